@@ -1,0 +1,25 @@
+//! The definitions of the subject, and the outside.
+//!
+//! `specs/` says what a hierarchy schema, a dimension instance, its five laws, a fact table and a view
+//! are, over plain lists and numbers of any size; `laws` are theorems over these definitions. Beside
+//! them stand the ids, texts and lists that all crates share, and the outside: libraries that files are
+//! read from (`Library`, `fetch`) and sinks that bytes are written to (`Sink`, `emit`).
+#![tactic(auto)]
+
+mod emitting;
+mod fetching;
+mod ids;
+mod in_memory;
+mod laws;
+mod lists;
+mod outside;
+mod texts;
+
+pub use emitting::emit;
+pub use fetching::{FetchError, fetch};
+pub use ids::{CatId, EdgeId, Failed, MemberId, Memory};
+pub use in_memory::{MemLibrary, MemSink};
+pub use laws::{above_is_lawful, agree_exactly_if_reached_by_one};
+pub use lists::List;
+pub use outside::{Library, OpenError, Sink};
+pub use texts::Text;
