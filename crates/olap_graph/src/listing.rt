@@ -4,7 +4,7 @@ ghost use Rattle.std.specs.Option.{option_map};
 ghost use Rattle.std.specs.List.{position_from};
 ghost use Rattle.olap_base.specs.Naming.{place_of};
 ghost use Rattle.olap_graph.specs.Lookups.{joins};
-ghost use Rattle.olap_graph.specs.Inside.{edge_of};
+ghost use Rattle.olap_graph.specs.Listing.{edge_of};
 
 use olap_base::{CatId, EdgeId, Text};
 
