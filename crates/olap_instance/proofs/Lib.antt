@@ -9,3 +9,6 @@ pub mod PieceLemmas
 pub mod Stamps
 pub mod EnteringLemmas
 pub mod LinkingLemmas
+pub mod Completing
+pub mod Soundness
+pub mod Refusing

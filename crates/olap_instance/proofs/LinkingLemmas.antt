@@ -1,5 +1,5 @@
 -- The parents of one record more.
-use Rattle.std.proofs.Common.{◌≡◌, ◌+◌, ◌++◌, ◌∷◌, ◌∙◌, Vec, Global, ℕ, List, [], length, map, refl, sym, ap, arith}
+use Rattle.std.proofs.Common.{◌≡◌, ◌+◌, ◌++◌, ◌∷◌, ◌∙◌, Vec, Global, ℕ, List, [], length, map, sym, ap, arith}
 use Rattle.std.proofs.lemmas.List.{length-append, map-append}
 use Rattle.olap_base.specs.declared.ids.MemberId.{MemberId}
 use Rattle.olap_records.proofs.Seeing.{HasSeen, see-more}
@@ -25,3 +25,10 @@ linked-below stamps parents now v child en ec b m l =
     let h = b m l in
     let n : length now ≡ length parents + 1 = ap (λ (t : List (Vec MemberId Global)). length t) en ∙ length-append parents (v ∷ []) in
     omega arith
+
+-- `all` has no parents
+pub parents-none : (parents now : List (Vec MemberId Global)) (v : Vec MemberId Global) → now ≡ parents ++ v ∷ [] → v.items ≡ []
+    → parents_in now ≡ parents_in parents ++ [] ∷ []
+parents-none parents now v en ev =
+    ap parents_in en ∙ map-append (λ ps. numbers_of ps.items) parents (v ∷ [])
+    ∙ ap (λ (t : List MemberId). parents_in parents ++ numbers_of t ∷ []) ev

@@ -1,6 +1,5 @@
 -- Pieces of a field of parents, and the stamps of the members that they name.
-use Rattle.std.proofs.Common.{◌≡◌, ◌≢◌, ◌+◌, ◌<◌, ◌++◌, ◌∷◌, ◌∙◌, ◌||◌, ◌==◌, ◌⊎◌, inl, inr, Bool, true, false, Bor, ℕ, zero, suc, List, [], length, map, take, drop, get_or, slice_index, slice_set, Option, Some, None, refl, sym, ap, arith, add-one, take_all, drop_of_length-le, ◌≤◌}
-use Rattle.std.specs.Bool.{Decides}
+use Rattle.std.proofs.Common.{◌≡◌, ◌+◌, ◌<◌, ◌++◌, ◌∷◌, ◌∙◌, ◌||◌, ◌==◌, inl, inr, Bool, true, false, Bor, ℕ, List, [], length, map, take, drop, get_or, Some, None, refl, sym, ap, arith, add-one, take_all, drop_of_length-le, ◌≤◌}
 use Rattle.std.specs.List.{list_any}
 use Rattle.std.specs.Option.{option_map}
 use Rattle.std.specs.Str.{bytes_eq}
@@ -9,10 +8,9 @@ use Rattle.std.proofs.lemmas.Bool.Decides.{eqb_tells}
 use Rattle.std.proofs.lemmas.List.{get_or-map, length-map, map-append, take_more}
 use Rattle.std.proofs.lemmas.Slice.Eq.{bytes_eq-Decides}
 use Rattle.olap_base.specs.Naming.{place_of}
-use Rattle.olap_records.specs.Faults.{first_fault}
 use Rattle.olap_records.proofs.Seeing.{HasSeen, see-all, see-fault, see-more, see-none}
 use Rattle.olap_instance.specs.InstanceText.{parent_read, piece_fault, pieces_fault}
-use Rattle.olap_instance.specs.Passes.{AreBelow, AreParents, AreStamped}
+use Rattle.olap_instance.specs.Passes.{AreParents}
 use Rattle.olap_instance.specs.declared.kinds.InstanceKind.{InstanceKind}
 use Rattle.olap_instance.proofs.PlaceFacts.{id-at-place}
 
@@ -27,12 +25,14 @@ same-piece ids p q m n em en = both (bytes_eq p q) (m == n) there back
   where
     same : (n : ℕ) → (n == n) ≡ true
     same n = elim (eqb_tells n n) [ inl t ↦ t.0 | inr f ↦ absurd (f.1 refl) ]
+
     there : bytes_eq p q ≡ true → (m == n) ≡ true
     there t =
         let e : p ≡ q = (bytes_eq-Decides p q).0 t in
         let s : Some m ≡ Some n = sym em ∙ ap (λ (x : List ℕ). place_of x ids) e ∙ en in
         let f : m ≡ n = cc in
         rw f (same n)
+
     back : (m == n) ≡ true → bytes_eq p q ≡ true
     back t =
         let e : m ≡ n = elim (eqb_tells m n) [ inl t ↦ t.1 | inr f ↦ absurd (cc (f.0, t)) ] in
@@ -122,6 +122,7 @@ found-fault ids ps i found k l h ef =
 pub found-all : (ids ps : List (List ℕ)) (i : ℕ) (found : List ℕ) → length ps ≤ i → HasFound ids ps i found → AreParents ids ps found
 found-all ids ps i found l h =
     let t : take i ps ≡ ps = take_all i ps l in
-    let d : drop i ps ≡ [] = drop_of_length-le ps l in
-    (ap (option_map (λ (p : ℕ × InstanceKind). p.1)) (see-all (piece_fault ids) ps (take i ps) (drop i ps) h.seen d).1,
-      places-read ids ps found (rw t at h.places))
+    let d : drop i ps ≡ [] = drop_of_length-le ps l in (
+      ap (option_map (λ (p : ℕ × InstanceKind). p.1)) (see-all (piece_fault ids) ps (take i ps) (drop i ps) h.seen d).1,
+      places-read ids ps found (rw t at h.places),
+    )

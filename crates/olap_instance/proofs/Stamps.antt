@@ -57,7 +57,7 @@ pub named-twice : (ids : List (List ℕ)) (p : List ℕ) (m : ℕ) (before : Lis
     → m < length stamps → slice_index stamps m ≡ mark → piece_fault ids before p ≡ Some kind.DuplicateParent
 named-twice ids p m before found stamps mark e h s l t =
     let again : list_any (bytes_eq p) before ≡ true =
-        any-same ids p m before found e h ∙ sym (s m l) ∙ ap (λ n. n == mark) t ∙ same mark in
+    any-same ids p m before found e h ∙ sym (s m l) ∙ ap (λ n. n == mark) t ∙ same mark in
     rw (e, again) refl
 
 -- a piece that names a member for the first time
@@ -66,5 +66,5 @@ pub named-once : (ids : List (List ℕ)) (p : List ℕ) (m : ℕ) (before : List
     → m < length stamps → slice_index stamps m ≢ mark → piece_fault ids before p ≡ None
 named-once ids p m before found stamps mark e h s l t =
     let first : list_any (bytes_eq p) before ≡ false =
-        any-same ids p m before found e h ∙ sym (s m l) ∙ differ (slice_index stamps m) mark t in
+    any-same ids p m before found e h ∙ sym (s m l) ∙ differ (slice_index stamps m) mark t in
     rw (e, first) refl

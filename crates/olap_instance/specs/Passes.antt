@@ -5,10 +5,8 @@ use Rattle.std.specs.List.{list_any}
 use Rattle.olap_base.specs.Graph.{Graph}
 use Rattle.olap_base.specs.Instance.{Instance}
 use Rattle.olap_base.specs.declared.ids.MemberId.{MemberId}
-use Rattle.olap_base.specs.Naming.{place_of}
 use Rattle.olap_records.specs.Faults.{first_fault}
-use Rattle.olap_instance.specs.Members.{all_member}
-use Rattle.olap_instance.specs.InstanceText.{header, ids_of, member_fault, member_read, parents_fault, parents_read, parent_read, pieces_fault}
+use Rattle.olap_instance.specs.InstanceText.{member_fault, member_read, parents_fault, parents_read, parent_read, pieces_fault}
 
 -- the ids of members
 abbrev pub ids_in : Instance → List (List ℕ)

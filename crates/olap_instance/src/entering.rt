@@ -32,7 +32,10 @@ fn holds_no_text(rows: &Rows) -> bool
     requires { length rows.now.row ≡ 4 }
     ensures { result ≡ is_no_text rows.now.row }
 {
-    !is_text(rows.field(0)) || !is_text(rows.field(1)) || !is_text(rows.field(2)) || !is_text(rows.field(3))
+    !is_text(rows.field(0))
+        || !is_text(rows.field(1))
+        || !is_text(rows.field(2))
+        || !is_text(rows.field(3))
 }
 
 // Checks the record that was read last, after the members of the records before it, and gives its category.
@@ -75,7 +78,12 @@ fn checked(graph: &Graph, roster: &Roster, rows: &Rows) -> Result<u16, InstanceK
 }
 
 // Adds the member of the record that was read last.
-fn enter(alloc: Global, graph: &Graph, roster: &mut Roster, rows: &Rows) -> Result<(), InstanceRefusal>
+fn enter(
+    alloc: Global,
+    graph: &Graph,
+    roster: &mut Roster,
+    rows: &Rows,
+) -> Result<(), InstanceRefusal>
     requires few { length roster.old ≤ 262143 }
     ensures member { (earlier : List (List (List ℕ))) → roster.old ≡ map (member_read graph.now) earlier
         → MatchResult result
@@ -103,7 +111,11 @@ fn enter(alloc: Global, graph: &Graph, roster: &mut Roster, rows: &Rows) -> Resu
 }
 
 /// The members of the records that are left, their parents aside.
-pub(crate) fn enter_all(alloc: Global, graph: &Graph, rows: &mut Rows) -> Result<Roster, InstanceRefusal>
+pub(crate) fn enter_all(
+    alloc: Global,
+    graph: &Graph,
+    rows: &mut Rows,
+) -> Result<Roster, InstanceRefusal>
     ensures members { MatchResult result
         (λ r. PassesFirst graph.now rows.old.left r)
         (λ e. IsFaultCause (first_fault (member_fault graph.now) [] rows.old.left) e) }

@@ -117,7 +117,11 @@ fn link_rows(
 }
 
 /// The parents of the records that are left.
-pub(crate) fn link_all(alloc: Global, roster: &Roster, rows: &mut Rows) -> Result<Vec<Vec<MemberId>>, InstanceRefusal>
+pub(crate) fn link_all(
+    alloc: Global,
+    roster: &Roster,
+    rows: &mut Rows,
+) -> Result<Vec<Vec<MemberId>>, InstanceRefusal>
     ensures { MatchResult result
         (λ v. PassesSecond (ids_in roster.now) rows.old.left (parents_in v.items))
         (λ e. IsFaultCause (first_fault (parents_fault (ids_in roster.now)) [] rows.old.left) e) }

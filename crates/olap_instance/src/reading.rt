@@ -45,7 +45,11 @@ fn read_members(alloc: Global, graph: &Graph, text: &[u8]) -> Result<Roster, Ins
 }
 
 // The parents that a text tells, of members whose ids are known.
-fn read_parents(alloc: Global, roster: &Roster, text: &[u8]) -> Result<Vec<Vec<MemberId>>, InstanceRefusal>
+fn read_parents(
+    alloc: Global,
+    roster: &Roster,
+    text: &[u8],
+) -> Result<Vec<Vec<MemberId>>, InstanceRefusal>
     requires { has_header (records_of text.now) ≡ true }
     ensures { MatchResult result
         (λ v. PassesSecond (ids_in roster.now) (drop 1 (records_of text.now)) (parents_in v.items))

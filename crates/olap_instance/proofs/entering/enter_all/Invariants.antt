@@ -11,7 +11,7 @@ invariant-rows l = record {
   seen : HasSeen (member_fault l.graph) l.fn.rows.left before l.rows.left;
   members : l.roster ≡ map (member_read l.graph) before;
   few : length l.roster ≤ 262143;
-  others : place_of (codes "all") (ids_in l.roster) ≡ None
+  others : place_of (codes "all") (ids_in l.roster) ≡ None;
 }
 
 abbrev pub decreases-rows : goal.decreases-rows

@@ -8,5 +8,5 @@ invariant-loop-i l = record {
   found : HasFound (ids_in l.roster) (map (λ p. p.now) l.all) l.i (numbers_of l.found.items);
   as_many : length l.stamps ≡ length l.roster;
   stamped : AreStamped l.stamps (l.child + 1) (numbers_of l.found.items);
-  below : AreBelow l.stamps (l.child + 2)
+  below : AreBelow l.stamps (l.child + 2);
 }

@@ -1,4 +1,4 @@
-use Rattle.std.proofs.Common.{◌≡◌, ◌∙◌, ◌<◌, ◌^◌, ◌++◌, ◌∷◌, [], length, arith, vec_len}
+use Rattle.std.proofs.Common.{◌≡◌, ◌∙◌, ◌++◌, ◌∷◌, [], length, arith}
 use Rattle.olap_instance.specs.Passes.{ids_in}
 use Rattle.olap_instance.proofs.LinkingLemmas.{linked-below, linked-parents, linked-seen}
 use Rattle.olap_instance.proofs.linking.link_rows.Goals as goal

@@ -10,7 +10,7 @@ invariant-rows l = record {
   seen : HasSeen (parents_fault (ids_in l.roster)) l.fn.rows.left before l.rows.left;
   parents : parents_in l.parents.items ≡ map (parents_read (ids_in l.roster)) before;
   as_many : length l.stamps ≡ length l.roster;
-  below : AreBelow l.stamps (length l.parents.items + 1)
+  below : AreBelow l.stamps (length l.parents.items + 1);
 }
 
 abbrev pub decreases-rows : goal.decreases-rows

@@ -1,5 +1,4 @@
-use Rattle.std.proofs.Common.{◌≡◌, ◌∙◌, ◌<◌, Some, length, sym, arith}
-use Rattle.olap_base.specs.Naming.{place_of}
+use Rattle.std.proofs.Common.{◌∙◌, sym, arith}
 use Rattle.olap_instance.specs.Passes.{ids_in}
 use Rattle.olap_instance.proofs.PlaceFacts.{member-within}
 use Rattle.olap_instance.proofs.Stamps.{named-once, named-twice}
@@ -20,9 +19,11 @@ returns-then-stamps-place-clause-parent c = λ before found h s.
 pub returns-clause-parent : goal.returns-clause-parent
 returns-clause-parent c = λ before found h s.
     let e = sym c.find.ensures ∙ c.in-Some.is in
-    let l = member-within c.args.piece.now c.args.roster.now c.in-Some.place e in
-    (named-once (ids_in c.args.roster.now) c.args.piece.now c.in-Some.place before found c.args.stamps.now c.args.mark e h s
-      (omega (arith, c.requires)) c.if-stamps-place.false, e)
+    let l = member-within c.args.piece.now c.args.roster.now c.in-Some.place e in (
+      named-once (ids_in c.args.roster.now) c.args.piece.now c.in-Some.place before found c.args.stamps.now c.args.mark e h s
+          (omega (arith, c.requires)) c.if-stamps-place.false,
+      e,
+    )
 
 pub returns-clause-inside : goal.returns-clause-inside
 returns-clause-inside c =

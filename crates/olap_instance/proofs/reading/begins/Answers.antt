@@ -1,4 +1,3 @@
-use Rattle.std.proofs.Common.{◌≡◌, ◌∷◌}
 use Rattle.olap_instance.proofs.HeaderLemmas.{header-is}
 use Rattle.olap_instance.proofs.reading.begins.Goals as goal
 
