@@ -12,3 +12,6 @@ pub mod LinkingLemmas
 pub mod Completing
 pub mod Soundness
 pub mod Refusing
+pub mod DraftLemmas
+pub mod Among
+pub mod BuilderSteps

@@ -11,7 +11,7 @@ use Rattle.olap_base.specs.Naming.{place_of}
 use Rattle.olap_records.proofs.Seeing.{HasSeen, see-all, see-fault, see-more, see-none}
 use Rattle.olap_instance.specs.InstanceText.{parent_read, piece_fault, pieces_fault}
 use Rattle.olap_instance.specs.Passes.{AreParents}
-use Rattle.olap_instance.specs.declared.kinds.InstanceKind.{InstanceKind}
+use Rattle.olap_instance.specs.declared.refusals.InstanceKind.{InstanceKind}
 use Rattle.olap_instance.proofs.PlaceFacts.{id-at-place}
 
 both : (a b : Bool) → (a ≡ true → b ≡ true) → (b ≡ true → a ≡ true) → a ≡ b

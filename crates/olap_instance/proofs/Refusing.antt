@@ -4,8 +4,8 @@ use Rattle.olap_base.specs.Graph.{Graph}
 use Rattle.olap_records.specs.Faults.{first_fault}
 use Rattle.olap_instance.specs.InstanceText.{has_header, ids_of, instance_read, member_fault, parents_fault}
 use Rattle.olap_instance.specs.Refusals.{IsFaultCause, IsRefusedBy}
-use Rattle.olap_instance.specs.declared.kinds.InstanceRefusal.{InstanceRefusal}
-use Rattle.olap_instance.specs.declared.kinds.InstanceRefusal.TheVariants as refusal
+use Rattle.olap_instance.specs.declared.refusals.InstanceRefusal.{InstanceRefusal}
+use Rattle.olap_instance.specs.declared.refusals.InstanceRefusal.TheVariants as refusal
 
 -- the second pass's fault is the text's, where the first finds none
 pub refused-second : (g : Graph) (records : List (List (List ℕ))) (ids : List (List ℕ)) (e : InstanceRefusal) → has_header records ≡ true

@@ -25,11 +25,11 @@ use Rattle.olap_instance.proofs.PlaceFacts.{id-at-place, place-within}
 
 -- ---- checks
 
-else-none : {K : Type 0} (b : Bool) (k : K) (o : Option K) → (if b then Some k else o) ≡ None → (b ≡ false) × (o ≡ None)
+pub else-none : {K : Type 0} (b : Bool) (k : K) (o : Option K) → (if b then Some k else o) ≡ None → (b ≡ false) × (o ≡ None)
 else-none true k o e = cc e
 else-none false k o e = (refl, e)
 
-neither : (a b : Bool) → (a || b) ≡ false → (a ≡ false) × (b ≡ false)
+pub neither : (a b : Bool) → (a || b) ≡ false → (a ≡ false) × (b ≡ false)
 neither true b e = cc e
 neither false b e = (refl, e)
 
@@ -41,7 +41,7 @@ there : {A : Type 0} (o : Option A) → is_none o ≡ false → (x : A) × (o �
 there None e = cc e
 there (Some x) e = (x, refl)
 
-missing : {A : Type 0} (o : Option A) → is_some o ≡ false → o ≡ None
+pub missing : {A : Type 0} (o : Option A) → is_some o ≡ false → o ≡ None
 missing None e = refl
 missing (Some x) e = cc e
 
@@ -84,7 +84,7 @@ four true true false d e = cc e
 four true true true d e = (refl, refl)
 
 -- what is not found is not there
-absent-at : (x : List ℕ) (ids : List (List ℕ)) (n k : ℕ) → position_from (bytes_eq x) n ids ≡ None → k < length ids → get_or ids k [] ≢ x
+pub absent-at : (x : List ℕ) (ids : List (List ℕ)) (n k : ℕ) → position_from (bytes_eq x) n ids ≡ None → k < length ids → get_or ids k [] ≢ x
 absent-at x [] n k e l s = omega arith
 absent-at x (y ∷ ys) n k e l s = by (bytes_eq x y) refl e k l s (absent-at x ys (n + 1))
   where
@@ -95,7 +95,7 @@ absent-at x (y ∷ ys) n k e l s = by (bytes_eq x y) refl e k l s (absent-at x y
     by false f e zero l s again = let t = (bytes_eq-Decides x y).1 (sym s) in cc (t, f)
     by false f e (suc k) l s again = again k e (omega arith) s
 
-within : (n : ℕ) → nat_lt 255 n ≡ false → n ≤ 255
+pub within : (n : ℕ) → nat_lt 255 n ≡ false → n ≤ 255
 within n e = grind (arith)
 
 -- ---- pieces

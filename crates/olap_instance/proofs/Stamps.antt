@@ -7,7 +7,7 @@ use Rattle.olap_instance.specs.Passes.{AreBelow, AreStamped}
 use Rattle.olap_base.specs.Naming.{place_of}
 use Rattle.std.specs.Str.{bytes_eq}
 use Rattle.olap_instance.specs.InstanceText.{piece_fault}
-use Rattle.olap_instance.specs.declared.kinds.InstanceKind.TheVariants as kind
+use Rattle.olap_instance.specs.declared.refusals.InstanceKind.TheVariants as kind
 use Rattle.olap_instance.proofs.PieceLemmas.{any-push, any-same}
 
 same : (n : ℕ) → (n == n) ≡ true

@@ -13,8 +13,8 @@ use Rattle.olap_base.specs.Naming.{Fault, place_of}
 use Rattle.olap_graph.specs.Lookups.{category_named}
 use Rattle.olap_records.specs.Faults.{field, first_fault}
 use Rattle.olap_instance.specs.Members.{all_member, childless, most_members}
-use Rattle.olap_instance.specs.declared.kinds.InstanceKind.{InstanceKind}
-use Rattle.olap_instance.specs.declared.kinds.InstanceKind.TheVariants as kind
+use Rattle.olap_instance.specs.declared.refusals.InstanceKind.{InstanceKind}
+use Rattle.olap_instance.specs.declared.refusals.InstanceKind.TheVariants as kind
 
 abbrev pub header : List (List ℕ)
 header = codes "id" ∷ codes "category" ∷ codes "name" ∷ codes "parents" ∷ []

@@ -6,3 +6,5 @@ pub mod InstanceInside
 pub mod InstanceText
 pub mod Refusals
 pub mod Passes
+pub mod Drafts
+pub mod DraftInside

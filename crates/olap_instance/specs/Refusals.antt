@@ -2,9 +2,9 @@
 use Rattle.std.specs.Prelude.{◌≡◌, ◌+◌, ⊤, ℕ, Option, Some, Result, Err}
 use Rattle.olap_base.specs.Instance.{Instance}
 use Rattle.olap_base.specs.Naming.{Fault}
-use Rattle.olap_instance.specs.declared.kinds.InstanceKind.{InstanceKind}
-use Rattle.olap_instance.specs.declared.kinds.InstanceRefusal.{InstanceRefusal}
-use Rattle.olap_instance.specs.declared.kinds.InstanceRefusal.TheVariants as refusal
+use Rattle.olap_instance.specs.declared.refusals.InstanceKind.{InstanceKind}
+use Rattle.olap_instance.specs.declared.refusals.InstanceRefusal.{InstanceRefusal}
+use Rattle.olap_instance.specs.declared.refusals.InstanceRefusal.TheVariants as refusal
 
 -- the refusal tells the text's first fault, or that memory ran out
 abbrev pub IsRefusedBy : InstanceRefusal → Result Instance (Fault InstanceKind) → Type 0

@@ -5,14 +5,16 @@
 //! function `instance_read` of `specs/InstanceText.antt`.
 #![tactic(auto)]
 
+mod building;
 mod entering;
 mod instances;
-mod kinds;
 mod linking;
 mod reading;
+mod refusals;
 mod rosters;
 mod texts;
 
+pub use building::InstanceBuilder;
 pub use instances::Instance;
-pub use kinds::{InstanceKind, InstanceRefusal};
 pub use reading::read_instance;
+pub use refusals::{InstanceKind, InstanceRefusal, MemberRefusal, ParentRefusal};

@@ -1,0 +1,123 @@
+-- What the calls of a builder do to its draft.
+use Rattle.std.proofs.Common.{◌≡◌, ◌≢◌, ◌+◌, ◌<◌, ◌++◌, ◌∷◌, ◌∙◌, Bool, cond, true, false, Vec, Global, inl, inr, ℕ, suc, List, [], length, map, codes, get_or, slice_set, Option, Some, None, refl, sym, ap, arith}
+use Rattle.std.specs.Prelude.{IfSome}
+use Rattle.std.specs.List.{position_from}
+use Rattle.std.specs.Str.{bytes_eq}
+use Rattle.std.proofs.Math.Seq.{get_or-append_seam, map-set_same}
+use Rattle.std.proofs.lemmas.Bool.Decides.{eqb_tells}
+use Rattle.std.proofs.lemmas.List.{get_or-map, get_or_append_left, length-append, length-map, map-append, map-set}
+use Rattle.std.proofs.lemmas.Slice.Eq.{bytes_eq-Decides}
+use Rattle.olap_base.specs.Graph.{Graph, category_count}
+use Rattle.olap_base.specs.Instance.{Instance, Member, category_of, member_at, nobody}
+use Rattle.olap_base.specs.Naming.{place_of}
+use Rattle.olap_base.specs.declared.ids.MemberId.{MemberId}
+use Rattle.olap_instance.specs.DraftInside.{number_of, parents_told}
+use Rattle.olap_instance.specs.Drafts.{Draft, IsDraft, member_refusal, parents_so_far, places_of, with_member, with_parent}
+use Rattle.olap_instance.specs.Made.{IsMadeFor}
+use Rattle.olap_instance.specs.Members.{AreSound, all_member, childless, with_parents}
+use Rattle.olap_instance.specs.Passes.{ids_in}
+use Rattle.olap_instance.proofs.Completing.{complete-sound}
+use Rattle.olap_instance.proofs.DraftLemmas.{draft-complete, fresh-is}
+use Rattle.olap_instance.proofs.MembersLemmas.{length-with_parents, member_at-with_parents}
+
+pub number-inside : (p : Option MemberId) (n : ℕ) → IfSome p (λ m. m.0 < n) → IfSome (number_of p) (λ y. y < n)
+number-inside None n h = h
+number-inside (Some m) n h = h
+
+-- a member has a list of parents
+pub has-list : (d : Draft) (lists : List (Vec (Option MemberId) Global)) (x : ℕ) → IsDraft d → d.parents ≡ parents_told lists
+    → x < length d.members → x < length lists
+has-list d lists x h told l =
+    let e = h.as_many in
+    let m = ap (λ (t : List (List (Option ℕ))). length t) told in
+    let n = length-map lists (λ ps. map number_of ps.items) in
+    omega arith
+
+-- the draft whose member x has these parents in place of its own
+module _ (d : Draft) (lists : List (Vec (Option MemberId) Global)) (told : d.parents ≡ parents_told lists) (x : ℕ)
+    (v : Vec (Option MemberId) Global) (l : x < length lists) (at : v ≡ get_or lists x v) where
+  pub so-far : parents_so_far d x ≡ map number_of v.items
+  so-far =
+      ap (λ (t : List (List (Option ℕ))). get_or t x []) told ∙ get_or-map (λ ps. map number_of ps.items) lists x v [] l
+      ∙ ap (λ (ps : Vec (Option MemberId) Global). map number_of ps.items) (sym at)
+
+  pub kept : (w : Vec (Option MemberId) Global) → w.items ≡ v.items
+      → ◌≡◌ {A = Draft} (record d { parents = parents_told (slice_set lists x w) }) d
+  kept w e =
+      let same : map number_of w.items ≡ map number_of (get_or lists x v).items =
+      ap (map number_of) e ∙ ap (λ (ps : Vec (Option MemberId) Global). map number_of ps.items) at in
+      ap (λ (t : List (List (Option ℕ))). record d { parents = t }) (map-set_same (λ ps. map number_of ps.items) lists x w v same ∙ sym told)
+
+  pub pushed : (w : Vec (Option MemberId) Global) (p : Option MemberId) → w.items ≡ v.items ++ p ∷ []
+      → ◌≡◌ {A = Draft} (record d { parents = parents_told (slice_set lists x w) }) (with_parent d x (number_of p))
+  pushed w p e =
+      let now : map number_of w.items ≡ parents_so_far d x ++ number_of p ∷ [] =
+      ap (map number_of) e ∙ map-append number_of v.items (p ∷ []) ∙ ap (λ (t : List (Option ℕ)). t ++ number_of p ∷ []) (sym so-far) in
+      ap (λ (t : List (List (Option ℕ))). record d { parents = t })
+      (map-set (λ ps. map number_of ps.items) lists x w ∙ ap (λ (t : List (List (Option ℕ))). slice_set t x (map number_of w.items)) (sym told)
+      ∙ ap (slice_set d.parents x) now)
+
+-- what differs from each id is not found
+not-found : (x : List ℕ) (ids : List (List ℕ)) (n : ℕ) → ((k : ℕ) → k < length ids → get_or ids k [] ≢ x) → position_from (bytes_eq x) n ids ≡ None
+not-found x [] n h = refl
+not-found x (y ∷ ys) n h = by (bytes_eq x y) refl (not-found x ys (n + 1) (λ k l. h (suc k) (omega arith)))
+  where
+    by : (b : Bool) → bytes_eq x y ≡ b → position_from (bytes_eq x) (n + 1) ys ≡ None → cond b (Some n) (position_from (bytes_eq x) (n + 1) ys) ≡ None
+    by true t r = absurd (h 0 (omega arith) (sym ((bytes_eq-Decides x y).0 t)))
+    by false t r = r
+
+-- a draft doesn't have `all` among its members
+pub all-absent : (d : Draft) → IsDraft d → place_of (codes "all") (ids_in d.members) ≡ None
+all-absent d h = not-found (codes "all") (ids_in d.members) 0 (λ k l e.
+    let n = length-map d.members (λ m. m.id) in
+    let i : k < length d.members = omega arith in
+    h.not_all k i (sym (get_or-map (λ m. m.id) d.members k nobody [] i) ∙ e))
+
+-- a member that isn't refused has a new id
+pub member-absent : (d : Draft) (id : List ℕ) (category : ℕ) (name : List ℕ) → IsDraft d → member_refusal d id category name ≡ None
+    → place_of id (ids_in d.members) ≡ None
+member-absent d id category name h e = (fresh-is d h id category name e).1
+
+-- the draft with these members and parents is the one with a new member
+pub with-new : (d : Draft) (id : List ℕ) (category : ℕ) (name : List ℕ) (ms : Instance) (ps : List (List (Option ℕ)))
+    → ms ≡ d.members ++ childless id category name ∷ [] → ps ≡ d.parents ++ [] ∷ []
+    → ◌≡◌ {A = Draft} (record d { members = ms; parents = ps }) (with_member d id category name)
+with-new d id category name ms ps em ep = rw (em, ep) refl
+
+-- the parents of a new member are none
+pub told-none : (lists now : List (Vec (Option MemberId) Global)) (v : Vec (Option MemberId) Global) → now ≡ lists ++ v ∷ [] → v.items ≡ []
+    → parents_told now ≡ parents_told lists ++ [] ∷ []
+told-none lists now v en ev =
+    ap parents_told en ∙ map-append (λ ps. map number_of ps.items) lists (v ∷ [])
+    ∙ ap (λ (t : List (Option MemberId)). parents_told lists ++ map number_of t ∷ []) ev
+
+-- a draft, finished
+module _ (d : Draft) (h : IsDraft d) (ms : Instance) (ps : List (List ℕ)) (em : ms ≡ d.members ++ all_member ∷ [])
+    (ep : ps ≡ map (places_of (length d.members)) d.parents ++ [] ∷ []) where
+  pub built-sound : AreSound ms ps
+  built-sound = rw (em, ep) (complete-sound d.members (map (places_of (length d.members)) d.parents) (draft-complete d h))
+
+  known : 0 < d.categories → (x : ℕ) → x < length ms → (member_at ms x).category < d.categories
+  known some x l = elim (eqb_tells x (length d.members)) [
+    | inl t ↦
+        let e : member_at ms x ≡ all_member =
+        ap (λ (i : Instance). member_at i x) em ∙ ap (member_at (d.members ++ all_member ∷ [])) t.1
+        ∙ get_or-append_seam d.members all_member [] nobody in
+        rw e some
+    | inr f ↦
+        let k : x < length d.members =
+        let ne = f.1 in
+        let n = ap (λ (i : Instance). length i) em ∙ length-append d.members (all_member ∷ []) in
+        omega arith in
+        let e : member_at ms x ≡ member_at d.members x =
+        ap (λ (i : Instance). member_at i x) em ∙ get_or_append_left d.members (all_member ∷ []) nobody x k in
+        rw e (h.declared x k).1
+  ]
+
+  pub built-made : (g : Graph) → category_count g ≡ d.categories → IsMadeFor g (with_parents ms ps)
+  built-made g e x l =
+      let s = built-sound in
+      let k : x < length ms = let n = length-with_parents ms ps s.as_many in omega arith in
+      let c = ap (λ (m : Member). m.category) (member_at-with_parents ms ps x s.as_many k) in
+      let i = known (let z = e in omega arith) x k in
+      rw (category_of, c, e) i

@@ -1,0 +1,180 @@
+// Instances in the making.
+ghost use Rattle.std.specs.Prelude.{◌≡◌, ◌↔◌, ◌<◌, ◌∷◌, ◌++◌, [], ℕ, Contains, None, length, map, unwrap_or, IfErr, IfOk, IfSome, IsErrOf, IsTrue, OnErr, OnOk};
+ghost use Rattle.std.specs.Str.{is_utf8};
+ghost use Rattle.olap_base.specs.Graph.{Graph, category_count};
+ghost use Rattle.olap_instance.specs.DraftInside.{number_of, parents_told};
+ghost use Rattle.olap_instance.specs.Drafts.{Draft, HasParent, IsMemberCause, instance_built, member_refusal, no_members, places_of, with_member, with_parent};
+ghost use Rattle.olap_instance.specs.Made.{IsMadeFor};
+ghost use Rattle.olap_instance.specs.Passes.{numbers_of, parents_in};
+ghost use Rattle.olap_instance.specs.declared.refusals.ParentRefusal.TheVariants as of_parent;
+
+use crate::entering::MOST_OTHERS;
+use crate::rosters::{Head, Roster};
+use crate::texts::{is_bad, is_long};
+use crate::{Instance, MemberRefusal, ParentRefusal};
+use olap_base::{CatId, MemberId, Memory, Text};
+use olap_graph::Graph;
+use std::alloc::Global;
+use std::marker::Model;
+
+/// An instance that takes members and parents.
+#[derive(Drop)]
+pub struct InstanceBuilder {
+    roster: Roster,
+    // The parents of each member, `None` for `all`.
+    parents: Vec<Vec<Option<MemberId>>>,
+    // How many categories the graph has.
+    categories: u16,
+    alloc: Global,
+}
+
+impl Model for InstanceBuilder {
+    ghost use Rattle.olap_instance.specs.Drafts.{Draft};
+
+    ghost Value = { Draft };
+
+    ghost use Rattle.olap_instance.specs.DraftInside.{draft_of, IsKept};
+
+    ghost view = { draft_of };
+
+    ghost invariant = { IsKept };
+}
+
+// Whether the parent is among these.
+fn is_among(parents: &[Option<MemberId>], parent: Option<MemberId>) -> bool
+    ensures { IsTrue result ↔ Contains (map number_of parents.now) (number_of parent) }
+{
+    parents.contains(&parent)
+}
+
+// The parents, where `all` is this member.
+fn linked(
+    alloc: Global,
+    parents: &[Option<MemberId>],
+    all: MemberId,
+) -> Result<Vec<MemberId>, Memory>
+    ensures { IfOk result (λ v. numbers_of v.items ≡ places_of all.0 (map number_of parents.now)) }
+{
+    let mut places = Vec::with_capacity(alloc, parents.len())?;
+    for parent in parents {
+        places.push(parent.unwrap_or(all))?;
+    }
+    Ok(places)
+}
+
+// The parents of all members, and none for `all`.
+fn linked_all(
+    alloc: Global,
+    parents: &[Vec<Option<MemberId>>],
+    all: MemberId,
+) -> Result<Vec<Vec<MemberId>>, Memory>
+    ensures { IfOk result (λ v. parents_in v.items ≡ map (places_of all.0) (parents_told parents.now) ++ [] ∷ []) }
+{
+    let mut lists = Vec::new(alloc);
+    for list in parents {
+        lists.push(linked(alloc, list, all)?)?;
+    }
+    lists.push(Vec::new(alloc))?;
+    Ok(lists)
+}
+
+// The first reason to refuse a member, beside want of memory.
+fn refusal(roster: &Roster, id: &[u8], category: CatId, name: &[u8]) -> Option<MemberRefusal>
+    ensures { (d : Draft) → d.members ≡ roster.now → result ≡ member_refusal d id.now category.0 name.now }
+{
+    if is_bad(id) {
+        return Some(MemberRefusal::BadId);
+    }
+    if is_long(id) || is_long(name) {
+        return Some(MemberRefusal::TextTooLong);
+    }
+    if category.0 == 0 {
+        return Some(MemberRefusal::RowForAll);
+    }
+    if id == b"all".as_slice() || roster.find(id).is_some() {
+        return Some(MemberRefusal::DuplicateId);
+    }
+    if roster.len() >= MOST_OTHERS {
+        return Some(MemberRefusal::TooManyMembers);
+    }
+    None
+}
+
+impl InstanceBuilder {
+    /// No member but `all`.
+    pub fn new(alloc: Global, graph: &Graph) -> Result<InstanceBuilder, Memory>
+        ensures { IfOk result (λ builder. builder ≡ no_members (category_count graph.now)) }
+    {
+        Ok(InstanceBuilder {
+            roster: Roster::new(alloc),
+            parents: Vec::new(alloc),
+            categories: graph.categories(),
+            alloc,
+        })
+    }
+
+    /// Adds a member, which has no parents yet, and says which it is.
+    pub fn add_member(
+        &mut self,
+        id: Text,
+        category: CatId,
+        name: Text,
+    ) -> Result<MemberId, MemberRefusal>
+        requires id { IsTrue (is_utf8 id) }
+        requires name { IsTrue (is_utf8 name) }
+        requires category { category.0 < self.old.categories }
+        ensures ok { IfOk result (λ m. member_refusal self.old id category.0 name ≡ None) }
+        ensures number { IfOk result (λ m. m.0 ≡ length self.old.members) }
+        ensures added { OnOk result (self.new ≡ with_member self.old id category.0 name) }
+        ensures err { IfErr result (IsMemberCause (member_refusal self.old id category.0 name)) }
+        ensures same { OnErr result (self.new ≡ self.old) }
+    {
+        if let Some(refusal) = refusal(&self.roster, id.bytes(), category, name.bytes()) {
+            return Err(refusal);
+        }
+        let member = MemberId(self.roster.len() as u32);
+        self.parents.reserve(1)?;
+        self.roster.add(Head { id, category, name })?;
+        self.parents.push(Vec::new(self.alloc))?;
+        Ok(member)
+    }
+
+    /// Adds a parent behind the child's other parents; `None` stands for `all`. The test for a duplicate
+    /// goes through the child's parents.
+    pub fn add_parent(
+        &mut self,
+        child: MemberId,
+        parent: Option<MemberId>,
+    ) -> Result<(), ParentRefusal>
+        requires child { child.0 < length self.old.members }
+        requires parent { IfSome parent (λ p. p.0 < length self.old.members) }
+        ensures ok { OnOk result (HasParent self.old child.0 (number_of parent) → ⊥) }
+        ensures added { OnOk result (self.new ≡ with_parent self.old child.0 (number_of parent)) }
+        ensures duplicate { IsErrOf result of_parent.DuplicateParent → HasParent self.old child.0 (number_of parent) }
+        ensures same { OnErr result (self.new ≡ self.old) }
+    {
+        let parents = &mut self.parents[child.0 as usize];
+        if is_among(parents, parent) {
+            return Err(ParentRefusal::DuplicateParent);
+        }
+        parents.push(parent)?;
+        Ok(())
+    }
+
+    /// The members with their parents, and `all` as the last.
+    pub fn finish(self) -> Result<Instance, Memory>
+        ensures built { IfOk result (λ i. i ≡ instance_built self) }
+        ensures made { IfOk result (λ i. (g : Graph) → category_count g ≡ self.categories → IsMadeFor g i) }
+    {
+        let InstanceBuilder {
+            mut roster,
+            parents,
+            categories: _,
+            alloc,
+        } = self;
+        let all = MemberId(roster.len() as u32);
+        let lists = linked_all(alloc, &parents, all)?;
+        roster.add_all()?;
+        Ok(Instance::from_parts(roster, lists))
+    }
+}

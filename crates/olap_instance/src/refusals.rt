@@ -1,0 +1,142 @@
+// What may be wrong with a text of members, and why a text, a member or a parent is refused.
+use olap_base::Memory;
+use std::alloc::{AllocError, AllocFailed};
+
+/// A fault of a text of members.
+#[derive(Clone, Copy, Debug, PartialEq, Eq)]
+pub enum InstanceKind {
+    /// There is no first record, or it isn't `id,category,name,parents`.
+    BadHeader,
+    /// A record hasn't four fields.
+    FieldCount,
+    /// A field isn't UTF-8.
+    BadUtf8,
+    /// An id is empty or holds a semicolon.
+    BadId,
+    /// The id is that of an earlier record or of `all`.
+    DuplicateId,
+    /// No category of the graph has that name.
+    UnknownCategory,
+    /// A record is of the category `All`.
+    RowForAll,
+    /// No member has that id.
+    UnknownParent,
+    /// A member's parents name one member twice.
+    DuplicateParent,
+    /// It is the 262,144th record after the header.
+    TooManyMembers,
+    /// An id or a name is over 255 bytes.
+    TextTooLong,
+}
+
+/// Why a text of members was refused.
+#[derive(Clone, Copy, Debug, PartialEq, Eq)]
+pub enum InstanceRefusal {
+    /// The first fault, with the number of its record, from 1; the header is record 1.
+    Fault { at: u64, kind: InstanceKind },
+    /// Memory ran out.
+    Memory,
+}
+
+impl From<Memory> for InstanceRefusal {
+    ghost use Rattle.std.specs.Prelude.{◌≡◌};
+    ghost use Rattle.olap_instance.specs.declared.refusals.InstanceRefusal.TheVariants as refusal;
+
+    ghost from_gives = { λ _ e. e ≡ refusal.Memory };
+
+    fn from(_: Memory) -> InstanceRefusal {
+        InstanceRefusal::Memory
+    }
+}
+
+impl From<AllocError> for InstanceRefusal {
+    ghost use Rattle.std.specs.Prelude.{◌≡◌};
+    ghost use Rattle.olap_instance.specs.declared.refusals.InstanceRefusal.TheVariants as refusal;
+
+    ghost from_gives = { λ _ e. e ≡ refusal.Memory };
+
+    fn from(_: AllocError) -> InstanceRefusal {
+        InstanceRefusal::Memory
+    }
+}
+
+impl<T: Drop> From<AllocFailed<T>> for InstanceRefusal {
+    ghost use Rattle.std.specs.Prelude.{◌≡◌};
+    ghost use Rattle.olap_instance.specs.declared.refusals.InstanceRefusal.TheVariants as refusal;
+
+    ghost from_gives = { λ _ e. e ≡ refusal.Memory };
+
+    fn from(_: AllocFailed<T>) -> InstanceRefusal {
+        InstanceRefusal::Memory
+    }
+}
+
+/// Why a member wasn't added, in the order in which it is tested.
+#[derive(Clone, Copy, Debug, PartialEq, Eq)]
+pub enum MemberRefusal {
+    /// The id is empty or holds a semicolon.
+    BadId,
+    /// The id or the name is over 255 bytes.
+    TextTooLong,
+    /// The category is `All`.
+    RowForAll,
+    /// The id is that of another member or of `all`.
+    DuplicateId,
+    /// There are 262,144 members, `all` included.
+    TooManyMembers,
+    /// Want of memory.
+    Memory,
+}
+
+/// Why a parent wasn't added, in the order in which it is tested.
+#[derive(Clone, Copy, Debug, PartialEq, Eq)]
+pub enum ParentRefusal {
+    /// The child has that parent.
+    DuplicateParent,
+    /// Want of memory.
+    Memory,
+}
+
+impl From<Memory> for MemberRefusal {
+    ghost use Rattle.std.specs.Prelude.{◌≡◌};
+    ghost use Rattle.olap_instance.specs.declared.refusals.MemberRefusal.TheVariants as refusal;
+
+    ghost from_gives = { λ _ e. e ≡ refusal.Memory };
+
+    fn from(_: Memory) -> MemberRefusal {
+        MemberRefusal::Memory
+    }
+}
+
+impl From<AllocError> for MemberRefusal {
+    ghost use Rattle.std.specs.Prelude.{◌≡◌};
+    ghost use Rattle.olap_instance.specs.declared.refusals.MemberRefusal.TheVariants as refusal;
+
+    ghost from_gives = { λ _ e. e ≡ refusal.Memory };
+
+    fn from(_: AllocError) -> MemberRefusal {
+        MemberRefusal::Memory
+    }
+}
+
+impl<T: Drop> From<AllocFailed<T>> for MemberRefusal {
+    ghost use Rattle.std.specs.Prelude.{◌≡◌};
+    ghost use Rattle.olap_instance.specs.declared.refusals.MemberRefusal.TheVariants as refusal;
+
+    ghost from_gives = { λ _ e. e ≡ refusal.Memory };
+
+    fn from(_: AllocFailed<T>) -> MemberRefusal {
+        MemberRefusal::Memory
+    }
+}
+
+impl<T: Drop> From<AllocFailed<T>> for ParentRefusal {
+    ghost use Rattle.std.specs.Prelude.{◌≡◌};
+    ghost use Rattle.olap_instance.specs.declared.refusals.ParentRefusal.TheVariants as refusal;
+
+    ghost from_gives = { λ _ e. e ≡ refusal.Memory };
+
+    fn from(_: AllocFailed<T>) -> ParentRefusal {
+        ParentRefusal::Memory
+    }
+}
