@@ -58,7 +58,7 @@ module _ (d : Draft) (lists : List (Vec (Option MemberId) Global)) (told : d.par
       ∙ ap (slice_set d.parents x) now)
 
 -- what differs from each id is not found
-not-found : (x : List ℕ) (ids : List (List ℕ)) (n : ℕ) → ((k : ℕ) → k < length ids → get_or ids k [] ≢ x) → position_from (bytes_eq x) n ids ≡ None
+pub not-found : (x : List ℕ) (ids : List (List ℕ)) (n : ℕ) → ((k : ℕ) → k < length ids → get_or ids k [] ≢ x) → position_from (bytes_eq x) n ids ≡ None
 not-found x [] n h = refl
 not-found x (y ∷ ys) n h = by (bytes_eq x y) refl (not-found x ys (n + 1) (λ k l. h (suc k) (omega arith)))
   where

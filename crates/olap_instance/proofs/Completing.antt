@@ -146,4 +146,5 @@ module _ (ms : Instance) (ps : List (List ℕ)) (h : AreComplete ms ps) where
     few = let n = length-append ms (all_member ∷ []) in let f = h.few in omega arith;
     instance = complete-instance;
     texts = texts;
+    top = λ x s. parents-all x (is-last x s);
   }

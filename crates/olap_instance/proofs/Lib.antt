@@ -15,3 +15,7 @@ pub mod Refusing
 pub mod DraftLemmas
 pub mod Among
 pub mod BuilderSteps
+pub mod Joining
+pub mod CategoryNames
+pub mod PrintingLemmas
+pub mod ReadBack

@@ -8,3 +8,4 @@ pub mod Refusals
 pub mod Passes
 pub mod Drafts
 pub mod DraftInside
+pub mod Printing

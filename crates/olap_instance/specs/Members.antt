@@ -1,10 +1,11 @@
 -- Members with and without their parents, and the texts that they may have.
 --     with_parents   members, each with its parents
 --     HasTexts       each id and name of an instance is a text that a file of members can hold
-use Rattle.std.specs.Prelude.{◌≡◌, ◌≢◌, ◌≤◌, ◌==◌, false, ℕ, List, [], ◌∷◌, length, codes, IsTrue}
+--     AllHasNoParents   `all` has no parents
+use Rattle.std.specs.Prelude.{◌≡◌, ◌≢◌, ◌≤◌, ◌==◌, false, ℕ, suc, List, [], ◌∷◌, length, codes, IsTrue}
 use Rattle.std.specs.List.{list_any}
 use Rattle.std.specs.Str.{is_utf8}
-use Rattle.olap_base.specs.Instance.{Instance, IsInstance, IsMember, Member, member_at}
+use Rattle.olap_base.specs.Instance.{Instance, IsInstance, IsMember, Member, member_at, parents_of}
 use Rattle.olap_instance.specs.declared.rosters.Head.{Head}
 
 -- the most members that an instance has, `all` included
@@ -40,9 +41,14 @@ IsMemberId id = IsShortText id × (length id ≢ 0) × (list_any (λ b. b == 59)
 abbrev pub HasTexts : Instance → Type 0
 HasTexts i = (x : ℕ) → IsMember i x → IsMemberId (member_at i x).id × IsShortText (member_at i x).name
 
+-- the last member, `all`, has no parents
+abbrev pub AllHasNoParents : Instance → Type 0
+AllHasNoParents i = (x : ℕ) → suc x ≡ length i → parents_of i x ≡ []
+
 -- the members with these parents are a dimension instance within the bounds
 pub record AreSound (ms : Instance) (parents : List (List ℕ)) : Type 0 where
   pub as_many : length ms ≡ length parents
   pub few : length ms ≤ most_members
   pub instance : IsInstance (with_parents ms parents)
   pub texts : HasTexts (with_parents ms parents)
+  pub top : AllHasNoParents (with_parents ms parents)

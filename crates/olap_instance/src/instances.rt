@@ -3,7 +3,7 @@ ghost use Rattle.std.specs.Prelude.{◌≡◌, ◌<◌, ◌≤◌, ℕ, length, 
 ghost use Rattle.std.specs.Option.{option_map};
 ghost use Rattle.olap_base.specs.Instance.{IsBelow, IsInstance, category_of, member_at, name_of, parents_of};
 ghost use Rattle.olap_base.specs.Naming.{place_of};
-ghost use Rattle.olap_instance.specs.Members.{AreSound, HasTexts, with_parents};
+ghost use Rattle.olap_instance.specs.Members.{AllHasNoParents, AreSound, HasTexts, with_parents};
 ghost use Rattle.olap_instance.specs.Passes.{parents_in};
 
 use crate::rosters::Roster;
@@ -45,6 +45,7 @@ impl Instance {
         ensures few { length self.now ≤ 262144 }
         ensures sound { IsInstance self.now }
         ensures texts { HasTexts self.now }
+        ensures top { AllHasNoParents self.now }
     {
         self.roster.len() as u32
     }

@@ -9,6 +9,7 @@ mod building;
 mod entering;
 mod instances;
 mod linking;
+mod printing;
 mod reading;
 mod refusals;
 mod rosters;
@@ -16,5 +17,6 @@ mod texts;
 
 pub use building::InstanceBuilder;
 pub use instances::Instance;
+pub use printing::print_instance;
 pub use reading::read_instance;
 pub use refusals::{InstanceKind, InstanceRefusal, MemberRefusal, ParentRefusal};

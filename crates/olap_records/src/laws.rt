@@ -1,5 +1,6 @@
 // Theorems over the definitions. Each is the clause of a function that does nothing.
 ghost use Rattle.olap_records.specs.FaultLaws.{FirstFaultIsFirst, NoFaultIsNone};
+ghost use Rattle.olap_records.specs.Texts.{TextReadsBack};
 
 /// `first_fault` is a place and a kind exactly where the record at that place has that fault after the
 /// records before it, and none of these has a fault.
@@ -10,4 +11,9 @@ pub fn first_fault_is_first<R, K>()
 /// `first_fault` is nothing exactly where no record has a fault after the records before it.
 pub fn no_fault_is_none<R, K>()
     ensures { NoFaultIsNone R K }
+{}
+
+/// What is printed reads back as the same records.
+pub fn text_reads_back()
+    ensures { TextReadsBack }
 {}

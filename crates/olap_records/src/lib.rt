@@ -10,7 +10,7 @@ mod numbers;
 mod printing;
 mod reading;
 
-pub use laws::{first_fault_is_first, no_fault_is_none};
+pub use laws::{first_fault_is_first, no_fault_is_none, text_reads_back};
 pub use numbers::value;
 pub use printing::Printer;
 pub use reading::Rows;
