@@ -1,0 +1,5 @@
+-- Lemmas.
+pub mod PlaceLemmas
+mod GrowthLemmas
+mod MarkingLemmas
+mod TableLemmas
