@@ -8,3 +8,5 @@ pub mod Decided
 pub mod Summing
 pub mod Violations
 pub mod Examples
+mod ListingLemmas
+mod TextLemmas

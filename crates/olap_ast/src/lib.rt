@@ -5,10 +5,14 @@
 //! tree, and contracts see it as the definitions' formula `formula_of` (`specs/Trees`).
 #![tactic(auto)]
 
+mod collecting;
+mod copying;
 mod formulas;
 mod laws;
 mod measuring;
 
+pub use collecting::constants;
+pub use copying::copy;
 pub use formulas::{Constraint, Formula, Terms};
 pub use laws::{above_is_legal, frozen_exactly_if_some_instance, legal_exactly_if_no_violation};
 pub use laws::{one_store_is_legal, renaming_is_harmless, summarizable_exactly_if_none_frozen};
