@@ -30,20 +30,24 @@ index_of texts name = elim (decide_contains (List-discrete ℕ_discrete) texts n
 
 record IsIndex (fresh : List ℕ) (texts : List (List ℕ)) (name : List ℕ) (n : ℕ) : Type 0 where
   in_range : n ≤ length texts
-  known : (Contains texts name × (text_of_index fresh texts n ≡ name)) ⊎ ((Contains texts name → ⊥) × (text_of_index fresh texts n ≡ fresh))
+  known : (Contains texts name × (text_of_index fresh texts n ≡ name))
+      ⊎ ((Contains texts name → ⊥) × (text_of_index fresh texts n ≡ fresh))
 
 index_of_is : (fresh : List ℕ) (texts : List (List ℕ)) (name : List ℕ) → IsIndex fresh texts name (index_of texts name)
 unfolding index_of
 index_of_is fresh texts name = go (decide_contains (List-discrete ℕ_discrete) texts name)
   where
     go : (d : Dec (Contains texts name)) → IsIndex fresh texts name (elim d [ yes c ↦ suc c.0 | no n ↦ 0 ])
-    go (yes c) = record { in_range = omega (arith, c.1); known = inl (c, get_or_default texts c.0 fresh name c.1 ∙ c.2) }
+    go (yes c) = record { in_range = omega (arith, c.1); known = inl (c, get_or_default texts c.0 fresh name c.1
+        ∙ c.2) }
     go (no n) = record { in_range = omega arith; known = inr (n, refl) }
 
-module _ (s : Schema) (q : Formula) (k : Candidates) (hier : IsHierarchy s.graph) (ok : AreCandidates s q k) (i : Instance) (legal : IsLegal s i) (x : ℕ) (hx : x < length i) where
+module _ (s : Schema) (q : Formula) (k : Candidates) (hier : IsHierarchy s.graph) (ok : AreCandidates s q k)
+    (i : Instance) (legal : IsLegal s i) (x : ℕ) (hx : x < length i) where
   -- the index of the name of the member of a declared category
   index : ℕ → ℕ
-  index c = cond (is_present (category_of i x) (seen_edges s.graph i x) (suc c)) (index_of (k.texts (suc c)) (name_of i (member_above i x (suc c)))) 0
+  index c = cond (is_present (category_of i x) (seen_edges s.graph i x) (suc c))
+      (index_of (k.texts (suc c)) (name_of i (member_above i x (suc c)))) 0
 
   abbrev frozen : Frozen
   frozen = record { edges = map (seen i x) s.graph.edges; names = map index (range_with_len 0 (length s.graph.names)) }
@@ -64,28 +68,41 @@ module _ (s : Schema) (q : Formula) (k : Candidates) (hier : IsHierarchy s.graph
   thawed_is = ap (λ es. instance_of s.graph (category_of i x) es name) (chosen_by (seen i x) s.graph.edges)
 
   -- the name of a declared category's member, as an index
-  name_at : (c : ℕ) → Contains (shape_categories s.graph i hier legal.is_instance legal.lawful x hx) (suc c) → (slice_index frozen.names c ≡ index_of (k.texts (suc c)) (name_of i (member_above i x (suc c))))
+  name_at : (c : ℕ) → Contains (shape_categories s.graph i hier legal.is_instance legal.lawful x hx) (suc c) →
+      (slice_index frozen.names c ≡ index_of (k.texts (suc c)) (name_of i (member_above i x (suc c))))
   unfolding index
-  name_at c h = let t = Contains-from_filter (is_present (category_of i x) (seen_edges s.graph i x)) (categories_in_order s.graph) (suc c) h in
-      names_at c (declared s.graph c t.0) ∙ yes_index (is_present (category_of i x) (seen_edges s.graph i x) (suc c)) t.1
+  name_at c h = let t = Contains-from_filter (is_present (category_of i x) (seen_edges s.graph i x))
+      (categories_in_order s.graph) (suc c) h in
+      names_at c (declared s.graph c t.0)
+          ∙ yes_index (is_present (category_of i x) (seen_edges s.graph i x) (suc c)) t.1
     where
-      yes_index : (b : Bool) → b ≡ true → cond b (index_of (k.texts (suc c)) (name_of i (member_above i x (suc c)))) 0 ≡ index_of (k.texts (suc c)) (name_of i (member_above i x (suc c)))
+      yes_index : (b : Bool) → b ≡ true →
+          cond b (index_of (k.texts (suc c)) (name_of i (member_above i x (suc c)))) 0
+          ≡ index_of (k.texts (suc c)) (name_of i (member_above i x (suc c)))
       yes_index true e = refl
       yes_index false e = absurd (cc)
 
   -- the name of the member of a category, in the small instance and in the whole one
-  named_alike : (c : ℕ) → Contains (shape_categories s.graph i hier legal.is_instance legal.lawful x hx) c → (y : ℕ) → y ≡ member_above i x c → category_of i y ≡ c → y < length i
-      → ((text : List ℕ) → IsConstant s q c text → (name c ≡ text) ↔ (name_of i y ≡ text)) × (c ≢ 0 → IsConstant s q c (name c) ⊎ IsFreshName s q (name c))
-  named_alike zero h y e f l = (λ text t. let n = legal.is_instance.all_name y ((legal.is_instance.all_is_last y l).0 f) in (λ a. n ∙ a, λ a. sym n ∙ a), λ n. absurd (n refl))
+  named_alike : (c : ℕ) → Contains (shape_categories s.graph i hier legal.is_instance legal.lawful x hx) c →
+      (y : ℕ) → y ≡ member_above i x c → category_of i y ≡ c → y < length i
+      → ((text : List ℕ) → IsConstant s q c text → (name c ≡ text) ↔ (name_of i y ≡ text))
+          × (c ≢ 0 → IsConstant s q c (name c) ⊎ IsFreshName s q (name c))
+  named_alike zero h y e f l = (λ text t. let n = legal.is_instance.all_name y
+      ((legal.is_instance.all_is_last y l).0 f) in (λ a. n ∙ a, λ a. sym n ∙ a), λ n. absurd (n refl))
   named_alike (suc c) h y e f l =
       let t = index_of_is k.fresh (k.texts (suc c)) (name_of i y) in
       let n : name (suc c) ≡ text_of_index k.fresh (k.texts (suc c)) (index_of (k.texts (suc c)) (name_of i y)) =
-      ap (text_of_index k.fresh (k.texts (suc c))) (name_at c h ∙ ap (λ z. index_of (k.texts (suc c)) (name_of i z)) (sym e)) in
+      ap (text_of_index k.fresh (k.texts (suc c))) (name_at c h
+          ∙ ap (λ z. index_of (k.texts (suc c)) (name_of i z)) (sym e)) in
       go (name (suc c)) (text_of_index k.fresh (k.texts (suc c)) (index_of (k.texts (suc c)) (name_of i y))) n t.known
     where
-      go : (a b : List ℕ) → a ≡ b → (Contains (k.texts (suc c)) (name_of i y) × (b ≡ name_of i y)) ⊎ ((Contains (k.texts (suc c)) (name_of i y) → ⊥) × (b ≡ k.fresh))
-          → ((text : List ℕ) → IsConstant s q (suc c) text → (a ≡ text) ↔ (name_of i y ≡ text)) × (suc c ≢ 0 → IsConstant s q (suc c) a ⊎ IsFreshName s q a)
-      go a b n (inl u) = (λ text t. (λ z. sym (n ∙ u.1) ∙ z, λ z. n ∙ u.1 ∙ z), λ p. inl (subst (λ z. IsConstant s q (suc c) z) (sym (n ∙ u.1)) ((ok.texts (suc c)).sound (name_of i y) u.0)))
+      go : (a b : List ℕ) → a ≡ b → (Contains (k.texts (suc c)) (name_of i y) × (b ≡ name_of i y))
+          ⊎ ((Contains (k.texts (suc c)) (name_of i y) → ⊥) × (b ≡ k.fresh))
+          → ((text : List ℕ) → IsConstant s q (suc c) text → (a ≡ text) ↔ (name_of i y ≡ text))
+              × (suc c ≢ 0 → IsConstant s q (suc c) a ⊎ IsFreshName s q a)
+      go a b n (inl u) = (λ text t. (λ z. sym (n ∙ u.1) ∙ z, λ z. n ∙ u.1 ∙ z),
+          λ p. inl (subst (λ z. IsConstant s q (suc c) z) (sym (n ∙ u.1))
+          ((ok.texts (suc c)).sound (name_of i y) u.0)))
       go a b n (inr u) = (
         λ text t. (
           λ z. absurd (ok.fresh.free (suc c) (subst (λ w. IsConstant s q (suc c) w) (sym z ∙ n ∙ u.1) t)),
@@ -100,11 +117,16 @@ module _ (s : Schema) (q : Formula) (k : Candidates) (hier : IsHierarchy s.graph
       let c = category_shape s.graph i hier legal.is_instance legal.lawful x hx name m h in
       let l = listed s.graph i hier legal.is_instance legal.lawful x hx name m h in
       let n = name_shape s.graph i hier legal.is_instance legal.lawful x hx name m h ∙ ap name c in
-      let a = (named_alike (get_or (shape_categories s.graph i hier legal.is_instance legal.lawful x hx) m 0) l (of_small m) refl (sym (p.category m h) ∙ c) (p.member m h)).0 text (subst (λ d. IsConstant s q d text) c t) in
+      let a = (named_alike (get_or (shape_categories s.graph i hier legal.is_instance legal.lawful x hx) m 0) l
+          (of_small m) refl (sym (p.category m h) ∙ c) (p.member m h)).0 text
+          (subst (λ d. IsConstant s q d text) c t) in
       (λ z. a.0 (sym n ∙ z), λ z. n ∙ a.1 z)
 
-  same_truth : (m : ℕ) → m < length small → (f : Formula) → ((d : ℕ) (text : List ℕ) → Contains (equalities f) (record { category = d; text = text }) → IsConstant s q d text) → Holds small m f ↔ Holds i (of_small m) f
-  same_truth = same i small of_small (shape_is_part s.graph i hier legal.is_instance legal.lawful x hx name) (IsConstant s q) names_agree
+  same_truth : (m : ℕ) → m < length small → (f : Formula) →
+      ((d : ℕ) (text : List ℕ) → Contains (equalities f) (record { category = d; text = text }) →
+      IsConstant s q d text) → Holds small m f ↔ Holds i (of_small m) f
+  same_truth = same i small of_small (shape_is_part s.graph i hier legal.is_instance legal.lawful x hx name)
+      (IsConstant s q) names_agree
 
   small_is_frozen : Holds i x q → IsFrozenInstance s q (category_of i x) small
   small_is_frozen t =
@@ -115,7 +137,8 @@ module _ (s : Schema) (q : Formula) (k : Candidates) (hier : IsHierarchy s.graph
         legal = record {
           is_instance = shape_instance s.graph i hier legal.is_instance legal.lawful x hx name refl;
           lawful = shape_lawful s.graph i hier legal.is_instance legal.lawful x hx name;
-          meets = λ c d m h. (same_truth m h.0 c.formula (constant_in_constraint s q c d)).1 (legal.meets c d (of_small m) (p.member m h.0, sym (p.category m h.0) ∙ h.1));
+          meets = λ c d m h. (same_truth m h.0 c.formula (constant_in_constraint s q c d)).1
+              (legal.meets c d (of_small m) (p.member m h.0, sym (p.category m h.0) ∙ h.1));
         };
         one_each = shape_one_each s.graph i hier legal.is_instance legal.lawful x hx name;
         root = a;
@@ -125,8 +148,10 @@ module _ (s : Schema) (q : Formula) (k : Candidates) (hier : IsHierarchy s.graph
             let c = category_shape s.graph i hier legal.is_instance legal.lawful x hx name m h in
             let l = listed s.graph i hier legal.is_instance legal.lawful x hx name m h in
             let e = name_shape s.graph i hier legal.is_instance legal.lawful x hx name m h in
-            let u = (named_alike (get_or (shape_categories s.graph i hier legal.is_instance legal.lawful x hx) m 0) l (of_small m) refl (sym (p.category m h) ∙ c) (p.member m h)).1 (λ z. n (c ∙ z)) in
-            subst (λ z. IsConstant s q (category_of small m) z ⊎ IsFreshName s q z) (sym e) (subst (λ d. IsConstant s q d (name d) ⊎ IsFreshName s q (name d)) (sym c) u);
+            let u = (named_alike (get_or (shape_categories s.graph i hier legal.is_instance legal.lawful x hx) m 0) l
+                (of_small m) refl (sym (p.category m h) ∙ c) (p.member m h)).1 (λ z. n (c ∙ z)) in
+            subst (λ z. IsConstant s q (category_of small m) z ⊎ IsFreshName s q z) (sym e)
+                (subst (λ d. IsConstant s q d (name d) ⊎ IsFreshName s q (name d)) (sym c) u);
         true_at_root = (same_truth a r.0 q (constant_in_question s q)).1 (subst (λ y. Holds i y q) (sym r.2) t);
       }
 
@@ -136,14 +161,19 @@ module _ (s : Schema) (q : Formula) (k : Candidates) (hier : IsHierarchy s.graph
     edge_count = length-map s.graph.edges (seen i x);
     name_count = length-map-range_with_len index 0 (length s.graph.names);
     in_range = λ c h. let l : c < length s.graph.names = rw length-map-range_with_len at h in
-        subst (λ n. n ≤ length (k.texts (suc c))) (sym (names_at c l)) (bound c (is_present (category_of i x) (seen_edges s.graph i x) (suc c)) (index_of_is k.fresh (k.texts (suc c)) (name_of i (member_above i x (suc c)))));
+        subst (λ n. n ≤ length (k.texts (suc c))) (sym (names_at c l))
+            (bound c (is_present (category_of i x) (seen_edges s.graph i x) (suc c))
+            (index_of_is k.fresh (k.texts (suc c)) (name_of i (member_above i x (suc c)))));
     absent = λ c h e. let l : c < length s.graph.names = rw length-map-range_with_len at h in
-        names_at c l ∙ no_index (is_present (category_of i x) (seen_edges s.graph i x) (suc c)) (index_of (k.texts (suc c)) (name_of i (member_above i x (suc c))))
+        names_at c l ∙ no_index (is_present (category_of i x) (seen_edges s.graph i x) (suc c))
+            (index_of (k.texts (suc c)) (name_of i (member_above i x (suc c))))
         (sym (ap (λ es. is_present (category_of i x) es (suc c)) (chosen_by (seen i x) s.graph.edges)) ∙ e);
     stands_for = subst (λ j. IsFrozenInstance s q (category_of i x) j) (sym thawed_is) (small_is_frozen t);
   }
     where
-      bound : (c : ℕ) (b : Bool) → IsIndex k.fresh (k.texts (suc c)) (name_of i (member_above i x (suc c))) (index_of (k.texts (suc c)) (name_of i (member_above i x (suc c)))) → cond b (index_of (k.texts (suc c)) (name_of i (member_above i x (suc c)))) 0 ≤ length (k.texts (suc c))
+      bound : (c : ℕ) (b : Bool) → IsIndex k.fresh (k.texts (suc c)) (name_of i (member_above i x (suc c)))
+          (index_of (k.texts (suc c)) (name_of i (member_above i x (suc c)))) →
+          cond b (index_of (k.texts (suc c)) (name_of i (member_above i x (suc c)))) 0 ≤ length (k.texts (suc c))
       bound c true t = t.in_range
       bound c false t = omega arith
 
@@ -158,4 +188,5 @@ frozen_exactly s q r k hier ok = (
 )
   where
     go : (i : Instance) → IsLegal s i → (x : ℕ) → IsMemberOf i r x → Holds i x q → (f : Frozen) × IsFrozen s q r k f
-    go i l x m t = let e = frozen s q k hier ok i l x m.0 in (e, subst (λ d. IsFrozen s q d k e) m.1 (frozen_is s q k hier ok i l x m.0 t))
+    go i l x m t = let e = frozen s q k hier ok i l x m.0 in
+        (e, subst (λ d. IsFrozen s q d k e) m.1 (frozen_is s q k hier ok i l x m.0 t))

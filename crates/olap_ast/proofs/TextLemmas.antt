@@ -19,7 +19,8 @@ use Rattle.olap_ast.specs.Formula.{Equality}
 pub texts_on-append : (d : ℕ) (xs ys : List Equality) → texts_on d (xs ++ ys) ≡ texts_on d xs ++ texts_on d ys
 texts_on-append d xs ys =
     let on : Equality → Bool = λ a. a.category == d in
-    ap (map (λ (a : Equality). a.text)) (filter-append on xs ys) ∙ map-append (λ (a : Equality). a.text) (filter on xs) (filter on ys)
+    ap (map (λ (a : Equality). a.text)) (filter-append on xs ys)
+        ∙ map-append (λ (a : Equality). a.text) (filter on xs) (filter on ys)
 
 -- the tests of two equal texts
 pub same_text : (x y : List ℕ) → pointwise nat_eq x y ≡ true → x ≡ y

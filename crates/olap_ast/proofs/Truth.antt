@@ -14,7 +14,8 @@ use Rattle.olap_ast.specs.Schema.{AboveIsLegal}
 
 -- the texts of Q are the only ones that names are compared with: the names agree as far as these tell
 abbrev pub NamesAgree : Instance → Instance → (ℕ → ℕ) → (ℕ → List ℕ → Type 0) → Type 0
-NamesAgree i j e Q = (k : ℕ) (text : List ℕ) → k < length j → Q (category_of j k) text → (name_of j k ≡ text) ↔ (name_of i (e k) ≡ text)
+NamesAgree i j e Q = (k : ℕ) (text : List ℕ) → k < length j → Q (category_of j k) text →
+    (name_of j k ≡ text) ↔ (name_of i (e k) ≡ text)
 
 module _ (i j : Instance) (e : ℕ → ℕ) (p : IsPart i j e) (Q : ℕ → List ℕ → Type 0) (names : NamesAgree i j e Q) where
   down : {k l : ℕ} → Reaches j k l → Reaches i (e k) (e l)
@@ -24,7 +25,8 @@ module _ (i j : Instance) (e : ℕ → ℕ) (p : IsPart i j e) (Q : ℕ → List
   inside h r = part_inside i j e p h (Steps-from_reaches r)
 
   lift : (k y : ℕ) → k < length j → Reaches i (e k) y → (l : ℕ) × (l < length j) × Reaches j k l × (e l ≡ y)
-  lift k y h r = let t = part_lift i j e p (Steps-from_reaches r) k h refl in (t.0, part_inside i j e p h t.1, reaches_from_Steps t.1, t.2)
+  lift k y h r = let t = part_lift i j e p (Steps-from_reaches r) k h refl in
+      (t.0, part_inside i j e p h t.1, reaches_from_Steps t.1, t.2)
 
   -- ---- atoms
 
@@ -32,27 +34,36 @@ module _ (i j : Instance) (e : ℕ → ℕ) (p : IsPart i j e) (Q : ℕ → List
   reach_down k d h (l, m, r) = (e l, (p.member l m.0, sym (p.category l m.0) ∙ m.1), down r)
 
   reach_up : (k d : ℕ) → k < length j → ReachesCategory i (e k) d → ReachesCategory j k d
-  reach_up k d h (y, m, r) = let t = lift k y h r in (t.0, (t.1, p.category t.0 t.1 ∙ ap (category_of i) t.3 ∙ m.1), t.2)
+  reach_up k d h (y, m, r) = let t = lift k y h r in
+      (t.0, (t.1, p.category t.0 t.1 ∙ ap (category_of i) t.3 ∙ m.1), t.2)
 
   via_down : (k d c : ℕ) → k < length j → ReachesVia j k d c → ReachesVia i (e k) d c
   via_down k d c h (l, m, r, q) = (e l, (p.member l m.0, sym (p.category l m.0) ∙ m.1), down r, reach_down l c m.0 q)
 
   via_up : (k d c : ℕ) → k < length j → ReachesVia i (e k) d c → ReachesVia j k d c
   via_up k d c h (y, m, r, q) = let t = lift k y h r in
-      (t.0, (t.1, p.category t.0 t.1 ∙ ap (category_of i) t.3 ∙ m.1), t.2, reach_up t.0 c t.1 (subst (λ z. ReachesCategory i z c) (sym t.3) q))
+      (t.0, (t.1, p.category t.0 t.1 ∙ ap (category_of i) t.3 ∙ m.1), t.2,
+          reach_up t.0 c t.1 (subst (λ z. ReachesCategory i z c) (sym t.3) q))
 
-  named_down : (k d : ℕ) (text : List ℕ) → k < length j → Q d text → ReachesNamed j k d text → ReachesNamed i (e k) d text
-  named_down k d text h u (l, m, r, q) = (e l, (p.member l m.0, sym (p.category l m.0) ∙ m.1), down r, (names l text m.0 (subst (λ c. Q c text) (sym m.1) u)).0 q)
+  named_down : (k d : ℕ) (text : List ℕ) → k < length j → Q d text → ReachesNamed j k d text →
+      ReachesNamed i (e k) d text
+  named_down k d text h u (l, m, r, q) =
+      (e l, (p.member l m.0, sym (p.category l m.0) ∙ m.1), down r,
+      (names l text m.0 (subst (λ c. Q c text) (sym m.1) u)).0 q)
 
   named_up : (k d : ℕ) (text : List ℕ) → k < length j → Q d text → ReachesNamed i (e k) d text → ReachesNamed j k d text
-  named_up k d text h u (y, m, r, q) = let t = lift k y h r in let c = p.category t.0 t.1 ∙ ap (category_of i) t.3 ∙ m.1 in
+  named_up k d text h u (y, m, r, q) = let t = lift k y h r in let c =
+      p.category t.0 t.1 ∙ ap (category_of i) t.3 ∙ m.1 in
       (t.0, (t.1, c), t.2, (names t.0 text t.1 (subst (λ d. Q d text) (sym c) u)).1 (ap (name_of i) t.3 ∙ q))
 
-  chain_down : (k : ℕ) (ls : List ℕ) → IsChain (IsBelow j) (k ∷ ls) → IsChain (IsBelow i) (e k ∷ map e ls) × (map (category_of i) (map e ls) ≡ map (category_of j) ls)
+  chain_down : (k : ℕ) (ls : List ℕ) → IsChain (IsBelow j) (k ∷ ls) →
+      IsChain (IsBelow i) (e k ∷ map e ls) × (map (category_of i) (map e ls) ≡ map (category_of j) ls)
   chain_down k [] c = (tt, refl)
-  chain_down k (l ∷ ls) c = let t = chain_down l ls c.1 in ((p.below k l c.0, t.0), cc (p.category l (p.inside k l c.0), t.1))
+  chain_down k (l ∷ ls) c = let t = chain_down l ls c.1 in
+      ((p.below k l c.0, t.0), cc (p.category l (p.inside k l c.0), t.1))
 
-  chain_up : (k : ℕ) → k < length j → (x : ℕ) → e k ≡ x → (ys : List ℕ) → IsChain (IsBelow i) (x ∷ ys) → (ls : List ℕ) × IsChain (IsBelow j) (k ∷ ls) × (map (category_of j) ls ≡ map (category_of i) ys)
+  chain_up : (k : ℕ) → k < length j → (x : ℕ) → e k ≡ x → (ys : List ℕ) → IsChain (IsBelow i) (x ∷ ys) →
+      (ls : List ℕ) × IsChain (IsBelow j) (k ∷ ls) × (map (category_of j) ls ≡ map (category_of i) ys)
   chain_up k h x q [] c = ([], tt, refl)
   chain_up k h x q (y ∷ ys) c =
       let t = p.above k y h (subst (λ w. IsBelow i w y) (sym q) c.0) in
@@ -83,21 +94,29 @@ module _ (i j : Instance) (e : ℕ → ℕ) (p : IsPart i j e) (Q : ℕ → List
     same k h (Path cs) w = (path_down k cs, path_up k cs h)
     same k h (Reach d) w = (reach_down k d h, reach_up k d h)
     same k h (Via d c) w = (via_down k d c h, via_up k d c h)
-    same k h (Equals d text) w = let u = w d text (contains_head (record { category = d; text = text }) []) in (named_down k d text h u, named_up k d text h u)
+    same k h (Equals d text) w = let u = w d text (contains_head (record { category = d; text = text }) []) in
+        (named_down k d text h u, named_up k d text h u)
     same k h (Not f) w = let s = same k h f w in (λ n a. n (s.1 a), λ n a. n (s.0 a))
-    same k h (And f g) w = let s = same k h f (left (equalities f) (equalities g) w) in let t = same k h g (right (equalities f) (equalities g) w) in (λ a. (s.0 a.0, t.0 a.1), λ a. (s.1 a.0, t.1 a.1))
-    same k h (Or f g) w = let s = same k h f (left (equalities f) (equalities g) w) in let t = same k h g (right (equalities f) (equalities g) w) in
-        (λ a. elim a [ inl b ↦ inl (s.0 b) | inr b ↦ inr (t.0 b) ], λ a. elim a [ inl b ↦ inl (s.1 b) | inr b ↦ inr (t.1 b) ])
-    same k h (Implies f g) w = let s = same k h f (left (equalities f) (equalities g) w) in let t = same k h g (right (equalities f) (equalities g) w) in (λ a b. t.0 (a (s.1 b)), λ a b. t.1 (a (s.0 b)))
-    same k h (Iff f g) w = let s = same k h f (left (equalities f) (equalities g) w) in let t = same k h g (right (equalities f) (equalities g) w) in
+    same k h (And f g) w = let s = same k h f (left (equalities f) (equalities g) w) in let t =
+        same k h g (right (equalities f) (equalities g) w) in (λ a. (s.0 a.0, t.0 a.1), λ a. (s.1 a.0, t.1 a.1))
+    same k h (Or f g) w = let s = same k h f (left (equalities f) (equalities g) w) in let t =
+        same k h g (right (equalities f) (equalities g) w) in
+        (λ a. elim a [ inl b ↦ inl (s.0 b) | inr b ↦ inr (t.0 b) ],
+            λ a. elim a [ inl b ↦ inl (s.1 b) | inr b ↦ inr (t.1 b) ])
+    same k h (Implies f g) w = let s = same k h f (left (equalities f) (equalities g) w) in let t =
+        same k h g (right (equalities f) (equalities g) w) in (λ a b. t.0 (a (s.1 b)), λ a b. t.1 (a (s.0 b)))
+    same k h (Iff f g) w = let s = same k h f (left (equalities f) (equalities g) w) in let t =
+        same k h g (right (equalities f) (equalities g) w) in
         (λ a. (λ b. t.0 (a.0 (s.1 b)), λ b. s.0 (a.1 (t.1 b))), λ a. (λ b. t.1 (a.0 (s.0 b)), λ b. s.1 (a.1 (t.0 b))))
-    same k h (Xor f g) w = let s = same k h f (left (equalities f) (equalities g) w) in let t = same k h g (right (equalities f) (equalities g) w) in (
+    same k h (Xor f g) w = let s = same k h f (left (equalities f) (equalities g) w) in let t =
+        same k h g (right (equalities f) (equalities g) w) in (
       λ a. elim a [ inl b ↦ inl (s.0 b.0, λ c. b.1 (t.1 c)) | inr b ↦ inr (λ c. b.0 (s.1 c), t.0 b.1) ],
       λ a. elim a [ inl b ↦ inl (s.1 b.0, λ c. b.1 (t.0 c)) | inr b ↦ inr (λ c. b.0 (s.0 c), t.1 b.1) ],
     )
     same k h (One ts) w = same_one k h ts w
 
-    same_one : (k : ℕ) → k < length j → (ts : Terms) → Within (equalities_of_terms ts) → ExactlyOneHolds j k ts ↔ ExactlyOneHolds i (e k) ts
+    same_one : (k : ℕ) → k < length j → (ts : Terms) → Within (equalities_of_terms ts) →
+        ExactlyOneHolds j k ts ↔ ExactlyOneHolds i (e k) ts
     same_one k h End w = (λ t. t, λ t. t)
     same_one k h (More f ts) w =
         let s = same k h f (left (equalities f) (equalities_of_terms ts) w) in
@@ -107,7 +126,8 @@ module _ (i j : Instance) (e : ℕ → ℕ) (p : IsPart i j e) (Q : ℕ → List
           λ a. elim a [ inl b ↦ inl (s.1 b.0, n.1 b.1) | inr b ↦ inr (λ c. b.0 (s.0 c), t.1 b.1) ],
         )
 
-    same_none : (k : ℕ) → k < length j → (ts : Terms) → Within (equalities_of_terms ts) → NoneHolds j k ts ↔ NoneHolds i (e k) ts
+    same_none : (k : ℕ) → k < length j → (ts : Terms) → Within (equalities_of_terms ts) →
+        NoneHolds j k ts ↔ NoneHolds i (e k) ts
     same_none k h End w = (λ t. t, λ t. t)
     same_none k h (More f ts) w =
         let s = same k h f (left (equalities f) (equalities_of_terms ts) w) in
@@ -119,7 +139,8 @@ module _ (i j : Instance) (e : ℕ → ℕ) (p : IsPart i j e) (Q : ℕ → List
 abbrev Any_text : ℕ → List ℕ → Type 0
 Any_text d text = Unit {0}
 
-names_above : (i : Instance) (x : ℕ) (v : IsInstance i) → NamesAgree i (above i x) (λ k. get_or (members_above i x) k 0) Any_text
+names_above : (i : Instance) (x : ℕ) (v : IsInstance i) →
+    NamesAgree i (above i x) (λ k. get_or (members_above i x) k 0) Any_text
 names_above i x v k text h u = (λ q. sym (name_above i x v k h) ∙ q, λ q. name_above i x v k h ∙ q)
 
 pub above_is_legal_lem : AboveIsLegal
@@ -131,9 +152,11 @@ above_is_legal_lem s i x v h =
       legal = record {
         is_instance = above_instance i x v.is_instance s.graph v.lawful h;
         lawful = above_lawful i x v.is_instance s.graph v.lawful;
-        meets = λ c d k m. (same i (above i x) e p Any_text (names_above i x v.is_instance) k m.0 c.formula (λ a b r. tt)).1 (v.meets c d (e k) (p.member k m.0, sym (p.category k m.0) ∙ m.1));
+        meets = λ c d k m. (same i (above i x) e p Any_text (names_above i x v.is_instance) k m.0 c.formula
+            (λ a b r. tt)).1 (v.meets c d (e k) (p.member k m.0, sym (p.category k m.0) ∙ m.1));
       };
       one_each = one_member_each i x v.is_instance s.graph v.lawful;
-      same_truth = λ f. let u = same i (above i x) e p Any_text (names_above i x v.is_instance) (self_above i x) t.0 f (λ a b r. tt) in
+      same_truth = λ f. let u = same i (above i x) e p Any_text (names_above i x v.is_instance)
+          (self_above i x) t.0 f (λ a b r. tt) in
           (λ a. subst (λ y. Holds i y f) t.1 (u.0 a), λ a. u.1 (subst (λ y. Holds i y f) (sym t.1) a));
     }

@@ -23,12 +23,14 @@ IsUnsatisfiable s c = (i : Instance) → IsLegal s i → (x : ℕ) → IsMemberO
 
 -- every legal instance of the schema without the constraint at this place meets it
 abbrev pub IsRedundant : Schema → ℕ → Type 0
-IsRedundant s k = (c : Constraint) × (slice_get s.constraints k ≡ Some c) × ((i : Instance) → IsLegal (without s k) i → Meets i c)
+IsRedundant s k = (c : Constraint) × (slice_get s.constraints k ≡ Some c)
+    × ((i : Instance) → IsLegal (without s k) i → Meets i c)
 
 -- in no legal instance a member of the edge's child is below one of its parent
 abbrev pub IsUnused : Schema → Edge → Type 0
 IsUnused s e =
-    (i : Instance) → IsLegal s i → (x y : ℕ) → IsBelow i x y → category_of i x ≡ e.child → category_of i y ≡ e.parent → ⊥
+    (i : Instance) → IsLegal s i → (x y : ℕ) → IsBelow i x y → category_of i x ≡ e.child →
+        category_of i y ≡ e.parent → ⊥
 
 abbrev pub IsFinding : Schema → Finding → Type 0
 IsFinding s (Unsatisfiable c) = IsDeclared s.graph c × IsUnsatisfiable s c

@@ -5,4 +5,5 @@ use Rattle.olap_ast.proofs.ListingLemmas.{parts_before-push}
 use Rattle.olap_ast.proofs.copying.listed.Goals as goal
 
 pub parts-preserved : goal.parts-preserved
-parts-preserved c = let pushed = parts_before-push c.pop.new.self.items c.in-Some.f (terms_of c.parts.terms) in grind (arith, common_steps, pushed)
+parts-preserved c = let pushed = parts_before-push c.pop.new.self.items c.in-Some.f (terms_of c.parts.terms) in
+    grind (arith, common_steps, pushed)
