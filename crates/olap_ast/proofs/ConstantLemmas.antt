@@ -33,7 +33,7 @@ constant_in_constraint s q c h d text a =
     constant_of s q d text (Contains-append_left (flat_map (λ (b : Constraint). equalities b.formula) s.constraints)
     (equalities q) (record { category = d; text = text })
     (Contains-flat_map (λ (b : Constraint). equalities b.formula) s.constraints c
-        (record { category = d; text = text }) h a))
+    (record { category = d; text = text }) h a))
 
 pub constant_in_question : (s : Schema) (q : Formula) (d : ℕ) (text : List ℕ) →
     Contains (equalities q) (record { category = d; text = text }) → IsConstant s q d text

@@ -33,7 +33,7 @@ dec_member : (i : Instance) (d : ℕ) (P : ℕ → Type 0) → ((y : ℕ) → De
 dec_member i d P e = dec_iff (λ t. (t.0, (Contains-from_range (length i) t.0 t.1, t.2.0), t.2.1))
     (λ t. (t.0, Contains-range (length i) t.0 t.1.0, (t.1.1, t.2)))
     (dec_some (λ y. (category_of i y ≡ d) × P y) (λ y. dec_and (ℕ_discrete (category_of i y) d) (e y))
-        (range_with_len 0 (length i)))
+    (range_with_len 0 (length i)))
 
 dec_reach : (i : Instance) (x d : ℕ) → Dec (ReachesCategory i x d)
 dec_reach i x d = dec_member i d (λ y. Reaches i x y) (λ y. decide_reaches i x y)
@@ -41,12 +41,12 @@ dec_reach i x d = dec_member i d (λ y. Reaches i x y) (λ y. decide_reaches i x
 pub dec_via : (i : Instance) (x d e : ℕ) → Dec (ReachesVia i x d e)
 dec_via i x d e = dec_iff (λ t. (t.0, t.1, t.2.0, t.2.1)) (λ t. (t.0, t.1, (t.2, t.3)))
     (dec_member i d (λ y. Reaches i x y × ReachesCategory i y e)
-        (λ y. dec_and (decide_reaches i x y) (dec_reach i y e)))
+    (λ y. dec_and (decide_reaches i x y) (dec_reach i y e)))
 
 dec_named : (i : Instance) (x d : ℕ) (text : List ℕ) → Dec (ReachesNamed i x d text)
 dec_named i x d text = dec_iff (λ t. (t.0, t.1, t.2.0, t.2.1)) (λ t. (t.0, t.1, (t.2, t.3)))
     (dec_member i d (λ y. Reaches i x y × (name_of i y ≡ text))
-        (λ y. dec_and (decide_reaches i x y) (List-discrete ℕ_discrete (name_of i y) text)))
+    (λ y. dec_and (decide_reaches i x y) (List-discrete ℕ_discrete (name_of i y) text)))
 
 path_from : (i : Instance) (x c : ℕ) (cs : List ℕ) → HasPath i x (c ∷ cs) →
     (y : ℕ) × Contains (parents_of i x) y × ((category_of i y ≡ c) × HasPath i y cs)
@@ -57,7 +57,7 @@ dec_path : (i : Instance) (cs : List ℕ) (x : ℕ) → Dec (HasPath i x cs)
 dec_path i [] x = yes ([], tt, refl)
 dec_path i (c ∷ cs) x = dec_iff (λ t. (t.0 ∷ t.2.1.0, (t.1, t.2.1.1), cc (t.2.0, t.2.1.2))) (path_from i x c cs)
     (dec_some (λ y. (category_of i y ≡ c) × HasPath i y cs)
-        (λ y. dec_and (ℕ_discrete (category_of i y) c) (dec_path i cs y)) (parents_of i x))
+    (λ y. dec_and (ℕ_discrete (category_of i y) c) (dec_path i cs y)) (parents_of i x))
 
 mutual
   pub decide_holds : (i : Instance) (x : ℕ) (f : Formula) → Dec (Holds i x f)

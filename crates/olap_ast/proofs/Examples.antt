@@ -39,16 +39,20 @@ small : (b : ℕ) → 97 ≤ b → b ≤ 122 → IsLetterOrDigit b
 small b h l = inl (inr (h, l))
 
 heads_differ : (h : ℕ) → (h ≡ 83) → All (λ x. x ≢ h) (116 ∷ 102 ∷ 111 ∷ 97 ∷ [])
-heads_differ h e = All-from_recursion (λ x. x ≢ h) (116 ∷ 102 ∷ 111 ∷ 97 ∷ []) ((λ q. omega arith),
-    ((λ q. omega arith), ((λ q. omega arith), ((λ q. omega arith), tt))))
+heads_differ h e = All-from_recursion (λ x. x ≢ h) (116 ∷ 102 ∷ 111 ∷ 97 ∷ []) (
+  (λ q. omega arith),
+  ((λ q. omega arith), ((λ q. omega arith), ((λ q. omega arith), tt))),
+)
 
 name_is : (name : List ℕ) → codes "Store" ≡ name → IsCategoryName name × (name ≢ codes "All")
 unfolding head
 name_is name e = subst (λ n. IsCategoryName n × (n ≢ codes "All")) e (
   (
     inl (lit≤ tt, lit≤ tt),
-    All-from_recursion IsLetterOrDigit (116 ∷ 111 ∷ 114 ∷ 101 ∷ []) (small 116 (lit≤ tt) (lit≤ tt),
-        (small 111 (lit≤ tt) (lit≤ tt), (small 114 (lit≤ tt) (lit≤ tt), (small 101 (lit≤ tt) (lit≤ tt), tt)))),
+    All-from_recursion IsLetterOrDigit (116 ∷ 111 ∷ 114 ∷ 101 ∷ []) (
+      small 116 (lit≤ tt) (lit≤ tt),
+      (small 111 (lit≤ tt) (lit≤ tt), (small 114 (lit≤ tt) (lit≤ tt), (small 101 (lit≤ tt) (lit≤ tt), tt))),
+    ),
     λ c. not_head (116 ∷ 102 ∷ 111 ∷ 97 ∷ []) 83 (heads_differ 83 refl) (Contains-map head reserved (codes "Store") c),
   ),
   λ q. let h : ◌≡◌ {A = ℕ} 83 65 = ap head q in omega arith,

@@ -31,8 +31,11 @@ list_any_is {A} p (x ∷ xs) = let r = list_any_is p xs in (to r.0 (p x) refl, �
     from : ((y : A) × Contains xs y × (p y ≡ true) → IsTrue (list_any p xs)) → (b : Bool) → p x ≡ b → (y : A) →
         Contains (x ∷ xs) y → p y ≡ true → b || list_any p xs ≡ true
     from rest true e y c h = refl
-    from rest false e y c h = elim (contains_cases y x xs c) [ inl q ↦ absurd (let z : false ≡ true = sym e ∙ ap p q
-        ∙ h in cc) | inr d ↦ rest (y, d, h) ]
+    from rest false e y c h = elim (contains_cases y x xs c) [
+      | inl q ↦ absurd (let z : false ≡ true = sym e ∙ ap p q
+          ∙ h in cc)
+      | inr d ↦ rest (y, d, h)
+    ]
 
 same_is : (a b : ℕ) → a == b ≡ true → a ≡ b
 same_is a b e = grind (arith, nat_tests)
@@ -71,10 +74,10 @@ seen_from : (i : Instance) (x : ℕ) (e : Edge) → seen i x e ≡ true → Seen
 unfolding seen
 seen_from i x e h =
     let t = (list_any_is (λ y. (category_of i y == e.child) && list_any (λ z. category_of i z == e.parent)
-        (parents_of i y)) (members_above i x)).0 h in
+    (parents_of i y)) (members_above i x)).0 h in
     let u = (list_any_is (λ z. category_of i z == e.parent) (parents_of i t.0)).0
-        (second_true (category_of i t.0 == e.child)
-        (list_any (λ z. category_of i z == e.parent) (parents_of i t.0)) t.2) in
+    (second_true (category_of i t.0 == e.child)
+    (list_any (λ z. category_of i z == e.parent) (parents_of i t.0)) t.2) in
     record {
       child = t.0;
       parent = u.0;
@@ -90,14 +93,17 @@ is_seen : (i : Instance) (x : ℕ) (e : Edge) → Seen i x e → seen i x e ≡ 
 unfolding seen
 is_seen i x e s =
     (list_any_is (λ y. (category_of i y == e.child) && list_any (λ z. category_of i z == e.parent) (parents_of i y))
-        (members_above i x)).1 (
+    (members_above i x)).1 (
       s.child,
       is_above i x s.child (below_is_member i s.child s.parent s.below) s.reached,
       both_true (category_of i s.child == e.child)
           (list_any (λ z. category_of i z == e.parent) (parents_of i s.child))
           (is_same (category_of i s.child) e.child s.child_is)
-          ((list_any_is (λ z. category_of i z == e.parent) (parents_of i s.child)).1 (s.parent, s.below,
-              is_same (category_of i s.parent) e.parent s.parent_is)),
+          ((list_any_is (λ z. category_of i z == e.parent) (parents_of i s.child)).1 (
+            s.parent,
+            s.below,
+            is_same (category_of i s.parent) e.parent s.parent_is,
+          )),
     )
 
 abbrev pub seen_edges : Graph → Instance → ℕ → List Edge
@@ -133,7 +139,7 @@ unfolding member_above
 member_above_is g i w x y h s =
     let t = first_in_is i (category_of i y) (members_above i x) y (is_above i x y h s) refl in
     reached_once g i w x (first_in i (category_of i y) (members_above i x)) y
-        (members_above_is i x (first_in i (category_of i y) (members_above i x)) t.0).1 s t.1
+    (members_above_is i x (first_in i (category_of i y) (members_above i x)) t.0).1 s t.1
 
 -- ---- the shape above x
 
@@ -147,9 +153,14 @@ last_step {R} (step {x = x} {y = z} {z = y} r s) = elim (last_step s) [
 Distinct-push : {A : Type 0} (xs : List A) (y : A) → Distinct xs → (Contains xs y → ⊥) → Distinct (xs ++ y ∷ [])
 Distinct-push [] y d n = (Contains-nil y, tt)
 Distinct-push (x ∷ xs) y d n = (
-  λ c. elim (Contains-append_cases xs (y ∷ []) x c) [ inl h ↦ d.0 h
-      | inr h ↦ elim (contains_cases x y [] h) [ inl q ↦ n
-      (subst (λ u. Contains (x ∷ xs) u) (sym q) (contains_head x xs)) | inr k ↦ Contains-nil x k ] ],
+  λ c. elim (Contains-append_cases xs (y ∷ []) x c) [
+    | inl h ↦ d.0 h
+    | inr h ↦ elim (contains_cases x y [] h) [
+      | inl q ↦ n
+          (subst (λ u. Contains (x ∷ xs) u) (sym q) (contains_head x xs))
+      | inr k ↦ Contains-nil x k
+    ]
+  ],
   Distinct-push xs y d.1 (λ c. n (contains_cons y xs x c)),
 )
 
@@ -157,8 +168,10 @@ Distinct-push (x ∷ xs) y d n = (
 pub declared : (g : Graph) (c : ℕ) → Contains (categories_in_order g) (suc c) → c < length g.names
 declared g c a = elim (Contains-append_cases (range_with_len 1 (length g.names)) (0 ∷ []) (suc c) a) [
   | inl h ↦ let t = Contains-from_range_at 1 (length g.names) (suc c) h in omega (arith, t.1)
-  | inr h ↦ elim (contains_cases (suc c) 0 [] h) [ inl q ↦ absurd (omega arith)
-      | inr k ↦ absurd (Contains-nil (suc c) k) ]
+  | inr h ↦ elim (contains_cases (suc c) 0 [] h) [
+    | inl q ↦ absurd (omega arith)
+    | inr k ↦ absurd (Contains-nil (suc c) k)
+  ]
 ]
 
 not_all : (g : Graph) → IsHierarchy g → (c : ℕ) → Contains (categories_in_order g) (suc c) →
@@ -221,7 +234,7 @@ module _ (g : Graph) (i : Instance) (hier : IsHierarchy g) (v : IsInstance i) (w
     | no n ↦ let t = w.up_connectivity y h n in
         let b = (hier.categories (category_of i y) (category_of i t.0) (w.connectivity y t.0 t.1)).0 in
         Contains-append_left (range_with_len 1 (length g.names)) (0 ∷ []) (category_of i y)
-            (Contains-range_at 1 (length g.names) (category_of i y) (above_zero (category_of i y) n) (omega arith))
+        (Contains-range_at 1 (length g.names) (category_of i y) (above_zero (category_of i y) n) (omega arith))
   ]
     where
       above_zero : (c : ℕ) → c ≢ 0 → 1 ≤ c
@@ -231,7 +244,7 @@ module _ (g : Graph) (i : Instance) (hier : IsHierarchy g) (v : IsInstance i) (w
       Contains (seen_edges g i x) (record { child = category_of i y; parent = category_of i z })
   edge_seen y z s b = Contains-filter (seen i x) g.edges (record { child = category_of i y; parent = category_of i z })
       (is_seen i x (record { child = category_of i y; parent = category_of i z })
-          (record { child = y; parent = z; reached = s; child_is = refl; below = b; parent_is = refl }))
+      (record { child = y; parent = z; reached = s; child_is = refl; below = b; parent_is = refl }))
       (w.connectivity y z b)
 
   present_of : (y : ℕ) → y < length i → Steps (IsBelow i) x y → Contains shape_categories (category_of i y)
@@ -246,7 +259,7 @@ module _ (g : Graph) (i : Instance) (hier : IsHierarchy g) (v : IsInstance i) (w
       go (inr t) = right_true (category_of i y == category_of i x)
           (list_any (λ e. (e.child == category_of i y) || (e.parent == category_of i y)) (seen_edges g i x))
           ((list_any_is (λ (e : Edge). (e.child == category_of i y) || (e.parent == category_of i y))
-              (seen_edges g i x)).1 (
+          (seen_edges g i x)).1 (
             record { child = category_of i t.0; parent = category_of i y },
             edge_seen t.0 y t.1 t.2,
             right_true (category_of i t.0 == category_of i y) (category_of i y == category_of i y)
@@ -261,10 +274,19 @@ module _ (g : Graph) (i : Instance) (hier : IsHierarchy g) (v : IsInstance i) (w
     where
       edge : (e : Edge) → Seen i x e → (e.child == c ≡ true) ⊎ (e.parent == c ≡ true) →
           (y : ℕ) × (y < length i) × Steps (IsBelow i) x y × (category_of i y ≡ c)
-      edge e s (inl a) = (s.child, below_is_member i s.child s.parent s.below, s.reached, s.child_is
-          ∙ same_is e.child c a)
-      edge e s (inr a) = (s.parent, v.parents_are_members s.child s.parent s.below,
-          Steps-append s.reached (step s.below here), s.parent_is ∙ same_is e.parent c a)
+      edge e s (inl a) = (
+        s.child,
+        below_is_member i s.child s.parent s.below,
+        s.reached,
+        s.child_is
+            ∙ same_is e.child c a,
+      )
+      edge e s (inr a) = (
+        s.parent,
+        v.parents_are_members s.child s.parent s.below,
+        Steps-append s.reached (step s.below here),
+        s.parent_is ∙ same_is e.parent c a,
+      )
 
       go : (c == category_of i x ≡ true)
           ⊎ (list_any (λ e. (e.child == c) || (e.parent == c)) (seen_edges g i x) ≡ true) →
@@ -272,7 +294,7 @@ module _ (g : Graph) (i : Instance) (hier : IsHierarchy g) (v : IsInstance i) (w
       go (inl a) = (x, hx, here, sym (same_is c (category_of i x) a))
       go (inr a) = let t = (list_any_is (λ (e : Edge). (e.child == c) || (e.parent == c)) (seen_edges g i x)).0 a in
           edge t.0 (seen_from i x t.0 (Contains-from_filter (seen i x) g.edges t.0 t.1).1)
-              (either_true (t.0.child == c) (t.0.parent == c) t.2)
+          (either_true (t.0.child == c) (t.0.parent == c) t.2)
 
   -- the member of a present category
   pub member_of_present : (c : ℕ) → Contains shape_categories c →
@@ -280,14 +302,17 @@ module _ (g : Graph) (i : Instance) (hier : IsHierarchy g) (v : IsInstance i) (w
       × (category_of i (member_above i x c) ≡ c)
   member_of_present c h =
       let t = from_present c h in
-      let q : member_above i x c ≡ t.0 = ap (member_above i x) (sym t.3) ∙ member_above_is g i w x t.0 t.1 t.2 in
-      (subst (λ y. y < length i) (sym q) t.1, subst (λ y. Steps (IsBelow i) x y) (sym q) t.2, ap (category_of i) q
-          ∙ t.3)
+      let q : member_above i x c ≡ t.0 = ap (member_above i x) (sym t.3) ∙ member_above_is g i w x t.0 t.1 t.2 in (
+        subst (λ y. y < length i) (sym q) t.1,
+        subst (λ y. Steps (IsBelow i) x y) (sym q) t.2,
+        ap (category_of i) q
+            ∙ t.3,
+      )
 
   distinct_categories : Distinct shape_categories
   distinct_categories = Distinct-filter (is_present (category_of i x) (seen_edges g i x)) (categories_in_order g)
       (Distinct-push (range_with_len 1 (length g.names)) 0 (Distinct-range 1 (length g.names))
-          (λ c. let h = Contains-from_range_at 1 (length g.names) 0 c in omega (arith, h.0)))
+      (λ c. let h = Contains-from_range_at 1 (length g.names) 0 c in omega (arith, h.0)))
 
   -- ---- the instance that stands for the shape
 
@@ -338,19 +363,21 @@ module _ (g : Graph) (i : Instance) (hier : IsHierarchy g) (v : IsInstance i) (w
         let h = below_is_member shape k l b in
         let c = get_or shape_categories k 0 in
         let t = Contains-from_map (λ (e : Edge). place_in shape_categories e.parent) (edges_of c) l
-            (subst (λ ps. Contains ps l) (parents_shape k h) b) in
+        (subst (λ ps. Contains ps l) (parents_shape k h) b) in
         let u = edge_of c t.0 t.1 in
         let s = u.1 in
         let p = place_in_is shape_categories t.0.parent (parent_present t.0 s) in
         let child : s.child ≡ whole k = sym
-            (member_above_is g i w x s.child (below_is_member i s.child s.parent s.below) s.reached)
-            ∙ ap (member_above i x) (s.child_is ∙ u.0) in
+        (member_above_is g i w x s.child (below_is_member i s.child s.parent s.below) s.reached)
+        ∙ ap (member_above i x) (s.child_is ∙ u.0) in
         let parent : s.parent ≡ whole l =
-            sym (member_above_is g i w x s.parent (v.parents_are_members s.child s.parent s.below)
-            (Steps-append s.reached (step s.below here)))
-        ∙ ap (member_above i x) (s.parent_is ∙ sym p.1 ∙ ap (λ z. get_or shape_categories z 0) t.2) in
-        (rw (length_shape, ← t.2) p.0, subst (λ y. IsBelow i y (whole l)) child
-            (subst (λ z. IsBelow i s.child z) parent s.below))
+        sym (member_above_is g i w x s.parent (v.parents_are_members s.child s.parent s.below)
+        (Steps-append s.reached (step s.below here)))
+        ∙ ap (member_above i x) (s.parent_is ∙ sym p.1 ∙ ap (λ z. get_or shape_categories z 0) t.2) in (
+          rw (length_shape, ← t.2) p.0,
+          subst (λ y. IsBelow i y (whole l)) child
+              (subst (λ z. IsBelow i s.child z) parent s.below),
+        )
 
     shape_above : (k y : ℕ) → k < length shape → IsBelow i (whole k) y → (l : ℕ) × IsBelow shape k l × (whole l ≡ y)
     shape_above k y h b =
@@ -358,8 +385,8 @@ module _ (g : Graph) (i : Instance) (hier : IsHierarchy g) (v : IsInstance i) (w
         let m = member_of_present c (listed k h) in
         let a : Contains (edges_of c) (record { child = category_of i (whole k); parent = category_of i y }) =
         Contains-filter (λ (e : Edge). e.child == c) (seen_edges g i x)
-            (record { child = category_of i (whole k); parent = category_of i y })
-            (is_same (category_of i (whole k)) c m.2) (edge_seen (whole k) y m.1 b) in
+        (record { child = category_of i (whole k); parent = category_of i y })
+        (is_same (category_of i (whole k)) c m.2) (edge_seen (whole k) y m.1 b) in
         let s : Steps (IsBelow i) x y = Steps-append m.1 (step b here) in
         let in' = v.parents_are_members (whole k) y b in
         let p = place_in_is shape_categories (category_of i y) (present_of y in' s) in (
@@ -380,7 +407,7 @@ module _ (g : Graph) (i : Instance) (hier : IsHierarchy g) (v : IsInstance i) (w
       injective = λ k l hk hl q. Distinct-places shape_categories distinct_categories k l 0 (rw (← length_shape) hk)
           (rw (← length_shape) hl)
           (sym (member_of_present (get_or shape_categories k 0) (listed k hk)).2 ∙ ap (category_of i) q
-              ∙ (member_of_present (get_or shape_categories l 0) (listed l hl)).2);
+          ∙ (member_of_present (get_or shape_categories l 0) (listed l hl)).2);
     }
 
     -- ids differ, as the graph's names do
@@ -388,8 +415,8 @@ module _ (g : Graph) (i : Instance) (hier : IsHierarchy g) (v : IsInstance i) (w
         k ≡ l
     ids_shape k l hk hl q = shape_is_part.injective k l hk hl
         (ap (member_above i x) (same_id g hier (get_or shape_categories k 0) (get_or shape_categories l 0)
-            (ordered k hk) (ordered l hl) (sym (ap (λ m. m.id) (at_shape k hk)) ∙ q
-            ∙ ap (λ m. m.id) (at_shape l hl))))
+        (ordered k hk) (ordered l hl) (sym (ap (λ m. m.id) (at_shape k hk)) ∙ q
+        ∙ ap (λ m. m.id) (at_shape l hl))))
       where
         ordered : (k : ℕ) → k < length shape → Contains (categories_in_order g) (get_or shape_categories k 0)
         ordered k h = (Contains-from_filter (is_present (category_of i x) (seen_edges g i x)) (categories_in_order g)
@@ -399,8 +426,8 @@ module _ (g : Graph) (i : Instance) (hier : IsHierarchy g) (v : IsInstance i) (w
     parents_differ_shape k a b d l h =
         let in' = has_parent k b h in
         subst (λ ps. AllPairs ◌≢◌ ps) (sym (parents_shape k in'))
-            (AllPairs-from_Distinct (map (λ (e : Edge). place_in shape_categories e.parent)
-            (edges_of (get_or shape_categories k 0))) (apart k)) a b d l h
+        (AllPairs-from_Distinct (map (λ (e : Edge). place_in shape_categories e.parent)
+        (edges_of (get_or shape_categories k 0))) (apart k)) a b d l h
       where
         has_parent : (k b : ℕ) → b < length (parents_of shape k) → k < length shape
         has_parent k b h = below_is_member shape k (get_or (parents_of shape k) b 0)
@@ -411,12 +438,12 @@ module _ (g : Graph) (i : Instance) (hier : IsHierarchy g) (v : IsInstance i) (w
         apart k = Distinct-map (λ (e : Edge). place_in shape_categories e.parent)
             (edges_of (get_or shape_categories k 0))
             (Distinct-filter (λ (e : Edge). e.child == get_or shape_categories k 0) (seen_edges g i x)
-                (Distinct-filter (seen i x) g.edges (Distinct-from_AllPairs g.edges hier.edges_differ)))
+            (Distinct-filter (seen i x) g.edges (Distinct-from_AllPairs g.edges hier.edges_differ)))
             (λ e f c d q. let s = edge_of (get_or shape_categories k 0) e c in
-                let t = edge_of (get_or shape_categories k 0) f d in
+            let t = edge_of (get_or shape_categories k 0) f d in
             same_edge e f (s.0 ∙ sym t.0)
-                (place_in_injective shape_categories e.parent f.parent (parent_present e s.1)
-                (parent_present f t.1) q))
+            (place_in_injective shape_categories e.parent f.parent (parent_present e s.1)
+            (parent_present f t.1) q))
 
     -- `all` comes last
     pub all_place : ℕ
@@ -434,14 +461,14 @@ module _ (g : Graph) (i : Instance) (hier : IsHierarchy g) (v : IsInstance i) (w
     all_last = last_in (is_present (category_of i x) (seen_edges g i x)) (range_with_len 1 (length g.names)) 0
         (λ c. let h = Contains-from_range_at 1 (length g.names) 0 c in omega (arith, h.0))
         (Contains-from_filter (is_present (category_of i x) (seen_edges g i x))
-            (categories_in_order g) 0 all_present).1 ∙ sym length_shape
+        (categories_in_order g) 0 all_present).1 ∙ sym length_shape
 
     whole_all : suc (whole all_place) ≡ length i
     unfolding all_place
     whole_all = let p = place_in_is shape_categories 0 all_present in let t = all_above in let in' : t.0 < length i =
         let q = t.1 in omega arith in
         ap suc (ap (member_above i x) (p.1 ∙ sym ((v.all_is_last t.0 in').1 t.1))
-            ∙ member_above_is g i w x t.0 in' t.2) ∙ t.1
+        ∙ member_above_is g i w x t.0 in' t.2) ∙ t.1
 
     pub shape_instance : name 0 ≡ codes "all" → IsInstance shape
     unfolding all_place
@@ -468,17 +495,20 @@ module _ (g : Graph) (i : Instance) (hier : IsHierarchy g) (v : IsInstance i) (w
         × (whole shape_root ≡ x)
     unfolding shape_root
     shape_root_is = let p = place_in_is shape_categories (category_of i x) (present_of x hx here) in
-        let h : place_in shape_categories (category_of i x) < length shape = rw length_shape p.0 in
-        (h, category_shape (place_in shape_categories (category_of i x)) h ∙ p.1, ap (member_above i x) p.1
-            ∙ member_above_is g i w x x hx here)
+        let h : place_in shape_categories (category_of i x) < length shape = rw length_shape p.0 in (
+          h,
+          category_shape (place_in shape_categories (category_of i x)) h ∙ p.1,
+          ap (member_above i x) p.1
+              ∙ member_above_is g i w x x hx here,
+        )
 
     pub shape_reached : (k : ℕ) → k < length shape → Reaches shape shape_root k
     shape_reached k h =
         let r = shape_root_is in
         let t = part_lift i shape whole shape_is_part
-            (member_of_present (get_or shape_categories k 0) (listed k h)).1 shape_root r.0 r.2 in
+        (member_of_present (get_or shape_categories k 0) (listed k h)).1 shape_root r.0 r.2 in
         reaches_from_Steps (subst (λ l. Steps (IsBelow shape) shape_root l)
-            (shape_is_part.injective t.0 k (part_inside i shape whole shape_is_part r.0 t.1) h t.2) t.1)
+        (shape_is_part.injective t.0 k (part_inside i shape whole shape_is_part r.0 t.1) h t.2) t.1)
 
     pub name_shape : (k : ℕ) → k < length shape → name_of shape k ≡ name (category_of shape k)
     name_shape k h = ap (λ m. m.name) (at_shape k h) ∙ ap name (sym (category_shape k h))

@@ -38,8 +38,14 @@ unfolding index_of
 index_of_is fresh texts name = go (decide_contains (List-discrete ℕ_discrete) texts name)
   where
     go : (d : Dec (Contains texts name)) → IsIndex fresh texts name (elim d [ yes c ↦ suc c.0 | no n ↦ 0 ])
-    go (yes c) = record { in_range = omega (arith, c.1); known = inl (c, get_or_default texts c.0 fresh name c.1
-        ∙ c.2) }
+    go (yes c) = record {
+      in_range = omega (arith, c.1);
+      known = inl (
+        c,
+        get_or_default texts c.0 fresh name c.1
+            ∙ c.2,
+      );
+    }
     go (no n) = record { in_range = omega arith; known = inr (n, refl) }
 
 module _ (s : Schema) (q : Formula) (k : Candidates) (hier : IsHierarchy s.graph) (ok : AreCandidates s q k)
@@ -74,7 +80,7 @@ module _ (s : Schema) (q : Formula) (k : Candidates) (hier : IsHierarchy s.graph
   name_at c h = let t = Contains-from_filter (is_present (category_of i x) (seen_edges s.graph i x))
       (categories_in_order s.graph) (suc c) h in
       names_at c (declared s.graph c t.0)
-          ∙ yes_index (is_present (category_of i x) (seen_edges s.graph i x) (suc c)) t.1
+      ∙ yes_index (is_present (category_of i x) (seen_edges s.graph i x) (suc c)) t.1
     where
       yes_index : (b : Bool) → b ≡ true →
           cond b (index_of (k.texts (suc c)) (name_of i (member_above i x (suc c)))) 0
@@ -86,23 +92,28 @@ module _ (s : Schema) (q : Formula) (k : Candidates) (hier : IsHierarchy s.graph
   named_alike : (c : ℕ) → Contains (shape_categories s.graph i hier legal.is_instance legal.lawful x hx) c →
       (y : ℕ) → y ≡ member_above i x c → category_of i y ≡ c → y < length i
       → ((text : List ℕ) → IsConstant s q c text → (name c ≡ text) ↔ (name_of i y ≡ text))
-          × (c ≢ 0 → IsConstant s q c (name c) ⊎ IsFreshName s q (name c))
-  named_alike zero h y e f l = (λ text t. let n = legal.is_instance.all_name y
-      ((legal.is_instance.all_is_last y l).0 f) in (λ a. n ∙ a, λ a. sym n ∙ a), λ n. absurd (n refl))
+      × (c ≢ 0 → IsConstant s q c (name c) ⊎ IsFreshName s q (name c))
+  named_alike zero h y e f l = (
+    λ text t. let n = legal.is_instance.all_name y
+        ((legal.is_instance.all_is_last y l).0 f) in (λ a. n ∙ a, λ a. sym n ∙ a),
+    λ n. absurd (n refl),
+  )
   named_alike (suc c) h y e f l =
       let t = index_of_is k.fresh (k.texts (suc c)) (name_of i y) in
       let n : name (suc c) ≡ text_of_index k.fresh (k.texts (suc c)) (index_of (k.texts (suc c)) (name_of i y)) =
       ap (text_of_index k.fresh (k.texts (suc c))) (name_at c h
-          ∙ ap (λ z. index_of (k.texts (suc c)) (name_of i z)) (sym e)) in
+      ∙ ap (λ z. index_of (k.texts (suc c)) (name_of i z)) (sym e)) in
       go (name (suc c)) (text_of_index k.fresh (k.texts (suc c)) (index_of (k.texts (suc c)) (name_of i y))) n t.known
     where
       go : (a b : List ℕ) → a ≡ b → (Contains (k.texts (suc c)) (name_of i y) × (b ≡ name_of i y))
           ⊎ ((Contains (k.texts (suc c)) (name_of i y) → ⊥) × (b ≡ k.fresh))
           → ((text : List ℕ) → IsConstant s q (suc c) text → (a ≡ text) ↔ (name_of i y ≡ text))
-              × (suc c ≢ 0 → IsConstant s q (suc c) a ⊎ IsFreshName s q a)
-      go a b n (inl u) = (λ text t. (λ z. sym (n ∙ u.1) ∙ z, λ z. n ∙ u.1 ∙ z),
-          λ p. inl (subst (λ z. IsConstant s q (suc c) z) (sym (n ∙ u.1))
-          ((ok.texts (suc c)).sound (name_of i y) u.0)))
+          × (suc c ≢ 0 → IsConstant s q (suc c) a ⊎ IsFreshName s q a)
+      go a b n (inl u) = (
+        λ text t. (λ z. sym (n ∙ u.1) ∙ z, λ z. n ∙ u.1 ∙ z),
+        λ p. inl (subst (λ z. IsConstant s q (suc c) z) (sym (n ∙ u.1))
+            ((ok.texts (suc c)).sound (name_of i y) u.0)),
+      )
       go a b n (inr u) = (
         λ text t. (
           λ z. absurd (ok.fresh.free (suc c) (subst (λ w. IsConstant s q (suc c) w) (sym z ∙ n ∙ u.1) t)),
@@ -118,8 +129,8 @@ module _ (s : Schema) (q : Formula) (k : Candidates) (hier : IsHierarchy s.graph
       let l = listed s.graph i hier legal.is_instance legal.lawful x hx name m h in
       let n = name_shape s.graph i hier legal.is_instance legal.lawful x hx name m h ∙ ap name c in
       let a = (named_alike (get_or (shape_categories s.graph i hier legal.is_instance legal.lawful x hx) m 0) l
-          (of_small m) refl (sym (p.category m h) ∙ c) (p.member m h)).0 text
-          (subst (λ d. IsConstant s q d text) c t) in
+      (of_small m) refl (sym (p.category m h) ∙ c) (p.member m h)).0 text
+      (subst (λ d. IsConstant s q d text) c t) in
       (λ z. a.0 (sym n ∙ z), λ z. n ∙ a.1 z)
 
   same_truth : (m : ℕ) → m < length small → (f : Formula) →
@@ -149,9 +160,9 @@ module _ (s : Schema) (q : Formula) (k : Candidates) (hier : IsHierarchy s.graph
             let l = listed s.graph i hier legal.is_instance legal.lawful x hx name m h in
             let e = name_shape s.graph i hier legal.is_instance legal.lawful x hx name m h in
             let u = (named_alike (get_or (shape_categories s.graph i hier legal.is_instance legal.lawful x hx) m 0) l
-                (of_small m) refl (sym (p.category m h) ∙ c) (p.member m h)).1 (λ z. n (c ∙ z)) in
+            (of_small m) refl (sym (p.category m h) ∙ c) (p.member m h)).1 (λ z. n (c ∙ z)) in
             subst (λ z. IsConstant s q (category_of small m) z ⊎ IsFreshName s q z) (sym e)
-                (subst (λ d. IsConstant s q d (name d) ⊎ IsFreshName s q (name d)) (sym c) u);
+            (subst (λ d. IsConstant s q d (name d) ⊎ IsFreshName s q (name d)) (sym c) u);
         true_at_root = (same_truth a r.0 q (constant_in_question s q)).1 (subst (λ y. Holds i y q) (sym r.2) t);
       }
 
@@ -162,11 +173,11 @@ module _ (s : Schema) (q : Formula) (k : Candidates) (hier : IsHierarchy s.graph
     name_count = length-map-range_with_len index 0 (length s.graph.names);
     in_range = λ c h. let l : c < length s.graph.names = rw length-map-range_with_len at h in
         subst (λ n. n ≤ length (k.texts (suc c))) (sym (names_at c l))
-            (bound c (is_present (category_of i x) (seen_edges s.graph i x) (suc c))
-            (index_of_is k.fresh (k.texts (suc c)) (name_of i (member_above i x (suc c)))));
+        (bound c (is_present (category_of i x) (seen_edges s.graph i x) (suc c))
+        (index_of_is k.fresh (k.texts (suc c)) (name_of i (member_above i x (suc c)))));
     absent = λ c h e. let l : c < length s.graph.names = rw length-map-range_with_len at h in
         names_at c l ∙ no_index (is_present (category_of i x) (seen_edges s.graph i x) (suc c))
-            (index_of (k.texts (suc c)) (name_of i (member_above i x (suc c))))
+        (index_of (k.texts (suc c)) (name_of i (member_above i x (suc c))))
         (sym (ap (λ es. is_present (category_of i x) es (suc c)) (chosen_by (seen i x) s.graph.edges)) ∙ e);
     stands_for = subst (λ j. IsFrozenInstance s q (category_of i x) j) (sym thawed_is) (small_is_frozen t);
   }

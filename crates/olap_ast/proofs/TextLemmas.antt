@@ -20,7 +20,7 @@ pub texts_on-append : (d : ℕ) (xs ys : List Equality) → texts_on d (xs ++ ys
 texts_on-append d xs ys =
     let on : Equality → Bool = λ a. a.category == d in
     ap (map (λ (a : Equality). a.text)) (filter-append on xs ys)
-        ∙ map-append (λ (a : Equality). a.text) (filter on xs) (filter on ys)
+    ∙ map-append (λ (a : Equality). a.text) (filter on xs) (filter on ys)
 
 -- the tests of two equal texts
 pub same_text : (x y : List ℕ) → pointwise nat_eq x y ≡ true → x ≡ y

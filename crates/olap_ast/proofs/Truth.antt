@@ -41,15 +41,21 @@ module _ (i j : Instance) (e : ℕ → ℕ) (p : IsPart i j e) (Q : ℕ → List
   via_down k d c h (l, m, r, q) = (e l, (p.member l m.0, sym (p.category l m.0) ∙ m.1), down r, reach_down l c m.0 q)
 
   via_up : (k d c : ℕ) → k < length j → ReachesVia i (e k) d c → ReachesVia j k d c
-  via_up k d c h (y, m, r, q) = let t = lift k y h r in
-      (t.0, (t.1, p.category t.0 t.1 ∙ ap (category_of i) t.3 ∙ m.1), t.2,
-          reach_up t.0 c t.1 (subst (λ z. ReachesCategory i z c) (sym t.3) q))
+  via_up k d c h (y, m, r, q) = let t = lift k y h r in (
+    t.0,
+    (t.1, p.category t.0 t.1 ∙ ap (category_of i) t.3 ∙ m.1),
+    t.2,
+    reach_up t.0 c t.1 (subst (λ z. ReachesCategory i z c) (sym t.3) q),
+  )
 
   named_down : (k d : ℕ) (text : List ℕ) → k < length j → Q d text → ReachesNamed j k d text →
       ReachesNamed i (e k) d text
-  named_down k d text h u (l, m, r, q) =
-      (e l, (p.member l m.0, sym (p.category l m.0) ∙ m.1), down r,
-      (names l text m.0 (subst (λ c. Q c text) (sym m.1) u)).0 q)
+  named_down k d text h u (l, m, r, q) = (
+    e l,
+    (p.member l m.0, sym (p.category l m.0) ∙ m.1),
+    down r,
+    (names l text m.0 (subst (λ c. Q c text) (sym m.1) u)).0 q,
+  )
 
   named_up : (k d : ℕ) (text : List ℕ) → k < length j → Q d text → ReachesNamed i (e k) d text → ReachesNamed j k d text
   named_up k d text h u (y, m, r, q) = let t = lift k y h r in let c =
@@ -100,9 +106,10 @@ module _ (i j : Instance) (e : ℕ → ℕ) (p : IsPart i j e) (Q : ℕ → List
     same k h (And f g) w = let s = same k h f (left (equalities f) (equalities g) w) in let t =
         same k h g (right (equalities f) (equalities g) w) in (λ a. (s.0 a.0, t.0 a.1), λ a. (s.1 a.0, t.1 a.1))
     same k h (Or f g) w = let s = same k h f (left (equalities f) (equalities g) w) in let t =
-        same k h g (right (equalities f) (equalities g) w) in
-        (λ a. elim a [ inl b ↦ inl (s.0 b) | inr b ↦ inr (t.0 b) ],
-            λ a. elim a [ inl b ↦ inl (s.1 b) | inr b ↦ inr (t.1 b) ])
+        same k h g (right (equalities f) (equalities g) w) in (
+          λ a. elim a [ inl b ↦ inl (s.0 b) | inr b ↦ inr (t.0 b) ],
+          λ a. elim a [ inl b ↦ inl (s.1 b) | inr b ↦ inr (t.1 b) ],
+        )
     same k h (Implies f g) w = let s = same k h f (left (equalities f) (equalities g) w) in let t =
         same k h g (right (equalities f) (equalities g) w) in (λ a b. t.0 (a (s.1 b)), λ a b. t.1 (a (s.0 b)))
     same k h (Iff f g) w = let s = same k h f (left (equalities f) (equalities g) w) in let t =
@@ -110,9 +117,9 @@ module _ (i j : Instance) (e : ℕ → ℕ) (p : IsPart i j e) (Q : ℕ → List
         (λ a. (λ b. t.0 (a.0 (s.1 b)), λ b. s.0 (a.1 (t.1 b))), λ a. (λ b. t.1 (a.0 (s.0 b)), λ b. s.1 (a.1 (t.0 b))))
     same k h (Xor f g) w = let s = same k h f (left (equalities f) (equalities g) w) in let t =
         same k h g (right (equalities f) (equalities g) w) in (
-      λ a. elim a [ inl b ↦ inl (s.0 b.0, λ c. b.1 (t.1 c)) | inr b ↦ inr (λ c. b.0 (s.1 c), t.0 b.1) ],
-      λ a. elim a [ inl b ↦ inl (s.1 b.0, λ c. b.1 (t.0 c)) | inr b ↦ inr (λ c. b.0 (s.0 c), t.1 b.1) ],
-    )
+          λ a. elim a [ inl b ↦ inl (s.0 b.0, λ c. b.1 (t.1 c)) | inr b ↦ inr (λ c. b.0 (s.1 c), t.0 b.1) ],
+          λ a. elim a [ inl b ↦ inl (s.1 b.0, λ c. b.1 (t.0 c)) | inr b ↦ inr (λ c. b.0 (s.0 c), t.1 b.1) ],
+        )
     same k h (One ts) w = same_one k h ts w
 
     same_one : (k : ℕ) → k < length j → (ts : Terms) → Within (equalities_of_terms ts) →

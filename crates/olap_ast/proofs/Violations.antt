@@ -62,15 +62,21 @@ legal_exactly s i v = (to, from)
       lawful = record {
         connectivity = λ x y b. stable (decide_contains edge_discrete s.graph.edges
             (record { child = category_of i x; parent = category_of i y }))
-            (λ f. n (NoEdge x b.0) (b.1,
-                λ e. f (subst (λ z. HasEdge s.graph (category_of i x) (category_of i z))
-                (get_or_default (parents_of i x) b.0 0 y b.1 ∙ b.2) e)));
+            (λ f. n (NoEdge x b.0) (
+              b.1,
+              λ e. f (subst (λ z. HasEdge s.graph (category_of i x) (category_of i z))
+                  (get_or_default (parents_of i x) b.0 0 y b.1 ∙ b.2) e),
+            ));
         up_connectivity = λ x h m. some_parent (parents_of i x) (λ e. n (NoParent x) (h, m, e));
         stratification = λ x y f e. n (SameCategory x) (y, f, e);
         partitioning = λ x y z f g e. stable (ℕ_discrete y z)
             (λ d. n (TwoAncestors x (category_of i z)) (y, z, f, g, e, refl, d));
-        shortcuts = λ x y z b c f. n (Shortcut x b.0) (z, b.1, c,
-            subst (λ u. IsFarBelow i z u) (sym (get_or_default (parents_of i x) b.0 0 y b.1 ∙ b.2)) f);
+        shortcuts = λ x y z b c f. n (Shortcut x b.0) (
+          z,
+          b.1,
+          c,
+          subst (λ u. IsFarBelow i z u) (sym (get_or_default (parents_of i x) b.0 0 y b.1 ∙ b.2)) f,
+        );
       };
       meets = λ c d x m. stable (decide_holds i x c.formula)
           (λ f. n (Unmet d.0 x) (c, placed s.constraints d.0 c d.1 d.2, m, f));

@@ -30,7 +30,7 @@ IsRedundant s k = (c : Constraint) × (slice_get s.constraints k ≡ Some c)
 abbrev pub IsUnused : Schema → Edge → Type 0
 IsUnused s e =
     (i : Instance) → IsLegal s i → (x y : ℕ) → IsBelow i x y → category_of i x ≡ e.child →
-        category_of i y ≡ e.parent → ⊥
+    category_of i y ≡ e.parent → ⊥
 
 abbrev pub IsFinding : Schema → Finding → Type 0
 IsFinding s (Unsatisfiable c) = IsDeclared s.graph c × IsUnsatisfiable s c

@@ -2,7 +2,7 @@
 --     formula_of       the formula of a tree
 --     terms_of         the parts of a list of trees
 --     constraint_of    the constraint of a stored one
-use Rattle.std.specs.Prelude.{ℕ, ◌+◌, map}
+use Rattle.std.specs.Prelude.{map}
 use Rattle.olap_ast.specs.Formula as Meaning
 use Rattle.olap_ast.specs.Schema as schemas
 use Rattle.olap_ast.specs.declared.formulas.Constraint.{Constraint}

@@ -39,7 +39,13 @@ fn gather(alloc: Global, f: &Formula, c: CatId, texts: &mut Vec<Text>) -> Result
     }
 }
 
-fn gather_text(alloc: Global, d: CatId, text: &Text, c: CatId, texts: &mut Vec<Text>) -> Result<(), Memory>
+fn gather_text(
+    alloc: Global,
+    d: CatId,
+    text: &Text,
+    c: CatId,
+    texts: &mut Vec<Text>,
+) -> Result<(), Memory>
     ensures { OnOk result (texts.new.items ≡ texts.old.items ++ texts_on c.0 (record { category = d.0; text = text.now } ∷ [])) }
 {
     if d == c {
@@ -49,7 +55,13 @@ fn gather_text(alloc: Global, d: CatId, text: &Text, c: CatId, texts: &mut Vec<T
 }
 
 #[cycle(gather)]
-fn gather_both(alloc: Global, f: &Formula, g: &Formula, c: CatId, texts: &mut Vec<Text>) -> Result<(), Memory>
+fn gather_both(
+    alloc: Global,
+    f: &Formula,
+    g: &Formula,
+    c: CatId,
+    texts: &mut Vec<Text>,
+) -> Result<(), Memory>
     ensures { OnOk result (texts.new.items ≡ texts.old.items ++ texts_on c.0 (equalities (formula_of f.now) ++ equalities (formula_of g.now))) }
 {
     gather(alloc, f, c, texts)?;

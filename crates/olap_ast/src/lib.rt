@@ -10,10 +10,14 @@ mod copying;
 mod formulas;
 mod laws;
 mod measuring;
+#[cfg(test)]
+mod tests;
 
 pub use collecting::constants;
 pub use copying::copy;
 pub use formulas::{Constraint, Formula, Terms};
-pub use laws::{above_is_legal, frozen_exactly_if_some_instance, legal_exactly_if_no_violation};
-pub use laws::{one_store_is_legal, renaming_is_harmless, summarizable_exactly_if_none_frozen};
+pub use laws::{
+    above_is_legal, frozen_exactly_if_some_instance, legal_exactly_if_no_violation,
+    one_store_is_legal, renaming_is_harmless, summarizable_exactly_if_none_frozen,
+};
 pub use measuring::{depth, nodes};

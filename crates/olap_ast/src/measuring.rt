@@ -49,8 +49,8 @@ pub fn depth(f: &Formula) -> u64
     ensures { result ≡ depth_of (formula_of f.now) }
 {
     match f {
-        Formula::True | Formula::False => 1,
-        Formula::Path(_) | Formula::Reach(_) | Formula::Via(_, _) | Formula::Equals(_, _) => 1,
+        Formula::True | Formula::False | Formula::Path(_) => 1,
+        Formula::Reach(_) | Formula::Via(_, _) | Formula::Equals(_, _) => 1,
         Formula::Not(f) => 1 + depth(f),
         Formula::And(f, g) => 1 + depth(f).max(depth(g)),
         Formula::Or(f, g) => 1 + depth(f).max(depth(g)),

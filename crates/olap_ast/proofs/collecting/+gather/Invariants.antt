@@ -19,5 +19,5 @@ abbrev pub invariant-gather_terms-parts : goal.invariant-gather_terms-parts
 invariant-gather_terms-parts l = record {
   gathered : l.texts.items ++ texts_on l.c.0 (equalities_of_terms (terms_of l.left))
       ≡ l.initial.texts.items ++ texts_on l.c.0 (equalities_of_terms (terms_of l.fn.terms));
-  smaller : node_count_of_terms (terms_of l.left) ≤ node_count_of_terms (terms_of l.fn.terms)
+  smaller : node_count_of_terms (terms_of l.left) ≤ node_count_of_terms (terms_of l.fn.terms);
 }

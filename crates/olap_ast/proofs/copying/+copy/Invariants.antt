@@ -17,5 +17,5 @@ decreases-copy_terms l = 2 * node_count_of_terms (terms_of l.terms.now) + 1
 abbrev pub invariant-copy_terms-parts : goal.invariant-copy_terms-parts
 invariant-copy_terms-parts l = record {
   copied : parts_before (map formula_of l.parts.items) (terms_of l.left) ≡ terms_of l.fn.terms;
-  smaller : node_count_of_terms (terms_of l.left) ≤ node_count_of_terms (terms_of l.fn.terms)
+  smaller : node_count_of_terms (terms_of l.left) ≤ node_count_of_terms (terms_of l.fn.terms);
 }

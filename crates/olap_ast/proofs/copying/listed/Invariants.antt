@@ -9,7 +9,7 @@ use Rattle.olap_ast.proofs.copying.listed.Given as goal
 abbrev pub invariant-parts : goal.invariant-parts
 invariant-parts l =
     parts_before (map formula_of l.left.items) (terms_of l.terms)
-        ≡ parts_before (map formula_of l.fn.parts.items) Meaning.Terms.End
+    ≡ parts_before (map formula_of l.fn.parts.items) Meaning.Terms.End
 
 abbrev pub decreases-parts : goal.decreases-parts
 decreases-parts l = vec_len l.left
