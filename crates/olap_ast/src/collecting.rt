@@ -1,6 +1,6 @@
 // The constants of a formula.
 ghost use Rattle.olap_ast.specs.Constants.{AreInByteOrder, texts_on};
-ghost use Rattle.olap_ast.specs.Formula.{equalities, equalities_of_terms};
+ghost use Rattle.olap_ast.specs.Formula.{Equality, equalities, equalities_of_terms};
 ghost use Rattle.olap_ast.specs.Trees.{formula_of, terms_of};
 ghost use Rattle.std.specs.Prelude.{◌≡◌, [], ◌∷◌, ◌++◌, IfOk, OnOk};
 
@@ -46,7 +46,8 @@ fn gather_text(
     c: CatId,
     texts: &mut Vec<Text>,
 ) -> Result<(), Memory>
-    ensures { OnOk result (texts.new.items ≡ texts.old.items ++ texts_on c.0 (record { category = d.0; text = text.now } ∷ [])) }
+    ensures { let atom : Equality = record { category = d.0; text = text.now } in
+        OnOk result (texts.new.items ≡ texts.old.items ++ texts_on c.0 (atom ∷ [])) }
 {
     if d == c {
         texts.push(Text::from_bytes(alloc, text.bytes())?)?;
@@ -62,7 +63,8 @@ fn gather_both(
     c: CatId,
     texts: &mut Vec<Text>,
 ) -> Result<(), Memory>
-    ensures { OnOk result (texts.new.items ≡ texts.old.items ++ texts_on c.0 (equalities (formula_of f.now) ++ equalities (formula_of g.now))) }
+    ensures { let atoms = equalities (formula_of f.now) ++ equalities (formula_of g.now) in
+        OnOk result (texts.new.items ≡ texts.old.items ++ texts_on c.0 atoms) }
 {
     gather(alloc, f, c, texts)?;
     gather(alloc, g, c, texts)
@@ -70,7 +72,8 @@ fn gather_both(
 
 #[cycle(gather)]
 fn gather_terms(alloc: Global, terms: &Terms, c: CatId, texts: &mut Vec<Text>) -> Result<(), Memory>
-    ensures { OnOk result (texts.new.items ≡ texts.old.items ++ texts_on c.0 (equalities_of_terms (terms_of terms.now))) }
+    ensures { let atoms = equalities_of_terms (terms_of terms.now) in
+        OnOk result (texts.new.items ≡ texts.old.items ++ texts_on c.0 atoms) }
 {
     let mut left = terms;
     'parts: while let Terms::More(f, rest) = left {
