@@ -1,0 +1,11 @@
+//! Dimension instances: read from a text, built member by member, looked up and printed.
+//!
+//! A contract sees an `Instance` as the definition's list of members
+//! (`Rattle.olap_base.specs.Instance`). What a text stands for, or where its first fault is, is the
+//! function `instance_read` of `specs/InstanceText.antt`.
+#![tactic(auto)]
+
+mod instances;
+mod rosters;
+
+pub use instances::Instance;
