@@ -3,3 +3,4 @@ pub mod PlaceLemmas
 mod GrowthLemmas
 mod MarkingLemmas
 mod TableLemmas
+mod EdgeLemmas

@@ -82,21 +82,28 @@ out_read g n out z r row items a h e q i =
     let is : get_or out z [] ≡ row = get_or_default out z [] row l ∙ ap (λ j. get_or out j row) (sym e) ∙ sym q in
     ap (map (λ e. e.0)) (i ∙ sym is) ∙ a.edges z h
 
+-- an edge out of z is an edge, and z is its child
+pub out_is : (g : Graph) (z : ℕ) (out : List EdgeId) (e : EdgeId) → map (λ e. e.0) out ≡ edges_from g z → Contains out e
+    → (e.0 < length g.edges) × ((edge_at g e.0).child ≡ z)
+out_is g z out e q c =
+    let test : ℕ → Bool = λ j. (edge_at g j).child == z in
+    let m : Contains (edges_from g z) e.0 = subst (λ ks. Contains ks e.0) q (Contains-map (λ (e : EdgeId). e.0) out e c) in
+    let f = Contains-from_filter test (range_with_len 0 (length g.edges)) e.0 m in
+    (Contains-from_range (length g.edges) e.0 f.0, (Decides-eqb (edge_at g e.0).child z).0 f.1)
+
+pub out_within : (g : Graph) (z : ℕ) (out : List EdgeId) → map (λ e. e.0) out ≡ edges_from g z → (k : ℕ) (d : EdgeId) → k < length out
+    → (get_or out k d).0 < length g.edges
+out_within g z out q k d h = (out_is g z out (get_or out k d) q (Contains-get_or out k d h)).0
+
 -- the parents of the edges out of z are those that an edge from z leads to
 pub parents_are : (g : Graph) (z : ℕ) (out : List EdgeId) → map (λ e. e.0) out ≡ edges_from g z → (y : ℕ) → Contains (parents_of g out) y ↔ HasEdge g z y
 parents_are g z out q y = (from, to)
   where
-    test : ℕ → Bool
-    test j = (edge_at g j).child == z
-
     from : Contains (parents_of g out) y → HasEdge g z y
     from c =
         let t = Contains-from_map (λ (e : EdgeId). (edge_at g e.0).parent) out y c in
-        let m : Contains (edges_from g z) t.0.0 = subst (λ ks. Contains ks t.0.0) q (Contains-map (λ (e : EdgeId). e.0) out t.0 t.1) in
-        let f = Contains-from_filter (λ j. (edge_at g j).child == z) (range_with_len 0 (length g.edges)) t.0.0 m in
-        let child : (edge_at g t.0.0).child ≡ z = (Decides-eqb (edge_at g t.0.0).child z).0 f.1 in
-        let h = has_edge_at g t.0.0 (Contains-from_range (length g.edges) t.0.0 f.0) in
-        subst (λ a. HasEdge g a y) child (subst (λ b. HasEdge g (edge_at g t.0.0).child b) t.2 h)
+        let e = out_is g z out t.0 q t.1 in
+        subst (λ a. HasEdge g a y) e.1 (subst (λ b. HasEdge g (edge_at g t.0.0).child b) t.2 (has_edge_at g t.0.0 e.0))
 
     to : HasEdge g z y → Contains (parents_of g out) y
     to h =
@@ -106,13 +113,6 @@ parents_are g z out q y = (from, to)
         let e = Contains-from_map (λ (e : EdgeId). e.0) out t.0 (subst (λ ks. Contains ks t.0) (sym q) m) in
         let parent : (edge_at g e.0.0).parent ≡ y = ap (λ k. (edge_at g k).parent) e.2 ∙ ap (λ (x : Edge). x.parent) t.2 in
         subst (λ b. Contains (parents_of g out) b) parent (Contains-map (λ (e : EdgeId). (edge_at g e.0).parent) out e.0 e.1)
-
--- the edges out of a category are edges
-pub out_within : (g : Graph) (z : ℕ) (out : List EdgeId) → map (λ e. e.0) out ≡ edges_from g z → (k : ℕ) (d : EdgeId) → k < length out → (get_or out k d).0 < length g.edges
-out_within g z out q k d h =
-    let e = get_or out k d in
-    let m : Contains (edges_from g z) e.0 = subst (λ ks. Contains ks e.0) q (Contains-map (λ (e : EdgeId). e.0) out e (Contains-get_or out k d h)) in
-    Contains-from_range (length g.edges) e.0 (Contains-from_filter (λ j. (edge_at g j).child == z) (range_with_len 0 (length g.edges)) e.0 m).0
 
 -- the parent of the edge at a place of a list of edges
 pub parent_at : (ends : List Ends) (out : List EdgeId) (k : ℕ) (d : EdgeId) → k < length out → (get_or out k d).0 < length ends
@@ -213,8 +213,9 @@ row_is names ends n c d rows row r a h e q =
     (λ m. t.0 (same ∙ m), λ u. sym same ∙ t.1 u)
 
 -- the ends of the edges are categories
-pub unfinished_within : (names : List (List ℕ)) (ends : List Ends) (n : ℕ) → IsUnfinished (graph_of names ends) → n ≡ category_count (graph_of names ends) → LiesWithin (drawn ends) n
-unfinished_within names ends n u q c d h = let t = u.categories c d h in (omega (arith, t.0), omega (arith, t.1))
+pub lies_within : (names : List (List ℕ)) (ends : List Ends) (n : ℕ) → n ≡ category_count (graph_of names ends)
+    → ((c d : ℕ) → HasEdge (graph_of names ends) c d → IsCategory (graph_of names ends) c × IsCategory (graph_of names ends) d) → LiesWithin (drawn ends) n
+lies_within names ends n q f c d h = let t = f c d h in (omega (arith, t.0), omega (arith, t.1))
 
 -- the first row without a mark for `All` is that of the first category without a way
 pub first_without_way : (names : List (List ℕ)) (ends : List Ends) (n : ℕ) (rows : List (List Bool)) (c : CatId) → AreReached (drawn ends) n rows

@@ -1,16 +1,16 @@
 // Category graphs.
-ghost use Rattle.std.specs.Prelude.{◌≡◌, ◌↔◌, ◌≤◌, ◌<◌, ℕ, [], slice_index_or, length, IfOk, IfErr, IfSome, IfNone, IsTrue};
+ghost use Rattle.std.specs.Prelude.{◌≡◌, ◌↔◌, ◌≤◌, ◌<◌, ℕ, [], slice_index_or, length, map, All, IfOk, IfErr, IfSome, IfNone, IsSome, IsTrue};
 ghost use Rattle.std.specs.Option.{option_map};
-ghost use Rattle.olap_base.specs.Graph.{IsCategory, IsDeclared, IsBottom, IsHierarchy, CategoryReaches, category_count};
-ghost use Rattle.olap_graph.specs.Lookups.{category_named, name_of_category};
+ghost use Rattle.olap_base.specs.Graph.{IsCategory, IsDeclared, IsBottom, IsHierarchy, HasEdge, CategoryReaches, category_count};
+ghost use Rattle.olap_graph.specs.Lookups.{category_named, name_of_category, edge_between, edge_at, edges_from};
 ghost use Rattle.olap_graph.specs.Building.{IsWithinLimits, IsUnfinished, IsGraphCause};
 ghost use Rattle.olap_graph.specs.Listing.{graph_of, IsHeaded};
 ghost use Rattle.olap_graph.specs.Tables.{IsFirstUnmarked, AreAllMarked};
 
 use crate::GraphRefusal;
-use crate::listing::{Ends, named};
+use crate::listing::{Ends, copied, leading, named};
 use crate::tables::Tables;
-use olap_base::{CatId, EdgeId, List, Text};
+use olap_base::{CatId, EdgeId, List, Memory, Text};
 use std::alloc::Global;
 use std::marker::Model;
 
@@ -132,5 +132,49 @@ impl Graph {
         ensures { IsTrue result ↔ CategoryReaches self.now c.0 d.0 }
     {
         self.tables.reached[usize::from(c.0)].items()[usize::from(d.0)]
+    }
+
+    /// The edge from one category to another. Cost: the edges out of the child.
+    pub fn edge(&self, child: CatId, parent: CatId) -> Option<EdgeId>
+        requires { IsCategory self.now child.0 }
+        ensures place { option_map (λ e. e.0) result ≡ edge_between self.now child.0 parent.0 }
+        ensures has { IsSome result ↔ HasEdge self.now child.0 parent.0 }
+    {
+        leading(&self.edges, self.tables.out[usize::from(child.0)].items(), parent)
+    }
+
+    /// The child and the parent of an edge.
+    pub fn ends(&self, e: EdgeId) -> (CatId, CatId)
+        requires { e.0 < length self.now.edges }
+        ensures edge { edge_at self.now e.0 ≡ record { child = result.0.0; parent = result.1.0 } }
+        ensures child { IsCategory self.now result.0.0 }
+        ensures parent { IsCategory self.now result.1.0 }
+    {
+        let ends = self.edges[usize::from(e.0)];
+        (ends.child, ends.parent)
+    }
+
+    /// The edges out of a category, in declaration order. One look at a table.
+    pub fn parents(&self, c: CatId) -> &[EdgeId]
+        requires { IsCategory self.now c.0 }
+        ensures list { map (λ e. e.0) result.now ≡ edges_from self.now c.0 }
+        ensures edges { All (λ e. e.0 < length self.now.edges) result.now }
+    {
+        self.tables.out[usize::from(c.0)].items()
+    }
+
+    /// An equal graph. Cost: that of `GraphBuilder::finish`.
+    pub fn copy(&self) -> Result<Graph, Memory>
+        ensures { IfOk result (λ graph. graph ≡ self.now) }
+    {
+        let names = copied(self.alloc, &self.names)?;
+        let edges = Vec::from_slice(self.alloc, &self.edges)?;
+        let tables = Tables::of(self.alloc, &edges, names.len() as u16)?;
+        Ok(Graph {
+            names,
+            edges,
+            tables,
+            alloc: self.alloc,
+        })
     }
 }

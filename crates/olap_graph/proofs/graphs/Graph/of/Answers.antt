@@ -4,7 +4,7 @@ use Rattle.olap_graph.specs.Listing.{graph_of}
 use Rattle.olap_graph.specs.Tables.{AreTables, AreAllMarked, IsFirstUnmarked, LiesWithin, drawn}
 use Rattle.olap_graph.specs.declared.listing.Ends.{Ends}
 use Rattle.olap_graph.proofs.GrowthLemmas.{headed_length}
-use Rattle.olap_graph.proofs.TableLemmas.{unfinished_within, first_without_way, all_reach, hierarchy}
+use Rattle.olap_graph.proofs.TableLemmas.{lies_within, first_without_way, all_reach, hierarchy}
 use Rattle.olap_graph.proofs.graphs.Graph.of.Goals as goal
 
 pub of-requires-clause-within : goal.of-requires-clause-within
@@ -12,7 +12,7 @@ of-requires-clause-within c =
     let names = c.args.names.items in
     let ends = c.args.edges.items in
     let size : c.len.result ≡ category_count (graph_of names ends) = let h = headed_length names ends c.requires.headed in let l = c.len.ensures in let o = c.args.names.ok in omega arith in
-    subst (λ (es : List Ends). LiesWithin (drawn es) c.len.result) (sym c.deref.ensures.value) (unfinished_within names ends c.len.result c.requires.unfinished size)
+    subst (λ (es : List Ends). LiesWithin (drawn es) c.len.result) (sym c.deref.ensures.value) (lies_within names ends c.len.result size c.requires.unfinished.categories)
 
 pub returns-in-Some-clause-err : goal.returns-in-Some-clause-err
 returns-in-Some-clause-err c =
