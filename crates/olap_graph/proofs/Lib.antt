@@ -1,0 +1,3 @@
+-- Lemmas.
+pub mod PlaceLemmas
+mod GrowthLemmas

@@ -1,0 +1,4 @@
+-- Definitions that contracts cite.
+pub mod Lookups
+pub mod Building
+pub mod Inside
