@@ -11,11 +11,13 @@ use Rattle.olap_bits.proofs.BitLemmas.{is_one}
 use Rattle.olap_bits.proofs.CatSetLemmas.{in_insert, in_remove, contains-numbers_of, same_numbers}
 
 module _ (words : List ℕ) (n v : ℕ) (within : n / 64 < length words) where
+  -- the bits of the word that is written
   here : (q : ℕ) → q / 64 ≡ n / 64 → is_bit_one (set words (n / 64) v) q ≡ is_one v (q % 64)
   here q e =
       ap (λ j. is_one (get_or (set words (n / 64) v) j 0) (q % 64)) e
       ∙ ap (λ w. is_one w (q % 64)) (get_or-set_same words (n / 64) v 0 within)
 
+  -- the bits of the other words
   elsewhere : (q : ℕ) → q / 64 ≢ n / 64 → is_bit_one (set words (n / 64) v) q ≡ is_bit_one words q
   elsewhere q ne = ap (λ w. is_one w (q % 64)) (get_or-set_other words (n / 64) (q / 64) v 0 ne)
 
@@ -37,10 +39,12 @@ module _ (words : List ℕ) (n v : ℕ) (within : n / 64 < length words) where
         | inr d ↦ elsewhere q d
       ]
 
+-- put in: true where the number is, else as before
 cond-true_or : (t b : Bool) → cond t true b ≡ (t || b)
 cond-true_or true b = refl
 cond-true_or false b = refl
 
+-- taken out: false where the number is, else as before
 cond-false_and : (t b : Bool) → cond t false b ≡ (not t && b)
 cond-false_and true b = refl
 cond-false_and false b = refl
@@ -49,6 +53,7 @@ module _ (words : List ℕ) (n : ℕ) (within : n / 64 < length words) where
   below : n % 64 < 64
   below = omega arith
 
+  -- a bit set puts its number in
   pub with_one : numbers_of (set words (n / 64) (bit_or (get_or words (n / 64) 0) (1 * 2 ^ (n % 64) % 2 ^ 64)))
       ≡ insert (numbers_of words) n
   with_one =
@@ -61,7 +66,9 @@ module _ (words : List ℕ) (n : ℕ) (within : n / 64 < length words) where
       word : ℕ
       word = get_or words (n / 64) 0
 
-  pub without_one : numbers_of (set words (n / 64) (bit_and (get_or words (n / 64) 0) (bit_not w64 (1 * 2 ^ (n % 64) % 2 ^ 64))))
+  -- a bit cleared takes its number out
+  pub without_one : (let mask = bit_not w64 (1 * 2 ^ (n % 64) % 2 ^ 64) in
+      numbers_of (set words (n / 64) (bit_and (get_or words (n / 64) 0) mask)))
       ≡ remove (numbers_of words) n
   without_one =
       same_numbers _ _

@@ -12,6 +12,7 @@ use Rattle.olap_bits.proofs.BitLemmas.{count_ones-zero, count_ones-more}
 use Rattle.olap_bits.proofs.CatSetLemmas.{not_yet, at_place}
 
 module _ (words : List ℕ) where
+  -- one more bit
   len-more : (m : ℕ)
       → len (numbers_below words (suc m)) ≡ len (numbers_below words m) + bit_at (get_or words (m / 64) 0) (m % 64)
   unfolding numbers_below
@@ -22,13 +23,15 @@ module _ (words : List ℕ) where
       ∙ ap (λ b. len (numbers_below words m) + b) (sym (eqb-true _ 1 e)))
       (λ e. let small = bit_at-lt (get_or words (m / 64) 0) (m % 64) in let ne = eqb-false _ 1 e in omega arith)
 
+  -- no bits
   pub len-none : len (numbers_below words 0) ≡ 0
   unfolding numbers_below
   len-none = len-empty nat_cmp
 
   -- the numbers of the first bits of a word
   len-word : (k i : ℕ) → i ≤ 64
-      → len (numbers_below words (64 * k + i)) ≡ len (numbers_below words (64 * k)) + count_ones (get_or words k 0 % 2 ^ i)
+      → len (numbers_below words (64 * k + i))
+      ≡ len (numbers_below words (64 * k)) + count_ones (get_or words k 0 % 2 ^ i)
   len-word k zero h =
       let e : 64 * k + 0 ≡ 64 * k = omega arith in
       let f : get_or words k 0 % 1 ≡ 0 = omega arith in
@@ -44,6 +47,7 @@ module _ (words : List ℕ) where
       let ones = ap (λ j. count_ones (get_or words k 0 % 2 ^ j)) f ∙ count_ones-more (get_or words k 0) i in
       ap (λ m. len (numbers_below words m)) e ∙ len-more (64 * k + i) ∙ omega arith
 
+  -- one more word
   pub len-next : (k : ℕ) → get_or words k 0 < 2 ^ 64
       → len (numbers_below words (64 * (k + 1))) ≡ len (numbers_below words (64 * k)) + count_ones (get_or words k 0)
   len-next k h =
@@ -52,6 +56,7 @@ module _ (words : List ℕ) where
       ap (λ m. len (numbers_below words m)) e ∙ len-word k 64 (omega arith)
       ∙ ap (λ w. len (numbers_below words (64 * k)) + count_ones w) f
 
+  -- at most one number for each bit
   pub len_le : (m : ℕ) → len (numbers_below words m) ≤ m
   len_le zero = omega (arith, len-none)
   len_le (suc m) = omega (arith, len-more m, len_le m, bit_at-lt (get_or words (m / 64) 0) (m % 64))

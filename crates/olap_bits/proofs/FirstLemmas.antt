@@ -10,10 +10,12 @@ use Rattle.olap_bits.proofs.BitLemmas.{is_one, is_one-zero}
 use Rattle.olap_bits.proofs.CatSetLemmas.{contains-numbers_of}
 
 module _ (words : List ℕ) (k : ℕ) (zeros : (j : ℕ) → j < k → get_or words j 0 ≡ 0) where
+  -- words that are 0 have no number
   none_in_zeros : (q : ℕ) → q / 64 < k → is_bit_one words q ≡ true → ⊥
   none_in_zeros q h one =
       both_ways _ (ap (λ w. is_one w (q % 64)) (zeros (q / 64) h) ∙ is_one-zero (q % 64)) one
 
+  -- the lowest bit of the first word that isn't 0 is the least number
   pub least_of : (n : ℕ) → get_or words k 0 ≢ 0 → get_or words k 0 < 2 ^ 64
       → n ≡ k * 64 + trailing_zeros w64 (get_or words k 0) → IsLeast (numbers_of words) n
   least_of n ne small is = record {
@@ -41,9 +43,11 @@ module _ (words : List ℕ) (k : ℕ) (zeros : (j : ℕ) → j < k → get_or wo
             let t = lowest.0 in
             let same : m / 64 ≡ k = omega arith in
             let lower : m % 64 < trailing_zeros w64 word = omega arith in
-            both_ways _ (ap (λ j. is_one (get_or words j 0) (m % 64)) same ∙ ap (λ b. eqb b 1) (lowest.2 (m % 64) lower)) one
+            let none = ap (λ b. eqb b 1) (lowest.2 (m % 64) lower) in
+            both_ways _ (ap (λ j. is_one (get_or words j 0) (m % 64)) same ∙ none) one
       ]
 
+-- a set with a least number isn't empty
 pub not_empty : (s : FinSet nat_cmp) (n : ℕ) → IsLeast s n → s ≡ empty → ⊥
 not_empty s n l e =
     both_ways _ (ap (λ (t : FinSet nat_cmp). contains t n) e ∙ contains-empty nat_cmp n) l.is_one

@@ -22,18 +22,22 @@ pub record HasNoneLeft (a b : List ℕ) (j : ℕ) : Type 0 where
   pub none : left_over a b j ≡ 0
 
 module _ (a b : List ℕ) where
+  -- a bit that is left is one of a that isn't one of b
   left_bit : (q : ℕ) → get_or b (q / 64) 0 < 2 ^ 64
       → is_one (left_over a b (q / 64)) (q % 64) ≡ (is_bit_one a q && not (is_bit_one b q))
   left_bit q small = is_one-without _ _ (q % 64) small (omega arith)
 
+  -- where nothing is left no number of a is missing in b
   none_left : (q : ℕ) → HasNoneLeft a b (q / 64) → (is_bit_one a q && not (is_bit_one b q)) ≡ false
   none_left q n = sym (left_bit q n.small) ∙ ap (λ w. is_one w (q % 64)) n.none ∙ is_one-zero (q % 64)
 
+  -- from 'not s without t'
   follows : (s t : Bool) → (s && not t) ≡ false → s ≡ true → t ≡ true
   follows s true e h = refl
   follows true false e h = absurd (cc)
   follows false false e h = absurd (cc)
 
+  -- where nothing is left of any word, each number of a is in b
   pub subset_of : (k : ℕ) → length a ≤ k → length b ≤ k → ((j : ℕ) → j < k → HasNoneLeft a b j)
       → is_subset (numbers_of a) (numbers_of b) ≡ true
   subset_of k p r f =
@@ -55,23 +59,27 @@ module _ (a b : List ℕ) where
       ]
 
   -- a word with a 1 left has a number in a that isn't in b
-  pub no_subset_of : (k : ℕ) → get_or a k 0 < 2 ^ 64 → get_or b k 0 < 2 ^ 64 → left_over a b k ≢ 0 → is_subset (numbers_of a) (numbers_of b) ≡ false
+  pub no_subset_of : (k : ℕ) → get_or a k 0 < 2 ^ 64 → get_or b k 0 < 2 ^ 64 → left_over a b k ≢ 0
+      → is_subset (numbers_of a) (numbers_of b) ≡ false
   no_subset_of k small small_b ne = false_from_ne_true _ (λ e. both_ways (is_bit_one b q) absent (present e))
     where
-      lowest : (trailing_zeros w64 (left_over a b k) < 64) × (bit_at (left_over a b k) (trailing_zeros w64 (left_over a b k)) ≡ 1)
-          × ((i : ℕ) → i < trailing_zeros w64 (left_over a b k) → bit_at (left_over a b k) i ≡ 0)
+      place : ℕ
+      place = trailing_zeros w64 (left_over a b k)
+
+      lowest : (place < 64) × (bit_at (left_over a b k) place ≡ 1)
+          × ((i : ℕ) → i < place → bit_at (left_over a b k) i ≡ 0)
       lowest =
           bit_at-trailing_zeros w64 (left_over a b k) (omega arith)
           (omega (arith, and_le_l (get_or a k 0) (bit_not w64 (get_or b k 0))))
 
       q : ℕ
-      q = 64 * k + trailing_zeros w64 (left_over a b k)
+      q = 64 * k + place
 
       left : (is_bit_one a q && not (is_bit_one b q)) ≡ true
       left =
-          let place = at_place k (trailing_zeros w64 (left_over a b k)) lowest.0 in
-          let within : get_or b (q / 64) 0 < 2 ^ 64 = subst (λ j. get_or b j 0 < 2 ^ 64) (sym place.0) small_b in
-          sym (left_bit q within) ∙ (λ i. is_one (left_over a b (place.0 i)) (place.1 i)) ∙ eq-eqb _ 1 lowest.1
+          let at = at_place k place lowest.0 in
+          let within : get_or b (q / 64) 0 < 2 ^ 64 = subst (λ j. get_or b j 0 < 2 ^ 64) (sym at.0) small_b in
+          sym (left_bit q within) ∙ (λ i. is_one (left_over a b (at.0 i)) (at.1 i)) ∙ eq-eqb _ 1 lowest.1
 
       absent : is_bit_one b q ≡ false
       absent = not-true _ (and_parts (is_bit_one a q) (not (is_bit_one b q)) left).1

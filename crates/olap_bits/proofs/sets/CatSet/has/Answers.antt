@@ -9,5 +9,6 @@ returns-then-place g c = has_one _ c.args.n _ c.from-place.ensures
 
 pub returns-else-place : goal.returns-else-place
 returns-else-place g c =
-    let within : length c.args.self.now.words ≤ c.args.n / 64 = search (rules, c.if-place.false, c.from-place.ensures) in
+    let within : length c.args.self.now.words ≤ c.args.n / 64 =
+    search (rules, c.if-place.false, c.from-place.ensures) in
     le-ltb _ _ c.if-place.false ∙ has_none _ c.args.n within

@@ -8,7 +8,9 @@ words-init g c = sym (len-none _)
 
 pub overflow_add-count : goal.overflow_add-count
 overflow_add-count g c =
-    omega (arith, c.args.self.now.few_words, len-next c.args.self.now.words c.words.k (search rules), len_le c.args.self.now.words (64 * (c.words.k + 1)))
+    let words = c.args.self.now.words in
+    let next = len-next words c.words.k (search rules) in
+    omega (arith, c.args.self.now.few_words, next, len_le words (64 * (c.words.k + 1)))
 
 pub words-preserved : goal.words-preserved
 words-preserved g c = omega (arith, len-next c.args.self.now.words c.words.k (search rules))
