@@ -1,0 +1,16 @@
+use Rattle.std.proofs.Common.{map, subst, ap, ◌∙◌}
+use Rattle.std.specs.Prelude.{IsSome, ◌↔◌}
+use Rattle.std.specs.List.{position_from}
+use Rattle.olap_base.specs.Graph.{Graph, HasEdge}
+use Rattle.olap_graph.specs.Lookups.{joins}
+use Rattle.olap_graph.specs.Listing.{edge_of}
+use Rattle.olap_graph.proofs.PlaceLemmas.{joins-found}
+use Rattle.olap_graph.proofs.building.GraphBuilder.edge.Goals as goal
+
+pub returns-clause-has : goal.returns-clause-has
+returns-clause-has c =
+    let child = c.args.child.0 in
+    let parent = c.args.parent.0 in
+    let e = ap (λ es. position_from (joins child parent) 0 (map edge_of es)) c.deref.ensures.value in
+    subst (λ (g : Graph). IsSome c.joining.result ↔ HasEdge g child parent) c.self.view_is
+    (joins-found (map edge_of c.self.inside.edges.items) child parent c.joining.result (c.joining.ensures ∙ e))

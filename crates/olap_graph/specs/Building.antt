@@ -1,0 +1,79 @@
+-- Graphs in the making: what holds of them at each moment, and the first reason to refuse another category or edge.
+--     IsWithinLimits       there are not too many categories and edges, and no name is too long
+--     IsUnfinished         a hierarchy schema but for the walks to `All`
+--     category_refusal     the first reason to refuse a category
+--     edge_refusal         the first reason to refuse an edge
+--     IsFirstWithoutWay    the first declared category that doesn't reach `All`
+use Rattle.std.specs.Prelude.{◌≡◌, ◌≢◌, ℕ, ◌<◌, ◌≤◌, List, [], ◌∷◌, ◌++◌, length, AllPairs, Contains, codes, Option, Some, None, is_some, nat_le, if◌then◌else◌, ◌==◌}
+use Rattle.olap_base.specs.Graph.{Graph, category_count, IsCategory, IsDeclared, HasEdge, CategoryReaches, IsCategoryName}
+use Rattle.olap_graph.specs.Lookups.{category_named, edge_between}
+use Rattle.olap_graph.specs.declared.refusals.CategoryRefusal.{CategoryRefusal}
+use Rattle.olap_graph.specs.declared.refusals.CategoryRefusal.TheVariants as of_category
+use Rattle.olap_graph.specs.declared.refusals.EdgeRefusal.{EdgeRefusal}
+use Rattle.olap_graph.specs.declared.refusals.EdgeRefusal.TheVariants as of_edge
+use Rattle.olap_graph.specs.declared.refusals.GraphRefusal.{GraphRefusal}
+use Rattle.olap_graph.specs.declared.refusals.GraphRefusal.TheVariants as of_graph
+
+-- at most 64 categories, `All` included, at most 256 edges, and names of at most 255 bytes
+pub record IsWithinLimits (g : Graph) : Type 0 where
+  pub few : category_count g ≤ 64
+  pub few_edges : length g.edges ≤ 256
+  pub short_names : (name : List ℕ) → Contains g.names name → length name ≤ 255
+
+-- names and edges differ, and no edge is a loop or leaves `All`
+pub record IsUnfinished (g : Graph) : Type 0 where
+  pub names_differ : AllPairs ◌≢◌ g.names
+  pub names : (name : List ℕ) → Contains g.names name → IsCategoryName name × (name ≢ codes "All")
+  pub categories : (c d : ℕ) → HasEdge g c d → IsCategory g c × IsCategory g d
+  pub edges_differ : AllPairs ◌≢◌ g.edges
+  pub no_loop : (c d : ℕ) → HasEdge g c d → c ≢ d
+  pub none_from_all : (d : ℕ) → HasEdge g 0 d → ⊥
+
+-- `All` alone
+abbrev pub all_alone : Graph
+all_alone = record { names = []; edges = [] }
+
+-- the graph with one more category
+abbrev pub with_category : Graph → List ℕ → Graph
+with_category g name = record g { names = g.names ++ name ∷ [] }
+
+-- the graph with one more edge
+abbrev pub with_edge : Graph → ℕ → ℕ → Graph
+with_edge g c d = record g { edges = g.edges ++ record { child = c; parent = d } ∷ [] }
+
+-- the first reason to refuse a category of this name: it is taken, or there are as many categories as may be
+abbrev pub category_refusal : Graph → List ℕ → Option CategoryRefusal
+category_refusal g name =
+    if is_some (category_named g name) then Some of_category.DuplicateCategory
+    else if nat_le 64 (category_count g) then Some of_category.TooManyCategories
+    else None
+
+-- the first reason to refuse an edge from c to d
+abbrev pub edge_refusal : Graph → ℕ → ℕ → Option EdgeRefusal
+edge_refusal g c d =
+    if c == d then Some of_edge.SelfEdge
+    else if c == 0 then Some of_edge.EdgeFromAll
+    else if is_some (edge_between g c d) then Some of_edge.DuplicateEdge
+    else if nat_le 256 (length g.edges) then Some of_edge.TooManyEdges
+    else None
+
+-- why a category is refused: want of memory, or the first reason
+abbrev pub IsCategoryCause : Option CategoryRefusal → CategoryRefusal → Type 0
+IsCategoryCause first of_category.Memory = Unit {0}
+IsCategoryCause first e = first ≡ Some e
+
+-- why an edge is refused: want of memory, or the first reason
+abbrev pub IsEdgeCause : Option EdgeRefusal → EdgeRefusal → Type 0
+IsEdgeCause first of_edge.Memory = Unit {0}
+IsEdgeCause first e = first ≡ Some e
+
+-- no walk leads from the declared category c to `All`, and from each declared one before it one does
+pub record IsFirstWithoutWay (g : Graph) (c : ℕ) : Type 0 where
+  pub declared : IsDeclared g c
+  pub none : CategoryReaches g c 0 → ⊥
+  pub before : (d : ℕ) → IsDeclared g d → d < c → CategoryReaches g d 0
+
+-- why a graph is refused: want of memory, or the first category without a way
+abbrev pub IsGraphCause : Graph → GraphRefusal → Type 0
+IsGraphCause g of_graph.Memory = Unit {0}
+IsGraphCause g (of_graph.NoWayToAll c) = IsFirstWithoutWay g c.0

@@ -1,0 +1,120 @@
+// Graphs in the making.
+ghost use Rattle.std.specs.Prelude.{◌≡◌, ◌↔◌, ◌≤◌, ℕ, None, length, IfOk, IfErr, IfSome, OnErr, IsSome};
+ghost use Rattle.std.specs.Option.{option_map};
+ghost use Rattle.olap_base.specs.Graph.{IsCategory, IsCategoryName, HasEdge, CategoryReaches, category_count};
+ghost use Rattle.olap_graph.specs.Lookups.{category_named, edge_between};
+ghost use Rattle.olap_graph.specs.Building.{all_alone, with_category, with_edge, category_refusal, edge_refusal, IsCategoryCause, IsEdgeCause, IsGraphCause};
+
+use crate::listing::{Ends, MOST_CATEGORIES, MOST_EDGES, joining, named};
+use crate::{CategoryRefusal, EdgeRefusal, Graph, GraphRefusal};
+use olap_base::{CatId, EdgeId, Memory, Text};
+use std::alloc::Global;
+use std::marker::Model;
+
+/// A graph that takes categories and edges.
+#[derive(Drop)]
+pub struct GraphBuilder {
+    names: Vec<Text>,
+    edges: Vec<Ends>,
+    alloc: Global,
+}
+
+impl Model for GraphBuilder {
+    ghost use Rattle.olap_base.specs.Graph.{Graph};
+
+    ghost Value = { Graph };
+
+    ghost use Rattle.olap_graph.specs.Inside.{built, IsBuilt};
+
+    ghost view = { built };
+
+    ghost invariant = { IsBuilt };
+}
+
+impl GraphBuilder {
+    /// `All` alone.
+    pub fn new(alloc: Global) -> Result<GraphBuilder, Memory>
+        ensures { IfOk result (λ builder. builder ≡ all_alone) }
+    {
+        let mut names = Vec::new(alloc);
+        names.push(Text::from_bytes(alloc, b"All")?)?;
+        Ok(GraphBuilder {
+            names,
+            edges: Vec::new(alloc),
+            alloc,
+        })
+    }
+
+    /// Adds a category, and says which it is.
+    pub fn add_category(&mut self, name: Text) -> Result<CatId, CategoryRefusal>
+        requires name { IsCategoryName name }
+        requires short { length name ≤ 255 }
+        ensures ok { IfOk result (λ c. category_refusal self.old name ≡ None) }
+        ensures number { IfOk result (λ c. c.0 ≡ category_count self.old) }
+        ensures added { IfOk result (λ _. self.new ≡ with_category self.old name) }
+        ensures err { IfErr result (IsCategoryCause (category_refusal self.old name)) }
+        ensures same { OnErr result (self.new ≡ self.old) }
+    {
+        if self.category(name.bytes()).is_some() {
+            return Err(CategoryRefusal::DuplicateCategory);
+        }
+        if self.names.len() >= MOST_CATEGORIES {
+            return Err(CategoryRefusal::TooManyCategories);
+        }
+        let category = CatId(self.names.len() as u16);
+        self.names.push(name)?;
+        Ok(category)
+    }
+
+    /// Adds an edge, and says which it is.
+    pub fn add_edge(&mut self, child: CatId, parent: CatId) -> Result<EdgeId, EdgeRefusal>
+        requires child { IsCategory self.old child.0 }
+        requires parent { IsCategory self.old parent.0 }
+        ensures ok { IfOk result (λ e. edge_refusal self.old child.0 parent.0 ≡ None) }
+        ensures number { IfOk result (λ e. e.0 ≡ length self.old.edges) }
+        ensures added { IfOk result (λ _. self.new ≡ with_edge self.old child.0 parent.0) }
+        ensures err { IfErr result (IsEdgeCause (edge_refusal self.old child.0 parent.0)) }
+        ensures same { OnErr result (self.new ≡ self.old) }
+    {
+        if child == parent {
+            return Err(EdgeRefusal::SelfEdge);
+        }
+        if child == CatId(0) {
+            return Err(EdgeRefusal::EdgeFromAll);
+        }
+        if self.edge(child, parent).is_some() {
+            return Err(EdgeRefusal::DuplicateEdge);
+        }
+        if self.edges.len() >= MOST_EDGES {
+            return Err(EdgeRefusal::TooManyEdges);
+        }
+        let edge = EdgeId(self.edges.len() as u16);
+        self.edges.push(Ends { child, parent })?;
+        Ok(edge)
+    }
+
+    /// The category of that name.
+    pub fn category(&self, name: &[u8]) -> Option<CatId>
+        ensures place { option_map (λ c. c.0) result ≡ category_named self.now name.now }
+        ensures category { IfSome result (λ c. IsCategory self.now c.0) }
+    {
+        named(&self.names, name)
+    }
+
+    /// The edge from one category to another.
+    pub fn edge(&self, child: CatId, parent: CatId) -> Option<EdgeId>
+        ensures place { option_map (λ e. e.0) result ≡ edge_between self.now child.0 parent.0 }
+        ensures has { IsSome result ↔ HasEdge self.now child.0 parent.0 }
+    {
+        joining(&self.edges, child, parent)
+    }
+
+    /// The graph with these categories and edges. Cost: categories times edges.
+    pub fn finish(self) -> Result<Graph, GraphRefusal>
+        ensures ok { IfOk result (λ graph. graph ≡ self) }
+        ensures way { IfOk result (λ graph. (c : ℕ) → IsCategory graph c → CategoryReaches graph c 0) }
+        ensures err { IfErr result (IsGraphCause self) }
+    {
+        Graph::of(self.alloc, self.names, self.edges)
+    }
+}
