@@ -4,6 +4,7 @@ use Rattle.std.proofs.lemmas.List.{get_or-map, length-map}
 use Rattle.olap_base.specs.Instance.{Member, member_at, parents_of}
 use Rattle.olap_base.specs.Naming.{place_of}
 use Rattle.olap_base.specs.declared.ids.MemberId.{MemberId}
+use Rattle.olap_instance.specs.Passes.{numbers_of, parents_in}
 use Rattle.olap_instance.specs.InstanceInside.{IsSound, instance_of}
 use Rattle.olap_instance.specs.declared.instances.Instance.TheInside.{Inside}
 use Rattle.olap_instance.proofs.PlaceFacts.{place-within}
@@ -11,25 +12,22 @@ use Rattle.olap_instance.proofs.MembersLemmas.{ids-with_parents, length-with_par
 
 module _ (a : Inside) (s : IsSound a) where
   abbrev rows : List (List ℕ)
-  rows = map (λ ps. map (λ p. p.0) ps.items) a.parents.items
-
-  as-many : length a.roster ≡ length rows
-  as-many = s.as_many ∙ sym (length-map a.parents.items (λ ps. map (λ p. p.0) ps.items))
+  rows = parents_in a.parents.items
 
   pub length-is : length (instance_of a) ≡ length a.roster
-  length-is = length-with_parents a.roster rows as-many
+  length-is = length-with_parents a.roster rows s.as_many
 
   pub in-roster : (x : ℕ) → x < length (instance_of a) → x < length a.roster
   in-roster x l = let e = length-is in omega arith
 
   pub in-parents : (x : ℕ) → x < length (instance_of a) → x < length a.parents.items
-  in-parents x l = let h = in-roster x l in let e = s.as_many in omega arith
+  in-parents x l = let h = in-roster x l in let e = s.as_many ∙ length-map a.parents.items (λ ps. numbers_of ps.items) in omega arith
 
   pub member-is : (x : ℕ) → x < length (instance_of a) → member_at (instance_of a) x ≡ record (member_at a.roster x) { parents = get_or rows x [] }
-  member-is x l = member_at-with_parents a.roster rows x as-many (in-roster x l)
+  member-is x l = member_at-with_parents a.roster rows x s.as_many (in-roster x l)
 
   pub ids-are : map (λ m. m.id) (instance_of a) ≡ map (λ m. m.id) a.roster
-  ids-are = ids-with_parents a.roster rows as-many
+  ids-are = ids-with_parents a.roster rows s.as_many
 
   -- what is found in the roster is found in the instance, and is a member
   pub found : (id : List ℕ) (p : ℕ) → place_of id (map (λ m. m.id) a.roster) ≡ Some p
@@ -47,5 +45,5 @@ module _ (a : Inside) (s : IsSound a) where
   pub parents-are : (x : ℕ) (d : Vec MemberId Global) → x < length (instance_of a)
       → map (λ p. p.0) (get_or a.parents.items x d).items ≡ parents_of (instance_of a) x
   parents-are x d l =
-      sym (get_or-map (λ ps. map (λ p. p.0) ps.items) a.parents.items x d [] (in-parents x l))
+      sym (get_or-map (λ ps. numbers_of ps.items) a.parents.items x d [] (in-parents x l))
       ∙ sym (ap (λ (m : Member). m.parents) (member-is x l))

@@ -1,8 +1,10 @@
 -- What the place of an id tells.
-use Rattle.std.proofs.Common.{◌≡◌, ◌≢◌, ◌+◌, ◌<◌, ◌∷◌, ◌∙◌, Bool, true, false, cond, ℕ, zero, suc, List, [], length, get_or, Some, refl, sym, ap, arith, zero-add}
+use Rattle.std.proofs.Common.{◌≡◌, ◌≢◌, ◌+◌, ◌<◌, ◌∷◌, ◌∙◌, Bool, true, false, cond, ℕ, zero, suc, List, [], length, map, get_or, Some, refl, sym, ap, arith, zero-add}
 use Rattle.std.specs.List.{position_from}
 use Rattle.std.specs.Str.{bytes_eq}
 use Rattle.std.proofs.lemmas.Slice.Eq.{bytes_eq-Decides}
+use Rattle.std.proofs.lemmas.List.{length-map}
+use Rattle.olap_base.specs.Instance.{Instance}
 use Rattle.olap_base.specs.Naming.{place_of}
 
 not-so : (b : Bool) → (b ≡ true → ⊥) → b ≡ false
@@ -49,3 +51,7 @@ id-at-place x ids i e =
 -- what is found lies within the list
 pub place-within : (x : List ℕ) (ids : List (List ℕ)) (i : ℕ) → place_of x ids ≡ Some i → i < length ids
 place-within x ids i e = (id-at-place x ids i e).0
+
+-- what is found among members lies among them
+pub member-within : (x : List ℕ) (ms : Instance) (i : ℕ) → place_of x (map (λ m. m.id) ms) ≡ Some i → i < length ms
+member-within x ms i e = let h = place-within x (map (λ m. m.id) ms) i e in let n = length-map ms (λ m. m.id) in omega arith

@@ -1,12 +1,10 @@
--- Members with and without their parents, the texts that they may have, and the graph that they are made for.
+-- Members with and without their parents, and the texts that they may have.
 --     with_parents   members, each with its parents
---     IsMadeFor      each member's category is one of the graph
 --     HasTexts       each id and name of an instance is a text that a file of members can hold
 use Rattle.std.specs.Prelude.{◌≡◌, ◌≢◌, ◌≤◌, ◌==◌, false, ℕ, List, [], ◌∷◌, length, codes, IsTrue}
 use Rattle.std.specs.List.{list_any}
 use Rattle.std.specs.Str.{is_utf8}
-use Rattle.olap_base.specs.Graph.{Graph, IsCategory}
-use Rattle.olap_base.specs.Instance.{Instance, IsMember, Member, category_of, member_at}
+use Rattle.olap_base.specs.Instance.{Instance, IsInstance, IsMember, Member, member_at}
 use Rattle.olap_instance.specs.declared.rosters.Head.{Head}
 
 -- the most members that an instance has, `all` included
@@ -42,6 +40,9 @@ IsMemberId id = IsShortText id × (length id ≢ 0) × (list_any (λ b. b == 59)
 abbrev pub HasTexts : Instance → Type 0
 HasTexts i = (x : ℕ) → IsMember i x → IsMemberId (member_at i x).id × IsShortText (member_at i x).name
 
--- each member's category is one of the graph
-abbrev pub IsMadeFor : Graph → Instance → Type 0
-IsMadeFor g i = (x : ℕ) → IsMember i x → IsCategory g (category_of i x)
+-- the members with these parents are a dimension instance within the bounds
+pub record AreSound (ms : Instance) (parents : List (List ℕ)) : Type 0 where
+  pub as_many : length ms ≡ length parents
+  pub few : length ms ≤ most_members
+  pub instance : IsInstance (with_parents ms parents)
+  pub texts : HasTexts (with_parents ms parents)

@@ -3,7 +3,8 @@ ghost use Rattle.std.specs.Prelude.{◌≡◌, ◌<◌, ◌≤◌, ℕ, length, 
 ghost use Rattle.std.specs.Option.{option_map};
 ghost use Rattle.olap_base.specs.Instance.{IsBelow, IsInstance, category_of, member_at, name_of, parents_of};
 ghost use Rattle.olap_base.specs.Naming.{place_of};
-ghost use Rattle.olap_instance.specs.Members.{HasTexts};
+ghost use Rattle.olap_instance.specs.Members.{AreSound, HasTexts, with_parents};
+ghost use Rattle.olap_instance.specs.Passes.{parents_in};
 
 use crate::rosters::Roster;
 use olap_base::{CatId, MemberId, Text};
@@ -30,6 +31,14 @@ impl Model for Instance {
 }
 
 impl Instance {
+    /// An instance of these members, each with its parents.
+    pub(crate) fn from_parts(roster: Roster, parents: Vec<Vec<MemberId>>) -> Instance
+        requires { AreSound roster (parents_in parents.items) }
+        ensures { result ≡ with_parents roster (parents_in parents.items) }
+    {
+        Instance { roster, parents }
+    }
+
     /// How many members there are, `all` included.
     pub fn members(&self) -> u32
         ensures count { result ≡ length self.now }

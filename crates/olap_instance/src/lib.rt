@@ -5,7 +5,14 @@
 //! function `instance_read` of `specs/InstanceText.antt`.
 #![tactic(auto)]
 
+mod entering;
 mod instances;
+mod kinds;
+mod linking;
+mod reading;
 mod rosters;
+mod texts;
 
 pub use instances::Instance;
+pub use kinds::{InstanceKind, InstanceRefusal};
+pub use reading::read_instance;

@@ -1,8 +1,8 @@
 // The members of an instance without their parents, and an index of their ids.
-ghost use Rattle.std.specs.Prelude.{◌≡◌, ◌∷◌, ◌++◌, ◌<◌, ◌^◌, [], length, map, None, OnOk, OnErr};
+ghost use Rattle.std.specs.Prelude.{◌≡◌, ◌∷◌, ◌++◌, ◌<◌, ◌^◌, [], codes, length, map, None, OnOk, OnErr};
 ghost use Rattle.olap_base.specs.Instance.{member_at};
 ghost use Rattle.olap_base.specs.Naming.{place_of};
-ghost use Rattle.olap_instance.specs.Members.{member_of_head};
+ghost use Rattle.olap_instance.specs.Members.{all_member, member_of_head};
 
 use indexmap::IndexMap;
 use olap_base::{CatId, Memory, Text};
@@ -83,5 +83,21 @@ impl Roster {
         self.index.insert(key, place as u32)?;
         self.heads.push(head)?;
         Ok(())
+    }
+
+    /// Adds the member `all`, where it is not there.
+    pub(crate) fn add_all(&mut self) -> Result<(), Memory>
+        requires absent { place_of (codes "all") (map (λ m. m.id) self.old) ≡ None }
+        requires room { length self.old < 2 ^ 32 }
+        ensures ok { OnOk result (self.new ≡ self.old ++ all_member ∷ []) }
+        ensures same { OnErr result (self.new ≡ self.old) }
+    {
+        let id = Text::from_bytes(self.alloc, b"all")?;
+        let name = Text::from_bytes(self.alloc, b"all")?;
+        self.add(Head {
+            id,
+            category: CatId(0),
+            name,
+        })
     }
 }

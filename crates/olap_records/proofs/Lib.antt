@@ -4,6 +4,7 @@ pub mod SameRow
 pub mod Fields
 pub mod Step
 pub mod FaultLemmas
+pub mod Seeing
 pub mod ReadingBack
 pub mod Spelling
 pub mod Printed
