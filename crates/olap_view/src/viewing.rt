@@ -1,5 +1,6 @@
 // The direct view of a category.
-ghost use Rattle.std.specs.Prelude.{◌≡◌, ◌<◌, ◌≤◌, ℕ, All, IfOk, Some, filter_map, length};
+ghost use Rattle.std.specs.Prelude.{◌≡◌, ◌<◌, ◌≤◌, ℕ, All, IfOk, IfSome, filter_map, length};
+ghost use Rattle.std.specs.Option.{option_map};
 ghost use Rattle.olap_base.specs.Views.{direct_view, members_of};
 ghost use Rattle.olap_facts.specs.Seen.{facts_of};
 ghost use Rattle.olap_view.specs.Adding.{row_at, summary_at};
@@ -12,17 +13,20 @@ use olap_facts::Facts;
 use olap_instance::Instance;
 use std::alloc::Global;
 
-/// The row of a member with a summary.
-fn row(member: MemberId, summary: Summary) -> Row
-    ensures row { row_at member.0 (Some summary) ≡ Some (row_of result) }
-    ensures member { result.member.0 ≡ member.0 }
+/// The row of a member, if it has a summary.
+fn row(member: MemberId, summary: Option<Summary>) -> Option<Row>
+    ensures row { option_map row_of result ≡ row_at member.0 summary }
+    ensures member { IfSome result (λ r. r.member.0 ≡ member.0) }
 {
-    Row {
-        member,
-        count: summary.count,
-        sum: summary.sum,
-        least: summary.least,
-        greatest: summary.greatest,
+    match summary {
+        None => None,
+        Some(s) => Some(Row {
+            member,
+            count: s.count,
+            sum: s.sum,
+            least: s.least,
+            greatest: s.greatest,
+        }),
     }
 }
 
@@ -41,8 +45,8 @@ fn rows(
     for y in 0..instance.members() {
         let member = MemberId(y);
         if instance.category(member).0 == c.0 {
-            if let Some(s) = summaries[y as usize] {
-                rows.push(row(member, s))?;
+            if let Some(row) = row(member, summaries[y as usize]) {
+                rows.push(row)?;
             }
         }
     }
