@@ -17,21 +17,29 @@ SomeEdge c es = (d : ℕ) × Contains es (record { child = d; parent = c })
 -- some edge's parent is c exactly where some category has an edge to it
 some_edge : (c : ℕ) (es : List Edge) → IsTrue (list_any (λ e. e.parent == c) es) ↔ SomeEdge c es
 some_edge c [] = (λ t. absurd (cc), λ t. absurd (Contains-nil (edge t.0 c) t.1))
-some_edge c (e ∷ es) = let r = some_edge c es in (to r.0 (e.parent == c) refl, λ t. from r.1 (e.parent == c) refl t.0 t.1)
+some_edge c (e ∷ es) =
+    let r = some_edge c es in (to r.0 (e.parent == c) refl, λ t. from r.1 (e.parent == c) refl t.0 t.1)
   where
     same : e.parent ≡ c → e ≡ edge e.child c
     same q = λ j. record { child = e.child; parent = q j }
 
     to : (IsTrue (list_any (λ e. e.parent == c) es) → SomeEdge c es) → (b : Bool) → (e.parent == c) ≡ b
         → b || list_any (λ e. e.parent == c) es ≡ true → SomeEdge c (e ∷ es)
-    to rest true q t = (e.child, subst (λ x. Contains (e ∷ es) x) (same (grind (arith, nat_tests))) (contains_head e es))
+    to rest true q t = (
+      e.child,
+      subst (λ x. Contains (e ∷ es) x) (same (grind (arith, nat_tests)))
+          (contains_head e es),
+    )
     to rest false q t = let r = rest t in (r.0, contains_cons (edge r.0 c) es e r.1)
 
     from : (SomeEdge c es → IsTrue (list_any (λ e. e.parent == c) es)) → (b : Bool) → (e.parent == c) ≡ b
         → (d : ℕ) → Contains (e ∷ es) (edge d c) → b || list_any (λ e. e.parent == c) es ≡ true
     from rest true q d k = refl
     from rest false q d k = elim (contains_cases (edge d c) e es k) [
-      | inl s ↦ absurd (let p : e.parent ≡ c = ap (λ (x : Edge). x.parent) s in let z : (e.parent == c) ≡ true = grind (arith, nat_tests) in cc)
+      | inl s ↦
+          let p : e.parent ≡ c = ap (λ (x : Edge). x.parent) s in
+          let z : (e.parent == c) ≡ true = grind (arith, nat_tests) in
+          absurd (cc)
       | inr h ↦ rest (d, h)
     ]
 
@@ -59,7 +67,10 @@ from_not true n = absurd (n refl)
 from_not false n = refl
 
 no_zero : (c : ℕ) → not (c == 0) ≡ true ↔ (c ≢ 0)
-no_zero c = (λ t z. not_true (c == 0) t (grind (arith, nat_tests)), λ n. from_not (c == 0) (λ t. n (grind (arith, nat_tests))))
+no_zero c = (
+  λ t z. not_true (c == 0) t (grind (arith, nat_tests)),
+  λ n. from_not (c == 0) (λ t. n (grind (arith, nat_tests))),
+)
 
 in_range : (c n : ℕ) → nat_lt c n ≡ true ↔ (c < n)
 in_range c n = (λ t. grind (arith, nat_tests), λ h. grind (arith, nat_tests))
@@ -76,6 +87,9 @@ bottom-is g c =
     let zero = not (c == 0) in
     let below = nat_lt c (category_count g) in
     let listed = not (list_any (λ e. e.parent == c) g.edges) in (
-      λ t. let a = all_true zero below listed t in (((no_zero c).0 a.0, (in_range c (category_count g)).0 a.1), (no_edge g c).0 a.2),
-      λ b. from_all zero below listed ((no_zero c).1 b.0.0) ((in_range c (category_count g)).1 b.0.1) ((no_edge g c).1 b.1),
+      λ t.
+          let a = all_true zero below listed t in
+          (((no_zero c).0 a.0, (in_range c (category_count g)).0 a.1), (no_edge g c).0 a.2),
+      λ b. from_all zero below listed ((no_zero c).1 b.0.0) ((in_range c (category_count g)).1 b.0.1)
+          ((no_edge g c).1 b.1),
     )

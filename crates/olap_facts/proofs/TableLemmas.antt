@@ -14,21 +14,26 @@ use Rattle.olap_facts.specs.declared.tables.Fact as told
 pub table-none : (g : Graph) (i : Instance) → IsFactTable g i []
 table-none g i f c = absurd (Contains-nil f c)
 
-pub table-more : (g : Graph) (i : Instance) (fs : List Fact) (f : Fact) → IsFactTable g i fs → IsMember i f.member → IsBottom g (category_of i f.member) → IsFactTable g i (fs ++ f ∷ [])
+pub table-more : (g : Graph) (i : Instance) (fs : List Fact) (f : Fact) → IsFactTable g i fs → IsMember i f.member
+    → IsBottom g (category_of i f.member) → IsFactTable g i (fs ++ f ∷ [])
 table-more g i fs f t m b q c = elim (Contains-push_cases fs f q c) [
   | inl h ↦ t q h
   | inr e ↦ subst (λ (p : Fact). IsMember i p.member × IsBottom g (category_of i p.member)) e (m, b)
 ]
 
-pub table-members : (g : Graph) (i : Instance) (fs : List told.Fact) → IsFactTable g i (map fact_of fs) → All (λ f. f.member.0 < length i) fs
-table-members g i fs t k d h = (t (fact_of (get_or fs k d)) (Contains-map fact_of fs (get_or fs k d) (Contains-get_or fs k d h))).0
+pub table-members : (g : Graph) (i : Instance) (fs : List told.Fact) → IsFactTable g i (map fact_of fs)
+    → All (λ f. f.member.0 < length i) fs
+table-members g i fs t k d h = (t (fact_of (get_or fs k d))
+    (Contains-map fact_of fs (get_or fs k d) (Contains-get_or fs k d h))).0
 
-pub same-length : {A B C : Type 0} (f : A → C) (h : B → C) (xs : List A) (ys : List B) → map f xs ≡ map h ys → length xs ≡ length ys
+pub same-length : {A B C : Type 0} (f : A → C) (h : B → C) (xs : List A) (ys : List B) → map f xs ≡ map h ys
+    → length xs ≡ length ys
 same-length f h xs ys e = sym (length-map xs f) ∙ ap length e ∙ length-map ys h
 
 -- the facts after one record more
 pub facts-more : (i : Instance) (seen : List (List (List ℕ))) (r : List (List ℕ)) (fs : List told.Fact) (f : told.Fact)
-    → map fact_of fs ≡ map (fact_read i) seen → fact_of f ≡ fact_read i r → map fact_of (fs ++ f ∷ []) ≡ map (fact_read i) (seen ++ r ∷ [])
+    → map fact_of fs ≡ map (fact_read i) seen → fact_of f ≡ fact_read i r
+    → map fact_of (fs ++ f ∷ []) ≡ map (fact_read i) (seen ++ r ∷ [])
 facts-more i seen r fs f e q =
     map-append fact_of fs (f ∷ []) ∙ ap (λ (t : List Fact). t ++ fact_of f ∷ []) e
     ∙ ap (λ (t : Fact). map (fact_read i) seen ++ t ∷ []) q ∙ sym (map-append (fact_read i) seen (r ∷ []))

@@ -20,7 +20,8 @@ use Rattle.olap_view.specs.Climbing.{AreBefore, AreUpTo, IsMarked, IsVisit, List
 same_marked : (t : ℕ) (stamps : List ℕ) (k : ℕ) → k < length stamps → IsMarked t (set stamps k t) k
 same_marked t stamps k h = rw get_or-set_same refl
 
-kept_marked : (t : ℕ) (stamps : List ℕ) (k y : ℕ) → k < length stamps → IsMarked t stamps y → IsMarked t (set stamps k t) y
+kept_marked : (t : ℕ) (stamps : List ℕ) (k y : ℕ) → k < length stamps → IsMarked t stamps y
+    → IsMarked t (set stamps k t) y
 kept_marked t stamps k y h m = elim (ℕ_discrete y k) [
   | yes e ↦ subst (λ z. IsMarked t (set stamps k t) z) (sym e) (same_marked t stamps k h)
   | no n ↦ let ne : y ≢ k = n in rw get_or-set_other m
@@ -34,7 +35,8 @@ from_marked t stamps k y m = elim (ℕ_discrete y k) [
 
 up_to_set : (t : ℕ) (stamps : List ℕ) (k : ℕ) → k < length stamps → AreUpTo t stamps → AreUpTo t (set stamps k t)
 up_to_set t stamps k h u y = elim (ℕ_discrete y k) [
-  | yes e ↦ let s : get_or (set stamps k t) y 0 ≡ t = subst (λ z. IsMarked t (set stamps k t) z) (sym e) (same_marked t stamps k h) in omega arith
+  | yes e ↦ let s : get_or (set stamps k t) y 0 ≡ t = subst (λ z. IsMarked t (set stamps k t) z) (sym e)
+      (same_marked t stamps k h) in omega arith
   | no n ↦ let ne : y ≢ k = n in rw get_or-set_other (u y)
 ]
 
@@ -44,21 +46,25 @@ test_same a = grind (arith, nat_tests)
 test_other : (a b : ℕ) → a ≢ b → eqb a b ≡ false
 test_other a b n = grind (arith, nat_tests)
 
-unmarked_set : (t : ℕ) (stamps : List ℕ) (k : ℕ) → k < length stamps → get_or stamps k 0 ≢ t → suc (unmarked_count t (set stamps k t)) ≡ unmarked_count t stamps
+unmarked_set : (t : ℕ) (stamps : List ℕ) (k : ℕ) → k < length stamps → get_or stamps k 0 ≢ t
+    → suc (unmarked_count t (set stamps k t)) ≡ unmarked_count t stamps
 unmarked_set t [] k h n = absurd (omega arith)
 unmarked_set t (s ∷ stamps) zero h n = rw (test_same t, test_other s t n) refl
 unmarked_set t (s ∷ stamps) (suc k) h n = go (eqb s t) (unmarked_set t stamps k (omega arith) n)
   where
     go : (b : Bool) → suc (unmarked_count t (set stamps k t)) ≡ unmarked_count t stamps
-        → suc (cond b (unmarked_count t (set stamps k t)) (suc (unmarked_count t (set stamps k t)))) ≡ cond b (unmarked_count t stamps) (suc (unmarked_count t stamps))
+        → suc (cond b (unmarked_count t (set stamps k t)) (suc (unmarked_count t (set stamps k t))))
+        ≡ cond b (unmarked_count t stamps) (suc (unmarked_count t stamps))
     go true e = e
     go false e = ap suc e
 
 -- what a read says of a mark
-pub mark_is : (t : ℕ) (stamps : List ℕ) (p r : ℕ) → p < length stamps → r ≡ get_or stamps p r → r ≡ t → IsMarked t stamps p
+pub mark_is : (t : ℕ) (stamps : List ℕ) (p r : ℕ) → p < length stamps → r ≡ get_or stamps p r → r ≡ t
+    → IsMarked t stamps p
 mark_is t stamps p r h e q = get_or_default stamps p 0 r h ∙ sym e ∙ q
 
-pub no_mark : (t : ℕ) (stamps : List ℕ) (p r : ℕ) → p < length stamps → r ≡ get_or stamps p r → r ≢ t → IsMarked t stamps p → ⊥
+pub no_mark : (t : ℕ) (stamps : List ℕ) (p r : ℕ) → p < length stamps → r ≡ get_or stamps p r → r ≢ t
+    → IsMarked t stamps p → ⊥
 no_mark t stamps p r h e n m = n (e ∙ get_or_default stamps p r 0 h ∙ m)
 
 -- ---- lists without repeats
@@ -66,13 +72,18 @@ no_mark t stamps p r h e n m = n (e ∙ get_or_default stamps p r 0 h ∙ m)
 Distinct-push : {A : Type 0} (xs : List A) (x : A) → Distinct xs → (Contains xs x → ⊥) → Distinct (xs ++ x ∷ [])
 Distinct-push [] x d n = (λ c. Contains-nil x c, tt)
 Distinct-push (y ∷ ys) x d n = (
-  λ c. elim (Contains-push_cases ys x y c) [ inl a ↦ d.0 a | inr e ↦ n (subst (λ z. Contains (y ∷ ys) z) (sym e) (contains_head y ys)) ],
+  λ c. elim (Contains-push_cases ys x y c) [
+    | inl a ↦ d.0 a
+    | inr e ↦ n (subst (λ z. Contains (y ∷ ys) z) (sym e) (contains_head y ys))
+  ],
   Distinct-push ys x d.1 (λ c. n (contains_cons x ys y c)),
 )
 
-lists_push : (t : ℕ) (stamps list : List ℕ) (p : ℕ) → p < length stamps → (IsMarked t stamps p → ⊥) → ListsMarked t stamps list → ListsMarked t (set stamps p t) (list ++ p ∷ [])
+lists_push : (t : ℕ) (stamps list : List ℕ) (p : ℕ) → p < length stamps → (IsMarked t stamps p → ⊥)
+    → ListsMarked t stamps list → ListsMarked t (set stamps p t) (list ++ p ∷ [])
 lists_push t stamps list p h n l = record {
-  differ = AllPairs-from_Distinct (list ++ p ∷ []) (Distinct-push list p (Distinct-from_AllPairs list l.differ) (λ c. n ((l.marked p).0 c)));
+  differ = AllPairs-from_Distinct (list ++ p ∷ []) (Distinct-push list p (Distinct-from_AllPairs list l.differ)
+      (λ c. n ((l.marked p).0 c)));
   marked = λ y. (
     λ c. elim (Contains-push_cases list p y c) [
       | inl a ↦ kept_marked t stamps p y h ((l.marked y).0 a)
@@ -87,11 +98,13 @@ lists_push t stamps list p h n l = record {
 
 -- ---- places of members
 
-pub place_at : (ms : List MemberId) (k : ℕ) (d : MemberId) → k < length ms → get_or (places_of ms) k 0 ≡ (get_or ms k d).0
+pub place_at : (ms : List MemberId) (k : ℕ) (d : MemberId) → k < length ms
+    → get_or (places_of ms) k 0 ≡ (get_or ms k d).0
 place_at ms k d h = get_or-map (λ (m : MemberId). m.0) ms k d 0 h
 
 pub listed_at : (ms : List MemberId) (k : ℕ) (d : MemberId) → k < length ms → Contains (places_of ms) (get_or ms k d).0
-listed_at ms k d h = subst (λ y. Contains (places_of ms) y) (place_at ms k d h) (Contains-get_or (places_of ms) k 0 (simp length-map h))
+listed_at ms k d h = subst (λ y. Contains (places_of ms) y) (place_at ms k d h)
+    (Contains-get_or (places_of ms) k 0 (simp length-map h))
 
 pub places_take : (ms : List MemberId) (k : ℕ) → places_of (take k ms) ≡ take k (places_of ms)
 places_take ms zero = refl
@@ -101,8 +114,10 @@ places_take (m ∷ ms) (suc k) = ap (λ l. m.0 ∷ l) (places_take ms k)
 -- ---- a visit
 
 -- the places after one member more
-pub places_more : (ps : List MemberId) (k : ℕ) (d : MemberId) → k < length ps → places_of (take (k + 1) ps) ≡ places_of (take k ps) ++ (get_or ps k d).0 ∷ []
-places_more ps k d h = ap places_of (take_more ps k d h) ∙ map-append (λ (m : MemberId). m.0) (take k ps) (get_or ps k d ∷ [])
+pub places_more : (ps : List MemberId) (k : ℕ) (d : MemberId) → k < length ps
+    → places_of (take (k + 1) ps) ≡ places_of (take k ps) ++ (get_or ps k d).0 ∷ []
+places_more ps k d h = ap places_of (take_more ps k d h)
+    ∙ map-append (λ (m : MemberId). m.0) (take k ps) (get_or ps k d ∷ [])
 
 module _ (t p : ℕ) (qs before after old new : List ℕ) (v : IsVisit t qs before after old new) where
   pub visit_skip : IsMarked t after p → IsVisit t (qs ++ p ∷ []) before after old new
@@ -110,14 +125,18 @@ module _ (t p : ℕ) (qs before after old new : List ℕ) (v : IsVisit t qs befo
     same_length = v.same_length;
     stamps = v.stamps;
     kept = v.kept;
-    done = λ y c. elim (Contains-push_cases qs p y c) [ inl d ↦ v.done y d | inr e ↦ subst (λ z. IsMarked t after z) e m ];
+    done = λ y c. elim (Contains-push_cases qs p y c) [
+      | inl d ↦ v.done y d
+      | inr e ↦ subst (λ z. IsMarked t after z) e m
+    ];
     only = λ y n. elim (v.only y n) [ inl a ↦ inl a | inr a ↦ inr (Contains-append_left qs (p ∷ []) y a) ];
     grown = v.grown;
     lists = v.lists;
     fewer = v.fewer;
   }
 
-  pub visit_push : p < length after → (IsMarked t after p → ⊥) → IsVisit t (qs ++ p ∷ []) before (set after p t) old (new ++ p ∷ [])
+  pub visit_push : p < length after → (IsMarked t after p → ⊥)
+      → IsVisit t (qs ++ p ∷ []) before (set after p t) old (new ++ p ∷ [])
   visit_push h n = record {
     same_length = length-set after p t ∙ v.same_length;
     stamps = up_to_set t after p h v.stamps;
@@ -145,15 +164,21 @@ pub record IsFrontier (i : Instance) (x t : ℕ) (stamps list : List ℕ) (at : 
   pub start : IsMarked t stamps x
   pub reached : (y : ℕ) → IsMarked t stamps y → Steps (IsBelow i) x y
   pub inside : (y : ℕ) → Contains list y → y < length i
-  pub closed : (z : ℕ) → IsMarked t stamps z → Contains (drop at list) z ⊎ ((y : ℕ) → IsBelow i z y → IsMarked t stamps y)
+  pub closed : (z : ℕ) → IsMarked t stamps z → Contains (drop at list) z
+      ⊎ ((y : ℕ) → IsBelow i z y → IsMarked t stamps y)
 
-pub frontier_start : (i : Instance) (x t : ℕ) (stamps list : List ℕ) → length stamps ≡ length i → x < length i → AreBefore t stamps → list ≡ x ∷ [] → IsFrontier i x t (set stamps x t) list 0
+pub frontier_start : (i : Instance) (x t : ℕ) (stamps list : List ℕ) → length stamps ≡ length i → x < length i
+    → AreBefore t stamps → list ≡ x ∷ [] → IsFrontier i x t (set stamps x t) list 0
 frontier_start i x t stamps list l h b q = record {
   same_length = length-set stamps x t ∙ l;
   stamps_upto = up_to_set t stamps x inside (λ y. let s = b y in omega arith);
-  lists = subst (λ xs. ListsMarked t (set stamps x t) xs) (sym q) (lists_push t stamps [] x inside (λ m. unmarked x m) none);
+  lists = subst (λ xs. ListsMarked t (set stamps x t) xs) (sym q)
+      (lists_push t stamps [] x inside (λ m. unmarked x m) none);
   start = same_marked t stamps x inside;
-  reached = λ y m. elim (from_marked t stamps x y m) [ inl a ↦ absurd (unmarked y a) | inr e ↦ subst (λ z. Steps (IsBelow i) x z) (sym e) here ];
+  reached = λ y m. elim (from_marked t stamps x y m) [
+    | inl a ↦ absurd (unmarked y a)
+    | inr e ↦ subst (λ z. Steps (IsBelow i) x z) (sym e) here
+  ];
   inside = λ y c. let e : x ≡ y = alone y (subst (λ xs. Contains xs y) q c) in omega arith;
   closed = λ z m. inl (elim (from_marked t stamps x z m) [
     | inl a ↦ absurd (unmarked z a)
@@ -168,21 +193,31 @@ frontier_start i x t stamps list l h b q = record {
     unmarked y m = let s = b y in omega arith
 
     none : ListsMarked t stamps []
-    none = record { differ = AllPairs-from_Distinct [] tt; marked = λ y. (λ c. absurd (Contains-nil y c), λ m. absurd (unmarked y m)) }
+    none = record {
+      differ = AllPairs-from_Distinct [] tt;
+      marked = λ y. (λ c. absurd (Contains-nil y c), λ m. absurd (unmarked y m));
+    }
 
     alone : (y : ℕ) → Contains (x ∷ []) y → x ≡ y
     alone y c = elim (contains_cases y x [] c) [ inl e ↦ e | inr k ↦ absurd (Contains-nil y k) ]
 
-module _ (i : Instance) (x t at : ℕ) (stamps after list new ps : List ℕ) (h : at < length list) (f : IsFrontier i x t stamps list at) where
-  pub frontier_next : ps ≡ parents_of i (get_or list at 0) → ((y : ℕ) → Contains ps y → y < length i) → IsVisit t ps stamps after list new → IsFrontier i x t after new (at + 1)
+module _ (i : Instance) (x t at : ℕ) (stamps after list new ps : List ℕ) (h : at < length list)
+    (f : IsFrontier i x t stamps list at) where
+  pub frontier_next : ps ≡ parents_of i (get_or list at 0) → ((y : ℕ) → Contains ps y → y < length i)
+      → IsVisit t ps stamps after list new → IsFrontier i x t after new (at + 1)
   frontier_next parents places v = record {
     same_length = v.same_length ∙ f.same_length;
     stamps_upto = v.stamps;
     lists = v.lists;
     start = v.kept x f.start;
-    reached = λ y m. elim (v.only y m) [ inl a ↦ f.reached y a | inr a ↦ Steps-append (f.reached z ((f.lists.marked z).0 listed)) (step (below y a) here) ];
-    inside = λ y c. elim (v.only y ((v.lists.marked y).0 c)) [ inl a ↦ f.inside y ((f.lists.marked y).1 a) | inr a ↦ places y a ];
-    closed = λ w m. elim (ℕ_discrete (get_or stamps w 0) t) [ yes e ↦ before w (f.closed w e) | no n ↦ inl (fresh w n ((v.lists.marked w).1 m)) ];
+    reached = λ y m. elim (v.only y m) [
+      | inl a ↦ f.reached y a
+      | inr a ↦ Steps-append (f.reached z ((f.lists.marked z).0 listed)) (step (below y a) here)
+    ];
+    inside = λ y c. elim (v.only y ((v.lists.marked y).0 c))
+        [ inl a ↦ f.inside y ((f.lists.marked y).1 a) | inr a ↦ places y a ];
+    closed = λ w m. elim (ℕ_discrete (get_or stamps w 0) t)
+        [ yes e ↦ before w (f.closed w e) | no n ↦ inl (fresh w n ((v.lists.marked w).1 m)) ];
   }
     where
       z : ℕ
@@ -200,11 +235,13 @@ module _ (i : Instance) (x t at : ℕ) (stamps after list new ps : List ℕ) (h 
       later : (w : ℕ) → Contains (drop (at + 1) list ++ v.grown.0) w → Contains (drop (at + 1) new) w
       later w c = subst (λ l. Contains l w) (sym rest) c
 
-      before : (w : ℕ) → Contains (drop at list) w ⊎ ((y : ℕ) → IsBelow i w y → IsMarked t stamps y) → Contains (drop (at + 1) new) w ⊎ ((y : ℕ) → IsBelow i w y → IsMarked t after y)
-      before w (inl c) = elim (contains_cases w z (drop (at + 1) list) (subst (λ l. Contains l w) (drop_more list at 0 h) c)) [
-        | inl e ↦ inr (λ y b. v.done y (subst (λ l. Contains l y) (sym parents) (subst (λ u. IsBelow i u y) (sym e) b)))
-        | inr d ↦ inl (later w (Contains-append_left (drop (at + 1) list) v.grown.0 w d))
-      ]
+      before : (w : ℕ) → Contains (drop at list) w ⊎ ((y : ℕ) → IsBelow i w y → IsMarked t stamps y)
+          → Contains (drop (at + 1) new) w ⊎ ((y : ℕ) → IsBelow i w y → IsMarked t after y)
+      before w (inl c) = elim (contains_cases w z (drop (at + 1) list)
+          (subst (λ l. Contains l w) (drop_more list at 0 h) c)) [
+            | inl e ↦ inr (λ y b. v.done y (subst (λ l. Contains l y) (sym parents) (subst (λ u. IsBelow i u y) (sym e) b)))
+            | inr d ↦ inl (later w (Contains-append_left (drop (at + 1) list) v.grown.0 w d))
+          ]
       before w (inr c) = inr (λ y b. v.kept y (c y b))
 
       fresh : (w : ℕ) → (IsMarked t stamps w → ⊥) → Contains new w → Contains (drop (at + 1) new) w
@@ -213,10 +250,12 @@ module _ (i : Instance) (x t at : ℕ) (stamps after list new ps : List ℕ) (h 
         | inr a ↦ later w (Contains-append_right (drop (at + 1) list) v.grown.0 w a)
       ]
 
-all_marked : (i : Instance) (x t at : ℕ) (stamps list : List ℕ) → drop at list ≡ [] → IsFrontier i x t stamps list at → {a y : ℕ} → Steps (IsBelow i) a y → IsMarked t stamps a → IsMarked t stamps y
+all_marked : (i : Instance) (x t at : ℕ) (stamps list : List ℕ) → drop at list ≡ [] → IsFrontier i x t stamps list at
+    → {a y : ℕ} → Steps (IsBelow i) a y → IsMarked t stamps a → IsMarked t stamps y
 all_marked i x t at stamps list e f here m = m
 all_marked i x t at stamps list e f (step {x = a} {y = b} r s) m =
-    all_marked i x t at stamps list e f s (elim (f.closed a m) [ inl c ↦ absurd (Contains-nil a (subst (λ l. Contains l a) e c)) | inr c ↦ c b r ])
+    all_marked i x t at stamps list e f s (elim (f.closed a m)
+    [ inl c ↦ absurd (Contains-nil a (subst (λ l. Contains l a) e c)) | inr c ↦ c b r ])
 
 drop_none : (list : List ℕ) (at : ℕ) → length list ≤ at → drop at list ≡ []
 drop_none [] zero h = refl
@@ -224,7 +263,8 @@ drop_none [] (suc k) h = refl
 drop_none (z ∷ list) zero h = absurd (omega arith)
 drop_none (z ∷ list) (suc k) h = drop_none list k (omega arith)
 
-pub frontier_done : (i : Instance) (x t at : ℕ) (stamps list : List ℕ) → length list ≤ at → IsFrontier i x t stamps list at → ListsReached i x list
+pub frontier_done : (i : Instance) (x t at : ℕ) (stamps list : List ℕ) → length list ≤ at
+    → IsFrontier i x t stamps list at → ListsReached i x list
 frontier_done i x t at stamps list h f = record {
   differ = f.lists.differ;
   members = f.inside;

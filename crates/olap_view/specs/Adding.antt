@@ -16,7 +16,12 @@ IsBounded s = (neg_ℤ (pos (s.count * 2 ^ 63)) ≤ℤ s.sum) × (s.sum ≤ℤ p
 -- the summary with one value more
 abbrev pub with_value : Option Summary → ℤ → Summary
 with_value None v = record { count = 1; sum = v; least = v; greatest = v }
-with_value (Some s) v = record { count = s.count + 1; sum = s.sum +ℤ v; least = int_min s.least v; greatest = int_max s.greatest v }
+with_value (Some s) v = record {
+  count = s.count + 1;
+  sum = s.sum +ℤ v;
+  least = int_min s.least v;
+  greatest = int_max s.greatest v;
+}
 
 -- the row of y with a summary, if there is one
 abbrev pub row_at : ℕ → Option Summary → Option Row
@@ -28,9 +33,11 @@ abbrev pub summary_at : List (Option Summary) → ℕ → Option Summary
 summary_at summaries y = slice_index_or summaries y None
 
 -- the value is added at each member of the list that is of category c, and nowhere else
-pub record IsAdded (i : Instance) (c : ℕ) (list : List ℕ) (value : ℤ) (before after : List (Option Summary)) : Type 0 where
+pub record IsAdded (i : Instance) (c : ℕ) (list : List ℕ) (value : ℤ)
+    (before after : List (Option Summary)) : Type 0 where
   pub same_length : length after ≡ length before
-  pub added : (y : ℕ) → Contains list y → category_of i y ≡ c → summary_at after y ≡ Some (with_value (summary_at before y) value)
+  pub added : (y : ℕ) → Contains list y → category_of i y ≡ c
+      → summary_at after y ≡ Some (with_value (summary_at before y) value)
   pub others : (y : ℕ) → (Contains list y → category_of i y ≡ c → ⊥) → summary_at after y ≡ summary_at before y
 
 -- at each member of c stands what its facts' values come to

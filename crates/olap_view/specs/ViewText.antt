@@ -12,11 +12,16 @@ header = codes "member" ∷ codes "count" ∷ codes "sum" ∷ codes "least" ∷ 
 
 -- the id of the row's member, and the row's numbers in decimal
 abbrev pub fields_of_row : List ℕ → Row → List (List ℕ)
-fields_of_row id r = id ∷ decimal r.count ∷ signed_decimal r.sum ∷ signed_decimal r.least ∷ signed_decimal r.greatest ∷ []
+fields_of_row id r =
+    id ∷ decimal r.count ∷ signed_decimal r.sum ∷ signed_decimal r.least ∷ signed_decimal r.greatest ∷ []
+
+-- the fields of a row whose member is one of the instance
+abbrev pub fields_in : Instance → Row → List (List ℕ)
+fields_in i r = fields_of_row (member_at i r.member).id r
 
 -- the header, and a record for each row
 abbrev pub records_of_view : Instance → View → List (List (List ℕ))
-records_of_view i v = header ∷ map (λ r. fields_of_row (member_at i r.member).id r) v.rows
+records_of_view i v = header ∷ map (fields_in i) v.rows
 
 -- the text of these records
 abbrev pub view_text : Instance → View → List ℕ

@@ -7,7 +7,8 @@ use Rattle.olap_facts.proofs.reading.is_at_bottom.Goals as goal
 
 pub returns-clause-value : goal.returns-clause-value
 returns-clause-value c =
-    one_answer c.is_bottom.result (is_bottom c.args.graph.now c.category.result.0) c.is_bottom.ensures (bottom-is c.args.graph.now c.category.result.0)
+    one_answer c.is_bottom.result (is_bottom c.args.graph.now c.category.result.0) c.is_bottom.ensures
+    (bottom-is c.args.graph.now c.category.result.0)
     ∙ ap (is_bottom c.args.graph.now) c.category.ensures
 
 pub returns-clause-bottom : goal.returns-clause-bottom

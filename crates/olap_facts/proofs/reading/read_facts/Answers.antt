@@ -13,4 +13,5 @@ returns-clause-members c =
 
 pub returns-clause-table : goal.returns-clause-table
 returns-clause-table c =
-    subst (λ (fs : List told.Fact). IsFactTable c.args.graph.now c.args.instance.now (map fact_of fs)) (sym c.from_vec.ensures) c.in_ok-facts.ensures.table
+    subst (λ (fs : List told.Fact). IsFactTable c.args.graph.now c.args.instance.now (map fact_of fs))
+    (sym c.from_vec.ensures) c.in_ok-facts.ensures.table

@@ -38,10 +38,13 @@ add_value-requires-clause-bounded c = λ j d h.
     let old = c.loop-k.summaries.items in
     let inside : j < length old = subst (λ (l : List (Option Summary)). j < length l) c.deref_mut.ensures.value h in
     let n = size c.args.facts.now c.loop-k.k c.loop-k-test.true in
-    let below : length (map fact_of (take c.loop-k.k c.args.facts.now)) < 2 ^ 32 = let f = c.requires.few in let t = c.loop-k-test.true in omega arith in
-    subst (λ (l : List (Option Summary)). IfSome (get_or l j d) (λ s. s.count < 2 ^ 32 × IsBounded s)) (sym c.deref_mut.ensures.value)
+    let below : length (map fact_of (take c.loop-k.k c.args.facts.now)) < 2 ^ 32 =
+    let f = c.requires.few in let t = c.loop-k-test.true in omega arith in
+    subst (λ (l : List (Option Summary)). IfSome (get_or l j d) (λ s. s.count < 2 ^ 32 × IsBounded s))
+    (sym c.deref_mut.ensures.value)
     (subst (λ (o : Option Summary). IfSome o (λ s. s.count < 2 ^ 32 × IsBounded s)) (get_or_default old j None d inside)
-    (few (get_or old j None) (length (map fact_of (take c.loop-k.k c.args.facts.now))) below (c.loop-k.invariant.so_far.bounded j)))
+    (few (get_or old j None) (length (map fact_of (take c.loop-k.k c.args.facts.now))) below
+    (c.loop-k.invariant.so_far.bounded j)))
 
 pub loop-k-preserved : goal.loop-k-preserved
 unfolding nothing
@@ -55,17 +58,25 @@ loop-k-preserved c =
     let new = c.add_value.new.summaries in
     let reached = c.in_ok-climb_once.ensures.reached in
     let fits : SFits w64 (get_or c.args.facts.now c.loop-k.k nothing).value = search rules in
-    let more : map fact_of (take (k + 1) fs) ≡ map fact_of (take k fs) ++ fact_of f ∷ [] = ap (map fact_of) (take_more fs k nothing c.loop-k-test.true) ∙ map-append fact_of (take k fs) (f ∷ []) in
+    let more : map fact_of (take (k + 1) fs) ≡ map fact_of (take k fs) ++ fact_of f ∷ [] =
+    ap (map fact_of) (take_more fs k nothing c.loop-k-test.true) ∙ map-append fact_of (take k fs) (f ∷ []) in
     let added : IsAdded i c.args.c.0 (places_of list) f.value old new =
     subst (λ (l : List MemberId). IsAdded i c.args.c.0 (places_of l) f.value old new) c.deref.ensures.value
-    (subst (λ (s : List (Option Summary)). IsAdded i c.args.c.0 (places_of c.deref.result.now) f.value s new) c.deref_mut.ensures.value
-    (subst (λ (v : ℤ). IsAdded i c.args.c.0 (places_of c.deref.result.now) v c.deref_mut.result.now new) (to_z-of_z w64 f.value fits) c.add_value.ensures)) in
-    let kept : take c.loop-k.summaries.len (new ++ drop (length new) old) ≡ new = written_back c.loop-k.summaries.len new old added.same_length (let o = c.loop-k.summaries.ok in omega arith) in
+    (subst (λ (s : List (Option Summary)). IsAdded i c.args.c.0 (places_of c.deref.result.now) f.value s new)
+    c.deref_mut.ensures.value
+    (subst (λ (v : ℤ). IsAdded i c.args.c.0 (places_of c.deref.result.now) v c.deref_mut.result.now new)
+    (to_z-of_z w64 f.value fits) c.add_value.ensures)) in
+    let kept : take c.loop-k.summaries.len (new ++ drop (length new) old) ≡ new =
+    written_back c.loop-k.summaries.len new old added.same_length (let o = c.loop-k.summaries.ok in omega arith) in
     record {
-      so_far = subst (λ (gs : List Fact). AreSummaries i c.args.c.0 gs (take c.loop-k.summaries.len (new ++ drop (length new) old))) (sym more)
-          (subst (λ (l : List (Option Summary)). AreSummaries i c.args.c.0 (map fact_of (take k fs) ++ fact_of f ∷ []) l) (sym kept)
-          (summaries_step i c.args.c.0 (map fact_of (take k fs)) (fact_of f) (places_of list) old new fits reached added c.loop-k.invariant.so_far));
+      so_far = subst (λ (gs : List Fact). AreSummaries i c.args.c.0 gs
+          (take c.loop-k.summaries.len (new ++ drop (length new) old))) (sym more)
+          (subst (λ (l : List (Option Summary)). AreSummaries i c.args.c.0
+          (map fact_of (take k fs) ++ fact_of f ∷ []) l) (sym kept)
+          (summaries_step i c.args.c.0 (map fact_of (take k fs)) (fact_of f)
+          (places_of list) old new fits reached added c.loop-k.invariant.so_far));
       room = c.in_ok-climb_once.ensures.room;
       stamped = c.in_ok-climb_once.ensures.stamps;
-      listed = subst (λ (o : Option MemberId). IfSome o (λ m. ListsReached i m.0 (places_of list))) (sym c.in_ok-climb_once.ensures.last) reached;
+      listed = subst (λ (o : Option MemberId). IfSome o (λ m. ListsReached i m.0 (places_of list)))
+          (sym c.in_ok-climb_once.ensures.last) reached;
     }

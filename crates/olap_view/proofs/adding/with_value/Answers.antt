@@ -17,7 +17,10 @@ returns-in-Some c =
     let vf = c.ranges.value in
     let mf : SFits w64 c.min.result = search rules in
     let xf : SFits w64 c.max.result = search rules in
-    let s : to_z w128 (of_z w128 (to_z w128 (of_z w128 c.in-Some.s.sum) +ℤ to_z w128 (of_z w128 c.from-in-Some.result))) ≡ c.in-Some.s.sum +ℤ c.args.value = omega (arith, ints) in
-    let a : to_z w64 (of_z w64 c.min.result) ≡ int_min c.in-Some.s.least c.args.value = to_z-of_z w64 c.min.result mf ∙ c.min.ensures.value ∙ same int_min c.in-Some.s.least c.args.value lf vf in
-    let b : to_z w64 (of_z w64 c.max.result) ≡ int_max c.in-Some.s.greatest c.args.value = to_z-of_z w64 c.max.result xf ∙ c.max.ensures.value ∙ same int_max c.in-Some.s.greatest c.args.value gf vf in
+    let s : to_z w128 (of_z w128 (to_z w128 (of_z w128 c.in-Some.s.sum) +ℤ to_z w128 (of_z w128 c.from-in-Some.result)))
+    ≡ c.in-Some.s.sum +ℤ c.args.value = omega (arith, ints) in
+    let a : to_z w64 (of_z w64 c.min.result) ≡ int_min c.in-Some.s.least c.args.value = to_z-of_z w64 c.min.result mf
+    ∙ c.min.ensures.value ∙ same int_min c.in-Some.s.least c.args.value lf vf in
+    let b : to_z w64 (of_z w64 c.max.result) ≡ int_max c.in-Some.s.greatest c.args.value = to_z-of_z w64 c.max.result xf
+    ∙ c.max.ensures.value ∙ same int_max c.in-Some.s.greatest c.args.value gf vf in
     rw (c.in-Some.is, s, a, b)

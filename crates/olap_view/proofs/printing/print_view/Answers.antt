@@ -7,4 +7,5 @@ use Rattle.olap_view.proofs.printing.print_view.Goals as goal
 
 pub returns-clause-reads : goal.returns-clause-reads
 returns-clause-reads c = IfOk-weaker c.from_bytes.result _ _
-    (λ t e. ap records_of (e ∙ c.deref.ensures.value ∙ c.in_ok-bytes.ensures) ∙ view-reads c.args.instance.now (view_of c.args.view.now)) c.from_bytes.ensures
+    (λ t e. ap records_of (e ∙ c.deref.ensures.value ∙ c.in_ok-bytes.ensures)
+    ∙ view-reads c.args.instance.now (view_of c.args.view.now)) c.from_bytes.ensures
