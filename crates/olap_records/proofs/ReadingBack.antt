@@ -34,6 +34,10 @@ unmarked (c ∷ []) e = refl
 unmarked (c ∷ a ∷ []) e = refl
 unmarked (c ∷ a ∷ b ∷ rest) e = rw e refl
 
+-- the same, of a text that shows its first byte
+pub no-mark : (c : ℕ) (rest : List ℕ) → (c == 239) ≡ false → strip_bom (c ∷ rest) ≡ c ∷ rest
+no-mark c rest e = unmarked (c ∷ rest) e
+
 -- a record that has a field stays as it is
 stays : (rows : List (List (List ℕ))) → All (λ r. 0 < length r) rows → map read_back rows ≡ rows
 stays [] h = refl
