@@ -13,3 +13,6 @@ mod views;
 pub use printing::print_view;
 pub use viewing::direct;
 pub use views::{Row, View};
+
+#[cfg(test)]
+mod tests;
