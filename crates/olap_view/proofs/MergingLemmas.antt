@@ -2,8 +2,8 @@
 --     with_row_total, totals_step    how large totals may grow
 --     rows_none, rows_one, rows_more   the rows that are added
 --     merged_all                     what all of them come to
-use Rattle.std.proofs.Common.{◌≡◌, ℕ, ◌+◌, ◌*◌, ◌^◌, ◌<◌, ◌≤◌, add_assoc, List, [], ◌∷◌, ◌++◌, length, map, Bool, true, false, cond, refl, ap, sym, subst, ◌∙◌, arith, ℤ, pos, neg_ℤ, ◌≤ℤ◌, ◌+ℤ◌, Option, Some, None, IfSome}
-use Rattle.std.specs.Prelude.{Contains, filter, fold, sum_by}
+use Rattle.std.proofs.Common.{◌≡◌, ℕ, ◌+◌, ◌≤◌, add_assoc, List, [], ◌∷◌, ◌++◌, length, map, Bool, true, false, cond, refl, ap, sym, subst, ◌∙◌, arith, ◌+ℤ◌, Option, Some, None, IfSome}
+use Rattle.std.specs.Prelude.{Contains, fold, sum_by}
 use Rattle.std.specs.Int.{int_min, int_max}
 use Rattle.std.proofs.lemmas.Int.{ints}
 use Rattle.std.proofs.lemmas.List.Elements.{filter-append}

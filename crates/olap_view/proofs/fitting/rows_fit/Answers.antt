@@ -1,8 +1,7 @@
-use Rattle.std.proofs.Common.{◌≡◌, ◌<◌, ◌++◌, ◌∷◌, [], ℕ, List, length, get_or, take, true, false, ap, sym, subst, ◌∙◌, arith, pos, refl}
+use Rattle.std.proofs.Common.{◌≡◌, List, get_or, take, sym, subst, pos, refl}
 use Rattle.std.specs.Prelude.{All}
 use Rattle.std.proofs.lemmas.List.{take_all}
 use Rattle.std.proofs.lemmas.List.Elements.{All-push}
-use Rattle.olap_base.specs.Views.{Row}
 use Rattle.olap_view.specs.Seen.{row_of, rows_of}
 use Rattle.olap_view.specs.Stores.{IsStored}
 use Rattle.olap_view.specs.declared.views.Row as told

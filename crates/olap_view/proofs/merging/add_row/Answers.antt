@@ -1,7 +1,7 @@
 use Rattle.std.proofs.Common.{◌≡◌, ◌<◌, ◌++◌, ◌∷◌, [], ℕ, List, length, get_or, take, ap, sym, subst, ◌∙◌, arith, Option, Some, IfSome}
 use Rattle.std.proofs.lemmas.List.{take_all}
 use Rattle.olap_base.specs.declared.ids.MemberId.{MemberId}
-use Rattle.olap_view.specs.Adding.{IsAdded, summary_at}
+use Rattle.olap_view.specs.Adding.{IsAdded}
 use Rattle.olap_view.specs.Climbing.{places_of}
 use Rattle.olap_view.specs.Merging.{IsTotalOf, with_row}
 use Rattle.olap_view.specs.Seen.{row_of}

@@ -1,13 +1,12 @@
-use Rattle.std.proofs.Common.{◌≡◌, ◌<◌, ◌≤◌, ◌+◌, ◌++◌, ◌∷◌, [], ℕ, List, length, get_or, take, ap, sym, subst, ◌∙◌, arith, rules, pos, Option, Some, IfSome}
+use Rattle.std.proofs.Common.{◌≡◌, ◌<◌, ◌≤◌, ◌+◌, ◌∷◌, [], List, length, get_or, take, sym, subst, arith, pos}
 use Rattle.std.proofs.lemmas.List.{take_all}
 use Rattle.olap_base.specs.declared.ids.MemberId.{MemberId}
 use Rattle.olap_base.specs.Views.{Row}
 use Rattle.olap_view.specs.Adding.{IsAdded, summary_at}
 use Rattle.olap_view.specs.Climbing.{places_of}
-use Rattle.olap_view.specs.Merging.{AreRowsAdded, AreTotalsOf, with_row}
+use Rattle.olap_view.specs.Merging.{AreRowsAdded, with_row}
 use Rattle.olap_view.specs.Seen.{row_of, rows_of}
 use Rattle.olap_view.specs.Stores.{IsStored}
-use Rattle.olap_view.specs.declared.adding.Summary.{Summary}
 use Rattle.olap_view.specs.declared.views.Row as told
 use Rattle.olap_view.proofs.ClimbingLemmas.{listed_at}
 use Rattle.olap_view.proofs.MergingLemmas.{rows_more, rows_none, rows_one, totals_more, totals_step}

@@ -1,7 +1,7 @@
-use Rattle.std.proofs.Common.{◌≡◌, ◌<◌, ◌≤◌, ◌+◌, ◌*◌, ◌++◌, ◌∷◌, [], ℕ, List, length, get_or, take, drop, replicate, vec_len, ap, sym, subst, ◌∙◌, arith, rules, pos, Option, Some, None, IfSome, true, false}
+use Rattle.std.proofs.Common.{◌≡◌, ◌<◌, ◌≤◌, ◌+◌, ℕ, List, length, get_or, take, replicate, vec_len, ap, sym, subst, ◌∙◌, arith, rules, Option, None, IfSome}
 use Rattle.std.specs.Prelude.{All}
 use Rattle.std.proofs.lemmas.List.{length-map, length-replicate, take_all}
-use Rattle.olap_base.specs.Views.{Row, View}
+use Rattle.olap_base.specs.Views.{Row}
 use Rattle.olap_view.specs.Adding.{summary_at}
 use Rattle.olap_view.specs.Merging.{AreRowsAdded, IsTotalOf}
 use Rattle.olap_view.specs.Seen.{each_view_of, row_of, rows_of}
@@ -10,7 +10,7 @@ use Rattle.olap_view.specs.declared.adding.Summary.{Summary}
 use Rattle.olap_view.specs.declared.views.Row as row
 use Rattle.olap_view.specs.declared.views.View as told
 use Rattle.olap_view.proofs.AddingLemmas.{none_at, written_back}
-use Rattle.olap_view.proofs.MergingLemmas.{merged_all, rows_more, rows_none, totals_more}
+use Rattle.olap_view.proofs.MergingLemmas.{merged_all, rows_more}
 use Rattle.olap_view.proofs.SeenLemmas.{each_row, each_view}
 use Rattle.olap_view.proofs.StoresLemmas.{rows_chosen, rows_chosen_more, rows_chosen_same}
 use Rattle.olap_view.proofs.merging.merged.Goals as goal

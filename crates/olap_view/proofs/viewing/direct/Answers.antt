@@ -1,4 +1,4 @@
-use Rattle.std.proofs.Common.{◌≡◌, ℕ, List, Option, map, ap, subst, ◌∙◌}
+use Rattle.std.proofs.Common.{◌≡◌, List, Option, map, ap, subst, ◌∙◌}
 use Rattle.std.specs.Prelude.{filter_map}
 use Rattle.olap_base.specs.Views.{Row, direct_row, direct_rows, members_of, values_at}
 use Rattle.olap_facts.specs.Seen.{fact_of, facts_of}

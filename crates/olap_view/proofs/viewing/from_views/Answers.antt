@@ -1,4 +1,4 @@
-use Rattle.std.proofs.Common.{◌≡◌, ℕ, List, Option, map, ap, subst, ◌∙◌}
+use Rattle.std.proofs.Common.{◌≡◌, List, Option, ap, subst, ◌∙◌}
 use Rattle.std.specs.Prelude.{filter_map}
 use Rattle.olap_base.specs.Views.{Row, members_of, merged_row, rows_from_views}
 use Rattle.olap_view.specs.Adding.{row_at, summary_at}
