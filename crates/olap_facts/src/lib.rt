@@ -11,3 +11,6 @@ mod tables;
 pub use kinds::{FactKind, FactRefusal};
 pub use reading::read_facts;
 pub use tables::{Fact, Facts};
+
+#[cfg(test)]
+mod tests;

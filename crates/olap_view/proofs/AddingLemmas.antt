@@ -6,20 +6,22 @@ use Rattle.std.specs.Prelude.{Contains, AllPairs, filter, fold}
 use Rattle.std.specs.Int.{int_min, int_max}
 use mir.Val.{SFits}
 use Rattle.std.proofs.lemmas.Int.{ints}
-use Rattle.std.proofs.lemmas.List.{append-nil, get_or-take, length-replicate, length-set, length-take-le, map-append, take_all}
+use Rattle.std.proofs.lemmas.List.{append-nil, get_or-take, length-map, length-replicate, length-set, length-take-le, map-append, take_all}
 use Rattle.std.proofs.lemmas.List.Elements.{Contains-append_left, Contains-push, Contains-push_cases, filter-append}
 use native.Mathlib.Decide.{ℕ_discrete}
 use Rattle.olap_base.specs.Deciding.{decide_contains, reaches, reaches_is}
 use Rattle.olap_base.specs.Instance.{Instance, IsMemberOf, category_of}
 use Rattle.olap_base.specs.Views.{Fact, Row, direct_row, values_at}
 use Rattle.olap_view.specs.Adding.{AreSummaries, IsAdded, IsBounded, row_at, summary_at, with_value}
-use Rattle.olap_view.specs.Climbing.{ListsReached}
+use Rattle.olap_base.specs.declared.ids.MemberId.{MemberId}
+use Rattle.olap_view.specs.Climbing.{ListsReached, places_of}
 use Rattle.olap_view.specs.declared.adding.Summary.{Summary}
+use Rattle.olap_view.proofs.ClimbingLemmas.{place_at, places_take}
 
 -- ---- one member more
 
 -- a list without repeats doesn't have its k-th item before it
-pub not_before : (xs : List ℕ) (k : ℕ) → AllPairs ◌≢◌ xs → k < length xs → Contains (take k xs) (get_or xs k 0) → ⊥
+not_before : (xs : List ℕ) (k : ℕ) → AllPairs ◌≢◌ xs → k < length xs → Contains (take k xs) (get_or xs k 0) → ⊥
 not_before xs k a h c =
     let size : length (take k xs) ≡ k = length-take-le k xs (omega arith) in
     let before : c.0 < k = omega (arith, c.1) in
@@ -32,9 +34,16 @@ not_before xs k a h c =
     get_or_default-at (y ∷ ys) zero l = refl
     get_or_default-at (y ∷ ys) (suc j) l = get_or_default-at ys j (omega arith)
 
-module _ (i : Instance) (c p : ℕ) (qs : List ℕ) (v : ℤ) (before after : List (Option Summary))
-    (a : IsAdded i c qs v before after) where
-  pub added_skip : category_of i p ≢ c → IsAdded i c (qs ++ p ∷ []) v before after
+-- the members before the k-th don't have it among them
+pub fresh : (ms : List MemberId) (k : ℕ) (d : MemberId) → k < length ms → AllPairs ◌≢◌ (places_of ms)
+    → Contains (places_of (take k ms)) (get_or ms k d).0 → ⊥
+fresh ms k d h a n = not_before (places_of ms) k a (simp length-map h)
+    (subst (λ (l : List ℕ). Contains l (get_or (places_of ms) k 0)) (places_take ms k)
+    (subst (λ y. Contains (places_of (take k ms)) y) (sym (place_at ms k d h)) n))
+
+module _ (i : Instance) (c p : ℕ) (qs : List ℕ) (g : Option Summary → Summary) (before after : List (Option Summary))
+    (a : IsAdded i c qs g before after) where
+  pub added_skip : category_of i p ≢ c → IsAdded i c (qs ++ p ∷ []) g before after
   added_skip n = record {
     same_length = a.same_length;
     added = λ y k e. elim (Contains-push_cases qs p y k)
@@ -43,11 +52,11 @@ module _ (i : Instance) (c p : ℕ) (qs : List ℕ) (v : ℤ) (before after : Li
   }
 
   pub added_set : (Contains qs p → ⊥) → p < length after → category_of i p ≡ c → (s : Option Summary)
-      → s ≡ Some (with_value (summary_at after p) v) → IsAdded i c (qs ++ p ∷ []) v before (set after p s)
+      → s ≡ Some (g (summary_at after p)) → IsAdded i c (qs ++ p ∷ []) g before (set after p s)
   added_set new h e s is = record {
     same_length = length-set after p s ∙ a.same_length;
     added = λ y k f. elim (ℕ_discrete y p) [
-      | yes q ↦ subst (λ z. summary_at (set after p s) z ≡ Some (with_value (summary_at before z) v)) (sym q) at_p
+      | yes q ↦ subst (λ z. summary_at (set after p s) z ≡ Some (g (summary_at before z))) (sym q) at_p
       | no n ↦ let ne : y ≢ p = n in elim (Contains-push_cases qs p y k)
           [ inl b ↦ rw get_or-set_other (a.added y b f) | inr q ↦ absurd (n (sym q)) ]
     ];
@@ -62,8 +71,8 @@ module _ (i : Instance) (c p : ℕ) (qs : List ℕ) (v : ℤ) (before after : Li
       untouched : summary_at after p ≡ summary_at before p
       untouched = a.others p (λ b g. new b)
 
-      at_p : summary_at (set after p s) p ≡ Some (with_value (summary_at before p) v)
-      at_p = rw get_or-set_same (is ∙ ap (λ o. Some (with_value o v)) untouched)
+      at_p : summary_at (set after p s) p ≡ Some (g (summary_at before p))
+      at_p = rw get_or-set_same (is ∙ ap (λ o. Some (g o)) untouched)
 
 -- ---- one value more
 
@@ -141,6 +150,11 @@ values_push i fs f y = ap (map (λ (g : Fact). g.value)) (filter-append (λ g. r
     last true = refl
     last false = refl
 
+pub none_at : (n y : ℕ) → summary_at (replicate n None) y ≡ None
+none_at zero y = refl
+none_at (suc n) zero = refl
+none_at (suc n) (suc y) = none_at n y
+
 pub summaries_start : (i : Instance) (c n : ℕ) (summaries : List (Option Summary)) → summaries ≡ replicate n None
     → n ≡ length i → AreSummaries i c [] summaries
 summaries_start i c n summaries e l = record {
@@ -149,16 +163,11 @@ summaries_start i c n summaries e l = record {
   bounded = λ y. subst (IsWithin 0) (sym (none y)) tt;
 }
   where
-    none_at : (n y : ℕ) → summary_at (replicate n None) y ≡ None
-    none_at zero y = refl
-    none_at (suc n) zero = refl
-    none_at (suc n) (suc y) = none_at n y
-
     none : (y : ℕ) → summary_at summaries y ≡ None
     none y = ap (λ xs. summary_at xs y) e ∙ none_at n y
 
 module _ (i : Instance) (c : ℕ) (fs : List Fact) (f : Fact) (list : List ℕ) (before after : List (Option Summary)) where
-  pub summaries_step : SFits w64 f.value → ListsReached i f.member list → IsAdded i c list f.value before after
+  pub summaries_step : SFits w64 f.value → ListsReached i f.member list → IsAdded i c list (λ o. with_value o f.value) before after
       → AreSummaries i c fs before → AreSummaries i c (fs ++ f ∷ []) after
   summaries_step fits r a s = record {
     same_length = a.same_length ∙ s.same_length;

@@ -6,7 +6,10 @@ use Rattle.std.proofs.lemmas.Bool.Decides.{nat_tests}
 use Rattle.std.proofs.lemmas.List.{append-nil}
 use Rattle.std.proofs.lemmas.List.Elements.{filter-append, filter_map-append}
 use Rattle.olap_base.specs.Deciding.{contains_cons}
-use Rattle.olap_base.proofs.ListLemmas.{contains_head}
+use Rattle.olap_base.specs.Instance.{Instance, IsMemberOf, category_of}
+use Rattle.olap_base.specs.Views.{Row, members_of}
+use Rattle.olap_base.proofs.ListLemmas.{Contains-from_filter, Contains-from_range, contains_head}
+use Rattle.olap_base.proofs.ViewLemmas.{eqb_is}
 
 range_more : (a n : ℕ) → range_with_len a (suc n) ≡ range_with_len a n ++ (a + n) ∷ []
 range_more a zero = let e : a ≡ a + 0 = omega arith in ap (λ k. k ∷ []) e
@@ -37,7 +40,7 @@ list_step {A} h p y b o xs e t q =
     go true None t q = rw (t, ← q) (sym (append-nil xs))
     go true (Some x) t q = rw (t, ← q) refl
 
-pub filter_map_same : {A B : Type 0} (h k : A → Option B) (xs : List A) → ((x : A) → Contains xs x → h x ≡ k x)
+filter_map_same : {A B : Type 0} (h k : A → Option B) (xs : List A) → ((x : A) → Contains xs x → h x ≡ k x)
     → filter_map h xs ≡ filter_map k xs
 filter_map_same h k [] f = refl
 filter_map_same h k (x ∷ xs) f = ap (λ o. cons_option o (filter_map h xs)) (f x (contains_head x xs))
@@ -52,3 +55,14 @@ fails a b c e f = grind (arith, nat_tests)
 pub none_of : {A : Type 0} (o : Option A) → ((x : A) → o ≡ Some x → ⊥) → o ≡ None
 none_of None f = refl
 none_of (Some x) f = absurd (f x refl)
+
+-- ---- the members of a category
+
+member_is : (i : Instance) (c y : ℕ) → Contains (members_of i c) y → IsMemberOf i c y
+member_is i c y k = let t = Contains-from_filter (λ z. category_of i z == c) (range_with_len 0 _) y k in
+    (Contains-from_range _ y t.0, eqb_is (category_of i y) c t.1)
+
+-- two functions that agree at each member of c
+pub rows_same : (i : Instance) (c : ℕ) (h k : ℕ → Option Row) → ((y : ℕ) → IsMemberOf i c y → h y ≡ k y)
+    → filter_map h (members_of i c) ≡ filter_map k (members_of i c)
+rows_same i c h k f = filter_map_same h k (members_of i c) (λ y m. f y (member_is i c y m))

@@ -1,7 +1,7 @@
 -- Adding up the values of facts at members.
 --     with_value     a summary with one value more
 --     row_at         the row of a member with a summary
---     IsAdded        what adding one value leaves
+--     IsAdded        what adding at the members of a list leaves
 --     AreSummaries   what adding all values leaves
 use Rattle.std.specs.Prelude.{◌≡◌, ℕ, ◌+◌, ◌*◌, ◌^◌, ◌≤◌, List, length, slice_index_or, ℤ, pos, neg_ℤ, ◌≤ℤ◌, ◌+ℤ◌, Option, Some, None, IfSome, Contains}
 use Rattle.std.specs.Int.{int_min, int_max}
@@ -32,12 +32,12 @@ row_at y (Some s) = Some (record { member = y; count = s.count; sum = s.sum; lea
 abbrev pub summary_at : List (Option Summary) → ℕ → Option Summary
 summary_at summaries y = slice_index_or summaries y None
 
--- the value is added at each member of the list that is of category c, and nowhere else
-pub record IsAdded (i : Instance) (c : ℕ) (list : List ℕ) (value : ℤ)
+-- at each member of the list that is of category c stands what adding makes of its summary, and nowhere else
+pub record IsAdded (i : Instance) (c : ℕ) (list : List ℕ) (adding : Option Summary → Summary)
     (before after : List (Option Summary)) : Type 0 where
   pub same_length : length after ≡ length before
   pub added : (y : ℕ) → Contains list y → category_of i y ≡ c
-      → summary_at after y ≡ Some (with_value (summary_at before y) value)
+      → summary_at after y ≡ Some (adding (summary_at before y))
   pub others : (y : ℕ) → (Contains list y → category_of i y ≡ c → ⊥) → summary_at after y ≡ summary_at before y
 
 -- at each member of c stands what its facts' values come to

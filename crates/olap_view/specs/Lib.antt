@@ -3,3 +3,5 @@ pub mod Seen
 pub mod Climbing
 pub mod Adding
 pub mod ViewText
+pub mod Merging
+pub mod Stores

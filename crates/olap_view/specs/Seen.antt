@@ -1,11 +1,13 @@
--- The view of the definitions that a `View` stands for.
---     row_of    a row
---     rows_of   rows in order
---     view_of   a view
+-- The views of the definitions that a `View` and a `Store` stand for.
+--     row_of     a row
+--     rows_of    rows in order
+--     view_of    a view
+--     views_of   the views of a store, in order
 use Rattle.std.specs.Prelude.{List, map}
 use Rattle.olap_base.specs.Views.{Row, View}
 use Rattle.olap_view.specs.declared.views.Row as told_row
 use Rattle.olap_view.specs.declared.views.View as told_view
+use Rattle.olap_view.specs.declared.views.Store.{Store}
 
 -- the row that a struct stands for
 abbrev pub row_of : told_row.Row → Row
@@ -18,3 +20,11 @@ rows_of rows = map row_of rows
 -- the view that a struct stands for
 abbrev pub view_of : told_view.View → View
 view_of v = record { category = v.category.0; rows = rows_of v.rows }
+
+-- the views that structs stand for
+abbrev pub each_view_of : List told_view.View → List View
+each_view_of views = map view_of views
+
+-- the views of a store
+abbrev pub views_of : Store → List View
+views_of store = each_view_of store.views

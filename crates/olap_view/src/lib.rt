@@ -6,10 +6,15 @@
 
 mod adding;
 mod climbing;
+mod fitting;
+mod merging;
 mod printing;
 mod viewing;
 mod views;
 
 pub use printing::print_view;
-pub use viewing::direct;
-pub use views::{Row, View};
+pub use viewing::{direct, from_views};
+pub use views::{Row, Store, View};
+
+#[cfg(test)]
+mod tests;

@@ -1,13 +1,15 @@
-// The direct view of a category.
-ghost use Rattle.std.specs.Prelude.{◌≡◌, ◌<◌, ◌≤◌, ℕ, All, IfOk, IfSome, filter_map, length};
+// The view of a category, from facts or from stored views.
+ghost use Rattle.std.specs.Prelude.{◌≡◌, ◌<◌, ◌≤◌, ◌^◌, ℕ, All, IfOk, IfSome, filter_map, length};
 ghost use Rattle.std.specs.Option.{option_map};
-ghost use Rattle.olap_base.specs.Views.{direct_view, members_of};
+ghost use Rattle.olap_base.specs.Views.{direct_view, members_of, rows_from_views};
 ghost use Rattle.olap_facts.specs.Seen.{facts_of};
 ghost use Rattle.olap_view.specs.Adding.{row_at, summary_at};
-ghost use Rattle.olap_view.specs.Seen.{row_of, rows_of, view_of};
+ghost use Rattle.olap_view.specs.Seen.{row_of, rows_of, view_of, views_of};
+ghost use Rattle.olap_view.specs.Stores.{Fits, IsStore, chosen};
 
 use crate::adding::{Summary, summaries};
-use crate::{Row, View};
+use crate::merging::merged;
+use crate::{Row, Store, View};
 use olap_base::{CatId, List, MemberId, Memory};
 use olap_facts::Facts;
 use olap_instance::Instance;
@@ -67,6 +69,36 @@ pub fn direct(alloc: Global, instance: &Instance, facts: &Facts, c: CatId) -> Re
     ensures members { IfOk result (λ v. All (λ r. r.member.0 < length instance.now) v.rows) }
 {
     let summaries = summaries(alloc, instance, facts.rows.items(), c)?;
+    let rows = rows(alloc, instance, &summaries, c)?;
+    Ok(View {
+        category: c,
+        rows: List::from_vec(rows),
+    })
+}
+
+/// The view of c from stored views: a row for each member of c that the member of some row of the views
+/// whose bits are in the mask reaches, in file order, with the counts and the sums of those rows added, the
+/// least of their leasts and the greatest of their greatests. The i-th view's bit is the i-th. The instance
+/// may be any, a cyclic one too.
+///
+/// It takes memory for one summary a member, and time in proportion to the members and, for each row, to
+/// what its member reaches. `Memory`: want of memory.
+pub fn from_views(
+    alloc: Global,
+    instance: &Instance,
+    store: &Store,
+    mask: u16,
+    c: CatId,
+) -> Result<View, Memory>
+    requires store { IsStore (views_of store.now) }
+    requires fit { All Fits (views_of store.now) }
+    requires at_members { All (λ v. All (λ r. r.member < length instance.now) v.rows) (views_of store.now) }
+    requires bits { mask < 2 ^ length store.now.views }
+
+    ensures view { IfOk result (λ v. view_of v ≡ record { category = c.0; rows = rows_from_views instance.now c.0 (chosen (views_of store.now) mask) }) }
+    ensures members { IfOk result (λ v. All (λ r. r.member.0 < length instance.now) v.rows) }
+{
+    let summaries = merged(alloc, instance, store.views.items(), mask, c)?;
     let rows = rows(alloc, instance, &summaries, c)?;
     Ok(View {
         category: c,

@@ -1,4 +1,4 @@
-// Views and their rows.
+// Views, their rows, and stores of views.
 use olap_base::{CatId, List, MemberId};
 
 /// A member with what the values of the facts below it come to.
@@ -23,4 +23,11 @@ pub struct View {
     pub category: CatId,
     /// The rows.
     pub rows: List<Row>,
+}
+
+/// Views that are stored: at most eight, of different categories.
+#[derive(Debug, Drop)]
+pub struct Store {
+    /// The views.
+    pub views: List<View>,
 }

@@ -6,7 +6,7 @@ use Rattle.olap_base.specs.Views.{Fact}
 use Rattle.olap_base.specs.declared.ids.MemberId.{MemberId}
 use Rattle.olap_facts.specs.Seen.{fact_of}
 use Rattle.olap_facts.specs.declared.tables.Fact as told
-use Rattle.olap_view.specs.Adding.{AreSummaries, IsAdded, IsBounded}
+use Rattle.olap_view.specs.Adding.{AreSummaries, IsAdded, IsBounded, with_value}
 use Rattle.olap_view.specs.Climbing.{ListsReached, places_of}
 use Rattle.olap_view.specs.declared.adding.Summary.{Summary}
 use Rattle.olap_view.proofs.AddingLemmas.{IsWithin, summaries_step, written_back}
@@ -60,11 +60,11 @@ loop-k-preserved c =
     let fits : SFits w64 (get_or c.args.facts.now c.loop-k.k nothing).value = search rules in
     let more : map fact_of (take (k + 1) fs) ≡ map fact_of (take k fs) ++ fact_of f ∷ [] =
     ap (map fact_of) (take_more fs k nothing c.loop-k-test.true) ∙ map-append fact_of (take k fs) (f ∷ []) in
-    let added : IsAdded i c.args.c.0 (places_of list) f.value old new =
-    subst (λ (l : List MemberId). IsAdded i c.args.c.0 (places_of l) f.value old new) c.deref.ensures.value
-    (subst (λ (s : List (Option Summary)). IsAdded i c.args.c.0 (places_of c.deref.result.now) f.value s new)
+    let added : IsAdded i c.args.c.0 (places_of list) (λ o. with_value o f.value) old new =
+    subst (λ (l : List MemberId). IsAdded i c.args.c.0 (places_of l) (λ o. with_value o f.value) old new) c.deref.ensures.value
+    (subst (λ (s : List (Option Summary)). IsAdded i c.args.c.0 (places_of c.deref.result.now) (λ o. with_value o f.value) s new)
     c.deref_mut.ensures.value
-    (subst (λ (v : ℤ). IsAdded i c.args.c.0 (places_of c.deref.result.now) v c.deref_mut.result.now new)
+    (subst (λ (v : ℤ). IsAdded i c.args.c.0 (places_of c.deref.result.now) (λ o. with_value o v) c.deref_mut.result.now new)
     (to_z-of_z w64 f.value fits) c.add_value.ensures)) in
     let kept : take c.loop-k.summaries.len (new ++ drop (length new) old) ≡ new =
     written_back c.loop-k.summaries.len new old added.same_length (let o = c.loop-k.summaries.ok in omega arith) in

@@ -1,0 +1,55 @@
+-- The views that a mask chooses, view by view.
+use Rattle.std.proofs.Common.{◌≡◌, ℕ, ◌+◌, ◌<◌, List, [], ◌∷◌, ◌++◌, length, get_or, take, Bool, true, false, cond, ap, sym, ◌∙◌, arith}
+use Rattle.std.specs.Prelude.{◌==◌, flat_map}
+use Rattle.std.specs.Int.{bit_at}
+use Rattle.std.proofs.lemmas.List.{append-nil, flat_map_more, length-map, length-take-le, map-append, take_more}
+use Rattle.olap_base.specs.Views.{Row, View}
+use Rattle.olap_view.specs.Seen.{each_view_of, rows_of, view_of}
+use Rattle.olap_view.specs.Stores.{chosen, chosen_from}
+use Rattle.olap_view.specs.declared.views.View as told
+
+chosen_more : (k : ℕ) (views : List View) (v : View) (mask : ℕ) → chosen_from k (views ++ v ∷ []) mask
+    ≡ chosen_from k views mask ++ cond (bit_at mask (k + length views) == 1) (v ∷ []) []
+chosen_more k [] v mask = let e : k ≡ k + 0 = omega arith in ap (λ n. cond (bit_at mask n == 1) (v ∷ []) []) e
+chosen_more k (x ∷ views) v mask =
+    let e : (k + 1) + length views ≡ k + length (x ∷ views) = omega arith in
+    go (bit_at mask k == 1) (chosen_from (k + 1) (views ++ v ∷ []) mask) (chosen_from (k + 1) views mask)
+    (cond (bit_at mask (k + length (x ∷ views)) == 1) (v ∷ []) [])
+    (chosen_more (k + 1) views v mask
+    ∙ ap (λ n. chosen_from (k + 1) views mask ++ cond (bit_at mask n == 1) (v ∷ []) []) e)
+  where
+    go : (b : Bool) (more before last : List View) → more ≡ before ++ last
+        → cond b (x ∷ more) more ≡ cond b (x ∷ before) before ++ last
+    go true more before last e = ap (λ l. x ∷ l) e
+    go false more before last e = e
+
+-- the rows of chosen views
+abbrev pub rows_chosen : List View → ℕ → List Row
+rows_chosen views mask = flat_map (λ v. v.rows) (chosen views mask)
+
+module _ (views : List told.View) (k : ℕ) (v : told.View) (mask : ℕ) (h : k < length views) (e : v ≡ get_or views k v) where
+  last_is : (b : Bool) → (bit_at mask k == 1) ≡ b → chosen (each_view_of (take (k + 1) views)) mask
+      ≡ chosen (each_view_of (take k views)) mask ++ cond b (view_of v ∷ []) []
+  last_is b t =
+      let place : 0 + length (each_view_of (take k views)) ≡ k =
+      let t = length-take-le {A = told.View} k views (omega arith) in
+      let l = length-map (take k views) view_of in
+      omega arith in
+      ap (λ l. chosen (each_view_of l) mask) (take_more views k v h)
+      ∙ ap (λ l. chosen l mask) (map-append view_of (take k views) (get_or views k v ∷ []))
+      ∙ ap (λ w. chosen (each_view_of (take k views) ++ view_of w ∷ []) mask) (sym e)
+      ∙ chosen_more 0 (each_view_of (take k views)) (view_of v) mask
+      ∙ ap (λ n. chosen (each_view_of (take k views)) mask ++ cond (bit_at mask n == 1) (view_of v ∷ []) []) place
+      ∙ ap (λ t. chosen (each_view_of (take k views)) mask ++ cond t (view_of v ∷ []) []) t
+
+  -- the k-th view's bit is in the mask
+  pub rows_chosen_more : (bit_at mask k == 1) ≡ true → rows_chosen (each_view_of (take (k + 1) views)) mask
+      ≡ rows_chosen (each_view_of (take k views)) mask ++ rows_of v.rows
+  rows_chosen_more t = ap (flat_map (λ (w : View). w.rows)) (last_is true t)
+      ∙ sym (flat_map_more (λ (w : View). w.rows) [] (chosen (each_view_of (take k views)) mask) (view_of v))
+
+  -- it isn't
+  pub rows_chosen_same : (bit_at mask k == 1) ≡ false → rows_chosen (each_view_of (take (k + 1) views)) mask
+      ≡ rows_chosen (each_view_of (take k views)) mask
+  rows_chosen_same t = ap (flat_map (λ (w : View). w.rows))
+      (last_is false t ∙ append-nil (chosen (each_view_of (take k views)) mask))

@@ -1,0 +1,8 @@
+use Rattle.std.proofs.Common.{take}
+use Rattle.std.specs.Prelude.{All}
+use Rattle.olap_view.specs.Seen.{rows_of}
+use Rattle.olap_view.specs.Stores.{IsStored}
+use Rattle.olap_view.proofs.fitting.rows_fit.Given as goal
+
+abbrev pub invariant-loop-row : goal.invariant-loop-row
+invariant-loop-row l = All IsStored (rows_of (take l.row-index l.rows))

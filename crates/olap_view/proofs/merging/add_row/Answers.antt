@@ -1,0 +1,58 @@
+use Rattle.std.proofs.Common.{◌≡◌, ◌<◌, ◌++◌, ◌∷◌, [], ℕ, List, length, get_or, take, ap, sym, subst, ◌∙◌, arith, Option, Some, IfSome}
+use Rattle.std.proofs.lemmas.List.{take_all}
+use Rattle.olap_base.specs.declared.ids.MemberId.{MemberId}
+use Rattle.olap_view.specs.Adding.{IsAdded}
+use Rattle.olap_view.specs.Climbing.{places_of}
+use Rattle.olap_view.specs.Merging.{IsTotalOf, with_row}
+use Rattle.olap_view.specs.Seen.{row_of}
+use Rattle.olap_view.specs.declared.adding.Summary.{Summary}
+use Rattle.olap_view.proofs.AddingLemmas.{added_set, added_skip, fresh}
+use Rattle.olap_view.proofs.ClimbingLemmas.{places_more}
+use Rattle.olap_view.proofs.merging.add_row.Goals as goal
+use Rattle.olap_view.proofs.merging.add_row.Goals.{then-category-c, else-category-c}
+
+nobody : MemberId
+nobody = record { 0 = 0 }
+
+pub with_row-requires-clause-totals : goal.with_row-requires-clause-totals
+unfolding nobody
+with_row-requires-clause-totals c =
+    let ms = c.args.members.now in
+    let k = c.loop-m.m-index in
+    let p = (get_or ms k nobody).0 in
+    let same = c.loop-m.invariant.others p (λ b e. fresh ms k nobody c.loop-m-test.true c.requires.differ b) in
+    subst (λ (o : Option Summary). IfSome o (IsTotalOf 2097151)) (sym same) (c.requires.totals p)
+
+pub loop-m-preserved : goal.loop-m-preserved
+unfolding nobody
+loop-m-preserved c =
+    let i = c.args.instance.now in
+    let ms = c.args.members.now in
+    let k = c.loop-m.m-index in
+    let p = (get_or ms k nobody).0 in
+    let qs = places_of (take k ms) in
+    let g : Option Summary → Summary = λ o. with_row o (row_of c.args.row) in
+    let before = c.args.summaries.now in
+    let after = c.loop-m.summaries in
+    let a = c.loop-m.invariant in
+    let inside : (get_or c.args.members.now c.loop-m.m-index nobody).0 < length c.loop-m.summaries =
+    let r = c.requires.inside k nobody c.loop-m-test.true in let e = c.requires.room in let s = a.same_length in
+    omega arith in
+    subst (λ (qs : List ℕ). IsAdded i c.args.c.0 qs g before c.if-category-c.summaries)
+    (sym (places_more ms k nobody c.loop-m-test.true))
+    (elim c.if-category-c.branch [
+      | then-category-c w ↦
+          subst (λ (l : List (Option Summary)). IsAdded i c.args.c.0 (qs ++ p ∷ []) g before l) (sym w.summaries-is)
+          (added_set i c.args.c.0 p qs g before after a (fresh ms k nobody c.loop-m-test.true c.requires.differ) inside
+          (sym c.category.ensures ∙ w.if-category-c.true) (Some w.with_row.result) (ap Some w.with_row.ensures))
+      | else-category-c w ↦
+          subst (λ (l : List (Option Summary)). IsAdded i c.args.c.0 (qs ++ p ∷ []) g before l) (sym w.summaries-is)
+          (added_skip i c.args.c.0 p qs g before after a (λ e. w.if-category-c.false (c.category.ensures ∙ e)))
+    ])
+
+pub returns : goal.returns
+returns c =
+    let ms = c.args.members.now in
+    let all : take c.loop-m.m-index ms ≡ ms = take_all c.loop-m.m-index ms c.loop-m-test.false in
+    subst (λ (l : List MemberId). IsAdded c.args.instance.now c.args.c.0 (places_of l)
+    (λ o. with_row o (row_of c.args.row)) c.args.summaries.now c.loop-m.summaries) all c.loop-m.invariant

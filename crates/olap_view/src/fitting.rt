@@ -1,0 +1,41 @@
+// Whether a view may be stored.
+ghost use Rattle.std.specs.Prelude.{◌↔◌, ℕ, All, IsTrue};
+ghost use Rattle.olap_view.specs.Seen.{row_of, rows_of, view_of};
+ghost use Rattle.olap_view.specs.Stores.{Fits, IsStored};
+
+use crate::{Row, View};
+
+/// The greatest count of a stored row.
+const MOST_COUNT: u64 = 4_294_967_295;
+
+/// The greatest magnitude of a stored row's sum: 2^95.
+const MOST_SUM: i128 = 39_614_081_257_132_168_796_771_975_168;
+
+/// Whether a row is within the bounds of stored rows.
+fn row_fits(row: Row) -> bool
+    ensures { IsTrue result ↔ IsStored (row_of row) }
+{
+    1 <= row.count && row.count <= MOST_COUNT && -MOST_SUM <= row.sum && row.sum <= MOST_SUM
+}
+
+/// Whether each row is within those bounds.
+fn rows_fit(rows: &[Row]) -> bool
+    ensures { IsTrue result ↔ All IsStored (rows_of rows.now) }
+{
+    for row in rows {
+        if !row_fits(*row) {
+            return false;
+        }
+    }
+    true
+}
+
+impl View {
+    /// Whether the view may be stored: each row has a count from 1 to 4,294,967,295, and a sum of magnitude
+    /// at most 2^95.
+    pub fn fits(&self) -> bool
+        ensures { IsTrue result ↔ Fits (view_of self.now) }
+    {
+        rows_fit(self.rows.items())
+    }
+}
