@@ -7,10 +7,16 @@
 #![tactic(auto)]
 
 mod building;
+mod graphs;
 mod listing;
 mod naming;
+mod reaching;
 mod refusals;
+mod tables;
+#[cfg(test)]
+mod tests;
 
 pub use building::GraphBuilder;
+pub use graphs::Graph;
 pub use naming::category_name;
 pub use refusals::{CategoryRefusal, EdgeRefusal, GraphRefusal};
