@@ -27,7 +27,8 @@ present_parts n c k e = (grind (arith, nat_tests), λ q. grind (arith, nat_tests
 present_from : (n c k : ℕ) → c < n → k < none → (nat_lt c n && not (nat_eq k none)) ≡ true
 present_from n c k h l = grind (arith, nat_tests)
 
-pub above_shape : (i : Instance) (n x : ℕ) (cells : List ℕ) → IsAbove i n x cells → IsShape i (is_present n cells x) (cell n cells x)
+pub above_shape : (i : Instance) (n x : ℕ) (cells : List ℕ) → IsAbove i n x cells
+    → IsShape i (is_present n cells x) (cell n cells x)
 above_shape i n x cells a = record {
   members = λ c p. let t = present_parts n c (cell n cells x c) p in a.table.own x c a.inside t.0 t.1;
   closed = λ c y p r.
@@ -35,8 +36,11 @@ above_shape i n x cells a = record {
       let m = cell_some i n x c (cell n cells x c) cells a.table a.inside t.0 refl t.1 in
       let all = Steps-append (Steps-from_reaches m.1) (Steps-from_reaches r) in
       let inside = reached_inside i a.bounded.places all a.inside in
-      let e = (a.table.exact x y a.inside inside).1 ((reaches_is i x y).1 (reaches_from_Steps all)) in
-      (present_from n (category_of i y) (cell n cells x (category_of i y)) (a.bounded.categories y inside) (few (cell n cells x (category_of i y)) y e inside), e);
+      let e = (a.table.exact x y a.inside inside).1 ((reaches_is i x y).1 (reaches_from_Steps all)) in (
+        present_from n (category_of i y) (cell n cells x (category_of i y)) (a.bounded.categories y inside)
+            (few (cell n cells x (category_of i y)) y e inside),
+        e,
+      );
 }
   where
     few : (k y : ℕ) → k ≡ y → y < length i → k < none
@@ -46,36 +50,58 @@ pub if_some_map : (o : Option ℕ) (P Q : ℕ → Type 0) → ((y : ℕ) → P y
 if_some_map None P Q f p = p
 if_some_map (Some y) P Q f p = f y p
 
-pub member_is : (i : Instance) (n x c : ℕ) (cells : List ℕ) → IsAbove i n x cells → (y : ℕ) → IsMemberOf i c y × Reaches i x y → IsTrue (is_present n cells x c) × (cell n cells x c ≡ y) × (y < length i)
+pub member_is : (i : Instance) (n x c : ℕ) (cells : List ℕ) → IsAbove i n x cells → (y : ℕ)
+    → IsMemberOf i c y × Reaches i x y → IsTrue (is_present n cells x c) × (cell n cells x c ≡ y) × (y < length i)
 member_is i n x c cells a y m =
     let e = (a.table.exact x y a.inside m.0.0).1 ((reaches_is i x y).1 m.1) in
-    let q : cell n cells x c ≡ y = ap (cell n cells x) (sym m.0.1) ∙ e in
-    (present_from n c (cell n cells x c) (subst (λ d. d < n) m.0.1 (a.bounded.categories y m.0.0)) (few (cell n cells x c) y q m.0.0), q, m.0.0)
+    let q : cell n cells x c ≡ y = ap (cell n cells x) (sym m.0.1) ∙ e in (
+      present_from n c (cell n cells x c) (subst (λ d. d < n) m.0.1 (a.bounded.categories y m.0.0))
+          (few (cell n cells x c) y q m.0.0),
+      q,
+      m.0.0,
+    )
   where
     few : (k y : ℕ) → k ≡ y → y < length i → k < none
     few k y e h = let f = a.bounded.few in omega arith
 
-pub present_reaches : (i : Instance) (n x c : ℕ) (cells : List ℕ) → IsAbove i n x cells → IsTrue (is_present n cells x c) → ReachesCategory i x c
+pub present_reaches : (i : Instance) (n x c : ℕ) (cells : List ℕ) → IsAbove i n x cells
+    → IsTrue (is_present n cells x c) → ReachesCategory i x c
 present_reaches i n x c cells a p =
     let t = present_parts n c (cell n cells x c) p in
     let m = cell_some i n x c (cell n cells x c) cells a.table a.inside t.0 refl t.1 in
     (cell n cells x c, m.0, m.1)
 
-pub reach_there : (i : Instance) (n x c d y : ℕ) (cells : List ℕ) (o : Option ℕ) (r : Bool) → IsAbove i n x cells → IsTrue (is_present n cells x c) → cell n cells x c ≡ y
-    → IfSome o (λ a. IsMemberOf i d a × Reaches i y a) → (IsNone o → ReachesCategory i y d → ⊥) → r ≡ is_some o → IsTrue r ↔ ReachesThere i (is_present n cells x) (cell n cells x) c d
+pub reach_there : (i : Instance) (n x c d y : ℕ) (cells : List ℕ) (o : Option ℕ) (r : Bool) → IsAbove i n x cells
+    → IsTrue (is_present n cells x c) → cell n cells x c ≡ y
+    → IfSome o (λ a. IsMemberOf i d a × Reaches i y a) → (IsNone o → ReachesCategory i y d → ⊥) → r ≡ is_some o
+    → IsTrue r ↔ ReachesThere i (is_present n cells x) (cell n cells x) c d
 reach_there i n x c d y cells None r a p e s f q = (
   λ t. absurd (let z : false ≡ true = sym q ∙ t in cc),
-  λ t. absurd (f refl (cell n cells x d, (above_shape i n x cells a).members d t.1, subst (λ w. Reaches i w (cell n cells x d)) e t.2)),
+  λ t. absurd
+      (f refl (
+        cell n cells x d,
+        (above_shape i n x cells a).members d t.1,
+        subst (λ w. Reaches i w (cell n cells x d)) e t.2,
+      )),
 )
 reach_there i n x c d y cells (Some b) r a p e s f q =
     let m = (above_shape i n x cells a).closed c b p (subst (λ w. Reaches i w b) (sym e) s.1) in
     let present : IsTrue (is_present n cells x d) = subst (λ k. IsTrue (is_present n cells x k)) s.0.1 m.0 in
-    let same : cell n cells x d ≡ b = ap (cell n cells x) (sym s.0.1) ∙ m.1 in
-    (λ t. (p, present, subst (λ w. Reaches i (cell n cells x c) w) (sym same) (subst (λ w. Reaches i w b) (sym e) s.1)), λ t. q)
+    let same : cell n cells x d ≡ b = ap (cell n cells x) (sym s.0.1) ∙ m.1 in (
+      λ t. (
+        p,
+        present,
+        subst (λ w. Reaches i (cell n cells x c) w) (sym same)
+            (subst (λ w. Reaches i w b) (sym e) s.1),
+      ),
+      λ t. q,
+    )
 
 -- a member has the place of its own category
-pub own_place : (i : Instance) (n x c : ℕ) (cells : List ℕ) → IsBounded i n → IsTable i n (length i) cells → x < length i → category_of i x ≡ c → IsTrue (is_present n cells x c) × (cell n cells x c ≡ x) × (x < length i)
-own_place i n x c cells made table inside e = member_is i n x c cells (record { inside = inside; bounded = made; table = table }) x ((inside, e), inl refl)
+pub own_place : (i : Instance) (n x c : ℕ) (cells : List ℕ) → IsBounded i n → IsTable i n (length i) cells
+    → x < length i → category_of i x ≡ c → IsTrue (is_present n cells x c) × (cell n cells x c ≡ x) × (x < length i)
+own_place i n x c cells made table inside e =
+    member_is i n x c cells (record { inside = inside; bounded = made; table = table }) x ((inside, e), inl refl)
 
 -- ---- a parent among the ids
 
@@ -91,7 +117,8 @@ below_is i y z ms r e a = (
 )
   where
     decides : Decides r (Contains ms (member z))
-    decides = Decides-contains ms (member z) r (contains_decides (λ (a b : MemberId). eqb a.0 b.0) same_member ms (member z) r a)
+    decides = Decides-contains ms (member z) r
+        (contains_decides (λ (a b : MemberId). eqb a.0 b.0) same_member ms (member z) r a)
 
     from : Contains (places ms) z → Contains ms (member z)
     from c =
@@ -105,8 +132,12 @@ pub edge_there : (i : Instance) (n x c d y z : ℕ) (cells : List ℕ) (ms : Lis
     → places ms ≡ parents_of i y → IsAnyAnswer (λ (m : MemberId) (b : Bool). eqb m.0 z ≡ b) ms r
     → IsTrue r ↔ HasEdgeThere i (is_present n cells x) (cell n cells x) c d
 edge_there i n x c d y z cells ms r p q e a =
-    let t = below_is i y z ms r e a in
-    (
-      λ b. (p.0, q.0, subst (λ v. IsBelow i v (cell n cells x d)) (sym p.1) (subst (λ w. IsBelow i y w) (sym q.1) (t.0 b))),
+    let t = below_is i y z ms r e a in (
+      λ b. (
+        p.0,
+        q.0,
+        subst (λ v. IsBelow i v (cell n cells x d)) (sym p.1)
+            (subst (λ w. IsBelow i y w) (sym q.1) (t.0 b)),
+      ),
       λ h. t.1 (subst (λ v. IsBelow i v z) p.1 (subst (λ w. IsBelow i (cell n cells x c) w) q.1 h.2)),
     )

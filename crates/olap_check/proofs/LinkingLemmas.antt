@@ -13,9 +13,11 @@ use Rattle.olap_base.specs.declared.ids.MemberId.{MemberId}
 use Rattle.olap_check.proofs.ParentLemmas.{IsParentAt, places}
 use Rattle.olap_check.specs.Linking.{IsLinked, IsUnlinked, IsFirstUnlinkedOf, IsLinkedAt, IsOrphan, IsTableOf}
 
-pub linked_is : (edges : List Bool) (n c d k : ℕ) (r : Bool) → k ≡ c * n + d → k < length edges → r ≡ get_or edges k r → IsTrue r ↔ IsLinked edges n c d
+pub linked_is : (edges : List Bool) (n c d k : ℕ) (r : Bool) → k ≡ c * n + d → k < length edges → r ≡ get_or edges k r
+    → IsTrue r ↔ IsLinked edges n c d
 linked_is edges n c d k r e h q =
-    let v : get_or edges (c * n + d) false ≡ r = ap (λ m. get_or edges m false) (sym e) ∙ get_or_default edges k false r h ∙ sym q in
+    let v : get_or edges (c * n + d) false ≡ r =
+    ap (λ m. get_or edges m false) (sym e) ∙ get_or_default edges k false r h ∙ sym q in
     (λ t. v ∙ t, λ t. sym v ∙ t)
 
 -- the parents before place k are linked
@@ -48,13 +50,16 @@ pub linked_at : (i : Instance) (n : ℕ) (edges : List Bool) (x k : ℕ) → len
     → AreLinkedBefore i n edges x k → IsLinkedAt i n edges x
 linked_at i n edges x k h below j l = below j (omega (arith, l))
 
-pub linked_at_more : (i : Instance) (n : ℕ) (edges : List Bool) (x : ℕ) → ((w : ℕ) → w < x → IsLinkedAt i n edges w) → IsLinkedAt i n edges x → (w : ℕ) → w < x + 1 → IsLinkedAt i n edges w
+pub linked_at_more : (i : Instance) (n : ℕ) (edges : List Bool) (x : ℕ) → ((w : ℕ) → w < x → IsLinkedAt i n edges w)
+    → IsLinkedAt i n edges x → (w : ℕ) → w < x + 1 → IsLinkedAt i n edges w
 linked_at_more i n edges x below at = let P : ℕ → Type 0 = λ w. IsLinkedAt i n edges w in below_more P x below at
 
-pub orphan_more : (i : Instance) (x : ℕ) → ((w : ℕ) → w < x → IsOrphan i w → ⊥) → (IsOrphan i x → ⊥) → (w : ℕ) → w < x + 1 → IsOrphan i w → ⊥
+pub orphan_more : (i : Instance) (x : ℕ) → ((w : ℕ) → w < x → IsOrphan i w → ⊥) → (IsOrphan i x → ⊥) → (w : ℕ)
+    → w < x + 1 → IsOrphan i w → ⊥
 orphan_more i x below at = let P : ℕ → Type 0 = λ w. IsOrphan i w → ⊥ in below_more P x below at
 
-pub not_empty : (ms : List MemberId) (qs : List ℕ) (r : Bool) → r ≡ (length ms == 0) → r ≡ false → places ms ≡ qs → qs ≡ [] → ⊥
+pub not_empty : (ms : List MemberId) (qs : List ℕ) (r : Bool) → r ≡ (length ms == 0) → r ≡ false → places ms ≡ qs
+    → qs ≡ [] → ⊥
 not_empty ms qs r e f g h =
     let n : length ms ≡ 0 = sym (length-map ms (λ (m : MemberId). m.0)) ∙ ap length (g ∙ h) in
     let y : false ≡ true = sym f ∙ e ∙ ap (λ k. k == 0) n in cc
@@ -93,7 +98,8 @@ pub table_of : (g : Graph) (n : ℕ) (edges : List Bool) → AreEdgesBefore g n 
 table_of g n edges e = record {
   size = e.count;
   exact = λ c d h l.
-      let inside : c * n + d < n * n = let f : c + 1 ≤ n = omega arith in let m = mul-le-mul_right n f in omega (arith, m) in
+      let inside : c * n + d < n * n = let f : c + 1 ≤ n = omega arith in let m =
+      mul-le-mul_right n f in omega (arith, m) in
       let c_is = div-mul-add c n d l in
       let d_is = mod-mul-add c n d l in
       let t = e.exact (c * n + d) inside in (

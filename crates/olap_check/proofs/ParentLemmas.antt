@@ -32,13 +32,15 @@ parent_at i z ms k e inside h = record {
 }
   where
     room : k < length (parents_of i z)
-    room = let s : length ms ≡ length (parents_of i z) = sym (length-map ms (λ (m : MemberId). m.0)) ∙ ap length e in omega (arith, s)
+    room = let s : length ms ≡ length (parents_of i z) = sym (length-map ms (λ (m : MemberId). m.0)) ∙ ap length e in
+        omega (arith, s)
 
 -- at the end of the list all parents have been read
 pub all_read : (i : Instance) (z k : ℕ) (ms : List MemberId) → places ms ≡ parents_of i z → length ms ≤ k
     → length (parents_of i z) ≤ k
 all_read i z k ms e h =
-    let s : length ms ≡ length (parents_of i z) = sym (length-map ms (λ (m : MemberId). m.0)) ∙ ap length e in omega (arith, s)
+    let s : length ms ≡ length (parents_of i z) = sym (length-map ms (λ (m : MemberId). m.0)) ∙ ap length e in
+    omega (arith, s)
 
 pub take_read : (i : Instance) (z k : ℕ) (ms : List MemberId) → places ms ≡ parents_of i z → length ms ≤ k
     → take k (parents_of i z) ≡ parents_of i z

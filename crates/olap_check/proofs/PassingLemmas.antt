@@ -15,20 +15,32 @@ use Rattle.olap_check.proofs.TableLemmas.{row_is_whole}
 pub far_same : (i : Instance) (z y : ℕ) → IsStratified i → z ≡ y → IsTrue false ↔ IsFarBelow i z y
 far_same i z y s e = (λ t. absurd (cc), λ f. absurd (s z y f (ap (category_of i) e)))
 
-pub far_none : (i : Instance) (z y : ℕ) → y < length i → (ReachesCategory i z (category_of i y) → ⊥) → IsTrue false ↔ IsFarBelow i z y
+pub far_none : (i : Instance) (z y : ℕ) → y < length i → (ReachesCategory i z (category_of i y) → ⊥)
+    → IsTrue false ↔ IsFarBelow i z y
 far_none i z y h n = (λ t. absurd (cc), λ f. absurd (n (y, (h, refl), inr f)))
 
-pub far_some : (i : Instance) (n z y a : ℕ) (cells : List ℕ) → IsBounded i n → IsTable i n (length i) cells → z < length i → z ≢ y
+pub far_some : (i : Instance) (n z y a : ℕ) (cells : List ℕ) → IsBounded i n → IsTable i n (length i) cells
+    → z < length i → z ≢ y
     → IsMemberOf i (category_of i y) a × Reaches i z a → IsTrue (nat_eq a y) ↔ IsFarBelow i z y
 far_some i n z y a cells made t h apart m = (to, from)
   where
     to : IsTrue (nat_eq a y) → IsFarBelow i z y
-    to e = let same : a ≡ y = eqb-true a y e in elim (subst (λ w. Reaches i z w) same m.1) [ inl q ↦ absurd (apart q) | inr f ↦ f ]
+    to e = let same : a ≡ y = eqb-true a y e in
+        elim (subst (λ w. Reaches i z w) same m.1) [ inl q ↦ absurd (apart q) | inr f ↦ f ]
 
     from : IsFarBelow i z y → IsTrue (nat_eq a y)
     from f = elim (ℕ_discrete a y) [
       | yes e ↦ eq-eqb a y e
-      | no d ↦ absurd (row_is_whole i n (length i) cells made t z h h (record { one = a; other = y; reaches_one = m.1; reaches_other = inr f; same_category = m.0.1; apart = d }))
+      | no d ↦
+          absurd (row_is_whole i n (length i) cells made t z h h
+          (record {
+            one = a;
+            other = y;
+            reaches_one = m.1;
+            reaches_other = inr f;
+            same_category = m.0.1;
+            apart = d;
+          }))
     ]
 
 -- ---- the parents in order
@@ -75,7 +87,8 @@ passed_more {i} {x} {k} at below n =
 pub none_at : (i : Instance) (x n : ℕ) → length (parents_of i x) ≤ n → NonePassedBefore i x n → HasNoneAt i x
 none_at i x n h b k l = b k (omega (arith, l))
 
-pub none_more : (i : Instance) (x : ℕ) → ((w : ℕ) → w < x → HasNoneAt i w) → HasNoneAt i x → (w : ℕ) → w < x + 1 → HasNoneAt i w
+pub none_more : (i : Instance) (x : ℕ) → ((w : ℕ) → w < x → HasNoneAt i w) → HasNoneAt i x → (w : ℕ) → w < x + 1
+    → HasNoneAt i w
 none_more i x below at = let P : ℕ → Type 0 = λ w. HasNoneAt i w in below_more P x below at
 
 pub refuted : {P : Type 0} (r : Bool) → r ≡ false → IsTrue r ↔ P → P → ⊥

@@ -31,7 +31,8 @@ from_marked ms k y m = elim (ℕ_discrete y k) [
   | no n ↦ let ne : y ≢ k = n in inl (rw get_or-set_other at m)
 ]
 
-unmarked_set : (ms : List Bool) (k : ℕ) → k < length ms → get_or ms k false ≡ false → suc (unmarked_count (set ms k true)) ≡ unmarked_count ms
+unmarked_set : (ms : List Bool) (k : ℕ) → k < length ms → get_or ms k false ≡ false
+    → suc (unmarked_count (set ms k true)) ≡ unmarked_count ms
 unmarked_set [] k h e = absurd (omega arith)
 unmarked_set (true ∷ ms) zero h e = absurd (cc)
 unmarked_set (false ∷ ms) zero h e = refl
@@ -39,7 +40,8 @@ unmarked_set (true ∷ ms) (suc k) h e = unmarked_set ms k (omega arith) e
 unmarked_set (false ∷ ms) (suc k) h e = ap suc (unmarked_set ms k (omega arith) e)
 
 -- what an index read says of the mark
-pub mark_is : (marks : List Bool) (p : ℕ) (r b : Bool) → p < length marks → r ≡ get_or marks p r → r ≡ b → get_or marks p false ≡ b
+pub mark_is : (marks : List Bool) (p : ℕ) (r b : Bool) → p < length marks → r ≡ get_or marks p r → r ≡ b
+    → get_or marks p false ≡ b
 mark_is marks p r b h e q = get_or_default marks p false r h ∙ sym e ∙ q
 
 pub marking_none : (i : Instance) (c : ℕ) (marks : List Bool) (list : List ℕ) → IsMarking i c [] marks marks list list
@@ -53,19 +55,26 @@ marking_none i c marks list = record {
   fewer = omega arith;
 }
 
-module _ (i : Instance) (c : ℕ) (ps : List ℕ) (k : ℕ) (before marks : List Bool) (old list : List ℕ) (h : k < length ps) (v : IsMarking i c (take k ps) before marks old list) (other : category_of i (get_or ps k 0) ≢ c) where
+module _ (i : Instance) (c : ℕ) (ps : List ℕ) (k : ℕ) (before marks : List Bool) (old list : List ℕ)
+    (h : k < length ps) (v : IsMarking i c (take k ps) before marks old list)
+    (other : category_of i (get_or ps k 0) ≢ c) where
   pub marking_skip : IsMarked marks (get_or ps k 0) → IsMarking i c (take (k + 1) ps) before marks old list
   marking_skip m = record {
     same_length = v.same_length;
     kept = v.kept;
-    done = λ y d. elim (take_cases ps k y h d) [ inl a ↦ v.done y a | inr e ↦ subst (λ z. IsPassed i c marks z) e (other, m) ];
+    done = λ y d. elim (take_cases ps k y h d) [
+      | inl a ↦ v.done y a
+      | inr e ↦
+          subst (λ z. IsPassed i c marks z) e (other, m)
+    ];
     fresh = λ y n. elim (v.fresh y n) [ inl a ↦ inl a | inr a ↦ inr (take_before ps k y h a.0, a.1) ];
     listed = v.listed;
     only = λ y d. elim (v.only y d) [ inl a ↦ inl a | inr a ↦ inr (take_before ps k y h a) ];
     fewer = v.fewer;
   }
 
-  pub marking_push : get_or ps k 0 < length marks → get_or marks (get_or ps k 0) false ≡ false → IsMarking i c (take (k + 1) ps) before (set marks (get_or ps k 0) true) old (list ++ get_or ps k 0 ∷ [])
+  pub marking_push : get_or ps k 0 < length marks → get_or marks (get_or ps k 0) false ≡ false
+      → IsMarking i c (take (k + 1) ps) before (set marks (get_or ps k 0) true) old (list ++ get_or ps k 0 ∷ [])
   marking_push l n =
       let p = get_or ps k 0 in
       record {
@@ -76,8 +85,16 @@ module _ (i : Instance) (c : ℕ) (ps : List ℕ) (k : ℕ) (before marks : List
           | inr e ↦ subst (λ z. IsPassed i c (set marks p true) z) e (other, same_marked marks p l)
         ];
         fresh = λ y m. elim (from_marked marks p y m) [
-          | inl a ↦ elim (v.fresh y a) [ inl b ↦ inl b | inr b ↦ inr (take_before ps k y h b.0, Contains-append_left list (p ∷ []) y b.1) ]
-          | inr e ↦ inr (subst (λ z. Contains (take (k + 1) ps) z) (sym e) (take_last ps k h), subst (λ z. Contains (list ++ p ∷ []) z) (sym e) (Contains-push list p))
+          | inl a ↦ elim (v.fresh y a) [
+            | inl b ↦ inl b
+            | inr b ↦
+                inr (take_before ps k y h b.0, Contains-append_left list (p ∷ []) y b.1)
+          ]
+          | inr e ↦
+              inr (
+                subst (λ z. Contains (take (k + 1) ps) z) (sym e) (take_last ps k h),
+                subst (λ z. Contains (list ++ p ∷ []) z) (sym e) (Contains-push list p),
+              )
         ];
         listed = λ y d. Contains-append_left list (p ∷ []) y (v.listed y d);
         only = λ y d. elim (Contains-push_cases list p y d) [
@@ -130,7 +147,8 @@ parent_hits {i} {z} {k} c at e = record {
 
 module _ (i : Instance) (c x : ℕ) (places : (a b : ℕ) → IsBelow i a b → b < length i) where
   -- the parents of x, over marks that are closed
-  pub search_start : (marks after : List Bool) (old new : List ℕ) → old ≡ [] → IsClosed i c marks → IsMarking i c (parents_of i x) marks after old new → IsSearch i c x after new
+  pub search_start : (marks after : List Bool) (old new : List ℕ) → old ≡ [] → IsClosed i c marks
+      → IsMarking i c (parents_of i x) marks after old new → IsSearch i c x after new
   search_start marks after old new e d v = record {
     same_length = v.same_length ∙ d.same_length;
     parents = v.done;
@@ -144,7 +162,8 @@ module _ (i : Instance) (c x : ℕ) (places : (a b : ℕ) → IsBelow i a b → 
     ];
   }
 
-  pub search_next : (z : ℕ) (marks after : List Bool) (rest new : List ℕ) → IsSearch i c x marks (rest ++ z ∷ []) → IsMarking i c (parents_of i z) marks after rest new → IsSearch i c x after new
+  pub search_next : (z : ℕ) (marks after : List Bool) (rest new : List ℕ) → IsSearch i c x marks (rest ++ z ∷ [])
+      → IsMarking i c (parents_of i z) marks after rest new → IsSearch i c x after new
   search_next z marks after rest new f v =
       let z_listed = f.listed z (Contains-push rest z) in
       record {
@@ -166,27 +185,36 @@ module _ (i : Instance) (c x : ℕ) (places : (a b : ℕ) → IsBelow i a b → 
         ];
       }
 
-  pub search_hits : (z : ℕ) (marks : List Bool) (rest : List ℕ) → IsSearch i c x marks (rest ++ z ∷ []) → Hits i c (parents_of i z) → (y : ℕ) × IsFarBelow i x y × (category_of i y ≡ c)
-  search_hits z marks rest f m = (m.hit, leads_from_Climb (Steps-climb (f.listed z (Contains-push rest z)).1 (climb m.is_parent here)), m.category)
+  pub search_hits : (z : ℕ) (marks : List Bool) (rest : List ℕ) → IsSearch i c x marks (rest ++ z ∷ [])
+      → Hits i c (parents_of i z) → (y : ℕ) × IsFarBelow i x y × (category_of i y ≡ c)
+  search_hits z marks rest f m =
+      (m.hit, leads_from_Climb (Steps-climb (f.listed z (Contains-push rest z)).1 (climb m.is_parent here)), m.category)
 
   pub start_hits : Hits i c (parents_of i x) → (y : ℕ) × IsFarBelow i x y × (category_of i y ≡ c)
   start_hits m = (m.hit, leads_from_Climb (climb m.is_parent here), m.category)
 
-above_marked : (i : Instance) (c : ℕ) (marks : List Bool) → IsClosed i c marks → {a y : ℕ} → Steps (IsBelow i) a y → IsPassed i c marks a → category_of i y ≢ c
+above_marked : (i : Instance) (c : ℕ) (marks : List Bool) → IsClosed i c marks → {a y : ℕ} → Steps (IsBelow i) a y
+    → IsPassed i c marks a → category_of i y ≢ c
 above_marked i c marks d here p = p.0
 above_marked i c marks d (step {x = a} {y = b} r s) p = above_marked i c marks d s (d.closed a p.1 b r)
 
-pub none_above : (i : Instance) (c x : ℕ) (marks : List Bool) → IsClosed i c marks → ((y : ℕ) → IsBelow i x y → IsPassed i c marks y) → HasNoneAbove i c x
+pub none_above : (i : Instance) (c x : ℕ) (marks : List Bool) → IsClosed i c marks
+    → ((y : ℕ) → IsBelow i x y → IsPassed i c marks y) → HasNoneAbove i c x
 none_above i c x marks d ps y l = go (Climb-from_leads l)
   where
     go : Climb (IsBelow i) x y → category_of i y ≢ c
     go (climb {z = b} r s) = above_marked i c marks d s (ps b r)
 
-pub search_done : (i : Instance) (c x : ℕ) (marks : List Bool) → IsSearch i c x marks [] → IsClosed i c marks × HasNoneAbove i c x
+pub search_done : (i : Instance) (c x : ℕ) (marks : List Bool) → IsSearch i c x marks []
+    → IsClosed i c marks × HasNoneAbove i c x
 search_done i c x marks f = (d, none_above i c x marks d f.parents)
   where
     d : IsClosed i c marks
-    d = record { same_length = f.same_length; closed = λ z m. elim (f.closed z m) [ inl k ↦ absurd (Contains-nil z k) | inr k ↦ k ] }
+    d = record {
+      same_length = f.same_length;
+      closed = λ z m. elim
+          (f.closed z m) [ inl k ↦ absurd (Contains-nil z k) | inr k ↦ k ];
+    }
 
 -- ---- before any search
 pub none_marked : (n y : ℕ) → get_or (replicate n false) y false ≡ false
@@ -194,30 +222,48 @@ none_marked zero y = refl
 none_marked (suc n) zero = refl
 none_marked (suc n) (suc y) = none_marked n y
 
-pub closed_start : (i : Instance) (c n : ℕ) (marks : List Bool) → marks ≡ replicate n false → n ≡ length i → IsClosed i c marks
+pub closed_start : (i : Instance) (c n : ℕ) (marks : List Bool) → marks ≡ replicate n false → n ≡ length i
+    → IsClosed i c marks
 closed_start i c n marks e l = record {
   same_length = ap length e ∙ length-replicate n false ∙ l;
-  closed = λ z m. absurd (let f : false ≡ true = sym (none_marked n z) ∙ ap (λ ms. get_or ms z false) (sym e) ∙ m in cc);
+  closed =
+      λ z m. absurd (let f : false ≡ true = sym (none_marked n z) ∙ ap (λ ms. get_or ms z false) (sym e) ∙ m in cc);
 }
 
 -- ---- the members of one category, in order
 
-pub before_more : (i : Instance) (c x : ℕ) → ((w : ℕ) → w < x → category_of i w ≡ c → HasNoneAbove i c w) → (category_of i x ≡ c → HasNoneAbove i c x) → (w : ℕ) → w < x + 1 → category_of i w ≡ c → HasNoneAbove i c w
+pub before_more : (i : Instance) (c x : ℕ) → ((w : ℕ) → w < x → category_of i w ≡ c → HasNoneAbove i c w)
+    → (category_of i x ≡ c → HasNoneAbove i c x) → (w : ℕ) → w < x + 1 → category_of i w ≡ c → HasNoneAbove i c w
 before_more i c x below at w h = elim (ℕ_discrete w x) [
   | yes e ↦ subst (λ v. category_of i v ≡ c → HasNoneAbove i c v) (sym e) at
   | no n ↦ let ne : w ≢ x = n in below w (omega arith)
 ]
 
-pub first_at_limit : (i : Instance) (c limit x : ℕ) → limit ≤ x → ((w : ℕ) → w < x → category_of i w ≡ c → HasNoneAbove i c w) → IsFirstIn i c limit limit
-first_at_limit i c limit x h below = record { within = omega arith; found = λ l. absurd (omega (arith, l)); before = λ w l. below w (omega (arith, l, h)) }
+pub first_at_limit : (i : Instance) (c limit x : ℕ) → limit ≤ x
+    → ((w : ℕ) → w < x → category_of i w ≡ c → HasNoneAbove i c w) → IsFirstIn i c limit limit
+first_at_limit i c limit x h below =
+    record {
+      within = omega arith;
+      found = λ l. absurd (omega (arith, l));
+      before = λ w l. below w
+          (omega (arith, l, h));
+    }
 
-pub first_found : (i : Instance) (c limit x y : ℕ) → x < limit → IsFarBelow i x y → category_of i y ≡ c → category_of i x ≡ c → ((w : ℕ) → w < x → category_of i w ≡ c → HasNoneAbove i c w) → IsFirstIn i c limit x
-first_found i c limit x y h f e q below = record { within = omega arith; found = λ l. (y, f, q ∙ sym e); before = below }
+pub first_found : (i : Instance) (c limit x y : ℕ) → x < limit → IsFarBelow i x y → category_of i y ≡ c
+    → category_of i x ≡ c → ((w : ℕ) → w < x → category_of i w ≡ c → HasNoneAbove i c w) → IsFirstIn i c limit x
+first_found i c limit x y h f e q below =
+    record { within = omega arith; found = λ l. (y, f, q ∙ sym e); before = below }
 
 -- ---- category after category
 
 pub first_start : (i : Instance) (n : ℕ) → n ≡ length i → IsFirstOf i 0 n
-first_start i n e = record { within = omega arith; found = λ l. absurd (omega (arith, l, e)); before = λ w l h. absurd (omega (arith, h)) }
+first_start i n e =
+    record {
+      within = omega arith;
+      found = λ l. absurd (omega (arith, l, e));
+      before = λ w l h. absurd
+          (omega (arith, h));
+    }
 
 pub first_step : (i : Instance) (c first r : ℕ) → IsFirstOf i c first → IsFirstIn i c first r → IsFirstOf i (c + 1) r
 first_step i c first r f s = record {
@@ -232,7 +278,8 @@ first_step i c first r f s = record {
   ];
 }
 
-pub first_none : (i : Instance) (n r c : ℕ) → IsBounded i n → n ≤ c → length i ≤ r → IsFirstOf i c r → (x : ℕ) → Repeats i x → ⊥
+pub first_none : (i : Instance) (n r c : ℕ) → IsBounded i n → n ≤ c → length i ≤ r → IsFirstOf i c r → (x : ℕ)
+    → Repeats i x → ⊥
 first_none i n r c made e h f x p =
     let inside : x < length i = far_is_member i x p.0 p.1 in
     f.before x (omega arith) (let m = made.categories x inside in omega arith) p
@@ -247,5 +294,6 @@ pub first_some : (i : Instance) (n r c : ℕ) → IsBounded i n → n ≤ c → 
 first_some i n r c made e h f = record {
   inside = h;
   repeats = f.found h;
-  before = λ w l p. let inside : w < length i = omega arith in f.before w l (let m = made.categories w inside in omega arith) p;
+  before = λ w l p. let inside : w < length i = omega arith in
+      f.before w l (let m = made.categories w inside in omega arith) p;
 }

@@ -22,7 +22,8 @@ IsIn i row y = slice_index row (category_of i y) ≡ y
 
 -- what stands at a place is a member of that category
 pub record IsRow (i : Instance) (row : List ℕ) : Type 0 where
-  pub own : (d : ℕ) → d < length row → slice_index row d ≢ none → (slice_index row d < length i) × (category_of i (slice_index row d) ≡ d)
+  pub own : (d : ℕ) → d < length row → slice_index row d ≢ none
+      → (slice_index row d < length i) × (category_of i (slice_index row d) ≡ d)
 
 -- exactly the members that x reaches have their places
 pub record IsRise (i : Instance) (n x : ℕ) (row : List ℕ) : Type 0 where

@@ -13,7 +13,8 @@ cell n cells x d = slice_index cells (x * n + d)
 -- the rows of the first k members
 pub record IsTable (i : Instance) (n k : ℕ) (cells : List ℕ) : Type 0 where
   pub size : length cells ≡ k * n
-  pub own : (x d : ℕ) → x < k → d < n → cell n cells x d ≢ none → (cell n cells x d < length i) × (category_of i (cell n cells x d) ≡ d)
+  pub own : (x d : ℕ) → x < k → d < n → cell n cells x d ≢ none
+      → (cell n cells x d < length i) × (category_of i (cell n cells x d) ≡ d)
   pub exact : (x y : ℕ) → x < k → y < length i → (cell n cells x (category_of i y) ≡ y) ↔ (reaches i x y ≡ true)
 
 -- x reaches two members of one category, and no member before it does
@@ -52,7 +53,8 @@ pub record IsClimbing (i : Instance) (n x : ℕ) (marks : List Bool) (list : Lis
 
 -- x is far below two members of c
 abbrev pub SplitsAt : Instance → ℕ → ℕ → Type 0
-SplitsAt i x c = (y z : ℕ) × IsFarBelow i x y × IsFarBelow i x z × (category_of i y ≡ c) × (category_of i z ≡ c) × (y ≢ z)
+SplitsAt i x c = (y z : ℕ) × IsFarBelow i x y × IsFarBelow i x z × (category_of i y ≡ c) × (category_of i z ≡ c)
+    × (y ≢ z)
 
 pub record IsLeastSplit (i : Instance) (x c : ℕ) : Type 0 where
   pub splits : SplitsAt i x c

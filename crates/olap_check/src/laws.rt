@@ -48,7 +48,8 @@ pub(crate) fn lawful(
     requires count { categories ≡ category_count graph.now }
     requires few { categories ≤ 64 }
     requires bounded { IsBounded instance.now categories }
-    ensures table { IfOk result (λ r. IfOk r (λ cells. IsTable instance.now categories (length instance.now) cells.items)) }
+    ensures table { let count = length instance.now in
+        IfOk result (λ r. IfOk r (λ cells. IsTable instance.now categories count cells.items)) }
     ensures lawful { IfOk result (λ r. IfOk r (λ cells. IsLawful graph.now instance.now)) }
     ensures first { IfOk result (λ r. IfErr r (λ v. (constraints : List Constraint)
         → IsFirstReport (record { graph = graph.now; constraints = constraints }) instance.now v)) }

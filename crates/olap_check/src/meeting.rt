@@ -25,7 +25,8 @@ fn first_unmet(
     requires bounded { IsBounded instance.now categories }
     requires table { IsTable instance.now categories (length instance.now) cells.now }
     ensures some { IfSome result (IsFirstUnmet instance.now root.0 (formula_of formula.now)) }
-    ensures none { IsNone result → (x : ℕ) → IsMemberOf instance.now root.0 x → Holds instance.now x (formula_of formula.now) }
+    ensures none { IsNone result → (x : ℕ) → IsMemberOf instance.now root.0 x
+        → Holds instance.now x (formula_of formula.now) }
 {
     'members: for x in 0..instance.members() {
         if instance.category(MemberId(x)).0 == root.0 {
@@ -55,7 +56,8 @@ pub(crate) fn first_violated(
     requires bounded { IsBounded instance.now categories }
     requires table { IsTable instance.now categories (length instance.now) cells.now }
     ensures some { IfSome result (λ s. IsFirstViolated instance.now (map constraint_of constraints.now) s.0 s.1) }
-    ensures none { IsNone result → (c : TheConstraint) → Contains (map constraint_of constraints.now) c → Meets instance.now c }
+    ensures none { IsNone result → (c : TheConstraint) → Contains (map constraint_of constraints.now) c
+        → Meets instance.now c }
 {
     'constraints: for (k, constraint) in constraints.iter().enumerate() {
         let root = constraint.root;

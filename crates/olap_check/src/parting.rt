@@ -19,7 +19,8 @@ pub(crate) fn table(
     categories: u16,
 ) -> Result<Result<Vec<u32>, u32>, Memory>
     requires { IsBounded instance.now categories }
-    ensures ok { IfOk result (λ r. IfOk r (λ cells. IsTable instance.now categories (length instance.now) cells.items)) }
+    ensures ok { let count = length instance.now in
+        IfOk result (λ r. IfOk r (λ cells. IsTable instance.now categories count cells.items)) }
     ensures err { IfOk result (λ r. IfErr r (IsFirstSplit instance.now categories)) }
 {
     let mut cells = Vec::new(alloc);

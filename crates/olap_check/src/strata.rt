@@ -19,7 +19,8 @@ pub(crate) fn mark(
     requires z { z < length instance.now }
     requires seen { vec_len seen.old ≡ length instance.now }
     ensures { let parents = parents_of instance.now z in
-        IfOk result (λ b. MarkGives b instance.now category parents seen.old.items seen.new.items list.old.items list.new.items) }
+        IfOk result (λ b. MarkGives b instance.now category parents
+        seen.old.items seen.new.items list.old.items list.new.items) }
 {
     'parents: for p in instance.parents(MemberId(z)) {
         if instance.category(*p).0 == category {

@@ -67,7 +67,8 @@ returns-in-Err-clause-first c = λ constraints.
     record {
       violation = _;
       is_first = first4 i n edges c.requires.bounded (c.in_default.ensures.none refl)
-          (c.in_default-first_orphan.ensures.none refl) strata c.in-Err.x c.in_ok-category-in-Err.category split least s t;
+          (c.in_default-first_orphan.ensures.none refl) strata c.in-Err.x c.in_ok-category-in-Err.category split least
+          s t;
       is_told = refl;
     }
 
@@ -89,7 +90,8 @@ returns-in-Some-first_shortcut-clause-first c = λ constraints.
     record {
       violation = _;
       is_first = first5 i n edges c.requires.bounded (c.in_default.ensures.none refl)
-          (c.in_default-first_orphan.ensures.none refl) strata c.in-Ok.cells.items table first.x first.k first.ensures.some s t;
+          (c.in_default-first_orphan.ensures.none refl) strata c.in-Ok.cells.items table first.x first.k
+          first.ensures.some s t;
       is_told = ap (λ y. Shortcut (member first.x) (member y)) c.parent-above-in-Some-first_shortcut.ensures;
     }
 

@@ -1,3 +1,4 @@
+-- The parents of the members so far are linked.
 use Rattle.std.proofs.Common.{ℕ, ◌<◌}
 use Rattle.olap_check.specs.Linking.{IsLinkedAt}
 use Rattle.olap_check.proofs.linking.first_unlinked.Given as goal

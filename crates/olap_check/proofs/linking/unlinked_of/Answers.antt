@@ -7,7 +7,8 @@ pub category-requires : goal.category-requires
 category-requires c =
     let ids = c.parents-y-items in
     let i = c.args.instance.now in
-    parent_member (parent_at i c.args.x ids.result.now c.parents.k ids.ensures.list ids.ensures.places c.parents-test.true)
+    parent_member
+    (parent_at i c.args.x ids.result.now c.parents.k ids.ensures.list ids.ensures.places c.parents-test.true)
 
 pub parents-preserved : goal.parents-preserved
 parents-preserved c =
@@ -16,7 +17,8 @@ parents-preserved c =
     let at = parent_at i c.args.x ids.result.now c.parents.k ids.ensures.list ids.ensures.places c.parents-test.true in
     let d = c.category.result.0 in
     let linked = c.is_linked in
-    linked_more at c.args.categories c.args.edges.now c.parents.invariant c.category-category.result.0 d c.category-category.ensures c.category.ensures
+    linked_more at c.args.categories c.args.edges.now c.parents.invariant c.category-category.result.0 d
+    c.category-category.ensures c.category.ensures
     linked.result linked.ensures c.if-not-is_linked.false
 
 pub returns-then-not-is_linked-clause-some : goal.returns-then-not-is_linked-clause-some
@@ -26,7 +28,8 @@ returns-then-not-is_linked-clause-some c =
     let at = parent_at i c.args.x ids.result.now c.parents.k ids.ensures.list ids.ensures.places c.parents-test.true in
     let d = c.category.result.0 in
     let linked = c.is_linked in
-    first_unlinked_of at c.args.categories c.args.edges.now c.parents.invariant c.category-category.result.0 d c.category-category.ensures c.category.ensures
+    first_unlinked_of at c.args.categories c.args.edges.now c.parents.invariant c.category-category.result.0 d
+    c.category-category.ensures c.category.ensures
     linked.result linked.ensures c.if-not-is_linked.true
 
 pub returns-clause-none : goal.returns-clause-none

@@ -1,3 +1,4 @@
+-- The formula is true at the members of the root so far.
 use Rattle.std.proofs.Common.{ℕ, ◌<◌}
 use Rattle.olap_ast.specs.Formula.{Holds}
 use Rattle.olap_base.specs.Instance.{IsMemberOf}

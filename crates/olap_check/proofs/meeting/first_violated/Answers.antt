@@ -12,7 +12,8 @@ constraints-preserved c =
 pub returns-in-Some-clause-some : goal.returns-in-Some-clause-some
 returns-in-Some-clause-some c =
     let item = c.index-constraints-k in
-    first_violated_of c.args.instance.now c.args.constraints.now c.constraints.k item.result c.constraints-test.true item.is
+    first_violated_of c.args.instance.now c.args.constraints.now c.constraints.k item.result c.constraints-test.true
+    item.is
     c.in-Some.x c.constraints.invariant c.in-Some.ensures.some
 
 pub returns-clause-none : goal.returns-clause-none

@@ -1,3 +1,4 @@
+-- The search upwards, and what is marked is above x. Marking uses places up.
 use Rattle.std.proofs.Common.{◌+◌, length}
 use Rattle.olap_check.specs.Strata.{unmarked_count}
 use Rattle.olap_check.specs.Tables.{IsClimbing}

@@ -1,3 +1,4 @@
+-- In no category so far are two members above x.
 use Rattle.std.proofs.Common.{ℕ, ◌<◌}
 use Rattle.olap_check.specs.Tables.{SplitsAt}
 use Rattle.olap_check.proofs.parting.split_category.Given as goal

@@ -1,3 +1,4 @@
+-- The rows of the members so far.
 use Rattle.olap_check.specs.Tables.{IsTable}
 use Rattle.olap_check.proofs.parting.table.Given as goal
 

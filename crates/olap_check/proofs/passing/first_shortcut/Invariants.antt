@@ -1,3 +1,4 @@
+-- No member so far has a shortcut.
 use Rattle.std.proofs.Common.{ℕ, ◌<◌}
 use Rattle.olap_check.specs.Passing.{HasNoneAt}
 use Rattle.olap_check.proofs.passing.first_shortcut.Given as goal

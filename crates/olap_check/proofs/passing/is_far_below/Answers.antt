@@ -1,3 +1,4 @@
+-- A member is far below another exactly where the table has that other for it.
 use Rattle.std.proofs.Common.{subst}
 use Rattle.olap_base.specs.Instance.{IsMemberOf, Reaches}
 use Rattle.olap_check.proofs.PassingLemmas.{far_same, far_some}
@@ -9,5 +10,7 @@ returns-then-z-y c = far_same c.args.instance.now c.args.z c.args.y c.requires.s
 pub returns-in-Some : goal.returns-in-Some
 returns-in-Some c =
     let i = c.args.instance.now in
-    let m = subst (λ d. IsMemberOf i d c.in-Some.a × Reaches i c.args.z c.in-Some.a) c.category.ensures c.in-Some.ensures.some in
-    far_some i c.args.categories c.args.z c.args.y c.in-Some.a c.args.cells.now c.requires.bounded c.requires.table c.requires.z c.if-z-y.false m
+    let m = subst (λ d. IsMemberOf i d c.in-Some.a × Reaches i c.args.z c.in-Some.a) c.category.ensures
+    c.in-Some.ensures.some in
+    far_some i c.args.categories c.args.z c.args.y c.in-Some.a c.args.cells.now c.requires.bounded c.requires.table
+    c.requires.z c.if-z-y.false m

@@ -8,14 +8,16 @@ pub is_far_below-requires-clause-z : goal.is_far_below-requires-clause-z
 is_far_below-requires-clause-z c =
     let ids = c.parents-z-items in
     let i = c.args.instance.now in
-    let at = parent_at i c.args.x ids.result.now c.parents.z-index ids.ensures.list ids.ensures.places c.parents-test.true in
+    let at = parent_at i c.args.x ids.result.now c.parents.z-index ids.ensures.list ids.ensures.places
+    c.parents-test.true in
     parent_member at
 
 pub parents-preserved : goal.parents-preserved
 parents-preserved c =
     let ids = c.parents-z-items in
     let i = c.args.instance.now in
-    let at = parent_at i c.args.x ids.result.now c.parents.z-index ids.ensures.list ids.ensures.places c.parents-test.true in
+    let at = parent_at i c.args.x ids.result.now c.parents.z-index ids.ensures.list ids.ensures.places
+    c.parents-test.true in
     let far = c.is_far_below in
     none_below_more at c.args.y c.parents.invariant (refuted far.result c.if-is_far_below.false far.ensures)
 
@@ -23,7 +25,8 @@ pub returns-then-is_far_below : goal.returns-then-is_far_below
 returns-then-is_far_below c =
     let ids = c.parents-z-items in
     let i = c.args.instance.now in
-    let at = parent_at i c.args.x ids.result.now c.parents.z-index ids.ensures.list ids.ensures.places c.parents-test.true in
+    let at = parent_at i c.args.x ids.result.now c.parents.z-index ids.ensures.list ids.ensures.places
+    c.parents-test.true in
     (λ _. passed_by at c.args.y (c.is_far_below.ensures.0 c.if-is_far_below.true), λ _. refl)
 
 pub returns : goal.returns

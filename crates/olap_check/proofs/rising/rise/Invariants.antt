@@ -1,3 +1,4 @@
+-- The places are those of the members reached so far. A place that is filled is used up.
 use Rattle.std.proofs.Common.{◌+◌, ◌≡◌, length}
 use Rattle.olap_check.specs.Rows.{IsFrontier, free_count}
 use Rattle.olap_check.proofs.rising.rise.Given as goal

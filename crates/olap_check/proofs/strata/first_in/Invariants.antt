@@ -1,3 +1,4 @@
+-- What is marked is closed, and no member of the category so far repeats.
 use Rattle.std.proofs.Common.{◌≡◌, ◌<◌, ℕ}
 use Rattle.olap_base.specs.Instance.{category_of}
 use Rattle.olap_check.specs.Strata.{IsClosed, HasNoneAbove}

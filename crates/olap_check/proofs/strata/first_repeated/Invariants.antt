@@ -1,3 +1,4 @@
+-- The first member of a category so far that repeats.
 use Rattle.olap_check.specs.Strata.{IsFirstOf}
 use Rattle.olap_check.proofs.strata.first_repeated.Given as goal
 
