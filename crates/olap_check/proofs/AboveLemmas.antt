@@ -1,0 +1,143 @@
+-- The table's row of a member is a shape, and what the shape answers.
+use Rattle.std.proofs.Common.{◌≡◌, ◌≢◌, ℕ, ◌<◌, List, length, Bool, true, false, ◌&&◌, not, refl, ap, sym, subst, ◌∙◌, ◌↔◌, inl, arith}
+use Rattle.std.specs.Prelude.{IsTrue, nat_eq, nat_lt, Option, Some, None, IfSome, IsNone, is_some}
+use Rattle.std.proofs.lemmas.Bool.Decides.{nat_tests}
+use Rattle.std.specs.Prelude.{Contains}
+use Rattle.std.specs.Bool.{Decides}
+use Rattle.std.specs.List.{IsAnyAnswer}
+use Rattle.std.proofs.Common.{eqb, eqb-true, eq-eqb}
+use Rattle.std.proofs.lemmas.List.{get_or-map, length-map}
+use Rattle.std.proofs.lemmas.List.Elements.{contains_decides, Decides-contains}
+use Rattle.olap_base.proofs.ListLemmas.{Contains-map}
+use Rattle.olap_base.specs.Instance.{Instance, IsBelow, IsMemberOf, Reaches, ReachesCategory, category_of, parents_of}
+use Rattle.olap_base.specs.declared.ids.MemberId.{MemberId}
+use Rattle.olap_check.proofs.ParentLemmas.{places}
+use Rattle.olap_check.specs.Reports.{member}
+use Rattle.olap_base.specs.Steps.{Steps-append, Steps-from_reaches, reaches_from_Steps}
+use Rattle.olap_base.specs.Deciding.{reaches_is}
+use Rattle.olap_check.specs.Rows.{none, IsBounded}
+use Rattle.olap_check.specs.Tables.{cell, IsTable}
+use Rattle.olap_check.proofs.TableLemmas.{reached_inside, cell_some}
+use Rattle.olap_eval.specs.Shapes.{HasEdgeThere, IsShape, ReachesThere}
+use Rattle.olap_check.specs.Above.{IsAbove, is_present}
+
+present_parts : (n c k : ℕ) → (nat_lt c n && not (nat_eq k none)) ≡ true → (c < n) × (k ≢ none)
+present_parts n c k e = (grind (arith, nat_tests), λ q. grind (arith, nat_tests))
+
+present_from : (n c k : ℕ) → c < n → k < none → (nat_lt c n && not (nat_eq k none)) ≡ true
+present_from n c k h l = grind (arith, nat_tests)
+
+pub above_shape : (i : Instance) (n x : ℕ) (cells : List ℕ) → IsAbove i n x cells
+    → IsShape i (is_present n cells x) (cell n cells x)
+above_shape i n x cells a = record {
+  members = λ c p. let t = present_parts n c (cell n cells x c) p in a.table.own x c a.inside t.0 t.1;
+  closed = λ c y p r.
+      let t = present_parts n c (cell n cells x c) p in
+      let m = cell_some i n x c (cell n cells x c) cells a.table a.inside t.0 refl t.1 in
+      let all = Steps-append (Steps-from_reaches m.1) (Steps-from_reaches r) in
+      let inside = reached_inside i a.bounded.places all a.inside in
+      let e = (a.table.exact x y a.inside inside).1 ((reaches_is i x y).1 (reaches_from_Steps all)) in (
+        present_from n (category_of i y) (cell n cells x (category_of i y)) (a.bounded.categories y inside)
+            (few (cell n cells x (category_of i y)) y e inside),
+        e,
+      );
+}
+  where
+    few : (k y : ℕ) → k ≡ y → y < length i → k < none
+    few k y e h = let f = a.bounded.few in omega arith
+
+pub if_some_map : (o : Option ℕ) (P Q : ℕ → Type 0) → ((y : ℕ) → P y → Q y) → IfSome o P → IfSome o Q
+if_some_map None P Q f p = p
+if_some_map (Some y) P Q f p = f y p
+
+pub member_is : (i : Instance) (n x c : ℕ) (cells : List ℕ) → IsAbove i n x cells → (y : ℕ)
+    → IsMemberOf i c y × Reaches i x y → IsTrue (is_present n cells x c) × (cell n cells x c ≡ y) × (y < length i)
+member_is i n x c cells a y m =
+    let e = (a.table.exact x y a.inside m.0.0).1 ((reaches_is i x y).1 m.1) in
+    let q : cell n cells x c ≡ y = ap (cell n cells x) (sym m.0.1) ∙ e in (
+      present_from n c (cell n cells x c) (subst (λ d. d < n) m.0.1 (a.bounded.categories y m.0.0))
+          (few (cell n cells x c) y q m.0.0),
+      q,
+      m.0.0,
+    )
+  where
+    few : (k y : ℕ) → k ≡ y → y < length i → k < none
+    few k y e h = let f = a.bounded.few in omega arith
+
+pub present_reaches : (i : Instance) (n x c : ℕ) (cells : List ℕ) → IsAbove i n x cells
+    → IsTrue (is_present n cells x c) → ReachesCategory i x c
+present_reaches i n x c cells a p =
+    let t = present_parts n c (cell n cells x c) p in
+    let m = cell_some i n x c (cell n cells x c) cells a.table a.inside t.0 refl t.1 in
+    (cell n cells x c, m.0, m.1)
+
+pub reach_there : (i : Instance) (n x c d y : ℕ) (cells : List ℕ) (o : Option ℕ) (r : Bool) → IsAbove i n x cells
+    → IsTrue (is_present n cells x c) → cell n cells x c ≡ y
+    → IfSome o (λ a. IsMemberOf i d a × Reaches i y a) → (IsNone o → ReachesCategory i y d → ⊥) → r ≡ is_some o
+    → IsTrue r ↔ ReachesThere i (is_present n cells x) (cell n cells x) c d
+reach_there i n x c d y cells None r a p e s f q = (
+  λ t. absurd (let z : false ≡ true = sym q ∙ t in cc),
+  λ t. absurd
+      (f refl (
+        cell n cells x d,
+        (above_shape i n x cells a).members d t.1,
+        subst (λ w. Reaches i w (cell n cells x d)) e t.2,
+      )),
+)
+reach_there i n x c d y cells (Some b) r a p e s f q =
+    let m = (above_shape i n x cells a).closed c b p (subst (λ w. Reaches i w b) (sym e) s.1) in
+    let present : IsTrue (is_present n cells x d) = subst (λ k. IsTrue (is_present n cells x k)) s.0.1 m.0 in
+    let same : cell n cells x d ≡ b = ap (cell n cells x) (sym s.0.1) ∙ m.1 in (
+      λ t. (
+        p,
+        present,
+        subst (λ w. Reaches i (cell n cells x c) w) (sym same)
+            (subst (λ w. Reaches i w b) (sym e) s.1),
+      ),
+      λ t. q,
+    )
+
+-- a member has the place of its own category
+pub own_place : (i : Instance) (n x c : ℕ) (cells : List ℕ) → IsBounded i n → IsTable i n (length i) cells
+    → x < length i → category_of i x ≡ c → IsTrue (is_present n cells x c) × (cell n cells x c ≡ x) × (x < length i)
+own_place i n x c cells made table inside e =
+    member_is i n x c cells (record { inside = inside; bounded = made; table = table }) x ((inside, e), inl refl)
+
+-- ---- a parent among the ids
+
+same_member : (a b : MemberId) → Decides (eqb a.0 b.0) (a ≡ b)
+same_member a b = (λ e. ap member (eqb-true a.0 b.0 e), λ e. eq-eqb a.0 b.0 (ap (λ (m : MemberId). m.0) e))
+
+-- the list of ids has a member exactly where the child is below it
+below_is : (i : Instance) (y z : ℕ) (ms : List MemberId) (r : Bool) → places ms ≡ parents_of i y
+    → IsAnyAnswer (λ (m : MemberId) (b : Bool). eqb m.0 z ≡ b) ms r → IsTrue r ↔ IsBelow i y z
+below_is i y z ms r e a = (
+  λ q. subst (λ l. Contains l z) e (Contains-map (λ (m : MemberId). m.0) ms (member z) (decides.0 q)),
+  λ b. decides.1 (from (subst (λ l. Contains l z) (sym e) b)),
+)
+  where
+    decides : Decides r (Contains ms (member z))
+    decides = Decides-contains ms (member z) r
+        (contains_decides (λ (a b : MemberId). eqb a.0 b.0) same_member ms (member z) r a)
+
+    from : Contains (places ms) z → Contains ms (member z)
+    from c =
+        let inside : c.0 < length ms = subst (λ n. c.0 < n) (length-map ms (λ (m : MemberId). m.0)) c.1 in
+        let at = get_or-map (λ (m : MemberId). m.0) ms c.0 (member z) z inside in
+        (c.0, inside, ap member (sym at ∙ c.2))
+
+pub edge_there : (i : Instance) (n x c d y z : ℕ) (cells : List ℕ) (ms : List MemberId) (r : Bool)
+    → IsTrue (is_present n cells x c) × (cell n cells x c ≡ y) × (y < length i)
+    → IsTrue (is_present n cells x d) × (cell n cells x d ≡ z) × (z < length i)
+    → places ms ≡ parents_of i y → IsAnyAnswer (λ (m : MemberId) (b : Bool). eqb m.0 z ≡ b) ms r
+    → IsTrue r ↔ HasEdgeThere i (is_present n cells x) (cell n cells x) c d
+edge_there i n x c d y z cells ms r p q e a =
+    let t = below_is i y z ms r e a in (
+      λ b. (
+        p.0,
+        q.0,
+        subst (λ v. IsBelow i v (cell n cells x d)) (sym p.1)
+            (subst (λ w. IsBelow i y w) (sym q.1) (t.0 b)),
+      ),
+      λ h. t.1 (subst (λ v. IsBelow i v z) p.1 (subst (λ w. IsBelow i (cell n cells x c) w) q.1 h.2)),
+    )

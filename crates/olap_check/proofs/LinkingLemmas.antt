@@ -1,0 +1,109 @@
+-- Parents in order, and the table of edges.
+use Rattle.std.proofs.Common.{◌≡◌, ℕ, ◌+◌, ◌*◌, ◌<◌, ◌≤◌, List, [], ◌∷◌, ◌++◌, ◌/◌, ◌%◌, length, length-append, get_or, refl, Bool, true, false, ap, sym, subst, ◌∙◌, ◌↔◌, arith, below_more}
+use Rattle.std.specs.Prelude.{IsTrue, ◌==◌}
+use Rattle.std.proofs.lemmas.List.{get_or_default, length-map}
+use Rattle.std.proofs.lemmas.Bool.{eqb-true}
+use Rattle.olap_base.specs.Graph.{Graph, HasEdge}
+use Rattle.olap_base.specs.Instance.{Instance, category_of, parents_of}
+use Rattle.std.proofs.Math.ListN.{get_or-append}
+use Rattle.std.proofs.Math.Seq.{get_or-append_seam}
+use Rattle.std.proofs.Math.Nat.{mul-le-mul_right}
+use Rattle.std.proofs.lemmas.Nat.{div-mul-add, mod-mul-add}
+use Rattle.olap_base.specs.declared.ids.MemberId.{MemberId}
+use Rattle.olap_check.proofs.ParentLemmas.{IsParentAt, places}
+use Rattle.olap_check.specs.Linking.{IsLinked, IsUnlinked, IsFirstUnlinkedOf, IsLinkedAt, IsOrphan, IsTableOf}
+
+pub linked_is : (edges : List Bool) (n c d k : ℕ) (r : Bool) → k ≡ c * n + d → k < length edges → r ≡ get_or edges k r
+    → IsTrue r ↔ IsLinked edges n c d
+linked_is edges n c d k r e h q =
+    let v : get_or edges (c * n + d) false ≡ r =
+    ap (λ m. get_or edges m false) (sym e) ∙ get_or_default edges k false r h ∙ sym q in
+    (λ t. v ∙ t, λ t. sym v ∙ t)
+
+-- the parents before place k are linked
+abbrev pub AreLinkedBefore : Instance → ℕ → List Bool → ℕ → ℕ → Type 0
+AreLinkedBefore i n edges x k =
+    (j : ℕ) → j < k → IsLinked edges n (category_of i x) (category_of i (get_or (parents_of i x) j 0))
+
+-- what the test says of the k-th parent
+module _ {i : Instance} {x k : ℕ} {m : MemberId} (at : IsParentAt i x k m) (n : ℕ) (edges : List Bool)
+    (before : AreLinkedBefore i n edges x k) (c d : ℕ) (c_is : c ≡ category_of i x) (d_is : d ≡ category_of i m.0)
+    (r : Bool) (t : IsTrue r ↔ IsLinked edges n c d) where
+  d_at : d ≡ category_of i (get_or (parents_of i x) k 0)
+  d_at = d_is ∙ ap (category_of i) at.is
+
+  pub linked_more : r ≡ true → AreLinkedBefore i n edges x (k + 1)
+  linked_more e =
+      let P : ℕ → Type 0 = λ j. IsLinked edges n (category_of i x) (category_of i (get_or (parents_of i x) j 0)) in
+      let now = subst (λ u. IsLinked edges n c u) d_at (t.0 e) in
+      below_more P k before (subst (λ u. IsLinked edges n u (category_of i (get_or (parents_of i x) k 0))) c_is now)
+
+  pub first_unlinked_of : r ≡ false → IsFirstUnlinkedOf i n edges x k
+  first_unlinked_of e = record { inside = at.inside; unlinked = unlinked; before = before }
+    where
+      unlinked : IsUnlinked i n edges x (get_or (parents_of i x) k 0)
+      unlinked u =
+          let there = subst (λ v. IsLinked edges n (category_of i x) v) (sym d_at) u in
+          let z : false ≡ true = sym e ∙ t.1 (subst (λ v. IsLinked edges n v d) (sym c_is) there) in cc
+
+pub linked_at : (i : Instance) (n : ℕ) (edges : List Bool) (x k : ℕ) → length (parents_of i x) ≤ k
+    → AreLinkedBefore i n edges x k → IsLinkedAt i n edges x
+linked_at i n edges x k h below j l = below j (omega (arith, l))
+
+pub linked_at_more : (i : Instance) (n : ℕ) (edges : List Bool) (x : ℕ) → ((w : ℕ) → w < x → IsLinkedAt i n edges w)
+    → IsLinkedAt i n edges x → (w : ℕ) → w < x + 1 → IsLinkedAt i n edges w
+linked_at_more i n edges x below at = let P : ℕ → Type 0 = λ w. IsLinkedAt i n edges w in below_more P x below at
+
+pub orphan_more : (i : Instance) (x : ℕ) → ((w : ℕ) → w < x → IsOrphan i w → ⊥) → (IsOrphan i x → ⊥) → (w : ℕ)
+    → w < x + 1 → IsOrphan i w → ⊥
+orphan_more i x below at = let P : ℕ → Type 0 = λ w. IsOrphan i w → ⊥ in below_more P x below at
+
+pub not_empty : (ms : List MemberId) (qs : List ℕ) (r : Bool) → r ≡ (length ms == 0) → r ≡ false → places ms ≡ qs
+    → qs ≡ [] → ⊥
+not_empty ms qs r e f g h =
+    let n : length ms ≡ 0 = sym (length-map ms (λ (m : MemberId). m.0)) ∙ ap length (g ∙ h) in
+    let y : false ≡ true = sym f ∙ e ∙ ap (λ k. k == 0) n in cc
+
+-- a member with no parents in the list has none
+pub empty_is : (ms : List MemberId) (qs : List ℕ) (r : Bool) → r ≡ (length ms == 0) → r ≡ true → places ms ≡ qs
+    → qs ≡ []
+empty_is [] qs r e f g = sym g
+empty_is (m ∷ ms) qs r e f g = absurd (let n = eqb-true (length (m ∷ ms)) 0 (sym e ∙ f) in omega (arith, n))
+
+-- ---- the table of edges, pair after pair
+
+-- the first k pairs have been asked
+pub record AreEdgesBefore (g : Graph) (n k : ℕ) (edges : List Bool) : Type 0 where
+  pub count : length edges ≡ k
+  pub exact : (j : ℕ) → j < k → (get_or edges j false ≡ true) ↔ HasEdge g (j / n) (j % n)
+
+pub edges_start : (g : Graph) (n : ℕ) → AreEdgesBefore g n 0 []
+edges_start g n = record { count = refl; exact = λ j h. absurd (omega (arith, h)) }
+
+pub edges_more : {g : Graph} {n k : ℕ} {edges : List Bool} → AreEdgesBefore g n k edges → (r : Bool)
+    → (r ≡ true) ↔ HasEdge g (k / n) (k % n) → AreEdgesBefore g n (k + 1) (edges ++ r ∷ [])
+edges_more {g} {n} {k} {edges} e r t = record {
+  count = let c = e.count in omega (arith, length-append edges (r ∷ []));
+  exact = below_more P k
+      (λ j h. let v = get_or-append edges (r ∷ []) false j (let c = e.count in omega (arith, h)) in
+      (λ q. (e.exact j h).0 (sym v ∙ q), λ q. v ∙ (e.exact j h).1 q))
+      (let v = ap (λ j. get_or (edges ++ r ∷ []) j false) (sym e.count) ∙ get_or-append_seam edges r [] false in
+      (λ q. t.0 (sym v ∙ q), λ q. v ∙ t.1 q));
+}
+  where
+    P : ℕ → Type 0
+    P j = (get_or (edges ++ r ∷ []) j false ≡ true) ↔ HasEdge g (j / n) (j % n)
+
+pub table_of : (g : Graph) (n : ℕ) (edges : List Bool) → AreEdgesBefore g n (n * n) edges → IsTableOf g n edges
+table_of g n edges e = record {
+  size = e.count;
+  exact = λ c d h l.
+      let inside : c * n + d < n * n = let f : c + 1 ≤ n = omega arith in let m =
+      mul-le-mul_right n f in omega (arith, m) in
+      let c_is = div-mul-add c n d l in
+      let d_is = mod-mul-add c n d l in
+      let t = e.exact (c * n + d) inside in (
+        λ q. subst (λ a. HasEdge g a d) c_is (subst (λ b. HasEdge g ((c * n + d) / n) b) d_is (t.0 q)),
+        λ q. t.1 (subst (λ a. HasEdge g a ((c * n + d) % n)) (sym c_is) (subst (λ b. HasEdge g c b) (sym d_is) q)),
+      );
+}

@@ -1,0 +1,38 @@
+-- Constraints, one after another.
+use Rattle.std.proofs.Common.{◌≡◌, ℕ, ◌+◌, ◌<◌, ◌≤◌, List, length, map, get_or, ap, sym, subst, ◌∙◌, arith, below_more}
+use Rattle.std.specs.Prelude.{Contains}
+use Rattle.std.proofs.lemmas.List.{get_or-map, get_or_default, length-map}
+use Rattle.olap_ast.specs.Schema.{Constraint, Meets}
+use Rattle.olap_ast.specs.Trees.{constraint_of}
+use Rattle.olap_ast.specs.declared.formulas.Constraint.{Constraint as Stored}
+use Rattle.olap_base.specs.Instance.{Instance}
+use Rattle.olap_check.specs.Meeting.{IsFirstUnmet, IsFirstViolated, constraint_at, no_constraint}
+
+-- the k-th of the stored constraints is the k-th constraint
+module _ (i : Instance) (stored : List Stored) (k : ℕ) (item : Stored) (inside : k < length stored)
+    (is : item ≡ get_or stored k item) where
+  at : constraint_at (map constraint_of stored) k ≡ constraint_of item
+  at = get_or-map constraint_of stored k item no_constraint inside ∙ ap constraint_of (sym is)
+
+  pub met_more : ((j : ℕ) → j < k → Meets i (constraint_at (map constraint_of stored) j)) → Meets i (constraint_of item)
+      → (j : ℕ) → j < k + 1 → Meets i (constraint_at (map constraint_of stored) j)
+  met_more before met =
+      let P : ℕ → Type 0 = λ j. Meets i (constraint_at (map constraint_of stored) j) in
+      below_more P k before (subst (λ c. Meets i c) (sym at) met)
+
+  pub first_violated_of : (x : ℕ) → ((j : ℕ) → j < k → Meets i (constraint_at (map constraint_of stored) j))
+      → IsFirstUnmet i (constraint_of item).root (constraint_of item).formula x
+      → IsFirstViolated i (map constraint_of stored) k x
+  first_violated_of x before here = record {
+    inside = subst (λ n. k < n) (sym (length-map stored constraint_of)) inside;
+    here = subst (λ c. IsFirstUnmet i c.root c.formula x) (sym at) here;
+    before = before;
+  }
+
+pub all_met : (i : Instance) (stored : List Stored) (k : ℕ) → length stored ≤ k
+    → ((j : ℕ) → j < k → Meets i (constraint_at (map constraint_of stored) j))
+    → (c : Constraint) → Contains (map constraint_of stored) c → Meets i c
+all_met i stored k h before c m =
+    let inside : m.0 < k = let l = length-map stored constraint_of in omega (arith, m.1, l) in
+    let e = get_or_default (map constraint_of stored) m.0 no_constraint c m.1 ∙ m.2 in
+    subst (λ d. Meets i d) e (before m.0 inside)

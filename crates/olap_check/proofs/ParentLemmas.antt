@@ -1,0 +1,47 @@
+-- The parents of a member, read from the instance's list of ids.
+use Rattle.std.proofs.Common.{◌≡◌, ℕ, ◌<◌, ◌≤◌, List, length, map, get_or, take, ap, sym, subst, ◌∙◌, arith}
+use Rattle.std.proofs.lemmas.List.{get_or-map, length-map, take_all}
+use Rattle.std.proofs.lemmas.List.Elements.{Contains-get_or}
+use Rattle.olap_base.specs.Instance.{Instance, IsBelow, parents_of}
+use Rattle.olap_base.specs.declared.ids.MemberId.{MemberId}
+
+abbrev pub nobody : MemberId
+nobody = record { 0 = 0 }
+
+-- the places of these members
+abbrev pub places : List MemberId → List ℕ
+places ms = map (λ (m : MemberId). m.0) ms
+
+-- m is the k-th parent of z, and a member
+pub record IsParentAt (i : Instance) (z k : ℕ) (m : MemberId) : Type 0 where
+  pub inside : k < length (parents_of i z)
+  pub is : m.0 ≡ get_or (parents_of i z) k 0
+  pub member : get_or (parents_of i z) k 0 < length i
+
+-- m itself is a member
+pub parent_member : {i : Instance} {z k : ℕ} {m : MemberId} → IsParentAt i z k m → m.0 < length i
+parent_member {i} at = subst (λ y. y < length i) (sym at.is) at.member
+
+-- what is read from the list
+pub parent_at : (i : Instance) (z : ℕ) (ms : List MemberId) (k : ℕ) → places ms ≡ parents_of i z
+    → ((y : ℕ) → IsBelow i z y → y < length i) → k < length ms → IsParentAt i z k (get_or ms k nobody)
+parent_at i z ms k e inside h = record {
+  inside = room;
+  is = sym (get_or-map (λ (m : MemberId). m.0) ms k nobody 0 h) ∙ ap (λ l. get_or l k 0) e;
+  member = inside _ (Contains-get_or (parents_of i z) k 0 room);
+}
+  where
+    room : k < length (parents_of i z)
+    room = let s : length ms ≡ length (parents_of i z) = sym (length-map ms (λ (m : MemberId). m.0)) ∙ ap length e in
+        omega (arith, s)
+
+-- at the end of the list all parents have been read
+pub all_read : (i : Instance) (z k : ℕ) (ms : List MemberId) → places ms ≡ parents_of i z → length ms ≤ k
+    → length (parents_of i z) ≤ k
+all_read i z k ms e h =
+    let s : length ms ≡ length (parents_of i z) = sym (length-map ms (λ (m : MemberId). m.0)) ∙ ap length e in
+    omega (arith, s)
+
+pub take_read : (i : Instance) (z k : ℕ) (ms : List MemberId) → places ms ≡ parents_of i z → length ms ≤ k
+    → take k (parents_of i z) ≡ parents_of i z
+take_read i z k ms e h = take_all k (parents_of i z) (all_read i z k ms e h)

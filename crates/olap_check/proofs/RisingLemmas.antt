@@ -1,0 +1,340 @@
+-- Steps of a visit, and of the walk upwards.
+use Rattle.std.proofs.Common.{◌≡◌, ◌≢◌, ℕ, zero, suc, ◌+◌, ◌<◌, ◌≤◌, ◌⊎◌, List, [], ◌∷◌, ◌++◌, length, get_or, set, take, Bool, true, false, cond, refl, ap, sym, subst, ◌∙◌, inl, inr, arith, length-append, get_or-set_same, get_or-set_other}
+use Rattle.std.proofs.Math.ListN.{length-set}
+use Rattle.std.specs.Prelude.{Contains, replicate, ◌==◌, Option, Some, None, MatchOption}
+use Rattle.std.proofs.lemmas.Bool.Decides.{nat_tests}
+use Rattle.std.proofs.lemmas.List.{length-replicate, get_or-replicate, take_more}
+use Rattle.std.proofs.lemmas.List.Elements.{Contains-append_left, Contains-push, Contains-push_cases, Contains-get_or}
+use native.Mathlib.Decide.{ℕ_discrete}
+use Rattle.olap_base.specs.Deciding.{contains_cases}
+use Rattle.olap_base.specs.Instance.{Instance, IsBelow, category_of, parents_of}
+use Rattle.olap_base.specs.declared.ids.MemberId.{MemberId}
+use Rattle.olap_check.proofs.ParentLemmas.{IsParentAt}
+use Rattle.std.proofs.lemmas.List.{get_or_default}
+use Rattle.olap_base.specs.Steps.{Steps, Steps.here, Steps.step, Steps-append, Steps-from_reaches, reaches_from_Steps}
+use Rattle.olap_base.proofs.ListLemmas.{Contains-nil}
+use Rattle.olap_check.specs.Rows.{none, IsBounded, IsIn, IsRow, IsRise, Splits, free_count, IsVisit, Meets, IsFrontier}
+
+pub take_cases : (ps : List ℕ) (k y : ℕ) → k < length ps → Contains (take (k + 1) ps) y
+    → Contains (take k ps) y ⊎ (get_or ps k 0 ≡ y)
+take_cases ps k y h c = Contains-push_cases (take k ps) (get_or ps k 0) y
+    (subst (λ l. Contains l y) (take_more ps k 0 h) c)
+
+pub take_before : (ps : List ℕ) (k y : ℕ) → k < length ps → Contains (take k ps) y → Contains (take (k + 1) ps) y
+take_before ps k y h c = subst (λ l. Contains l y) (sym (take_more ps k 0 h))
+    (Contains-append_left (take k ps) (get_or ps k 0 ∷ []) y c)
+
+pub take_last : (ps : List ℕ) (k : ℕ) → k < length ps → Contains (take (k + 1) ps) (get_or ps k 0)
+take_last ps k h = subst (λ l. Contains l (get_or ps k 0)) (sym (take_more ps k 0 h))
+    (Contains-push (take k ps) (get_or ps k 0))
+
+pub take_within : (ps : List ℕ) (k y : ℕ) → Contains (take k ps) y → Contains ps y
+take_within [] zero y c = c
+take_within [] (suc k) y c = c
+take_within (p ∷ ps) zero y c = absurd (Contains-nil y c)
+take_within (p ∷ ps) (suc k) y c = elim (contains_cases y p (take k ps) c) [
+  | inl e ↦ (0, omega arith, e)
+  | inr d ↦ let t = take_within ps k y d in (suc t.0, omega (arith, t.1), t.2)
+]
+
+free_set : (row : List ℕ) (k p : ℕ) → k < length row → get_or row k 0 ≡ none → p ≢ none
+    → suc (free_count (set row k p)) ≡ free_count row
+free_set [] k p h e n = absurd (omega arith)
+free_set (x ∷ row) zero p h e n = here (x == none) (p == none) (grind (arith, nat_tests)) (grind (arith, nat_tests))
+  where
+    here : (a b : Bool) → a ≡ true → b ≡ false → suc (cond b (suc (free_count row)) (free_count row))
+        ≡ cond a (suc (free_count row)) (free_count row)
+    here true true s t = absurd (cc)
+    here true false s t = refl
+    here false b s t = absurd (cc)
+free_set (x ∷ row) (suc k) p h e n = go (x == none) (free_set row k p (omega arith) e n)
+  where
+    go : (a : Bool) → suc (free_count (set row k p)) ≡ free_count row
+        → suc (cond a (suc (free_count (set row k p))) (free_count (set row k p)))
+        ≡ cond a (suc (free_count row)) (free_count row)
+    go true s = ap suc s
+    go false s = s
+
+-- ---- one place more
+
+module _ (i : Instance) (row : List ℕ) (p : ℕ) (few : length i ≤ 262144) (is_member : p < length i)
+    (room : category_of i p < length row) where
+  same_in : IsIn i (set row (category_of i p) p) p
+  same_in = rw get_or-set_same
+
+  kept_in : get_or row (category_of i p) 0 ≡ none → (y : ℕ) → y < length i → IsIn i row y
+      → IsIn i (set row (category_of i p) p) y
+  kept_in free y h m = elim (ℕ_discrete (category_of i y) (category_of i p)) [
+    | yes e ↦ absurd (let t : y ≡ none = sym m ∙ ap (λ d. get_or row d 0) e ∙ free in omega arith)
+    | no n ↦ let ne : category_of i y ≢ category_of i p = n in rw get_or-set_other m
+  ]
+
+  from_in : (y : ℕ) → IsIn i (set row (category_of i p) p) y → IsIn i row y ⊎ (y ≡ p)
+  from_in y m = elim (ℕ_discrete (category_of i y) (category_of i p)) [
+    | yes e ↦ inr (sym m ∙ ap (λ d. get_or (set row (category_of i p) p) d 0) e
+        ∙ get_or-set_same row (category_of i p) p 0 room)
+    | no n ↦ let ne : category_of i y ≢ category_of i p = n in inl (rw get_or-set_other at m)
+  ]
+
+  own_set : IsRow i row → IsRow i (set row (category_of i p) p)
+  own_set r = record {
+    own = λ d h ne. elim (ℕ_discrete d (category_of i p)) [
+      | yes e ↦
+          let v : get_or (set row (category_of i p) p) d 0 ≡ p =
+          ap (λ k. get_or (set row (category_of i p) p) k 0) e ∙ get_or-set_same row (category_of i p) p 0 room in
+          (subst (λ y. y < length i) (sym v) is_member, ap (category_of i) v ∙ sym e)
+      | no n ↦
+          let apart : d ≢ category_of i p = n in
+          let v : get_or (set row (category_of i p) p) d 0 ≡ get_or row d 0 =
+          get_or-set_other row (category_of i p) d p 0 apart in
+          let inside : d < length row = subst (λ k. d < k) (length-set row (category_of i p) p) h in
+          let t = r.own d inside (λ q. ne (v ∙ q)) in
+          (subst (λ y. y < length i) (sym v) t.0, ap (category_of i) v ∙ t.1)
+    ];
+  }
+
+-- ---- a visit
+
+pub visit_none : (i : Instance) (row list : List ℕ) → IsRow i row → IsVisit i [] row row list list
+visit_none i row list r = record {
+  same_length = refl;
+  own = r;
+  kept = λ y h m. m;
+  done = λ y c. absurd (Contains-nil y c);
+  fresh = λ y h m. inl m;
+  listed = λ y c. c;
+  only = λ y c. inl c;
+  fewer = omega arith;
+}
+
+pub visit_skip : (i : Instance) (ps : List ℕ) (k : ℕ) (before row old list : List ℕ) → k < length ps
+    → IsIn i row (get_or ps k 0)
+    → IsVisit i (take k ps) before row old list → IsVisit i (take (k + 1) ps) before row old list
+visit_skip i ps k before row old list h m v = record {
+  same_length = v.same_length;
+  own = v.own;
+  kept = v.kept;
+  done = λ y c. elim (take_cases ps k y h c) [ inl d ↦ v.done y d | inr e ↦ subst (λ z. IsIn i row z) e m ];
+  fresh = λ y l n. elim (v.fresh y l n) [ inl a ↦ inl a | inr a ↦ inr (take_before ps k y h a.0, a.1) ];
+  listed = v.listed;
+  only = λ y c. elim (v.only y c) [ inl a ↦ inl a | inr a ↦ inr (take_before ps k y h a) ];
+  fewer = v.fewer;
+}
+
+pub visit_push : (i : Instance) (ps : List ℕ) (k : ℕ) (before row old list : List ℕ) → length i ≤ 262144
+    → k < length ps → ((y : ℕ) → Contains ps y → y < length i)
+    → category_of i (get_or ps k 0) < length row → get_or row (category_of i (get_or ps k 0)) 0 ≡ none
+    → IsVisit i (take k ps) before row old list → IsVisit i (take (k + 1) ps) before
+    (set row (category_of i (get_or ps k 0)) (get_or ps k 0)) old (list ++ get_or ps k 0 ∷ [])
+visit_push i ps k before row old list few h places l free v =
+    let p = get_or ps k 0 in
+    let inside : get_or ps k 0 < length i = places p (take_within ps (k + 1) p (take_last ps k h)) in
+    let far : get_or ps k 0 ≢ none = omega arith in
+    let same = same_in i row p few inside l in
+    record {
+      same_length = length-set row (category_of i p) p ∙ v.same_length;
+      own = own_set i row p few inside l v.own;
+      kept = λ y b m. kept_in i row p few inside l free y b (v.kept y b m);
+      done = λ y c. elim (take_cases ps k y h c) [
+        | inl d ↦ kept_in i row p few inside l free y (places y (take_within ps k y d)) (v.done y d)
+        | inr e ↦ subst (λ z. IsIn i (set row (category_of i p) p) z) e same
+      ];
+      fresh = λ y b m. elim (from_in i row p few inside l y m) [
+        | inl a ↦ elim (v.fresh y b a) [
+          | inl c ↦ inl c
+          | inr c ↦
+              inr (take_before ps k y h c.0, Contains-append_left list (p ∷ []) y c.1)
+        ]
+        | inr e ↦
+            inr (
+              subst (λ z. Contains (take (k + 1) ps) z) (sym e) (take_last ps k h),
+              subst (λ z. Contains (list ++ p ∷ []) z) (sym e) (Contains-push list p),
+            )
+      ];
+      listed = λ y c. Contains-append_left list (p ∷ []) y (v.listed y c);
+      only = λ y c. elim (Contains-push_cases list p y c) [
+        | inl a ↦ elim (v.only y a) [ inl b ↦ inl b | inr b ↦ inr (take_before ps k y h b) ]
+        | inr e ↦ inr (subst (λ z. Contains (take (k + 1) ps) z) e (take_last ps k h))
+      ];
+      fewer = let u = free_set row (category_of i p) p l free far in let f =
+          v.fewer in omega (arith, length-append list (p ∷ []));
+    }
+
+-- a place with another member
+pub visit_meets : (i : Instance) (ps : List ℕ) (k : ℕ) (before row old list : List ℕ) (q : ℕ) → k < length ps
+    → category_of i (get_or ps k 0) < length row → get_or row (category_of i (get_or ps k 0)) 0 ≡ q → q ≢ none
+    → q ≢ get_or ps k 0
+    → IsVisit i (take k ps) before row old list → Meets i ps before
+visit_meets i ps k before row old list q h l e n apart v =
+    let p = get_or ps k 0 in
+    let t = v.own.own (category_of i p) l (λ r. n (sym e ∙ r)) in
+    let inside : q < length i = subst (λ y. y < length i) e t.0 in
+    let same : category_of i q ≡ category_of i p = ap (category_of i) (sym e) ∙ t.1 in
+    let stands : IsIn i row q = ap (λ d. get_or row d 0) same ∙ e in
+    record {
+      one = p;
+      other = q;
+      is_parent = take_within ps (k + 1) p (take_last ps k h);
+      other_is = (inside, elim (v.fresh q inside stands) [ inl a ↦ inl a | inr a ↦ inr (take_within ps k q a.0) ]);
+      same_category = sym same;
+      apart = λ r. apart (sym r);
+    }
+
+pub visit_as : {i : Instance} {ps before row after old list new : List ℕ} → after ≡ row → new ≡ list
+    → IsVisit i ps before row old list → IsVisit i ps before after old new
+visit_as {i} {ps} {before} {row} {after} {old} {list} {new} e f v =
+    subst (λ r. IsVisit i ps before r old new) (sym e) (subst (λ l. IsVisit i ps before row old l) (sym f) v)
+
+-- what the code does at the k-th parent, whose place d has q
+module _ {i : Instance} {z k n : ℕ} {m : MemberId} (at : IsParentAt i z k m) (bounded : IsBounded i n)
+    {before row old list : List ℕ} (v : IsVisit i (take k (parents_of i z)) before row old list)
+    (size : length before ≡ n) (d q : ℕ) (d_is : d ≡ category_of i m.0) (q_is : q ≡ get_or row d q) where
+  abbrev p : ℕ
+  p = get_or (parents_of i z) k 0
+
+  place : d ≡ category_of i p
+  place = d_is ∙ ap (category_of i) at.is
+
+  room : category_of i p < length row
+  room = let c = bounded.categories p at.member in omega (arith, v.same_length, size, c)
+
+  found : get_or row (category_of i p) 0 ≡ q
+  found =
+      let inside : d < length row = subst (λ e. e < length row) (sym place) room in
+      ap (λ e. get_or row e 0) (sym place) ∙ get_or_default row d 0 q inside ∙ sym q_is
+
+  pub visit_pushed : q ≡ none
+      → IsVisit i (take (k + 1) (parents_of i z)) before (set row d m.0) old (list ++ m.0 ∷ [])
+  visit_pushed e =
+      let all = parents_of i z in
+      let t = visit_push i all k before row old list bounded.few at.inside (bounded.places z) room (found ∙ e) v in
+      let r : set row (category_of i p) p ≡ set row d m.0 = λ j. set row (sym place j) (sym at.is j) in
+      subst (λ l. IsVisit i (take (k + 1) all) before (set row d m.0) old (list ++ l ∷ [])) (sym at.is)
+      (subst (λ w. IsVisit i (take (k + 1) all) before w old (list ++ p ∷ [])) r t)
+
+  pub visit_skipped : q ≡ m.0 → IsVisit i (take (k + 1) (parents_of i z)) before row old list
+  visit_skipped e = visit_skip i (parents_of i z) k before row old list at.inside (found ∙ e ∙ at.is) v
+
+  pub visit_met : q ≢ none → q ≢ m.0 → Meets i (parents_of i z) before
+  visit_met far apart =
+      visit_meets i (parents_of i z) k before row old list q at.inside room found far (λ e. apart (e ∙ sym at.is)) v
+
+-- ---- the frontier
+
+pub frontier_start : (i : Instance) (x n : ℕ) (row list : List ℕ) → IsBounded i n → row ≡ replicate n none
+    → x < length i → list ≡ x ∷ [] → IsFrontier i x (set row (category_of i x) x) list
+frontier_start i x n row list made e inside q =
+    let few = made.few in
+    let size : length row ≡ n = ap length e ∙ length-replicate n none in
+    let room : category_of i x < length row = let m = made.categories x inside in omega arith in
+    let empty : (d : ℕ) → d < length row → get_or row d 0 ≡ none =
+    λ d h. ap (λ r. get_or r d 0) e ∙ get_or-replicate n d none 0 (subst (λ k. d < k) size h) in
+    let none_in : (y : ℕ) → y < length i → IsIn i row y → ⊥ =
+    λ y h m. far y h
+    (sym m ∙ empty (category_of i y) (subst (λ k. category_of i y < k) (sym size) (made.categories y h))) in
+    let only : (P : ℕ → Type 0) (y : ℕ) → y < length i → IsIn i (set row (category_of i x) x) y → P x → P y =
+    λ P y h m p. elim (from_in i row x few inside room y m) [
+      | inl a ↦ absurd (none_in y h a)
+      | inr s ↦
+          subst P (sym s) p
+    ] in
+    record {
+      own = own_set i row x few inside room (record { own = λ d h ne. absurd (ne (empty d h)) });
+      inside = inside;
+      start = same_in i row x few inside room;
+      reached = λ y h m. only (λ z. Steps (IsBelow i) x z) y h m here;
+      listed = λ y c. let t : x ≡ y = alone y c in (
+        subst (λ z. z < length i) t inside,
+        subst (λ z. IsIn i (set row (category_of i x) x) z) t
+            (same_in i row x few inside room),
+      );
+      closed =
+          λ z h m. inl (only (λ w. Contains list w) z h m (subst (λ l. Contains l x) (sym q) (0, omega arith, refl)));
+    }
+  where
+    far : (y : ℕ) → y < length i → y ≡ none → ⊥
+    far y h t = absurd (let f = made.few in omega arith)
+
+    alone : (y : ℕ) → Contains list y → x ≡ y
+    alone y c =
+        elim (contains_cases y x [] (subst (λ l. Contains l y) q c)) [ inl t ↦ t | inr k ↦ absurd (Contains-nil y k) ]
+
+pub frontier_next : (i : Instance) (x z : ℕ) (row after rest new : List ℕ)
+    → ((a b : ℕ) → IsBelow i a b → b < length i)
+    → IsFrontier i x row (rest ++ z ∷ []) → IsVisit i (parents_of i z) row after rest new → IsFrontier i x after new
+frontier_next i x z row after rest new places f v =
+    let z_listed = f.listed z (Contains-push rest z) in
+    let z_reached = f.reached z z_listed.0 z_listed.1 in
+    record {
+      own = v.own;
+      inside = f.inside;
+      start = v.kept x f.inside f.start;
+      reached =
+          λ y h m. elim (v.fresh y h m) [ inl a ↦ f.reached y h a | inr a ↦ Steps-append z_reached (step a.0 here) ];
+      listed = λ y c. elim (v.only y c) [
+        | inl a ↦ let t = f.listed y (Contains-append_left rest (z ∷ []) y a) in (t.0, v.kept y t.0 t.1)
+        | inr a ↦ (places z y a, v.done y a)
+      ];
+      closed = λ w h m. elim (v.fresh w h m) [
+        | inl a ↦ elim (f.closed w h a) [
+          | inl c ↦ elim (Contains-push_cases rest z w c) [
+            | inl d ↦ inl (v.listed w d)
+            | inr e ↦ inr (λ y b. v.done y (subst (λ u. IsBelow i u y) (sym e) b))
+          ]
+          | inr c ↦ inr (λ y b. v.kept y (places w y b) (c y b))
+        ]
+        | inr a ↦ inl a.1
+      ];
+    }
+
+pub frontier_splits : (i : Instance) (x z : ℕ) (row rest : List ℕ)
+    → IsFrontier i x row (rest ++ z ∷ []) → Meets i (parents_of i z) row → Splits i x
+frontier_splits i x z row rest f m =
+    let z_listed = f.listed z (Contains-push rest z) in
+    let z_reached = f.reached z z_listed.0 z_listed.1 in
+    record {
+      one = m.one;
+      other = m.other;
+      reaches_one = reaches_from_Steps (Steps-append z_reached (step m.is_parent here));
+      reaches_other =
+          reaches_from_Steps
+          (elim m.other_is.1 [
+            | inl a ↦ f.reached m.other m.other_is.0 a
+            | inr b ↦
+                Steps-append z_reached (step b here)
+          ]);
+      same_category = m.same_category;
+      apart = m.apart;
+    }
+
+all_in : (i : Instance) (x : ℕ) (row : List ℕ) → ((a b : ℕ) → IsBelow i a b → b < length i) → IsFrontier i x row []
+    → {a y : ℕ} → Steps (IsBelow i) a y → a < length i → IsIn i row a → IsIn i row y
+all_in i x row places f here h m = m
+all_in i x row places f (step {x = a} {y = b} r s) h m =
+    all_in i x row places f s (places a b r)
+    (elim (f.closed a h m) [ inl c ↦ absurd (Contains-nil a c) | inr c ↦ c b r ])
+
+pub frontier_done : (i : Instance) (n x : ℕ) (row : List ℕ) → ((a b : ℕ) → IsBelow i a b → b < length i)
+    → x < length i → length row ≡ n → IsFrontier i x row [] → IsRise i n x row
+frontier_done i n x row places inside size f = record {
+  same_length = size;
+  own = f.own;
+  exact = λ y h. (
+    λ m. reaches_from_Steps (f.reached y h m),
+    λ r. all_in i x row places f (Steps-from_reaches r) inside f.start,
+  );
+}
+
+pub no_items : (xs : List ℕ) → length xs ≡ 0 → xs ≡ []
+no_items [] e = refl
+no_items (x ∷ xs) e = absurd (omega arith)
+
+pub none_case : (o : Option ℕ) (P : Type 0) (Q : ℕ → Type 0) → ((x : ℕ) → o ≡ Some x → ⊥) → MatchOption o P Q → P
+none_case None P Q f m = m
+none_case (Some x) P Q f m = absurd (f x refl)
+
+-- a parent that is read from the list is a member
+pub parent_inside : (i : Instance) (z k : ℕ) (ps : List ℕ) → ps ≡ parents_of i z
+    → ((y : ℕ) → IsBelow i z y → y < length i) → k < length ps → get_or ps k 0 < length i
+parent_inside i z k ps e places h =
+    places (get_or ps k 0) (subst (λ l. Contains l (get_or ps k 0)) e (Contains-get_or ps k 0 h))

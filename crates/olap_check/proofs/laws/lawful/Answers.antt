@@ -1,0 +1,107 @@
+-- The first violation of each law, where the laws before it hold.
+use Rattle.std.proofs.Common.{refl, ap, sym, subst}
+use Rattle.olap_ast.specs.Schema.{Schema}
+use Rattle.olap_check.specs.Linking.{IsTableOf}
+use Rattle.olap_check.specs.Reports.{member}
+use Rattle.olap_check.specs.declared.violations.Violation.TheVariants.{Connectivity, Shortcut}
+use Rattle.olap_check.proofs.FirstLemmas.{first1, first2, first3, first4, first5, all_five, strata_of}
+use Rattle.olap_check.proofs.laws.lawful.Goals as goal
+
+pub returns-in-Some-clause-first : goal.returns-in-Some-clause-first
+returns-in-Some-clause-first c = λ constraints.
+    let i = c.args.instance.now in
+    let n = c.args.categories in
+    let edges = c.deref.result.now in
+    let t = subst (λ l. IsTableOf c.args.graph.now n l) (sym c.deref.ensures.value) c.in_ok-edges.ensures in
+    let s : Schema = record { graph = c.args.graph.now; constraints = constraints } in
+    record {
+      violation = _;
+      is_first = first1 i n edges c.requires.bounded c.in-Some.x c.in-Some.k c.in-Some.ensures.some s t;
+      is_told = ap (λ y. Connectivity (member c.in-Some.x) (member y)) c.parent-above.ensures;
+    }
+
+pub returns-in-Some-first_orphan-clause-first : goal.returns-in-Some-first_orphan-clause-first
+returns-in-Some-first_orphan-clause-first c = λ constraints.
+    let i = c.args.instance.now in
+    let n = c.args.categories in
+    let edges = c.deref.result.now in
+    let t = subst (λ l. IsTableOf c.args.graph.now n l) (sym c.deref.ensures.value) c.in_ok-edges.ensures in
+    let s : Schema = record { graph = c.args.graph.now; constraints = constraints } in
+    let orphan = c.in-Some-first_orphan in
+    record {
+      violation = _;
+      is_first = first2 i n edges c.requires.bounded (c.in_default.ensures.none refl) orphan.x orphan.ensures.some s t;
+      is_told = refl;
+    }
+
+pub returns-in-Some-2-clause-first : goal.returns-in-Some-2-clause-first
+returns-in-Some-2-clause-first c = λ constraints.
+    let i = c.args.instance.now in
+    let n = c.args.categories in
+    let edges = c.deref.result.now in
+    let t = subst (λ l. IsTableOf c.args.graph.now n l) (sym c.deref.ensures.value) c.in_ok-edges.ensures in
+    let s : Schema = record { graph = c.args.graph.now; constraints = constraints } in
+    let first = rw c.in-Some-2.is at c.in_ok-x.ensures.some in
+    record {
+      violation = _;
+      is_first = first3 i n edges c.requires.bounded (c.in_default.ensures.none refl)
+          (c.in_default-first_orphan.ensures.none refl) c.in-Some-2.x first s t;
+      is_told = refl;
+    }
+
+pub split_category-requires-clause-strata : goal.split_category-requires-clause-strata
+split_category-requires-clause-strata c =
+    let strata = (rw c.in_default-2.is at c.in_ok-x.ensures.none) refl in
+    strata_of c.args.instance.now c.args.categories c.deref.result.now c.requires.bounded strata
+
+pub returns-in-Err-clause-first : goal.returns-in-Err-clause-first
+returns-in-Err-clause-first c = λ constraints.
+    let i = c.args.instance.now in
+    let n = c.args.categories in
+    let edges = c.deref.result.now in
+    let t = subst (λ l. IsTableOf c.args.graph.now n l) (sym c.deref.ensures.value) c.in_ok-edges.ensures in
+    let s : Schema = record { graph = c.args.graph.now; constraints = constraints } in
+    let strata = (rw c.in_default-2.is at c.in_ok-x.ensures.none) refl in
+    let split = rw c.in-Err.is at c.in_ok-cells.ensures.err in
+    let least = c.in_ok-category-in-Err.ensures in
+    record {
+      violation = _;
+      is_first = first4 i n edges c.requires.bounded (c.in_default.ensures.none refl)
+          (c.in_default-first_orphan.ensures.none refl) strata c.in-Err.x c.in_ok-category-in-Err.category split least
+          s t;
+      is_told = refl;
+    }
+
+pub first_shortcut-requires-clause-strata : goal.first_shortcut-requires-clause-strata
+first_shortcut-requires-clause-strata c =
+    let strata = (rw c.in_default-2.is at c.in_ok-x.ensures.none) refl in
+    strata_of c.args.instance.now c.args.categories c.deref.result.now c.requires.bounded strata
+
+pub returns-in-Some-first_shortcut-clause-first : goal.returns-in-Some-first_shortcut-clause-first
+returns-in-Some-first_shortcut-clause-first c = λ constraints.
+    let i = c.args.instance.now in
+    let n = c.args.categories in
+    let edges = c.deref.result.now in
+    let t = subst (λ l. IsTableOf c.args.graph.now n l) (sym c.deref.ensures.value) c.in_ok-edges.ensures in
+    let s : Schema = record { graph = c.args.graph.now; constraints = constraints } in
+    let strata = (rw c.in_default-2.is at c.in_ok-x.ensures.none) refl in
+    let table = rw c.in-Ok.is at c.in_ok-cells.ensures.ok in
+    let first = c.in-Some-first_shortcut in
+    record {
+      violation = _;
+      is_first = first5 i n edges c.requires.bounded (c.in_default.ensures.none refl)
+          (c.in_default-first_orphan.ensures.none refl) strata c.in-Ok.cells.items table first.x first.k
+          first.ensures.some s t;
+      is_told = ap (λ y. Shortcut (member first.x) (member y)) c.parent-above-in-Some-first_shortcut.ensures;
+    }
+
+pub returns-clause-lawful : goal.returns-clause-lawful
+returns-clause-lawful c =
+    let i = c.args.instance.now in
+    let n = c.args.categories in
+    let edges = c.deref.result.now in
+    let t = subst (λ l. IsTableOf c.args.graph.now n l) (sym c.deref.ensures.value) c.in_ok-edges.ensures in
+    let strata = (rw c.in_default-2.is at c.in_ok-x.ensures.none) refl in
+    let table = rw c.in-Ok.is at c.in_ok-cells.ensures.ok in
+    all_five i n edges c.requires.bounded (c.in_default.ensures.none refl) (c.in_default-first_orphan.ensures.none refl)
+    strata c.in-Ok.cells.items table (c.in_default-first_shortcut.ensures.none refl) c.args.graph.now t

@@ -1,0 +1,24 @@
+-- One pair more, and the whole table.
+use Rattle.std.proofs.Common.{◌≡◌, ◌*◌, ◌+◌, ◌∙◌, sym, subst, arith}
+use Rattle.olap_check.proofs.LinkingLemmas.{AreEdgesBefore, edges_start, edges_more, table_of}
+use Rattle.olap_check.proofs.linking.edge_table.Goals as goal
+
+pub pairs-init : goal.pairs-init
+pairs-init c =
+    subst (λ l. AreEdgesBefore c.args.graph.now c.args.categories 0 l) (sym c.new-edges.ensures.items)
+    (edges_start c.args.graph.now c.args.categories)
+
+pub pairs-preserved : goal.pairs-preserved
+pairs-preserved c =
+    let t = c.edge-edge.ensures.has in
+    let e = c.is_some.ensures in
+    subst (λ l. AreEdgesBefore c.args.graph.now c.args.categories (c.pairs.pair + 1) l) (sym c.in_ok-push.ensures.items)
+    (edges_more c.pairs.invariant c.is_some.result (λ q. t.0 (sym e ∙ q), λ q. e ∙ t.1 q))
+
+pub returns : goal.returns
+returns c =
+    let n = c.args.categories in
+    let h = c.pairs.auto.pair-end in
+    let e : c.pairs.pair ≡ n * n = omega (arith, h, c.pairs-test.false) in
+    table_of c.args.graph.now n c.pairs.edges.items
+    (subst (λ k. AreEdgesBefore c.args.graph.now n k c.pairs.edges.items) e c.pairs.invariant)

@@ -1,0 +1,9 @@
+-- The constraints so far are met.
+use Rattle.std.proofs.Common.{ℕ, ◌<◌, map}
+use Rattle.olap_ast.specs.Schema.{Meets}
+use Rattle.olap_ast.specs.Trees.{constraint_of}
+use Rattle.olap_check.specs.Meeting.{constraint_at}
+use Rattle.olap_check.proofs.meeting.first_violated.Given as goal
+
+abbrev pub invariant-constraints : goal.invariant-constraints
+invariant-constraints l = (j : ℕ) → j < l.k → Meets l.instance (constraint_at (map constraint_of l.constraints) j)

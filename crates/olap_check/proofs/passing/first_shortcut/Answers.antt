@@ -1,0 +1,11 @@
+-- One member more.
+use Rattle.std.proofs.Common.{refl, arith}
+use Rattle.olap_check.proofs.PassingLemmas.{none_more}
+use Rattle.olap_check.proofs.passing.first_shortcut.Goals as goal
+
+pub members-preserved : goal.members-preserved
+members-preserved c = none_more c.args.instance.now c.members.x c.members.invariant (c.in_default.ensures.none refl)
+
+pub returns-clause-none : goal.returns-clause-none
+returns-clause-none c = λ q x h. let e = c.members-x-end.ensures.count in let t =
+    c.members-test.false in c.members.invariant x (omega (arith, h))

@@ -1,0 +1,13 @@
+-- The places are those of the members reached so far. A place that is filled is used up.
+use Rattle.std.proofs.Common.{◌+◌, ◌≡◌, length}
+use Rattle.olap_check.specs.Rows.{IsFrontier, free_count}
+use Rattle.olap_check.proofs.rising.rise.Given as goal
+
+abbrev pub invariant-listed : goal.invariant-listed
+invariant-listed l = record {
+  size : length l.row.items ≡ l.categories;
+  frontier : IsFrontier l.instance l.x l.row.items l.list.items;
+}
+
+abbrev pub decreases-listed : goal.decreases-listed
+decreases-listed l = free_count l.row.items + length l.list.items

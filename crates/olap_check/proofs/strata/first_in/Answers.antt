@@ -1,0 +1,45 @@
+-- A member of the category repeats, or its search closes its marks.
+use Rattle.std.proofs.Common.{ap, sym, subst, ◌∙◌, arith}
+use Rattle.olap_check.specs.Strata.{IsClosed, RepeatGives}
+use Rattle.olap_check.proofs.StrataLemmas.{closed_start, before_more, first_at_limit, first_found}
+use Rattle.olap_check.proofs.strata.first_in.Goals as goal
+use Rattle.olap_check.proofs.strata.first_in.Goals.{else-category-via-then-category+in_ok-repeats+else-branch, else-category-via-else-category}
+
+pub members-init : goal.members-init
+members-init c = record {
+  closed = closed_start c.args.instance.now c.args.category c.members-count.result c.in_ok-seen.seen.items
+      (c.in_ok-seen.ensures.items_if_clones_equal (λ y e. e)) c.members-count.ensures.count;
+  before = λ w h. absurd (omega (arith, h));
+}
+
+pub members-preserved : goal.members-preserved
+members-preserved c =
+    let i = c.args.instance.now in
+    let v = c.members.invariant in
+    elim c.else-category.branch [
+      | else-category-via-then-category+in_ok-repeats+else-branch w ↦
+          let m = subst (λ b. RepeatGives b i c.args.category c.members.x w.repeats.new.seen.items) w.if-branch.false
+          w.in_ok-repeats.ensures in
+          record {
+            closed = subst (λ l. IsClosed i c.args.category l) (sym (ap (λ x. x.items) w.seen-is)) m.0;
+            before = before_more i c.args.category c.members.x v.before (λ e. m.1);
+          }
+      | else-category-via-else-category w ↦
+          record {
+            closed = subst (λ l. IsClosed i c.args.category l) (sym (ap (λ x. x.items) w.seen-is)) v.closed;
+            before = before_more i c.args.category c.members.x v.before
+                (λ e. absurd (w.if-category.false (c.category.ensures ∙ e)));
+          }
+    ]
+
+pub returns : goal.returns
+returns c = first_at_limit c.args.instance.now c.args.category c.args.limit c.members.x c.members-test.false
+    c.members.invariant.before
+
+pub returns-then-branch : goal.returns-then-branch
+returns-then-branch c =
+    let i = c.args.instance.now in
+    let m = subst (λ b. RepeatGives b i c.args.category c.members.x c.repeats.new.seen.items) c.if-branch.true
+    c.in_ok-repeats.ensures in
+    first_found i c.args.category c.args.limit c.members.x m.0 c.members-test.true m.1 m.2
+    (sym c.category.ensures ∙ c.if-category.true) c.members.invariant.before

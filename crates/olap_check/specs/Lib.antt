@@ -1,0 +1,10 @@
+-- Definitions that contracts cite.
+pub mod Reports
+pub mod Ancestors
+pub mod Rows
+pub mod Strata
+pub mod Linking
+pub mod Passing
+pub mod Tables
+pub mod Above
+pub mod Meeting

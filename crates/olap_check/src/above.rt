@@ -1,0 +1,77 @@
+// The shape of what one member reaches.
+ghost use Rattle.std.specs.Prelude.{◌≡◌, ◌<◌, length, IsTrue, IfSome, IsNone};
+ghost use Rattle.olap_check.specs.Above.{IsAbove, is_present};
+ghost use Rattle.olap_check.specs.Tables.{cell};
+ghost use Rattle.olap_eval.specs.Shapes.{IsShape};
+
+use crate::parting::ancestor;
+use olap_base::{CatId, MemberId, Text};
+use olap_eval::Shape;
+use olap_instance::Instance;
+
+/// What x reaches, read from the table of ancestors.
+#[derive(Clone, Copy)]
+pub(crate) struct Above<'a> {
+    pub instance: &'a Instance,
+    pub cells: &'a [u32],
+    pub categories: u16,
+    pub x: u32,
+    ghost sound: { IsAbove instance.now categories x cells.now },
+    ghost row_is_shape: { IsShape instance.now (is_present categories cells.now x) (cell categories cells.now x) },
+}
+
+impl<'a> Above<'a> {
+    // The member of the category, if x reaches one.
+    fn member(&self, c: u16) -> Option<u32>
+        ensures some { let place = cell self.now.categories self.now.cells.now self.now.x in
+            let present = is_present self.now.categories self.now.cells.now self.now.x in
+            IfSome result (λ y. IsTrue (present c) × (place c ≡ y) × (y < length self.now.instance.now)) }
+        ensures none { IsNone result → IsTrue (is_present self.now.categories self.now.cells.now self.now.x c) → ⊥ }
+    {
+        if c < self.categories {
+            ancestor(self.instance, self.cells, self.categories, self.x, c)
+        } else {
+            None
+        }
+    }
+}
+
+impl<'a> Shape for Above<'a> {
+    ghost use Rattle.olap_check.specs.Above.{is_present};
+    ghost use Rattle.olap_check.specs.Tables.{cell};
+
+    ghost instance = { λ s. s.instance.now };
+
+    ghost present = { λ s. is_present s.categories s.cells.now s.x };
+
+    ghost place = { λ s. cell s.categories s.cells.now s.x };
+
+    fn has_edge(&self, c: CatId, d: CatId) -> bool {
+        let Some(y) = self.member(c.0) else {
+            return false;
+        };
+        let Some(z) = self.member(d.0) else {
+            return false;
+        };
+        self.instance.parents(MemberId(y)).contains(&MemberId(z))
+    }
+
+    fn reaches(&self, c: CatId, d: CatId) -> bool {
+        let Some(y) = self.member(c.0) else {
+            return false;
+        };
+        if self.member(d.0).is_none() {
+            return false;
+        }
+        ancestor(self.instance, self.cells, self.categories, y, d.0).is_some()
+    }
+
+    fn name_is(&self, c: CatId, k: &Text) -> bool {
+        match self.member(c.0) {
+            Some(y) => self.instance.name(MemberId(y)).bytes() == k.bytes(),
+            None => false,
+        }
+    }
+
+    ghost shape = { λ s. s.row_is_shape };
+}

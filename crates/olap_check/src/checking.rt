@@ -1,0 +1,43 @@
+// The check: the laws, and then the constraints.
+ghost use Rattle.std.specs.Prelude.{◌≡◌, ◌≤◌, length, map, IfOk, IfErr};
+ghost use Rattle.olap_ast.specs.Schema.{IsLegal};
+ghost use Rattle.olap_check.specs.Reports.{IsRefused, schema_of};
+ghost use Rattle.olap_instance.specs.Made.{IsMadeFor};
+
+use crate::laws::{bound, lawful};
+use crate::meeting::first_violated;
+use crate::{CheckRefusal, Legal, Violation};
+use olap_ast::Constraint;
+use olap_base::MemberId;
+use olap_graph::Graph;
+use olap_instance::Instance;
+use std::alloc::Global;
+
+/// The instance as a legal one for this graph and these constraints.
+///
+/// `Broken` exactly where it isn't legal, with the first violation: by law, and within a law in file order, as
+/// `IsFirstViolation` says. `Memory` where there is no room, and the instance is dropped. Linear in members times
+/// categories, parents of a member count as members.
+pub fn check_parts(
+    alloc: Global,
+    graph: &Graph,
+    constraints: &[Constraint],
+    instance: Instance,
+) -> Result<Legal, CheckRefusal>
+    requires made { IsMadeFor graph.now instance }
+    requires few { length constraints.now ≤ 64 }
+    ensures same { IfOk result (λ legal. legal ≡ instance) }
+    ensures ok { IfOk result (λ legal. IsLegal (schema_of graph.now constraints.now) instance) }
+    ensures err { IfErr result (IsRefused (schema_of graph.now constraints.now) instance) }
+{
+    let categories = bound(graph, &instance);
+    let cells = match lawful(alloc, graph, &instance, categories)? {
+        Ok(cells) => cells,
+        Err(violation) => return Err(CheckRefusal::Broken(instance, violation)),
+    };
+    if let Some((k, x)) = first_violated(&instance, &cells, categories, constraints) {
+        let violation = Violation::Constraint(k as u16 + 1, MemberId(x));
+        return Err(CheckRefusal::Broken(instance, violation));
+    }
+    Ok(Legal::of(instance, categories, cells))
+}

@@ -1,0 +1,80 @@
+// The five laws, one after the other.
+ghost use Rattle.std.specs.Prelude.{◌≡◌, ◌<◌, ◌≤◌, length, List, IfOk, IfErr, slice_index};
+ghost use Rattle.olap_ast.specs.Schema.{Constraint};
+ghost use Rattle.olap_base.specs.Graph.{category_count};
+ghost use Rattle.olap_base.specs.Instance.{IsLawful, parents_of};
+ghost use Rattle.olap_check.specs.Reports.{IsFirstReport};
+ghost use Rattle.olap_check.specs.Rows.{IsBounded};
+ghost use Rattle.olap_check.specs.Tables.{IsTable};
+ghost use Rattle.olap_instance.specs.Made.{IsMadeFor};
+
+use crate::Violation;
+use crate::linking::{edge_table, first_orphan, first_unlinked};
+use crate::parting::{split_category, table};
+use crate::passing::first_shortcut;
+use crate::strata::first_repeated;
+use olap_base::{CatId, MemberId, Memory};
+use olap_graph::Graph;
+use olap_instance::Instance;
+use std::alloc::Global;
+
+/// How many categories there are. Its contract says that the instance lies within that number.
+pub(crate) fn bound(graph: &Graph, instance: &Instance) -> u16
+    requires { IsMadeFor graph.now instance.now }
+    ensures count { result ≡ category_count graph.now }
+    ensures few { result ≤ 64 }
+    ensures bounded { IsBounded instance.now result }
+{
+    let _members = instance.members();
+    graph.categories()
+}
+
+// The k-th parent of x.
+fn parent(instance: &Instance, x: u32, k: usize) -> MemberId
+    requires x { x < length instance.now }
+    requires k { k < length (parents_of instance.now x) }
+    ensures { result.0 ≡ slice_index (parents_of instance.now x) k }
+{
+    instance.parents(MemberId(x))[k]
+}
+
+/// The table of ancestors of a lawful instance, or the first violation of a law, whatever the constraints are.
+pub(crate) fn lawful(
+    alloc: Global,
+    graph: &Graph,
+    instance: &Instance,
+    categories: u16,
+) -> Result<Result<Vec<u32>, Violation>, Memory>
+    requires count { categories ≡ category_count graph.now }
+    requires few { categories ≤ 64 }
+    requires bounded { IsBounded instance.now categories }
+    ensures table { let count = length instance.now in
+        IfOk result (λ r. IfOk r (λ cells. IsTable instance.now categories count cells.items)) }
+    ensures lawful { IfOk result (λ r. IfOk r (λ cells. IsLawful graph.now instance.now)) }
+    ensures first { IfOk result (λ r. IfErr r (λ v. (constraints : List Constraint)
+        → IsFirstReport (record { graph = graph.now; constraints = constraints }) instance.now v)) }
+{
+    let edges = edge_table(alloc, graph, categories)?;
+    if let Some((x, k)) = first_unlinked(instance, &edges, categories) {
+        let above = parent(instance, x, k);
+        return Ok(Err(Violation::Connectivity(MemberId(x), above)));
+    }
+    if let Some(x) = first_orphan(instance) {
+        return Ok(Err(Violation::NoParent(MemberId(x))));
+    }
+    if let Some(x) = first_repeated(alloc, instance, categories)? {
+        return Ok(Err(Violation::Stratification(MemberId(x))));
+    }
+    let cells = match table(alloc, instance, categories)? {
+        Ok(cells) => cells,
+        Err(x) => {
+            let category = split_category(alloc, instance, categories, x)?;
+            return Ok(Err(Violation::Partitioning(MemberId(x), CatId(category))));
+        }
+    };
+    if let Some((x, k)) = first_shortcut(instance, &cells, categories) {
+        let above = parent(instance, x, k);
+        return Ok(Err(Violation::Shortcut(MemberId(x), above)));
+    }
+    Ok(Ok(cells))
+}

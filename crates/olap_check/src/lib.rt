@@ -1,0 +1,22 @@
+//! The check of a dimension instance against its schema: five laws and the constraints.
+//!
+//! `check_parts` answers a `Legal`, which keeps the instance and the table of its ancestors, or the first violation. A
+//! contract sees a `Legal` as its instance, the definition's list of members; `specs/Reports.antt` says how a violation
+//! of the definitions is told by ids. Nothing here knows how an instance or a schema is read.
+#![tactic(auto)]
+
+mod above;
+mod checking;
+mod laws;
+mod legality;
+mod linking;
+mod meeting;
+mod parting;
+mod passing;
+mod rising;
+mod strata;
+mod violations;
+
+pub use checking::check_parts;
+pub use legality::Legal;
+pub use violations::{CheckRefusal, Violation};

@@ -1,0 +1,109 @@
+// The table of ancestors, and members that reach two members of one category.
+ghost use Rattle.std.specs.Prelude.{◌≡◌, ◌<◌, ◌≤◌, ◌↔◌, length, ℕ, IfOk, IfErr, IfSome, IsNone, IsTrue};
+ghost use Rattle.olap_base.specs.Instance.{IsMemberOf, Reaches, ReachesCategory};
+ghost use Rattle.olap_check.specs.Rows.{IsBounded, Splits};
+ghost use Rattle.olap_check.specs.Passing.{IsStratified};
+ghost use Rattle.olap_check.specs.Tables.{HasTwo, IsFirstSplit, IsLeastSplit, IsTable, MarksAbove};
+
+use crate::rising::{NONE, rise};
+use crate::strata::mark;
+use olap_base::{MemberId, Memory};
+use olap_instance::Instance;
+use std::alloc::Global;
+
+/// For each member and each category the member of it that is reached; or the first member that reaches two members of
+/// one category. A row of the table for each member.
+pub(crate) fn table(
+    alloc: Global,
+    instance: &Instance,
+    categories: u16,
+) -> Result<Result<Vec<u32>, u32>, Memory>
+    requires { IsBounded instance.now categories }
+    ensures ok { let count = length instance.now in
+        IfOk result (λ r. IfOk r (λ cells. IsTable instance.now categories count cells.items)) }
+    ensures err { IfOk result (λ r. IfErr r (IsFirstSplit instance.now categories)) }
+{
+    let mut cells = Vec::new(alloc);
+    'members: for x in 0..instance.members() {
+        match rise(alloc, instance, categories, x)? {
+            Some(row) => cells.extend_from_slice(&row)?,
+            None => return Ok(Err(x)),
+        }
+    }
+    Ok(Ok(cells))
+}
+
+/// The member of the category that x reaches. One look at the table.
+pub(crate) fn ancestor(
+    instance: &Instance,
+    cells: &[u32],
+    categories: u16,
+    x: u32,
+    category: u16,
+) -> Option<u32>
+    requires x { x < length instance.now }
+    requires category { category < categories }
+    requires table { IsTable instance.now categories (length instance.now) cells.now }
+    requires few { length instance.now ≤ 262144 }
+    ensures some { IfSome result (λ y. IsMemberOf instance.now category y × Reaches instance.now x y) }
+    ensures none { IsNone result → ReachesCategory instance.now x category → ⊥ }
+{
+    let cell = cells[x as usize * usize::from(categories) + usize::from(category)];
+    if cell == NONE { None } else { Some(cell) }
+}
+
+// Marks the members that x is far below. No member has the number of categories as its category, so no parent stops
+// the marking.
+fn above(alloc: Global, instance: &Instance, categories: u16, x: u32) -> Result<Vec<bool>, Memory>
+    requires x { x < length instance.now }
+    requires bounded { IsBounded instance.now categories }
+    ensures { IfOk result (λ marks. MarksAbove instance.now x marks.items) }
+{
+    let count = instance.members() as usize;
+    let mut seen = vec![in alloc; false; count]?;
+    let mut list = Vec::new(alloc);
+    let _first = mark(instance, categories, x, &mut seen, &mut list)?;
+    'listed: while let Some(z) = list.pop() {
+        let _whole = mark(instance, categories, z, &mut seen, &mut list)?;
+    }
+    Ok(seen)
+}
+
+// Whether two members of the category are marked.
+fn has_two(instance: &Instance, seen: &[bool], category: u16) -> bool
+    requires { length seen.now ≡ length instance.now }
+    ensures { IsTrue result ↔ HasTwo instance.now seen.now category }
+{
+    let mut one = None;
+    'members: for y in 0..instance.members() {
+        if seen[y as usize] && instance.category(MemberId(y)).0 == category {
+            if one.is_some() {
+                return true;
+            }
+            one = Some(y);
+        }
+    }
+    false
+}
+
+/// The least category of which x is far below two members.
+pub(crate) fn split_category(
+    alloc: Global,
+    instance: &Instance,
+    categories: u16,
+    x: u32,
+) -> Result<u16, Memory>
+    requires x { x < length instance.now }
+    requires bounded { IsBounded instance.now categories }
+    requires strata { IsStratified instance.now }
+    requires splits { Splits instance.now x }
+    ensures { IfOk result (IsLeastSplit instance.now x) }
+{
+    let seen = above(alloc, instance, categories, x)?;
+    'categories: for c in 0..categories {
+        if has_two(instance, &seen, c) {
+            return Ok(c);
+        }
+    }
+    unreachable!()
+}

@@ -1,0 +1,104 @@
+// Members that are far below a member of their own category.
+ghost use Rattle.std.specs.Prelude.{◌≡◌, ◌<◌, ◌≤◌, length, ℕ, IfOk, IfSome, IsNone, vec_len};
+ghost use Rattle.olap_base.specs.Instance.{parents_of, IsBelow};
+ghost use Rattle.olap_check.specs.Rows.{IsBounded};
+ghost use Rattle.olap_check.specs.Strata.{IsClosed, IsFirstIn, IsFirstRepeat, MarkGives, RepeatGives, Repeats};
+
+use olap_base::{MemberId, Memory};
+use olap_instance::Instance;
+use std::alloc::Global;
+
+// Marks the parents of z and lists those that are new. False where one is of the category.
+pub(crate) fn mark(
+    instance: &Instance,
+    category: u16,
+    z: u32,
+    seen: &mut Vec<bool>,
+    list: &mut Vec<u32>,
+) -> Result<bool, Memory>
+    requires z { z < length instance.now }
+    requires seen { vec_len seen.old ≡ length instance.now }
+    ensures { let parents = parents_of instance.now z in
+        IfOk result (λ b. MarkGives b instance.now category parents
+        seen.old.items seen.new.items list.old.items list.new.items) }
+{
+    'parents: for p in instance.parents(MemberId(z)) {
+        if instance.category(*p).0 == category {
+            return Ok(false);
+        }
+        if !seen[p.0 as usize] {
+            seen[p.0 as usize] = true;
+            list.push(p.0)?;
+        }
+    }
+    Ok(true)
+}
+
+// Whether a member of the category is above x, where what is marked has none above it. What it marks has none above
+// it either, unless it finds one: so the searches from all members of a category share their marks.
+fn repeats(
+    alloc: Global,
+    instance: &Instance,
+    category: u16,
+    x: u32,
+    seen: &mut Vec<bool>,
+) -> Result<bool, Memory>
+    requires x { x < length instance.now }
+    requires places { (z y : ℕ) → IsBelow instance.now z y → y < length instance.now }
+    requires closed { IsClosed instance.now category seen.old.items }
+    ensures { IfOk result (λ found. RepeatGives found instance.now category x seen.new.items) }
+{
+    let mut list = Vec::new(alloc);
+    let whole = mark(instance, category, x, seen, &mut list)?;
+    if !whole {
+        return Ok(true);
+    }
+    'listed: while let Some(z) = list.pop() {
+        let passed = mark(instance, category, z, seen, &mut list)?;
+        if !passed {
+            return Ok(true);
+        }
+    }
+    Ok(false)
+}
+
+// The first member of the category, below `limit`, that is far below a member of its category; else `limit`.
+fn first_in(alloc: Global, instance: &Instance, category: u16, limit: u32) -> Result<u32, Memory>
+    requires limit { limit ≤ length instance.now }
+    requires places { (z y : ℕ) → IsBelow instance.now z y → y < length instance.now }
+    ensures { IfOk result (λ r. IsFirstIn instance.now category limit r) }
+{
+    let count = instance.members() as usize;
+    let mut seen = vec![in alloc; false; count]?;
+    'members: for x in 0..limit {
+        if instance.category(MemberId(x)).0 == category
+            && repeats(alloc, instance, category, x, &mut seen)?
+        {
+            return Ok(x);
+        }
+    }
+    Ok(limit)
+}
+
+/// The first member that is far below a member of its category.
+///
+/// Cost: for each category at most all parents once, and mostly those of the members above that category.
+pub(crate) fn first_repeated(
+    alloc: Global,
+    instance: &Instance,
+    categories: u16,
+) -> Result<Option<u32>, Memory>
+    requires { IsBounded instance.now categories }
+    ensures none { IfOk result (λ o. IsNone o → (x : ℕ) → Repeats instance.now x → ⊥) }
+    ensures some { IfOk result (λ o. IfSome o (IsFirstRepeat instance.now)) }
+{
+    let mut first = instance.members();
+    'categories: for category in 0..categories {
+        first = first_in(alloc, instance, category, first)?;
+    }
+    if first < instance.members() {
+        Ok(Some(first))
+    } else {
+        Ok(None)
+    }
+}
