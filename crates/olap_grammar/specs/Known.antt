@@ -1,0 +1,7 @@
+-- The graph that names are looked up in.
+use Rattle.olap_base.specs.Graph.{Graph}
+use Rattle.olap_grammar.specs.declared.knowing.Known.{Known}
+use Rattle.olap_grammar.specs.declared.knowing.Known.TheVariants as known
+
+abbrev pub graph_seen : Known → Graph
+graph_seen (known.Growing builder) = builder.now
