@@ -9,3 +9,4 @@ pub mod CutterLemmas
 pub mod StackLemmas
 pub mod ReaderLemmas
 pub mod WordLemmas
+pub mod LeafLemmas
