@@ -1,5 +1,5 @@
 -- A graph in the making keeps its promises when a category or an edge is added.
-use Rattle.std.proofs.Common.{◌≡◌, ◌≢◌, ℕ, ◌+◌, ◌<◌, ◌≤◌, List, [], ◌∷◌, ◌++◌, length, get_or, drop, map, Option, None, Some, false, is_some, refl, sym, ap, ◌∙◌, subst, inl, inr, arith}
+use Rattle.std.proofs.Common.{◌≡◌, ◌≢◌, ℕ, ◌<◌, ◌≤◌, List, [], ◌∷◌, ◌++◌, length, drop, map, Option, None, Some, false, is_some, refl, sym, ap, ◌∙◌, subst, inl, inr, arith}
 use Rattle.std.specs.Prelude.{Contains, AllPairs, codes, ◌==◌}
 use Rattle.std.specs.Option.{option_map}
 use Rattle.std.proofs.lemmas.Bool.Decides.{Decides-eqb}
@@ -12,7 +12,7 @@ use Rattle.olap_base.proofs.ListLemmas.{contains_head}
 use Rattle.olap_graph.specs.declared.listing.Ends.{Ends}
 use Rattle.olap_graph.specs.Lookups.{category_named, edge_between, joins}
 use Rattle.olap_graph.specs.Building.{IsWithinLimits, IsUnfinished, with_category, with_edge}
-use Rattle.olap_graph.specs.Inside.{IsHeaded, edge_of, graph_of}
+use Rattle.olap_graph.specs.Listing.{IsHeaded, edge_of, graph_of}
 use Rattle.olap_graph.proofs.PlaceLemmas.{missing, joins-Decides, place_of-none}
 
 -- a new element keeps a list without repeats

@@ -1,3 +1,6 @@
 -- Lemmas.
 pub mod PlaceLemmas
 mod GrowthLemmas
+mod MarkingLemmas
+mod TableLemmas
+mod EdgeLemmas

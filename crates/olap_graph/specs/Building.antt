@@ -5,7 +5,7 @@
 --     edge_refusal         the first reason to refuse an edge
 --     IsFirstWithoutWay    the first declared category that doesn't reach `All`
 use Rattle.std.specs.Prelude.{◌≡◌, ◌≢◌, ℕ, ◌<◌, ◌≤◌, List, [], ◌∷◌, ◌++◌, length, AllPairs, Contains, codes, Option, Some, None, is_some, nat_le, if◌then◌else◌, ◌==◌}
-use Rattle.olap_base.specs.Graph.{Edge, Graph, category_count, IsCategory, IsDeclared, HasEdge, CategoryReaches, IsCategoryName}
+use Rattle.olap_base.specs.Graph.{Graph, category_count, IsCategory, IsDeclared, HasEdge, CategoryReaches, IsCategoryName}
 use Rattle.olap_graph.specs.Lookups.{category_named, edge_between}
 use Rattle.olap_graph.specs.declared.refusals.CategoryRefusal.{CategoryRefusal}
 use Rattle.olap_graph.specs.declared.refusals.CategoryRefusal.TheVariants as of_category

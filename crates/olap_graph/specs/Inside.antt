@@ -1,26 +1,29 @@
--- The graph that a builder's fields stand for.
-use Rattle.std.specs.Prelude.{◌≡◌, ℕ, List, ◌∷◌, map, drop, codes}
-use Rattle.olap_base.specs.Graph.{Edge, Graph}
+-- What the fields of a graph and of a builder stand for, and keep.
+use Rattle.std.specs.Prelude.{length}
+use Rattle.olap_base.specs.Graph.{Graph, IsHierarchy}
 use Rattle.olap_graph.specs.Building.{IsWithinLimits, IsUnfinished}
-use Rattle.olap_graph.specs.declared.listing.Ends.{Ends}
+use Rattle.olap_graph.specs.Listing.{graph_of, IsHeaded}
+use Rattle.olap_graph.specs.Tables.{AreTables, drawn}
 use Rattle.olap_graph.specs.declared.building.GraphBuilder.TheInside as builder
+use Rattle.olap_graph.specs.declared.graphs.Graph.TheInside as graph
 
--- the edge between two ends
-abbrev pub edge_of : Ends → Edge
-edge_of e = record { child = e.child.0; parent = e.parent.0 }
-
--- the graph of a list of names, `All` first, and a list of ends
-abbrev pub graph_of : List (List ℕ) → List Ends → Graph
-graph_of names ends = record { names = drop 1 names; edges = map edge_of ends }
-
--- the first name is that of `All`
-abbrev pub IsHeaded : List (List ℕ) → Type 0
-IsHeaded names = names ≡ codes "All" ∷ drop 1 names
-
+-- the graph so far
 abbrev pub built : builder.Inside → Graph
 built a = graph_of a.names.items a.edges.items
 
+-- what a builder keeps
 pub record IsBuilt (a : builder.Inside) : Type 0 where
   pub headed : IsHeaded a.names.items
   pub limits : IsWithinLimits (built a)
   pub unfinished : IsUnfinished (built a)
+
+-- the graph
+abbrev pub finished : graph.Inside → Graph
+finished a = graph_of a.names.items a.edges.items
+
+-- what a graph keeps
+pub record IsFinished (a : graph.Inside) : Type 0 where
+  pub headed : IsHeaded a.names.items
+  pub limits : IsWithinLimits (finished a)
+  pub hierarchy : IsHierarchy (finished a)
+  pub tables : AreTables (drawn a.edges.items) (length a.names.items) a.tables

@@ -1,12 +1,12 @@
 // Graphs in the making.
-ghost use Rattle.std.specs.Prelude.{◌≡◌, ◌↔◌, ◌≤◌, None, length, IfOk, IfErr, IfSome, OnErr, IsSome};
+ghost use Rattle.std.specs.Prelude.{◌≡◌, ◌↔◌, ◌≤◌, ℕ, None, length, IfOk, IfErr, IfSome, OnErr, IsSome};
 ghost use Rattle.std.specs.Option.{option_map};
-ghost use Rattle.olap_base.specs.Graph.{IsCategory, IsCategoryName, HasEdge, category_count};
+ghost use Rattle.olap_base.specs.Graph.{IsCategory, IsCategoryName, HasEdge, CategoryReaches, category_count};
 ghost use Rattle.olap_graph.specs.Lookups.{category_named, edge_between};
-ghost use Rattle.olap_graph.specs.Building.{all_alone, with_category, with_edge, category_refusal, edge_refusal, IsCategoryCause, IsEdgeCause};
+ghost use Rattle.olap_graph.specs.Building.{all_alone, with_category, with_edge, category_refusal, edge_refusal, IsCategoryCause, IsEdgeCause, IsGraphCause};
 
 use crate::listing::{Ends, MOST_CATEGORIES, MOST_EDGES, joining, named};
-use crate::{CategoryRefusal, EdgeRefusal};
+use crate::{CategoryRefusal, EdgeRefusal, Graph, GraphRefusal};
 use olap_base::{CatId, EdgeId, Memory, Text};
 use std::alloc::Global;
 use std::marker::Model;
@@ -107,5 +107,14 @@ impl GraphBuilder {
         ensures has { IsSome result ↔ HasEdge self.now child.0 parent.0 }
     {
         joining(&self.edges, child, parent)
+    }
+
+    /// The graph with these categories and edges. Cost: categories times edges.
+    pub fn finish(self) -> Result<Graph, GraphRefusal>
+        ensures ok { IfOk result (λ graph. graph ≡ self) }
+        ensures way { IfOk result (λ graph. (c : ℕ) → IsCategory graph c → CategoryReaches graph c 0) }
+        ensures err { IfErr result (IsGraphCause self) }
+    {
+        Graph::of(self.alloc, self.names, self.edges)
     }
 }

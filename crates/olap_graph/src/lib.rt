@@ -7,10 +7,14 @@
 #![tactic(auto)]
 
 mod building;
+mod graphs;
 mod listing;
 mod naming;
+mod reaching;
 mod refusals;
+mod tables;
 
 pub use building::GraphBuilder;
+pub use graphs::Graph;
 pub use naming::category_name;
 pub use refusals::{CategoryRefusal, EdgeRefusal, GraphRefusal};

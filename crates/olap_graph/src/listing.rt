@@ -1,12 +1,15 @@
 // The lists behind a graph: its names, and the ends of its edges.
-ghost use Rattle.std.specs.Prelude.{◌≡◌, ◌≤◌, ◌<◌, ◌&&◌, length, map};
+ghost use Rattle.std.specs.Prelude.{◌≡◌, ◌≤◌, ◌<◌, ◌&&◌, length, map, All, Contains, IfOk, IfSome, IfNone};
 ghost use Rattle.std.specs.Option.{option_map};
 ghost use Rattle.std.specs.List.{position_from};
 ghost use Rattle.olap_base.specs.Naming.{place_of};
-ghost use Rattle.olap_graph.specs.Lookups.{joins};
-ghost use Rattle.olap_graph.specs.Inside.{edge_of};
+ghost use Rattle.olap_graph.specs.Lookups.{joins, edge_at};
+ghost use Rattle.olap_graph.specs.Listing.{edge_of};
+ghost use Rattle.olap_graph.specs.Tables.{drawn};
+ghost use Rattle.olap_graph.specs.Marking.{parents_of};
 
-use olap_base::{CatId, EdgeId, Text};
+use olap_base::{CatId, EdgeId, Memory, Text};
+use std::alloc::Global;
 
 /// The most categories, `All` included.
 pub(crate) const MOST_CATEGORIES: usize = 64;
@@ -54,4 +57,29 @@ pub(crate) fn joining(edges: &[Ends], child: CatId, parent: CatId) -> Option<Edg
         }
     }
     None
+}
+
+/// The first of these edges that leads to the parent.
+pub(crate) fn leading(edges: &[Ends], out: &[EdgeId], parent: CatId) -> Option<EdgeId>
+    requires { All (λ e. e.0 < length edges.now) out.now }
+    ensures some { IfSome result (λ e. Contains out.now e × ((edge_at (drawn edges.now) e.0).parent ≡ parent.0)) }
+    ensures none { IfNone result (Contains (parents_of (drawn edges.now) out.now) parent.0 → ⊥) }
+{
+    for e in out {
+        if edges[usize::from(e.0)].parent.0 == parent.0 {
+            return Some(*e);
+        }
+    }
+    None
+}
+
+/// The same texts.
+pub(crate) fn copied(alloc: Global, texts: &[Text]) -> Result<Vec<Text>, Memory>
+    ensures { IfOk result (λ copy. copy.items ≡ texts.now) }
+{
+    let mut copy = Vec::new(alloc);
+    for text in texts {
+        copy.push(Text::from_bytes(alloc, text.bytes())?)?;
+    }
+    Ok(copy)
 }

@@ -31,9 +31,7 @@ pub fn category_name(bytes: &[u8]) -> bool
     match bytes {
         [] => false,
         [first, rest @ ..] => {
-            is_letter(*first)
-                && rest.iter().all(|b| is_letter_or_digit(*b))
-                && !is_reserved(bytes)
+            is_letter(*first) && rest.iter().all(|b| is_letter_or_digit(*b)) && !is_reserved(bytes)
         }
     }
 }

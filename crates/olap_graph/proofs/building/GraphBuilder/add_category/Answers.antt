@@ -1,8 +1,9 @@
-use Rattle.std.proofs.Common.{◌≡◌, ◌<◌, None, length, subst, sym, ap, ◌∙◌, arith}
+use Rattle.std.proofs.Common.{◌≡◌, ◌<◌, None, subst, sym, ap, ◌∙◌, arith}
 use Rattle.olap_base.specs.Graph.{Graph, category_count}
 use Rattle.olap_graph.specs.Lookups.{category_named}
 use Rattle.olap_graph.specs.Building.{IsWithinLimits, IsUnfinished, with_category}
-use Rattle.olap_graph.specs.Inside.{IsHeaded, graph_of, built}
+use Rattle.olap_graph.specs.Listing.{IsHeaded, graph_of}
+use Rattle.olap_graph.specs.Inside.{built}
 use Rattle.olap_graph.proofs.GrowthLemmas.{limits-with_category, unfinished-with_category, graph_of-category, headed_push, headed_length, nothing}
 use Rattle.olap_graph.proofs.building.GraphBuilder.add_category.Goals as goal
 
@@ -15,12 +16,12 @@ invariant_of-self-2 c =
     let headed = c.self.invariant.headed in
     let old : Graph = built c.self.inside in
     let grown : graph_of c.push.new.self.items ends ≡ with_category old name =
-        ap (λ ns. graph_of ns ends) c.in_ok-push.ensures.items ∙ graph_of-category names ends name headed in
+    ap (λ ns. graph_of ns ends) c.in_ok-push.ensures.items ∙ graph_of-category names ends name headed in
     let few : category_count old < 64 = let l = headed_length names ends headed in omega arith in
     let none : category_named old name ≡ None =
-        nothing (λ k. k.0) c.category.result (category_named old name)
-        (c.category.ensures.place ∙ ap (category_named c.args.self.now) c.bytes.ensures ∙ ap (λ (g : Graph). category_named g name) (sym c.self.view_is))
-        (sym c.is_some.ensures ∙ c.if-is_some.false) in
+    nothing (λ k. k.0) c.category.result (category_named old name)
+    (c.category.ensures.place ∙ ap (category_named c.args.self.now) c.bytes.ensures ∙ ap (λ (g : Graph). category_named g name) (sym c.self.view_is))
+    (sym c.is_some.ensures ∙ c.if-is_some.false) in
     record {
       headed = subst IsHeaded (sym c.in_ok-push.ensures.items) (headed_push names name headed);
       limits = subst IsWithinLimits (sym grown) (limits-with_category old name c.self.invariant.limits few c.requires.short);

@@ -3,7 +3,7 @@ use Rattle.std.specs.Prelude.{IsSome, ◌↔◌}
 use Rattle.std.specs.List.{position_from}
 use Rattle.olap_base.specs.Graph.{Graph, HasEdge}
 use Rattle.olap_graph.specs.Lookups.{joins}
-use Rattle.olap_graph.specs.Inside.{edge_of}
+use Rattle.olap_graph.specs.Listing.{edge_of}
 use Rattle.olap_graph.proofs.PlaceLemmas.{joins-found}
 use Rattle.olap_graph.proofs.building.GraphBuilder.edge.Goals as goal
 

@@ -1,0 +1,17 @@
+use Rattle.std.proofs.Common.{◌<◌, ◌↔◌, length, get_or, sym, subst, ap, ◌∙◌}
+use Rattle.std.specs.Prelude.{IsTrue}
+use Rattle.olap_base.specs.Graph.{Graph, IsBottom, category_count}
+use Rattle.olap_graph.proofs.GrowthLemmas.{headed_length}
+use Rattle.olap_graph.proofs.TableLemmas.{bottom_is}
+use Rattle.olap_graph.proofs.graphs.Graph.is_bottom.Goals as goal
+
+pub returns : goal.returns
+returns c =
+    let names = c.self.inside.names.items in
+    let ends = c.self.inside.edges.items in
+    let x = c.args.c.0 in
+    let e = headed_length names ends c.self.invariant.headed in
+    let inside = subst (λ n. x < n) (sym (e ∙ ap category_count c.self.view_is)) c.requires in
+    subst (λ (g : Graph). IsTrue c.index.result.now ↔ IsBottom g x) c.self.view_is
+    (bottom_is names ends (length names) x c.self.inside.tables.bottoms.items c.index.result.now c.self.invariant.tables.bottoms e inside
+    (c.index.ensures ∙ ap (λ i. get_or c.self.inside.tables.bottoms.items i c.index.result.now) c.from.ensures))

@@ -1,0 +1,25 @@
+use Rattle.std.proofs.Common.{◌≡◌, ◌+◌, ◌==◌, List, map, refl, ap, sym, subst, ◌∙◌}
+use Rattle.std.specs.Prelude.{filter}
+use Rattle.std.specs.List.{range_with_len}
+use Rattle.olap_base.specs.declared.ids.EdgeId.{EdgeId}
+use Rattle.olap_graph.specs.Lookups.{edge_at}
+use Rattle.olap_graph.specs.Tables.{drawn}
+use Rattle.olap_graph.proofs.TableLemmas.{out_push, out_skip}
+use Rattle.olap_graph.proofs.tables.edges_out.Goals as goal
+use Rattle.olap_graph.proofs.tables.edges_out.Goals.{then-edges-i+in_ok-push, else-edges-i}
+
+pub loop-i-preserved : goal.loop-i-preserved
+loop-i-preserved c =
+    let ends = c.args.edges.now in
+    let x = c.args.category in
+    let i = c.loop-i.i in
+    let out = c.loop-i.out.items in
+    let Goal : List EdgeId → Type 0 = λ es. map (λ e. e.0) es ≡ filter (λ j. (edge_at (drawn ends) j).child == x) (range_with_len 0 (i + 1)) in
+    elim c.if-edges-i.branch [
+      | then-edges-i+in_ok-push w ↦
+          let e : EdgeId = record { 0 = i } in
+          out_push ends x i out c.if-edges-i.out.items e c.loop-i-test.true w.if-edges-i.true refl
+          (ap (λ v. v.items) w.out-is ∙ w.in_ok-push.ensures.items) c.loop-i.invariant
+      | else-edges-i w ↦
+          subst Goal (sym (ap (λ v. v.items) w.out-is)) (out_skip ends x i out c.loop-i-test.true w.if-edges-i.false c.loop-i.invariant)
+    ]

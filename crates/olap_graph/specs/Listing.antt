@@ -1,0 +1,16 @@
+-- The graph that a list of names and a list of ends stand for.
+use Rattle.std.specs.Prelude.{◌≡◌, ℕ, List, ◌∷◌, map, drop, codes}
+use Rattle.olap_base.specs.Graph.{Edge, Graph}
+use Rattle.olap_graph.specs.declared.listing.Ends.{Ends}
+
+-- the edge between two ends
+abbrev pub edge_of : Ends → Edge
+edge_of e = record { child = e.child.0; parent = e.parent.0 }
+
+-- the graph of a list of names, `All` first, and a list of ends
+abbrev pub graph_of : List (List ℕ) → List Ends → Graph
+graph_of names ends = record { names = drop 1 names; edges = map edge_of ends }
+
+-- the first name is that of `All`
+abbrev pub IsHeaded : List (List ℕ) → Type 0
+IsHeaded names = names ≡ codes "All" ∷ drop 1 names
