@@ -204,7 +204,6 @@ joins_depth joint.Xor f g = refl
 joins_depth joint.Or f g = refl
 joins_depth joint.And f g = refl
 
-
 deep : (d : ℕ) (f : Formula) → nat_le d 64 ≡ false → kept d f ≡ (65, Meaning.Formula.Truth)
 deep d f e = rw e refl
 

@@ -10,7 +10,6 @@ pub some_pieces : (mark : ℕ) (w : List ℕ) (xs : List (List ℕ)) → xs ≡ 
 unfolding pieces_of
 some_pieces mark w xs e = let l = ap length e ∙ length-slice_split (λ b. b == mark) w in omega arith
 
-
 -- two tests of one fact are one
 pub same_answer : {P : Type 0} (a b : Bool) → IsTrue a ↔ P → IsTrue b ↔ P → a ≡ b
 same_answer true true p q = refl

@@ -5,3 +5,4 @@ use Rattle.olap_grammar.specs.declared.knowing.Known.TheVariants as known
 
 abbrev pub graph_seen : Known → Graph
 graph_seen (known.Growing builder) = builder.now
+graph_seen (known.Whole graph) = graph.now

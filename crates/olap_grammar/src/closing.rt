@@ -37,7 +37,12 @@ pub(crate) fn left_level(joint: Joint) -> u8
 }
 
 /// The formula with all that is open in front of it, of the level or a tighter one.
-pub(crate) fn settle(alloc: Global, least: u8, part: Part, stack: &mut Stack) -> Result<Part, Memory>
+pub(crate) fn settle(
+    alloc: Global,
+    least: u8,
+    part: Part,
+    stack: &mut Stack,
+) -> Result<Part, Memory>
     ensures { IfOk result (λ p. settled clipped least (part_of part) (frames stack.old) ≡ (part_of p, frames stack.new)) }
 {
     let mut whole = part;

@@ -162,7 +162,12 @@ fn escaped(text: Vec<u8>, byte: u8) -> Result<Begun, FormRefusal>
     Err(FormRefusal::BadForm)
 }
 
-fn step(alloc: Global, tokens: &mut Vec<Token>, begun: Begun, byte: u8) -> Result<Begun, FormRefusal>
+fn step(
+    alloc: Global,
+    tokens: &mut Vec<Token>,
+    begun: Begun,
+    byte: u8,
+) -> Result<Begun, FormRefusal>
     ensures { CutsTo result tokens.new.items (machine.cut_step (cut_of begun tokens.old.items) byte) }
 {
     match begun {

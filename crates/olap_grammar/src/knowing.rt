@@ -6,13 +6,15 @@ ghost use Rattle.std.specs.Option.{option_map};
 ghost use Rattle.std.specs.Prelude.{◌≡◌, ◌↔◌, IfSome, IsSome};
 
 use olap_base::{CatId, EdgeId};
-use olap_graph::GraphBuilder;
+use olap_graph::{Graph, GraphBuilder};
 
 /// The graph that is known where a formula stands: one in the making, or a whole one.
 #[derive(Clone, Copy)]
 pub enum Known<'a> {
     /// A graph in the making.
     Growing(&'a GraphBuilder),
+    /// A whole graph.
+    Whole(&'a Graph),
 }
 
 impl Known<'_> {
@@ -23,16 +25,19 @@ impl Known<'_> {
     {
         match self {
             Known::Growing(builder) => builder.category(name),
+            Known::Whole(graph) => graph.category(name),
         }
     }
 
     /// The edge from one category to another.
     pub fn edge(&self, child: CatId, parent: CatId) -> Option<EdgeId>
+        requires { IsCategory (graph_seen self.now) child.0 }
         ensures place { option_map (λ e. e.0) result ≡ edge_between (graph_seen self.now) child.0 parent.0 }
         ensures has { IsSome result ↔ HasEdge (graph_seen self.now) child.0 parent.0 }
     {
         match self {
             Known::Growing(builder) => builder.edge(child, parent),
+            Known::Whole(graph) => graph.edge(child, parent),
         }
     }
 }

@@ -18,8 +18,11 @@ mod words;
 
 pub use cutting::line_tokens;
 pub use knowing::Known;
-pub use laws::{a_line_is_cut_in_one_way, formulas_are_found_as_formed};
-pub use laws::{tokens_are_found_as_cut, tokens_are_one_formula};
+pub use laws::{
+    a_line_is_cut_in_one_way, formulas_are_found_as_formed, tokens_are_found_as_cut,
+    tokens_are_one_formula,
+};
 pub use reading::formula;
 pub use refusals::FormRefusal;
 pub use tokens::{Joint, Token};
+pub use words::pieces;

@@ -108,7 +108,10 @@ pub(crate) fn more(alloc: Global, part: Part, parts: Parts) -> Result<Parts, Mem
     ensures { IfOk result (λ p. parts_of p ≡ clipped.more (part_of part) (parts_of parts)) }
 {
     let depth = part.depth.max(parts.depth) as u16;
-    let terms = Terms::More(Box::new(alloc, part.formula)?, Box::new(alloc, parts.terms)?);
+    let terms = Terms::More(
+        Box::new(alloc, part.formula)?,
+        Box::new(alloc, parts.terms)?,
+    );
     Ok(kept_terms(depth, terms))
 }
 

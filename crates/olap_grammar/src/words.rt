@@ -54,7 +54,8 @@ fn copies(alloc: Global, parts: &[&[u8]]) -> Result<Vec<Text>, Memory>
 }
 
 #[tactic(auto, using(crate::proofs::WordLemmas::some_pieces))]
-pub(crate) fn pieces(alloc: Global, mark: u8, word: &[u8]) -> Result<Vec<Text>, Memory>
+/// The parts of a word between marks; there is at least one. `Memory` where there is no room.
+pub fn pieces(alloc: Global, mark: u8, word: &[u8]) -> Result<Vec<Text>, Memory>
     ensures found { IfOk result (λ v. v.items ≡ pieces_of mark word.now) }
     ensures some { IfOk result (λ v. 0 < vec_len v) }
 {

@@ -1,0 +1,6 @@
+-- Definitions that contracts cite.
+pub mod Lines
+pub mod Statements
+pub mod Tokens
+pub mod Atoms
+pub mod Judging
