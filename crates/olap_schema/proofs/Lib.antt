@@ -1,1 +1,4 @@
 -- Lemmas.
+pub mod Counting
+pub mod LineLemmas
+pub mod PairLemmas

@@ -3,7 +3,7 @@
 --     line_read        a line, given those above it
 --     schema_read      a text
 --     question_read    the text of a question's formula, given a schema and a root
-use Rattle.std.specs.Prelude.{◌==◌, ◌||◌, ◌+◌, ◌-◌, ℕ, suc, Bool, true, false, not, List, [], ◌∷◌, ◌++◌, Option, Some, None, Result, Ok, Err, length, flat_map, find, nat_lt, nat_le, slice_index, if◌then◌else◌}
+use Rattle.std.specs.Prelude.{◌==◌, ◌||◌, ◌+◌, ◌-◌, ℕ, suc, Bool, true, false, not, List, [], ◌∷◌, ◌++◌, Option, Some, None, Result, Ok, Err, length, find, fold, nat_lt, nat_le, slice_index, if◌then◌else◌}
 use Rattle.std.specs.List.{list_any, range_with_len}
 use Rattle.olap_base.specs.Deciding.{category_reaches}
 use Rattle.olap_base.specs.Graph.{Graph}
@@ -17,7 +17,7 @@ use Rattle.olap_graph.specs.declared.refusals.EdgeRefusal.TheVariants as of_edge
 use Rattle.olap_ast.specs.Constants.{all_equalities}
 use Rattle.olap_ast.specs.Formula.{Equality, Formula, equalities}
 use Rattle.olap_ast.specs.Schema.{Constraint, Schema}
-use Rattle.olap_ast.specs.Valid.{distinct_pairs}
+use Rattle.olap_ast.specs.Valid.{distinct_pairs, with_pair}
 use Rattle.olap_grammar.specs.Answering.{formula_answer}
 use Rattle.olap_grammar.specs.CuttingMachine.{tokens_of}
 use Rattle.olap_grammar.specs.Machine.{the_formula}
@@ -33,13 +33,15 @@ use Rattle.olap_schema.specs.Tokens.{is_long, opens_over, token_nodes}
 use Rattle.olap_schema.specs.declared.kinds.SchemaKind.{SchemaKind}
 use Rattle.olap_schema.specs.declared.kinds.SchemaKind.TheVariants as kind
 
--- whether the version line was read, the graph, the lines of its categories, the constraints and their nodes
+-- whether the version line was read, the graph, the lines of its categories, the constraints, how many nodes they
+-- have, and their distinct pairs of a category and a constant
 pub record Above : Type 0 where
   pub versioned : Bool
   pub graph : Graph
   pub category_lines : List ℕ
   pub constraints : List Constraint
   pub nodes : ℕ
+  pub pairs : List Equality
 
 -- ---- categories and edges
 
@@ -96,24 +98,21 @@ form_read g before ts =
     else if opens_over 0 0 ts then Err kind.TooDeep
     else form_answer (formula_answer (the_formula (atoms_of g) ts))
 
--- with this formula there are too many constants
-abbrev pub constants_over : List Equality → Bool
-constants_over atoms = nat_lt 256 (length (distinct_pairs atoms))
-
 -- ---- constraints
 
--- the atoms on names of the constraints
-abbrev pub atoms_above : Above → List Equality
-atoms_above a = flat_map (λ c. equalities c.formula) a.constraints
-
-abbrev pub constraint_added : Above → ℕ → List Token → Formula → Result Above SchemaKind
-constraint_added a root ts f =
-    if constants_over (atoms_above a ++ equalities f) then Err kind.TooManyConstants
-    else Ok (record a { constraints = a.constraints ++ record { root = root; formula = f } ∷ []; nodes = a.nodes + token_nodes ts })
+-- the constraint is added, with the pairs that there are then
+abbrev pub constraint_added : Above → ℕ → List Token → Formula → List Equality → Result Above SchemaKind
+constraint_added a root ts f pairs =
+    if nat_lt 256 (length pairs) then Err kind.TooManyConstants
+    else Ok (record a {
+      constraints = a.constraints ++ record { root = root; formula = f } ∷ [];
+      nodes = a.nodes + token_nodes ts;
+      pairs = pairs
+    })
 
 abbrev pub atoms_read : Above → ℕ → List Token → Formula → Option SchemaKind → Result Above SchemaKind
 atoms_read a root ts f (Some k) = Err k
-atoms_read a root ts f None = constraint_added a root ts f
+atoms_read a root ts f None = constraint_added a root ts f (fold with_pair a.pairs (equalities f))
 
 abbrev pub root_read : Above → List ℕ → List Token → Formula → Option ℕ → Result Above SchemaKind
 root_read a name ts f None = Err kind.UnknownCategory
@@ -168,7 +167,7 @@ lines_on (Ok a) n (line ∷ lines) = lines_on (line_read a (n + 1) (chomped line
 
 -- before the first line
 abbrev pub nothing_above : Above
-nothing_above = record { versioned = false; graph = all_alone; category_lines = []; constraints = []; nodes = 0 }
+nothing_above = record { versioned = false; graph = all_alone; category_lines = []; constraints = []; nodes = 0; pairs = [] }
 
 -- the first declared category that doesn't reach `All`
 abbrev pub first_stuck : Graph → Option ℕ
@@ -190,7 +189,8 @@ schema_read text = text_ended (lines_on (Ok nothing_above) 0 (lines_of text))
 
 abbrev pub question_added : Schema → Formula → Option SchemaKind → Result Formula SchemaKind
 question_added s f (Some k) = Err k
-question_added s f None = if constants_over (all_equalities s f) then Err kind.TooManyConstants else Ok f
+question_added s f None =
+    if nat_lt 256 (length (distinct_pairs (all_equalities s f))) then Err kind.TooManyConstants else Ok f
 
 abbrev pub question_formed : Schema → ℕ → List Token → Result Formula SchemaKind → Result Formula SchemaKind
 question_formed s root ts (Err k) = Err k

@@ -4,3 +4,4 @@ pub mod Statements
 pub mod Tokens
 pub mod Atoms
 pub mod Judging
+pub mod Reading

@@ -3,7 +3,7 @@
 --     chomped       a line without the CR at its end
 --     is_bad        it isn't UTF-8, or has a control character
 --     is_quiet      it is blank or a comment
-use Rattle.std.specs.Prelude.{◌==◌, ◌||◌, ◌&&◌, ◌-◌, ℕ, Bool, true, not, List, [], ◌∷◌, length, take, nat_lt, slice_index, if◌then◌else◌}
+use Rattle.std.specs.Prelude.{◌==◌, ◌||◌, ◌&&◌, ◌-◌, ℕ, suc, Bool, true, not, List, [], ◌∷◌, length, take, nat_lt, slice_index, if◌then◌else◌}
 use Rattle.std.specs.List.{list_any}
 use Rattle.std.specs.Str.{is_utf8}
 
@@ -16,6 +16,11 @@ in_front b (line ∷ lines) = (b ∷ line) ∷ lines
 unfoldable pub lines_of : List ℕ → List (List ℕ)
 lines_of [] = []
 lines_of (b ∷ bs) = if b == 10 then [] ∷ lines_of bs else in_front b (lines_of bs)
+
+-- how many bytes stand before the first LF
+unfoldable pub line_length : List ℕ → ℕ
+line_length [] = 0
+line_length (b ∷ bs) = if b == 10 then 0 else suc (line_length bs)
 
 -- the line without a CR at its end
 abbrev pub chomped : List ℕ → List ℕ

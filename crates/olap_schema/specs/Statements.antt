@@ -1,5 +1,5 @@
 -- What the tokens of a line say.
-use Rattle.std.specs.Prelude.{◌==◌, ◌&&◌, ℕ, Bool, true, false, List, [], codes, length, drop, slice_index_or, if◌then◌else◌}
+use Rattle.std.specs.Prelude.{◌==◌, ◌&&◌, ℕ, Bool, true, false, List, [], codes, length, drop, nat_le, slice_index_or, if◌then◌else◌}
 use Rattle.std.specs.Str.{bytes_eq}
 use Rattle.olap_base.specs.Deciding.{is_category_name}
 use Rattle.olap_grammar.specs.declared.tokens.Token.{Token}
@@ -67,5 +67,5 @@ statement_of ts =
     if is_version ts then Version
     else if is_category ts then Category (word_at ts 1)
     else if is_edge ts then Edge (word_at ts 1) (word_at ts 2)
-    else if is_constraint ts then Constraint (word_at ts 1) (drop 3 ts)
+    else if nat_le 3 (length ts) && is_constraint ts then Constraint (word_at ts 1) (drop 3 ts)
     else Other

@@ -1,6 +1,12 @@
 //! Schema texts: reading a schema and a question's formula, and printing a schema.
 #![tactic(auto)]
 
+mod atoms;
 mod kinds;
+mod lines;
+mod measuring;
+mod pairing;
+mod reading;
+mod statements;
 
 pub use kinds::{FormulaRefusal, SchemaKind, SchemaRefusal};
