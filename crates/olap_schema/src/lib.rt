@@ -6,6 +6,7 @@ mod kinds;
 mod lines;
 mod measuring;
 mod pairing;
+mod printing;
 mod reading;
 mod statements;
 
