@@ -2,3 +2,4 @@
 pub mod Counting
 pub mod LineLemmas
 pub mod PairLemmas
+pub mod StuckLemmas

@@ -5,3 +5,4 @@ pub mod Tokens
 pub mod Atoms
 pub mod Judging
 pub mod Reading
+pub mod Schemas

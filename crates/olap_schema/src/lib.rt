@@ -7,6 +7,8 @@ mod lines;
 mod measuring;
 mod pairing;
 mod reading;
+mod schemas;
 mod statements;
 
 pub use kinds::{FormulaRefusal, SchemaKind, SchemaRefusal};
+pub use schemas::{Schema, read_schema};
