@@ -6,9 +6,11 @@ mod kinds;
 mod lines;
 mod measuring;
 mod pairing;
+mod questions;
 mod reading;
 mod schemas;
 mod statements;
 
 pub use kinds::{FormulaRefusal, SchemaKind, SchemaRefusal};
+pub use questions::read_formula;
 pub use schemas::{Schema, read_schema};

@@ -58,11 +58,9 @@ fn read_lines(alloc: Global, reading: &mut Reading, text: &[u8]) -> Result<(), S
 
 /// The schema of all lines, if each category reaches `All`.
 fn finish(reading: Reading) -> Result<Schema, SchemaRefusal>
-    ensures {
-        let a = above_of reading in
+    ensures { let a = above_of reading in
         let read = whole a (first_stuck a.graph) in
-        MatchResult result (λ s. read ≡ Ok (schema_of s)) (λ e. IsRefusedBy e read)
-    }
+        MatchResult result (λ s. read ≡ Ok (schema_of s)) (λ e. IsRefusedBy e read) }
 {
     match reading.builder.finish() {
         Ok(graph) => Ok(Schema {
@@ -120,10 +118,8 @@ pub fn read_schema(alloc: Global, text: &[u8]) -> Result<Schema, SchemaRefusal>
 
 /// The schema of all lines, from the first on.
 fn read_from(alloc: Global, started: Reading, text: &[u8]) -> Result<Schema, SchemaRefusal>
-    ensures {
-        let read = text_ended (lines_on (Ok (above_of started)) 0 (lines_of text.now)) in
-        MatchResult result (λ s. read ≡ Ok (schema_of s)) (λ e. IsRefusedBy e read)
-    }
+    ensures { let read = text_ended (lines_on (Ok (above_of started)) 0 (lines_of text.now)) in
+        MatchResult result (λ s. read ≡ Ok (schema_of s)) (λ e. IsRefusedBy e read) }
 {
     let mut reading = started;
     match read_lines(alloc, &mut reading, text) {
