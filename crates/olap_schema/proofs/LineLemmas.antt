@@ -3,6 +3,9 @@ use Rattle.std.proofs.Common.{◌≡◌, ◌==◌, ◌+◌, ◌-◌, add-one, �
 use Rattle.std.specs.Str.{IsUtf8, is_utf8}
 use Rattle.std.proofs.lemmas.List.{take_rest}
 use Rattle.std.proofs.lemmas.Str.{IsUtf8-from_is_utf8}
+use Rattle.std.proofs.lemmas.Bool.{eqb-true}
+use Rattle.std.specs.Prelude.{Ok}
+use Rattle.olap_schema.specs.Judging.{Above, lines_on}
 use Rattle.olap_schema.specs.Lines.{in_front, line_length, lines_of}
 
 -- up to its LF stands the first line
@@ -52,3 +55,8 @@ not_utf8 bs h = go (is_utf8 bs) refl
     go : (c : Bool) → is_utf8 bs ≡ c → c ≡ false
     go true e = absurd (h (IsUtf8-from_is_utf8 bs e))
     go false e = refl
+
+-- where nothing is left, the lines so far are all
+pub all_read : (a : Above) (n : ℕ) (left : List ℕ) → (length left == 0) ≡ true → lines_on (Ok a) n (lines_of left) ≡ Ok a
+all_read a n [] e = rw no_lines refl
+all_read a n (b ∷ bs) e = absurd (let z : length (b ∷ bs) ≡ 0 = eqb-true (length (b ∷ bs)) 0 e in omega arith)

@@ -107,7 +107,7 @@ constraint_added a root ts f pairs =
     else Ok (record a {
       constraints = a.constraints ++ record { root = root; formula = f } ∷ [];
       nodes = a.nodes + token_nodes ts;
-      pairs = pairs
+      pairs = pairs;
     })
 
 abbrev pub atoms_read : Above → ℕ → List Token → Formula → Option SchemaKind → Result Above SchemaKind

@@ -42,7 +42,7 @@ above_of r = record {
   category_lines = r.category_lines.items;
   constraints = map constraint_of r.constraints.items;
   nodes = r.nodes;
-  pairs = map pair_of r.pairs.items
+  pairs = map pair_of r.pairs.items;
 }
 
 -- the reader goes on to what it knows now, or the line has that fault

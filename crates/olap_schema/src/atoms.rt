@@ -121,7 +121,12 @@ fn check_word(alloc: Global, known: &Known, root: &[u8], word: &[u8]) -> Result<
     check_names(known, root, false, &parts)
 }
 
-fn check_token(alloc: Global, known: &Known, root: &[u8], token: &Token) -> Result<(), FormulaRefusal>
+fn check_token(
+    alloc: Global,
+    known: &Known,
+    root: &[u8],
+    token: &Token,
+) -> Result<(), FormulaRefusal>
     ensures { Finds result (token_fault (graph_seen known.now) root.now token.now) }
 {
     match token {
@@ -139,7 +144,12 @@ fn check_token(alloc: Global, known: &Known, root: &[u8], token: &Token) -> Resu
 
 /// The first atom with a fault, where names are looked up in what is known.
 #[tactic(auto, unfolding(crate::specs::Atoms::atom_fault))]
-pub(crate) fn check_atoms(alloc: Global, known: &Known, root: &[u8], tokens: &[Token]) -> Result<(), FormulaRefusal>
+pub(crate) fn check_atoms(
+    alloc: Global,
+    known: &Known,
+    root: &[u8],
+    tokens: &[Token],
+) -> Result<(), FormulaRefusal>
     ensures { Finds result (atom_fault (graph_seen known.now) root.now tokens.now) }
 {
     let mut left = tokens;

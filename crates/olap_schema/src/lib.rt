@@ -7,7 +7,11 @@ mod lines;
 mod measuring;
 mod pairing;
 mod printing;
+mod questions;
 mod reading;
+mod schemas;
 mod statements;
 
 pub use kinds::{FormulaRefusal, SchemaKind, SchemaRefusal};
+pub use questions::read_formula;
+pub use schemas::{Schema, read_schema};

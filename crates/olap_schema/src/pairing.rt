@@ -19,28 +19,22 @@ pub(crate) struct Pair {
 }
 
 fn is_same(d: CatId, text: &[u8], pair: &Pair) -> bool
-    ensures {
-        let atom : Equality = record { category = d.0; text = text.now } in
-        result ≡ is_same_pair atom (pair_of pair.now)
-    }
+    ensures { let atom : Equality = record { category = d.0; text = text.now } in
+        result ≡ is_same_pair atom (pair_of pair.now) }
 {
     d == pair.category && is(text, pair.text.bytes())
 }
 
 fn has_pair(pairs: &[Pair], d: CatId, text: &[u8]) -> bool
-    ensures {
-        let atom : Equality = record { category = d.0; text = text.now } in
-        result ≡ list_any (λ p. is_same_pair atom (pair_of p)) pairs.now
-    }
+    ensures { let atom : Equality = record { category = d.0; text = text.now } in
+        result ≡ list_any (λ p. is_same_pair atom (pair_of p)) pairs.now }
 {
     pairs.iter().any(|p| is_same(d, text, p))
 }
 
 fn add_pair(alloc: Global, pairs: &mut Vec<Pair>, d: CatId, text: &Text) -> Result<(), Memory>
-    ensures {
-        let atom : Equality = record { category = d.0; text = text.now } in
-        OnOk result (map pair_of pairs.new.items ≡ with_pair (map pair_of pairs.old.items) atom)
-    }
+    ensures { let atom : Equality = record { category = d.0; text = text.now } in
+        OnOk result (map pair_of pairs.new.items ≡ with_pair (map pair_of pairs.old.items) atom) }
 {
     if has_pair(pairs, d, text.bytes()) {
         return Ok(());
@@ -71,10 +65,8 @@ pub(crate) fn add_pairs(alloc: Global, pairs: &mut Vec<Pair>, f: &Formula) -> Re
 
 #[cycle(pairs)]
 fn add_both(alloc: Global, pairs: &mut Vec<Pair>, f: &Formula, g: &Formula) -> Result<(), Memory>
-    ensures {
-        let atoms = equalities (formula_of f.now) ++ equalities (formula_of g.now) in
-        OnOk result (map pair_of pairs.new.items ≡ fold with_pair (map pair_of pairs.old.items) atoms)
-    }
+    ensures { let atoms = equalities (formula_of f.now) ++ equalities (formula_of g.now) in
+        OnOk result (map pair_of pairs.new.items ≡ fold with_pair (map pair_of pairs.old.items) atoms) }
 {
     add_pairs(alloc, pairs, f)?;
     add_pairs(alloc, pairs, g)
@@ -82,10 +74,8 @@ fn add_both(alloc: Global, pairs: &mut Vec<Pair>, f: &Formula, g: &Formula) -> R
 
 #[cycle(pairs)]
 fn add_of_terms(alloc: Global, pairs: &mut Vec<Pair>, terms: &Terms) -> Result<(), Memory>
-    ensures {
-        let atoms = equalities_of_terms (terms_of terms.now) in
-        OnOk result (map pair_of pairs.new.items ≡ fold with_pair (map pair_of pairs.old.items) atoms)
-    }
+    ensures { let atoms = equalities_of_terms (terms_of terms.now) in
+        OnOk result (map pair_of pairs.new.items ≡ fold with_pair (map pair_of pairs.old.items) atoms) }
 {
     let mut left = terms;
     'parts: while let Terms::More(f, rest) = left {

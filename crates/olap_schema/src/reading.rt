@@ -22,13 +22,16 @@ use crate::statements::{Statement, is_version, statement_in};
 use crate::{FormulaRefusal, SchemaKind};
 use olap_ast::{Constraint, Formula};
 use olap_base::{CatId, Memory, Text};
-use olap_graph::{CategoryRefusal, EdgeRefusal, GraphBuilder};
 use olap_grammar::{FormRefusal, Known, Token, formula, line_tokens};
+use olap_graph::{CategoryRefusal, EdgeRefusal, GraphBuilder};
 use std::alloc::Global;
 
 const MOST_NODES: usize = 4096;
+
 const MOST_BYTES: usize = 255;
+
 const MOST_CONSTRAINTS: usize = 64;
+
 const MOST_PAIRS: usize = 256;
 
 /// What the lines so far say.
@@ -57,7 +60,12 @@ pub(crate) fn begin(alloc: Global) -> Result<Reading, Memory>
 }
 
 /// A category's line.
-fn read_category(alloc: Global, reading: &mut Reading, n: u64, name: &[u8]) -> Result<(), FormulaRefusal>
+fn read_category(
+    alloc: Global,
+    reading: &mut Reading,
+    n: u64,
+    name: &[u8],
+) -> Result<(), FormulaRefusal>
     requires { IsTrue (is_category_name name.now) }
     ensures { Reads result (above_of reading.new) (category_read (above_of reading.old) n name.now) }
 {
@@ -70,8 +78,12 @@ fn read_category(alloc: Global, reading: &mut Reading, n: u64, name: &[u8]) -> R
             reading.category_lines.push(n)?;
             Ok(())
         }
-        Err(CategoryRefusal::DuplicateCategory) => Err(FormulaRefusal::Fault(SchemaKind::DuplicateCategory)),
-        Err(CategoryRefusal::TooManyCategories) => Err(FormulaRefusal::Fault(SchemaKind::TooManyCategories)),
+        Err(CategoryRefusal::DuplicateCategory) => Err(FormulaRefusal::Fault(
+            SchemaKind::DuplicateCategory,
+        )),
+        Err(CategoryRefusal::TooManyCategories) => Err(FormulaRefusal::Fault(
+            SchemaKind::TooManyCategories,
+        )),
         Err(CategoryRefusal::Memory) => Err(FormulaRefusal::Memory),
     }
 }
@@ -109,7 +121,12 @@ fn read_edge(reading: &mut Reading, child: &[u8], parent: &[u8]) -> Result<(), F
 
 /// The formula of the tokens, with so many nodes on the lines above.
 #[tactic(auto, unfolding(crate::specs::Judging::form_read))]
-pub(crate) fn read_form(alloc: Global, known: &Known, before: u16, tokens: &[Token]) -> Result<Formula, FormulaRefusal>
+pub(crate) fn read_form(
+    alloc: Global,
+    known: &Known,
+    before: u16,
+    tokens: &[Token],
+) -> Result<Formula, FormulaRefusal>
     ensures read { ReadsFormula result (form_read (graph_seen known.now) before tokens.now) }
     ensures few { IfOk result (λ f. before + token_nodes tokens.now ≤ 4096) }
 {
@@ -128,13 +145,17 @@ pub(crate) fn read_form(alloc: Global, known: &Known, before: u16, tokens: &[Tok
 }
 
 /// Adds a constraint whose formula has no fault but, it may be, too many constants.
-fn add_constraint(alloc: Global, reading: &mut Reading, root: CatId, tokens: &[Token], f: Formula) -> Result<(), FormulaRefusal>
+fn add_constraint(
+    alloc: Global,
+    reading: &mut Reading,
+    root: CatId,
+    tokens: &[Token],
+    f: Formula,
+) -> Result<(), FormulaRefusal>
     requires { (above_of reading.old).nodes + token_nodes tokens.now ≤ 4096 }
-    ensures {
-        let old = above_of reading.old in
+    ensures { let old = above_of reading.old in
         let pairs = fold with_pair old.pairs (equalities (formula_of f)) in
-        Reads result (above_of reading.new) (constraint_added old root.0 tokens.now (formula_of f) pairs)
-    }
+        Reads result (above_of reading.new) (constraint_added old root.0 tokens.now (formula_of f) pairs) }
 {
     add_pairs(alloc, &mut reading.pairs, &f)?;
     if reading.pairs.len() > MOST_PAIRS {
@@ -147,13 +168,17 @@ fn add_constraint(alloc: Global, reading: &mut Reading, root: CatId, tokens: &[T
 }
 
 /// The root, and then the atoms.
-fn read_rooted(alloc: Global, reading: &mut Reading, name: &[u8], tokens: &[Token], f: Formula) -> Result<(), FormulaRefusal>
+fn read_rooted(
+    alloc: Global,
+    reading: &mut Reading,
+    name: &[u8],
+    tokens: &[Token],
+    f: Formula,
+) -> Result<(), FormulaRefusal>
     requires { (above_of reading.old).nodes + token_nodes tokens.now ≤ 4096 }
-    ensures {
-        let old = above_of reading.old in
+    ensures { let old = above_of reading.old in
         let root = category_named old.graph name.now in
-        Reads result (above_of reading.new) (root_read old name.now tokens.now (formula_of f) root)
-    }
+        Reads result (above_of reading.new) (root_read old name.now tokens.now (formula_of f) root) }
 {
     match reading.builder.category(name) {
         Some(root) => {
@@ -173,10 +198,20 @@ fn read_rooted(alloc: Global, reading: &mut Reading, name: &[u8], tokens: &[Toke
 }
 
 /// A constraint's line.
-fn read_constraint(alloc: Global, reading: &mut Reading, name: &[u8], tokens: &[Token]) -> Result<(), FormulaRefusal>
+fn read_constraint(
+    alloc: Global,
+    reading: &mut Reading,
+    name: &[u8],
+    tokens: &[Token],
+) -> Result<(), FormulaRefusal>
     ensures { Reads result (above_of reading.new) (constraint_read (above_of reading.old) name.now tokens.now) }
 {
-    match read_form(alloc, &Known::Growing(&reading.builder), reading.nodes, tokens) {
+    match read_form(
+        alloc,
+        &Known::Growing(&reading.builder),
+        reading.nodes,
+        tokens,
+    ) {
         Ok(f) => {
             if name.len() > MOST_BYTES || has_long_text(tokens) {
                 return Err(FormulaRefusal::Fault(SchemaKind::TextTooLong));
@@ -188,7 +223,12 @@ fn read_constraint(alloc: Global, reading: &mut Reading, name: &[u8], tokens: &[
 }
 
 /// A line behind the version.
-fn read_statement(alloc: Global, reading: &mut Reading, n: u64, tokens: &[Token]) -> Result<(), FormulaRefusal>
+fn read_statement(
+    alloc: Global,
+    reading: &mut Reading,
+    n: u64,
+    tokens: &[Token],
+) -> Result<(), FormulaRefusal>
     ensures { Reads result (above_of reading.new) (statement_read (above_of reading.old) n (statement_of tokens.now)) }
 {
     match statement_in(tokens) {
@@ -212,7 +252,12 @@ fn read_first(reading: &mut Reading, tokens: &[Token]) -> Result<(), FormulaRefu
 }
 
 /// A line that says something.
-fn read_saying(alloc: Global, reading: &mut Reading, n: u64, line: &[u8]) -> Result<(), FormulaRefusal>
+fn read_saying(
+    alloc: Global,
+    reading: &mut Reading,
+    n: u64,
+    line: &[u8],
+) -> Result<(), FormulaRefusal>
     ensures { Reads result (above_of reading.new) (tokens_read (above_of reading.old) n (tokens_of line.now)) }
 {
     match line_tokens(alloc, line) {
@@ -231,7 +276,12 @@ fn read_saying(alloc: Global, reading: &mut Reading, n: u64, line: &[u8]) -> Res
 
 /// The n-th line, without its CR.
 #[tactic(auto, unfolding(crate::specs::Judging::line_read))]
-pub(crate) fn read_line(alloc: Global, reading: &mut Reading, n: u64, line: &[u8]) -> Result<(), FormulaRefusal>
+pub(crate) fn read_line(
+    alloc: Global,
+    reading: &mut Reading,
+    n: u64,
+    line: &[u8],
+) -> Result<(), FormulaRefusal>
     ensures { Reads result (above_of reading.new) (line_read (above_of reading.old) n line.now) }
 {
     if is_bad(line) {

@@ -5,8 +5,8 @@ ghost use Rattle.olap_base.specs.Deciding.{is_category_name};
 ghost use Rattle.std.specs.Prelude.{◌≡◌};
 ghost use Rattle.std.specs.Str.{bytes_eq};
 
-use olap_graph::category_name;
 use olap_grammar::Token;
+use olap_graph::category_name;
 
 /// What the tokens of a line say.
 pub(crate) enum Statement<'a> {

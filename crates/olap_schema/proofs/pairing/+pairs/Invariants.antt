@@ -19,7 +19,7 @@ decreases-add_of_terms l = 2 * node_count_of_terms (terms_of l.terms.now) + 1
 abbrev pub invariant-add_of_terms-parts : goal.invariant-add_of_terms-parts
 invariant-add_of_terms-parts l = record {
   added :
-    fold with_pair (map pair_of l.pairs.items) (equalities_of_terms (terms_of l.left))
-    ≡ fold with_pair (map pair_of l.initial.pairs.items) (equalities_of_terms (terms_of l.fn.terms));
-  smaller : node_count_of_terms (terms_of l.left) ≤ node_count_of_terms (terms_of l.fn.terms)
+      fold with_pair (map pair_of l.pairs.items) (equalities_of_terms (terms_of l.left))
+      ≡ fold with_pair (map pair_of l.initial.pairs.items) (equalities_of_terms (terms_of l.fn.terms));
+  smaller : node_count_of_terms (terms_of l.left) ≤ node_count_of_terms (terms_of l.fn.terms);
 }
