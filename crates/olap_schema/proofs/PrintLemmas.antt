@@ -1,5 +1,5 @@
 -- Lines one after the other.
-use Rattle.std.proofs.Common.{◌≡◌, ◌<◌, ◌+◌, ◌++◌, ℕ, zero, suc, List, [], ◌∷◌, length, arith, ap, sym, ◌∙◌, refl, append_assoc, drop, map, slice_index_or, codes}
+use Rattle.std.proofs.Common.{◌≡◌, ◌<◌, ◌+◌, ◌++◌, ℕ, zero, suc, List, [], ◌∷◌, length, arith, ap, sym, ◌∙◌, ◌≤◌, refl, append_assoc, append-nil, drop, map, slice_index_or, codes}
 use Rattle.olap_base.specs.Graph.{Graph, category_count}
 use Rattle.olap_graph.specs.Lookups.{name_of_category}
 use Rattle.olap_ast.specs.Schema.{Schema}
@@ -43,3 +43,26 @@ pub all_lines : (s : Schema) (old first second third last : List ℕ) → first 
 unfolding text_of_lines
 all_lines s old first second third last a b c d =
     rw (d, c, b, a, text_of_lines-append (map category_text s.graph.names) _, text_of_lines-append (map (edge_text s.graph) s.graph.edges) _) (simp append_assoc)
+
+all_dropped : {A : Type 0} (xs : List A) (k : ℕ) → length xs ≤ k → drop k xs ≡ []
+all_dropped [] zero l = refl
+all_dropped [] (suc k) l = refl
+all_dropped (x ∷ xs) zero l = absurd (omega arith)
+all_dropped (x ∷ xs) (suc k) l = all_dropped xs k (omega arith)
+
+-- all lines are written
+pub no_more : {A : Type 0} (f : A → List ℕ) (xs : List A) (k : ℕ) (out all : List ℕ) → length xs ≤ k →
+    out ++ text_of_lines (map f (drop k xs)) ≡ all → out ≡ all
+unfolding text_of_lines
+no_more f xs k out all l e =
+    let d : drop k xs ≡ [] = all_dropped xs k l in
+    sym (append-nil out) ∙ (rw d at e)
+
+-- a declared category's name
+pub declared_name : (g : Graph) (k : ℕ) → name_of_category g (k + 1) ≡ slice_index_or g.names k []
+declared_name g k = let e : k + 1 ≡ suc k = omega arith in rw e refl
+
+-- three texts are written one after the other
+pub three_texts : (x y z given old first second last : List ℕ) → first ≡ old ++ x → given ≡ y → second ≡ first ++ given →
+    last ≡ second ++ z → last ≡ old ++ (x ++ (y ++ z))
+three_texts x y z given old first second last a e b c = rw (c, b, a, e) (simp append_assoc)

@@ -13,5 +13,6 @@ mod schemas;
 mod statements;
 
 pub use kinds::{FormulaRefusal, SchemaKind, SchemaRefusal};
+pub use printing::print_schema;
 pub use questions::read_formula;
 pub use schemas::{Schema, read_schema};

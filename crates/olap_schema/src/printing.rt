@@ -4,13 +4,15 @@ ghost use Rattle.olap_base.specs.Graph.{Edge};
 ghost use Rattle.olap_graph.specs.Lookups.{name_of_category};
 ghost use Rattle.olap_grammar.specs.Cutting.{joint_bytes};
 ghost use Rattle.olap_schema.specs.Printing.{atom_word, category_text, compared_word, constraint_text, edge_text, ended_line, formula_text, joined_text, list_text, names_after, rest_text, schema_text, text_of_lines};
-ghost use Rattle.std.specs.Prelude.{◌≡◌, ◌++◌, [], ◌∷◌, OnOk, map};
+ghost use Rattle.olap_schema.specs.Schemas.{schema_of};
+ghost use Rattle.std.specs.Prelude.{◌≡◌, ◌++◌, [], ◌∷◌, IfOk, OnOk, codes, map};
 
+use crate::Schema;
 use olap_ast::{Constraint, Formula, Terms};
-use olap_base::{CatId, EdgeId};
+use olap_base::{CatId, EdgeId, Memory, Text};
 use olap_grammar::{Joint, push_quoted};
 use olap_graph::Graph;
-use std::alloc::AllocError;
+use std::alloc::{AllocError, Global};
 
 /// The name of a category, or no bytes where it is none of the graph.
 #[tactic(auto, using(crate::proofs::PrintLemmas::no_name))]
@@ -205,8 +207,9 @@ fn push_category(out: &mut Vec<u8>, graph: &Graph, c: CatId) -> Result<(), Alloc
 fn push_categories(out: &mut Vec<u8>, graph: &Graph) -> Result<(), AllocError>
     ensures { OnOk result (out.new.items ≡ out.old.items ++ text_of_lines (map category_text graph.now.names)) }
 {
+    let count = graph.categories();
     let mut done = 0;
-    'categories: while done + 1 < graph.categories() {
+    'categories: while done + 1 < count {
         push_category(out, graph, CatId(done + 1))?;
         done += 1;
     }
@@ -229,12 +232,25 @@ fn push_edge(out: &mut Vec<u8>, graph: &Graph, child: CatId, parent: CatId) -> R
 fn push_edges(out: &mut Vec<u8>, graph: &Graph) -> Result<(), AllocError>
     ensures { OnOk result (out.new.items ≡ out.old.items ++ text_of_lines (map (edge_text graph.now) graph.now.edges)) }
 {
+    let count = graph.edges();
     let mut done = 0;
-    'edges: while done < graph.edges() {
+    'edges: while done < count {
         let (child, parent) = graph.ends(EdgeId(done));
         push_edge(out, graph, child, parent)?;
         done += 1;
     }
+    Ok(())
+}
+
+fn push_root(out: &mut Vec<u8>, graph: &Graph, root: CatId) -> Result<(), AllocError>
+    ensures {
+        let head = codes "constraint " ++ (name_of_category graph.now root.0 ++ 58 ∷ 32 ∷ []) in
+        OnOk result (out.new.items ≡ out.old.items ++ head)
+    }
+{
+    out.extend_from_slice(b"constraint ")?;
+    out.extend_from_slice(name(graph, root))?;
+    out.extend_from_slice(b": ")?;
     Ok(())
 }
 
@@ -244,9 +260,7 @@ fn push_constraint(out: &mut Vec<u8>, graph: &Graph, constraint: &Constraint) ->
         OnOk result (out.new.items ≡ out.old.items ++ ended_line line)
     }
 {
-    out.extend_from_slice(b"constraint ")?;
-    out.extend_from_slice(name(graph, constraint.root))?;
-    out.extend_from_slice(b": ")?;
+    push_root(out, graph, constraint.root)?;
     push_formula(out, graph, constraint.root, &constraint.formula)?;
     out.extend_from_slice(b"\n")
 }
@@ -270,7 +284,6 @@ fn push_constraints(
     Ok(())
 }
 
-#[tactic(auto, using(crate::proofs::PrintLemmas::all_lines))]
 /// Appends the canonical text of a graph with constraints.
 pub(crate) fn push_schema(
     out: &mut Vec<u8>,
@@ -285,5 +298,16 @@ pub(crate) fn push_schema(
     out.extend_from_slice(b"schema 1\n")?;
     push_categories(out, graph)?;
     push_edges(out, graph)?;
-    push_constraints(out, graph, constraints)
+    push_constraints(out, graph, constraints)?;
+    Ok(())
+}
+
+/// The canonical text of a schema: a line for the version, each category, each edge and each constraint, in
+/// declaration order, with one space between tokens. `Memory` where there is no room for it. Linear in the text.
+pub fn print_schema(alloc: Global, schema: &Schema) -> Result<Text, Memory>
+    ensures text { IfOk result (λ t. t ≡ schema_text (schema_of schema.now)) }
+{
+    let mut out = Vec::new(alloc);
+    push_schema(&mut out, schema.graph(), schema.constraints())?;
+    Text::from_bytes(alloc, &out)
 }
