@@ -4,3 +4,8 @@ pub mod LineLemmas
 pub mod PairLemmas
 pub mod PrintLemmas
 pub mod StuckLemmas
+pub mod PrintTokens
+pub mod PrintNames
+pub mod PrintCut
+pub mod BackWords
+pub mod PrintFormula
