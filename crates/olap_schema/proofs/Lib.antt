@@ -1,0 +1,11 @@
+-- Lemmas.
+pub mod Counting
+pub mod LineLemmas
+pub mod PairLemmas
+pub mod PrintLemmas
+pub mod StuckLemmas
+pub mod PrintTokens
+pub mod PrintNames
+pub mod PrintCut
+pub mod BackWords
+pub mod PrintFormula

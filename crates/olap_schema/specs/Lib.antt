@@ -1,0 +1,9 @@
+-- Definitions that contracts cite.
+pub mod Lines
+pub mod Statements
+pub mod Tokens
+pub mod Atoms
+pub mod Judging
+pub mod Reading
+pub mod Printing
+pub mod Schemas
