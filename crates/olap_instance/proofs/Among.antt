@@ -17,7 +17,8 @@ module _ {X Y : Type 0} (f : X → Bool) (g : X → Y) (y : Y) (same : (x : X) �
   there [] e = cc e
   there (x ∷ xs) e = by (f x) refl e (there xs)
     where
-      by : (b : Bool) → f x ≡ b → (b || list_any f xs) ≡ true → (list_any f xs ≡ true → Contains (map g xs) y) → Contains (map g (x ∷ xs)) y
+      by : (b : Bool) → f x ≡ b → (b || list_any f xs) ≡ true → (list_any f xs ≡ true → Contains (map g xs) y)
+          → Contains (map g (x ∷ xs)) y
       by true t e again = (0, omega arith, (same x).0 t)
       by false t e again = later x xs (again e)
 
@@ -43,13 +44,22 @@ module _ (eq : MemberId → MemberId → Bool) (tells : (m n : MemberId) → (eq
   same-parent (Some m) (Some n) = (λ e. ap Some ((tells m n).0 e), λ e. let s : m.0 ≡ n.0 = cc in (tells m n).1 s)
 
 -- one place more, where `all` is a member
-pub place-more : (all : MemberId) (ps : List (Option MemberId)) (i : ℕ) (d p : Option MemberId) (found now : List MemberId) (m : MemberId)
-    → i < length ps → p ≡ get_or ps i d → numbers_of found ≡ places_of all.0 (map number_of (take i ps)) → now ≡ found ++ m ∷ []
+pub place-more : (all : MemberId) (ps : List (Option MemberId)) (i : ℕ) (d p : Option MemberId)
+    (found now : List MemberId) (m : MemberId)
+    → i < length ps → p ≡ get_or ps i d → numbers_of found ≡ places_of all.0 (map number_of (take i ps))
+    → now ≡ found ++ m ∷ []
     → m ≡ unwrap_or p all → numbers_of now ≡ places_of all.0 (map number_of (take (i + 1) ps))
 place-more all ps i d p found now m l ep e en em =
-    let more : take (i + 1) ps ≡ take i ps ++ p ∷ [] = take_more ps i d l ∙ ap (λ (x : Option MemberId). take i ps ++ x ∷ []) (sym ep) in
+    let more : take (i + 1) ps ≡ take i ps ++ p ∷ [] =
+    take_more ps i d l ∙ ap (λ (x : Option MemberId). take i ps ++ x ∷ []) (sym ep) in
     ap numbers_of en ∙ map-append (λ p. p.0) found (m ∷ [])
-    ∙ rw (more, map-append number_of (take i ps) (p ∷ []), map-append (λ q. unwrap_or q all.0) (map number_of (take i ps)) (number_of p ∷ []), e, em) (one p)
+    ∙ rw (
+      more,
+      map-append number_of (take i ps) (p ∷ []),
+      map-append (λ q. unwrap_or q all.0) (map number_of (take i ps)) (number_of p ∷ []),
+      e,
+      em,
+    ) (one p)
   where
     one : (p : Option MemberId) → places_of all.0 (map number_of (take i ps)) ++ (unwrap_or p all).0 ∷ []
         ≡ places_of all.0 (map number_of (take i ps)) ++ unwrap_or (number_of p) all.0 ∷ []
@@ -57,12 +67,20 @@ place-more all ps i d p found now m l ep e en em =
     one (Some q) = refl
 
 -- the parents of one member more
-pub linked-more : (all : MemberId) (lists : List (Vec (Option MemberId) Global)) (i : ℕ) (d v : Vec (Option MemberId) Global)
+pub linked-more : (all : MemberId) (lists : List (Vec (Option MemberId) Global)) (i : ℕ)
+    (d v : Vec (Option MemberId) Global)
     (found now : List (Vec MemberId Global)) (w : Vec MemberId Global) → i < length lists → v ≡ get_or lists i d
     → parents_in found ≡ map (places_of all.0) (parents_told (take i lists)) → now ≡ found ++ w ∷ []
     → numbers_of w.items ≡ places_of all.0 (map number_of v.items)
     → parents_in now ≡ map (places_of all.0) (parents_told (take (i + 1) lists))
 linked-more all lists i d v found now w l ev e en ew =
-    let more : take (i + 1) lists ≡ take i lists ++ v ∷ [] = take_more lists i d l ∙ ap (λ (x : Vec (Option MemberId) Global). take i lists ++ x ∷ []) (sym ev) in
+    let more : take (i + 1) lists ≡ take i lists ++ v ∷ [] =
+    take_more lists i d l ∙ ap (λ (x : Vec (Option MemberId) Global). take i lists ++ x ∷ []) (sym ev) in
     ap parents_in en ∙ map-append (λ ps. numbers_of ps.items) found (w ∷ [])
-    ∙ rw (more, map-append (λ ps. map number_of ps.items) (take i lists) (v ∷ []), map-append (places_of all.0) (parents_told (take i lists)) (map number_of v.items ∷ []), e, ew) refl
+    ∙ rw (
+      more,
+      map-append (λ ps. map number_of ps.items) (take i lists) (v ∷ []),
+      map-append (places_of all.0) (parents_told (take i lists)) (map number_of v.items ∷ []),
+      e,
+      ew,
+    ) refl

@@ -25,7 +25,8 @@ number-inside None n h = h
 number-inside (Some m) n h = h
 
 -- a member has a list of parents
-pub has-list : (d : Draft) (lists : List (Vec (Option MemberId) Global)) (x : ℕ) → IsDraft d → d.parents ≡ parents_told lists
+pub has-list : (d : Draft) (lists : List (Vec (Option MemberId) Global)) (x : ℕ) → IsDraft d
+    → d.parents ≡ parents_told lists
     → x < length d.members → x < length lists
 has-list d lists x h told l =
     let e = h.as_many in
@@ -46,23 +47,28 @@ module _ (d : Draft) (lists : List (Vec (Option MemberId) Global)) (told : d.par
   kept w e =
       let same : map number_of w.items ≡ map number_of (get_or lists x v).items =
       ap (map number_of) e ∙ ap (λ (ps : Vec (Option MemberId) Global). map number_of ps.items) at in
-      ap (λ (t : List (List (Option ℕ))). record d { parents = t }) (map-set_same (λ ps. map number_of ps.items) lists x w v same ∙ sym told)
+      ap (λ (t : List (List (Option ℕ))). record d { parents = t })
+      (map-set_same (λ ps. map number_of ps.items) lists x w v same ∙ sym told)
 
   pub pushed : (w : Vec (Option MemberId) Global) (p : Option MemberId) → w.items ≡ v.items ++ p ∷ []
       → ◌≡◌ {A = Draft} (record d { parents = parents_told (slice_set lists x w) }) (with_parent d x (number_of p))
   pushed w p e =
       let now : map number_of w.items ≡ parents_so_far d x ++ number_of p ∷ [] =
-      ap (map number_of) e ∙ map-append number_of v.items (p ∷ []) ∙ ap (λ (t : List (Option ℕ)). t ++ number_of p ∷ []) (sym so-far) in
+      ap (map number_of) e ∙ map-append number_of v.items (p ∷ [])
+      ∙ ap (λ (t : List (Option ℕ)). t ++ number_of p ∷ []) (sym so-far) in
       ap (λ (t : List (List (Option ℕ))). record d { parents = t })
-      (map-set (λ ps. map number_of ps.items) lists x w ∙ ap (λ (t : List (List (Option ℕ))). slice_set t x (map number_of w.items)) (sym told)
+      (map-set (λ ps. map number_of ps.items) lists x w
+      ∙ ap (λ (t : List (List (Option ℕ))). slice_set t x (map number_of w.items)) (sym told)
       ∙ ap (slice_set d.parents x) now)
 
 -- what differs from each id is not found
-pub not-found : (x : List ℕ) (ids : List (List ℕ)) (n : ℕ) → ((k : ℕ) → k < length ids → get_or ids k [] ≢ x) → position_from (bytes_eq x) n ids ≡ None
+pub not-found : (x : List ℕ) (ids : List (List ℕ)) (n : ℕ) → ((k : ℕ) → k < length ids → get_or ids k [] ≢ x)
+    → position_from (bytes_eq x) n ids ≡ None
 not-found x [] n h = refl
 not-found x (y ∷ ys) n h = by (bytes_eq x y) refl (not-found x ys (n + 1) (λ k l. h (suc k) (omega arith)))
   where
-    by : (b : Bool) → bytes_eq x y ≡ b → position_from (bytes_eq x) (n + 1) ys ≡ None → cond b (Some n) (position_from (bytes_eq x) (n + 1) ys) ≡ None
+    by : (b : Bool) → bytes_eq x y ≡ b → position_from (bytes_eq x) (n + 1) ys ≡ None
+        → cond b (Some n) (position_from (bytes_eq x) (n + 1) ys) ≡ None
     by true t r = absurd (h 0 (omega arith) (sym ((bytes_eq-Decides x y).0 t)))
     by false t r = r
 
@@ -74,7 +80,8 @@ all-absent d h = not-found (codes "all") (ids_in d.members) 0 (λ k l e.
     h.not_all k i (sym (get_or-map (λ m. m.id) d.members k nobody [] i) ∙ e))
 
 -- a member that isn't refused has a new id
-pub member-absent : (d : Draft) (id : List ℕ) (category : ℕ) (name : List ℕ) → IsDraft d → member_refusal d id category name ≡ None
+pub member-absent : (d : Draft) (id : List ℕ) (category : ℕ) (name : List ℕ) → IsDraft d
+    → member_refusal d id category name ≡ None
     → place_of id (ids_in d.members) ≡ None
 member-absent d id category name h e = (fresh-is d h id category name e).1
 
@@ -85,7 +92,8 @@ pub with-new : (d : Draft) (id : List ℕ) (category : ℕ) (name : List ℕ) (m
 with-new d id category name ms ps em ep = rw (em, ep) refl
 
 -- the parents of a new member are none
-pub told-none : (lists now : List (Vec (Option MemberId) Global)) (v : Vec (Option MemberId) Global) → now ≡ lists ++ v ∷ [] → v.items ≡ []
+pub told-none : (lists now : List (Vec (Option MemberId) Global)) (v : Vec (Option MemberId) Global)
+    → now ≡ lists ++ v ∷ [] → v.items ≡ []
     → parents_told now ≡ parents_told lists ++ [] ∷ []
 told-none lists now v en ev =
     ap parents_told en ∙ map-append (λ ps. map number_of ps.items) lists (v ∷ [])
@@ -95,7 +103,8 @@ told-none lists now v en ev =
 module _ (d : Draft) (h : IsDraft d) (ms : Instance) (ps : List (List ℕ)) (em : ms ≡ d.members ++ all_member ∷ [])
     (ep : ps ≡ map (places_of (length d.members)) d.parents ++ [] ∷ []) where
   pub built-sound : AreSound ms ps
-  built-sound = rw (em, ep) (complete-sound d.members (map (places_of (length d.members)) d.parents) (draft-complete d h))
+  built-sound =
+      rw (em, ep) (complete-sound d.members (map (places_of (length d.members)) d.parents) (draft-complete d h))
 
   known : 0 < d.categories → (x : ℕ) → x < length ms → (member_at ms x).category < d.categories
   known some x l = elim (eqb_tells x (length d.members)) [

@@ -29,9 +29,13 @@ name-utf8 (b ∷ rest) h = IsUtf8-from_ascii (b ∷ rest) (IsAscii-from_all (b �
 module _ (g : Graph) (h : IsHierarchy g) where
   distinct : AreDistinct (names_of g)
   distinct zero zero li lj e = refl
-  distinct zero (suc j) li lj e = absurd ((h.names (get_or g.names j []) (Contains-get_or g.names j [] (omega arith))).1 (sym e))
-  distinct (suc i) zero li lj e = absurd ((h.names (get_or g.names i []) (Contains-get_or g.names i [] (omega arith))).1 e)
-  distinct (suc i) (suc j) li lj e = ap suc (Distinct-places g.names (Distinct-from_AllPairs g.names h.names_differ) i j [] (omega arith) (omega arith) e)
+  distinct zero (suc j) li lj e =
+      absurd ((h.names (get_or g.names j []) (Contains-get_or g.names j [] (omega arith))).1 (sym e))
+  distinct (suc i) zero li lj e =
+      absurd ((h.names (get_or g.names i []) (Contains-get_or g.names i [] (omega arith))).1 e)
+  distinct (suc i) (suc j) li lj e =
+      ap suc (Distinct-places g.names (Distinct-from_AllPairs g.names h.names_differ) i j [] (omega arith)
+      (omega arith) e)
 
   -- a category is found by its name
   pub named-category : (c : ℕ) → IsCategory g c → category_named g (name_of_category g c) ≡ Some c
@@ -39,4 +43,5 @@ module _ (g : Graph) (h : IsHierarchy g) where
 
   pub category-utf8 : (c : ℕ) → IsCategory g c → c ≢ 0 → IsUtf8 (name_of_category g c)
   category-utf8 zero l n = absurd (n refl)
-  category-utf8 (suc c) l n = name-utf8 (get_or g.names c []) (h.names (get_or g.names c []) (Contains-get_or g.names c [] (omega arith))).0
+  category-utf8 (suc c) l n =
+      name-utf8 (get_or g.names c []) (h.names (get_or g.names c []) (Contains-get_or g.names c [] (omega arith))).0

@@ -27,13 +27,15 @@ module _ (ms : Instance) (ps : List (List ℕ)) (h : AreComplete ms ps) where
   whole = with_parents (ms ++ all_member ∷ []) (ps ++ [] ∷ [])
 
   as_long : length (ms ++ all_member ∷ []) ≡ length (ps ++ [] ∷ [])
-  as_long = let e = h.as_many in let a = length-append ms (all_member ∷ []) in let b = length-append ps ([] ∷ []) in omega arith
+  as_long = let e = h.as_many in let a = length-append ms (all_member ∷ []) in let b = length-append ps ([] ∷ []) in
+      omega arith
 
   count : length whole ≡ length ms + 1
   count = length-with_parents (ms ++ all_member ∷ []) (ps ++ [] ∷ []) as_long ∙ length-append ms (all_member ∷ [])
 
   other-or-all : (x : ℕ) → IsMember whole x → (x < length ms) ⊎ (x ≡ length ms)
-  other-or-all x l = let n = count in elim (eqb_tells x (length ms)) [ inl t ↦ inr t.1 | inr f ↦ let d = f.1 in inl (omega arith) ]
+  other-or-all x l = let n = count in
+      elim (eqb_tells x (length ms)) [ inl t ↦ inr t.1 | inr f ↦ let d = f.1 in inl (omega arith) ]
 
   at-other : (x : ℕ) → x < length ms → member_at whole x ≡ record (member_at ms x) { parents = get_or ps x [] }
   at-other x l =
@@ -43,17 +45,20 @@ module _ (ms : Instance) (ps : List (List ℕ)) (h : AreComplete ms ps) where
       ∙ both (member_at (ms ++ all_member ∷ []) x) (member_at ms x) (get_or (ps ++ [] ∷ []) x []) (get_or ps x [])
       (get_or_append_left ms (all_member ∷ []) nobody x l) (get_or_append_left ps ([] ∷ []) [] x k)
     where
-      both : (m n : Member) (p q : List ℕ) → m ≡ n → p ≡ q → ◌≡◌ {A = Member} (record m { parents = p }) (record n { parents = q })
+      both : (m n : Member) (p q : List ℕ) → m ≡ n → p ≡ q
+          → ◌≡◌ {A = Member} (record m { parents = p }) (record n { parents = q })
       both m n p q e f = rw (e, f) refl
 
   at-all : member_at whole (length ms) ≡ all_member
   at-all =
       let n = length-append ms (all_member ∷ []) in
       member_at-with_parents (ms ++ all_member ∷ []) (ps ++ [] ∷ []) (length ms) as_long (omega arith)
-      ∙ both (member_at (ms ++ all_member ∷ []) (length ms)) (get_or (ps ++ [] ∷ []) (length ms) []) (get_or-append_seam ms all_member [] nobody)
+      ∙ both (member_at (ms ++ all_member ∷ []) (length ms)) (get_or (ps ++ [] ∷ []) (length ms) [])
+      (get_or-append_seam ms all_member [] nobody)
       (ap (λ (k : ℕ). get_or (ps ++ [] ∷ []) k []) h.as_many ∙ get_or-append_seam ps [] [] [])
     where
-      both : (m : Member) (p : List ℕ) → m ≡ all_member → p ≡ [] → ◌≡◌ {A = Member} (record m { parents = p }) all_member
+      both : (m : Member) (p : List ℕ) → m ≡ all_member → p ≡ []
+          → ◌≡◌ {A = Member} (record m { parents = p }) all_member
       both m p e f = rw (e, f) refl
 
   id-other : (x : ℕ) → x < length ms → (member_at whole x).id ≡ (member_at ms x).id

@@ -17,7 +17,7 @@ use Rattle.olap_instance.specs.InstanceText.{is_bad_id, is_too_long}
 use Rattle.olap_instance.specs.Members.{IsMemberId, IsShortText, childless, most_members}
 use Rattle.olap_instance.specs.Passes.{ids_in}
 use Rattle.olap_instance.proofs.Completing.{AreComplete}
-use Rattle.olap_instance.proofs.Soundness.{absent-at, else-none, missing, neither, within}
+use Rattle.olap_instance.proofs.Checks.{absent-at, else-none, missing, neither, within}
 
 -- a draft without members
 pub draft-none : (n : ℕ) → IsDraft (no_members n)
@@ -50,7 +50,8 @@ record IsAccepted (d : Draft) (id : List ℕ) (category : ℕ) (name : List ℕ)
   fresh : (bytes_eq id (codes "all") || is_some (place_of id (ids_in d.members))) ≡ false
   room : nat_le most_members (length d.members + 1) ≡ false
 
-accepted : (d : Draft) (id : List ℕ) (category : ℕ) (name : List ℕ) → member_refusal d id category name ≡ None → IsAccepted d id category name
+accepted : (d : Draft) (id : List ℕ) (category : ℕ) (name : List ℕ) → member_refusal d id category name ≡ None
+    → IsAccepted d id category name
 accepted d id category name e =
     let a = else-none (is_bad_id id) _ _ e in
     let b = else-none (is_too_long id || is_too_long name) _ _ a.1 in
@@ -62,7 +63,8 @@ accepted d id category name e =
 not-zero : (n : ℕ) → (n == 0) ≡ false → n ≢ 0
 not-zero n f e = cc (rw e at f)
 
-module _ (d : Draft) (h : IsDraft d) (id : List ℕ) (category : ℕ) (name : List ℕ) (passes : member_refusal d id category name ≡ None) where
+module _ (d : Draft) (h : IsDraft d) (id : List ℕ) (category : ℕ) (name : List ℕ)
+    (passes : member_refusal d id category name ≡ None) where
   abbrev new : Member
   new = childless id category name
 
@@ -97,7 +99,8 @@ module _ (d : Draft) (h : IsDraft d) (id : List ℕ) (category : ℕ) (name : Li
   not-new : (x : ℕ) → x < length d.members → (member_at d.members x).id ≢ id
   not-new x l e =
       let n = length-map d.members (λ m. m.id) in
-      let at : get_or (ids_in d.members) x [] ≡ (member_at d.members x).id = get_or-map (λ m. m.id) d.members x nobody [] l in
+      let at : get_or (ids_in d.members) x [] ≡ (member_at d.members x).id =
+      get_or-map (λ m. m.id) d.members x nobody [] l in
       absent-at id (ids_in d.members) 0 x fresh-is.1 (omega arith) (at ∙ e)
 
   old-parents : (x : ℕ) → get_or (d.parents ++ [] ∷ []) x [] ≡ get_or d.parents x []
@@ -130,7 +133,8 @@ module _ (d : Draft) (h : IsDraft d) (id : List ℕ) (category : ℕ) (name : Li
     | inr a ↦ let t = (bytes_eq-Decides id (codes "all")).1 (sym (new-id x a) ∙ e) in cc (t, fresh-is.0)
   ]
 
-  pub draft-member : category < d.categories → IsTrue (is_utf8 id) → IsTrue (is_utf8 name) → IsDraft (with_member d id category name)
+  pub draft-member : category < d.categories → IsTrue (is_utf8 id) → IsTrue (is_utf8 name)
+      → IsDraft (with_member d id category name)
   draft-member known text1 text2 = record {
     as_many =
         let a = length-append d.members (new ∷ []) in
@@ -189,7 +193,9 @@ module _ (d : Draft) (h : IsDraft d) (x : ℕ) (l : x < length d.members) (p : O
       | inr f ↦ h.parents_are_members y z (rw (parents-now y f.1) at c)
     ];
     parents_differ = λ y. elim (eqb_tells y x) [
-      | inl t ↦ rw (t.1, parents-here) (all_pairs_push ◌≢◌ (parents_so_far d x) p (h.parents_differ x) (λ k e lk s. absent (k, lk, any-default (parents_so_far d x) k p e lk ∙ s)))
+      | inl t ↦ rw (t.1, parents-here)
+          (all_pairs_push ◌≢◌ (parents_so_far d x) p (h.parents_differ x)
+          (λ k e lk s. absent (k, lk, any-default (parents_so_far d x) k p e lk ∙ s)))
       | inr f ↦ rw (parents-now y f.1) (h.parents_differ y)
     ];
   }
@@ -212,18 +218,21 @@ module _ (d : Draft) (h : IsDraft d) (x : ℕ) (l : x < length d.members) (p : O
 -- ---- the end
 
 module _ (d : Draft) (h : IsDraft d) where
-  place-of-parent : (p : Option ℕ) (y : ℕ) → unwrap_or p (length d.members) ≡ y → ((z : ℕ) → p ≡ Some z → z < length d.members) → y ≤ length d.members
+  place-of-parent : (p : Option ℕ) (y : ℕ) → unwrap_or p (length d.members) ≡ y
+      → ((z : ℕ) → p ≡ Some z → z < length d.members) → y ≤ length d.members
   place-of-parent None y e inside = omega arith
   place-of-parent (Some z) y e inside = let k = inside z refl in omega arith
 
-  same-parent : (p q : Option ℕ) → ((z : ℕ) → p ≡ Some z → z < length d.members) → ((z : ℕ) → q ≡ Some z → z < length d.members)
+  same-parent : (p q : Option ℕ) → ((z : ℕ) → p ≡ Some z → z < length d.members)
+      → ((z : ℕ) → q ≡ Some z → z < length d.members)
       → unwrap_or p (length d.members) ≡ unwrap_or q (length d.members) → p ≡ q
   same-parent None None i j e = refl
   same-parent None (Some z) i j e = let k = j z refl in absurd (omega arith)
   same-parent (Some z) None i j e = let k = i z refl in absurd (omega arith)
   same-parent (Some y) (Some z) i j e = ap Some e
 
-  parents-at : (x : ℕ) → x < length d.members → get_or (map (places_of (length d.members)) d.parents) x [] ≡ places_of (length d.members) (parents_so_far d x)
+  parents-at : (x : ℕ) → x < length d.members
+      → get_or (map (places_of (length d.members)) d.parents) x [] ≡ places_of (length d.members) (parents_so_far d x)
   parents-at x l = let e = h.as_many in get_or-map (places_of (length d.members)) d.parents x [] [] (omega arith)
 
   -- a draft lacks nothing but `all`
@@ -236,10 +245,13 @@ module _ (d : Draft) (h : IsDraft d) where
     declared = λ x l. (h.declared x l).0;
     texts = h.texts;
     parents_inside = λ x y l c.
-        let k = Contains-from_map (λ p. unwrap_or p (length d.members)) (parents_so_far d x) y (rw (parents-at x l) at c) in
+        let k = Contains-from_map (λ p. unwrap_or p (length d.members)) (parents_so_far d x) y
+        (rw (parents-at x l) at c) in
         place-of-parent k.0 y k.2 (λ z e. h.parents_are_members x z (rw e at k.1));
     parents_differ = λ x l.
         rw (parents-at x l) (AllPairs-from_Distinct (places_of (length d.members) (parents_so_far d x))
-        (Distinct-map (λ p. unwrap_or p (length d.members)) (parents_so_far d x) (Distinct-from_AllPairs (parents_so_far d x) (h.parents_differ x))
-        (λ p q cp cq e. same-parent p q (λ z s. h.parents_are_members x z (rw s at cp)) (λ z s. h.parents_are_members x z (rw s at cq)) e)));
+        (Distinct-map (λ p. unwrap_or p (length d.members)) (parents_so_far d x)
+        (Distinct-from_AllPairs (parents_so_far d x) (h.parents_differ x))
+        (λ p q cp cq e. same-parent p q (λ z s. h.parents_are_members x z (rw s at cp))
+        (λ z s. h.parents_are_members x z (rw s at cq)) e)));
   }

@@ -23,17 +23,22 @@ module _ {K : Type 0} (items : K → List ℕ) where
   find-place q (e ∷ es) [] n h = cc
   find-place q (e ∷ es) (x ∷ xs) n h =
       let front : seen e ≡ (x, n) = cc in
-      step q e x n _ _ (ap (λ (p : List ℕ × ℕ). p.0) front) (ap (λ (p : List ℕ × ℕ). p.1) front) (find-place q es xs (n + 1) (cc))
+      step q e x n _ _ (ap (λ (p : List ℕ × ℕ). p.0) front) (ap (λ (p : List ℕ × ℕ). p.1) front)
+      (find-place q es xs (n + 1) (cc))
 
-  numbered-push : (ids : List (List ℕ)) (id : List ℕ) (n : ℕ) → numbered n (ids ++ id ∷ []) ≡ numbered n ids ++ (id, n + length ids) ∷ []
+  numbered-push : (ids : List (List ℕ)) (id : List ℕ) (n : ℕ)
+      → numbered n (ids ++ id ∷ []) ≡ numbered n ids ++ (id, n + length ids) ∷ []
   numbered-push [] id n = let e : n ≡ n + 0 = omega arith in ap (λ (k : ℕ). (id, k) ∷ []) e
   numbered-push (x ∷ xs) id n =
       let e : (n + 1) + length xs ≡ n + length (x ∷ xs) = omega arith in
-      ap (λ (t : List (List ℕ × ℕ)). (x, n) ∷ t) (numbered-push xs id (n + 1) ∙ ap (λ (k : ℕ). numbered (n + 1) xs ++ (id, k) ∷ []) e)
+      ap (λ (t : List (List ℕ × ℕ)). (x, n) ∷ t) (numbered-push xs id (n + 1)
+      ∙ ap (λ (k : ℕ). numbered (n + 1) xs ++ (id, k) ∷ []) e)
 
   -- the key of a new id is put last, with the next place
-  pub push-place : (es new : List (K × ℕ)) (key : K) (place : ℕ) (ids now : List (List ℕ)) (id : List ℕ) → map seen es ≡ numbered 0 ids
-      → new ≡ es ++ (key, place) ∷ [] → now ≡ ids ++ id ∷ [] → items key ≡ id → place ≡ length ids → map seen new ≡ numbered 0 now
+  pub push-place : (es new : List (K × ℕ)) (key : K) (place : ℕ) (ids now : List (List ℕ)) (id : List ℕ)
+      → map seen es ≡ numbered 0 ids
+      → new ≡ es ++ (key, place) ∷ [] → now ≡ ids ++ id ∷ [] → items key ≡ id → place ≡ length ids
+      → map seen new ≡ numbered 0 now
   push-place es new key place ids now id h hn ht hk hp =
       let e : length ids ≡ 0 + length ids = omega arith in
       rw (hn, ht, map-append seen es ((key, place) ∷ []), h, hk, hp, numbered-push ids id 0)
@@ -43,7 +48,8 @@ module _ {K : Type 0} (items : K → List ℕ) where
 pub ids-push : (heads now : List Head) (h : Head) → now ≡ heads ++ h ∷ []
     → map (λ m. m.id) (map member_of_head now) ≡ map (λ m. m.id) (map member_of_head heads) ++ h.id ∷ []
 ids-push heads now h e =
-    rw e (ap (map (λ m. m.id)) (map-append member_of_head heads (h ∷ [])) ∙ map-append (λ m. m.id) (map member_of_head heads) (member_of_head h ∷ []))
+    rw e (ap (map (λ m. m.id)) (map-append member_of_head heads (h ∷ []))
+    ∙ map-append (λ m. m.id) (map member_of_head heads) (member_of_head h ∷ []))
 
 pub ids-count : (heads : List Head) → length (map (λ m. m.id) (map member_of_head heads)) ≡ length heads
 ids-count heads = length-map (map member_of_head heads) (λ m. m.id) ∙ length-map heads member_of_head

@@ -11,7 +11,8 @@ use Rattle.std.proofs.lemmas.Str.Ascii.{IsAscii-from_all}
 use Rattle.olap_instance.specs.InstanceText.{pieces_of}
 
 -- one piece more, behind others
-join-next : (y : List ℕ) (ys : List (List ℕ)) (x : List ℕ) → join_with_byte 59 (y ∷ (ys ++ x ∷ [])) ≡ join_with_byte 59 (y ∷ ys) ++ 59 ∷ x
+join-next : (y : List ℕ) (ys : List (List ℕ)) (x : List ℕ)
+    → join_with_byte 59 (y ∷ (ys ++ x ∷ [])) ≡ join_with_byte 59 (y ∷ ys) ++ 59 ∷ x
 join-next y [] x = refl
 join-next y (z ∷ zs) x =
     ap (λ (t : List ℕ). y ++ 59 ∷ t) (join-next z zs x)
@@ -19,11 +20,14 @@ join-next y (z ∷ zs) x =
 
 -- one piece more, behind those before it
 pub join-more : (ids : List (List ℕ)) (i : ℕ) (old new : List ℕ) → i < length ids → old ≡ join_with_byte 59 (take i ids)
-    → new ≡ old ++ (if i == 0 then get_or ids i [] else 59 ∷ get_or ids i []) → new ≡ join_with_byte 59 (take (i + 1) ids)
-join-more ids i old new l eo en = en ∙ ap (λ (t : List ℕ). t ++ (if i == 0 then get_or ids i [] else 59 ∷ get_or ids i [])) eo
+    → new ≡ old ++ (if i == 0 then get_or ids i [] else 59 ∷ get_or ids i [])
+    → new ≡ join_with_byte 59 (take (i + 1) ids)
+join-more ids i old new l eo en =
+    en ∙ ap (λ (t : List ℕ). t ++ (if i == 0 then get_or ids i [] else 59 ∷ get_or ids i [])) eo
     ∙ by (take i ids) (length-take-le i ids (omega arith)) ∙ ap (join_with_byte 59) (sym (take_more ids i [] l))
   where
-    by : (before : List (List ℕ)) → length before ≡ i → join_with_byte 59 before ++ (if i == 0 then get_or ids i [] else 59 ∷ get_or ids i [])
+    by : (before : List (List ℕ)) → length before ≡ i
+        → join_with_byte 59 before ++ (if i == 0 then get_or ids i [] else 59 ∷ get_or ids i [])
         ≡ join_with_byte 59 (before ++ get_or ids i [] ∷ [])
     by [] e = rw (← e) refl
     by (y ∷ ys) e = elim (eqb_tells i 0) [
@@ -44,7 +48,8 @@ none-any f (x ∷ xs) e (suc i) d l = none-any f xs (any-parts (f x) (list_any f
 abbrev pub IsPiece : List ℕ → Type 0
 IsPiece x = (length x ≢ 0) × (list_any (λ b. b == 59) x ≡ false)
 
-split-joined : (y : List ℕ) (ys : List (List ℕ)) → IsPiece y → All IsPiece ys → slice_split (λ b. b == 59) (join_with_byte 59 (y ∷ ys)) ≡ y ∷ ys
+split-joined : (y : List ℕ) (ys : List (List ℕ)) → IsPiece y → All IsPiece ys
+    → slice_split (λ b. b == 59) (join_with_byte 59 (y ∷ ys)) ≡ y ∷ ys
 split-joined y [] h t = slice_split_none (λ b. b == 59) y (none-any (λ b. b == 59) y h.1)
 split-joined y (z ∷ zs) h t =
     slice_split_at (λ b. b == 59) y 59 (join_with_byte 59 (z ∷ zs)) (none-any (λ b. b == 59) y h.1) refl
@@ -76,4 +81,5 @@ utf8-joined [] h = IsUtf8-nil
 utf8-joined (y ∷ []) h = h 0 [] (omega arith)
 utf8-joined (y ∷ z ∷ zs) h =
     IsUtf8-append y (59 ∷ join_with_byte 59 (z ∷ zs)) (h 0 [] (omega arith))
-    (IsUtf8-append (59 ∷ []) (join_with_byte 59 (z ∷ zs)) semicolon (utf8-joined (z ∷ zs) (λ i d l. h (suc i) d (omega arith))))
+    (IsUtf8-append (59 ∷ []) (join_with_byte 59 (z ∷ zs)) semicolon
+    (utf8-joined (z ∷ zs) (λ i d l. h (suc i) d (omega arith))))

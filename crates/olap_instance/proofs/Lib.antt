@@ -10,6 +10,7 @@ pub mod Stamps
 pub mod EnteringLemmas
 pub mod LinkingLemmas
 pub mod Completing
+pub mod Checks
 pub mod Soundness
 pub mod Refusing
 pub mod DraftLemmas
@@ -18,4 +19,5 @@ pub mod BuilderSteps
 pub mod Joining
 pub mod CategoryNames
 pub mod PrintingLemmas
+pub mod Passing
 pub mod ReadBack

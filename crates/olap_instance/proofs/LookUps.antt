@@ -21,9 +21,11 @@ module _ (a : Inside) (s : IsSound a) where
   in-roster x l = let e = length-is in omega arith
 
   pub in-parents : (x : ℕ) → x < length (instance_of a) → x < length a.parents.items
-  in-parents x l = let h = in-roster x l in let e = s.as_many ∙ length-map a.parents.items (λ ps. numbers_of ps.items) in omega arith
+  in-parents x l = let h = in-roster x l in let e =
+      s.as_many ∙ length-map a.parents.items (λ ps. numbers_of ps.items) in omega arith
 
-  pub member-is : (x : ℕ) → x < length (instance_of a) → member_at (instance_of a) x ≡ record (member_at a.roster x) { parents = get_or rows x [] }
+  pub member-is : (x : ℕ) → x < length (instance_of a)
+      → member_at (instance_of a) x ≡ record (member_at a.roster x) { parents = get_or rows x [] }
   member-is x l = member_at-with_parents a.roster rows x s.as_many (in-roster x l)
 
   pub ids-are : map (λ m. m.id) (instance_of a) ≡ map (λ m. m.id) a.roster
@@ -38,7 +40,8 @@ module _ (a : Inside) (s : IsSound a) where
       let n = length-is in
       (sym e ∙ ap (place_of id) (sym ids-are), omega arith)
 
-  pub unfound : (id : List ℕ) → place_of id (map (λ m. m.id) a.roster) ≡ None → ◌≡◌ {A = Option ℕ} None (place_of id (map (λ m. m.id) (instance_of a)))
+  pub unfound : (id : List ℕ) → place_of id (map (λ m. m.id) a.roster) ≡ None
+      → ◌≡◌ {A = Option ℕ} None (place_of id (map (λ m. m.id) (instance_of a)))
   unfound id e = sym e ∙ ap (place_of id) (sym ids-are)
 
   -- the parents at a place

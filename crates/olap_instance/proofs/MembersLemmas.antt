@@ -3,7 +3,8 @@ use Rattle.std.proofs.Common.{◌≡◌, ◌<◌, ◌∷◌, ℕ, zero, suc, Lis
 use Rattle.olap_base.specs.Instance.{Instance, member_at}
 use Rattle.olap_instance.specs.Members.{with_parents}
 
-pub length-with_parents : (ms : Instance) (ps : List (List ℕ)) → length ms ≡ length ps → length (with_parents ms ps) ≡ length ms
+pub length-with_parents : (ms : Instance) (ps : List (List ℕ)) → length ms ≡ length ps
+    → length (with_parents ms ps) ≡ length ms
 length-with_parents [] ps e = refl
 length-with_parents (m ∷ ms) [] e = absurd (omega arith)
 length-with_parents (m ∷ ms) (p ∷ ps) e = let h = length-with_parents ms ps (omega arith) in omega arith

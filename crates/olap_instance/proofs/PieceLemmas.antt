@@ -20,7 +20,8 @@ both false true f g = g refl
 both false false f g = refl
 
 -- pieces are equal exactly where they name one member
-pub same-piece : (ids : List (List ℕ)) (p q : List ℕ) (m n : ℕ) → place_of p ids ≡ Some m → place_of q ids ≡ Some n → bytes_eq p q ≡ (m == n)
+pub same-piece : (ids : List (List ℕ)) (p q : List ℕ) (m n : ℕ) → place_of p ids ≡ Some m → place_of q ids ≡ Some n
+    → bytes_eq p q ≡ (m == n)
 same-piece ids p q m n em en = both (bytes_eq p q) (m == n) there back
   where
     same : (n : ℕ) → (n == n) ≡ true
@@ -44,7 +45,8 @@ or-same : (a b c d : Bool) → a ≡ b → c ≡ d → (a || c) ≡ (b || d)
 or-same a b c d e h = rw (e, h) refl
 
 -- a piece is equal to an earlier one exactly where its member was found before
-pub any-same : (ids : List (List ℕ)) (p : List ℕ) (m : ℕ) (before : List (List ℕ)) (found : List ℕ) → place_of p ids ≡ Some m
+pub any-same : (ids : List (List ℕ)) (p : List ℕ) (m : ℕ) (before : List (List ℕ)) (found : List ℕ)
+    → place_of p ids ≡ Some m
     → map (λ q. place_of q ids) before ≡ map Some found → list_any (bytes_eq p) before ≡ list_any (λ n. m == n) found
 any-same ids p m [] [] e h = refl
 any-same ids p m [] (n ∷ found) e h = cc
@@ -52,7 +54,8 @@ any-same ids p m (q ∷ before) [] e h = cc
 any-same ids p m (q ∷ before) (n ∷ found) e h =
     let one : place_of q ids ≡ Some n = cc in
     let rest : map (λ q. place_of q ids) before ≡ map Some found = cc in
-    or-same (bytes_eq p q) (m == n) (list_any (bytes_eq p) before) (list_any (λ n. m == n) found) (same-piece ids p q m n e one) (any-same ids p m before found e rest)
+    or-same (bytes_eq p q) (m == n) (list_any (bytes_eq p) before) (list_any (λ n. m == n) found)
+    (same-piece ids p q m n e one) (any-same ids p m before found e rest)
 
 pub any-push : {X : Type 0} (f : X → Bool) (xs : List X) (x : X) → list_any f (xs ++ x ∷ []) ≡ (list_any f xs || f x)
 any-push f [] x = or-false (f x)
@@ -62,12 +65,14 @@ any-push f [] x = or-false (f x)
     or-false false = refl
 any-push f (y ∷ ys) x = by (f y) (any-push f ys x)
   where
-    by : (b : Bool) → list_any f (ys ++ x ∷ []) ≡ (list_any f ys || f x) → (b || list_any f (ys ++ x ∷ [])) ≡ ((b || list_any f ys) || f x)
+    by : (b : Bool) → list_any f (ys ++ x ∷ []) ≡ (list_any f ys || f x)
+        → (b || list_any f (ys ++ x ∷ [])) ≡ ((b || list_any f ys) || f x)
     by true e = refl
     by false e = e
 
 -- the places of pieces, where each has one
-pub places-read : (ids ps : List (List ℕ)) (found : List ℕ) → map (λ p. place_of p ids) ps ≡ map Some found → found ≡ map (parent_read ids) ps
+pub places-read : (ids ps : List (List ℕ)) (found : List ℕ) → map (λ p. place_of p ids) ps ≡ map Some found
+    → found ≡ map (parent_read ids) ps
 places-read ids [] [] h = refl
 places-read ids [] (n ∷ found) h = cc
 places-read ids (p ∷ ps) [] h = cc
@@ -79,7 +84,8 @@ places-read ids (p ∷ ps) (n ∷ found) h =
 abbrev texts : List (Bor (List ℕ)) → List (List ℕ)
 texts ps = map (λ p. p.now) ps
 
-pub text-at : (ps : List (Bor (List ℕ))) (i : ℕ) (d : Bor (List ℕ)) → i < length ps → (get_or ps i d).now ≡ get_or (texts ps) i []
+pub text-at : (ps : List (Bor (List ℕ))) (i : ℕ) (d : Bor (List ℕ)) → i < length ps
+    → (get_or ps i d).now ≡ get_or (texts ps) i []
 text-at ps i d l = sym (get_or-map (λ p. p.now) ps i d [] l)
 
 pub within : (ps : List (Bor (List ℕ))) (i : ℕ) → i < length ps → i < length (texts ps)
@@ -98,7 +104,8 @@ left-at ps i l = drop-cons ps i [] l ∙ ap (λ (k : ℕ). get_or ps i [] ∷ dr
 
 -- a piece with no fault is passed
 pub found-more : (ids ps : List (List ℕ)) (i : ℕ) (found now : List ℕ) (m : ℕ) → i < length ps → HasFound ids ps i found
-    → piece_fault ids (take i ps) (get_or ps i []) ≡ None → place_of (get_or ps i []) ids ≡ Some m → now ≡ found ++ m ∷ []
+    → piece_fault ids (take i ps) (get_or ps i []) ≡ None → place_of (get_or ps i []) ids ≡ Some m
+    → now ≡ found ++ m ∷ []
     → HasFound ids ps (i + 1) now
 found-more ids ps i found now m l h ef ep en =
     let x = get_or ps i [] in
@@ -112,14 +119,17 @@ found-more ids ps i found now m l h ef ep en =
     }
 
 -- the first fault is that of a piece that has one
-pub found-fault : (ids ps : List (List ℕ)) (i : ℕ) (found : List ℕ) (k : InstanceKind) → i < length ps → HasFound ids ps i found
+pub found-fault : (ids ps : List (List ℕ)) (i : ℕ) (found : List ℕ) (k : InstanceKind) → i < length ps
+    → HasFound ids ps i found
     → piece_fault ids (take i ps) (get_or ps i []) ≡ Some k → pieces_fault ids ps ≡ Some k
 found-fault ids ps i found k l h ef =
     ap (option_map (λ (p : ℕ × InstanceKind). p.1))
-    (see-fault (piece_fault ids) ps (take i ps) (drop i ps) (drop (i + 1) ps) (get_or ps i []) k h.seen (left-at ps i l) ef)
+    (see-fault (piece_fault ids) ps (take i ps) (drop i ps) (drop (i + 1) ps) (get_or ps i []) k h.seen
+    (left-at ps i l) ef)
 
 -- when all pieces have passed, they are parents
-pub found-all : (ids ps : List (List ℕ)) (i : ℕ) (found : List ℕ) → length ps ≤ i → HasFound ids ps i found → AreParents ids ps found
+pub found-all : (ids ps : List (List ℕ)) (i : ℕ) (found : List ℕ) → length ps ≤ i → HasFound ids ps i found
+    → AreParents ids ps found
 found-all ids ps i found l h =
     let t : take i ps ≡ ps = take_all i ps l in
     let d : drop i ps ≡ [] = drop_of_length-le ps l in (

@@ -13,17 +13,20 @@ use Rattle.olap_records.specs.Texts.{text_of_row, text_of_rows}
 use Rattle.olap_records.proofs.ReadingBack.{texts-push}
 use Rattle.olap_instance.specs.Printing.{member_fields, parent_ids}
 
-pub rows-more : (top : List (List ℕ)) (f : Member → List (List ℕ)) (ms : Instance) (k : ℕ) (out new : List ℕ) → k < length ms
+pub rows-more : (top : List (List ℕ)) (f : Member → List (List ℕ)) (ms : Instance) (k : ℕ) (out new : List ℕ)
+    → k < length ms
     → out ≡ text_of_rows (top ∷ map f (take k ms)) → new ≡ out ++ text_of_row (f (member_at ms k))
     → new ≡ text_of_rows (top ∷ map f (take (k + 1) ms))
 rows-more top f ms k out new l eo en =
     let m = member_at ms k in
-    let more : map f (take (k + 1) ms) ≡ map f (take k ms) ++ f m ∷ [] = ap (map f) (take_more ms k nobody l) ∙ map-append f (take k ms) (m ∷ []) in
+    let more : map f (take (k + 1) ms) ≡ map f (take k ms) ++ f m ∷ [] =
+    ap (map f) (take_more ms k nobody l) ∙ map-append f (take k ms) (m ∷ []) in
     en ∙ ap (λ (t : List ℕ). t ++ text_of_row (f m)) eo ∙ sym (texts-push (top ∷ map f (take k ms)) (f m))
     ∙ ap (λ (t : List (List (List ℕ))). text_of_rows (top ∷ t)) (sym more)
 
 -- the ids of the members that a list names
-ids-named : (i : Instance) (ms : List MemberId) → map (λ m. (member_at i m.0).id) ms ≡ map (λ p. (member_at i p).id) (map (λ m. m.0) ms)
+ids-named : (i : Instance) (ms : List MemberId)
+    → map (λ m. (member_at i m.0).id) ms ≡ map (λ p. (member_at i p).id) (map (λ m. m.0) ms)
 ids-named i [] = refl
 ids-named i (m ∷ ms) = ap (λ (t : List (List ℕ)). (member_at i m.0).id ∷ t) (ids-named i ms)
 
@@ -32,12 +35,17 @@ pub parents-named : (i : Instance) (ms : List MemberId) (m : Member) → map (λ
 parents-named i ms m e = ids-named i ms ∙ ap (map (λ p. (member_at i p).id)) e
 
 -- the members that a list names are inside
-pub inside-all : (n : ℕ) (ms : List MemberId) (ps : List ℕ) → map (λ p. p.0) ms ≡ ps → ((y : ℕ) → Contains ps y → y < n) → All (λ m. m.0 < n) ms
+pub inside-all : (n : ℕ) (ms : List MemberId) (ps : List ℕ) → map (λ p. p.0) ms ≡ ps
+    → ((y : ℕ) → Contains ps y → y < n) → All (λ m. m.0 < n) ms
 inside-all n ms ps e h k d l =
-    h (get_or ms k d).0 (subst (λ t. Contains t (get_or ms k d).0) e (Contains-map (λ m. m.0) ms (get_or ms k d) (Contains-get_or ms k d l)))
+    h (get_or ms k d).0
+    (subst (λ t. Contains t (get_or ms k d).0) e
+    (Contains-map (λ m. m.0) ms (get_or ms k d) (Contains-get_or ms k d l)))
 
-pub same-fields : (g : Graph) (i : Instance) (m : Member) (id category name parents : List ℕ) → id ≡ m.id → category ≡ name_of_category g m.category
-    → name ≡ m.name → parents ≡ join_with_byte 59 (parent_ids i m) → id ∷ category ∷ name ∷ parents ∷ [] ≡ member_fields g i m
+pub same-fields : (g : Graph) (i : Instance) (m : Member) (id category name parents : List ℕ) → id ≡ m.id
+    → category ≡ name_of_category g m.category
+    → name ≡ m.name → parents ≡ join_with_byte 59 (parent_ids i m)
+    → id ∷ category ∷ name ∷ parents ∷ [] ≡ member_fields g i m
 same-fields g i m id category name parents a b c d = rw (a, b, c, d) refl
 
 -- a row that was added is known by its fields

@@ -1,9 +1,8 @@
 -- What the records of a text stand for is a dimension instance, made for the graph.
-use Rattle.std.proofs.Common.{◌≡◌, ◌≢◌, ◌+◌, ◌<◌, ◌≤◌, ◌==◌, ◌||◌, ◌++◌, ◌∷◌, ◌∙◌, ◌⊎◌, inl, inr, not, Bool, cond, true, false, ℕ, zero, suc, List, [], length, map, take, codes, get_or, length-take, Option, Some, None, if◌then◌else◌, refl, sym, ap, arith}
-use Rattle.std.specs.Prelude.{AllPairs, Contains, is_none, is_some, nat_le, nat_lt}
-use Rattle.std.specs.List.{list_any, position_from}
-use Rattle.std.specs.Option.{option_map}
-use Rattle.std.specs.Str.{bytes_eq, is_utf8}
+use Rattle.std.proofs.Common.{◌≡◌, ◌≢◌, ◌+◌, ◌<◌, ◌≤◌, ◌==◌, ◌++◌, ◌∷◌, ◌∙◌, ◌⊎◌, inl, inr, Bool, true, false, ℕ, zero, suc, List, [], length, map, take, drop, codes, get_or, length-take, Option, Some, None, Ok, Err, if◌then◌else◌, refl, sym, ap, arith}
+use Rattle.std.specs.Prelude.{nat_le}
+use Rattle.std.specs.List.{list_any}
+use Rattle.std.specs.Str.{is_utf8}
 use Rattle.std.proofs.lemmas.Bool.Decides.{eqb_tells}
 use Rattle.std.proofs.Math.Seq.{get_or-append_seam}
 use Rattle.std.proofs.lemmas.List.{get_or_append_left, get_or-map, get_or-take, length-append, length-map, map-append}
@@ -11,141 +10,20 @@ use Rattle.std.proofs.lemmas.Option.{slice_get-get_or}
 use Rattle.std.proofs.lemmas.Slice.Eq.{bytes_eq-Decides}
 use Rattle.olap_base.specs.Graph.{Graph, IsCategory}
 use Rattle.olap_base.specs.Instance.{Instance, Member, category_of, member_at, nobody}
-use Rattle.olap_base.specs.Naming.{place_of}
 use Rattle.olap_graph.specs.Lookups.{category_named, names_of}
 use Rattle.olap_records.specs.Faults.{field, first_fault}
 use Rattle.olap_records.proofs.FaultLemmas.{none-iff}
-use Rattle.olap_instance.specs.InstanceText.{category_field, category_number, id_field, ids_of, is_bad_id, is_known, is_no_text, is_too_long, member_fault, member_read, name_field, parent_read, parents_fault, parents_field, members_read, parents_read, piece_fault, pieces_of, whole_read}
+use Rattle.olap_instance.specs.InstanceText.{body_read, category_field, category_number, has_header, id_field, ids_of, is_too_long, member_fault, member_read, members_read, name_field, or_read, parents_fault, parents_field, parents_read, piece_fault, pieces_of, whole_read}
 use Rattle.olap_instance.specs.Members.{AreSound, HasTexts, all_member, most_members, with_parents}
+use Rattle.olap_instance.specs.declared.refusals.InstanceKind.{InstanceKind}
+use Rattle.olap_instance.specs.Laws.{IsReadFor, ReadIsInstance}
+use Rattle.olap_instance.specs.declared.refusals.InstanceKind.TheVariants as kind
 use Rattle.olap_instance.specs.Made.{IsMadeFor}
 use Rattle.olap_instance.specs.Passes.{PassesFirst, PassesSecond, ids_in}
 use Rattle.olap_instance.proofs.Completing.{AreComplete, complete-sound}
 use Rattle.olap_instance.proofs.EnteringLemmas.{ids-read}
-use Rattle.olap_instance.proofs.PlaceFacts.{id-at-place, place-within}
-
--- ---- checks
-
-pub else-none : {K : Type 0} (b : Bool) (k : K) (o : Option K) → (if b then Some k else o) ≡ None → (b ≡ false) × (o ≡ None)
-else-none true k o e = cc e
-else-none false k o e = (refl, e)
-
-pub neither : (a b : Bool) → (a || b) ≡ false → (a ≡ false) × (b ≡ false)
-neither true b e = cc e
-neither false b e = (refl, e)
-
-isnt : (b : Bool) → not b ≡ false → b ≡ true
-isnt true e = refl
-isnt false e = cc e
-
-there : {A : Type 0} (o : Option A) → is_none o ≡ false → (x : A) × (o ≡ Some x)
-there None e = cc e
-there (Some x) e = (x, refl)
-
-pub missing : {A : Type 0} (o : Option A) → is_some o ≡ false → o ≡ None
-missing None e = refl
-missing (Some x) e = cc e
-
-no-second : {K : Type 0} (o : Option (ℕ × K)) → option_map (λ (p : ℕ × K). p.1) o ≡ None → o ≡ None
-no-second None e = refl
-no-second (Some p) e = cc e
-
--- a record that fails no check of the first pass
-record IsGood (g : Graph) (before : List (List (List ℕ))) (r : List (List ℕ)) : Type 0 where
-  text : is_no_text r ≡ false
-  id : is_bad_id (id_field r) ≡ false
-  short : (is_too_long (id_field r) || is_too_long (name_field r)) ≡ false
-  named : is_none (category_named g (category_field r)) ≡ false
-  declared : (category_number g r == 0) ≡ false
-  fresh : is_known before (id_field r) ≡ false
-  room : nat_le most_members (length before + 1) ≡ false
-
-good : (g : Graph) (before : List (List (List ℕ))) (r : List (List ℕ)) → member_fault g before r ≡ None → IsGood g before r
-good g before r e =
-    let a = else-none (not (length r == 4)) _ _ e in
-    let b = else-none (is_no_text r) _ _ a.1 in
-    let c = else-none (is_bad_id (id_field r)) _ _ b.1 in
-    let d = else-none (is_too_long (id_field r) || is_too_long (name_field r)) _ _ c.1 in
-    let f = else-none (is_none (category_named g (category_field r))) _ _ d.1 in
-    let h = else-none (category_number g r == 0) _ _ f.1 in
-    let i = else-none (is_known before (id_field r)) _ _ h.1 in
-    let j = else-none (nat_le most_members (length before + 1)) _ _ i.1 in
-    record { text = b.0; id = c.0; short = d.0; named = f.0; declared = h.0; fresh = i.0; room = j.0 }
-
-fresh-parts : (before : List (List (List ℕ))) (id : List ℕ) → is_known before id ≡ false
-    → (bytes_eq id (codes "all") ≡ false) × (place_of id (map id_field before) ≡ None)
-fresh-parts before id e =
-    let n = neither (bytes_eq id (codes "all")) (is_some (place_of id (map id_field before))) e in
-    (n.0, missing (place_of id (map id_field before)) n.1)
-
-four : (a b c d : Bool) → (not a || not b || not c || not d) ≡ false → (a ≡ true) × (c ≡ true)
-four false b c d e = cc e
-four true false c d e = cc e
-four true true false d e = cc e
-four true true true d e = (refl, refl)
-
--- what is not found is not there
-pub absent-at : (x : List ℕ) (ids : List (List ℕ)) (n k : ℕ) → position_from (bytes_eq x) n ids ≡ None → k < length ids → get_or ids k [] ≢ x
-absent-at x [] n k e l s = omega arith
-absent-at x (y ∷ ys) n k e l s = by (bytes_eq x y) refl e k l s (absent-at x ys (n + 1))
-  where
-    by : (b : Bool) → bytes_eq x y ≡ b → cond b (Some n) (position_from (bytes_eq x) (n + 1) ys) ≡ None
-        → (k : ℕ) → k < length (y ∷ ys) → get_or (y ∷ ys) k [] ≡ x
-        → ((k : ℕ) → position_from (bytes_eq x) (n + 1) ys ≡ None → k < length ys → get_or ys k [] ≢ x) → ⊥
-    by true t e k l s again = cc e
-    by false f e zero l s again = let t = (bytes_eq-Decides x y).1 (sym s) in cc (t, f)
-    by false f e (suc k) l s again = again k e (omega arith) s
-
-pub within : (n : ℕ) → nat_lt 255 n ≡ false → n ≤ 255
-within n e = grind (arith)
-
--- ---- pieces
-
-module _ (ids : List (List ℕ)) (ps : List (List ℕ)) (pass : first_fault (piece_fault ids) [] ps ≡ None) where
-  piece-passes : (i : ℕ) → i < length ps → piece_fault ids (take i ps) (get_or ps i []) ≡ None
-  piece-passes i l = (none-iff (piece_fault ids) ps).0 pass i (get_or ps i []) (slice_get-get_or ps i [] l)
-
-  piece-place : (i : ℕ) → i < length ps → place_of (get_or ps i []) ids ≡ Some (parent_read ids (get_or ps i []))
-  piece-place i l =
-      let a = else-none (is_none (place_of (get_or ps i []) ids)) _ _ (piece-passes i l) in
-      let p = there (place_of (get_or ps i []) ids) a.0 in
-      rw p.1 refl
-
-  read-at : (i d : ℕ) → i < length ps → get_or (map (parent_read ids) ps) i d ≡ parent_read ids (get_or ps i [])
-  read-at i d l = get_or-map (parent_read ids) ps i [] d l
-
-  place-inside : (y : ℕ) → Contains (map (parent_read ids) ps) y → y < length ids
-  place-inside y c =
-      let l : c.0 < length ps = let n = length-map ps (parent_read ids) in omega (arith, c.1) in
-      let e : parent_read ids (get_or ps c.0 []) ≡ y = sym (read-at c.0 y l) ∙ c.2 in
-      place-within (get_or ps c.0 []) ids y (piece-place c.0 l ∙ ap Some e)
-
-  hit : (f : List ℕ → Bool) (xs : List (List ℕ)) (i : ℕ) → i < length xs → f (get_or xs i []) ≡ true → list_any f xs ≡ true
-  hit f [] i l e = absurd (omega arith)
-  hit f (x ∷ xs) zero l e = rw e refl
-  hit f (x ∷ xs) (suc i) l e = by (f x) (hit f xs i (omega arith) e)
-    where
-      by : (b : Bool) → list_any f xs ≡ true → (b || list_any f xs) ≡ true
-      by true h = refl
-      by false h = h
-
-  places-differ : AllPairs ◌≢◌ (map (parent_read ids) ps)
-  places-differ i j d ij lj e =
-      let n = length-map ps (parent_read ids) in
-      let l : j < length ps = omega arith in
-      let k : i < length ps = omega arith in
-      let p = get_or ps i [] in
-      let q = get_or ps j [] in
-      let same : parent_read ids p ≡ parent_read ids q = sym (read-at i d k) ∙ e ∙ read-at j d l in
-      let pi : get_or ids (parent_read ids p) [] ≡ p = (id-at-place p ids (parent_read ids p) (piece-place i k)).1 in
-      let qi : get_or ids (parent_read ids q) [] ≡ q = (id-at-place q ids (parent_read ids q) (piece-place j l)).1 in
-      let pq : q ≡ p = sym qi ∙ ap (λ (m : ℕ). get_or ids m []) (sym same) ∙ pi in
-      let here : get_or (take j ps) i [] ≡ p = get_or-take j ps i [] ij in
-      let m = length-take j ps in
-      let size : i < length (take j ps) = omega arith in
-      let t : list_any (bytes_eq q) (take j ps) ≡ true = hit (bytes_eq q) (take j ps) i size ((bytes_eq-Decides q (get_or (take j ps) i [])).1 (pq ∙ sym here)) in
-      let a = else-none (is_none (place_of q ids)) _ _ (piece-passes j l) in
-      let b = else-none (list_any (bytes_eq q) (take j ps)) _ _ a.1 in
-      cc (t, b.0)
+use Rattle.olap_instance.proofs.PlaceFacts.{place-within}
+use Rattle.olap_instance.proofs.Checks.{IsGood, absent-at, four, fresh-parts, good, neither, no-second, place-inside, places-differ, there, within}
 
 -- ---- records
 
@@ -164,10 +42,13 @@ module _ (g : Graph) (rows : List (List (List ℕ))) (first : first_fault (membe
   count = length-map rows (member_read g)
 
   good-at : (x : ℕ) → x < length rows → IsGood g (take x rows) (row x)
-  good-at x l = good g (take x rows) (row x) ((none-iff (member_fault g) rows).0 first x (row x) (slice_get-get_or rows x [] l))
+  good-at x l =
+      good g (take x rows) (row x) ((none-iff (member_fault g) rows).0 first x (row x) (slice_get-get_or rows x [] l))
 
-  pieces-pass : (x : ℕ) → x < length rows → first_fault (piece_fault (ids_of rows)) [] (pieces_of (parents_field (row x))) ≡ None
-  pieces-pass x l = no-second _ ((none-iff (parents_fault (ids_of rows)) rows).0 second x (row x) (slice_get-get_or rows x [] l))
+  pieces-pass : (x : ℕ) → x < length rows
+      → first_fault (piece_fault (ids_of rows)) [] (pieces_of (parents_field (row x))) ≡ None
+  pieces-pass x l =
+      no-second _ ((none-iff (parents_fault (ids_of rows)) rows).0 second x (row x) (slice_get-get_or rows x [] l))
 
   in-rows : (x : ℕ) → x < length members → x < length rows
   in-rows x l = let n = count in omega arith
@@ -189,10 +70,12 @@ module _ (g : Graph) (rows : List (List (List ℕ))) (first : first_fault (membe
       let n = length-map (take y rows) id_field in
       let here : get_or (take y rows) x [] ≡ row x = get_or-take y rows x [] xy in
       let i : x < length (take y rows) = omega arith in
-      let at : get_or (map id_field (take y rows)) x [] ≡ id_field (row x) = get_or-map id_field (take y rows) x [] [] i ∙ ap id_field here in
+      let at : get_or (map id_field (take y rows)) x [] ≡ id_field (row x) =
+      get_or-map id_field (take y rows) x [] [] i ∙ ap id_field here in
       absent-at (id_field (row y)) (map id_field (take y rows)) 0 x none (omega arith) (at ∙ e)
 
-  ids-differ : (x y : ℕ) → x < length members → y < length members → (member_at members x).id ≡ (member_at members y).id → x ≡ y
+  ids-differ : (x y : ℕ) → x < length members → y < length members
+      → (member_at members x).id ≡ (member_at members y).id → x ≡ y
   ids-differ x y lx ly e =
       let same = sym (id-is x lx) ∙ e ∙ id-is y ly in
       elim (eqb_tells x y) [
@@ -210,11 +93,14 @@ module _ (g : Graph) (rows : List (List (List ℕ))) (first : first_fault (membe
   good-texts x l =
       let r = in-rows x l in
       let h = good-at x r in
-      let t = four (is_utf8 (field (row x) 0)) (is_utf8 (field (row x) 1)) (is_utf8 (field (row x) 2)) (is_utf8 (field (row x) 3)) h.text in
+      let t = four (is_utf8 (field (row x) 0)) (is_utf8 (field (row x) 1)) (is_utf8 (field (row x) 2))
+      (is_utf8 (field (row x) 3)) h.text in
       let b = neither (length (id_field (row x)) == 0) (list_any (λ b. b == 59) (id_field (row x))) h.id in
       let s = neither (is_too_long (id_field (row x))) (is_too_long (name_field (row x))) h.short in
-      rw (member-is x r)
-      (((t.0, within (length (id_field (row x))) s.0), (λ e. zero-length (length (id_field (row x))) e b.0), b.1), (t.1, within (length (name_field (row x))) s.1))
+      rw (member-is x r) (
+        ((t.0, within (length (id_field (row x))) s.0), (λ e. zero-length (length (id_field (row x))) e b.0), b.1),
+        (t.1, within (length (name_field (row x))) s.1),
+      )
     where
       zero-length : (n : ℕ) → n ≡ 0 → (n == 0) ≡ false → ⊥
       zero-length n e f = cc (rw e at f)
@@ -260,7 +146,8 @@ module _ (g : Graph) (rows : List (List (List ℕ))) (first : first_fault (membe
     parents_inside = λ x y l c.
         let r = in-rows x l in
         let ids = ids_of rows in
-        let h : y < length ids = place-inside ids (pieces_of (parents_field (row x))) (pieces-pass x r) y (rw (parents-are x r) at c) in
+        let h : y < length ids =
+        place-inside ids (pieces_of (parents_field (row x))) (pieces-pass x r) y (rw (parents-are x r) at c) in
         let n = length-append (map id_field rows) (codes "all" ∷ []) in
         let m = length-map rows id_field in
         let k = count in
@@ -285,12 +172,15 @@ pub record IsRead (g : Graph) (rows : List (List (List ℕ))) (ms : Instance) (p
   pub made : IsMadeFor g (with_parents ms ps)
 
 module _ (g : Graph) (rows : List (List (List ℕ))) where
-  pub ids-whole : (ms whole : Instance) → ms ≡ map (member_read g) rows → whole ≡ ms ++ all_member ∷ [] → ids_in whole ≡ ids_of rows
+  pub ids-whole : (ms whole : Instance) → ms ≡ map (member_read g) rows → whole ≡ ms ++ all_member ∷ []
+      → ids_in whole ≡ ids_of rows
   ids-whole ms whole em ew =
-      rw (ew, em, map-append (λ m. m.id) (map (member_read g) rows) (all_member ∷ [])) (ap (λ (t : List (List ℕ)). t ++ codes "all" ∷ []) (sym (ids-read g rows)))
+      rw (ew, em, map-append (λ m. m.id) (map (member_read g) rows) (all_member ∷ []))
+      (ap (λ (t : List (List ℕ)). t ++ codes "all" ∷ []) (sym (ids-read g rows)))
 
   put-together : (ids : List (List ℕ)) (xs : List (List (List ℕ)))
-      → with_parents (map (member_read g) xs ++ all_member ∷ []) (map (parents_read ids) xs ++ [] ∷ []) ≡ map (whole_read g ids) xs ++ all_member ∷ []
+      → with_parents (map (member_read g) xs ++ all_member ∷ []) (map (parents_read ids) xs ++ [] ∷ []) ≡ map
+      (whole_read g ids) xs ++ all_member ∷ []
   put-together ids [] = refl
   put-together ids (r ∷ xs) = ap (λ (t : Instance). whole_read g ids r ∷ t) (put-together ids xs)
 
@@ -303,7 +193,8 @@ module _ (g : Graph) (rows : List (List (List ℕ))) where
       elim (eqb_tells x (length rows)) [
         | inl t ↦
             let e : member_at (members_read g rows) x ≡ all_member =
-            ap (λ (k : ℕ). member_at (members_read g rows) k) (t.1 ∙ sym m) ∙ get_or-append_seam (map f rows) all_member [] nobody in
+            ap (λ (k : ℕ). member_at (members_read g rows) k) (t.1 ∙ sym m)
+            ∙ get_or-append_seam (map f rows) all_member [] nobody in
             within-graph x all_member e (omega arith)
         | inr d ↦
             let k : x < length rows = let ne = d.1 in omega arith in
@@ -323,10 +214,53 @@ module _ (g : Graph) (rows : List (List (List ℕ))) where
       let ids = ids-whole ms whole first.1 ew in
       let none : first_fault (parents_fault (ids_of rows)) [] rows ≡ None = rw ids at second.0 in
       let parts : ps ≡ map (parents_read (ids_of rows)) rows = rw ids at second.1 in
-      let members : with_parents whole more ≡ members_read g rows = rw (ew, em, first.1, parts) (put-together (ids_of rows) rows) in
+      let members : with_parents whole more ≡ members_read g rows =
+      rw (ew, em, first.1, parts) (put-together (ids_of rows) rows) in
       record {
         second = none;
-        sound = rw (ew, em, first.1, parts) (complete-sound (map (member_read g) rows) (map (parents_read (ids_of rows)) rows) (read-complete g rows first.0 none));
+        sound = rw (ew, em, first.1, parts)
+            (complete-sound (map (member_read g) rows) (map (parents_read (ids_of rows)) rows)
+            (read-complete g rows first.0 none));
         members = members;
         made = rw members (all-made first.0 none);
       }
+
+  -- members without their parents, and parents, as the definition has them
+  parts-read : first_fault (member_fault g) [] rows ≡ None → first_fault (parents_fault (ids_of rows)) [] rows ≡ None
+      → IsRead g rows (map (member_read g) rows ++ all_member ∷ []) (map (parents_read (ids_of rows)) rows ++ [] ∷ [])
+  parts-read first second =
+      let ids = ids-whole (map (member_read g) rows) (map (member_read g) rows ++ all_member ∷ []) refl refl in
+      is-read (map (member_read g) rows) (map (member_read g) rows ++ all_member ∷ [])
+      (map (parents_read (ids_of rows)) rows) (map (parents_read (ids_of rows)) rows ++ [] ∷ [])
+      (first, refl) refl (rw ids second, ap (λ (t : List (List ℕ)). map (parents_read t) rows) (sym ids)) refl
+
+  body-sound : (i : Instance) → body_read g rows ≡ Ok i → IsReadFor g i
+  body-sound i e =
+      by (first_fault (member_fault g) [] rows) (first_fault (parents_fault (ids_of rows)) [] rows) refl refl e
+    where
+      by : (a b : Option (ℕ × InstanceKind)) → first_fault (member_fault g) [] rows ≡ a
+          → first_fault (parents_fault (ids_of rows)) [] rows ≡ b
+          → or_read a (or_read b (Ok (members_read g rows))) ≡ Ok i
+          → IsReadFor g i
+      by (Some p) b ea eb e = cc e
+      by None (Some q) ea eb e = cc e
+      by None None ea eb e =
+          let r = parts-read ea eb in
+          let same : members_read g rows ≡ i = cc in
+          let is = r.members ∙ same in
+          record {
+            instance = rw is at r.sound.instance;
+            made = rw is at r.made;
+            texts = rw is at r.sound.texts;
+            top = rw is at r.sound.top;
+          }
+
+-- what records stand for is an instance
+pub read-sound : ReadIsInstance
+read-sound g records i e = by (has_header records) e (body-sound g (drop 1 records) i)
+  where
+    by : (b : Bool)
+        → (if b then body_read g (drop 1 records) else Err (record { at = 1; kind = kind.BadHeader })) ≡ Ok i
+        → (body_read g (drop 1 records) ≡ Ok i → IsReadFor g i) → IsReadFor g i
+    by true e next = next e
+    by false e next = cc e

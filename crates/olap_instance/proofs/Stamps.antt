@@ -29,13 +29,16 @@ pub stamped-none : (stamps : List ℕ) (mark : ℕ) → AreBelow stamps mark →
 stamped-none stamps mark b m l = let h = b m l in differ (slice_index stamps m) mark (omega arith)
 
 -- one member more is stamped
-pub stamped-more : (stamps : List ℕ) (mark place : ℕ) (found : List ℕ) → place < length stamps → AreStamped stamps mark found
+pub stamped-more : (stamps : List ℕ) (mark place : ℕ) (found : List ℕ) → place < length stamps
+    → AreStamped stamps mark found
     → AreStamped (slice_set stamps place mark) mark (found ++ place ∷ [])
 stamped-more stamps mark place found l s m lm = elim (eqb_tells m place) [
-  | inl t ↦ rw (any-push (λ n. m == n) found place, t.0, t.1, get_or-set_same stamps place mark 0 l, same mark) (sym (or-true (list_any (λ n. place == n) found)))
+  | inl t ↦ rw (any-push (λ n. m == n) found place, t.0, t.1, get_or-set_same stamps place mark 0 l, same mark)
+      (sym (or-true (list_any (λ n. place == n) found)))
   | inr f ↦
       let k : m < length stamps = let e = length-set stamps place mark in omega arith in
-      rw (any-push (λ n. m == n) found place, f.0, get_or-set_other stamps place m mark 0 f.1) (s m k ∙ sym (or-false (list_any (λ n. m == n) found)))
+      rw (any-push (λ n. m == n) found place, f.0, get_or-set_other stamps place m mark 0 f.1)
+      (s m k ∙ sym (or-false (list_any (λ n. m == n) found)))
 ]
 
 -- a stamp with the mark stays below what the mark is below

@@ -31,9 +31,11 @@ HasParent d x p = Contains (parents_so_far d x) p
 pub record IsDraft (d : Draft) : Type 0 where
   pub as_many : length d.members ≡ length d.parents
   pub few : length d.members + 1 ≤ most_members
-  pub ids_differ : (x y : ℕ) → x < length d.members → y < length d.members → (member_at d.members x).id ≡ (member_at d.members y).id → x ≡ y
+  pub ids_differ : (x y : ℕ) → x < length d.members → y < length d.members
+      → (member_at d.members x).id ≡ (member_at d.members y).id → x ≡ y
   pub not_all : (x : ℕ) → x < length d.members → (member_at d.members x).id ≢ codes "all"
-  pub declared : (x : ℕ) → x < length d.members → (category_of d.members x ≢ 0) × (category_of d.members x < d.categories)
+  pub declared : (x : ℕ) → x < length d.members
+      → (category_of d.members x ≢ 0) × (category_of d.members x < d.categories)
   pub texts : HasTexts d.members
   pub parents_are_members : (x y : ℕ) → HasParent d x (Some y) → y < length d.members
   pub parents_differ : (x : ℕ) → AllPairs ◌≢◌ (parents_so_far d x)
@@ -44,7 +46,8 @@ no_members categories = record { categories = categories; members = []; parents 
 
 -- the draft with one more member, which has no parents yet
 abbrev pub with_member : Draft → List ℕ → ℕ → List ℕ → Draft
-with_member d id category name = record d { members = d.members ++ childless id category name ∷ []; parents = d.parents ++ [] ∷ [] }
+with_member d id category name =
+    record d { members = d.members ++ childless id category name ∷ []; parents = d.parents ++ [] ∷ [] }
 
 -- the draft where p is one more parent of the member x, behind the others
 abbrev pub with_parent : Draft → ℕ → Option ℕ → Draft
@@ -56,7 +59,8 @@ member_refusal d id category name =
     if is_bad_id id then Some of_member.BadId
     else if is_too_long id || is_too_long name then Some of_member.TextTooLong
     else if category == 0 then Some of_member.RowForAll
-    else if bytes_eq id (codes "all") || is_some (place_of id (map (λ m. m.id) d.members)) then Some of_member.DuplicateId
+    else if bytes_eq id (codes "all") || is_some (place_of id (map (λ m. m.id) d.members)) then Some
+    of_member.DuplicateId
     else if nat_le most_members (length d.members + 1) then Some of_member.TooManyMembers
     else None
 

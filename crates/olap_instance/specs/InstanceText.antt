@@ -39,7 +39,8 @@ category_number g r = unwrap_or (category_named g (category_field r)) 0
 
 -- a field is not UTF-8
 abbrev pub is_no_text : List (List ℕ) → Bool
-is_no_text r = not (is_utf8 (field r 0)) || not (is_utf8 (field r 1)) || not (is_utf8 (field r 2)) || not (is_utf8 (field r 3))
+is_no_text r =
+    not (is_utf8 (field r 0)) || not (is_utf8 (field r 1)) || not (is_utf8 (field r 2)) || not (is_utf8 (field r 3))
 
 -- no byte, or a semicolon among them
 abbrev pub is_bad_id : List ℕ → Bool
@@ -113,7 +114,8 @@ abbrev pub members_read : Graph → List (List (List ℕ)) → Instance
 members_read g rows = map (whole_read g (ids_of rows)) rows ++ all_member ∷ []
 
 -- the fault, if there is one, at its record, of which the header is the first; else what comes after it
-abbrev pub or_read : Option (ℕ × InstanceKind) → Result Instance (Fault InstanceKind) → Result Instance (Fault InstanceKind)
+abbrev pub or_read : Option (ℕ × InstanceKind) → Result Instance (Fault InstanceKind)
+    → Result Instance (Fault InstanceKind)
 or_read None after = after
 or_read (Some p) after = Err (record { at = p.0 + 2; kind = p.1 })
 

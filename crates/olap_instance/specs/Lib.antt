@@ -6,6 +6,7 @@ pub mod InstanceInside
 pub mod InstanceText
 pub mod Refusals
 pub mod Passes
+pub mod Laws
 pub mod Drafts
 pub mod DraftInside
 pub mod Printing

@@ -22,7 +22,8 @@ AreParents ids pieces places = (pieces_fault ids pieces ≡ None) × (places ≡
 
 -- the mark stands at exactly the members found
 abbrev pub AreStamped : List ℕ → ℕ → List ℕ → Type 0
-AreStamped stamps mark found = (m : ℕ) → m < length stamps → (slice_index stamps m == mark) ≡ list_any (λ n. m == n) found
+AreStamped stamps mark found =
+    (m : ℕ) → m < length stamps → (slice_index stamps m == mark) ≡ list_any (λ n. m == n) found
 
 -- no stamp is as high as the mark
 abbrev pub AreBelow : List ℕ → ℕ → Type 0
@@ -37,4 +38,5 @@ parents_in parents = map (λ ps. numbers_of ps.items) parents
 
 -- no record has a fault in its parents, and these are the parents of each
 abbrev pub PassesSecond : List (List ℕ) → List (List (List ℕ)) → List (List ℕ) → Type 0
-PassesSecond ids rows parents = (first_fault (parents_fault ids) [] rows ≡ None) × (parents ≡ map (parents_read ids) rows)
+PassesSecond ids rows parents =
+    (first_fault (parents_fault ids) [] rows ≡ None) × (parents ≡ map (parents_read ids) rows)

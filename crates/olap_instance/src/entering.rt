@@ -40,7 +40,8 @@ fn holds_no_text(rows: &Rows) -> bool
 
 // Checks the record that was read last, after the members of the records before it, and gives its category.
 fn checked(graph: &Graph, roster: &Roster, rows: &Rows) -> Result<u16, InstanceKind>
-    ensures member { (earlier : List (List (List ℕ))) → map id_field earlier ≡ ids_in roster.now → length earlier ≡ length roster.now
+    ensures member { (earlier : List (List (List ℕ)))
+        → map id_field earlier ≡ ids_in roster.now → length earlier ≡ length roster.now
         → MatchResult result
         (λ c. (member_fault graph.now earlier rows.now.row ≡ None) × (c ≡ category_number graph.now rows.now.row))
         (λ k. member_fault graph.now earlier rows.now.row ≡ Some k) }
@@ -87,10 +88,12 @@ fn enter(
     requires few { length roster.old ≤ 262143 }
     ensures member { (earlier : List (List (List ℕ))) → roster.old ≡ map (member_read graph.now) earlier
         → MatchResult result
-        (λ _. (member_fault graph.now earlier rows.now.row ≡ None) × (roster.new ≡ roster.old ++ member_read graph.now rows.now.row ∷ []))
+        (λ _. (member_fault graph.now earlier rows.now.row ≡ None)
+        × (roster.new ≡ roster.old ++ member_read graph.now rows.now.row ∷ []))
         (λ e. IsRecordCause (member_fault graph.now earlier rows.now.row) (length earlier) e) }
     ensures few { OnOk result (length roster.new ≤ 262143) }
-    ensures others { place_of (codes "all") (ids_in roster.old) ≡ None → OnOk result (place_of (codes "all") (ids_in roster.new) ≡ None) }
+    ensures others { place_of (codes "all") (ids_in roster.old) ≡ None
+        → OnOk result (place_of (codes "all") (ids_in roster.new) ≡ None) }
 {
     match checked(graph, roster, rows) {
         Ok(category) => {

@@ -8,6 +8,7 @@
 mod building;
 mod entering;
 mod instances;
+mod laws;
 mod linking;
 mod printing;
 mod reading;
@@ -17,6 +18,7 @@ mod texts;
 
 pub use building::InstanceBuilder;
 pub use instances::Instance;
+pub use laws::read_is_instance;
 pub use printing::print_instance;
 pub use reading::read_instance;
 pub use refusals::{InstanceKind, InstanceRefusal, MemberRefusal, ParentRefusal};

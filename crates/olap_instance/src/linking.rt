@@ -16,10 +16,11 @@ use std::alloc::Global;
 // The member that a piece names, where the mark stands at the members that the pieces before it name.
 fn named(roster: &Roster, stamps: &[usize], mark: usize, piece: &[u8]) -> Result<u32, InstanceKind>
     requires { length stamps.now ≡ length roster.now }
-    ensures parent { (before : List (List ℕ)) (found : List ℕ) → map (λ p. place_of p (ids_in roster.now)) before ≡ map Some found
-        → AreStamped stamps.now mark found
+    ensures parent { (before : List (List ℕ)) (found : List ℕ)
+        → map (λ p. place_of p (ids_in roster.now)) before ≡ map Some found → AreStamped stamps.now mark found
         → MatchResult result
-        (λ m. (piece_fault (ids_in roster.now) before piece.now ≡ None) × (place_of piece.now (ids_in roster.now) ≡ Some m))
+        (λ m. (piece_fault (ids_in roster.now) before piece.now ≡ None)
+        × (place_of piece.now (ids_in roster.now) ≡ Some m))
         (λ k. piece_fault (ids_in roster.now) before piece.now ≡ Some k) }
     ensures inside { IfOk result (λ m. m < length stamps.now) }
 {

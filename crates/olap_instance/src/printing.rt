@@ -51,7 +51,8 @@ fn print_member(
 ) -> Result<(), Memory>
     requires made { IsMadeFor graph.now instance.now }
     requires inside { m.0 < length instance.now }
-    ensures { OnOk result (out.new ≡ out.old ++ text_of_row (member_fields graph.now instance.now (member_at instance.now m.0))) }
+    ensures { OnOk result (out.new
+        ≡ out.old ++ text_of_row (member_fields graph.now instance.now (member_at instance.now m.0))) }
 {
     let parents = joined(alloc, instance, instance.parents(m))?;
     let category = graph.name(instance.category(m)).bytes();

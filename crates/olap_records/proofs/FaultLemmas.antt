@@ -18,7 +18,8 @@ module _ {R K : Type 0} (fault : List R → R → Option K) where
   at-or-past n j l = elim (eqb_tells j n) [ inl t ↦ inl t.1 | inr m ↦ let ne = m.1 in inr (omega arith) ]
 
   -- the record behind those before it passes, where it has no fault after them
-  passes-here : (before after : List R) (r : R) → fault before r ≡ None → Passes fault (before ++ r ∷ after) (length before)
+  passes-here : (before after : List R) (r : R) → fault before r ≡ None
+      → Passes fault (before ++ r ∷ after) (length before)
   passes-here before after r f q s =
       let same : Some r ≡ Some q = sym (at-seam before after r) ∙ s in
       let rq : r ≡ q = cc in
@@ -37,8 +38,10 @@ module _ {R K : Type 0} (fault : List R → R → Option K) where
   pass-from before [] e = λ j l q s. absurd (past-end before j l q s)
   pass-from before (r ∷ rs) e = by (fault before r) refl e (pass-from (before ++ r ∷ []) rs)
     where
-      by : (o : Option K) → fault before r ≡ o → or_after (length before) o (first_fault fault (before ++ r ∷ []) rs) ≡ None
-          → (first_fault fault (before ++ r ∷ []) rs ≡ None → PassFrom (length (before ++ r ∷ [])) ((before ++ r ∷ []) ++ rs))
+      by : (o : Option K) → fault before r ≡ o
+          → or_after (length before) o (first_fault fault (before ++ r ∷ []) rs) ≡ None
+          → (first_fault fault (before ++ r ∷ []) rs ≡ None
+          → PassFrom (length (before ++ r ∷ [])) ((before ++ r ∷ []) ++ rs))
           → PassFrom (length before) (before ++ r ∷ rs)
       by (Some k) f e again = cc e
       by None f e again = λ j l. elim (at-or-past (length before) j l) [
@@ -55,15 +58,21 @@ module _ {R K : Type 0} (fault : List R → R → Option K) where
       × ((j : ℕ) → n ≤ j → j < i → Passes fault rows j)
 
   here : (before after : List R) (r : R) (i : ℕ) (k l : K) → fault before r ≡ Some l
-      → ◌≡◌ {A = Option (ℕ × K)} (Some (length before, l)) (Some (i, k)) → IsFirstFrom (length before) (before ++ r ∷ after) i k
+      → ◌≡◌ {A = Option (ℕ × K)} (Some (length before, l)) (Some (i, k))
+      → IsFirstFrom (length before) (before ++ r ∷ after) i k
   here before after r i k l f e =
       let p : ◌≡◌ {A = ℕ × K} (length before, l) (i, k) = cc in
       let ei : length before ≡ i = ap (λ (q : ℕ × K). q.0) p in
-      let ek : l ≡ k = ap (λ (q : ℕ × K). q.1) p in
-      (r, rw (← ei) (at-seam before after r), rw (← ei, front before (r ∷ after), f) (ap Some ek), λ j a b. absurd (omega arith))
+      let ek : l ≡ k = ap (λ (q : ℕ × K). q.1) p in (
+        r,
+        rw (← ei) (at-seam before after r),
+        rw (← ei, front before (r ∷ after), f) (ap Some ek),
+        λ j a b. absurd (omega arith),
+      )
 
   later : (before after : List R) (r : R) (i : ℕ) (k : K) → fault before r ≡ None
-      → IsFirstFrom (length before + 1) (before ++ r ∷ after) i k → IsFirstFrom (length before) (before ++ r ∷ after) i k
+      → IsFirstFrom (length before + 1) (before ++ r ∷ after) i k
+      → IsFirstFrom (length before) (before ++ r ∷ after) i k
   later before after r i k f h = (
     h.0,
     h.1,
@@ -79,7 +88,8 @@ module _ {R K : Type 0} (fault : List R → R → Option K) where
   first-from before [] i k e = cc e
   first-from before (r ∷ rs) i k e = by (fault before r) refl e (first-from (before ++ r ∷ []) rs i k)
     where
-      by : (o : Option K) → fault before r ≡ o → or_after (length before) o (first_fault fault (before ++ r ∷ []) rs) ≡ Some (i, k)
+      by : (o : Option K) → fault before r ≡ o
+          → or_after (length before) o (first_fault fault (before ++ r ∷ []) rs) ≡ Some (i, k)
           → (first_fault fault (before ++ r ∷ []) rs ≡ Some (i, k)
           → IsFirstFrom (length (before ++ r ∷ [])) ((before ++ r ∷ []) ++ rs) i k)
           → IsFirstFrom (length before) (before ++ r ∷ rs) i k
@@ -104,7 +114,9 @@ module _ {R K : Type 0} (fault : List R → R → Option K) where
       → ◌≡◌ {A = ℕ × K} (i, k) (j, l)
   same-first rows i j k l a b = elim (eqb_tells i j) [
     | inl t ↦ at-one t.1
-    | inr n ↦ absurd (elim (less i j n.1) [ inl h ↦ not-both rows i k a (b.none_before i h) | inr h ↦ not-both rows j l b (a.none_before j h) ])
+    | inr n ↦ absurd
+        (elim (less i j n.1)
+        [ inl h ↦ not-both rows i k a (b.none_before i h) | inr h ↦ not-both rows j l b (a.none_before j h) ])
   ]
     where
       less : (i j : ℕ) → (i ≡ j → ⊥) → (i < j) ⊎ (j < i)
@@ -114,12 +126,14 @@ module _ {R K : Type 0} (fault : List R → R → Option K) where
       at-one e =
           let r : Some a.record_at ≡ Some b.record_at = sym a.stands ∙ ap (slice_get rows) e ∙ b.stands in
           let s : a.record_at ≡ b.record_at = cc in
-          let f : Some k ≡ Some l = sym a.fails ∙ ap (λ (n : ℕ). fault (take n rows) a.record_at) e ∙ ap (fault (take j rows)) s ∙ b.fails in
+          let f : Some k ≡ Some l = sym a.fails ∙ ap (λ (n : ℕ). fault (take n rows) a.record_at) e
+          ∙ ap (fault (take j rows)) s ∙ b.fails in
           let g : k ≡ l = cc in
           ap (λ (n : ℕ). (n, k)) e ∙ ap (λ (m : K). (j, m)) g
 
   -- `first_fault` is a place and a kind exactly where they are the first fault
-  pub first-iff : (rows : List R) (i : ℕ) (k : K) → (first_fault fault [] rows ≡ Some (i, k)) ↔ IsFirstFault fault rows i k
+  pub first-iff : (rows : List R) (i : ℕ) (k : K)
+      → (first_fault fault [] rows ≡ Some (i, k)) ↔ IsFirstFault fault rows i k
   first-iff rows i k = (first-to rows i k, λ h. by (first_fault fault [] rows) refl h)
     where
       by : (o : Option (ℕ × K)) → first_fault fault [] rows ≡ o → IsFirstFault fault rows i k → o ≡ Some (i, k)

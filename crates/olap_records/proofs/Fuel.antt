@@ -18,7 +18,8 @@ leaves-front : (c : ℕ) (rest : List ℕ) (q : Read) → Leaves rest q → Leav
 leaves-front c rest q (inl h) = inl (omega arith)
 leaves-front c rest q (inr h) = inr h
 
-leaves : (cfg : Config) (s : State) (fields : List (List ℕ)) (field xs : List ℕ) (q : Read) → next_record cfg s fields field xs ≡ Some q → Leaves xs q
+leaves : (cfg : Config) (s : State) (fields : List (List ℕ)) (field xs : List ℕ) (q : Read)
+    → next_record cfg s fields field xs ≡ Some q → Leaves xs q
 unfolding next_record
 leaves cfg s fields field [] q e = elim (cases_Bool (ends_at_end s)) [
   | inl t ↦ let g = the-some _ _ (rw t at e) in inr (sym (ap (λ (p : Read). p.1) g), sym (ap (λ (p : Read). p.2) g))
@@ -26,7 +27,9 @@ leaves cfg s fields field [] q e = elim (cases_Bool (ends_at_end s)) [
 ]
 leaves cfg s fields field (c ∷ rest) q e = elim (cases_Bool (is_end (step cfg s c).1)) [
   | inl t ↦ let g = the-some _ _ (rw t at e) in let len = ap (λ (p : Read). length p.2) g in inl (omega arith)
-  | inr f ↦ leaves-front c rest q (leaves cfg (step cfg s c).0 (fields_after (step cfg s c).1 fields field) (field_after (step cfg s c).1 c field) rest q (rw f at e))
+  | inr f ↦ leaves-front c rest q
+      (leaves cfg (step cfg s c).0 (fields_after (step cfg s c).1 fields field) (field_after (step cfg s c).1 c field)
+      rest q (rw f at e))
 ]
 
 -- at the end of a text there are no records, whatever the turns
@@ -38,7 +41,8 @@ none-at-end cfg (suc n) = refl
 the-cons : {A : Type 0} (x : A) (xs ys : List A) → xs ≡ ys → x ∷ xs ≡ x ∷ ys
 the-cons x xs ys e = cc
 
-pub enough : (cfg : Config) (n m : ℕ) (s : State) (xs : List ℕ) → length xs < n → length xs < m → records_from cfg n s xs ≡ records_from cfg m s xs
+pub enough : (cfg : Config) (n m : ℕ) (s : State) (xs : List ℕ) → length xs < n → length xs < m
+    → records_from cfg n s xs ≡ records_from cfg m s xs
 unfolding records_from
 enough cfg zero m s xs hn hm = absurd (omega arith)
 enough cfg (suc n) zero s xs hn hm = absurd (omega arith)
@@ -58,11 +62,14 @@ pub records-more : (cfg : Config) (s : State) (xs : List ℕ) (q : Read) → nex
     → records_from cfg (length xs + 1) s xs ≡ q.0 ∷ records_from cfg (length q.2 + 1) q.1 q.2
 unfolding records_from
 records-more cfg s xs q e = elim (leaves cfg s [] [] xs q e) [
-  | inl h ↦ rw (add-one (length xs), e) (the-cons q.0 _ _ (enough cfg (length xs) (length q.2 + 1) q.1 q.2 h (omega arith)))
-  | inr h ↦ rw (add-one (length xs), e, h.0, h.1) (the-cons q.0 _ _ (none-at-end cfg (length xs) ∙ sym (none-at-end cfg 1)))
+  | inl h ↦ rw (add-one (length xs), e)
+      (the-cons q.0 _ _ (enough cfg (length xs) (length q.2 + 1) q.1 q.2 h (omega arith)))
+  | inr h ↦ rw (add-one (length xs), e, h.0, h.1)
+      (the-cons q.0 _ _ (none-at-end cfg (length xs) ∙ sym (none-at-end cfg 1)))
 ]
 
 -- where there is none, there are no records
-pub records-none : (cfg : Config) (s : State) (xs : List ℕ) → next_record cfg s [] [] xs ≡ None → records_from cfg (length xs + 1) s xs ≡ []
+pub records-none : (cfg : Config) (s : State) (xs : List ℕ) → next_record cfg s [] [] xs ≡ None
+    → records_from cfg (length xs + 1) s xs ≡ []
 unfolding records_from
 records-none cfg s xs e = rw (add-one (length xs), e) refl

@@ -21,7 +21,8 @@ unsigned-same ds h = let n = no-sign ds h in rw (n.0, n.1) refl
 unsigned-value : (ds : List ℕ) → IsNumeral 10 ds → signed_digits_value 10 ds ≡ pos (digits_value 10 ds)
 unsigned-value ds h = let n = no-sign ds h in rw (n.0, n.1) refl
 
-pub spelt : (z : ℤ) → mag z + 1 < 10 ^ 64 → IsNumeral 10 (without_leading_sign (signed_decimal z)) × (signed_digits_value 10 (signed_decimal z) ≡ z)
+pub spelt : (z : ℤ) → mag z + 1 < 10 ^ 64 → IsNumeral 10 (without_leading_sign (signed_decimal z))
+    × (signed_digits_value 10 (signed_decimal z) ≡ z)
 spelt (pos n) h =
     let l : n < 10 ^ 64 = omega arith in
     let d = decimal_is_IsNumeral_wide n l in
@@ -32,5 +33,7 @@ spelt (negsuc n) h =
     (d.0, rw d.1 refl)
 
 -- a printed number reads back, where it passes the test
-pub printed : (test : ℤ → Bool) (z : ℤ) → test z ≡ true → mag z + 1 < 10 ^ 64 → signed_of test (signed_decimal z) ≡ Some z
-printed test z t h = let s = spelt z h in let n = (numeral-decides (without_leading_sign (signed_decimal z))).1 s.0 in rw (n, s.1, t) refl
+pub printed : (test : ℤ → Bool) (z : ℤ) → test z ≡ true → mag z + 1 < 10 ^ 64
+    → signed_of test (signed_decimal z) ≡ Some z
+printed test z t h = let s = spelt z h in let n = (numeral-decides (without_leading_sign (signed_decimal z))).1 s.0 in
+    rw (n, s.1, t) refl

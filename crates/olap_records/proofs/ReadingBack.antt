@@ -11,7 +11,8 @@ use Rattle.olap_records.specs.Texts.{TextReadsBack, text_of_row, text_of_rows}
 use Rattle.olap_records.proofs.Fuel.{none-at-end, records-more}
 
 -- one record more at the end of a text
-pub texts-push : (xs : List (List (List ℕ))) (r : List (List ℕ)) → text_of_rows (xs ++ r ∷ []) ≡ text_of_rows xs ++ text_of_row r
+pub texts-push : (xs : List (List (List ℕ))) (r : List (List ℕ))
+    → text_of_rows (xs ++ r ∷ []) ≡ text_of_rows xs ++ text_of_row r
 texts-push [] r = append-nil (text_of_row r)
 texts-push (x ∷ xs) r =
     ap (λ (t : List ℕ). text_of_row x ++ t) (texts-push xs r)
@@ -19,10 +20,12 @@ texts-push (x ∷ xs) r =
 
 -- the records of a text of records, one after the other
 pub texts-read : (rows : List (List (List ℕ)))
-    → records_from default_config (length (text_of_rows rows) + 1) st.StartRecord (text_of_rows rows) ≡ map read_back rows
+    → records_from default_config (length (text_of_rows rows) + 1) st.StartRecord (text_of_rows rows) ≡ map read_back
+    rows
 texts-read [] = none-at-end default_config 1
 texts-read (r ∷ rs) =
-    records-more default_config st.StartRecord (text_of_row r ++ text_of_rows rs) (read_back r, st.StartRecord, text_of_rows rs)
+    records-more default_config st.StartRecord (text_of_row r ++ text_of_rows rs)
+    (read_back r, st.StartRecord, text_of_rows rs)
     (read-write r (text_of_rows rs))
     ∙ ap (λ (t : List (List (List ℕ))). read_back r ∷ t) (texts-read rs)
 
@@ -42,7 +45,8 @@ no-mark c rest e = unmarked (c ∷ rest) e
 stays : (rows : List (List (List ℕ))) → All (λ r. 0 < length r) rows → map read_back rows ≡ rows
 stays [] h = refl
 stays ([] ∷ rows) h = let l = h 0 [] (omega arith) in absurd (omega arith)
-stays ((x ∷ r) ∷ rows) h = ap (λ (t : List (List (List ℕ))). (x ∷ r) ∷ t) (stays rows (λ i d l. h (suc i) d (omega arith)))
+stays ((x ∷ r) ∷ rows) h =
+    ap (λ (t : List (List (List ℕ))). (x ∷ r) ∷ t) (stays rows (λ i d l. h (suc i) d (omega arith)))
 
 -- what is printed reads back
 pub text-back : TextReadsBack

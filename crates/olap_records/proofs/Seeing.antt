@@ -32,6 +32,7 @@ module _ {R K : Type 0} (fault : List R → R → Option K) where
       let one : first_fault fault seen left ≡ Some (length seen, k) = rw (el, ef) refl in
       h.faults ∙ one
 
-  pub see-all : (all seen left : List R) → HasSeen all seen left → left ≡ [] → (all ≡ seen) × (first_fault fault [] all ≡ None)
+  pub see-all : (all seen left : List R) → HasSeen all seen left → left ≡ []
+      → (all ≡ seen) × (first_fault fault [] all ≡ None)
   see-all all seen left h el =
       (h.parts ∙ ap (λ (t : List R). seen ++ t) el ∙ append-nil seen, h.faults ∙ ap (first_fault fault seen) el)

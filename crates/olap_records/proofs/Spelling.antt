@@ -19,13 +19,17 @@ own : IsNumeralModel (λ ds. all_ascii_digits ds ≡ true) (digits_value 10)
 own = numerals_by_value _ (search rules)
 
 pub numeral-decides : (ds : List ℕ) → Decides (is_numeral ds) (IsNumeral 10 ds)
-numeral-decides ds = Decides-and (nat_lt 0 (length ds)) (all_ascii_digits ds) (Decides-ltb 0 (length ds)) (own.to ds, own.from ds)
+numeral-decides ds =
+    Decides-and (nat_lt 0 (length ds)) (all_ascii_digits ds) (Decides-ltb 0 (length ds)) (own.to ds, own.from ds)
 
 pub i64-decides : (z : ℤ) → Decides (is_i64 z) (FitsSigned w64 z)
-i64-decides (pos n) = Decides-like (nat_lt n (2 ^ 63)) (λ h. record { sfits = h }) (λ f. f.sfits) (Decides-ltb n (2 ^ 63))
-i64-decides (negsuc n) = Decides-like (nat_lt n (2 ^ 63)) (λ h. record { sfits = h }) (λ f. f.sfits) (Decides-ltb n (2 ^ 63))
+i64-decides (pos n) =
+    Decides-like (nat_lt n (2 ^ 63)) (λ h. record { sfits = h }) (λ f. f.sfits) (Decides-ltb n (2 ^ 63))
+i64-decides (negsuc n) =
+    Decides-like (nat_lt n (2 ^ 63)) (λ h. record { sfits = h }) (λ f. f.sfits) (Decides-ltb n (2 ^ 63))
 
-pub ok-where : {T E : Type 0} {P : Type 0} (r : Result T E) (t : Bool) (v : T) → OkIff r P v → Decides t P → result_ok r ≡ (if t then Some v else None)
+pub ok-where : {T E : Type 0} {P : Type 0} (r : Result T E) (t : Bool) (v : T) → OkIff r P v → Decides t P
+    → result_ok r ≡ (if t then Some v else None)
 ok-where (Ok x) t v h d = rw (d.1 h.0, h.1) refl
 ok-where (Err e) true v h d = absurd (h (d.0 refl))
 ok-where (Err e) false v h d = refl
@@ -45,7 +49,8 @@ ascii-signed (c ∷ cs) a = elim (cases_Bool (c == 45)) [
   ]
 ]
 
-none-unless : {T : Type 0} {P : Type 0} (t : Bool) (v : T) → Decides t P → ¬ P → ◌≡◌ {A = Option T} None (if t then Some v else None)
+none-unless : {T : Type 0} {P : Type 0} (t : Bool) (v : T) → Decides t P → ¬ P
+    → ◌≡◌ {A = Option T} None (if t then Some v else None)
 none-unless true v d n = absurd (n (d.0 refl))
 none-unless false v d n = refl
 
@@ -55,21 +60,28 @@ made false v d = λ h. true≢false (sym (d.1 h))
 
 -- a number within bounds that a field spells, by a test of the bounds
 abbrev pub signed_of : (ℤ → Bool) → List ℕ → Option ℤ
-signed_of test bs = if is_numeral (without_leading_sign bs) && test (signed_digits_value 10 bs) then Some (signed_digits_value 10 bs) else None
+signed_of test bs =
+    if is_numeral (without_leading_sign bs) && test (signed_digits_value 10 bs) then Some (signed_digits_value 10 bs)
+    else None
 
 module _ (w : Width) (test : ℤ → Bool) (tells : (z : ℤ) → Decides (test z) (FitsSigned w z)) where
   signed-decides : (bs : List ℕ) → Decides (is_numeral (without_leading_sign bs) && test (signed_digits_value 10 bs))
       (IsNumeral 10 (without_leading_sign bs) × FitsSigned w (signed_digits_value 10 bs))
   signed-decides bs =
-      Decides-and (is_numeral (without_leading_sign bs)) (test (signed_digits_value 10 bs)) (numeral-decides (without_leading_sign bs)) (tells (signed_digits_value 10 bs))
+      Decides-and (is_numeral (without_leading_sign bs)) (test (signed_digits_value 10 bs))
+      (numeral-decides (without_leading_sign bs)) (tells (signed_digits_value 10 bs))
 
-  pub signed-parses : {E : Type 0} (bs : List ℕ) (r : Result ℤ E) → ParsesSigned w 10 bs r → result_ok r ≡ signed_of test bs
-  signed-parses bs r h = ok-where r (is_numeral (without_leading_sign bs) && test (signed_digits_value 10 bs)) (signed_digits_value 10 bs) h (signed-decides bs)
+  pub signed-parses : {E : Type 0} (bs : List ℕ) (r : Result ℤ E) → ParsesSigned w 10 bs r
+      → result_ok r ≡ signed_of test bs
+  signed-parses bs r h =
+      ok-where r (is_numeral (without_leading_sign bs) && test (signed_digits_value 10 bs))
+      (signed_digits_value 10 bs) h (signed-decides bs)
 
   -- what is no text spells no number
   pub signed-of-text : (bs : List ℕ) → ¬ (IsUtf8 bs) → ◌≡◌ {A = Option ℤ} None (signed_of test bs)
   signed-of-text bs n =
-      none-unless (is_numeral (without_leading_sign bs) && test (signed_digits_value 10 bs)) (signed_digits_value 10 bs) (signed-decides bs)
+      none-unless (is_numeral (without_leading_sign bs) && test (signed_digits_value 10 bs))
+      (signed_digits_value 10 bs) (signed-decides bs)
       (λ h. n (IsUtf8-from_ascii bs (ascii-signed bs (IsAscii-from_digits (without_leading_sign bs) h.0.1))))
 
   -- the decimal text of a number within the bounds spells it

@@ -9,4 +9,5 @@ text_so_far a = (writer_under a.wtr).items ++ writer_pending a.wtr
 
 -- a printer of which no write failed stands between two records
 abbrev pub IsBetween : Inside → Type 0
-IsBetween a = a.broken ≡ false → (writer_setup a.wtr ≡ default_writer) × (fields_written a.wtr ≡ 0) × (has_written a.wtr ≡ false)
+IsBetween a = a.broken ≡ false → (writer_setup a.wtr ≡ default_writer) × (fields_written a.wtr ≡ 0)
+    × (has_written a.wtr ≡ false)

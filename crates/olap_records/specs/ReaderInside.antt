@@ -9,12 +9,14 @@ use Rattle.olap_records.specs.Records.{Reading, records_left}
 use Rattle.olap_records.specs.declared.reading.Rows.TheInside.{Inside}
 
 abbrev pub reading_of : Inside → Reading
-reading_of a = record { row = fields_of a.row; left = records_left (reader_state a.rdr) (source_of (λ s. Some s.now) a.rdr) }
+reading_of a =
+    record { row = fields_of a.row; left = records_left (reader_state a.rdr) (source_of (λ s. Some s.now) a.rdr) }
 
 -- a reader that has not failed reads the bytes that are left, one record at a time
 abbrev pub Intact : Reader (Bor (List ℕ)) → Type 0
 Intact r = has_failed r ≡ false
-    → (reader_config r ≡ default_config) × (reader_trim r ≡ trim.None) × (is_flexible r ≡ true) × Ready r × IsSome (source_of (λ s. Some s.now) r)
+    → (reader_config r ≡ default_config) × (reader_trim r ≡ trim.None) × (is_flexible r ≡ true) × Ready r
+    × IsSome (source_of (λ s. Some s.now) r)
 
 abbrev pub ReadsOn : Inside → Type 0
 ReadsOn a = Intact a.rdr

@@ -60,7 +60,8 @@ impl<'a> Rows<'a> {
     }
 
     fn next(&mut self) -> Result<bool, Unread>
-        ensures { IfOk result (λ found. MatchBool found (self.old.left ≡ self.new.row ∷ self.new.left) (self.old.left ≡ [])) }
+        ensures { IfOk result (λ found.
+            MatchBool found (self.old.left ≡ self.new.row ∷ self.new.left) (self.old.left ≡ [])) }
     {
         let found = self.rdr.read_byte_record(&mut self.row)?;
         Ok(found)
@@ -68,7 +69,8 @@ impl<'a> Rows<'a> {
 
     /// Reads the next record, if there is one. After a refusal it must not be asked again.
     pub fn advance(&mut self) -> Result<bool, Memory>
-        ensures { IfOk result (λ found. MatchBool found (self.old.left ≡ self.new.row ∷ self.new.left) (self.old.left ≡ [])) }
+        ensures { IfOk result (λ found.
+            MatchBool found (self.old.left ≡ self.new.row ∷ self.new.left) (self.old.left ≡ [])) }
     {
         let found = self.next()?;
         Ok(found)

@@ -35,7 +35,8 @@ loop-i-preserved c =
           (ap (piece_fault ids (take i ps)) text ∙ r.0) (ap (λ p. place_of p ids) text ∙ r.1) now;
       as_many = length-set c.loop-i.stamps place (c.args.child + 1) ∙ inv.as_many;
       stamped = rw now (stamped-more c.loop-i.stamps (c.args.child + 1) place found c.in-Ok.ensures.inside inv.stamped);
-      below = below-more c.loop-i.stamps (c.args.child + 2) (c.args.child + 1) place c.in-Ok.ensures.inside (omega arith) inv.below;
+      below = below-more c.loop-i.stamps (c.args.child + 2) (c.args.child + 1) place c.in-Ok.ensures.inside
+          (omega arith) inv.below;
     }
 
 pub returns-in-Err-clause-parents : goal.returns-in-Err-clause-parents
@@ -47,8 +48,11 @@ returns-in-Err-clause-parents c =
     let inv = c.loop-i.invariant in
     let found = numbers_of c.loop-i.found.items in
     let text = sym (text-at all i _ c.loop-i-test.true) in
-    let r = c.in-Err.ensures.parent (take i ps) found inv.found.places inv.stamped in
-    (refl, found-fault ids ps i found c.in-Err.kind (within all i c.loop-i-test.true) inv.found (ap (piece_fault ids (take i ps)) text ∙ r))
+    let r = c.in-Err.ensures.parent (take i ps) found inv.found.places inv.stamped in (
+      refl,
+      found-fault ids ps i found c.in-Err.kind (within all i c.loop-i-test.true) inv.found
+          (ap (piece_fault ids (take i ps)) text ∙ r),
+    )
 
 pub returns-clause-parents : goal.returns-clause-parents
 returns-clause-parents c =

@@ -23,8 +23,11 @@ rows-preserved c =
     let child : c.len-child.result ≡ length c.rows.parents.items = c.len-child.ensures ∙ c.rows.parents.ok.0 in
     record {
       before = inv.before ++ row ∷ [];
-      seen = linked-seen ids row text is c.args.rows.now.left inv.before c.rows.rows.left c.advance.new.self.left _ inv.seen step good;
-      parents = linked-parents ids row text is inv.before c.rows.parents.items c.push.new.self.items c.in_ok-link.field-0 inv.parents now good;
+      seen = linked-seen ids row text is c.args.rows.now.left inv.before c.rows.rows.left c.advance.new.self.left _
+          inv.seen step good;
+      parents = linked-parents ids row text is inv.before c.rows.parents.items c.push.new.self.items
+          c.in_ok-link.field-0 inv.parents now good;
       as_many = c.in_ok-link.ensures.as_many;
-      below = linked-below c.link.new.stamps c.rows.parents.items c.push.new.self.items c.in_ok-link.field-0 c.len-child.result now child c.in_ok-link.ensures.below;
+      below = linked-below c.link.new.stamps c.rows.parents.items c.push.new.self.items c.in_ok-link.field-0
+          c.len-child.result now child c.in_ok-link.ensures.below;
     }

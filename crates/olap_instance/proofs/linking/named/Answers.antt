@@ -13,14 +13,16 @@ pub returns-then-stamps-place-clause-parent : goal.returns-then-stamps-place-cla
 returns-then-stamps-place-clause-parent c = λ before found h s.
     let e = sym c.find.ensures ∙ c.in-Some.is in
     let l = member-within c.args.piece.now c.args.roster.now c.in-Some.place e in
-    named-twice (ids_in c.args.roster.now) c.args.piece.now c.in-Some.place before found c.args.stamps.now c.args.mark e h s
+    named-twice (ids_in c.args.roster.now) c.args.piece.now c.in-Some.place before found c.args.stamps.now c.args.mark
+    e h s
     (omega (arith, c.requires)) c.if-stamps-place.true
 
 pub returns-clause-parent : goal.returns-clause-parent
 returns-clause-parent c = λ before found h s.
     let e = sym c.find.ensures ∙ c.in-Some.is in
     let l = member-within c.args.piece.now c.args.roster.now c.in-Some.place e in (
-      named-once (ids_in c.args.roster.now) c.args.piece.now c.in-Some.place before found c.args.stamps.now c.args.mark e h s
+      named-once (ids_in c.args.roster.now) c.args.piece.now c.in-Some.place before found c.args.stamps.now
+          c.args.mark e h s
           (omega (arith, c.requires)) c.if-stamps-place.false,
       e,
     )

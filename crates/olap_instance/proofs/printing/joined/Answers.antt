@@ -11,4 +11,5 @@ loop-i-preserved c =
     let id : MemberId → List ℕ = λ m. (member_at c.args.instance.now m.0).id in
     let l : c.loop-i.i < length (map id members) = rw (length-map members id) c.loop-i-test.true in
     let here = c.bytes.ensures ∙ (c.id.ensures ∙ sym (get_or-map id members c.loop-i.i _ [] c.loop-i-test.true)) in
-    join-more (map id members) c.loop-i.i c.loop-i.text.items c.add_piece.new.text.items l c.loop-i.invariant (rw here at c.in_ok-add_piece.ensures)
+    join-more (map id members) c.loop-i.i c.loop-i.text.items c.add_piece.new.text.items l c.loop-i.invariant
+    (rw here at c.in_ok-add_piece.ensures)

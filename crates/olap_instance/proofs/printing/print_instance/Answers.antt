@@ -9,5 +9,6 @@ returns-clause-reads c =
     let i = c.args.instance.now in
     let k = c.recall.ensures in
     IfOk-weaker c.from_bytes.result _ _
-    (λ t e. text-reads g i k.hierarchy k.sound k.texts k.few k.top c.requires.made t (e ∙ (c.deref.ensures.value ∙ c.in_ok-text.ensures)))
+    (λ t e. text-reads g i k.hierarchy k.sound k.texts k.few k.top c.requires.made t
+    (e ∙ (c.deref.ensures.value ∙ c.in_ok-text.ensures)))
     c.from_bytes.ensures

@@ -6,7 +6,9 @@ use Rattle.olap_instance.proofs.PrintingLemmas.{inside-all, parents-named, row-s
 use Rattle.olap_instance.proofs.printing.print_member.Goals as goal
 
 pub joined-requires : goal.joined-requires
-joined-requires c = inside-all (length c.args.instance.now) c.parents.result.now (parents_of c.args.instance.now c.args.m.0) c.parents.ensures.list c.parents.ensures.places
+joined-requires c =
+    inside-all (length c.args.instance.now) c.parents.result.now (parents_of c.args.instance.now c.args.m.0)
+    c.parents.ensures.list c.parents.ensures.places
 
 pub returns : goal.returns
 returns c =
@@ -16,6 +18,9 @@ returns c =
     let id = c.bytes.ensures ∙ c.id.ensures in
     let category = c.bytes-category.ensures ∙ (c.name.ensures ∙ ap (name_of_category g) c.category.ensures) in
     let name = c.bytes-2.ensures ∙ c.name-2.ensures in
-    let parents = c.deref.ensures.value ∙ (c.in_ok-parents.ensures ∙ ap (join_with_byte 59) (parents-named i c.parents.result.now m c.parents.ensures.list)) in
+    let parents =
+    c.deref.ensures.value
+    ∙ (c.in_ok-parents.ensures
+    ∙ ap (join_with_byte 59) (parents-named i c.parents.result.now m c.parents.ensures.list)) in
     let fields = same-fields g i m _ _ _ _ id category name parents in
     row-same c.row.result c.args.out.now c.row.new.self _ _ fields c.row.ensures

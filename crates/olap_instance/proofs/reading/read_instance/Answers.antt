@@ -16,23 +16,29 @@ returns-in_err-parents-clause-read c =
     let whole = c.add_all.new.self in
     let ids = ids-whole g (drop 1 records) c.in_ok-roster.roster whole first.1.1 c.in_ok-add_all.ensures.ok in
     let e = c.in_err-parents.field-0.0 in
-    let cause : IsRefusedBy e (instance_read g records) = refused-second g records (ids_in whole) e first.0 first.1.0 ids c.in_err-parents.ensures in
+    let cause : IsRefusedBy e (instance_read g records) =
+    refused-second g records (ids_in whole) e first.0 first.1.0 ids c.in_err-parents.ensures in
     search rules
 
 pub from_parts-requires : goal.from_parts-requires
 from_parts-requires c =
     let rows = drop 1 (records_of c.args.text.now) in
-    let more = parents-none c.in_ok-parents.parents.items c.push.new.self.items c.new.result c.in_ok-push.ensures.items c.new.ensures.items in
-    let r = is-read c.args.graph.now rows c.in_ok-roster.roster c.add_all.new.self (parents_in c.in_ok-parents.parents.items)
-    (parents_in c.push.new.self.items) c.in_ok-roster.ensures.members.1 c.in_ok-add_all.ensures.ok c.in_ok-parents.ensures more in
+    let more = parents-none c.in_ok-parents.parents.items c.push.new.self.items c.new.result
+    c.in_ok-push.ensures.items c.new.ensures.items in
+    let r = is-read c.args.graph.now rows c.in_ok-roster.roster c.add_all.new.self
+    (parents_in c.in_ok-parents.parents.items)
+    (parents_in c.push.new.self.items) c.in_ok-roster.ensures.members.1 c.in_ok-add_all.ensures.ok
+    c.in_ok-parents.ensures more in
     r.sound
 
 pub returns : goal.returns
 returns c =
     let rows = drop 1 (records_of c.args.text.now) in
     let first = c.in_ok-roster.ensures.members in
-    let more = parents-none c.in_ok-parents.parents.items c.push.new.self.items c.new.result c.in_ok-push.ensures.items c.new.ensures.items in
-    let r = is-read c.args.graph.now rows c.in_ok-roster.roster c.add_all.new.self (parents_in c.in_ok-parents.parents.items)
+    let more = parents-none c.in_ok-parents.parents.items c.push.new.self.items c.new.result
+    c.in_ok-push.ensures.items c.new.ensures.items in
+    let r = is-read c.args.graph.now rows c.in_ok-roster.roster c.add_all.new.self
+    (parents_in c.in_ok-parents.parents.items)
     (parents_in c.push.new.self.items) first.1 c.in_ok-add_all.ensures.ok c.in_ok-parents.ensures more in
     record {
       read = rw (first.0, first.1.0, r.second) (ap (λ i. Ok i) (sym (c.from_parts.ensures ∙ r.members)));

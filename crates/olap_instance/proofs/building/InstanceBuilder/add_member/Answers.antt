@@ -19,7 +19,9 @@ invariant_of-self-2 c =
     rw (c.bytes.ensures, c.bytes-2.ensures) at (sym (c.refusal.ensures d refl) ∙ c.in_default.is) in
     let pushed = c.in_ok-push.ensures.items ∙ ap (λ t. t ++ c.new.result ∷ []) c.reserve.ensures.items in
     let parents = told-none c.self.inside.parents.items c.push.new.self.items c.new.result pushed c.new.ensures.items in
-    let now = with-new d c.args.id c.args.category.0 c.args.name c.add.new.self (parents_told c.push.new.self.items) c.in_ok-add.ensures.ok parents in
+    let now = with-new d c.args.id c.args.category.0 c.args.name c.add.new.self (parents_told c.push.new.self.items)
+    c.in_ok-add.ensures.ok parents in
     let category = rw (← c.self.view_is) at c.requires.category in
     subst IsDraft (sym now)
-    (draft-member d c.self.invariant c.args.id c.args.category.0 c.args.name passes category c.requires.id c.requires.name)
+    (draft-member d c.self.invariant c.args.id c.args.category.0 c.args.name passes category c.requires.id
+    c.requires.name)

@@ -22,7 +22,9 @@ invariant_of-self-in_err-push c =
     let lists = c.self.inside.parents.items in
     let m = rw (← c.self.view_is) at c.requires.child in
     let l = has-list d lists x c.self.invariant refl m in
-    subst IsDraft (sym (kept d lists refl x c.index_mut-parents.result.now l c.index_mut-parents.ensures.value c.push.new.self c.in_err-push.ensures.items)) c.self.invariant
+    subst IsDraft
+    (sym (kept d lists refl x c.index_mut-parents.result.now l c.index_mut-parents.ensures.value c.push.new.self
+    c.in_err-push.ensures.items)) c.self.invariant
 
 pub returns-in_err-push-clause-same : goal.returns-in_err-push-clause-same
 returns-in_err-push-clause-same c =
@@ -31,7 +33,8 @@ returns-in_err-push-clause-same c =
     let lists = c.self.inside.parents.items in
     let m = rw (← c.self.view_is) at c.requires.child in
     let l = has-list d lists x c.self.invariant refl m in
-    let same = kept d lists refl x c.index_mut-parents.result.now l c.index_mut-parents.ensures.value c.push.new.self c.in_err-push.ensures.items ∙ c.self.view_is in
+    let same = kept d lists refl x c.index_mut-parents.result.now l c.index_mut-parents.ensures.value c.push.new.self
+    c.in_err-push.ensures.items ∙ c.self.view_is in
     search rules
 
 pub invariant_of-self-2 : goal.invariant_of-self-2
@@ -58,4 +61,6 @@ returns-clause-added c =
     let lists = c.self.inside.parents.items in
     let m = rw (← c.self.view_is) at c.requires.child in
     let l = has-list d lists x c.self.invariant refl m in
-    rw (← c.self.view_is) (pushed d lists refl x c.index_mut-parents.result.now l c.index_mut-parents.ensures.value c.push.new.self c.args.parent c.in_ok-push.ensures.items)
+    rw (← c.self.view_is)
+    (pushed d lists refl x c.index_mut-parents.result.now l c.index_mut-parents.ensures.value c.push.new.self
+    c.args.parent c.in_ok-push.ensures.items)

@@ -4,11 +4,13 @@ use Rattle.olap_instance.proofs.instances.Instance.find.Goals as goal
 
 pub returns-in-Some-clause-place : goal.returns-in-Some-clause-place
 returns-in-Some-clause-place c =
-    rw (← c.self.view_is) (found c.self.inside c.self.invariant c.args.id.now c.in-Some.place (sym c.find.ensures ∙ c.in-Some.is)).0
+    rw (← c.self.view_is)
+    (found c.self.inside c.self.invariant c.args.id.now c.in-Some.place (sym c.find.ensures ∙ c.in-Some.is)).0
 
 pub returns-in-Some-clause-inside : goal.returns-in-Some-clause-inside
 returns-in-Some-clause-inside c =
-    rw (← c.self.view_is) (found c.self.inside c.self.invariant c.args.id.now c.in-Some.place (sym c.find.ensures ∙ c.in-Some.is)).1
+    rw (← c.self.view_is)
+    (found c.self.inside c.self.invariant c.args.id.now c.in-Some.place (sym c.find.ensures ∙ c.in-Some.is)).1
 
 pub returns-in-None-clause-place : goal.returns-in-None-clause-place
 returns-in-None-clause-place c =

@@ -16,5 +16,6 @@ invariant_of-self-2 c =
     let new = c.in_ok-insert.ensures.entries ∙ insert_entry-new _ c.self.inside.index key c.len-place.result absent in
     let more = c.in_ok-push.ensures.items ∙ ap (λ t. t ++ c.args.head ∷ []) c.reserve.ensures.items in
     let now = ids-push heads c.push.new.self.items c.args.head more in
-    push-place (λ v. v.items) c.self.inside.index.entries c.insert.new.self.entries key c.len-place.result ids _ c.args.head.id
+    push-place (λ v. v.items) c.self.inside.index.entries c.insert.new.self.entries key c.len-place.result ids _
+    c.args.head.id
     c.self.invariant new now key_is (place ∙ sym (ids-count heads))

@@ -5,7 +5,9 @@ use Rattle.olap_records.proofs.Fields.{field-is, field-there}
 use Rattle.olap_records.proofs.reading.Rows.field.Goals as goal
 
 pub unreachable-requires : goal.unreachable-requires
-unreachable-requires c = field-there (fields_of c.self.inside.row) c.args.i (rw (← c.self.view_is) at c.requires) (sym c.in-None.ensures.value)
+unreachable-requires c =
+    field-there (fields_of c.self.inside.row) c.args.i (rw (← c.self.view_is) at c.requires)
+    (sym c.in-None.ensures.value)
 
 pub returns : goal.returns
 returns c =

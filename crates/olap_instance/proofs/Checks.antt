@@ -1,0 +1,146 @@
+-- What it tells that a record, or a piece of a field of parents, fails no check.
+use Rattle.std.proofs.Common.{◌≡◌, ◌≢◌, ◌+◌, ◌<◌, ◌≤◌, ◌==◌, ◌||◌, ◌∷◌, ◌∙◌, not, Bool, cond, true, false, ℕ, zero, suc, List, [], length, map, take, codes, get_or, length-take, Option, Some, None, if◌then◌else◌, refl, sym, ap, arith}
+use Rattle.std.specs.Prelude.{AllPairs, Contains, is_none, is_some, nat_le, nat_lt}
+use Rattle.std.specs.List.{list_any, position_from}
+use Rattle.std.specs.Option.{option_map}
+use Rattle.std.specs.Str.{bytes_eq}
+use Rattle.std.proofs.lemmas.List.{get_or-map, get_or-take, length-map}
+use Rattle.std.proofs.lemmas.Option.{slice_get-get_or}
+use Rattle.std.proofs.lemmas.Slice.Eq.{bytes_eq-Decides}
+use Rattle.olap_base.specs.Graph.{Graph}
+use Rattle.olap_base.specs.Naming.{place_of}
+use Rattle.olap_graph.specs.Lookups.{category_named}
+use Rattle.olap_records.specs.Faults.{first_fault}
+use Rattle.olap_records.proofs.FaultLemmas.{none-iff}
+use Rattle.olap_instance.specs.InstanceText.{category_field, category_number, id_field, is_bad_id, is_known, is_no_text, is_too_long, member_fault, name_field, parent_read, piece_fault}
+use Rattle.olap_instance.specs.Members.{most_members}
+use Rattle.olap_instance.proofs.PlaceFacts.{id-at-place, place-within}
+
+-- ---- checks
+
+pub else-none : {K : Type 0} (b : Bool) (k : K) (o : Option K) → (if b then Some k else o) ≡ None
+    → (b ≡ false) × (o ≡ None)
+else-none true k o e = cc e
+else-none false k o e = (refl, e)
+
+pub neither : (a b : Bool) → (a || b) ≡ false → (a ≡ false) × (b ≡ false)
+neither true b e = cc e
+neither false b e = (refl, e)
+
+pub isnt : (b : Bool) → not b ≡ false → b ≡ true
+isnt true e = refl
+isnt false e = cc e
+
+pub there : {A : Type 0} (o : Option A) → is_none o ≡ false → (x : A) × (o ≡ Some x)
+there None e = cc e
+there (Some x) e = (x, refl)
+
+pub missing : {A : Type 0} (o : Option A) → is_some o ≡ false → o ≡ None
+missing None e = refl
+missing (Some x) e = cc e
+
+pub no-second : {K : Type 0} (o : Option (ℕ × K)) → option_map (λ (p : ℕ × K). p.1) o ≡ None → o ≡ None
+no-second None e = refl
+no-second (Some p) e = cc e
+
+-- a record that fails no check of the first pass
+pub record IsGood (g : Graph) (before : List (List (List ℕ))) (r : List (List ℕ)) : Type 0 where
+  pub text : is_no_text r ≡ false
+  pub id : is_bad_id (id_field r) ≡ false
+  pub short : (is_too_long (id_field r) || is_too_long (name_field r)) ≡ false
+  pub named : is_none (category_named g (category_field r)) ≡ false
+  pub declared : (category_number g r == 0) ≡ false
+  pub fresh : is_known before (id_field r) ≡ false
+  pub room : nat_le most_members (length before + 1) ≡ false
+
+pub good : (g : Graph) (before : List (List (List ℕ))) (r : List (List ℕ)) → member_fault g before r ≡ None
+    → IsGood g before r
+good g before r e =
+    let a = else-none (not (length r == 4)) _ _ e in
+    let b = else-none (is_no_text r) _ _ a.1 in
+    let c = else-none (is_bad_id (id_field r)) _ _ b.1 in
+    let d = else-none (is_too_long (id_field r) || is_too_long (name_field r)) _ _ c.1 in
+    let f = else-none (is_none (category_named g (category_field r))) _ _ d.1 in
+    let h = else-none (category_number g r == 0) _ _ f.1 in
+    let i = else-none (is_known before (id_field r)) _ _ h.1 in
+    let j = else-none (nat_le most_members (length before + 1)) _ _ i.1 in
+    record { text = b.0; id = c.0; short = d.0; named = f.0; declared = h.0; fresh = i.0; room = j.0 }
+
+pub fresh-parts : (before : List (List (List ℕ))) (id : List ℕ) → is_known before id ≡ false
+    → (bytes_eq id (codes "all") ≡ false) × (place_of id (map id_field before) ≡ None)
+fresh-parts before id e =
+    let n = neither (bytes_eq id (codes "all")) (is_some (place_of id (map id_field before))) e in
+    (n.0, missing (place_of id (map id_field before)) n.1)
+
+pub four : (a b c d : Bool) → (not a || not b || not c || not d) ≡ false → (a ≡ true) × (c ≡ true)
+four false b c d e = cc e
+four true false c d e = cc e
+four true true false d e = cc e
+four true true true d e = (refl, refl)
+
+-- what is not found is not there
+pub absent-at : (x : List ℕ) (ids : List (List ℕ)) (n k : ℕ) → position_from (bytes_eq x) n ids ≡ None
+    → k < length ids → get_or ids k [] ≢ x
+absent-at x [] n k e l s = omega arith
+absent-at x (y ∷ ys) n k e l s = by (bytes_eq x y) refl e k l s (absent-at x ys (n + 1))
+  where
+    by : (b : Bool) → bytes_eq x y ≡ b → cond b (Some n) (position_from (bytes_eq x) (n + 1) ys) ≡ None
+        → (k : ℕ) → k < length (y ∷ ys) → get_or (y ∷ ys) k [] ≡ x
+        → ((k : ℕ) → position_from (bytes_eq x) (n + 1) ys ≡ None → k < length ys → get_or ys k [] ≢ x) → ⊥
+    by true t e k l s again = cc e
+    by false f e zero l s again = let t = (bytes_eq-Decides x y).1 (sym s) in cc (t, f)
+    by false f e (suc k) l s again = again k e (omega arith) s
+
+pub within : (n : ℕ) → nat_lt 255 n ≡ false → n ≤ 255
+within n e = grind (arith)
+
+-- ---- pieces
+
+module _ (ids : List (List ℕ)) (ps : List (List ℕ)) (pass : first_fault (piece_fault ids) [] ps ≡ None) where
+  pub piece-passes : (i : ℕ) → i < length ps → piece_fault ids (take i ps) (get_or ps i []) ≡ None
+  piece-passes i l = (none-iff (piece_fault ids) ps).0 pass i (get_or ps i []) (slice_get-get_or ps i [] l)
+
+  pub piece-place : (i : ℕ) → i < length ps → place_of (get_or ps i []) ids ≡ Some (parent_read ids (get_or ps i []))
+  piece-place i l =
+      let a = else-none (is_none (place_of (get_or ps i []) ids)) _ _ (piece-passes i l) in
+      let p = there (place_of (get_or ps i []) ids) a.0 in
+      rw p.1 refl
+
+  pub read-at : (i d : ℕ) → i < length ps → get_or (map (parent_read ids) ps) i d ≡ parent_read ids (get_or ps i [])
+  read-at i d l = get_or-map (parent_read ids) ps i [] d l
+
+  pub place-inside : (y : ℕ) → Contains (map (parent_read ids) ps) y → y < length ids
+  place-inside y c =
+      let l : c.0 < length ps = let n = length-map ps (parent_read ids) in omega (arith, c.1) in
+      let e : parent_read ids (get_or ps c.0 []) ≡ y = sym (read-at c.0 y l) ∙ c.2 in
+      place-within (get_or ps c.0 []) ids y (piece-place c.0 l ∙ ap Some e)
+
+  hit : (f : List ℕ → Bool) (xs : List (List ℕ)) (i : ℕ) → i < length xs → f (get_or xs i []) ≡ true
+      → list_any f xs ≡ true
+  hit f [] i l e = absurd (omega arith)
+  hit f (x ∷ xs) zero l e = rw e refl
+  hit f (x ∷ xs) (suc i) l e = by (f x) (hit f xs i (omega arith) e)
+    where
+      by : (b : Bool) → list_any f xs ≡ true → (b || list_any f xs) ≡ true
+      by true h = refl
+      by false h = h
+
+  pub places-differ : AllPairs ◌≢◌ (map (parent_read ids) ps)
+  places-differ i j d ij lj e =
+      let n = length-map ps (parent_read ids) in
+      let l : j < length ps = omega arith in
+      let k : i < length ps = omega arith in
+      let p = get_or ps i [] in
+      let q = get_or ps j [] in
+      let same : parent_read ids p ≡ parent_read ids q = sym (read-at i d k) ∙ e ∙ read-at j d l in
+      let pi : get_or ids (parent_read ids p) [] ≡ p = (id-at-place p ids (parent_read ids p) (piece-place i k)).1 in
+      let qi : get_or ids (parent_read ids q) [] ≡ q = (id-at-place q ids (parent_read ids q) (piece-place j l)).1 in
+      let pq : q ≡ p = sym qi ∙ ap (λ (m : ℕ). get_or ids m []) (sym same) ∙ pi in
+      let here : get_or (take j ps) i [] ≡ p = get_or-take j ps i [] ij in
+      let m = length-take j ps in
+      let size : i < length (take j ps) = omega arith in
+      let t : list_any (bytes_eq q) (take j ps) ≡ true =
+      hit (bytes_eq q) (take j ps) i size ((bytes_eq-Decides q (get_or (take j ps) i [])).1 (pq ∙ sym here)) in
+      let a = else-none (is_none (place_of q ids)) _ _ (piece-passes j l) in
+      let b = else-none (list_any (bytes_eq q) (take j ps)) _ _ a.1 in
+      cc (t, b.0)

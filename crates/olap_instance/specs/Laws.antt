@@ -1,0 +1,17 @@
+-- What holds of everything that a text may stand for.
+use Rattle.std.specs.Prelude.{◌≡◌, ℕ, List, Ok}
+use Rattle.olap_base.specs.Graph.{Graph}
+use Rattle.olap_base.specs.Instance.{Instance, IsInstance}
+use Rattle.olap_instance.specs.InstanceText.{instance_read}
+use Rattle.olap_instance.specs.Made.{IsMadeFor}
+use Rattle.olap_instance.specs.Members.{AllHasNoParents, HasTexts}
+
+-- the instance that records stand for is a dimension instance, made for the graph
+pub record IsReadFor (g : Graph) (i : Instance) : Type 0 where
+  pub instance : IsInstance i
+  pub made : IsMadeFor g i
+  pub texts : HasTexts i
+  pub top : AllHasNoParents i
+
+abbrev pub ReadIsInstance : Type 0
+ReadIsInstance = (g : Graph) (records : List (List (List ℕ))) (i : Instance) → instance_read g records ≡ Ok i → IsReadFor g i
