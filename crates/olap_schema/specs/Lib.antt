@@ -5,4 +5,6 @@ pub mod Tokens
 pub mod Atoms
 pub mod Judging
 pub mod Reading
+pub mod Shown
 pub mod Schemas
+pub mod Kinds
