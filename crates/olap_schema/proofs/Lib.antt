@@ -9,3 +9,4 @@ pub mod PrintNames
 pub mod PrintCut
 pub mod BackWords
 pub mod PrintFormula
+pub mod StepLemmas

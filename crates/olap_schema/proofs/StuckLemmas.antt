@@ -1,5 +1,5 @@
 -- The first category that doesn't reach `All`.
-use Rattle.std.proofs.Common.{◌≡◌, ◌≢◌, ◌+◌, ◌≤◌, ◌<◌, ℕ, suc, zero, Bool, true, false, not, cond, List, [], ◌∷◌, Some, None, refl, arith, length, ap, sym, ◌∙◌}
+use Rattle.std.proofs.Common.{◌≡◌, ◌+◌, ◌≤◌, ◌<◌, ℕ, suc, zero, Bool, true, false, not, cond, List, Some, None, refl, arith, length, ap, sym, ◌∙◌}
 use Rattle.std.specs.Prelude.{◌-◌, find, slice_index, Ok, Err}
 use Rattle.std.specs.List.{range_with_len}
 use Rattle.olap_base.specs.Deciding.{category_reaches, category_reaches_is}

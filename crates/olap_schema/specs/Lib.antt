@@ -6,4 +6,6 @@ pub mod Atoms
 pub mod Judging
 pub mod Reading
 pub mod Printing
+pub mod Shown
 pub mod Schemas
+pub mod Kinds

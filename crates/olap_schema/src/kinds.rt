@@ -47,6 +47,37 @@ pub enum SchemaKind {
     NoWayToAll,
 }
 
+impl SchemaKind {
+    ghost use Rattle.olap_schema.specs.Kinds.{name_of_kind};
+
+    /// What the fault is called.
+    pub fn name(self) -> &'static str
+        ensures { result.now ≡ name_of_kind self }
+    {
+        match self {
+            SchemaKind::BadByte => "BadByte",
+            SchemaKind::BadForm => "BadForm",
+            SchemaKind::DuplicateCategory => "DuplicateCategory",
+            SchemaKind::UnknownCategory => "UnknownCategory",
+            SchemaKind::SelfEdge => "SelfEdge",
+            SchemaKind::DuplicateEdge => "DuplicateEdge",
+            SchemaKind::EdgeFromAll => "EdgeFromAll",
+            SchemaKind::MixedRoot => "MixedRoot",
+            SchemaKind::NotAnEdge => "NotAnEdge",
+            SchemaKind::RepeatedCategory => "RepeatedCategory",
+            SchemaKind::RootIsAll => "RootIsAll",
+            SchemaKind::TooManyCategories => "TooManyCategories",
+            SchemaKind::TooManyEdges => "TooManyEdges",
+            SchemaKind::TooManyConstraints => "TooManyConstraints",
+            SchemaKind::TooManyNodes => "TooManyNodes",
+            SchemaKind::TooDeep => "TooDeep",
+            SchemaKind::TooManyConstants => "TooManyConstants",
+            SchemaKind::TextTooLong => "TextTooLong",
+            SchemaKind::NoWayToAll => "NoWayToAll",
+        }
+    }
+}
+
 /// Why a line, or a formula, is refused.
 #[derive(Clone, Copy, Debug, PartialEq, Eq)]
 pub enum FormulaRefusal {

@@ -3,7 +3,7 @@ ghost use Rattle.olap_schema.specs.Judging.{first_stuck, lines_on, schema_read, 
 ghost use Rattle.olap_schema.specs.Lines.{lines_of};
 ghost use Rattle.olap_schema.specs.Reading.{above_of};
 ghost use Rattle.olap_schema.specs.Schemas.{IsRefusedBy, ReadsLines, schema_of};
-ghost use Rattle.std.specs.Prelude.{◌≡◌, ◌-◌, MatchResult, Ok, map, slice_index};
+ghost use Rattle.std.specs.Prelude.{◌≡◌, ◌≤◌, ◌-◌, MatchResult, Ok, length, map, slice_index};
 ghost use Rattle.olap_ast.specs.Trees.{constraint_of};
 
 use crate::lines::{chomped, first_line};
@@ -13,12 +13,29 @@ use olap_ast::Constraint;
 use olap_base::List;
 use olap_graph::{Graph, GraphRefusal};
 use std::alloc::Global;
+use std::marker::Model;
 
 /// A schema: a graph of categories and the constraints.
 #[derive(Debug, Drop)]
 pub struct Schema {
     pub(crate) graph: Graph,
     pub(crate) constraints: List<Constraint>,
+}
+
+impl Model for Schema {
+    ghost use Rattle.std.specs.Coded.{codes};
+    ghost use Rattle.olap_ast.specs.contracts.formulas.Formula as formula;
+    ghost use Rattle.olap_schema.specs.Shown.{Shown};
+
+    ghost Value = { Shown };
+
+    ghost coded = { Prim.hlevel (codes, formula.the_row.coded) };
+
+    ghost use Rattle.std.specs.Prelude.{◌≤◌, length};
+
+    ghost view = { λ a. record { graph = a.graph; constraints = a.constraints } };
+
+    ghost invariant = { λ a. length a.constraints ≤ 64 };
 }
 
 impl Schema {
@@ -29,9 +46,10 @@ impl Schema {
         &self.graph
     }
 
-    /// Its constraints, in declaration order.
+    /// Its constraints, in declaration order: at most 64.
     pub fn constraints(&self) -> &[Constraint]
-        ensures { map constraint_of result.now ≡ (schema_of self.now).constraints }
+        ensures list { map constraint_of result.now ≡ (schema_of self.now).constraints }
+        ensures few { length result.now ≤ 64 }
     {
         self.constraints.items()
     }
@@ -58,6 +76,7 @@ fn read_lines(alloc: Global, reading: &mut Reading, text: &[u8]) -> Result<(), S
 
 /// The schema of all lines, if each category reaches `All`.
 fn finish(reading: Reading) -> Result<Schema, SchemaRefusal>
+    requires { length (above_of reading).constraints ≤ 64 }
     ensures { let a = above_of reading in
         let read = whole a (first_stuck a.graph) in
         MatchResult result (λ s. read ≡ Ok (schema_of s)) (λ e. IsRefusedBy e read) }
@@ -118,6 +137,7 @@ pub fn read_schema(alloc: Global, text: &[u8]) -> Result<Schema, SchemaRefusal>
 
 /// The schema of all lines, from the first on.
 fn read_from(alloc: Global, started: Reading, text: &[u8]) -> Result<Schema, SchemaRefusal>
+    requires { length (above_of started).constraints ≤ 64 }
     ensures { let read = text_ended (lines_on (Ok (above_of started)) 0 (lines_of text.now)) in
         MatchResult result (λ s. read ≡ Ok (schema_of s)) (λ e. IsRefusedBy e read) }
 {

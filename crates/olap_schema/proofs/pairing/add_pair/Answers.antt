@@ -1,5 +1,4 @@
 use Rattle.std.proofs.Common.{◌∙◌, ap}
-use Rattle.olap_ast.specs.Formula.{Equality}
 use Rattle.olap_schema.proofs.PairLemmas.{atom, found_pair, new_pair}
 use Rattle.olap_schema.proofs.pairing.add_pair.Goals as goal
 

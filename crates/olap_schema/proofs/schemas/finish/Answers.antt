@@ -1,4 +1,4 @@
-use Rattle.std.proofs.Common.{ap, map, ◌∙◌}
+use Rattle.std.proofs.Common.{ap, map}
 use Rattle.olap_ast.specs.Trees.{constraint_of}
 use Rattle.olap_schema.specs.Reading.{above_of}
 use Rattle.olap_schema.proofs.StuckLemmas.{whole_is, whole_not}
