@@ -6,3 +6,4 @@ pub mod Atoms
 pub mod Judging
 pub mod Reading
 pub mod Schemas
+pub mod Printing

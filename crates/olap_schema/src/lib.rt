@@ -6,10 +6,13 @@ mod kinds;
 mod lines;
 mod measuring;
 mod pairing;
+mod printing;
 mod questions;
 mod reading;
 mod schemas;
 mod statements;
+#[cfg(test)]
+mod tests;
 
 pub use kinds::{FormulaRefusal, SchemaKind, SchemaRefusal};
 pub use questions::read_formula;
