@@ -3,3 +3,4 @@ pub mod Counting
 pub mod LineLemmas
 pub mod PairLemmas
 pub mod StuckLemmas
+pub mod PrintLemmas

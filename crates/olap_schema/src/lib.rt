@@ -15,5 +15,6 @@ mod statements;
 mod tests;
 
 pub use kinds::{FormulaRefusal, SchemaKind, SchemaRefusal};
+pub use printing::print_schema;
 pub use questions::read_formula;
 pub use schemas::{Schema, read_schema};

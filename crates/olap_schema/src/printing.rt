@@ -44,7 +44,12 @@ fn put_marked(out: &mut Vec<u8>, graph: &Graph, mark: u8, c: CatId) -> Result<()
 }
 
 #[tactic(auto, unfolding(crate::specs::Printing::path_text))]
-fn put_path(out: &mut Vec<u8>, graph: &Graph, root: CatId, categories: &[CatId]) -> Result<(), Memory>
+fn put_path(
+    out: &mut Vec<u8>,
+    graph: &Graph,
+    root: CatId,
+    categories: &[CatId],
+) -> Result<(), Memory>
     ensures { OnOk result (out.new.items ≡ out.old.items ++ path_text graph.now root.0 (map (λ c. c.0) categories.now)) }
 {
     put_name(out, graph, root)?;
@@ -98,7 +103,13 @@ fn put_quoted(out: &mut Vec<u8>, text: &[u8]) -> Result<(), Memory>
 }
 
 #[tactic(auto, unfolding(crate::specs::Printing::equals_text))]
-fn put_equals(out: &mut Vec<u8>, graph: &Graph, root: CatId, d: CatId, text: &[u8]) -> Result<(), Memory>
+fn put_equals(
+    out: &mut Vec<u8>,
+    graph: &Graph,
+    root: CatId,
+    d: CatId,
+    text: &[u8],
+) -> Result<(), Memory>
     ensures { OnOk result (out.new.items ≡ out.old.items ++ equals_text graph.now root.0 d.0 text.now) }
 {
     if d == root {
@@ -141,12 +152,17 @@ fn put_not(out: &mut Vec<u8>, graph: &Graph, root: CatId, f: &Formula) -> Result
 }
 
 #[cycle(put)]
-fn put_both(out: &mut Vec<u8>, graph: &Graph, root: CatId, f: &Formula, mark: &[u8], g: &Formula) -> Result<(), Memory>
-    ensures {
-        let left = formula_text graph.now root.0 (formula_of f.now) in
+fn put_both(
+    out: &mut Vec<u8>,
+    graph: &Graph,
+    root: CatId,
+    f: &Formula,
+    mark: &[u8],
+    g: &Formula,
+) -> Result<(), Memory>
+    ensures { let left = formula_text graph.now root.0 (formula_of f.now) in
         let right = formula_text graph.now root.0 (formula_of g.now) in
-        OnOk result (out.new.items ≡ out.old.items ++ (codes "(" ++ left ++ mark.now ++ right ++ codes ")"))
-    }
+        OnOk result (out.new.items ≡ out.old.items ++ (codes "(" ++ left ++ mark.now ++ right ++ codes ")")) }
 {
     put(out, b"(")?;
     put_formula(out, graph, root, f)?;
@@ -188,4 +204,95 @@ fn put_rest(out: &mut Vec<u8>, graph: &Graph, root: CatId, terms: &Terms) -> Res
         left = rest;
     }
     Ok(())
+}
+
+fn put_category(out: &mut Vec<u8>, name: &[u8]) -> Result<(), Memory>
+    ensures { OnOk result (out.new.items ≡ out.old.items ++ category_text name.now) }
+{
+    put(out, b"category ")?;
+    put(out, name)?;
+    out.push(10)?;
+    Ok(())
+}
+
+fn put_categories(out: &mut Vec<u8>, graph: &Graph) -> Result<(), Memory>
+    ensures { OnOk result (out.new.items ≡ out.old.items ++ flat_map category_text graph.now.names) }
+{
+    let declared = graph.categories() - 1;
+    'categories: for i in 0..declared {
+        put_category(out, name(graph, CatId(i + 1)))?;
+    }
+    Ok(())
+}
+
+fn put_edge(out: &mut Vec<u8>, graph: &Graph, e: EdgeId) -> Result<(), Memory>
+    requires { e.0 < length graph.now.edges }
+    ensures { OnOk result (out.new.items ≡ out.old.items ++ edge_text graph.now (edge_at graph.now e.0)) }
+{
+    let (child, parent) = graph.ends(e);
+    put(out, b"edge ")?;
+    put_name(out, graph, child)?;
+    put(out, b" ")?;
+    put_name(out, graph, parent)?;
+    out.push(10)?;
+    Ok(())
+}
+
+fn put_edges(out: &mut Vec<u8>, graph: &Graph) -> Result<(), Memory>
+    ensures { OnOk result (out.new.items ≡ out.old.items ++ flat_map (edge_text graph.now) graph.now.edges) }
+{
+    let count = graph.edges();
+    'edges: for i in 0..count {
+        put_edge(out, graph, EdgeId(i))?;
+    }
+    Ok(())
+}
+
+fn put_constraint(out: &mut Vec<u8>, graph: &Graph, constraint: &Constraint) -> Result<(), Memory>
+    ensures { OnOk result (out.new.items ≡ out.old.items ++ constraint_text graph.now (constraint_of constraint.now)) }
+{
+    put(out, b"constraint ")?;
+    put_name(out, graph, constraint.root)?;
+    put(out, b": ")?;
+    put_formula(out, graph, constraint.root, &constraint.formula)?;
+    out.push(10)?;
+    Ok(())
+}
+
+fn put_constraints(
+    out: &mut Vec<u8>,
+    graph: &Graph,
+    constraints: &[Constraint],
+) -> Result<(), Memory>
+    ensures { let lines = flat_map (constraint_text graph.now) (map constraint_of constraints.now) in
+        OnOk result (out.new.items ≡ out.old.items ++ lines) }
+{
+    let mut left = constraints;
+    'constraints: while let Some((constraint, others)) = left.split_first() {
+        put_constraint(out, graph, constraint)?;
+        left = others;
+    }
+    Ok(())
+}
+
+#[tactic(auto, unfolding(crate::specs::Printing::schema_text))]
+fn put_schema(out: &mut Vec<u8>, schema: &Schema) -> Result<(), Memory>
+    ensures { OnOk result (out.new.items ≡ out.old.items ++ schema_text (schema_of schema.now)) }
+{
+    put(out, b"schema 1")?;
+    out.push(10)?;
+    put_categories(out, schema.graph())?;
+    put_edges(out, schema.graph())?;
+    put_constraints(out, schema.graph(), schema.constraints())
+}
+
+/// The canonical text of the schema: each line in declaration order, with one space between tokens.
+///
+/// `Memory` where there is no room. It calls itself as deep as a formula is.
+pub fn print_schema(alloc: Global, schema: &Schema) -> Result<Text, Memory>
+    ensures { IfOk result (λ text. text ≡ schema_text (schema_of schema.now)) }
+{
+    let mut out = Vec::new(alloc);
+    put_schema(&mut out, schema)?;
+    Text::from_bytes(alloc, &out)
 }

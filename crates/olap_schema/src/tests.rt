@@ -44,9 +44,21 @@ fn texts_are_judged(rt: HostRuntime) {
         (b"schema 1\ncategory A\nedge A A", 3, 5),
         (b"schema 1\ncategory A\nedge A All\n\nedge A All", 5, 6),
         (b"schema 1\ncategory A\nedge All A", 3, 7),
-        (b"schema 1\ncategory A\ncategory B\nedge A All\nedge B A\nconstraint B: A_All", 6, 8),
-        (b"schema 1\ncategory A\ncategory B\nedge A All\nedge B A\nconstraint B: B_All", 6, 9),
-        (b"schema 1\ncategory A\nedge A All\nconstraint A: A_A", 4, 10),
+        (
+            b"schema 1\ncategory A\ncategory B\nedge A All\nedge B A\nconstraint B: A_All",
+            6,
+            8,
+        ),
+        (
+            b"schema 1\ncategory A\ncategory B\nedge A All\nedge B A\nconstraint B: B_All",
+            6,
+            9,
+        ),
+        (
+            b"schema 1\ncategory A\nedge A All\nconstraint A: A_A",
+            4,
+            10,
+        ),
         (b"schema 1\nconstraint All: true", 2, 11),
         (b"schema 1\n#\ncategory A\ncategory B\nedge B All", 3, 19),
     ];

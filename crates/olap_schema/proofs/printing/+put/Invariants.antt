@@ -26,7 +26,7 @@ decreases-put_rest l = 4 * node_count_of_terms (terms_of l.terms.now) + 1
 abbrev pub invariant-put_rest-parts : goal.invariant-put_rest-parts
 invariant-put_rest-parts l = record {
   printed :
-    l.out.items ++ rest_text l.graph l.root.0 (terms_of l.left)
-    ≡ l.initial.out.items ++ rest_text l.graph l.root.0 (terms_of l.fn.terms);
-  smaller : node_count_of_terms (terms_of l.left) ≤ node_count_of_terms (terms_of l.fn.terms)
+      l.out.items ++ rest_text l.graph l.root.0 (terms_of l.left)
+      ≡ l.initial.out.items ++ rest_text l.graph l.root.0 (terms_of l.fn.terms);
+  smaller : node_count_of_terms (terms_of l.left) ≤ node_count_of_terms (terms_of l.fn.terms);
 }
