@@ -3,6 +3,7 @@ ghost use Rattle.std.specs.Prelude.{◌≡◌, ◌≤◌, length, map, IfOk, IfE
 ghost use Rattle.olap_ast.specs.Schema.{IsLegal};
 ghost use Rattle.olap_check.specs.Reports.{IsRefused, schema_of};
 ghost use Rattle.olap_instance.specs.Made.{IsMadeFor};
+ghost use Rattle.olap_schema.specs.Schemas.{schema_of as schema_meant};
 
 use crate::laws::{bound, lawful};
 use crate::meeting::first_violated;
@@ -11,6 +12,7 @@ use olap_ast::Constraint;
 use olap_base::MemberId;
 use olap_graph::Graph;
 use olap_instance::Instance;
+use olap_schema::Schema;
 use std::alloc::Global;
 
 /// The instance as a legal one for this graph and these constraints.
@@ -40,4 +42,15 @@ pub fn check_parts(
         return Err(CheckRefusal::Broken(instance, violation));
     }
     Ok(Legal::of(instance, categories, cells))
+}
+
+/// The instance as a legal one for this schema: see `check_parts`.
+pub fn check(alloc: Global, schema: &Schema, instance: Instance) -> Result<Legal, CheckRefusal>
+    requires made { IsMadeFor (schema_meant schema.now).graph instance }
+
+    ensures same { IfOk result (λ legal. legal ≡ instance) }
+    ensures ok { IfOk result (λ legal. IsLegal (schema_meant schema.now) instance) }
+    ensures err { IfErr result (IsRefused (schema_meant schema.now) instance) }
+{
+    check_parts(alloc, schema.graph(), schema.constraints(), instance)
 }

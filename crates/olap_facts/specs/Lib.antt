@@ -2,3 +2,4 @@
 pub mod Seen
 pub mod FactText
 pub mod Refusals
+pub mod Kinds

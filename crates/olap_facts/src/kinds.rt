@@ -19,6 +19,25 @@ pub enum FactKind {
     TooManyFacts,
 }
 
+impl FactKind {
+    ghost use Rattle.std.specs.Prelude.{◌≡◌};
+    ghost use Rattle.olap_facts.specs.Kinds.{name_of_kind};
+
+    /// Its name, as it is printed.
+    pub fn name(self) -> &'static str
+        ensures { result.now ≡ name_of_kind self }
+    {
+        match self {
+            FactKind::BadHeader => "BadHeader",
+            FactKind::FieldCount => "FieldCount",
+            FactKind::UnknownMember => "UnknownMember",
+            FactKind::NotBottom => "NotBottom",
+            FactKind::BadNumber => "BadNumber",
+            FactKind::TooManyFacts => "TooManyFacts",
+        }
+    }
+}
+
 /// Why a text of facts was refused.
 #[derive(Clone, Copy, Debug, PartialEq, Eq)]
 pub enum FactRefusal {

@@ -10,3 +10,4 @@ pub mod Laws
 pub mod Drafts
 pub mod DraftInside
 pub mod Printing
+pub mod Kinds

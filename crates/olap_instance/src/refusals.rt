@@ -29,6 +29,30 @@ pub enum InstanceKind {
     TextTooLong,
 }
 
+impl InstanceKind {
+    ghost use Rattle.std.specs.Prelude.{◌≡◌};
+    ghost use Rattle.olap_instance.specs.Kinds.{name_of_kind};
+
+    /// Its name, as it is printed.
+    pub fn name(self) -> &'static str
+        ensures { result.now ≡ name_of_kind self }
+    {
+        match self {
+            InstanceKind::BadHeader => "BadHeader",
+            InstanceKind::FieldCount => "FieldCount",
+            InstanceKind::BadUtf8 => "BadUtf8",
+            InstanceKind::BadId => "BadId",
+            InstanceKind::DuplicateId => "DuplicateId",
+            InstanceKind::UnknownCategory => "UnknownCategory",
+            InstanceKind::RowForAll => "RowForAll",
+            InstanceKind::UnknownParent => "UnknownParent",
+            InstanceKind::DuplicateParent => "DuplicateParent",
+            InstanceKind::TooManyMembers => "TooManyMembers",
+            InstanceKind::TextTooLong => "TextTooLong",
+        }
+    }
+}
+
 /// Why a text of members was refused.
 #[derive(Clone, Copy, Debug, PartialEq, Eq)]
 pub enum InstanceRefusal {

@@ -1,3 +1,2 @@
 -- Lemmas.
-mod PieceLemmas
-mod PlainLemmas
+mod TellingLemmas

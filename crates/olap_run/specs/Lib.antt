@@ -3,12 +3,12 @@ pub mod Words
 pub mod Requests
 pub mod Plan
 pub mod Outputs
+pub mod Violations
+pub mod Broken
 pub mod Questions
-pub mod PlainSchema
 pub mod Reading
-pub mod Rollup
+pub mod Orders
 pub mod Plans
 pub mod Seen
-pub mod SeenLines
 pub mod Judged
 pub mod Outcome

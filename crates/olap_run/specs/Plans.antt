@@ -1,12 +1,14 @@
 -- The plan of each command.
 use Rattle.std.specs.Prelude.{ℕ, List, None, Some, Option}
 use Rattle.olap_run.specs.Plan.{Plan, Done}
-use Rattle.olap_run.specs.Requests.{Request, Rollup, request_of}
+use Rattle.olap_run.specs.Requests.{Request, Rollup, Format, Check, request_of}
 use Rattle.olap_run.specs.Questions.{Question, ByUsage}
-use Rattle.olap_run.specs.Rollup.{rollup_plan}
+use Rattle.olap_run.specs.Orders.{rollup_plan, format_plan, check_plan}
 
 abbrev pub plan : Request → Plan Question
 plan (Rollup schema instance facts category) = rollup_plan schema instance facts category
+plan (Format schema) = format_plan schema
+plan (Check schema instance) = check_plan schema instance
 
 -- words that are no command are answered by the usage
 abbrev pub plan_or_usage : Option Request → Plan Question

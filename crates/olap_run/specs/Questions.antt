@@ -1,9 +1,12 @@
 -- What is left to be answered once all files of a run are read, and what answers it.
 --     Question   a command's question, with all that it needs
 --     IsAnswer   a status and bytes answer the question
-use Rattle.std.specs.Prelude.{◌≡◌, ℕ, List, codes}
+use Rattle.std.specs.Prelude.{◌≡◌, ℕ, List, ◌++◌, codes}
+use Rattle.std.specs.Fmt.{decimal}
 use Rattle.olap_base.specs.Instance.{Instance}
 use Rattle.olap_base.specs.Views.{View}
+use Rattle.olap_ast.specs.Schema.{Schema}
+use Rattle.olap_schema.specs.Printing.{schema_text}
 use Rattle.olap_view.specs.ViewText.{view_text}
 use Rattle.olap_run.specs.Outputs.{line, refusal}
 use Rattle.olap_run.specs.declared.status.Status.{Status}
@@ -16,9 +19,15 @@ pub data Question : Type 0 where
   ByRefusal : (why : List ℕ) → Question
   -- a view is wanted
   ByView : (members : Instance) (view : View) → Question
+  -- the canonical text is wanted
+  ByFormat : (schema : Schema) → Question
+  -- an instance with so many members beside `all` is legal
+  ByLegal : (count : ℕ) → Question
 
 -- these are the status and the bytes
 abbrev pub IsAnswer : Question → Status → List ℕ → Type 0
 IsAnswer ByUsage status bytes = (status ≡ Usage) × (bytes ≡ line (codes "usage"))
 IsAnswer (ByRefusal why) status bytes = (status ≡ Refused) × (bytes ≡ refusal why)
 IsAnswer (ByView members view) status bytes = (status ≡ Yes) × (bytes ≡ view_text members view)
+IsAnswer (ByFormat schema) status bytes = (status ≡ Yes) × (bytes ≡ schema_text schema)
+IsAnswer (ByLegal count) status bytes = (status ≡ Yes) × (bytes ≡ line (codes "legal " ++ decimal count))

@@ -2,11 +2,18 @@
 --     read_within   by a file, which is judged by its length first
 --     known         by a category word
 --     accepted      by what a text stands for
+--     lawful        by whether an instance is legal
 use Rattle.std.specs.Prelude.{ℕ, List, ◌++◌, length, nat_lt, codes, Option, None, Some, Result, Ok, Err, if◌then◌else◌}
-use Rattle.olap_base.specs.Graph.{Graph}
+use Rattle.std.specs.Fmt.{decimal}
+use Rattle.olap_base.specs.Instance.{Instance}
+use Rattle.olap_base.specs.Naming.{Fault}
+use Rattle.olap_ast.specs.Judging.{first_violation}
+use Rattle.olap_ast.specs.Schema.{Schema}
+use Rattle.olap_ast.specs.Violation.{Violation}
+use Rattle.olap_check.specs.Reports.{told}
 use Rattle.olap_run.specs.Plan.{Plan, Done, Read}
 use Rattle.olap_run.specs.Questions.{Question, ByRefusal}
-use Rattle.olap_run.specs.PlainSchema.{PlainSchema, NotYet, Bad, StandsFor}
+use Rattle.olap_run.specs.Violations.{violation_text}
 
 -- the most bytes that a file may have
 abbrev pub most_bytes : ℕ
@@ -22,13 +29,20 @@ abbrev pub known : List ℕ → Option ℕ → (ℕ → Plan Question) → Plan 
 known place None next = Done (ByRefusal (codes "word " ++ place ++ codes " UnknownCategory"))
 known place (Some c) next = next c
 
--- a text of this kind that has no fault goes on with what it stands for
-abbrev pub accepted : {T F : Type 0} → List ℕ → Result T F → (T → Plan Question) → Plan Question
-accepted kind (Ok x) next = next x
-accepted kind (Err fault) next = Done (ByRefusal (kind ++ codes " Bad"))
+-- the line or record of a file, and the name of its fault
+abbrev pub fault_text : List ℕ → ℕ → List ℕ → List ℕ
+fault_text place at name = place ++ (codes " " ++ (decimal at ++ (codes " " ++ name)))
 
--- a plain schema text that has no fault goes on with its graph
-abbrev pub plain : PlainSchema → (Graph → Plan Question) → Plan Question
-plain NotYet next = Done (ByRefusal (codes "schema NotYet"))
-plain Bad next = Done (ByRefusal (codes "schema Bad"))
-plain (StandsFor g) next = next g
+-- a text that has no fault goes on with what it stands for; else its first fault is refused
+abbrev pub accepted : {T K : Type 0} → List ℕ → (K → List ℕ) → Result T (Fault K) → (T → Plan Question) → Plan Question
+accepted place name (Ok x) next = next x
+accepted place name (Err fault) next = Done (ByRefusal (fault_text place fault.at (name fault.kind)))
+
+-- an instance without a violation goes on; else its first violation is refused
+abbrev pub unbroken : Schema → Instance → Option Violation → Plan Question → Plan Question
+unbroken s i None next = next
+unbroken s i (Some v) next = Done (ByRefusal (codes "instance " ++ violation_text s.graph i (told i v)))
+
+-- a legal instance goes on
+abbrev pub lawful : Schema → Instance → Plan Question → Plan Question
+lawful s i next = unbroken s i (first_violation s i) next

@@ -5,11 +5,15 @@ use Rattle.std.specs.Str.{bytes_eq}
 -- a command with its words
 pub data Request : Type 0 where
   Rollup : (schema instance facts category : List ℕ) → Request
+  Format : (schema : List ℕ) → Request
+  Check : (schema instance : List ℕ) → Request
 
 -- the command of that name with these words behind it, if there is one
 abbrev pub named : List ℕ → List (List ℕ) → Option Request
 named name (schema ∷ instance ∷ facts ∷ category ∷ []) =
     if bytes_eq name (codes "rollup") then Some (Rollup schema instance facts category) else None
+named name (schema ∷ instance ∷ []) = if bytes_eq name (codes "check") then Some (Check schema instance) else None
+named name (schema ∷ []) = if bytes_eq name (codes "format") then Some (Format schema) else None
 named name rest = None
 
 -- the command that the words are, if any; more than 64 words are none

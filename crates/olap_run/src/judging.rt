@@ -3,7 +3,7 @@ ghost use Rattle.std.specs.Prelude.{◌≡◌, ◌≤◌, length, codes, false, 
 ghost use Rattle.olap_base.specs.Faults.{Rose};
 ghost use Rattle.olap_base.specs.Files.{Asks, IsContent, IsLonger};
 ghost use Rattle.olap_run.specs.Outputs.{line, refusal};
-ghost use Rattle.olap_run.specs.Reading.{most_bytes};
+ghost use Rattle.olap_run.specs.Reading.{fault_text, most_bytes};
 
 use crate::Status;
 use olap_base::{FetchError, Library, Memory, fetch};
@@ -102,5 +102,23 @@ pub(crate) fn refuse(alloc: Global, why: &[u8]) -> Result<Reply, Fault>
     Ok(Reply {
         status: Status::Refused,
         bytes,
+    })
+}
+
+/// A refusal of a file: the place and the number of its line or record, and the name of its fault.
+pub(crate) fn refuse_at(
+    alloc: Global,
+    place: &str,
+    at: u64,
+    fault: &str,
+) -> Result<Reply, Fault>
+    ensures status { IfOk result (λ reply. reply.status ≡ Status.Refused) }
+    ensures bytes { IfOk result (λ reply. reply.bytes.items ≡ refusal (fault_text place.now at fault.now)) }
+    ensures memory { IsErrOf result Fault.Read → ⊥ }
+{
+    let text = format!(in alloc; "refused {place} {at} {fault}\n")?;
+    Ok(Reply {
+        status: Status::Refused,
+        bytes: text.into_bytes(),
     })
 }

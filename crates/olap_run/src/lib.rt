@@ -5,11 +5,12 @@
 //! words and the files have. The code goes along the plan with everything in memory, and then writes.
 #![tactic(auto)]
 
+mod checking;
+mod formatting;
 mod judging;
-mod pieces;
-mod plain_schema;
-mod rollup;
+mod rolling_up;
 mod status;
+mod telling;
 mod top;
 mod words;
 

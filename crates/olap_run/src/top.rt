@@ -10,8 +10,10 @@ ghost use Rattle.olap_run.specs.Seen.{seen};
 ghost use Rattle.olap_run.specs.Words.{texts};
 
 use crate::Status;
+use crate::checking::check;
+use crate::formatting::format;
 use crate::judging::{Fault, Reply, usage};
-use crate::rollup::rollup;
+use crate::rolling_up::rollup;
 use crate::words::{Command, parse};
 use olap_base::{Library, Sink, emit};
 use std::alloc::Global;
@@ -27,6 +29,8 @@ fn run<L: Library>(alloc: Global, command: Command, lib: &mut L) -> Result<Reply
             facts,
             category,
         } => rollup(alloc, schema, instance, facts, category, lib),
+        Command::Format { schema } => format(alloc, schema, lib),
+        Command::Check { schema, instance } => check(alloc, schema, instance, lib),
     }
 }
 

@@ -18,6 +18,10 @@ pub(crate) enum Command<'a> {
         facts: &'a str,
         category: &'a str,
     },
+    /// The canonical text of a schema.
+    Format { schema: &'a str },
+    /// Whether an instance is legal.
+    Check { schema: &'a str, instance: &'a str },
 }
 
 /// The command that the words are, if any.
@@ -36,6 +40,13 @@ pub(crate) fn parse(words: &[String]) -> Option<Command<'_>>
                 category: category.as_str(),
             })
         }
+        [name, schema] if name.as_str() == "format" => Some(Command::Format {
+            schema: schema.as_str(),
+        }),
+        [name, schema, instance] if name.as_str() == "check" => Some(Command::Check {
+            schema: schema.as_str(),
+            instance: instance.as_str(),
+        }),
         _ => None,
     }
 }

@@ -1,0 +1,37 @@
+-- The words in which a violation is told.
+--     violation_text   which law or constraint is broken, and by which members
+--     IsTellable       the members and the category of a violation are there
+use Rattle.std.specs.Prelude.{ℕ, List, ◌++◌, ◌<◌, length, codes}
+use Rattle.std.specs.Fmt.{decimal}
+use Rattle.olap_base.specs.Graph.{Graph, IsCategory}
+use Rattle.olap_base.specs.Instance.{Instance, IsMember, member_at}
+use Rattle.olap_graph.specs.Lookups.{name_of_category}
+use Rattle.olap_grammar.specs.Quoting.{quoted}
+use Rattle.olap_check.specs.declared.violations.Violation.{Violation}
+use Rattle.olap_check.specs.declared.violations.Violation.TheVariants as law
+
+-- a member's id as a string
+abbrev pub id_text : Instance → ℕ → List ℕ
+id_text i x = quoted (member_at i x).id
+
+-- two members
+abbrev pub pair_text : Instance → ℕ → ℕ → List ℕ
+pair_text i x y = id_text i x ++ (codes " " ++ id_text i y)
+
+-- which law or constraint is broken, and by which members
+abbrev pub violation_text : Graph → Instance → Violation → List ℕ
+violation_text g i (law.Connectivity x y) = codes "Connectivity " ++ pair_text i x.0 y.0
+violation_text g i (law.NoParent x) = codes "NoParent " ++ id_text i x.0
+violation_text g i (law.Stratification x) = codes "Stratification " ++ id_text i x.0
+violation_text g i (law.Partitioning x c) = codes "Partitioning " ++ (id_text i x.0 ++ (codes " " ++ name_of_category g c.0))
+violation_text g i (law.Shortcut x y) = codes "Shortcut " ++ pair_text i x.0 y.0
+violation_text g i (law.Constraint n x) = codes "Constraint " ++ (decimal n ++ (codes " " ++ id_text i x.0))
+
+-- the members that a violation names are of the instance, and its category is one of the graph
+abbrev pub IsTellable : Graph → Instance → Violation → Type 0
+IsTellable g i (law.Connectivity x y) = IsMember i x.0 × IsMember i y.0
+IsTellable g i (law.NoParent x) = IsMember i x.0
+IsTellable g i (law.Stratification x) = IsMember i x.0
+IsTellable g i (law.Partitioning x c) = IsMember i x.0 × IsCategory g c.0
+IsTellable g i (law.Shortcut x y) = IsMember i x.0 × IsMember i y.0
+IsTellable g i (law.Constraint n x) = IsMember i x.0

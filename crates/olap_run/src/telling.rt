@@ -1,0 +1,126 @@
+// Whether an instance is legal, and the words in which a violation is told.
+ghost use Rattle.std.specs.Prelude.{◌≡◌, ◌++◌, None, codes, IfOk, IsErrOf, MatchResult, OnOk};
+ghost use Rattle.std.specs.Fmt.{decimal};
+ghost use Rattle.olap_ast.specs.Judging.{first_violation};
+ghost use Rattle.olap_ast.specs.Schema.{IsLegal};
+ghost use Rattle.olap_base.specs.Instance.{IsMember};
+ghost use Rattle.olap_instance.specs.Made.{IsMadeFor};
+ghost use Rattle.olap_schema.specs.Schemas.{schema_of};
+ghost use Rattle.olap_run.specs.Broken.{IsBrokenBy};
+ghost use Rattle.olap_run.specs.Outputs.{refusal};
+ghost use Rattle.olap_run.specs.Violations.{IsTellable, id_text, pair_text, violation_text};
+
+use crate::Status;
+use crate::judging::{Fault, Reply};
+use olap_base::MemberId;
+use olap_check::{CheckRefusal, Legal, Violation, check};
+use olap_grammar::push_quoted;
+use olap_graph::Graph;
+use olap_instance::Instance;
+use olap_schema::Schema;
+use std::alloc::{AllocError, Global};
+
+/// The instance as a legal one, or its first violation.
+pub(crate) fn check_laws(
+    alloc: Global,
+    schema: &Schema,
+    members: Instance,
+) -> Result<Legal, CheckRefusal>
+    requires { IsMadeFor (schema_of schema.now).graph members }
+    ensures same { IfOk result (λ legal. legal ≡ members) }
+    ensures ok { IfOk result (λ _. IsLegal (schema_of schema.now) members) }
+    ensures judged { MatchResult result
+        (λ _. first_violation (schema_of schema.now) members ≡ None)
+        (λ e. IsBrokenBy (schema_of schema.now) members e) }
+{
+    let _count = members.members();
+    check(alloc, schema, members)
+}
+
+/// Appends a member's id as a string.
+fn push_id(out: &mut Vec<u8>, instance: &Instance, x: MemberId) -> Result<(), AllocError>
+    requires { IsMember instance.now x.0 }
+    ensures { OnOk result (out.new.items ≡ out.old.items ++ id_text instance.now x.0) }
+{
+    push_quoted(out, instance.id(x).bytes())
+}
+
+/// Appends two members' ids.
+fn push_pair(
+    out: &mut Vec<u8>,
+    instance: &Instance,
+    x: MemberId,
+    y: MemberId,
+) -> Result<(), AllocError>
+    requires { IsMember instance.now x.0 × IsMember instance.now y.0 }
+    ensures { OnOk result (out.new.items ≡ out.old.items ++ pair_text instance.now x.0 y.0) }
+{
+    push_id(out, instance, x)?;
+    out.extend_from_slice(b" ")?;
+    push_id(out, instance, y)
+}
+
+/// Appends a violation's words.
+fn push_violation(
+    alloc: Global,
+    out: &mut Vec<u8>,
+    graph: &Graph,
+    instance: &Instance,
+    violation: Violation,
+) -> Result<(), AllocError>
+    requires { IsTellable graph.now instance.now violation }
+    ensures { OnOk result (out.new.items ≡ out.old.items ++ violation_text graph.now instance.now violation) }
+{
+    match violation {
+        Violation::Connectivity(x, y) => {
+            out.extend_from_slice(b"Connectivity ")?;
+            push_pair(out, instance, x, y)
+        }
+        Violation::NoParent(x) => {
+            out.extend_from_slice(b"NoParent ")?;
+            push_id(out, instance, x)
+        }
+        Violation::Stratification(x) => {
+            out.extend_from_slice(b"Stratification ")?;
+            push_id(out, instance, x)
+        }
+        Violation::Partitioning(x, c) => {
+            out.extend_from_slice(b"Partitioning ")?;
+            push_id(out, instance, x)?;
+            out.extend_from_slice(b" ")?;
+            out.extend_from_slice(graph.name(c).bytes())
+        }
+        Violation::Shortcut(x, y) => {
+            out.extend_from_slice(b"Shortcut ")?;
+            push_pair(out, instance, x, y)
+        }
+        Violation::Constraint(n, x) => {
+            let number = format!(in alloc; "{n}")?;
+            out.extend_from_slice(b"Constraint ")?;
+            out.extend_from_slice(number.as_bytes())?;
+            out.extend_from_slice(b" ")?;
+            push_id(out, instance, x)
+        }
+    }
+}
+
+/// The refusal of an instance that isn't legal.
+pub(crate) fn refuse_violation(
+    alloc: Global,
+    graph: &Graph,
+    instance: &Instance,
+    violation: Violation,
+) -> Result<Reply, Fault>
+    requires { IsTellable graph.now instance.now violation }
+    ensures status { IfOk result (λ reply. reply.status ≡ Status.Refused) }
+    ensures bytes { IfOk result (λ reply. reply.bytes.items ≡ refusal (codes "instance " ++ violation_text graph.now instance.now violation)) }
+    ensures memory { IsErrOf result Fault.Read → ⊥ }
+{
+    let mut bytes = Vec::from_slice(alloc, b"refused instance ")?;
+    push_violation(alloc, &mut bytes, graph, instance, violation)?;
+    bytes.push(b'\n')?;
+    Ok(Reply {
+        status: Status::Refused,
+        bytes,
+    })
+}
