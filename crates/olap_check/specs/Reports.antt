@@ -20,9 +20,11 @@ use Rattle.olap_check.specs.declared.violations.Violation.TheVariants as here
 abbrev pub schema_of : Graph → List Stored → Schema
 schema_of g constraints = record { graph = g; constraints = map constraint_of constraints }
 
+-- the id of a place
 abbrev pub member : ℕ → MemberId
 member x = record { 0 = x }
 
+-- the id of a category
 abbrev pub category : ℕ → CatId
 category c = record { 0 = c }
 

@@ -15,6 +15,8 @@ mod parting;
 mod passing;
 mod rising;
 mod strata;
+#[cfg(test)]
+mod tests;
 mod violations;
 
 pub use checking::check_parts;
