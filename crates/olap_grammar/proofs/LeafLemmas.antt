@@ -1,0 +1,97 @@
+-- Atoms have depth 1, and what the reader built says what it read.
+use Rattle.std.proofs.Common.{◌≡◌, ◌≤◌, ◌<◌, ℕ, Bool, true, false, cond, List, refl, sym, ap, ◌∙◌, Option, Some, None, Ok, Err, nat_le, nat_lt, length, not, drop, map, codes, arith}
+use Rattle.std.specs.Prelude.{◌==◌, slice_index_or, []}
+use Rattle.std.specs.List.{list_all}
+use Rattle.std.specs.Str.{bytes_eq}
+use Rattle.std.specs.Option.{option_map}
+use Rattle.olap_base.specs.Deciding.{is_category_name}
+use Rattle.olap_base.specs.Graph.{Graph}
+use Rattle.olap_ast.specs.Formula as Meaning
+use Rattle.olap_ast.specs.Formula.{Formula}
+use Rattle.olap_ast.specs.Valid.{depth_of}
+use Rattle.olap_grammar.specs.Answering.{IsRefusal, formula_answer}
+use Rattle.olap_grammar.specs.Clip.{AreLeaves, clip}
+use Rattle.olap_grammar.specs.Reader.{Built, Ends}
+use Rattle.olap_grammar.specs.declared.refusals.FormRefusal.{FormRefusal}
+use Rattle.olap_grammar.specs.Words.{atoms_of, equal_of, equality_of, id_of, path_of, pieces_of, plain_of, reach_of}
+use Rattle.olap_grammar.specs.declared.refusals.FormRefusal.TheVariants as refusal
+
+abbrev IsLeaf : Option Formula → Type 0
+IsLeaf o = (f : Formula) → o ≡ Some f → depth_of f ≡ 1
+
+no_leaf : IsLeaf None
+no_leaf f e = absurd cc
+
+one_leaf : (g : Formula) → depth_of g ≡ 1 → IsLeaf (Some g)
+one_leaf g h f e = let s : g ≡ f = cc in rw s at h
+
+pick : (b : Bool) (x y : Option Formula) → IsLeaf x → IsLeaf y → IsLeaf (cond b x y)
+pick true x y p q = p
+pick false x y p q = q
+
+path_leaf : (g : Graph) (parts : List (List ℕ)) → IsLeaf (path_of g parts)
+path_leaf g parts = pick (not (list_all is_category_name parts)) None (Some (Meaning.Formula.Path (map (id_of g) (drop 1 parts)))) no_leaf (one_leaf _ refl)
+
+reach_leaf : (g : Graph) (parts : List (List ℕ)) → IsLeaf (reach_of g parts)
+reach_leaf g parts =
+    let second = id_of g (slice_index_or parts 1 []) in
+    let third = id_of g (slice_index_or parts 2 []) in
+    pick (not (list_all is_category_name parts)) _ _ no_leaf
+    (pick (length parts == 2) _ _ (one_leaf (Meaning.Formula.Reach second) refl)
+    (pick (length parts == 3) _ _ (one_leaf (Meaning.Formula.Via second third) refl) no_leaf))
+
+equal_leaf : (g : Graph) (k : List ℕ) (parts : List (List ℕ)) → IsLeaf (equal_of g k parts)
+equal_leaf g k parts =
+    pick (not (list_all is_category_name parts)) _ _ no_leaf
+    (pick (length parts == 1) _ _ (one_leaf (Meaning.Formula.Equals (id_of g (slice_index_or parts 0 [])) k) refl)
+    (pick (length parts == 2) _ _ (one_leaf (Meaning.Formula.Equals (id_of g (slice_index_or parts 1 [])) k) refl) no_leaf))
+
+plain_leaf : (g : Graph) (w : List ℕ) → IsLeaf (plain_of g w)
+unfolding plain_of
+plain_leaf g w =
+    pick (bytes_eq w (codes "true")) _ _ (one_leaf Meaning.Formula.Truth refl)
+    (pick (bytes_eq w (codes "false")) _ _ (one_leaf Meaning.Formula.Falsity refl)
+    (pick (nat_lt 1 (length (pieces_of 95 w))) _ _ (path_leaf g (pieces_of 95 w)) (reach_leaf g (pieces_of 46 w))))
+
+equality_leaf : (g : Graph) (w k : List ℕ) → IsLeaf (equality_of g w k)
+unfolding equality_of
+equality_leaf g w k = equal_leaf g k (pieces_of 46 w)
+
+pub atoms_are_leaves : (g : Graph) → AreLeaves (atoms_of g)
+atoms_are_leaves g = record { plain = λ w f e. plain_leaf g w f e; equal = λ w k f e. equality_leaf g w k f e }
+
+-- ---- what was built
+
+abbrev chosen : Bool → Formula → Built
+chosen b g = cond b (depth_of g, g) (65, Meaning.Formula.Truth)
+
+built : (g : Formula) (b : Bool) (d : ℕ) (f : Formula) → Some (chosen b g) ≡ Some (d, f) → chosen b g ≡ (d, f)
+built g b d f p = cc
+
+pub too_deep : (o : Option Formula) (d : ℕ) (f : Formula) → option_map clip o ≡ Some (d, f) → 64 < d → formula_answer o ≡ Err refusal.TooDeep
+too_deep None d f e h = absurd cc
+too_deep (Some g) d f e h = go (nat_le (depth_of g) 64) refl e
+  where
+    go : (b : Bool) → nat_le (depth_of g) 64 ≡ b → Some (chosen b g) ≡ Some (d, f) → formula_answer (Some g) ≡ Err refusal.TooDeep
+    go true q p =
+        let s : depth_of g ≡ d = ap (λ (r : Built). r.0) (built g true d f p) in
+        let l : depth_of g ≤ 64 = grind (arith, q) in
+        absurd (omega arith)
+    go false q p = rw q refl
+
+pub not_deep : (o : Option Formula) (d : ℕ) (f : Formula) → option_map clip o ≡ Some (d, f) → d ≤ 64 → formula_answer o ≡ Ok f
+not_deep None d f e h = absurd cc
+not_deep (Some g) d f e h = go (nat_le (depth_of g) 64) refl e
+  where
+    go : (b : Bool) → nat_le (depth_of g) 64 ≡ b → Some (chosen b g) ≡ Some (d, f) → formula_answer (Some g) ≡ Ok f
+    go true q p = let s : g ≡ f = ap (λ (r : Built). r.1) (built g true d f p) in rw q (ap Ok s)
+    go false q p = let s : 65 ≡ d = ap (λ (r : Built). r.0) (built g false d f p) in absurd (omega arith)
+
+pub no_formula : (o : Option Formula) → option_map clip o ≡ None → formula_answer o ≡ Err refusal.BadForm
+no_formula None e = refl
+no_formula (Some f) e = absurd cc
+
+pub refused : (o : Option Formula) (read : Option Built) (e : FormRefusal) → read ≡ option_map clip o → Ends (Err e) read → IsRefusal e (formula_answer o)
+refused o read refusal.BadForm q h = no_formula o (sym q ∙ h)
+refused o read refusal.TooDeep q h = absurd h
+refused o read refusal.Memory q h = tt

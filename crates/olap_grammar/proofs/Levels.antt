@@ -1,0 +1,39 @@
+-- What the table of levels says.
+use Rattle.std.proofs.Common.{◌≤◌, ◌<◌, ◌+◌, arith, lit≤, lit<}
+use Rattle.olap_grammar.specs.declared.tokens.Joint.{Joint}
+use Rattle.olap_grammar.specs.declared.tokens.Joint.TheVariants as joint
+use Rattle.olap_grammar.specs.Grammar.{level, left_level, right_level}
+
+pub record IsRow (j : Joint) : Type 0 where
+  pub some : 1 ≤ level j
+  pub most : level j ≤ 5
+  pub left_above : level j ≤ left_level j
+  pub left_most : left_level j ≤ 6
+  pub right_above : level j ≤ right_level j
+  pub right_below : right_level j ≤ level j + 1
+  pub right_most : right_level j ≤ 6
+  pub sides : level j + 1 ≤ left_level j + right_level j
+
+pub row : (j : Joint) → IsRow j
+row joint.Iff = record { some = lit≤ tt; most = lit≤ tt; left_above = lit≤ tt; left_most = lit≤ tt; right_above = lit≤ tt; right_below = lit≤ tt; right_most = lit≤ tt; sides = lit≤ tt }
+row joint.Implies = record { some = lit≤ tt; most = lit≤ tt; left_above = lit≤ tt; left_most = lit≤ tt; right_above = lit≤ tt; right_below = lit≤ tt; right_most = lit≤ tt; sides = lit≤ tt }
+row joint.Xor = record { some = lit≤ tt; most = lit≤ tt; left_above = lit≤ tt; left_most = lit≤ tt; right_above = lit≤ tt; right_below = lit≤ tt; right_most = lit≤ tt; sides = lit≤ tt }
+row joint.Or = record { some = lit≤ tt; most = lit≤ tt; left_above = lit≤ tt; left_most = lit≤ tt; right_above = lit≤ tt; right_below = lit≤ tt; right_most = lit≤ tt; sides = lit≤ tt }
+row joint.And = record { some = lit≤ tt; most = lit≤ tt; left_above = lit≤ tt; left_most = lit≤ tt; right_above = lit≤ tt; right_below = lit≤ tt; right_most = lit≤ tt; sides = lit≤ tt }
+
+-- a mark that takes what stands to its left closes no mark that would not let it stand
+pub apart : (i j : Joint) → right_level i ≤ level j → level i < left_level j
+apart joint.Iff joint.Iff h = absurd (omega arith)
+apart joint.Iff joint.Implies h = lit< tt
+apart joint.Iff joint.Xor h = lit< tt
+apart joint.Iff joint.Or h = lit< tt
+apart joint.Iff joint.And h = lit< tt
+apart joint.Implies joint.Iff h = absurd (omega arith)
+apart joint.Implies joint.Implies h = lit< tt
+apart joint.Implies joint.Xor h = lit< tt
+apart joint.Implies joint.Or h = lit< tt
+apart joint.Implies joint.And h = lit< tt
+apart joint.Xor joint.Implies h = absurd (omega arith)
+apart joint.Xor j h = let r : IsRow j = row j in omega arith
+apart joint.Or j h = omega (arith, (row j).left_above)
+apart joint.And j h = omega (arith, (row j).left_above)

@@ -1,0 +1,18 @@
+-- The pieces of a word.
+use Rattle.std.proofs.Common.{◌≡◌, ◌==◌, ◌<◌, ◌+◌, ℕ, true, false, List, [], ◌∷◌, length, arith, ap, ◌∙◌, refl, map, codes, Some, nat_lt}
+use Rattle.std.proofs.lemmas.List.Splits.{length-slice_split, slice_split_at, slice_split_none}
+use Rattle.std.specs.Prelude.{Bool, IsTrue, ◌↔◌}
+use Rattle.std.specs.List.{All, join_with_byte, list_all}
+use Rattle.olap_grammar.specs.Words.{pieces_of}
+
+-- there is at least one
+pub some_pieces : (mark : ℕ) (w : List ℕ) (xs : List (List ℕ)) → xs ≡ pieces_of mark w → 0 < length xs
+unfolding pieces_of
+some_pieces mark w xs e = let l = ap length e ∙ length-slice_split (λ b. b == mark) w in omega arith
+
+-- two tests of one fact are one
+pub same_answer : {P : Type 0} (a b : Bool) → IsTrue a ↔ P → IsTrue b ↔ P → a ≡ b
+same_answer true true p q = refl
+same_answer false false p q = refl
+same_answer true false p q = absurd (let e : false ≡ true = q.1 (p.0 refl) in cc)
+same_answer false true p q = absurd (let e : false ≡ true = p.1 (q.0 refl) in cc)

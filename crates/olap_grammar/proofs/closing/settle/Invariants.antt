@@ -1,0 +1,14 @@
+-- What is closed so far, with what is left on the stack.
+use Rattle.std.proofs.Common.{◌≡◌, length}
+use Rattle.olap_grammar.specs.Clip.{clipped}
+use Rattle.olap_grammar.specs.Frames.{frames}
+use Rattle.olap_grammar.specs.Machine.{settled}
+use Rattle.olap_grammar.specs.Parts.{part_of}
+use Rattle.olap_grammar.proofs.closing.settle.Given as goal
+
+abbrev pub invariant-frames : goal.invariant-frames
+invariant-frames l =
+    settled clipped l.fn.least (part_of l.fn.part) (frames l.fn.stack) ≡ settled clipped l.least (part_of l.whole) (frames l.stack)
+
+abbrev pub decreases-frames : goal.decreases-frames
+decreases-frames l = length (frames l.stack)

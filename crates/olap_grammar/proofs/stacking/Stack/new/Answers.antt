@@ -1,0 +1,7 @@
+use Rattle.olap_grammar.specs.Frames.{frames}
+use Rattle.olap_grammar.proofs.StackLemmas.{frames_none}
+use Rattle.olap_grammar.proofs.stacking.Stack.new.Goals as goal
+
+pub returns : goal.returns
+unfolding frames
+returns c = rw c.new.ensures.items frames_none

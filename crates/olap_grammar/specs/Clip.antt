@@ -1,0 +1,40 @@
+-- A formula that is built only as far as it is no deeper than 64, with its depth.
+use Rattle.std.specs.Prelude.{◌≡◌, ◌+◌, ℕ, List, Option, Some, cond, nat_le, max}
+use Rattle.std.specs.Option.{option_map}
+use Rattle.olap_ast.specs.Formula as Meaning
+use Rattle.olap_ast.specs.Formula.{Formula, Terms}
+use Rattle.olap_ast.specs.Valid.{depth_of, depth_of_terms}
+use Rattle.olap_grammar.specs.Grammar.{Atoms, join}
+use Rattle.olap_grammar.specs.Machine.{Making}
+
+-- a depth up to 64 and the tree, or 65 and no tree to speak of
+abbrev pub kept : ℕ → Formula → ℕ × Formula
+kept d f = cond (nat_le d 64) (d, f) (65, Meaning.Formula.Truth)
+
+abbrev pub kept_terms : ℕ → Terms → ℕ × Terms
+kept_terms d fs = cond (nat_le d 64) (d, fs) (65, Meaning.Terms.End)
+
+abbrev pub clip : Formula → ℕ × Formula
+clip f = kept (depth_of f) f
+
+abbrev pub clip_terms : Terms → ℕ × Terms
+clip_terms fs = kept_terms (depth_of_terms fs) fs
+
+-- formulas are put together as far as they are no deeper than 64
+abbrev pub clipped : Making (ℕ × Formula) (ℕ × Terms)
+clipped = record {
+  negate = λ p. kept (1 + p.0) (Meaning.Formula.Not p.1);
+  join = λ j p q. kept (1 + max p.0 q.0) (join j p.1 q.1);
+  one = λ l. kept (1 + l.0) (Meaning.Formula.One l.1);
+  end = (0, Meaning.Terms.End);
+  more = λ p l. kept_terms (max p.0 l.0) (Meaning.Terms.More p.1 l.1);
+}
+
+-- the atoms, each of depth 1
+abbrev pub leaves : Atoms Formula → Atoms (ℕ × Formula)
+leaves a = record { plain = λ w. option_map (λ f. (1, f)) (a.plain w); equal = λ w k. option_map (λ f. (1, f)) (a.equal w k) }
+
+-- each atom has depth 1
+pub record AreLeaves (a : Atoms Formula) : Type 0 where
+  pub plain : (w : List ℕ) (f : Formula) → a.plain w ≡ Some f → depth_of f ≡ 1
+  pub equal : (w k : List ℕ) (f : Formula) → a.equal w k ≡ Some f → depth_of f ≡ 1

@@ -1,0 +1,64 @@
+-- Cutting a line from left to right.
+use Rattle.std.specs.Prelude.{◌==◌, ℕ, List, [], ◌∷◌, ◌++◌, Option, Some, None, if◌then◌else◌}
+use Rattle.std.specs.List.{fold}
+use Rattle.olap_grammar.specs.Cutting.{is_word_byte}
+use Rattle.olap_grammar.specs.declared.tokens.Token.{Token}
+use Rattle.olap_grammar.specs.declared.tokens.Token.TheVariants as token
+use Rattle.olap_grammar.specs.declared.tokens.Joint.TheVariants as joint
+
+-- the tokens so far, and what was begun: nothing, a word, a string, an escape in one, `-`, `<`, `<-`
+pub data Cut : Type 0 where
+  Between : List Token → Cut
+  InWord : List Token → List ℕ → Cut
+  InQuotes : List Token → List ℕ → Cut
+  Escaped : List Token → List ℕ → Cut
+  Dash : List Token → Cut
+  Less : List Token → Cut
+  LessDash : List Token → Cut
+  Stuck : Cut
+
+-- after a byte where nothing was begun
+abbrev pub between : List Token → ℕ → Cut
+between ts b =
+    if is_word_byte b then InWord ts (b ∷ [])
+    else if b == 32 then Between ts
+    else if b == 9 then Between ts
+    else if b == 34 then InQuotes ts []
+    else if b == 45 then Dash ts
+    else if b == 60 then Less ts
+    else if b == 40 then Between (ts ++ token.Open ∷ [])
+    else if b == 41 then Between (ts ++ token.Close ∷ [])
+    else if b == 44 then Between (ts ++ token.Comma ∷ [])
+    else if b == 58 then Between (ts ++ token.Colon ∷ [])
+    else if b == 61 then Between (ts ++ token.Equal ∷ [])
+    else if b == 33 then Between (ts ++ token.Not ∷ [])
+    else if b == 94 then Between (ts ++ token.Joint joint.Xor ∷ [])
+    else if b == 124 then Between (ts ++ token.Joint joint.Or ∷ [])
+    else if b == 38 then Between (ts ++ token.Joint joint.And ∷ [])
+    else Stuck
+
+-- after one more byte
+abbrev pub cut_step : Cut → ℕ → Cut
+cut_step (Between ts) b = between ts b
+cut_step (InWord ts w) b = if is_word_byte b then InWord ts (w ++ b ∷ []) else between (ts ++ token.Word w ∷ []) b
+cut_step (InQuotes ts k) b = if b == 34 then Between (ts ++ token.Quoted k ∷ []) else if b == 92 then Escaped ts k else InQuotes ts (k ++ b ∷ [])
+cut_step (Escaped ts k) b = if b == 34 then InQuotes ts (k ++ b ∷ []) else if b == 92 then InQuotes ts (k ++ b ∷ []) else Stuck
+cut_step (Dash ts) b = if b == 62 then Between (ts ++ token.Joint joint.Implies ∷ []) else Stuck
+cut_step (Less ts) b = if b == 45 then LessDash ts else Stuck
+cut_step (LessDash ts) b = if b == 62 then Between (ts ++ token.Joint joint.Iff ∷ []) else Stuck
+cut_step Stuck b = Stuck
+
+-- at the end of the line
+abbrev pub cut_ended : Cut → Option (List Token)
+cut_ended (Between ts) = Some ts
+cut_ended (InWord ts w) = Some (ts ++ token.Word w ∷ [])
+cut_ended (InQuotes ts k) = None
+cut_ended (Escaped ts k) = None
+cut_ended (Dash ts) = None
+cut_ended (Less ts) = None
+cut_ended (LessDash ts) = None
+cut_ended Stuck = None
+
+-- the tokens that the line is cut into, if it can be
+unfoldable pub tokens_of : List ℕ → Option (List Token)
+tokens_of line = cut_ended (fold cut_step (Between []) line)

@@ -1,0 +1,65 @@
+-- Which lists of tokens are a formula, and of which tree.
+use Rattle.std.specs.Prelude.{◌≡◌, ℕ, suc, List, [], ◌∷◌, ◌++◌, Option, Some, codes}
+use Rattle.olap_ast.specs.Formula as Meaning
+use Rattle.olap_ast.specs.Formula.{Formula, Terms}
+use Rattle.olap_grammar.specs.declared.tokens.Token.{Token}
+use Rattle.olap_grammar.specs.declared.tokens.Token.TheVariants as token
+use Rattle.olap_grammar.specs.declared.tokens.Joint.{Joint}
+use Rattle.olap_grammar.specs.declared.tokens.Joint.TheVariants as joint
+
+-- from the loosest to the tightest
+abbrev pub level : Joint → ℕ
+level joint.Iff = 1
+level joint.Implies = 2
+level joint.Xor = 3
+level joint.Or = 4
+level joint.And = 5
+
+-- the least level of what stands to the left: the same where the grouping is to the left
+abbrev pub left_level : Joint → ℕ
+left_level joint.Iff = 1
+left_level joint.Implies = 3
+left_level joint.Xor = 3
+left_level joint.Or = 4
+left_level joint.And = 5
+
+-- the least level of what stands to the right
+abbrev pub right_level : Joint → ℕ
+right_level joint.Iff = 2
+right_level joint.Implies = 2
+right_level joint.Xor = 4
+right_level joint.Or = 5
+right_level joint.And = 6
+
+abbrev pub join : Joint → Formula → Formula → Formula
+join joint.Iff f g = Meaning.Formula.Iff f g
+join joint.Implies f g = Meaning.Formula.Implies f g
+join joint.Xor f g = Meaning.Formula.Xor f g
+join joint.Or f g = Meaning.Formula.Or f g
+join joint.And f g = Meaning.Formula.And f g
+
+-- what a word is by itself, and with a string
+pub record Atoms (A : Type 0) : Type 0 where
+  pub plain : List ℕ → Option A
+  pub equal : List ℕ → List ℕ → Option A
+
+mutual
+  -- the tokens are a formula of the level, or of a tighter one, with this tree
+  pub data IsFormula (a : Atoms Formula) : ℕ → List Token → Formula → Type 0 where
+    looser : {n : ℕ} {ts : List Token} {f : Formula} → IsFormula a (suc n) ts f → IsFormula a n ts f
+    joined : (j : Joint) {left right : List Token} {f g : Formula} → IsFormula a (left_level j) left f → IsFormula a (right_level j) right g
+        → IsFormula a (level j) (left ++ token.Joint j ∷ right) (join j f g)
+    negated : {ts : List Token} {f : Formula} → IsFormula a 6 ts f → IsFormula a 6 (token.Not ∷ ts) (Meaning.Formula.Not f)
+    bracketed : {ts : List Token} {f : Formula} → IsFormula a 1 ts f → IsFormula a 7 (token.Open ∷ (ts ++ token.Close ∷ [])) f
+    listed : {ts : List Token} {fs : Terms} → IsList a ts fs → IsFormula a 7 (token.Word (codes "one") ∷ token.Open ∷ (ts ++ token.Close ∷ [])) (Meaning.Formula.One fs)
+    plain : {w : List ℕ} {f : Formula} → a.plain w ≡ Some f → IsFormula a 7 (token.Word w ∷ []) f
+    equal : {w k : List ℕ} {f : Formula} → a.equal w k ≡ Some f → IsFormula a 7 (token.Word w ∷ token.Equal ∷ token.Quoted k ∷ []) f
+
+  -- the tokens are no, one or more formulas with commas between them
+  pub data IsList (a : Atoms Formula) : List Token → Terms → Type 0 where
+    none : IsList a [] Meaning.Terms.End
+    some : {ts : List Token} {fs : Terms} → IsItems a ts fs → IsList a ts fs
+
+  pub data IsItems (a : Atoms Formula) : List Token → Terms → Type 0 where
+    last : {ts : List Token} {f : Formula} → IsFormula a 1 ts f → IsItems a ts (Meaning.Terms.More f Meaning.Terms.End)
+    more : {ts us : List Token} {f : Formula} {fs : Terms} → IsFormula a 1 ts f → IsItems a us fs → IsItems a (ts ++ token.Comma ∷ us) (Meaning.Terms.More f fs)

@@ -1,0 +1,8 @@
+-- The graph that names are looked up in.
+use Rattle.olap_base.specs.Graph.{Graph}
+use Rattle.olap_grammar.specs.declared.knowing.Known.{Known}
+use Rattle.olap_grammar.specs.declared.knowing.Known.TheVariants as known
+
+abbrev pub graph_seen : Known → Graph
+graph_seen (known.Growing builder) = builder.now
+graph_seen (known.Whole graph) = graph.now

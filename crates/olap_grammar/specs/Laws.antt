@@ -1,0 +1,24 @@
+-- What holds of all lines and tokens: the readers find what the grammar says.
+use Rattle.std.specs.Prelude.{◌≡◌, ◌↔◌, ℕ, List, Some}
+use Rattle.olap_ast.specs.Formula.{Formula}
+use Rattle.olap_grammar.specs.Grammar.{Atoms, IsFormula}
+use Rattle.olap_grammar.specs.Cutting.{IsCut}
+use Rattle.olap_grammar.specs.CuttingMachine.{tokens_of}
+use Rattle.olap_grammar.specs.Machine.{the_formula}
+use Rattle.olap_grammar.specs.declared.tokens.Token.{Token}
+
+-- these tokens are found exactly where the line is cut into them
+abbrev pub FoundAsCut : Type 0
+FoundAsCut = (line : List ℕ) (ts : List Token) → (tokens_of line ≡ Some ts) ↔ IsCut line ts
+
+-- this formula is found exactly where the tokens are one with this tree
+abbrev pub FoundAsFormula : Type 0
+FoundAsFormula = (a : Atoms Formula) (ts : List Token) (f : Formula) → (the_formula a ts ≡ Some f) ↔ IsFormula a 1 ts f
+
+-- a line is cut in at most one way
+abbrev pub IsOneCut : Type 0
+IsOneCut = (line : List ℕ) (ts us : List Token) → IsCut line ts → IsCut line us → ts ≡ us
+
+-- tokens are at most one formula
+abbrev pub IsOneTree : Type 0
+IsOneTree = (a : Atoms Formula) (ts : List Token) (f g : Formula) → IsFormula a 1 ts f → IsFormula a 1 ts g → f ≡ g

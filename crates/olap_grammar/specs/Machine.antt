@@ -1,0 +1,173 @@
+-- Reading from left to right with a stack of what is still open, for whatever is built.
+use Rattle.std.specs.Prelude.{ℕ, Bool, List, [], ◌∷◌, Option, Some, None, codes, cond, nat_le, nat_eq, option_and_then}
+use Rattle.std.specs.Cmp.Lexicographic.{pointwise}
+use Rattle.std.specs.List.{fold}
+use Rattle.olap_ast.specs.Formula as Meaning
+use Rattle.olap_ast.specs.Formula.{Formula, Terms}
+use Rattle.olap_grammar.specs.Grammar.{Atoms, join, level, left_level}
+use Rattle.olap_grammar.specs.declared.tokens.Token.{Token}
+use Rattle.olap_grammar.specs.declared.tokens.Token.TheVariants as token
+use Rattle.olap_grammar.specs.declared.tokens.Joint.{Joint}
+
+-- what is open: a `!`, a formula with a mark behind it, a bracket, a list, a part of a list with its comma
+pub record Making (A L : Type 0) : Type 0 where
+  pub negate : A → A
+  pub join : Joint → A → A → A
+  pub one : L → A
+  pub end : L
+  pub more : A → L → L
+
+pub data Frame (A : Type 0) : Type 0 where
+  Negation : Frame A
+  Left : Joint → A → Frame A
+  Bracket : Frame A
+  Listing : Frame A
+  Part : A → Frame A
+
+-- a formula is to come, or the end of an empty list too; a word, or a word with `=`, was read; a formula was read
+pub data State (A : Type 0) : Type 0 where
+  Wants : List (Frame A) → State A
+  WantsPart : List (Frame A) → State A
+  Named : List ℕ → List (Frame A) → State A
+  Compared : List ℕ → List (Frame A) → State A
+  Has : A → List (Frame A) → State A
+  Bad : State A
+
+-- what is open of this level or a tighter one is closed
+abbrev pub settled : {A L : Type 0} → Making A L → ℕ → A → List (Frame A) → A × List (Frame A)
+settled m n f [] = (f, [])
+settled m n f (Negation ∷ s) = settled m n (m.negate f) s
+settled m n f (Left j g ∷ s) = cond (nat_le n (level j)) (settled m n (m.join j g f) s) (f, Left j g ∷ s)
+settled m n f (Bracket ∷ s) = (f, Bracket ∷ s)
+settled m n f (Listing ∷ s) = (f, Listing ∷ s)
+settled m n f (Part g ∷ s) = (f, Part g ∷ s)
+
+abbrev pub list_closed : {A L : Type 0} → Making A L → L → List (Frame A) → State A
+list_closed m fs (Listing ∷ s) = Has (m.one fs) s
+list_closed m fs (Part f ∷ s) = list_closed m (m.more f fs) s
+list_closed m fs (Negation ∷ s) = Bad
+list_closed m fs (Left j g ∷ s) = Bad
+list_closed m fs (Bracket ∷ s) = Bad
+list_closed m fs [] = Bad
+
+abbrev pub closed : {A L : Type 0} → Making A L → A → List (Frame A) → State A
+closed m f (Bracket ∷ s) = Has f s
+closed m f (Listing ∷ s) = list_closed m (m.more f m.end) (Listing ∷ s)
+closed m f (Part g ∷ s) = list_closed m (m.more f m.end) (Part g ∷ s)
+closed m f (Negation ∷ s) = Bad
+closed m f (Left j g ∷ s) = Bad
+closed m f [] = Bad
+
+abbrev pub parted : {A : Type 0} → A → List (Frame A) → State A
+parted f (Listing ∷ s) = Wants (Part f ∷ Listing ∷ s)
+parted f (Part g ∷ s) = Wants (Part f ∷ Part g ∷ s)
+parted f (Bracket ∷ s) = Bad
+parted f (Negation ∷ s) = Bad
+parted f (Left j g ∷ s) = Bad
+parted f [] = Bad
+
+-- after a formula
+abbrev pub after : {A L : Type 0} → Making A L → A → List (Frame A) → Token → State A
+after m f s (token.Joint j) = let r = settled m (left_level j) f s in Wants (Left j r.0 ∷ r.1)
+after m f s token.Close = let r = settled m 1 f s in closed m r.0 r.1
+after m f s token.Comma = let r = settled m 1 f s in parted r.0 r.1
+after m f s (token.Word w) = Bad
+after m f s (token.Quoted k) = Bad
+after m f s token.Open = Bad
+after m f s token.Colon = Bad
+after m f s token.Equal = Bad
+after m f s token.Not = Bad
+
+-- where a formula is to come
+abbrev pub begun : {A : Type 0} → List (Frame A) → Token → State A
+begun s (token.Word w) = Named w s
+begun s token.Open = Wants (Bracket ∷ s)
+begun s token.Not = Wants (Negation ∷ s)
+begun s (token.Quoted k) = Bad
+begun s token.Close = Bad
+begun s token.Comma = Bad
+begun s token.Colon = Bad
+begun s token.Equal = Bad
+begun s (token.Joint j) = Bad
+
+abbrev pub begun_part : {A L : Type 0} → Making A L → List (Frame A) → Token → State A
+begun_part m s token.Close = Has (m.one m.end) s
+begun_part m s (token.Word w) = begun (Listing ∷ s) (token.Word w)
+begun_part m s (token.Quoted k) = Bad
+begun_part m s token.Open = begun (Listing ∷ s) token.Open
+begun_part m s token.Comma = Bad
+begun_part m s token.Colon = Bad
+begun_part m s token.Equal = Bad
+begun_part m s token.Not = begun (Listing ∷ s) token.Not
+begun_part m s (token.Joint j) = Bad
+
+abbrev pub is_one : List ℕ → Bool
+is_one w = pointwise nat_eq w (codes "one")
+
+abbrev pub after_atom : {A L : Type 0} → Making A L → Option A → List (Frame A) → Token → State A
+after_atom m None s t = Bad
+after_atom m (Some f) s t = after m f s t
+
+abbrev pub after_word : {A L : Type 0} → Making A L → Atoms A → List ℕ → List (Frame A) → Token → State A
+after_word m a w s token.Open = cond (is_one w) (WantsPart s) Bad
+after_word m a w s token.Equal = Compared w s
+after_word m a w s (token.Joint j) = after_atom m (a.plain w) s (token.Joint j)
+after_word m a w s token.Close = after_atom m (a.plain w) s token.Close
+after_word m a w s token.Comma = after_atom m (a.plain w) s token.Comma
+after_word m a w s (token.Word v) = Bad
+after_word m a w s (token.Quoted k) = Bad
+after_word m a w s token.Colon = Bad
+after_word m a w s token.Not = Bad
+
+abbrev pub has_atom : {A : Type 0} → Option A → List (Frame A) → State A
+has_atom None s = Bad
+has_atom (Some f) s = Has f s
+
+abbrev pub after_equal : {A : Type 0} → Atoms A → List ℕ → List (Frame A) → Token → State A
+after_equal a w s (token.Quoted k) = has_atom (a.equal w k) s
+after_equal a w s (token.Word v) = Bad
+after_equal a w s token.Open = Bad
+after_equal a w s token.Close = Bad
+after_equal a w s token.Comma = Bad
+after_equal a w s token.Colon = Bad
+after_equal a w s token.Equal = Bad
+after_equal a w s token.Not = Bad
+after_equal a w s (token.Joint j) = Bad
+
+abbrev pub step : {A L : Type 0} → Making A L → Atoms A → State A → Token → State A
+step m a (Wants s) t = begun s t
+step m a (WantsPart s) t = begun_part m s t
+step m a (Named w s) t = after_word m a w s t
+step m a (Compared w s) t = after_equal a w s t
+step m a (Has f s) t = after m f s t
+step m a Bad t = Bad
+
+abbrev pub alone : {A : Type 0} → A × List (Frame A) → Option A
+alone (f, []) = Some f
+alone (f, b ∷ s) = None
+
+abbrev pub ended : {A L : Type 0} → Making A L → Atoms A → State A → Option A
+ended m a (Has f s) = alone (settled m 1 f s)
+ended m a (Named w s) = option_and_then (λ f. alone (settled m 1 f s)) (a.plain w)
+ended m a (Wants s) = None
+ended m a (WantsPart s) = None
+ended m a (Compared w s) = None
+ended m a Bad = None
+
+-- the formula that the tokens are, if they are one
+abbrev pub formula_read : {A L : Type 0} → Making A L → Atoms A → List Token → Option A
+formula_read m a ts = ended m a (fold (step m a) (Wants []) ts)
+
+-- formulas are put together as they are
+abbrev pub trees : Making Formula Terms
+trees = record {
+  negate = Meaning.Formula.Not;
+  join = join;
+  one = Meaning.Formula.One;
+  end = Meaning.Terms.End;
+  more = Meaning.Terms.More;
+}
+
+-- the formula that the tokens are, if they are one
+unfoldable pub the_formula : Atoms Formula → List Token → Option Formula
+the_formula a ts = formula_read trees a ts

@@ -1,0 +1,60 @@
+-- What the values of the reader stand for.
+use Rattle.std.specs.Prelude.{◌≡◌, ℕ, List, Result, Ok, Err, Option, Some, None}
+use Rattle.olap_ast.specs.Formula.{Formula}
+use Rattle.olap_grammar.specs.Machine as machine
+use Rattle.olap_base.specs.Graph.{Graph}
+use Rattle.olap_grammar.specs.Clip.{leaves}
+use Rattle.olap_grammar.specs.Grammar.{Atoms}
+use Rattle.olap_grammar.specs.Parts.{part_of}
+use Rattle.olap_grammar.specs.Words.{atoms_of}
+use Rattle.olap_grammar.specs.declared.parts.Part.{Part}
+use Rattle.olap_grammar.specs.declared.reading.State.{State}
+use Rattle.olap_grammar.specs.declared.reading.State.TheVariants as state
+use Rattle.olap_grammar.specs.declared.stacking.Frame.{Frame}
+use Rattle.olap_grammar.specs.declared.stacking.Frame.TheVariants as frame
+use Rattle.olap_grammar.specs.declared.refusals.FormRefusal.{FormRefusal}
+use Rattle.olap_grammar.specs.declared.refusals.FormRefusal.TheVariants as refusal
+
+-- a depth and a formula
+abbrev pub Built : Type 0
+Built = ℕ × Formula
+
+-- the words of formulas, where the names of a graph are known
+abbrev pub leaves_of : Graph → Atoms Built
+leaves_of g = leaves (atoms_of g)
+
+abbrev pub frame_of : Frame → machine.Frame Built
+frame_of frame.Negation = machine.Frame.Negation
+frame_of (frame.Left j p) = machine.Frame.Left j (part_of p)
+frame_of frame.Bracket = machine.Frame.Bracket
+frame_of frame.Listing = machine.Frame.Listing
+frame_of (frame.Part p) = machine.Frame.Part (part_of p)
+
+-- a formula is on top of what is open, or the form is bad
+abbrev pub GoesBack : Result Part FormRefusal → List (machine.Frame Built) → machine.State Built → Type 0
+GoesBack (Ok p) s next = next ≡ machine.State.Has (part_of p) s
+GoesBack (Err refusal.BadForm) s next = next ≡ machine.State.Bad
+GoesBack (Err refusal.TooDeep) s next = ⊥
+GoesBack (Err refusal.Memory) s next = Unit {0}
+
+-- where a state of the reader and what is open stand
+abbrev pub state_of : State → List (machine.Frame Built) → machine.State Built
+state_of state.Wants s = machine.State.Wants s
+state_of state.WantsPart s = machine.State.WantsPart s
+state_of (state.Named w) s = machine.State.Named w.now s
+state_of (state.Compared w) s = machine.State.Compared w.now s
+state_of (state.Has p) s = machine.State.Has (part_of p) s
+
+-- the reader goes on to the state, or the form is bad
+abbrev pub GoesTo : Result State FormRefusal → List (machine.Frame Built) → machine.State Built → Type 0
+GoesTo (Ok state) s next = next ≡ state_of state s
+GoesTo (Err refusal.BadForm) s next = next ≡ machine.State.Bad
+GoesTo (Err refusal.TooDeep) s next = ⊥
+GoesTo (Err refusal.Memory) s next = Unit {0}
+
+-- the formula is what was read, or the form is bad
+abbrev pub Ends : Result Part FormRefusal → Option Built → Type 0
+Ends (Ok p) read = read ≡ Some (part_of p)
+Ends (Err refusal.BadForm) read = read ≡ None
+Ends (Err refusal.TooDeep) read = ⊥
+Ends (Err refusal.Memory) read = Unit {0}

@@ -1,0 +1,62 @@
+-- What a word is in a formula, where the names of a graph are known.
+--     id_of          the category of a name, or a number that no category has
+--     pieces_of      the parts of a word between marks
+--     plain_of       a word by itself
+--     equality_of    a word with a string
+--     atoms_of       both
+use Rattle.std.specs.Prelude.{◌==◌, ℕ, Bool, not, List, [], Option, Some, None, codes, length, map, drop, if◌then◌else◌, nat_lt, unwrap_or, slice_index_or}
+use Rattle.std.specs.List.{list_all, slice_split}
+use Rattle.std.specs.Str.{bytes_eq}
+use Rattle.olap_base.specs.Deciding.{is_category_name}
+use Rattle.olap_base.specs.Graph.{Graph}
+use Rattle.olap_graph.specs.Lookups.{category_named}
+use Rattle.olap_ast.specs.Formula as Meaning
+use Rattle.olap_ast.specs.Formula.{Formula}
+use Rattle.olap_grammar.specs.Grammar.{Atoms}
+
+-- the category of a name, or a number that no category has
+unfoldable pub id_of : Graph → List ℕ → ℕ
+id_of g name = unwrap_or (category_named g name) 65535
+
+-- the parts of a word between marks
+unfoldable pub pieces_of : ℕ → List ℕ → List (List ℕ)
+pieces_of mark w = slice_split (λ b. b == mark) w
+
+-- parts that were joined by `_`
+abbrev pub path_of : Graph → List (List ℕ) → Option Formula
+path_of g parts =
+    if not (list_all is_category_name parts) then None
+    else Some (Meaning.Formula.Path (map (id_of g) (drop 1 parts)))
+
+-- parts that were joined by `.`
+abbrev pub reach_of : Graph → List (List ℕ) → Option Formula
+reach_of g parts =
+    let second = id_of g (slice_index_or parts 1 []) in
+    let third = id_of g (slice_index_or parts 2 []) in
+    if not (list_all is_category_name parts) then None
+    else if length parts == 2 then Some (Meaning.Formula.Reach second)
+    else if length parts == 3 then Some (Meaning.Formula.Via second third)
+    else None
+
+-- parts that were joined by `.`, and a string
+abbrev pub equal_of : Graph → List ℕ → List (List ℕ) → Option Formula
+equal_of g k parts =
+    if not (list_all is_category_name parts) then None
+    else if length parts == 1 then Some (Meaning.Formula.Equals (id_of g (slice_index_or parts 0 [])) k)
+    else if length parts == 2 then Some (Meaning.Formula.Equals (id_of g (slice_index_or parts 1 [])) k)
+    else None
+
+-- a word by itself
+unfoldable pub plain_of : Graph → List ℕ → Option Formula
+plain_of g w =
+    if bytes_eq w (codes "true") then Some Meaning.Formula.Truth
+    else if bytes_eq w (codes "false") then Some Meaning.Formula.Falsity
+    else if nat_lt 1 (length (pieces_of 95 w)) then path_of g (pieces_of 95 w)
+    else reach_of g (pieces_of 46 w)
+
+-- a word with a string
+unfoldable pub equality_of : Graph → List ℕ → List ℕ → Option Formula
+equality_of g w k = equal_of g k (pieces_of 46 w)
+
+abbrev pub atoms_of : Graph → Atoms Formula
+atoms_of g = record { plain = plain_of g; equal = equality_of g }

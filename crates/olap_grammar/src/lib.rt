@@ -1,0 +1,28 @@
+//! Tokens of a schema's lines, and the formulas that they are.
+//!
+//! `line_tokens` cuts a line, and `formula` reads tokens as a formula. What they find is the grammar's: a relation by
+//! cases between bytes and tokens (`specs/Cutting`), and one between tokens and a formula's tree (`specs/Grammar`);
+//! `laws` say so. Neither call itself: what is open stands on a list in memory, however deep a text is.
+#![tactic(auto)]
+
+mod closing;
+mod cutting;
+mod knowing;
+mod laws;
+mod parts;
+mod reading;
+mod refusals;
+mod stacking;
+mod tokens;
+mod words;
+
+pub use cutting::line_tokens;
+pub use knowing::Known;
+pub use laws::{
+    a_line_is_cut_in_one_way, formulas_are_found_as_formed, tokens_are_found_as_cut,
+    tokens_are_one_formula,
+};
+pub use reading::formula;
+pub use refusals::FormRefusal;
+pub use tokens::{Joint, Token};
+pub use words::pieces;

@@ -1,0 +1,124 @@
+// Formulas with their depth, which are built only as far as they are no deeper than 64.
+ghost use Rattle.olap_ast.specs.Trees.{formula_of, terms_of};
+ghost use Rattle.olap_grammar.specs.Clip.{clipped, kept as kept_of, kept_terms as kept_terms_of};
+ghost use Rattle.olap_grammar.specs.Grammar.{join as join_of};
+ghost use Rattle.olap_grammar.specs.Parts.{part_of, parts_of};
+ghost use Rattle.std.specs.Prelude.{◌≡◌, IfOk};
+
+use crate::Joint;
+use olap_ast::{Formula, Terms};
+use olap_base::Memory;
+use std::alloc::Global;
+
+const DEEPEST: u16 = 64;
+
+/// A formula and its depth; where the depth is over 64 it is 65, and the formula says nothing.
+#[derive(Drop)]
+pub(crate) struct Part {
+    pub(crate) formula: Formula,
+    pub(crate) depth: u8,
+}
+
+/// The parts of a list and the greatest depth; where that is over 64 it is 65, and the parts say nothing.
+#[derive(Drop)]
+pub(crate) struct Parts {
+    terms: Terms,
+    depth: u8,
+}
+
+fn kept(depth: u16, formula: Formula) -> Part
+    ensures { part_of result ≡ kept_of depth (formula_of formula) }
+{
+    if depth <= DEEPEST {
+        Part {
+            formula,
+            depth: depth as u8,
+        }
+    } else {
+        Part {
+            formula: Formula::True,
+            depth: 65,
+        }
+    }
+}
+
+fn kept_terms(depth: u16, terms: Terms) -> Parts
+    ensures { parts_of result ≡ kept_terms_of depth (terms_of terms) }
+{
+    if depth <= DEEPEST {
+        Parts {
+            terms,
+            depth: depth as u8,
+        }
+    } else {
+        Parts {
+            terms: Terms::End,
+            depth: 65,
+        }
+    }
+}
+
+/// A formula that has no parts.
+pub(crate) fn leaf(formula: Formula) -> Part
+    ensures { part_of result ≡ (1, formula_of formula) }
+{
+    Part { formula, depth: 1 }
+}
+
+pub(crate) fn negated(alloc: Global, part: Part) -> Result<Part, Memory>
+    ensures { IfOk result (λ p. part_of p ≡ clipped.negate (part_of part)) }
+{
+    let depth = 1 + part.depth as u16;
+    Ok(kept(depth, Formula::Not(Box::new(alloc, part.formula)?)))
+}
+
+fn join(alloc: Global, joint: Joint, left: Formula, right: Formula) -> Result<Formula, Memory>
+    ensures { IfOk result (λ f. formula_of f ≡ join_of joint (formula_of left) (formula_of right)) }
+{
+    let f = Box::new(alloc, left)?;
+    let g = Box::new(alloc, right)?;
+    match joint {
+        Joint::Iff => Ok(Formula::Iff(f, g)),
+        Joint::Implies => Ok(Formula::Implies(f, g)),
+        Joint::Xor => Ok(Formula::Xor(f, g)),
+        Joint::Or => Ok(Formula::Or(f, g)),
+        Joint::And => Ok(Formula::And(f, g)),
+    }
+}
+
+pub(crate) fn joined(alloc: Global, joint: Joint, left: Part, right: Part) -> Result<Part, Memory>
+    ensures { IfOk result (λ p. part_of p ≡ clipped.join joint (part_of left) (part_of right)) }
+{
+    let depth = 1 + left.depth.max(right.depth) as u16;
+    Ok(kept(depth, join(alloc, joint, left.formula, right.formula)?))
+}
+
+/// The end of a list.
+pub(crate) fn no_parts() -> Parts
+    ensures { parts_of result ≡ clipped.end }
+{
+    Parts {
+        terms: Terms::End,
+        depth: 0,
+    }
+}
+
+/// A part in front of a list.
+pub(crate) fn more(alloc: Global, part: Part, parts: Parts) -> Result<Parts, Memory>
+    ensures { IfOk result (λ p. parts_of p ≡ clipped.more (part_of part) (parts_of parts)) }
+{
+    let depth = part.depth.max(parts.depth) as u16;
+    let terms = Terms::More(
+        Box::new(alloc, part.formula)?,
+        Box::new(alloc, parts.terms)?,
+    );
+    Ok(kept_terms(depth, terms))
+}
+
+/// Exactly one part of the list.
+pub(crate) fn one(parts: Parts) -> Part
+    ensures { part_of result ≡ clipped.one (parts_of parts) }
+{
+    let depth = 1 + parts.depth as u16;
+    kept(depth, Formula::One(parts.terms))
+}

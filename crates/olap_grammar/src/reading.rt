@@ -1,0 +1,283 @@
+// Reading a formula from left to right, with a stack of what is still open.
+ghost use Rattle.olap_grammar.specs.Answering.{Answers, formula_answer};
+ghost use Rattle.olap_grammar.specs.Clip.{clipped};
+ghost use Rattle.olap_grammar.specs.Frames.{frames};
+ghost use Rattle.olap_grammar.specs.Known.{graph_seen};
+ghost use Rattle.olap_grammar.specs.Machine as machine;
+ghost use Rattle.olap_grammar.specs.Machine.{the_formula};
+ghost use Rattle.olap_grammar.specs.Parts.{part_of};
+ghost use Rattle.olap_grammar.specs.Reader.{Ends, GoesTo, leaves_of, state_of};
+ghost use Rattle.olap_grammar.specs.Words.{atoms_of};
+
+use crate::closing::{close, left_level, settle};
+use crate::parts::{Part, leaf, no_parts, one};
+use crate::stacking::{Frame, Stack};
+use crate::words::{equality, is, plain_word};
+use crate::{FormRefusal, Known, Token};
+use olap_ast::Formula;
+use olap_base::Text;
+use std::alloc::Global;
+
+/// What was read last: nothing of the formula that is to come, the start of a list, a word, a word with a `=`, or a
+/// formula.
+#[derive(Drop)]
+enum State<'a> {
+    Wants,
+    WantsPart,
+    Named(&'a Text),
+    Compared(&'a Text),
+    Has(Part),
+}
+
+/// The part before a comma stays open.
+fn part_off<'a>(part: Part, stack: &mut Stack) -> Result<State<'a>, FormRefusal>
+    ensures { GoesTo result (frames stack.new) (machine.parted (part_of part) (frames stack.old)) }
+{
+    match stack.pop() {
+        Some(Frame::Listing) => {
+            stack.push(Frame::Listing)?;
+            stack.push(Frame::Part(part))?;
+            Ok(State::Wants)
+        }
+        Some(Frame::Part(before)) => {
+            stack.push(Frame::Part(before))?;
+            stack.push(Frame::Part(part))?;
+            Ok(State::Wants)
+        }
+        Some(Frame::Negation) => Err(FormRefusal::BadForm),
+        Some(Frame::Left(_, _)) => Err(FormRefusal::BadForm),
+        Some(Frame::Bracket) => Err(FormRefusal::BadForm),
+        None => Err(FormRefusal::BadForm),
+    }
+}
+
+/// After a formula.
+fn after<'a>(
+    alloc: Global,
+    part: Part,
+    stack: &mut Stack,
+    token: &Token,
+) -> Result<State<'a>, FormRefusal>
+    ensures { GoesTo result (frames stack.new) (machine.after clipped (part_of part) (frames stack.old) token.now) }
+{
+    match token {
+        Token::Joint(joint) => {
+            let left = settle(alloc, left_level(*joint), part, stack)?;
+            stack.push(Frame::Left(*joint, left))?;
+            Ok(State::Wants)
+        }
+        Token::Close => {
+            let last = settle(alloc, 1, part, stack)?;
+            let whole = close(alloc, last, stack)?;
+            Ok(State::Has(whole))
+        }
+        Token::Comma => {
+            let last = settle(alloc, 1, part, stack)?;
+            part_off(last, stack)
+        }
+        Token::Word(_) => Err(FormRefusal::BadForm),
+        Token::Quoted(_) => Err(FormRefusal::BadForm),
+        Token::Open => Err(FormRefusal::BadForm),
+        Token::Colon => Err(FormRefusal::BadForm),
+        Token::Equal => Err(FormRefusal::BadForm),
+        Token::Not => Err(FormRefusal::BadForm),
+    }
+}
+
+/// Where a formula is to come.
+fn begin<'a>(stack: &mut Stack, token: &'a Token) -> Result<State<'a>, FormRefusal>
+    ensures { GoesTo result (frames stack.new) (machine.begun (frames stack.old) token.now) }
+{
+    match token {
+        Token::Word(word) => Ok(State::Named(word)),
+        Token::Open => {
+            stack.push(Frame::Bracket)?;
+            Ok(State::Wants)
+        }
+        Token::Not => {
+            stack.push(Frame::Negation)?;
+            Ok(State::Wants)
+        }
+        Token::Quoted(_) => Err(FormRefusal::BadForm),
+        Token::Close => Err(FormRefusal::BadForm),
+        Token::Comma => Err(FormRefusal::BadForm),
+        Token::Colon => Err(FormRefusal::BadForm),
+        Token::Equal => Err(FormRefusal::BadForm),
+        Token::Joint(_) => Err(FormRefusal::BadForm),
+    }
+}
+
+/// Where the first part of a list, or its end, is to come.
+fn begin_part<'a>(stack: &mut Stack, token: &'a Token) -> Result<State<'a>, FormRefusal>
+    ensures { GoesTo result (frames stack.new) (machine.begun_part clipped (frames stack.old) token.now) }
+{
+    match token {
+        Token::Close => Ok(State::Has(one(no_parts()))),
+        Token::Word(_) => {
+            stack.push(Frame::Listing)?;
+            begin(stack, token)
+        }
+        Token::Open => {
+            stack.push(Frame::Listing)?;
+            begin(stack, token)
+        }
+        Token::Not => {
+            stack.push(Frame::Listing)?;
+            begin(stack, token)
+        }
+        Token::Quoted(_) => Err(FormRefusal::BadForm),
+        Token::Comma => Err(FormRefusal::BadForm),
+        Token::Colon => Err(FormRefusal::BadForm),
+        Token::Equal => Err(FormRefusal::BadForm),
+        Token::Joint(_) => Err(FormRefusal::BadForm),
+    }
+}
+
+/// After a word that stands by itself.
+fn after_plain<'a>(
+    alloc: Global,
+    known: &Known,
+    word: &Text,
+    stack: &mut Stack,
+    token: &Token,
+) -> Result<State<'a>, FormRefusal>
+    ensures { GoesTo result (frames stack.new) (machine.after_atom clipped ((leaves_of (graph_seen known.now)).plain word.now) (frames stack.old) token.now) }
+{
+    match plain_word(alloc, known, word)? {
+        Some(f) => after(alloc, leaf(f), stack, token),
+        None => Err(FormRefusal::BadForm),
+    }
+}
+
+/// After a word.
+fn after_word<'a>(
+    alloc: Global,
+    known: &Known,
+    word: &'a Text,
+    stack: &mut Stack,
+    token: &Token,
+) -> Result<State<'a>, FormRefusal>
+    ensures { GoesTo result (frames stack.new) (machine.after_word clipped (leaves_of (graph_seen known.now)) word.now (frames stack.old) token.now) }
+{
+    match token {
+        Token::Open => {
+            if is(word.bytes(), b"one") {
+                Ok(State::WantsPart)
+            } else {
+                Err(FormRefusal::BadForm)
+            }
+        }
+        Token::Equal => Ok(State::Compared(word)),
+        Token::Joint(_) => after_plain(alloc, known, word, stack, token),
+        Token::Close => after_plain(alloc, known, word, stack, token),
+        Token::Comma => after_plain(alloc, known, word, stack, token),
+        Token::Word(_) => Err(FormRefusal::BadForm),
+        Token::Quoted(_) => Err(FormRefusal::BadForm),
+        Token::Colon => Err(FormRefusal::BadForm),
+        Token::Not => Err(FormRefusal::BadForm),
+    }
+}
+
+/// After a word with a `=`.
+fn after_equal<'a>(
+    alloc: Global,
+    known: &Known,
+    word: &Text,
+    stack: &mut Stack,
+    token: &Token,
+) -> Result<State<'a>, FormRefusal>
+    ensures { GoesTo result (frames stack.new) (machine.after_equal (leaves_of (graph_seen known.now)) word.now (frames stack.old) token.now) }
+{
+    match token {
+        Token::Quoted(text) => match equality(alloc, known, word, text)? {
+            Some(f) => Ok(State::Has(leaf(f))),
+            None => Err(FormRefusal::BadForm),
+        },
+        Token::Word(_) => Err(FormRefusal::BadForm),
+        Token::Open => Err(FormRefusal::BadForm),
+        Token::Close => Err(FormRefusal::BadForm),
+        Token::Comma => Err(FormRefusal::BadForm),
+        Token::Colon => Err(FormRefusal::BadForm),
+        Token::Equal => Err(FormRefusal::BadForm),
+        Token::Not => Err(FormRefusal::BadForm),
+        Token::Joint(_) => Err(FormRefusal::BadForm),
+    }
+}
+
+fn step<'a>(
+    alloc: Global,
+    known: &Known,
+    state: State<'a>,
+    stack: &mut Stack,
+    token: &'a Token,
+) -> Result<State<'a>, FormRefusal>
+    ensures { GoesTo result (frames stack.new) (machine.step clipped (leaves_of (graph_seen known.now)) (state_of state.entry (frames stack.old)) token.now) }
+{
+    match state {
+        State::Wants => begin(stack, token),
+        State::WantsPart => begin_part(stack, token),
+        State::Named(word) => after_word(alloc, known, word, stack, token),
+        State::Compared(word) => after_equal(alloc, known, word, stack, token),
+        State::Has(part) => after(alloc, part, stack, token),
+    }
+}
+
+/// A formula that nothing is open in front of.
+fn alone(alloc: Global, part: Part, stack: &mut Stack) -> Result<Part, FormRefusal>
+    ensures { Ends result (machine.alone (machine.settled clipped 1 (part_of part) (frames stack.old))) }
+{
+    let whole = settle(alloc, 1, part, stack)?;
+    match stack.pop() {
+        None => Ok(whole),
+        Some(_) => Err(FormRefusal::BadForm),
+    }
+}
+
+fn end(alloc: Global, known: &Known, state: State, stack: &mut Stack) -> Result<Part, FormRefusal>
+    ensures { Ends result (machine.ended clipped (leaves_of (graph_seen known.now)) (state_of state.entry (frames stack.old))) }
+{
+    match state {
+        State::Has(part) => alone(alloc, part, stack),
+        State::Named(word) => match plain_word(alloc, known, word)? {
+            Some(f) => alone(alloc, leaf(f), stack),
+            None => Err(FormRefusal::BadForm),
+        },
+        State::Wants => Err(FormRefusal::BadForm),
+        State::WantsPart => Err(FormRefusal::BadForm),
+        State::Compared(_) => Err(FormRefusal::BadForm),
+    }
+}
+
+fn read_tokens(alloc: Global, known: &Known, tokens: &[Token]) -> Result<Part, FormRefusal>
+    ensures { Ends result (machine.formula_read clipped (leaves_of (graph_seen known.now)) tokens.now) }
+{
+    let mut stack = Stack::new(alloc);
+    let mut state = State::Wants;
+    let mut left = tokens;
+    'tokens: while let Some((token, others)) = left.split_first() {
+        match step(alloc, known, state, &mut stack, token) {
+            Ok(next) => state = next,
+            Err(e) => return Err(e),
+        }
+        left = others;
+    }
+    end(alloc, known, state, &mut stack)
+}
+
+/// The formula that the tokens are.
+///
+/// `BadForm` where they are none, and else `TooDeep` where its depth is over 64. One pass, and no tree that is
+/// deeper than 65 comes about, whatever the tokens are. `Memory` where there is no room.
+pub fn formula(alloc: Global, known: &Known, tokens: &[Token]) -> Result<Formula, FormRefusal>
+    ensures { Answers result (formula_answer (the_formula (atoms_of (graph_seen known.now)) tokens.now)) }
+{
+    match read_tokens(alloc, known, tokens) {
+        Ok(part) => {
+            if part.depth > 64 {
+                return Err(FormRefusal::TooDeep);
+            }
+            Ok(part.formula)
+        }
+        Err(e) => Err(e),
+    }
+}

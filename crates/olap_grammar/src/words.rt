@@ -1,0 +1,165 @@
+// What a word is in a formula.
+ghost use Rattle.olap_ast.specs.Trees.{formula_of};
+ghost use Rattle.olap_base.specs.Deciding.{is_category_name as is_name_of};
+ghost use Rattle.olap_grammar.specs.Known.{graph_seen};
+ghost use Rattle.olap_grammar.specs.Words.{equal_of, equality_of, id_of, path_of, pieces_of, plain_of, reach_of};
+ghost use Rattle.std.specs.List.{list_all};
+ghost use Rattle.std.specs.Option.{option_map};
+ghost use Rattle.std.specs.Prelude.{◌≡◌, ◌<◌, IfOk, length, map, vec_len};
+ghost use Rattle.std.specs.Str.{bytes_eq};
+
+use crate::Known;
+use olap_ast::Formula;
+use olap_base::{CatId, List, Memory, Text};
+use olap_graph::category_name;
+use std::alloc::{AllocError, Global};
+
+pub(crate) fn is(word: &[u8], text: &[u8]) -> bool
+    ensures { result ≡ bytes_eq word.now text.now }
+{
+    word == text
+}
+
+/// Whether the bytes are a category name.
+fn is_name(bytes: &[u8]) -> bool
+    ensures { result ≡ is_name_of bytes.now }
+{
+    category_name(bytes)
+}
+
+#[tactic(auto, unfolding(crate::specs::Words::id_of))]
+fn id(known: &Known, name: &[u8]) -> CatId
+    ensures { result.0 ≡ id_of (graph_seen known.now) name.now }
+{
+    match known.category(name) {
+        Some(c) => c,
+        None => CatId(65535),
+    }
+}
+
+fn slices(alloc: Global, mark: u8, word: &[u8]) -> Result<Vec<&[u8]>, AllocError>
+    ensures { IfOk result (λ v. map (λ p. p.now) v.items ≡ pieces_of mark word.now) }
+{
+    word.split(|b| *b == mark).collect(alloc)
+}
+
+fn copies(alloc: Global, parts: &[&[u8]]) -> Result<Vec<Text>, Memory>
+    ensures { IfOk result (λ v. v.items ≡ map (λ p. p.now) parts.now) }
+{
+    let mut texts = Vec::new(alloc);
+    for part in parts {
+        texts.push(Text::from_bytes(alloc, part)?)?;
+    }
+    Ok(texts)
+}
+
+#[tactic(auto, using(crate::proofs::WordLemmas::some_pieces))]
+/// The parts of a word between marks; there is at least one. `Memory` where there is no room.
+pub fn pieces(alloc: Global, mark: u8, word: &[u8]) -> Result<Vec<Text>, Memory>
+    ensures found { IfOk result (λ v. v.items ≡ pieces_of mark word.now) }
+    ensures some { IfOk result (λ v. 0 < vec_len v) }
+{
+    let parts = slices(alloc, mark, word)?;
+    let texts = copies(alloc, &parts)?;
+    Ok(texts)
+}
+
+fn are_names(parts: &[Text]) -> bool
+    ensures { result ≡ list_all is_name_of parts.now }
+{
+    parts.iter().all(|p| is_name(p.bytes()))
+}
+
+fn ids(alloc: Global, known: &Known, parts: &[Text]) -> Result<Vec<CatId>, Memory>
+    ensures { IfOk result (λ v. map (λ c. c.0) v.items ≡ map (id_of (graph_seen known.now)) parts.now) }
+{
+    let mut found = Vec::new(alloc);
+    for part in parts {
+        found.push(id(known, part.bytes()))?;
+    }
+    Ok(found)
+}
+
+fn path(alloc: Global, known: &Known, parts: &[Text]) -> Result<Option<Formula>, Memory>
+    requires { 0 < length parts.now }
+    ensures { IfOk result (λ f. option_map formula_of f ≡ path_of (graph_seen known.now) parts.now) }
+{
+    if !are_names(parts) {
+        return Ok(None);
+    }
+    let steps = ids(alloc, known, &parts[1..])?;
+    Ok(Some(Formula::Path(List::from_vec(steps))))
+}
+
+fn reach(known: &Known, parts: &[Text]) -> Option<Formula>
+    ensures { option_map formula_of result ≡ reach_of (graph_seen known.now) parts.now }
+{
+    if !are_names(parts) {
+        return None;
+    }
+    if parts.len() == 2 {
+        return Some(Formula::Reach(id(known, parts[1].bytes())));
+    }
+    if parts.len() == 3 {
+        return Some(Formula::Via(id(known, parts[1].bytes()), id(known, parts[2].bytes())));
+    }
+    None
+}
+
+fn equal(
+    alloc: Global,
+    known: &Known,
+    text: &Text,
+    parts: &[Text],
+) -> Result<Option<Formula>, Memory>
+    ensures { IfOk result (λ f. option_map formula_of f ≡ equal_of (graph_seen known.now) text.now parts.now) }
+{
+    if !are_names(parts) {
+        return Ok(None);
+    }
+    let text = Text::from_bytes(alloc, text.bytes())?;
+    if parts.len() == 1 {
+        return Ok(Some(Formula::Equals(id(known, parts[0].bytes()), text)));
+    }
+    if parts.len() == 2 {
+        return Ok(Some(Formula::Equals(id(known, parts[1].bytes()), text)));
+    }
+    Ok(None)
+}
+
+/// What a word is by itself.
+#[tactic(auto, unfolding(crate::specs::Words::plain_of))]
+pub(crate) fn plain_word(
+    alloc: Global,
+    known: &Known,
+    word: &Text,
+) -> Result<Option<Formula>, Memory>
+    ensures { IfOk result (λ f. option_map formula_of f ≡ plain_of (graph_seen known.now) word.now) }
+{
+    if is(word.bytes(), b"true") {
+        return Ok(Some(Formula::True));
+    }
+    if is(word.bytes(), b"false") {
+        return Ok(Some(Formula::False));
+    }
+    let steps = pieces(alloc, b'_', word.bytes())?;
+    if steps.len() > 1 {
+        return path(alloc, known, &steps);
+    }
+    let parts = pieces(alloc, b'.', word.bytes())?;
+    Ok(reach(known, &parts))
+}
+
+/// What a word is with a string.
+#[tactic(auto, unfolding(crate::specs::Words::equality_of))]
+pub(crate) fn equality(
+    alloc: Global,
+    known: &Known,
+    word: &Text,
+    text: &Text,
+) -> Result<Option<Formula>, Memory>
+    ensures { IfOk result (λ f. option_map formula_of f ≡ equality_of (graph_seen known.now) word.now text.now) }
+{
+    let parts = pieces(alloc, b'.', word.bytes())?;
+    equal(alloc, known, text, &parts)
+}

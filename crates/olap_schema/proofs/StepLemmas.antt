@@ -1,0 +1,211 @@
+-- What a line that has no fault does to what the lines above it say.
+--     Step        the ways in which a line goes on
+--     stepped     a line without a fault goes on in one of them
+--     all_steps   what each line keeps, all lines keep
+use Rattle.std.proofs.Common.{◌≡◌, ◌+◌, ◌≤◌, ◌<◌, ℕ, Bool, true, false, cond, List, [], ◌∷◌, ◌++◌, Option, Some, None, drop, length, fold, refl, sym, arith, subst}
+use Rattle.std.specs.Prelude.{◌==◌, ◌||◌, ◌&&◌, Result, Ok, Err, codes, nat_lt, nat_le}
+use Rattle.std.specs.List.{list_any}
+use Rattle.std.specs.Str.{bytes_eq}
+use Rattle.std.proofs.lemmas.Bool.{leb-false}
+use Rattle.std.proofs.lemmas.List.{length_push}
+use Rattle.olap_ast.specs.Formula.{Formula, equalities}
+use Rattle.olap_ast.specs.Valid.{with_pair}
+use Rattle.olap_base.specs.Deciding.{is_category_name}
+use Rattle.olap_graph.specs.Building.{category_refusal, edge_refusal, with_category, with_edge}
+use Rattle.olap_graph.specs.Lookups.{category_named}
+use Rattle.olap_graph.specs.declared.refusals.CategoryRefusal.{CategoryRefusal}
+use Rattle.olap_graph.specs.declared.refusals.EdgeRefusal.{EdgeRefusal}
+use Rattle.olap_grammar.specs.CuttingMachine.{tokens_of}
+use Rattle.olap_grammar.specs.declared.tokens.Token.{Token}
+use Rattle.olap_schema.specs.Atoms.{atom_fault}
+use Rattle.olap_schema.specs.Judging.{Above, atoms_read, category_added, category_read, constraint_read, edge_added, edge_read, ends_read, first_read, form_read, formed_read, line_read, lines_on, root_read, statement_read, tokens_read}
+use Rattle.olap_schema.specs.Lines.{chomped, is_quiet}
+use Rattle.olap_schema.specs.Statements.{Statement, Statement.Version, Statement.Category, Statement.Edge, Statement.Constraint, Statement.Other, is_category, is_constraint, is_edge, is_version, statement_of, word_at}
+use Rattle.olap_schema.specs.Tokens.{is_long, token_nodes}
+use Rattle.olap_schema.specs.declared.kinds.SchemaKind.{SchemaKind}
+use Rattle.olap_schema.specs.declared.kinds.SchemaKind.TheVariants as kind
+
+-- a category of this name is added
+pub record AddsCategory (a b : Above) (n : ℕ) (name : List ℕ) : Type 0 where
+  pub short : nat_lt 255 (length name) ≡ false
+  pub free : category_refusal a.graph name ≡ None
+  pub new : b ≡ record a { graph = with_category a.graph name; category_lines = a.category_lines ++ n ∷ [] }
+
+-- an edge between these categories is added
+pub record AddsEdge (a b : Above) (child parent : List ℕ) (c d : ℕ) : Type 0 where
+  pub child_is : category_named a.graph child ≡ Some c
+  pub parent_is : category_named a.graph parent ≡ Some d
+  pub free : edge_refusal a.graph c d ≡ None
+  pub new : b ≡ record a { graph = with_edge a.graph c d }
+
+-- a constraint of these tokens at this root is added
+pub record AddsConstraint (a b : Above) (name : List ℕ) (ts : List Token) (f : Formula) (root : ℕ) : Type 0 where
+  pub formed : form_read a.graph a.nodes ts ≡ Ok f
+  pub short : list_any is_long ts ≡ false
+  pub root_is : category_named a.graph name ≡ Some root
+  pub below_all : root == 0 ≡ false
+  pub few : nat_le 64 (length a.constraints) ≡ false
+  pub faultless : atom_fault a.graph name ts ≡ None
+  pub few_pairs : nat_lt 256 (length (fold with_pair a.pairs (equalities f))) ≡ false
+  pub new : b ≡ record a {
+    constraints = a.constraints ++ record { root = root; formula = f } ∷ [];
+    nodes = a.nodes + token_nodes ts;
+    pairs = fold with_pair a.pairs (equalities f);
+  }
+
+-- the ways in which a line goes on
+pub data Step (a b : Above) : Type 0 where
+  quiet : b ≡ a → Step a b
+  version : b ≡ record a { versioned = true } → Step a b
+  category : (n : ℕ) (name : List ℕ) → is_category_name name ≡ true → AddsCategory a b n name → Step a b
+  edge : (child parent : List ℕ) (c d : ℕ) → AddsEdge a b child parent c d → Step a b
+  constraint : (name : List ℕ) (ts : List Token) (f : Formula) (root : ℕ) → AddsConstraint a b name ts f root → Step a b
+
+-- a test behind which there is a fault was not passed
+passed_on : {A K : Type 0} (c : Bool) (k : K) (r : Result A K) (b : A) → cond c (Err k) r ≡ Ok b → (c ≡ false) × (r ≡ Ok b)
+passed_on true k r b h = absurd (cc)
+passed_on false k r b h = (refl, h)
+
+ok_is : {A K : Type 0} (a b : A) → (let r : Result A K = Ok a in r) ≡ Ok b → b ≡ a
+ok_is a b h = cc
+
+neither : (b c : Bool) → b || c ≡ false → c ≡ false
+neither true c h = absurd (cc)
+neither false c h = h
+
+last_true : (b c d : Bool) → b && c && d ≡ true → d ≡ true
+last_true false c d h = absurd (cc)
+last_true true false d h = absurd (cc)
+last_true true true d h = h
+
+category_step : (a b : Above) (n : ℕ) (name : List ℕ) → category_read a n name ≡ Ok b → AddsCategory a b n name
+category_step a b n name h = go (category_refusal a.graph name) refl t.1
+  where
+    t : (nat_lt 255 (length name) ≡ false) × (category_added a n name (category_refusal a.graph name) ≡ Ok b)
+    t = passed_on _ _ _ _ h
+
+    go : (o : Option CategoryRefusal) → category_refusal a.graph name ≡ o → category_added a n name o ≡ Ok b → AddsCategory a b n name
+    go None e k = record { short = t.0; free = e; new = ok_is _ _ k }
+    go (Some r) e k = absurd (cc)
+
+edge_step : (a b : Above) (child parent : List ℕ) → edge_read a child parent ≡ Ok b → (c : ℕ) × (d : ℕ) × AddsEdge a b child parent c d
+edge_step a b child parent h = ends (category_named a.graph child) (category_named a.graph parent) refl refl (passed_on _ _ _ _ h).1
+  where
+    go : (c d : ℕ) → category_named a.graph child ≡ Some c → category_named a.graph parent ≡ Some d → (o : Option EdgeRefusal)
+        → edge_refusal a.graph c d ≡ o → edge_added a c d o ≡ Ok b → AddsEdge a b child parent c d
+    go c d p q None e k = record { child_is = p; parent_is = q; free = e; new = ok_is _ _ k }
+    go c d p q (Some r) e k = absurd (cc)
+
+    ends : (o r : Option ℕ) → category_named a.graph child ≡ o → category_named a.graph parent ≡ r → ends_read a o r ≡ Ok b
+        → (c : ℕ) × (d : ℕ) × AddsEdge a b child parent c d
+    ends None r p q k = absurd (cc)
+    ends (Some c) None p q k = absurd (cc)
+    ends (Some c) (Some d) p q k = (c, d, go c d p q (edge_refusal a.graph c d) refl k)
+
+constraint_step : (a b : Above) (name : List ℕ) (ts : List Token) → constraint_read a name ts ≡ Ok b
+    → (f : Formula) × (root : ℕ) × AddsConstraint a b name ts f root
+constraint_step a b name ts h = formed (form_read a.graph a.nodes ts) refl h
+  where
+    faults : (f : Formula) (root : ℕ) → form_read a.graph a.nodes ts ≡ Ok f → list_any is_long ts ≡ false → category_named a.graph name ≡ Some root
+        → root == 0 ≡ false → nat_le 64 (length a.constraints) ≡ false → (o : Option SchemaKind) → atom_fault a.graph name ts ≡ o
+        → atoms_read a root ts f o ≡ Ok b → AddsConstraint a b name ts f root
+    faults f root e l r z n (Some k) q g = absurd (cc)
+    faults f root e l r z n None q g =
+        let t = passed_on _ _ _ _ g in
+        record { formed = e; short = l; root_is = r; below_all = z; few = n; faultless = q; few_pairs = t.0; new = ok_is _ _ t.1 }
+
+    rooted : (f : Formula) → form_read a.graph a.nodes ts ≡ Ok f → list_any is_long ts ≡ false → (o : Option ℕ) → category_named a.graph name ≡ o
+        → root_read a name ts f o ≡ Ok b → (root : ℕ) × AddsConstraint a b name ts f root
+    rooted f e l None r g = absurd (cc)
+    rooted f e l (Some root) r g =
+        let t = passed_on _ _ _ _ g in let u = passed_on _ _ _ _ t.1 in
+        (root, faults f root e l r t.0 u.0 (atom_fault a.graph name ts) refl u.1)
+
+    formed : (r : Result Formula SchemaKind) → form_read a.graph a.nodes ts ≡ r → formed_read a name ts r ≡ Ok b
+        → (f : Formula) × (root : ℕ) × AddsConstraint a b name ts f root
+    formed (Err k) e g = absurd (cc)
+    formed (Ok f) e g =
+        let t = passed_on _ _ _ _ g in
+        let r = rooted f e (neither (nat_lt 255 (length name)) (list_any is_long ts) t.0) (category_named a.graph name) refl t.1 in
+        (f, r.0, r.1)
+
+-- a name behind `category` is a category name
+named : (ts : List Token) (name : List ℕ) → statement_of ts ≡ Category name → is_category_name name ≡ true
+unfolding statement_of
+named ts name e = version (is_version ts) e
+  where
+    constraint : (c : Bool) → cond c (Constraint (word_at ts 1) (drop 3 ts)) Other ≡ Category name → is_category_name name ≡ true
+    constraint true h = absurd (cc)
+    constraint false h = absurd (cc)
+
+    edge : (c : Bool) → cond c (Edge (word_at ts 1) (word_at ts 2)) (cond (nat_le 3 (length ts) && is_constraint ts) (Constraint (word_at ts 1) (drop 3 ts)) Other)
+        ≡ Category name → is_category_name name ≡ true
+    edge true h = absurd (cc)
+    edge false h = constraint (nat_le 3 (length ts) && is_constraint ts) h
+
+    category : (c : Bool) → is_category ts ≡ c → cond c (Category (word_at ts 1)) (cond (is_edge ts) (Edge (word_at ts 1) (word_at ts 2))
+        (cond (nat_le 3 (length ts) && is_constraint ts) (Constraint (word_at ts 1) (drop 3 ts)) Other)) ≡ Category name → is_category_name name ≡ true
+    category true k h =
+        let same : word_at ts 1 ≡ name = cc in
+        subst (λ w. is_category_name w ≡ true) same (last_true (length ts == 2) (bytes_eq (word_at ts 0) (codes "category")) (is_category_name (word_at ts 1)) k)
+    category false k h = edge (is_edge ts) h
+
+    version : (c : Bool) → cond c Version (cond (is_category ts) (Category (word_at ts 1)) (cond (is_edge ts) (Edge (word_at ts 1) (word_at ts 2))
+        (cond (nat_le 3 (length ts) && is_constraint ts) (Constraint (word_at ts 1) (drop 3 ts)) Other))) ≡ Category name → is_category_name name ≡ true
+    version true h = absurd (cc)
+    version false h = category (is_category ts) refl h
+
+statement_step : (a b : Above) (n : ℕ) (s : Statement) → ((name : List ℕ) → s ≡ Category name → is_category_name name ≡ true)
+    → statement_read a n s ≡ Ok b → Step a b
+statement_step a b n Version m h = absurd (cc)
+statement_step a b n (Category name) m h = category n name (m name refl) (category_step a b n name h)
+statement_step a b n (Edge child parent) m h = let t = edge_step a b child parent h in edge child parent t.0 t.1 t.2
+statement_step a b n (Constraint root ts) m h = let t = constraint_step a b root ts h in constraint root ts t.0 t.1 t.2
+statement_step a b n Other m h = absurd (cc)
+
+tokens_step : (a b : Above) (n : ℕ) (o : Option (List Token)) → tokens_read a n o ≡ Ok b → Step a b
+tokens_step a b n None h = absurd (cc)
+tokens_step a b n (Some ts) h = go a.versioned h
+  where
+    first : (c : Bool) → cond c (Ok (record a { versioned = true })) (Err kind.BadForm) ≡ Ok b → Step a b
+    first true h = version (ok_is _ _ h)
+    first false h = absurd (cc)
+
+    go : (c : Bool) → cond c (statement_read a n (statement_of ts)) (first_read a ts) ≡ Ok b → Step a b
+    go true h = statement_step a b n (statement_of ts) (λ name e. named ts name e) h
+    go false h = first (is_version ts) h
+
+-- a line without a fault goes on in one of the ways
+pub stepped : (a b : Above) (n : ℕ) (line : List ℕ) → line_read a n line ≡ Ok b → Step a b
+unfolding line_read
+stepped a b n line h = go (is_quiet line) (passed_on _ _ _ _ h).1
+  where
+    go : (c : Bool) → cond c (Ok a) (tokens_read a n (tokens_of line)) ≡ Ok b → Step a b
+    go true h = quiet (ok_is _ _ h)
+    go false h = tokens_step a b n (tokens_of line) h
+
+-- what each line keeps, all lines keep
+pub all_steps : (P : Above → Type 0) → ((a b : Above) → Step a b → P a → P b) → (a b : Above) (n : ℕ) (lines : List (List ℕ))
+    → lines_on (Ok a) n lines ≡ Ok b → P a → P b
+all_steps P keeps a b n [] h p = subst P (sym (ok_is _ _ h)) p
+all_steps P keeps a b n (line ∷ lines) h p = go (line_read a (n + 1) (chomped line)) refl h (λ c e k. all_steps P keeps c b (n + 1) lines k (keeps a c (stepped a c _ _ e) p))
+  where
+    go : (r : Result Above SchemaKind) → line_read a (n + 1) (chomped line) ≡ r → lines_on r (n + 1) lines ≡ Ok b
+        → ((c : Above) → line_read a (n + 1) (chomped line) ≡ Ok c → lines_on (Ok c) (n + 1) lines ≡ Ok b → P b) → P b
+    go (Err k) e q rest = absurd (cc)
+    go (Ok c) e q rest = rest c e q
+
+-- ---- few constraints
+
+few_kept : (a b : Above) → Step a b → length a.constraints ≤ 64 → length b.constraints ≤ 64
+few_kept a b (quiet e) l = rw e l
+few_kept a b (version e) l = rw e l
+few_kept a b (category n name is s) l = rw s.new l
+few_kept a b (edge child parent c d s) l = rw s.new l
+few_kept a b (constraint name ts f root s) l =
+    let few : length a.constraints < 64 = leb-false 64 (length a.constraints) s.few in
+    rw s.new (omega (arith, few, length_push a.constraints (record { root = root; formula = f })))
+
+-- where all lines are read there are few constraints
+pub few_constraints : (a b : Above) (n : ℕ) (lines : List (List ℕ)) → lines_on (Ok a) n lines ≡ Ok b → length a.constraints ≤ 64 → length b.constraints ≤ 64
+few_constraints a b n lines h = all_steps (λ c. length c.constraints ≤ 64) few_kept a b n lines h

@@ -1,0 +1,207 @@
+-- What a schema text stands for, or its first fault.
+--     Above            what the lines above a line say
+--     line_read        a line, given those above it
+--     schema_read      a text
+--     question_read    the text of a question's formula, given a schema and a root
+use Rattle.std.specs.Prelude.{◌==◌, ◌||◌, ◌+◌, ◌-◌, ℕ, Bool, true, false, not, List, [], ◌∷◌, ◌++◌, Option, Some, None, Result, Ok, Err, length, find, fold, nat_lt, nat_le, slice_index, if◌then◌else◌}
+use Rattle.std.specs.List.{list_any, range_with_len}
+use Rattle.olap_base.specs.Deciding.{category_reaches}
+use Rattle.olap_base.specs.Graph.{Graph}
+use Rattle.olap_base.specs.Naming.{Fault}
+use Rattle.olap_graph.specs.Building.{all_alone, category_refusal, edge_refusal, with_category, with_edge}
+use Rattle.olap_graph.specs.Lookups.{category_named, name_of_category}
+use Rattle.olap_graph.specs.declared.refusals.CategoryRefusal.{CategoryRefusal}
+use Rattle.olap_graph.specs.declared.refusals.CategoryRefusal.TheVariants as of_category
+use Rattle.olap_graph.specs.declared.refusals.EdgeRefusal.{EdgeRefusal}
+use Rattle.olap_graph.specs.declared.refusals.EdgeRefusal.TheVariants as of_edge
+use Rattle.olap_ast.specs.Constants.{all_equalities}
+use Rattle.olap_ast.specs.Formula.{Equality, Formula, equalities}
+use Rattle.olap_ast.specs.Schema.{Constraint, Schema}
+use Rattle.olap_ast.specs.Valid.{distinct_pairs, with_pair}
+use Rattle.olap_grammar.specs.Answering.{formula_answer}
+use Rattle.olap_grammar.specs.CuttingMachine.{tokens_of}
+use Rattle.olap_grammar.specs.Machine.{the_formula}
+use Rattle.olap_grammar.specs.Words.{atoms_of}
+use Rattle.olap_grammar.specs.declared.refusals.FormRefusal.{FormRefusal}
+use Rattle.olap_grammar.specs.declared.refusals.FormRefusal.TheVariants as form
+use Rattle.olap_grammar.specs.declared.tokens.Token.{Token}
+use Rattle.olap_schema.specs.Atoms.{atom_fault}
+use Rattle.olap_schema.specs.Lines.{chomped, is_bad, is_quiet, lines_of}
+use Rattle.olap_schema.specs.Statements as says
+use Rattle.olap_schema.specs.Statements.{Statement, is_version, statement_of}
+use Rattle.olap_schema.specs.Tokens.{is_long, opens_over, token_nodes}
+use Rattle.olap_schema.specs.declared.kinds.SchemaKind.{SchemaKind}
+use Rattle.olap_schema.specs.declared.kinds.SchemaKind.TheVariants as kind
+
+-- whether the version line was read, the graph, the lines of its categories, the constraints, how many nodes they
+-- have, and their distinct pairs of a category and a constant
+pub record Above : Type 0 where
+  pub versioned : Bool
+  pub graph : Graph
+  pub category_lines : List ℕ
+  pub constraints : List Constraint
+  pub nodes : ℕ
+  pub pairs : List Equality
+
+-- ---- categories and edges
+
+abbrev pub category_kind : CategoryRefusal → SchemaKind
+category_kind of_category.DuplicateCategory = kind.DuplicateCategory
+category_kind of_category.TooManyCategories = kind.TooManyCategories
+category_kind of_category.Memory = kind.TooManyCategories
+
+abbrev pub category_added : Above → ℕ → List ℕ → Option CategoryRefusal → Result Above SchemaKind
+category_added a n name (Some e) = Err (category_kind e)
+category_added a n name None =
+    Ok (record a { graph = with_category a.graph name; category_lines = a.category_lines ++ n ∷ [] })
+
+abbrev pub category_read : Above → ℕ → List ℕ → Result Above SchemaKind
+category_read a n name =
+    if nat_lt 255 (length name) then Err kind.TextTooLong else category_added a n name (category_refusal a.graph name)
+
+abbrev pub edge_kind : EdgeRefusal → SchemaKind
+edge_kind of_edge.SelfEdge = kind.SelfEdge
+edge_kind of_edge.EdgeFromAll = kind.EdgeFromAll
+edge_kind of_edge.DuplicateEdge = kind.DuplicateEdge
+edge_kind of_edge.TooManyEdges = kind.TooManyEdges
+edge_kind of_edge.Memory = kind.TooManyEdges
+
+abbrev pub edge_added : Above → ℕ → ℕ → Option EdgeRefusal → Result Above SchemaKind
+edge_added a c d (Some e) = Err (edge_kind e)
+edge_added a c d None = Ok (record a { graph = with_edge a.graph c d })
+
+abbrev pub ends_read : Above → Option ℕ → Option ℕ → Result Above SchemaKind
+ends_read a None d = Err kind.UnknownCategory
+ends_read a (Some c) None = Err kind.UnknownCategory
+ends_read a (Some c) (Some d) = edge_added a c d (edge_refusal a.graph c d)
+
+abbrev pub edge_read : Above → List ℕ → List ℕ → Result Above SchemaKind
+edge_read a child parent =
+    if nat_lt 255 (length child) || nat_lt 255 (length parent) then Err kind.TextTooLong
+    else ends_read a (category_named a.graph child) (category_named a.graph parent)
+
+-- ---- formulas
+
+abbrev pub form_kind : FormRefusal → SchemaKind
+form_kind form.BadForm = kind.BadForm
+form_kind form.TooDeep = kind.TooDeep
+form_kind form.Memory = kind.TooDeep
+
+abbrev pub form_answer : Result Formula FormRefusal → Result Formula SchemaKind
+form_answer (Ok f) = Ok f
+form_answer (Err e) = Err (form_kind e)
+
+-- the formula of the tokens, with so many nodes on the lines above
+unfoldable pub form_read : Graph → ℕ → List Token → Result Formula SchemaKind
+form_read g before ts =
+    if nat_lt 4096 (before + token_nodes ts) then Err kind.TooManyNodes
+    else if opens_over 0 0 ts then Err kind.TooDeep
+    else form_answer (formula_answer (the_formula (atoms_of g) ts))
+
+-- ---- constraints
+
+-- the constraint is added, with the pairs that there are then
+abbrev pub constraint_added : Above → ℕ → List Token → Formula → List Equality → Result Above SchemaKind
+constraint_added a root ts f pairs =
+    if nat_lt 256 (length pairs) then Err kind.TooManyConstants
+    else Ok (record a {
+      constraints = a.constraints ++ record { root = root; formula = f } ∷ [];
+      nodes = a.nodes + token_nodes ts;
+      pairs = pairs;
+    })
+
+abbrev pub atoms_read : Above → ℕ → List Token → Formula → Option SchemaKind → Result Above SchemaKind
+atoms_read a root ts f (Some k) = Err k
+atoms_read a root ts f None = constraint_added a root ts f (fold with_pair a.pairs (equalities f))
+
+abbrev pub root_read : Above → List ℕ → List Token → Formula → Option ℕ → Result Above SchemaKind
+root_read a name ts f None = Err kind.UnknownCategory
+root_read a name ts f (Some root) =
+    if root == 0 then Err kind.RootIsAll
+    else if nat_le 64 (length a.constraints) then Err kind.TooManyConstraints
+    else atoms_read a root ts f (atom_fault a.graph name ts)
+
+abbrev pub formed_read : Above → List ℕ → List Token → Result Formula SchemaKind → Result Above SchemaKind
+formed_read a name ts (Err k) = Err k
+formed_read a name ts (Ok f) =
+    if nat_lt 255 (length name) || list_any is_long ts then Err kind.TextTooLong
+    else root_read a name ts f (category_named a.graph name)
+
+abbrev pub constraint_read : Above → List ℕ → List Token → Result Above SchemaKind
+constraint_read a name ts = formed_read a name ts (form_read a.graph a.nodes ts)
+
+-- ---- a line
+
+abbrev pub statement_read : Above → ℕ → Statement → Result Above SchemaKind
+statement_read a n says.Statement.Version = Err kind.BadForm
+statement_read a n (says.Statement.Category name) = category_read a n name
+statement_read a n (says.Statement.Edge child parent) = edge_read a child parent
+statement_read a n (says.Statement.Constraint root ts) = constraint_read a root ts
+statement_read a n says.Statement.Other = Err kind.BadForm
+
+abbrev pub first_read : Above → List Token → Result Above SchemaKind
+first_read a ts = if is_version ts then Ok (record a { versioned = true }) else Err kind.BadForm
+
+abbrev pub tokens_read : Above → ℕ → Option (List Token) → Result Above SchemaKind
+tokens_read a n None = Err kind.BadForm
+tokens_read a n (Some ts) = if a.versioned then statement_read a n (statement_of ts) else first_read a ts
+
+-- the n-th line, without its CR
+unfoldable pub line_read : Above → ℕ → List ℕ → Result Above SchemaKind
+line_read a n line =
+    if is_bad line then Err kind.BadByte
+    else if is_quiet line then Ok a
+    else tokens_read a n (tokens_of line)
+
+-- ---- a text
+
+-- the first line with a fault, or what all lines say
+abbrev pub Read : Type 0
+Read = Result Above (Fault SchemaKind)
+
+-- the lines after the n-th, where those up to it give this
+abbrev pub lines_on : Result Above SchemaKind → ℕ → List (List ℕ) → Read
+lines_on (Err k) n lines = Err (record { at = n; kind = k })
+lines_on (Ok a) n [] = Ok a
+lines_on (Ok a) n (line ∷ lines) = lines_on (line_read a (n + 1) (chomped line)) (n + 1) lines
+
+-- before the first line
+abbrev pub nothing_above : Above
+nothing_above = record { versioned = false; graph = all_alone; category_lines = []; constraints = []; nodes = 0; pairs = [] }
+
+-- the first declared category that doesn't reach `All`
+abbrev pub first_stuck : Graph → Option ℕ
+first_stuck g = find (λ c. not (category_reaches g c 0)) (range_with_len 1 (length g.names))
+
+abbrev pub whole : Above → Option ℕ → Result Schema (Fault SchemaKind)
+whole a (Some c) = Err (record { at = slice_index a.category_lines (c - 1); kind = kind.NoWayToAll })
+whole a None = Ok (record { graph = a.graph; constraints = a.constraints })
+
+abbrev pub text_ended : Read → Result Schema (Fault SchemaKind)
+text_ended (Err fault) = Err fault
+text_ended (Ok a) = if a.versioned then whole a (first_stuck a.graph) else Err (record { at = 1; kind = kind.BadForm })
+
+-- the schema that the text stands for, or its first fault
+unfoldable pub schema_read : List ℕ → Result Schema (Fault SchemaKind)
+schema_read text = text_ended (lines_on (Ok nothing_above) 0 (lines_of text))
+
+-- ---- a question's formula
+
+abbrev pub question_added : Schema → Formula → Option SchemaKind → Result Formula SchemaKind
+question_added s f (Some k) = Err k
+question_added s f None =
+    if nat_lt 256 (length (distinct_pairs (all_equalities s f))) then Err kind.TooManyConstants else Ok f
+
+abbrev pub question_formed : Schema → ℕ → List Token → Result Formula SchemaKind → Result Formula SchemaKind
+question_formed s root ts (Err k) = Err k
+question_formed s root ts (Ok f) =
+    if list_any is_long ts then Err kind.TextTooLong
+    else question_added s f (atom_fault s.graph (name_of_category s.graph root) ts)
+
+abbrev pub question_cut : Schema → ℕ → Option (List Token) → Result Formula SchemaKind
+question_cut s root None = Err kind.BadForm
+question_cut s root (Some ts) = question_formed s root ts (form_read s.graph 0 ts)
+
+-- the formula that the text is, at the root, or its first fault
+unfoldable pub question_read : Schema → ℕ → List ℕ → Result Formula SchemaKind
+question_read s root text = if is_bad text then Err kind.BadByte else question_cut s root (tokens_of text)

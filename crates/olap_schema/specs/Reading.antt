@@ -1,0 +1,71 @@
+-- What the values of the readers stand for.
+use Rattle.std.specs.Prelude.{◌≡◌, Result, Ok, Err, Option, Some, None, map, IsTrue}
+use Rattle.olap_base.specs.Deciding.{is_category_name}
+use Rattle.olap_ast.specs.Formula as Meaning
+use Rattle.olap_ast.specs.Trees.{constraint_of, formula_of}
+use Rattle.olap_ast.specs.declared.formulas.Formula.{Formula}
+use Rattle.olap_schema.specs.Judging.{Above}
+use Rattle.olap_schema.specs.Statements as says
+use Rattle.olap_schema.specs.declared.kinds.FormulaRefusal.{FormulaRefusal}
+use Rattle.olap_schema.specs.declared.kinds.FormulaRefusal.TheVariants as refusal
+use Rattle.olap_schema.specs.declared.kinds.SchemaKind.{SchemaKind}
+use Rattle.olap_schema.specs.declared.pairing.Pair.{Pair}
+use Rattle.olap_schema.specs.declared.reading.Reading.{Reading}
+use Rattle.olap_schema.specs.declared.statements.Statement.{Statement}
+use Rattle.olap_schema.specs.declared.statements.Statement.TheVariants as statement
+
+-- want of memory, or that fault
+abbrev pub IsFault : {A : Type 0} → FormulaRefusal → Result A SchemaKind → Type 0
+IsFault (refusal.Fault k) read = read ≡ Err k
+IsFault refusal.Memory read = Unit {0}
+
+-- want of memory, or the first fault
+abbrev pub FindsFault : FormulaRefusal → Option SchemaKind → Type 0
+FindsFault (refusal.Fault k) first = first ≡ Some k
+FindsFault refusal.Memory first = Unit {0}
+
+-- no fault, or want of memory, or that fault
+abbrev pub Finds : {A : Type 0} → Result A FormulaRefusal → Option SchemaKind → Type 0
+Finds (Ok u) first = first ≡ None
+Finds (Err e) first = FindsFault e first
+
+-- a pair of a category and a constant
+abbrev pub pair_of : Pair → Meaning.Equality
+pair_of p = record { category = p.category.0; text = p.text }
+
+-- what the reader knows
+abbrev pub above_of : Reading → Above
+above_of r = record {
+  versioned = r.versioned;
+  graph = r.builder;
+  category_lines = r.category_lines.items;
+  constraints = map constraint_of r.constraints.items;
+  nodes = r.nodes;
+  pairs = map pair_of r.pairs.items;
+}
+
+-- the reader goes on to what it knows now, or the line has that fault
+abbrev pub Reads : {A : Type 0} → Result A FormulaRefusal → Above → Result Above SchemaKind → Type 0
+Reads (Ok u) new read = read ≡ Ok new
+Reads (Err e) new read = IsFault e read
+
+-- the formula was read, or there is that fault
+abbrev pub ReadsFormula : Result Formula FormulaRefusal → Result Meaning.Formula SchemaKind → Type 0
+ReadsFormula (Ok f) read = read ≡ Ok (formula_of f)
+ReadsFormula (Err e) read = IsFault e read
+
+-- what the tokens of a line say
+abbrev pub said : Statement → says.Statement
+said statement.Version = says.Statement.Version
+said (statement.Category name) = says.Statement.Category name.now
+said (statement.Edge child parent) = says.Statement.Edge child.now parent.now
+said (statement.Constraint root tokens) = says.Statement.Constraint root.now tokens.now
+said statement.Other = says.Statement.Other
+
+-- the name of a new category is a category name
+abbrev pub HasName : Statement → Type 0
+HasName (statement.Category name) = IsTrue (is_category_name name.now)
+HasName statement.Version = Unit {0}
+HasName (statement.Edge child parent) = Unit {0}
+HasName (statement.Constraint root tokens) = Unit {0}
+HasName statement.Other = Unit {0}

@@ -1,0 +1,16 @@
+//! Schema texts: reading a schema and a question's formula, and printing a schema.
+#![tactic(auto)]
+
+mod atoms;
+mod kinds;
+mod lines;
+mod measuring;
+mod pairing;
+mod questions;
+mod reading;
+mod schemas;
+mod statements;
+
+pub use kinds::{FormulaRefusal, SchemaKind, SchemaRefusal};
+pub use questions::read_formula;
+pub use schemas::{Schema, read_schema};

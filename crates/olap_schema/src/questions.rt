@@ -1,0 +1,122 @@
+// Reading a question's formula.
+ghost use Rattle.olap_ast.specs.Constants.{all_equalities};
+ghost use Rattle.olap_ast.specs.Formula.{equalities};
+ghost use Rattle.olap_ast.specs.Trees.{constraint_of, formula_of};
+ghost use Rattle.olap_ast.specs.Valid.{distinct_pairs, with_pair};
+ghost use Rattle.olap_base.specs.Graph.{IsDeclared};
+ghost use Rattle.olap_graph.specs.Lookups.{name_of_category};
+ghost use Rattle.olap_schema.specs.Atoms.{atom_fault};
+ghost use Rattle.olap_schema.specs.declared.kinds.SchemaKind.TheVariants as kind;
+ghost use Rattle.olap_grammar.specs.CuttingMachine.{tokens_of};
+ghost use Rattle.olap_schema.specs.Judging.{question_added, question_cut, question_read};
+ghost use Rattle.olap_schema.specs.Reading.{Finds, ReadsFormula, pair_of};
+ghost use Rattle.olap_schema.specs.Schemas.{schema_of};
+ghost use Rattle.std.specs.Prelude.{◌≡◌, OnOk, Some, None, flat_map, fold, if◌then◌else◌, length, map, nat_lt};
+
+use crate::atoms::check_atoms;
+use crate::lines::is_bad;
+use crate::measuring::has_long_text;
+use crate::pairing::{Pair, add_pairs};
+use crate::reading::read_form;
+use crate::{FormulaRefusal, Schema, SchemaKind};
+use olap_ast::{Constraint, Formula};
+use olap_base::{CatId, Memory};
+use olap_grammar::{FormRefusal, Known, Token, line_tokens};
+use std::alloc::Global;
+
+fn add_of_constraints(
+    alloc: Global,
+    pairs: &mut Vec<Pair>,
+    constraints: &[Constraint],
+) -> Result<(), Memory>
+    ensures { let atoms = flat_map (λ c. equalities c.formula) (map constraint_of constraints.now) in
+        OnOk result (map pair_of pairs.new.items ≡ fold with_pair (map pair_of pairs.old.items) atoms) }
+{
+    let mut left = constraints;
+    'constraints: while let Some((constraint, others)) = left.split_first() {
+        add_pairs(alloc, pairs, &constraint.formula)?;
+        left = others;
+    }
+    Ok(())
+}
+
+/// Whether there are too many pairs of a category and a constant in the schema and the formula.
+fn check_pairs(alloc: Global, schema: &Schema, f: &Formula) -> Result<(), FormulaRefusal>
+    ensures { let pairs = distinct_pairs (all_equalities (schema_of schema.now) (formula_of f.now)) in
+        Finds result (if nat_lt 256 (length pairs) then Some kind.TooManyConstants else None) }
+{
+    let mut pairs = Vec::new(alloc);
+    add_of_constraints(alloc, &mut pairs, schema.constraints())?;
+    add_pairs(alloc, &mut pairs, f)?;
+    if pairs.len() > 256 {
+        return Err(FormulaRefusal::Fault(SchemaKind::TooManyConstants));
+    }
+    Ok(())
+}
+
+fn check_question(
+    alloc: Global,
+    schema: &Schema,
+    root: CatId,
+    tokens: &[Token],
+    f: Formula,
+) -> Result<Formula, FormulaRefusal>
+    requires { IsDeclared (schema_of schema.now).graph root.0 }
+    ensures { let s = schema_of schema.now in
+        let first = atom_fault s.graph (name_of_category s.graph root.0) tokens.now in
+        ReadsFormula result (question_added s (formula_of f) first) }
+{
+    let name = schema.graph().name(root);
+    match check_atoms(alloc, &Known::Whole(schema.graph()), name.bytes(), tokens) {
+        Ok(()) => match check_pairs(alloc, schema, &f) {
+            Ok(()) => Ok(f),
+            Err(e) => Err(e),
+        },
+        Err(e) => Err(e),
+    }
+}
+
+fn read_question(
+    alloc: Global,
+    schema: &Schema,
+    root: CatId,
+    text: &[u8],
+) -> Result<Formula, FormulaRefusal>
+    requires { IsDeclared (schema_of schema.now).graph root.0 }
+    ensures { ReadsFormula result (question_cut (schema_of schema.now) root.0 (tokens_of text.now)) }
+{
+    match line_tokens(alloc, text) {
+        Ok(tokens) => match read_form(alloc, &Known::Whole(schema.graph()), 0, &tokens) {
+            Ok(f) => {
+                if has_long_text(&tokens) {
+                    return Err(FormulaRefusal::Fault(SchemaKind::TextTooLong));
+                }
+                check_question(alloc, schema, root, &tokens, f)
+            }
+            Err(e) => Err(e),
+        },
+        Err(FormRefusal::BadForm) => Err(FormulaRefusal::Fault(SchemaKind::BadForm)),
+        Err(FormRefusal::TooDeep) => Err(FormulaRefusal::Memory),
+        Err(FormRefusal::Memory) => Err(FormulaRefusal::Memory),
+    }
+}
+
+/// The formula that the text is, at a root of the schema's graph.
+///
+/// A fault is the first check that fails. The text is one line: a LF or a CR is a `BadByte`. The limits on nodes and
+/// depth are those of one formula; the one on constants counts the schema's too. `Memory` where there is no room.
+#[tactic(auto, unfolding(crate::specs::Judging::question_read))]
+pub fn read_formula(
+    alloc: Global,
+    schema: &Schema,
+    root: CatId,
+    text: &[u8],
+) -> Result<Formula, FormulaRefusal>
+    requires { IsDeclared (schema_of schema.now).graph root.0 }
+    ensures { ReadsFormula result (question_read (schema_of schema.now) root.0 text.now) }
+{
+    if is_bad(text) {
+        return Err(FormulaRefusal::Fault(SchemaKind::BadByte));
+    }
+    read_question(alloc, schema, root, text)
+}

@@ -1,0 +1,294 @@
+// Reading a schema, line by line.
+ghost use Rattle.olap_ast.specs.Trees.{formula_of};
+ghost use Rattle.olap_base.specs.Deciding.{is_category_name};
+ghost use Rattle.olap_base.specs.Graph.{IsCategory};
+ghost use Rattle.olap_graph.specs.Building.{edge_refusal};
+ghost use Rattle.olap_grammar.specs.Known.{graph_seen};
+ghost use Rattle.olap_graph.specs.Lookups.{category_named};
+ghost use Rattle.olap_schema.specs.Judging.{category_read, constraint_added, constraint_read, edge_added, edge_read, formed_read, first_read, form_read, line_read, nothing_above, root_read, statement_read, tokens_read};
+ghost use Rattle.olap_schema.specs.Reading.{Reads, ReadsFormula, above_of, said};
+ghost use Rattle.olap_ast.specs.Formula.{equalities};
+ghost use Rattle.olap_ast.specs.Valid.{with_pair};
+ghost use Rattle.olap_grammar.specs.CuttingMachine.{tokens_of};
+ghost use Rattle.olap_schema.specs.Statements.{statement_of};
+ghost use Rattle.olap_schema.specs.Tokens.{token_nodes};
+ghost use Rattle.std.specs.Prelude.{◌≡◌, ◌≤◌, ◌+◌, IfOk, IsTrue, fold};
+
+use crate::atoms::check_atoms;
+use crate::lines::{is_bad, is_quiet};
+use crate::measuring::{has_long_text, nodes, opens_too_deep};
+use crate::pairing::{Pair, add_pairs};
+use crate::statements::{Statement, is_version, statement_in};
+use crate::{FormulaRefusal, SchemaKind};
+use olap_ast::{Constraint, Formula};
+use olap_base::{CatId, Memory, Text};
+use olap_grammar::{FormRefusal, Known, Token, formula, line_tokens};
+use olap_graph::{CategoryRefusal, EdgeRefusal, GraphBuilder};
+use std::alloc::Global;
+
+const MOST_NODES: usize = 4096;
+
+const MOST_BYTES: usize = 255;
+
+const MOST_CONSTRAINTS: usize = 64;
+
+const MOST_PAIRS: usize = 256;
+
+/// What the lines so far say.
+#[derive(Drop)]
+pub(crate) struct Reading {
+    pub(crate) versioned: bool,
+    pub(crate) builder: GraphBuilder,
+    pub(crate) category_lines: Vec<u64>,
+    pub(crate) constraints: Vec<Constraint>,
+    pub(crate) nodes: u16,
+    pub(crate) pairs: Vec<Pair>,
+}
+
+/// Before the first line.
+pub(crate) fn begin(alloc: Global) -> Result<Reading, Memory>
+    ensures { IfOk result (λ reading. above_of reading ≡ nothing_above) }
+{
+    Ok(Reading {
+        versioned: false,
+        builder: GraphBuilder::new(alloc)?,
+        category_lines: Vec::new(alloc),
+        constraints: Vec::new(alloc),
+        nodes: 0,
+        pairs: Vec::new(alloc),
+    })
+}
+
+/// A category's line.
+fn read_category(
+    alloc: Global,
+    reading: &mut Reading,
+    n: u64,
+    name: &[u8],
+) -> Result<(), FormulaRefusal>
+    requires { IsTrue (is_category_name name.now) }
+    ensures { Reads result (above_of reading.new) (category_read (above_of reading.old) n name.now) }
+{
+    if name.len() > MOST_BYTES {
+        return Err(FormulaRefusal::Fault(SchemaKind::TextTooLong));
+    }
+    let name = Text::from_bytes(alloc, name)?;
+    match reading.builder.add_category(name) {
+        Ok(_) => {
+            reading.category_lines.push(n)?;
+            Ok(())
+        }
+        Err(CategoryRefusal::DuplicateCategory) => Err(FormulaRefusal::Fault(
+            SchemaKind::DuplicateCategory,
+        )),
+        Err(CategoryRefusal::TooManyCategories) => Err(FormulaRefusal::Fault(
+            SchemaKind::TooManyCategories,
+        )),
+        Err(CategoryRefusal::Memory) => Err(FormulaRefusal::Memory),
+    }
+}
+
+fn add_edge(reading: &mut Reading, c: CatId, d: CatId) -> Result<(), FormulaRefusal>
+    requires child { IsCategory (above_of reading.old).graph c.0 }
+    requires parent { IsCategory (above_of reading.old).graph d.0 }
+    ensures { Reads result (above_of reading.new) (edge_added (above_of reading.old) c.0 d.0 (edge_refusal (above_of reading.old).graph c.0 d.0)) }
+{
+    match reading.builder.add_edge(c, d) {
+        Ok(_) => Ok(()),
+        Err(EdgeRefusal::SelfEdge) => Err(FormulaRefusal::Fault(SchemaKind::SelfEdge)),
+        Err(EdgeRefusal::EdgeFromAll) => Err(FormulaRefusal::Fault(SchemaKind::EdgeFromAll)),
+        Err(EdgeRefusal::DuplicateEdge) => Err(FormulaRefusal::Fault(SchemaKind::DuplicateEdge)),
+        Err(EdgeRefusal::TooManyEdges) => Err(FormulaRefusal::Fault(SchemaKind::TooManyEdges)),
+        Err(EdgeRefusal::Memory) => Err(FormulaRefusal::Memory),
+    }
+}
+
+/// An edge's line.
+fn read_edge(reading: &mut Reading, child: &[u8], parent: &[u8]) -> Result<(), FormulaRefusal>
+    ensures { Reads result (above_of reading.new) (edge_read (above_of reading.old) child.now parent.now) }
+{
+    if child.len() > MOST_BYTES || parent.len() > MOST_BYTES {
+        return Err(FormulaRefusal::Fault(SchemaKind::TextTooLong));
+    }
+    match reading.builder.category(child) {
+        Some(c) => match reading.builder.category(parent) {
+            Some(d) => add_edge(reading, c, d),
+            None => Err(FormulaRefusal::Fault(SchemaKind::UnknownCategory)),
+        },
+        None => Err(FormulaRefusal::Fault(SchemaKind::UnknownCategory)),
+    }
+}
+
+/// The formula of the tokens, with so many nodes on the lines above.
+#[tactic(auto, unfolding(crate::specs::Judging::form_read))]
+pub(crate) fn read_form(
+    alloc: Global,
+    known: &Known,
+    before: u16,
+    tokens: &[Token],
+) -> Result<Formula, FormulaRefusal>
+    ensures read { ReadsFormula result (form_read (graph_seen known.now) before tokens.now) }
+    ensures few { IfOk result (λ f. before + token_nodes tokens.now ≤ 4096) }
+{
+    if before as usize + nodes(tokens) > MOST_NODES {
+        return Err(FormulaRefusal::Fault(SchemaKind::TooManyNodes));
+    }
+    if opens_too_deep(tokens) {
+        return Err(FormulaRefusal::Fault(SchemaKind::TooDeep));
+    }
+    match formula(alloc, known, tokens) {
+        Ok(f) => Ok(f),
+        Err(FormRefusal::BadForm) => Err(FormulaRefusal::Fault(SchemaKind::BadForm)),
+        Err(FormRefusal::TooDeep) => Err(FormulaRefusal::Fault(SchemaKind::TooDeep)),
+        Err(FormRefusal::Memory) => Err(FormulaRefusal::Memory),
+    }
+}
+
+/// Adds a constraint whose formula has no fault but, it may be, too many constants.
+fn add_constraint(
+    alloc: Global,
+    reading: &mut Reading,
+    root: CatId,
+    tokens: &[Token],
+    f: Formula,
+) -> Result<(), FormulaRefusal>
+    requires { (above_of reading.old).nodes + token_nodes tokens.now ≤ 4096 }
+    ensures { let old = above_of reading.old in
+        let pairs = fold with_pair old.pairs (equalities (formula_of f)) in
+        Reads result (above_of reading.new) (constraint_added old root.0 tokens.now (formula_of f) pairs) }
+{
+    add_pairs(alloc, &mut reading.pairs, &f)?;
+    if reading.pairs.len() > MOST_PAIRS {
+        return Err(FormulaRefusal::Fault(SchemaKind::TooManyConstants));
+    }
+    reading.constraints.push(Constraint { root, formula: f })?;
+    let more = nodes(tokens) as u16;
+    reading.nodes += more;
+    Ok(())
+}
+
+/// The root, and then the atoms.
+fn read_rooted(
+    alloc: Global,
+    reading: &mut Reading,
+    name: &[u8],
+    tokens: &[Token],
+    f: Formula,
+) -> Result<(), FormulaRefusal>
+    requires { (above_of reading.old).nodes + token_nodes tokens.now ≤ 4096 }
+    ensures { let old = above_of reading.old in
+        let root = category_named old.graph name.now in
+        Reads result (above_of reading.new) (root_read old name.now tokens.now (formula_of f) root) }
+{
+    match reading.builder.category(name) {
+        Some(root) => {
+            if root == CatId(0) {
+                return Err(FormulaRefusal::Fault(SchemaKind::RootIsAll));
+            }
+            if reading.constraints.len() >= MOST_CONSTRAINTS {
+                return Err(FormulaRefusal::Fault(SchemaKind::TooManyConstraints));
+            }
+            match check_atoms(alloc, &Known::Growing(&reading.builder), name, tokens) {
+                Ok(()) => add_constraint(alloc, reading, root, tokens, f),
+                Err(e) => Err(e),
+            }
+        }
+        None => Err(FormulaRefusal::Fault(SchemaKind::UnknownCategory)),
+    }
+}
+
+/// A constraint's line.
+fn read_constraint(
+    alloc: Global,
+    reading: &mut Reading,
+    name: &[u8],
+    tokens: &[Token],
+) -> Result<(), FormulaRefusal>
+    ensures { Reads result (above_of reading.new) (constraint_read (above_of reading.old) name.now tokens.now) }
+{
+    match read_form(
+        alloc,
+        &Known::Growing(&reading.builder),
+        reading.nodes,
+        tokens,
+    ) {
+        Ok(f) => {
+            if name.len() > MOST_BYTES || has_long_text(tokens) {
+                return Err(FormulaRefusal::Fault(SchemaKind::TextTooLong));
+            }
+            read_rooted(alloc, reading, name, tokens, f)
+        }
+        Err(e) => Err(e),
+    }
+}
+
+/// A line behind the version.
+fn read_statement(
+    alloc: Global,
+    reading: &mut Reading,
+    n: u64,
+    tokens: &[Token],
+) -> Result<(), FormulaRefusal>
+    ensures { Reads result (above_of reading.new) (statement_read (above_of reading.old) n (statement_of tokens.now)) }
+{
+    match statement_in(tokens) {
+        Statement::Version => Err(FormulaRefusal::Fault(SchemaKind::BadForm)),
+        Statement::Category(name) => read_category(alloc, reading, n, name),
+        Statement::Edge(child, parent) => read_edge(reading, child, parent),
+        Statement::Constraint(root, formula) => read_constraint(alloc, reading, root, formula),
+        Statement::Other => Err(FormulaRefusal::Fault(SchemaKind::BadForm)),
+    }
+}
+
+/// The first line that says something.
+fn read_first(reading: &mut Reading, tokens: &[Token]) -> Result<(), FormulaRefusal>
+    ensures { Reads result (above_of reading.new) (first_read (above_of reading.old) tokens.now) }
+{
+    if is_version(tokens) {
+        reading.versioned = true;
+        return Ok(());
+    }
+    Err(FormulaRefusal::Fault(SchemaKind::BadForm))
+}
+
+/// A line that says something.
+fn read_saying(
+    alloc: Global,
+    reading: &mut Reading,
+    n: u64,
+    line: &[u8],
+) -> Result<(), FormulaRefusal>
+    ensures { Reads result (above_of reading.new) (tokens_read (above_of reading.old) n (tokens_of line.now)) }
+{
+    match line_tokens(alloc, line) {
+        Ok(tokens) => {
+            if reading.versioned {
+                read_statement(alloc, reading, n, &tokens)
+            } else {
+                read_first(reading, &tokens)
+            }
+        }
+        Err(FormRefusal::BadForm) => Err(FormulaRefusal::Fault(SchemaKind::BadForm)),
+        Err(FormRefusal::TooDeep) => Err(FormulaRefusal::Memory),
+        Err(FormRefusal::Memory) => Err(FormulaRefusal::Memory),
+    }
+}
+
+/// The n-th line, without its CR.
+#[tactic(auto, unfolding(crate::specs::Judging::line_read))]
+pub(crate) fn read_line(
+    alloc: Global,
+    reading: &mut Reading,
+    n: u64,
+    line: &[u8],
+) -> Result<(), FormulaRefusal>
+    ensures { Reads result (above_of reading.new) (line_read (above_of reading.old) n line.now) }
+{
+    if is_bad(line) {
+        return Err(FormulaRefusal::Fault(SchemaKind::BadByte));
+    }
+    if is_quiet(line) {
+        return Ok(());
+    }
+    read_saying(alloc, reading, n, line)
+}
