@@ -1,6 +1,6 @@
 //! The check of a dimension instance against its schema: five laws and the constraints.
 //!
-//! `check_parts` answers a `Legal`, which keeps the instance and the table of its ancestors, or the first violation. A
+//! `check` answers a `Legal`, which keeps the instance and the table of its ancestors, or the first violation. A
 //! contract sees a `Legal` as its instance, the definition's list of members; `specs/Reports.antt` says how a violation
 //! of the definitions is told by ids. Nothing here knows how an instance or a schema is read.
 #![tactic(auto)]
@@ -19,6 +19,6 @@ mod strata;
 mod tests;
 mod violations;
 
-pub use checking::check_parts;
+pub use checking::check;
 pub use legality::Legal;
 pub use violations::{CheckRefusal, Violation};
