@@ -21,12 +21,15 @@ use Rattle.olap_check.proofs.TableLemmas.{reached_inside, cell_some}
 use Rattle.olap_eval.specs.Shapes.{HasEdgeThere, IsShape, ReachesThere}
 use Rattle.olap_check.specs.Above.{IsAbove, is_present}
 
+-- a present category is one of the graph, and its place has a member
 present_parts : (n c k : ℕ) → (nat_lt c n && not (nat_eq k none)) ≡ true → (c < n) × (k ≢ none)
 present_parts n c k e = (grind (arith, nat_tests), λ q. grind (arith, nat_tests))
 
+-- and the other way round
 present_from : (n c k : ℕ) → c < n → k < none → (nat_lt c n && not (nat_eq k none)) ≡ true
 present_from n c k h l = grind (arith, nat_tests)
 
+-- the row of a member is a shape
 pub above_shape : (i : Instance) (n x : ℕ) (cells : List ℕ) → IsAbove i n x cells
     → IsShape i (is_present n cells x) (cell n cells x)
 above_shape i n x cells a = record {
@@ -46,10 +49,12 @@ above_shape i n x cells a = record {
     few : (k y : ℕ) → k ≡ y → y < length i → k < none
     few k y e h = let f = a.bounded.few in omega arith
 
+-- what an option holds, from one fact to another
 pub if_some_map : (o : Option ℕ) (P Q : ℕ → Type 0) → ((y : ℕ) → P y → Q y) → IfSome o P → IfSome o Q
 if_some_map None P Q f p = p
 if_some_map (Some y) P Q f p = f y p
 
+-- a member of the category that is reached stands in its place
 pub member_is : (i : Instance) (n x c : ℕ) (cells : List ℕ) → IsAbove i n x cells → (y : ℕ)
     → IsMemberOf i c y × Reaches i x y → IsTrue (is_present n cells x c) × (cell n cells x c ≡ y) × (y < length i)
 member_is i n x c cells a y m =
@@ -64,6 +69,7 @@ member_is i n x c cells a y m =
     few : (k y : ℕ) → k ≡ y → y < length i → k < none
     few k y e h = let f = a.bounded.few in omega arith
 
+-- a present category has a member that is reached
 pub present_reaches : (i : Instance) (n x c : ℕ) (cells : List ℕ) → IsAbove i n x cells
     → IsTrue (is_present n cells x c) → ReachesCategory i x c
 present_reaches i n x c cells a p =
@@ -71,6 +77,7 @@ present_reaches i n x c cells a p =
     let m = cell_some i n x c (cell n cells x c) cells a.table a.inside t.0 refl t.1 in
     (cell n cells x c, m.0, m.1)
 
+-- what the ancestor of the first category answers for the second
 pub reach_there : (i : Instance) (n x c d y : ℕ) (cells : List ℕ) (o : Option ℕ) (r : Bool) → IsAbove i n x cells
     → IsTrue (is_present n cells x c) → cell n cells x c ≡ y
     → IfSome o (λ a. IsMemberOf i d a × Reaches i y a) → (IsNone o → ReachesCategory i y d → ⊥) → r ≡ is_some o
@@ -105,6 +112,7 @@ own_place i n x c cells made table inside e =
 
 -- ---- a parent among the ids
 
+-- two ids are equal exactly where their numbers are
 same_member : (a b : MemberId) → Decides (eqb a.0 b.0) (a ≡ b)
 same_member a b = (λ e. ap member (eqb-true a.0 b.0 e), λ e. eq-eqb a.0 b.0 (ap (λ (m : MemberId). m.0) e))
 
@@ -126,6 +134,7 @@ below_is i y z ms r e a = (
         let at = get_or-map (λ (m : MemberId). m.0) ms c.0 (member z) z inside in
         (c.0, inside, ap member (sym at ∙ c.2))
 
+-- what the search among the parents answers
 pub edge_there : (i : Instance) (n x c d y z : ℕ) (cells : List ℕ) (ms : List MemberId) (r : Bool)
     → IsTrue (is_present n cells x c) × (cell n cells x c ≡ y) × (y < length i)
     → IsTrue (is_present n cells x d) × (cell n cells x d ≡ z) × (z < length i)

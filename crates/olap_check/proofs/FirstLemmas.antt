@@ -22,6 +22,7 @@ use Rattle.olap_check.specs.Linking.{IsLinked, IsTableOf, IsFirstUnlinked, IsLin
 use Rattle.olap_check.proofs.TableLemmas.{row_is_whole}
 use Rattle.olap_check.proofs.SplitLemmas.{splits_of}
 
+-- less or equal, where not greater
 not_less : (a b : ℕ) → (b < a → ⊥) → (a < b) ⊎ (a ≡ b)
 not_less a b f =
     elim (ℕ_discrete a b) [
@@ -45,12 +46,14 @@ same_law n a b x y f g =
       ],
     )
 
+-- only a member is far below another
 far_is_member : (i : Instance) (x y : ℕ) → IsFarBelow i x y → x < length i
 far_is_member i x y l = go (Climb-from_leads l)
   where
     go : Climb (IsBelow i) x y → x < length i
     go (climb {z = z} r s) = below_is_member i x z r
 
+-- the parent at a place is a parent
 parent_at : (i : Instance) (x k : ℕ) → k < length (parents_of i x) → IsBelow i x (slice_index (parents_of i x) k)
 parent_at i x k h = (k, h, get_or_default (parents_of i x) k (slice_index (parents_of i x) k) 0 h)
 
@@ -67,34 +70,43 @@ module _ (i : Instance) (n : ℕ) (edges : List Bool) (bounded : IsBounded i n) 
       (bounded.categories (slice_index (parents_of i x) k)
       (bounded.places x (slice_index (parents_of i x) k) b))).0 l
 
+  -- every parent is linked by an edge
   abbrev pub Law1 : Type 0
   Law1 = (x : ℕ) → x < length i → IsLinkedAt i n edges x
 
+  -- every member but `all` has a parent
   abbrev pub Law2 : Type 0
   Law2 = (x : ℕ) → x < length i → IsOrphan i x → ⊥
 
+  -- no member is far below one of its category
   abbrev pub Law3 : Type 0
   Law3 = (x : ℕ) → Repeats i x → ⊥
 
+  -- where the first law holds, nothing violates it
   no1 : Law1 → (s : Schema) → IsTableOf s.graph n edges → (x k : ℕ) → IsViolation s i (NoEdge x k) → ⊥
   no1 l s t x k v = v.1 (edge_of s t x k v.0 (l x (below_is_member i x _ (parent_at i x k v.0)) k v.0))
 
+  -- where the second law holds, nothing violates it
   no2 : Law2 → (s : Schema) (x : ℕ) → IsViolation s i (NoParent x) → ⊥
   no2 l s x v = l x v.0 (v.1, v.2)
 
+  -- where the third law holds, nothing violates it
   no3 : Law3 → (s : Schema) (x : ℕ) → IsViolation s i (SameCategory x) → ⊥
   no3 l s x v = l x (v.0, v.1, v.2)
 
+  -- where the table is whole, nothing violates the fourth law
   no4 : (cells : List ℕ) → IsTable i n (length i) cells → (s : Schema) (x c : ℕ) → IsViolation s i (TwoAncestors x c)
       → ⊥
   no4 cells t s x c v = let h = far_is_member i x v.0 v.2 in
       row_is_whole i n (length i) cells bounded t x h h (splits_of i x c v)
 
+  -- the third law in the words of the fifth
   pub strata_of : Law3 → IsStratified i
   strata_of l x y f e = l x (y, f, e)
 
   -- ---- the first breach of each law
 
+  -- the first parent without an edge is the first violation
   pub first1 : (x k : ℕ) → IsFirstUnlinked i n edges x k → (s : Schema) → IsTableOf s.graph n edges
       → IsFirstViolation s i (NoEdge x k)
   first1 x k f s t = record { is_one = one; least = least }
@@ -123,6 +135,7 @@ module _ (i : Instance) (n : ℕ) (edges : List Bool) (bounded : IsBounded i n) 
       least (Shortcut y j) v = inl (omega arith)
       least (Unmet j y) v = inl (omega arith)
 
+  -- the first member without a parent is, where the first law holds
   pub first2 : Law1 → (x : ℕ) → IsFirstOrphan i x → (s : Schema) → IsTableOf s.graph n edges
       → IsFirstViolation s i (NoParent x)
   first2 l1 x f s t = record { is_one = (f.inside, f.orphan.0, f.orphan.1); least = least }
@@ -135,6 +148,7 @@ module _ (i : Instance) (n : ℕ) (edges : List Bool) (bounded : IsBounded i n) 
       least (Shortcut y j) v = inl (omega arith)
       least (Unmet j y) v = inl (omega arith)
 
+  -- the first member far below its own category is, where two laws hold
   pub first3 : Law1 → Law2 → (x : ℕ) → IsFirstRepeat i x → (s : Schema) → IsTableOf s.graph n edges
       → IsFirstViolation s i (SameCategory x)
   first3 l1 l2 x f s t = record { is_one = (f.repeats.0, f.repeats.1, f.repeats.2); least = least }
@@ -148,6 +162,7 @@ module _ (i : Instance) (n : ℕ) (edges : List Bool) (bounded : IsBounded i n) 
       least (Shortcut y j) v = inl (omega arith)
       least (Unmet j y) v = inl (omega arith)
 
+  -- the first member that reaches two of a category, with the least such, is, where three laws hold
   pub first4 : Law1 → Law2 → Law3 → (x c : ℕ) → IsFirstSplit i n x → IsLeastSplit i x c → (s : Schema)
       → IsTableOf s.graph n edges → IsFirstViolation s i (TwoAncestors x c)
   first4 l1 l2 l3 x c f q s t = record { is_one = q.splits; least = least }
@@ -161,6 +176,7 @@ module _ (i : Instance) (n : ℕ) (edges : List Bool) (bounded : IsBounded i n) 
       least (Shortcut y j) v = inl (omega arith)
       least (Unmet j y) v = inl (omega arith)
 
+  -- the first shortcut is, where four laws hold
   pub first5 : Law1 → Law2 → Law3 → (cells : List ℕ) → IsTable i n (length i) cells → (x k : ℕ)
       → IsFirstShortcut i x k → (s : Schema) → IsTableOf s.graph n edges → IsFirstViolation s i (Shortcut x k)
   first5 l1 l2 l3 cells r x k f s t =
@@ -178,6 +194,7 @@ module _ (i : Instance) (n : ℕ) (edges : List Bool) (bounded : IsBounded i n) 
           (v.0, v.2, v.3)))
       least (Unmet j y) v = inl (omega arith)
 
+  -- where all five hold the instance is lawful
   pub all_five : Law1 → Law2 → Law3 → (cells : List ℕ) → IsTable i n (length i) cells → HasNoShortcut i → (g : Graph)
       → IsTableOf g n edges → IsLawful g i
   all_five l1 l2 l3 cells r l5 g t = record {

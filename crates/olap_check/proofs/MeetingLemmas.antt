@@ -11,15 +11,18 @@ use Rattle.olap_check.specs.Meeting.{IsFirstUnmet, IsFirstViolated, constraint_a
 -- the k-th of the stored constraints is the k-th constraint
 module _ (i : Instance) (stored : List Stored) (k : ℕ) (item : Stored) (inside : k < length stored)
     (is : item ≡ get_or stored k item) where
+  -- the constraint that is read
   at : constraint_at (map constraint_of stored) k ≡ constraint_of item
   at = get_or-map constraint_of stored k item no_constraint inside ∙ ap constraint_of (sym is)
 
+  -- one more constraint is met
   pub met_more : ((j : ℕ) → j < k → Meets i (constraint_at (map constraint_of stored) j)) → Meets i (constraint_of item)
       → (j : ℕ) → j < k + 1 → Meets i (constraint_at (map constraint_of stored) j)
   met_more before met =
       let P : ℕ → Type 0 = λ j. Meets i (constraint_at (map constraint_of stored) j) in
       below_more P k before (subst (λ c. Meets i c) (sym at) met)
 
+  -- the first that is not
   pub first_violated_of : (x : ℕ) → ((j : ℕ) → j < k → Meets i (constraint_at (map constraint_of stored) j))
       → IsFirstUnmet i (constraint_of item).root (constraint_of item).formula x
       → IsFirstViolated i (map constraint_of stored) k x
@@ -29,6 +32,7 @@ module _ (i : Instance) (stored : List Stored) (k : ℕ) (item : Stored) (inside
     before = before;
   }
 
+-- all constraints are met
 pub all_met : (i : Instance) (stored : List Stored) (k : ℕ) → length stored ≤ k
     → ((j : ℕ) → j < k → Meets i (constraint_at (map constraint_of stored) j))
     → (c : Constraint) → Contains (map constraint_of stored) c → Meets i c

@@ -5,6 +5,7 @@ use Rattle.std.proofs.lemmas.List.Elements.{Contains-get_or}
 use Rattle.olap_base.specs.Instance.{Instance, IsBelow, parents_of}
 use Rattle.olap_base.specs.declared.ids.MemberId.{MemberId}
 
+-- what stands past the end of a list of ids
 abbrev pub nobody : MemberId
 nobody = record { 0 = 0 }
 
@@ -42,6 +43,7 @@ all_read i z k ms e h =
     let s : length ms ≡ length (parents_of i z) = sym (length-map ms (λ (m : MemberId). m.0)) ∙ ap length e in
     omega (arith, s)
 
+-- the parents so far are then all parents
 pub take_read : (i : Instance) (z k : ℕ) (ms : List MemberId) → places ms ≡ parents_of i z → length ms ≤ k
     → take k (parents_of i z) ≡ parents_of i z
 take_read i z k ms e h = take_all k (parents_of i z) (all_read i z k ms e h)

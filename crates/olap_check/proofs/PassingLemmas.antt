@@ -12,13 +12,16 @@ use Rattle.olap_check.specs.Tables.{IsTable}
 use Rattle.olap_check.specs.Passing.{IsStratified, IsPassedBy, IsFirstPassed, HasNoneAt}
 use Rattle.olap_check.proofs.TableLemmas.{row_is_whole}
 
+-- a member is not far below itself
 pub far_same : (i : Instance) (z y : ℕ) → IsStratified i → z ≡ y → IsTrue false ↔ IsFarBelow i z y
 far_same i z y s e = (λ t. absurd (cc), λ f. absurd (s z y f (ap (category_of i) e)))
 
+-- a member that reaches none of the category is not far below one of it
 pub far_none : (i : Instance) (z y : ℕ) → y < length i → (ReachesCategory i z (category_of i y) → ⊥)
     → IsTrue false ↔ IsFarBelow i z y
 far_none i z y h n = (λ t. absurd (cc), λ f. absurd (n (y, (h, refl), inr f)))
 
+-- a member is far below the one of the category that it reaches
 pub far_some : (i : Instance) (n z y a : ℕ) (cells : List ℕ) → IsBounded i n → IsTable i n (length i) cells
     → z < length i → z ≢ y
     → IsMemberOf i (category_of i y) a × Reaches i z a → IsTrue (nat_eq a y) ↔ IsFarBelow i z y
@@ -49,17 +52,20 @@ far_some i n z y a cells made t h apart m = (to, from)
 abbrev pub NoneBelowBefore : Instance → ℕ → ℕ → ℕ → Type 0
 NoneBelowBefore i x y k = (j : ℕ) → j < k → IsFarBelow i (get_or (parents_of i x) j 0) y → ⊥
 
+-- one more parent is not far below y
 pub none_below_more : {i : Instance} {x k : ℕ} {m : MemberId} → IsParentAt i x k m → (y : ℕ) → NoneBelowBefore i x y k
     → (IsFarBelow i m.0 y → ⊥) → NoneBelowBefore i x y (k + 1)
 none_below_more {i} {x} {k} at y below n =
     let P : ℕ → Type 0 = λ j. IsFarBelow i (get_or (parents_of i x) j 0) y → ⊥ in
     below_more P k below (λ f. n (subst (λ z. IsFarBelow i z y) (sym at.is) f))
 
+-- a parent far below y passes it
 pub passed_by : {i : Instance} {x k : ℕ} {m : MemberId} → IsParentAt i x k m → (y : ℕ) → IsFarBelow i m.0 y
     → IsPassedBy i x y
 passed_by {i} {x} {k} at y f =
     (get_or (parents_of i x) k 0, Contains-get_or (parents_of i x) k 0 at.inside, subst (λ z. IsFarBelow i z y) at.is f)
 
+-- no parent passes y
 pub none_passed : (i : Instance) (x y n : ℕ) → length (parents_of i x) ≤ n → NoneBelowBefore i x y n
     → IsTrue false ↔ IsPassedBy i x y
 none_passed i x y n h none = (λ t. absurd (cc), λ p. absurd (go p.0 p.1 p.2))
@@ -73,23 +79,28 @@ none_passed i x y n h none = (λ t. absurd (cc), λ p. absurd (go p.0 p.1 p.2))
 abbrev pub NonePassedBefore : Instance → ℕ → ℕ → Type 0
 NonePassedBefore i x k = (j : ℕ) → j < k → IsPassedBy i x (get_or (parents_of i x) j 0) → ⊥
 
+-- the first parent that is passed
 pub first_passed : {i : Instance} {x k : ℕ} {m : MemberId} → IsParentAt i x k m → IsPassedBy i x m.0
     → NonePassedBefore i x k → IsFirstPassed i x k
 first_passed {i} {x} at p b =
     record { inside = at.inside; passed = subst (λ y. IsPassedBy i x y) at.is p; before = b }
 
+-- one more parent is not passed
 pub passed_more : {i : Instance} {x k : ℕ} {m : MemberId} → IsParentAt i x k m → NonePassedBefore i x k
     → (IsPassedBy i x m.0 → ⊥) → NonePassedBefore i x (k + 1)
 passed_more {i} {x} {k} at below n =
     let P : ℕ → Type 0 = λ j. IsPassedBy i x (get_or (parents_of i x) j 0) → ⊥ in
     below_more P k below (λ p. n (subst (λ y. IsPassedBy i x y) (sym at.is) p))
 
+-- no parent is passed
 pub none_at : (i : Instance) (x n : ℕ) → length (parents_of i x) ≤ n → NonePassedBefore i x n → HasNoneAt i x
 none_at i x n h b k l = b k (omega (arith, l))
 
+-- one more member has none passed
 pub none_more : (i : Instance) (x : ℕ) → ((w : ℕ) → w < x → HasNoneAt i w) → HasNoneAt i x → (w : ℕ) → w < x + 1
     → HasNoneAt i w
 none_more i x below at = let P : ℕ → Type 0 = λ w. HasNoneAt i w in below_more P x below at
 
+-- what a false test refutes
 pub refuted : {P : Type 0} (r : Bool) → r ≡ false → IsTrue r ↔ P → P → ⊥
 refuted r e d p = let z : false ≡ true = sym e ∙ d.1 p in cc

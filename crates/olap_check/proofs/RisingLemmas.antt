@@ -15,19 +15,23 @@ use Rattle.olap_base.specs.Steps.{Steps, Steps.here, Steps.step, Steps-append, S
 use Rattle.olap_base.proofs.ListLemmas.{Contains-nil}
 use Rattle.olap_check.specs.Rows.{none, IsBounded, IsIn, IsRow, IsRise, Splits, free_count, IsVisit, Meets, IsFrontier}
 
+-- an element of one more is one before or the last
 pub take_cases : (ps : List ℕ) (k y : ℕ) → k < length ps → Contains (take (k + 1) ps) y
     → Contains (take k ps) y ⊎ (get_or ps k 0 ≡ y)
 take_cases ps k y h c = Contains-push_cases (take k ps) (get_or ps k 0) y
     (subst (λ l. Contains l y) (take_more ps k 0 h) c)
 
+-- one before is among one more
 pub take_before : (ps : List ℕ) (k y : ℕ) → k < length ps → Contains (take k ps) y → Contains (take (k + 1) ps) y
 take_before ps k y h c = subst (λ l. Contains l y) (sym (take_more ps k 0 h))
     (Contains-append_left (take k ps) (get_or ps k 0 ∷ []) y c)
 
+-- the last is among one more
 pub take_last : (ps : List ℕ) (k : ℕ) → k < length ps → Contains (take (k + 1) ps) (get_or ps k 0)
 take_last ps k h = subst (λ l. Contains l (get_or ps k 0)) (sym (take_more ps k 0 h))
     (Contains-push (take k ps) (get_or ps k 0))
 
+-- an element of the first few is one of all
 pub take_within : (ps : List ℕ) (k y : ℕ) → Contains (take k ps) y → Contains ps y
 take_within [] zero y c = c
 take_within [] (suc k) y c = c
@@ -37,6 +41,7 @@ take_within (p ∷ ps) (suc k) y c = elim (contains_cases y p (take k ps) c) [
   | inr d ↦ let t = take_within ps k y d in (suc t.0, omega (arith, t.1), t.2)
 ]
 
+-- a place that is filled is one free place fewer
 free_set : (row : List ℕ) (k p : ℕ) → k < length row → get_or row k 0 ≡ none → p ≢ none
     → suc (free_count (set row k p)) ≡ free_count row
 free_set [] k p h e n = absurd (omega arith)
@@ -59,9 +64,11 @@ free_set (x ∷ row) (suc k) p h e n = go (x == none) (free_set row k p (omega a
 
 module _ (i : Instance) (row : List ℕ) (p : ℕ) (few : length i ≤ 262144) (is_member : p < length i)
     (room : category_of i p < length row) where
+  -- the new member is in
   same_in : IsIn i (set row (category_of i p) p) p
   same_in = rw get_or-set_same
 
+  -- those that were in still are
   kept_in : get_or row (category_of i p) 0 ≡ none → (y : ℕ) → y < length i → IsIn i row y
       → IsIn i (set row (category_of i p) p) y
   kept_in free y h m = elim (ℕ_discrete (category_of i y) (category_of i p)) [
@@ -69,6 +76,7 @@ module _ (i : Instance) (row : List ℕ) (p : ℕ) (few : length i ≤ 262144) (
     | no n ↦ let ne : category_of i y ≢ category_of i p = n in rw get_or-set_other m
   ]
 
+  -- and nothing else is
   from_in : (y : ℕ) → IsIn i (set row (category_of i p) p) y → IsIn i row y ⊎ (y ≡ p)
   from_in y m = elim (ℕ_discrete (category_of i y) (category_of i p)) [
     | yes e ↦ inr (sym m ∙ ap (λ d. get_or (set row (category_of i p) p) d 0) e
@@ -76,6 +84,7 @@ module _ (i : Instance) (row : List ℕ) (p : ℕ) (few : length i ≤ 262144) (
     | no n ↦ let ne : category_of i y ≢ category_of i p = n in inl (rw get_or-set_other at m)
   ]
 
+  -- the places have members of their categories
   own_set : IsRow i row → IsRow i (set row (category_of i p) p)
   own_set r = record {
     own = λ d h ne. elim (ℕ_discrete d (category_of i p)) [
@@ -95,6 +104,7 @@ module _ (i : Instance) (row : List ℕ) (p : ℕ) (few : length i ≤ 262144) (
 
 -- ---- a visit
 
+-- no parent is visited
 pub visit_none : (i : Instance) (row list : List ℕ) → IsRow i row → IsVisit i [] row row list list
 visit_none i row list r = record {
   same_length = refl;
@@ -107,6 +117,7 @@ visit_none i row list r = record {
   fewer = omega arith;
 }
 
+-- a parent that is in already
 pub visit_skip : (i : Instance) (ps : List ℕ) (k : ℕ) (before row old list : List ℕ) → k < length ps
     → IsIn i row (get_or ps k 0)
     → IsVisit i (take k ps) before row old list → IsVisit i (take (k + 1) ps) before row old list
@@ -121,6 +132,7 @@ visit_skip i ps k before row old list h m v = record {
   fewer = v.fewer;
 }
 
+-- a parent that is new
 pub visit_push : (i : Instance) (ps : List ℕ) (k : ℕ) (before row old list : List ℕ) → length i ≤ 262144
     → k < length ps → ((y : ℕ) → Contains ps y → y < length i)
     → category_of i (get_or ps k 0) < length row → get_or row (category_of i (get_or ps k 0)) 0 ≡ none
@@ -180,6 +192,7 @@ visit_meets i ps k before row old list q h l e n apart v =
       apart = λ r. apart (sym r);
     }
 
+-- the same visit, of equal lists
 pub visit_as : {i : Instance} {ps before row after old list new : List ℕ} → after ≡ row → new ≡ list
     → IsVisit i ps before row old list → IsVisit i ps before after old new
 visit_as {i} {ps} {before} {row} {after} {old} {list} {new} e f v =
@@ -192,17 +205,21 @@ module _ {i : Instance} {z k n : ℕ} {m : MemberId} (at : IsParentAt i z k m) (
   abbrev p : ℕ
   p = get_or (parents_of i z) k 0
 
+  -- the place of the parent that is read
   place : d ≡ category_of i p
   place = d_is ∙ ap (category_of i) at.is
 
+  -- there is such a place
   room : category_of i p < length row
   room = let c = bounded.categories p at.member in omega (arith, v.same_length, size, c)
 
+  -- what stands there
   found : get_or row (category_of i p) 0 ≡ q
   found =
       let inside : d < length row = subst (λ e. e < length row) (sym place) room in
       ap (λ e. get_or row e 0) (sym place) ∙ get_or_default row d 0 q inside ∙ sym q_is
 
+  -- it is free
   pub visit_pushed : q ≡ none
       → IsVisit i (take (k + 1) (parents_of i z)) before (set row d m.0) old (list ++ m.0 ∷ [])
   visit_pushed e =
@@ -212,15 +229,18 @@ module _ {i : Instance} {z k n : ℕ} {m : MemberId} (at : IsParentAt i z k m) (
       subst (λ l. IsVisit i (take (k + 1) all) before (set row d m.0) old (list ++ l ∷ [])) (sym at.is)
       (subst (λ w. IsVisit i (take (k + 1) all) before w old (list ++ p ∷ [])) r t)
 
+  -- it has the parent
   pub visit_skipped : q ≡ m.0 → IsVisit i (take (k + 1) (parents_of i z)) before row old list
   visit_skipped e = visit_skip i (parents_of i z) k before row old list at.inside (found ∙ e ∙ at.is) v
 
+  -- it has another member
   pub visit_met : q ≢ none → q ≢ m.0 → Meets i (parents_of i z) before
   visit_met far apart =
       visit_meets i (parents_of i z) k before row old list q at.inside room found far (λ e. apart (e ∙ sym at.is)) v
 
 -- ---- the frontier
 
+-- the walk begins at x
 pub frontier_start : (i : Instance) (x n : ℕ) (row list : List ℕ) → IsBounded i n → row ≡ replicate n none
     → x < length i → list ≡ x ∷ [] → IsFrontier i x (set row (category_of i x) x) list
 frontier_start i x n row list made e inside q =
@@ -259,6 +279,7 @@ frontier_start i x n row list made e inside q =
     alone y c =
         elim (contains_cases y x [] (subst (λ l. Contains l y) q c)) [ inl t ↦ t | inr k ↦ absurd (Contains-nil y k) ]
 
+-- a listed member is visited
 pub frontier_next : (i : Instance) (x z : ℕ) (row after rest new : List ℕ)
     → ((a b : ℕ) → IsBelow i a b → b < length i)
     → IsFrontier i x row (rest ++ z ∷ []) → IsVisit i (parents_of i z) row after rest new → IsFrontier i x after new
@@ -287,6 +308,7 @@ frontier_next i x z row after rest new places f v =
       ];
     }
 
+-- a place with another member: x reaches both
 pub frontier_splits : (i : Instance) (x z : ℕ) (row rest : List ℕ)
     → IsFrontier i x row (rest ++ z ∷ []) → Meets i (parents_of i z) row → Splits i x
 frontier_splits i x z row rest f m =
@@ -307,6 +329,7 @@ frontier_splits i x z row rest f m =
       apart = m.apart;
     }
 
+-- with nothing listed, what is above a member that is in is in
 all_in : (i : Instance) (x : ℕ) (row : List ℕ) → ((a b : ℕ) → IsBelow i a b → b < length i) → IsFrontier i x row []
     → {a y : ℕ} → Steps (IsBelow i) a y → a < length i → IsIn i row a → IsIn i row y
 all_in i x row places f here h m = m
@@ -314,6 +337,7 @@ all_in i x row places f (step {x = a} {y = b} r s) h m =
     all_in i x row places f s (places a b r)
     (elim (f.closed a h m) [ inl c ↦ absurd (Contains-nil a c) | inr c ↦ c b r ])
 
+-- the walk has ended
 pub frontier_done : (i : Instance) (n x : ℕ) (row : List ℕ) → ((a b : ℕ) → IsBelow i a b → b < length i)
     → x < length i → length row ≡ n → IsFrontier i x row [] → IsRise i n x row
 frontier_done i n x row places inside size f = record {
@@ -325,10 +349,12 @@ frontier_done i n x row places inside size f = record {
   );
 }
 
+-- a list of length 0
 pub no_items : (xs : List ℕ) → length xs ≡ 0 → xs ≡ []
 no_items [] e = refl
 no_items (x ∷ xs) e = absurd (omega arith)
 
+-- an option that is not Some
 pub none_case : (o : Option ℕ) (P : Type 0) (Q : ℕ → Type 0) → ((x : ℕ) → o ≡ Some x → ⊥) → MatchOption o P Q → P
 none_case None P Q f m = m
 none_case (Some x) P Q f m = absurd (f x refl)

@@ -20,6 +20,7 @@ whole_marking i n true ps before after old new made places m = m
 whole_marking i n false ps before after old new made places m =
     absurd (let c = made.categories m.hit (places m.hit m.is_parent) in let e = m.category in omega (arith, c, e))
 
+-- the parents of x are marked
 pub climbing_start : (i : Instance) (n x : ℕ) (marks after : List Bool) (old new : List ℕ) → IsBounded i n → old ≡ []
     → IsClosed i n marks → ((y : ℕ) → IsMarked marks y → ⊥) → IsMarking i n (parents_of i x) marks after old new
     → IsClimbing i n x after new
@@ -28,6 +29,7 @@ climbing_start i n x marks after old new made e d none v = record {
   far = λ y m. elim (v.fresh y m) [ inl a ↦ absurd (none y a) | inr a ↦ leads_from_Climb (climb a.0 here) ];
 }
 
+-- the parents of a listed member are marked
 pub climbing_next : (i : Instance) (n x z : ℕ) (marks after : List Bool) (rest new : List ℕ) → IsBounded i n
     → IsClimbing i n x marks (rest ++ z ∷ []) → IsMarking i n (parents_of i z) marks after rest new
     → IsClimbing i n x after new
@@ -39,6 +41,7 @@ climbing_next i n x z marks after rest new made f v = record {
   ];
 }
 
+-- with nothing listed, all that is above x is marked
 pub climbing_done : (i : Instance) (n x : ℕ) (marks : List Bool) → IsClimbing i n x marks [] → MarksAbove i x marks
 climbing_done i n x marks f =
     record { same_length = f.search.same_length; exact = λ y. (λ m. f.far y m, λ l. to y (Climb-from_leads l)) }
@@ -53,14 +56,17 @@ climbing_done i n x marks f =
 
 -- ---- two of one category
 
+-- only places of the list are marked
 pub marked_inside : (marks : List Bool) (y : ℕ) → IsMarked marks y → y < length marks
 marked_inside [] y m = absurd (cc)
 marked_inside (b ∷ bs) zero m = omega arith
 marked_inside (b ∷ bs) (suc y) m = let h : y < length bs = marked_inside bs y m in omega arith
 
+-- below one more
 below_cases : (w k : ℕ) → w < k + 1 → (w ≡ k) ⊎ (w < k)
 below_cases w k h = grind arith
 
+-- one more member that is not a marked one of the category
 pub found_more : (i : Instance) (marks : List Bool) (c k : ℕ) (o : Option ℕ)
     → (IsMarked marks k → category_of i k ≡ c → ⊥) → IsFoundAmong i marks c k o → IsFoundAmong i marks c (k + 1) o
 found_more i marks c k None n f = λ w h m e. elim (below_cases w k h) [
@@ -76,6 +82,7 @@ found_more i marks c k (Some y) n f = record {
   ];
 }
 
+-- the first that is
 pub found_first : (i : Instance) (marks : List Bool) (c k : ℕ) (o : Option ℕ) → is_some o ≡ false → IsMarked marks k
     → category_of i k ≡ c → IsFoundAmong i marks c k o → IsFoundAmong i marks c (k + 1) (Some k)
 found_first i marks c k None t m e f = record {
@@ -85,6 +92,7 @@ found_first i marks c k None t m e f = record {
 }
 found_first i marks c k (Some y) t m e f = absurd (cc)
 
+-- the second that is
 pub found_two : (i : Instance) (marks : List Bool) (c k : ℕ) (o : Option ℕ) → is_some o ≡ true → IsMarked marks k
     → category_of i k ≡ c → IsFoundAmong i marks c k o → HasTwo i marks c
 found_two i marks c k None t m e f = absurd (cc)
@@ -98,6 +106,7 @@ found_two i marks c k (Some y) t m e f =
           absurd (omega (arith, q));
     }
 
+-- no second
 pub found_none : (i : Instance) (marks : List Bool) (c n : ℕ) (o : Option ℕ) → length marks ≤ n
     → IsFoundAmong i marks c n o → IsTrue false ↔ HasTwo i marks c
 found_none i marks c n o h f = (λ t. absurd (cc), λ p. absurd (go o f p))
@@ -113,10 +122,12 @@ found_none i marks c n o h f = (λ t. absurd (cc), λ p. absurd (go o f p))
 
 -- ---- the least category
 
+-- two marked members are above x
 pub two_above : (i : Instance) (x c : ℕ) (marks : List Bool) → MarksAbove i x marks → HasTwo i marks c → SplitsAt i x c
 two_above i x c marks a p =
     (p.one, p.other, (a.exact p.one).0 p.one_is.0, (a.exact p.other).0 p.other_is.0, p.one_is.1, p.other_is.1, p.apart)
 
+-- two above x are marked
 pub above_two : (i : Instance) (x c : ℕ) (marks : List Bool) → MarksAbove i x marks → SplitsAt i x c → HasTwo i marks c
 above_two i x c marks a p =
     record {
@@ -138,6 +149,7 @@ splits_at i x strata s = go s.reaches_one s.reaches_other
     go (inr f) (inl e) = absurd (strata x s.one f (ap (category_of i) e ∙ sym s.same_category))
     go (inr f) (inr g) = (s.one, s.other, f, g, refl, sym s.same_category, s.apart)
 
+-- two far above are two that are reached
 pub splits_of : (i : Instance) (x c : ℕ) → SplitsAt i x c → Splits i x
 splits_of i x c p =
     record {
@@ -150,6 +162,7 @@ splits_of i x c p =
       apart = p.6;
     }
 
+-- some category has two
 pub some_category : (i : Instance) (n c x : ℕ) → IsBounded i n → x < length i → IsStratified i → n ≤ c → Splits i x
     → ((d : ℕ) → d < c → SplitsAt i x d → ⊥) → ⊥
 some_category i n c x made inside strata h s none =
@@ -159,6 +172,7 @@ some_category i n c x made inside strata h s none =
     in_reach : Reaches i x s.one → s.one < length i
     in_reach r = reached_inside i made.places (Steps-from_reaches r) inside
 
+-- one more category has not
 pub split_more : (i : Instance) (x c : ℕ) → ((d : ℕ) → d < c → SplitsAt i x d → ⊥) → (SplitsAt i x c → ⊥) → (d : ℕ)
     → d < c + 1 → SplitsAt i x d → ⊥
 split_more i x c below at = let P : ℕ → Type 0 = λ d. SplitsAt i x d → ⊥ in below_more P c below at

@@ -16,21 +16,25 @@ use Rattle.olap_base.specs.Deciding.{below_is_member}
 use Rattle.olap_check.specs.Strata.{Repeats, HasNoneAbove, IsFirstIn, IsFirstOf, IsFirstRepeat, IsMarked, unmarked_count, IsPassed, IsClosed, IsMarking, Hits, IsSearch}
 use Rattle.olap_check.proofs.RisingLemmas.{take_cases, take_before, take_last}
 
+-- the new mark
 same_marked : (ms : List Bool) (k : ℕ) → k < length ms → IsMarked (set ms k true) k
 same_marked ms k h = rw get_or-set_same
 
+-- the old marks
 kept_marked : (ms : List Bool) (k y : ℕ) → k < length ms → IsMarked ms y → IsMarked (set ms k true) y
 kept_marked ms k y h m = elim (ℕ_discrete y k) [
   | yes e ↦ subst (λ z. IsMarked (set ms k true) z) (sym e) (same_marked ms k h)
   | no n ↦ let ne : y ≢ k = n in rw get_or-set_other m
 ]
 
+-- and no other
 from_marked : (ms : List Bool) (k y : ℕ) → IsMarked (set ms k true) y → IsMarked ms y ⊎ (y ≡ k)
 from_marked ms k y m = elim (ℕ_discrete y k) [
   | yes e ↦ inr e
   | no n ↦ let ne : y ≢ k = n in inl (rw get_or-set_other at m)
 ]
 
+-- one unmarked place fewer
 unmarked_set : (ms : List Bool) (k : ℕ) → k < length ms → get_or ms k false ≡ false
     → suc (unmarked_count (set ms k true)) ≡ unmarked_count ms
 unmarked_set [] k h e = absurd (omega arith)
@@ -44,6 +48,7 @@ pub mark_is : (marks : List Bool) (p : ℕ) (r b : Bool) → p < length marks �
     → get_or marks p false ≡ b
 mark_is marks p r b h e q = get_or_default marks p false r h ∙ sym e ∙ q
 
+-- no parent is marked
 pub marking_none : (i : Instance) (c : ℕ) (marks : List Bool) (list : List ℕ) → IsMarking i c [] marks marks list list
 marking_none i c marks list = record {
   same_length = refl;
@@ -58,6 +63,7 @@ marking_none i c marks list = record {
 module _ (i : Instance) (c : ℕ) (ps : List ℕ) (k : ℕ) (before marks : List Bool) (old list : List ℕ)
     (h : k < length ps) (v : IsMarking i c (take k ps) before marks old list)
     (other : category_of i (get_or ps k 0) ≢ c) where
+  -- a parent that is marked already
   pub marking_skip : IsMarked marks (get_or ps k 0) → IsMarking i c (take (k + 1) ps) before marks old list
   marking_skip m = record {
     same_length = v.same_length;
@@ -73,6 +79,7 @@ module _ (i : Instance) (c : ℕ) (ps : List ℕ) (k : ℕ) (before marks : List
     fewer = v.fewer;
   }
 
+  -- a parent that is new
   pub marking_push : get_or ps k 0 < length marks → get_or marks (get_or ps k 0) false ≡ false
       → IsMarking i c (take (k + 1) ps) before (set marks (get_or ps k 0) true) old (list ++ get_or ps k 0 ∷ [])
   marking_push l n =
@@ -104,6 +111,7 @@ module _ (i : Instance) (c : ℕ) (ps : List ℕ) (k : ℕ) (before marks : List
         fewer = let u = unmarked_set marks p l n in let f = v.fewer in omega (arith, length-append list (p ∷ []));
       }
 
+-- the same marking, of equal lists
 pub marking_as : {i : Instance} {c : ℕ} {ps : List ℕ} {before marks after : List Bool} {old list new : List ℕ}
     → after ≡ marks → new ≡ list → IsMarking i c ps before marks old list → IsMarking i c ps before after old new
 marking_as {i} {c} {ps} {before} {marks} {after} {old} {list} {new} e f v =
@@ -113,17 +121,21 @@ marking_as {i} {c} {ps} {before} {marks} {after} {old} {list} {new} e f v =
 module _ {i : Instance} {z k c : ℕ} {m : MemberId} (at : IsParentAt i z k m) {before marks : List Bool}
     {old list : List ℕ} (v : IsMarking i c (take k (parents_of i z)) before marks old list)
     (size : length before ≡ length i) where
+  -- the parent has a place among the marks
   pub mark_inside : m.0 < length marks
   mark_inside = let h = parent_member at in omega (arith, v.same_length, size, h)
 
   module _ (category : ℕ) (category_is : category ≡ category_of i m.0) (other : category ≢ c) (r : Bool)
       (r_is : r ≡ get_or marks m.0 r) where
+    -- the parent that is read is not of the category
     apart : category_of i (get_or (parents_of i z) k 0) ≢ c
     apart e = other (category_is ∙ ap (category_of i) at.is ∙ e)
 
+    -- the mark of the parent that is read
     mark_of : (b : Bool) → r ≡ b → get_or marks (get_or (parents_of i z) k 0) false ≡ b
     mark_of b e = ap (λ j. get_or marks j false) (sym at.is) ∙ mark_is marks m.0 r b mark_inside r_is e
 
+    -- it is not marked yet
     pub marking_pushed : r ≡ false
         → IsMarking i c (take (k + 1) (parents_of i z)) before (set marks m.0 true) old (list ++ m.0 ∷ [])
     marking_pushed e =
@@ -131,6 +143,7 @@ module _ {i : Instance} {z k c : ℕ} {m : MemberId} (at : IsParentAt i z k m) {
         let t = marking_push i c (parents_of i z) k before marks old list at.inside v apart inside (mark_of false e) in
         marking_as (ap (λ j. set marks j true) at.is) (ap (λ j. list ++ j ∷ []) at.is) t
 
+    -- it is marked
     pub marking_skipped : r ≡ true → IsMarking i c (take (k + 1) (parents_of i z)) before marks old list
     marking_skipped e = marking_skip i c (parents_of i z) k before marks old list at.inside v apart (mark_of true e)
 
@@ -162,6 +175,7 @@ module _ (i : Instance) (c x : ℕ) (places : (a b : ℕ) → IsBelow i a b → 
     ];
   }
 
+  -- the parents of a listed member are marked
   pub search_next : (z : ℕ) (marks after : List Bool) (rest new : List ℕ) → IsSearch i c x marks (rest ++ z ∷ [])
       → IsMarking i c (parents_of i z) marks after rest new → IsSearch i c x after new
   search_next z marks after rest new f v =
@@ -185,19 +199,23 @@ module _ (i : Instance) (c x : ℕ) (places : (a b : ℕ) → IsBelow i a b → 
         ];
       }
 
+  -- a parent of a listed member is of the category
   pub search_hits : (z : ℕ) (marks : List Bool) (rest : List ℕ) → IsSearch i c x marks (rest ++ z ∷ [])
       → Hits i c (parents_of i z) → (y : ℕ) × IsFarBelow i x y × (category_of i y ≡ c)
   search_hits z marks rest f m =
       (m.hit, leads_from_Climb (Steps-climb (f.listed z (Contains-push rest z)).1 (climb m.is_parent here)), m.category)
 
+  -- a parent of x is of the category
   pub start_hits : Hits i c (parents_of i x) → (y : ℕ) × IsFarBelow i x y × (category_of i y ≡ c)
   start_hits m = (m.hit, leads_from_Climb (climb m.is_parent here), m.category)
 
+-- above what is marked no member is of the category
 above_marked : (i : Instance) (c : ℕ) (marks : List Bool) → IsClosed i c marks → {a y : ℕ} → Steps (IsBelow i) a y
     → IsPassed i c marks a → category_of i y ≢ c
 above_marked i c marks d here p = p.0
 above_marked i c marks d (step {x = a} {y = b} r s) p = above_marked i c marks d s (d.closed a p.1 b r)
 
+-- so none is above x
 pub none_above : (i : Instance) (c x : ℕ) (marks : List Bool) → IsClosed i c marks
     → ((y : ℕ) → IsBelow i x y → IsPassed i c marks y) → HasNoneAbove i c x
 none_above i c x marks d ps y l = go (Climb-from_leads l)
@@ -205,6 +223,7 @@ none_above i c x marks d ps y l = go (Climb-from_leads l)
     go : Climb (IsBelow i) x y → category_of i y ≢ c
     go (climb {z = b} r s) = above_marked i c marks d s (ps b r)
 
+-- with nothing listed the marks are closed
 pub search_done : (i : Instance) (c x : ℕ) (marks : List Bool) → IsSearch i c x marks []
     → IsClosed i c marks × HasNoneAbove i c x
 search_done i c x marks f = (d, none_above i c x marks d f.parents)
@@ -222,6 +241,7 @@ none_marked zero y = refl
 none_marked (suc n) zero = refl
 none_marked (suc n) (suc y) = none_marked n y
 
+-- and so the marks are closed
 pub closed_start : (i : Instance) (c n : ℕ) (marks : List Bool) → marks ≡ replicate n false → n ≡ length i
     → IsClosed i c marks
 closed_start i c n marks e l = record {
@@ -232,6 +252,7 @@ closed_start i c n marks e l = record {
 
 -- ---- the members of one category, in order
 
+-- one more member that does not repeat
 pub before_more : (i : Instance) (c x : ℕ) → ((w : ℕ) → w < x → category_of i w ≡ c → HasNoneAbove i c w)
     → (category_of i x ≡ c → HasNoneAbove i c x) → (w : ℕ) → w < x + 1 → category_of i w ≡ c → HasNoneAbove i c w
 before_more i c x below at w h = elim (ℕ_discrete w x) [
@@ -239,6 +260,7 @@ before_more i c x below at w h = elim (ℕ_discrete w x) [
   | no n ↦ let ne : w ≢ x = n in below w (omega arith)
 ]
 
+-- no member below the limit repeats
 pub first_at_limit : (i : Instance) (c limit x : ℕ) → limit ≤ x
     → ((w : ℕ) → w < x → category_of i w ≡ c → HasNoneAbove i c w) → IsFirstIn i c limit limit
 first_at_limit i c limit x h below =
@@ -249,6 +271,7 @@ first_at_limit i c limit x h below =
           (omega (arith, l, h));
     }
 
+-- the first that repeats
 pub first_found : (i : Instance) (c limit x y : ℕ) → x < limit → IsFarBelow i x y → category_of i y ≡ c
     → category_of i x ≡ c → ((w : ℕ) → w < x → category_of i w ≡ c → HasNoneAbove i c w) → IsFirstIn i c limit x
 first_found i c limit x y h f e q below =
@@ -256,6 +279,7 @@ first_found i c limit x y h f e q below =
 
 -- ---- category after category
 
+-- no category has been searched
 pub first_start : (i : Instance) (n : ℕ) → n ≡ length i → IsFirstOf i 0 n
 first_start i n e =
     record {
@@ -265,6 +289,7 @@ first_start i n e =
           (omega (arith, h));
     }
 
+-- one more category
 pub first_step : (i : Instance) (c first r : ℕ) → IsFirstOf i c first → IsFirstIn i c first r → IsFirstOf i (c + 1) r
 first_step i c first r f s = record {
   within = let a = f.within in let b = s.within in omega arith;
@@ -278,6 +303,7 @@ first_step i c first r f s = record {
   ];
 }
 
+-- no member repeats
 pub first_none : (i : Instance) (n r c : ℕ) → IsBounded i n → n ≤ c → length i ≤ r → IsFirstOf i c r → (x : ℕ)
     → Repeats i x → ⊥
 first_none i n r c made e h f x p =
@@ -290,6 +316,7 @@ first_none i n r c made e h f x p =
         go : Climb (IsBelow i) x y → x < length i
         go (climb {z = z} r s) = below_is_member i x z r
 
+-- the first member that repeats
 pub first_some : (i : Instance) (n r c : ℕ) → IsBounded i n → n ≤ c → r < length i → IsFirstOf i c r → IsFirstRepeat i r
 first_some i n r c made e h f = record {
   inside = h;

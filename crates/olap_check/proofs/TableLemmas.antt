@@ -11,6 +11,7 @@ use Rattle.olap_check.specs.Rows.{none, IsBounded, IsRise, Splits}
 use Rattle.olap_check.specs.Ancestors.{IsAncestor}
 use Rattle.olap_check.specs.Tables.{cell, IsTable, IsFirstSplit}
 
+-- what a member reaches is a member
 pub reached_inside : (i : Instance) → ((a b : ℕ) → IsBelow i a b → b < length i) → {x y : ℕ} → Steps (IsBelow i) x y
     → x < length i → y < length i
 reached_inside i places here h = h
@@ -21,14 +22,17 @@ earlier : (n k x d : ℕ) → x < k → d < n → x * n + d < k * n
 earlier n k x d h l = let h' : x + 1 ≤ k = omega arith in let m : (x + 1) * n ≤ k * n =
     mul-le-mul_right n h' in omega (arith, m)
 
+-- a row more keeps the cells
 cell_before : (n k : ℕ) (cells row : List ℕ) (x d : ℕ) → length cells ≡ k * n → x < k → d < n
     → cell n (cells ++ row) x d ≡ cell n cells x d
 cell_before n k cells row x d e h l =
     get_or-append cells row 0 (x * n + d) (let t = earlier n k x d h l in omega (arith, t))
 
+-- and adds its own
 cell_last : (n k : ℕ) (cells row : List ℕ) (d : ℕ) → length cells ≡ k * n → cell n (cells ++ row) k d ≡ get_or row d 0
 cell_last n k cells row d e = ap (λ m. get_or (cells ++ row) (m + d) 0) (sym e) ∙ get_or-append-add cells row d 0
 
+-- no rows
 pub table_start : (i : Instance) (n : ℕ) → IsTable i n 0 []
 table_start i n = record {
   size = omega arith;
@@ -36,6 +40,7 @@ table_start i n = record {
   exact = λ x y h. absurd (omega (arith, h));
 }
 
+-- one row more
 pub table_step : (i : Instance) (n k : ℕ) (cells row : List ℕ) → IsBounded i n → IsTable i n k cells
     → IsRise i n k row → IsTable i n (k + 1) (cells ++ row)
 table_step i n k cells row made t r = record {
@@ -79,6 +84,7 @@ row_is_whole i n k cells made t x h inside s =
     stands : (y : ℕ) → Reaches i x y → cell n cells x (category_of i y) ≡ y
     stands y p = (t.exact x y h (reached_inside i made.places (Steps-from_reaches p) inside)).1 ((reaches_is i x y).1 p)
 
+-- the first member without a row
 pub first_split : (i : Instance) (n x : ℕ) (cells : List ℕ) → IsBounded i n → IsTable i n x cells → x < length i
     → Splits i x → IsFirstSplit i n x
 first_split i n x cells made t inside s = record {
@@ -89,9 +95,11 @@ first_split i n x cells made t inside s = record {
 
 -- ---- a look-up
 
+-- a place of the table
 pub cell_inside : (n k x d m : ℕ) → x < k → d < n → m ≡ k * n → x * n + d < m
 cell_inside n k x d m h l e = let t = earlier n k x d h l in omega (arith, t)
 
+-- a place with a member
 pub cell_some : (i : Instance) (n x d y : ℕ) (cells : List ℕ) → IsTable i n (length i) cells → x < length i → d < n
     → cell n cells x d ≡ y → y ≢ none → IsMemberOf i d y × Reaches i x y
 cell_some i n x d y cells t h l e ne =
@@ -100,6 +108,7 @@ cell_some i n x d y cells t h l e ne =
     let c : category_of i y ≡ d = ap (category_of i) (sym e) ∙ o.1 in
     ((inside, c), (reaches_is i x y).0 ((t.exact x y h inside).0 (ap (cell n cells x) c ∙ e)))
 
+-- a place without
 pub cell_none : (i : Instance) (n x d y : ℕ) (cells : List ℕ) → length i ≤ 262144 → IsTable i n (length i) cells
     → x < length i → cell n cells x d ≡ y → y ≡ none → ReachesCategory i x d → ⊥
 cell_none i n x d y cells few t h e q r =
@@ -118,6 +127,7 @@ only_one i n x c y w cells t h y_is y_reached w_is w_reached =
     sym ((t.exact x w h w_is.0).1 ((reaches_is i x w).1 w_reached)) ∙ ap (cell n cells x) same
     ∙ (t.exact x y h y_is.0).1 ((reaches_is i x y).1 y_reached)
 
+-- the member in its place is the ancestor
 pub ancestor_of : (i : Instance) (n x c y : ℕ) (cells : List ℕ) → IsTable i n (length i) cells → x < length i
     → IsMemberOf i c y × Reaches i x y → IsAncestor i x c y
 ancestor_of i n x c y cells t h m = record {

@@ -17,12 +17,14 @@ use Rattle.olap_check.specs.declared.violations.Violation.{Violation}
 use Rattle.olap_check.specs.declared.violations.Violation.TheVariants as here
 
 -- the schema of a graph and stored constraints
-abbrev pub schema_of : Graph → List Stored → Schema
-schema_of g constraints = record { graph = g; constraints = map constraint_of constraints }
+abbrev pub parts_of : Graph → List Stored → Schema
+parts_of g constraints = record { graph = g; constraints = map constraint_of constraints }
 
+-- the id of a place
 abbrev pub member : ℕ → MemberId
 member x = record { 0 = x }
 
+-- the id of a category
 abbrev pub category : ℕ → CatId
 category c = record { 0 = c }
 

@@ -7,6 +7,7 @@ use Rattle.std.specs.Prelude.{◌≡◌, ◌≢◌, ℕ, suc, ◌+◌, ◌<◌, 
 use Rattle.olap_base.specs.Instance.{Instance, IsBelow, Reaches, category_of}
 use Rattle.olap_base.specs.Steps.{Steps}
 
+-- stands where no member does
 abbrev pub none : ℕ
 none = 4294967295
 
@@ -42,6 +43,7 @@ pub record Splits (i : Instance) (x : ℕ) : Type 0 where
 
 -- ---- inside the walk
 
+-- how many places have no member
 abbrev pub free_count : List ℕ → ℕ
 free_count [] = 0
 free_count (x ∷ xs) = cond (x == none) (suc (free_count xs)) (free_count xs)
@@ -66,6 +68,7 @@ pub record Meets (i : Instance) (parents before : List ℕ) : Type 0 where
   pub same_category : category_of i one ≡ category_of i other
   pub apart : one ≢ other
 
+-- a visit of all parents, or two members of one category
 abbrev pub VisitGives : Bool → Instance → List ℕ → List ℕ → List ℕ → List ℕ → List ℕ → Type 0
 VisitGives true i parents before after old new = IsVisit i parents before after old new
 VisitGives false i parents before after old new = Meets i parents before

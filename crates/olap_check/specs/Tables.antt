@@ -42,6 +42,7 @@ pub record IsOnly (i : Instance) (marks : List Bool) (c n y : ℕ) : Type 0 wher
   pub is_one : IsMarked marks y × (category_of i y ≡ c)
   pub alone : (w : ℕ) → w < n → IsMarked marks w → category_of i w ≡ c → w ≡ y
 
+-- the one marked member of the category among the first n, or none
 abbrev pub IsFoundAmong : Instance → List Bool → ℕ → ℕ → Option ℕ → Type 0
 IsFoundAmong i marks c n None = (w : ℕ) → w < n → IsMarked marks w → category_of i w ≡ c → ⊥
 IsFoundAmong i marks c n (Some y) = IsOnly i marks c n y
@@ -56,6 +57,7 @@ abbrev pub SplitsAt : Instance → ℕ → ℕ → Type 0
 SplitsAt i x c = (y z : ℕ) × IsFarBelow i x y × IsFarBelow i x z × (category_of i y ≡ c) × (category_of i z ≡ c)
     × (y ≢ z)
 
+-- c is the least category of which x is far below two members
 pub record IsLeastSplit (i : Instance) (x c : ℕ) : Type 0 where
   pub splits : SplitsAt i x c
   pub before : (d : ℕ) → d < c → SplitsAt i x d → ⊥

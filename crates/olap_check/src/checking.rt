@@ -1,9 +1,9 @@
 // The check: the laws, and then the constraints.
-ghost use Rattle.std.specs.Prelude.{◌≡◌, ◌≤◌, length, map, IfOk, IfErr};
+ghost use Rattle.std.specs.Prelude.{◌≡◌, ◌≤◌, length, IfOk, IfErr};
 ghost use Rattle.olap_ast.specs.Schema.{IsLegal};
-ghost use Rattle.olap_check.specs.Reports.{IsRefused, schema_of};
+ghost use Rattle.olap_check.specs.Reports.{IsRefused, parts_of};
+ghost use Rattle.olap_schema.specs.Schemas.{schema_of};
 ghost use Rattle.olap_instance.specs.Made.{IsMadeFor};
-ghost use Rattle.olap_schema.specs.Schemas.{schema_of as schema_meant};
 
 use crate::laws::{bound, lawful};
 use crate::meeting::first_violated;
@@ -15,12 +15,23 @@ use olap_instance::Instance;
 use olap_schema::Schema;
 use std::alloc::Global;
 
-/// The instance as a legal one for this graph and these constraints.
+/// The instance as a legal one for the schema.
 ///
 /// `Broken` exactly where it isn't legal, with the first violation: by law, and within a law in file order, as
-/// `IsFirstViolation` says. `Memory` where there is no room, and the instance is dropped. Linear in members times
-/// categories, parents of a member count as members.
-pub fn check_parts(
+/// `IsFirstViolation` says. `Memory` where there is no room, and the instance is dropped. Cost: at most the members and
+/// their parents times the number of categories, the members times its square, and each formula at the members of its
+/// root. A cycle, or a member with many parents, costs no more.
+pub fn check(alloc: Global, schema: &Schema, instance: Instance) -> Result<Legal, CheckRefusal>
+    requires { IsMadeFor (schema_of schema.now).graph instance }
+    ensures same { IfOk result (λ legal. legal ≡ instance) }
+    ensures ok { IfOk result (λ legal. IsLegal (schema_of schema.now) instance) }
+    ensures err { IfErr result (IsRefused (schema_of schema.now) instance) }
+{
+    check_parts(alloc, schema.graph(), schema.constraints(), instance)
+}
+
+// `check` for a graph and constraints that stand in no `Schema`.
+fn check_parts(
     alloc: Global,
     graph: &Graph,
     constraints: &[Constraint],
@@ -29,8 +40,8 @@ pub fn check_parts(
     requires made { IsMadeFor graph.now instance }
     requires few { length constraints.now ≤ 64 }
     ensures same { IfOk result (λ legal. legal ≡ instance) }
-    ensures ok { IfOk result (λ legal. IsLegal (schema_of graph.now constraints.now) instance) }
-    ensures err { IfErr result (IsRefused (schema_of graph.now constraints.now) instance) }
+    ensures ok { IfOk result (λ legal. IsLegal (parts_of graph.now constraints.now) instance) }
+    ensures err { IfErr result (IsRefused (parts_of graph.now constraints.now) instance) }
 {
     let categories = bound(graph, &instance);
     let cells = match lawful(alloc, graph, &instance, categories)? {
@@ -42,15 +53,4 @@ pub fn check_parts(
         return Err(CheckRefusal::Broken(instance, violation));
     }
     Ok(Legal::of(instance, categories, cells))
-}
-
-/// The instance as a legal one for this schema: see `check_parts`.
-pub fn check(alloc: Global, schema: &Schema, instance: Instance) -> Result<Legal, CheckRefusal>
-    requires made { IsMadeFor (schema_meant schema.now).graph instance }
-
-    ensures same { IfOk result (λ legal. legal ≡ instance) }
-    ensures ok { IfOk result (λ legal. IsLegal (schema_meant schema.now) instance) }
-    ensures err { IfErr result (IsRefused (schema_meant schema.now) instance) }
-{
-    check_parts(alloc, schema.graph(), schema.constraints(), instance)
 }

@@ -15,8 +15,10 @@ mod parting;
 mod passing;
 mod rising;
 mod strata;
+#[cfg(test)]
+mod tests;
 mod violations;
 
-pub use checking::{check, check_parts};
+pub use checking::check;
 pub use legality::Legal;
 pub use violations::{CheckRefusal, Violation};

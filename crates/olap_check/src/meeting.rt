@@ -28,7 +28,8 @@ fn first_unmet(
     ensures none { IsNone result → (x : ℕ) → IsMemberOf instance.now root.0 x
         → Holds instance.now x (formula_of formula.now) }
 {
-    'members: for x in 0..instance.members() {
+    let count = instance.members();
+    'members: for x in 0..count {
         if instance.category(MemberId(x)).0 == root.0 {
             let above = Above {
                 instance,

@@ -60,6 +60,22 @@ fn push_pair(
     push_id(out, instance, y)
 }
 
+/// Appends a number and a member's id.
+fn push_counted(
+    alloc: Global,
+    out: &mut Vec<u8>,
+    n: u16,
+    instance: &Instance,
+    x: MemberId,
+) -> Result<(), AllocError>
+    requires { IsMember instance.now x.0 }
+    ensures { OnOk result (out.new.items ≡ out.old.items ++ (decimal n ++ (codes " " ++ id_text instance.now x.0))) }
+{
+    let number = format!(in alloc; "{n} ")?;
+    out.extend_from_slice(number.as_bytes())?;
+    push_id(out, instance, x)
+}
+
 /// Appends a violation's words.
 fn push_violation(
     alloc: Global,
@@ -95,11 +111,8 @@ fn push_violation(
             push_pair(out, instance, x, y)
         }
         Violation::Constraint(n, x) => {
-            let number = format!(in alloc; "{n}")?;
             out.extend_from_slice(b"Constraint ")?;
-            out.extend_from_slice(number.as_bytes())?;
-            out.extend_from_slice(b" ")?;
-            push_id(out, instance, x)
+            push_counted(alloc, out, n, instance, x)
         }
     }
 }

@@ -1,13 +1,13 @@
 -- The first constraint that isn't met, of a lawful instance.
 use Rattle.std.proofs.Common.{refl, ap, add-one}
-use Rattle.olap_check.specs.Reports.{member, schema_of}
+use Rattle.olap_check.specs.Reports.{member, parts_of}
 use Rattle.olap_check.specs.declared.violations.Violation.TheVariants.{Constraint}
 use Rattle.olap_check.proofs.FirstLemmas.{first6}
 use Rattle.olap_check.proofs.checking.check_parts.Goals as goal
 
 pub returns-in-Some-clause-err : goal.returns-in-Some-clause-err
 returns-in-Some-clause-err c =
-    let s = schema_of c.args.graph.now c.args.constraints.now in
+    let s = parts_of c.args.graph.now c.args.constraints.now in
     let lawful = rw c.in-Ok.is at c.in_ok-cells.ensures.lawful in (
       refl,
       record {

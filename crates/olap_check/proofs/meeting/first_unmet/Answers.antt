@@ -10,7 +10,7 @@ use Rattle.olap_check.proofs.meeting.first_unmet.Goals.{then-category-root+else-
 
 pub invariant_of-above : goal.invariant_of-above
 invariant_of-above c =
-    let e = c.members-x-end.ensures.count in
+    let e = c.members-count.ensures.count in
     let inside : c.members.x < length c.args.instance.now = let t = c.members-test.true in omega arith in
     let sound : IsAbove c.args.instance.now c.args.categories c.members.x c.args.cells.now =
     record { inside = inside; bounded = c.requires.bounded; table = c.requires.table } in
@@ -21,7 +21,7 @@ invariant_of-above c =
 
 pub holds-requires : goal.holds-requires
 holds-requires c =
-    let inside : c.members.x < length c.args.instance.now = let e = c.members-x-end.ensures.count in let t =
+    let inside : c.members.x < length c.args.instance.now = let e = c.members-count.ensures.count in let t =
     c.members-test.true in omega arith in
     (own_place c.args.instance.now c.args.categories c.members.x c.args.root.0 c.args.cells.now c.requires.bounded
     c.requires.table inside (sym c.category.ensures ∙ c.if-category-root.true)).0
@@ -29,7 +29,7 @@ holds-requires c =
 pub returns-then-not-holds-clause-some : goal.returns-then-not-holds-clause-some
 returns-then-not-holds-clause-some c =
     let i = c.args.instance.now in
-    let inside : c.members.x < length c.args.instance.now = let e = c.members-x-end.ensures.count in let t =
+    let inside : c.members.x < length c.args.instance.now = let e = c.members-count.ensures.count in let t =
     c.members-test.true in omega arith in
     let e = sym c.category.ensures ∙ c.if-category-root.true in
     let p = own_place i c.args.categories c.members.x c.args.root.0 c.args.cells.now c.requires.bounded
@@ -44,7 +44,7 @@ returns-then-not-holds-clause-some c =
 pub members-preserved : goal.members-preserved
 members-preserved c =
     let i = c.args.instance.now in
-    let inside : c.members.x < length c.args.instance.now = let e = c.members-x-end.ensures.count in let t =
+    let inside : c.members.x < length c.args.instance.now = let e = c.members-count.ensures.count in let t =
     c.members-test.true in omega arith in
     let P : ℕ → Type 0 = λ w. IsMemberOf i c.args.root.0 w → Holds i w (formula_of c.args.formula.now) in
     elim c.if-category-root.branch [

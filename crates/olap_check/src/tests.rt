@@ -1,0 +1,52 @@
+// Where there is memory, an instance is checked: a legal one, and two that aren't.
+use crate::{CheckRefusal, Legal, Violation, check};
+use olap_base::{CatId, MemberId};
+use olap_instance::read_instance;
+use olap_schema::read_schema;
+use std::alloc::Global;
+use std::process::Abort;
+
+// The answer to these texts.
+fn checked(
+    rt: &impl Abort,
+    alloc: Global,
+    schema: &str,
+    instance: &str,
+) -> Result<Legal, Violation> {
+    let schema = read_schema(alloc, schema.as_bytes()).expect(rt, "a schema");
+    let graph = schema.graph();
+    let instance = read_instance(alloc, graph, instance.as_bytes()).expect(rt, "an instance");
+    match check(alloc, &schema, instance) {
+        Ok(legal) => Ok(legal),
+        Err(CheckRefusal::Broken(_, violation)) => Err(violation),
+        Err(CheckRefusal::Memory) => panic!(rt; "memory"),
+    }
+}
+
+const CHAIN: &str = "schema 1\ncategory Store\ncategory City\nedge Store City\nedge City All\n";
+
+const STORES: &str = "id,category,name,parents\na,Store,a,c1\nb,Store,b,c1\nc1,City,c1,all\n";
+
+#[test]
+fn ancestors_of_a_legal_instance(rt: HostRuntime) {
+    let legal = checked(&rt, rt.alloc(), CHAIN, STORES).expect(&rt, "legal");
+    assert!(rt; legal.instance().members() == 4);
+    assert_eq!(rt; legal.ancestor(MemberId(1), CatId(2)), Some(MemberId(2)));
+    assert_eq!(rt; legal.ancestor(MemberId(2), CatId(1)), None);
+}
+
+#[test]
+fn first_violations(rt: HostRuntime) {
+    let never =
+        "schema 1\ncategory Store\ncategory City\nedge Store City\nedge City All\nconstraint City: false\n";
+    let cycle = "schema 1\ncategory B\ncategory R\nedge B R\nedge R B\nedge B All\nedge R All\n";
+    let round = "id,category,name,parents\nb,B,b,r\nr,R,r,b\n";
+    let cases = [
+        (never, STORES, Violation::Constraint(1, MemberId(2))),
+        (cycle, round, Violation::Stratification(MemberId(0))),
+    ];
+    for (schema, instance, violation) in cases {
+        let broken = checked(&rt, rt.alloc(), schema, instance).err();
+        assert_eq!(rt; broken, Some(violation));
+    }
+}
