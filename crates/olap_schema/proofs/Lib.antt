@@ -9,3 +9,6 @@ pub mod PrintNames
 pub mod PrintCut
 pub mod BackWords
 pub mod PrintFormula
+pub mod BackTokens
+pub mod BackAtoms
+pub mod BackBytes
