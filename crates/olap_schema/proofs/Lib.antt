@@ -12,3 +12,7 @@ pub mod PrintFormula
 pub mod BackTokens
 pub mod BackAtoms
 pub mod BackBytes
+pub mod BackLines
+pub mod BackStatements
+pub mod BackLengths
+pub mod BackPlain

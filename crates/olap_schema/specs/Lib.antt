@@ -7,3 +7,4 @@ pub mod Judging
 pub mod Reading
 pub mod Printing
 pub mod Schemas
+pub mod PrintingLaws
