@@ -17,12 +17,12 @@ use Rattle.olap_schema.proofs.BackBytes.{IsPlain, escaped_plain, from_not_bad, p
 use Rattle.olap_schema.proofs.PrintCut.{AreCategories, steps_are}
 use Rattle.olap_schema.proofs.PrintNames.{letters, name_is}
 
-is_printable : ℕ → Bool
+-- a printable ASCII character
+abbrev pub is_printable : ℕ → Bool
 is_printable b = nat_lt b 127 && nat_le 32 b
 
 -- printable ASCII is plain
 pub ascii_plain : (bs : List ℕ) → list_all is_printable bs ≡ true → IsPlain bs
-unfolding is_printable
 ascii_plain [] e = plain-nil
 ascii_plain (b ∷ bs) e = go (nat_lt b 127) (nat_le 32 b) refl refl e (λ r. ascii_plain bs r)
   where
@@ -42,7 +42,6 @@ pub name_plain : (w : List ℕ) → IsCategoryName w → IsPlain w
 name_plain w n = letters_plain w (letters w n)
 
 joint_plain : (j : Joint) → IsPlain (joint_bytes j)
-unfolding is_printable
 joint_plain joint.Iff = ascii_plain (codes "<->") refl
 joint_plain joint.Implies = ascii_plain (codes "->") refl
 joint_plain joint.Xor = ascii_plain (codes "^") refl
@@ -51,7 +50,6 @@ joint_plain joint.And = ascii_plain (codes "&") refl
 
 -- a printable byte in front
 byte : (b : ℕ) (bs : List ℕ) → is_printable b ≡ true → IsPlain bs → IsPlain (b ∷ bs)
-unfolding is_printable
 byte b bs e p = go (nat_lt b 127) (nat_le 32 b) refl refl e
   where
     go : (u v : Bool) → nat_lt b 127 ≡ u → nat_le 32 b ≡ v → u && v ≡ true → IsPlain (b ∷ bs)
@@ -60,11 +58,9 @@ byte b bs e p = go (nat_lt b 127) (nat_le 32 b) refl refl e
     go false v m n r = absurd (cc)
 
 quoted_plain : (k : List ℕ) → IsPlain k → IsPlain (quoted k)
-unfolding is_printable
 quoted_plain k p = byte 34 (escaped k ++ 34 ∷ []) refl (plain-append (escaped k) (34 ∷ []) (escaped_plain k p) (ascii_plain (34 ∷ []) refl))
 
 joined_plain : (j : Joint) (x y : List ℕ) → IsPlain x → IsPlain y → IsPlain (joined_text j x y)
-unfolding is_printable
 joined_plain j x y p q =
     byte 40 (x ++ 32 ∷ (joint_bytes j ++ 32 ∷ (y ++ 41 ∷ []))) refl (plain-append x (32 ∷ (joint_bytes j ++ 32 ∷ (y ++ 41 ∷ []))) p
     (byte 32 (joint_bytes j ++ 32 ∷ (y ++ 41 ∷ [])) refl (plain-append (joint_bytes j) (32 ∷ (y ++ 41 ∷ [])) (joint_plain j)
@@ -80,7 +76,6 @@ module _ (g : Graph) (h : IsHierarchy g) where
   atom_plain r m cs e l v = plain-append (name_of_category g r) (names_after g m cs) (name_plain (name_of_category g r) (name_is g h r l)) (after_plain m cs e v)
 
   compared_plain : (r d : ℕ) → IsCategory g r → IsCategory g d → IsPlain (compared_word g r d)
-  unfolding is_printable
   compared_plain r d l k = go (d == r)
     where
       go : (b : Bool) → IsPlain (cond b (name_of_category g r) (atom_word g r 46 (d ∷ [])))
@@ -94,7 +89,6 @@ right_texts : (xs ys : List Meaning.Equality) → AreTexts (xs ++ ys) → AreTex
 right_texts xs ys t a c = t a (Contains-append_right xs ys a c)
 
 compared : (w k : List ℕ) → IsPlain w → IsPlain k → IsPlain (w ++ 32 ∷ 61 ∷ 32 ∷ quoted k)
-unfolding is_printable
 compared w k p q = plain-append w (32 ∷ 61 ∷ 32 ∷ quoted k) p (byte 32 (61 ∷ 32 ∷ quoted k) refl (byte 61 (32 ∷ quoted k) refl (byte 32 (quoted k) refl (quoted_plain k q))))
 
 module _ (g : Graph) (h : IsHierarchy g) (r : ℕ) (l : IsCategory g r) where
@@ -104,7 +98,6 @@ module _ (g : Graph) (h : IsHierarchy g) (r : ℕ) (l : IsCategory g r) where
   mutual
     -- a printed formula is plain where its constants are
     pub formula_plain : (f : Formula) → IsFormulaAt g r f → AreTexts (equalities f) → IsPlain (formula_text g r f)
-    unfolding is_printable
     formula_plain Meaning.Formula.Truth v t = ascii_plain (codes "true") refl
     formula_plain Meaning.Formula.Falsity v t = ascii_plain (codes "false") refl
     formula_plain (Meaning.Formula.Path cs) v t = atom_plain g h r 95 cs refl l (steps_are g h r cs v.1)
@@ -124,6 +117,5 @@ module _ (g : Graph) (h : IsHierarchy g) (r : ℕ) (l : IsCategory g r) where
     list_plain (Meaning.Terms.More f fs) v t = plain-append (formula_text g r f) (rest_text g r fs) (formula_plain f v.0 (left_texts (equalities f) (equalities_of_terms fs) t)) (rest_plain fs v.1 (right_texts (equalities f) (equalities_of_terms fs) t))
 
     rest_plain : (fs : Terms) → AreFormulasAt g r fs → AreTexts (equalities_of_terms fs) → IsPlain (rest_text g r fs)
-    unfolding is_printable
     rest_plain Meaning.Terms.End v t = plain-nil
     rest_plain (Meaning.Terms.More f fs) v t = byte 44 (32 ∷ (formula_text g r f ++ rest_text g r fs)) refl (byte 32 (formula_text g r f ++ rest_text g r fs) refl (plain-append (formula_text g r f) (rest_text g r fs) (formula_plain f v.0 (left_texts (equalities f) (equalities_of_terms fs) t)) (rest_plain fs v.1 (right_texts (equalities f) (equalities_of_terms fs) t))))

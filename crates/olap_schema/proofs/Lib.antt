@@ -16,3 +16,5 @@ pub mod BackLines
 pub mod BackStatements
 pub mod BackLengths
 pub mod BackPlain
+pub mod BackGraph
+pub mod BackConstraints
