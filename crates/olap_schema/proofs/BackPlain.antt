@@ -82,10 +82,10 @@ module _ (g : Graph) (h : IsHierarchy g) where
       go true = name_plain (name_of_category g r) (name_is g h r l)
       go false = atom_plain r 46 (d ∷ []) refl l (k, tt)
 
-left_texts : (xs ys : List Meaning.Equality) → AreTexts (xs ++ ys) → AreTexts xs
+pub left_texts : (xs ys : List Meaning.Equality) → AreTexts (xs ++ ys) → AreTexts xs
 left_texts xs ys t a c = t a (Contains-append_left xs ys a c)
 
-right_texts : (xs ys : List Meaning.Equality) → AreTexts (xs ++ ys) → AreTexts ys
+pub right_texts : (xs ys : List Meaning.Equality) → AreTexts (xs ++ ys) → AreTexts ys
 right_texts xs ys t a c = t a (Contains-append_right xs ys a c)
 
 compared : (w k : List ℕ) → IsPlain w → IsPlain k → IsPlain (w ++ 32 ∷ 61 ∷ 32 ∷ quoted k)

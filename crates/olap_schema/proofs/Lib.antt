@@ -18,3 +18,5 @@ pub mod BackLengths
 pub mod BackPlain
 pub mod BackGraph
 pub mod BackConstraints
+pub mod BackLineTokens
+pub mod BackSchema
