@@ -10,3 +10,14 @@ pub mod PrintCut
 pub mod BackWords
 pub mod PrintFormula
 pub mod StepLemmas
+pub mod BackTokens
+pub mod BackAtoms
+pub mod BackBytes
+pub mod BackLines
+pub mod BackStatements
+pub mod BackLengths
+pub mod BackPlain
+pub mod BackGraph
+pub mod BackConstraints
+pub mod BackLineTokens
+pub mod BackSchema

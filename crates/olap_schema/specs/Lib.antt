@@ -9,3 +9,4 @@ pub mod Printing
 pub mod Shown
 pub mod Schemas
 pub mod Kinds
+pub mod PrintingLaws
