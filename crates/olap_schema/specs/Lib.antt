@@ -8,3 +8,4 @@ pub mod Reading
 pub mod Shown
 pub mod Schemas
 pub mod Kinds
+pub mod Laws

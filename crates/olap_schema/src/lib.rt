@@ -3,6 +3,7 @@
 
 mod atoms;
 mod kinds;
+mod laws;
 mod lines;
 mod measuring;
 mod pairing;
@@ -12,5 +13,6 @@ mod schemas;
 mod statements;
 
 pub use kinds::{FormulaRefusal, SchemaKind, SchemaRefusal};
+pub use laws::read_schemas_are_valid;
 pub use questions::read_formula;
 pub use schemas::{Schema, read_schema};
