@@ -21,3 +21,8 @@ pub mod BackGraph
 pub mod BackConstraints
 pub mod BackLineTokens
 pub mod BackSchema
+pub mod ValidNames
+pub mod ValidAtoms
+pub mod ValidFormulas
+pub mod ValidGraphs
+pub mod ValidSchemas

@@ -62,11 +62,11 @@ pub data Step (a b : Above) : Type 0 where
   constraint : (name : List ℕ) (ts : List Token) (f : Formula) (root : ℕ) → AddsConstraint a b name ts f root → Step a b
 
 -- a test behind which there is a fault was not passed
-passed_on : {A K : Type 0} (c : Bool) (k : K) (r : Result A K) (b : A) → cond c (Err k) r ≡ Ok b → (c ≡ false) × (r ≡ Ok b)
+pub passed_on : {A K : Type 0} (c : Bool) (k : K) (r : Result A K) (b : A) → cond c (Err k) r ≡ Ok b → (c ≡ false) × (r ≡ Ok b)
 passed_on true k r b h = absurd (cc)
 passed_on false k r b h = (refl, h)
 
-ok_is : {A K : Type 0} (a b : A) → (let r : Result A K = Ok a in r) ≡ Ok b → b ≡ a
+pub ok_is : {A K : Type 0} (a b : A) → (let r : Result A K = Ok a in r) ≡ Ok b → b ≡ a
 ok_is a b h = cc
 
 neither : (b c : Bool) → b || c ≡ false → c ≡ false

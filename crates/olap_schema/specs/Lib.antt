@@ -10,3 +10,4 @@ pub mod Shown
 pub mod Schemas
 pub mod Kinds
 pub mod PrintingLaws
+pub mod Laws

@@ -3,6 +3,7 @@
 
 mod atoms;
 mod kinds;
+mod laws;
 mod lines;
 mod measuring;
 mod pairing;
@@ -16,5 +17,6 @@ mod tests;
 
 pub use kinds::{FormulaRefusal, SchemaKind, SchemaRefusal};
 pub use printing::print_schema;
+pub use laws::read_schemas_are_valid;
 pub use questions::read_formula;
 pub use schemas::{Schema, read_schema};

@@ -1,0 +1,87 @@
+-- A graph in the making keeps what holds of it when a category or an edge is added.
+use Rattle.std.proofs.Common.{◌≡◌, ◌≢◌, ℕ, ◌<◌, ◌≤◌, List, [], ◌∷◌, ◌++◌, length, None, refl, subst, inl, inr, arith}
+use Rattle.std.specs.Prelude.{Contains, AllPairs, codes}
+use Rattle.std.proofs.lemmas.List.{length_push}
+use Rattle.std.proofs.lemmas.List.Elements.{Contains-get_or, Contains-push_cases}
+use Rattle.std.proofs.lemmas.List.Quantifiers.{all_pairs_push}
+use Rattle.olap_base.specs.Deciding.{contains_cons}
+use Rattle.olap_base.specs.Graph.{Edge, Graph, HasEdge, IsCategory, IsCategoryName, category_count}
+use Rattle.olap_base.proofs.ListLemmas.{contains_head}
+use Rattle.olap_graph.specs.Building.{IsWithinLimits, IsUnfinished, with_category, with_edge}
+use Rattle.olap_graph.specs.Lookups.{category_named, edge_between, joins}
+use Rattle.olap_graph.proofs.PlaceLemmas.{missing, joins-Decides, place_of-none}
+
+-- a new element keeps a list without repeats
+differ_push : {X : Type 0} (xs : List X) (x : X) → AllPairs ◌≢◌ xs → (Contains xs x → ⊥) → AllPairs ◌≢◌ (xs ++ x ∷ [])
+differ_push xs x a new =
+    all_pairs_push ◌≢◌ xs x a (λ k d h e. new (subst (λ y. Contains xs y) e (Contains-get_or xs k d h)))
+
+-- ---- one more category
+
+pub limits-with_category : (g : Graph) (name : List ℕ) → IsWithinLimits g → category_count g < 64
+    → length name ≤ 255 → IsWithinLimits (with_category g name)
+limits-with_category g name w few short = record {
+  few = omega (arith, length_push g.names name);
+  few_edges = w.few_edges;
+  short_names =
+      λ n c. elim (Contains-push_cases g.names name n c) [
+        | inl d ↦ w.short_names n d
+        | inr e ↦ subst (λ x. length x ≤ 255) e short
+      ];
+}
+
+pub unfinished-with_category : (g : Graph) (name : List ℕ) → IsUnfinished g → IsCategoryName name
+    → category_named g name ≡ None → IsUnfinished (with_category g name)
+unfinished-with_category g name u n none = record {
+  names_differ =
+      differ_push g.names name u.names_differ
+      (λ c. place_of-none name (codes "All" ∷ g.names) none (contains_cons name g.names (codes "All") c));
+  names = λ x c. elim (Contains-push_cases g.names name x c) [
+    | inl d ↦ u.names x d
+    | inr e ↦ subst (λ y. IsCategoryName y × (y ≢ codes "All")) e (
+      n,
+      λ q. place_of-none name (codes "All" ∷ g.names) none
+          (subst (λ y. Contains (y ∷ g.names) name) q (contains_head name g.names)),
+    )
+  ];
+  categories = λ c d h. let t = u.categories c d h in let l = length_push g.names name in
+      (omega (arith, t.0), omega (arith, t.1));
+  edges_differ = u.edges_differ;
+  no_loop = u.no_loop;
+  none_from_all = u.none_from_all;
+}
+
+-- ---- one more edge
+
+pub limits-with_edge : (g : Graph) (c d : ℕ) → IsWithinLimits g → length g.edges < 256
+    → IsWithinLimits (with_edge g c d)
+limits-with_edge g c d w few = record {
+  few = w.few;
+  few_edges = omega (arith, length_push g.edges (record { child = c; parent = d }));
+  short_names = w.short_names;
+}
+
+pub unfinished-with_edge : (g : Graph) (c d : ℕ) → IsUnfinished g → IsCategory g c → IsCategory g d → c ≢ d → c ≢ 0
+    → edge_between g c d ≡ None → IsUnfinished (with_edge g c d)
+unfinished-with_edge g c d u hc hd loop from_all none = record {
+  names_differ = u.names_differ;
+  names = u.names;
+  categories = λ a b h. each (λ x y. IsCategory g x × IsCategory g y) a b h u.categories (hc, hd);
+  edges_differ =
+      differ_push g.edges new u.edges_differ
+      (λ h. missing (joins c d) (λ x. x ≡ new) (joins-Decides c d) g.edges 0 none new h refl);
+  no_loop = λ a b h. each (λ x y. x ≢ y) a b h u.no_loop loop;
+  none_from_all =
+      λ b h. each (λ x y. x ≢ 0) 0 b h (λ x y k e. u.none_from_all y (subst (λ z. HasEdge g z y) e k)) from_all refl;
+}
+  where
+    new : Edge
+    new = record { child = c; parent = d }
+
+    -- what holds of each edge and of the new one holds of each edge now
+    each : (P : ℕ → ℕ → Type 0) (a b : ℕ) → HasEdge (with_edge g c d) a b → ((x y : ℕ) → HasEdge g x y → P x y)
+        → P c d → P a b
+    each P a b h old p = elim (Contains-push_cases g.edges new (record { child = a; parent = b }) h) [
+      | inl k ↦ old a b k
+      | inr e ↦ subst (λ (x : Edge). P x.child x.parent) e p
+    ]
