@@ -1,0 +1,5 @@
+use Rattle.std.proofs.Common.{length}
+use Rattle.olap_records.proofs.tests.printed_again.Given as goal
+
+abbrev pub decreases-rows : goal.decreases-rows
+decreases-rows g l = length l.rows.left
