@@ -1,3 +1,4 @@
+-- The rows of the summaries are the rows of the direct view.
 use Rattle.std.proofs.Common.{◌≡◌, ℕ, List, Option, map, ap, subst, ◌∙◌}
 use Rattle.std.specs.Prelude.{◌==◌, Contains, filter_map}
 use Rattle.std.specs.List.{range_with_len}
