@@ -1,0 +1,169 @@
+-- A formula has one truth in an instance and in a part of it that is closed under parents.
+use Rattle.std.proofs.Common.{◌≡◌, ℕ, ◌<◌, ◌↔◌, List, [], ◌∷◌, ◌++◌, length, get_or, map, refl, sym, ap, subst, ◌∙◌, inl, inr}
+use Rattle.olap_base.specs.Chains.{IsChain}
+use Rattle.olap_base.specs.Steps.{Steps-from_reaches, reaches_from_Steps}
+use Rattle.olap_base.specs.Instance.{Instance, IsInstance, IsBelow, Reaches, ReachesCategory, ReachesVia, category_of, name_of}
+use Rattle.olap_base.specs.Above.{above, self_above, members_above}
+use Rattle.olap_base.proofs.Part.{IsPart, part_steps, part_lift, part_inside}
+use Rattle.olap_base.proofs.AboveLemmas.{above_is_part, above_instance, above_lawful, one_member_each, self_is, name_above}
+use Rattle.olap_base.proofs.ListLemmas.{contains_head}
+use Rattle.std.specs.Prelude.{Contains}
+use Rattle.std.proofs.lemmas.List.Elements.{Contains-append_left, Contains-append_right}
+use Rattle.olap_ast.specs.Formula.{Formula, Terms, Formula.Truth, Formula.Falsity, Formula.Path, Formula.Reach, Formula.Via, Formula.Equals, Formula.Not, Formula.And, Formula.Or, Formula.Implies, Formula.Iff, Formula.Xor, Formula.One, Terms.End, Terms.More, Holds, ExactlyOneHolds, NoneHolds, Equality, equalities, equalities_of_terms, HasPath, ReachesNamed}
+use Rattle.olap_ast.specs.Schema.{AboveIsLegal}
+
+-- the texts of Q are the only ones that names are compared with: the names agree as far as these tell
+abbrev pub NamesAgree : Instance → Instance → (ℕ → ℕ) → (ℕ → List ℕ → Type 0) → Type 0
+NamesAgree i j e Q = (k : ℕ) (text : List ℕ) → k < length j → Q (category_of j k) text →
+    (name_of j k ≡ text) ↔ (name_of i (e k) ≡ text)
+
+module _ (i j : Instance) (e : ℕ → ℕ) (p : IsPart i j e) (Q : ℕ → List ℕ → Type 0) (names : NamesAgree i j e Q) where
+  down : {k l : ℕ} → Reaches j k l → Reaches i (e k) (e l)
+  down r = reaches_from_Steps (part_steps i j e p (Steps-from_reaches r))
+
+  inside : {k l : ℕ} → k < length j → Reaches j k l → l < length j
+  inside h r = part_inside i j e p h (Steps-from_reaches r)
+
+  lift : (k y : ℕ) → k < length j → Reaches i (e k) y → (l : ℕ) × (l < length j) × Reaches j k l × (e l ≡ y)
+  lift k y h r = let t = part_lift i j e p (Steps-from_reaches r) k h refl in
+      (t.0, part_inside i j e p h t.1, reaches_from_Steps t.1, t.2)
+
+  -- ---- atoms
+
+  reach_down : (k d : ℕ) → k < length j → ReachesCategory j k d → ReachesCategory i (e k) d
+  reach_down k d h (l, m, r) = (e l, (p.member l m.0, sym (p.category l m.0) ∙ m.1), down r)
+
+  reach_up : (k d : ℕ) → k < length j → ReachesCategory i (e k) d → ReachesCategory j k d
+  reach_up k d h (y, m, r) = let t = lift k y h r in
+      (t.0, (t.1, p.category t.0 t.1 ∙ ap (category_of i) t.3 ∙ m.1), t.2)
+
+  via_down : (k d c : ℕ) → k < length j → ReachesVia j k d c → ReachesVia i (e k) d c
+  via_down k d c h (l, m, r, q) = (e l, (p.member l m.0, sym (p.category l m.0) ∙ m.1), down r, reach_down l c m.0 q)
+
+  via_up : (k d c : ℕ) → k < length j → ReachesVia i (e k) d c → ReachesVia j k d c
+  via_up k d c h (y, m, r, q) = let t = lift k y h r in (
+    t.0,
+    (t.1, p.category t.0 t.1 ∙ ap (category_of i) t.3 ∙ m.1),
+    t.2,
+    reach_up t.0 c t.1 (subst (λ z. ReachesCategory i z c) (sym t.3) q),
+  )
+
+  named_down : (k d : ℕ) (text : List ℕ) → k < length j → Q d text → ReachesNamed j k d text →
+      ReachesNamed i (e k) d text
+  named_down k d text h u (l, m, r, q) = (
+    e l,
+    (p.member l m.0, sym (p.category l m.0) ∙ m.1),
+    down r,
+    (names l text m.0 (subst (λ c. Q c text) (sym m.1) u)).0 q,
+  )
+
+  named_up : (k d : ℕ) (text : List ℕ) → k < length j → Q d text → ReachesNamed i (e k) d text → ReachesNamed j k d text
+  named_up k d text h u (y, m, r, q) = let t = lift k y h r in let c =
+      p.category t.0 t.1 ∙ ap (category_of i) t.3 ∙ m.1 in
+      (t.0, (t.1, c), t.2, (names t.0 text t.1 (subst (λ d. Q d text) (sym c) u)).1 (ap (name_of i) t.3 ∙ q))
+
+  chain_down : (k : ℕ) (ls : List ℕ) → IsChain (IsBelow j) (k ∷ ls) →
+      IsChain (IsBelow i) (e k ∷ map e ls) × (map (category_of i) (map e ls) ≡ map (category_of j) ls)
+  chain_down k [] c = (tt, refl)
+  chain_down k (l ∷ ls) c = let t = chain_down l ls c.1 in
+      ((p.below k l c.0, t.0), cc (p.category l (p.inside k l c.0), t.1))
+
+  chain_up : (k : ℕ) → k < length j → (x : ℕ) → e k ≡ x → (ys : List ℕ) → IsChain (IsBelow i) (x ∷ ys) →
+      (ls : List ℕ) × IsChain (IsBelow j) (k ∷ ls) × (map (category_of j) ls ≡ map (category_of i) ys)
+  chain_up k h x q [] c = ([], tt, refl)
+  chain_up k h x q (y ∷ ys) c =
+      let t = p.above k y h (subst (λ w. IsBelow i w y) (sym q) c.0) in
+      let u = chain_up t.0 (p.inside k t.0 t.1) y t.2 ys c.1 in
+      (t.0 ∷ u.0, (t.1, u.1), cc (p.category t.0 (p.inside k t.0 t.1), ap (category_of i) t.2, u.2))
+
+  path_down : (k : ℕ) (cs : List ℕ) → HasPath j k cs → HasPath i (e k) cs
+  path_down k cs (ls, c, q) = let t = chain_down k ls c in (map e ls, t.0, t.1 ∙ q)
+
+  path_up : (k : ℕ) (cs : List ℕ) → k < length j → HasPath i (e k) cs → HasPath j k cs
+  path_up k cs h (ys, c, q) = let t = chain_up k h (e k) refl ys c in (t.0, t.1, t.2 ∙ q)
+
+  -- ---- formulas
+
+  abbrev Within : List Equality → Type 0
+  Within atoms = (d : ℕ) (text : List ℕ) → Contains atoms (record { category = d; text = text }) → Q d text
+
+  left : (xs ys : List Equality) → Within (xs ++ ys) → Within xs
+  left xs ys w d text c = w d text (Contains-append_left xs ys (record { category = d; text = text }) c)
+
+  right : (xs ys : List Equality) → Within (xs ++ ys) → Within ys
+  right xs ys w d text c = w d text (Contains-append_right xs ys (record { category = d; text = text }) c)
+
+  mutual
+    pub same : (k : ℕ) → k < length j → (f : Formula) → Within (equalities f) → Holds j k f ↔ Holds i (e k) f
+    same k h Truth w = (λ t. t, λ t. t)
+    same k h Falsity w = (λ t. t, λ t. t)
+    same k h (Path cs) w = (path_down k cs, path_up k cs h)
+    same k h (Reach d) w = (reach_down k d h, reach_up k d h)
+    same k h (Via d c) w = (via_down k d c h, via_up k d c h)
+    same k h (Equals d text) w = let u = w d text (contains_head (record { category = d; text = text }) []) in
+        (named_down k d text h u, named_up k d text h u)
+    same k h (Not f) w = let s = same k h f w in (λ n a. n (s.1 a), λ n a. n (s.0 a))
+    same k h (And f g) w = let s = same k h f (left (equalities f) (equalities g) w) in let t =
+        same k h g (right (equalities f) (equalities g) w) in (λ a. (s.0 a.0, t.0 a.1), λ a. (s.1 a.0, t.1 a.1))
+    same k h (Or f g) w = let s = same k h f (left (equalities f) (equalities g) w) in let t =
+        same k h g (right (equalities f) (equalities g) w) in (
+          λ a. elim a [ inl b ↦ inl (s.0 b) | inr b ↦ inr (t.0 b) ],
+          λ a. elim a [ inl b ↦ inl (s.1 b) | inr b ↦ inr (t.1 b) ],
+        )
+    same k h (Implies f g) w = let s = same k h f (left (equalities f) (equalities g) w) in let t =
+        same k h g (right (equalities f) (equalities g) w) in (λ a b. t.0 (a (s.1 b)), λ a b. t.1 (a (s.0 b)))
+    same k h (Iff f g) w = let s = same k h f (left (equalities f) (equalities g) w) in let t =
+        same k h g (right (equalities f) (equalities g) w) in
+        (λ a. (λ b. t.0 (a.0 (s.1 b)), λ b. s.0 (a.1 (t.1 b))), λ a. (λ b. t.1 (a.0 (s.0 b)), λ b. s.1 (a.1 (t.0 b))))
+    same k h (Xor f g) w = let s = same k h f (left (equalities f) (equalities g) w) in let t =
+        same k h g (right (equalities f) (equalities g) w) in (
+          λ a. elim a [ inl b ↦ inl (s.0 b.0, λ c. b.1 (t.1 c)) | inr b ↦ inr (λ c. b.0 (s.1 c), t.0 b.1) ],
+          λ a. elim a [ inl b ↦ inl (s.1 b.0, λ c. b.1 (t.0 c)) | inr b ↦ inr (λ c. b.0 (s.0 c), t.1 b.1) ],
+        )
+    same k h (One ts) w = same_one k h ts w
+
+    same_one : (k : ℕ) → k < length j → (ts : Terms) → Within (equalities_of_terms ts) →
+        ExactlyOneHolds j k ts ↔ ExactlyOneHolds i (e k) ts
+    same_one k h End w = (λ t. t, λ t. t)
+    same_one k h (More f ts) w =
+        let s = same k h f (left (equalities f) (equalities_of_terms ts) w) in
+        let n = same_none k h ts (right (equalities f) (equalities_of_terms ts) w) in
+        let t = same_one k h ts (right (equalities f) (equalities_of_terms ts) w) in (
+          λ a. elim a [ inl b ↦ inl (s.0 b.0, n.0 b.1) | inr b ↦ inr (λ c. b.0 (s.1 c), t.0 b.1) ],
+          λ a. elim a [ inl b ↦ inl (s.1 b.0, n.1 b.1) | inr b ↦ inr (λ c. b.0 (s.0 c), t.1 b.1) ],
+        )
+
+    same_none : (k : ℕ) → k < length j → (ts : Terms) → Within (equalities_of_terms ts) →
+        NoneHolds j k ts ↔ NoneHolds i (e k) ts
+    same_none k h End w = (λ t. t, λ t. t)
+    same_none k h (More f ts) w =
+        let s = same k h f (left (equalities f) (equalities_of_terms ts) w) in
+        let n = same_none k h ts (right (equalities f) (equalities_of_terms ts) w) in
+        (λ a. (λ c. a.0 (s.1 c), n.0 a.1), λ a. (λ c. a.0 (s.0 c), n.1 a.1))
+
+-- ---- above one member
+
+abbrev Any_text : ℕ → List ℕ → Type 0
+Any_text d text = Unit {0}
+
+names_above : (i : Instance) (x : ℕ) (v : IsInstance i) →
+    NamesAgree i (above i x) (λ k. get_or (members_above i x) k 0) Any_text
+names_above i x v k text h u = (λ q. sym (name_above i x v k h) ∙ q, λ q. name_above i x v k h ∙ q)
+
+pub above_is_legal_lem : AboveIsLegal
+above_is_legal_lem s i x v h =
+    let e = λ (m : ℕ). get_or (members_above i x) m 0 in
+    let p = above_is_part i x v.is_instance in
+    let t = self_is i x v.is_instance h in
+    record {
+      legal = record {
+        is_instance = above_instance i x v.is_instance s.graph v.lawful h;
+        lawful = above_lawful i x v.is_instance s.graph v.lawful;
+        meets = λ c d k m. (same i (above i x) e p Any_text (names_above i x v.is_instance) k m.0 c.formula
+            (λ a b r. tt)).1 (v.meets c d (e k) (p.member k m.0, sym (p.category k m.0) ∙ m.1));
+      };
+      one_each = one_member_each i x v.is_instance s.graph v.lawful;
+      same_truth = λ f. let u = same i (above i x) e p Any_text (names_above i x v.is_instance)
+          (self_above i x) t.0 f (λ a b r. tt) in
+          (λ a. subst (λ y. Holds i y f) t.1 (u.0 a), λ a. u.1 (subst (λ y. Holds i y f) (sym t.1) a));
+    }

@@ -1,0 +1,84 @@
+// The constants of a formula.
+ghost use Rattle.olap_ast.specs.Constants.{AreInByteOrder, texts_on};
+ghost use Rattle.olap_ast.specs.Formula.{Equality, equalities, equalities_of_terms};
+ghost use Rattle.olap_ast.specs.Trees.{formula_of, terms_of};
+ghost use Rattle.std.specs.Prelude.{◌≡◌, [], ◌∷◌, ◌++◌, IfOk, OnOk};
+
+use crate::{Formula, Terms};
+use olap_base::{CatId, List, Memory, Text};
+use std::alloc::Global;
+
+/// The distinct constants of the category in the formula, in byte order. `Memory` where there is no room for them.
+///
+/// It calls itself as deep as the formula is, and sorts the texts.
+pub fn constants(alloc: Global, f: &Formula, c: CatId) -> Result<List<Text>, Memory>
+    ensures { IfOk result (λ texts. AreInByteOrder (texts_on c.0 (equalities (formula_of f.now))) texts) }
+{
+    let mut texts = Vec::new(alloc);
+    gather(alloc, f, c, &mut texts)?;
+    texts.sort_unstable();
+    texts.dedup();
+    Ok(List::from_vec(texts))
+}
+
+#[cycle(gather)]
+fn gather(alloc: Global, f: &Formula, c: CatId, texts: &mut Vec<Text>) -> Result<(), Memory>
+    ensures { OnOk result (texts.new.items ≡ texts.old.items ++ texts_on c.0 (equalities (formula_of f.now))) }
+{
+    match f {
+        Formula::True | Formula::False => Ok(()),
+        Formula::Path(_) | Formula::Reach(_) | Formula::Via(_, _) => Ok(()),
+        Formula::Equals(d, text) => gather_text(alloc, *d, text, c, texts),
+        Formula::Not(f) => gather(alloc, f, c, texts),
+        Formula::And(f, g) => gather_both(alloc, f, g, c, texts),
+        Formula::Or(f, g) => gather_both(alloc, f, g, c, texts),
+        Formula::Implies(f, g) => gather_both(alloc, f, g, c, texts),
+        Formula::Iff(f, g) => gather_both(alloc, f, g, c, texts),
+        Formula::Xor(f, g) => gather_both(alloc, f, g, c, texts),
+        Formula::One(terms) => gather_terms(alloc, terms, c, texts),
+    }
+}
+
+fn gather_text(
+    alloc: Global,
+    d: CatId,
+    text: &Text,
+    c: CatId,
+    texts: &mut Vec<Text>,
+) -> Result<(), Memory>
+    ensures { let atom : Equality = record { category = d.0; text = text.now } in
+        OnOk result (texts.new.items ≡ texts.old.items ++ texts_on c.0 (atom ∷ [])) }
+{
+    if d == c {
+        texts.push(Text::from_bytes(alloc, text.bytes())?)?;
+    }
+    Ok(())
+}
+
+#[cycle(gather)]
+fn gather_both(
+    alloc: Global,
+    f: &Formula,
+    g: &Formula,
+    c: CatId,
+    texts: &mut Vec<Text>,
+) -> Result<(), Memory>
+    ensures { let atoms = equalities (formula_of f.now) ++ equalities (formula_of g.now) in
+        OnOk result (texts.new.items ≡ texts.old.items ++ texts_on c.0 atoms) }
+{
+    gather(alloc, f, c, texts)?;
+    gather(alloc, g, c, texts)
+}
+
+#[cycle(gather)]
+fn gather_terms(alloc: Global, terms: &Terms, c: CatId, texts: &mut Vec<Text>) -> Result<(), Memory>
+    ensures { let atoms = equalities_of_terms (terms_of terms.now) in
+        OnOk result (texts.new.items ≡ texts.old.items ++ texts_on c.0 atoms) }
+{
+    let mut left = terms;
+    'parts: while let Terms::More(f, rest) = left {
+        gather(alloc, f, c, texts)?;
+        left = rest;
+    }
+    Ok(())
+}

@@ -1,0 +1,66 @@
+// Formulas about one member, as the program keeps them.
+use olap_base::{CatId, List, Text};
+
+/// A formula about one member of its root. An atom doesn't name the root.
+#[derive(Debug, Drop)]
+#[cycle(formula)]
+pub enum Formula {
+    /// Always.
+    True,
+    /// Never.
+    False,
+    /// A chain of parents goes through these categories, one after the other.
+    Path(List<CatId>),
+    /// A member of the category is reached.
+    Reach(CatId),
+    /// A member of the first category is reached that reaches a member of the second.
+    Via(CatId, CatId),
+    /// A member of the category is reached whose name is the text. At the root it is the member itself.
+    Equals(CatId, Text),
+    /// The part isn't true.
+    Not(Box<Formula>),
+    /// Both parts are true.
+    And(Box<Formula>, Box<Formula>),
+    /// A part is true.
+    Or(Box<Formula>, Box<Formula>),
+    /// The second part is true where the first is.
+    Implies(Box<Formula>, Box<Formula>),
+    /// Both parts are true, or neither is.
+    Iff(Box<Formula>, Box<Formula>),
+    /// One of the two parts is true.
+    Xor(Box<Formula>, Box<Formula>),
+    /// Exactly one part of the list is true.
+    One(Terms),
+}
+
+/// The parts of `one(..)`, in order.
+#[derive(Debug)]
+#[cycle(formula)]
+pub enum Terms {
+    /// No more parts.
+    End,
+    /// A part, and the rest.
+    More(Box<Formula>, Box<Terms>),
+}
+
+impl Drop for Terms {
+    // A loop: a list may have thousands of parts, and a call for each would take as much stack.
+    #[cycle(formula)]
+    fn drop(mut self) {
+        loop {
+            match self {
+                Terms::End => return,
+                Terms::More(_, rest) => self = Box::into_inner(rest),
+            }
+        }
+    }
+}
+
+/// What each member of the root has to meet.
+#[derive(Debug, Drop)]
+pub struct Constraint {
+    /// The category that it speaks of. In a schema it isn't `All`.
+    pub root: CatId,
+    /// What is true at each of its members.
+    pub formula: Formula,
+}

@@ -1,0 +1,23 @@
+//! Formulas, schemas, legal instances, frozen dimensions and summarizability.
+//!
+//! `specs/` says what a formula's truth, a legal instance, a frozen dimension and a counterexample are, over plain
+//! values; `laws` are theorems over these definitions. Beside them stand the program's own formulas: `Formula` is a
+//! tree, and contracts see it as the definitions' formula `formula_of` (`specs/Trees`).
+#![tactic(auto)]
+
+mod collecting;
+mod copying;
+mod formulas;
+mod laws;
+mod measuring;
+#[cfg(test)]
+mod tests;
+
+pub use collecting::constants;
+pub use copying::copy;
+pub use formulas::{Constraint, Formula, Terms};
+pub use laws::{
+    above_is_legal, frozen_exactly_if_some_instance, legal_exactly_if_no_violation,
+    one_store_is_legal, renaming_is_harmless, summarizable_exactly_if_none_frozen,
+};
+pub use measuring::{depth, nodes};
