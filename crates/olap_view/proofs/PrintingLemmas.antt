@@ -4,7 +4,7 @@ use Rattle.std.proofs.lemmas.List.{map-append, take_more}
 use Rattle.csv.specs.Reading.{default_config, records_from}
 use Rattle.csv.specs.Writing.{read_back}
 use Rattle.csv.specs.declared.parser.State.TheVariants as st
-use Rattle.olap_base.specs.Instance.{Instance, member_at}
+use Rattle.olap_base.specs.Instance.{Instance}
 use Rattle.olap_base.specs.Views.{Row, View}
 use Rattle.olap_records.specs.Records.{records_of}
 use Rattle.olap_records.specs.Texts.{text_of_row, text_of_rows}
