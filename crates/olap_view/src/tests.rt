@@ -47,11 +47,31 @@ fn view_of(alloc: Global, rt: &impl Abort, category: &[u8], facts: &[u8]) -> Tex
 #[test]
 fn views(rt: HostRuntime) {
     let cases: [(&[u8], &[u8], &[u8]); 5] = [
-        (b"City", b"member,value\na,5\nb,-5\na,0\n", b"member,count,sum,least,greatest\nc1,3,0,-5,5\n"),
-        (b"City", b"member,value\n", b"member,count,sum,least,greatest\n"),
-        (b"Store", b"member,value\nb,7\na,1\na,-3\n", b"member,count,sum,least,greatest\na,2,-2,-3,1\nb,1,7,7,7\n"),
-        (b"City", b"member,value\na,9223372036854775807\na,9223372036854775807\n", b"member,count,sum,least,greatest\nc1,2,18446744073709551614,9223372036854775807,9223372036854775807\n"),
-        (b"All", b"member,value\nb,7\na,1\n", b"member,count,sum,least,greatest\nall,2,8,1,7\n"),
+        (
+            b"City",
+            b"member,value\na,5\nb,-5\na,0\n",
+            b"member,count,sum,least,greatest\nc1,3,0,-5,5\n",
+        ),
+        (
+            b"City",
+            b"member,value\n",
+            b"member,count,sum,least,greatest\n",
+        ),
+        (
+            b"Store",
+            b"member,value\nb,7\na,1\na,-3\n",
+            b"member,count,sum,least,greatest\na,2,-2,-3,1\nb,1,7,7,7\n",
+        ),
+        (
+            b"City",
+            b"member,value\na,9223372036854775807\na,9223372036854775807\n",
+            b"member,count,sum,least,greatest\nc1,2,18446744073709551614,9223372036854775807,9223372036854775807\n",
+        ),
+        (
+            b"All",
+            b"member,value\nb,7\na,1\n",
+            b"member,count,sum,least,greatest\nall,2,8,1,7\n",
+        ),
     ];
     for (category, facts, wanted) in cases {
         let text = view_of(rt.alloc(), &rt, category, facts);

@@ -1,3 +1,4 @@
+-- One member more, which is of the category or is not.
 use Rattle.std.proofs.Common.{◌≡◌, ◌<◌, ◌^◌, ◌++◌, ◌∷◌, [], ℕ, ℤ, List, length, get_or, take, ap, sym, subst, ◌∙◌, arith, w64, to_z, of_z, Option, Some, None, IfSome}
 use mir.Val.{SFits}
 use Rattle.std.proofs.lemmas.Int.{to_z-of_z}

@@ -1,3 +1,4 @@
+-- The summaries of the facts so far, with marks that are older than the next fact.
 use Rattle.std.proofs.Common.{◌≡◌, IfSome, length, map, take, vec_len}
 use Rattle.olap_facts.specs.Seen.{fact_of}
 use Rattle.olap_view.specs.Adding.{AreSummaries}

@@ -1,3 +1,4 @@
+-- No number wraps where a value is added.
 use Rattle.std.proofs.Common.{◌≡◌, ℤ, ◌+ℤ◌, to_z, of_z, arith, rules, w64, ◌∙◌}
 use Rattle.std.specs.Int.{int_min, int_max}
 use mir.Val.{SFits}

@@ -1,3 +1,4 @@
+-- The rows of the summaries are the rows of the direct view.
 use Rattle.std.proofs.Common.{◌≡◌, List, Option, map, ap, subst, ◌∙◌}
 use Rattle.std.specs.Prelude.{filter_map}
 use Rattle.olap_base.specs.Views.{Row, direct_row, direct_rows, members_of, values_at}
