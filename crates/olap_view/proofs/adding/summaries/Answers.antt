@@ -2,7 +2,9 @@
 use Rattle.std.proofs.Common.{◌≡◌, ◌<◌, ◌^◌, ℕ, zero, suc, ◌+◌, refl, List, [], ◌∷◌, ◌++◌, length, get_or, map, take, drop, ap, sym, subst, ◌∙◌, arith, rules, w64, ℤ, pos, Option, Some, None, IfSome}
 use mir.Val.{SFits}
 use Rattle.std.proofs.lemmas.Int.{to_z-of_z}
-use Rattle.std.proofs.lemmas.List.{get_or_default, map-append, take_more}
+use Rattle.std.proofs.lemmas.List.{get_or_default, map-append, take_all, take_more}
+use Rattle.std.specs.Prelude.{All}
+use Rattle.std.proofs.lemmas.List.Elements.{All-more}
 use Rattle.olap_base.specs.Views.{Fact}
 use Rattle.olap_base.specs.declared.ids.MemberId.{MemberId}
 use Rattle.olap_facts.specs.Seen.{fact_of}
@@ -80,4 +82,9 @@ loop-k-preserved c =
       stamped = c.in_ok-climb_once.ensures.stamps;
       listed = subst (λ (o : Option MemberId). IfSome o (λ m. ListsReached i m.0 (places_of list)))
           (sym c.in_ok-climb_once.ensures.last) reached;
+      values = All-more (λ (f : told.Fact). SFits w64 f.value) fs k nothing c.loop-k-test.true c.loop-k.invariant.values fits;
     }
+
+pub returns-clause-values : goal.returns-clause-values
+returns-clause-values c = subst (All (λ (f : told.Fact). SFits w64 f.value))
+    (take_all c.loop-k.k c.args.facts.now c.loop-k-test.false) c.loop-k.invariant.values
