@@ -1,5 +1,5 @@
 -- The rows of a direct view are within the bounds of stored rows.
-use Rattle.std.proofs.Common.{◌≡◌, ℕ, suc, ◌+◌, ◌*◌, ◌^◌, ◌<◌, ◌≤◌, List, [], ◌∷◌, length, map, Bool, true, false, cond, refl, ap, sym, subst, ◌∙◌, arith, ℤ, pos, neg_ℤ, ◌≤ℤ◌, ◌+ℤ◌, Option, Some, None, IfSome, w64}
+use Rattle.std.proofs.Common.{◌≡◌, ℕ, suc, ◌+◌, ◌*◌, ◌^◌, ◌≤◌, List, [], ◌∷◌, length, Bool, true, false, cond, subst, arith, ℤ, pos, neg_ℤ, ◌≤ℤ◌, ◌+ℤ◌, Option, Some, None, IfSome, w64}
 use Rattle.std.specs.Prelude.{All, filter, filter_map, fold, int_lt}
 use Rattle.std.specs.Int.{int_min, int_max}
 use Rattle.std.specs.List.{cons_option}
@@ -9,7 +9,7 @@ use Rattle.std.proofs.lemmas.List.{length-map}
 use Rattle.std.proofs.lemmas.List.Elements.{All-cons, All-filter, All-head, All-map, All-nil, All-tail}
 use Rattle.olap_base.specs.Deciding.{reaches}
 use Rattle.olap_base.specs.Instance.{Instance}
-use Rattle.olap_base.specs.Views.{Fact, Row, direct_row, direct_rows, members_of, values_at}
+use Rattle.olap_base.specs.Views.{Fact, direct_row, direct_rows, members_of, values_at}
 use Rattle.olap_view.specs.Stores.{IsStored}
 
 -- a sum of that many values of 64 bits
@@ -67,7 +67,8 @@ filter_short : {A : Type 0} (p : A → Bool) (xs : List A) → length (filter p 
 filter_short p [] = omega arith
 filter_short {A} p (x ∷ xs) = go (p x) (filter_short p xs)
   where
-    go : (b : Bool) → length (filter p xs) ≤ length xs → length (cond b (x ∷ filter p xs) (filter p xs)) ≤ suc (length xs)
+    go : (b : Bool) → length (filter p xs) ≤ length xs
+        → length (cond b (x ∷ filter p xs) (filter p xs)) ≤ suc (length xs)
     go true h = omega arith
     go false h = omega arith
 

@@ -63,11 +63,12 @@ loop-k-preserved c =
     let fits : SFits w64 (get_or c.args.facts.now c.loop-k.k nothing).value = search rules in
     let more : map fact_of (take (k + 1) fs) ≡ map fact_of (take k fs) ++ fact_of f ∷ [] =
     ap (map fact_of) (take_more fs k nothing c.loop-k-test.true) ∙ map-append fact_of (take k fs) (f ∷ []) in
-    let added : IsAdded i c.args.c.0 (places_of list) (λ o. with_value o f.value) old new =
-    subst (λ (l : List MemberId). IsAdded i c.args.c.0 (places_of l) (λ o. with_value o f.value) old new) c.deref.ensures.value
-    (subst (λ (s : List (Option Summary)). IsAdded i c.args.c.0 (places_of c.deref.result.now) (λ o. with_value o f.value) s new)
+    let adding : ℤ → Option Summary → Summary = λ v o. with_value o v in
+    let added : IsAdded i c.args.c.0 (places_of list) (adding f.value) old new =
+    subst (λ (l : List MemberId). IsAdded i c.args.c.0 (places_of l) (adding f.value) old new) c.deref.ensures.value
+    (subst (λ (s : List (Option Summary)). IsAdded i c.args.c.0 (places_of c.deref.result.now) (adding f.value) s new)
     c.deref_mut.ensures.value
-    (subst (λ (v : ℤ). IsAdded i c.args.c.0 (places_of c.deref.result.now) (λ o. with_value o v) c.deref_mut.result.now new)
+    (subst (λ (v : ℤ). IsAdded i c.args.c.0 (places_of c.deref.result.now) (adding v) c.deref_mut.result.now new)
     (to_z-of_z w64 f.value fits) c.add_value.ensures)) in
     let kept : take c.loop-k.summaries.len (new ++ drop (length new) old) ≡ new =
     written_back c.loop-k.summaries.len new old added.same_length (let o = c.loop-k.summaries.ok in omega arith) in
@@ -82,7 +83,8 @@ loop-k-preserved c =
       stamped = c.in_ok-climb_once.ensures.stamps;
       listed = subst (λ (o : Option MemberId). IfSome o (λ m. ListsReached i m.0 (places_of list)))
           (sym c.in_ok-climb_once.ensures.last) reached;
-      values = All-more (λ (f : told.Fact). SFits w64 f.value) fs k nothing c.loop-k-test.true c.loop-k.invariant.values fits;
+      values = All-more (λ (f : told.Fact). SFits w64 f.value) fs k nothing c.loop-k-test.true
+          c.loop-k.invariant.values fits;
     }
 
 pub returns-clause-values : goal.returns-clause-values

@@ -1,5 +1,5 @@
 -- The rows of the summaries are the rows of the direct view.
-use Rattle.std.proofs.Common.{◌≡◌, ◌≤◌, ℕ, List, Option, length, map, ap, sym, subst, ◌∙◌, arith, rules, w64}
+use Rattle.std.proofs.Common.{◌≡◌, ◌<◌, length, ℕ, List, Option, map, ap, sym, subst, ◌∙◌, arith, w64}
 use Rattle.std.specs.Prelude.{All, filter_map}
 use mir.Val.{SFits}
 use Rattle.std.proofs.lemmas.List.{length-map}
@@ -12,40 +12,36 @@ use Rattle.olap_view.specs.Adding.{AreSummaries, row_at, summary_at}
 use Rattle.olap_view.specs.Seen.{rows_of}
 use Rattle.olap_view.specs.Stores.{IsStored}
 use Rattle.olap_view.specs.declared.adding.Summary.{Summary}
+use Rattle.olap_view.specs.declared.views.Row as told_row
 use Rattle.olap_view.proofs.FittingLemmas.{direct_stored}
 use Rattle.olap_view.proofs.ViewingLemmas.{rows_same}
 use Rattle.olap_view.proofs.viewing.direct.Goals as goal
 
 -- rows that are the summaries' are the direct view's
-rows_are : (i : Instance) (c : ℕ) (facts : List Fact) (told_facts : List told.Fact) (items read : List (Option Summary))
-    (rows : List Row) → AreSummaries i c (map fact_of told_facts) items → map fact_of told_facts ≡ facts
-    → rows ≡ filter_map (λ y. row_at y (summary_at read y)) (members_of i c) → read ≡ items
-    → rows ≡ direct_rows i c facts
-rows_are i c facts told_facts items read rows s f e r = e
+rows_are : (i : Instance) (c : ℕ) (facts : List Fact) (items read : List (Option Summary)) (rows : List Row)
+    → AreSummaries i c facts items → rows ≡ filter_map (λ y. row_at y (summary_at read y)) (members_of i c)
+    → read ≡ items → rows ≡ direct_rows i c facts
+rows_are i c facts items read rows s e r = e
     ∙ ap (λ (l : List (Option Summary)). filter_map (λ y. row_at y (summary_at l y)) (members_of i c)) r
-    ∙ rows_same i c (λ y. row_at y (summary_at items y)) (λ y. direct_row y (values_at i (map fact_of told_facts) y)) s.rows
-    ∙ ap (direct_rows i c) f
+    ∙ rows_same i c (λ y. row_at y (summary_at items y)) (λ y. direct_row y (values_at i facts y)) s.rows
 
-pub returns-clause-view : goal.returns-clause-view
-returns-clause-view c =
-    let i = c.args.instance.now in
-    let rows : rows_of c.from_vec.result ≡ direct_rows i c.args.c.0 (facts_of c.args.facts.now) =
-    ap rows_of c.from_vec.ensures
-    ∙ rows_are i c.args.c.0 (facts_of c.args.facts.now) c.items.result.now c.in_ok-summaries.summaries.items
-    c.deref.result.now (rows_of c.in_ok-rows.rows.items) c.in_ok-summaries.ensures.summed (ap (map fact_of) c.items.ensures)
-    c.in_ok-rows.ensures.rows c.deref.ensures.value in
-    ap (λ (r : List Row). record { category = c.args.c.0; rows = r }) rows
-
-pub returns-clause-fits : goal.returns-clause-fits
-returns-clause-fits c =
+pub returns : goal.returns
+returns c =
     let i = c.args.instance.now in
     let facts = facts_of c.args.facts.now in
-    let rows : rows_of c.from_vec.result ≡ direct_rows i c.args.c.0 facts =
-    ap rows_of c.from_vec.ensures
-    ∙ rows_are i c.args.c.0 facts c.items.result.now c.in_ok-summaries.summaries.items
-    c.deref.result.now (rows_of c.in_ok-rows.rows.items) c.in_ok-summaries.ensures.summed (ap (map fact_of) c.items.ensures)
+    let items = c.in_ok-summaries.summaries.items in
+    let summed : AreSummaries i c.args.c.0 facts items =
+    subst (λ (l : List told.Fact). AreSummaries i c.args.c.0 (map fact_of l) items) c.items.ensures
+    c.in_ok-summaries.ensures.summed in
+    let rows : rows_of c.from_vec.result ≡ direct_rows i c.args.c.0 facts = ap rows_of c.from_vec.ensures
+    ∙ rows_are i c.args.c.0 facts items c.deref.result.now (rows_of c.in_ok-rows.rows.items) summed
     c.in_ok-rows.ensures.rows c.deref.ensures.value in
-    subst (All IsStored) (sym rows) (direct_stored i c.args.c.0 facts
-    (let f = c.requires.few in let l = length-map c.args.facts.now.rows fact_of in omega arith)
-    (All-map (λ f. SFits w64 f.value) fact_of c.args.facts.now.rows
-    (subst (All (λ (f : told.Fact). SFits w64 f.value)) c.items.ensures c.in_ok-summaries.ensures.values)))
+    record {
+      view = ap (λ (r : List Row). record { category = c.args.c.0; rows = r }) rows;
+      members = subst (All (λ (r : told_row.Row). r.member.0 < length i)) (sym c.from_vec.ensures)
+          c.in_ok-rows.ensures.members;
+      fits = subst (All IsStored) (sym rows) (direct_stored i c.args.c.0 facts
+          (let f = c.requires.few in let l = length-map c.args.facts.now.rows fact_of in omega arith)
+          (All-map (λ f. SFits w64 f.value) fact_of c.args.facts.now.rows
+          (subst (All (λ (f : told.Fact). SFits w64 f.value)) c.items.ensures c.in_ok-summaries.ensures.values)));
+    }
