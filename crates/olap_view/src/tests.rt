@@ -7,14 +7,14 @@ use olap_instance::read_instance;
 use std::alloc::Global;
 use std::process::Abort;
 
-fn declare(alloc: Global, rt: &impl Abort, builder: &mut GraphBuilder, name: &[u8]) {
+pub(crate) fn declare(alloc: Global, rt: &impl Abort, builder: &mut GraphBuilder, name: &[u8]) {
     if category_name(name) && name.len() <= 255 {
         let text = Text::from_bytes(alloc, name).expect(rt, "memory");
         builder.add_category(text).expect(rt, "a category");
     }
 }
 
-fn join(rt: &impl Abort, builder: &mut GraphBuilder, child: &[u8], parent: &[u8]) {
+pub(crate) fn join(rt: &impl Abort, builder: &mut GraphBuilder, child: &[u8], parent: &[u8]) {
     if let Some(c) = builder.category(child) {
         if let Some(d) = builder.category(parent) {
             builder.add_edge(c, d).expect(rt, "an edge");

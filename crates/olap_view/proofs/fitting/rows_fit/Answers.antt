@@ -16,8 +16,7 @@ pub returns-then-not-row_fits : goal.returns-then-not-row_fits
 unfolding nothing
 returns-then-not-row_fits c =
     let rows = c.args.rows.now in
-    let k = c.loop-row.row-index in
-    (
+    let k = c.loop-row.row-index in (
       λ e. absurd (cc),
       λ a. absurd (let t = c.row_fits.ensures.1 (each_row IsStored rows k nothing c.loop-row-test.true a) in cc),
     )
