@@ -1,11 +1,11 @@
 -- Adding up the values of facts.
 --     added_skip, added_set       one member more
 --     summaries_start, _step      one fact more
-use Rattle.std.proofs.Common.{◌≡◌, ◌≢◌, ℕ, zero, suc, ◌+◌, ◌<◌, ◌≤◌, List, [], ◌∷◌, ◌++◌, length, get_or, set, take, drop, map, replicate, Bool, true, false, cond, refl, ap, sym, subst, ◌∙◌, inl, inr, arith, ℤ, ◌+ℤ◌, Option, Some, None, IfSome, w64, length-append, get_or-set_same, get_or-set_other}
+use Rattle.std.proofs.Common.{◌≡◌, ◌≢◌, ℕ, zero, suc, ◌+◌, ◌<◌, ◌≤◌, List, [], ◌∷◌, ◌++◌, length, get_or, set, take, drop, map, replicate, Bool, true, false, cond, refl, ap, sym, subst, ◌∙◌, inl, inr, arith, ℤ, ◌+ℤ◌, Option, Some, None, IfSome, w64, to_z, of_z, length-append, get_or-set_same, get_or-set_other}
 use Rattle.std.specs.Prelude.{Contains, AllPairs, filter, fold}
 use Rattle.std.specs.Int.{int_min, int_max}
 use mir.Val.{SFits}
-use Rattle.std.proofs.lemmas.Int.{ints}
+use Rattle.std.proofs.lemmas.Int.{ints, to_z-of_z}
 use Rattle.std.proofs.lemmas.List.{append-nil, get_or-take, length-map, length-replicate, length-set, length-take-le, map-append, take_all}
 use Rattle.std.proofs.lemmas.List.Elements.{Contains-append_left, Contains-push, Contains-push_cases, filter-append}
 use native.Mathlib.Decide.{ℕ_discrete}
@@ -75,6 +75,11 @@ module _ (i : Instance) (c p : ℕ) (qs : List ℕ) (g : Option Summary → Summ
       at_p = rw get_or-set_same (is ∙ ap (λ o. Some (g o)) untouched)
 
 -- ---- one value more
+
+-- what is made of two numbers of 64 bits, from their bits
+pub in_64_bits : (g : ℤ → ℤ → ℤ) (x y : ℤ) → SFits w64 x → SFits w64 y
+    → g (to_z w64 (of_z w64 x)) (to_z w64 (of_z w64 y)) ≡ g x y
+in_64_bits g x y p q = rw (to_z-of_z w64 x p, to_z-of_z w64 y q)
 
 abbrev pub IsWithin : ℕ → Option Summary → Type 0
 IsWithin n o = IfSome o (λ s. (s.count ≤ n) × IsBounded s)
@@ -167,7 +172,8 @@ summaries_start i c n summaries e l = record {
     none y = ap (λ xs. summary_at xs y) e ∙ none_at n y
 
 module _ (i : Instance) (c : ℕ) (fs : List Fact) (f : Fact) (list : List ℕ) (before after : List (Option Summary)) where
-  pub summaries_step : SFits w64 f.value → ListsReached i f.member list → IsAdded i c list (λ o. with_value o f.value) before after
+  pub summaries_step : SFits w64 f.value → ListsReached i f.member list
+      → IsAdded i c list (λ o. with_value o f.value) before after
       → AreSummaries i c fs before → AreSummaries i c (fs ++ f ∷ []) after
   summaries_step fits r a s = record {
     same_length = a.same_length ∙ s.same_length;

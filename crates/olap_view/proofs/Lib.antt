@@ -6,3 +6,4 @@ pub mod PrintingLemmas
 pub mod MergingLemmas
 pub mod SeenLemmas
 pub mod StoresLemmas
+pub mod FittingLemmas

@@ -39,7 +39,8 @@ with_row_total (Some s) r n q t =
 
 pub totals_step : (i : Instance) (c : ℕ) (list : List ℕ) (r : Row) (n : ℕ) (before after : List (Option Summary))
     → IsStored r → IsAdded i c list (λ o. with_row o r) before after → AreTotalsOf n before → AreTotalsOf (n + 1) after
-totals_step i c list r n before after q a t = λ y. go y (decide_contains ℕ_discrete list y) (ℕ_discrete (category_of i y) c)
+totals_step i c list r n before after q a t = λ y.
+    go y (decide_contains ℕ_discrete list y) (ℕ_discrete (category_of i y) c)
   where
     kept : (y : ℕ) → summary_at after y ≡ summary_at before y → IfSome (summary_at after y) (IsTotalOf (n + 1))
     kept y e = subst (λ (o : Option Summary). IfSome o (IsTotalOf (n + 1))) (sym e)
@@ -102,8 +103,8 @@ summed s rows = record {
 with_rows-summed : (s : Summary) (rows : List Row) → with_rows (Some s) rows ≡ Some (summed s rows)
 with_rows-summed s [] = let e : s.count ≡ s.count + 0 = omega arith in ap (λ n. Some (record s { count = n })) e
 with_rows-summed s (r ∷ rows) =
-    let e : (s.count + r.count) + sum_by (λ (q : Row). q.count) rows ≡ s.count + sum_by (λ (q : Row). q.count) (r ∷ rows) =
-    add_assoc s.count r.count (sum_by (λ (q : Row). q.count) rows)
+    let count = sum_by (λ (q : Row). q.count) in
+    let e : (s.count + r.count) + count rows ≡ s.count + count (r ∷ rows) = add_assoc s.count r.count (count rows)
     ∙ ap (λ n. s.count + n) (sym (sum_by-cons (λ (q : Row). q.count) r rows)) in
     with_rows-summed (with_row (Some s) r) rows ∙ ap (λ n. Some (record (summed s (r ∷ rows)) { count = n })) e
 

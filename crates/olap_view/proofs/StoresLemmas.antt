@@ -27,7 +27,8 @@ chosen_more k (x ∷ views) v mask =
 abbrev pub rows_chosen : List View → ℕ → List Row
 rows_chosen views mask = flat_map (λ v. v.rows) (chosen views mask)
 
-module _ (views : List told.View) (k : ℕ) (v : told.View) (mask : ℕ) (h : k < length views) (e : v ≡ get_or views k v) where
+module _ (views : List told.View) (k : ℕ) (v : told.View) (mask : ℕ) (h : k < length views)
+    (e : v ≡ get_or views k v) where
   last_is : (b : Bool) → (bit_at mask k == 1) ≡ b → chosen (each_view_of (take (k + 1) views)) mask
       ≡ chosen (each_view_of (take k views)) mask ++ cond b (view_of v ∷ []) []
   last_is b t =

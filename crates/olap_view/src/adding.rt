@@ -1,5 +1,6 @@
 // What the values of facts come to, at each member of a category.
-ghost use Rattle.std.specs.Prelude.{◌≡◌, ◌≢◌, ◌<◌, ◌≤◌, ◌^◌, ℕ, All, AllPairs, IfOk, IfSome, OnOk, Some, length, map, vec_len};
+ghost use Rattle.std.specs.Prelude.{◌≡◌, ◌≢◌, ◌<◌, ◌≤◌, ◌^◌, ℕ, All, AllPairs, FitsSigned, IfOk, IfSome, OnOk, Some, length, map, vec_len};
+ghost use Rattle.std.specs.Int.{w64};
 ghost use Rattle.olap_facts.specs.Seen.{fact_of};
 ghost use Rattle.olap_view.specs.Climbing.{AreBefore, AreUpTo, ListsReached, places_of};
 ghost use Rattle.olap_view.specs.Adding.{AreSummaries, IsAdded, IsBounded, with_value};
@@ -103,7 +104,8 @@ pub(crate) fn summaries(
 ) -> Result<Vec<Option<Summary>>, Memory>
     requires at_members { All (λ f. f.member.0 < length instance.now) facts.now }
     requires few { length facts.now ≤ 1048576 }
-    ensures { IfOk result (λ v. AreSummaries instance.now c.0 (map fact_of facts.now) v.items) }
+    ensures summed { IfOk result (λ v. AreSummaries instance.now c.0 (map fact_of facts.now) v.items) }
+    ensures values { OnOk result (All (λ f. FitsSigned w64 f.value) facts.now) }
 {
     let places = instance.members() as usize;
     let mut summaries = vec![in alloc; None; places]?;

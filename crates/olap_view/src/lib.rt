@@ -17,4 +17,6 @@ pub use viewing::{direct, from_views};
 pub use views::{Row, Store, View};
 
 #[cfg(test)]
+mod stored_tests;
+#[cfg(test)]
 mod tests;

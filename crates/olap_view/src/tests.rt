@@ -7,14 +7,14 @@ use olap_instance::read_instance;
 use std::alloc::Global;
 use std::process::Abort;
 
-fn declare(alloc: Global, rt: &impl Abort, builder: &mut GraphBuilder, name: &[u8]) {
+pub(crate) fn declare(alloc: Global, rt: &impl Abort, builder: &mut GraphBuilder, name: &[u8]) {
     if category_name(name) && name.len() <= 255 {
         let text = Text::from_bytes(alloc, name).expect(rt, "memory");
         builder.add_category(text).expect(rt, "a category");
     }
 }
 
-fn join(rt: &impl Abort, builder: &mut GraphBuilder, child: &[u8], parent: &[u8]) {
+pub(crate) fn join(rt: &impl Abort, builder: &mut GraphBuilder, child: &[u8], parent: &[u8]) {
     if let Some(c) = builder.category(child) {
         if let Some(d) = builder.category(parent) {
             builder.add_edge(c, d).expect(rt, "an edge");
@@ -47,11 +47,31 @@ fn view_of(alloc: Global, rt: &impl Abort, category: &[u8], facts: &[u8]) -> Tex
 #[test]
 fn views(rt: HostRuntime) {
     let cases: [(&[u8], &[u8], &[u8]); 5] = [
-        (b"City", b"member,value\na,5\nb,-5\na,0\n", b"member,count,sum,least,greatest\nc1,3,0,-5,5\n"),
-        (b"City", b"member,value\n", b"member,count,sum,least,greatest\n"),
-        (b"Store", b"member,value\nb,7\na,1\na,-3\n", b"member,count,sum,least,greatest\na,2,-2,-3,1\nb,1,7,7,7\n"),
-        (b"City", b"member,value\na,9223372036854775807\na,9223372036854775807\n", b"member,count,sum,least,greatest\nc1,2,18446744073709551614,9223372036854775807,9223372036854775807\n"),
-        (b"All", b"member,value\nb,7\na,1\n", b"member,count,sum,least,greatest\nall,2,8,1,7\n"),
+        (
+            b"City",
+            b"member,value\na,5\nb,-5\na,0\n",
+            b"member,count,sum,least,greatest\nc1,3,0,-5,5\n",
+        ),
+        (
+            b"City",
+            b"member,value\n",
+            b"member,count,sum,least,greatest\n",
+        ),
+        (
+            b"Store",
+            b"member,value\nb,7\na,1\na,-3\n",
+            b"member,count,sum,least,greatest\na,2,-2,-3,1\nb,1,7,7,7\n",
+        ),
+        (
+            b"City",
+            b"member,value\na,9223372036854775807\na,9223372036854775807\n",
+            b"member,count,sum,least,greatest\nc1,2,18446744073709551614,9223372036854775807,9223372036854775807\n",
+        ),
+        (
+            b"All",
+            b"member,value\nb,7\na,1\n",
+            b"member,count,sum,least,greatest\nall,2,8,1,7\n",
+        ),
     ];
     for (category, facts, wanted) in cases {
         let text = view_of(rt.alloc(), &rt, category, facts);

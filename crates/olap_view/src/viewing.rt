@@ -67,6 +67,7 @@ pub fn direct(alloc: Global, instance: &Instance, facts: &Facts, c: CatId) -> Re
 
     ensures view { IfOk result (λ v. view_of v ≡ direct_view instance.now (facts_of facts.now) c.0) }
     ensures members { IfOk result (λ v. All (λ r. r.member.0 < length instance.now) v.rows) }
+    ensures fits { IfOk result (λ v. Fits (view_of v)) }
 {
     let summaries = summaries(alloc, instance, facts.rows.items(), c)?;
     let rows = rows(alloc, instance, &summaries, c)?;

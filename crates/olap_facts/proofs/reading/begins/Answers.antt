@@ -1,3 +1,4 @@
+-- Whether the first record is the header.
 use Rattle.olap_facts.proofs.HeaderLemmas.{header-is}
 use Rattle.olap_facts.proofs.reading.begins.Goals as goal
 

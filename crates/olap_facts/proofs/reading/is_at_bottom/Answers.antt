@@ -1,3 +1,4 @@
+-- The look at the table of bottoms is the test.
 use Rattle.std.proofs.Common.{◌∙◌, ap, subst}
 use Rattle.std.specs.Bool.{one_answer}
 use Rattle.olap_base.specs.Graph.{IsBottom}

@@ -1,3 +1,4 @@
+-- The facts of the vector are those of the table.
 use Rattle.std.proofs.Common.{◌<◌, List, length, map, sym, subst}
 use Rattle.std.specs.Prelude.{All}
 use Rattle.olap_base.specs.Views.{IsFactTable}

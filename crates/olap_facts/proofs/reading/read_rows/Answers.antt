@@ -1,3 +1,4 @@
+-- One record more, which passes or has the first fault.
 use Rattle.std.proofs.Common.{◌≡◌, ◌∷◌, ◌++◌, ◌+◌, ◌∙◌, [], List, length, length-append, map, ap, sym, subst, arith, rules}
 use Rattle.olap_base.specs.Views.{Fact, IsFactTable}
 use Rattle.olap_records.proofs.Seeing.{see-more, see-fault}

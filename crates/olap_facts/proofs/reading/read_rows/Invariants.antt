@@ -1,3 +1,4 @@
+-- The records seen so far have no fault, and these are their facts.
 use Rattle.std.proofs.Common.{◌≡◌, ◌≤◌, ℕ, List, length, map}
 use Rattle.olap_base.specs.Views.{IsFactTable}
 use Rattle.olap_records.proofs.Seeing.{HasSeen}

@@ -1,3 +1,4 @@
+-- One member more, which is of the category or is not.
 use Rattle.std.proofs.Common.{◌≡◌, ◌<◌, ◌^◌, ◌++◌, ◌∷◌, [], ℕ, ℤ, List, length, get_or, take, ap, sym, subst, ◌∙◌, arith, w64, to_z, of_z, Option, Some, None, IfSome}
 use mir.Val.{SFits}
 use Rattle.std.proofs.lemmas.Int.{to_z-of_z}
@@ -62,4 +63,5 @@ returns c =
     c.args.summaries.now c.loop-m.summaries)
     (to_z-of_z w64 c.args.value fits)
     (subst (λ (l : List MemberId). IsAdded c.args.instance.now c.args.c.0 (places_of l)
-    (λ o. with_value o (to_z w64 (of_z w64 c.args.value))) c.args.summaries.now c.loop-m.summaries) all c.loop-m.invariant)
+    (λ o. with_value o (to_z w64 (of_z w64 c.args.value))) c.args.summaries.now c.loop-m.summaries) all
+    c.loop-m.invariant)

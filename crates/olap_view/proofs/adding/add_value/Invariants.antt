@@ -1,3 +1,4 @@
+-- The value is added at the members so far.
 use Rattle.std.proofs.Common.{take}
 use Rattle.olap_view.specs.Adding.{IsAdded, with_value}
 use Rattle.olap_view.specs.Climbing.{places_of}

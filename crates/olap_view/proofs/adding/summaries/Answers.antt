@@ -1,7 +1,10 @@
+-- One fact more.
 use Rattle.std.proofs.Common.{◌≡◌, ◌<◌, ◌^◌, ℕ, zero, suc, ◌+◌, refl, List, [], ◌∷◌, ◌++◌, length, get_or, map, take, drop, ap, sym, subst, ◌∙◌, arith, rules, w64, ℤ, pos, Option, Some, None, IfSome}
 use mir.Val.{SFits}
 use Rattle.std.proofs.lemmas.Int.{to_z-of_z}
-use Rattle.std.proofs.lemmas.List.{get_or_default, map-append, take_more}
+use Rattle.std.proofs.lemmas.List.{get_or_default, map-append, take_all, take_more}
+use Rattle.std.specs.Prelude.{All}
+use Rattle.std.proofs.lemmas.List.Elements.{All-more}
 use Rattle.olap_base.specs.Views.{Fact}
 use Rattle.olap_base.specs.declared.ids.MemberId.{MemberId}
 use Rattle.olap_facts.specs.Seen.{fact_of}
@@ -60,11 +63,12 @@ loop-k-preserved c =
     let fits : SFits w64 (get_or c.args.facts.now c.loop-k.k nothing).value = search rules in
     let more : map fact_of (take (k + 1) fs) ≡ map fact_of (take k fs) ++ fact_of f ∷ [] =
     ap (map fact_of) (take_more fs k nothing c.loop-k-test.true) ∙ map-append fact_of (take k fs) (f ∷ []) in
-    let added : IsAdded i c.args.c.0 (places_of list) (λ o. with_value o f.value) old new =
-    subst (λ (l : List MemberId). IsAdded i c.args.c.0 (places_of l) (λ o. with_value o f.value) old new) c.deref.ensures.value
-    (subst (λ (s : List (Option Summary)). IsAdded i c.args.c.0 (places_of c.deref.result.now) (λ o. with_value o f.value) s new)
+    let adding : ℤ → Option Summary → Summary = λ v o. with_value o v in
+    let added : IsAdded i c.args.c.0 (places_of list) (adding f.value) old new =
+    subst (λ (l : List MemberId). IsAdded i c.args.c.0 (places_of l) (adding f.value) old new) c.deref.ensures.value
+    (subst (λ (s : List (Option Summary)). IsAdded i c.args.c.0 (places_of c.deref.result.now) (adding f.value) s new)
     c.deref_mut.ensures.value
-    (subst (λ (v : ℤ). IsAdded i c.args.c.0 (places_of c.deref.result.now) (λ o. with_value o v) c.deref_mut.result.now new)
+    (subst (λ (v : ℤ). IsAdded i c.args.c.0 (places_of c.deref.result.now) (adding v) c.deref_mut.result.now new)
     (to_z-of_z w64 f.value fits) c.add_value.ensures)) in
     let kept : take c.loop-k.summaries.len (new ++ drop (length new) old) ≡ new =
     written_back c.loop-k.summaries.len new old added.same_length (let o = c.loop-k.summaries.ok in omega arith) in
@@ -79,4 +83,10 @@ loop-k-preserved c =
       stamped = c.in_ok-climb_once.ensures.stamps;
       listed = subst (λ (o : Option MemberId). IfSome o (λ m. ListsReached i m.0 (places_of list)))
           (sym c.in_ok-climb_once.ensures.last) reached;
+      values = All-more (λ (f : told.Fact). SFits w64 f.value) fs k nothing c.loop-k-test.true
+          c.loop-k.invariant.values fits;
     }
+
+pub returns-clause-values : goal.returns-clause-values
+returns-clause-values c = subst (All (λ (f : told.Fact). SFits w64 f.value))
+    (take_all c.loop-k.k c.args.facts.now c.loop-k-test.false) c.loop-k.invariant.values

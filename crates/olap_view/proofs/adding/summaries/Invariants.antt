@@ -1,4 +1,7 @@
+-- The summaries of the facts so far, with marks that are older than the next fact.
 use Rattle.std.proofs.Common.{◌≡◌, IfSome, length, map, take, vec_len}
+use Rattle.std.specs.Prelude.{All, FitsSigned}
+use Rattle.std.specs.Int.{w64}
 use Rattle.olap_facts.specs.Seen.{fact_of}
 use Rattle.olap_view.specs.Adding.{AreSummaries}
 use Rattle.olap_view.specs.Climbing.{AreUpTo, ListsReached, places_of}
@@ -10,4 +13,5 @@ invariant-loop-k l = record {
   room : vec_len l.stamps ≡ length l.instance;
   stamped : AreUpTo l.k l.stamps.items;
   listed : IfSome l.last (λ m. ListsReached l.instance m.0 (places_of l.reached.items));
+  values : All (λ f. FitsSigned w64 f.value) (take l.k l.facts);
 }

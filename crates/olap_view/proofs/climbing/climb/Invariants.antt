@@ -1,3 +1,4 @@
+-- A climb keeps its frontier, and each turn leaves fewer members to go on from.
 use Rattle.std.proofs.Common.{◌+◌, ◌-◌, length}
 use Rattle.olap_view.specs.Climbing.{places_of, unmarked_count}
 use Rattle.olap_view.proofs.ClimbingLemmas.{IsFrontier}

@@ -1,3 +1,4 @@
+-- One parent more, which is marked already or is listed now.
 use Rattle.std.proofs.Common.{◌≡◌, ◌<◌, ◌++◌, ◌∷◌, [], ℕ, List, length, get_or, set, take, ap, sym, subst, ◌∙◌, arith}
 use Rattle.std.proofs.lemmas.List.{map-append}
 use Rattle.olap_base.specs.declared.ids.MemberId.{MemberId}

@@ -1,3 +1,4 @@
+-- The visit to the parents so far.
 use Rattle.std.proofs.Common.{take}
 use Rattle.olap_view.specs.Climbing.{IsVisit, places_of}
 use Rattle.olap_view.proofs.climbing.visit.Given as goal

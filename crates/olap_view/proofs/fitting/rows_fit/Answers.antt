@@ -1,3 +1,4 @@
+-- One row more, which is within the bounds.
 use Rattle.std.proofs.Common.{◌≡◌, List, get_or, take, sym, subst, pos, refl}
 use Rattle.std.specs.Prelude.{All}
 use Rattle.std.proofs.lemmas.List.{take_all}
@@ -15,8 +16,10 @@ pub returns-then-not-row_fits : goal.returns-then-not-row_fits
 unfolding nothing
 returns-then-not-row_fits c =
     let rows = c.args.rows.now in
-    let k = c.loop-row.row-index in
-    (λ e. absurd (cc), λ a. absurd (let t = c.row_fits.ensures.1 (each_row IsStored rows k nothing c.loop-row-test.true a) in cc))
+    let k = c.loop-row.row-index in (
+      λ e. absurd (cc),
+      λ a. absurd (let t = c.row_fits.ensures.1 (each_row IsStored rows k nothing c.loop-row-test.true a) in cc),
+    )
 
 pub loop-row-preserved : goal.loop-row-preserved
 unfolding nothing

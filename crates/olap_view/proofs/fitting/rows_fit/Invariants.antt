@@ -1,3 +1,4 @@
+-- The rows so far are within the bounds.
 use Rattle.std.proofs.Common.{take}
 use Rattle.std.specs.Prelude.{All}
 use Rattle.olap_view.specs.Seen.{rows_of}

@@ -1,3 +1,4 @@
+-- One member more, which is of the category or is not.
 use Rattle.std.proofs.Common.{◌≡◌, ◌<◌, ◌++◌, ◌∷◌, [], ℕ, List, length, get_or, take, ap, sym, subst, ◌∙◌, arith, Option, Some, IfSome}
 use Rattle.std.proofs.lemmas.List.{take_all}
 use Rattle.olap_base.specs.declared.ids.MemberId.{MemberId}

@@ -1,3 +1,4 @@
+-- One row more, at the members that its member reaches.
 use Rattle.std.proofs.Common.{◌≡◌, ◌<◌, ◌≤◌, ◌+◌, ◌∷◌, [], List, length, get_or, take, sym, subst, arith, pos}
 use Rattle.std.proofs.lemmas.List.{take_all}
 use Rattle.olap_base.specs.declared.ids.MemberId.{MemberId}
@@ -37,7 +38,8 @@ pub add_row-requires-clause-totals : goal.add_row-requires-clause-totals
 add_row-requires-clause-totals c = λ y.
     let below : c.args.before + c.loop-k.k ≤ 2097151 =
     let f = c.requires.few in let t = c.loop-k-test.true in omega arith in
-    totals_more (summary_at c.loop-k.summaries y) (c.args.before + c.loop-k.k) 2097151 below (c.loop-k.invariant.totals y)
+    totals_more (summary_at c.loop-k.summaries y) (c.args.before + c.loop-k.k) 2097151 below
+    (c.loop-k.invariant.totals y)
 
 pub add_row-requires-clause-stored : goal.add_row-requires-clause-stored
 unfolding nothing
@@ -80,8 +82,8 @@ returns c =
     let end : k ≤ length rows = c.loop-k.auto.k-end in
     let all : take k rows ≡ rows = take_all k rows c.loop-k-test.false in
     record {
-      added = subst (λ (l : List told.Row). AreRowsAdded i c.args.c.0 (rows_of l) c.args.summaries.now c.loop-k.summaries)
-          all c.loop-k.invariant.so_far;
+      added = subst (λ (l : List told.Row).
+          AreRowsAdded i c.args.c.0 (rows_of l) c.args.summaries.now c.loop-k.summaries) all c.loop-k.invariant.so_far;
       marks = c.loop-k.invariant.marks;
       stamps = λ y. let s = c.loop-k.invariant.stamped y in
           let e : c.loop-k.k ≤ length c.args.rows.now = c.loop-k.auto.k-end in omega arith;

@@ -1,3 +1,4 @@
+-- The rows so far are added, and marks are no later than they are many.
 use Rattle.std.proofs.Common.{◌≡◌, ◌+◌, length, take, vec_len}
 use Rattle.olap_view.specs.Climbing.{AreUpTo}
 use Rattle.olap_view.specs.Merging.{AreRowsAdded, AreTotalsOf}

@@ -1,3 +1,4 @@
+-- One view more, whose bit is in the mask or isn't.
 use Rattle.std.proofs.Common.{◌≡◌, ◌<◌, ◌≤◌, ◌+◌, ℕ, List, length, get_or, take, replicate, vec_len, ap, sym, subst, ◌∙◌, arith, rules, Option, None, IfSome}
 use Rattle.std.specs.Prelude.{All}
 use Rattle.std.proofs.lemmas.List.{length-map, length-replicate, take_all}
@@ -123,7 +124,8 @@ loop-k-preserved c =
                 let r = w.added-is in
                 omega arith;
             totals = λ y. subst (λ (l : List (Option Summary)). IfSome (summary_at l y) (IsTotalOf c.if-has_bit.added))
-                (sym items) (subst (λ (n : ℕ). IfSome (summary_at old y) (IsTotalOf n)) (sym w.added-is) (inv.totals y));
+                (sym items)
+                (subst (λ (n : ℕ). IfSome (summary_at old y) (IsTotalOf n)) (sym w.added-is) (inv.totals y));
           }
     ]
 

@@ -1,3 +1,4 @@
+-- The rows of the chosen views so far are added, and marks are no later than they are many.
 use Rattle.std.proofs.Common.{◌≡◌, ◌*◌, ◌≤◌, length, replicate, take, vec_len, None}
 use Rattle.std.specs.Prelude.{flat_map}
 use Rattle.olap_view.specs.Climbing.{AreUpTo}

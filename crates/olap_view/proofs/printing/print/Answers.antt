@@ -1,3 +1,4 @@
+-- One row more.
 use Rattle.olap_view.specs.ViewText.{fields_in, header}
 use Rattle.olap_view.proofs.PrintingLemmas.{view_more}
 use Rattle.olap_view.proofs.printing.print.Goals as goal

@@ -1,3 +1,4 @@
+-- The text of the rows so far.
 use Rattle.std.proofs.Common.{◌≡◌, ◌∷◌, map, take}
 use Rattle.olap_records.specs.Texts.{text_of_rows}
 use Rattle.olap_view.specs.Seen.{rows_of}

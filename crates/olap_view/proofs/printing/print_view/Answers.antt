@@ -1,3 +1,4 @@
+-- The printed text reads back.
 use Rattle.std.proofs.Common.{◌∙◌, ap}
 use Rattle.std.proofs.lemmas.Result.{IfOk-weaker}
 use Rattle.olap_records.specs.Records.{records_of}

@@ -1,3 +1,4 @@
+-- The rows of the summaries are the rows from the chosen views.
 use Rattle.std.proofs.Common.{◌≡◌, List, Option, ap, subst, ◌∙◌}
 use Rattle.std.specs.Prelude.{filter_map}
 use Rattle.olap_base.specs.Views.{Row, members_of, merged_row, rows_from_views}
@@ -17,8 +18,8 @@ returns-clause-view c =
     let views = views_of c.args.store.now in
     let items = c.in_ok-summaries.summaries.items in
     let added : AreMerged i c.args.c.0 (rows_chosen views c.args.mask) items =
-    subst (λ (l : List told.View). AreMerged i c.args.c.0 (rows_chosen (each_view_of l) c.args.mask) items) c.items.ensures
-    c.in_ok-summaries.ensures in
+    subst (λ (l : List told.View). AreMerged i c.args.c.0 (rows_chosen (each_view_of l) c.args.mask) items)
+    c.items.ensures c.in_ok-summaries.ensures in
     let rows : rows_of c.from_vec.result ≡ rows_from_views i c.args.c.0 (chosen views c.args.mask) =
     ap rows_of c.from_vec.ensures ∙ c.in_ok-rows.ensures.rows
     ∙ ap (λ (l : List (Option Summary)). filter_map (λ y. row_at y (summary_at l y)) (members_of i c.args.c.0))

@@ -1,3 +1,4 @@
+-- One member more, which gives a row or none.
 use Rattle.std.proofs.Common.{◌<◌, ℕ, ◌∷◌, [], List, length, true, false, Option, Some, None, refl, ap, sym, subst, ◌∙◌, arith}
 use Rattle.std.specs.Prelude.{◌==◌, All}
 use Rattle.std.specs.Option.{option_map}

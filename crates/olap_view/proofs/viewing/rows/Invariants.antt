@@ -1,3 +1,4 @@
+-- The rows of the members so far.
 use Rattle.std.proofs.Common.{◌≡◌, ◌<◌, length}
 use Rattle.std.specs.Prelude.{◌==◌, All, filter, filter_map}
 use Rattle.std.specs.List.{range_with_len}
