@@ -52,3 +52,21 @@ pub(crate) fn check(
     assert_eq!(rt; sink.contents(), wanted.1.as_bytes());
     Ok(())
 }
+
+/// The text with the first place of this line changed.
+pub(crate) fn changed(alloc: Global, text: &str, old: &str, new: &str) -> Result<String, Fail> {
+    let Some((before, behind)) = text.split_once(old) else {
+        return Err("no such line".into());
+    };
+    let mut all = String::from_str(alloc, before)?;
+    all.push_str(new)?;
+    all.push_str(behind)?;
+    Ok(all)
+}
+
+/// The text with lines behind its last.
+pub(crate) fn grown(alloc: Global, text: &str, more: &str) -> Result<String, Fail> {
+    let mut all = String::from_str(alloc, text)?;
+    all.push_str(more)?;
+    Ok(all)
+}
