@@ -13,6 +13,6 @@ mod schemas;
 mod statements;
 
 pub use kinds::{FormulaRefusal, SchemaKind, SchemaRefusal};
-pub use printing::print_schema;
+pub use printing::{print_schema, printed_schemas_are_read};
 pub use questions::read_formula;
 pub use schemas::{Schema, read_schema};
