@@ -142,3 +142,7 @@ unfolding schema_read
 printed_is_read s r =
     ap (λ ls. text_ended (lines_on (Ok nothing_above) 0 ls)) (lines_are (schema_lines s) (plain_lines s r.valid r.texts))
     ∙ lines_back s r.valid r.texts
+
+-- what is printed is read back
+pub read_back : (s : Schema) (text : List ℕ) → text ≡ schema_text s → IsReadable s → schema_read text ≡ Ok s
+read_back s text e r = ap schema_read e ∙ printed_is_read s r

@@ -18,5 +18,6 @@ mod tests;
 pub use kinds::{FormulaRefusal, SchemaKind, SchemaRefusal};
 pub use printing::print_schema;
 pub use laws::read_schemas_are_valid;
+pub use printing::{print_schema, printed_schemas_are_read};
 pub use questions::read_formula;
 pub use schemas::{Schema, read_schema};

@@ -4,8 +4,10 @@ ghost use Rattle.olap_base.specs.Graph.{Edge};
 ghost use Rattle.olap_graph.specs.Lookups.{name_of_category};
 ghost use Rattle.olap_grammar.specs.Cutting.{joint_bytes};
 ghost use Rattle.olap_schema.specs.Printing.{atom_word, category_text, compared_word, constraint_text, edge_text, ended_line, formula_text, joined_text, list_text, names_after, rest_text, schema_text, text_of_lines};
+ghost use Rattle.olap_schema.specs.Judging.{schema_read};
+ghost use Rattle.olap_schema.specs.PrintingLaws.{IsReadable, PrintedIsRead};
 ghost use Rattle.olap_schema.specs.Schemas.{schema_of};
-ghost use Rattle.std.specs.Prelude.{◌≡◌, ◌++◌, [], ◌∷◌, IfOk, OnOk, codes, map};
+ghost use Rattle.std.specs.Prelude.{◌≡◌, ◌++◌, [], ◌∷◌, IfOk, Ok, OnOk, codes, map};
 
 use crate::Schema;
 use olap_ast::{Constraint, Formula, Terms};
@@ -304,10 +306,21 @@ pub(crate) fn push_schema(
 
 /// The canonical text of a schema: a line for the version, each category, each edge and each constraint, in
 /// declaration order, with one space between tokens. `Memory` where there is no room for it. Linear in the text.
+///
+/// A valid schema whose constants are text is what its canonical text is read as.
 pub fn print_schema(alloc: Global, schema: &Schema) -> Result<Text, Memory>
     ensures text { IfOk result (λ t. t ≡ schema_text (schema_of schema.now)) }
+    ensures reads {
+        IsReadable (schema_of schema.now) → IfOk result (λ t. schema_read t ≡ Ok (schema_of schema.now))
+    }
 {
     let mut out = Vec::new(alloc);
     push_schema(&mut out, schema.graph(), schema.constraints())?;
-    Text::from_bytes(alloc, &out)
+    let text = Text::from_bytes(alloc, &out)?;
+    Ok(text)
 }
+
+/// The canonical text of a valid schema whose constants are text stands for that schema.
+pub fn printed_schemas_are_read()
+    ensures { PrintedIsRead }
+{}
