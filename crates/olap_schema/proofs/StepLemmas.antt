@@ -2,12 +2,10 @@
 --     Step        the ways in which a line goes on
 --     stepped     a line without a fault goes on in one of them
 --     all_steps   what each line keeps, all lines keep
-use Rattle.std.proofs.Common.{◌≡◌, ◌+◌, ◌≤◌, ◌<◌, ℕ, Bool, true, false, cond, List, [], ◌∷◌, ◌++◌, Option, Some, None, drop, length, fold, refl, sym, arith, subst}
+use Rattle.std.proofs.Common.{◌≡◌, ◌+◌, ℕ, Bool, true, false, cond, List, [], ◌∷◌, ◌++◌, Option, Some, None, drop, length, fold, refl, sym, subst}
 use Rattle.std.specs.Prelude.{◌==◌, ◌||◌, ◌&&◌, Result, Ok, Err, codes, nat_lt, nat_le}
 use Rattle.std.specs.List.{list_any}
 use Rattle.std.specs.Str.{bytes_eq}
-use Rattle.std.proofs.lemmas.Bool.{leb-false}
-use Rattle.std.proofs.lemmas.List.{length_push}
 use Rattle.olap_ast.specs.Formula.{Formula, equalities}
 use Rattle.olap_ast.specs.Valid.{with_pair}
 use Rattle.olap_base.specs.Deciding.{is_category_name}
@@ -194,18 +192,3 @@ all_steps P keeps a b n (line ∷ lines) h p = go (line_read a (n + 1) (chomped 
         → ((c : Above) → line_read a (n + 1) (chomped line) ≡ Ok c → lines_on (Ok c) (n + 1) lines ≡ Ok b → P b) → P b
     go (Err k) e q rest = absurd (cc)
     go (Ok c) e q rest = rest c e q
-
--- ---- few constraints
-
-few_kept : (a b : Above) → Step a b → length a.constraints ≤ 64 → length b.constraints ≤ 64
-few_kept a b (quiet e) l = rw e l
-few_kept a b (version e) l = rw e l
-few_kept a b (category n name is s) l = rw s.new l
-few_kept a b (edge child parent c d s) l = rw s.new l
-few_kept a b (constraint name ts f root s) l =
-    let few : length a.constraints < 64 = leb-false 64 (length a.constraints) s.few in
-    rw s.new (omega (arith, few, length_push a.constraints (record { root = root; formula = f })))
-
--- where all lines are read there are few constraints
-pub few_constraints : (a b : Above) (n : ℕ) (lines : List (List ℕ)) → lines_on (Ok a) n lines ≡ Ok b → length a.constraints ≤ 64 → length b.constraints ≤ 64
-few_constraints a b n lines h = all_steps (λ c. length c.constraints ≤ 64) few_kept a b n lines h

@@ -301,3 +301,21 @@ unfolding schema_read
 read_is_valid text =
     ended_is_valid (lines_on (Ok nothing_above) 0 (lines_of text))
     (λ a e. all_steps IsSoundSoFar sound_kept nothing_above a 0 (lines_of text) e nothing_sound)
+
+-- ---- in the words of the code
+
+-- where all lines were read, the first of them the version, what they say is valid
+pub rest_is_valid : (r : Read) (a : Above) → r ≡ Ok a → a.versioned ≡ true → GivesValid (text_ended r)
+    → GivesValid (whole a (first_stuck a.graph))
+rest_is_valid r a e v p =
+    let known : GivesValid (text_ended (Ok a)) = subst (λ x. GivesValid (text_ended x)) e p in
+    go a.versioned v known
+  where
+    go : (b : Bool) → b ≡ true → GivesValid (cond b (whole a (first_stuck a.graph)) (Err (record { at = 1; kind = kind.BadForm })))
+        → GivesValid (whole a (first_stuck a.graph))
+    go true q k = k
+    go false q k = absurd (cc)
+
+pub start_is_valid : (a : Above) (text : List ℕ) → a ≡ nothing_above → GivesValid (text_ended (lines_on (Ok a) 0 (lines_of text)))
+unfolding schema_read
+start_is_valid a text e = subst (λ x. GivesValid (text_ended (lines_on (Ok x) 0 (lines_of text)))) (sym e) (read_is_valid text)
