@@ -1,3 +1,4 @@
+-- The smallest example of a legal instance: one store below `All`.
 use Rattle.std.proofs.Common.{◌≡◌, ℕ, zero, suc, ◌<◌, ◌≤◌, List, [], ◌∷◌, refl, ap, sym, subst, ◌∙◌, ◌↔◌, ◌⊎◌, inl, inr, arith, lit≤}
 use Rattle.std.specs.Prelude.{Contains, ◌≢◌, All, codes}
 use Rattle.olap_base.specs.Steps.{Steps.here, Steps.step, Climb, Climb.climb, Climb-from_leads}

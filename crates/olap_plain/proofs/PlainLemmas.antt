@@ -1,3 +1,4 @@
+-- What one more fact and one more member change.
 use Rattle.std.proofs.Common.{◌≡◌, ℕ, zero, suc, ◌<◌, List, [], ◌∷◌, length, map, get_or, Bool, true, false, eqb, refl, ap, sym, subst, ◌∙◌, ◌↔◌, ◌⊎◌, arith}
 use Rattle.std.specs.Prelude.{Contains, IsTrue}
 use Rattle.std.specs.Bool.{Decides}

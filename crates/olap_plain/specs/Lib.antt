@@ -1,1 +1,2 @@
+-- Definitions that contracts cite.
 pub mod Plain

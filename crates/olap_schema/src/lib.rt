@@ -16,7 +16,6 @@ mod statements;
 mod tests;
 
 pub use kinds::{FormulaRefusal, SchemaKind, SchemaRefusal};
-pub use printing::print_schema;
 pub use laws::read_schemas_are_valid;
 pub use printing::{print_schema, printed_schemas_are_read};
 pub use questions::read_formula;
