@@ -1,14 +1,14 @@
 -- The members that a violation names are there.
-use Rattle.std.proofs.Common.{◌≡◌, ◌≢◌, ℕ, suc, ◌<◌, List, [], length, refl, subst, sym, ◌∙◌, arith}
-use Rattle.std.specs.Prelude.{Contains, slice_index, slice_index_or}
-use Rattle.std.proofs.lemmas.List.{get_or_read}
-use Rattle.olap_base.specs.Graph.{Graph, IsCategory}
-use Rattle.olap_base.specs.Instance.{Instance, IsBelow, IsFarBelow, IsInstance, IsMember, category_of, parents_of}
+use Rattle.std.proofs.Common.{◌≡◌, ℕ, ◌<◌, length, subst, sym}
+use Rattle.std.specs.Prelude.{slice_index}
+use Rattle.std.proofs.lemmas.List.Elements.{Contains-get_or}
+use Rattle.olap_base.specs.Graph.{IsCategory}
+use Rattle.olap_base.specs.Instance.{Instance, IsBelow, IsFarBelow, IsInstance, IsMember, parents_of}
 use Rattle.olap_base.specs.Deciding.{below_is_member}
 use Rattle.olap_base.specs.Steps.{Steps, Steps.here, Steps.step, Climb, Climb.climb, Climb-from_leads}
 use Rattle.olap_ast.specs.Schema.{Schema, IsLegal}
 use Rattle.olap_ast.specs.Violation.{Violation, NoEdge, NoParent, SameCategory, TwoAncestors, Shortcut, Unmet, IsViolation}
-use Rattle.std.specs.Prelude.{Result, Ok, Err, Option, None, IfOk, IfErr, MatchResult}
+use Rattle.std.specs.Prelude.{Result, Ok, Err, None, IfOk, IfErr, MatchResult}
 use Rattle.olap_ast.specs.Judging.{first_violation, first_violation_none, first_violation_some}
 use Rattle.olap_check.specs.Reports.{told, IsRefused}
 use Rattle.olap_check.specs.declared.violations.CheckRefusal.{CheckRefusal}
@@ -19,7 +19,7 @@ use Rattle.olap_run.specs.Violations.{IsTellable}
 
 -- the k-th parent is a parent
 parent_below : (i : Instance) (x k : ℕ) → k < length (parents_of i x) → IsBelow i x (slice_index (parents_of i x) k)
-parent_below i x k h = (k, h, ?)
+parent_below i x k h = Contains-get_or (parents_of i x) k 0 h
 
 -- what is reached by steps from a member is one
 steps_inside : (i : Instance) → IsInstance i → {x y : ℕ} → Steps (IsBelow i) x y → IsMember i x → IsMember i y

@@ -1,7 +1,7 @@
 -- The words in which a violation is told.
 --     violation_text   which law or constraint is broken, and by which members
 --     IsTellable       the members and the category of a violation are there
-use Rattle.std.specs.Prelude.{ℕ, List, ◌++◌, ◌<◌, length, codes}
+use Rattle.std.specs.Prelude.{ℕ, List, ◌++◌, codes}
 use Rattle.std.specs.Fmt.{decimal}
 use Rattle.olap_base.specs.Graph.{Graph, IsCategory}
 use Rattle.olap_base.specs.Instance.{Instance, IsMember, member_at}
