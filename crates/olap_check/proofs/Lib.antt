@@ -1,7 +1,9 @@
 -- Lemmas.
 pub mod ParentLemmas
 pub mod RisingLemmas
+pub mod FrontierLemmas
 pub mod StrataLemmas
+pub mod SearchLemmas
 pub mod TableLemmas
 pub mod PassingLemmas
 pub mod LinkingLemmas

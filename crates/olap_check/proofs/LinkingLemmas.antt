@@ -90,15 +90,15 @@ pub edges_start : (g : Graph) (n : ℕ) → AreEdgesBefore g n 0 []
 edges_start g n = record { count = refl; exact = λ j h. absurd (omega (arith, h)) }
 
 -- one more pair
-pub edges_more : {g : Graph} {n k : ℕ} {edges : List Bool} → AreEdgesBefore g n k edges → (r : Bool)
-    → (r ≡ true) ↔ HasEdge g (k / n) (k % n) → AreEdgesBefore g n (k + 1) (edges ++ r ∷ [])
-edges_more {g} {n} {k} {edges} e r t = record {
+pub edges_more : {g : Graph} {n k : ℕ} {edges : List Bool} → AreEdgesBefore g n k edges → (r o : Bool) → r ≡ o
+    → (o ≡ true) ↔ HasEdge g (k / n) (k % n) → AreEdgesBefore g n (k + 1) (edges ++ r ∷ [])
+edges_more {g} {n} {k} {edges} e r o same t = record {
   count = let c = e.count in omega (arith, length-append edges (r ∷ []));
   exact = below_more P k
       (λ j h. let v = get_or-append edges (r ∷ []) false j (let c = e.count in omega (arith, h)) in
       (λ q. (e.exact j h).0 (sym v ∙ q), λ q. v ∙ (e.exact j h).1 q))
       (let v = ap (λ j. get_or (edges ++ r ∷ []) j false) (sym e.count) ∙ get_or-append_seam edges r [] false in
-      (λ q. t.0 (sym v ∙ q), λ q. v ∙ t.1 q));
+      (λ q. t.0 (sym same ∙ sym v ∙ q), λ q. v ∙ same ∙ t.1 q));
 }
   where
     P : ℕ → Type 0

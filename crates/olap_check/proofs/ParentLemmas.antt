@@ -1,7 +1,8 @@
 -- The parents of a member, read from the instance's list of ids.
-use Rattle.std.proofs.Common.{◌≡◌, ℕ, ◌<◌, ◌≤◌, List, length, map, get_or, take, ap, sym, subst, ◌∙◌, arith}
+use Rattle.std.proofs.Common.{◌≡◌, ℕ, ◌<◌, ◌≤◌, List, length, map, get_or, take, [], ◌∷◌, ◌++◌, ◌+◌, length-append, ap, sym, subst, ◌∙◌, arith}
+use Rattle.std.specs.Prelude.{Contains}
 use Rattle.std.proofs.lemmas.List.{get_or-map, length-map, take_all}
-use Rattle.std.proofs.lemmas.List.Elements.{Contains-get_or}
+use Rattle.std.proofs.lemmas.List.Elements.{Contains-get_or, Contains-push}
 use Rattle.olap_base.specs.Instance.{Instance, IsBelow, parents_of}
 use Rattle.olap_base.specs.declared.ids.MemberId.{MemberId}
 
@@ -42,6 +43,14 @@ pub all_read : (i : Instance) (z k : ℕ) (ms : List MemberId) → places ms ≡
 all_read i z k ms e h =
     let s : length ms ≡ length (parents_of i z) = sym (length-map ms (λ (m : MemberId). m.0)) ∙ ap length e in
     omega (arith, s)
+
+-- the last of a list is in it
+pub taken : {list : List ℕ} (rest : List ℕ) (z : ℕ) → list ≡ rest ++ z ∷ [] → Contains list z
+taken rest z e = subst (λ l. Contains l z) (sym e) (Contains-push rest z)
+
+-- and without it there is one fewer
+pub taken_fewer : {list : List ℕ} (rest : List ℕ) (z : ℕ) → list ≡ rest ++ z ∷ [] → length list ≡ length rest + 1
+taken_fewer rest z e = ap length e ∙ length-append rest (z ∷ [])
 
 -- the parents so far are then all parents
 pub take_read : (i : Instance) (z k : ℕ) (ms : List MemberId) → places ms ≡ parents_of i z → length ms ≤ k

@@ -1,19 +1,18 @@
 -- Steps of a visit, and of the walk upwards.
 use Rattle.std.proofs.Common.{◌≡◌, ◌≢◌, ℕ, zero, suc, ◌+◌, ◌<◌, ◌≤◌, ◌⊎◌, List, [], ◌∷◌, ◌++◌, length, get_or, set, take, Bool, true, false, cond, refl, ap, sym, subst, ◌∙◌, inl, inr, arith, length-append, get_or-set_same, get_or-set_other}
 use Rattle.std.proofs.Math.ListN.{length-set}
-use Rattle.std.specs.Prelude.{Contains, replicate, ◌==◌, Option, Some, None, MatchOption}
+use Rattle.std.specs.Prelude.{Contains, ◌==◌}
 use Rattle.std.proofs.lemmas.Bool.Decides.{nat_tests}
-use Rattle.std.proofs.lemmas.List.{length-replicate, get_or-replicate, take_more}
-use Rattle.std.proofs.lemmas.List.Elements.{Contains-append_left, Contains-push, Contains-push_cases, Contains-get_or}
+use Rattle.std.proofs.lemmas.List.{take_more}
+use Rattle.std.proofs.lemmas.List.Elements.{Contains-append_left, Contains-push, Contains-push_cases}
 use native.Mathlib.Decide.{ℕ_discrete}
 use Rattle.olap_base.specs.Deciding.{contains_cases}
-use Rattle.olap_base.specs.Instance.{Instance, IsBelow, category_of, parents_of}
+use Rattle.olap_base.specs.Instance.{Instance, category_of, parents_of}
 use Rattle.olap_base.specs.declared.ids.MemberId.{MemberId}
-use Rattle.olap_check.proofs.ParentLemmas.{IsParentAt}
+use Rattle.olap_check.proofs.ParentLemmas.{IsParentAt, places, take_read}
 use Rattle.std.proofs.lemmas.List.{get_or_default}
-use Rattle.olap_base.specs.Steps.{Steps, Steps.here, Steps.step, Steps-append, Steps-from_reaches, reaches_from_Steps}
 use Rattle.olap_base.proofs.ListLemmas.{Contains-nil}
-use Rattle.olap_check.specs.Rows.{none, IsBounded, IsIn, IsRow, IsRise, Splits, free_count, IsVisit, Meets, IsFrontier}
+use Rattle.olap_check.specs.Rows.{none, IsBounded, IsIn, IsRow, free_count, IsVisit, Meets, VisitGives}
 
 -- an element of one more is one before or the last
 pub take_cases : (ps : List ℕ) (k y : ℕ) → k < length ps → Contains (take (k + 1) ps) y
@@ -65,11 +64,11 @@ free_set (x ∷ row) (suc k) p h e n = go (x == none) (free_set row k p (omega a
 module _ (i : Instance) (row : List ℕ) (p : ℕ) (few : length i ≤ 262144) (is_member : p < length i)
     (room : category_of i p < length row) where
   -- the new member is in
-  same_in : IsIn i (set row (category_of i p) p) p
+  pub same_in : IsIn i (set row (category_of i p) p) p
   same_in = rw get_or-set_same
 
   -- those that were in still are
-  kept_in : get_or row (category_of i p) 0 ≡ none → (y : ℕ) → y < length i → IsIn i row y
+  pub kept_in : get_or row (category_of i p) 0 ≡ none → (y : ℕ) → y < length i → IsIn i row y
       → IsIn i (set row (category_of i p) p) y
   kept_in free y h m = elim (ℕ_discrete (category_of i y) (category_of i p)) [
     | yes e ↦ absurd (let t : y ≡ none = sym m ∙ ap (λ d. get_or row d 0) e ∙ free in omega arith)
@@ -77,7 +76,7 @@ module _ (i : Instance) (row : List ℕ) (p : ℕ) (few : length i ≤ 262144) (
   ]
 
   -- and nothing else is
-  from_in : (y : ℕ) → IsIn i (set row (category_of i p) p) y → IsIn i row y ⊎ (y ≡ p)
+  pub from_in : (y : ℕ) → IsIn i (set row (category_of i p) p) y → IsIn i row y ⊎ (y ≡ p)
   from_in y m = elim (ℕ_discrete (category_of i y) (category_of i p)) [
     | yes e ↦ inr (sym m ∙ ap (λ d. get_or (set row (category_of i p) p) d 0) e
         ∙ get_or-set_same row (category_of i p) p 0 room)
@@ -85,7 +84,7 @@ module _ (i : Instance) (row : List ℕ) (p : ℕ) (few : length i ≤ 262144) (
   ]
 
   -- the places have members of their categories
-  own_set : IsRow i row → IsRow i (set row (category_of i p) p)
+  pub own_set : IsRow i row → IsRow i (set row (category_of i p) p)
   own_set r = record {
     own = λ d h ne. elim (ℕ_discrete d (category_of i p)) [
       | yes e ↦
@@ -238,129 +237,16 @@ module _ {i : Instance} {z k n : ℕ} {m : MemberId} (at : IsParentAt i z k m) (
   visit_met far apart =
       visit_meets i (parents_of i z) k before row old list q at.inside room found far (λ e. apart (e ∙ sym at.is)) v
 
--- ---- the frontier
-
--- the walk begins at x
-pub frontier_start : (i : Instance) (x n : ℕ) (row list : List ℕ) → IsBounded i n → row ≡ replicate n none
-    → x < length i → list ≡ x ∷ [] → IsFrontier i x (set row (category_of i x) x) list
-frontier_start i x n row list made e inside q =
-    let few = made.few in
-    let size : length row ≡ n = ap length e ∙ length-replicate n none in
-    let room : category_of i x < length row = let m = made.categories x inside in omega arith in
-    let empty : (d : ℕ) → d < length row → get_or row d 0 ≡ none =
-    λ d h. ap (λ r. get_or r d 0) e ∙ get_or-replicate n d none 0 (subst (λ k. d < k) size h) in
-    let none_in : (y : ℕ) → y < length i → IsIn i row y → ⊥ =
-    λ y h m. far y h
-    (sym m ∙ empty (category_of i y) (subst (λ k. category_of i y < k) (sym size) (made.categories y h))) in
-    let only : (P : ℕ → Type 0) (y : ℕ) → y < length i → IsIn i (set row (category_of i x) x) y → P x → P y =
-    λ P y h m p. elim (from_in i row x few inside room y m) [
-      | inl a ↦ absurd (none_in y h a)
-      | inr s ↦
-          subst P (sym s) p
-    ] in
-    record {
-      own = own_set i row x few inside room (record { own = λ d h ne. absurd (ne (empty d h)) });
-      inside = inside;
-      start = same_in i row x few inside room;
-      reached = λ y h m. only (λ z. Steps (IsBelow i) x z) y h m here;
-      listed = λ y c. let t : x ≡ y = alone y c in (
-        subst (λ z. z < length i) t inside,
-        subst (λ z. IsIn i (set row (category_of i x) x) z) t
-            (same_in i row x few inside room),
-      );
-      closed =
-          λ z h m. inl (only (λ w. Contains list w) z h m (subst (λ l. Contains l x) (sym q) (0, omega arith, refl)));
-    }
-  where
-    far : (y : ℕ) → y < length i → y ≡ none → ⊥
-    far y h t = absurd (let f = made.few in omega arith)
-
-    alone : (y : ℕ) → Contains list y → x ≡ y
-    alone y c =
-        elim (contains_cases y x [] (subst (λ l. Contains l y) q c)) [ inl t ↦ t | inr k ↦ absurd (Contains-nil y k) ]
-
--- a listed member is visited
-pub frontier_next : (i : Instance) (x z : ℕ) (row after rest new : List ℕ)
-    → ((a b : ℕ) → IsBelow i a b → b < length i)
-    → IsFrontier i x row (rest ++ z ∷ []) → IsVisit i (parents_of i z) row after rest new → IsFrontier i x after new
-frontier_next i x z row after rest new places f v =
-    let z_listed = f.listed z (Contains-push rest z) in
-    let z_reached = f.reached z z_listed.0 z_listed.1 in
-    record {
-      own = v.own;
-      inside = f.inside;
-      start = v.kept x f.inside f.start;
-      reached =
-          λ y h m. elim (v.fresh y h m) [ inl a ↦ f.reached y h a | inr a ↦ Steps-append z_reached (step a.0 here) ];
-      listed = λ y c. elim (v.only y c) [
-        | inl a ↦ let t = f.listed y (Contains-append_left rest (z ∷ []) y a) in (t.0, v.kept y t.0 t.1)
-        | inr a ↦ (places z y a, v.done y a)
-      ];
-      closed = λ w h m. elim (v.fresh w h m) [
-        | inl a ↦ elim (f.closed w h a) [
-          | inl c ↦ elim (Contains-push_cases rest z w c) [
-            | inl d ↦ inl (v.listed w d)
-            | inr e ↦ inr (λ y b. v.done y (subst (λ u. IsBelow i u y) (sym e) b))
-          ]
-          | inr c ↦ inr (λ y b. v.kept y (places w y b) (c y b))
-        ]
-        | inr a ↦ inl a.1
-      ];
-    }
-
--- a place with another member: x reaches both
-pub frontier_splits : (i : Instance) (x z : ℕ) (row rest : List ℕ)
-    → IsFrontier i x row (rest ++ z ∷ []) → Meets i (parents_of i z) row → Splits i x
-frontier_splits i x z row rest f m =
-    let z_listed = f.listed z (Contains-push rest z) in
-    let z_reached = f.reached z z_listed.0 z_listed.1 in
-    record {
-      one = m.one;
-      other = m.other;
-      reaches_one = reaches_from_Steps (Steps-append z_reached (step m.is_parent here));
-      reaches_other =
-          reaches_from_Steps
-          (elim m.other_is.1 [
-            | inl a ↦ f.reached m.other m.other_is.0 a
-            | inr b ↦
-                Steps-append z_reached (step b here)
-          ]);
-      same_category = m.same_category;
-      apart = m.apart;
-    }
-
--- with nothing listed, what is above a member that is in is in
-all_in : (i : Instance) (x : ℕ) (row : List ℕ) → ((a b : ℕ) → IsBelow i a b → b < length i) → IsFrontier i x row []
-    → {a y : ℕ} → Steps (IsBelow i) a y → a < length i → IsIn i row a → IsIn i row y
-all_in i x row places f here h m = m
-all_in i x row places f (step {x = a} {y = b} r s) h m =
-    all_in i x row places f s (places a b r)
-    (elim (f.closed a h m) [ inl c ↦ absurd (Contains-nil a c) | inr c ↦ c b r ])
-
--- the walk has ended
-pub frontier_done : (i : Instance) (n x : ℕ) (row : List ℕ) → ((a b : ℕ) → IsBelow i a b → b < length i)
-    → x < length i → length row ≡ n → IsFrontier i x row [] → IsRise i n x row
-frontier_done i n x row places inside size f = record {
-  same_length = size;
-  own = f.own;
-  exact = λ y h. (
-    λ m. reaches_from_Steps (f.reached y h m),
-    λ r. all_in i x row places f (Steps-from_reaches r) inside f.start,
-  );
+-- all parents are visited
+pub visited_all : {i : Instance} {k : ℕ} {before row old list : List ℕ} (z : ℕ) (ids : List MemberId)
+    → places ids ≡ parents_of i z → length ids ≤ k → IsVisit i (take k (parents_of i z)) before row old list
+    → VisitGives true i (parents_of i z) before row old list
+visited_all {i} {k} {before} {row} {old} {list} z ids e h v = record {
+  visited = λ _. subst (λ l. IsVisit i l before row old list) (take_read i z k ids e h) v;
+  met = λ q. absurd (cc);
 }
 
--- a list of length 0
-pub no_items : (xs : List ℕ) → length xs ≡ 0 → xs ≡ []
-no_items [] e = refl
-no_items (x ∷ xs) e = absurd (omega arith)
-
--- an option that is not Some
-pub none_case : (o : Option ℕ) (P : Type 0) (Q : ℕ → Type 0) → ((x : ℕ) → o ≡ Some x → ⊥) → MatchOption o P Q → P
-none_case None P Q f m = m
-none_case (Some x) P Q f m = absurd (f x refl)
-
--- a parent that is read from the list is a member
-pub parent_inside : (i : Instance) (z k : ℕ) (ps : List ℕ) → ps ≡ parents_of i z
-    → ((y : ℕ) → IsBelow i z y → y < length i) → k < length ps → get_or ps k 0 < length i
-parent_inside i z k ps e places h =
-    places (get_or ps k 0) (subst (λ l. Contains l (get_or ps k 0)) e (Contains-get_or ps k 0 h))
+-- a place has another member
+pub met_one : {i : Instance} {ps before row old list : List ℕ} → Meets i ps before
+    → VisitGives false i ps before row old list
+met_one m = record { visited = λ q. absurd (cc); met = λ _. m }

@@ -1,51 +1,59 @@
 -- All that a member is far below, and two of one category among it.
 use Rattle.std.proofs.Common.{◌≡◌, ℕ, zero, suc, ◌+◌, ◌<◌, ◌≤◌, ◌⊎◌, List, [], ◌∷◌, ◌++◌, length, Bool, true, false, refl, ap, sym, subst, ◌∙◌, ◌↔◌, inl, inr, arith, below_more}
-use Rattle.std.specs.Prelude.{Contains, IsTrue, Option, Some, None, is_some}
-use Rattle.std.proofs.lemmas.List.Elements.{Contains-push}
+use Rattle.std.specs.Prelude.{IsTrue, Option, Some, None, is_some}
 use Rattle.olap_base.specs.Instance.{Instance, IsBelow, Reaches, category_of, parents_of}
 use Rattle.olap_base.specs.Steps.{Steps, Steps.here, Steps.step, Climb, Climb.climb, Climb-from_leads, leads_from_Climb, Steps-climb, Steps-from_reaches}
 use Rattle.olap_base.proofs.ListLemmas.{Contains-nil}
 use Rattle.olap_check.specs.Rows.{IsBounded, Splits}
-use Rattle.olap_check.specs.Strata.{IsMarked, IsClosed, IsMarking, MarkGives}
+use Rattle.olap_check.specs.Strata.{IsMarked, IsClosed, Hits, IsMarking, MarkGives}
 use Rattle.olap_check.specs.Tables.{MarksAbove, HasTwo, IsFoundAmong, IsClimbing, SplitsAt}
 use Rattle.olap_check.specs.Passing.{IsStratified}
 use Rattle.olap_check.proofs.TableLemmas.{reached_inside}
-use Rattle.olap_check.proofs.StrataLemmas.{search_start, search_next}
+use Rattle.std.proofs.lemmas.Bool.{cases_Bool}
+use Rattle.olap_check.proofs.ParentLemmas.{taken}
+use Rattle.olap_check.proofs.SearchLemmas.{search_start, search_next}
 
 -- no member is of the category n, so each marking is whole
-pub whole_marking : (i : Instance) (n : ℕ) (b : Bool) (ps : List ℕ) (before after : List Bool) (old new : List ℕ)
-    → IsBounded i n → ((y : ℕ) → Contains ps y → y < length i) → MarkGives b i n ps before after old new
-    → IsMarking i n ps before after old new
-whole_marking i n true ps before after old new made places m = m
-whole_marking i n false ps before after old new made places m =
-    absurd (let c = made.categories m.hit (places m.hit m.is_parent) in let e = m.category in omega (arith, c, e))
+pub whole_marking : {i : Instance} {n : ℕ} {b : Bool} {before after : List Bool} {old new : List ℕ} (z : ℕ)
+    → IsBounded i n → MarkGives b i n (parents_of i z) before after old new
+    → IsMarking i n (parents_of i z) before after old new
+whole_marking {i} {n} {b} z bounded m = elim (cases_Bool b) [ inl e ↦ m.marked e | inr e ↦ absurd (none (m.hit e)) ]
+  where
+    none : Hits i n (parents_of i z) → ⊥
+    none h =
+        let c = bounded.categories h.hit (bounded.places z h.hit h.is_parent) in
+        let e = h.category in omega (arith, c, e)
 
 -- the parents of x are marked
-pub climbing_start : (i : Instance) (n x : ℕ) (marks after : List Bool) (old new : List ℕ) → IsBounded i n → old ≡ []
-    → IsClosed i n marks → ((y : ℕ) → IsMarked marks y → ⊥) → IsMarking i n (parents_of i x) marks after old new
-    → IsClimbing i n x after new
-climbing_start i n x marks after old new made e d none v = record {
-  search = search_start i n x made.places marks after old new e d v;
+pub climbing_start : {i : Instance} {n : ℕ} {marks after : List Bool} {old new : List ℕ} (x : ℕ) → IsBounded i n
+    → IsClosed i n marks → ((y : ℕ) → IsMarked marks y → ⊥) → old ≡ []
+    → IsMarking i n (parents_of i x) marks after old new → IsClimbing i n x after new
+climbing_start x bounded d none e v = record {
+  search = search_start x bounded.places d e v;
   far = λ y m. elim (v.fresh y m) [ inl a ↦ absurd (none y a) | inr a ↦ leads_from_Climb (climb a.0 here) ];
 }
 
 -- the parents of a listed member are marked
-pub climbing_next : (i : Instance) (n x z : ℕ) (marks after : List Bool) (rest new : List ℕ) → IsBounded i n
-    → IsClimbing i n x marks (rest ++ z ∷ []) → IsMarking i n (parents_of i z) marks after rest new
-    → IsClimbing i n x after new
-climbing_next i n x z marks after rest new made f v = record {
-  search = search_next i n x made.places z marks after rest new f.search v;
+pub climbing_next : {i : Instance} {n x : ℕ} {marks after : List Bool} {list new : List ℕ} (rest : List ℕ) (z : ℕ)
+    → IsBounded i n → IsClimbing i n x marks list → list ≡ rest ++ z ∷ []
+    → IsMarking i n (parents_of i z) marks after rest new → IsClimbing i n x after new
+climbing_next {x = x} rest z bounded f e v = record {
+  search = search_next x bounded.places rest z f.search e v;
   far = λ y m. elim (v.fresh y m) [
     | inl a ↦ f.far y a
-    | inr a ↦ leads_from_Climb (Steps-climb (f.search.listed z (Contains-push rest z)).1 (climb a.0 here))
+    | inr a ↦ leads_from_Climb (Steps-climb (f.search.listed z (taken rest z e)).1 (climb a.0 here))
   ];
 }
 
 -- with nothing listed, all that is above x is marked
-pub climbing_done : (i : Instance) (n x : ℕ) (marks : List Bool) → IsClimbing i n x marks [] → MarksAbove i x marks
-climbing_done i n x marks f =
+pub climbing_done : {i : Instance} {n x : ℕ} {marks : List Bool} {list : List ℕ} → IsClimbing i n x marks list
+    → list ≡ [] → MarksAbove i x marks
+climbing_done {i} {n} {x} {marks} whole none_left =
     record { same_length = f.search.same_length; exact = λ y. (λ m. f.far y m, λ l. to y (Climb-from_leads l)) }
   where
+    f : IsClimbing i n x marks []
+    f = subst (λ l. IsClimbing i n x marks l) none_left whole
+
     along : {a y : ℕ} → Steps (IsBelow i) a y → IsMarked marks a → IsMarked marks y
     along here m = m
     along (step {x = a} {y = b} r s) m =

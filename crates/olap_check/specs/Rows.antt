@@ -69,9 +69,9 @@ pub record Meets (i : Instance) (parents before : List ℕ) : Type 0 where
   pub apart : one ≢ other
 
 -- a visit of all parents, or two members of one category
-abbrev pub VisitGives : Bool → Instance → List ℕ → List ℕ → List ℕ → List ℕ → List ℕ → Type 0
-VisitGives true i parents before after old new = IsVisit i parents before after old new
-VisitGives false i parents before after old new = Meets i parents before
+pub record VisitGives (whole : Bool) (i : Instance) (parents before after old new : List ℕ) : Type 0 where
+  pub visited : whole ≡ true → IsVisit i parents before after old new
+  pub met : whole ≡ false → Meets i parents before
 
 -- the places have what x reaches, and each member there has its parents there or is listed
 pub record IsFrontier (i : Instance) (x : ℕ) (row list : List ℕ) : Type 0 where

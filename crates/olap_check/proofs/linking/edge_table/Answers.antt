@@ -1,5 +1,5 @@
 -- One pair more, and the whole table.
-use Rattle.std.proofs.Common.{◌≡◌, ◌*◌, ◌+◌, ◌∙◌, sym, subst, arith}
+use Rattle.std.proofs.Common.{◌≡◌, ◌*◌, ◌+◌, sym, subst, arith}
 use Rattle.olap_check.proofs.LinkingLemmas.{AreEdgesBefore, edges_start, edges_more, table_of}
 use Rattle.olap_check.proofs.linking.edge_table.Goals as goal
 
@@ -10,10 +10,8 @@ pairs-init c =
 
 pub pairs-preserved : goal.pairs-preserved
 pairs-preserved c =
-    let t = c.edge-edge.ensures.has in
-    let e = c.is_some.ensures in
     subst (λ l. AreEdgesBefore c.args.graph.now c.args.categories (c.pairs.pair + 1) l) (sym c.in_ok-push.ensures.items)
-    (edges_more c.pairs.invariant c.is_some.result (λ q. t.0 (sym e ∙ q), λ q. e ∙ t.1 q))
+    (edges_more c.pairs.invariant c.is_some.result _ c.is_some.ensures c.edge-edge.ensures.has)
 
 pub returns : goal.returns
 returns c =

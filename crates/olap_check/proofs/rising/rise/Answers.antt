@@ -1,78 +1,60 @@
 -- The walk ends with all places filled, or at two members of one category.
-use Rattle.std.proofs.Common.{◌≡◌, [], ◌∷◌, ◌++◌, length, replicate, ap, sym, subst, ◌∙◌, arith, set, ◌+◌, length-append}
+use Rattle.std.proofs.Common.{◌≡◌, [], ◌∷◌, ◌++◌, length, replicate, ap, sym, subst, ◌∙◌, arith, set}
 use Rattle.std.proofs.Math.ListN.{length-set}
 use Rattle.std.proofs.lemmas.List.{length-replicate}
-use Rattle.std.specs.Prelude.{Contains}
-use Rattle.std.proofs.lemmas.List.Elements.{Contains-push}
-use Rattle.olap_base.specs.Instance.{category_of, parents_of}
-use Rattle.olap_check.specs.Rows.{IsFrontier, VisitGives, none}
-use Rattle.olap_check.proofs.RisingLemmas.{frontier_start, frontier_next, frontier_splits, frontier_done, no_items, none_case}
+use Rattle.olap_base.specs.Instance.{category_of}
+use Rattle.olap_check.specs.Rows.{IsFrontier, IsRise, none}
+use Rattle.olap_check.proofs.ParentLemmas.{taken, taken_fewer}
+use Rattle.olap_check.proofs.FrontierLemmas.{frontier_start, frontier_next, frontier_splits, frontier_done, no_items, none_case}
 use Rattle.olap_check.proofs.rising.rise.Goals as goal
 
 pub listed-init : goal.listed-init
 listed-init c =
-    let i = c.args.instance.now in
-    let d : c.from-2.result ≡ category_of i c.args.x = c.from-2.ensures ∙ c.category.ensures in
-    let e : c.in_ok-row.row.items ≡ replicate c.args.categories none =
+    let n = c.args.categories in
+    let x = c.args.x in
+    let row = c.in_ok-row.row.items in
+    let d : c.from-2.result ≡ category_of c.args.instance.now x = c.from-2.ensures ∙ c.category.ensures in
+    let e : row ≡ replicate n none =
     c.in_ok-row.ensures.items_if_clones_equal (λ y e. e) ∙ ap (λ n. replicate n none) c.from.ensures in
-    let q : c.push.new.self.items ≡ c.args.x ∷ [] =
-    c.in_ok-push.ensures.items ∙ ap (λ l. l ++ c.args.x ∷ []) c.new-list.ensures.items in
-    let t = frontier_start i c.args.x c.args.categories c.in_ok-row.row.items c.push.new.self.items c.requires.bounded
-    e c.requires.x q in
+    let q : c.push.new.self.items ≡ x ∷ [] =
+    c.in_ok-push.ensures.items ∙ ap (λ l. l ++ x ∷ []) c.new-list.ensures.items in
     record {
-      size = length-set c.in_ok-row.row.items c.from-2.result c.args.x ∙ ap length e
-          ∙ length-replicate c.args.categories none;
-      frontier = subst (λ k. IsFrontier i c.args.x (set c.in_ok-row.row.items k c.args.x) c.push.new.self.items)
-          (sym d) t;
+      size = length-set row c.from-2.result x ∙ ap length e ∙ length-replicate n none;
+      frontier = subst (λ k. IsFrontier c.args.instance.now x (set row k x) c.push.new.self.items) (sym d)
+          (frontier_start c.requires.bounded c.requires.x e q);
     }
 
 pub visit-requires-clause-z : goal.visit-requires-clause-z
 visit-requires-clause-z c =
-    (c.listed.invariant.frontier.listed c.in-Some.z
-    (subst (λ l. Contains l c.in-Some.z) (sym c.in-Some.ensures.items)
-    (Contains-push c.pop.new.self.items c.in-Some.z))).0
+    let listed = taken c.pop.new.self.items c.in-Some.z c.in-Some.ensures.items in
+    (c.listed.invariant.frontier.listed c.in-Some.z listed).0
 
 pub returns-then-not-whole-clause-none : goal.returns-then-not-whole-clause-none
 returns-then-not-whole-clause-none c = λ e.
-    let i = c.args.instance.now in
-    let m = subst
-    (λ b. VisitGives b i (parents_of i c.in-Some.z) c.listed.row.items c.visit.new.row.items c.pop.new.self.items
-    c.visit.new.list.items) c.if-not-whole.true c.in_ok-whole.ensures in
-    frontier_splits i c.args.x c.in-Some.z c.listed.row.items c.pop.new.self.items
-    (subst (λ l. IsFrontier i c.args.x c.listed.row.items l) c.in-Some.ensures.items c.listed.invariant.frontier) m
+    let met = c.in_ok-whole.ensures.met c.if-not-whole.true in
+    frontier_splits c.pop.new.self.items c.in-Some.z c.listed.invariant.frontier c.in-Some.ensures.items met
 
 pub listed-preserved : goal.listed-preserved
 listed-preserved c =
-    let i = c.args.instance.now in
-    let m = subst
-    (λ b. VisitGives b i (parents_of i c.in-Some.z) c.listed.row.items c.visit.new.row.items c.pop.new.self.items
-    c.visit.new.list.items) c.if-not-whole.false c.in_ok-whole.ensures in
+    let v = c.in_ok-whole.ensures.visited c.if-not-whole.false in
+    let rest = c.pop.new.self.items in
+    let f = c.listed.invariant.frontier in
     record {
-      size = m.same_length ∙ c.listed.invariant.size;
-      frontier = frontier_next i c.args.x c.in-Some.z c.listed.row.items c.visit.new.row.items c.pop.new.self.items
-          c.visit.new.list.items c.requires.bounded.places
-          (subst (λ l. IsFrontier i c.args.x c.listed.row.items l) c.in-Some.ensures.items
-          c.listed.invariant.frontier) m;
+      size = v.same_length ∙ c.listed.invariant.size;
+      frontier = frontier_next rest c.in-Some.z c.requires.bounded.places f c.in-Some.ensures.items v;
     }
 
 pub listed-smaller : goal.listed-smaller
 listed-smaller c =
-    let i = c.args.instance.now in
-    let m = subst
-    (λ b. VisitGives b i (parents_of i c.in-Some.z) c.listed.row.items c.visit.new.row.items c.pop.new.self.items
-    c.visit.new.list.items) c.if-not-whole.false c.in_ok-whole.ensures in
-    let f = m.fewer in
-    let e : length c.listed.list.items ≡ length c.pop.new.self.items + 1 =
-    ap length c.in-Some.ensures.items ∙ length-append c.pop.new.self.items (c.in-Some.z ∷ []) in
-    omega (arith, f, e)
+    let v = c.in_ok-whole.ensures.visited c.if-not-whole.false in
+    let f = v.fewer in
+    omega (arith, f, taken_fewer c.pop.new.self.items c.in-Some.z c.in-Some.ensures.items)
 
 pub returns-clause-some : goal.returns-clause-some
 returns-clause-some c =
-    let i = c.args.instance.now in
     let n = none_case c.pop.result _ _ c.in_default.not-Some c.pop.ensures.cases in
     let o = c.listed.list.ok in
     let e : length c.listed.list.items ≡ 0 = let m = n.0 in omega arith in
-    frontier_done i c.args.categories c.args.x c.listed.row.items c.requires.bounded.places c.requires.x
-    c.listed.invariant.size
-    (subst (λ l. IsFrontier i c.args.x c.listed.row.items l)
-    (no_items c.listed.list.items e) c.listed.invariant.frontier)
+    let f = c.listed.invariant.frontier in
+    subst (λ k. IsRise c.args.instance.now k c.args.x c.listed.row.items) c.listed.invariant.size
+    (frontier_done c.requires.bounded.places f (no_items c.listed.list.items e))

@@ -1,7 +1,7 @@
 -- A parent's place is free, has it, or has another member.
 use Rattle.std.proofs.Common.{◌≡◌, length, ap, ◌∙◌, arith}
 use Rattle.olap_check.proofs.ParentLemmas.{parent_at, parent_member}
-use Rattle.olap_check.proofs.RisingLemmas.{visit_as, visit_none, visit_pushed, visit_skipped, visit_met}
+use Rattle.olap_check.proofs.RisingLemmas.{visit_as, visit_none, visit_pushed, visit_skipped, visit_met, visited_all, met_one}
 use Rattle.olap_check.proofs.rising.visit.Goals as goal
 use Rattle.olap_check.proofs.rising.visit.Goals.{then-q+in_ok-push, else-q+else-q-p}
 
@@ -43,5 +43,11 @@ returns-then-q-p c =
     c.parents-test.true in
     let size : length c.args.row.now.items ≡ c.args.row.now.len = let o = c.args.row.now.ok in omega arith in
     let d_is = c.from-d.ensures ∙ c.category.ensures in
-    visit_met at c.requires.bounded c.parents.invariant size c.from-d.result c.index-q.result.now d_is c.index-q.ensures
-    c.if-q.false c.if-q-p.true
+    let q = c.index-q.result.now in
+    let met = visit_met at c.requires.bounded c.parents.invariant size c.from-d.result q d_is in
+    met_one (met c.index-q.ensures c.if-q.false c.if-q-p.true)
+
+pub returns : goal.returns
+returns c =
+    let ids = c.parents-p-items in
+    visited_all c.args.z ids.result.now ids.ensures.list c.parents-test.false c.parents.invariant

@@ -1,7 +1,7 @@
 -- A member of the category repeats, or its search closes its marks.
 use Rattle.std.proofs.Common.{ap, sym, subst, ◌∙◌, arith}
-use Rattle.olap_check.specs.Strata.{IsClosed, RepeatGives}
-use Rattle.olap_check.proofs.StrataLemmas.{closed_start, before_more, first_at_limit, first_found}
+use Rattle.olap_check.specs.Strata.{IsClosed}
+use Rattle.olap_check.proofs.SearchLemmas.{closed_start, before_more, first_at_limit, first_found}
 use Rattle.olap_check.proofs.strata.first_in.Goals as goal
 use Rattle.olap_check.proofs.strata.first_in.Goals.{else-category-via-then-category+in_ok-repeats+else-branch, else-category-via-else-category}
 
@@ -18,8 +18,7 @@ members-preserved c =
     let v = c.members.invariant in
     elim c.else-category.branch [
       | else-category-via-then-category+in_ok-repeats+else-branch w ↦
-          let m = subst (λ b. RepeatGives b i c.args.category c.members.x w.repeats.new.seen.items) w.if-branch.false
-          w.in_ok-repeats.ensures in
+          let m = w.in_ok-repeats.ensures.closed w.if-branch.false in
           record {
             closed = subst (λ l. IsClosed i c.args.category l) (sym (ap (λ x. x.items) w.seen-is)) m.0;
             before = before_more i c.args.category c.members.x v.before (λ e. m.1);
@@ -39,7 +38,6 @@ returns c = first_at_limit c.args.instance.now c.args.category c.args.limit c.me
 pub returns-then-branch : goal.returns-then-branch
 returns-then-branch c =
     let i = c.args.instance.now in
-    let m = subst (λ b. RepeatGives b i c.args.category c.members.x c.repeats.new.seen.items) c.if-branch.true
-    c.in_ok-repeats.ensures in
+    let m = c.in_ok-repeats.ensures.far c.if-branch.true in
     first_found i c.args.category c.args.limit c.members.x m.0 c.members-test.true m.1 m.2
     (sym c.category.ensures ∙ c.if-category.true) c.members.invariant.before

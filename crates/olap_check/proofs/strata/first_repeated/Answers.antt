@@ -1,5 +1,5 @@
 -- One category more.
-use Rattle.olap_check.proofs.StrataLemmas.{first_start, first_step}
+use Rattle.olap_check.proofs.SearchLemmas.{first_start, first_step}
 use Rattle.olap_check.proofs.strata.first_repeated.Goals as goal
 
 pub categories-init : goal.categories-init

@@ -1,7 +1,7 @@
 -- A parent is of the category, marked already, or marked now.
 use Rattle.std.proofs.Common.{◌≡◌, length, ap, sym, ◌∙◌, arith}
 use Rattle.olap_check.proofs.ParentLemmas.{parent_at, parent_member}
-use Rattle.olap_check.proofs.StrataLemmas.{marking_as, marking_none, marking_pushed, marking_skipped, mark_inside, parent_hits}
+use Rattle.olap_check.proofs.StrataLemmas.{marking_as, marking_none, marking_pushed, marking_skipped, mark_inside, marked_all, hit_one, parent_hits}
 use Rattle.olap_check.proofs.strata.mark.Goals as goal
 use Rattle.olap_check.proofs.strata.mark.Goals.{then-not-index+in_ok-push, else-not-index}
 
@@ -43,7 +43,7 @@ returns-then-category c =
     let i = c.args.instance.now in
     let at = parent_at i c.args.z ids.result.now c.parents.p-index ids.ensures.list ids.ensures.places
     c.parents-test.true in
-    parent_hits c.args.category at (sym c.category.ensures ∙ c.if-category.true)
+    hit_one (parent_hits c.args.category at (sym c.category.ensures ∙ c.if-category.true))
 
 pub parents-preserved : goal.parents-preserved
 parents-preserved c =
@@ -66,3 +66,8 @@ parents-preserved c =
           (marking_skipped at v size category c.category.ensures c.if-category.false r c.index.ensures
           w.if-not-index.false)
     ]
+
+pub returns : goal.returns
+returns c =
+    let ids = c.parents-p-items in
+    marked_all c.args.z ids.result.now ids.ensures.list c.parents-test.false c.parents.invariant
