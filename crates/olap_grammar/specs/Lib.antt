@@ -12,3 +12,4 @@ pub mod Parts
 pub mod Reader
 pub mod Frames
 pub mod Known
+pub mod Quoting

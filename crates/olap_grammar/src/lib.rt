@@ -10,6 +10,7 @@ mod cutting;
 mod knowing;
 mod laws;
 mod parts;
+mod quoting;
 mod reading;
 mod refusals;
 mod stacking;
@@ -22,6 +23,7 @@ pub use laws::{
     a_line_is_cut_in_one_way, formulas_are_found_as_formed, tokens_are_found_as_cut,
     tokens_are_one_formula,
 };
+pub use quoting::push_quoted;
 pub use reading::formula;
 pub use refusals::FormRefusal;
 pub use tokens::{Joint, Token};

@@ -9,3 +9,5 @@ pub mod Shown
 pub mod Schemas
 pub mod Kinds
 pub mod Laws
+pub mod Printing
+pub mod PrintingLaws

@@ -7,12 +7,14 @@ mod laws;
 mod lines;
 mod measuring;
 mod pairing;
+mod printing;
 mod questions;
 mod reading;
 mod schemas;
 mod statements;
 
 pub use kinds::{FormulaRefusal, SchemaKind, SchemaRefusal};
-pub use laws::read_schemas_are_valid;
+pub use laws::{read_schemas_are_readable, read_schemas_are_valid};
+pub use printing::{print_schema, printed_schemas_are_read};
 pub use questions::read_formula;
 pub use schemas::{Schema, read_schema};

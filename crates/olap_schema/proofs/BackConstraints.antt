@@ -1,0 +1,119 @@
+-- A printed constraint's line is read as the constraint.
+--     ruled             what is known on the way
+--     add_constraint    a constraint's line adds it
+use Rattle.std.proofs.Common.{◌≡◌, ◌≢◌, ◌==◌, ◌||◌, ◌<◌, ◌≤◌, ◌+◌, ℕ, zero, suc, Bool, true, false, cond, List, [], ◌∷◌, ◌++◌, Option, Some, None, length, refl, append_assoc, append-nil, arith, ap, sym, ◌∙◌, codes, nat_lt, nat_le}
+use Rattle.std.specs.Prelude.{Contains, Result, Ok, Err, flat_map, fold, sum_by}
+use Rattle.std.specs.List.{list_any}
+use Rattle.std.proofs.lemmas.Bool.{eqb-true, false_from_ne_true}
+use Rattle.std.proofs.lemmas.List.Sums.{sum_by-append}
+use Rattle.olap_base.specs.Graph.{Graph, IsCategory, IsHierarchy}
+use Rattle.olap_graph.specs.Lookups.{category_named, name_of_category}
+use Rattle.olap_ast.specs.Formula.{Equality, Formula, equalities}
+use Rattle.olap_ast.specs.Schema.{Constraint, Schema}
+use Rattle.olap_ast.specs.Valid.{IsFormulaAt, IsValidSchema, depth_of, is_same_pair, node_count, with_pair}
+use Rattle.olap_grammar.specs.Machine.{the_formula}
+use Rattle.olap_grammar.specs.Words.{atoms_of}
+use Rattle.olap_grammar.specs.declared.tokens.Token.{Token}
+use Rattle.olap_grammar.proofs.ReaderLemmas.{formula_is_found}
+use Rattle.olap_grammar.proofs.Sound.{tighter}
+use Rattle.olap_schema.specs.Atoms.{atom_fault}
+use Rattle.olap_schema.specs.Judging.{Above, constraint_read, form_read}
+use Rattle.olap_schema.specs.Tokens.{is_long, opens_over, token_nodes}
+use Rattle.olap_schema.proofs.BackAtoms.{no_atom_fault}
+use Rattle.olap_schema.proofs.BackGraph.{lengths, stands}
+use Rattle.olap_schema.proofs.BackLengths.{AreShort, none_is_long}
+use Rattle.olap_schema.proofs.BackTokens.{few_open, nodes_are}
+use Rattle.olap_schema.proofs.PrintFormula.{spelt_is_formula}
+use Rattle.olap_schema.proofs.PrintNames.{named}
+use Rattle.olap_schema.proofs.PrintTokens.{spelt}
+use Rattle.std.proofs.Common.{lit≤}
+
+-- the graph and these constraints stand above
+abbrev pub ruled : Graph → List Constraint → ℕ → List Equality → List ℕ → Above
+ruled g done nodes pairs lines = record {
+  versioned = true;
+  graph = g;
+  category_lines = lines;
+  constraints = done;
+  nodes = nodes;
+  pairs = pairs;
+}
+
+-- the nodes of the constraints, and their pairs
+abbrev pub nodes_of : List Constraint → ℕ
+nodes_of cs = sum_by (λ c. node_count c.formula) cs
+
+abbrev pub pairs_with : List Equality → List Constraint → List Equality
+pairs_with pairs cs = fold with_pair pairs (flat_map (λ c. equalities c.formula) cs)
+
+fold-append : (pairs xs ys : List Equality) → fold with_pair pairs (xs ++ ys) ≡ fold with_pair (fold with_pair pairs xs) ys
+fold-append pairs [] ys = refl
+fold-append pairs (x ∷ xs) ys = fold-append (with_pair pairs x) xs ys
+
+-- pairs are only added
+one_grows : (pairs : List Equality) (x : Equality) → length pairs ≤ length (with_pair pairs x)
+one_grows pairs x = go (list_any (is_same_pair x) pairs)
+  where
+    go : (b : Bool) → length pairs ≤ length (cond b pairs (pairs ++ x ∷ []))
+    go true = omega arith
+    go false = let e = lengths pairs (x ∷ []) in omega arith
+
+grows : (pairs xs : List Equality) → length pairs ≤ length (fold with_pair pairs xs)
+grows pairs [] = omega arith
+grows pairs (x ∷ xs) = let a = one_grows pairs x in let b = grows (with_pair pairs x) xs in omega (arith, a, b)
+
+-- the first constraint's nodes and pairs come before those of the others
+pub first_nodes : (c : Constraint) (cs : List Constraint) → nodes_of (c ∷ cs) ≡ node_count c.formula + nodes_of cs
+first_nodes c cs = let e = sum_by-append (λ x. node_count x.formula) (c ∷ []) cs in go (node_count c.formula) (nodes_of cs) (nodes_of (c ∷ cs)) e
+  where
+    go : (a b s : ℕ) → s ≡ (0 + a) + b → s ≡ a + b
+    go a b s e = omega arith
+
+pub first_pairs : (pairs : List Equality) (c : Constraint) (cs : List Constraint) → pairs_with pairs (c ∷ cs) ≡ pairs_with (fold with_pair pairs (equalities c.formula)) cs
+first_pairs pairs c cs = fold-append pairs (equalities c.formula) (flat_map (λ x. equalities x.formula) cs)
+
+form_is : (g : Graph) (h : IsHierarchy g) (r : ℕ) (l : IsCategory g r) (f : Formula) → IsFormulaAt g r f → (before : ℕ) → before + node_count f ≤ 4096 → depth_of f ≤ 64 →
+    form_read g before (spelt g r f) ≡ Ok f
+unfolding form_read
+form_is g h r l f v before few deep =
+    let nodes = nodes_are g r f in
+    let n : nat_lt 4096 (before + token_nodes (spelt g r f)) ≡ false = within before (token_nodes (spelt g r f)) (node_count f) nodes few in
+    let o : opens_over 0 0 (spelt g r f) ≡ false = few_open g r f deep in
+    let read : the_formula (atoms_of g) (spelt g r f) ≡ Some f = formula_is_found (atoms_of g) (spelt g r f) f (tighter 1 6 (lit≤ tt) (spelt_is_formula g h r l f v)) in
+    let d : nat_le (depth_of f) 64 ≡ true = grind (arith) in
+    rw (n, o, read, d) refl
+  where
+    within : (a b c : ℕ) → b ≡ c → a + c ≤ 4096 → nat_lt 4096 (a + b) ≡ false
+    within a b c e l = grind arith
+
+-- a constraint's line adds it
+pub add_constraint : (s : Schema) → IsValidSchema s → AreShort s.graph → (done : List Constraint) (c : Constraint) (rest : List Constraint) (nodes : ℕ) (pairs : List Equality) (lines : List ℕ) →
+    done ++ c ∷ rest ≡ s.constraints → nodes + nodes_of (c ∷ rest) ≤ 4096 → length (pairs_with pairs (c ∷ rest)) ≤ 256 →
+    constraint_read (ruled s.graph done nodes pairs lines) (name_of_category s.graph c.root) (spelt s.graph c.root c.formula)
+    ≡ Ok (ruled s.graph (done ++ c ∷ []) (nodes + token_nodes (spelt s.graph c.root c.formula)) (fold with_pair pairs (equalities c.formula)) lines)
+add_constraint s v short done c rest nodes pairs lines e few_nodes few_pairs =
+    let there : Contains s.constraints c = rw e at (stands done c rest) in
+    let declared = v.roots c there in
+    let at_root = v.formulas c there in
+    let sum = first_nodes c rest in
+    let fit : nodes + node_count c.formula ≤ 4096 = omega (arith, sum, few_nodes) in
+    let form : form_read s.graph nodes (spelt s.graph c.root c.formula) ≡ Ok c.formula = form_is s.graph v.hierarchy c.root declared.1 c.formula at_root nodes fit (v.depth_fits c there) in
+    let ln = short c.root declared.1 in
+    let sn : nat_lt 255 (length (name_of_category s.graph c.root)) ≡ false = grind (arith) in
+    let sl : list_any is_long (spelt s.graph c.root c.formula) ≡ false = none_is_long s.graph v.hierarchy short c.root declared.1 c.formula at_root in
+    let n : category_named s.graph (name_of_category s.graph c.root) ≡ Some c.root = named s.graph v.hierarchy c.root declared.1 in
+    let z = false_from_ne_true (c.root == 0) (λ q. declared.0 (eqb-true c.root 0 q)) in
+    let size = ap length e in
+    let sizes = lengths done (c ∷ rest) in
+    let few : nat_le 64 (length done) ≡ false = room (length done) (length rest) (length s.constraints) v.constraints_fit (sym size ∙ sizes) in
+    let fault : atom_fault s.graph (name_of_category s.graph c.root) (spelt s.graph c.root c.formula) ≡ None = no_atom_fault s.graph v.hierarchy c.root declared.1 c.formula at_root in
+    let more = grows (fold with_pair pairs (equalities c.formula)) (flat_map (λ x. equalities x.formula) rest) in
+    let same = ap length (first_pairs pairs c rest) in
+    let p : nat_lt 256 (length (fold with_pair pairs (equalities c.formula))) ≡ false = below (length (fold with_pair pairs (equalities c.formula))) (length (pairs_with (fold with_pair pairs (equalities c.formula)) rest)) (length (pairs_with pairs (c ∷ rest))) more same few_pairs in
+    rw (form, sn, sl, n, z, few, fault, p) refl
+  where
+    room : (a b n : ℕ) → n ≤ 64 → n ≡ a + suc b → nat_le 64 a ≡ false
+    room a b n l q = grind arith
+
+    below : (a b n : ℕ) → a ≤ b → n ≡ b → n ≤ 256 → nat_lt 256 a ≡ false
+    below a b n l q m = grind arith

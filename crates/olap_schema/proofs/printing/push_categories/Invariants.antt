@@ -1,0 +1,14 @@
+-- The lines so far stand behind the earlier bytes.
+use Rattle.std.proofs.Common.{◌≡◌, ◌≤◌, ◌++◌, ◌-◌, drop, length, map}
+use Rattle.olap_schema.specs.Printing.{category_text, text_of_lines}
+use Rattle.olap_schema.proofs.printing.push_categories.Given as goal
+
+abbrev pub invariant-categories : goal.invariant-categories
+invariant-categories l = record {
+  written : l.out.items ++ text_of_lines (map category_text (drop l.done l.graph.names))
+      ≡ l.initial.out.items ++ text_of_lines (map category_text l.graph.names);
+  within : l.done ≤ length l.graph.names;
+}
+
+abbrev pub decreases-categories : goal.decreases-categories
+decreases-categories l = length l.graph.names - l.done

@@ -1,0 +1,94 @@
+-- The canonical text of a schema.
+--     formula_text     a formula at a root
+--     schema_text      a schema
+use Rattle.std.specs.Prelude.{◌==◌, ◌++◌, ℕ, List, [], ◌∷◌, codes, map, if◌then◌else◌}
+use Rattle.olap_base.specs.Graph.{Edge, Graph}
+use Rattle.olap_graph.specs.Lookups.{name_of_category}
+use Rattle.olap_ast.specs.Formula as Meaning
+use Rattle.olap_ast.specs.Formula.{Formula, Terms}
+use Rattle.olap_ast.specs.Schema.{Constraint, Schema}
+use Rattle.olap_grammar.specs.Cutting.{joint_bytes}
+use Rattle.olap_grammar.specs.Quoting.{quoted}
+use Rattle.olap_grammar.specs.declared.tokens.Joint.{Joint}
+use Rattle.olap_grammar.specs.declared.tokens.Joint.TheVariants as joint
+
+-- ---- formulas
+
+-- the names of these categories, with the mark before each
+unfoldable pub names_after : Graph → ℕ → List ℕ → List ℕ
+names_after g mark [] = []
+names_after g mark (c ∷ cs) = mark ∷ (name_of_category g c ++ names_after g mark cs)
+
+-- the word of an atom: the name of its root, and those of these categories, with the mark between
+abbrev pub atom_word : Graph → ℕ → ℕ → List ℕ → List ℕ
+atom_word g root mark cs = name_of_category g root ++ names_after g mark cs
+
+-- the word of the category whose name is compared: the root stands by itself
+abbrev pub compared_word : Graph → ℕ → ℕ → List ℕ
+compared_word g root d = if d == root then name_of_category g root else atom_word g root 46 (d ∷ [])
+
+-- two formulas in brackets with a mark between
+abbrev pub joined_text : Joint → List ℕ → List ℕ → List ℕ
+joined_text j left right = 40 ∷ (left ++ 32 ∷ (joint_bytes j ++ 32 ∷ (right ++ 41 ∷ [])))
+
+abbrev mutual
+  pub formula_text : Graph → ℕ → Formula → List ℕ
+  formula_text g r Meaning.Formula.Truth = codes "true"
+  formula_text g r Meaning.Formula.Falsity = codes "false"
+  formula_text g r (Meaning.Formula.Path cs) = atom_word g r 95 cs
+  formula_text g r (Meaning.Formula.Reach d) = atom_word g r 46 (d ∷ [])
+  formula_text g r (Meaning.Formula.Via d e) = atom_word g r 46 (d ∷ e ∷ [])
+  formula_text g r (Meaning.Formula.Equals d k) = compared_word g r d ++ 32 ∷ 61 ∷ 32 ∷ quoted k
+  formula_text g r (Meaning.Formula.Not f) = 33 ∷ formula_text g r f
+  formula_text g r (Meaning.Formula.And f h) = joined_text joint.And (formula_text g r f) (formula_text g r h)
+  formula_text g r (Meaning.Formula.Or f h) = joined_text joint.Or (formula_text g r f) (formula_text g r h)
+  formula_text g r (Meaning.Formula.Implies f h) = joined_text joint.Implies (formula_text g r f) (formula_text g r h)
+  formula_text g r (Meaning.Formula.Iff f h) = joined_text joint.Iff (formula_text g r f) (formula_text g r h)
+  formula_text g r (Meaning.Formula.Xor f h) = joined_text joint.Xor (formula_text g r f) (formula_text g r h)
+  formula_text g r (Meaning.Formula.One fs) = 111 ∷ 110 ∷ 101 ∷ 40 ∷ (list_text g r fs ++ 41 ∷ [])
+
+  -- the parts of a list, with a comma and a space between
+  pub list_text : Graph → ℕ → Terms → List ℕ
+  list_text g r Meaning.Terms.End = []
+  list_text g r (Meaning.Terms.More f fs) = formula_text g r f ++ rest_text g r fs
+
+  -- the parts behind the first
+  pub rest_text : Graph → ℕ → Terms → List ℕ
+  rest_text g r Meaning.Terms.End = []
+  rest_text g r (Meaning.Terms.More f fs) = 44 ∷ 32 ∷ (formula_text g r f ++ rest_text g r fs)
+
+-- ---- lines, without their LF
+
+abbrev pub version_text : List ℕ
+version_text = codes "schema 1"
+
+abbrev pub category_text : List ℕ → List ℕ
+category_text name = codes "category " ++ name
+
+abbrev pub edge_text : Graph → Edge → List ℕ
+edge_text g e = codes "edge " ++ (name_of_category g e.child ++ 32 ∷ name_of_category g e.parent)
+
+abbrev pub constraint_text : Graph → Constraint → List ℕ
+constraint_text g c =
+    codes "constraint " ++ (name_of_category g c.root ++ 58 ∷ 32 ∷ formula_text g c.root c.formula)
+
+-- ---- texts
+
+-- the line with an LF at its end
+abbrev pub ended_line : List ℕ → List ℕ
+ended_line line = line ++ 10 ∷ []
+
+-- the lines of a schema
+abbrev pub schema_lines : Schema → List (List ℕ)
+schema_lines s =
+    version_text ∷ (map category_text s.graph.names ++ (map (edge_text s.graph) s.graph.edges
+    ++ map (constraint_text s.graph) s.constraints))
+
+-- the lines, each with its LF
+unfoldable pub text_of_lines : List (List ℕ) → List ℕ
+text_of_lines [] = []
+text_of_lines (line ∷ lines) = line ++ 10 ∷ text_of_lines lines
+
+-- the canonical text
+abbrev pub schema_text : Schema → List ℕ
+schema_text s = text_of_lines (schema_lines s)
