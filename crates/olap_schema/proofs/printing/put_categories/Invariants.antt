@@ -6,4 +6,5 @@ use Rattle.olap_schema.proofs.printing.put_categories.Given as goal
 
 abbrev pub invariant-categories : goal.invariant-categories
 invariant-categories l =
-    l.out.items ++ flat_map category_text (drop l.i l.graph.names) ≡ l.initial.out.items ++ flat_map category_text l.graph.names
+    l.out.items ++ flat_map category_text (drop l.i l.graph.names)
+    ≡ l.initial.out.items ++ flat_map category_text l.graph.names

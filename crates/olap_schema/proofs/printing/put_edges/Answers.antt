@@ -10,5 +10,6 @@ edges-preserved c =
 
 pub returns : goal.returns
 returns c =
-    no_more _ _ _ (none_left (edge_text c.args.graph.now) c.args.graph.now.edges c.edges.i (omega (arith, c.edges-count.ensures.count)))
+    no_more _ _ _ (none_left (edge_text c.args.graph.now) c.args.graph.now.edges c.edges.i
+    (omega (arith, c.edges-count.ensures.count)))
     c.edges.invariant
