@@ -4,3 +4,5 @@ pub mod LineLemmas
 pub mod PairLemmas
 pub mod StuckLemmas
 pub mod PrintLemmas
+pub mod FormulaLemmas
+pub mod AtomLemmas
