@@ -1,5 +1,5 @@
 -- An atom whose word passes is one of the graph.
-use Rattle.std.proofs.Common.{◌≡◌, ◌≢◌, ◌||◌, ◌+◌, ◌≤◌, ◌<◌, ℕ, suc, zero, Bool, true, false, not, cond, List, [], ◌∷◌, Option, Some, None, refl, ap, sym, ◌∙◌, subst, length, get_or, map, drop, codes, arith, nat_lt, inl, inr}
+use Rattle.std.proofs.Common.{◌≡◌, ◌≢◌, ◌||◌, ◌&&◌, ◌+◌, ◌≤◌, ◌<◌, ℕ, suc, zero, Bool, true, false, not, cond, List, [], ◌∷◌, Option, Some, None, refl, ap, sym, ◌∙◌, subst, length, get_or, map, drop, codes, arith, nat_lt, inl, inr}
 use Rattle.std.specs.Prelude.{◌==◌, ◌⊎◌, AllPairs, Contains, is_some, unwrap_or, slice_index_or}
 use Rattle.std.specs.List.{list_all, list_any}
 use Rattle.std.specs.Str.{bytes_eq}
@@ -54,9 +54,9 @@ pub all_known : (g : Graph) (ns : List (List ℕ)) (n : List ℕ) → list_all (
 all_known g [] n e c = absurd (Contains-nil n c)
 all_known g (m ∷ ms) n e c = go (is_known g m) refl e (λ k d. all_known g ms n k d)
   where
-    go : (b : Bool) → is_known g m ≡ b → cond b (list_all (is_known g) ms) false ≡ true →
+    go : (b : Bool) → is_known g m ≡ b → b && list_all (is_known g) ms ≡ true →
         (list_all (is_known g) ms ≡ true → Contains ms n → is_known g n ≡ true) → is_known g n ≡ true
-    go true q k rest = elim (contains_cases n m ms c) [ inl s ↦ rw s at q | inr d ↦ rest k d ]
+    go true q k rest = elim (contains_cases n m ms c) [ inl s ↦ subst (λ w. is_known g w ≡ true) s q | inr d ↦ rest k d ]
     go false q k rest = absurd cc
 
 -- ---- edges
@@ -78,7 +78,7 @@ chain_at g c n (m ∷ ms) e h = go (category_named g m) refl (rw e at h) (λ d p
     step : (d : ℕ) (b : Bool) → is_some (edge_between g c d) ≡ b → category_named g m ≡ Some d →
         cond (not b) true (lacks_edge g m ms) ≡ false → (lacks_edge g m ms ≡ false → IsChain (HasEdge g) (d ∷ map (id_of g) ms)) →
         IsChain (HasEdge g) (c ∷ id_of g m ∷ map (id_of g) ms)
-    step d true q p k rest = rw (id_is g m d p) (edge_is g c d q, rest k)
+    step d true q p k rest = subst (λ w. IsChain (HasEdge g) (c ∷ w ∷ map (id_of g) ms)) (sym (id_is g m d p)) (edge_is g c d q, rest k)
     step d false q p k rest = absurd cc
 
     go : (o : Option ℕ) → category_named g m ≡ o → cond (not (has_edge g (Some c) o)) true (lacks_edge g m ms) ≡ false →
@@ -107,7 +107,7 @@ unfolding is_repeated
 ids_differ g [] k h = tt
 ids_differ g (n ∷ ns) k h = go (is_known g n) (stands_in ns n) refl refl k h (λ p q. ids_differ g ns p q)
   where
-    go : (b r : Bool) → is_known g n ≡ b → stands_in ns n ≡ r → cond b (list_all (is_known g) ns) false ≡ true → cond r true (is_repeated ns) ≡ false →
+    go : (b r : Bool) → is_known g n ≡ b → stands_in ns n ≡ r → b && list_all (is_known g) ns ≡ true → cond r true (is_repeated ns) ≡ false →
         (list_all (is_known g) ns ≡ true → is_repeated ns ≡ false → Distinct (map (id_of g) ns)) → Distinct (map (id_of g) (n ∷ ns))
     go true true p q x y rest = absurd cc
     go false r p q x y rest = absurd cc
@@ -129,19 +129,33 @@ pub not_false : (b : Bool) → not b ≡ false → b ≡ true
 not_false true e = refl
 not_false false e = absurd cc
 
+first_check : (g : Graph) (root : List ℕ) (path : Bool) (ns : List (List ℕ)) → named_fault g root path ns ≡ None → not (list_all (is_known g) ns) ≡ false
+first_check g root path ns e = go (not (list_all (is_known g) ns)) _ e
+  where
+    go : (b : Bool) (x : Option SchemaKind) → cond b (Some kind.UnknownCategory) x ≡ None → b ≡ false
+    go b x q = (none_first b kind.UnknownCategory x q).0
+
 -- what passes has known names, the first of which is the root
 pub names_known : (g : Graph) (root : List ℕ) (path : Bool) (ns : List (List ℕ)) → named_fault g root path ns ≡ None → list_all (is_known g) ns ≡ true
-names_known g root path ns e = not_false _ (none_first _ _ _ e).0
+names_known g root path ns e = not_false (list_all (is_known g) ns) (first_check g root path ns e)
+
+some_steps : (c : ℕ) (cs : List ℕ) → c ∷ cs ≢ []
+some_steps c cs e = let no : ⊥ = cc in no
 
 -- a path whose names pass is one of the graph
 pub path_at : (g : Graph) (root : List ℕ) (r : ℕ) (n m : List ℕ) (ms : List (List ℕ)) → category_named g root ≡ Some r →
     named_fault g root true (n ∷ m ∷ ms) ≡ None → IsFormulaAt g r (Meaning.Formula.Path (map (id_of g) (m ∷ ms)))
 path_at g root r n m ms e h =
-    let known = none_first _ _ _ h in
-    let first = none_first _ _ _ known.1 in
-    let repeats = none_first _ _ _ first.1 in
-    let edges = none_first _ _ _ repeats.1 in
-    let same : n ≡ root = (bytes_eq-Decides n root).0 (not_false _ first.0) in
-    let apart = ids_differ g (n ∷ m ∷ ms) (not_false _ known.0) repeats.0 in
+    let ns : List (List ℕ) = n ∷ m ∷ ms in
+    let last : Option SchemaKind = cond (lacks_edge g root (m ∷ ms)) (Some kind.NotAnEdge) None in
+    let third : Option SchemaKind = cond (is_repeated ns) (Some kind.RepeatedCategory) last in
+    let second : Option SchemaKind = cond (not (bytes_eq n root)) (Some kind.MixedRoot) third in
+    let known = none_first (not (list_all (is_known g) ns)) kind.UnknownCategory second h in
+    let first = none_first (not (bytes_eq n root)) kind.MixedRoot third known.1 in
+    let repeats = none_first (is_repeated ns) kind.RepeatedCategory last first.1 in
+    let edges = none_first (lacks_edge g root (m ∷ ms)) kind.NotAnEdge None repeats.1 in
+    let same : n ≡ root = (bytes_eq-Decides n root).0 (not_false (bytes_eq n root) first.0) in
+    let apart : Distinct (map (id_of g) ns) = ids_differ g ns (not_false (list_all (is_known g) ns) known.0) repeats.0 in
     let id : id_of g n ≡ r = ap (id_of g) same ∙ id_is g root r e in
-    (λ z. (let no : ⊥ = cc in no), chain_at g r root (m ∷ ms) e edges.0, AllPairs-from_Distinct _ (rw id at apart))
+    let distinct : Distinct (r ∷ map (id_of g) (m ∷ ms)) = subst (λ w. Distinct (w ∷ map (id_of g) (m ∷ ms))) id apart in
+    (some_steps (id_of g m) (map (id_of g) ms), chain_at g r root (m ∷ ms) e edges.0, AllPairs-from_Distinct (r ∷ map (id_of g) (m ∷ ms)) distinct)
