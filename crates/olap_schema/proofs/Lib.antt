@@ -20,3 +20,5 @@ pub mod BackGraph
 pub mod BackConstraints
 pub mod BackLineTokens
 pub mod BackSchema
+pub mod FormulaLemmas
+pub mod AtomLemmas

@@ -3,7 +3,7 @@
 --     line_read        a line, given those above it
 --     schema_read      a text
 --     question_read    the text of a question's formula, given a schema and a root
-use Rattle.std.specs.Prelude.{◌==◌, ◌||◌, ◌+◌, ◌-◌, ℕ, suc, Bool, true, false, not, List, [], ◌∷◌, ◌++◌, Option, Some, None, Result, Ok, Err, length, find, fold, nat_lt, nat_le, slice_index, if◌then◌else◌}
+use Rattle.std.specs.Prelude.{◌==◌, ◌||◌, ◌+◌, ◌-◌, ℕ, Bool, true, false, not, List, [], ◌∷◌, ◌++◌, Option, Some, None, Result, Ok, Err, length, find, fold, nat_lt, nat_le, slice_index, if◌then◌else◌}
 use Rattle.std.specs.List.{list_any, range_with_len}
 use Rattle.olap_base.specs.Deciding.{category_reaches}
 use Rattle.olap_base.specs.Graph.{Graph}
@@ -167,7 +167,8 @@ lines_on (Ok a) n (line ∷ lines) = lines_on (line_read a (n + 1) (chomped line
 
 -- before the first line
 abbrev pub nothing_above : Above
-nothing_above = record { versioned = false; graph = all_alone; category_lines = []; constraints = []; nodes = 0; pairs = [] }
+nothing_above =
+    record { versioned = false; graph = all_alone; category_lines = []; constraints = []; nodes = 0; pairs = [] }
 
 -- the first declared category that doesn't reach `All`
 abbrev pub first_stuck : Graph → Option ℕ

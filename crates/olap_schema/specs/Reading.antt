@@ -1,5 +1,5 @@
 -- What the values of the readers stand for.
-use Rattle.std.specs.Prelude.{◌≡◌, ℕ, List, Bool, Result, Ok, Err, Option, Some, None, map, IsTrue}
+use Rattle.std.specs.Prelude.{◌≡◌, Result, Ok, Err, Option, Some, None, map, IsTrue}
 use Rattle.olap_base.specs.Deciding.{is_category_name}
 use Rattle.olap_ast.specs.Formula as Meaning
 use Rattle.olap_ast.specs.Trees.{constraint_of, formula_of}
@@ -9,7 +9,6 @@ use Rattle.olap_schema.specs.Statements as says
 use Rattle.olap_schema.specs.declared.kinds.FormulaRefusal.{FormulaRefusal}
 use Rattle.olap_schema.specs.declared.kinds.FormulaRefusal.TheVariants as refusal
 use Rattle.olap_schema.specs.declared.kinds.SchemaKind.{SchemaKind}
-use Rattle.olap_schema.specs.declared.kinds.SchemaKind.TheVariants as kind
 use Rattle.olap_schema.specs.declared.pairing.Pair.{Pair}
 use Rattle.olap_schema.specs.declared.reading.Reading.{Reading}
 use Rattle.olap_schema.specs.declared.statements.Statement.{Statement}

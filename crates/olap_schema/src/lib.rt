@@ -11,6 +11,8 @@ mod questions;
 mod reading;
 mod schemas;
 mod statements;
+#[cfg(test)]
+mod tests;
 
 pub use kinds::{FormulaRefusal, SchemaKind, SchemaRefusal};
 pub use printing::{print_schema, printed_schemas_are_read};

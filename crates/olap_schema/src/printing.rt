@@ -159,7 +159,8 @@ fn push_one(
 {
     out.extend_from_slice(b"one(")?;
     push_list(out, graph, root, terms)?;
-    out.extend_from_slice(b")")
+    out.push(b')')?;
+    Ok(())
 }
 
 #[cycle(push_formula)]
