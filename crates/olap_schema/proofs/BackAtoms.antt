@@ -1,13 +1,12 @@
 -- The checks of a printed formula's atoms, and of the lengths of its names and constants.
 --     none_is_long    no name and no constant is too long
 --     no_atom_fault   the atoms have no fault
-use Rattle.std.proofs.Common.{◌≡◌, ◌≢◌, ◌==◌, ◌||◌, ◌&&◌, not, ◌<◌, ◌≤◌, ◌+◌, ℕ, zero, suc, Bool, true, false, cond, List, [], ◌∷◌, ◌++◌, Option, Some, None, All, length, map, drop, refl, append_assoc, append-nil, arith, ap, sym, ◌∙◌, codes, nat_lt, nat_le}
-use Rattle.std.specs.Prelude.{AllPairs, Contains, is_some}
-use Rattle.std.specs.List.{list_all, list_any, position_from}
+use Rattle.std.proofs.Common.{◌≡◌, ◌≢◌, ◌==◌, ℕ, suc, Bool, true, false, cond, List, [], ◌∷◌, ◌++◌, Option, Some, None, All, length, map, refl, arith, sym, codes, nat_lt}
+use Rattle.std.specs.Prelude.{AllPairs, is_some}
+use Rattle.std.specs.List.{list_all}
 use Rattle.std.specs.Str.{bytes_eq}
-use Rattle.std.proofs.lemmas.Bool.{eqb-true, false_from_ne_true}
+use Rattle.std.proofs.lemmas.Bool.{false_from_ne_true}
 use Rattle.std.proofs.lemmas.List.Elements.{All-head, All-tail}
-use Rattle.std.proofs.lemmas.List.Folds.{list_any-append}
 use Rattle.std.proofs.lemmas.Slice.Eq.{bytes_eq-Decides}
 use Rattle.olap_base.specs.Chains.{IsChain}
 use Rattle.olap_base.specs.Graph.{Graph, HasEdge, IsCategory, IsHierarchy}
@@ -22,7 +21,7 @@ use Rattle.olap_grammar.specs.declared.tokens.Token.TheVariants as token
 use Rattle.olap_grammar.specs.declared.tokens.Joint.{Joint}
 use Rattle.olap_grammar.specs.declared.tokens.Joint.TheVariants as joint
 use Rattle.olap_schema.specs.Atoms.{atom_fault, has_edge, is_connective, is_known, is_path, is_repeated, lacks_edge, named_fault, names_in, or_later, stands_in, token_fault, word_fault}
-use Rattle.olap_schema.specs.Printing.{atom_word, compared_word, names_after}
+use Rattle.olap_schema.specs.Printing.{atom_word, compared_word}
 use Rattle.olap_schema.specs.declared.kinds.SchemaKind.{SchemaKind}
 use Rattle.olap_schema.proofs.BackWords.{name_whole, no_46, no_95, path_pieces, reach_pieces, reach_whole}
 use Rattle.olap_schema.proofs.PrintCut.{AreCategories, steps_are}
@@ -94,6 +93,7 @@ module _ (g : Graph) (h : IsHierarchy g) where
     where
       v : AreCategories g (c ∷ cs)
       v = steps_are g h r (c ∷ cs) k
+
       go : (w : List ℕ) → pieces_of 95 w ≡ map (name_of_category g) (r ∷ c ∷ cs) → named_fault g (name_of_category g r) (is_path w) (names_in w) ≡ None
       go w p =
           let two : nat_lt 1 (length (map (name_of_category g) (r ∷ c ∷ cs))) ≡ true = grind (arith) in

@@ -1,13 +1,10 @@
 -- The bytes of printed lines: UTF-8 without control characters.
 --     IsPlain          a text of such bytes
 --     formula_is_plain  and so on: what is printed is one
-use Rattle.std.proofs.Common.{◌≡◌, ◌==◌, ◌||◌, ◌&&◌, not, ◌<◌, ◌≤◌, ◌+◌, ◌-◌, ◌*◌, ◌/◌, ◌%◌, inl, inr, ℕ, zero, suc, Bool, true, false, cond, List, [], ◌∷◌, ◌++◌, All, length, refl, append_assoc, append-nil, arith, ap, sym, ◌∙◌, codes, get_or, nat_lt, lit<}
+use Rattle.std.proofs.Common.{◌≡◌, ◌==◌, ◌||◌, ◌&&◌, not, ◌<◌, ◌≤◌, ◌+◌, ◌/◌, ◌%◌, ℕ, zero, suc, Bool, true, false, cond, List, [], ◌∷◌, ◌++◌, All, refl, append_assoc, append-nil, arith, ap, sym, ◌∙◌, nat_lt, lit<}
 use Rattle.std.specs.List.{list_any}
 use Rattle.std.specs.Str.{IsAscii, IsUtf8, is_utf8}
-use Rattle.std.specs.Char.{IsScalar}
-use Rattle.std.proofs.lemmas.Bool.{false_from_ne_true}
-use Rattle.std.proofs.lemmas.List.Elements.{All-append, All-cons, All-from_recursion, All-head, All-nil, All-tail, All-weaker}
-use Rattle.std.proofs.lemmas.List.Folds.{list_any_none}
+use Rattle.std.proofs.lemmas.List.Elements.{All-from_recursion, All-head, All-tail}
 use Rattle.std.proofs.lemmas.Str.{IsUtf8-append, IsUtf8-from_ascii, IsUtf8-from_is_utf8, IsUtf8-nil, is_utf8-from_IsUtf8}
 use Rattle.std.proofs.lemmas.Str.{encode_ascii}
 use lib.Utf8.{encode, encodes, scalar, scalars}
@@ -93,6 +90,7 @@ one_utf8 c s = go (nat_lt c 128) refl
     byte : (p : Bool) → c < 128 → IsUtf8 (cond p (92 ∷ c ∷ []) (c ∷ []) ++ [])
     byte true l = IsUtf8-from_ascii (92 ∷ c ∷ []) (ascii_two 92 c (lit< tt) l)
     byte false l = IsUtf8-from_ascii (c ∷ []) (ascii_one c l)
+
     go : (b : Bool) → nat_lt c 128 ≡ b → IsUtf8 (escaped (encode c))
     go true e = let l : c < 128 = grind (arith) in rw (encode_ascii c l) (byte ((c == 34) || (c == 92)) l)
     go false e = let same = high_stay (encode c) (high_encode c e) in rw same (c ∷ [], (rw s refl, append-nil (encode c)))

@@ -1,8 +1,8 @@
 -- A printed constraint's line is read as the constraint.
 --     ruled             what is known on the way
 --     add_constraint    a constraint's line adds it
-use Rattle.std.proofs.Common.{◌≡◌, ◌≢◌, ◌==◌, ◌||◌, ◌<◌, ◌≤◌, ◌+◌, ℕ, zero, suc, Bool, true, false, cond, List, [], ◌∷◌, ◌++◌, Option, Some, None, length, refl, append_assoc, append-nil, arith, ap, sym, ◌∙◌, codes, nat_lt, nat_le}
-use Rattle.std.specs.Prelude.{Contains, Result, Ok, Err, flat_map, fold, sum_by}
+use Rattle.std.proofs.Common.{◌≡◌, ◌==◌, ◌≤◌, ◌+◌, ℕ, suc, Bool, true, false, cond, List, [], ◌∷◌, ◌++◌, Some, None, length, refl, arith, ap, sym, ◌∙◌, nat_lt, nat_le}
+use Rattle.std.specs.Prelude.{Contains, Ok, flat_map, fold, sum_by}
 use Rattle.std.specs.List.{list_any}
 use Rattle.std.proofs.lemmas.Bool.{eqb-true, false_from_ne_true}
 use Rattle.std.proofs.lemmas.List.Sums.{sum_by-append}
@@ -13,7 +13,6 @@ use Rattle.olap_ast.specs.Schema.{Constraint, Schema}
 use Rattle.olap_ast.specs.Valid.{IsFormulaAt, IsValidSchema, depth_of, is_same_pair, node_count, with_pair}
 use Rattle.olap_grammar.specs.Machine.{the_formula}
 use Rattle.olap_grammar.specs.Words.{atoms_of}
-use Rattle.olap_grammar.specs.declared.tokens.Token.{Token}
 use Rattle.olap_grammar.proofs.ReaderLemmas.{formula_is_found}
 use Rattle.olap_grammar.proofs.Sound.{tighter}
 use Rattle.olap_schema.specs.Atoms.{atom_fault}
@@ -114,5 +113,6 @@ add_constraint s v short done c rest nodes pairs lines e few_nodes few_pairs =
   where
     room : (a b n : ℕ) → n ≤ 64 → n ≡ a + suc b → nat_le 64 a ≡ false
     room a b n l q = grind arith
+
     below : (a b n : ℕ) → a ≤ b → n ≡ b → n ≤ 256 → nat_lt 256 a ≡ false
     below a b n l q m = grind arith

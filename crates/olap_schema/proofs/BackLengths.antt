@@ -1,5 +1,5 @@
 -- No name and no constant of a printed formula is too long.
-use Rattle.std.proofs.Common.{◌≡◌, ◌==◌, ◌||◌, ◌<◌, ◌≤◌, ◌+◌, ℕ, zero, suc, Bool, true, false, cond, List, [], ◌∷◌, ◌++◌, All, length, refl, append-nil, arith, ap, sym, ◌∙◌, zero-add, codes, nat_lt, lit≤}
+use Rattle.std.proofs.Common.{◌≡◌, ◌==◌, ◌||◌, ◌≤◌, ◌+◌, ℕ, Bool, true, false, cond, List, [], ◌∷◌, ◌++◌, All, length, refl, append-nil, arith, ap, ◌∙◌, codes, nat_lt, lit≤}
 use Rattle.std.specs.List.{list_any}
 use Rattle.std.proofs.lemmas.List.Elements.{All-head, All-tail}
 use Rattle.olap_base.specs.Graph.{Graph, IsCategory, IsHierarchy, IsLetterOrDigit}

@@ -1,12 +1,12 @@
 -- The lines of a printed schema are cut into their tokens, are plain, and say something.
-use Rattle.std.proofs.Common.{◌≡◌, ◌==◌, ◌||◌, ◌&&◌, ◌<◌, ◌≤◌, ℕ, Bool, true, false, List, [], ◌∷◌, ◌++◌, Some, refl, append-nil, arith, ap, sym, ◌∙◌, codes}
+use Rattle.std.proofs.Common.{◌≡◌, ◌&&◌, ℕ, Bool, true, false, List, [], ◌∷◌, ◌++◌, Some, refl, append-nil, codes}
 use Rattle.std.specs.List.{list_all}
 use Rattle.olap_base.specs.Graph.{Edge, Graph, IsCategory, IsCategoryName, IsHierarchy}
 use Rattle.olap_graph.specs.Lookups.{name_of_category}
 use Rattle.olap_ast.specs.Formula.{equalities}
 use Rattle.olap_ast.specs.Schema.{Constraint}
 use Rattle.olap_ast.specs.Valid.{IsFormulaAt}
-use Rattle.olap_grammar.specs.Cutting.{AreWordBytes, EndsWord, is_word_byte, IsCut, blank, end, mark, word}
+use Rattle.olap_grammar.specs.Cutting.{AreWordBytes, is_word_byte, IsCut, blank, end, mark, word}
 use Rattle.olap_grammar.specs.CuttingMachine.{tokens_of}
 use Rattle.olap_grammar.specs.declared.tokens.Token.{Token}
 use Rattle.olap_grammar.specs.declared.tokens.Token.TheVariants as token
@@ -14,7 +14,7 @@ use Rattle.olap_grammar.proofs.CutComplete.{cut_is_found}
 use Rattle.olap_schema.specs.Lines.{is_quiet}
 use Rattle.olap_schema.specs.Printing.{category_text, constraint_text, edge_text, formula_text, version_text}
 use Rattle.olap_schema.specs.PrintingLaws.{AreTexts}
-use Rattle.olap_schema.proofs.BackBytes.{IsPlain, plain-append, plain-cons}
+use Rattle.olap_schema.proofs.BackBytes.{IsPlain, plain-append}
 use Rattle.olap_schema.proofs.BackPlain.{ascii_plain, formula_plain, name_plain}
 use Rattle.olap_schema.proofs.PrintCut.{cut_word, name_is_word, text_is_cut}
 use Rattle.olap_schema.proofs.PrintNames.{name_is}
@@ -49,7 +49,7 @@ module _ (g : Graph) (h : IsHierarchy g) where
   edge_tokens e l m =
       let parent = last_name (name_of_category g e.parent) (name_is g h e.parent m) in
       let child : IsCut (name_of_category g e.child ++ 32 ∷ name_of_category g e.parent) (token.Word (name_of_category g e.child) ∷ token.Word (name_of_category g e.parent) ∷ []) =
-          cut_word (name_is_word (name_of_category g e.child) (name_is g h e.child l)) refl (blank parent) in
+      cut_word (name_is_word (name_of_category g e.child) (name_is g h e.child l)) refl (blank parent) in
       cut_is_found _ _ (keyword 101 (codes "dge") (name_of_category g e.child ++ 32 ∷ name_of_category g e.parent) (token.Word (name_of_category g e.child) ∷ token.Word (name_of_category g e.parent) ∷ []) refl child)
 
   pub constraint_tokens : (c : Constraint) → IsCategory g c.root → IsFormulaAt g c.root c.formula →
@@ -59,7 +59,7 @@ module _ (g : Graph) (h : IsHierarchy g) where
       let text = formula_text g c.root c.formula in
       let cut : IsCut text (spelt g c.root c.formula) = rw (append-nil text, append-nil (spelt g c.root c.formula)) at (text_is_cut g h c.root l c.formula v [] [] tt end) in
       let rest : IsCut (name ++ 58 ∷ 32 ∷ text) (token.Word name ∷ token.Colon ∷ spelt g c.root c.formula) =
-          cut_word (name_is_word name (name_is g h c.root l)) refl (mark token.Colon tt (blank cut)) in
+      cut_word (name_is_word name (name_is g h c.root l)) refl (mark token.Colon tt (blank cut)) in
       cut_is_found _ _ (keyword 99 (codes "onstraint") (name ++ 58 ∷ 32 ∷ text) (token.Word name ∷ token.Colon ∷ spelt g c.root c.formula) refl rest)
 
 -- ---- bytes

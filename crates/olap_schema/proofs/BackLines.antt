@@ -1,15 +1,14 @@
 -- The lines of a printed text, and what a line of plain bytes says.
 --     lines_are       the lines of the text are the lines
 --     line_says       a line is read by what its tokens say
-use Rattle.std.proofs.Common.{◌≡◌, ◌==◌, ◌||◌, ◌&&◌, not, ◌<◌, ◌≤◌, ◌+◌, ◌-◌, inl, inr, ℕ, zero, suc, Bool, true, false, cond, List, [], ◌∷◌, ◌++◌, Option, Some, length, refl, append_assoc, append-nil, arith, ap, sym, ◌∙◌, codes, nat_lt}
-use Rattle.std.specs.Prelude.{Result, Ok, Err, slice_index}
+use Rattle.std.proofs.Common.{◌≡◌, ◌==◌, ◌||◌, ◌+◌, ◌-◌, ℕ, zero, suc, Bool, true, false, List, [], ◌∷◌, ◌++◌, Some, length, refl, arith, ap, ◌∙◌}
+use Rattle.std.specs.Prelude.{Ok, slice_index}
 use Rattle.std.specs.List.{list_any}
 use Rattle.olap_grammar.specs.CuttingMachine.{tokens_of}
 use Rattle.olap_grammar.specs.declared.tokens.Token.{Token}
-use Rattle.olap_schema.specs.Judging.{Above, Read, line_read, lines_on, statement_read, tokens_read}
-use Rattle.olap_schema.specs.Lines.{chomped, in_front, is_bad, is_control, is_quiet, lines_of}
+use Rattle.olap_schema.specs.Judging.{Above, line_read, lines_on, tokens_read}
+use Rattle.olap_schema.specs.Lines.{chomped, in_front, is_control, is_quiet, lines_of}
 use Rattle.olap_schema.specs.Printing.{text_of_lines}
-use Rattle.olap_schema.specs.Statements.{statement_of}
 use Rattle.olap_schema.proofs.BackBytes.{IsPlain, not_bad}
 
 no_control : (b : ℕ) (bs : List ℕ) → list_any is_control (b ∷ bs) ≡ false → (is_control b ≡ false) × (list_any is_control bs ≡ false)

@@ -1,9 +1,9 @@
 -- What the tokens of printed lines say.
-use Rattle.std.proofs.Common.{◌≡◌, ◌==◌, ◌&&◌, ◌≤◌, ◌+◌, ℕ, Bool, true, false, List, [], ◌∷◌, Some, length, refl, arith, codes, nat_le, if◌then◌else◌}
+use Rattle.std.proofs.Common.{◌≡◌, ◌==◌, ◌&&◌, ℕ, Bool, true, false, List, [], ◌∷◌, length, refl, arith, codes, nat_le, if◌then◌else◌}
 use Rattle.olap_base.specs.Deciding.{is_category_name}
 use Rattle.olap_grammar.specs.declared.tokens.Token.{Token}
 use Rattle.olap_grammar.specs.declared.tokens.Token.TheVariants as token
-use Rattle.olap_schema.specs.Statements.{Category, Constraint, Edge, Statement, colon_at, is_version, statement_of, word_at}
+use Rattle.olap_schema.specs.Statements.{Category, Constraint, Edge, colon_at, is_version, statement_of, word_at}
 
 pub version_says : is_version (token.Word (codes "schema") ∷ token.Word (codes "1") ∷ []) ≡ true
 unfolding word_at

@@ -2,25 +2,17 @@
 --     nodes_are       the tokens have as many nodes as the formula
 --     few_open        no more brackets are open than the formula is deep
 --     none_is_long    no name and no constant is too long
-use Rattle.std.proofs.Common.{◌≡◌, ◌==◌, ◌||◌, ◌<◌, ◌≤◌, ◌+◌, ℕ, zero, suc, Bool, true, false, cond, List, [], ◌∷◌, ◌++◌, All, length, max, refl, append_assoc, append-nil, arith, ap, sym, ◌∙◌, zero-add, codes, nat_lt, nat_le}
-use Rattle.std.specs.List.{count_by, list_any, sum_by}
-use Rattle.std.proofs.lemmas.Bool.{eqb-true, false_from_ne_true}
-use Rattle.std.proofs.lemmas.List.Elements.{All-head, All-tail}
-use Rattle.std.proofs.lemmas.List.Folds.{list_any-append}
+use Rattle.std.proofs.Common.{◌≡◌, ◌≤◌, ◌+◌, ℕ, true, false, cond, List, [], ◌∷◌, ◌++◌, max, refl, append_assoc, append-nil, arith, ap, ◌∙◌, codes, nat_lt}
 use Rattle.std.proofs.lemmas.List.Sums.{sum_by-append}
-use Rattle.olap_base.specs.Graph.{Graph, IsCategory, IsHierarchy}
-use Rattle.olap_graph.specs.Lookups.{name_of_category}
+use Rattle.olap_base.specs.Graph.{Graph}
 use Rattle.olap_ast.specs.Formula as Meaning
 use Rattle.olap_ast.specs.Formula.{Formula, Terms}
-use Rattle.olap_ast.specs.Valid.{AreFormulasAt, IsFormulaAt, depth_of, depth_of_terms, node_count, node_count_of_terms}
+use Rattle.olap_ast.specs.Valid.{depth_of, depth_of_terms, node_count, node_count_of_terms}
 use Rattle.olap_grammar.specs.declared.tokens.Token.{Token}
 use Rattle.olap_grammar.specs.declared.tokens.Token.TheVariants as token
 use Rattle.olap_grammar.specs.declared.tokens.Joint.{Joint}
 use Rattle.olap_grammar.specs.declared.tokens.Joint.TheVariants as joint
-use Rattle.olap_schema.specs.Printing.{atom_word, compared_word, names_after}
-use Rattle.olap_schema.specs.Tokens.{has_long_name, is_long, is_node, opens_over, token_nodes}
-use Rattle.olap_schema.proofs.BackWords.{no_46, no_95}
-use Rattle.olap_schema.proofs.PrintCut.{AreCategories, steps_are}
+use Rattle.olap_schema.specs.Tokens.{is_node, opens_over, token_nodes}
 use Rattle.olap_schema.proofs.PrintTokens.{joined_tokens, spelt, spelt_list, spelt_rest}
 
 -- ---- nodes

@@ -1,7 +1,7 @@
 -- Printed words mean their atoms.
 --     pieces         the pieces of an atom's word are its names
 --     path_means     and so on: what a word says is the atom
-use Rattle.std.proofs.Common.{◌≡◌, ◌≢◌, ◌==◌, ◌<◌, ◌≤◌, ◌+◌, ℕ, zero, suc, Bool, true, false, cond, List, [], ◌∷◌, ◌++◌, Option, Some, All, length, map, drop, refl, append-nil, arith, ap, sym, ◌∙◌, codes, inl, inr, nat_lt, lit≤}
+use Rattle.std.proofs.Common.{◌≡◌, ◌≢◌, ◌==◌, ℕ, Bool, true, false, cond, List, [], ◌∷◌, ◌++◌, Some, All, length, map, refl, append-nil, arith, ap, sym, ◌∙◌, codes, nat_lt, lit≤}
 use Rattle.std.specs.List.{list_all}
 use Rattle.std.specs.Str.{bytes_eq}
 use Rattle.std.proofs.lemmas.Bool.{eqb-true}
@@ -12,7 +12,7 @@ use Rattle.olap_base.specs.Deciding.{is_category_name}
 use Rattle.olap_base.specs.Graph.{Graph, IsCategory, IsHierarchy, IsLetterOrDigit}
 use Rattle.olap_graph.specs.Lookups.{name_of_category}
 use Rattle.olap_ast.specs.Formula as Meaning
-use Rattle.olap_grammar.specs.Words.{equal_of, equality_of, id_of, path_of, pieces_of, plain_of, reach_of}
+use Rattle.olap_grammar.specs.Words.{equal_of, equality_of, id_of, pieces_of, plain_of}
 use Rattle.olap_schema.specs.Printing.{atom_word, compared_word, names_after}
 use Rattle.olap_schema.proofs.PrintCut.{AreCategories}
 use Rattle.olap_schema.proofs.PrintNames.{is_name, letters, name_is, named, no_mark, no_underscore}

@@ -14,7 +14,7 @@ use Rattle.olap_grammar.proofs.Levels.{row}
 use Rattle.olap_grammar.proofs.Sound.{tighter}
 use Rattle.olap_schema.proofs.BackWords.{equals_means, path_means, reach_means, via_means}
 use Rattle.olap_schema.proofs.PrintCut.{steps_are}
-use Rattle.olap_schema.proofs.PrintTokens.{joined_tokens, spelt, spelt_list, spelt_rest}
+use Rattle.olap_schema.proofs.PrintTokens.{joined_tokens, spelt, spelt_rest}
 
 spelt_join : (a : Atoms Formula) (j : Joint) (l r : List Token) (f g : Formula) → IsFormula a 6 l f → IsFormula a 6 r g → IsFormula a 6 (joined_tokens j l r) (join j f g)
 spelt_join a j l r f g d e =

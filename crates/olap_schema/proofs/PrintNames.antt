@@ -1,19 +1,15 @@
 -- What the names of a hierarchy's categories are.
 --     name_is          a category's name is a category name
 --     named            it is the name of that category alone
-use Rattle.std.proofs.Common.{◌≡◌, ◌≢◌, ◌==◌, ◌||◌, ◌<◌, ◌≤◌, ◌+◌, ◌⊎◌, inl, inr, ℕ, zero, suc, Bool, true, false, List, [], ◌∷◌, Option, Some, None, length, get_or, arith, ap, sym, subst, ◌∙◌, refl, codes, lit≤, lit<, zero-add}
-use Rattle.std.specs.Prelude.{All, AllPairs, Contains, is_some, slice_index_or}
-use Rattle.std.specs.Char.{is_ascii_alphanumeric}
-use Rattle.std.specs.List.{position_from}
+use Rattle.std.proofs.Common.{◌≡◌, ◌==◌, ◌<◌, ◌≤◌, inl, inr, ℕ, zero, suc, true, false, List, [], ◌∷◌, Some, get_or, arith, ap, sym, ◌∙◌, refl, codes, lit≤, zero-add}
+use Rattle.std.specs.Prelude.{All, Contains}
 use Rattle.std.specs.Str.{bytes_eq}
-use Rattle.std.proofs.lemmas.List.Elements.{All-from_recursion, All-cons, All-weaker, Contains-get_or}
+use Rattle.std.proofs.lemmas.List.Elements.{All-from_recursion, All-cons, Contains-get_or}
 use Rattle.std.proofs.lemmas.Slice.Eq.{bytes_eq-Decides}
-use Rattle.olap_base.specs.Graph.{Graph, IsCategory, IsCategoryName, IsHierarchy, IsLetter, IsLetterOrDigit, category_count, reserved}
+use Rattle.olap_base.specs.Graph.{Graph, IsCategory, IsCategoryName, IsHierarchy, IsLetterOrDigit, reserved}
 use Rattle.olap_base.specs.Deciding.{is_category_name, is_category_name_is}
 use Rattle.olap_graph.specs.Lookups.{category_named, name_of_category, names_of}
 use Rattle.olap_graph.proofs.PlaceLemmas.{first_at}
-use Rattle.olap_grammar.specs.Cutting.{AreWordBytes, is_word_byte}
-use Rattle.olap_schema.specs.Lines.{is_control}
 
 first_byte : List ℕ → ℕ
 first_byte [] = 0

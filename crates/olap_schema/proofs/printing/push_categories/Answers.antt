@@ -1,4 +1,4 @@
-use Rattle.std.proofs.Common.{◌≡◌, ◌++◌, List, ℕ, [], arith, ap, ◌∙◌, slice_index_or}
+use Rattle.std.proofs.Common.{◌++◌, List, ℕ, [], arith, ap, ◌∙◌}
 use Rattle.olap_schema.specs.Printing.{category_text, ended_line}
 use Rattle.olap_schema.proofs.PrintLemmas.{declared_name, next_line, no_more}
 use Rattle.olap_schema.proofs.printing.push_categories.Goals as goal

@@ -1,4 +1,4 @@
-use Rattle.std.proofs.Common.{◌≡◌, ◌++◌, List, ℕ, arith, ap, sym, ◌∙◌}
+use Rattle.std.proofs.Common.{◌++◌, List, ℕ, arith, ap, sym, ◌∙◌}
 use Rattle.olap_base.specs.Graph.{Edge}
 use Rattle.olap_schema.specs.Printing.{edge_text, ended_line}
 use Rattle.olap_schema.proofs.PrintLemmas.{next_line, no_more}
