@@ -9,7 +9,8 @@ pub version_says : is_version (token.Word (codes "schema") ∷ token.Word (codes
 unfolding word_at
 version_says = refl
 
-pub category_says : (name : List ℕ) → is_category_name name ≡ true → statement_of (token.Word (codes "category") ∷ token.Word name ∷ []) ≡ Category name
+pub category_says : (name : List ℕ) → is_category_name name ≡ true
+    → statement_of (token.Word (codes "category") ∷ token.Word name ∷ []) ≡ Category name
 unfolding statement_of word_at
 category_says name e = rw e refl
 
@@ -27,6 +28,7 @@ constraint_says root ts e =
     let three : nat_le 3 (length us) ≡ true = grind (arith) in
     rw (two, three, e) (go (length us == 3))
   where
-    go : (b : Bool) → (if b && false && true && is_category_name [] then Edge root [] else Constraint root ts) ≡ Constraint root ts
+    go : (b : Bool)
+        → (if b && false && true && is_category_name [] then Edge root [] else Constraint root ts) ≡ Constraint root ts
     go true = refl
     go false = refl

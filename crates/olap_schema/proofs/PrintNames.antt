@@ -51,9 +51,11 @@ pub no_underscore : (b : ℕ) → IsLetterOrDigit b → (b == 95) ≡ false
 no_underscore b h = grind arith
 
 -- two categories have different names
-names_apart : (g : Graph) → IsHierarchy g → (c d : ℕ) → c < d → IsCategory g d → name_of_category g c ≡ name_of_category g d → ⊥
+names_apart : (g : Graph) → IsHierarchy g → (c d : ℕ) → c < d → IsCategory g d
+    → name_of_category g c ≡ name_of_category g d → ⊥
 names_apart g h zero zero b l e = absurd (omega arith)
-names_apart g h zero (suc d) b l e = (h.names (get_or g.names d []) (Contains-get_or g.names d [] (omega arith))).1 (sym e)
+names_apart g h zero (suc d) b l e =
+    (h.names (get_or g.names d []) (Contains-get_or g.names d [] (omega arith))).1 (sym e)
 names_apart g h (suc c) zero b l e = absurd (omega arith)
 names_apart g h (suc c) (suc d) b l e = h.names_differ c d [] (omega arith) (omega arith) e
 
@@ -64,5 +66,7 @@ named g h c l =
     first_at (bytes_eq name) (λ x. name ≡ x) (bytes_eq-Decides name) (names_of g) 0 c [] (omega arith) refl
     (λ j b e. names_apart g h j c b l (sym e)) ∙ ap (λ (i : ℕ). Some i) (zero-add c)
 
-pub names_differ : (g : Graph) → IsHierarchy g → (c d : ℕ) → IsCategory g c → IsCategory g d → name_of_category g c ≡ name_of_category g d → c ≡ d
-names_differ g h c d l m e = let q : Some c ≡ Some d = sym (named g h c l) ∙ ap (category_named g) e ∙ named g h d m in cc
+pub names_differ : (g : Graph) → IsHierarchy g → (c d : ℕ) → IsCategory g c → IsCategory g d
+    → name_of_category g c ≡ name_of_category g d → c ≡ d
+names_differ g h c d l m e =
+    let q : Some c ≡ Some d = sym (named g h c l) ∙ ap (category_named g) e ∙ named g h d m in cc
