@@ -4,6 +4,11 @@ pub mod Schema
 pub mod Constants
 pub mod Valid
 pub mod Violation
+pub mod Decided
+pub mod Unviolated
+pub mod Least
+pub mod Violated
+pub mod Judging
 pub mod Frozen
 pub mod Summarizable
 pub mod Findings

@@ -2,6 +2,7 @@
 ghost use Rattle.olap_ast.specs.Constants.{RenamingIsHarmless};
 ghost use Rattle.olap_ast.specs.Example.{OneStoreIsLegal};
 ghost use Rattle.olap_ast.specs.Frozen.{FrozenExactlyIfSomeInstance};
+ghost use Rattle.olap_ast.specs.Judging.{FirstViolationIsFirst};
 ghost use Rattle.olap_ast.specs.Schema.{AboveIsLegal};
 ghost use Rattle.olap_ast.specs.Summarizable.{SummarizableExactlyIfNoneFrozen};
 ghost use Rattle.olap_ast.specs.Violation.{LegalExactlyIfNoViolation};
@@ -33,6 +34,11 @@ pub fn summarizable_exactly_if_none_frozen()
 /// An instance is legal exactly where no law and no constraint is violated.
 pub fn legal_exactly_if_no_violation()
     ensures { LegalExactlyIfNoViolation }
+{}
+
+/// The function `first_violation` gives nothing exactly where the instance is legal, and else the first violation.
+pub fn first_violation_is_first()
+    ensures { FirstViolationIsFirst }
 {}
 
 /// The definitions can be met: a graph with one store below `All` is a hierarchy, and an instance of it is legal.

@@ -20,7 +20,8 @@ use Rattle.olap_base.proofs.Part.{IsPart, increasing_injective, order, part_lawf
 
 module _ (g : Graph) (i : Instance) (w : IsLawful g i) where
   -- in each category at most one
-  pub reached_once : (x y z : ℕ) → Steps (IsBelow i) x y → Steps (IsBelow i) x z → category_of i y ≡ category_of i z → y ≡ z
+  pub reached_once : (x y z : ℕ) → Steps (IsBelow i) x y → Steps (IsBelow i) x z → category_of i y ≡ category_of i z
+      → y ≡ z
   reached_once x y z s t q = elim (Steps-cases s) [
     | inl a ↦ elim (Steps-cases t) [
       | inl b ↦ sym a ∙ b
@@ -47,25 +48,29 @@ tally-le : (p q : ℕ → Bool) (xs : List ℕ) → ((y : ℕ) → p y ≡ true 
 tally-le p q [] h = omega arith
 tally-le p q (x ∷ xs) h = go (p x) (q x) (h x) (tally-le p q xs h)
   where
-    go : (a b : Bool) → (a ≡ true → b ≡ true) → tally p xs ≤ tally q xs → cond a (suc (tally p xs)) (tally p xs) ≤ cond b (suc (tally q xs)) (tally q xs)
+    go : (a b : Bool) → (a ≡ true → b ≡ true) → tally p xs ≤ tally q xs
+        → cond a (suc (tally p xs)) (tally p xs) ≤ cond b (suc (tally q xs)) (tally q xs)
     go true true h l = omega arith
     go true false h l = absurd (let e : false ≡ true = h refl in cc)
     go false true h l = omega arith
     go false false h l = omega arith
 
-tally-lt : (p q : ℕ → Bool) (xs : List ℕ) → ((y : ℕ) → p y ≡ true → q y ≡ true) → (z : ℕ) → Contains xs z → p z ≡ false → q z ≡ true → tally p xs < tally q xs
+tally-lt : (p q : ℕ → Bool) (xs : List ℕ) → ((y : ℕ) → p y ≡ true → q y ≡ true) → (z : ℕ) → Contains xs z
+    → p z ≡ false → q z ≡ true → tally p xs < tally q xs
 tally-lt p q [] h z c a b = absurd (omega (arith, c.1))
 tally-lt p q (x ∷ xs) h z c a b = elim (contains_cases z x xs c) [
   | inl e ↦ now (p x) (q x) (ap p e ∙ a) (ap q e ∙ b) (tally-le p q xs h)
   | inr d ↦ go (p x) (q x) (h x) (tally-lt p q xs h z d a b)
 ]
   where
-    now : (s t : Bool) → s ≡ false → t ≡ true → tally p xs ≤ tally q xs → cond s (suc (tally p xs)) (tally p xs) < cond t (suc (tally q xs)) (tally q xs)
+    now : (s t : Bool) → s ≡ false → t ≡ true → tally p xs ≤ tally q xs
+        → cond s (suc (tally p xs)) (tally p xs) < cond t (suc (tally q xs)) (tally q xs)
     now true t e f l = absurd (cc)
     now false true e f l = omega arith
     now false false e f l = absurd (cc)
 
-    go : (a b : Bool) → (a ≡ true → b ≡ true) → tally p xs < tally q xs → cond a (suc (tally p xs)) (tally p xs) < cond b (suc (tally q xs)) (tally q xs)
+    go : (a b : Bool) → (a ≡ true → b ≡ true) → tally p xs < tally q xs
+        → cond a (suc (tally p xs)) (tally p xs) < cond b (suc (tally q xs)) (tally q xs)
     go true true h l = omega arith
     go true false h l = absurd (let e : false ≡ true = h refl in cc)
     go false true h l = omega arith
@@ -86,7 +91,8 @@ pub reaches_of : (i : Instance) (x y : ℕ) → Steps (IsBelow i) x y → reache
 reaches_of i x y s = (reaches_is i x y).1 (reaches_from_Steps s)
 
 -- a parent reaches fewer
-parent_reaches_fewer : (g : Graph) (i : Instance) → IsLawful g i → (x y : ℕ) → IsBelow i x y → reached_count i y < reached_count i x
+parent_reaches_fewer : (g : Graph) (i : Instance) → IsLawful g i → (x y : ℕ) → IsBelow i x y
+    → reached_count i y < reached_count i x
 unfolding reached_count
 parent_reaches_fewer g i w x y b = tally-lt (reaches i y) (reaches i x) (range_with_len 0 (length i))
     (λ z e. reaches_of i x z (step b (steps_of i y z e)))
@@ -94,7 +100,8 @@ parent_reaches_fewer g i w x y b = tally-lt (reaches i y) (reaches i x) (range_w
     (false_of (reaches i y x) (λ e. no_cycle g i w x (climb b (steps_of i y x e))))
     (reaches_of i x x here)
 
-climbs_to_all : (g : Graph) (i : Instance) → IsInstance i → IsLawful g i → (n x : ℕ) → reached_count i x < n → x < length i → (a : ℕ) × (suc a ≡ length i) × Steps (IsBelow i) x a
+climbs_to_all : (g : Graph) (i : Instance) → IsInstance i → IsLawful g i → (n x : ℕ) → reached_count i x < n
+    → x < length i → (a : ℕ) × (suc a ≡ length i) × Steps (IsBelow i) x a
 climbs_to_all g i v w zero x l h = absurd (omega arith)
 climbs_to_all g i v w (suc n) x l h = elim (ℕ_discrete (category_of i x) 0) [
   | yes e ↦ (x, (v.all_is_last x h).0 e, here)
@@ -104,16 +111,21 @@ climbs_to_all g i v w (suc n) x l h = elim (ℕ_discrete (category_of i x) 0) [
       (u.0, u.1, step t.1 u.2)
 ]
 
-pub reaches_all : (g : Graph) (i : Instance) → IsInstance i → IsLawful g i → (x : ℕ) → x < length i → (a : ℕ) × (suc a ≡ length i) × Steps (IsBelow i) x a
+pub reaches_all : (g : Graph) (i : Instance) → IsInstance i → IsLawful g i → (x : ℕ) → x < length i
+    → (a : ℕ) × (suc a ≡ length i) × Steps (IsBelow i) x a
 reaches_all g i v w x h = climbs_to_all g i v w (suc (reached_count i x)) x (omega arith) h
 
 -- ---- the members above x
 
-pub members_above_is : (i : Instance) (x y : ℕ) → Contains (members_above i x) y → (y < length i) × Steps (IsBelow i) x y
-members_above_is i x y c = let t = Contains-from_filter (reaches i x) (range_with_len 0 (length i)) y c in (Contains-from_range (length i) y t.0, steps_of i x y t.1)
+pub members_above_is : (i : Instance) (x y : ℕ) → Contains (members_above i x) y
+    → (y < length i) × Steps (IsBelow i) x y
+members_above_is i x y c =
+    let t = Contains-from_filter (reaches i x) (range_with_len 0 (length i)) y c in
+    (Contains-from_range (length i) y t.0, steps_of i x y t.1)
 
 pub is_above : (i : Instance) (x y : ℕ) → y < length i → Steps (IsBelow i) x y → Contains (members_above i x) y
-is_above i x y h s = Contains-filter (reaches i x) (range_with_len 0 (length i)) y (reaches_of i x y s) (Contains-range (length i) y h)
+is_above i x y h s =
+    Contains-filter (reaches i x) (range_with_len 0 (length i)) y (reaches_of i x y s) (Contains-range (length i) y h)
 
 range_increases : (n : ℕ) → IsStrictlyIncreasing (range_with_len 0 n)
 range_increases n k h = let l : k + 1 < n = simp length-range_with_len at h in
@@ -126,23 +138,29 @@ place_in_injective xs y z c d e = sym (place_in_is xs y c).1 ∙ ap (λ k. get_o
 
 -- x's member in the part above
 module _ (i : Instance) (x : ℕ) (v : IsInstance i) where
-  at_above : (k : ℕ) → k < length (members_above i x) → member_at (above i x) k ≡ record (member_at i (get_or (members_above i x) k 0)) { parents = map (place_in (members_above i x)) (parents_of i (get_or (members_above i x) k 0)) }
-  at_above k h = get_or-map (λ y. record (member_at i y) { parents = map (place_in (members_above i x)) (parents_of i y) }) (members_above i x) k 0 nobody h
+  at_above : (k : ℕ) → k < length (members_above i x)
+      → member_at (above i x) k ≡ record (member_at i (get_or (members_above i x) k 0)) { parents = map (place_in (members_above i x)) (parents_of i (get_or (members_above i x) k 0)) }
+  at_above k h =
+      get_or-map (λ y. record (member_at i y) { parents = map (place_in (members_above i x)) (parents_of i y) }) (members_above i x) k 0 nobody h
 
   length_above : length (above i x) ≡ length (members_above i x)
-  length_above = length-map (members_above i x) (λ y. record (member_at i y) { parents = map (place_in (members_above i x)) (parents_of i y) })
+  length_above =
+      length-map (members_above i x) (λ y. record (member_at i y) { parents = map (place_in (members_above i x)) (parents_of i y) })
 
   listed : (k : ℕ) → k < length (above i x) → Contains (members_above i x) (get_or (members_above i x) k 0)
   listed k h = Contains-get_or (members_above i x) k 0 (rw (← length_above) h)
 
   closed : (y z : ℕ) → Contains (members_above i x) y → IsBelow i y z → Contains (members_above i x) z
-  closed y z c b = is_above i x z (v.parents_are_members y z b) (Steps-append (members_above_is i x y c).1 (step b here))
+  closed y z c b =
+      is_above i x z (v.parents_are_members y z b) (Steps-append (members_above_is i x y c).1 (step b here))
 
-  parents_above : (k : ℕ) → k < length (above i x) → parents_of (above i x) k ≡ map (place_in (members_above i x)) (parents_of i (get_or (members_above i x) k 0))
+  parents_above : (k : ℕ) → k < length (above i x)
+      → parents_of (above i x) k ≡ map (place_in (members_above i x)) (parents_of i (get_or (members_above i x) k 0))
   parents_above k h = ap (λ m. m.parents) (at_above k (rw (← length_above) h))
 
   -- a parent in the part comes from a parent in the whole
-  from_below : (k l : ℕ) → IsBelow (above i x) k l → (l < length (above i x)) × IsBelow i (get_or (members_above i x) k 0) (get_or (members_above i x) l 0)
+  from_below : (k l : ℕ) → IsBelow (above i x) k l
+      → (l < length (above i x)) × IsBelow i (get_or (members_above i x) k 0) (get_or (members_above i x) l 0)
   from_below k l b =
       let h = below_is_member (above i x) k l b in
       let c : Contains (map (place_in (members_above i x)) (parents_of i (get_or (members_above i x) k 0))) l = subst (λ ps. Contains ps l) (parents_above k h) b in
@@ -150,15 +168,19 @@ module _ (i : Instance) (x : ℕ) (v : IsInstance i) where
       let u = place_in_is (members_above i x) t.0 (closed (get_or (members_above i x) k 0) t.0 (listed k h) t.1) in
       (rw (length_above, ← t.2) u.0, subst (λ y. IsBelow i (get_or (members_above i x) k 0) y) (sym u.1 ∙ ap (λ m. get_or (members_above i x) m 0) t.2) t.1)
 
-  to_above : (k y : ℕ) → k < length (above i x) → IsBelow i (get_or (members_above i x) k 0) y → (l : ℕ) × IsBelow (above i x) k l × (get_or (members_above i x) l 0 ≡ y)
+  to_above : (k y : ℕ) → k < length (above i x) → IsBelow i (get_or (members_above i x) k 0) y
+      → (l : ℕ) × IsBelow (above i x) k l × (get_or (members_above i x) l 0 ≡ y)
   to_above k y h b =
       let u = place_in_is (members_above i x) y (closed (get_or (members_above i x) k 0) y (listed k h) b) in
       (place_in (members_above i x) y, subst (λ ps. Contains ps (place_in (members_above i x) y)) (sym (parents_above k h)) (Contains-map (place_in (members_above i x)) (parents_of i (get_or (members_above i x) k 0)) y b), u.1)
 
-  increasing_above : (k l : ℕ) → k < l → l < length (above i x) → get_or (members_above i x) k 0 < get_or (members_above i x) l 0
-  increasing_above k l a h = AllPairs-from_increasing (members_above i x) (IsStrictlyIncreasing-filter (reaches i x) (range_with_len 0 (length i)) (range_increases (length i))) k l 0 a (rw (← length_above) h)
+  increasing_above : (k l : ℕ) → k < l → l < length (above i x)
+      → get_or (members_above i x) k 0 < get_or (members_above i x) l 0
+  increasing_above k l a h =
+      AllPairs-from_increasing (members_above i x) (IsStrictlyIncreasing-filter (reaches i x) (range_with_len 0 (length i)) (range_increases (length i))) k l 0 a (rw (← length_above) h)
 
-  pub id_above : (k : ℕ) → k < length (above i x) → (member_at (above i x) k).id ≡ (member_at i (get_or (members_above i x) k 0)).id
+  pub id_above : (k : ℕ) → k < length (above i x)
+      → (member_at (above i x) k).id ≡ (member_at i (get_or (members_above i x) k 0)).id
   id_above k h = ap (λ m. m.id) (at_above k (rw (← length_above) h))
 
   pub name_above : (k : ℕ) → k < length (above i x) → name_of (above i x) k ≡ name_of i (get_or (members_above i x) k 0)
@@ -193,7 +215,8 @@ module _ (i : Instance) (x : ℕ) (v : IsInstance i) where
       has_parent j k b h = below_is_member j k (get_or (parents_of j k) b 0) (Contains-get_or (parents_of j k) b 0 h)
 
   -- the member itself stands in the part, at its place
-  pub self_is : x < length i → (self_above i x < length (above i x)) × (get_or (members_above i x) (self_above i x) 0 ≡ x)
+  pub self_is : x < length i
+      → (self_above i x < length (above i x)) × (get_or (members_above i x) (self_above i x) 0 ≡ x)
   self_is h = let t = place_in_is (members_above i x) x (is_above i x x h here) in (rw length_above t.0, t.1)
 
   -- and reaches each member of it
@@ -222,12 +245,14 @@ module _ (i : Instance) (x : ℕ) (v : IsInstance i) where
       parents_differ_above (id_above a ha) (name_above a ha)
     where
       -- `all` is the last of the part, since the places rise
-      last : (a : ℕ) → a < length (above i x) → suc (get_or (members_above i x) a 0) ≡ length i → suc a ≡ length (above i x)
+      last : (a : ℕ) → a < length (above i x) → suc (get_or (members_above i x) a 0) ≡ length i
+          → suc a ≡ length (above i x)
       last a ha q = elim (order (suc a) (length (above i x))) [
         | inl s ↦ s
         | inr s ↦ elim s [
           | inl l ↦ let f : get_or (members_above i x) a 0 < get_or (members_above i x) (suc a) 0 = increasing_above a (suc a) (omega arith) l in
-              let m : get_or (members_above i x) (suc a) 0 < length i = above_is_part.member (suc a) l in absurd (omega arith)
+              let m : get_or (members_above i x) (suc a) 0 < length i = above_is_part.member (suc a) l in
+              absurd (omega arith)
           | inr l ↦ absurd (omega arith)
         ]
       ]

@@ -28,13 +28,16 @@ pub int_max_assoc : (x y z : ℤ) → int_max (int_max x y) z ≡ int_max x (int
 int_max_assoc x y z = grind (arith, ints)
 
 abbrev pub merge : Summary → Summary → Summary
-merge a b = record { count = a.count + b.count; sum = a.sum +ℤ b.sum; least = int_min a.least b.least; greatest = int_max a.greatest b.greatest }
+merge a b =
+    record { count = a.count + b.count; sum = a.sum +ℤ b.sum; least = int_min a.least b.least; greatest = int_max a.greatest b.greatest }
 
 pub merge_comm : (a b : Summary) → merge a b ≡ merge b a
-merge_comm a b = λ i. record { count = add_comm a.count b.count i; sum = +ℤ_comm a.sum b.sum i; least = int_min_comm a.least b.least i; greatest = int_max_comm a.greatest b.greatest i }
+merge_comm a b =
+    λ i. record { count = add_comm a.count b.count i; sum = +ℤ_comm a.sum b.sum i; least = int_min_comm a.least b.least i; greatest = int_max_comm a.greatest b.greatest i }
 
 pub merge_assoc : (a b c : Summary) → merge (merge a b) c ≡ merge a (merge b c)
-merge_assoc a b c = λ i. record { count = add_assoc a.count b.count c.count i; sum = +ℤ_assoc a.sum b.sum c.sum i; least = int_min_assoc a.least b.least c.least i; greatest = int_max_assoc a.greatest b.greatest c.greatest i }
+merge_assoc a b c =
+    λ i. record { count = add_assoc a.count b.count c.count i; sum = +ℤ_assoc a.sum b.sum c.sum i; least = int_min_assoc a.least b.least c.least i; greatest = int_max_assoc a.greatest b.greatest c.greatest i }
 
 -- ---- perhaps a summary: none of no values
 
@@ -65,7 +68,8 @@ abbrev pub total : {A : Type 0} → (A → Option Summary) → List A → Option
 total f [] = None
 total f (x ∷ xs) = f x ⊕ total f xs
 
-pub total_same : {A : Type 0} (f g : A → Option Summary) (xs : List A) → ((x : A) → Contains xs x → f x ≡ g x) → total f xs ≡ total g xs
+pub total_same : {A : Type 0} (f g : A → Option Summary) (xs : List A) → ((x : A) → Contains xs x → f x ≡ g x)
+    → total f xs ≡ total g xs
 total_same f g [] h = refl
 total_same f g (x ∷ xs) h = cc (h x (contains_head x xs), total_same f g xs (λ y c. h y (contains_cons y xs x c)))
 
@@ -77,15 +81,18 @@ pub total-append : {A : Type 0} (f : A → Option Summary) (xs ys : List A) → 
 total-append f [] ys = refl
 total-append f (x ∷ xs) ys = ap (λ t. f x ⊕ t) (total-append f xs ys) ∙ sym (⊕_assoc (f x) (total f xs) (total f ys))
 
-pub total-map : {A B : Type 0} (f : B → Option Summary) (g : A → B) (xs : List A) → total f (map g xs) ≡ total (λ x. f (g x)) xs
+pub total-map : {A B : Type 0} (f : B → Option Summary) (g : A → B) (xs : List A)
+    → total f (map g xs) ≡ total (λ x. f (g x)) xs
 total-map f g [] = refl
 total-map f g (x ∷ xs) = ap (λ t. f (g x) ⊕ t) (total-map f g xs)
 
-pub total-flat_map : {A B : Type 0} (f : B → Option Summary) (g : A → List B) (xs : List A) → total f (flat_map g xs) ≡ total (λ x. total f (g x)) xs
+pub total-flat_map : {A B : Type 0} (f : B → Option Summary) (g : A → List B) (xs : List A)
+    → total f (flat_map g xs) ≡ total (λ x. total f (g x)) xs
 total-flat_map f g [] = refl
 total-flat_map f g (x ∷ xs) = total-append f (g x) (flat_map g xs) ∙ ap (λ t. total f (g x) ⊕ t) (total-flat_map f g xs)
 
-pub total-filter : {A : Type 0} (f : A → Option Summary) (p : A → Bool) (xs : List A) → total f (filter p xs) ≡ total (λ x. cond (p x) (f x) None) xs
+pub total-filter : {A : Type 0} (f : A → Option Summary) (p : A → Bool) (xs : List A)
+    → total f (filter p xs) ≡ total (λ x. cond (p x) (f x) None) xs
 total-filter f p [] = refl
 total-filter {A} f p (x ∷ xs) = go (p x) ∙ ap (λ t. cond (p x) (f x) None ⊕ t) (total-filter f p xs)
   where
@@ -98,7 +105,8 @@ abbrev pub of_some : {A : Type 0} → (A → Option Summary) → Option A → Op
 of_some f None = None
 of_some f (Some x) = f x
 
-pub total-filter_map : {A B : Type 0} (f : B → Option Summary) (h : A → Option B) (xs : List A) → total f (filter_map h xs) ≡ total (λ x. of_some f (h x)) xs
+pub total-filter_map : {A B : Type 0} (f : B → Option Summary) (h : A → Option B) (xs : List A)
+    → total f (filter_map h xs) ≡ total (λ x. of_some f (h x)) xs
 total-filter_map f h [] = refl
 total-filter_map {A} {B} f h (x ∷ xs) = go (h x) ∙ ap (λ t. of_some f (h x) ⊕ t) (total-filter_map f h xs)
   where
@@ -107,17 +115,23 @@ total-filter_map {A} {B} f h (x ∷ xs) = go (h x) ∙ ap (λ t. of_some f (h x)
     go (Some y) = refl
 
 swapped : (a b c d : Option Summary) → (a ⊕ b) ⊕ (c ⊕ d) ≡ (a ⊕ c) ⊕ (b ⊕ d)
-swapped a b c d = ⊕_assoc a b (c ⊕ d) ∙ ap (λ t. a ⊕ t) (sym (⊕_assoc b c d) ∙ ap (λ t. t ⊕ d) (⊕_comm b c) ∙ ⊕_assoc c b d) ∙ sym (⊕_assoc a c (b ⊕ d))
+swapped a b c d =
+    ⊕_assoc a b (c ⊕ d) ∙ ap (λ t. a ⊕ t) (sym (⊕_assoc b c d) ∙ ap (λ t. t ⊕ d) (⊕_comm b c) ∙ ⊕_assoc c b d)
+        ∙ sym (⊕_assoc a c (b ⊕ d))
 
-pub total_both : {A : Type 0} (f g : A → Option Summary) (xs : List A) → total (λ x. f x ⊕ g x) xs ≡ total f xs ⊕ total g xs
+pub total_both : {A : Type 0} (f g : A → Option Summary) (xs : List A)
+    → total (λ x. f x ⊕ g x) xs ≡ total f xs ⊕ total g xs
 total_both f g [] = refl
 total_both f g (x ∷ xs) = ap (λ t. (f x ⊕ g x) ⊕ t) (total_both f g xs) ∙ swapped (f x) (g x) (total f xs) (total g xs)
 
 -- the order of two totals
-pub total_swap : {A B : Type 0} (m : A → B → Option Summary) (xs : List A) (ys : List B) → total (λ x. total (m x) ys) xs ≡ total (λ y. total (λ x. m x y) xs) ys
+pub total_swap : {A B : Type 0} (m : A → B → Option Summary) (xs : List A) (ys : List B)
+    → total (λ x. total (m x) ys) xs ≡ total (λ y. total (λ x. m x y) xs) ys
 total_swap {A} {B} m [] ys = sym (total_nothing ys)
-total_swap m (x ∷ xs) ys = ap (λ t. total (m x) ys ⊕ t) (total_swap m xs ys) ∙ sym (total_both (m x) (λ y. total (λ z. m z y) xs) ys)
+total_swap m (x ∷ xs) ys =
+    ap (λ t. total (m x) ys ⊕ t) (total_swap m xs ys) ∙ sym (total_both (m x) (λ y. total (λ z. m z y) xs) ys)
 
-pub total_when : {A : Type 0} (b : Bool) (f : A → Option Summary) (xs : List A) → cond b (total f xs) None ≡ total (λ x. cond b (f x) None) xs
+pub total_when : {A : Type 0} (b : Bool) (f : A → Option Summary) (xs : List A)
+    → cond b (total f xs) None ≡ total (λ x. cond b (f x) None) xs
 total_when true f xs = refl
 total_when false f xs = sym (total_nothing xs)

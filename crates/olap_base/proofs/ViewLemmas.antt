@@ -30,11 +30,13 @@ as_row y (Some s) = Some (row y s)
 abbrev summary : Row → Option Summary
 summary r = Some (record { count = r.count; sum = r.sum; least = r.least; greatest = r.greatest })
 
-fold_moves : (f : ℤ → ℤ → ℤ) → ((a b c : ℤ) → f (f a b) c ≡ f a (f b c)) → (a b : ℤ) (xs : List ℤ) → f a (fold f b xs) ≡ fold f (f a b) xs
+fold_moves : (f : ℤ → ℤ → ℤ) → ((a b c : ℤ) → f (f a b) c ≡ f a (f b c)) → (a b : ℤ) (xs : List ℤ)
+    → f a (fold f b xs) ≡ fold f (f a b) xs
 fold_moves f assoc a b [] = refl
 fold_moves f assoc a b (x ∷ xs) = fold_moves f assoc a (f b x) xs ∙ ap (λ t. fold f t xs) (sym (assoc a b x))
 
-total_of_values : (v : ℤ) (vs : List ℤ) → total single (v ∷ vs) ≡ Some (record { count = length (v ∷ vs); sum = fold ◌+ℤ◌ v vs; least = fold int_min v vs; greatest = fold int_max v vs })
+total_of_values : (v : ℤ) (vs : List ℤ)
+    → total single (v ∷ vs) ≡ Some (record { count = length (v ∷ vs); sum = fold ◌+ℤ◌ v vs; least = fold int_min v vs; greatest = fold int_max v vs })
 total_of_values v [] = refl
 total_of_values v (w ∷ ws) = ap (λ t. single v ⊕ t) (total_of_values w ws)
     ∙ (λ i. Some (record { count = one-add (length (w ∷ ws)) i; sum = fold_moves ◌+ℤ◌ +ℤ_assoc v w ws i; least = fold_moves int_min int_min_assoc v w ws i; greatest = fold_moves int_max int_max_assoc v w ws i }))
@@ -43,8 +45,10 @@ direct_row_is : (y : ℕ) (vs : List ℤ) → direct_row y vs ≡ as_row y (tota
 direct_row_is y [] = refl
 direct_row_is y (v ∷ vs) = ap (as_row y) (sym (total_of_values v vs))
 
-total_of_rows : (r : Row) (rs : List Row) → total summary (r ∷ rs) ≡ Some (record { count = sum_by (λ q. q.count) (r ∷ rs); sum = fold ◌+ℤ◌ r.sum (map (λ q. q.sum) rs); least = fold int_min r.least (map (λ q. q.least) rs); greatest = fold int_max r.greatest (map (λ q. q.greatest) rs) })
-total_of_rows r [] = λ i. Some (record { count = zero_plus r.count i; sum = r.sum; least = r.least; greatest = r.greatest })
+total_of_rows : (r : Row) (rs : List Row)
+    → total summary (r ∷ rs) ≡ Some (record { count = sum_by (λ q. q.count) (r ∷ rs); sum = fold ◌+ℤ◌ r.sum (map (λ q. q.sum) rs); least = fold int_min r.least (map (λ q. q.least) rs); greatest = fold int_max r.greatest (map (λ q. q.greatest) rs) })
+total_of_rows r [] =
+    λ i. Some (record { count = zero_plus r.count i; sum = r.sum; least = r.least; greatest = r.greatest })
   where
     zero_plus : (n : ℕ) → n ≡ 0 + n
     zero_plus n = omega arith
@@ -67,7 +71,9 @@ module _ (i : Instance) where
 
   values_total : (facts : List Fact) (y : ℕ) → total single (values_at i facts y) ≡ total (value_if y) facts
   unfolding value_if
-  values_total facts y = total-map single (λ (f : Fact). f.value) (filter (λ (f : Fact). reaches i f.member y) facts) ∙ total-filter (λ (f : Fact). single f.value) (λ (f : Fact). reaches i f.member y) facts
+  values_total facts y =
+      total-map single (λ (f : Fact). f.value) (filter (λ (f : Fact). reaches i f.member y) facts)
+          ∙ total-filter (λ (f : Fact). single f.value) (λ (f : Fact). reaches i f.member y) facts
 
   -- a row's summary, where its member reaches y
   row_if : ℕ → Row → Option Summary
@@ -86,14 +92,16 @@ module _ (i : Instance) where
   value_by : ℕ → ℕ → Fact → Option Summary
   value_by y z f = cond (reaches i z y) (value_if z f) None
 
-  source_total : (facts : List Fact) (y s : ℕ) → total (row_if y) (direct_rows i s facts) ≡ total (λ z. total (value_by y z) facts) (members_of i s)
+  source_total : (facts : List Fact) (y s : ℕ)
+      → total (row_if y) (direct_rows i s facts) ≡ total (λ z. total (value_by y z) facts) (members_of i s)
   unfolding value_by
   source_total facts y s = total-filter_map (row_if y) (λ z. direct_row z (values_at i facts z)) (members_of i s)
       ∙ total_same (λ z. of_some (row_if y) (direct_row z (values_at i facts z))) (λ z. total (value_by y z) facts) (members_of i s)
       (λ z c. ap (of_some (row_if y)) (direct_row_is z (values_at i facts z)) ∙ row_of_source y z (total single (values_at i facts z))
       ∙ ap (λ t. cond (reaches i z y) t None) (values_total facts z) ∙ total_when (reaches i z y) (value_if z) facts)
 
-  rows_total : (facts : List Fact) (sources : List ℕ) (y : ℕ) → total summary (rows_below i (direct_views i facts sources) y) ≡ total (λ f. total (λ s. total (λ z. value_by y z f) (members_of i s)) sources) facts
+  rows_total : (facts : List Fact) (sources : List ℕ) (y : ℕ)
+      → total summary (rows_below i (direct_views i facts sources) y) ≡ total (λ f. total (λ s. total (λ z. value_by y z f) (members_of i s)) sources) facts
   unfolding row_if
   rows_total facts sources y = total-filter summary (λ (r : Row). reaches i r.member y) (flat_map (λ (v : View). v.rows) (direct_views i facts sources))
       ∙ total-flat_map (row_if y) (λ (v : View). v.rows) (direct_views i facts sources)
@@ -109,31 +117,40 @@ nothing_if true m e = absurd (cc)
 nothing_if false m e = refl
 
 -- where at most one passes
-total_once : (p : ℕ → Bool) (m : Option Summary) (xs : List ℕ) → Distinct xs → ((x y : ℕ) → Contains xs x → Contains xs y → p x ≡ true → p y ≡ true → x ≡ y) → total (λ x. cond (p x) m None) xs ≡ cond (list_any p xs) m None
+total_once : (p : ℕ → Bool) (m : Option Summary) (xs : List ℕ) → Distinct xs
+    → ((x y : ℕ) → Contains xs x → Contains xs y → p x ≡ true → p y ≡ true → x ≡ y)
+    → total (λ x. cond (p x) m None) xs ≡ cond (list_any p xs) m None
 total_once p m [] a h = refl
-total_once p m (x ∷ xs) a h = go (p x) refl (total_once p m xs a.1 (λ y z c d. h y z (contains_cons y xs x c) (contains_cons z xs x d)))
+total_once p m (x ∷ xs) a h =
+    go (p x) refl (total_once p m xs a.1 (λ y z c d. h y z (contains_cons y xs x c) (contains_cons z xs x d)))
   where
     fails : (b : Bool) → (b ≡ true → ⊥) → b ≡ false
     fails true f = absurd (f refl)
     fails false f = refl
 
     none : p x ≡ true → (y : ℕ) → Contains xs y → cond (p y) m None ≡ None
-    none e y c = nothing_if (p y) m (fails (p y) (λ q. a.0 (subst (λ w. Contains xs w) (h y x (contains_cons y xs x c) (contains_head x xs) q e) c)))
+    none e y c =
+        nothing_if (p y) m (fails (p y) (λ q. a.0 (subst (λ w. Contains xs w) (h y x (contains_cons y xs x c) (contains_head x xs) q e) c)))
 
-    go : (b : Bool) → p x ≡ b → total (λ z. cond (p z) m None) xs ≡ cond (list_any p xs) m None → cond b m None ⊕ total (λ z. cond (p z) m None) xs ≡ cond (b || list_any p xs) m None
-    go true e ih = ap (λ t. m ⊕ t) (total_same (λ z. cond (p z) m None) (λ z. None) xs (none e) ∙ total_nothing xs) ∙ ⊕_none m
+    go : (b : Bool) → p x ≡ b → total (λ z. cond (p z) m None) xs ≡ cond (list_any p xs) m None
+        → cond b m None ⊕ total (λ z. cond (p z) m None) xs ≡ cond (b || list_any p xs) m None
+    go true e ih =
+        ap (λ t. m ⊕ t) (total_same (λ z. cond (p z) m None) (λ z. None) xs (none e) ∙ total_nothing xs) ∙ ⊕_none m
     go false e ih = ih
 
 -- where exactly one holds
-total_none_of : (P : ℕ → Type 0) (p : ℕ → Bool) → ((x : ℕ) → IsTrue (p x) ↔ P x) → (m : Option Summary) (xs : List ℕ) → NoneOf P xs → total (λ x. cond (p x) m None) xs ≡ None
+total_none_of : (P : ℕ → Type 0) (p : ℕ → Bool) → ((x : ℕ) → IsTrue (p x) ↔ P x)
+    → (m : Option Summary) (xs : List ℕ) → NoneOf P xs → total (λ x. cond (p x) m None) xs ≡ None
 total_none_of P p d m [] n = refl
 total_none_of P p d m (x ∷ xs) n = go (p x) (λ e. n.0 ((d x).0 e)) ∙ total_none_of P p d m xs n.1
   where
-    go : (b : Bool) → (b ≡ true → ⊥) → cond b m None ⊕ total (λ z. cond (p z) m None) xs ≡ total (λ z. cond (p z) m None) xs
+    go : (b : Bool) → (b ≡ true → ⊥)
+        → cond b m None ⊕ total (λ z. cond (p z) m None) xs ≡ total (λ z. cond (p z) m None) xs
     go true f = absurd (f refl)
     go false f = refl
 
-total_exactly_one : (P : ℕ → Type 0) (p : ℕ → Bool) → ((x : ℕ) → IsTrue (p x) ↔ P x) → (m : Option Summary) (xs : List ℕ) → ExactlyOne P xs → total (λ x. cond (p x) m None) xs ≡ m
+total_exactly_one : (P : ℕ → Type 0) (p : ℕ → Bool) → ((x : ℕ) → IsTrue (p x) ↔ P x)
+    → (m : Option Summary) (xs : List ℕ) → ExactlyOne P xs → total (λ x. cond (p x) m None) xs ≡ m
 total_exactly_one P p d m [] o = absurd o
 total_exactly_one P p d m (x ∷ xs) (inl o) = go (p x) ((d x).1 o.0)
   where
@@ -142,7 +159,8 @@ total_exactly_one P p d m (x ∷ xs) (inl o) = go (p x) ((d x).1 o.0)
     go false f = absurd (cc)
 total_exactly_one P p d m (x ∷ xs) (inr o) = go (p x) (λ e. o.0 ((d x).0 e)) ∙ total_exactly_one P p d m xs o.1
   where
-    go : (b : Bool) → (b ≡ true → ⊥) → cond b m None ⊕ total (λ z. cond (p z) m None) xs ≡ total (λ z. cond (p z) m None) xs
+    go : (b : Bool) → (b ≡ true → ⊥)
+        → cond b m None ⊕ total (λ z. cond (p z) m None) xs ≡ total (λ z. cond (p z) m None) xs
     go true f = absurd (f refl)
     go false f = refl
 
@@ -153,19 +171,23 @@ when_both true b m = refl
 when_both false b m = refl
 
 members_of_is : (i : Instance) (c y : ℕ) → Contains (members_of i c) y → IsMemberOf i c y
-members_of_is i c y h = let t = Contains-from_filter (λ z. category_of i z == c) (range_with_len 0 (length i)) y h in (Contains-from_range (length i) y t.0, same (category_of i y) c t.1)
+members_of_is i c y h =
+    let t = Contains-from_filter (λ z. category_of i z == c) (range_with_len 0 (length i)) y h in
+    (Contains-from_range (length i) y t.0, same (category_of i y) c t.1)
   where
     same : (a b : ℕ) → a == b ≡ true → a ≡ b
     same a b e = grind (arith, nat_tests)
 
 is_member_of : (i : Instance) (c y : ℕ) → IsMemberOf i c y → Contains (members_of i c) y
-is_member_of i c y m = Contains-filter (λ z. category_of i z == c) (range_with_len 0 (length i)) y (same (category_of i y) c m.1) (Contains-range (length i) y m.0)
+is_member_of i c y m =
+    Contains-filter (λ z. category_of i z == c) (range_with_len 0 (length i)) y (same (category_of i y) c m.1) (Contains-range (length i) y m.0)
   where
     same : (a b : ℕ) → a ≡ b → a == b ≡ true
     same a b e = grind (arith, nat_tests)
 
 Distinct-members_of : (i : Instance) (c : ℕ) → Distinct (members_of i c)
-Distinct-members_of i c = Distinct-filter (λ z. category_of i z == c) (range_with_len 0 (length i)) (Distinct-range 0 (length i))
+Distinct-members_of i c =
+    Distinct-filter (λ z. category_of i z == c) (range_with_len 0 (length i)) (Distinct-range 0 (length i))
 
 module _ (g : Graph) (i : Instance) (w : IsLawful g i) (c y : ℕ) (m : IsMemberOf i c y) where
   -- x reaches y by way of a member of s
@@ -196,7 +218,8 @@ module _ (g : Graph) (i : Instance) (w : IsLawful g i) (c y : ℕ) (m : IsMember
               (reached_once g i w x u y (Steps-append (Steps-from_reaches a) (Steps-from_reaches b)) (steps_of i x y r) (k.1 ∙ sym m.1)) (Steps-from_reaches b)
 
   -- a source has one member by which x reaches y, at most
-  one_by_source : (x s : ℕ) (v : Option Summary) → total (λ z. cond (reaches i z y) (cond (reaches i x z) v None) None) (members_of i s) ≡ cond (by_source x s) v None
+  one_by_source : (x s : ℕ) (v : Option Summary)
+      → total (λ z. cond (reaches i z y) (cond (reaches i x z) v None) None) (members_of i s) ≡ cond (by_source x s) v None
   unfolding by_source
   one_by_source x s v = total_same (λ z. cond (reaches i z y) (cond (reaches i x z) v None) None) (λ z. cond (reaches i z y && reaches i x z) v None) (members_of i s) (λ z k. when_both (reaches i z y) (reaches i x z) v)
       ∙ once
@@ -207,15 +230,20 @@ module _ (g : Graph) (i : Instance) (w : IsLawful g i) (c y : ℕ) (m : IsMember
           ((members_of_is i s a k).1 ∙ sym (members_of_is i s b l).1))
 
   -- what a fact adds to the row of y, by way of the sources
-  by_sources : (sources : List ℕ) (f : Fact) → (reaches i f.member y ≡ true → ExactlyOne (λ s. ReachesVia i f.member s c) sources)
+  by_sources : (sources : List ℕ) (f : Fact)
+      → (reaches i f.member y ≡ true → ExactlyOne (λ s. ReachesVia i f.member s c) sources)
       → total (λ s. total (λ z. value_by i y z f) (members_of i s)) sources ≡ value_if i y f
   unfolding value_by value_if by_source
   by_sources sources f one = total_same (λ s. total (λ z. value_by i y z f) (members_of i s)) (λ s. cond (by_source f.member s) (single f.value) None) sources (λ s k. one_by_source f.member s (single f.value))
       ∙ go (reaches i f.member y) refl
     where
-      go : (b : Bool) → reaches i f.member y ≡ b → total (λ s. cond (by_source f.member s) (single f.value) None) sources ≡ cond b (single f.value) None
-      go true e = total_exactly_one (λ s. ReachesVia i f.member s c) (by_source f.member) (by_source_is f.member e) (single f.value) sources (one e)
-      go false e = total_same (λ s. cond (by_source f.member s) (single f.value) None) (λ s. None) sources (λ s k. nothing_if (by_source f.member s) (single f.value) (none s)) ∙ total_nothing sources
+      go : (b : Bool) → reaches i f.member y ≡ b
+          → total (λ s. cond (by_source f.member s) (single f.value) None) sources ≡ cond b (single f.value) None
+      go true e =
+          total_exactly_one (λ s. ReachesVia i f.member s c) (by_source f.member) (by_source_is f.member e) (single f.value) sources (one e)
+      go false e =
+          total_same (λ s. cond (by_source f.member s) (single f.value) None) (λ s. None) sources (λ s k. nothing_if (by_source f.member s) (single f.value) (none s))
+              ∙ total_nothing sources
         where
           fails : (b : Bool) → (b ≡ true → ⊥) → b ≡ false
           fails true h = absurd (h refl)
@@ -230,11 +258,15 @@ module _ (g : Graph) (i : Instance) (w : IsLawful g i) (c y : ℕ) (m : IsMember
 
 -- ---- the two views agree where each fact's member is reached by one source
 
-filter_map_same : {A B : Type 0} (h k : A → Option B) (xs : List A) → ((x : A) → Contains xs x → h x ≡ k x) → filter_map h xs ≡ filter_map k xs
+filter_map_same : {A B : Type 0} (h k : A → Option B) (xs : List A) → ((x : A) → Contains xs x → h x ≡ k x)
+    → filter_map h xs ≡ filter_map k xs
 filter_map_same h k [] f = refl
-filter_map_same h k (x ∷ xs) f = ap (λ o. cons_option o (filter_map h xs)) (f x (contains_head x xs)) ∙ ap (cons_option (k x)) (filter_map_same h k xs (λ y c. f y (contains_cons y xs x c)))
+filter_map_same h k (x ∷ xs) f =
+    ap (λ o. cons_option o (filter_map h xs)) (f x (contains_head x xs))
+        ∙ ap (cons_option (k x)) (filter_map_same h k xs (λ y c. f y (contains_cons y xs x c)))
 
-agree : (g : Graph) (i : Instance) (c : ℕ) (sources : List ℕ) → IsLawful g i → ReachedByOne g i c sources → ViewsAgree g i c sources
+agree : (g : Graph) (i : Instance) (c : ℕ) (sources : List ℕ) → IsLawful g i → ReachedByOne g i c sources
+    → ViewsAgree g i c sources
 agree g i c sources w one facts t = filter_map_same (λ y. direct_row y (values_at i facts y)) (λ y. merged_row y (rows_below i (direct_views i facts sources) y)) (members_of i c)
     (λ y k. direct_row_is y (values_at i facts y)
     ∙ ap (as_row y) (values_total i facts y
@@ -255,11 +287,14 @@ eqb_is a b e = grind (arith, nat_tests)
 
 module _ (h : ℕ → Option Row) (keyed : (z : ℕ) (r : Row) → h z ≡ Some r → r.member ≡ z) (y : ℕ) where
   -- at the row of x
-  find_here : (x : ℕ) (o : Option Row) → h x ≡ o → (rest : Option Row) → ((rest ≡ None) ⊎ (rest ≡ h y)) → (rows : List Row) → find_row y rows ≡ rest → (find_row y (cons_option o rows) ≡ None) ⊎ (find_row y (cons_option o rows) ≡ h y)
+  find_here : (x : ℕ) (o : Option Row) → h x ≡ o → (rest : Option Row) → ((rest ≡ None) ⊎ (rest ≡ h y))
+      → (rows : List Row) → find_row y rows ≡ rest
+      → (find_row y (cons_option o rows) ≡ None) ⊎ (find_row y (cons_option o rows) ≡ h y)
   find_here x None e rest s rows q = elim s [ inl a ↦ inl (q ∙ a) | inr a ↦ inr (q ∙ a) ]
   find_here x (Some r) e rest s rows q = go (r.member == y) refl
     where
-      go : (b : Bool) → (r.member == y) ≡ b → (cond b (Some r) (find_row y rows) ≡ None) ⊎ (cond b (Some r) (find_row y rows) ≡ h y)
+      go : (b : Bool) → (r.member == y) ≡ b
+          → (cond b (Some r) (find_row y rows) ≡ None) ⊎ (cond b (Some r) (find_row y rows) ≡ h y)
       go true t = inr (sym e ∙ ap h (sym (keyed x r e) ∙ eqb_is r.member y t))
       go false t = elim s [ inl a ↦ inl (q ∙ a) | inr a ↦ inr (q ∙ a) ]
 
@@ -269,20 +304,25 @@ module _ (h : ℕ → Option Row) (keyed : (z : ℕ) (r : Row) → h z ≡ Some 
 
   find_it : (xs : List ℕ) → Contains xs y → find_row y (filter_map h xs) ≡ h y
   find_it [] c = absurd (Contains-nil y c)
-  find_it (x ∷ xs) c = elim (contains_cases y x xs c) [ inl e ↦ at (h x) refl e (find_any xs) | inr d ↦ past (h x) refl (find_it xs d) ]
+  find_it (x ∷ xs) c =
+      elim (contains_cases y x xs c) [ inl e ↦ at (h x) refl e (find_any xs) | inr d ↦ past (h x) refl (find_it xs d) ]
     where
-      test : (r : Row) → h x ≡ Some r → x ≡ y → (b : Bool) → (r.member == y) ≡ b → cond b (Some r) (find_row y (filter_map h xs)) ≡ h y
+      test : (r : Row) → h x ≡ Some r → x ≡ y → (b : Bool) → (r.member == y) ≡ b
+          → cond b (Some r) (find_row y (filter_map h xs)) ≡ h y
       test r e q true t = sym e ∙ ap h q
       test r e q false t = absurd (let z : true ≡ false = sym (same r.member y (keyed x r e ∙ q)) ∙ t in cc)
         where
           same : (a b : ℕ) → a ≡ b → a == b ≡ true
           same a b n = grind (arith, nat_tests)
 
-      at : (o : Option Row) → h x ≡ o → x ≡ y → (find_row y (filter_map h xs) ≡ None) ⊎ (find_row y (filter_map h xs) ≡ h y) → find_row y (cons_option o (filter_map h xs)) ≡ h y
+      at : (o : Option Row) → h x ≡ o → x ≡ y
+          → (find_row y (filter_map h xs) ≡ None) ⊎ (find_row y (filter_map h xs) ≡ h y)
+          → find_row y (cons_option o (filter_map h xs)) ≡ h y
       at None e q s = elim s [ inl a ↦ a ∙ sym e ∙ ap h q | inr a ↦ a ]
       at (Some r) e q s = test r e q (r.member == y) refl
 
-      past : (o : Option Row) → h x ≡ o → find_row y (filter_map h xs) ≡ h y → find_row y (cons_option o (filter_map h xs)) ≡ h y
+      past : (o : Option Row) → h x ≡ o → find_row y (filter_map h xs) ≡ h y
+          → find_row y (cons_option o (filter_map h xs)) ≡ h y
       past None e q = q
       past (Some r) e q = go (r.member == y) refl
         where
@@ -321,18 +361,22 @@ count-⊕ (Some a) (Some b) = refl
 module _ (P : ℕ → Type 0) (p : ℕ → Bool) (d : (x : ℕ) → IsTrue (p x) ↔ P x) (v : ℤ) where
   none_from_count : (xs : List ℕ) → count (total (λ x. cond (p x) (single v) None) xs) ≡ 0 → NoneOf P xs
   none_from_count [] e = tt
-  none_from_count (x ∷ xs) e = go (p x) (d x) (count-⊕ (cond (p x) (single v) None) (total (λ z. cond (p z) (single v) None) xs)) (none_from_count xs)
+  none_from_count (x ∷ xs) e =
+      go (p x) (d x) (count-⊕ (cond (p x) (single v) None) (total (λ z. cond (p z) (single v) None) xs)) (none_from_count xs)
     where
-      go : (b : Bool) → IsTrue b ↔ P x → count (cond (p x) (single v) None ⊕ total (λ z. cond (p z) (single v) None) xs) ≡ count (cond b (single v) None) + count (total (λ z. cond (p z) (single v) None) xs)
+      go : (b : Bool) → IsTrue b ↔ P x
+          → count (cond (p x) (single v) None ⊕ total (λ z. cond (p z) (single v) None) xs) ≡ count (cond b (single v) None) + count (total (λ z. cond (p z) (single v) None) xs)
           → (count (total (λ z. cond (p z) (single v) None) xs) ≡ 0 → NoneOf P xs) → (P x → ⊥) × NoneOf P xs
       go true i c ih = absurd (omega arith)
       go false i c ih = (λ q. let z = i.1 q in cc, ih (omega arith))
 
   one_from_count : (xs : List ℕ) → count (total (λ x. cond (p x) (single v) None) xs) ≡ 1 → ExactlyOne P xs
   one_from_count [] e = absurd (omega arith)
-  one_from_count (x ∷ xs) e = go (p x) (d x) (count-⊕ (cond (p x) (single v) None) (total (λ z. cond (p z) (single v) None) xs)) (none_from_count xs) (one_from_count xs)
+  one_from_count (x ∷ xs) e =
+      go (p x) (d x) (count-⊕ (cond (p x) (single v) None) (total (λ z. cond (p z) (single v) None) xs)) (none_from_count xs) (one_from_count xs)
     where
-      go : (b : Bool) → IsTrue b ↔ P x → count (cond (p x) (single v) None ⊕ total (λ z. cond (p z) (single v) None) xs) ≡ count (cond b (single v) None) + count (total (λ z. cond (p z) (single v) None) xs)
+      go : (b : Bool) → IsTrue b ↔ P x
+          → count (cond (p x) (single v) None ⊕ total (λ z. cond (p z) (single v) None) xs) ≡ count (cond b (single v) None) + count (total (λ z. cond (p z) (single v) None) xs)
           → (count (total (λ z. cond (p z) (single v) None) xs) ≡ 0 → NoneOf P xs) → (count (total (λ z. cond (p z) (single v) None) xs) ≡ 1 → ExactlyOne P xs)
           → (P x × NoneOf P xs) ⊎ ((P x → ⊥) × ExactlyOne P xs)
       go true i c none ih = inl (i.0 refl, none (omega arith))
@@ -346,9 +390,11 @@ row_count_is : (y : ℕ) (o : Option Summary) → row_count (as_row y o) ≡ cou
 row_count_is y None = refl
 row_count_is y (Some s) = refl
 
-only : (g : Graph) (i : Instance) (c : ℕ) (sources : List ℕ) → IsLawful g i → ViewsAgree g i c sources → ReachedByOne g i c sources
+only : (g : Graph) (i : Instance) (c : ℕ) (sources : List ℕ) → IsLawful g i → ViewsAgree g i c sources
+    → ReachedByOne g i c sources
 unfolding value_by value_if
-only g i c sources w agrees x h b (y, m, r) = one_from_count (λ s. ReachesVia i x s c) (by_source g i w c y m x) (by_source_is g i w c y m x r') (pos 1) sources counted
+only g i c sources w agrees x h b (y, m, r) =
+    one_from_count (λ s. ReachesVia i x s c) (by_source g i w c y m x) (by_source_is g i w c y m x r') (pos 1) sources counted
   where
     r' : reaches i x y ≡ true
     r' = (reaches_is i x y).1 r
@@ -357,7 +403,8 @@ only g i c sources w agrees x h b (y, m, r) = one_from_count (λ s. ReachesVia i
     f = record { member = x; value = pos 1 }
 
     alone : (q : Fact) → Contains (f ∷ []) q → IsMember i q.member × IsBottom g (category_of i q.member)
-    alone q k = elim (contains_cases q f [] k) [ inl e ↦ subst (λ (p : Fact). IsMember i p.member × IsBottom g (category_of i p.member)) e (h, b) | inr n ↦ absurd (Contains-nil q n) ]
+    alone q k =
+        elim (contains_cases q f [] k) [ inl e ↦ subst (λ (p : Fact). IsMember i p.member × IsBottom g (category_of i p.member)) e (h, b) | inr n ↦ absurd (Contains-nil q n) ]
 
     rows : direct_row y (values_at i (f ∷ []) y) ≡ merged_row y (rows_below i (direct_views i (f ∷ []) sources) y)
     rows = sym (find_it (λ z. direct_row z (values_at i (f ∷ []) z)) (λ z q e. direct_row_keyed z (values_at i (f ∷ []) z) q e) y (members_of i c) (is_member_of i c y m))
@@ -365,7 +412,10 @@ only g i c sources w agrees x h b (y, m, r) = one_from_count (λ s. ReachesVia i
         ∙ find_it (λ z. merged_row z (rows_below i (direct_views i (f ∷ []) sources) z)) (λ z q e. merged_row_keyed z (rows_below i (direct_views i (f ∷ []) sources) z) q e) y (members_of i c) (is_member_of i c y m)
 
     direct_count : row_count (direct_row y (values_at i (f ∷ []) y)) ≡ 1
-    direct_count = ap row_count (direct_row_is y (values_at i (f ∷ []) y)) ∙ row_count_is y (total single (values_at i (f ∷ []) y)) ∙ ap count (values_total i (f ∷ []) y) ∙ seen (reaches i x y) r'
+    direct_count =
+        ap row_count (direct_row_is y (values_at i (f ∷ []) y))
+            ∙ row_count_is y (total single (values_at i (f ∷ []) y)) ∙ ap count (values_total i (f ∷ []) y)
+            ∙ seen (reaches i x y) r'
       where
         seen : (t : Bool) → t ≡ true → count (cond t (single (pos 1)) None ⊕ None) ≡ 1
         seen true e = refl

@@ -10,7 +10,8 @@ use Rattle.olap_grammar.specs.Grammar.{Atoms, level, left_level, right_level, jo
 use Rattle.olap_grammar.specs.Machine.{trees, Frame, Negation, Left, Bracket, Listing, Part, State, Wants, WantsPart, Named, Has, settled, list_closed, after, step, alone, ended, formula_read}
 use Rattle.olap_grammar.proofs.Levels.{row, apart}
 
-pub fold-append : {A B : Type 0} (f : B → A → B) (b : B) (xs ys : List A) → fold f b (xs ++ ys) ≡ fold f (fold f b xs) ys
+pub fold-append : {A B : Type 0} (f : B → A → B) (b : B) (xs ys : List A)
+    → fold f b (xs ++ ys) ≡ fold f (fold f b xs) ys
 fold-append f b [] ys = refl
 fold-append f b (x ∷ xs) ys = fold-append f (f b x) xs ys
 
@@ -32,7 +33,8 @@ admits_more m n (Listing ∷ s) l h = tt
 admits_more m n (Part g ∷ s) l h = tt
 
 -- the state goes on as one in which the formula of the level was read on top of what is open
-pub record Stands (a : Atoms Formula) (n : ℕ) (f : Formula) (s : List (Frame Formula)) (st : State Formula) : Type 0 where
+pub record Stands (a : Atoms Formula) (n : ℕ) (f : Formula) (s : List (Frame Formula))
+    (st : State Formula) : Type 0 where
   pub joint : (j : Joint) → left_level j ≤ n → step trees a st (token.Joint j) ≡ after trees f s (token.Joint j)
   pub close : step trees a st token.Close ≡ after trees f s token.Close
   pub comma : step trees a st token.Comma ≡ after trees f s token.Comma
@@ -41,8 +43,10 @@ pub record Stands (a : Atoms Formula) (n : ℕ) (f : Formula) (s : List (Frame F
 stands_has : (a : Atoms Formula) (n : ℕ) (f : Formula) (s : List (Frame Formula)) → Stands a n f s (Has f s)
 stands_has a n f s = record { joint = λ j l. refl; close = refl; comma = refl; end = refl }
 
-stands_less : (a : Atoms Formula) (m n : ℕ) (f : Formula) (s : List (Frame Formula)) (st : State Formula) → m ≤ n → Stands a n f s st → Stands a m f s st
-stands_less a m n f s st l h = record { joint = λ j k. h.joint j (omega arith); close = h.close; comma = h.comma; end = h.end }
+stands_less : (a : Atoms Formula) (m n : ℕ) (f : Formula) (s : List (Frame Formula)) (st : State Formula) → m ≤ n
+    → Stands a n f s st → Stands a m f s st
+stands_less a m n f s st l h =
+    record { joint = λ j k. h.joint j (omega arith); close = h.close; comma = h.comma; end = h.end }
 
 le_true : (m n : ℕ) → m ≤ n → nat_le m n ≡ true
 le_true m n h = grind (arith)
@@ -50,7 +54,8 @@ le_true m n h = grind (arith)
 lt_false : (m n : ℕ) → n < m → nat_le m n ≡ false
 lt_false m n h = grind (arith)
 
-settled_stays : (j : Joint) (f : Formula) (s : List (Frame Formula)) → Admits (level j) s → settled trees (left_level j) f s ≡ (f, s)
+settled_stays : (j : Joint) (f : Formula) (s : List (Frame Formula)) → Admits (level j) s
+    → settled trees (left_level j) f s ≡ (f, s)
 settled_stays j f [] h = refl
 settled_stays j f (Negation ∷ s) h = absurd (omega (arith, (row j).most))
 settled_stays j f (Left i g ∷ s) h = rw (lt_false (left_level j) (level i) (apart i j h)) refl
@@ -59,10 +64,12 @@ settled_stays j f (Listing ∷ s) h = refl
 settled_stays j f (Part g ∷ s) h = refl
 
 -- what is read on top of a formula with its mark joins it
-settled_joins : (n : ℕ) (j : Joint) (f g : Formula) (s : List (Frame Formula)) → n ≤ level j → settled trees n g (Left j f ∷ s) ≡ settled trees n (join j f g) s
+settled_joins : (n : ℕ) (j : Joint) (f g : Formula) (s : List (Frame Formula)) → n ≤ level j
+    → settled trees n g (Left j f ∷ s) ≡ settled trees n (join j f g) s
 settled_joins n j f g s h = rw (le_true n (level j) h) refl
 
-stands_joined : (a : Atoms Formula) (j : Joint) (f g : Formula) (s : List (Frame Formula)) (st : State Formula) → Stands a (right_level j) g (Left j f ∷ s) st → Stands a (level j) (join j f g) s st
+stands_joined : (a : Atoms Formula) (j : Joint) (f g : Formula) (s : List (Frame Formula)) (st : State Formula)
+    → Stands a (right_level j) g (Left j f ∷ s) st → Stands a (level j) (join j f g) s st
 stands_joined a j f g s st h = record {
   joint = λ i l. h.joint i (omega (arith, (row j).right_above)) ∙ rw (settled_joins (left_level i) j f g s l) refl;
   close = h.close ∙ rw (settled_joins 1 j f g s (row j).some) refl;
@@ -70,16 +77,21 @@ stands_joined a j f g s st h = record {
   end = h.end ∙ rw (settled_joins 1 j f g s (row j).some) refl;
 }
 
-stands_negated : (a : Atoms Formula) (f : Formula) (s : List (Frame Formula)) (st : State Formula) → Stands a 6 f (Negation ∷ s) st → Stands a 6 (Meaning.Formula.Not f) s st
+stands_negated : (a : Atoms Formula) (f : Formula) (s : List (Frame Formula)) (st : State Formula)
+    → Stands a 6 f (Negation ∷ s) st → Stands a 6 (Meaning.Formula.Not f) s st
 stands_negated a f s st h = record { joint = h.joint; close = h.close; comma = h.comma; end = h.end }
 
-stands_named : (a : Atoms Formula) (n : ℕ) (w : List ℕ) (f : Formula) (s : List (Frame Formula)) → a.plain w ≡ Some f → Stands a n f s (Named w s)
+stands_named : (a : Atoms Formula) (n : ℕ) (w : List ℕ) (f : Formula) (s : List (Frame Formula)) → a.plain w ≡ Some f
+    → Stands a n f s (Named w s)
 stands_named a n w f s e = record { joint = λ j l. rw e refl; close = rw e refl; comma = rw e refl; end = rw e refl }
 
 -- a formula at the head of a list is read as elsewhere
-starts : {a : Atoms Formula} {n : ℕ} {ts : List Token} {f : Formula} → IsFormula a n ts f → (s : List (Frame Formula)) → fold (step trees a) (WantsPart s) ts ≡ fold (step trees a) (Wants (Listing ∷ s)) ts
+starts : {a : Atoms Formula} {n : ℕ} {ts : List Token} {f : Formula} → IsFormula a n ts f → (s : List (Frame Formula))
+    → fold (step trees a) (WantsPart s) ts ≡ fold (step trees a) (Wants (Listing ∷ s)) ts
 starts (looser d) s = starts d s
-starts {a = a} (joined j {left = left} {right = right} d e) s = fold-append (step trees a) _ left _ ∙ ap (λ st. fold (step trees a) st (token.Joint j ∷ right)) (starts d s) ∙ rw (fold-append (step trees a) (Wants (Listing ∷ s)) left (token.Joint j ∷ right)) refl
+starts {a = a} (joined j {left = left} {right = right} d e) s =
+    fold-append (step trees a) _ left _ ∙ ap (λ st. fold (step trees a) st (token.Joint j ∷ right)) (starts d s)
+    ∙ rw (fold-append (step trees a) (Wants (Listing ∷ s)) left (token.Joint j ∷ right)) refl
 starts (negated d) s = refl
 starts (bracketed d) s = refl
 starts (listed d) s = refl
@@ -95,7 +107,8 @@ IsOpenList (Bracket ∷ s) = ⊥
 IsOpenList (Listing ∷ s) = Unit {0}
 IsOpenList (Part g ∷ s) = Unit {0}
 
-closes_last : (a : Atoms Formula) (f : Formula) (s : List (Frame Formula)) → IsOpenList s → after trees f s token.Close ≡ list_closed trees (Meaning.Terms.More f Meaning.Terms.End) s
+closes_last : (a : Atoms Formula) (f : Formula) (s : List (Frame Formula)) → IsOpenList s
+    → after trees f s token.Close ≡ list_closed trees (Meaning.Terms.More f Meaning.Terms.End) s
 closes_last a f [] h = absurd h
 closes_last a f (Negation ∷ s) h = absurd h
 closes_last a f (Left j g ∷ s) h = absurd h
@@ -120,33 +133,54 @@ admits_any n (Listing ∷ s) h = tt
 admits_any n (Part g ∷ s) h = tt
 
 mutual
-  reads : {a : Atoms Formula} {n : ℕ} {ts : List Token} {f : Formula} → IsFormula a n ts f → (s : List (Frame Formula)) → Admits n s → Stands a n f s (fold (step trees a) (Wants s) ts)
-  reads {a = a} {n = n} {ts = ts} {f = f} (looser d) s h = stands_less a n (suc n) f s _ (omega arith) (reads d s (admits_more n (suc n) s (omega arith) h))
+  reads : {a : Atoms Formula} {n : ℕ} {ts : List Token} {f : Formula} → IsFormula a n ts f
+      → (s : List (Frame Formula)) → Admits n s → Stands a n f s (fold (step trees a) (Wants s) ts)
+  reads {a = a} {n = n} {ts = ts} {f = f} (looser d) s h =
+      stands_less a n (suc n) f s _ (omega arith) (reads d s (admits_more n (suc n) s (omega arith) h))
   reads {a = a} (joined j {left = left} {right = right} {f = f} {g = g} d e) s h =
       let one = reads d s (admits_more (level j) (left_level j) s (row j).left_above h) in
       let two = reads e (Left j f ∷ s) (omega arith) in
-      rw (fold-append (step trees a) (Wants s) left (token.Joint j ∷ right), one.joint j (omega arith), settled_stays j f s h) (stands_joined a j f g s _ two)
+      rw (
+        fold-append (step trees a) (Wants s) left (token.Joint j ∷ right),
+        one.joint j (omega arith),
+        settled_stays j f s h,
+      ) (stands_joined a j f g s _ two)
   reads {a = a} (negated {f = f} d) s h = stands_negated a f s _ (reads d (Negation ∷ s) (omega arith))
   reads {a = a} (bracketed {ts = ts} {f = f} d) s h =
-      rw (fold-append (step trees a) (Wants (Bracket ∷ s)) ts (token.Close ∷ []), (reads d (Bracket ∷ s) tt).close) (stands_has a 7 f s)
+      rw (fold-append (step trees a) (Wants (Bracket ∷ s)) ts (token.Close ∷ []), (reads d (Bracket ∷ s) tt).close)
+      (stands_has a 7 f s)
   reads {a = a} (listed {ts = ts} {fs = fs} d) s h =
-      rw (fold-append (step trees a) (WantsPart s) ts (token.Close ∷ []), reads_list d s) (stands_has a 7 (Meaning.Formula.One fs) s)
+      rw (fold-append (step trees a) (WantsPart s) ts (token.Close ∷ []), reads_list d s)
+      (stands_has a 7 (Meaning.Formula.One fs) s)
   reads {a = a} (plain {w = w} {f = f} e) s h = stands_named a 7 w f s e
   reads {a = a} (equal {w = w} {k = k} {f = f} e) s h = rw e (stands_has a 7 f s)
 
-  reads_list : {a : Atoms Formula} {ts : List Token} {fs : Terms} → IsList a ts fs → (s : List (Frame Formula)) → step trees a (fold (step trees a) (WantsPart s) ts) token.Close ≡ Has (Meaning.Formula.One fs) s
+  reads_list : {a : Atoms Formula} {ts : List Token} {fs : Terms} → IsList a ts fs → (s : List (Frame Formula))
+      → step trees a (fold (step trees a) (WantsPart s) ts) token.Close ≡ Has (Meaning.Formula.One fs) s
   reads_list none s = refl
   reads_list (some d) s = rw (starts_items d s) (reads_items d (Listing ∷ s) tt)
 
-  starts_items : {a : Atoms Formula} {ts : List Token} {fs : Terms} → IsItems a ts fs → (s : List (Frame Formula)) → fold (step trees a) (WantsPart s) ts ≡ fold (step trees a) (Wants (Listing ∷ s)) ts
+  starts_items : {a : Atoms Formula} {ts : List Token} {fs : Terms} → IsItems a ts fs → (s : List (Frame Formula))
+      → fold (step trees a) (WantsPart s) ts ≡ fold (step trees a) (Wants (Listing ∷ s)) ts
   starts_items (last d) s = starts d s
-  starts_items {a = a} (more {ts = ts} {us = us} d e) s = rw (fold-append (step trees a) (WantsPart s) ts (token.Comma ∷ us), fold-append (step trees a) (Wants (Listing ∷ s)) ts (token.Comma ∷ us), starts d s) refl
+  starts_items {a = a} (more {ts = ts} {us = us} d e) s =
+      rw (
+        fold-append (step trees a) (WantsPart s) ts (token.Comma ∷ us),
+        fold-append (step trees a) (Wants (Listing ∷ s)) ts (token.Comma ∷ us),
+        starts d s,
+      ) refl
 
-  reads_items : {a : Atoms Formula} {ts : List Token} {fs : Terms} → IsItems a ts fs → (s : List (Frame Formula)) → IsOpenList s → step trees a (fold (step trees a) (Wants s) ts) token.Close ≡ list_closed trees fs s
+  reads_items : {a : Atoms Formula} {ts : List Token} {fs : Terms} → IsItems a ts fs → (s : List (Frame Formula))
+      → IsOpenList s → step trees a (fold (step trees a) (Wants s) ts) token.Close ≡ list_closed trees fs s
   reads_items {a = a} (last {f = f} d) s h = (reads d s (admits_any 1 s h)).close ∙ closes_last a f s h
   reads_items {a = a} (more {ts = ts} {us = us} {f = f} d e) s h =
-      rw (fold-append (step trees a) (Wants s) ts (token.Comma ∷ us), (reads d s (admits_any 1 s h)).comma, parts_one f s h) (reads_items e (Part f ∷ s) tt)
+      rw (
+        fold-append (step trees a) (Wants s) ts (token.Comma ∷ us),
+        (reads d s (admits_any 1 s h)).comma,
+        parts_one f s h,
+      ) (reads_items e (Part f ∷ s) tt)
 
 -- what is a formula is read, with its tree
-pub formula_is_read : (a : Atoms Formula) (ts : List Token) (f : Formula) → IsFormula a 1 ts f → formula_read trees a ts ≡ Some f
+pub formula_is_read : (a : Atoms Formula) (ts : List Token) (f : Formula) → IsFormula a 1 ts f
+    → formula_read trees a ts ≡ Some f
 formula_is_read a ts f d = (reads d [] tt).end

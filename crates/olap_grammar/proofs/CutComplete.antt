@@ -7,43 +7,60 @@ use Rattle.olap_grammar.specs.declared.tokens.Token.{Token}
 use Rattle.olap_grammar.specs.declared.tokens.Token.TheVariants as token
 use Rattle.olap_grammar.specs.declared.tokens.Joint.TheVariants as joint
 
-in_word : (ts : List Token) (w : List ℕ) (b : ℕ) → is_word_byte b ≡ true → cut_step (InWord ts w) b ≡ InWord ts (w ++ b ∷ [])
+in_word : (ts : List Token) (w : List ℕ) (b : ℕ) → is_word_byte b ≡ true
+    → cut_step (InWord ts w) b ≡ InWord ts (w ++ b ∷ [])
 in_word ts w b h = rw h refl
 
 begins_word : (ts : List Token) (b : ℕ) → is_word_byte b ≡ true → cut_step (Between ts) b ≡ InWord ts (b ∷ [])
 begins_word ts b h = rw h refl
 
-in_quotes : (ts : List Token) (k : List ℕ) (b : ℕ) → b == 34 ≡ false → b == 92 ≡ false → cut_step (InQuotes ts k) b ≡ InQuotes ts (k ++ b ∷ [])
+in_quotes : (ts : List Token) (k : List ℕ) (b : ℕ) → b == 34 ≡ false → b == 92 ≡ false
+    → cut_step (InQuotes ts k) b ≡ InQuotes ts (k ++ b ∷ [])
 in_quotes ts k b p q = rw (p, q) refl
 
-word_goes_on : (ts : List Token) (w v bs : List ℕ) → AreWordBytes v → fold cut_step (InWord ts w) (v ++ bs) ≡ fold cut_step (InWord ts (w ++ v)) bs
+word_goes_on : (ts : List Token) (w v bs : List ℕ) → AreWordBytes v
+    → fold cut_step (InWord ts w) (v ++ bs) ≡ fold cut_step (InWord ts (w ++ v)) bs
 word_goes_on ts w [] bs h = rw append-nil refl
-word_goes_on ts w (b ∷ v) bs h = let ih = word_goes_on ts (w ++ b ∷ []) v bs h.1 in let e : (w ++ b ∷ []) ++ v ≡ w ++ b ∷ v = simp append_assoc in ap (λ s. fold cut_step s (v ++ bs)) (in_word ts w b h.0) ∙ rw e at ih
+word_goes_on ts w (b ∷ v) bs h = let ih = word_goes_on ts (w ++ b ∷ []) v bs h.1 in
+    let e : (w ++ b ∷ []) ++ v ≡ w ++ b ∷ v = simp append_assoc in
+    ap (λ s. fold cut_step s (v ++ bs)) (in_word ts w b h.0) ∙ rw e at ih
 
-word_ends : (ts : List Token) (w bs : List ℕ) → EndsWord bs → cut_ended (fold cut_step (InWord ts w) bs) ≡ cut_ended (fold cut_step (Between (ts ++ token.Word w ∷ [])) bs)
+word_ends : (ts : List Token) (w bs : List ℕ) → EndsWord bs
+    → cut_ended (fold cut_step (InWord ts w) bs) ≡ cut_ended (fold cut_step (Between (ts ++ token.Word w ∷ [])) bs)
 word_ends ts w [] h = refl
 word_ends ts w (b ∷ bs) h = rw h refl
 
-quotes_end : {body k : List ℕ} → Spells body k → (ts : List Token) (start bs : List ℕ) → fold cut_step (InQuotes ts start) (body ++ 34 ∷ bs) ≡ fold cut_step (Between (ts ++ token.Quoted (start ++ k) ∷ [])) bs
+quotes_end : {body k : List ℕ} → Spells body k → (ts : List Token) (start bs : List ℕ)
+    → fold cut_step (InQuotes ts start) (body ++ 34 ∷ bs) ≡ fold cut_step
+    (Between (ts ++ token.Quoted (start ++ k) ∷ [])) bs
 quotes_end nothing ts start bs = rw append-nil refl
-quotes_end (quote {k = k} d) ts start bs = let e : (start ++ 34 ∷ []) ++ k ≡ start ++ 34 ∷ k = simp append_assoc in rw e at (quotes_end d ts (start ++ 34 ∷ []) bs)
-quotes_end (backslash {k = k} d) ts start bs = let e : (start ++ 92 ∷ []) ++ k ≡ start ++ 92 ∷ k = simp append_assoc in rw e at (quotes_end d ts (start ++ 92 ∷ []) bs)
-quotes_end (other {b = b} {bs = body} {k = k} p q d) ts start bs = let e : (start ++ b ∷ []) ++ k ≡ start ++ b ∷ k = simp append_assoc in ap (λ s. fold cut_step s (body ++ 34 ∷ bs)) (in_quotes ts start b p q) ∙ rw e at (quotes_end d ts (start ++ b ∷ []) bs)
+quotes_end (quote {k = k} d) ts start bs = let e : (start ++ 34 ∷ []) ++ k ≡ start ++ 34 ∷ k =
+    simp append_assoc in rw e at (quotes_end d ts (start ++ 34 ∷ []) bs)
+quotes_end (backslash {k = k} d) ts start bs = let e : (start ++ 92 ∷ []) ++ k ≡ start ++ 92 ∷ k =
+    simp append_assoc in rw e at (quotes_end d ts (start ++ 92 ∷ []) bs)
+quotes_end (other {b = b} {bs = body} {k = k} p q d) ts start bs = let e : (start ++ b ∷ []) ++ k ≡ start ++ b ∷ k =
+    simp append_assoc in ap (λ s. fold cut_step s (body ++ 34 ∷ bs)) (in_quotes ts start b p q)
+    ∙ rw e at (quotes_end d ts (start ++ b ∷ []) bs)
 
-cut_on : {line : List ℕ} {ts : List Token} → IsCut line ts → (done : List Token) → cut_ended (fold cut_step (Between done) line) ≡ Some (done ++ ts)
+cut_on : {line : List ℕ} {ts : List Token} → IsCut line ts → (done : List Token)
+    → cut_ended (fold cut_step (Between done) line) ≡ Some (done ++ ts)
 cut_on end done = rw append-nil refl
 cut_on (blank d) done = cut_on d done
 cut_on (tab d) done = cut_on d done
 cut_on (word b w {bs = bs} {ts = ts} h n d) done =
     let e : (done ++ token.Word (b ∷ w) ∷ []) ++ ts ≡ done ++ token.Word (b ∷ w) ∷ ts = simp append_assoc in
-    ap (λ s. cut_ended (fold cut_step s (w ++ bs))) (begins_word done b h.0) ∙ ap cut_ended (word_goes_on done (b ∷ []) w bs h.1) ∙ word_ends done (b ∷ w) bs n ∙ rw e at (cut_on d (done ++ token.Word (b ∷ w) ∷ []))
+    ap (λ s. cut_ended (fold cut_step s (w ++ bs))) (begins_word done b h.0)
+    ∙ ap cut_ended (word_goes_on done (b ∷ []) w bs h.1) ∙ word_ends done (b ∷ w) bs n
+    ∙ rw e at (cut_on d (done ++ token.Word (b ∷ w) ∷ []))
 cut_on (quoted {k = k} {bs = bs} {ts = ts} s d) done =
     let e : (done ++ token.Quoted k ∷ []) ++ ts ≡ done ++ token.Quoted k ∷ ts = simp append_assoc in
     rw (quotes_end s done [] bs) (rw e at (cut_on d (done ++ token.Quoted k ∷ [])))
 cut_on (mark t {bs = bs} {ts = ts} m d) done =
-    let e : (done ++ t ∷ []) ++ ts ≡ done ++ t ∷ ts = simp append_assoc in go t bs m (rw e at (cut_on d (done ++ t ∷ [])))
+    let e : (done ++ t ∷ []) ++ ts ≡ done ++ t ∷ ts = simp append_assoc in
+    go t bs m (rw e at (cut_on d (done ++ t ∷ [])))
   where
-    go : (u : Token) (bs : List ℕ) → IsMark u → cut_ended (fold cut_step (Between (done ++ u ∷ [])) bs) ≡ Some (done ++ u ∷ ts) → cut_ended (fold cut_step (Between done) (mark_bytes u ++ bs)) ≡ Some (done ++ u ∷ ts)
+    go : (u : Token) (bs : List ℕ) → IsMark u → cut_ended (fold cut_step (Between (done ++ u ∷ [])) bs) ≡ Some
+        (done ++ u ∷ ts) → cut_ended (fold cut_step (Between done) (mark_bytes u ++ bs)) ≡ Some (done ++ u ∷ ts)
     go token.Open bs m h = h
     go token.Close bs m h = h
     go token.Comma bs m h = h

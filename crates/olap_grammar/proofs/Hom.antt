@@ -1,5 +1,5 @@
 -- What keeps the operations keeps what is read.
-use Rattle.std.proofs.Common.{◌≡◌, ◌+◌, ◌≤◌, ◌<◌, ℕ, Bool, true, false, List, [], ◌∷◌, refl, sym, ap, ◌∙◌, Option, Some, None, cond, nat_le, max, arith, option_and_then}
+use Rattle.std.proofs.Common.{◌≡◌, ◌+◌, ◌≤◌, ℕ, Bool, true, false, List, [], ◌∷◌, refl, sym, ap, ◌∙◌, Option, Some, None, cond, nat_le, max, arith, option_and_then}
 use Rattle.std.specs.Option.{option_map}
 use Rattle.std.specs.List.{fold}
 use Rattle.olap_ast.specs.Formula as Meaning
@@ -47,13 +47,17 @@ state h Bad = Bad
 abbrev both : {A B : Type 0} → (A → B) → A × List (Frame A) → B × List (Frame B)
 both h (f, s) = (h f, frames h s)
 
-module _ {A B L M : Type 0} (m : Making A L) (n : Making B M) (h : A → B) (k : L → M) (e : Keeps m n h k) (a : Atoms A) (b : Atoms B) (u : KeepsAtoms a b h) where
+module _ {A B L M : Type 0} (m : Making A L) (n : Making B M) (h : A → B) (k : L → M) (e : Keeps m n h k)
+    (a : Atoms A) (b : Atoms B) (u : KeepsAtoms a b h) where
   settles : (i : ℕ) (f : A) (s : List (Frame A)) → settled n i (h f) (frames h s) ≡ both h (settled m i f s)
   settles i f [] = refl
   settles i f (Negation ∷ s) = ap (λ x. settled n i x (frames h s)) (e.negate f) ∙ settles i (m.negate f) s
-  settles i f (Left j g ∷ s) = go (nat_le i (level j)) (ap (λ x. settled n i x (frames h s)) (e.join j g f) ∙ settles i (m.join j g f) s)
+  settles i f (Left j g ∷ s) =
+      go (nat_le i (level j)) (ap (λ x. settled n i x (frames h s)) (e.join j g f) ∙ settles i (m.join j g f) s)
     where
-      go : (t : Bool) → settled n i (n.join j (h g) (h f)) (frames h s) ≡ both h (settled m i (m.join j g f) s) → cond t (settled n i (n.join j (h g) (h f)) (frames h s)) (h f, Left j (h g) ∷ frames h s) ≡ both h (cond t (settled m i (m.join j g f) s) (f, Left j g ∷ s))
+      go : (t : Bool) → settled n i (n.join j (h g) (h f)) (frames h s) ≡ both h (settled m i (m.join j g f) s)
+          → cond t (settled n i (n.join j (h g) (h f)) (frames h s)) (h f, Left j (h g) ∷ frames h s)
+          ≡ both h (cond t (settled m i (m.join j g f) s) (f, Left j g ∷ s))
       go true q = q
       go false q = refl
   settles i f (Bracket ∷ s) = refl
@@ -76,8 +80,10 @@ module _ {A B L M : Type 0} (m : Making A L) (n : Making B M) (h : A → B) (k :
   closes (f, Negation ∷ s) = refl
   closes (f, Left j g ∷ s) = refl
   closes (f, Bracket ∷ s) = refl
-  closes (f, Listing ∷ s) = ap (λ x. list_closed n x (Listing ∷ frames h s)) (first_part f) ∙ list_closes (m.more f m.end) (Listing ∷ s)
-  closes (f, Part g ∷ s) = ap (λ x. list_closed n x (Part (h g) ∷ frames h s)) (first_part f) ∙ list_closes (m.more f m.end) (Part g ∷ s)
+  closes (f, Listing ∷ s) = ap (λ x. list_closed n x (Listing ∷ frames h s)) (first_part f)
+      ∙ list_closes (m.more f m.end) (Listing ∷ s)
+  closes (f, Part g ∷ s) = ap (λ x. list_closed n x (Part (h g) ∷ frames h s)) (first_part f)
+      ∙ list_closes (m.more f m.end) (Part g ∷ s)
 
   parts : (r : A × List (Frame A)) → parted (both h r).0 (both h r).1 ≡ state h (parted r.0 r.1)
   parts (f, []) = refl
@@ -87,11 +93,13 @@ module _ {A B L M : Type 0} (m : Making A L) (n : Making B M) (h : A → B) (k :
   parts (f, Listing ∷ s) = refl
   parts (f, Part g ∷ s) = refl
 
-  lefts : (j : Joint) (r : A × List (Frame A)) → Wants (Left j (both h r).0 ∷ (both h r).1) ≡ state h (Wants (Left j r.0 ∷ r.1))
+  lefts : (j : Joint) (r : A × List (Frame A)) → Wants (Left j (both h r).0 ∷ (both h r).1)
+      ≡ state h (Wants (Left j r.0 ∷ r.1))
   lefts j (f, s) = refl
 
   afters : (f : A) (s : List (Frame A)) (t : Token) → after n (h f) (frames h s) t ≡ state h (after m f s t)
-  afters f s (token.Joint j) = ap (λ (r : B × List (Frame B)). Wants (Left j r.0 ∷ r.1)) (settles (left_level j) f s) ∙ lefts j (settled m (left_level j) f s)
+  afters f s (token.Joint j) = ap (λ (r : B × List (Frame B)). Wants (Left j r.0 ∷ r.1)) (settles (left_level j) f s)
+      ∙ lefts j (settled m (left_level j) f s)
   afters f s token.Close = ap (λ (r : B × List (Frame B)). closed n r.0 r.1) (settles 1 f s) ∙ closes (settled m 1 f s)
   afters f s token.Comma = ap (λ (r : B × List (Frame B)). parted r.0 r.1) (settles 1 f s) ∙ parts (settled m 1 f s)
   afters f s (token.Word w) = refl
@@ -123,18 +131,21 @@ module _ {A B L M : Type 0} (m : Making A L) (n : Making B M) (h : A → B) (k :
   begins_part s token.Not = refl
   begins_part s (token.Joint j) = refl
 
-  atoms : (o : Option A) (s : List (Frame A)) (t : Token) → after_atom n (option_map h o) (frames h s) t ≡ state h (after_atom m o s t)
+  atoms : (o : Option A) (s : List (Frame A)) (t : Token)
+      → after_atom n (option_map h o) (frames h s) t ≡ state h (after_atom m o s t)
   atoms None s t = refl
   atoms (Some f) s t = afters f s t
 
-  word_atoms : (w : List ℕ) (s : List (Frame A)) (t : Token) → after_atom n (b.plain w) (frames h s) t ≡ state h (after_atom m (a.plain w) s t)
+  word_atoms : (w : List ℕ) (s : List (Frame A)) (t : Token)
+      → after_atom n (b.plain w) (frames h s) t ≡ state h (after_atom m (a.plain w) s t)
   word_atoms w s t = ap (λ o. after_atom n o (frames h s) t) (u.plain w) ∙ atoms (a.plain w) s t
 
   lists : (c : Bool) (s : List (Frame A)) → cond c (WantsPart (frames h s)) Bad ≡ state h (cond c (WantsPart s) Bad)
   lists true s = refl
   lists false s = refl
 
-  words : (w : List ℕ) (s : List (Frame A)) (t : Token) → after_word n b w (frames h s) t ≡ state h (after_word m a w s t)
+  words : (w : List ℕ) (s : List (Frame A)) (t : Token)
+      → after_word n b w (frames h s) t ≡ state h (after_word m a w s t)
   words w s token.Open = lists (is_one w) s
   words w s token.Equal = refl
   words w s (token.Joint j) = word_atoms w s (token.Joint j)
@@ -149,7 +160,8 @@ module _ {A B L M : Type 0} (m : Making A L) (n : Making B M) (h : A → B) (k :
   has_atoms None s = refl
   has_atoms (Some f) s = refl
 
-  equals : (w : List ℕ) (s : List (Frame A)) (t : Token) → after_equal b w (frames h s) t ≡ state h (after_equal a w s t)
+  equals : (w : List ℕ) (s : List (Frame A)) (t : Token)
+      → after_equal b w (frames h s) t ≡ state h (after_equal a w s t)
   equals w s (token.Quoted t) = ap (λ o. has_atom o (frames h s)) (u.equal w t) ∙ has_atoms (a.equal w t) s
   equals w s (token.Word v) = refl
   equals w s token.Open = refl
@@ -176,16 +188,19 @@ module _ {A B L M : Type 0} (m : Making A L) (n : Making B M) (h : A → B) (k :
   alones (f, []) = refl
   alones (f, x ∷ s) = refl
 
-  ends_has : (f : A) (s : List (Frame A)) → alone (settled n 1 (h f) (frames h s)) ≡ option_map h (alone (settled m 1 f s))
+  ends_has : (f : A) (s : List (Frame A)) → alone (settled n 1 (h f) (frames h s))
+      ≡ option_map h (alone (settled m 1 f s))
   ends_has f s = ap alone (settles 1 f s) ∙ alones (settled m 1 f s)
 
-  ends_atom : (o : Option A) (s : List (Frame A)) → option_and_then (λ f. alone (settled n 1 f (frames h s))) (option_map h o) ≡ option_map h (option_and_then (λ f. alone (settled m 1 f s)) o)
+  ends_atom : (o : Option A) (s : List (Frame A)) → option_and_then (λ f. alone (settled n 1 f (frames h s)))
+      (option_map h o) ≡ option_map h (option_and_then (λ f. alone (settled m 1 f s)) o)
   ends_atom None s = refl
   ends_atom (Some f) s = ends_has f s
 
   ends : (st : State A) → ended n b (state h st) ≡ option_map h (ended m a st)
   ends (Has f s) = ends_has f s
-  ends (Named w s) = ap (λ o. option_and_then (λ f. alone (settled n 1 f (frames h s))) o) (u.plain w) ∙ ends_atom (a.plain w) s
+  ends (Named w s) = ap (λ o. option_and_then (λ f. alone (settled n 1 f (frames h s))) o) (u.plain w)
+      ∙ ends_atom (a.plain w) s
   ends (Wants s) = refl
   ends (WantsPart s) = refl
   ends (Compared w s) = refl
@@ -221,48 +236,71 @@ negates f = go (nat_le (depth_of f) 64) refl
   where
     go : (r : Bool) → nat_le (depth_of f) 64 ≡ r → clipped.negate (clip f) ≡ clip (Meaning.Formula.Not f)
     go true e = rw e refl
-    go false e = rw e (sym (deep (1 + depth_of f) (Meaning.Formula.Not f) (too_deep (depth_of f) (1 + depth_of f) (omega arith) e)))
+    go false e =
+        rw e (sym
+        (deep (1 + depth_of f) (Meaning.Formula.Not f) (too_deep (depth_of f) (1 + depth_of f) (omega arith) e)))
 
 ones : (fs : Terms) → clipped.one (clip_terms fs) ≡ clip (Meaning.Formula.One fs)
 ones fs = go (nat_le (depth_of_terms fs) 64) refl
   where
     go : (r : Bool) → nat_le (depth_of_terms fs) 64 ≡ r → clipped.one (clip_terms fs) ≡ clip (Meaning.Formula.One fs)
     go true e = rw e refl
-    go false e = rw e (sym (deep (1 + depth_of_terms fs) (Meaning.Formula.One fs) (too_deep (depth_of_terms fs) (1 + depth_of_terms fs) (omega arith) e)))
+    go false e =
+        rw e (sym (deep (1 + depth_of_terms fs) (Meaning.Formula.One fs)
+        (too_deep (depth_of_terms fs) (1 + depth_of_terms fs) (omega arith) e)))
 
 joins : (j : Joint) (f g : Formula) → clipped.join j (clip f) (clip g) ≡ clip (join j f g)
 joins j f g = go (nat_le (depth_of f) 64) (nat_le (depth_of g) 64) refl refl
   where
-    go : (r q : Bool) → nat_le (depth_of f) 64 ≡ r → nat_le (depth_of g) 64 ≡ q → clipped.join j (clip f) (clip g) ≡ clip (join j f g)
+    go : (r q : Bool) → nat_le (depth_of f) 64 ≡ r → nat_le (depth_of g) 64 ≡ q
+        → clipped.join j (clip f) (clip g) ≡ clip (join j f g)
     go true true e u = rw (e, u, joins_depth j f g) refl
     go true false e u =
-        let l = deep (1 + max (depth_of f) 65) (join j f Meaning.Formula.Truth) (over (1 + max (depth_of f) 65) (omega arith)) in
-        rw (e, u, joins_depth j f g) (l ∙ sym (deep (1 + max (depth_of f) (depth_of g)) (join j f g) (too_deep (depth_of g) (1 + max (depth_of f) (depth_of g)) (omega arith) u)))
+        let l = deep (1 + max (depth_of f) 65) (join j f Meaning.Formula.Truth)
+        (over (1 + max (depth_of f) 65) (omega arith)) in
+        rw (e, u, joins_depth j f g)
+        (l ∙ sym (deep (1 + max (depth_of f) (depth_of g)) (join j f g)
+        (too_deep (depth_of g) (1 + max (depth_of f) (depth_of g)) (omega arith) u)))
     go false true e u =
-        let l = deep (1 + max 65 (depth_of g)) (join j Meaning.Formula.Truth g) (over (1 + max 65 (depth_of g)) (omega arith)) in
-        rw (e, u, joins_depth j f g) (l ∙ sym (deep (1 + max (depth_of f) (depth_of g)) (join j f g) (too_deep (depth_of f) (1 + max (depth_of f) (depth_of g)) (omega arith) e)))
+        let l = deep (1 + max 65 (depth_of g)) (join j Meaning.Formula.Truth g)
+        (over (1 + max 65 (depth_of g)) (omega arith)) in
+        rw (e, u, joins_depth j f g)
+        (l ∙ sym (deep (1 + max (depth_of f) (depth_of g)) (join j f g)
+        (too_deep (depth_of f) (1 + max (depth_of f) (depth_of g)) (omega arith) e)))
     go false false e u =
-        rw (e, u, joins_depth j f g) (sym (deep (1 + max (depth_of f) (depth_of g)) (join j f g) (too_deep (depth_of f) (1 + max (depth_of f) (depth_of g)) (omega arith) e)))
+        rw (e, u, joins_depth j f g)
+        (sym (deep (1 + max (depth_of f) (depth_of g)) (join j f g)
+        (too_deep (depth_of f) (1 + max (depth_of f) (depth_of g)) (omega arith) e)))
 
 mores : (f : Formula) (fs : Terms) → clipped.more (clip f) (clip_terms fs) ≡ clip_terms (Meaning.Terms.More f fs)
 mores f fs = go (nat_le (depth_of f) 64) (nat_le (depth_of_terms fs) 64) refl refl
   where
-    go : (r q : Bool) → nat_le (depth_of f) 64 ≡ r → nat_le (depth_of_terms fs) 64 ≡ q → clipped.more (clip f) (clip_terms fs) ≡ clip_terms (Meaning.Terms.More f fs)
+    go : (r q : Bool) → nat_le (depth_of f) 64 ≡ r → nat_le (depth_of_terms fs) 64 ≡ q
+        → clipped.more (clip f) (clip_terms fs) ≡ clip_terms (Meaning.Terms.More f fs)
     go true true e u = rw (e, u) refl
     go true false e u =
-        let l = deep_terms (max (depth_of f) 65) (Meaning.Terms.More f Meaning.Terms.End) (over (max (depth_of f) 65) (omega arith)) in
-        rw (e, u) (l ∙ sym (deep_terms (max (depth_of f) (depth_of_terms fs)) (Meaning.Terms.More f fs) (too_deep (depth_of_terms fs) (max (depth_of f) (depth_of_terms fs)) (omega arith) u)))
+        let l = deep_terms (max (depth_of f) 65) (Meaning.Terms.More f Meaning.Terms.End)
+        (over (max (depth_of f) 65) (omega arith)) in
+        rw (e, u)
+        (l ∙ sym (deep_terms (max (depth_of f) (depth_of_terms fs)) (Meaning.Terms.More f fs)
+        (too_deep (depth_of_terms fs) (max (depth_of f) (depth_of_terms fs)) (omega arith) u)))
     go false true e u =
-        let l = deep_terms (max 65 (depth_of_terms fs)) (Meaning.Terms.More Meaning.Formula.Truth fs) (over (max 65 (depth_of_terms fs)) (omega arith)) in
-        rw (e, u) (l ∙ sym (deep_terms (max (depth_of f) (depth_of_terms fs)) (Meaning.Terms.More f fs) (too_deep (depth_of f) (max (depth_of f) (depth_of_terms fs)) (omega arith) e)))
+        let l = deep_terms (max 65 (depth_of_terms fs)) (Meaning.Terms.More Meaning.Formula.Truth fs)
+        (over (max 65 (depth_of_terms fs)) (omega arith)) in
+        rw (e, u)
+        (l ∙ sym (deep_terms (max (depth_of f) (depth_of_terms fs)) (Meaning.Terms.More f fs)
+        (too_deep (depth_of f) (max (depth_of f) (depth_of_terms fs)) (omega arith) e)))
     go false false e u =
-        rw (e, u) (sym (deep_terms (max (depth_of f) (depth_of_terms fs)) (Meaning.Terms.More f fs) (too_deep (depth_of f) (max (depth_of f) (depth_of_terms fs)) (omega arith) e)))
+        rw (e, u)
+        (sym (deep_terms (max (depth_of f) (depth_of_terms fs)) (Meaning.Terms.More f fs)
+        (too_deep (depth_of f) (max (depth_of f) (depth_of_terms fs)) (omega arith) e)))
 
 clip_keeps : Keeps trees clipped clip clip_terms
 clip_keeps = record { negate = negates; join = joins; one = ones; end = refl; more = mores }
 
 -- an atom of depth 1 is kept whole
-leaf : (o : Option Formula) → ((f : Formula) → o ≡ Some f → depth_of f ≡ 1) → option_map (λ f. (1, f)) o ≡ option_map clip o
+leaf : (o : Option Formula) → ((f : Formula) → o ≡ Some f → depth_of f ≡ 1)
+    → option_map (λ f. (1, f)) o ≡ option_map clip o
 leaf None h = refl
 leaf (Some f) h = rw (h f refl) refl
 
@@ -270,6 +308,7 @@ leaves_keep : (a : Atoms Formula) → AreLeaves a → KeepsAtoms a (leaves a) cl
 leaves_keep a h = record { plain = λ w. leaf (a.plain w) (h.plain w); equal = λ w k. leaf (a.equal w k) (h.equal w k) }
 
 -- the reader that builds no deeper tree reads what the reader reads
-pub reads_clipped : (a : Atoms Formula) (ts : List Token) → AreLeaves a → formula_read clipped (leaves a) ts ≡ option_map clip (the_formula a ts)
+pub reads_clipped : (a : Atoms Formula) (ts : List Token) → AreLeaves a
+    → formula_read clipped (leaves a) ts ≡ option_map clip (the_formula a ts)
 unfolding the_formula
 reads_clipped a ts h = reads_along trees clipped clip clip_terms clip_keeps a (leaves a) (leaves_keep a h) ts

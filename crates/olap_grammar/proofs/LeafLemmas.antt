@@ -30,7 +30,8 @@ pick true x y p q = p
 pick false x y p q = q
 
 path_leaf : (g : Graph) (parts : List (List ℕ)) → IsLeaf (path_of g parts)
-path_leaf g parts = pick (not (list_all is_category_name parts)) None (Some (Meaning.Formula.Path (map (id_of g) (drop 1 parts)))) no_leaf (one_leaf _ refl)
+path_leaf g parts = pick (not (list_all is_category_name parts)) None
+    (Some (Meaning.Formula.Path (map (id_of g) (drop 1 parts)))) no_leaf (one_leaf _ refl)
 
 reach_leaf : (g : Graph) (parts : List (List ℕ)) → IsLeaf (reach_of g parts)
 reach_leaf g parts =
@@ -44,7 +45,8 @@ equal_leaf : (g : Graph) (k : List ℕ) (parts : List (List ℕ)) → IsLeaf (eq
 equal_leaf g k parts =
     pick (not (list_all is_category_name parts)) _ _ no_leaf
     (pick (length parts == 1) _ _ (one_leaf (Meaning.Formula.Equals (id_of g (slice_index_or parts 0 [])) k) refl)
-    (pick (length parts == 2) _ _ (one_leaf (Meaning.Formula.Equals (id_of g (slice_index_or parts 1 [])) k) refl) no_leaf))
+    (pick (length parts == 2) _ _ (one_leaf (Meaning.Formula.Equals (id_of g (slice_index_or parts 1 [])) k) refl)
+    no_leaf))
 
 plain_leaf : (g : Graph) (w : List ℕ) → IsLeaf (plain_of g w)
 unfolding plain_of
@@ -68,18 +70,21 @@ chosen b g = cond b (depth_of g, g) (65, Meaning.Formula.Truth)
 built : (g : Formula) (b : Bool) (d : ℕ) (f : Formula) → Some (chosen b g) ≡ Some (d, f) → chosen b g ≡ (d, f)
 built g b d f p = cc
 
-pub too_deep : (o : Option Formula) (d : ℕ) (f : Formula) → option_map clip o ≡ Some (d, f) → 64 < d → formula_answer o ≡ Err refusal.TooDeep
+pub too_deep : (o : Option Formula) (d : ℕ) (f : Formula) → option_map clip o ≡ Some (d, f) → 64 < d
+    → formula_answer o ≡ Err refusal.TooDeep
 too_deep None d f e h = absurd cc
 too_deep (Some g) d f e h = go (nat_le (depth_of g) 64) refl e
   where
-    go : (b : Bool) → nat_le (depth_of g) 64 ≡ b → Some (chosen b g) ≡ Some (d, f) → formula_answer (Some g) ≡ Err refusal.TooDeep
+    go : (b : Bool) → nat_le (depth_of g) 64 ≡ b → Some (chosen b g) ≡ Some (d, f)
+        → formula_answer (Some g) ≡ Err refusal.TooDeep
     go true q p =
         let s : depth_of g ≡ d = ap (λ (r : Built). r.0) (built g true d f p) in
         let l : depth_of g ≤ 64 = grind (arith, q) in
         absurd (omega arith)
     go false q p = rw q refl
 
-pub not_deep : (o : Option Formula) (d : ℕ) (f : Formula) → option_map clip o ≡ Some (d, f) → d ≤ 64 → formula_answer o ≡ Ok f
+pub not_deep : (o : Option Formula) (d : ℕ) (f : Formula) → option_map clip o ≡ Some (d, f) → d ≤ 64
+    → formula_answer o ≡ Ok f
 not_deep None d f e h = absurd cc
 not_deep (Some g) d f e h = go (nat_le (depth_of g) 64) refl e
   where
@@ -91,7 +96,8 @@ pub no_formula : (o : Option Formula) → option_map clip o ≡ None → formula
 no_formula None e = refl
 no_formula (Some f) e = absurd cc
 
-pub refused : (o : Option Formula) (read : Option Built) (e : FormRefusal) → read ≡ option_map clip o → Ends (Err e) read → IsRefusal e (formula_answer o)
+pub refused : (o : Option Formula) (read : Option Built) (e : FormRefusal) → read ≡ option_map clip o
+    → Ends (Err e) read → IsRefusal e (formula_answer o)
 refused o read refusal.BadForm q h = no_formula o (sym q ∙ h)
 refused o read refusal.TooDeep q h = absurd h
 refused o read refusal.Memory q h = tt

@@ -15,11 +15,61 @@ pub record IsRow (j : Joint) : Type 0 where
   pub sides : level j + 1 ≤ left_level j + right_level j
 
 pub row : (j : Joint) → IsRow j
-row joint.Iff = record { some = lit≤ tt; most = lit≤ tt; left_above = lit≤ tt; left_most = lit≤ tt; right_above = lit≤ tt; right_below = lit≤ tt; right_most = lit≤ tt; sides = lit≤ tt }
-row joint.Implies = record { some = lit≤ tt; most = lit≤ tt; left_above = lit≤ tt; left_most = lit≤ tt; right_above = lit≤ tt; right_below = lit≤ tt; right_most = lit≤ tt; sides = lit≤ tt }
-row joint.Xor = record { some = lit≤ tt; most = lit≤ tt; left_above = lit≤ tt; left_most = lit≤ tt; right_above = lit≤ tt; right_below = lit≤ tt; right_most = lit≤ tt; sides = lit≤ tt }
-row joint.Or = record { some = lit≤ tt; most = lit≤ tt; left_above = lit≤ tt; left_most = lit≤ tt; right_above = lit≤ tt; right_below = lit≤ tt; right_most = lit≤ tt; sides = lit≤ tt }
-row joint.And = record { some = lit≤ tt; most = lit≤ tt; left_above = lit≤ tt; left_most = lit≤ tt; right_above = lit≤ tt; right_below = lit≤ tt; right_most = lit≤ tt; sides = lit≤ tt }
+row joint.Iff =
+    record {
+      some = lit≤ tt;
+      most = lit≤ tt;
+      left_above = lit≤ tt;
+      left_most = lit≤ tt;
+      right_above = lit≤ tt;
+      right_below = lit≤ tt;
+      right_most = lit≤ tt;
+      sides = lit≤ tt;
+    }
+row joint.Implies =
+    record {
+      some = lit≤ tt;
+      most = lit≤ tt;
+      left_above = lit≤ tt;
+      left_most = lit≤ tt;
+      right_above = lit≤ tt;
+      right_below = lit≤ tt;
+      right_most = lit≤ tt;
+      sides = lit≤ tt;
+    }
+row joint.Xor =
+    record {
+      some = lit≤ tt;
+      most = lit≤ tt;
+      left_above = lit≤ tt;
+      left_most = lit≤ tt;
+      right_above = lit≤ tt;
+      right_below = lit≤ tt;
+      right_most = lit≤ tt;
+      sides = lit≤ tt;
+    }
+row joint.Or =
+    record {
+      some = lit≤ tt;
+      most = lit≤ tt;
+      left_above = lit≤ tt;
+      left_most = lit≤ tt;
+      right_above = lit≤ tt;
+      right_below = lit≤ tt;
+      right_most = lit≤ tt;
+      sides = lit≤ tt;
+    }
+row joint.And =
+    record {
+      some = lit≤ tt;
+      most = lit≤ tt;
+      left_above = lit≤ tt;
+      left_most = lit≤ tt;
+      right_above = lit≤ tt;
+      right_below = lit≤ tt;
+      right_most = lit≤ tt;
+      sides = lit≤ tt;
+    }
 
 -- a mark that takes what stands to its left closes no mark that would not let it stand
 pub apart : (i j : Joint) → right_level i ≤ level j → level i < left_level j

@@ -1,11 +1,8 @@
 -- From the reader to formulas.
-use Rattle.std.proofs.Common.{◌≡◌, ℕ, List, [], ◌∷◌, refl, Option, Some, None, Err, true, false, Bool, nat_le, cond, nat_lt, ◌≤◌, ◌<◌, arith}
+use Rattle.std.proofs.Common.{◌≡◌, List, [], ◌∷◌, refl, Some, Err}
 use Rattle.std.specs.List.{fold}
-use Rattle.std.specs.Option.{option_map}
 use Rattle.olap_ast.specs.Formula as Meaning
-use Rattle.olap_ast.specs.Valid.{depth_of}
-use Rattle.olap_grammar.specs.Answering.{IsRefusal, formula_answer}
-use Rattle.olap_grammar.specs.Clip.{clip, clipped}
+use Rattle.olap_grammar.specs.Clip.{clipped}
 use Rattle.olap_grammar.specs.Grammar.{Atoms, IsFormula}
 use Rattle.olap_grammar.specs.Machine.{Frame, State, Bad, step, ended, the_formula}
 use Rattle.olap_grammar.specs.Reader.{Built, GoesTo, Ends}
@@ -15,16 +12,19 @@ use Rattle.olap_grammar.specs.declared.refusals.FormRefusal.TheVariants as refus
 use Rattle.olap_grammar.proofs.Complete.{formula_is_read}
 use Rattle.olap_grammar.proofs.Sound.{read_is_formula}
 
-pub formula_is_found : (a : Atoms Meaning.Formula) (ts : List Token) (f : Meaning.Formula) → IsFormula a 1 ts f → the_formula a ts ≡ Some f
+pub formula_is_found : (a : Atoms Meaning.Formula) (ts : List Token) (f : Meaning.Formula) → IsFormula a 1 ts f
+    → the_formula a ts ≡ Some f
 unfolding the_formula
 formula_is_found a ts f d = formula_is_read a ts f d
 
-pub found_is_formula : (a : Atoms Meaning.Formula) (ts : List Token) (f : Meaning.Formula) → the_formula a ts ≡ Some f → IsFormula a 1 ts f
+pub found_is_formula : (a : Atoms Meaning.Formula) (ts : List Token) (f : Meaning.Formula) → the_formula a ts ≡ Some f
+    → IsFormula a 1 ts f
 unfolding the_formula
 found_is_formula a ts f e = read_is_formula a ts f e
 
 -- tokens are at most one formula
-pub one_tree : (a : Atoms Meaning.Formula) (ts : List Token) (f g : Meaning.Formula) → IsFormula a 1 ts f → IsFormula a 1 ts g → f ≡ g
+pub one_tree : (a : Atoms Meaning.Formula) (ts : List Token) (f g : Meaning.Formula) → IsFormula a 1 ts f
+    → IsFormula a 1 ts g → f ≡ g
 one_tree a ts f g d e =
     let p : the_formula a ts ≡ Some f = formula_is_found a ts f d in
     let q : the_formula a ts ≡ Some g = formula_is_found a ts g e in
@@ -35,7 +35,8 @@ stays_bad a [] = refl
 stays_bad a (t ∷ ts) = stays_bad a ts
 
 -- where a step fails, there is no formula
-pub fails : (a : Atoms Built) (e : FormRefusal) (s : List (Frame Built)) (next : State Built) (ts : List Token) → GoesTo (Err e) s next → Ends (Err e) (ended clipped a (fold (step clipped a) next ts))
+pub fails : (a : Atoms Built) (e : FormRefusal) (s : List (Frame Built)) (next : State Built) (ts : List Token)
+    → GoesTo (Err e) s next → Ends (Err e) (ended clipped a (fold (step clipped a) next ts))
 fails a refusal.BadForm s next ts h = rw (h, stays_bad a ts) refl
 fails a refusal.TooDeep s next ts h = h
 fails a refusal.Memory s next ts h = tt

@@ -16,16 +16,19 @@ use Rattle.olap_grammar.proofs.Complete.{Admits, admits_more}
 -- a formula of a tighter level is one of a looser level
 down : {a : Atoms Formula} {ts : List Token} {f : Formula} (k n : ℕ) → IsFormula a (k + n) ts f → IsFormula a n ts f
 down zero n d = let e : zero + n ≡ n = omega arith in rw e at d
-down {a = a} {ts = ts} {f = f} (suc k) n d = let e : suc k + n ≡ suc (k + n) = omega arith in down k n (looser (rw e at d))
+down {a = a} {ts = ts} {f = f} (suc k) n d = let e : suc k + n ≡ suc (k + n) =
+    omega arith in down k n (looser (rw e at d))
 
-pub tighter : {a : Atoms Formula} {ts : List Token} {f : Formula} (m n : ℕ) → m ≤ n → IsFormula a n ts f → IsFormula a m ts f
+pub tighter : {a : Atoms Formula} {ts : List Token} {f : Formula} (m n : ℕ) → m ≤ n → IsFormula a n ts f
+    → IsFormula a m ts f
 tighter m n l d = let e : n ≡ (n - m) + m = omega arith in down (n - m) m (rw e at d)
 
 -- the tokens before, with what of them is open
 abbrev pub Opened : Atoms Formula → List (Frame Formula) → List Token → Type 0
 Opened a [] b = b ≡ []
 Opened a (Negation ∷ s) b = (c : List Token) × (b ≡ c ++ token.Not ∷ []) × Opened a s c
-Opened a (Left j f ∷ s) b = (c l : List Token) × (b ≡ c ++ (l ++ token.Joint j ∷ [])) × IsFormula a (left_level j) l f × Admits (level j) s × Opened a s c
+Opened a (Left j f ∷ s) b = (c l : List Token) × (b ≡ c ++ (l ++ token.Joint j ∷ [])) × IsFormula a (left_level j) l f
+    × Admits (level j) s × Opened a s c
 Opened a (Bracket ∷ s) b = (c : List Token) × (b ≡ c ++ token.Open ∷ []) × Opened a s c
 Opened a (Listing ∷ s) b = (c : List Token) × (b ≡ c ++ token.Word (codes "one") ∷ token.Open ∷ []) × Opened a s c
 Opened a (Part f ∷ s) b = (c l : List Token) × (b ≡ c ++ (l ++ token.Comma ∷ [])) × IsFormula a 1 l f × Opened a s c
@@ -55,8 +58,10 @@ IsSettled n (Bracket ∷ s) = Unit {0}
 IsSettled n (Listing ∷ s) = Unit {0}
 IsSettled n (Part f ∷ s) = Unit {0}
 
-loosened : (a : Atoms Formula) (k n : ℕ) (f : Formula) (s : List (Frame Formula)) (b : List Token) → k ≤ n → Reached a n f s b → Reached a k f s b
-loosened a k n f s b l r = record { earlier = r.earlier; own = r.own; all = r.all; formula = tighter k n l r.formula; opened = r.opened }
+loosened : (a : Atoms Formula) (k n : ℕ) (f : Formula) (s : List (Frame Formula)) (b : List Token) → k ≤ n
+    → Reached a n f s b → Reached a k f s b
+loosened a k n f s b l r =
+    record { earlier = r.earlier; own = r.own; all = r.all; formula = tighter k n l r.formula; opened = r.opened }
 
 abbrev pub IsReached : Atoms Formula → ℕ → Formula × List (Frame Formula) → List Token → Type 0
 IsReached a n (f, s) b = Reached a n f s b × IsSettled n s
@@ -79,17 +84,33 @@ admits_six (Bracket ∷ s) = tt
 admits_six (Listing ∷ s) = tt
 admits_six (Part f ∷ s) = tt
 
-settles : (a : Atoms Formula) (k n : ℕ) (f : Formula) (s : List (Frame Formula)) (b : List Token) → k ≤ n → k ≤ 6 → Admits n s → Reached a n f s b → IsReached a k (settled trees k f s) b
+settles : (a : Atoms Formula) (k n : ℕ) (f : Formula) (s : List (Frame Formula)) (b : List Token) → k ≤ n → k ≤ 6
+    → Admits n s → Reached a n f s b → IsReached a k (settled trees k f s) b
 settles a k n f [] b l m h r = (loosened a k n f _ b l r, tt)
 settles a k n f (Negation ∷ s) b l m h r =
     let o = r.opened in
     settles a k 6 (Meaning.Formula.Not f) s b m m (admits_six s)
-    (record { earlier = o.0; own = token.Not ∷ r.own; all = r.all ∙ rw (o.1, append_assoc) refl; formula = negated (tighter 6 n h r.formula); opened = o.2 })
+    (record {
+      earlier = o.0;
+      own = token.Not ∷ r.own;
+      all = r.all
+          ∙ rw (o.1, append_assoc) refl;
+      formula = negated (tighter 6 n h r.formula);
+      opened = o.2;
+    })
 settles a k n f (Left j g ∷ s) b l m h r = go (nat_le k (level j)) refl
     (λ q. let o = r.opened in settles a k (level j) (join j g f) s b q m o.4
-    (record { earlier = o.0; own = o.1 ++ token.Joint j ∷ r.own; all = r.all ∙ rw o.2 (simp append_assoc); formula = joined j o.3 (tighter (right_level j) n h r.formula); opened = o.5 }))
+    (record {
+      earlier = o.0;
+      own = o.1 ++ token.Joint j ∷ r.own;
+      all = r.all
+          ∙ rw o.2 (simp append_assoc);
+      formula = joined j o.3 (tighter (right_level j) n h r.formula);
+      opened = o.5;
+    }))
   where
-    go : (t : Bool) → nat_le k (level j) ≡ t → (k ≤ level j → IsReached a k (settled trees k (join j g f) s) b) → IsReached a k (cond t (settled trees k (join j g f) s) (f, Left j g ∷ s)) b
+    go : (t : Bool) → nat_le k (level j) ≡ t → (k ≤ level j → IsReached a k (settled trees k (join j g f) s) b)
+        → IsReached a k (cond t (settled trees k (join j g f) s) (f, Left j g ∷ s)) b
     go true e ih = ih (true_le k (level j) e)
     go false e ih = (loosened a k n f _ b l r, false_lt k (level j) e)
 settles a k n f (Bracket ∷ s) b l m h r = (loosened a k n f _ b l r, tt)
@@ -134,41 +155,71 @@ settled_admits j (Part f ∷ s) h = tt
 
 -- ---- closing
 
-list_tells : (a : Atoms Formula) (fs : Terms) (s : List (Frame Formula)) (b c us : List Token) → b ≡ c ++ us → IsItems a us fs → Opened a s c → Tells a (list_closed trees fs s) (b ++ token.Close ∷ [])
+list_tells : (a : Atoms Formula) (fs : Terms) (s : List (Frame Formula)) (b c us : List Token) → b ≡ c ++ us
+    → IsItems a us fs → Opened a s c → Tells a (list_closed trees fs s) (b ++ token.Close ∷ [])
 list_tells a fs [] b c us e d o = tt
 list_tells a fs (Negation ∷ s) b c us e d o = tt
 list_tells a fs (Left j g ∷ s) b c us e d o = tt
 list_tells a fs (Bracket ∷ s) b c us e d o = tt
 list_tells a fs (Listing ∷ s) b c us e d o =
-    record { earlier = o.0; own = token.Word (codes "one") ∷ token.Open ∷ (us ++ token.Close ∷ []); all = rw (e, o.1) (simp append_assoc); formula = listed (some d); opened = o.2 }
+    record {
+      earlier = o.0;
+      own = token.Word (codes "one") ∷ token.Open ∷ (us ++ token.Close ∷ []);
+      all = rw (e, o.1)
+          (simp append_assoc);
+      formula = listed (some d);
+      opened = o.2;
+    }
 list_tells a fs (Part f ∷ s) b c us e d o =
-    list_tells a (Meaning.Terms.More f fs) s b o.0 (o.1 ++ token.Comma ∷ us) (rw (e, o.2) (simp append_assoc)) (more o.3 d) o.4
+    list_tells a (Meaning.Terms.More f fs) s b o.0 (o.1 ++ token.Comma ∷ us) (rw (e, o.2) (simp append_assoc))
+    (more o.3 d) o.4
 
-closed_tells : (a : Atoms Formula) (r : Formula × List (Frame Formula)) (b : List Token) → IsReached a 1 r b → Tells a (closed trees r.0 r.1) (b ++ token.Close ∷ [])
+closed_tells : (a : Atoms Formula) (r : Formula × List (Frame Formula)) (b : List Token) → IsReached a 1 r b
+    → Tells a (closed trees r.0 r.1) (b ++ token.Close ∷ [])
 closed_tells a (f, []) b h = tt
 closed_tells a (f, Negation ∷ s) b h = tt
 closed_tells a (f, Left j g ∷ s) b h = tt
 closed_tells a (f, Bracket ∷ s) b h =
     let r = h.0 in let o = r.opened in
-    record { earlier = o.0; own = token.Open ∷ (r.own ++ token.Close ∷ []); all = rw (r.all, o.1) (simp append_assoc); formula = bracketed r.formula; opened = o.2 }
-closed_tells a (f, Listing ∷ s) b h = list_tells a _ (Listing ∷ s) b (h.0).earlier (h.0).own (h.0).all (last (h.0).formula) (h.0).opened
-closed_tells a (f, Part g ∷ s) b h = list_tells a _ (Part g ∷ s) b (h.0).earlier (h.0).own (h.0).all (last (h.0).formula) (h.0).opened
+    record {
+      earlier = o.0;
+      own = token.Open ∷ (r.own ++ token.Close ∷ []);
+      all = rw (r.all, o.1)
+          (simp append_assoc);
+      formula = bracketed r.formula;
+      opened = o.2;
+    }
+closed_tells a (f, Listing ∷ s) b h =
+    list_tells a _ (Listing ∷ s) b (h.0).earlier (h.0).own (h.0).all (last (h.0).formula) (h.0).opened
+closed_tells a (f, Part g ∷ s) b h =
+    list_tells a _ (Part g ∷ s) b (h.0).earlier (h.0).own (h.0).all (last (h.0).formula) (h.0).opened
 
-parted_tells : (a : Atoms Formula) (r : Formula × List (Frame Formula)) (b : List Token) → IsReached a 1 r b → Tells a (parted r.0 r.1) (b ++ token.Comma ∷ [])
+parted_tells : (a : Atoms Formula) (r : Formula × List (Frame Formula)) (b : List Token) → IsReached a 1 r b
+    → Tells a (parted r.0 r.1) (b ++ token.Comma ∷ [])
 parted_tells a (f, []) b h = tt
 parted_tells a (f, Negation ∷ s) b h = tt
 parted_tells a (f, Left j g ∷ s) b h = tt
 parted_tells a (f, Bracket ∷ s) b h = tt
-parted_tells a (f, Listing ∷ s) b h = let r = h.0 in (r.earlier, r.own, rw r.all (simp append_assoc), r.formula, r.opened)
-parted_tells a (f, Part g ∷ s) b h = let r = h.0 in (r.earlier, r.own, rw r.all (simp append_assoc), r.formula, r.opened)
+parted_tells a (f, Listing ∷ s) b h = let r = h.0 in
+    (r.earlier, r.own, rw r.all (simp append_assoc), r.formula, r.opened)
+parted_tells a (f, Part g ∷ s) b h = let r = h.0 in
+    (r.earlier, r.own, rw r.all (simp append_assoc), r.formula, r.opened)
 
-left_tells : (a : Atoms Formula) (j : Joint) (r : Formula × List (Frame Formula)) (b : List Token) → IsReached a (left_level j) r b → Opened a (Left j r.0 ∷ r.1) (b ++ token.Joint j ∷ [])
-left_tells a j (f, s) b h = let r = h.0 in (r.earlier, r.own, rw r.all (simp append_assoc), r.formula, settled_admits j s h.1, r.opened)
+left_tells : (a : Atoms Formula) (j : Joint) (r : Formula × List (Frame Formula)) (b : List Token)
+    → IsReached a (left_level j) r b → Opened a (Left j r.0 ∷ r.1) (b ++ token.Joint j ∷ [])
+left_tells a j (f, s) b h = let r = h.0 in
+    (r.earlier, r.own, rw r.all (simp append_assoc), r.formula, settled_admits j s h.1, r.opened)
 
-after_tells : (a : Atoms Formula) (f : Formula) (s : List (Frame Formula)) (t : Token) (b : List Token) → Reached a 7 f s b → Tells a (after trees f s t) (b ++ t ∷ [])
-after_tells a f s (token.Joint j) b r = left_tells a j (settled trees (left_level j) f s) b (settles a (left_level j) 7 f s b (omega (arith, (row j).left_most)) (row j).left_most (admits_more 6 7 s (lit≤ tt) (admits_six s)) r)
-after_tells a f s token.Close b r = closed_tells a (settled trees 1 f s) b (settles a 1 7 f s b (lit≤ tt) (lit≤ tt) (admits_more 6 7 s (lit≤ tt) (admits_six s)) r)
-after_tells a f s token.Comma b r = parted_tells a (settled trees 1 f s) b (settles a 1 7 f s b (lit≤ tt) (lit≤ tt) (admits_more 6 7 s (lit≤ tt) (admits_six s)) r)
+after_tells : (a : Atoms Formula) (f : Formula) (s : List (Frame Formula)) (t : Token) (b : List Token)
+    → Reached a 7 f s b → Tells a (after trees f s t) (b ++ t ∷ [])
+after_tells a f s (token.Joint j) b r =
+    left_tells a j (settled trees (left_level j) f s) b
+    (settles a (left_level j) 7 f s b (omega (arith, (row j).left_most)) (row j).left_most
+    (admits_more 6 7 s (lit≤ tt) (admits_six s)) r)
+after_tells a f s token.Close b r = closed_tells a (settled trees 1 f s) b
+    (settles a 1 7 f s b (lit≤ tt) (lit≤ tt) (admits_more 6 7 s (lit≤ tt) (admits_six s)) r)
+after_tells a f s token.Comma b r = parted_tells a (settled trees 1 f s) b
+    (settles a 1 7 f s b (lit≤ tt) (lit≤ tt) (admits_more 6 7 s (lit≤ tt) (admits_six s)) r)
 after_tells a f s (token.Word w) b r = tt
 after_tells a f s (token.Quoted k) b r = tt
 after_tells a f s token.Open b r = tt
@@ -176,7 +227,8 @@ after_tells a f s token.Colon b r = tt
 after_tells a f s token.Equal b r = tt
 after_tells a f s token.Not b r = tt
 
-begun_tells : (a : Atoms Formula) (s : List (Frame Formula)) (t : Token) (b : List Token) → Opened a s b → Tells a (begun s t) (b ++ t ∷ [])
+begun_tells : (a : Atoms Formula) (s : List (Frame Formula)) (t : Token) (b : List Token) → Opened a s b
+    → Tells a (begun s t) (b ++ t ∷ [])
 begun_tells a s (token.Word w) b o = (b, refl, o)
 begun_tells a s token.Open b o = (b, refl, o)
 begun_tells a s token.Not b o = (b, refl, o)
@@ -187,8 +239,17 @@ begun_tells a s token.Colon b o = tt
 begun_tells a s token.Equal b o = tt
 begun_tells a s (token.Joint j) b o = tt
 
-part_tells : (a : Atoms Formula) (s : List (Frame Formula)) (t : Token) (b : List Token) → Opened a (Listing ∷ s) b → Tells a (begun_part trees s t) (b ++ t ∷ [])
-part_tells a s token.Close b o = record { earlier = o.0; own = token.Word (codes "one") ∷ token.Open ∷ token.Close ∷ []; all = rw o.1 (simp append_assoc); formula = listed none; opened = o.2 }
+part_tells : (a : Atoms Formula) (s : List (Frame Formula)) (t : Token) (b : List Token) → Opened a (Listing ∷ s) b
+    → Tells a (begun_part trees s t) (b ++ t ∷ [])
+part_tells a s token.Close b o =
+    record {
+      earlier = o.0;
+      own = token.Word (codes "one") ∷ token.Open ∷ token.Close ∷ [];
+      all = rw o.1
+          (simp append_assoc);
+      formula = listed none;
+      opened = o.2;
+    }
 part_tells a s (token.Word w) b o = begun_tells a (Listing ∷ s) (token.Word w) b o
 part_tells a s token.Open b o = begun_tells a (Listing ∷ s) token.Open b o
 part_tells a s token.Not b o = begun_tells a (Listing ∷ s) token.Not b o
@@ -198,15 +259,20 @@ part_tells a s token.Colon b o = tt
 part_tells a s token.Equal b o = tt
 part_tells a s (token.Joint j) b o = tt
 
-atom_tells : (a : Atoms Formula) (w : List ℕ) (s : List (Frame Formula)) (t : Token) (b c : List Token) → b ≡ c ++ token.Word w ∷ [] → Opened a s c → (o : Option Formula) → a.plain w ≡ o → Tells a (after_atom trees o s t) (b ++ t ∷ [])
+atom_tells : (a : Atoms Formula) (w : List ℕ) (s : List (Frame Formula)) (t : Token) (b c : List Token)
+    → b ≡ c ++ token.Word w ∷ [] → Opened a s c → (o : Option Formula) → a.plain w ≡ o
+    → Tells a (after_atom trees o s t) (b ++ t ∷ [])
 atom_tells a w s t b c e h None p = tt
-atom_tells a w s t b c e h (Some f) p = after_tells a f s t b (record { earlier = c; own = token.Word w ∷ []; all = e; formula = plain p; opened = h })
+atom_tells a w s t b c e h (Some f) p =
+    after_tells a f s t b (record { earlier = c; own = token.Word w ∷ []; all = e; formula = plain p; opened = h })
 
-word_tells : (a : Atoms Formula) (w : List ℕ) (s : List (Frame Formula)) (t : Token) (b : List Token) → Tells a (Named w s) b → Tells a (after_word trees a w s t) (b ++ t ∷ [])
+word_tells : (a : Atoms Formula) (w : List ℕ) (s : List (Frame Formula)) (t : Token) (b : List Token)
+    → Tells a (Named w s) b → Tells a (after_word trees a w s t) (b ++ t ∷ [])
 word_tells a w s token.Open b h = go (is_one w) refl
   where
     go : (t : Bool) → is_one w ≡ t → Tells a (cond t (WantsPart s) Bad) (b ++ token.Open ∷ [])
-    go true e = let same : w ≡ codes "one" = (bytes_eq-Decides w (codes "one")).0 e in (h.0, rw (h.1, same) (simp append_assoc), h.2)
+    go true e = let same : w ≡ codes "one" = (bytes_eq-Decides w (codes "one")).0 e in
+        (h.0, rw (h.1, same) (simp append_assoc), h.2)
     go false e = tt
 word_tells a w s token.Equal b h = (h.0, rw h.1 (simp append_assoc), h.2)
 word_tells a w s (token.Joint j) b h = atom_tells a w s (token.Joint j) b h.0 h.1 h.2 (a.plain w) refl
@@ -217,11 +283,22 @@ word_tells a w s (token.Quoted k) b h = tt
 word_tells a w s token.Colon b h = tt
 word_tells a w s token.Not b h = tt
 
-has_tells : (a : Atoms Formula) (w k : List ℕ) (s : List (Frame Formula)) (b c : List Token) → b ≡ c ++ token.Word w ∷ token.Equal ∷ [] → Opened a s c → (o : Option Formula) → a.equal w k ≡ o → Tells a (has_atom o s) (b ++ token.Quoted k ∷ [])
+has_tells : (a : Atoms Formula) (w k : List ℕ) (s : List (Frame Formula)) (b c : List Token)
+    → b ≡ c ++ token.Word w ∷ token.Equal ∷ [] → Opened a s c → (o : Option Formula) → a.equal w k ≡ o
+    → Tells a (has_atom o s) (b ++ token.Quoted k ∷ [])
 has_tells a w k s b c e h None p = tt
-has_tells a w k s b c e h (Some f) p = record { earlier = c; own = token.Word w ∷ token.Equal ∷ token.Quoted k ∷ []; all = rw e (simp append_assoc); formula = equal p; opened = h }
+has_tells a w k s b c e h (Some f) p =
+    record {
+      earlier = c;
+      own = token.Word w ∷ token.Equal ∷ token.Quoted k ∷ [];
+      all = rw e
+          (simp append_assoc);
+      formula = equal p;
+      opened = h;
+    }
 
-step_tells : (a : Atoms Formula) (st : State Formula) (t : Token) (b : List Token) → Tells a st b → Tells a (step trees a st t) (b ++ t ∷ [])
+step_tells : (a : Atoms Formula) (st : State Formula) (t : Token) (b : List Token) → Tells a st b
+    → Tells a (step trees a st t) (b ++ t ∷ [])
 step_tells a (Wants s) t b h = begun_tells a s t b h
 step_tells a (WantsPart s) t b h = part_tells a s t b h
 step_tells a (Named w s) t b h = word_tells a w s t b h
@@ -237,29 +314,38 @@ step_tells a (Compared w s) (token.Joint j) b h = tt
 step_tells a (Has f s) t b h = after_tells a f s t b h
 step_tells a Bad t b h = tt
 
-run_tells : (a : Atoms Formula) (st : State Formula) (ts b : List Token) → Tells a st b → Tells a (fold (step trees a) st ts) (b ++ ts)
+run_tells : (a : Atoms Formula) (st : State Formula) (ts b : List Token) → Tells a st b
+    → Tells a (fold (step trees a) st ts) (b ++ ts)
 run_tells a st [] b h = rw append-nil h
-run_tells a st (t ∷ ts) b h = let e : (b ++ t ∷ []) ++ ts ≡ b ++ t ∷ ts = simp append_assoc in rw e at (run_tells a (step trees a st t) ts (b ++ t ∷ []) (step_tells a st t b h))
+run_tells a st (t ∷ ts) b h = let e : (b ++ t ∷ []) ++ ts ≡ b ++ t ∷ ts =
+    simp append_assoc in rw e at (run_tells a (step trees a st t) ts (b ++ t ∷ []) (step_tells a st t b h))
 
-alone_tells : (a : Atoms Formula) (r : Formula × List (Frame Formula)) (b : List Token) (f : Formula) → IsReached a 1 r b → alone r ≡ Some f → IsFormula a 1 b f
+alone_tells : (a : Atoms Formula) (r : Formula × List (Frame Formula)) (b : List Token) (f : Formula)
+    → IsReached a 1 r b → alone r ≡ Some f → IsFormula a 1 b f
 alone_tells a (g, []) b f h e =
     let r = h.0 in let same : g ≡ f = cc in
     let all : r.own ≡ b = sym (r.all ∙ rw r.opened refl) in
     rw (same, all) at r.formula
 alone_tells a (g, x ∷ s) b f h e = absurd cc
 
-ended_tells : (a : Atoms Formula) (st : State Formula) (b : List Token) (f : Formula) → Tells a st b → ended trees a st ≡ Some f → IsFormula a 1 b f
-ended_tells a (Has g s) b f h e = alone_tells a (settled trees 1 g s) b f (settles a 1 7 g s b (lit≤ tt) (lit≤ tt) (admits_more 6 7 s (lit≤ tt) (admits_six s)) h) e
+ended_tells : (a : Atoms Formula) (st : State Formula) (b : List Token) (f : Formula) → Tells a st b
+    → ended trees a st ≡ Some f → IsFormula a 1 b f
+ended_tells a (Has g s) b f h e = alone_tells a (settled trees 1 g s) b f
+    (settles a 1 7 g s b (lit≤ tt) (lit≤ tt) (admits_more 6 7 s (lit≤ tt) (admits_six s)) h) e
 ended_tells a (Named w s) b f h e = go (a.plain w) refl e
   where
-    go : (o : Option Formula) → a.plain w ≡ o → option_and_then (λ g. alone (settled trees 1 g s)) o ≡ Some f → IsFormula a 1 b f
+    go : (o : Option Formula) → a.plain w ≡ o → option_and_then (λ g. alone (settled trees 1 g s)) o ≡ Some f
+        → IsFormula a 1 b f
     go None p q = absurd cc
-    go (Some g) p q = alone_tells a (settled trees 1 g s) b f (settles a 1 7 g s b (lit≤ tt) (lit≤ tt) (admits_more 6 7 s (lit≤ tt) (admits_six s)) (record { earlier = h.0; own = token.Word w ∷ []; all = h.1; formula = plain p; opened = h.2 })) q
+    go (Some g) p q = alone_tells a (settled trees 1 g s) b f
+        (settles a 1 7 g s b (lit≤ tt) (lit≤ tt) (admits_more 6 7 s (lit≤ tt) (admits_six s))
+        (record { earlier = h.0; own = token.Word w ∷ []; all = h.1; formula = plain p; opened = h.2 })) q
 ended_tells a (Wants s) b f h e = absurd cc
 ended_tells a (WantsPart s) b f h e = absurd cc
 ended_tells a (Compared w s) b f h e = absurd cc
 ended_tells a Bad b f h e = absurd cc
 
 -- what is read is a formula, with this tree
-pub read_is_formula : (a : Atoms Formula) (ts : List Token) (f : Formula) → formula_read trees a ts ≡ Some f → IsFormula a 1 ts f
+pub read_is_formula : (a : Atoms Formula) (ts : List Token) (f : Formula) → formula_read trees a ts ≡ Some f
+    → IsFormula a 1 ts f
 read_is_formula a ts f e = ended_tells a (fold (step trees a) (Wants []) ts) ts f (run_tells a (Wants []) ts [] refl) e

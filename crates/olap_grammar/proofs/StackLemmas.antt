@@ -18,7 +18,8 @@ no_items : (xs : List Frame) → length xs ≡ 0 → frames_of xs ≡ []
 no_items [] h = frames_none
 no_items (x ∷ xs) h = absurd (omega arith)
 
-pub popped : (old new : List Frame) (n m : ℕ) (r : Option Frame) → length old ≡ n → length new ≡ m → old ≡ new ++ option_to_list r → MatchOption r ((n ≡ 0) × (m ≡ 0)) (λ _. m + 1 ≡ n)
+pub popped : (old new : List Frame) (n m : ℕ) (r : Option Frame) → length old ≡ n → length new ≡ m
+    → old ≡ new ++ option_to_list r → MatchOption r ((n ≡ 0) × (m ≡ 0)) (λ _. m + 1 ≡ n)
     → MatchOption r ((frames_of old ≡ []) × (frames_of new ≡ [])) (λ x. frames_of old ≡ frame_of x ∷ frames_of new)
 popped old new n m None k l e h = (no_items old (omega arith), no_items new (omega arith))
 popped old new n m (Some x) k l e h = rw e (frames_more new x)

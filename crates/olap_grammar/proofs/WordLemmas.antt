@@ -1,8 +1,7 @@
 -- The pieces of a word.
-use Rattle.std.proofs.Common.{◌≡◌, ◌==◌, ◌<◌, ◌+◌, ℕ, true, false, List, [], ◌∷◌, length, arith, ap, ◌∙◌, refl, map, codes, Some, nat_lt}
-use Rattle.std.proofs.lemmas.List.Splits.{length-slice_split, slice_split_at, slice_split_none}
+use Rattle.std.proofs.Common.{◌≡◌, ◌==◌, ◌<◌, ℕ, true, false, List, length, arith, ap, ◌∙◌, refl}
+use Rattle.std.proofs.lemmas.List.Splits.{length-slice_split}
 use Rattle.std.specs.Prelude.{Bool, IsTrue, ◌↔◌}
-use Rattle.std.specs.List.{All, join_with_byte, list_all}
 use Rattle.olap_grammar.specs.Words.{pieces_of}
 
 -- there is at least one

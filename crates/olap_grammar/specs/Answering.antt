@@ -2,7 +2,7 @@
 --     formula_answer    the formula, or why there is none
 --     Answers           a reader gives that answer, or memory is short
 --     tokens_answer     the tokens of a line, or why there are none
-use Rattle.std.specs.Prelude.{◌≡◌, List, Option, None, Some, Result, Ok, Err, cond, nat_le}
+use Rattle.std.specs.Prelude.{◌≡◌, Option, None, Some, Result, Ok, Err, cond, nat_le}
 use Rattle.olap_ast.specs.Formula as Meaning
 use Rattle.olap_ast.specs.Trees.{formula_of}
 use Rattle.olap_ast.specs.Valid.{depth_of}

@@ -1,5 +1,5 @@
 -- A formula that is built only as far as it is no deeper than 64, with its depth.
-use Rattle.std.specs.Prelude.{◌≡◌, ◌+◌, ℕ, List, Option, Some, cond, nat_le, max}
+use Rattle.std.specs.Prelude.{◌≡◌, ◌+◌, ℕ, List, Some, cond, nat_le, max}
 use Rattle.std.specs.Option.{option_map}
 use Rattle.olap_ast.specs.Formula as Meaning
 use Rattle.olap_ast.specs.Formula.{Formula, Terms}
@@ -32,7 +32,8 @@ clipped = record {
 
 -- the atoms, each of depth 1
 abbrev pub leaves : Atoms Formula → Atoms (ℕ × Formula)
-leaves a = record { plain = λ w. option_map (λ f. (1, f)) (a.plain w); equal = λ w k. option_map (λ f. (1, f)) (a.equal w k) }
+leaves a =
+    record { plain = λ w. option_map (λ f. (1, f)) (a.plain w); equal = λ w k. option_map (λ f. (1, f)) (a.equal w k) }
 
 -- each atom has depth 1
 pub record AreLeaves (a : Atoms Formula) : Type 0 where

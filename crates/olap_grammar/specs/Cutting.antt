@@ -61,6 +61,8 @@ pub data IsCut : List ℕ → List Token → Type 0 where
   end : IsCut [] []
   blank : {bs : List ℕ} {ts : List Token} → IsCut bs ts → IsCut (32 ∷ bs) ts
   tab : {bs : List ℕ} {ts : List Token} → IsCut bs ts → IsCut (9 ∷ bs) ts
-  word : (b : ℕ) (w : List ℕ) {bs : List ℕ} {ts : List Token} → AreWordBytes (b ∷ w) → EndsWord bs → IsCut bs ts → IsCut ((b ∷ w) ++ bs) (token.Word (b ∷ w) ∷ ts)
-  quoted : {body k bs : List ℕ} {ts : List Token} → Spells body k → IsCut bs ts → IsCut (34 ∷ (body ++ 34 ∷ bs)) (token.Quoted k ∷ ts)
+  word : (b : ℕ) (w : List ℕ) {bs : List ℕ} {ts : List Token} → AreWordBytes (b ∷ w) → EndsWord bs → IsCut bs ts
+      → IsCut ((b ∷ w) ++ bs) (token.Word (b ∷ w) ∷ ts)
+  quoted : {body k bs : List ℕ} {ts : List Token} → Spells body k → IsCut bs ts
+      → IsCut (34 ∷ (body ++ 34 ∷ bs)) (token.Quoted k ∷ ts)
   mark : (t : Token) {bs : List ℕ} {ts : List Token} → IsMark t → IsCut bs ts → IsCut (mark_bytes t ++ bs) (t ∷ ts)

@@ -41,8 +41,10 @@ between ts b =
 abbrev pub cut_step : Cut → ℕ → Cut
 cut_step (Between ts) b = between ts b
 cut_step (InWord ts w) b = if is_word_byte b then InWord ts (w ++ b ∷ []) else between (ts ++ token.Word w ∷ []) b
-cut_step (InQuotes ts k) b = if b == 34 then Between (ts ++ token.Quoted k ∷ []) else if b == 92 then Escaped ts k else InQuotes ts (k ++ b ∷ [])
-cut_step (Escaped ts k) b = if b == 34 then InQuotes ts (k ++ b ∷ []) else if b == 92 then InQuotes ts (k ++ b ∷ []) else Stuck
+cut_step (InQuotes ts k) b =
+    if b == 34 then Between (ts ++ token.Quoted k ∷ []) else if b == 92 then Escaped ts k else InQuotes ts (k ++ b ∷ [])
+cut_step (Escaped ts k) b =
+    if b == 34 then InQuotes ts (k ++ b ∷ []) else if b == 92 then InQuotes ts (k ++ b ∷ []) else Stuck
 cut_step (Dash ts) b = if b == 62 then Between (ts ++ token.Joint joint.Implies ∷ []) else Stuck
 cut_step (Less ts) b = if b == 45 then LessDash ts else Stuck
 cut_step (LessDash ts) b = if b == 62 then Between (ts ++ token.Joint joint.Iff ∷ []) else Stuck

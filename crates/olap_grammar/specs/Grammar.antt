@@ -47,13 +47,18 @@ mutual
   -- the tokens are a formula of the level, or of a tighter one, with this tree
   pub data IsFormula (a : Atoms Formula) : ℕ → List Token → Formula → Type 0 where
     looser : {n : ℕ} {ts : List Token} {f : Formula} → IsFormula a (suc n) ts f → IsFormula a n ts f
-    joined : (j : Joint) {left right : List Token} {f g : Formula} → IsFormula a (left_level j) left f → IsFormula a (right_level j) right g
+    joined : (j : Joint) {left right : List Token} {f g : Formula} → IsFormula a (left_level j) left f
+        → IsFormula a (right_level j) right g
         → IsFormula a (level j) (left ++ token.Joint j ∷ right) (join j f g)
-    negated : {ts : List Token} {f : Formula} → IsFormula a 6 ts f → IsFormula a 6 (token.Not ∷ ts) (Meaning.Formula.Not f)
-    bracketed : {ts : List Token} {f : Formula} → IsFormula a 1 ts f → IsFormula a 7 (token.Open ∷ (ts ++ token.Close ∷ [])) f
-    listed : {ts : List Token} {fs : Terms} → IsList a ts fs → IsFormula a 7 (token.Word (codes "one") ∷ token.Open ∷ (ts ++ token.Close ∷ [])) (Meaning.Formula.One fs)
+    negated : {ts : List Token} {f : Formula} → IsFormula a 6 ts f
+        → IsFormula a 6 (token.Not ∷ ts) (Meaning.Formula.Not f)
+    bracketed : {ts : List Token} {f : Formula} → IsFormula a 1 ts f
+        → IsFormula a 7 (token.Open ∷ (ts ++ token.Close ∷ [])) f
+    listed : {ts : List Token} {fs : Terms} → IsList a ts fs
+        → IsFormula a 7 (token.Word (codes "one") ∷ token.Open ∷ (ts ++ token.Close ∷ [])) (Meaning.Formula.One fs)
     plain : {w : List ℕ} {f : Formula} → a.plain w ≡ Some f → IsFormula a 7 (token.Word w ∷ []) f
-    equal : {w k : List ℕ} {f : Formula} → a.equal w k ≡ Some f → IsFormula a 7 (token.Word w ∷ token.Equal ∷ token.Quoted k ∷ []) f
+    equal : {w k : List ℕ} {f : Formula} → a.equal w k ≡ Some f
+        → IsFormula a 7 (token.Word w ∷ token.Equal ∷ token.Quoted k ∷ []) f
 
   -- the tokens are no, one or more formulas with commas between them
   pub data IsList (a : Atoms Formula) : List Token → Terms → Type 0 where
@@ -62,4 +67,5 @@ mutual
 
   pub data IsItems (a : Atoms Formula) : List Token → Terms → Type 0 where
     last : {ts : List Token} {f : Formula} → IsFormula a 1 ts f → IsItems a ts (Meaning.Terms.More f Meaning.Terms.End)
-    more : {ts us : List Token} {f : Formula} {fs : Terms} → IsFormula a 1 ts f → IsItems a us fs → IsItems a (ts ++ token.Comma ∷ us) (Meaning.Terms.More f fs)
+    more : {ts us : List Token} {f : Formula} {fs : Terms} → IsFormula a 1 ts f → IsItems a us fs
+        → IsItems a (ts ++ token.Comma ∷ us) (Meaning.Terms.More f fs)

@@ -4,7 +4,7 @@
 --     plain_of       a word by itself
 --     equality_of    a word with a string
 --     atoms_of       both
-use Rattle.std.specs.Prelude.{◌==◌, ℕ, Bool, not, List, [], Option, Some, None, codes, length, map, drop, if◌then◌else◌, nat_lt, unwrap_or, slice_index_or}
+use Rattle.std.specs.Prelude.{◌==◌, ℕ, not, List, [], Option, Some, None, codes, length, map, drop, if◌then◌else◌, nat_lt, unwrap_or, slice_index_or}
 use Rattle.std.specs.List.{list_all, slice_split}
 use Rattle.std.specs.Str.{bytes_eq}
 use Rattle.olap_base.specs.Deciding.{is_category_name}

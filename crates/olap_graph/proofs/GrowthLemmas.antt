@@ -17,25 +17,39 @@ use Rattle.olap_graph.proofs.PlaceLemmas.{missing, joins-Decides, place_of-none}
 
 -- a new element keeps a list without repeats
 differ_push : {X : Type 0} (xs : List X) (x : X) → AllPairs ◌≢◌ xs → (Contains xs x → ⊥) → AllPairs ◌≢◌ (xs ++ x ∷ [])
-differ_push xs x a new = all_pairs_push ◌≢◌ xs x a (λ k d h e. new (subst (λ y. Contains xs y) e (Contains-get_or xs k d h)))
+differ_push xs x a new =
+    all_pairs_push ◌≢◌ xs x a (λ k d h e. new (subst (λ y. Contains xs y) e (Contains-get_or xs k d h)))
 
 -- ---- one more category
 
-pub limits-with_category : (g : Graph) (name : List ℕ) → IsWithinLimits g → category_count g < 64 → length name ≤ 255 → IsWithinLimits (with_category g name)
+pub limits-with_category : (g : Graph) (name : List ℕ) → IsWithinLimits g → category_count g < 64
+    → length name ≤ 255 → IsWithinLimits (with_category g name)
 limits-with_category g name w few short = record {
   few = omega (arith, length_push g.names name);
   few_edges = w.few_edges;
-  short_names = λ n c. elim (Contains-push_cases g.names name n c) [ inl d ↦ w.short_names n d | inr e ↦ subst (λ x. length x ≤ 255) e short ];
+  short_names =
+      λ n c. elim (Contains-push_cases g.names name n c) [
+        | inl d ↦ w.short_names n d
+        | inr e ↦ subst (λ x. length x ≤ 255) e short
+      ];
 }
 
-pub unfinished-with_category : (g : Graph) (name : List ℕ) → IsUnfinished g → IsCategoryName name → category_named g name ≡ None → IsUnfinished (with_category g name)
+pub unfinished-with_category : (g : Graph) (name : List ℕ) → IsUnfinished g → IsCategoryName name
+    → category_named g name ≡ None → IsUnfinished (with_category g name)
 unfinished-with_category g name u n none = record {
-  names_differ = differ_push g.names name u.names_differ (λ c. place_of-none name (codes "All" ∷ g.names) none (contains_cons name g.names (codes "All") c));
+  names_differ =
+      differ_push g.names name u.names_differ
+      (λ c. place_of-none name (codes "All" ∷ g.names) none (contains_cons name g.names (codes "All") c));
   names = λ x c. elim (Contains-push_cases g.names name x c) [
     | inl d ↦ u.names x d
-    | inr e ↦ subst (λ y. IsCategoryName y × (y ≢ codes "All")) e (n, λ q. place_of-none name (codes "All" ∷ g.names) none (subst (λ y. Contains (y ∷ g.names) name) q (contains_head name g.names)))
+    | inr e ↦ subst (λ y. IsCategoryName y × (y ≢ codes "All")) e (
+      n,
+      λ q. place_of-none name (codes "All" ∷ g.names) none
+          (subst (λ y. Contains (y ∷ g.names) name) q (contains_head name g.names)),
+    )
   ];
-  categories = λ c d h. let t = u.categories c d h in let l = length_push g.names name in (omega (arith, t.0), omega (arith, t.1));
+  categories = λ c d h. let t = u.categories c d h in let l = length_push g.names name in
+      (omega (arith, t.0), omega (arith, t.1));
   edges_differ = u.edges_differ;
   no_loop = u.no_loop;
   none_from_all = u.none_from_all;
@@ -43,28 +57,34 @@ unfinished-with_category g name u n none = record {
 
 -- ---- one more edge
 
-pub limits-with_edge : (g : Graph) (c d : ℕ) → IsWithinLimits g → length g.edges < 256 → IsWithinLimits (with_edge g c d)
+pub limits-with_edge : (g : Graph) (c d : ℕ) → IsWithinLimits g → length g.edges < 256
+    → IsWithinLimits (with_edge g c d)
 limits-with_edge g c d w few = record {
   few = w.few;
   few_edges = omega (arith, length_push g.edges (record { child = c; parent = d }));
   short_names = w.short_names;
 }
 
-pub unfinished-with_edge : (g : Graph) (c d : ℕ) → IsUnfinished g → IsCategory g c → IsCategory g d → c ≢ d → c ≢ 0 → edge_between g c d ≡ None → IsUnfinished (with_edge g c d)
+pub unfinished-with_edge : (g : Graph) (c d : ℕ) → IsUnfinished g → IsCategory g c → IsCategory g d → c ≢ d → c ≢ 0
+    → edge_between g c d ≡ None → IsUnfinished (with_edge g c d)
 unfinished-with_edge g c d u hc hd loop from_all none = record {
   names_differ = u.names_differ;
   names = u.names;
   categories = λ a b h. each (λ x y. IsCategory g x × IsCategory g y) a b h u.categories (hc, hd);
-  edges_differ = differ_push g.edges new u.edges_differ (λ h. missing (joins c d) (λ x. x ≡ new) (joins-Decides c d) g.edges 0 none new h refl);
+  edges_differ =
+      differ_push g.edges new u.edges_differ
+      (λ h. missing (joins c d) (λ x. x ≡ new) (joins-Decides c d) g.edges 0 none new h refl);
   no_loop = λ a b h. each (λ x y. x ≢ y) a b h u.no_loop loop;
-  none_from_all = λ b h. each (λ x y. x ≢ 0) 0 b h (λ x y k e. u.none_from_all y (subst (λ z. HasEdge g z y) e k)) from_all refl;
+  none_from_all =
+      λ b h. each (λ x y. x ≢ 0) 0 b h (λ x y k e. u.none_from_all y (subst (λ z. HasEdge g z y) e k)) from_all refl;
 }
   where
     new : Edge
     new = record { child = c; parent = d }
 
     -- what holds of each edge and of the new one holds of each edge now
-    each : (P : ℕ → ℕ → Type 0) (a b : ℕ) → HasEdge (with_edge g c d) a b → ((x y : ℕ) → HasEdge g x y → P x y) → P c d → P a b
+    each : (P : ℕ → ℕ → Type 0) (a b : ℕ) → HasEdge (with_edge g c d) a b → ((x y : ℕ) → HasEdge g x y → P x y)
+        → P c d → P a b
     each P a b h old p = elim (Contains-push_cases g.edges new (record { child = a; parent = b }) h) [
       | inl k ↦ old a b k
       | inr e ↦ subst (λ (x : Edge). P x.child x.parent) e p
@@ -73,25 +93,32 @@ unfinished-with_edge g c d u hc hd loop from_all none = record {
 -- ---- the lists behind
 
 -- the names with one more, where `All` is the first
-pub drop-headed : (names : List (List ℕ)) (name : List ℕ) → IsHeaded names → drop 1 (names ++ name ∷ []) ≡ drop 1 names ++ name ∷ []
+pub drop-headed : (names : List (List ℕ)) (name : List ℕ) → IsHeaded names
+    → drop 1 (names ++ name ∷ []) ≡ drop 1 names ++ name ∷ []
 drop-headed [] name h = absurd (cc)
 drop-headed (x ∷ names) name h = refl
 
 pub headed_push : (names : List (List ℕ)) (name : List ℕ) → IsHeaded names → IsHeaded (names ++ name ∷ [])
 headed_push names name h = ap (λ ns. ns ++ name ∷ []) h ∙ ap (λ ns. codes "All" ∷ ns) (sym (drop-headed names name h))
 
-pub graph_of-category : (names : List (List ℕ)) (ends : List Ends) (name : List ℕ) → IsHeaded names → graph_of (names ++ name ∷ []) ends ≡ with_category (graph_of names ends) name
-graph_of-category names ends name h = ap (λ ns. let g : Graph = record { names = ns; edges = map edge_of ends } in g) (drop-headed names name h)
+pub graph_of-category : (names : List (List ℕ)) (ends : List Ends) (name : List ℕ) → IsHeaded names
+    → graph_of (names ++ name ∷ []) ends ≡ with_category (graph_of names ends) name
+graph_of-category names ends name h =
+    ap (λ ns. let g : Graph = record { names = ns; edges = map edge_of ends } in g) (drop-headed names name h)
 
-pub graph_of-edge : (names : List (List ℕ)) (ends : List Ends) (e : Ends) → graph_of names (ends ++ e ∷ []) ≡ with_edge (graph_of names ends) e.child.0 e.parent.0
-graph_of-edge names ends e = ap (λ es. let g : Graph = record { names = drop 1 names; edges = es } in g) (map_push edge_of ends e)
+pub graph_of-edge : (names : List (List ℕ)) (ends : List Ends) (e : Ends)
+    → graph_of names (ends ++ e ∷ []) ≡ with_edge (graph_of names ends) e.child.0 e.parent.0
+graph_of-edge names ends e =
+    ap (λ es. let g : Graph = record { names = drop 1 names; edges = es } in g) (map_push edge_of ends e)
 
 -- there are as many names as categories
-pub headed_length : (names : List (List ℕ)) (ends : List Ends) → IsHeaded names → length names ≡ category_count (graph_of names ends)
+pub headed_length : (names : List (List ℕ)) (ends : List Ends) → IsHeaded names
+    → length names ≡ category_count (graph_of names ends)
 headed_length names ends h = let l = ap length h in omega (arith, l)
 
 -- where the look-up gave nothing, there is nothing
-pub nothing : {X Y : Type 0} (f : X → Y) (r : Option X) (o : Option Y) → option_map f r ≡ o → is_some r ≡ false → o ≡ None
+pub nothing : {X Y : Type 0} (f : X → Y) (r : Option X) (o : Option Y) → option_map f r ≡ o → is_some r ≡ false
+    → o ≡ None
 nothing f None o e h = sym e
 nothing f (Some x) o e h = absurd (cc)
 

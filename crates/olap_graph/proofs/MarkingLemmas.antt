@@ -30,7 +30,8 @@ from_marked ms k y m = elim (ℕ_discrete y k) [
 ]
 
 -- a mark that is set leaves one fewer unset
-unmarked_set : (ms : List Bool) (k : ℕ) → k < length ms → get_or ms k false ≡ false → suc (unmarked_count (set ms k true)) ≡ unmarked_count ms
+unmarked_set : (ms : List Bool) (k : ℕ) → k < length ms → get_or ms k false ≡ false
+    → suc (unmarked_count (set ms k true)) ≡ unmarked_count ms
 unmarked_set [] k h e = absurd (omega arith)
 unmarked_set (true ∷ ms) zero h e = absurd (cc)
 unmarked_set (false ∷ ms) zero h e = refl
@@ -38,20 +39,24 @@ unmarked_set (true ∷ ms) (suc k) h e = unmarked_set ms k (omega arith) e
 unmarked_set (false ∷ ms) (suc k) h e = ap suc (unmarked_set ms k (omega arith) e)
 
 -- what an index read says of the mark
-pub mark_is : (marks : List Bool) (p : ℕ) (r b : Bool) → p < length marks → r ≡ get_or marks p r → r ≡ b → get_or marks p false ≡ b
+pub mark_is : (marks : List Bool) (p : ℕ) (r b : Bool) → p < length marks → r ≡ get_or marks p r → r ≡ b
+    → get_or marks p false ≡ b
 mark_is marks p r b h e q = get_or_default marks p false r h ∙ sym e ∙ q
 
 -- ---- a visit
 
-take_cases : (ps : List ℕ) (k y : ℕ) → k < length ps → Contains (take (k + 1) ps) y → Contains (take k ps) y ⊎ (get_or ps k 0 ≡ y)
-take_cases ps k y h c = Contains-push_cases (take k ps) (get_or ps k 0) y (subst (λ l. Contains l y) (take_more ps k 0 h) c)
+take_cases : (ps : List ℕ) (k y : ℕ) → k < length ps → Contains (take (k + 1) ps) y
+    → Contains (take k ps) y ⊎ (get_or ps k 0 ≡ y)
+take_cases ps k y h c =
+    Contains-push_cases (take k ps) (get_or ps k 0) y (subst (λ l. Contains l y) (take_more ps k 0 h) c)
 
 take_before : (ps : List ℕ) (k y : ℕ) → k < length ps → Contains (take k ps) y → Contains (take (k + 1) ps) y
 take_before ps k y h c =
     subst (λ l. Contains l y) (sym (take_more ps k 0 h)) (Contains-append_left (take k ps) (get_or ps k 0 ∷ []) y c)
 
 take_last : (ps : List ℕ) (k : ℕ) → k < length ps → Contains (take (k + 1) ps) (get_or ps k 0)
-take_last ps k h = subst (λ l. Contains l (get_or ps k 0)) (sym (take_more ps k 0 h)) (Contains-push (take k ps) (get_or ps k 0))
+take_last ps k h =
+    subst (λ l. Contains l (get_or ps k 0)) (sym (take_more ps k 0 h)) (Contains-push (take k ps) (get_or ps k 0))
 
 pub visit_none : (marks : List Bool) (list : List ℕ) → IsVisit [] marks marks list list
 visit_none marks list = record {
@@ -65,7 +70,8 @@ visit_none marks list = record {
 }
 
 -- a parent that is marked already
-pub visit_skip : (ps : List ℕ) (k : ℕ) (before marks : List Bool) (old list : List ℕ) → k < length ps → IsMarked marks (get_or ps k 0)
+pub visit_skip : (ps : List ℕ) (k : ℕ) (before marks : List Bool) (old list : List ℕ) → k < length ps
+    → IsMarked marks (get_or ps k 0)
     → IsVisit (take k ps) before marks old list → IsVisit (take (k + 1) ps) before marks old list
 visit_skip ps k before marks old list h m v = record {
   same_length = v.same_length;
@@ -78,7 +84,8 @@ visit_skip ps k before marks old list h m v = record {
 }
 
 -- a parent that is marked and listed now
-pub visit_push : (ps : List ℕ) (k : ℕ) (before marks : List Bool) (old list : List ℕ) → k < length ps → get_or ps k 0 < length marks
+pub visit_push : (ps : List ℕ) (k : ℕ) (before marks : List Bool) (old list : List ℕ) → k < length ps
+    → get_or ps k 0 < length marks
     → get_or marks (get_or ps k 0) false ≡ false → IsVisit (take k ps) before marks old list
     → IsVisit (take (k + 1) ps) before (set marks (get_or ps k 0) true) old (list ++ get_or ps k 0 ∷ [])
 visit_push ps k before marks old list h l n v =
@@ -109,7 +116,8 @@ visit_push ps k before marks old list h l n v =
     }
 
 -- the same, where the parent was read into p and i
-pub visit_push_at : (ps : List ℕ) (k p i : ℕ) (before marks : List Bool) (old list : List ℕ) → k < length ps → get_or ps k 0 ≡ p → get_or ps k 0 ≡ i
+pub visit_push_at : (ps : List ℕ) (k p i : ℕ) (before marks : List Bool) (old list : List ℕ) → k < length ps
+    → get_or ps k 0 ≡ p → get_or ps k 0 ≡ i
     → i < length marks → get_or marks i false ≡ false → IsVisit (take k ps) before marks old list
     → IsVisit (take (k + 1) ps) before (set marks i true) old (list ++ p ∷ [])
 visit_push_at ps k p i before marks old list h e q l n v =
@@ -149,7 +157,8 @@ frontier_next g n x z marks after rest new ps within parents f v =
     }
 
 -- where nothing is listed, what a marked one leads to is marked
-all_marked : (g : Graph) (n x : ℕ) (marks : List Bool) → IsFrontier g n x marks [] → {a y : ℕ} → Steps (HasEdge g) a y → IsMarked marks a → IsMarked marks y
+all_marked : (g : Graph) (n x : ℕ) (marks : List Bool) → IsFrontier g n x marks [] → {a y : ℕ}
+    → Steps (HasEdge g) a y → IsMarked marks a → IsMarked marks y
 all_marked g n x marks f here m = m
 all_marked g n x marks f (step {x = a} {y = b} r s) m =
     all_marked g n x marks f s (elim (f.closed a m) [ inl c ↦ absurd (Contains-nil a c) | inr c ↦ c b r ])
@@ -165,7 +174,8 @@ none_marked zero y = refl
 none_marked (suc n) zero = refl
 none_marked (suc n) (suc y) = none_marked n y
 
-pub frontier_start : (g : Graph) (n x : ℕ) (marks : List Bool) (list : List ℕ) → marks ≡ replicate n false → x < n → list ≡ x ∷ []
+pub frontier_start : (g : Graph) (n x : ℕ) (marks : List Bool) (list : List ℕ) → marks ≡ replicate n false → x < n
+    → list ≡ x ∷ []
     → IsFrontier g n x (set marks x true) list
 frontier_start g n x marks list e l q =
     let size : length marks ≡ n = ap length e ∙ length-replicate n false in
@@ -174,7 +184,8 @@ frontier_start g n x marks list e l q =
       same_length = length-set marks x true ∙ size;
       start = same_marked marks x inside;
       reached = λ y m. only (λ z. Steps (HasEdge g) x z) y m here;
-      listed = λ y c. let t : x ≡ y = alone y c in let s : y < n = omega arith in (s, subst (λ z. IsMarked (set marks x true) z) t (same_marked marks x inside));
+      listed = λ y c. let t : x ≡ y = alone y c in let s : y < n = omega arith in
+          (s, subst (λ z. IsMarked (set marks x true) z) t (same_marked marks x inside));
       closed = λ z m. inl (only (λ w. Contains list w) z m (subst (λ l. Contains l x) (sym q) (0, omega arith, refl)));
     }
   where
@@ -185,7 +196,8 @@ frontier_start g n x marks list e l q =
     ]
 
     alone : (y : ℕ) → Contains list y → x ≡ y
-    alone y c = elim (contains_cases y x [] (subst (λ l. Contains l y) q c)) [ inl t ↦ t | inr k ↦ absurd (Contains-nil y k) ]
+    alone y c =
+        elim (contains_cases y x [] (subst (λ l. Contains l y) q c)) [ inl t ↦ t | inr k ↦ absurd (Contains-nil y k) ]
 
 pub no_items : (xs : List ℕ) → length xs ≡ 0 → xs ≡ []
 no_items [] e = refl

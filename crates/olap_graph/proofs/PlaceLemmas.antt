@@ -21,12 +21,14 @@ use Rattle.olap_graph.specs.Lookups.{joins}
 
 module _ {X : Type 0} (t : X → Bool) (P : X → Type 0) (tells : (x : X) → Decides (t x) (P x)) where
   -- what is found lies in the list and passes
-  pub found : (xs : List X) (n i : ℕ) → position_from t n xs ≡ Some i → (k : ℕ) × (i ≡ n + k) × (k < length xs) × ((d : X) → P (get_or xs k d))
+  pub found : (xs : List X) (n i : ℕ) → position_from t n xs ≡ Some i
+      → (k : ℕ) × (i ≡ n + k) × (k < length xs) × ((d : X) → P (get_or xs k d))
   found [] n i e = absurd (cc)
   found (x ∷ xs) n i e = go (t x) (tells x).0 e (found xs (n + 1) i)
     where
       go : (b : Bool) → (b ≡ true → P x) → cond b (Some n) (position_from t (n + 1) xs) ≡ Some i
-          → (position_from t (n + 1) xs ≡ Some i → (k : ℕ) × (i ≡ (n + 1) + k) × (k < length xs) × ((d : X) → P (get_or xs k d)))
+          → (position_from t (n + 1) xs ≡ Some i → (k : ℕ) × (i ≡ (n + 1) + k) × (k < length xs) ×
+          ((d : X) → P (get_or xs k d)))
           → (k : ℕ) × (i ≡ n + k) × (k < length (x ∷ xs)) × ((d : X) → P (get_or (x ∷ xs) k d))
       go true p q rest = let s : n ≡ i = cc in (0, omega arith, omega arith, λ d. p refl)
       go false p q rest = let r = rest q in (suc r.0, omega (arith, r.1), omega (arith, r.2), r.3)
@@ -45,7 +47,8 @@ module _ {X : Type 0} (t : X → Bool) (P : X → Type 0) (tells : (x : X) → D
       ]
 
   -- the first that passes is found
-  pub first_at : (xs : List X) (n k : ℕ) (d : X) → k < length xs → P (get_or xs k d) → ((j : ℕ) → j < k → P (get_or xs j d) → ⊥)
+  pub first_at : (xs : List X) (n k : ℕ) (d : X) → k < length xs → P (get_or xs k d)
+      → ((j : ℕ) → j < k → P (get_or xs j d) → ⊥)
       → position_from t n xs ≡ Some (n + k)
   first_at [] n k d l p none = absurd (omega arith)
   first_at (x ∷ xs) n zero d l p none = go (t x) ((tells x).1 p)
@@ -54,9 +57,11 @@ module _ {X : Type 0} (t : X → Bool) (P : X → Type 0) (tells : (x : X) → D
       go true e = let z : n ≡ n + 0 = omega arith in ap (λ (i : ℕ). Some i) z
       go false e = absurd (cc)
   first_at (x ∷ xs) n (suc k) d l p none =
-      go (t x) (λ e. none 0 (omega arith) ((tells x).0 e)) (first_at xs (n + 1) k d (omega arith) p (λ j h. none (suc j) (omega arith)))
+      go (t x) (λ e. none 0 (omega arith) ((tells x).0 e))
+      (first_at xs (n + 1) k d (omega arith) p (λ j h. none (suc j) (omega arith)))
     where
-      go : (b : Bool) → (b ≡ true → ⊥) → position_from t (n + 1) xs ≡ Some ((n + 1) + k) → cond b (Some n) (position_from t (n + 1) xs) ≡ Some (n + suc k)
+      go : (b : Bool) → (b ≡ true → ⊥) → position_from t (n + 1) xs ≡ Some ((n + 1) + k)
+          → cond b (Some n) (position_from t (n + 1) xs) ≡ Some (n + suc k)
       go true e rest = absurd (e refl)
       go false e rest = let z : (n + 1) + k ≡ n + suc k = omega arith in rest ∙ ap (λ (i : ℕ). Some i) z
 
@@ -66,7 +71,8 @@ module _ {X : Type 0} (t : X → Bool) (P : X → Type 0) (tells : (x : X) → D
     where
       go : (o : Option ℕ) → position_from t n (x ∷ xs) ≡ o → is_some o ≡ true → (y : X) × Contains (x ∷ xs) y × P y
       go None q h = absurd (cc)
-      go (Some i) q h = let r = found (x ∷ xs) n i q in (get_or (x ∷ xs) r.0 x, Contains-get_or (x ∷ xs) r.0 x r.2, r.3 x)
+      go (Some i) q h =
+          let r = found (x ∷ xs) n i q in (get_or (x ∷ xs) r.0 x, Contains-get_or (x ∷ xs) r.0 x r.2, r.3 x)
 
   found_is_some : (xs : List X) (n : ℕ) (x : X) → Contains xs x → P x → is_some (position_from t n xs) ≡ true
   found_is_some xs n x c p = go (position_from t n xs) refl
@@ -82,7 +88,8 @@ pub place_of-none : (name : List ℕ) (names : List (List ℕ)) → place_of nam
 place_of-none name names e c = missing (bytes_eq name) (λ x. name ≡ x) (bytes_eq-Decides name) names 0 e name c refl
 
 -- the place of a name lies in the list
-pub place_of-within : (names : List (List ℕ)) (name : List ℕ) (r : Option CatId) → option_map (λ c. c.0) r ≡ place_of name names → IfSome r (λ c. c.0 < length names)
+pub place_of-within : (names : List (List ℕ)) (name : List ℕ) (r : Option CatId)
+    → option_map (λ c. c.0) r ≡ place_of name names → IfSome r (λ c. c.0 < length names)
 place_of-within names name None e = tt
 place_of-within names name (Some c) e =
     let r = found (bytes_eq name) (λ x. name ≡ x) (bytes_eq-Decides name) names 0 c.0 (sym e) in
@@ -93,17 +100,22 @@ place_of-within names name (Some c) e =
 -- the test for an edge from c to d
 pub joins-Decides : (c d : ℕ) (e : Edge) → Decides (joins c d e) (e ≡ record { child = c; parent = d })
 joins-Decides c d e =
-    Decides-like (joins c d e) (λ p. λ i. record { child = p.0 i; parent = p.1 i }) (λ q. (ap (λ (x : Edge). x.child) q, ap (λ (x : Edge). x.parent) q))
+    Decides-like (joins c d e) (λ p. λ i. record { child = p.0 i; parent = p.1 i })
+    (λ q. (ap (λ (x : Edge). x.child) q, ap (λ (x : Edge). x.parent) q))
     (Decides-and (e.child == c) (e.parent == d) (Decides-eqb e.child c) (Decides-eqb e.parent d))
 
 -- an edge is found exactly where the list has it
-pub joins-found : (edges : List Edge) (c d : ℕ) (r : Option EdgeId) → option_map (λ e. e.0) r ≡ position_from (joins c d) 0 edges
+pub joins-found : (edges : List Edge) (c d : ℕ) (r : Option EdgeId)
+    → option_map (λ e. e.0) r ≡ position_from (joins c d) 0 edges
     → IsSome r ↔ Contains edges (record { child = c; parent = d })
 joins-found edges c d r e = (
   λ h.
-      let s = some_is_found (joins c d) (λ x. x ≡ record { child = c; parent = d }) (joins-Decides c d) edges 0 (ap is_some (sym e) ∙ mapped r ∙ h) in
+      let s = some_is_found (joins c d) (λ x. x ≡ record { child = c; parent = d }) (joins-Decides c d) edges 0
+      (ap is_some (sym e) ∙ mapped r ∙ h) in
       subst (λ x. Contains edges x) s.2 s.1,
-  λ h. sym (mapped r) ∙ ap is_some e ∙ found_is_some (joins c d) (λ x. x ≡ record { child = c; parent = d }) (joins-Decides c d) edges 0 (record { child = c; parent = d }) h refl,
+  λ h. sym (mapped r) ∙ ap is_some e
+      ∙ found_is_some (joins c d) (λ x. x ≡ record { child = c; parent = d }) (joins-Decides c d) edges 0
+      (record { child = c; parent = d }) h refl,
 )
   where
     mapped : (r : Option EdgeId) → is_some (option_map (λ e. e.0) r) ≡ is_some r

@@ -1,6 +1,6 @@
 -- What the tables of a graph say of it, and how they are filled.
 use Rattle.std.proofs.Common.{◌≡◌, ◌≢◌, ℕ, zero, suc, ◌+◌, ◌<◌, ◌↔◌, ◌==◌, List, [], ◌∷◌, ◌++◌, length, get_or, set, map, cond, Bool, true, false, refl, ap, sym, subst, ◌∙◌, inl, arith, get_or-set_other}
-use Rattle.std.specs.Prelude.{All, Contains, IsTrue, filter, replicate}
+use Rattle.std.specs.Prelude.{All, Contains, IsTrue, filter}
 use Rattle.std.specs.List.{range_with_len}
 use Rattle.std.proofs.lemmas.List.{get_or-map, get_or_default, length-map, map_push, map-id}
 use Rattle.std.proofs.lemmas.List.Elements.{Contains-get_or, filter-append}
@@ -25,7 +25,8 @@ abbrev pub no_edge : EdgeId
 no_edge = record { 0 = 0 }
 
 -- the edge at a place, read from the ends
-pub edge_at-drawn : (ends : List Ends) (k : ℕ) → k < length ends → edge_at (drawn ends) k ≡ edge_of (get_or ends k nowhere)
+pub edge_at-drawn : (ends : List Ends) (k : ℕ) → k < length ends
+    → edge_at (drawn ends) k ≡ edge_of (get_or ends k nowhere)
 edge_at-drawn ends k h = get_or-map edge_of ends k nowhere (record { child = 0; parent = 0 }) h
 
 -- each place holds an edge of the graph
@@ -33,38 +34,53 @@ pub has_edge_at : (g : Graph) (k : ℕ) → k < length g.edges → HasEdge g (ed
 has_edge_at g k h = Contains-get_or g.edges k (record { child = 0; parent = 0 }) h
 
 -- and each edge has a place
-pub place_of_edge : (g : Graph) (c d : ℕ) → HasEdge g c d → (k : ℕ) × (k < length g.edges) × (edge_at g k ≡ record { child = c; parent = d })
-place_of_edge g c d h = (h.0, h.1, get_or_default g.edges h.0 (record { child = 0; parent = 0 }) (record { child = c; parent = d }) h.1 ∙ h.2)
+pub place_of_edge : (g : Graph) (c d : ℕ) → HasEdge g c d
+    → (k : ℕ) × (k < length g.edges) × (edge_at g k ≡ record { child = c; parent = d })
+place_of_edge g c d h = (
+  h.0,
+  h.1,
+  get_or_default g.edges h.0 (record { child = 0; parent = 0 })
+      (record { child = c; parent = d }) h.1 ∙ h.2,
+)
 
 -- ---- the edges out of a category
 
 range_push : (n : ℕ) → range_with_len 0 (n + 1) ≡ range_with_len 0 n ++ n ∷ []
 range_push n =
-    sym (map-id (range_with_len 0 (n + 1))) ∙ map-range_with_len_more (λ k. k) 0 n n (omega arith) ∙ ap (λ ks. ks ++ n ∷ []) (map-id (range_with_len 0 n))
+    sym (map-id (range_with_len 0 (n + 1))) ∙ map-range_with_len_more (λ k. k) 0 n n (omega arith)
+    ∙ ap (λ ks. ks ++ n ∷ []) (map-id (range_with_len 0 n))
 
-filter_push : (p : ℕ → Bool) (n : ℕ) → filter p (range_with_len 0 (n + 1)) ≡ filter p (range_with_len 0 n) ++ filter p (n ∷ [])
+filter_push : (p : ℕ → Bool) (n : ℕ)
+    → filter p (range_with_len 0 (n + 1)) ≡ filter p (range_with_len 0 n) ++ filter p (n ∷ [])
 filter_push p n = ap (filter p) (range_push n) ∙ filter-append p (range_with_len 0 n) (n ∷ [])
 
 -- an edge out of the category
-pub out_push : (ends : List Ends) (c k : ℕ) (out now : List EdgeId) (e : EdgeId) → k < length ends → (get_or ends k nowhere).child.0 ≡ c → e.0 ≡ k → now ≡ out ++ e ∷ []
+pub out_push : (ends : List Ends) (c k : ℕ) (out now : List EdgeId) (e : EdgeId) → k < length ends
+    → (get_or ends k nowhere).child.0 ≡ c → e.0 ≡ k → now ≡ out ++ e ∷ []
     → map (λ e. e.0) out ≡ filter (λ j. (edge_at (drawn ends) j).child == c) (range_with_len 0 k)
     → map (λ e. e.0) now ≡ filter (λ j. (edge_at (drawn ends) j).child == c) (range_with_len 0 (k + 1))
 out_push ends c k out now e h t q m i =
     let test : ℕ → Bool = λ j. (edge_at (drawn ends) j).child == c in
-    let passes : test k ≡ true = (Decides-eqb (edge_at (drawn ends) k).child c).1 (ap (λ (x : Edge). x.child) (edge_at-drawn ends k h) ∙ t) in
+    let passes : test k ≡ true =
+    (Decides-eqb (edge_at (drawn ends) k).child c).1 (ap (λ (x : Edge). x.child) (edge_at-drawn ends k h) ∙ t) in
     let last : filter test (k ∷ []) ≡ k ∷ [] = ap (λ b. cond b (k ∷ []) []) passes in
-    ap (map (λ e. e.0)) m ∙ map_push (λ e. e.0) out e ∙ ap (λ ks. ks ++ e.0 ∷ []) i ∙ ap (λ j. filter test (range_with_len 0 k) ++ j ∷ []) q
+    ap (map (λ e. e.0)) m ∙ map_push (λ e. e.0) out e ∙ ap (λ ks. ks ++ e.0 ∷ []) i
+    ∙ ap (λ j. filter test (range_with_len 0 k) ++ j ∷ []) q
     ∙ sym (filter_push test k ∙ ap (λ ks. filter test (range_with_len 0 k) ++ ks) last)
 
 -- an edge out of another one
-pub out_skip : (ends : List Ends) (c k : ℕ) (out : List EdgeId) → k < length ends → ((get_or ends k nowhere).child.0 ≡ c → ⊥)
+pub out_skip : (ends : List Ends) (c k : ℕ) (out : List EdgeId) → k < length ends
+    → ((get_or ends k nowhere).child.0 ≡ c → ⊥)
     → map (λ e. e.0) out ≡ filter (λ j. (edge_at (drawn ends) j).child == c) (range_with_len 0 k)
     → map (λ e. e.0) out ≡ filter (λ j. (edge_at (drawn ends) j).child == c) (range_with_len 0 (k + 1))
 out_skip ends c k out h t i =
     let test : ℕ → Bool = λ j. (edge_at (drawn ends) j).child == c in
-    let fails : test k ≡ false = failed (test k) (λ b. t (sym (ap (λ (x : Edge). x.child) (edge_at-drawn ends k h)) ∙ (Decides-eqb (edge_at (drawn ends) k).child c).0 b)) in
+    let fails : test k ≡ false =
+    let child = ap (λ (x : Edge). x.child) (edge_at-drawn ends k h) in
+    failed (test k) (λ b. t (sym child ∙ (Decides-eqb (edge_at (drawn ends) k).child c).0 b)) in
     let last : filter test (k ∷ []) ≡ [] = ap (λ b. cond b (k ∷ []) []) fails in
-    i ∙ sym (filter_push test k ∙ ap (λ ks. filter test (range_with_len 0 k) ++ ks) last ∙ append_nothing (filter test (range_with_len 0 k)))
+    i ∙ sym (filter_push test k ∙ ap (λ ks. filter test (range_with_len 0 k) ++ ks) last ∙ append_nothing
+    (filter test (range_with_len 0 k)))
   where
     failed : (b : Bool) → (b ≡ true → ⊥) → b ≡ false
     failed true n = absurd (n refl)
@@ -75,7 +91,8 @@ out_skip ends c k out h t i =
     append_nothing (x ∷ xs) = ap (λ ys. x ∷ ys) (append_nothing xs)
 
 -- what is read from the table at z
-pub out_read : (g : Graph) (n : ℕ) (out : List (List EdgeId)) (z r : ℕ) (row items : List EdgeId) → AreOut g n out → z < n → r ≡ z → row ≡ get_or out r row
+pub out_read : (g : Graph) (n : ℕ) (out : List (List EdgeId)) (z r : ℕ) (row items : List EdgeId) → AreOut g n out
+    → z < n → r ≡ z → row ≡ get_or out r row
     → items ≡ row → map (λ e. e.0) items ≡ edges_from g z
 out_read g n out z r row items a h e q i =
     let l : z < length out = let k = a.count in omega arith in
@@ -87,16 +104,19 @@ pub out_is : (g : Graph) (z : ℕ) (out : List EdgeId) (e : EdgeId) → map (λ 
     → (e.0 < length g.edges) × ((edge_at g e.0).child ≡ z)
 out_is g z out e q c =
     let test : ℕ → Bool = λ j. (edge_at g j).child == z in
-    let m : Contains (edges_from g z) e.0 = subst (λ ks. Contains ks e.0) q (Contains-map (λ (e : EdgeId). e.0) out e c) in
+    let m : Contains (edges_from g z) e.0 =
+    subst (λ ks. Contains ks e.0) q (Contains-map (λ (e : EdgeId). e.0) out e c) in
     let f = Contains-from_filter test (range_with_len 0 (length g.edges)) e.0 m in
     (Contains-from_range (length g.edges) e.0 f.0, (Decides-eqb (edge_at g e.0).child z).0 f.1)
 
-pub out_within : (g : Graph) (z : ℕ) (out : List EdgeId) → map (λ e. e.0) out ≡ edges_from g z → (k : ℕ) (d : EdgeId) → k < length out
+pub out_within : (g : Graph) (z : ℕ) (out : List EdgeId) → map (λ e. e.0) out ≡ edges_from g z
+    → (k : ℕ) (d : EdgeId) → k < length out
     → (get_or out k d).0 < length g.edges
 out_within g z out q k d h = (out_is g z out (get_or out k d) q (Contains-get_or out k d h)).0
 
 -- the parents of the edges out of z are those that an edge from z leads to
-pub parents_are : (g : Graph) (z : ℕ) (out : List EdgeId) → map (λ e. e.0) out ≡ edges_from g z → (y : ℕ) → Contains (parents_of g out) y ↔ HasEdge g z y
+pub parents_are : (g : Graph) (z : ℕ) (out : List EdgeId) → map (λ e. e.0) out ≡ edges_from g z → (y : ℕ)
+    → Contains (parents_of g out) y ↔ HasEdge g z y
 parents_are g z out q y = (from, to)
   where
     from : Contains (parents_of g out) y → HasEdge g z y
@@ -109,24 +129,31 @@ parents_are g z out q y = (from, to)
     to h =
         let t = place_of_edge g z y h in
         let passes = (Decides-eqb (edge_at g t.0).child z).1 (ap (λ (e : Edge). e.child) t.2) in
-        let m = Contains-filter (λ j. (edge_at g j).child == z) (range_with_len 0 (length g.edges)) t.0 passes (Contains-range (length g.edges) t.0 t.1) in
+        let m = Contains-filter (λ j. (edge_at g j).child == z) (range_with_len 0 (length g.edges)) t.0 passes
+        (Contains-range (length g.edges) t.0 t.1) in
         let e = Contains-from_map (λ (e : EdgeId). e.0) out t.0 (subst (λ ks. Contains ks t.0) (sym q) m) in
-        let parent : (edge_at g e.0.0).parent ≡ y = ap (λ k. (edge_at g k).parent) e.2 ∙ ap (λ (x : Edge). x.parent) t.2 in
-        subst (λ b. Contains (parents_of g out) b) parent (Contains-map (λ (e : EdgeId). (edge_at g e.0).parent) out e.0 e.1)
+        let parent : (edge_at g e.0.0).parent ≡ y =
+        ap (λ k. (edge_at g k).parent) e.2 ∙ ap (λ (x : Edge). x.parent) t.2 in
+        subst (λ b. Contains (parents_of g out) b) parent
+        (Contains-map (λ (e : EdgeId). (edge_at g e.0).parent) out e.0 e.1)
 
 -- the parent of the edge at a place of a list of edges
-pub parent_at : (ends : List Ends) (out : List EdgeId) (k : ℕ) (d : EdgeId) → k < length out → (get_or out k d).0 < length ends
+pub parent_at : (ends : List Ends) (out : List EdgeId) (k : ℕ) (d : EdgeId) → k < length out
+    → (get_or out k d).0 < length ends
     → get_or (parents_of (drawn ends) out) k 0 ≡ (get_or ends (get_or out k d).0 nowhere).parent.0
 parent_at ends out k d h l =
-    get_or-map (λ (e : EdgeId). (edge_at (drawn ends) e.0).parent) out k d 0 h ∙ ap (λ (e : Edge). e.parent) (edge_at-drawn ends (get_or out k d).0 l)
+    get_or-map (λ (e : EdgeId). (edge_at (drawn ends) e.0).parent) out k d 0 h
+    ∙ ap (λ (e : Edge). e.parent) (edge_at-drawn ends (get_or out k d).0 l)
 
 -- the parent of an edge that is read from the list
-pub parent_read : (ends : List Ends) (out : List EdgeId) (k r p : ℕ) → k < length out → All (λ e. e.0 < length ends) out → r ≡ (get_or out k no_edge).0
+pub parent_read : (ends : List Ends) (out : List EdgeId) (k r p : ℕ) → k < length out
+    → All (λ e. e.0 < length ends) out → r ≡ (get_or out k no_edge).0
     → p ≡ (get_or ends r nowhere).parent.0 → get_or (parents_of (drawn ends) out) k 0 ≡ p
 parent_read ends out k r p h w e q =
     parent_at ends out k no_edge h (w k no_edge h) ∙ ap (λ i. (get_or ends i nowhere).parent.0) (sym e) ∙ sym q
 
-pub parent_within : (ends : List Ends) (out : List EdgeId) (k r p m : ℕ) → k < length out → All (λ e. e.0 < length ends) out → r ≡ (get_or out k no_edge).0
+pub parent_within : (ends : List Ends) (out : List EdgeId) (k r p m : ℕ) → k < length out
+    → All (λ e. e.0 < length ends) out → r ≡ (get_or out k no_edge).0
     → p ≡ (get_or ends r nowhere).parent.0 → All (λ x. x < m) (parents_of (drawn ends) out) → p < m
 parent_within ends out k r p m h w e q a =
     let l = length-map out (λ (e : EdgeId). (edge_at (drawn ends) e.0).parent) in
@@ -134,28 +161,15 @@ parent_within ends out k r p m h w e q a =
 
 -- ---- the bottom categories
 
-pub bottoms_start : (ends : List Ends) (n : ℕ) (marks : List Bool) → marks ≡ replicate n true → (c : ℕ) → c < n
-    → IsMarked (set marks 0 false) c ↔ ((c ≢ 0) × ((k : ℕ) → k < 0 → (edge_at (drawn ends) k).parent ≢ c))
-bottoms_start ends zero marks e c h = absurd (omega arith)
-bottoms_start ends (suc n) [] e c h = absurd (cc)
-bottoms_start ends (suc n) (b ∷ bs) e zero h = (λ m. absurd (cc), λ t. absurd (t.0 refl))
-bottoms_start ends (suc n) (b ∷ bs) e (suc c) h = (
-  λ m. (λ z. absurd (omega arith), λ k l q. absurd (omega arith)),
-  λ t. let tail : bs ≡ replicate n true = cc in ap (λ ms. get_or ms c false) tail ∙ marked n c (omega arith),
-)
-  where
-    marked : (n c : ℕ) → c < n → get_or (replicate n true) c false ≡ true
-    marked zero c h = absurd (omega arith)
-    marked (suc n) zero h = refl
-    marked (suc n) (suc c) h = marked n c (omega arith)
-
 -- the edge's parent is no bottom category
-pub bottoms_step : (ends : List Ends) (n k p : ℕ) (marks : List Bool) → length marks ≡ n → p ≡ (edge_at (drawn ends) k).parent
+pub bottoms_step : (ends : List Ends) (n k p : ℕ) (marks : List Bool) → length marks ≡ n
+    → p ≡ (edge_at (drawn ends) k).parent
     → (c : ℕ) → c < n → IsMarked marks c ↔ ((c ≢ 0) × ((j : ℕ) → j < k → (edge_at (drawn ends) j).parent ≢ c))
     → IsMarked (set marks p false) c ↔ ((c ≢ 0) × ((j : ℕ) → j < k + 1 → (edge_at (drawn ends) j).parent ≢ c))
 bottoms_step ends n k p marks l q c h i = elim (ℕ_discrete c p) [
   | yes e ↦ (
-    λ m. absurd (let z : get_or (set marks p false) c false ≡ false = unset marks p c e in let t : true ≡ false = sym m ∙ z in cc),
+    λ m. absurd (let z : get_or
+        (set marks p false) c false ≡ false = unset marks p c e in let t : true ≡ false = sym m ∙ z in cc),
     λ t. absurd (t.1 k (omega arith) (sym q ∙ sym e)),
   )
   | no n ↦
@@ -180,17 +194,24 @@ bottoms_step ends n k p marks l q c h i = elim (ℕ_discrete c p) [
 
 -- no edge is left
 pub bottoms_done : (g : Graph) (n : ℕ) (marks : List Bool) → length marks ≡ n
-    → ((c : ℕ) → c < n → IsMarked marks c ↔ ((c ≢ 0) × ((k : ℕ) → k < length g.edges → (edge_at g k).parent ≢ c))) → AreBottoms g n marks
+    → ((c : ℕ) → c < n → IsMarked marks c ↔ ((c ≢ 0) × ((k : ℕ) → k < length g.edges → (edge_at g k).parent ≢ c)))
+    → AreBottoms g n marks
 bottoms_done g n marks l i = record {
   count = l;
   exact = λ c h. (
-    λ m. let t = (i c h).0 m in (t.0, λ d e. let p = place_of_edge g d c e in t.1 p.0 p.1 (ap (λ (x : Edge). x.parent) p.2)),
-    λ t. (i c h).1 (t.0, λ k b q. t.1 (edge_at g k).child (subst (λ z. HasEdge g (edge_at g k).child z) q (has_edge_at g k b))),
+    λ m. let t =
+        (i c h).0 m in (t.0, λ d e. let p = place_of_edge g d c e in t.1 p.0 p.1 (ap (λ (x : Edge). x.parent) p.2)),
+    λ t. (i c h).1 (
+      t.0,
+      λ k b q. t.1 (edge_at g k).child
+          (subst (λ z. HasEdge g (edge_at g k).child z) q (has_edge_at g k b)),
+    ),
   );
 }
 
 -- what is read from the marks
-pub bottom_is : (names : List (List ℕ)) (ends : List Ends) (n c : ℕ) (marks : List Bool) (r : Bool) → AreBottoms (drawn ends) n marks → n ≡ category_count (graph_of names ends)
+pub bottom_is : (names : List (List ℕ)) (ends : List Ends) (n c : ℕ) (marks : List Bool) (r : Bool)
+    → AreBottoms (drawn ends) n marks → n ≡ category_count (graph_of names ends)
     → c < n → r ≡ get_or marks c r → IsTrue r ↔ IsBottom (graph_of names ends) c
 bottom_is names ends n c marks r b q h e =
     let t = b.exact c h in
@@ -203,7 +224,8 @@ bottom_is names ends n c marks r b q h e =
 
 -- ---- what is reached
 
-pub row_is : (names : List (List ℕ)) (ends : List Ends) (n c d : ℕ) (rows : List (List Bool)) (row : List Bool) (r : Bool) → AreReached (drawn ends) n rows → c < n
+pub row_is : (names : List (List ℕ)) (ends : List Ends) (n c d : ℕ) (rows : List (List Bool)) (row : List Bool)
+    (r : Bool) → AreReached (drawn ends) n rows → c < n
     → row ≡ get_or rows c row → r ≡ get_or row d false → IsTrue r ↔ CategoryReaches (graph_of names ends) c d
 row_is names ends n c d rows row r a h e q =
     let l : c < length rows = let k = a.count in omega arith in
@@ -214,11 +236,13 @@ row_is names ends n c d rows row r a h e q =
 
 -- the ends of the edges are categories
 pub lies_within : (names : List (List ℕ)) (ends : List Ends) (n : ℕ) → n ≡ category_count (graph_of names ends)
-    → ((c d : ℕ) → HasEdge (graph_of names ends) c d → IsCategory (graph_of names ends) c × IsCategory (graph_of names ends) d) → LiesWithin (drawn ends) n
+    → ((c d : ℕ) → HasEdge (graph_of names ends) c d → IsCategory (graph_of names ends) c × IsCategory
+    (graph_of names ends) d) → LiesWithin (drawn ends) n
 lies_within names ends n q f c d h = let t = f c d h in (omega (arith, t.0), omega (arith, t.1))
 
 -- the first row without a mark for `All` is that of the first category without a way
-pub first_without_way : (names : List (List ℕ)) (ends : List Ends) (n : ℕ) (rows : List (List Bool)) (c : CatId) → AreReached (drawn ends) n rows
+pub first_without_way : (names : List (List ℕ)) (ends : List Ends) (n : ℕ) (rows : List (List Bool)) (c : CatId)
+    → AreReached (drawn ends) n rows
     → n ≡ category_count (graph_of names ends) → IsFirstUnmarked rows c → IsFirstWithoutWay (graph_of names ends) c.0
 first_without_way names ends n rows c a q f =
     let k = a.count in
@@ -234,8 +258,10 @@ first_without_way names ends n rows c a q f =
     positive (suc d) n = omega arith
 
 -- where each row has the mark, each category reaches `All`
-pub all_reach : (names : List (List ℕ)) (ends : List Ends) (n : ℕ) (rows : List (List Bool)) → AreReached (drawn ends) n rows
-    → n ≡ category_count (graph_of names ends) → AreAllMarked rows → (c : ℕ) → IsCategory (graph_of names ends) c → CategoryReaches (graph_of names ends) c 0
+pub all_reach : (names : List (List ℕ)) (ends : List Ends) (n : ℕ) (rows : List (List Bool))
+    → AreReached (drawn ends) n rows
+    → n ≡ category_count (graph_of names ends) → AreAllMarked rows → (c : ℕ) → IsCategory (graph_of names ends) c
+    → CategoryReaches (graph_of names ends) c 0
 all_reach names ends n rows a q m zero h = inl refl
 all_reach names ends n rows a q m (suc c) h =
     let k = a.count in

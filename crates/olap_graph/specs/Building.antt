@@ -1,4 +1,4 @@
--- Graphs in the making: what holds of them at each moment, and the first reason to refuse another category or edge.
+-- Graphs in the making: what holds of them at each moment, and why another category or edge is refused.
 --     IsWithinLimits       there are not too many categories and edges, and no name is too long
 --     IsUnfinished         a hierarchy schema but for the walks to `All`
 --     category_refusal     the first reason to refuse a category

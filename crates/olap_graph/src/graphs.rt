@@ -140,7 +140,11 @@ impl Graph {
         ensures place { option_map (λ e. e.0) result ≡ edge_between self.now child.0 parent.0 }
         ensures has { IsSome result ↔ HasEdge self.now child.0 parent.0 }
     {
-        leading(&self.edges, self.tables.out[usize::from(child.0)].items(), parent)
+        leading(
+            &self.edges,
+            self.tables.out[usize::from(child.0)].items(),
+            parent,
+        )
     }
 
     /// The child and the parent of an edge.

@@ -13,6 +13,8 @@ mod naming;
 mod reaching;
 mod refusals;
 mod tables;
+#[cfg(test)]
+mod tests;
 
 pub use building::GraphBuilder;
 pub use graphs::Graph;

@@ -49,7 +49,8 @@ pub(crate) fn named(names: &[Text], name: &[u8]) -> Option<CatId>
 /// The edge with these ends.
 pub(crate) fn joining(edges: &[Ends], child: CatId, parent: CatId) -> Option<EdgeId>
     requires { length edges.now ≤ 256 }
-    ensures { option_map (λ e. e.0) result ≡ position_from (joins child.0 parent.0) 0 (map edge_of edges.now) }
+    ensures { option_map (λ e. e.0) result
+        ≡ position_from (joins child.0 parent.0) 0 (map edge_of edges.now) }
 {
     for (i, ends) in edges.iter().enumerate() {
         if ends.are(child, parent) {
@@ -62,7 +63,8 @@ pub(crate) fn joining(edges: &[Ends], child: CatId, parent: CatId) -> Option<Edg
 /// The first of these edges that leads to the parent.
 pub(crate) fn leading(edges: &[Ends], out: &[EdgeId], parent: CatId) -> Option<EdgeId>
     requires { All (λ e. e.0 < length edges.now) out.now }
-    ensures some { IfSome result (λ e. Contains out.now e × ((edge_at (drawn edges.now) e.0).parent ≡ parent.0)) }
+    ensures some { IfSome result
+        (λ e. Contains out.now e × ((edge_at (drawn edges.now) e.0).parent ≡ parent.0)) }
     ensures none { IfNone result (Contains (parents_of (drawn edges.now) out.now) parent.0 → ⊥) }
 {
     for e in out {

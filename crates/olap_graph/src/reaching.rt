@@ -16,7 +16,8 @@ fn visit(
 ) -> Result<(), Memory>
     requires edges { All (λ e. e.0 < length edges.now) out.now }
     requires parents { All (λ p. p < vec_len marks.old) (parents_of (drawn edges.now) out.now) }
-    ensures { OnOk result (IsVisit (parents_of (drawn edges.now) out.now) marks.old.items marks.new.items list.old.items list.new.items) }
+    ensures { let parents = parents_of (drawn edges.now) out.now in
+        OnOk result (IsVisit parents marks.old.items marks.new.items list.old.items list.new.items) }
 {
     for e in out {
         let parent = edges[usize::from(e.0)].parent.0;

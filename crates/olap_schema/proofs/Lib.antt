@@ -27,3 +27,5 @@ pub mod BackGraph
 pub mod BackConstraints
 pub mod BackLineTokens
 pub mod BackSchema
+pub mod FormulaLemmas
+pub mod AtomLemmas

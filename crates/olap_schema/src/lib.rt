@@ -12,6 +12,8 @@ mod questions;
 mod reading;
 mod schemas;
 mod statements;
+#[cfg(test)]
+mod tests;
 
 pub use kinds::{FormulaRefusal, SchemaKind, SchemaRefusal};
 pub use laws::{read_schemas_are_readable, read_schemas_are_valid};

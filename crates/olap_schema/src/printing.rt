@@ -146,7 +146,8 @@ fn push_one(out: &mut Vec<u8>, graph: &Graph, root: CatId, terms: &Terms) -> Res
 {
     out.extend_from_slice(b"one(")?;
     push_list(out, graph, root, terms)?;
-    out.extend_from_slice(b")")
+    out.push(b')')?;
+    Ok(())
 }
 
 #[cycle(push_formula)]

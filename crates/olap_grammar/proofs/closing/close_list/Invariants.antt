@@ -8,7 +8,8 @@ use Rattle.olap_grammar.proofs.closing.close_list.Given as goal
 
 abbrev pub invariant-parts : goal.invariant-parts
 invariant-parts l =
-    list_closed clipped (parts_of l.fn.last) (frames l.fn.stack) ≡ list_closed clipped (parts_of l.parts) (frames l.stack)
+    list_closed clipped (parts_of l.fn.last) (frames l.fn.stack)
+    ≡ list_closed clipped (parts_of l.parts) (frames l.stack)
 
 abbrev pub decreases-parts : goal.decreases-parts
 decreases-parts l = length (frames l.stack)

@@ -1,8 +1,8 @@
-use Rattle.std.proofs.Common.{◌∙◌, sym, arith}
+use Rattle.std.proofs.Common.{◌∙◌, sym}
 use Rattle.olap_grammar.specs.Known.{graph_seen}
 use Rattle.olap_grammar.specs.Words.{atoms_of}
 use Rattle.olap_grammar.proofs.Hom.{reads_clipped}
-use Rattle.olap_grammar.proofs.LeafLemmas.{atoms_are_leaves, no_formula, not_deep, refused, too_deep}
+use Rattle.olap_grammar.proofs.LeafLemmas.{atoms_are_leaves, not_deep, refused, too_deep}
 use Rattle.olap_grammar.proofs.reading.formula.Goals as goal
 
 pub returns-then-part-gt64 : goal.returns-then-part-gt64
@@ -16,4 +16,6 @@ returns-else-part-gt64 c =
     not_deep _ c.in-Ok.part.depth _ (sym along ∙ c.in-Ok.ensures) c.if-part-gt64.false
 
 pub returns-in-Err : goal.returns-in-Err
-returns-in-Err c = refused _ _ c.in-Err.e (reads_clipped (atoms_of (graph_seen c.args.known.now)) c.args.tokens.now (atoms_are_leaves _)) c.in-Err.ensures
+returns-in-Err c =
+    refused _ _ c.in-Err.e
+    (reads_clipped (atoms_of (graph_seen c.args.known.now)) c.args.tokens.now (atoms_are_leaves _)) c.in-Err.ensures

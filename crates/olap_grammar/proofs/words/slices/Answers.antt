@@ -8,4 +8,5 @@ pub returns : goal.returns
 unfolding pieces_of
 returns c =
     map_from_collect _ c.collect.ensures.ran
-    (YieldsList-from_slice_split _ (λ b. b == c.args.mark) c.args.word.now c.split.ensures.rest c.split.ensures.done c.split.ensures.closure (λ x b q k. search rules))
+    (YieldsList-from_slice_split _ (λ b. b == c.args.mark) c.args.word.now c.split.ensures.rest c.split.ensures.done
+    c.split.ensures.closure (λ x b q k. search rules))

@@ -13,7 +13,8 @@ loop-e-preserved c =
     let k = c.loop-e.e-index in
     let p = (get_or ends c.from.result nowhere).parent.0 in
     below_more (λ j. get_or (parents_of (drawn ends) out) j 0 ≢ c.args.parent.0) k c.loop-e.invariant
-    (λ e. c.if-edges-from.false (sym (parent_read ends out k c.from.result p c.loop-e-test.true c.requires c.from.ensures refl) ∙ e))
+    (λ e. c.if-edges-from.false
+    (sym (parent_read ends out k c.from.result p c.loop-e-test.true c.requires c.from.ensures refl) ∙ e))
 
 pub returns-clause-none : goal.returns-clause-none
 returns-clause-none c = λ h.

@@ -18,12 +18,14 @@ loop-z-init c =
     let n = length c.args.out.now in
     let x = c.args.category in
     subst (λ i. IsFrontier g n x (set c.in_ok-marks.marks.items i true) c.push.new.self.items) (sym c.from.ensures)
-    (frontier_start g n x c.in_ok-marks.marks.items c.push.new.self.items (c.in_ok-marks.ensures.items_if_clones_equal (λ y e. e)) c.requires.category
+    (frontier_start g n x c.in_ok-marks.marks.items c.push.new.self.items
+    (c.in_ok-marks.ensures.items_if_clones_equal (λ y e. e)) c.requires.category
     (c.in_ok-push.ensures.items ∙ ap (λ l. l ++ x ∷ []) c.new-list.ensures.items))
 
 pub bounds-out-from : goal.bounds-out-from
 bounds-out-from c =
-    let i = c.loop-z.invariant.listed c.in-Some.z (in_list c.loop-z.list.items c.pop.new.self.items c.in-Some.z c.in-Some.ensures.items) in
+    let i = c.loop-z.invariant.listed c.in-Some.z
+    (in_list c.loop-z.list.items c.pop.new.self.items c.in-Some.z c.in-Some.ensures.items) in
     let e = c.from-in-Some.ensures in
     omega (arith, i.0)
 
@@ -33,7 +35,8 @@ visit-requires-clause-edges c = λ k d h.
     let z = c.in-Some.z in
     let i = c.loop-z.invariant.listed z (in_list c.loop-z.list.items c.pop.new.self.items z c.in-Some.ensures.items) in
     let out = c.items.result.now in
-    let q = out_read g (length c.args.out.now) c.args.out.now z c.from-in-Some.result c.index-out-from.result out c.requires.out i.0 c.from-in-Some.ensures
+    let q = out_read g (length c.args.out.now) c.args.out.now z c.from-in-Some.result c.index-out-from.result out
+    c.requires.out i.0 c.from-in-Some.ensures
     c.index-out-from.is c.items.ensures in
     subst (λ m. (get_or out k d).0 < m) (length-map c.args.edges.now edge_of) (out_within g z out q k d h)
 
@@ -43,7 +46,8 @@ visit-requires-clause-parents c = λ k d h.
     let z = c.in-Some.z in
     let i = c.loop-z.invariant.listed z (in_list c.loop-z.list.items c.pop.new.self.items z c.in-Some.ensures.items) in
     let out = c.items.result.now in
-    let q = out_read g (length c.args.out.now) c.args.out.now z c.from-in-Some.result c.index-out-from.result out c.requires.out i.0 c.from-in-Some.ensures
+    let q = out_read g (length c.args.out.now) c.args.out.now z c.from-in-Some.result c.index-out-from.result out
+    c.requires.out i.0 c.from-in-Some.ensures
     c.index-out-from.is c.items.ensures in
     let p = get_or (parents_of g out) k d in
     let t = c.requires.within z p ((parents_are g z out q p).0 (Contains-get_or (parents_of g out) k d h)) in
@@ -58,10 +62,13 @@ loop-z-preserved c =
     let z = c.in-Some.z in
     let i = c.loop-z.invariant.listed z (in_list c.loop-z.list.items c.pop.new.self.items z c.in-Some.ensures.items) in
     let out = c.items.result.now in
-    let q = out_read g n c.args.out.now z c.from-in-Some.result c.index-out-from.result out c.requires.out i.0 c.from-in-Some.ensures c.index-out-from.is c.items.ensures in
-    frontier_next g n c.args.category z c.loop-z.marks.items c.visit.new.marks.items c.pop.new.self.items c.visit.new.list.items (parents_of g out)
+    let q = out_read g n c.args.out.now z c.from-in-Some.result c.index-out-from.result out c.requires.out i.0
+    c.from-in-Some.ensures c.index-out-from.is c.items.ensures in
+    frontier_next g n c.args.category z c.loop-z.marks.items c.visit.new.marks.items c.pop.new.self.items
+    c.visit.new.list.items (parents_of g out)
     (λ a b e. (c.requires.within a b e).1) (parents_are g z out q)
-    (subst (λ l. IsFrontier g n c.args.category c.loop-z.marks.items l) c.in-Some.ensures.items c.loop-z.invariant) c.in_ok-visit.ensures
+    (subst (λ l. IsFrontier g n c.args.category c.loop-z.marks.items l) c.in-Some.ensures.items c.loop-z.invariant)
+    c.in_ok-visit.ensures
 
 pub returns : goal.returns
 returns c =
@@ -72,4 +79,5 @@ returns c =
     let e : length c.loop-z.list.items ≡ 0 = let m = none.0 in omega arith in
     subst (λ r. IsRow g n c.args.category r) (sym c.from_vec.ensures)
     (frontier_done g n c.args.category c.loop-z.marks.items
-    (subst (λ l. IsFrontier g n c.args.category c.loop-z.marks.items l) (no_items c.loop-z.list.items e) c.loop-z.invariant))
+    (subst (λ l. IsFrontier g n c.args.category c.loop-z.marks.items l)
+    (no_items c.loop-z.list.items e) c.loop-z.invariant))

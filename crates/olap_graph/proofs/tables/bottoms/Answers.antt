@@ -27,7 +27,8 @@ loop-e-preserved c =
     let e = ap (λ (x : Edge). x.parent) (edge_at-drawn ends k c.loop-e-test.true) in
     record {
       count = length-set c.loop-e.marks.items c.from-in-loop-e.result false ∙ c.loop-e.invariant.count;
-      exact = λ x h. bottoms_step ends c.args.count k c.from-in-loop-e.result c.loop-e.marks.items c.loop-e.invariant.count (c.from-in-loop-e.ensures ∙ sym e) x h
+      exact = λ x h. bottoms_step ends c.args.count k c.from-in-loop-e.result c.loop-e.marks.items
+          c.loop-e.invariant.count (c.from-in-loop-e.ensures ∙ sym e) x h
           (c.loop-e.invariant.exact x h);
     }
 
@@ -35,6 +36,8 @@ pub returns : goal.returns
 returns c =
     let g = drawn c.args.edges.now in
     let k = c.loop-e.e-index in
-    let all : k ≡ length g.edges = let l = length-map c.args.edges.now edge_of in let h = c.loop-e-test.false in let e = c.loop-e.auto in omega arith in
+    let all : k ≡ length g.edges = let l = length-map c.args.edges.now edge_of in let h = c.loop-e-test.false in
+    let e = c.loop-e.auto in omega arith in
     bottoms_done g c.args.count c.loop-e.marks.items c.loop-e.invariant.count
-    (subst (λ n. (x : ℕ) → x < c.args.count → IsMarked c.loop-e.marks.items x ↔ ((x ≢ 0) × ((j : ℕ) → j < n → (edge_at g j).parent ≢ x))) all c.loop-e.invariant.exact)
+    (subst (λ n. (x : ℕ) → x < c.args.count → IsMarked c.loop-e.marks.items x ↔
+    ((x ≢ 0) × ((j : ℕ) → j < n → (edge_at g j).parent ≢ x))) all c.loop-e.invariant.exact)

@@ -14,12 +14,14 @@ loop-i-preserved c =
     let x = c.args.category in
     let i = c.loop-i.i in
     let out = c.loop-i.out.items in
-    let Goal : List EdgeId → Type 0 = λ es. map (λ e. e.0) es ≡ filter (λ j. (edge_at (drawn ends) j).child == x) (range_with_len 0 (i + 1)) in
+    let Goal : List EdgeId → Type 0 =
+    λ es. map (λ e. e.0) es ≡ filter (λ j. (edge_at (drawn ends) j).child == x) (range_with_len 0 (i + 1)) in
     elim c.if-edges-i.branch [
       | then-edges-i+in_ok-push w ↦
           let e : EdgeId = record { 0 = i } in
           out_push ends x i out c.if-edges-i.out.items e c.loop-i-test.true w.if-edges-i.true refl
           (ap (λ v. v.items) w.out-is ∙ w.in_ok-push.ensures.items) c.loop-i.invariant
       | else-edges-i w ↦
-          subst Goal (sym (ap (λ v. v.items) w.out-is)) (out_skip ends x i out c.loop-i-test.true w.if-edges-i.false c.loop-i.invariant)
+          subst Goal (sym (ap (λ v. v.items) w.out-is))
+          (out_skip ends x i out c.loop-i-test.true w.if-edges-i.false c.loop-i.invariant)
     ]

@@ -20,10 +20,15 @@ invariant_of-self-2 c =
     let few : category_count old < 64 = let l = headed_length names ends headed in omega arith in
     let none : category_named old name ≡ None =
     nothing (λ k. k.0) c.category.result (category_named old name)
-    (c.category.ensures.place ∙ ap (category_named c.args.self.now) c.bytes.ensures ∙ ap (λ (g : Graph). category_named g name) (sym c.self.view_is))
+    (c.category.ensures.place ∙ ap (category_named c.args.self.now) c.bytes.ensures ∙ ap
+    (λ (g : Graph). category_named g name) (sym c.self.view_is))
     (sym c.is_some.ensures ∙ c.if-is_some.false) in
     record {
       headed = subst IsHeaded (sym c.in_ok-push.ensures.items) (headed_push names name headed);
-      limits = subst IsWithinLimits (sym grown) (limits-with_category old name c.self.invariant.limits few c.requires.short);
-      unfinished = subst IsUnfinished (sym grown) (unfinished-with_category old name c.self.invariant.unfinished c.requires.name none);
+      limits =
+          subst IsWithinLimits (sym grown)
+          (limits-with_category old name c.self.invariant.limits few c.requires.short);
+      unfinished =
+          subst IsUnfinished (sym grown)
+          (unfinished-with_category old name c.self.invariant.unfinished c.requires.name none);
     }

@@ -13,8 +13,9 @@ of-requires-clause-within c =
     let names = a.names.items in
     let ends = a.edges.items in
     let size : c.len.result ≡ category_count (graph_of names ends) =
-        let h = headed_length names ends c.self.invariant.headed in
-        let n = ap length (c.in_ok-names.ensures ∙ c.deref.ensures.value) in
-        let l = c.len.ensures in let o = c.in_ok-names.names.ok in omega arith in
+    let h = headed_length names ends c.self.invariant.headed in
+    let n = ap length (c.in_ok-names.ensures ∙ c.deref.ensures.value) in
+    let l = c.len.ensures in let o = c.in_ok-names.names.ok in omega arith in
     let same = c.deref-3.ensures.value ∙ c.in_ok-edges.ensures.items ∙ c.deref-2.ensures.value in
-    subst (λ (es : List Ends). LiesWithin (drawn es) c.len.result) (sym same) (lies_within names ends c.len.result size c.self.invariant.hierarchy.categories)
+    subst (λ (es : List Ends). LiesWithin (drawn es) c.len.result) (sym same)
+    (lies_within names ends c.len.result size c.self.invariant.hierarchy.categories)

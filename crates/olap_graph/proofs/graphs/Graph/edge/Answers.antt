@@ -23,9 +23,12 @@ leading-requires c = λ k d h.
     let out = c.items.result.now in
     let e = headed_length names ends c.self.invariant.headed in
     let inside = subst (λ n. x < n) (sym (e ∙ ap category_count c.self.view_is)) c.requires in
-    let q = out_read (drawn ends) (length names) a.tables.out.items x c.from.result c.index.result.now out c.self.invariant.tables.out inside c.from.ensures
-        c.index.ensures c.items.ensures in
-    subst (λ n. (get_or out k d).0 < n) (length-map ends edge_of ∙ ap length (sym c.deref.ensures.value)) (out_within (drawn ends) x out q k d h)
+    let q = out_read (drawn ends)
+    (length names) a.tables.out.items x c.from.result c.index.result.now out c.self.invariant.tables.out inside
+    c.from.ensures
+    c.index.ensures c.items.ensures in
+    subst (λ n. (get_or out k d).0 < n) (length-map ends edge_of ∙ ap length (sym c.deref.ensures.value))
+    (out_within (drawn ends) x out q k d h)
 
 pub returns-clause-place : goal.returns-clause-place
 returns-clause-place c =
@@ -38,11 +41,17 @@ returns-clause-place c =
     let r = c.leading.result in
     let e = headed_length names ends c.self.invariant.headed in
     let inside = subst (λ n. x < n) (sym (e ∙ ap category_count c.self.view_is)) c.requires in
-    let some = subst (λ (es : List Ends). IfSome r (λ f. Contains out f × ((edge_at (drawn es) f.0).parent ≡ y))) c.deref.ensures.value c.leading.ensures.some in
-    let none = subst (λ (es : List Ends). IfNone r (Contains (parents_of (drawn es) out) y → ⊥)) c.deref.ensures.value c.leading.ensures.none in
+    let some =
+    subst (λ (es : List Ends). IfSome r
+    (λ f. Contains out f × ((edge_at (drawn es) f.0).parent ≡ y))) c.deref.ensures.value c.leading.ensures.some in
+    let none =
+    subst (λ (es : List Ends). IfNone r
+    (Contains (parents_of (drawn es) out) y → ⊥)) c.deref.ensures.value c.leading.ensures.none in
     subst (λ (g : Graph). option_map (λ f. f.0) r ≡ edge_between g x y) c.self.view_is
-    (edge_found names ends (length names) x c.from.result y a.tables.out.items c.index.result.now out r c.self.invariant.tables.out c.self.invariant.hierarchy.edges_differ
+    (edge_found names ends (length names) x c.from.result y a.tables.out.items c.index.result.now out r
+    c.self.invariant.tables.out c.self.invariant.hierarchy.edges_differ
     inside c.from.ensures c.index.ensures c.items.ensures some none)
 
 pub returns-clause-has : goal.returns-clause-has
-returns-clause-has c = joins-found c.args.self.now.edges c.args.child.0 c.args.parent.0 c.leading.result (returns-clause-place c)
+returns-clause-has c =
+    joins-found c.args.self.now.edges c.args.child.0 c.args.parent.0 c.leading.result (returns-clause-place c)

@@ -14,6 +14,8 @@ returns-clause-edges c = λ k d h.
     let out = c.items.result.now in
     let e = headed_length names ends c.self.invariant.headed in
     let inside = subst (λ n. x < n) (sym (e ∙ ap category_count c.self.view_is)) c.requires in
-    let q = out_read (drawn ends) (length names) a.tables.out.items x c.from.result c.index.result.now out c.self.invariant.tables.out inside c.from.ensures
-        c.index.ensures c.items.ensures in
+    let q = out_read (drawn ends)
+    (length names) a.tables.out.items x c.from.result c.index.result.now out c.self.invariant.tables.out inside
+    c.from.ensures
+    c.index.ensures c.items.ensures in
     subst (λ (g : Graph). (get_or out k d).0 < length g.edges) c.self.view_is (out_within (drawn ends) x out q k d h)

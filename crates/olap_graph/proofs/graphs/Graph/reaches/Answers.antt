@@ -18,4 +18,5 @@ returns c =
     subst (λ (g : Graph). IsTrue r ↔ CategoryReaches g x y) c.self.view_is
     (row_is names ends (length names) x y rows c.index.result.now r c.self.invariant.tables.reached inside
     (c.index.ensures ∙ ap (λ i. get_or rows i c.index.result.now) c.from.ensures)
-    (ap (λ l. get_or l c.from-2.result false) c.items.ensures ∙ ap (λ i. get_or c.index.result.now i false) c.from-2.ensures))
+    (ap (λ l. get_or l c.from-2.result false) c.items.ensures ∙ ap
+    (λ i. get_or c.index.result.now i false) c.from-2.ensures))

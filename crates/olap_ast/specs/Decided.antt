@@ -9,7 +9,7 @@ use Rattle.olap_base.specs.Deciding.{dec_or, dec_and, dec_iff, decide_reaches, c
 use Rattle.olap_base.proofs.ListLemmas.{contains_head, Contains-nil, Contains-range, Contains-from_range}
 use Rattle.olap_ast.specs.Formula.{Formula, Terms, Formula.Truth, Formula.Falsity, Formula.Path, Formula.Reach, Formula.Via, Formula.Equals, Formula.Not, Formula.And, Formula.Or, Formula.Implies, Formula.Iff, Formula.Xor, Formula.One, Terms.End, Terms.More, Holds, ExactlyOneHolds, NoneHolds, HasPath, ReachesNamed}
 
-dec_not : {A : Type 0} → Dec A → Dec (A → ⊥)
+pub dec_not : {A : Type 0} → Dec A → Dec (A → ⊥)
 dec_not (yes a) = no (λ f. f a)
 dec_not (no n) = yes n
 
@@ -18,7 +18,8 @@ dec_implies (no n) d = yes (λ a. absurd (n a))
 dec_implies (yes a) (yes b) = yes (λ c. b)
 dec_implies (yes a) (no m) = no (λ f. m (f a))
 
-dec_some : {A : Type 0} (P : A → Type 0) → ((x : A) → Dec (P x)) → (xs : List A) → Dec ((x : A) × Contains xs x × P x)
+pub dec_some : {A : Type 0} (P : A → Type 0) → ((x : A) → Dec (P x)) → (xs : List A) →
+    Dec ((x : A) × Contains xs x × P x)
 dec_some P d [] = no (λ t. Contains-nil t.0 t.1)
 dec_some P d (x ∷ xs) = elim (d x) [
   | yes p ↦ yes (x, contains_head x xs, p)

@@ -9,13 +9,13 @@ use Rattle.olap_base.specs.Deciding.{decide_contains}
 use Rattle.olap_base.proofs.ListLemmas.{contains_head, Contains-nil}
 use Rattle.olap_ast.specs.Schema.{Constraint, IsLegal}
 use Rattle.olap_ast.specs.Violation.{Violation, Violation.NoEdge, Violation.NoParent, Violation.SameCategory, Violation.TwoAncestors, Violation.Shortcut, Violation.Unmet, IsViolation, LegalExactlyIfNoViolation}
-use Rattle.olap_ast.proofs.Decided.{decide_holds}
+use Rattle.olap_ast.specs.Decided.{decide_holds}
 
 stable : {P : Type 0} → Dec P → ((P → ⊥) → ⊥) → P
 stable (yes p) f = p
 stable (no n) f = absurd (f n)
 
-edge_discrete : Discrete Edge
+pub edge_discrete : Discrete Edge
 edge_discrete e f = go (ℕ_discrete e.child f.child) (ℕ_discrete e.parent f.parent)
   where
     go : Dec (e.child ≡ f.child) → Dec (e.parent ≡ f.parent) → Dec (e ≡ f)

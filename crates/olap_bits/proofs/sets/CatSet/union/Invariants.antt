@@ -1,0 +1,7 @@
+-- The words so far are joined, and the others are the set's own.
+use Rattle.std.specs.Prelude.{bit_or}
+use Rattle.olap_bits.proofs.JoiningLemmas.{IsJoined}
+use Rattle.olap_bits.proofs.sets.CatSet.union.Given as goal
+
+abbrev pub invariant-words : goal.invariant-words
+invariant-words g l = IsJoined bit_or l.fn.self.words l.other.words l.words l.k

@@ -1,0 +1,42 @@
+//! The program: the words behind its name, the real files, standard output, and the exit status.
+#![tactic(auto)]
+
+mod adapters;
+#[cfg(test)]
+mod tests;
+
+use adapters::{FileLibrary, StdoutSink};
+use olap_run::{Status, olap};
+use std::alloc::Global;
+use std::env;
+use std::process::ExitCode;
+
+/// The exit status.
+fn code(status: Status) -> u8 {
+    match status {
+        Status::Yes => 0,
+        Status::No => 1,
+        Status::Usage => 2,
+        Status::Refused => 3,
+        Status::ReadFault => 4,
+        Status::WriteFault => 5,
+        Status::Memory => 6,
+    }
+}
+
+/// Words that aren't UTF-8 are no command: they end as wrong words do, with nothing printed.
+fn main(rt: HostRuntime) -> ExitCode {
+    let Ok(args) = env::args(&rt) else {
+        return ExitCode::from(code(Status::Usage));
+    };
+    let alloc: Global = rt.alloc();
+    let mut words = Vec::new(alloc);
+    for word in args.skip(1) {
+        if words.push(word).is_err() {
+            return ExitCode::from(code(Status::Memory));
+        }
+    }
+    let mut library = FileLibrary::new(&rt);
+    let mut output = StdoutSink::new(&rt);
+    ExitCode::from(code(olap(alloc, &words, &mut library, &mut output)))
+}

@@ -1,0 +1,30 @@
+-- The atoms: what a shape answers is the truth of the atom.
+use Rattle.olap_eval.proofs.ShapeLemmas.{reach_truth, via_truth, via_stops, named_truth, named_stops}
+use Rattle.olap_eval.proofs.truths.+holds.Goals as goal
+
+pub holds-returns-in-Reach : goal.holds-returns-in-Reach
+holds-returns-in-Reach g t c =
+    let shape = g.met.S.Shape.shape c.args.s.now in
+    reach_truth shape _ c.requires _ c.in-Reach.is c.reaches.ensures
+
+pub holds-returns-then-reaches : goal.holds-returns-then-reaches
+holds-returns-then-reaches g t c =
+    let shape = g.met.S.Shape.shape c.args.s.now in
+    let second = c.reaches-then-reaches.ensures in
+    via_truth shape _ c.requires _ c.in-Via.is c.reaches-in-Via.ensures _ c.if-reaches.true second
+
+pub holds-returns-else-reaches : goal.holds-returns-else-reaches
+holds-returns-else-reaches g t c =
+    let shape = g.met.S.Shape.shape c.args.s.now in
+    via_stops shape _ c.requires _ c.in-Via.is c.reaches-in-Via.ensures c.if-reaches.false
+
+pub holds-returns-then-reaches-2 : goal.holds-returns-then-reaches-2
+holds-returns-then-reaches-2 g t c =
+    let shape = g.met.S.Shape.shape c.args.s.now in
+    let first = c.reaches-in-Equals.ensures in
+    named_truth shape _ c.requires _ c.in-Equals.is first _ c.if-reaches-2.true c.name_is.ensures
+
+pub holds-returns-else-reaches-2 : goal.holds-returns-else-reaches-2
+holds-returns-else-reaches-2 g t c =
+    let shape = g.met.S.Shape.shape c.args.s.now in
+    named_stops shape _ c.requires _ c.in-Equals.is c.reaches-in-Equals.ensures c.if-reaches-2.false

@@ -1,0 +1,12 @@
+//! The truth of a formula at a member, asked of a shape.
+//!
+//! A `Shape` answers for at most one member of each category: which edges lie between them, which of them a member
+//! reaches, and how they are named. A contract sees it as an instance and one place of it for each present category.
+//! `holds` is the truth of a formula at the root's member of that instance.
+#![tactic(auto)]
+
+mod shapes;
+mod truths;
+
+pub use shapes::Shape;
+pub use truths::holds;

@@ -1,0 +1,14 @@
+-- Whether the first record is the header.
+use Rattle.std.proofs.Common.{◌≡◌, ◌↔◌, ◌∷◌, Bool, ℕ, List, IsTrue, refl}
+use Rattle.std.specs.Bool.{one_answer}
+use Rattle.std.specs.Cmp.Lexicographic.{pointwise}
+use Rattle.std.specs.Str.{bytes_eq}
+use Rattle.std.proofs.lemmas.Slice.Eq.{bytes_eq-Decides, slice_eq-Decides}
+use Rattle.olap_facts.specs.FactText.{has_header, header}
+
+pub header-is : (row : List (List ℕ)) (after : List (List (List ℕ))) (b : Bool) → IsTrue b ↔ (row ≡ header)
+    → b ≡ has_header (row ∷ after)
+header-is row after b h =
+    let d : IsTrue (pointwise bytes_eq row header) ↔ (row ≡ header) =
+    slice_eq-Decides bytes_eq-Decides row header (pointwise bytes_eq row header) refl in
+    one_answer b (pointwise bytes_eq row header) h d

@@ -1,0 +1,4 @@
+-- Lemmas.
+pub mod HeaderLemmas
+pub mod BottomLemmas
+pub mod TableLemmas

@@ -1,0 +1,4 @@
+-- Definitions that contracts cite.
+pub mod Seen
+pub mod FactText
+pub mod Refusals

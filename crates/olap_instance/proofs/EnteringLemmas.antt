@@ -1,0 +1,49 @@
+-- One member more from a record.
+use Rattle.std.proofs.Common.{◌≡◌, ◌++◌, ◌∷◌, ◌+◌, Bool, cond, true, false, ℕ, List, [], length, map, Some, None, refl, sym, ap}
+use Rattle.std.specs.List.{position_from}
+use Rattle.std.specs.Str.{bytes_eq}
+use Rattle.std.proofs.lemmas.List.{length-map, map-append}
+use Rattle.std.proofs.lemmas.Slice.Eq.{bytes_eq-Decides}
+use Rattle.olap_base.specs.Graph.{Graph}
+use Rattle.olap_base.specs.Instance.{Instance, Member}
+use Rattle.olap_base.specs.Naming.{place_of}
+use Rattle.olap_instance.specs.InstanceText.{id_field, member_read}
+use Rattle.olap_instance.specs.Members.{childless}
+use Rattle.olap_instance.specs.Passes.{ids_in}
+
+pub ids-read : (g : Graph) (rows : List (List (List ℕ))) → map id_field rows ≡ ids_in (map (member_read g) rows)
+ids-read g [] = refl
+ids-read g (r ∷ rows) = ap (λ (t : List (List ℕ)). id_field r ∷ t) (ids-read g rows)
+
+pub ids-entered : (g : Graph) (ms : Instance) (rows : List (List (List ℕ))) → ms ≡ map (member_read g) rows → map id_field rows ≡ ids_in ms
+ids-entered g ms rows e = rw e (ids-read g rows)
+
+pub count-entered : (g : Graph) (ms : Instance) (rows : List (List (List ℕ))) → ms ≡ map (member_read g) rows → length rows ≡ length ms
+count-entered g ms rows e = rw e (sym (length-map rows (member_read g)))
+
+pub same-member : (id id2 : List ℕ) (c c2 : ℕ) (name name2 : List ℕ) → id ≡ id2 → c ≡ c2 → name ≡ name2 → childless id c name ≡ childless id2 c2 name2
+same-member id id2 c c2 name name2 a b d = rw (a, b, d) refl
+
+absent-from : (x : List ℕ) (xs : List (List ℕ)) (y : List ℕ) (n : ℕ) → position_from (bytes_eq x) n xs ≡ None → bytes_eq x y ≡ false
+    → position_from (bytes_eq x) n (xs ++ y ∷ []) ≡ None
+absent-from x [] y n h e = rw e refl
+absent-from x (z ∷ zs) y n h e = by (bytes_eq x z) h (λ t. absent-from x zs y (n + 1) t e)
+  where
+    by : (b : Bool) → cond b (Some n) (position_from (bytes_eq x) (n + 1) zs) ≡ None
+        → (position_from (bytes_eq x) (n + 1) zs ≡ None → position_from (bytes_eq x) (n + 1) (zs ++ y ∷ []) ≡ None)
+        → cond b (Some n) (position_from (bytes_eq x) (n + 1) (zs ++ y ∷ [])) ≡ None
+    by true h again = cc h
+    by false h again = again h
+
+not-so : (b : Bool) → (b ≡ true → ⊥) → b ≡ false
+not-so true h = absurd (h refl)
+not-so false h = refl
+
+eq-back : (x y : List ℕ) → bytes_eq x y ≡ false → bytes_eq y x ≡ false
+eq-back x y e = not-so (bytes_eq y x) (λ t. let s : y ≡ x = (bytes_eq-Decides y x).0 t in let u = (bytes_eq-Decides x y).1 (sym s) in cc (u, e))
+
+-- an id that is not there isn't there after another has come
+pub absent-more : (x : List ℕ) (ms now : Instance) (m : Member) → now ≡ ms ++ m ∷ [] → bytes_eq m.id x ≡ false → place_of x (ids_in ms) ≡ None
+    → place_of x (ids_in now) ≡ None
+absent-more x ms now m en e h =
+    rw (en, map-append (λ m. m.id) ms (m ∷ [])) (absent-from x (ids_in ms) m.id 0 h (eq-back m.id x e))

@@ -1,0 +1,16 @@
+-- Whether the first record is the header.
+use Rattle.std.proofs.Common.{◌≡◌, ◌↔◌, ◌∷◌, Bool, true, false, ℕ, List, IsTrue, refl, sym}
+use Rattle.std.specs.Cmp.Lexicographic.{pointwise}
+use Rattle.std.specs.Str.{bytes_eq}
+use Rattle.std.proofs.lemmas.Slice.Eq.{bytes_eq-Decides, slice_eq-Decides}
+use Rattle.olap_instance.specs.InstanceText.{has_header, header}
+
+same-test : (a b : Bool) → (a ≡ true → b ≡ true) → (b ≡ true → a ≡ true) → a ≡ b
+same-test true b f g = sym (f refl)
+same-test false true f g = g refl
+same-test false false f g = refl
+
+pub header-is : (row : List (List ℕ)) (after : List (List (List ℕ))) (b : Bool) → IsTrue b ↔ (row ≡ header) → b ≡ has_header (row ∷ after)
+header-is row after b h =
+    let d = slice_eq-Decides bytes_eq-Decides row header (pointwise bytes_eq row header) refl in
+    same-test b (pointwise bytes_eq row header) (λ t. d.1 (h.0 t)) (λ t. h.1 (d.0 t))

@@ -1,0 +1,40 @@
+-- What the two passes over the records of a text find.
+use Rattle.std.specs.Prelude.{◌≡◌, ◌<◌, ◌==◌, ℕ, List, [], length, map, None, Vec, slice_index}
+use Rattle.std.specs.Global.{Global}
+use Rattle.std.specs.List.{list_any}
+use Rattle.olap_base.specs.Graph.{Graph}
+use Rattle.olap_base.specs.Instance.{Instance}
+use Rattle.olap_base.specs.declared.ids.MemberId.{MemberId}
+use Rattle.olap_records.specs.Faults.{first_fault}
+use Rattle.olap_instance.specs.InstanceText.{member_fault, member_read, parents_fault, parents_read, parent_read, pieces_fault}
+
+-- the ids of members
+abbrev pub ids_in : Instance → List (List ℕ)
+ids_in i = map (λ m. m.id) i
+
+-- no record fails a check of the first pass, and these are the members without their parents
+abbrev pub PassesFirst : Graph → List (List (List ℕ)) → Instance → Type 0
+PassesFirst g rows ms = (first_fault (member_fault g) [] rows ≡ None) × (ms ≡ map (member_read g) rows)
+
+-- no piece has a fault, and these are the members that the pieces name
+abbrev pub AreParents : List (List ℕ) → List (List ℕ) → List ℕ → Type 0
+AreParents ids pieces places = (pieces_fault ids pieces ≡ None) × (places ≡ map (parent_read ids) pieces)
+
+-- the mark stands at exactly the members found
+abbrev pub AreStamped : List ℕ → ℕ → List ℕ → Type 0
+AreStamped stamps mark found = (m : ℕ) → m < length stamps → (slice_index stamps m == mark) ≡ list_any (λ n. m == n) found
+
+-- no stamp is as high as the mark
+abbrev pub AreBelow : List ℕ → ℕ → Type 0
+AreBelow stamps mark = (m : ℕ) → m < length stamps → slice_index stamps m < mark
+
+-- the members' places, as numbers
+abbrev pub numbers_of : List MemberId → List ℕ
+numbers_of places = map (λ p. p.0) places
+
+abbrev pub parents_in : List (Vec MemberId Global) → List (List ℕ)
+parents_in parents = map (λ ps. numbers_of ps.items) parents
+
+-- no record has a fault in its parents, and these are the parents of each
+abbrev pub PassesSecond : List (List ℕ) → List (List (List ℕ)) → List (List ℕ) → Type 0
+PassesSecond ids rows parents = (first_fault (parents_fault ids) [] rows ≡ None) × (parents ≡ map (parents_read ids) rows)

@@ -1,0 +1,150 @@
+use Rattle.std.proofs.Common.{◌≡◌, ℕ, zero, suc, ◌<◌, List, [], ◌∷◌, length, map, get_or, Bool, true, false, eqb, refl, ap, sym, subst, ◌∙◌, ◌↔◌, ◌⊎◌, arith}
+use Rattle.std.specs.Prelude.{Contains, IsTrue}
+use Rattle.std.specs.Bool.{Decides}
+use Rattle.std.specs.List.{IsAnyAnswer}
+use Rattle.std.proofs.lemmas.List.{get_or-map}
+use Rattle.std.proofs.lemmas.List.Elements.{contains_decides, Decides-contains}
+use Rattle.std.proofs.lemmas.Bool.Decides.{nat_tests, Decides-eqb}
+use Rattle.olap_base.specs.Deciding.{Through, Steps-from_through, through_from_Steps, below_is_member}
+use Rattle.olap_base.specs.Steps.{Steps-from_reaches, reaches_from_Steps}
+use Rattle.olap_base.specs.Instance.{Instance, nobody, IsBelow, Reaches, parents_of, category_of}
+use Rattle.std.specs.Prelude.{ℤ, ◌+ℤ◌, fold, filter, ◌++◌, Option, Some, None, ◌+◌, ◌≤◌, cond, take, IfSome, filter_map, ◌==◌}
+use Rattle.std.specs.List.{range_with_len, cons_option}
+use Rattle.std.specs.Int.{int_min, int_max}
+use Rattle.std.specs.Bool.{one_answer}
+use Rattle.std.proofs.Common.{length-append}
+use Rattle.std.proofs.lemmas.List.{take_more, append-nil}
+use Rattle.std.proofs.lemmas.List.Elements.{filter-append}
+use Rattle.olap_base.specs.Deciding.{reaches, reaches_is}
+use Rattle.olap_base.specs.Views.{Fact, Row, values_at, direct_row}
+use Rattle.olap_plain.specs.declared.viewing.PlainFact.{PlainFact}
+use Rattle.olap_plain.specs.Plain.{instance_of, member_of, fact_of, facts_of, extended, row_of, as_row, IsBounded}
+use Rattle.olap_plain.specs.declared.viewing.PlainRow.{PlainRow}
+use Rattle.olap_plain.specs.declared.viewing.PlainMember.{PlainMember}
+
+pub below_is : (ms : List PlainMember) (x y : ℕ) (m : PlainMember) (ps : List ℕ) (r : Bool) → x < length ms → m ≡ get_or ms x m → ps ≡ m.parents.items → IsAnyAnswer (λ z b. eqb z y ≡ b) ps r → IsTrue r ↔ IsBelow (instance_of ms) x y
+below_is ms x y m ps r h e q a =
+    let d : Decides r (Contains ps y) = Decides-contains ps y r (contains_decides eqb Decides-eqb ps y r a) in
+    let p : ps ≡ parents_of (instance_of ms) x = q ∙ ap (λ (k : PlainMember). k.parents.items) e ∙ sym (ap (λ k. k.parents) (get_or-map member_of ms x m nobody h)) in
+    (λ t. subst (λ us. Contains us y) p (d.0 t), λ t. d.1 (subst (λ us. Contains us y) (sym p) t))
+
+module _ (R : ℕ → ℕ → Type 0) (k x y : ℕ) where
+  pub to_zero : k ≡ 0 → (x ≡ y) ⊎ R x y → Through R k x y
+  unfolding Through
+  to_zero e s = subst (λ n. Through R n x y) (sym e) s
+
+  pub from_zero : k ≡ 0 → Through R k x y → (x ≡ y) ⊎ R x y
+  unfolding Through
+  from_zero e s = subst (λ n. Through R n x y) e s
+
+  pub to_suc : (m : ℕ) → k ≡ suc m → Through R m x y ⊎ (Through R m x m × Through R m m y) → Through R k x y
+  unfolding Through
+  to_suc m e s = subst (λ n. Through R n x y) (sym e) s
+
+  pub from_suc : (m : ℕ) → k ≡ suc m → Through R k x y → Through R m x y ⊎ (Through R m x m × Through R m m y)
+  unfolding Through
+  from_suc m e s = subst (λ n. Through R n x y) e s
+
+pub refuted : {P : Type 0} (r : Bool) → r ≡ false → IsTrue r ↔ P → P → ⊥
+refuted r e d p = let z : false ≡ true = sym e ∙ d.1 p in cc
+
+pub reaches_by_through : (i : Instance) (n : ℕ) (x y : ℕ) (r : Bool) → n ≡ length i → IsTrue r ↔ Through (IsBelow i) n x y → IsTrue r ↔ Reaches i x y
+reaches_by_through i n x y r e d = (
+  λ t. reaches_from_Steps (Steps-from_through (IsBelow i) n x y (d.0 t)),
+  λ t. d.1 (subst (λ k. Through (IsBelow i) k x y) (sym e) (through_from_Steps (IsBelow i) (length i) (below_is_member i) (Steps-from_reaches t))),
+)
+
+-- ---- one more fact
+
+map-append : {A B : Type 0} (f : A → B) (xs ys : List A) → map f (xs ++ ys) ≡ map f xs ++ map f ys
+map-append f [] ys = refl
+map-append f (x ∷ xs) ys = ap (λ t. f x ∷ t) (map-append f xs ys)
+
+fold-push : (f : ℤ → ℤ → ℤ) (a : ℤ) (xs : List ℤ) (x : ℤ) → fold f a (xs ++ x ∷ []) ≡ f (fold f a xs) x
+fold-push f a [] x = refl
+fold-push f a (y ∷ ys) x = fold-push f (f a y) ys x
+
+direct_row_push : (y : ℕ) (vs : List ℤ) (v : ℤ) → direct_row y (vs ++ v ∷ []) ≡ Some (extended y (direct_row y vs) v)
+direct_row_push y [] v = refl
+direct_row_push y (w ∷ ws) v = λ i. Some (record { member = y; count = counted i; sum = fold-push ◌+ℤ◌ w ws v i; least = fold-push int_min w ws v i; greatest = fold-push int_max w ws v i })
+  where
+    counted : length (w ∷ (ws ++ v ∷ [])) ≡ length (w ∷ ws) + 1
+    counted = omega (arith, length-append {A = ℤ})
+
+values_push : (i : Instance) (fs : List Fact) (f : Fact) (y : ℕ) → values_at i (fs ++ f ∷ []) y ≡ values_at i fs y ++ cond (reaches i f.member y) (f.value ∷ []) []
+values_push i fs f y = ap (map (λ (g : Fact). g.value)) (filter-append (λ g. reaches i g.member y) fs (f ∷ []))
+    ∙ map-append (λ (g : Fact). g.value) (filter (λ g. reaches i g.member y) fs) (filter (λ g. reaches i g.member y) (f ∷ []))
+    ∙ ap (λ t. map (λ (g : Fact). g.value) (filter (λ g. reaches i g.member y) fs) ++ t) (last (reaches i f.member y))
+  where
+    last : (b : Bool) → map (λ (g : Fact). g.value) (cond b (f ∷ []) []) ≡ cond b (f.value ∷ []) []
+    last true = refl
+    last false = refl
+
+-- the row after one more fact
+abbrev pub row_after : ℕ → Bool → Option Row → ℤ → Option Row
+row_after y true o v = Some (extended y o v)
+row_after y false o v = o
+
+pub row_step : (i : Instance) (facts : List PlainFact) (k y : ℕ) (d : PlainFact) → k < length facts
+    → direct_row y (values_at i (facts_of (take (k + 1) facts)) y) ≡ row_after y (reaches i (get_or facts k d).member y) (direct_row y (values_at i (facts_of (take k facts)) y)) (get_or facts k d).value
+row_step i facts k y d h = ap (λ fs. direct_row y (values_at i (facts_of fs) y)) (take_more facts k d h)
+    ∙ ap (λ fs. direct_row y (values_at i fs y)) (map-append fact_of (take k facts) (get_or facts k d ∷ []))
+    ∙ ap (direct_row y) (values_push i (facts_of (take k facts)) (fact_of (get_or facts k d)) y)
+    ∙ go (reaches i (get_or facts k d).member y)
+  where
+    go : (b : Bool) → direct_row y (values_at i (facts_of (take k facts)) y ++ cond b ((get_or facts k d).value ∷ []) []) ≡ row_after y b (direct_row y (values_at i (facts_of (take k facts)) y)) (get_or facts k d).value
+    go true = direct_row_push y (values_at i (facts_of (take k facts)) y) (get_or facts k d).value
+    go false = ap (direct_row y) (append-nil (values_at i (facts_of (take k facts)) y))
+
+pub test_of : (i : Instance) (x y : ℕ) (r b : Bool) → IsTrue r ↔ Reaches i x y → r ≡ b → reaches i x y ≡ b
+test_of i x y r b d e = one_answer (reaches i x y) r (reaches_is i x y) d ∙ e
+
+pub count_step : (y : ℕ) (o : Option PlainRow) (v : ℤ) (r : PlainRow) (n : ℕ) → IfSome o (λ q. (q.count ≤ n) × IsBounded q.sum q.count) → row_of r ≡ extended y (as_row o) v → r.count ≤ n + 1
+count_step y None v r n h e = let c : r.count ≡ 1 = ap (λ q. q.count) e in omega arith
+count_step y (Some q) v r n h e = let c : r.count ≡ q.count + 1 = ap (λ q. q.count) e in omega (arith, h.0)
+
+-- ---- one more member
+
+range_more : (a n : ℕ) → range_with_len a (suc n) ≡ range_with_len a n ++ (a + n) ∷ []
+range_more a zero = let e : a ≡ a + 0 = omega arith in ap (λ k. k ∷ []) e
+range_more a (suc n) = let e : (a + 1) + n ≡ a + suc n = omega arith in ap (λ t. a ∷ t) (range_more (a + 1) n ∙ ap (λ k. range_with_len (a + 1) n ++ k ∷ []) e)
+
+filter_map-append : {A B : Type 0} (h : A → Option B) (xs ys : List A) → filter_map h (xs ++ ys) ≡ filter_map h xs ++ filter_map h ys
+filter_map-append h [] ys = refl
+filter_map-append {A} {B} h (x ∷ xs) ys = ap (cons_option (h x)) (filter_map-append h xs ys) ∙ go (h x)
+  where
+    go : (o : Option B) → cons_option o (filter_map h xs ++ filter_map h ys) ≡ cons_option o (filter_map h xs) ++ filter_map h ys
+    go None = refl
+    go (Some y) = refl
+
+-- the list after the member y, which passes or doesn't, and gives a row or doesn't
+abbrev pub rows_after : List Row → Bool → Option Row → List Row
+rows_after rows false o = rows
+rows_after rows true None = rows
+rows_after rows true (Some r) = rows ++ r ∷ []
+
+pub rows_step : (h : ℕ → Option Row) (p : ℕ → Bool) (y : ℕ) (b : Bool) (o : Option Row) (rows : List Row) → rows ≡ filter_map h (filter p (range_with_len 0 y)) → p y ≡ b → o ≡ h y
+    → rows_after rows b o ≡ filter_map h (filter p (range_with_len 0 (y + 1)))
+rows_step h p y b o rows e t q =
+    let z : 0 + y ≡ y = omega arith in
+    let n : y + 1 ≡ suc y = omega arith in
+    go b o t q ∙ sym (ap (λ k. filter_map h (filter p (range_with_len 0 k))) n ∙ ap (λ l. filter_map h (filter p l)) (range_more 0 y ∙ ap (λ k. range_with_len 0 y ++ k ∷ []) z)
+    ∙ ap (filter_map h) (filter-append p (range_with_len 0 y) (y ∷ [])) ∙ filter_map-append h (filter p (range_with_len 0 y)) (filter p (y ∷ [])) ∙ ap (λ l. l ++ filter_map h (filter p (y ∷ []))) (sym e))
+  where
+    go : (b : Bool) (o : Option Row) → p y ≡ b → o ≡ h y → rows_after rows b o ≡ rows ++ filter_map h (cond (p y) (y ∷ []) [])
+    go false o t q = rw t (sym (append-nil rows))
+    go true None t q = rw (t, ← q) (sym (append-nil rows))
+    go true (Some r) t q = rw (t, ← q) refl
+
+pub category_is : (ms : List PlainMember) (y : ℕ) (d : PlainMember) → y < length ms → category_of (instance_of ms) y ≡ (get_or ms y d).category
+category_is ms y d h = ap (λ k. k.category) (get_or-map member_of ms y d nobody h)
+
+pub passes : (a b c : ℕ) → a ≡ b → b ≡ c → (a == c) ≡ true
+passes a b c e f = grind (arith, nat_tests)
+
+pub fails : (a b c : ℕ) → a ≡ b → (b ≡ c → ⊥) → (a == c) ≡ false
+fails a b c e f = grind (arith, nat_tests)
+
+pub none_of : (o : Option PlainRow) → ((r : PlainRow) → o ≡ Some r → ⊥) → as_row o ≡ None
+none_of None f = refl
+none_of (Some r) f = absurd (f r refl)

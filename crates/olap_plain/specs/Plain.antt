@@ -1,0 +1,39 @@
+-- The definitions' values behind the plain structs.
+use Rattle.std.specs.Prelude.{ℕ, ◌+◌, ◌*◌, ◌^◌, List, map, ℤ, pos, neg_ℤ, ◌≤ℤ◌, ◌+ℤ◌, Option, Some, None}
+use Rattle.std.specs.Int.{int_min, int_max}
+use Rattle.olap_base.specs.Instance.{Instance, Member}
+use Rattle.olap_base.specs.Views.{Fact, Row}
+use Rattle.olap_plain.specs.declared.viewing.PlainMember.{PlainMember}
+use Rattle.olap_plain.specs.declared.viewing.PlainFact.{PlainFact}
+use Rattle.olap_plain.specs.declared.viewing.PlainRow.{PlainRow}
+
+abbrev pub member_of : PlainMember → Member
+member_of m = record { id = m.id.items; category = m.category; name = m.name.items; parents = m.parents.items }
+
+abbrev pub instance_of : List PlainMember → Instance
+instance_of ms = map member_of ms
+
+abbrev pub fact_of : PlainFact → Fact
+fact_of f = record { member = f.member; value = f.value }
+
+abbrev pub facts_of : List PlainFact → List Fact
+facts_of fs = map fact_of fs
+
+abbrev pub row_of : PlainRow → Row
+row_of r = record { member = r.member; count = r.count; sum = r.sum; least = r.least; greatest = r.greatest }
+
+abbrev pub rows_of : List PlainRow → List Row
+rows_of rs = map row_of rs
+
+abbrev pub as_row : Option PlainRow → Option Row
+as_row None = None
+as_row (Some r) = Some (row_of r)
+
+-- a sum of that many values of 64 bits
+abbrev pub IsBounded : ℤ → ℕ → Type 0
+IsBounded z n = (neg_ℤ (pos (n * 2 ^ 63)) ≤ℤ z) × (z ≤ℤ pos (n * 2 ^ 63))
+
+-- the row of y with one more value
+abbrev pub extended : ℕ → Option Row → ℤ → Row
+extended y None v = record { member = y; count = 1; sum = v; least = v; greatest = v }
+extended y (Some r) v = record { member = y; count = r.count + 1; sum = r.sum +ℤ v; least = int_min r.least v; greatest = int_max r.greatest v }

@@ -1,0 +1,55 @@
+-- What one read does to the records that are left.
+use Rattle.std.proofs.Common.{◌≡◌, ◌∷◌, ◌∙◌, Bor, Bool, true, false, ℕ, List, [], Option, Some, None, refl, sym, ap, inl, inr}
+use Rattle.std.specs.Prelude.{IsSome}
+use Rattle.std.specs.Bool.{MatchBool}
+use Rattle.std.proofs.lemmas.Bool.{cases_Bool}
+use Rattle.csv.specs.Machine.{Read, next_record}
+use Rattle.csv.specs.Reading.{ReadRecord, Reached, Ready, default_config, has_failed, reader_state, reader_trim, source_of}
+use Rattle.csv.specs.declared.parser.State.{State}
+use Rattle.csv.specs.declared.reader.Reader.{Reader}
+use Rattle.csv.specs.declared.reader.Trim.TheVariants as trim
+use Rattle.csv.proofs.ReadFacts.{rows-end, rows-more}
+use Rattle.olap_records.specs.ReaderInside.{Intact}
+use Rattle.olap_records.specs.Records.{records_after, records_left}
+use Rattle.olap_records.proofs.Fuel.{records-more, records-none}
+
+abbrev rem : Bor (List ℕ) → Option (List ℕ)
+rem s = Some s.now
+
+-- the records that a reader has left
+abbrev left : Reader (Bor (List ℕ)) → List (List (List ℕ))
+left r = records_left (reader_state r) (source_of rem r)
+
+some-of : (o : Option (List ℕ)) → IsSome o → (y : List ℕ) × (o ≡ Some y)
+some-of None h = cc h
+some-of (Some y) h = (y, refl)
+
+take-one : (s s2 : State) (y z : List ℕ) (f : List (List ℕ)) (p : Read) → next_record default_config s [] [] y ≡ Some p → f ≡ p.0 → p.1 ≡ s2 → p.2 ≡ z
+    → records_after s y ≡ f ∷ records_after s2 z
+take-one s s2 y z f p e ef es ez = records-more default_config s y p e ∙ cc
+
+found-one : (old new : Reader (Bor (List ℕ))) (f : List (List ℕ)) (y : List ℕ) → old.config ≡ default_config → source_of rem old ≡ Some y
+    → ReadRecord rem old new true f → left old ≡ f ∷ left new
+unfolding Reached
+found-one old new f y ec ex r =
+    let m = rows-more rem old new f default_config old.state y y [] ec ex (refl, refl) r in
+    let p = m.2.0 in
+    ap (records_left old.state) ex ∙ take-one old.state new.state y m.0 f p m.2.1 m.2.2 m.2.3.0 m.2.3.1
+    ∙ sym (ap (λ (o : Option (List ℕ)). f ∷ records_left new.state o) m.1)
+
+found-none : (old new : Reader (Bor (List ℕ))) (f : List (List ℕ)) (y : List ℕ) → old.config ≡ default_config → source_of rem old ≡ Some y
+    → ReadRecord rem old new false f → left old ≡ []
+found-none old new f y ec ex r = ap (records_left old.state) ex ∙ records-none default_config old.state y (rows-end rem old new f default_config y ec ex r)
+
+found-by : (old new : Reader (Bor (List ℕ))) (found : Bool) (f : List (List ℕ)) (y : List ℕ) → old.config ≡ default_config → source_of rem old ≡ Some y
+    → ReadRecord rem old new found f → MatchBool found (left old ≡ f ∷ left new) (left old ≡ [])
+found-by old new true f y ec ex r = found-one old new f y ec ex r
+found-by old new false f y ec ex r = found-none old new f y ec ex r
+
+-- a read of an intact reader takes the first of the records that are left, and finds none only where none is left
+pub read-takes : (old new : Reader (Bor (List ℕ))) (found : Bool) (f : List (List ℕ)) → Intact old → (has_failed old ≡ true → found ≡ false)
+    → (reader_trim old ≡ trim.None → Ready old → ReadRecord rem old new found f) → MatchBool found (left old ≡ f ∷ left new) (left old ≡ [])
+read-takes old new found f intact failed reads = elim (cases_Bool (has_failed old)) [
+  | inl t ↦ rw (failed t, t) refl
+  | inr g ↦ let i = intact g in let y = some-of (source_of rem old) i.4 in found-by old new found f y.0 i.0 y.1 (reads i.1 i.3)
+]

@@ -1,0 +1,18 @@
+use Rattle.std.proofs.Common.{◌≡◌, ◌∙◌, below_more, length, map, sym, refl, arith}
+use Rattle.std.proofs.lemmas.List.{length-map}
+use Rattle.olap_records.proofs.SameRow.{field-other, field-same, same-rows}
+use Rattle.olap_records.proofs.reading.Rows.is_row.Goals as goal
+
+pub returns-then-ne : goal.returns-then-ne
+returns-then-ne c =
+    (λ t. absurd (cc t), λ same. absurd (field-other c.args.self.now.row c.args.fields.now c.loop-i.i c.field.result.now _ c.loop-i-test.true c.field.ensures (sym c.if-ne.ensures) same))
+
+pub loop-i-preserved : goal.loop-i-preserved
+loop-i-preserved c =
+    below_more _ _ c.loop-i.invariant
+    (field-same c.args.self.now.row c.args.fields.now c.loop-i.i c.field.result.now _ c.loop-i-test.true c.field.ensures (sym c.if-ne.ensures))
+
+pub returns : goal.returns
+returns c =
+    let size : length (map (λ f. f.now) c.args.fields.now) ≡ length c.args.fields.now = length-map c.args.fields.now (λ f. f.now) in
+    (λ t. same-rows c.args.self.now.row (map (λ f. f.now) c.args.fields.now) (sym c.len.ensures ∙ (c.if-len-fields.false ∙ sym size)) (λ k l. c.loop-i.invariant k (omega arith)), λ same. refl)

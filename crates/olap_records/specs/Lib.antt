@@ -1,0 +1,8 @@
+-- Definitions that contracts cite.
+pub mod Records
+pub mod Faults
+pub mod FaultLaws
+pub mod ReaderInside
+pub mod Texts
+pub mod PrinterInside
+pub mod Numbers

@@ -1,0 +1,20 @@
+-- What a reader of records keeps.
+use Rattle.std.specs.Prelude.{◌≡◌, true, false, ℕ, List, Some, IsSome}
+use Rattle.std.specs.Borrow.{Bor}
+use Rattle.csv.specs.Reading.{Ready, default_config, has_failed, is_flexible, reader_config, reader_state, reader_trim, source_of}
+use Rattle.csv.specs.Records.{fields_of}
+use Rattle.csv.specs.declared.reader.Reader.{Reader}
+use Rattle.csv.specs.declared.reader.Trim.TheVariants as trim
+use Rattle.olap_records.specs.Records.{Reading, records_left}
+use Rattle.olap_records.specs.declared.reading.Rows.TheInside.{Inside}
+
+abbrev pub reading_of : Inside → Reading
+reading_of a = record { row = fields_of a.row; left = records_left (reader_state a.rdr) (source_of (λ s. Some s.now) a.rdr) }
+
+-- a reader that has not failed reads the bytes that are left, one record at a time
+abbrev pub Intact : Reader (Bor (List ℕ)) → Type 0
+Intact r = has_failed r ≡ false
+    → (reader_config r ≡ default_config) × (reader_trim r ≡ trim.None) × (is_flexible r ≡ true) × Ready r × IsSome (source_of (λ s. Some s.now) r)
+
+abbrev pub ReadsOn : Inside → Type 0
+ReadsOn a = Intact a.rdr

@@ -1,0 +1,16 @@
+//! CSV texts as lists of records: read one record at a time, and printed one at a time.
+//!
+//! A contract sees `Rows` as the record read last and the records still to come, and `Printer` as the
+//! text printed so far; no clause speaks of the CSV library. `first_fault` of `specs/Faults.antt` says
+//! for every reader of records which fault comes first. `value` is the number that a field spells.
+#![tactic(auto)]
+
+mod laws;
+mod numbers;
+mod printing;
+mod reading;
+
+pub use laws::{first_fault_is_first, no_fault_is_none};
+pub use numbers::value;
+pub use printing::Printer;
+pub use reading::Rows;

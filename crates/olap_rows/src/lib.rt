@@ -1,0 +1,14 @@
+//! The worked rows: command lines over files in memory, with the output and the status that each must have.
+//!
+//! Every row is worked out by hand from the definitions. Nothing here is proved of the rows beyond that they run;
+//! what is proved of `olap` stands in `olap_run`.
+#![tactic(auto)]
+
+#[cfg(test)]
+mod faults;
+#[cfg(test)]
+mod rollups;
+#[cfg(test)]
+mod running;
+#[cfg(test)]
+mod samples;

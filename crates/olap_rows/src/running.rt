@@ -1,0 +1,54 @@
+// One run of the top call over files and output in memory.
+use olap_base::{List, MemLibrary, MemSink, Text};
+use olap_run::{Status, olap};
+use std::alloc::Global;
+use std::process::Abort;
+use std::test::Fail;
+
+/// The words of a command line.
+fn words(alloc: Global, line: &[&str]) -> Result<Vec<String>, Fail> {
+    let mut all = Vec::new(alloc);
+    for word in line {
+        all.push(String::from_str(alloc, word)?)?;
+    }
+    Ok(all)
+}
+
+/// Files by name.
+fn files(alloc: Global, files: &[(&str, &str)]) -> Result<List<(Text, Text)>, Fail> {
+    let mut all = Vec::new(alloc);
+    for (name, content) in files {
+        let name = Text::from_bytes(alloc, name.as_bytes())?;
+        all.push((name, Text::from_bytes(alloc, content.as_bytes())?))?;
+    }
+    Ok(List::from_vec(all))
+}
+
+/// A list of the one number, or of none.
+fn listed(alloc: Global, call: Option<u64>) -> Result<List<u64>, Fail> {
+    let mut calls = Vec::new(alloc);
+    if let Some(call) = call {
+        calls.push(call)?;
+    }
+    Ok(List::from_vec(calls))
+}
+
+/// Runs the command line, where one call of the library and one of the sink may be made to fail, over a sink with
+/// this much room, and compares the status and the output.
+pub(crate) fn check(
+    rt: &impl Abort,
+    alloc: Global,
+    line: &[&str],
+    held: &[(&str, &str)],
+    failing: (Option<u64>, Option<u64>),
+    room: usize,
+    wanted: (Status, &str),
+) -> Result<(), Fail> {
+    let mut library = MemLibrary::new(files(alloc, held)?, 16, listed(alloc, failing.0)?);
+    let mut sink = MemSink::new(alloc, room, 7, listed(alloc, failing.1)?)?;
+    let words = words(alloc, line)?;
+    let status = olap(alloc, &words, &mut library, &mut sink);
+    assert_eq!(rt; status, wanted.0, "{}", wanted.1);
+    assert_eq!(rt; sink.contents(), wanted.1.as_bytes());
+    Ok(())
+}

@@ -1,0 +1,3 @@
+-- Lemmas.
+mod PieceLemmas
+mod PlainLemmas

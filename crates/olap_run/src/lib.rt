@@ -1,0 +1,17 @@
+//! The program's top call: `olap` judges the words and the files, and writes the answer.
+//!
+//! A command is first a *plan* (`specs/Plan.antt`): files that are read in order, each before what is
+//! asked next is known, and in the end a question. `specs/Outcome.antt` says which status and bytes the
+//! words and the files have. The code goes along the plan with everything in memory, and then writes.
+#![tactic(auto)]
+
+mod judging;
+mod pieces;
+mod plain_schema;
+mod rollup;
+mod status;
+mod top;
+mod words;
+
+pub use status::Status;
+pub use top::olap;

@@ -1,0 +1,9 @@
+use Rattle.std.proofs.Common.{◌≡◌, ◌∷◌, map, take}
+use Rattle.olap_records.specs.Texts.{text_of_rows}
+use Rattle.olap_view.specs.Seen.{rows_of}
+use Rattle.olap_view.specs.ViewText.{fields_in, header}
+use Rattle.olap_view.proofs.printing.print.Given as goal
+
+abbrev pub invariant-loop-row : goal.invariant-loop-row
+invariant-loop-row l =
+    l.out ≡ text_of_rows (header ∷ map (fields_in l.instance) (rows_of (take l.row-index l.row-items)))

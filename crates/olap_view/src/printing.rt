@@ -1,0 +1,55 @@
+// Views as CSV texts.
+ghost use Rattle.std.specs.Prelude.{◌≡◌, ◌++◌, ◌<◌, ℕ, All, IfOk, OnOk, length};
+ghost use Rattle.olap_records.specs.Records.{records_of};
+ghost use Rattle.olap_records.specs.Texts.{text_of_row};
+ghost use Rattle.olap_view.specs.Seen.{row_of, view_of};
+ghost use Rattle.olap_view.specs.ViewText.{fields_of_row, records_of_view, view_text};
+
+use crate::{Row, View};
+use itoa::Buffer;
+use olap_base::{Memory, Text};
+use olap_instance::Instance;
+use olap_records::Printer;
+use std::alloc::Global;
+
+/// Prints a row behind what is printed.
+fn print_row(out: &mut Printer, id: &[u8], row: &Row) -> Result<(), Memory>
+    ensures { OnOk result (out.new ≡ out.old ++ text_of_row (fields_of_row id.now (row_of row.now))) }
+{
+    let mut count = Buffer::new();
+    let mut sum = Buffer::new();
+    let mut least = Buffer::new();
+    let mut greatest = Buffer::new();
+    out.row(&[
+        id,
+        count.format(row.count).as_bytes(),
+        sum.format(row.sum).as_bytes(),
+        least.format(row.least).as_bytes(),
+        greatest.format(row.greatest).as_bytes(),
+    ])
+}
+
+/// The bytes of the text of a view.
+fn print(alloc: Global, instance: &Instance, view: &View) -> Result<Vec<u8>, Memory>
+    requires { All (λ r. r.member.0 < length instance.now) view.now.rows }
+    ensures { IfOk result (λ bytes. bytes.items ≡ view_text instance.now (view_of view.now)) }
+{
+    let mut out = Printer::new(alloc);
+    out.row(&[b"member", b"count", b"sum", b"least", b"greatest"])?;
+    for row in view.rows.items() {
+        print_row(&mut out, instance.id(row.member).bytes(), row)?;
+    }
+    out.finish()
+}
+
+/// The text of a view: a header, and a record for each row, with the member's id and the four numbers in
+/// decimal. Its records read back as the header and these fields. `Memory`: want of memory.
+pub fn print_view(alloc: Global, instance: &Instance, view: &View) -> Result<Text, Memory>
+    requires at_members { All (λ r. r.member.0 < length instance.now) view.now.rows }
+
+    ensures text { IfOk result (λ text. text ≡ view_text instance.now (view_of view.now)) }
+    ensures reads { IfOk result (λ text. records_of text ≡ records_of_view instance.now (view_of view.now)) }
+{
+    let bytes = print(alloc, instance, view)?;
+    Text::from_bytes(alloc, &bytes)
+}

@@ -1,0 +1,75 @@
+// The direct view of a category.
+ghost use Rattle.std.specs.Prelude.{◌≡◌, ◌<◌, ◌≤◌, ℕ, All, IfOk, IfSome, filter_map, length};
+ghost use Rattle.std.specs.Option.{option_map};
+ghost use Rattle.olap_base.specs.Views.{direct_view, members_of};
+ghost use Rattle.olap_facts.specs.Seen.{facts_of};
+ghost use Rattle.olap_view.specs.Adding.{row_at, summary_at};
+ghost use Rattle.olap_view.specs.Seen.{row_of, rows_of, view_of};
+
+use crate::adding::{Summary, summaries};
+use crate::{Row, View};
+use olap_base::{CatId, List, MemberId, Memory};
+use olap_facts::Facts;
+use olap_instance::Instance;
+use std::alloc::Global;
+
+/// The row of a member, if it has a summary.
+fn row(member: MemberId, summary: Option<Summary>) -> Option<Row>
+    ensures row { option_map row_of result ≡ row_at member.0 summary }
+    ensures member { IfSome result (λ r. r.member.0 ≡ member.0) }
+{
+    match summary {
+        None => None,
+        Some(s) => Some(Row {
+            member,
+            count: s.count,
+            sum: s.sum,
+            least: s.least,
+            greatest: s.greatest,
+        }),
+    }
+}
+
+/// The rows of the members of c that have a summary, in file order.
+fn rows(
+    alloc: Global,
+    instance: &Instance,
+    summaries: &[Option<Summary>],
+    c: CatId,
+) -> Result<Vec<Row>, Memory>
+    requires room { length summaries.now ≡ length instance.now }
+    ensures rows { IfOk result (λ v. rows_of v.items ≡ filter_map (λ y. row_at y (summary_at summaries.now y)) (members_of instance.now c.0)) }
+    ensures members { IfOk result (λ v. All (λ r. r.member.0 < length instance.now) v.items) }
+{
+    let mut rows = Vec::new(alloc);
+    for y in 0..instance.members() {
+        let member = MemberId(y);
+        if instance.category(member).0 == c.0 {
+            if let Some(row) = row(member, summaries[y as usize]) {
+                rows.push(row)?;
+            }
+        }
+    }
+    Ok(rows)
+}
+
+/// The direct view of c: a row for each member of c that some fact's member reaches, in file order, with
+/// the count, sum, least and greatest of those facts' values. The instance may be any, a cyclic one too.
+///
+/// It takes memory for one summary a member, and time in proportion to the members and, for each fact
+/// that stands at another member than the fact before it, to what that member reaches. `Memory`: want
+/// of memory.
+pub fn direct(alloc: Global, instance: &Instance, facts: &Facts, c: CatId) -> Result<View, Memory>
+    requires at_members { All (λ f. f.member.0 < length instance.now) facts.now.rows }
+    requires few { length facts.now.rows ≤ 1048576 }
+
+    ensures view { IfOk result (λ v. view_of v ≡ direct_view instance.now (facts_of facts.now) c.0) }
+    ensures members { IfOk result (λ v. All (λ r. r.member.0 < length instance.now) v.rows) }
+{
+    let summaries = summaries(alloc, instance, facts.rows.items(), c)?;
+    let rows = rows(alloc, instance, &summaries, c)?;
+    Ok(View {
+        category: c,
+        rows: List::from_vec(rows),
+    })
+}

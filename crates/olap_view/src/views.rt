@@ -1,0 +1,26 @@
+// Views and their rows.
+use olap_base::{CatId, List, MemberId};
+
+/// A member with what the values of the facts below it come to.
+#[derive(Clone, Copy, Debug, PartialEq, Eq)]
+pub struct Row {
+    /// The member.
+    pub member: MemberId,
+    /// How many values there are.
+    pub count: u64,
+    /// Their sum.
+    pub sum: i128,
+    /// The least of them.
+    pub least: i64,
+    /// The greatest of them.
+    pub greatest: i64,
+}
+
+/// A category's rows, by member.
+#[derive(Debug, Drop)]
+pub struct View {
+    /// The category.
+    pub category: CatId,
+    /// The rows.
+    pub rows: List<Row>,
+}
