@@ -1,8 +1,8 @@
 -- A printed constraint's line is read as the constraint.
 --     ruled             what is known on the way
 --     add_constraint    a constraint's line adds it
-use Rattle.std.proofs.Common.{◌≡◌, ◌≢◌, ◌==◌, ◌||◌, ◌<◌, ◌≤◌, ◌+◌, ℕ, zero, suc, Bool, true, false, cond, List, [], ◌∷◌, ◌++◌, Option, Some, None, length, refl, append_assoc, append-nil, arith, ap, sym, ◌∙◌, codes, nat_lt, nat_le}
-use Rattle.std.specs.Prelude.{Contains, Result, Ok, Err, flat_map, fold, sum_by}
+use Rattle.std.proofs.Common.{◌≡◌, ◌==◌, ◌≤◌, ◌+◌, ℕ, suc, Bool, true, false, cond, List, [], ◌∷◌, ◌++◌, Some, None, length, refl, arith, ap, sym, ◌∙◌, nat_lt, nat_le}
+use Rattle.std.specs.Prelude.{Contains, Ok, flat_map, fold, sum_by}
 use Rattle.std.specs.List.{list_any}
 use Rattle.std.proofs.lemmas.Bool.{eqb-true, false_from_ne_true}
 use Rattle.std.proofs.lemmas.List.Sums.{sum_by-append}
@@ -13,7 +13,6 @@ use Rattle.olap_ast.specs.Schema.{Constraint, Schema}
 use Rattle.olap_ast.specs.Valid.{IsFormulaAt, IsValidSchema, depth_of, is_same_pair, node_count, with_pair}
 use Rattle.olap_grammar.specs.Machine.{the_formula}
 use Rattle.olap_grammar.specs.Words.{atoms_of}
-use Rattle.olap_grammar.specs.declared.tokens.Token.{Token}
 use Rattle.olap_grammar.proofs.ReaderLemmas.{formula_is_found}
 use Rattle.olap_grammar.proofs.Sound.{tighter}
 use Rattle.olap_schema.specs.Atoms.{atom_fault}
@@ -46,7 +45,8 @@ nodes_of cs = sum_by (λ c. node_count c.formula) cs
 abbrev pub pairs_with : List Equality → List Constraint → List Equality
 pairs_with pairs cs = fold with_pair pairs (flat_map (λ c. equalities c.formula) cs)
 
-fold-append : (pairs xs ys : List Equality) → fold with_pair pairs (xs ++ ys) ≡ fold with_pair (fold with_pair pairs xs) ys
+fold-append : (pairs xs ys : List Equality)
+    → fold with_pair pairs (xs ++ ys) ≡ fold with_pair (fold with_pair pairs xs) ys
 fold-append pairs [] ys = refl
 fold-append pairs (x ∷ xs) ys = fold-append (with_pair pairs x) xs ys
 
@@ -64,15 +64,19 @@ grows pairs (x ∷ xs) = let a = one_grows pairs x in let b = grows (with_pair p
 
 -- the first constraint's nodes and pairs come before those of the others
 pub first_nodes : (c : Constraint) (cs : List Constraint) → nodes_of (c ∷ cs) ≡ node_count c.formula + nodes_of cs
-first_nodes c cs = let e = sum_by-append (λ x. node_count x.formula) (c ∷ []) cs in go (node_count c.formula) (nodes_of cs) (nodes_of (c ∷ cs)) e
+first_nodes c cs =
+    let e = sum_by-append (λ x. node_count x.formula) (c ∷ []) cs in
+    go (node_count c.formula) (nodes_of cs) (nodes_of (c ∷ cs)) e
   where
     go : (a b s : ℕ) → s ≡ (0 + a) + b → s ≡ a + b
     go a b s e = omega arith
 
-pub first_pairs : (pairs : List Equality) (c : Constraint) (cs : List Constraint) → pairs_with pairs (c ∷ cs) ≡ pairs_with (fold with_pair pairs (equalities c.formula)) cs
+pub first_pairs : (pairs : List Equality) (c : Constraint) (cs : List Constraint)
+    → pairs_with pairs (c ∷ cs) ≡ pairs_with (fold with_pair pairs (equalities c.formula)) cs
 first_pairs pairs c cs = fold-append pairs (equalities c.formula) (flat_map (λ x. equalities x.formula) cs)
 
-form_is : (g : Graph) (h : IsHierarchy g) (r : ℕ) (l : IsCategory g r) (f : Formula) → IsFormulaAt g r f → (before : ℕ) → before + node_count f ≤ 4096 → depth_of f ≤ 64 →
+form_is : (g : Graph) (h : IsHierarchy g) (r : ℕ) (l : IsCategory g r) (f : Formula) → IsFormulaAt g r f
+    → (before : ℕ) → before + node_count f ≤ 4096 → depth_of f ≤ 64 →
     form_read g before (spelt g r f) ≡ Ok f
 unfolding form_read
 form_is g h r l f v before few deep =
@@ -87,7 +91,8 @@ form_is g h r l f v before few deep =
     within a b c e l = grind arith
 
 -- a constraint's line adds it
-pub add_constraint : (s : Schema) → IsValidSchema s → AreShort s.graph → (done : List Constraint) (c : Constraint) (rest : List Constraint) (nodes : ℕ) (pairs : List Equality) (lines : List ℕ) →
+pub add_constraint : (s : Schema) → IsValidSchema s → AreShort s.graph
+    → (done : List Constraint) (c : Constraint) (rest : List Constraint) (nodes : ℕ) (pairs : List Equality) (lines : List ℕ) →
     done ++ c ∷ rest ≡ s.constraints → nodes + nodes_of (c ∷ rest) ≤ 4096 → length (pairs_with pairs (c ∷ rest)) ≤ 256 →
     constraint_read (ruled s.graph done nodes pairs lines) (name_of_category s.graph c.root) (spelt s.graph c.root c.formula)
     ≡ Ok (ruled s.graph (done ++ c ∷ []) (nodes + token_nodes (spelt s.graph c.root c.formula)) (fold with_pair pairs (equalities c.formula)) lines)
@@ -114,5 +119,6 @@ add_constraint s v short done c rest nodes pairs lines e few_nodes few_pairs =
   where
     room : (a b n : ℕ) → n ≤ 64 → n ≡ a + suc b → nat_le 64 a ≡ false
     room a b n l q = grind arith
+
     below : (a b n : ℕ) → a ≤ b → n ≡ b → n ≤ 256 → nat_lt 256 a ≡ false
     below a b n l q m = grind arith

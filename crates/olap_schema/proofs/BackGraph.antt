@@ -2,17 +2,16 @@
 --     growing        what is known on the way
 --     add_category   a category's line adds it
 --     add_edge       an edge's line adds it
-use Rattle.std.proofs.Common.{◌≡◌, ◌≢◌, ◌==◌, ◌||◌, ◌<◌, ◌≤◌, ◌+◌, ℕ, zero, suc, Bool, true, false, cond, List, [], ◌∷◌, ◌++◌, Option, Some, None, length, get_or, refl, append_assoc, append-nil, arith, ap, sym, ◌∙◌, codes, nat_lt, nat_le, inl, inr}
-use Rattle.std.specs.Prelude.{AllPairs, Contains, Result, Ok, Err, is_some}
+use Rattle.std.proofs.Common.{◌≡◌, ◌≢◌, ◌==◌, ◌<◌, ◌≤◌, ◌+◌, ℕ, zero, suc, Bool, true, false, List, [], ◌∷◌, ◌++◌, Option, Some, None, length, get_or, refl, arith, ap, sym, ◌∙◌, codes, nat_lt, nat_le, inl, inr}
+use Rattle.std.specs.Prelude.{AllPairs, Contains, Ok}
 use Rattle.std.specs.Bool.{Decides}
 use Rattle.std.specs.List.{position_from}
 use Rattle.std.specs.Str.{bytes_eq}
 use Rattle.std.proofs.lemmas.Bool.{eqb-true, false_from_ne_true}
-use Rattle.std.proofs.lemmas.List.Elements.{Contains-append_left, Contains-append_right}
+use Rattle.std.proofs.lemmas.List.Elements.{Contains-append_right}
 use Rattle.std.proofs.lemmas.Slice.Eq.{bytes_eq-Decides}
 use Rattle.olap_base.specs.Deciding.{contains_cases}
-use Rattle.olap_base.specs.Graph.{Edge, Graph, IsCategory, IsHierarchy}
-use Rattle.olap_graph.specs.Building.{category_refusal, edge_refusal, with_category, with_edge}
+use Rattle.olap_base.specs.Graph.{Edge}
 use Rattle.olap_graph.specs.Lookups.{category_named, edge_between, joins, name_of_category}
 use Rattle.olap_graph.proofs.PlaceLemmas.{found, joins-Decides}
 use Rattle.olap_ast.specs.Schema.{Schema}
@@ -62,7 +61,8 @@ same_read (z ∷ zs) zero d e l = refl
 same_read (z ∷ zs) (suc k) d e l = same_read zs k d e (omega arith)
 
 -- what passes nowhere in the list is not placed
-not_placed : {X : Type 0} (t : X → Bool) (P : X → Type 0) (tells : (x : X) → Decides (t x) (P x)) (xs : List X) → ((x : X) → Contains xs x → P x → ⊥) → position_from t 0 xs ≡ None
+not_placed : {X : Type 0} (t : X → Bool) (P : X → Type 0) (tells : (x : X) → Decides (t x) (P x)) (xs : List X)
+    → ((x : X) → Contains xs x → P x → ⊥) → position_from t 0 xs ≡ None
 not_placed t P tells [] none = refl
 not_placed t P tells (y ∷ ys) none = go (position_from t 0 (y ∷ ys)) refl
   where
@@ -74,7 +74,8 @@ not_placed t P tells (y ∷ ys) none = go (position_from t 0 (y ∷ ys)) refl
 
 -- ---- categories
 
-new_name : (done : List (List ℕ)) (name : List ℕ) (rest : List (List ℕ)) → AllPairs ◌≢◌ (done ++ name ∷ rest) → name ≢ codes "All" → (edges : List Edge) →
+new_name : (done : List (List ℕ)) (name : List ℕ) (rest : List (List ℕ)) → AllPairs ◌≢◌ (done ++ name ∷ rest)
+    → name ≢ codes "All" → (edges : List Edge) →
     category_named (record { names = done; edges = edges }) name ≡ None
 new_name done name rest a n edges =
     not_placed (bytes_eq name) (λ x. name ≡ x) (bytes_eq-Decides name) (codes "All" ∷ done)
@@ -83,7 +84,8 @@ new_name done name rest a n edges =
       | inr d ↦ not_before done name rest a (rw e d)
     ])
 
-pub add_category : (s : Schema) → IsValidSchema s → (n : ℕ) (done : List (List ℕ)) (name : List ℕ) (rest : List (List ℕ)) (lines : List ℕ) →
+pub add_category : (s : Schema) → IsValidSchema s
+    → (n : ℕ) (done : List (List ℕ)) (name : List ℕ) (rest : List (List ℕ)) (lines : List ℕ) →
     done ++ name ∷ rest ≡ s.graph.names → category_read (growing done [] lines) n name ≡ Ok (growing (done ++ name ∷ []) [] (lines ++ n ∷ []))
 add_category s v n done name rest lines e =
     let there : Contains s.graph.names name = rw e at (stands done name rest) in
@@ -101,7 +103,8 @@ add_category s v n done name rest lines e =
 
 -- ---- edges
 
-pub add_edge : (s : Schema) → IsValidSchema s → AreShort s.graph → (done : List Edge) (edge : Edge) (rest : List Edge) (lines : List ℕ) → done ++ edge ∷ rest ≡ s.graph.edges →
+pub add_edge : (s : Schema) → IsValidSchema s → AreShort s.graph
+    → (done : List Edge) (edge : Edge) (rest : List Edge) (lines : List ℕ) → done ++ edge ∷ rest ≡ s.graph.edges →
     edge_read (growing s.graph.names done lines) (name_of_category s.graph edge.child) (name_of_category s.graph edge.parent) ≡ Ok (growing s.graph.names (done ++ edge ∷ []) lines)
 add_edge s v short done edge rest lines e =
     let there : Contains s.graph.edges edge = rw e at (stands done edge rest) in
@@ -116,8 +119,8 @@ add_edge s v short done edge rest lines e =
     let all = false_from_ne_true (edge.child == 0) (λ q. from_all edge there (eqb-true edge.child 0 q)) in
     let differ : AllPairs ◌≢◌ (done ++ edge ∷ rest) = rw (← e) at v.hierarchy.edges_differ in
     let new : edge_between (record { names = s.graph.names; edges = done }) edge.child edge.parent ≡ None =
-        not_placed (joins edge.child edge.parent) (λ x. x ≡ record { child = edge.child; parent = edge.parent }) (joins-Decides edge.child edge.parent) done
-        (λ x c q. not_before done edge rest differ (rw q at c)) in
+    not_placed (joins edge.child edge.parent) (λ x. x ≡ record { child = edge.child; parent = edge.parent }) (joins-Decides edge.child edge.parent) done
+    (λ x c q. not_before done edge rest differ (rw q at c)) in
     let size = ap length e in
     let sizes = lengths done (edge ∷ rest) in
     let few : nat_le 256 (length done) ≡ false = room (length done) (length rest) (length s.graph.edges) v.edges_fit (sym size ∙ sizes) in
@@ -125,5 +128,6 @@ add_edge s v short done edge rest lines e =
   where
     room : (a b n : ℕ) → n ≤ 256 → n ≡ a + suc b → nat_le 256 a ≡ false
     room a b n l q = grind arith
+
     from_all : (x : Edge) → Contains s.graph.edges x → x.child ≡ 0 → ⊥
     from_all x c q = v.hierarchy.none_from_all x.parent (rw q at c)

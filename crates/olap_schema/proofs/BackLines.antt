@@ -1,21 +1,22 @@
 -- The lines of a printed text, and what a line of plain bytes says.
 --     lines_are       the lines of the text are the lines
 --     line_says       a line is read by what its tokens say
-use Rattle.std.proofs.Common.{◌≡◌, ◌==◌, ◌||◌, ◌&&◌, not, ◌<◌, ◌≤◌, ◌+◌, ◌-◌, inl, inr, ℕ, zero, suc, Bool, true, false, cond, List, [], ◌∷◌, ◌++◌, Option, Some, length, refl, append_assoc, append-nil, arith, ap, sym, ◌∙◌, codes, nat_lt}
-use Rattle.std.specs.Prelude.{Result, Ok, Err, slice_index}
+use Rattle.std.proofs.Common.{◌≡◌, ◌==◌, ◌||◌, ◌+◌, ◌-◌, ℕ, zero, suc, Bool, true, false, List, [], ◌∷◌, ◌++◌, Some, length, refl, arith, ap, ◌∙◌}
+use Rattle.std.specs.Prelude.{Ok, slice_index}
 use Rattle.std.specs.List.{list_any}
 use Rattle.olap_grammar.specs.CuttingMachine.{tokens_of}
 use Rattle.olap_grammar.specs.declared.tokens.Token.{Token}
-use Rattle.olap_schema.specs.Judging.{Above, Read, line_read, lines_on, statement_read, tokens_read}
-use Rattle.olap_schema.specs.Lines.{chomped, in_front, is_bad, is_control, is_quiet, lines_of}
+use Rattle.olap_schema.specs.Judging.{Above, line_read, lines_on, tokens_read}
+use Rattle.olap_schema.specs.Lines.{chomped, in_front, is_control, is_quiet, lines_of}
 use Rattle.olap_schema.specs.Printing.{text_of_lines}
-use Rattle.olap_schema.specs.Statements.{statement_of}
 use Rattle.olap_schema.proofs.BackBytes.{IsPlain, not_bad}
 
-no_control : (b : ℕ) (bs : List ℕ) → list_any is_control (b ∷ bs) ≡ false → (is_control b ≡ false) × (list_any is_control bs ≡ false)
+no_control : (b : ℕ) (bs : List ℕ) → list_any is_control (b ∷ bs) ≡ false
+    → (is_control b ≡ false) × (list_any is_control bs ≡ false)
 no_control b bs e = go (is_control b) refl e
   where
-    go : (c : Bool) → is_control b ≡ c → c || list_any is_control bs ≡ false → (is_control b ≡ false) × (list_any is_control bs ≡ false)
+    go : (c : Bool) → is_control b ≡ c → c || list_any is_control bs ≡ false
+        → (is_control b ≡ false) × (list_any is_control bs ≡ false)
     go true q r = absurd (cc)
     go false q r = (q, r)
 
@@ -52,13 +53,15 @@ chomped_stays : (line : List ℕ) → IsPlain line → chomped line ≡ line
 chomped_stays line p = rw (no_cr_at line (length line - 1) p.plain) refl
 
 -- a line that says something is read by its tokens
-pub line_says : (a : Above) (n : ℕ) (line : List ℕ) (ts : List Token) → IsPlain line → is_quiet line ≡ false → tokens_of line ≡ Some ts →
+pub line_says : (a : Above) (n : ℕ) (line : List ℕ) (ts : List Token) → IsPlain line → is_quiet line ≡ false
+    → tokens_of line ≡ Some ts →
     line_read a n line ≡ tokens_read a n (Some ts)
 unfolding line_read
 line_says a n line ts p q e = rw (not_bad line p, q, e) refl
 
 -- the lines from such a line on
-pub goes_on : (a b : Above) (n : ℕ) (line : List ℕ) (ts : List Token) (lines : List (List ℕ)) → IsPlain line → is_quiet line ≡ false → tokens_of line ≡ Some ts →
+pub goes_on : (a b : Above) (n : ℕ) (line : List ℕ) (ts : List Token) (lines : List (List ℕ)) → IsPlain line
+    → is_quiet line ≡ false → tokens_of line ≡ Some ts →
     tokens_read a (n + 1) (Some ts) ≡ Ok b → lines_on (Ok a) n (line ∷ lines) ≡ lines_on (Ok b) (n + 1) lines
 goes_on a b n line ts lines p q e r =
     ap (λ l. lines_on (line_read a (n + 1) l) (n + 1) lines) (chomped_stays line p)

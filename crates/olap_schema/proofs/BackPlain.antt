@@ -1,5 +1,5 @@
 -- Printed formulas and lines are plain: UTF-8 without control characters.
-use Rattle.std.proofs.Common.{◌≡◌, ◌==◌, ◌||◌, ◌&&◌, ◌<◌, ◌≤◌, ◌+◌, ℕ, zero, suc, Bool, true, false, cond, List, [], ◌∷◌, ◌++◌, All, length, refl, append-nil, arith, ap, sym, ◌∙◌, codes, nat_lt, nat_le, lit<, lit≤}
+use Rattle.std.proofs.Common.{◌≡◌, ◌==◌, ◌&&◌, ℕ, Bool, true, false, cond, List, [], ◌∷◌, ◌++◌, All, refl, arith, codes, nat_lt, nat_le, lit<}
 use Rattle.std.specs.List.{list_all}
 use Rattle.std.proofs.lemmas.List.Elements.{All-head, All-tail, Contains-append_left, Contains-append_right}
 use Rattle.olap_base.specs.Graph.{Graph, IsCategory, IsCategoryName, IsHierarchy, IsLetterOrDigit}
@@ -26,7 +26,8 @@ pub ascii_plain : (bs : List ℕ) → list_all is_printable bs ≡ true → IsPl
 ascii_plain [] e = plain-nil
 ascii_plain (b ∷ bs) e = go (nat_lt b 127) (nat_le 32 b) refl refl e (λ r. ascii_plain bs r)
   where
-    go : (p q : Bool) → nat_lt b 127 ≡ p → nat_le 32 b ≡ q → (p && q) && list_all is_printable bs ≡ true → (list_all is_printable bs ≡ true → IsPlain bs) → IsPlain (b ∷ bs)
+    go : (p q : Bool) → nat_lt b 127 ≡ p → nat_le 32 b ≡ q → (p && q) && list_all is_printable bs ≡ true
+        → (list_all is_printable bs ≡ true → IsPlain bs) → IsPlain (b ∷ bs)
     go true true m n r rest = plain-cons b bs (grind arith) (grind arith) (rest r)
     go true false m n r rest = absurd (cc)
     go false q m n r rest = absurd (cc)
@@ -58,7 +59,8 @@ byte b bs e p = go (nat_lt b 127) (nat_le 32 b) refl refl e
     go false v m n r = absurd (cc)
 
 quoted_plain : (k : List ℕ) → IsPlain k → IsPlain (quoted k)
-quoted_plain k p = byte 34 (escaped k ++ 34 ∷ []) refl (plain-append (escaped k) (34 ∷ []) (escaped_plain k p) (ascii_plain (34 ∷ []) refl))
+quoted_plain k p =
+    byte 34 (escaped k ++ 34 ∷ []) refl (plain-append (escaped k) (34 ∷ []) (escaped_plain k p) (ascii_plain (34 ∷ []) refl))
 
 joined_plain : (j : Joint) (x y : List ℕ) → IsPlain x → IsPlain y → IsPlain (joined_text j x y)
 joined_plain j x y p q =
@@ -70,10 +72,13 @@ module _ (g : Graph) (h : IsHierarchy g) where
   after_plain : (m : ℕ) (cs : List ℕ) → is_printable m ≡ true → AreCategories g cs → IsPlain (names_after g m cs)
   unfolding names_after
   after_plain m [] e v = plain-nil
-  after_plain m (c ∷ cs) e v = byte m (name_of_category g c ++ names_after g m cs) e (plain-append (name_of_category g c) (names_after g m cs) (name_plain (name_of_category g c) (name_is g h c v.0)) (after_plain m cs e v.1))
+  after_plain m (c ∷ cs) e v =
+      byte m (name_of_category g c ++ names_after g m cs) e (plain-append (name_of_category g c) (names_after g m cs) (name_plain (name_of_category g c) (name_is g h c v.0)) (after_plain m cs e v.1))
 
-  atom_plain : (r m : ℕ) (cs : List ℕ) → is_printable m ≡ true → IsCategory g r → AreCategories g cs → IsPlain (atom_word g r m cs)
-  atom_plain r m cs e l v = plain-append (name_of_category g r) (names_after g m cs) (name_plain (name_of_category g r) (name_is g h r l)) (after_plain m cs e v)
+  atom_plain : (r m : ℕ) (cs : List ℕ) → is_printable m ≡ true → IsCategory g r → AreCategories g cs
+      → IsPlain (atom_word g r m cs)
+  atom_plain r m cs e l v =
+      plain-append (name_of_category g r) (names_after g m cs) (name_plain (name_of_category g r) (name_is g h r l)) (after_plain m cs e v)
 
   compared_plain : (r d : ℕ) → IsCategory g r → IsCategory g d → IsPlain (compared_word g r d)
   compared_plain r d l k = go (d == r)
@@ -89,10 +94,12 @@ pub right_texts : (xs ys : List Meaning.Equality) → AreTexts (xs ++ ys) → Ar
 right_texts xs ys t a c = t a (Contains-append_right xs ys a c)
 
 compared : (w k : List ℕ) → IsPlain w → IsPlain k → IsPlain (w ++ 32 ∷ 61 ∷ 32 ∷ quoted k)
-compared w k p q = plain-append w (32 ∷ 61 ∷ 32 ∷ quoted k) p (byte 32 (61 ∷ 32 ∷ quoted k) refl (byte 61 (32 ∷ quoted k) refl (byte 32 (quoted k) refl (quoted_plain k q))))
+compared w k p q =
+    plain-append w (32 ∷ 61 ∷ 32 ∷ quoted k) p (byte 32 (61 ∷ 32 ∷ quoted k) refl (byte 61 (32 ∷ quoted k) refl (byte 32 (quoted k) refl (quoted_plain k q))))
 
 module _ (g : Graph) (h : IsHierarchy g) (r : ℕ) (l : IsCategory g r) where
-  both : (j : Joint) (f k : Formula) → IsPlain (formula_text g r f) → IsPlain (formula_text g r k) → IsPlain (joined_text j (formula_text g r f) (formula_text g r k))
+  both : (j : Joint) (f k : Formula) → IsPlain (formula_text g r f) → IsPlain (formula_text g r k)
+      → IsPlain (joined_text j (formula_text g r f) (formula_text g r k))
   both j f k p q = joined_plain j (formula_text g r f) (formula_text g r k) p q
 
   mutual
@@ -103,19 +110,28 @@ module _ (g : Graph) (h : IsHierarchy g) (r : ℕ) (l : IsCategory g r) where
     formula_plain (Meaning.Formula.Path cs) v t = atom_plain g h r 95 cs refl l (steps_are g h r cs v.1)
     formula_plain (Meaning.Formula.Reach d) v t = atom_plain g h r 46 (d ∷ []) refl l (v, tt)
     formula_plain (Meaning.Formula.Via d e) v t = atom_plain g h r 46 (d ∷ e ∷ []) refl l (v.0, (v.1, tt))
-    formula_plain (Meaning.Formula.Equals d k) v t = compared (compared_word g r d) k (compared_plain g h r d l v.0) (from_not_bad k (t (record { category = d; text = k }) (0, lit< tt, refl)))
+    formula_plain (Meaning.Formula.Equals d k) v t =
+        compared (compared_word g r d) k (compared_plain g h r d l v.0) (from_not_bad k (t (record { category = d; text = k }) (0, lit< tt, refl)))
     formula_plain (Meaning.Formula.Not f) v t = byte 33 (formula_text g r f) refl (formula_plain f v t)
-    formula_plain (Meaning.Formula.And f k) v t = both joint.And f k (formula_plain f v.0 (left_texts (equalities f) (equalities k) t)) (formula_plain k v.1 (right_texts (equalities f) (equalities k) t))
-    formula_plain (Meaning.Formula.Or f k) v t = both joint.Or f k (formula_plain f v.0 (left_texts (equalities f) (equalities k) t)) (formula_plain k v.1 (right_texts (equalities f) (equalities k) t))
-    formula_plain (Meaning.Formula.Implies f k) v t = both joint.Implies f k (formula_plain f v.0 (left_texts (equalities f) (equalities k) t)) (formula_plain k v.1 (right_texts (equalities f) (equalities k) t))
-    formula_plain (Meaning.Formula.Iff f k) v t = both joint.Iff f k (formula_plain f v.0 (left_texts (equalities f) (equalities k) t)) (formula_plain k v.1 (right_texts (equalities f) (equalities k) t))
-    formula_plain (Meaning.Formula.Xor f k) v t = both joint.Xor f k (formula_plain f v.0 (left_texts (equalities f) (equalities k) t)) (formula_plain k v.1 (right_texts (equalities f) (equalities k) t))
-    formula_plain (Meaning.Formula.One fs) v t = plain-append (codes "one(") (list_text g r fs ++ 41 ∷ []) (ascii_plain (codes "one(") refl) (plain-append (list_text g r fs) (41 ∷ []) (list_plain fs v t) (ascii_plain (41 ∷ []) refl))
+    formula_plain (Meaning.Formula.And f k) v t =
+        both joint.And f k (formula_plain f v.0 (left_texts (equalities f) (equalities k) t)) (formula_plain k v.1 (right_texts (equalities f) (equalities k) t))
+    formula_plain (Meaning.Formula.Or f k) v t =
+        both joint.Or f k (formula_plain f v.0 (left_texts (equalities f) (equalities k) t)) (formula_plain k v.1 (right_texts (equalities f) (equalities k) t))
+    formula_plain (Meaning.Formula.Implies f k) v t =
+        both joint.Implies f k (formula_plain f v.0 (left_texts (equalities f) (equalities k) t)) (formula_plain k v.1 (right_texts (equalities f) (equalities k) t))
+    formula_plain (Meaning.Formula.Iff f k) v t =
+        both joint.Iff f k (formula_plain f v.0 (left_texts (equalities f) (equalities k) t)) (formula_plain k v.1 (right_texts (equalities f) (equalities k) t))
+    formula_plain (Meaning.Formula.Xor f k) v t =
+        both joint.Xor f k (formula_plain f v.0 (left_texts (equalities f) (equalities k) t)) (formula_plain k v.1 (right_texts (equalities f) (equalities k) t))
+    formula_plain (Meaning.Formula.One fs) v t =
+        plain-append (codes "one(") (list_text g r fs ++ 41 ∷ []) (ascii_plain (codes "one(") refl) (plain-append (list_text g r fs) (41 ∷ []) (list_plain fs v t) (ascii_plain (41 ∷ []) refl))
 
     list_plain : (fs : Terms) → AreFormulasAt g r fs → AreTexts (equalities_of_terms fs) → IsPlain (list_text g r fs)
     list_plain Meaning.Terms.End v t = plain-nil
-    list_plain (Meaning.Terms.More f fs) v t = plain-append (formula_text g r f) (rest_text g r fs) (formula_plain f v.0 (left_texts (equalities f) (equalities_of_terms fs) t)) (rest_plain fs v.1 (right_texts (equalities f) (equalities_of_terms fs) t))
+    list_plain (Meaning.Terms.More f fs) v t =
+        plain-append (formula_text g r f) (rest_text g r fs) (formula_plain f v.0 (left_texts (equalities f) (equalities_of_terms fs) t)) (rest_plain fs v.1 (right_texts (equalities f) (equalities_of_terms fs) t))
 
     rest_plain : (fs : Terms) → AreFormulasAt g r fs → AreTexts (equalities_of_terms fs) → IsPlain (rest_text g r fs)
     rest_plain Meaning.Terms.End v t = plain-nil
-    rest_plain (Meaning.Terms.More f fs) v t = byte 44 (32 ∷ (formula_text g r f ++ rest_text g r fs)) refl (byte 32 (formula_text g r f ++ rest_text g r fs) refl (plain-append (formula_text g r f) (rest_text g r fs) (formula_plain f v.0 (left_texts (equalities f) (equalities_of_terms fs) t)) (rest_plain fs v.1 (right_texts (equalities f) (equalities_of_terms fs) t))))
+    rest_plain (Meaning.Terms.More f fs) v t =
+        byte 44 (32 ∷ (formula_text g r f ++ rest_text g r fs)) refl (byte 32 (formula_text g r f ++ rest_text g r fs) refl (plain-append (formula_text g r f) (rest_text g r fs) (formula_plain f v.0 (left_texts (equalities f) (equalities_of_terms fs) t)) (rest_plain fs v.1 (right_texts (equalities f) (equalities_of_terms fs) t))))

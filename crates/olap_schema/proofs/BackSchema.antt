@@ -1,18 +1,16 @@
 -- A printed schema is read back.
-use Rattle.std.proofs.Common.{◌≡◌, ◌≢◌, ◌==◌, ◌<◌, ◌≤◌, ◌+◌, ℕ, zero, suc, Bool, true, false, List, [], ◌∷◌, ◌++◌, Option, Some, None, length, map, get_or, refl, append_assoc, append-nil, arith, ap, sym, ◌∙◌, codes, lit≤}
-use Rattle.std.specs.Prelude.{Contains, Result, Ok, Err, flat_map, fold}
+use Rattle.std.proofs.Common.{◌≡◌, ◌≤◌, ◌+◌, ℕ, zero, suc, List, [], ◌∷◌, ◌++◌, Some, length, map, get_or, refl, append_assoc, append-nil, arith, ap, sym, ◌∙◌, codes, lit≤}
+use Rattle.std.specs.Prelude.{Contains, Ok, flat_map, fold}
 use Rattle.std.proofs.lemmas.List.Elements.{Contains-get_or}
 use Rattle.olap_base.specs.Deciding.{contains_cons}
-use Rattle.olap_base.specs.Graph.{Edge, Graph, IsCategory, IsCategoryName, IsHierarchy}
+use Rattle.olap_base.specs.Graph.{Edge, IsCategory, IsCategoryName}
 use Rattle.olap_graph.specs.Lookups.{name_of_category}
 use Rattle.olap_ast.specs.Formula.{Equality, equalities}
 use Rattle.olap_ast.specs.Schema.{Constraint, Schema}
 use Rattle.olap_ast.specs.Valid.{IsValidSchema, with_pair}
-use Rattle.olap_grammar.specs.declared.tokens.Token.{Token}
 use Rattle.olap_grammar.specs.declared.tokens.Token.TheVariants as token
-use Rattle.olap_schema.specs.Judging.{Above, lines_on, nothing_above, schema_read, statement_read, text_ended, tokens_read, whole}
-use Rattle.olap_schema.specs.Lines.{lines_of}
-use Rattle.olap_schema.specs.Printing.{category_text, constraint_text, edge_text, schema_lines, schema_text, text_of_lines, version_text}
+use Rattle.olap_schema.specs.Judging.{Above, lines_on, nothing_above, schema_read, statement_read, text_ended, tokens_read}
+use Rattle.olap_schema.specs.Printing.{category_text, constraint_text, edge_text, schema_lines, schema_text, version_text}
 use Rattle.olap_schema.specs.PrintingLaws.{AreTexts, IsReadable, PrintedIsRead}
 use Rattle.olap_schema.specs.Tokens.{token_nodes}
 use Rattle.olap_schema.proofs.BackConstraints.{add_constraint, first_nodes, first_pairs, nodes_of, pairs_with, ruled}
@@ -23,7 +21,7 @@ use Rattle.olap_schema.proofs.BackLineTokens.{category_plain, category_speaks, c
 use Rattle.olap_schema.proofs.BackPlain.{left_texts, right_texts}
 use Rattle.olap_schema.proofs.BackStatements.{category_says, constraint_says, edge_says, version_says}
 use Rattle.olap_schema.proofs.BackTokens.{nodes_are}
-use Rattle.olap_schema.proofs.PrintNames.{is_name, name_is}
+use Rattle.olap_schema.proofs.PrintNames.{is_name}
 use Rattle.olap_schema.proofs.PrintTokens.{spelt}
 use Rattle.olap_schema.proofs.StuckLemmas.{none_stuck}
 use Rattle.olap_base.specs.Deciding.{is_category_name_is}
@@ -43,7 +41,8 @@ module _ (s : Schema) (v : IsValidSchema s) where
 
   -- ---- from the last lines to the first
 
-  constraints_back : (todo done : List Constraint) (n nodes : ℕ) (pairs : List Equality) (lines : List ℕ) → done ++ todo ≡ s.constraints →
+  constraints_back : (todo done : List Constraint) (n nodes : ℕ) (pairs : List Equality) (lines : List ℕ)
+      → done ++ todo ≡ s.constraints →
       nodes + nodes_of todo ≤ 4096 → length (pairs_with pairs todo) ≤ 256 → AreTexts (atoms_in todo) →
       Ends (ruled s.graph done nodes pairs lines) n (map (constraint_text s.graph) todo) s
   constraints_back [] done n nodes pairs lines e few_nodes few_pairs t =
@@ -59,16 +58,18 @@ module _ (s : Schema) (v : IsValidSchema s) where
       let above = ruled s.graph done nodes pairs lines in
       let below = ruled s.graph (done ++ c ∷ []) (nodes + token_nodes ts) (fold with_pair pairs (equalities c.formula)) lines in
       let read : tokens_read above (n + 1) (Some (token.Word (codes "constraint") ∷ token.Word name ∷ token.Colon ∷ ts)) ≡ Ok below =
-          ap (statement_read above (n + 1)) (constraint_says name ts (is_name s.graph v.hierarchy c.root l)) ∙ add_constraint s v short done c todo nodes pairs lines e few_nodes few_pairs in
+      ap (statement_read above (n + 1)) (constraint_says name ts (is_name s.graph v.hierarchy c.root l))
+          ∙ add_constraint s v short done c todo nodes pairs lines e few_nodes few_pairs in
       let plain = constraint_plain s.graph v.hierarchy c l at_root (left_texts (equalities c.formula) (atoms_in todo) t) in
       let counted = nodes_are s.graph c.root c.formula in
       let sum = first_nodes c todo in
       let same = ap length (first_pairs pairs c todo) in
       ap text_ended (goes_on above below n (constraint_text s.graph c) _ (map (constraint_text s.graph) todo) plain (constraint_speaks s.graph c) (constraint_tokens s.graph v.hierarchy c l at_root) read)
       ∙ constraints_back todo (done ++ c ∷ []) (n + 1) (nodes + token_nodes ts) (fold with_pair pairs (equalities c.formula)) lines (append_assoc done (c ∷ []) todo ∙ e)
-        (omega (arith, counted, sum, few_nodes)) (omega (arith, same, few_pairs)) (right_texts (equalities c.formula) (atoms_in todo) t)
+      (omega (arith, counted, sum, few_nodes)) (omega (arith, same, few_pairs)) (right_texts (equalities c.formula) (atoms_in todo) t)
 
-  edges_back : AreTexts (atoms_in s.constraints) → (todo done : List Edge) (n : ℕ) (lines : List ℕ) → done ++ todo ≡ s.graph.edges →
+  edges_back : AreTexts (atoms_in s.constraints) → (todo done : List Edge) (n : ℕ) (lines : List ℕ)
+      → done ++ todo ≡ s.graph.edges →
       Ends (growing s.graph.names done lines) n (map (edge_text s.graph) todo ++ map (constraint_text s.graph) s.constraints) s
   edges_back t [] done n lines e =
       ap (λ es. text_ended (lines_on (Ok (growing s.graph.names es lines)) n (map (constraint_text s.graph) s.constraints))) (sym (append-nil done) ∙ e)
@@ -81,11 +82,13 @@ module _ (s : Schema) (v : IsValidSchema s) where
       let above = growing s.graph.names done lines in
       let below = growing s.graph.names (done ++ x ∷ []) lines in
       let read : tokens_read above (n + 1) (Some (token.Word (codes "edge") ∷ token.Word child ∷ token.Word parent ∷ [])) ≡ Ok below =
-          ap (statement_read above (n + 1)) (edge_says child parent (is_name s.graph v.hierarchy x.child ends.0) (is_name s.graph v.hierarchy x.parent ends.1)) ∙ add_edge s v short done x todo lines e in
+      ap (statement_read above (n + 1)) (edge_says child parent (is_name s.graph v.hierarchy x.child ends.0) (is_name s.graph v.hierarchy x.parent ends.1))
+          ∙ add_edge s v short done x todo lines e in
       ap text_ended (goes_on above below n (edge_text s.graph x) _ (map (edge_text s.graph) todo ++ map (constraint_text s.graph) s.constraints) (edge_plain s.graph v.hierarchy x ends.0 ends.1) (edge_speaks s.graph x) (edge_tokens s.graph v.hierarchy x ends.0 ends.1) read)
       ∙ edges_back t todo (done ++ x ∷ []) (n + 1) lines (append_assoc done (x ∷ []) todo ∙ e)
 
-  categories_back : AreTexts (atoms_in s.constraints) → (todo done : List (List ℕ)) (n : ℕ) (lines : List ℕ) → done ++ todo ≡ s.graph.names →
+  categories_back : AreTexts (atoms_in s.constraints) → (todo done : List (List ℕ)) (n : ℕ) (lines : List ℕ)
+      → done ++ todo ≡ s.graph.names →
       Ends (growing done [] lines) n (map category_text todo ++ (map (edge_text s.graph) s.graph.edges ++ map (constraint_text s.graph) s.constraints)) s
   categories_back t [] done n lines e =
       ap (λ names. text_ended (lines_on (Ok (growing names [] lines)) n (map (edge_text s.graph) s.graph.edges ++ map (constraint_text s.graph) s.constraints))) (sym (append-nil done) ∙ e)
@@ -96,7 +99,8 @@ module _ (s : Schema) (v : IsValidSchema s) where
       let above = growing done [] lines in
       let below = growing (done ++ name ∷ []) [] (lines ++ (n + 1) ∷ []) in
       let read : tokens_read above (n + 1) (Some (token.Word (codes "category") ∷ token.Word name ∷ [])) ≡ Ok below =
-          ap (statement_read above (n + 1)) (category_says name ((is_category_name_is name).1 is)) ∙ add_category s v (n + 1) done name todo lines e in
+      ap (statement_read above (n + 1)) (category_says name ((is_category_name_is name).1 is))
+          ∙ add_category s v (n + 1) done name todo lines e in
       ap text_ended (goes_on above below n (category_text name) _ (map category_text todo ++ (map (edge_text s.graph) s.graph.edges ++ map (constraint_text s.graph) s.constraints)) (category_plain name is) (category_speaks name) (category_tokens name is) read)
       ∙ categories_back t todo (done ++ name ∷ []) (n + 1) (lines ++ (n + 1) ∷ []) (append_assoc done (name ∷ []) todo ∙ e)
 
@@ -106,29 +110,38 @@ module _ (s : Schema) (v : IsValidSchema s) where
   plain_after [] ys p q = q
   plain_after (x ∷ xs) ys p q = (p.0, plain_after xs ys p.1 q)
 
-  plain_names : (names : List (List ℕ)) → ((name : List ℕ) → Contains names name → IsCategoryName name) → ArePlain (map category_text names)
+  plain_names : (names : List (List ℕ)) → ((name : List ℕ) → Contains names name → IsCategoryName name)
+      → ArePlain (map category_text names)
   plain_names [] f = tt
-  plain_names (name ∷ names) f = (category_plain name (f name (0, omega arith, refl)), plain_names names (λ x c. f x (contains_cons x names name c)))
+  plain_names (name ∷ names) f =
+      (category_plain name (f name (0, omega arith, refl)), plain_names names (λ x c. f x (contains_cons x names name c)))
 
-  plain_edges : (edges : List Edge) → ((e : Edge) → Contains edges e → IsCategory s.graph e.child × IsCategory s.graph e.parent) → ArePlain (map (edge_text s.graph) edges)
+  plain_edges : (edges : List Edge)
+      → ((e : Edge) → Contains edges e → IsCategory s.graph e.child × IsCategory s.graph e.parent)
+      → ArePlain (map (edge_text s.graph) edges)
   plain_edges [] f = tt
   plain_edges (e ∷ edges) f =
       let ends = f e (0, omega arith, refl) in
       (edge_plain s.graph v.hierarchy e ends.0 ends.1, plain_edges edges (λ x c. f x (contains_cons x edges e c)))
 
-  plain_constraints : (cs : List Constraint) → ((c : Constraint) → Contains cs c → Contains s.constraints c) → AreTexts (atoms_in cs) → ArePlain (map (constraint_text s.graph) cs)
+  plain_constraints : (cs : List Constraint) → ((c : Constraint) → Contains cs c → Contains s.constraints c)
+      → AreTexts (atoms_in cs) → ArePlain (map (constraint_text s.graph) cs)
   plain_constraints [] f t = tt
   plain_constraints (c ∷ cs) f t =
-      let there = f c (0, omega arith, refl) in
-      (constraint_plain s.graph v.hierarchy c (v.roots c there).1 (v.formulas c there) (left_texts (equalities c.formula) (atoms_in cs) t),
-       plain_constraints cs (λ x k. f x (contains_cons x cs c k)) (right_texts (equalities c.formula) (atoms_in cs) t))
+      let there = f c (0, omega arith, refl) in (
+        constraint_plain s.graph v.hierarchy c (v.roots c there).1 (v.formulas c there) (left_texts (equalities c.formula) (atoms_in cs) t),
+        plain_constraints cs (λ x k. f x (contains_cons x cs c k)) (right_texts (equalities c.formula) (atoms_in cs) t),
+      )
 
   plain_lines : AreTexts (atoms_in s.constraints) → ArePlain (schema_lines s)
-  plain_lines t = (version_plain, plain_after (map category_text s.graph.names) (map (edge_text s.graph) s.graph.edges ++ map (constraint_text s.graph) s.constraints)
-      (plain_names s.graph.names (λ name c. (v.hierarchy.names name c).0))
-      (plain_after (map (edge_text s.graph) s.graph.edges) (map (constraint_text s.graph) s.constraints)
-      (plain_edges s.graph.edges (λ e c. v.hierarchy.categories e.child e.parent c))
-      (plain_constraints s.constraints (λ c k. k) t)))
+  plain_lines t = (
+    version_plain,
+    plain_after (map category_text s.graph.names) (map (edge_text s.graph) s.graph.edges ++ map (constraint_text s.graph) s.constraints)
+        (plain_names s.graph.names (λ name c. (v.hierarchy.names name c).0))
+        (plain_after (map (edge_text s.graph) s.graph.edges) (map (constraint_text s.graph) s.constraints)
+        (plain_edges s.graph.edges (λ e c. v.hierarchy.categories e.child e.parent c))
+        (plain_constraints s.constraints (λ c k. k) t)),
+  )
 
   lines_back : AreTexts (atoms_in s.constraints) → Ends nothing_above 0 (schema_lines s) s
   lines_back t =

@@ -1,15 +1,16 @@
 -- What the tokens of printed lines say.
-use Rattle.std.proofs.Common.{◌≡◌, ◌==◌, ◌&&◌, ◌≤◌, ◌+◌, ℕ, Bool, true, false, List, [], ◌∷◌, Some, length, refl, arith, codes, nat_le, if◌then◌else◌}
+use Rattle.std.proofs.Common.{◌≡◌, ◌==◌, ◌&&◌, ℕ, Bool, true, false, List, [], ◌∷◌, length, refl, arith, codes, nat_le, if◌then◌else◌}
 use Rattle.olap_base.specs.Deciding.{is_category_name}
 use Rattle.olap_grammar.specs.declared.tokens.Token.{Token}
 use Rattle.olap_grammar.specs.declared.tokens.Token.TheVariants as token
-use Rattle.olap_schema.specs.Statements.{Category, Constraint, Edge, Statement, colon_at, is_version, statement_of, word_at}
+use Rattle.olap_schema.specs.Statements.{Category, Constraint, Edge, colon_at, is_version, statement_of, word_at}
 
 pub version_says : is_version (token.Word (codes "schema") ∷ token.Word (codes "1") ∷ []) ≡ true
 unfolding word_at
 version_says = refl
 
-pub category_says : (name : List ℕ) → is_category_name name ≡ true → statement_of (token.Word (codes "category") ∷ token.Word name ∷ []) ≡ Category name
+pub category_says : (name : List ℕ) → is_category_name name ≡ true
+    → statement_of (token.Word (codes "category") ∷ token.Word name ∷ []) ≡ Category name
 unfolding statement_of word_at
 category_says name e = rw e refl
 
@@ -27,6 +28,7 @@ constraint_says root ts e =
     let three : nat_le 3 (length us) ≡ true = grind (arith) in
     rw (two, three, e) (go (length us == 3))
   where
-    go : (b : Bool) → (if b && false && true && is_category_name [] then Edge root [] else Constraint root ts) ≡ Constraint root ts
+    go : (b : Bool)
+        → (if b && false && true && is_category_name [] then Edge root [] else Constraint root ts) ≡ Constraint root ts
     go true = refl
     go false = refl

@@ -2,25 +2,17 @@
 --     nodes_are       the tokens have as many nodes as the formula
 --     few_open        no more brackets are open than the formula is deep
 --     none_is_long    no name and no constant is too long
-use Rattle.std.proofs.Common.{◌≡◌, ◌==◌, ◌||◌, ◌<◌, ◌≤◌, ◌+◌, ℕ, zero, suc, Bool, true, false, cond, List, [], ◌∷◌, ◌++◌, All, length, max, refl, append_assoc, append-nil, arith, ap, sym, ◌∙◌, zero-add, codes, nat_lt, nat_le}
-use Rattle.std.specs.List.{count_by, list_any, sum_by}
-use Rattle.std.proofs.lemmas.Bool.{eqb-true, false_from_ne_true}
-use Rattle.std.proofs.lemmas.List.Elements.{All-head, All-tail}
-use Rattle.std.proofs.lemmas.List.Folds.{list_any-append}
+use Rattle.std.proofs.Common.{◌≡◌, ◌≤◌, ◌+◌, ℕ, true, false, cond, List, [], ◌∷◌, ◌++◌, max, refl, append_assoc, append-nil, arith, ap, ◌∙◌, codes, nat_lt}
 use Rattle.std.proofs.lemmas.List.Sums.{sum_by-append}
-use Rattle.olap_base.specs.Graph.{Graph, IsCategory, IsHierarchy}
-use Rattle.olap_graph.specs.Lookups.{name_of_category}
+use Rattle.olap_base.specs.Graph.{Graph}
 use Rattle.olap_ast.specs.Formula as Meaning
 use Rattle.olap_ast.specs.Formula.{Formula, Terms}
-use Rattle.olap_ast.specs.Valid.{AreFormulasAt, IsFormulaAt, depth_of, depth_of_terms, node_count, node_count_of_terms}
+use Rattle.olap_ast.specs.Valid.{depth_of, depth_of_terms, node_count, node_count_of_terms}
 use Rattle.olap_grammar.specs.declared.tokens.Token.{Token}
 use Rattle.olap_grammar.specs.declared.tokens.Token.TheVariants as token
 use Rattle.olap_grammar.specs.declared.tokens.Joint.{Joint}
 use Rattle.olap_grammar.specs.declared.tokens.Joint.TheVariants as joint
-use Rattle.olap_schema.specs.Printing.{atom_word, compared_word, names_after}
-use Rattle.olap_schema.specs.Tokens.{has_long_name, is_long, is_node, opens_over, token_nodes}
-use Rattle.olap_schema.proofs.BackWords.{no_46, no_95}
-use Rattle.olap_schema.proofs.PrintCut.{AreCategories, steps_are}
+use Rattle.olap_schema.specs.Tokens.{is_node, opens_over, token_nodes}
 use Rattle.olap_schema.proofs.PrintTokens.{joined_tokens, spelt, spelt_list, spelt_rest}
 
 -- ---- nodes
@@ -29,10 +21,12 @@ nodes-append : (ts us : List Token) → token_nodes (ts ++ us) ≡ token_nodes t
 nodes-append ts us = sum_by-append (λ t. cond (is_node t) 1 0) ts us
 
 other_token : (t : Token) (ts : List Token) → is_node t ≡ false → token_nodes (t ∷ ts) ≡ token_nodes ts
-other_token t ts e = let one : token_nodes (t ∷ []) ≡ 0 = rw e refl in let s = nodes-append (t ∷ []) ts in omega (arith, one, s)
+other_token t ts e =
+    let one : token_nodes (t ∷ []) ≡ 0 = rw e refl in let s = nodes-append (t ∷ []) ts in omega (arith, one, s)
 
 node_token : (t : Token) (ts : List Token) → is_node t ≡ true → token_nodes (t ∷ ts) ≡ 1 + token_nodes ts
-node_token t ts e = let one : token_nodes (t ∷ []) ≡ 1 = rw e refl in let s = nodes-append (t ∷ []) ts in omega (arith, one, s)
+node_token t ts e =
+    let one : token_nodes (t ∷ []) ≡ 1 = rw e refl in let s = nodes-append (t ∷ []) ts in omega (arith, one, s)
 
 joined_nodes : (j : Joint) (l r : List Token) → token_nodes (joined_tokens j l r) ≡ 1 + token_nodes l + token_nodes r
 joined_nodes j l r =
@@ -44,7 +38,8 @@ joined_nodes j l r =
     let z : token_nodes [] ≡ 0 = refl in
     omega (arith, a, b, c, d, e, z)
 
-both_nodes : (j : Joint) (l r : List Token) (m n : ℕ) → token_nodes l ≡ m → token_nodes r ≡ n → token_nodes (joined_tokens j l r) ≡ 1 + m + n
+both_nodes : (j : Joint) (l r : List Token) (m n : ℕ) → token_nodes l ≡ m → token_nodes r ≡ n
+    → token_nodes (joined_tokens j l r) ≡ 1 + m + n
 both_nodes j l r m n d e = let s = joined_nodes j l r in omega (arith, s, d, e)
 
 bracketed_nodes : (ts : List Token) → token_nodes (token.Open ∷ (ts ++ token.Close ∷ [])) ≡ token_nodes ts
@@ -68,18 +63,24 @@ module _ (g : Graph) (r : ℕ) where
     nodes_are (Meaning.Formula.Via d e) = refl
     nodes_are (Meaning.Formula.Equals d k) = refl
     nodes_are (Meaning.Formula.Not f) = node_token token.Not (spelt g r f) refl ∙ ap (λ n. 1 + n) (nodes_are f)
-    nodes_are (Meaning.Formula.And f h) = both_nodes joint.And (spelt g r f) (spelt g r h) (node_count f) (node_count h) (nodes_are f) (nodes_are h)
-    nodes_are (Meaning.Formula.Or f h) = both_nodes joint.Or (spelt g r f) (spelt g r h) (node_count f) (node_count h) (nodes_are f) (nodes_are h)
-    nodes_are (Meaning.Formula.Implies f h) = both_nodes joint.Implies (spelt g r f) (spelt g r h) (node_count f) (node_count h) (nodes_are f) (nodes_are h)
-    nodes_are (Meaning.Formula.Iff f h) = both_nodes joint.Iff (spelt g r f) (spelt g r h) (node_count f) (node_count h) (nodes_are f) (nodes_are h)
-    nodes_are (Meaning.Formula.Xor f h) = both_nodes joint.Xor (spelt g r f) (spelt g r h) (node_count f) (node_count h) (nodes_are f) (nodes_are h)
+    nodes_are (Meaning.Formula.And f h) =
+        both_nodes joint.And (spelt g r f) (spelt g r h) (node_count f) (node_count h) (nodes_are f) (nodes_are h)
+    nodes_are (Meaning.Formula.Or f h) =
+        both_nodes joint.Or (spelt g r f) (spelt g r h) (node_count f) (node_count h) (nodes_are f) (nodes_are h)
+    nodes_are (Meaning.Formula.Implies f h) =
+        both_nodes joint.Implies (spelt g r f) (spelt g r h) (node_count f) (node_count h) (nodes_are f) (nodes_are h)
+    nodes_are (Meaning.Formula.Iff f h) =
+        both_nodes joint.Iff (spelt g r f) (spelt g r h) (node_count f) (node_count h) (nodes_are f) (nodes_are h)
+    nodes_are (Meaning.Formula.Xor f h) =
+        both_nodes joint.Xor (spelt g r f) (spelt g r h) (node_count f) (node_count h) (nodes_are f) (nodes_are h)
     nodes_are (Meaning.Formula.One fs) =
         node_token (token.Word (codes "one")) (token.Open ∷ (spelt_list g r fs ++ token.Close ∷ [])) refl
         ∙ ap (λ n. 1 + n) (bracketed_nodes (spelt_list g r fs) ∙ list_nodes fs)
 
     list_nodes : (fs : Terms) → token_nodes (spelt_list g r fs) ≡ node_count_of_terms fs
     list_nodes Meaning.Terms.End = refl
-    list_nodes (Meaning.Terms.More f fs) = part_nodes (spelt g r f) (spelt_rest g r fs) (node_count f) (node_count_of_terms fs) (nodes_are f) (rest_nodes fs)
+    list_nodes (Meaning.Terms.More f fs) =
+        part_nodes (spelt g r f) (spelt_rest g r fs) (node_count f) (node_count_of_terms fs) (nodes_are f) (rest_nodes fs)
 
     rest_nodes : (fs : Terms) → token_nodes (spelt_rest g r fs) ≡ node_count_of_terms fs
     rest_nodes Meaning.Terms.End = refl
@@ -121,7 +122,8 @@ joined_on : (j : Joint) (o c : ℕ) (us : List Token) → opens_over o c (token.
 unfolding opens_over
 joined_on j o c us = refl
 
-both_balance : (j : Joint) (d e : ℕ) (l r : List Token) → Balances d l → Balances e r → Balances (1 + max d e) (joined_tokens j l r)
+both_balance : (j : Joint) (d e : ℕ) (l r : List Token) → Balances d l → Balances e r
+    → Balances (1 + max d e) (joined_tokens j l r)
 both_balance j d e l r p q o c us b =
     let left = p (o + 1) c (token.Joint j ∷ (r ++ token.Close ∷ us)) (omega arith) in
     let right = q (o + 1) c (token.Close ∷ us) (omega arith) in
@@ -132,7 +134,8 @@ word_on : (w : List ℕ) (o c : ℕ) (us : List Token) → opens_over o c (token
 unfolding opens_over
 word_on w o c us = refl
 
-equal_on : (w k : List ℕ) (o c : ℕ) (us : List Token) → opens_over o c (token.Word w ∷ token.Equal ∷ token.Quoted k ∷ us) ≡ opens_over o c us
+equal_on : (w k : List ℕ) (o c : ℕ) (us : List Token)
+    → opens_over o c (token.Word w ∷ token.Equal ∷ token.Quoted k ∷ us) ≡ opens_over o c us
 unfolding opens_over
 equal_on w k o c us = refl
 
@@ -154,11 +157,16 @@ module _ (g : Graph) (r : ℕ) where
     balances (Meaning.Formula.Via d e) o c us b = word_on _ o c us
     balances (Meaning.Formula.Equals d k) o c us b = equal_on _ _ o c us
     balances (Meaning.Formula.Not f) o c us b = not_on o c (spelt g r f ++ us) ∙ balances f o c us (omega arith)
-    balances (Meaning.Formula.And f h) o c us b = both_balance joint.And (depth_of f) (depth_of h) (spelt g r f) (spelt g r h) (balances f) (balances h) o c us b
-    balances (Meaning.Formula.Or f h) o c us b = both_balance joint.Or (depth_of f) (depth_of h) (spelt g r f) (spelt g r h) (balances f) (balances h) o c us b
-    balances (Meaning.Formula.Implies f h) o c us b = both_balance joint.Implies (depth_of f) (depth_of h) (spelt g r f) (spelt g r h) (balances f) (balances h) o c us b
-    balances (Meaning.Formula.Iff f h) o c us b = both_balance joint.Iff (depth_of f) (depth_of h) (spelt g r f) (spelt g r h) (balances f) (balances h) o c us b
-    balances (Meaning.Formula.Xor f h) o c us b = both_balance joint.Xor (depth_of f) (depth_of h) (spelt g r f) (spelt g r h) (balances f) (balances h) o c us b
+    balances (Meaning.Formula.And f h) o c us b =
+        both_balance joint.And (depth_of f) (depth_of h) (spelt g r f) (spelt g r h) (balances f) (balances h) o c us b
+    balances (Meaning.Formula.Or f h) o c us b =
+        both_balance joint.Or (depth_of f) (depth_of h) (spelt g r f) (spelt g r h) (balances f) (balances h) o c us b
+    balances (Meaning.Formula.Implies f h) o c us b =
+        both_balance joint.Implies (depth_of f) (depth_of h) (spelt g r f) (spelt g r h) (balances f) (balances h) o c us b
+    balances (Meaning.Formula.Iff f h) o c us b =
+        both_balance joint.Iff (depth_of f) (depth_of h) (spelt g r f) (spelt g r h) (balances f) (balances h) o c us b
+    balances (Meaning.Formula.Xor f h) o c us b =
+        both_balance joint.Xor (depth_of f) (depth_of h) (spelt g r f) (spelt g r h) (balances f) (balances h) o c us b
     balances (Meaning.Formula.One fs) o c us b =
         let list = list_balances fs (o + 1) c (token.Close ∷ us) (omega arith) in
         simp append_assoc (word_on (codes "one") o c (token.Open ∷ (spelt_list g r fs ++ token.Close ∷ us))

@@ -1,7 +1,7 @@
 -- Printed words mean their atoms.
 --     pieces         the pieces of an atom's word are its names
 --     path_means     and so on: what a word says is the atom
-use Rattle.std.proofs.Common.{◌≡◌, ◌≢◌, ◌==◌, ◌<◌, ◌≤◌, ◌+◌, ℕ, zero, suc, Bool, true, false, cond, List, [], ◌∷◌, ◌++◌, Option, Some, All, length, map, drop, refl, append-nil, arith, ap, sym, ◌∙◌, codes, inl, inr, nat_lt, lit≤}
+use Rattle.std.proofs.Common.{◌≡◌, ◌≢◌, ◌==◌, ℕ, Bool, true, false, cond, List, [], ◌∷◌, ◌++◌, Some, All, length, map, refl, append-nil, arith, ap, sym, ◌∙◌, codes, nat_lt, lit≤}
 use Rattle.std.specs.List.{list_all}
 use Rattle.std.specs.Str.{bytes_eq}
 use Rattle.std.proofs.lemmas.Bool.{eqb-true}
@@ -12,7 +12,7 @@ use Rattle.olap_base.specs.Deciding.{is_category_name}
 use Rattle.olap_base.specs.Graph.{Graph, IsCategory, IsHierarchy, IsLetterOrDigit}
 use Rattle.olap_graph.specs.Lookups.{name_of_category}
 use Rattle.olap_ast.specs.Formula as Meaning
-use Rattle.olap_grammar.specs.Words.{equal_of, equality_of, id_of, path_of, pieces_of, plain_of, reach_of}
+use Rattle.olap_grammar.specs.Words.{equal_of, equality_of, id_of, pieces_of, plain_of}
 use Rattle.olap_schema.specs.Printing.{atom_word, compared_word, names_after}
 use Rattle.olap_schema.proofs.PrintCut.{AreCategories}
 use Rattle.olap_schema.proofs.PrintNames.{is_name, letters, name_is, named, no_mark, no_underscore}
@@ -21,7 +21,8 @@ same_byte : (c : ℕ) → (c == c) ≡ true
 same_byte c = grind arith
 
 -- a word in two pieces isn't a word in one
-pub other_word : (m : ℕ) (w v x y : List ℕ) (rest : List (List ℕ)) → pieces_of m w ≡ x ∷ y ∷ rest → pieces_of m v ≡ v ∷ [] → bytes_eq w v ≡ false
+pub other_word : (m : ℕ) (w v x y : List ℕ) (rest : List (List ℕ)) → pieces_of m w ≡ x ∷ y ∷ rest
+    → pieces_of m v ≡ v ∷ [] → bytes_eq w v ≡ false
 other_word m w v x y rest p q = go (bytes_eq w v) refl
   where
     go : (b : Bool) → bytes_eq w v ≡ b → b ≡ false
@@ -51,12 +52,15 @@ false_at_46 = refl
 module _ (g : Graph) (h : IsHierarchy g) where
   -- a name has no `_` and no `.`
   pub no_95 : (c : ℕ) → IsCategory g c → All (λ b. (b == 95) ≡ false) (name_of_category g c)
-  no_95 c l = All-weaker IsLetterOrDigit (λ b. (b == 95) ≡ false) no_underscore (name_of_category g c) (letters (name_of_category g c) (name_is g h c l))
+  no_95 c l =
+      All-weaker IsLetterOrDigit (λ b. (b == 95) ≡ false) no_underscore (name_of_category g c) (letters (name_of_category g c) (name_is g h c l))
 
   pub no_46 : (c : ℕ) → IsCategory g c → All (λ b. (b == 46) ≡ false) (name_of_category g c)
-  no_46 c l = All-weaker IsLetterOrDigit (λ b. (b == 46) ≡ false) (no_mark 46 (lit≤ tt)) (name_of_category g c) (letters (name_of_category g c) (name_is g h c l))
+  no_46 c l =
+      All-weaker IsLetterOrDigit (λ b. (b == 46) ≡ false) (no_mark 46 (lit≤ tt)) (name_of_category g c) (letters (name_of_category g c) (name_is g h c l))
 
-  pieces_after : (m : ℕ) → ((c : ℕ) → IsCategory g c → All (λ b. (b == m) ≡ false) (name_of_category g c)) → (x : List ℕ) (cs : List ℕ)
+  pieces_after : (m : ℕ) → ((c : ℕ) → IsCategory g c → All (λ b. (b == m) ≡ false) (name_of_category g c))
+      → (x : List ℕ) (cs : List ℕ)
       → All (λ b. (b == m) ≡ false) x → AreCategories g cs → pieces_of m (x ++ names_after g m cs) ≡ x ∷ map (name_of_category g) cs
   unfolding pieces_of names_after
   pieces_after m k x [] a v = rw (append-nil x) (slice_split_none (λ b. b == m) x a)
@@ -65,10 +69,12 @@ module _ (g : Graph) (h : IsHierarchy g) where
       ∙ ap (λ ps. x ∷ ps) (pieces_after m k (name_of_category g c) cs (k c v.0) v.1)
 
   -- the pieces at `_` and at `.` of the words of atoms
-  pub path_pieces : (r : ℕ) (cs : List ℕ) → IsCategory g r → AreCategories g cs → pieces_of 95 (atom_word g r 95 cs) ≡ name_of_category g r ∷ map (name_of_category g) cs
+  pub path_pieces : (r : ℕ) (cs : List ℕ) → IsCategory g r → AreCategories g cs
+      → pieces_of 95 (atom_word g r 95 cs) ≡ name_of_category g r ∷ map (name_of_category g) cs
   path_pieces r cs l v = pieces_after 95 no_95 (name_of_category g r) cs (no_95 r l) v
 
-  pub reach_pieces : (r : ℕ) (cs : List ℕ) → IsCategory g r → AreCategories g cs → pieces_of 46 (atom_word g r 46 cs) ≡ name_of_category g r ∷ map (name_of_category g) cs
+  pub reach_pieces : (r : ℕ) (cs : List ℕ) → IsCategory g r → AreCategories g cs
+      → pieces_of 46 (atom_word g r 46 cs) ≡ name_of_category g r ∷ map (name_of_category g) cs
   reach_pieces r cs l v = pieces_after 46 no_46 (name_of_category g r) cs (no_46 r l) v
 
   after_no_95 : (cs : List ℕ) → AreCategories g cs → All (λ b. (b == 95) ≡ false) (names_after g 46 cs)
@@ -78,12 +84,14 @@ module _ (g : Graph) (h : IsHierarchy g) where
       (All-append (λ b. (b == 95) ≡ false) (name_of_category g c) (names_after g 46 cs) (no_95 c v.0) (after_no_95 cs v.1))
 
   -- a word with `.` is one piece at `_`
-  pub reach_whole : (r : ℕ) (cs : List ℕ) → IsCategory g r → AreCategories g cs → pieces_of 95 (atom_word g r 46 cs) ≡ atom_word g r 46 cs ∷ []
+  pub reach_whole : (r : ℕ) (cs : List ℕ) → IsCategory g r → AreCategories g cs
+      → pieces_of 95 (atom_word g r 46 cs) ≡ atom_word g r 46 cs ∷ []
   unfolding pieces_of
   reach_whole r cs l v = slice_split_none (λ b. b == 95) (atom_word g r 46 cs)
       (All-append (λ b. (b == 95) ≡ false) (name_of_category g r) (names_after g 46 cs) (no_95 r l) (after_no_95 cs v))
 
-  pub name_whole : (m : ℕ) (r : ℕ) → All (λ b. (b == m) ≡ false) (name_of_category g r) → pieces_of m (name_of_category g r) ≡ name_of_category g r ∷ []
+  pub name_whole : (m : ℕ) (r : ℕ) → All (λ b. (b == m) ≡ false) (name_of_category g r)
+      → pieces_of m (name_of_category g r) ≡ name_of_category g r ∷ []
   unfolding pieces_of
   name_whole m r a = slice_split_none (λ b. b == m) (name_of_category g r) a
 
@@ -102,12 +110,14 @@ module _ (g : Graph) (h : IsHierarchy g) where
 
   -- ---- atoms
 
-  pub path_means : (r : ℕ) (cs : List ℕ) → IsCategory g r → AreCategories g cs → cs ≢ [] → plain_of g (atom_word g r 95 cs) ≡ Some (Meaning.Formula.Path cs)
+  pub path_means : (r : ℕ) (cs : List ℕ) → IsCategory g r → AreCategories g cs → cs ≢ []
+      → plain_of g (atom_word g r 95 cs) ≡ Some (Meaning.Formula.Path cs)
   unfolding plain_of
   path_means r [] l v n = absurd (n refl)
   path_means r (c ∷ cs) l v n = go (atom_word g r 95 (c ∷ cs)) (path_pieces r (c ∷ cs) l v)
     where
-      go : (w : List ℕ) → pieces_of 95 w ≡ name_of_category g r ∷ map (name_of_category g) (c ∷ cs) → plain_of g w ≡ Some (Meaning.Formula.Path (c ∷ cs))
+      go : (w : List ℕ) → pieces_of 95 w ≡ name_of_category g r ∷ map (name_of_category g) (c ∷ cs)
+          → plain_of g w ≡ Some (Meaning.Formula.Path (c ∷ cs))
       go w p =
           let t = other_word 95 w (codes "true") _ _ _ p true_at_95 in
           let f = other_word 95 w (codes "false") _ _ _ p false_at_95 in
@@ -115,32 +125,40 @@ module _ (g : Graph) (h : IsHierarchy g) where
           let all : list_all is_category_name (name_of_category g r ∷ map (name_of_category g) (c ∷ cs)) ≡ true = all_names (r ∷ c ∷ cs) (l, v) in
           rw (t, f, p, two, all) (ap (λ ids. Some (Meaning.Formula.Path ids)) (ids_are (c ∷ cs) v))
 
-  pub reach_means : (r d : ℕ) → IsCategory g r → IsCategory g d → plain_of g (atom_word g r 46 (d ∷ [])) ≡ Some (Meaning.Formula.Reach d)
+  pub reach_means : (r d : ℕ) → IsCategory g r → IsCategory g d
+      → plain_of g (atom_word g r 46 (d ∷ [])) ≡ Some (Meaning.Formula.Reach d)
   unfolding plain_of
-  reach_means r d l k = go (atom_word g r 46 (d ∷ [])) (reach_pieces r (d ∷ []) l (k, tt)) (reach_whole r (d ∷ []) l (k, tt))
+  reach_means r d l k =
+      go (atom_word g r 46 (d ∷ [])) (reach_pieces r (d ∷ []) l (k, tt)) (reach_whole r (d ∷ []) l (k, tt))
     where
-      go : (w : List ℕ) → pieces_of 46 w ≡ name_of_category g r ∷ name_of_category g d ∷ [] → pieces_of 95 w ≡ w ∷ [] → plain_of g w ≡ Some (Meaning.Formula.Reach d)
+      go : (w : List ℕ) → pieces_of 46 w ≡ name_of_category g r ∷ name_of_category g d ∷ []
+          → pieces_of 95 w ≡ w ∷ [] → plain_of g w ≡ Some (Meaning.Formula.Reach d)
       go w p q =
           let t = other_word 46 w (codes "true") _ _ _ p true_at_46 in
           let f = other_word 46 w (codes "false") _ _ _ p false_at_46 in
           let all : list_all is_category_name (name_of_category g r ∷ name_of_category g d ∷ []) ≡ true = all_names (r ∷ d ∷ []) (l, (k, tt)) in
           rw (t, f, q, p, all, id_is d k) refl
 
-  pub via_means : (r d e : ℕ) → IsCategory g r → IsCategory g d → IsCategory g e → plain_of g (atom_word g r 46 (d ∷ e ∷ [])) ≡ Some (Meaning.Formula.Via d e)
+  pub via_means : (r d e : ℕ) → IsCategory g r → IsCategory g d → IsCategory g e
+      → plain_of g (atom_word g r 46 (d ∷ e ∷ [])) ≡ Some (Meaning.Formula.Via d e)
   unfolding plain_of
-  via_means r d e l k m = go (atom_word g r 46 (d ∷ e ∷ [])) (reach_pieces r (d ∷ e ∷ []) l (k, (m, tt))) (reach_whole r (d ∷ e ∷ []) l (k, (m, tt)))
+  via_means r d e l k m =
+      go (atom_word g r 46 (d ∷ e ∷ [])) (reach_pieces r (d ∷ e ∷ []) l (k, (m, tt))) (reach_whole r (d ∷ e ∷ []) l (k, (m, tt)))
     where
-      go : (w : List ℕ) → pieces_of 46 w ≡ name_of_category g r ∷ name_of_category g d ∷ name_of_category g e ∷ [] → pieces_of 95 w ≡ w ∷ [] → plain_of g w ≡ Some (Meaning.Formula.Via d e)
+      go : (w : List ℕ) → pieces_of 46 w ≡ name_of_category g r ∷ name_of_category g d ∷ name_of_category g e ∷ []
+          → pieces_of 95 w ≡ w ∷ [] → plain_of g w ≡ Some (Meaning.Formula.Via d e)
       go w p q =
           let t = other_word 46 w (codes "true") _ _ _ p true_at_46 in
           let f = other_word 46 w (codes "false") _ _ _ p false_at_46 in
           let all : list_all is_category_name (name_of_category g r ∷ name_of_category g d ∷ name_of_category g e ∷ []) ≡ true = all_names (r ∷ d ∷ e ∷ []) (l, (k, (m, tt))) in
           rw (t, f, q, p, all, id_is d k, id_is e m) refl
 
-  pub equals_means : (r d : ℕ) (k : List ℕ) → IsCategory g r → IsCategory g d → equality_of g (compared_word g r d) k ≡ Some (Meaning.Formula.Equals d k)
+  pub equals_means : (r d : ℕ) (k : List ℕ) → IsCategory g r → IsCategory g d
+      → equality_of g (compared_word g r d) k ≡ Some (Meaning.Formula.Equals d k)
   unfolding equality_of
   equals_means r d k l m = go (d == r) refl
     where
-      go : (b : Bool) → d == r ≡ b → equal_of g k (pieces_of 46 (cond b (name_of_category g r) (atom_word g r 46 (d ∷ [])))) ≡ Some (Meaning.Formula.Equals d k)
+      go : (b : Bool) → d == r ≡ b
+          → equal_of g k (pieces_of 46 (cond b (name_of_category g r) (atom_word g r 46 (d ∷ [])))) ≡ Some (Meaning.Formula.Equals d k)
       go true e = let s : d ≡ r = eqb-true d r e in rw (name_whole 46 r (no_46 r l), is_name g h r l, id_is r l, s) refl
       go false e = rw (reach_pieces r (d ∷ []) l (m, tt), is_name g h r l, is_name g h d m, id_is d m) refl

@@ -16,9 +16,11 @@ lines_first [] h = absurd (omega arith)
 lines_first (b ∷ bs) h = go (b == 10) h (λ k. lines_first bs k)
   where
     go : (c : Bool) → cond c 0 (suc (line_length bs)) < length (b ∷ bs) →
-        (line_length bs < length bs → lines_of bs ≡ take (line_length bs) bs ∷ lines_of (drop (suc (line_length bs)) bs)) →
+        (line_length bs < length bs → lines_of bs ≡ take (line_length bs) bs ∷ lines_of
+        (drop (suc (line_length bs)) bs)) →
         cond c ([] ∷ lines_of bs) (in_front b (lines_of bs))
-        ≡ take (cond c 0 (suc (line_length bs))) (b ∷ bs) ∷ lines_of (drop (suc (cond c 0 (suc (line_length bs)))) (b ∷ bs))
+        ≡ take (cond c 0 (suc (line_length bs))) (b ∷ bs) ∷ lines_of
+        (drop (suc (cond c 0 (suc (line_length bs)))) (b ∷ bs))
     go true k rest = refl
     go false k rest = ap (in_front b) (rest (omega arith))
 
@@ -33,7 +35,8 @@ lines_last (b ∷ bs) h l = go (b == 10) l (λ k m. lines_last bs k m) bs refl
         cond c ([] ∷ lines_of bs) (in_front b (lines_of bs)) ≡ (b ∷ bs) ∷ []
     go true k rest cs e = absurd (omega arith)
     go false k rest [] e = rw (← e) refl
-    go false k rest (c ∷ cs) e = ap (in_front b) (rest (let n : 0 < length bs = rw (← e) (omega arith) in n) (omega arith))
+    go false k rest (c ∷ cs) e =
+        ap (in_front b) (rest (let n : 0 < length bs = rw (← e) (omega arith) in n) (omega arith))
 
 pub no_lines : lines_of [] ≡ []
 unfolding lines_of
@@ -46,7 +49,8 @@ cut_first text k e h =
     let first = lines_first text (omega arith) in
     rw (take_rest text (k + 1), add-one) (rw (← e) at first)
 
-pub cut_last : (text : List ℕ) (k : ℕ) → k ≡ line_length text → 0 < length text → length text ≤ k → lines_of text ≡ text ∷ lines_of []
+pub cut_last : (text : List ℕ) (k : ℕ) → k ≡ line_length text → 0 < length text → length text ≤ k
+    → lines_of text ≡ text ∷ lines_of []
 cut_last text k e h l = lines_last text h (omega arith) ∙ ap (λ ls. text ∷ ls) (sym no_lines)
 
 pub not_utf8 : (bs : List ℕ) → (IsUtf8 bs → ⊥) → is_utf8 bs ≡ false
@@ -57,6 +61,7 @@ not_utf8 bs h = go (is_utf8 bs) refl
     go false e = refl
 
 -- where nothing is left, the lines so far are all
-pub all_read : (a : Above) (n : ℕ) (left : List ℕ) → (length left == 0) ≡ true → lines_on (Ok a) n (lines_of left) ≡ Ok a
+pub all_read : (a : Above) (n : ℕ) (left : List ℕ) → (length left == 0) ≡ true
+    → lines_on (Ok a) n (lines_of left) ≡ Ok a
 all_read a n [] e = rw no_lines refl
 all_read a n (b ∷ bs) e = absurd (let z : length (b ∷ bs) ≡ 0 = eqb-true (length (b ∷ bs)) 0 e in omega arith)

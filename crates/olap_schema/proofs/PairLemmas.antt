@@ -12,13 +12,16 @@ list_any-map t [] = refl
 list_any-map t (p ∷ ps) = ap (λ b. t (pair_of p) || b) (list_any-map t ps)
 
 -- a pair that is there adds nothing
-pub has_it : (ps : List Pair) (a : Equality) → list_any (λ p. is_same_pair a (pair_of p)) ps ≡ true → map pair_of ps ≡ with_pair (map pair_of ps) a
+pub has_it : (ps : List Pair) (a : Equality) → list_any (λ p. is_same_pair a (pair_of p)) ps ≡ true
+    → map pair_of ps ≡ with_pair (map pair_of ps) a
 has_it ps a h = rw (list_any-map (is_same_pair a) ps, h) refl
 
 -- another one stands at the end
-pub lacks_it : (ps : List Pair) (p : Pair) (a : Equality) → pair_of p ≡ a → list_any (λ p. is_same_pair a (pair_of p)) ps ≡ false →
+pub lacks_it : (ps : List Pair) (p : Pair) (a : Equality) → pair_of p ≡ a
+    → list_any (λ p. is_same_pair a (pair_of p)) ps ≡ false →
     map pair_of (ps ++ p ∷ []) ≡ with_pair (map pair_of ps) a
-lacks_it ps p a e h = rw (list_any-map (is_same_pair a) ps, h, map-append pair_of ps (p ∷ [])) (ap (λ x. map pair_of ps ++ x ∷ []) e)
+lacks_it ps p a e h = rw (list_any-map (is_same_pair a) ps, h, map-append pair_of ps (p ∷ []))
+    (ap (λ x. map pair_of ps ++ x ∷ []) e)
 
 abbrev pub atom : ℕ → List ℕ → Equality
 atom d text = record { category = d; text = text }

@@ -1,6 +1,6 @@
 -- What is printed is cut into its tokens.
 --     text_is_cut    a formula's text is cut into the formula's tokens
-use Rattle.std.proofs.Common.{◌≡◌, ◌==◌, ◌||◌, ◌<◌, ◌≤◌, ◌+◌, inl, inr, ℕ, zero, suc, Bool, true, false, cond, List, [], ◌∷◌, ◌++◌, All, refl, append_assoc, append-nil, arith, ap, codes}
+use Rattle.std.proofs.Common.{◌≡◌, ◌==◌, ◌||◌, ℕ, Bool, true, false, cond, List, [], ◌∷◌, ◌++◌, All, refl, append_assoc, append-nil, arith}
 use Rattle.std.proofs.lemmas.List.Elements.{All-head, All-tail}
 use Rattle.olap_base.specs.Chains.{IsChain}
 use Rattle.olap_base.specs.Graph.{Graph, HasEdge, IsCategory, IsCategoryName, IsHierarchy, IsLetterOrDigit}
@@ -9,7 +9,7 @@ use Rattle.olap_ast.specs.Formula as Meaning
 use Rattle.olap_ast.specs.Formula.{Formula, Terms}
 use Rattle.olap_ast.specs.Valid.{AreFormulasAt, IsFormulaAt}
 use Rattle.olap_grammar.specs.Cutting.{AreWordBytes, EndsWord, is_word_byte, joint_bytes, Spells, nothing, quote, backslash, other, IsCut, blank, word, quoted, mark}
-use Rattle.olap_grammar.specs.Quoting.{escaped, escaped_byte}
+use Rattle.olap_grammar.specs.Quoting.{escaped}
 use Rattle.olap_grammar.specs.declared.tokens.Token.{Token}
 use Rattle.olap_grammar.specs.declared.tokens.Token.TheVariants as token
 use Rattle.olap_grammar.specs.declared.tokens.Joint.{Joint}
@@ -34,7 +34,8 @@ letter_is_word b h = grind arith
 
 letters_are_word : (w : List ℕ) → All IsLetterOrDigit w → AreWordBytes w
 letters_are_word [] h = tt
-letters_are_word (b ∷ w) h = (letter_is_word b (All-head IsLetterOrDigit b w h), letters_are_word w (All-tail IsLetterOrDigit b w h))
+letters_are_word (b ∷ w) h =
+    (letter_is_word b (All-head IsLetterOrDigit b w h), letters_are_word w (All-tail IsLetterOrDigit b w h))
 
 words_append : (v w : List ℕ) → AreWordBytes v → AreWordBytes w → AreWordBytes (v ++ w)
 words_append [] w h k = k
@@ -47,17 +48,22 @@ longer (b ∷ v) w n k = is_word b (v ++ w) (words_append (b ∷ v) w (letters_a
 pub name_is_word : (v : List ℕ) → IsCategoryName v → IsWord v
 name_is_word v n = rw (append-nil v) at (longer v [] n tt)
 
-pub cut_word : {w bs : List ℕ} {ts : List Token} → IsWord w → EndsWord bs → IsCut bs ts → IsCut (w ++ bs) (token.Word w ∷ ts)
+pub cut_word : {w bs : List ℕ} {ts : List Token} → IsWord w → EndsWord bs → IsCut bs ts
+    → IsCut (w ++ bs) (token.Word w ∷ ts)
 cut_word (is_word b w h) n d = word b w h n d
 
 module _ (g : Graph) (h : IsHierarchy g) where
-  after_are_word : (m : ℕ) → is_word_byte m ≡ true → (cs : List ℕ) → AreCategories g cs → AreWordBytes (names_after g m cs)
+  after_are_word : (m : ℕ) → is_word_byte m ≡ true → (cs : List ℕ) → AreCategories g cs
+      → AreWordBytes (names_after g m cs)
   unfolding names_after
   after_are_word m e [] k = tt
-  after_are_word m e (c ∷ cs) k = (e, words_append (name_of_category g c) (names_after g m cs) (letters_are_word (name_of_category g c) (letters (name_of_category g c) (name_is g h c k.0))) (after_are_word m e cs k.1))
+  after_are_word m e (c ∷ cs) k =
+      (e, words_append (name_of_category g c) (names_after g m cs) (letters_are_word (name_of_category g c) (letters (name_of_category g c) (name_is g h c k.0))) (after_are_word m e cs k.1))
 
-  pub atom_is_word : (r m : ℕ) → is_word_byte m ≡ true → (cs : List ℕ) → IsCategory g r → AreCategories g cs → IsWord (atom_word g r m cs)
-  atom_is_word r m e cs l k = longer (name_of_category g r) (names_after g m cs) (name_is g h r l) (after_are_word m e cs k)
+  pub atom_is_word : (r m : ℕ) → is_word_byte m ≡ true → (cs : List ℕ) → IsCategory g r → AreCategories g cs
+      → IsWord (atom_word g r m cs)
+  atom_is_word r m e cs l k =
+      longer (name_of_category g r) (names_after g m cs) (name_is g h r l) (after_are_word m e cs k)
 
   pub compared_is_word : (r d : ℕ) → IsCategory g r → IsCategory g d → IsWord (compared_word g r d)
   compared_is_word r d l k = go (d == r)
@@ -79,12 +85,14 @@ unfolding escaped
 escaped_spells [] = nothing
 escaped_spells (b ∷ k) = go (b == 34) (b == 92) refl refl (escaped_spells k)
   where
-    go : (p q : Bool) → b == 34 ≡ p → b == 92 ≡ q → Spells (escaped k) k → Spells (cond (p || q) (92 ∷ b ∷ []) (b ∷ []) ++ escaped k) (b ∷ k)
+    go : (p q : Bool) → b == 34 ≡ p → b == 92 ≡ q → Spells (escaped k) k
+        → Spells (cond (p || q) (92 ∷ b ∷ []) (b ∷ []) ++ escaped k) (b ∷ k)
     go true q e f d = let same : b ≡ 34 = grind (arith) in rw same (quote d)
     go false true e f d = let same : b ≡ 92 = grind (arith) in rw same (backslash d)
     go false false e f d = other e f d
 
-cut_quoted : (k bs : List ℕ) (ts : List Token) → IsCut bs ts → IsCut (32 ∷ 61 ∷ 32 ∷ 34 ∷ (escaped k ++ 34 ∷ bs)) (token.Equal ∷ token.Quoted k ∷ ts)
+cut_quoted : (k bs : List ℕ) (ts : List Token) → IsCut bs ts
+    → IsCut (32 ∷ 61 ∷ 32 ∷ 34 ∷ (escaped k ++ 34 ∷ bs)) (token.Equal ∷ token.Quoted k ∷ ts)
 cut_quoted k bs ts d = blank (mark token.Equal tt (blank (quoted (escaped_spells k) d)))
 
 -- ---- formulas
@@ -93,7 +101,8 @@ cut_quoted k bs ts d = blank (mark token.Equal tt (blank (quoted (escaped_spells
 abbrev pub Cuts : List ℕ → List Token → Type 0
 Cuts text ts = (bs : List ℕ) (us : List Token) → EndsWord bs → IsCut bs us → IsCut (text ++ bs) (ts ++ us)
 
-joined_cut : (j : Joint) (x y : List ℕ) (l r : List Token) → Cuts x l → Cuts y r → Cuts (joined_text j x y) (joined_tokens j l r)
+joined_cut : (j : Joint) (x y : List ℕ) (l r : List Token) → Cuts x l → Cuts y r
+    → Cuts (joined_text j x y) (joined_tokens j l r)
 joined_cut j x y l r c d bs us n e =
     let inner = c (32 ∷ (joint_bytes j ++ 32 ∷ (y ++ 41 ∷ bs))) (token.Joint j ∷ (r ++ token.Close ∷ us)) refl (blank (mark (token.Joint j) tt (blank (d (41 ∷ bs) (token.Close ∷ us) refl (mark token.Close tt e))))) in
     simp append_assoc (mark token.Open tt inner)
@@ -105,24 +114,37 @@ rest_ends g r (Meaning.Terms.More f fs) bs n = refl
 module _ (g : Graph) (h : IsHierarchy g) (r : ℕ) (l : IsCategory g r) where
   mutual
     pub text_is_cut : (f : Formula) → IsFormulaAt g r f → Cuts (formula_text g r f) (spelt g r f)
-    text_is_cut Meaning.Formula.Truth v bs us n e = word 116 (114 ∷ 117 ∷ 101 ∷ []) (refl, (refl, (refl, (refl, tt)))) n e
-    text_is_cut Meaning.Formula.Falsity v bs us n e = word 102 (97 ∷ 108 ∷ 115 ∷ 101 ∷ []) (refl, (refl, (refl, (refl, (refl, tt))))) n e
-    text_is_cut (Meaning.Formula.Path cs) v bs us n e = cut_word (atom_is_word g h r 95 refl cs l (steps_are g h r cs v.1)) n e
+    text_is_cut Meaning.Formula.Truth v bs us n e =
+        word 116 (114 ∷ 117 ∷ 101 ∷ []) (refl, (refl, (refl, (refl, tt)))) n e
+    text_is_cut Meaning.Formula.Falsity v bs us n e =
+        word 102 (97 ∷ 108 ∷ 115 ∷ 101 ∷ []) (refl, (refl, (refl, (refl, (refl, tt))))) n e
+    text_is_cut (Meaning.Formula.Path cs) v bs us n e =
+        cut_word (atom_is_word g h r 95 refl cs l (steps_are g h r cs v.1)) n e
     text_is_cut (Meaning.Formula.Reach d) v bs us n e = cut_word (atom_is_word g h r 46 refl (d ∷ []) l (v, tt)) n e
-    text_is_cut (Meaning.Formula.Via d c) v bs us n e = cut_word (atom_is_word g h r 46 refl (d ∷ c ∷ []) l (v.0, (v.1, tt))) n e
-    text_is_cut (Meaning.Formula.Equals d k) v bs us n e = simp append_assoc (cut_word (compared_is_word g h r d l v.0) refl (cut_quoted k bs us e))
+    text_is_cut (Meaning.Formula.Via d c) v bs us n e =
+        cut_word (atom_is_word g h r 46 refl (d ∷ c ∷ []) l (v.0, (v.1, tt))) n e
+    text_is_cut (Meaning.Formula.Equals d k) v bs us n e =
+        simp append_assoc (cut_word (compared_is_word g h r d l v.0) refl (cut_quoted k bs us e))
     text_is_cut (Meaning.Formula.Not f) v bs us n e = mark token.Not tt (text_is_cut f v bs us n e)
-    text_is_cut (Meaning.Formula.And f k) v bs us n e = joined_cut joint.And (formula_text g r f) (formula_text g r k) (spelt g r f) (spelt g r k) (text_is_cut f v.0) (text_is_cut k v.1) bs us n e
-    text_is_cut (Meaning.Formula.Or f k) v bs us n e = joined_cut joint.Or (formula_text g r f) (formula_text g r k) (spelt g r f) (spelt g r k) (text_is_cut f v.0) (text_is_cut k v.1) bs us n e
-    text_is_cut (Meaning.Formula.Implies f k) v bs us n e = joined_cut joint.Implies (formula_text g r f) (formula_text g r k) (spelt g r f) (spelt g r k) (text_is_cut f v.0) (text_is_cut k v.1) bs us n e
-    text_is_cut (Meaning.Formula.Iff f k) v bs us n e = joined_cut joint.Iff (formula_text g r f) (formula_text g r k) (spelt g r f) (spelt g r k) (text_is_cut f v.0) (text_is_cut k v.1) bs us n e
-    text_is_cut (Meaning.Formula.Xor f k) v bs us n e = joined_cut joint.Xor (formula_text g r f) (formula_text g r k) (spelt g r f) (spelt g r k) (text_is_cut f v.0) (text_is_cut k v.1) bs us n e
-    text_is_cut (Meaning.Formula.One fs) v bs us n e = simp append_assoc (word 111 (110 ∷ 101 ∷ []) (refl, (refl, (refl, tt))) refl (mark token.Open tt (list_is_cut fs v (41 ∷ bs) (token.Close ∷ us) refl (mark token.Close tt e))))
+    text_is_cut (Meaning.Formula.And f k) v bs us n e =
+        joined_cut joint.And (formula_text g r f) (formula_text g r k) (spelt g r f) (spelt g r k) (text_is_cut f v.0) (text_is_cut k v.1) bs us n e
+    text_is_cut (Meaning.Formula.Or f k) v bs us n e =
+        joined_cut joint.Or (formula_text g r f) (formula_text g r k) (spelt g r f) (spelt g r k) (text_is_cut f v.0) (text_is_cut k v.1) bs us n e
+    text_is_cut (Meaning.Formula.Implies f k) v bs us n e =
+        joined_cut joint.Implies (formula_text g r f) (formula_text g r k) (spelt g r f) (spelt g r k) (text_is_cut f v.0) (text_is_cut k v.1) bs us n e
+    text_is_cut (Meaning.Formula.Iff f k) v bs us n e =
+        joined_cut joint.Iff (formula_text g r f) (formula_text g r k) (spelt g r f) (spelt g r k) (text_is_cut f v.0) (text_is_cut k v.1) bs us n e
+    text_is_cut (Meaning.Formula.Xor f k) v bs us n e =
+        joined_cut joint.Xor (formula_text g r f) (formula_text g r k) (spelt g r f) (spelt g r k) (text_is_cut f v.0) (text_is_cut k v.1) bs us n e
+    text_is_cut (Meaning.Formula.One fs) v bs us n e =
+        simp append_assoc (word 111 (110 ∷ 101 ∷ []) (refl, (refl, (refl, tt))) refl (mark token.Open tt (list_is_cut fs v (41 ∷ bs) (token.Close ∷ us) refl (mark token.Close tt e))))
 
     list_is_cut : (fs : Terms) → AreFormulasAt g r fs → Cuts (list_text g r fs) (spelt_list g r fs)
     list_is_cut Meaning.Terms.End v bs us n e = e
-    list_is_cut (Meaning.Terms.More f fs) v bs us n e = simp append_assoc (text_is_cut f v.0 (rest_text g r fs ++ bs) (spelt_rest g r fs ++ us) (rest_ends g r fs bs n) (rest_is_cut fs v.1 bs us n e))
+    list_is_cut (Meaning.Terms.More f fs) v bs us n e =
+        simp append_assoc (text_is_cut f v.0 (rest_text g r fs ++ bs) (spelt_rest g r fs ++ us) (rest_ends g r fs bs n) (rest_is_cut fs v.1 bs us n e))
 
     rest_is_cut : (fs : Terms) → AreFormulasAt g r fs → Cuts (rest_text g r fs) (spelt_rest g r fs)
     rest_is_cut Meaning.Terms.End v bs us n e = e
-    rest_is_cut (Meaning.Terms.More f fs) v bs us n e = simp append_assoc (mark token.Comma tt (blank (text_is_cut f v.0 (rest_text g r fs ++ bs) (spelt_rest g r fs ++ us) (rest_ends g r fs bs n) (rest_is_cut fs v.1 bs us n e))))
+    rest_is_cut (Meaning.Terms.More f fs) v bs us n e =
+        simp append_assoc (mark token.Comma tt (blank (text_is_cut f v.0 (rest_text g r fs ++ bs) (spelt_rest g r fs ++ us) (rest_ends g r fs bs n) (rest_is_cut fs v.1 bs us n e))))

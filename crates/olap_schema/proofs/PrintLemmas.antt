@@ -26,7 +26,8 @@ drop_first : {A : Type 0} (f : A → List ℕ) (xs : List A) (k : ℕ) (d : A) �
 unfolding text_of_lines
 drop_first f [] k d l = absurd (omega arith)
 drop_first f (x ∷ xs) zero d l = simp append_assoc
-drop_first f (x ∷ xs) (suc k) d l = let e : suc k + 1 ≡ suc (k + 1) = omega arith in rw e (drop_first f xs k d (omega arith))
+drop_first f (x ∷ xs) (suc k) d l =
+    let e : suc k + 1 ≡ suc (k + 1) = omega arith in rw e (drop_first f xs k d (omega arith))
 
 -- one more line is written
 pub next_line : {A : Type 0} (f : A → List ℕ) (xs : List A) (k : ℕ) (d : A) (out new all : List ℕ) → k < length xs →
@@ -63,6 +64,7 @@ pub declared_name : (g : Graph) (k : ℕ) → name_of_category g (k + 1) ≡ sli
 declared_name g k = let e : k + 1 ≡ suc k = omega arith in rw e refl
 
 -- three texts are written one after the other
-pub three_texts : (x y z given old first second last : List ℕ) → first ≡ old ++ x → given ≡ y → second ≡ first ++ given →
+pub three_texts : (x y z given old first second last : List ℕ) → first ≡ old ++ x → given ≡ y
+    → second ≡ first ++ given →
     last ≡ second ++ z → last ≡ old ++ (x ++ (y ++ z))
 three_texts x y z given old first second last a e b c = rw (c, b, a, e) (simp append_assoc)

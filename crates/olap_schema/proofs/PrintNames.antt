@@ -1,19 +1,15 @@
 -- What the names of a hierarchy's categories are.
 --     name_is          a category's name is a category name
 --     named            it is the name of that category alone
-use Rattle.std.proofs.Common.{◌≡◌, ◌≢◌, ◌==◌, ◌||◌, ◌<◌, ◌≤◌, ◌+◌, ◌⊎◌, inl, inr, ℕ, zero, suc, Bool, true, false, List, [], ◌∷◌, Option, Some, None, length, get_or, arith, ap, sym, subst, ◌∙◌, refl, codes, lit≤, lit<, zero-add}
-use Rattle.std.specs.Prelude.{All, AllPairs, Contains, is_some, slice_index_or}
-use Rattle.std.specs.Char.{is_ascii_alphanumeric}
-use Rattle.std.specs.List.{position_from}
+use Rattle.std.proofs.Common.{◌≡◌, ◌==◌, ◌<◌, ◌≤◌, inl, inr, ℕ, zero, suc, true, false, List, [], ◌∷◌, Some, get_or, arith, ap, sym, ◌∙◌, refl, codes, lit≤, zero-add}
+use Rattle.std.specs.Prelude.{All, Contains}
 use Rattle.std.specs.Str.{bytes_eq}
-use Rattle.std.proofs.lemmas.List.Elements.{All-from_recursion, All-cons, All-weaker, Contains-get_or}
+use Rattle.std.proofs.lemmas.List.Elements.{All-from_recursion, All-cons, Contains-get_or}
 use Rattle.std.proofs.lemmas.Slice.Eq.{bytes_eq-Decides}
-use Rattle.olap_base.specs.Graph.{Graph, IsCategory, IsCategoryName, IsHierarchy, IsLetter, IsLetterOrDigit, category_count, reserved}
+use Rattle.olap_base.specs.Graph.{Graph, IsCategory, IsCategoryName, IsHierarchy, IsLetterOrDigit, reserved}
 use Rattle.olap_base.specs.Deciding.{is_category_name, is_category_name_is}
 use Rattle.olap_graph.specs.Lookups.{category_named, name_of_category, names_of}
 use Rattle.olap_graph.proofs.PlaceLemmas.{first_at}
-use Rattle.olap_grammar.specs.Cutting.{AreWordBytes, is_word_byte}
-use Rattle.olap_schema.specs.Lines.{is_control}
 
 first_byte : List ℕ → ℕ
 first_byte [] = 0
@@ -55,9 +51,11 @@ pub no_underscore : (b : ℕ) → IsLetterOrDigit b → (b == 95) ≡ false
 no_underscore b h = grind arith
 
 -- two categories have different names
-names_apart : (g : Graph) → IsHierarchy g → (c d : ℕ) → c < d → IsCategory g d → name_of_category g c ≡ name_of_category g d → ⊥
+names_apart : (g : Graph) → IsHierarchy g → (c d : ℕ) → c < d → IsCategory g d
+    → name_of_category g c ≡ name_of_category g d → ⊥
 names_apart g h zero zero b l e = absurd (omega arith)
-names_apart g h zero (suc d) b l e = (h.names (get_or g.names d []) (Contains-get_or g.names d [] (omega arith))).1 (sym e)
+names_apart g h zero (suc d) b l e =
+    (h.names (get_or g.names d []) (Contains-get_or g.names d [] (omega arith))).1 (sym e)
 names_apart g h (suc c) zero b l e = absurd (omega arith)
 names_apart g h (suc c) (suc d) b l e = h.names_differ c d [] (omega arith) (omega arith) e
 
@@ -68,5 +66,7 @@ named g h c l =
     first_at (bytes_eq name) (λ x. name ≡ x) (bytes_eq-Decides name) (names_of g) 0 c [] (omega arith) refl
     (λ j b e. names_apart g h j c b l (sym e)) ∙ ap (λ (i : ℕ). Some i) (zero-add c)
 
-pub names_differ : (g : Graph) → IsHierarchy g → (c d : ℕ) → IsCategory g c → IsCategory g d → name_of_category g c ≡ name_of_category g d → c ≡ d
-names_differ g h c d l m e = let q : Some c ≡ Some d = sym (named g h c l) ∙ ap (category_named g) e ∙ named g h d m in cc
+pub names_differ : (g : Graph) → IsHierarchy g → (c d : ℕ) → IsCategory g c → IsCategory g d
+    → name_of_category g c ≡ name_of_category g d → c ≡ d
+names_differ g h c d l m e =
+    let q : Some c ≡ Some d = sym (named g h c l) ∙ ap (category_named g) e ∙ named g h d m in cc

@@ -17,11 +17,12 @@ use Rattle.olap_grammar.specs.CuttingMachine.{tokens_of}
 use Rattle.olap_grammar.specs.declared.tokens.Token.{Token}
 use Rattle.olap_schema.specs.Atoms.{atom_fault}
 use Rattle.olap_schema.specs.Judging.{Above, atoms_read, category_added, category_read, constraint_read, edge_added, edge_read, ends_read, first_read, form_read, formed_read, line_read, lines_on, root_read, statement_read, tokens_read}
-use Rattle.olap_schema.specs.Lines.{chomped, is_quiet}
+use Rattle.olap_schema.specs.Lines.{is_bad, chomped, is_quiet}
 use Rattle.olap_schema.specs.Statements.{Statement, Statement.Version, Statement.Category, Statement.Edge, Statement.Constraint, Statement.Other, is_category, is_constraint, is_edge, is_version, statement_of, word_at}
 use Rattle.olap_schema.specs.Tokens.{is_long, token_nodes}
 use Rattle.olap_schema.specs.declared.kinds.SchemaKind.{SchemaKind}
 use Rattle.olap_schema.specs.declared.kinds.SchemaKind.TheVariants as kind
+use Rattle.olap_schema.proofs.ValidTexts.{AreFine, drop_fine, line_is_fine}
 
 -- a category of this name is added
 pub record AddsCategory (a b : Above) (n : ℕ) (name : List ℕ) : Type 0 where
@@ -44,6 +45,7 @@ pub record AddsConstraint (a b : Above) (name : List ℕ) (ts : List Token) (f :
   pub below_all : root == 0 ≡ false
   pub few : nat_le 64 (length a.constraints) ≡ false
   pub faultless : atom_fault a.graph name ts ≡ None
+  pub fine : AreFine ts
   pub few_pairs : nat_lt 256 (length (fold with_pair a.pairs (equalities f))) ≡ false
   pub new : b ≡ record a {
     constraints = a.constraints ++ record { root = root; formula = f } ∷ [];
@@ -100,9 +102,9 @@ edge_step a b child parent h = ends (category_named a.graph child) (category_nam
     ends (Some c) None p q k = absurd (cc)
     ends (Some c) (Some d) p q k = (c, d, go c d p q (edge_refusal a.graph c d) refl k)
 
-constraint_step : (a b : Above) (name : List ℕ) (ts : List Token) → constraint_read a name ts ≡ Ok b
+constraint_step : (a b : Above) (name : List ℕ) (ts : List Token) → AreFine ts → constraint_read a name ts ≡ Ok b
     → (f : Formula) × (root : ℕ) × AddsConstraint a b name ts f root
-constraint_step a b name ts h = formed (form_read a.graph a.nodes ts) refl h
+constraint_step a b name ts fine h = formed (form_read a.graph a.nodes ts) refl h
   where
     faults : (f : Formula) (root : ℕ) → form_read a.graph a.nodes ts ≡ Ok f → list_any is_long ts ≡ false → category_named a.graph name ≡ Some root
         → root == 0 ≡ false → nat_le 64 (length a.constraints) ≡ false → (o : Option SchemaKind) → atom_fault a.graph name ts ≡ o
@@ -110,7 +112,7 @@ constraint_step a b name ts h = formed (form_read a.graph a.nodes ts) refl h
     faults f root e l r z n (Some k) q g = absurd (cc)
     faults f root e l r z n None q g =
         let t = passed_on _ _ _ _ g in
-        record { formed = e; short = l; root_is = r; below_all = z; few = n; faultless = q; few_pairs = t.0; new = ok_is _ _ t.1 }
+        record { formed = e; short = l; root_is = r; below_all = z; few = n; faultless = q; fine = fine; few_pairs = t.0; new = ok_is _ _ t.1 }
 
     rooted : (f : Formula) → form_read a.graph a.nodes ts ≡ Ok f → list_any is_long ts ≡ false → (o : Option ℕ) → category_named a.graph name ≡ o
         → root_read a name ts f o ≡ Ok b → (root : ℕ) × AddsConstraint a b name ts f root
@@ -153,34 +155,61 @@ named ts name e = version (is_version ts) e
     version true h = absurd (cc)
     version false h = category (is_category ts) refl h
 
-statement_step : (a b : Above) (n : ℕ) (s : Statement) → ((name : List ℕ) → s ≡ Category name → is_category_name name ≡ true)
-    → statement_read a n s ≡ Ok b → Step a b
-statement_step a b n Version m h = absurd (cc)
-statement_step a b n (Category name) m h = category n name (m name refl) (category_step a b n name h)
-statement_step a b n (Edge child parent) m h = let t = edge_step a b child parent h in edge child parent t.0 t.1 t.2
-statement_step a b n (Constraint root ts) m h = let t = constraint_step a b root ts h in constraint root ts t.0 t.1 t.2
-statement_step a b n Other m h = absurd (cc)
+-- the tokens behind the colon are tokens of the line
+formula_fine : (ts : List Token) (root : List ℕ) (us : List Token) → statement_of ts ≡ Constraint root us → AreFine ts → AreFine us
+unfolding statement_of
+formula_fine ts root us e fine = version (is_version ts) e
+  where
+    constraint : (c : Bool) → cond c (Constraint (word_at ts 1) (drop 3 ts)) Other ≡ Constraint root us → AreFine us
+    constraint true h = let same : drop 3 ts ≡ us = cc in subst AreFine same (drop_fine 3 ts fine)
+    constraint false h = absurd (cc)
 
-tokens_step : (a b : Above) (n : ℕ) (o : Option (List Token)) → tokens_read a n o ≡ Ok b → Step a b
-tokens_step a b n None h = absurd (cc)
-tokens_step a b n (Some ts) h = go a.versioned h
+    edge : (c : Bool) → cond c (Edge (word_at ts 1) (word_at ts 2))
+        (cond (nat_le 3 (length ts) && is_constraint ts) (Constraint (word_at ts 1) (drop 3 ts)) Other) ≡ Constraint root us → AreFine us
+    edge true h = absurd (cc)
+    edge false h = constraint (nat_le 3 (length ts) && is_constraint ts) h
+
+    category : (c : Bool) → cond c (Category (word_at ts 1)) (cond (is_edge ts) (Edge (word_at ts 1) (word_at ts 2))
+        (cond (nat_le 3 (length ts) && is_constraint ts) (Constraint (word_at ts 1) (drop 3 ts)) Other)) ≡ Constraint root us → AreFine us
+    category true h = absurd (cc)
+    category false h = edge (is_edge ts) h
+
+    version : (c : Bool) → cond c Version (cond (is_category ts) (Category (word_at ts 1)) (cond (is_edge ts) (Edge (word_at ts 1) (word_at ts 2))
+        (cond (nat_le 3 (length ts) && is_constraint ts) (Constraint (word_at ts 1) (drop 3 ts)) Other))) ≡ Constraint root us → AreFine us
+    version true h = absurd (cc)
+    version false h = category (is_category ts) h
+
+statement_step : (a b : Above) (n : ℕ) (s : Statement) → ((name : List ℕ) → s ≡ Category name → is_category_name name ≡ true)
+    → ((root : List ℕ) (ts : List Token) → s ≡ Constraint root ts → AreFine ts) → statement_read a n s ≡ Ok b → Step a b
+statement_step a b n Version m fine h = absurd (cc)
+statement_step a b n (Category name) m fine h = category n name (m name refl) (category_step a b n name h)
+statement_step a b n (Edge child parent) m fine h = let t = edge_step a b child parent h in edge child parent t.0 t.1 t.2
+statement_step a b n (Constraint root ts) m fine h = let t = constraint_step a b root ts (fine root ts refl) h in constraint root ts t.0 t.1 t.2
+statement_step a b n Other m fine h = absurd (cc)
+
+tokens_step : (a b : Above) (n : ℕ) (o : Option (List Token)) → ((ts : List Token) → o ≡ Some ts → AreFine ts) → tokens_read a n o ≡ Ok b → Step a b
+tokens_step a b n None fine h = absurd (cc)
+tokens_step a b n (Some ts) fine h = go a.versioned h
   where
     first : (c : Bool) → cond c (Ok (record a { versioned = true })) (Err kind.BadForm) ≡ Ok b → Step a b
     first true h = version (ok_is _ _ h)
     first false h = absurd (cc)
 
     go : (c : Bool) → cond c (statement_read a n (statement_of ts)) (first_read a ts) ≡ Ok b → Step a b
-    go true h = statement_step a b n (statement_of ts) (λ name e. named ts name e) h
+    go true h = statement_step a b n (statement_of ts) (λ name e. named ts name e) (λ root us e. formula_fine ts root us e (fine ts refl)) h
     go false h = first (is_version ts) h
 
 -- a line without a fault goes on in one of the ways
 pub stepped : (a b : Above) (n : ℕ) (line : List ℕ) → line_read a n line ≡ Ok b → Step a b
 unfolding line_read
-stepped a b n line h = go (is_quiet line) (passed_on _ _ _ _ h).1
+stepped a b n line h = go (is_quiet line) t.1
   where
+    t : (is_bad line ≡ false) × (cond (is_quiet line) (Ok a) (tokens_read a n (tokens_of line)) ≡ Ok b)
+    t = passed_on _ _ _ _ h
+
     go : (c : Bool) → cond c (Ok a) (tokens_read a n (tokens_of line)) ≡ Ok b → Step a b
     go true h = quiet (ok_is _ _ h)
-    go false h = tokens_step a b n (tokens_of line) h
+    go false h = tokens_step a b n (tokens_of line) (λ ts e. line_is_fine line ts t.0 e) h
 
 -- what each line keeps, all lines keep
 pub all_steps : (P : Above → Type 0) → ((a b : Above) → Step a b → P a → P b) → (a b : Above) (n : ℕ) (lines : List (List ℕ))

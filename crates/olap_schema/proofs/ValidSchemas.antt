@@ -28,12 +28,14 @@ use Rattle.olap_grammar.specs.declared.tokens.Token.{Token}
 use Rattle.olap_grammar.proofs.LeafLemmas.{atoms_are_leaves}
 use Rattle.olap_grammar.proofs.ReaderLemmas.{found_is_formula}
 use Rattle.olap_schema.specs.Judging.{Above, Read, first_stuck, form_answer, form_read, lines_on, nothing_above, schema_read, text_ended, whole}
-use Rattle.olap_schema.specs.Laws.{GivesValid, ReadSchemasAreValid}
+use Rattle.olap_schema.specs.Laws.{GivesReadable, ReadSchemasAreReadable, ReadSchemasAreValid}
+use Rattle.olap_schema.specs.PrintingLaws.{AreTexts, IsReadable}
 use Rattle.olap_schema.specs.Lines.{lines_of}
 use Rattle.olap_schema.specs.Tokens.{token_nodes}
 use Rattle.olap_schema.specs.declared.kinds.SchemaKind.TheVariants as kind
 use Rattle.olap_schema.proofs.StepLemmas.{AddsCategory, AddsConstraint, AddsEdge, Step, Step.quiet, Step.version, Step.category, Step.edge, Step.constraint, all_steps, ok_is, passed_on}
 use Rattle.olap_schema.proofs.ValidFormulas.{IsWithin, formula_is_valid, formula_nodes, grown_is_valid}
+use Rattle.olap_schema.proofs.ValidTexts.{all_texts, formula_is_fine}
 use Rattle.olap_schema.proofs.ValidNames.{name_at, not_false}
 
 -- what holds of one constraint
@@ -41,6 +43,7 @@ pub record IsSoundConstraint (g : Graph) (c : Constraint) : Type 0 where
   pub declared : IsDeclared g c.root
   pub formula : IsFormulaAt g c.root c.formula
   pub depth : depth_of c.formula ≤ 64
+  pub texts : AreTexts (equalities c.formula)
 
 abbrev nodes_in : List Constraint → ℕ
 nodes_in cs = sum_by (λ c. node_count c.formula) cs
@@ -70,6 +73,7 @@ sound_within g h c w s = record {
   declared = (s.declared.0, w.categories c.root s.declared.1);
   formula = grown_is_valid g h w c.root c.formula s.formula;
   depth = s.depth;
+  texts = s.texts;
 }
 
 all_within : (g h : Graph) (cs : List Constraint) (nodes : ℕ) (pairs : List Equality) → IsWithin g h → AreSound g cs nodes pairs → AreSound h cs nodes pairs
@@ -202,6 +206,7 @@ constraint_kept a b name ts f root s p =
       declared = (eqb-false root 0 s.below_all, (name_at a.graph name root s.root_is).0);
       formula = formula_is_valid a.graph name root s.root_is read.formed (record { faultless = s.faultless; short = s.short });
       depth = read.depth;
+      texts = formula_is_fine a.graph read.formed s.fine;
     } in
     subst IsSoundSoFar (sym s.new) (record {
       unfinished = p.unfinished;
@@ -259,8 +264,8 @@ all_reach g h (suc c) l =
     let reached = not_found (λ d. not (category_reaches g d 0)) (range_with_len 1 (length g.names)) (suc c) h listed in
     (category_reaches_is g (suc c) 0).0 (not_false (category_reaches g (suc c) 0) reached)
 
-whole_is_valid : (a : Above) → IsSoundSoFar a → GivesValid (whole a (first_stuck a.graph))
-whole_is_valid a p s h = go (first_stuck a.graph) refl h
+whole_is_readable : (a : Above) → IsSoundSoFar a → GivesReadable (whole a (first_stuck a.graph))
+whole_is_readable a p s h = go (first_stuck a.graph) refl h
   where
     valid : (k : first_stuck a.graph ≡ None) → IsValidSchema (record { graph = a.graph; constraints = a.constraints })
     valid k = record {
@@ -284,38 +289,44 @@ whole_is_valid a p s h = go (first_stuck a.graph) refl h
       constants_fit = rw p.constraints.pairs_are p.constraints.few_pairs;
     }
 
-    go : (o : Option ℕ) → first_stuck a.graph ≡ o → whole a o ≡ Ok s → IsValidSchema s
-    go None k q = subst IsValidSchema (sym (ok_is _ _ q)) (valid k)
+    texts : AreTexts (flat_map (λ c. equalities c.formula) a.constraints)
+    texts = all_texts a.constraints (λ c h. (p.constraints.each c h).texts)
+
+    go : (o : Option ℕ) → first_stuck a.graph ≡ o → whole a o ≡ Ok s → IsReadable s
+    go None k q = subst IsReadable (sym (ok_is _ _ q)) (record { valid = valid k; texts = texts })
     go (Some c) k q = absurd (cc)
 
-ended_is_valid : (r : Read) → ((a : Above) → r ≡ Ok a → IsSoundSoFar a) → GivesValid (text_ended r)
-ended_is_valid (Err e) p s h = absurd (cc)
-ended_is_valid (Ok a) p s h = go a.versioned h
+ended_is_readable : (r : Read) → ((a : Above) → r ≡ Ok a → IsSoundSoFar a) → GivesReadable (text_ended r)
+ended_is_readable (Err e) p s h = absurd (cc)
+ended_is_readable (Ok a) p s h = go a.versioned h
   where
-    go : (b : Bool) → cond b (whole a (first_stuck a.graph)) (Err (record { at = 1; kind = kind.BadForm })) ≡ Ok s → IsValidSchema s
-    go true q = whole_is_valid a (p a refl) s q
+    go : (b : Bool) → cond b (whole a (first_stuck a.graph)) (Err (record { at = 1; kind = kind.BadForm })) ≡ Ok s → IsReadable s
+    go true q = whole_is_readable a (p a refl) s q
     go false q = absurd (cc)
 
-pub read_is_valid : ReadSchemasAreValid
+pub read_is_readable : ReadSchemasAreReadable
 unfolding schema_read
-read_is_valid text =
-    ended_is_valid (lines_on (Ok nothing_above) 0 (lines_of text))
+read_is_readable text =
+    ended_is_readable (lines_on (Ok nothing_above) 0 (lines_of text))
     (λ a e. all_steps IsSoundSoFar sound_kept nothing_above a 0 (lines_of text) e nothing_sound)
+
+pub read_is_valid : ReadSchemasAreValid
+read_is_valid text s e = (read_is_readable text s e).valid
 
 -- ---- in the words of the code
 
 -- where all lines were read, the first of them the version, what they say is valid
-pub rest_is_valid : (r : Read) (a : Above) → r ≡ Ok a → a.versioned ≡ true → GivesValid (text_ended r)
-    → GivesValid (whole a (first_stuck a.graph))
-rest_is_valid r a e v p =
-    let known : GivesValid (text_ended (Ok a)) = subst (λ x. GivesValid (text_ended x)) e p in
+pub rest_is_readable : (r : Read) (a : Above) → r ≡ Ok a → a.versioned ≡ true → GivesReadable (text_ended r)
+    → GivesReadable (whole a (first_stuck a.graph))
+rest_is_readable r a e v p =
+    let known : GivesReadable (text_ended (Ok a)) = subst (λ x. GivesReadable (text_ended x)) e p in
     go a.versioned v known
   where
-    go : (b : Bool) → b ≡ true → GivesValid (cond b (whole a (first_stuck a.graph)) (Err (record { at = 1; kind = kind.BadForm })))
-        → GivesValid (whole a (first_stuck a.graph))
+    go : (b : Bool) → b ≡ true → GivesReadable (cond b (whole a (first_stuck a.graph)) (Err (record { at = 1; kind = kind.BadForm })))
+        → GivesReadable (whole a (first_stuck a.graph))
     go true q k = k
     go false q k = absurd (cc)
 
-pub start_is_valid : (a : Above) (text : List ℕ) → a ≡ nothing_above → GivesValid (text_ended (lines_on (Ok a) 0 (lines_of text)))
+pub start_is_readable : (a : Above) (text : List ℕ) → a ≡ nothing_above → GivesReadable (text_ended (lines_on (Ok a) 0 (lines_of text)))
 unfolding schema_read
-start_is_valid a text e = subst (λ x. GivesValid (text_ended (lines_on (Ok x) 0 (lines_of text)))) (sym e) (read_is_valid text)
+start_is_readable a text e = subst (λ x. GivesReadable (text_ended (lines_on (Ok x) 0 (lines_of text)))) (sym e) (read_is_readable text)

@@ -167,7 +167,8 @@ lines_on (Ok a) n (line ∷ lines) = lines_on (line_read a (n + 1) (chomped line
 
 -- before the first line
 abbrev pub nothing_above : Above
-nothing_above = record { versioned = false; graph = all_alone; category_lines = []; constraints = []; nodes = 0; pairs = [] }
+nothing_above =
+    record { versioned = false; graph = all_alone; category_lines = []; constraints = []; nodes = 0; pairs = [] }
 
 -- the first declared category that doesn't reach `All`
 abbrev pub first_stuck : Graph → Option ℕ

@@ -4,11 +4,16 @@ use Rattle.olap_base.specs.Naming.{Fault}
 use Rattle.olap_ast.specs.Schema.{Schema}
 use Rattle.olap_ast.specs.Valid.{IsValidSchema}
 use Rattle.olap_schema.specs.Judging.{schema_read}
+use Rattle.olap_schema.specs.PrintingLaws.{IsReadable}
 use Rattle.olap_schema.specs.declared.kinds.SchemaKind.{SchemaKind}
 
--- a schema that is read is valid
-abbrev pub GivesValid : Result Schema (Fault SchemaKind) → Type 0
-GivesValid read = (s : Schema) → read ≡ Ok s → IsValidSchema s
+-- a schema that is read is valid, and its constants can stand in a line
+abbrev pub GivesReadable : Result Schema (Fault SchemaKind) → Type 0
+GivesReadable read = (s : Schema) → read ≡ Ok s → IsReadable s
 
+abbrev pub ReadSchemasAreReadable : Type 0
+ReadSchemasAreReadable = (text : List ℕ) → GivesReadable (schema_read text)
+
+-- a schema that is read is valid
 abbrev pub ReadSchemasAreValid : Type 0
-ReadSchemasAreValid = (text : List ℕ) → GivesValid (schema_read text)
+ReadSchemasAreValid = (text : List ℕ) (s : Schema) → schema_read text ≡ Ok s → IsValidSchema s

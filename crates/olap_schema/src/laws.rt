@@ -1,8 +1,13 @@
 // Theorems over the definitions. Each is the clause of a function that does nothing.
-ghost use Rattle.olap_schema.specs.Laws.{ReadSchemasAreValid};
+ghost use Rattle.olap_schema.specs.Laws.{ReadSchemasAreReadable, ReadSchemasAreValid};
 
 /// A schema that is read is valid: its graph is a hierarchy, its constraints stand at declared categories, their atoms
 /// are of the graph, and it keeps the limits.
 pub fn read_schemas_are_valid()
     ensures { ReadSchemasAreValid }
+{}
+
+/// A schema that is read is valid, and its constants are UTF-8 without control characters.
+pub fn read_schemas_are_readable()
+    ensures { ReadSchemasAreReadable }
 {}

@@ -35,10 +35,8 @@ fn push_names(
     mark: u8,
     categories: &[CatId],
 ) -> Result<(), AllocError>
-    ensures {
-        let names = names_after graph.now mark (map (λ c. c.0) categories.now) in
-        OnOk result (out.new.items ≡ out.old.items ++ names)
-    }
+    ensures { let names = names_after graph.now mark (map (λ c. c.0) categories.now) in
+        OnOk result (out.new.items ≡ out.old.items ++ names) }
 {
     let mut left = categories;
     'categories: while let Some((c, others)) = left.split_first() {
@@ -56,10 +54,8 @@ fn push_atom(
     mark: u8,
     categories: &[CatId],
 ) -> Result<(), AllocError>
-    ensures {
-        let word = atom_word graph.now root.0 mark (map (λ c. c.0) categories.now) in
-        OnOk result (out.new.items ≡ out.old.items ++ word)
-    }
+    ensures { let word = atom_word graph.now root.0 mark (map (λ c. c.0) categories.now) in
+        OnOk result (out.new.items ≡ out.old.items ++ word) }
 {
     out.extend_from_slice(name(graph, root))?;
     push_names(out, graph, mark, categories)
@@ -130,11 +126,9 @@ fn push_joined(
     f: &Formula,
     g: &Formula,
 ) -> Result<(), AllocError>
-    ensures {
-        let left = formula_text graph.now root.0 (formula_of f.now) in
+    ensures { let left = formula_text graph.now root.0 (formula_of f.now) in
         let right = formula_text graph.now root.0 (formula_of g.now) in
-        OnOk result (out.new.items ≡ out.old.items ++ joined_text joint left right)
-    }
+        OnOk result (out.new.items ≡ out.old.items ++ joined_text joint left right) }
 {
     out.extend_from_slice(b"(")?;
     push_formula(out, graph, root, f)?;
@@ -146,29 +140,18 @@ fn push_joined(
 }
 
 #[cycle(push_formula)]
-fn push_one(
-    out: &mut Vec<u8>,
-    graph: &Graph,
-    root: CatId,
-    terms: &Terms,
-) -> Result<(), AllocError>
-    ensures {
-        let list = list_text graph.now root.0 (terms_of terms.now) in
-        OnOk result (out.new.items ≡ out.old.items ++ 111 ∷ 110 ∷ 101 ∷ 40 ∷ (list ++ 41 ∷ []))
-    }
+fn push_one(out: &mut Vec<u8>, graph: &Graph, root: CatId, terms: &Terms) -> Result<(), AllocError>
+    ensures { let list = list_text graph.now root.0 (terms_of terms.now) in
+        OnOk result (out.new.items ≡ out.old.items ++ 111 ∷ 110 ∷ 101 ∷ 40 ∷ (list ++ 41 ∷ [])) }
 {
     out.extend_from_slice(b"one(")?;
     push_list(out, graph, root, terms)?;
-    out.extend_from_slice(b")")
+    out.push(b')')?;
+    Ok(())
 }
 
 #[cycle(push_formula)]
-fn push_list(
-    out: &mut Vec<u8>,
-    graph: &Graph,
-    root: CatId,
-    terms: &Terms,
-) -> Result<(), AllocError>
+fn push_list(out: &mut Vec<u8>, graph: &Graph, root: CatId, terms: &Terms) -> Result<(), AllocError>
     ensures { OnOk result (out.new.items ≡ out.old.items ++ list_text graph.now root.0 (terms_of terms.now)) }
 {
     match terms {
@@ -245,10 +228,8 @@ fn push_edges(out: &mut Vec<u8>, graph: &Graph) -> Result<(), AllocError>
 }
 
 fn push_root(out: &mut Vec<u8>, graph: &Graph, root: CatId) -> Result<(), AllocError>
-    ensures {
-        let head = codes "constraint " ++ (name_of_category graph.now root.0 ++ 58 ∷ 32 ∷ []) in
-        OnOk result (out.new.items ≡ out.old.items ++ head)
-    }
+    ensures { let head = codes "constraint " ++ (name_of_category graph.now root.0 ++ 58 ∷ 32 ∷ []) in
+        OnOk result (out.new.items ≡ out.old.items ++ head) }
 {
     out.extend_from_slice(b"constraint ")?;
     out.extend_from_slice(name(graph, root))?;
@@ -256,11 +237,13 @@ fn push_root(out: &mut Vec<u8>, graph: &Graph, root: CatId) -> Result<(), AllocE
     Ok(())
 }
 
-fn push_constraint(out: &mut Vec<u8>, graph: &Graph, constraint: &Constraint) -> Result<(), AllocError>
-    ensures {
-        let line = constraint_text graph.now (constraint_of constraint.now) in
-        OnOk result (out.new.items ≡ out.old.items ++ ended_line line)
-    }
+fn push_constraint(
+    out: &mut Vec<u8>,
+    graph: &Graph,
+    constraint: &Constraint,
+) -> Result<(), AllocError>
+    ensures { let line = constraint_text graph.now (constraint_of constraint.now) in
+        OnOk result (out.new.items ≡ out.old.items ++ ended_line line) }
 {
     push_root(out, graph, constraint.root)?;
     push_formula(out, graph, constraint.root, &constraint.formula)?;
@@ -273,10 +256,8 @@ fn push_constraints(
     graph: &Graph,
     constraints: &[Constraint],
 ) -> Result<(), AllocError>
-    ensures {
-        let lines = map (constraint_text graph.now) (map constraint_of constraints.now) in
-        OnOk result (out.new.items ≡ out.old.items ++ text_of_lines lines)
-    }
+    ensures { let lines = map (constraint_text graph.now) (map constraint_of constraints.now) in
+        OnOk result (out.new.items ≡ out.old.items ++ text_of_lines lines) }
 {
     let mut left = constraints;
     'constraints: while let Some((constraint, others)) = left.split_first() {
@@ -292,10 +273,8 @@ pub(crate) fn push_schema(
     graph: &Graph,
     constraints: &[Constraint],
 ) -> Result<(), AllocError>
-    ensures {
-        let text = schema_text (record { graph = graph.now; constraints = map constraint_of constraints.now }) in
-        OnOk result (out.new.items ≡ out.old.items ++ text)
-    }
+    ensures { let text = schema_text (record { graph = graph.now; constraints = map constraint_of constraints.now }) in
+        OnOk result (out.new.items ≡ out.old.items ++ text) }
 {
     out.extend_from_slice(b"schema 1\n")?;
     push_categories(out, graph)?;
@@ -310,9 +289,7 @@ pub(crate) fn push_schema(
 /// A valid schema whose constants are text is what its canonical text is read as.
 pub fn print_schema(alloc: Global, schema: &Schema) -> Result<Text, Memory>
     ensures text { IfOk result (λ t. t ≡ schema_text (schema_of schema.now)) }
-    ensures reads {
-        IsReadable (schema_of schema.now) → IfOk result (λ t. schema_read t ≡ Ok (schema_of schema.now))
-    }
+    ensures reads { IsReadable (schema_of schema.now) → IfOk result (λ t. schema_read t ≡ Ok (schema_of schema.now)) }
 {
     let mut out = Vec::new(alloc);
     push_schema(&mut out, schema.graph(), schema.constraints())?;

@@ -1,10 +1,12 @@
 // Schemas, and reading one from its text.
 ghost use Rattle.olap_schema.specs.Judging.{first_stuck, lines_on, schema_read, text_ended, whole};
-ghost use Rattle.olap_schema.specs.Laws.{GivesValid};
+ghost use Rattle.olap_schema.specs.Laws.{GivesReadable};
 ghost use Rattle.olap_schema.specs.Lines.{lines_of};
+ghost use Rattle.olap_schema.specs.PrintingLaws.{AreTexts};
 ghost use Rattle.olap_schema.specs.Reading.{above_of};
 ghost use Rattle.olap_schema.specs.Schemas.{IsRefusedBy, ReadsLines, schema_of};
-ghost use Rattle.std.specs.Prelude.{◌≡◌, ◌≤◌, ◌-◌, MatchResult, Ok, length, map, slice_index};
+ghost use Rattle.std.specs.Prelude.{◌≡◌, ◌≤◌, ◌-◌, MatchResult, Ok, flat_map, length, map, slice_index};
+ghost use Rattle.olap_ast.specs.Formula.{equalities};
 ghost use Rattle.olap_ast.specs.Trees.{constraint_of};
 ghost use Rattle.olap_ast.specs.Valid.{IsValidSchema};
 
@@ -34,12 +36,12 @@ impl Model for Schema {
     ghost coded = { Prim.hlevel (codes, formula.the_row.coded) };
 
     ghost use Rattle.olap_ast.specs.Trees.{constraint_of};
-    ghost use Rattle.olap_ast.specs.Valid.{IsValidSchema};
+    ghost use Rattle.olap_schema.specs.PrintingLaws.{IsReadable};
     ghost use Rattle.std.specs.Prelude.{map};
 
     ghost view = { λ a. record { graph = a.graph; constraints = a.constraints } };
 
-    ghost invariant = { λ a. IsValidSchema (record { graph = a.graph; constraints = map constraint_of a.constraints }) };
+    ghost invariant = { λ a. IsReadable (record { graph = a.graph; constraints = map constraint_of a.constraints }) };
 }
 
 impl Schema {
@@ -50,11 +52,13 @@ impl Schema {
         &self.graph
     }
 
-    /// Its constraints, in declaration order: at most 64. Whatever the text was that it was read from, it is valid.
+    /// Its constraints, in declaration order: at most 64. Each schema is valid, and its constants are UTF-8 without
+    /// control characters.
     pub fn constraints(&self) -> &[Constraint]
         ensures list { map constraint_of result.now ≡ (schema_of self.now).constraints }
         ensures few { length result.now ≤ 64 }
         ensures valid { IsValidSchema (schema_of self.now) }
+        ensures texts { AreTexts (flat_map (λ c. equalities c.formula) (schema_of self.now).constraints) }
     {
         self.constraints.items()
     }
@@ -81,7 +85,7 @@ fn read_lines(alloc: Global, reading: &mut Reading, text: &[u8]) -> Result<(), S
 
 /// The schema of all lines, if each category reaches `All`.
 fn finish(reading: Reading) -> Result<Schema, SchemaRefusal>
-    requires { let a = above_of reading in GivesValid (whole a (first_stuck a.graph)) }
+    requires { let a = above_of reading in GivesReadable (whole a (first_stuck a.graph)) }
     ensures { let a = above_of reading in
         let read = whole a (first_stuck a.graph) in
         MatchResult result (λ s. read ≡ Ok (schema_of s)) (λ e. IsRefusedBy e read) }
@@ -142,7 +146,7 @@ pub fn read_schema(alloc: Global, text: &[u8]) -> Result<Schema, SchemaRefusal>
 
 /// The schema of all lines, from the first on.
 fn read_from(alloc: Global, started: Reading, text: &[u8]) -> Result<Schema, SchemaRefusal>
-    requires { GivesValid (text_ended (lines_on (Ok (above_of started)) 0 (lines_of text.now))) }
+    requires { GivesReadable (text_ended (lines_on (Ok (above_of started)) 0 (lines_of text.now))) }
     ensures { let read = text_ended (lines_on (Ok (above_of started)) 0 (lines_of text.now)) in
         MatchResult result (λ s. read ≡ Ok (schema_of s)) (λ e. IsRefusedBy e read) }
 {

@@ -11,7 +11,8 @@ use Rattle.olap_schema.proofs.questions.add_of_constraints.Given as goal
 abbrev pub invariant-constraints : goal.invariant-constraints
 invariant-constraints l =
     fold with_pair (map pair_of l.pairs.items) (flat_map (λ c. equalities c.formula) (map constraint_of l.left))
-    ≡ fold with_pair (map pair_of l.initial.pairs.items) (flat_map (λ c. equalities c.formula) (map constraint_of l.fn.constraints))
+    ≡ fold with_pair (map pair_of l.initial.pairs.items)
+    (flat_map (λ c. equalities c.formula) (map constraint_of l.fn.constraints))
 
 abbrev pub decreases-constraints : goal.decreases-constraints
 decreases-constraints l = length l.left

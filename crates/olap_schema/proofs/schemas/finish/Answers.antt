@@ -5,13 +5,17 @@ use Rattle.olap_schema.proofs.StuckLemmas.{whole_is, whole_not}
 use Rattle.olap_schema.proofs.schemas.finish.Goals as goal
 
 pub returns-in-Ok : goal.returns-in-Ok
-returns-in-Ok c = whole_is (above_of c.args.reading) _ _ c.in-Ok.ensures.ok c.in-Ok.ensures.way (ap (map constraint_of) c.from_vec.ensures)
+returns-in-Ok c = whole_is (above_of c.args.reading) _ _ c.in-Ok.ensures.ok c.in-Ok.ensures.way
+    (ap (map constraint_of) c.from_vec.ensures)
 
 pub returns-in-Err-NoWayToAll : goal.returns-in-Err-NoWayToAll
 returns-in-Err-NoWayToAll c =
     let way = rw c.in-Err-NoWayToAll.field-0-is at c.in-Err-NoWayToAll.ensures.err in
-    whole_not (above_of c.args.reading) c.in-Err-NoWayToAll.c.0 _ way (rw c.deref.ensures.value at c.line_of-line.ensures)
+    whole_not (above_of c.args.reading) c.in-Err-NoWayToAll.c.0 _ way
+    (rw c.deref.ensures.value at c.line_of-line.ensures)
 
 pub invariant_of-result : goal.invariant_of-result
 invariant_of-result c =
-    c.requires _ (whole_is (above_of c.args.reading) _ _ c.in-Ok.ensures.ok c.in-Ok.ensures.way (ap (map constraint_of) c.from_vec.ensures))
+    c.requires _
+    (whole_is (above_of c.args.reading) _ _ c.in-Ok.ensures.ok c.in-Ok.ensures.way
+    (ap (map constraint_of) c.from_vec.ensures))

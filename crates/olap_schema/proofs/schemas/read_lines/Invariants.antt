@@ -8,7 +8,8 @@ use Rattle.olap_schema.proofs.schemas.read_lines.Given as goal
 abbrev pub invariant-lines : goal.invariant-lines
 invariant-lines l = record {
   read :
-      lines_on (Ok (above_of l.fn.reading)) 0 (lines_of l.fn.text) ≡ lines_on (Ok (above_of l.reading)) l.n (lines_of l.left);
+      lines_on (Ok (above_of l.fn.reading)) 0 (lines_of l.fn.text)
+      ≡ lines_on (Ok (above_of l.reading)) l.n (lines_of l.left);
   few : l.n + length l.left ≤ length l.fn.text;
 }
 
