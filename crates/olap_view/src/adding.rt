@@ -57,7 +57,8 @@ fn add_value(
     requires room { length summaries.old ≡ length instance.now }
     requires differ { AllPairs ◌≢◌ (places_of members.now) }
     requires bounded { All (λ o. IfSome o (λ s. s.count < 2 ^ 32 × IsBounded s)) summaries.old }
-    ensures { IsAdded instance.now c.0 (places_of members.now) (λ o. with_value o value) summaries.old summaries.new }
+    ensures { IsAdded instance.now c.0 (places_of members.now) (λ o. with_value o value)
+        summaries.old summaries.new }
 {
     for m in members {
         if instance.category(*m).0 == c.0 {

@@ -1,5 +1,5 @@
 // Whether a view may be stored.
-ghost use Rattle.std.specs.Prelude.{◌↔◌, ℕ, All, IsTrue};
+ghost use Rattle.std.specs.Prelude.{◌↔◌, ◌<◌, ◌≤◌, ◌^◌, ℕ, All, IsTrue};
 ghost use Rattle.olap_view.specs.Seen.{row_of, rows_of, view_of};
 ghost use Rattle.olap_view.specs.Stores.{Fits, IsStored};
 
@@ -11,11 +11,18 @@ const MOST_COUNT: u64 = 4_294_967_295;
 /// The greatest magnitude of a stored row's sum: 2^95.
 const MOST_SUM: i128 = 39_614_081_257_132_168_796_771_975_168;
 
+/// Whether a stored row may have this count.
+fn count_fits(count: u64) -> bool
+    ensures { IsTrue result ↔ ((1 ≤ count) × (count < 2 ^ 32)) }
+{
+    1 <= count && count <= MOST_COUNT
+}
+
 /// Whether a row is within the bounds of stored rows.
 fn row_fits(row: Row) -> bool
     ensures { IsTrue result ↔ IsStored (row_of row) }
 {
-    1 <= row.count && row.count <= MOST_COUNT && -MOST_SUM <= row.sum && row.sum <= MOST_SUM
+    count_fits(row.count) && -MOST_SUM <= row.sum && row.sum <= MOST_SUM
 }
 
 /// Whether each row is within those bounds.

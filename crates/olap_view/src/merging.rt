@@ -49,7 +49,8 @@ fn add_row(
     requires differ { AllPairs ◌≢◌ (places_of members.now) }
     requires totals { AreTotalsOf 2097151 summaries.old }
     requires stored { IsStored (row_of row) }
-    ensures { IsAdded instance.now c.0 (places_of members.now) (λ o. with_row o (row_of row)) summaries.old summaries.new }
+    ensures { IsAdded instance.now c.0 (places_of members.now) (λ o. with_row o (row_of row))
+        summaries.old summaries.new }
 {
     for m in members {
         if instance.category(*m).0 == c.0 {
@@ -109,7 +110,8 @@ pub(crate) fn merged(
     requires short { All (λ v. length v.rows ≤ 262144) (each_view_of views.now) }
     requires fit { All Fits (each_view_of views.now) }
     requires at_members { All (λ v. All (λ r. r.member < length instance.now) v.rows) (each_view_of views.now) }
-    ensures { IfOk result (λ v. AreMerged instance.now c.0 (flat_map (λ v. v.rows) (chosen (each_view_of views.now) mask)) v.items) }
+    ensures { IfOk result (λ v. AreMerged instance.now c.0
+        (flat_map (λ w. w.rows) (chosen (each_view_of views.now) mask)) v.items) }
 {
     let places = instance.members() as usize;
     let mut summaries = vec![in alloc; None; places]?;

@@ -40,7 +40,8 @@ fn rows(
     c: CatId,
 ) -> Result<Vec<Row>, Memory>
     requires room { length summaries.now ≡ length instance.now }
-    ensures rows { IfOk result (λ v. rows_of v.items ≡ filter_map (λ y. row_at y (summary_at summaries.now y)) (members_of instance.now c.0)) }
+    ensures rows { IfOk result (λ v. rows_of v.items
+        ≡ filter_map (λ y. row_at y (summary_at summaries.now y)) (members_of instance.now c.0)) }
     ensures members { IfOk result (λ v. All (λ r. r.member.0 < length instance.now) v.items) }
 {
     let mut rows = Vec::new(alloc);
@@ -96,7 +97,8 @@ pub fn from_views(
     requires at_members { All (λ v. All (λ r. r.member < length instance.now) v.rows) (views_of store.now) }
     requires bits { mask < 2 ^ length store.now.views }
 
-    ensures view { IfOk result (λ v. view_of v ≡ record { category = c.0; rows = rows_from_views instance.now c.0 (chosen (views_of store.now) mask) }) }
+    ensures view { IfOk result (λ v. view_of v
+        ≡ record { category = c.0; rows = rows_from_views instance.now c.0 (chosen (views_of store.now) mask) }) }
     ensures members { IfOk result (λ v. All (λ r. r.member.0 < length instance.now) v.rows) }
 {
     let summaries = merged(alloc, instance, store.views.items(), mask, c)?;
