@@ -6,3 +6,4 @@ pub mod StuckLemmas
 pub mod PrintLemmas
 pub mod FormulaLemmas
 pub mod AtomLemmas
+pub mod WordLemmas

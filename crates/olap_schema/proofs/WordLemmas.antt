@@ -1,0 +1,101 @@
+-- The words of formulas: what passes the checks is of the graph.
+use Rattle.std.proofs.Common.{◌≡◌, ◌||◌, ◌&&◌, ◌≤◌, ◌<◌, ℕ, suc, zero, Bool, true, false, not, cond, List, [], ◌∷◌, Option, Some, None, refl, ap, sym, ◌∙◌, subst, length, map, drop, codes, arith, nat_lt}
+use Rattle.std.specs.Prelude.{◌==◌, Contains, slice_index_or}
+use Rattle.std.specs.List.{list_all}
+use Rattle.std.specs.Str.{bytes_eq}
+use Rattle.std.proofs.lemmas.Bool.{eqb-true}
+use Rattle.std.proofs.lemmas.Slice.Eq.{bytes_eq-Decides}
+use Rattle.std.proofs.lemmas.List.Elements.{Contains-get_or}
+use Rattle.olap_base.specs.Deciding.{is_category_name, is_category_name_is}
+use Rattle.olap_base.specs.Graph.{Graph, IsCategory, IsCategoryName, reserved}
+use Rattle.olap_graph.specs.Lookups.{category_named}
+use Rattle.olap_ast.specs.Formula as Meaning
+use Rattle.olap_ast.specs.Formula.{Formula}
+use Rattle.olap_ast.specs.Valid.{IsFormulaAt}
+use Rattle.olap_grammar.specs.Words.{atoms_of, equal_of, equality_of, id_of, path_of, pieces_of, plain_of, reach_of}
+use Rattle.olap_schema.specs.Atoms.{is_connective, is_known, is_path, named_fault, names_in, word_fault}
+use Rattle.olap_schema.proofs.AtomLemmas.{all_known, known_category, names_known, path_at}
+use Rattle.olap_schema.proofs.FormulaLemmas.{AreSound}
+
+-- the place of a known name is a category
+known_at : (g : Graph) (parts : List (List ℕ)) (i : ℕ) → list_all (is_known g) parts ≡ true → i < length parts → IsCategory g (id_of g (slice_index_or parts i []))
+known_at g parts i k h = known_category g (slice_index_or parts i []) (all_known g parts (slice_index_or parts i []) k (Contains-get_or parts i [] h))
+
+reach_at : (g : Graph) (r : ℕ) (parts : List (List ℕ)) (f : Formula) → list_all (is_known g) parts ≡ true → reach_of g parts ≡ Some f → IsFormulaAt g r f
+reach_at g r parts f k e = go (not (list_all is_category_name parts)) (length parts == 2) (length parts == 3) refl refl e
+  where
+    go : (a b c : Bool) → (length parts == 2) ≡ b → (length parts == 3) ≡ c →
+        cond a None (cond b (Some (Meaning.Formula.Reach (id_of g (slice_index_or parts 1 []))))
+        (cond c (Some (Meaning.Formula.Via (id_of g (slice_index_or parts 1 [])) (id_of g (slice_index_or parts 2 [])))) None)) ≡ Some f →
+        IsFormulaAt g r f
+    go true b c p q x = absurd cc
+    go false true c p q x =
+        let s : Meaning.Formula.Reach (id_of g (slice_index_or parts 1 [])) ≡ f = cc in
+        let l : length parts ≡ 2 = eqb-true (length parts) 2 p in
+        subst (λ h. IsFormulaAt g r h) s (known_at g parts 1 k (omega arith))
+    go false false true p q x =
+        let s : Meaning.Formula.Via (id_of g (slice_index_or parts 1 [])) (id_of g (slice_index_or parts 2 [])) ≡ f = cc in
+        let l : length parts ≡ 3 = eqb-true (length parts) 3 q in
+        subst (λ h. IsFormulaAt g r h) s (known_at g parts 1 k (omega arith), known_at g parts 2 k (omega arith))
+    go false false false p q x = absurd cc
+
+equal_at : (g : Graph) (r : ℕ) (t : List ℕ) (parts : List (List ℕ)) (f : Formula) → length t ≤ 255 → list_all (is_known g) parts ≡ true → equal_of g t parts ≡ Some f → IsFormulaAt g r f
+equal_at g r t parts f short k e = go (not (list_all is_category_name parts)) (length parts == 1) (length parts == 2) refl refl e
+  where
+    go : (a b c : Bool) → (length parts == 1) ≡ b → (length parts == 2) ≡ c →
+        cond a None (cond b (Some (Meaning.Formula.Equals (id_of g (slice_index_or parts 0 [])) t))
+        (cond c (Some (Meaning.Formula.Equals (id_of g (slice_index_or parts 1 [])) t)) None)) ≡ Some f → IsFormulaAt g r f
+    go true b c p q x = absurd cc
+    go false true c p q x =
+        let s : Meaning.Formula.Equals (id_of g (slice_index_or parts 0 [])) t ≡ f = cc in
+        let l : length parts ≡ 1 = eqb-true (length parts) 1 p in
+        subst (λ h. IsFormulaAt g r h) s (known_at g parts 0 k (omega arith), short)
+    go false false true p q x =
+        let s : Meaning.Formula.Equals (id_of g (slice_index_or parts 1 [])) t ≡ f = cc in
+        let l : length parts ≡ 2 = eqb-true (length parts) 2 q in
+        subst (λ h. IsFormulaAt g r h) s (known_at g parts 1 k (omega arith), short)
+    go false false false p q x = absurd cc
+
+path_of_at : (g : Graph) (root : List ℕ) (r : ℕ) (parts : List (List ℕ)) (f : Formula) → category_named g root ≡ Some r →
+    nat_lt 1 (length parts) ≡ true → named_fault g root true parts ≡ None → path_of g parts ≡ Some f → IsFormulaAt g r f
+path_of_at g root r [] f e l h x = absurd (let k : 1 < length {A = List ℕ} [] = grind (arith) in omega arith)
+path_of_at g root r (n ∷ []) f e l h x = absurd (let k : 1 < length (n ∷ []) = grind (arith) in omega arith)
+path_of_at g root r (n ∷ m ∷ ms) f e l h x = go (not (list_all is_category_name (n ∷ m ∷ ms))) x
+  where
+    go : (a : Bool) → cond a None (Some (Meaning.Formula.Path (map (id_of g) (m ∷ ms)))) ≡ Some f → IsFormulaAt g r f
+    go true y = absurd cc
+    go false y = let s : Meaning.Formula.Path (map (id_of g) (m ∷ ms)) ≡ f = cc in subst (λ k. IsFormulaAt g r k) s (path_at g root r n m ms e h)
+
+-- ---- reserved words
+
+no_name : (w : List ℕ) → (IsCategoryName w → ⊥) → is_category_name w ≡ false
+no_name w h = go (is_category_name w) refl
+  where
+    go : (b : Bool) → is_category_name w ≡ b → b ≡ false
+    go true e = absurd (h ((is_category_name_is w).0 e))
+    go false e = refl
+
+true_word : is_category_name (codes "true") ≡ false
+true_word = no_name (codes "true") (λ t. t.2 (0, omega arith, refl))
+
+false_word : is_category_name (codes "false") ≡ false
+false_word = no_name (codes "false") (λ t. t.2 (1, omega arith, refl))
+
+one_word : is_category_name (codes "one") ≡ false
+one_word = no_name (codes "one") (λ t. t.2 (2, omega arith, refl))
+
+one_is_none : (g : Graph) → plain_of g (codes "one") ≡ None
+unfolding plain_of pieces_of
+one_is_none g = rw one_word refl
+
+true_no_equality : (g : Graph) (k : List ℕ) → equality_of g (codes "true") k ≡ None
+unfolding equality_of pieces_of
+true_no_equality g k = rw true_word refl
+
+false_no_equality : (g : Graph) (k : List ℕ) → equality_of g (codes "false") k ≡ None
+unfolding equality_of pieces_of
+false_no_equality g k = rw false_word refl
+
+one_no_equality : (g : Graph) (k : List ℕ) → equality_of g (codes "one") k ≡ None
+unfolding equality_of pieces_of
+one_no_equality g k = rw one_word refl
