@@ -15,7 +15,9 @@ use Rattle.olap_ast.specs.Valid.{IsFormulaAt}
 use Rattle.olap_grammar.specs.Words.{atoms_of, equal_of, equality_of, id_of, path_of, pieces_of, plain_of, reach_of}
 use Rattle.olap_schema.specs.Atoms.{is_connective, is_known, is_path, named_fault, names_in, word_fault}
 use Rattle.olap_schema.proofs.AtomLemmas.{all_known, known_category, names_known, path_at}
-use Rattle.olap_schema.proofs.FormulaLemmas.{AreSound}
+use Rattle.olap_schema.proofs.FormulaLemmas.{AreSound, formula_at}
+use Rattle.olap_schema.specs.Laws.{FormulasAreOfTheGraph}
+use Rattle.olap_grammar.proofs.ReaderLemmas.{found_is_formula}
 
 -- the place of a known name is a category
 known_at : (g : Graph) (parts : List (List ℕ)) (i : ℕ) → list_all (is_known g) parts ≡ true → i < length parts → IsCategory g (id_of g (slice_index_or parts i []))
@@ -99,3 +101,60 @@ false_no_equality g k = rw false_word refl
 one_no_equality : (g : Graph) (k : List ℕ) → equality_of g (codes "one") k ≡ None
 unfolding equality_of pieces_of
 one_no_equality g k = rw one_word refl
+
+-- ---- atoms
+
+-- a word that passes is of the graph
+plain_at : (g : Graph) (root : List ℕ) (r : ℕ) (w : List ℕ) (f : Formula) → category_named g root ≡ Some r → plain_of g w ≡ Some f →
+    word_fault g root w ≡ None → IsFormulaAt g r f
+unfolding plain_of word_fault is_connective
+plain_at g root r w f e x h = go (bytes_eq w (codes "true")) (bytes_eq w (codes "false")) (bytes_eq w (codes "one")) refl x h
+  where
+    names : (l : Bool) → nat_lt 1 (length (pieces_of 95 w)) ≡ l → cond l (path_of g (pieces_of 95 w)) (reach_of g (pieces_of 46 w)) ≡ Some f →
+        named_fault g root l (cond l (pieces_of 95 w) (pieces_of 46 w)) ≡ None → IsFormulaAt g r f
+    names true q y z = path_of_at g root r (pieces_of 95 w) f e q z y
+    names false q y z = reach_at g r (pieces_of 46 w) f (names_known g root false (pieces_of 46 w) z) y
+
+    go : (a b c : Bool) → bytes_eq w (codes "one") ≡ c →
+        cond a (Some Meaning.Formula.Truth) (cond b (Some Meaning.Formula.Falsity)
+        (cond (nat_lt 1 (length (pieces_of 95 w))) (path_of g (pieces_of 95 w)) (reach_of g (pieces_of 46 w)))) ≡ Some f →
+        cond (a || b || c) None (named_fault g root (is_path w) (names_in w)) ≡ None → IsFormulaAt g r f
+    go true b c u y z = let s : Meaning.Formula.Truth ≡ f = cc in subst (λ k. IsFormulaAt g r k) s tt
+    go false true c u y z = let s : Meaning.Formula.Falsity ≡ f = cc in subst (λ k. IsFormulaAt g r k) s tt
+    go false false true u y z =
+        let s : w ≡ codes "one" = (bytes_eq-Decides w (codes "one")).0 u in
+        let k : plain_of g (codes "one") ≡ Some f = subst (λ v. plain_of g v ≡ Some f) s x in
+        absurd (cc (one_is_none g))
+    go false false false u y z = names (nat_lt 1 (length (pieces_of 95 w))) refl y z
+
+equality_at : (g : Graph) (root : List ℕ) (r : ℕ) (w k : List ℕ) (f : Formula) → equality_of g w k ≡ Some f →
+    word_fault g root w ≡ None → length k ≤ 255 → IsFormulaAt g r f
+unfolding equality_of word_fault is_connective
+equality_at g root r w k f x h short = go (bytes_eq w (codes "true")) (bytes_eq w (codes "false")) (bytes_eq w (codes "one")) refl refl refl h
+  where
+    names : (l : Bool) → cond l None (equal_of g k (pieces_of 46 w)) ≡ Some f →
+        named_fault g root l (cond l (pieces_of 95 w) (pieces_of 46 w)) ≡ None → IsFormulaAt g r f
+    names true y z = absurd cc
+    names false y z = equal_at g r k (pieces_of 46 w) f short (names_known g root false (pieces_of 46 w) z) y
+
+    other : (v : List ℕ) → w ≡ v → equality_of g v k ≡ None → IsFormulaAt g r f
+    other v s n = let y : equality_of g v k ≡ Some f = subst (λ u. equality_of g u k ≡ Some f) s x in absurd cc
+
+    go : (a b c : Bool) → bytes_eq w (codes "true") ≡ a → bytes_eq w (codes "false") ≡ b → bytes_eq w (codes "one") ≡ c →
+        cond (a || b || c) None (named_fault g root (is_path w) (names_in w)) ≡ None → IsFormulaAt g r f
+    go true b c p q u z = other (codes "true") ((bytes_eq-Decides w (codes "true")).0 p) (true_no_equality g k)
+    go false true c p q u z = other (codes "false") ((bytes_eq-Decides w (codes "false")).0 q) (false_no_equality g k)
+    go false false true p q u z = other (codes "one") ((bytes_eq-Decides w (codes "one")).0 u) (one_no_equality g k)
+    go false false false p q u z = names (nat_lt 1 (length (pieces_of 95 w))) x z
+
+-- the words of formulas are sound
+atoms_sound : (g : Graph) (root : List ℕ) (r : ℕ) → category_named g root ≡ Some r → AreSound g root r (atoms_of g)
+atoms_sound g root r e = record {
+  plain = λ w f x h. plain_at g root r w f e x h;
+  equal = λ w k f x h l. equality_at g root r w k f x h l;
+}
+
+-- a formula that is found, whose atoms have no fault and whose texts are short, is one of the graph
+pub of_the_graph : FormulasAreOfTheGraph
+of_the_graph g root r ts f e x h l =
+    formula_at g root r (atoms_of g) (atoms_sound g root r e) (found_is_formula (atoms_of g) ts f x) (record { sound = h; short = l })

@@ -7,3 +7,4 @@ pub mod Judging
 pub mod Reading
 pub mod Schemas
 pub mod Printing
+pub mod Laws

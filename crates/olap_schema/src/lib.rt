@@ -3,6 +3,7 @@
 
 mod atoms;
 mod kinds;
+mod laws;
 mod lines;
 mod measuring;
 mod pairing;
@@ -15,6 +16,7 @@ mod statements;
 mod tests;
 
 pub use kinds::{FormulaRefusal, SchemaKind, SchemaRefusal};
+pub use laws::formulas_are_of_the_graph;
 pub use printing::print_schema;
 pub use questions::read_formula;
 pub use schemas::{Schema, read_schema};
