@@ -1,13 +1,13 @@
 -- The words of formulas: what passes the checks is of the graph.
-use Rattle.std.proofs.Common.{◌≡◌, ◌||◌, ◌&&◌, ◌≤◌, ◌<◌, ℕ, suc, zero, Bool, true, false, not, cond, List, [], ◌∷◌, Option, Some, None, refl, ap, sym, ◌∙◌, subst, length, map, drop, codes, arith, nat_lt}
-use Rattle.std.specs.Prelude.{◌==◌, Contains, slice_index_or}
+use Rattle.std.proofs.Common.{◌≡◌, ◌||◌, ◌≤◌, ◌<◌, ℕ, Bool, true, false, not, cond, List, [], ◌∷◌, Some, None, refl, subst, length, map, codes, arith, nat_lt}
+use Rattle.std.specs.Prelude.{◌==◌, slice_index_or}
 use Rattle.std.specs.List.{list_all}
 use Rattle.std.specs.Str.{bytes_eq}
 use Rattle.std.proofs.lemmas.Bool.{eqb-true}
 use Rattle.std.proofs.lemmas.Slice.Eq.{bytes_eq-Decides}
 use Rattle.std.proofs.lemmas.List.Elements.{Contains-get_or}
 use Rattle.olap_base.specs.Deciding.{is_category_name, is_category_name_is}
-use Rattle.olap_base.specs.Graph.{Graph, IsCategory, IsCategoryName, reserved}
+use Rattle.olap_base.specs.Graph.{Graph, IsCategory, IsCategoryName}
 use Rattle.olap_graph.specs.Lookups.{category_named}
 use Rattle.olap_ast.specs.Formula as Meaning
 use Rattle.olap_ast.specs.Formula.{Formula}
@@ -20,15 +20,20 @@ use Rattle.olap_schema.specs.Laws.{FormulasAreOfTheGraph}
 use Rattle.olap_grammar.proofs.ReaderLemmas.{found_is_formula}
 
 -- the place of a known name is a category
-known_at : (g : Graph) (parts : List (List ℕ)) (i : ℕ) → list_all (is_known g) parts ≡ true → i < length parts → IsCategory g (id_of g (slice_index_or parts i []))
-known_at g parts i k h = known_category g (slice_index_or parts i []) (all_known g parts (slice_index_or parts i []) k (Contains-get_or parts i [] h))
+known_at : (g : Graph) (parts : List (List ℕ)) (i : ℕ) → list_all (is_known g) parts ≡ true → i < length parts
+    → IsCategory g (id_of g (slice_index_or parts i []))
+known_at g parts i k h = known_category g (slice_index_or parts i [])
+    (all_known g parts (slice_index_or parts i []) k (Contains-get_or parts i [] h))
 
-reach_at : (g : Graph) (r : ℕ) (parts : List (List ℕ)) (f : Formula) → list_all (is_known g) parts ≡ true → reach_of g parts ≡ Some f → IsFormulaAt g r f
-reach_at g r parts f k e = go (not (list_all is_category_name parts)) (length parts == 2) (length parts == 3) refl refl e
+reach_at : (g : Graph) (r : ℕ) (parts : List (List ℕ)) (f : Formula) → list_all (is_known g) parts ≡ true
+    → reach_of g parts ≡ Some f → IsFormulaAt g r f
+reach_at g r parts f k e = go (not (list_all is_category_name parts)) (length parts == 2)
+    (length parts == 3) refl refl e
   where
     go : (a b c : Bool) → (length parts == 2) ≡ b → (length parts == 3) ≡ c →
         cond a None (cond b (Some (Meaning.Formula.Reach (id_of g (slice_index_or parts 1 []))))
-        (cond c (Some (Meaning.Formula.Via (id_of g (slice_index_or parts 1 [])) (id_of g (slice_index_or parts 2 [])))) None)) ≡ Some f →
+        (cond c (Some (Meaning.Formula.Via (id_of g (slice_index_or parts 1 []))
+        (id_of g (slice_index_or parts 2 [])))) None)) ≡ Some f →
         IsFormulaAt g r f
     go true b c p q x = absurd cc
     go false true c p q x =
@@ -36,17 +41,21 @@ reach_at g r parts f k e = go (not (list_all is_category_name parts)) (length pa
         let l : length parts ≡ 2 = eqb-true (length parts) 2 p in
         subst (λ h. IsFormulaAt g r h) s (known_at g parts 1 k (omega arith))
     go false false true p q x =
-        let s : Meaning.Formula.Via (id_of g (slice_index_or parts 1 [])) (id_of g (slice_index_or parts 2 [])) ≡ f = cc in
+        let s : Meaning.Formula.Via (id_of g (slice_index_or parts 1 [])) (id_of g (slice_index_or parts 2 [])) ≡ f =
+        cc in
         let l : length parts ≡ 3 = eqb-true (length parts) 3 q in
         subst (λ h. IsFormulaAt g r h) s (known_at g parts 1 k (omega arith), known_at g parts 2 k (omega arith))
     go false false false p q x = absurd cc
 
-equal_at : (g : Graph) (r : ℕ) (t : List ℕ) (parts : List (List ℕ)) (f : Formula) → length t ≤ 255 → list_all (is_known g) parts ≡ true → equal_of g t parts ≡ Some f → IsFormulaAt g r f
-equal_at g r t parts f short k e = go (not (list_all is_category_name parts)) (length parts == 1) (length parts == 2) refl refl e
+equal_at : (g : Graph) (r : ℕ) (t : List ℕ) (parts : List (List ℕ)) (f : Formula) → length t ≤ 255
+    → list_all (is_known g) parts ≡ true → equal_of g t parts ≡ Some f → IsFormulaAt g r f
+equal_at g r t parts f short k e =
+    go (not (list_all is_category_name parts)) (length parts == 1) (length parts == 2) refl refl e
   where
     go : (a b c : Bool) → (length parts == 1) ≡ b → (length parts == 2) ≡ c →
         cond a None (cond b (Some (Meaning.Formula.Equals (id_of g (slice_index_or parts 0 [])) t))
-        (cond c (Some (Meaning.Formula.Equals (id_of g (slice_index_or parts 1 [])) t)) None)) ≡ Some f → IsFormulaAt g r f
+        (cond c (Some (Meaning.Formula.Equals (id_of g (slice_index_or parts 1 [])) t)) None)) ≡ Some f
+        → IsFormulaAt g r f
     go true b c p q x = absurd cc
     go false true c p q x =
         let s : Meaning.Formula.Equals (id_of g (slice_index_or parts 0 [])) t ≡ f = cc in
@@ -58,7 +67,8 @@ equal_at g r t parts f short k e = go (not (list_all is_category_name parts)) (l
         subst (λ h. IsFormulaAt g r h) s (known_at g parts 1 k (omega arith), short)
     go false false false p q x = absurd cc
 
-path_of_at : (g : Graph) (root : List ℕ) (r : ℕ) (parts : List (List ℕ)) (f : Formula) → category_named g root ≡ Some r →
+path_of_at : (g : Graph) (root : List ℕ) (r : ℕ) (parts : List (List ℕ)) (f : Formula)
+    → category_named g root ≡ Some r →
     nat_lt 1 (length parts) ≡ true → named_fault g root true parts ≡ None → path_of g parts ≡ Some f → IsFormulaAt g r f
 path_of_at g root r [] f e l h x = absurd (let k : 1 < length {A = List ℕ} [] = grind (arith) in omega arith)
 path_of_at g root r (n ∷ []) f e l h x = absurd (let k : 1 < length (n ∷ []) = grind (arith) in omega arith)
@@ -66,7 +76,8 @@ path_of_at g root r (n ∷ m ∷ ms) f e l h x = go (not (list_all is_category_n
   where
     go : (a : Bool) → cond a None (Some (Meaning.Formula.Path (map (id_of g) (m ∷ ms)))) ≡ Some f → IsFormulaAt g r f
     go true y = absurd cc
-    go false y = let s : Meaning.Formula.Path (map (id_of g) (m ∷ ms)) ≡ f = cc in subst (λ k. IsFormulaAt g r k) s (path_at g root r n m ms e h)
+    go false y = let s : Meaning.Formula.Path (map (id_of g) (m ∷ ms)) ≡ f =
+        cc in subst (λ k. IsFormulaAt g r k) s (path_at g root r n m ms e h)
 
 -- ---- reserved words
 
@@ -105,19 +116,23 @@ one_no_equality g k = rw one_word refl
 -- ---- atoms
 
 -- a word that passes is of the graph
-plain_at : (g : Graph) (root : List ℕ) (r : ℕ) (w : List ℕ) (f : Formula) → category_named g root ≡ Some r → plain_of g w ≡ Some f →
+plain_at : (g : Graph) (root : List ℕ) (r : ℕ) (w : List ℕ) (f : Formula) → category_named g root ≡ Some r
+    → plain_of g w ≡ Some f →
     word_fault g root w ≡ None → IsFormulaAt g r f
 unfolding plain_of word_fault is_connective
-plain_at g root r w f e x h = go (bytes_eq w (codes "true")) (bytes_eq w (codes "false")) (bytes_eq w (codes "one")) refl x h
+plain_at g root r w f e x h =
+    go (bytes_eq w (codes "true")) (bytes_eq w (codes "false")) (bytes_eq w (codes "one")) refl x h
   where
-    names : (l : Bool) → nat_lt 1 (length (pieces_of 95 w)) ≡ l → cond l (path_of g (pieces_of 95 w)) (reach_of g (pieces_of 46 w)) ≡ Some f →
+    names : (l : Bool) → nat_lt 1 (length (pieces_of 95 w)) ≡ l
+        → cond l (path_of g (pieces_of 95 w)) (reach_of g (pieces_of 46 w)) ≡ Some f →
         named_fault g root l (cond l (pieces_of 95 w) (pieces_of 46 w)) ≡ None → IsFormulaAt g r f
     names true q y z = path_of_at g root r (pieces_of 95 w) f e q z y
     names false q y z = reach_at g r (pieces_of 46 w) f (names_known g root false (pieces_of 46 w) z) y
 
     go : (a b c : Bool) → bytes_eq w (codes "one") ≡ c →
         cond a (Some Meaning.Formula.Truth) (cond b (Some Meaning.Formula.Falsity)
-        (cond (nat_lt 1 (length (pieces_of 95 w))) (path_of g (pieces_of 95 w)) (reach_of g (pieces_of 46 w)))) ≡ Some f →
+        (cond (nat_lt 1 (length (pieces_of 95 w))) (path_of g (pieces_of 95 w)) (reach_of g (pieces_of 46 w))))
+        ≡ Some f →
         cond (a || b || c) None (named_fault g root (is_path w) (names_in w)) ≡ None → IsFormulaAt g r f
     go true b c u y z = let s : Meaning.Formula.Truth ≡ f = cc in subst (λ k. IsFormulaAt g r k) s tt
     go false true c u y z = let s : Meaning.Formula.Falsity ≡ f = cc in subst (λ k. IsFormulaAt g r k) s tt
@@ -130,7 +145,8 @@ plain_at g root r w f e x h = go (bytes_eq w (codes "true")) (bytes_eq w (codes 
 equality_at : (g : Graph) (root : List ℕ) (r : ℕ) (w k : List ℕ) (f : Formula) → equality_of g w k ≡ Some f →
     word_fault g root w ≡ None → length k ≤ 255 → IsFormulaAt g r f
 unfolding equality_of word_fault is_connective
-equality_at g root r w k f x h short = go (bytes_eq w (codes "true")) (bytes_eq w (codes "false")) (bytes_eq w (codes "one")) refl refl refl h
+equality_at g root r w k f x h short =
+    go (bytes_eq w (codes "true")) (bytes_eq w (codes "false")) (bytes_eq w (codes "one")) refl refl refl h
   where
     names : (l : Bool) → cond l None (equal_of g k (pieces_of 46 w)) ≡ Some f →
         named_fault g root l (cond l (pieces_of 95 w) (pieces_of 46 w)) ≡ None → IsFormulaAt g r f
@@ -140,7 +156,8 @@ equality_at g root r w k f x h short = go (bytes_eq w (codes "true")) (bytes_eq 
     other : (v : List ℕ) → w ≡ v → equality_of g v k ≡ None → IsFormulaAt g r f
     other v s n = let y : equality_of g v k ≡ Some f = subst (λ u. equality_of g u k ≡ Some f) s x in absurd cc
 
-    go : (a b c : Bool) → bytes_eq w (codes "true") ≡ a → bytes_eq w (codes "false") ≡ b → bytes_eq w (codes "one") ≡ c →
+    go : (a b c : Bool) → bytes_eq w (codes "true") ≡ a → bytes_eq w (codes "false") ≡ b
+        → bytes_eq w (codes "one") ≡ c →
         cond (a || b || c) None (named_fault g root (is_path w) (names_in w)) ≡ None → IsFormulaAt g r f
     go true b c p q u z = other (codes "true") ((bytes_eq-Decides w (codes "true")).0 p) (true_no_equality g k)
     go false true c p q u z = other (codes "false") ((bytes_eq-Decides w (codes "false")).0 q) (false_no_equality g k)
@@ -157,4 +174,5 @@ atoms_sound g root r e = record {
 -- a formula that is found, whose atoms have no fault and whose texts are short, is one of the graph
 pub of_the_graph : FormulasAreOfTheGraph
 of_the_graph g root r ts f e x h l =
-    formula_at g root r (atoms_of g) (atoms_sound g root r e) (found_is_formula (atoms_of g) ts f x) (record { sound = h; short = l })
+    formula_at g root r (atoms_of g) (atoms_sound g root r e) (found_is_formula (atoms_of g) ts f x)
+    (record { sound = h; short = l })

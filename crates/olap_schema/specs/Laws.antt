@@ -13,5 +13,6 @@ use Rattle.olap_schema.specs.Tokens.{is_long}
 
 -- a formula whose atoms have no fault, and whose texts are short, is one of the graph at its root
 abbrev pub FormulasAreOfTheGraph : Type 0
-FormulasAreOfTheGraph = (g : Graph) (root : List ℕ) (r : ℕ) (ts : List Token) (f : Formula) → category_named g root ≡ Some r →
+FormulasAreOfTheGraph = (g : Graph) (root : List ℕ) (r : ℕ) (ts : List Token) (f : Formula)
+    → category_named g root ≡ Some r →
     the_formula (atoms_of g) ts ≡ Some f → atom_fault g root ts ≡ None → list_any is_long ts ≡ false → IsFormulaAt g r f
