@@ -57,8 +57,7 @@ plain_leaf g w =
 
 equality_leaf : (g : Graph) (w k : List ℕ) → IsLeaf (equality_of g w k)
 unfolding equality_of
-equality_leaf g w k = pick (nat_lt 1 (length (pieces_of 95 w))) None (equal_of g k (pieces_of 46 w)) no_leaf
-    (equal_leaf g k (pieces_of 46 w))
+equality_leaf g w k = equal_leaf g k (pieces_of 46 w)
 
 pub atoms_are_leaves : (g : Graph) → AreLeaves (atoms_of g)
 atoms_are_leaves g = record { plain = λ w f e. plain_leaf g w f e; equal = λ w k f e. equality_leaf g w k f e }

@@ -56,7 +56,7 @@ plain_of g w =
 
 -- a word with a string
 unfoldable pub equality_of : Graph → List ℕ → List ℕ → Option Formula
-equality_of g w k = if nat_lt 1 (length (pieces_of 95 w)) then None else equal_of g k (pieces_of 46 w)
+equality_of g w k = equal_of g k (pieces_of 46 w)
 
 abbrev pub atoms_of : Graph → Atoms Formula
 atoms_of g = record { plain = plain_of g; equal = equality_of g }

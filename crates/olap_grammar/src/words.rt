@@ -160,10 +160,6 @@ pub(crate) fn equality(
 ) -> Result<Option<Formula>, Memory>
     ensures { IfOk result (λ f. option_map formula_of f ≡ equality_of (graph_seen known.now) word.now text.now) }
 {
-    let steps = pieces(alloc, b'_', word.bytes())?;
-    if steps.len() > 1 {
-        return Ok(None);
-    }
     let parts = pieces(alloc, b'.', word.bytes())?;
     equal(alloc, known, text, &parts)
 }

@@ -5,9 +5,9 @@ pub mod Tokens
 pub mod Atoms
 pub mod Judging
 pub mod Reading
-pub mod Printing
 pub mod Shown
 pub mod Schemas
 pub mod Kinds
-pub mod PrintingLaws
 pub mod Laws
+pub mod Printing
+pub mod PrintingLaws

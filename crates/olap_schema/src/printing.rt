@@ -5,7 +5,7 @@ ghost use Rattle.olap_graph.specs.Lookups.{name_of_category};
 ghost use Rattle.olap_grammar.specs.Cutting.{joint_bytes};
 ghost use Rattle.olap_schema.specs.Printing.{atom_word, category_text, compared_word, constraint_text, edge_text, ended_line, formula_text, joined_text, list_text, names_after, rest_text, schema_text, text_of_lines};
 ghost use Rattle.olap_schema.specs.Judging.{schema_read};
-ghost use Rattle.olap_schema.specs.PrintingLaws.{IsReadable, PrintedIsRead};
+ghost use Rattle.olap_schema.specs.PrintingLaws.{PrintedIsRead};
 ghost use Rattle.olap_schema.specs.Schemas.{schema_of};
 ghost use Rattle.std.specs.Prelude.{◌≡◌, ◌++◌, [], ◌∷◌, IfOk, Ok, OnOk, codes, map};
 
@@ -164,12 +164,7 @@ fn push_list(out: &mut Vec<u8>, graph: &Graph, root: CatId, terms: &Terms) -> Re
 }
 
 #[cycle(push_formula)]
-fn push_rest(
-    out: &mut Vec<u8>,
-    graph: &Graph,
-    root: CatId,
-    terms: &Terms,
-) -> Result<(), AllocError>
+fn push_rest(out: &mut Vec<u8>, graph: &Graph, root: CatId, terms: &Terms) -> Result<(), AllocError>
     ensures { OnOk result (out.new.items ≡ out.old.items ++ rest_text graph.now root.0 (terms_of terms.now)) }
 {
     let mut left = terms;
@@ -201,11 +196,14 @@ fn push_categories(out: &mut Vec<u8>, graph: &Graph) -> Result<(), AllocError>
     Ok(())
 }
 
-fn push_edge(out: &mut Vec<u8>, graph: &Graph, child: CatId, parent: CatId) -> Result<(), AllocError>
-    ensures {
-        let edge : Edge = record { child = child.0; parent = parent.0 } in
-        OnOk result (out.new.items ≡ out.old.items ++ ended_line (edge_text graph.now edge))
-    }
+fn push_edge(
+    out: &mut Vec<u8>,
+    graph: &Graph,
+    child: CatId,
+    parent: CatId,
+) -> Result<(), AllocError>
+    ensures { let edge : Edge = record { child = child.0; parent = parent.0 } in
+        OnOk result (out.new.items ≡ out.old.items ++ ended_line (edge_text graph.now edge)) }
 {
     out.extend_from_slice(b"edge ")?;
     out.extend_from_slice(name(graph, child))?;
@@ -286,10 +284,10 @@ pub(crate) fn push_schema(
 /// The canonical text of a schema: a line for the version, each category, each edge and each constraint, in
 /// declaration order, with one space between tokens. `Memory` where there is no room for it. Linear in the text.
 ///
-/// A valid schema whose constants are text is what its canonical text is read as.
+/// The schema is what its canonical text is read as.
 pub fn print_schema(alloc: Global, schema: &Schema) -> Result<Text, Memory>
     ensures text { IfOk result (λ t. t ≡ schema_text (schema_of schema.now)) }
-    ensures reads { IsReadable (schema_of schema.now) → IfOk result (λ t. schema_read t ≡ Ok (schema_of schema.now)) }
+    ensures reads { IfOk result (λ t. schema_read t ≡ Ok (schema_of schema.now)) }
 {
     let mut out = Vec::new(alloc);
     push_schema(&mut out, schema.graph(), schema.constraints())?;

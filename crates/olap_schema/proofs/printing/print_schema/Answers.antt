@@ -7,4 +7,5 @@ use Rattle.olap_schema.proofs.printing.print_schema.Goals as goal
 pub returns-clause-reads : goal.returns-clause-reads
 returns-clause-reads c =
     let text : c.in_ok-text.text ≡ schema_text (schema_of c.args.schema.now) = search rules in
-    λ r. read_back (schema_of c.args.schema.now) c.in_ok-text.text text r
+    read_back (schema_of c.args.schema.now) c.in_ok-text.text text
+    (record { valid = c.constraints.ensures.valid; texts = c.constraints.ensures.texts })
