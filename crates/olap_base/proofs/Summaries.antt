@@ -117,7 +117,7 @@ total-filter_map {A} {B} f h (x ∷ xs) = go (h x) ∙ ap (λ t. of_some f (h x)
 swapped : (a b c d : Option Summary) → (a ⊕ b) ⊕ (c ⊕ d) ≡ (a ⊕ c) ⊕ (b ⊕ d)
 swapped a b c d =
     ⊕_assoc a b (c ⊕ d) ∙ ap (λ t. a ⊕ t) (sym (⊕_assoc b c d) ∙ ap (λ t. t ⊕ d) (⊕_comm b c) ∙ ⊕_assoc c b d)
-        ∙ sym (⊕_assoc a c (b ⊕ d))
+    ∙ sym (⊕_assoc a c (b ⊕ d))
 
 pub total_both : {A : Type 0} (f g : A → Option Summary) (xs : List A)
     → total (λ x. f x ⊕ g x) xs ≡ total f xs ⊕ total g xs

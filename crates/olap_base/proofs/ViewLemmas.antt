@@ -73,7 +73,7 @@ module _ (i : Instance) where
   unfolding value_if
   values_total facts y =
       total-map single (λ (f : Fact). f.value) (filter (λ (f : Fact). reaches i f.member y) facts)
-          ∙ total-filter (λ (f : Fact). single f.value) (λ (f : Fact). reaches i f.member y) facts
+      ∙ total-filter (λ (f : Fact). single f.value) (λ (f : Fact). reaches i f.member y) facts
 
   -- a row's summary, where its member reaches y
   row_if : ℕ → Row → Option Summary
@@ -243,7 +243,7 @@ module _ (g : Graph) (i : Instance) (w : IsLawful g i) (c y : ℕ) (m : IsMember
           total_exactly_one (λ s. ReachesVia i f.member s c) (by_source f.member) (by_source_is f.member e) (single f.value) sources (one e)
       go false e =
           total_same (λ s. cond (by_source f.member s) (single f.value) None) (λ s. None) sources (λ s k. nothing_if (by_source f.member s) (single f.value) (none s))
-              ∙ total_nothing sources
+          ∙ total_nothing sources
         where
           fails : (b : Bool) → (b ≡ true → ⊥) → b ≡ false
           fails true h = absurd (h refl)
@@ -263,7 +263,7 @@ filter_map_same : {A B : Type 0} (h k : A → Option B) (xs : List A) → ((x : 
 filter_map_same h k [] f = refl
 filter_map_same h k (x ∷ xs) f =
     ap (λ o. cons_option o (filter_map h xs)) (f x (contains_head x xs))
-        ∙ ap (cons_option (k x)) (filter_map_same h k xs (λ y c. f y (contains_cons y xs x c)))
+    ∙ ap (cons_option (k x)) (filter_map_same h k xs (λ y c. f y (contains_cons y xs x c)))
 
 agree : (g : Graph) (i : Instance) (c : ℕ) (sources : List ℕ) → IsLawful g i → ReachedByOne g i c sources
     → ViewsAgree g i c sources
@@ -414,8 +414,8 @@ only g i c sources w agrees x h b (y, m, r) =
     direct_count : row_count (direct_row y (values_at i (f ∷ []) y)) ≡ 1
     direct_count =
         ap row_count (direct_row_is y (values_at i (f ∷ []) y))
-            ∙ row_count_is y (total single (values_at i (f ∷ []) y)) ∙ ap count (values_total i (f ∷ []) y)
-            ∙ seen (reaches i x y) r'
+        ∙ row_count_is y (total single (values_at i (f ∷ []) y)) ∙ ap count (values_total i (f ∷ []) y)
+        ∙ seen (reaches i x y) r'
       where
         seen : (t : Bool) → t ≡ true → count (cond t (single (pos 1)) None ⊕ None) ≡ 1
         seen true e = refl

@@ -12,23 +12,71 @@ fn checks(rt: HostRuntime) -> Result<(), Fail> {
     let header = "id,category,name,parents\n";
     for (instance, output) in [(PLACES, "legal 17\n"), (header, "legal 0\n")] {
         let held = [("S", LOCATION), ("I", instance)];
-        check(&rt, alloc, &LINE, &held, (None, None), 400, (Status::Yes, output))?;
+        check(
+            &rt,
+            alloc,
+            &LINE,
+            &held,
+            (None, None),
+            400,
+            (Status::Yes, output),
+        )?;
     }
     let rows: [(&str, &str, &str); 6] = [
-        ("s1,Store,S1,w", "s1,Store,S1,w;to", "refused instance Partitioning \"s1\" City\n"),
-        ("au,City,Austin,tx", "au,City,Austin,tx;usa", "refused instance Shortcut \"au\" \"usa\"\n"),
-        ("s1,Store,S1,w", "s1,Store,S1,usa", "refused instance Connectivity \"s1\" \"usa\"\n"),
-        ("me,Country,Mexico,all", "me,Country,Mexico,", "refused instance NoParent \"me\"\n"),
-        ("w,City,Washington,usa", "w,City,Wash,usa", "refused instance Constraint 1 \"w\"\n"),
+        (
+            "s1,Store,S1,w",
+            "s1,Store,S1,w;to",
+            "refused instance Partitioning \"s1\" City\n",
+        ),
+        (
+            "au,City,Austin,tx",
+            "au,City,Austin,tx;usa",
+            "refused instance Shortcut \"au\" \"usa\"\n",
+        ),
+        (
+            "s1,Store,S1,w",
+            "s1,Store,S1,usa",
+            "refused instance Connectivity \"s1\" \"usa\"\n",
+        ),
+        (
+            "me,Country,Mexico,all",
+            "me,Country,Mexico,",
+            "refused instance NoParent \"me\"\n",
+        ),
+        (
+            "w,City,Washington,usa",
+            "w,City,Wash,usa",
+            "refused instance Constraint 1 \"w\"\n",
+        ),
         // The first law that is broken is told: a shortcut too, but no parent before it.
-        ("me,Country,Mexico,all\n", "me,Country,Mexico,\nx,City,Austin,tx;usa\n", "refused instance NoParent \"me\"\n"),
+        (
+            "me,Country,Mexico,all\n",
+            "me,Country,Mexico,\nx,City,Austin,tx;usa\n",
+            "refused instance NoParent \"me\"\n",
+        ),
     ];
     for (old, new, output) in rows {
         let instance = changed(alloc, PLACES, old, new)?;
         let held = [("S", LOCATION), ("I", instance.as_str())];
-        check(&rt, alloc, &LINE, &held, (None, None), 400, (Status::Refused, output))?;
+        check(
+            &rt,
+            alloc,
+            &LINE,
+            &held,
+            (None, None),
+            400,
+            (Status::Refused, output),
+        )?;
     }
     let ring = "id,category,name,parents\nb,B,b,r\nr,R,r,b\n";
     let held = [("S", CYCLE), ("I", ring)];
-    check(&rt, alloc, &LINE, &held, (None, None), 400, (Status::Refused, "refused instance Stratification \"b\"\n"))
+    check(
+        &rt,
+        alloc,
+        &LINE,
+        &held,
+        (None, None),
+        400,
+        (Status::Refused, "refused instance Stratification \"b\"\n"),
+    )
 }

@@ -11,11 +11,51 @@ const LINE: [&str; 5] = ["rollup", "S", "I", "F", "City"];
 fn faults(rt: HostRuntime) -> Result<(), Fail> {
     let alloc = rt.alloc();
     let held = [("S", CHAIN), ("I", TWO_STORES), ("F", ZERO_SUM)];
-    check(&rt, alloc, &["rollup", "X", "X", "X", "A"], &held, (None, None), 400, (Status::ReadFault, ""))?;
+    check(
+        &rt,
+        alloc,
+        &["rollup", "X", "X", "X", "A"],
+        &held,
+        (None, None),
+        400,
+        (Status::ReadFault, ""),
+    )?;
     for call in [1, 3, 8, 18] {
-        check(&rt, alloc, &LINE, &held, (Some(call), None), 400, (Status::ReadFault, ""))?;
+        check(
+            &rt,
+            alloc,
+            &LINE,
+            &held,
+            (Some(call), None),
+            400,
+            (Status::ReadFault, ""),
+        )?;
     }
-    check(&rt, alloc, &LINE, &held, (None, Some(1)), 400, (Status::WriteFault, ""))?;
-    check(&rt, alloc, &LINE, &held, (None, None), 10, (Status::WriteFault, "member,cou"))?;
-    check(&rt, alloc, &LINE, &held, (None, None), 400, (Status::Yes, CITY_VIEW))
+    check(
+        &rt,
+        alloc,
+        &LINE,
+        &held,
+        (None, Some(1)),
+        400,
+        (Status::WriteFault, ""),
+    )?;
+    check(
+        &rt,
+        alloc,
+        &LINE,
+        &held,
+        (None, None),
+        10,
+        (Status::WriteFault, "member,cou"),
+    )?;
+    check(
+        &rt,
+        alloc,
+        &LINE,
+        &held,
+        (None, None),
+        400,
+        (Status::Yes, CITY_VIEW),
+    )
 }

@@ -52,10 +52,13 @@ tellable s i v m (Unmet k x) w = w.2.0
 pub judged_is : (s : Schema) (i : Instance) → IsInstance i → IsMadeFor s.graph i → (r : Result Instance CheckRefusal) → IfOk r (λ l. IsLegal s i)
     → IfErr r (IsRefused s i) → MatchResult r (λ l. first_violation s i ≡ None) (λ e. IsBrokenBy s i e)
 judged_is s i v m (Ok l) ok err = first_violation_none s i ok
-judged_is s i v m (Err (Broken j w)) ok err = (err.0, record {
+judged_is s i v m (Err (Broken j w)) ok err = (
+  err.0,
+  record {
     violation = err.1.violation;
     first = first_violation_some s i v err.1.violation err.1.is_first;
     is_told = err.1.is_told;
-    tellable = subst (λ u. IsTellable s.graph i u) (sym err.1.is_told) (tellable s i v m err.1.violation err.1.is_first.is_one)
-  })
+    tellable = subst (λ u. IsTellable s.graph i u) (sym err.1.is_told) (tellable s i v m err.1.violation err.1.is_first.is_one);
+  },
+)
 judged_is s i v m (Err Memory) ok err = tt

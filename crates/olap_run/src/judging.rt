@@ -106,12 +106,7 @@ pub(crate) fn refuse(alloc: Global, why: &[u8]) -> Result<Reply, Fault>
 }
 
 /// A refusal of a file: the place and the number of its line or record, and the name of its fault.
-pub(crate) fn refuse_at(
-    alloc: Global,
-    place: &str,
-    at: u64,
-    fault: &str,
-) -> Result<Reply, Fault>
+pub(crate) fn refuse_at(alloc: Global, place: &str, at: u64, fault: &str) -> Result<Reply, Fault>
     ensures status { IfOk result (λ reply. reply.status ≡ Status.Refused) }
     ensures bytes { IfOk result (λ reply. reply.bytes.items ≡ refusal (fault_text place.now at fault.now)) }
     ensures memory { IsErrOf result Fault.Read → ⊥ }

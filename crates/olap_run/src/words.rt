@@ -19,9 +19,14 @@ pub(crate) enum Command<'a> {
         category: &'a str,
     },
     /// The canonical text of a schema.
-    Format { schema: &'a str },
+    Format {
+        schema: &'a str,
+    },
     /// Whether an instance is legal.
-    Check { schema: &'a str, instance: &'a str },
+    Check {
+        schema: &'a str,
+        instance: &'a str,
+    },
 }
 
 /// The command that the words are, if any.

@@ -113,9 +113,9 @@ ids_differ g (n ∷ ns) k h = go (is_known g n) (stands_in ns n) refl refl k h (
     go false r p q x y rest = absurd cc
     go true false p q x y rest = (
       λ c. let t = Contains-from_map (id_of g) ns (id_of g n) c in
-      let same : t.0 ≡ n = one_name g t.0 n (all_known g ns t.0 x t.1) p t.2 in
-      let again : stands_in ns n ≡ true = stands ns n t.0 t.1 same in
-      let no : ⊥ = cc in no,
+          let same : t.0 ≡ n = one_name g t.0 n (all_known g ns t.0 x t.1) p t.2 in
+          let again : stands_in ns n ≡ true = stands ns n t.0 t.1 same in
+          let no : ⊥ = cc in no,
       rest x y,
     )
 

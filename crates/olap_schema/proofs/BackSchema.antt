@@ -59,7 +59,7 @@ module _ (s : Schema) (v : IsValidSchema s) where
       let below = ruled s.graph (done ++ c ∷ []) (nodes + token_nodes ts) (fold with_pair pairs (equalities c.formula)) lines in
       let read : tokens_read above (n + 1) (Some (token.Word (codes "constraint") ∷ token.Word name ∷ token.Colon ∷ ts)) ≡ Ok below =
       ap (statement_read above (n + 1)) (constraint_says name ts (is_name s.graph v.hierarchy c.root l))
-          ∙ add_constraint s v short done c todo nodes pairs lines e few_nodes few_pairs in
+      ∙ add_constraint s v short done c todo nodes pairs lines e few_nodes few_pairs in
       let plain = constraint_plain s.graph v.hierarchy c l at_root (left_texts (equalities c.formula) (atoms_in todo) t) in
       let counted = nodes_are s.graph c.root c.formula in
       let sum = first_nodes c todo in
@@ -83,7 +83,7 @@ module _ (s : Schema) (v : IsValidSchema s) where
       let below = growing s.graph.names (done ++ x ∷ []) lines in
       let read : tokens_read above (n + 1) (Some (token.Word (codes "edge") ∷ token.Word child ∷ token.Word parent ∷ [])) ≡ Ok below =
       ap (statement_read above (n + 1)) (edge_says child parent (is_name s.graph v.hierarchy x.child ends.0) (is_name s.graph v.hierarchy x.parent ends.1))
-          ∙ add_edge s v short done x todo lines e in
+      ∙ add_edge s v short done x todo lines e in
       ap text_ended (goes_on above below n (edge_text s.graph x) _ (map (edge_text s.graph) todo ++ map (constraint_text s.graph) s.constraints) (edge_plain s.graph v.hierarchy x ends.0 ends.1) (edge_speaks s.graph x) (edge_tokens s.graph v.hierarchy x ends.0 ends.1) read)
       ∙ edges_back t todo (done ++ x ∷ []) (n + 1) lines (append_assoc done (x ∷ []) todo ∙ e)
 
@@ -100,7 +100,7 @@ module _ (s : Schema) (v : IsValidSchema s) where
       let below = growing (done ++ name ∷ []) [] (lines ++ (n + 1) ∷ []) in
       let read : tokens_read above (n + 1) (Some (token.Word (codes "category") ∷ token.Word name ∷ [])) ≡ Ok below =
       ap (statement_read above (n + 1)) (category_says name ((is_category_name_is name).1 is))
-          ∙ add_category s v (n + 1) done name todo lines e in
+      ∙ add_category s v (n + 1) done name todo lines e in
       ap text_ended (goes_on above below n (category_text name) _ (map category_text todo ++ (map (edge_text s.graph) s.graph.edges ++ map (constraint_text s.graph) s.constraints)) (category_plain name is) (category_speaks name) (category_tokens name is) read)
       ∙ categories_back t todo (done ++ name ∷ []) (n + 1) (lines ++ (n + 1) ∷ []) (append_assoc done (name ∷ []) todo ∙ e)
 

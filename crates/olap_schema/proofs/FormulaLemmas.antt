@@ -80,7 +80,7 @@ right_passes g root ts us p = record { sound = (passes-append g root ts us p.sou
 tail_passes : (g : Graph) (root : List ℕ) (t : Token) (ts : List Token) → Passing g root (t ∷ ts) → Passing g root ts
 tail_passes g root t ts p = record {
   sound = (passes-head g root t ts p.sound).1;
-  short = (or_false (is_long t) (list_any is_long ts) p.short).1
+  short = (or_false (is_long t) (list_any is_long ts) p.short).1;
 }
 
 short_text : (k : List ℕ) → is_long (token.Quoted k) ≡ false → length k ≤ 255
