@@ -10,6 +10,7 @@ pub mod ValidAtoms
 pub mod ValidFormulas
 pub mod ValidGraphs
 pub mod ValidTexts
+pub mod ValidSteps
 pub mod ValidSchemas
 pub mod PrintTokens
 pub mod PrintNames
@@ -27,5 +28,3 @@ pub mod BackGraph
 pub mod BackConstraints
 pub mod BackLineTokens
 pub mod BackSchema
-pub mod FormulaLemmas
-pub mod AtomLemmas

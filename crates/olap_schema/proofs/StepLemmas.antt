@@ -62,7 +62,8 @@ pub data Step (a b : Above) : Type 0 where
   constraint : (name : List ℕ) (ts : List Token) (f : Formula) (root : ℕ) → AddsConstraint a b name ts f root → Step a b
 
 -- a test behind which there is a fault was not passed
-pub passed_on : {A K : Type 0} (c : Bool) (k : K) (r : Result A K) (b : A) → cond c (Err k) r ≡ Ok b → (c ≡ false) × (r ≡ Ok b)
+pub passed_on : {A K : Type 0} (c : Bool) (k : K) (r : Result A K) (b : A) → cond c (Err k) r ≡ Ok b
+    → (c ≡ false) × (r ≡ Ok b)
 passed_on true k r b h = absurd (cc)
 passed_on false k r b h = (refl, h)
 
@@ -84,19 +85,24 @@ category_step a b n name h = go (category_refusal a.graph name) refl t.1
     t : (nat_lt 255 (length name) ≡ false) × (category_added a n name (category_refusal a.graph name) ≡ Ok b)
     t = passed_on _ _ _ _ h
 
-    go : (o : Option CategoryRefusal) → category_refusal a.graph name ≡ o → category_added a n name o ≡ Ok b → AddsCategory a b n name
+    go : (o : Option CategoryRefusal) → category_refusal a.graph name ≡ o → category_added a n name o ≡ Ok b
+        → AddsCategory a b n name
     go None e k = record { short = t.0; free = e; new = ok_is _ _ k }
     go (Some r) e k = absurd (cc)
 
-edge_step : (a b : Above) (child parent : List ℕ) → edge_read a child parent ≡ Ok b → (c : ℕ) × (d : ℕ) × AddsEdge a b child parent c d
-edge_step a b child parent h = ends (category_named a.graph child) (category_named a.graph parent) refl refl (passed_on _ _ _ _ h).1
+edge_step : (a b : Above) (child parent : List ℕ) → edge_read a child parent ≡ Ok b
+    → (c : ℕ) × (d : ℕ) × AddsEdge a b child parent c d
+edge_step a b child parent h =
+    ends (category_named a.graph child) (category_named a.graph parent) refl refl (passed_on _ _ _ _ h).1
   where
-    go : (c d : ℕ) → category_named a.graph child ≡ Some c → category_named a.graph parent ≡ Some d → (o : Option EdgeRefusal)
+    go : (c d : ℕ) → category_named a.graph child ≡ Some c → category_named a.graph parent ≡ Some d
+        → (o : Option EdgeRefusal)
         → edge_refusal a.graph c d ≡ o → edge_added a c d o ≡ Ok b → AddsEdge a b child parent c d
     go c d p q None e k = record { child_is = p; parent_is = q; free = e; new = ok_is _ _ k }
     go c d p q (Some r) e k = absurd (cc)
 
-    ends : (o r : Option ℕ) → category_named a.graph child ≡ o → category_named a.graph parent ≡ r → ends_read a o r ≡ Ok b
+    ends : (o r : Option ℕ) → category_named a.graph child ≡ o → category_named a.graph parent ≡ r
+        → ends_read a o r ≡ Ok b
         → (c : ℕ) × (d : ℕ) × AddsEdge a b child parent c d
     ends None r p q k = absurd (cc)
     ends (Some c) None p q k = absurd (cc)
@@ -106,15 +112,28 @@ constraint_step : (a b : Above) (name : List ℕ) (ts : List Token) → AreFine 
     → (f : Formula) × (root : ℕ) × AddsConstraint a b name ts f root
 constraint_step a b name ts fine h = formed (form_read a.graph a.nodes ts) refl h
   where
-    faults : (f : Formula) (root : ℕ) → form_read a.graph a.nodes ts ≡ Ok f → list_any is_long ts ≡ false → category_named a.graph name ≡ Some root
-        → root == 0 ≡ false → nat_le 64 (length a.constraints) ≡ false → (o : Option SchemaKind) → atom_fault a.graph name ts ≡ o
+    faults : (f : Formula) (root : ℕ) → form_read a.graph a.nodes ts ≡ Ok f → list_any is_long ts ≡ false
+        → category_named a.graph name ≡ Some root
+        → root == 0 ≡ false → nat_le 64 (length a.constraints) ≡ false → (o : Option SchemaKind)
+        → atom_fault a.graph name ts ≡ o
         → atoms_read a root ts f o ≡ Ok b → AddsConstraint a b name ts f root
     faults f root e l r z n (Some k) q g = absurd (cc)
     faults f root e l r z n None q g =
         let t = passed_on _ _ _ _ g in
-        record { formed = e; short = l; root_is = r; below_all = z; few = n; faultless = q; fine = fine; few_pairs = t.0; new = ok_is _ _ t.1 }
+        record {
+          formed = e;
+          short = l;
+          root_is = r;
+          below_all = z;
+          few = n;
+          faultless = q;
+          fine = fine;
+          few_pairs = t.0;
+          new = ok_is _ _ t.1;
+        }
 
-    rooted : (f : Formula) → form_read a.graph a.nodes ts ≡ Ok f → list_any is_long ts ≡ false → (o : Option ℕ) → category_named a.graph name ≡ o
+    rooted : (f : Formula) → form_read a.graph a.nodes ts ≡ Ok f → list_any is_long ts ≡ false → (o : Option ℕ)
+        → category_named a.graph name ≡ o
         → root_read a name ts f o ≡ Ok b → (root : ℕ) × AddsConstraint a b name ts f root
     rooted f e l None r g = absurd (cc)
     rooted f e l (Some root) r g =
@@ -126,7 +145,9 @@ constraint_step a b name ts fine h = formed (form_read a.graph a.nodes ts) refl 
     formed (Err k) e g = absurd (cc)
     formed (Ok f) e g =
         let t = passed_on _ _ _ _ g in
-        let r = rooted f e (neither (nat_lt 255 (length name)) (list_any is_long ts) t.0) (category_named a.graph name) refl t.1 in
+        let r =
+        rooted f e (neither (nat_lt 255 (length name)) (list_any is_long ts) t.0)
+        (category_named a.graph name) refl t.1 in
         (f, r.0, r.1)
 
 -- a name behind `category` is a category name
@@ -134,29 +155,40 @@ named : (ts : List Token) (name : List ℕ) → statement_of ts ≡ Category nam
 unfolding statement_of
 named ts name e = version (is_version ts) e
   where
-    constraint : (c : Bool) → cond c (Constraint (word_at ts 1) (drop 3 ts)) Other ≡ Category name → is_category_name name ≡ true
+    constraint : (c : Bool) → cond c (Constraint (word_at ts 1) (drop 3 ts)) Other ≡ Category name
+        → is_category_name name ≡ true
     constraint true h = absurd (cc)
     constraint false h = absurd (cc)
 
-    edge : (c : Bool) → cond c (Edge (word_at ts 1) (word_at ts 2)) (cond (nat_le 3 (length ts) && is_constraint ts) (Constraint (word_at ts 1) (drop 3 ts)) Other)
+    edge : (c : Bool)
+        → cond c (Edge (word_at ts 1) (word_at ts 2))
+        (cond (nat_le 3 (length ts) && is_constraint ts) (Constraint (word_at ts 1) (drop 3 ts)) Other)
         ≡ Category name → is_category_name name ≡ true
     edge true h = absurd (cc)
     edge false h = constraint (nat_le 3 (length ts) && is_constraint ts) h
 
-    category : (c : Bool) → is_category ts ≡ c → cond c (Category (word_at ts 1)) (cond (is_edge ts) (Edge (word_at ts 1) (word_at ts 2))
-        (cond (nat_le 3 (length ts) && is_constraint ts) (Constraint (word_at ts 1) (drop 3 ts)) Other)) ≡ Category name → is_category_name name ≡ true
+    category : (c : Bool) → is_category ts ≡ c
+        → cond c (Category (word_at ts 1)) (cond (is_edge ts) (Edge (word_at ts 1) (word_at ts 2))
+        (cond (nat_le 3 (length ts) && is_constraint ts)
+        (Constraint (word_at ts 1) (drop 3 ts)) Other)) ≡ Category name → is_category_name name ≡ true
     category true k h =
         let same : word_at ts 1 ≡ name = cc in
-        subst (λ w. is_category_name w ≡ true) same (last_true (length ts == 2) (bytes_eq (word_at ts 0) (codes "category")) (is_category_name (word_at ts 1)) k)
+        subst (λ w. is_category_name w ≡ true) same
+        (last_true (length ts == 2) (bytes_eq (word_at ts 0) (codes "category"))
+        (is_category_name (word_at ts 1)) k)
     category false k h = edge (is_edge ts) h
 
-    version : (c : Bool) → cond c Version (cond (is_category ts) (Category (word_at ts 1)) (cond (is_edge ts) (Edge (word_at ts 1) (word_at ts 2))
-        (cond (nat_le 3 (length ts) && is_constraint ts) (Constraint (word_at ts 1) (drop 3 ts)) Other))) ≡ Category name → is_category_name name ≡ true
+    version : (c : Bool)
+        → cond c Version
+        (cond (is_category ts) (Category (word_at ts 1)) (cond (is_edge ts) (Edge (word_at ts 1) (word_at ts 2))
+        (cond (nat_le 3 (length ts) && is_constraint ts)
+        (Constraint (word_at ts 1) (drop 3 ts)) Other))) ≡ Category name → is_category_name name ≡ true
     version true h = absurd (cc)
     version false h = category (is_category ts) refl h
 
 -- the tokens behind the colon are tokens of the line
-formula_fine : (ts : List Token) (root : List ℕ) (us : List Token) → statement_of ts ≡ Constraint root us → AreFine ts → AreFine us
+formula_fine : (ts : List Token) (root : List ℕ) (us : List Token) → statement_of ts ≡ Constraint root us → AreFine ts
+    → AreFine us
 unfolding statement_of
 formula_fine ts root us e fine = version (is_version ts) e
   where
@@ -165,29 +197,38 @@ formula_fine ts root us e fine = version (is_version ts) e
     constraint false h = absurd (cc)
 
     edge : (c : Bool) → cond c (Edge (word_at ts 1) (word_at ts 2))
-        (cond (nat_le 3 (length ts) && is_constraint ts) (Constraint (word_at ts 1) (drop 3 ts)) Other) ≡ Constraint root us → AreFine us
+        (cond (nat_le 3 (length ts) && is_constraint ts)
+        (Constraint (word_at ts 1) (drop 3 ts)) Other) ≡ Constraint root us → AreFine us
     edge true h = absurd (cc)
     edge false h = constraint (nat_le 3 (length ts) && is_constraint ts) h
 
     category : (c : Bool) → cond c (Category (word_at ts 1)) (cond (is_edge ts) (Edge (word_at ts 1) (word_at ts 2))
-        (cond (nat_le 3 (length ts) && is_constraint ts) (Constraint (word_at ts 1) (drop 3 ts)) Other)) ≡ Constraint root us → AreFine us
+        (cond (nat_le 3 (length ts) && is_constraint ts)
+        (Constraint (word_at ts 1) (drop 3 ts)) Other)) ≡ Constraint root us → AreFine us
     category true h = absurd (cc)
     category false h = edge (is_edge ts) h
 
-    version : (c : Bool) → cond c Version (cond (is_category ts) (Category (word_at ts 1)) (cond (is_edge ts) (Edge (word_at ts 1) (word_at ts 2))
-        (cond (nat_le 3 (length ts) && is_constraint ts) (Constraint (word_at ts 1) (drop 3 ts)) Other))) ≡ Constraint root us → AreFine us
+    version : (c : Bool)
+        → cond c Version
+        (cond (is_category ts) (Category (word_at ts 1)) (cond (is_edge ts) (Edge (word_at ts 1) (word_at ts 2))
+        (cond (nat_le 3 (length ts) && is_constraint ts)
+        (Constraint (word_at ts 1) (drop 3 ts)) Other))) ≡ Constraint root us → AreFine us
     version true h = absurd (cc)
     version false h = category (is_category ts) h
 
-statement_step : (a b : Above) (n : ℕ) (s : Statement) → ((name : List ℕ) → s ≡ Category name → is_category_name name ≡ true)
+statement_step : (a b : Above) (n : ℕ) (s : Statement)
+    → ((name : List ℕ) → s ≡ Category name → is_category_name name ≡ true)
     → ((root : List ℕ) (ts : List Token) → s ≡ Constraint root ts → AreFine ts) → statement_read a n s ≡ Ok b → Step a b
 statement_step a b n Version m fine h = absurd (cc)
 statement_step a b n (Category name) m fine h = category n name (m name refl) (category_step a b n name h)
-statement_step a b n (Edge child parent) m fine h = let t = edge_step a b child parent h in edge child parent t.0 t.1 t.2
-statement_step a b n (Constraint root ts) m fine h = let t = constraint_step a b root ts (fine root ts refl) h in constraint root ts t.0 t.1 t.2
+statement_step a b n (Edge child parent) m fine h = let t = edge_step a b child parent h in
+    edge child parent t.0 t.1 t.2
+statement_step a b n (Constraint root ts) m fine h = let t = constraint_step a b root ts (fine root ts refl) h in
+    constraint root ts t.0 t.1 t.2
 statement_step a b n Other m fine h = absurd (cc)
 
-tokens_step : (a b : Above) (n : ℕ) (o : Option (List Token)) → ((ts : List Token) → o ≡ Some ts → AreFine ts) → tokens_read a n o ≡ Ok b → Step a b
+tokens_step : (a b : Above) (n : ℕ) (o : Option (List Token)) → ((ts : List Token) → o ≡ Some ts → AreFine ts)
+    → tokens_read a n o ≡ Ok b → Step a b
 tokens_step a b n None fine h = absurd (cc)
 tokens_step a b n (Some ts) fine h = go a.versioned h
   where
@@ -196,7 +237,9 @@ tokens_step a b n (Some ts) fine h = go a.versioned h
     first false h = absurd (cc)
 
     go : (c : Bool) → cond c (statement_read a n (statement_of ts)) (first_read a ts) ≡ Ok b → Step a b
-    go true h = statement_step a b n (statement_of ts) (λ name e. named ts name e) (λ root us e. formula_fine ts root us e (fine ts refl)) h
+    go true h =
+        statement_step a b n (statement_of ts) (λ name e. named ts name e)
+        (λ root us e. formula_fine ts root us e (fine ts refl)) h
     go false h = first (is_version ts) h
 
 -- a line without a fault goes on in one of the ways
@@ -212,10 +255,13 @@ stepped a b n line h = go (is_quiet line) t.1
     go false h = tokens_step a b n (tokens_of line) (λ ts e. line_is_fine line ts t.0 e) h
 
 -- what each line keeps, all lines keep
-pub all_steps : (P : Above → Type 0) → ((a b : Above) → Step a b → P a → P b) → (a b : Above) (n : ℕ) (lines : List (List ℕ))
+pub all_steps : (P : Above → Type 0) → ((a b : Above) → Step a b → P a → P b)
+    → (a b : Above) (n : ℕ) (lines : List (List ℕ))
     → lines_on (Ok a) n lines ≡ Ok b → P a → P b
 all_steps P keeps a b n [] h p = subst P (sym (ok_is _ _ h)) p
-all_steps P keeps a b n (line ∷ lines) h p = go (line_read a (n + 1) (chomped line)) refl h (λ c e k. all_steps P keeps c b (n + 1) lines k (keeps a c (stepped a c _ _ e) p))
+all_steps P keeps a b n (line ∷ lines) h p =
+    go (line_read a (n + 1) (chomped line)) refl h
+    (λ c e k. all_steps P keeps c b (n + 1) lines k (keeps a c (stepped a c _ _ e) p))
   where
     go : (r : Result Above SchemaKind) → line_read a (n + 1) (chomped line) ≡ r → lines_on r (n + 1) lines ≡ Ok b
         → ((c : Above) → line_read a (n + 1) (chomped line) ≡ Ok c → lines_on (Ok c) (n + 1) lines ≡ Ok b → P b) → P b

@@ -28,17 +28,21 @@ is_formula true o f h = absurd (cc)
 is_formula false o f h = (refl, h)
 
 -- each of the names is that of a category
-names_known : (g : Graph) (root : List ℕ) (path : Bool) (ns : List (List ℕ)) → named_fault g root path ns ≡ None → list_all (is_known g) ns ≡ true
+names_known : (g : Graph) (root : List ℕ) (path : Bool) (ns : List (List ℕ)) → named_fault g root path ns ≡ None
+    → list_all (is_known g) ns ≡ true
 names_known g root path ns h = not_false (list_all (is_known g) ns) (no_fault _ _ _ h).0
 
 -- so is each place of the list
-name_known : (g : Graph) (ns : List (List ℕ)) (k : ℕ) → list_all (is_known g) ns ≡ true → k < length ns → IsCategory g (id_of g (slice_index_or ns k []))
-name_known g ns k h l = known_category g (get_or ns k []) (all_known g ns h (get_or ns k []) (Contains-get_or ns k [] l))
+name_known : (g : Graph) (ns : List (List ℕ)) (k : ℕ) → list_all (is_known g) ns ≡ true → k < length ns
+    → IsCategory g (id_of g (slice_index_or ns k []))
+name_known g ns k h l =
+    known_category g (get_or ns k []) (all_known g ns h (get_or ns k []) (Contains-get_or ns k [] l))
 
 -- ---- a word by itself
 
 -- a path whose names have no fault
-path_is_valid : (g : Graph) (root : List ℕ) (c : ℕ) (ns : List (List ℕ)) (f : Formula) → category_named g root ≡ Some c → 1 < length ns
+path_is_valid : (g : Graph) (root : List ℕ) (c : ℕ) (ns : List (List ℕ)) (f : Formula)
+    → category_named g root ≡ Some c → 1 < length ns
     → named_fault g root true ns ≡ None → path_of g ns ≡ Some f → IsFormulaAt g c f
 path_is_valid g root c [] f r l h e = absurd (omega arith)
 path_is_valid g root c (n ∷ []) f r l h e = absurd (omega arith)
@@ -54,15 +58,19 @@ path_is_valid g root c (n ∷ m ∷ ms) f r l h e =
     let chain = follows g n (m ∷ ms) split.0 split.1 (subst (λ x. lacks_edge g x (m ∷ ms) ≡ false) (sym first) edges) in
     let apart = differ g (n ∷ m ∷ ms) known unrepeated in
     let is : Meaning.Formula.Path (map (id_of g) (m ∷ ms)) ≡ f = path_formula (is_formula _ _ _ e).1 in
-    subst (IsFormulaAt g c) is (subst (λ x. IsFormulaAt g x (Meaning.Formula.Path (map (id_of g) (m ∷ ms)))) root_is (some_names, chain, apart))
+    subst (IsFormulaAt g c) is
+    (subst (λ x. IsFormulaAt g x (Meaning.Formula.Path (map (id_of g) (m ∷ ms)))) root_is
+    (some_names, chain, apart))
   where
-    path_formula : Some (Meaning.Formula.Path (map (id_of g) (m ∷ ms))) ≡ Some f → Meaning.Formula.Path (map (id_of g) (m ∷ ms)) ≡ f
+    path_formula : Some (Meaning.Formula.Path (map (id_of g) (m ∷ ms))) ≡ Some f
+        → Meaning.Formula.Path (map (id_of g) (m ∷ ms)) ≡ f
     path_formula q = cc
 
     some_names : map (id_of g) (m ∷ ms) ≢ []
     some_names q = let z = ap length q in omega (arith, z)
 
-reach_is_valid : (g : Graph) (root : List ℕ) (c : ℕ) (ns : List (List ℕ)) (f : Formula) → named_fault g root false ns ≡ None → reach_of g ns ≡ Some f
+reach_is_valid : (g : Graph) (root : List ℕ) (c : ℕ) (ns : List (List ℕ)) (f : Formula)
+    → named_fault g root false ns ≡ None → reach_of g ns ≡ Some f
     → IsFormulaAt g c f
 reach_is_valid g root c ns f h e = two (length ns == 2) refl (is_formula _ _ _ e).1
   where
@@ -70,7 +78,10 @@ reach_is_valid g root c ns f h e = two (length ns == 2) refl (is_formula _ _ _ e
     known = names_known g root false ns h
 
     three : (b : Bool) → length ns == 3 ≡ b
-        → cond b (Some (Meaning.Formula.Via (id_of g (slice_index_or ns 1 [])) (id_of g (slice_index_or ns 2 [])))) None ≡ Some f → IsFormulaAt g c f
+        → cond b
+        (Some
+        (Meaning.Formula.Via (id_of g (slice_index_or ns 1 []))
+        (id_of g (slice_index_or ns 2 [])))) None ≡ Some f → IsFormulaAt g c f
     three true q k =
         let l = eqb-true (length ns) 3 q in
         let is : Meaning.Formula.Via (id_of g (slice_index_or ns 1 [])) (id_of g (slice_index_or ns 2 [])) ≡ f = cc in
@@ -78,7 +89,10 @@ reach_is_valid g root c ns f h e = two (length ns == 2) refl (is_formula _ _ _ e
     three false q k = absurd (cc)
 
     two : (b : Bool) → length ns == 2 ≡ b → cond b (Some (Meaning.Formula.Reach (id_of g (slice_index_or ns 1 []))))
-        (cond (length ns == 3) (Some (Meaning.Formula.Via (id_of g (slice_index_or ns 1 [])) (id_of g (slice_index_or ns 2 [])))) None) ≡ Some f → IsFormulaAt g c f
+        (cond (length ns == 3)
+        (Some
+        (Meaning.Formula.Via (id_of g (slice_index_or ns 1 []))
+        (id_of g (slice_index_or ns 2 [])))) None) ≡ Some f → IsFormulaAt g c f
     two true q k =
         let l = eqb-true (length ns) 2 q in
         let is : Meaning.Formula.Reach (id_of g (slice_index_or ns 1 [])) ≡ f = cc in
@@ -96,31 +110,40 @@ one_alone : (g : Graph) (f : Formula) → plain_of g (codes "one") ≡ Some f �
 unfolding plain_of pieces_of
 one_alone g f e = one_unreached g f e
 
-pub plain_is_valid : (g : Graph) (root : List ℕ) (c : ℕ) (w : List ℕ) (f : Formula) → category_named g root ≡ Some c → word_fault g root w ≡ None
+pub plain_is_valid : (g : Graph) (root : List ℕ) (c : ℕ) (w : List ℕ) (f : Formula) → category_named g root ≡ Some c
+    → word_fault g root w ≡ None
     → plain_of g w ≡ Some f → IsFormulaAt g c f
 unfolding plain_of word_fault is_connective
 plain_is_valid g root c w f r h e = truth (bytes_eq w (codes "true")) h e
   where
-    named : (p : Bool) → nat_lt 1 (length (pieces_of 95 w)) ≡ p → named_fault g root p (cond p (pieces_of 95 w) (pieces_of 46 w)) ≡ None
+    named : (p : Bool) → nat_lt 1 (length (pieces_of 95 w)) ≡ p
+        → named_fault g root p (cond p (pieces_of 95 w) (pieces_of 46 w)) ≡ None
         → cond p (path_of g (pieces_of 95 w)) (reach_of g (pieces_of 46 w)) ≡ Some f → IsFormulaAt g c f
     named true q k d = path_is_valid g root c (pieces_of 95 w) f r (ltb-true 1 (length (pieces_of 95 w)) q) k d
     named false q k d = reach_is_valid g root c (pieces_of 46 w) f k d
 
     one : (b : Bool) → bytes_eq w (codes "one") ≡ b → cond b None (named_fault g root (is_path w) (names_in w)) ≡ None
-        → cond (nat_lt 1 (length (pieces_of 95 w))) (path_of g (pieces_of 95 w)) (reach_of g (pieces_of 46 w)) ≡ Some f → plain_of g w ≡ Some f
+        → cond (nat_lt 1 (length (pieces_of 95 w))) (path_of g (pieces_of 95 w))
+        (reach_of g (pieces_of 46 w)) ≡ Some f → plain_of g w ≡ Some f
         → IsFormulaAt g c f
     one true q k d p = absurd (one_alone g f (subst (λ x. plain_of g x ≡ Some f) (same_bytes w (codes "one") q) p))
     one false q k d p = named (nat_lt 1 (length (pieces_of 95 w))) refl k d
 
-    falsity : (b : Bool) → cond (b || bytes_eq w (codes "one")) None (named_fault g root (is_path w) (names_in w)) ≡ None
-        → cond b (Some Meaning.Formula.Falsity) (cond (nat_lt 1 (length (pieces_of 95 w))) (path_of g (pieces_of 95 w)) (reach_of g (pieces_of 46 w))) ≡ Some f
+    falsity : (b : Bool)
+        → cond (b || bytes_eq w (codes "one")) None (named_fault g root (is_path w) (names_in w)) ≡ None
+        → cond b (Some Meaning.Formula.Falsity)
+        (cond (nat_lt 1 (length (pieces_of 95 w))) (path_of g (pieces_of 95 w))
+        (reach_of g (pieces_of 46 w))) ≡ Some f
         → plain_of g w ≡ Some f → IsFormulaAt g c f
     falsity true k d p = let is : Meaning.Formula.Falsity ≡ f = cc in subst (IsFormulaAt g c) is tt
     falsity false k d p = one (bytes_eq w (codes "one")) refl k d p
 
-    truth : (b : Bool) → cond ((b || bytes_eq w (codes "false")) || bytes_eq w (codes "one")) None (named_fault g root (is_path w) (names_in w)) ≡ None
+    truth : (b : Bool)
+        → cond ((b || bytes_eq w (codes "false")) || bytes_eq w (codes "one")) None
+        (named_fault g root (is_path w) (names_in w)) ≡ None
         → cond b (Some Meaning.Formula.Truth) (cond (bytes_eq w (codes "false")) (Some Meaning.Formula.Falsity)
-        (cond (nat_lt 1 (length (pieces_of 95 w))) (path_of g (pieces_of 95 w)) (reach_of g (pieces_of 46 w)))) ≡ Some f → IsFormulaAt g c f
+        (cond (nat_lt 1 (length (pieces_of 95 w))) (path_of g (pieces_of 95 w))
+        (reach_of g (pieces_of 46 w)))) ≡ Some f → IsFormulaAt g c f
     truth true k d = let is : Meaning.Formula.Truth ≡ f = cc in subst (IsFormulaAt g c) is tt
     truth false k d = falsity (bytes_eq w (codes "false")) k d e
 
@@ -135,12 +158,14 @@ not_reserved w h = go w ((is_category_name_is w).0 h)
     go (b ∷ bs) n = n.2
 
 -- a word whose pieces at `.` are category names is no reserved word
-no_reserved : (w r : List ℕ) → list_all is_category_name (pieces_of 46 w) ≡ true → pieces_of 46 r ≡ r ∷ [] → Contains reserved r → bytes_eq w r ≡ false
+no_reserved : (w r : List ℕ) → list_all is_category_name (pieces_of 46 w) ≡ true → pieces_of 46 r ≡ r ∷ []
+    → Contains reserved r → bytes_eq w r ≡ false
 no_reserved w r h one c = go (bytes_eq w r) refl
   where
     go : (b : Bool) → bytes_eq w r ≡ b → bytes_eq w r ≡ false
     go true q =
-        let names : list_all is_category_name (pieces_of 46 r) ≡ true = subst (λ x. list_all is_category_name (pieces_of 46 x) ≡ true) (same_bytes w r q) h in
+        let names : list_all is_category_name (pieces_of 46 r) ≡ true =
+        subst (λ x. list_all is_category_name (pieces_of 46 x) ≡ true) (same_bytes w r q) h in
         let alone : list_all is_category_name (r ∷ []) ≡ true = rw one at names in
         absurd (not_reserved r (first_holds (is_category_name r) true alone).0 c)
     go false q = q
@@ -151,13 +176,16 @@ not_connective w h =
     let t : bytes_eq w (codes "true") ≡ false = no_reserved w (codes "true") h refl (0, omega arith, refl) in
     let f : bytes_eq w (codes "false") ≡ false = no_reserved w (codes "false") h refl (1, omega arith, refl) in
     let o : bytes_eq w (codes "one") ≡ false = no_reserved w (codes "one") h refl (2, omega arith, refl) in
-    ap (λ b. (b || bytes_eq w (codes "false")) || bytes_eq w (codes "one")) t ∙ ap (λ b. b || bytes_eq w (codes "one")) f ∙ o
+    ap (λ b. (b || bytes_eq w (codes "false")) || bytes_eq w (codes "one")) t
+    ∙ ap (λ b. b || bytes_eq w (codes "one")) f ∙ o
 
-equality_is_valid : (g : Graph) (c : ℕ) (k : List ℕ) (ns : List (List ℕ)) (f : Formula) → list_all (is_known g) ns ≡ true → length k ≤ 255
+equality_is_valid : (g : Graph) (c : ℕ) (k : List ℕ) (ns : List (List ℕ)) (f : Formula)
+    → list_all (is_known g) ns ≡ true → length k ≤ 255
     → equal_of g k ns ≡ Some f → IsFormulaAt g c f
 equality_is_valid g c k ns f known short e = one (length ns == 1) refl (is_formula _ _ _ e).1
   where
-    two : (b : Bool) → length ns == 2 ≡ b → cond b (Some (Meaning.Formula.Equals (id_of g (slice_index_or ns 1 [])) k)) None ≡ Some f → IsFormulaAt g c f
+    two : (b : Bool) → length ns == 2 ≡ b
+        → cond b (Some (Meaning.Formula.Equals (id_of g (slice_index_or ns 1 [])) k)) None ≡ Some f → IsFormulaAt g c f
     two true q d =
         let l = eqb-true (length ns) 2 q in
         let is : Meaning.Formula.Equals (id_of g (slice_index_or ns 1 [])) k ≡ f = cc in
@@ -165,14 +193,16 @@ equality_is_valid g c k ns f known short e = one (length ns == 1) refl (is_formu
     two false q d = absurd (cc)
 
     one : (b : Bool) → length ns == 1 ≡ b → cond b (Some (Meaning.Formula.Equals (id_of g (slice_index_or ns 0 [])) k))
-        (cond (length ns == 2) (Some (Meaning.Formula.Equals (id_of g (slice_index_or ns 1 [])) k)) None) ≡ Some f → IsFormulaAt g c f
+        (cond (length ns == 2) (Some (Meaning.Formula.Equals (id_of g (slice_index_or ns 1 [])) k)) None) ≡ Some f
+        → IsFormulaAt g c f
     one true q d =
         let l = eqb-true (length ns) 1 q in
         let is : Meaning.Formula.Equals (id_of g (slice_index_or ns 0 [])) k ≡ f = cc in
         subst (IsFormulaAt g c) is (name_known g ns 0 known (omega arith), short)
     one false q d = two (length ns == 2) refl d
 
-pub equal_is_valid : (g : Graph) (root : List ℕ) (c : ℕ) (w k : List ℕ) (f : Formula) → word_fault g root w ≡ None → length k ≤ 255
+pub equal_is_valid : (g : Graph) (root : List ℕ) (c : ℕ) (w k : List ℕ) (f : Formula) → word_fault g root w ≡ None
+    → length k ≤ 255
     → equality_of g w k ≡ Some f → IsFormulaAt g c f
 unfolding equality_of word_fault
 equal_is_valid g root c w k f h short e =

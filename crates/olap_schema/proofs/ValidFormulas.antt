@@ -40,15 +40,19 @@ nor_later : (o p : Option SchemaKind) → o ≡ None → p ≡ None → or_later
 nor_later None p h k = k
 nor_later (Some q) p h k = absurd (cc)
 
-first_faultless : (g : Graph) (root : List ℕ) (t : Token) (ts : List Token) → AreFaultless g root (t ∷ ts) → (token_fault g root t ≡ None) × (is_long t ≡ false)
+first_faultless : (g : Graph) (root : List ℕ) (t : Token) (ts : List Token) → AreFaultless g root (t ∷ ts)
+    → (token_fault g root t ≡ None) × (is_long t ≡ false)
 unfolding atom_fault
 first_faultless g root t ts h = ((no_earlier _ _ h.faultless).0, (none_holds _ _ h.short).0)
 
-others_faultless : (g : Graph) (root : List ℕ) (t : Token) (ts : List Token) → AreFaultless g root (t ∷ ts) → AreFaultless g root ts
+others_faultless : (g : Graph) (root : List ℕ) (t : Token) (ts : List Token) → AreFaultless g root (t ∷ ts)
+    → AreFaultless g root ts
 unfolding atom_fault
-others_faultless g root t ts h = record { faultless = (no_earlier _ _ h.faultless).1; short = (none_holds _ _ h.short).1 }
+others_faultless g root t ts h =
+    record { faultless = (no_earlier _ _ h.faultless).1; short = (none_holds _ _ h.short).1 }
 
-parts_faultless : (g : Graph) (root : List ℕ) (ts us : List Token) → AreFaultless g root (ts ++ us) → AreFaultless g root ts × AreFaultless g root us
+parts_faultless : (g : Graph) (root : List ℕ) (ts us : List Token) → AreFaultless g root (ts ++ us)
+    → AreFaultless g root ts × AreFaultless g root us
 unfolding atom_fault
 parts_faultless g root [] us h = (record { faultless = refl; short = refl }, h)
 parts_faultless g root (t ∷ ts) us h =
@@ -62,7 +66,8 @@ short_constant : (k : List ℕ) → is_long (token.Quoted k) ≡ false → lengt
 unfolding is_long
 short_constant k h = ltb-false 255 (length k) h
 
-join_is_valid : (g : Graph) (c : ℕ) (j : Joint) (f h : Formula) → IsFormulaAt g c f → IsFormulaAt g c h → IsFormulaAt g c (join j f h)
+join_is_valid : (g : Graph) (c : ℕ) (j : Joint) (f h : Formula) → IsFormulaAt g c f → IsFormulaAt g c h
+    → IsFormulaAt g c (join j f h)
 join_is_valid g c joint.Iff f h p q = (p, q)
 join_is_valid g c joint.Implies f h p q = (p, q)
 join_is_valid g c joint.Xor f h p q = (p, q)
@@ -72,28 +77,39 @@ join_is_valid g c joint.And f h p q = (p, q)
 module _ (g : Graph) (root : List ℕ) (c : ℕ) (root_is : category_named g root ≡ Some c) where
   mutual
     -- a formula whose atoms have no fault is one of the graph
-    pub formula_is_valid : {n : ℕ} {ts : List Token} {f : Formula} → IsFormula (atoms_of g) n ts f → AreFaultless g root ts → IsFormulaAt g c f
+    pub formula_is_valid : {n : ℕ} {ts : List Token} {f : Formula} → IsFormula (atoms_of g) n ts f
+        → AreFaultless g root ts → IsFormulaAt g c f
     formula_is_valid (looser d) h = formula_is_valid d h
     formula_is_valid (joined j {left = left} {right = right} {f = f} {g = k} d e) h =
         let t = parts_faultless g root left (token.Joint j ∷ right) h in
-        join_is_valid g c j f k (formula_is_valid d t.0) (formula_is_valid e (others_faultless g root (token.Joint j) right t.1))
+        join_is_valid g c j f k (formula_is_valid d t.0)
+        (formula_is_valid e (others_faultless g root (token.Joint j) right t.1))
     formula_is_valid (negated {ts = ts} d) h = formula_is_valid d (others_faultless g root token.Not ts h)
     formula_is_valid (bracketed {ts = ts} d) h =
-        formula_is_valid d (parts_faultless g root ts (token.Close ∷ []) (others_faultless g root token.Open (ts ++ token.Close ∷ []) h)).0
+        formula_is_valid d
+        (parts_faultless g root ts (token.Close ∷ [])
+        (others_faultless g root token.Open (ts ++ token.Close ∷ []) h)).0
     formula_is_valid (listed {ts = ts} d) h =
         let rest = others_faultless g root (token.Word (codes "one")) (token.Open ∷ (ts ++ token.Close ∷ [])) h in
-        list_is_valid d (parts_faultless g root ts (token.Close ∷ []) (others_faultless g root token.Open (ts ++ token.Close ∷ []) rest)).0
-    formula_is_valid (plain {w = w} {f = f} e) h = plain_is_valid g root c w f root_is (first_faultless g root (token.Word w) [] h).0 e
+        list_is_valid d
+        (parts_faultless g root ts (token.Close ∷ [])
+        (others_faultless g root token.Open (ts ++ token.Close ∷ []) rest)).0
+    formula_is_valid (plain {w = w} {f = f} e) h =
+        plain_is_valid g root c w f root_is (first_faultless g root (token.Word w) [] h).0 e
     formula_is_valid (equal {w = w} {k = k} {f = f} e) h =
-        let rest = others_faultless g root token.Equal (token.Quoted k ∷ []) (others_faultless g root (token.Word w) (token.Equal ∷ token.Quoted k ∷ []) h) in
+        let rest =
+        others_faultless g root token.Equal (token.Quoted k ∷ [])
+        (others_faultless g root (token.Word w) (token.Equal ∷ token.Quoted k ∷ []) h) in
         equal_is_valid g root c w k f (first_faultless g root (token.Word w) (token.Equal ∷ token.Quoted k ∷ []) h).0
         (short_constant k (first_faultless g root (token.Quoted k) [] rest).1) e
 
-    list_is_valid : {ts : List Token} {fs : Terms} → IsList (atoms_of g) ts fs → AreFaultless g root ts → AreFormulasAt g c fs
+    list_is_valid : {ts : List Token} {fs : Terms} → IsList (atoms_of g) ts fs → AreFaultless g root ts
+        → AreFormulasAt g c fs
     list_is_valid none h = tt
     list_is_valid (some d) h = items_are_valid d h
 
-    items_are_valid : {ts : List Token} {fs : Terms} → IsItems (atoms_of g) ts fs → AreFaultless g root ts → AreFormulasAt g c fs
+    items_are_valid : {ts : List Token} {fs : Terms} → IsItems (atoms_of g) ts fs → AreFaultless g root ts
+        → AreFormulasAt g c fs
     items_are_valid (last d) h = (formula_is_valid d h, tt)
     items_are_valid (more {ts = ts} {us = us} d e) h =
         let t = parts_faultless g root ts (token.Comma ∷ us) h in
@@ -149,7 +165,12 @@ join_nodes joint.And f g = refl
 -- brackets are no nodes
 closed : (ts : List Token) → token_nodes ts ≡ token_nodes (token.Open ∷ (ts ++ token.Close ∷ []))
 closed ts =
-    omega (arith, nodes-cons token.Open (ts ++ token.Close ∷ []), nodes-append ts (token.Close ∷ []), nodes-cons token.Close [])
+    omega (
+      arith,
+      nodes-cons token.Open (ts ++ token.Close ∷ []),
+      nodes-append ts (token.Close ∷ []),
+      nodes-cons token.Close [],
+    )
 
 module _ (a : Atoms Formula) (leaves : AreLeaves a) where
   mutual
@@ -157,11 +178,23 @@ module _ (a : Atoms Formula) (leaves : AreLeaves a) where
     pub formula_nodes : {n : ℕ} {ts : List Token} {f : Formula} → IsFormula a n ts f → node_count f ≡ token_nodes ts
     formula_nodes (looser d) = formula_nodes d
     formula_nodes (joined j {left = left} {right = right} {f = f} {g = g} d e) =
-        omega (arith, join_nodes j f g, formula_nodes d, formula_nodes e, nodes-append left (token.Joint j ∷ right), nodes-cons (token.Joint j) right)
+        omega (
+          arith,
+          join_nodes j f g,
+          formula_nodes d,
+          formula_nodes e,
+          nodes-append left (token.Joint j ∷ right),
+          nodes-cons (token.Joint j) right,
+        )
     formula_nodes (negated {ts = ts} d) = omega (arith, formula_nodes d, nodes-cons token.Not ts)
     formula_nodes (bracketed {ts = ts} d) = formula_nodes d ∙ closed ts
     formula_nodes (listed {ts = ts} d) =
-        omega (arith, list_nodes d, nodes-cons (token.Word (codes "one")) (token.Open ∷ (ts ++ token.Close ∷ [])), closed ts)
+        omega (
+          arith,
+          list_nodes d,
+          nodes-cons (token.Word (codes "one")) (token.Open ∷ (ts ++ token.Close ∷ [])),
+          closed ts,
+        )
     formula_nodes (plain {w = w} {f = f} e) = leaf_nodes f (leaves.plain w f e) ∙ sym (nodes-cons (token.Word w) [])
     formula_nodes (equal {w = w} {k = k} {f = f} e) =
         omega (

@@ -40,7 +40,8 @@ same_bytes x y e = (bytes_eq-Decides x y).0 e
 -- ---- known names
 
 -- the name of a category that was found
-pub name_at : (g : Graph) (name : List ℕ) (d : ℕ) → category_named g name ≡ Some d → IsCategory g d × ((x : List ℕ) → name ≡ get_or (names_of g) d x)
+pub name_at : (g : Graph) (name : List ℕ) (d : ℕ) → category_named g name ≡ Some d
+    → IsCategory g d × ((x : List ℕ) → name ≡ get_or (names_of g) d x)
 name_at g name d e =
     let r = found (bytes_eq name) (λ x. name ≡ x) (bytes_eq-Decides name) (names_of g) 0 d e in
     let same : r.0 ≡ d = omega (arith, r.1) in
@@ -68,7 +69,8 @@ one_name g m n h k e =
     let b = (name_at g n (id_of g n) (known_is g n k)).1 [] in
     a ∙ ap (λ i. get_or (names_of g) i []) e ∙ sym b
 
-pub all_known : (g : Graph) (ns : List (List ℕ)) → list_all (is_known g) ns ≡ true → (n : List ℕ) → Contains ns n → is_known g n ≡ true
+pub all_known : (g : Graph) (ns : List (List ℕ)) → list_all (is_known g) ns ≡ true → (n : List ℕ) → Contains ns n
+    → is_known g n ≡ true
 all_known g [] h n c = absurd (Contains-nil n c)
 all_known g (m ∷ ms) h n c = elim (contains_cases n m ms c) [
   | inl e ↦ subst (λ x. is_known g x ≡ true) e (first_holds _ _ h).0
@@ -91,14 +93,16 @@ unless true x h = absurd (cc)
 unless false x h = (refl, h)
 
 -- names that lack no edge follow edges
-pub follows : (g : Graph) (n : List ℕ) (ms : List (List ℕ)) → is_known g n ≡ true → list_all (is_known g) ms ≡ true → lacks_edge g n ms ≡ false
+pub follows : (g : Graph) (n : List ℕ) (ms : List (List ℕ)) → is_known g n ≡ true → list_all (is_known g) ms ≡ true
+    → lacks_edge g n ms ≡ false
     → IsChain (HasEdge g) (id_of g n ∷ map (id_of g) ms)
 unfolding lacks_edge
 follows g n [] h k l = tt
 follows g n (m ∷ ms) h k l =
     let t = unless _ _ l in let u = first_holds _ _ k in
     let looked_up : has_edge g (category_named g n) (category_named g m) ≡ true = not_false _ t.0 in
-    let joined : has_edge g (Some (id_of g n)) (Some (id_of g m)) ≡ true = rw (known_is g n h, known_is g m u.0) at looked_up in
+    let joined : has_edge g (Some (id_of g n)) (Some (id_of g m)) ≡ true =
+    rw (known_is g n h, known_is g m u.0) at looked_up in
     (edge_is g (id_of g n) (id_of g m) joined, follows g m ms u.0 u.1 t.1)
 
 none_passes : {X : Type 0} (p : X → Bool) (xs : List X) (x : X) → list_any p xs ≡ false → Contains xs x → p x ≡ false
@@ -112,14 +116,20 @@ distinct : (ns : List (List ℕ)) → is_repeated ns ≡ false → Distinct ns
 unfolding is_repeated stands_in
 distinct [] h = tt
 distinct (n ∷ ns) h =
-    let t = unless _ _ h in
-    (λ c. (let no = none_passes (λ m. bytes_eq m n) ns n t.0 c in let yes = (bytes_eq-Decides n n).1 refl in absurd (cc)), distinct ns t.1)
+    let t = unless _ _ h in (
+      λ c.
+          (let no = none_passes (λ m. bytes_eq m n) ns n t.0 c in let yes = (bytes_eq-Decides n n).1 refl in
+          absurd (cc)),
+      distinct ns t.1,
+    )
 
 -- names of which none is repeated are different categories
-pub differ : (g : Graph) (ns : List (List ℕ)) → list_all (is_known g) ns ≡ true → is_repeated ns ≡ false → AllPairs ◌≢◌ (map (id_of g) ns)
+pub differ : (g : Graph) (ns : List (List ℕ)) → list_all (is_known g) ns ≡ true → is_repeated ns ≡ false
+    → AllPairs ◌≢◌ (map (id_of g) ns)
 differ g ns h k =
     AllPairs-from_Distinct (map (id_of g) ns)
-    (Distinct-map (id_of g) ns (distinct ns k) (λ m n c d e. one_name g m n (all_known g ns h m c) (all_known g ns h n d) e))
+    (Distinct-map (id_of g) ns (distinct ns k)
+    (λ m n c d e. one_name g m n (all_known g ns h m c) (all_known g ns h n d) e))
 
 -- ---- pieces
 
@@ -145,7 +155,8 @@ no_mark name h = go name ((is_category_name_is name).0 h)
     go : (name : List ℕ) → IsCategoryName name → All (λ b. b == 95 ≡ false) name
     go [] n = absurd n
     go (b ∷ rest) n =
-        All-cons (λ x. x == 95 ≡ false) b rest (no_letter b n.0) (λ k d l. no_letter_or_digit (get_or rest k d) (n.1 k d l))
+        All-cons (λ x. x == 95 ≡ false) b rest (no_letter b n.0)
+        (λ k d l. no_letter_or_digit (get_or rest k d) (n.1 k d l))
 
 -- no byte of a piece is `_`
 abbrev AreUnmarked : List (List ℕ) → Type 0
@@ -156,7 +167,8 @@ unmarked_names : (parts : List (List ℕ)) → list_all is_category_name parts �
 unmarked_names [] h = tt
 unmarked_names (part ∷ parts) h = let t = first_holds _ _ h in (no_mark part t.0, unmarked_names parts t.1)
 
-first_unmarked : (b : ℕ) (parts : List (List ℕ)) → AreUnmarked (onto_first b parts) → (b == 95 ≡ false) × AreUnmarked parts
+first_unmarked : (b : ℕ) (parts : List (List ℕ)) → AreUnmarked (onto_first b parts)
+    → (b == 95 ≡ false) × AreUnmarked parts
 first_unmarked b [] h = (All-head (λ x. x == 95 ≡ false) b [] h.0, tt)
 first_unmarked b (part ∷ parts) h =
     (All-head (λ x. x == 95 ≡ false) b part h.0, (All-tail (λ x. x == 95 ≡ false) b part h.0, h.1))
@@ -166,8 +178,10 @@ unmarked : (w : List ℕ) → AreUnmarked (slice_split (λ b. b == 46) w) → Al
 unmarked [] h = λ k d l. absurd (omega arith)
 unmarked (b ∷ bs) h = go (b == 46) refl h (unmarked bs)
   where
-    go : (c : Bool) → b == 46 ≡ c → AreUnmarked (cond c ([] ∷ slice_split (λ x. x == 46) bs) (onto_first b (slice_split (λ x. x == 46) bs)))
-        → (AreUnmarked (slice_split (λ x. x == 46) bs) → All (λ x. x == 95 ≡ false) bs) → All (λ x. x == 95 ≡ false) (b ∷ bs)
+    go : (c : Bool) → b == 46 ≡ c
+        → AreUnmarked (cond c ([] ∷ slice_split (λ x. x == 46) bs) (onto_first b (slice_split (λ x. x == 46) bs)))
+        → (AreUnmarked (slice_split (λ x. x == 46) bs) → All (λ x. x == 95 ≡ false) bs)
+        → All (λ x. x == 95 ≡ false) (b ∷ bs)
     go true e u rest =
         let dot : b ≡ 46 = eqb-true b 46 e in
         All-cons (λ x. x == 95 ≡ false) b bs (untested b (λ q. omega (arith, dot, q))) (rest u.1)
@@ -176,7 +190,8 @@ unmarked (b ∷ bs) h = go (b == 46) refl h (unmarked bs)
         All-cons (λ x. x == 95 ≡ false) b bs t.0 (rest t.1)
 
 -- a word whose pieces at `.` are category names has no `_`
-pub one_piece : (w : List ℕ) → list_all is_category_name (pieces_of 46 w) ≡ true → nat_lt 1 (length (pieces_of 95 w)) ≡ false
+pub one_piece : (w : List ℕ) → list_all is_category_name (pieces_of 46 w) ≡ true
+    → nat_lt 1 (length (pieces_of 95 w)) ≡ false
 unfolding pieces_of
 one_piece w h =
     let whole = slice_split_none (λ b. b == 95) w (unmarked w (unmarked_names (slice_split (λ b. b == 46) w) h)) in

@@ -1,220 +1,23 @@
--- A schema that is read is valid.
---     IsSoundSoFar    what holds of what the lines so far say
---     sound_kept      a line without a fault keeps it
---     read_is_valid   what all lines say is valid, if each category reaches `All`
-use Rattle.std.proofs.Common.{◌≡◌, ◌≢◌, ◌+◌, ◌<◌, ◌≤◌, ℕ, zero, suc, Bool, true, false, not, cond, List, [], ◌∷◌, ◌++◌, Option, Some, None, Ok, Err, length, fold, is_some, append-nil, refl, sym, ap, ◌∙◌, arith, subst, inl, inr}
-use Rattle.std.specs.Prelude.{Contains, find, flat_map, nat_le, sum_by}
+-- A schema that is read is valid, and its constants are text.
+--     sound_kept          a line without a fault keeps what holds of those above it
+--     read_is_readable    what all lines say is so, if each category reaches `All`
+use Rattle.std.proofs.Common.{◌≡◌, ℕ, zero, suc, Bool, true, false, not, cond, List, [], ◌∷◌, Option, Some, None, Ok, Err, length, refl, sym, arith, subst, inl, inr}
+use Rattle.std.specs.Prelude.{Contains, find, flat_map}
 use Rattle.std.specs.List.{range_with_len}
-use Rattle.std.proofs.lemmas.Bool.{eqb-false, leb-false, leb-true, ltb-false}
-use Rattle.std.proofs.lemmas.List.{length_push}
-use Rattle.std.proofs.lemmas.List.Concat.{flat_map-append}
-use Rattle.std.proofs.lemmas.List.Elements.{Contains-append_left, Contains-push_cases}
-use Rattle.std.proofs.lemmas.List.Sums.{fold-append, sum_by-append, sum_by-cons}
-use Rattle.olap_ast.specs.Formula.{Equality, Formula, equalities}
-use Rattle.olap_ast.specs.Schema.{Constraint}
-use Rattle.olap_ast.specs.Valid.{IsFormulaAt, IsValidSchema, depth_of, distinct_pairs, node_count, with_pair}
-use Rattle.olap_base.specs.Deciding.{category_reaches, category_reaches_is, contains_cases, is_category_name, is_category_name_is}
-use Rattle.olap_base.specs.Graph.{CategoryReaches, Graph, IsCategory, IsDeclared, category_count}
+use Rattle.olap_ast.specs.Formula.{equalities}
+use Rattle.olap_ast.specs.Valid.{IsValidSchema}
+use Rattle.olap_base.specs.Deciding.{category_reaches, category_reaches_is, contains_cases}
+use Rattle.olap_base.specs.Graph.{CategoryReaches, Graph, IsCategory}
 use Rattle.olap_base.proofs.ListLemmas.{Contains-nil, Contains-range_at}
-use Rattle.olap_graph.specs.Building.{IsUnfinished, IsWithinLimits, category_refusal, edge_refusal, with_category, with_edge}
-use Rattle.olap_graph.specs.Lookups.{category_named, edge_between}
-use Rattle.olap_schema.proofs.ValidGraphs.{limits-with_category, limits-with_edge, unfinished-with_category, unfinished-with_edge}
-use Rattle.olap_grammar.specs.Answering.{formula_answer}
-use Rattle.olap_grammar.specs.Grammar.{IsFormula}
-use Rattle.olap_grammar.specs.Machine.{the_formula}
-use Rattle.olap_grammar.specs.Words.{atoms_of}
-use Rattle.olap_grammar.specs.declared.refusals.FormRefusal.TheVariants as form
-use Rattle.olap_grammar.specs.declared.tokens.Token.{Token}
-use Rattle.olap_grammar.proofs.LeafLemmas.{atoms_are_leaves}
-use Rattle.olap_grammar.proofs.ReaderLemmas.{found_is_formula}
-use Rattle.olap_schema.specs.Judging.{Above, Read, first_stuck, form_answer, form_read, lines_on, nothing_above, schema_read, text_ended, whole}
+use Rattle.olap_schema.specs.Judging.{Above, Read, first_stuck, lines_on, nothing_above, schema_read, text_ended, whole}
 use Rattle.olap_schema.specs.Laws.{GivesReadable, ReadSchemasAreReadable, ReadSchemasAreValid}
 use Rattle.olap_schema.specs.PrintingLaws.{AreTexts, IsReadable}
 use Rattle.olap_schema.specs.Lines.{lines_of}
-use Rattle.olap_schema.specs.Tokens.{token_nodes}
 use Rattle.olap_schema.specs.declared.kinds.SchemaKind.TheVariants as kind
-use Rattle.olap_schema.proofs.StepLemmas.{AddsCategory, AddsConstraint, AddsEdge, Step, Step.quiet, Step.version, Step.category, Step.edge, Step.constraint, all_steps, ok_is, passed_on}
-use Rattle.olap_schema.proofs.ValidFormulas.{IsWithin, formula_is_valid, formula_nodes, grown_is_valid}
-use Rattle.olap_schema.proofs.ValidTexts.{all_texts, formula_is_fine}
-use Rattle.olap_schema.proofs.ValidNames.{name_at, not_false}
-
--- what holds of one constraint
-pub record IsSoundConstraint (g : Graph) (c : Constraint) : Type 0 where
-  pub declared : IsDeclared g c.root
-  pub formula : IsFormulaAt g c.root c.formula
-  pub depth : depth_of c.formula ≤ 64
-  pub texts : AreTexts (equalities c.formula)
-
-abbrev nodes_in : List Constraint → ℕ
-nodes_in cs = sum_by (λ c. node_count c.formula) cs
-
-abbrev pairs_in : List Constraint → List Equality
-pairs_in cs = distinct_pairs (flat_map (λ c. equalities c.formula) cs)
-
--- what holds of the constraints so far
-pub record AreSound (g : Graph) (cs : List Constraint) (nodes : ℕ) (pairs : List Equality) : Type 0 where
-  pub each : (c : Constraint) → Contains cs c → IsSoundConstraint g c
-  pub few : length cs ≤ 64
-  pub nodes_are : nodes_in cs ≡ nodes
-  pub few_nodes : nodes ≤ 4096
-  pub pairs_are : pairs_in cs ≡ pairs
-  pub few_pairs : length pairs ≤ 256
-
--- what holds of what the lines so far say
-pub record IsSoundSoFar (a : Above) : Type 0 where
-  pub unfinished : IsUnfinished a.graph
-  pub limits : IsWithinLimits a.graph
-  pub constraints : AreSound a.graph a.constraints a.nodes a.pairs
-
--- ---- a larger graph
-
-sound_within : (g h : Graph) (c : Constraint) → IsWithin g h → IsSoundConstraint g c → IsSoundConstraint h c
-sound_within g h c w s = record {
-  declared = (s.declared.0, w.categories c.root s.declared.1);
-  formula = grown_is_valid g h w c.root c.formula s.formula;
-  depth = s.depth;
-  texts = s.texts;
-}
-
-all_within : (g h : Graph) (cs : List Constraint) (nodes : ℕ) (pairs : List Equality) → IsWithin g h → AreSound g cs nodes pairs → AreSound h cs nodes pairs
-all_within g h cs nodes pairs w s = record {
-  each = λ c k. sound_within g h c w (s.each c k);
-  few = s.few;
-  nodes_are = s.nodes_are;
-  few_nodes = s.few_nodes;
-  pairs_are = s.pairs_are;
-  few_pairs = s.few_pairs;
-}
-
-within_category : (g : Graph) (name : List ℕ) → IsWithin g (with_category g name)
-within_category g name = record {
-  categories = λ c h. let l = length_push g.names name in omega arith;
-  edges = λ c d h. h;
-}
-
-within_edge : (g : Graph) (c d : ℕ) → IsWithin g (with_edge g c d)
-within_edge g c d = record {
-  categories = λ x h. h;
-  edges = λ x y h. Contains-append_left g.edges (record { child = c; parent = d } ∷ []) (record { child = x; parent = y }) h;
-}
-
--- ---- a category
-
--- a test behind which there is a refusal was not passed
-not_refused : {E : Type 0} (c : Bool) (e : E) (o : Option E) → cond c (Some e) o ≡ None → (c ≡ false) × (o ≡ None)
-not_refused true e o h = absurd (cc)
-not_refused false e o h = (refl, h)
-
-none_there : (o : Option ℕ) → is_some o ≡ false → o ≡ None
-none_there None h = refl
-none_there (Some i) h = absurd (cc)
-
-free_name : (g : Graph) (name : List ℕ) → category_refusal g name ≡ None → (category_named g name ≡ None) × (category_count g < 64)
-free_name g name h =
-    let t = not_refused _ _ _ h in
-    (none_there (category_named g name) t.0, leb-false 64 (category_count g) (not_refused _ _ _ t.1).0)
-
-category_kept : (a b : Above) (n : ℕ) (name : List ℕ) → is_category_name name ≡ true → AddsCategory a b n name → IsSoundSoFar a → IsSoundSoFar b
-category_kept a b n name h s p =
-    let free = free_name a.graph name s.free in
-    subst IsSoundSoFar (sym s.new) (record {
-      unfinished = unfinished-with_category a.graph name p.unfinished ((is_category_name_is name).0 h) free.0;
-      limits = limits-with_category a.graph name p.limits free.1 (ltb-false 255 (length name) s.short);
-      constraints = all_within a.graph (with_category a.graph name) a.constraints a.nodes a.pairs (within_category a.graph name) p.constraints;
-    })
-
--- ---- an edge
-
--- what an edge that is not refused is
-record IsFree (g : Graph) (c d : ℕ) : Type 0 where
-  loop : c ≢ d
-  from_all : c ≢ 0
-  none : edge_between g c d ≡ None
-  few : length g.edges < 256
-
-free_edge : (g : Graph) (c d : ℕ) → edge_refusal g c d ≡ None → IsFree g c d
-free_edge g c d h =
-    let loop = not_refused _ _ _ h in
-    let from_all = not_refused _ _ _ loop.1 in
-    let none = not_refused _ _ _ from_all.1 in
-    let few = not_refused _ _ _ none.1 in
-    record {
-      loop = eqb-false c d loop.0;
-      from_all = eqb-false c 0 from_all.0;
-      none = none_there (edge_between g c d) none.0;
-      few = leb-false 256 (length g.edges) few.0;
-    }
-
-edge_kept : (a b : Above) (child parent : List ℕ) (c d : ℕ) → AddsEdge a b child parent c d → IsSoundSoFar a → IsSoundSoFar b
-edge_kept a b child parent c d s p =
-    let free = free_edge a.graph c d s.free in
-    subst IsSoundSoFar (sym s.new) (record {
-      unfinished = unfinished-with_edge a.graph c d p.unfinished (name_at a.graph child c s.child_is).0 (name_at a.graph parent d s.parent_is).0
-          free.loop free.from_all free.none;
-      limits = limits-with_edge a.graph c d p.limits free.few;
-      constraints = all_within a.graph (with_edge a.graph c d) a.constraints a.nodes a.pairs (within_edge a.graph c d) p.constraints;
-    })
-
--- ---- a constraint
-
--- what a formula that was read is
-record IsFormed (g : Graph) (before : ℕ) (ts : List Token) (f : Formula) : Type 0 where
-  few : before + token_nodes ts ≤ 4096
-  formed : IsFormula (atoms_of g) 1 ts f
-  depth : depth_of f ≤ 64
-
-formed : (g : Graph) (before : ℕ) (ts : List Token) (f : Formula) → form_read g before ts ≡ Ok f → IsFormed g before ts f
-unfolding form_read
-formed g before ts f h =
-    let many = passed_on _ _ _ _ h in
-    let deep = passed_on _ _ _ _ many.1 in
-    let t = found (the_formula (atoms_of g) ts) refl deep.1 in
-    record { few = ltb-false 4096 (before + token_nodes ts) many.0; formed = t.0; depth = t.1 }
-  where
-    shallow : (k : Formula) → the_formula (atoms_of g) ts ≡ Some k → (b : Bool) → nat_le (depth_of k) 64 ≡ b
-        → form_answer (cond b (Ok k) (Err form.TooDeep)) ≡ Ok f → IsFormula (atoms_of g) 1 ts f × (depth_of f ≤ 64)
-    shallow k e true d q =
-        subst (λ x. IsFormula (atoms_of g) 1 ts x × (depth_of x ≤ 64)) (sym (ok_is _ _ q)) (found_is_formula (atoms_of g) ts k e, leb-true (depth_of k) 64 d)
-    shallow k e false d q = absurd (cc)
-
-    found : (o : Option Formula) → the_formula (atoms_of g) ts ≡ o → form_answer (formula_answer o) ≡ Ok f
-        → IsFormula (atoms_of g) 1 ts f × (depth_of f ≤ 64)
-    found None e q = absurd (cc)
-    found (Some k) e q = shallow k e (nat_le (depth_of k) 64) refl q
-
-one_more : (g : Graph) (cs : List Constraint) (nodes : ℕ) (pairs : List Equality) (c : Constraint) (more : ℕ) → AreSound g cs nodes pairs
-    → IsSoundConstraint g c → length cs < 64 → node_count c.formula ≡ more → nodes + more ≤ 4096
-    → length (fold with_pair pairs (equalities c.formula)) ≤ 256
-    → AreSound g (cs ++ c ∷ []) (nodes + more) (fold with_pair pairs (equalities c.formula))
-one_more g cs nodes pairs c more s sound few count few_nodes few_pairs = record {
-  each = λ k h. elim (Contains-push_cases cs c k h) [ inl d ↦ s.each k d | inr e ↦ subst (IsSoundConstraint g) e sound ];
-  few = omega (arith, length_push cs c);
-  nodes_are = omega (arith, s.nodes_are, sum_by-append (λ k. node_count k.formula) cs (c ∷ []), sum_by-cons (λ k. node_count k.formula) c []);
-  few_nodes = few_nodes;
-  pairs_are =
-      ap distinct_pairs (flat_map-append (λ k. equalities k.formula) cs (c ∷ []))
-      ∙ fold-append with_pair [] (flat_map (λ k. equalities k.formula) cs) (flat_map (λ k. equalities k.formula) (c ∷ []))
-      ∙ ap (λ atoms. fold with_pair (pairs_in cs) atoms) (append-nil (equalities c.formula))
-      ∙ ap (λ before. fold with_pair before (equalities c.formula)) s.pairs_are;
-  few_pairs = few_pairs;
-}
-
-constraint_kept : (a b : Above) (name : List ℕ) (ts : List Token) (f : Formula) (root : ℕ) → AddsConstraint a b name ts f root → IsSoundSoFar a → IsSoundSoFar b
-constraint_kept a b name ts f root s p =
-    let read = formed a.graph a.nodes ts f s.formed in
-    let sound : IsSoundConstraint a.graph (record { root = root; formula = f }) = record {
-      declared = (eqb-false root 0 s.below_all, (name_at a.graph name root s.root_is).0);
-      formula = formula_is_valid a.graph name root s.root_is read.formed (record { faultless = s.faultless; short = s.short });
-      depth = read.depth;
-      texts = formula_is_fine a.graph read.formed s.fine;
-    } in
-    subst IsSoundSoFar (sym s.new) (record {
-      unfinished = p.unfinished;
-      limits = p.limits;
-      constraints = one_more a.graph a.constraints a.nodes a.pairs (record { root = root; formula = f }) (token_nodes ts) p.constraints sound
-          (leb-false 64 (length a.constraints) s.few) (formula_nodes (atoms_of a.graph) (atoms_are_leaves a.graph) read.formed) read.few
-          (ltb-false 256 (length (fold with_pair a.pairs (equalities f))) s.few_pairs);
-    })
+use Rattle.olap_schema.proofs.StepLemmas.{Step, Step.quiet, Step.version, Step.category, Step.edge, Step.constraint, all_steps, ok_is}
+use Rattle.olap_schema.proofs.ValidTexts.{all_texts}
+use Rattle.olap_schema.proofs.ValidNames.{not_false}
+use Rattle.olap_schema.proofs.ValidSteps.{IsSoundSoFar, category_kept, constraint_kept, edge_kept, not_refused}
 
 -- ---- all lines
 
@@ -300,7 +103,8 @@ ended_is_readable : (r : Read) → ((a : Above) → r ≡ Ok a → IsSoundSoFar 
 ended_is_readable (Err e) p s h = absurd (cc)
 ended_is_readable (Ok a) p s h = go a.versioned h
   where
-    go : (b : Bool) → cond b (whole a (first_stuck a.graph)) (Err (record { at = 1; kind = kind.BadForm })) ≡ Ok s → IsReadable s
+    go : (b : Bool) → cond b (whole a (first_stuck a.graph)) (Err (record { at = 1; kind = kind.BadForm })) ≡ Ok s
+        → IsReadable s
     go true q = whole_is_readable a (p a refl) s q
     go false q = absurd (cc)
 
@@ -322,11 +126,14 @@ rest_is_readable r a e v p =
     let known : GivesReadable (text_ended (Ok a)) = subst (λ x. GivesReadable (text_ended x)) e p in
     go a.versioned v known
   where
-    go : (b : Bool) → b ≡ true → GivesReadable (cond b (whole a (first_stuck a.graph)) (Err (record { at = 1; kind = kind.BadForm })))
+    go : (b : Bool) → b ≡ true
+        → GivesReadable (cond b (whole a (first_stuck a.graph)) (Err (record { at = 1; kind = kind.BadForm })))
         → GivesReadable (whole a (first_stuck a.graph))
     go true q k = k
     go false q k = absurd (cc)
 
-pub start_is_readable : (a : Above) (text : List ℕ) → a ≡ nothing_above → GivesReadable (text_ended (lines_on (Ok a) 0 (lines_of text)))
+pub start_is_readable : (a : Above) (text : List ℕ) → a ≡ nothing_above
+    → GivesReadable (text_ended (lines_on (Ok a) 0 (lines_of text)))
 unfolding schema_read
-start_is_readable a text e = subst (λ x. GivesReadable (text_ended (lines_on (Ok x) 0 (lines_of text)))) (sym e) (read_is_readable text)
+start_is_readable a text e =
+    subst (λ x. GivesReadable (text_ended (lines_on (Ok x) 0 (lines_of text)))) (sym e) (read_is_readable text)

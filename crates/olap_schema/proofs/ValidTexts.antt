@@ -41,7 +41,8 @@ past_ascii b bs l p = record {
   plain = (none_holds _ _ p.plain).1;
 }
 
-at_seam : (xs : List ℕ) (b : ℕ) (ys : List ℕ) → (length xs < length (xs ++ b ∷ ys)) × (get_or (xs ++ b ∷ ys) (length xs) 0 ≡ b)
+at_seam : (xs : List ℕ) (b : ℕ) (ys : List ℕ)
+    → (length xs < length (xs ++ b ∷ ys)) × (get_or (xs ++ b ∷ ys) (length xs) 0 ≡ b)
 at_seam [] b ys = (omega arith, refl)
 at_seam (x ∷ xs) b ys = let t = at_seam xs b ys in (omega (arith, t.0), t.1)
 
@@ -53,7 +54,8 @@ cut_utf8 xs b ys l u =
       subst IsUtf8 (drop_at xs (b ∷ ys) (length xs) refl) (IsUtf8-drop (xs ++ b ∷ ys) (length xs) u here),
     )
 
-no_control : (xs ys : List ℕ) → list_any is_control (xs ++ ys) ≡ false → (list_any is_control xs ≡ false) × (list_any is_control ys ≡ false)
+no_control : (xs ys : List ℕ) → list_any is_control (xs ++ ys) ≡ false
+    → (list_any is_control xs ≡ false) × (list_any is_control ys ≡ false)
 no_control [] ys h = (refl, h)
 no_control (x ∷ xs) ys h =
     let t = none_holds (is_control x) (list_any is_control (xs ++ ys)) h in
@@ -78,18 +80,22 @@ spelt : {bs k : List ℕ} → Spells bs k → (before : List ℕ) → IsUtf8 (be
 spelt nothing before u = u
 spelt (quote {bs = bs} {k = k} s) before u =
     let rest : IsUtf8 (before ++ 34 ∷ bs) = without before 92 (34 ∷ bs) (omega arith) u in
-    subst IsUtf8 (append_assoc before (34 ∷ []) k) (spelt s (before ++ 34 ∷ []) (subst IsUtf8 (sym (append_assoc before (34 ∷ []) bs)) rest))
+    subst IsUtf8 (append_assoc before (34 ∷ []) k)
+    (spelt s (before ++ 34 ∷ []) (subst IsUtf8 (sym (append_assoc before (34 ∷ []) bs)) rest))
 spelt (backslash {bs = bs} {k = k} s) before u =
     let rest : IsUtf8 (before ++ 92 ∷ bs) = without before 92 (92 ∷ bs) (omega arith) u in
-    subst IsUtf8 (append_assoc before (92 ∷ []) k) (spelt s (before ++ 92 ∷ []) (subst IsUtf8 (sym (append_assoc before (92 ∷ []) bs)) rest))
+    subst IsUtf8 (append_assoc before (92 ∷ []) k)
+    (spelt s (before ++ 92 ∷ []) (subst IsUtf8 (sym (append_assoc before (92 ∷ []) bs)) rest))
 spelt (other {b = b} {bs = bs} {k = k} p q s) before u =
-    subst IsUtf8 (append_assoc before (b ∷ []) k) (spelt s (before ++ b ∷ []) (subst IsUtf8 (sym (append_assoc before (b ∷ []) bs)) u))
+    subst IsUtf8 (append_assoc before (b ∷ []) k)
+    (spelt s (before ++ b ∷ []) (subst IsUtf8 (sym (append_assoc before (b ∷ []) bs)) u))
 
 spelt_controls : {bs k : List ℕ} → Spells bs k → list_any is_control bs ≡ false → list_any is_control k ≡ false
 spelt_controls nothing h = refl
 spelt_controls (quote {bs = bs} s) h = spelt_controls s h
 spelt_controls (backslash {bs = bs} s) h = spelt_controls s h
-spelt_controls (other {b = b} {bs = bs} {k = k} p q s) h = let t = none_holds (is_control b) (list_any is_control bs) h in rw t.0 (spelt_controls s t.1)
+spelt_controls (other {b = b} {bs = bs} {k = k} p q s) h = let t =
+    none_holds (is_control b) (list_any is_control bs) h in rw t.0 (spelt_controls s t.1)
 
 -- ---- tokens
 
@@ -211,7 +217,8 @@ pick false x y p q = q
 
 path_texts : (g : Graph) (parts : List (List ℕ)) → Finds (path_of g parts)
 path_texts g parts =
-    pick (not (list_all is_category_name parts)) None (Some (Meaning.Formula.Path (map (id_of g) (drop 1 parts)))) nothing_found (one_found _ no_texts)
+    pick (not (list_all is_category_name parts)) None
+    (Some (Meaning.Formula.Path (map (id_of g) (drop 1 parts)))) nothing_found (one_found _ no_texts)
 
 reach_texts : (g : Graph) (parts : List (List ℕ)) → Finds (reach_of g parts)
 reach_texts g parts =
@@ -224,8 +231,12 @@ reach_texts g parts =
 equal_texts : (g : Graph) (k : List ℕ) (parts : List (List ℕ)) → IsPlain k → Finds (equal_of g k parts)
 equal_texts g k parts p =
     pick (not (list_all is_category_name parts)) _ _ nothing_found
-    (pick (length parts == 1) _ _ (one_found (Meaning.Formula.Equals (id_of g (slice_index_or parts 0 [])) k) (one (id_of g (slice_index_or parts 0 []))))
-    (pick (length parts == 2) _ _ (one_found (Meaning.Formula.Equals (id_of g (slice_index_or parts 1 [])) k) (one (id_of g (slice_index_or parts 1 []))))
+    (pick (length parts == 1) _ _
+    (one_found (Meaning.Formula.Equals (id_of g (slice_index_or parts 0 [])) k)
+    (one (id_of g (slice_index_or parts 0 []))))
+    (pick (length parts == 2) _ _
+    (one_found (Meaning.Formula.Equals (id_of g (slice_index_or parts 1 [])) k)
+    (one (id_of g (slice_index_or parts 1 []))))
     nothing_found))
   where
     one : (d : ℕ) → AreTexts ((record { category = d; text = k }) ∷ [])
@@ -248,7 +259,8 @@ equality_texts g w k p = equal_texts g k (pieces_of 46 w) p
 both_texts : (xs ys : List Equality) → AreTexts xs → AreTexts ys → AreTexts (xs ++ ys)
 both_texts xs ys p q a c = elim (Contains-append_cases xs ys a c) [ inl d ↦ p a d | inr d ↦ q a d ]
 
-join_texts : (j : Joint) (f g : Formula) → AreTexts (equalities f) → AreTexts (equalities g) → AreTexts (equalities (join j f g))
+join_texts : (j : Joint) (f g : Formula) → AreTexts (equalities f) → AreTexts (equalities g)
+    → AreTexts (equalities (join j f g))
 join_texts joint.Iff f g p q = both_texts (equalities f) (equalities g) p q
 join_texts joint.Implies f g p q = both_texts (equalities f) (equalities g) p q
 join_texts joint.Xor f g p q = both_texts (equalities f) (equalities g) p q
@@ -258,7 +270,8 @@ join_texts joint.And f g p q = both_texts (equalities f) (equalities g) p q
 module _ (g : Graph) where
   mutual
     -- the constants of a formula of such tokens
-    pub formula_is_fine : {n : ℕ} {ts : List Token} {f : Formula} → IsFormula (atoms_of g) n ts f → AreFine ts → AreTexts (equalities f)
+    pub formula_is_fine : {n : ℕ} {ts : List Token} {f : Formula} → IsFormula (atoms_of g) n ts f → AreFine ts
+        → AreTexts (equalities f)
     formula_is_fine (looser d) h = formula_is_fine d h
     formula_is_fine (joined j {left = left} {right = right} {f = f} {g = k} d e) h =
         let t = parts_fine left (token.Joint j ∷ right) h in
@@ -269,19 +282,23 @@ module _ (g : Graph) where
     formula_is_fine (plain {w = w} {f = f} e) h = plain_texts g w f e
     formula_is_fine (equal {w = w} {k = k} {f = f} e) h = equality_texts g w k (h.1.1.0 k refl) f e
 
-    list_is_fine : {ts : List Token} {fs : Terms} → IsList (atoms_of g) ts fs → AreFine ts → AreTexts (equalities_of_terms fs)
+    list_is_fine : {ts : List Token} {fs : Terms} → IsList (atoms_of g) ts fs → AreFine ts
+        → AreTexts (equalities_of_terms fs)
     list_is_fine none h = no_texts
     list_is_fine (some d) h = items_are_fine d h
 
-    items_are_fine : {ts : List Token} {fs : Terms} → IsItems (atoms_of g) ts fs → AreFine ts → AreTexts (equalities_of_terms fs)
+    items_are_fine : {ts : List Token} {fs : Terms} → IsItems (atoms_of g) ts fs → AreFine ts
+        → AreTexts (equalities_of_terms fs)
     items_are_fine (last {f = f} d) h = both_texts (equalities f) [] (formula_is_fine d h) no_texts
     items_are_fine (more {ts = ts} {us = us} {f = f} {fs = fs} d e) h =
         let t = parts_fine ts (token.Comma ∷ us) h in
         both_texts (equalities f) (equalities_of_terms fs) (formula_is_fine d t.0) (items_are_fine e t.1.1)
 
 -- where it is so of each constraint, it is so of all their constants
-pub all_texts : (cs : List Constraint) → ((c : Constraint) → Contains cs c → AreTexts (equalities c.formula)) → AreTexts (flat_map (λ c. equalities c.formula) cs)
+pub all_texts : (cs : List Constraint) → ((c : Constraint) → Contains cs c → AreTexts (equalities c.formula))
+    → AreTexts (flat_map (λ c. equalities c.formula) cs)
 all_texts [] h = no_texts
 all_texts (c ∷ cs) h =
     subst AreTexts (sym (flat_map-cons (λ (k : Constraint). equalities k.formula) c cs))
-    (both_texts (equalities c.formula) (flat_map (λ k. equalities k.formula) cs) (h c (contains_head c cs)) (all_texts cs (λ k d. h k (contains_cons k cs c d))))
+    (both_texts (equalities c.formula) (flat_map (λ k. equalities k.formula) cs) (h c (contains_head c cs))
+    (all_texts cs (λ k d. h k (contains_cons k cs c d))))
