@@ -41,7 +41,7 @@ fn rollup_facts<L: Library>(
             kind.name(),
         ),
     };
-    let view = direct(alloc, legal.instance(), &table, category)?;
+    let view = direct(alloc, legal, &table, category)?;
     let printed = print_view(alloc, legal.instance(), &view)?;
     Ok(Reply {
         status: Status::Yes,

@@ -1,7 +1,7 @@
 //! Views: for the members of a category, the count, sum, least and greatest of their facts' values.
 //!
 //! A contract sees a `View` as the definition's record (`view_of` of `specs/Seen.antt`). `direct` answers the
-//! definition's own `direct_view`, and `from_views` its `rows_from_views`, on every instance, a cyclic one too.
+//! definition's own `direct_view`, and `from_views` its `rows_from_views`, on a legal instance.
 #![tactic(auto)]
 
 mod adding;

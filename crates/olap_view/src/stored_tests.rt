@@ -1,11 +1,12 @@
 // Views from the stored views of a small instance.
-ghost use Rattle.std.specs.Prelude.{◌≡◌, ◌<◌, ◌≤◌, ℕ, All, length};
+ghost use Rattle.std.specs.Prelude.{◌≡◌, ◌<◌, ◌≤◌, ◌^◌, ℕ, All, length};
 ghost use Rattle.olap_view.specs.Seen.{views_of};
 ghost use Rattle.olap_view.specs.Stores.{Fits, IsStore};
 
-use crate::tests::{declare, join};
+use crate::tests::{declare, join, legal};
 use crate::{Row, Store, View, from_views, print_view};
-use olap_base::{CatId, List, MemberId};
+use olap_base::{CatId, List, MemberId, Text};
+use olap_check::Legal;
 use olap_graph::{Graph, GraphBuilder};
 use olap_instance::{Instance, read_instance};
 use std::alloc::Global;
@@ -126,13 +127,33 @@ fn stored(alloc: Global, rt: &impl Abort, instance: &Instance) -> Store
     }
 }
 
+// The text of the view of a category from the stored views whose bits are in the mask.
+fn text_from(
+    alloc: Global,
+    rt: &impl Abort,
+    legal: &Legal,
+    store: &Store,
+    mask: u16,
+    c: CatId,
+) -> Text
+    requires store { IsStore (views_of store.now) }
+    requires fit { All Fits (views_of store.now) }
+    requires at_members { All (λ v. All (λ r. r.member < length legal.now) v.rows) (views_of store.now) }
+    requires bits { mask < 2 ^ length store.now.views }
+{
+    let view = from_views(alloc, legal, store, mask, c).expect(rt, "a view");
+    assert!(rt; view.fits());
+    print_view(alloc, legal.instance(), &view).expect(rt, "a text")
+}
+
 #[test]
 fn stored_views(rt: HostRuntime) {
     let alloc = rt.alloc();
     let graph = location(alloc, &rt);
     let instance = read_instance(alloc, &graph, MEMBERS).expect(&rt, "an instance");
     assert!(rt; instance.members() == 18);
-    let store = stored(alloc, &rt, &instance);
+    let legal = legal(alloc, &rt, &graph, instance);
+    let store = stored(alloc, &rt, legal.instance());
     let cases: [(u16, u16, &[u8]); 4] = [
         (7, 0, b"member,count,sum,least,greatest\nall,9,30,-5,10\n"),
         (
@@ -149,11 +170,7 @@ fn stored_views(rt: HostRuntime) {
     ];
     for (mask, category, wanted) in cases {
         assert!(rt; mask < 8);
-        let view = from_views(alloc, &instance, &store, mask, CatId(category)).expect(
-            &rt, "a view",
-        );
-        let text = print_view(alloc, &instance, &view).expect(&rt, "a text");
+        let text = text_from(alloc, &rt, &legal, &store, mask, CatId(category));
         assert!(rt; text.bytes() == wanted);
-        assert!(rt; view.fits());
     }
 }

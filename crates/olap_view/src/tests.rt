@@ -1,9 +1,13 @@
 // Views of small instances, from texts to a text.
+ghost use Rattle.std.specs.Prelude.{◌≡◌};
+ghost use Rattle.olap_instance.specs.Made.{IsMadeFor};
+
 use crate::{direct, print_view};
 use olap_base::Text;
+use olap_check::{Legal, check_parts};
 use olap_facts::read_facts;
 use olap_graph::{Graph, GraphBuilder, category_name};
-use olap_instance::read_instance;
+use olap_instance::{Instance, read_instance};
 use std::alloc::Global;
 use std::process::Abort;
 
@@ -19,6 +23,17 @@ pub(crate) fn join(rt: &impl Abort, builder: &mut GraphBuilder, child: &[u8], pa
         if let Some(d) = builder.category(parent) {
             builder.add_edge(c, d).expect(rt, "an edge");
         }
+    }
+}
+
+// The instance, which is legal where no constraint is asked.
+pub(crate) fn legal(alloc: Global, rt: &impl Abort, graph: &Graph, instance: Instance) -> Legal
+    requires { IsMadeFor graph.now instance }
+    ensures { result ≡ instance }
+{
+    match check_parts(alloc, graph, &[], instance) {
+        Ok(legal) => legal,
+        Err(_) => panic!(rt; "a legal instance"),
     }
 }
 
@@ -40,8 +55,9 @@ fn view_of(alloc: Global, rt: &impl Abort, category: &[u8], facts: &[u8]) -> Tex
     let instance = read_instance(alloc, &graph, MEMBERS).expect(rt, "an instance");
     let facts = read_facts(alloc, &graph, &instance, facts).expect(rt, "facts");
     let c = graph.category(category).expect(rt, "a category");
-    let view = direct(alloc, &instance, &facts, c).expect(rt, "a view");
-    print_view(alloc, &instance, &view).expect(rt, "a text")
+    let legal = legal(alloc, rt, &graph, instance);
+    let view = direct(alloc, &legal, &facts, c).expect(rt, "a view");
+    print_view(alloc, legal.instance(), &view).expect(rt, "a text")
 }
 
 #[test]

@@ -11,6 +11,7 @@ use crate::adding::{Summary, summaries};
 use crate::merging::merged;
 use crate::{Row, Store, View};
 use olap_base::{CatId, List, MemberId, Memory};
+use olap_check::Legal;
 use olap_facts::Facts;
 use olap_instance::Instance;
 use std::alloc::Global;
@@ -57,19 +58,20 @@ fn rows(
 }
 
 /// The direct view of c: a row for each member of c that some fact's member reaches, in file order, with
-/// the count, sum, least and greatest of those facts' values. The instance may be any, a cyclic one too.
+/// the count, sum, least and greatest of those facts' values. The view may be stored.
 ///
 /// It takes memory for one summary a member, and time in proportion to the members and, for each fact
 /// that stands at another member than the fact before it, to what that member reaches. `Memory`: want
 /// of memory.
-pub fn direct(alloc: Global, instance: &Instance, facts: &Facts, c: CatId) -> Result<View, Memory>
-    requires at_members { All (λ f. f.member.0 < length instance.now) facts.now.rows }
+pub fn direct(alloc: Global, legal: &Legal, facts: &Facts, c: CatId) -> Result<View, Memory>
+    requires at_members { All (λ f. f.member.0 < length legal.now) facts.now.rows }
     requires few { length facts.now.rows ≤ 1048576 }
 
-    ensures view { IfOk result (λ v. view_of v ≡ direct_view instance.now (facts_of facts.now) c.0) }
-    ensures members { IfOk result (λ v. All (λ r. r.member.0 < length instance.now) v.rows) }
+    ensures view { IfOk result (λ v. view_of v ≡ direct_view legal.now (facts_of facts.now) c.0) }
+    ensures members { IfOk result (λ v. All (λ r. r.member.0 < length legal.now) v.rows) }
     ensures fits { IfOk result (λ v. Fits (view_of v)) }
 {
+    let instance = legal.instance();
     let summaries = summaries(alloc, instance, facts.rows.items(), c)?;
     let rows = rows(alloc, instance, &summaries, c)?;
     Ok(View {
@@ -80,27 +82,27 @@ pub fn direct(alloc: Global, instance: &Instance, facts: &Facts, c: CatId) -> Re
 
 /// The view of c from stored views: a row for each member of c that the member of some row of the views
 /// whose bits are in the mask reaches, in file order, with the counts and the sums of those rows added, the
-/// least of their leasts and the greatest of their greatests. The i-th view's bit is the i-th. The instance
-/// may be any, a cyclic one too.
+/// least of their leasts and the greatest of their greatests. The i-th view's bit is the i-th.
 ///
 /// It takes memory for one summary a member, and time in proportion to the members and, for each row, to
 /// what its member reaches. `Memory`: want of memory.
 pub fn from_views(
     alloc: Global,
-    instance: &Instance,
+    legal: &Legal,
     store: &Store,
     mask: u16,
     c: CatId,
 ) -> Result<View, Memory>
     requires store { IsStore (views_of store.now) }
     requires fit { All Fits (views_of store.now) }
-    requires at_members { All (λ v. All (λ r. r.member < length instance.now) v.rows) (views_of store.now) }
+    requires at_members { All (λ v. All (λ r. r.member < length legal.now) v.rows) (views_of store.now) }
     requires bits { mask < 2 ^ length store.now.views }
 
     ensures view { IfOk result (λ v. view_of v
-        ≡ record { category = c.0; rows = rows_from_views instance.now c.0 (chosen (views_of store.now) mask) }) }
-    ensures members { IfOk result (λ v. All (λ r. r.member.0 < length instance.now) v.rows) }
+        ≡ record { category = c.0; rows = rows_from_views legal.now c.0 (chosen (views_of store.now) mask) }) }
+    ensures members { IfOk result (λ v. All (λ r. r.member.0 < length legal.now) v.rows) }
 {
+    let instance = legal.instance();
     let summaries = merged(alloc, instance, store.views.items(), mask, c)?;
     let rows = rows(alloc, instance, &summaries, c)?;
     Ok(View {

@@ -27,19 +27,23 @@ rows_are i c facts items read rows s e r = e
 
 pub returns : goal.returns
 returns c =
-    let i = c.args.instance.now in
+    let i = c.args.legal.now in
+    let same : c.instance-instance.result.now ≡ c.args.legal.now = c.instance-instance.ensures in
     let facts = facts_of c.args.facts.now in
     let items = c.in_ok-summaries.summaries.items in
     let summed : AreSummaries i c.args.c.0 facts items =
-    subst (λ (l : List told.Fact). AreSummaries i c.args.c.0 (map fact_of l) items) c.items.ensures
-    c.in_ok-summaries.ensures.summed in
+    subst (λ (x : Instance). AreSummaries x c.args.c.0 facts items) same
+    (subst (λ (l : List told.Fact). AreSummaries c.instance-instance.result.now c.args.c.0 (map fact_of l) items) c.items.ensures
+    c.in_ok-summaries.ensures.summed) in
     let rows : rows_of c.from_vec.result ≡ direct_rows i c.args.c.0 facts = ap rows_of c.from_vec.ensures
     ∙ rows_are i c.args.c.0 facts items c.deref.result.now (rows_of c.in_ok-rows.rows.items) summed
-    c.in_ok-rows.ensures.rows c.deref.ensures.value in
+    (c.in_ok-rows.ensures.rows ∙ ap (λ (x : Instance).
+    filter_map (λ y. row_at y (summary_at c.deref.result.now y)) (members_of x c.args.c.0)) same) c.deref.ensures.value in
     record {
       view = ap (λ (r : List Row). record { category = c.args.c.0; rows = r }) rows;
       members = subst (All (λ (r : told_row.Row). r.member.0 < length i)) (sym c.from_vec.ensures)
-          c.in_ok-rows.ensures.members;
+          (subst (λ (x : Instance). All (λ (r : told_row.Row). r.member.0 < length x) c.in_ok-rows.rows.items) same
+          c.in_ok-rows.ensures.members);
       fits = subst (All IsStored) (sym rows) (direct_stored i c.args.c.0 facts
           (let f = c.requires.few in let l = length-map c.args.facts.now.rows fact_of in omega arith)
           (All-map (λ f. SFits w64 f.value) fact_of c.args.facts.now.rows

@@ -1,6 +1,7 @@
 -- The rows of the summaries are the rows from the chosen views.
 use Rattle.std.proofs.Common.{◌≡◌, List, Option, ap, subst, ◌∙◌}
 use Rattle.std.specs.Prelude.{filter_map}
+use Rattle.olap_base.specs.Instance.{Instance}
 use Rattle.olap_base.specs.Views.{Row, members_of, merged_row, rows_from_views}
 use Rattle.olap_view.specs.Adding.{row_at, summary_at}
 use Rattle.olap_view.specs.Merging.{AreMerged, rows_reaching}
@@ -14,14 +15,18 @@ use Rattle.olap_view.proofs.viewing.from_views.Goals as goal
 
 pub returns-clause-view : goal.returns-clause-view
 returns-clause-view c =
-    let i = c.args.instance.now in
+    let i = c.args.legal.now in
+    let same : c.instance-instance.result.now ≡ c.args.legal.now = c.instance-instance.ensures in
     let views = views_of c.args.store.now in
     let items = c.in_ok-summaries.summaries.items in
     let added : AreMerged i c.args.c.0 (rows_chosen views c.args.mask) items =
-    subst (λ (l : List told.View). AreMerged i c.args.c.0 (rows_chosen (each_view_of l) c.args.mask) items)
-    c.items.ensures c.in_ok-summaries.ensures in
+    subst (λ (x : Instance). AreMerged x c.args.c.0 (rows_chosen views c.args.mask) items) same
+    (subst (λ (l : List told.View). AreMerged c.instance-instance.result.now c.args.c.0
+    (rows_chosen (each_view_of l) c.args.mask) items) c.items.ensures c.in_ok-summaries.ensures) in
     let rows : rows_of c.from_vec.result ≡ rows_from_views i c.args.c.0 (chosen views c.args.mask) =
     ap rows_of c.from_vec.ensures ∙ c.in_ok-rows.ensures.rows
+    ∙ ap (λ (x : Instance).
+    filter_map (λ y. row_at y (summary_at c.deref.result.now y)) (members_of x c.args.c.0)) same
     ∙ ap (λ (l : List (Option Summary)). filter_map (λ y. row_at y (summary_at l y)) (members_of i c.args.c.0))
     c.deref.ensures.value
     ∙ rows_same i c.args.c.0 (λ y. row_at y (summary_at items y))
