@@ -109,8 +109,8 @@ pub table_of : (g : Graph) (n : ℕ) (edges : List Bool) → AreEdgesBefore g n 
 table_of g n edges e = record {
   size = e.count;
   exact = λ c d h l.
-      let inside : c * n + d < n * n = let f : c + 1 ≤ n = omega arith in let m =
-      mul-le-mul_right n f in omega (arith, m) in
+      let next : c + 1 ≤ n = omega arith in
+      let inside : c * n + d < n * n = omega (arith, mul-le-mul_right n next) in
       let c_is = div-mul-add c n d l in
       let d_is = mod-mul-add c n d l in
       let t = e.exact (c * n + d) inside in (

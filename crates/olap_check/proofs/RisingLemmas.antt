@@ -167,8 +167,9 @@ visit_push i ps k before row old list few h places l free v =
         | inl a ↦ elim (v.only y a) [ inl b ↦ inl b | inr b ↦ inr (take_before ps k y h b) ]
         | inr e ↦ inr (subst (λ z. Contains (take (k + 1) ps) z) e (take_last ps k h))
       ];
-      fewer = let u = free_set row (category_of i p) p l free far in let f =
-          v.fewer in omega (arith, length-append list (p ∷ []));
+      fewer =
+          let u = free_set row (category_of i p) p l free far in
+          let f = v.fewer in omega (arith, length-append list (p ∷ []));
     }
 
 -- a place with another member

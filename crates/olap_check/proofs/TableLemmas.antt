@@ -95,6 +95,10 @@ first_split i n x cells made t inside s = record {
 
 -- ---- a look-up
 
+-- the place that is read, of a row as long as there are categories
+pub cell_read : {n d m e : ℕ} (x : ℕ) (cells : List ℕ) → m ≡ n → e ≡ d → cell n cells x d ≡ get_or cells (x * m + e) 0
+cell_read x cells p q = λ i. get_or cells (x * sym p i + sym q i) 0
+
 -- a place of the table
 pub cell_inside : (n k x d m : ℕ) → x < k → d < n → m ≡ k * n → x * n + d < m
 cell_inside n k x d m h l e = let t = earlier n k x d h l in omega (arith, t)

@@ -24,6 +24,7 @@ members-preserved c =
     ]
 
 pub returns : goal.returns
-returns c = let e = c.members-y-end.ensures.count in let t =
-    c.members-test.false in let s : length c.args.seen.now ≤ c.members.y = let q = c.requires in omega arith in
+returns c =
+    let count = c.members-y-end.ensures.count in
+    let s : length c.args.seen.now ≤ c.members.y = omega (arith, count, c.members-test.false, c.requires) in
     found_none c.args.instance.now c.args.seen.now c.args.category c.members.y c.members.one s c.members.invariant

@@ -20,7 +20,7 @@ members-preserved c =
 pub returns-in-None-clause-err : goal.returns-in-None-clause-err
 returns-in-None-clause-err c =
     let s = (rw c.in-None.is at c.in_ok-row.ensures.none) refl in
-    let inside : c.members.x < length c.args.instance.now = let e = c.members-x-end.ensures.count in let t =
-    c.members-test.true in omega arith in
+    let count = c.members-x-end.ensures.count in
+    let inside : c.members.x < length c.args.instance.now = omega (arith, count, c.members-test.true) in
     first_split c.args.instance.now c.args.categories c.members.x c.members.cells.items c.requires c.members.invariant
     inside s

@@ -7,5 +7,6 @@ pub members-preserved : goal.members-preserved
 members-preserved c = none_more c.args.instance.now c.members.x c.members.invariant (c.in_default.ensures.none refl)
 
 pub returns-clause-none : goal.returns-clause-none
-returns-clause-none c = λ q x h. let e = c.members-x-end.ensures.count in let t =
-    c.members-test.false in c.members.invariant x (omega (arith, h))
+returns-clause-none c = λ q x h.
+    let count = c.members-x-end.ensures.count in
+    c.members.invariant x (omega (arith, h, count, c.members-test.false))

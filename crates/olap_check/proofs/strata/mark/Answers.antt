@@ -21,9 +21,9 @@ index-requires c =
     let i = c.args.instance.now in
     let at = parent_at i c.args.z ids.result.now c.parents.p-index ids.ensures.list ids.ensures.places
     c.parents-test.true in
-    let size : length c.args.seen.now.items ≡ length i = let o = c.args.seen.now.ok in let q =
-    c.requires.seen in omega arith in
-    let o = c.parents.seen.ok in
+    let o = c.args.seen.now.ok in
+    let size : length c.args.seen.now.items ≡ length i = omega (arith, c.requires.seen) in
+    let now = c.parents.seen.ok in
     omega (arith, mark_inside at c.parents.invariant size)
 
 pub index_mut-requires : goal.index_mut-requires
@@ -32,9 +32,9 @@ index_mut-requires c =
     let i = c.args.instance.now in
     let at = parent_at i c.args.z ids.result.now c.parents.p-index ids.ensures.list ids.ensures.places
     c.parents-test.true in
-    let size : length c.args.seen.now.items ≡ length i = let o = c.args.seen.now.ok in let q =
-    c.requires.seen in omega arith in
-    let o = c.parents.seen.ok in
+    let o = c.args.seen.now.ok in
+    let size : length c.args.seen.now.items ≡ length i = omega (arith, c.requires.seen) in
+    let now = c.parents.seen.ok in
     omega (arith, mark_inside at c.parents.invariant size)
 
 pub returns-then-category : goal.returns-then-category
@@ -51,8 +51,8 @@ parents-preserved c =
     let i = c.args.instance.now in
     let at = parent_at i c.args.z ids.result.now c.parents.p-index ids.ensures.list ids.ensures.places
     c.parents-test.true in
-    let size : length c.args.seen.now.items ≡ length i = let o = c.args.seen.now.ok in let q =
-    c.requires.seen in omega arith in
+    let o = c.args.seen.now.ok in
+    let size : length c.args.seen.now.items ≡ length i = omega (arith, c.requires.seen) in
     let v = c.parents.invariant in
     let category = c.category.result.0 in
     let r = c.index.result.now in
