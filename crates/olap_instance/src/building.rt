@@ -128,6 +128,7 @@ impl InstanceBuilder {
         ensures added { OnOk result (self.new ≡ with_member self.old id category.0 name) }
         ensures err { IfErr result (IsMemberCause (member_refusal self.old id category.0 name)) }
         ensures same { OnErr result (self.new ≡ self.old) }
+        ensures categories { self.new.categories ≡ self.old.categories }
     {
         if let Some(refusal) = refusal(&self.roster, id.bytes(), category, name.bytes()) {
             return Err(refusal);
@@ -152,6 +153,8 @@ impl InstanceBuilder {
         ensures added { OnOk result (self.new ≡ with_parent self.old child.0 (number_of parent)) }
         ensures duplicate { IsErrOf result of_parent.DuplicateParent → HasParent self.old child.0 (number_of parent) }
         ensures same { OnErr result (self.new ≡ self.old) }
+        ensures categories { self.new.categories ≡ self.old.categories }
+        ensures members { self.new.members ≡ self.old.members }
     {
         let parents = &mut self.parents[child.0 as usize];
         if is_among(parents, parent) {
