@@ -11,6 +11,8 @@ mod faults;
 #[cfg(test)]
 mod formats;
 #[cfg(test)]
+mod limits;
+#[cfg(test)]
 mod rollups;
 #[cfg(test)]
 mod running;

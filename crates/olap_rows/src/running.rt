@@ -53,6 +53,26 @@ pub(crate) fn check(
     Ok(())
 }
 
+/// Runs the command line over ample room, and compares the status, and the output where one is given.
+pub(crate) fn check_status(
+    rt: &impl Abort,
+    alloc: Global,
+    line: &[&str],
+    held: &[(&str, &str)],
+    wanted: Status,
+    output: &str,
+) -> Result<(), Fail> {
+    let mut library = MemLibrary::new(files(alloc, held)?, 4096, listed(alloc, None)?);
+    let mut sink = MemSink::new(alloc, 100_000, 4096, listed(alloc, None)?)?;
+    let words = words(alloc, line)?;
+    let status = olap(alloc, &words, &mut library, &mut sink);
+    assert_eq!(rt; status, wanted, "{output}");
+    if !output.is_empty() {
+        assert_eq!(rt; sink.contents(), output.as_bytes());
+    }
+    Ok(())
+}
+
 /// The text with the first place of this line changed.
 pub(crate) fn changed(alloc: Global, text: &str, old: &str, new: &str) -> Result<String, Fail> {
     let Some((before, behind)) = text.split_once(old) else {
