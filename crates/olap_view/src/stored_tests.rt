@@ -3,45 +3,31 @@ ghost use Rattle.std.specs.Prelude.{◌≡◌, ◌<◌, ◌≤◌, ◌^◌, ℕ,
 ghost use Rattle.olap_view.specs.Seen.{views_of};
 ghost use Rattle.olap_view.specs.Stores.{Fits, IsStore};
 
-use crate::tests::{declare, join, legal};
+use crate::tests::{legal, schema};
 use crate::{Row, Store, View, from_views, print_view};
 use olap_base::{CatId, List, MemberId, Text};
 use olap_check::Legal;
-use olap_graph::{Graph, GraphBuilder};
 use olap_instance::{Instance, read_instance};
 use std::alloc::Global;
 use std::process::Abort;
 
-// Stores below cities, and two ways from there to countries.
-fn location(alloc: Global, rt: &impl Abort) -> Graph {
-    let mut builder = GraphBuilder::new(alloc).expect(rt, "memory");
-    let names: [&[u8]; 6] = [
-        b"Store",
-        b"City",
-        b"State",
-        b"Province",
-        b"Region",
-        b"Country",
-    ];
-    for name in names {
-        declare(alloc, rt, &mut builder, name);
-    }
-    let edges: [(&[u8], &[u8]); 9] = [
-        (b"Store", b"City"),
-        (b"City", b"State"),
-        (b"City", b"Province"),
-        (b"City", b"Country"),
-        (b"State", b"Region"),
-        (b"State", b"Country"),
-        (b"Province", b"Region"),
-        (b"Region", b"Country"),
-        (b"Country", b"All"),
-    ];
-    for (child, parent) in edges {
-        join(rt, &mut builder, child, parent);
-    }
-    builder.finish().expect(rt, "a graph")
-}
+const LOCATION: &[u8] = b"schema 1
+category Store
+category City
+category State
+category Province
+category Region
+category Country
+edge Store City
+edge City State
+edge City Province
+edge City Country
+edge State Region
+edge State Country
+edge Province Region
+edge Region Country
+edge Country All
+";
 
 const MEMBERS: &[u8] = b"id,category,name,parents
 s1,Store,S1,w
@@ -149,10 +135,10 @@ fn text_from(
 #[test]
 fn stored_views(rt: HostRuntime) {
     let alloc = rt.alloc();
-    let graph = location(alloc, &rt);
-    let instance = read_instance(alloc, &graph, MEMBERS).expect(&rt, "an instance");
+    let schema = schema(alloc, &rt, LOCATION);
+    let instance = read_instance(alloc, schema.graph(), MEMBERS).expect(&rt, "an instance");
     assert!(rt; instance.members() == 18);
-    let legal = legal(alloc, &rt, &graph, instance);
+    let legal = legal(alloc, &rt, &schema, instance);
     let store = stored(alloc, &rt, legal.instance());
     let cases: [(u16, u16, &[u8]); 4] = [
         (7, 0, b"member,count,sum,least,greatest\nall,9,30,-5,10\n"),

@@ -1,61 +1,52 @@
 // Views of small instances, from texts to a text.
 ghost use Rattle.std.specs.Prelude.{◌≡◌};
 ghost use Rattle.olap_instance.specs.Made.{IsMadeFor};
+ghost use Rattle.olap_schema.specs.Schemas.{schema_of};
 
 use crate::{direct, print_view};
 use olap_base::Text;
-use olap_check::{Legal, check_parts};
+use olap_check::{Legal, check};
 use olap_facts::read_facts;
-use olap_graph::{Graph, GraphBuilder, category_name};
 use olap_instance::{Instance, read_instance};
+use olap_schema::{Schema, read_schema};
 use std::alloc::Global;
 use std::process::Abort;
 
-pub(crate) fn declare(alloc: Global, rt: &impl Abort, builder: &mut GraphBuilder, name: &[u8]) {
-    if category_name(name) && name.len() <= 255 {
-        let text = Text::from_bytes(alloc, name).expect(rt, "memory");
-        builder.add_category(text).expect(rt, "a category");
+// The schema of a text.
+pub(crate) fn schema(alloc: Global, rt: &impl Abort, text: &[u8]) -> Schema {
+    match read_schema(alloc, text) {
+        Ok(schema) => schema,
+        Err(_) => panic!(rt; "a schema"),
     }
 }
 
-pub(crate) fn join(rt: &impl Abort, builder: &mut GraphBuilder, child: &[u8], parent: &[u8]) {
-    if let Some(c) = builder.category(child) {
-        if let Some(d) = builder.category(parent) {
-            builder.add_edge(c, d).expect(rt, "an edge");
-        }
-    }
-}
-
-// The instance, which is legal where no constraint is asked.
-pub(crate) fn legal(alloc: Global, rt: &impl Abort, graph: &Graph, instance: Instance) -> Legal
-    requires { IsMadeFor graph.now instance }
+// The instance, if it is legal.
+pub(crate) fn legal(alloc: Global, rt: &impl Abort, schema: &Schema, instance: Instance) -> Legal
+    requires { IsMadeFor (schema_of schema.now).graph instance }
     ensures { result ≡ instance }
 {
-    match check_parts(alloc, graph, &[], instance) {
+    match check(alloc, schema, instance) {
         Ok(legal) => legal,
         Err(_) => panic!(rt; "a legal instance"),
     }
 }
 
-// Stores below cities, and cities below `All`.
-fn stores(alloc: Global, rt: &impl Abort) -> Graph {
-    let mut builder = GraphBuilder::new(alloc).expect(rt, "memory");
-    declare(alloc, rt, &mut builder, b"Store");
-    declare(alloc, rt, &mut builder, b"City");
-    join(rt, &mut builder, b"Store", b"City");
-    join(rt, &mut builder, b"City", b"All");
-    builder.finish().expect(rt, "a graph")
-}
+const STORES: &[u8] = b"schema 1
+category Store
+category City
+edge Store City
+edge City All
+";
 
 const MEMBERS: &[u8] = b"id,category,name,parents\na,Store,a,c1\nb,Store,b,c1\nc1,City,c1,all\n";
 
 // The text of a category's view, with these facts.
 fn view_of(alloc: Global, rt: &impl Abort, category: &[u8], facts: &[u8]) -> Text {
-    let graph = stores(alloc, rt);
-    let instance = read_instance(alloc, &graph, MEMBERS).expect(rt, "an instance");
-    let facts = read_facts(alloc, &graph, &instance, facts).expect(rt, "facts");
-    let c = graph.category(category).expect(rt, "a category");
-    let legal = legal(alloc, rt, &graph, instance);
+    let schema = schema(alloc, rt, STORES);
+    let instance = read_instance(alloc, schema.graph(), MEMBERS).expect(rt, "an instance");
+    let facts = read_facts(alloc, schema.graph(), &instance, facts).expect(rt, "facts");
+    let c = schema.graph().category(category).expect(rt, "a category");
+    let legal = legal(alloc, rt, &schema, instance);
     let view = direct(alloc, &legal, &facts, c).expect(rt, "a view");
     print_view(alloc, legal.instance(), &view).expect(rt, "a text")
 }
