@@ -19,7 +19,8 @@ fn checks(rt: HostRuntime) -> Result<(), Fail> {
             &held,
             (None, None),
             400,
-            (Status::Yes, output),
+            Status::Yes,
+            output,
         )?;
     }
     let rows: [(&str, &str, &str); 6] = [
@@ -65,7 +66,8 @@ fn checks(rt: HostRuntime) -> Result<(), Fail> {
             &held,
             (None, None),
             400,
-            (Status::Refused, output),
+            Status::Refused,
+            output,
         )?;
     }
     let ring = "id,category,name,parents\nb,B,b,r\nr,R,r,b\n";
@@ -77,6 +79,7 @@ fn checks(rt: HostRuntime) -> Result<(), Fail> {
         &held,
         (None, None),
         400,
-        (Status::Refused, "refused instance Stratification \"b\"\n"),
+        Status::Refused,
+        "refused instance Stratification \"b\"\n",
     )
 }

@@ -18,7 +18,8 @@ fn faults(rt: HostRuntime) -> Result<(), Fail> {
         &held,
         (None, None),
         400,
-        (Status::ReadFault, ""),
+        Status::ReadFault,
+        "",
     )?;
     for call in [1, 3, 8, 18] {
         check(
@@ -28,7 +29,8 @@ fn faults(rt: HostRuntime) -> Result<(), Fail> {
             &held,
             (Some(call), None),
             400,
-            (Status::ReadFault, ""),
+            Status::ReadFault,
+            "",
         )?;
     }
     check(
@@ -38,7 +40,8 @@ fn faults(rt: HostRuntime) -> Result<(), Fail> {
         &held,
         (None, Some(1)),
         400,
-        (Status::WriteFault, ""),
+        Status::WriteFault,
+        "",
     )?;
     check(
         &rt,
@@ -47,7 +50,8 @@ fn faults(rt: HostRuntime) -> Result<(), Fail> {
         &held,
         (None, None),
         10,
-        (Status::WriteFault, "member,cou"),
+        Status::WriteFault,
+        "member,cou",
     )?;
     check(
         &rt,
@@ -56,6 +60,7 @@ fn faults(rt: HostRuntime) -> Result<(), Fail> {
         &held,
         (None, None),
         400,
-        (Status::Yes, CITY_VIEW),
+        Status::Yes,
+        CITY_VIEW,
     )
 }

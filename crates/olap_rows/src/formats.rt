@@ -27,7 +27,8 @@ fn formats(rt: HostRuntime) -> Result<(), Fail> {
         &held,
         (None, None),
         400,
-        (Status::Yes, canonical.as_str()),
+        Status::Yes,
+        canonical.as_str(),
     )?;
     let rows: [(&str, &str, &str); 7] = [
         (
@@ -72,7 +73,8 @@ fn formats(rt: HostRuntime) -> Result<(), Fail> {
             &held,
             (None, None),
             400,
-            (Status::Refused, output),
+            Status::Refused,
+            output,
         )?;
     }
     check(
@@ -82,6 +84,7 @@ fn formats(rt: HostRuntime) -> Result<(), Fail> {
         &[],
         (None, None),
         400,
-        (Status::ReadFault, ""),
+        Status::ReadFault,
+        "",
     )
 }

@@ -72,15 +72,7 @@ fn rollups_over_a_chain(rt: HostRuntime) -> Result<(), Fail> {
     ];
     for (schema, instance, facts, output, status) in rows {
         let held = [("S", schema), ("I", instance), ("F", facts)];
-        check(
-            &rt,
-            alloc,
-            &LINE,
-            &held,
-            (None, None),
-            400,
-            (status, output),
-        )?;
+        check(&rt, alloc, &LINE, &held, (None, None), 400, status, output)?;
     }
     Ok(())
 }
@@ -116,7 +108,8 @@ fn rollups_over_locations(rt: HostRuntime) -> Result<(), Fail> {
             &held,
             (None, None),
             400,
-            (status, output),
+            status,
+            output,
         )?;
     }
     Ok(())
@@ -180,7 +173,8 @@ fn faults_of_records(rt: HostRuntime) -> Result<(), Fail> {
             &held,
             (None, None),
             400,
-            (Status::Refused, output),
+            Status::Refused,
+            output,
         )?;
     }
     Ok(())
@@ -206,7 +200,8 @@ fn wrong_words(rt: HostRuntime) -> Result<(), Fail> {
             &[],
             (Some(1), None),
             400,
-            (Status::Usage, "usage\n"),
+            Status::Usage,
+            "usage\n",
         )?;
     }
     Ok(())

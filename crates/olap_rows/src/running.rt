@@ -42,14 +42,15 @@ pub(crate) fn check(
     held: &[(&str, &str)],
     failing: (Option<u64>, Option<u64>),
     room: usize,
-    wanted: (Status, &str),
+    wanted: Status,
+    output: &str,
 ) -> Result<(), Fail> {
     let mut library = MemLibrary::new(files(alloc, held)?, 16, listed(alloc, failing.0)?);
     let mut sink = MemSink::new(alloc, room, 7, listed(alloc, failing.1)?)?;
     let words = words(alloc, line)?;
     let status = olap(alloc, &words, &mut library, &mut sink);
-    assert_eq!(rt; status, wanted.0, "{}", wanted.1);
-    assert_eq!(rt; sink.contents(), wanted.1.as_bytes());
+    assert_eq!(rt; status, wanted, "{output}");
+    assert_eq!(rt; sink.contents(), output.as_bytes());
     Ok(())
 }
 
