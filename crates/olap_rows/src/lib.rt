@@ -13,6 +13,8 @@ mod formats;
 #[cfg(test)]
 mod limits;
 #[cfg(test)]
+mod many;
+#[cfg(test)]
 mod rollups;
 #[cfg(test)]
 mod running;
