@@ -9,7 +9,7 @@ use Rattle.olap_base.proofs.ListLemmas.{contains_head, Contains-nil, Contains-ma
 use Rattle.std.proofs.lemmas.List.Elements.{All-from_recursion}
 use Rattle.olap_ast.specs.Example.{stores, one_store, OneStoreIsLegal}
 
-alone : {A : Type 0} (x y : A) → Contains (x ∷ []) y → x ≡ y
+pub alone : {A : Type 0} (x y : A) → Contains (x ∷ []) y → x ≡ y
 alone x y c = elim (contains_cases y x [] c) [ inl e ↦ e | inr n ↦ absurd (Contains-nil y n) ]
 
 edge : (c d : ℕ) → HasEdge stores.graph c d → (c ≡ 1) × (d ≡ 0)

@@ -1,4 +1,8 @@
 -- Lemmas.
+pub mod Decided
+pub mod Unviolated
+pub mod Least
+pub mod Violated
 pub mod Truth
 pub mod ConstantLemmas
 pub mod Renaming
@@ -6,5 +10,9 @@ pub mod Shape
 pub mod SmallModel
 pub mod Summing
 pub mod Examples
+mod SummarizableExample
+pub mod TextLemmas
+mod CandidatesExist
+mod Uniqueness
+mod QuestionLemmas
 mod ListingLemmas
-mod TextLemmas

@@ -18,7 +18,7 @@ use Rattle.olap_ast.specs.Frozen.{is_present, categories_in_order, present_categ
 
 -- ---- tests over a list of any type
 
-list_any_is : {A : Type 0} (p : A → Bool) (xs : List A) →
+pub list_any_is : {A : Type 0} (p : A → Bool) (xs : List A) →
     IsTrue (list_any p xs) ↔ ((x : A) × Contains xs x × (p x ≡ true))
 list_any_is p [] = (λ e. absurd (cc), λ t. absurd (Contains-nil t.0 t.1))
 list_any_is {A} p (x ∷ xs) = let r = list_any_is p xs in (to r.0 (p x) refl, λ t. from r.1 (p x) refl t.0 t.1 t.2)
@@ -37,21 +37,21 @@ list_any_is {A} p (x ∷ xs) = let r = list_any_is p xs in (to r.0 (p x) refl, �
       | inr d ↦ rest (y, d, h)
     ]
 
-same_is : (a b : ℕ) → a == b ≡ true → a ≡ b
+pub same_is : (a b : ℕ) → a == b ≡ true → a ≡ b
 same_is a b e = grind (arith, nat_tests)
 
-is_same : (a b : ℕ) → a ≡ b → a == b ≡ true
+pub is_same : (a b : ℕ) → a ≡ b → a == b ≡ true
 is_same a b e = grind (arith, nat_tests)
 
-either_true : (a b : Bool) → a || b ≡ true → (a ≡ true) ⊎ (b ≡ true)
+pub either_true : (a b : Bool) → a || b ≡ true → (a ≡ true) ⊎ (b ≡ true)
 either_true true b e = inl refl
 either_true false b e = inr e
 
-left_true : (a b : Bool) → a ≡ true → a || b ≡ true
+pub left_true : (a b : Bool) → a ≡ true → a || b ≡ true
 left_true true b e = refl
 left_true false b e = absurd (cc)
 
-right_true : (a b : Bool) → b ≡ true → a || b ≡ true
+pub right_true : (a b : Bool) → b ≡ true → a || b ≡ true
 right_true true b e = refl
 right_true false b e = e
 
@@ -143,14 +143,14 @@ member_above_is g i w x y h s =
 
 -- ---- the shape above x
 
-last_step : {R : ℕ → ℕ → Type 0} {x y : ℕ} → Steps R x y → (x ≡ y) ⊎ ((z : ℕ) × Steps R x z × R z y)
+pub last_step : {R : ℕ → ℕ → Type 0} {x y : ℕ} → Steps R x y → (x ≡ y) ⊎ ((z : ℕ) × Steps R x z × R z y)
 last_step here = inl refl
 last_step {R} (step {x = x} {y = z} {z = y} r s) = elim (last_step s) [
   | inl q ↦ inr (x, here, subst (λ u. R x u) q r)
   | inr t ↦ inr (t.0, step r t.1, t.2)
 ]
 
-Distinct-push : {A : Type 0} (xs : List A) (y : A) → Distinct xs → (Contains xs y → ⊥) → Distinct (xs ++ y ∷ [])
+pub Distinct-push : {A : Type 0} (xs : List A) (y : A) → Distinct xs → (Contains xs y → ⊥) → Distinct (xs ++ y ∷ [])
 Distinct-push [] y d n = (Contains-nil y, tt)
 Distinct-push (x ∷ xs) y d n = (
   λ c. elim (Contains-append_cases xs (y ∷ []) x c) [
@@ -183,11 +183,11 @@ not_all g hier c a q = is_reserved (get_or g.names c []) q
     is_reserved [] q n = n
     is_reserved (b ∷ rest) q n = n.2 (3, lit< tt, sym q)
 
-same_edge : (e f : Edge) → e.child ≡ f.child → e.parent ≡ f.parent → e ≡ f
+pub same_edge : (e f : Edge) → e.child ≡ f.child → e.parent ≡ f.parent → e ≡ f
 same_edge e f p q = λ z. record { child = p z; parent = q z }
 
 -- two categories of the graph with one id are one
-same_id : (g : Graph) → IsHierarchy g → (c d : ℕ) → Contains (categories_in_order g) c →
+pub same_id : (g : Graph) → IsHierarchy g → (c d : ℕ) → Contains (categories_in_order g) c →
     Contains (categories_in_order g) d → id_of g c ≡ id_of g d → c ≡ d
 same_id g hier zero zero a b q = refl
 same_id g hier zero (suc d) a b q = absurd (not_all g hier d b (sym q))
@@ -212,7 +212,7 @@ place_at_end (x ∷ xs) y n = go (x == y) (λ e. n
     go true f q = absurd (f refl)
     go false f q = ap suc q
 
-last_in : (p : ℕ → Bool) (xs : List ℕ) (y : ℕ) → (Contains xs y → ⊥) → p y ≡ true →
+pub last_in : (p : ℕ → Bool) (xs : List ℕ) (y : ℕ) → (Contains xs y → ⊥) → p y ≡ true →
     suc (place_in (filter p (xs ++ y ∷ [])) y) ≡ length (filter p (xs ++ y ∷ []))
 last_in p xs y n e = subst (λ l. suc (place_in l y) ≡ length l)
     (sym (filter-append p xs (y ∷ []) ∙ ap (λ l. filter p xs ++ l) (one (p y) e)))

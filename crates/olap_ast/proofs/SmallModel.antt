@@ -112,12 +112,12 @@ module _ (s : Schema) (q : Formula) (k : Candidates) (hier : IsHierarchy s.graph
       go a b n (inl u) = (
         λ text t. (λ z. sym (n ∙ u.1) ∙ z, λ z. n ∙ u.1 ∙ z),
         λ p. inl (subst (λ z. IsConstant s q (suc c) z) (sym (n ∙ u.1))
-            ((ok.texts (suc c)).sound (name_of i y) u.0)),
+            ((ok.texts c).sound (name_of i y) u.0)),
       )
       go a b n (inr u) = (
         λ text t. (
           λ z. absurd (ok.fresh.free (suc c) (subst (λ w. IsConstant s q (suc c) w) (sym z ∙ n ∙ u.1) t)),
-          λ z. absurd (u.0 (subst (λ w. Contains (k.texts (suc c)) w) (sym z) ((ok.texts (suc c)).complete text t))),
+          λ z. absurd (u.0 (subst (λ w. Contains (k.texts (suc c)) w) (sym z) ((ok.texts c).complete text t))),
         ),
         λ p. inr (subst (λ z. IsFreshName s q z) (sym (n ∙ u.1)) ok.fresh),
       )

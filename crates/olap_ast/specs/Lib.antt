@@ -1,17 +1,16 @@
 -- Definitions that contracts cite.
+
+-- What a reader of the claims believes.
 pub mod Formula
 pub mod Schema
 pub mod Constants
 pub mod Valid
 pub mod Violation
-pub mod Decided
-pub mod Unviolated
-pub mod Least
-pub mod Violated
-pub mod Judging
 pub mod Frozen
 pub mod Summarizable
 pub mod Findings
+pub mod Questions
 pub mod Example
+-- The inside: what the program's formulas stand for.
 pub mod Trees
 pub mod Listing

@@ -21,8 +21,11 @@ pub fn constants(alloc: Global, f: &Formula, c: CatId) -> Result<List<Text>, Mem
     Ok(List::from_vec(texts))
 }
 
+/// Puts the texts of the formula's atoms on the category behind those that are there, in order.
+///
+/// Where it is refused, some of them may stand there.
 #[cycle(gather)]
-fn gather(alloc: Global, f: &Formula, c: CatId, texts: &mut Vec<Text>) -> Result<(), Memory>
+pub fn gather(alloc: Global, f: &Formula, c: CatId, texts: &mut Vec<Text>) -> Result<(), Memory>
     ensures { OnOk result (texts.new.items ≡ texts.old.items ++ texts_on c.0 (equalities (formula_of f.now))) }
 {
     match f {

@@ -1,10 +1,10 @@
 // Theorems over the definitions. Each is the clause of a function that does nothing.
-ghost use Rattle.olap_ast.specs.Constants.{RenamingIsHarmless};
-ghost use Rattle.olap_ast.specs.Example.{OneStoreIsLegal};
-ghost use Rattle.olap_ast.specs.Frozen.{FrozenExactlyIfSomeInstance};
-ghost use Rattle.olap_ast.specs.Judging.{FirstViolationIsFirst};
+ghost use Rattle.olap_ast.specs.Constants.{FreshNamesExist, RenamingIsHarmless};
+ghost use Rattle.olap_ast.specs.Example.{OneStoreIsLegal, StoresAreSummarizable};
+ghost use Rattle.olap_ast.specs.Frozen.{CandidatesExist, FrozenExactlyIfSomeInstance, LeastIsOne};
+ghost use Rattle.olap_ast.specs.Questions.{ImpliedExactlyIfNoneFrozen, RedundantExactlyIfNoneFrozen, UnsatisfiableExactlyIfNoneFrozen, UnusedExactlyIfNoneFrozen};
 ghost use Rattle.olap_ast.specs.Schema.{AboveIsLegal};
-ghost use Rattle.olap_ast.specs.Summarizable.{SummarizableExactlyIfNoneFrozen};
+ghost use Rattle.olap_ast.specs.Summarizable.{CounterexampleIsOne, SummarizableExactlyIfNoneFrozen};
 ghost use Rattle.olap_ast.specs.Violation.{LegalExactlyIfNoViolation};
 
 /// What one member of a legal instance reaches is a legal instance with at most one member per category, and
@@ -19,29 +19,72 @@ pub fn renaming_is_harmless()
     ensures { RenamingIsHarmless }
 {}
 
-/// There is a frozen dimension exactly where some legal instance, of any size, has a member of the root at which
-/// the question is true.
+/// Every schema and question have one fresh name.
+pub fn fresh_names_exist()
+    ensures { FreshNamesExist }
+{}
+
+/// Every schema and question have candidates: the fresh name, and each category's constants in byte order.
+pub fn candidates_exist()
+    ensures { CandidatesExist }
+{}
+
+/// In a hierarchy, and for the candidates of the schema and the question: there is a frozen dimension exactly where some
+/// legal instance, of any size, has a member of the root at which the question is true.
 pub fn frozen_exactly_if_some_instance()
     ensures { FrozenExactlyIfSomeInstance }
 {}
 
-/// A category is summarizable exactly where no bottom category has a frozen dimension whose root reaches it, and
-/// not by exactly one source.
+/// There is one least frozen dimension at most.
+pub fn least_is_one()
+    ensures { LeastIsOne }
+{}
+
+/// In a hierarchy: a category is unsatisfiable exactly where it is the root of no frozen dimension.
+pub fn unsatisfiable_exactly_if_none_frozen()
+    ensures { UnsatisfiableExactlyIfNoneFrozen }
+{}
+
+/// In a hierarchy: every legal instance meets a constraint exactly where no frozen dimension has its root and makes its
+/// formula false.
+pub fn implied_exactly_if_none_frozen()
+    ensures { ImpliedExactlyIfNoneFrozen }
+{}
+
+/// In a hierarchy: a constraint is redundant exactly where no frozen dimension of the schema without it makes its formula
+/// false.
+pub fn redundant_exactly_if_none_frozen()
+    ensures { RedundantExactlyIfNoneFrozen }
+{}
+
+/// In a hierarchy: an edge is unused exactly where no frozen dimension with its child as root has it.
+pub fn unused_exactly_if_none_frozen()
+    ensures { UnusedExactlyIfNoneFrozen }
+{}
+
+/// In a hierarchy: a category is summarizable exactly where no bottom category has a frozen dimension whose root
+/// reaches it, and not by exactly one source.
 pub fn summarizable_exactly_if_none_frozen()
     ensures { SummarizableExactlyIfNoneFrozen }
 {}
 
-/// An instance is legal exactly where no law and no constraint is violated.
-pub fn legal_exactly_if_no_violation()
-    ensures { LegalExactlyIfNoViolation }
+/// There is one counterexample at most.
+pub fn counterexample_is_one()
+    ensures { CounterexampleIsOne }
 {}
 
-/// The function `first_violation` gives nothing exactly where the instance is legal, and else the first violation.
-pub fn first_violation_is_first()
-    ensures { FirstViolationIsFirst }
+/// A list of members that is an instance is legal exactly where no law and no constraint is violated.
+pub fn legal_exactly_if_no_violation()
+    ensures { LegalExactlyIfNoViolation }
 {}
 
 /// The definitions can be met: a graph with one store below `All` is a hierarchy, and an instance of it is legal.
 pub fn one_store_is_legal()
     ensures { OneStoreIsLegal }
+{}
+
+/// Summarizability is neither always so nor never: of the schema with one store below `All`, the total of `All` can be
+/// taken from the stores' view, and neither from no view nor from the stores' view and its own together.
+pub fn stores_are_summarizable()
+    ensures { StoresAreSummarizable }
 {}

@@ -13,11 +13,14 @@ mod measuring;
 #[cfg(test)]
 mod tests;
 
-pub use collecting::constants;
+pub use collecting::{constants, gather};
 pub use copying::copy;
 pub use formulas::{Constraint, Formula, Terms};
 pub use laws::{
-    above_is_legal, frozen_exactly_if_some_instance, legal_exactly_if_no_violation,
-    one_store_is_legal, renaming_is_harmless, summarizable_exactly_if_none_frozen,
+    above_is_legal, candidates_exist, counterexample_is_one, fresh_names_exist,
+    frozen_exactly_if_some_instance, implied_exactly_if_none_frozen, least_is_one,
+    legal_exactly_if_no_violation, one_store_is_legal, redundant_exactly_if_none_frozen,
+    renaming_is_harmless, stores_are_summarizable, summarizable_exactly_if_none_frozen,
+    unsatisfiable_exactly_if_none_frozen, unused_exactly_if_none_frozen,
 };
 pub use measuring::{depth, nodes};

@@ -11,7 +11,8 @@ use native.Mathlib.Decide.{ℕ_discrete}
 use Rattle.olap_base.specs.Steps.{Steps, Steps.here, Steps.step, Climb, Climb.climb, Steps-append, Steps-cases, leads_from_Climb, Steps-from_reaches, reaches_from_Steps}
 use Rattle.olap_base.specs.Graph.{Graph}
 use Rattle.olap_base.specs.Instance.{Instance, nobody, IsInstance, IsLawful, IsBelow, Reaches, category_of, name_of, member_at, parents_of}
-use Rattle.olap_base.specs.Deciding.{below_is_member, contains_cases, reaches, reaches_is}
+use Rattle.olap_base.specs.Deciding.{below_is_member, contains_cases}
+use Rattle.olap_base.specs.Reaching.{reaches, reaches_is}
 use Rattle.olap_base.specs.Above.{members_above, place_in, above, self_above, HasOneMemberEach}
 use Rattle.olap_base.proofs.ListLemmas.{Contains-map, Contains-from_map, Contains-filter, Contains-from_filter, Contains-range, Contains-from_range, place_in_is}
 use Rattle.olap_base.proofs.Part.{IsPart, increasing_injective, order, part_lawful, part_instance, part_lift}

@@ -2,8 +2,9 @@
 pub mod ListLemmas
 pub mod Part
 pub mod AboveLemmas
-pub mod Summaries
+pub mod TotalLemmas
 pub mod ViewLemmas
+pub mod OneFactLemmas
 pub mod Reading
 pub mod Writing
 pub mod Places

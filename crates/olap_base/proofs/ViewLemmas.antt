@@ -1,85 +1,46 @@
 -- The two views of a category agree for every fact table exactly where each fact's member is reached by one source.
-use Rattle.std.proofs.Common.{◌≡◌, ℕ, ◌+◌, ◌⊎◌, ◌↔◌, List, [], ◌∷◌, length, map, ℤ, pos, ◌+ℤ◌, Bool, true, false, cond, ◌&&◌, ◌||◌, refl, sym, ap, subst, ◌∙◌, inl, inr, Option, Some, None, arith, one-add}
-use Rattle.std.proofs.Math.IntN.{+ℤ_assoc}
-use Rattle.std.specs.Prelude.{Contains, filter, filter_map, flat_map, fold, sum_by, ◌==◌, IsTrue}
+use Rattle.std.proofs.Common.{◌≡◌, ℕ, ◌+◌, ◌⊎◌, ◌↔◌, List, [], ◌∷◌, length, ℤ, pos, Bool, true, false, cond, ◌&&◌, ◌||◌, refl, sym, ap, subst, ◌∙◌, inl, inr, Option, Some, None, arith}
+use Rattle.std.specs.Prelude.{Contains, filter, filter_map, flat_map, ◌==◌, IsTrue}
 use Rattle.std.specs.List.{cons_option, range_with_len, list_any}
-use Rattle.std.specs.Int.{int_min, int_max}
-use Rattle.std.proofs.lemmas.List.Sums.{sum_by-cons}
 use Rattle.std.proofs.lemmas.Bool.Decides.{nat_tests}
 use Rattle.olap_base.specs.Steps.{Steps, Steps-append, Steps-from_reaches}
 use Rattle.olap_base.specs.Graph.{Graph, IsBottom}
 use Rattle.olap_base.specs.Instance.{Instance, IsLawful, IsMember, IsMemberOf, IsBelow, Reaches, ReachesVia, category_of}
-use Rattle.olap_base.specs.Deciding.{reaches, reaches_is, contains_cons, contains_cases}
-use Rattle.olap_base.specs.Views.{Fact, Row, View, members_of, values_at, direct_row, direct_rows, direct_view, rows_below, merged_row, direct_views, NoneOf, ExactlyOne, ViewsAgree, ReachedByOne, AgreeExactlyIfReachedByOne}
+use Rattle.olap_base.specs.Deciding.{contains_cons, contains_cases}
+use Rattle.olap_base.specs.Reaching.{reaches, reaches_is}
+use Rattle.olap_base.specs.Summaries.{Summary, of_value, ◌⊕◌}
+use Rattle.olap_base.specs.Views.{Fact, Row, View, members_of, values_at, total_of_facts, direct_rows, direct_view, row_at, rows_below, total_of_views, direct_views, NoneOf, ExactlyOne, ViewsAgree, ReachedByOne, AgreeExactlyIfReachedByOne}
 use Rattle.olap_base.proofs.ListLemmas.{contains_head, Contains-nil, Contains-filter, Contains-from_filter, Contains-range, Contains-from_range, Distinct, Distinct-range, Distinct-filter, list_any_is, both_true, first_true, second_true}
 use Rattle.olap_base.proofs.AboveLemmas.{reached_once, steps_of, reaches_of}
-use Rattle.olap_base.proofs.Summaries.{Summary, ◌⊕◌, ⊕_none, int_min_assoc, int_max_assoc, total, total_same, total_nothing, total-map, total-flat_map, total-filter, total-filter_map, total_swap, total_when, of_some}
+use Rattle.olap_base.proofs.TotalLemmas.{⊕_none, total_by, total_is, total_same, total_nothing, total-map, total-flat_map, total-filter, total-filter_map, total_swap, total_when, of_some}
 
--- ---- a row is the total of its values, or of its rows
+-- ---- a row's summary
 
-abbrev single : ℤ → Option Summary
-single v = Some (record { count = 1; sum = v; least = v; greatest = v })
-
-abbrev row : ℕ → Summary → Row
-row y s = record { member = y; count = s.count; sum = s.sum; least = s.least; greatest = s.greatest }
-
-abbrev as_row : ℕ → Option Summary → Option Row
-as_row y None = None
-as_row y (Some s) = Some (row y s)
+abbrev pub single : ℤ → Option Summary
+single v = Some (of_value v)
 
 abbrev summary : Row → Option Summary
-summary r = Some (record { count = r.count; sum = r.sum; least = r.least; greatest = r.greatest })
-
-fold_moves : (f : ℤ → ℤ → ℤ) → ((a b c : ℤ) → f (f a b) c ≡ f a (f b c)) → (a b : ℤ) (xs : List ℤ)
-    → f a (fold f b xs) ≡ fold f (f a b) xs
-fold_moves f assoc a b [] = refl
-fold_moves f assoc a b (x ∷ xs) = fold_moves f assoc a (f b x) xs ∙ ap (λ t. fold f t xs) (sym (assoc a b x))
-
-total_of_values : (v : ℤ) (vs : List ℤ)
-    → total single (v ∷ vs) ≡ Some (record { count = length (v ∷ vs); sum = fold ◌+ℤ◌ v vs; least = fold int_min v vs; greatest = fold int_max v vs })
-total_of_values v [] = refl
-total_of_values v (w ∷ ws) = ap (λ t. single v ⊕ t) (total_of_values w ws)
-    ∙ (λ i. Some (record { count = one-add (length (w ∷ ws)) i; sum = fold_moves ◌+ℤ◌ +ℤ_assoc v w ws i; least = fold_moves int_min int_min_assoc v w ws i; greatest = fold_moves int_max int_max_assoc v w ws i }))
-
-direct_row_is : (y : ℕ) (vs : List ℤ) → direct_row y vs ≡ as_row y (total single vs)
-direct_row_is y [] = refl
-direct_row_is y (v ∷ vs) = ap (as_row y) (sym (total_of_values v vs))
-
-total_of_rows : (r : Row) (rs : List Row)
-    → total summary (r ∷ rs) ≡ Some (record { count = sum_by (λ q. q.count) (r ∷ rs); sum = fold ◌+ℤ◌ r.sum (map (λ q. q.sum) rs); least = fold int_min r.least (map (λ q. q.least) rs); greatest = fold int_max r.greatest (map (λ q. q.greatest) rs) })
-total_of_rows r [] =
-    λ i. Some (record { count = zero_plus r.count i; sum = r.sum; least = r.least; greatest = r.greatest })
-  where
-    zero_plus : (n : ℕ) → n ≡ 0 + n
-    zero_plus n = omega arith
-total_of_rows r (q ∷ qs) = ap (λ t. summary r ⊕ t) (total_of_rows q qs)
-    ∙ (λ i. Some (record { count = counts i; sum = fold_moves ◌+ℤ◌ +ℤ_assoc r.sum q.sum (map (λ p. p.sum) qs) i; least = fold_moves int_min int_min_assoc r.least q.least (map (λ p. p.least) qs) i; greatest = fold_moves int_max int_max_assoc r.greatest q.greatest (map (λ p. p.greatest) qs) i }))
-  where
-    counts : r.count + sum_by (λ p. p.count) (q ∷ qs) ≡ sum_by (λ p. p.count) (r ∷ q ∷ qs)
-    counts = sym (sum_by-cons (λ (p : Row). p.count) r (q ∷ qs))
-
-merged_row_is : (y : ℕ) (rs : List Row) → merged_row y rs ≡ as_row y (total summary rs)
-merged_row_is y [] = refl
-merged_row_is y (r ∷ rs) = ap (as_row y) (sym (total_of_rows r rs))
+summary r = Some r.summary
 
 -- ---- the totals behind the two views
 
 module _ (i : Instance) where
   -- a fact's value, where its member reaches y
-  value_if : ℕ → Fact → Option Summary
+  unfoldable pub value_if : ℕ → Fact → Option Summary
   value_if y f = cond (reaches i f.member y) (single f.value) None
 
-  values_total : (facts : List Fact) (y : ℕ) → total single (values_at i facts y) ≡ total (value_if y) facts
+  pub values_total : (facts : List Fact) (y : ℕ) → total_of_facts i facts y ≡ total_by (value_if y) facts
   unfolding value_if
   values_total facts y =
-      total-map single (λ (f : Fact). f.value) (filter (λ (f : Fact). reaches i f.member y) facts)
+      total_is of_value (values_at i facts y)
+      ∙ total-map single (λ (f : Fact). f.value) (filter (λ (f : Fact). reaches i f.member y) facts)
       ∙ total-filter (λ (f : Fact). single f.value) (λ (f : Fact). reaches i f.member y) facts
 
   -- a row's summary, where its member reaches y
   row_if : ℕ → Row → Option Summary
   row_if y r = cond (reaches i r.member y) (summary r) None
 
-  row_of_source : (y z : ℕ) (o : Option Summary) → of_some (row_if y) (as_row z o) ≡ cond (reaches i z y) o None
+  row_of_source : (y z : ℕ) (o : Option Summary) → of_some (row_if y) (row_at z o) ≡ cond (reaches i z y) o None
   unfolding row_if
   row_of_source y z None = go (reaches i z y)
     where
@@ -89,37 +50,38 @@ module _ (i : Instance) where
   row_of_source y z (Some s) = refl
 
   -- the value of a fact by way of the member z
-  value_by : ℕ → ℕ → Fact → Option Summary
+  unfoldable pub value_by : ℕ → ℕ → Fact → Option Summary
   value_by y z f = cond (reaches i z y) (value_if z f) None
 
   source_total : (facts : List Fact) (y s : ℕ)
-      → total (row_if y) (direct_rows i s facts) ≡ total (λ z. total (value_by y z) facts) (members_of i s)
+      → total_by (row_if y) (direct_rows i s facts) ≡ total_by (λ z. total_by (value_by y z) facts) (members_of i s)
   unfolding value_by
-  source_total facts y s = total-filter_map (row_if y) (λ z. direct_row z (values_at i facts z)) (members_of i s)
-      ∙ total_same (λ z. of_some (row_if y) (direct_row z (values_at i facts z))) (λ z. total (value_by y z) facts) (members_of i s)
-      (λ z c. ap (of_some (row_if y)) (direct_row_is z (values_at i facts z)) ∙ row_of_source y z (total single (values_at i facts z))
+  source_total facts y s = total-filter_map (row_if y) (λ z. row_at z (total_of_facts i facts z)) (members_of i s)
+      ∙ total_same (λ z. of_some (row_if y) (row_at z (total_of_facts i facts z))) (λ z. total_by (value_by y z) facts) (members_of i s)
+      (λ z c. row_of_source y z (total_of_facts i facts z)
       ∙ ap (λ t. cond (reaches i z y) t None) (values_total facts z) ∙ total_when (reaches i z y) (value_if z) facts)
 
-  rows_total : (facts : List Fact) (sources : List ℕ) (y : ℕ)
-      → total summary (rows_below i (direct_views i facts sources) y) ≡ total (λ f. total (λ s. total (λ z. value_by y z f) (members_of i s)) sources) facts
+  pub rows_total : (facts : List Fact) (sources : List ℕ) (y : ℕ)
+      → total_of_views i (direct_views i facts sources) y ≡ total_by (λ f. total_by (λ s. total_by (λ z. value_by y z f) (members_of i s)) sources) facts
   unfolding row_if
-  rows_total facts sources y = total-filter summary (λ (r : Row). reaches i r.member y) (flat_map (λ (v : View). v.rows) (direct_views i facts sources))
+  rows_total facts sources y = total_is (λ (r : Row). r.summary) (rows_below i (direct_views i facts sources) y)
+      ∙ total-filter summary (λ (r : Row). reaches i r.member y) (flat_map (λ (v : View). v.rows) (direct_views i facts sources))
       ∙ total-flat_map (row_if y) (λ (v : View). v.rows) (direct_views i facts sources)
-      ∙ total-map (λ (v : View). total (row_if y) v.rows) (direct_view i facts) sources
-      ∙ total_same (λ s. total (row_if y) (direct_rows i s facts)) (λ s. total (λ f. total (λ z. value_by y z f) (members_of i s)) facts) sources
+      ∙ total-map (λ (v : View). total_by (row_if y) v.rows) (direct_view i facts) sources
+      ∙ total_same (λ s. total_by (row_if y) (direct_rows i s facts)) (λ s. total_by (λ f. total_by (λ z. value_by y z f) (members_of i s)) facts) sources
       (λ s c. source_total facts y s ∙ total_swap (value_by y) (members_of i s) facts)
-      ∙ total_swap (λ s f. total (λ z. value_by y z f) (members_of i s)) sources facts
+      ∙ total_swap (λ s f. total_by (λ z. value_by y z f) (members_of i s)) sources facts
 
 -- ---- totals of one value
 
-nothing_if : (b : Bool) (m : Option Summary) → b ≡ false → cond b m None ≡ None
+pub nothing_if : (b : Bool) (m : Option Summary) → b ≡ false → cond b m None ≡ None
 nothing_if true m e = absurd (cc)
 nothing_if false m e = refl
 
 -- where at most one passes
 total_once : (p : ℕ → Bool) (m : Option Summary) (xs : List ℕ) → Distinct xs
     → ((x y : ℕ) → Contains xs x → Contains xs y → p x ≡ true → p y ≡ true → x ≡ y)
-    → total (λ x. cond (p x) m None) xs ≡ cond (list_any p xs) m None
+    → total_by (λ x. cond (p x) m None) xs ≡ cond (list_any p xs) m None
 total_once p m [] a h = refl
 total_once p m (x ∷ xs) a h =
     go (p x) refl (total_once p m xs a.1 (λ y z c d. h y z (contains_cons y xs x c) (contains_cons z xs x d)))
@@ -132,35 +94,35 @@ total_once p m (x ∷ xs) a h =
     none e y c =
         nothing_if (p y) m (fails (p y) (λ q. a.0 (subst (λ w. Contains xs w) (h y x (contains_cons y xs x c) (contains_head x xs) q e) c)))
 
-    go : (b : Bool) → p x ≡ b → total (λ z. cond (p z) m None) xs ≡ cond (list_any p xs) m None
-        → cond b m None ⊕ total (λ z. cond (p z) m None) xs ≡ cond (b || list_any p xs) m None
+    go : (b : Bool) → p x ≡ b → total_by (λ z. cond (p z) m None) xs ≡ cond (list_any p xs) m None
+        → cond b m None ⊕ total_by (λ z. cond (p z) m None) xs ≡ cond (b || list_any p xs) m None
     go true e ih =
         ap (λ t. m ⊕ t) (total_same (λ z. cond (p z) m None) (λ z. None) xs (none e) ∙ total_nothing xs) ∙ ⊕_none m
     go false e ih = ih
 
 -- where exactly one holds
 total_none_of : (P : ℕ → Type 0) (p : ℕ → Bool) → ((x : ℕ) → IsTrue (p x) ↔ P x)
-    → (m : Option Summary) (xs : List ℕ) → NoneOf P xs → total (λ x. cond (p x) m None) xs ≡ None
+    → (m : Option Summary) (xs : List ℕ) → NoneOf P xs → total_by (λ x. cond (p x) m None) xs ≡ None
 total_none_of P p d m [] n = refl
 total_none_of P p d m (x ∷ xs) n = go (p x) (λ e. n.0 ((d x).0 e)) ∙ total_none_of P p d m xs n.1
   where
     go : (b : Bool) → (b ≡ true → ⊥)
-        → cond b m None ⊕ total (λ z. cond (p z) m None) xs ≡ total (λ z. cond (p z) m None) xs
+        → cond b m None ⊕ total_by (λ z. cond (p z) m None) xs ≡ total_by (λ z. cond (p z) m None) xs
     go true f = absurd (f refl)
     go false f = refl
 
 total_exactly_one : (P : ℕ → Type 0) (p : ℕ → Bool) → ((x : ℕ) → IsTrue (p x) ↔ P x)
-    → (m : Option Summary) (xs : List ℕ) → ExactlyOne P xs → total (λ x. cond (p x) m None) xs ≡ m
+    → (m : Option Summary) (xs : List ℕ) → ExactlyOne P xs → total_by (λ x. cond (p x) m None) xs ≡ m
 total_exactly_one P p d m [] o = absurd o
 total_exactly_one P p d m (x ∷ xs) (inl o) = go (p x) ((d x).1 o.0)
   where
-    go : (b : Bool) → b ≡ true → cond b m None ⊕ total (λ z. cond (p z) m None) xs ≡ m
+    go : (b : Bool) → b ≡ true → cond b m None ⊕ total_by (λ z. cond (p z) m None) xs ≡ m
     go true f = ap (λ t. m ⊕ t) (total_none_of P p d m xs o.1) ∙ ⊕_none m
     go false f = absurd (cc)
 total_exactly_one P p d m (x ∷ xs) (inr o) = go (p x) (λ e. o.0 ((d x).0 e)) ∙ total_exactly_one P p d m xs o.1
   where
     go : (b : Bool) → (b ≡ true → ⊥)
-        → cond b m None ⊕ total (λ z. cond (p z) m None) xs ≡ total (λ z. cond (p z) m None) xs
+        → cond b m None ⊕ total_by (λ z. cond (p z) m None) xs ≡ total_by (λ z. cond (p z) m None) xs
     go true f = absurd (f refl)
     go false f = refl
 
@@ -170,7 +132,7 @@ when_both : (a b : Bool) (m : Option Summary) → cond a (cond b m None) None �
 when_both true b m = refl
 when_both false b m = refl
 
-members_of_is : (i : Instance) (c y : ℕ) → Contains (members_of i c) y → IsMemberOf i c y
+pub members_of_is : (i : Instance) (c y : ℕ) → Contains (members_of i c) y → IsMemberOf i c y
 members_of_is i c y h =
     let t = Contains-from_filter (λ z. category_of i z == c) (range_with_len 0 (length i)) y h in
     (Contains-from_range (length i) y t.0, same (category_of i y) c t.1)
@@ -178,23 +140,23 @@ members_of_is i c y h =
     same : (a b : ℕ) → a == b ≡ true → a ≡ b
     same a b e = grind (arith, nat_tests)
 
-is_member_of : (i : Instance) (c y : ℕ) → IsMemberOf i c y → Contains (members_of i c) y
+pub is_member_of : (i : Instance) (c y : ℕ) → IsMemberOf i c y → Contains (members_of i c) y
 is_member_of i c y m =
     Contains-filter (λ z. category_of i z == c) (range_with_len 0 (length i)) y (same (category_of i y) c m.1) (Contains-range (length i) y m.0)
   where
     same : (a b : ℕ) → a ≡ b → a == b ≡ true
     same a b e = grind (arith, nat_tests)
 
-Distinct-members_of : (i : Instance) (c : ℕ) → Distinct (members_of i c)
+pub Distinct-members_of : (i : Instance) (c : ℕ) → Distinct (members_of i c)
 Distinct-members_of i c =
     Distinct-filter (λ z. category_of i z == c) (range_with_len 0 (length i)) (Distinct-range 0 (length i))
 
 module _ (g : Graph) (i : Instance) (w : IsLawful g i) (c y : ℕ) (m : IsMemberOf i c y) where
   -- x reaches y by way of a member of s
-  by_source : ℕ → ℕ → Bool
+  pub by_source : ℕ → ℕ → Bool
   by_source x s = list_any (λ z. reaches i z y && reaches i x z) (members_of i s)
 
-  by_source_is : (x : ℕ) → reaches i x y ≡ true → (s : ℕ) → IsTrue (by_source x s) ↔ ReachesVia i x s c
+  pub by_source_is : (x : ℕ) → reaches i x y ≡ true → (s : ℕ) → IsTrue (by_source x s) ↔ ReachesVia i x s c
   unfolding by_source
   by_source_is x r s = (to, from)
     where
@@ -218,27 +180,27 @@ module _ (g : Graph) (i : Instance) (w : IsLawful g i) (c y : ℕ) (m : IsMember
               (reached_once g i w x u y (Steps-append (Steps-from_reaches a) (Steps-from_reaches b)) (steps_of i x y r) (k.1 ∙ sym m.1)) (Steps-from_reaches b)
 
   -- a source has one member by which x reaches y, at most
-  one_by_source : (x s : ℕ) (v : Option Summary)
-      → total (λ z. cond (reaches i z y) (cond (reaches i x z) v None) None) (members_of i s) ≡ cond (by_source x s) v None
+  pub one_by_source : (x s : ℕ) (v : Option Summary)
+      → total_by (λ z. cond (reaches i z y) (cond (reaches i x z) v None) None) (members_of i s) ≡ cond (by_source x s) v None
   unfolding by_source
   one_by_source x s v = total_same (λ z. cond (reaches i z y) (cond (reaches i x z) v None) None) (λ z. cond (reaches i z y && reaches i x z) v None) (members_of i s) (λ z k. when_both (reaches i z y) (reaches i x z) v)
       ∙ once
     where
-      once : total (λ z. cond (reaches i z y && reaches i x z) v None) (members_of i s) ≡ cond (list_any (λ z. reaches i z y && reaches i x z) (members_of i s)) v None
+      once : total_by (λ z. cond (reaches i z y && reaches i x z) v None) (members_of i s) ≡ cond (list_any (λ z. reaches i z y && reaches i x z) (members_of i s)) v None
       once = total_once (λ z. reaches i z y && reaches i x z) v (members_of i s) (Distinct-members_of i s)
           (λ a b k l e f. reached_once g i w x a b (steps_of i x a (second_true (reaches i a y) (reaches i x a) e)) (steps_of i x b (second_true (reaches i b y) (reaches i x b) f))
           ((members_of_is i s a k).1 ∙ sym (members_of_is i s b l).1))
 
   -- what a fact adds to the row of y, by way of the sources
-  by_sources : (sources : List ℕ) (f : Fact)
+  pub by_sources : (sources : List ℕ) (f : Fact)
       → (reaches i f.member y ≡ true → ExactlyOne (λ s. ReachesVia i f.member s c) sources)
-      → total (λ s. total (λ z. value_by i y z f) (members_of i s)) sources ≡ value_if i y f
+      → total_by (λ s. total_by (λ z. value_by i y z f) (members_of i s)) sources ≡ value_if i y f
   unfolding value_by value_if by_source
-  by_sources sources f one = total_same (λ s. total (λ z. value_by i y z f) (members_of i s)) (λ s. cond (by_source f.member s) (single f.value) None) sources (λ s k. one_by_source f.member s (single f.value))
+  by_sources sources f one = total_same (λ s. total_by (λ z. value_by i y z f) (members_of i s)) (λ s. cond (by_source f.member s) (single f.value) None) sources (λ s k. one_by_source f.member s (single f.value))
       ∙ go (reaches i f.member y) refl
     where
       go : (b : Bool) → reaches i f.member y ≡ b
-          → total (λ s. cond (by_source f.member s) (single f.value) None) sources ≡ cond b (single f.value) None
+          → total_by (λ s. cond (by_source f.member s) (single f.value) None) sources ≡ cond b (single f.value) None
       go true e =
           total_exactly_one (λ s. ReachesVia i f.member s c) (by_source f.member) (by_source_is f.member e) (single f.value) sources (one e)
       go false e =
@@ -267,14 +229,12 @@ filter_map_same h k (x ∷ xs) f =
 
 agree : (g : Graph) (i : Instance) (c : ℕ) (sources : List ℕ) → IsLawful g i → ReachedByOne g i c sources
     → ViewsAgree g i c sources
-agree g i c sources w one facts t = filter_map_same (λ y. direct_row y (values_at i facts y)) (λ y. merged_row y (rows_below i (direct_views i facts sources) y)) (members_of i c)
-    (λ y k. direct_row_is y (values_at i facts y)
-    ∙ ap (as_row y) (values_total i facts y
+agree g i c sources w one facts t = filter_map_same (λ y. row_at y (total_of_facts i facts y)) (λ y. row_at y (total_of_views i (direct_views i facts sources) y)) (members_of i c)
+    (λ y k. ap (row_at y) (values_total i facts y
     ∙ sym (rows_total i facts sources y
-    ∙ total_same (λ f. total (λ s. total (λ z. value_by i y z f) (members_of i s)) sources) (value_if i y) facts
+    ∙ total_same (λ f. total_by (λ s. total_by (λ z. value_by i y z f) (members_of i s)) sources) (value_if i y) facts
     (λ f n. by_sources g i w c y (members_of_is i c y k) sources f
-    (λ e. one f.member (t f n).0 (t f n).1 (y, members_of_is i c y k, (reaches_is i f.member y).0 e)))))
-    ∙ sym (merged_row_is y (rows_below i (direct_views i facts sources) y)))
+    (λ e. one f.member (t f n).0 (t f n).1 (y, members_of_is i c y k, (reaches_is i f.member y).0 e))))))
 
 -- ---- and only there
 
@@ -330,24 +290,13 @@ module _ (h : ℕ → Option Row) (keyed : (z : ℕ) (r : Row) → h z ≡ Some 
           go true t = sym e ∙ ap h (sym (keyed x r e) ∙ eqb_is r.member y t)
           go false t = q
 
-direct_row_keyed : (z : ℕ) (vs : List ℤ) (r : Row) → direct_row z vs ≡ Some r → r.member ≡ z
-direct_row_keyed z [] r e = absurd (cc)
-direct_row_keyed z (v ∷ vs) r e = member_of z (direct_row z (v ∷ vs)) r refl e
+row_keyed : (z : ℕ) (o : Option Summary) (r : Row) → row_at z o ≡ Some r → r.member ≡ z
+row_keyed z None r e = absurd (cc)
+row_keyed z (Some s) r e = sym (ap member_or e)
   where
-    member_or : ℕ → Option Row → ℕ
-    member_or d None = d
-    member_or d (Some q) = q.member
-
-    member_of : (d : ℕ) (o : Option Row) (r : Row) → member_or d o ≡ d → o ≡ Some r → r.member ≡ d
-    member_of d o r a b = sym (ap (member_or d) b) ∙ a
-
-merged_row_keyed : (z : ℕ) (rs : List Row) (r : Row) → merged_row z rs ≡ Some r → r.member ≡ z
-merged_row_keyed z [] r e = absurd (cc)
-merged_row_keyed z (q ∷ qs) r e = sym (ap (λ o. member_or z o) e)
-  where
-    member_or : ℕ → Option Row → ℕ
-    member_or d None = d
-    member_or d (Some p) = p.member
+    member_or : Option Row → ℕ
+    member_or None = z
+    member_or (Some q) = q.member
 
 abbrev count : Option Summary → ℕ
 count None = 0
@@ -359,34 +308,34 @@ count-⊕ (Some a) None = omega arith
 count-⊕ (Some a) (Some b) = refl
 
 module _ (P : ℕ → Type 0) (p : ℕ → Bool) (d : (x : ℕ) → IsTrue (p x) ↔ P x) (v : ℤ) where
-  none_from_count : (xs : List ℕ) → count (total (λ x. cond (p x) (single v) None) xs) ≡ 0 → NoneOf P xs
+  none_from_count : (xs : List ℕ) → count (total_by (λ x. cond (p x) (single v) None) xs) ≡ 0 → NoneOf P xs
   none_from_count [] e = tt
   none_from_count (x ∷ xs) e =
-      go (p x) (d x) (count-⊕ (cond (p x) (single v) None) (total (λ z. cond (p z) (single v) None) xs)) (none_from_count xs)
+      go (p x) (d x) (count-⊕ (cond (p x) (single v) None) (total_by (λ z. cond (p z) (single v) None) xs)) (none_from_count xs)
     where
       go : (b : Bool) → IsTrue b ↔ P x
-          → count (cond (p x) (single v) None ⊕ total (λ z. cond (p z) (single v) None) xs) ≡ count (cond b (single v) None) + count (total (λ z. cond (p z) (single v) None) xs)
-          → (count (total (λ z. cond (p z) (single v) None) xs) ≡ 0 → NoneOf P xs) → (P x → ⊥) × NoneOf P xs
+          → count (cond (p x) (single v) None ⊕ total_by (λ z. cond (p z) (single v) None) xs) ≡ count (cond b (single v) None) + count (total_by (λ z. cond (p z) (single v) None) xs)
+          → (count (total_by (λ z. cond (p z) (single v) None) xs) ≡ 0 → NoneOf P xs) → (P x → ⊥) × NoneOf P xs
       go true i c ih = absurd (omega arith)
       go false i c ih = (λ q. let z = i.1 q in cc, ih (omega arith))
 
-  one_from_count : (xs : List ℕ) → count (total (λ x. cond (p x) (single v) None) xs) ≡ 1 → ExactlyOne P xs
+  one_from_count : (xs : List ℕ) → count (total_by (λ x. cond (p x) (single v) None) xs) ≡ 1 → ExactlyOne P xs
   one_from_count [] e = absurd (omega arith)
   one_from_count (x ∷ xs) e =
-      go (p x) (d x) (count-⊕ (cond (p x) (single v) None) (total (λ z. cond (p z) (single v) None) xs)) (none_from_count xs) (one_from_count xs)
+      go (p x) (d x) (count-⊕ (cond (p x) (single v) None) (total_by (λ z. cond (p z) (single v) None) xs)) (none_from_count xs) (one_from_count xs)
     where
       go : (b : Bool) → IsTrue b ↔ P x
-          → count (cond (p x) (single v) None ⊕ total (λ z. cond (p z) (single v) None) xs) ≡ count (cond b (single v) None) + count (total (λ z. cond (p z) (single v) None) xs)
-          → (count (total (λ z. cond (p z) (single v) None) xs) ≡ 0 → NoneOf P xs) → (count (total (λ z. cond (p z) (single v) None) xs) ≡ 1 → ExactlyOne P xs)
+          → count (cond (p x) (single v) None ⊕ total_by (λ z. cond (p z) (single v) None) xs) ≡ count (cond b (single v) None) + count (total_by (λ z. cond (p z) (single v) None) xs)
+          → (count (total_by (λ z. cond (p z) (single v) None) xs) ≡ 0 → NoneOf P xs) → (count (total_by (λ z. cond (p z) (single v) None) xs) ≡ 1 → ExactlyOne P xs)
           → (P x × NoneOf P xs) ⊎ ((P x → ⊥) × ExactlyOne P xs)
       go true i c none ih = inl (i.0 refl, none (omega arith))
       go false i c none ih = inr (λ q. let z = i.1 q in cc, ih (omega arith))
 
 abbrev row_count : Option Row → ℕ
 row_count None = 0
-row_count (Some r) = r.count
+row_count (Some r) = r.summary.count
 
-row_count_is : (y : ℕ) (o : Option Summary) → row_count (as_row y o) ≡ count o
+row_count_is : (y : ℕ) (o : Option Summary) → row_count (row_at y o) ≡ count o
 row_count_is y None = refl
 row_count_is y (Some s) = refl
 
@@ -406,28 +355,26 @@ only g i c sources w agrees x h b (y, m, r) =
     alone q k =
         elim (contains_cases q f [] k) [ inl e ↦ subst (λ (p : Fact). IsMember i p.member × IsBottom g (category_of i p.member)) e (h, b) | inr n ↦ absurd (Contains-nil q n) ]
 
-    rows : direct_row y (values_at i (f ∷ []) y) ≡ merged_row y (rows_below i (direct_views i (f ∷ []) sources) y)
-    rows = sym (find_it (λ z. direct_row z (values_at i (f ∷ []) z)) (λ z q e. direct_row_keyed z (values_at i (f ∷ []) z) q e) y (members_of i c) (is_member_of i c y m))
+    rows : row_at y (total_of_facts i (f ∷ []) y) ≡ row_at y (total_of_views i (direct_views i (f ∷ []) sources) y)
+    rows = sym (find_it (λ z. row_at z (total_of_facts i (f ∷ []) z)) (λ z q e. row_keyed z (total_of_facts i (f ∷ []) z) q e) y (members_of i c) (is_member_of i c y m))
         ∙ ap (find_row y) (agrees (f ∷ []) alone)
-        ∙ find_it (λ z. merged_row z (rows_below i (direct_views i (f ∷ []) sources) z)) (λ z q e. merged_row_keyed z (rows_below i (direct_views i (f ∷ []) sources) z) q e) y (members_of i c) (is_member_of i c y m)
+        ∙ find_it (λ z. row_at z (total_of_views i (direct_views i (f ∷ []) sources) z)) (λ z q e. row_keyed z (total_of_views i (direct_views i (f ∷ []) sources) z) q e) y (members_of i c) (is_member_of i c y m)
 
-    direct_count : row_count (direct_row y (values_at i (f ∷ []) y)) ≡ 1
+    direct_count : row_count (row_at y (total_of_facts i (f ∷ []) y)) ≡ 1
     direct_count =
-        ap row_count (direct_row_is y (values_at i (f ∷ []) y))
-        ∙ row_count_is y (total single (values_at i (f ∷ []) y)) ∙ ap count (values_total i (f ∷ []) y)
+        row_count_is y (total_of_facts i (f ∷ []) y) ∙ ap count (values_total i (f ∷ []) y)
         ∙ seen (reaches i x y) r'
       where
         seen : (t : Bool) → t ≡ true → count (cond t (single (pos 1)) None ⊕ None) ≡ 1
         seen true e = refl
         seen false e = absurd (cc)
 
-    merged_count : row_count (merged_row y (rows_below i (direct_views i (f ∷ []) sources) y)) ≡ count (total (λ s. cond (by_source g i w c y m x s) (single (pos 1)) None) sources)
-    merged_count = ap row_count (merged_row_is y (rows_below i (direct_views i (f ∷ []) sources) y))
-        ∙ row_count_is y (total summary (rows_below i (direct_views i (f ∷ []) sources) y))
-        ∙ ap count (rows_total i (f ∷ []) sources y ∙ ⊕_none (total (λ s. total (λ z. value_by i y z f) (members_of i s)) sources)
-        ∙ total_same (λ s. total (λ z. value_by i y z f) (members_of i s)) (λ s. cond (by_source g i w c y m x s) (single (pos 1)) None) sources (λ s k. one_by_source g i w c y m x s (single (pos 1))))
+    merged_count : row_count (row_at y (total_of_views i (direct_views i (f ∷ []) sources) y)) ≡ count (total_by (λ s. cond (by_source g i w c y m x s) (single (pos 1)) None) sources)
+    merged_count = row_count_is y (total_of_views i (direct_views i (f ∷ []) sources) y)
+        ∙ ap count (rows_total i (f ∷ []) sources y ∙ ⊕_none (total_by (λ s. total_by (λ z. value_by i y z f) (members_of i s)) sources)
+        ∙ total_same (λ s. total_by (λ z. value_by i y z f) (members_of i s)) (λ s. cond (by_source g i w c y m x s) (single (pos 1)) None) sources (λ s k. one_by_source g i w c y m x s (single (pos 1))))
 
-    counted : count (total (λ s. cond (by_source g i w c y m x s) (single (pos 1)) None) sources) ≡ 1
+    counted : count (total_by (λ s. cond (by_source g i w c y m x s) (single (pos 1)) None) sources) ≡ 1
     counted = sym merged_count ∙ sym (ap row_count rows) ∙ direct_count
 
 pub agree_exactly : AgreeExactlyIfReachedByOne

@@ -11,6 +11,7 @@ mod fetching;
 mod ids;
 mod in_memory;
 mod laws;
+mod limits;
 mod lists;
 mod outside;
 mod texts;
@@ -19,7 +20,15 @@ pub use emitting::emit;
 pub use fetching::{FetchError, fetch};
 pub use ids::{CatId, EdgeId, Failed, MemberId, Memory};
 pub use in_memory::{MemLibrary, MemSink};
-pub use laws::{above_is_lawful, agree_exactly_if_reached_by_one};
+pub use laws::{
+    above_is_lawful, agree_exactly_if_reached_by_one, one_facts_views, totals_of_summaries,
+    totals_of_values,
+};
+pub use limits::{
+    MOST_CATEGORIES, MOST_CONSTANTS, MOST_CONSTRAINTS, MOST_DEPTH, MOST_EDGES, MOST_FACTS,
+    MOST_FILE_BYTES, MOST_FROZEN, MOST_LISTED_FACTS, MOST_MEMBERS, MOST_NODES, MOST_TEXT_BYTES,
+    MOST_VIEWS, MOST_WORDS,
+};
 pub use lists::List;
 pub use outside::{Library, OpenError, Sink};
 pub use texts::Text;

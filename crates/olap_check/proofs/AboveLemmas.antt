@@ -14,7 +14,7 @@ use Rattle.olap_base.specs.declared.ids.MemberId.{MemberId}
 use Rattle.olap_check.proofs.ParentLemmas.{places}
 use Rattle.olap_check.specs.Reports.{member}
 use Rattle.olap_base.specs.Steps.{Steps-append, Steps-from_reaches, reaches_from_Steps}
-use Rattle.olap_base.specs.Deciding.{reaches_is}
+use Rattle.olap_base.specs.Reaching.{reaches_is}
 use Rattle.olap_check.specs.Rows.{none, IsBounded}
 use Rattle.olap_check.specs.Tables.{cell, IsTable}
 use Rattle.olap_check.proofs.TableLemmas.{reached_inside, cell_some}

@@ -6,7 +6,7 @@ use Rattle.std.proofs.lemmas.List.{get_or-append-add}
 use native.Mathlib.Decide.{ℕ_discrete}
 use Rattle.olap_base.specs.Instance.{Instance, IsBelow, IsMemberOf, Reaches, ReachesCategory, category_of}
 use Rattle.olap_base.specs.Steps.{Steps, Steps.here, Steps.step, Steps-from_reaches}
-use Rattle.olap_base.specs.Deciding.{reaches_is}
+use Rattle.olap_base.specs.Reaching.{reaches_is}
 use Rattle.olap_check.specs.Rows.{none, IsBounded, IsRise, Splits}
 use Rattle.olap_check.specs.Ancestors.{IsAncestor}
 use Rattle.olap_check.specs.Tables.{cell, IsTable, IsFirstSplit}

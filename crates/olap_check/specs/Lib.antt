@@ -1,4 +1,5 @@
 -- Definitions that contracts cite.
+pub mod FirstViolation
 pub mod Reports
 pub mod Ancestors
 pub mod Rows

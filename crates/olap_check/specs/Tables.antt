@@ -1,7 +1,7 @@
 -- The table of ancestors: for each member and each category one place.
 use Rattle.std.specs.Prelude.{◌≡◌, ◌≢◌, ℕ, ◌+◌, ◌*◌, ◌<◌, ◌↔◌, List, length, slice_index, Bool, true}
 use Rattle.olap_base.specs.Instance.{Instance, IsFarBelow, category_of}
-use Rattle.olap_base.specs.Deciding.{reaches}
+use Rattle.olap_base.specs.Reaching.{reaches}
 use Rattle.olap_check.specs.Rows.{none, IsBounded, Splits}
 use Rattle.olap_check.specs.Strata.{IsMarked, IsSearch}
 use Rattle.std.specs.Prelude.{Option, Some, None}

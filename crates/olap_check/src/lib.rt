@@ -21,4 +21,4 @@ mod violations;
 
 pub use checking::check;
 pub use legality::Legal;
-pub use violations::{CheckRefusal, Violation};
+pub use violations::{CheckRefusal, Violation, first_violation_is_first};

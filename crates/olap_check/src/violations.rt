@@ -1,4 +1,6 @@
 // How an instance isn't legal, and why a check is refused.
+ghost use Rattle.olap_check.specs.FirstViolation.{FirstViolationIsFirst};
+
 use olap_base::{CatId, MemberId, Memory};
 use olap_instance::Instance;
 
@@ -38,3 +40,9 @@ impl From<Memory> for CheckRefusal {
         CheckRefusal::Memory
     }
 }
+
+/// Of a list of members that is an instance, the function `first_violation` of the definitions gives nothing exactly where
+/// it is legal, and else the first violation.
+pub fn first_violation_is_first()
+    ensures { FirstViolationIsFirst }
+{}

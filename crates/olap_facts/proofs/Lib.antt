@@ -2,3 +2,4 @@
 pub mod HeaderLemmas
 pub mod BottomLemmas
 pub mod TableLemmas
+pub mod ReaderLemmas

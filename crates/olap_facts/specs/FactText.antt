@@ -35,15 +35,18 @@ member_named i r = place_of (field r 0) (map (λ m. m.id) i)
 abbrev pub member_number : Instance → List (List ℕ) → ℕ
 member_number i r = unwrap_or (member_named i r) 0
 
--- the first check that a record fails, after the records before it
-abbrev pub fact_fault : Graph → Instance → List (List (List ℕ)) → List (List ℕ) → Option FactKind
-fact_fault g i before r =
+-- the first check that a record fails, after the records before it, where there may be so many facts
+abbrev pub fact_fault_within : ℕ → Graph → Instance → List (List (List ℕ)) → List (List ℕ) → Option FactKind
+fact_fault_within most g i before r =
     if not (length r == 2) then Some kind.FieldCount
     else if is_none (member_named i r) then Some kind.UnknownMember
     else if not (is_bottom g (category_of i (member_number i r))) then Some kind.NotBottom
     else if is_none (value_of (field r 1)) then Some kind.BadNumber
-    else if nat_le most_facts (length before) then Some kind.TooManyFacts
+    else if nat_le most (length before) then Some kind.TooManyFacts
     else None
+
+abbrev pub fact_fault : Graph → Instance → List (List (List ℕ)) → List (List ℕ) → Option FactKind
+fact_fault = fact_fault_within most_facts
 
 -- a record's fact: the member that it names, and the value that it spells
 abbrev pub fact_read : Instance → List (List ℕ) → Fact
@@ -57,15 +60,20 @@ or_read None after = after
 or_read (Some p) after = Err (record { at = p.0 + 2; kind = p.1 })
 
 -- the records after the header
-abbrev pub body_read : Graph → Instance → List (List (List ℕ)) → Result (List Fact) (Fault FactKind)
-body_read g i rows = or_read (first_fault (fact_fault g i) [] rows) (Ok (map (fact_read i) rows))
+abbrev pub body_read_within : ℕ → Graph → Instance → List (List (List ℕ)) → Result (List Fact) (Fault FactKind)
+body_read_within most g i rows = or_read (first_fault (fact_fault_within most g i) [] rows) (Ok (map (fact_read i) rows))
 
 -- the first record is the header
 abbrev pub has_header : List (List (List ℕ)) → Bool
 has_header [] = false
 has_header (top ∷ rows) = pointwise bytes_eq top header
 
--- what the records of a text stand for
+-- what the records of a text stand for, where there may be so many facts
+abbrev pub facts_read_within : ℕ → Graph → Instance → List (List (List ℕ)) → Result (List Fact) (Fault FactKind)
+facts_read_within most g i records =
+    if has_header records then body_read_within most g i (drop 1 records)
+    else Err (record { at = 1; kind = kind.BadHeader })
+
+-- the same for the most facts of a table
 abbrev pub facts_read : Graph → Instance → List (List (List ℕ)) → Result (List Fact) (Fault FactKind)
-facts_read g i records =
-    if has_header records then body_read g i (drop 1 records) else Err (record { at = 1; kind = kind.BadHeader })
+facts_read = facts_read_within most_facts

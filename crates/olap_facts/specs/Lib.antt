@@ -3,3 +3,4 @@ pub mod Seen
 pub mod FactText
 pub mod Refusals
 pub mod Kinds
+pub mod FactReading

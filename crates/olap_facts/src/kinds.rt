@@ -15,7 +15,7 @@ pub enum FactKind {
     NotBottom,
     /// The second field spells no whole number of 64 bits.
     BadNumber,
-    /// It is one fact more than 1,048,576.
+    /// It is one fact more than there may be.
     TooManyFacts,
 }
 
@@ -66,5 +66,25 @@ impl<T: Drop> From<AllocFailed<T>> for FactRefusal {
 
     fn from(_: AllocFailed<T>) -> FactRefusal {
         FactRefusal::Memory
+    }
+}
+
+/// Why no fact was handed out.
+#[derive(Clone, Copy, Debug, PartialEq, Eq)]
+pub enum NextRefusal {
+    /// The text's first fault, with the number of its record, from 1; the header is record 1.
+    Fault { at: u64, kind: FactKind },
+    /// Memory ran out.
+    Memory,
+}
+
+impl From<Memory> for NextRefusal {
+    ghost use Rattle.std.specs.Prelude.{◌≡◌};
+    ghost use Rattle.olap_facts.specs.declared.kinds.NextRefusal.TheVariants as refusal;
+
+    ghost from_gives = { λ _ e. e ≡ refusal.Memory };
+
+    fn from(_: Memory) -> NextRefusal {
+        NextRefusal::Memory
     }
 }

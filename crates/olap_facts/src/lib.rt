@@ -1,14 +1,17 @@
 //! Fact tables, read from texts: values at members of bottom categories.
 //!
 //! A contract sees a `Facts` as the definition's list of facts (`facts_of` of `specs/Seen.antt`). What a
-//! text stands for, or where its first fault is, is the function `facts_read` of `specs/FactText.antt`.
+//! text stands for, or where its first fault is, is the function `facts_read` of `specs/FactText.antt`. A
+//! `FactReader` hands out the same facts one at a time.
 #![tactic(auto)]
 
 mod kinds;
+mod readers;
 mod reading;
 mod tables;
 
-pub use kinds::{FactKind, FactRefusal};
+pub use kinds::{FactKind, FactRefusal, NextRefusal};
+pub use readers::FactReader;
 pub use reading::read_facts;
 pub use tables::{Fact, Facts};
 

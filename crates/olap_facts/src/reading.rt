@@ -6,7 +6,7 @@ ghost use Rattle.olap_base.specs.Views.{IsFactTable};
 ghost use Rattle.olap_instance.specs.Made.{IsMadeFor};
 ghost use Rattle.olap_records.specs.Faults.{first_fault};
 ghost use Rattle.olap_records.specs.Records.{records_of};
-ghost use Rattle.olap_facts.specs.FactText.{fact_fault, fact_read, facts_read, has_header, is_bottom};
+ghost use Rattle.olap_facts.specs.FactText.{fact_fault, fact_fault_within, fact_read, facts_read, has_header, is_bottom};
 ghost use Rattle.olap_facts.specs.Refusals.{IsFaultCause, IsRefusedBy};
 ghost use Rattle.olap_facts.specs.Seen.{fact_of, facts_of};
 
@@ -18,10 +18,10 @@ use olap_records::{Rows, value};
 use std::alloc::Global;
 
 /// The most facts of a table.
-const MOST_FACTS: usize = 1_048_576;
+const MOST_FACTS: u64 = 1_048_576;
 
 /// Reads the first record, and says whether it is the header.
-fn begins(rows: &mut Rows) -> Result<bool, Memory>
+pub(crate) fn begins(rows: &mut Rows) -> Result<bool, Memory>
     ensures header { IfOk result (λ b. b ≡ has_header rows.old.left) }
     ensures left { IfOk result (λ b. IsTrue b → rows.new.left ≡ drop 1 rows.old.left) }
 {
@@ -39,16 +39,22 @@ fn is_at_bottom(graph: &Graph, instance: &Instance, m: MemberId) -> bool
     graph.is_bottom(instance.category(m))
 }
 
-/// The fact of the record that was read last, after this many facts.
-fn fact(graph: &Graph, instance: &Instance, rows: &Rows, before: usize) -> Result<Fact, FactKind>
+/// The fact of the record that was read last, after this many facts, of at most so many.
+pub(crate) fn fact(
+    graph: &Graph,
+    instance: &Instance,
+    rows: &Rows,
+    before: u64,
+    most: u64,
+) -> Result<Fact, FactKind>
     requires made { IsMadeFor graph.now instance.now }
     ensures fact { (earlier : Items (Items (Items ℕ))) → length earlier ≡ before
         → MatchResult result
-        (λ f. (fact_fault graph.now instance.now earlier rows.now.row ≡ None) × (fact_of f ≡ fact_read instance.now rows.now.row))
-        (λ k. fact_fault graph.now instance.now earlier rows.now.row ≡ Some k) }
+        (λ f. (fact_fault_within most graph.now instance.now earlier rows.now.row ≡ None) × (fact_of f ≡ fact_read instance.now rows.now.row))
+        (λ k. fact_fault_within most graph.now instance.now earlier rows.now.row ≡ Some k) }
     ensures member { IfOk result (λ f. f.member.0 < length instance.now) }
     ensures bottom { IfOk result (λ f. IsBottom graph.now (category_of instance.now f.member.0)) }
-    ensures few { IfOk result (λ f. before < 1048576) }
+    ensures few { IfOk result (λ f. before < most) }
 {
     if rows.len() != 2 {
         return Err(FactKind::FieldCount);
@@ -62,7 +68,7 @@ fn fact(graph: &Graph, instance: &Instance, rows: &Rows, before: usize) -> Resul
     let Some(value) = value(rows.field(1)) else {
         return Err(FactKind::BadNumber);
     };
-    if before >= MOST_FACTS {
+    if before >= most {
         return Err(FactKind::TooManyFacts);
     }
     Ok(Fact { member, value })
@@ -84,7 +90,7 @@ fn read_rows(
 {
     let mut facts = Vec::new(alloc);
     'rows: while rows.advance()? {
-        match fact(graph, instance, rows, facts.len()) {
+        match fact(graph, instance, rows, facts.len() as u64, MOST_FACTS) {
             Ok(fact) => facts.push(fact)?,
             Err(kind) => {
                 return Err(FactRefusal::Fault {

@@ -1,5 +1,7 @@
 // Facts read from texts, with their faults.
-use crate::{FactKind, FactRefusal, read_facts};
+ghost use Rattle.std.specs.Prelude.{◌<◌, ◌^◌};
+
+use crate::{FactKind, FactReader, FactRefusal, NextRefusal, read_facts};
 use olap_base::Text;
 use olap_graph::{Graph, GraphBuilder, category_name};
 use olap_instance::read_instance;
@@ -62,4 +64,42 @@ fn texts(rt: HostRuntime) {
     for (text, wanted) in cases {
         assert!(rt; outcome(rt.alloc(), &rt, text) == Some(wanted));
     }
+}
+
+// What a reader gives that may hand out so many facts: how many it handed out before it ended, and the record and its
+// fault where it was refused; nothing for want of memory, or past nine facts.
+fn handed_out(
+    alloc: Global,
+    rt: &impl Abort,
+    text: &[u8],
+    most: u64,
+) -> Option<(u64, Option<(u64, FactKind)>)>
+    requires { most < 2 ^ 63 }
+{
+    let graph = stores(alloc, rt);
+    let instance = read_instance(alloc, &graph, MEMBERS).expect(rt, "an instance");
+    let mut reader = FactReader::new(alloc, &graph, &instance, text, most);
+    for count in 0u64..10 {
+        match reader.next() {
+            Ok(Some(_)) => {}
+            Ok(None) => return Some((count, None)),
+            Err(NextRefusal::Fault { at, kind }) => return Some((count, Some((at, kind)))),
+            Err(NextRefusal::Memory) => return None,
+        }
+    }
+    None
+}
+
+#[test]
+fn one_at_a_time(rt: HostRuntime) {
+    let alloc = rt.alloc();
+    let five: &[u8] = b"member,value\na,1\nb,2\na,3\nb,4\na,5\n";
+    let stopped = Some((5, FactKind::TooManyFacts));
+    assert!(rt; handed_out(alloc, &rt, five, 3) == Some((3, stopped)));
+    assert!(rt; handed_out(alloc, &rt, five, 5) == Some((5, None)));
+    let bad: &[u8] = b"member,value\na,9223372036854775808\n";
+    let stopped = Some((2, FactKind::BadNumber));
+    assert!(rt; handed_out(alloc, &rt, bad, 5) == Some((0, stopped)));
+    let stopped = Some((1, FactKind::BadHeader));
+    assert!(rt; handed_out(alloc, &rt, b"value\n", 5) == Some((0, stopped)));
 }

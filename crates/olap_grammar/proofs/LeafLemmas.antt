@@ -4,7 +4,7 @@ use Rattle.std.specs.Prelude.{◌==◌, slice_index_or, []}
 use Rattle.std.specs.List.{list_all}
 use Rattle.std.specs.Str.{bytes_eq}
 use Rattle.std.specs.Option.{option_map}
-use Rattle.olap_base.specs.Deciding.{is_category_name}
+use Rattle.olap_base.specs.Reaching.{is_category_name}
 use Rattle.olap_base.specs.Graph.{Graph}
 use Rattle.olap_ast.specs.Formula as Meaning
 use Rattle.olap_ast.specs.Formula.{Formula}

@@ -7,7 +7,7 @@
 use Rattle.std.specs.Prelude.{◌==◌, ℕ, not, List, [], Option, Some, None, codes, length, map, drop, if◌then◌else◌, nat_lt, unwrap_or, slice_index_or}
 use Rattle.std.specs.List.{list_all, slice_split}
 use Rattle.std.specs.Str.{bytes_eq}
-use Rattle.olap_base.specs.Deciding.{is_category_name}
+use Rattle.olap_base.specs.Reaching.{is_category_name}
 use Rattle.olap_base.specs.Graph.{Graph}
 use Rattle.olap_graph.specs.Lookups.{category_named}
 use Rattle.olap_ast.specs.Formula as Meaning

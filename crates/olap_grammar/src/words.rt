@@ -1,6 +1,6 @@
 // What a word is in a formula.
 ghost use Rattle.olap_ast.specs.Trees.{formula_of};
-ghost use Rattle.olap_base.specs.Deciding.{is_category_name as is_name_of};
+ghost use Rattle.olap_base.specs.Reaching.{is_category_name as is_name_of};
 ghost use Rattle.olap_grammar.specs.Known.{graph_seen};
 ghost use Rattle.olap_grammar.specs.Words.{equal_of, equality_of, id_of, path_of, pieces_of, plain_of, reach_of};
 ghost use Rattle.std.specs.List.{list_all};

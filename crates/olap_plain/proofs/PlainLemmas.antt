@@ -9,15 +9,15 @@ use Rattle.std.proofs.lemmas.Bool.Decides.{nat_tests, Decides-eqb}
 use Rattle.olap_base.specs.Deciding.{Through, Steps-from_through, through_from_Steps, below_is_member}
 use Rattle.olap_base.specs.Steps.{Steps-from_reaches, reaches_from_Steps}
 use Rattle.olap_base.specs.Instance.{Instance, nobody, IsBelow, Reaches, parents_of, category_of}
-use Rattle.std.specs.Prelude.{ℤ, ◌+ℤ◌, fold, filter, ◌++◌, Option, Some, None, ◌+◌, ◌≤◌, cond, take, IfSome, filter_map, ◌==◌}
+use Rattle.std.specs.Prelude.{ℤ, filter, ◌++◌, Option, Some, None, ◌+◌, ◌≤◌, cond, take, IfSome, filter_map, ◌==◌}
 use Rattle.std.specs.List.{range_with_len, cons_option}
-use Rattle.std.specs.Int.{int_min, int_max}
 use Rattle.std.specs.Bool.{one_answer}
-use Rattle.std.proofs.Common.{length-append}
 use Rattle.std.proofs.lemmas.List.{take_more, append-nil}
 use Rattle.std.proofs.lemmas.List.Elements.{filter-append}
-use Rattle.olap_base.specs.Deciding.{reaches, reaches_is}
-use Rattle.olap_base.specs.Views.{Fact, Row, values_at, direct_row}
+use Rattle.olap_base.specs.Reaching.{reaches, reaches_is}
+use Rattle.olap_base.specs.Summaries.{Summary, of_value, total, ◌⊕◌}
+use Rattle.olap_base.specs.Views.{Fact, Row, row_at, total_of_facts, values_at}
+use Rattle.olap_base.proofs.TotalLemmas.{total_push}
 use Rattle.olap_plain.specs.declared.viewing.PlainFact.{PlainFact}
 use Rattle.olap_plain.specs.Plain.{instance_of, member_of, fact_of, facts_of, extended, row_of, as_row, IsBounded}
 use Rattle.olap_plain.specs.declared.viewing.PlainRow.{PlainRow}
@@ -57,20 +57,21 @@ reaches_by_through i n x y r e d = (
 
 -- ---- one more fact
 
+-- the row of y with these values, if there are any
+abbrev value_row : ℕ → List ℤ → Option Row
+value_row y vs = row_at y (total (map of_value vs))
+
 map-append : {A B : Type 0} (f : A → B) (xs ys : List A) → map f (xs ++ ys) ≡ map f xs ++ map f ys
 map-append f [] ys = refl
 map-append f (x ∷ xs) ys = ap (λ t. f x ∷ t) (map-append f xs ys)
 
-fold-push : (f : ℤ → ℤ → ℤ) (a : ℤ) (xs : List ℤ) (x : ℤ) → fold f a (xs ++ x ∷ []) ≡ f (fold f a xs) x
-fold-push f a [] x = refl
-fold-push f a (y ∷ ys) x = fold-push f (f a y) ys x
-
-direct_row_push : (y : ℕ) (vs : List ℤ) (v : ℤ) → direct_row y (vs ++ v ∷ []) ≡ Some (extended y (direct_row y vs) v)
-direct_row_push y [] v = refl
-direct_row_push y (w ∷ ws) v = λ i. Some (record { member = y; count = counted i; sum = fold-push ◌+ℤ◌ w ws v i; least = fold-push int_min w ws v i; greatest = fold-push int_max w ws v i })
+direct_row_push : (y : ℕ) (vs : List ℤ) (v : ℤ) → value_row y (vs ++ v ∷ []) ≡ Some (extended y (value_row y vs) v)
+direct_row_push y vs v = ap (row_at y) (ap total (map-append of_value vs (v ∷ [])) ∙ total_push (map of_value vs) (of_value v))
+    ∙ go (total (map of_value vs))
   where
-    counted : length (w ∷ (ws ++ v ∷ [])) ≡ length (w ∷ ws) + 1
-    counted = omega (arith, length-append {A = ℤ})
+    go : (o : Option Summary) → row_at y (o ⊕ Some (of_value v)) ≡ Some (extended y (row_at y o) v)
+    go None = refl
+    go (Some s) = refl
 
 values_push : (i : Instance) (fs : List Fact) (f : Fact) (y : ℕ) → values_at i (fs ++ f ∷ []) y ≡ values_at i fs y ++ cond (reaches i f.member y) (f.value ∷ []) []
 values_push i fs f y = ap (map (λ (g : Fact). g.value)) (filter-append (λ g. reaches i g.member y) fs (f ∷ []))
@@ -87,22 +88,22 @@ row_after y true o v = Some (extended y o v)
 row_after y false o v = o
 
 pub row_step : (i : Instance) (facts : List PlainFact) (k y : ℕ) (d : PlainFact) → k < length facts
-    → direct_row y (values_at i (facts_of (take (k + 1) facts)) y) ≡ row_after y (reaches i (get_or facts k d).member y) (direct_row y (values_at i (facts_of (take k facts)) y)) (get_or facts k d).value
-row_step i facts k y d h = ap (λ fs. direct_row y (values_at i (facts_of fs) y)) (take_more facts k d h)
-    ∙ ap (λ fs. direct_row y (values_at i fs y)) (map-append fact_of (take k facts) (get_or facts k d ∷ []))
-    ∙ ap (direct_row y) (values_push i (facts_of (take k facts)) (fact_of (get_or facts k d)) y)
+    → row_at y (total_of_facts i (facts_of (take (k + 1) facts)) y) ≡ row_after y (reaches i (get_or facts k d).member y) (row_at y (total_of_facts i (facts_of (take k facts)) y)) (get_or facts k d).value
+row_step i facts k y d h = ap (λ fs. row_at y (total_of_facts i (facts_of fs) y)) (take_more facts k d h)
+    ∙ ap (λ fs. row_at y (total_of_facts i fs y)) (map-append fact_of (take k facts) (get_or facts k d ∷ []))
+    ∙ ap (value_row y) (values_push i (facts_of (take k facts)) (fact_of (get_or facts k d)) y)
     ∙ go (reaches i (get_or facts k d).member y)
   where
-    go : (b : Bool) → direct_row y (values_at i (facts_of (take k facts)) y ++ cond b ((get_or facts k d).value ∷ []) []) ≡ row_after y b (direct_row y (values_at i (facts_of (take k facts)) y)) (get_or facts k d).value
+    go : (b : Bool) → value_row y (values_at i (facts_of (take k facts)) y ++ cond b ((get_or facts k d).value ∷ []) []) ≡ row_after y b (row_at y (total_of_facts i (facts_of (take k facts)) y)) (get_or facts k d).value
     go true = direct_row_push y (values_at i (facts_of (take k facts)) y) (get_or facts k d).value
-    go false = ap (direct_row y) (append-nil (values_at i (facts_of (take k facts)) y))
+    go false = ap (value_row y) (append-nil (values_at i (facts_of (take k facts)) y))
 
 pub test_of : (i : Instance) (x y : ℕ) (r b : Bool) → IsTrue r ↔ Reaches i x y → r ≡ b → reaches i x y ≡ b
 test_of i x y r b d e = one_answer (reaches i x y) r (reaches_is i x y) d ∙ e
 
 pub count_step : (y : ℕ) (o : Option PlainRow) (v : ℤ) (r : PlainRow) (n : ℕ) → IfSome o (λ q. (q.count ≤ n) × IsBounded q.sum q.count) → row_of r ≡ extended y (as_row o) v → r.count ≤ n + 1
-count_step y None v r n h e = let c : r.count ≡ 1 = ap (λ q. q.count) e in omega arith
-count_step y (Some q) v r n h e = let c : r.count ≡ q.count + 1 = ap (λ q. q.count) e in omega (arith, h.0)
+count_step y None v r n h e = let c : r.count ≡ 1 = ap (λ q. q.summary.count) e in omega arith
+count_step y (Some q) v r n h e = let c : r.count ≡ q.count + 1 = ap (λ q. q.summary.count) e in omega (arith, h.0)
 
 -- ---- one more member
 

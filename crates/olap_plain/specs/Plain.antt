@@ -1,7 +1,7 @@
 -- The definitions' values behind the plain structs.
-use Rattle.std.specs.Prelude.{ℕ, ◌+◌, ◌*◌, ◌^◌, List, map, ℤ, pos, neg_ℤ, ◌≤ℤ◌, ◌+ℤ◌, Option, Some, None}
-use Rattle.std.specs.Int.{int_min, int_max}
+use Rattle.std.specs.Prelude.{ℕ, ◌*◌, ◌^◌, List, map, ℤ, pos, neg_ℤ, ◌≤ℤ◌, Option, Some, None}
 use Rattle.olap_base.specs.Instance.{Instance, Member}
+use Rattle.olap_base.specs.Summaries.{joined, of_value}
 use Rattle.olap_base.specs.Views.{Fact, Row}
 use Rattle.olap_plain.specs.declared.viewing.PlainMember.{PlainMember}
 use Rattle.olap_plain.specs.declared.viewing.PlainFact.{PlainFact}
@@ -20,7 +20,7 @@ abbrev pub facts_of : List PlainFact → List Fact
 facts_of fs = map fact_of fs
 
 abbrev pub row_of : PlainRow → Row
-row_of r = record { member = r.member; count = r.count; sum = r.sum; least = r.least; greatest = r.greatest }
+row_of r = record { member = r.member; summary = record { count = r.count; sum = r.sum; least = r.least; greatest = r.greatest } }
 
 abbrev pub rows_of : List PlainRow → List Row
 rows_of rs = map row_of rs
@@ -35,5 +35,5 @@ IsBounded z n = (neg_ℤ (pos (n * 2 ^ 63)) ≤ℤ z) × (z ≤ℤ pos (n * 2 ^ 
 
 -- the row of y with one more value
 abbrev pub extended : ℕ → Option Row → ℤ → Row
-extended y None v = record { member = y; count = 1; sum = v; least = v; greatest = v }
-extended y (Some r) v = record { member = y; count = r.count + 1; sum = r.sum +ℤ v; least = int_min r.least v; greatest = int_max r.greatest v }
+extended y None v = record { member = y; summary = of_value v }
+extended y (Some r) v = record { member = y; summary = joined r.summary (of_value v) }

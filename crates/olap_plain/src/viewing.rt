@@ -2,7 +2,7 @@
 ghost use Rattle.std.specs.Prelude.{◌≡◌, ◌<◌, ◌^◌, ◌↔◌, IsTrue, length, IfOk, IfSome};
 ghost use Rattle.olap_base.specs.Deciding.{Through};
 ghost use Rattle.olap_base.specs.Instance.{IsBelow, Reaches};
-ghost use Rattle.olap_base.specs.Views.{values_at, direct_row, direct_rows};
+ghost use Rattle.olap_base.specs.Views.{direct_rows, row_at, total_of_facts};
 ghost use Rattle.olap_plain.specs.Plain.{instance_of, facts_of, row_of, rows_of, as_row, IsBounded, extended};
 
 use std::alloc::{AllocError, Global};
@@ -68,7 +68,7 @@ pub fn reaches(members: &[PlainMember], x: u32, y: u32) -> bool
 pub fn row_at(members: &[PlainMember], facts: &[PlainFact], y: u32) -> Option<PlainRow>
     requires members { length members.now < 2 ^ 32 }
     requires facts { length facts.now < 2 ^ 32 }
-    ensures { as_row result ≡ direct_row y (values_at (instance_of members.now) (facts_of facts.now) y) }
+    ensures { as_row result ≡ row_at y (total_of_facts (instance_of members.now) (facts_of facts.now) y) }
 {
     let mut row = None;
     for f in facts {

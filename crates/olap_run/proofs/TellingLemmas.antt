@@ -9,7 +9,7 @@ use Rattle.olap_base.specs.Steps.{Steps, Steps.here, Steps.step, Climb, Climb.cl
 use Rattle.olap_ast.specs.Schema.{Schema, IsLegal}
 use Rattle.olap_ast.specs.Violation.{Violation, NoEdge, NoParent, SameCategory, TwoAncestors, Shortcut, Unmet, IsViolation}
 use Rattle.std.specs.Prelude.{Result, Ok, Err, None, IfOk, IfErr, MatchResult}
-use Rattle.olap_ast.specs.Judging.{first_violation, first_violation_none, first_violation_some}
+use Rattle.olap_check.specs.FirstViolation.{first_violation, first_violation_none, first_violation_some}
 use Rattle.olap_check.specs.Reports.{told, IsRefused}
 use Rattle.olap_check.specs.declared.violations.CheckRefusal.{CheckRefusal}
 use Rattle.olap_check.specs.declared.violations.CheckRefusal.TheVariants.{Broken, Memory}

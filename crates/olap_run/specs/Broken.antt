@@ -1,6 +1,6 @@
 -- What a refused check says of the instance.
 use Rattle.std.specs.Prelude.{◌≡◌, Some}
-use Rattle.olap_ast.specs.Judging.{first_violation}
+use Rattle.olap_check.specs.FirstViolation.{first_violation}
 use Rattle.olap_ast.specs.Schema.{Schema}
 use Rattle.olap_ast.specs.Violation as meaning
 use Rattle.olap_base.specs.Instance.{Instance}

@@ -7,7 +7,7 @@ use Rattle.std.specs.Prelude.{ℕ, List, ◌++◌, length, nat_lt, codes, Option
 use Rattle.std.specs.Fmt.{decimal}
 use Rattle.olap_base.specs.Instance.{Instance}
 use Rattle.olap_base.specs.Naming.{Fault}
-use Rattle.olap_ast.specs.Judging.{first_violation}
+use Rattle.olap_check.specs.FirstViolation.{first_violation}
 use Rattle.olap_ast.specs.Schema.{Schema}
 use Rattle.olap_ast.specs.Violation.{Violation}
 use Rattle.olap_check.specs.Reports.{told}

@@ -1,7 +1,7 @@
 // Whether an instance is legal, and the words in which a violation is told.
 ghost use Rattle.std.specs.Prelude.{◌≡◌, ◌++◌, None, codes, IfOk, IsErrOf, MatchResult, OnOk};
 ghost use Rattle.std.specs.Fmt.{decimal};
-ghost use Rattle.olap_ast.specs.Judging.{first_violation};
+ghost use Rattle.olap_check.specs.FirstViolation.{first_violation};
 ghost use Rattle.olap_ast.specs.Schema.{IsLegal};
 ghost use Rattle.olap_base.specs.Instance.{IsMember};
 ghost use Rattle.olap_instance.specs.Made.{IsMadeFor};

@@ -24,7 +24,7 @@ use Rattle.olap_schema.proofs.BackTokens.{nodes_are}
 use Rattle.olap_schema.proofs.PrintNames.{is_name}
 use Rattle.olap_schema.proofs.PrintTokens.{spelt}
 use Rattle.olap_schema.proofs.StuckLemmas.{none_stuck}
-use Rattle.olap_base.specs.Deciding.{is_category_name_is}
+use Rattle.olap_base.specs.Reaching.{is_category_name_is}
 
 -- the lines after the n-th make what stands above the schema
 abbrev pub Ends : Above → ℕ → List (List ℕ) → Schema → Type 0

@@ -1,6 +1,6 @@
 -- What the tokens of printed lines say.
 use Rattle.std.proofs.Common.{◌≡◌, ◌==◌, ◌&&◌, ℕ, Bool, true, false, List, [], ◌∷◌, length, refl, arith, codes, nat_le, if◌then◌else◌}
-use Rattle.olap_base.specs.Deciding.{is_category_name}
+use Rattle.olap_base.specs.Reaching.{is_category_name}
 use Rattle.olap_grammar.specs.declared.tokens.Token.{Token}
 use Rattle.olap_grammar.specs.declared.tokens.Token.TheVariants as token
 use Rattle.olap_schema.specs.Statements.{Category, Constraint, Edge, colon_at, is_version, statement_of, word_at}

@@ -7,7 +7,7 @@ use Rattle.std.specs.Str.{bytes_eq}
 use Rattle.std.proofs.lemmas.List.Elements.{All-from_recursion, All-cons, Contains-get_or}
 use Rattle.std.proofs.lemmas.Slice.Eq.{bytes_eq-Decides}
 use Rattle.olap_base.specs.Graph.{Graph, IsCategory, IsCategoryName, IsHierarchy, IsLetterOrDigit, reserved}
-use Rattle.olap_base.specs.Deciding.{is_category_name, is_category_name_is}
+use Rattle.olap_base.specs.Reaching.{is_category_name, is_category_name_is}
 use Rattle.olap_graph.specs.Lookups.{category_named, name_of_category, names_of}
 use Rattle.olap_graph.proofs.PlaceLemmas.{first_at}
 

@@ -8,7 +8,7 @@ use Rattle.std.specs.List.{list_any}
 use Rattle.std.specs.Str.{bytes_eq}
 use Rattle.olap_ast.specs.Formula.{Formula, equalities}
 use Rattle.olap_ast.specs.Valid.{with_pair}
-use Rattle.olap_base.specs.Deciding.{is_category_name}
+use Rattle.olap_base.specs.Reaching.{is_category_name}
 use Rattle.olap_graph.specs.Building.{category_refusal, edge_refusal, with_category, with_edge}
 use Rattle.olap_graph.specs.Lookups.{category_named}
 use Rattle.olap_graph.specs.declared.refusals.CategoryRefusal.{CategoryRefusal}

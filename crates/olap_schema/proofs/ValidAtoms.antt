@@ -10,7 +10,7 @@ use Rattle.std.proofs.lemmas.List.Elements.{Contains-get_or}
 use Rattle.olap_ast.specs.Formula as Meaning
 use Rattle.olap_ast.specs.Formula.{Formula}
 use Rattle.olap_ast.specs.Valid.{IsFormulaAt}
-use Rattle.olap_base.specs.Deciding.{is_category_name, is_category_name_is}
+use Rattle.olap_base.specs.Reaching.{is_category_name, is_category_name_is}
 use Rattle.olap_base.specs.Graph.{Graph, IsCategory, IsCategoryName, reserved}
 use Rattle.olap_graph.specs.Lookups.{category_named}
 use Rattle.olap_grammar.specs.Words.{equal_of, equality_of, id_of, path_of, pieces_of, plain_of, reach_of}

@@ -12,7 +12,8 @@ use Rattle.std.proofs.lemmas.List.Elements.{All-cons, All-head, All-tail}
 use Rattle.std.proofs.lemmas.List.Splits.{slice_split_none}
 use Rattle.std.proofs.lemmas.Slice.Eq.{bytes_eq-Decides}
 use Rattle.olap_base.specs.Chains.{IsChain}
-use Rattle.olap_base.specs.Deciding.{contains_cases, is_category_name, is_category_name_is}
+use Rattle.olap_base.specs.Deciding.{contains_cases}
+use Rattle.olap_base.specs.Reaching.{is_category_name, is_category_name_is}
 use Rattle.olap_base.specs.Graph.{Graph, HasEdge, IsCategory, IsCategoryName, IsLetter, IsLetterOrDigit}
 use Rattle.olap_base.proofs.ListLemmas.{AllPairs-from_Distinct, Contains-nil, Distinct, Distinct-map}
 use Rattle.olap_graph.specs.Lookups.{category_named, edge_between, joins, names_of}

@@ -6,7 +6,8 @@ use Rattle.std.specs.Prelude.{Contains, find, flat_map}
 use Rattle.std.specs.List.{range_with_len}
 use Rattle.olap_ast.specs.Formula.{equalities}
 use Rattle.olap_ast.specs.Valid.{IsValidSchema}
-use Rattle.olap_base.specs.Deciding.{category_reaches, category_reaches_is, contains_cases}
+use Rattle.olap_base.specs.Deciding.{contains_cases}
+use Rattle.olap_base.specs.Reaching.{category_reaches, category_reaches_is}
 use Rattle.olap_base.specs.Graph.{CategoryReaches, Graph, IsCategory}
 use Rattle.olap_base.proofs.ListLemmas.{Contains-nil, Contains-range_at}
 use Rattle.olap_schema.specs.Judging.{Above, Read, first_stuck, lines_on, nothing_above, schema_read, text_ended, whole}

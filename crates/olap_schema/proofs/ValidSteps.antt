@@ -13,7 +13,7 @@ use Rattle.std.proofs.lemmas.List.Sums.{fold-append, sum_by-append, sum_by-cons}
 use Rattle.olap_ast.specs.Formula.{Equality, Formula, equalities}
 use Rattle.olap_ast.specs.Schema.{Constraint}
 use Rattle.olap_ast.specs.Valid.{IsFormulaAt, depth_of, distinct_pairs, node_count, with_pair}
-use Rattle.olap_base.specs.Deciding.{is_category_name, is_category_name_is}
+use Rattle.olap_base.specs.Reaching.{is_category_name, is_category_name_is}
 use Rattle.olap_base.specs.Graph.{Graph, IsDeclared, category_count}
 use Rattle.olap_graph.specs.Building.{IsUnfinished, IsWithinLimits, category_refusal, edge_refusal, with_category, with_edge}
 use Rattle.olap_graph.specs.Lookups.{category_named, edge_between}

@@ -16,7 +16,8 @@ use Rattle.std.proofs.lemmas.Str.{IsCharBoundary-after_ascii, IsCharBoundary-bef
 use Rattle.olap_ast.specs.Formula as Meaning
 use Rattle.olap_ast.specs.Formula.{Equality, Formula, Terms, equalities, equalities_of_terms}
 use Rattle.olap_ast.specs.Schema.{Constraint}
-use Rattle.olap_base.specs.Deciding.{contains_cases, contains_cons, is_category_name}
+use Rattle.olap_base.specs.Deciding.{contains_cases, contains_cons}
+use Rattle.olap_base.specs.Reaching.{is_category_name}
 use Rattle.olap_base.specs.Graph.{Graph}
 use Rattle.olap_base.proofs.ListLemmas.{Contains-nil, contains_head}
 use Rattle.olap_grammar.specs.Cutting.{AreWordBytes, IsCut, IsCut.end, IsCut.blank, IsCut.tab, IsCut.word, IsCut.quoted, IsCut.mark, IsMark, Spells, Spells.nothing, Spells.quote, Spells.backslash, Spells.other, is_word_byte, joint_bytes, mark_bytes}

@@ -5,7 +5,7 @@
 --     question_read    the text of a question's formula, given a schema and a root
 use Rattle.std.specs.Prelude.{◌==◌, ◌||◌, ◌+◌, ◌-◌, ℕ, Bool, true, false, not, List, [], ◌∷◌, ◌++◌, Option, Some, None, Result, Ok, Err, length, find, fold, nat_lt, nat_le, slice_index, if◌then◌else◌}
 use Rattle.std.specs.List.{list_any, range_with_len}
-use Rattle.olap_base.specs.Deciding.{category_reaches}
+use Rattle.olap_base.specs.Reaching.{category_reaches}
 use Rattle.olap_base.specs.Graph.{Graph}
 use Rattle.olap_base.specs.Naming.{Fault}
 use Rattle.olap_graph.specs.Building.{all_alone, category_refusal, edge_refusal, with_category, with_edge}

@@ -1,6 +1,6 @@
 -- What the values of the readers stand for.
 use Rattle.std.specs.Prelude.{◌≡◌, Result, Ok, Err, Option, Some, None, map, IsTrue}
-use Rattle.olap_base.specs.Deciding.{is_category_name}
+use Rattle.olap_base.specs.Reaching.{is_category_name}
 use Rattle.olap_ast.specs.Formula as Meaning
 use Rattle.olap_ast.specs.Trees.{constraint_of, formula_of}
 use Rattle.olap_ast.specs.declared.formulas.Formula.{Formula}

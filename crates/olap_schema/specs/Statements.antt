@@ -1,7 +1,7 @@
 -- What the tokens of a line say.
 use Rattle.std.specs.Prelude.{◌==◌, ◌&&◌, ℕ, Bool, true, false, List, [], codes, length, drop, nat_le, slice_index_or, if◌then◌else◌}
 use Rattle.std.specs.Str.{bytes_eq}
-use Rattle.olap_base.specs.Deciding.{is_category_name}
+use Rattle.olap_base.specs.Reaching.{is_category_name}
 use Rattle.olap_grammar.specs.declared.tokens.Token.{Token}
 use Rattle.olap_grammar.specs.declared.tokens.Token.TheVariants as token
 

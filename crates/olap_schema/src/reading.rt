@@ -1,6 +1,6 @@
 // Reading a schema, line by line.
 ghost use Rattle.olap_ast.specs.Trees.{formula_of};
-ghost use Rattle.olap_base.specs.Deciding.{is_category_name};
+ghost use Rattle.olap_base.specs.Reaching.{is_category_name};
 ghost use Rattle.olap_base.specs.Graph.{IsCategory};
 ghost use Rattle.olap_graph.specs.Building.{edge_refusal};
 ghost use Rattle.olap_grammar.specs.Known.{graph_seen};

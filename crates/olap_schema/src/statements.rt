@@ -1,7 +1,7 @@
 // What the tokens of a line say.
 ghost use Rattle.olap_schema.specs.Reading.{HasName, said};
 ghost use Rattle.olap_schema.specs.Statements.{colon_at as colon_at_of, is_category as is_category_of, is_constraint as is_constraint_of, is_edge as is_edge_of, is_version as is_version_of, statement_of, word_at as word_at_of};
-ghost use Rattle.olap_base.specs.Deciding.{is_category_name};
+ghost use Rattle.olap_base.specs.Reaching.{is_category_name};
 ghost use Rattle.std.specs.Prelude.{◌≡◌};
 ghost use Rattle.std.specs.Str.{bytes_eq};
 

@@ -1,9 +1,10 @@
 -- Lemmas.
-pub mod ClimbingLemmas
-pub mod AddingLemmas
-pub mod ViewingLemmas
 pub mod PrintingLemmas
-pub mod MergingLemmas
 pub mod SeenLemmas
 pub mod StoresLemmas
+pub mod SummaryLemmas
+pub mod TableLemmas
+pub mod ViewingLemmas
 pub mod FittingLemmas
+pub mod TallyLemmas
+pub mod MergingLemmas

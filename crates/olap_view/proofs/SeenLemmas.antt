@@ -1,7 +1,8 @@
 -- The rows and the views of the definitions, place by place.
 use Rattle.std.proofs.Common.{◌≡◌, ℕ, ◌+◌, ◌<◌, List, [], ◌∷◌, ◌++◌, length, get_or, take, ap, sym, subst, ◌∙◌}
 use Rattle.std.specs.Prelude.{All}
-use Rattle.std.proofs.lemmas.List.{get_or-map, length-map, map-append, take_more}
+use Rattle.std.proofs.lemmas.List.{get_or-map, length-map, map-append, take-map, take_more}
+use Rattle.std.proofs.Common.{◌≤◌, arith, length-take}
 use Rattle.olap_base.specs.Views.{Row, View}
 use Rattle.olap_view.specs.Seen.{each_view_of, row_of, rows_of, view_of}
 use Rattle.olap_view.specs.declared.views.Row as told_row
@@ -21,3 +22,10 @@ pub each_view : (P : View → Type 0) (views : List told_view.View) (k : ℕ) (v
     → v ≡ get_or views k v → All P (each_view_of views) → P (view_of v)
 each_view P views k v h e a = subst (λ (w : told_view.View). P (view_of w)) (sym e)
     (subst P (get_or-map view_of views k v (view_of v) h) (a k (view_of v) (simp length-map h)))
+
+-- the first k rows
+pub rows_of_taken : (rows : List told_row.Row) (k : ℕ) → take k (rows_of rows) ≡ rows_of (take k rows)
+rows_of_taken rows k = take-map row_of k rows
+
+pub rows_taken : (rows : List told_row.Row) (k : ℕ) → length (rows_of (take k rows)) ≤ length rows
+rows_taken rows k = let l = length-map (take k rows) row_of in let m = length-take k rows in omega arith

@@ -1,6 +1,6 @@
 -- The rows of a category, member by member.
 use Rattle.std.proofs.Common.{◌≡◌, ◌≢◌, ℕ, zero, suc, ◌+◌, List, [], ◌∷◌, ◌++◌, Bool, true, false, cond, refl, ap, sym, ◌∙◌, arith, Option, Some, None}
-use Rattle.std.specs.Prelude.{◌==◌, Contains, filter, filter_map}
+use Rattle.std.specs.Prelude.{◌==◌, Contains, IfOk, Result, Ok, Err, filter, filter_map}
 use Rattle.std.specs.List.{cons_option, range_with_len}
 use Rattle.std.proofs.lemmas.Bool.Decides.{nat_tests}
 use Rattle.std.proofs.lemmas.List.{append-nil}
@@ -55,6 +55,11 @@ fails a b c e f = grind (arith, nat_tests)
 pub none_of : {A : Type 0} (o : Option A) → ((x : A) → o ≡ Some x → ⊥) → o ≡ None
 none_of None f = refl
 none_of (Some x) f = absurd (f x refl)
+
+-- what is so of a result is so of it in other words
+pub if_ok_more : {A E : Type 0} (r : Result A E) (P Q : A → Type 0) → ((a : A) → P a → Q a) → IfOk r P → IfOk r Q
+if_ok_more (Ok a) P Q f h = f a h
+if_ok_more (Err e) P Q f h = h
 
 -- ---- the members of a category
 

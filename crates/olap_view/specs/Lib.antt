@@ -1,7 +1,8 @@
 -- Definitions that contracts cite.
 pub mod Seen
-pub mod Climbing
-pub mod Adding
-pub mod ViewText
-pub mod Merging
 pub mod Stores
+pub mod ViewText
+pub mod Bounds
+pub mod Tables
+pub mod Tallies
+pub mod Merging

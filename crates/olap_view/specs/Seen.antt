@@ -1,17 +1,28 @@
 -- The views of the definitions that a `View` and a `Store` stand for.
---     row_of     a row
---     rows_of    rows in order
---     view_of    a view
---     views_of   the views of a store, in order
+--     summary_of   a summary
+--     row_of       a row
+--     rows_of      rows in order
+--     view_of      a view
+--     views_of     the views of a store, in order
 use Rattle.std.specs.Prelude.{List, map}
+use Rattle.olap_base.specs.Summaries.{Summary}
 use Rattle.olap_base.specs.Views.{Row, View}
+use Rattle.olap_view.specs.declared.summaries.Summary as told_summary
 use Rattle.olap_view.specs.declared.views.Row as told_row
 use Rattle.olap_view.specs.declared.views.View as told_view
 use Rattle.olap_view.specs.declared.views.Store.{Store}
 
+-- the summary that a struct stands for
+abbrev pub summary_of : told_summary.Summary → Summary
+summary_of s = record { count = s.count; sum = s.sum; least = s.least; greatest = s.greatest }
+
+-- the summary in a row's columns
+abbrev pub columns_of : told_row.Row → Summary
+columns_of r = record { count = r.count; sum = r.sum; least = r.least; greatest = r.greatest }
+
 -- the row that a struct stands for
 abbrev pub row_of : told_row.Row → Row
-row_of r = record { member = r.member.0; count = r.count; sum = r.sum; least = r.least; greatest = r.greatest }
+row_of r = record { member = r.member.0; summary = columns_of r }
 
 -- the rows that structs stand for
 abbrev pub rows_of : List told_row.Row → List Row

@@ -9,12 +9,12 @@ use Rattle.olap_base.specs.Views.{Row, View}
 
 -- a count from 1 to 4294967295, a sum of magnitude at most 2 ^ 95, and a least and a greatest of 64 bits
 pub record IsStored (r : Row) : Type 0 where
-  pub some : 1 ≤ r.count
-  pub few : r.count < 2 ^ 32
-  pub sum_from : neg_ℤ (pos (2 ^ 95)) ≤ℤ r.sum
-  pub sum_to : r.sum ≤ℤ pos (2 ^ 95)
-  pub least : FitsSigned w64 r.least
-  pub greatest : FitsSigned w64 r.greatest
+  pub some : 1 ≤ r.summary.count
+  pub few : r.summary.count < 2 ^ 32
+  pub sum_from : neg_ℤ (pos (2 ^ 95)) ≤ℤ r.summary.sum
+  pub sum_to : r.summary.sum ≤ℤ pos (2 ^ 95)
+  pub least : FitsSigned w64 r.summary.least
+  pub greatest : FitsSigned w64 r.summary.greatest
 
 -- each row of the view is within the bounds of stored rows
 abbrev pub Fits : View → Type 0

@@ -13,7 +13,8 @@ header = codes "member" ∷ codes "count" ∷ codes "sum" ∷ codes "least" ∷ 
 -- the id of the row's member, and the row's numbers in decimal
 abbrev pub fields_of_row : List ℕ → Row → List (List ℕ)
 fields_of_row id r =
-    id ∷ decimal r.count ∷ signed_decimal r.sum ∷ signed_decimal r.least ∷ signed_decimal r.greatest ∷ []
+    let s = r.summary in
+    id ∷ decimal s.count ∷ signed_decimal s.sum ∷ signed_decimal s.least ∷ signed_decimal s.greatest ∷ []
 
 -- the fields of a row whose member is one of the instance
 abbrev pub fields_in : Instance → Row → List (List ℕ)

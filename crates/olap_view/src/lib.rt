@@ -1,18 +1,20 @@
 //! Views: for the members of a category, the count, sum, least and greatest of their facts' values.
 //!
-//! A contract sees a `View` as the definition's record (`view_of` of `specs/Seen.antt`). `direct` answers the
-//! definition's own `direct_view`, and `from_views` its `rows_from_views`, on a legal instance.
+//! A contract sees a `View` as the definition's record (`view_of` of `specs/Seen.antt`). A `Tally` stands for a fact
+//! table, and gives the definition's `direct_view`; `direct` answers it too, and `from_views` its `rows_from_views`,
+//! on a legal instance.
 #![tactic(auto)]
 
-mod adding;
-mod climbing;
 mod fitting;
-mod merging;
 mod printing;
+mod summaries;
+mod tables;
+mod tallies;
 mod viewing;
 mod views;
 
 pub use printing::print_view;
+pub use tallies::Tally;
 pub use viewing::{direct, from_views};
 pub use views::{Row, Store, View};
 

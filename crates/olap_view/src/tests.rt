@@ -3,10 +3,10 @@ ghost use Rattle.std.specs.Prelude.{◌≡◌};
 ghost use Rattle.olap_instance.specs.Made.{IsMadeFor};
 ghost use Rattle.olap_schema.specs.Schemas.{schema_of};
 
-use crate::{direct, print_view};
-use olap_base::Text;
+use crate::{Tally, direct, print_view};
+use olap_base::{MemberId, Text};
 use olap_check::{Legal, check};
-use olap_facts::read_facts;
+use olap_facts::{Fact, read_facts};
 use olap_instance::{Instance, read_instance};
 use olap_schema::{Schema, read_schema};
 use std::alloc::Global;
@@ -82,6 +82,35 @@ fn views(rt: HostRuntime) {
     ];
     for (category, facts, wanted) in cases {
         let text = view_of(rt.alloc(), &rt, category, facts);
+        assert!(rt; text.bytes() == wanted);
+    }
+}
+
+// Facts one at a time.
+#[test]
+fn tallied_facts(rt: HostRuntime) {
+    let alloc = rt.alloc();
+    let schema = schema(alloc, &rt, STORES);
+    let instance = read_instance(alloc, schema.graph(), MEMBERS).expect(&rt, "an instance");
+    assert!(rt; instance.members() == 4);
+    let city = schema.graph().category(b"City").expect(&rt, "a category");
+    let legal = legal(alloc, &rt, &schema, instance);
+    let mut tally = Tally::new(alloc, &legal, &[city]).expect(&rt, "a tally");
+    let first = Fact {
+        member: MemberId(0),
+        value: 5,
+    };
+    let second = Fact {
+        member: MemberId(1),
+        value: -5,
+    };
+    tally.add(&first);
+    tally.add(&second);
+    assert!(rt; tally.added() == 2);
+    let wanted: &[u8] = b"member,count,sum,least,greatest\nc1,2,0,-5,5\n";
+    let views = tally.into_views().expect(&rt, "views");
+    for view in views.items() {
+        let text = print_view(alloc, legal.instance(), view).expect(&rt, "a text");
         assert!(rt; text.bytes() == wanted);
     }
 }

@@ -1,4 +1,4 @@
-use Rattle.olap_base.specs.Deciding.{is_category_name_is}
+use Rattle.olap_base.specs.Reaching.{is_category_name_is}
 use Rattle.olap_grammar.proofs.WordLemmas.{same_answer}
 use Rattle.olap_grammar.proofs.words.is_name.Goals as goal
 

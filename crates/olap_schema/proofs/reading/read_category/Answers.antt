@@ -1,4 +1,4 @@
-use Rattle.olap_base.specs.Deciding.{is_category_name_is}
+use Rattle.olap_base.specs.Reaching.{is_category_name_is}
 use Rattle.olap_schema.proofs.reading.read_category.Goals as goal
 
 pub add_category-requires-clause-name : goal.add_category-requires-clause-name

@@ -1,34 +1,138 @@
--- The rows of the summaries are the rows from the chosen views.
-use Rattle.std.proofs.Common.{◌≡◌, List, Option, ap, subst, ◌∙◌}
-use Rattle.std.specs.Prelude.{filter_map}
+-- One view more, whose bit is in the mask or isn't.
+use Rattle.std.proofs.Common.{◌≡◌, ◌<◌, ◌≤◌, ◌+◌, ◌*◌, ◌++◌, [], ℕ, List, length, get_or, take, ap, sym, subst, ◌∙◌, refl, arith, length-append}
+use Rattle.std.specs.Prelude.{All, Contains}
+use Rattle.std.proofs.lemmas.List.{length-map, take_all}
+use Rattle.std.proofs.lemmas.List.Elements.{All-append}
 use Rattle.olap_base.specs.Instance.{Instance}
-use Rattle.olap_base.specs.Views.{Row, members_of, merged_row, rows_from_views}
-use Rattle.olap_view.specs.Adding.{row_at, summary_at}
-use Rattle.olap_view.specs.Merging.{AreMerged, rows_reaching}
-use Rattle.olap_view.specs.Seen.{each_view_of, rows_of, views_of}
-use Rattle.olap_view.specs.Stores.{chosen}
-use Rattle.olap_view.specs.declared.adding.Summary.{Summary}
+use Rattle.olap_base.specs.Views.{Row, row_at, rows_from_views}
+use Rattle.olap_base.proofs.ListLemmas.{contains_head}
+use Rattle.olap_view.specs.Merging.{AreMerged, total_of_rows}
+use Rattle.olap_view.specs.Seen.{each_view_of, row_of, rows_of, view_of, views_of}
+use Rattle.olap_view.specs.Stores.{Fits, IsStored, chosen}
+use Rattle.olap_view.specs.Tables.{HasPlaces, categories_of, ids, summary_at, view_in}
+use Rattle.olap_view.specs.declared.views.Row as row
 use Rattle.olap_view.specs.declared.views.View as told
-use Rattle.olap_view.proofs.StoresLemmas.{rows_chosen}
-use Rattle.olap_view.proofs.ViewingLemmas.{rows_same}
+use Rattle.olap_view.proofs.SeenLemmas.{each_row, each_view}
+use Rattle.olap_view.proofs.StoresLemmas.{rows_chosen, rows_chosen_more, rows_chosen_same}
+use Rattle.olap_view.proofs.TableLemmas.{places_kept}
+use Rattle.olap_view.proofs.ViewingLemmas.{if_ok_more, rows_same}
 use Rattle.olap_view.proofs.viewing.from_views.Goals as goal
+use Rattle.olap_view.proofs.viewing.from_views.Goals.{then-has_bit, else-has_bit}
+
+module _ (views read : List told.View) (k : ℕ) (v : told.View) (same : read ≡ views) where
+  inside : k < length read → k < length views
+  inside h = subst (λ (l : List told.View). k < length l) same h
+
+  here : v ≡ get_or read k v → v ≡ get_or views k v
+  here e = e ∙ ap (λ (l : List told.View). get_or l k v) same
+
+ended : (views read : List told.View) (k : ℕ) → read ≡ views → length read ≤ k → take k views ≡ views
+ended views read k e h = take_all k views (subst (λ (l : List told.View). length l ≤ k) e h)
+
+-- a view isn't longer than 262144 rows
+short : (views : List told.View) (k : ℕ) (v : told.View) (rows : List row.Row) → k < length views → v ≡ get_or views k v
+    → All (λ w. length w.rows ≤ 262144) (each_view_of views) → rows ≡ v.rows → length rows ≤ 262144
+short views k v rows h e a q =
+    let t : length (rows_of v.rows) ≤ 262144 = each_view (λ w. length w.rows ≤ 262144) views k v h e a in
+    let l : length (rows_of v.rows) ≡ length v.rows = length-map v.rows row_of in
+    let n : length rows ≡ length v.rows = ap length q in
+    omega arith
+
+pub join_rows-requires-clause-at_members : goal.join_rows-requires-clause-at_members
+join_rows-requires-clause-at_members c = λ k d h.
+    let n = length c.args.legal.now in
+    let views = c.args.store.now.views in
+    let v = c.view-item.result in
+    let same = c.items-view-items.ensures in
+    let at = each_view (λ w. All (λ r. r.member < n) w.rows) views c.loop-k.k v
+    (inside views c.items-view-items.result.now c.loop-k.k v same c.loop-k-test.true)
+    (here views c.items-view-items.result.now c.loop-k.k v same c.view-item.is) c.requires.at_members in
+    subst (λ (l : List row.Row). (get_or l k d).member.0 < n) (sym c.items.ensures)
+    (each_row (λ r. r.member < n) v.rows k d (subst (λ (l : List row.Row). k < length l) c.items.ensures h) at)
+
+pub join_rows-requires-clause-stored : goal.join_rows-requires-clause-stored
+join_rows-requires-clause-stored c =
+    let views = c.args.store.now.views in
+    let v = c.view-item.result in
+    let same = c.items-view-items.ensures in
+    subst (λ (l : List row.Row). All IsStored (rows_of l)) (sym c.items.ensures)
+    (each_view Fits views c.loop-k.k v
+    (inside views c.items-view-items.result.now c.loop-k.k v same c.loop-k-test.true)
+    (here views c.items-view-items.result.now c.loop-k.k v same c.view-item.is) c.requires.fit)
+
+pub join_rows-requires-clause-short : goal.join_rows-requires-clause-short
+join_rows-requires-clause-short c =
+    let views = c.args.store.now.views in
+    let v = c.view-item.result in
+    let same = c.items-view-items.ensures in
+    short views c.loop-k.k v c.items.result.now
+    (inside views c.items-view-items.result.now c.loop-k.k v same c.loop-k-test.true)
+    (here views c.items-view-items.result.now c.loop-k.k v same c.view-item.is) c.requires.store.short c.items.ensures
+
+pub loop-k-preserved : goal.loop-k-preserved
+loop-k-preserved c =
+    let i = c.args.legal.now in
+    let views = c.args.store.now.views in
+    let k = c.loop-k.k in
+    let v = c.view-item.result in
+    let mask = c.args.mask in
+    let same = c.items-view-items.ensures in
+    let h = inside views c.items-view-items.result.now k v same c.loop-k-test.true in
+    let e = here views c.items-view-items.result.now k v same c.view-item.is in
+    let rows = rows_chosen (each_view_of (take k views)) mask in
+    let next = rows_chosen (each_view_of (take (k + 1) views)) mask in
+    let inv = c.loop-k.invariant in
+    let few : length rows ≤ k * 262144 = inv.few in
+    elim c.if-has_bit.branch [
+      | then-has_bit w ↦
+          let u = w.join_rows.new.table in
+          let j = w.join_rows.ensures in
+          let more : next ≡ rows ++ rows_of v.rows =
+          rows_chosen_more views k v mask h e (sym c.has_bit.ensures ∙ w.if-has_bit.true) in
+          let stored : All IsStored (rows_of v.rows) = each_view Fits views k v h e c.requires.fit in
+          let size : length v.rows ≤ 262144 = short views k v v.rows h e c.requires.store.short refl in
+          record {
+            categories = ap categories_of w.table-is ∙ ap (λ l. ids l.items) j.categories ∙ inv.categories;
+            places = subst (HasPlaces i) (sym w.table-is)
+                (places_kept i c.loop-k.table u j.categories j.places j.same_length inv.places);
+            merged = subst (AreMerged i next) (sym w.table-is)
+                (subst (λ (l : List Row). AreMerged i l u) (sym more)
+                (subst (λ (l : List row.Row). AreMerged i (rows ++ rows_of l) u) w.items.ensures (j.merged rows inv.merged)));
+            few = subst (λ (l : List Row). length l ≤ (k + 1) * 262144) (sym more)
+                (let a = length-append rows (rows_of v.rows) in let b = length-map v.rows row_of in omega arith);
+            stored = subst (All IsStored) (sym more) (All-append IsStored rows (rows_of v.rows) inv.stored stored);
+          }
+      | else-has_bit w ↦
+          let kept : next ≡ rows =
+          rows_chosen_same views k v mask h e (sym c.has_bit.ensures ∙ w.if-has_bit.false) in
+          record {
+            categories = ap categories_of w.table-is ∙ inv.categories;
+            places = subst (HasPlaces i) (sym w.table-is) inv.places;
+            merged = subst (AreMerged i next) (sym w.table-is)
+                (subst (λ (l : List Row). AreMerged i l c.loop-k.table) (sym kept) inv.merged);
+            few = subst (λ (l : List Row). length l ≤ (k + 1) * 262144) (sym kept) (omega arith);
+            stored = subst (All IsStored) (sym kept) inv.stored;
+          }
+    ]
 
 pub returns-clause-view : goal.returns-clause-view
 returns-clause-view c =
     let i = c.args.legal.now in
-    let same : c.instance-instance.result.now ≡ c.args.legal.now = c.instance-instance.ensures in
-    let views = views_of c.args.store.now in
-    let items = c.in_ok-summaries.summaries.items in
-    let added : AreMerged i c.args.c.0 (rows_chosen views c.args.mask) items =
-    subst (λ (x : Instance). AreMerged x c.args.c.0 (rows_chosen views c.args.mask) items) same
-    (subst (λ (l : List told.View). AreMerged c.instance-instance.result.now c.args.c.0
-    (rows_chosen (each_view_of l) c.args.mask) items) c.items.ensures c.in_ok-summaries.ensures) in
-    let rows : rows_of c.from_vec.result ≡ rows_from_views i c.args.c.0 (chosen views c.args.mask) =
-    ap rows_of c.from_vec.ensures ∙ c.in_ok-rows.ensures.rows
-    ∙ ap (λ (x : Instance).
-    filter_map (λ y. row_at y (summary_at c.deref.result.now y)) (members_of x c.args.c.0)) same
-    ∙ ap (λ (l : List (Option Summary)). filter_map (λ y. row_at y (summary_at l y)) (members_of i c.args.c.0))
-    c.deref.ensures.value
-    ∙ rows_same i c.args.c.0 (λ y. row_at y (summary_at items y))
-    (λ y. merged_row y (rows_reaching i (rows_chosen views c.args.mask) y)) added.rows_at in
-    ap (λ (r : List Row). record { category = c.args.c.0; rows = r }) rows
+    let d = c.args.c.0 in
+    let views = c.args.store.now.views in
+    let t = c.loop-k.table in
+    let inv = c.loop-k.invariant in
+    let all : take c.loop-k.k views ≡ views = ended views c.items-view-items.result.now c.loop-k.k
+    c.items-view-items.ensures c.loop-k-test.false in
+    let merged : AreMerged i (rows_chosen (views_of c.args.store.now) c.args.mask) t =
+    subst (λ (l : List told.View). AreMerged i (rows_chosen (each_view_of l) c.args.mask) t) all inv.merged in
+    let among : Contains (categories_of t) d = subst (λ (l : List ℕ). Contains l d) (sym inv.categories) (contains_head d []) in
+    if_ok_more c.view.result (λ (v : told.View). view_of v ≡ view_in c.instance-instance.result.now t d)
+    (λ (v : told.View). view_of v
+    ≡ record { category = d; rows = rows_from_views i d (chosen (views_of c.args.store.now) c.args.mask) })
+    (λ v e. e ∙ ap (λ (x : Instance). view_in x t d) c.instance-instance.ensures
+    ∙ ap (λ (r : List Row). record { category = d; rows = r })
+    (rows_same i d (λ y. row_at y (summary_at t y))
+    (λ y. row_at y (total_of_rows i (rows_chosen (views_of c.args.store.now) c.args.mask) y))
+    (λ y m. ap (row_at y) (merged.at y (record { member = m.0; category = subst (Contains (categories_of t)) (sym m.1) among })))))
+    c.view.ensures.view

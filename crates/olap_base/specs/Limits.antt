@@ -1,0 +1,58 @@
+-- The limits: what an input may have at most. Each stands here once, and is cited by its name.
+use Rattle.std.specs.Prelude.{ℕ}
+
+-- categories of a schema, `All` counted
+abbrev pub most_categories : ℕ
+most_categories = 64
+
+-- edges of a schema
+abbrev pub most_edges : ℕ
+most_edges = 256
+
+-- constraints of a schema
+abbrev pub most_constraints : ℕ
+most_constraints = 64
+
+-- nodes of the formulas of all constraints together; of a question's formula by itself
+abbrev pub most_nodes : ℕ
+most_nodes = 4096
+
+-- levels of a formula, where a leaf has one; open brackets of a formula's text
+abbrev pub most_depth : ℕ
+most_depth = 64
+
+-- distinct pairs of a category and a constant, in a schema and a question together
+abbrev pub most_constants : ℕ
+most_constants = 256
+
+-- bytes of a category's name, of a constant, and of a member's id or name
+abbrev pub most_text_bytes : ℕ
+most_text_bytes = 255
+
+-- members of an instance, `all` counted
+abbrev pub most_members : ℕ
+most_members = 262144
+
+-- facts of a file that is rolled up
+abbrev pub most_facts : ℕ
+most_facts = 8388608
+
+-- facts of a file that is read into a list
+abbrev pub most_listed_facts : ℕ
+most_listed_facts = 1048576
+
+-- views of a store
+abbrev pub most_views : ℕ
+most_views = 8
+
+-- bytes of a file
+abbrev pub most_file_bytes : ℕ
+most_file_bytes = 67108864
+
+-- words of a command line, the command counted
+abbrev pub most_words : ℕ
+most_words = 64
+
+-- frozen dimensions that are listed
+abbrev pub most_frozen : ℕ
+most_frozen = 4096

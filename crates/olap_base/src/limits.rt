@@ -1,0 +1,43 @@
+// The limits as numbers of the program. `specs/Limits.antt` says what each bounds.
+
+/// Categories of a schema, `All` counted.
+pub const MOST_CATEGORIES: usize = 64;
+
+/// Edges of a schema.
+pub const MOST_EDGES: usize = 256;
+
+/// Constraints of a schema.
+pub const MOST_CONSTRAINTS: usize = 64;
+
+/// Nodes of the formulas of all constraints together; of a question's formula by itself.
+pub const MOST_NODES: usize = 4096;
+
+/// Levels of a formula, where a leaf has one; open brackets of a formula's text.
+pub const MOST_DEPTH: u16 = 64;
+
+/// Distinct pairs of a category and a constant, in a schema and a question together.
+pub const MOST_CONSTANTS: usize = 256;
+
+/// Bytes of a category's name, of a constant, and of a member's id or name.
+pub const MOST_TEXT_BYTES: usize = 255;
+
+/// Members of an instance, `all` counted.
+pub const MOST_MEMBERS: usize = 262_144;
+
+/// Facts of a file that is rolled up.
+pub const MOST_FACTS: u64 = 8_388_608;
+
+/// Facts of a file that is read into a list.
+pub const MOST_LISTED_FACTS: u64 = 1_048_576;
+
+/// Views of a store.
+pub const MOST_VIEWS: usize = 8;
+
+/// Bytes of a file.
+pub const MOST_FILE_BYTES: u64 = 67_108_864;
+
+/// Words of a command line, the command counted.
+pub const MOST_WORDS: usize = 64;
+
+/// Frozen dimensions that are listed.
+pub const MOST_FROZEN: usize = 4096;

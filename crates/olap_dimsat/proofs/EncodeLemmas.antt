@@ -1,0 +1,138 @@
+-- The clauses of a task, read from the encoder's.
+use Rattle.std.proofs.Common.{◌≡◌, ℕ, zero, suc, ◌+◌, ◌<◌, ◌≤◌, ◌/◌, ◌%◌, List, [], ◌∷◌, ◌++◌, length, get_or, Bool, true, false, cond, refl, ap, sym, subst, ◌∙◌, inl, inr, ◌^◌, arith}
+use Rattle.std.specs.Prelude.{◌↔◌, ◌==◌, IsTrue, Contains, not, slice_index, slice_index_or}
+use Rattle.std.proofs.lemmas.List.Elements.{Contains-append_left, Contains-get_or}
+use Rattle.olap_base.specs.Graph.{Graph, IsCategory, category_count}
+use Rattle.olap_base.proofs.ListLemmas.{contains_head}
+use Rattle.olap_base.specs.Deciding.{contains_cons}
+use Rattle.olap_ast.specs.Formula.{Formula}
+use Rattle.olap_ast.specs.Schema.{Constraint, Schema}
+use Rattle.olap_ast.specs.Frozen.{AreCandidates, Candidates, Frozen, IsFrozen, chosen, is_present}
+use Rattle.olap_ast.specs.Valid.{IsFormulaAt, IsValidSchema}
+use Rattle.olap_ast.proofs.ConstantLemmas.{constant_in_constraint, constant_in_question}
+use Rattle.olap_clauses.specs.declared.literals.Lit.{Lit}
+use Rattle.olap_clauses.specs.declared.pools.Pool.{Pool}
+use Rattle.olap_clauses.specs.Literals.{Holds, Satisfies}
+use Rattle.olap_clauses.specs.Pools.{AreTrue}
+use Rattle.olap_encoding.specs.Literals.{Is, IsMet, value}
+use Rattle.olap_encoding.specs.Meanings.{Fits, Means, index_of, meaning_at, valuation}
+use Rattle.olap_encoding.specs.declared.meanings.Meaning.{Meaning}
+use Rattle.olap_encoding.specs.declared.meanings.Meaning.TheVariants.{Named, On, Present}
+use Rattle.olap_encoding.specs.Encoding.{Encoding, IsLaid as IsLaidOut, IsProblem, IsSound, Problem}
+use Rattle.olap_encoding.specs.Formulas.{IsSpokenProblem}
+use Rattle.olap_encoding.specs.Meeting.{AreMetBy, valuation_in}
+use Rattle.olap_encoding.proofs.SpokenLemmas.{spoken}
+use Rattle.olap_names.specs.Names.{Named as TheNames, candidates_of, with_graph}
+use Rattle.olap_dimsat.specs.declared.layout.Layout.{Layout}
+use Rattle.olap_dimsat.specs.Tasks.{IsLaid, IsOne, IsTask, Task, schema_of}
+use Rattle.olap_dimsat.specs.Reads.{Reads, index_in}
+use Rattle.olap_dimsat.specs.Pinned.{AreAllMet, IsEncoded}
+use Rattle.olap_dimsat.proofs.Truths.{is_same, not_true, same_is, true_or_false}
+
+abbrev pub problem_in : Task → Problem
+problem_in t = record { schema = schema_of t; question = t.question; root = t.root; candidates = candidates_of t.named }
+
+-- ---- literals
+
+pub literal_holds : (v : ℕ → Bool) (l : ℕ) → Is v l → v (l / 2) ≡ (l % 2 == 0)
+unfolding value
+literal_holds v l h = go (l % 2 == 0) (v (l / 2)) h
+  where
+    go : (p b : Bool) → cond p b (not b) ≡ true → b ≡ p
+    go true b h = h
+    go false true h = absurd (let z : false ≡ true = h in cc)
+    go false false h = refl
+
+pub satisfies_more : (v : ℕ → Bool) (ls : List Lit) (l : Lit) → Satisfies v ls → Satisfies v (ls ++ l ∷ [])
+satisfies_more v ls l s = (s.0, Contains-append_left ls (l ∷ []) s.0 s.1, s.2)
+
+pub satisfies_last : (v : ℕ → Bool) (ls : List Lit) (l : Lit) → Holds v l → Satisfies v (ls ++ l ∷ [])
+satisfies_last v ls l h = (l, last ls l, h)
+  where
+    last : (xs : List Lit) (x : Lit) → Contains (xs ++ x ∷ []) x
+    last [] x = contains_head x []
+    last (y ∷ xs) x = contains_cons x (xs ++ x ∷ []) y (last xs x)
+
+-- ---- the problem that the encoder is handed
+
+pub problem_for : (p : Problem) → IsCategory p.schema.graph p.root → IsValidSchema p.schema
+    → IsFormulaAt p.schema.graph p.root p.question → AreCandidates p.schema p.question p.candidates
+    → IsProblem p × IsSpokenProblem p
+problem_for p r v q k = (
+  record { hierarchy = v.hierarchy; root = r; candidates = k },
+  record {
+    roots = λ c h. (v.roots c h).1;
+    constraints = λ c h. spoken p c.root c.formula (v.formulas c h) (constant_in_constraint p.schema p.question c h);
+    question = spoken p p.root p.question q (constant_in_question p.schema p.question);
+  },
+)
+
+pub same_candidates : (fresh : List ℕ) (texts : List (List (List ℕ))) (named : TheNames) → fresh ≡ named.fresh → texts ≡ named.texts
+    → candidates_of named ≡ record { fresh = fresh; texts = λ d. slice_index_or texts d [] }
+same_candidates fresh texts named f t = λ i. record { fresh = sym f i; texts = λ d. slice_index_or (sym t i) d [] }
+
+pub same_problem : (s : Schema) (q : Formula) (r : ℕ) (k l : Candidates) → k ≡ l
+    → ◌≡◌ {A = Problem} (record { schema = s; question = q; root = r; candidates = k })
+    (record { schema = s; question = q; root = r; candidates = l })
+same_problem s q r k l e = λ i. record { schema = s; question = q; root = r; candidates = e i }
+
+pub other_default : {A : Type 0} (xs : List A) (k : ℕ) (d e : A) → k < length xs → get_or xs k d ≡ get_or xs k e
+other_default [] k d e h = absurd (omega arith)
+other_default (x ∷ xs) zero d e h = refl
+other_default (x ∷ xs) (suc k) d e h = other_default xs k d e (omega arith)
+
+-- ---- what its valuations read
+
+same_truth : (a b : Bool) → (a ≡ true → b ≡ true) → (b ≡ true → a ≡ true) → a ≡ b
+same_truth a b f g = elim (true_or_false a) [
+  | inl y ↦ y ∙ sym (f y)
+  | inr n ↦ n ∙ sym (not_true b (λ y. let z : true ≡ false = sym (g y) ∙ n in cc))
+]
+
+index_same : (f : Frozen) (c : ℕ) → index_of f c ≡ index_in f c
+index_same f zero = refl
+index_same f (suc c) = refl
+
+at_meaning : (t : Task) (f : Frozen) (ms : List Meaning) (v : ℕ → Bool) (x : ℕ) (m : Meaning) → x < length ms → meaning_at ms x ≡ m
+    → Fits (schema_of t) t.root f ms v → IsTrue (v x) ↔ Means (schema_of t) t.root f v m
+at_meaning t f ms v x m h e fits = subst (λ n. IsTrue (v x) ↔ Means (schema_of t) t.root f v n) e (fits.at x h)
+
+pub reads : (t : Task) (f : Frozen) (ms : List Meaning) (v : ℕ → Bool) → IsLaidOut (problem_in t) ms t.layout.starts.items
+    → t.layout.edges ≡ length t.graph.edges → Fits (schema_of t) t.root f ms v → Reads t f v
+reads t f ms v laid edges fits = record {
+  on = λ e h.
+      let i = at_meaning t f ms v (1 + e) (On e) (let r = laid.room in omega arith) (laid.on e h) fits in
+      same_truth _ _ i.0 i.1;
+  present = λ c h.
+      let n : 1 + t.layout.edges + c ≡ 1 + length t.graph.edges + c = omega arith in
+      let i = at_meaning t f ms v (1 + length t.graph.edges + c) (Present c) (let r = laid.room in omega arith) (laid.present c h) fits in
+      ap v n ∙ same_truth _ _ i.0 i.1;
+  named = λ c j h b.
+      let l = laid.named c j h b in
+      let i = at_meaning t f ms v (slice_index t.layout.starts.items c + j) (Named c (suc j)) l.0 l.1 fits in
+      same_truth _ _ (λ y. is_same _ _ (sym (index_same f c) ∙ i.0 y)) (λ y. i.1 (index_same f c ∙ same_is _ _ y));
+}
+
+pub laid_for : (t : Task) (ms : List Meaning) → IsLaidOut (problem_in t) ms t.layout.starts.items → length ms ≤ 2 ^ 30
+    → t.layout.edges ≡ length t.graph.edges → t.layout.variables ≡ length ms → IsLaid t
+laid_for t ms laid few edges variables = record {
+  edges = edges;
+  starts = laid.starts;
+  first = (let r = laid.room in omega arith);
+  small = omega arith;
+  names = λ c j h b. let l = (laid.named c j h b).0 in omega arith;
+}
+
+pub encoded : (t : Task) (e : Encoding) (pool : Pool) → IsCategory t.graph t.root
+    → AreCandidates (schema_of t) t.question (candidates_of t.named) → length t.named.texts ≡ category_count t.graph
+    → IsLaidOut (problem_in t) e.meanings t.layout.starts.items → length e.meanings ≤ 2 ^ 30 → t.layout.edges ≡ length t.graph.edges
+    → t.layout.variables ≡ length e.meanings → ((f : Frozen) → AreMetBy (problem_in t) e f)
+    → ((v : ℕ → Bool) → AreAllMet v e.clauses → AreTrue v pool) → IsEncoded t pool
+encoded t e pool root k texts laid few edges variables met true_in = record {
+  task = record { root = root; candidates = k; texts = texts; laid = laid_for t e.meanings laid few edges variables };
+  each = λ f one. let m = met f one in (
+    valuation_in (problem_in t) e f,
+    reads t f e.meanings (valuation_in (problem_in t) e f) laid edges m.0,
+    true_in (valuation_in (problem_in t) e f) (λ clause c. m.1 clause c),
+  );
+}

@@ -1,0 +1,247 @@
+-- The least, place by place.
+use Rattle.std.proofs.Common.{◌≡◌, ◌≢◌, ℕ, zero, suc, ◌+◌, ◌-◌, ◌<◌, ◌≤◌, List, [], ◌∷◌, ◌++◌, length, get_or, map, take, Bool, true, false, cond, refl, ap, sym, subst, ◌∙◌, ◌⊎◌, inl, inr, arith, length-append, append_assoc}
+use Rattle.std.specs.Prelude.{◌↔◌, ◌==◌, slice_index, slice_index_or}
+use Rattle.std.proofs.lemmas.List.{get_or-map, get_or_append_left, get_or-append_right, length-map}
+use Rattle.olap_base.specs.Graph.{category_count}
+use Rattle.olap_ast.specs.Frozen.{Frozen, IsFrozen, code}
+use Rattle.olap_ast.specs.Violation.{IsNotAfter}
+use Rattle.olap_clauses.specs.declared.engine.Engine.{Engine}
+use Rattle.olap_clauses.specs.declared.literals.Lit.{Lit}
+use Rattle.olap_clauses.specs.declared.trails.Step.{Step}
+use Rattle.olap_clauses.specs.Literals.{Holds}
+use Rattle.olap_clauses.specs.Standing.{Agrees}
+use Rattle.olap_dimsat.specs.Tasks.{Task, IsOne, constant_count, name_variable, on_variable}
+use Rattle.olap_dimsat.specs.Reads.{Reads, IsShaped, index_in}
+use Rattle.olap_dimsat.specs.Pinned.{AreShaped, IsLeast, IsLonger, IsPinned, IsProbed, IsReady, IsSame, NoneAt, SayAt}
+use Rattle.olap_dimsat.proofs.Truths.{same_is, is_same, not_true, none_is_zero, true_or_false}
+use Rattle.olap_dimsat.proofs.ReadLemmas.{index_small}
+
+-- ---- codes
+
+abbrev pub bit : Bool → ℕ
+bit b = cond b 1 0
+
+pub same_bit : (x y : Bool) → bit x ≡ bit y → x ≡ y
+same_bit true true h = refl
+same_bit true false h = absurd (omega arith)
+same_bit false true h = absurd (omega arith)
+same_bit false false h = refl
+
+abbrev bits : List Bool → List ℕ
+bits es = map (λ b. cond b 1 0) es
+
+length-bits : (es : List Bool) → length (bits es) ≡ length es
+length-bits es = length-map es (λ b. cond b 1 0)
+
+pub code_edge : (t : Task) (f : Frozen) (e : ℕ) → IsOne t f → e < length t.graph.edges
+    → slice_index (code f) e ≡ bit (slice_index_or f.edges e false)
+code_edge t f e one h =
+    let l : length (bits f.edges) ≡ length f.edges = length-bits f.edges in
+    let c : length f.edges ≡ length t.graph.edges = one.edge_count in
+    get_or_append_left (bits f.edges) f.names 0 e (omega arith)
+    ∙ get_or-map (λ b. cond b 1 0) f.edges e false 0 (omega arith)
+
+pub code_name : (t : Task) (f : Frozen) (p c : ℕ) → IsOne t f → p ≡ length t.graph.edges + c
+    → slice_index (code f) p ≡ slice_index f.names c
+code_name t f p c one e =
+    let l : length (bits f.edges) ≡ length f.edges = length-bits f.edges in
+    let n : length f.edges ≡ length t.graph.edges = one.edge_count in
+    let m : p - length t.graph.edges ≡ c = omega arith in
+    get_or-append_right (bits f.edges) f.names (length t.graph.edges) p 0 (l ∙ n) (omega arith)
+    ∙ ap (λ i. slice_index f.names i) m
+
+pub code_index : (t : Task) (f : Frozen) (c : ℕ) → IsOne t f → c ≢ 0
+    → slice_index (code f) (length t.graph.edges + c - 1) ≡ index_in f c
+code_index t f zero one n = absurd (n refl)
+code_index t f (suc c) one n = code_name t f (length t.graph.edges + suc c - 1) c one (omega arith)
+
+length-code : (t : Task) (f : Frozen) → IsOne t f → length (code f) ≡ length t.graph.edges + length t.graph.names
+length-code t f one =
+    let l : length (bits f.edges) ≡ length f.edges = length-bits f.edges in
+    let a = length-append (bits f.edges) f.names in
+    let e : length f.edges ≡ length t.graph.edges = one.edge_count in
+    let n : length f.names ≡ length t.graph.names = one.name_count in omega arith
+
+-- ---- literals that say what stands at a place
+
+-- the first n constants of the category are its name exactly where they have the index i
+abbrev pub NamedSo : Task → (ℕ → Bool) → ℕ → ℕ → ℕ → Type 0
+NamedSo t v c i n = (k : ℕ) → k < n → v (name_variable t.layout c k) ≡ (suc k == i)
+
+pub at_or_below : (q p : ℕ) → q < p + 1 → (q < p) ⊎ (q ≡ p)
+at_or_below q p h = grind arith
+
+pub named_more : (t : Task) (v : ℕ → Bool) (c i n : ℕ) → NamedSo t v c i n → v (name_variable t.layout c n) ≡ (suc n == i)
+    → NamedSo t v c i (n + 1)
+named_more t v c i n s e k h = elim (at_or_below k n h) [
+  | inl l ↦ s k l
+  | inr q ↦ subst (λ m. v (name_variable t.layout c m) ≡ (suc m == i)) (sym q) e
+]
+
+eq_sym : (a b : ℕ) → (a == b) ≡ (b == a)
+eq_sym a b = elim (true_or_false (a == b)) [
+  | inl y ↦ y ∙ sym (is_same b a (sym (same_is a b y)))
+  | inr n ↦ n ∙ sym (not_true (b == a) (λ y. let z : true ≡ false = sym (is_same a b (sym (same_is b a y))) ∙ n in cc))
+]
+
+suc_not_zero : (k : ℕ) → (suc k == 0) ≡ false
+suc_not_zero k = not_true (suc k == 0) (λ y. let q = same_is (suc k) 0 y in omega arith)
+
+index_from : (i x n : ℕ) → i ≤ n → x ≤ n → ((k : ℕ) → k < n → (x == suc k) ≡ (suc k == i)) → x ≡ i
+index_from zero x n h l f = none_is_zero x n l (λ k b. f k b ∙ suc_not_zero k)
+index_from (suc i) x n h l f = same_is x (suc i) (f i (omega arith) ∙ is_same (suc i) (suc i) refl)
+
+pub index_of_named : (t : Task) (f : Frozen) (v : ℕ → Bool) (c i : ℕ) → IsOne t f → Reads t f v → c < category_count t.graph
+    → i ≤ constant_count t c → NamedSo t v c i (constant_count t c) → index_in f c ≡ i
+index_of_named t f v c i one r h l s = index_from i (index_in f c) (constant_count t c) l (index_small t f c one h)
+    (λ k b. sym (r.named c k h b) ∙ s k b)
+
+pub named_of_index : (t : Task) (f : Frozen) (v : ℕ → Bool) (c i : ℕ) → Reads t f v → c < category_count t.graph
+    → index_in f c ≡ i → NamedSo t v c i (constant_count t c)
+named_of_index t f v c i r h e k b = r.named c k h b ∙ eq_sym (index_in f c) (suc k) ∙ ap (λ x. suc k == x) e
+
+-- ---- pinned places
+
+same_more : (p : ℕ) (f w : Frozen) → IsSame p f w → slice_index (code f) p ≡ slice_index (code w) p → IsSame (p + 1) f w
+same_more p f w s e q h = elim (at_or_below q p h) [
+  | inl l ↦ s q l
+  | inr z ↦ subst (λ m. slice_index (code f) m ≡ slice_index (code w) m) (sym z) e
+]
+
+same_less : (p : ℕ) (f w : Frozen) → IsSame (p + 1) f w → IsSame p f w
+same_less p f w s q h = s q (omega arith)
+
+pub pinned_more : (t : Task) (p : ℕ) (w : Frozen) (old new : List Step) → IsPinned t p w old
+    → SayAt t p (slice_index (code w) p) old new → AreShaped t new
+    → ((f : Frozen) → IsOne t f → IsSame p f w → slice_index (code w) p ≤ slice_index (code f) p) → IsPinned t (p + 1) w new
+pinned_more t p w old new i say shaped low = record {
+  one = i.one;
+  shaped = shaped;
+  exactly = λ f v one r. (
+    λ a. let s = (say f v one r).0 a in same_more p f w ((i.exactly f v one r).0 s.0) s.1,
+    λ s. (say f v one r).1 ((i.exactly f v one r).1 (same_less p f w s), s p (omega arith)),
+  );
+  least = λ f one q h s. elim (at_or_below q p h) [
+    | inl l ↦ i.least f one q l s
+    | inr z ↦ subst (λ m. slice_index (code w) m ≤ slice_index (code f) m) (sym z)
+        (low f one (subst (λ m. IsSame m f w) z s))
+  ];
+}
+
+pub pinned_other : (t : Task) (p : ℕ) (w x : Frozen) (steps : List Step) → IsPinned t p w steps → IsOne t x → IsSame p x w
+    → IsPinned t p x steps
+pinned_other t p w x steps i one same = record {
+  one = one;
+  shaped = i.shaped;
+  exactly = λ f v o r. (
+    λ a q h. (i.exactly f v o r).0 a q h ∙ sym (same q h),
+    λ s. (i.exactly f v o r).1 (λ q h. s q h ∙ same q h),
+  );
+  least = λ f o q h s. subst (λ n. n ≤ slice_index (code f) q) (sym (same q h))
+      (i.least f o q h (λ k b. s k b ∙ same k (omega arith)));
+}
+
+at_least : (x y : ℕ) → ((k : ℕ) → k < x → y ≡ k → ⊥) → x ≤ y
+at_least x y f = elim (which y x) [ inl l ↦ absurd (f y l refl) | inr h ↦ h ]
+  where
+    which : (y x : ℕ) → (y < x) ⊎ (x ≤ y)
+    which y x = grind arith
+
+-- no less than x stands at p, where the places before it are w's
+low : (t : Task) (p x : ℕ) (w : Frozen) (old : List Step) (e : Engine) → IsReady t e → IsPinned t p w old
+    → ((k : ℕ) → k < x → NoneAt t p k old) → (f : Frozen) → IsOne t f → IsSame p f w → x ≤ slice_index (code f) p
+low t p x w old e ready i none f one same =
+    let v = ready f one in
+    at_least x (slice_index (code f) p) (λ k h q. none k h f v.0 one v.1 ((i.exactly f v.0 one v.1).1 same) q)
+
+pub lowered : (t : Task) (p x : ℕ) (w y : Frozen) (old new : List Step) (e : Engine) → IsReady t e → IsPinned t p w old
+    → ((k : ℕ) → k < x → NoneAt t p k old) → AreShaped t new → IsProbed t p x y old new → IsPinned t (p + 1) y new
+lowered t p x w y old new e ready i none shaped b =
+    let v = ready y b.one in
+    let s = (b.say y v.0 b.one v.1).0 (b.agrees v.0 v.1) in
+    let same = (i.exactly y v.0 b.one v.1).0 s.0 in
+    pinned_more t p y old new (pinned_other t p w y old i b.one same)
+    (subst (λ n. SayAt t p n old new) (sym s.1) b.say) shaped
+    (λ f one k. subst (λ n. n ≤ slice_index (code f) p) (sym s.1)
+    (low t p x w old e ready i none f one (λ q h. k q h ∙ same q h)))
+
+-- w itself is what is left
+pub settled : (t : Task) (p x : ℕ) (w : Frozen) (old new : List Step) (e : Engine) → IsReady t e → IsPinned t p w old
+    → x ≡ slice_index (code w) p → ((k : ℕ) → k < x → NoneAt t p k old) → AreShaped t new → SayAt t p x old new
+    → IsPinned t (p + 1) w new
+settled t p x w old new e ready i q none shaped say =
+    pinned_more t p w old new i (subst (λ n. SayAt t p n old new) q say) shaped
+    (λ f one k. subst (λ n. n ≤ slice_index (code f) p) q (low t p x w old e ready i none f one k))
+
+-- w has what stands there, so that literals may say so
+pub has_its_own : (t : Task) (p x : ℕ) (w : Frozen) (old : List Step) (e : Engine) → IsReady t e → IsPinned t p w old
+    → x ≡ slice_index (code w) p → NoneAt t p x old → ⊥
+has_its_own t p x w old e ready i q none =
+    let v = ready w i.one in none w v.0 i.one v.1 ((i.exactly w v.0 i.one v.1).1 (λ k h. refl)) (sym q)
+
+pub pinned_start : (t : Task) (w : Frozen) (steps : List Step) → steps ≡ [] → IsOne t w → IsPinned t 0 w steps
+pinned_start t w steps e one = subst (λ ss. IsPinned t 0 w ss) (sym e) (record {
+  one = one;
+  shaped = λ k d h. absurd (omega arith);
+  exactly = λ f v o r. (λ a q h. absurd (omega arith), λ s. tt);
+  least = λ f o q h s. absurd (omega arith);
+})
+
+-- ---- the least
+
+not_after : (xs ys : List ℕ) → length xs ≡ length ys
+    → ((q : ℕ) → q < length xs → ((k : ℕ) → k < q → slice_index ys k ≡ slice_index xs k) → slice_index xs q ≤ slice_index ys q)
+    → IsNotAfter xs ys
+not_after [] ys e f = tt
+not_after (x ∷ xs) [] e f = absurd (omega arith)
+not_after (x ∷ xs) (y ∷ ys) e f = elim (cases x y (f 0 (omega arith) (λ k h. absurd (omega arith)))) [
+  | inl l ↦ inl l
+  | inr q ↦ inr (q, not_after xs ys (omega arith) (λ k h s. f (suc k) (omega arith) (same q k s)))
+]
+  where
+    cases : (x y : ℕ) → x ≤ y → (x < y) ⊎ (x ≡ y)
+    cases x y h = grind arith
+
+    same : x ≡ y → (k : ℕ) → ((j : ℕ) → j < k → slice_index ys j ≡ slice_index xs j)
+        → (j : ℕ) → j < suc k → slice_index (y ∷ ys) j ≡ slice_index (x ∷ xs) j
+    same q k s zero h = sym q
+    same q k s (suc j) h = s j (omega arith)
+
+pub least_of_pinned : (t : Task) (p : ℕ) (w : Frozen) (steps : List Step)
+    → length t.graph.edges + length t.graph.names ≤ p → IsPinned t p w steps → IsLeast t w
+least_of_pinned t p w steps h i = record {
+  is_one = i.one;
+  least = λ f one. not_after (code w) (code f) (length-code t w i.one ∙ sym (length-code t f one))
+      (λ q b s. i.least f one q (let l = length-code t w i.one in omega arith) s);
+}
+
+-- ---- trails
+
+pub take_longer : (old new : List Step) → IsLonger old new → take (length old) new ≡ old
+take_longer old new l = ap (take (length old)) l.1 ∙ front old l.0
+  where
+    front : (ss ts : List Step) → take (length ss) (ss ++ ts) ≡ ss
+    front [] ts = take_none ts
+      where
+        take_none : (ts : List Step) → take 0 ts ≡ []
+        take_none [] = refl
+        take_none (t ∷ ts) = refl
+    front (s ∷ ss) ts = ap (λ r. s ∷ r) (front ss ts)
+
+pub longer_again : (a b c : List Step) → IsLonger a b → IsLonger b c → IsLonger a c
+longer_again a b c l m = (l.0 ++ m.0, m.1 ∙ ap (λ x. x ++ m.0) l.1 ∙ append_assoc a l.0 m.0)
+
+pub longer_same : (a b c : List Step) → IsLonger a b → c ≡ b → IsLonger a c
+longer_same a b c l e = (l.0, e ∙ l.1)
+
+pub shaped_more : (t : Task) (old : List Step) (s : Step) → AreShaped t old → IsShaped t s.lit → AreShaped t (old ++ s ∷ [])
+shaped_more t old s shaped is k d h = elim (which k (length old)) [
+  | inl l ↦ subst (λ (x : Step). IsShaped t x.lit) (sym (get_or_append_left old (s ∷ []) d k l)) (shaped k d l)
+  | inr g ↦
+      let n : k - length old ≡ 0 = let a = length-append old (s ∷ []) in omega arith in
+      subst (λ (x : Step). IsShaped t x.lit)
+      (sym (get_or-append_right old (s ∷ []) (length old) k d refl g ∙ ap (λ i. get_or (s ∷ []) i d) n)) is
+]
+  where
+    which : (k n : ℕ) → (k < n) ⊎ (n ≤ k)
+    which k n = grind arith

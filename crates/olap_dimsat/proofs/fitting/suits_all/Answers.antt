@@ -1,0 +1,13 @@
+use Rattle.std.proofs.Common.{List, get_or, refl, sym, subst, arith}
+use Rattle.olap_clauses.specs.declared.trails.Step.{Step}
+use Rattle.olap_clauses.specs.Standing.{Agrees}
+use Rattle.olap_clauses.specs.Literals.{Holds}
+use Rattle.olap_dimsat.proofs.StepLemmas.{agrees_at}
+use Rattle.olap_dimsat.proofs.fitting.suits_all.Goals as goal
+
+pub returns-then-not-suits-clause-no : goal.returns-then-not-suits-clause-no
+returns-then-not-suits-clause-no c = λ e v r a.
+    let items = c.steps-step-items.result.now in
+    let h = c.steps-test.true in
+    c.if-not-suits.ensures.no refl v r
+    (agrees_at v items c.steps.step-index _ (omega arith) (subst (λ (ss : List Step). Agrees v ss) (sym c.steps-step-items.ensures) a))

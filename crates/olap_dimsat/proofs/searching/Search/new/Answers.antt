@@ -1,0 +1,30 @@
+use Rattle.std.proofs.Common.{map, refl, ap}
+use Rattle.olap_ast.specs.Trees.{constraint_of, formula_of}
+use Rattle.olap_base.specs.declared.ids.CatId.{CatId}
+use Rattle.olap_dimsat.specs.Tasks.{Task}
+use Rattle.olap_dimsat.proofs.MadeLemmas.{ready_first}
+use Rattle.olap_dimsat.proofs.searching.Search.new.Goals as goal
+
+pub encode-requires-clause-candidates : goal.encode-requires-clause-candidates
+encode-requires-clause-candidates c = c.in_ok-candidates.ensures.candidates c.args.graph.now
+
+pub returns : goal.returns
+returns c =
+    let t : Task = record { graph = c.args.graph.now; constraints = map constraint_of c.args.constraints.now;
+        question = formula_of c.args.question.now; root = c.args.root.0; named = c.in_ok-candidates.candidates;
+        layout = c.in_ok-encoded.encoded.layout } in
+    let e = c.in_ok-encoded.ensures in
+    let b = c.in_ok-blank.ensures in
+    let d = c.in_ok-best.ensures in record {
+      root_is = refl;
+      task = e.task;
+      suited = record {
+        task = e.task;
+        frozen = record { root = ap (λ (r : CatId). r.0) b.root; edges = b.edges; names = b.names };
+        room = c.in_ok-new.ensures;
+        variables = c.in-Ok.ensures.variables;
+      };
+      best = record { root = ap (λ (r : CatId). r.0) d.root; edges = d.edges; names = d.names };
+      ready = ready_first t c.in_ok-encoded.encoded.pool c.in-Ok.engine e (λ v a. c.in-Ok.ensures.admits v a);
+      empty = c.in-Ok.ensures.empty;
+    }

@@ -1,0 +1,31 @@
+-- What an asker asks, and the state that it works in.
+use Rattle.std.specs.Prelude.{◌≡◌, ℕ, List, length, map}
+use Rattle.olap_base.specs.Graph.{category_count}
+use Rattle.olap_ast.specs.Trees.{constraint_of, formula_of}
+use Rattle.olap_frozen.specs.declared.frozen.Frozen.{Frozen}
+use Rattle.olap_dimsat.specs.declared.asker.Asker.{Asker}
+use Rattle.olap_dimsat.specs.declared.asker.Leaf.{Leaf}
+use Rattle.olap_dimsat.specs.Tasks.{Task, IsTask}
+
+abbrev pub task_of : Asker → Task
+task_of a = record {
+  graph = a.graph.now;
+  constraints = map constraint_of a.constraints.now;
+  question = formula_of a.question.now;
+  root = a.root.0;
+  named = a.candidates.now;
+  layout = a.layout.now;
+}
+
+-- the value has the root, and an entry for each edge and each category
+pub record IsFor (t : Task) (frozen : Frozen) : Type 0 where
+  pub root : frozen.root.0 ≡ t.root
+  pub edges : length frozen.edges ≡ length t.graph.edges
+  pub names : length frozen.names ≡ category_count t.graph
+
+-- the state has room for the task, and there are so many variables
+pub record IsSuited (t : Task) (leaf : Leaf) (n : ℕ) : Type 0 where
+  pub task : IsTask t
+  pub frozen : IsFor t leaf.frozen
+  pub room : length leaf.room.rows.items ≡ category_count t.graph
+  pub variables : n ≡ t.layout.variables

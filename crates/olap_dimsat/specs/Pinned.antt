@@ -1,0 +1,74 @@
+-- How far the least frozen dimension is known.
+use Rattle.std.specs.Prelude.{◌≡◌, ◌↔◌, ◌+◌, ◌-◌, ℕ, ◌<◌, ◌≤◌, List, ◌++◌, Bool, All, Contains, length, slice_index}
+use Rattle.olap_ast.specs.Frozen.{Frozen, IsLeastFrozen, code}
+use Rattle.olap_names.specs.Names.{candidates_of}
+use Rattle.olap_clauses.specs.declared.trails.Step.{Step}
+use Rattle.olap_clauses.specs.declared.engine.Engine.{Engine}
+use Rattle.olap_clauses.specs.Standing.{Agrees}
+use Rattle.olap_clauses.specs.Engines.{admits}
+use Rattle.olap_encoding.specs.Literals.{IsMet}
+use Rattle.olap_dimsat.specs.Tasks.{Task, IsOne, IsTask, constant_count, schema_of}
+use Rattle.olap_clauses.specs.declared.pools.Pool.{Pool}
+use Rattle.olap_clauses.specs.Pools.{AreTrue}
+use Rattle.olap_dimsat.specs.Reads.{Reads, IsShaped}
+
+-- the valuation meets each of these clauses of the encoder
+abbrev pub AreAllMet : (ℕ → Bool) → List (List ℕ) → Type 0
+AreAllMet v clauses = (clause : List ℕ) → Contains clauses clause → IsMet v clause
+
+-- the task is laid out, and each frozen dimension of it has a valuation that makes the clauses true
+pub record IsEncoded (t : Task) (pool : Pool) : Type 0 where
+  pub task : IsTask t
+  pub each : (f : Frozen) → IsOne t f → (v : ℕ → Bool) × Reads t f v × AreTrue v pool
+
+-- each frozen dimension of the task has a valuation that the engine admits
+abbrev pub IsReady : Task → Engine → Type 0
+IsReady t e = (f : Frozen) → IsOne t f → (v : ℕ → Bool) × Reads t f v × admits v e
+
+abbrev pub AreShaped : Task → List Step → Type 0
+AreShaped t steps = All (λ s. IsShaped t s.lit) steps
+
+-- the codes are the same at the first p places
+abbrev pub IsSame : ℕ → Frozen → Frozen → Type 0
+IsSame p f w = (q : ℕ) → q < p → slice_index (code f) q ≡ slice_index (code w) q
+
+-- w is a frozen dimension, the literals say that its first p places are as they are, and no frozen dimension has
+-- less at the first of these places where it differs
+pub record IsPinned (t : Task) (p : ℕ) (w : Frozen) (steps : List Step) : Type 0 where
+  pub one : IsOne t w
+  pub shaped : AreShaped t steps
+  pub exactly : (f : Frozen) (v : ℕ → Bool) → IsOne t f → Reads t f v → Agrees v steps ↔ IsSame p f w
+  pub least : (f : Frozen) → IsOne t f → (q : ℕ) → q < p → IsSame q f w
+      → slice_index (code w) q ≤ slice_index (code f) q
+
+-- the literals say that the frozen dimension has x at the place p
+abbrev pub SayAt : Task → ℕ → ℕ → List Step → List Step → Type 0
+SayAt t p x old new = (f : Frozen) (v : ℕ → Bool) → IsOne t f → Reads t f v
+    → Agrees v new ↔ (Agrees v old × (slice_index (code f) p ≡ x))
+
+-- none that agrees with the literals has x at the place p
+abbrev pub NoneAt : Task → ℕ → ℕ → List Step → Type 0
+NoneAt t p x old = (f : Frozen) (v : ℕ → Bool) → IsOne t f → Reads t f v → Agrees v old
+    → slice_index (code f) p ≡ x → ⊥
+
+-- literals came to the trail
+abbrev pub IsLonger : List Step → List Step → Type 0
+IsLonger old new = (more : List Step) × (new ≡ old ++ more)
+
+abbrev pub IsLeast : Task → Frozen → Type 0
+IsLeast t f = IsLeastFrozen (schema_of t) t.question t.root (candidates_of t.named) f
+
+-- a place of codes: one of an edge, or one of a declared category
+abbrev pub IsPlace : Task → ℕ → Type 0
+IsPlace t p = p < length t.graph.edges + length t.graph.names
+
+-- the number may stand there
+pub record InRange (t : Task) (p x : ℕ) : Type 0 where
+  pub edge : p < length t.graph.edges → x ≤ 1
+  pub name : length t.graph.edges ≤ p → x ≤ constant_count t (p - length t.graph.edges + 1)
+
+-- w agrees with literals to which some came that say that x is at p
+pub record IsProbed (t : Task) (p x : ℕ) (w : Frozen) (old new : List Step) : Type 0 where
+  pub say : SayAt t p x old new
+  pub one : IsOne t w
+  pub agrees : (v : ℕ → Bool) → Reads t w v → Agrees v new

@@ -1,0 +1,91 @@
+// Whether a choice of edges and names agrees with literals.
+ghost use Rattle.std.specs.Prelude.{◌≡◌, ◌≢◌, ◌==◌, ◌<◌, ℕ, Bool, false, suc, length, slice_index, slice_index_or, true};
+ghost use Rattle.olap_base.specs.Graph.{IsCategory};
+ghost use Rattle.olap_clauses.specs.Literals.{Holds};
+ghost use Rattle.olap_clauses.specs.Standing.{Agrees};
+ghost use Rattle.olap_clauses.specs.Trails.{steps_of};
+ghost use Rattle.olap_frozen.specs.Leaves.{chosen_of};
+ghost use Rattle.olap_dimsat.specs.Tasks.{IsTask, constant_count, name_variable, on_variable};
+ghost use Rattle.olap_dimsat.specs.Reads.{AllSuit, Reads, Suits};
+ghost use Rattle.olap_dimsat.specs.Asking.{IsFor, task_of};
+
+use crate::asker::Asker;
+use olap_base::CatId;
+use olap_clauses::{Lit, Trail};
+use olap_frozen::Frozen;
+
+// Whether the choice agrees with the literal, if this is one of an edge.
+fn suits_edge(a: &Asker<'_>, frozen: &Frozen, lit: Lit) -> bool
+    requires task { IsTask (task_of a.now) }
+    requires sizes { IsFor (task_of a.now) frozen.now }
+    ensures yes { result ≡ true → (e : ℕ) → e < length a.now.graph.now.edges → lit.variable ≡ on_variable e
+        → slice_index_or frozen.now.edges e false ≡ lit.positive }
+    ensures no { result ≡ false → (v : ℕ → Bool) → Reads (task_of a.now) (chosen_of frozen.now.edges frozen.now.names) v
+        → Holds v lit → ⊥ }
+{
+    let x = lit.variable;
+    if x < 1 || x > u32::from(a.graph.edges()) {
+        return true;
+    }
+    frozen.edges.items()[x as usize - 1] == lit.positive
+}
+
+// Whether the choice agrees with the literal, if this is one of the category's name.
+fn suits_name(a: &Asker<'_>, frozen: &Frozen, c: CatId, lit: Lit) -> bool
+    requires task { IsTask (task_of a.now) }
+    requires category { IsCategory a.now.graph.now c.0 }
+    requires declared { c.0 ≢ 0 }
+    requires sizes { IsFor (task_of a.now) frozen.now }
+    ensures yes { result ≡ true → (j : ℕ) → j < constant_count (task_of a.now) c.0
+        → lit.variable ≡ name_variable (task_of a.now).layout c.0 j
+        → (slice_index frozen.now.names c.0 == suc j) ≡ lit.positive }
+    ensures no { result ≡ false → (v : ℕ → Bool) → Reads (task_of a.now) (chosen_of frozen.now.edges frozen.now.names) v
+        → Holds v lit → ⊥ }
+{
+    let start = a.layout.starts[usize::from(c.0)];
+    let count = a.candidates.constants(c).len();
+    if lit.variable < start {
+        return true;
+    }
+    let place = (lit.variable - start) as usize;
+    if place >= count {
+        return true;
+    }
+    let is = usize::from(frozen.names.items()[usize::from(c.0)]) == place + 1;
+    is == lit.positive
+}
+
+// Whether the choice agrees with the literal, if this is one of an edge or of a name.
+fn suits(a: &Asker<'_>, frozen: &Frozen, lit: Lit) -> bool
+    requires task { IsTask (task_of a.now) }
+    requires sizes { IsFor (task_of a.now) frozen.now }
+    ensures yes { result ≡ true → Suits (task_of a.now) frozen.now.edges frozen.now.names lit }
+    ensures no { result ≡ false → (v : ℕ → Bool) → Reads (task_of a.now) (chosen_of frozen.now.edges frozen.now.names) v
+        → Holds v lit → ⊥ }
+{
+    if !suits_edge(a, frozen, lit) {
+        return false;
+    }
+    'categories: for c in 1..a.graph.categories() {
+        if !suits_name(a, frozen, CatId(c), lit) {
+            return false;
+        }
+    }
+    true
+}
+
+/// Whether the choice agrees with the literals of a trail.
+pub(crate) fn suits_all(a: &Asker<'_>, frozen: &Frozen, trail: &Trail) -> bool
+    requires task { IsTask (task_of a.now) }
+    requires sizes { IsFor (task_of a.now) frozen.now }
+    ensures yes { result ≡ true → AllSuit (task_of a.now) frozen.now.edges frozen.now.names (steps_of trail.now) }
+    ensures no { result ≡ false → (v : ℕ → Bool) → Reads (task_of a.now) (chosen_of frozen.now.edges frozen.now.names) v
+        → Agrees v (steps_of trail.now) → ⊥ }
+{
+    'steps: for step in trail.steps() {
+        if !suits(a, frozen, step.lit) {
+            return false;
+        }
+    }
+    true
+}

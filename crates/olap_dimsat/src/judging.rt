@@ -1,0 +1,44 @@
+// The judge of a search for frozen dimensions.
+ghost use Rattle.std.specs.Prelude.{ℕ};
+
+use crate::asker::{Asker, Leaf};
+use crate::fitting::suits_all;
+use crate::reading::{open_edge, open_name, read};
+use olap_clauses::{Judge, Trail, Verdict};
+use olap_frozen::is_frozen;
+
+impl<'a> Judge<Leaf> for Asker<'a> {
+    ghost use Rattle.olap_dimsat.specs.Asking.{IsSuited, task_of};
+    ghost use Rattle.olap_dimsat.specs.Reads.{IsMeant, IsTaken};
+
+    ghost Means = { λ a v. IsMeant (task_of a) v };
+
+    ghost Suits = { λ a leaf n. IsSuited (task_of a) leaf n };
+
+    ghost Took = { λ a leaf steps. IsTaken (task_of a) leaf.frozen.edges leaf.frozen.names steps };
+
+    fn judge(&self, leaf: &mut Leaf, trail: &Trail) -> Verdict {
+        if let Some(lit) = open_edge(self, trail) {
+            return Verdict::Decide(lit);
+        }
+        if let Some(lit) = open_name(self, trail) {
+            return Verdict::Decide(lit);
+        }
+        if let Err(lit) = read(self, trail, &mut leaf.frozen) {
+            return Verdict::Decide(lit);
+        }
+        let is_one = is_frozen(
+            self.graph,
+            self.constraints,
+            self.question,
+            self.candidates,
+            &leaf.frozen,
+            &mut leaf.room,
+        );
+        if is_one && suits_all(self, &leaf.frozen, trail) {
+            Verdict::Take
+        } else {
+            Verdict::Refuse
+        }
+    }
+}

@@ -1,0 +1,232 @@
+// The least, place by place: first the edges, then the names.
+ghost use Rattle.std.specs.Prelude.{◌≡◌, ◌≢◌, ◌↔◌, ◌+◌, ◌-◌, ◌<◌, ◌≤◌, ◌==◌, ℕ, suc, Bool, false, true, [], length, slice_index, slice_index_or, if◌then◌else◌};
+ghost use Rattle.olap_base.specs.Graph.{IsCategory};
+ghost use Rattle.olap_clauses.specs.Engines.{admits, trail_of, variables_of};
+ghost use Rattle.olap_clauses.specs.Literals.{Holds};
+ghost use Rattle.olap_clauses.specs.Standing.{Agrees};
+ghost use Rattle.olap_clauses.specs.Trails.{IsOpen};
+ghost use Rattle.olap_frozen.specs.Leaves.{chosen_of};
+ghost use Rattle.olap_ast.specs.Frozen.{Frozen as TheFrozen, code};
+ghost use Rattle.olap_dimsat.specs.Tasks.{IsOne, IsTask, constant_count};
+ghost use Rattle.olap_dimsat.specs.Reads.{IsShaped};
+ghost use Rattle.olap_dimsat.specs.Asking.{IsFor, IsSuited, task_of};
+ghost use Rattle.olap_dimsat.specs.Pinned.{AreShaped, InRange, IsLeast, IsLonger, IsPinned, IsPlace, IsProbed, IsReady, NoneAt, SayAt};
+
+use crate::asker::{Asker, Leaf};
+use crate::existing::exists;
+use olap_base::{CatId, EdgeId};
+use olap_clauses::{Engine, Lit, Value};
+use olap_frozen::Frozen;
+use std::mem::swap;
+
+// Decides the literal, if it is open. False: nothing that agrees with the trail makes it true.
+fn assume(engine: &mut Engine, a: &Asker<'_>, lit: Lit) -> bool
+    requires shaped { AreShaped (task_of a.now) (trail_of engine.old) }
+    requires lit { IsShaped (task_of a.now) lit }
+    requires inside { lit.variable < variables_of engine.old }
+    ensures yes { result ≡ true → (v : ℕ → Bool) → Agrees v (trail_of engine.new) ↔ (Agrees v (trail_of engine.old) × Holds v lit) }
+    ensures no { result ≡ false → (v : ℕ → Bool) → Agrees v (trail_of engine.old) → Holds v lit → ⊥ }
+    ensures longer { IsLonger (trail_of engine.old) (trail_of engine.new) }
+    ensures shaped { AreShaped (task_of a.now) (trail_of engine.new) }
+    ensures variables { variables_of engine.new ≡ variables_of engine.old }
+    ensures admits { (v : ℕ → Bool) → admits v engine.old → admits v engine.new }
+{
+    match engine.trail().value(lit) {
+        Value::Yes => true,
+        Value::No => false,
+        Value::Unknown => {
+            engine.decide(lit);
+            true
+        }
+    }
+}
+
+// Decides that the edge is present, or that it is absent.
+fn assume_edge(engine: &mut Engine, a: &Asker<'_>, e: EdgeId, present: bool) -> bool
+    requires task { IsTask (task_of a.now) }
+    requires shaped { AreShaped (task_of a.now) (trail_of engine.old) }
+    requires edge { e.0 < length a.now.graph.now.edges }
+    requires variables { variables_of engine.old ≡ a.now.layout.now.variables }
+    ensures yes { result ≡ true → SayAt (task_of a.now) e.0 (if present then 1 else 0) (trail_of engine.old) (trail_of engine.new) }
+    ensures no { result ≡ false → NoneAt (task_of a.now) e.0 (if present then 1 else 0) (trail_of engine.old) }
+    ensures longer { IsLonger (trail_of engine.old) (trail_of engine.new) }
+    ensures shaped { AreShaped (task_of a.now) (trail_of engine.new) }
+    ensures variables { variables_of engine.new ≡ variables_of engine.old }
+    ensures admits { (v : ℕ → Bool) → admits v engine.old → admits v engine.new }
+{
+    let on = a.layout.on(e);
+    let lit = Lit {
+        variable: on.variable,
+        positive: present,
+    };
+    assume(engine, a, lit)
+}
+
+// Decides that the category's name has this index.
+fn assume_name(engine: &mut Engine, a: &Asker<'_>, c: CatId, i: u16) -> bool
+    requires task { IsTask (task_of a.now) }
+    requires shaped { AreShaped (task_of a.now) (trail_of engine.old) }
+    requires category { IsCategory a.now.graph.now c.0 }
+    requires declared { c.0 ≢ 0 }
+    requires index { i ≤ constant_count (task_of a.now) c.0 }
+    requires variables { variables_of engine.old ≡ a.now.layout.now.variables }
+    ensures yes { result ≡ true → SayAt (task_of a.now) (length a.now.graph.now.edges + c.0 - 1) i (trail_of engine.old) (trail_of engine.new) }
+    ensures no { result ≡ false → NoneAt (task_of a.now) (length a.now.graph.now.edges + c.0 - 1) i (trail_of engine.old) }
+    ensures longer { IsLonger (trail_of engine.old) (trail_of engine.new) }
+    ensures shaped { AreShaped (task_of a.now) (trail_of engine.new) }
+    ensures variables { variables_of engine.new ≡ variables_of engine.old }
+    ensures admits { (v : ℕ → Bool) → admits v engine.old → admits v engine.new }
+{
+    'constants: for j in 0..a.candidates.constants(c).len() {
+        let name = a.layout.name(c, j);
+        let lit = Lit {
+            variable: name.variable,
+            positive: j + 1 == usize::from(i),
+        };
+        if !assume(engine, a, lit) {
+            return false;
+        }
+    }
+    true
+}
+
+// Decides that the code has this number at this place.
+fn assume_at(engine: &mut Engine, a: &Asker<'_>, p: u16, x: u16) -> bool
+    requires task { IsTask (task_of a.now) }
+    requires shaped { AreShaped (task_of a.now) (trail_of engine.old) }
+    requires place { IsPlace (task_of a.now) p }
+    requires number { InRange (task_of a.now) p x }
+    requires variables { variables_of engine.old ≡ a.now.layout.now.variables }
+    ensures yes { result ≡ true → SayAt (task_of a.now) p x (trail_of engine.old) (trail_of engine.new) }
+    ensures no { result ≡ false → NoneAt (task_of a.now) p x (trail_of engine.old) }
+    ensures longer { IsLonger (trail_of engine.old) (trail_of engine.new) }
+    ensures shaped { AreShaped (task_of a.now) (trail_of engine.new) }
+    ensures variables { variables_of engine.new ≡ variables_of engine.old }
+    ensures admits { (v : ℕ → Bool) → admits v engine.old → admits v engine.new }
+{
+    let edges = a.graph.edges();
+    let _few = a.graph.categories();
+    if p < edges {
+        assume_edge(engine, a, EdgeId(p), x == 1)
+    } else {
+        assume_name(engine, a, CatId(p - edges + 1), x)
+    }
+}
+
+// Whether one that agrees has this number at this place; it is then in the leaf.
+fn probe(engine: &mut Engine, a: &Asker<'_>, leaf: &mut Leaf, p: u16, x: u16) -> bool
+    requires place { IsPlace (task_of a.now) p }
+    requires number { InRange (task_of a.now) p x }
+    requires suited { IsSuited (task_of a.now) leaf.old (variables_of engine.old) }
+    requires ready { IsReady (task_of a.now) engine.old }
+    requires shaped { AreShaped (task_of a.now) (trail_of engine.old) }
+    ensures yes { result ≡ true → IsProbed (task_of a.now) p x (chosen_of leaf.new.frozen.edges leaf.new.frozen.names)
+        (trail_of engine.old) (trail_of engine.new) }
+    ensures no { result ≡ false → NoneAt (task_of a.now) p x (trail_of engine.old) }
+    ensures longer { IsLonger (trail_of engine.old) (trail_of engine.new) }
+    ensures shaped { AreShaped (task_of a.now) (trail_of engine.new) }
+    ensures ready { IsReady (task_of a.now) engine.new }
+    ensures suited { IsSuited (task_of a.now) leaf.new (variables_of engine.new) }
+{
+    if !assume_at(engine, a, p, x) {
+        return false;
+    }
+    exists(engine, a, leaf)
+}
+
+// Is there one with this number at this place, that agrees before? It is then the best one.
+fn lower(
+    engine: &mut Engine,
+    a: &Asker<'_>,
+    leaf: &mut Leaf,
+    best: &mut Frozen,
+    p: u16,
+    x: u16,
+) -> bool
+    requires place { IsPlace (task_of a.now) p }
+    requires number { InRange (task_of a.now) p x }
+    requires suited { IsSuited (task_of a.now) leaf.old (variables_of engine.old) }
+    requires ready { IsReady (task_of a.now) engine.old }
+    requires best { IsFor (task_of a.now) best.old }
+    requires pinned { IsPinned (task_of a.now) p (chosen_of best.old.edges best.old.names) (trail_of engine.old) }
+    requires none { (k : ℕ) → k < x → NoneAt (task_of a.now) p k (trail_of engine.old) }
+    ensures yes { result ≡ true → IsPinned (task_of a.now) (p + 1) (chosen_of best.new.edges best.new.names) (trail_of engine.new) }
+    ensures no { result ≡ false → NoneAt (task_of a.now) p x (trail_of engine.old) }
+    ensures trail { result ≡ false → trail_of engine.new ≡ trail_of engine.old }
+    ensures stays { result ≡ false → best.new ≡ best.old }
+    ensures best { IsFor (task_of a.now) best.new }
+    ensures suited { IsSuited (task_of a.now) leaf.new (variables_of engine.new) }
+    ensures ready { IsReady (task_of a.now) engine.new }
+{
+    let mark = engine.trail().len();
+    if probe(engine, a, leaf, p, x) {
+        swap(best, &mut leaf.frozen);
+        return true;
+    }
+    engine.undo(mark);
+    false
+}
+
+// The number at this place of the code.
+fn number_at(a: &Asker<'_>, best: &Frozen, p: u16) -> u16
+    requires best { IsFor (task_of a.now) best.now }
+    requires one { IsOne (task_of a.now) (chosen_of best.now.edges best.now.names) }
+    requires place { IsPlace (task_of a.now) p }
+    ensures number { result ≡ slice_index (code (chosen_of best.now.edges best.now.names)) p }
+    ensures in_range { InRange (task_of a.now) p result }
+{
+    let edges = a.graph.edges();
+    if p < edges {
+        u16::from(best.edges.items()[usize::from(p)])
+    } else {
+        best.names.items()[usize::from(p - edges) + 1]
+    }
+}
+
+// One place more.
+fn settle(engine: &mut Engine, a: &Asker<'_>, leaf: &mut Leaf, best: &mut Frozen, p: u16)
+    requires place { IsPlace (task_of a.now) p }
+    requires suited { IsSuited (task_of a.now) leaf.old (variables_of engine.old) }
+    requires ready { IsReady (task_of a.now) engine.old }
+    requires best { IsFor (task_of a.now) best.old }
+    requires pinned { IsPinned (task_of a.now) p (chosen_of best.old.edges best.old.names) (trail_of engine.old) }
+    ensures pinned { IsPinned (task_of a.now) (p + 1) (chosen_of best.new.edges best.new.names) (trail_of engine.new) }
+    ensures best { IsFor (task_of a.now) best.new }
+    ensures suited { IsSuited (task_of a.now) leaf.new (variables_of engine.new) }
+    ensures ready { IsReady (task_of a.now) engine.new }
+{
+    let number = number_at(a, best, p);
+    'numbers: for x in 0..number {
+        if lower(engine, a, leaf, best, p, x) {
+            return;
+        }
+    }
+    let _ = assume_at(engine, a, p, number);
+}
+
+/// Finds the least, place by place. False: there is none.
+pub(crate) fn least(
+    engine: &mut Engine,
+    a: &Asker<'_>,
+    leaf: &mut Leaf,
+    best: &mut Frozen,
+) -> bool
+    requires suited { IsSuited (task_of a.now) leaf.old (variables_of engine.old) }
+    requires ready { IsReady (task_of a.now) engine.old }
+    requires best { IsFor (task_of a.now) best.old }
+    requires empty { trail_of engine.old ≡ [] }
+    ensures some { result ≡ true → IsLeast (task_of a.now) (chosen_of best.new.edges best.new.names) }
+    ensures none { result ≡ false → (f : TheFrozen) → IsOne (task_of a.now) f → ⊥ }
+    ensures best { IsFor (task_of a.now) best.new }
+    ensures suited { IsSuited (task_of a.now) leaf.new (variables_of engine.new) }
+    ensures ready { IsReady (task_of a.now) engine.new }
+{
+    if !exists(engine, a, leaf) {
+        return false;
+    }
+    swap(best, &mut leaf.frozen);
+    'places: for p in 0..a.graph.edges() + a.graph.categories() - 1 {
+        settle(engine, a, leaf, best, p);
+    }
+    true
+}

@@ -1,0 +1,121 @@
+-- The valuation of a frozen dimension gives each variable the value of its meaning.
+use Rattle.std.proofs.Common.{◌≡◌, ℕ, zero, suc, ◌<◌, ◌≤◌, ◌/◌, ◌%◌, List, length, Bool, true, false, cond, refl, ap, sym, subst, ◌∙◌, ◌↔◌, ◌⊎◌, inl, inr, arith}
+use Rattle.std.specs.Prelude.{◌==◌, IsTrue, not}
+use Rattle.olap_base.specs.Steps.{Steps-from_reaches, reaches_from_Steps}
+use Rattle.olap_base.specs.Reaching.{category_reaches, category_reaches_is}
+use Rattle.olap_base.proofs.ListLemmas.{both_true, first_true, second_true}
+use Rattle.olap_ast.specs.Schema.{Schema}
+use Rattle.olap_ast.specs.Frozen.{Frozen, is_present}
+use Rattle.olap_encoding.specs.Literals.{Valuation, value}
+use Rattle.olap_encoding.specs.Meanings.{edges_of, index_of, Means, IsEither, meaning_at, Fits, IsBelow, AreOrdered, chosen_graph, truth_of, valuation}
+use Rattle.olap_encoding.specs.declared.meanings.Meaning.{Meaning}
+use Rattle.olap_encoding.specs.declared.meanings.Meaning.TheVariants.{Always, On, Named, Present, Reaching, Both, Differ}
+use Rattle.olap_encoding.proofs.Tests.{same_is, is_same}
+
+-- ---- whether a meaning holds
+
+differ_is : (a b : Bool) → IsTrue (cond a (not b) b) ↔ IsEither (IsTrue a) (IsTrue b)
+differ_is true true = (λ e i. cc, λ n. absurd (n (λ x. x, λ x. x)))
+differ_is true false = (λ e i. let z : false ≡ true = i.0 refl in cc, λ n. refl)
+differ_is false true = (λ e i. let z : false ≡ true = i.1 refl in cc, λ n. refl)
+differ_is false false = (λ e i. cc, λ n. absurd (n (λ x. x, λ x. x)))
+
+truth_is : (s : Schema) (r : ℕ) (f : Frozen) (v : Valuation) (m : Meaning) → IsTrue (truth_of s r f v m) ↔ Means s r f v m
+truth_is s r f v Always = (λ e. tt, λ t. refl)
+truth_is s r f v (On e) = (λ h. h, λ h. h)
+truth_is s r f v (Named c k) = (same_is (index_of f c) k, is_same (index_of f c) k)
+truth_is s r f v (Present c) = (λ h. h, λ h. h)
+truth_is s r f v (Reaching c d) =
+    let a = is_present r (edges_of s f) c in
+    let b = category_reaches (chosen_graph (edges_of s f)) c d in
+    let t = category_reaches_is (chosen_graph (edges_of s f)) c d in (
+      λ h. (first_true a b h, Steps-from_reaches (t.0 (second_true a b h))),
+      λ h. both_true a b h.0 (t.1 (reaches_from_Steps h.1)),
+    )
+truth_is s r f v (Both a b) = (
+  λ h. (first_true (value v a) (value v b) h, second_true (value v a) (value v b) h),
+  λ h. both_true (value v a) (value v b) h.0 h.1,
+)
+truth_is s r f v (Differ a b) = differ_is (value v a) (value v b)
+
+-- ---- valuations that agree below n
+
+value_alike : (v w : Valuation) (l : ℕ) → v (l / 2) ≡ w (l / 2) → value v l ≡ value w l
+unfolding value
+value_alike v w l e = ap (λ b. cond (l % 2 == 0) b (not b)) e
+
+means_alike : (s : Schema) (r : ℕ) (f : Frozen) (v w : Valuation) (n : ℕ) (m : Meaning) → IsBelow n m
+    → ((y : ℕ) → y < n → v y ≡ w y) → Means s r f v m → Means s r f w m
+means_alike s r f v w n Always b e h = h
+means_alike s r f v w n (On x) b e h = h
+means_alike s r f v w n (Named c k) b e h = h
+means_alike s r f v w n (Present c) b e h = h
+means_alike s r f v w n (Reaching c d) b e h = h
+means_alike s r f v w n (Both x y) b e h = (
+  sym (value_alike v w x (e (x / 2) b.0)) ∙ h.0,
+  sym (value_alike v w y (e (y / 2) b.1)) ∙ h.1,
+)
+means_alike s r f v w n (Differ x y) b e h =
+    let p = value_alike v w x (e (x / 2) b.0) in
+    let q = value_alike v w y (e (y / 2) b.1) in
+    λ i. h (λ a. q ∙ i.0 (sym p ∙ a), λ a. p ∙ i.1 (sym q ∙ a))
+
+-- ---- one variable after the other
+
+module _ (s : Schema) (r : ℕ) (f : Frozen) (ms : List Meaning) where
+  new_value : (n : ℕ) → valuation s r f ms (suc n) n ≡ truth_of s r f (valuation s r f ms n) (meaning_at ms n)
+  unfolding valuation
+  new_value n = ap (λ b. cond b (truth_of s r f (valuation s r f ms n) (meaning_at ms n)) (valuation s r f ms n n))
+      (is_same n n refl)
+
+  old_value : (n x : ℕ) → x < n → valuation s r f ms (suc n) x ≡ valuation s r f ms n x
+  unfolding valuation
+  old_value n x h = go (x == n) (λ e. let q = same_is x n e in omega arith)
+    where
+      go : (b : Bool) → (b ≡ true → ⊥)
+          → cond b (truth_of s r f (valuation s r f ms n) (meaning_at ms n)) (valuation s r f ms n x)
+          ≡ valuation s r f ms n x
+      go true m = absurd (m refl)
+      go false m = refl
+
+  last_or_earlier : (n x : ℕ) → x < suc n → (x ≡ n) ⊎ (x < n)
+  last_or_earlier n x h = grind arith
+
+  module _ (o : AreOrdered ms) where
+    -- one more variable leaves what the earlier ones mean
+    kept : (n x : ℕ) → x < length ms → x ≤ n → (Means s r f (valuation s r f ms n) (meaning_at ms x)
+        → Means s r f (valuation s r f ms (suc n)) (meaning_at ms x)) × (Means s r f (valuation s r f ms (suc n))
+        (meaning_at ms x) → Means s r f (valuation s r f ms n) (meaning_at ms x))
+    kept n x l h =
+        let v = valuation s r f ms n in
+        let w = valuation s r f ms (suc n) in (
+          means_alike s r f v w x (meaning_at ms x) (o.below x l) (λ y k. sym (old_value n y (omega arith))),
+          means_alike s r f w v x (meaning_at ms x) (o.below x l) (λ y k. old_value n y (omega arith)),
+        )
+
+    first_values : (n x : ℕ) → n ≤ length ms → x < n
+        → IsTrue (valuation s r f ms n x) ↔ Means s r f (valuation s r f ms n) (meaning_at ms x)
+    first_values zero x l h = absurd (omega arith)
+    first_values (suc n) x l h = elim (last_or_earlier n x h) [
+      | inl q ↦ newest q
+      | inr k ↦ earlier k (first_values n x (omega arith) k)
+    ]
+      where
+        newest : x ≡ n → IsTrue (valuation s r f ms (suc n) x) ↔ Means s r f (valuation s r f ms (suc n)) (meaning_at ms x)
+        newest q =
+            let t = truth_is s r f (valuation s r f ms n) (meaning_at ms x) in
+            let e : valuation s r f ms (suc n) x ≡ truth_of s r f (valuation s r f ms n) (meaning_at ms x) =
+            subst (λ y. valuation s r f ms (suc n) y ≡ truth_of s r f (valuation s r f ms n) (meaning_at ms y)) (sym q) (new_value n) in
+            let k = kept n x (omega arith) (omega arith) in
+            (λ a. k.0 (t.0 (sym e ∙ a)), λ a. e ∙ t.1 (k.1 a))
+
+        earlier : x < n → IsTrue (valuation s r f ms n x) ↔ Means s r f (valuation s r f ms n) (meaning_at ms x)
+            → IsTrue (valuation s r f ms (suc n) x) ↔ Means s r f (valuation s r f ms (suc n)) (meaning_at ms x)
+        earlier m t =
+            let e = old_value n x m in
+            let k = kept n x (omega arith) (omega arith) in
+            (λ a. k.0 (t.0 (sym e ∙ a)), λ a. e ∙ t.1 (k.1 a))
+
+    -- each frozen dimension has a valuation that fits it
+    pub valuation_fits : Fits s r f ms (valuation s r f ms (length ms))
+    valuation_fits = record { at = λ x h. first_values (length ms) x (omega arith) h }

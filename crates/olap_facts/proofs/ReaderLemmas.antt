@@ -1,0 +1,119 @@
+-- A reader of facts, record by record.
+--     found-behind             a fault that is found stands behind the records before
+--     body-of, no-header       after the header, and where it isn't there
+--     next-fact, next-fault    one record more
+--     next-end                 no record more
+use Rattle.std.proofs.Common.{◌≡◌, ◌⊎◌, ℕ, ◌+◌, ◌<◌, ◌≤◌, List, [], ◌∷◌, ◌++◌, length, get_or, map, drop, Bool, true, false, Option, Some, None, refl, ap, sym, subst, ◌∙◌, inl, inr, arith, length-append}
+use Rattle.std.specs.Prelude.{Ok, Err}
+use Rattle.std.proofs.lemmas.List.{length-map}
+use Rattle.olap_base.specs.Views.{Fact}
+use Rattle.olap_records.specs.Faults.{first_fault, or_after}
+use Rattle.olap_records.proofs.Seeing.{HasSeen, see-all, see-fault, see-more}
+use Rattle.olap_facts.specs.FactReading.{FactReading, HandsOut, HasBody, IsAt, IsAtEnd, all_read, body_of, one_more}
+use Rattle.olap_facts.specs.FactText.{fact_fault_within, fact_read, has_header, or_read}
+use Rattle.olap_facts.specs.declared.kinds.FactKind.{FactKind}
+use Rattle.olap_facts.specs.declared.kinds.FactKind.TheVariants as kind
+
+-- a fault that is found stands behind the records before
+module _ {R K : Type 0} (fault : List R → R → Option K) where
+  found-behind : (before rs : List R) (p : ℕ × K) → first_fault fault before rs ≡ Some p → length before ≤ p.0
+  found-behind before [] p e = absurd (cc)
+  found-behind before (r ∷ rs) p e = go (fault before r) e (found-behind (before ++ r ∷ []) rs p)
+    where
+      go : (o : Option K) → or_after (length before) o (first_fault fault (before ++ r ∷ []) rs) ≡ Some p
+          → (first_fault fault (before ++ r ∷ []) rs ≡ Some p → length (before ++ r ∷ []) ≤ p.0) → length before ≤ p.0
+      go (Some k) e h = let q : length before ≡ p.0 = ap (λ (o : Option (ℕ × K)). place o) e in omega arith
+        where
+          place : Option (ℕ × K) → ℕ
+          place None = 0
+          place (Some q) = q.0
+      go None e h = let l = h e in omega (arith, length-append before (r ∷ []))
+
+at-seam : {A : Type 0} (before after : List A) (r d : A) → get_or (before ++ r ∷ after) (length before) d ≡ r
+at-seam [] after r d = refl
+at-seam (x ∷ xs) after r d = at-seam xs after r d
+
+module _ (r : FactReading) where
+  abbrev faults-of : List (List (List ℕ)) → List (List ℕ) → Option FactKind
+  faults-of = fact_fault_within r.most r.graph r.instance
+
+  -- the records that were seen
+  seen-of : (left : List (List (List ℕ))) (b : HasBody r left) → HasSeen (fact_fault_within r.most r.graph r.instance) (body_of r.records) b.seen left
+  seen-of left b = record { parts = b.parts; faults = b.faults }
+
+  -- after the header
+  pub body-of : (old new : List (List (List ℕ))) (b : Bool) → IsAt r old → (r.handed ≡ 0 → b ≡ has_header old)
+      → (r.handed ≡ 0 → b ≡ true → new ≡ drop 1 old) → (0 < r.handed → new ≡ old) → b ≡ true → HasBody r new
+  body-of old new b a first left kept t = go (zero_or r.handed)
+    where
+      zero_or : (n : ℕ) → (n ≡ 0) ⊎ (0 < n)
+      zero_or n = grind arith
+
+      go : (r.handed ≡ 0) ⊎ (0 < r.handed) → HasBody r new
+      go (inl z) = let o = a.start z in
+          let n : new ≡ body_of r.records = left z t ∙ ap (drop 1) o in record {
+            header = sym (ap has_header o) ∙ sym (first z) ∙ t;
+            seen = [];
+            size = sym z;
+            parts = sym n;
+            faults = ap (first_fault (fact_fault_within r.most r.graph r.instance) []) (sym n);
+          }
+      go (inr p) = subst (HasBody r) (sym (kept p)) (a.later p)
+
+  pub no-header : (old : List (List (List ℕ))) (b : Bool) → IsAt r old → (r.handed ≡ 0 → b ≡ has_header old)
+      → (0 < r.handed → b ≡ true) → b ≡ false
+      → (all_read r ≡ Err (record { at = 1; kind = kind.BadHeader })) × (r.handed ≡ 0)
+  no-header old b a first later f = go (zero_or r.handed)
+    where
+      zero_or : (n : ℕ) → (n ≡ 0) ⊎ (0 < n)
+      zero_or n = grind arith
+
+      go : (r.handed ≡ 0) ⊎ (0 < r.handed) → (all_read r ≡ Err (record { at = 1; kind = kind.BadHeader })) × (r.handed ≡ 0)
+      go (inl z) = let h : has_header r.records ≡ false = sym (ap has_header (a.start z)) ∙ sym (first z) ∙ f in (rw h refl, z)
+      go (inr p) = absurd (let q : true ≡ false = sym (later p) ∙ f in cc)
+
+  module _ (left after : List (List (List ℕ))) (row : List (List ℕ)) (b : HasBody r left) (e : left ≡ row ∷ after) where
+    pub next-fact : (f : Fact) → fact_fault_within r.most r.graph r.instance b.seen row ≡ None → f ≡ fact_read r.instance row
+        → HandsOut r f × IsAt (one_more r) after
+    next-fact f n q =
+        let more = see-more (fact_fault_within r.most r.graph r.instance) (body_of r.records) b.seen left after row (seen-of left b) e n in
+        let whole : body_of r.records ≡ b.seen ++ row ∷ after = b.parts ∙ ap (λ t. b.seen ++ t) e in
+        let s = b.size in (
+          record {
+            header = b.header;
+            there = let l = ap length whole in omega (arith, length-append b.seen (row ∷ after));
+            no_fault = λ p h.
+                let k = found-behind (fact_fault_within r.most r.graph r.instance) (b.seen ++ row ∷ []) after p (sym more.faults ∙ h) in
+                omega (arith, length-append b.seen (row ∷ []));
+            fact = q ∙ ap (fact_read r.instance) (sym (ap (λ (l : List (List (List ℕ))). get_or l r.handed []) whole
+                ∙ ap (λ k. get_or (b.seen ++ row ∷ after) k []) (sym s) ∙ at-seam b.seen after row []));
+          },
+          record {
+            start = λ z. absurd (omega arith);
+            later = λ z. record {
+              header = b.header;
+              seen = b.seen ++ row ∷ [];
+              size = omega (arith, length-append b.seen (row ∷ []));
+              parts = more.parts;
+              faults = more.faults;
+            };
+          },
+        )
+
+    pub next-fault : (k : FactKind) → fact_fault_within r.most r.graph r.instance b.seen row ≡ Some k
+        → all_read r ≡ Err (record { at = r.handed + 2; kind = k })
+    next-fault k n =
+        let f : first_fault (fact_fault_within r.most r.graph r.instance) [] (body_of r.records) ≡ Some (length b.seen, k) =
+        see-fault (fact_fault_within r.most r.graph r.instance) (body_of r.records) b.seen left after row k (seen-of left b) e n in
+        let h = b.header in
+        rw h (ap (λ o. or_read o (Ok (map (fact_read r.instance) (body_of r.records)))) f
+        ∙ ap (λ m. Err (record { at = m + 2; kind = k })) b.size)
+
+  pub next-end : (left : List (List (List ℕ))) → HasBody r left → left ≡ [] → IsAtEnd r
+  next-end left b e =
+      let all = see-all (fact_fault_within r.most r.graph r.instance) (body_of r.records) b.seen left (seen-of left b) e in
+      let h = b.header in record {
+        facts = map (fact_read r.instance) (body_of r.records);
+        read = rw h (ap (λ o. or_read o (Ok (map (fact_read r.instance) (body_of r.records)))) all.1);
+        handed = length-map (body_of r.records) (fact_read r.instance) ∙ ap length all.0 ∙ b.size;
+      }

@@ -1,0 +1,147 @@
+// A reader that hands out the facts of a text one at a time.
+ghost use Rattle.std.specs.Prelude.{◌≡◌, ◌+◌, ◌<◌, ◌≤◌, ◌^◌, Bool, ℕ, IfOk, IfSome, IsTrue, List as Items, MatchOption, MatchResult, OnErr, drop, length, true};
+ghost use Rattle.olap_base.specs.Graph.{IsBottom};
+ghost use Rattle.olap_base.specs.Instance.{category_of};
+ghost use Rattle.olap_instance.specs.Made.{IsMadeFor};
+ghost use Rattle.olap_records.specs.Records.{records_of};
+ghost use Rattle.olap_facts.specs.FactReading.{HandsOut, IsAt, IsAtEnd, IsStopped, one_more, reading, stopped};
+ghost use Rattle.olap_facts.specs.FactText.{has_header};
+ghost use Rattle.olap_facts.specs.Seen.{fact_of};
+
+use crate::reading::{begins, fact};
+use crate::{Fact, FactKind, NextRefusal};
+use olap_base::Memory;
+use olap_graph::Graph;
+use olap_instance::Instance;
+use olap_records::Rows;
+use std::alloc::Global;
+use std::marker::Model;
+
+/// A reader of the facts of a text, which hands them out one at a time. It is live until there is no more.
+#[derive(Drop)]
+pub struct FactReader<'a> {
+    graph: &'a Graph,
+    instance: &'a Instance,
+    text: &'a [u8],
+    most: u64,
+    handed: u64,
+    live: bool,
+    rows: Rows<'a>,
+}
+
+impl<'a> Model for FactReader<'a> {
+    ghost use Rattle.olap_records.specs.Records.{records_of};
+    ghost use Rattle.olap_facts.specs.FactReading.{FactReading, IsReader, reading};
+
+    ghost Value = { FactReading };
+
+    ghost view = { λ a. reading a.graph.now a.instance.now (records_of a.text.now) a.most a.handed a.live };
+
+    ghost invariant = { λ a. IsReader (reading a.graph.now a.instance.now (records_of a.text.now) a.most a.handed a.live)
+        a.rows.left };
+}
+
+/// Reads the header before the first fact, and says whether it is there.
+fn starts(rows: &mut Rows, handed: u64) -> Result<bool, Memory>
+    ensures first { IfOk result (λ b. handed ≡ 0 → b ≡ has_header rows.old.left) }
+    ensures left { IfOk result (λ b. handed ≡ 0 → IsTrue b → rows.new.left ≡ drop 1 rows.old.left) }
+    ensures later { IfOk result (λ b. 0 < handed → b ≡ true) }
+    ensures kept { IfOk result (λ b. 0 < handed → rows.new.left ≡ rows.old.left) }
+{
+    if handed > 0 {
+        return Ok(true);
+    }
+    begins(rows)
+}
+
+/// The fact of the next record, if there is one, after so many facts of at most so many.
+fn next_of(
+    graph: &Graph,
+    instance: &Instance,
+    rows: &mut Rows,
+    handed: u64,
+    most: u64,
+) -> Result<Option<Fact>, NextRefusal>
+    requires made { IsMadeFor graph.now instance.now }
+    requires most { most < 2 ^ 63 }
+    requires few { handed ≤ most }
+    ensures reads { (records : Items (Items (Items ℕ))) (live : Bool)
+        → IsAt (reading graph.now instance.now records most handed live) rows.old.left → MatchResult result
+        (λ o. MatchOption o (IsAtEnd (reading graph.now instance.now records most handed live))
+        (λ f. HandsOut (reading graph.now instance.now records most handed live) (fact_of f)
+        × IsAt (one_more (reading graph.now instance.now records most handed live)) rows.new.left))
+        (IsStopped (reading graph.now instance.now records most handed live)) }
+    ensures member { IfOk result (λ o. IfSome o (λ f. f.member.0 < length instance.now)) }
+    ensures bottom { IfOk result (λ o. IfSome o (λ f. IsBottom graph.now (category_of instance.now f.member.0))) }
+    ensures few { IfOk result (λ o. IfSome o (λ f. handed < most)) }
+{
+    if !starts(rows, handed)? {
+        return Err(NextRefusal::Fault {
+            at: 1,
+            kind: FactKind::BadHeader,
+        });
+    }
+    if !rows.advance()? {
+        return Ok(None);
+    }
+    match fact(graph, instance, rows, handed, most) {
+        Ok(fact) => Ok(Some(fact)),
+        Err(kind) => Err(NextRefusal::Fault {
+            at: handed + 2,
+            kind,
+        }),
+    }
+}
+
+impl<'a> FactReader<'a> {
+    /// A live reader of a text of at most so many facts, which has handed out none.
+    pub fn new(
+        alloc: Global,
+        graph: &'a Graph,
+        instance: &'a Instance,
+        text: &'a [u8],
+        facts: u64,
+    ) -> FactReader<'a>
+        requires made { IsMadeFor graph.now instance.now }
+        requires few { facts < 2 ^ 63 }
+        ensures { result ≡ reading graph.now instance.now (records_of text.now) facts 0 true }
+    {
+        FactReader {
+            graph,
+            instance,
+            text,
+            most: facts,
+            handed: 0,
+            live: true,
+            rows: Rows::new(alloc, text),
+        }
+    }
+
+    /// The fact of the next record, if there is one. After the last, and after a refusal, the reader isn't live.
+    pub fn next(&mut self) -> Result<Option<Fact>, NextRefusal>
+        requires live { IsTrue self.old.live }
+        ensures reads { MatchResult result
+            (λ o. MatchOption o (IsAtEnd self.old × (self.new ≡ stopped self.old))
+            (λ f. HandsOut self.old (fact_of f) × (self.new ≡ one_more self.old)))
+            (λ e. IsStopped self.old e × (self.new ≡ stopped self.old)) }
+        ensures member { IfOk result (λ o. IfSome o (λ f. f.member.0 < length self.old.instance)) }
+        ensures bottom { IfOk result (λ o. IfSome o (λ f. IsBottom self.old.graph (category_of self.old.instance f.member.0))) }
+    {
+        let graph = self.graph;
+        let instance = self.instance;
+        match next_of(graph, instance, &mut self.rows, self.handed, self.most) {
+            Ok(Some(fact)) => {
+                self.handed += 1;
+                Ok(Some(fact))
+            }
+            Ok(None) => {
+                self.live = false;
+                Ok(None)
+            }
+            Err(refusal) => {
+                self.live = false;
+                Err(refusal)
+            }
+        }
+    }
+}

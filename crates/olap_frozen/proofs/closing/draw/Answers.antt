@@ -1,0 +1,26 @@
+use Rattle.std.proofs.Common.{◌≡◌, ◌+◌, ap, sym, subst, ◌∙◌, arith, get_or, false}
+use Rattle.std.specs.FinSet.{insert}
+use Rattle.olap_frozen.specs.Rows.{AreDrawn}
+use Rattle.olap_frozen.proofs.RowLemmas.{draw_more, draw_skip, row_read}
+use Rattle.olap_frozen.proofs.closing.draw.Goals as goal
+use Rattle.olap_frozen.proofs.closing.draw.Goals.{then-edges-from, else-edges-from}
+
+pub edges-preserved : goal.edges-preserved
+edges-preserved c =
+    let g = c.args.graph.now in
+    let bits = c.args.edges.now in
+    let k = c.edges.e in
+    let at = ap (λ n. get_or bits n false) (sym c.from.ensures) in
+    elim c.if-edges-from.branch [
+      | then-edges-from w ↦
+          let i : w.from-c.result ≡ w.ends.result.0.0 = w.from-c.ensures in
+          let h = w.ends.ensures.child in
+          let e = w.ends.ensures.edge in
+          subst (λ rs. AreDrawn g bits (k + 1) rs) (sym w.rows-is)
+          (draw_more g bits k w.from-c.result w.ends.result.1.0 c.edges.rows w.with.result (at ∙ w.if-edges-from.true)
+          (e ∙ (λ z. record { child = sym i z; parent = w.ends.result.1.0 })) (omega arith)
+          (w.with.ensures ∙ ap (λ s. insert s w.ends.result.1.0)
+          (row_read c.edges.rows w.from-c.result w.index-rows-c.result (omega arith) w.index-rows-c.is)) c.edges.invariant)
+      | else-edges-from w ↦ subst (λ rs. AreDrawn g bits (k + 1) rs) (sym w.rows-is)
+          (draw_skip g bits k c.edges.rows (at ∙ w.if-edges-from.false) c.edges.invariant)
+    ]

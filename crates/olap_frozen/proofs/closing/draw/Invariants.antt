@@ -1,0 +1,5 @@
+use Rattle.olap_frozen.specs.Rows.{AreDrawn}
+use Rattle.olap_frozen.proofs.closing.draw.Given as goal
+
+abbrev pub invariant-edges : goal.invariant-edges
+invariant-edges l = AreDrawn l.graph l.edges l.e l.rows

@@ -1,0 +1,27 @@
+use Rattle.std.proofs.Common.{map}
+use Rattle.olap_ast.specs.Trees.{constraint_of, formula_of}
+use Rattle.olap_frozen.proofs.LeafLemmas.{chosen_is_leaf, chosen_is_shape, frozen_whole, met_part}
+use Rattle.olap_frozen.proofs.frozen.named.Goals as goal
+
+pub invariant_of-leaf : goal.invariant_of-leaf
+invariant_of-leaf c =
+    let a = c.args in record {
+      leaf = chosen_is_leaf a.graph.now (map constraint_of a.constraints.now) (formula_of a.question.now) a.candidates.now
+          a.root.0 a.edges.now a.names.now c.requires.hierarchy c.requires.root c.requires.sized c.requires.candidates
+          c.args.rows.now c.requires.size c.requires.rows
+          c.requires.sound;
+      is_shape = chosen_is_shape a.graph.now (map constraint_of a.constraints.now) (formula_of a.question.now) a.candidates.now
+          a.root.0 a.edges.now a.names.now c.requires.hierarchy c.requires.root c.requires.sized c.requires.candidates;
+    }
+
+pub returns : goal.returns
+returns c =
+    let a = c.args in (
+      λ e. frozen_whole a.graph.now (map constraint_of a.constraints.now) (formula_of a.question.now) a.candidates.now
+          a.root.0 a.edges.now a.names.now c.requires.hierarchy c.requires.root c.requires.sized c.requires.candidates
+          c.requires.sound c.requires.absent
+          (c.meets.ensures.0 e),
+      λ f. c.meets.ensures.1 (met_part a.graph.now (map constraint_of a.constraints.now) (formula_of a.question.now)
+          a.candidates.now a.root.0 a.edges.now a.names.now c.requires.hierarchy c.requires.root c.requires.sized
+          c.requires.candidates f),
+    )

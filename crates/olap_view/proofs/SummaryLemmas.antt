@@ -1,0 +1,97 @@
+-- How large totals may be.
+--     joined_up_to, joined_of_values   two summaries together
+--     total_of_stored                  the total of stored rows
+--     total_of_value_list              the total of values of 64 bits
+--     in_64_bits                       what is made of two numbers, from their bits
+use Rattle.std.proofs.Common.{◌≡◌, ℕ, suc, ◌+◌, ◌*◌, ◌^◌, ◌≤◌, List, [], ◌∷◌, length, map, Bool, true, false, cond, arith, ℤ, Option, Some, None, IfSome, w64, to_z, of_z}
+use Rattle.std.specs.Prelude.{All, int_lt}
+use mir.Val.{SFits}
+use Rattle.std.proofs.lemmas.Int.{ints, to_z-of_z}
+use Rattle.std.proofs.lemmas.List.Elements.{All-head, All-tail}
+use Rattle.olap_base.specs.Summaries.{Summary, joined, of_value, total, ◌⊕◌}
+use Rattle.olap_base.specs.Views.{Row}
+use Rattle.olap_view.specs.Bounds.{IsOfValues, IsUpTo}
+use Rattle.olap_view.specs.Stores.{IsStored}
+
+pub in_64_bits : (g : ℤ → ℤ → ℤ) (x y : ℤ) → SFits w64 x → SFits w64 y
+    → g (to_z w64 (of_z w64 x)) (to_z w64 (of_z w64 y)) ≡ g x y
+in_64_bits g x y p q = rw (to_z-of_z w64 x p, to_z-of_z w64 y q)
+
+-- ---- counts and sums
+
+pub up_to_more : (n m k l : ℕ) (s : Summary) → n ≤ k → m ≤ l → IsUpTo n m s → IsUpTo k l s
+up_to_more n m k l s h g u = let a = u.count in let b = u.sum_from in let d = u.sum_to in record {
+  count = omega arith;
+  sum_from = omega (arith, ints);
+  sum_to = omega (arith, ints);
+}
+
+pub joined_up_to : (n m k l : ℕ) (s t : Summary) → IsUpTo n m s → IsUpTo k l t → IsUpTo (n + k) (m + l) (joined s t)
+joined_up_to n m k l s t u v =
+    let a = u.count in let b = u.sum_from in let d = u.sum_to in
+    let e = v.count in let f = v.sum_from in let g = v.sum_to in
+    record { count = omega arith; sum_from = omega (arith, ints); sum_to = omega (arith, ints) }
+
+-- ---- rows that are stored
+
+pub stored_up_to : (r : Row) → IsStored r → IsUpTo (2 ^ 32) (2 ^ 95) r.summary
+stored_up_to r q = let a = q.few in record { count = omega arith; sum_from = q.sum_from; sum_to = q.sum_to }
+
+pub total_of_stored : (rows : List Row) → All IsStored rows
+    → IfSome (total (map (λ r. r.summary) rows)) (IsUpTo (length rows * 2 ^ 32) (length rows * 2 ^ 95))
+total_of_stored [] a = tt
+total_of_stored (r ∷ rows) a =
+    go (total (map (λ (q : Row). q.summary) rows)) (total_of_stored rows (All-tail IsStored r rows a))
+  where
+    one : IsUpTo (2 ^ 32) (2 ^ 95) r.summary
+    one = stored_up_to r (All-head IsStored r rows a)
+
+    go : (o : Option Summary) → IfSome o (IsUpTo (length rows * 2 ^ 32) (length rows * 2 ^ 95))
+        → IfSome (Some r.summary ⊕ o) (IsUpTo (suc (length rows) * 2 ^ 32) (suc (length rows) * 2 ^ 95))
+    go None h = up_to_more (2 ^ 32) (2 ^ 95) (suc (length rows) * 2 ^ 32) (suc (length rows) * 2 ^ 95) r.summary
+        (omega arith) (omega arith) one
+    go (Some s) h = up_to_more (2 ^ 32 + length rows * 2 ^ 32) (2 ^ 95 + length rows * 2 ^ 95)
+        (suc (length rows) * 2 ^ 32) (suc (length rows) * 2 ^ 95) (joined r.summary s) (omega arith) (omega arith)
+        (joined_up_to (2 ^ 32) (2 ^ 95) (length rows * 2 ^ 32) (length rows * 2 ^ 95) r.summary s one h)
+
+-- ---- values of 64 bits
+
+either_fits : (b : Bool) (x y : ℤ) → SFits w64 x → SFits w64 y → SFits w64 (cond b x y)
+either_fits true x y p q = p
+either_fits false x y p q = q
+
+pub value_up_to : (v : ℤ) → SFits w64 v → IsUpTo 1 (2 ^ 63) (of_value v)
+value_up_to v f = record { count = omega arith; sum_from = omega (arith, ints); sum_to = omega (arith, ints) }
+
+value_is : (v : ℤ) → SFits w64 v → IsOfValues 1 (of_value v)
+value_is v f = record { some = omega arith; up_to = value_up_to v f; least = f; greatest = f }
+
+pub of_values_more : (n k : ℕ) (s : Summary) → n ≤ k → IsOfValues n s → IsOfValues k s
+of_values_more n k s h q = record {
+  some = q.some;
+  up_to = up_to_more n (n * 2 ^ 63) k (k * 2 ^ 63) s h (omega arith) q.up_to;
+  least = q.least;
+  greatest = q.greatest;
+}
+
+joined_of_values : (n : ℕ) (v : ℤ) (s : Summary) → SFits w64 v → IsOfValues n s → IsOfValues (suc n) (joined (of_value v) s)
+joined_of_values n v s f q = record {
+  some = omega arith;
+  up_to = up_to_more (1 + n) (2 ^ 63 + n * 2 ^ 63) (suc n) (suc n * 2 ^ 63) (joined (of_value v) s) (omega arith) (omega arith)
+      (joined_up_to 1 (2 ^ 63) n (n * 2 ^ 63) (of_value v) s (value_up_to v f) q.up_to);
+  least = either_fits (int_lt s.least v) s.least v q.least f;
+  greatest = either_fits (int_lt s.greatest v) v s.greatest f q.greatest;
+}
+
+pub total_of_value_list : (vs : List ℤ) → All (SFits w64) vs → IfSome (total (map of_value vs)) (IsOfValues (length vs))
+total_of_value_list [] a = tt
+total_of_value_list (v ∷ vs) a =
+    go (total (map of_value vs)) (total_of_value_list vs (All-tail (SFits w64) v vs a))
+  where
+    f : SFits w64 v
+    f = All-head (SFits w64) v vs a
+
+    go : (o : Option Summary) → IfSome o (IsOfValues (length vs))
+        → IfSome (Some (of_value v) ⊕ o) (IsOfValues (suc (length vs)))
+    go None h = of_values_more 1 (suc (length vs)) (of_value v) (omega arith) (value_is v f)
+    go (Some s) h = joined_of_values (length vs) v s f h

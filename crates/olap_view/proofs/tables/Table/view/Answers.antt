@@ -1,0 +1,59 @@
+-- One member more, which gives a row or none.
+use Rattle.std.proofs.Common.{◌<◌, ℕ, ◌∷◌, [], List, length, true, false, Option, Some, None, refl, ap, sym, subst, ◌∙◌, arith}
+use Rattle.std.specs.Prelude.{◌==◌, All}
+use Rattle.std.specs.Option.{option_map}
+use Rattle.std.proofs.lemmas.List.{map-append}
+use Rattle.std.proofs.lemmas.List.Elements.{All-push}
+use Rattle.olap_base.specs.Instance.{category_of}
+use Rattle.olap_base.specs.Views.{Row, row_at}
+use Rattle.olap_view.specs.Seen.{row_of, rows_of}
+use Rattle.olap_view.specs.Tables.{summary_at}
+use Rattle.olap_view.specs.declared.views.Row as told
+use Rattle.olap_view.proofs.ViewingLemmas.{fails, list_step, none_of, passes}
+use Rattle.olap_view.proofs.tables.Table.view.Goals as goal
+use Rattle.olap_view.proofs.tables.Table.view.Goals.{then-category-c+in-Some+in_ok-push, then-category-c+in_default, else-category-c}
+
+pub loop-y-preserved : goal.loop-y-preserved
+loop-y-preserved c =
+    let i = c.args.instance.now in
+    let t = c.args.self.now in
+    let h : ℕ → Option Row = λ y. row_at y (summary_at t y) in
+    let p = λ (y : ℕ). category_of i y == c.args.c.0 in
+    let y = c.loop-y.y in
+    let old = rows_of c.loop-y.rows.items in
+    let members = c.loop-y.invariant.members in
+    let inside : c.loop-y.y < length c.args.instance.now = let t = c.loop-y-test.true in let e =
+    c.members-y-end.ensures.count in omega arith in
+    elim c.if-category-c.branch [
+      | then-category-c+in-Some+in_ok-push w ↦
+          let items = w.in_ok-push.ensures.items in
+          let new = w.in-Some.row in
+          let at : w.in-Some.row.member.0 < length c.args.instance.now = let e = w.in-Some.ensures.member in
+          omega arith in
+          record {
+            so_far = ap (λ v. rows_of v.items) w.rows-is ∙ ap rows_of items
+                ∙ map-append row_of c.loop-y.rows.items (new ∷ [])
+                ∙ list_step h p y true (Some (row_of new)) old c.loop-y.invariant.so_far
+                (passes c.category.result.0 (category_of i y) c.args.c.0 c.category.ensures w.if-category-c.true)
+                (w.in-Some.ensures.row ∙ ap (row_at y) w.at.ensures);
+            members = subst (λ (l : List told.Row). All (λ r. r.member.0 < length i) l)
+                (sym (ap (λ v. v.items) w.rows-is ∙ items))
+                (All-push (λ (r : told.Row). r.member.0 < length i) c.loop-y.rows.items new members at);
+          }
+      | then-category-c+in_default w ↦ record {
+        so_far = ap (λ v. rows_of v.items) w.rows-is
+            ∙ list_step h p y true None old c.loop-y.invariant.so_far
+            (passes c.category.result.0 (category_of i y) c.args.c.0 c.category.ensures w.if-category-c.true)
+            (sym (ap (option_map row_of) (none_of w.row.result w.in_default.not-Some)) ∙ w.row.ensures.row
+            ∙ ap (row_at y) w.at.ensures);
+        members = subst (λ (l : List told.Row). All (λ r. r.member.0 < length i) l)
+            (sym (ap (λ v. v.items) w.rows-is)) members;
+      }
+      | else-category-c w ↦ record {
+        so_far = ap (λ v. rows_of v.items) w.rows-is
+            ∙ list_step h p y false (h y) old c.loop-y.invariant.so_far
+            (fails c.category.result.0 (category_of i y) c.args.c.0 c.category.ensures w.if-category-c.false) refl;
+        members = subst (λ (l : List told.Row). All (λ r. r.member.0 < length i) l)
+            (sym (ap (λ v. v.items) w.rows-is)) members;
+      }
+    ]

@@ -1,0 +1,8 @@
+-- None of the categories so far is this one.
+use Rattle.std.proofs.Common.{take}
+use Rattle.std.specs.Prelude.{Contains}
+use Rattle.olap_view.specs.Tables.{ids}
+use Rattle.olap_view.proofs.tables.is_among.Given as goal
+
+abbrev pub invariant-loop-d : goal.invariant-loop-d
+invariant-loop-d l = Contains (ids (take l.d-index l.categories)) l.c.0 → ⊥

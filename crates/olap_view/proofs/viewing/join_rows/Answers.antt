@@ -1,0 +1,63 @@
+-- One row more.
+use Rattle.std.proofs.Common.{◌≤◌, ◌^◌, ◌++◌, ◌∷◌, [], List, length, get_or, take, ap, sym, subst, ◌∙◌, arith, pos, append_assoc, length-append}
+use Rattle.std.specs.Prelude.{All}
+use Rattle.std.proofs.lemmas.List.Elements.{All-append, All-take}
+use Rattle.olap_base.specs.Summaries.{Summary}
+use Rattle.olap_base.specs.Views.{Row}
+use Rattle.olap_view.specs.Bounds.{IsUpTo}
+use Rattle.olap_view.specs.Merging.{AreMerged}
+use Rattle.olap_view.specs.Seen.{row_of, rows_of}
+use Rattle.olap_view.specs.Stores.{IsStored}
+use Rattle.olap_view.specs.Tables.{AreJoined}
+use Rattle.olap_view.specs.declared.views.Row as told
+use Rattle.olap_view.proofs.MergingLemmas.{holds_room, merged_more, stored_small}
+use Rattle.olap_view.proofs.SeenLemmas.{each_row, rows_more_is, rows_of_taken, rows_taken}
+use Rattle.olap_view.proofs.viewing.join_rows.Goals as goal
+
+nothing : told.Row
+nothing = record { member = record { 0 = 0 }; count = 0; sum = pos 0; least = pos 0; greatest = pos 0 }
+
+pub join-requires-clause-this : goal.join-requires-clause-this
+unfolding nothing
+join-requires-clause-this c =
+    let rows = c.args.rows.now in
+    let k = c.loop-row.row-index in
+    subst (IsUpTo (2 ^ 62) (2 ^ 120)) (sym c.summary.ensures)
+    (stored_small (row_of (get_or rows k nothing)) (each_row IsStored rows k nothing c.loop-row-test.true c.requires.stored))
+
+pub join-requires-clause-room : goal.join-requires-clause-room
+join-requires-clause-room c =
+    let rows = c.args.rows.now in
+    let k = c.loop-row.row-index in
+    let q = c.requires.few in
+    let few : length (q.rows ++ rows_of (take k rows)) ≤ 2097152 =
+    let l = rows_taken rows k in let s = c.requires.short in let f = q.few in
+    omega (arith, length-append q.rows (rows_of (take k rows))) in
+    holds_room c.args.legal.now (q.rows ++ rows_of (take k rows)) c.loop-row.table few
+    (All-append IsStored q.rows (rows_of (take k rows)) q.stored
+    (subst (All IsStored) (rows_of_taken rows k) (All-take IsStored k (rows_of rows) c.requires.stored)))
+    (c.loop-row.invariant.merged q.rows q.merged)
+
+pub loop-row-preserved : goal.loop-row-preserved
+unfolding nothing
+loop-row-preserved c =
+    let i = c.args.legal.now in
+    let rows = c.args.rows.now in
+    let k = c.loop-row.row-index in
+    let r = row_of (get_or rows k nothing) in
+    let inv = c.loop-row.invariant in
+    let t = c.loop-row.table in
+    let u = c.join.new.self in
+    let j : AreJoined i r.member r.summary t u =
+    subst (λ (s : Summary). AreJoined i r.member s t u) c.summary.ensures c.join.ensures in
+    record {
+      categories = j.same_categories ∙ inv.categories;
+      places = j.same_places ∙ inv.places;
+      same_length = j.same_length ∙ inv.same_length;
+      merged = λ earlier m.
+          let old = rows_of (take k rows) in
+          subst (λ (l : List Row). AreMerged i l u)
+          (append_assoc earlier old (r ∷ [])
+          ∙ ap (λ (l : List Row). earlier ++ l) (sym (rows_more_is rows k nothing c.loop-row-test.true)))
+          (merged_more i (earlier ++ old) r t u j (inv.merged earlier m));
+    }

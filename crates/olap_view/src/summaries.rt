@@ -1,0 +1,75 @@
+// What values come to: their number, sum, least and greatest.
+ghost use Rattle.std.specs.Prelude.{◌≡◌, ◌^◌, IfSome, Some};
+ghost use Rattle.std.specs.Option.{option_map};
+ghost use Rattle.olap_base.specs.Summaries.{joined, of_value, ◌⊕◌};
+ghost use Rattle.olap_view.specs.Bounds.{IsUpTo};
+ghost use Rattle.olap_view.specs.Seen.{columns_of, summary_of};
+
+use crate::Row;
+
+/// What some values come to.
+#[derive(Clone, Copy, Debug, PartialEq, Eq)]
+pub(crate) struct Summary {
+    /// How many they are.
+    pub(crate) count: u64,
+    /// Their sum.
+    pub(crate) sum: i128,
+    /// The least of them.
+    pub(crate) least: i64,
+    /// The greatest of them.
+    pub(crate) greatest: i64,
+}
+
+impl Summary {
+    /// What one value comes to.
+    pub(crate) fn of_value(value: i64) -> Summary
+        ensures { summary_of result ≡ of_value value }
+    {
+        Summary {
+            count: 1,
+            sum: i128::from(value),
+            least: value,
+            greatest: value,
+        }
+    }
+
+    /// What two lots of values come to together.
+    fn joined(self, other: Summary) -> Summary
+        requires this { IsUpTo (2 ^ 62) (2 ^ 120) (summary_of self) }
+        requires that { IsUpTo (2 ^ 62) (2 ^ 120) (summary_of other) }
+        ensures { summary_of result ≡ joined (summary_of self) (summary_of other) }
+    {
+        Summary {
+            count: self.count + other.count,
+            sum: self.sum + other.sum,
+            least: self.least.min(other.least),
+            greatest: self.greatest.max(other.greatest),
+        }
+    }
+
+    /// The summary joined to what is there, if there is anything.
+    pub(crate) fn beside(self, there: Option<Summary>) -> Summary
+        requires this { IsUpTo (2 ^ 62) (2 ^ 120) (summary_of self) }
+        requires there { IfSome (option_map summary_of there) (IsUpTo (2 ^ 62) (2 ^ 120)) }
+        ensures { Some (summary_of result) ≡ option_map summary_of there ⊕ Some (summary_of self) }
+    {
+        match there {
+            None => self,
+            Some(s) => s.joined(self),
+        }
+    }
+}
+
+impl Row {
+    /// The summary in the row's columns.
+    pub(crate) fn summary(&self) -> Summary
+        ensures { summary_of result ≡ columns_of self.now }
+    {
+        Summary {
+            count: self.count,
+            sum: self.sum,
+            least: self.least,
+            greatest: self.greatest,
+        }
+    }
+}

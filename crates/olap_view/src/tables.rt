@@ -1,0 +1,143 @@
+// What values come to at each member of some categories.
+ghost use Rattle.std.specs.Prelude.{◌≡◌, ◌<◌, ◌^◌, ◌↔◌, ℕ, All, AllPairs, ◌≢◌, Contains, IfOk, IfSome, IsTrue, None, length};
+ghost use Rattle.std.specs.Option.{option_map};
+ghost use Rattle.olap_base.specs.Views.{row_at};
+ghost use Rattle.olap_view.specs.Bounds.{IsUpTo};
+ghost use Rattle.olap_view.specs.Seen.{row_of, rows_of, summary_of, view_of};
+ghost use Rattle.olap_view.specs.Tables.{AreJoined, AreJoinedIn, HasPlaces, HasRoom, categories_of, ids, place_in, summary_at, view_in};
+
+use crate::summaries::Summary;
+use crate::{Row, View};
+use olap_base::{CatId, List, MemberId, Memory};
+use olap_check::Legal;
+use olap_instance::Instance;
+use std::alloc::Global;
+
+/// What some values come to at each member of some categories, where there are any.
+#[derive(Drop)]
+pub(crate) struct Table {
+    /// The categories.
+    pub(crate) categories: Vec<CatId>,
+    /// For each member of the categories the place of its summary.
+    pub(crate) places: Vec<u32>,
+    /// The summaries.
+    pub(crate) summaries: Vec<Option<Summary>>,
+}
+
+/// Whether the category is one of these.
+fn is_among(categories: &[CatId], c: CatId) -> bool
+    ensures { IsTrue result ↔ Contains (ids categories.now) c.0 }
+{
+    for d in categories {
+        if d.0 == c.0 {
+            return true;
+        }
+    }
+    false
+}
+
+impl Table {
+    /// A table for these categories, with nothing in it.
+    pub(crate) fn new(
+        alloc: Global,
+        instance: &Instance,
+        categories: &[CatId],
+    ) -> Result<Table, Memory>
+        ensures categories { IfOk result (λ t. categories_of t ≡ ids categories.now) }
+        ensures places { IfOk result (HasPlaces instance.now) }
+        ensures empty { IfOk result (λ t. (y : ℕ) → summary_at t y ≡ None) }
+    {
+        let members = instance.members();
+        let mut places = vec![in alloc; 0u32; members as usize]?;
+        let mut count = 0;
+        for y in 0..members {
+            if is_among(categories, instance.category(MemberId(y))) {
+                places[y as usize] = count;
+                count += 1;
+            }
+        }
+        Ok(Table {
+            categories: Vec::from_slice(alloc, categories)?,
+            places,
+            summaries: vec![in alloc; None; count as usize]?,
+        })
+    }
+
+    /// Joins the summary to what stands at the member of the category that x reaches, if there is one.
+    fn join_in(&mut self, legal: &Legal, c: CatId, x: MemberId, summary: Summary)
+        requires member { x.0 < length legal.now }
+        requires among { Contains (categories_of self.old) c.0 }
+        requires places { HasPlaces legal.now self.old }
+        requires this { IsUpTo (2 ^ 62) (2 ^ 120) (summary_of summary) }
+        requires room { HasRoom legal.now c.0 self.old }
+        ensures { AreJoinedIn legal.now c.0 x.0 (summary_of summary) self.old self.new }
+    {
+        if let Some(y) = legal.ancestor(x, c) {
+            let place = self.places[y.0 as usize] as usize;
+            self.summaries[place] = Some(summary.beside(self.summaries[place]));
+        }
+    }
+
+    /// Joins the summary to what stands at the members of the categories that x reaches.
+    pub(crate) fn join(&mut self, legal: &Legal, x: MemberId, summary: Summary)
+        requires member { x.0 < length legal.now }
+        requires differ { AllPairs ◌≢◌ (categories_of self.old) }
+        requires places { HasPlaces legal.now self.old }
+        requires this { IsUpTo (2 ^ 62) (2 ^ 120) (summary_of summary) }
+        requires room { (c : ℕ) → Contains (categories_of self.old) c → HasRoom legal.now c self.old }
+        ensures { AreJoined legal.now x.0 (summary_of summary) self.old self.new }
+    {
+        for k in 0..self.categories.len() {
+            let c = self.categories[k];
+            self.join_in(legal, c, x, summary);
+        }
+    }
+
+    /// The summary of a member of the categories.
+    fn at(&self, y: MemberId) -> Option<Summary>
+        requires member { y.0 < length self.now.places.items }
+        requires place { place_in self.now y.0 < length self.now.summaries.items }
+        ensures { option_map summary_of result ≡ summary_at self.now y.0 }
+    {
+        self.summaries[self.places[y.0 as usize] as usize]
+    }
+
+    /// The view of one of the categories: a row for each member that has a summary, in file order.
+    pub(crate) fn view(&self, alloc: Global, instance: &Instance, c: CatId) -> Result<View, Memory>
+        requires among { Contains (categories_of self.now) c.0 }
+        requires places { HasPlaces instance.now self.now }
+        ensures view { IfOk result (λ v. view_of v ≡ view_in instance.now self.now c.0) }
+        ensures members { IfOk result (λ v. All (λ r. r.member.0 < length instance.now) v.rows) }
+    {
+        let mut rows = Vec::new(alloc);
+        for y in 0..instance.members() {
+            let member = MemberId(y);
+            if instance.category(member).0 == c.0 {
+                if let Some(row) = row(member, self.at(member)) {
+                    rows.push(row)?;
+                }
+            }
+        }
+        Ok(View {
+            category: c,
+            rows: List::from_vec(rows),
+        })
+    }
+}
+
+/// The row of a member, if it has a summary.
+fn row(member: MemberId, summary: Option<Summary>) -> Option<Row>
+    ensures row { option_map row_of result ≡ row_at member.0 (option_map summary_of summary) }
+    ensures member { IfSome result (λ r. r.member.0 ≡ member.0) }
+{
+    match summary {
+        None => None,
+        Some(s) => Some(Row {
+            member,
+            count: s.count,
+            sum: s.sum,
+            least: s.least,
+            greatest: s.greatest,
+        }),
+    }
+}

@@ -1,0 +1,102 @@
+// Tallies: facts are added one at a time, and give the direct views of some categories.
+ghost use Rattle.std.specs.Prelude.{◌≡◌, ◌≢◌, ◌+◌, ◌∷◌, ◌++◌, ◌<◌, ◌^◌, ℕ, All, AllPairs, Contains, IfOk, List as Items, [], length, map};
+ghost use Rattle.olap_base.specs.Views.{Fact as TheFact, direct_view};
+ghost use Rattle.olap_facts.specs.Seen.{fact_of};
+ghost use Rattle.olap_view.specs.Seen.{each_view_of, view_of};
+ghost use Rattle.olap_view.specs.Stores.{Fits};
+ghost use Rattle.olap_view.specs.Tables.{ids};
+ghost use Rattle.olap_view.specs.Tallies.{StandsFor};
+
+use crate::View;
+use crate::summaries::Summary;
+use crate::tables::Table;
+use olap_base::{CatId, List, Memory};
+use olap_check::Legal;
+use olap_facts::Fact;
+use std::alloc::Global;
+use std::marker::Model;
+
+/// What the values of the facts that were added come to, at each member of some categories.
+#[derive(Drop)]
+pub struct Tally<'a> {
+    alloc: Global,
+    legal: &'a Legal,
+    table: Table,
+    added: u64,
+}
+
+impl<'a> Model for Tally<'a> {
+    ghost use Rattle.olap_view.specs.Tallies.{IsTally, Tallied, tallied};
+
+    ghost Value = { Tallied };
+
+    ghost view = { λ a. tallied a.legal.now a.table a.added };
+
+    ghost invariant = { λ a. IsTally a.legal.now a.table a.added };
+}
+
+impl<'a> Tally<'a> {
+    /// A tally to which no fact was added. It takes memory for each member of the instance, and for a summary at each
+    /// member of the categories. `Memory`: want of memory.
+    pub fn new(alloc: Global, legal: &'a Legal, categories: &[CatId]) -> Result<Tally<'a>, Memory>
+        requires differ { AllPairs ◌≢◌ (ids categories.now) }
+        ensures instance { IfOk result (λ t. t.instance ≡ legal.now) }
+        ensures categories { IfOk result (λ t. t.categories ≡ ids categories.now) }
+        ensures stands { IfOk result (λ t. StandsFor t []) }
+    {
+        Ok(Tally {
+            alloc,
+            legal,
+            table: Table::new(alloc, legal.instance(), categories)?,
+            added: 0,
+        })
+    }
+
+    /// How many facts were added.
+    pub fn added(&self) -> u64
+        ensures { result ≡ self.now.added }
+    {
+        self.added
+    }
+
+    /// Adds a fact: a tally that stood for some facts stands for them and this one behind them. It takes one look at
+    /// the ancestors of the fact's member for each category.
+    pub fn add(&mut self, fact: &Fact)
+        requires member { fact.now.member.0 < length self.old.instance }
+        requires room { self.old.added < 4294967295 }
+        ensures instance { self.new.instance ≡ self.old.instance }
+        ensures categories { self.new.categories ≡ self.old.categories }
+        ensures added { self.new.added ≡ self.old.added + 1 }
+        ensures stands { (facts : Items TheFact) → StandsFor self.old facts → StandsFor self.new (facts ++ fact_of fact.now ∷ []) }
+    {
+        let legal = self.legal;
+        self.table
+            .join(legal, fact.member, Summary::of_value(fact.value));
+        self.added += 1;
+    }
+
+    /// The direct view of one of the categories.
+    pub(crate) fn view(&self, c: CatId) -> Result<View, Memory>
+        requires among { Contains self.now.categories c.0 }
+        ensures view { IfOk result (λ v. (facts : Items TheFact) → StandsFor self.now facts → view_of v ≡ direct_view self.now.instance facts c.0) }
+        ensures members { IfOk result (λ v. All (λ r. r.member.0 < length self.now.instance) v.rows) }
+        ensures fits { IfOk result (λ v. Fits (view_of v)) }
+    {
+        self.table.view(self.alloc, self.legal.instance(), c)
+    }
+
+    /// The direct views of the categories, in their order. `Memory`: want of memory.
+    pub fn into_views(self) -> Result<List<View>, Memory>
+        ensures views { IfOk result (λ v. (facts : Items TheFact) → StandsFor self.entry facts
+            → each_view_of v ≡ map (direct_view self.entry.instance facts) self.entry.categories) }
+        ensures members { IfOk result (λ v. All (λ w. All (λ r. r.member.0 < length self.entry.instance) w.rows) v) }
+        ensures fit { IfOk result (λ v. All Fits (each_view_of v)) }
+    {
+        let mut views = Vec::new(self.alloc);
+        for k in 0..self.table.categories.len() {
+            let view = self.view(self.table.categories[k])?;
+            views.push(view)?;
+        }
+        Ok(List::from_vec(views))
+    }
+}
