@@ -1,5 +1,5 @@
 -- The fresh name and the candidates exist, whatever the schema and the question, and there is one fresh name.
-use Rattle.std.proofs.Common.{◌≡◌, ℕ, zero, suc, ◌+◌, ◌<◌, ◌≤◌, List, [], ◌∷◌, ◌++◌, length, map, replicate, Bool, true, false, refl, ap, sym, subst, ◌∙◌, ◌↔◌, ◌⊎◌, inl, inr, arith, Ordering, Less, Equal, Greater, nat_cmp}
+use Rattle.std.proofs.Common.{◌≡◌, ℕ, zero, suc, ◌+◌, ◌<◌, ◌≤◌, List, [], ◌∷◌, length, map, replicate, true, refl, ap, sym, subst, ◌∙◌, ◌⊎◌, inl, inr, arith, Ordering, Less, Equal, Greater, nat_cmp}
 use Rattle.std.specs.Prelude.{Contains, codes, filter, ◌==◌, All, AllPairs}
 use Rattle.std.proofs.lemmas.List.{length-append, length-replicate}
 use Rattle.std.proofs.lemmas.List.Elements.{All-cons}
@@ -27,7 +27,8 @@ eqb_same d = grind (arith, nat_tests)
 
 known : (s : Schema) (q : Formula) (d : ℕ) (t : List ℕ) → IsConstant s q d t → Contains (texts s q) t
 known s q d t c =
-    let m = Contains-from_map (λ (a : Equality). a.text) (filter (λ (a : Equality). a.category == d) (all_equalities s q)) t c in
+    let m = Contains-from_map (λ (a : Equality). a.text)
+    (filter (λ (a : Equality). a.category == d) (all_equalities s q)) t c in
     let f = Contains-from_filter (λ (a : Equality). a.category == d) (all_equalities s q) m.0 m.1 in
     subst (λ w. Contains (texts s q) w) m.2 (Contains-map (λ (a : Equality). a.text) (all_equalities s q) m.0 f.0)
 
@@ -36,8 +37,10 @@ at s q t c =
     let m = Contains-from_map (λ (a : Equality). a.text) (all_equalities s q) t c in (
       m.0.category,
       subst (λ w. IsConstant s q m.0.category w) m.2
-          (Contains-map (λ (a : Equality). a.text) (filter (λ (a : Equality). a.category == m.0.category) (all_equalities s q)) m.0
-          (Contains-filter (λ (a : Equality). a.category == m.0.category) (all_equalities s q) m.0 (eqb_same m.0.category) m.1)),
+          (Contains-map (λ (a : Equality). a.text)
+          (filter (λ (a : Equality). a.category == m.0.category) (all_equalities s q)) m.0
+          (Contains-filter (λ (a : Equality). a.category == m.0.category) (all_equalities s q) m.0
+          (eqb_same m.0.category) m.1)),
     )
 
 abbrev size : List (List ℕ) → ℕ
@@ -52,7 +55,8 @@ short (u ∷ ts) t c = elim (contains_cases t u ts c) [
 ]
 
 long : (n : ℕ) → length (fresh_candidate n) ≡ 2 + n
-long n = let a = length-append (codes "nk") (replicate n 95) in let b = length-replicate {A = ℕ} n 95 in omega (arith, a, b)
+long n = let a = length-append (codes "nk") (replicate n 95) in let b =
+    length-replicate {A = ℕ} n 95 in omega (arith, a, b)
 
 unknown : (s : Schema) (q : Formula) → Contains (texts s q) (fresh_candidate (size (texts s q))) → ⊥
 unknown s q c = let l = short (texts s q) (fresh_candidate (size (texts s q))) c in
@@ -66,7 +70,8 @@ record IsLeastOf (P : ℕ → Type 0) : Type 0 where
 split : (m j : ℕ) → m < suc j → (m ≡ j) ⊎ (m < j)
 split m j h = grind arith
 
-up : (P : ℕ → Type 0) → ((n : ℕ) → Dec (P n)) → (left j : ℕ) → P (j + left) → ((m : ℕ) → m < j → P m → ⊥) → IsLeastOf P
+up : (P : ℕ → Type 0) → ((n : ℕ) → Dec (P n)) → (left j : ℕ) → P (j + left) → ((m : ℕ) → m < j → P m → ⊥) →
+    IsLeastOf P
 up P d zero j p none = record { n = j; has = let e : j + 0 ≡ j = omega arith in subst P e p; none = none }
 up P d (suc left) j p none = elim (d j) [
   | yes h ↦ record { n = j; has = h; none = none }
@@ -88,13 +93,15 @@ fresh_exists : (s : Schema) (q : Formula) → (name : List ℕ) × IsFreshName s
 fresh_exists s q =
     let t = up (λ n. Contains (texts s q) (fresh_candidate n) → ⊥) (dec_free s q) (size (texts s q)) 0
     (let e : 0 + size (texts s q) ≡ size (texts s q) = omega arith in
-    subst (λ n. Contains (texts s q) (fresh_candidate n) → ⊥) (sym e) (unknown s q)) (λ m l. absurd (omega arith)) in (
+    subst (λ n. Contains (texts s q) (fresh_candidate n) → ⊥) (sym e) (unknown s q))
+    (λ m l. absurd (omega arith)) in (
       fresh_candidate t.n,
       record {
         underscores = t.n;
         spelled = refl;
         free = λ d c. t.has (known s q d (fresh_candidate t.n) c);
-        first = λ m l. at s q (fresh_candidate m) (stable (decide_contains (List-discrete ℕ_discrete) (texts s q) (fresh_candidate m)) (t.none m l));
+        first = λ m l. at s q (fresh_candidate m)
+            (stable (decide_contains (List-discrete ℕ_discrete) (texts s q) (fresh_candidate m)) (t.none m l));
       },
     )
 
@@ -104,10 +111,13 @@ fresh_is_one s q a b f g = go (order f.underscores g.underscores)
     order : (m n : ℕ) → (m ≡ n) ⊎ ((m < n) ⊎ (n < m))
     order m n = grind arith
 
-    go : (f.underscores ≡ g.underscores) ⊎ ((f.underscores < g.underscores) ⊎ (g.underscores < f.underscores)) → a ≡ b
+    go : (f.underscores ≡ g.underscores) ⊎ ((f.underscores < g.underscores) ⊎ (g.underscores < f.underscores)) →
+        a ≡ b
     go (inl e) = f.spelled ∙ ap fresh_candidate e ∙ sym g.spelled
-    go (inr (inl l)) = let t = g.first f.underscores l in absurd (f.free t.0 (subst (λ w. IsConstant s q t.0 w) (sym f.spelled) t.1))
-    go (inr (inr l)) = let t = f.first g.underscores l in absurd (g.free t.0 (subst (λ w. IsConstant s q t.0 w) (sym g.spelled) t.1))
+    go (inr (inl l)) = let t =
+        g.first f.underscores l in absurd (f.free t.0 (subst (λ w. IsConstant s q t.0 w) (sym f.spelled) t.1))
+    go (inr (inr l)) = let t =
+        f.first g.underscores l in absurd (g.free t.0 (subst (λ w. IsConstant s q t.0 w) (sym g.spelled) t.1))
 
 -- ---- the constants in byte order
 
@@ -178,7 +188,12 @@ insert x (y ∷ ys) a = go (slice_cmp nat_cmp x y) refl (insert x ys a.1)
       ];
       complete = λ w t. elim t [
         | inl q ↦ contains_cons w r.out y (r.complete w (inl q))
-        | inr c ↦ elim (contains_cases w y ys c) [ inl q ↦ head_is y w r.out q | inr d ↦ contains_cons w r.out y (r.complete w (inr d)) ]
+        | inr c ↦
+            elim (contains_cases w y ys c) [
+              | inl q ↦ head_is y w r.out q
+              | inr d ↦
+                  contains_cons w r.out y (r.complete w (inr d))
+            ]
       ];
       after = λ u b l. (l.0, r.after u b l.1);
     }
@@ -196,7 +211,8 @@ sorted (x ∷ xs) =
       out = t.out;
       up = t.up;
       sound = λ w c. elim (t.sound w c) [ inl e ↦ head_is x w xs e | inr d ↦ contains_cons w xs x (r.sound w d) ];
-      complete = λ w c. t.complete w (elim (contains_cases w x xs c) [ inl e ↦ inl e | inr d ↦ inr (r.complete w d) ]);
+      complete =
+          λ w c. t.complete w (elim (contains_cases w x xs c) [ inl e ↦ inl e | inr d ↦ inr (r.complete w d) ]);
     }
 
 in_order_exist : (xs : List (List ℕ)) → (ts : List (List ℕ)) × AreInByteOrder xs ts

@@ -24,7 +24,8 @@ constant_of : (s : Schema) (q : Formula) (d : ℕ) (text : List ℕ) →
     Contains (all_equalities s q) (record { category = d; text = text }) → IsConstant s q d text
 constant_of s q d text c = Contains-map (λ (a : Equality). a.text)
     (filter (λ a. a.category == d) (all_equalities s q)) (record { category = d; text = text })
-    (Contains-filter (λ a. a.category == d) (all_equalities s q) (record { category = d; text = text }) (eqb_same d) c)
+    (Contains-filter (λ a. a.category == d) (all_equalities s q) (record { category = d; text = text })
+    (eqb_same d) c)
 
 pub constant_in_constraint : (s : Schema) (q : Formula) (c : Constraint) → Contains s.constraints c →
     (d : ℕ) (text : List ℕ) → Contains (equalities c.formula) (record { category = d; text = text }) →

@@ -25,12 +25,14 @@ dec_some P d (x ∷ xs) = elim (d x) [
   | yes p ↦ yes (x, contains_head x xs, p)
   | no n ↦ elim (dec_some P d xs) [
     | yes t ↦ yes (t.0, contains_cons t.0 xs x t.1, t.2)
-    | no m ↦ no (λ t. elim (contains_cases t.0 x xs t.1) [ inl e ↦ n (subst P (sym e) t.2) | inr c ↦ m (t.0, c, t.2) ])
+    | no m ↦
+        no (λ t. elim (contains_cases t.0 x xs t.1) [ inl e ↦ n (subst P (sym e) t.2) | inr c ↦ m (t.0, c, t.2) ])
   ]
 ]
 
 -- some member of the category
-dec_member : (i : Instance) (d : ℕ) (P : ℕ → Type 0) → ((y : ℕ) → Dec (P y)) → Dec ((y : ℕ) × IsMemberOf i d y × P y)
+dec_member : (i : Instance) (d : ℕ) (P : ℕ → Type 0) → ((y : ℕ) → Dec (P y)) →
+    Dec ((y : ℕ) × IsMemberOf i d y × P y)
 dec_member i d P e = dec_iff (λ t. (t.0, (Contains-from_range (length i) t.0 t.1, t.2.0), t.2.1))
     (λ t. (t.0, Contains-range (length i) t.0 t.1.0, (t.1.1, t.2)))
     (dec_some (λ y. (category_of i y ≡ d) × P y) (λ y. dec_and (ℕ_discrete (category_of i y) d) (e y))

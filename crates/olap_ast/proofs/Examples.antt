@@ -54,7 +54,8 @@ name_is name e = subst (λ n. IsCategoryName n × (n ≢ codes "All")) e (
       small 116 (lit≤ tt) (lit≤ tt),
       (small 111 (lit≤ tt) (lit≤ tt), (small 114 (lit≤ tt) (lit≤ tt), (small 101 (lit≤ tt) (lit≤ tt), tt))),
     ),
-    λ c. not_head (116 ∷ 102 ∷ 111 ∷ 97 ∷ []) 83 (heads_differ 83 refl) (Contains-map head reserved (codes "Store") c),
+    λ c. not_head (116 ∷ 102 ∷ 111 ∷ 97 ∷ []) 83 (heads_differ 83 refl)
+        (Contains-map head reserved (codes "Store") c),
   ),
   λ q. let h : ◌≡◌ {A = ℕ} 83 65 = ap head q in omega arith,
 )
@@ -89,11 +90,13 @@ ids (suc (suc x)) y h l e = absurd (omega arith)
 
 reach : (c : ℕ) → c < 2 → CategoryReaches stores.graph c 0
 reach zero h = inl refl
-reach (suc zero) h = inr (record { between = []; chain = (contains_head (record { child = 1; parent = 0 }) [], tt) })
+reach (suc zero) h =
+    inr (record { between = []; chain = (contains_head (record { child = 1; parent = 0 }) [], tt) })
 reach (suc (suc c)) h = absurd (omega arith)
 
 -- category places, moved along an equation
-edge_there : (x y : ℕ) → (x ≡ 0) × (y ≡ 1) → HasEdge stores.graph (category_of one_store x) (category_of one_store y)
+edge_there : (x y : ℕ) → (x ≡ 0) × (y ≡ 1) →
+    HasEdge stores.graph (category_of one_store x) (category_of one_store y)
 edge_there x y e = subst (λ a. HasEdge stores.graph (category_of one_store a) (category_of one_store y)) (sym e.0)
     (subst (λ b. HasEdge stores.graph 1 (category_of one_store b)) (sym e.1)
     (contains_head (record { child = 1; parent = 0 }) []))

@@ -1,13 +1,11 @@
 -- What the questions about all legal instances are, by frozen dimensions.
-use Rattle.std.proofs.Common.{◌≡◌, ℕ, zero, suc, ◌<◌, List, [], ◌∷◌, length, map, refl, sym, subst, ◌∙◌, ◌↔◌, ap}
-use Rattle.std.specs.Prelude.{Contains, slice_get, Some}
-use Rattle.olap_base.specs.Graph.{Edge, IsHierarchy}
+use Rattle.std.proofs.Common.{◌≡◌, ℕ, [], ◌∷◌, sym, subst, ◌∙◌, ap}
+use Rattle.std.specs.Prelude.{slice_get, Some}
 use Rattle.olap_base.specs.Instance.{Instance, IsBelow, IsMemberOf, category_of}
 use Rattle.olap_base.specs.Deciding.{below_is_member}
-use Rattle.olap_ast.specs.Formula.{Formula, Formula.Truth, Formula.Not, Formula.Path, Holds, HasPath}
-use Rattle.olap_ast.specs.Schema.{Schema, Constraint, IsLegal, Meets}
+use Rattle.olap_ast.specs.Formula.{Formula.Truth, Formula.Not, Formula.Path, Holds, HasPath}
+use Rattle.olap_ast.specs.Schema.{Constraint, IsLegal, Meets}
 use Rattle.olap_ast.proofs.Decided.{decide_holds}
-use Rattle.olap_ast.specs.Frozen.{Frozen, Candidates, AreCandidates, IsFrozen}
 use Rattle.olap_ast.specs.Findings.{without}
 use Rattle.olap_ast.specs.Questions.{NoneFrozen, UnsatisfiableExactlyIfNoneFrozen, ImpliedExactlyIfNoneFrozen, RedundantExactlyIfNoneFrozen, UnusedExactlyIfNoneFrozen}
 use Rattle.olap_ast.proofs.SmallModel.{frozen_exactly}
@@ -24,7 +22,8 @@ implied_exactly s r q k h ok = let e = frozen_exactly s (Not q) r k h ok in (
   λ n i l x m. go n i l x m (decide_holds i x q),
 )
   where
-    go : NoneFrozen s (Not q) r k → (i : Instance) → IsLegal s i → (x : ℕ) → IsMemberOf i r x → Dec (Holds i x q) → Holds i x q
+    go : NoneFrozen s (Not q) r k → (i : Instance) → IsLegal s i → (x : ℕ) → IsMemberOf i r x → Dec (Holds i x q) →
+        Holds i x q
     go n i l x m (yes p) = p
     go n i l x m (no f) = let t = (frozen_exactly s (Not q) r k h ok).1 (i, l, x, m, f) in absurd (n t.0 t.1)
 
@@ -35,7 +34,8 @@ one_step i x d (y ∷ ys, h, q) = (y, h.0, cc)
 pub unused_exactly : UnusedExactlyIfNoneFrozen
 unused_exactly s e k h ok = let z = frozen_exactly s (Path (e.parent ∷ [])) e.child k h ok in (
   λ u f t. let m = z.0 (f, t) in let p = one_step m.0 m.2 e.parent m.4 in u m.0 m.1 m.2 p.0 p.1 m.3.1 p.2,
-  λ n i l x y b c d. let t = z.1 (i, l, x, (below_is_member i x y b, c), (y ∷ [], (b, tt), ap (λ w. w ∷ []) d)) in n t.0 t.1,
+  λ n i l x y b c d. let t =
+      z.1 (i, l, x, (below_is_member i x y b, c), (y ∷ [], (b, tt), ap (λ w. w ∷ []) d)) in n t.0 t.1,
 )
 
 pub redundant_exactly : RedundantExactlyIfNoneFrozen

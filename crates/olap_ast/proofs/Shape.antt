@@ -242,7 +242,8 @@ module _ (g : Graph) (i : Instance) (hier : IsHierarchy g) (v : IsInstance i) (w
 
   edge_seen : (y z : ℕ) → Steps (IsBelow i) x y → IsBelow i y z →
       Contains (seen_edges g i x) (record { child = category_of i y; parent = category_of i z })
-  edge_seen y z s b = Contains-filter (seen i x) g.edges (record { child = category_of i y; parent = category_of i z })
+  edge_seen y z s b =
+      Contains-filter (seen i x) g.edges (record { child = category_of i y; parent = category_of i z })
       (is_seen i x (record { child = category_of i y; parent = category_of i z })
       (record { child = y; parent = z; reached = s; child_is = refl; below = b; parent_is = refl }))
       (w.connectivity y z b)
@@ -419,7 +420,8 @@ module _ (g : Graph) (i : Instance) (hier : IsHierarchy g) (v : IsInstance i) (w
         ∙ ap (λ m. m.id) (at_shape l hl))))
       where
         ordered : (k : ℕ) → k < length shape → Contains (categories_in_order g) (get_or shape_categories k 0)
-        ordered k h = (Contains-from_filter (is_present (category_of i x) (seen_edges g i x)) (categories_in_order g)
+        ordered k h =
+            (Contains-from_filter (is_present (category_of i x) (seen_edges g i x)) (categories_in_order g)
             (get_or shape_categories k 0) (listed k h)).0
 
     parents_differ_shape : (k : ℕ) → AllPairs ◌≢◌ (parents_of shape k)
@@ -465,7 +467,8 @@ module _ (g : Graph) (i : Instance) (hier : IsHierarchy g) (v : IsInstance i) (w
 
     whole_all : suc (whole all_place) ≡ length i
     unfolding all_place
-    whole_all = let p = place_in_is shape_categories 0 all_present in let t = all_above in let in' : t.0 < length i =
+    whole_all = let p = place_in_is shape_categories 0 all_present in let t =
+        all_above in let in' : t.0 < length i =
         let q = t.1 in omega arith in
         ap suc (ap (member_above i x) (p.1 ∙ sym ((v.all_is_last t.0 in').1 t.1))
         ∙ member_above_is g i w x t.0 in' t.2) ∙ t.1

@@ -33,7 +33,8 @@ record IsIndex (fresh : List ℕ) (texts : List (List ℕ)) (name : List ℕ) (n
   known : (Contains texts name × (text_of_index fresh texts n ≡ name))
       ⊎ ((Contains texts name → ⊥) × (text_of_index fresh texts n ≡ fresh))
 
-index_of_is : (fresh : List ℕ) (texts : List (List ℕ)) (name : List ℕ) → IsIndex fresh texts name (index_of texts name)
+index_of_is : (fresh : List ℕ) (texts : List (List ℕ)) (name : List ℕ) →
+    IsIndex fresh texts name (index_of texts name)
 unfolding index_of
 index_of_is fresh texts name = go (decide_contains (List-discrete ℕ_discrete) texts name)
   where
@@ -56,7 +57,8 @@ module _ (s : Schema) (q : Formula) (k : Candidates) (hier : IsHierarchy s.graph
       (index_of (k.texts (suc c)) (name_of i (member_above i x (suc c)))) 0
 
   abbrev frozen : Frozen
-  frozen = record { edges = map (seen i x) s.graph.edges; names = map index (range_with_len 0 (length s.graph.names)) }
+  frozen =
+      record { edges = map (seen i x) s.graph.edges; names = map index (range_with_len 0 (length s.graph.names)) }
 
   abbrev name : ℕ → List ℕ
   name c = name_in k frozen c
@@ -103,7 +105,8 @@ module _ (s : Schema) (q : Formula) (k : Candidates) (hier : IsHierarchy s.graph
       let n : name (suc c) ≡ text_of_index k.fresh (k.texts (suc c)) (index_of (k.texts (suc c)) (name_of i y)) =
       ap (text_of_index k.fresh (k.texts (suc c))) (name_at c h
       ∙ ap (λ z. index_of (k.texts (suc c)) (name_of i z)) (sym e)) in
-      go (name (suc c)) (text_of_index k.fresh (k.texts (suc c)) (index_of (k.texts (suc c)) (name_of i y))) n t.known
+      go (name (suc c))
+      (text_of_index k.fresh (k.texts (suc c)) (index_of (k.texts (suc c)) (name_of i y))) n t.known
     where
       go : (a b : List ℕ) → a ≡ b → (Contains (k.texts (suc c)) (name_of i y) × (b ≡ name_of i y))
           ⊎ ((Contains (k.texts (suc c)) (name_of i y) → ⊥) × (b ≡ k.fresh))
@@ -159,7 +162,8 @@ module _ (s : Schema) (q : Formula) (k : Candidates) (hier : IsHierarchy s.graph
             let c = category_shape s.graph i hier legal.is_instance legal.lawful x hx name m h in
             let l = listed s.graph i hier legal.is_instance legal.lawful x hx name m h in
             let e = name_shape s.graph i hier legal.is_instance legal.lawful x hx name m h in
-            let u = (named_alike (get_or (shape_categories s.graph i hier legal.is_instance legal.lawful x hx) m 0) l
+            let u = (named_alike
+            (get_or (shape_categories s.graph i hier legal.is_instance legal.lawful x hx) m 0) l
             (of_small m) refl (sym (p.category m h) ∙ c) (p.member m h)).1 (λ z. n (c ∙ z)) in
             subst (λ z. IsConstant s q (category_of small m) z ⊎ IsFreshName s q z) (sym e)
             (subst (λ d. IsConstant s q d (name d) ⊎ IsFreshName s q (name d)) (sym c) u);

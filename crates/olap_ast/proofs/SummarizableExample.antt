@@ -1,16 +1,10 @@
 -- What summarizable says of one store below `All`.
-use Rattle.std.proofs.Common.{◌≡◌, ℕ, zero, suc, ◌+◌, ◌<◌, ◌≤◌, List, [], ◌∷◌, ◌++◌, length, map, Bool, true, false, cond, refl, ap, sym, subst, ◌∙◌, ◌↔◌, ◌⊎◌, inl, inr, arith}
-use Rattle.std.specs.Prelude.{Contains, ◌≢◌}
-use Rattle.std.proofs.lemmas.List.{length-map}
-use Rattle.olap_base.specs.Graph.{Edge, HasEdge, IsBottom}
-use Rattle.olap_base.specs.Instance.{Instance, IsBelow, IsMember, ReachesCategory, ReachesVia, category_of}
-use Rattle.olap_base.specs.Deciding.{contains_cases}
-use Rattle.olap_base.proofs.ListLemmas.{contains_head, Contains-nil}
+use Rattle.std.proofs.Common.{◌≡◌, ℕ, ◌<◌, [], ◌∷◌, refl, ap, ◌⊎◌, inl, inr, arith}
+use Rattle.std.specs.Prelude.{◌≢◌}
+use Rattle.olap_base.specs.Graph.{Edge, IsBottom}
+use Rattle.olap_base.specs.Instance.{ReachesCategory, ReachesVia, category_of}
+use Rattle.olap_base.proofs.ListLemmas.{contains_head}
 use Rattle.olap_base.proofs.ViewLemmas.{agree_exactly}
-use Rattle.olap_ast.specs.Formula.{Formula}
-use Rattle.olap_ast.specs.Schema.{Schema, IsLegal}
-use Rattle.olap_ast.specs.Violation.{IsNotAfter}
-use Rattle.olap_ast.specs.Frozen.{Frozen, Candidates, IsFrozen, IsLeastFrozen, code}
 use Rattle.olap_ast.specs.Summarizable.{IsSummarizable}
 use Rattle.olap_ast.specs.Example.{StoresAreSummarizable, stores, one_store}
 use Rattle.olap_ast.proofs.Examples.{alone, one_store_is_legal}
@@ -43,7 +37,8 @@ from_store i l = (agree_exactly stores.graph i 0 (1 ∷ []) l.is_instance l.lawf
 not_from_both : IsSummarizable stores 0 (1 ∷ 0 ∷ []) → ⊥
 unfolding up
 not_from_both h = let l = one_store_is_legal.1 in
-    go ((agree_exactly stores.graph one_store 0 (1 ∷ 0 ∷ []) l.is_instance l.lawful).0 (h one_store l) 0 (omega arith) bottom up)
+    go ((agree_exactly stores.graph one_store 0 (1 ∷ 0 ∷ []) l.is_instance l.lawful).0 (h one_store l) 0
+    (omega arith) bottom up)
   where
     by_store : ReachesVia one_store 0 1 0
     by_store = (0, (omega arith, refl), inl refl, up)
@@ -52,7 +47,8 @@ not_from_both h = let l = one_store_is_legal.1 in
     by_all = (1, (omega arith, refl), up.2, (1, (omega arith, refl), inl refl))
 
     go : (ReachesVia one_store 0 1 0 × ((ReachesVia one_store 0 0 0 → ⊥) × Unit {0}))
-        ⊎ ((ReachesVia one_store 0 1 0 → ⊥) × ((ReachesVia one_store 0 0 0 × Unit {0}) ⊎ ((ReachesVia one_store 0 0 0 → ⊥) × ⊥))) → ⊥
+        ⊎ ((ReachesVia one_store 0 1 0 → ⊥)
+        × ((ReachesVia one_store 0 0 0 × Unit {0}) ⊎ ((ReachesVia one_store 0 0 0 → ⊥) × ⊥))) → ⊥
     go (inl t) = t.1.0 by_all
     go (inr t) = t.0 by_store
 

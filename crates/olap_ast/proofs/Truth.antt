@@ -17,7 +17,8 @@ abbrev pub NamesAgree : Instance → Instance → (ℕ → ℕ) → (ℕ → Lis
 NamesAgree i j e Q = (k : ℕ) (text : List ℕ) → k < length j → Q (category_of j k) text →
     (name_of j k ≡ text) ↔ (name_of i (e k) ≡ text)
 
-module _ (i j : Instance) (e : ℕ → ℕ) (p : IsPart i j e) (Q : ℕ → List ℕ → Type 0) (names : NamesAgree i j e Q) where
+module _ (i j : Instance) (e : ℕ → ℕ) (p : IsPart i j e) (Q : ℕ → List ℕ → Type 0)
+    (names : NamesAgree i j e Q) where
   down : {k l : ℕ} → Reaches j k l → Reaches i (e k) (e l)
   down r = reaches_from_Steps (part_steps i j e p (Steps-from_reaches r))
 
@@ -38,7 +39,8 @@ module _ (i j : Instance) (e : ℕ → ℕ) (p : IsPart i j e) (Q : ℕ → List
       (t.0, (t.1, p.category t.0 t.1 ∙ ap (category_of i) t.3 ∙ m.1), t.2)
 
   via_down : (k d c : ℕ) → k < length j → ReachesVia j k d c → ReachesVia i (e k) d c
-  via_down k d c h (l, m, r, q) = (e l, (p.member l m.0, sym (p.category l m.0) ∙ m.1), down r, reach_down l c m.0 q)
+  via_down k d c h (l, m, r, q) =
+      (e l, (p.member l m.0, sym (p.category l m.0) ∙ m.1), down r, reach_down l c m.0 q)
 
   via_up : (k d c : ℕ) → k < length j → ReachesVia i (e k) d c → ReachesVia j k d c
   via_up k d c h (y, m, r, q) = let t = lift k y h r in (
@@ -57,7 +59,8 @@ module _ (i j : Instance) (e : ℕ → ℕ) (p : IsPart i j e) (Q : ℕ → List
     (names l text m.0 (subst (λ c. Q c text) (sym m.1) u)).0 q,
   )
 
-  named_up : (k d : ℕ) (text : List ℕ) → k < length j → Q d text → ReachesNamed i (e k) d text → ReachesNamed j k d text
+  named_up : (k d : ℕ) (text : List ℕ) → k < length j → Q d text → ReachesNamed i (e k) d text →
+      ReachesNamed j k d text
   named_up k d text h u (y, m, r, q) = let t = lift k y h r in let c =
       p.category t.0 t.1 ∙ ap (category_of i) t.3 ∙ m.1 in
       (t.0, (t.1, c), t.2, (names t.0 text t.1 (subst (λ d. Q d text) (sym c) u)).1 (ap (name_of i) t.3 ∙ q))
@@ -113,8 +116,11 @@ module _ (i j : Instance) (e : ℕ → ℕ) (p : IsPart i j e) (Q : ℕ → List
     same k h (Implies f g) w = let s = same k h f (left (equalities f) (equalities g) w) in let t =
         same k h g (right (equalities f) (equalities g) w) in (λ a b. t.0 (a (s.1 b)), λ a b. t.1 (a (s.0 b)))
     same k h (Iff f g) w = let s = same k h f (left (equalities f) (equalities g) w) in let t =
-        same k h g (right (equalities f) (equalities g) w) in
-        (λ a. (λ b. t.0 (a.0 (s.1 b)), λ b. s.0 (a.1 (t.1 b))), λ a. (λ b. t.1 (a.0 (s.0 b)), λ b. s.1 (a.1 (t.0 b))))
+        same k h g (right (equalities f) (equalities g) w) in (
+          λ a. (λ b. t.0 (a.0 (s.1 b)), λ b. s.0 (a.1 (t.1 b))),
+          λ a.
+              (λ b. t.1 (a.0 (s.0 b)), λ b. s.1 (a.1 (t.0 b))),
+        )
     same k h (Xor f g) w = let s = same k h f (left (equalities f) (equalities g) w) in let t =
         same k h g (right (equalities f) (equalities g) w) in (
           λ a. elim a [ inl b ↦ inl (s.0 b.0, λ c. b.1 (t.1 c)) | inr b ↦ inr (λ c. b.0 (s.1 c), t.0 b.1) ],

@@ -1,19 +1,8 @@
 -- There is one least frozen dimension at most, and one counterexample.
-use Rattle.std.proofs.Common.{◌≡◌, ℕ, zero, suc, ◌+◌, ◌<◌, ◌≤◌, List, [], ◌∷◌, ◌++◌, length, map, Bool, true, false, cond, refl, ap, sym, subst, ◌∙◌, ◌↔◌, ◌⊎◌, inl, inr, arith}
-use Rattle.std.specs.Prelude.{Contains, ◌≢◌}
-use Rattle.std.proofs.lemmas.List.{length-map}
-use Rattle.olap_base.specs.Graph.{Edge, HasEdge, IsBottom}
-use Rattle.olap_base.specs.Instance.{Instance, IsBelow, IsMember, ReachesCategory, ReachesVia, category_of}
-use Rattle.olap_base.specs.Deciding.{contains_cases}
-use Rattle.olap_base.proofs.ListLemmas.{contains_head, Contains-nil}
-use Rattle.olap_base.proofs.ViewLemmas.{agree_exactly}
-use Rattle.olap_ast.specs.Formula.{Formula}
-use Rattle.olap_ast.specs.Schema.{Schema, IsLegal}
+use Rattle.std.proofs.Common.{◌≡◌, ℕ, ◌<◌, List, [], ◌∷◌, ◌++◌, length, map, Bool, true, false, cond, refl, sym, subst, ◌∙◌, ◌⊎◌, inl, inr, arith}
 use Rattle.olap_ast.specs.Violation.{IsNotAfter}
 use Rattle.olap_ast.specs.Frozen.{Frozen, IsLeastFrozen, LeastIsOne, code}
-use Rattle.olap_ast.specs.Summarizable.{CounterexampleIsOne, IsCounterexample, not_by_one}
-use Rattle.olap_ast.specs.Example.{stores, one_store}
-use Rattle.olap_ast.proofs.Examples.{one_store_is_legal}
+use Rattle.olap_ast.specs.Summarizable.{CounterexampleIsOne, not_by_one}
 
 -- ---- the least is one
 
@@ -42,7 +31,8 @@ parts : (a b : List Bool) (m n : List ℕ) → length a ≡ length b → bits a 
 parts [] [] m n h e = (refl, e)
 parts [] (y ∷ b) m n h e = absurd (omega arith)
 parts (x ∷ a) [] m n h e = absurd (omega arith)
-parts (x ∷ a) (y ∷ b) m n h e = let p : ◌≡◌ {A = ℕ} (cond x 1 0) (cond y 1 0) = cc e in let q : bits a ++ m ≡ bits b ++ n = cc e in
+parts (x ∷ a) (y ∷ b) m n h e = let p : ◌≡◌ {A = ℕ} (cond x 1 0) (cond y 1 0) =
+    cc e in let q : bits a ++ m ≡ bits b ++ n = cc e in
     let r = parts a b m n (omega arith) q in let z = same_bit x y p in let w = r.0 in (cc, r.1)
 
 same_frozen : (f h : Frozen) → f.edges ≡ h.edges → f.names ≡ h.names → f ≡ h
@@ -60,8 +50,11 @@ order m n = grind arith
 -- a counterexample is one
 pub counterexample_is_one : CounterexampleIsOne
 counterexample_is_one s c sources k b d f h x y =
-    let e = go (order b d) in
-    (e, least_is_one s (not_by_one c sources) d k f h (subst (λ r. IsLeastFrozen s (not_by_one c sources) r k f) e x.least) y.least)
+    let e = go (order b d) in (
+      e,
+      least_is_one s (not_by_one c sources) d k f h
+          (subst (λ r. IsLeastFrozen s (not_by_one c sources) r k f) e x.least) y.least,
+    )
   where
     go : (b ≡ d) ⊎ ((b < d) ⊎ (d < b)) → b ≡ d
     go (inl e) = e

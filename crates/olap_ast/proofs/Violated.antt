@@ -118,7 +118,8 @@ decide_two_ancestors i x c y = dec_iff (λ t. (t.0, t.1.0, t.1.1.0, t.1.1.1.0, t
     (dec_number (λ z. IsFarBelow i x y × (IsFarBelow i x z
     × ((category_of i y ≡ c) × ((category_of i z ≡ c) × (y ≡ z → ⊥)))))
     (λ z. dec_and (decide_far_below i x y) (dec_and (decide_far_below i x z)
-    (dec_and (ℕ_discrete (category_of i y) c) (dec_and (ℕ_discrete (category_of i z) c) (dec_not (ℕ_discrete y z))))))
+    (dec_and (ℕ_discrete (category_of i y) c)
+    (dec_and (ℕ_discrete (category_of i z) c) (dec_not (ℕ_discrete y z))))))
     (above_all i) (λ z t. far_below_end i x z t.1.0))
 
 -- whether x breaks this constraint
@@ -139,7 +140,8 @@ decide_unmet i x (Some d) = dec_iff (λ t. (d, refl, t.0, t.1)) (λ t. same t.0 
 
 -- whether v is a violation
 pub decide_violation : (s : Schema) (i : Instance) (v : Violation) → Dec (IsViolation s i v)
-decide_violation s i (NoEdge x k) = dec_and (decide_place i x k) (dec_not (decide_contains edge_discrete s.graph.edges
+decide_violation s i (NoEdge x k) =
+    dec_and (decide_place i x k) (dec_not (decide_contains edge_discrete s.graph.edges
     (record { child = category_of i x; parent = category_of i (slice_index (parents_of i x) k) })))
 decide_violation s i (NoParent x) = dec_iff (λ t. (t.0, t.1.0, t.1.1)) (λ t. (t.0, (t.1, t.2)))
     (dec_and (dec_lt x (length i)) (dec_and (dec_not (ℕ_discrete (category_of i x) 0))

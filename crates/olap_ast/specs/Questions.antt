@@ -1,7 +1,7 @@
 -- The questions about all legal instances, of any size, and what they are by frozen dimensions.
 --     IsImplied     every legal instance meets a constraint
 --     NoneFrozen    no frozen dimension with this root makes the question true
-use Rattle.std.specs.Prelude.{◌≡◌, ◌↔◌, ℕ, List, [], ◌∷◌, Some, slice_get}
+use Rattle.std.specs.Prelude.{◌≡◌, ◌↔◌, ℕ, [], ◌∷◌, Some, slice_get}
 use Rattle.olap_base.specs.Graph.{Edge, IsHierarchy}
 use Rattle.olap_base.specs.Instance.{Instance}
 use Rattle.olap_ast.specs.Formula.{Formula, Formula.Truth, Formula.Path, Formula.Not}

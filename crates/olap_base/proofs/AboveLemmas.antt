@@ -126,27 +126,37 @@ members_above_is i x y c =
 
 pub is_above : (i : Instance) (x y : ℕ) → y < length i → Steps (IsBelow i) x y → Contains (members_above i x) y
 is_above i x y h s =
-    Contains-filter (reaches i x) (range_with_len 0 (length i)) y (reaches_of i x y s) (Contains-range (length i) y h)
+    Contains-filter (reaches i x) (range_with_len 0 (length i)) y (reaches_of i x y s)
+    (Contains-range (length i) y h)
 
 range_increases : (n : ℕ) → IsStrictlyIncreasing (range_with_len 0 n)
 range_increases n k h = let l : k + 1 < n = simp length-range_with_len at h in
     let a : get_or (range_with_len 0 n) k 0 ≡ 0 + k = get_or-range_with_len 0 n k 0 (omega arith) in
-    let b : get_or (range_with_len 0 n) (k + 1) 0 ≡ 0 + (k + 1) = get_or-range_with_len 0 n (k + 1) 0 l in omega arith
+    let b : get_or (range_with_len 0 n) (k + 1) 0 ≡ 0 + (k + 1) =
+    get_or-range_with_len 0 n (k + 1) 0 l in omega arith
 
 -- the place of each distinct number tells it
-pub place_in_injective : (xs : List ℕ) (y z : ℕ) → Contains xs y → Contains xs z → place_in xs y ≡ place_in xs z → y ≡ z
+pub place_in_injective : (xs : List ℕ) (y z : ℕ) → Contains xs y → Contains xs z → place_in xs y ≡ place_in xs z →
+    y ≡ z
 place_in_injective xs y z c d e = sym (place_in_is xs y c).1 ∙ ap (λ k. get_or xs k 0) e ∙ (place_in_is xs z d).1
 
 -- x's member in the part above
 module _ (i : Instance) (x : ℕ) (v : IsInstance i) where
   at_above : (k : ℕ) → k < length (members_above i x)
-      → member_at (above i x) k ≡ record (member_at i (get_or (members_above i x) k 0)) { parents = map (place_in (members_above i x)) (parents_of i (get_or (members_above i x) k 0)) }
+      → member_at (above i x) k
+      ≡ record
+      (member_at i (get_or (members_above i x) k 0)) {
+        parents = map (place_in (members_above i x))
+            (parents_of i (get_or (members_above i x) k 0));
+      }
   at_above k h =
-      get_or-map (λ y. record (member_at i y) { parents = map (place_in (members_above i x)) (parents_of i y) }) (members_above i x) k 0 nobody h
+      get_or-map (λ y. record (member_at i y) { parents = map (place_in (members_above i x)) (parents_of i y) })
+      (members_above i x) k 0 nobody h
 
   length_above : length (above i x) ≡ length (members_above i x)
   length_above =
-      length-map (members_above i x) (λ y. record (member_at i y) { parents = map (place_in (members_above i x)) (parents_of i y) })
+      length-map (members_above i x)
+      (λ y. record (member_at i y) { parents = map (place_in (members_above i x)) (parents_of i y) })
 
   listed : (k : ℕ) → k < length (above i x) → Contains (members_above i x) (get_or (members_above i x) k 0)
   listed k h = Contains-get_or (members_above i x) k 0 (rw (← length_above) h)
@@ -156,7 +166,8 @@ module _ (i : Instance) (x : ℕ) (v : IsInstance i) where
       is_above i x z (v.parents_are_members y z b) (Steps-append (members_above_is i x y c).1 (step b here))
 
   parents_above : (k : ℕ) → k < length (above i x)
-      → parents_of (above i x) k ≡ map (place_in (members_above i x)) (parents_of i (get_or (members_above i x) k 0))
+      → parents_of (above i x) k
+      ≡ map (place_in (members_above i x)) (parents_of i (get_or (members_above i x) k 0))
   parents_above k h = ap (λ m. m.parents) (at_above k (rw (← length_above) h))
 
   -- a parent in the part comes from a parent in the whole
@@ -164,27 +175,41 @@ module _ (i : Instance) (x : ℕ) (v : IsInstance i) where
       → (l < length (above i x)) × IsBelow i (get_or (members_above i x) k 0) (get_or (members_above i x) l 0)
   from_below k l b =
       let h = below_is_member (above i x) k l b in
-      let c : Contains (map (place_in (members_above i x)) (parents_of i (get_or (members_above i x) k 0))) l = subst (λ ps. Contains ps l) (parents_above k h) b in
-      let t = Contains-from_map (place_in (members_above i x)) (parents_of i (get_or (members_above i x) k 0)) l c in
-      let u = place_in_is (members_above i x) t.0 (closed (get_or (members_above i x) k 0) t.0 (listed k h) t.1) in
-      (rw (length_above, ← t.2) u.0, subst (λ y. IsBelow i (get_or (members_above i x) k 0) y) (sym u.1 ∙ ap (λ m. get_or (members_above i x) m 0) t.2) t.1)
+      let c : Contains (map (place_in (members_above i x)) (parents_of i (get_or (members_above i x) k 0))) l =
+      subst (λ ps. Contains ps l) (parents_above k h) b in
+      let t = Contains-from_map (place_in (members_above i x))
+      (parents_of i (get_or (members_above i x) k 0)) l c in
+      let u = place_in_is (members_above i x) t.0 (closed (get_or (members_above i x) k 0) t.0 (listed k h) t.1) in (
+        rw (length_above, ← t.2) u.0,
+        subst (λ y. IsBelow i (get_or (members_above i x) k 0) y)
+            (sym u.1 ∙ ap (λ m. get_or (members_above i x) m 0) t.2) t.1,
+      )
 
   to_above : (k y : ℕ) → k < length (above i x) → IsBelow i (get_or (members_above i x) k 0) y
       → (l : ℕ) × IsBelow (above i x) k l × (get_or (members_above i x) l 0 ≡ y)
   to_above k y h b =
-      let u = place_in_is (members_above i x) y (closed (get_or (members_above i x) k 0) y (listed k h) b) in
-      (place_in (members_above i x) y, subst (λ ps. Contains ps (place_in (members_above i x) y)) (sym (parents_above k h)) (Contains-map (place_in (members_above i x)) (parents_of i (get_or (members_above i x) k 0)) y b), u.1)
+      let u = place_in_is (members_above i x) y (closed (get_or (members_above i x) k 0) y (listed k h) b) in (
+        place_in (members_above i x) y,
+        subst (λ ps. Contains ps (place_in (members_above i x) y))
+            (sym (parents_above k h))
+            (Contains-map (place_in (members_above i x))
+            (parents_of i (get_or (members_above i x) k 0)) y b),
+        u.1,
+      )
 
   increasing_above : (k l : ℕ) → k < l → l < length (above i x)
       → get_or (members_above i x) k 0 < get_or (members_above i x) l 0
   increasing_above k l a h =
-      AllPairs-from_increasing (members_above i x) (IsStrictlyIncreasing-filter (reaches i x) (range_with_len 0 (length i)) (range_increases (length i))) k l 0 a (rw (← length_above) h)
+      AllPairs-from_increasing (members_above i x)
+      (IsStrictlyIncreasing-filter (reaches i x) (range_with_len 0 (length i))
+      (range_increases (length i))) k l 0 a (rw (← length_above) h)
 
   pub id_above : (k : ℕ) → k < length (above i x)
       → (member_at (above i x) k).id ≡ (member_at i (get_or (members_above i x) k 0)).id
   id_above k h = ap (λ m. m.id) (at_above k (rw (← length_above) h))
 
-  pub name_above : (k : ℕ) → k < length (above i x) → name_of (above i x) k ≡ name_of i (get_or (members_above i x) k 0)
+  pub name_above : (k : ℕ) → k < length (above i x) →
+      name_of (above i x) k ≡ name_of i (get_or (members_above i x) k 0)
   name_above k h = ap (λ m. m.name) (at_above k (rw (← length_above) h))
 
   pub above_is_part : IsPart i (above i x) (λ k. get_or (members_above i x) k 0)
@@ -206,14 +231,18 @@ module _ (i : Instance) (x : ℕ) (v : IsInstance i) where
       let n : length (parents_of (above i x) k) ≡ length ps = ap length e ∙ length-map ps f in
       let hb : b < length ps = omega arith in
       let ha : a < length ps = omega arith in
-      let fa : get_or (parents_of (above i x) k) a d ≡ f (get_or ps a 0) = ap (λ us. get_or us a d) e ∙ get_or-map f ps a 0 d ha in
-      let fb : get_or (parents_of (above i x) k) b d ≡ f (get_or ps b 0) = ap (λ us. get_or us b d) e ∙ get_or-map f ps b 0 d hb in
+      let fa : get_or (parents_of (above i x) k) a d ≡ f (get_or ps a 0) =
+      ap (λ us. get_or us a d) e ∙ get_or-map f ps a 0 d ha in
+      let fb : get_or (parents_of (above i x) k) b d ≡ f (get_or ps b 0) =
+      ap (λ us. get_or us b d) e ∙ get_or-map f ps b 0 d hb in
       let y = get_or (members_above i x) k 0 in
       v.parents_differ y a b 0 l hb (place_in_injective (members_above i x) (get_or ps a 0) (get_or ps b 0)
-      (closed y (get_or ps a 0) (listed k in') (Contains-get_or ps a 0 ha)) (closed y (get_or ps b 0) (listed k in') (Contains-get_or ps b 0 hb)) (sym fa ∙ q ∙ fb))
+      (closed y (get_or ps a 0) (listed k in') (Contains-get_or ps a 0 ha))
+      (closed y (get_or ps b 0) (listed k in') (Contains-get_or ps b 0 hb)) (sym fa ∙ q ∙ fb))
     where
       has_parent : (j : Instance) (k b : ℕ) → b < length (parents_of j k) → k < length j
-      has_parent j k b h = below_is_member j k (get_or (parents_of j k) b 0) (Contains-get_or (parents_of j k) b 0 h)
+      has_parent j k b h =
+          below_is_member j k (get_or (parents_of j k) b 0) (Contains-get_or (parents_of j k) b 0 h)
 
   -- the member itself stands in the part, at its place
   pub self_is : x < length i
@@ -224,7 +253,8 @@ module _ (i : Instance) (x : ℕ) (v : IsInstance i) where
   pub self_reaches : x < length i → (k : ℕ) → k < length (above i x) → Reaches (above i x) (self_above i x) k
   self_reaches h k l =
       let t = self_is h in
-      let u = part_lift i (above i x) (λ m. get_or (members_above i x) m 0) above_is_part (members_above_is i x (get_or (members_above i x) k 0) (listed k l)).1 (self_above i x) t.0 t.1 in
+      let u = part_lift i (above i x) (λ m. get_or (members_above i x) m 0) above_is_part
+      (members_above_is i x (get_or (members_above i x) k 0) (listed k l)).1 (self_above i x) t.0 t.1 in
       let e = above_is_part.injective u.0 k (inside u.1 t.0) l u.2 in
       reaches_from_Steps (subst (λ m. Steps (IsBelow (above i x)) (self_above i x) m) e u.1)
     where
@@ -242,7 +272,9 @@ module _ (i : Instance) (x : ℕ) (v : IsInstance i) where
       let ha : a < length (above i x) = rw length_above u.0 in
       let q : suc (e a) ≡ length i = ap suc u.1 ∙ t.1 in
       part_instance i (above i x) e above_is_part a v (last a ha q) q
-      (λ k l hk hl r. above_is_part.injective k l hk hl (v.ids_differ (e k) (e l) (above_is_part.member k hk) (above_is_part.member l hl) (sym (id_above k hk) ∙ r ∙ id_above l hl)))
+      (λ k l hk hl r. above_is_part.injective k l hk hl
+      (v.ids_differ (e k) (e l) (above_is_part.member k hk) (above_is_part.member l hl)
+      (sym (id_above k hk) ∙ r ∙ id_above l hl)))
       parents_differ_above (id_above a ha) (name_above a ha)
     where
       -- `all` is the last of the part, since the places rise
@@ -251,7 +283,8 @@ module _ (i : Instance) (x : ℕ) (v : IsInstance i) where
       last a ha q = elim (order (suc a) (length (above i x))) [
         | inl s ↦ s
         | inr s ↦ elim s [
-          | inl l ↦ let f : get_or (members_above i x) a 0 < get_or (members_above i x) (suc a) 0 = increasing_above a (suc a) (omega arith) l in
+          | inl l ↦ let f : get_or (members_above i x) a 0 < get_or (members_above i x) (suc a) 0 =
+              increasing_above a (suc a) (omega arith) l in
               let m : get_or (members_above i x) (suc a) 0 < length i = above_is_part.member (suc a) l in
               absurd (omega arith)
           | inr l ↦ absurd (omega arith)
@@ -265,5 +298,6 @@ module _ (i : Instance) (x : ℕ) (v : IsInstance i) where
   one_member_each g w k l hk hl q =
       let e = λ (m : ℕ). get_or (members_above i x) m 0 in
       above_is_part.injective k l hk hl
-      (reached_once g i w x (e k) (e l) (members_above_is i x (e k) (listed k hk)).1 (members_above_is i x (e l) (listed l hl)).1
+      (reached_once g i w x (e k) (e l) (members_above_is i x (e k) (listed k hk)).1
+      (members_above_is i x (e l) (listed l hl)).1
       (sym (above_is_part.category k hk) ∙ q ∙ above_is_part.category l hl))

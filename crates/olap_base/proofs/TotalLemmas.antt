@@ -64,9 +64,11 @@ pub total_nothing : {A : Type 0} (xs : List A) → total_by {A = A} (λ x. None)
 total_nothing [] = refl
 total_nothing (x ∷ xs) = total_nothing xs
 
-pub total-append : {A : Type 0} (f : A → Option Summary) (xs ys : List A) → total_by f (xs ++ ys) ≡ total_by f xs ⊕ total_by f ys
+pub total-append : {A : Type 0} (f : A → Option Summary) (xs ys : List A) →
+    total_by f (xs ++ ys) ≡ total_by f xs ⊕ total_by f ys
 total-append f [] ys = refl
-total-append f (x ∷ xs) ys = ap (λ t. f x ⊕ t) (total-append f xs ys) ∙ sym (⊕_assoc (f x) (total_by f xs) (total_by f ys))
+total-append f (x ∷ xs) ys =
+    ap (λ t. f x ⊕ t) (total-append f xs ys) ∙ sym (⊕_assoc (f x) (total_by f xs) (total_by f ys))
 
 pub total-map : {A B : Type 0} (f : B → Option Summary) (g : A → B) (xs : List A)
     → total_by f (map g xs) ≡ total_by (λ x. f (g x)) xs
@@ -76,14 +78,16 @@ total-map f g (x ∷ xs) = ap (λ t. f (g x) ⊕ t) (total-map f g xs)
 pub total-flat_map : {A B : Type 0} (f : B → Option Summary) (g : A → List B) (xs : List A)
     → total_by f (flat_map g xs) ≡ total_by (λ x. total_by f (g x)) xs
 total-flat_map f g [] = refl
-total-flat_map f g (x ∷ xs) = total-append f (g x) (flat_map g xs) ∙ ap (λ t. total_by f (g x) ⊕ t) (total-flat_map f g xs)
+total-flat_map f g (x ∷ xs) =
+    total-append f (g x) (flat_map g xs) ∙ ap (λ t. total_by f (g x) ⊕ t) (total-flat_map f g xs)
 
 pub total-filter : {A : Type 0} (f : A → Option Summary) (p : A → Bool) (xs : List A)
     → total_by f (filter p xs) ≡ total_by (λ x. cond (p x) (f x) None) xs
 total-filter f p [] = refl
 total-filter {A} f p (x ∷ xs) = go (p x) ∙ ap (λ t. cond (p x) (f x) None ⊕ t) (total-filter f p xs)
   where
-    go : (b : Bool) → total_by f (cond b (x ∷ filter p xs) (filter p xs)) ≡ cond b (f x) None ⊕ total_by f (filter p xs)
+    go : (b : Bool) →
+        total_by f (cond b (x ∷ filter p xs) (filter p xs)) ≡ cond b (f x) None ⊕ total_by f (filter p xs)
     go true = refl
     go false = refl
 
@@ -109,7 +113,8 @@ swapped a b c d =
 pub total_both : {A : Type 0} (f g : A → Option Summary) (xs : List A)
     → total_by (λ x. f x ⊕ g x) xs ≡ total_by f xs ⊕ total_by g xs
 total_both f g [] = refl
-total_both f g (x ∷ xs) = ap (λ t. (f x ⊕ g x) ⊕ t) (total_both f g xs) ∙ swapped (f x) (g x) (total_by f xs) (total_by g xs)
+total_both f g (x ∷ xs) =
+    ap (λ t. (f x ⊕ g x) ⊕ t) (total_both f g xs) ∙ swapped (f x) (g x) (total_by f xs) (total_by g xs)
 
 -- the order of two totals
 pub total_swap : {A B : Type 0} (m : A → B → Option Summary) (xs : List A) (ys : List B)

@@ -57,18 +57,23 @@ module _ (i : Instance) where
       → total_by (row_if y) (direct_rows i s facts) ≡ total_by (λ z. total_by (value_by y z) facts) (members_of i s)
   unfolding value_by
   source_total facts y s = total-filter_map (row_if y) (λ z. row_at z (total_of_facts i facts z)) (members_of i s)
-      ∙ total_same (λ z. of_some (row_if y) (row_at z (total_of_facts i facts z))) (λ z. total_by (value_by y z) facts) (members_of i s)
+      ∙ total_same (λ z. of_some (row_if y) (row_at z (total_of_facts i facts z)))
+      (λ z. total_by (value_by y z) facts) (members_of i s)
       (λ z c. row_of_source y z (total_of_facts i facts z)
-      ∙ ap (λ t. cond (reaches i z y) t None) (values_total facts z) ∙ total_when (reaches i z y) (value_if z) facts)
+      ∙ ap (λ t. cond (reaches i z y) t None) (values_total facts z)
+      ∙ total_when (reaches i z y) (value_if z) facts)
 
   pub rows_total : (facts : List Fact) (sources : List ℕ) (y : ℕ)
-      → total_of_views i (direct_views i facts sources) y ≡ total_by (λ f. total_by (λ s. total_by (λ z. value_by y z f) (members_of i s)) sources) facts
+      → total_of_views i (direct_views i facts sources) y
+      ≡ total_by (λ f. total_by (λ s. total_by (λ z. value_by y z f) (members_of i s)) sources) facts
   unfolding row_if
   rows_total facts sources y = total_is (λ (r : Row). r.summary) (rows_below i (direct_views i facts sources) y)
-      ∙ total-filter summary (λ (r : Row). reaches i r.member y) (flat_map (λ (v : View). v.rows) (direct_views i facts sources))
+      ∙ total-filter summary (λ (r : Row). reaches i r.member y)
+      (flat_map (λ (v : View). v.rows) (direct_views i facts sources))
       ∙ total-flat_map (row_if y) (λ (v : View). v.rows) (direct_views i facts sources)
       ∙ total-map (λ (v : View). total_by (row_if y) v.rows) (direct_view i facts) sources
-      ∙ total_same (λ s. total_by (row_if y) (direct_rows i s facts)) (λ s. total_by (λ f. total_by (λ z. value_by y z f) (members_of i s)) facts) sources
+      ∙ total_same (λ s. total_by (row_if y) (direct_rows i s facts))
+      (λ s. total_by (λ f. total_by (λ z. value_by y z f) (members_of i s)) facts) sources
       (λ s c. source_total facts y s ∙ total_swap (value_by y) (members_of i s) facts)
       ∙ total_swap (λ s f. total_by (λ z. value_by y z f) (members_of i s)) sources facts
 
@@ -92,7 +97,9 @@ total_once p m (x ∷ xs) a h =
 
     none : p x ≡ true → (y : ℕ) → Contains xs y → cond (p y) m None ≡ None
     none e y c =
-        nothing_if (p y) m (fails (p y) (λ q. a.0 (subst (λ w. Contains xs w) (h y x (contains_cons y xs x c) (contains_head x xs) q e) c)))
+        nothing_if (p y) m
+        (fails (p y)
+        (λ q. a.0 (subst (λ w. Contains xs w) (h y x (contains_cons y xs x c) (contains_head x xs) q e) c)))
 
     go : (b : Bool) → p x ≡ b → total_by (λ z. cond (p z) m None) xs ≡ cond (list_any p xs) m None
         → cond b m None ⊕ total_by (λ z. cond (p z) m None) xs ≡ cond (b || list_any p xs) m None
@@ -142,7 +149,8 @@ members_of_is i c y h =
 
 pub is_member_of : (i : Instance) (c y : ℕ) → IsMemberOf i c y → Contains (members_of i c) y
 is_member_of i c y m =
-    Contains-filter (λ z. category_of i z == c) (range_with_len 0 (length i)) y (same (category_of i y) c m.1) (Contains-range (length i) y m.0)
+    Contains-filter (λ z. category_of i z == c) (range_with_len 0 (length i)) y (same (category_of i y) c m.1)
+    (Contains-range (length i) y m.0)
   where
     same : (a b : ℕ) → a ≡ b → a == b ≡ true
     same a b e = grind (arith, nat_tests)
@@ -177,18 +185,25 @@ module _ (g : Graph) (i : Instance) (w : IsLawful g i) (c y : ℕ) (m : IsMember
         where
           at : (u : ℕ) → IsMemberOf i c u → Reaches i z u → Steps (IsBelow i) z y
           at u k b = subst (λ v. Steps (IsBelow i) z v)
-              (reached_once g i w x u y (Steps-append (Steps-from_reaches a) (Steps-from_reaches b)) (steps_of i x y r) (k.1 ∙ sym m.1)) (Steps-from_reaches b)
+              (reached_once g i w x u y (Steps-append (Steps-from_reaches a) (Steps-from_reaches b))
+              (steps_of i x y r) (k.1 ∙ sym m.1)) (Steps-from_reaches b)
 
   -- a source has one member by which x reaches y, at most
   pub one_by_source : (x s : ℕ) (v : Option Summary)
-      → total_by (λ z. cond (reaches i z y) (cond (reaches i x z) v None) None) (members_of i s) ≡ cond (by_source x s) v None
+      → total_by (λ z. cond (reaches i z y) (cond (reaches i x z) v None) None) (members_of i s)
+      ≡ cond (by_source x s) v None
   unfolding by_source
-  one_by_source x s v = total_same (λ z. cond (reaches i z y) (cond (reaches i x z) v None) None) (λ z. cond (reaches i z y && reaches i x z) v None) (members_of i s) (λ z k. when_both (reaches i z y) (reaches i x z) v)
+  one_by_source x s v =
+      total_same (λ z. cond (reaches i z y) (cond (reaches i x z) v None) None)
+      (λ z. cond (reaches i z y && reaches i x z) v None) (members_of i s)
+      (λ z k. when_both (reaches i z y) (reaches i x z) v)
       ∙ once
     where
-      once : total_by (λ z. cond (reaches i z y && reaches i x z) v None) (members_of i s) ≡ cond (list_any (λ z. reaches i z y && reaches i x z) (members_of i s)) v None
+      once : total_by (λ z. cond (reaches i z y && reaches i x z) v None) (members_of i s)
+          ≡ cond (list_any (λ z. reaches i z y && reaches i x z) (members_of i s)) v None
       once = total_once (λ z. reaches i z y && reaches i x z) v (members_of i s) (Distinct-members_of i s)
-          (λ a b k l e f. reached_once g i w x a b (steps_of i x a (second_true (reaches i a y) (reaches i x a) e)) (steps_of i x b (second_true (reaches i b y) (reaches i x b) f))
+          (λ a b k l e f. reached_once g i w x a b (steps_of i x a (second_true (reaches i a y) (reaches i x a) e))
+          (steps_of i x b (second_true (reaches i b y) (reaches i x b) f))
           ((members_of_is i s a k).1 ∙ sym (members_of_is i s b l).1))
 
   -- what a fact adds to the row of y, by way of the sources
@@ -196,15 +211,20 @@ module _ (g : Graph) (i : Instance) (w : IsLawful g i) (c y : ℕ) (m : IsMember
       → (reaches i f.member y ≡ true → ExactlyOne (λ s. ReachesVia i f.member s c) sources)
       → total_by (λ s. total_by (λ z. value_by i y z f) (members_of i s)) sources ≡ value_if i y f
   unfolding value_by value_if by_source
-  by_sources sources f one = total_same (λ s. total_by (λ z. value_by i y z f) (members_of i s)) (λ s. cond (by_source f.member s) (single f.value) None) sources (λ s k. one_by_source f.member s (single f.value))
+  by_sources sources f one =
+      total_same (λ s. total_by (λ z. value_by i y z f) (members_of i s))
+      (λ s. cond (by_source f.member s) (single f.value) None) sources
+      (λ s k. one_by_source f.member s (single f.value))
       ∙ go (reaches i f.member y) refl
     where
       go : (b : Bool) → reaches i f.member y ≡ b
           → total_by (λ s. cond (by_source f.member s) (single f.value) None) sources ≡ cond b (single f.value) None
       go true e =
-          total_exactly_one (λ s. ReachesVia i f.member s c) (by_source f.member) (by_source_is f.member e) (single f.value) sources (one e)
+          total_exactly_one (λ s. ReachesVia i f.member s c) (by_source f.member) (by_source_is f.member e)
+          (single f.value) sources (one e)
       go false e =
-          total_same (λ s. cond (by_source f.member s) (single f.value) None) (λ s. None) sources (λ s k. nothing_if (by_source f.member s) (single f.value) (none s))
+          total_same (λ s. cond (by_source f.member s) (single f.value) None) (λ s. None) sources
+          (λ s k. nothing_if (by_source f.member s) (single f.value) (none s))
           ∙ total_nothing sources
         where
           fails : (b : Bool) → (b ≡ true → ⊥) → b ≡ false
@@ -213,7 +233,10 @@ module _ (g : Graph) (i : Instance) (w : IsLawful g i) (c y : ℕ) (m : IsMember
 
           through : (s : ℕ) → by_source f.member s ≡ true → reaches i f.member y ≡ true
           through s h = let t = (list_any_is (λ z. reaches i z y && reaches i f.member z) (members_of i s)).0 h in
-              reaches_of i f.member y (Steps-append (steps_of i f.member t.0 (second_true (reaches i t.0 y) (reaches i f.member t.0) t.2)) (steps_of i t.0 y (first_true (reaches i t.0 y) (reaches i f.member t.0) t.2)))
+              reaches_of i f.member y
+              (Steps-append
+              (steps_of i f.member t.0 (second_true (reaches i t.0 y) (reaches i f.member t.0) t.2))
+              (steps_of i t.0 y (first_true (reaches i t.0 y) (reaches i f.member t.0) t.2)))
 
           none : (s : ℕ) → by_source f.member s ≡ false
           none s = fails (by_source f.member s) (λ h. let z : false ≡ true = sym e ∙ through s h in cc)
@@ -229,10 +252,13 @@ filter_map_same h k (x ∷ xs) f =
 
 agree : (g : Graph) (i : Instance) (c : ℕ) (sources : List ℕ) → IsLawful g i → ReachedByOne g i c sources
     → ViewsAgree g i c sources
-agree g i c sources w one facts t = filter_map_same (λ y. row_at y (total_of_facts i facts y)) (λ y. row_at y (total_of_views i (direct_views i facts sources) y)) (members_of i c)
+agree g i c sources w one facts t =
+    filter_map_same (λ y. row_at y (total_of_facts i facts y))
+    (λ y. row_at y (total_of_views i (direct_views i facts sources) y)) (members_of i c)
     (λ y k. ap (row_at y) (values_total i facts y
     ∙ sym (rows_total i facts sources y
-    ∙ total_same (λ f. total_by (λ s. total_by (λ z. value_by i y z f) (members_of i s)) sources) (value_if i y) facts
+    ∙ total_same (λ f. total_by (λ s. total_by (λ z. value_by i y z f) (members_of i s)) sources)
+    (value_if i y) facts
     (λ f n. by_sources g i w c y (members_of_is i c y k) sources f
     (λ e. one f.member (t f n).0 (t f n).1 (y, members_of_is i c y k, (reaches_is i f.member y).0 e))))))
 
@@ -265,7 +291,11 @@ module _ (h : ℕ → Option Row) (keyed : (z : ℕ) (r : Row) → h z ≡ Some 
   find_it : (xs : List ℕ) → Contains xs y → find_row y (filter_map h xs) ≡ h y
   find_it [] c = absurd (Contains-nil y c)
   find_it (x ∷ xs) c =
-      elim (contains_cases y x xs c) [ inl e ↦ at (h x) refl e (find_any xs) | inr d ↦ past (h x) refl (find_it xs d) ]
+      elim (contains_cases y x xs c) [
+        | inl e ↦ at (h x) refl e (find_any xs)
+        | inr d ↦
+            past (h x) refl (find_it xs d)
+      ]
     where
       test : (r : Row) → h x ≡ Some r → x ≡ y → (b : Bool) → (r.member == y) ≡ b
           → cond b (Some r) (find_row y (filter_map h xs)) ≡ h y
@@ -311,10 +341,12 @@ module _ (P : ℕ → Type 0) (p : ℕ → Bool) (d : (x : ℕ) → IsTrue (p x)
   none_from_count : (xs : List ℕ) → count (total_by (λ x. cond (p x) (single v) None) xs) ≡ 0 → NoneOf P xs
   none_from_count [] e = tt
   none_from_count (x ∷ xs) e =
-      go (p x) (d x) (count-⊕ (cond (p x) (single v) None) (total_by (λ z. cond (p z) (single v) None) xs)) (none_from_count xs)
+      go (p x) (d x) (count-⊕ (cond (p x) (single v) None) (total_by (λ z. cond (p z) (single v) None) xs))
+      (none_from_count xs)
     where
       go : (b : Bool) → IsTrue b ↔ P x
-          → count (cond (p x) (single v) None ⊕ total_by (λ z. cond (p z) (single v) None) xs) ≡ count (cond b (single v) None) + count (total_by (λ z. cond (p z) (single v) None) xs)
+          → count (cond (p x) (single v) None ⊕ total_by (λ z. cond (p z) (single v) None) xs)
+          ≡ count (cond b (single v) None) + count (total_by (λ z. cond (p z) (single v) None) xs)
           → (count (total_by (λ z. cond (p z) (single v) None) xs) ≡ 0 → NoneOf P xs) → (P x → ⊥) × NoneOf P xs
       go true i c ih = absurd (omega arith)
       go false i c ih = (λ q. let z = i.1 q in cc, ih (omega arith))
@@ -322,11 +354,14 @@ module _ (P : ℕ → Type 0) (p : ℕ → Bool) (d : (x : ℕ) → IsTrue (p x)
   one_from_count : (xs : List ℕ) → count (total_by (λ x. cond (p x) (single v) None) xs) ≡ 1 → ExactlyOne P xs
   one_from_count [] e = absurd (omega arith)
   one_from_count (x ∷ xs) e =
-      go (p x) (d x) (count-⊕ (cond (p x) (single v) None) (total_by (λ z. cond (p z) (single v) None) xs)) (none_from_count xs) (one_from_count xs)
+      go (p x) (d x) (count-⊕ (cond (p x) (single v) None) (total_by (λ z. cond (p z) (single v) None) xs))
+      (none_from_count xs) (one_from_count xs)
     where
       go : (b : Bool) → IsTrue b ↔ P x
-          → count (cond (p x) (single v) None ⊕ total_by (λ z. cond (p z) (single v) None) xs) ≡ count (cond b (single v) None) + count (total_by (λ z. cond (p z) (single v) None) xs)
-          → (count (total_by (λ z. cond (p z) (single v) None) xs) ≡ 0 → NoneOf P xs) → (count (total_by (λ z. cond (p z) (single v) None) xs) ≡ 1 → ExactlyOne P xs)
+          → count (cond (p x) (single v) None ⊕ total_by (λ z. cond (p z) (single v) None) xs)
+          ≡ count (cond b (single v) None) + count (total_by (λ z. cond (p z) (single v) None) xs)
+          → (count (total_by (λ z. cond (p z) (single v) None) xs) ≡ 0 → NoneOf P xs) →
+          (count (total_by (λ z. cond (p z) (single v) None) xs) ≡ 1 → ExactlyOne P xs)
           → (P x × NoneOf P xs) ⊎ ((P x → ⊥) × ExactlyOne P xs)
       go true i c none ih = inl (i.0 refl, none (omega arith))
       go false i c none ih = inr (λ q. let z = i.1 q in cc, ih (omega arith))
@@ -343,7 +378,8 @@ only : (g : Graph) (i : Instance) (c : ℕ) (sources : List ℕ) → IsLawful g 
     → ReachedByOne g i c sources
 unfolding value_by value_if
 only g i c sources w agrees x h b (y, m, r) =
-    one_from_count (λ s. ReachesVia i x s c) (by_source g i w c y m x) (by_source_is g i w c y m x r') (pos 1) sources counted
+    one_from_count (λ s. ReachesVia i x s c) (by_source g i w c y m x) (by_source_is g i w c y m x r')
+    (pos 1) sources counted
   where
     r' : reaches i x y ≡ true
     r' = (reaches_is i x y).1 r
@@ -353,12 +389,21 @@ only g i c sources w agrees x h b (y, m, r) =
 
     alone : (q : Fact) → Contains (f ∷ []) q → IsMember i q.member × IsBottom g (category_of i q.member)
     alone q k =
-        elim (contains_cases q f [] k) [ inl e ↦ subst (λ (p : Fact). IsMember i p.member × IsBottom g (category_of i p.member)) e (h, b) | inr n ↦ absurd (Contains-nil q n) ]
+        elim (contains_cases q f [] k) [
+          | inl e ↦
+              subst (λ (p : Fact). IsMember i p.member × IsBottom g (category_of i p.member)) e (h, b)
+          | inr n ↦
+              absurd (Contains-nil q n)
+        ]
 
     rows : row_at y (total_of_facts i (f ∷ []) y) ≡ row_at y (total_of_views i (direct_views i (f ∷ []) sources) y)
-    rows = sym (find_it (λ z. row_at z (total_of_facts i (f ∷ []) z)) (λ z q e. row_keyed z (total_of_facts i (f ∷ []) z) q e) y (members_of i c) (is_member_of i c y m))
+    rows = sym
+        (find_it (λ z. row_at z (total_of_facts i (f ∷ []) z))
+        (λ z q e. row_keyed z (total_of_facts i (f ∷ []) z) q e) y (members_of i c) (is_member_of i c y m))
         ∙ ap (find_row y) (agrees (f ∷ []) alone)
-        ∙ find_it (λ z. row_at z (total_of_views i (direct_views i (f ∷ []) sources) z)) (λ z q e. row_keyed z (total_of_views i (direct_views i (f ∷ []) sources) z) q e) y (members_of i c) (is_member_of i c y m)
+        ∙ find_it (λ z. row_at z (total_of_views i (direct_views i (f ∷ []) sources) z))
+        (λ z q e. row_keyed z (total_of_views i (direct_views i (f ∷ []) sources) z) q e) y (members_of i c)
+        (is_member_of i c y m)
 
     direct_count : row_count (row_at y (total_of_facts i (f ∷ []) y)) ≡ 1
     direct_count =
@@ -369,10 +414,15 @@ only g i c sources w agrees x h b (y, m, r) =
         seen true e = refl
         seen false e = absurd (cc)
 
-    merged_count : row_count (row_at y (total_of_views i (direct_views i (f ∷ []) sources) y)) ≡ count (total_by (λ s. cond (by_source g i w c y m x s) (single (pos 1)) None) sources)
+    merged_count : row_count (row_at y (total_of_views i (direct_views i (f ∷ []) sources) y))
+        ≡ count (total_by (λ s. cond (by_source g i w c y m x s) (single (pos 1)) None) sources)
     merged_count = row_count_is y (total_of_views i (direct_views i (f ∷ []) sources) y)
-        ∙ ap count (rows_total i (f ∷ []) sources y ∙ ⊕_none (total_by (λ s. total_by (λ z. value_by i y z f) (members_of i s)) sources)
-        ∙ total_same (λ s. total_by (λ z. value_by i y z f) (members_of i s)) (λ s. cond (by_source g i w c y m x s) (single (pos 1)) None) sources (λ s k. one_by_source g i w c y m x s (single (pos 1))))
+        ∙ ap count
+        (rows_total i (f ∷ []) sources y
+        ∙ ⊕_none (total_by (λ s. total_by (λ z. value_by i y z f) (members_of i s)) sources)
+        ∙ total_same (λ s. total_by (λ z. value_by i y z f) (members_of i s))
+        (λ s. cond (by_source g i w c y m x s) (single (pos 1)) None) sources
+        (λ s k. one_by_source g i w c y m x s (single (pos 1))))
 
     counted : count (total_by (λ s. cond (by_source g i w c y m x s) (single (pos 1)) None) sources) ≡ 1
     counted = sym merged_count ∙ sym (ap row_count rows) ∙ direct_count

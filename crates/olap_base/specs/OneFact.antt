@@ -6,7 +6,7 @@ use Rattle.std.specs.Prelude.{◌≡◌, ◌⊎◌, ℕ, zero, suc, List, [], �
 use Rattle.std.specs.List.{cons_option}
 use Rattle.olap_base.specs.Graph.{Graph}
 use Rattle.olap_base.specs.Instance.{Instance, IsLawful, IsMemberOf, Reaches, ReachesVia}
-use Rattle.olap_base.specs.Summaries.{Summary, of_value}
+use Rattle.olap_base.specs.Summaries.{Summary}
 use Rattle.olap_base.specs.Views.{Fact, direct_rows, direct_views, row_at, rows_from_views}
 
 -- P holds at exactly so many places of the list

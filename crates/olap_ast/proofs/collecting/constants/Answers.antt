@@ -11,7 +11,8 @@ returns c =
     let moved = c.sort_unstable.ensures.permutation in
     let gathered = rw c.new-texts.ensures.items at c.in_ok-gather.ensures in
     rw (c.from_vec.ensures, is) (record {
-      ordered = in_order _ (IsStrictlySortedBy-dedup nat_list_cmp_total texts_ties _ c.sort_unstable.ensures.sorted);
+      ordered =
+          in_order _ (IsStrictlySortedBy-dedup nat_list_cmp_total texts_ties _ c.sort_unstable.ensures.sorted);
       sound = λ text h. rw (← gathered) (Contains-permutation _ _ text (IsPermutation-sym _ _ moved)
           (Contains-from_dedup _ _ text h));
       complete = λ text h. Contains-dedup nat_list_eq_equiv same_text _ text

@@ -6,7 +6,8 @@ use Rattle.olap_ast.proofs.copying.+copy.Goals as goal
 
 pub copy_terms-parts-preserved : goal.copy_terms-parts-preserved
 copy_terms-parts-preserved t c = record {
-  copied = let pushed = parts_before-push c.parts.parts.items c.in_ok-copy.field-0 (terms_of c.in-More.rest.value) in
+  copied = let pushed =
+      parts_before-push c.parts.parts.items c.in_ok-copy.field-0 (terms_of c.in-More.rest.value) in
       grind (arith, common_steps, pushed);
   smaller = grind (arith, common_steps);
 }
