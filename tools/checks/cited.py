@@ -1,0 +1,28 @@
+"""Each path in backticks of a document is there."""
+
+import re
+
+from . import sources
+
+PATH = re.compile(r"`([A-Za-z0-9_.\-]+(?:/[A-Za-z0-9_.+\-]+)+/?)`")
+
+
+def documents():
+    """The documents at the top, in docs/ and examples/, and each crate's."""
+    top = sources.TOP
+    return [*top.glob("*.md"), *top.glob("docs/*.md"), *top.glob("examples/**/*.md"), *top.glob("crates/*/README.md")]
+
+
+def is_there(document, path):
+    """From the top, the document's folder, crates/ or docs/, with or without an ending."""
+    roots = (sources.TOP, document.parent, sources.CRATES, sources.TOP / "docs")
+    return any((root / (path + end)).exists() for root in roots for end in ("", ".antt", ".rt"))
+
+
+def faults():
+    for document in documents():
+        prose = re.sub(r"```.*?```", "", document.read_text(), flags=re.S)
+        for path in PATH.findall(prose):
+            # Words in capitals stand for any name: `proofs/MODULE/FUNCTION/Answers.antt`.
+            if not re.search(r"(^|/)[A-Z_]+(/|$)", path) and not is_there(document, path):
+                yield document, f"no such path: {path}"

@@ -1,0 +1,98 @@
+"""What stands in the crates: functions with the labels of their clauses, exported names, definitions, edits."""
+
+import re
+from dataclasses import dataclass, field
+from functools import cache
+from pathlib import Path
+
+TOP = Path(__file__).resolve().parent.parent.parent
+CRATES = TOP / "crates"
+
+FUNCTION = re.compile(r"( *)(?:pub(?:\([a-z]+\))? )?(?:const )?(?:unsafe )?fn (\w+)")
+BLOCK = re.compile(r"(?:pub )?(impl|trait)\b\s*(?:<[^{]*?>)?\s*([^{;]*)")
+CLAUSE = re.compile(r"\s*ensures (\w*) ?\{")
+
+
+@dataclass
+class Function:
+    """A function of a crate: the type, or the trait, that it belongs to, if any, and the labels of its clauses."""
+
+    name: str
+    module: str
+    owner: str = ""
+    trait: str = ""
+    public: bool = False
+    labels: list = field(default_factory=list)  # an unlabelled clause has the label ""
+
+
+def crate_names():
+    return sorted(folder.name for folder in CRATES.iterdir() if (folder / "src").is_dir())
+
+
+def module_of(crate, file):
+    """The module path of a source file, with slashes; nothing for the root."""
+    path = file.relative_to(CRATES / crate / "src").with_suffix("")
+    return "" if path.name in ("lib", "main") else str(path).removesuffix("/mod")
+
+
+def type_named(text):
+    """The name in front of a type's arguments: `&'a List<T>` is `List`."""
+    found = re.search(r"[A-Za-z_]\w*", re.sub(r"&|'\w+|\bmut\b|\bdyn\b", "", text.split("<")[0].split("::")[-1]))
+    return found.group(0) if found else ""
+
+
+def owner_of(line):
+    """Of a line that opens an impl or a trait: the type or the trait, the trait of an impl, and whether it is a trait's."""
+    kind, rest = BLOCK.match(line).groups()
+    trait, _, owner = re.sub(r"\bwhere\b.*", "", rest).rpartition(" for ")
+    return type_named(owner), type_named(trait), kind == "trait" or bool(trait)
+
+
+@cache
+def functions(crate):
+    """All functions of a crate. Its sources are formatted, so a body ends where a line closes at its indent."""
+    found = []
+    for file in sorted((CRATES / crate / "src").rglob("*.rt")):
+        owner, trait, is_trait, current = "", "", False, None
+        for line in file.read_text().splitlines():
+            if BLOCK.match(line) and not line.startswith(" "):
+                owner, trait, is_trait = owner_of(line)
+            elif line.startswith("}"):
+                owner, trait, is_trait, current = "", "", False, None
+            if head := FUNCTION.match(line):
+                public = is_trait or line.lstrip().startswith("pub fn")
+                current = Function(head.group(2), module_of(crate, file), owner, trait, public)
+                found.append(current)
+            elif current and (clause := CLAUSE.match(line)):
+                current.labels.append(clause.group(1))
+            elif current and re.match(r" *(\{|\{\}|\})$", line):
+                current = None
+    return found
+
+
+@cache
+def exports(crate):
+    """The names that a crate's root file gives to others."""
+    root = CRATES / crate / "src" / "lib.rt"
+    text = re.sub(r"//.*", "", root.read_text()) if root.exists() else ""
+    names = set(re.findall(r"^pub (?:fn|struct|enum|trait|const|type) (\w+)", text, re.M))
+    for used in re.findall(r"^pub use ([^;]*);", text, re.M | re.S):
+        listed = re.search(r"\{(.*)\}", used, re.S)
+        items = listed.group(1).split(",") if listed else [used]
+        names.update(item.split(" as ")[-1].split("::")[-1].strip() for item in items)
+    return names - {""}
+
+
+@cache
+def definitions():
+    """The names that the specs/ of all crates declare, fields and constructors included."""
+    names = set()
+    for file in CRATES.glob("*/specs/**/*.antt"):
+        for line in file.read_text().splitlines():
+            if found := re.match(r" *(?:abbrev |unfoldable )?(?:pub )?(?:record |data )?([^\s:(){}]+)", line):
+                names.add(found.group(1))
+    return names
+
+
+def edits(crate):
+    return {file.stem for file in (CRATES / crate / "must-fail").glob("*.edit")}
