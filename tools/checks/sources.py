@@ -60,7 +60,7 @@ def functions(crate):
             elif line.startswith("}"):
                 owner, trait, is_trait, current = "", "", False, None
             if head := FUNCTION.match(line):
-                public = is_trait or line.lstrip().startswith("pub fn")
+                public = is_trait or line.lstrip().startswith("pub ")
                 current = Function(head.group(2), module_of(crate, file), owner, trait, public)
                 found.append(current)
             elif current and (clause := CLAUSE.match(line)):
