@@ -1,0 +1,32 @@
+"""Each definition that a document quotes stands so in some crate's specs/, spaces, line breaks and remarks aside.
+
+A quote is a block that begins with three backticks and `antt`. Its parts, which a blank line or a remark ends, are looked up
+one by one; the line that gives a function's type may be left out.
+"""
+
+import re
+
+from . import sources
+from .cited import documents
+
+
+def plain(text):
+    """The text without remarks, with one space for all that separates."""
+    return " ".join(re.sub(r"(^|\s)--(\s.*|$)", " ", text, flags=re.M).split())
+
+
+def parts(block):
+    """The parts of a block, as plain text."""
+    for part in re.split(r"\n\s*\n|\n(?=\s*--)", "\n" + block):
+        for equation in re.split(r"\n(?=\S)", part):
+            if plain(equation):
+                yield plain(equation)
+
+
+def faults():
+    defined = [plain(file.read_text()) for file in sources.CRATES.glob("*/specs/**/*.antt")]
+    for document in documents():
+        for block in re.findall(r"^```antt\n(.*?)^```", document.read_text(), re.M | re.S):
+            for part in parts(block):
+                if not any(part in text for text in defined):
+                    yield document, f"no specs/ has this definition: {part[:70]}"
