@@ -1,7 +1,8 @@
 """Each definition that a document quotes stands so in some crate's specs/, spaces, line breaks and remarks aside.
 
 A quote is a block that begins with three backticks and `antt`. Its parts, which a blank line or a remark ends, are looked up
-one by one; the line that gives a function's type may be left out.
+one by one; the line that gives a function's type may be left out. And each name in the last column of the tables of
+docs/DEFINITIONS.md is a definition, or a file of some crate's specs/.
 """
 
 import re
@@ -23,7 +24,19 @@ def parts(block):
                 yield plain(equation)
 
 
+def unknown_names(text):
+    """The names in the last columns of the tables that nothing has."""
+    for row in re.findall(r"^\|.*\|([^|]*)\|$", text, re.M):
+        for name in re.findall(r"`([^`/]+)`", row):
+            is_file = name.endswith(".antt") and list(sources.CRATES.glob(f"*/specs/**/{name}"))
+            if not is_file and name not in sources.definitions():
+                yield name
+
+
 def faults():
+    document = sources.TOP / "docs" / "DEFINITIONS.md"
+    for name in unknown_names(document.read_text()):
+        yield document, f"no such definition: {name}"
     defined = [plain(file.read_text()) for file in sources.CRATES.glob("*/specs/**/*.antt")]
     for document in documents():
         for block in re.findall(r"^```antt\n(.*?)^```", document.read_text(), re.M | re.S):
