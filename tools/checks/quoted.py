@@ -1,8 +1,9 @@
-"""Each definition that a document quotes stands so in some crate's specs/, spaces, line breaks and remarks aside.
+"""Each definition or clause that a document quotes stands so in a crate, spaces, line breaks and remarks aside.
 
 A quote is a block that begins with three backticks and `antt`. Its parts, which a blank line or a remark ends, are looked up
 one by one; the line that gives a function's type may be left out. And each name in the last column of the tables of
-docs/DEFINITIONS.md is a definition, or a file of some crate's specs/.
+docs/DEFINITIONS.md is a definition, or a file of some crate's specs/. A quoted clause is an indented line that begins with
+`ensures`; what stands in it before ` ..` is looked up in the sources.
 """
 
 import re
@@ -33,12 +34,23 @@ def unknown_names(text):
                 yield name
 
 
+def missing_clauses(text):
+    """The quoted clauses of a document that no source has."""
+    written = [plain(file.read_text()) for file in sources.CRATES.glob("*/src/**/*.rt")]
+    for clause in re.findall(r"^ {8,}(ensures .*)$", text, re.M):
+        start = plain(clause).split(" ..")[0]
+        if not any(start in source for source in written):
+            yield start
+
+
 def faults():
     document = sources.TOP / "docs" / "DEFINITIONS.md"
     for name in unknown_names(document.read_text()):
         yield document, f"no such definition: {name}"
     defined = [plain(file.read_text()) for file in sources.CRATES.glob("*/specs/**/*.antt")]
     for document in documents():
+        for clause in missing_clauses(document.read_text()):
+            yield document, f"no source has this clause: {clause}"
         for block in re.findall(r"^```antt\n(.*?)^```", document.read_text(), re.M | re.S):
             for part in parts(block):
                 if not any(part in text for text in defined):
