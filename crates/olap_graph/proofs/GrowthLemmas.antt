@@ -8,6 +8,7 @@ use Rattle.std.proofs.lemmas.List.Elements.{Contains-get_or, Contains-push_cases
 use Rattle.std.proofs.lemmas.List.Quantifiers.{all_pairs_push}
 use Rattle.olap_base.specs.Deciding.{contains_cons}
 use Rattle.olap_base.specs.Graph.{Edge, Graph, HasEdge, IsCategory, IsCategoryName, category_count}
+use Rattle.olap_base.specs.Limits.{most_categories, most_edges, most_text_bytes}
 use Rattle.olap_base.proofs.ListLemmas.{contains_head}
 use Rattle.olap_graph.specs.declared.listing.Ends.{Ends}
 use Rattle.olap_graph.specs.Lookups.{category_named, edge_between, joins}
@@ -22,15 +23,15 @@ differ_push xs x a new =
 
 -- ---- one more category
 
-pub limits-with_category : (g : Graph) (name : List ℕ) → IsWithinLimits g → category_count g < 64
-    → length name ≤ 255 → IsWithinLimits (with_category g name)
+pub limits-with_category : (g : Graph) (name : List ℕ) → IsWithinLimits g → category_count g < most_categories
+    → length name ≤ most_text_bytes → IsWithinLimits (with_category g name)
 limits-with_category g name w few short = record {
   few = omega (arith, length_push g.names name);
   few_edges = w.few_edges;
   short_names =
       λ n c. elim (Contains-push_cases g.names name n c) [
         | inl d ↦ w.short_names n d
-        | inr e ↦ subst (λ x. length x ≤ 255) e short
+        | inr e ↦ subst (λ x. length x ≤ most_text_bytes) e short
       ];
 }
 
@@ -57,7 +58,7 @@ unfinished-with_category g name u n none = record {
 
 -- ---- one more edge
 
-pub limits-with_edge : (g : Graph) (c d : ℕ) → IsWithinLimits g → length g.edges < 256
+pub limits-with_edge : (g : Graph) (c d : ℕ) → IsWithinLimits g → length g.edges < most_edges
     → IsWithinLimits (with_edge g c d)
 limits-with_edge g c d w few = record {
   few = w.few;

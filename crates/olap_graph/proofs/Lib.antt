@@ -1,6 +1,6 @@
 -- Lemmas.
 pub mod PlaceLemmas
-mod GrowthLemmas
+pub mod GrowthLemmas
 mod MarkingLemmas
 mod TableLemmas
 mod EdgeLemmas

@@ -6,6 +6,7 @@
 --     IsFirstWithoutWay    the first declared category that doesn't reach `All`
 use Rattle.std.specs.Prelude.{◌≡◌, ◌≢◌, ℕ, ◌<◌, ◌≤◌, List, [], ◌∷◌, ◌++◌, length, AllPairs, Contains, codes, Option, Some, None, is_some, nat_le, if◌then◌else◌, ◌==◌}
 use Rattle.olap_base.specs.Graph.{Graph, category_count, IsCategory, IsDeclared, HasEdge, CategoryReaches, IsCategoryName}
+use Rattle.olap_base.specs.Limits.{most_categories, most_edges, most_text_bytes}
 use Rattle.olap_graph.specs.Lookups.{category_named, edge_between}
 use Rattle.olap_graph.specs.declared.refusals.CategoryRefusal.{CategoryRefusal}
 use Rattle.olap_graph.specs.declared.refusals.CategoryRefusal.TheVariants as of_category
@@ -14,11 +15,11 @@ use Rattle.olap_graph.specs.declared.refusals.EdgeRefusal.TheVariants as of_edge
 use Rattle.olap_graph.specs.declared.refusals.GraphRefusal.{GraphRefusal}
 use Rattle.olap_graph.specs.declared.refusals.GraphRefusal.TheVariants as of_graph
 
--- at most 64 categories, `All` included, at most 256 edges, and names of at most 255 bytes
+-- no more categories, edges and bytes of a name than there may be
 pub record IsWithinLimits (g : Graph) : Type 0 where
-  pub few : category_count g ≤ 64
-  pub few_edges : length g.edges ≤ 256
-  pub short_names : (name : List ℕ) → Contains g.names name → length name ≤ 255
+  pub few : category_count g ≤ most_categories
+  pub few_edges : length g.edges ≤ most_edges
+  pub short_names : (name : List ℕ) → Contains g.names name → length name ≤ most_text_bytes
 
 -- names and edges differ, and no edge is a loop or leaves `All`
 pub record IsUnfinished (g : Graph) : Type 0 where
@@ -45,7 +46,7 @@ with_edge g c d = record g { edges = g.edges ++ record { child = c; parent = d }
 abbrev pub category_refusal : Graph → List ℕ → Option CategoryRefusal
 category_refusal g name =
     if is_some (category_named g name) then Some of_category.DuplicateCategory
-    else if nat_le 64 (category_count g) then Some of_category.TooManyCategories
+    else if nat_le most_categories (category_count g) then Some of_category.TooManyCategories
     else None
 
 -- the first reason to refuse an edge from c to d
@@ -54,7 +55,7 @@ edge_refusal g c d =
     if c == d then Some of_edge.SelfEdge
     else if c == 0 then Some of_edge.EdgeFromAll
     else if is_some (edge_between g c d) then Some of_edge.DuplicateEdge
-    else if nat_le 256 (length g.edges) then Some of_edge.TooManyEdges
+    else if nat_le most_edges (length g.edges) then Some of_edge.TooManyEdges
     else None
 
 -- why a category is refused: want of memory, or the first reason

@@ -1,6 +1,9 @@
 -- Definitions that contracts cite.
+
+-- What a reader of the claims believes.
 pub mod Lookups
 pub mod Building
+-- The inside: the lists and tables behind a graph, and the search for what a category reaches.
 pub mod Listing
 pub mod Tables
 pub mod Marking

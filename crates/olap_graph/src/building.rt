@@ -2,12 +2,13 @@
 ghost use Rattle.std.specs.Prelude.{◌≡◌, ◌↔◌, ◌≤◌, ℕ, None, length, IfOk, IfErr, IfSome, OnErr, IsSome};
 ghost use Rattle.std.specs.Option.{option_map};
 ghost use Rattle.olap_base.specs.Graph.{IsCategory, IsCategoryName, HasEdge, CategoryReaches, category_count};
+ghost use Rattle.olap_base.specs.Limits.{most_text_bytes};
 ghost use Rattle.olap_graph.specs.Lookups.{category_named, edge_between};
 ghost use Rattle.olap_graph.specs.Building.{all_alone, with_category, with_edge, category_refusal, edge_refusal, IsCategoryCause, IsEdgeCause, IsGraphCause};
 
-use crate::listing::{Ends, MOST_CATEGORIES, MOST_EDGES, joining, named};
+use crate::listing::{Ends, joining, named};
 use crate::{CategoryRefusal, EdgeRefusal, Graph, GraphRefusal};
-use olap_base::{CatId, EdgeId, Memory, Text};
+use olap_base::{CatId, EdgeId, MOST_CATEGORIES, MOST_EDGES, Memory, Text};
 use std::alloc::Global;
 use std::marker::Model;
 
@@ -48,7 +49,7 @@ impl GraphBuilder {
     /// Adds a category, and says which it is.
     pub fn add_category(&mut self, name: Text) -> Result<CatId, CategoryRefusal>
         requires name { IsCategoryName name }
-        requires short { length name ≤ 255 }
+        requires short { length name ≤ most_text_bytes }
         ensures ok { IfOk result (λ c. category_refusal self.old name ≡ None) }
         ensures number { IfOk result (λ c. c.0 ≡ category_count self.old) }
         ensures added { IfOk result (λ _. self.new ≡ with_category self.old name) }

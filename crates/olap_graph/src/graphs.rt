@@ -2,6 +2,7 @@
 ghost use Rattle.std.specs.Prelude.{◌≡◌, ◌↔◌, ◌≤◌, ◌<◌, ℕ, [], slice_index_or, length, map, All, IfOk, IfErr, IfSome, IfNone, IsSome, IsTrue};
 ghost use Rattle.std.specs.Option.{option_map};
 ghost use Rattle.olap_base.specs.Graph.{IsCategory, IsDeclared, IsBottom, IsHierarchy, HasEdge, CategoryReaches, category_count};
+ghost use Rattle.olap_base.specs.Limits.{most_categories, most_edges};
 ghost use Rattle.olap_graph.specs.Lookups.{category_named, name_of_category, edge_between, edge_at, edges_from};
 ghost use Rattle.olap_graph.specs.Building.{IsWithinLimits, IsUnfinished, IsGraphCause};
 ghost use Rattle.olap_graph.specs.Listing.{graph_of, IsHeaded};
@@ -37,7 +38,7 @@ impl Model for Graph {
 
 /// The first category but `All` whose row has no mark for `All`.
 fn first_unmarked(rows: &[List<bool>]) -> Option<CatId>
-    requires few { length rows.now ≤ 64 }
+    requires few { length rows.now ≤ most_categories }
     requires some { (c : ℕ) → c < length rows.now → 0 < length (slice_index_or rows.now c []) }
     ensures some { IfSome result (IsFirstUnmarked rows.now) }
     ensures none { IfNone result (AreAllMarked rows.now) }
@@ -79,7 +80,7 @@ impl Graph {
     /// How many categories there are, `All` included.
     pub fn categories(&self) -> u16
         ensures count { result ≡ category_count self.now }
-        ensures few { category_count self.now ≤ 64 }
+        ensures few { category_count self.now ≤ most_categories }
         ensures limits { IsWithinLimits self.now }
         ensures hierarchy { IsHierarchy self.now }
     {
@@ -89,7 +90,7 @@ impl Graph {
     /// How many edges there are.
     pub fn edges(&self) -> u16
         ensures count { result ≡ length self.now.edges }
-        ensures few { length self.now.edges ≤ 256 }
+        ensures few { length self.now.edges ≤ most_edges }
     {
         self.edges.len() as u16
     }

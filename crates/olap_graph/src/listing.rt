@@ -2,6 +2,7 @@
 ghost use Rattle.std.specs.Prelude.{◌≡◌, ◌≤◌, ◌<◌, ◌&&◌, length, map, All, Contains, IfOk, IfSome, IfNone};
 ghost use Rattle.std.specs.Option.{option_map};
 ghost use Rattle.std.specs.List.{position_from};
+ghost use Rattle.olap_base.specs.Limits.{most_categories, most_edges};
 ghost use Rattle.olap_base.specs.Naming.{place_of};
 ghost use Rattle.olap_graph.specs.Lookups.{joins, edge_at};
 ghost use Rattle.olap_graph.specs.Listing.{edge_of};
@@ -10,12 +11,6 @@ ghost use Rattle.olap_graph.specs.Marking.{parents_of};
 
 use olap_base::{CatId, EdgeId, Memory, Text};
 use std::alloc::Global;
-
-/// The most categories, `All` included.
-pub(crate) const MOST_CATEGORIES: usize = 64;
-
-/// The most edges.
-pub(crate) const MOST_EDGES: usize = 256;
 
 /// The ends of an edge.
 #[derive(Clone, Copy, Debug, PartialEq, Eq)]
@@ -35,7 +30,7 @@ impl Ends {
 
 /// The category of that name.
 pub(crate) fn named(names: &[Text], name: &[u8]) -> Option<CatId>
-    requires { length names.now ≤ 64 }
+    requires { length names.now ≤ most_categories }
     ensures { option_map (λ c. c.0) result ≡ place_of name.now names.now }
 {
     for (i, text) in names.iter().enumerate() {
@@ -48,7 +43,7 @@ pub(crate) fn named(names: &[Text], name: &[u8]) -> Option<CatId>
 
 /// The edge with these ends.
 pub(crate) fn joining(edges: &[Ends], child: CatId, parent: CatId) -> Option<EdgeId>
-    requires { length edges.now ≤ 256 }
+    requires { length edges.now ≤ most_edges }
     ensures { option_map (λ e. e.0) result
         ≡ position_from (joins child.0 parent.0) 0 (map edge_of edges.now) }
 {

@@ -7,7 +7,7 @@ use std::alloc::{AllocError, AllocFailed};
 pub enum CategoryRefusal {
     /// The name is declared, or is `All`.
     DuplicateCategory,
-    /// There are 64 categories, `All` included.
+    /// There are `MOST_CATEGORIES`, `All` included.
     TooManyCategories,
     /// Want of memory.
     Memory,
@@ -22,7 +22,7 @@ pub enum EdgeRefusal {
     EdgeFromAll,
     /// The graph has it.
     DuplicateEdge,
-    /// There are 256 edges.
+    /// There are `MOST_EDGES`.
     TooManyEdges,
     /// Want of memory.
     Memory,

@@ -1,5 +1,6 @@
 // What a finished graph keeps beside its lists, so that each look-up is quick.
 ghost use Rattle.std.specs.Prelude.{◌≡◌, ◌≤◌, ◌<◌, length, map, IfOk};
+ghost use Rattle.olap_base.specs.Limits.{most_edges};
 ghost use Rattle.olap_graph.specs.Lookups.{edges_from};
 ghost use Rattle.olap_graph.specs.Tables.{drawn, AreOut, AreBottoms, LiesWithin};
 
@@ -18,7 +19,7 @@ pub(crate) struct Tables {
 
 /// The edges out of the category.
 fn edges_out(alloc: Global, edges: &[Ends], category: u16) -> Result<List<EdgeId>, Memory>
-    requires { length edges.now ≤ 256 }
+    requires { length edges.now ≤ most_edges }
     ensures { IfOk result (λ out. map (λ e. e.0) out ≡ edges_from (drawn edges.now) category) }
 {
     let mut out = Vec::new(alloc);
@@ -32,7 +33,7 @@ fn edges_out(alloc: Global, edges: &[Ends], category: u16) -> Result<List<EdgeId
 
 /// For each category the edges out of it.
 fn all_out(alloc: Global, edges: &[Ends], count: u16) -> Result<Vec<List<EdgeId>>, Memory>
-    requires { length edges.now ≤ 256 }
+    requires { length edges.now ≤ most_edges }
     ensures { IfOk result (λ out. AreOut (drawn edges.now) count out.items) }
 {
     let mut out = Vec::new(alloc);
@@ -61,7 +62,7 @@ impl Tables {
 
     /// The tables of a graph with that many categories and these edges.
     pub(crate) fn of(alloc: Global, edges: &[Ends], count: u16) -> Result<Tables, Memory>
-        requires few { length edges.now ≤ 256 }
+        requires few { length edges.now ≤ most_edges }
         requires some { 0 < count }
         requires within { LiesWithin (drawn edges.now) count }
         ensures { IfOk result (AreTables (drawn edges.now) count) }

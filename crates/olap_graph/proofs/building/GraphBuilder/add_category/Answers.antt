@@ -1,5 +1,6 @@
 use Rattle.std.proofs.Common.{◌≡◌, ◌<◌, None, subst, sym, ap, ◌∙◌, arith}
 use Rattle.olap_base.specs.Graph.{Graph, category_count}
+use Rattle.olap_base.specs.Limits.{most_categories}
 use Rattle.olap_graph.specs.Lookups.{category_named}
 use Rattle.olap_graph.specs.Building.{IsWithinLimits, IsUnfinished, with_category}
 use Rattle.olap_graph.specs.Listing.{IsHeaded, graph_of}
@@ -17,7 +18,7 @@ invariant_of-self-2 c =
     let old : Graph = built c.self.inside in
     let grown : graph_of c.push.new.self.items ends ≡ with_category old name =
     ap (λ ns. graph_of ns ends) c.in_ok-push.ensures.items ∙ graph_of-category names ends name headed in
-    let few : category_count old < 64 = let l = headed_length names ends headed in omega arith in
+    let few : category_count old < most_categories = let l = headed_length names ends headed in omega arith in
     let none : category_named old name ≡ None =
     nothing (λ k. k.0) c.category.result (category_named old name)
     (c.category.ensures.place ∙ ap (category_named c.args.self.now) c.bytes.ensures ∙ ap

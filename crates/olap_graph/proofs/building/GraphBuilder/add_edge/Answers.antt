@@ -1,6 +1,7 @@
 use Rattle.std.proofs.Common.{◌≡◌, ◌<◌, ◌≢◌, None, length, subst, sym, ap, ◌∙◌, arith}
 use Rattle.std.proofs.lemmas.List.{length-map}
 use Rattle.olap_base.specs.Graph.{Graph, IsCategory}
+use Rattle.olap_base.specs.Limits.{most_edges}
 use Rattle.olap_graph.specs.Lookups.{edge_between}
 use Rattle.olap_graph.specs.Building.{IsWithinLimits, IsUnfinished, with_edge}
 use Rattle.olap_graph.specs.Listing.{edge_of, graph_of}
@@ -18,7 +19,7 @@ invariant_of-self-2 c =
     let grown : graph_of names c.push.new.self.items ≡ with_edge old child parent =
     ap (graph_of names) c.in_ok-push.ensures.items
     ∙ graph_of-edge names a.edges.items (record { child = c.args.child; parent = c.args.parent }) in
-    let few : length old.edges < 256 = let l = length-map a.edges.items edge_of in omega arith in
+    let few : length old.edges < most_edges = let l = length-map a.edges.items edge_of in omega arith in
     let none : edge_between old child parent ≡ None =
     nothing (λ e. e.0) c.edge.result (edge_between old child parent)
     (c.edge.ensures.place ∙ ap (λ (g : Graph). edge_between g child parent) (sym c.self.view_is))
