@@ -5,8 +5,8 @@ use Rattle.olap_grammar.specs.Cutting.{IsCut}
 use Rattle.olap_grammar.specs.CuttingMachine.{Cut, Between, Stuck, cut_step, tokens_of}
 use Rattle.olap_grammar.specs.Cutter.{CutsTo, FailsWith}
 use Rattle.olap_grammar.specs.declared.tokens.Token.{Token}
-use Rattle.olap_grammar.specs.declared.refusals.FormRefusal.{FormRefusal}
-use Rattle.olap_grammar.specs.declared.refusals.FormRefusal.TheVariants as refusal
+use Rattle.olap_grammar.specs.declared.refusals.CutRefusal.{CutRefusal}
+use Rattle.olap_grammar.specs.declared.refusals.CutRefusal.TheVariants as refusal
 use Rattle.olap_grammar.proofs.CutComplete.{cut_is_found}
 
 stays_stuck : (bs : List ℕ) → fold cut_step Stuck bs ≡ Stuck
@@ -14,13 +14,12 @@ stays_stuck [] = refl
 stays_stuck (b ∷ bs) = stays_stuck bs
 
 -- where a step fails, the line can't be cut
-pub cut_fails : (e : FormRefusal) (old ts : List Token) (next : Cut) (line bs : List ℕ)
+pub cut_fails : (e : CutRefusal) (old ts : List Token) (next : Cut) (line bs : List ℕ)
     → fold cut_step (Between old) line ≡ fold cut_step next bs → CutsTo (Err e) ts next → old ≡ []
     → FailsWith e (tokens_of line)
 unfolding tokens_of
 cut_fails refusal.BadForm old ts next line bs i h z =
     let j : fold cut_step (Between []) line ≡ fold cut_step next bs = rw z at i in rw (j, h, stays_stuck bs) refl
-cut_fails refusal.TooDeep old ts next line bs i h z = h
 cut_fails refusal.Memory old ts next line bs i h z = tt
 
 pub one_cut : (line : List ℕ) (ts us : List Token) → IsCut line ts → IsCut line us → ts ≡ us

@@ -1,9 +1,10 @@
 -- What keeps the operations keeps what is read.
-use Rattle.std.proofs.Common.{◌≡◌, ◌+◌, ◌≤◌, ℕ, Bool, true, false, List, [], ◌∷◌, refl, sym, ap, ◌∙◌, Option, Some, None, cond, nat_le, max, arith, option_and_then}
+use Rattle.std.proofs.Common.{◌≡◌, ◌+◌, ◌≤◌, ◌<◌, ℕ, suc, Bool, true, false, List, [], ◌∷◌, refl, sym, ap, ◌∙◌, Option, Some, None, cond, nat_le, max, arith, option_and_then}
 use Rattle.std.specs.Option.{option_map}
 use Rattle.std.specs.List.{fold}
 use Rattle.olap_ast.specs.Formula as Meaning
 use Rattle.olap_ast.specs.Formula.{Formula, Terms}
+use Rattle.olap_base.specs.Limits.{most_depth}
 use Rattle.olap_grammar.specs.Grammar.{Atoms, level, left_level, join}
 use Rattle.olap_ast.specs.Valid.{depth_of, depth_of_terms}
 use Rattle.olap_grammar.specs.declared.tokens.Token.{Token}
@@ -219,51 +220,51 @@ joins_depth joint.Xor f g = refl
 joins_depth joint.Or f g = refl
 joins_depth joint.And f g = refl
 
-deep : (d : ℕ) (f : Formula) → nat_le d 64 ≡ false → kept d f ≡ (65, Meaning.Formula.Truth)
+deep : (d : ℕ) (f : Formula) → nat_le d most_depth ≡ false → kept d f ≡ (suc most_depth, Meaning.Formula.Truth)
 deep d f e = rw e refl
 
-deep_terms : (d : ℕ) (fs : Terms) → nat_le d 64 ≡ false → kept_terms d fs ≡ (65, Meaning.Terms.End)
+deep_terms : (d : ℕ) (fs : Terms) → nat_le d most_depth ≡ false → kept_terms d fs ≡ (suc most_depth, Meaning.Terms.End)
 deep_terms d fs e = rw e refl
 
-too_deep : (c d : ℕ) → c ≤ d → nat_le c 64 ≡ false → nat_le d 64 ≡ false
+too_deep : (c d : ℕ) → c ≤ d → nat_le c most_depth ≡ false → nat_le d most_depth ≡ false
 too_deep c d l h = grind (arith)
 
-over : (d : ℕ) → 65 ≤ d → nat_le d 64 ≡ false
+over : (d : ℕ) → most_depth < d → nat_le d most_depth ≡ false
 over d h = grind (arith)
 
 negates : (f : Formula) → clipped.negate (clip f) ≡ clip (Meaning.Formula.Not f)
-negates f = go (nat_le (depth_of f) 64) refl
+negates f = go (nat_le (depth_of f) most_depth) refl
   where
-    go : (r : Bool) → nat_le (depth_of f) 64 ≡ r → clipped.negate (clip f) ≡ clip (Meaning.Formula.Not f)
+    go : (r : Bool) → nat_le (depth_of f) most_depth ≡ r → clipped.negate (clip f) ≡ clip (Meaning.Formula.Not f)
     go true e = rw e refl
     go false e =
         rw e (sym
         (deep (1 + depth_of f) (Meaning.Formula.Not f) (too_deep (depth_of f) (1 + depth_of f) (omega arith) e)))
 
 ones : (fs : Terms) → clipped.one (clip_terms fs) ≡ clip (Meaning.Formula.One fs)
-ones fs = go (nat_le (depth_of_terms fs) 64) refl
+ones fs = go (nat_le (depth_of_terms fs) most_depth) refl
   where
-    go : (r : Bool) → nat_le (depth_of_terms fs) 64 ≡ r → clipped.one (clip_terms fs) ≡ clip (Meaning.Formula.One fs)
+    go : (r : Bool) → nat_le (depth_of_terms fs) most_depth ≡ r → clipped.one (clip_terms fs) ≡ clip (Meaning.Formula.One fs)
     go true e = rw e refl
     go false e =
         rw e (sym (deep (1 + depth_of_terms fs) (Meaning.Formula.One fs)
         (too_deep (depth_of_terms fs) (1 + depth_of_terms fs) (omega arith) e)))
 
 joins : (j : Joint) (f g : Formula) → clipped.join j (clip f) (clip g) ≡ clip (join j f g)
-joins j f g = go (nat_le (depth_of f) 64) (nat_le (depth_of g) 64) refl refl
+joins j f g = go (nat_le (depth_of f) most_depth) (nat_le (depth_of g) most_depth) refl refl
   where
-    go : (r q : Bool) → nat_le (depth_of f) 64 ≡ r → nat_le (depth_of g) 64 ≡ q
+    go : (r q : Bool) → nat_le (depth_of f) most_depth ≡ r → nat_le (depth_of g) most_depth ≡ q
         → clipped.join j (clip f) (clip g) ≡ clip (join j f g)
     go true true e u = rw (e, u, joins_depth j f g) refl
     go true false e u =
-        let l = deep (1 + max (depth_of f) 65) (join j f Meaning.Formula.Truth)
-        (over (1 + max (depth_of f) 65) (omega arith)) in
+        let l = deep (1 + max (depth_of f) (suc most_depth)) (join j f Meaning.Formula.Truth)
+        (over (1 + max (depth_of f) (suc most_depth)) (omega arith)) in
         rw (e, u, joins_depth j f g)
         (l ∙ sym (deep (1 + max (depth_of f) (depth_of g)) (join j f g)
         (too_deep (depth_of g) (1 + max (depth_of f) (depth_of g)) (omega arith) u)))
     go false true e u =
-        let l = deep (1 + max 65 (depth_of g)) (join j Meaning.Formula.Truth g)
-        (over (1 + max 65 (depth_of g)) (omega arith)) in
+        let l = deep (1 + max (suc most_depth) (depth_of g)) (join j Meaning.Formula.Truth g)
+        (over (1 + max (suc most_depth) (depth_of g)) (omega arith)) in
         rw (e, u, joins_depth j f g)
         (l ∙ sym (deep (1 + max (depth_of f) (depth_of g)) (join j f g)
         (too_deep (depth_of f) (1 + max (depth_of f) (depth_of g)) (omega arith) e)))
@@ -273,20 +274,20 @@ joins j f g = go (nat_le (depth_of f) 64) (nat_le (depth_of g) 64) refl refl
         (too_deep (depth_of f) (1 + max (depth_of f) (depth_of g)) (omega arith) e)))
 
 mores : (f : Formula) (fs : Terms) → clipped.more (clip f) (clip_terms fs) ≡ clip_terms (Meaning.Terms.More f fs)
-mores f fs = go (nat_le (depth_of f) 64) (nat_le (depth_of_terms fs) 64) refl refl
+mores f fs = go (nat_le (depth_of f) most_depth) (nat_le (depth_of_terms fs) most_depth) refl refl
   where
-    go : (r q : Bool) → nat_le (depth_of f) 64 ≡ r → nat_le (depth_of_terms fs) 64 ≡ q
+    go : (r q : Bool) → nat_le (depth_of f) most_depth ≡ r → nat_le (depth_of_terms fs) most_depth ≡ q
         → clipped.more (clip f) (clip_terms fs) ≡ clip_terms (Meaning.Terms.More f fs)
     go true true e u = rw (e, u) refl
     go true false e u =
-        let l = deep_terms (max (depth_of f) 65) (Meaning.Terms.More f Meaning.Terms.End)
-        (over (max (depth_of f) 65) (omega arith)) in
+        let l = deep_terms (max (depth_of f) (suc most_depth)) (Meaning.Terms.More f Meaning.Terms.End)
+        (over (max (depth_of f) (suc most_depth)) (omega arith)) in
         rw (e, u)
         (l ∙ sym (deep_terms (max (depth_of f) (depth_of_terms fs)) (Meaning.Terms.More f fs)
         (too_deep (depth_of_terms fs) (max (depth_of f) (depth_of_terms fs)) (omega arith) u)))
     go false true e u =
-        let l = deep_terms (max 65 (depth_of_terms fs)) (Meaning.Terms.More Meaning.Formula.Truth fs)
-        (over (max 65 (depth_of_terms fs)) (omega arith)) in
+        let l = deep_terms (max (suc most_depth) (depth_of_terms fs)) (Meaning.Terms.More Meaning.Formula.Truth fs)
+        (over (max (suc most_depth) (depth_of_terms fs)) (omega arith)) in
         rw (e, u)
         (l ∙ sym (deep_terms (max (depth_of f) (depth_of_terms fs)) (Meaning.Terms.More f fs)
         (too_deep (depth_of f) (max (depth_of f) (depth_of_terms fs)) (omega arith) e)))

@@ -1,5 +1,5 @@
 -- Atoms have depth 1, and what the reader built says what it read.
-use Rattle.std.proofs.Common.{◌≡◌, ◌≤◌, ◌<◌, ℕ, Bool, true, false, cond, List, refl, sym, ap, ◌∙◌, Option, Some, None, Ok, Err, nat_le, nat_lt, length, not, drop, map, codes, arith}
+use Rattle.std.proofs.Common.{◌≡◌, ◌≤◌, ◌<◌, ℕ, suc, Bool, true, false, cond, List, refl, sym, ap, ◌∙◌, Option, Some, None, Ok, Err, nat_le, nat_lt, length, not, drop, map, codes, arith}
 use Rattle.std.specs.Prelude.{◌==◌, slice_index_or, []}
 use Rattle.std.specs.List.{list_all}
 use Rattle.std.specs.Str.{bytes_eq}
@@ -9,6 +9,7 @@ use Rattle.olap_base.specs.Graph.{Graph}
 use Rattle.olap_ast.specs.Formula as Meaning
 use Rattle.olap_ast.specs.Formula.{Formula}
 use Rattle.olap_ast.specs.Valid.{depth_of}
+use Rattle.olap_base.specs.Limits.{most_depth}
 use Rattle.olap_grammar.specs.Answering.{IsRefusal, formula_answer}
 use Rattle.olap_grammar.specs.Clip.{AreLeaves, clip}
 use Rattle.olap_grammar.specs.Reader.{Built, Ends}
@@ -65,32 +66,32 @@ atoms_are_leaves g = record { plain = λ w f e. plain_leaf g w f e; equal = λ w
 -- ---- what was built
 
 abbrev chosen : Bool → Formula → Built
-chosen b g = cond b (depth_of g, g) (65, Meaning.Formula.Truth)
+chosen b g = cond b (depth_of g, g) (suc most_depth, Meaning.Formula.Truth)
 
 built : (g : Formula) (b : Bool) (d : ℕ) (f : Formula) → Some (chosen b g) ≡ Some (d, f) → chosen b g ≡ (d, f)
 built g b d f p = cc
 
-pub too_deep : (o : Option Formula) (d : ℕ) (f : Formula) → option_map clip o ≡ Some (d, f) → 64 < d
+pub too_deep : (o : Option Formula) (d : ℕ) (f : Formula) → option_map clip o ≡ Some (d, f) → most_depth < d
     → formula_answer o ≡ Err refusal.TooDeep
 too_deep None d f e h = absurd cc
-too_deep (Some g) d f e h = go (nat_le (depth_of g) 64) refl e
+too_deep (Some g) d f e h = go (nat_le (depth_of g) most_depth) refl e
   where
-    go : (b : Bool) → nat_le (depth_of g) 64 ≡ b → Some (chosen b g) ≡ Some (d, f)
+    go : (b : Bool) → nat_le (depth_of g) most_depth ≡ b → Some (chosen b g) ≡ Some (d, f)
         → formula_answer (Some g) ≡ Err refusal.TooDeep
     go true q p =
         let s : depth_of g ≡ d = ap (λ (r : Built). r.0) (built g true d f p) in
-        let l : depth_of g ≤ 64 = grind (arith, q) in
+        let l : depth_of g ≤ most_depth = grind (arith, q) in
         absurd (omega arith)
     go false q p = rw q refl
 
-pub not_deep : (o : Option Formula) (d : ℕ) (f : Formula) → option_map clip o ≡ Some (d, f) → d ≤ 64
+pub not_deep : (o : Option Formula) (d : ℕ) (f : Formula) → option_map clip o ≡ Some (d, f) → d ≤ most_depth
     → formula_answer o ≡ Ok f
 not_deep None d f e h = absurd cc
-not_deep (Some g) d f e h = go (nat_le (depth_of g) 64) refl e
+not_deep (Some g) d f e h = go (nat_le (depth_of g) most_depth) refl e
   where
-    go : (b : Bool) → nat_le (depth_of g) 64 ≡ b → Some (chosen b g) ≡ Some (d, f) → formula_answer (Some g) ≡ Ok f
+    go : (b : Bool) → nat_le (depth_of g) most_depth ≡ b → Some (chosen b g) ≡ Some (d, f) → formula_answer (Some g) ≡ Ok f
     go true q p = let s : g ≡ f = ap (λ (r : Built). r.1) (built g true d f p) in rw q (ap Ok s)
-    go false q p = let s : 65 ≡ d = ap (λ (r : Built). r.0) (built g false d f p) in absurd (omega arith)
+    go false q p = let s : suc most_depth ≡ d = ap (λ (r : Built). r.0) (built g false d f p) in absurd (omega arith)
 
 pub no_formula : (o : Option Formula) → option_map clip o ≡ None → formula_answer o ≡ Err refusal.BadForm
 no_formula None e = refl

@@ -1,12 +1,12 @@
 -- Lemmas.
 pub mod Levels
-pub mod Complete
+mod Complete
 pub mod Sound
-pub mod Hom
+mod Hom
 pub mod CutComplete
 pub mod CutSound
-pub mod CutterLemmas
-pub mod StackLemmas
+mod CutterLemmas
+mod StackLemmas
 pub mod ReaderLemmas
 pub mod WordLemmas
 pub mod LeafLemmas

@@ -7,13 +7,14 @@ use Rattle.olap_ast.specs.Formula as Meaning
 use Rattle.olap_ast.specs.Trees.{formula_of}
 use Rattle.olap_ast.specs.Valid.{depth_of}
 use Rattle.olap_ast.specs.declared.formulas.Formula.{Formula}
+use Rattle.olap_base.specs.Limits.{most_depth}
 use Rattle.olap_grammar.specs.declared.refusals.FormRefusal.{FormRefusal}
 use Rattle.olap_grammar.specs.declared.refusals.FormRefusal.TheVariants as refusal
 
--- the formula that was read, if it is one and is no deeper than 64
+-- the formula that was read, if it is one and is no deeper than one may be
 abbrev pub formula_answer : Option Meaning.Formula → Result Meaning.Formula FormRefusal
 formula_answer None = Err refusal.BadForm
-formula_answer (Some f) = cond (nat_le (depth_of f) 64) (Ok f) (Err refusal.TooDeep)
+formula_answer (Some f) = cond (nat_le (depth_of f) most_depth) (Ok f) (Err refusal.TooDeep)
 
 -- want of memory, or that reason
 abbrev pub IsRefusal : {A : Type 0} → FormRefusal → Result A FormRefusal → Type 0

@@ -1,18 +1,19 @@
--- A formula that is built only as far as it is no deeper than 64, with its depth.
-use Rattle.std.specs.Prelude.{◌≡◌, ◌+◌, ℕ, List, Some, cond, nat_le, max}
+-- A formula that is built only as far as it is no deeper than a formula may be, with its depth.
+use Rattle.std.specs.Prelude.{◌≡◌, ◌+◌, ℕ, suc, List, Some, cond, nat_le, max}
 use Rattle.std.specs.Option.{option_map}
 use Rattle.olap_ast.specs.Formula as Meaning
 use Rattle.olap_ast.specs.Formula.{Formula, Terms}
 use Rattle.olap_ast.specs.Valid.{depth_of, depth_of_terms}
+use Rattle.olap_base.specs.Limits.{most_depth}
 use Rattle.olap_grammar.specs.Grammar.{Atoms, join}
 use Rattle.olap_grammar.specs.Machine.{Making}
 
--- a depth up to 64 and the tree, or 65 and no tree to speak of
+-- a depth up to the most there may be and the tree, or one more and no tree to speak of
 abbrev pub kept : ℕ → Formula → ℕ × Formula
-kept d f = cond (nat_le d 64) (d, f) (65, Meaning.Formula.Truth)
+kept d f = cond (nat_le d most_depth) (d, f) (suc most_depth, Meaning.Formula.Truth)
 
 abbrev pub kept_terms : ℕ → Terms → ℕ × Terms
-kept_terms d fs = cond (nat_le d 64) (d, fs) (65, Meaning.Terms.End)
+kept_terms d fs = cond (nat_le d most_depth) (d, fs) (suc most_depth, Meaning.Terms.End)
 
 abbrev pub clip : Formula → ℕ × Formula
 clip f = kept (depth_of f) f
@@ -20,7 +21,7 @@ clip f = kept (depth_of f) f
 abbrev pub clip_terms : Terms → ℕ × Terms
 clip_terms fs = kept_terms (depth_of_terms fs) fs
 
--- formulas are put together as far as they are no deeper than 64
+-- formulas are put together as far as they are no deeper than one may be
 abbrev pub clipped : Making (ℕ × Formula) (ℕ × Terms)
 clipped = record {
   negate = λ p. kept (1 + p.0) (Meaning.Formula.Not p.1);

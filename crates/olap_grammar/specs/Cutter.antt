@@ -4,8 +4,8 @@ use Rattle.olap_grammar.specs.CuttingMachine as machine
 use Rattle.olap_grammar.specs.declared.cutting.Begun.{Begun}
 use Rattle.olap_grammar.specs.declared.cutting.Begun.TheVariants as begun
 use Rattle.olap_grammar.specs.declared.tokens.Token.{Token}
-use Rattle.olap_grammar.specs.declared.refusals.FormRefusal.{FormRefusal}
-use Rattle.olap_grammar.specs.declared.refusals.FormRefusal.TheVariants as refusal
+use Rattle.olap_grammar.specs.declared.refusals.CutRefusal.{CutRefusal}
+use Rattle.olap_grammar.specs.declared.refusals.CutRefusal.TheVariants as refusal
 
 -- what was begun, behind the tokens so far
 abbrev pub cut_of : Begun → List Token → machine.Cut
@@ -18,19 +18,17 @@ cut_of begun.Less ts = machine.Cut.Less ts
 cut_of begun.LessDash ts = machine.Cut.LessDash ts
 
 -- the cutter goes on to the state, or is stuck
-abbrev pub CutsTo : Result Begun FormRefusal → List Token → machine.Cut → Type 0
+abbrev pub CutsTo : Result Begun CutRefusal → List Token → machine.Cut → Type 0
 CutsTo (Ok begun) ts next = next ≡ cut_of begun ts
 CutsTo (Err refusal.BadForm) ts next = next ≡ machine.Cut.Stuck
-CutsTo (Err refusal.TooDeep) ts next = ⊥
 CutsTo (Err refusal.Memory) ts next = Unit {0}
 
 -- there are no tokens, or memory is short
-abbrev pub FailsWith : FormRefusal → Option (List Token) → Type 0
+abbrev pub FailsWith : CutRefusal → Option (List Token) → Type 0
 FailsWith refusal.BadForm found = found ≡ None
-FailsWith refusal.TooDeep found = ⊥
 FailsWith refusal.Memory found = Unit {0}
 
 -- the tokens are what was found, or there are none
-abbrev pub CutEnds : {A : Type 0} → Result A FormRefusal → List Token → Option (List Token) → Type 0
+abbrev pub CutEnds : {A : Type 0} → Result A CutRefusal → List Token → Option (List Token) → Type 0
 CutEnds (Ok u) ts found = found ≡ Some ts
 CutEnds (Err e) ts found = FailsWith e found

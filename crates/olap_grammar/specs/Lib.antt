@@ -1,15 +1,18 @@
 -- Definitions that contracts cite.
+
+-- What a reader of the claims believes: how a line is cut, what the tokens are, what the readers find and answer.
 pub mod Cutting
+pub mod Grammar
+pub mod Words
+pub mod Laws
+pub mod Answering
+pub mod Quoting
+pub mod Known
+-- The inside: the readers' states, which `Laws` says find what is cut and formed.
 pub mod CuttingMachine
 pub mod Cutter
-pub mod Grammar
 pub mod Machine
-pub mod Words
-pub mod Answering
-pub mod Laws
 pub mod Clip
 pub mod Parts
 pub mod Reader
 pub mod Frames
-pub mod Known
-pub mod Quoting

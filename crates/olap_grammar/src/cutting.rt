@@ -6,7 +6,7 @@ ghost use Rattle.olap_grammar.specs.Cutter.{CutEnds, CutsTo, FailsWith, cut_of};
 ghost use Rattle.olap_grammar.specs.declared.tokens.Token.{Token as Tokens};
 ghost use Rattle.olap_grammar.specs.declared.tokens.Token.TheVariants as token;
 
-use crate::{FormRefusal, Joint, Token};
+use crate::{CutRefusal, Joint, Token};
 use olap_base::{Memory, Text};
 use std::alloc::Global;
 
@@ -22,12 +22,14 @@ enum Begun {
     LessDash,
 }
 
+/// Whether the byte can stand in a word.
 fn is_word_byte(byte: u8) -> bool
     ensures { result ≡ is_word_byte_of byte }
 {
     byte.is_ascii_alphanumeric() || byte == b'_' || byte == b'.'
 }
 
+/// The token behind the others.
 fn add(tokens: &mut Vec<Token>, token: Token) -> Result<(), Memory>
     ensures { OnOk result (tokens.new.items ≡ tokens.old.items ++ token ∷ []) }
 {
@@ -35,12 +37,14 @@ fn add(tokens: &mut Vec<Token>, token: Token) -> Result<(), Memory>
     Ok(())
 }
 
+/// The word behind the others.
 fn add_word(alloc: Global, tokens: &mut Vec<Token>, word: &[u8]) -> Result<(), Memory>
     ensures { OnOk result (tokens.new.items ≡ tokens.old.items ++ token.Word word.now ∷ []) }
 {
     add(tokens, Token::Word(Text::from_bytes(alloc, word)?))
 }
 
+/// The string behind the others.
 fn add_quoted(alloc: Global, tokens: &mut Vec<Token>, text: &[u8]) -> Result<(), Memory>
     ensures { OnOk result (tokens.new.items ≡ tokens.old.items ++ token.Quoted text.now ∷ []) }
 {
@@ -48,7 +52,7 @@ fn add_quoted(alloc: Global, tokens: &mut Vec<Token>, text: &[u8]) -> Result<(),
 }
 
 /// A byte where nothing was begun.
-fn between(alloc: Global, tokens: &mut Vec<Token>, byte: u8) -> Result<Begun, FormRefusal>
+fn between(alloc: Global, tokens: &mut Vec<Token>, byte: u8) -> Result<Begun, CutRefusal>
     ensures { CutsTo result tokens.new.items (machine.between tokens.old.items byte) }
 {
     if is_word_byte(byte) {
@@ -107,15 +111,16 @@ fn between(alloc: Global, tokens: &mut Vec<Token>, byte: u8) -> Result<Begun, Fo
         add(tokens, Token::Joint(Joint::And))?;
         return Ok(Begun::Nothing);
     }
-    Err(FormRefusal::BadForm)
+    Err(CutRefusal::BadForm)
 }
 
+/// A byte behind those of a word.
 fn in_word(
     alloc: Global,
     tokens: &mut Vec<Token>,
     word: Vec<u8>,
     byte: u8,
-) -> Result<Begun, FormRefusal>
+) -> Result<Begun, CutRefusal>
     ensures { CutsTo result tokens.new.items (machine.cut_step (machine.InWord tokens.old.items word.items) byte) }
 {
     let mut word = word;
@@ -127,12 +132,13 @@ fn in_word(
     between(alloc, tokens, byte)
 }
 
+/// A byte in a string.
 fn in_quotes(
     alloc: Global,
     tokens: &mut Vec<Token>,
     text: Vec<u8>,
     byte: u8,
-) -> Result<Begun, FormRefusal>
+) -> Result<Begun, CutRefusal>
     ensures { CutsTo result tokens.new.items (machine.cut_step (machine.InQuotes tokens.old.items text.items) byte) }
 {
     let mut text = text;
@@ -147,7 +153,8 @@ fn in_quotes(
     Ok(Begun::Quotes(text))
 }
 
-fn escaped(text: Vec<u8>, byte: u8) -> Result<Begun, FormRefusal>
+/// A byte behind a backslash in a string: a quotation mark or another backslash, and nothing else.
+fn escaped(text: Vec<u8>, byte: u8) -> Result<Begun, CutRefusal>
     ensures { (tokens : List Tokens) → CutsTo result tokens (machine.cut_step (machine.Escaped tokens text.items) byte) }
 {
     let mut text = text;
@@ -159,15 +166,11 @@ fn escaped(text: Vec<u8>, byte: u8) -> Result<Begun, FormRefusal>
         text.push(byte)?;
         return Ok(Begun::Quotes(text));
     }
-    Err(FormRefusal::BadForm)
+    Err(CutRefusal::BadForm)
 }
 
-fn step(
-    alloc: Global,
-    tokens: &mut Vec<Token>,
-    begun: Begun,
-    byte: u8,
-) -> Result<Begun, FormRefusal>
+/// A byte of the line.
+fn step(alloc: Global, tokens: &mut Vec<Token>, begun: Begun, byte: u8) -> Result<Begun, CutRefusal>
     ensures { CutsTo result tokens.new.items (machine.cut_step (cut_of begun tokens.old.items) byte) }
 {
     match begun {
@@ -180,25 +183,26 @@ fn step(
                 add(tokens, Token::Joint(Joint::Implies))?;
                 return Ok(Begun::Nothing);
             }
-            Err(FormRefusal::BadForm)
+            Err(CutRefusal::BadForm)
         }
         Begun::Less => {
             if byte == 45 {
                 return Ok(Begun::LessDash);
             }
-            Err(FormRefusal::BadForm)
+            Err(CutRefusal::BadForm)
         }
         Begun::LessDash => {
             if byte == 62 {
                 add(tokens, Token::Joint(Joint::Iff))?;
                 return Ok(Begun::Nothing);
             }
-            Err(FormRefusal::BadForm)
+            Err(CutRefusal::BadForm)
         }
     }
 }
 
-fn end(alloc: Global, tokens: &mut Vec<Token>, begun: Begun) -> Result<(), FormRefusal>
+/// The end of the line.
+fn end(alloc: Global, tokens: &mut Vec<Token>, begun: Begun) -> Result<(), CutRefusal>
     ensures { CutEnds result tokens.new.items (machine.cut_ended (cut_of begun tokens.old.items)) }
 {
     match begun {
@@ -207,16 +211,17 @@ fn end(alloc: Global, tokens: &mut Vec<Token>, begun: Begun) -> Result<(), FormR
             add_word(alloc, tokens, &word)?;
             Ok(())
         }
-        Begun::Quotes(_) => Err(FormRefusal::BadForm),
-        Begun::Escape(_) => Err(FormRefusal::BadForm),
-        Begun::Dash => Err(FormRefusal::BadForm),
-        Begun::Less => Err(FormRefusal::BadForm),
-        Begun::LessDash => Err(FormRefusal::BadForm),
+        Begun::Quotes(_) => Err(CutRefusal::BadForm),
+        Begun::Escape(_) => Err(CutRefusal::BadForm),
+        Begun::Dash => Err(CutRefusal::BadForm),
+        Begun::Less => Err(CutRefusal::BadForm),
+        Begun::LessDash => Err(CutRefusal::BadForm),
     }
 }
 
+/// The tokens of the line, in an empty list.
 #[tactic(auto, unfolding(crate::specs::CuttingMachine::tokens_of))]
-fn cut(alloc: Global, tokens: &mut Vec<Token>, line: &[u8]) -> Result<(), FormRefusal>
+fn cut(alloc: Global, tokens: &mut Vec<Token>, line: &[u8]) -> Result<(), CutRefusal>
     ensures { tokens.old.items ≡ [] → CutEnds result tokens.new.items (machine.tokens_of line.now) }
 {
     let mut begun = Begun::Nothing;
@@ -234,7 +239,7 @@ fn cut(alloc: Global, tokens: &mut Vec<Token>, line: &[u8]) -> Result<(), FormRe
 /// The tokens that the line is cut into, with spaces and tabs between them.
 ///
 /// `BadForm` exactly where it can't be cut, and `Memory` where there is no room. One pass.
-pub fn line_tokens(alloc: Global, line: &[u8]) -> Result<Vec<Token>, FormRefusal>
+pub fn line_tokens(alloc: Global, line: &[u8]) -> Result<Vec<Token>, CutRefusal>
     ensures { MatchResult result (λ v. machine.tokens_of line.now ≡ Some v.items) (λ e. FailsWith e (machine.tokens_of line.now)) }
 {
     let mut found = Vec::new(alloc);

@@ -25,6 +25,6 @@ pub use laws::{
 };
 pub use quoting::push_quoted;
 pub use reading::formula;
-pub use refusals::FormRefusal;
+pub use refusals::{CutRefusal, FormRefusal};
 pub use tokens::{Joint, Token};
 pub use words::pieces;

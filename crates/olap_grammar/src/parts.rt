@@ -1,4 +1,4 @@
-// Formulas with their depth, which are built only as far as they are no deeper than 64.
+// Formulas with their depth, which are built only as far as they are no deeper than `MOST_DEPTH`.
 ghost use Rattle.olap_ast.specs.Trees.{formula_of, terms_of};
 ghost use Rattle.olap_grammar.specs.Clip.{clipped, kept as kept_of, kept_terms as kept_terms_of};
 ghost use Rattle.olap_grammar.specs.Grammar.{join as join_of};
@@ -7,29 +7,31 @@ ghost use Rattle.std.specs.Prelude.{◌≡◌, IfOk};
 
 use crate::Joint;
 use olap_ast::{Formula, Terms};
-use olap_base::Memory;
+use olap_base::{MOST_DEPTH, Memory};
 use std::alloc::Global;
 
-const DEEPEST: u16 = 64;
+/// The depth of all that is deeper than a formula may be.
+const TOO_DEEP: u8 = MOST_DEPTH as u8 + 1;
 
-/// A formula and its depth; where the depth is over 64 it is 65, and the formula says nothing.
+/// A formula and its depth; where that is `TOO_DEEP`, the formula says nothing.
 #[derive(Drop)]
 pub(crate) struct Part {
     pub(crate) formula: Formula,
     pub(crate) depth: u8,
 }
 
-/// The parts of a list and the greatest depth; where that is over 64 it is 65, and the parts say nothing.
+/// The parts of a list and the greatest depth; where that is `TOO_DEEP`, the parts say nothing.
 #[derive(Drop)]
 pub(crate) struct Parts {
     terms: Terms,
     depth: u8,
 }
 
+/// The formula, if it is no deeper than one may be.
 fn kept(depth: u16, formula: Formula) -> Part
     ensures { part_of result ≡ kept_of depth (formula_of formula) }
 {
-    if depth <= DEEPEST {
+    if depth <= MOST_DEPTH {
         Part {
             formula,
             depth: depth as u8,
@@ -37,15 +39,16 @@ fn kept(depth: u16, formula: Formula) -> Part
     } else {
         Part {
             formula: Formula::True,
-            depth: 65,
+            depth: TOO_DEEP,
         }
     }
 }
 
+/// The parts, if none is deeper than one may be.
 fn kept_terms(depth: u16, terms: Terms) -> Parts
     ensures { parts_of result ≡ kept_terms_of depth (terms_of terms) }
 {
-    if depth <= DEEPEST {
+    if depth <= MOST_DEPTH {
         Parts {
             terms,
             depth: depth as u8,
@@ -53,7 +56,7 @@ fn kept_terms(depth: u16, terms: Terms) -> Parts
     } else {
         Parts {
             terms: Terms::End,
-            depth: 65,
+            depth: TOO_DEEP,
         }
     }
 }
@@ -65,6 +68,7 @@ pub(crate) fn leaf(formula: Formula) -> Part
     Part { formula, depth: 1 }
 }
 
+/// Its negation.
 pub(crate) fn negated(alloc: Global, part: Part) -> Result<Part, Memory>
     ensures { IfOk result (λ p. part_of p ≡ clipped.negate (part_of part)) }
 {
@@ -72,6 +76,7 @@ pub(crate) fn negated(alloc: Global, part: Part) -> Result<Part, Memory>
     Ok(kept(depth, Formula::Not(Box::new(alloc, part.formula)?)))
 }
 
+/// The joint of two formulas.
 fn join(alloc: Global, joint: Joint, left: Formula, right: Formula) -> Result<Formula, Memory>
     ensures { IfOk result (λ f. formula_of f ≡ join_of joint (formula_of left) (formula_of right)) }
 {
@@ -86,6 +91,7 @@ fn join(alloc: Global, joint: Joint, left: Formula, right: Formula) -> Result<Fo
     }
 }
 
+/// The joint of two formulas, with its depth.
 pub(crate) fn joined(alloc: Global, joint: Joint, left: Part, right: Part) -> Result<Part, Memory>
     ensures { IfOk result (λ p. part_of p ≡ clipped.join joint (part_of left) (part_of right)) }
 {

@@ -15,7 +15,7 @@ use crate::stacking::{Frame, Stack};
 use crate::words::{equality, is, plain_word};
 use crate::{FormRefusal, Known, Token};
 use olap_ast::Formula;
-use olap_base::Text;
+use olap_base::{MOST_DEPTH, Text};
 use std::alloc::Global;
 
 /// What was read last: nothing of the formula that is to come, the start of a list, a word, a word with a `=`, or a
@@ -266,14 +266,14 @@ fn read_tokens(alloc: Global, known: &Known, tokens: &[Token]) -> Result<Part, F
 
 /// The formula that the tokens are.
 ///
-/// `BadForm` where they are none, and else `TooDeep` where its depth is over 64. One pass, and no tree that is
-/// deeper than 65 comes about, whatever the tokens are. `Memory` where there is no room.
+/// `BadForm` where they are none, and else `TooDeep` where it is deeper than `MOST_DEPTH`. One pass, and no tree that
+/// is deeper than one more comes about, whatever the tokens are. `Memory` where there is no room.
 pub fn formula(alloc: Global, known: &Known, tokens: &[Token]) -> Result<Formula, FormRefusal>
     ensures { Answers result (formula_answer (the_formula (atoms_of (graph_seen known.now)) tokens.now)) }
 {
     match read_tokens(alloc, known, tokens) {
         Ok(part) => {
-            if part.depth > 64 {
+            if part.depth > MOST_DEPTH as u8 {
                 return Err(FormRefusal::TooDeep);
             }
             Ok(part.formula)

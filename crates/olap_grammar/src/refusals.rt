@@ -1,15 +1,24 @@
-// Why there are no tokens, or is no formula.
+// Why there are no tokens, and why there is no formula.
 ghost use Rattle.std.specs.Prelude.{◌≡◌};
 
 use olap_base::Memory;
 use std::alloc::{AllocError, AllocFailed};
 
-/// Why there are no tokens, or is no formula.
+/// Why there are no tokens.
+#[derive(Clone, Copy, Debug, PartialEq, Eq)]
+pub enum CutRefusal {
+    /// The line can't be cut into tokens.
+    BadForm,
+    /// Want of memory.
+    Memory,
+}
+
+/// Why there is no formula.
 #[derive(Clone, Copy, Debug, PartialEq, Eq)]
 pub enum FormRefusal {
-    /// The line can't be cut into tokens, or the tokens are no formula.
+    /// The tokens are no formula.
     BadForm,
-    /// The formula is deeper than 64.
+    /// The formula is deeper than `MOST_DEPTH`.
     TooDeep,
     /// Want of memory.
     Memory,
@@ -42,5 +51,25 @@ impl<T: Drop> From<AllocFailed<T>> for FormRefusal {
 
     fn from(_: AllocFailed<T>) -> Self {
         FormRefusal::Memory
+    }
+}
+
+impl From<Memory> for CutRefusal {
+    ghost use Rattle.olap_grammar.specs.declared.refusals.CutRefusal.TheVariants as refusal;
+
+    ghost from_gives = { λ _ e. e ≡ refusal.Memory };
+
+    fn from(_: Memory) -> Self {
+        CutRefusal::Memory
+    }
+}
+
+impl<T: Drop> From<AllocFailed<T>> for CutRefusal {
+    ghost use Rattle.olap_grammar.specs.declared.refusals.CutRefusal.TheVariants as refusal;
+
+    ghost from_gives = { λ _ e. e ≡ refusal.Memory };
+
+    fn from(_: AllocFailed<T>) -> Self {
+        CutRefusal::Memory
     }
 }

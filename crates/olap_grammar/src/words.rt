@@ -14,6 +14,7 @@ use olap_base::{CatId, List, Memory, Text};
 use olap_graph::category_name;
 use std::alloc::{AllocError, Global};
 
+/// Whether the word is that text.
 pub(crate) fn is(word: &[u8], text: &[u8]) -> bool
     ensures { result ≡ bytes_eq word.now text.now }
 {
@@ -27,6 +28,7 @@ fn is_name(bytes: &[u8]) -> bool
     category_name(bytes)
 }
 
+/// The category of that name, and a number that none has where there is none.
 #[tactic(auto, unfolding(crate::specs::Words::id_of))]
 fn id(known: &Known, name: &[u8]) -> CatId
     ensures { result.0 ≡ id_of (graph_seen known.now) name.now }
@@ -37,12 +39,14 @@ fn id(known: &Known, name: &[u8]) -> CatId
     }
 }
 
+/// The parts of a word between marks.
 fn slices(alloc: Global, mark: u8, word: &[u8]) -> Result<Vec<&[u8]>, AllocError>
     ensures { IfOk result (λ v. map (λ p. p.now) v.items ≡ pieces_of mark word.now) }
 {
     word.split(|b| *b == mark).collect(alloc)
 }
 
+/// The same bytes as texts.
 fn copies(alloc: Global, parts: &[&[u8]]) -> Result<Vec<Text>, Memory>
     ensures { IfOk result (λ v. v.items ≡ map (λ p. p.now) parts.now) }
 {
@@ -53,8 +57,8 @@ fn copies(alloc: Global, parts: &[&[u8]]) -> Result<Vec<Text>, Memory>
     Ok(texts)
 }
 
-#[tactic(auto, using(crate::proofs::WordLemmas::some_pieces))]
 /// The parts of a word between marks; there is at least one. `Memory` where there is no room.
+#[tactic(auto, using(crate::proofs::WordLemmas::some_pieces))]
 pub fn pieces(alloc: Global, mark: u8, word: &[u8]) -> Result<Vec<Text>, Memory>
     ensures found { IfOk result (λ v. v.items ≡ pieces_of mark word.now) }
     ensures some { IfOk result (λ v. 0 < vec_len v) }
