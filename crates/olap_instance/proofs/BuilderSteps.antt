@@ -12,7 +12,7 @@ use Rattle.olap_base.specs.Instance.{Instance, Member, category_of, member_at, n
 use Rattle.olap_base.specs.Naming.{place_of}
 use Rattle.olap_base.specs.declared.ids.MemberId.{MemberId}
 use Rattle.olap_instance.specs.DraftInside.{number_of, parents_told}
-use Rattle.olap_instance.specs.Drafts.{Draft, IsDraft, member_refusal, parents_so_far, places_of, with_member, with_parent}
+use Rattle.olap_instance.specs.Drafts.{Draft, IsDraft, named_refusal, parents_so_far, places_of, with_member, with_parent}
 use Rattle.olap_instance.specs.Made.{IsMadeFor}
 use Rattle.olap_instance.specs.Members.{AreSound, all_member, childless, with_parents}
 use Rattle.olap_instance.specs.Passes.{ids_in}
@@ -81,8 +81,7 @@ all-absent d h = not-found (codes "all") (ids_in d.members) 0 (λ k l e.
 
 -- a member that isn't refused has a new id
 pub member-absent : (d : Draft) (id : List ℕ) (category : ℕ) (name : List ℕ) → IsDraft d
-    → member_refusal d id category name ≡ None
-    → place_of id (ids_in d.members) ≡ None
+    → named_refusal d id category ≡ None → place_of id (ids_in d.members) ≡ None
 member-absent d id category name h e = (fresh-is d h id category name e).1
 
 -- the draft with these members and parents is the one with a new member

@@ -8,12 +8,12 @@ use Rattle.std.proofs.lemmas.List.{get_or-map, get_or-take, length-map}
 use Rattle.std.proofs.lemmas.Option.{slice_get-get_or}
 use Rattle.std.proofs.lemmas.Slice.Eq.{bytes_eq-Decides}
 use Rattle.olap_base.specs.Graph.{Graph}
+use Rattle.olap_base.specs.Limits.{most_members, most_text_bytes}
 use Rattle.olap_base.specs.Naming.{place_of}
 use Rattle.olap_graph.specs.Lookups.{category_named}
 use Rattle.olap_records.specs.Faults.{first_fault}
 use Rattle.olap_records.proofs.FaultLemmas.{none-iff}
 use Rattle.olap_instance.specs.InstanceText.{category_field, category_number, id_field, is_bad_id, is_known, is_no_text, is_too_long, member_fault, name_field, parent_read, piece_fault}
-use Rattle.olap_instance.specs.Members.{most_members}
 use Rattle.olap_instance.proofs.PlaceFacts.{id-at-place, place-within}
 
 -- ---- checks
@@ -91,7 +91,7 @@ absent-at x (y ∷ ys) n k e l s = by (bytes_eq x y) refl e k l s (absent-at x y
     by false f e zero l s again = let t = (bytes_eq-Decides x y).1 (sym s) in cc (t, f)
     by false f e (suc k) l s again = again k e (omega arith) s
 
-pub within : (n : ℕ) → nat_lt 255 n ≡ false → n ≤ 255
+pub within : (n : ℕ) → nat_lt most_text_bytes n ≡ false → n ≤ most_text_bytes
 within n e = grind (arith)
 
 -- ---- pieces

@@ -8,13 +8,14 @@ use Rattle.std.proofs.lemmas.Bool.Decides.{eqb_tells}
 use Rattle.std.proofs.lemmas.List.{get_or_append_left, length-append}
 use Rattle.olap_base.specs.Deciding.{below_is_member}
 use Rattle.olap_base.specs.Instance.{Instance, IsBelow, IsInstance, IsMember, Member, category_of, member_at, nobody, parents_of}
-use Rattle.olap_instance.specs.Members.{AreSound, HasTexts, IsMemberId, IsShortText, all_member, with_parents}
+use Rattle.olap_base.specs.Limits.{most_members}
+use Rattle.olap_instance.specs.Members.{AreSound, HasShortNames, HasTexts, IsMemberId, all_member, with_parents}
 use Rattle.olap_instance.proofs.MembersLemmas.{length-with_parents, member_at-with_parents}
 
 -- what members and their parents must meet before `all` is added
 pub record AreComplete (ms : Instance) (ps : List (List ℕ)) : Type 0 where
   pub as_many : length ms ≡ length ps
-  pub few : length ms ≤ 262143
+  pub few : length ms < most_members
   pub ids_differ : (x y : ℕ) → x < length ms → y < length ms → (member_at ms x).id ≡ (member_at ms y).id → x ≡ y
   pub not_all : (x : ℕ) → x < length ms → (member_at ms x).id ≢ codes "all"
   pub declared : (x : ℕ) → x < length ms → category_of ms x ≢ 0
@@ -135,13 +136,20 @@ module _ (ms : Instance) (ps : List (List ℕ)) (h : AreComplete ms ps) where
   utf8 : IsTrue (is_utf8 (codes "all"))
   utf8 = is_utf8-from_IsUtf8 (codes "all") (IsUtf8-from_ascii (codes "all") ascii)
 
-  all-texts : IsMemberId (codes "all") × IsShortText (codes "all")
-  all-texts = (((utf8, omega arith), (λ e. absurd (omega arith)), refl), (utf8, omega arith))
+  all-texts : IsMemberId (codes "all") × IsTrue (is_utf8 (codes "all"))
+  all-texts = (record { utf8 = utf8; short = omega arith; filled = λ e. absurd (omega arith); whole = refl }, utf8)
 
   texts : HasTexts whole
   texts x l = elim (other-or-all x l) [
     | inl a ↦ rw (at-other x a) (h.texts x a)
     | inr a ↦ rw (a, at-all) all-texts
+  ]
+
+  -- with `all` short names stay short
+  pub complete-names : HasShortNames ms → HasShortNames whole
+  complete-names short x l = elim (other-or-all x l) [
+    | inl a ↦ rw (at-other x a) (short x a)
+    | inr a ↦ rw (a, at-all) (omega arith)
   ]
 
   -- with `all` they are sound

@@ -11,10 +11,11 @@ use Rattle.std.proofs.lemmas.List.Quantifiers.{all_pairs_push}
 use Rattle.std.proofs.lemmas.Slice.Eq.{bytes_eq-Decides}
 use Rattle.olap_base.proofs.ListLemmas.{AllPairs-from_Distinct, Contains-from_map, Distinct-from_AllPairs, Distinct-map}
 use Rattle.olap_base.specs.Instance.{Instance, Member, category_of, member_at, nobody}
+use Rattle.olap_base.specs.Limits.{most_members}
 use Rattle.olap_base.specs.Naming.{place_of}
-use Rattle.olap_instance.specs.Drafts.{Draft, HasParent, IsDraft, member_refusal, no_members, parents_so_far, places_of, with_member, with_parent}
+use Rattle.olap_instance.specs.Drafts.{Draft, HasParent, IsDraft, named_refusal, no_members, parents_so_far, places_of, with_member, with_parent}
 use Rattle.olap_instance.specs.InstanceText.{is_bad_id, is_too_long}
-use Rattle.olap_instance.specs.Members.{IsMemberId, IsShortText, childless, most_members}
+use Rattle.olap_instance.specs.Members.{IsMemberId, childless}
 use Rattle.olap_instance.specs.Passes.{ids_in}
 use Rattle.olap_instance.proofs.Completing.{AreComplete}
 use Rattle.olap_instance.proofs.Checks.{absent-at, else-none, missing, neither, within}
@@ -43,18 +44,17 @@ inside-or-past x n = grind arith
 
 -- ---- one member more
 
-record IsAccepted (d : Draft) (id : List ℕ) (category : ℕ) (name : List ℕ) : Type 0 where
+record IsAccepted (d : Draft) (id : List ℕ) (category : ℕ) : Type 0 where
   good : is_bad_id id ≡ false
-  short : (is_too_long id || is_too_long name) ≡ false
+  short : (is_too_long id || false) ≡ false
   declared : (category == 0) ≡ false
   fresh : (bytes_eq id (codes "all") || is_some (place_of id (ids_in d.members))) ≡ false
   room : nat_le most_members (length d.members + 1) ≡ false
 
-accepted : (d : Draft) (id : List ℕ) (category : ℕ) (name : List ℕ) → member_refusal d id category name ≡ None
-    → IsAccepted d id category name
-accepted d id category name e =
+accepted : (d : Draft) (id : List ℕ) (category : ℕ) → named_refusal d id category ≡ None → IsAccepted d id category
+accepted d id category e =
     let a = else-none (is_bad_id id) _ _ e in
-    let b = else-none (is_too_long id || is_too_long name) _ _ a.1 in
+    let b = else-none (is_too_long id || false) _ _ a.1 in
     let c = else-none (category == 0) _ _ b.1 in
     let f = else-none (bytes_eq id (codes "all") || is_some (place_of id (ids_in d.members))) _ _ c.1 in
     let g = else-none (nat_le most_members (length d.members + 1)) _ _ f.1 in
@@ -64,15 +64,15 @@ not-zero : (n : ℕ) → (n == 0) ≡ false → n ≢ 0
 not-zero n f e = cc (rw e at f)
 
 module _ (d : Draft) (h : IsDraft d) (id : List ℕ) (category : ℕ) (name : List ℕ)
-    (passes : member_refusal d id category name ≡ None) where
+    (passes : named_refusal d id category ≡ None) where
   abbrev new : Member
   new = childless id category name
 
   abbrev more : Instance
   more = d.members ++ new ∷ []
 
-  ok : IsAccepted d id category name
-  ok = accepted d id category name passes
+  ok : IsAccepted d id category
+  ok = accepted d id category passes
 
   pub fresh-is : (bytes_eq id (codes "all") ≡ false) × (place_of id (ids_in d.members) ≡ None)
   fresh-is =
@@ -162,11 +162,13 @@ module _ (d : Draft) (h : IsDraft d) (id : List ℕ) (category : ℕ) (name : Li
       below-limit : (n : ℕ) → nat_le most_members (n + 1) ≡ false → n + 2 ≤ most_members
       below-limit n e = grind arith
 
-      good-texts : IsMemberId id × IsShortText name
+      good-texts : IsMemberId id × IsTrue (is_utf8 name)
       good-texts =
           let b = neither (length id == 0) (list_any (λ b. b == 59) id) ok.good in
-          let s = neither (is_too_long id) (is_too_long name) ok.short in
-          (((text1, within (length id) s.0), not-zero (length id) b.0, b.1), (text2, within (length name) s.1))
+          let s = neither (is_too_long id) false ok.short in
+          let id-good : IsMemberId id =
+          record { utf8 = text1; short = within (length id) s.0; filled = not-zero (length id) b.0; whole = b.1 } in
+          (id-good, text2)
 
 -- ---- one parent more
 

@@ -5,10 +5,10 @@ use Rattle.std.specs.List.{list_any}
 use Rattle.std.proofs.lemmas.Bool.Decides.{eqb_tells}
 use Rattle.std.proofs.lemmas.List.Elements.{All-map}
 use Rattle.olap_base.specs.Graph.{Graph}
+use Rattle.olap_base.specs.Limits.{most_members, most_text_bytes}
 use Rattle.olap_base.specs.Instance.{Instance, Member, member_at}
 use Rattle.olap_graph.specs.Lookups.{category_named}
 use Rattle.olap_instance.specs.InstanceText.{id_field, category_field, category_number, is_bad_id, is_known, is_no_text, is_too_long, name_field, member_fault}
-use Rattle.olap_instance.specs.Members.{most_members}
 use Rattle.olap_instance.specs.Passes.{ids_in}
 use Rattle.olap_instance.specs.Printing.{member_fields}
 
@@ -49,7 +49,7 @@ pub unrefused : (g : Graph) (before : List (List (List ℕ))) (r : List (List �
     → nat_le most_members (length before + 1) ≡ false → member_fault g before r ≡ None
 unrefused g before r a b c d e f h k = rw (a, b, c, d, e, f, h, k) refl
 
-pub short : (n : ℕ) → n ≤ 255 → nat_lt 255 n ≡ false
+pub short : (n : ℕ) → n ≤ most_text_bytes → nat_lt most_text_bytes n ≡ false
 short n h = grind arith
 
 pub differ-zero : (n : ℕ) → n ≢ 0 → (n == 0) ≡ false

@@ -13,6 +13,7 @@ use Rattle.olap_base.specs.Deciding.{contains_cons}
 use Rattle.olap_base.proofs.ListLemmas.{contains_head}
 use Rattle.olap_base.specs.Graph.{Graph, IsHierarchy}
 use Rattle.olap_base.specs.Instance.{Instance, IsInstance, IsMember, Member, category_of, member_at, nobody}
+use Rattle.olap_base.specs.Limits.{most_members}
 use Rattle.olap_base.specs.Naming.{place_of}
 use Rattle.olap_graph.specs.Lookups.{category_named, name_of_category}
 use Rattle.olap_records.specs.Faults.{first_fault}
@@ -21,7 +22,7 @@ use Rattle.olap_records.proofs.FaultLemmas.{none-iff}
 use Rattle.olap_records.proofs.ReadingBack.{text-back}
 use Rattle.olap_instance.specs.InstanceText.{header, id_field, is_known, is_too_long, has_header, ids_of, instance_read, member_fault, members_read, parent_read, parents_fault, piece_fault, pieces_of, whole_read}
 use Rattle.olap_instance.specs.Made.{IsMadeFor}
-use Rattle.olap_instance.specs.Members.{AllHasNoParents, HasTexts, all_member, most_members}
+use Rattle.olap_instance.specs.Members.{AllHasNoParents, HasShortNames, HasTexts, all_member}
 use Rattle.olap_instance.specs.Passes.{ids_in}
 use Rattle.olap_instance.specs.Printing.{instance_rows, member_fields, others, parent_ids, text_of_instance}
 use Rattle.olap_instance.proofs.CategoryNames.{category-utf8, named-category}
@@ -39,8 +40,7 @@ read-of : (g : Graph) (records : List (List (List ℕ))) (i : Instance) → has_
 read-of g records i h first second e = rw (h, first, second) (ap (λ (t : Instance). Ok t) e)
 
 module _ (g : Graph) (i : Instance) (hierarchy : IsHierarchy g) (sound : IsInstance i) (texts : HasTexts i)
-    (few : length i ≤ 262144)
-    (top : AllHasNoParents i) (made : IsMadeFor g i) where
+    (few : length i ≤ most_members) (top : AllHasNoParents i) (made : IsMadeFor g i) (names : HasShortNames i) where
   last : ℕ
   last = length i - 1
 
@@ -109,12 +109,12 @@ module _ (g : Graph) (i : Instance) (hierarchy : IsHierarchy g) (sound : IsInsta
       pieces-good : All IsPiece ids
       pieces-good = All-map IsPiece (λ p. (member_at i p).id) m.parents (λ k d l.
           let h = (texts (get_or m.parents k d) (members (get_or m.parents k d) (Contains-get_or m.parents k d l))).0 in
-          (h.1, h.2))
+          (h.filled, h.whole))
 
       ids-utf8 : All IsUtf8 ids
       ids-utf8 = All-map IsUtf8 (λ p. (member_at i p).id) m.parents (λ k d l.
           let h = (texts (get_or m.parents k d) (members (get_or m.parents k d) (Contains-get_or m.parents k d l))).0 in
-          IsUtf8-from_is_utf8 (member_at i (get_or m.parents k d)).id h.0.0)
+          IsUtf8-from_is_utf8 (member_at i (get_or m.parents k d)).id h.utf8)
 
       pieces-are : pieces_of (join_with_byte 59 ids) ≡ ids
       pieces-are = pieces-joined ids pieces-good
@@ -213,10 +213,11 @@ module _ (g : Graph) (i : Instance) (hierarchy : IsHierarchy g) (sound : IsInsta
       let category : is_utf8 (name_of_category g (at j).category) ≡ true =
       is_utf8-from_IsUtf8 _ (category-utf8 g hierarchy (at j).category (made j (is-member j l)) (not-all j l)) in
       unrefused g (take j rows) (member_fields g i (at j)) refl
-      (four-texts _ _ _ _ h.0.0.0 category h.1.0 (field-utf8 (at j) (below j) (sound.parents_differ j)))
-      (two (length (at j).id == 0) (list_any (λ b. b == 59) (at j).id) (differ-zero (length (at j).id) h.0.1) h.0.2)
-      (two (is_too_long (at j).id) (is_too_long (at j).name) (short (length (at j).id) h.0.0.1)
-      (short (length (at j).name) h.1.1))
+      (four-texts _ _ _ _ h.0.utf8 category h.1 (field-utf8 (at j) (below j) (sound.parents_differ j)))
+      (two (length (at j).id == 0) (list_any (λ b. b == 59) (at j).id) (differ-zero (length (at j).id) h.0.filled)
+      h.0.whole)
+      (two (is_too_long (at j).id) (is_too_long (at j).name) (short (length (at j).id) h.0.short)
+      (short (length (at j).name) (names j (is-member j l))))
       (rw named refl) (rw named (differ-zero (at j).category (not-all j l))) (fresh j l)
       (room (length (take j rows)) (omega arith))
     where

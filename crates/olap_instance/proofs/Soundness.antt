@@ -10,17 +10,18 @@ use Rattle.std.proofs.lemmas.Option.{slice_get-get_or}
 use Rattle.std.proofs.lemmas.Slice.Eq.{bytes_eq-Decides}
 use Rattle.olap_base.specs.Graph.{Graph, IsCategory}
 use Rattle.olap_base.specs.Instance.{Instance, Member, category_of, member_at, nobody}
+use Rattle.olap_base.specs.Limits.{most_members}
 use Rattle.olap_graph.specs.Lookups.{category_named, names_of}
 use Rattle.olap_records.specs.Faults.{field, first_fault}
 use Rattle.olap_records.proofs.FaultLemmas.{none-iff}
 use Rattle.olap_instance.specs.InstanceText.{body_read, category_field, category_number, has_header, id_field, ids_of, is_too_long, member_fault, member_read, members_read, name_field, or_read, parents_fault, parents_field, parents_read, piece_fault, pieces_of, whole_read}
-use Rattle.olap_instance.specs.Members.{AreSound, HasTexts, all_member, most_members, with_parents}
+use Rattle.olap_instance.specs.Members.{AreSound, HasShortNames, HasTexts, all_member, with_parents}
 use Rattle.olap_instance.specs.declared.refusals.InstanceKind.{InstanceKind}
 use Rattle.olap_instance.specs.Laws.{IsReadFor, ReadIsInstance}
 use Rattle.olap_instance.specs.declared.refusals.InstanceKind.TheVariants as kind
 use Rattle.olap_instance.specs.Made.{IsMadeFor}
 use Rattle.olap_instance.specs.Passes.{PassesFirst, PassesSecond, ids_in}
-use Rattle.olap_instance.proofs.Completing.{AreComplete, complete-sound}
+use Rattle.olap_instance.proofs.Completing.{AreComplete, complete-names, complete-sound}
 use Rattle.olap_instance.proofs.EnteringLemmas.{ids-read}
 use Rattle.olap_instance.proofs.PlaceFacts.{place-within}
 use Rattle.olap_instance.proofs.Checks.{IsGood, absent-at, four, fresh-parts, good, neither, no-second, place-inside, places-differ, there, within}
@@ -98,12 +99,24 @@ module _ (g : Graph) (rows : List (List (List ℕ))) (first : first_fault (membe
       let b = neither (length (id_field (row x)) == 0) (list_any (λ b. b == 59) (id_field (row x))) h.id in
       let s = neither (is_too_long (id_field (row x))) (is_too_long (name_field (row x))) h.short in
       rw (member-is x r) (
-        ((t.0, within (length (id_field (row x))) s.0), (λ e. zero-length (length (id_field (row x))) e b.0), b.1),
-        (t.1, within (length (name_field (row x))) s.1),
+        record {
+          utf8 = t.0;
+          short = within (length (id_field (row x))) s.0;
+          filled = λ e. zero-length (length (id_field (row x))) e b.0;
+          whole = b.1;
+        },
+        t.1,
       )
     where
       zero-length : (n : ℕ) → n ≡ 0 → (n == 0) ≡ false → ⊥
       zero-length n e f = cc (rw e at f)
+
+  short-names : HasShortNames members
+  short-names x l =
+      let r = in-rows x l in
+      let h = good-at x r in
+      let s = neither (is_too_long (id_field (row x))) (is_too_long (name_field (row x))) h.short in
+      rw (member-is x r) (within (length (name_field (row x))) s.1)
 
   no-all : (x : ℕ) → x < length members → (member_at members x).id ≢ codes "all"
   no-all x l e =
@@ -120,13 +133,13 @@ module _ (g : Graph) (rows : List (List (List ℕ))) (first : first_fault (membe
       by : (n : ℕ) → n ≡ 0 → (n == 0) ≡ false → ⊥
       by n e f = cc (rw e at f)
 
-  few : length rows ≤ 262143
+  few : length rows < most_members
   few = by (length rows) refl
     where
-      within-limit : (k : ℕ) → nat_le most_members (k + 1) ≡ false → length rows ≤ k + 1 → length rows ≤ 262143
+      within-limit : (k : ℕ) → nat_le most_members (k + 1) ≡ false → length rows ≤ k + 1 → length rows < most_members
       within-limit k e l = grind arith
 
-      by : (n : ℕ) → length rows ≡ n → length rows ≤ 262143
+      by : (n : ℕ) → length rows ≡ n → length rows < most_members
       by zero e = omega arith
       by (suc n) e =
           let l : n < length rows = omega arith in
@@ -170,6 +183,7 @@ pub record IsRead (g : Graph) (rows : List (List (List ℕ))) (ms : Instance) (p
   pub sound : AreSound ms ps
   pub members : with_parents ms ps ≡ members_read g rows
   pub made : IsMadeFor g (with_parents ms ps)
+  pub names : HasShortNames (with_parents ms ps)
 
 module _ (g : Graph) (rows : List (List (List ℕ))) where
   pub ids-whole : (ms whole : Instance) → ms ≡ map (member_read g) rows → whole ≡ ms ++ all_member ∷ []
@@ -223,6 +237,9 @@ module _ (g : Graph) (rows : List (List (List ℕ))) where
             (read-complete g rows first.0 none));
         members = members;
         made = rw members (all-made first.0 none);
+        names = rw (ew, em, first.1, parts)
+            (complete-names (map (member_read g) rows) (map (parents_read (ids_of rows)) rows)
+            (read-complete g rows first.0 none) (short-names g rows first.0 none));
       }
 
   -- members without their parents, and parents, as the definition has them
@@ -252,6 +269,7 @@ module _ (g : Graph) (rows : List (List (List ℕ))) where
             instance = rw is at r.sound.instance;
             made = rw is at r.made;
             texts = rw is at r.sound.texts;
+            names = rw is at r.names;
             top = rw is at r.sound.top;
           }
 

@@ -2,14 +2,16 @@
 --     Draft             the members so far, and their parents
 --     IsDraft           what holds of a draft at each moment
 --     member_refusal    the first reason to refuse a member
+--     named_refusal     the same, where the name may have any length
 --     HasParent         a member has that parent
 --     instance_built    the instance that a draft becomes
 use Rattle.std.specs.Prelude.{◌≡◌, ◌≢◌, ◌<◌, ◌≤◌, ◌+◌, ◌==◌, ◌||◌, ◌∷◌, ◌++◌, ℕ, List, [], length, map, codes, AllPairs, Contains, Option, Some, None, is_some, unwrap_or, if◌then◌else◌, nat_le, slice_index_or, slice_set}
 use Rattle.std.specs.Str.{bytes_eq}
 use Rattle.olap_base.specs.Instance.{Instance, category_of, member_at}
+use Rattle.olap_base.specs.Limits.{most_members}
 use Rattle.olap_base.specs.Naming.{place_of}
 use Rattle.olap_instance.specs.InstanceText.{is_bad_id, is_too_long}
-use Rattle.olap_instance.specs.Members.{HasTexts, all_member, childless, most_members, with_parents}
+use Rattle.olap_instance.specs.Members.{HasTexts, all_member, childless, with_parents}
 use Rattle.olap_instance.specs.declared.refusals.MemberRefusal.{MemberRefusal}
 use Rattle.olap_instance.specs.declared.refusals.MemberRefusal.TheVariants as of_member
 
@@ -63,6 +65,10 @@ member_refusal d id category name =
     of_member.DuplicateId
     else if nat_le most_members (length d.members + 1) then Some of_member.TooManyMembers
     else None
+
+-- the first reason to refuse a member whose name may have any length: what it is with an empty name
+abbrev pub named_refusal : Draft → List ℕ → ℕ → Option MemberRefusal
+named_refusal d id category = member_refusal d id category []
 
 -- why a member is refused: want of memory, or the first reason
 abbrev pub IsMemberCause : Option MemberRefusal → MemberRefusal → Type 0

@@ -9,10 +9,11 @@ use Rattle.std.specs.Option.{option_map}
 use Rattle.std.specs.Str.{bytes_eq, is_utf8}
 use Rattle.olap_base.specs.Graph.{Graph}
 use Rattle.olap_base.specs.Instance.{Instance, Member}
+use Rattle.olap_base.specs.Limits.{most_members, most_text_bytes}
 use Rattle.olap_base.specs.Naming.{Fault, place_of}
 use Rattle.olap_graph.specs.Lookups.{category_named}
 use Rattle.olap_records.specs.Faults.{field, first_fault}
-use Rattle.olap_instance.specs.Members.{all_member, childless, most_members}
+use Rattle.olap_instance.specs.Members.{all_member, childless}
 use Rattle.olap_instance.specs.declared.refusals.InstanceKind.{InstanceKind}
 use Rattle.olap_instance.specs.declared.refusals.InstanceKind.TheVariants as kind
 
@@ -46,9 +47,9 @@ is_no_text r =
 abbrev pub is_bad_id : List ℕ → Bool
 is_bad_id id = (length id == 0) || list_any (λ b. b == 59) id
 
--- over 255 bytes
+-- more bytes than a text of a file may have
 abbrev pub is_too_long : List ℕ → Bool
-is_too_long text = nat_lt 255 (length text)
+is_too_long text = nat_lt most_text_bytes (length text)
 
 -- the id of `all`, or of an earlier record
 abbrev pub is_known : List (List (List ℕ)) → List ℕ → Bool

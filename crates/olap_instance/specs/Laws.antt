@@ -4,13 +4,14 @@ use Rattle.olap_base.specs.Graph.{Graph}
 use Rattle.olap_base.specs.Instance.{Instance, IsInstance}
 use Rattle.olap_instance.specs.InstanceText.{instance_read}
 use Rattle.olap_instance.specs.Made.{IsMadeFor}
-use Rattle.olap_instance.specs.Members.{AllHasNoParents, HasTexts}
+use Rattle.olap_instance.specs.Members.{AllHasNoParents, HasShortNames, HasTexts}
 
 -- the instance that records stand for is a dimension instance, made for the graph
 pub record IsReadFor (g : Graph) (i : Instance) : Type 0 where
   pub instance : IsInstance i
   pub made : IsMadeFor g i
   pub texts : HasTexts i
+  pub names : HasShortNames i
   pub top : AllHasNoParents i
 
 abbrev pub ReadIsInstance : Type 0

@@ -1,16 +1,14 @@
 -- Members with and without their parents, and the texts that they may have.
 --     with_parents   members, each with its parents
---     HasTexts       each id and name of an instance is a text that a file of members can hold
+--     HasTexts       each id of an instance is one that a field of parents can name, and each name is UTF-8
+--     HasShortNames  each name is one that a file of members may hold
 --     AllHasNoParents   `all` has no parents
 use Rattle.std.specs.Prelude.{◌≡◌, ◌≢◌, ◌≤◌, ◌==◌, false, ℕ, suc, List, [], ◌∷◌, length, codes, IsTrue}
 use Rattle.std.specs.List.{list_any}
 use Rattle.std.specs.Str.{is_utf8}
 use Rattle.olap_base.specs.Instance.{Instance, IsInstance, IsMember, Member, member_at, parents_of}
+use Rattle.olap_base.specs.Limits.{most_members, most_text_bytes}
 use Rattle.olap_instance.specs.declared.rosters.Head.{Head}
-
--- the most members that an instance has, `all` included
-abbrev pub most_members : ℕ
-most_members = 262144
 
 -- a member of that id, category and name, without parents
 abbrev pub childless : List ℕ → ℕ → List ℕ → Member
@@ -29,17 +27,24 @@ with_parents [] parents = []
 with_parents (m ∷ ms) [] = []
 with_parents (m ∷ ms) (ps ∷ parents) = record m { parents = ps } ∷ with_parents ms parents
 
--- UTF-8 of at most 255 bytes
-abbrev pub IsShortText : List ℕ → Type 0
-IsShortText text = IsTrue (is_utf8 text) × (length text ≤ 255)
+-- at most so many bytes as a text of a file may have
+abbrev pub IsShort : List ℕ → Type 0
+IsShort text = length text ≤ most_text_bytes
 
--- a short text, not empty, with no semicolon
-abbrev pub IsMemberId : List ℕ → Type 0
-IsMemberId id = IsShortText id × (length id ≢ 0) × (list_any (λ b. b == 59) id ≡ false)
+-- short UTF-8, not empty, with no semicolon
+pub record IsMemberId (id : List ℕ) : Type 0 where
+  pub utf8 : IsTrue (is_utf8 id)
+  pub short : IsShort id
+  pub filled : length id ≢ 0
+  pub whole : list_any (λ b. b == 59) id ≡ false
 
--- each id is one that a field of parents can name, and each name is a short text
+-- each id is one that a field of parents can name, and each name is UTF-8
 abbrev pub HasTexts : Instance → Type 0
-HasTexts i = (x : ℕ) → IsMember i x → IsMemberId (member_at i x).id × IsShortText (member_at i x).name
+HasTexts i = (x : ℕ) → IsMember i x → IsMemberId (member_at i x).id × IsTrue (is_utf8 (member_at i x).name)
+
+-- each name is short
+abbrev pub HasShortNames : Instance → Type 0
+HasShortNames i = (x : ℕ) → IsMember i x → IsShort (member_at i x).name
 
 -- the last member, `all`, has no parents
 abbrev pub AllHasNoParents : Instance → Type 0

@@ -3,16 +3,15 @@ ghost use Rattle.std.specs.Prelude.{◌≡◌, ◌↔◌, ◌<◌, ◌∷◌, �
 ghost use Rattle.std.specs.Str.{is_utf8};
 ghost use Rattle.olap_base.specs.Graph.{Graph, category_count};
 ghost use Rattle.olap_instance.specs.DraftInside.{number_of, parents_told};
-ghost use Rattle.olap_instance.specs.Drafts.{Draft, HasParent, IsMemberCause, instance_built, member_refusal, no_members, places_of, with_member, with_parent};
+ghost use Rattle.olap_instance.specs.Drafts.{Draft, HasParent, IsMemberCause, instance_built, member_refusal, named_refusal, no_members, places_of, with_member, with_parent};
 ghost use Rattle.olap_instance.specs.Made.{IsMadeFor};
 ghost use Rattle.olap_instance.specs.Passes.{numbers_of, parents_in};
 ghost use Rattle.olap_instance.specs.declared.refusals.ParentRefusal.TheVariants as of_parent;
 
-use crate::entering::MOST_OTHERS;
 use crate::rosters::{Head, Roster};
 use crate::texts::{is_bad, is_long};
 use crate::{Instance, MemberRefusal, ParentRefusal};
-use olap_base::{CatId, MemberId, Memory, Text};
+use olap_base::{CatId, MOST_MEMBERS, MemberId, Memory, Text};
 use olap_graph::Graph;
 use std::alloc::Global;
 use std::marker::Model;
@@ -78,14 +77,14 @@ fn linked_all(
     Ok(lists)
 }
 
-// The first reason to refuse a member, beside want of memory.
-fn refusal(roster: &Roster, id: &[u8], category: CatId, name: &[u8]) -> Option<MemberRefusal>
-    ensures { (d : Draft) → d.members ≡ roster.now → result ≡ member_refusal d id.now category.0 name.now }
+// The first reason to refuse a member whose name may have any length, beside want of memory.
+fn refusal(roster: &Roster, id: &[u8], category: CatId) -> Option<MemberRefusal>
+    ensures { (d : Draft) → d.members ≡ roster.now → result ≡ named_refusal d id.now category.0 }
 {
     if is_bad(id) {
         return Some(MemberRefusal::BadId);
     }
-    if is_long(id) || is_long(name) {
+    if is_long(id) {
         return Some(MemberRefusal::TextTooLong);
     }
     if category.0 == 0 {
@@ -94,7 +93,7 @@ fn refusal(roster: &Roster, id: &[u8], category: CatId, name: &[u8]) -> Option<M
     if id == b"all".as_slice() || roster.find(id).is_some() {
         return Some(MemberRefusal::DuplicateId);
     }
-    if roster.len() >= MOST_OTHERS {
+    if roster.len() >= MOST_MEMBERS - 1 {
         return Some(MemberRefusal::TooManyMembers);
     }
     None
@@ -130,7 +129,31 @@ impl InstanceBuilder {
         ensures same { OnErr result (self.new ≡ self.old) }
         ensures categories { self.new.categories ≡ self.old.categories }
     {
-        if let Some(refusal) = refusal(&self.roster, id.bytes(), category, name.bytes()) {
+        if is_long(name.bytes()) && !is_bad(id.bytes()) {
+            return Err(MemberRefusal::TextTooLong);
+        }
+        self.add_named(id, category, name)
+    }
+
+    /// Adds a member as `add_member` does, but for its name, which may have any length. Where the name is
+    /// over the limit, the text of the instance can't be read back.
+    pub fn add_named(
+        &mut self,
+        id: Text,
+        category: CatId,
+        name: Text,
+    ) -> Result<MemberId, MemberRefusal>
+        requires id { IsTrue (is_utf8 id) }
+        requires name { IsTrue (is_utf8 name) }
+        requires category { category.0 < self.old.categories }
+        ensures ok { IfOk result (λ m. named_refusal self.old id category.0 ≡ None) }
+        ensures number { IfOk result (λ m. m.0 ≡ length self.old.members) }
+        ensures added { OnOk result (self.new ≡ with_member self.old id category.0 name) }
+        ensures err { IfErr result (IsMemberCause (named_refusal self.old id category.0)) }
+        ensures same { OnErr result (self.new ≡ self.old) }
+        ensures categories { self.new.categories ≡ self.old.categories }
+    {
+        if let Some(refusal) = refusal(&self.roster, id.bytes(), category) {
             return Err(refusal);
         }
         let member = MemberId(self.roster.len() as u32);

@@ -1,6 +1,7 @@
 // The first pass over a text: its members, their parents aside.
-ghost use Rattle.std.specs.Prelude.{◌≡◌, ◌<◌, ◌≤◌, ◌∷◌, ◌++◌, [], ℕ, List, codes, false, length, map, None, Some, OnOk, IfOk, MatchResult};
+ghost use Rattle.std.specs.Prelude.{◌≡◌, ◌<◌, ◌+◌, ◌∷◌, ◌++◌, [], ℕ, List, codes, false, length, map, None, Some, OnOk, IfOk, MatchResult};
 ghost use Rattle.std.specs.Str.{bytes_eq};
+ghost use Rattle.olap_base.specs.Limits.{most_members};
 ghost use Rattle.olap_base.specs.Naming.{place_of};
 ghost use Rattle.olap_graph.specs.Lookups.{category_named};
 ghost use Rattle.olap_records.specs.Faults.{first_fault};
@@ -11,13 +12,10 @@ ghost use Rattle.olap_instance.specs.Refusals.{IsFaultCause, IsRecordCause};
 use crate::rosters::{Head, Roster};
 use crate::texts::{is_bad, is_long, is_text};
 use crate::{InstanceKind, InstanceRefusal};
-use olap_base::{CatId, Text};
+use olap_base::{CatId, MOST_MEMBERS, Text};
 use olap_graph::Graph;
 use olap_records::Rows;
 use std::alloc::Global;
-
-/// The most members of an instance beside `all`.
-pub(crate) const MOST_OTHERS: usize = 262_143;
 
 fn category(graph: &Graph, name: &[u8]) -> Option<u16>
     ensures { result ≡ category_named graph.now name.now }
@@ -47,7 +45,7 @@ fn checked(graph: &Graph, roster: &Roster, rows: &Rows) -> Result<u16, InstanceK
         (λ k. member_fault graph.now earlier rows.now.row ≡ Some k) }
     ensures fields { OnOk result (length rows.now.row ≡ 4) }
     ensures absent { OnOk result (place_of (id_field rows.now.row) (ids_in roster.now) ≡ None) }
-    ensures room { OnOk result (length roster.now < 262143) }
+    ensures room { OnOk result (length roster.now + 1 < most_members) }
     ensures other { OnOk result (bytes_eq (id_field rows.now.row) (codes "all") ≡ false) }
 {
     if rows.len() != 4 {
@@ -72,7 +70,7 @@ fn checked(graph: &Graph, roster: &Roster, rows: &Rows) -> Result<u16, InstanceK
     if id == b"all".as_slice() || roster.find(id).is_some() {
         return Err(InstanceKind::DuplicateId);
     }
-    if roster.len() >= MOST_OTHERS {
+    if roster.len() >= MOST_MEMBERS - 1 {
         return Err(InstanceKind::TooManyMembers);
     }
     Ok(category)
@@ -85,13 +83,13 @@ fn enter(
     roster: &mut Roster,
     rows: &Rows,
 ) -> Result<(), InstanceRefusal>
-    requires few { length roster.old ≤ 262143 }
+    requires few { length roster.old < most_members }
     ensures member { (earlier : List (List (List ℕ))) → roster.old ≡ map (member_read graph.now) earlier
         → MatchResult result
         (λ _. (member_fault graph.now earlier rows.now.row ≡ None)
         × (roster.new ≡ roster.old ++ member_read graph.now rows.now.row ∷ []))
         (λ e. IsRecordCause (member_fault graph.now earlier rows.now.row) (length earlier) e) }
-    ensures few { OnOk result (length roster.new ≤ 262143) }
+    ensures few { OnOk result (length roster.new < most_members) }
     ensures others { place_of (codes "all") (ids_in roster.old) ≡ None
         → OnOk result (place_of (codes "all") (ids_in roster.new) ≡ None) }
 {
@@ -122,7 +120,7 @@ pub(crate) fn enter_all(
     ensures members { MatchResult result
         (λ r. PassesFirst graph.now rows.old.left r)
         (λ e. IsFaultCause (first_fault (member_fault graph.now) [] rows.old.left) e) }
-    ensures few { IfOk result (λ r. length r ≤ 262143) }
+    ensures few { IfOk result (λ r. length r < most_members) }
     ensures others { IfOk result (λ r. place_of (codes "all") (ids_in r) ≡ None) }
 {
     let mut roster = Roster::new(alloc);

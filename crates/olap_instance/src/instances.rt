@@ -2,6 +2,7 @@
 ghost use Rattle.std.specs.Prelude.{◌≡◌, ◌<◌, ◌≤◌, ℕ, length, map, IfSome};
 ghost use Rattle.std.specs.Option.{option_map};
 ghost use Rattle.olap_base.specs.Instance.{IsBelow, IsInstance, category_of, member_at, name_of, parents_of};
+ghost use Rattle.olap_base.specs.Limits.{most_members};
 ghost use Rattle.olap_base.specs.Naming.{place_of};
 ghost use Rattle.olap_instance.specs.Members.{AllHasNoParents, AreSound, HasTexts, with_parents};
 ghost use Rattle.olap_instance.specs.Passes.{parents_in};
@@ -42,7 +43,7 @@ impl Instance {
     /// How many members there are, `all` included.
     pub fn members(&self) -> u32
         ensures count { result ≡ length self.now }
-        ensures few { length self.now ≤ 262144 }
+        ensures few { length self.now ≤ most_members }
         ensures sound { IsInstance self.now }
         ensures texts { HasTexts self.now }
         ensures top { AllHasNoParents self.now }

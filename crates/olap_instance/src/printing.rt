@@ -3,11 +3,12 @@ ghost use Rattle.std.specs.Prelude.{◌≡◌, ◌<◌, ◌≤◌, ◌∷◌, �
 ghost use Rattle.std.specs.List.{join_with_byte};
 ghost use Rattle.olap_base.specs.Graph.{IsHierarchy};
 ghost use Rattle.olap_base.specs.Instance.{IsInstance, member_at};
+ghost use Rattle.olap_base.specs.Limits.{most_members};
 ghost use Rattle.olap_records.specs.Records.{records_of};
 ghost use Rattle.olap_records.specs.Texts.{text_of_row};
 ghost use Rattle.olap_instance.specs.InstanceText.{instance_read};
 ghost use Rattle.olap_instance.specs.Made.{IsMadeFor};
-ghost use Rattle.olap_instance.specs.Members.{AllHasNoParents, HasTexts};
+ghost use Rattle.olap_instance.specs.Members.{AllHasNoParents, HasShortNames, HasTexts};
 ghost use Rattle.olap_instance.specs.Printing.{member_fields, text_of_instance};
 
 use crate::Instance;
@@ -82,20 +83,21 @@ fn recall(graph: &Graph, instance: &Instance)
     ensures hierarchy { IsHierarchy graph.now }
     ensures sound { IsInstance instance.now }
     ensures texts { HasTexts instance.now }
-    ensures few { length instance.now ≤ 262144 }
+    ensures few { length instance.now ≤ most_members }
     ensures top { AllHasNoParents instance.now }
 {
     graph.categories();
     instance.members();
 }
 
-/// The text of an instance that was made for the graph. Reading it gives the same instance.
+/// The text of an instance that was made for the graph. Reading it gives the same instance, where each
+/// name is short enough for a file.
 pub fn print_instance(alloc: Global, graph: &Graph, instance: &Instance) -> Result<Text, Memory>
     requires made { IsMadeFor graph.now instance.now }
     ensures text { IfOk result (λ t. t ≡ text_of_instance graph.now instance.now) }
-    ensures reads { IfOk result (λ t. instance_read graph.now (records_of t) ≡ Ok instance.now) }
+    ensures reads { HasShortNames instance.now
+        → IfOk result (λ t. instance_read graph.now (records_of t) ≡ Ok instance.now) }
 {
     recall(graph, instance);
-    let text = printed(alloc, graph, instance)?;
-    Text::from_bytes(alloc, &text)
+    Ok(Text::from_vec(printed(alloc, graph, instance)?))
 }

@@ -1,10 +1,12 @@
 // An instance read from a text.
-ghost use Rattle.std.specs.Prelude.{◌≡◌, ◌≤◌, ◌∷◌, ◌++◌, [], codes, true, drop, length, None, IfOk, IsTrue, MatchResult, Ok};
+ghost use Rattle.std.specs.Prelude.{◌≡◌, ◌<◌, ◌∷◌, ◌++◌, [], codes, true, drop, length, None, IfOk, IsTrue, MatchResult, Ok};
+ghost use Rattle.olap_base.specs.Limits.{most_members};
 ghost use Rattle.olap_base.specs.Naming.{place_of};
 ghost use Rattle.olap_records.specs.Faults.{first_fault};
 ghost use Rattle.olap_records.specs.Records.{records_of};
 ghost use Rattle.olap_instance.specs.InstanceText.{has_header, instance_read, parents_fault};
 ghost use Rattle.olap_instance.specs.Made.{IsMadeFor};
+ghost use Rattle.olap_instance.specs.Members.{HasShortNames};
 ghost use Rattle.olap_instance.specs.Passes.{PassesFirst, PassesSecond, ids_in, parents_in};
 ghost use Rattle.olap_instance.specs.Refusals.{IsFaultCause, IsRefusedBy};
 
@@ -31,7 +33,7 @@ fn read_members(alloc: Global, graph: &Graph, text: &[u8]) -> Result<Roster, Ins
     ensures members { MatchResult result
         (λ r. (has_header (records_of text.now) ≡ true) × PassesFirst graph.now (drop 1 (records_of text.now)) r)
         (λ e. IsRefusedBy e (instance_read graph.now (records_of text.now))) }
-    ensures few { IfOk result (λ r. length r ≤ 262143) }
+    ensures few { IfOk result (λ r. length r < most_members) }
     ensures others { IfOk result (λ r. place_of (codes "all") (ids_in r) ≡ None) }
 {
     let mut rows = Rows::new(alloc, text);
@@ -67,6 +69,7 @@ pub fn read_instance(alloc: Global, graph: &Graph, text: &[u8]) -> Result<Instan
         (λ i. instance_read graph.now (records_of text.now) ≡ Ok i)
         (λ e. IsRefusedBy e (instance_read graph.now (records_of text.now))) }
     ensures made { IfOk result (λ i. IsMadeFor graph.now i) }
+    ensures names { IfOk result (λ i. HasShortNames i) }
 {
     let mut roster = read_members(alloc, graph, text)?;
     roster.add_all()?;

@@ -4,6 +4,7 @@ ghost use Rattle.std.specs.List.{list_any, slice_split};
 ghost use Rattle.std.specs.Str.{is_utf8};
 ghost use Rattle.olap_instance.specs.InstanceText.{is_bad_id, is_too_long, pieces_of};
 
+use olap_base::MOST_TEXT_BYTES;
 use std::alloc::{AllocError, Global};
 
 /// Whether the bytes are UTF-8.
@@ -26,11 +27,11 @@ pub(crate) fn is_bad(id: &[u8]) -> bool
     id.is_empty() || has_semicolon(id)
 }
 
-/// Whether the text is over 255 bytes.
+/// Whether the text has more bytes than a text of a file may have.
 pub(crate) fn is_long(text: &[u8]) -> bool
     ensures { result ≡ is_too_long text.now }
 {
-    text.len() > 255
+    text.len() > MOST_TEXT_BYTES
 }
 
 // The parts of a field between its semicolons, of which there is one at least.

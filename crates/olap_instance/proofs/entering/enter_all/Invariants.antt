@@ -1,4 +1,5 @@
-use Rattle.std.proofs.Common.{◌≡◌, ◌≤◌, ℕ, List, None, codes, length, map}
+use Rattle.std.proofs.Common.{◌≡◌, ◌<◌, ℕ, List, None, codes, length, map}
+use Rattle.olap_base.specs.Limits.{most_members}
 use Rattle.olap_base.specs.Naming.{place_of}
 use Rattle.olap_records.proofs.Seeing.{HasSeen}
 use Rattle.olap_instance.specs.InstanceText.{member_fault, member_read}
@@ -10,7 +11,7 @@ invariant-rows l = record {
   before : List (List (List ℕ));
   seen : HasSeen (member_fault l.graph) l.fn.rows.left before l.rows.left;
   members : l.roster ≡ map (member_read l.graph) before;
-  few : length l.roster ≤ 262143;
+  few : length l.roster < most_members;
   others : place_of (codes "all") (ids_in l.roster) ≡ None;
 }
 

@@ -8,7 +8,5 @@ returns-clause-reads c =
     let g = c.args.graph.now in
     let i = c.args.instance.now in
     let k = c.recall.ensures in
-    IfOk-weaker c.from_bytes.result _ _
-    (λ t e. text-reads g i k.hierarchy k.sound k.texts k.few k.top c.requires.made t
-    (e ∙ (c.deref.ensures.value ∙ c.in_ok-text.ensures)))
-    c.from_bytes.ensures
+    λ names. text-reads g i k.hierarchy k.sound k.texts k.few k.top c.requires.made names _
+    (c.from_vec.ensures ∙ c.in_ok-printed.ensures)

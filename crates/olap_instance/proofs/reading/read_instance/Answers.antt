@@ -43,4 +43,5 @@ returns c =
     record {
       read = rw (first.0, first.1.0, r.second) (ap (λ i. Ok i) (sym (c.from_parts.ensures ∙ r.members)));
       made = rw c.from_parts.ensures r.made;
+      names = rw c.from_parts.ensures r.names;
     }
