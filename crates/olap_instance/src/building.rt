@@ -55,7 +55,7 @@ fn linked(
     ensures { IfOk result (λ v. numbers_of v.items ≡ places_of all.0 (map number_of parents.now)) }
 {
     let mut places = Vec::with_capacity(alloc, parents.len())?;
-    for parent in parents {
+    'parents: for parent in parents {
         places.push(parent.unwrap_or(all))?;
     }
     Ok(places)
@@ -70,7 +70,7 @@ fn linked_all(
     ensures { IfOk result (λ v. parents_in v.items ≡ map (places_of all.0) (parents_told parents.now) ++ [] ∷ []) }
 {
     let mut lists = Vec::new(alloc);
-    for list in parents {
+    'lists: for list in parents {
         lists.push(linked(alloc, list, all)?)?;
     }
     lists.push(Vec::new(alloc))?;

@@ -51,7 +51,7 @@ fn link_pieces(
     ensures below { OnOk result (AreBelow stamps.new (child + 2)) }
 {
     let mut found = Vec::new(alloc);
-    for i in 0..all.len() {
+    'pieces: for i in 0..all.len() {
         match named(roster, stamps, child + 1, all[i]) {
             Ok(place) => {
                 stamps[place as usize] = child + 1;

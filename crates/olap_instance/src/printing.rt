@@ -36,7 +36,7 @@ fn joined(alloc: Global, instance: &Instance, members: &[MemberId]) -> Result<Ve
     ensures { IfOk result (λ v. v.items ≡ join_with_byte 59 (map (λ m. (member_at instance.now m.0).id) members.now)) }
 {
     let mut text = Vec::new(alloc);
-    for i in 0..members.len() {
+    'members: for i in 0..members.len() {
         add_piece(&mut text, i == 0, instance.id(members[i]).bytes())?;
     }
     Ok(text)
@@ -52,8 +52,10 @@ fn print_member(
 ) -> Result<(), Memory>
     requires made { IsMadeFor graph.now instance.now }
     requires inside { m.0 < length instance.now }
-    ensures { OnOk result (out.new
-        ≡ out.old ++ text_of_row (member_fields graph.now instance.now (member_at instance.now m.0))) }
+    requires width { out.old.width ≡ 4 }
+    ensures text { OnOk result (out.new.text
+        ≡ out.old.text ++ text_of_row (member_fields graph.now instance.now (member_at instance.now m.0))) }
+    ensures width { out.new.width ≡ 4 }
 {
     let parents = joined(alloc, instance, instance.parents(m))?;
     let category = graph.name(instance.category(m)).bytes();
@@ -70,9 +72,9 @@ fn printed(alloc: Global, graph: &Graph, instance: &Instance) -> Result<Vec<u8>,
     requires made { IsMadeFor graph.now instance.now }
     ensures { IfOk result (λ v. v.items ≡ text_of_instance graph.now instance.now) }
 {
-    let mut out = Printer::new(alloc);
+    let mut out = Printer::new(alloc, 4);
     out.row(&[b"id", b"category", b"name", b"parents"])?;
-    for m in 0..instance.members() - 1 {
+    'others: for m in 0..instance.members() - 1 {
         print_member(alloc, &mut out, graph, instance, MemberId(m))?;
     }
     out.finish()

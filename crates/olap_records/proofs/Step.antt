@@ -1,6 +1,6 @@
 -- What one read does to the records that are left.
 use Rattle.std.proofs.Common.{◌≡◌, ◌∷◌, ◌∙◌, Bor, Bool, true, false, ℕ, List, [], Option, Some, None, refl, sym, ap, inl, inr}
-use Rattle.std.specs.Prelude.{IsSome}
+use Rattle.std.specs.Prelude.{IsSome, not, if◌then◌else◌}
 use Rattle.std.specs.Bool.{MatchBool}
 use Rattle.std.proofs.lemmas.Bool.{cases_Bool}
 use Rattle.csv.specs.Machine.{Read, next_record}
@@ -17,7 +17,7 @@ abbrev rem : Bor (List ℕ) → Option (List ℕ)
 rem s = Some s.now
 
 -- the records that a reader has left
-abbrev left : Reader (Bor (List ℕ)) → List (List (List ℕ))
+abbrev pub left : Reader (Bor (List ℕ)) → List (List (List ℕ))
 left r = records_left (reader_state r) (source_of rem r)
 
 some-of : (o : Option (List ℕ)) → IsSome o → (y : List ℕ) × (o ≡ Some y)
@@ -61,3 +61,11 @@ read-takes old new found f intact failed reads = elim (cases_Bool (has_failed ol
   | inr g ↦ let i = intact g in let y = some-of (source_of rem old) i.4 in
       found-by old new found f y.0 i.0 y.1 (reads i.1 i.3)
 ]
+
+-- the same of what is left where a flag says that nothing is
+pub with-flag : (found done : Bool) (x y : List (List (List ℕ))) (f : List (List ℕ)) → done ≡ false
+    → MatchBool found (x ≡ f ∷ y) (x ≡ [])
+    → MatchBool found ((if done then [] else x) ≡ f ∷ (if not found then [] else y))
+    (((if done then [] else x) ≡ []) × ((if not found then [] else y) ≡ []))
+with-flag true done x y f e h = rw e h
+with-flag false done x y f e h = rw e (h, refl)

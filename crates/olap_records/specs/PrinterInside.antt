@@ -1,13 +1,17 @@
 -- What a printer keeps.
-use Rattle.std.specs.Prelude.{◌≡◌, ◌++◌, false, ℕ, List}
+use Rattle.std.specs.Prelude.{◌≡◌, ◌++◌, true, false, ℕ, List}
 use Rattle.csv.specs.Writing.{default_writer, fields_written, has_written, writer_pending, writer_setup, writer_under}
+use Rattle.olap_records.specs.Texts.{Printing}
 use Rattle.olap_records.specs.declared.printing.Printer.TheInside.{Inside}
 
 -- what the writer has taken: what lies in the list, and then what waits in the buffer
 abbrev pub text_so_far : Inside → List ℕ
 text_so_far a = (writer_under a.wtr).items ++ writer_pending a.wtr
 
+abbrev pub printing_of : Inside → Printing
+printing_of a = record { width = a.width; text = text_so_far a; live = a.live }
+
 -- a printer of which no write failed stands between two records
 abbrev pub IsBetween : Inside → Type 0
-IsBetween a = a.broken ≡ false → (writer_setup a.wtr ≡ default_writer) × (fields_written a.wtr ≡ 0)
+IsBetween a = a.live ≡ true → (writer_setup a.wtr ≡ default_writer) × (fields_written a.wtr ≡ 0)
     × (has_written a.wtr ≡ false)

@@ -1,5 +1,5 @@
 -- What a reader of records keeps.
-use Rattle.std.specs.Prelude.{◌≡◌, true, false, ℕ, List, Some, IsSome}
+use Rattle.std.specs.Prelude.{◌≡◌, true, false, ℕ, List, [], Some, IsSome, if◌then◌else◌}
 use Rattle.std.specs.Borrow.{Bor}
 use Rattle.csv.specs.Reading.{Ready, default_config, has_failed, is_flexible, reader_config, reader_state, reader_trim, source_of}
 use Rattle.csv.specs.Records.{fields_of}
@@ -10,7 +10,10 @@ use Rattle.olap_records.specs.declared.reading.Rows.TheInside.{Inside}
 
 abbrev pub reading_of : Inside → Reading
 reading_of a =
-    record { row = fields_of a.row; left = records_left (reader_state a.rdr) (source_of (λ s. Some s.now) a.rdr) }
+    record {
+      row = fields_of a.row;
+      left = if a.done then [] else records_left (reader_state a.rdr) (source_of (λ s. Some s.now) a.rdr);
+    }
 
 -- a reader that has not failed reads the bytes that are left, one record at a time
 abbrev pub Intact : Reader (Bor (List ℕ)) → Type 0

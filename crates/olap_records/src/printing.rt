@@ -1,5 +1,5 @@
 // A printer of records to a text.
-ghost use Rattle.std.specs.Prelude.{◌≡◌, ◌++◌, [], IfOk, OnOk, map};
+ghost use Rattle.std.specs.Prelude.{◌≡◌, ◌++◌, [], IfOk, IsTrue, OnErr, OnOk, false, length, map, true};
 ghost use Rattle.olap_records.specs.Texts.{text_of_row};
 
 use csv::{Error, Writer};
@@ -24,53 +24,66 @@ impl From<Unwritten> for Memory {
     }
 }
 
-/// A text of records.
+/// A text of records of one width. It is live until a record is refused, for want of memory.
 #[derive(Drop)]
 pub struct Printer {
     wtr: Writer<Vec<u8>>,
-    // A write failed, so the text may end inside a record.
-    broken: bool,
+    // How many fields each record has.
+    width: usize,
+    // No write failed, so the text ends with a record.
+    live: bool,
 }
 
 impl Model for Printer {
-    ghost use Rattle.std.specs.Prelude.{List, ℕ};
+    ghost use Rattle.olap_records.specs.Texts.{Printing};
 
-    ghost Value = { List ℕ };
+    ghost Value = { Printing };
 
-    ghost use Rattle.olap_records.specs.PrinterInside.{text_so_far, IsBetween};
+    ghost use Rattle.olap_records.specs.PrinterInside.{printing_of, IsBetween};
 
-    ghost view = { text_so_far };
+    ghost view = { printing_of };
 
     ghost invariant = { IsBetween };
 }
 
 impl Printer {
-    /// No text.
-    pub fn new(alloc: Global) -> Printer
-        ensures { result ≡ [] }
+    /// No text, for records of so many fields.
+    pub fn new(alloc: Global, width: usize) -> Printer
+        ensures text { result.text ≡ [] }
+        ensures width { result.width ≡ width }
+        ensures live { IsTrue result.live }
     {
         Printer {
             wtr: Writer::from_writer(Vec::new(alloc)),
-            broken: false,
+            width,
+            live: true,
         }
     }
 
     fn put(&mut self, fields: &[&[u8]]) -> Result<(), Unwritten>
-        ensures { OnOk result (self.new ≡ self.old ++ text_of_row (map (λ f. f.now) fields.now)) }
+        ensures text { OnOk result (self.new.text ≡ self.old.text ++ text_of_row (map (λ f. f.now) fields.now)) }
+        ensures width { self.new.width ≡ self.old.width }
+        ensures live { OnOk result (IsTrue self.old.live) }
+        ensures kept { OnOk result (IsTrue self.new.live) }
+        ensures over { OnErr result (self.new.live ≡ false) }
     {
-        if self.broken {
+        if !self.live {
             return Err(Unwritten);
         }
-        self.broken = true;
+        self.live = false;
         self.wtr.write_fields(fields)?;
-        self.broken = false;
+        self.live = true;
         Ok(())
     }
 
-    /// Adds a record. All records of one printer have as many fields as its first, else they are refused;
-    /// and after a refusal it refuses every record.
+    /// Adds a record. After a refusal every record is refused, and so is the text.
     pub fn row(&mut self, fields: &[&[u8]]) -> Result<(), Memory>
-        ensures { OnOk result (self.new ≡ self.old ++ text_of_row (map (λ f. f.now) fields.now)) }
+        requires width { length fields.now ≡ self.old.width }
+        ensures text { OnOk result (self.new.text ≡ self.old.text ++ text_of_row (map (λ f. f.now) fields.now)) }
+        ensures width { self.new.width ≡ self.old.width }
+        ensures live { OnOk result (IsTrue self.old.live) }
+        ensures kept { OnOk result (IsTrue self.new.live) }
+        ensures over { OnErr result (self.new.live ≡ false) }
     {
         self.put(fields)?;
         Ok(())
@@ -78,9 +91,13 @@ impl Printer {
 
     /// The text.
     pub fn finish(self) -> Result<Vec<u8>, Memory>
-        ensures { IfOk result (λ v. v.items ≡ self) }
+        ensures text { IfOk result (λ v. v.items ≡ self.text) }
+        ensures live { IfOk result (λ v. IsTrue self.live) }
     {
-        let Printer { wtr, broken: _ } = self;
+        let Printer { wtr, width: _, live } = self;
+        if !live {
+            return Err(Memory);
+        }
         match wtr.into_inner() {
             Ok(text) => Ok(text),
             Err(_) => Err(Memory),

@@ -1,6 +1,7 @@
 // A reader of the records of a text that is held whole.
-ghost use Rattle.std.specs.Prelude.{◌≡◌, ◌∷◌, ◌<◌, [], length, IfOk, IsTrue, ◌↔◌, map, slice_index_or};
+ghost use Rattle.std.specs.Prelude.{◌≡◌, ◌∷◌, ◌<◌, [], length, IsTrue, ◌↔◌, map, slice_index_or};
 ghost use Rattle.std.specs.Bool.{MatchBool};
+ghost use Rattle.std.specs.Result.{MatchResult};
 ghost use Rattle.olap_records.specs.Records.{records_of};
 
 use csv::{ByteRecord, Error, Reader, ReaderBuilder};
@@ -30,6 +31,8 @@ impl From<Unread> for Memory {
 pub struct Rows<'a> {
     rdr: Reader<&'a [u8]>,
     row: ByteRecord,
+    // No record is left: the end was found, or a read was refused.
+    done: bool,
 }
 
 impl<'a> Model for Rows<'a> {
@@ -56,21 +59,33 @@ impl<'a> Rows<'a> {
         Rows {
             rdr,
             row: ByteRecord::new(alloc),
+            done: false,
         }
     }
 
     fn next(&mut self) -> Result<bool, Unread>
-        ensures { IfOk result (λ found.
-            MatchBool found (self.old.left ≡ self.new.row ∷ self.new.left) (self.old.left ≡ [])) }
+        ensures { MatchResult result
+            (λ found. MatchBool found
+            (self.old.left ≡ self.new.row ∷ self.new.left)
+            ((self.old.left ≡ []) × (self.new.left ≡ [])))
+            (λ _. self.new.left ≡ []) }
     {
+        if self.done {
+            return Ok(false);
+        }
+        self.done = true;
         let found = self.rdr.read_byte_record(&mut self.row)?;
+        self.done = !found;
         Ok(found)
     }
 
-    /// Reads the next record, if there is one. After a refusal it must not be asked again.
+    /// Reads the next record, if there is one. After the last, and after a refusal, there is none.
     pub fn advance(&mut self) -> Result<bool, Memory>
-        ensures { IfOk result (λ found.
-            MatchBool found (self.old.left ≡ self.new.row ∷ self.new.left) (self.old.left ≡ [])) }
+        ensures { MatchResult result
+            (λ found. MatchBool found
+            (self.old.left ≡ self.new.row ∷ self.new.left)
+            ((self.old.left ≡ []) × (self.new.left ≡ [])))
+            (λ _. self.new.left ≡ []) }
     {
         let found = self.next()?;
         Ok(found)
@@ -101,7 +116,7 @@ impl<'a> Rows<'a> {
         if self.len() != fields.len() {
             return false;
         }
-        for i in 0..fields.len() {
+        'fields: for i in 0..fields.len() {
             if self.field(i) != fields[i] {
                 return false;
             }

@@ -1,10 +1,15 @@
 // Where there is memory, a text's records are read and printed.
+ghost use Rattle.std.specs.Prelude.{◌≡◌};
+
 use crate::{Printer, Rows};
 use std::alloc::Global;
 use std::process::Abort;
 
 // Prints the first two fields of a record that has so many.
-fn print_pair(rt: &impl Abort, out: &mut Printer, rows: &Rows) {
+fn print_pair(rt: &impl Abort, out: &mut Printer, rows: &Rows)
+    requires width { out.old.width ≡ 2 }
+    ensures width { out.new.width ≡ 2 }
+{
     if rows.len() >= 2 {
         let pair = [rows.field(0), rows.field(1)];
         out.row(&pair).expect(rt, "memory");
@@ -14,7 +19,7 @@ fn print_pair(rt: &impl Abort, out: &mut Printer, rows: &Rows) {
 // The first two fields of each record of a text, printed.
 fn printed_again(rt: &impl Abort, alloc: Global, text: &[u8]) -> Vec<u8> {
     let mut rows = Rows::new(alloc, text);
-    let mut out = Printer::new(alloc);
+    let mut out = Printer::new(alloc, 2);
     'rows: while rows.advance().expect(rt, "memory") {
         print_pair(rt, &mut out, &rows);
     }

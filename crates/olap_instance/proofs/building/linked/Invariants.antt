@@ -4,5 +4,5 @@ use Rattle.olap_instance.specs.Drafts.{places_of}
 use Rattle.olap_instance.specs.Passes.{numbers_of}
 use Rattle.olap_instance.proofs.building.linked.Given as goal
 
-abbrev pub invariant-loop-parent : goal.invariant-loop-parent
-invariant-loop-parent l = numbers_of l.places.items ≡ places_of l.all.0 (map number_of (take l.parent-index l.parents))
+abbrev pub invariant-parents : goal.invariant-parents
+invariant-parents l = numbers_of l.places.items ≡ places_of l.all.0 (map number_of (take l.parent-index l.parents))

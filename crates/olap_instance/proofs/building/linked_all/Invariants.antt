@@ -4,5 +4,5 @@ use Rattle.olap_instance.specs.Drafts.{places_of}
 use Rattle.olap_instance.specs.Passes.{parents_in}
 use Rattle.olap_instance.proofs.building.linked_all.Given as goal
 
-abbrev pub invariant-loop-list : goal.invariant-loop-list
-invariant-loop-list l = parents_in l.lists.items ≡ map (places_of l.all.0) (parents_told (take l.list-index l.parents))
+abbrev pub invariant-lists : goal.invariant-lists
+invariant-lists l = parents_in l.lists.items ≡ map (places_of l.all.0) (parents_told (take l.list-index l.parents))

@@ -5,11 +5,11 @@ use Rattle.olap_base.specs.declared.ids.MemberId.{MemberId}
 use Rattle.olap_instance.proofs.Joining.{join-more}
 use Rattle.olap_instance.proofs.printing.joined.Goals as goal
 
-pub loop-i-preserved : goal.loop-i-preserved
-loop-i-preserved c =
+pub members-preserved : goal.members-preserved
+members-preserved c =
     let members = c.args.members.now in
     let id : MemberId → List ℕ = λ m. (member_at c.args.instance.now m.0).id in
-    let l : c.loop-i.i < length (map id members) = rw (length-map members id) c.loop-i-test.true in
-    let here = c.bytes.ensures ∙ (c.id.ensures ∙ sym (get_or-map id members c.loop-i.i _ [] c.loop-i-test.true)) in
-    join-more (map id members) c.loop-i.i c.loop-i.text.items c.add_piece.new.text.items l c.loop-i.invariant
+    let l : c.members.i < length (map id members) = rw (length-map members id) c.members-test.true in
+    let here = c.bytes.ensures ∙ (c.id.ensures ∙ sym (get_or-map id members c.members.i _ [] c.members-test.true)) in
+    join-more (map id members) c.members.i c.members.text.items c.add_piece.new.text.items l c.members.invariant
     (rw here at c.in_ok-add_piece.ensures)

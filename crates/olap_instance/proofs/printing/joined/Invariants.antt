@@ -3,5 +3,5 @@ use Rattle.std.specs.List.{join_with_byte}
 use Rattle.olap_base.specs.Instance.{member_at}
 use Rattle.olap_instance.proofs.printing.joined.Given as goal
 
-abbrev pub invariant-loop-i : goal.invariant-loop-i
-invariant-loop-i l = l.text.items ≡ join_with_byte 59 (take l.i (map (λ m. (member_at l.instance m.0).id) l.members))
+abbrev pub invariant-members : goal.invariant-members
+invariant-members l = l.text.items ≡ join_with_byte 59 (take l.i (map (λ m. (member_at l.instance m.0).id) l.members))

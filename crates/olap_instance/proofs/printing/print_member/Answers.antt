@@ -10,8 +10,8 @@ joined-requires c =
     inside-all (length c.args.instance.now) c.parents.result.now (parents_of c.args.instance.now c.args.m.0)
     c.parents.ensures.list c.parents.ensures.places
 
-pub returns : goal.returns
-returns c =
+pub returns-clause-text : goal.returns-clause-text
+returns-clause-text c =
     let g = c.args.graph.now in
     let i = c.args.instance.now in
     let m = member_at i c.args.m.0 in
@@ -23,4 +23,4 @@ returns c =
     ∙ (c.in_ok-parents.ensures
     ∙ ap (join_with_byte 59) (parents-named i c.parents.result.now m c.parents.ensures.list)) in
     let fields = same-fields g i m _ _ _ _ id category name parents in
-    row-same c.row.result c.args.out.now c.row.new.self _ _ fields c.row.ensures
+    row-same c.row.result c.args.out.now.text c.row.new.self.text _ _ fields c.row.ensures.text

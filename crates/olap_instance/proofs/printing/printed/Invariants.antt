@@ -4,5 +4,8 @@ use Rattle.olap_instance.specs.InstanceText.{header}
 use Rattle.olap_instance.specs.Printing.{member_fields}
 use Rattle.olap_instance.proofs.printing.printed.Given as goal
 
-abbrev pub invariant-loop-m : goal.invariant-loop-m
-invariant-loop-m l = l.out ≡ text_of_rows (header ∷ map (member_fields l.graph l.instance) (take l.m l.instance))
+abbrev pub invariant-others : goal.invariant-others
+invariant-others l = record {
+  text : l.out.text ≡ text_of_rows (header ∷ map (member_fields l.graph l.instance) (take l.m l.instance));
+  width : l.out.width ≡ 4;
+}

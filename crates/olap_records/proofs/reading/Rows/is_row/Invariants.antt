@@ -1,5 +1,5 @@
 use Rattle.std.proofs.Common.{◌≡◌, ℕ, ◌<◌, get_or, map, []}
 use Rattle.olap_records.proofs.reading.Rows.is_row.Given as goal
 
-abbrev pub invariant-loop-i : goal.invariant-loop-i
-invariant-loop-i l = (k : ℕ) → k < l.i → get_or l.self.row k [] ≡ get_or (map (λ f. f.now) l.fields) k []
+abbrev pub invariant-fields : goal.invariant-fields
+invariant-fields l = (k : ℕ) → k < l.i → get_or l.self.row k [] ≡ get_or (map (λ f. f.now) l.fields) k []
