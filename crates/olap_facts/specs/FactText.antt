@@ -8,6 +8,7 @@ use Rattle.std.specs.List.{list_any}
 use Rattle.std.specs.Str.{bytes_eq}
 use Rattle.olap_base.specs.Graph.{Graph, category_count}
 use Rattle.olap_base.specs.Instance.{Instance, category_of}
+use Rattle.olap_base.specs.Limits.{most_listed_facts}
 use Rattle.olap_base.specs.Naming.{Fault, place_of}
 use Rattle.olap_base.specs.Views.{Fact}
 use Rattle.olap_records.specs.Faults.{field, first_fault}
@@ -15,11 +16,9 @@ use Rattle.olap_records.specs.Numbers.{value_of}
 use Rattle.olap_facts.specs.declared.kinds.FactKind.{FactKind}
 use Rattle.olap_facts.specs.declared.kinds.FactKind.TheVariants as kind
 
+-- the fields of the first record
 abbrev pub header : List (List ℕ)
 header = codes "member" ∷ codes "value" ∷ []
-
-abbrev pub most_facts : ℕ
-most_facts = 1048576
 
 -- a category other than `All` that is no edge's parent
 abbrev pub is_bottom : Graph → ℕ → Bool
@@ -45,8 +44,9 @@ fact_fault_within most g i before r =
     else if nat_le most (length before) then Some kind.TooManyFacts
     else None
 
+-- the same for a file that is read into a list
 abbrev pub fact_fault : Graph → Instance → List (List (List ℕ)) → List (List ℕ) → Option FactKind
-fact_fault = fact_fault_within most_facts
+fact_fault = fact_fault_within most_listed_facts
 
 -- a record's fact: the member that it names, and the value that it spells
 abbrev pub fact_read : Instance → List (List ℕ) → Fact
@@ -74,6 +74,6 @@ facts_read_within most g i records =
     if has_header records then body_read_within most g i (drop 1 records)
     else Err (record { at = 1; kind = kind.BadHeader })
 
--- the same for the most facts of a table
+-- the same for a file that is read into a list
 abbrev pub facts_read : Graph → Instance → List (List (List ℕ)) → Result (List Fact) (Fault FactKind)
-facts_read = facts_read_within most_facts
+facts_read = facts_read_within most_listed_facts

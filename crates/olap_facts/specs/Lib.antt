@@ -4,3 +4,4 @@ pub mod FactText
 pub mod Refusals
 pub mod Kinds
 pub mod FactReading
+pub mod Laws

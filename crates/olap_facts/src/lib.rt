@@ -6,11 +6,13 @@
 #![tactic(auto)]
 
 mod kinds;
+mod laws;
 mod readers;
 mod reading;
 mod tables;
 
 pub use kinds::{FactKind, FactRefusal, NextRefusal};
+pub use laws::bottom_is_decided;
 pub use readers::FactReader;
 pub use reading::read_facts;
 pub use tables::{Fact, Facts};

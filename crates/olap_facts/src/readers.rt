@@ -125,7 +125,9 @@ impl<'a> FactReader<'a> {
             (λ f. HandsOut self.old (fact_of f) × (self.new ≡ one_more self.old)))
             (λ e. IsStopped self.old e × (self.new ≡ stopped self.old)) }
         ensures member { IfOk result (λ o. IfSome o (λ f. f.member.0 < length self.old.instance)) }
-        ensures bottom { IfOk result (λ o. IfSome o (λ f. IsBottom self.old.graph (category_of self.old.instance f.member.0))) }
+        ensures bottom { IfOk result (λ o.
+            IfSome o (λ f. IsBottom self.old.graph (category_of self.old.instance f.member.0))) }
+        ensures few { IfOk result (λ o. IfSome o (λ f. self.old.handed < self.old.most)) }
     {
         let graph = self.graph;
         let instance = self.instance;

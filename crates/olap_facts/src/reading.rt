@@ -2,6 +2,7 @@
 ghost use Rattle.std.specs.Prelude.{◌≡◌, ◌<◌, ◌≤◌, ℕ, All, IfOk, IsTrue, List as Items, MatchResult, None, [], Ok, Some, drop, length, map};
 ghost use Rattle.olap_base.specs.Graph.{IsBottom};
 ghost use Rattle.olap_base.specs.Instance.{category_of};
+ghost use Rattle.olap_base.specs.Limits.{most_listed_facts};
 ghost use Rattle.olap_base.specs.Views.{IsFactTable};
 ghost use Rattle.olap_instance.specs.Made.{IsMadeFor};
 ghost use Rattle.olap_records.specs.Faults.{first_fault};
@@ -11,14 +12,11 @@ ghost use Rattle.olap_facts.specs.Refusals.{IsFaultCause, IsRefusedBy};
 ghost use Rattle.olap_facts.specs.Seen.{fact_of, facts_of};
 
 use crate::{Fact, FactKind, FactRefusal, Facts};
-use olap_base::{List, MemberId, Memory};
+use olap_base::{List, MOST_LISTED_FACTS, MemberId, Memory};
 use olap_graph::Graph;
 use olap_instance::Instance;
 use olap_records::{Rows, value};
 use std::alloc::Global;
-
-/// The most facts of a table.
-const MOST_FACTS: u64 = 1_048_576;
 
 /// Reads the first record, and says whether it is the header.
 pub(crate) fn begins(rows: &mut Rows) -> Result<bool, Memory>
@@ -50,7 +48,8 @@ pub(crate) fn fact(
     requires made { IsMadeFor graph.now instance.now }
     ensures fact { (earlier : Items (Items (Items ℕ))) → length earlier ≡ before
         → MatchResult result
-        (λ f. (fact_fault_within most graph.now instance.now earlier rows.now.row ≡ None) × (fact_of f ≡ fact_read instance.now rows.now.row))
+        (λ f. (fact_fault_within most graph.now instance.now earlier rows.now.row ≡ None)
+        × (fact_of f ≡ fact_read instance.now rows.now.row))
         (λ k. fact_fault_within most graph.now instance.now earlier rows.now.row ≡ Some k) }
     ensures member { IfOk result (λ f. f.member.0 < length instance.now) }
     ensures bottom { IfOk result (λ f. IsBottom graph.now (category_of instance.now f.member.0)) }
@@ -83,14 +82,15 @@ fn read_rows(
 ) -> Result<Vec<Fact>, FactRefusal>
     requires made { IsMadeFor graph.now instance.now }
     ensures facts { MatchResult result
-        (λ v. (first_fault (fact_fault graph.now instance.now) [] rows.old.left ≡ None) × (map fact_of v.items ≡ map (fact_read instance.now) rows.old.left))
+        (λ v. (first_fault (fact_fault graph.now instance.now) [] rows.old.left ≡ None)
+        × (map fact_of v.items ≡ map (fact_read instance.now) rows.old.left))
         (λ e. IsFaultCause (first_fault (fact_fault graph.now instance.now) [] rows.old.left) e) }
     ensures table { IfOk result (λ v. IsFactTable graph.now instance.now (map fact_of v.items)) }
-    ensures few { IfOk result (λ v. length v.items ≤ 1048576) }
+    ensures few { IfOk result (λ v. length v.items ≤ most_listed_facts) }
 {
     let mut facts = Vec::new(alloc);
     'rows: while rows.advance()? {
-        match fact(graph, instance, rows, facts.len() as u64, MOST_FACTS) {
+        match fact(graph, instance, rows, facts.len() as u64, MOST_LISTED_FACTS) {
             Ok(fact) => facts.push(fact)?,
             Err(kind) => {
                 return Err(FactRefusal::Fault {
@@ -118,7 +118,7 @@ pub fn read_facts(
         (λ e. IsRefusedBy e (facts_read graph.now instance.now (records_of text.now))) }
 
     ensures members { IfOk result (λ f. All (λ q. q.member.0 < length instance.now) f.rows) }
-    ensures few { IfOk result (λ f. length f.rows ≤ 1048576) }
+    ensures few { IfOk result (λ f. length f.rows ≤ most_listed_facts) }
     ensures table { IfOk result (λ f. IsFactTable graph.now instance.now (facts_of f)) }
 {
     let mut rows = Rows::new(alloc, text);

@@ -6,14 +6,17 @@ use Rattle.olap_records.specs.Faults.{first_fault, or_after}
 use Rattle.olap_records.specs.FaultLaws.{IsFirstFault, Passes}
 
 module _ {R K : Type 0} (fault : List R → R → Option K) where
+  -- the record behind those before it
   at-seam : (before after : List R) (r : R) → slice_get (before ++ r ∷ after) (length before) ≡ Some r
   at-seam [] after r = refl
   at-seam (x ∷ xs) after r = at-seam xs after r
 
+  -- the records before a seam
   front : (before after : List R) → take (length before) (before ++ after) ≡ before
   front [] after = refl
   front (x ∷ xs) after = ap (λ (t : List R). x ∷ t) (front xs after)
 
+  -- at a place, or past it
   at-or-past : (n j : ℕ) → n ≤ j → (j ≡ n) ⊎ (n + 1 ≤ j)
   at-or-past n j l = elim (eqb_tells j n) [ inl t ↦ inl t.1 | inr m ↦ let ne = m.1 in inr (omega arith) ]
 
@@ -29,11 +32,13 @@ module _ {R K : Type 0} (fault : List R → R → Option K) where
   abbrev PassFrom : ℕ → List R → Type 0
   PassFrom n rows = (j : ℕ) → n ≤ j → Passes fault rows j
 
+  -- past the end there is no record
   past-end : (xs : List R) (j : ℕ) → length xs ≤ j → (q : R) → slice_get (xs ++ []) j ≡ Some q → ⊥
   past-end [] j l q s = cc s
   past-end (x ∷ xs) zero l q s = omega arith
   past-end (x ∷ xs) (suc j) l q s = past-end xs j (omega arith) q s
 
+  -- where there is no fault from here on, each record from here on passes
   pass-from : (before rs : List R) → first_fault fault before rs ≡ None → PassFrom (length before) (before ++ rs)
   pass-from before [] e = λ j l q s. absurd (past-end before j l q s)
   pass-from before (r ∷ rs) e = by (fault before r) refl e (pass-from (before ++ r ∷ []) rs)
@@ -57,6 +62,7 @@ module _ {R K : Type 0} (fault : List R → R → Option K) where
   IsFirstFrom n rows i k = (r : R) × (slice_get rows i ≡ Some r) × (fault (take i rows) r ≡ Some k)
       × ((j : ℕ) → n ≤ j → j < i → Passes fault rows j)
 
+  -- the first record's own fault is the first
   here : (before after : List R) (r : R) (i : ℕ) (k l : K) → fault before r ≡ Some l
       → ◌≡◌ {A = Option (ℕ × K)} (Some (length before, l)) (Some (i, k))
       → IsFirstFrom (length before) (before ++ r ∷ after) i k
@@ -70,6 +76,7 @@ module _ {R K : Type 0} (fault : List R → R → Option K) where
         λ j a b. absurd (omega arith),
       )
 
+  -- the first fault behind a record that passes is the first from it on
   later : (before after : List R) (r : R) (i : ℕ) (k : K) → fault before r ≡ None
       → IsFirstFrom (length before + 1) (before ++ r ∷ after) i k
       → IsFirstFrom (length before) (before ++ r ∷ after) i k
@@ -83,6 +90,7 @@ module _ {R K : Type 0} (fault : List R → R → Option K) where
     ],
   )
 
+  -- the fault that is found from here on is the first from here on
   first-from : (before rs : List R) (i : ℕ) (k : K) → first_fault fault before rs ≡ Some (i, k)
       → IsFirstFrom (length before) (before ++ rs) i k
   first-from before [] i k e = cc e
@@ -98,10 +106,12 @@ module _ {R K : Type 0} (fault : List R → R → Option K) where
           later before rs r i k f
           (rw (append_assoc before (r ∷ []) rs, length-append before (r ∷ [])) at (again e))
 
+  -- the fault that is found is the first
   first-to : (rows : List R) (i : ℕ) (k : K) → first_fault fault [] rows ≡ Some (i, k) → IsFirstFault fault rows i k
   first-to rows i k e = let h = first-from [] rows i k e in
       record { record_at = h.0; stands = h.1; fails = h.2; none_before = λ j b. h.3 j (omega arith) b }
 
+  -- where none is found, each record passes
   pass-to : (rows : List R) → first_fault fault [] rows ≡ None → (j : ℕ) → Passes fault rows j
   pass-to rows e j = pass-from [] rows e j (omega arith)
 

@@ -14,10 +14,12 @@ Leaves xs q = (length q.2 < length xs) ⊎ ((q.1 ≡ st.StartRecord) × (q.2 ≡
 the-some : {A : Type 0} (x y : A) → Some x ≡ Some y → x ≡ y
 the-some x y e = cc
 
+-- what holds of the rest of a text holds of the text
 leaves-front : (c : ℕ) (rest : List ℕ) (q : Read) → Leaves rest q → Leaves (c ∷ rest) q
 leaves-front c rest q (inl h) = inl (omega arith)
 leaves-front c rest q (inr h) = inr h
 
+-- each read leaves less
 leaves : (cfg : Config) (s : State) (fields : List (List ℕ)) (field xs : List ℕ) (q : Read)
     → next_record cfg s fields field xs ≡ Some q → Leaves xs q
 unfolding next_record
@@ -41,6 +43,7 @@ none-at-end cfg (suc n) = refl
 the-cons : {A : Type 0} (x : A) (xs ys : List A) → xs ≡ ys → x ∷ xs ≡ x ∷ ys
 the-cons x xs ys e = cc
 
+-- any two numbers of turns above the number of bytes give the same records
 pub enough : (cfg : Config) (n m : ℕ) (s : State) (xs : List ℕ) → length xs < n → length xs < m
     → records_from cfg n s xs ≡ records_from cfg m s xs
 unfolding records_from

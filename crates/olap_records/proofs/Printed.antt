@@ -15,12 +15,15 @@ no-sign ds h =
     let r : IsInRange 48 57 (slice_index ds 0) = digit_at ds 0 h.1 h.0 in
     (ne_eqb (slice_index ds 0) 45 (λ e. omega arith), ne_eqb (slice_index ds 0) 43 (λ e. omega arith))
 
+-- digits stay as they are where a sign is taken off
 unsigned-same : (ds : List ℕ) → IsNumeral 10 ds → without_leading_sign ds ≡ ds
 unsigned-same ds h = let n = no-sign ds h in rw (n.0, n.1) refl
 
+-- digits spell the same number with a sign and without
 unsigned-value : (ds : List ℕ) → IsNumeral 10 ds → signed_digits_value 10 ds ≡ pos (digits_value 10 ds)
 unsigned-value ds h = let n = no-sign ds h in rw (n.0, n.1) refl
 
+-- the decimal text of a number is a numeral, behind its sign, and has its value
 pub spelt : (z : ℤ) → mag z + 1 < 10 ^ 64 → IsNumeral 10 (without_leading_sign (signed_decimal z))
     × (signed_digits_value 10 (signed_decimal z) ≡ z)
 spelt (pos n) h =

@@ -15,25 +15,30 @@ use mir.Syntax.{Width, w64}
 use Rattle.std.specs.Fmt.{signed_decimal}
 use Rattle.std.specs.Int.Signed.{mag}
 
+-- std's numerals of base ten
 own : IsNumeralModel (λ ds. all_ascii_digits ds ≡ true) (digits_value 10)
 own = numerals_by_value _ (search rules)
 
+-- the test of a numeral decides std's word
 pub numeral-decides : (ds : List ℕ) → Decides (is_numeral ds) (IsNumeral 10 ds)
 numeral-decides ds =
     Decides-and (nat_lt 0 (length ds)) (all_ascii_digits ds) (Decides-ltb 0 (length ds)) (own.to ds, own.from ds)
 
+-- the test of 64 bits decides std's word
 pub i64-decides : (z : ℤ) → Decides (is_i64 z) (FitsSigned w64 z)
 i64-decides (pos n) =
     Decides-like (nat_lt n (2 ^ 63)) (λ h. record { sfits = h }) (λ f. f.sfits) (Decides-ltb n (2 ^ 63))
 i64-decides (negsuc n) =
     Decides-like (nat_lt n (2 ^ 63)) (λ h. record { sfits = h }) (λ f. f.sfits) (Decides-ltb n (2 ^ 63))
 
+-- what a parse gives, where a test decides when it gives something
 pub ok-where : {T E : Type 0} {P : Type 0} (r : Result T E) (t : Bool) (v : T) → OkIff r P v → Decides t P
     → result_ok r ≡ (if t then Some v else None)
 ok-where (Ok x) t v h d = rw (d.1 h.0, h.1) refl
 ok-where (Err e) true v h d = absurd (h (d.0 refl))
 ok-where (Err e) false v h d = refl
 
+-- one byte of ASCII more
 ascii-front : (c : ℕ) (cs : List ℕ) → c < 128 → IsAscii cs → IsAscii (c ∷ cs)
 ascii-front c cs h a zero = h
 ascii-front c cs h a (suc i) = a i
@@ -49,11 +54,13 @@ ascii-signed (c ∷ cs) a = elim (cases_Bool (c == 45)) [
   ]
 ]
 
+-- nothing, where the test can't hold
 none-unless : {T : Type 0} {P : Type 0} (t : Bool) (v : T) → Decides t P → ¬ P
     → ◌≡◌ {A = Option T} None (if t then Some v else None)
 none-unless true v d n = absurd (n (d.0 refl))
 none-unless false v d n = refl
 
+-- a result made by a test
 made : {P : Type 0} (t : Bool) (v : ℤ) → Decides t P → OkIff {E = ℕ} (if t then Ok v else Err 0) P v
 made true v d = (d.0 refl, refl)
 made false v d = λ h. true≢false (sym (d.1 h))
@@ -65,12 +72,14 @@ signed_of test bs =
     else None
 
 module _ (w : Width) (test : ℤ → Bool) (tells : (z : ℤ) → Decides (test z) (FitsSigned w z)) where
+  -- the test of a field decides std's words
   signed-decides : (bs : List ℕ) → Decides (is_numeral (without_leading_sign bs) && test (signed_digits_value 10 bs))
       (IsNumeral 10 (without_leading_sign bs) × FitsSigned w (signed_digits_value 10 bs))
   signed-decides bs =
       Decides-and (is_numeral (without_leading_sign bs)) (test (signed_digits_value 10 bs))
       (numeral-decides (without_leading_sign bs)) (tells (signed_digits_value 10 bs))
 
+  -- what std's parse gives is the number that the field spells
   pub signed-parses : {E : Type 0} (bs : List ℕ) (r : Result ℤ E) → ParsesSigned w 10 bs r
       → result_ok r ≡ signed_of test bs
   signed-parses bs r h =

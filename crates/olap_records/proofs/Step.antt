@@ -13,6 +13,7 @@ use Rattle.olap_records.specs.ReaderInside.{Intact}
 use Rattle.olap_records.specs.Records.{records_after, records_left}
 use Rattle.olap_records.proofs.Fuel.{records-more, records-none}
 
+-- the bytes that a source has left
 abbrev rem : Bor (List ℕ) → Option (List ℕ)
 rem s = Some s.now
 
@@ -20,15 +21,18 @@ rem s = Some s.now
 abbrev pub left : Reader (Bor (List ℕ)) → List (List (List ℕ))
 left r = records_left (reader_state r) (source_of rem r)
 
+-- what is there
 some-of : (o : Option (List ℕ)) → IsSome o → (y : List ℕ) × (o ≡ Some y)
 some-of None h = cc h
 some-of (Some y) h = (y, refl)
 
+-- a record that is read is the first of those left
 take-one : (s s2 : State) (y z : List ℕ) (f : List (List ℕ)) (p : Read)
     → next_record default_config s [] [] y ≡ Some p → f ≡ p.0 → p.1 ≡ s2 → p.2 ≡ z
     → records_after s y ≡ f ∷ records_after s2 z
 take-one s s2 y z f p e ef es ez = records-more default_config s y p e ∙ cc
 
+-- a read that finds a record takes the first of those left
 found-one : (old new : Reader (Bor (List ℕ))) (f : List (List ℕ)) (y : List ℕ) → old.config ≡ default_config
     → source_of rem old ≡ Some y
     → ReadRecord rem old new true f → left old ≡ f ∷ left new
@@ -39,12 +43,14 @@ found-one old new f y ec ex r =
     ap (records_left old.state) ex ∙ take-one old.state new.state y m.0 f p m.2.1 m.2.2 m.2.3.0 m.2.3.1
     ∙ sym (ap (λ (o : Option (List ℕ)). f ∷ records_left new.state o) m.1)
 
+-- a read that finds none finds the end
 found-none : (old new : Reader (Bor (List ℕ))) (f : List (List ℕ)) (y : List ℕ) → old.config ≡ default_config
     → source_of rem old ≡ Some y
     → ReadRecord rem old new false f → left old ≡ []
 found-none old new f y ec ex r = ap (records_left old.state) ex
     ∙ records-none default_config old.state y (rows-end rem old new f default_config y ec ex r)
 
+-- both at once
 found-by : (old new : Reader (Bor (List ℕ))) (found : Bool) (f : List (List ℕ)) (y : List ℕ)
     → old.config ≡ default_config → source_of rem old ≡ Some y
     → ReadRecord rem old new found f → MatchBool found (left old ≡ f ∷ left new) (left old ≡ [])

@@ -94,7 +94,11 @@ impl Printer {
         ensures text { IfOk result (λ v. v.items ≡ self.text) }
         ensures live { IfOk result (λ v. IsTrue self.live) }
     {
-        let Printer { wtr, width: _, live } = self;
+        let Printer {
+            wtr,
+            width: _,
+            live,
+        } = self;
         if !live {
             return Err(Memory);
         }

@@ -12,7 +12,7 @@ returns-then-not-branch-2-clause-reads c = λ records live a.
     let new = c.starts.new.rows.left in
     let b = body-of r c.args.rows.now.left new c.in_ok-starts.field-0 a s.first s.left s.kept c.if-not-branch.false in
     let end = rw c.if-not-branch-2.true at c.in_ok-advance.ensures in
-    next-end r new b end
+    next-end r new b end.0
 
 pub returns-in-Ok-clause-reads : goal.returns-in-Ok-clause-reads
 returns-in-Ok-clause-reads c = λ records live a.
