@@ -140,7 +140,7 @@ module _ (g : Graph) (cs : List Constraint) (q : Formula) (k : Named) (r : ℕ) 
           → IsConstant (with_graph g cs) q (suc c) (text_of_index k.fresh (get_or k.texts (suc c) []) i)
           ⊎ IsFreshName (with_graph g cs) q (text_of_index k.fresh (get_or k.texts (suc c) []) i)
       go zero h = inr ok.fresh
-      go (suc i) h = inl ((ok.texts (suc c)).sound (get_or (get_or k.texts (suc c) []) i k.fresh)
+      go (suc i) h = inl ((ok.texts c).sound (get_or (get_or k.texts (suc c) []) i k.fresh)
           (Contains-get_or (get_or k.texts (suc c) []) i k.fresh (omega arith)))
 
   are_names : AreNames (with_graph g cs) q r edges named

@@ -1,6 +1,7 @@
 // Which categories reach which by chosen edges: a row of bits for each category.
 ghost use Rattle.std.specs.Prelude.{◌≡◌, ◌<◌, ◌≤◌, ◌⊎◌, ◌↔◌, ℕ, length};
 ghost use Rattle.olap_ast.specs.Frozen.{chosen};
+ghost use Rattle.olap_base.specs.Limits.{most_categories};
 ghost use Rattle.olap_base.specs.Graph.{IsHierarchy, category_count};
 ghost use Rattle.olap_frozen.specs.Rows.{AreDrawn, AreRows, Has, Passes, row};
 ghost use Rattle.std.specs.FinSet as set;
@@ -19,7 +20,7 @@ pub(crate) fn row_has(rows: &[CatSet<1>], c: u16, d: u16) -> bool
 
 // Each row has its own number alone.
 fn own(rows: &mut [CatSet<1>])
-    requires { length rows.old ≤ 64 }
+    requires { length rows.old ≤ most_categories }
     ensures { (c d : ℕ) → c < length rows.old → Has rows.new c d ↔ (c ≡ d) }
 {
     'categories: for c in 0..rows.len() {
@@ -31,7 +32,7 @@ fn own(rows: &mut [CatSet<1>])
 fn draw(graph: &Graph, edges: &[bool], rows: &mut [CatSet<1>])
     requires edges { length edges.now ≡ length graph.now.edges }
     requires rows { length rows.old ≡ category_count graph.now }
-    requires few { length rows.old ≤ 64 }
+    requires few { length rows.old ≤ most_categories }
     ensures { AreDrawn graph.now edges.now (length graph.now.edges) rows.new }
 {
     own(rows);
@@ -47,7 +48,7 @@ fn draw(graph: &Graph, edges: &[bool], rows: &mut [CatSet<1>])
 // Each row that has k gets what k's row has.
 fn pass(rows: &mut [CatSet<1>], k: usize)
     requires inside { k < length rows.old }
-    requires few { length rows.old ≤ 64 }
+    requires few { length rows.old ≤ most_categories }
     ensures { (c d : ℕ) → c < length rows.old → Has rows.new c d ↔ Passes rows.old k c d }
 {
     let through = rows[k];
@@ -61,7 +62,7 @@ fn pass(rows: &mut [CatSet<1>], k: usize)
 /// Fills the rows: each with what its category reaches by chosen edges, itself included.
 ///
 /// Cost: categories times categories, of one look and one union each.
-pub(crate) fn close(graph: &Graph, edges: &[bool], rows: &mut [CatSet<1>])
+pub fn close(graph: &Graph, edges: &[bool], rows: &mut [CatSet<1>])
     requires edges { length edges.now ≡ length graph.now.edges }
     requires rows { length rows.old ≡ category_count graph.now }
     ensures rows { AreRows graph.now (chosen graph.now.edges edges.now) rows.new }

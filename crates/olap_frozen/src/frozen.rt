@@ -33,7 +33,8 @@ pub struct Frozen {
 /// Room for the test: a row of bits for each category.
 #[derive(Debug, Drop)]
 pub struct Room {
-    pub(crate) rows: Vec<CatSet<1>>,
+    /// What each category reaches.
+    pub rows: Vec<CatSet<1>>,
 }
 
 impl Room {
@@ -73,8 +74,8 @@ fn are_absent_zero(
     true
 }
 
-// Whether a sound choice of edges, with these names, stands for a frozen dimension.
-pub(crate) fn named(
+/// Whether a sound choice of edges, with these names, stands for a frozen dimension.
+pub fn named(
     graph: &Graph,
     constraints: &[Constraint],
     question: &Formula,

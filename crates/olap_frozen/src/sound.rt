@@ -12,7 +12,7 @@ use olap_bits::CatSet;
 use olap_graph::Graph;
 
 // Whether another chosen edge from c leads to a category that reaches d.
-pub(crate) fn is_passed(
+fn is_passed(
     graph: &Graph,
     edges: &[bool],
     rows: &[CatSet<1>],
@@ -67,7 +67,7 @@ fn tops(rows: &[CatSet<1>], root: CatId, count: u16) -> bool
 /// Whether the laws hold on the chosen edges.
 ///
 /// Cost: for each chosen edge the edges.
-pub(crate) fn is_sound(graph: &Graph, root: CatId, edges: &[bool], rows: &[CatSet<1>]) -> bool
+pub fn is_sound(graph: &Graph, root: CatId, edges: &[bool], rows: &[CatSet<1>]) -> bool
     requires edges { length edges.now ≡ length graph.now.edges }
     requires size { length rows.now ≡ category_count graph.now }
     requires root { IsCategory graph.now root.0 }

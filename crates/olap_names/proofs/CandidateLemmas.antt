@@ -11,6 +11,7 @@ use Rattle.std.proofs.lemmas.List.{length-map, length_push, get_or_past, get_or_
 use Rattle.std.proofs.lemmas.List.Elements.{Contains-append_left, Contains-push}
 use Rattle.std.proofs.lemmas.List.Folds.{Any-from_list_any}
 use Rattle.std.proofs.lemmas.Slice.Eq.{bytes_eq-Decides}
+use Rattle.olap_base.specs.Limits.{most_constants}
 use Rattle.olap_base.specs.Deciding.{contains_cases}
 use Rattle.olap_base.specs.Graph.{Graph}
 use Rattle.olap_base.proofs.ListLemmas.{Distinct, Contains-nil, Contains-from_map, Contains-from_filter, Distinct-map, Distinct-from_AllPairs, first_true, second_true}
@@ -136,7 +137,7 @@ listed_everywhere all n texts w l d = elim (below_or_past d n) [
     get_category a = a.category
 
 pub few_everywhere : (all : List Equality) (n : ℕ) (texts : List (List (List ℕ))) → All (λ a. a.category < n) all
-    → length (distinct_pairs all) ≤ 256 → AreListed all n texts → (d : ℕ) → length (get_or texts d []) ≤ 256
+    → length (distinct_pairs all) ≤ most_constants → AreListed all n texts → (d : ℕ) → length (get_or texts d []) ≤ most_constants
 few_everywhere all n texts w f l d =
     let b = few_constants d all (get_or texts d []) (listed_everywhere all n texts w l d) in omega arith
 

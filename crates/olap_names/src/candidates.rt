@@ -4,6 +4,7 @@ ghost use Rattle.olap_ast.specs.Constants.{AreInByteOrder, texts_on};
 ghost use Rattle.olap_ast.specs.Frozen.{AreCandidates};
 ghost use Rattle.olap_ast.specs.Trees.{constraint_of, formula_of};
 ghost use Rattle.olap_ast.specs.Valid.{distinct_pairs};
+ghost use Rattle.olap_base.specs.Limits.{most_constants};
 ghost use Rattle.olap_base.specs.Graph.{Graph};
 ghost use Rattle.olap_names.specs.Names.{IsConstantSomewhere, IsFreshAmong, atoms, candidates_of, name_at, with_graph};
 
@@ -100,7 +101,7 @@ impl Candidates {
         requires categories { All (λ a. a.category < categories)
             (atoms (map constraint_of constraints.now) (formula_of question.now)) }
         requires few { length (distinct_pairs (atoms (map constraint_of constraints.now) (formula_of question.now)))
-            ≤ 256 }
+            ≤ most_constants }
         ensures count { IfOk result (λ k. length k.texts ≡ categories) }
         ensures candidates { IfOk result (λ k. (g : Graph) → AreCandidates
             (with_graph g (map constraint_of constraints.now)) (formula_of question.now) (candidates_of k)) }
@@ -125,7 +126,7 @@ impl Candidates {
     pub fn constants(&self, c: CatId) -> &[Text]
         requires { c.0 < length self.now.texts }
         ensures list { result.now ≡ slice_index_or self.now.texts c.0 [] }
-        ensures few { length result.now ≤ 256 }
+        ensures few { length result.now ≤ most_constants }
     {
         self.texts[usize::from(c.0)].items()
     }

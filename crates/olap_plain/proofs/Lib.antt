@@ -1,2 +1,3 @@
 -- Lemmas.
 pub mod PlainLemmas
+mod SearchLemmas

@@ -1,2 +1,4 @@
 -- Definitions that contracts cite.
 pub mod Plain
+pub mod Searching
+pub mod Searches

@@ -1,11 +1,13 @@
-//! The direct view, computed from its definition, slowly: a second opinion on what a view is.
+//! Second opinions, computed slowly from the definitions: the direct view, and the least frozen dimension.
 //!
 //! Members, facts and rows are plain structs, and each function says by its contract that it is the definition of
-//! `olap_base`. It is for a few members alone.
+//! `olap_base`. A `Search` tries all choices of edges and names in code order. Both are for a few members alone.
 #![tactic(auto)]
 
+mod searching;
 #[cfg(test)]
 mod tests;
 mod viewing;
 
+pub use searching::Search;
 pub use viewing::{PlainFact, PlainMember, PlainRow, direct, is_below, reaches, row_at};

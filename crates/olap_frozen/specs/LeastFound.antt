@@ -1,0 +1,21 @@
+-- What a frozen dimension that was found says.
+--     frozen_of       the definitions' value
+--     IsLeastFound    it is the least one, and names are there for its indexes
+use Rattle.std.specs.Prelude.{◌≡◌, ℕ}
+use Rattle.olap_ast.specs.Formula.{Formula}
+use Rattle.olap_ast.specs.Frozen as frozen
+use Rattle.olap_ast.specs.Schema.{Schema}
+use Rattle.olap_names.specs.Names.{candidates_of}
+use Rattle.olap_frozen.specs.declared.founding.Found.{Found}
+use Rattle.olap_frozen.specs.declared.frozen.Frozen.{Frozen}
+use Rattle.olap_frozen.specs.Leaves.{IsSized, chosen_of}
+
+-- the choice of edges and names
+abbrev pub frozen_of : Frozen → frozen.Frozen
+frozen_of f = chosen_of f.edges f.names
+
+-- the least frozen dimension with this root for the question
+pub record IsLeastFound (s : Schema) (q : Formula) (r : ℕ) (found : Found) : Type 0 where
+  pub root : found.frozen.root.0 ≡ r
+  pub sized : IsSized s.graph found.candidates found.frozen.edges found.frozen.names
+  pub least : frozen.IsLeastFrozen s q r (candidates_of found.candidates) (frozen_of found.frozen)
