@@ -12,6 +12,7 @@ use Rattle.std.proofs.lemmas.List.Elements.{Contains-append_right}
 use Rattle.std.proofs.lemmas.Slice.Eq.{bytes_eq-Decides}
 use Rattle.olap_base.specs.Deciding.{contains_cases}
 use Rattle.olap_base.specs.Graph.{Edge}
+use Rattle.olap_base.specs.Limits.{most_categories, most_edges, most_text_bytes}
 use Rattle.olap_graph.specs.Lookups.{category_named, edge_between, joins, name_of_category}
 use Rattle.olap_graph.proofs.PlaceLemmas.{found, joins-Decides}
 use Rattle.olap_ast.specs.Schema.{Schema}
@@ -90,15 +91,15 @@ pub add_category : (s : Schema) → IsValidSchema s
 add_category s v n done name rest lines e =
     let there : Contains s.graph.names name = rw e at (stands done name rest) in
     let l = v.names_fit name there in
-    let short : nat_lt 255 (length name) ≡ false = grind (arith) in
+    let short : nat_lt most_text_bytes (length name) ≡ false = grind (arith) in
     let differ : AllPairs ◌≢◌ (done ++ name ∷ rest) = rw (← e) at v.hierarchy.names_differ in
     let new = new_name done name rest differ (v.hierarchy.names name there).1 [] in
     let size = ap length e in
     let sizes = lengths done (name ∷ rest) in
-    let few : nat_le 64 (length done + 1) ≡ false = room (length done) (length rest) (length s.graph.names) v.categories_fit (sym size ∙ sizes) in
+    let few : nat_le most_categories (length done + 1) ≡ false = room (length done) (length rest) (length s.graph.names) v.categories_fit (sym size ∙ sizes) in
     rw (short, new, few) refl
   where
-    room : (a b n : ℕ) → n + 1 ≤ 64 → n ≡ a + suc b → nat_le 64 (a + 1) ≡ false
+    room : (a b n : ℕ) → n + 1 ≤ most_categories → n ≡ a + suc b → nat_le most_categories (a + 1) ≡ false
     room a b n l q = grind arith
 
 -- ---- edges
@@ -111,8 +112,8 @@ add_edge s v short done edge rest lines e =
     let ends = v.hierarchy.categories edge.child edge.parent there in
     let lc = short edge.child ends.0 in
     let lp = short edge.parent ends.1 in
-    let sc : nat_lt 255 (length (name_of_category s.graph edge.child)) ≡ false = grind (arith) in
-    let sp : nat_lt 255 (length (name_of_category s.graph edge.parent)) ≡ false = grind (arith) in
+    let sc : nat_lt most_text_bytes (length (name_of_category s.graph edge.child)) ≡ false = grind (arith) in
+    let sp : nat_lt most_text_bytes (length (name_of_category s.graph edge.parent)) ≡ false = grind (arith) in
     let nc : category_named (record { names = s.graph.names; edges = done }) (name_of_category s.graph edge.child) ≡ Some edge.child = named s.graph v.hierarchy edge.child ends.0 in
     let np : category_named (record { names = s.graph.names; edges = done }) (name_of_category s.graph edge.parent) ≡ Some edge.parent = named s.graph v.hierarchy edge.parent ends.1 in
     let loop = false_from_ne_true (edge.child == edge.parent) (λ q. v.hierarchy.no_loop edge.child edge.parent there (eqb-true edge.child edge.parent q)) in
@@ -123,10 +124,10 @@ add_edge s v short done edge rest lines e =
     (λ x c q. not_before done edge rest differ (rw q at c)) in
     let size = ap length e in
     let sizes = lengths done (edge ∷ rest) in
-    let few : nat_le 256 (length done) ≡ false = room (length done) (length rest) (length s.graph.edges) v.edges_fit (sym size ∙ sizes) in
+    let few : nat_le most_edges (length done) ≡ false = room (length done) (length rest) (length s.graph.edges) v.edges_fit (sym size ∙ sizes) in
     rw (sc, sp, nc, np, loop, all, new, few) refl
   where
-    room : (a b n : ℕ) → n ≤ 256 → n ≡ a + suc b → nat_le 256 a ≡ false
+    room : (a b n : ℕ) → n ≤ most_edges → n ≡ a + suc b → nat_le most_edges a ≡ false
     room a b n l q = grind arith
 
     from_all : (x : Edge) → Contains s.graph.edges x → x.child ≡ 0 → ⊥

@@ -3,6 +3,7 @@ use Rattle.std.proofs.Common.{◌≡◌, ◌==◌, ◌||◌, ◌≤◌, ◌+◌,
 use Rattle.std.specs.List.{list_any}
 use Rattle.std.proofs.lemmas.List.Elements.{All-head, All-tail}
 use Rattle.olap_base.specs.Graph.{Graph, IsCategory, IsHierarchy, IsLetterOrDigit}
+use Rattle.olap_base.specs.Limits.{most_text_bytes}
 use Rattle.olap_graph.specs.Lookups.{name_of_category}
 use Rattle.olap_ast.specs.Formula as Meaning
 use Rattle.olap_ast.specs.Formula.{Formula, Terms}
@@ -17,9 +18,9 @@ use Rattle.olap_schema.proofs.PrintCut.{AreCategories, steps_are}
 use Rattle.olap_schema.proofs.PrintNames.{letters, name_is, no_mark, no_underscore}
 use Rattle.olap_schema.proofs.PrintTokens.{joined_tokens, spelt, spelt_list, spelt_rest}
 
--- no name has more than 255 bytes
+-- no name has too many bytes
 abbrev pub AreShort : Graph → Type 0
-AreShort g = (c : ℕ) → IsCategory g c → length (name_of_category g c) ≤ 255
+AreShort g = (c : ℕ) → IsCategory g c → length (name_of_category g c) ≤ most_text_bytes
 
 name_goes_on : (n : ℕ) (w rest : List ℕ) → All IsLetterOrDigit w
     → has_long_name n (w ++ rest) ≡ has_long_name (n + length w) rest
@@ -30,14 +31,14 @@ name_goes_on n (b ∷ w) rest a =
     let e : (n + 1) + length w ≡ n + length (b ∷ w) = omega arith in
     rw (no_underscore b l, no_mark 46 (lit≤ tt) b l) (name_goes_on (n + 1) w rest (All-tail IsLetterOrDigit b w a) ∙ ap (λ k. has_long_name k rest) e)
 
-short_end : (n : ℕ) → n ≤ 255 → has_long_name n [] ≡ false
+short_end : (n : ℕ) → n ≤ most_text_bytes → has_long_name n [] ≡ false
 unfolding has_long_name
-short_end n l = let e : nat_lt 255 n ≡ false = grind (arith) in e
+short_end n l = let e : nat_lt most_text_bytes n ≡ false = grind (arith) in e
 
-at_mark : (n m : ℕ) (rest : List ℕ) → n ≤ 255 → (m == 95) || (m == 46) ≡ true
+at_mark : (n m : ℕ) (rest : List ℕ) → n ≤ most_text_bytes → (m == 95) || (m == 46) ≡ true
     → has_long_name n (m ∷ rest) ≡ has_long_name 0 rest
 unfolding has_long_name
-at_mark n m rest l e = let short : nat_lt 255 n ≡ false = grind (arith) in rw (e, short) refl
+at_mark n m rest l e = let short : nat_lt most_text_bytes n ≡ false = grind (arith) in rw (e, short) refl
 
 pub none-append : {A : Type 0} (p : A → Bool) (xs ys : List A) → list_any p xs ≡ false → list_any p ys ≡ false
     → list_any p (xs ++ ys) ≡ false
@@ -53,15 +54,15 @@ short_word : (w : List ℕ) → has_long_name 0 w ≡ false → is_long (token.W
 unfolding is_long
 short_word w e = e
 
-short_quoted : (k : List ℕ) → length k ≤ 255 → is_long (token.Quoted k) ≡ false
+short_quoted : (k : List ℕ) → length k ≤ most_text_bytes → is_long (token.Quoted k) ≡ false
 unfolding is_long
-short_quoted k l = let e : nat_lt 255 (length k) ≡ false = grind (arith) in e
+short_quoted k l = let e : nat_lt most_text_bytes (length k) ≡ false = grind (arith) in e
 
 one_short : (w : List ℕ) (ts : List Token) → has_long_name 0 w ≡ false → list_any is_long ts ≡ false
     → list_any is_long (token.Word w ∷ ts) ≡ false
 one_short w ts d e = rw (short_word w d) e
 
-equal_short : (w k : List ℕ) → has_long_name 0 w ≡ false → length k ≤ 255
+equal_short : (w k : List ℕ) → has_long_name 0 w ≡ false → length k ≤ most_text_bytes
     → list_any is_long (token.Word w ∷ token.Equal ∷ token.Quoted k ∷ []) ≡ false
 unfolding is_long
 equal_short w k d l = rw (d, short_quoted k l) refl
@@ -111,7 +112,7 @@ unfolding has_long_name
 name_one_short = refl
 
 module _ (g : Graph) (h : IsHierarchy g) (short : AreShort g) where
-  after_short : (m n : ℕ) (cs : List ℕ) → (m == 95) || (m == 46) ≡ true → n ≤ 255 → AreCategories g cs
+  after_short : (m n : ℕ) (cs : List ℕ) → (m == 95) || (m == 46) ≡ true → n ≤ most_text_bytes → AreCategories g cs
       → has_long_name n (names_after g m cs) ≡ false
   unfolding names_after
   after_short m n [] e l v = short_end n l

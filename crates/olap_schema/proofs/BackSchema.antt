@@ -4,6 +4,7 @@ use Rattle.std.specs.Prelude.{Contains, Ok, flat_map, fold}
 use Rattle.std.proofs.lemmas.List.Elements.{Contains-get_or}
 use Rattle.olap_base.specs.Deciding.{contains_cons}
 use Rattle.olap_base.specs.Graph.{Edge, IsCategory, IsCategoryName}
+use Rattle.olap_base.specs.Limits.{most_constants, most_nodes}
 use Rattle.olap_graph.specs.Lookups.{name_of_category}
 use Rattle.olap_ast.specs.Formula.{Equality, equalities}
 use Rattle.olap_ast.specs.Schema.{Constraint, Schema}
@@ -43,7 +44,7 @@ module _ (s : Schema) (v : IsValidSchema s) where
 
   constraints_back : (todo done : List Constraint) (n nodes : ℕ) (pairs : List Equality) (lines : List ℕ)
       → done ++ todo ≡ s.constraints →
-      nodes + nodes_of todo ≤ 4096 → length (pairs_with pairs todo) ≤ 256 → AreTexts (atoms_in todo) →
+      nodes + nodes_of todo ≤ most_nodes → length (pairs_with pairs todo) ≤ most_constants → AreTexts (atoms_in todo) →
       Ends (ruled s.graph done nodes pairs lines) n (map (constraint_text s.graph) todo) s
   constraints_back [] done n nodes pairs lines e few_nodes few_pairs t =
       let none = none_stuck s.graph v.hierarchy.reaches_all in

@@ -8,6 +8,7 @@ use Rattle.olap_base.specs.Graph.{Graph}
 use Rattle.olap_ast.specs.Formula as Meaning
 use Rattle.olap_ast.specs.Formula.{Formula, Terms}
 use Rattle.olap_ast.specs.Valid.{depth_of, depth_of_terms, node_count, node_count_of_terms}
+use Rattle.olap_base.specs.Limits.{most_depth}
 use Rattle.olap_grammar.specs.declared.tokens.Token.{Token}
 use Rattle.olap_grammar.specs.declared.tokens.Token.TheVariants as token
 use Rattle.olap_grammar.specs.declared.tokens.Joint.{Joint}
@@ -95,7 +96,7 @@ shifted : (o c : ℕ) (ts : List Token) → opens_over (o + 1) (c + 1) ts ≡ op
 unfolding opens_over
 shifted o c [] = refl
 shifted o c (token.Open ∷ ts) =
-    let n : nat_lt ((c + 1) + 64) ((o + 1) + 1) ≡ nat_lt (c + 64) (o + 1) = grind (arith) in
+    let n : nat_lt ((c + 1) + most_depth) ((o + 1) + 1) ≡ nat_lt (c + most_depth) (o + 1) = grind (arith) in
     rw (n, shifted (o + 1) c ts) refl
 shifted o c (token.Close ∷ ts) = shifted o (c + 1) ts
 shifted o c (token.Word w ∷ ts) = shifted o c ts
@@ -108,11 +109,11 @@ shifted o c (token.Joint j ∷ ts) = shifted o c ts
 
 -- where so many more may be open, these tokens open and close brackets in pairs
 abbrev pub Balances : ℕ → List Token → Type 0
-Balances d ts = (o c : ℕ) (us : List Token) → o + d ≤ c + 64 → opens_over o c (ts ++ us) ≡ opens_over o c us
+Balances d ts = (o c : ℕ) (us : List Token) → o + d ≤ c + most_depth → opens_over o c (ts ++ us) ≡ opens_over o c us
 
-opened : (o c : ℕ) (ts : List Token) → o + 1 ≤ c + 64 → opens_over o c (token.Open ∷ ts) ≡ opens_over (o + 1) c ts
+opened : (o c : ℕ) (ts : List Token) → o + 1 ≤ c + most_depth → opens_over o c (token.Open ∷ ts) ≡ opens_over (o + 1) c ts
 unfolding opens_over
-opened o c ts l = let n : nat_lt (c + 64) (o + 1) ≡ false = grind (arith) in rw n refl
+opened o c ts l = let n : nat_lt (c + most_depth) (o + 1) ≡ false = grind (arith) in rw n refl
 
 closed : (o c : ℕ) (us : List Token) → opens_over (o + 1) c (token.Close ∷ us) ≡ opens_over o c us
 unfolding opens_over
@@ -184,6 +185,6 @@ module _ (g : Graph) (r : ℕ) where
         ∙ balances f o c (spelt_rest g r fs ++ us) (omega arith) ∙ rest_balances fs o c us (omega arith))
 
   -- no more brackets are open than the formula is deep
-  pub few_open : (f : Formula) → depth_of f ≤ 64 → opens_over 0 0 (spelt g r f) ≡ false
+  pub few_open : (f : Formula) → depth_of f ≤ most_depth → opens_over 0 0 (spelt g r f) ≡ false
   unfolding opens_over
   few_open f l = let e = balances f 0 0 [] (omega arith) in rw (append-nil (spelt g r f)) at e

@@ -8,10 +8,10 @@ pub mod StepLemmas
 pub mod ValidNames
 pub mod ValidAtoms
 pub mod ValidFormulas
-pub mod ValidGraphs
 pub mod ValidTexts
 pub mod ValidSteps
 pub mod ValidSchemas
+pub mod ValidQuestions
 pub mod PrintTokens
 pub mod PrintNames
 pub mod PrintCut

@@ -9,6 +9,7 @@ use Rattle.std.specs.Str.{bytes_eq}
 use Rattle.olap_ast.specs.Formula.{Formula, equalities}
 use Rattle.olap_ast.specs.Valid.{with_pair}
 use Rattle.olap_base.specs.Reaching.{is_category_name}
+use Rattle.olap_base.specs.Limits.{most_constants, most_constraints, most_text_bytes}
 use Rattle.olap_graph.specs.Building.{category_refusal, edge_refusal, with_category, with_edge}
 use Rattle.olap_graph.specs.Lookups.{category_named}
 use Rattle.olap_graph.specs.declared.refusals.CategoryRefusal.{CategoryRefusal}
@@ -26,7 +27,7 @@ use Rattle.olap_schema.proofs.ValidTexts.{AreFine, drop_fine, line_is_fine}
 
 -- a category of this name is added
 pub record AddsCategory (a b : Above) (n : ℕ) (name : List ℕ) : Type 0 where
-  pub short : nat_lt 255 (length name) ≡ false
+  pub short : nat_lt most_text_bytes (length name) ≡ false
   pub free : category_refusal a.graph name ≡ None
   pub new : b ≡ record a { graph = with_category a.graph name; category_lines = a.category_lines ++ n ∷ [] }
 
@@ -43,10 +44,10 @@ pub record AddsConstraint (a b : Above) (name : List ℕ) (ts : List Token) (f :
   pub short : list_any is_long ts ≡ false
   pub root_is : category_named a.graph name ≡ Some root
   pub below_all : root == 0 ≡ false
-  pub few : nat_le 64 (length a.constraints) ≡ false
+  pub few : nat_le most_constraints (length a.constraints) ≡ false
   pub faultless : atom_fault a.graph name ts ≡ None
   pub fine : AreFine ts
-  pub few_pairs : nat_lt 256 (length (fold with_pair a.pairs (equalities f))) ≡ false
+  pub few_pairs : nat_lt most_constants (length (fold with_pair a.pairs (equalities f))) ≡ false
   pub new : b ≡ record a {
     constraints = a.constraints ++ record { root = root; formula = f } ∷ [];
     nodes = a.nodes + token_nodes ts;
@@ -82,7 +83,7 @@ last_true true true d h = h
 category_step : (a b : Above) (n : ℕ) (name : List ℕ) → category_read a n name ≡ Ok b → AddsCategory a b n name
 category_step a b n name h = go (category_refusal a.graph name) refl t.1
   where
-    t : (nat_lt 255 (length name) ≡ false) × (category_added a n name (category_refusal a.graph name) ≡ Ok b)
+    t : (nat_lt most_text_bytes (length name) ≡ false) × (category_added a n name (category_refusal a.graph name) ≡ Ok b)
     t = passed_on _ _ _ _ h
 
     go : (o : Option CategoryRefusal) → category_refusal a.graph name ≡ o → category_added a n name o ≡ Ok b
@@ -114,7 +115,7 @@ constraint_step a b name ts fine h = formed (form_read a.graph a.nodes ts) refl 
   where
     faults : (f : Formula) (root : ℕ) → form_read a.graph a.nodes ts ≡ Ok f → list_any is_long ts ≡ false
         → category_named a.graph name ≡ Some root
-        → root == 0 ≡ false → nat_le 64 (length a.constraints) ≡ false → (o : Option SchemaKind)
+        → root == 0 ≡ false → nat_le most_constraints (length a.constraints) ≡ false → (o : Option SchemaKind)
         → atom_fault a.graph name ts ≡ o
         → atoms_read a root ts f o ≡ Ok b → AddsConstraint a b name ts f root
     faults f root e l r z n (Some k) q g = absurd (cc)
@@ -146,7 +147,7 @@ constraint_step a b name ts fine h = formed (form_read a.graph a.nodes ts) refl 
     formed (Ok f) e g =
         let t = passed_on _ _ _ _ g in
         let r =
-        rooted f e (neither (nat_lt 255 (length name)) (list_any is_long ts) t.0)
+        rooted f e (neither (nat_lt most_text_bytes (length name)) (list_any is_long ts) t.0)
         (category_named a.graph name) refl t.1 in
         (f, r.0, r.1)
 

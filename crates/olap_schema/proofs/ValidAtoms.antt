@@ -12,6 +12,7 @@ use Rattle.olap_ast.specs.Formula.{Formula}
 use Rattle.olap_ast.specs.Valid.{IsFormulaAt}
 use Rattle.olap_base.specs.Reaching.{is_category_name, is_category_name_is}
 use Rattle.olap_base.specs.Graph.{Graph, IsCategory, IsCategoryName, reserved}
+use Rattle.olap_base.specs.Limits.{most_text_bytes}
 use Rattle.olap_graph.specs.Lookups.{category_named}
 use Rattle.olap_grammar.specs.Words.{equal_of, equality_of, id_of, path_of, pieces_of, plain_of, reach_of}
 use Rattle.olap_schema.specs.Atoms.{is_connective, is_known, is_path, is_repeated, lacks_edge, named_fault, names_in, word_fault}
@@ -180,7 +181,7 @@ not_connective w h =
     ∙ ap (λ b. b || bytes_eq w (codes "one")) f ∙ o
 
 equality_is_valid : (g : Graph) (c : ℕ) (k : List ℕ) (ns : List (List ℕ)) (f : Formula)
-    → list_all (is_known g) ns ≡ true → length k ≤ 255
+    → list_all (is_known g) ns ≡ true → length k ≤ most_text_bytes
     → equal_of g k ns ≡ Some f → IsFormulaAt g c f
 equality_is_valid g c k ns f known short e = one (length ns == 1) refl (is_formula _ _ _ e).1
   where
@@ -202,7 +203,7 @@ equality_is_valid g c k ns f known short e = one (length ns == 1) refl (is_formu
     one false q d = two (length ns == 2) refl d
 
 pub equal_is_valid : (g : Graph) (root : List ℕ) (c : ℕ) (w k : List ℕ) (f : Formula) → word_fault g root w ≡ None
-    → length k ≤ 255
+    → length k ≤ most_text_bytes
     → equality_of g w k ≡ Some f → IsFormulaAt g c f
 unfolding equality_of word_fault
 equal_is_valid g root c w k f h short e =

@@ -11,6 +11,7 @@ use Rattle.olap_ast.specs.Formula.{Formula, Formula.Truth, Formula.Falsity, Form
 use Rattle.olap_ast.specs.Valid.{AreFormulasAt, IsFormulaAt, depth_of, node_count, node_count_of_terms}
 use Rattle.olap_base.specs.Chains.{IsChain}
 use Rattle.olap_base.specs.Graph.{Graph, HasEdge, IsCategory}
+use Rattle.olap_base.specs.Limits.{most_text_bytes}
 use Rattle.olap_graph.specs.Lookups.{category_named}
 use Rattle.olap_grammar.specs.Clip.{AreLeaves}
 use Rattle.olap_grammar.specs.Grammar.{Atoms, IsFormula, IsFormula.looser, IsFormula.joined, IsFormula.negated, IsFormula.bracketed, IsFormula.listed, IsFormula.plain, IsFormula.equal, IsItems, IsItems.last, IsItems.more, IsList, IsList.none, IsList.some, join}
@@ -62,9 +63,9 @@ parts_faultless g root (t ∷ ts) us h =
 
 -- ---- atoms of the graph
 
-short_constant : (k : List ℕ) → is_long (token.Quoted k) ≡ false → length k ≤ 255
+short_constant : (k : List ℕ) → is_long (token.Quoted k) ≡ false → length k ≤ most_text_bytes
 unfolding is_long
-short_constant k h = ltb-false 255 (length k) h
+short_constant k h = ltb-false most_text_bytes (length k) h
 
 join_is_valid : (g : Graph) (c : ℕ) (j : Joint) (f h : Formula) → IsFormulaAt g c f → IsFormulaAt g c h
     → IsFormulaAt g c (join j f h)

@@ -15,9 +15,10 @@ use Rattle.olap_ast.specs.Schema.{Constraint}
 use Rattle.olap_ast.specs.Valid.{IsFormulaAt, depth_of, distinct_pairs, node_count, with_pair}
 use Rattle.olap_base.specs.Reaching.{is_category_name, is_category_name_is}
 use Rattle.olap_base.specs.Graph.{Graph, IsDeclared, category_count}
+use Rattle.olap_base.specs.Limits.{most_categories, most_constants, most_constraints, most_depth, most_edges, most_nodes, most_text_bytes}
 use Rattle.olap_graph.specs.Building.{IsUnfinished, IsWithinLimits, category_refusal, edge_refusal, with_category, with_edge}
 use Rattle.olap_graph.specs.Lookups.{category_named, edge_between}
-use Rattle.olap_schema.proofs.ValidGraphs.{limits-with_category, limits-with_edge, unfinished-with_category, unfinished-with_edge}
+use Rattle.olap_graph.proofs.GrowthLemmas.{limits-with_category, limits-with_edge, unfinished-with_category, unfinished-with_edge}
 use Rattle.olap_grammar.specs.Answering.{formula_answer}
 use Rattle.olap_grammar.specs.Grammar.{IsFormula}
 use Rattle.olap_grammar.specs.Machine.{the_formula}
@@ -38,7 +39,7 @@ use Rattle.olap_schema.proofs.ValidNames.{name_at}
 pub record IsSoundConstraint (g : Graph) (c : Constraint) : Type 0 where
   pub declared : IsDeclared g c.root
   pub formula : IsFormulaAt g c.root c.formula
-  pub depth : depth_of c.formula ≤ 64
+  pub depth : depth_of c.formula ≤ most_depth
   pub texts : AreTexts (equalities c.formula)
 
 abbrev nodes_in : List Constraint → ℕ
@@ -50,11 +51,11 @@ pairs_in cs = distinct_pairs (flat_map (λ c. equalities c.formula) cs)
 -- what holds of the constraints so far
 pub record AreSound (g : Graph) (cs : List Constraint) (nodes : ℕ) (pairs : List Equality) : Type 0 where
   pub each : (c : Constraint) → Contains cs c → IsSoundConstraint g c
-  pub few : length cs ≤ 64
+  pub few : length cs ≤ most_constraints
   pub nodes_are : nodes_in cs ≡ nodes
-  pub few_nodes : nodes ≤ 4096
+  pub few_nodes : nodes ≤ most_nodes
   pub pairs_are : pairs_in cs ≡ pairs
-  pub few_pairs : length pairs ≤ 256
+  pub few_pairs : length pairs ≤ most_constants
 
 -- what holds of what the lines so far say
 pub record IsSoundSoFar (a : Above) : Type 0 where
@@ -109,10 +110,10 @@ none_there None h = refl
 none_there (Some i) h = absurd (cc)
 
 free_name : (g : Graph) (name : List ℕ) → category_refusal g name ≡ None
-    → (category_named g name ≡ None) × (category_count g < 64)
+    → (category_named g name ≡ None) × (category_count g < most_categories)
 free_name g name h =
     let t = not_refused _ _ _ h in
-    (none_there (category_named g name) t.0, leb-false 64 (category_count g) (not_refused _ _ _ t.1).0)
+    (none_there (category_named g name) t.0, leb-false most_categories (category_count g) (not_refused _ _ _ t.1).0)
 
 pub category_kept : (a b : Above) (n : ℕ) (name : List ℕ) → is_category_name name ≡ true → AddsCategory a b n name
     → IsSoundSoFar a → IsSoundSoFar b
@@ -120,7 +121,7 @@ category_kept a b n name h s p =
     let free = free_name a.graph name s.free in
     subst IsSoundSoFar (sym s.new) (record {
       unfinished = unfinished-with_category a.graph name p.unfinished ((is_category_name_is name).0 h) free.0;
-      limits = limits-with_category a.graph name p.limits free.1 (ltb-false 255 (length name) s.short);
+      limits = limits-with_category a.graph name p.limits free.1 (ltb-false most_text_bytes (length name) s.short);
       constraints =
           all_within a.graph (with_category a.graph name) a.constraints a.nodes a.pairs
           (within_category a.graph name) p.constraints;
@@ -133,7 +134,7 @@ record IsFree (g : Graph) (c d : ℕ) : Type 0 where
   loop : c ≢ d
   from_all : c ≢ 0
   none : edge_between g c d ≡ None
-  few : length g.edges < 256
+  few : length g.edges < most_edges
 
 free_edge : (g : Graph) (c d : ℕ) → edge_refusal g c d ≡ None → IsFree g c d
 free_edge g c d h =
@@ -145,7 +146,7 @@ free_edge g c d h =
       loop = eqb-false c d loop.0;
       from_all = eqb-false c 0 from_all.0;
       none = none_there (edge_between g c d) none.0;
-      few = leb-false 256 (length g.edges) few.0;
+      few = leb-false most_edges (length g.edges) few.0;
     }
 
 pub edge_kept : (a b : Above) (child parent : List ℕ) (c d : ℕ) → AddsEdge a b child parent c d → IsSoundSoFar a
@@ -166,36 +167,36 @@ edge_kept a b child parent c d s p =
 -- ---- a constraint
 
 -- what a formula that was read is
-record IsFormed (g : Graph) (before : ℕ) (ts : List Token) (f : Formula) : Type 0 where
-  few : before + token_nodes ts ≤ 4096
-  formed : IsFormula (atoms_of g) 1 ts f
-  depth : depth_of f ≤ 64
+pub record IsFormed (g : Graph) (before : ℕ) (ts : List Token) (f : Formula) : Type 0 where
+  pub few : before + token_nodes ts ≤ most_nodes
+  pub formed : IsFormula (atoms_of g) 1 ts f
+  pub depth : depth_of f ≤ most_depth
 
-formed : (g : Graph) (before : ℕ) (ts : List Token) (f : Formula) → form_read g before ts ≡ Ok f
+pub formed : (g : Graph) (before : ℕ) (ts : List Token) (f : Formula) → form_read g before ts ≡ Ok f
     → IsFormed g before ts f
 unfolding form_read
 formed g before ts f h =
     let many = passed_on _ _ _ _ h in
     let deep = passed_on _ _ _ _ many.1 in
     let t = found (the_formula (atoms_of g) ts) refl deep.1 in
-    record { few = ltb-false 4096 (before + token_nodes ts) many.0; formed = t.0; depth = t.1 }
+    record { few = ltb-false most_nodes (before + token_nodes ts) many.0; formed = t.0; depth = t.1 }
   where
-    shallow : (k : Formula) → the_formula (atoms_of g) ts ≡ Some k → (b : Bool) → nat_le (depth_of k) 64 ≡ b
-        → form_answer (cond b (Ok k) (Err form.TooDeep)) ≡ Ok f → IsFormula (atoms_of g) 1 ts f × (depth_of f ≤ 64)
+    shallow : (k : Formula) → the_formula (atoms_of g) ts ≡ Some k → (b : Bool) → nat_le (depth_of k) most_depth ≡ b
+        → form_answer (cond b (Ok k) (Err form.TooDeep)) ≡ Ok f → IsFormula (atoms_of g) 1 ts f × (depth_of f ≤ most_depth)
     shallow k e true d q =
-        subst (λ x. IsFormula (atoms_of g) 1 ts x × (depth_of x ≤ 64)) (sym (ok_is _ _ q))
-        (found_is_formula (atoms_of g) ts k e, leb-true (depth_of k) 64 d)
+        subst (λ x. IsFormula (atoms_of g) 1 ts x × (depth_of x ≤ most_depth)) (sym (ok_is _ _ q))
+        (found_is_formula (atoms_of g) ts k e, leb-true (depth_of k) most_depth d)
     shallow k e false d q = absurd (cc)
 
     found : (o : Option Formula) → the_formula (atoms_of g) ts ≡ o → form_answer (formula_answer o) ≡ Ok f
-        → IsFormula (atoms_of g) 1 ts f × (depth_of f ≤ 64)
+        → IsFormula (atoms_of g) 1 ts f × (depth_of f ≤ most_depth)
     found None e q = absurd (cc)
-    found (Some k) e q = shallow k e (nat_le (depth_of k) 64) refl q
+    found (Some k) e q = shallow k e (nat_le (depth_of k) most_depth) refl q
 
 one_more : (g : Graph) (cs : List Constraint) (nodes : ℕ) (pairs : List Equality) (c : Constraint) (more : ℕ)
     → AreSound g cs nodes pairs
-    → IsSoundConstraint g c → length cs < 64 → node_count c.formula ≡ more → nodes + more ≤ 4096
-    → length (fold with_pair pairs (equalities c.formula)) ≤ 256
+    → IsSoundConstraint g c → length cs < most_constraints → node_count c.formula ≡ more → nodes + more ≤ most_nodes
+    → length (fold with_pair pairs (equalities c.formula)) ≤ most_constants
     → AreSound g (cs ++ c ∷ []) (nodes + more) (fold with_pair pairs (equalities c.formula))
 one_more g cs nodes pairs c more s sound few count few_nodes few_pairs = record {
   each =
@@ -236,7 +237,7 @@ constraint_kept a b name ts f root s p =
       constraints =
           one_more a.graph a.constraints a.nodes a.pairs (record { root = root; formula = f })
           (token_nodes ts) p.constraints sound
-          (leb-false 64 (length a.constraints) s.few)
+          (leb-false most_constraints (length a.constraints) s.few)
           (formula_nodes (atoms_of a.graph) (atoms_are_leaves a.graph) read.formed) read.few
-          (ltb-false 256 (length (fold with_pair a.pairs (equalities f))) s.few_pairs);
+          (ltb-false most_constants (length (fold with_pair a.pairs (equalities f))) s.few_pairs);
     })

@@ -8,6 +8,7 @@ use Rattle.std.specs.List.{list_any, range_with_len}
 use Rattle.olap_base.specs.Reaching.{category_reaches}
 use Rattle.olap_base.specs.Graph.{Graph}
 use Rattle.olap_base.specs.Naming.{Fault}
+use Rattle.olap_base.specs.Limits.{most_constants, most_constraints, most_nodes, most_text_bytes}
 use Rattle.olap_graph.specs.Building.{all_alone, category_refusal, edge_refusal, with_category, with_edge}
 use Rattle.olap_graph.specs.Lookups.{category_named, name_of_category}
 use Rattle.olap_graph.specs.declared.refusals.CategoryRefusal.{CategoryRefusal}
@@ -57,7 +58,7 @@ category_added a n name None =
 
 abbrev pub category_read : Above → ℕ → List ℕ → Result Above SchemaKind
 category_read a n name =
-    if nat_lt 255 (length name) then Err kind.TextTooLong else category_added a n name (category_refusal a.graph name)
+    if nat_lt most_text_bytes (length name) then Err kind.TextTooLong else category_added a n name (category_refusal a.graph name)
 
 abbrev pub edge_kind : EdgeRefusal → SchemaKind
 edge_kind of_edge.SelfEdge = kind.SelfEdge
@@ -77,7 +78,7 @@ ends_read a (Some c) (Some d) = edge_added a c d (edge_refusal a.graph c d)
 
 abbrev pub edge_read : Above → List ℕ → List ℕ → Result Above SchemaKind
 edge_read a child parent =
-    if nat_lt 255 (length child) || nat_lt 255 (length parent) then Err kind.TextTooLong
+    if nat_lt most_text_bytes (length child) || nat_lt most_text_bytes (length parent) then Err kind.TextTooLong
     else ends_read a (category_named a.graph child) (category_named a.graph parent)
 
 -- ---- formulas
@@ -94,7 +95,7 @@ form_answer (Err e) = Err (form_kind e)
 -- the formula of the tokens, with so many nodes on the lines above
 unfoldable pub form_read : Graph → ℕ → List Token → Result Formula SchemaKind
 form_read g before ts =
-    if nat_lt 4096 (before + token_nodes ts) then Err kind.TooManyNodes
+    if nat_lt most_nodes (before + token_nodes ts) then Err kind.TooManyNodes
     else if opens_over 0 0 ts then Err kind.TooDeep
     else form_answer (formula_answer (the_formula (atoms_of g) ts))
 
@@ -103,7 +104,7 @@ form_read g before ts =
 -- the constraint is added, with the pairs that there are then
 abbrev pub constraint_added : Above → ℕ → List Token → Formula → List Equality → Result Above SchemaKind
 constraint_added a root ts f pairs =
-    if nat_lt 256 (length pairs) then Err kind.TooManyConstants
+    if nat_lt most_constants (length pairs) then Err kind.TooManyConstants
     else Ok (record a {
       constraints = a.constraints ++ record { root = root; formula = f } ∷ [];
       nodes = a.nodes + token_nodes ts;
@@ -118,13 +119,13 @@ abbrev pub root_read : Above → List ℕ → List Token → Formula → Option 
 root_read a name ts f None = Err kind.UnknownCategory
 root_read a name ts f (Some root) =
     if root == 0 then Err kind.RootIsAll
-    else if nat_le 64 (length a.constraints) then Err kind.TooManyConstraints
+    else if nat_le most_constraints (length a.constraints) then Err kind.TooManyConstraints
     else atoms_read a root ts f (atom_fault a.graph name ts)
 
 abbrev pub formed_read : Above → List ℕ → List Token → Result Formula SchemaKind → Result Above SchemaKind
 formed_read a name ts (Err k) = Err k
 formed_read a name ts (Ok f) =
-    if nat_lt 255 (length name) || list_any is_long ts then Err kind.TextTooLong
+    if nat_lt most_text_bytes (length name) || list_any is_long ts then Err kind.TextTooLong
     else root_read a name ts f (category_named a.graph name)
 
 abbrev pub constraint_read : Above → List ℕ → List Token → Result Above SchemaKind
@@ -191,7 +192,7 @@ schema_read text = text_ended (lines_on (Ok nothing_above) 0 (lines_of text))
 abbrev pub question_added : Schema → Formula → Option SchemaKind → Result Formula SchemaKind
 question_added s f (Some k) = Err k
 question_added s f None =
-    if nat_lt 256 (length (distinct_pairs (all_equalities s f))) then Err kind.TooManyConstants else Ok f
+    if nat_lt most_constants (length (distinct_pairs (all_equalities s f))) then Err kind.TooManyConstants else Ok f
 
 abbrev pub question_formed : Schema → ℕ → List Token → Result Formula SchemaKind → Result Formula SchemaKind
 question_formed s root ts (Err k) = Err k

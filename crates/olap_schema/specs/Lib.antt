@@ -1,13 +1,16 @@
 -- Definitions that contracts cite.
+
+-- What a reader of the claims believes: what a text says, its first fault, what is printed, and what holds of both.
 pub mod Lines
 pub mod Statements
 pub mod Tokens
 pub mod Atoms
 pub mod Judging
-pub mod Reading
-pub mod Shown
-pub mod Schemas
 pub mod Kinds
-pub mod Laws
 pub mod Printing
 pub mod PrintingLaws
+pub mod Laws
+pub mod Schemas
+-- The inside: what the readers' values stand for.
+pub mod Reading
+pub mod Shown

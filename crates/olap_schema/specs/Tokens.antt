@@ -3,6 +3,7 @@
 --     opens_over     too many brackets are open
 --     is_long        a name or a constant is too long
 use Rattle.std.specs.Prelude.{◌==◌, ◌||◌, ◌+◌, ℕ, Bool, true, false, List, [], ◌∷◌, length, count_by, nat_lt, if◌then◌else◌}
+use Rattle.olap_base.specs.Limits.{most_depth, most_text_bytes}
 use Rattle.olap_grammar.specs.declared.tokens.Token.{Token}
 use Rattle.olap_grammar.specs.declared.tokens.Token.TheVariants as token
 
@@ -22,10 +23,10 @@ is_node (token.Joint j) = true
 abbrev pub token_nodes : List Token → ℕ
 token_nodes ts = count_by is_node ts
 
--- after so many `(` and so many `)`, some `(` is more than 64 above the `)`
+-- after so many `(` and so many `)`, some `(` is too far above the `)`
 unfoldable pub opens_over : ℕ → ℕ → List Token → Bool
 opens_over o c [] = false
-opens_over o c (token.Open ∷ ts) = if nat_lt (c + 64) (o + 1) then true else opens_over (o + 1) c ts
+opens_over o c (token.Open ∷ ts) = if nat_lt (c + most_depth) (o + 1) then true else opens_over (o + 1) c ts
 opens_over o c (token.Close ∷ ts) = opens_over o (c + 1) ts
 opens_over o c (token.Word w ∷ ts) = opens_over o c ts
 opens_over o c (token.Quoted k ∷ ts) = opens_over o c ts
@@ -35,17 +36,17 @@ opens_over o c (token.Equal ∷ ts) = opens_over o c ts
 opens_over o c (token.Not ∷ ts) = opens_over o c ts
 opens_over o c (token.Joint j ∷ ts) = opens_over o c ts
 
--- after so many bytes of a name, this or another name of the word has more than 255
+-- after so many bytes of a name, this or another name of the word has too many
 unfoldable pub has_long_name : ℕ → List ℕ → Bool
-has_long_name n [] = nat_lt 255 n
+has_long_name n [] = nat_lt most_text_bytes n
 has_long_name n (b ∷ bs) =
-    if (b == 95) || (b == 46) then (if nat_lt 255 n then true else has_long_name 0 bs)
+    if (b == 95) || (b == 46) then (if nat_lt most_text_bytes n then true else has_long_name 0 bs)
     else has_long_name (n + 1) bs
 
--- a name in the word, or the string, has more than 255 bytes
+-- a name in the word, or the string, has too many bytes
 unfoldable pub is_long : Token → Bool
 is_long (token.Word w) = has_long_name 0 w
-is_long (token.Quoted k) = nat_lt 255 (length k)
+is_long (token.Quoted k) = nat_lt most_text_bytes (length k)
 is_long token.Open = false
 is_long token.Close = false
 is_long token.Comma = false

@@ -12,6 +12,7 @@ use olap_base::Text;
 use olap_grammar::{Known, Token, pieces};
 use std::alloc::Global;
 
+/// Whether the word is no atom but `true`, `false` or `one`.
 #[tactic(auto, unfolding(crate::specs::Atoms::is_connective))]
 fn is_connective(word: &[u8]) -> bool
     ensures { result ≡ is_connective_of word.now }
@@ -19,6 +20,7 @@ fn is_connective(word: &[u8]) -> bool
     is(word, b"true") || is(word, b"false") || is(word, b"one")
 }
 
+/// Whether the name is a category's.
 fn is_known(known: &Known, name: &[u8]) -> bool
     ensures { result ≡ is_known_of (graph_seen known.now) name.now }
 {
@@ -28,12 +30,14 @@ fn is_known(known: &Known, name: &[u8]) -> bool
     }
 }
 
+/// Whether each name is a category's.
 fn are_known(known: &Known, parts: &[Text]) -> bool
     ensures { result ≡ list_all (is_known_of (graph_seen known.now)) parts.now }
 {
     parts.iter().all(|p| is_known(known, p.bytes()))
 }
 
+/// Whether the name is one of these.
 #[tactic(auto, unfolding(crate::specs::Atoms::stands_in))]
 fn stands_in(names: &[Text], name: &[u8]) -> bool
     ensures { result ≡ stands_in_of names.now name.now }
@@ -41,6 +45,7 @@ fn stands_in(names: &[Text], name: &[u8]) -> bool
     names.iter().any(|n| is(n.bytes(), name))
 }
 
+/// Whether a name comes twice.
 #[tactic(auto, unfolding(crate::specs::Atoms::is_repeated))]
 fn is_repeated(parts: &[Text]) -> bool
     ensures { result ≡ is_repeated_of parts.now }
@@ -55,6 +60,7 @@ fn is_repeated(parts: &[Text]) -> bool
     false
 }
 
+/// Whether an edge leads from one to the other.
 fn joins(known: &Known, child: &[u8], parent: &[u8]) -> bool
     ensures { result ≡ has_edge (graph_seen known.now) (category_named (graph_seen known.now) child.now) (category_named (graph_seen known.now) parent.now) }
 {
@@ -67,6 +73,7 @@ fn joins(known: &Known, child: &[u8], parent: &[u8]) -> bool
     }
 }
 
+/// Whether an edge is missing between one name and the next.
 #[tactic(auto, unfolding(crate::specs::Atoms::lacks_edge))]
 fn lacks_edge(known: &Known, first: &[u8], parts: &[Text]) -> bool
     ensures { result ≡ lacks_edge_of (graph_seen known.now) first.now parts.now }
@@ -84,6 +91,7 @@ fn lacks_edge(known: &Known, first: &[u8], parts: &[Text]) -> bool
     false
 }
 
+/// The names of an atom, the root first: known, from this root, and, of a path, each once and linked.
 fn check_names(known: &Known, root: &[u8], path: bool, parts: &[Text]) -> Result<(), FormulaRefusal>
     requires { 0 < length parts.now }
     ensures { Finds result (named_fault (graph_seen known.now) root.now path parts.now) }
@@ -106,6 +114,7 @@ fn check_names(known: &Known, root: &[u8], path: bool, parts: &[Text]) -> Result
     Ok(())
 }
 
+/// The atom that a word is.
 #[tactic(auto, unfolding(crate::specs::Atoms::word_fault))]
 fn check_word(alloc: Global, known: &Known, root: &[u8], word: &[u8]) -> Result<(), FormulaRefusal>
     ensures { Finds result (word_fault (graph_seen known.now) root.now word.now) }
@@ -121,6 +130,7 @@ fn check_word(alloc: Global, known: &Known, root: &[u8], word: &[u8]) -> Result<
     check_names(known, root, false, &parts)
 }
 
+/// The atom that a token is, if it is a word.
 fn check_token(
     alloc: Global,
     known: &Known,

@@ -29,19 +29,19 @@ pub enum SchemaKind {
     RepeatedCategory,
     /// The root is `All`.
     RootIsAll,
-    /// More than 64 categories, `All` included.
+    /// More than `MOST_CATEGORIES`, `All` included.
     TooManyCategories,
-    /// More than 256 edges.
+    /// More than `MOST_EDGES`.
     TooManyEdges,
-    /// More than 64 constraints.
+    /// More than `MOST_CONSTRAINTS`.
     TooManyConstraints,
     /// More than 4,096 nodes of formulas.
     TooManyNodes,
-    /// More than 64 brackets are open, or the formula is deeper than 64.
+    /// More than `MOST_DEPTH` brackets are open, or the formula is deeper.
     TooDeep,
-    /// More than 256 distinct pairs of a category and a constant.
+    /// More than `MOST_CONSTANTS` distinct pairs of a category and a constant.
     TooManyConstants,
-    /// A name or a constant has more than 255 bytes.
+    /// A name or a constant has more than `MOST_TEXT_BYTES`.
     TextTooLong,
     /// The category doesn't reach `All`.
     NoWayToAll,

@@ -1,4 +1,8 @@
 //! Schema texts: reading a schema and a question's formula, and printing a schema.
+//!
+//! A contract sees a `Schema` as the definitions' schema, and what `read_schema` gives as `schema_read` of the text: the
+//! schema, or the first fault with its line (`specs/Judging.antt`). Each schema is valid, so it is read back from what
+//! `print_schema` prints. Nothing here knows of instances.
 #![tactic(auto)]
 
 mod atoms;
@@ -16,7 +20,7 @@ mod statements;
 mod tests;
 
 pub use kinds::{FormulaRefusal, SchemaKind, SchemaRefusal};
-pub use laws::{read_schemas_are_readable, read_schemas_are_valid};
+pub use laws::{read_questions_are_valid, read_schemas_are_readable, read_schemas_are_valid};
 pub use printing::{print_schema, printed_schemas_are_read};
 pub use questions::read_formula;
 pub use schemas::{Schema, read_schema};

@@ -6,6 +6,7 @@ ghost use Rattle.std.specs.Str.{is_utf8};
 
 use std::str;
 
+/// Where the first line ends: at its LF, or with the text.
 #[tactic(auto, unfolding(crate::specs::Lines::line_length))]
 fn line_end(text: &[u8]) -> usize
     ensures end { result ≡ line_length text.now }
@@ -49,12 +50,14 @@ pub(crate) fn chomped(line: &[u8]) -> &[u8]
     }
 }
 
+/// Whether the byte is a control character other than a tab.
 fn is_control(byte: u8) -> bool
     ensures { result ≡ is_control_of byte }
 {
     (byte < 32 && byte != 9) || byte == 127
 }
 
+/// Whether the line is UTF-8.
 fn is_text(line: &[u8]) -> bool
     ensures { result ≡ is_utf8 line.now }
 {
@@ -64,6 +67,7 @@ fn is_text(line: &[u8]) -> bool
     }
 }
 
+/// Whether a control character stands in the line.
 fn has_control(line: &[u8]) -> bool
     ensures { result ≡ list_any is_control_of line.now }
 {

@@ -3,8 +3,10 @@ ghost use Rattle.olap_schema.specs.Tokens.{has_long_name as has_long_name_of, is
 ghost use Rattle.std.specs.List.{list_any};
 ghost use Rattle.std.specs.Prelude.{◌≡◌, ◌≤◌, length};
 
+use olap_base::{MOST_DEPTH, MOST_TEXT_BYTES};
 use olap_grammar::Token;
 
+/// Whether the token is a node of the formula.
 fn is_node(token: &Token) -> bool
     ensures { result ≡ is_node_of token.now }
 {
@@ -30,7 +32,7 @@ pub(crate) fn nodes(tokens: &[Token]) -> usize
     tokens.iter().filter(|t| is_node(t)).count()
 }
 
-/// Whether more than 64 brackets are open at some place.
+/// Whether more than `MOST_DEPTH` brackets are open at some place.
 #[tactic(auto, unfolding(crate::specs::Tokens::opens_over))]
 pub(crate) fn opens_too_deep(tokens: &[Token]) -> bool
     ensures { result ≡ opens_over 0 0 tokens.now }
@@ -42,7 +44,7 @@ pub(crate) fn opens_too_deep(tokens: &[Token]) -> bool
         match token {
             Token::Open => {
                 opened += 1;
-                if opened > closed + 64 {
+                if opened > closed + MOST_DEPTH as usize {
                     return true;
                 }
             }
@@ -60,6 +62,7 @@ pub(crate) fn opens_too_deep(tokens: &[Token]) -> bool
     false
 }
 
+/// Whether a name in the word has more than `MOST_TEXT_BYTES`.
 #[tactic(auto, unfolding(crate::specs::Tokens::has_long_name))]
 fn has_long_name(word: &[u8]) -> bool
     ensures { result ≡ has_long_name_of 0 word.now }
@@ -68,7 +71,7 @@ fn has_long_name(word: &[u8]) -> bool
     let mut left = word;
     'bytes: while let Some((byte, others)) = left.split_first() {
         if *byte == b'_' || *byte == b'.' {
-            if length > 255 {
+            if length > MOST_TEXT_BYTES {
                 return true;
             }
             length = 0;
@@ -77,16 +80,17 @@ fn has_long_name(word: &[u8]) -> bool
         }
         left = others;
     }
-    length > 255
+    length > MOST_TEXT_BYTES
 }
 
+/// Whether a name in the token, or the string, has more than `MOST_TEXT_BYTES`.
 #[tactic(auto, unfolding(crate::specs::Tokens::is_long))]
 fn is_long(token: &Token) -> bool
     ensures { result ≡ is_long_of token.now }
 {
     match token {
         Token::Word(word) => has_long_name(word.bytes()),
-        Token::Quoted(text) => text.bytes().len() > 255,
+        Token::Quoted(text) => text.bytes().len() > MOST_TEXT_BYTES,
         Token::Open => false,
         Token::Close => false,
         Token::Comma => false,
@@ -97,7 +101,7 @@ fn is_long(token: &Token) -> bool
     }
 }
 
-/// Whether a name or a constant has more than 255 bytes.
+/// Whether a name or a constant has more than `MOST_TEXT_BYTES`.
 pub(crate) fn has_long_text(tokens: &[Token]) -> bool
     ensures { result ≡ list_any is_long_of tokens.now }
 {

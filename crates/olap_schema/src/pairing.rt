@@ -18,6 +18,7 @@ pub(crate) struct Pair {
     text: Text,
 }
 
+/// Whether the pair is of that category and text.
 fn is_same(d: CatId, text: &[u8], pair: &Pair) -> bool
     ensures { let atom : Equality = record { category = d.0; text = text.now } in
         result ≡ is_same_pair atom (pair_of pair.now) }
@@ -25,6 +26,7 @@ fn is_same(d: CatId, text: &[u8], pair: &Pair) -> bool
     d == pair.category && is(text, pair.text.bytes())
 }
 
+/// Whether the pair is there.
 fn has_pair(pairs: &[Pair], d: CatId, text: &[u8]) -> bool
     ensures { let atom : Equality = record { category = d.0; text = text.now } in
         result ≡ list_any (λ p. is_same_pair atom (pair_of p)) pairs.now }
@@ -32,6 +34,7 @@ fn has_pair(pairs: &[Pair], d: CatId, text: &[u8]) -> bool
     pairs.iter().any(|p| is_same(d, text, p))
 }
 
+/// The pair behind the others, if it is new.
 fn add_pair(alloc: Global, pairs: &mut Vec<Pair>, d: CatId, text: &Text) -> Result<(), Memory>
     ensures { let atom : Equality = record { category = d.0; text = text.now } in
         OnOk result (map pair_of pairs.new.items ≡ with_pair (map pair_of pairs.old.items) atom) }
@@ -63,6 +66,7 @@ pub(crate) fn add_pairs(alloc: Global, pairs: &mut Vec<Pair>, f: &Formula) -> Re
     }
 }
 
+/// The pairs of two formulas.
 #[cycle(pairs)]
 fn add_both(alloc: Global, pairs: &mut Vec<Pair>, f: &Formula, g: &Formula) -> Result<(), Memory>
     ensures { let atoms = equalities (formula_of f.now) ++ equalities (formula_of g.now) in
@@ -72,6 +76,7 @@ fn add_both(alloc: Global, pairs: &mut Vec<Pair>, f: &Formula, g: &Formula) -> R
     add_pairs(alloc, pairs, g)
 }
 
+/// The pairs of a list of formulas.
 #[cycle(pairs)]
 fn add_of_terms(alloc: Global, pairs: &mut Vec<Pair>, terms: &Terms) -> Result<(), Memory>
     ensures { let atoms = equalities_of_terms (terms_of terms.now) in

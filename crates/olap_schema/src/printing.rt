@@ -28,6 +28,7 @@ fn name(graph: &Graph, c: CatId) -> &[u8]
     }
 }
 
+/// The names of the categories, with the mark in front of each.
 #[tactic(auto, unfolding(crate::specs::Printing::names_after))]
 fn push_names(
     out: &mut Vec<u8>,
@@ -47,6 +48,7 @@ fn push_names(
     Ok(())
 }
 
+/// The root's name and what stands behind it.
 fn push_atom(
     out: &mut Vec<u8>,
     graph: &Graph,
@@ -61,6 +63,7 @@ fn push_atom(
     push_names(out, graph, mark, categories)
 }
 
+/// What is compared with a constant: the root by its name alone, another category behind a dot.
 fn push_compared(out: &mut Vec<u8>, graph: &Graph, root: CatId, d: CatId) -> Result<(), AllocError>
     ensures { OnOk result (out.new.items ≡ out.old.items ++ compared_word graph.now root.0 d.0) }
 {
@@ -71,6 +74,7 @@ fn push_compared(out: &mut Vec<u8>, graph: &Graph, root: CatId, d: CatId) -> Res
     }
 }
 
+/// The connective, with a space on each side.
 fn push_joint(out: &mut Vec<u8>, joint: Joint) -> Result<(), AllocError>
     ensures { OnOk result (out.new.items ≡ out.old.items ++ joint_bytes joint) }
 {
@@ -117,6 +121,7 @@ fn push_formula(
     }
 }
 
+/// Two formulas with a connective between them, in brackets.
 #[cycle(push_formula)]
 fn push_joined(
     out: &mut Vec<u8>,
@@ -139,6 +144,7 @@ fn push_joined(
     out.extend_from_slice(b")")
 }
 
+/// `one` and its parts in brackets.
 #[cycle(push_formula)]
 fn push_one(out: &mut Vec<u8>, graph: &Graph, root: CatId, terms: &Terms) -> Result<(), AllocError>
     ensures { let list = list_text graph.now root.0 (terms_of terms.now) in
@@ -150,6 +156,7 @@ fn push_one(out: &mut Vec<u8>, graph: &Graph, root: CatId, terms: &Terms) -> Res
     Ok(())
 }
 
+/// The parts of a list.
 #[cycle(push_formula)]
 fn push_list(out: &mut Vec<u8>, graph: &Graph, root: CatId, terms: &Terms) -> Result<(), AllocError>
     ensures { OnOk result (out.new.items ≡ out.old.items ++ list_text graph.now root.0 (terms_of terms.now)) }
@@ -163,6 +170,7 @@ fn push_list(out: &mut Vec<u8>, graph: &Graph, root: CatId, terms: &Terms) -> Re
     }
 }
 
+/// The parts behind the first, a comma in front of each.
 #[cycle(push_formula)]
 fn push_rest(out: &mut Vec<u8>, graph: &Graph, root: CatId, terms: &Terms) -> Result<(), AllocError>
     ensures { OnOk result (out.new.items ≡ out.old.items ++ rest_text graph.now root.0 (terms_of terms.now)) }
@@ -176,6 +184,7 @@ fn push_rest(out: &mut Vec<u8>, graph: &Graph, root: CatId, terms: &Terms) -> Re
     Ok(())
 }
 
+/// The line of a category.
 fn push_category(out: &mut Vec<u8>, graph: &Graph, c: CatId) -> Result<(), AllocError>
     ensures { OnOk result (out.new.items ≡ out.old.items ++ ended_line (category_text (name_of_category graph.now c.0))) }
 {
@@ -184,6 +193,7 @@ fn push_category(out: &mut Vec<u8>, graph: &Graph, c: CatId) -> Result<(), Alloc
     out.extend_from_slice(b"\n")
 }
 
+/// The lines of the declared categories.
 fn push_categories(out: &mut Vec<u8>, graph: &Graph) -> Result<(), AllocError>
     ensures { OnOk result (out.new.items ≡ out.old.items ++ text_of_lines (map category_text graph.now.names)) }
 {
@@ -196,6 +206,7 @@ fn push_categories(out: &mut Vec<u8>, graph: &Graph) -> Result<(), AllocError>
     Ok(())
 }
 
+/// The line of an edge.
 fn push_edge(
     out: &mut Vec<u8>,
     graph: &Graph,
@@ -212,6 +223,7 @@ fn push_edge(
     out.extend_from_slice(b"\n")
 }
 
+/// The lines of the edges.
 fn push_edges(out: &mut Vec<u8>, graph: &Graph) -> Result<(), AllocError>
     ensures { OnOk result (out.new.items ≡ out.old.items ++ text_of_lines (map (edge_text graph.now) graph.now.edges)) }
 {
@@ -225,6 +237,7 @@ fn push_edges(out: &mut Vec<u8>, graph: &Graph) -> Result<(), AllocError>
     Ok(())
 }
 
+/// What stands in front of a constraint's formula.
 fn push_root(out: &mut Vec<u8>, graph: &Graph, root: CatId) -> Result<(), AllocError>
     ensures { let head = codes "constraint " ++ (name_of_category graph.now root.0 ++ 58 ∷ 32 ∷ []) in
         OnOk result (out.new.items ≡ out.old.items ++ head) }
@@ -235,6 +248,7 @@ fn push_root(out: &mut Vec<u8>, graph: &Graph, root: CatId) -> Result<(), AllocE
     Ok(())
 }
 
+/// The line of a constraint.
 fn push_constraint(
     out: &mut Vec<u8>,
     graph: &Graph,
@@ -248,6 +262,7 @@ fn push_constraint(
     out.extend_from_slice(b"\n")
 }
 
+/// The lines of the constraints.
 #[tactic(auto, unfolding(crate::specs::Printing::text_of_lines))]
 fn push_constraints(
     out: &mut Vec<u8>,

@@ -2,16 +2,18 @@
 ghost use Rattle.olap_ast.specs.Constants.{all_equalities};
 ghost use Rattle.olap_ast.specs.Formula.{equalities};
 ghost use Rattle.olap_ast.specs.Trees.{constraint_of, formula_of};
-ghost use Rattle.olap_ast.specs.Valid.{distinct_pairs, with_pair};
+ghost use Rattle.olap_ast.specs.Valid.{IsQuestion, distinct_pairs, with_pair};
 ghost use Rattle.olap_base.specs.Graph.{IsDeclared};
+ghost use Rattle.olap_base.specs.Limits.{most_constants};
 ghost use Rattle.olap_graph.specs.Lookups.{name_of_category};
 ghost use Rattle.olap_schema.specs.Atoms.{atom_fault};
 ghost use Rattle.olap_schema.specs.declared.kinds.SchemaKind.TheVariants as kind;
 ghost use Rattle.olap_grammar.specs.CuttingMachine.{tokens_of};
 ghost use Rattle.olap_schema.specs.Judging.{question_added, question_cut, question_read};
+ghost use Rattle.olap_schema.specs.PrintingLaws.{AreTexts};
 ghost use Rattle.olap_schema.specs.Reading.{Finds, ReadsFormula, pair_of};
 ghost use Rattle.olap_schema.specs.Schemas.{schema_of};
-ghost use Rattle.std.specs.Prelude.{◌≡◌, OnOk, Some, None, flat_map, fold, if◌then◌else◌, length, map, nat_lt};
+ghost use Rattle.std.specs.Prelude.{◌≡◌, IfOk, OnOk, Some, None, flat_map, fold, if◌then◌else◌, length, map, nat_lt};
 
 use crate::atoms::check_atoms;
 use crate::lines::is_bad;
@@ -20,10 +22,11 @@ use crate::pairing::{Pair, add_pairs};
 use crate::reading::read_form;
 use crate::{FormulaRefusal, Schema, SchemaKind};
 use olap_ast::{Constraint, Formula};
-use olap_base::{CatId, Memory};
-use olap_grammar::{FormRefusal, Known, Token, line_tokens};
+use olap_base::{CatId, MOST_CONSTANTS, Memory};
+use olap_grammar::{CutRefusal, Known, Token, line_tokens};
 use std::alloc::Global;
 
+/// The pairs of all constraints.
 fn add_of_constraints(
     alloc: Global,
     pairs: &mut Vec<Pair>,
@@ -43,17 +46,18 @@ fn add_of_constraints(
 /// Whether there are too many pairs of a category and a constant in the schema and the formula.
 fn check_pairs(alloc: Global, schema: &Schema, f: &Formula) -> Result<(), FormulaRefusal>
     ensures { let pairs = distinct_pairs (all_equalities (schema_of schema.now) (formula_of f.now)) in
-        Finds result (if nat_lt 256 (length pairs) then Some kind.TooManyConstants else None) }
+        Finds result (if nat_lt most_constants (length pairs) then Some kind.TooManyConstants else None) }
 {
     let mut pairs = Vec::new(alloc);
     add_of_constraints(alloc, &mut pairs, schema.constraints())?;
     add_pairs(alloc, &mut pairs, f)?;
-    if pairs.len() > 256 {
+    if pairs.len() > MOST_CONSTANTS {
         return Err(FormulaRefusal::Fault(SchemaKind::TooManyConstants));
     }
     Ok(())
 }
 
+/// What is left to check of a formula that was read: its atoms, and the limit of pairs.
 fn check_question(
     alloc: Global,
     schema: &Schema,
@@ -76,6 +80,7 @@ fn check_question(
     }
 }
 
+/// The formula of a text without a bad byte.
 fn read_question(
     alloc: Global,
     schema: &Schema,
@@ -95,9 +100,8 @@ fn read_question(
             }
             Err(e) => Err(e),
         },
-        Err(FormRefusal::BadForm) => Err(FormulaRefusal::Fault(SchemaKind::BadForm)),
-        Err(FormRefusal::TooDeep) => Err(FormulaRefusal::Memory),
-        Err(FormRefusal::Memory) => Err(FormulaRefusal::Memory),
+        Err(CutRefusal::BadForm) => Err(FormulaRefusal::Fault(SchemaKind::BadForm)),
+        Err(CutRefusal::Memory) => Err(FormulaRefusal::Memory),
     }
 }
 
@@ -105,6 +109,7 @@ fn read_question(
 ///
 /// A fault is the first check that fails. The text is one line: a LF or a CR is a `BadByte`. The limits on nodes and
 /// depth are those of one formula; the one on constants counts the schema's too. `Memory` where there is no room.
+/// What is given may be handed on: it is a formula of the schema at that root.
 #[tactic(auto, unfolding(crate::specs::Judging::question_read))]
 pub fn read_formula(
     alloc: Global,
@@ -113,8 +118,12 @@ pub fn read_formula(
     text: &[u8],
 ) -> Result<Formula, FormulaRefusal>
     requires { IsDeclared (schema_of schema.now).graph root.0 }
-    ensures { ReadsFormula result (question_read (schema_of schema.now) root.0 text.now) }
+    ensures read { ReadsFormula result (question_read (schema_of schema.now) root.0 text.now) }
+    ensures question { IfOk result (λ f. IsQuestion (schema_of schema.now) root.0 (formula_of f)) }
+    ensures texts { IfOk result (λ f. AreTexts (equalities (formula_of f))) }
 {
+    // Called for its clauses: the schema is valid, and its constants are text.
+    let _constraints = schema.constraints();
     if is_bad(text) {
         return Err(FormulaRefusal::Fault(SchemaKind::BadByte));
     }

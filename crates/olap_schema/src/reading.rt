@@ -2,6 +2,7 @@
 ghost use Rattle.olap_ast.specs.Trees.{formula_of};
 ghost use Rattle.olap_base.specs.Reaching.{is_category_name};
 ghost use Rattle.olap_base.specs.Graph.{IsCategory};
+ghost use Rattle.olap_base.specs.Limits.{most_nodes};
 ghost use Rattle.olap_graph.specs.Building.{edge_refusal};
 ghost use Rattle.olap_grammar.specs.Known.{graph_seen};
 ghost use Rattle.olap_graph.specs.Lookups.{category_named};
@@ -21,18 +22,12 @@ use crate::pairing::{Pair, add_pairs};
 use crate::statements::{Statement, is_version, statement_in};
 use crate::{FormulaRefusal, SchemaKind};
 use olap_ast::{Constraint, Formula};
-use olap_base::{CatId, Memory, Text};
-use olap_grammar::{FormRefusal, Known, Token, formula, line_tokens};
+use olap_base::{
+    CatId, MOST_CONSTANTS, MOST_CONSTRAINTS, MOST_NODES, MOST_TEXT_BYTES, Memory, Text,
+};
+use olap_grammar::{CutRefusal, FormRefusal, Known, Token, formula, line_tokens};
 use olap_graph::{CategoryRefusal, EdgeRefusal, GraphBuilder};
 use std::alloc::Global;
-
-const MOST_NODES: usize = 4096;
-
-const MOST_BYTES: usize = 255;
-
-const MOST_CONSTRAINTS: usize = 64;
-
-const MOST_PAIRS: usize = 256;
 
 /// What the lines so far say.
 #[derive(Drop)]
@@ -69,7 +64,7 @@ fn read_category(
     requires { IsTrue (is_category_name name.now) }
     ensures { Reads result (above_of reading.new) (category_read (above_of reading.old) n name.now) }
 {
-    if name.len() > MOST_BYTES {
+    if name.len() > MOST_TEXT_BYTES {
         return Err(FormulaRefusal::Fault(SchemaKind::TextTooLong));
     }
     let name = Text::from_bytes(alloc, name)?;
@@ -88,6 +83,7 @@ fn read_category(
     }
 }
 
+/// An edge between two categories.
 fn add_edge(reading: &mut Reading, c: CatId, d: CatId) -> Result<(), FormulaRefusal>
     requires child { IsCategory (above_of reading.old).graph c.0 }
     requires parent { IsCategory (above_of reading.old).graph d.0 }
@@ -107,7 +103,7 @@ fn add_edge(reading: &mut Reading, c: CatId, d: CatId) -> Result<(), FormulaRefu
 fn read_edge(reading: &mut Reading, child: &[u8], parent: &[u8]) -> Result<(), FormulaRefusal>
     ensures { Reads result (above_of reading.new) (edge_read (above_of reading.old) child.now parent.now) }
 {
-    if child.len() > MOST_BYTES || parent.len() > MOST_BYTES {
+    if child.len() > MOST_TEXT_BYTES || parent.len() > MOST_TEXT_BYTES {
         return Err(FormulaRefusal::Fault(SchemaKind::TextTooLong));
     }
     match reading.builder.category(child) {
@@ -128,7 +124,7 @@ pub(crate) fn read_form(
     tokens: &[Token],
 ) -> Result<Formula, FormulaRefusal>
     ensures read { ReadsFormula result (form_read (graph_seen known.now) before tokens.now) }
-    ensures few { IfOk result (λ f. before + token_nodes tokens.now ≤ 4096) }
+    ensures few { IfOk result (λ f. before + token_nodes tokens.now ≤ most_nodes) }
 {
     if before as usize + nodes(tokens) > MOST_NODES {
         return Err(FormulaRefusal::Fault(SchemaKind::TooManyNodes));
@@ -152,13 +148,13 @@ fn add_constraint(
     tokens: &[Token],
     f: Formula,
 ) -> Result<(), FormulaRefusal>
-    requires { (above_of reading.old).nodes + token_nodes tokens.now ≤ 4096 }
+    requires { (above_of reading.old).nodes + token_nodes tokens.now ≤ most_nodes }
     ensures { let old = above_of reading.old in
         let pairs = fold with_pair old.pairs (equalities (formula_of f)) in
         Reads result (above_of reading.new) (constraint_added old root.0 tokens.now (formula_of f) pairs) }
 {
     add_pairs(alloc, &mut reading.pairs, &f)?;
-    if reading.pairs.len() > MOST_PAIRS {
+    if reading.pairs.len() > MOST_CONSTANTS {
         return Err(FormulaRefusal::Fault(SchemaKind::TooManyConstants));
     }
     reading.constraints.push(Constraint { root, formula: f })?;
@@ -175,7 +171,7 @@ fn read_rooted(
     tokens: &[Token],
     f: Formula,
 ) -> Result<(), FormulaRefusal>
-    requires { (above_of reading.old).nodes + token_nodes tokens.now ≤ 4096 }
+    requires { (above_of reading.old).nodes + token_nodes tokens.now ≤ most_nodes }
     ensures { let old = above_of reading.old in
         let root = category_named old.graph name.now in
         Reads result (above_of reading.new) (root_read old name.now tokens.now (formula_of f) root) }
@@ -213,7 +209,7 @@ fn read_constraint(
         tokens,
     ) {
         Ok(f) => {
-            if name.len() > MOST_BYTES || has_long_text(tokens) {
+            if name.len() > MOST_TEXT_BYTES || has_long_text(tokens) {
                 return Err(FormulaRefusal::Fault(SchemaKind::TextTooLong));
             }
             read_rooted(alloc, reading, name, tokens, f)
@@ -268,9 +264,8 @@ fn read_saying(
                 read_first(reading, &tokens)
             }
         }
-        Err(FormRefusal::BadForm) => Err(FormulaRefusal::Fault(SchemaKind::BadForm)),
-        Err(FormRefusal::TooDeep) => Err(FormulaRefusal::Memory),
-        Err(FormRefusal::Memory) => Err(FormulaRefusal::Memory),
+        Err(CutRefusal::BadForm) => Err(FormulaRefusal::Fault(SchemaKind::BadForm)),
+        Err(CutRefusal::Memory) => Err(FormulaRefusal::Memory),
     }
 }
 

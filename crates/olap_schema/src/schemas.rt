@@ -1,11 +1,12 @@
 // Schemas, and reading one from its text.
+ghost use Rattle.olap_base.specs.Limits.{most_constraints};
 ghost use Rattle.olap_schema.specs.Judging.{first_stuck, lines_on, schema_read, text_ended, whole};
 ghost use Rattle.olap_schema.specs.Laws.{GivesReadable};
 ghost use Rattle.olap_schema.specs.Lines.{lines_of};
 ghost use Rattle.olap_schema.specs.PrintingLaws.{AreTexts};
 ghost use Rattle.olap_schema.specs.Reading.{above_of};
 ghost use Rattle.olap_schema.specs.Schemas.{IsRefusedBy, ReadsLines, schema_of};
-ghost use Rattle.std.specs.Prelude.{◌≡◌, ◌≤◌, ◌-◌, MatchResult, Ok, flat_map, length, map, slice_index};
+ghost use Rattle.std.specs.Prelude.{◌≡◌, ◌<◌, ◌≤◌, ◌-◌, MatchResult, Ok, flat_map, length, map, slice_index};
 ghost use Rattle.olap_ast.specs.Formula.{equalities};
 ghost use Rattle.olap_ast.specs.Trees.{constraint_of};
 ghost use Rattle.olap_ast.specs.Valid.{IsValidSchema};
@@ -52,11 +53,11 @@ impl Schema {
         &self.graph
     }
 
-    /// Its constraints, in declaration order: at most 64. Each schema is valid, and its constants are UTF-8 without
+    /// Its constraints, in declaration order: at most `MOST_CONSTRAINTS`. Each schema is valid, and its constants are UTF-8 without
     /// control characters.
     pub fn constraints(&self) -> &[Constraint]
         ensures list { map constraint_of result.now ≡ (schema_of self.now).constraints }
-        ensures few { length result.now ≤ 64 }
+        ensures few { length result.now ≤ most_constraints }
         ensures valid { IsValidSchema (schema_of self.now) }
         ensures texts { AreTexts (flat_map (λ c. equalities c.formula) (schema_of self.now).constraints) }
     {
@@ -108,11 +109,9 @@ fn finish(reading: Reading) -> Result<Schema, SchemaRefusal>
 
 /// The line on which the c-th category is declared.
 fn line_of(lines: &[u64], c: u16) -> u64
+    requires { 0 < c }
     ensures { result ≡ slice_index lines.now (c - 1) }
 {
-    if c == 0 {
-        return first_of(lines);
-    }
     let place = usize::from(c) - 1;
     if place >= lines.len() {
         return 0;
@@ -120,20 +119,11 @@ fn line_of(lines: &[u64], c: u16) -> u64
     lines[place]
 }
 
-fn first_of(lines: &[u64]) -> u64
-    ensures { result ≡ slice_index lines.now 0 }
-{
-    if lines.is_empty() {
-        return 0;
-    }
-    lines[0]
-}
-
 /// The schema that the text stands for.
 ///
 /// A fault is the first: of the first line that has one, its first; and where no line has one, `NoWayToAll` for the
 /// first declared category that doesn't reach `All`, on the line of its declaration. `Memory` where there is no room.
-/// One pass over the text; no call is nested deeper than a formula may be, whatever the text is.
+/// Linear in the text; no call is nested deeper than a formula may be, whatever the text is.
 #[tactic(auto, unfolding(crate::specs::Judging::schema_read))]
 pub fn read_schema(alloc: Global, text: &[u8]) -> Result<Schema, SchemaRefusal>
     ensures { MatchResult result (λ s. schema_read text.now ≡ Ok (schema_of s)) (λ e. IsRefusedBy e (schema_read text.now)) }

@@ -17,18 +17,21 @@ pub(crate) enum Statement<'a> {
     Other,
 }
 
+/// Whether the word is that text.
 pub(crate) fn is(word: &[u8], text: &[u8]) -> bool
     ensures { result ≡ bytes_eq word.now text.now }
 {
     word == text
 }
 
+/// Whether the word is a category name.
 fn is_name(word: &[u8]) -> bool
     ensures { result ≡ is_category_name word.now }
 {
     category_name(word)
 }
 
+/// The word at that place, or nothing.
 #[tactic(auto, unfolding(crate::specs::Statements::word_at))]
 fn word_at(tokens: &[Token], i: usize) -> &[u8]
     ensures { result.now ≡ word_at_of tokens.now i }
@@ -49,6 +52,7 @@ fn word_at(tokens: &[Token], i: usize) -> &[u8]
     }
 }
 
+/// Whether a colon stands at that place.
 #[tactic(auto, unfolding(crate::specs::Statements::colon_at))]
 fn colon_at(tokens: &[Token], i: usize) -> bool
     ensures { result ≡ colon_at_of tokens.now i }
@@ -76,12 +80,14 @@ pub(crate) fn is_version(tokens: &[Token]) -> bool
     tokens.len() == 2 && is(word_at(tokens, 0), b"schema") && is(word_at(tokens, 1), b"1")
 }
 
+/// Whether the tokens declare a category.
 fn is_category(tokens: &[Token]) -> bool
     ensures { result ≡ is_category_of tokens.now }
 {
     tokens.len() == 2 && is(word_at(tokens, 0), b"category") && is_name(word_at(tokens, 1))
 }
 
+/// Whether the tokens declare an edge.
 fn is_edge(tokens: &[Token]) -> bool
     ensures { result ≡ is_edge_of tokens.now }
 {
@@ -91,6 +97,7 @@ fn is_edge(tokens: &[Token]) -> bool
         && is_name(word_at(tokens, 2))
 }
 
+/// Whether the tokens begin a constraint.
 fn is_constraint(tokens: &[Token]) -> bool
     ensures { result ≡ is_constraint_of tokens.now }
 {

@@ -1,4 +1,4 @@
-// The calls that take memory, once each where there is enough, and one text for each kind of fault.
+// The calls that take memory, once each where there is enough, and one text for each of twelve kinds of fault.
 use crate::{SchemaRefusal, print_schema, read_formula, read_schema};
 use olap_base::CatId;
 use std::alloc::Global;
