@@ -5,7 +5,8 @@ use Rattle.std.proofs.lemmas.List.Elements.{Contains-push, Contains-get_or}
 use Rattle.olap_graph.specs.Listing.{edge_of}
 use Rattle.olap_graph.specs.Tables.{IsRow, drawn}
 use Rattle.olap_graph.specs.Marking.{IsFrontier, parents_of}
-use Rattle.olap_graph.proofs.MarkingLemmas.{frontier_start, frontier_next, frontier_done, no_items, none_case}
+use Rattle.olap_graph.proofs.MarkLemmas.{no_items, none_case}
+use Rattle.olap_graph.proofs.MarkingLemmas.{frontier_start, frontier_next, frontier_done}
 use Rattle.olap_graph.proofs.TableLemmas.{out_read, out_within, parents_are}
 use Rattle.olap_graph.proofs.reaching.row.Goals as goal
 

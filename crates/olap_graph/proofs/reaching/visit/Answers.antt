@@ -4,7 +4,8 @@ use Rattle.std.specs.Prelude.{vec_len}
 use Rattle.olap_graph.specs.Lookups.{edge_at}
 use Rattle.olap_graph.specs.Tables.{IsMarked, drawn}
 use Rattle.olap_graph.specs.Marking.{IsVisit, parents_of}
-use Rattle.olap_graph.proofs.MarkingLemmas.{visit_skip, visit_push_at, mark_is}
+use Rattle.olap_graph.proofs.MarkLemmas.{mark_is}
+use Rattle.olap_graph.proofs.MarkingLemmas.{visit_skip, visit_push_at}
 use Rattle.olap_graph.proofs.TableLemmas.{nowhere, parent_read, parent_within}
 use Rattle.olap_graph.proofs.reaching.visit.Goals as goal
 use Rattle.olap_graph.proofs.reaching.visit.Goals.{then-not-index+in_ok-push, else-not-index}
