@@ -8,3 +8,4 @@ pub mod ViewingLemmas
 pub mod FittingLemmas
 pub mod TallyLemmas
 pub mod MergingLemmas
+pub mod RollingUpLemmas

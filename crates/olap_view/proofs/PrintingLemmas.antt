@@ -1,14 +1,13 @@
 -- Printing a view row by row, and reading its text back.
-use Rattle.std.proofs.Common.{◌≡◌, ◌+◌, ◌<◌, ◌++◌, ◌∷◌, ◌∙◌, ℕ, List, [], length, map, take, get_or, refl, sym, ap}
+use Rattle.std.proofs.Common.{◌≡◌, ◌+◌, ◌<◌, ◌++◌, ◌∷◌, ◌∙◌, ℕ, List, [], length, map, take, get_or, suc, zero, arith, sym, ap}
+use Rattle.std.specs.Prelude.{All}
+use Rattle.std.proofs.lemmas.List.Elements.{All-map}
 use Rattle.std.proofs.lemmas.List.{map-append, take_more}
-use Rattle.csv.specs.Reading.{default_config, records_from}
-use Rattle.csv.specs.Writing.{read_back}
-use Rattle.csv.specs.declared.parser.State.TheVariants as st
 use Rattle.olap_base.specs.Instance.{Instance}
 use Rattle.olap_base.specs.Views.{Row, View}
 use Rattle.olap_records.specs.Records.{records_of}
 use Rattle.olap_records.specs.Texts.{text_of_row, text_of_rows}
-use Rattle.olap_records.proofs.ReadingBack.{no-mark, texts-push, texts-read}
+use Rattle.olap_records.proofs.ReadingBack.{text-back, texts-push}
 use Rattle.olap_view.specs.Seen.{row_of, rows_of}
 use Rattle.olap_view.specs.ViewText.{fields_in, header, records_of_view, view_text}
 use Rattle.olap_view.specs.declared.views.Row as told
@@ -30,12 +29,16 @@ view_more top fields rows k d out new l eo en =
     ∙ sym (texts-push (top ∷ before) (fields (row_of row)))
     ∙ ap (λ (t : List (List (List ℕ))). text_of_rows (top ∷ t)) (sym more)
 
-fields-stay : (i : Instance) (rows : List Row) → map read_back (map (fields_in i) rows) ≡ map (fields_in i) rows
-fields-stay i [] = refl
-fields-stay i (r ∷ rs) = ap (λ (t : List (List (List ℕ))). fields_in i r ∷ t) (fields-stay i rs)
+-- each record has a field, where the first has and those behind it have
+all-full : (top : List (List ℕ)) (rows : List (List (List ℕ))) → 0 < length top → All (λ r. 0 < length r) rows
+    → All (λ r. 0 < length r) (top ∷ rows)
+all-full top rows h t zero d l = h
+all-full top rows h t (suc k) d l = t k d (omega arith)
 
 -- the text of a view reads back
 pub view-reads : (i : Instance) (v : View) → records_of (view_text i v) ≡ records_of_view i v
 view-reads i v =
-    ap (λ (t : List ℕ). records_from default_config (length t + 1) st.StartRecord t) (no-mark 109 _ refl)
-    ∙ texts-read (records_of_view i v) ∙ ap (λ (t : List (List (List ℕ))). header ∷ t) (fields-stay i v.rows)
+    text-back (records_of_view i v)
+    (all-full header (map (fields_in i) v.rows) (omega arith)
+    (All-map (λ r. 0 < length r) (fields_in i) v.rows (λ k d l. omega arith)))
+    (λ e. absurd (omega arith))

@@ -6,3 +6,4 @@ pub mod Bounds
 pub mod Tables
 pub mod Tallies
 pub mod Merging
+pub mod RollingUp

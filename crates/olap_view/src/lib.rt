@@ -7,6 +7,7 @@
 
 mod fitting;
 mod printing;
+mod rolling_up;
 mod summaries;
 mod tables;
 mod tallies;
@@ -14,6 +15,7 @@ mod viewing;
 mod views;
 
 pub use printing::print_view;
+pub use rolling_up::roll_up;
 pub use tallies::Tally;
 pub use viewing::{direct, from_views};
 pub use views::{Row, Store, View};

@@ -14,7 +14,9 @@ use std::alloc::Global;
 
 /// Prints a row behind what is printed.
 fn print_row(out: &mut Printer, id: &[u8], row: &Row) -> Result<(), Memory>
-    ensures { OnOk result (out.new ≡ out.old ++ text_of_row (fields_of_row id.now (row_of row.now))) }
+    requires width { out.old.width ≡ 5 }
+    ensures text { OnOk result (out.new.text ≡ out.old.text ++ text_of_row (fields_of_row id.now (row_of row.now))) }
+    ensures width { out.new.width ≡ 5 }
 {
     let mut count = Buffer::new();
     let mut sum = Buffer::new();
@@ -34,9 +36,9 @@ fn print(alloc: Global, instance: &Instance, view: &View) -> Result<Vec<u8>, Mem
     requires { All (λ r. r.member.0 < length instance.now) view.now.rows }
     ensures { IfOk result (λ bytes. bytes.items ≡ view_text instance.now (view_of view.now)) }
 {
-    let mut out = Printer::new(alloc);
+    let mut out = Printer::new(alloc, 5);
     out.row(&[b"member", b"count", b"sum", b"least", b"greatest"])?;
-    for row in view.rows.items() {
+    'rows: for row in view.rows.items() {
         print_row(&mut out, instance.id(row.member).bytes(), row)?;
     }
     out.finish()
@@ -50,6 +52,5 @@ pub fn print_view(alloc: Global, instance: &Instance, view: &View) -> Result<Tex
     ensures text { IfOk result (λ text. text ≡ view_text instance.now (view_of view.now)) }
     ensures reads { IfOk result (λ text. records_of text ≡ records_of_view instance.now (view_of view.now)) }
 {
-    let bytes = print(alloc, instance, view)?;
-    Text::from_bytes(alloc, &bytes)
+    Ok(Text::from_vec(print(alloc, instance, view)?))
 }

@@ -5,6 +5,8 @@ use Rattle.olap_view.specs.Seen.{rows_of}
 use Rattle.olap_view.specs.ViewText.{fields_in, header}
 use Rattle.olap_view.proofs.printing.print.Given as goal
 
-abbrev pub invariant-loop-row : goal.invariant-loop-row
-invariant-loop-row l =
-    l.out ≡ text_of_rows (header ∷ map (fields_in l.instance) (rows_of (take l.row-index l.row-items)))
+abbrev pub invariant-rows : goal.invariant-rows
+invariant-rows l = record {
+  text : l.out.text ≡ text_of_rows (header ∷ map (fields_in l.instance) (rows_of (take l.row-index l.row-items)));
+  width : l.out.width ≡ 5;
+}

@@ -1,0 +1,15 @@
+-- The views of a text of facts.
+--     AreRolledUp   views are the direct ones of the facts that a text stands for
+use Rattle.std.specs.Prelude.{◌≡◌, ℕ, List, map, Ok}
+use Rattle.olap_base.specs.Graph.{Graph}
+use Rattle.olap_base.specs.Instance.{Instance}
+use Rattle.olap_base.specs.Limits.{most_facts}
+use Rattle.olap_base.specs.Views.{Fact, View, direct_view}
+use Rattle.olap_facts.specs.FactText.{facts_read_within}
+
+-- the records stand for facts, and the views are the direct ones of these categories, in order
+pub record AreRolledUp (g : Graph) (i : Instance) (records : List (List (List ℕ))) (categories : List ℕ)
+    (views : List View) : Type 0 where
+  pub facts : List Fact
+  pub read : facts_read_within most_facts g i records ≡ Ok facts
+  pub direct : views ≡ map (direct_view i facts) categories
