@@ -1,0 +1,54 @@
+// What is learned from a false clause, and which clauses are kept.
+ghost use Rattle.std.specs.Prelude.{◌≡◌, ℕ, ◌<◌, ◌≤◌, Bool, length, vec_capacity};
+ghost use Rattle.olap_clauses.specs.Trails.{values_of};
+ghost use Rattle.olap_clauses.specs.Pools.{AreTrue, clause_count};
+ghost use Rattle.olap_clauses.specs.Admits.{Admits};
+
+use crate::analysing::analyse;
+use crate::literals::Lit;
+use crate::pools::Pool;
+use crate::scoring::Scores;
+use crate::trails::Trail;
+use crate::watching::Watches;
+
+/// So many literals at most has a learned clause that is kept for good.
+const SHORT: usize = 5;
+
+/// Learns from a false clause, where it can, and answers the number of what it learned.
+pub(crate) fn learn(
+    trail: &Trail,
+    pool: &mut Pool,
+    watches: &mut Watches,
+    id: usize,
+    seen: &mut [bool],
+    work: &mut Vec<Lit>,
+    scores: &mut Scores,
+) -> Option<usize>
+    requires id { id < clause_count pool.old }
+    requires room { length (values_of trail.now) ≤ vec_capacity work.old }
+    ensures kept { (v : ℕ → Bool) → Admits v pool.old trail.now → Admits v pool.new trail.now }
+    ensures room { vec_capacity work.old ≤ vec_capacity work.new }
+{
+    if !analyse(trail, pool, id, seen, work, scores) {
+        return None;
+    }
+    let new = pool.len();
+    if !pool.keep(work) {
+        return None;
+    }
+    watches.enter(new, work);
+    Some(new)
+}
+
+/// Copies the clauses before the first place and from the second on, and the short ones between
+/// them.
+pub(crate) fn copy_some(pool: &Pool, to: &mut Pool, given: usize, newer: usize)
+    ensures { (v : ℕ → Bool) → AreTrue v pool.now → AreTrue v to.new }
+{
+    to.clear();
+    'clauses: for id in 0..pool.len() {
+        let clause = pool.clause(id);
+        let wanted = id < given || id >= newer || clause.len() <= SHORT;
+        to.keep_if(wanted, clause);
+    }
+}
