@@ -1,7 +1,9 @@
 -- What a search keeps from call to call.
-use Rattle.std.proofs.Common.{◌≡◌, ℕ, Bool, List, [], ◌∷◌, length, take, refl, ap, sym, subst, ◌∙◌}
+use Rattle.std.proofs.Common.{◌≡◌, ℕ, zero, suc, ◌<◌, ◌≤◌, Bool, List, [], ◌∷◌, length, set, take, refl, ap, sym, subst, ◌∙◌, arith}
+use Rattle.std.specs.Prelude.{slice_index, slice_index_or}
+use Rattle.std.proofs.lemmas.List.{length-set}
 use Rattle.olap_ast.specs.Formula.{Formula}
-use Rattle.olap_ast.specs.Schema.{Constraint}
+use Rattle.olap_ast.specs.Schema.{Constraint, Schema}
 use Rattle.olap_ast.specs.Frozen.{Frozen}
 use Rattle.olap_base.specs.Graph.{Graph, category_count}
 use Rattle.olap_clauses.specs.declared.engine.Engine.{Engine}
@@ -10,9 +12,11 @@ use Rattle.olap_clauses.specs.declared.trails.Step.{Step}
 use Rattle.olap_clauses.specs.Engines.{admits, trail_of, variables_of}
 use Rattle.olap_clauses.specs.Pools.{AreTrue}
 use Rattle.olap_dimsat.specs.declared.asker.Leaf.{Leaf}
+use Rattle.olap_frozen.specs.Leaves.{IsSized, chosen_of, of_declared}
+use Rattle.olap_names.specs.Names.{with_graph}
 use Rattle.olap_dimsat.specs.Tasks.{IsOne, IsTask, Task}
 use Rattle.olap_dimsat.specs.Asking.{IsFor, IsSuited}
-use Rattle.olap_dimsat.specs.Pinned.{IsEncoded, IsReady}
+use Rattle.olap_dimsat.specs.Pinned.{IsEncoded, IsLeast, IsReady}
 
 take_none : (ss : List Step) → take 0 ss ≡ []
 take_none [] = refl
@@ -26,3 +30,40 @@ suited_still t leaf m n s q = subst (λ k. IsSuited t leaf k) (sym q) s
 
 pub ready_first : (t : Task) (pool : Pool) (e : Engine) → IsEncoded t pool → ((v : ℕ → Bool) → AreTrue v pool → admits v e) → IsReady t e
 ready_first t pool e i a f one = let w = i.each f one in (w.0, w.1, a w.0 w.2)
+
+-- the graph and the constraints are the schema's
+pub whole : (s : Schema) (g : Graph) (cs : List Constraint) → g ≡ s.graph → cs ≡ s.constraints → with_graph g cs ≡ s
+whole s g cs p q = λ i. record { graph = p i; constraints = q i }
+
+-- ---- what is handed out: `All` has the index 0
+
+declared_same : (names : List ℕ) → of_declared (set names 0 0) ≡ of_declared names
+declared_same [] = refl
+declared_same (x ∷ xs) = refl
+
+all_zero : (names : List ℕ) → slice_index (set names 0 0) 0 ≡ 0
+all_zero [] = refl
+all_zero (x ∷ xs) = refl
+
+at_declared : (names : List ℕ) (c : ℕ) → slice_index (of_declared names) c ≡ slice_index (set names 0 0) (suc c)
+at_declared [] c = refl
+at_declared (x ∷ xs) c = refl
+
+module _ (t : Task) (edges : List Bool) (names : List ℕ) (task : IsTask t) (l : IsLeast t (chosen_of edges names)) where
+  pub handed_least : IsLeast t (chosen_of edges (set names 0 0))
+  handed_least = subst (λ (xs : List ℕ). IsLeast t (record { edges = edges; names = xs })) (sym (declared_same names)) l
+
+  pub handed_sized : length names ≡ category_count t.graph → IsSized t.graph t.named edges (set names 0 0)
+  handed_sized n = record {
+    edge_count = l.is_one.edge_count;
+    text_count = task.texts;
+    name_count = length-set names 0 0 ∙ n;
+    in_range = within;
+  }
+    where
+      within : (c : ℕ) → c < category_count t.graph
+          → slice_index (set names 0 0) c ≤ length (slice_index_or t.named.texts c [])
+      within zero h = let z = all_zero names in omega arith
+      within (suc c) h =
+          subst (λ i. i ≤ length (slice_index_or t.named.texts (suc c) [])) (at_declared names c)
+          (l.is_one.in_range c (let m = l.is_one.name_count in omega arith))

@@ -10,7 +10,7 @@ use Rattle.olap_clauses.specs.declared.literals.Lit.{Lit}
 use Rattle.olap_clauses.specs.declared.trails.Step.{Step}
 use Rattle.olap_clauses.specs.Literals.{Holds}
 use Rattle.olap_clauses.specs.Standing.{Agrees}
-use Rattle.olap_dimsat.specs.Tasks.{Task, IsOne, constant_count, name_variable, on_variable}
+use Rattle.olap_dimsat.specs.Tasks.{IsTask, Task, IsOne, constant_count, name_variable, on_variable}
 use Rattle.olap_dimsat.specs.Reads.{Reads, IsShaped, index_in}
 use Rattle.olap_dimsat.specs.Pinned.{AreShaped, IsLeast, IsLonger, IsPinned, IsProbed, IsReady, IsSame, NoneAt, SayAt}
 use Rattle.olap_dimsat.proofs.Truths.{same_is, is_same, not_true, none_is_zero, true_or_false}
@@ -208,8 +208,9 @@ not_after (x ∷ xs) (y ∷ ys) e f = elim (cases x y (f 0 (omega arith) (λ k h
     same q k s (suc j) h = s j (omega arith)
 
 pub least_of_pinned : (t : Task) (p : ℕ) (w : Frozen) (steps : List Step)
-    → length t.graph.edges + length t.graph.names ≤ p → IsPinned t p w steps → IsLeast t w
-least_of_pinned t p w steps h i = record {
+    → length t.graph.edges + length t.graph.names ≤ p → IsTask t → IsPinned t p w steps → IsLeast t w
+least_of_pinned t p w steps h k i = record {
+  candidates = k.candidates;
   is_one = i.one;
   least = λ f one. not_after (code w) (code f) (length-code t w i.one ∙ sym (length-code t f one))
       (λ q b s. i.least f one q (let l = length-code t w i.one in omega arith) s);

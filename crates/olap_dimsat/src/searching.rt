@@ -1,12 +1,15 @@
 // The search as a value: room for one task.
-ghost use Rattle.std.specs.Prelude.{◌≡◌, ◌<◌, ◌≤◌, ℕ, All, IfOk, IsTrue, false, length, map};
-ghost use Rattle.olap_ast.specs.Frozen.{Frozen as TheFrozen, IsFrozen, IsLeastFrozen};
+ghost use Rattle.std.specs.Prelude.{◌≡◌, ◌≤◌, IfOk, IsTrue, false, length, map};
+ghost use Rattle.olap_ast.specs.Constants.{all_equalities};
+ghost use Rattle.olap_ast.specs.Questions.{NoneFrozen};
 ghost use Rattle.olap_ast.specs.Trees.{constraint_of, formula_of};
 ghost use Rattle.olap_ast.specs.Valid.{IsFormulaAt, IsValidSchema, distinct_pairs};
 ghost use Rattle.olap_base.specs.Graph.{IsCategory, category_count};
-ghost use Rattle.olap_frozen.specs.Leaves.{chosen_of};
-ghost use Rattle.olap_names.specs.Names.{atoms, candidates_of, with_graph};
-ghost use Rattle.olap_dimsat.specs.Searches.{IsMadeWith};
+ghost use Rattle.olap_base.specs.Limits.{most_constants};
+ghost use Rattle.olap_dimsat.specs.Searches.{IsMadeWith, IsSizedFor, candidates_in, found_in, named_in, root_of};
+ghost use Rattle.olap_frozen.specs.LeastFound.{IsLeastFound};
+ghost use Rattle.olap_names.specs.Names.{with_graph};
+ghost use Rattle.olap_schema.specs.Schemas.{schema_of};
 
 use crate::asker::{Asker, Leaf};
 use crate::encoding::encode;
@@ -18,10 +21,11 @@ use olap_clauses::Engine;
 use olap_frozen::{Frozen, Room};
 use olap_graph::Graph;
 use olap_names::Candidates;
+use olap_schema::Schema;
 use std::alloc::Global;
 use std::mem::swap;
 
-/// Room for a search, made for a graph, constraints, a root and a question.
+/// Room for a search, made for a schema, a root and a question.
 #[derive(Drop)]
 pub struct Search {
     root: CatId,
@@ -56,8 +60,8 @@ fn room_for(size: usize) -> u32 {
 }
 
 impl Search {
-    /// A search for this root and question. It takes all memory that the search will use.
-    pub fn new(
+    // A search over this graph and these constraints.
+    fn over(
         alloc: Global,
         graph: &Graph,
         constraints: &[Constraint],
@@ -67,12 +71,11 @@ impl Search {
         requires root { IsCategory graph.now root.0 }
         requires valid { IsValidSchema (with_graph graph.now (map constraint_of constraints.now)) }
         requires question { IsFormulaAt graph.now root.0 (formula_of question.now) }
-        requires categories { All (λ a. a.category < category_count graph.now)
-            (atoms (map constraint_of constraints.now) (formula_of question.now)) }
-        requires few { length (distinct_pairs (atoms (map constraint_of constraints.now) (formula_of question.now)))
-            ≤ 256 }
-        ensures { IfOk result (λ search. IsMadeWith graph.now (map constraint_of constraints.now)
-            (formula_of question.now) root.0 search) }
+        requires few { length (distinct_pairs (all_equalities
+            (with_graph graph.now (map constraint_of constraints.now)) (formula_of question.now))) ≤ most_constants }
+        ensures made { IfOk result (IsMadeWith (with_graph graph.now (map constraint_of constraints.now))
+            (formula_of question.now)) }
+        ensures root { IfOk result (λ search. root_of search ≡ root.0) }
     {
         let candidates = Candidates::of(alloc, graph.categories(), constraints, question)?;
         let encoded = encode(alloc, graph, constraints, question, root, &candidates)?;
@@ -102,10 +105,28 @@ impl Search {
         })
     }
 
+    /// A search for this root and question. It takes all memory that the search will use.
+    pub fn new(
+        alloc: Global,
+        schema: &Schema,
+        root: CatId,
+        question: &Formula,
+    ) -> Result<Search, Memory>
+        requires root { IsCategory (schema_of schema.now).graph root.0 }
+        requires question { IsFormulaAt (schema_of schema.now).graph root.0 (formula_of question.now) }
+        requires few { length (distinct_pairs (all_equalities (schema_of schema.now) (formula_of question.now)))
+            ≤ most_constants }
+        ensures made { IfOk result (IsMadeWith (schema_of schema.now) (formula_of question.now)) }
+        ensures root { IfOk result (λ search. root_of search ≡ root.0) }
+    {
+        let graph = schema.graph();
+        let constraints = schema.constraints();
+        Search::over(alloc, graph, constraints, root, question)
+    }
+
     /// A value of the right sizes with nothing present.
     pub fn blank(&self) -> Result<Frozen, Memory>
-        ensures { IfOk result (λ f. (length f.edges ≡ length self.now.best.edges)
-            × (length f.names ≡ length self.now.best.names)) }
+        ensures { IfOk result (IsSizedFor self.now) }
     {
         let edges = self.best.edges.items().len();
         let names = self.best.names.items().len();
@@ -116,30 +137,26 @@ impl Search {
         })
     }
 
-    /// The least frozen dimension whose root makes the question true. False where there is none; then `into` stays.
-    ///
-    /// It takes no memory.
-    pub fn first(
+    // The least one, over this graph and these constraints.
+    fn first_over(
         &mut self,
         graph: &Graph,
         constraints: &[Constraint],
         question: &Formula,
         into: &mut Frozen,
     ) -> bool
-        requires made { IsMadeWith graph.now (map constraint_of constraints.now) (formula_of question.now)
-            self.old.root.0 self.old }
-        requires edges { length into.old.edges ≡ length self.old.best.edges }
-        requires names { length into.old.names ≡ length self.old.best.names }
-        ensures some { IsTrue result → IsLeastFrozen (with_graph graph.now (map constraint_of constraints.now))
-            (formula_of question.now) self.old.root.0 (candidates_of self.old.candidates)
-            (chosen_of into.new.edges into.new.names) }
-        ensures none { result ≡ false → (f : TheFrozen)
-            → IsFrozen (with_graph graph.now (map constraint_of constraints.now))
-            (formula_of question.now) self.old.root.0 (candidates_of self.old.candidates) f → ⊥ }
+        requires made { IsMadeWith (with_graph graph.now (map constraint_of constraints.now))
+            (formula_of question.now) self.old }
+        requires sizes { IsSizedFor self.old into.old }
+        ensures some { IsTrue result → IsLeastFound (with_graph graph.now (map constraint_of constraints.now))
+            (formula_of question.now) (root_of self.old) (found_in self.old into.new) }
+        ensures none { result ≡ false → NoneFrozen (with_graph graph.now (map constraint_of constraints.now))
+            (formula_of question.now) (root_of self.old) (candidates_in self.old) }
         ensures stays { result ≡ false → into.new ≡ into.old }
-        ensures candidates { self.new.candidates ≡ self.old.candidates }
-        ensures made { IsMadeWith graph.now (map constraint_of constraints.now) (formula_of question.now)
-            self.old.root.0 self.new }
+        ensures candidates { named_in self.new ≡ named_in self.old }
+        ensures root { root_of self.new ≡ root_of self.old }
+        ensures made { IsMadeWith (with_graph graph.now (map constraint_of constraints.now))
+            (formula_of question.now) self.new }
     {
         let asker = Asker {
             graph,
@@ -156,12 +173,33 @@ impl Search {
         }
         into.root = self.root;
         swap(into, &mut self.best);
+        into.names.set(0, 0);
         true
     }
 
-    /// The candidates of the constraints and the question that it was made with.
+    /// The least frozen dimension whose root makes the question true. False where there is none; then `into` stays.
+    ///
+    /// It takes no memory.
+    pub fn first(&mut self, schema: &Schema, question: &Formula, into: &mut Frozen) -> bool
+        requires made { IsMadeWith (schema_of schema.now) (formula_of question.now) self.old }
+        requires sizes { IsSizedFor self.old into.old }
+        ensures some { IsTrue result → IsLeastFound (schema_of schema.now) (formula_of question.now)
+            (root_of self.old) (found_in self.old into.new) }
+        ensures none { result ≡ false → NoneFrozen (schema_of schema.now) (formula_of question.now)
+            (root_of self.old) (candidates_in self.old) }
+        ensures stays { result ≡ false → into.new ≡ into.old }
+        ensures candidates { named_in self.new ≡ named_in self.old }
+        ensures root { root_of self.new ≡ root_of self.old }
+        ensures made { IsMadeWith (schema_of schema.now) (formula_of question.now) self.new }
+    {
+        let graph = schema.graph();
+        let constraints = schema.constraints();
+        self.first_over(graph, constraints, question, into)
+    }
+
+    /// The candidates of the schema and the question that it was made with.
     pub fn into_candidates(self) -> Candidates
-        ensures { result ≡ self.candidates }
+        ensures { result ≡ named_in self }
     {
         self.candidates
     }

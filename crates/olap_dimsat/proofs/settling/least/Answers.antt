@@ -9,4 +9,4 @@ pub returns-clause-some : goal.returns-clause-some
 returns-clause-some c = λ _.
     least_of_pinned (task_of c.args.a.now) c.places.p (chosen_of c.places.best.edges c.places.best.names) (trail_of c.places.engine)
     (let t = c.places-test.false in let m = c.edges.ensures.count in let n = c.categories.ensures.count in omega arith)
-    c.places.invariant.pinned
+    c.requires.suited.task c.places.invariant.pinned

@@ -1,0 +1,3 @@
+-- Lemmas.
+mod NowhereLemmas
+mod CounterexampleLemmas

@@ -1,0 +1,66 @@
+-- What a search finds, or doesn't, in all legal instances.
+use Rattle.std.proofs.Common.{◌≡◌, ℕ, List, [], ◌∷◌, length, refl, sym, subst, ◌↔◌, Bool, true, false, Option, Some, None}
+use Rattle.std.specs.Prelude.{◌≤◌, ◌++◌, IfSome, IsNone, flat_map}
+use Rattle.std.proofs.lemmas.List.{append-nil}
+use Rattle.olap_base.specs.Graph.{IsHierarchy}
+use Rattle.olap_base.specs.Instance.{Instance}
+use Rattle.olap_base.specs.Limits.{most_constants}
+use Rattle.olap_ast.specs.Constants.{all_equalities}
+use Rattle.olap_ast.specs.Findings.{IsUnsatisfiable}
+use Rattle.olap_ast.specs.Formula.{Formula, Formula.Truth, Formula.Not, Holds, equalities}
+use Rattle.olap_ast.specs.Frozen.{AreCandidates, Candidates}
+use Rattle.olap_ast.specs.Questions.{IsImplied, NoneFrozen}
+use Rattle.olap_ast.specs.Schema.{Constraint, Schema}
+use Rattle.olap_ast.specs.Valid.{IsValidSchema, distinct_pairs}
+use Rattle.olap_ast.proofs.Decided.{decide_holds}
+use Rattle.olap_ast.proofs.SmallModel.{frozen_exactly}
+use Rattle.olap_names.specs.Names.{candidates_of}
+use Rattle.olap_frozen.specs.declared.founding.Found.{Found}
+use Rattle.olap_frozen.specs.LeastFound.{IsLeastFound, frozen_of}
+use Rattle.olap_summ.specs.Answers.{IsNowhere}
+
+-- where no frozen dimension was found
+pub nowhere : (s : Schema) (q : Formula) (r : ℕ) (k : Candidates) → IsHierarchy s.graph → AreCandidates s q k
+    → NoneFrozen s q r k → IsNowhere s q r
+nowhere s q r k h are n i l x m t = let f = (frozen_exactly s q r k h are).1 (i, l, x, m, t) in n f.0 f.1
+
+-- what was found is the root's part of a legal instance
+pub somewhere : (s : Schema) (q : Formula) (r : ℕ) (found : Found) → IsHierarchy s.graph → IsLeastFound s q r found
+    → IsNowhere s q r → ⊥
+somewhere s q r found h l n =
+    let m = (frozen_exactly s q r (candidates_of found.candidates) h l.least.candidates).0
+        (frozen_of found.frozen, l.least.is_one) in
+    n m.0 m.1 m.2 m.3 m.4
+
+pub none_is : {A : Type 0} (P : Type 0) → P → IsNone (None {T = A}) ↔ P
+none_is P p = (λ e. p, λ q. refl)
+
+pub some_is : {A : Type 0} (a : A) (P : Type 0) → (P → ⊥) → IsNone (Some a) ↔ P
+some_is a P n = (λ e. absurd (let z : true ≡ false = e in cc), λ p. absurd (n p))
+
+-- what is equivalent to a question's answer
+pub none_as : {A : Type 0} (o : Option A) (P Q : Type 0) → IsNone o ↔ P → (P → Q) → (Q → P) → IsNone o ↔ Q
+none_as o P Q e f g = (λ n. f (e.0 n), λ q. e.1 (g q))
+
+pub unsatisfiable_is : {A : Type 0} (s : Schema) (c : ℕ) (o : Option A) → IsNone o ↔ IsNowhere s Truth c
+    → IsNone o ↔ IsUnsatisfiable s c
+unsatisfiable_is s c o e = none_as o (IsNowhere s Truth c) (IsUnsatisfiable s c) e
+    (λ n i l x m. n i l x m tt) (λ u i l x m t. u i l x m)
+
+pub implied_is : {A : Type 0} (s : Schema) (r : ℕ) (q : Formula) (o : Option A) → IsNone o ↔ IsNowhere s (Not q) r
+    → IsNone o ↔ IsImplied s r q
+implied_is s r q o e = none_as o (IsNowhere s (Not q) r) (IsImplied s r q) e
+    (λ n i l x m. holds i x (decide_holds i x q) (n i l x m)) (λ u i l x m h. h (u i l x m))
+  where
+    holds : (i : Instance) (x : ℕ) → Dec (Holds i x q) → (Holds i x (Not q) → ⊥) → Holds i x q
+    holds i x (yes h) n = h
+    holds i x (no h) n = absurd (n h)
+
+-- a question without constants keeps the limit
+pub no_more_constants : (s : Schema) (q : Formula) → IsValidSchema s → equalities q ≡ []
+    → length (distinct_pairs (all_equalities s q)) ≤ most_constants
+no_more_constants s q v e =
+    subst (λ xs. length (distinct_pairs (flat_map (λ (c : Constraint). equalities c.formula) s.constraints ++ xs)) ≤ most_constants)
+    (sym e)
+    (subst (λ xs. length (distinct_pairs xs) ≤ most_constants)
+    (sym (append-nil (flat_map (λ (c : Constraint). equalities c.formula) s.constraints))) v.constants_fit)

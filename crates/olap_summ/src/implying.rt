@@ -1,0 +1,40 @@
+// Which constraints hold in all legal instances.
+ghost use Rattle.std.specs.Prelude.{◌≤◌, ◌↔◌, IfOk, IfSome, IsNone, length};
+ghost use Rattle.olap_ast.specs.Constants.{all_equalities};
+ghost use Rattle.olap_ast.specs.Formula as Meaning;
+ghost use Rattle.olap_ast.specs.Questions.{IsImplied};
+ghost use Rattle.olap_ast.specs.Trees.{formula_of};
+ghost use Rattle.olap_ast.specs.Valid.{IsFormulaAt, distinct_pairs};
+ghost use Rattle.olap_base.specs.Graph.{IsCategory};
+ghost use Rattle.olap_base.specs.Limits.{most_constants};
+ghost use Rattle.olap_frozen.specs.LeastFound.{IsLeastFound};
+ghost use Rattle.olap_schema.specs.Schemas.{schema_of};
+
+use crate::asking::least_found;
+use olap_ast::{Formula, copy};
+use olap_base::{CatId, Memory};
+use olap_frozen::Found;
+use olap_schema::Schema;
+use std::alloc::Global;
+
+/// The least frozen dimension whose root makes the formula false. None exactly where every legal instance meets the
+/// constraint of this root and formula.
+pub fn implies(
+    alloc: Global,
+    schema: &Schema,
+    root: CatId,
+    f: &Formula,
+) -> Result<Option<Found>, Memory>
+    requires root { IsCategory (schema_of schema.now).graph root.0 }
+    requires formula { IsFormulaAt (schema_of schema.now).graph root.0 (formula_of f.now) }
+    requires few { length (distinct_pairs (all_equalities (schema_of schema.now) (formula_of f.now)))
+        ≤ most_constants }
+    ensures none { IfOk result (λ o. IsNone o ↔ IsImplied (schema_of schema.now) root.0 (formula_of f.now)) }
+    ensures some { IfOk result (λ o. IfSome o
+        (IsLeastFound (schema_of schema.now) (Meaning.Formula.Not (formula_of f.now)) root.0)) }
+{
+    let part = Box::new(alloc, copy(alloc, f)?)?;
+    let negated = Formula::Not(part);
+    let found = least_found(alloc, schema, root, &negated)?;
+    Ok(found)
+}
