@@ -4,7 +4,6 @@ use Rattle.std.specs.Prelude.{slice_index, slice_index_or}
 use Rattle.std.proofs.lemmas.List.{length-set}
 use Rattle.olap_ast.specs.Formula.{Formula}
 use Rattle.olap_ast.specs.Schema.{Constraint, Schema}
-use Rattle.olap_ast.specs.Frozen.{Frozen}
 use Rattle.olap_base.specs.Graph.{Graph, category_count}
 use Rattle.olap_clauses.specs.declared.engine.Engine.{Engine}
 use Rattle.olap_clauses.specs.declared.pools.Pool.{Pool}
@@ -12,9 +11,14 @@ use Rattle.olap_clauses.specs.declared.trails.Step.{Step}
 use Rattle.olap_clauses.specs.Engines.{admits, trail_of, variables_of}
 use Rattle.olap_clauses.specs.Pools.{AreTrue}
 use Rattle.olap_dimsat.specs.declared.asker.Leaf.{Leaf}
+use Rattle.olap_base.specs.declared.ids.CatId.{CatId}
+use Rattle.olap_frozen.specs.declared.frozen.Frozen.{Frozen}
+use Rattle.olap_frozen.specs.LeastFound.{IsLeastFound}
 use Rattle.olap_frozen.specs.Leaves.{IsSized, chosen_of, of_declared}
 use Rattle.olap_names.specs.Names.{with_graph}
 use Rattle.olap_dimsat.specs.Tasks.{IsOne, IsTask, Task}
+use Rattle.olap_dimsat.specs.declared.searching.Search.{Search}
+use Rattle.olap_dimsat.specs.Searches.{found_in, root_of, task_in}
 use Rattle.olap_dimsat.specs.Asking.{IsFor, IsSuited}
 use Rattle.olap_dimsat.specs.Pinned.{IsEncoded, IsLeast, IsReady}
 
@@ -67,3 +71,18 @@ module _ (t : Task) (edges : List Bool) (names : List ℕ) (task : IsTask t) (l 
       within (suc c) h =
           subst (λ i. i ≤ length (slice_index_or t.named.texts (suc c) [])) (at_declared names c)
           (l.is_one.in_range c (let m = l.is_one.name_count in omega arith))
+
+-- what is handed out is what was found, but for the index of `All`
+pub handed : (s : Schema) (q : Formula) (search : Search) (best into : Frozen) → IsTask (task_in s q search)
+    → IsFor (task_in s q search) best → IsLeast (task_in s q search) (chosen_of best.edges best.names)
+    → into.root ≡ best.root → into.edges ≡ best.edges → into.names ≡ set best.names 0 0
+    → IsLeastFound s q (root_of search) (found_in search into)
+handed s q search best into task for l r e n =
+    let t = task_in s q search in record {
+      root = ap (λ (c : CatId). c.0) r ∙ for.root;
+      sized = subst (λ (es : List Bool). IsSized s.graph search.candidates es into.names) (sym e)
+          (subst (λ (ns : List ℕ). IsSized s.graph search.candidates best.edges ns) (sym n)
+          (handed_sized t best.edges best.names task l for.names));
+      least = subst (λ (es : List Bool). IsLeast t (chosen_of es into.names)) (sym e)
+          (subst (λ (ns : List ℕ). IsLeast t (chosen_of best.edges ns)) (sym n) (handed_least t best.edges best.names task l));
+    }
