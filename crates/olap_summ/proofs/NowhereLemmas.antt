@@ -32,8 +32,12 @@ somewhere s q r found h l n =
         (frozen_of found.frozen, l.least.is_one) in
     n m.0 m.1 m.2 m.3 m.4
 
-pub none_is : {A : Type 0} (P : Type 0) → P → IsNone (None {T = A}) ↔ P
-none_is P p = (λ e. p, λ q. refl)
+pub none_is : (A P : Type 0) → P → IsNone {T = A} None ↔ P
+none_is A P p = (λ e. p, λ q. refl)
+
+pub some_of : {A : Type 0} (o : Option A) (P : Type 0) → P → IfSome o (λ _. P)
+some_of None P p = tt
+some_of (Some a) P p = p
 
 pub some_is : {A : Type 0} (a : A) (P : Type 0) → (P → ⊥) → IsNone (Some a) ↔ P
 some_is a P n = (λ e. absurd (let z : true ≡ false = e in cc), λ p. absurd (n p))

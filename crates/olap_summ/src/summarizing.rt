@@ -35,9 +35,9 @@ fn stands_before(sources: &[CatId], k: usize) -> bool
     ensures { let numbers = numbers_of sources.now in
         IsTrue result ↔ ((j : ℕ) × (j < k) × (slice_index numbers j ≡ slice_index numbers k)) }
 {
-    let source = sources[k];
+    let source = sources[k].0;
     'earlier: for j in 0..k {
-        if sources[j] == source {
+        if sources[j].0 == source {
             return true;
         }
     }

@@ -16,7 +16,7 @@ returns-then-not-first-clause-none c =
     let q = formula_of c.args.question.now in
     let made = c.in_ok-search.ensures.made in
     let k = candidates_in c.in_ok-search.search in
-    none_is (IsNowhere s q c.args.root.0) (nowhere s q c.args.root.0 k made.valid.hierarchy made.task.candidates
+    none_is Found (IsNowhere s q c.args.root.0) (nowhere s q c.args.root.0 k made.valid.hierarchy made.task.candidates
     (subst (λ r. NoneFrozen s q r k) c.in_ok-search.ensures.root (c.first.ensures.none c.if-not-first.true)))
 
 pub returns-clause-some : goal.returns-clause-some
