@@ -57,8 +57,8 @@ pub is_choice : (t : Task) (f : Frozen) (edges : List Bool) (names : List ℕ) �
     → ((c : ℕ) → c < length names → index_in f c ≡ slice_index names c) → f ≡ chosen_of edges names
 is_choice t f edges names one l m es ns =
     let p : f.edges ≡ edges = ext_get_or false f.edges edges (one.edge_count ∙ sym l)
-        (λ i h. es i (let n = one.edge_count in omega arith)) in
+    (λ i h. es i (let n = one.edge_count in omega arith)) in
     let q : f.names ≡ of_declared names = ext_get_or 0 f.names (of_declared names)
-        (one.name_count ∙ sym (length-declared names (length t.graph.names) m))
-        (λ i h. ns (suc i) (let n = one.name_count in omega arith) ∙ sym (at_declared names i)) in
+    (one.name_count ∙ sym (length-declared names (length t.graph.names) m))
+    (λ i h. ns (suc i) (let n = one.name_count in omega arith) ∙ sym (at_declared names i)) in
     λ i. record { edges = p i; names = q i }

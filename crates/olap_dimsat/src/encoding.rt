@@ -85,8 +85,14 @@ pub(crate) fn encode(
     requires candidates { AreCandidates (with_graph graph.now (map constraint_of constraints.now))
         (formula_of question.now) (candidates_of candidates.now) }
     requires texts { length candidates.now.texts ≡ category_count graph.now }
-    ensures { IfOk result (λ e. IsEncoded (record { graph = graph.now; constraints = map constraint_of constraints.now;
-        question = formula_of question.now; root = root.0; named = candidates.now; layout = e.layout }) e.pool) }
+    ensures { IfOk result (λ e. IsEncoded (record {
+      graph = graph.now;
+      constraints = map constraint_of constraints.now;
+      question = formula_of question.now;
+      root = root.0;
+      named = candidates.now;
+      layout = e.layout;
+    }) e.pool) }
 {
     let problem = Problem {
         graph,

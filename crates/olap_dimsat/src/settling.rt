@@ -205,12 +205,7 @@ fn settle(engine: &mut Engine, a: &Asker<'_>, leaf: &mut Leaf, best: &mut Frozen
 }
 
 /// Finds the least, place by place. False: there is none.
-pub(crate) fn least(
-    engine: &mut Engine,
-    a: &Asker<'_>,
-    leaf: &mut Leaf,
-    best: &mut Frozen,
-) -> bool
+pub(crate) fn least(engine: &mut Engine, a: &Asker<'_>, leaf: &mut Leaf, best: &mut Frozen) -> bool
     requires suited { IsSuited (task_of a.now) leaf.old (variables_of engine.old) }
     requires ready { IsReady (task_of a.now) engine.old }
     requires best { IsFor (task_of a.now) best.old }

@@ -12,13 +12,7 @@ use olap_bits::CatSet;
 use olap_graph::Graph;
 
 // Whether another chosen edge from c leads to a category that reaches d.
-fn is_passed(
-    graph: &Graph,
-    edges: &[bool],
-    rows: &[CatSet<1>],
-    c: CatId,
-    d: CatId,
-) -> bool
+fn is_passed(graph: &Graph, edges: &[bool], rows: &[CatSet<1>], c: CatId, d: CatId) -> bool
     requires edges { length edges.now ≡ length graph.now.edges }
     requires rows { length rows.now ≡ category_count graph.now }
     ensures { IsTrue result ↔ IsPassed graph.now edges.now rows.now (length graph.now.edges) c.0 d.0 }

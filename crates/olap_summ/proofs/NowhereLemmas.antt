@@ -29,7 +29,7 @@ pub somewhere : (s : Schema) (q : Formula) (r : ℕ) (found : Found) → IsHiera
     → IsNowhere s q r → ⊥
 somewhere s q r found h l n =
     let m = (frozen_exactly s q r (candidates_of found.candidates) h l.least.candidates).0
-        (frozen_of found.frozen, l.least.is_one) in
+    (frozen_of found.frozen, l.least.is_one) in
     n m.0 m.1 m.2 m.3 m.4
 
 pub none_is : (A P : Type 0) → P → IsNone {T = A} None ↔ P

@@ -23,11 +23,7 @@ fn vias(alloc: Global, target: CatId, sources: &[CatId]) -> Result<Terms, Memory
 }
 
 /// A member of the target is reached, and not by exactly one source.
-pub(crate) fn not_by_one(
-    alloc: Global,
-    target: CatId,
-    sources: &[CatId],
-) -> Result<Formula, Memory>
+pub(crate) fn not_by_one(alloc: Global, target: CatId, sources: &[CatId]) -> Result<Formula, Memory>
     ensures { IfOk result (λ f. formula_of f ≡ summarizable.not_by_one target.0 (numbers_of sources.now)) }
 {
     let one = Box::new(alloc, Formula::One(vias(alloc, target, sources)?))?;

@@ -80,11 +80,7 @@ fn try_bottom(
 }
 
 // The least frozen dimension of the first bottom category that has one.
-fn first_found(
-    alloc: Global,
-    schema: &Schema,
-    question: &Formula,
-) -> Result<Option<Found>, Memory>
+fn first_found(alloc: Global, schema: &Schema, question: &Formula) -> Result<Option<Found>, Memory>
     requires question { (b : ℕ) → IsFormulaAt (schema_of schema.now).graph b (formula_of question.now) }
     requires few { length (distinct_pairs (all_equalities (schema_of schema.now) (formula_of question.now)))
         ≤ most_constants }

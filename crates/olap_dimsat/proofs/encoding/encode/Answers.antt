@@ -34,11 +34,16 @@ returns c =
     let s = with_graph c.args.graph.now (map constraint_of c.args.constraints.now) in
     let q = formula_of c.args.question.now in
     let k : Candidates = record { fresh = c.fresh.result.now; texts = λ d. slice_index_or c.texts.result.now d [] } in
-    let t : Task = record { graph = c.args.graph.now; constraints = map constraint_of c.args.constraints.now; question = q;
-        root = c.args.root.0; named = c.args.candidates.now;
-        layout = record { edges = c.edges-edges.result; starts = c.in_ok-starts.starts; variables = c.variables-variables.result } } in
+    let t : Task = record {
+      graph = c.args.graph.now;
+      constraints = map constraint_of c.args.constraints.now;
+      question = q;
+      root = c.args.root.0;
+      named = c.args.candidates.now;
+      layout = record { edges = c.edges-edges.result; starts = c.in_ok-starts.starts; variables = c.variables-variables.result };
+    } in
     let p = sym (same_problem s q c.args.root.0 (candidates_of c.args.candidates.now) k
-        (same_candidates c.fresh.result.now c.texts.result.now c.args.candidates.now c.fresh.ensures c.texts.ensures)) in
+    (same_candidates c.fresh.result.now c.texts.result.now c.args.candidates.now c.fresh.ensures c.texts.ensures)) in
     let e = encoding_of c.in_ok-encoder.encoder in
     let laid = subst (λ (x : Problem). IsLaid x e.meanings e.starts) (c.in_ok-encoder.ensures.problem ∙ p) c.in_ok-encoder.ensures.sound.laid in
     encoded t e c.in_ok-pool.pool c.requires.root c.requires.candidates c.requires.texts

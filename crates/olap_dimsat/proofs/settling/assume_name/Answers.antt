@@ -48,7 +48,7 @@ constants-preserved c =
     let t = task_of c.args.a.now in
     let next : suc c.constants.j ≡ c.constants.j + 1 = omega arith in
     let same : (suc c.constants.j == c.args.i) ≡ ((c.constants.j + 1) == c.from.result) =
-        ap (λ k. k == c.args.i) next ∙ ap (λ k. (c.constants.j + 1) == k) (sym c.from.ensures) in
+    ap (λ k. k == c.args.i) next ∙ ap (λ k. (c.constants.j + 1) == k) (sym c.from.ensures) in
     let variable = ap (λ (x : Lit). x.variable) c.name-name.ensures in
     record {
       say = λ v. (
@@ -74,6 +74,9 @@ returns-clause-yes c = λ e f v one r.
     let code = code_index t f c.args.c.0 one c.requires.declared in (
       λ a. let d = (i.say v).0 a in
           (d.0, code ∙ index_of_named t f v c.args.c.0 c.args.i one r c.requires.category c.requires.index (λ k h. d.1 k (omega arith))),
-      λ d. (i.say v).1 (d.0, λ k h. named_of_index t f v c.args.c.0 c.args.i r c.requires.category (sym code ∙ d.1) k
-          (let b = c.constants.auto.j-end in omega arith)),
+      λ d. (i.say v).1 (
+        d.0,
+        λ k h. named_of_index t f v c.args.c.0 c.args.i r c.requires.category (sym code ∙ d.1) k
+            (let b = c.constants.auto.j-end in omega arith),
+      ),
     )

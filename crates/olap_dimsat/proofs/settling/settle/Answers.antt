@@ -40,10 +40,10 @@ returns-clause-pinned c =
     let w = chosen_of c.numbers.best.edges c.numbers.best.names in
     let old = trail_of c.numbers.engine in
     let pinned = subst (λ (b : Frozen). IsPinned t p (chosen_of b.edges b.names) old) (sym i.best)
-        (subst (λ (ss : List Step). IsPinned t p (chosen_of c.args.best.now.edges c.args.best.now.names) ss) (sym i.trail)
-        c.requires.pinned) in
+    (subst (λ (ss : List Step). IsPinned t p (chosen_of c.args.best.now.edges c.args.best.now.names) ss) (sym i.trail)
+    c.requires.pinned) in
     let own = subst (λ (b : Frozen). n ≡ slice_index (code (chosen_of b.edges b.names)) p) (sym i.best)
-        c.number_at-number.ensures.number in
+    c.number_at-number.ensures.number in
     elim (true_or_false c.assume_at.result) [
       | inl y ↦ settled t p n w old (trail_of c.assume_at.new.engine) c.numbers.engine i.ready pinned own
           (λ k h f v one r a q. i.none k (let b = c.numbers-test.false in omega arith) f v one r

@@ -34,5 +34,5 @@ over-requires-clause-few c =
 pub returns-clause-made : goal.returns-clause-made
 returns-clause-made c =
     let w = whole (schema_of c.args.schema.now) c.graph-graph.result.now (map constraint_of c.constraints-constraints.result.now)
-        c.graph-graph.ensures c.constraints-constraints.ensures.list in
+    c.graph-graph.ensures c.constraints-constraints.ensures.list in
     subst (λ (s : Schema). IfOk c.over.result (IsMadeWith s (formula_of c.args.question.now))) w c.over.ensures.made

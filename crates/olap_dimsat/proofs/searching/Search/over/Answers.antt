@@ -22,9 +22,14 @@ of-requires-clause-categories c =
 
 pub returns-clause-made : goal.returns-clause-made
 returns-clause-made c =
-    let t : Task = record { graph = c.args.graph.now; constraints = map constraint_of c.args.constraints.now;
-        question = formula_of c.args.question.now; root = c.args.root.0; named = c.in_ok-candidates.candidates;
-        layout = c.in_ok-encoded.encoded.layout } in
+    let t : Task = record {
+      graph = c.args.graph.now;
+      constraints = map constraint_of c.args.constraints.now;
+      question = formula_of c.args.question.now;
+      root = c.args.root.0;
+      named = c.in_ok-candidates.candidates;
+      layout = c.in_ok-encoded.encoded.layout;
+    } in
     let e = c.in_ok-encoded.ensures in
     let b = c.in_ok-blank.ensures in
     let d = c.in_ok-best.ensures in record {
