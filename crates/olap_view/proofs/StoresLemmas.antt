@@ -1,7 +1,11 @@
--- The views that a mask chooses, view by view.
-use Rattle.std.proofs.Common.{◌≡◌, ℕ, ◌+◌, ◌<◌, List, [], ◌∷◌, ◌++◌, length, get_or, take, Bool, true, false, cond, ap, sym, ◌∙◌, arith}
-use Rattle.std.specs.Prelude.{◌==◌, flat_map}
+-- The views that a mask chooses, view by view, and how many rows a view has.
+use Rattle.std.proofs.Common.{◌≡◌, ◌≢◌, ℕ, ◌+◌, ◌<◌, ◌≤◌, ◌||◌, map, refl, suc, List, [], ◌∷◌, ◌++◌, length, get_or, take, Bool, true, false, cond, ap, sym, ◌∙◌, arith}
+use Rattle.std.specs.Prelude.{◌==◌, All, AllPairs, flat_map}
 use Rattle.std.specs.Int.{bit_at}
+use Rattle.std.specs.List.{list_any}
+use Rattle.std.proofs.lemmas.Bool.Decides.{Decides-eqb}
+use Rattle.std.proofs.lemmas.Map.Made.{IsDistinct-from_AllPairs}
+use Rattle.std.proofs.lemmas.Map.Steps.{length-le_from_distinct_below}
 use Rattle.std.proofs.lemmas.List.{append-nil, flat_map_more, length-map, length-take-le, map-append, take_more}
 use Rattle.olap_base.specs.Views.{Row, View}
 use Rattle.olap_view.specs.Seen.{each_view_of, rows_of, view_of}
@@ -54,3 +58,23 @@ module _ (views : List told.View) (k : ℕ) (v : told.View) (mask : ℕ) (h : k 
       ≡ rows_chosen (each_view_of (take k views)) mask
   rows_chosen_same t = ap (flat_map (λ (w : View). w.rows))
       (last_is false t ∙ append-nil (chosen (each_view_of (take k views)) mask))
+
+-- what holds of the member of each row holds of a member that is found among them
+found_below : (n : ℕ) (rows : List Row) → All (λ r. r.member < n) rows → (q : ℕ)
+    → list_any (λ m. q == m) (map (λ r. r.member) rows) ≡ true → q < n
+found_below n [] a q t = cc t
+found_below n (r ∷ rows) a q t = go (q == r.member) refl t (found_below n rows (λ k d l. a (suc k) d (omega arith)) q)
+  where
+    go : (b : Bool) → (q == r.member) ≡ b → (b || list_any (λ m. q == m) (map (λ r. r.member) rows)) ≡ true
+        → (list_any (λ m. q == m) (map (λ r. r.member) rows) ≡ true → q < n) → q < n
+    go true e t f = let s : q ≡ r.member = (Decides-eqb q r.member).0 e in let i = a 0 r (omega arith) in omega arith
+    go false e t f = f t
+
+-- rows at different members below n are n at most
+pub few_rows : (n : ℕ) (rows : List Row) → AllPairs ◌≢◌ (map (λ r. r.member) rows) → All (λ r. r.member < n) rows
+    → length rows ≤ n
+few_rows n rows d a =
+    let l = length-le_from_distinct_below (map (λ r. r.member) rows) n
+    (IsDistinct-from_AllPairs Decides-eqb (map (λ r. r.member) rows) d) (found_below n rows a) in
+    let m = length-map rows (λ r. r.member) in
+    omega arith

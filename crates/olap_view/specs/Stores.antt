@@ -5,6 +5,7 @@
 --     chosen     the views whose bits are in a mask
 use Rattle.std.specs.Prelude.{◌≢◌, ◌==◌, ℕ, ◌+◌, ◌^◌, ◌<◌, ◌≤◌, List, [], ◌∷◌, length, map, pos, neg_ℤ, ◌≤ℤ◌, All, AllPairs, FitsSigned, if◌then◌else◌}
 use Rattle.std.specs.Int.{bit_at, w64}
+use Rattle.olap_base.specs.Limits.{most_views}
 use Rattle.olap_base.specs.Views.{Row, View}
 
 -- a count from 1 to 4294967295, a sum of magnitude at most 2 ^ 95, and a least and a greatest of 64 bits
@@ -20,12 +21,11 @@ pub record IsStored (r : Row) : Type 0 where
 abbrev pub Fits : View → Type 0
 Fits v = All IsStored v.rows
 
--- at most eight views, of different categories, each of at most 262144 rows at different members
+-- few views, of different categories, each of rows at different members
 pub record IsStore (views : List View) : Type 0 where
-  pub few : length views ≤ 8
+  pub few : length views ≤ most_views
   pub categories : AllPairs ◌≢◌ (map (λ v. v.category) views)
   pub members : All (λ v. AllPairs ◌≢◌ (map (λ r. r.member) v.rows)) views
-  pub short : All (λ v. length v.rows ≤ 262144) views
 
 -- the views whose bits are in the mask, in order, where the first view's bit is the k-th
 abbrev pub chosen_from : ℕ → List View → ℕ → List View

@@ -29,7 +29,7 @@ fn row_fits(row: Row) -> bool
 fn rows_fit(rows: &[Row]) -> bool
     ensures { IsTrue result ↔ All IsStored (rows_of rows.now) }
 {
-    for row in rows {
+    'rows: for row in rows {
         if !row_fits(*row) {
             return false;
         }

@@ -1,6 +1,7 @@
 // What values come to at each member of some categories.
-ghost use Rattle.std.specs.Prelude.{◌≡◌, ◌<◌, ◌^◌, ◌↔◌, ℕ, All, AllPairs, ◌≢◌, Contains, IfOk, IfSome, IsTrue, None, length};
+ghost use Rattle.std.specs.Prelude.{◌≡◌, ◌<◌, ◌≤◌, ◌^◌, ◌↔◌, ℕ, All, AllPairs, ◌≢◌, Contains, IfOk, IfSome, IsTrue, None, length};
 ghost use Rattle.std.specs.Option.{option_map};
+ghost use Rattle.olap_base.specs.Limits.{most_members};
 ghost use Rattle.olap_base.specs.Views.{row_at};
 ghost use Rattle.olap_view.specs.Bounds.{IsUpTo};
 ghost use Rattle.olap_view.specs.Seen.{row_of, rows_of, summary_of, view_of};
@@ -28,7 +29,7 @@ pub(crate) struct Table {
 fn is_among(categories: &[CatId], c: CatId) -> bool
     ensures { IsTrue result ↔ Contains (ids categories.now) c.0 }
 {
-    for d in categories {
+    'categories: for d in categories {
         if d.0 == c.0 {
             return true;
         }
@@ -46,11 +47,12 @@ impl Table {
         ensures categories { IfOk result (λ t. categories_of t ≡ ids categories.now) }
         ensures places { IfOk result (HasPlaces instance.now) }
         ensures empty { IfOk result (λ t. (y : ℕ) → summary_at t y ≡ None) }
+        ensures few { IfOk result (λ t. length instance.now ≤ most_members) }
     {
         let members = instance.members();
         let mut places = vec![in alloc; 0u32; members as usize]?;
         let mut count = 0;
-        for y in 0..members {
+        'places: for y in 0..members {
             if is_among(categories, instance.category(MemberId(y))) {
                 places[y as usize] = count;
                 count += 1;
@@ -87,7 +89,7 @@ impl Table {
         requires room { (c : ℕ) → Contains (categories_of self.old) c → HasRoom legal.now c self.old }
         ensures { AreJoined legal.now x.0 (summary_of summary) self.old self.new }
     {
-        for k in 0..self.categories.len() {
+        'categories: for k in 0..self.categories.len() {
             let c = self.categories[k];
             self.join_in(legal, c, x, summary);
         }
@@ -110,7 +112,7 @@ impl Table {
         ensures members { IfOk result (λ v. All (λ r. r.member.0 < length instance.now) v.rows) }
     {
         let mut rows = Vec::new(alloc);
-        for y in 0..instance.members() {
+        'rows: for y in 0..instance.members() {
             let member = MemberId(y);
             if instance.category(member).0 == c.0 {
                 if let Some(row) = row(member, self.at(member)) {

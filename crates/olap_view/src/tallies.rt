@@ -93,7 +93,7 @@ impl<'a> Tally<'a> {
         ensures fit { IfOk result (λ v. All Fits (each_view_of v)) }
     {
         let mut views = Vec::new(self.alloc);
-        for k in 0..self.table.categories.len() {
+        'categories: for k in 0..self.table.categories.len() {
             let view = self.view(self.table.categories[k])?;
             views.push(view)?;
         }

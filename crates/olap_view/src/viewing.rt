@@ -1,6 +1,7 @@
 // The view of a category, from facts or from stored views.
 ghost use Rattle.std.specs.Int.{bit_at};
-ghost use Rattle.std.specs.Prelude.{◌≡◌, ◌≢◌, ◌==◌, ◌++◌, ◌<◌, ◌≤◌, ◌^◌, ℕ, All, AllPairs, IfOk, List as Items, length};
+ghost use Rattle.std.specs.Prelude.{◌≡◌, ◌≢◌, ◌==◌, ◌++◌, ◌<◌, ◌≤◌, ◌*◌, ◌^◌, ℕ, All, AllPairs, IfOk, List as Items, length};
+ghost use Rattle.olap_base.specs.Limits.{most_members};
 ghost use Rattle.olap_base.specs.Views.{Row as TheRow, direct_view, rows_from_views};
 ghost use Rattle.olap_facts.specs.Seen.{facts_of};
 ghost use Rattle.olap_view.specs.Merging.{AreMerged, HoldsRows};
@@ -28,7 +29,7 @@ pub fn direct(alloc: Global, legal: &Legal, facts: &Facts, c: CatId) -> Result<V
     ensures fits { IfOk result (λ v. Fits (view_of v)) }
 {
     let mut tally = Tally::new(alloc, legal, &[c])?;
-    for fact in facts.rows.items() {
+    'facts: for fact in facts.rows.items() {
         tally.add(fact);
     }
     tally.view(c)
@@ -46,17 +47,17 @@ fn has_bit(mask: u16, k: usize) -> bool
 fn join_rows(table: &mut Table, legal: &Legal, rows: &[Row])
     requires at_members { All (λ r. r.member.0 < length legal.now) rows.now }
     requires stored { All IsStored (rows_of rows.now) }
-    requires short { length rows.now ≤ 262144 }
+    requires short { length rows.now ≤ most_members }
     requires differ { AllPairs ◌≢◌ (categories_of table.old) }
     requires places { HasPlaces legal.now table.old }
-    requires few { HoldsRows legal.now 1835008 table.old }
+    requires few { HoldsRows legal.now (7 * most_members) table.old }
     ensures categories { table.new.categories ≡ table.old.categories }
     ensures places { table.new.places ≡ table.old.places }
     ensures same_length { length table.new.summaries.items ≡ length table.old.summaries.items }
     ensures merged { (earlier : Items TheRow) → AreMerged legal.now earlier table.old
         → AreMerged legal.now (earlier ++ rows_of rows.now) table.new }
 {
-    for row in rows {
+    'rows: for row in rows {
         table.join(legal, row.member, row.summary());
     }
 }
@@ -84,7 +85,7 @@ pub fn from_views(
 {
     let instance = legal.instance();
     let mut table = Table::new(alloc, instance, &[c])?;
-    for (k, view) in store.views.items().iter().enumerate() {
+    'views: for (k, view) in store.views.items().iter().enumerate() {
         if has_bit(mask, k) {
             join_rows(&mut table, legal, view.rows.items());
         }

@@ -16,23 +16,23 @@ pub returns-then-not-row_fits : goal.returns-then-not-row_fits
 unfolding nothing
 returns-then-not-row_fits c =
     let rows = c.args.rows.now in
-    let k = c.loop-row.row-index in (
+    let k = c.rows.row-index in (
       λ e. absurd (cc),
-      λ a. absurd (let t = c.row_fits.ensures.1 (each_row IsStored rows k nothing c.loop-row-test.true a) in cc),
+      λ a. absurd (let t = c.row_fits.ensures.1 (each_row IsStored rows k nothing c.rows-test.true a) in cc),
     )
 
-pub loop-row-preserved : goal.loop-row-preserved
+pub rows-preserved : goal.rows-preserved
 unfolding nothing
-loop-row-preserved c =
+rows-preserved c =
     let rows = c.args.rows.now in
-    let k = c.loop-row.row-index in
+    let k = c.rows.row-index in
     let r = get_or rows k nothing in
-    subst (All IsStored) (sym (rows_more_is rows k nothing c.loop-row-test.true))
-    (All-push IsStored (rows_of (take k rows)) (row_of r) c.loop-row.invariant
+    subst (All IsStored) (sym (rows_more_is rows k nothing c.rows-test.true))
+    (All-push IsStored (rows_of (take k rows)) (row_of r) c.rows.invariant
     (c.row_fits.ensures.0 c.if-not-row_fits.false))
 
 pub returns : goal.returns
 returns c =
     let rows = c.args.rows.now in
-    let all : take c.loop-row.row-index rows ≡ rows = take_all c.loop-row.row-index rows c.loop-row-test.false in
-    (λ e. subst (λ (l : List told.Row). All IsStored (rows_of l)) all c.loop-row.invariant, λ a. refl)
+    let all : take c.rows.row-index rows ≡ rows = take_all c.rows.row-index rows c.rows-test.false in
+    (λ e. subst (λ (l : List told.Row). All IsStored (rows_of l)) all c.rows.invariant, λ a. refl)

@@ -5,5 +5,5 @@ use Rattle.olap_view.specs.Seen.{rows_of}
 use Rattle.olap_view.specs.Stores.{IsStored}
 use Rattle.olap_view.proofs.fitting.rows_fit.Given as goal
 
-abbrev pub invariant-loop-row : goal.invariant-loop-row
-invariant-loop-row l = All IsStored (rows_of (take l.row-index l.rows))
+abbrev pub invariant-rows : goal.invariant-rows
+invariant-rows l = All IsStored (rows_of (take l.row-index l.rows))

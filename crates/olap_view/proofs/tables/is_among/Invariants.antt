@@ -4,5 +4,5 @@ use Rattle.std.specs.Prelude.{Contains}
 use Rattle.olap_view.specs.Tables.{ids}
 use Rattle.olap_view.proofs.tables.is_among.Given as goal
 
-abbrev pub invariant-loop-d : goal.invariant-loop-d
-invariant-loop-d l = Contains (ids (take l.d-index l.categories)) l.c.0 → ⊥
+abbrev pub invariant-categories : goal.invariant-categories
+invariant-categories l = Contains (ids (take l.d-index l.categories)) l.c.0 → ⊥

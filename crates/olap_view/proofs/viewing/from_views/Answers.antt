@@ -1,9 +1,10 @@
 -- One view more, whose bit is in the mask or isn't.
-use Rattle.std.proofs.Common.{◌≡◌, ◌<◌, ◌≤◌, ◌+◌, ◌*◌, ◌++◌, [], ℕ, List, length, get_or, take, ap, sym, subst, ◌∙◌, refl, arith, length-append}
-use Rattle.std.specs.Prelude.{All, Contains}
+use Rattle.std.proofs.Common.{◌≡◌, ◌≢◌, ◌<◌, ◌≤◌, ◌+◌, ◌*◌, ◌++◌, [], ℕ, List, length, get_or, map, take, ap, sym, subst, ◌∙◌, refl, arith, length-append}
+use Rattle.std.specs.Prelude.{All, AllPairs, Contains}
 use Rattle.std.proofs.lemmas.List.{length-map, take_all}
 use Rattle.std.proofs.lemmas.List.Elements.{All-append}
 use Rattle.olap_base.specs.Instance.{Instance}
+use Rattle.olap_base.specs.Limits.{most_members}
 use Rattle.olap_base.specs.Views.{Row, row_at, rows_from_views}
 use Rattle.olap_base.proofs.ListLemmas.{contains_head}
 use Rattle.olap_view.specs.Merging.{AreMerged, total_of_rows}
@@ -13,7 +14,7 @@ use Rattle.olap_view.specs.Tables.{HasPlaces, categories_of, ids, summary_at, vi
 use Rattle.olap_view.specs.declared.views.Row as row
 use Rattle.olap_view.specs.declared.views.View as told
 use Rattle.olap_view.proofs.SeenLemmas.{each_row, each_view}
-use Rattle.olap_view.proofs.StoresLemmas.{rows_chosen, rows_chosen_more, rows_chosen_same}
+use Rattle.olap_view.proofs.StoresLemmas.{few_rows, rows_chosen, rows_chosen_more, rows_chosen_same}
 use Rattle.olap_view.proofs.TableLemmas.{places_kept}
 use Rattle.olap_view.proofs.ViewingLemmas.{if_ok_more, rows_same}
 use Rattle.olap_view.proofs.viewing.from_views.Goals as goal
@@ -29,11 +30,15 @@ module _ (views read : List told.View) (k : ℕ) (v : told.View) (same : read �
 ended : (views read : List told.View) (k : ℕ) → read ≡ views → length read ≤ k → take k views ≡ views
 ended views read k e h = take_all k views (subst (λ (l : List told.View). length l ≤ k) e h)
 
--- a view isn't longer than 262144 rows
-short : (views : List told.View) (k : ℕ) (v : told.View) (rows : List row.Row) → k < length views → v ≡ get_or views k v
-    → All (λ w. length w.rows ≤ 262144) (each_view_of views) → rows ≡ v.rows → length rows ≤ 262144
-short views k v rows h e a q =
-    let t : length (rows_of v.rows) ≤ 262144 = each_view (λ w. length w.rows ≤ 262144) views k v h e a in
+-- a view of an instance has no more rows than the instance may have members
+short : (i : Instance) (views : List told.View) (k : ℕ) (v : told.View) (rows : List row.Row) → k < length views
+    → v ≡ get_or views k v → All (λ w. AllPairs ◌≢◌ (map (λ r. r.member) w.rows)) (each_view_of views)
+    → All (λ w. All (λ r. r.member < length i) w.rows) (each_view_of views) → length i ≤ most_members → rows ≡ v.rows
+    → length rows ≤ most_members
+short i views k v rows h e differ inside few q =
+    let d = each_view (λ w. AllPairs ◌≢◌ (map (λ r. r.member) w.rows)) views k v h e differ in
+    let a = each_view (λ w. All (λ r. r.member < length i) w.rows) views k v h e inside in
+    let t : length (rows_of v.rows) ≤ length i = few_rows (length i) (rows_of v.rows) d a in
     let l : length (rows_of v.rows) ≡ length v.rows = length-map v.rows row_of in
     let n : length rows ≡ length v.rows = ap length q in
     omega arith
@@ -44,9 +49,9 @@ join_rows-requires-clause-at_members c = λ k d h.
     let views = c.args.store.now.views in
     let v = c.view-item.result in
     let same = c.items-view-items.ensures in
-    let at = each_view (λ w. All (λ r. r.member < n) w.rows) views c.loop-k.k v
-    (inside views c.items-view-items.result.now c.loop-k.k v same c.loop-k-test.true)
-    (here views c.items-view-items.result.now c.loop-k.k v same c.view-item.is) c.requires.at_members in
+    let at = each_view (λ w. All (λ r. r.member < n) w.rows) views c.views.k v
+    (inside views c.items-view-items.result.now c.views.k v same c.views-test.true)
+    (here views c.items-view-items.result.now c.views.k v same c.view-item.is) c.requires.at_members in
     subst (λ (l : List row.Row). (get_or l k d).member.0 < n) (sym c.items.ensures)
     (each_row (λ r. r.member < n) v.rows k d (subst (λ (l : List row.Row). k < length l) c.items.ensures h) at)
 
@@ -56,33 +61,34 @@ join_rows-requires-clause-stored c =
     let v = c.view-item.result in
     let same = c.items-view-items.ensures in
     subst (λ (l : List row.Row). All IsStored (rows_of l)) (sym c.items.ensures)
-    (each_view Fits views c.loop-k.k v
-    (inside views c.items-view-items.result.now c.loop-k.k v same c.loop-k-test.true)
-    (here views c.items-view-items.result.now c.loop-k.k v same c.view-item.is) c.requires.fit)
+    (each_view Fits views c.views.k v
+    (inside views c.items-view-items.result.now c.views.k v same c.views-test.true)
+    (here views c.items-view-items.result.now c.views.k v same c.view-item.is) c.requires.fit)
 
 pub join_rows-requires-clause-short : goal.join_rows-requires-clause-short
 join_rows-requires-clause-short c =
     let views = c.args.store.now.views in
     let v = c.view-item.result in
     let same = c.items-view-items.ensures in
-    short views c.loop-k.k v c.items.result.now
-    (inside views c.items-view-items.result.now c.loop-k.k v same c.loop-k-test.true)
-    (here views c.items-view-items.result.now c.loop-k.k v same c.view-item.is) c.requires.store.short c.items.ensures
+    short c.args.legal.now views c.views.k v c.items.result.now
+    (inside views c.items-view-items.result.now c.views.k v same c.views-test.true)
+    (here views c.items-view-items.result.now c.views.k v same c.view-item.is) c.requires.store.members
+    c.requires.at_members (rw c.instance-instance.ensures at c.in_ok-table.ensures.few) c.items.ensures
 
-pub loop-k-preserved : goal.loop-k-preserved
-loop-k-preserved c =
+pub views-preserved : goal.views-preserved
+views-preserved c =
     let i = c.args.legal.now in
     let views = c.args.store.now.views in
-    let k = c.loop-k.k in
+    let k = c.views.k in
     let v = c.view-item.result in
     let mask = c.args.mask in
     let same = c.items-view-items.ensures in
-    let h = inside views c.items-view-items.result.now k v same c.loop-k-test.true in
+    let h = inside views c.items-view-items.result.now k v same c.views-test.true in
     let e = here views c.items-view-items.result.now k v same c.view-item.is in
     let rows = rows_chosen (each_view_of (take k views)) mask in
     let next = rows_chosen (each_view_of (take (k + 1) views)) mask in
-    let inv = c.loop-k.invariant in
-    let few : length rows ≤ k * 262144 = inv.few in
+    let inv = c.views.invariant in
+    let few : length rows ≤ k * most_members = inv.few in
     elim c.if-has_bit.branch [
       | then-has_bit w ↦
           let u = w.join_rows.new.table in
@@ -90,15 +96,17 @@ loop-k-preserved c =
           let more : next ≡ rows ++ rows_of v.rows =
           rows_chosen_more views k v mask h e (sym c.has_bit.ensures ∙ w.if-has_bit.true) in
           let stored : All IsStored (rows_of v.rows) = each_view Fits views k v h e c.requires.fit in
-          let size : length v.rows ≤ 262144 = short views k v v.rows h e c.requires.store.short refl in
+          let size : length v.rows ≤ most_members =
+          short i views k v v.rows h e c.requires.store.members c.requires.at_members
+          (rw c.instance-instance.ensures at c.in_ok-table.ensures.few) refl in
           record {
             categories = ap categories_of w.table-is ∙ ap (λ l. ids l.items) j.categories ∙ inv.categories;
             places = subst (HasPlaces i) (sym w.table-is)
-                (places_kept i c.loop-k.table u j.categories j.places j.same_length inv.places);
+                (places_kept i c.views.table u j.categories j.places j.same_length inv.places);
             merged = subst (AreMerged i next) (sym w.table-is)
                 (subst (λ (l : List Row). AreMerged i l u) (sym more)
                 (subst (λ (l : List row.Row). AreMerged i (rows ++ rows_of l) u) w.items.ensures (j.merged rows inv.merged)));
-            few = subst (λ (l : List Row). length l ≤ (k + 1) * 262144) (sym more)
+            few = subst (λ (l : List Row). length l ≤ (k + 1) * most_members) (sym more)
                 (let a = length-append rows (rows_of v.rows) in let b = length-map v.rows row_of in omega arith);
             stored = subst (All IsStored) (sym more) (All-append IsStored rows (rows_of v.rows) inv.stored stored);
           }
@@ -109,8 +117,8 @@ loop-k-preserved c =
             categories = ap categories_of w.table-is ∙ inv.categories;
             places = subst (HasPlaces i) (sym w.table-is) inv.places;
             merged = subst (AreMerged i next) (sym w.table-is)
-                (subst (λ (l : List Row). AreMerged i l c.loop-k.table) (sym kept) inv.merged);
-            few = subst (λ (l : List Row). length l ≤ (k + 1) * 262144) (sym kept) (omega arith);
+                (subst (λ (l : List Row). AreMerged i l c.views.table) (sym kept) inv.merged);
+            few = subst (λ (l : List Row). length l ≤ (k + 1) * most_members) (sym kept) (omega arith);
             stored = subst (All IsStored) (sym kept) inv.stored;
           }
     ]
@@ -120,10 +128,10 @@ returns-clause-view c =
     let i = c.args.legal.now in
     let d = c.args.c.0 in
     let views = c.args.store.now.views in
-    let t = c.loop-k.table in
-    let inv = c.loop-k.invariant in
-    let all : take c.loop-k.k views ≡ views = ended views c.items-view-items.result.now c.loop-k.k
-    c.items-view-items.ensures c.loop-k-test.false in
+    let t = c.views.table in
+    let inv = c.views.invariant in
+    let all : take c.views.k views ≡ views = ended views c.items-view-items.result.now c.views.k
+    c.items-view-items.ensures c.views-test.false in
     let merged : AreMerged i (rows_chosen (views_of c.args.store.now) c.args.mask) t =
     subst (λ (l : List told.View). AreMerged i (rows_chosen (each_view_of l) c.args.mask) t) all inv.merged in
     let among : Contains (categories_of t) d = subst (λ (l : List ℕ). Contains l d) (sym inv.categories) (contains_head d []) in

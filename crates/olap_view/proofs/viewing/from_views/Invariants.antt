@@ -1,6 +1,7 @@
 -- The rows of the chosen views so far are joined.
 use Rattle.std.proofs.Common.{◌≡◌, ◌≤◌, ◌*◌, ◌∷◌, [], length, take}
 use Rattle.std.specs.Prelude.{All}
+use Rattle.olap_base.specs.Limits.{most_members}
 use Rattle.olap_view.specs.Merging.{AreMerged}
 use Rattle.olap_view.specs.Seen.{each_view_of}
 use Rattle.olap_view.specs.Stores.{IsStored}
@@ -8,11 +9,11 @@ use Rattle.olap_view.specs.Tables.{HasPlaces, categories_of}
 use Rattle.olap_view.proofs.StoresLemmas.{rows_chosen}
 use Rattle.olap_view.proofs.viewing.from_views.Given as goal
 
-abbrev pub invariant-loop-k : goal.invariant-loop-k
-invariant-loop-k l = record {
+abbrev pub invariant-views : goal.invariant-views
+invariant-views l = record {
   categories : categories_of l.table ≡ l.c.0 ∷ [];
   places : HasPlaces l.legal l.table;
   merged : AreMerged l.legal (rows_chosen (each_view_of (take l.k l.store.views)) l.mask) l.table;
-  few : length (rows_chosen (each_view_of (take l.k l.store.views)) l.mask) ≤ l.k * 262144;
+  few : length (rows_chosen (each_view_of (take l.k l.store.views)) l.mask) ≤ l.k * most_members;
   stored : All IsStored (rows_chosen (each_view_of (take l.k l.store.views)) l.mask);
 }

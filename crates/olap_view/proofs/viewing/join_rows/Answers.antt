@@ -21,32 +21,32 @@ pub join-requires-clause-this : goal.join-requires-clause-this
 unfolding nothing
 join-requires-clause-this c =
     let rows = c.args.rows.now in
-    let k = c.loop-row.row-index in
+    let k = c.rows.row-index in
     subst (IsUpTo (2 ^ 62) (2 ^ 120)) (sym c.summary.ensures)
-    (stored_small (row_of (get_or rows k nothing)) (each_row IsStored rows k nothing c.loop-row-test.true c.requires.stored))
+    (stored_small (row_of (get_or rows k nothing)) (each_row IsStored rows k nothing c.rows-test.true c.requires.stored))
 
 pub join-requires-clause-room : goal.join-requires-clause-room
 join-requires-clause-room c =
     let rows = c.args.rows.now in
-    let k = c.loop-row.row-index in
+    let k = c.rows.row-index in
     let q = c.requires.few in
     let few : length (q.rows ++ rows_of (take k rows)) ≤ 2097152 =
     let l = rows_taken rows k in let s = c.requires.short in let f = q.few in
     omega (arith, length-append q.rows (rows_of (take k rows))) in
-    holds_room c.args.legal.now (q.rows ++ rows_of (take k rows)) c.loop-row.table few
+    holds_room c.args.legal.now (q.rows ++ rows_of (take k rows)) c.rows.table few
     (All-append IsStored q.rows (rows_of (take k rows)) q.stored
     (subst (All IsStored) (rows_of_taken rows k) (All-take IsStored k (rows_of rows) c.requires.stored)))
-    (c.loop-row.invariant.merged q.rows q.merged)
+    (c.rows.invariant.merged q.rows q.merged)
 
-pub loop-row-preserved : goal.loop-row-preserved
+pub rows-preserved : goal.rows-preserved
 unfolding nothing
-loop-row-preserved c =
+rows-preserved c =
     let i = c.args.legal.now in
     let rows = c.args.rows.now in
-    let k = c.loop-row.row-index in
+    let k = c.rows.row-index in
     let r = row_of (get_or rows k nothing) in
-    let inv = c.loop-row.invariant in
-    let t = c.loop-row.table in
+    let inv = c.rows.invariant in
+    let t = c.rows.table in
     let u = c.join.new.self in
     let j : AreJoined i r.member r.summary t u =
     subst (λ (s : Summary). AreJoined i r.member s t u) c.summary.ensures c.join.ensures in
@@ -58,6 +58,6 @@ loop-row-preserved c =
           let old = rows_of (take k rows) in
           subst (λ (l : List Row). AreMerged i l u)
           (append_assoc earlier old (r ∷ [])
-          ∙ ap (λ (l : List Row). earlier ++ l) (sym (rows_more_is rows k nothing c.loop-row-test.true)))
+          ∙ ap (λ (l : List Row). earlier ++ l) (sym (rows_more_is rows k nothing c.rows-test.true)))
           (merged_more i (earlier ++ old) r t u j (inv.merged earlier m));
     }

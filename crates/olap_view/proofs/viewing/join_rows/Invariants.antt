@@ -5,8 +5,8 @@ use Rattle.olap_view.specs.Merging.{AreMerged}
 use Rattle.olap_view.specs.Seen.{rows_of}
 use Rattle.olap_view.proofs.viewing.join_rows.Given as goal
 
-abbrev pub invariant-loop-row : goal.invariant-loop-row
-invariant-loop-row l = record {
+abbrev pub invariant-rows : goal.invariant-rows
+invariant-rows l = record {
   categories : l.table.categories ≡ l.fn.table.categories;
   places : l.table.places ≡ l.fn.table.places;
   same_length : length l.table.summaries.items ≡ length l.fn.table.summaries.items;

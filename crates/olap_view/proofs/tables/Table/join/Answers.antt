@@ -13,33 +13,33 @@ pub join_in-requires-clause-room : goal.join_in-requires-clause-room
 join_in-requires-clause-room c = λ y m e.
     let i = c.args.legal.now in
     let t = c.args.self.now in
-    let j = c.loop-k.invariant in
-    let k = c.loop-k.k in
+    let j = c.categories.invariant in
+    let k = c.categories.k in
     let d = c.index-c.result.now in
-    let same : c.loop-k.self.categories.items ≡ t.categories.items = ap (λ v. v.items) j.same_categories in
+    let same : c.categories.self.categories.items ≡ t.categories.items = ap (λ v. v.items) j.same_categories in
     let is : d ≡ get_or t.categories.items k d = c.index-c.ensures ∙ ap (λ (l : List CatId). get_or l k d) same in
-    let h : c.loop-k.k < length c.args.self.now.categories.items =
-    let o = c.args.self.now.categories.ok in let q = c.loop-k-test.true in omega arith in
+    let h : c.categories.k < length c.args.self.now.categories.items =
+    let o = c.args.self.now.categories.ok in let q = c.categories-test.true in omega arith in
     let in_it = id_in t.categories.items k d h is in
     let among : IsAmong i (categories_of t) y = record { member = m; category = subst (Contains (categories_of t)) (sym e) in_it } in
     subst (λ (o : Option Summary). IfSome o (IsUpTo (2 ^ 62) (2 ^ 120)))
-    (sym (untouched i (ids (take k t.categories.items)) d.0 c.args.x.0 (summary_of c.args.summary) t c.loop-k.self j
+    (sym (untouched i (ids (take k t.categories.items)) d.0 c.args.x.0 (summary_of c.args.summary) t c.categories.self j
     (id_fresh t.categories.items k d h is c.requires.differ) y among e))
     (c.requires.room d.0 in_it y m e)
 
-pub loop-k-preserved : goal.loop-k-preserved
-loop-k-preserved c =
+pub categories-preserved : goal.categories-preserved
+categories-preserved c =
     let i = c.args.legal.now in
     let t = c.args.self.now in
-    let j = c.loop-k.invariant in
-    let k = c.loop-k.k in
+    let j = c.categories.invariant in
+    let k = c.categories.k in
     let d = c.index-c.result.now in
     let s = summary_of c.args.summary in
-    let same : c.loop-k.self.categories.items ≡ t.categories.items = ap (λ v. v.items) j.same_categories in
+    let same : c.categories.self.categories.items ≡ t.categories.items = ap (λ v. v.items) j.same_categories in
     let is : d ≡ get_or t.categories.items k d = c.index-c.ensures ∙ ap (λ (l : List CatId). get_or l k d) same in
-    let h : c.loop-k.k < length c.args.self.now.categories.items =
-    let o = c.args.self.now.categories.ok in let q = c.loop-k-test.true in omega arith in
+    let h : c.categories.k < length c.args.self.now.categories.items =
+    let o = c.args.self.now.categories.ok in let q = c.categories-test.true in omega arith in
     subst (λ (l : List ℕ). JoinedSoFar i l c.args.x.0 s t c.join_in.new.self)
     (sym (ids_more t.categories.items k d h is))
-    (so_far_step i (ids (take k t.categories.items)) d.0 c.args.x.0 s t c.loop-k.self j
+    (so_far_step i (ids (take k t.categories.items)) d.0 c.args.x.0 s t c.categories.self j
     (id_fresh t.categories.items k d h is c.requires.differ) c.join_in.new.self c.join_in.ensures)

@@ -4,6 +4,6 @@ use Rattle.olap_view.specs.Seen.{summary_of}
 use Rattle.olap_view.specs.Tables.{JoinedSoFar, ids}
 use Rattle.olap_view.proofs.tables.Table.join.Given as goal
 
-abbrev pub invariant-loop-k : goal.invariant-loop-k
-invariant-loop-k l =
+abbrev pub invariant-categories : goal.invariant-categories
+invariant-categories l =
     JoinedSoFar l.legal (ids (take l.k l.fn.self.categories.items)) l.x.0 (summary_of l.summary) l.fn.self l.self

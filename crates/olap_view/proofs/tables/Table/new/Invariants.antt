@@ -2,5 +2,5 @@
 use Rattle.olap_view.specs.Tables.{PlacesSoFar, ids}
 use Rattle.olap_view.proofs.tables.Table.new.Given as goal
 
-abbrev pub invariant-loop-y : goal.invariant-loop-y
-invariant-loop-y l = PlacesSoFar l.instance (ids l.categories) l.y l.count l.places.items
+abbrev pub invariant-places : goal.invariant-places
+invariant-places l = PlacesSoFar l.instance (ids l.categories) l.y l.count l.places.items

@@ -13,16 +13,16 @@ use Rattle.olap_view.proofs.ViewingLemmas.{fails, list_step, none_of, passes}
 use Rattle.olap_view.proofs.tables.Table.view.Goals as goal
 use Rattle.olap_view.proofs.tables.Table.view.Goals.{then-category-c+in-Some+in_ok-push, then-category-c+in_default, else-category-c}
 
-pub loop-y-preserved : goal.loop-y-preserved
-loop-y-preserved c =
+pub rows-preserved : goal.rows-preserved
+rows-preserved c =
     let i = c.args.instance.now in
     let t = c.args.self.now in
     let h : ℕ → Option Row = λ y. row_at y (summary_at t y) in
     let p = λ (y : ℕ). category_of i y == c.args.c.0 in
-    let y = c.loop-y.y in
-    let old = rows_of c.loop-y.rows.items in
-    let members = c.loop-y.invariant.members in
-    let inside : c.loop-y.y < length c.args.instance.now = let t = c.loop-y-test.true in let e =
+    let y = c.rows.y in
+    let old = rows_of c.rows.rows.items in
+    let members = c.rows.invariant.members in
+    let inside : c.rows.y < length c.args.instance.now = let t = c.rows-test.true in let e =
     c.members-y-end.ensures.count in omega arith in
     elim c.if-category-c.branch [
       | then-category-c+in-Some+in_ok-push w ↦
@@ -32,17 +32,17 @@ loop-y-preserved c =
           omega arith in
           record {
             so_far = ap (λ v. rows_of v.items) w.rows-is ∙ ap rows_of items
-                ∙ map-append row_of c.loop-y.rows.items (new ∷ [])
-                ∙ list_step h p y true (Some (row_of new)) old c.loop-y.invariant.so_far
+                ∙ map-append row_of c.rows.rows.items (new ∷ [])
+                ∙ list_step h p y true (Some (row_of new)) old c.rows.invariant.so_far
                 (passes c.category.result.0 (category_of i y) c.args.c.0 c.category.ensures w.if-category-c.true)
                 (w.in-Some.ensures.row ∙ ap (row_at y) w.at.ensures);
             members = subst (λ (l : List told.Row). All (λ r. r.member.0 < length i) l)
                 (sym (ap (λ v. v.items) w.rows-is ∙ items))
-                (All-push (λ (r : told.Row). r.member.0 < length i) c.loop-y.rows.items new members at);
+                (All-push (λ (r : told.Row). r.member.0 < length i) c.rows.rows.items new members at);
           }
       | then-category-c+in_default w ↦ record {
         so_far = ap (λ v. rows_of v.items) w.rows-is
-            ∙ list_step h p y true None old c.loop-y.invariant.so_far
+            ∙ list_step h p y true None old c.rows.invariant.so_far
             (passes c.category.result.0 (category_of i y) c.args.c.0 c.category.ensures w.if-category-c.true)
             (sym (ap (option_map row_of) (none_of w.row.result w.in_default.not-Some)) ∙ w.row.ensures.row
             ∙ ap (row_at y) w.at.ensures);
@@ -51,7 +51,7 @@ loop-y-preserved c =
       }
       | else-category-c w ↦ record {
         so_far = ap (λ v. rows_of v.items) w.rows-is
-            ∙ list_step h p y false (h y) old c.loop-y.invariant.so_far
+            ∙ list_step h p y false (h y) old c.rows.invariant.so_far
             (fails c.category.result.0 (category_of i y) c.args.c.0 c.category.ensures w.if-category-c.false) refl;
         members = subst (λ (l : List told.Row). All (λ r. r.member.0 < length i) l)
             (sym (ap (λ v. v.items) w.rows-is)) members;

@@ -8,8 +8,8 @@ use Rattle.olap_view.specs.Seen.{rows_of}
 use Rattle.olap_view.specs.Tables.{summary_at}
 use Rattle.olap_view.proofs.tables.Table.view.Given as goal
 
-abbrev pub invariant-loop-y : goal.invariant-loop-y
-invariant-loop-y l = record {
+abbrev pub invariant-rows : goal.invariant-rows
+invariant-rows l = record {
   so_far : rows_of l.rows.items ≡ filter_map (λ y. row_at y (summary_at l.self y))
       (filter (λ y. category_of l.instance y == l.c.0) (range_with_len 0 l.y));
   members : All (λ r. r.member.0 < length l.instance) l.rows.items;

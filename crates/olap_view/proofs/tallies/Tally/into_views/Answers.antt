@@ -12,18 +12,18 @@ use Rattle.olap_view.specs.declared.views.View as told
 use Rattle.olap_view.proofs.TableLemmas.{ids_taken}
 use Rattle.olap_view.proofs.tallies.Tally.into_views.Goals as goal
 
-pub loop-k-preserved : goal.loop-k-preserved
-loop-k-preserved c =
+pub categories-preserved : goal.categories-preserved
+categories-preserved c =
     let t = c.args.self in
     let cs = c.self.inside.table.categories.items in
-    let k = c.loop-k.k in
+    let k = c.categories.k in
     let d = c.index.result.now in
     let v = c.in_ok-view.view in
-    let old = c.loop-k.views.items in
-    let inv = c.loop-k.invariant in
+    let old = c.categories.views.items in
+    let inv = c.categories.invariant in
     let items = c.in_ok-push.ensures.items in
-    let h : c.loop-k.k < length c.self.inside.table.categories.items =
-    let o = c.self.inside.table.categories.ok in let q = c.loop-k-test.true in omega arith in
+    let h : c.categories.k < length c.self.inside.table.categories.items =
+    let o = c.self.inside.table.categories.ok in let q = c.categories-test.true in omega arith in
     let taken : take (k + 1) t.categories ≡ take k t.categories ++ d.0 ∷ [] =
     subst (λ (u : Tallied). take (k + 1) u.categories ≡ take k u.categories ++ d.0 ∷ []) c.self.view_is
     (ids_taken cs k d h c.index.ensures) in

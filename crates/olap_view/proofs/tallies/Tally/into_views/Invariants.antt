@@ -7,8 +7,8 @@ use Rattle.olap_view.specs.Stores.{Fits}
 use Rattle.olap_view.specs.Tallies.{StandsFor}
 use Rattle.olap_view.proofs.tallies.Tally.into_views.Given as goal
 
-abbrev pub invariant-loop-k : goal.invariant-loop-k
-invariant-loop-k l = record {
+abbrev pub invariant-categories : goal.invariant-categories
+invariant-categories l = record {
   views : (facts : List Fact) → StandsFor l.fn.self facts
       → each_view_of l.views.items ≡ map (direct_view l.fn.self.instance facts) (take l.k l.fn.self.categories);
   members : All (λ w. All (λ r. r.member.0 < length l.fn.self.instance) w.rows) l.views.items;
