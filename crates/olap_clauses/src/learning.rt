@@ -1,5 +1,5 @@
 // What is learned from a false clause, and which clauses are kept.
-ghost use Rattle.std.specs.Prelude.{◌≡◌, ℕ, ◌<◌, ◌≤◌, Bool, length, vec_capacity};
+ghost use Rattle.std.specs.Prelude.{ℕ, ◌<◌, ◌≤◌, Bool, length, vec_capacity};
 ghost use Rattle.olap_clauses.specs.Trails.{values_of};
 ghost use Rattle.olap_clauses.specs.Pools.{AreTrue, clause_count};
 ghost use Rattle.olap_clauses.specs.Admits.{Admits};

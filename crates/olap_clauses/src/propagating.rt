@@ -1,5 +1,5 @@
 // What the clauses force: a clause is looked at when a literal that it watches becomes false.
-ghost use Rattle.std.specs.Prelude.{ℕ, ◌<◌, IfSome};
+ghost use Rattle.std.specs.Prelude.{◌<◌, IfSome};
 ghost use Rattle.olap_clauses.specs.Pools.{clause_count};
 ghost use Rattle.olap_clauses.specs.Admits.{IsBroken, Extends};
 

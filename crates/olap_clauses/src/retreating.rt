@@ -1,5 +1,5 @@
 // The way back from a branch in which nothing is found.
-ghost use Rattle.std.specs.Prelude.{◌≡◌, ℕ, ◌<◌, ◌≤◌, Bool, true, false, List, length, take, IfSome};
+ghost use Rattle.std.specs.Prelude.{◌≡◌, ℕ, ◌<◌, ◌≤◌, Bool, true, false, length, take, IfSome};
 ghost use Rattle.olap_clauses.specs.Standing.{Agrees, is_decision};
 ghost use Rattle.olap_clauses.specs.Trails.{steps_of, values_of, IsOpen};
 ghost use Rattle.olap_clauses.specs.Retreats.{IsBack, StandsBy};
