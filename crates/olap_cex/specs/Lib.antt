@@ -1,3 +1,5 @@
 -- Definitions that contracts cite.
 pub mod FrozenText
 pub mod CexText
+pub mod Present
+pub mod FoundFor

@@ -1,0 +1,110 @@
+-- The present categories, one after another.
+use Rattle.std.proofs.Common.{◌≡◌, ℕ, zero, suc, ◌+◌, ◌-◌, ◌<◌, ◌≤◌, List, [], ◌∷◌, ◌++◌, length, get_or, Bool, true, false, cond, ◌||◌, refl, sym, ◌∙◌, ap, subst, inl, inr, arith}
+use Rattle.std.specs.Prelude.{◌==◌, ◌≢◌, filter}
+use Rattle.std.specs.List.{range_with_len, list_any}
+use Rattle.std.proofs.lemmas.List.{append-nil, map-id}
+use Rattle.std.proofs.lemmas.List.Elements.{filter-append}
+use Rattle.std.proofs.lemmas.List.FromFn.{map-range_with_len_more}
+use Rattle.std.proofs.lemmas.Bool.Decides.{eqb_tells}
+use Rattle.olap_ast.proofs.Shape.{either_true, left_true, list_any_is, right_true, same_is, is_same}
+use Rattle.olap_ast.specs.Frozen.{chosen, is_present}
+use Rattle.olap_base.specs.Above.{place_in}
+use Rattle.olap_base.specs.Graph.{Edge}
+use Rattle.olap_frozen.proofs.ChosenLemmas.{chosen_place, place_chosen}
+use Rattle.olap_cex.specs.Present.{first_present}
+
+-- the edge past the end
+abbrev pub nowhere : Edge
+nowhere = record { child = 0; parent = 0 }
+
+-- whether c is an end of the edge
+abbrev pub has_end : ℕ → Edge → Bool
+has_end c e = (e.child == c) || (e.parent == c)
+
+pub root_present : (r : ℕ) (es : List Edge) (c : ℕ) → c ≡ r → is_present r es c ≡ true
+root_present r es c e = left_true (c == r) (list_any (has_end c) es) (is_same c r e)
+
+-- an end of a chosen edge is present
+pub end_present : (r : ℕ) (es : List Edge) (bits : List Bool) (c i : ℕ) → i < length es → get_or bits i false ≡ true
+    → has_end c (get_or es i nowhere) ≡ true → is_present r (chosen es bits) c ≡ true
+end_present r es bits c i h b t = right_true (c == r) (list_any (has_end c) (chosen es bits))
+    ((list_any_is (has_end c) (chosen es bits)).1
+    (get_or es i nowhere, place_chosen es bits (get_or es i nowhere) nowhere i h b refl, t))
+
+-- what is neither the root nor such an end is absent
+pub no_end_absent : (r : ℕ) (es : List Edge) (bits : List Bool) (c : ℕ) → c ≢ r
+    → ((i : ℕ) → i < length es → get_or bits i false ≡ true → has_end c (get_or es i nowhere) ≡ true → ⊥)
+    → is_present r (chosen es bits) c ≡ false
+no_end_absent r es bits c n none = go (is_present r (chosen es bits) c) refl
+  where
+    go : (b : Bool) → is_present r (chosen es bits) c ≡ b → is_present r (chosen es bits) c ≡ false
+    go false p = p
+    go true p = elim (either_true (c == r) (list_any (has_end c) (chosen es bits)) p) [
+      | inl e ↦ absurd (n (same_is c r e))
+      | inr e ↦
+          let t = (list_any_is (has_end c) (chosen es bits)).0 e in
+          let u = chosen_place es bits t.0 nowhere t.1 in
+          absurd (none u.0 u.1 u.2 (subst (λ w. has_end c w ≡ true) (sym u.3) t.2))
+    ]
+
+-- ---- lists of them
+
+range_push : (n : ℕ) → range_with_len 1 (n + 1) ≡ range_with_len 1 n ++ (n + 1) ∷ []
+range_push n =
+    sym (map-id (range_with_len 1 (n + 1))) ∙ map-range_with_len_more (λ k. k) 1 n (n + 1) (omega arith)
+    ∙ ap (λ ks. ks ++ (n + 1) ∷ []) (map-id (range_with_len 1 n))
+
+module _ (r : ℕ) (es : List Edge) (c : ℕ) (some : 1 ≤ c) where
+  push : first_present r es c ≡ first_present r es (c - 1) ++ filter (is_present r es) (c ∷ [])
+  push =
+      let e : c ≡ (c - 1) + 1 = omega arith in
+      ap (first_present r es) e ∙ ap (filter (is_present r es)) (range_push (c - 1))
+      ∙ filter-append (is_present r es) (range_with_len 1 (c - 1)) (((c - 1) + 1) ∷ [])
+      ∙ ap (λ k. first_present r es (c - 1) ++ filter (is_present r es) (k ∷ [])) (sym e)
+
+  pub present_more : is_present r es c ≡ true → first_present r es c ≡ first_present r es (c - 1) ++ c ∷ []
+  present_more p = push ∙ ap (λ b. first_present r es (c - 1) ++ cond b (c ∷ []) []) p
+
+  pub absent_more : is_present r es c ≡ false → first_present r es c ≡ first_present r es (c - 1)
+  absent_more p = push ∙ ap (λ b. first_present r es (c - 1) ++ cond b (c ∷ []) []) p
+      ∙ append-nil (first_present r es (c - 1))
+
+-- a kept number's place is how many are kept before it
+pub place_counts : (p : ℕ → Bool) (a n c : ℕ) → a ≤ c → c < a + n → p c ≡ true
+    → place_in (filter p (range_with_len a n)) c ≡ length (filter p (range_with_len a (c - a)))
+place_counts p a zero c l h t = absurd (omega arith)
+place_counts p a (suc n) c l h t = elim (eqb_tells a c) [
+  | inl e ↦
+      let z : c - a ≡ 0 = let q = e.1 in omega arith in
+      let k : p a ≡ true = ap p e.1 ∙ t in
+      rw (z, k, e.0) refl
+  | inr e ↦
+      let z : c - a ≡ suc (c - (a + 1)) = let q = e.1 in omega arith in
+      let u = e.1 in
+      rw z (go (p a) (place_counts p (a + 1) n c (omega arith) (omega arith) t) e.0)
+]
+  where
+    go : (b : Bool)
+        → place_in (filter p (range_with_len (a + 1) n)) c ≡ length (filter p (range_with_len (a + 1) (c - (a + 1))))
+        → a == c ≡ false
+        → place_in (cond b (a ∷ filter p (range_with_len (a + 1) n)) (filter p (range_with_len (a + 1) n))) c
+        ≡ length (cond b (a ∷ filter p (range_with_len (a + 1) (c - (a + 1)))) (filter p (range_with_len (a + 1) (c - (a + 1)))))
+    go true e f = rw f (ap suc e)
+    go false e f = e
+
+-- ---- found by looking at one edge after another
+
+-- an edge that was looked at has the category as an end
+pub seen_present : (r : ℕ) (es : List Edge) (bits : List Bool) (c i d p : ℕ) → i < length es
+    → get_or bits i false ≡ true → get_or es i nowhere ≡ record { child = d; parent = p }
+    → (d == c) || (p == c) ≡ true → is_present r (chosen es bits) c ≡ true
+seen_present r es bits c i d p h b e t =
+    end_present r es bits c i h b (ap (has_end c) e ∙ t)
+
+-- one more edge that hasn't
+pub none_more : (es : List Edge) (bits : List Bool) (c i d p : ℕ) → d ≢ c → p ≢ c
+    → get_or es i nowhere ≡ record { child = d; parent = p } → has_end c (get_or es i nowhere) ≡ true → ⊥
+none_more es bits c i d p n m e t = elim (either_true (d == c) (p == c) (sym (ap (has_end c) e) ∙ t)) [
+  | inl q ↦ n (same_is d c q)
+  | inr q ↦ m (same_is p c q)
+]

@@ -1,0 +1,26 @@
+-- A category is present as the root, or as an end of the edge that was looked at last.
+use Rattle.std.proofs.Common.{◌≡◌, ◌<◌, true, false, get_or, sym, ap, ◌∙◌, length, arith}
+use Rattle.olap_ast.proofs.Shape.{is_same, left_true, right_true}
+use Rattle.std.specs.Prelude.{◌==◌, ◌||◌}
+use Rattle.olap_cex.proofs.PresentLemmas.{no_end_absent, seen_present}
+use Rattle.olap_cex.proofs.members.has_member.Goals as goal
+use Rattle.olap_cex.proofs.members.has_member.Goals.{then-child-c-via-then-child-c, then-child-c-via-else-child-c+then-parent-c}
+
+pub returns-then-child-c : goal.returns-then-child-c
+returns-then-child-c c =
+    let g = c.args.graph.now in
+    let bits = c.args.edges.now in
+    let inside : c.edges.e < length g.edges = omega (arith, c.edges-e-end.ensures.count) in
+    let bit = sym (ap (λ i. get_or bits i false) c.from.ensures) ∙ c.if-edges-from.true in
+    let x = c.args.c.0 in
+    let d = c.ends.result.0.0 in
+    let p = c.ends.result.1.0 in
+    let here : (d == x) || (p == x) ≡ true = elim c.then-child-c.branch [
+      | then-child-c-via-then-child-c w ↦ left_true (d == x) (p == x) (is_same d x w.if-child-c.true)
+      | then-child-c-via-else-child-c+then-parent-c w ↦ right_true (d == x) (p == x) (is_same p x w.if-parent-c.true)
+    ] in
+    sym (seen_present c.args.root.0 g.edges bits x c.edges.e d p inside bit c.ends.ensures.edge here)
+
+pub returns : goal.returns
+returns c = sym (no_end_absent c.args.root.0 c.args.graph.now.edges c.args.edges.now c.args.c.0 c.if-c-root.false
+    (λ i h b t. c.edges.invariant i (omega (arith, c.edges-e-end.ensures.count)) b t))

@@ -1,0 +1,46 @@
+-- A new member is never refused but for want of memory, and the draft gets it.
+use Rattle.std.proofs.Common.{◌-◌, [], sym, ◌∙◌, ap, subst}
+use Rattle.std.specs.Prelude.{IsTrue}
+use Rattle.std.specs.Str.{is_utf8}
+use Rattle.olap_graph.specs.Lookups.{name_of_category}
+use Rattle.olap_instance.specs.Drafts.{named_refusal, with_member}
+use Rattle.olap_cex.specs.FoundFor.{found_draft}
+use Rattle.olap_cex.proofs.DraftLemmas.{accepted, id_utf8, member_added, name_utf8}
+use Rattle.olap_cex.proofs.RefusalLemmas.{only_memory}
+use Rattle.olap_cex.proofs.thawing.add_member.Goals as goal
+
+pub add_named-requires-clause-id : goal.add_named-requires-clause-id
+add_named-requires-clause-id c =
+    let r = c.requires in
+    subst (λ t. IsTrue (is_utf8 t)) (sym (c.in_ok-id.ensures ∙ c.bytes.ensures ∙ c.name.ensures))
+    (id_utf8 c.args.graph.now c.args.found.now r.found r.hierarchy c.args.c.0 r.declared r.category r.present)
+
+pub add_named-requires-clause-name : goal.add_named-requires-clause-name
+add_named-requires-clause-name c =
+    let r = c.requires in
+    subst (λ t. IsTrue (is_utf8 t)) (sym (c.in_ok-name.ensures ∙ c.bytes-2.ensures ∙ c.name-2.ensures))
+    (name_utf8 c.args.graph.now c.args.found.now r.found r.hierarchy c.args.c.0 r.declared r.category r.present)
+
+pub only_memory-requires : goal.only_memory-requires
+only_memory-requires c =
+    let r = c.requires in
+    let id = c.in_ok-id.ensures ∙ c.bytes.ensures ∙ c.name.ensures in
+    only_memory (named_refusal c.args.builder.now c.in_ok-id.id c.args.c.0) c.in-Err.refusal
+    (ap (λ b. named_refusal b c.in_ok-id.id c.args.c.0) r.before
+    ∙ ap (λ i. named_refusal (found_draft c.args.graph.now c.args.found.now (c.args.c.0 - 1) []) i c.args.c.0) id
+    ∙ accepted c.args.graph.now c.args.found.now r.found r.hierarchy c.args.c.0 r.declared r.category r.present r.limits)
+    c.in-Err.ensures.err
+
+pub returns-in-Ok-clause-added : goal.returns-in-Ok-clause-added
+returns-in-Ok-clause-added c =
+    let r = c.requires in
+    let g = c.args.graph.now in
+    let f = c.args.found.now in
+    let id = c.in_ok-id.ensures ∙ c.bytes.ensures ∙ c.name.ensures in
+    let name = c.in_ok-name.ensures ∙ c.bytes-2.ensures ∙ c.name-2.ensures in
+    let old = found_draft g f (c.args.c.0 - 1) [] in
+    c.in-Ok.ensures.added
+    ∙ ap (λ b. with_member b c.in_ok-id.id c.args.c.0 c.in_ok-name.name) r.before
+    ∙ ap (λ i. with_member old i c.args.c.0 c.in_ok-name.name) id
+    ∙ ap (λ n. with_member old (name_of_category g c.args.c.0) c.args.c.0 n) name
+    ∙ member_added g f r.found r.hierarchy c.args.c.0 r.declared r.category r.present
