@@ -1,2 +1,3 @@
 -- Lemmas.
+mod Stepping
 mod TellingLemmas

@@ -1,47 +1,66 @@
--- What a function that goes along a plan answers, and when it gives up.
-use Rattle.std.specs.Prelude.{◌≡◌, ◌⊎◌, ◌≤◌, ℕ, Bool, false, List, Option, None, Some, MatchOption, ⊤, Result, IfOk, IsErrOf}
+-- What a function that goes along an order answers, and when it gives up. `answers` says which status and bytes
+-- answer a question, and `L` is what a library tells of itself.
+--     Gives      the outcome has this status and these bytes
+--     IsBlamed   the order explains what a library was last asked for
+--     ReadCause  a refusal of the library has its cause
+--     Replied    of the status and the bytes of a result, if it has some
+--     Judged     what a command answers, along its order
+--     Replies    what a function answers that reads nothing
+use Rattle.std.specs.Prelude.{◌≡◌, ◌⊎◌, ◌≤◌, ℕ, false, List, Option, None, Some, MatchOption, ⊤, Result, Ok, Err, IsErrOf}
 use Rattle.olap_base.specs.Faults.{Rose}
 use Rattle.olap_base.specs.Files.{Files}
-use Rattle.olap_run.specs.Plan.{Plan, question, ComesTo, IsStuck}
-use Rattle.olap_run.specs.Questions.{Question, IsAnswer}
+use Rattle.olap_base.specs.declared.outside.Library.{Ghosts as Library}
+use Rattle.olap_run.specs.Order.{Order, question, ComesTo, IsStuck}
 use Rattle.olap_run.specs.declared.status.Status.{Status}
-use Rattle.olap_run.specs.declared.status.Status.TheVariants.{Yes, No, Refused}
-use Rattle.olap_run.specs.declared.judging.Reply.{Reply}
-use Rattle.olap_run.specs.declared.judging.Fault.{Fault}
-use Rattle.olap_run.specs.declared.judging.Fault.TheVariants as causes
+use Rattle.olap_run.specs.declared.status.Status.TheVariants as statuses
+use Rattle.olap_run.specs.declared.replies.Reply.{Reply}
+use Rattle.olap_run.specs.declared.replies.Stop.{Stop}
+use Rattle.olap_run.specs.declared.replies.Stop.TheVariants as stops
 
 -- the outcome has this status and these bytes
-abbrev pub Gives : Files → Plan Question → Status → List ℕ → Type 0
-Gives files plan status bytes = MatchOption (question files plan) ⊥ (λ q. IsAnswer q status bytes)
+abbrev pub Gives : {Q : Type 0} → (Q → Status → List ℕ → Type 0) → Files → Order Q → Status → List ℕ → Type 0
+Gives answers files order status bytes = MatchOption (question files order) ⊥ (λ q. answers q status bytes)
 
 -- so it is where the library tells its contents
-abbrev pub GivesTold : Option Files → Plan Question → Status → List ℕ → Type 0
-GivesTold None plan status bytes = ⊤
-GivesTold (Some files) plan status bytes = Gives files plan status bytes
+abbrev pub GivesTold : {Q : Type 0} → (Q → Status → List ℕ → Type 0) → Option Files → Order Q → Status → List ℕ → Type 0
+GivesTold answers None order status bytes = ⊤
+GivesTold answers (Some files) order status bytes = Gives answers files order status bytes
 
 -- what the library was last asked for, where it tells that and its contents, is a file that the order comes to, or the order comes to a name without a content
-abbrev pub IsBlamed : Option Files → Plan Question → Option (Option (List ℕ)) → Type 0
-IsBlamed None plan asked = ⊤
-IsBlamed (Some files) plan None = ⊤
-IsBlamed (Some files) plan (Some None) = IsStuck files plan
-IsBlamed (Some files) plan (Some (Some file)) = ComesTo files plan file ⊎ IsStuck files plan
+abbrev pub IsBlamed : {Q : Type 0} → Option Files → Order Q → Option (Option (List ℕ)) → Type 0
+IsBlamed None order asked = ⊤
+IsBlamed (Some files) order None = ⊤
+IsBlamed (Some files) order (Some None) = IsStuck files order
+IsBlamed (Some files) order (Some (Some file)) = ComesTo files order file ⊎ IsStuck files order
 
 -- a call to the library was refused, and with it the run
-pub record ReadCause {D : Type 0} (contents : D → Option Files) (faults : D → ℕ) (ready : D → Bool) (asked : D → Option (Option (List ℕ))) (old new : D) (plan : Plan Question) : Type 0 where
-  pub risen : Rose (faults old) (faults new)
-  pub unready : ready new ≡ false
-  pub place : IsBlamed (contents old) plan (asked new)
+pub record ReadCause {D Q : Type 0} (L : Library D) (old new : D) (order : Order Q) : Type 0 where
+  pub risen : Rose (L.faults old) (L.faults new)
+  pub unready : L.ready new ≡ false
+  pub place : IsBlamed (L.contents old) order (L.asked new)
 
 -- the answers that a command may give; these are not of the words
 abbrev pub IsVerdict : Status → Type 0
-IsVerdict Yes = ⊤
-IsVerdict No = ⊤
-IsVerdict Refused = ⊤
+IsVerdict statuses.Yes = ⊤
+IsVerdict statuses.No = ⊤
+IsVerdict statuses.Refused = ⊤
 IsVerdict status = ⊥
 
--- what a command answers, along its plan
-pub record Judged {D : Type 0} (contents : D → Option Files) (faults : D → ℕ) (ready : D → Bool) (asked : D → Option (Option (List ℕ))) (old new : D) (plan : Plan Question) (result : Result Reply Fault) : Type 0 where
-  pub right : IfOk result (λ reply. GivesTold (contents old) plan reply.status reply.bytes.items)
-  pub verdict : IfOk result (λ reply. IsVerdict reply.status)
-  pub read : IsErrOf result causes.Read → ReadCause contents faults ready asked old new plan
-  pub later : faults old ≤ faults new
+-- so it is of the status and the bytes of the reply, if there is one
+abbrev pub Replied : Result Reply Stop → (Status → List ℕ → Type 0) → Type 0
+Replied (Ok reply) P = P reply.status reply.bytes.items
+Replied (Err (stops.Refused bytes)) P = P statuses.Refused bytes.items
+Replied (Err stop) P = ⊤
+
+-- what a command answers, along its order
+pub record Judged {D Q : Type 0} (answers : Q → Status → List ℕ → Type 0) (L : Library D) (old new : D) (order : Order Q) (result : Result Reply Stop) : Type 0 where
+  pub right : Replied result (GivesTold answers (L.contents old) order)
+  pub verdict : Replied result (λ status bytes. IsVerdict status)
+  pub read : IsErrOf result stops.Read → ReadCause L old new order
+  pub later : L.faults old ≤ L.faults new
+
+-- what a function answers that reads nothing: so it is whatever the files are
+pub record Replies {Q : Type 0} (answers : Q → Status → List ℕ → Type 0) (order : Order Q) (result : Result Reply Stop) : Type 0 where
+  pub right : Replied result (λ status bytes. (files : Files) → Gives answers files order status bytes)
+  pub verdict : Replied result (λ status bytes. IsVerdict status)
+  pub unread : IsErrOf result stops.Read → ⊥

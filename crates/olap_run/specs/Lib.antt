@@ -1,14 +1,15 @@
--- Definitions that contracts cite, in reading order.
+-- Definitions that contracts cite, in reading order: the claim of `olap`, and behind it what its parts say.
 pub mod Words
 pub mod Requests
-pub mod Plan
+pub mod Order
 pub mod Outputs
 pub mod Violations
-pub mod Broken
 pub mod Questions
-pub mod Reading
-pub mod Orders
-pub mod Plans
-pub mod Seen
+pub mod Steps
+pub mod Commands
 pub mod Judged
 pub mod Outcome
+pub mod Refusals
+pub mod Broken
+pub mod Taken
+pub mod Seen

@@ -1,6 +1,7 @@
 -- Which words are a command.
 use Rattle.std.specs.Prelude.{ℕ, List, [], ◌∷◌, length, nat_lt, Option, None, Some, codes, if◌then◌else◌}
 use Rattle.std.specs.Str.{bytes_eq}
+use Rattle.olap_base.specs.Limits.{most_words}
 
 -- a command with its words
 pub data Request : Type 0 where
@@ -8,15 +9,30 @@ pub data Request : Type 0 where
   Format : (schema : List ℕ) → Request
   Check : (schema instance : List ℕ) → Request
 
+-- the words behind `rollup`
+abbrev pub rollup_of : List (List ℕ) → Option Request
+rollup_of (schema ∷ instance ∷ facts ∷ category ∷ []) = Some (Rollup schema instance facts category)
+rollup_of words = None
+
+-- the words behind `format`
+abbrev pub format_of : List (List ℕ) → Option Request
+format_of (schema ∷ []) = Some (Format schema)
+format_of words = None
+
+-- the words behind `check`
+abbrev pub check_of : List (List ℕ) → Option Request
+check_of (schema ∷ instance ∷ []) = Some (Check schema instance)
+check_of words = None
+
 -- the command of that name with these words behind it, if there is one
 abbrev pub named : List ℕ → List (List ℕ) → Option Request
-named name (schema ∷ instance ∷ facts ∷ category ∷ []) =
-    if bytes_eq name (codes "rollup") then Some (Rollup schema instance facts category) else None
-named name (schema ∷ instance ∷ []) = if bytes_eq name (codes "check") then Some (Check schema instance) else None
-named name (schema ∷ []) = if bytes_eq name (codes "format") then Some (Format schema) else None
-named name rest = None
+named name words =
+    if bytes_eq name (codes "rollup") then rollup_of words
+    else if bytes_eq name (codes "format") then format_of words
+    else if bytes_eq name (codes "check") then check_of words
+    else None
 
--- the command that the words are, if any; more than 64 words are none
+-- the command that the words are, if any; more than `most_words` are none
 abbrev pub request_of : List (List ℕ) → Option Request
 request_of [] = None
-request_of (name ∷ rest) = if nat_lt 64 (length (name ∷ rest)) then None else named name rest
+request_of (name ∷ words) = if nat_lt most_words (length (name ∷ words)) then None else named name words

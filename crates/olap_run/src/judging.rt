@@ -1,88 +1,43 @@
 // What comes of the words and the files, before anything is written.
-ghost use Rattle.std.specs.Prelude.{◌≡◌, ◌≤◌, length, codes, false, IfOk, MatchOption, IsErrOf, ⊤};
-ghost use Rattle.olap_base.specs.Faults.{Rose};
-ghost use Rattle.olap_base.specs.Files.{Asks, IsContent, IsLonger};
-ghost use Rattle.olap_run.specs.Outputs.{line, refusal};
-ghost use Rattle.olap_run.specs.Reading.{fault_text, most_bytes};
+ghost use Rattle.std.specs.Prelude.{◌≡◌, None, IfOk, IsErrOf};
+ghost use Rattle.olap_run.specs.Commands.{order, order_of};
+ghost use Rattle.olap_run.specs.Judged.{GivesTold, Judged, ReadCause, Replied};
+ghost use Rattle.olap_run.specs.Outcome.{IsAnswered};
+ghost use Rattle.olap_run.specs.Questions.{ByUsage, IsAnswer};
+ghost use Rattle.olap_run.specs.Requests.{request_of};
+ghost use Rattle.olap_run.specs.Seen.{seen};
+ghost use Rattle.olap_run.specs.Words.{texts};
 
 use crate::Status;
-use olap_base::{FetchError, Library, Memory, fetch};
-use std::alloc::{AllocError, AllocFailed, Global};
+use crate::checking::check;
+use crate::formatting::format;
+use crate::replies::{Reply, Stop};
+use crate::rolling_up::rollup;
+use crate::words::{Command, parse};
+use olap_base::Library;
+use std::alloc::Global;
 
-/// A status and the bytes that are to be written.
-#[derive(Drop)]
-pub(crate) struct Reply {
-    pub(crate) status: Status,
-    pub(crate) bytes: Vec<u8>,
-}
-
-/// Why there is no reply.
-#[derive(Clone, Copy, Debug, PartialEq, Eq)]
-pub(crate) enum Fault {
-    Read,
-    Memory,
-}
-
-impl From<Memory> for Fault {
-    ghost use Rattle.olap_run.specs.declared.judging.Fault.TheVariants as causes;
-
-    ghost from_gives = { λ _ e. e ≡ causes.Memory };
-
-    fn from(_: Memory) -> Self {
-        Fault::Memory
-    }
-}
-
-impl From<AllocError> for Fault {
-    ghost use Rattle.olap_run.specs.declared.judging.Fault.TheVariants as causes;
-
-    ghost from_gives = { λ _ e. e ≡ causes.Memory };
-
-    fn from(_: AllocError) -> Self {
-        Fault::Memory
-    }
-}
-
-impl<T: Drop> From<AllocFailed<T>> for Fault {
-    ghost use Rattle.olap_run.specs.declared.judging.Fault.TheVariants as causes;
-
-    ghost from_gives = { λ _ e. e ≡ causes.Memory };
-
-    fn from(_: AllocFailed<T>) -> Self {
-        Fault::Memory
-    }
-}
-
-/// The most bytes that a file may have.
-const MOST_BYTES: u64 = 67_108_864;
-
-/// A file of the library; none where it is too long.
-pub(crate) fn read_file<L: Library>(
-    alloc: Global,
-    lib: &mut L,
-    name: &str,
-) -> Result<Option<Vec<u8>>, Fault>
-    ensures read { IfOk result (λ text. MatchOption text (IsLonger (L.contents lib.old) name.now most_bytes) (λ bytes. IsContent (L.contents lib.old) name.now bytes.items)) }
-    ensures within { IfOk result (λ text. MatchOption text ⊤ (λ bytes. length bytes.items ≤ most_bytes)) }
-    ensures risen { IsErrOf result Fault.Read → Rose (L.faults lib.old) (L.faults lib.new) }
-    ensures unready { IsErrOf result Fault.Read → L.ready lib.new ≡ false }
-    ensures asked { Asks (L.contents lib.old) name.now (L.asked lib.new) }
-    ensures contents { L.contents lib.new ≡ L.contents lib.old }
-    ensures later { L.faults lib.old ≤ L.faults lib.new }
+/// The reply of a command.
+fn run<L: Library>(alloc: Global, command: Command, lib: &mut L) -> Result<Reply, Stop>
+    ensures judged { Judged IsAnswer L.Library lib.old lib.new (order (seen command.entry)) result }
 {
-    match fetch(alloc, lib, name, MOST_BYTES) {
-        Ok(bytes) => Ok(Some(bytes)),
-        Err(FetchError::TooLong) => Ok(None),
-        Err(FetchError::Missing) | Err(FetchError::Failed) => Err(Fault::Read),
-        Err(FetchError::Memory) => Err(Fault::Memory),
+    match command {
+        Command::Rollup {
+            schema,
+            instance,
+            facts,
+            category,
+        } => rollup(alloc, schema, instance, facts, category, lib),
+        Command::Format { schema } => format(alloc, schema, lib),
+        Command::Check { schema, instance } => check(alloc, schema, instance, lib),
     }
 }
 
 /// The usage line.
-pub(crate) fn usage(alloc: Global) -> Result<Reply, Fault>
-    ensures status { IfOk result (λ reply. reply.status ≡ Status.Usage) }
-    ensures bytes { IfOk result (λ reply. reply.bytes.items ≡ line (codes "usage")) }
-    ensures memory { IsErrOf result Fault.Read → ⊥ }
+fn usage(alloc: Global) -> Result<Reply, Stop>
+    ensures replies { Replied result (IsAnswer ByUsage) }
+    ensures unread { IsErrOf result Stop.Read → ⊥ }
+    ensures answers { IfOk result (λ reply. reply.status ≡ Status.Usage) }
 {
     Ok(Reply {
         status: Status::Usage,
@@ -90,30 +45,22 @@ pub(crate) fn usage(alloc: Global) -> Result<Reply, Fault>
     })
 }
 
-/// A refusal: what is at fault, and how.
-pub(crate) fn refuse(alloc: Global, why: &[u8]) -> Result<Reply, Fault>
-    ensures status { IfOk result (λ reply. reply.status ≡ Status.Refused) }
-    ensures bytes { IfOk result (λ reply. reply.bytes.items ≡ refusal why.now) }
-    ensures memory { IsErrOf result Fault.Read → ⊥ }
+/// The reply to the words.
+pub(crate) fn judge<L: Library>(alloc: Global, words: &[String], lib: &mut L) -> Result<Reply, Stop>
+    ensures right { Replied result
+        (GivesTold IsAnswer (L.contents lib.old) (order_of (texts words.now))) }
+    ensures answered { Replied result (λ status bytes. IsAnswered status) }
+    ensures usage { Replied result (λ status bytes.
+        status ≡ Status.Usage → request_of (texts words.now) ≡ None) }
+    ensures usage_only { Replied result (λ status bytes.
+        request_of (texts words.now) ≡ None → status ≡ Status.Usage) }
+    ensures unread { request_of (texts words.now) ≡ None → lib.new ≡ lib.old }
+    ensures unfailed { request_of (texts words.now) ≡ None → IsErrOf result Stop.Read → ⊥ }
+    ensures read { IsErrOf result Stop.Read →
+        ReadCause L.Library lib.old lib.new (order_of (texts words.now)) }
 {
-    let mut bytes = Vec::from_slice(alloc, b"refused ")?;
-    bytes.extend_from_slice(why)?;
-    bytes.push(b'\n')?;
-    Ok(Reply {
-        status: Status::Refused,
-        bytes,
-    })
-}
-
-/// A refusal of a file: the place and the number of its line or record, and the name of its fault.
-pub(crate) fn refuse_at(alloc: Global, place: &str, at: u64, fault: &str) -> Result<Reply, Fault>
-    ensures status { IfOk result (λ reply. reply.status ≡ Status.Refused) }
-    ensures bytes { IfOk result (λ reply. reply.bytes.items ≡ refusal (fault_text place.now at fault.now)) }
-    ensures memory { IsErrOf result Fault.Read → ⊥ }
-{
-    let text = format!(in alloc; "refused {place} {at} {fault}\n")?;
-    Ok(Reply {
-        status: Status::Refused,
-        bytes: text.into_bytes(),
-    })
+    match parse(words) {
+        None => usage(alloc),
+        Some(command) => run(alloc, command, lib),
+    }
 }

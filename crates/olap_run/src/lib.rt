@@ -1,13 +1,15 @@
 //! The program's top call: `olap` judges the words and the files, and writes the answer.
 //!
-//! A command is first a *plan* (`specs/Plan.antt`): files that are read in order, each before what is
+//! A command is first an *order* (`specs/Order.antt`): files that are read in order, each before what is
 //! asked next is known, and in the end a question. `specs/Outcome.antt` says which status and bytes the
-//! words and the files have. The code goes along the plan with everything in memory, and then writes.
+//! words and the files have. The code goes along the order with everything in memory, and then writes.
 #![tactic(auto)]
 
 mod checking;
 mod formatting;
 mod judging;
+mod reading;
+mod replies;
 mod rolling_up;
 mod status;
 mod telling;

@@ -1,5 +1,5 @@
 // Whether an instance is legal, and the words in which a violation is told.
-ghost use Rattle.std.specs.Prelude.{◌≡◌, ◌++◌, None, codes, IfOk, IsErrOf, MatchResult, OnOk};
+ghost use Rattle.std.specs.Prelude.{◌≡◌, ◌++◌, None, codes, IfOk, MatchResult, OnOk};
 ghost use Rattle.std.specs.Fmt.{decimal};
 ghost use Rattle.olap_check.specs.FirstViolation.{first_violation};
 ghost use Rattle.olap_ast.specs.Schema.{IsLegal};
@@ -8,10 +8,10 @@ ghost use Rattle.olap_instance.specs.Made.{IsMadeFor};
 ghost use Rattle.olap_schema.specs.Schemas.{schema_of};
 ghost use Rattle.olap_run.specs.Broken.{IsBrokenBy};
 ghost use Rattle.olap_run.specs.Outputs.{refusal};
+ghost use Rattle.olap_run.specs.Refusals.{IsRefusal};
 ghost use Rattle.olap_run.specs.Violations.{IsTellable, id_text, pair_text, violation_text};
 
-use crate::Status;
-use crate::judging::{Fault, Reply};
+use crate::replies::Stop;
 use olap_base::MemberId;
 use olap_check::{CheckRefusal, Legal, Violation, check};
 use olap_grammar::push_quoted;
@@ -69,7 +69,8 @@ fn push_counted(
     x: MemberId,
 ) -> Result<(), AllocError>
     requires { IsMember instance.now x.0 }
-    ensures { OnOk result (out.new.items ≡ out.old.items ++ (decimal n ++ (codes " " ++ id_text instance.now x.0))) }
+    ensures { OnOk result (out.new.items
+        ≡ out.old.items ++ (decimal n ++ (codes " " ++ id_text instance.now x.0))) }
 {
     let number = format!(in alloc; "{n} ")?;
     out.extend_from_slice(number.as_bytes())?;
@@ -85,7 +86,8 @@ fn push_violation(
     violation: Violation,
 ) -> Result<(), AllocError>
     requires { IsTellable graph.now instance.now violation }
-    ensures { OnOk result (out.new.items ≡ out.old.items ++ violation_text graph.now instance.now violation) }
+    ensures { OnOk result (out.new.items
+        ≡ out.old.items ++ violation_text graph.now instance.now violation) }
 {
     match violation {
         Violation::Connectivity(x, y) => {
@@ -117,23 +119,40 @@ fn push_violation(
     }
 }
 
-/// The refusal of an instance that isn't legal.
-pub(crate) fn refuse_violation(
+/// The line of that refusal.
+fn violation_line(
     alloc: Global,
+    label: &str,
     graph: &Graph,
     instance: &Instance,
     violation: Violation,
-) -> Result<Reply, Fault>
+) -> Result<Vec<u8>, AllocError>
     requires { IsTellable graph.now instance.now violation }
-    ensures status { IfOk result (λ reply. reply.status ≡ Status.Refused) }
-    ensures bytes { IfOk result (λ reply. reply.bytes.items ≡ refusal (codes "instance " ++ violation_text graph.now instance.now violation)) }
-    ensures memory { IsErrOf result Fault.Read → ⊥ }
+    ensures { IfOk result (λ line. line.items ≡ refusal
+        (label.now ++ (codes " " ++ violation_text graph.now instance.now violation))) }
 {
-    let mut bytes = Vec::from_slice(alloc, b"refused instance ")?;
-    push_violation(alloc, &mut bytes, graph, instance, violation)?;
-    bytes.push(b'\n')?;
-    Ok(Reply {
-        status: Status::Refused,
-        bytes,
-    })
+    let mut line = Vec::from_slice(alloc, b"refused ")?;
+    line.extend_from_slice(label.as_bytes())?;
+    line.extend_from_slice(b" ")?;
+    push_violation(alloc, &mut line, graph, instance, violation)?;
+    line.push(b'\n')?;
+    Ok(line)
+}
+
+/// An instance that isn't legal is refused, under its label.
+pub(crate) fn refuse_violation(
+    alloc: Global,
+    label: &str,
+    graph: &Graph,
+    instance: &Instance,
+    violation: Violation,
+) -> Stop
+    requires { IsTellable graph.now instance.now violation }
+    ensures refused { IsRefusal
+        (label.now ++ (codes " " ++ violation_text graph.now instance.now violation)) result }
+{
+    match violation_line(alloc, label, graph, instance, violation) {
+        Ok(line) => Stop::Refused(line),
+        Err(_) => Stop::Memory,
+    }
 }

@@ -1,12 +1,11 @@
 // Which words are a command.
 ghost use Rattle.std.specs.Prelude.{◌≡◌};
 ghost use Rattle.std.specs.Option.{option_map};
-ghost use Rattle.olap_run.specs.Requests.{request_of};
+ghost use Rattle.olap_run.specs.Requests.{named, request_of, check_of, format_of, rollup_of};
 ghost use Rattle.olap_run.specs.Seen.{seen};
 ghost use Rattle.olap_run.specs.Words.{texts};
 
-/// The most words of a command, its name included.
-const MOST_WORDS: usize = 64;
+use olap_base::MOST_WORDS;
 
 /// A command with its words.
 #[derive(Clone, Copy)]
@@ -29,6 +28,58 @@ pub(crate) enum Command<'a> {
     },
 }
 
+/// The words behind `rollup`.
+fn rollup(words: &[String]) -> Option<Command<'_>>
+    ensures { option_map seen result ≡ rollup_of (texts words.now) }
+{
+    match words {
+        [schema, instance, facts, category] => Some(Command::Rollup {
+            schema: schema.as_str(),
+            instance: instance.as_str(),
+            facts: facts.as_str(),
+            category: category.as_str(),
+        }),
+        _ => None,
+    }
+}
+
+/// The words behind `format`.
+fn format(words: &[String]) -> Option<Command<'_>>
+    ensures { option_map seen result ≡ format_of (texts words.now) }
+{
+    match words {
+        [schema] => Some(Command::Format {
+            schema: schema.as_str(),
+        }),
+        _ => None,
+    }
+}
+
+/// The words behind `check`.
+fn check(words: &[String]) -> Option<Command<'_>>
+    ensures { option_map seen result ≡ check_of (texts words.now) }
+{
+    match words {
+        [schema, instance] => Some(Command::Check {
+            schema: schema.as_str(),
+            instance: instance.as_str(),
+        }),
+        _ => None,
+    }
+}
+
+/// The command of that name with these words behind it.
+fn with_words<'a>(name: &str, words: &'a [String]) -> Option<Command<'a>>
+    ensures { option_map seen result ≡ named name.now (texts words.now) }
+{
+    match name {
+        "rollup" => rollup(words),
+        "format" => format(words),
+        "check" => check(words),
+        _ => None,
+    }
+}
+
 /// The command that the words are, if any.
 pub(crate) fn parse(words: &[String]) -> Option<Command<'_>>
     ensures { option_map seen result ≡ request_of (texts words.now) }
@@ -36,22 +87,6 @@ pub(crate) fn parse(words: &[String]) -> Option<Command<'_>>
     if words.len() > MOST_WORDS {
         return None;
     }
-    match words {
-        [name, schema, instance, facts, category] if name.as_str() == "rollup" => {
-            Some(Command::Rollup {
-                schema: schema.as_str(),
-                instance: instance.as_str(),
-                facts: facts.as_str(),
-                category: category.as_str(),
-            })
-        }
-        [name, schema] if name.as_str() == "format" => Some(Command::Format {
-            schema: schema.as_str(),
-        }),
-        [name, schema, instance] if name.as_str() == "check" => Some(Command::Check {
-            schema: schema.as_str(),
-            instance: instance.as_str(),
-        }),
-        _ => None,
-    }
+    let (name, words) = words.split_first()?;
+    with_words(name.as_str(), words)
 }

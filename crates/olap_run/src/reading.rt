@@ -1,0 +1,158 @@
+// The steps of an order: files from the library, and words.
+ghost use Rattle.std.specs.Prelude.{◌≡◌, ◌<◌, ◌≤◌, All, length, false, IfOk, IsErrOf, MatchOption, ⊤};
+ghost use Rattle.olap_base.specs.Faults.{Rose};
+ghost use Rattle.olap_base.specs.Files.{Asks, IsContent, IsLonger};
+ghost use Rattle.olap_base.specs.Limits.{most_file_bytes, most_listed_facts};
+ghost use Rattle.olap_ast.specs.Schema.{IsLegal};
+ghost use Rattle.olap_facts.specs.Seen.{facts_of};
+ghost use Rattle.olap_graph.specs.Lookups.{category_named};
+ghost use Rattle.olap_instance.specs.Made.{IsMadeFor};
+ghost use Rattle.olap_schema.specs.Schemas.{schema_of};
+ghost use Rattle.olap_run.specs.Questions.{IsAnswer};
+ghost use Rattle.olap_run.specs.Steps.{known, with_schema_in, with_legal_in, with_facts_in};
+ghost use Rattle.olap_run.specs.Taken.{FileStep, PlainStep};
+ghost use Rattle.olap_run.specs.declared.replies.Stop.TheVariants as stops;
+
+use crate::replies::{Stop, refuse_at, refuse_long, refuse_part};
+use crate::telling::{check_laws, refuse_violation};
+use olap_base::{CatId, FetchError, Library, MOST_FILE_BYTES, fetch};
+use olap_check::{CheckRefusal, Legal};
+use olap_facts::{FactRefusal, Facts, read_facts};
+use olap_instance::{InstanceRefusal, read_instance};
+use olap_schema::{Schema, SchemaRefusal, read_schema};
+use std::alloc::Global;
+
+/// A file of the library; none where it is too long.
+fn read_file<L: Library>(alloc: Global, file: &str, lib: &mut L) -> Result<Option<Vec<u8>>, Stop>
+    ensures read { IfOk result (λ text. MatchOption text
+        (IsLonger (L.contents lib.old) file.now most_file_bytes)
+        (λ bytes. IsContent (L.contents lib.old) file.now bytes.items)) }
+    ensures within { IfOk result (λ text.
+        MatchOption text ⊤ (λ bytes. length bytes.items ≤ most_file_bytes)) }
+    ensures risen { IsErrOf result Stop.Read → Rose (L.faults lib.old) (L.faults lib.new) }
+    ensures unready { IsErrOf result Stop.Read → L.ready lib.new ≡ false }
+    ensures unrefused { (bytes : _) → IsErrOf result (stops.Refused bytes) → ⊥ }
+    ensures asked { Asks (L.contents lib.old) file.now (L.asked lib.new) }
+    ensures contents { L.contents lib.new ≡ L.contents lib.old }
+    ensures later { L.faults lib.old ≤ L.faults lib.new }
+{
+    match fetch(alloc, lib, file, MOST_FILE_BYTES) {
+        Ok(bytes) => Ok(Some(bytes)),
+        Err(FetchError::TooLong) => Ok(None),
+        Err(FetchError::Missing) | Err(FetchError::Failed) => Err(Stop::Read),
+        Err(FetchError::Memory) => Err(Stop::Memory),
+    }
+}
+
+/// The schema in a file.
+pub(crate) fn schema_in<L: Library>(
+    alloc: Global,
+    label: &str,
+    file: &str,
+    lib: &mut L,
+) -> Result<Schema, Stop>
+    ensures step { FileStep IsAnswer L.Library lib.old lib.new
+        (with_schema_in label.now file.now) schema_of result }
+{
+    let Some(text) = read_file(alloc, file, lib)? else {
+        return Err(refuse_long(alloc, label));
+    };
+    match read_schema(alloc, &text) {
+        Ok(schema) => Ok(schema),
+        Err(SchemaRefusal::Memory) => Err(Stop::Memory),
+        Err(SchemaRefusal::Fault { line, kind }) => Err(refuse_part(
+            alloc,
+            label,
+            "line",
+            line,
+            kind.name(),
+        )),
+    }
+}
+
+/// The category that the word of this number names.
+pub(crate) fn category_at(
+    alloc: Global,
+    at: u64,
+    schema: &Schema,
+    name: &str,
+) -> Result<CatId, Stop>
+    ensures step { PlainStep IsAnswer
+        (known at (category_named (schema_of schema.now).graph name.now)) (λ c. c.0) result }
+{
+    match schema.graph().category(name.as_bytes()) {
+        Some(category) => Ok(category),
+        None => Err(refuse_at(alloc, "word", at, "UnknownCategory")),
+    }
+}
+
+/// The legal instance in a file.
+pub(crate) fn legal_in<L: Library>(
+    alloc: Global,
+    schema: &Schema,
+    label: &str,
+    file: &str,
+    lib: &mut L,
+) -> Result<Legal, Stop>
+    ensures step { FileStep IsAnswer L.Library lib.old lib.new
+        (with_legal_in (schema_of schema.now) label.now file.now) (λ i. i) result }
+    ensures legal { IfOk result (λ i. IsLegal (schema_of schema.now) i) }
+    ensures made { IfOk result (λ i. IsMadeFor (schema_of schema.now).graph i) }
+{
+    let Some(text) = read_file(alloc, file, lib)? else {
+        return Err(refuse_long(alloc, label));
+    };
+    let members = match read_instance(alloc, schema.graph(), &text) {
+        Ok(members) => members,
+        Err(InstanceRefusal::Memory) => return Err(Stop::Memory),
+        Err(InstanceRefusal::Fault { at, kind }) => return Err(refuse_part(
+            alloc,
+            label,
+            "record",
+            at,
+            kind.name(),
+        )),
+    };
+    match check_laws(alloc, schema, members) {
+        Ok(legal) => Ok(legal),
+        Err(CheckRefusal::Memory) => Err(Stop::Memory),
+        Err(CheckRefusal::Broken(broken, violation)) => Err(refuse_violation(
+            alloc,
+            label,
+            schema.graph(),
+            &broken,
+            violation,
+        )),
+    }
+}
+
+/// The facts in a file, at members of an instance.
+pub(crate) fn facts_in<L: Library>(
+    alloc: Global,
+    schema: &Schema,
+    legal: &Legal,
+    label: &str,
+    file: &str,
+    lib: &mut L,
+) -> Result<Facts, Stop>
+    requires made { IsMadeFor (schema_of schema.now).graph legal.now }
+    ensures step { FileStep IsAnswer L.Library lib.old lib.new
+        (with_facts_in (schema_of schema.now) legal.now label.now file.now) facts_of result }
+    ensures members { IfOk result (λ f. All (λ q. q.member.0 < length legal.now) f.rows) }
+    ensures few { IfOk result (λ f. length f.rows ≤ most_listed_facts) }
+{
+    let Some(text) = read_file(alloc, file, lib)? else {
+        return Err(refuse_long(alloc, label));
+    };
+    match read_facts(alloc, schema.graph(), legal.instance(), &text) {
+        Ok(facts) => Ok(facts),
+        Err(FactRefusal::Memory) => Err(Stop::Memory),
+        Err(FactRefusal::Fault { at, kind }) => Err(refuse_part(
+            alloc,
+            label,
+            "record",
+            at,
+            kind.name(),
+        )),
+    }
+}

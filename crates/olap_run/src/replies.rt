@@ -1,0 +1,97 @@
+// Replies, and why a run ends before its question is asked.
+ghost use Rattle.std.specs.Prelude.{◌≡◌, ◌++◌, codes};
+ghost use Rattle.olap_run.specs.Refusals.{IsRefusal};
+ghost use Rattle.olap_run.specs.Steps.{fault_text, part_text};
+
+use crate::Status;
+use olap_base::Memory;
+use std::alloc::{AllocError, AllocFailed, Global};
+
+/// A status and the bytes that are to be written.
+#[derive(Drop)]
+pub(crate) struct Reply {
+    pub(crate) status: Status,
+    pub(crate) bytes: Vec<u8>,
+}
+
+/// Why a run ends before its question is asked.
+#[derive(Drop)]
+pub(crate) enum Stop {
+    /// A file or a word is at fault, and this is the line that says so.
+    Refused(Vec<u8>),
+    /// The library refused.
+    Read,
+    /// Want of memory.
+    Memory,
+}
+
+impl From<Memory> for Stop {
+    ghost use Rattle.olap_run.specs.declared.replies.Stop.TheVariants as stops;
+
+    ghost from_gives = { λ _ e. e ≡ stops.Memory };
+
+    fn from(_: Memory) -> Self {
+        Stop::Memory
+    }
+}
+
+impl From<AllocError> for Stop {
+    ghost use Rattle.olap_run.specs.declared.replies.Stop.TheVariants as stops;
+
+    ghost from_gives = { λ _ e. e ≡ stops.Memory };
+
+    fn from(_: AllocError) -> Self {
+        Stop::Memory
+    }
+}
+
+impl<T: Drop> From<AllocFailed<T>> for Stop {
+    ghost use Rattle.olap_run.specs.declared.replies.Stop.TheVariants as stops;
+
+    ghost from_gives = { λ _ e. e ≡ stops.Memory };
+
+    fn from(_: AllocFailed<T>) -> Self {
+        Stop::Memory
+    }
+}
+
+/// The reply of a question that is answered by yes.
+pub(crate) fn yes(bytes: Vec<u8>) -> Reply
+    ensures status { result.status ≡ Status.Yes }
+    ensures bytes { result.bytes.items ≡ bytes.items }
+{
+    Reply {
+        status: Status::Yes,
+        bytes,
+    }
+}
+
+/// A file that is too long is refused.
+pub(crate) fn refuse_long(alloc: Global, label: &str) -> Stop
+    ensures refused { IsRefusal (label.now ++ codes " TooLong") result }
+{
+    match format!(in alloc; "refused {label} TooLong\n") {
+        Ok(text) => Stop::Refused(text.into_bytes()),
+        Err(_) => Stop::Memory,
+    }
+}
+
+/// A line or record of a file is refused.
+pub(crate) fn refuse_part(alloc: Global, label: &str, part: &str, at: u64, fault: &str) -> Stop
+    ensures refused { IsRefusal (part_text label.now part.now at fault.now) result }
+{
+    match format!(in alloc; "refused {label} {part} {at} {fault}\n") {
+        Ok(text) => Stop::Refused(text.into_bytes()),
+        Err(_) => Stop::Memory,
+    }
+}
+
+/// What has that number is refused.
+pub(crate) fn refuse_at(alloc: Global, place: &str, at: u64, fault: &str) -> Stop
+    ensures refused { IsRefusal (fault_text place.now at fault.now) result }
+{
+    match format!(in alloc; "refused {place} {at} {fault}\n") {
+        Ok(text) => Stop::Refused(text.into_bytes()),
+        Err(_) => Stop::Memory,
+    }
+}
