@@ -1,30 +1,31 @@
 -- Lemmas.
-pub mod Counting
-pub mod LineLemmas
-pub mod PairLemmas
-pub mod PrintLemmas
-pub mod StuckLemmas
-pub mod StepLemmas
-pub mod ValidNames
-pub mod ValidAtoms
-pub mod ValidFormulas
-pub mod ValidTexts
-pub mod ValidSteps
-pub mod ValidSchemas
-pub mod ValidQuestions
-pub mod PrintTokens
-pub mod PrintNames
-pub mod PrintCut
-pub mod BackWords
-pub mod PrintFormula
-pub mod BackTokens
-pub mod BackAtoms
-pub mod BackBytes
-pub mod BackLines
-pub mod BackStatements
-pub mod BackLengths
-pub mod BackPlain
-pub mod BackGraph
-pub mod BackConstraints
-pub mod BackLineTokens
-pub mod BackSchema
+mod Counting
+mod BracketLemmas
+mod LineLemmas
+mod PairLemmas
+mod PrintLemmas
+mod StuckLemmas
+mod StepLemmas
+mod ValidNames
+mod ValidAtoms
+mod ValidFormulas
+mod ValidTexts
+mod ValidSteps
+mod ValidSchemas
+mod ValidQuestions
+mod PrintTokens
+mod PrintNames
+mod PrintCut
+mod BackWords
+mod PrintFormula
+mod BackTokens
+mod BackAtoms
+mod BackBytes
+mod BackLines
+mod BackStatements
+mod BackLengths
+mod BackPlain
+mod BackGraph
+mod BackConstraints
+mod BackLineTokens
+mod BackSchema

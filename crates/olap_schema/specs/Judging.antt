@@ -3,6 +3,8 @@
 --     line_read        a line, given those above it
 --     schema_read      a text
 --     question_read    the text of a question's formula, given a schema and a root
+-- Two functions that are cited are machines: `tokens_of` and `the_formula`. The laws `FoundAsCut` and `FoundAsFormula`
+-- of `olap_grammar` say that they are the relations `IsCut` and `IsFormula`.
 use Rattle.std.specs.Prelude.{◌==◌, ◌||◌, ◌+◌, ◌-◌, ℕ, Bool, true, false, not, List, [], ◌∷◌, ◌++◌, Option, Some, None, Result, Ok, Err, length, find, fold, nat_lt, nat_le, slice_index, if◌then◌else◌}
 use Rattle.std.specs.List.{list_any, range_with_len}
 use Rattle.olap_base.specs.Reaching.{category_reaches}
@@ -46,20 +48,25 @@ pub record Above : Type 0 where
 
 -- ---- categories and edges
 
+-- the fault that a refused category is; want of memory is no reason of `category_refusal`, so that its case never comes
 abbrev pub category_kind : CategoryRefusal → SchemaKind
 category_kind of_category.DuplicateCategory = kind.DuplicateCategory
 category_kind of_category.TooManyCategories = kind.TooManyCategories
 category_kind of_category.Memory = kind.TooManyCategories
 
+-- the category is added, on the n-th line, or refused
 abbrev pub category_added : Above → ℕ → List ℕ → Option CategoryRefusal → Result Above SchemaKind
 category_added a n name (Some e) = Err (category_kind e)
 category_added a n name None =
     Ok (record a { graph = with_category a.graph name; category_lines = a.category_lines ++ n ∷ [] })
 
+-- a category's line
 abbrev pub category_read : Above → ℕ → List ℕ → Result Above SchemaKind
 category_read a n name =
-    if nat_lt most_text_bytes (length name) then Err kind.TextTooLong else category_added a n name (category_refusal a.graph name)
+    if nat_lt most_text_bytes (length name) then Err kind.TextTooLong
+    else category_added a n name (category_refusal a.graph name)
 
+-- the fault that a refused edge is; the case of want of memory never comes
 abbrev pub edge_kind : EdgeRefusal → SchemaKind
 edge_kind of_edge.SelfEdge = kind.SelfEdge
 edge_kind of_edge.EdgeFromAll = kind.EdgeFromAll
@@ -67,15 +74,18 @@ edge_kind of_edge.DuplicateEdge = kind.DuplicateEdge
 edge_kind of_edge.TooManyEdges = kind.TooManyEdges
 edge_kind of_edge.Memory = kind.TooManyEdges
 
+-- the edge is added, or refused
 abbrev pub edge_added : Above → ℕ → ℕ → Option EdgeRefusal → Result Above SchemaKind
 edge_added a c d (Some e) = Err (edge_kind e)
 edge_added a c d None = Ok (record a { graph = with_edge a.graph c d })
 
+-- an edge between the categories of these names, if there are some
 abbrev pub ends_read : Above → Option ℕ → Option ℕ → Result Above SchemaKind
 ends_read a None d = Err kind.UnknownCategory
 ends_read a (Some c) None = Err kind.UnknownCategory
 ends_read a (Some c) (Some d) = edge_added a c d (edge_refusal a.graph c d)
 
+-- an edge's line
 abbrev pub edge_read : Above → List ℕ → List ℕ → Result Above SchemaKind
 edge_read a child parent =
     if nat_lt most_text_bytes (length child) || nat_lt most_text_bytes (length parent) then Err kind.TextTooLong
@@ -83,11 +93,13 @@ edge_read a child parent =
 
 -- ---- formulas
 
+-- the fault of tokens that are no formula; the case of want of memory never comes
 abbrev pub form_kind : FormRefusal → SchemaKind
 form_kind form.BadForm = kind.BadForm
 form_kind form.TooDeep = kind.TooDeep
 form_kind form.Memory = kind.TooDeep
 
+-- the formula, or its fault
 abbrev pub form_answer : Result Formula FormRefusal → Result Formula SchemaKind
 form_answer (Ok f) = Ok f
 form_answer (Err e) = Err (form_kind e)
@@ -111,10 +123,12 @@ constraint_added a root ts f pairs =
       pairs = pairs;
     })
 
+-- behind the check of the atoms
 abbrev pub atoms_read : Above → ℕ → List Token → Formula → Option SchemaKind → Result Above SchemaKind
 atoms_read a root ts f (Some k) = Err k
 atoms_read a root ts f None = constraint_added a root ts f (fold with_pair a.pairs (equalities f))
 
+-- behind the look-up of the root
 abbrev pub root_read : Above → List ℕ → List Token → Formula → Option ℕ → Result Above SchemaKind
 root_read a name ts f None = Err kind.UnknownCategory
 root_read a name ts f (Some root) =
@@ -122,17 +136,20 @@ root_read a name ts f (Some root) =
     else if nat_le most_constraints (length a.constraints) then Err kind.TooManyConstraints
     else atoms_read a root ts f (atom_fault a.graph name ts)
 
+-- behind the reading of the formula
 abbrev pub formed_read : Above → List ℕ → List Token → Result Formula SchemaKind → Result Above SchemaKind
 formed_read a name ts (Err k) = Err k
 formed_read a name ts (Ok f) =
     if nat_lt most_text_bytes (length name) || list_any is_long ts then Err kind.TextTooLong
     else root_read a name ts f (category_named a.graph name)
 
+-- a constraint's line
 abbrev pub constraint_read : Above → List ℕ → List Token → Result Above SchemaKind
 constraint_read a name ts = formed_read a name ts (form_read a.graph a.nodes ts)
 
 -- ---- a line
 
+-- a line behind the version
 abbrev pub statement_read : Above → ℕ → Statement → Result Above SchemaKind
 statement_read a n says.Statement.Version = Err kind.BadForm
 statement_read a n (says.Statement.Category name) = category_read a n name
@@ -140,9 +157,11 @@ statement_read a n (says.Statement.Edge child parent) = edge_read a child parent
 statement_read a n (says.Statement.Constraint root ts) = constraint_read a root ts
 statement_read a n says.Statement.Other = Err kind.BadForm
 
+-- the first line that says something: the version
 abbrev pub first_read : Above → List Token → Result Above SchemaKind
 first_read a ts = if is_version ts then Ok (record a { versioned = true }) else Err kind.BadForm
 
+-- a line that says something
 abbrev pub tokens_read : Above → ℕ → Option (List Token) → Result Above SchemaKind
 tokens_read a n None = Err kind.BadForm
 tokens_read a n (Some ts) = if a.versioned then statement_read a n (statement_of ts) else first_read a ts
@@ -175,10 +194,12 @@ nothing_above =
 abbrev pub first_stuck : Graph → Option ℕ
 first_stuck g = find (λ c. not (category_reaches g c 0)) (range_with_len 1 (length g.names))
 
+-- the schema of all lines, where each category reaches `All`
 abbrev pub whole : Above → Option ℕ → Result Schema (Fault SchemaKind)
 whole a (Some c) = Err (record { at = slice_index a.category_lines (c - 1); kind = kind.NoWayToAll })
 whole a None = Ok (record { graph = a.graph; constraints = a.constraints })
 
+-- the schema of a text, where some line is the version
 abbrev pub text_ended : Read → Result Schema (Fault SchemaKind)
 text_ended (Err fault) = Err fault
 text_ended (Ok a) = if a.versioned then whole a (first_stuck a.graph) else Err (record { at = 1; kind = kind.BadForm })
@@ -189,17 +210,20 @@ schema_read text = text_ended (lines_on (Ok nothing_above) 0 (lines_of text))
 
 -- ---- a question's formula
 
+-- behind the check of the atoms
 abbrev pub question_added : Schema → Formula → Option SchemaKind → Result Formula SchemaKind
 question_added s f (Some k) = Err k
 question_added s f None =
     if nat_lt most_constants (length (distinct_pairs (all_equalities s f))) then Err kind.TooManyConstants else Ok f
 
+-- behind the reading of the formula
 abbrev pub question_formed : Schema → ℕ → List Token → Result Formula SchemaKind → Result Formula SchemaKind
 question_formed s root ts (Err k) = Err k
 question_formed s root ts (Ok f) =
     if list_any is_long ts then Err kind.TextTooLong
     else question_added s f (atom_fault s.graph (name_of_category s.graph root) ts)
 
+-- a question that has no bad byte
 abbrev pub question_cut : Schema → ℕ → Option (List Token) → Result Formula SchemaKind
 question_cut s root None = Err kind.BadForm
 question_cut s root (Some ts) = question_formed s root ts (form_read s.graph 0 ts)

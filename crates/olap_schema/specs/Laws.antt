@@ -1,11 +1,14 @@
 -- What holds of every schema that is read, and of every formula of a question.
-use Rattle.std.specs.Prelude.{◌≡◌, ℕ, List, Result, Ok}
+use Rattle.std.specs.Prelude.{◌≡◌, ◌↔◌, ◌<◌, ◌+◌, ℕ, true, List, Result, Ok, count_by, take}
 use Rattle.olap_base.specs.Graph.{IsDeclared}
+use Rattle.olap_base.specs.Limits.{most_depth}
 use Rattle.olap_base.specs.Naming.{Fault}
 use Rattle.olap_ast.specs.Formula.{Formula, equalities}
 use Rattle.olap_ast.specs.Schema.{Schema}
 use Rattle.olap_ast.specs.Valid.{IsQuestion, IsValidSchema}
 use Rattle.olap_schema.specs.Judging.{question_read, schema_read}
+use Rattle.olap_grammar.specs.declared.tokens.Token.{Token}
+use Rattle.olap_schema.specs.Tokens.{is_close, is_open, opens_over}
 use Rattle.olap_schema.specs.PrintingLaws.{AreTexts, IsReadable}
 use Rattle.olap_schema.specs.declared.kinds.SchemaKind.{SchemaKind}
 
@@ -26,3 +29,8 @@ abbrev pub ReadQuestionsAreValid : Type 0
 ReadQuestionsAreValid =
     (s : Schema) (root : ℕ) (text : List ℕ) (f : Formula) → IsReadable s → IsDeclared s.graph root
     → question_read s root text ≡ Ok f → IsQuestion s root f × AreTexts (equalities f)
+
+-- too many brackets are open exactly where some beginning of the tokens has too many more `(` than `)`
+abbrev pub OpenBracketsAreCounted : Type 0
+OpenBracketsAreCounted = (ts : List Token) → (opens_over 0 0 ts ≡ true) ↔ (k : ℕ)
+    × (count_by is_close (take k ts) + most_depth < count_by is_open (take k ts))

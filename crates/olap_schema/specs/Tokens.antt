@@ -23,6 +23,16 @@ is_node (token.Joint j) = true
 abbrev pub token_nodes : List Token → ℕ
 token_nodes ts = count_by is_node ts
 
+-- the token is `(`
+abbrev pub is_open : Token → Bool
+is_open token.Open = true
+is_open t = false
+
+-- the token is `)`
+abbrev pub is_close : Token → Bool
+is_close token.Close = true
+is_close t = false
+
 -- after so many `(` and so many `)`, some `(` is too far above the `)`
 unfoldable pub opens_over : ℕ → ℕ → List Token → Bool
 opens_over o c [] = false

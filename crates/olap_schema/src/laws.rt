@@ -1,5 +1,5 @@
 // Theorems over the definitions. Each is the clause of a function that does nothing.
-ghost use Rattle.olap_schema.specs.Laws.{ReadQuestionsAreValid, ReadSchemasAreReadable, ReadSchemasAreValid};
+ghost use Rattle.olap_schema.specs.Laws.{OpenBracketsAreCounted, ReadQuestionsAreValid, ReadSchemasAreReadable, ReadSchemasAreValid};
 
 /// A schema that is read is valid: its graph is a hierarchy, its constraints stand at declared categories, their atoms
 /// are of the graph, and it keeps the limits.
@@ -16,4 +16,9 @@ pub fn read_schemas_are_readable()
 /// its constants are UTF-8 without control characters.
 pub fn read_questions_are_valid()
     ensures { ReadQuestionsAreValid }
+{}
+
+/// Too many brackets are open exactly where some beginning of the tokens has too many more `(` than `)`.
+pub fn open_brackets_are_counted()
+    ensures { OpenBracketsAreCounted }
 {}

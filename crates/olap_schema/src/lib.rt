@@ -20,7 +20,10 @@ mod statements;
 mod tests;
 
 pub use kinds::{FormulaRefusal, SchemaKind, SchemaRefusal};
-pub use laws::{read_questions_are_valid, read_schemas_are_readable, read_schemas_are_valid};
+pub use laws::{
+    open_brackets_are_counted, read_questions_are_valid, read_schemas_are_readable,
+    read_schemas_are_valid,
+};
 pub use printing::{print_schema, printed_schemas_are_read};
 pub use questions::read_formula;
 pub use schemas::{Schema, read_schema};
