@@ -132,6 +132,24 @@ fn add(
         .expect(rt, "a member")
 }
 
+// The same, where the name may have any length.
+fn add_named(
+    rt: &impl Abort,
+    builder: &mut InstanceBuilder,
+    id: Text,
+    category: CatId,
+    name: Text,
+) -> MemberId
+    requires id { IsTrue (is_utf8 id) }
+    requires name { IsTrue (is_utf8 name) }
+    requires category { category.0 < builder.old.categories }
+    ensures categories { builder.new.categories ≡ builder.old.categories }
+    ensures number { result.0 ≡ length builder.old.members }
+    ensures count { length builder.new.members ≡ length builder.old.members + 1 }
+{
+    builder.add_named(id, category, name).expect(rt, "a member")
+}
+
 #[test]
 fn an_instance_is_built_and_printed(rt: HostRuntime) {
     let alloc = rt.alloc();
@@ -146,7 +164,7 @@ fn an_instance_is_built_and_printed(rt: HostRuntime) {
         city,
         text(&rt, alloc, "Rome, \"the\""),
     );
-    let north = add(
+    let north = add_named(
         &rt,
         &mut builder,
         text(&rt, alloc, "s1"),

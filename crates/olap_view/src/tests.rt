@@ -3,7 +3,7 @@ ghost use Rattle.std.specs.Prelude.{◌≡◌};
 ghost use Rattle.olap_instance.specs.Made.{IsMadeFor};
 ghost use Rattle.olap_schema.specs.Schemas.{schema_of};
 
-use crate::{Tally, direct, print_view};
+use crate::{Tally, direct, print_view, roll_up};
 use olap_base::{MemberId, Text};
 use olap_check::{Legal, check};
 use olap_facts::{Fact, read_facts};
@@ -86,7 +86,7 @@ fn views(rt: HostRuntime) {
     }
 }
 
-// Facts one at a time.
+// Facts one at a time, from a list and from a text.
 #[test]
 fn tallied_facts(rt: HostRuntime) {
     let alloc = rt.alloc();
@@ -109,6 +109,13 @@ fn tallied_facts(rt: HostRuntime) {
     assert!(rt; tally.added() == 2);
     let wanted: &[u8] = b"member,count,sum,least,greatest\nc1,2,0,-5,5\n";
     let views = tally.into_views().expect(&rt, "views");
+    for view in views.items() {
+        let text = print_view(alloc, legal.instance(), view).expect(&rt, "a text");
+        assert!(rt; text.bytes() == wanted);
+    }
+    let facts: &[u8] = b"member,value\na,5\nb,-5\n";
+    let views = roll_up(alloc, schema.graph(), &legal, facts, &[city]).expect(&rt, "views");
+    assert!(rt; views.items().len() == 1);
     for view in views.items() {
         let text = print_view(alloc, legal.instance(), view).expect(&rt, "a text");
         assert!(rt; text.bytes() == wanted);

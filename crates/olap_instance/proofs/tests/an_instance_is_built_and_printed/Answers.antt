@@ -5,7 +5,7 @@ use Rattle.olap_instance.proofs.tests.an_instance_is_built_and_printed.Goals as 
 pub print_instance-requires : goal.print_instance-requires
 print_instance-requires g c =
     let first = ap (λ (d : Draft). d.categories) (rw c.expect-builder.ensures at c.new.ensures) in
-    let members = c.add-north.ensures.categories ∙ (c.add-rome.ensures.categories ∙ first) in
+    let members = c.add_named-north.ensures.categories ∙ (c.add-rome.ensures.categories ∙ first) in
     let parents =
     c.add_parent-4.ensures.categories ∙ (c.add_parent-3.ensures.categories
     ∙ (c.add_parent-2.ensures.categories ∙ (c.add_parent.ensures.categories ∙ members))) in
