@@ -124,16 +124,6 @@ frontier_done {i} {x} {row} places whole none_left =
       );
     }
 
--- a list of length 0
-pub no_items : (xs : List ℕ) → length xs ≡ 0 → xs ≡ []
-no_items [] e = refl
-no_items (x ∷ xs) e = absurd (omega arith)
-
--- an option that is not Some
-pub none_case : (o : Option ℕ) (P : Type 0) (Q : ℕ → Type 0) → ((x : ℕ) → o ≡ Some x → ⊥) → MatchOption o P Q → P
-none_case None P Q f m = m
-none_case (Some x) P Q f m = absurd (f x refl)
-
 -- a parent that is read from the list is a member
 pub parent_inside : (i : Instance) (z k : ℕ) (ps : List ℕ) → ps ≡ parents_of i z
     → ((y : ℕ) → IsBelow i z y → y < length i) → k < length ps → get_or ps k 0 < length i

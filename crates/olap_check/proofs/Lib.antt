@@ -1,13 +1,13 @@
 -- Lemmas.
-pub mod ParentLemmas
-pub mod RisingLemmas
-pub mod FrontierLemmas
-pub mod StrataLemmas
-pub mod SearchLemmas
-pub mod TableLemmas
-pub mod PassingLemmas
-pub mod LinkingLemmas
-pub mod SplitLemmas
-pub mod FirstLemmas
-pub mod AboveLemmas
-pub mod MeetingLemmas
+mod ParentLemmas
+mod RisingLemmas
+mod FrontierLemmas
+mod StrataLemmas
+mod SearchLemmas
+mod TableLemmas
+mod PassingLemmas
+mod LinkingLemmas
+mod SplitLemmas
+mod FirstLemmas
+mod AboveLemmas
+mod MeetingLemmas

@@ -6,29 +6,15 @@ use Rattle.std.proofs.lemmas.Bool.Decides.{nat_tests}
 use Rattle.std.proofs.lemmas.List.{take_more}
 use Rattle.std.proofs.lemmas.List.Elements.{Contains-append_left, Contains-push, Contains-push_cases}
 use native.Mathlib.Decide.{ℕ_discrete}
+use Rattle.olap_base.specs.Limits.{most_members}
 use Rattle.olap_base.specs.Deciding.{contains_cases}
 use Rattle.olap_base.specs.Instance.{Instance, category_of, parents_of}
 use Rattle.olap_base.specs.declared.ids.MemberId.{MemberId}
+use Rattle.olap_graph.proofs.MarkLemmas.{take_cases, take_before, take_last}
 use Rattle.olap_check.proofs.ParentLemmas.{IsParentAt, places, take_read}
 use Rattle.std.proofs.lemmas.List.{get_or_default}
 use Rattle.olap_base.proofs.ListLemmas.{Contains-nil}
 use Rattle.olap_check.specs.Rows.{none, IsBounded, IsIn, IsRow, free_count, IsVisit, Meets, VisitGives}
-
--- an element of one more is one before or the last
-pub take_cases : (ps : List ℕ) (k y : ℕ) → k < length ps → Contains (take (k + 1) ps) y
-    → Contains (take k ps) y ⊎ (get_or ps k 0 ≡ y)
-take_cases ps k y h c = Contains-push_cases (take k ps) (get_or ps k 0) y
-    (subst (λ l. Contains l y) (take_more ps k 0 h) c)
-
--- one before is among one more
-pub take_before : (ps : List ℕ) (k y : ℕ) → k < length ps → Contains (take k ps) y → Contains (take (k + 1) ps) y
-take_before ps k y h c = subst (λ l. Contains l y) (sym (take_more ps k 0 h))
-    (Contains-append_left (take k ps) (get_or ps k 0 ∷ []) y c)
-
--- the last is among one more
-pub take_last : (ps : List ℕ) (k : ℕ) → k < length ps → Contains (take (k + 1) ps) (get_or ps k 0)
-take_last ps k h = subst (λ l. Contains l (get_or ps k 0)) (sym (take_more ps k 0 h))
-    (Contains-push (take k ps) (get_or ps k 0))
 
 -- an element of the first few is one of all
 pub take_within : (ps : List ℕ) (k y : ℕ) → Contains (take k ps) y → Contains ps y
@@ -61,7 +47,7 @@ free_set (x ∷ row) (suc k) p h e n = go (x == none) (free_set row k p (omega a
 
 -- ---- one place more
 
-module _ (i : Instance) (row : List ℕ) (p : ℕ) (few : length i ≤ 262144) (is_member : p < length i)
+module _ (i : Instance) (row : List ℕ) (p : ℕ) (few : length i ≤ most_members) (is_member : p < length i)
     (room : category_of i p < length row) where
   -- the new member is in
   pub same_in : IsIn i (set row (category_of i p) p) p
@@ -132,7 +118,7 @@ visit_skip i ps k before row old list h m v = record {
 }
 
 -- a parent that is new
-pub visit_push : (i : Instance) (ps : List ℕ) (k : ℕ) (before row old list : List ℕ) → length i ≤ 262144
+pub visit_push : (i : Instance) (ps : List ℕ) (k : ℕ) (before row old list : List ℕ) → length i ≤ most_members
     → k < length ps → ((y : ℕ) → Contains ps y → y < length i)
     → category_of i (get_or ps k 0) < length row → get_or row (category_of i (get_or ps k 0)) 0 ≡ none
     → IsVisit i (take k ps) before row old list → IsVisit i (take (k + 1) ps) before

@@ -5,12 +5,13 @@ use Rattle.std.proofs.lemmas.List.{length-replicate}
 use Rattle.std.proofs.lemmas.List.Elements.{Contains-append_left, Contains-push, Contains-push_cases}
 use native.Mathlib.Decide.{ℕ_discrete}
 use Rattle.olap_base.specs.Instance.{Instance, IsBelow, IsFarBelow, category_of, parents_of}
+use Rattle.olap_graph.specs.Tables.{IsMarked}
 use Rattle.olap_check.proofs.ParentLemmas.{taken}
 use Rattle.olap_base.specs.Steps.{Steps, Steps.here, Steps.step, Climb, Climb.climb, Steps-append, Climb-from_leads, leads_from_Climb, Steps-climb}
 use Rattle.olap_base.proofs.ListLemmas.{Contains-nil}
 use Rattle.olap_check.specs.Rows.{IsBounded}
 use Rattle.olap_base.specs.Deciding.{below_is_member}
-use Rattle.olap_check.specs.Strata.{Repeats, HasNoneAbove, IsFirstIn, IsFirstOf, IsFirstRepeat, IsMarked, IsPassed, IsClosed, IsMarking, Hits, IsSearch, RepeatGives}
+use Rattle.olap_check.specs.Strata.{Repeats, HasNoneAbove, IsFirstIn, IsFirstOf, IsFirstRepeat, IsPassed, IsClosed, IsMarking, Hits, IsSearch, RepeatGives}
 
 module _ {i : Instance} {c : ℕ} (x : ℕ) (inside : (a b : ℕ) → IsBelow i a b → b < length i) where
   -- the parents of x, over marks that are closed

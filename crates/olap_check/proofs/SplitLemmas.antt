@@ -4,8 +4,9 @@ use Rattle.std.specs.Prelude.{IsTrue, Option, Some, None, is_some}
 use Rattle.olap_base.specs.Instance.{Instance, IsBelow, Reaches, category_of, parents_of}
 use Rattle.olap_base.specs.Steps.{Steps, Steps.here, Steps.step, Climb, Climb.climb, Climb-from_leads, leads_from_Climb, Steps-climb, Steps-from_reaches}
 use Rattle.olap_base.proofs.ListLemmas.{Contains-nil}
+use Rattle.olap_graph.specs.Tables.{IsMarked}
 use Rattle.olap_check.specs.Rows.{IsBounded, Splits}
-use Rattle.olap_check.specs.Strata.{IsMarked, IsClosed, Hits, IsMarking, MarkGives}
+use Rattle.olap_check.specs.Strata.{IsClosed, Hits, IsMarking, MarkGives}
 use Rattle.olap_check.specs.Tables.{MarksAbove, HasTwo, IsFoundAmong, IsClimbing, SplitsAt}
 use Rattle.olap_check.specs.Passing.{IsStratified}
 use Rattle.olap_check.proofs.TableLemmas.{reached_inside}

@@ -8,42 +8,12 @@ use native.Mathlib.Decide.{ℕ_discrete}
 use Rattle.olap_base.specs.Instance.{Instance, category_of, parents_of}
 use Rattle.olap_base.specs.declared.ids.MemberId.{MemberId}
 use Rattle.std.proofs.lemmas.List.Elements.{Contains-get_or}
+use Rattle.olap_graph.specs.Marking.{unmarked_count}
+use Rattle.olap_graph.specs.Tables.{IsMarked}
+use Rattle.olap_graph.proofs.MarkLemmas.{same_marked, kept_marked, from_marked, unmarked_set, take_cases, take_before, take_last, mark_is}
 use Rattle.olap_check.proofs.ParentLemmas.{IsParentAt, parent_member, places, take_read, taken_fewer}
 use Rattle.olap_base.proofs.ListLemmas.{Contains-nil}
-use Rattle.olap_check.specs.Strata.{IsMarked, unmarked_count, IsPassed, IsMarking, Hits, MarkGives}
-use Rattle.olap_check.proofs.RisingLemmas.{take_cases, take_before, take_last}
-
--- the new mark
-same_marked : (ms : List Bool) (k : ℕ) → k < length ms → IsMarked (set ms k true) k
-same_marked ms k h = rw get_or-set_same
-
--- the old marks
-kept_marked : (ms : List Bool) (k y : ℕ) → k < length ms → IsMarked ms y → IsMarked (set ms k true) y
-kept_marked ms k y h m = elim (ℕ_discrete y k) [
-  | yes e ↦ subst (λ z. IsMarked (set ms k true) z) (sym e) (same_marked ms k h)
-  | no n ↦ let ne : y ≢ k = n in rw get_or-set_other m
-]
-
--- and no other
-from_marked : (ms : List Bool) (k y : ℕ) → IsMarked (set ms k true) y → IsMarked ms y ⊎ (y ≡ k)
-from_marked ms k y m = elim (ℕ_discrete y k) [
-  | yes e ↦ inr e
-  | no n ↦ let ne : y ≢ k = n in inl (rw get_or-set_other at m)
-]
-
--- one unmarked place fewer
-unmarked_set : (ms : List Bool) (k : ℕ) → k < length ms → get_or ms k false ≡ false
-    → suc (unmarked_count (set ms k true)) ≡ unmarked_count ms
-unmarked_set [] k h e = absurd (omega arith)
-unmarked_set (true ∷ ms) zero h e = absurd (cc)
-unmarked_set (false ∷ ms) zero h e = refl
-unmarked_set (true ∷ ms) (suc k) h e = unmarked_set ms k (omega arith) e
-unmarked_set (false ∷ ms) (suc k) h e = ap suc (unmarked_set ms k (omega arith) e)
-
--- what an index read says of the mark
-pub mark_is : (marks : List Bool) (p : ℕ) (r b : Bool) → p < length marks → r ≡ get_or marks p r → r ≡ b
-    → get_or marks p false ≡ b
-mark_is marks p r b h e q = get_or_default marks p false r h ∙ sym e ∙ q
+use Rattle.olap_check.specs.Strata.{IsPassed, IsMarking, Hits, MarkGives}
 
 -- no parent is marked
 pub marking_none : (i : Instance) (c : ℕ) (marks : List Bool) (list : List ℕ) → IsMarking i c [] marks marks list list

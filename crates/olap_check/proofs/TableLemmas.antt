@@ -4,6 +4,7 @@ use Rattle.std.proofs.Math.ListN.{get_or-append}
 use Rattle.std.proofs.Math.Nat.{mul-le-mul_right}
 use Rattle.std.proofs.lemmas.List.{get_or-append-add}
 use native.Mathlib.Decide.{ℕ_discrete}
+use Rattle.olap_base.specs.Limits.{most_members}
 use Rattle.olap_base.specs.Instance.{Instance, IsBelow, IsMemberOf, Reaches, ReachesCategory, category_of}
 use Rattle.olap_base.specs.Steps.{Steps, Steps.here, Steps.step, Steps-from_reaches}
 use Rattle.olap_base.specs.Reaching.{reaches_is}
@@ -113,7 +114,7 @@ cell_some i n x d y cells t h l e ne =
     ((inside, c), (reaches_is i x y).0 ((t.exact x y h inside).0 (ap (cell n cells x) c ∙ e)))
 
 -- a place without
-pub cell_none : (i : Instance) (n x d y : ℕ) (cells : List ℕ) → length i ≤ 262144 → IsTable i n (length i) cells
+pub cell_none : (i : Instance) (n x d y : ℕ) (cells : List ℕ) → length i ≤ most_members → IsTable i n (length i) cells
     → x < length i → cell n cells x d ≡ y → y ≡ none → ReachesCategory i x d → ⊥
 cell_none i n x d y cells few t h e q r =
     let z = (t.exact x r.0 h r.1.0).1 ((reaches_is i x r.0).1 r.2) in

@@ -1,11 +1,14 @@
 -- Definitions that contracts cite.
+
+-- What a reader of the claims believes.
 pub mod FirstViolation
 pub mod Reports
 pub mod Ancestors
-pub mod Rows
-pub mod Strata
+-- The inside: the tables, marks and walks by which each law is judged.
 pub mod Linking
-pub mod Passing
+pub mod Strata
+pub mod Rows
 pub mod Tables
+pub mod Passing
 pub mod Above
 pub mod Meeting

@@ -4,6 +4,7 @@
 --     IsRise         the row of a member: exactly what it reaches
 --     Splits         a member reaches two members of one category
 use Rattle.std.specs.Prelude.{◌≡◌, ◌≢◌, ℕ, suc, ◌+◌, ◌<◌, ◌≤◌, ◌==◌, ◌⊎◌, ◌↔◌, List, [], ◌∷◌, Bool, true, false, cond, length, slice_index, Contains}
+use Rattle.olap_base.specs.Limits.{most_members}
 use Rattle.olap_base.specs.Instance.{Instance, IsBelow, Reaches, category_of}
 use Rattle.olap_base.specs.Steps.{Steps}
 
@@ -14,7 +15,7 @@ none = 4294967295
 -- each category is below n, there are few members, and parents are members
 pub record IsBounded (i : Instance) (n : ℕ) : Type 0 where
   pub categories : (x : ℕ) → x < length i → category_of i x < n
-  pub few : length i ≤ 262144
+  pub few : length i ≤ most_members
   pub places : (x y : ℕ) → IsBelow i x y → y < length i
 
 -- the place of its category has y

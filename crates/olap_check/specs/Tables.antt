@@ -2,8 +2,9 @@
 use Rattle.std.specs.Prelude.{◌≡◌, ◌≢◌, ℕ, ◌+◌, ◌*◌, ◌<◌, ◌↔◌, List, length, slice_index, Bool, true}
 use Rattle.olap_base.specs.Instance.{Instance, IsFarBelow, category_of}
 use Rattle.olap_base.specs.Reaching.{reaches}
+use Rattle.olap_graph.specs.Tables.{IsMarked}
 use Rattle.olap_check.specs.Rows.{none, IsBounded, Splits}
-use Rattle.olap_check.specs.Strata.{IsMarked, IsSearch}
+use Rattle.olap_check.specs.Strata.{IsSearch}
 use Rattle.std.specs.Prelude.{Option, Some, None}
 
 -- the place of member x and category d, with n categories

@@ -1,6 +1,7 @@
 // The check: the laws, and then the constraints.
 ghost use Rattle.std.specs.Prelude.{◌≡◌, ◌≤◌, length, IfOk, IfErr};
 ghost use Rattle.olap_ast.specs.Schema.{IsLegal};
+ghost use Rattle.olap_base.specs.Limits.{most_constraints};
 ghost use Rattle.olap_check.specs.Reports.{IsRefused, parts_of};
 ghost use Rattle.olap_schema.specs.Schemas.{schema_of};
 ghost use Rattle.olap_instance.specs.Made.{IsMadeFor};
@@ -30,7 +31,7 @@ pub fn check(alloc: Global, schema: &Schema, instance: Instance) -> Result<Legal
     check_parts(alloc, schema.graph(), schema.constraints(), instance)
 }
 
-// `check` for a graph and constraints that stand in no `Schema`.
+/// `check` for a graph and constraints that stand in no `Schema`.
 fn check_parts(
     alloc: Global,
     graph: &Graph,
@@ -38,7 +39,7 @@ fn check_parts(
     instance: Instance,
 ) -> Result<Legal, CheckRefusal>
     requires made { IsMadeFor graph.now instance }
-    requires few { length constraints.now ≤ 64 }
+    requires few { length constraints.now ≤ most_constraints }
     ensures same { IfOk result (λ legal. legal ≡ instance) }
     ensures ok { IfOk result (λ legal. IsLegal (parts_of graph.now constraints.now) instance) }
     ensures err { IfErr result (IsRefused (parts_of graph.now constraints.now) instance) }

@@ -2,6 +2,7 @@
 ghost use Rattle.std.specs.Prelude.{◌≡◌, ◌<◌, ◌≤◌, length, List, IfOk, IfErr, slice_index};
 ghost use Rattle.olap_ast.specs.Schema.{Constraint};
 ghost use Rattle.olap_base.specs.Graph.{category_count};
+ghost use Rattle.olap_base.specs.Limits.{most_categories};
 ghost use Rattle.olap_base.specs.Instance.{IsLawful, parents_of};
 ghost use Rattle.olap_check.specs.Reports.{IsFirstReport};
 ghost use Rattle.olap_check.specs.Rows.{IsBounded};
@@ -22,14 +23,15 @@ use std::alloc::Global;
 pub(crate) fn bound(graph: &Graph, instance: &Instance) -> u16
     requires { IsMadeFor graph.now instance.now }
     ensures count { result ≡ category_count graph.now }
-    ensures few { result ≤ 64 }
+    ensures few { result ≤ most_categories }
     ensures bounded { IsBounded instance.now result }
 {
+    // Called for its clauses: the instance is well formed, with few members.
     let _members = instance.members();
     graph.categories()
 }
 
-// The k-th parent of x.
+/// The k-th parent of x.
 fn parent(instance: &Instance, x: u32, k: usize) -> MemberId
     requires x { x < length instance.now }
     requires k { k < length (parents_of instance.now x) }
@@ -46,7 +48,7 @@ pub(crate) fn lawful(
     categories: u16,
 ) -> Result<Result<Vec<u32>, Violation>, Memory>
     requires count { categories ≡ category_count graph.now }
-    requires few { categories ≤ 64 }
+    requires few { categories ≤ most_categories }
     requires bounded { IsBounded instance.now categories }
     ensures table { let count = length instance.now in
         IfOk result (λ r. IfOk r (λ cells. IsTable instance.now categories count cells.items)) }

@@ -2,6 +2,7 @@
 ghost use Rattle.std.specs.Prelude.{◌≡◌, ◌<◌, ◌≤◌, ◌*◌, length, ℕ, IfOk, IfSome, IsNone, IsTrue, ◌↔◌};
 ghost use Rattle.olap_check.specs.Rows.{IsBounded};
 ghost use Rattle.olap_check.specs.Linking.{IsLinked, IsFirstUnlinkedOf, IsFirstUnlinked, IsLinkedAt, IsFirstOrphan, IsOrphan, IsTableOf};
+ghost use Rattle.olap_base.specs.Limits.{most_categories};
 ghost use Rattle.olap_base.specs.Graph.{category_count};
 
 use olap_base::{CatId, MemberId, Memory};
@@ -12,18 +13,19 @@ use std::alloc::Global;
 /// For each two categories whether an edge leads from the first to the second. A row for each category.
 pub(crate) fn edge_table(alloc: Global, graph: &Graph, categories: u16) -> Result<Vec<bool>, Memory>
     requires count { categories ≡ category_count graph.now }
-    requires few { categories ≤ 64 }
+    requires few { categories ≤ most_categories }
     ensures { IfOk result (λ edges. IsTableOf graph.now categories edges.items) }
 {
     let mut edges = Vec::new(alloc);
-    'pairs: for pair in 0..categories * categories {
-        let edge = graph.edge(CatId(pair / categories), CatId(pair % categories));
+    let width = u32::from(categories);
+    'pairs: for pair in 0..width * width {
+        let edge = graph.edge(CatId((pair / width) as u16), CatId((pair % width) as u16));
         edges.push(edge.is_some())?;
     }
     Ok(edges)
 }
 
-// Whether the table has the pair.
+/// Whether the table has the pair.
 fn is_linked(edges: &[bool], categories: u16, child: u16, parent: u16) -> bool
     requires child { child < categories }
     requires parent { parent < categories }
@@ -33,7 +35,7 @@ fn is_linked(edges: &[bool], categories: u16, child: u16, parent: u16) -> bool
     edges[usize::from(child) * usize::from(categories) + usize::from(parent)]
 }
 
-// The place of the first parent of x that no edge leads to.
+/// The place of the first parent of x that no edge leads to.
 fn unlinked_of(instance: &Instance, edges: &[bool], categories: u16, x: u32) -> Option<usize>
     requires x { x < length instance.now }
     requires bounded { IsBounded instance.now categories }

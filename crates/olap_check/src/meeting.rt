@@ -14,7 +14,7 @@ use olap_base::{CatId, MemberId};
 use olap_eval::holds;
 use olap_instance::Instance;
 
-// The first member of the root at which the formula is false.
+/// The first member of the root at which the formula is false.
 fn first_unmet(
     instance: &Instance,
     cells: &[u32],

@@ -1,6 +1,7 @@
 // The table of ancestors, and members that reach two members of one category.
 ghost use Rattle.std.specs.Prelude.{◌≡◌, ◌<◌, ◌≤◌, ◌↔◌, length, ℕ, IfOk, IfErr, IfSome, IsNone, IsTrue};
 ghost use Rattle.olap_base.specs.Instance.{IsMemberOf, Reaches, ReachesCategory};
+ghost use Rattle.olap_base.specs.Limits.{most_members};
 ghost use Rattle.olap_check.specs.Rows.{IsBounded, Splits};
 ghost use Rattle.olap_check.specs.Passing.{IsStratified};
 ghost use Rattle.olap_check.specs.Tables.{HasTwo, IsFirstSplit, IsLeastSplit, IsTable, MarksAbove};
@@ -44,7 +45,7 @@ pub(crate) fn ancestor(
     requires x { x < length instance.now }
     requires category { category < categories }
     requires table { IsTable instance.now categories (length instance.now) cells.now }
-    requires few { length instance.now ≤ 262144 }
+    requires few { length instance.now ≤ most_members }
     ensures some { IfSome result (λ y. IsMemberOf instance.now category y × Reaches instance.now x y) }
     ensures none { IsNone result → ReachesCategory instance.now x category → ⊥ }
 {
@@ -52,8 +53,8 @@ pub(crate) fn ancestor(
     if cell == NONE { None } else { Some(cell) }
 }
 
-// Marks the members that x is far below. No member has the number of categories as its category, so no parent stops
-// the marking.
+/// Marks the members that x is far below. No member has the number of categories as its category, so no parent stops
+/// the marking.
 fn above(alloc: Global, instance: &Instance, categories: u16, x: u32) -> Result<Vec<bool>, Memory>
     requires x { x < length instance.now }
     requires bounded { IsBounded instance.now categories }
@@ -69,7 +70,7 @@ fn above(alloc: Global, instance: &Instance, categories: u16, x: u32) -> Result<
     Ok(seen)
 }
 
-// Whether two members of the category are marked.
+/// Whether two members of the category are marked.
 fn has_two(instance: &Instance, seen: &[bool], category: u16) -> bool
     requires { length seen.now ≡ length instance.now }
     ensures { IsTrue result ↔ HasTwo instance.now seen.now category }

@@ -9,7 +9,7 @@ use crate::parting::ancestor;
 use olap_base::MemberId;
 use olap_instance::Instance;
 
-// Whether z is far below y.
+/// Whether z is far below y.
 fn is_far_below(instance: &Instance, cells: &[u32], categories: u16, z: u32, y: u32) -> bool
     requires z { z < length instance.now }
     requires y { y < length instance.now }
@@ -33,7 +33,7 @@ fn is_far_below(instance: &Instance, cells: &[u32], categories: u16, z: u32, y: 
     }
 }
 
-// Whether another parent of x is far below y.
+/// Whether another parent of x is far below y.
 fn is_passed(instance: &Instance, cells: &[u32], categories: u16, x: u32, y: u32) -> bool
     requires x { x < length instance.now }
     requires y { y < length instance.now }
@@ -50,7 +50,7 @@ fn is_passed(instance: &Instance, cells: &[u32], categories: u16, x: u32, y: u32
     false
 }
 
-// The place of the first parent of x that another parent of x is far below.
+/// The place of the first parent of x that another parent of x is far below.
 fn shortcut_of(instance: &Instance, cells: &[u32], categories: u16, x: u32) -> Option<usize>
     requires x { x < length instance.now }
     requires bounded { IsBounded instance.now categories }

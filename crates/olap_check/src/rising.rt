@@ -10,8 +10,8 @@ use std::alloc::Global;
 /// No member's place.
 pub const NONE: u32 = 4_294_967_295;
 
-// Writes the parents of z into the places of their categories, and lists those that are new there. False where the
-// place of one has another member.
+/// Writes the parents of z into the places of their categories, and lists those that are new there. False where the
+/// place of one has another member.
 fn visit(
     instance: &Instance,
     z: u32,

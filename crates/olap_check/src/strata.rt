@@ -8,7 +8,7 @@ use olap_base::{MemberId, Memory};
 use olap_instance::Instance;
 use std::alloc::Global;
 
-// Marks the parents of z and lists those that are new. False where one is of the category.
+/// Marks the parents of z and lists those that are new. False where one is of the category.
 pub(crate) fn mark(
     instance: &Instance,
     category: u16,
@@ -34,8 +34,8 @@ pub(crate) fn mark(
     Ok(true)
 }
 
-// Whether a member of the category is above x, where what is marked has none above it. What it marks has none above
-// it either, unless it finds one: so the searches from all members of a category share their marks.
+/// Whether a member of the category is above x, where what is marked has none above it. What it marks has none above
+/// it either, unless it finds one: so the searches from all members of a category share their marks.
 fn repeats(
     alloc: Global,
     instance: &Instance,
@@ -62,7 +62,7 @@ fn repeats(
     Ok(false)
 }
 
-// The first member of the category, below `limit`, that is far below a member of its category; else `limit`.
+/// The first member of the category, below `limit`, that is far below a member of its category; else `limit`.
 fn first_in(alloc: Global, instance: &Instance, category: u16, limit: u32) -> Result<u32, Memory>
     requires limit { limit ≤ length instance.now }
     requires places { (z y : ℕ) → IsBelow instance.now z y → y < length instance.now }

@@ -3,9 +3,10 @@ use Rattle.std.proofs.Common.{◌≡◌, [], ◌∷◌, ◌++◌, length, replic
 use Rattle.std.proofs.Math.ListN.{length-set}
 use Rattle.std.proofs.lemmas.List.{length-replicate}
 use Rattle.olap_base.specs.Instance.{category_of}
+use Rattle.olap_graph.proofs.MarkLemmas.{no_items, none_case}
 use Rattle.olap_check.specs.Rows.{IsFrontier, IsRise, none}
 use Rattle.olap_check.proofs.ParentLemmas.{taken, taken_fewer}
-use Rattle.olap_check.proofs.FrontierLemmas.{frontier_start, frontier_next, frontier_splits, frontier_done, no_items, none_case}
+use Rattle.olap_check.proofs.FrontierLemmas.{frontier_start, frontier_next, frontier_splits, frontier_done}
 use Rattle.olap_check.proofs.rising.rise.Goals as goal
 
 pub listed-init : goal.listed-init

@@ -1,6 +1,7 @@
 -- What is listed is above x, and what is marked is closed or listed. Marking uses places up.
 use Rattle.std.proofs.Common.{◌+◌, length}
-use Rattle.olap_check.specs.Strata.{IsSearch, unmarked_count}
+use Rattle.olap_graph.specs.Marking.{unmarked_count}
+use Rattle.olap_check.specs.Strata.{IsSearch}
 use Rattle.olap_check.proofs.strata.repeats.Given as goal
 
 abbrev pub invariant-listed : goal.invariant-listed
