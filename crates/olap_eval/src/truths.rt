@@ -7,7 +7,7 @@ use crate::shapes::Shape;
 use olap_ast::{Formula, Terms};
 use olap_base::CatId;
 
-// Whether edges lead from the root through these categories.
+/// Whether edges lead from the root through these categories.
 fn follows<S: Shape>(categories: &[CatId], root: CatId, s: &S) -> bool
     requires { IsTrue (S.present s.now root.0) }
     ensures { IsTrue result ↔ HasPath (S.instance s.now) (S.place s.now root.0) (map (λ c. c.0) categories.now) }
@@ -48,7 +48,7 @@ pub fn holds<S: Shape>(f: &Formula, root: CatId, s: &S) -> bool
     }
 }
 
-// Whether exactly one of the formulas is true.
+/// Whether exactly one of the formulas is true.
 #[cycle(holds)]
 fn one_holds<S: Shape>(parts: &Terms, root: CatId, s: &S) -> bool
     requires { IsTrue (S.present s.now root.0) }
@@ -66,7 +66,7 @@ fn one_holds<S: Shape>(parts: &Terms, root: CatId, s: &S) -> bool
     }
 }
 
-// Whether none of the formulas is true.
+/// Whether none of the formulas is true.
 #[cycle(holds)]
 fn none_holds<S: Shape>(parts: &Terms, root: CatId, s: &S) -> bool
     requires { IsTrue (S.present s.now root.0) }
