@@ -1,30 +1,29 @@
 -- The clauses of a task, read from the encoder's.
 use Rattle.std.proofs.Common.{◌≡◌, ℕ, zero, suc, ◌+◌, ◌<◌, ◌≤◌, ◌/◌, ◌%◌, List, [], ◌∷◌, ◌++◌, length, get_or, Bool, true, false, cond, refl, ap, sym, subst, ◌∙◌, inl, inr, ◌^◌, arith}
 use Rattle.std.specs.Prelude.{◌↔◌, ◌==◌, IsTrue, Contains, not, slice_index, slice_index_or}
-use Rattle.std.proofs.lemmas.List.Elements.{Contains-append_left, Contains-get_or}
-use Rattle.olap_base.specs.Graph.{Graph, IsCategory, category_count}
+use Rattle.std.proofs.lemmas.List.Elements.{Contains-append_left}
+use Rattle.olap_base.specs.Graph.{IsCategory, category_count}
 use Rattle.olap_base.proofs.ListLemmas.{contains_head}
 use Rattle.olap_base.specs.Deciding.{contains_cons}
 use Rattle.olap_ast.specs.Formula.{Formula}
-use Rattle.olap_ast.specs.Schema.{Constraint, Schema}
-use Rattle.olap_ast.specs.Frozen.{AreCandidates, Candidates, Frozen, IsFrozen, chosen, is_present}
+use Rattle.olap_ast.specs.Schema.{Schema}
+use Rattle.olap_ast.specs.Frozen.{AreCandidates, Candidates, Frozen}
 use Rattle.olap_ast.specs.Valid.{IsFormulaAt, IsValidSchema}
 use Rattle.olap_ast.proofs.ConstantLemmas.{constant_in_constraint, constant_in_question}
 use Rattle.olap_clauses.specs.declared.literals.Lit.{Lit}
 use Rattle.olap_clauses.specs.declared.pools.Pool.{Pool}
 use Rattle.olap_clauses.specs.Literals.{Holds, Satisfies}
 use Rattle.olap_clauses.specs.Pools.{AreTrue}
-use Rattle.olap_encoding.specs.Literals.{Is, IsMet, value}
-use Rattle.olap_encoding.specs.Meanings.{Fits, Means, index_of, meaning_at, valuation}
+use Rattle.olap_encoding.specs.Literals.{Is, value}
+use Rattle.olap_encoding.specs.Meanings.{Fits, Means, index_of, meaning_at}
 use Rattle.olap_encoding.specs.declared.meanings.Meaning.{Meaning}
 use Rattle.olap_encoding.specs.declared.meanings.Meaning.TheVariants.{Named, On, Present}
-use Rattle.olap_encoding.specs.Encoding.{Encoding, IsLaid as IsLaidOut, IsProblem, IsSound, Problem}
+use Rattle.olap_encoding.specs.Encoding.{Encoding, IsLaid as IsLaidOut, IsProblem, Problem}
 use Rattle.olap_encoding.specs.Formulas.{IsSpokenProblem}
 use Rattle.olap_encoding.specs.Meeting.{AreMetBy, valuation_in}
 use Rattle.olap_encoding.proofs.SpokenLemmas.{spoken}
-use Rattle.olap_names.specs.Names.{Named as TheNames, candidates_of, with_graph}
-use Rattle.olap_dimsat.specs.declared.layout.Layout.{Layout}
-use Rattle.olap_dimsat.specs.Tasks.{IsLaid, IsOne, IsTask, Task, schema_of}
+use Rattle.olap_names.specs.Names.{Named as TheNames, candidates_of}
+use Rattle.olap_dimsat.specs.Tasks.{IsLaid, Task, schema_of}
 use Rattle.olap_dimsat.specs.Reads.{Reads, index_in}
 use Rattle.olap_dimsat.specs.Pinned.{AreAllMet, IsEncoded}
 use Rattle.olap_dimsat.proofs.Truths.{is_same, not_true, same_is, true_or_false}

@@ -8,7 +8,7 @@ use Rattle.olap_base.specs.Graph.{Graph, category_count}
 use Rattle.olap_clauses.specs.declared.engine.Engine.{Engine}
 use Rattle.olap_clauses.specs.declared.pools.Pool.{Pool}
 use Rattle.olap_clauses.specs.declared.trails.Step.{Step}
-use Rattle.olap_clauses.specs.Engines.{admits, trail_of, variables_of}
+use Rattle.olap_clauses.specs.Engines.{admits, trail_of}
 use Rattle.olap_clauses.specs.Pools.{AreTrue}
 use Rattle.olap_dimsat.specs.declared.asker.Leaf.{Leaf}
 use Rattle.olap_base.specs.declared.ids.CatId.{CatId}
@@ -16,7 +16,7 @@ use Rattle.olap_frozen.specs.declared.frozen.Frozen.{Frozen}
 use Rattle.olap_frozen.specs.LeastFound.{IsLeastFound}
 use Rattle.olap_frozen.specs.Leaves.{IsSized, chosen_of, of_declared}
 use Rattle.olap_names.specs.Names.{with_graph}
-use Rattle.olap_dimsat.specs.Tasks.{IsOne, IsTask, Task}
+use Rattle.olap_dimsat.specs.Tasks.{IsTask, Task}
 use Rattle.olap_dimsat.specs.declared.searching.Search.{Search}
 use Rattle.olap_dimsat.specs.Searches.{found_in, root_of, task_in}
 use Rattle.olap_dimsat.specs.Asking.{IsFor, IsSuited}

@@ -1,10 +1,10 @@
 -- What is read off a trail.
-use Rattle.std.proofs.Common.{◌≡◌, ◌≢◌, ℕ, zero, suc, ◌+◌, ◌<◌, ◌≤◌, List, [], ◌∷◌, length, get_or, Bool, true, false, refl, ap, sym, subst, ◌∙◌, arith}
+use Rattle.std.proofs.Common.{◌≡◌, ◌≢◌, ℕ, zero, suc, ◌+◌, ◌<◌, ◌≤◌, List, [], ◌∷◌, length, get_or, Bool, true, false, refl, sym, subst, ◌∙◌, arith}
 use Rattle.std.specs.Prelude.{◌==◌, Contains, slice_index, slice_index_or}
 use Rattle.std.proofs.lemmas.List.{ext_get_or}
-use Rattle.olap_base.specs.Graph.{Graph, Edge, category_count}
+use Rattle.olap_base.specs.Graph.{Graph, category_count}
 use Rattle.olap_ast.specs.Frozen.{Frozen, chosen, is_present}
-use Rattle.olap_frozen.specs.Leaves.{IsSized, chosen_of, of_declared}
+use Rattle.olap_frozen.specs.Leaves.{chosen_of, of_declared}
 use Rattle.olap_graph.specs.Lookups.{edge_at}
 use Rattle.olap_encoding.proofs.ChosenEdges.{child_present}
 use Rattle.olap_encoding.proofs.EdgeBits.{bit_chosen}

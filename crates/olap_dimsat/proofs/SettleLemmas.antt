@@ -1,16 +1,13 @@
 -- The least, place by place.
 use Rattle.std.proofs.Common.{◌≡◌, ◌≢◌, ℕ, zero, suc, ◌+◌, ◌-◌, ◌<◌, ◌≤◌, List, [], ◌∷◌, ◌++◌, length, get_or, map, take, Bool, true, false, cond, refl, ap, sym, subst, ◌∙◌, ◌⊎◌, inl, inr, arith, length-append, append_assoc}
-use Rattle.std.specs.Prelude.{◌↔◌, ◌==◌, slice_index, slice_index_or}
+use Rattle.std.specs.Prelude.{◌==◌, slice_index, slice_index_or}
 use Rattle.std.proofs.lemmas.List.{get_or-map, get_or_append_left, get_or-append_right, length-map}
 use Rattle.olap_base.specs.Graph.{category_count}
-use Rattle.olap_ast.specs.Frozen.{Frozen, IsFrozen, code}
+use Rattle.olap_ast.specs.Frozen.{Frozen, code}
 use Rattle.olap_ast.specs.Violation.{IsNotAfter}
 use Rattle.olap_clauses.specs.declared.engine.Engine.{Engine}
-use Rattle.olap_clauses.specs.declared.literals.Lit.{Lit}
 use Rattle.olap_clauses.specs.declared.trails.Step.{Step}
-use Rattle.olap_clauses.specs.Literals.{Holds}
-use Rattle.olap_clauses.specs.Standing.{Agrees}
-use Rattle.olap_dimsat.specs.Tasks.{IsTask, Task, IsOne, constant_count, name_variable, on_variable}
+use Rattle.olap_dimsat.specs.Tasks.{IsTask, Task, IsOne, constant_count, name_variable}
 use Rattle.olap_dimsat.specs.Reads.{Reads, IsShaped, index_in}
 use Rattle.olap_dimsat.specs.Pinned.{AreShaped, IsLeast, IsLonger, IsPinned, IsProbed, IsReady, IsSame, NoneAt, SayAt}
 use Rattle.olap_dimsat.proofs.Truths.{same_is, is_same, not_true, none_is_zero, true_or_false}

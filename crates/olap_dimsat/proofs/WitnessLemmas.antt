@@ -1,5 +1,5 @@
 -- Witnesses, and what the engine admits.
-use Rattle.std.proofs.Common.{◌≡◌, ℕ, ◌<◌, List, ◌++◌, Bool, length, get_or, refl, ap, sym, subst, ◌∙◌, ◌⊎◌, inl, inr, arith}
+use Rattle.std.proofs.Common.{◌≡◌, ℕ, List, ◌++◌, Bool, get_or, ap, sym, subst, ◌∙◌, inl, inr, arith}
 use Rattle.std.specs.Prelude.{◌==◌}
 use Rattle.std.proofs.Common.{suc}
 use Rattle.std.proofs.lemmas.List.{length-append, get_or_append_left}
@@ -11,8 +11,8 @@ use Rattle.olap_clauses.specs.Literals.{Holds}
 use Rattle.olap_clauses.specs.Standing.{Agrees}
 use Rattle.olap_clauses.specs.Engines.{admits}
 use Rattle.olap_frozen.specs.Leaves.{chosen_of}
-use Rattle.olap_dimsat.specs.Tasks.{Task, IsOne, name_variable, on_variable}
-use Rattle.olap_dimsat.specs.Reads.{Reads, IsMeant, IsNameVariable, IsShaped, IsTaken, Suits, index_in}
+use Rattle.olap_dimsat.specs.Tasks.{Task}
+use Rattle.olap_dimsat.specs.Reads.{Reads, IsMeant, IsShaped, IsTaken, Suits}
 use Rattle.olap_dimsat.specs.Pinned.{AreShaped, IsReady}
 use Rattle.olap_dimsat.proofs.StepLemmas.{agrees_at, all_agree}
 use Rattle.olap_dimsat.proofs.ReadLemmas.{index_of_choice}

@@ -1,5 +1,5 @@
 -- What an asker asks, and the state that it works in.
-use Rattle.std.specs.Prelude.{◌≡◌, ℕ, List, length, map}
+use Rattle.std.specs.Prelude.{◌≡◌, ℕ, length, map}
 use Rattle.olap_base.specs.Graph.{category_count}
 use Rattle.olap_ast.specs.Trees.{constraint_of, formula_of}
 use Rattle.olap_frozen.specs.declared.frozen.Frozen.{Frozen}

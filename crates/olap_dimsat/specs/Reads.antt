@@ -6,7 +6,7 @@
 --     Suits       a choice agrees with a literal, if this is one of an edge or a name
 --     IsShaped    the literal is one of an edge or a name
 --     IsTaken     the choice is a frozen dimension, and agrees with the literals
-use Rattle.std.specs.Prelude.{◌≡◌, ◌≢◌, ◌⊎◌, ℕ, zero, suc, ◌+◌, ◌<◌, List, Bool, false, All, ◌==◌, length, slice_index, slice_index_or}
+use Rattle.std.specs.Prelude.{◌≡◌, ◌≢◌, ◌⊎◌, ℕ, zero, suc, ◌<◌, List, Bool, false, All, ◌==◌, length, slice_index, slice_index_or}
 use Rattle.olap_base.specs.Graph.{category_count}
 use Rattle.olap_ast.specs.Frozen.{Frozen, chosen, is_present}
 use Rattle.olap_clauses.specs.declared.literals.Lit.{Lit}

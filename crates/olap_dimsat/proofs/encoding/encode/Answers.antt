@@ -1,4 +1,4 @@
-use Rattle.std.proofs.Common.{◌≡◌, ℕ, List, [], map, sym, subst, ◌∙◌}
+use Rattle.std.proofs.Common.{ℕ, List, [], map, sym, subst, ◌∙◌}
 use Rattle.std.specs.Prelude.{slice_index_or}
 use Rattle.olap_ast.specs.Frozen.{AreCandidates, Candidates}
 use Rattle.olap_ast.specs.Trees.{constraint_of, formula_of}

@@ -1,4 +1,4 @@
-use Rattle.std.proofs.Common.{List, ℕ, [], get_or, sym, subst, ◌∙◌, arith}
+use Rattle.std.proofs.Common.{List, ℕ, [], get_or, sym, subst, arith}
 use Rattle.std.proofs.lemmas.List.Elements.{Contains-get_or}
 use Rattle.olap_encoding.specs.Literals.{IsMet}
 use Rattle.olap_dimsat.proofs.EncodeLemmas.{other_default}

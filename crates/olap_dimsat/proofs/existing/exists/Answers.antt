@@ -1,7 +1,6 @@
-use Rattle.std.proofs.Common.{◌≡◌, ℕ, ◌<◌, List, ◌++◌, Bool, length, get_or, refl, ap, sym, subst, ◌∙◌, inl, inr, arith}
-use Rattle.olap_clauses.specs.Standing.{Agrees}
-use Rattle.olap_clauses.specs.Engines.{trail_of, variables_of}
-use Rattle.olap_dimsat.specs.Asking.{IsSuited, task_of}
+use Rattle.std.proofs.Common.{refl}
+use Rattle.olap_clauses.specs.Engines.{trail_of}
+use Rattle.olap_dimsat.specs.Asking.{task_of}
 use Rattle.olap_dimsat.proofs.StepLemmas.{only_decisions}
 use Rattle.olap_dimsat.proofs.WitnessLemmas.{ready_still, same_agrees, taken_agrees}
 use Rattle.olap_dimsat.proofs.existing.exists.Goals as goal

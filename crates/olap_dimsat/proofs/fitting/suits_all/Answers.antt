@@ -1,7 +1,6 @@
-use Rattle.std.proofs.Common.{List, get_or, refl, sym, subst, arith}
+use Rattle.std.proofs.Common.{List, refl, sym, subst, arith}
 use Rattle.olap_clauses.specs.declared.trails.Step.{Step}
 use Rattle.olap_clauses.specs.Standing.{Agrees}
-use Rattle.olap_clauses.specs.Literals.{Holds}
 use Rattle.olap_dimsat.proofs.StepLemmas.{agrees_at}
 use Rattle.olap_dimsat.proofs.fitting.suits_all.Goals as goal
 

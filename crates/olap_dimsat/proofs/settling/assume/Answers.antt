@@ -1,4 +1,4 @@
-use Rattle.std.proofs.Common.{◌<◌, length, List, ◌∷◌, [], ◌++◌, refl, sym, subst}
+use Rattle.std.proofs.Common.{◌<◌, length, List, ◌∷◌, [], refl, sym, subst}
 use Rattle.olap_clauses.specs.declared.trails.Step.{Step}
 use Rattle.olap_clauses.specs.declared.trails.Trail.{Trail}
 use Rattle.olap_clauses.specs.declared.trails.Reason.TheVariants.{Decision}

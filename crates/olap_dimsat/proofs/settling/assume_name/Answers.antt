@@ -1,13 +1,9 @@
-use Rattle.std.proofs.Common.{◌≡◌, ℕ, suc, ◌+◌, ◌<◌, Bool, List, length, refl, ap, sym, subst, ◌∙◌, inr, arith}
-use Rattle.std.specs.Prelude.{◌↔◌, ◌==◌}
-use Rattle.olap_ast.specs.Frozen.{Frozen}
+use Rattle.std.proofs.Common.{◌≡◌, suc, ◌+◌, length, refl, ap, sym, ◌∙◌, arith}
+use Rattle.std.specs.Prelude.{◌==◌}
 use Rattle.olap_clauses.specs.declared.literals.Lit.{Lit}
-use Rattle.olap_clauses.specs.Literals.{Holds}
-use Rattle.olap_clauses.specs.Standing.{Agrees}
 use Rattle.olap_clauses.specs.Engines.{trail_of}
 use Rattle.olap_dimsat.specs.Asking.{task_of}
-use Rattle.olap_dimsat.specs.Tasks.{constant_count, name_variable}
-use Rattle.olap_dimsat.proofs.SettleLemmas.{NamedSo, code_index, index_of_named, longer_again, named_more, named_of_index}
+use Rattle.olap_dimsat.proofs.SettleLemmas.{code_index, index_of_named, longer_again, named_more, named_of_index}
 use Rattle.olap_dimsat.proofs.settling.assume_name.Goals as goal
 
 pub name-name-requires-clause-inside : goal.name-name-requires-clause-inside
