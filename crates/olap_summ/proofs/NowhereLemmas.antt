@@ -1,5 +1,5 @@
 -- What a search finds, or doesn't, in all legal instances.
-use Rattle.std.proofs.Common.{◌≡◌, ℕ, List, [], ◌∷◌, length, refl, sym, subst, ◌↔◌, Bool, true, false, Option, Some, None}
+use Rattle.std.proofs.Common.{◌≡◌, ℕ, [], length, refl, sym, subst, ◌↔◌, true, false, Option, Some, None}
 use Rattle.std.specs.Prelude.{◌≤◌, ◌++◌, IfSome, IsNone, flat_map}
 use Rattle.std.proofs.lemmas.List.{append-nil}
 use Rattle.olap_base.specs.Graph.{IsHierarchy}

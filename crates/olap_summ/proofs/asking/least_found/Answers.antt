@@ -1,7 +1,7 @@
 use Rattle.std.proofs.Common.{sym, subst, ◌∙◌}
 use Rattle.olap_ast.specs.Questions.{NoneFrozen}
 use Rattle.olap_ast.specs.Trees.{formula_of}
-use Rattle.olap_dimsat.specs.Searches.{candidates_in, root_of}
+use Rattle.olap_dimsat.specs.Searches.{candidates_in}
 use Rattle.olap_frozen.specs.declared.founding.Found.{Found}
 use Rattle.olap_frozen.specs.LeastFound.{IsLeastFound}
 use Rattle.olap_names.specs.Names.{Named}

@@ -1,5 +1,5 @@
 use Rattle.std.proofs.Common.{sym, ap, ◌∙◌, arith}
-use Rattle.olap_base.specs.Graph.{Graph, IsBottom, category_count}
+use Rattle.olap_base.specs.Graph.{IsBottom, category_count}
 use Rattle.olap_ast.specs.Trees.{formula_of}
 use Rattle.olap_schema.specs.Schemas.{schema_of}
 use Rattle.olap_summ.specs.Answers.{IsNowhere}
