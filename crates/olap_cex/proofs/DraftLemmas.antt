@@ -36,7 +36,7 @@ use Rattle.olap_instance.specs.InstanceText.{is_bad_id, is_too_long}
 use Rattle.olap_instance.specs.Members.{all_member, childless, with_parents}
 use Rattle.olap_instance.proofs.BuilderSteps.{not-found}
 use Rattle.olap_instance.proofs.CategoryNames.{category-utf8}
-use Rattle.olap_cex.specs.FoundFor.{IsFoundFor, found_draft, found_edges, found_instance, found_name}
+use Rattle.olap_cex.specs.FoundFor.{IsFoundFor, found_draft, found_edges, found_instance, found_name, found_place}
 use Rattle.olap_cex.specs.Present.{first_present, place_or_all}
 use Rattle.olap_cex.proofs.ListLemmas.{chosen_more, filter_none, length_filter, map_twice, place_behind, place_in_front, set_at_place}
 use Rattle.olap_cex.proofs.PresentLemmas.{nowhere, place_counts, present_more}
@@ -103,28 +103,28 @@ join head whole told n (c ∷ cs) same =
 -- ---- the draft of a frozen dimension
 
 module _ (g : Graph) (found : Found) (ok : IsFoundFor g found) (hier : IsHierarchy g) where
-  abbrev r : ℕ
+  abbrev pub r : ℕ
   r = found.frozen.root.0
 
-  abbrev bits : List Bool
+  abbrev pub bits : List Bool
   bits = found.frozen.edges
 
-  abbrev es : List Edge
+  abbrev pub es : List Edge
   es = found_edges g found
 
-  abbrev name : ℕ → List ℕ
+  abbrev pub name : ℕ → List ℕ
   name c = found_name found c
 
-  abbrev s : Schema
+  abbrev pub s : Schema
   s = with_graph g ok.constraints
 
-  choice : IsChoice g r es
+  pub choice : IsChoice g r es
   choice = choice_of g r bits hier ok.root
 
-  stands : IsFrozenInstance s ok.question r (instance_of g r es name)
+  pub stands : IsFrozenInstance s ok.question r (instance_of g r es name)
   stands = ok.is_one.stands_for
 
-  sound : IsSound r es
+  pub sound : IsSound r es
   sound = made.sound_of_frozen s ok.question r es choice name stands
 
   abbrev all_listed : List ℕ
@@ -297,6 +297,13 @@ module _ (g : Graph) (found : Found) (ok : IsFoundFor g found) (hier : IsHierarc
         let k = within c p in
         sym (place_is c p declared ∙ ap (λ m. Some m)
         (place_counts (is_present r es) 1 (length g.names) c (omega arith) (omega arith) p))
+
+  -- the root's member stands where so many present categories stand before it
+  pub root_at : r ≢ 0 → length (first_present r es (r - 1)) ≡ found_place g found
+  root_at n =
+      let p = made.root_present g r es choice in
+      ap (λ o. unwrap_or o (length all_listed)) (member_place r n ok.root p) ∙ place_there r p
+      ∙ ap (λ l. place_in l r) (sym cats_are)
 
   -- ---- a parent
 

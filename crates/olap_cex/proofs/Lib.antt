@@ -6,3 +6,6 @@ mod DraftLemmas
 mod RefusalLemmas
 mod ParentLemmas
 mod PlaceLemmas
+mod CountLemmas
+mod CexLemmas
+mod LawLemmas

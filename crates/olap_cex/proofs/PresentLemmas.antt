@@ -2,9 +2,9 @@
 use Rattle.std.proofs.Common.{◌≡◌, ℕ, zero, suc, ◌+◌, ◌-◌, ◌<◌, ◌≤◌, List, [], ◌∷◌, ◌++◌, length, get_or, Bool, true, false, cond, ◌||◌, refl, sym, ◌∙◌, ap, subst, inl, inr, arith}
 use Rattle.std.specs.Prelude.{◌==◌, ◌≢◌, filter}
 use Rattle.std.specs.List.{range_with_len, list_any}
-use Rattle.std.proofs.lemmas.List.{append-nil, map-id}
+use Rattle.std.proofs.lemmas.List.{append-nil, length-append, map-id}
 use Rattle.std.proofs.lemmas.List.Elements.{filter-append}
-use Rattle.std.proofs.lemmas.List.FromFn.{map-range_with_len_more}
+use Rattle.std.proofs.lemmas.List.FromFn.{length-range_with_len, map-range_with_len_more}
 use Rattle.std.proofs.lemmas.Bool.Decides.{eqb_tells}
 use Rattle.olap_ast.proofs.Shape.{either_true, left_true, list_any_is, right_true, same_is, is_same}
 use Rattle.olap_ast.specs.Frozen.{chosen, is_present}
@@ -12,6 +12,7 @@ use Rattle.olap_base.specs.Above.{place_in}
 use Rattle.olap_base.specs.Graph.{Edge}
 use Rattle.olap_frozen.proofs.ChosenLemmas.{chosen_place, place_chosen}
 use Rattle.olap_cex.specs.Present.{first_present}
+use Rattle.olap_cex.proofs.ListLemmas.{length_filter}
 
 -- the edge past the end
 abbrev pub nowhere : Edge
@@ -108,3 +109,26 @@ none_more es bits c i d p n m e t = elim (either_true (d == c) (p == c) (sym (ap
   | inl q ↦ n (same_is d c q)
   | inr q ↦ m (same_is p c q)
 ]
+
+-- ---- how many there are
+
+pub count_more : (r : ℕ) (es : List Edge) (c old new : ℕ) → 1 ≤ c → is_present r es c ≡ true
+    → old ≡ length (first_present r es (c - 1)) → new ≡ old + 1 → new ≡ length (first_present r es (c + 1 - 1))
+count_more r es c old new l p e n =
+    let step : c + 1 - 1 ≡ c = omega arith in
+    let more = ap (λ (xs : List ℕ). length xs) (present_more r es c l p)
+    ∙ length-append (first_present r es (c - 1)) (c ∷ []) in
+    let same = ap (λ k. length (first_present r es k)) step in
+    omega arith
+
+pub count_same : (r : ℕ) (es : List Edge) (c old new : ℕ) → 1 ≤ c → is_present r es c ≡ false
+    → old ≡ length (first_present r es (c - 1)) → new ≡ old → new ≡ length (first_present r es (c + 1 - 1))
+count_same r es c old new l p e n =
+    let step : c + 1 - 1 ≡ c = omega arith in
+    n ∙ e ∙ ap (λ (xs : List ℕ). length xs) (sym (absent_more r es c l p)) ∙ ap (λ k. length (first_present r es k)) (sym step)
+
+pub count_few : (r : ℕ) (es : List Edge) (n : ℕ) → length (first_present r es n) ≤ n
+count_few r es n =
+    let a = length_filter (is_present r es) (range_with_len 1 n) in
+    let b = length-range_with_len 1 n in
+    omega arith

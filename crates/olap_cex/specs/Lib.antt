@@ -3,3 +3,5 @@ pub mod FrozenText
 pub mod CexText
 pub mod Present
 pub mod FoundFor
+pub mod CexFor
+pub mod Laws

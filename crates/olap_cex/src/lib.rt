@@ -4,9 +4,14 @@
 //! `counterexample` what one fact at its root comes to in two views of a category.
 #![tactic(auto)]
 
+mod counterexamples;
+mod counting;
+mod laws;
 mod lines;
 mod members;
 mod thawing;
 
+pub use counterexamples::{Cex, counterexample, print_cex};
+pub use laws::{counterexample_sums_differ, frozen_is_legal, question_is_true, root_is_member};
 pub use lines::print_frozen;
 pub use thawing::thaw;

@@ -1,0 +1,32 @@
+-- A present category is counted, and an absent one isn't.
+use Rattle.std.proofs.Common.{◌-◌, ◌≤◌, sym, ap, ◌∙◌, arith}
+use Rattle.olap_ast.specs.Frozen.{chosen, is_present}
+use Rattle.olap_cex.specs.FoundFor.{found_edges}
+use Rattle.olap_cex.proofs.PresentLemmas.{count_few, count_more, count_same}
+use Rattle.olap_cex.proofs.counterexamples.root_place.Goals as goal
+use Rattle.olap_cex.proofs.counterexamples.root_place.Goals.{then-has_member, else-has_member}
+
+pub overflow_add-place : goal.overflow_add-place
+overflow_add-place c =
+    let f = c.args.found.now in
+    let few = count_few f.frozen.root.0 (found_edges c.args.graph.now f) (c.categories.c - 1) in
+    let e = c.categories.invariant in
+    omega arith
+
+pub categories-preserved : goal.categories-preserved
+categories-preserved c =
+    let g = c.args.graph.now in
+    let f = c.args.found.now in
+    let r = f.frozen.root.0 in
+    let es = found_edges g f in
+    let x = c.categories.c in
+    let some : 1 ≤ x = omega arith in
+    let tells = c.has_member.ensures ∙ ap (λ bits. is_present r (chosen g.edges bits) x) c.items.ensures in
+    elim c.if-has_member.branch [
+      | then-has_member w ↦
+          count_more r es x c.categories.place c.if-has_member.place some (sym tells ∙ w.if-has_member.true)
+          c.categories.invariant w.place-is
+      | else-has_member w ↦
+          count_same r es x c.categories.place c.if-has_member.place some (sym tells ∙ w.if-has_member.false)
+          c.categories.invariant w.place-is
+    ]

@@ -1,0 +1,14 @@
+-- The row is the one at the category's place.
+use Rattle.std.proofs.Common.{ap, ◌∙◌, arith}
+use Rattle.std.specs.FinSet as set
+use Rattle.olap_frozen.proofs.RowLemmas.{row_read}
+use Rattle.olap_frozen.specs.Rows.{row}
+use Rattle.olap_cex.proofs.counting.has.Goals as goal
+
+pub returns : goal.returns
+returns c =
+    let at = c.from.result in
+    let e = c.from.ensures in
+    c.has.ensures
+    ∙ ap (λ s. set.contains s c.args.d.0) (row_read c.args.rows.now at c.index-rows-from.result (omega arith) c.index-rows-from.is)
+    ∙ ap (λ n. set.contains (row c.args.rows.now n) c.args.d.0) e
