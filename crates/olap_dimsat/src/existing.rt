@@ -10,7 +10,7 @@ ghost use Rattle.olap_dimsat.specs.Asking.{IsSuited, task_of};
 ghost use Rattle.olap_dimsat.specs.Pinned.{AreShaped, IsReady};
 
 use crate::asker::{Asker, Leaf};
-use olap_clauses::{Engine, Outcome};
+use olap_clauses::Engine;
 
 /// Whether some frozen dimension agrees with what was decided; one is then in the leaf. What was decided stays.
 pub(crate) fn exists(engine: &mut Engine, a: &Asker<'_>, leaf: &mut Leaf) -> bool
@@ -27,9 +27,5 @@ pub(crate) fn exists(engine: &mut Engine, a: &Asker<'_>, leaf: &mut Leaf) -> boo
     ensures ready { IsReady (task_of a.now) engine.new }
     ensures suited { IsSuited (task_of a.now) leaf.new (variables_of engine.new) }
 {
-    match engine.search(a, leaf, None) {
-        Outcome::Found => true,
-        Outcome::Nothing => false,
-        Outcome::Stop => false,
-    }
+    engine.exists(a, leaf)
 }

@@ -3,7 +3,8 @@ ghost use Rattle.std.specs.Prelude.{ℕ};
 
 use crate::asker::{Asker, Leaf};
 use crate::fitting::suits_all;
-use crate::reading::{open_edge, open_name, read};
+use crate::picking::{open_name, pick_edge};
+use crate::reading::read;
 use olap_clauses::{Judge, Trail, Verdict};
 use olap_frozen::is_frozen;
 
@@ -17,8 +18,8 @@ impl<'a> Judge<Leaf> for Asker<'a> {
 
     ghost Took = { λ a leaf steps. IsTaken (task_of a) leaf.frozen.edges leaf.frozen.names steps };
 
-    fn judge(&self, leaf: &mut Leaf, trail: &Trail) -> Verdict {
-        if let Some(lit) = open_edge(self, trail) {
+    fn judge(&self, leaf: &mut Leaf, trail: &Trail, scores: &[u32]) -> Verdict {
+        if let Some(lit) = pick_edge(self, trail, scores) {
             return Verdict::Decide(lit);
         }
         if let Some(lit) = open_name(self, trail) {

@@ -50,14 +50,11 @@ fn blank(alloc: Global, graph: &Graph, root: CatId) -> Result<Frozen, Memory>
     })
 }
 
-// Room for so many learned literals, by so many given ones.
-fn room_for(size: usize) -> u32 {
-    if size > 2048 {
-        131_072
-    } else {
-        4096 + 64 * size as u32
-    }
-}
+/// Literals of learned clauses that there is room for. With much less, whole families of schemas take for ever.
+const ROOM: u32 = 131_072;
+
+/// Learned clauses that there is room for.
+const CLAUSE_ROOM: u32 = ROOM / 8;
 
 impl Search {
     // A search over this graph and these constraints.
@@ -79,13 +76,12 @@ impl Search {
     {
         let candidates = Candidates::of(alloc, graph.categories(), constraints, question)?;
         let encoded = encode(alloc, graph, constraints, question, root, &candidates)?;
-        let room = room_for(encoded.pool.size());
         let Ok(engine) = Engine::new(
             alloc,
             encoded.layout.variables,
             encoded.pool,
-            room,
-            room / 8,
+            ROOM,
+            CLAUSE_ROOM,
         ) else {
             return Err(Memory);
         };

@@ -1,7 +1,7 @@
 use Rattle.std.proofs.Common.{refl, ap, sym, subst, arith}
 use Rattle.olap_clauses.specs.declared.literals.Lit.{Lit}
 use Rattle.olap_clauses.specs.Trails.{IsOpen}
-use Rattle.olap_dimsat.proofs.reading.open_constant.Goals as goal
+use Rattle.olap_dimsat.proofs.picking.open_constant.Goals as goal
 
 pub name-name-requires-clause-inside : goal.name-name-requires-clause-inside
 name-name-requires-clause-inside c =

@@ -1,0 +1,7 @@
+use Rattle.std.specs.Prelude.{IfSome}
+use Rattle.olap_clauses.specs.Trails.{IsOpen}
+use Rattle.olap_dimsat.proofs.picking.highest_open.Given as goal
+
+-- what was picked so far is open
+abbrev pub invariant-edges : goal.invariant-edges
+invariant-edges l = IfSome l.best (IsOpen l.trail)

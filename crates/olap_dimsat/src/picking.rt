@@ -1,0 +1,141 @@
+// Which edge or name is decided next. Any open one would do: the choice costs time alone.
+ghost use Rattle.std.specs.Prelude.{◌≡◌, ◌⊎◌, ◌<◌, IfSome, length};
+ghost use Rattle.olap_clauses.specs.Trails.{IsOpen, values_of};
+ghost use Rattle.olap_dimsat.specs.Tasks.{IsTask, constant_count};
+ghost use Rattle.olap_dimsat.specs.Asking.{task_of};
+ghost use Rattle.olap_base.specs.Graph.{IsCategory};
+
+use crate::asker::Asker;
+use olap_base::{CatId, EdgeId};
+use olap_clauses::{Lit, Trail, Value};
+
+// The negation of an edge, if it is open and its child is known present.
+fn open_at(a: &Asker<'_>, trail: &Trail, e: EdgeId) -> Option<Lit>
+    requires task { IsTask (task_of a.now) }
+    requires edge { e.0 < length a.now.graph.now.edges }
+    requires variables { length (values_of trail.now) ≡ a.now.layout.now.variables }
+    ensures { IfSome result (λ l. IsOpen trail.now l) }
+{
+    let on = a.layout.on(e);
+    let (child, _) = a.graph.ends(e);
+    match (trail.value(on), trail.value(a.layout.present(child))) {
+        (Value::Unknown, Value::Yes) => Some(on.negated()),
+        _ => None,
+    }
+}
+
+// The first edge that is open and whose child is known present, as its negation.
+fn first_open(a: &Asker<'_>, trail: &Trail) -> Option<Lit>
+    requires task { IsTask (task_of a.now) }
+    requires variables { length (values_of trail.now) ≡ a.now.layout.now.variables }
+    ensures { IfSome result (λ l. IsOpen trail.now l) }
+{
+    'edges: for e in 0..a.graph.edges() {
+        let open = open_at(a, trail, EdgeId(e));
+        if open.is_some() {
+            return open;
+        }
+    }
+    None
+}
+
+// Of two literals, if they are there, the one whose variable has the higher score; the second, where they are equal.
+fn higher(best: Option<Lit>, next: Option<Lit>, scores: &[u32]) -> Option<Lit>
+    ensures { (result ≡ best) ⊎ (result ≡ next) }
+{
+    match (best, next) {
+        (Some(lit), Some(other)) => {
+            if score_of(scores, lit) > score_of(scores, other) {
+                Some(lit)
+            } else {
+                Some(other)
+            }
+        }
+        (Some(lit), None) => Some(lit),
+        (None, other) => other,
+    }
+}
+
+// How much a literal's variable had to do with conflicts of late.
+fn score_of(scores: &[u32], lit: Lit) -> u32 {
+    match scores.get(lit.variable as usize) {
+        Some(score) => *score,
+        None => 0,
+    }
+}
+
+// The edge of the highest score that is open and whose child is known present, as its negation.
+fn highest_open(a: &Asker<'_>, trail: &Trail, scores: &[u32]) -> Option<Lit>
+    requires task { IsTask (task_of a.now) }
+    requires variables { length (values_of trail.now) ≡ a.now.layout.now.variables }
+    ensures { IfSome result (λ l. IsOpen trail.now l) }
+{
+    let mut best: Option<Lit> = None;
+    'edges: for e in 0..a.graph.edges() {
+        best = higher(best, open_at(a, trail, EdgeId(e)), scores);
+    }
+    best
+}
+
+/// The negation of an open edge of a category that is known present: the first in declaration order, or, where there are
+/// scores, the one of the highest.
+pub(crate) fn pick_edge(a: &Asker<'_>, trail: &Trail, scores: &[u32]) -> Option<Lit>
+    requires task { IsTask (task_of a.now) }
+    requires variables { length (values_of trail.now) ≡ a.now.layout.now.variables }
+    ensures { IfSome result (λ l. IsOpen trail.now l) }
+{
+    if scores.is_empty() {
+        first_open(a, trail)
+    } else {
+        highest_open(a, trail, scores)
+    }
+}
+
+// The negation of a name, if it is open.
+fn open_constant(a: &Asker<'_>, trail: &Trail, c: CatId, j: usize) -> Option<Lit>
+    requires task { IsTask (task_of a.now) }
+    requires category { IsCategory a.now.graph.now c.0 }
+    requires constant { j < constant_count (task_of a.now) c.0 }
+    requires variables { length (values_of trail.now) ≡ a.now.layout.now.variables }
+    ensures { IfSome result (λ l. IsOpen trail.now l) }
+{
+    let name = a.layout.name(c, j);
+    match trail.value(name) {
+        Value::Unknown => Some(name.negated()),
+        Value::Yes => None,
+        Value::No => None,
+    }
+}
+
+// The negation of an open name of a category.
+fn open_name_of(a: &Asker<'_>, trail: &Trail, c: CatId) -> Option<Lit>
+    requires task { IsTask (task_of a.now) }
+    requires category { IsCategory a.now.graph.now c.0 }
+    requires variables { length (values_of trail.now) ≡ a.now.layout.now.variables }
+    ensures { IfSome result (λ l. IsOpen trail.now l) }
+{
+    'names: for j in 0..a.candidates.constants(c).len() {
+        let open = open_constant(a, trail, c, j);
+        if open.is_some() {
+            return open;
+        }
+    }
+    None
+}
+
+// The negation of an open name of a category that is known present.
+pub(crate) fn open_name(a: &Asker<'_>, trail: &Trail) -> Option<Lit>
+    requires task { IsTask (task_of a.now) }
+    requires variables { length (values_of trail.now) ≡ a.now.layout.now.variables }
+    ensures { IfSome result (λ l. IsOpen trail.now l) }
+{
+    'categories: for c in 1..a.graph.categories() {
+        if let Value::Yes = trail.value(a.layout.present(CatId(c))) {
+            let open = open_name_of(a, trail, CatId(c));
+            if open.is_some() {
+                return open;
+            }
+        }
+    }
+    None
+}
