@@ -9,8 +9,6 @@ mod implying;
 mod questions;
 mod satisfying;
 mod summarizing;
-#[cfg(test)]
-mod tests;
 
 pub use implying::implies;
 pub use satisfying::satisfiable;
