@@ -1,3 +1,5 @@
 -- Lemmas.
+mod CertificateLemmas
+mod SourceLemmas
 mod Stepping
 mod TellingLemmas

@@ -4,6 +4,7 @@ pub mod Requests
 pub mod Order
 pub mod Outputs
 pub mod Violations
+pub mod Certificates
 pub mod Questions
 pub mod Steps
 pub mod Commands

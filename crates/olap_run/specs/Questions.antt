@@ -1,16 +1,21 @@
 -- What is left to be answered once all files of a run are read, and what answers it.
 --     Question   a command's question, with all that it needs
 --     IsAnswer   a status and bytes answer the question
-use Rattle.std.specs.Prelude.{◌≡◌, ℕ, List, ◌++◌, codes}
+use Rattle.std.specs.Prelude.{◌≡◌, ◌⊎◌, ℕ, List, ◌++◌, codes}
 use Rattle.std.specs.Fmt.{decimal}
 use Rattle.olap_base.specs.Instance.{Instance}
 use Rattle.olap_base.specs.Views.{View}
+use Rattle.olap_ast.specs.Findings.{IsUnsatisfiable}
+use Rattle.olap_ast.specs.Formula.{Formula}
+use Rattle.olap_ast.specs.Questions.{IsImplied}
 use Rattle.olap_ast.specs.Schema.{Schema}
+use Rattle.olap_ast.specs.Summarizable.{IsSummarizable}
 use Rattle.olap_schema.specs.Printing.{schema_text}
 use Rattle.olap_view.specs.ViewText.{view_text}
+use Rattle.olap_run.specs.Certificates.{ShowsMember, ShowsUnmet, ShowsDifference}
 use Rattle.olap_run.specs.Outputs.{line, refusal}
 use Rattle.olap_run.specs.declared.status.Status.{Status}
-use Rattle.olap_run.specs.declared.status.Status.TheVariants.{Yes, Usage, Refused}
+use Rattle.olap_run.specs.declared.status.Status.TheVariants.{Yes, No, Usage, Refused}
 
 pub data Question : Type 0 where
   -- the words are no command
@@ -23,6 +28,12 @@ pub data Question : Type 0 where
   ByFormat : (schema : Schema) → Question
   -- an instance with so many members beside `all` is legal
   ByLegal : (count : ℕ) → Question
+  -- can the category have a member in a legal instance?
+  BySatisfiable : (schema : Schema) (category : ℕ) → Question
+  -- does every legal instance meet the constraint?
+  ByImplied : (schema : Schema) (root : ℕ) (formula : Formula) → Question
+  -- is the target's view always that from the sources' views?
+  BySummarizable : (schema : Schema) (target : ℕ) (sources : List ℕ) → Question
 
 -- these are the status and the bytes
 abbrev pub IsAnswer : Question → Status → List ℕ → Type 0
@@ -31,3 +42,12 @@ IsAnswer (ByRefusal why) status bytes = (status ≡ Refused) × (bytes ≡ refus
 IsAnswer (ByView members view) status bytes = (status ≡ Yes) × (bytes ≡ view_text members view)
 IsAnswer (ByFormat schema) status bytes = (status ≡ Yes) × (bytes ≡ schema_text schema)
 IsAnswer (ByLegal count) status bytes = (status ≡ Yes) × (bytes ≡ line (codes "legal " ++ decimal count))
+IsAnswer (BySatisfiable s c) status bytes =
+    ((status ≡ No) × IsUnsatisfiable s c × (bytes ≡ line (codes "no")))
+    ⊎ ((status ≡ Yes) × ShowsMember s c bytes)
+IsAnswer (ByImplied s r q) status bytes =
+    ((status ≡ Yes) × IsImplied s r q × (bytes ≡ line (codes "yes")))
+    ⊎ ((status ≡ No) × ShowsUnmet s r q bytes)
+IsAnswer (BySummarizable s c sources) status bytes =
+    ((status ≡ Yes) × IsSummarizable s c sources × (bytes ≡ line (codes "yes")))
+    ⊎ ((status ≡ No) × ShowsDifference s c sources bytes)

@@ -8,6 +8,9 @@ pub data Request : Type 0 where
   Rollup : (schema instance facts category : List ℕ) → Request
   Format : (schema : List ℕ) → Request
   Check : (schema instance : List ℕ) → Request
+  Satisfiable : (schema category : List ℕ) → Request
+  Implies : (schema root formula : List ℕ) → Request
+  Summarizable : (schema target : List ℕ) (sources : List (List ℕ)) → Request
 
 -- the words behind `rollup`
 abbrev pub rollup_of : List (List ℕ) → Option Request
@@ -24,12 +27,30 @@ abbrev pub check_of : List (List ℕ) → Option Request
 check_of (schema ∷ instance ∷ []) = Some (Check schema instance)
 check_of words = None
 
+-- the words behind `satisfiable`
+abbrev pub satisfiable_of : List (List ℕ) → Option Request
+satisfiable_of (schema ∷ category ∷ []) = Some (Satisfiable schema category)
+satisfiable_of words = None
+
+-- the words behind `implies`
+abbrev pub implies_of : List (List ℕ) → Option Request
+implies_of (schema ∷ root ∷ formula ∷ []) = Some (Implies schema root formula)
+implies_of words = None
+
+-- the words behind `summarizable`, with any number of sources
+abbrev pub summarizable_of : List (List ℕ) → Option Request
+summarizable_of (schema ∷ target ∷ sources) = Some (Summarizable schema target sources)
+summarizable_of words = None
+
 -- the command of that name with these words behind it, if there is one
 abbrev pub named : List ℕ → List (List ℕ) → Option Request
 named name words =
     if bytes_eq name (codes "rollup") then rollup_of words
     else if bytes_eq name (codes "format") then format_of words
     else if bytes_eq name (codes "check") then check_of words
+    else if bytes_eq name (codes "satisfiable") then satisfiable_of words
+    else if bytes_eq name (codes "implies") then implies_of words
+    else if bytes_eq name (codes "summarizable") then summarizable_of words
     else None
 
 -- the command that the words are, if any; more than `most_words` are none

@@ -1,5 +1,6 @@
 -- The commands of the code, as the words that they hold.
-use Rattle.olap_run.specs.Requests.{Request, Rollup, Format, Check}
+use Rattle.olap_run.specs.Requests.{Request, Rollup, Format, Check, Satisfiable, Implies, Summarizable}
+use Rattle.olap_run.specs.Words.{texts}
 use Rattle.olap_run.specs.declared.words.Command.{Command}
 use Rattle.olap_run.specs.declared.words.Command.TheVariants as code
 
@@ -7,3 +8,6 @@ abbrev pub seen : Command → Request
 seen (code.Rollup schema instance facts category) = Rollup schema.now instance.now facts.now category.now
 seen (code.Format schema) = Format schema.now
 seen (code.Check schema instance) = Check schema.now instance.now
+seen (code.Satisfiable schema category) = Satisfiable schema.now category.now
+seen (code.Implies schema root formula) = Implies schema.now root.now formula.now
+seen (code.Summarizable schema target sources) = Summarizable schema.now target.now (texts sources.now)

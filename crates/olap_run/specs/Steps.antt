@@ -3,21 +3,27 @@
 --     known            by a category word
 --     accepted         by what a text stands for
 --     when_legal       by whether an instance is legal
+--     with_root, with_formula, with_sources      by the words of a question
 --     with_schema_in, with_legal_in, with_facts_in      by a schema, a legal instance, facts in a file
-use Rattle.std.specs.Prelude.{ℕ, List, ◌++◌, length, nat_lt, codes, Option, None, Some, Result, Ok, Err, if◌then◌else◌}
+use Rattle.std.specs.Prelude.{ℕ, zero, suc, List, [], ◌∷◌, ◌++◌, ◌==◌, length, nat_lt, codes, Option, None, Some, Result, Ok, Err, if◌then◌else◌}
 use Rattle.std.specs.Fmt.{decimal}
+use Rattle.std.specs.List.{list_any}
 use Rattle.olap_base.specs.Instance.{Instance}
-use Rattle.olap_base.specs.Limits.{most_file_bytes}
+use Rattle.olap_base.specs.Graph.{Graph}
+use Rattle.olap_base.specs.Limits.{most_facts, most_file_bytes}
 use Rattle.olap_base.specs.Naming.{Fault}
 use Rattle.olap_base.specs.Views.{Fact}
+use Rattle.olap_ast.specs.Formula.{Formula}
 use Rattle.olap_ast.specs.Schema.{Schema}
 use Rattle.olap_ast.specs.Violation.{Violation}
 use Rattle.olap_records.specs.Records.{records_of}
-use Rattle.olap_schema.specs.Judging.{schema_read}
+use Rattle.olap_graph.specs.Lookups.{category_named}
+use Rattle.olap_schema.specs.Judging.{question_read, schema_read}
+use Rattle.olap_schema.specs.declared.kinds.SchemaKind.{SchemaKind}
 use Rattle.olap_schema.specs.Kinds.{name_of_kind as schema_kind}
 use Rattle.olap_instance.specs.InstanceText.{instance_read}
 use Rattle.olap_instance.specs.Kinds.{name_of_kind as instance_kind}
-use Rattle.olap_facts.specs.FactText.{facts_read}
+use Rattle.olap_facts.specs.FactText.{facts_read_within}
 use Rattle.olap_facts.specs.Kinds.{name_of_kind as fact_kind}
 use Rattle.olap_check.specs.FirstViolation.{first_violation}
 use Rattle.olap_check.specs.Reports.{told}
@@ -33,6 +39,40 @@ fault_text place at name = place ++ (codes " " ++ (decimal at ++ (codes " " ++ n
 abbrev pub known : ℕ → Option ℕ → (ℕ → Order Question) → Order Question
 known at None next = Done (ByRefusal (fault_text (codes "word") at (codes "UnknownCategory")))
 known at (Some c) next = next c
+
+-- `All` is no root
+abbrev pub declared : ℕ → ℕ → Order Question → Order Question
+declared at zero next = Done (ByRefusal (fault_text (codes "word") at (codes "RootIsAll")))
+declared at (suc c) next = next
+
+-- a root: a category that isn't `All`
+abbrev pub with_root : Graph → ℕ → List ℕ → (ℕ → Order Question) → Order Question
+with_root g at name next = known at (category_named g name) (λ c. declared at c (next c))
+
+-- a formula's word goes on with the formula, or its first fault is refused
+abbrev pub worded : ℕ → Result Formula SchemaKind → (Formula → Order Question) → Order Question
+worded at (Ok f) next = next f
+worded at (Err kind) next = Done (ByRefusal (fault_text (codes "word") at (schema_kind kind)))
+
+-- the formula of a question, at its root
+abbrev pub with_formula : Schema → ℕ → ℕ → List ℕ → (Formula → Order Question) → Order Question
+with_formula s root at text next = worded at (question_read s root text) next
+
+-- a source that is none of those before it goes on
+abbrev pub undoubled : ℕ → List ℕ → ℕ → Order Question → Order Question
+undoubled at earlier c next =
+    if list_any (λ d. d == c) earlier then Done (ByRefusal (fault_text (codes "word") at (codes "DuplicateSource")))
+    else next
+
+-- a source, behind these
+abbrev pub with_source : Graph → ℕ → List ℕ → List ℕ → (ℕ → Order Question) → Order Question
+with_source g at earlier name next = known at (category_named g name) (λ c. undoubled at earlier c (next c))
+
+-- sources from this word on, left to right, behind these
+abbrev pub with_sources : Graph → ℕ → List ℕ → List (List ℕ) → (List ℕ → Order Question) → Order Question
+with_sources g at earlier [] next = next earlier
+with_sources g at earlier (name ∷ names) next =
+    with_source g at earlier name (λ c. with_sources g (suc at) (earlier ++ c ∷ []) names next)
 
 -- a file is read, and refused under its label where it is too long
 abbrev pub read_within : List ℕ → List ℕ → (List ℕ → Order Question) → Order Question
@@ -72,4 +112,4 @@ with_legal_in s label file next = read_within label file (λ text.
 -- the facts at an instance's members in a file
 abbrev pub with_facts_in : Schema → Instance → List ℕ → List ℕ → (List Fact → Order Question) → Order Question
 with_facts_in s i label file next = read_within label file (λ text.
-    accepted label (codes "record") fact_kind (facts_read s.graph i (records_of text)) next)
+    accepted label (codes "record") fact_kind (facts_read_within most_facts s.graph i (records_of text)) next)

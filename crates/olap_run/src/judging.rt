@@ -11,8 +11,11 @@ ghost use Rattle.olap_run.specs.Words.{texts};
 use crate::Status;
 use crate::checking::check;
 use crate::formatting::format;
+use crate::implying::implies;
 use crate::replies::{Reply, Stop};
 use crate::rolling_up::rollup;
+use crate::satisfying::satisfiable;
+use crate::summarizing::summarizable;
 use crate::words::{Command, parse};
 use olap_base::Library;
 use std::alloc::Global;
@@ -30,6 +33,17 @@ fn run<L: Library>(alloc: Global, command: Command, lib: &mut L) -> Result<Reply
         } => rollup(alloc, schema, instance, facts, category, lib),
         Command::Format { schema } => format(alloc, schema, lib),
         Command::Check { schema, instance } => check(alloc, schema, instance, lib),
+        Command::Satisfiable { schema, category } => satisfiable(alloc, schema, category, lib),
+        Command::Implies {
+            schema,
+            root,
+            formula,
+        } => implies(alloc, schema, root, formula, lib),
+        Command::Summarizable {
+            schema,
+            target,
+            sources,
+        } => summarizable(alloc, schema, target, sources, lib),
     }
 }
 

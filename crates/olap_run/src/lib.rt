@@ -7,11 +7,15 @@
 
 mod checking;
 mod formatting;
+mod implying;
 mod judging;
+mod naming;
 mod reading;
 mod replies;
 mod rolling_up;
+mod satisfying;
 mod status;
+mod summarizing;
 mod telling;
 mod top;
 mod words;

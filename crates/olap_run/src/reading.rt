@@ -1,29 +1,30 @@
-// The steps of an order: files from the library, and words.
-ghost use Rattle.std.specs.Prelude.{◌≡◌, ◌<◌, ◌≤◌, All, length, false, IfOk, IsErrOf, MatchOption, ⊤};
+// The steps of an order that read a file.
+ghost use Rattle.std.specs.Prelude.{◌≡◌, ◌≤◌, length, false, IfOk, IsErrOf, MatchOption, ⊤};
 ghost use Rattle.olap_base.specs.Faults.{Rose};
 ghost use Rattle.olap_base.specs.Files.{Asks, IsContent, IsLonger};
-ghost use Rattle.olap_base.specs.Limits.{most_file_bytes, most_listed_facts};
+ghost use Rattle.olap_base.specs.Limits.{most_file_bytes};
 ghost use Rattle.olap_ast.specs.Schema.{IsLegal};
-ghost use Rattle.olap_facts.specs.Seen.{facts_of};
-ghost use Rattle.olap_graph.specs.Lookups.{category_named};
 ghost use Rattle.olap_instance.specs.Made.{IsMadeFor};
 ghost use Rattle.olap_schema.specs.Schemas.{schema_of};
 ghost use Rattle.olap_run.specs.Questions.{IsAnswer};
-ghost use Rattle.olap_run.specs.Steps.{known, with_schema_in, with_legal_in, with_facts_in};
-ghost use Rattle.olap_run.specs.Taken.{FileStep, PlainStep};
+ghost use Rattle.olap_run.specs.Steps.{with_schema_in, with_legal_in};
+ghost use Rattle.olap_run.specs.Taken.{FileStep};
 ghost use Rattle.olap_run.specs.declared.replies.Stop.TheVariants as stops;
 
-use crate::replies::{Stop, refuse_at, refuse_long, refuse_part};
+use crate::replies::{Stop, refuse_long, refuse_part};
 use crate::telling::{check_laws, refuse_violation};
-use olap_base::{CatId, FetchError, Library, MOST_FILE_BYTES, fetch};
+use olap_base::{FetchError, Library, MOST_FILE_BYTES, fetch};
 use olap_check::{CheckRefusal, Legal};
-use olap_facts::{FactRefusal, Facts, read_facts};
 use olap_instance::{InstanceRefusal, read_instance};
 use olap_schema::{Schema, SchemaRefusal, read_schema};
 use std::alloc::Global;
 
 /// A file of the library; none where it is too long.
-fn read_file<L: Library>(alloc: Global, file: &str, lib: &mut L) -> Result<Option<Vec<u8>>, Stop>
+pub(crate) fn read_file<L: Library>(
+    alloc: Global,
+    file: &str,
+    lib: &mut L,
+) -> Result<Option<Vec<u8>>, Stop>
     ensures read { IfOk result (λ text. MatchOption text
         (IsLonger (L.contents lib.old) file.now most_file_bytes)
         (λ bytes. IsContent (L.contents lib.old) file.now bytes.items)) }
@@ -70,22 +71,6 @@ pub(crate) fn schema_in<L: Library>(
     }
 }
 
-/// The category that the word of this number names.
-pub(crate) fn category_at(
-    alloc: Global,
-    at: u64,
-    schema: &Schema,
-    name: &str,
-) -> Result<CatId, Stop>
-    ensures step { PlainStep IsAnswer
-        (known at (category_named (schema_of schema.now).graph name.now)) (λ c. c.0) result }
-{
-    match schema.graph().category(name.as_bytes()) {
-        Some(category) => Ok(category),
-        None => Err(refuse_at(alloc, "word", at, "UnknownCategory")),
-    }
-}
-
 /// The legal instance in a file.
 pub(crate) fn legal_in<L: Library>(
     alloc: Global,
@@ -122,37 +107,6 @@ pub(crate) fn legal_in<L: Library>(
             schema.graph(),
             &broken,
             violation,
-        )),
-    }
-}
-
-/// The facts in a file, at members of an instance.
-pub(crate) fn facts_in<L: Library>(
-    alloc: Global,
-    schema: &Schema,
-    legal: &Legal,
-    label: &str,
-    file: &str,
-    lib: &mut L,
-) -> Result<Facts, Stop>
-    requires made { IsMadeFor (schema_of schema.now).graph legal.now }
-    ensures step { FileStep IsAnswer L.Library lib.old lib.new
-        (with_facts_in (schema_of schema.now) legal.now label.now file.now) facts_of result }
-    ensures members { IfOk result (λ f. All (λ q. q.member.0 < length legal.now) f.rows) }
-    ensures few { IfOk result (λ f. length f.rows ≤ most_listed_facts) }
-{
-    let Some(text) = read_file(alloc, file, lib)? else {
-        return Err(refuse_long(alloc, label));
-    };
-    match read_facts(alloc, schema.graph(), legal.instance(), &text) {
-        Ok(facts) => Ok(facts),
-        Err(FactRefusal::Memory) => Err(Stop::Memory),
-        Err(FactRefusal::Fault { at, kind }) => Err(refuse_part(
-            alloc,
-            label,
-            "record",
-            at,
-            kind.name(),
         )),
     }
 }

@@ -66,6 +66,17 @@ pub(crate) fn yes(bytes: Vec<u8>) -> Reply
     }
 }
 
+/// The reply of a question that is answered by no.
+pub(crate) fn no(bytes: Vec<u8>) -> Reply
+    ensures status { result.status ≡ Status.No }
+    ensures bytes { result.bytes.items ≡ bytes.items }
+{
+    Reply {
+        status: Status::No,
+        bytes,
+    }
+}
+
 /// A file that is too long is refused.
 pub(crate) fn refuse_long(alloc: Global, label: &str) -> Stop
     ensures refused { IsRefusal (label.now ++ codes " TooLong") result }

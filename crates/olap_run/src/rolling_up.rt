@@ -1,30 +1,48 @@
 // The command `rollup`: the direct view of a category.
-ghost use Rattle.std.specs.Prelude.{All, ◌<◌, ◌≤◌, length};
-ghost use Rattle.olap_base.specs.Limits.{most_listed_facts};
-ghost use Rattle.olap_base.specs.Views.{direct_view};
-ghost use Rattle.olap_facts.specs.Seen.{facts_of};
-ghost use Rattle.olap_run.specs.Commands.{rollup_order};
-ghost use Rattle.olap_run.specs.Judged.{Judged, Replies};
-ghost use Rattle.olap_run.specs.Order.{Done};
-ghost use Rattle.olap_run.specs.Questions.{ByView, IsAnswer};
+ghost use Rattle.olap_instance.specs.Made.{IsMadeFor};
+ghost use Rattle.olap_schema.specs.Schemas.{schema_of};
+ghost use Rattle.olap_run.specs.Commands.{rollup_order, view_order};
+ghost use Rattle.olap_run.specs.Judged.{Judged};
+ghost use Rattle.olap_run.specs.Questions.{IsAnswer};
 
-use crate::reading::{category_at, facts_in, legal_in, schema_in};
-use crate::replies::{Reply, Stop, yes};
+use crate::naming::category_at;
+use crate::reading::{legal_in, read_file, schema_in};
+use crate::replies::{Reply, Stop, refuse_long, refuse_part, yes};
 use olap_base::{CatId, Library};
 use olap_check::Legal;
-use olap_facts::Facts;
-use olap_view::{direct, print_view};
+use olap_facts::NextRefusal;
+use olap_schema::Schema;
+use olap_view::{View, print_view, roll_up};
 use std::alloc::Global;
 
-/// The direct view of a category.
-fn viewed(alloc: Global, legal: &Legal, facts: &Facts, category: CatId) -> Result<Reply, Stop>
-    requires at_members { All (λ f. f.member.0 < length legal.now) facts.now.rows }
-    requires few { length facts.now.rows ≤ most_listed_facts }
-    ensures replies { Replies IsAnswer
-        (Done (ByView legal.now (direct_view legal.now (facts_of facts.now) category.0))) result }
+/// The direct view of a category, from the facts in a file.
+fn view_in<L: Library>(
+    alloc: Global,
+    schema: &Schema,
+    legal: &Legal,
+    category: CatId,
+    file: &str,
+    lib: &mut L,
+) -> Result<Reply, Stop>
+    requires { IsMadeFor (schema_of schema.now).graph legal.now }
+    ensures judged { Judged IsAnswer L.Library lib.old lib.new
+        (view_order (schema_of schema.now) legal.now category.0 file.now) result }
 {
-    let view = direct(alloc, legal, facts, category)?;
-    let text = print_view(alloc, legal.instance(), &view)?;
+    let Some(text) = read_file(alloc, file, lib)? else {
+        return Err(refuse_long(alloc, "facts"));
+    };
+    let views = match roll_up(alloc, schema.graph(), legal, &text, &[category]) {
+        Ok(views) => views,
+        Err(NextRefusal::Memory) => return Err(Stop::Memory),
+        Err(NextRefusal::Fault { at, kind }) => return Err(refuse_part(
+            alloc,
+            "facts",
+            "record",
+            at,
+            kind.name(),
+        )),
+    };
+    let text = print_view(alloc, legal.instance(), &views.items()[0])?;
     Ok(yes(text.into_bytes()))
 }
 
@@ -43,6 +61,5 @@ pub(crate) fn rollup<L: Library>(
     let schema = schema_in(alloc, "schema", schema, lib)?;
     let category = category_at(alloc, 5, &schema, category)?;
     let legal = legal_in(alloc, &schema, "instance", instance, lib)?;
-    let facts = facts_in(alloc, &schema, &legal, "facts", facts, lib)?;
-    viewed(alloc, &legal, &facts, category)
+    view_in(alloc, &schema, &legal, category, facts, lib)
 }

@@ -1,7 +1,7 @@
 // Which words are a command.
 ghost use Rattle.std.specs.Prelude.{◌≡◌};
 ghost use Rattle.std.specs.Option.{option_map};
-ghost use Rattle.olap_run.specs.Requests.{named, request_of, check_of, format_of, rollup_of};
+ghost use Rattle.olap_run.specs.Requests.{named, request_of, check_of, format_of, implies_of, rollup_of, satisfiable_of, summarizable_of};
 ghost use Rattle.olap_run.specs.Seen.{seen};
 ghost use Rattle.olap_run.specs.Words.{texts};
 
@@ -25,6 +25,23 @@ pub(crate) enum Command<'a> {
     Check {
         schema: &'a str,
         instance: &'a str,
+    },
+    /// Whether a category can have a member.
+    Satisfiable {
+        schema: &'a str,
+        category: &'a str,
+    },
+    /// Whether all legal instances meet a constraint.
+    Implies {
+        schema: &'a str,
+        root: &'a str,
+        formula: &'a str,
+    },
+    /// Whether a view is always that from others.
+    Summarizable {
+        schema: &'a str,
+        target: &'a str,
+        sources: &'a [String],
     },
 }
 
@@ -68,6 +85,47 @@ fn check(words: &[String]) -> Option<Command<'_>>
     }
 }
 
+/// The words behind `satisfiable`.
+fn satisfiable(words: &[String]) -> Option<Command<'_>>
+    ensures { option_map seen result ≡ satisfiable_of (texts words.now) }
+{
+    match words {
+        [schema, category] => Some(Command::Satisfiable {
+            schema: schema.as_str(),
+            category: category.as_str(),
+        }),
+        _ => None,
+    }
+}
+
+/// The words behind `implies`.
+fn implies(words: &[String]) -> Option<Command<'_>>
+    ensures { option_map seen result ≡ implies_of (texts words.now) }
+{
+    match words {
+        [schema, root, formula] => Some(Command::Implies {
+            schema: schema.as_str(),
+            root: root.as_str(),
+            formula: formula.as_str(),
+        }),
+        _ => None,
+    }
+}
+
+/// The words behind `summarizable`.
+fn summarizable(words: &[String]) -> Option<Command<'_>>
+    ensures { option_map seen result ≡ summarizable_of (texts words.now) }
+{
+    match words {
+        [schema, target, sources @ ..] => Some(Command::Summarizable {
+            schema: schema.as_str(),
+            target: target.as_str(),
+            sources,
+        }),
+        _ => None,
+    }
+}
+
 /// The command of that name with these words behind it.
 fn with_words<'a>(name: &str, words: &'a [String]) -> Option<Command<'a>>
     ensures { option_map seen result ≡ named name.now (texts words.now) }
@@ -76,6 +134,9 @@ fn with_words<'a>(name: &str, words: &'a [String]) -> Option<Command<'a>>
         "rollup" => rollup(words),
         "format" => format(words),
         "check" => check(words),
+        "satisfiable" => satisfiable(words),
+        "implies" => implies(words),
+        "summarizable" => summarizable(words),
         _ => None,
     }
 }

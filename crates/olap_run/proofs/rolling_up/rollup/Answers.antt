@@ -1,4 +1,4 @@
-use Rattle.olap_run.proofs.Stepping.{answered, ended, followed, unread}
+use Rattle.olap_run.proofs.Stepping.{ended, followed, unread}
 use Rattle.olap_run.proofs.rolling_up.rollup.Goals as goal
 
 pub returns-in_err-schema : goal.returns-in_err-schema
@@ -19,18 +19,9 @@ returns-in_err-legal g c = record {
       (ended c.in_err-legal.ensures.step _ c.from_residual-in_err-legal.result c.from_residual-in_err-legal.ensures.1));
 }
 
-pub returns-in_err-facts : goal.returns-in_err-facts
-returns-in_err-facts g c = record {
-  judged = followed c.in_ok-schema.ensures.step _
-      (followed (unread _ c.in_ok-category.ensures.step) _
-      (followed c.in_ok-legal.ensures.step _
-      (ended c.in_err-facts.ensures.step _ c.from_residual-in_err-facts.result c.from_residual-in_err-facts.ensures.1)));
-}
-
 pub returns : goal.returns
 returns g c = record {
   judged = followed c.in_ok-schema.ensures.step _
       (followed (unread _ c.in_ok-category.ensures.step) _
-      (followed c.in_ok-legal.ensures.step _
-      (followed c.in_ok-facts.ensures.step _ (answered c.viewed.result c.viewed.ensures.replies))));
+      (followed c.in_ok-legal.ensures.step _ c.view_in.ensures.judged));
 }

@@ -1,0 +1,101 @@
+-- Sources that are read from words, one after the other.
+--     IsReadTo     the order of all the words is that of those that are left, behind the sources that were read
+use Rattle.std.proofs.Common.{◌≡◌, ℕ, suc, ◌+◌, ◌<◌, ◌≤◌, List, [], ◌∷◌, ◌++◌, length, get_or, drop, Bool, true, false, ◌||◌, refl, Result, Ok, Err, ap, sym, subst, ◌∙◌, arith}
+use Rattle.std.specs.Prelude.{All, Contains, IsErrAnd, ◌==◌}
+use Rattle.std.specs.List.{list_any}
+use Rattle.std.proofs.lemmas.Bool.Decides.{nat_tests}
+use Rattle.std.proofs.lemmas.List.{drop_all, drop_more, get_or-map}
+use Rattle.std.proofs.lemmas.List.Elements.{All-append, All-cons}
+use Rattle.std.specs.String.{string_bytes}
+use Rattle.std.specs.declared.string.String.{String}
+use Rattle.std.specs.declared.alloc.Global.{Global}
+use Rattle.olap_base.specs.Graph.{Graph, IsCategory}
+use Rattle.olap_base.specs.declared.ids.CatId.{CatId}
+use Rattle.olap_base.proofs.ListLemmas.{Distinct, list_any_is}
+use Rattle.olap_ast.proofs.Shape.{Distinct-push}
+use Rattle.olap_summ.specs.Counterexamples.{numbers_of}
+use Rattle.olap_run.specs.Judged.{Replies}
+use Rattle.olap_run.specs.Order.{Order}
+use Rattle.olap_run.specs.Questions.{Question, IsAnswer}
+use Rattle.olap_run.specs.Steps.{with_source, with_sources}
+use Rattle.olap_run.specs.Taken.{PlainStep}
+use Rattle.olap_run.specs.Words.{texts}
+use Rattle.olap_run.specs.declared.replies.Stop.{Stop}
+
+-- what is found among numbered things is found among their numbers
+pub among_numbers : (xs : List CatId) (c : ℕ) →
+    list_any (λ (x : CatId). x.0 == c) xs ≡ list_any (λ d. d == c) (numbers_of xs)
+among_numbers [] c = refl
+among_numbers (x ∷ xs) c = ap (λ b. (x.0 == c) || b) (among_numbers xs c)
+
+-- the bytes of a word
+pub word_is : (words : List (String Global)) (k : ℕ) (word : String Global) → k < length words
+    → word ≡ get_or words k word → string_bytes word ≡ get_or (texts words) k []
+word_is words k word h e = ap string_bytes e ∙ sym (get_or-map string_bytes words k word [] h)
+
+-- a number that isn't found in a list isn't in it
+pub not_among : (xs : List ℕ) (c : ℕ) → list_any (λ d. d == c) xs ≡ false → Contains xs c → ⊥
+not_among xs c e h =
+    let t : list_any (λ d. d == c) xs ≡ true = (list_any_is (λ d. d == c) xs).1 (c, h, same c) in
+    absurd (let q : true ≡ false = sym t ∙ e in cc)
+  where
+    same : (n : ℕ) → n == n ≡ true
+    same n = grind (arith, nat_tests)
+
+module _ (g : Graph) (at : ℕ) (names : List (List ℕ)) where
+  pub record IsReadTo (k : ℕ) (sources : List ℕ) : Type 0 where
+    pub order : (next : List ℕ → Order Question)
+        → with_sources g at [] names next ≡ with_sources g (at + k) sources (drop k names) next
+    pub categories : All (IsCategory g) sources
+    pub differ : Distinct sources
+
+  -- with one word more to read, the order is that of this word's source
+  at_word : (k : ℕ) (sources : List ℕ) → k < length names → IsReadTo k sources → (next : List ℕ → Order Question)
+      → with_sources g at [] names next ≡ with_source g (at + k) sources (get_or names k [])
+      (λ c. with_sources g (suc (at + k)) (sources ++ c ∷ []) (drop (k + 1) names) next)
+  at_word k sources h r next = r.order next
+      ∙ ap (λ ns. with_sources g (at + k) sources ns next) (drop_more names k [] h)
+
+  pub read_none : IsReadTo 0 []
+  read_none = record {
+    order = λ next. let e : at ≡ at + 0 = omega arith in ap (λ n. with_sources g n [] names next) e;
+    categories = λ k d l. absurd (omega arith);
+    differ = tt;
+  }
+
+  pub read_more : (k : ℕ) (sources new : List ℕ) (c : ℕ) → k < length names → IsReadTo k sources
+      → ((next : ℕ → Order Question) → with_source g (at + k) sources (get_or names k []) next ≡ next c)
+      → IsCategory g c → list_any (λ d. d == c) sources ≡ false → new ≡ sources ++ c ∷ [] → IsReadTo (k + 1) new
+  read_more k sources new c h r goes category fresh e = record {
+    order = λ next. at_word k sources h r next
+        ∙ goes (λ d. with_sources g (suc (at + k)) (sources ++ d ∷ []) (drop (k + 1) names) next)
+        ∙ ap (λ xs. with_sources g (suc (at + k)) xs (drop (k + 1) names) next) (sym e)
+        ∙ (let p : suc (at + k) ≡ at + (k + 1) = omega arith in
+        ap (λ n. with_sources g n new (drop (k + 1) names) next) p);
+    categories = subst (All (IsCategory g)) (sym e) (All-append (IsCategory g) sources (c ∷ []) r.categories
+        (All-cons (IsCategory g) c [] category (λ j d l. absurd (omega arith))));
+    differ = subst Distinct (sym e) (Distinct-push sources c r.differ (not_among sources c fresh));
+  }
+
+  -- all words are read
+  pub read_all : (k : ℕ) (sources : List ℕ) → length names ≤ k → IsReadTo k sources → (next : List ℕ → Order Question)
+      → with_sources g at [] names next ≡ next sources
+  read_all k sources h r next = r.order next ∙ ap (λ ns. with_sources g (at + k) sources ns next) (drop_all k names h)
+
+  -- where a word isn't taken, the order ends as it does there
+  pub ends_at : (k : ℕ) (sources : List ℕ) (stop : Stop) → k < length names → IsReadTo k sources
+      → ((next : ℕ → Order Question)
+      → Replies IsAnswer (with_source g (at + k) sources (get_or names k []) next) (Err stop))
+      → (next : List ℕ → Order Question) → Replies IsAnswer (with_sources g at [] names next) (Err stop)
+  ends_at k sources stop h r ends next = subst (λ o. Replies IsAnswer o (Err stop)) (sym (at_word k sources h r next))
+      (ends (λ c. with_sources g (suc (at + k)) (sources ++ c ∷ []) (drop (k + 1) names) next))
+
+-- a step that isn't taken ends as its result does
+pub plain_ends : {T X : Type 0} {step : (T → Order Question) → Order Question} {meaning : X → T} (stop : Stop)
+    (result : Result X Stop) → IsErrAnd result (λ e. e ≡ stop)
+    → ((next : T → Order Question) → Replies IsAnswer (step next) (Err stop)) → PlainStep IsAnswer step meaning result
+plain_ends stop (Ok x) is f = absurd is
+plain_ends {step = step} stop (Err e) is f = record {
+  goes_on = λ next. tt;
+  ends = λ next. subst (λ z. Replies IsAnswer (step next) (Err z)) (sym is) (f next);
+}

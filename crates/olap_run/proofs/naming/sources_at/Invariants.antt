@@ -1,0 +1,10 @@
+use Rattle.std.proofs.Common.{List}
+use Rattle.olap_schema.specs.Schemas.{schema_of}
+use Rattle.olap_summ.specs.Counterexamples.{numbers_of}
+use Rattle.olap_run.specs.Words.{texts}
+use Rattle.olap_run.proofs.SourceLemmas.{IsReadTo}
+use Rattle.olap_run.proofs.naming.sources_at.Given as goal
+
+-- so many words are read
+abbrev pub invariant-sources : goal.invariant-sources
+invariant-sources l = IsReadTo (schema_of l.schema).graph l.at (texts l.names) l.k (numbers_of l.sources.items)

@@ -1,0 +1,130 @@
+// The steps of an order that judge words.
+ghost use Rattle.std.specs.Prelude.{◌≡◌, ◌≢◌, ◌+◌, ◌<◌, ◌^◌, [], All, AllPairs, IfOk, IsTrue, false, length};
+ghost use Rattle.std.specs.List.{list_any};
+ghost use Rattle.std.specs.Prelude.{◌==◌, ◌↔◌};
+ghost use Rattle.olap_ast.specs.Formula.{equalities};
+ghost use Rattle.olap_ast.specs.Trees.{formula_of};
+ghost use Rattle.olap_ast.specs.Valid.{IsQuestion};
+ghost use Rattle.olap_base.specs.Graph.{IsCategory, IsDeclared};
+ghost use Rattle.olap_graph.specs.Lookups.{category_named};
+ghost use Rattle.olap_schema.specs.PrintingLaws.{AreTexts};
+ghost use Rattle.olap_schema.specs.Schemas.{schema_of};
+ghost use Rattle.olap_summ.specs.Counterexamples.{numbers_of};
+ghost use Rattle.olap_run.specs.Questions.{IsAnswer};
+ghost use Rattle.olap_run.specs.Steps.{known, with_formula, with_root, with_source, with_sources};
+ghost use Rattle.olap_run.specs.Taken.{PlainStep};
+ghost use Rattle.olap_run.specs.Words.{texts};
+
+use crate::replies::{Stop, refuse_at};
+use olap_ast::Formula;
+use olap_base::CatId;
+use olap_schema::{FormulaRefusal, Schema, read_formula};
+use std::alloc::Global;
+
+/// The category that the word of this number names.
+pub(crate) fn category_at(
+    alloc: Global,
+    at: u64,
+    schema: &Schema,
+    name: &str,
+) -> Result<CatId, Stop>
+    ensures step { PlainStep IsAnswer
+        (known at (category_named (schema_of schema.now).graph name.now)) (λ c. c.0) result }
+    ensures category { IfOk result (λ c. IsCategory (schema_of schema.now).graph c.0) }
+{
+    match schema.graph().category(name.as_bytes()) {
+        Some(category) => Ok(category),
+        None => Err(refuse_at(alloc, "word", at, "UnknownCategory")),
+    }
+}
+
+/// The root that the word of this number names: a category that isn't `All`.
+pub(crate) fn root_at(alloc: Global, at: u64, schema: &Schema, name: &str) -> Result<CatId, Stop>
+    ensures step { PlainStep IsAnswer
+        (with_root (schema_of schema.now).graph at name.now) (λ c. c.0) result }
+    ensures declared { IfOk result (λ c. IsDeclared (schema_of schema.now).graph c.0) }
+{
+    match schema.graph().category(name.as_bytes()) {
+        Some(category) if category.0 == 0 => Err(refuse_at(alloc, "word", at, "RootIsAll")),
+        Some(category) => Ok(category),
+        None => Err(refuse_at(alloc, "word", at, "UnknownCategory")),
+    }
+}
+
+/// The formula that the word of this number is, at a root.
+pub(crate) fn formula_at(
+    alloc: Global,
+    at: u64,
+    schema: &Schema,
+    root: CatId,
+    text: &str,
+) -> Result<Formula, Stop>
+    requires root { IsDeclared (schema_of schema.now).graph root.0 }
+    ensures step { PlainStep IsAnswer
+        (with_formula (schema_of schema.now) root.0 at text.now) formula_of result }
+    ensures question { IfOk result (λ f. IsQuestion (schema_of schema.now) root.0 (formula_of f)) }
+    ensures texts { IfOk result (λ f. AreTexts (equalities (formula_of f))) }
+{
+    match read_formula(alloc, schema, root, text.as_bytes()) {
+        Ok(formula) => Ok(formula),
+        Err(FormulaRefusal::Memory) => Err(Stop::Memory),
+        Err(FormulaRefusal::Fault(kind)) => Err(refuse_at(alloc, "word", at, kind.name())),
+    }
+}
+
+/// Whether the category is among the sources.
+fn is_among(sources: &[CatId], category: CatId) -> bool
+    ensures { result ≡ list_any (λ d. d == category.0) (numbers_of sources.now) }
+{
+    sources.contains(&category)
+}
+
+/// The source that the word of this number names, behind these.
+fn source_at(
+    alloc: Global,
+    at: u64,
+    schema: &Schema,
+    sources: &[CatId],
+    name: &str,
+) -> Result<CatId, Stop>
+    ensures step { PlainStep IsAnswer
+        (with_source (schema_of schema.now).graph at (numbers_of sources.now) name.now)
+        (λ c. c.0) result }
+    ensures category { IfOk result (λ c. IsCategory (schema_of schema.now).graph c.0) }
+    ensures new { IfOk result (λ c.
+        list_any (λ d. d == c.0) (numbers_of sources.now) ≡ false) }
+{
+    match schema.graph().category(name.as_bytes()) {
+        Some(category) if is_among(sources, category) => Err(refuse_at(
+            alloc,
+            "word",
+            at,
+            "DuplicateSource",
+        )),
+        Some(category) => Ok(category),
+        None => Err(refuse_at(alloc, "word", at, "UnknownCategory")),
+    }
+}
+
+/// The sources that the words from this number on name, left to right.
+pub(crate) fn sources_at(
+    alloc: Global,
+    at: u64,
+    schema: &Schema,
+    names: &[String],
+) -> Result<Vec<CatId>, Stop>
+    requires few { at + length names.now < 2 ^ 64 }
+    ensures step { PlainStep IsAnswer
+        (with_sources (schema_of schema.now).graph at [] (texts names.now))
+        (λ sources. numbers_of sources.items) result }
+    ensures categories { IfOk result (λ sources.
+        All (IsCategory (schema_of schema.now).graph) (numbers_of sources.items)) }
+    ensures differ { IfOk result (λ sources. AllPairs ◌≢◌ (numbers_of sources.items)) }
+{
+    let mut sources = Vec::new(alloc);
+    'sources: for k in 0..names.len() {
+        let source = source_at(alloc, at + k as u64, schema, &sources, names[k].as_str())?;
+        sources.push(source)?;
+    }
+    Ok(sources)
+}
