@@ -15,6 +15,8 @@ mod limits;
 #[cfg(test)]
 mod many;
 #[cfg(test)]
+mod questions;
+#[cfg(test)]
 mod rollups;
 #[cfg(test)]
 mod running;

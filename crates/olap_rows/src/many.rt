@@ -63,14 +63,14 @@ fn limits_of_facts(rt: HostRuntime) -> Result<(), Fail> {
     let alloc = rt.alloc();
     let rows: [(String, Status, &str); 2] = [
         (
-            facts(alloc, 1_048_576)?,
+            facts(alloc, 8_388_608)?,
             Status::Yes,
-            "member,count,sum,least,greatest\nc1,1048576,1048576,1,1\n",
+            "member,count,sum,least,greatest\nc1,8388608,8388608,1,1\n",
         ),
         (
-            facts(alloc, 1_048_577)?,
+            facts(alloc, 8_388_609)?,
             Status::Refused,
-            "refused facts record 1048578 TooManyFacts\n",
+            "refused facts record 8388610 TooManyFacts\n",
         ),
     ];
     for (table, status, output) in &rows {
