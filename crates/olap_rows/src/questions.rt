@@ -2,6 +2,7 @@
 use crate::running::{check_status, grown};
 use crate::samples::{CHAIN, CYCLE, LOCATION};
 use olap_run::Status;
+use std::alloc::Global;
 use std::test::Fail;
 
 /// A command line over one schema, with its status and output.
@@ -161,4 +162,40 @@ fn of_chains(rt: HostRuntime) -> Result<(), Fail> {
         check_status(&rt, alloc, line, &[("S", empty.as_str())], status, output)?;
     }
     Ok(())
+}
+
+/// A schema whose question of S has one answer and 2 to the 26 sets of parents: its bottom S has 26 free parents, and a
+/// constraint that only T can meet, which has no member. No chain leads from S to Z.
+fn of_free_parents(alloc: Global) -> Result<String, Fail> {
+    let parents = [
+        "a", "b", "c", "d", "e", "f", "g", "h", "i", "j", "k", "l", "m", "n", "o", "p", "q", "r",
+        "s", "t", "u", "v", "w", "x", "y", "z",
+    ];
+    let mut text = String::from_str(alloc, "schema 1\ncategory S\ncategory T\ncategory Z\n")?;
+    for parent in parents {
+        text.push_str("category ")?;
+        text.push_str(parent)?;
+        text.push_str("\nedge S ")?;
+        text.push_str(parent)?;
+        text.push_str("\nedge ")?;
+        text.push_str(parent)?;
+        text.push_str(" All\n")?;
+    }
+    text.push_str("edge S T\nedge T All\nedge Z All\n")?;
+    text.push_str("constraint S: S_T ^ S.Z\nconstraint T: false\n")?;
+    Ok(text)
+}
+
+#[test]
+fn of_many_free_parents(rt: HostRuntime) -> Result<(), Fail> {
+    let text = of_free_parents(rt.alloc())?;
+    let line = ["satisfiable", "S", "S"];
+    check_status(
+        &rt,
+        rt.alloc(),
+        &line,
+        &[("S", text.as_str())],
+        Status::No,
+        "no\n",
+    )
 }
