@@ -86,7 +86,9 @@ fn views(rt: HostRuntime) {
     }
 }
 
-// Facts one at a time, from a list and from a text.
+const TWO_FACTS: &[u8] = b"member,count,sum,least,greatest\nc1,2,0,-5,5\n";
+
+// Facts one at a time.
 #[test]
 fn tallied_facts(rt: HostRuntime) {
     let alloc = rt.alloc();
@@ -107,17 +109,26 @@ fn tallied_facts(rt: HostRuntime) {
     tally.add(&first);
     tally.add(&second);
     assert!(rt; tally.added() == 2);
-    let wanted: &[u8] = b"member,count,sum,least,greatest\nc1,2,0,-5,5\n";
     let views = tally.into_views().expect(&rt, "views");
     for view in views.items() {
         let text = print_view(alloc, legal.instance(), view).expect(&rt, "a text");
-        assert!(rt; text.bytes() == wanted);
+        assert!(rt; text.bytes() == TWO_FACTS);
     }
+}
+
+// Facts of a text, of which no list is kept.
+#[test]
+fn rolled_up_facts(rt: HostRuntime) {
+    let alloc = rt.alloc();
+    let schema = schema(alloc, &rt, STORES);
+    let instance = read_instance(alloc, schema.graph(), MEMBERS).expect(&rt, "an instance");
+    let city = schema.graph().category(b"City").expect(&rt, "a category");
+    let legal = legal(alloc, &rt, &schema, instance);
     let facts: &[u8] = b"member,value\na,5\nb,-5\n";
     let views = roll_up(alloc, schema.graph(), &legal, facts, &[city]).expect(&rt, "views");
     assert!(rt; views.items().len() == 1);
     for view in views.items() {
         let text = print_view(alloc, legal.instance(), view).expect(&rt, "a text");
-        assert!(rt; text.bytes() == wanted);
+        assert!(rt; text.bytes() == TWO_FACTS);
     }
 }
