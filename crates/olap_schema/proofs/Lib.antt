@@ -1,5 +1,7 @@
 -- Lemmas.
 mod Counting
+pub mod PairCounting
+pub mod WithoutLemmas
 mod BracketLemmas
 mod LineLemmas
 mod PairLemmas

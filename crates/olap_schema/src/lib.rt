@@ -6,6 +6,7 @@
 #![tactic(auto)]
 
 mod atoms;
+mod copying;
 mod kinds;
 mod laws;
 mod lines;

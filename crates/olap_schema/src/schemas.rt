@@ -6,16 +6,18 @@ ghost use Rattle.olap_schema.specs.Lines.{lines_of};
 ghost use Rattle.olap_schema.specs.PrintingLaws.{AreTexts};
 ghost use Rattle.olap_schema.specs.Reading.{above_of};
 ghost use Rattle.olap_schema.specs.Schemas.{IsRefusedBy, ReadsLines, schema_of};
-ghost use Rattle.std.specs.Prelude.{◌≡◌, ◌<◌, ◌≤◌, ◌-◌, MatchResult, Ok, flat_map, length, map, slice_index};
+ghost use Rattle.std.specs.Prelude.{◌≡◌, ◌<◌, ◌≤◌, ◌-◌, IfOk, MatchResult, Ok, flat_map, length, map, slice_index};
+ghost use Rattle.olap_ast.specs.Findings.{without};
 ghost use Rattle.olap_ast.specs.Formula.{equalities};
 ghost use Rattle.olap_ast.specs.Trees.{constraint_of};
 ghost use Rattle.olap_ast.specs.Valid.{IsValidSchema};
 
+use crate::copying::others;
 use crate::lines::{chomped, first_line};
 use crate::reading::{Reading, begin, read_line};
 use crate::{FormulaRefusal, SchemaKind, SchemaRefusal};
 use olap_ast::Constraint;
-use olap_base::List;
+use olap_base::{List, Memory};
 use olap_graph::{Graph, GraphRefusal};
 use std::alloc::Global;
 use std::marker::Model;
@@ -25,6 +27,7 @@ use std::marker::Model;
 pub struct Schema {
     pub(crate) graph: Graph,
     pub(crate) constraints: List<Constraint>,
+    pub(crate) alloc: Global,
 }
 
 impl Model for Schema {
@@ -63,6 +66,20 @@ impl Schema {
     {
         self.constraints.items()
     }
+
+    /// The same schema without the constraint at this place. `Memory`: want of memory.
+    pub fn without(&self, index: usize) -> Result<Schema, Memory>
+        requires { index < length (schema_of self.now).constraints }
+        ensures { IfOk result (λ s. schema_of s ≡ without (schema_of self.now) index) }
+    {
+        let constraints = others(self.alloc, self.constraints.items(), index)?;
+        let graph = self.graph.copy()?;
+        Ok(Schema {
+            graph,
+            constraints: List::from_vec(constraints),
+            alloc: self.alloc,
+        })
+    }
 }
 
 /// The lines from the first to the last, or to the first with a fault.
@@ -85,7 +102,7 @@ fn read_lines(alloc: Global, reading: &mut Reading, text: &[u8]) -> Result<(), S
 }
 
 /// The schema of all lines, if each category reaches `All`.
-fn finish(reading: Reading) -> Result<Schema, SchemaRefusal>
+fn finish(alloc: Global, reading: Reading) -> Result<Schema, SchemaRefusal>
     requires { let a = above_of reading in GivesReadable (whole a (first_stuck a.graph)) }
     ensures { let a = above_of reading in
         let read = whole a (first_stuck a.graph) in
@@ -95,6 +112,7 @@ fn finish(reading: Reading) -> Result<Schema, SchemaRefusal>
         Ok(graph) => Ok(Schema {
             graph,
             constraints: List::from_vec(reading.constraints),
+            alloc,
         }),
         Err(GraphRefusal::NoWayToAll(c)) => {
             let line = line_of(&reading.category_lines, c.0);
@@ -149,7 +167,7 @@ fn read_from(alloc: Global, started: Reading, text: &[u8]) -> Result<Schema, Sch
                     kind: SchemaKind::BadForm,
                 });
             }
-            finish(reading)
+            finish(alloc, reading)
         }
         Err(e) => Err(e),
     }

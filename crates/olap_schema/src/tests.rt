@@ -83,3 +83,31 @@ fn formulas_are_read_and_schemas_printed(rt: HostRuntime) -> Result<(), Fail> {
     assert!(rt; text.bytes() == PRINTED);
     Ok(())
 }
+
+const THREE: &[u8] = b"schema 1
+category Store
+edge Store All
+constraint Store: Store = \"a\"
+constraint Store: Store = \"b\"
+constraint Store: Store = \"c\"
+";
+
+const WITHOUT_THE_SECOND: &[u8] = b"schema 1
+category Store
+edge Store All
+constraint Store: Store = \"a\"
+constraint Store: Store = \"c\"
+";
+
+#[test]
+fn a_constraint_is_taken_out(rt: HostRuntime) -> Result<(), Fail> {
+    let alloc = rt.alloc();
+    let schema = read_schema(alloc, THREE).map_err(|_| "refused")?;
+    if schema.constraints().len() != 3 {
+        return Err("not three".into());
+    }
+    let others = schema.without(1).map_err(|_| "memory")?;
+    let text = print_schema(alloc, &others).map_err(|_| "memory")?;
+    assert!(rt; text.bytes() == WITHOUT_THE_SECOND);
+    Ok(())
+}

@@ -12,7 +12,7 @@ pub returns-in-Err-NoWayToAll : goal.returns-in-Err-NoWayToAll
 returns-in-Err-NoWayToAll c =
     let way = rw c.in-Err-NoWayToAll.field-0-is at c.in-Err-NoWayToAll.ensures.err in
     whole_not (above_of c.args.reading) c.in-Err-NoWayToAll.c.0 _ way
-    (rw c.deref.ensures.value at c.line_of-line.ensures)
+    (rw (c.deref.ensures.value, c.in-Err-NoWayToAll.field-0-is) at c.line_of-line.ensures)
 
 pub invariant_of-result : goal.invariant_of-result
 invariant_of-result c =
