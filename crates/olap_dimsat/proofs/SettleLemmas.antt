@@ -9,7 +9,7 @@ use Rattle.olap_clauses.specs.declared.engine.Engine.{Engine}
 use Rattle.olap_clauses.specs.declared.trails.Step.{Step}
 use Rattle.olap_dimsat.specs.Tasks.{IsTask, Task, IsOne, constant_count, name_variable}
 use Rattle.olap_dimsat.specs.Reads.{Reads, IsShaped, index_in}
-use Rattle.olap_dimsat.specs.Pinned.{AreShaped, IsLeast, IsLonger, IsPinned, IsProbed, IsReady, IsSame, NoneAt, SayAt}
+use Rattle.olap_dimsat.specs.Pinned.{AreShaped, IsLeast, IsLonger, IsPinned, IsPlace, IsProbed, IsReady, IsReplaced, IsSame, NoneAt, NoneLess, SayAt}
 use Rattle.olap_dimsat.proofs.Truths.{same_is, is_same, not_true, none_is_zero, true_or_false}
 use Rattle.olap_dimsat.proofs.ReadLemmas.{index_small}
 
@@ -52,7 +52,7 @@ pub code_index : (t : Task) (f : Frozen) (c : ℕ) → IsOne t f → c ≢ 0
 code_index t f zero one n = absurd (n refl)
 code_index t f (suc c) one n = code_name t f (length t.graph.edges + suc c - 1) c one (omega arith)
 
-length-code : (t : Task) (f : Frozen) → IsOne t f → length (code f) ≡ length t.graph.edges + length t.graph.names
+pub length-code : (t : Task) (f : Frozen) → IsOne t f → length (code f) ≡ length t.graph.edges + length t.graph.names
 length-code t f one =
     let l : length (bits f.edges) ≡ length f.edges = length-bits f.edges in
     let a = length-append (bits f.edges) f.names in
@@ -109,24 +109,18 @@ same_less : (p : ℕ) (f w : Frozen) → IsSame (p + 1) f w → IsSame p f w
 same_less p f w s q h = s q (omega arith)
 
 pub pinned_more : (t : Task) (p : ℕ) (w : Frozen) (old new : List Step) → IsPinned t p w old
-    → SayAt t p (slice_index (code w) p) old new → AreShaped t new
-    → ((f : Frozen) → IsOne t f → IsSame p f w → slice_index (code w) p ≤ slice_index (code f) p) → IsPinned t (p + 1) w new
-pinned_more t p w old new i say shaped low = record {
+    → SayAt t p (slice_index (code w) p) old new → AreShaped t new → IsPinned t (p + 1) w new
+pinned_more t p w old new i say shaped = record {
   one = i.one;
   shaped = shaped;
   exactly = λ f v one r. (
     λ a. let s = (say f v one r).0 a in same_more p f w ((i.exactly f v one r).0 s.0) s.1,
     λ s. (say f v one r).1 ((i.exactly f v one r).1 (same_less p f w s), s p (omega arith)),
   );
-  least = λ f one q h s. elim (at_or_below q p h) [
-    | inl l ↦ i.least f one q l s
-    | inr z ↦ subst (λ m. slice_index (code w) m ≤ slice_index (code f) m) (sym z)
-        (low f one (subst (λ m. IsSame m f w) z s))
-  ];
 }
 
-pub pinned_other : (t : Task) (p : ℕ) (w x : Frozen) (steps : List Step) → IsPinned t p w steps → IsOne t x → IsSame p x w
-    → IsPinned t p x steps
+pub pinned_other : (t : Task) (p : ℕ) (w x : Frozen) (steps : List Step) → IsPinned t p w steps → IsOne t x
+    → IsSame p x w → IsPinned t p x steps
 pinned_other t p w x steps i one same = record {
   one = one;
   shaped = i.shaped;
@@ -134,11 +128,9 @@ pinned_other t p w x steps i one same = record {
     λ a q h. (i.exactly f v o r).0 a q h ∙ sym (same q h),
     λ s. (i.exactly f v o r).1 (λ q h. s q h ∙ same q h),
   );
-  least = λ f o q h s. subst (λ n. n ≤ slice_index (code f) q) (sym (same q h))
-      (i.least f o q h (λ k b. s k b ∙ same k (omega arith)));
 }
 
-at_least : (x y : ℕ) → ((k : ℕ) → k < x → y ≡ k → ⊥) → x ≤ y
+pub at_least : (x y : ℕ) → ((k : ℕ) → k < x → y ≡ k → ⊥) → x ≤ y
 at_least x y f = elim (which y x) [ inl l ↦ absurd (f y l refl) | inr h ↦ h ]
   where
     which : (y x : ℕ) → (y < x) ⊎ (x ≤ y)
@@ -151,24 +143,33 @@ low t p x w old e ready i none f one same =
     let v = ready f one in
     at_least x (slice_index (code f) p) (λ k h q. none k h f v.0 one v.1 ((i.exactly f v.0 one v.1).1 same) q)
 
-pub lowered : (t : Task) (p x : ℕ) (w y : Frozen) (old new : List Step) (e : Engine) → IsReady t e → IsPinned t p w old
-    → ((k : ℕ) → k < x → NoneAt t p k old) → AreShaped t new → IsProbed t p x y old new → IsPinned t (p + 1) y new
-lowered t p x w y old new e ready i none shaped b =
+pub none_less : (t : Task) (p x : ℕ) (w y : Frozen) (old : List Step) (e : Engine) → IsReady t e → IsPinned t p w old
+    → ((k : ℕ) → k < x → NoneAt t p k old) → IsSame p y w → slice_index (code y) p ≡ x → NoneLess t p y
+none_less t p x w y old e ready i none same q f one s =
+    subst (λ n. n ≤ slice_index (code f) p) (sym q)
+    (low t p x w old e ready i none f one (λ k h. s k h ∙ same k h))
+
+-- places before p stay as they were
+pub none_less_still : (t : Task) (p q : ℕ) (w y : Frozen) → q < p → IsSame p y w → NoneLess t q w → NoneLess t q y
+none_less_still t p q w y l same less f one s =
+    subst (λ n. n ≤ slice_index (code f) q) (sym (same q l)) (less f one (λ k h. s k h ∙ same k (omega arith)))
+
+pub replaced : (t : Task) (p x : ℕ) (w y : Frozen) (old new : List Step) (e : Engine) → IsReady t e → IsPinned t p w old
+    → AreShaped t new → IsProbed t p x y old new → IsReplaced t p x w y new
+replaced t p x w y old new e ready i shaped b =
     let v = ready y b.one in
     let s = (b.say y v.0 b.one v.1).0 (b.agrees v.0 v.1) in
-    let same = (i.exactly y v.0 b.one v.1).0 s.0 in
-    pinned_more t p y old new (pinned_other t p w y old i b.one same)
-    (subst (λ n. SayAt t p n old new) (sym s.1) b.say) shaped
-    (λ f one k. subst (λ n. n ≤ slice_index (code f) p) (sym s.1)
-    (low t p x w old e ready i none f one (λ q h. k q h ∙ same q h)))
+    let same = (i.exactly y v.0 b.one v.1).0 s.0 in record {
+      pinned = pinned_more t p y old new (pinned_other t p w y old i b.one same)
+          (subst (λ n. SayAt t p n old new) (sym s.1) b.say) shaped;
+      same = same;
+      number = s.1;
+    }
 
 -- w itself is what is left
-pub settled : (t : Task) (p x : ℕ) (w : Frozen) (old new : List Step) (e : Engine) → IsReady t e → IsPinned t p w old
-    → x ≡ slice_index (code w) p → ((k : ℕ) → k < x → NoneAt t p k old) → AreShaped t new → SayAt t p x old new
-    → IsPinned t (p + 1) w new
-settled t p x w old new e ready i q none shaped say =
-    pinned_more t p w old new i (subst (λ n. SayAt t p n old new) q say) shaped
-    (λ f one k. subst (λ n. n ≤ slice_index (code f) p) q (low t p x w old e ready i none f one k))
+pub kept : (t : Task) (p x : ℕ) (w : Frozen) (old new : List Step) → IsPinned t p w old → x ≡ slice_index (code w) p
+    → AreShaped t new → SayAt t p x old new → IsPinned t (p + 1) w new
+kept t p x w old new i q shaped say = pinned_more t p w old new i (subst (λ n. SayAt t p n old new) q say) shaped
 
 -- w has what stands there, so that literals may say so
 pub has_its_own : (t : Task) (p x : ℕ) (w : Frozen) (old : List Step) (e : Engine) → IsReady t e → IsPinned t p w old
@@ -181,12 +182,11 @@ pinned_start t w steps e one = subst (λ ss. IsPinned t 0 w ss) (sym e) (record 
   one = one;
   shaped = λ k d h. absurd (omega arith);
   exactly = λ f v o r. (λ a q h. absurd (omega arith), λ s. tt);
-  least = λ f o q h s. absurd (omega arith);
 })
 
 -- ---- the least
 
-not_after : (xs ys : List ℕ) → length xs ≡ length ys
+pub not_after : (xs ys : List ℕ) → length xs ≡ length ys
     → ((q : ℕ) → q < length xs → ((k : ℕ) → k < q → slice_index ys k ≡ slice_index xs k) → slice_index xs q ≤ slice_index ys q)
     → IsNotAfter xs ys
 not_after [] ys e f = tt
@@ -204,13 +204,13 @@ not_after (x ∷ xs) (y ∷ ys) e f = elim (cases x y (f 0 (omega arith) (λ k h
     same q k s zero h = sym q
     same q k s (suc j) h = s j (omega arith)
 
-pub least_of_pinned : (t : Task) (p : ℕ) (w : Frozen) (steps : List Step)
-    → length t.graph.edges + length t.graph.names ≤ p → IsTask t → IsPinned t p w steps → IsLeast t w
-least_of_pinned t p w steps h k i = record {
+pub least_of_places : (t : Task) (w : Frozen) → IsTask t → IsOne t w → ((p : ℕ) → IsPlace t p → NoneLess t p w)
+    → IsLeast t w
+least_of_places t w k one less = record {
   candidates = k.candidates;
-  is_one = i.one;
-  least = λ f one. not_after (code w) (code f) (length-code t w i.one ∙ sym (length-code t f one))
-      (λ q b s. i.least f one q (let l = length-code t w i.one in omega arith) s);
+  is_one = one;
+  least = λ f o. not_after (code w) (code f) (length-code t w one ∙ sym (length-code t f o))
+      (λ q b s. less q (let l = length-code t w one in omega arith) f o s);
 }
 
 -- ---- trails

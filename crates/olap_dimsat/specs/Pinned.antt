@@ -32,14 +32,15 @@ AreShaped t steps = All (λ s. IsShaped t s.lit) steps
 abbrev pub IsSame : ℕ → Frozen → Frozen → Type 0
 IsSame p f w = (q : ℕ) → q < p → slice_index (code f) q ≡ slice_index (code w) q
 
--- w is a frozen dimension, the literals say that its first p places are as they are, and no frozen dimension has
--- less at the first of these places where it differs
+-- w is a frozen dimension, and the literals say that its first p places are as they are
 pub record IsPinned (t : Task) (p : ℕ) (w : Frozen) (steps : List Step) : Type 0 where
   pub one : IsOne t w
   pub shaped : AreShaped t steps
   pub exactly : (f : Frozen) (v : ℕ → Bool) → IsOne t f → Reads t f v → Agrees v steps ↔ IsSame p f w
-  pub least : (f : Frozen) → IsOne t f → (q : ℕ) → q < p → IsSame q f w
-      → slice_index (code w) q ≤ slice_index (code f) q
+
+-- no frozen dimension that is as w before the place p has less there
+abbrev pub NoneLess : Task → ℕ → Frozen → Type 0
+NoneLess t p w = (f : Frozen) → IsOne t f → IsSame p f w → slice_index (code w) p ≤ slice_index (code f) p
 
 -- the literals say that the frozen dimension has x at the place p
 abbrev pub SayAt : Task → ℕ → ℕ → List Step → List Step → Type 0
@@ -72,3 +73,9 @@ pub record IsProbed (t : Task) (p x : ℕ) (w : Frozen) (old new : List Step) : 
   pub say : SayAt t p x old new
   pub one : IsOne t w
   pub agrees : (v : ℕ → Bool) → Reads t w v → Agrees v new
+
+-- y is as w before the place p and has x there, and the literals say so
+pub record IsReplaced (t : Task) (p x : ℕ) (w y : Frozen) (steps : List Step) : Type 0 where
+  pub pinned : IsPinned t (p + 1) y steps
+  pub same : IsSame p y w
+  pub number : slice_index (code y) p ≡ x

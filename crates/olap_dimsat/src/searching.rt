@@ -1,19 +1,23 @@
 // The search as a value: room for one task.
-ghost use Rattle.std.specs.Prelude.{◌≡◌, ◌≤◌, IfOk, IsTrue, false, length, map};
+ghost use Rattle.std.specs.Prelude.{◌≡◌, ◌≤◌, All, Err, IfOk, IsTrue, false, length, map};
 ghost use Rattle.olap_ast.specs.Constants.{all_equalities};
 ghost use Rattle.olap_ast.specs.Questions.{NoneFrozen};
 ghost use Rattle.olap_ast.specs.Trees.{constraint_of, formula_of};
 ghost use Rattle.olap_ast.specs.Valid.{IsFormulaAt, IsValidSchema, distinct_pairs};
 ghost use Rattle.olap_base.specs.Graph.{IsCategory, category_count};
 ghost use Rattle.olap_base.specs.Limits.{most_constants};
+ghost use Rattle.olap_dimsat.specs.Listed.{AreAllFrozen, AreMoreThan};
+ghost use Rattle.olap_dimsat.specs.declared.searching.AllRefusal.TheVariants as refusal;
 ghost use Rattle.olap_dimsat.specs.Searches.{IsMadeWith, IsSizedFor, candidates_in, found_in, named_in, root_of};
-ghost use Rattle.olap_frozen.specs.LeastFound.{IsLeastFound};
+ghost use Rattle.olap_frozen.specs.LeastFound.{IsLeastFound, frozen_of};
+ghost use Rattle.olap_frozen.specs.Leaves.{IsSized};
 ghost use Rattle.olap_names.specs.Names.{with_graph};
 ghost use Rattle.olap_schema.specs.Schemas.{schema_of};
 
 use crate::asker::{Asker, Leaf};
 use crate::encoding::encode;
 use crate::layout::Layout;
+use crate::listing::list;
 use crate::settling::least;
 use olap_ast::{Constraint, Formula};
 use olap_base::{CatId, List, Memory};
@@ -35,6 +39,25 @@ pub struct Search {
     leaf: Leaf,
     best: Frozen,
     alloc: Global,
+}
+
+/// Why there is no list of all frozen dimensions.
+#[derive(Clone, Copy, PartialEq, Eq, Debug)]
+pub enum AllRefusal {
+    /// There are more than the list may have.
+    TooMany,
+    /// There is no room for the list.
+    Memory,
+}
+
+impl From<Memory> for AllRefusal {
+    ghost use Rattle.olap_dimsat.specs.declared.searching.AllRefusal.TheVariants as refusal;
+
+    ghost from_gives = { λ _ e. e ≡ refusal.Memory };
+
+    fn from(_: Memory) -> Self {
+        AllRefusal::Memory
+    }
 }
 
 // A value with nothing present.
@@ -191,6 +214,77 @@ impl Search {
         let graph = schema.graph();
         let constraints = schema.constraints();
         self.first_over(graph, constraints, question, into)
+    }
+
+    // All of them, over this graph and these constraints.
+    fn all_over(
+        &mut self,
+        graph: &Graph,
+        constraints: &[Constraint],
+        question: &Formula,
+        limit: usize,
+    ) -> Result<List<Frozen>, AllRefusal>
+        requires made { IsMadeWith (with_graph graph.now (map constraint_of constraints.now))
+            (formula_of question.now) self.old }
+        ensures all { IfOk result (λ list. AreAllFrozen (with_graph graph.now (map constraint_of constraints.now))
+            (formula_of question.now) (root_of self.old) (candidates_in self.old) (map frozen_of list)) }
+        ensures few { IfOk result (λ list. length list ≤ limit) }
+        ensures roots { IfOk result (λ list. All (λ f. f.root.0 ≡ root_of self.old) list) }
+        ensures sized { IfOk result (λ list. All
+            (λ f. IsSized graph.now (named_in self.old) f.edges f.names) list) }
+        ensures too_many { result ≡ Err refusal.TooMany
+            → AreMoreThan limit (with_graph graph.now (map constraint_of constraints.now))
+            (formula_of question.now) (root_of self.old) (candidates_in self.old) }
+        ensures candidates { named_in self.new ≡ named_in self.old }
+        ensures root { root_of self.new ≡ root_of self.old }
+        ensures made { IsMadeWith (with_graph graph.now (map constraint_of constraints.now))
+            (formula_of question.now) self.new }
+    {
+        let asker = Asker {
+            graph,
+            constraints,
+            question,
+            root: self.root,
+            candidates: &self.candidates,
+            layout: &self.layout,
+        };
+        let listed = list(
+            self.alloc,
+            &mut self.engine,
+            &asker,
+            &mut self.leaf,
+            &mut self.best,
+            limit,
+        );
+        self.engine.undo(0);
+        listed
+    }
+
+    /// All frozen dimensions whose root makes the question true, by their codes, where they are at most `limit`.
+    ///
+    /// `TooMany`: exactly where there are more. It takes memory for the list alone.
+    pub fn all(
+        &mut self,
+        schema: &Schema,
+        question: &Formula,
+        limit: usize,
+    ) -> Result<List<Frozen>, AllRefusal>
+        requires made { IsMadeWith (schema_of schema.now) (formula_of question.now) self.old }
+        ensures all { IfOk result (λ list. AreAllFrozen (schema_of schema.now) (formula_of question.now)
+            (root_of self.old) (candidates_in self.old) (map frozen_of list)) }
+        ensures few { IfOk result (λ list. length list ≤ limit) }
+        ensures roots { IfOk result (λ list. All (λ f. f.root.0 ≡ root_of self.old) list) }
+        ensures sized { IfOk result (λ list. All
+            (λ f. IsSized (schema_of schema.now).graph (named_in self.old) f.edges f.names) list) }
+        ensures too_many { result ≡ Err refusal.TooMany → AreMoreThan limit (schema_of schema.now)
+            (formula_of question.now) (root_of self.old) (candidates_in self.old) }
+        ensures candidates { named_in self.new ≡ named_in self.old }
+        ensures root { root_of self.new ≡ root_of self.old }
+        ensures made { IsMadeWith (schema_of schema.now) (formula_of question.now) self.new }
+    {
+        let graph = schema.graph();
+        let constraints = schema.constraints();
+        self.all_over(graph, constraints, question, limit)
     }
 
     /// The candidates of the schema and the question that it was made with.

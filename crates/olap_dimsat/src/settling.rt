@@ -10,7 +10,7 @@ ghost use Rattle.olap_ast.specs.Frozen.{Frozen as TheFrozen, code};
 ghost use Rattle.olap_dimsat.specs.Tasks.{IsOne, IsTask, constant_count};
 ghost use Rattle.olap_dimsat.specs.Reads.{IsShaped};
 ghost use Rattle.olap_dimsat.specs.Asking.{IsFor, IsSuited, task_of};
-ghost use Rattle.olap_dimsat.specs.Pinned.{AreShaped, InRange, IsLeast, IsLonger, IsPinned, IsPlace, IsProbed, IsReady, NoneAt, SayAt};
+ghost use Rattle.olap_dimsat.specs.Pinned.{AreShaped, InRange, IsLeast, IsLonger, IsPinned, IsPlace, IsProbed, IsReady, IsReplaced, IsSame, NoneAt, NoneLess, SayAt};
 
 use crate::asker::{Asker, Leaf};
 use crate::existing::exists;
@@ -134,8 +134,8 @@ fn probe(engine: &mut Engine, a: &Asker<'_>, leaf: &mut Leaf, p: u16, x: u16) ->
     exists(engine, a, leaf)
 }
 
-// Is there one with this number at this place, that agrees before? It is then the best one.
-fn lower(
+/// Is there one with this number at this place, that agrees before? It is then the best one.
+pub(crate) fn replace(
     engine: &mut Engine,
     a: &Asker<'_>,
     leaf: &mut Leaf,
@@ -149,8 +149,8 @@ fn lower(
     requires ready { IsReady (task_of a.now) engine.old }
     requires best { IsFor (task_of a.now) best.old }
     requires pinned { IsPinned (task_of a.now) p (chosen_of best.old.edges best.old.names) (trail_of engine.old) }
-    requires none { (k : ℕ) → k < x → NoneAt (task_of a.now) p k (trail_of engine.old) }
-    ensures yes { result ≡ true → IsPinned (task_of a.now) (p + 1) (chosen_of best.new.edges best.new.names) (trail_of engine.new) }
+    ensures yes { result ≡ true → IsReplaced (task_of a.now) p x (chosen_of best.old.edges best.old.names)
+        (chosen_of best.new.edges best.new.names) (trail_of engine.new) }
     ensures no { result ≡ false → NoneAt (task_of a.now) p x (trail_of engine.old) }
     ensures trail { result ≡ false → trail_of engine.new ≡ trail_of engine.old }
     ensures stays { result ≡ false → best.new ≡ best.old }
@@ -167,8 +167,8 @@ fn lower(
     false
 }
 
-// The number at this place of the code.
-fn number_at(a: &Asker<'_>, best: &Frozen, p: u16) -> u16
+/// The number at this place of the code.
+pub(crate) fn number_at(a: &Asker<'_>, best: &Frozen, p: u16) -> u16
     requires best { IsFor (task_of a.now) best.now }
     requires one { IsOne (task_of a.now) (chosen_of best.now.edges best.now.names) }
     requires place { IsPlace (task_of a.now) p }
@@ -183,6 +183,22 @@ fn number_at(a: &Asker<'_>, best: &Frozen, p: u16) -> u16
     }
 }
 
+/// Decides that this place stays as it is in the best one.
+pub(crate) fn keep(engine: &mut Engine, a: &Asker<'_>, best: &Frozen, p: u16)
+    requires task { IsTask (task_of a.now) }
+    requires place { IsPlace (task_of a.now) p }
+    requires ready { IsReady (task_of a.now) engine.old }
+    requires best { IsFor (task_of a.now) best.now }
+    requires pinned { IsPinned (task_of a.now) p (chosen_of best.now.edges best.now.names) (trail_of engine.old) }
+    requires variables { variables_of engine.old ≡ a.now.layout.now.variables }
+    ensures pinned { IsPinned (task_of a.now) (p + 1) (chosen_of best.now.edges best.now.names) (trail_of engine.new) }
+    ensures variables { variables_of engine.new ≡ variables_of engine.old }
+    ensures ready { IsReady (task_of a.now) engine.new }
+{
+    let number = number_at(a, best, p);
+    let _ = assume_at(engine, a, p, number);
+}
+
 // One place more.
 fn settle(engine: &mut Engine, a: &Asker<'_>, leaf: &mut Leaf, best: &mut Frozen, p: u16)
     requires place { IsPlace (task_of a.now) p }
@@ -191,17 +207,51 @@ fn settle(engine: &mut Engine, a: &Asker<'_>, leaf: &mut Leaf, best: &mut Frozen
     requires best { IsFor (task_of a.now) best.old }
     requires pinned { IsPinned (task_of a.now) p (chosen_of best.old.edges best.old.names) (trail_of engine.old) }
     ensures pinned { IsPinned (task_of a.now) (p + 1) (chosen_of best.new.edges best.new.names) (trail_of engine.new) }
+    ensures same { IsSame p (chosen_of best.new.edges best.new.names) (chosen_of best.old.edges best.old.names) }
+    ensures least { NoneLess (task_of a.now) p (chosen_of best.new.edges best.new.names) }
     ensures best { IsFor (task_of a.now) best.new }
     ensures suited { IsSuited (task_of a.now) leaf.new (variables_of engine.new) }
     ensures ready { IsReady (task_of a.now) engine.new }
 {
     let number = number_at(a, best, p);
     'numbers: for x in 0..number {
-        if lower(engine, a, leaf, best, p, x) {
+        if replace(engine, a, leaf, best, p, x) {
             return;
         }
     }
-    let _ = assume_at(engine, a, p, number);
+    keep(engine, a, best, p);
+}
+
+/// How many places codes have.
+pub(crate) fn places(a: &Asker<'_>) -> u16
+    ensures { (p : ℕ) → p < result ↔ IsPlace (task_of a.now) p }
+{
+    a.graph.edges() + a.graph.categories() - 1
+}
+
+/// Makes the best one the least of those that agree with it before this place.
+pub(crate) fn settle_from(
+    engine: &mut Engine,
+    a: &Asker<'_>,
+    leaf: &mut Leaf,
+    best: &mut Frozen,
+    from: u16,
+)
+    requires suited { IsSuited (task_of a.now) leaf.old (variables_of engine.old) }
+    requires ready { IsReady (task_of a.now) engine.old }
+    requires best { IsFor (task_of a.now) best.old }
+    requires pinned { IsPinned (task_of a.now) from (chosen_of best.old.edges best.old.names) (trail_of engine.old) }
+    ensures one { IsOne (task_of a.now) (chosen_of best.new.edges best.new.names) }
+    ensures same { IsSame from (chosen_of best.new.edges best.new.names) (chosen_of best.old.edges best.old.names) }
+    ensures least { (p : ℕ) → from ≤ p → IsPlace (task_of a.now) p
+        → NoneLess (task_of a.now) p (chosen_of best.new.edges best.new.names) }
+    ensures best { IsFor (task_of a.now) best.new }
+    ensures suited { IsSuited (task_of a.now) leaf.new (variables_of engine.new) }
+    ensures ready { IsReady (task_of a.now) engine.new }
+{
+    'places: for p in from..places(a) {
+        settle(engine, a, leaf, best, p);
+    }
 }
 
 /// Finds the least, place by place. False: there is none.
@@ -220,8 +270,6 @@ pub(crate) fn least(engine: &mut Engine, a: &Asker<'_>, leaf: &mut Leaf, best: &
         return false;
     }
     swap(best, &mut leaf.frozen);
-    'places: for p in 0..a.graph.edges() + a.graph.categories() - 1 {
-        settle(engine, a, leaf, best, p);
-    }
+    settle_from(engine, a, leaf, best, 0);
     true
 }

@@ -1,22 +1,23 @@
-use Rattle.std.proofs.Common.{◌+◌, refl, sym, subst}
+use Rattle.std.proofs.Common.{refl, sym, subst}
 use Rattle.olap_clauses.specs.Engines.{trail_of}
 use Rattle.olap_frozen.specs.declared.frozen.Frozen.{Frozen}
 use Rattle.olap_frozen.specs.Leaves.{chosen_of}
 use Rattle.olap_dimsat.specs.Asking.{task_of}
-use Rattle.olap_dimsat.specs.Pinned.{IsPinned}
+use Rattle.olap_dimsat.specs.Pinned.{IsReplaced}
 use Rattle.olap_dimsat.proofs.WitnessLemmas.{ready_still}
-use Rattle.olap_dimsat.proofs.SettleLemmas.{lowered}
-use Rattle.olap_dimsat.proofs.settling.lower.Goals as goal
+use Rattle.olap_dimsat.proofs.SettleLemmas.{replaced}
+use Rattle.olap_dimsat.proofs.settling.replace.Goals as goal
 
 pub returns-then-probe-clause-yes : goal.returns-then-probe-clause-yes
 returns-then-probe-clause-yes c = λ e.
     let t = task_of c.args.a.now in
     let best = c.args.best.now in
     let leaf = c.probe.new.leaf.frozen in
-    subst (λ (f : Frozen). IsPinned t (c.args.p + 1) (chosen_of f.edges f.names) (trail_of c.probe.new.engine)) (sym c.swap.ensures.x_after)
-    (lowered t c.args.p c.args.x (chosen_of best.edges best.names) (chosen_of leaf.edges leaf.names) (trail_of c.args.engine.now)
-    (trail_of c.probe.new.engine) c.args.engine.now c.requires.ready c.requires.pinned c.requires.none c.probe.ensures.shaped
-    (c.if-probe.ensures.yes refl))
+    subst (λ (f : Frozen). IsReplaced t c.args.p c.args.x (chosen_of best.edges best.names) (chosen_of f.edges f.names)
+    (trail_of c.probe.new.engine)) (sym c.swap.ensures.x_after)
+    (replaced t c.args.p c.args.x (chosen_of best.edges best.names) (chosen_of leaf.edges leaf.names)
+    (trail_of c.args.engine.now) (trail_of c.probe.new.engine) c.args.engine.now c.requires.ready c.requires.pinned
+    c.probe.ensures.shaped (c.if-probe.ensures.yes refl))
 
 pub returns-clause-ready : goal.returns-clause-ready
 returns-clause-ready c = ready_still (task_of c.args.a.now) c.probe.new.engine c.undo.new.self c.probe.ensures.ready

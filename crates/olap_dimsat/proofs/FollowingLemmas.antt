@@ -1,0 +1,204 @@
+-- The frozen dimension that comes next by its code.
+use Rattle.std.proofs.Common.{◌≡◌, ℕ, zero, suc, ◌+◌, ◌-◌, ◌<◌, ◌≤◌, List, [], ◌∷◌, length, Bool, true, false, refl, ap, sym, subst, ◌∙◌, ◌⊎◌, inl, inr, arith}
+use Rattle.std.specs.Prelude.{slice_index, slice_index_or}
+use Rattle.std.proofs.lemmas.List.{ext_get_or}
+use Rattle.olap_ast.specs.Frozen.{Frozen, code}
+use Rattle.olap_ast.specs.Violation.{IsNotAfter}
+use Rattle.olap_dimsat.specs.Following.{IsNext, IsRaised, NoneAfter, NoneMore}
+use Rattle.olap_dimsat.specs.Listed.{IsBefore}
+use Rattle.olap_clauses.specs.declared.engine.Engine.{Engine}
+use Rattle.olap_clauses.specs.declared.trails.Step.{Step}
+use Rattle.olap_dimsat.specs.Pinned.{InRange, IsPinned, IsPlace, IsReady, IsReplaced, IsSame, NoneAt, NoneLess}
+use Rattle.olap_dimsat.specs.Tasks.{Task, IsOne, constant_count}
+use Rattle.olap_dimsat.proofs.SettleLemmas.{at_least, bit, code_edge, code_name, length-code, not_after, same_bit}
+
+-- ---- lists of numbers
+
+-- the first place where two lists differ, and the second has more there
+pub record Differ (xs ys : List ℕ) : Type 0 where
+  pub place : ℕ
+  pub inside : place < length xs
+  pub same : (k : ℕ) → k < place → slice_index ys k ≡ slice_index xs k
+  pub more : slice_index xs place < slice_index ys place
+
+first_place : (xs ys : List ℕ) → length xs ≡ length ys → IsNotAfter xs ys → (xs ≡ ys → ⊥) → Differ xs ys
+first_place [] [] e n d = absurd (d refl)
+first_place [] (y ∷ ys) e n d = absurd (omega arith)
+first_place (x ∷ xs) [] e n d = absurd n
+first_place (x ∷ xs) (y ∷ ys) e (inl l) d = record {
+  place = 0;
+  inside = omega arith;
+  same = λ k h. absurd (omega arith);
+  more = l;
+}
+first_place (x ∷ xs) (y ∷ ys) e (inr t) d =
+    let r = first_place xs ys (omega arith) t.1 (λ q. let p = t.0 in d (cc)) in record {
+      place = suc r.place;
+      inside = let i = r.inside in omega arith;
+      same = same t.0 r.place r.same;
+      more = r.more;
+    }
+  where
+    same : x ≡ y → (n : ℕ) → ((k : ℕ) → k < n → slice_index ys k ≡ slice_index xs k)
+        → (k : ℕ) → k < suc n → slice_index (y ∷ ys) k ≡ slice_index (x ∷ xs) k
+    same q n s zero h = sym q
+    same q n s (suc k) h = s k (omega arith)
+
+which : (x y : ℕ) → (x < y) ⊎ ((x ≡ y) ⊎ (y < x))
+which x y = grind arith
+
+-- where the second list first differs it has no less
+at_first : (xs ys : List ℕ) → Differ xs ys → (q : ℕ)
+    → ((k : ℕ) → k < q → slice_index ys k ≡ slice_index xs k) → slice_index xs q ≤ slice_index ys q
+at_first xs ys d q s = elim (which q d.place) [
+  | inl l ↦ let e = d.same q l in omega arith
+  | inr r ↦ elim r [
+    | inl e ↦ at_place e
+    | inr l ↦ let e = s d.place l in let m = d.more in absurd (omega arith)
+  ]
+]
+  where
+    at_place : q ≡ d.place → slice_index xs q ≤ slice_index ys q
+    at_place e = let a = ap (slice_index xs) e in let b = ap (slice_index ys) e in let m = d.more in omega arith
+
+-- more at a place and the same before comes after
+after_at : (xs ys : List ℕ) → length xs ≡ length ys → (p : ℕ) → p < length xs
+    → ((k : ℕ) → k < p → slice_index ys k ≡ slice_index xs k) → slice_index xs p < slice_index ys p → IsNotAfter xs ys
+after_at xs ys e p i s m = not_after xs ys e
+    (λ q h. at_first xs ys (record { place = p; inside = i; same = s; more = m }) q)
+
+-- ---- codes
+
+-- the code says which frozen dimension it is
+pub code_one : (t : Task) (f h : Frozen) → IsOne t f → IsOne t h → code f ≡ code h → f ≡ h
+code_one t f h a b q =
+    let es : f.edges ≡ h.edges = ext_get_or false f.edges h.edges (a.edge_count ∙ sym b.edge_count)
+    (λ e l. let n = a.edge_count in same_bit _ _
+    (sym (code_edge t f e a (omega arith)) ∙ ap (λ c. slice_index c e) q ∙ code_edge t h e b (omega arith))) in
+    let ns : f.names ≡ h.names = ext_get_or 0 f.names h.names (a.name_count ∙ sym b.name_count)
+    (λ c l. let p = length t.graph.edges + c in
+    sym (code_name t f p c a refl) ∙ ap (λ c. slice_index c p) q ∙ code_name t h p c b refl) in
+    λ i. record { edges = es i; names = ns i }
+
+pub same_length : (t : Task) (f h : Frozen) → IsOne t f → IsOne t h → length (code f) ≡ length (code h)
+same_length t f h a b = length-code t f a ∙ sym (length-code t h b)
+
+differ : (t : Task) (w f : Frozen) → IsOne t w → IsOne t f → IsBefore w f → Differ (code w) (code f)
+differ t w f a b l = first_place (code w) (code f) (same_length t w f a b) l.0 (λ q. l.1 (code_one t w f a b q))
+
+place_inside : (t : Task) (w : Frozen) (p : ℕ) → IsOne t w → IsPlace t p → p < length (code w)
+place_inside t w p one h = let l = length-code t w one in omega arith
+
+inside_place : (t : Task) (w : Frozen) (p : ℕ) → IsOne t w → p < length (code w) → IsPlace t p
+inside_place t w p one h = let l = length-code t w one in omega arith
+
+-- ---- the next one
+
+module _ (t : Task) (p : ℕ) (w x y : Frozen) (a : IsOne t w) (b : IsOne t y) (place : IsPlace t p)
+    (r : IsRaised t p w x) (settled : IsSame (p + 1) y x) (less : (q : ℕ) → p + 1 ≤ q → IsPlace t q → NoneLess t q y)
+    (none : (q : ℕ) → p < q → IsPlace t q → NoneMore t q w) where
+  before : (k : ℕ) → k < p → slice_index (code y) k ≡ slice_index (code w) k
+  before k h = settled k (omega arith) ∙ r.same k h
+
+  here : slice_index (code y) p ≡ slice_index (code x) p
+  here = settled p (omega arith)
+
+  comes_after : IsBefore w y
+  comes_after = (
+    after_at (code w) (code y) (same_length t w y a b) p (place_inside t w p a place) before
+        (let m = r.more in let e = here in omega arith),
+    λ q. let e = ap (λ f. slice_index (code f) p) q in let m = r.more in let z = here in omega arith,
+  )
+
+  -- one that comes after w, and is as w before p, has more at p
+  more_here : (f : Frozen) → IsOne t f → Differ (code w) (code f) → IsSame p f w
+      → slice_index (code w) p < slice_index (code f) p
+  more_here f one d s = elim (which d.place p) [
+    | inl l ↦ let e = s d.place l in let m = d.more in absurd (omega arith)
+    | inr z ↦ elim z [
+      | inl e ↦
+          let m = d.more in let u = ap (slice_index (code w)) e in let v = ap (slice_index (code f)) e in omega arith
+      | inr l ↦ absurd (none d.place l (inside_place t w d.place a d.inside) f one d.same d.more)
+    ]
+  ]
+
+  no_less : (f : Frozen) → IsOne t f → Differ (code w) (code f) → (q : ℕ) → IsPlace t q → IsSame q f y
+      → slice_index (code y) q ≤ slice_index (code f) q
+  no_less f one d q inside s = elim (which q p) [
+    | inl l ↦
+        let e = before q l in
+        let m = at_first (code w) (code f) d q (λ k h. s k h ∙ before k (omega arith)) in omega arith
+    | inr z ↦ elim z [
+      | inl e ↦ at_p e
+      | inr l ↦ less q (omega arith) inside f one s
+    ]
+  ]
+    where
+      at_p : q ≡ p → slice_index (code y) q ≤ slice_index (code f) q
+      at_p e =
+          let same : IsSame p f w = λ k h. s k (omega arith) ∙ before k h in
+          let m = r.least f one same (more_here f one d same) in
+          let z = here in
+          let u = ap (slice_index (code y)) e in let v = ap (slice_index (code f)) e in omega arith
+
+  pub next_of : IsNext t w y
+  next_of = record {
+    one = b;
+    after = comes_after;
+    least = λ f one l. not_after (code y) (code f) (same_length t y f b one)
+        (λ q h s. no_less f one (differ t w f a one l) q (inside_place t y q b h) s);
+  }
+
+pub none_after : (t : Task) (w : Frozen) → IsOne t w → ((q : ℕ) → IsPlace t q → NoneMore t q w) → NoneAfter t w
+none_after t w a none f one l =
+    let d = differ t w f a one l in none d.place (inside_place t w d.place a d.inside) f one d.same d.more
+
+-- ---- more at one place
+
+-- what stands at a place may stand there
+in_range : (t : Task) (f : Frozen) (p : ℕ) → IsOne t f → IsPlace t p → InRange t p (slice_index (code f) p)
+in_range t f p one h = record { edge = edge; name = name }
+  where
+    small : (b : Bool) → bit b ≤ 1
+    small true = omega arith
+    small false = omega arith
+
+    edge : p < length t.graph.edges → slice_index (code f) p ≤ 1
+    edge l = let e = code_edge t f p one l in let s = small (slice_index_or f.edges p false) in omega arith
+
+    name : length t.graph.edges ≤ p → slice_index (code f) p ≤ constant_count t (p - length t.graph.edges + 1)
+    name l =
+        let c = p - length t.graph.edges in
+        let e = code_name t f p c one (omega arith) in
+        let r = one.in_range c (let n = one.name_count in omega arith) in
+        let s : suc c ≡ c + 1 = omega arith in
+        subst (λ k. slice_index (code f) p ≤ constant_count t k) s (omega arith)
+
+pub none_full : (t : Task) (p n most : ℕ) (w : Frozen) → IsPlace t p → n ≡ slice_index (code w) p
+    → ((x : ℕ) → InRange t p x → x ≤ most) → most ≤ n → NoneMore t p w
+none_full t p n most w h q top l f one s m =
+    let r = top (slice_index (code f) p) (in_range t f p one h) in omega arith
+
+-- numbers above n were tried up to this one, and none that agrees has them
+abbrev pub NoneBetween : Task → ℕ → ℕ → ℕ → List Step → Type 0
+NoneBetween t p n x steps = (k : ℕ) → n < k → k < x → NoneAt t p k steps
+
+pub none_more : (t : Task) (p n most : ℕ) (w : Frozen) (old : List Step) (e : Engine) → IsReady t e → IsPinned t p w old
+    → IsPlace t p → n ≡ slice_index (code w) p → ((x : ℕ) → InRange t p x → x ≤ most) → NoneBetween t p n (most + 1) old
+    → NoneMore t p w
+none_more t p n most w old e ready i h q top none f one s m =
+    let r = top (slice_index (code f) p) (in_range t f p one h) in
+    let v = ready f one in
+    none (slice_index (code f) p) (omega arith) (omega arith) f v.0 one v.1 ((i.exactly f v.0 one v.1).1 s) refl
+
+pub raised : (t : Task) (p n x : ℕ) (w y : Frozen) (old new : List Step) (e : Engine) → IsReady t e → IsPinned t p w old
+    → n ≡ slice_index (code w) p → n < x → NoneBetween t p n x old → IsReplaced t p x w y new → IsRaised t p w y
+raised t p n x w y old new e ready i q l none r = record {
+  same = r.same;
+  more = let a = r.number in omega arith;
+  least = λ f one s m.
+      let v = ready f one in
+      let b = at_least x (slice_index (code f) p)
+      (λ k h z. none k (omega arith) h f v.0 one v.1 ((i.exactly f v.0 one v.1).1 s) z) in
+      let a = r.number in omega arith;
+}

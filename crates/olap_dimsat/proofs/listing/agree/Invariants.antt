@@ -1,0 +1,13 @@
+use Rattle.std.proofs.Common.{◌≡◌}
+use Rattle.olap_clauses.specs.Engines.{trail_of, variables_of}
+use Rattle.olap_frozen.specs.Leaves.{chosen_of}
+use Rattle.olap_dimsat.specs.Asking.{task_of}
+use Rattle.olap_dimsat.specs.Pinned.{IsPinned, IsReady}
+use Rattle.olap_dimsat.proofs.listing.agree.Given as goal
+
+abbrev pub invariant-places : goal.invariant-places
+invariant-places l = record {
+  pinned : IsPinned (task_of l.a) l.q (chosen_of l.best.edges l.best.names) (trail_of l.engine);
+  variables : variables_of l.engine ≡ variables_of l.fn.engine;
+  ready : IsReady (task_of l.a) l.engine;
+}

@@ -1,0 +1,50 @@
+use Rattle.std.proofs.Common.{List, sym, subst, map, arith}
+use Rattle.olap_ast.specs.Frozen.{Frozen}
+use Rattle.std.proofs.lemmas.List.{length-map}
+use Rattle.olap_frozen.specs.declared.frozen.Frozen as kept
+use Rattle.olap_frozen.specs.LeastFound.{frozen_of}
+use Rattle.olap_names.specs.Names.{candidates_of}
+use Rattle.olap_dimsat.specs.Listed.{AreAllFrozen}
+use Rattle.olap_dimsat.specs.Tasks.{schema_of}
+use Rattle.olap_dimsat.specs.Asking.{task_of}
+use Rattle.olap_dimsat.proofs.ListedLemmas.{HasAll, IsAhead, IsFront, ahead_more, all_frozen, front_more, has_all, more_than}
+use Rattle.olap_dimsat.proofs.listing.list.Goals as goal
+
+pub returns-then-len-limit-clause-too_many : goal.returns-then-len-limit-clause-too_many
+returns-then-len-limit-clause-too_many c = λ e.
+    let i = c.listed.invariant in
+    more_than (task_of c.args.a.now) (map frozen_of c.listed.list.items) (frozen_of c.listed.best) c.args.limit
+    c.requires.suited.task i.front (i.ahead c.listed-test.true)
+    (let l = length-map c.listed.list.items frozen_of in
+    let h = c.if-len-limit.true in let n = c.len.ensures in omega arith)
+
+pub listed-preserved : goal.listed-preserved
+listed-preserved c =
+    let t = task_of c.args.a.now in
+    let i = c.listed.invariant in
+    let old = map frozen_of c.listed.list.items in
+    let w = frozen_of c.listed.best in
+    let y = frozen_of c.next-more.new.best in
+    let ahead = i.ahead c.listed-test.true in
+    let e = c.in_ok-add.ensures.listed in record {
+      few = let n = c.in_ok-add.ensures.count in let h = c.if-len-limit.false in let l = c.len.ensures in omega arith;
+      handed = c.in_ok-add.ensures.handed;
+      front = subst (λ (fs : List Frozen). IsFront t fs) (sym e) (front_more t old w i.front ahead);
+      ahead = λ q. subst (λ (fs : List Frozen). IsAhead t fs y) (sym e)
+          (ahead_more t old w y i.front ahead (c.next-more.ensures.some q));
+      whole = λ q. subst (λ (fs : List Frozen). HasAll t fs) (sym e)
+          (has_all t old w ahead (c.next-more.ensures.none q));
+      best = c.next-more.ensures.best;
+      suited = c.next-more.ensures.suited;
+      ready = c.next-more.ensures.ready;
+    }
+
+pub returns-clause-all : goal.returns-clause-all
+returns-clause-all c =
+    let t = task_of c.args.a.now in
+    let i = c.listed.invariant in
+    subst (λ (list : List kept.Frozen). AreAllFrozen (schema_of t) t.question t.root (candidates_of t.named)
+    (map frozen_of list))
+    (sym c.from_vec.ensures)
+    (all_frozen t (map frozen_of c.listed.list.items) c.requires.suited.task i.front
+    (i.whole c.listed-test.false))

@@ -1,0 +1,24 @@
+use Rattle.std.proofs.Common.{◌≡◌, ◌-◌, ◌≤◌, map, true, false, vec_len}
+use Rattle.std.specs.Prelude.{All}
+use Rattle.olap_clauses.specs.Engines.{variables_of}
+use Rattle.olap_frozen.specs.LeastFound.{frozen_of}
+use Rattle.olap_dimsat.specs.Asking.{IsFor, IsSuited, task_of}
+use Rattle.olap_dimsat.specs.Following.{IsHanded}
+use Rattle.olap_dimsat.specs.Pinned.{IsReady}
+use Rattle.olap_dimsat.proofs.ListedLemmas.{HasAll, IsAhead, IsFront}
+use Rattle.olap_dimsat.proofs.listing.list.Given as goal
+
+abbrev pub invariant-listed : goal.invariant-listed
+invariant-listed l = record {
+  few : vec_len l.list ≤ l.limit;
+  handed : All (IsHanded (task_of l.a)) l.list.items;
+  front : IsFront (task_of l.a) (map frozen_of l.list.items);
+  ahead : l.more ≡ true → IsAhead (task_of l.a) (map frozen_of l.list.items) (frozen_of l.best);
+  whole : l.more ≡ false → HasAll (task_of l.a) (map frozen_of l.list.items);
+  best : IsFor (task_of l.a) l.best;
+  suited : IsSuited (task_of l.a) l.leaf (variables_of l.engine);
+  ready : IsReady (task_of l.a) l.engine;
+}
+
+abbrev pub decreases-listed : goal.decreases-listed
+decreases-listed l = l.limit - vec_len l.list

@@ -1,0 +1,45 @@
+use Rattle.std.proofs.Common.{◌+◌, List, refl, sym, subst, ◌∙◌, inl, inr, arith}
+use Rattle.olap_clauses.specs.declared.trails.Step.{Step}
+use Rattle.olap_clauses.specs.Engines.{trail_of}
+use Rattle.olap_clauses.specs.Standing.{Agrees}
+use Rattle.olap_frozen.specs.declared.frozen.Frozen.{Frozen}
+use Rattle.olap_frozen.specs.Leaves.{chosen_of}
+use Rattle.olap_dimsat.specs.Asking.{task_of}
+use Rattle.olap_dimsat.specs.Pinned.{IsReplaced}
+use Rattle.olap_dimsat.proofs.SettleLemmas.{at_or_below}
+use Rattle.olap_dimsat.proofs.FollowingLemmas.{none_more, raised}
+use Rattle.olap_dimsat.proofs.listing.raise.Goals as goal
+
+pub numbers-preserved : goal.numbers-preserved
+numbers-preserved c =
+    let i = c.numbers.invariant in
+    let s = c.if-replace.ensures in record {
+      trail = s.trail refl ∙ i.trail;
+      best = s.stays refl ∙ i.best;
+      none = λ k l h f v one r a q. elim (at_or_below k (c.numbers.x + 1) (omega arith)) [
+        | inl b ↦ i.none k l (omega arith) f v one r a q
+        | inr z ↦ s.no refl f v one r (subst (λ (ss : List Step). Agrees v ss) (sym i.trail) a) (q ∙ z)
+      ];
+      suited = c.replace.ensures.suited;
+      ready = c.replace.ensures.ready;
+    }
+
+pub returns-then-replace-clause-raised : goal.returns-then-replace-clause-raised
+returns-then-replace-clause-raised c = λ e.
+    let t = task_of c.args.a.now in
+    let old = c.args.best.now in
+    let new = c.replace.new.best in
+    let x = c.numbers.x + 1 in
+    let i = c.numbers.invariant in
+    let r = subst (λ (b : Frozen). IsReplaced t c.args.p x (chosen_of b.edges b.names)
+    (chosen_of new.edges new.names) (trail_of c.replace.new.engine)) i.best (c.if-replace.ensures.yes refl) in
+    raised t c.args.p c.args.number x (chosen_of old.edges old.names) (chosen_of new.edges new.names)
+    (trail_of c.args.engine.now) (trail_of c.replace.new.engine) c.args.engine.now c.requires.ready c.requires.pinned
+    c.requires.number (let l = c.numbers.auto.x in omega arith) (λ k l h. i.none k l (omega arith)) r
+
+pub returns-clause-none : goal.returns-clause-none
+returns-clause-none c = λ e.
+    let old = c.args.best.now in
+    none_more (task_of c.args.a.now) c.args.p c.args.number c.args.most (chosen_of old.edges old.names)
+    (trail_of c.args.engine.now) c.args.engine.now c.requires.ready c.requires.pinned c.requires.place c.requires.number
+    c.requires.most (λ k l h. c.numbers.invariant.none k l (let b = c.numbers-test.false in omega arith))

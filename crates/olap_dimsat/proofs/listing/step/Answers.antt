@@ -1,0 +1,21 @@
+use Rattle.std.proofs.Common.{refl, arith}
+use Rattle.olap_frozen.specs.Leaves.{chosen_of}
+use Rattle.olap_dimsat.specs.Asking.{task_of}
+use Rattle.olap_dimsat.proofs.FollowingLemmas.{next_of, none_full}
+use Rattle.olap_dimsat.proofs.listing.step.Goals as goal
+
+pub returns-then-number-most-clause-none : goal.returns-then-number-most-clause-none
+returns-then-number-most-clause-none c = λ e.
+    let old = c.args.best.now in
+    none_full (task_of c.args.a.now) c.args.p c.number_at-number.result c.most_at-most.result
+    (chosen_of old.edges old.names) c.requires.place c.number_at-number.ensures.number c.most_at-most.ensures.most
+    (let h = c.if-number-most.true in omega arith)
+
+pub returns-clause-some : goal.returns-clause-some
+returns-clause-some c = λ e.
+    let old = c.args.best.now in
+    let mid = c.raise.new.best in
+    let new = c.settle_from.new.best in
+    next_of (task_of c.args.a.now) c.args.p (chosen_of old.edges old.names) (chosen_of mid.edges mid.names)
+    (chosen_of new.edges new.names) c.requires.one c.settle_from.ensures.one c.requires.place
+    (c.if-not-raise.ensures.raised refl) c.settle_from.ensures.same c.settle_from.ensures.least c.requires.none

@@ -1,0 +1,34 @@
+use Rattle.std.proofs.Common.{◌∙◌, inl, inr, sym, subst, arith}
+use Rattle.olap_frozen.specs.Leaves.{chosen_of}
+use Rattle.olap_dimsat.specs.Asking.{task_of}
+use Rattle.olap_dimsat.specs.Pinned.{NoneLess}
+use Rattle.olap_dimsat.proofs.SettleLemmas.{at_or_below, none_less_still}
+use Rattle.olap_dimsat.proofs.settling.settle_from.Goals as goal
+
+pub settle-requires-clause-place : goal.settle-requires-clause-place
+settle-requires-clause-place c = (c.places-p-end.ensures c.places.p).0 c.places-test.true
+
+pub places-preserved : goal.places-preserved
+places-preserved c =
+    let t = task_of c.args.a.now in
+    let i = c.places.invariant in
+    let s = c.settle.ensures in
+    let old = c.places.best in
+    let new = c.settle.new.best in
+    let w = chosen_of old.edges old.names in
+    let y = chosen_of new.edges new.names in record {
+      pinned = s.pinned;
+      same = λ q h. s.same q (let f = c.places.auto.p in omega arith) ∙ i.same q h;
+      least = λ q f h. elim (at_or_below q c.places.p h) [
+        | inl l ↦ none_less_still t c.places.p q w y l s.same (i.least q f l)
+        | inr e ↦ subst (λ m. NoneLess t m y) (sym e) s.least
+      ];
+      best = s.best;
+      suited = s.suited;
+      ready = s.ready;
+    }
+
+pub returns-clause-least : goal.returns-clause-least
+returns-clause-least c = λ p f h.
+    let l = (c.places-p-end.ensures p).1 h in
+    c.places.invariant.least p f (let b = c.places-test.false in omega arith)

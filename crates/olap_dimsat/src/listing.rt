@@ -1,0 +1,216 @@
+// All frozen dimensions by their codes: the least one, and again and again the one that comes next.
+ghost use Rattle.std.specs.Prelude.{◌≡◌, ◌+◌, ◌^◌, ◌<◌, ◌≤◌, ◌∷◌, ◌++◌, ℕ, All, Err, IfOk, [], false, length, map, slice_index, true, vec_len};
+ghost use Rattle.olap_ast.specs.Frozen.{Frozen as TheFrozen, code};
+ghost use Rattle.olap_clauses.specs.Engines.{trail_of, variables_of};
+ghost use Rattle.olap_frozen.specs.LeastFound.{frozen_of};
+ghost use Rattle.olap_frozen.specs.Leaves.{IsSized, chosen_of};
+ghost use Rattle.olap_names.specs.Names.{candidates_of};
+ghost use Rattle.olap_dimsat.specs.Asking.{IsFor, IsSuited, task_of};
+ghost use Rattle.olap_dimsat.specs.Following.{IsHanded, IsNext, IsRaised, NoneAfter, NoneMore};
+ghost use Rattle.olap_dimsat.specs.Listed.{AreAllFrozen, AreMoreThan};
+ghost use Rattle.olap_dimsat.specs.Pinned.{InRange, IsPinned, IsPlace, IsReady};
+ghost use Rattle.olap_dimsat.specs.Tasks.{IsOne, IsTask, schema_of};
+ghost use Rattle.olap_dimsat.specs.declared.searching.AllRefusal.TheVariants as refusal;
+
+use crate::asker::{Asker, Leaf};
+use crate::searching::AllRefusal;
+use crate::settling::{keep, least, number_at, places, replace, settle_from};
+use olap_base::{CatId, List, Memory};
+use olap_clauses::Engine;
+use olap_frozen::Frozen;
+use std::alloc::Global;
+
+// The greatest number that may stand at this place of a code.
+fn most_at(a: &Asker<'_>, p: u16) -> u16
+    requires task { IsTask (task_of a.now) }
+    requires place { IsPlace (task_of a.now) p }
+    ensures in_range { (x : ℕ) → x ≤ result → InRange (task_of a.now) p x }
+    ensures most { (x : ℕ) → InRange (task_of a.now) p x → x ≤ result }
+{
+    let edges = a.graph.edges();
+    let _few = a.graph.categories();
+    if p < edges {
+        1
+    } else {
+        a.candidates.constants(CatId(p - edges + 1)).len() as u16
+    }
+}
+
+// Decides that the first places are as they are in the best one, and no more.
+fn agree(engine: &mut Engine, a: &Asker<'_>, best: &Frozen, p: u16)
+    requires task { IsTask (task_of a.now) }
+    requires place { IsPlace (task_of a.now) p }
+    requires ready { IsReady (task_of a.now) engine.old }
+    requires best { IsFor (task_of a.now) best.now }
+    requires one { IsOne (task_of a.now) (chosen_of best.now.edges best.now.names) }
+    requires variables { variables_of engine.old ≡ a.now.layout.now.variables }
+    ensures pinned { IsPinned (task_of a.now) p (chosen_of best.now.edges best.now.names) (trail_of engine.new) }
+    ensures variables { variables_of engine.new ≡ variables_of engine.old }
+    ensures ready { IsReady (task_of a.now) engine.new }
+{
+    engine.undo(0);
+    'places: for q in 0..p {
+        keep(engine, a, best, q);
+    }
+}
+
+// Is there one with more at this place, that agrees before? One with the least such number is then the best one.
+fn raise(
+    engine: &mut Engine,
+    a: &Asker<'_>,
+    leaf: &mut Leaf,
+    best: &mut Frozen,
+    p: u16,
+    number: u16,
+    most: u16,
+) -> bool
+    requires place { IsPlace (task_of a.now) p }
+    requires number { number ≡ slice_index (code (chosen_of best.old.edges best.old.names)) p }
+    requires in_range { (x : ℕ) → x ≤ most → InRange (task_of a.now) p x }
+    requires most { (x : ℕ) → InRange (task_of a.now) p x → x ≤ most }
+    requires suited { IsSuited (task_of a.now) leaf.old (variables_of engine.old) }
+    requires ready { IsReady (task_of a.now) engine.old }
+    requires best { IsFor (task_of a.now) best.old }
+    requires pinned { IsPinned (task_of a.now) p (chosen_of best.old.edges best.old.names) (trail_of engine.old) }
+    ensures raised { result ≡ true → IsRaised (task_of a.now) p (chosen_of best.old.edges best.old.names)
+        (chosen_of best.new.edges best.new.names) }
+    ensures pinned { result ≡ true
+        → IsPinned (task_of a.now) (p + 1) (chosen_of best.new.edges best.new.names) (trail_of engine.new) }
+    ensures none { result ≡ false → NoneMore (task_of a.now) p (chosen_of best.old.edges best.old.names) }
+    ensures stays { result ≡ false → best.new ≡ best.old }
+    ensures best { IsFor (task_of a.now) best.new }
+    ensures suited { IsSuited (task_of a.now) leaf.new (variables_of engine.new) }
+    ensures ready { IsReady (task_of a.now) engine.new }
+{
+    'numbers: for x in number..most {
+        if replace(engine, a, leaf, best, p, x + 1) {
+            return true;
+        }
+    }
+    false
+}
+
+// Is there one with more at this place, and the same before? The least of them is then the best one.
+fn step(engine: &mut Engine, a: &Asker<'_>, leaf: &mut Leaf, best: &mut Frozen, p: u16) -> bool
+    requires place { IsPlace (task_of a.now) p }
+    requires suited { IsSuited (task_of a.now) leaf.old (variables_of engine.old) }
+    requires ready { IsReady (task_of a.now) engine.old }
+    requires best { IsFor (task_of a.now) best.old }
+    requires one { IsOne (task_of a.now) (chosen_of best.old.edges best.old.names) }
+    requires fits { p + 1 < 2 ^ 16 }
+    requires none { (q : ℕ) → p < q → IsPlace (task_of a.now) q
+        → NoneMore (task_of a.now) q (chosen_of best.old.edges best.old.names) }
+    ensures some { result ≡ true → IsNext (task_of a.now) (chosen_of best.old.edges best.old.names)
+        (chosen_of best.new.edges best.new.names) }
+    ensures none { result ≡ false → NoneMore (task_of a.now) p (chosen_of best.old.edges best.old.names) }
+    ensures stays { result ≡ false → best.new ≡ best.old }
+    ensures best { IsFor (task_of a.now) best.new }
+    ensures suited { IsSuited (task_of a.now) leaf.new (variables_of engine.new) }
+    ensures ready { IsReady (task_of a.now) engine.new }
+{
+    let number = number_at(a, best, p);
+    let most = most_at(a, p);
+    if number >= most {
+        return false;
+    }
+    agree(engine, a, best, p);
+    if !raise(engine, a, leaf, best, p, number, most) {
+        return false;
+    }
+    settle_from(engine, a, leaf, best, p + 1);
+    true
+}
+
+// Goes to the next one. False: there is none.
+fn next(engine: &mut Engine, a: &Asker<'_>, leaf: &mut Leaf, best: &mut Frozen) -> bool
+    requires suited { IsSuited (task_of a.now) leaf.old (variables_of engine.old) }
+    requires ready { IsReady (task_of a.now) engine.old }
+    requires best { IsFor (task_of a.now) best.old }
+    requires one { IsOne (task_of a.now) (chosen_of best.old.edges best.old.names) }
+    ensures some { result ≡ true → IsNext (task_of a.now) (chosen_of best.old.edges best.old.names)
+        (chosen_of best.new.edges best.new.names) }
+    ensures none { result ≡ false → NoneAfter (task_of a.now) (chosen_of best.old.edges best.old.names) }
+    ensures best { IsFor (task_of a.now) best.new }
+    ensures suited { IsSuited (task_of a.now) leaf.new (variables_of engine.new) }
+    ensures ready { IsReady (task_of a.now) engine.new }
+{
+    let mut p = places(a);
+    'places: while p > 0 {
+        p -= 1;
+        if step(engine, a, leaf, best, p) {
+            return true;
+        }
+    }
+    false
+}
+
+// A copy to be handed out. `All` has the index 0.
+fn copy(alloc: Global, a: &Asker<'_>, best: &Frozen) -> Result<Frozen, Memory>
+    requires task { IsTask (task_of a.now) }
+    requires best { IsFor (task_of a.now) best.now }
+    requires one { IsOne (task_of a.now) (chosen_of best.now.edges best.now.names) }
+    ensures same { IfOk result (λ f. frozen_of f ≡ chosen_of best.now.edges best.now.names) }
+    ensures handed { IfOk result (IsHanded (task_of a.now)) }
+{
+    let mut names = List::from_vec(Vec::from_slice(alloc, best.names.items())?);
+    names.set(0, 0);
+    let edges = List::from_vec(Vec::from_slice(alloc, best.edges.items())?);
+    Ok(Frozen {
+        root: a.root,
+        edges,
+        names,
+    })
+}
+
+// Puts the best one behind the others.
+fn add(alloc: Global, a: &Asker<'_>, best: &Frozen, list: &mut Vec<Frozen>) -> Result<(), Memory>
+    requires task { IsTask (task_of a.now) }
+    requires best { IsFor (task_of a.now) best.now }
+    requires one { IsOne (task_of a.now) (chosen_of best.now.edges best.now.names) }
+    requires handed { All (IsHanded (task_of a.now)) list.old.items }
+    ensures listed { IfOk result (λ _. map frozen_of list.new.items
+        ≡ map frozen_of list.old.items ++ chosen_of best.now.edges best.now.names ∷ []) }
+    ensures handed { IfOk result (λ _. All (IsHanded (task_of a.now)) list.new.items) }
+    ensures count { IfOk result (λ _. vec_len list.new ≡ vec_len list.old + 1) }
+{
+    let copied = copy(alloc, a, best)?;
+    list.push(copied)?;
+    Ok(())
+}
+
+/// All frozen dimensions by their codes, where they are at most `limit`.
+pub(crate) fn list(
+    alloc: Global,
+    engine: &mut Engine,
+    a: &Asker<'_>,
+    leaf: &mut Leaf,
+    best: &mut Frozen,
+    limit: usize,
+) -> Result<List<Frozen>, AllRefusal>
+    requires suited { IsSuited (task_of a.now) leaf.old (variables_of engine.old) }
+    requires ready { IsReady (task_of a.now) engine.old }
+    requires best { IsFor (task_of a.now) best.old }
+    requires empty { trail_of engine.old ≡ [] }
+    ensures all { IfOk result (λ list. AreAllFrozen (schema_of (task_of a.now)) (task_of a.now).question
+        (task_of a.now).root (candidates_of (task_of a.now).named) (map frozen_of list)) }
+    ensures few { IfOk result (λ list. length list ≤ limit) }
+    ensures roots { IfOk result (λ list. All (λ f. f.root.0 ≡ a.now.root.0) list) }
+    ensures sized { IfOk result (λ list. All
+        (λ f. IsSized a.now.graph.now a.now.candidates.now f.edges f.names) list) }
+    ensures too_many { result ≡ Err refusal.TooMany → AreMoreThan limit (schema_of (task_of a.now))
+        (task_of a.now).question (task_of a.now).root (candidates_of (task_of a.now).named) }
+    ensures best { IsFor (task_of a.now) best.new }
+    ensures suited { IsSuited (task_of a.now) leaf.new (variables_of engine.new) }
+    ensures ready { IsReady (task_of a.now) engine.new }
+{
+    let mut list = Vec::new(alloc);
+    let mut more = least(engine, a, leaf, best);
+    'listed: while more {
+        if list.len() >= limit {
+            return Err(AllRefusal::TooMany);
+        }
+        add(alloc, a, best, &mut list)?;
+        more = next(engine, a, leaf, best);
+    }
+    Ok(List::from_vec(list))
+}
