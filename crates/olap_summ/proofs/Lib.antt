@@ -1,3 +1,6 @@
 -- Lemmas.
 mod NowhereLemmas
 mod CounterexampleLemmas
+mod SightLemmas
+mod FindingLemmas
+mod AuditLemmas

@@ -1,3 +1,5 @@
 -- Definitions that contracts cite.
 pub mod Answers
 pub mod Counterexamples
+pub mod Audits
+pub mod Sights

@@ -1,15 +1,21 @@
-//! Satisfiability, implication and summarizability of a schema, over all of its legal instances, of any size.
+//! Satisfiability, implication and summarizability of a schema, and its audit, over all of its legal instances, of any
+//! size.
 //!
 //! Each question is one about frozen dimensions with a root: `None` says that the answer is yes for all legal
 //! instances, and a `Found` is the least frozen dimension that shows the contrary, with its names.
 #![tactic(auto)]
 
 mod asking;
+mod auditing;
 mod implying;
 mod questions;
 mod satisfying;
+mod seeing;
 mod summarizing;
+#[cfg(test)]
+mod tests;
 
+pub use auditing::{Finding, audit};
 pub use implying::implies;
 pub use satisfying::satisfiable;
 pub use summarizing::{SummRefusal, summarizable};

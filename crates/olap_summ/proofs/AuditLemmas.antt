@@ -1,0 +1,145 @@
+-- The questions of an audit.
+--     unused_is       the question at an edge's child
+--     redundant_is    the question of the schema without a constraint
+--     path_of         the path of one edge
+--     witness_of      what is the least for a question was found for one
+use Rattle.std.proofs.Common.{◌≡◌, ℕ, ◌<◌, List, [], ◌∷◌, ◌++◌, length, get_or, refl, ap, sym, subst, ◌∙◌, ◌↔◌, inl, inr, map, Option, Some, None, arith}
+use Rattle.std.specs.Prelude.{◌≤◌, Bool, true, false, not, is_some, Contains, IfSome, IsNone, IsTrue, flat_map, remove, slice_get}
+use Rattle.std.proofs.lemmas.List.{length-map}
+use Rattle.std.proofs.lemmas.List.Elements.{Contains-append_cases, Contains-append_left, Contains-append_right}
+use Rattle.std.proofs.lemmas.Option.{get_or_from_slice_get, slice_get-map, slice_get_read, slice_get_within}
+use Rattle.std.specs.Option.{option_map}
+use Rattle.olap_base.specs.declared.ids.CatId.{CatId}
+use Rattle.olap_base.specs.Deciding.{below_is_member, contains_cases}
+use Rattle.olap_base.specs.Graph.{Graph, HasEdge, IsCategory, IsHierarchy}
+use Rattle.olap_base.specs.Instance.{Instance, IsBelow, category_of}
+use Rattle.olap_base.specs.Limits.{most_constants}
+use Rattle.olap_base.proofs.ListLemmas.{AllPairs-from_Distinct, Contains-nil}
+use Rattle.olap_ast.specs.Constants.{all_equalities}
+use Rattle.olap_ast.specs.Findings.{IsRedundant, IsUnused, without}
+use Rattle.olap_ast.specs.Formula.{Equality, Formula, Formula.Path, HasPath, equalities}
+use Rattle.olap_ast.specs.Questions.{IsImplied}
+use Rattle.olap_ast.specs.Schema.{Constraint, Meets, Schema}
+use Rattle.olap_ast.specs.Trees.{constraint_of, formula_of}
+use Rattle.olap_ast.specs.declared.formulas.Constraint.{Constraint as StoredConstraint}
+use Rattle.olap_ast.specs.Valid.{IsFormulaAt, IsValidSchema, distinct_pairs}
+use Rattle.olap_schema.proofs.PairCounting.{few_pairs}
+use Rattle.olap_schema.proofs.WithoutLemmas.{atoms_left}
+use Rattle.olap_frozen.specs.declared.founding.Found.{Found}
+use Rattle.olap_frozen.specs.LeastFound.{IsLeastFound}
+use Rattle.olap_summ.specs.Answers.{IsNowhere}
+use Rattle.olap_summ.specs.Sights.{IsWitness}
+use Rattle.olap_summ.proofs.NowhereLemmas.{none_as}
+
+-- ---- edges
+
+one_step : (i : Instance) (x d : ℕ) → HasPath i x (d ∷ []) → (y : ℕ) × IsBelow i x y × (category_of i y ≡ d)
+one_step i x d ([], h, q) = absurd (cc)
+one_step i x d (y ∷ ys, h, q) = (y, h.0, cc)
+
+pub unused_is : {A : Type 0} (s : Schema) (c d : ℕ) (o : Option A) → IsNone o ↔ IsNowhere s (Path (d ∷ [])) c
+    → IsNone o ↔ IsUnused s (record { child = c; parent = d })
+unused_is s c d o e =
+    none_as o (IsNowhere s (Path (d ∷ [])) c) (IsUnused s (record { child = c; parent = d })) e
+    (λ n i l x y b p q. n i l x (below_is_member i x y b, p) (y ∷ [], (b, tt), ap (λ w. w ∷ []) q))
+    (λ u i l x m h. let t = one_step i x d h in u i l x t.0 t.1 m.1 t.2)
+
+pub edge_at_child : (g : Graph) (c d : ℕ) → IsHierarchy g → HasEdge g c d → IsFormulaAt g c (Path (d ∷ []))
+edge_at_child g c d hier h = (
+  λ e. absurd (cc),
+  (h, tt),
+  AllPairs-from_Distinct (c ∷ d ∷ []) (
+    λ a. elim (contains_cases c d [] a) [
+      | inl q ↦ hier.no_loop c d h (sym q)
+      | inr n ↦ Contains-nil c n
+    ],
+    (λ a. Contains-nil d a, tt),
+  ),
+)
+
+pub path_of : (path pushed start : List CatId) (d : CatId) → path ≡ pushed → pushed ≡ start ++ d ∷ [] → start ≡ []
+    → map (λ (c : CatId). c.0) path ≡ d.0 ∷ []
+path_of path pushed start d e p q = ap (map (λ (c : CatId). c.0)) (e ∙ p ∙ ap (λ l. l ++ d ∷ []) q)
+
+pub witness_of : (s : Schema) (q : Formula) (r : ℕ) (o : Option Found) → IfSome o (IsLeastFound s q r)
+    → IfSome o (IsWitness s)
+witness_of s q r None l = tt
+witness_of s q r (Some found) l = (q, subst (λ x. IsLeastFound s q x found) (sym l.root) l)
+
+-- ---- constraints
+
+pub redundant_is : {A : Type 0} (s : Schema) (k : ℕ) (c : Constraint) (o : Option A)
+    → slice_get s.constraints k ≡ Some c → IsNone o ↔ IsImplied (without s k) c.root c.formula
+    → IsNone o ↔ IsRedundant s k
+redundant_is s k c o at e =
+    none_as o (IsImplied (without s k) c.root c.formula) (IsRedundant s k) e (λ h. (c, at, h))
+    (λ r i l. subst (λ (w : Constraint). Meets i w) (same r.0 r.1) (r.2 i l))
+  where
+    same : (d : Constraint) → slice_get s.constraints k ≡ Some d → d ≡ c
+    same d q = let t : Some d ≡ Some c = sym q ∙ at in cc
+
+-- a test for none
+pub none_told : {A : Type 0} (o : Option A) (r : Bool) (P : Type 0) → is_some o ≡ not r → IsNone o ↔ P → IsTrue r ↔ P
+none_told o true P e n = (λ h. n.0 e, λ p. refl)
+none_told o false P e n = (λ h. absurd (cc), λ p. absurd (let t : true ≡ false = sym e ∙ n.1 p in cc))
+
+pub listed_at : {A : Type 0} (xs : List A) (k : ℕ) (x : A) → slice_get xs k ≡ Some x → Contains xs x
+listed_at xs k x e = (k, slice_get_within xs k x e, get_or_from_slice_get xs k x x e)
+
+-- the atoms of a constraint are among the schema's
+atoms_of : (cs : List Constraint) (c : Constraint) (a : Equality) → Contains cs c → Contains (equalities c.formula) a
+    → Contains (flat_map (λ b. equalities b.formula) cs) a
+atoms_of [] c a h m = absurd (Contains-nil c h)
+atoms_of (b ∷ bs) c a h m = elim (contains_cases c b bs h) [
+  | inl q ↦ Contains-append_left (equalities b.formula) (flat_map (λ x. equalities x.formula) bs) a
+      (subst (λ (x : Constraint). Contains (equalities x.formula) a) (sym q) m)
+  | inr d ↦ Contains-append_right (equalities b.formula) (flat_map (λ x. equalities x.formula) bs) a
+      (atoms_of bs c a d m)
+]
+
+-- a constraint has no constants that the schema with it lacks
+pub few_asked : (s : Schema) (k : ℕ) (c : Constraint) → IsValidSchema s → Contains s.constraints c
+    → length (distinct_pairs (all_equalities (without s k) c.formula)) ≤ most_constants
+few_asked s k c v h =
+    let left = flat_map (λ (b : Constraint). equalities b.formula) (remove s.constraints k) in
+    let few = few_pairs (left ++ equalities c.formula) (flat_map (λ b. equalities b.formula) s.constraints)
+    (λ a m. elim (Contains-append_cases left (equalities c.formula) a m) [
+      | inl t ↦ atoms_left s.constraints k a t
+      | inr t ↦ atoms_of s.constraints c a h t
+    ]) in
+    let fit = v.constants_fit in
+    omega arith
+
+-- ---- a stored constraint, asked of the schema without it
+
+module _ (s t : Schema) (k : ℕ) (stored : List StoredConstraint) (c : StoredConstraint) (v : IsValidSchema s)
+    (h : k < length s.constraints) (listed : map constraint_of stored ≡ s.constraints)
+    (is : c ≡ get_or stored k c) (same : t ≡ without s k) where
+  asked_at : slice_get s.constraints k ≡ Some (constraint_of c)
+  asked_at =
+      let inside : k < length stored =
+      let e = length-map stored constraint_of in let m = ap length listed in omega (arith, h, e, m) in
+      ap (λ cs. slice_get cs k) (sym listed) ∙ slice_get-map constraint_of stored k
+      ∙ ap (option_map constraint_of) (slice_get_read stored (length stored) k c refl inside is)
+
+  among : Contains s.constraints (constraint_of c)
+  among = listed_at s.constraints k (constraint_of c) asked_at
+
+  pub asked_root : IsCategory t.graph c.root.0
+  asked_root = subst (λ (x : Schema). IsCategory x.graph c.root.0) (sym same) (v.roots (constraint_of c) among).1
+
+  pub asked_formula : IsFormulaAt t.graph c.root.0 (formula_of c.formula)
+  asked_formula =
+      subst (λ (x : Schema). IsFormulaAt x.graph c.root.0 (formula_of c.formula)) (sym same)
+      (v.formulas (constraint_of c) among)
+
+  pub asked_few : length (distinct_pairs (all_equalities t (formula_of c.formula))) ≤ most_constants
+  asked_few =
+      subst (λ (x : Schema). length (distinct_pairs (all_equalities x (formula_of c.formula))) ≤ most_constants)
+      (sym same) (few_asked s k (constraint_of c) v among)
+
+  pub asked_is : {A : Type 0} (o : Option A) → IsNone o ↔ IsImplied t c.root.0 (formula_of c.formula)
+      → IsNone o ↔ IsRedundant s k
+  asked_is o e =
+      redundant_is s k (constraint_of c) o asked_at
+      (subst (λ x. IsNone o ↔ IsImplied x c.root.0 (formula_of c.formula)) same e)

@@ -1,0 +1,232 @@
+-- The findings so far, and one more.
+--     none_yet     the empty list is before all
+--     one_more     with a finding at this place; `added` in the words of the code
+--     no_more      with none at this place; `none_added` likewise
+--     to_constraints, to_edges    on to the next kind
+--     all_found    behind the last
+use Rattle.std.proofs.Common.{◌≡◌, ℕ, zero, suc, ◌+◌, ◌<◌, ◌≤◌, List, [], ◌∷◌, ◌++◌, length, get_or, map, refl, ap, sym, subst, ◌∙◌, ◌⊎◌, inl, inr, arith}
+use Rattle.std.specs.Prelude.{Contains}
+use Rattle.std.proofs.lemmas.List.{map-append}
+use Rattle.std.proofs.lemmas.List.Elements.{Contains-append_left, Contains-get_or, Contains-push, Contains-push_cases}
+use Rattle.std.proofs.lemmas.List.Quantifiers.{all_pairs_push}
+use Rattle.std.proofs.lemmas.Option.{get_or_from_slice_get, slice_get-get_or, slice_get_within}
+use Rattle.olap_base.specs.Graph.{category_count}
+use Rattle.olap_base.proofs.ListLemmas.{Contains-nil}
+use Rattle.olap_ast.specs.Findings.{AreFindings, Finding, Finding.Unsatisfiable, Finding.Redundant, Finding.Unused, IsEarlier, IsFinding, IsRedundant, IsUnsatisfiable, IsUnused, finding_rank}
+use Rattle.olap_ast.specs.Schema.{Schema}
+use Rattle.olap_ast.specs.Violation.{IsNotAfter}
+use Rattle.olap_graph.specs.Lookups.{edge_at}
+use Rattle.olap_summ.specs.Audits.{AreFindingsBefore, IsBefore, finding_of, kind_of, place_of}
+use Rattle.olap_summ.specs.declared.auditing.Finding.{Finding as Told}
+
+-- ---- kinds and places
+
+same_finding : (f g : Finding) → kind_of f ≡ kind_of g → place_of f ≡ place_of g → f ≡ g
+same_finding (Unsatisfiable c) (Unsatisfiable d) k p = ap Unsatisfiable p
+same_finding (Unsatisfiable c) (Redundant n) k p = absurd (omega (arith, k))
+same_finding (Unsatisfiable c) (Unused e) k p = absurd (omega (arith, k))
+same_finding (Redundant n) (Unsatisfiable d) k p = absurd (omega (arith, k))
+same_finding (Redundant n) (Redundant m) k p = ap Redundant p
+same_finding (Redundant n) (Unused e) k p = absurd (omega (arith, k))
+same_finding (Unused e) (Unsatisfiable d) k p = absurd (omega (arith, k))
+same_finding (Unused e) (Redundant m) k p = absurd (omega (arith, k))
+same_finding (Unused e) (Unused x) k p = ap Unused p
+
+rank_is : (f : Finding) → finding_rank f ≡ kind_of f ∷ place_of f ∷ []
+rank_is (Unsatisfiable c) = refl
+rank_is (Redundant n) = refl
+rank_is (Unused e) = refl
+
+-- a finding before another's kind and place is earlier
+earlier : (f g : Finding) → IsBefore (kind_of g) (place_of g) f → IsEarlier f g
+earlier f g b = (
+  subst (λ xs. IsNotAfter xs (finding_rank g)) (sym (rank_is f))
+      (subst (λ ys. IsNotAfter (kind_of f ∷ place_of f ∷ []) ys) (sym (rank_is g)) (not_after b)),
+  λ e. differ b (ap kind_of e) (ap place_of e),
+)
+  where
+    not_after : IsBefore (kind_of g) (place_of g) f
+        → IsNotAfter (kind_of f ∷ place_of f ∷ []) (kind_of g ∷ place_of g ∷ [])
+    not_after (inl l) = inl l
+    not_after (inr h) = inr (h.0, inl h.1)
+
+    differ : IsBefore (kind_of g) (place_of g) f → kind_of f ≡ kind_of g → place_of f ≡ place_of g → ⊥
+    differ (inl l) k p = omega (arith, l, k)
+    differ (inr h) k p = let l = h.1 in omega (arith, l, p)
+
+-- ---- one place on
+
+which : (kind place n k p : ℕ) → n ≡ place + 1 → (k < kind) ⊎ ((k ≡ kind) × (p < n))
+    → ((k < kind) ⊎ ((k ≡ kind) × (p < place))) ⊎ ((k ≡ kind) × (p ≡ place))
+which kind place n k p e (inl l) = inl (inl l)
+which kind place n k p e (inr h) = elim (at n p place e h.1) [
+  | inl l ↦ inl (inr (h.0, l))
+  | inr q ↦ inr (h.0, q)
+]
+  where
+    at : (n p place : ℕ) → n ≡ place + 1 → p < n → (p < place) ⊎ (p ≡ place)
+    at n p place e l = grind arith
+
+wider : (kind place n k p : ℕ) → n ≡ place + 1 → (k < kind) ⊎ ((k ≡ kind) × (p < place))
+    → (k < kind) ⊎ ((k ≡ kind) × (p < n))
+wider kind place n k p e (inl l) = inl l
+wider kind place n k p e (inr h) = inr (h.0, let l = h.1 in omega arith)
+
+pub one_more : (s : Schema) (kind place n : ℕ) (list : List Finding) (f : Finding)
+    → AreFindingsBefore s kind place list → kind_of f ≡ kind → place_of f ≡ place → n ≡ place + 1 → IsFinding s f
+    → AreFindingsBefore s kind n (list ++ f ∷ [])
+one_more s kind place n list f b k p e is = record {
+  ordered = all_pairs_push IsEarlier list f b.ordered (λ i d h.
+      let g = get_or list i d in
+      let before = (b.sound g (Contains-get_or list i d h)).1 in
+      earlier g f (subst (λ m. IsBefore m (place_of f) g) (sym k) (subst (λ m. IsBefore kind m g) (sym p) before)));
+  sound = λ g c. elim (Contains-push_cases list f g c) [
+    | inl h ↦ let t = b.sound g h in (t.0, wider kind place n (kind_of g) (place_of g) e t.1)
+    | inr q ↦ subst (λ h. IsFinding s h × IsBefore kind n h) q (is, inr (k, omega (arith, p, e)))
+  ];
+  complete = λ g g_is before. elim (which kind place n (kind_of g) (place_of g) e before) [
+    | inl h ↦ Contains-append_left list (f ∷ []) g (b.complete g g_is h)
+    | inr h ↦ subst (λ x. Contains (list ++ f ∷ []) x) (same_finding f g (k ∙ sym h.0) (p ∙ sym h.1))
+        (Contains-push list f)
+  ];
+}
+
+pub no_more : (s : Schema) (kind place n : ℕ) (list : List Finding) → AreFindingsBefore s kind place list
+    → n ≡ place + 1 → ((f : Finding) → kind_of f ≡ kind → place_of f ≡ place → IsFinding s f → ⊥)
+    → AreFindingsBefore s kind n list
+no_more s kind place n list b e none = record {
+  ordered = b.ordered;
+  sound = λ g c. let t = b.sound g c in (t.0, wider kind place n (kind_of g) (place_of g) e t.1);
+  complete = λ g g_is before. elim (which kind place n (kind_of g) (place_of g) e before) [
+    | inl h ↦ b.complete g g_is h
+    | inr h ↦ absurd (none g h.0 h.1 g_is)
+  ];
+}
+
+-- ---- in the words of the code
+
+-- a finding is added
+pub added : (s : Schema) (kind place n : ℕ) (old new : List Told) (x : Told)
+    → AreFindingsBefore s kind place (map finding_of old) → kind_of (finding_of x) ≡ kind
+    → place_of (finding_of x) ≡ place → n ≡ place + 1 → IsFinding s (finding_of x) → new ≡ old ++ x ∷ []
+    → AreFindingsBefore s kind n (map finding_of new)
+added s kind place n old new x b k p e is q =
+    subst (λ l. AreFindingsBefore s kind n l) (sym (ap (map finding_of) q ∙ map-append finding_of old (x ∷ [])))
+    (one_more s kind place n (map finding_of old) (finding_of x) b k p e is)
+
+-- and none is
+pub none_added : (s : Schema) (kind place n : ℕ) (old new : List Told)
+    → AreFindingsBefore s kind place (map finding_of old) → n ≡ place + 1
+    → ((f : Finding) → kind_of f ≡ kind → place_of f ≡ place → IsFinding s f → ⊥) → new ≡ old
+    → AreFindingsBefore s kind n (map finding_of new)
+none_added s kind place n old new b e none q =
+    subst (λ l. AreFindingsBefore s kind n (map finding_of l)) (sym q)
+    (no_more s kind place n (map finding_of old) b e none)
+
+pub not_unsatisfiable : (s : Schema) (c : ℕ) → (IsUnsatisfiable s c → ⊥) → (f : Finding) → kind_of f ≡ 1
+    → place_of f ≡ c → IsFinding s f → ⊥
+not_unsatisfiable s c n (Unsatisfiable d) k p is = n (subst (IsUnsatisfiable s) p is.1)
+not_unsatisfiable s c n (Redundant m) k p is = omega (arith, k)
+not_unsatisfiable s c n (Unused e) k p is = omega (arith, k)
+
+pub not_redundant : (s : Schema) (j : ℕ) → (IsRedundant s j → ⊥) → (f : Finding) → kind_of f ≡ 2
+    → place_of f ≡ j + 1 → IsFinding s f → ⊥
+not_redundant s j n (Unsatisfiable d) k p is = omega (arith, k)
+not_redundant s j n (Redundant zero) k p is = is
+not_redundant s j n (Redundant (suc m)) k p is = n (subst (IsRedundant s) (let q : m ≡ j = omega (arith, p) in q) is)
+not_redundant s j n (Unused e) k p is = omega (arith, k)
+
+pub not_unused : (s : Schema) (j : ℕ) → (IsUnused s (edge_at s.graph j) → ⊥) → (f : Finding) → kind_of f ≡ 3
+    → place_of f ≡ j → IsFinding s f → ⊥
+not_unused s j n (Unsatisfiable d) k p is = omega (arith, k)
+not_unused s j n (Redundant m) k p is = omega (arith, k)
+not_unused s j n (Unused x) k p is =
+    let at = get_or_from_slice_get s.graph.edges x is.0 (record { child = 0; parent = 0 }) is.1 in
+    n (subst (λ y. IsUnused s (edge_at s.graph y)) p (subst (IsUnused s) (sym at) is.2))
+
+pub redundant_found : (s : Schema) (j n : ℕ) → n ≡ j + 1 → IsRedundant s j → IsFinding s (Redundant n)
+redundant_found s j n e r = subst (λ m. IsFinding s (Redundant m)) (let q : suc j ≡ n = omega (arith, e) in q) r
+
+pub unused_found : (s : Schema) (j : ℕ) → j < length s.graph.edges → IsUnused s (edge_at s.graph j)
+    → IsFinding s (Unused j)
+unused_found s j h u = (edge_at s.graph j, slice_get-get_or s.graph.edges j (record { child = 0; parent = 0 }) h, u)
+
+-- ---- the kinds
+
+next_kind : (s : Schema) (kind place next first : ℕ) (list : List Finding) → AreFindingsBefore s kind place list
+    → next ≡ kind + 1 → ((f : Finding) → kind_of f ≡ kind → IsFinding s f → place_of f < place)
+    → ((f : Finding) → kind_of f ≡ next → IsFinding s f → first ≤ place_of f)
+    → AreFindingsBefore s next first list
+next_kind s kind place next first list b e within from = record {
+  ordered = b.ordered;
+  sound = λ g c. let t = b.sound g c in (t.0, inl (below (kind_of g) (place_of g) t.1));
+  complete = λ g g_is before. b.complete g g_is (back g g_is before);
+}
+  where
+    below : (k p : ℕ) → (k < kind) ⊎ ((k ≡ kind) × (p < place)) → k < next
+    below k p (inl l) = omega (arith, l, e)
+    below k p (inr h) = let q = h.0 in omega (arith, q, e)
+
+    split : (k : ℕ) → k < next → (k < kind) ⊎ (k ≡ kind)
+    split k l = grind (arith, e)
+
+    back : (g : Finding) → IsFinding s g → IsBefore next first g → IsBefore kind place g
+    back g is (inl l) = elim (split (kind_of g) l) [ inl h ↦ inl h | inr q ↦ inr (q, within g q is) ]
+    back g is (inr h) = let l = h.1 in let m = from g h.0 is in absurd (omega (arith, l, m))
+
+pub none_yet : (s : Schema) → AreFindingsBefore s 1 1 []
+none_yet s = record {
+  ordered = λ i j d h l. absurd (omega arith);
+  sound = λ f c. absurd (Contains-nil f c);
+  complete = λ f is before. absurd (none f is before);
+}
+  where
+    none : (f : Finding) → IsFinding s f → IsBefore 1 1 f → ⊥
+    none (Unsatisfiable zero) is b = is.0.0 refl
+    none (Unsatisfiable (suc c)) is (inl l) = omega (arith, l)
+    none (Unsatisfiable (suc c)) is (inr h) = let l = h.1 in omega (arith, l)
+    none (Redundant n) is (inl l) = omega (arith, l)
+    none (Redundant n) is (inr h) = let q = h.0 in omega (arith, q)
+    none (Unused e) is (inl l) = omega (arith, l)
+    none (Unused e) is (inr h) = let q = h.0 in omega (arith, q)
+
+-- behind the categories come the constraints, counted from 1
+pub to_constraints : (s : Schema) (list : List Finding) → AreFindingsBefore s 1 (category_count s.graph) list
+    → AreFindingsBefore s 2 1 list
+to_constraints s list b = next_kind s 1 (category_count s.graph) 2 1 list b refl within from
+  where
+    within : (f : Finding) → kind_of f ≡ 1 → IsFinding s f → place_of f < category_count s.graph
+    within (Unsatisfiable c) k is = is.0.1
+    within (Redundant n) k is = absurd (omega (arith, k))
+    within (Unused e) k is = absurd (omega (arith, k))
+
+    from : (f : Finding) → kind_of f ≡ 2 → IsFinding s f → 1 ≤ place_of f
+    from (Unsatisfiable c) k is = absurd (omega (arith, k))
+    from (Redundant zero) k is = absurd is
+    from (Redundant (suc n)) k is = omega arith
+    from (Unused e) k is = absurd (omega (arith, k))
+
+-- behind the constraints come the edges
+pub to_edges : (s : Schema) (n : ℕ) (list : List Finding) → n ≡ length s.constraints + 1 → AreFindingsBefore s 2 n list
+    → AreFindingsBefore s 3 0 list
+to_edges s n list e b = next_kind s 2 n 3 0 list b refl within (λ f k is. omega arith)
+  where
+    within : (f : Finding) → kind_of f ≡ 2 → IsFinding s f → place_of f < n
+    within (Unsatisfiable c) k is = absurd (omega (arith, k))
+    within (Redundant zero) k is = absurd is
+    within (Redundant (suc m)) k is = let l = slice_get_within s.constraints m is.0 is.1 in omega (arith, l, e)
+    within (Unused x) k is = absurd (omega (arith, k))
+
+-- behind the edges there is nothing
+pub all_found : (s : Schema) (n : ℕ) (list : List Finding) → n ≡ length s.graph.edges → AreFindingsBefore s 3 n list
+    → AreFindings s list
+all_found s n list e b = record {
+  ordered = b.ordered;
+  sound = λ f c. (b.sound f c).0;
+  complete = λ f is. b.complete f is (before f is);
+}
+  where
+    before : (f : Finding) → IsFinding s f → IsBefore 3 n f
+    before (Unsatisfiable c) is = inl (omega arith)
+    before (Redundant m) is = inl (omega arith)
+    before (Unused k) is = inr (refl, let l = slice_get_within s.graph.edges k is.0 is.1 in omega (arith, l, e))
