@@ -37,17 +37,20 @@ pub struct Cex {
     pub views: Option<u64>,
 }
 
-// The place of the root's member: how many present categories stand before it.
-fn root_place(graph: &Graph, found: &Found) -> MemberId
+// The place of a category's member: how many present categories stand before it.
+fn place_of(graph: &Graph, found: &Found, c: CatId) -> MemberId
     requires found { IsFoundFor graph.now found.now }
-    requires declared { IsDeclared graph.now found.now.frozen.root.0 }
-    ensures { result.0 ≡ length (first_present found.now.frozen.root.0 (found_edges graph.now found.now)
-        (found.now.frozen.root.0 - 1)) }
+    requires declared { IsDeclared graph.now c.0 }
+    ensures { result.0 ≡ length (first_present found.now.frozen.root.0 (found_edges graph.now found.now) (c.0 - 1)) }
 {
-    let root = found.frozen.root;
     let mut place = 0;
-    'categories: for c in 1..root.0 {
-        if has_member(graph, root, found.frozen.edges.items(), CatId(c)) {
+    'categories: for d in 1..c.0 {
+        if has_member(
+            graph,
+            found.frozen.root,
+            found.frozen.edges.items(),
+            CatId(d),
+        ) {
             place += 1;
         }
     }
@@ -81,7 +84,7 @@ pub fn counterexample(
     let ways = count_sources(alloc, graph, found, target, sources)?;
     Ok(Cex {
         instance,
-        fact: root_place(graph, found),
+        fact: place_of(graph, found, found.frozen.root),
         target,
         direct: 1,
         views: if ways == 0 { None } else { Some(ways) },

@@ -27,7 +27,7 @@ returns-clause-cex c =
     record {
       instance = c.in_ok-instance.ensures.instance;
       made = c.in_ok-instance.ensures.made;
-      fact = c.root_place.ensures ∙ root_at g f ok hier c.requires.declared.0;
+      fact = c.place_of.ensures ∙ root_at g f ok hier c.requires.declared.0;
       target = refl;
       direct = direct_is g f ok hier t sources c.requires.reaches n c.in_ok-ways.ensures.count;
       views = views;

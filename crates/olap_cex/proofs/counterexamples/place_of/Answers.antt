@@ -3,13 +3,13 @@ use Rattle.std.proofs.Common.{◌-◌, ◌≤◌, sym, ap, ◌∙◌, arith}
 use Rattle.olap_ast.specs.Frozen.{chosen, is_present}
 use Rattle.olap_cex.specs.FoundFor.{found_edges}
 use Rattle.olap_cex.proofs.PresentLemmas.{count_few, count_more, count_same}
-use Rattle.olap_cex.proofs.counterexamples.root_place.Goals as goal
-use Rattle.olap_cex.proofs.counterexamples.root_place.Goals.{then-has_member, else-has_member}
+use Rattle.olap_cex.proofs.counterexamples.place_of.Goals as goal
+use Rattle.olap_cex.proofs.counterexamples.place_of.Goals.{then-has_member, else-has_member}
 
 pub overflow_add-place : goal.overflow_add-place
 overflow_add-place c =
     let f = c.args.found.now in
-    let few = count_few f.frozen.root.0 (found_edges c.args.graph.now f) (c.categories.c - 1) in
+    let few = count_few f.frozen.root.0 (found_edges c.args.graph.now f) (c.categories.d - 1) in
     let e = c.categories.invariant in
     omega arith
 
@@ -19,7 +19,7 @@ categories-preserved c =
     let f = c.args.found.now in
     let r = f.frozen.root.0 in
     let es = found_edges g f in
-    let x = c.categories.c in
+    let x = c.categories.d in
     let some : 1 ≤ x = omega arith in
     let tells = c.has_member.ensures ∙ ap (λ bits. is_present r (chosen g.edges bits) x) c.items.ensures in
     elim c.if-has_member.branch [
