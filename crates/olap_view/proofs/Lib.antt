@@ -9,3 +9,9 @@ pub mod FittingLemmas
 pub mod TallyLemmas
 pub mod MergingLemmas
 pub mod RollingUpLemmas
+pub mod StoredNumbersLemmas
+pub mod StoreReadingLemmas
+pub mod JudgingLemmas
+pub mod StoreTextLemmas
+pub mod StoreLemmas
+pub mod StoreLawLemmas

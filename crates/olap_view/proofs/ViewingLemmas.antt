@@ -63,7 +63,7 @@ if_ok_more (Err e) P Q f h = h
 
 -- ---- the members of a category
 
-member_is : (i : Instance) (c y : ℕ) → Contains (members_of i c) y → IsMemberOf i c y
+pub member_is : (i : Instance) (c y : ℕ) → Contains (members_of i c) y → IsMemberOf i c y
 member_is i c y k = let t = Contains-from_filter (λ z. category_of i z == c) (range_with_len 0 _) y k in
     (Contains-from_range _ y t.0, eqb_is (category_of i y) c t.1)
 

@@ -6,20 +6,30 @@
 #![tactic(auto)]
 
 mod fitting;
+mod judging;
+mod kinds;
+mod laws;
+mod numbers;
 mod printing;
 mod rolling_up;
+mod storing;
 mod summaries;
 mod tables;
 mod tallies;
 mod viewing;
 mod views;
 
+pub use kinds::{StoreKind, StoreRefusal};
+pub use laws::printed_numbers_are_read;
 pub use printing::print_view;
 pub use rolling_up::roll_up;
+pub use storing::{print_store, read_store};
 pub use tallies::Tally;
 pub use viewing::{direct, from_views};
 pub use views::{Row, Store, View};
 
+#[cfg(test)]
+mod store_tests;
 #[cfg(test)]
 mod stored_tests;
 #[cfg(test)]

@@ -1,9 +1,10 @@
 // Views as CSV texts.
 ghost use Rattle.std.specs.Prelude.{◌≡◌, ◌++◌, ◌<◌, ℕ, All, IfOk, OnOk, length};
+ghost use Rattle.std.specs.Option.{option_map};
 ghost use Rattle.olap_records.specs.Records.{records_of};
 ghost use Rattle.olap_records.specs.Texts.{text_of_row};
 ghost use Rattle.olap_view.specs.Seen.{row_of, view_of};
-ghost use Rattle.olap_view.specs.ViewText.{fields_of_row, records_of_view, view_text};
+ghost use Rattle.olap_view.specs.ViewText.{behind, fields_of_row, records_of_view, view_text, width_behind};
 
 use crate::{Row, View};
 use itoa::Buffer;
@@ -12,23 +13,30 @@ use olap_instance::Instance;
 use olap_records::Printer;
 use std::alloc::Global;
 
-/// Prints a row behind what is printed.
-fn print_row(out: &mut Printer, id: &[u8], row: &Row) -> Result<(), Memory>
-    requires width { out.old.width ≡ 5 }
-    ensures text { OnOk result (out.new.text ≡ out.old.text ++ text_of_row (fields_of_row id.now (row_of row.now))) }
-    ensures width { out.new.width ≡ 5 }
+/// Prints a row behind what is printed; of a store with the category's name before it.
+pub(crate) fn print_row(
+    out: &mut Printer,
+    category: Option<&[u8]>,
+    id: &[u8],
+    row: &Row,
+) -> Result<(), Memory>
+    requires width { out.old.width ≡ width_behind (option_map (λ n. n.now) category) }
+    ensures text { OnOk result (out.new.text ≡ out.old.text
+        ++ text_of_row (behind (option_map (λ n. n.now) category.entry) (fields_of_row id.now (row_of row.now)))) }
+    ensures width { out.new.width ≡ out.old.width }
 {
     let mut count = Buffer::new();
     let mut sum = Buffer::new();
     let mut least = Buffer::new();
     let mut greatest = Buffer::new();
-    out.row(&[
-        id,
-        count.format(row.count).as_bytes(),
-        sum.format(row.sum).as_bytes(),
-        least.format(row.least).as_bytes(),
-        greatest.format(row.greatest).as_bytes(),
-    ])
+    let count = count.format(row.count).as_bytes();
+    let sum = sum.format(row.sum).as_bytes();
+    let least = least.format(row.least).as_bytes();
+    let greatest = greatest.format(row.greatest).as_bytes();
+    match category {
+        None => out.row(&[id, count, sum, least, greatest]),
+        Some(name) => out.row(&[name, id, count, sum, least, greatest]),
+    }
 }
 
 /// The bytes of the text of a view.
@@ -39,7 +47,7 @@ fn print(alloc: Global, instance: &Instance, view: &View) -> Result<Vec<u8>, Mem
     let mut out = Printer::new(alloc, 5);
     out.row(&[b"member", b"count", b"sum", b"least", b"greatest"])?;
     'rows: for row in view.rows.items() {
-        print_row(&mut out, instance.id(row.member).bytes(), row)?;
+        print_row(&mut out, None, instance.id(row.member).bytes(), row)?;
     }
     out.finish()
 }

@@ -11,7 +11,7 @@ use olap_instance::{Instance, read_instance};
 use std::alloc::Global;
 use std::process::Abort;
 
-const LOCATION: &[u8] = b"schema 1
+pub(crate) const LOCATION: &[u8] = b"schema 1
 category Store
 category City
 category State
@@ -29,7 +29,7 @@ edge Region Country
 edge Country All
 ";
 
-const MEMBERS: &[u8] = b"id,category,name,parents
+pub(crate) const MEMBERS: &[u8] = b"id,category,name,parents
 s1,Store,S1,w
 s2,Store,S2,to
 s3,Store,S3,au

@@ -1,10 +1,11 @@
 // What values come to at each member of some categories.
-ghost use Rattle.std.specs.Prelude.{◌≡◌, ◌<◌, ◌≤◌, ◌^◌, ◌↔◌, ℕ, All, AllPairs, ◌≢◌, Contains, IfOk, IfSome, IsTrue, None, length};
+ghost use Rattle.std.specs.Prelude.{◌≡◌, ◌<◌, ◌≤◌, ◌^◌, ◌↔◌, ◌∷◌, ◌++◌, [], ℕ, All, AllPairs, ◌≢◌, Contains, IfOk, IfSome, IsTrue, None, OnOk, Some, is_some, length, map, replicate, set};
 ghost use Rattle.std.specs.Option.{option_map};
 ghost use Rattle.olap_base.specs.Limits.{most_members};
 ghost use Rattle.olap_base.specs.Views.{row_at};
 ghost use Rattle.olap_view.specs.Bounds.{IsUpTo};
-ghost use Rattle.olap_view.specs.Seen.{row_of, rows_of, summary_of, view_of};
+ghost use Rattle.olap_view.specs.Seen.{each_view_of, row_of, rows_of, summary_of, view_of};
+ghost use Rattle.olap_view.specs.StoreReading.{HasOwnPlaces};
 ghost use Rattle.olap_view.specs.Tables.{AreJoined, AreJoinedIn, HasPlaces, HasRoom, categories_of, ids, place_in, summary_at, view_in};
 
 use crate::summaries::Summary;
@@ -26,7 +27,7 @@ pub(crate) struct Table {
 }
 
 /// Whether the category is one of these.
-fn is_among(categories: &[CatId], c: CatId) -> bool
+pub(crate) fn is_among(categories: &[CatId], c: CatId) -> bool
     ensures { IsTrue result ↔ Contains (ids categories.now) c.0 }
 {
     'categories: for d in categories {
@@ -63,6 +64,47 @@ impl Table {
             places,
             summaries: vec![in alloc; None; count as usize]?,
         })
+    }
+
+    /// A table for no category, with nothing in it, where each member's place is the member's own number.
+    pub(crate) fn open(alloc: Global, instance: &Instance) -> Result<Table, Memory>
+        ensures categories { IfOk result (λ t. categories_of t ≡ []) }
+        ensures places { IfOk result HasOwnPlaces }
+        ensures empty { IfOk result (λ t. t.summaries.items ≡ replicate (length instance.now) None) }
+        ensures few { IfOk result (λ t. length instance.now ≤ most_members) }
+    {
+        let members = instance.members();
+        let mut places = vec![in alloc; 0u32; members as usize]?;
+        'places: for y in 0..members {
+            places[y as usize] = y;
+        }
+        Ok(Table {
+            categories: Vec::new(alloc),
+            places,
+            summaries: vec![in alloc; None; members as usize]?,
+        })
+    }
+
+    /// Adds a category behind the others.
+    pub(crate) fn begin(&mut self, c: CatId) -> Result<(), Memory>
+        ensures categories { OnOk result (categories_of self.new ≡ categories_of self.old ++ c.0 ∷ []) }
+        ensures places { self.new.places ≡ self.old.places }
+        ensures summaries { self.new.summaries ≡ self.old.summaries }
+    {
+        self.categories.push(c)?;
+        Ok(())
+    }
+
+    /// Puts a summary at a member, whatever stands there.
+    pub(crate) fn put(&mut self, y: MemberId, summary: Summary)
+        requires own { HasOwnPlaces self.old }
+        requires member { y.0 < length self.old.summaries.items }
+        ensures categories { self.new.categories ≡ self.old.categories }
+        ensures places { self.new.places ≡ self.old.places }
+        ensures summaries { self.new.summaries.items ≡ set self.old.summaries.items y.0 (Some summary) }
+    {
+        let place = self.places[y.0 as usize] as usize;
+        self.summaries[place] = Some(summary);
     }
 
     /// Joins the summary to what stands at the member of the category that x reaches, if there is one.
@@ -104,6 +146,15 @@ impl Table {
         self.summaries[self.places[y.0 as usize] as usize]
     }
 
+    /// Whether the member has a summary.
+    pub(crate) fn has(&self, y: MemberId) -> bool
+        requires own { HasOwnPlaces self.now }
+        requires member { y.0 < length self.now.summaries.items }
+        ensures { result ≡ is_some (summary_at self.now y.0) }
+    {
+        self.at(y).is_some()
+    }
+
     /// The view of one of the categories: a row for each member that has a summary, in file order.
     pub(crate) fn view(&self, alloc: Global, instance: &Instance, c: CatId) -> Result<View, Memory>
         requires among { Contains (categories_of self.now) c.0 }
@@ -124,6 +175,19 @@ impl Table {
             category: c,
             rows: List::from_vec(rows),
         })
+    }
+
+    /// The view of each of the categories, in their order.
+    pub(crate) fn views(&self, alloc: Global, instance: &Instance) -> Result<List<View>, Memory>
+        requires places { HasPlaces instance.now self.now }
+        ensures { IfOk result (λ v. each_view_of v ≡ map (view_in instance.now self.now) (categories_of self.now)) }
+    {
+        let mut views = Vec::new(alloc);
+        'categories: for c in &self.categories {
+            let view = self.view(alloc, instance, *c)?;
+            views.push(view)?;
+        }
+        Ok(List::from_vec(views))
     }
 }
 

@@ -1,4 +1,5 @@
 -- One row more.
+use Rattle.std.proofs.Common.{◌∙◌}
 use Rattle.olap_view.specs.ViewText.{fields_in, header}
 use Rattle.olap_view.proofs.PrintingLemmas.{view_more}
 use Rattle.olap_view.proofs.printing.print.Goals as goal
@@ -9,5 +10,5 @@ rows-preserved c =
       text = view_more header (fields_in c.args.instance.now) c.items-row-items.result.now c.rows.row-index _
           c.rows.out.text c.print_row.new.out.text c.rows-test.true c.rows.invariant.text
           (rw (c.bytes.ensures, c.id.ensures) at c.in_ok-print_row.ensures.text);
-      width = c.in_ok-print_row.ensures.width;
+      width = c.in_ok-print_row.ensures.width ∙ c.rows.invariant.width;
     }

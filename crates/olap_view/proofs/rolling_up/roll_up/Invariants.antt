@@ -1,5 +1,5 @@
 -- The tally stands for the facts that the reader has handed out.
-use Rattle.std.proofs.Common.{◌≡◌, ◌≤◌, ◌-◌, length, true}
+use Rattle.std.proofs.Common.{◌≡◌, ◌-◌, length, true}
 use Rattle.olap_base.specs.Limits.{most_facts}
 use Rattle.olap_records.specs.Records.{records_of}
 use Rattle.olap_facts.specs.FactReading.{body_of, reading}

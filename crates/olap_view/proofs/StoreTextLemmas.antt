@@ -1,0 +1,114 @@
+-- The text of stored views: its records, printed one after the other and read back.
+--     stored-row, stored-view   one row more, and one view more
+--     store-reads               the printed text reads back
+--     header-is                 whether the first record is the header
+use Rattle.std.proofs.Common.{◌≡◌, ◌↔◌, ◌+◌, ◌<◌, ◌++◌, ◌∷◌, ◌∙◌, Bool, ℕ, zero, suc, List, [], length, map, take, flat_map, get_or, IsTrue, refl, sym, ap, arith, append_assoc}
+use Rattle.std.specs.Prelude.{All}
+use Rattle.std.specs.Bool.{one_answer}
+use Rattle.std.specs.Cmp.Lexicographic.{pointwise}
+use Rattle.std.specs.Str.{bytes_eq}
+use Rattle.std.proofs.lemmas.List.{flat_map_more, map-append, take_more}
+use Rattle.std.proofs.lemmas.List.Elements.{All-map}
+use Rattle.std.proofs.lemmas.Slice.Eq.{bytes_eq-Decides, slice_eq-Decides}
+use Rattle.olap_base.specs.Graph.{Graph}
+use Rattle.olap_base.specs.Instance.{Instance}
+use Rattle.olap_base.specs.Views.{Row, View}
+use Rattle.olap_records.specs.Records.{records_of}
+use Rattle.olap_records.specs.Texts.{text_of_row, text_of_rows}
+use Rattle.olap_records.proofs.ReadingBack.{text-back, texts-push}
+use Rattle.olap_view.specs.Seen.{each_view_of, row_of, rows_of, view_of}
+use Rattle.olap_view.specs.StoreText.{beginning, has_header, header, records_of_one, records_of_store, store_text}
+use Rattle.olap_view.specs.ViewText.{fields_in}
+use Rattle.olap_view.proofs.SeenLemmas.{each_row}
+use Rattle.olap_view.specs.declared.views.Row as told_row
+use Rattle.olap_view.specs.declared.views.View as told_view
+
+-- the text of records behind others
+texts-append : (xs ys : List (List (List ℕ))) → text_of_rows (xs ++ ys) ≡ text_of_rows xs ++ text_of_rows ys
+texts-append [] ys = refl
+texts-append (x ∷ xs) ys = ap (λ (t : List ℕ). text_of_row x ++ t) (texts-append xs ys)
+    ∙ sym (append_assoc (text_of_row x) (text_of_rows xs) (text_of_rows ys))
+
+-- one row more, behind a text
+pub stored-row : (before : List ℕ) (top : List (List ℕ)) (fields : Row → List (List ℕ)) (rows : List told_row.Row)
+    (k : ℕ) (d : told_row.Row) (out new : List ℕ) → k < length rows
+    → out ≡ before ++ text_of_rows (top ∷ map fields (rows_of (take k rows)))
+    → new ≡ out ++ text_of_row (fields (row_of (get_or rows k d)))
+    → new ≡ before ++ text_of_rows (top ∷ map fields (rows_of (take (k + 1) rows)))
+stored-row before top fields rows k d out new l eo en =
+    let row = get_or rows k d in
+    let so_far = map fields (rows_of (take k rows)) in
+    let more : map fields (rows_of (take (k + 1) rows)) ≡ so_far ++ fields (row_of row) ∷ [] =
+    ap (λ (rs : List told_row.Row). map fields (rows_of rs)) (take_more rows k d l)
+    ∙ ap (map fields) (map-append row_of (take k rows) (row ∷ []))
+    ∙ map-append fields (rows_of (take k rows)) (row_of row ∷ []) in
+    en ∙ ap (λ (t : List ℕ). t ++ text_of_row (fields (row_of row))) eo
+    ∙ append_assoc before (text_of_rows (top ∷ so_far)) (text_of_row (fields (row_of row)))
+    ∙ ap (λ (t : List ℕ). before ++ t) (sym (texts-push (top ∷ so_far) (fields (row_of row)))
+    ∙ ap (λ (t : List (List (List ℕ))). text_of_rows (top ∷ t)) (sym more))
+
+-- one view more
+pub stored-view : (top : List (List ℕ)) (records : View → List (List (List ℕ))) (views : List told_view.View) (k : ℕ)
+    (view : told_view.View) (shown : List (List (List ℕ))) (out new : List ℕ) → k < length views
+    → view ≡ get_or views k view
+    → out ≡ text_of_rows (top ∷ flat_map records (each_view_of (take k views)))
+    → new ≡ out ++ text_of_rows shown → shown ≡ records (view_of view)
+    → new ≡ text_of_rows (top ∷ flat_map records (each_view_of (take (k + 1) views)))
+stored-view top records views k view shown out new l e eo en es =
+    let so_far = flat_map records (each_view_of (take k views)) in
+    let more : flat_map records (each_view_of (take (k + 1) views)) ≡ so_far ++ records (view_of view) =
+    ap (λ (vs : List told_view.View). flat_map records (each_view_of vs)) (take_more views k view l)
+    ∙ ap (λ (v : told_view.View). flat_map records (each_view_of (take k views ++ v ∷ []))) (sym e)
+    ∙ ap (flat_map records) (map-append view_of (take k views) (view ∷ []))
+    ∙ sym (flat_map_more records [] (each_view_of (take k views)) (view_of view)) in
+    en ∙ ap (λ (t : List ℕ). t ++ text_of_rows shown) eo
+    ∙ ap (λ (rs : List (List (List ℕ))). text_of_rows (top ∷ so_far) ++ text_of_rows rs) es
+    ∙ sym (texts-append (top ∷ so_far) (records (view_of view)))
+    ∙ ap (λ (t : List (List (List ℕ))). text_of_rows (top ∷ t)) (sym more)
+
+-- ---- members
+
+-- what holds of the members of rows holds of those of the structs that stand for them
+pub told-members : (n : ℕ) (rows : List told_row.Row) → All (λ r. r.member < n) (rows_of rows)
+    → All (λ r. r.member.0 < n) rows
+told-members n rows a = λ k d h. each_row (λ r. r.member < n) rows k d h a
+
+-- ---- read back
+
+abbrev Full : List (List ℕ) → Type 0
+Full r = 0 < length r
+
+full-cons : (top : List (List ℕ)) (rows : List (List (List ℕ))) → 0 < length top → All Full rows → All Full (top ∷ rows)
+full-cons top rows h t zero d l = h
+full-cons top rows h t (suc k) d l = t k d (omega arith)
+
+full-append : (xs ys : List (List (List ℕ))) → All Full xs → All Full ys → All Full (xs ++ ys)
+full-append [] ys a b = b
+full-append (x ∷ xs) ys a b = full-cons x (xs ++ ys) (a 0 x (omega arith))
+    (full-append xs ys (λ k d l. a (suc k) d (omega arith)) b)
+
+full-one : (g : Graph) (i : Instance) (v : View) → All Full (records_of_one g i v)
+full-one g i v = full-cons (beginning _) (map (λ r. _ ∷ fields_in i r) v.rows) (omega arith)
+    (All-map Full (λ r. _ ∷ fields_in i r) v.rows (λ k d l. omega arith))
+
+full-each : (g : Graph) (i : Instance) (views : List View) → All Full (flat_map (records_of_one g i) views)
+full-each g i [] = λ k d l. absurd (omega arith)
+full-each g i (v ∷ views) = full-append (records_of_one g i v) (flat_map (records_of_one g i) views) (full-one g i v)
+    (full-each g i views)
+
+-- the text of stored views reads back
+pub store-reads : (g : Graph) (i : Instance) (views : List View)
+    → records_of (store_text g i views) ≡ records_of_store g i views
+store-reads g i views =
+    text-back (records_of_store g i views)
+    (full-cons header (flat_map (records_of_one g i) views) (omega arith) (full-each g i views))
+    (λ e. absurd (omega arith))
+
+-- ---- a record
+
+pub header-is : (row : List (List ℕ)) (after : List (List (List ℕ))) (b : Bool) → IsTrue b ↔ (row ≡ header)
+    → b ≡ has_header (row ∷ after)
+header-is row after b h =
+    let d : IsTrue (pointwise bytes_eq row header) ↔ (row ≡ header) =
+    slice_eq-Decides bytes_eq-Decides row header (pointwise bytes_eq row header) refl in
+    one_answer b (pointwise bytes_eq row header) h d

@@ -1,0 +1,57 @@
+-- The numbers that std's parse gives, by the words of this crate.
+--     digits-parses, digits-of-text   a number of 64 bits
+--     wide-decides                    the test of 128 bits
+use Rattle.std.proofs.Common.{◌≡◌, ◌<◌, ◌==◌, ◌^◌, ◌&&◌, ℕ, ℤ, pos, negsuc, Bool, true, false, List, Result, Option, Some, None, if◌then◌else◌, refl, nat_lt, slice_index}
+use Rattle.std.specs.Bool.{Decides}
+use Rattle.std.specs.Result.{result_ok}
+use Rattle.std.specs.Int.RustNames.{FitsSigned}
+use Rattle.std.specs.Str.{IsUtf8}
+use Rattle.std.specs.Str.Parse.{IsNumeral, ParsesUnsigned, digits_value, without_leading_plus}
+use Rattle.std.proofs.lemmas.Bool.Decides.{Decides-and, Decides-like, Decides-ltb}
+use Rattle.std.proofs.lemmas.Fmt.{IsAscii-from_digits}
+use Rattle.std.proofs.lemmas.Str.{IsUtf8-from_ascii}
+use Rattle.olap_records.specs.Numbers.{is_numeral}
+use Rattle.olap_records.proofs.Spelling.{numeral-decides, ok-where}
+use Rattle.olap_view.specs.StoredNumbers.{digits_of, is_wide}
+use mir.Syntax.{w128}
+
+-- ---- 64 bits
+
+-- the test of digits decides std's words
+digits-decides : (bs : List ℕ) → Decides (is_numeral bs && nat_lt (digits_value 10 bs) (2 ^ 64))
+    (IsNumeral 10 bs × (digits_value 10 bs < 2 ^ 64))
+digits-decides bs =
+    Decides-and (is_numeral bs) (nat_lt (digits_value 10 bs) (2 ^ 64)) (numeral-decides bs)
+    (Decides-ltb (digits_value 10 bs) (2 ^ 64))
+
+-- with no plus first the whole text is parsed
+without-plus : (bs : List ℕ) → (slice_index bs 0 == 43) ≡ false → without_leading_plus bs ≡ bs
+without-plus bs e = rw e refl
+
+-- what std's parse gives of a text with no plus is the number that its digits spell
+pub digits-parses : {E : Type 0} (bs : List ℕ) (r : Result ℕ E) → (slice_index bs 0 == 43) ≡ false
+    → ParsesUnsigned 64 10 bs r → result_ok r ≡ digits_of bs
+digits-parses bs r e h =
+    ok-where r (is_numeral bs && nat_lt (digits_value 10 bs) (2 ^ 64)) (digits_value 10 bs)
+    (rw (without-plus bs e) at h) (digits-decides bs)
+
+-- nothing, where the test can't hold
+none-unless : {T : Type 0} {P : Type 0} (t : Bool) (v : T) → Decides t P → ¬ P
+    → ◌≡◌ {A = Option T} None (if t then Some v else None)
+none-unless true v d n = absurd (n (d.0 refl))
+none-unless false v d n = refl
+
+-- what is no text spells no number
+pub digits-of-text : (bs : List ℕ) → ¬ (IsUtf8 bs) → None ≡ digits_of bs
+digits-of-text bs n =
+    none-unless (is_numeral bs && nat_lt (digits_value 10 bs) (2 ^ 64)) (digits_value 10 bs) (digits-decides bs)
+    (λ h. n (IsUtf8-from_ascii bs (IsAscii-from_digits bs h.0.1)))
+
+-- ---- 128 bits
+
+-- the test of 128 bits decides std's word
+pub wide-decides : (z : ℤ) → Decides (is_wide z) (FitsSigned w128 z)
+wide-decides (pos n) =
+    Decides-like (nat_lt n (2 ^ 127)) (λ h. record { sfits = h }) (λ f. f.sfits) (Decides-ltb n (2 ^ 127))
+wide-decides (negsuc n) =
+    Decides-like (nat_lt n (2 ^ 127)) (λ h. record { sfits = h }) (λ f. f.sfits) (Decides-ltb n (2 ^ 127))

@@ -1,0 +1,9 @@
+-- All fields behind the category are empty where those that are left are.
+use Rattle.std.proofs.Common.{◌≡◌, drop, length}
+use Rattle.std.specs.Prelude.{◌==◌}
+use Rattle.std.specs.List.{list_all}
+use Rattle.olap_view.specs.StoreText.{is_beginning}
+use Rattle.olap_view.proofs.judging.is_beginning.Given as goal
+
+abbrev pub invariant-fields : goal.invariant-fields
+invariant-fields l = is_beginning l.rows.row ≡ list_all (λ f. length f == 0) (drop l.k l.rows.row)

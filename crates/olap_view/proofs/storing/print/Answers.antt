@@ -1,0 +1,48 @@
+-- One view more.
+use Rattle.std.proofs.Common.{ℕ, ◌≡◌, ◌<◌, ◌∙◌, List, get_or, length, subst, ap}
+use Rattle.olap_base.specs.Graph.{IsCategory}
+use Rattle.std.specs.Prelude.{All}
+use Rattle.olap_view.specs.Seen.{rows_of}
+use Rattle.olap_view.specs.StoreText.{header, records_behind, records_of_one}
+use Rattle.olap_view.proofs.StoreTextLemmas.{stored-view, told-members}
+use Rattle.olap_view.proofs.SeenLemmas.{each_view}
+use Rattle.olap_view.specs.declared.views.View as told
+use Rattle.olap_view.proofs.storing.print.Goals as goal
+
+inside : (views read : List told.View) (k : ℕ) → read ≡ views → k < length read → k < length views
+inside views read k e h = subst (λ (l : List told.View). k < length l) e h
+
+here : (views read : List told.View) (k : ℕ) (v : told.View) → read ≡ views → v ≡ get_or read k v → v ≡ get_or views k v
+here views read k v e h = h ∙ ap (λ (l : List told.View). get_or l k v) e
+
+pub name-requires : goal.name-requires
+name-requires c =
+    let views = c.args.store.now.views in
+    let read = c.items-view-items.result.now in
+    let k = c.views.view-index in
+    let same = c.items-view-items.ensures in
+    each_view (λ v. IsCategory c.args.graph.now v.category) views k c.view-item.result
+    (inside views read k same c.views-test.true) (here views read k c.view-item.result same c.view-item.is) c.requires.categories
+
+pub print_stored-requires-clause-at_members : goal.print_stored-requires-clause-at_members
+print_stored-requires-clause-at_members c =
+    let n = length c.args.instance.now in
+    let views = c.args.store.now.views in
+    let read = c.items-view-items.result.now in
+    let k = c.views.view-index in
+    let v = c.view-item.result in
+    let same = c.items-view-items.ensures in
+    told-members n v.rows (each_view (λ w. All (λ r. r.member < n) w.rows) views k v
+    (inside views read k same c.views-test.true) (here views read k v same c.view-item.is) c.requires.at_members)
+
+pub views-preserved : goal.views-preserved
+views-preserved c =
+    let i = c.args.instance.now in
+    let v = c.view-item.result in
+    record {
+      text = stored-view header (records_of_one c.args.graph.now i) c.items-view-items.result.now c.views.view-index v
+          (records_behind c.bytes.result.now i (rows_of v.rows)) c.views.out.text c.print_stored.new.out.text
+          c.views-test.true c.view-item.is c.views.invariant.text c.in_ok-print_stored.ensures.text
+          (ap (λ n. records_behind n i (rows_of v.rows)) (c.bytes.ensures ∙ c.name.ensures));
+      width = c.in_ok-print_stored.ensures.width;
+    }

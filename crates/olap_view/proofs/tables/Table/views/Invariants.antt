@@ -1,0 +1,9 @@
+-- The views of the categories so far.
+use Rattle.std.proofs.Common.{◌≡◌, map, take}
+use Rattle.olap_view.specs.Seen.{each_view_of}
+use Rattle.olap_view.specs.Tables.{ids, view_in}
+use Rattle.olap_view.proofs.tables.Table.views.Given as goal
+
+abbrev pub invariant-categories : goal.invariant-categories
+invariant-categories l = each_view_of l.views.items
+    ≡ map (view_in l.instance l.self) (ids (take l.c-index l.self.categories.items))

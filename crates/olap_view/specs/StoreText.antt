@@ -1,0 +1,145 @@
+-- The text of stored views.
+--     records_of_store   its records: the header, and for each view a record that begins it and one for each row
+--     store_text         its bytes
+--     store_fault        what is wrong with a record
+--     store_read         the views that records stand for, or the first fault
+use Rattle.std.specs.Prelude.{◌==◌, ◌&&◌, ◌+◌, ◌∷◌, Bool, false, not, ℕ, List, [], length, drop, map, filter, filter_map, find, flat_map, codes, Option, Some, None, is_none, unwrap_or, if◌then◌else◌, nat_le, Result, Ok, Err}
+use Rattle.std.specs.Cmp.Lexicographic.{pointwise}
+use Rattle.std.specs.List.{list_all, list_any}
+use Rattle.std.specs.Option.{option_and_then, option_map}
+use Rattle.std.specs.Str.{bytes_eq}
+use Rattle.olap_base.specs.Graph.{Graph}
+use Rattle.olap_base.specs.Instance.{Instance, category_of}
+use Rattle.olap_base.specs.Limits.{most_views}
+use Rattle.olap_base.specs.Naming.{Fault, place_of}
+use Rattle.olap_base.specs.Summaries.{Summary}
+use Rattle.olap_base.specs.Views.{Row, View, members_of, row_at}
+use Rattle.olap_graph.specs.Lookups.{category_named, name_of_category}
+use Rattle.olap_records.specs.Faults.{field, first_fault}
+use Rattle.olap_records.specs.Numbers.{value_of}
+use Rattle.olap_records.specs.Texts.{text_of_rows}
+use Rattle.olap_view.specs.StoredNumbers.{count_of, sum_of}
+use Rattle.olap_view.specs.ViewText as view
+use Rattle.olap_view.specs.declared.kinds.StoreKind.{StoreKind}
+use Rattle.olap_view.specs.declared.kinds.StoreKind.TheVariants as kind
+
+-- ---- printed
+
+-- the header of a view's text, behind the category
+abbrev pub header : List (List ℕ)
+header = codes "category" ∷ view.header
+
+-- a record whose fields behind the category are empty begins a view
+abbrev pub beginning : List ℕ → List (List ℕ)
+beginning name = name ∷ [] ∷ [] ∷ [] ∷ [] ∷ [] ∷ []
+
+-- the record that begins the view of that name, and one for each row: the name, and the fields of the row
+abbrev pub records_behind : List ℕ → Instance → List Row → List (List (List ℕ))
+records_behind name i rows = beginning name ∷ map (λ r. name ∷ view.fields_in i r) rows
+
+-- the records of a view
+abbrev pub records_of_one : Graph → Instance → View → List (List (List ℕ))
+records_of_one g i v = records_behind (name_of_category g v.category) i v.rows
+
+-- the header, and the records of each view
+abbrev pub records_of_store : Graph → Instance → List View → List (List (List ℕ))
+records_of_store g i views = header ∷ flat_map (records_of_one g i) views
+
+-- the text of these records
+abbrev pub store_text : Graph → Instance → List View → List ℕ
+store_text g i views = text_of_rows (records_of_store g i views)
+
+-- ---- a row's numbers
+
+-- the four numbers of a row's record, if each is one
+abbrev pub summary_read : List (List ℕ) → Option Summary
+summary_read r =
+    option_and_then (λ n. option_and_then (λ s. option_and_then (λ l. option_map
+    (λ g. record { count = n; sum = s; least = l; greatest = g })
+    (value_of (field r 5))) (value_of (field r 4))) (sum_of (field r 3))) (count_of (field r 2))
+
+-- ---- a record
+
+-- the fields behind the category are empty
+abbrev pub is_beginning : List (List ℕ) → Bool
+is_beginning r = list_all (λ f. length f == 0) (drop 1 r)
+
+-- the category that a record names, or else `All`
+abbrev pub category_number : Graph → List (List ℕ) → ℕ
+category_number g r = unwrap_or (category_named g (field r 0)) 0
+
+-- the member that a row's record names, if there is one
+abbrev pub member_named : Instance → List (List ℕ) → Option ℕ
+member_named i r = place_of (field r 1) (map (λ m. m.id) i)
+
+-- that member, or else the first
+abbrev pub member_number : Instance → List (List ℕ) → ℕ
+member_number i r = unwrap_or (member_named i r) 0
+
+-- the categories whose views the records begin, in order
+abbrev pub begun : Graph → List (List (List ℕ)) → List ℕ
+begun g rows = map (category_number g) (filter is_beginning rows)
+
+-- the record is a row of this member
+abbrev pub is_row_of : Instance → ℕ → List (List ℕ) → Bool
+is_row_of i y r = not (is_beginning r) && (member_number i r == y)
+
+-- the first check that a record fails which begins a view of c, after the records before it
+abbrev pub beginning_fault : Graph → List (List (List ℕ)) → ℕ → Option StoreKind
+beginning_fault g before c =
+    if list_any (λ d. d == c) (begun g before) then Some kind.DuplicateView
+    else if nat_le most_views (length (begun g before)) then Some kind.TooManyViews
+    else None
+
+-- the first check that a row's record fails, after the records before it. A row stands in the view of its member's
+-- category, so two rows of one member are two of one view
+abbrev pub row_fault : Graph → Instance → List (List (List ℕ)) → List (List ℕ) → Option StoreKind
+row_fault g i before r =
+    if not (list_any (λ d. d == category_number g r) (begun g before)) then Some kind.NoView
+    else if is_none (member_named i r) then Some kind.UnknownMember
+    else if not (category_of i (member_number i r) == category_number g r) then Some kind.WrongCategory
+    else if is_none (summary_read r) then Some kind.BadNumber
+    else if list_any (is_row_of i (member_number i r)) before then Some kind.DuplicateRow
+    else None
+
+-- the first check that a record fails, after the records before it
+abbrev pub store_fault : Graph → Instance → List (List (List ℕ)) → List (List ℕ) → Option StoreKind
+store_fault g i before r =
+    if not (length r == 6) then Some kind.FieldCount
+    else if is_none (category_named g (field r 0)) then Some kind.UnknownCategory
+    else if is_beginning r then beginning_fault g before (category_number g r)
+    else row_fault g i before r
+
+-- ---- all of them
+
+-- the row of a member, if some record is one
+abbrev pub row_read : Instance → List (List (List ℕ)) → ℕ → Option Row
+row_read i rows y = row_at y (option_and_then summary_read (find (is_row_of i y) rows))
+
+-- the view of c: the rows of its members, in file order of the members
+abbrev pub view_read : Instance → List (List (List ℕ)) → ℕ → View
+view_read i rows c = record { category = c; rows = filter_map (row_read i rows) (members_of i c) }
+
+-- the views that the records begin, in order
+abbrev pub views_read : Graph → Instance → List (List (List ℕ)) → List View
+views_read g i rows = map (view_read i rows) (begun g rows)
+
+-- the fault, if there is one, at its record, of which the header is the first; else what comes after it
+abbrev pub or_read : Option (ℕ × StoreKind) → Result (List View) (Fault StoreKind)
+    → Result (List View) (Fault StoreKind)
+or_read None after = after
+or_read (Some p) after = Err (record { at = p.0 + 2; kind = p.1 })
+
+-- the records after the header
+abbrev pub body_read : Graph → Instance → List (List (List ℕ)) → Result (List View) (Fault StoreKind)
+body_read g i rows = or_read (first_fault (store_fault g i) [] rows) (Ok (views_read g i rows))
+
+-- the first record is the header
+abbrev pub has_header : List (List (List ℕ)) → Bool
+has_header [] = false
+has_header (top ∷ rows) = pointwise bytes_eq top header
+
+-- what the records of a text stand for
+abbrev pub store_read : Graph → Instance → List (List (List ℕ)) → Result (List View) (Fault StoreKind)
+store_read g i records =
+    if has_header records then body_read g i (drop 1 records) else Err (record { at = 1; kind = kind.BadHeader })

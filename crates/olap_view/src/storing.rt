@@ -1,0 +1,185 @@
+// The text of stored views: reading and printing it.
+ghost use Rattle.std.specs.Prelude.{◌≡◌, ◌<◌, ◌≤◌, ◌++◌, [], All, IfOk, IsTrue, MatchResult, None, Ok, OnOk, drop, length};
+ghost use Rattle.olap_base.specs.Graph.{IsCategory};
+ghost use Rattle.olap_base.specs.Limits.{most_members};
+ghost use Rattle.olap_instance.specs.Made.{IsMadeFor};
+ghost use Rattle.olap_records.specs.Faults.{first_fault};
+ghost use Rattle.olap_records.specs.Records.{records_of};
+ghost use Rattle.olap_records.specs.Texts.{text_of_rows};
+ghost use Rattle.olap_view.specs.Kinds.{IsStoreRefusedBy};
+ghost use Rattle.olap_view.specs.Seen.{each_view_of, rows_of, views_of};
+ghost use Rattle.olap_view.specs.StoreReading.{IsSoundStore, IsStoreFaultOf, Tells};
+ghost use Rattle.olap_view.specs.StoreText.{has_header, records_behind, records_of_store, store_fault, store_read, store_text, views_read};
+ghost use Rattle.olap_view.specs.Stores.{Fits, IsStore};
+
+use crate::judging::{enter, judge};
+use crate::printing::print_row;
+use crate::tables::Table;
+use crate::{Store, StoreKind, StoreRefusal, View};
+use olap_base::{List, Memory, Text};
+use olap_graph::Graph;
+use olap_instance::Instance;
+use olap_records::{Printer, Rows};
+use std::alloc::Global;
+
+/// Prints a view behind what is printed: the record that begins it, and its rows.
+fn print_stored(
+    out: &mut Printer,
+    instance: &Instance,
+    name: &[u8],
+    view: &View,
+) -> Result<(), Memory>
+    requires width { out.old.width ≡ 6 }
+    requires at_members { All (λ r. r.member.0 < length instance.now) view.now.rows }
+    ensures text { OnOk result (out.new.text
+        ≡ out.old.text ++ text_of_rows (records_behind name.now instance.now (rows_of view.now.rows))) }
+    ensures width { out.new.width ≡ 6 }
+{
+    out.row(&[name, b"", b"", b"", b"", b""])?;
+    'rows: for row in view.rows.items() {
+        print_row(out, Some(name), instance.id(row.member).bytes(), row)?;
+    }
+    Ok(())
+}
+
+/// The bytes of the text of stored views.
+fn print(
+    alloc: Global,
+    graph: &Graph,
+    instance: &Instance,
+    store: &Store,
+) -> Result<Vec<u8>, Memory>
+    requires categories { All (λ v. IsCategory graph.now v.category) (views_of store.now) }
+    requires at_members { All (λ v. All (λ r. r.member < length instance.now) v.rows) (views_of store.now) }
+    ensures { IfOk result (λ bytes. bytes.items ≡ store_text graph.now instance.now (views_of store.now)) }
+{
+    let mut out = Printer::new(alloc, 6);
+    out.row(&[
+        b"category",
+        b"member",
+        b"count",
+        b"sum",
+        b"least",
+        b"greatest",
+    ])?;
+    'views: for view in store.views.items() {
+        print_stored(&mut out, instance, graph.name(view.category).bytes(), view)?;
+    }
+    out.finish()
+}
+
+/// The text of stored views: a header, and for each view a record that begins it and a record for each row, with the
+/// category's name, the member's id and the four numbers in decimal. Its records read back as these. `Memory`: want of
+/// memory.
+pub fn print_store(
+    alloc: Global,
+    graph: &Graph,
+    instance: &Instance,
+    store: &Store,
+) -> Result<Text, Memory>
+    requires categories { All (λ v. IsCategory graph.now v.category) (views_of store.now) }
+    requires at_members { All (λ v. All (λ r. r.member < length instance.now) v.rows) (views_of store.now) }
+
+    ensures text { IfOk result (λ text. text ≡ store_text graph.now instance.now (views_of store.now)) }
+    ensures reads { IfOk result (λ text. records_of text
+        ≡ records_of_store graph.now instance.now (views_of store.now)) }
+{
+    Ok(Text::from_vec(print(alloc, graph, instance, store)?))
+}
+
+/// Reads the first record, and says whether it is the header.
+fn begins(rows: &mut Rows) -> Result<bool, Memory>
+    ensures header { IfOk result (λ b. b ≡ has_header rows.old.left) }
+    ensures left { IfOk result (λ b. IsTrue b → rows.new.left ≡ drop 1 rows.old.left) }
+{
+    let found = rows.advance()?;
+    Ok(
+        found
+            && rows.is_row(&[
+                b"category",
+                b"member",
+                b"count",
+                b"sum",
+                b"least",
+                b"greatest",
+            ]),
+    )
+}
+
+/// Enters what the records say that are left into a table with nothing in it.
+fn read_rows(
+    graph: &Graph,
+    instance: &Instance,
+    rows: &mut Rows,
+    table: &mut Table,
+) -> Result<(), StoreRefusal>
+    requires told { Tells graph.now instance.now [] table.old }
+    requires few { length instance.now ≤ most_members }
+    ensures { MatchResult result
+        (λ _. (first_fault (store_fault graph.now instance.now) [] rows.old.left ≡ None)
+        × Tells graph.now instance.now rows.old.left table.new)
+        (λ e. IsStoreFaultOf (first_fault (store_fault graph.now instance.now) [] rows.old.left) e) }
+{
+    let mut at = 2;
+    'rows: while rows.advance()? {
+        match judge(graph, instance, rows, table) {
+            Ok(entry) => enter(table, entry)?,
+            Err(kind) => return Err(StoreRefusal::Fault { at, kind }),
+        }
+        at += 1;
+    }
+    Ok(())
+}
+
+/// The views that the records say that are left.
+fn read_views(
+    alloc: Global,
+    graph: &Graph,
+    instance: &Instance,
+    rows: &mut Rows,
+) -> Result<List<View>, StoreRefusal>
+    ensures read { MatchResult result
+        (λ v. (first_fault (store_fault graph.now instance.now) [] rows.old.left ≡ None)
+        × (each_view_of v ≡ views_read graph.now instance.now rows.old.left))
+        (λ e. IsStoreFaultOf (first_fault (store_fault graph.now instance.now) [] rows.old.left) e) }
+    ensures sound { IfOk result (λ v. IsSoundStore graph.now instance.now (each_view_of v)) }
+{
+    let mut table = Table::open(alloc, instance)?;
+    read_rows(graph, instance, rows, &mut table)?;
+    Ok(table.views(alloc, instance)?)
+}
+
+/// The stored views that a text tells, or the text's first fault. The rows of each view stand in the order of their
+/// members, whatever their order in the text.
+///
+/// Linear in the text: each record takes a look-up of a category's name and one of a member's id. It takes memory for
+/// each member of the instance. `Memory`: want of memory.
+pub fn read_store(
+    alloc: Global,
+    graph: &Graph,
+    instance: &Instance,
+    text: &[u8],
+) -> Result<Store, StoreRefusal>
+    requires made { IsMadeFor graph.now instance.now }
+
+    ensures read { MatchResult result
+        (λ store. store_read graph.now instance.now (records_of text.now) ≡ Ok (views_of store))
+        (λ e. IsStoreRefusedBy e (store_read graph.now instance.now (records_of text.now))) }
+
+    ensures store { IfOk result (λ store. IsStore (views_of store)) }
+    ensures fit { IfOk result (λ store. All Fits (views_of store)) }
+    ensures categories { IfOk result (λ store. All (λ v. IsCategory graph.now v.category) (views_of store)) }
+    ensures at_members { IfOk result (λ store.
+        All (λ v. All (λ r. r.member < length instance.now) v.rows) (views_of store)) }
+{
+    let mut rows = Rows::new(alloc, text);
+    if !begins(&mut rows)? {
+        return Err(StoreRefusal::Fault {
+            at: 1,
+            kind: StoreKind::BadHeader,
+        });
+    }
+    Ok(Store {
+        views: read_views(alloc, graph, instance, &mut rows)?,
+    })
+}
