@@ -1,0 +1,5 @@
+-- Lemmas.
+pub mod ChosenLemmas
+mod PatternLemmas
+mod FoundLemmas
+mod ChoiceLemmas

@@ -1,0 +1,22 @@
+use Rattle.std.proofs.Common.{List, ap, sym, ◌∙◌}
+use Rattle.std.proofs.lemmas.Result.{err_from_is_err_and}
+use Rattle.olap_base.specs.Views.{Row, rows_from_views}
+use Rattle.olap_nav.proofs.ChosenLemmas.{chosen_direct}
+use Rattle.olap_nav.proofs.answering.answer.Goals as goal
+use Rattle.olap_view.specs.Seen.{views_of}
+
+pub returns-in_err-plan-clause-not_answerable : goal.returns-in_err-plan-clause-not_answerable
+returns-in_err-plan-clause-not_answerable c =
+    let p = err_from_is_err_and c.from_residual.result c.from_residual.ensures.1 in
+    let same = p.1 in
+    let given = p.2 in
+    λ e. c.in_err-plan.ensures.not_answerable (cc)
+
+pub returns-clause-direct : goal.returns-clause-direct
+returns-clause-direct c = λ facts table e.
+    let i = c.args.legal.now in
+    let direct = chosen_direct i facts 0 (views_of c.args.store.now) c.in_ok-plan.plan.mask e in
+    let agree = c.in_ok-plan.ensures.plan.serves.summarizable i c.requires.legal facts table in
+    c.in_ok-view.ensures.view
+    ∙ ap (λ (rows : List Row). record { category = c.args.target.0; rows = rows })
+    (ap (rows_from_views i c.args.target.0) direct ∙ sym agree)

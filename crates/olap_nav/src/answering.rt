@@ -1,0 +1,56 @@
+// A view from stored views.
+ghost use Rattle.std.specs.Prelude.{◌≡◌, ◌<◌, ℕ, All, Err, IfOk, List as Items, length};
+ghost use Rattle.olap_ast.specs.Schema.{IsLegal};
+ghost use Rattle.olap_base.specs.Graph.{IsCategory};
+ghost use Rattle.olap_base.specs.Views.{Fact, IsFactTable, direct_view, direct_views, rows_from_views};
+ghost use Rattle.olap_nav.specs.Plans.{IsPlan, Serves, categories_of, rows_in};
+ghost use Rattle.olap_nav.specs.declared.choice.PlanRefusal.TheVariants as refusal;
+ghost use Rattle.olap_schema.specs.Schemas.{schema_of};
+ghost use Rattle.olap_view.specs.Seen.{view_of, views_of};
+ghost use Rattle.olap_view.specs.Stores.{Fits, IsStore, chosen};
+
+use crate::choice::{Plan, PlanRefusal};
+use crate::planning::plan;
+use olap_base::CatId;
+use olap_check::Legal;
+use olap_schema::Schema;
+use olap_view::{Store, View, from_views};
+use std::alloc::Global;
+
+/// The plan for the target, and the view of the target from the plan's views.
+///
+/// Where the stored views are the direct views of one fact table on the instance, this is the target's direct view.
+/// `NotAnswerable`: exactly where there is no plan. `Memory`: want of memory.
+pub fn answer(
+    alloc: Global,
+    schema: &Schema,
+    legal: &Legal,
+    store: &Store,
+    target: CatId,
+) -> Result<(Plan, View), PlanRefusal>
+    requires target { IsCategory (schema_of schema.now).graph target.0 }
+    requires legal { IsLegal (schema_of schema.now) legal.now }
+    requires store { IsStore (views_of store.now) }
+    requires fit { All Fits (views_of store.now) }
+    requires categories { All (λ v. IsCategory (schema_of schema.now).graph v.category) (views_of store.now) }
+    requires at_members { All (λ v. All (λ r. r.member < length legal.now) v.rows) (views_of store.now) }
+
+    ensures plan { IfOk result (λ a. IsPlan (schema_of schema.now) (views_of store.now) target.0 a.0.mask) }
+    ensures rows { IfOk result (λ a. a.0.rows ≡ rows_in (views_of store.now) a.0.mask) }
+    ensures view { IfOk result (λ a. view_of a.1 ≡ record {
+      category = target.0;
+      rows = rows_from_views legal.now target.0 (chosen (views_of store.now) a.0.mask);
+    }) }
+    ensures members { IfOk result (λ a. All (λ r. r.member.0 < length legal.now) a.1.rows) }
+
+    ensures direct { IfOk result (λ a. (facts : Items Fact) → IsFactTable (schema_of schema.now).graph legal.now facts
+        → views_of store.now ≡ direct_views legal.now facts (categories_of (views_of store.now))
+        → view_of a.1 ≡ direct_view legal.now facts target.0) }
+
+    ensures not_answerable { result ≡ Err refusal.NotAnswerable → (m : ℕ)
+        → Serves (schema_of schema.now) (views_of store.now) target.0 m → ⊥ }
+{
+    let plan = plan(alloc, schema, store, target)?;
+    let view = from_views(alloc, legal, store, plan.mask, target)?;
+    Ok((plan, view))
+}
