@@ -5,6 +5,8 @@
 #![tactic(auto)]
 
 #[cfg(test)]
+mod answers;
+#[cfg(test)]
 mod checks;
 #[cfg(test)]
 mod faults;
@@ -12,6 +14,8 @@ mod faults;
 mod formats;
 #[cfg(test)]
 mod limits;
+#[cfg(test)]
+mod listings;
 #[cfg(test)]
 mod many;
 #[cfg(test)]
@@ -22,3 +26,5 @@ mod rollups;
 mod running;
 #[cfg(test)]
 mod samples;
+#[cfg(test)]
+mod stores;

@@ -74,6 +74,22 @@ pub(crate) fn check_status(
     Ok(())
 }
 
+/// The status and the output of a command line, over ample room.
+pub(crate) fn run(
+    alloc: Global,
+    line: &[&str],
+    held: &[(&str, &str)],
+) -> Result<(Status, String), Fail> {
+    let mut library = MemLibrary::new(files(alloc, held)?, 4096, listed(alloc, None)?);
+    let mut sink = MemSink::new(alloc, 100_000, 4096, listed(alloc, None)?)?;
+    let words = words(alloc, line)?;
+    let status = olap(alloc, &words, &mut library, &mut sink);
+    let Ok(output) = str::from_utf8(sink.contents()) else {
+        return Err("an output that is no text".into());
+    };
+    Ok((status, String::from_str(alloc, output)?))
+}
+
 /// The text with the first place of this line changed.
 pub(crate) fn changed(alloc: Global, text: &str, old: &str, new: &str) -> Result<String, Fail> {
     let Some((before, behind)) = text.split_once(old) else {

@@ -1,6 +1,6 @@
 -- What is found answers a question.
-use Rattle.std.proofs.Common.{◌≡◌, ℕ, ◌<◌, List, [], ◌∷◌, ◌++◌, length, Bool, true, false, ◌||◌, codes, Ok, refl, inl, inr, subst, sym}
-use Rattle.std.specs.Prelude.{All, Contains, IsTrue, not, map, filter, flat_map, ◌==◌}
+use Rattle.std.proofs.Common.{◌≡◌, ℕ, ◌<◌, List, [], ◌∷◌, ◌++◌, Bool, true, false, ◌||◌, codes, Ok, refl, inl, inr, subst, sym}
+use Rattle.std.specs.Prelude.{All, Contains, IsTrue, not, filter, flat_map, ◌==◌}
 use Rattle.std.specs.List.{list_any}
 use Rattle.std.specs.Str.{is_utf8}
 use Rattle.std.proofs.lemmas.List.{get_or-map, length-map}
@@ -22,7 +22,7 @@ use Rattle.olap_cex.specs.Laws.{QuestionIsTrue, RootIsMember}
 use Rattle.olap_frozen.specs.LeastFound.{IsLeastFound, frozen_of}
 use Rattle.olap_frozen.specs.declared.founding.Found.{Found}
 use Rattle.olap_names.specs.Names.{candidates_of}
-use Rattle.olap_schema.specs.Lines.{is_bad, is_control}
+use Rattle.olap_schema.specs.Lines.{is_control}
 use Rattle.olap_schema.specs.PrintingLaws.{AreTexts}
 use Rattle.olap_summ.specs.Counterexamples.{IsCounterexampleFound, numbers_of}
 use Rattle.olap_run.specs.Certificates.{ShowsUnmet}

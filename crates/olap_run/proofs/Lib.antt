@@ -3,3 +3,5 @@ mod CertificateLemmas
 mod SourceLemmas
 mod Stepping
 mod TellingLemmas
+mod LineLemmas
+mod ListingLemmas

@@ -1,6 +1,6 @@
--- Sources that are read from words, one after the other.
---     IsReadTo     the order of all the words is that of those that are left, behind the sources that were read
-use Rattle.std.proofs.Common.{◌≡◌, ℕ, suc, ◌+◌, ◌<◌, ◌≤◌, List, [], ◌∷◌, ◌++◌, length, get_or, drop, Bool, true, false, ◌||◌, refl, Result, Ok, Err, ap, sym, subst, ◌∙◌, arith}
+-- Categories that are read from words, one after the other.
+--     IsReadTo     the order of all the words is that of those that are left, behind the categories that were read
+use Rattle.std.proofs.Common.{◌≡◌, ℕ, suc, ◌+◌, ◌<◌, ◌≤◌, List, [], ◌∷◌, ◌++◌, length, get_or, drop, true, false, ◌||◌, refl, Result, Ok, Err, ap, sym, subst, ◌∙◌, arith}
 use Rattle.std.specs.Prelude.{All, Contains, IsErrAnd, ◌==◌}
 use Rattle.std.specs.List.{list_any}
 use Rattle.std.proofs.lemmas.Bool.Decides.{nat_tests}
@@ -17,7 +17,7 @@ use Rattle.olap_summ.specs.Counterexamples.{numbers_of}
 use Rattle.olap_run.specs.Judged.{Replies}
 use Rattle.olap_run.specs.Order.{Order}
 use Rattle.olap_run.specs.Questions.{Question, IsAnswer}
-use Rattle.olap_run.specs.Steps.{with_source, with_sources}
+use Rattle.olap_run.specs.Steps.{with_another, with_different}
 use Rattle.olap_run.specs.Taken.{PlainStep}
 use Rattle.olap_run.specs.Words.{texts}
 use Rattle.olap_run.specs.declared.replies.Stop.{Stop}
@@ -42,36 +42,36 @@ not_among xs c e h =
     same : (n : ℕ) → n == n ≡ true
     same n = grind (arith, nat_tests)
 
-module _ (g : Graph) (at : ℕ) (names : List (List ℕ)) where
+module _ (twice : List ℕ) (g : Graph) (at : ℕ) (names : List (List ℕ)) where
   pub record IsReadTo (k : ℕ) (sources : List ℕ) : Type 0 where
     pub order : (next : List ℕ → Order Question)
-        → with_sources g at [] names next ≡ with_sources g (at + k) sources (drop k names) next
+        → with_different twice g at [] names next ≡ with_different twice g (at + k) sources (drop k names) next
     pub categories : All (IsCategory g) sources
     pub differ : Distinct sources
 
-  -- with one word more to read, the order is that of this word's source
+  -- with one word more to read, the order is that of this word's category
   at_word : (k : ℕ) (sources : List ℕ) → k < length names → IsReadTo k sources → (next : List ℕ → Order Question)
-      → with_sources g at [] names next ≡ with_source g (at + k) sources (get_or names k [])
-      (λ c. with_sources g (suc (at + k)) (sources ++ c ∷ []) (drop (k + 1) names) next)
+      → with_different twice g at [] names next ≡ with_another twice g (at + k) sources (get_or names k [])
+      (λ c. with_different twice g (suc (at + k)) (sources ++ c ∷ []) (drop (k + 1) names) next)
   at_word k sources h r next = r.order next
-      ∙ ap (λ ns. with_sources g (at + k) sources ns next) (drop_more names k [] h)
+      ∙ ap (λ ns. with_different twice g (at + k) sources ns next) (drop_more names k [] h)
 
   pub read_none : IsReadTo 0 []
   read_none = record {
-    order = λ next. let e : at ≡ at + 0 = omega arith in ap (λ n. with_sources g n [] names next) e;
+    order = λ next. let e : at ≡ at + 0 = omega arith in ap (λ n. with_different twice g n [] names next) e;
     categories = λ k d l. absurd (omega arith);
     differ = tt;
   }
 
   pub read_more : (k : ℕ) (sources new : List ℕ) (c : ℕ) → k < length names → IsReadTo k sources
-      → ((next : ℕ → Order Question) → with_source g (at + k) sources (get_or names k []) next ≡ next c)
+      → ((next : ℕ → Order Question) → with_another twice g (at + k) sources (get_or names k []) next ≡ next c)
       → IsCategory g c → list_any (λ d. d == c) sources ≡ false → new ≡ sources ++ c ∷ [] → IsReadTo (k + 1) new
   read_more k sources new c h r goes category fresh e = record {
     order = λ next. at_word k sources h r next
-        ∙ goes (λ d. with_sources g (suc (at + k)) (sources ++ d ∷ []) (drop (k + 1) names) next)
-        ∙ ap (λ xs. with_sources g (suc (at + k)) xs (drop (k + 1) names) next) (sym e)
+        ∙ goes (λ d. with_different twice g (suc (at + k)) (sources ++ d ∷ []) (drop (k + 1) names) next)
+        ∙ ap (λ xs. with_different twice g (suc (at + k)) xs (drop (k + 1) names) next) (sym e)
         ∙ (let p : suc (at + k) ≡ at + (k + 1) = omega arith in
-        ap (λ n. with_sources g n new (drop (k + 1) names) next) p);
+        ap (λ n. with_different twice g n new (drop (k + 1) names) next) p);
     categories = subst (All (IsCategory g)) (sym e) (All-append (IsCategory g) sources (c ∷ []) r.categories
         (All-cons (IsCategory g) c [] category (λ j d l. absurd (omega arith))));
     differ = subst Distinct (sym e) (Distinct-push sources c r.differ (not_among sources c fresh));
@@ -79,16 +79,16 @@ module _ (g : Graph) (at : ℕ) (names : List (List ℕ)) where
 
   -- all words are read
   pub read_all : (k : ℕ) (sources : List ℕ) → length names ≤ k → IsReadTo k sources → (next : List ℕ → Order Question)
-      → with_sources g at [] names next ≡ next sources
-  read_all k sources h r next = r.order next ∙ ap (λ ns. with_sources g (at + k) sources ns next) (drop_all k names h)
+      → with_different twice g at [] names next ≡ next sources
+  read_all k sources h r next = r.order next ∙ ap (λ ns. with_different twice g (at + k) sources ns next) (drop_all k names h)
 
   -- where a word isn't taken, the order ends as it does there
   pub ends_at : (k : ℕ) (sources : List ℕ) (stop : Stop) → k < length names → IsReadTo k sources
       → ((next : ℕ → Order Question)
-      → Replies IsAnswer (with_source g (at + k) sources (get_or names k []) next) (Err stop))
-      → (next : List ℕ → Order Question) → Replies IsAnswer (with_sources g at [] names next) (Err stop)
+      → Replies IsAnswer (with_another twice g (at + k) sources (get_or names k []) next) (Err stop))
+      → (next : List ℕ → Order Question) → Replies IsAnswer (with_different twice g at [] names next) (Err stop)
   ends_at k sources stop h r ends next = subst (λ o. Replies IsAnswer o (Err stop)) (sym (at_word k sources h r next))
-      (ends (λ c. with_sources g (suc (at + k)) (sources ++ c ∷ []) (drop (k + 1) names) next))
+      (ends (λ c. with_different twice g (suc (at + k)) (sources ++ c ∷ []) (drop (k + 1) names) next))
 
 -- a step that isn't taken ends as its result does
 pub plain_ends : {T X : Type 0} {step : (T → Order Question) → Order Question} {meaning : X → T} (stop : Stop)

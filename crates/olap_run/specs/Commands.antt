@@ -1,13 +1,13 @@
 -- The order in which each command judges its files and words.
 use Rattle.std.specs.Prelude.{ℕ, List, [], Option, None, Some, ◌-◌, length, codes}
 use Rattle.olap_base.specs.Instance.{Instance}
-use Rattle.olap_base.specs.Views.{direct_view}
+use Rattle.olap_base.specs.Views.{direct_view, direct_views}
 use Rattle.olap_ast.specs.Schema.{Schema}
 use Rattle.olap_graph.specs.Lookups.{category_named}
 use Rattle.olap_run.specs.Order.{Order, Done}
-use Rattle.olap_run.specs.Questions.{Question, ByUsage, ByView, ByFormat, ByLegal, BySatisfiable, ByImplied, BySummarizable}
-use Rattle.olap_run.specs.Requests.{Request, Rollup, Format, Check, Satisfiable, Implies, Summarizable, request_of}
-use Rattle.olap_run.specs.Steps.{known, with_root, with_formula, with_sources, with_schema_in, with_legal_in, with_facts_in}
+use Rattle.olap_run.specs.Questions.{Question, ByUsage, ByView, ByFormat, ByLegal, BySatisfiable, ByImplied, BySummarizable, ByFrozen, ByAudit, ByStore, ByPlan}
+use Rattle.olap_run.specs.Requests.{Request, Rollup, Format, Check, Satisfiable, Implies, Summarizable, Frozen, Audit, Store, Answer, request_of}
+use Rattle.olap_run.specs.Steps.{known, with_root, with_formula, with_different, with_schema_in, with_legal_in, with_facts_in, with_store_in}
 
 -- the facts, and then the view
 abbrev pub view_order : Schema → Instance → ℕ → List ℕ → Order Question
@@ -53,8 +53,41 @@ abbrev pub summarizable_order : List ℕ → List ℕ → List (List ℕ) → Or
 summarizable_order schema target sources =
     with_schema_in (codes "schema") schema (λ s.
     known 3 (category_named s.graph target) (λ c.
-    with_sources s.graph 4 [] sources (λ cs.
+    with_different (codes "DuplicateSource") s.graph 4 [] sources (λ cs.
     Done (BySummarizable s c cs))))
+
+-- the schema, and the category
+abbrev pub frozen_order : List ℕ → List ℕ → Order Question
+frozen_order schema category =
+    with_schema_in (codes "schema") schema (λ s.
+    known 3 (category_named s.graph category) (λ c.
+    Done (ByFrozen s c)))
+
+-- the schema alone
+abbrev pub audit_order : List ℕ → Order Question
+audit_order schema = with_schema_in (codes "schema") schema (λ s. Done (ByAudit s))
+
+-- the facts, and then the views
+abbrev pub views_order : Schema → Instance → List ℕ → List ℕ → Order Question
+views_order s i cs facts = with_facts_in s i (codes "facts") facts (λ table.
+    Done (ByStore s.graph i (direct_views i table cs)))
+
+-- the schema, the categories from left to right, the instance and its laws, and then the facts
+abbrev pub store_order : List ℕ → List ℕ → List ℕ → List (List ℕ) → Order Question
+store_order schema instance facts categories =
+    with_schema_in (codes "schema") schema (λ s.
+    with_different (codes "DuplicateView") s.graph 5 [] categories (λ cs.
+    with_legal_in s (codes "instance") instance (λ i.
+    views_order s i cs facts)))
+
+-- the schema, the target, the instance and its laws, and then the stored views
+abbrev pub answer_order : List ℕ → List ℕ → List ℕ → List ℕ → Order Question
+answer_order schema instance store target =
+    with_schema_in (codes "schema") schema (λ s.
+    known 5 (category_named s.graph target) (λ c.
+    with_legal_in s (codes "instance") instance (λ i.
+    with_store_in s i (codes "store") store (λ views.
+    Done (ByPlan s i views c)))))
 
 -- the order of a command
 abbrev pub order : Request → Order Question
@@ -64,6 +97,10 @@ order (Check schema instance) = check_order schema instance
 order (Satisfiable schema category) = satisfiable_order schema category
 order (Implies schema root formula) = implies_order schema root formula
 order (Summarizable schema target sources) = summarizable_order schema target sources
+order (Frozen schema category) = frozen_order schema category
+order (Audit schema) = audit_order schema
+order (Store schema instance facts categories) = store_order schema instance facts categories
+order (Answer schema instance store target) = answer_order schema instance store target
 
 -- words that are no command are answered by the usage
 abbrev pub order_or_usage : Option Request → Order Question

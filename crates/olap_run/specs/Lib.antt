@@ -5,6 +5,7 @@ pub mod Order
 pub mod Outputs
 pub mod Violations
 pub mod Certificates
+pub mod Listings
 pub mod Questions
 pub mod Steps
 pub mod Commands

@@ -10,9 +10,13 @@ use Rattle.olap_ast.specs.Formula.{Formula}
 use Rattle.olap_ast.specs.Questions.{IsImplied}
 use Rattle.olap_ast.specs.Schema.{Schema}
 use Rattle.olap_ast.specs.Summarizable.{IsSummarizable}
+use Rattle.olap_base.specs.Graph.{Graph}
+use Rattle.olap_nav.specs.Plans.{Serves}
 use Rattle.olap_schema.specs.Printing.{schema_text}
+use Rattle.olap_view.specs.StoreText.{store_text}
 use Rattle.olap_view.specs.ViewText.{view_text}
 use Rattle.olap_run.specs.Certificates.{ShowsMember, ShowsUnmet, ShowsDifference}
+use Rattle.olap_run.specs.Listings.{HasTooMany, ListsFindings, ListsFrozen, ShowsPlan}
 use Rattle.olap_run.specs.Outputs.{line, refusal}
 use Rattle.olap_run.specs.declared.status.Status.{Status}
 use Rattle.olap_run.specs.declared.status.Status.TheVariants.{Yes, No, Usage, Refused}
@@ -34,6 +38,14 @@ pub data Question : Type 0 where
   ByImplied : (schema : Schema) (root : ℕ) (formula : Formula) → Question
   -- is the target's view always that from the sources' views?
   BySummarizable : (schema : Schema) (target : ℕ) (sources : List ℕ) → Question
+  -- which frozen dimensions with this root are there?
+  ByFrozen : (schema : Schema) (root : ℕ) → Question
+  -- what does the schema say or do for nothing?
+  ByAudit : (schema : Schema) → Question
+  -- views are to be stored
+  ByStore : (graph : Graph) (members : Instance) (views : List View) → Question
+  -- from which stored views is the target's view computed, and what is it?
+  ByPlan : (schema : Schema) (members : Instance) (views : List View) (target : ℕ) → Question
 
 -- these are the status and the bytes
 abbrev pub IsAnswer : Question → Status → List ℕ → Type 0
@@ -51,3 +63,12 @@ IsAnswer (ByImplied s r q) status bytes =
 IsAnswer (BySummarizable s c sources) status bytes =
     ((status ≡ Yes) × IsSummarizable s c sources × (bytes ≡ line (codes "yes")))
     ⊎ ((status ≡ No) × ShowsDifference s c sources bytes)
+IsAnswer (ByFrozen s c) status bytes =
+    ((status ≡ Yes) × ListsFrozen s c bytes)
+    ⊎ ((status ≡ Refused) × HasTooMany s c × (bytes ≡ refusal (codes "frozen TooMany")))
+IsAnswer (ByAudit s) status bytes = (status ≡ Yes) × ListsFindings s bytes
+IsAnswer (ByStore g members views) status bytes = (status ≡ Yes) × (bytes ≡ store_text g members views)
+IsAnswer (ByPlan s members views c) status bytes =
+    ((status ≡ Yes) × ShowsPlan s members views c bytes)
+    ⊎ ((status ≡ Refused) × ((mask : ℕ) → Serves s views c mask → ⊥)
+    × (bytes ≡ refusal (codes "answer NotAnswerable")))

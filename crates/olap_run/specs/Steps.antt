@@ -3,8 +3,8 @@
 --     known            by a category word
 --     accepted         by what a text stands for
 --     when_legal       by whether an instance is legal
---     with_root, with_formula, with_sources      by the words of a question
---     with_schema_in, with_legal_in, with_facts_in      by a schema, a legal instance, facts in a file
+--     with_root, with_formula, with_different      by the words of a question
+--     with_schema_in, with_legal_in, with_facts_in, with_store_in      by a schema, a legal instance, facts, stored views in a file
 use Rattle.std.specs.Prelude.{ℕ, zero, suc, List, [], ◌∷◌, ◌++◌, ◌==◌, length, nat_lt, codes, Option, None, Some, Result, Ok, Err, if◌then◌else◌}
 use Rattle.std.specs.Fmt.{decimal}
 use Rattle.std.specs.List.{list_any}
@@ -12,7 +12,7 @@ use Rattle.olap_base.specs.Instance.{Instance}
 use Rattle.olap_base.specs.Graph.{Graph}
 use Rattle.olap_base.specs.Limits.{most_facts, most_file_bytes}
 use Rattle.olap_base.specs.Naming.{Fault}
-use Rattle.olap_base.specs.Views.{Fact}
+use Rattle.olap_base.specs.Views.{Fact, View}
 use Rattle.olap_ast.specs.Formula.{Formula}
 use Rattle.olap_ast.specs.Schema.{Schema}
 use Rattle.olap_ast.specs.Violation.{Violation}
@@ -25,6 +25,8 @@ use Rattle.olap_instance.specs.InstanceText.{instance_read}
 use Rattle.olap_instance.specs.Kinds.{name_of_kind as instance_kind}
 use Rattle.olap_facts.specs.FactText.{facts_read_within}
 use Rattle.olap_facts.specs.Kinds.{name_of_kind as fact_kind}
+use Rattle.olap_view.specs.StoreText.{store_read}
+use Rattle.olap_view.specs.Kinds.{name_of_kind as store_kind}
 use Rattle.olap_check.specs.FirstViolation.{first_violation}
 use Rattle.olap_check.specs.Reports.{told}
 use Rattle.olap_run.specs.Order.{Order, Done, Read}
@@ -58,21 +60,21 @@ worded at (Err kind) next = Done (ByRefusal (fault_text (codes "word") at (schem
 abbrev pub with_formula : Schema → ℕ → ℕ → List ℕ → (Formula → Order Question) → Order Question
 with_formula s root at text next = worded at (question_read s root text) next
 
--- a source that is none of those before it goes on
-abbrev pub undoubled : ℕ → List ℕ → ℕ → Order Question → Order Question
-undoubled at earlier c next =
-    if list_any (λ d. d == c) earlier then Done (ByRefusal (fault_text (codes "word") at (codes "DuplicateSource")))
-    else next
+-- a category that is none of those before it goes on; else the fault has this name
+abbrev pub undoubled : List ℕ → ℕ → List ℕ → ℕ → Order Question → Order Question
+undoubled twice at earlier c next =
+    if list_any (λ d. d == c) earlier then Done (ByRefusal (fault_text (codes "word") at twice)) else next
 
--- a source, behind these
-abbrev pub with_source : Graph → ℕ → List ℕ → List ℕ → (ℕ → Order Question) → Order Question
-with_source g at earlier name next = known at (category_named g name) (λ c. undoubled at earlier c (next c))
+-- a category, behind these
+abbrev pub with_another : List ℕ → Graph → ℕ → List ℕ → List ℕ → (ℕ → Order Question) → Order Question
+with_another twice g at earlier name next =
+    known at (category_named g name) (λ c. undoubled twice at earlier c (next c))
 
--- sources from this word on, left to right, behind these
-abbrev pub with_sources : Graph → ℕ → List ℕ → List (List ℕ) → (List ℕ → Order Question) → Order Question
-with_sources g at earlier [] next = next earlier
-with_sources g at earlier (name ∷ names) next =
-    with_source g at earlier name (λ c. with_sources g (suc at) (earlier ++ c ∷ []) names next)
+-- different categories from this word on, left to right, behind these
+abbrev pub with_different : List ℕ → Graph → ℕ → List ℕ → List (List ℕ) → (List ℕ → Order Question) → Order Question
+with_different twice g at earlier [] next = next earlier
+with_different twice g at earlier (name ∷ names) next =
+    with_another twice g at earlier name (λ c. with_different twice g (suc at) (earlier ++ c ∷ []) names next)
 
 -- a file is read, and refused under its label where it is too long
 abbrev pub read_within : List ℕ → List ℕ → (List ℕ → Order Question) → Order Question
@@ -113,3 +115,8 @@ with_legal_in s label file next = read_within label file (λ text.
 abbrev pub with_facts_in : Schema → Instance → List ℕ → List ℕ → (List Fact → Order Question) → Order Question
 with_facts_in s i label file next = read_within label file (λ text.
     accepted label (codes "record") fact_kind (facts_read_within most_facts s.graph i (records_of text)) next)
+
+-- the stored views of an instance in a file
+abbrev pub with_store_in : Schema → Instance → List ℕ → List ℕ → (List View → Order Question) → Order Question
+with_store_in s i label file next = read_within label file (λ text.
+    accepted label (codes "record") store_kind (store_read s.graph i (records_of text)) next)

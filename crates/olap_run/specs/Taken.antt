@@ -2,11 +2,17 @@
 --     GoesOn     what is left of an order is what is left of its rest
 --     FileStep   a step that reads
 --     PlainStep  a step that reads nothing
-use Rattle.std.specs.Prelude.{◌≡◌, ◌≤◌, List, ℕ, Option, None, Some, ⊤, Result, Err, IfOk, IfErr}
+--     AreOfFacts    views of the facts that a step read
+use Rattle.std.specs.Prelude.{◌≡◌, ◌≤◌, List, ℕ, Option, None, Some, ⊤, Result, Ok, Err, IfOk, IfErr, codes}
+use Rattle.olap_ast.specs.Schema.{Schema}
 use Rattle.olap_base.specs.Files.{Files}
+use Rattle.olap_base.specs.Instance.{Instance}
+use Rattle.olap_base.specs.Views.{Fact, View, direct_views}
 use Rattle.olap_base.specs.declared.outside.Library.{Ghosts as Library}
 use Rattle.olap_run.specs.Order.{Order, question, ComesTo}
 use Rattle.olap_run.specs.Judged.{Judged, Replies}
+use Rattle.olap_run.specs.Questions.{Question}
+use Rattle.olap_run.specs.Steps.{with_facts_in}
 use Rattle.olap_run.specs.declared.status.Status.{Status}
 use Rattle.olap_run.specs.declared.replies.Stop.{Stop}
 
@@ -31,3 +37,10 @@ pub record FileStep {D Q T X : Type 0} (answers : Q → Status → List ℕ → 
 pub record PlainStep {Q T X : Type 0} (answers : Q → Status → List ℕ → Type 0) (step : (T → Order Q) → Order Q) (meaning : X → T) (result : Result X Stop) : Type 0 where
   pub goes_on : (next : T → Order Q) → IfOk result (λ x. step next ≡ next (meaning x))
   pub ends : (next : T → Order Q) → IfErr result (λ stop. Replies answers (step next) (Err stop))
+
+-- these are the direct views of the facts in a file, with which the order goes on
+pub record AreOfFacts {D : Type 0} (answers : Question → Status → List ℕ → Type 0) (L : Library D) (old new : D)
+    (s : Schema) (i : Instance) (categories file : List ℕ) (views : List View) : Type 0 where
+  pub facts : List Fact
+  pub direct : views ≡ direct_views i facts categories
+  pub step : FileStep answers L old new (with_facts_in s i (codes "facts") file) (λ facts. facts) (Ok facts)

@@ -9,12 +9,16 @@ ghost use Rattle.olap_run.specs.Seen.{seen};
 ghost use Rattle.olap_run.specs.Words.{texts};
 
 use crate::Status;
+use crate::answering::answer;
+use crate::auditing::audit;
 use crate::checking::check;
 use crate::formatting::format;
 use crate::implying::implies;
+use crate::listing::frozen;
 use crate::replies::{Reply, Stop};
 use crate::rolling_up::rollup;
 use crate::satisfying::satisfiable;
+use crate::storing::store;
 use crate::summarizing::summarizable;
 use crate::words::{Command, parse};
 use olap_base::Library;
@@ -44,6 +48,20 @@ fn run<L: Library>(alloc: Global, command: Command, lib: &mut L) -> Result<Reply
             target,
             sources,
         } => summarizable(alloc, schema, target, sources, lib),
+        Command::Frozen { schema, category } => frozen(alloc, schema, category, lib),
+        Command::Audit { schema } => audit(alloc, schema, lib),
+        Command::Store {
+            schema,
+            instance,
+            facts,
+            categories,
+        } => store(alloc, schema, instance, facts, categories, lib),
+        Command::Answer {
+            schema,
+            instance,
+            store,
+            target,
+        } => answer(alloc, schema, instance, store, target, lib),
     }
 }
 

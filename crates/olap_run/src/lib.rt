@@ -5,16 +5,20 @@
 //! words and the files have. The code goes along the order with everything in memory, and then writes.
 #![tactic(auto)]
 
+mod answering;
+mod auditing;
 mod checking;
 mod formatting;
 mod implying;
 mod judging;
+mod listing;
 mod naming;
 mod reading;
 mod replies;
 mod rolling_up;
 mod satisfying;
 mod status;
+mod storing;
 mod summarizing;
 mod telling;
 mod top;

@@ -11,7 +11,7 @@ ghost use Rattle.olap_schema.specs.PrintingLaws.{AreTexts};
 ghost use Rattle.olap_schema.specs.Schemas.{schema_of};
 ghost use Rattle.olap_summ.specs.Counterexamples.{numbers_of};
 ghost use Rattle.olap_run.specs.Questions.{IsAnswer};
-ghost use Rattle.olap_run.specs.Steps.{known, with_formula, with_root, with_source, with_sources};
+ghost use Rattle.olap_run.specs.Steps.{known, with_another, with_different, with_formula, with_root};
 ghost use Rattle.olap_run.specs.Taken.{PlainStep};
 ghost use Rattle.olap_run.specs.Words.{texts};
 
@@ -72,59 +72,58 @@ pub(crate) fn formula_at(
     }
 }
 
-/// Whether the category is among the sources.
-fn is_among(sources: &[CatId], category: CatId) -> bool
-    ensures { result ≡ list_any (λ d. d == category.0) (numbers_of sources.now) }
+/// Whether the category is among these.
+fn is_among(categories: &[CatId], category: CatId) -> bool
+    ensures { result ≡ list_any (λ d. d == category.0) (numbers_of categories.now) }
 {
-    sources.contains(&category)
+    categories.contains(&category)
 }
 
-/// The source that the word of this number names, behind these.
-fn source_at(
+/// The category that the word of this number names, behind these. The fault has this name where it is one of them.
+fn another_at(
     alloc: Global,
     at: u64,
+    twice: &str,
     schema: &Schema,
-    sources: &[CatId],
+    earlier: &[CatId],
     name: &str,
 ) -> Result<CatId, Stop>
     ensures step { PlainStep IsAnswer
-        (with_source (schema_of schema.now).graph at (numbers_of sources.now) name.now)
+        (with_another twice.now (schema_of schema.now).graph at (numbers_of earlier.now) name.now)
         (λ c. c.0) result }
     ensures category { IfOk result (λ c. IsCategory (schema_of schema.now).graph c.0) }
     ensures new { IfOk result (λ c.
-        list_any (λ d. d == c.0) (numbers_of sources.now) ≡ false) }
+        list_any (λ d. d == c.0) (numbers_of earlier.now) ≡ false) }
 {
     match schema.graph().category(name.as_bytes()) {
-        Some(category) if is_among(sources, category) => Err(refuse_at(
-            alloc,
-            "word",
-            at,
-            "DuplicateSource",
-        )),
+        Some(category) if is_among(earlier, category) => Err(refuse_at(alloc, "word", at, twice)),
         Some(category) => Ok(category),
         None => Err(refuse_at(alloc, "word", at, "UnknownCategory")),
     }
 }
 
-/// The sources that the words from this number on name, left to right.
-pub(crate) fn sources_at(
+/// The different categories that the words from this number on name, left to right. The fault has this name where one
+/// stands twice.
+pub(crate) fn categories_at(
     alloc: Global,
     at: u64,
+    twice: &str,
     schema: &Schema,
     names: &[String],
 ) -> Result<Vec<CatId>, Stop>
     requires few { at + length names.now < 2 ^ 64 }
     ensures step { PlainStep IsAnswer
-        (with_sources (schema_of schema.now).graph at [] (texts names.now))
-        (λ sources. numbers_of sources.items) result }
-    ensures categories { IfOk result (λ sources.
-        All (IsCategory (schema_of schema.now).graph) (numbers_of sources.items)) }
-    ensures differ { IfOk result (λ sources. AllPairs ◌≢◌ (numbers_of sources.items)) }
+        (with_different twice.now (schema_of schema.now).graph at [] (texts names.now))
+        (λ categories. numbers_of categories.items) result }
+    ensures categories { IfOk result (λ categories.
+        All (IsCategory (schema_of schema.now).graph) (numbers_of categories.items)) }
+    ensures differ { IfOk result (λ categories. AllPairs ◌≢◌ (numbers_of categories.items)) }
 {
-    let mut sources = Vec::new(alloc);
-    'sources: for k in 0..names.len() {
-        let source = source_at(alloc, at + k as u64, schema, &sources, names[k].as_str())?;
-        sources.push(source)?;
+    let mut categories = Vec::new(alloc);
+    'words: for k in 0..names.len() {
+        let name = names[k].as_str();
+        let category = another_at(alloc, at + k as u64, twice, schema, &categories, name)?;
+        categories.push(category)?;
     }
-    Ok(sources)
+    Ok(categories)
 }

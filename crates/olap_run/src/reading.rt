@@ -1,13 +1,16 @@
 // The steps of an order that read a file.
-ghost use Rattle.std.specs.Prelude.{◌≡◌, ◌≤◌, length, false, IfOk, IsErrOf, MatchOption, ⊤};
+ghost use Rattle.std.specs.Prelude.{◌≡◌, ◌<◌, ◌≤◌, All, length, false, IfOk, IsErrOf, MatchOption, ⊤};
 ghost use Rattle.olap_base.specs.Faults.{Rose};
 ghost use Rattle.olap_base.specs.Files.{Asks, IsContent, IsLonger};
 ghost use Rattle.olap_base.specs.Limits.{most_file_bytes};
 ghost use Rattle.olap_ast.specs.Schema.{IsLegal};
 ghost use Rattle.olap_instance.specs.Made.{IsMadeFor};
 ghost use Rattle.olap_schema.specs.Schemas.{schema_of};
+ghost use Rattle.olap_base.specs.Graph.{IsCategory};
+ghost use Rattle.olap_view.specs.Seen.{views_of};
+ghost use Rattle.olap_view.specs.Stores.{Fits, IsStore};
 ghost use Rattle.olap_run.specs.Questions.{IsAnswer};
-ghost use Rattle.olap_run.specs.Steps.{with_schema_in, with_legal_in};
+ghost use Rattle.olap_run.specs.Steps.{with_legal_in, with_schema_in, with_store_in};
 ghost use Rattle.olap_run.specs.Taken.{FileStep};
 ghost use Rattle.olap_run.specs.declared.replies.Stop.TheVariants as stops;
 
@@ -17,6 +20,7 @@ use olap_base::{FetchError, Library, MOST_FILE_BYTES, fetch};
 use olap_check::{CheckRefusal, Legal};
 use olap_instance::{InstanceRefusal, read_instance};
 use olap_schema::{Schema, SchemaRefusal, read_schema};
+use olap_view::{Store, StoreRefusal, read_store};
 use std::alloc::Global;
 
 /// A file of the library; none where it is too long.
@@ -107,6 +111,41 @@ pub(crate) fn legal_in<L: Library>(
             schema.graph(),
             &broken,
             violation,
+        )),
+    }
+}
+
+/// The stored views of an instance in a file.
+pub(crate) fn store_in<L: Library>(
+    alloc: Global,
+    schema: &Schema,
+    legal: &Legal,
+    label: &str,
+    file: &str,
+    lib: &mut L,
+) -> Result<Store, Stop>
+    requires made { IsMadeFor (schema_of schema.now).graph legal.now }
+    ensures step { FileStep IsAnswer L.Library lib.old lib.new
+        (with_store_in (schema_of schema.now) legal.now label.now file.now) views_of result }
+    ensures store { IfOk result (λ store. IsStore (views_of store)) }
+    ensures fit { IfOk result (λ store. All Fits (views_of store)) }
+    ensures categories { IfOk result (λ store.
+        All (λ v. IsCategory (schema_of schema.now).graph v.category) (views_of store)) }
+    ensures at_members { IfOk result (λ store.
+        All (λ v. All (λ r. r.member < length legal.now) v.rows) (views_of store)) }
+{
+    let Some(text) = read_file(alloc, file, lib)? else {
+        return Err(refuse_long(alloc, label));
+    };
+    match read_store(alloc, schema.graph(), legal.instance(), &text) {
+        Ok(store) => Ok(store),
+        Err(StoreRefusal::Memory) => Err(Stop::Memory),
+        Err(StoreRefusal::Fault { at, kind }) => Err(refuse_part(
+            alloc,
+            label,
+            "record",
+            at,
+            kind.name(),
         )),
     }
 }

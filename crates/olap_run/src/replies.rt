@@ -77,6 +77,16 @@ pub(crate) fn no(bytes: Vec<u8>) -> Reply
     }
 }
 
+/// Something is refused for this reason.
+pub(crate) fn refuse(alloc: Global, why: &str) -> Stop
+    ensures refused { IsRefusal why.now result }
+{
+    match format!(in alloc; "refused {why}\n") {
+        Ok(text) => Stop::Refused(text.into_bytes()),
+        Err(_) => Stop::Memory,
+    }
+}
+
 /// A file that is too long is refused.
 pub(crate) fn refuse_long(alloc: Global, label: &str) -> Stop
     ensures refused { IsRefusal (label.now ++ codes " TooLong") result }

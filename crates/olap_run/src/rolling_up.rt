@@ -1,19 +1,58 @@
 // The command `rollup`: the direct view of a category.
+ghost use Rattle.std.specs.Prelude.{◌≢◌, ◌≡◌, ◌<◌, All, AllPairs, Err, IfOk, MatchResult, codes, length};
 ghost use Rattle.olap_instance.specs.Made.{IsMadeFor};
 ghost use Rattle.olap_schema.specs.Schemas.{schema_of};
+ghost use Rattle.olap_summ.specs.Counterexamples.{numbers_of};
+ghost use Rattle.olap_view.specs.Seen.{each_view_of};
 ghost use Rattle.olap_run.specs.Commands.{rollup_order, view_order};
 ghost use Rattle.olap_run.specs.Judged.{Judged};
 ghost use Rattle.olap_run.specs.Questions.{IsAnswer};
+ghost use Rattle.olap_run.specs.Steps.{with_facts_in};
+ghost use Rattle.olap_run.specs.Taken.{AreOfFacts, FileStep};
 
 use crate::naming::category_at;
 use crate::reading::{legal_in, read_file, schema_in};
 use crate::replies::{Reply, Stop, refuse_long, refuse_part, yes};
-use olap_base::{CatId, Library};
+use olap_base::{CatId, Library, List};
 use olap_check::Legal;
 use olap_facts::NextRefusal;
 use olap_schema::Schema;
 use olap_view::{View, print_view, roll_up};
 use std::alloc::Global;
+
+/// The direct views of some categories, from the facts in a file.
+pub(crate) fn views_in<L: Library>(
+    alloc: Global,
+    schema: &Schema,
+    legal: &Legal,
+    categories: &[CatId],
+    file: &str,
+    lib: &mut L,
+) -> Result<List<View>, Stop>
+    requires made { IsMadeFor (schema_of schema.now).graph legal.now }
+    requires differ { AllPairs ◌≢◌ (numbers_of categories.now) }
+    ensures step { MatchResult result
+        (λ views. AreOfFacts IsAnswer L.Library lib.old lib.new (schema_of schema.now) legal.now
+        (numbers_of categories.now) file.now (each_view_of views))
+        (λ stop. FileStep IsAnswer L.Library lib.old lib.new
+        (with_facts_in (schema_of schema.now) legal.now (codes "facts") file.now) (λ facts. facts) (Err stop)) }
+    ensures members { IfOk result (λ views. All (λ v. All (λ r. r.member.0 < length legal.now) v.rows) views) }
+{
+    let Some(text) = read_file(alloc, file, lib)? else {
+        return Err(refuse_long(alloc, "facts"));
+    };
+    match roll_up(alloc, schema.graph(), legal, &text, categories) {
+        Ok(views) => Ok(views),
+        Err(NextRefusal::Memory) => Err(Stop::Memory),
+        Err(NextRefusal::Fault { at, kind }) => Err(refuse_part(
+            alloc,
+            "facts",
+            "record",
+            at,
+            kind.name(),
+        )),
+    }
+}
 
 /// The direct view of a category, from the facts in a file.
 fn view_in<L: Library>(
@@ -28,20 +67,7 @@ fn view_in<L: Library>(
     ensures judged { Judged IsAnswer L.Library lib.old lib.new
         (view_order (schema_of schema.now) legal.now category.0 file.now) result }
 {
-    let Some(text) = read_file(alloc, file, lib)? else {
-        return Err(refuse_long(alloc, "facts"));
-    };
-    let views = match roll_up(alloc, schema.graph(), legal, &text, &[category]) {
-        Ok(views) => views,
-        Err(NextRefusal::Memory) => return Err(Stop::Memory),
-        Err(NextRefusal::Fault { at, kind }) => return Err(refuse_part(
-            alloc,
-            "facts",
-            "record",
-            at,
-            kind.name(),
-        )),
-    };
+    let views = views_in(alloc, schema, legal, &[category], file, lib)?;
     let text = print_view(alloc, legal.instance(), &views.items()[0])?;
     Ok(yes(text.into_bytes()))
 }

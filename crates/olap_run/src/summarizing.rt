@@ -14,7 +14,7 @@ ghost use Rattle.olap_run.specs.Outputs.{line};
 ghost use Rattle.olap_run.specs.Questions.{BySummarizable, IsAnswer};
 ghost use Rattle.olap_run.specs.Words.{texts};
 
-use crate::naming::{category_at, sources_at};
+use crate::naming::{categories_at, category_at};
 use crate::reading::schema_in;
 use crate::replies::{Reply, Stop, no, yes};
 use olap_base::{CatId, Library, Memory, Text};
@@ -109,6 +109,6 @@ pub(crate) fn summarizable<L: Library>(
 {
     let schema = schema_in(alloc, "schema", schema, lib)?;
     let target = category_at(alloc, 3, &schema, target)?;
-    let sources = sources_at(alloc, 4, &schema, sources)?;
+    let sources = categories_at(alloc, 4, "DuplicateSource", &schema, sources)?;
     answered(alloc, &schema, target, &sources)
 }

@@ -1,11 +1,11 @@
 // Which words are a command.
 ghost use Rattle.std.specs.Prelude.{◌≡◌};
 ghost use Rattle.std.specs.Option.{option_map};
-ghost use Rattle.olap_run.specs.Requests.{named, request_of, check_of, format_of, implies_of, rollup_of, satisfiable_of, summarizable_of};
+ghost use Rattle.olap_run.specs.Requests.{answer_of, audit_of, check_of, format_of, frozen_of, implies_of, is_few, named, request_of, rollup_of, satisfiable_of, store_of, summarizable_of};
 ghost use Rattle.olap_run.specs.Seen.{seen};
 ghost use Rattle.olap_run.specs.Words.{texts};
 
-use olap_base::MOST_WORDS;
+use olap_base::{MOST_VIEWS, MOST_WORDS};
 
 /// A command with its words.
 #[derive(Clone, Copy)]
@@ -42,6 +42,29 @@ pub(crate) enum Command<'a> {
         schema: &'a str,
         target: &'a str,
         sources: &'a [String],
+    },
+    /// All frozen dimensions with a root.
+    Frozen {
+        schema: &'a str,
+        category: &'a str,
+    },
+    /// What a schema says or does for nothing.
+    Audit {
+        schema: &'a str,
+    },
+    /// The direct views of some categories, to be stored.
+    Store {
+        schema: &'a str,
+        instance: &'a str,
+        facts: &'a str,
+        categories: &'a [String],
+    },
+    /// A view from stored views.
+    Answer {
+        schema: &'a str,
+        instance: &'a str,
+        store: &'a str,
+        target: &'a str,
     },
 }
 
@@ -126,6 +149,68 @@ fn summarizable(words: &[String]) -> Option<Command<'_>>
     }
 }
 
+/// The words behind `frozen`.
+fn frozen(words: &[String]) -> Option<Command<'_>>
+    ensures { option_map seen result ≡ frozen_of (texts words.now) }
+{
+    match words {
+        [schema, category] => Some(Command::Frozen {
+            schema: schema.as_str(),
+            category: category.as_str(),
+        }),
+        _ => None,
+    }
+}
+
+/// The words behind `audit`.
+fn audit(words: &[String]) -> Option<Command<'_>>
+    ensures { option_map seen result ≡ audit_of (texts words.now) }
+{
+    match words {
+        [schema] => Some(Command::Audit {
+            schema: schema.as_str(),
+        }),
+        _ => None,
+    }
+}
+
+/// Whether a store may have as many views as these are categories, and has one.
+fn are_few(categories: &[String]) -> bool
+    ensures { result ≡ is_few (texts categories.now) }
+{
+    !categories.is_empty() && categories.len() <= MOST_VIEWS
+}
+
+/// The words behind `store`.
+fn store(words: &[String]) -> Option<Command<'_>>
+    ensures { option_map seen result ≡ store_of (texts words.now) }
+{
+    match words {
+        [schema, instance, facts, categories @ ..] if are_few(categories) => Some(Command::Store {
+            schema: schema.as_str(),
+            instance: instance.as_str(),
+            facts: facts.as_str(),
+            categories,
+        }),
+        _ => None,
+    }
+}
+
+/// The words behind `answer`.
+fn answer(words: &[String]) -> Option<Command<'_>>
+    ensures { option_map seen result ≡ answer_of (texts words.now) }
+{
+    match words {
+        [schema, instance, store, target] => Some(Command::Answer {
+            schema: schema.as_str(),
+            instance: instance.as_str(),
+            store: store.as_str(),
+            target: target.as_str(),
+        }),
+        _ => None,
+    }
+}
+
 /// The command of that name with these words behind it.
 fn with_words<'a>(name: &str, words: &'a [String]) -> Option<Command<'a>>
     ensures { option_map seen result ≡ named name.now (texts words.now) }
@@ -137,6 +222,10 @@ fn with_words<'a>(name: &str, words: &'a [String]) -> Option<Command<'a>>
         "satisfiable" => satisfiable(words),
         "implies" => implies(words),
         "summarizable" => summarizable(words),
+        "frozen" => frozen(words),
+        "audit" => audit(words),
+        "store" => store(words),
+        "answer" => answer(words),
         _ => None,
     }
 }

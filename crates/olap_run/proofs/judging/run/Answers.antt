@@ -10,3 +10,9 @@ returns-in-Summarizable g c = record {
   judged = subst (λ m. Judged IsAnswer g.L.Library c.args.lib.now c.summarizable.new.lib (order (seen m)) c.summarizable.result)
       (sym c.in-Summarizable.is) c.summarizable.ensures.judged;
 }
+
+pub returns-in-Store : goal.returns-in-Store
+returns-in-Store g c = record {
+  judged = subst (λ m. Judged IsAnswer g.L.Library c.args.lib.now c.store.new.lib (order (seen m)) c.store.result)
+      (sym c.in-Store.is) c.store.ensures.judged;
+}

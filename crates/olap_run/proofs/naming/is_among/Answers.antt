@@ -3,4 +3,4 @@ use Rattle.olap_run.proofs.SourceLemmas.{among_numbers}
 use Rattle.olap_run.proofs.naming.is_among.Goals as goal
 
 pub returns : goal.returns
-returns c = c.contains.ensures.value ∙ among_numbers c.args.sources.now c.args.category.0
+returns c = c.contains.ensures.value ∙ among_numbers c.args.categories.now c.args.category.0

@@ -1,0 +1,33 @@
+use Rattle.std.proofs.Common.{List, get_or, ap, ◌∙◌}
+use Rattle.olap_base.specs.Instance.{Instance}
+use Rattle.olap_base.specs.Views.{direct_view}
+use Rattle.olap_view.specs.Seen.{view_of}
+use Rattle.olap_view.specs.ViewText.{view_text}
+use Rattle.olap_view.specs.declared.views.View as told
+use Rattle.olap_run.specs.Order.{Done}
+use Rattle.olap_run.specs.Questions.{ByView}
+use Rattle.olap_run.proofs.ListingLemmas.{only_view, view_shown}
+use Rattle.olap_run.proofs.Stepping.{answered, ended, followed}
+use Rattle.olap_run.proofs.rolling_up.view_in.Goals as goal
+
+pub returns-in_err-views : goal.returns-in_err-views
+returns-in_err-views g c = record {
+  judged = ended c.in_err-views.ensures.step
+      (λ table. Done (ByView c.args.legal.now (direct_view c.args.legal.now table c.args.category.0)))
+      c.from_residual.result c.from_residual.ensures.1;
+}
+
+pub returns : goal.returns
+returns g c =
+    let i = c.args.legal.now in
+    let read = c.in_ok-views.ensures.step in
+    let view = c.index-items-0.result in
+    let direct = direct_view i read.facts c.args.category.0 in
+    let first = c.index-items-0.is ∙ ap (λ (views : List told.View). get_or views 0 view) c.items.ensures in
+    let text = c.yes.ensures.bytes ∙ c.into_bytes.ensures ∙ c.in_ok-text.ensures.text
+    ∙ ap (λ (j : Instance). view_text j (view_of view)) c.instance.ensures
+    ∙ ap (view_text i) (only_view c.in_ok-views.views view direct read.direct first) in
+    record {
+      judged = followed read.step (λ table. Done (ByView i (direct_view i table c.args.category.0)))
+          (answered _ (view_shown i direct c.yes.result c.yes.ensures.status text));
+    }

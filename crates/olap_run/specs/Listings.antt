@@ -1,0 +1,62 @@
+-- What is listed: all frozen dimensions, what an audit finds, and what a plan gives.
+--     ListsFrozen     the lines of all frozen dimensions with a root
+--     HasTooMany      there are more than may be listed
+--     ListsFindings   the lines of all findings
+--     ShowsPlan       a plan, and the view that it gives
+use Rattle.std.specs.Prelude.{◌≡◌, ℕ, ◌≤◌, List, ◌∷◌, ◌++◌, codes, flat_map, length}
+use Rattle.std.specs.Fmt.{decimal}
+use Rattle.olap_ast.specs.Findings.{AreFindings, Finding, Finding.Unsatisfiable, Finding.Redundant, Finding.Unused}
+use Rattle.olap_ast.specs.Formula.{Formula.Truth}
+use Rattle.olap_ast.specs.Frozen.{Candidates, Frozen}
+use Rattle.olap_ast.specs.Schema.{Schema}
+use Rattle.olap_base.specs.Graph.{Graph}
+use Rattle.olap_base.specs.Instance.{Instance}
+use Rattle.olap_base.specs.Limits.{most_frozen}
+use Rattle.olap_base.specs.Views.{Fact, IsFactTable, View, direct_rows, direct_views, rows_from_views}
+use Rattle.olap_cex.specs.FrozenText.{frozen_text}
+use Rattle.olap_dimsat.specs.Listed.{AreAllFrozen, AreMoreThan}
+use Rattle.olap_graph.specs.Lookups.{edge_at, name_of_category}
+use Rattle.olap_nav.specs.Plans.{IsPlan, categories_of, sources_in}
+use Rattle.olap_run.specs.Outputs.{line}
+use Rattle.olap_view.specs.Stores.{chosen}
+use Rattle.olap_view.specs.ViewText.{view_text}
+
+-- the line of each frozen dimension with root c, by their codes, and how many they are
+pub record ListsFrozen (s : Schema) (c : ℕ) (bytes : List ℕ) : Type 0 where
+  pub candidates : Candidates
+  pub frozen : List Frozen
+  pub all : AreAllFrozen s Truth c candidates frozen
+  pub few : length frozen ≤ most_frozen
+  pub text : bytes ≡ flat_map (frozen_text s.graph candidates c) frozen
+      ++ line (codes "count " ++ decimal (length frozen))
+
+-- there are more frozen dimensions with root c than may be listed
+abbrev pub HasTooMany : Schema → ℕ → Type 0
+HasTooMany s c = (k : Candidates) × AreMoreThan most_frozen s Truth c k
+
+-- the line of a finding
+abbrev pub finding_text : Graph → Finding → List ℕ
+finding_text g (Unsatisfiable c) = line (codes "unsatisfiable " ++ name_of_category g c)
+finding_text g (Redundant n) = line (codes "redundant " ++ decimal n)
+finding_text g (Unused e) =
+    line (codes "unused " ++ (name_of_category g (edge_at g e).child ++ 32 ∷ name_of_category g (edge_at g e).parent))
+
+-- the line of each finding, and how many they are
+pub record ListsFindings (s : Schema) (bytes : List ℕ) : Type 0 where
+  pub findings : List Finding
+  pub are_findings : AreFindings s findings
+  pub text : bytes ≡ flat_map (finding_text s.graph) findings ++ line (codes "findings " ++ decimal (length findings))
+
+-- the line of a plan: the categories of its views, in stored order
+abbrev pub plan_text : Graph → List ℕ → List ℕ
+plan_text g sources = line (codes "plan" ++ flat_map (λ c. 32 ∷ name_of_category g c) sources)
+
+-- the plan for c, and the view of c from its views. That is the direct view, where the stored views are those of one
+-- fact table
+pub record ShowsPlan (s : Schema) (i : Instance) (views : List View) (c : ℕ) (bytes : List ℕ) : Type 0 where
+  pub mask : ℕ
+  pub plan : IsPlan s views c mask
+  pub direct : (facts : List Fact) → IsFactTable s.graph i facts → views ≡ direct_views i facts (categories_of views)
+      → rows_from_views i c (chosen views mask) ≡ direct_rows i c facts
+  pub text : bytes ≡ plan_text s.graph (sources_in views mask)
+      ++ view_text i (record { category = c; rows = rows_from_views i c (chosen views mask) })

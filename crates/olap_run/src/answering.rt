@@ -1,0 +1,108 @@
+// The command `answer`: a view from stored views.
+ghost use Rattle.std.specs.Prelude.{◌≡◌, ◌++◌, ◌<◌, All, IfOk, length};
+ghost use Rattle.olap_ast.specs.Schema.{IsLegal};
+ghost use Rattle.olap_base.specs.Graph.{IsCategory};
+ghost use Rattle.olap_nav.specs.Plans.{sources_in};
+ghost use Rattle.olap_schema.specs.Schemas.{schema_of};
+ghost use Rattle.olap_summ.specs.Counterexamples.{numbers_of};
+ghost use Rattle.olap_view.specs.Seen.{view_of, views_of};
+ghost use Rattle.olap_view.specs.Stores.{Fits, IsStore};
+ghost use Rattle.olap_view.specs.ViewText.{view_text};
+ghost use Rattle.olap_run.specs.Commands.{answer_order};
+ghost use Rattle.olap_run.specs.Judged.{Judged, Replies};
+ghost use Rattle.olap_run.specs.Listings.{plan_text};
+ghost use Rattle.olap_run.specs.Order.{Done};
+ghost use Rattle.olap_run.specs.Questions.{ByPlan, IsAnswer};
+
+use crate::naming::category_at;
+use crate::reading::{legal_in, schema_in, store_in};
+use crate::replies::{Reply, Stop, refuse, yes};
+use olap_base::{CatId, Library, Memory};
+use olap_check::Legal;
+use olap_graph::Graph;
+use olap_nav::{PlanRefusal, sources};
+use olap_schema::Schema;
+use olap_view::{Store, View, print_view};
+use std::alloc::Global;
+
+/// The line of a plan that takes the views of these categories.
+fn plan_line(alloc: Global, graph: &Graph, sources: &[CatId]) -> Result<Vec<u8>, Memory>
+    requires { All (IsCategory graph.now) (numbers_of sources.now) }
+    ensures { IfOk result (λ text. text.items ≡ plan_text graph.now (numbers_of sources.now)) }
+{
+    let mut text = Vec::from_slice(alloc, b"plan")?;
+    'sources: for source in sources {
+        text.push(b' ')?;
+        text.extend_from_slice(graph.name(*source).bytes())?;
+    }
+    text.push(b'\n')?;
+    Ok(text)
+}
+
+/// The line of a plan, and the view that it gives.
+fn shown(
+    alloc: Global,
+    graph: &Graph,
+    legal: &Legal,
+    store: &Store,
+    mask: u16,
+    view: &View,
+) -> Result<Vec<u8>, Memory>
+    requires store { IsStore (views_of store.now) }
+    requires categories { All (λ v. IsCategory graph.now v.category) (views_of store.now) }
+    requires members { All (λ r. r.member.0 < length legal.now) view.now.rows }
+    ensures { IfOk result (λ text. text.items ≡ plan_text graph.now (sources_in (views_of store.now) mask)
+        ++ view_text legal.now (view_of view.now)) }
+{
+    let sources = sources(alloc, store, mask)?;
+    let mut text = plan_line(alloc, graph, &sources)?;
+    let lines = print_view(alloc, legal.instance(), view)?;
+    text.extend_from_slice(lines.bytes())?;
+    Ok(text)
+}
+
+/// The view of the target from the stored views, where there is a plan.
+fn answered(
+    alloc: Global,
+    schema: &Schema,
+    legal: &Legal,
+    store: &Store,
+    target: CatId,
+) -> Result<Reply, Stop>
+    requires target { IsCategory (schema_of schema.now).graph target.0 }
+    requires legal { IsLegal (schema_of schema.now) legal.now }
+    requires store { IsStore (views_of store.now) }
+    requires fit { All Fits (views_of store.now) }
+    requires categories { All (λ v. IsCategory (schema_of schema.now).graph v.category) (views_of store.now) }
+    requires at_members { All (λ v. All (λ r. r.member < length legal.now) v.rows) (views_of store.now) }
+    ensures replies { Replies IsAnswer
+        (Done (ByPlan (schema_of schema.now) legal.now (views_of store.now) target.0)) result }
+{
+    match olap_nav::answer(alloc, schema, legal, store, target) {
+        Ok((plan, view)) => {
+            let text = shown(alloc, schema.graph(), legal, store, plan.mask, &view)?;
+            Ok(yes(text))
+        }
+        Err(PlanRefusal::NotAnswerable) => Err(refuse(alloc, "answer NotAnswerable")),
+        Err(PlanRefusal::Memory) => Err(Stop::Memory),
+    }
+}
+
+/// A view from stored views, from a schema, an instance and a store.
+pub(crate) fn answer<L: Library>(
+    alloc: Global,
+    schema: &str,
+    instance: &str,
+    store: &str,
+    target: &str,
+    lib: &mut L,
+) -> Result<Reply, Stop>
+    ensures judged { Judged IsAnswer L.Library lib.old lib.new
+        (answer_order schema.now instance.now store.now target.now) result }
+{
+    let schema = schema_in(alloc, "schema", schema, lib)?;
+    let target = category_at(alloc, 5, &schema, target)?;
+    let legal = legal_in(alloc, &schema, "instance", instance, lib)?;
+    let store = store_in(alloc, &schema, &legal, "store", store, lib)?;
+    answered(alloc, &schema, &legal, &store, target)
+}

@@ -1,0 +1,59 @@
+// The command `store`: the direct views of some categories as a text of stored views.
+ghost use Rattle.std.specs.Prelude.{◌≢◌, ◌≡◌, ◌+◌, ◌<◌, ◌^◌, All, AllPairs, length};
+ghost use Rattle.olap_base.specs.Graph.{IsCategory};
+ghost use Rattle.olap_instance.specs.Made.{IsMadeFor};
+ghost use Rattle.olap_schema.specs.Schemas.{schema_of};
+ghost use Rattle.olap_summ.specs.Counterexamples.{numbers_of};
+ghost use Rattle.olap_run.specs.Commands.{store_order, views_order};
+ghost use Rattle.olap_run.specs.Judged.{Judged};
+ghost use Rattle.olap_run.specs.Questions.{IsAnswer};
+ghost use Rattle.olap_run.specs.Words.{texts};
+
+use crate::naming::categories_at;
+use crate::reading::{legal_in, schema_in};
+use crate::replies::{Reply, Stop, yes};
+use crate::rolling_up::views_in;
+use olap_base::{CatId, Library};
+use olap_check::Legal;
+use olap_schema::Schema;
+use olap_view::{Store, print_store};
+use std::alloc::Global;
+
+/// The direct views of some categories, from the facts in a file.
+fn stored<L: Library>(
+    alloc: Global,
+    schema: &Schema,
+    legal: &Legal,
+    categories: &[CatId],
+    file: &str,
+    lib: &mut L,
+) -> Result<Reply, Stop>
+    requires made { IsMadeFor (schema_of schema.now).graph legal.now }
+    requires categories { All (IsCategory (schema_of schema.now).graph) (numbers_of categories.now) }
+    requires differ { AllPairs ◌≢◌ (numbers_of categories.now) }
+    ensures judged { Judged IsAnswer L.Library lib.old lib.new
+        (views_order (schema_of schema.now) legal.now (numbers_of categories.now) file.now) result }
+{
+    let views = views_in(alloc, schema, legal, categories, file, lib)?;
+    let text = print_store(alloc, schema.graph(), legal.instance(), &Store { views })?;
+    Ok(yes(text.into_bytes()))
+}
+
+/// The direct views of some categories, from a schema, an instance and facts.
+pub(crate) fn store<L: Library>(
+    alloc: Global,
+    schema: &str,
+    instance: &str,
+    facts: &str,
+    categories: &[String],
+    lib: &mut L,
+) -> Result<Reply, Stop>
+    requires few { length categories.now < 2 ^ 63 }
+    ensures judged { Judged IsAnswer L.Library lib.old lib.new
+        (store_order schema.now instance.now facts.now (texts categories.now)) result }
+{
+    let schema = schema_in(alloc, "schema", schema, lib)?;
+    let categories = categories_at(alloc, 5, "DuplicateView", &schema, categories)?;
+    let legal = legal_in(alloc, &schema, "instance", instance, lib)?;
+    stored(alloc, &schema, &legal, &categories, facts, lib)
+}
