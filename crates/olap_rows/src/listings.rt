@@ -34,9 +34,10 @@ frozen 111111 S=\"nk\" P1=\"nk\" P2=\"nk\" P3=\"nk\"\n\
 count 7\n";
 
 /// A category with so many parents, each of which lies under `All`.
-fn parents(alloc: Global, count: u32) -> Result<String, Fail> {
+fn parents(alloc: Global, count: u16) -> Result<String, Fail> {
     let mut text = String::from_str(alloc, "schema 1\ncategory S\n")?;
-    for i in 1..count + 1 {
+    for before in 0..count {
+        let i = u32::from(before) + 1;
         let lines = format!(in alloc; "category P{i}\nedge S P{i}\nedge P{i} All\n")?;
         text.push_str(&lines)?;
     }
@@ -98,16 +99,32 @@ fn of_small_schemas(rt: HostRuntime) -> Result<(), Fail> {
     Ok(())
 }
 
+/// One parent more, which each member of S has.
+const FORCED: &str = "category T\nedge S T\nedge T All\nconstraint S: S_T\n";
+
+/// Two parents more, T and U, of which each member of S has one; and with U it has no other.
+const FORCED_OR_ALONE: &str = "category T\ncategory U\n\
+edge S T\nedge T All\nedge S U\nedge U All\n\
+constraint S: S_T & !S_U | S_U & !(S_T | S_P1 | S_P2 | S_P3 | S_P4 | S_P5 | S_P6\
+ | S_P7 | S_P8 | S_P9 | S_P10 | S_P11 | S_P12)\n";
+
 #[test]
 fn of_parents(rt: HostRuntime) -> Result<(), Fail> {
     let alloc = rt.alloc();
-    let rows: [(u32, Status, &str); 3] = [
-        (3, Status::Yes, THREE_PARENTS),
-        (12, Status::Yes, ""),
-        (13, Status::Refused, "refused frozen TooMany\n"),
+    let rows: [(u16, &str, Status, &str); 5] = [
+        (3, "", Status::Yes, THREE_PARENTS),
+        (12, "", Status::Yes, ""),
+        (12, FORCED, Status::Yes, ""),
+        (
+            12,
+            FORCED_OR_ALONE,
+            Status::Refused,
+            "refused frozen TooMany\n",
+        ),
+        (13, "", Status::Refused, "refused frozen TooMany\n"),
     ];
-    for (count, status, output) in rows {
-        let schema = parents(alloc, count)?;
+    for (count, more, status, output) in rows {
+        let schema = grown(alloc, parents(alloc, count)?.as_str(), more)?;
         check_status(
             &rt,
             alloc,

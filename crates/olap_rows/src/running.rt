@@ -64,7 +64,7 @@ pub(crate) fn check_status(
     output: &str,
 ) -> Result<(), Fail> {
     let mut library = MemLibrary::new(files(alloc, held)?, 4096, listed(alloc, None)?);
-    let mut sink = MemSink::new(alloc, 100_000, 4096, listed(alloc, None)?)?;
+    let mut sink = MemSink::new(alloc, 1_000_000, 4096, listed(alloc, None)?)?;
     let words = words(alloc, line)?;
     let status = olap(alloc, &words, &mut library, &mut sink);
     assert_eq!(rt; status, wanted, "{output}");
@@ -81,7 +81,7 @@ pub(crate) fn run(
     held: &[(&str, &str)],
 ) -> Result<(Status, String), Fail> {
     let mut library = MemLibrary::new(files(alloc, held)?, 4096, listed(alloc, None)?);
-    let mut sink = MemSink::new(alloc, 100_000, 4096, listed(alloc, None)?)?;
+    let mut sink = MemSink::new(alloc, 1_000_000, 4096, listed(alloc, None)?)?;
     let words = words(alloc, line)?;
     let status = olap(alloc, &words, &mut library, &mut sink);
     let Ok(output) = str::from_utf8(sink.contents()) else {
