@@ -9,6 +9,7 @@ use adapters::{FileLibrary, StdoutSink};
 use olap_run::{Status, olap};
 use std::alloc::Global;
 use std::env;
+use std::io::ErrorKind;
 use std::process::ExitCode;
 
 /// The exit status.
@@ -24,10 +25,19 @@ fn code(status: Status) -> u8 {
     }
 }
 
-/// Words that aren't UTF-8 are no command: they end as wrong words do, with nothing printed.
+/// The status where the words can't be had. Words that aren't UTF-8 are no command: they end as wrong words do, with
+/// nothing printed.
+fn without_words(why: ErrorKind) -> Status {
+    match why {
+        ErrorKind::OutOfMemory => Status::Memory,
+        _ => Status::Usage,
+    }
+}
+
 fn main(rt: HostRuntime) -> ExitCode {
-    let Ok(args) = env::args(&rt) else {
-        return ExitCode::from(code(Status::Usage));
+    let args = match env::args(&rt) {
+        Ok(args) => args,
+        Err(why) => return ExitCode::from(code(without_words(why.kind()))),
     };
     let alloc: Global = rt.alloc();
     let mut words = Vec::new(alloc);
