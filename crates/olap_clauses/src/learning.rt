@@ -14,14 +14,16 @@ use crate::watching::Watches;
 /// So many literals at most has a learned clause that is kept for good.
 const SHORT: usize = 5;
 
-/// Whether each literal of the first clause is one of the second.
-fn is_within(some: &[Lit], clause: &[Lit]) -> bool {
-    some.iter()
-        .all(|lit| clause.iter().any(|other| lit.is(*other)))
+/// Whether the second clause says as much as the first: it is no longer, and has no other literals.
+fn says_as_much(clause: &[Lit], known: &[Lit]) -> bool {
+    known.len() <= clause.len()
+        && known
+            .iter()
+            .all(|lit| clause.iter().any(|other| lit.is(*other)))
 }
 
-/// Learns from a false clause, where it can, and answers the number of what it learned: its own, where it said as much
-/// already, as where decisions alone made it false. Else questions that are refuted alike would fill the room with copies.
+/// Learns from a false clause, where it can, and answers the number of what it learned. That is its own, where it said
+/// as much already, as where decisions alone made it false: else the room would fill with copies.
 pub(crate) fn learn(
     trail: &Trail,
     pool: &mut Pool,
@@ -39,7 +41,7 @@ pub(crate) fn learn(
     if !analyse(trail, pool, id, seen, work, scores) {
         return None;
     }
-    if is_within(work, pool.clause(id)) {
+    if says_as_much(work, pool.clause(id)) {
         return Some(id);
     }
     let new = pool.len();
