@@ -1,0 +1,12 @@
+-- The database's own totals. They are here to be compared with.
+create view own_total as
+    select 'Store' as category, s as member, count(*) as count, sum(cents) as sum, min(cents) as least,
+        max(cents) as greatest
+    from sale join numbered on numbered.store_id = sale.store_id group by s
+    union all
+    select 'Region', r, count(*), sum(cents), min(cents), max(cents)
+    from sale join numbered on numbered.store_id = sale.store_id
+    where r is not null group by r
+    union all
+    select 'Country', n, count(*), sum(cents), min(cents), max(cents)
+    from sale join numbered on numbered.store_id = sale.store_id group by n;
