@@ -8,9 +8,9 @@ PATH = re.compile(r"`([A-Za-z0-9_.\-]+(?:/[A-Za-z0-9_.+\-]+)+/?)`")
 
 
 def documents():
-    """The documents at the top, in docs/ and examples/, and each crate's."""
-    top = sources.TOP
-    return [*top.glob("*.md"), *top.glob("docs/*.md"), *top.glob("examples/**/*.md"), *top.glob("crates/*/README.md")]
+    """The documents at the top, in docs/, examples/, recipes/ and tools/, and each crate's."""
+    places = ("*.md", "docs/*.md", "examples/**/*.md", "recipes/**/*.md", "tools/*.md", "crates/*/README.md")
+    return [document for place in places for document in sources.TOP.glob(place)]
 
 
 def is_there(document, path):
