@@ -27,4 +27,6 @@ mod running;
 #[cfg(test)]
 mod samples;
 #[cfg(test)]
+mod searches;
+#[cfg(test)]
 mod stores;
