@@ -14,12 +14,17 @@ fn words(alloc: Global, line: &[&str]) -> Result<Vec<String>, Fail> {
     Ok(all)
 }
 
+/// A file of that name.
+fn file(alloc: Global, name: &str, content: &[u8]) -> Result<(Text, Text), Fail> {
+    let name = Text::from_bytes(alloc, name.as_bytes())?;
+    Ok((name, Text::from_bytes(alloc, content)?))
+}
+
 /// Files by name.
 fn files(alloc: Global, files: &[(&str, &str)]) -> Result<List<(Text, Text)>, Fail> {
     let mut all = Vec::new(alloc);
     for (name, content) in files {
-        let name = Text::from_bytes(alloc, name.as_bytes())?;
-        all.push((name, Text::from_bytes(alloc, content.as_bytes())?))?;
+        all.push(file(alloc, name, content.as_bytes())?)?;
     }
     Ok(List::from_vec(all))
 }
@@ -82,6 +87,45 @@ pub(crate) fn run(
 ) -> Result<(Status, String), Fail> {
     let mut library = MemLibrary::new(files(alloc, held)?, 4096, listed(alloc, None)?);
     let mut sink = MemSink::new(alloc, 1_000_000, 4096, listed(alloc, None)?)?;
+    let words = words(alloc, line)?;
+    let status = olap(alloc, &words, &mut library, &mut sink);
+    let Ok(output) = str::from_utf8(sink.contents()) else {
+        return Err("an output that is no text".into());
+    };
+    Ok((status, String::from_str(alloc, output)?))
+}
+
+/// Runs the command line over files of bytes and ample room, and compares the status and the output.
+pub(crate) fn check_bytes(
+    rt: &impl Abort,
+    alloc: Global,
+    line: &[&str],
+    held: &[(&str, &[u8])],
+    wanted: Status,
+    output: &str,
+) -> Result<(), Fail> {
+    let mut all = Vec::new(alloc);
+    for (name, content) in held {
+        all.push(file(alloc, name, content)?)?;
+    }
+    let mut library = MemLibrary::new(List::from_vec(all), 4096, listed(alloc, None)?);
+    let mut sink = MemSink::new(alloc, 1000, 4096, listed(alloc, None)?)?;
+    let status = olap(alloc, &words(alloc, line)?, &mut library, &mut sink);
+    assert_eq!(rt; status, wanted, "{output}");
+    assert_eq!(rt; sink.contents(), output.as_bytes());
+    Ok(())
+}
+
+/// The status and the output of a command line, where one call of the library and one of the sink may be made to fail,
+/// over ample room.
+pub(crate) fn run_failing(
+    alloc: Global,
+    line: &[&str],
+    held: &[(&str, &str)],
+    failing: (Option<u64>, Option<u64>),
+) -> Result<(Status, String), Fail> {
+    let mut library = MemLibrary::new(files(alloc, held)?, 16, listed(alloc, failing.0)?);
+    let mut sink = MemSink::new(alloc, 1000, 7, listed(alloc, failing.1)?)?;
     let words = words(alloc, line)?;
     let status = olap(alloc, &words, &mut library, &mut sink);
     let Ok(output) = str::from_utf8(sink.contents()) else {

@@ -78,3 +78,14 @@ edge B R\n\
 edge R B\n\
 edge B All\n\
 edge R All\n";
+
+/// The views of the states, the provinces and the cities.
+pub(crate) const STORED: &str = "category,member,count,sum,least,greatest\n\
+State,,,,,\n\
+State,yu,1,7,7,7\n\
+Province,,,,,\n\
+Province,on,3,3,-5,5\n\
+City,,,,,\n\
+City,w,1,10,10,10\n\
+City,to,3,3,-5,5\n\
+City,mx,1,7,7,7\n";

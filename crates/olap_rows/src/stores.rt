@@ -1,19 +1,8 @@
 // `store` and `answer`: views that are kept, and views from them without the facts.
 use crate::running::{check_status, grown};
-use crate::samples::{LOCATION, PLACES, SALES};
+use crate::samples::{LOCATION, PLACES, SALES, STORED};
 use olap_run::Status;
 use std::test::Fail;
-
-/// The views of the states, the provinces and the cities.
-const STORED: &str = "category,member,count,sum,least,greatest\n\
-State,,,,,\n\
-State,yu,1,7,7,7\n\
-Province,,,,,\n\
-Province,on,3,3,-5,5\n\
-City,,,,,\n\
-City,w,1,10,10,10\n\
-City,to,3,3,-5,5\n\
-City,mx,1,7,7,7\n";
 
 /// The view of the cities.
 const CITIES: &str = "category,member,count,sum,least,greatest\n\
