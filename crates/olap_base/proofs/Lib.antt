@@ -8,3 +8,4 @@ pub mod OneFactLemmas
 pub mod Reading
 pub mod Writing
 pub mod Places
+pub mod FaultLemmas

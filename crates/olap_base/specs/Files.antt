@@ -1,5 +1,6 @@
 -- What a library has, and what its calls do.
 use Rattle.std.specs.Cmp.Lexicographic.{pointwise}
+use Rattle.std.specs.Option.{unwrap_or}
 use Rattle.std.specs.Prelude.{◌≡◌, ◌⊎◌, ℕ, ◌<◌, List, [], ◌∷◌, ◌++◌, nat_eq, slice_index_or, length, ⊤, Option, None, Some, IsSome, is_some, if◌then◌else◌}
 
 -- for each name its content, or that it has none
@@ -56,3 +57,12 @@ pub record IsPlace (files : List (List ℕ × List ℕ)) (name : List ℕ) (i : 
   pub within : i < length files
   pub name_is : (file_at files i).0 ≡ name
   pub content_is : content_of files name ≡ Some (file_at files i).1
+
+-- the content of the first file of that name; a name that no file has stands for no bytes
+abbrev pub content_or_empty : List (List ℕ × List ℕ) → Files
+content_or_empty files name = Some (unwrap_or (content_of files name) [])
+
+-- the content of the file at that place, or no bytes where there is none
+abbrev pub opened_content : List (List ℕ × List ℕ) → Option ℕ → List ℕ
+opened_content files None = []
+opened_content files (Some i) = (file_at files i).1

@@ -56,3 +56,7 @@ most_words = 64
 -- frozen dimensions that are listed
 abbrev pub most_frozen : ℕ
 most_frozen = 4096
+
+-- stores of an input that is made from a number
+abbrev pub most_generated : ℕ
+most_generated = 200000

@@ -14,6 +14,7 @@ mod laws;
 mod limits;
 mod lists;
 mod outside;
+mod sure;
 mod texts;
 
 pub use emitting::emit;
@@ -21,14 +22,15 @@ pub use fetching::{FetchError, fetch};
 pub use ids::{CatId, EdgeId, Failed, MemberId, Memory};
 pub use in_memory::{MemLibrary, MemSink};
 pub use laws::{
-    above_is_lawful, agree_exactly_if_reached_by_one, one_facts_views, totals_of_summaries,
-    totals_of_values,
+    above_is_lawful, agree_exactly_if_reached_by_one, no_faults_none_rose, one_facts_views,
+    totals_of_summaries, totals_of_values,
 };
 pub use limits::{
     MOST_CATEGORIES, MOST_CONSTANTS, MOST_CONSTRAINTS, MOST_DEPTH, MOST_EDGES, MOST_FACTS,
-    MOST_FILE_BYTES, MOST_FROZEN, MOST_LISTED_FACTS, MOST_MEMBERS, MOST_NODES, MOST_TEXT_BYTES,
-    MOST_VIEWS, MOST_WORDS,
+    MOST_FILE_BYTES, MOST_FROZEN, MOST_GENERATED, MOST_LISTED_FACTS, MOST_MEMBERS, MOST_NODES,
+    MOST_TEXT_BYTES, MOST_VIEWS, MOST_WORDS,
 };
 pub use lists::List;
 pub use outside::{Library, OpenError, Sink};
+pub use sure::{SureLibrary, SureSink};
 pub use texts::Text;

@@ -41,3 +41,6 @@ pub const MOST_WORDS: usize = 64;
 
 /// Frozen dimensions that are listed.
 pub const MOST_FROZEN: usize = 4096;
+
+/// Stores of an input that is made from a number.
+pub const MOST_GENERATED: u32 = 200_000;
