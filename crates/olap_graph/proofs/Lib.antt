@@ -2,6 +2,6 @@
 pub mod PlaceLemmas
 pub mod GrowthLemmas
 pub mod MarkLemmas
-mod MarkingLemmas
 mod TableLemmas
+mod RowLemmas
 mod EdgeLemmas

@@ -1,6 +1,7 @@
 -- What the tables of a graph say of it, and how they are filled.
 use Rattle.std.proofs.Common.{◌≡◌, ◌≢◌, ℕ, zero, suc, ◌+◌, ◌<◌, ◌↔◌, ◌==◌, List, [], ◌∷◌, ◌++◌, length, get_or, set, map, cond, Bool, true, false, refl, ap, sym, subst, ◌∙◌, inl, arith, get_or-set_other}
 use Rattle.std.specs.Prelude.{All, Contains, IsTrue, filter}
+use Rattle.std.specs.FinSet.{contains}
 use Rattle.std.specs.List.{range_with_len}
 use Rattle.std.proofs.lemmas.List.{get_or-map, get_or_default, length-map, map_push, map-id}
 use Rattle.std.proofs.lemmas.List.Elements.{Contains-get_or, filter-append}
@@ -11,11 +12,13 @@ use Rattle.olap_base.specs.declared.ids.EdgeId.{EdgeId}
 use Rattle.olap_base.specs.Graph.{Edge, Graph, HasEdge, IsBottom, IsCategory, IsHierarchy, CategoryReaches, category_count}
 use Rattle.olap_base.proofs.ListLemmas.{Contains-filter, Contains-from_filter, Contains-map, Contains-from_map, Contains-range, Contains-from_range}
 use Rattle.std.proofs.lemmas.Bool.Decides.{Decides-eqb}
+use Rattle.olap_bits.specs.declared.sets.CatSet.{CatSet}
 use Rattle.olap_graph.specs.Building.{IsUnfinished, IsFirstWithoutWay}
 use Rattle.olap_graph.specs.Listing.{edge_of, graph_of}
 use Rattle.olap_graph.specs.Lookups.{edge_at, edges_from}
 use Rattle.olap_graph.specs.Marking.{parents_of}
-use Rattle.olap_graph.specs.Tables.{drawn, IsMarked, LiesWithin, AreOut, AreReached, AreBottoms, IsFirstUnmarked, AreAllMarked}
+use Rattle.olap_graph.specs.Rows.{AreReached, row}
+use Rattle.olap_graph.specs.Tables.{drawn, IsMarked, LiesWithin, AreOut, AreBottoms, IsFirstWithout, HaveAll}
 use Rattle.olap_graph.specs.declared.listing.Ends.{Ends}
 
 abbrev pub nowhere : Ends
@@ -224,15 +227,12 @@ bottom_is names ends n c marks r b q h e =
 
 -- ---- what is reached
 
-pub row_is : (names : List (List ℕ)) (ends : List Ends) (n c d : ℕ) (rows : List (List Bool)) (row : List Bool)
-    (r : Bool) → AreReached (drawn ends) n rows → c < n
-    → row ≡ get_or rows c row → r ≡ get_or row d false → IsTrue r ↔ CategoryReaches (graph_of names ends) c d
-row_is names ends n c d rows row r a h e q =
-    let l : c < length rows = let k = a.count in omega arith in
-    let is : get_or rows c [] ≡ row = get_or_default rows c [] row l ∙ sym e in
-    let t = (a.each c h).exact d in
-    let same : get_or (get_or rows c []) d false ≡ r = ap (λ w. get_or w d false) is ∙ sym q in
-    (λ m. t.0 (same ∙ m), λ u. sym same ∙ t.1 u)
+pub row_is : {W : ℕ} (names : List (List ℕ)) (ends : List Ends) (n c d : ℕ) (rows : List (CatSet W)) (r : Bool)
+    → AreReached (drawn ends) n rows → c < n → r ≡ contains (row rows c) d
+    → IsTrue r ↔ CategoryReaches (graph_of names ends) c d
+row_is names ends n c d rows r a h q =
+    let t = a.each c d h in
+    (λ m. t.0 (sym q ∙ m), λ u. q ∙ t.1 u)
 
 -- the ends of the edges are categories
 pub lies_within : (names : List (List ℕ)) (ends : List Ends) (n : ℕ) → n ≡ category_count (graph_of names ends)
@@ -240,32 +240,31 @@ pub lies_within : (names : List (List ℕ)) (ends : List Ends) (n : ℕ) → n �
     (graph_of names ends) d) → LiesWithin (drawn ends) n
 lies_within names ends n q f c d h = let t = f c d h in (omega (arith, t.0), omega (arith, t.1))
 
--- the first row without a mark for `All` is that of the first category without a way
-pub first_without_way : (names : List (List ℕ)) (ends : List Ends) (n : ℕ) (rows : List (List Bool)) (c : CatId)
-    → AreReached (drawn ends) n rows
-    → n ≡ category_count (graph_of names ends) → IsFirstUnmarked rows c → IsFirstWithoutWay (graph_of names ends) c.0
+-- the first set without `All` is that of the first category without a way
+pub first_without_way : {W : ℕ} (names : List (List ℕ)) (ends : List Ends) (n : ℕ) (rows : List (CatSet W)) (c : CatId)
+    → AreReached (drawn ends) n rows → n ≡ category_count (graph_of names ends) → IsFirstWithout rows c
+    → IsFirstWithoutWay (graph_of names ends) c.0
 first_without_way names ends n rows c a q f =
     let k = a.count in
     let l : c.0 < n = let t = f.declared.1 in omega arith in
     record {
       declared = (λ e. let t = f.declared.0 in omega arith, omega arith);
-      none = λ w. let m = ((a.each c.0 l).exact 0).1 w in let z : true ≡ false = sym m ∙ f.none in cc;
-      before = λ d i b. ((a.each d (omega arith)).exact 0).0 (f.before d (let t = i.0 in positive d t) b);
+      none = λ w. f.none ((a.each c.0 0 l).1 w);
+      before = λ d i b. (a.each d 0 (omega arith)).0 (f.before d (let t = i.0 in positive d t) b);
     }
   where
     positive : (d : ℕ) → (d ≡ 0 → ⊥) → 0 < d
     positive zero n = absurd (n refl)
     positive (suc d) n = omega arith
 
--- where each row has the mark, each category reaches `All`
-pub all_reach : (names : List (List ℕ)) (ends : List Ends) (n : ℕ) (rows : List (List Bool))
-    → AreReached (drawn ends) n rows
-    → n ≡ category_count (graph_of names ends) → AreAllMarked rows → (c : ℕ) → IsCategory (graph_of names ends) c
-    → CategoryReaches (graph_of names ends) c 0
+-- where each set has `All`, each category reaches `All`
+pub all_reach : {W : ℕ} (names : List (List ℕ)) (ends : List Ends) (n : ℕ) (rows : List (CatSet W))
+    → AreReached (drawn ends) n rows → n ≡ category_count (graph_of names ends) → HaveAll rows
+    → (c : ℕ) → IsCategory (graph_of names ends) c → CategoryReaches (graph_of names ends) c 0
 all_reach names ends n rows a q m zero h = inl refl
 all_reach names ends n rows a q m (suc c) h =
     let k = a.count in
-    ((a.each (suc c) (omega arith)).exact 0).0 (m (suc c) (omega arith) (omega arith))
+    (a.each (suc c) 0 (omega arith)).0 (m (suc c) (omega arith) (omega arith))
 
 -- what is unfinished is finished once each category reaches `All`
 pub hierarchy : (g : Graph) → IsUnfinished g → ((c : ℕ) → IsCategory g c → CategoryReaches g c 0) → IsHierarchy g

@@ -3,8 +3,9 @@
 -- What a reader of the claims believes.
 pub mod Lookups
 pub mod Building
--- The inside: the lists and tables behind a graph, and the search for what a category reaches.
+-- The inside: the lists and tables behind a graph, and marks of numbers.
 pub mod Listing
+pub mod Rows
 pub mod Tables
 pub mod Marking
 pub mod Inside

@@ -2,16 +2,16 @@
 --     drawn          a graph with these edges, whatever its names
 --     IsMarked       the mark of a number is set
 --     AreOut         for each category the edges out of it
---     IsRow          marks for what one category reaches
---     AreReached     such a row for each category
 --     AreBottoms     marks for the bottom categories
---     AreTables      all three
+--     AreTables      these two, and the sets of what each category reaches
 use Rattle.std.specs.Prelude.{◌≡◌, ◌≢◌, ℕ, ◌<◌, ◌↔◌, List, [], map, Bool, true, false, length, slice_index_or}
 use Rattle.olap_base.specs.declared.ids.CatId.{CatId}
 use Rattle.olap_base.specs.declared.ids.EdgeId.{EdgeId}
-use Rattle.olap_base.specs.Graph.{Graph, HasEdge, CategoryReaches}
+use Rattle.olap_base.specs.Graph.{Graph, HasEdge}
+use Rattle.olap_bits.specs.declared.sets.CatSet.{CatSet}
 use Rattle.olap_graph.specs.Lookups.{edges_from}
 use Rattle.olap_graph.specs.Listing.{edge_of}
+use Rattle.olap_graph.specs.Rows.{AreReached, Has}
 use Rattle.olap_graph.specs.declared.listing.Ends.{Ends}
 use Rattle.olap_graph.specs.declared.tables.Tables.{Tables}
 
@@ -32,16 +32,6 @@ pub record AreOut (g : Graph) (n : ℕ) (out : List (List EdgeId)) : Type 0 wher
   pub count : length out ≡ n
   pub edges : (c : ℕ) → c < n → map (λ e. e.0) (slice_index_or out c []) ≡ edges_from g c
 
--- of n categories exactly those that c reaches are marked
-pub record IsRow (g : Graph) (n c : ℕ) (row : List Bool) : Type 0 where
-  pub count : length row ≡ n
-  pub exact : (d : ℕ) → IsMarked row d ↔ CategoryReaches g c d
-
--- a row for each of n categories
-pub record AreReached (g : Graph) (n : ℕ) (rows : List (List Bool)) : Type 0 where
-  pub count : length rows ≡ n
-  pub each : (c : ℕ) → c < n → IsRow g n c (slice_index_or rows c [])
-
 -- of n categories exactly those other than `All` that are no edge's parent are marked
 pub record AreBottoms (g : Graph) (n : ℕ) (marks : List Bool) : Type 0 where
   pub count : length marks ≡ n
@@ -53,12 +43,12 @@ pub record AreTables (g : Graph) (n : ℕ) (t : Tables) : Type 0 where
   pub reached : AreReached g n t.reached.items
   pub bottoms : AreBottoms g n t.bottoms.items
 
--- c is the first category but `All` whose row has no mark for `All`
-pub record IsFirstUnmarked (rows : List (List Bool)) (c : CatId) : Type 0 where
+-- c is the first category but `All` whose set hasn't `All`
+pub record IsFirstWithout {W : ℕ} (rows : List (CatSet W)) (c : CatId) : Type 0 where
   pub declared : (0 < c.0) × (c.0 < length rows)
-  pub none : slice_index_or (slice_index_or rows c.0 []) 0 false ≡ false
-  pub before : (d : ℕ) → 0 < d → d < c.0 → IsMarked (slice_index_or rows d []) 0
+  pub none : Has rows c.0 0 → ⊥
+  pub before : (d : ℕ) → 0 < d → d < c.0 → Has rows d 0
 
--- the row of each category but `All` has a mark for `All`
-abbrev pub AreAllMarked : List (List Bool) → Type 0
-AreAllMarked rows = (d : ℕ) → 0 < d → d < length rows → IsMarked (slice_index_or rows d []) 0
+-- the set of each category but `All` has `All`
+abbrev pub HaveAll : {W : ℕ} → List (CatSet W) → Type 0
+HaveAll rows = (d : ℕ) → 0 < d → d < length rows → Has rows d 0

@@ -110,7 +110,7 @@ impl GraphBuilder {
         joining(&self.edges, child, parent)
     }
 
-    /// The graph with these categories and edges. Cost: categories times edges.
+    /// The graph with these categories and edges. Cost: categories times categories and edges.
     pub fn finish(self) -> Result<Graph, GraphRefusal>
         ensures ok { IfOk result (λ graph. graph ≡ self) }
         ensures way { IfOk result (λ graph. (c : ℕ) → IsCategory graph c → CategoryReaches graph c 0) }

@@ -1,17 +1,18 @@
 // Category graphs.
-ghost use Rattle.std.specs.Prelude.{◌≡◌, ◌↔◌, ◌≤◌, ◌<◌, ℕ, [], slice_index_or, length, map, All, IfOk, IfErr, IfSome, IfNone, IsSome, IsTrue};
+ghost use Rattle.std.specs.Prelude.{◌≡◌, ◌↔◌, ◌≤◌, ◌<◌, ℕ, length, map, All, IfOk, IfErr, IfSome, IfNone, IsSome, IsTrue};
 ghost use Rattle.std.specs.Option.{option_map};
 ghost use Rattle.olap_base.specs.Graph.{IsCategory, IsDeclared, IsBottom, IsHierarchy, HasEdge, CategoryReaches, category_count};
 ghost use Rattle.olap_base.specs.Limits.{most_categories, most_edges};
 ghost use Rattle.olap_graph.specs.Lookups.{category_named, name_of_category, edge_between, edge_at, edges_from};
 ghost use Rattle.olap_graph.specs.Building.{IsWithinLimits, IsUnfinished, IsGraphCause};
 ghost use Rattle.olap_graph.specs.Listing.{graph_of, IsHeaded};
-ghost use Rattle.olap_graph.specs.Tables.{IsFirstUnmarked, AreAllMarked};
+ghost use Rattle.olap_graph.specs.Tables.{IsFirstWithout, HaveAll};
 
 use crate::GraphRefusal;
 use crate::listing::{Ends, copied, leading, named};
+use crate::reaching::Row;
 use crate::tables::Tables;
-use olap_base::{CatId, EdgeId, List, Memory, Text};
+use olap_base::{CatId, EdgeId, Memory, Text};
 use std::alloc::Global;
 use std::marker::Model;
 
@@ -36,15 +37,14 @@ impl Model for Graph {
     ghost invariant = { IsFinished };
 }
 
-/// The first category but `All` whose row has no mark for `All`.
-fn first_unmarked(rows: &[List<bool>]) -> Option<CatId>
+/// The first category but `All` whose set hasn't `All`.
+fn first_without_all(rows: &[Row]) -> Option<CatId>
     requires few { length rows.now ≤ most_categories }
-    requires some { (c : ℕ) → c < length rows.now → 0 < length (slice_index_or rows.now c []) }
-    ensures some { IfSome result (IsFirstUnmarked rows.now) }
-    ensures none { IfNone result (AreAllMarked rows.now) }
+    ensures some { IfSome result (IsFirstWithout rows.now) }
+    ensures none { IfNone result (HaveAll rows.now) }
 {
     for c in 1..rows.len() {
-        if !rows[c].items()[0] {
+        if !rows[c].has(0) {
             return Some(CatId(c as u16));
         }
     }
@@ -66,7 +66,7 @@ impl Graph {
         ensures err { IfErr result (IsGraphCause (graph_of names.items edges.items)) }
     {
         let tables = Tables::of(alloc, &edges, names.len() as u16)?;
-        if let Some(category) = first_unmarked(&tables.reached) {
+        if let Some(category) = first_without_all(&tables.reached) {
             return Err(GraphRefusal::NoWayToAll(category));
         }
         Ok(Graph {
@@ -132,7 +132,7 @@ impl Graph {
         requires parent { IsCategory self.now d.0 }
         ensures { IsTrue result ↔ CategoryReaches self.now c.0 d.0 }
     {
-        self.tables.reached[usize::from(c.0)].items()[usize::from(d.0)]
+        self.tables.reached[usize::from(c.0)].has(d.0)
     }
 
     /// The edge from one category to another. Cost: the edges out of the child.
@@ -168,17 +168,16 @@ impl Graph {
         self.tables.out[usize::from(c.0)].items()
     }
 
-    /// An equal graph. Cost: that of `GraphBuilder::finish`.
+    /// An equal graph. Cost: what it takes in memory.
     pub fn copy(&self) -> Result<Graph, Memory>
         ensures { IfOk result (λ graph. graph ≡ self.now) }
     {
         let names = copied(self.alloc, &self.names)?;
         let edges = Vec::from_slice(self.alloc, &self.edges)?;
-        let tables = Tables::of(self.alloc, &edges, names.len() as u16)?;
         Ok(Graph {
             names,
             edges,
-            tables,
+            tables: self.tables.copy(self.alloc)?,
             alloc: self.alloc,
         })
     }

@@ -1,71 +1,78 @@
-// Which categories one reaches.
-ghost use Rattle.std.specs.Prelude.{◌≡◌, ◌<◌, ℕ, length, vec_len, All, IfOk, OnOk};
-ghost use Rattle.olap_graph.specs.Tables.{drawn, AreOut, AreReached, IsRow, LiesWithin};
-ghost use Rattle.olap_graph.specs.Marking.{IsVisit, parents_of};
+// Which categories each one reaches: a set for each, closed upwards.
+ghost use Rattle.std.specs.Prelude.{◌≡◌, ◌≤◌, ◌<◌, ◌⊎◌, ◌↔◌, ℕ, length, IfOk};
+ghost use Rattle.olap_base.specs.Limits.{most_categories};
+ghost use Rattle.olap_graph.specs.Rows.{AreDrawn, AreOwn, AreReached, Has, Passes};
+ghost use Rattle.olap_graph.specs.Tables.{drawn, LiesWithin};
 
 use crate::listing::Ends;
-use olap_base::{EdgeId, List, Memory};
+use olap_base::Memory;
+use olap_bits::CatSet;
 use std::alloc::Global;
 
-/// Marks the parents of these edges, and lists those that were not marked.
-fn visit(
-    edges: &[Ends],
-    out: &[EdgeId],
-    marks: &mut Vec<bool>,
-    list: &mut Vec<u16>,
-) -> Result<(), Memory>
-    requires edges { All (λ e. e.0 < length edges.now) out.now }
-    requires parents { All (λ p. p < vec_len marks.old) (parents_of (drawn edges.now) out.now) }
-    ensures { let parents = parents_of (drawn edges.now) out.now in
-        OnOk result (IsVisit parents marks.old.items marks.new.items list.old.items list.new.items) }
-{
-    for e in out {
-        let parent = edges[usize::from(e.0)].parent.0;
-        if !marks[usize::from(parent)] {
-            marks[usize::from(parent)] = true;
-            list.push(parent)?;
-        }
-    }
-    Ok(())
-}
+/// A set of categories. This is the one place where its width is chosen: it has to hold `MOST_CATEGORIES` numbers, 64 a
+/// word.
+pub(crate) type Row = CatSet<1>;
 
-/// Marks for what the category reaches.
-fn row(
-    alloc: Global,
-    edges: &[Ends],
-    out: &[List<EdgeId>],
-    category: u16,
-) -> Result<List<bool>, Memory>
-    requires out { AreOut (drawn edges.now) (length out.now) out.now }
-    requires within { LiesWithin (drawn edges.now) (length out.now) }
-    requires category { category < length out.now }
-    ensures { IfOk result (λ marks. IsRow (drawn edges.now) (length out.now) category marks) }
-{
-    let mut marks = vec![in alloc; false; out.len()]?;
-    marks[usize::from(category)] = true;
-    let mut list = Vec::new(alloc);
-    list.push(category)?;
-    while let Some(z) = list.pop() {
-        visit(edges, out[usize::from(z)].items(), &mut marks, &mut list)?;
-    }
-    Ok(List::from_vec(marks))
-}
-
-/// For each category marks for what it reaches.
-pub(crate) fn rows(
-    alloc: Global,
-    edges: &[Ends],
-    out: &[List<EdgeId>],
-    count: u16,
-) -> Result<Vec<List<bool>>, Memory>
-    requires out { AreOut (drawn edges.now) (length out.now) out.now }
-    requires within { LiesWithin (drawn edges.now) (length out.now) }
-    requires count { length out.now ≡ count }
-    ensures { IfOk result (λ rows. AreReached (drawn edges.now) count rows.items) }
+/// For each category the set of itself alone.
+fn own(alloc: Global, count: u16) -> Result<Vec<Row>, Memory>
+    requires { count ≤ most_categories }
+    ensures { IfOk result (λ rows. AreOwn count rows.items) }
 {
     let mut rows = Vec::new(alloc);
-    for category in 0..count {
-        rows.push(row(alloc, edges, out, category)?)?;
+    'categories: for c in 0..count {
+        rows.push(Row::empty().with(c))?;
     }
+    Ok(rows)
+}
+
+/// Each set gets the parents of its category.
+fn draw(edges: &[Ends], rows: &mut [Row])
+    requires own { AreOwn (length rows.old) rows.old }
+    requires few { length rows.old ≤ most_categories }
+    requires within { LiesWithin (drawn edges.now) (length rows.old) }
+    ensures count { length rows.new ≡ length rows.old }
+    ensures drawn { AreDrawn (drawn edges.now) (length edges.now) rows.new }
+{
+    'edges: for ends in edges {
+        let child = usize::from(ends.child.0);
+        rows[child] = rows[child].with(ends.parent.0);
+    }
+}
+
+/// Each set that has k gets what k's set has.
+fn pass(rows: &mut [Row], k: u16)
+    requires inside { k < length rows.old }
+    ensures count { length rows.new ≡ length rows.old }
+    ensures passed { (c d : ℕ) → c < length rows.old → Has rows.new c d ↔ Passes rows.old k c d }
+{
+    let through = rows[usize::from(k)];
+    'categories: for c in 0..rows.len() {
+        if rows[c].has(k) {
+            rows[c] = rows[c].union(through);
+        }
+    }
+}
+
+/// Each set gets what its category reaches.
+fn close(edges: &[Ends], rows: &mut [Row])
+    requires own { AreOwn (length rows.old) rows.old }
+    requires few { length rows.old ≤ most_categories }
+    requires within { LiesWithin (drawn edges.now) (length rows.old) }
+    ensures { AreReached (drawn edges.now) (length rows.old) rows.new }
+{
+    draw(edges, rows);
+    'through: for k in 0..rows.len() {
+        pass(rows, k as u16);
+    }
+}
+
+/// For each category the set of those that it reaches. Cost: the square of the categories, and the edges.
+pub(crate) fn rows(alloc: Global, edges: &[Ends], count: u16) -> Result<Vec<Row>, Memory>
+    requires few { count ≤ most_categories }
+    requires within { LiesWithin (drawn edges.now) count }
+    ensures { IfOk result (λ rows. AreReached (drawn edges.now) count rows.items) }
+{
+    let mut rows = own(alloc, count)?;
+    close(edges, &mut rows);
     Ok(rows)
 }

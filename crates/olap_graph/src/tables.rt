@@ -1,11 +1,11 @@
 // What a finished graph keeps beside its lists, so that each look-up is quick.
 ghost use Rattle.std.specs.Prelude.{◌≡◌, ◌≤◌, ◌<◌, length, map, IfOk};
-ghost use Rattle.olap_base.specs.Limits.{most_edges};
+ghost use Rattle.olap_base.specs.Limits.{most_categories, most_edges};
 ghost use Rattle.olap_graph.specs.Lookups.{edges_from};
 ghost use Rattle.olap_graph.specs.Tables.{drawn, AreOut, AreBottoms, LiesWithin};
 
 use crate::listing::Ends;
-use crate::reaching::rows;
+use crate::reaching::{Row, rows};
 use olap_base::{EdgeId, List, Memory};
 use std::alloc::Global;
 
@@ -13,7 +13,7 @@ use std::alloc::Global;
 #[derive(Debug, Drop)]
 pub(crate) struct Tables {
     pub(crate) out: Vec<List<EdgeId>>,
-    pub(crate) reached: Vec<List<bool>>,
+    pub(crate) reached: Vec<Row>,
     pub(crate) bottoms: Vec<bool>,
 }
 
@@ -43,6 +43,17 @@ fn all_out(alloc: Global, edges: &[Ends], count: u16) -> Result<Vec<List<EdgeId>
     Ok(out)
 }
 
+/// The same lists.
+fn copied(alloc: Global, lists: &[List<EdgeId>]) -> Result<Vec<List<EdgeId>>, Memory>
+    ensures { IfOk result (λ copy. copy.items ≡ lists.now) }
+{
+    let mut copy = Vec::new(alloc);
+    for list in lists {
+        copy.push(List::from_vec(Vec::from_slice(alloc, list.items())?))?;
+    }
+    Ok(copy)
+}
+
 /// Marks for the bottom categories.
 fn bottoms(alloc: Global, edges: &[Ends], count: u16) -> Result<Vec<bool>, Memory>
     requires some { 0 < count }
@@ -62,18 +73,32 @@ impl Tables {
 
     /// The tables of a graph with that many categories and these edges.
     pub(crate) fn of(alloc: Global, edges: &[Ends], count: u16) -> Result<Tables, Memory>
-        requires few { length edges.now ≤ most_edges }
+        requires few { count ≤ most_categories }
+        requires few_edges { length edges.now ≤ most_edges }
         requires some { 0 < count }
         requires within { LiesWithin (drawn edges.now) count }
         ensures { IfOk result (AreTables (drawn edges.now) count) }
     {
         let out = all_out(alloc, edges, count)?;
-        let reached = rows(alloc, edges, &out, count)?;
+        let reached = rows(alloc, edges, count)?;
         let bottoms = bottoms(alloc, edges, count)?;
         Ok(Tables {
             out,
             reached,
             bottoms,
+        })
+    }
+
+    /// The same tables.
+    pub(crate) fn copy(&self, alloc: Global) -> Result<Tables, Memory>
+        ensures out { IfOk result (λ copy. copy.out.items ≡ self.now.out.items) }
+        ensures reached { IfOk result (λ copy. copy.reached.items ≡ self.now.reached.items) }
+        ensures bottoms { IfOk result (λ copy. copy.bottoms.items ≡ self.now.bottoms.items) }
+    {
+        Ok(Tables {
+            out: copied(alloc, &self.out)?,
+            reached: Vec::from_slice(alloc, &self.reached)?,
+            bottoms: Vec::from_slice(alloc, &self.bottoms)?,
         })
     }
 }

@@ -1,7 +1,7 @@
 use Rattle.std.proofs.Common.{◌≡◌, List, sym, subst, ◌∙◌, arith}
 use Rattle.olap_base.specs.Graph.{category_count}
 use Rattle.olap_graph.specs.Listing.{graph_of}
-use Rattle.olap_graph.specs.Tables.{AreTables, AreAllMarked, IsFirstUnmarked, LiesWithin, drawn}
+use Rattle.olap_graph.specs.Tables.{AreTables, HaveAll, IsFirstWithout, LiesWithin, drawn}
 use Rattle.olap_graph.specs.declared.listing.Ends.{Ends}
 use Rattle.olap_graph.proofs.GrowthLemmas.{headed_length}
 use Rattle.olap_graph.proofs.TableLemmas.{lies_within, first_without_way, all_reach, hierarchy}
@@ -28,7 +28,7 @@ returns-in-Some-clause-err c =
     subst (λ (es : List Ends). AreTables
     (drawn es) c.len.result c.in_ok-tables.tables) c.deref.ensures.value c.in_ok-tables.ensures in
     first_without_way names ends c.len.result c.in_ok-tables.tables.reached.items c.in-Some.category tables.reached size
-    (subst (λ rows. IsFirstUnmarked rows c.in-Some.category) c.deref-2.ensures.value c.in-Some.ensures.some)
+    (subst (λ rows. IsFirstWithout rows c.in-Some.category) c.deref-2.ensures.value c.in-Some.ensures.some)
 
 pub invariant_of-result : goal.invariant_of-result
 invariant_of-result c =
@@ -40,7 +40,7 @@ invariant_of-result c =
     let tables =
     subst (λ (es : List Ends). AreTables
     (drawn es) c.len.result c.in_ok-tables.tables) c.deref.ensures.value c.in_ok-tables.ensures in
-    let marked = subst AreAllMarked c.deref-2.ensures.value c.in_default.ensures.none in
+    let marked = subst HaveAll c.deref-2.ensures.value c.in_default.ensures.none in
     let way = all_reach names ends c.len.result c.in_ok-tables.tables.reached.items tables.reached size marked in
     record {
       headed = c.requires.headed;
@@ -60,4 +60,4 @@ returns-clause-way c =
     subst (λ (es : List Ends). AreTables
     (drawn es) c.len.result c.in_ok-tables.tables) c.deref.ensures.value c.in_ok-tables.ensures in
     all_reach names ends c.len.result c.in_ok-tables.tables.reached.items tables.reached size
-    (subst AreAllMarked c.deref-2.ensures.value c.in_default.ensures.none)
+    (subst HaveAll c.deref-2.ensures.value c.in_default.ensures.none)

@@ -1,0 +1,290 @@
+-- A set for each category, step by step, and what the sets hold in the end.
+use Rattle.std.proofs.Common.{◌≡◌, ◌≢◌, ℕ, suc, ◌+◌, ◌<◌, ◌≤◌, ◌⊎◌, ◌↔◌, ◌++◌, ◌∷◌, [], List, length, get_or, set, map, true, false, ap, sym, subst, ◌∙◌, inl, inr, arith, eqb, eqb-true, eq-eqb, length-append}
+use Rattle.std.specs.Cmp.{nat_cmp_total}
+use Rattle.std.specs.FinSet.{FinSet, contains, empty, insert, union, contains-empty, contains-union}
+use Rattle.std.specs.Ordering.{nat_cmp}
+use Rattle.std.proofs.Math.ListN.{get_or-append, length-set}
+use Rattle.std.proofs.Math.Seq.{get_or-append_seam}
+use Rattle.std.proofs.lemmas.Bool.{or_cases, or_left, or_right}
+use Rattle.std.proofs.lemmas.List.{get_or-map, length-map, map-set, get_or-set_same, get_or-set_other, map_push}
+use Rattle.olap_base.specs.Deciding.{Through, through_from_Steps, Steps-from_through}
+use Rattle.olap_base.specs.Graph.{Edge, Graph, HasEdge}
+use Rattle.olap_base.specs.Steps.{Steps-from_reaches, reaches_from_Steps}
+use Rattle.olap_bits.specs.Sets.{members}
+use Rattle.olap_bits.specs.declared.sets.CatSet.{CatSet}
+use Rattle.olap_bits.proofs.CatSetLemmas.{in_insert}
+use Rattle.olap_graph.specs.Listing.{edge_of}
+use Rattle.olap_graph.specs.Lookups.{edge_at}
+use Rattle.olap_graph.specs.Rows.{AreDrawn, AreOwn, AreReached, Has, JoinsBefore, Passes, row}
+use Rattle.olap_graph.specs.Tables.{LiesWithin, drawn}
+use Rattle.olap_graph.specs.declared.listing.Ends.{Ends}
+use Rattle.olap_graph.proofs.TableLemmas.{edge_at-drawn, has_edge_at, nowhere, place_of_edge}
+
+-- ---- one set
+
+newest : (a c : ℕ) → a < c + 1 → (a ≢ c) × (a < c) ⊎ (a ≡ c)
+newest a c h = grind arith
+
+same_or_not : (a c : ℕ) → (a ≡ c) ⊎ (a ≢ c)
+same_or_not a c = grind arith
+
+module _ {W : ℕ} (rows : List (CatSet W)) where
+  inside : (c : ℕ) → c < length rows → c < length (map members rows)
+  inside c h = let e = length-map rows members in omega (arith, e)
+
+  pub row_same : (c : ℕ) (x : CatSet W) → c < length rows → row (set rows c x) c ≡ members x
+  row_same c x h = ap (λ l. get_or l c empty) (map-set members rows c x)
+      ∙ get_or-set_same (map members rows) c (members x) empty (inside c h)
+
+  pub row_other : (c d : ℕ) (x : CatSet W) → d ≢ c → row (set rows c x) d ≡ row rows d
+  row_other c d x n = ap (λ l. get_or l d empty) (map-set members rows c x)
+      ∙ get_or-set_other (map members rows) c d (members x) empty n
+
+  pub row_at : (c : ℕ) (x : CatSet W) → c < length rows → members (get_or rows c x) ≡ row rows c
+  row_at c x h = sym (get_or-map members rows c x empty h)
+
+  pub row_read : (c : ℕ) (x : CatSet W) → c < length rows → x ≡ get_or rows c x → members x ≡ row rows c
+  row_read c x h e = ap members e ∙ row_at c x h
+
+has_insert : (s : FinSet nat_cmp) (k q : ℕ) → (contains (insert s k) q ≡ true) ↔ ((k ≡ q) ⊎ (contains s q ≡ true))
+has_insert s k q = (
+  λ e. elim (or_cases (eqb q k) (contains s q) (sym (in_insert s k q) ∙ e)) [
+    | inl a ↦ inl (sym (eqb-true q k a))
+    | inr b ↦ inr b
+  ],
+  λ t. in_insert s k q ∙ elim t [
+    | inl e ↦ or_left (eqb q k) (contains s q) (eq-eqb q k (sym e))
+    | inr b ↦ or_right (eqb q k) (contains s q) b
+  ],
+)
+
+has_union : (s t : FinSet nat_cmp) (q : ℕ)
+    → (contains (union s t) q ≡ true) ↔ ((contains s q ≡ true) ⊎ (contains t q ≡ true))
+has_union s t q = (
+  λ e. or_cases (contains s q) (contains t q) (sym (contains-union nat_cmp_total s t q) ∙ e),
+  λ o. contains-union nat_cmp_total s t q ∙ elim o [
+    | inl a ↦ or_left (contains s q) (contains t q) a
+    | inr b ↦ or_right (contains s q) (contains t q) b
+  ],
+)
+
+has_at : (s t : FinSet nat_cmp) (q : ℕ) (P : Type 0) → s ≡ t → (contains t q ≡ true) ↔ P → (contains s q ≡ true) ↔ P
+has_at s t q P e i = (λ h. i.0 (ap (λ u. contains u q) (sym e) ∙ h), λ p. ap (λ u. contains u q) e ∙ i.1 p)
+
+-- the sets so far have a number, and so has the next
+pub has_so_far : {W : ℕ} (rows : List (CatSet W)) (c d : ℕ) (x : CatSet W) → c < length rows → x ≡ get_or rows c x
+    → contains (members x) d ≡ true → ((a : ℕ) → 0 < a → a < c → Has rows a d) → (a : ℕ) → 0 < a → a < c + 1 → Has rows a d
+has_so_far rows c d x h e m f a p l = elim (newest a c l) [
+  | inl t ↦ f a p t.1
+  | inr q ↦ ap (λ k. contains (row rows k) d) q ∙ ap (λ s. contains s d) (sym (row_read rows c x h e)) ∙ m
+]
+
+-- ---- each set alone
+
+pub own_more : {W : ℕ} (rows now : List (CatSet W)) (c : ℕ) (x e : CatSet W) → members x ≡ insert (members e) c
+    → members e ≡ empty → now ≡ rows ++ x ∷ [] → AreOwn c rows → AreOwn (c + 1) now
+own_more rows now c x e i z q own = record {
+  count = ap length q ∙ (let k = own.count in omega (arith, length-append rows (x ∷ [])));
+  each = λ a d h. subst (λ rs. Has rs a d ↔ (a ≡ d)) (sym q) (elim (newest a c h) [
+    | inl t ↦ has_at (row (rows ++ x ∷ []) a) (row rows a) d (a ≡ d) (before a t.1) (own.each a d t.1)
+    | inr p ↦ has_at (row (rows ++ x ∷ []) a) (insert empty c) d (a ≡ d)
+        (ap (row (rows ++ x ∷ [])) p ∙ last ∙ i ∙ ap (λ s. insert s c) z) (
+          λ m. elim ((has_insert empty c d).0 m) [
+            | inl s ↦ p ∙ s
+            | inr b ↦ absurd (let u : false ≡ true = sym (contains-empty nat_cmp d) ∙ b in cc)
+          ],
+          λ s. (has_insert empty c d).1 (inl (sym p ∙ s)),
+        )
+  ]);
+}
+  where
+    before : (a : ℕ) → a < c → row (rows ++ x ∷ []) a ≡ row rows a
+    before a h =
+        let size : a < length (map members rows) = let k = own.count in omega (arith, length-map rows members) in
+        ap (λ l. get_or l a empty) (map_push members rows x)
+        ∙ get_or-append (map members rows) (members x ∷ []) empty a size
+
+    last : row (rows ++ x ∷ []) c ≡ members x
+    last =
+        let size : length (map members rows) ≡ c = length-map rows members ∙ own.count in
+        ap (λ l. get_or l c empty) (map_push members rows x)
+        ∙ ap (λ k. get_or (map members rows ++ members x ∷ []) k empty) (sym size)
+        ∙ get_or-append_seam (map members rows) (members x) [] empty
+
+-- ---- one edge more
+
+joins_lift : (g : Graph) (k a b : ℕ) → JoinsBefore g k a b → JoinsBefore g (k + 1) a b
+joins_lift g k a b t = (t.0, omega (arith, t.1), t.2)
+
+joins_cases : (g : Graph) (k a b : ℕ) → JoinsBefore g (k + 1) a b
+    → JoinsBefore g k a b ⊎ (edge_at g k ≡ record { child = a; parent = b })
+joins_cases g k a b t = elim (newest t.0 k t.1) [
+  | inl l ↦ inl (t.0, l.1, t.2)
+  | inr e ↦ inr (ap (edge_at g) (sym e) ∙ t.2)
+]
+
+-- the ends of the edge at a place
+pub ends_within : (ends : List Ends) (n k : ℕ) → LiesWithin (drawn ends) n → k < length ends
+    → ((get_or ends k nowhere).child.0 < n) × ((get_or ends k nowhere).parent.0 < n)
+ends_within ends n k within h =
+    let l : k < length (map edge_of ends) = omega (arith, length-map ends edge_of) in
+    let e = edge_at-drawn ends k h in
+    let t = within (edge_at (drawn ends) k).child (edge_at (drawn ends) k).parent (has_edge_at (drawn ends) k l) in (
+      subst (λ c. c < n) (ap (λ (x : Edge). x.child) e) t.0,
+      subst (λ c. c < n) (ap (λ (x : Edge). x.parent) e) t.1,
+    )
+
+pub draw_none : {W : ℕ} (g : Graph) (rows : List (CatSet W)) → AreOwn (length rows) rows → AreDrawn g 0 rows
+draw_none g rows own a b h = (
+  λ m. inl ((own.each a b h).0 m),
+  λ o. elim o [ inl e ↦ (own.each a b h).1 e | inr t ↦ absurd (omega (arith, t.1)) ],
+)
+
+pub draw_more : {W : ℕ} (g : Graph) (k c d : ℕ) (rows : List (CatSet W)) (x : CatSet W)
+    → edge_at g k ≡ record { child = c; parent = d } → c < length rows → members x ≡ insert (row rows c) d
+    → AreDrawn g k rows → AreDrawn g (k + 1) (set rows c x)
+draw_more g k c d rows x edge h e drawn a b l =
+    let inner : a < length rows = let n = length-set rows c x in omega (arith, l) in
+    elim (same_or_not a c) [
+      | inl q ↦ has_at (row (set rows c x) a) (insert (row rows c) d) b ((a ≡ b) ⊎ JoinsBefore g (k + 1) a b)
+          (ap (row (set rows c x)) q ∙ row_same rows c x h ∙ e) (
+            λ m. elim ((has_insert (row rows c) d b).0 m) [
+              | inl p ↦ inr (k, omega arith, edge ∙ both (sym q) p)
+              | inr o ↦ elim ((drawn a b inner).0 (ap (λ z. contains (row rows z) b) q ∙ o)) [
+                | inl p ↦ inl p
+                | inr t ↦ inr (joins_lift g k a b t)
+              ]
+            ],
+            λ o. (has_insert (row rows c) d b).1 (elim o [
+              | inl p ↦ inr (ap (λ z. contains (row rows z) b) (sym q) ∙ (drawn a b inner).1 (inl p))
+              | inr t ↦ elim (joins_cases g k a b t) [
+                | inl j ↦ inr (ap (λ z. contains (row rows z) b) (sym q) ∙ (drawn a b inner).1 (inr j))
+                | inr p ↦ inl (ap (λ (z : Edge). z.parent) (sym edge ∙ p))
+              ]
+            ]),
+          )
+      | inr n ↦ has_at (row (set rows c x) a) (row rows a) b ((a ≡ b) ⊎ JoinsBefore g (k + 1) a b)
+          (row_other rows c a x n) (
+            λ m. elim ((drawn a b inner).0 m) [ inl p ↦ inl p | inr t ↦ inr (joins_lift g k a b t) ],
+            λ o. (drawn a b inner).1 (elim o [
+              | inl p ↦ inl p
+              | inr t ↦ elim (joins_cases g k a b t) [
+                | inl j ↦ inr j
+                | inr p ↦ absurd (n (ap (λ (z : Edge). z.child) (sym p ∙ edge)))
+              ]
+            ]),
+          )
+    ]
+  where
+    both : {a c b d : ℕ} → c ≡ a → d ≡ b
+        → ◌≡◌ {A = Edge} (record { child = c; parent = d }) (record { child = a; parent = b })
+    both p q = λ i. record { child = p i; parent = q i }
+
+-- ---- one category more to go through
+
+pub record IsPassing {W : ℕ} (old new : List (CatSet W)) (k c : ℕ) : Type 0 where
+  pub count : length new ≡ length old
+  pub done : (a d : ℕ) → a < c → Has new a d ↔ Passes old k a d
+  pub left : (a : ℕ) → c ≤ a → row new a ≡ row old a
+
+pub pass_skip : {W : ℕ} (old new : List (CatSet W)) (k c : ℕ) → contains (row new c) k ≡ false
+    → IsPassing old new k c → IsPassing old new k (c + 1)
+pass_skip old new k c n p = record {
+  count = p.count;
+  done = λ a d h. elim (newest a c h) [
+    | inl t ↦ p.done a d t.1
+    | inr e ↦ subst (λ b. Has new b d ↔ Passes old k b d) (sym e) (
+      λ m. inl (ap (λ s. contains s d) (sym (p.left c (omega arith))) ∙ m),
+      λ o. elim o [
+        | inl m ↦ ap (λ s. contains s d) (p.left c (omega arith)) ∙ m
+        | inr t ↦ absurd (let z : false ≡ true = sym n ∙ ap (λ s. contains s k) (p.left c (omega arith)) ∙ t.0 in cc)
+      ],
+    )
+  ];
+  left = λ a h. p.left a (omega arith);
+}
+
+pub pass_more : {W : ℕ} (old new : List (CatSet W)) (k c : ℕ) (x : CatSet W) → contains (row new c) k ≡ true
+    → c < length new → members x ≡ union (row new c) (row old k) → IsPassing old new k c
+    → IsPassing old (set new c x) k (c + 1)
+pass_more old new k c x n h e p = record {
+  count = length-set new c x ∙ p.count;
+  done = λ a d l. elim (newest a c l) [
+    | inl t ↦ has_at (row (set new c x) a) (row new a) d (Passes old k a d) (row_other new c a x t.0) (p.done a d t.1)
+    | inr q ↦ subst (λ b. Has (set new c x) b d ↔ Passes old k b d) (sym q)
+        (has_at (row (set new c x) c) (union (row new c) (row old k)) d (Passes old k c d) (row_same new c x h ∙ e) (
+          λ m. elim ((has_union (row new c) (row old k) d).0 m) [
+            | inl a ↦ inl (ap (λ s. contains s d) (sym (p.left c (omega arith))) ∙ a)
+            | inr b ↦ inr (ap (λ s. contains s k) (sym (p.left c (omega arith))) ∙ n, b)
+          ],
+          λ o. (has_union (row new c) (row old k) d).1 (elim o [
+            | inl a ↦ inl (ap (λ s. contains s d) (p.left c (omega arith)) ∙ a)
+            | inr t ↦ inr t.1
+          ]),
+        ))
+  ];
+  left = λ a l. row_other new c a x (omega arith) ∙ p.left a (omega arith);
+}
+
+-- ---- walks through more and more categories
+
+-- of n categories the set of each has those to which a walk through the first k leads
+pub record IsThrough {W : ℕ} (g : Graph) (n k : ℕ) (rows : List (CatSet W)) : Type 0 where
+  pub count : length rows ≡ n
+  pub each : (c d : ℕ) → c < n → Has rows c d ↔ Through (HasEdge g) k c d
+
+pub through_start : {W : ℕ} (ends : List Ends) (n : ℕ) (rows : List (CatSet W)) → length rows ≡ n
+    → AreDrawn (drawn ends) (length ends) rows → IsThrough (drawn ends) n 0 rows
+unfolding Through
+through_start ends n rows size a = record {
+  count = size;
+  each = λ c d h. let l : c < length rows = omega arith in (
+    λ m. elim ((a c d l).0 m) [ inl e ↦ inl e | inr t ↦ inr (joined c d t) ],
+    λ o. (a c d l).1 (elim o [ inl e ↦ inl e | inr j ↦ inr (placed c d j) ]),
+  );
+}
+  where
+    joined : (c d : ℕ) → JoinsBefore (drawn ends) (length ends) c d → HasEdge (drawn ends) c d
+    joined c d t =
+        let e = t.2 in
+        let l : t.0 < length (map edge_of ends) = omega (arith, t.1, length-map ends edge_of) in
+        subst (λ b. HasEdge (drawn ends) c b) (ap (λ (x : Edge). x.parent) e)
+        (subst (λ b. HasEdge (drawn ends) b (edge_at (drawn ends) t.0).parent) (ap (λ (x : Edge). x.child) e)
+        (has_edge_at (drawn ends) t.0 l))
+
+    placed : (c d : ℕ) → HasEdge (drawn ends) c d → JoinsBefore (drawn ends) (length ends) c d
+    placed c d j =
+        let t = place_of_edge (drawn ends) c d j in
+        (t.0, omega (arith, t.1, length-map ends edge_of), t.2)
+
+pub through_more : {W : ℕ} (g : Graph) (n k : ℕ) (old new : List (CatSet W)) → k < n → IsThrough g n k old
+    → length new ≡ length old → ((c d : ℕ) → c < length old → Has new c d ↔ Passes old k c d)
+    → IsThrough g n (k + 1) new
+unfolding Through
+through_more g n k old new l f same p =
+    let size = f.count in
+    let e : suc k ≡ k + 1 = omega arith in
+    subst (λ j. IsThrough g n j new) e (record {
+      count = same ∙ size;
+      each = λ c d h. let i : c < length old = omega arith in (
+        λ m. elim ((p c d i).0 m) [
+          | inl a ↦ inl ((f.each c d h).0 a)
+          | inr t ↦ inr ((f.each c k h).0 t.0, (f.each k d l).0 t.1)
+        ],
+        λ o. (p c d i).1 (elim o [
+          | inl a ↦ inl ((f.each c d h).1 a)
+          | inr t ↦ inr ((f.each c k h).1 t.0, (f.each k d l).1 t.1)
+        ]),
+      );
+    })
+
+pub through_end : {W : ℕ} (g : Graph) (n k : ℕ) (rows : List (CatSet W)) → LiesWithin g n → k ≡ n
+    → IsThrough g n k rows → AreReached g n rows
+through_end g n k rows within e f = record {
+  count = f.count;
+  each = λ c d h. (
+    λ m. reaches_from_Steps (Steps-from_through (HasEdge g) k c d ((f.each c d h).0 m)),
+    λ r. (f.each c d h).1 (subst (λ j. Through (HasEdge g) j c d) (sym e)
+        (through_from_Steps (HasEdge g) n (λ x y j. (within x y j).0) (Steps-from_reaches r))),
+  );
+}
