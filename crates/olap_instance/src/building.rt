@@ -8,6 +8,7 @@ ghost use Rattle.olap_instance.specs.Made.{IsMadeFor};
 ghost use Rattle.olap_instance.specs.Passes.{numbers_of, parents_in};
 ghost use Rattle.olap_instance.specs.declared.refusals.ParentRefusal.TheVariants as of_parent;
 
+use crate::hashing::KeyedHash;
 use crate::rosters::{Head, Roster};
 use crate::texts::{is_bad, is_long};
 use crate::{Instance, MemberRefusal, ParentRefusal};
@@ -100,12 +101,13 @@ fn refusal(roster: &Roster, id: &[u8], category: CatId) -> Option<MemberRefusal>
 }
 
 impl InstanceBuilder {
-    /// No member but `all`.
+    /// No member but `all`. The index of ids has a hash without a key: members are added whose ids the
+    /// program picked.
     pub fn new(alloc: Global, graph: &Graph) -> Result<InstanceBuilder, Memory>
         ensures { IfOk result (λ builder. builder ≡ no_members (category_count graph.now)) }
     {
         Ok(InstanceBuilder {
-            roster: Roster::new(alloc),
+            roster: Roster::new(alloc, KeyedHash::fixed()),
             parents: Vec::new(alloc),
             categories: graph.categories(),
             alloc,

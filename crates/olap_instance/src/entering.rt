@@ -9,6 +9,7 @@ ghost use Rattle.olap_instance.specs.InstanceText.{category_number, id_field, is
 ghost use Rattle.olap_instance.specs.Passes.{PassesFirst, ids_in};
 ghost use Rattle.olap_instance.specs.Refusals.{IsFaultCause, IsRecordCause};
 
+use crate::hashing::KeyedHash;
 use crate::rosters::{Head, Roster};
 use crate::texts::{is_bad, is_long, is_text};
 use crate::{InstanceKind, InstanceRefusal};
@@ -111,9 +112,10 @@ fn enter(
     }
 }
 
-/// The members of the records that are left, their parents aside.
+/// The members of the records that are left, their parents aside. Their ids are looked up by that hash.
 pub(crate) fn enter_all(
     alloc: Global,
+    hash: KeyedHash,
     graph: &Graph,
     rows: &mut Rows,
 ) -> Result<Roster, InstanceRefusal>
@@ -123,7 +125,7 @@ pub(crate) fn enter_all(
     ensures few { IfOk result (λ r. length r < most_members) }
     ensures others { IfOk result (λ r. place_of (codes "all") (ids_in r) ≡ None) }
 {
-    let mut roster = Roster::new(alloc);
+    let mut roster = Roster::new(alloc, hash);
     'rows: while rows.advance()? {
         enter(alloc, graph, &mut roster, rows)?;
     }

@@ -7,6 +7,7 @@
 
 mod building;
 mod entering;
+mod hashing;
 mod instances;
 mod laws;
 mod linking;

@@ -11,6 +11,7 @@ ghost use Rattle.olap_instance.specs.Passes.{PassesFirst, PassesSecond, ids_in, 
 ghost use Rattle.olap_instance.specs.Refusals.{IsFaultCause, IsRefusedBy};
 
 use crate::entering::enter_all;
+use crate::hashing::KeyedHash;
 use crate::linking::link_all;
 use crate::rosters::Roster;
 use crate::{Instance, InstanceKind, InstanceRefusal};
@@ -43,7 +44,7 @@ fn read_members(alloc: Global, graph: &Graph, text: &[u8]) -> Result<Roster, Ins
             kind: InstanceKind::BadHeader,
         });
     }
-    enter_all(alloc, graph, &mut rows)
+    enter_all(alloc, KeyedHash::by_text(text), graph, &mut rows)
 }
 
 // The parents that a text tells, of members whose ids are known.

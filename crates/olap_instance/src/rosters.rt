@@ -4,6 +4,7 @@ ghost use Rattle.olap_base.specs.Instance.{member_at};
 ghost use Rattle.olap_base.specs.Naming.{place_of};
 ghost use Rattle.olap_instance.specs.Members.{all_member, member_of_head};
 
+use crate::hashing::KeyedHash;
 use indexmap::IndexMap;
 use olap_base::{CatId, Memory, Text};
 use std::alloc::Global;
@@ -22,7 +23,7 @@ pub(crate) struct Head {
 pub(crate) struct Roster {
     heads: Vec<Head>,
     // The place of each id.
-    index: IndexMap<Vec<u8>, u32>,
+    index: IndexMap<Vec<u8>, u32, KeyedHash>,
     alloc: Global,
 }
 
@@ -39,12 +40,13 @@ impl Model for Roster {
 }
 
 impl Roster {
-    pub(crate) fn new(alloc: Global) -> Roster
+    /// No members. Their ids will be looked up by that hash.
+    pub(crate) fn new(alloc: Global, hash: KeyedHash) -> Roster
         ensures { result ≡ [] }
     {
         Roster {
             heads: Vec::new(alloc),
-            index: IndexMap::new(alloc),
+            index: IndexMap::with_hasher(alloc, hash),
             alloc,
         }
     }

@@ -1,5 +1,4 @@
 use Rattle.std.proofs.Common.{◌∙◌}
-use Rattle.std.proofs.lemmas.Result.{IfOk-weaker}
 use Rattle.olap_instance.proofs.ReadBack.{text-reads}
 use Rattle.olap_instance.proofs.printing.print_instance.Goals as goal
 

@@ -1,0 +1,23 @@
+-- One record more: it has no fault, and its member is the next.
+use Rattle.std.proofs.Common.{◌++◌, ◌∷◌, ◌∙◌, [], ap, sym}
+use Rattle.std.proofs.lemmas.List.{map-append}
+use Rattle.olap_records.proofs.Seeing.{see-more}
+use Rattle.olap_instance.specs.InstanceText.{member_fault, member_read}
+use Rattle.olap_instance.proofs.entering.enter_all.Goals as goal
+
+pub rows-preserved : goal.rows-preserved
+rows-preserved c =
+    let g = c.args.graph.now in
+    let inv = c.rows.invariant in
+    let row = c.advance.new.self.row in
+    let step = rw c.if-branch.true at c.in_ok-advance.ensures in
+    let good = c.in_ok-enter.ensures.member inv.before inv.members in
+    record {
+      before = inv.before ++ row ∷ [];
+      seen = see-more (member_fault g) c.args.rows.now.left inv.before c.rows.rows.left c.advance.new.self.left row
+          inv.seen step good.0;
+      members = good.1 ∙ (ap (λ t. t ++ member_read g row ∷ []) inv.members
+          ∙ sym (map-append (member_read g) inv.before (row ∷ [])));
+      few = c.in_ok-enter.ensures.few;
+      others = c.in_ok-enter.ensures.others inv.others;
+    }
