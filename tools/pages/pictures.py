@@ -1,0 +1,320 @@
+"""Pictures of schemas, frozen dimensions, instances and counterexamples, as SVG by Graphviz.
+
+A picture is nodes and edges with texts. Texts of the user's go to Graphviz as labels alone, escaped; names of nodes are numbers.
+Of what Graphviz gives, only shapes and texts are taken (`cleaned`), with no colours, ids, fonts or links: those are a style's, here
+`STYLE`, which follows the reader's choice of light or dark.
+"""
+
+import subprocess
+import textwrap
+import unicodedata
+import xml.etree.ElementTree as ET
+from collections import defaultdict
+from dataclasses import dataclass, field
+from typing import Iterable, Sequence
+
+from .program import Fault
+from .texts import ALL, Counterexample, Frozen, Member, Schema
+
+SVG = "http://www.w3.org/2000/svg"
+KEPT = {
+    "g": {"class", "transform"},
+    "polygon": {"points"},
+    "polyline": {"points", "stroke-dasharray"},
+    "path": {"d", "stroke-dasharray"},
+    "ellipse": {"cx", "cy", "rx", "ry"},
+    "text": {"x", "y", "text-anchor", "font-size", "font-weight"},
+}
+WIDE = 24  # characters of a node's line
+NOTE_WIDE, NOTE_LINES = 34, 4  # of a constraint in a note
+MOST_NOTES = 24  # constraints whose formulas stand in the picture; of more, the numbers alone
+SIGNS = {"\n": "\u21b5", "\r": "\u21b5", "\t": "\u21e5"}
+TURNING = ("LRE", "RLE", "LRO", "RLO", "PDF", "LRI", "RLI", "FSI", "PDI")
+BATCH = 8  # pictures of one run of Graphviz
+
+STYLE = """
+.olap { --paper: #fff; --ink: #1a1c20; --line: #4d5563; --node: #eef2f8; --rim: #5b6b85; --note: #fff6d8; --noterim: #8a6d1a;
+  --way: #0b57b5; --target: #d7e8fb; --source: #dff1e0; --sourcerim: #23682b; --blind: #f3f3f3; --bad: #a4161a;
+  --badfill: #fde4e4; }
+@media (prefers-color-scheme: dark) { .olap { --paper: #14171c; --ink: #e8eaee; --line: #a3adbd; --node: #232b37;
+  --rim: #8fa3c4; --note: #38320f; --noterim: #d0b04a; --way: #79b4ff; --target: #163a63; --source: #17391c; --sourcerim: #7fcb89;
+  --blind: #24262b; --bad: #ff9a9c; --badfill: #4a1a1c; } }
+@media print { .olap { --paper: #fff; --ink: #000; --line: #333; --node: #f3f5f9; --rim: #333; --note: #fff8e0; --noterim: #6a5310;
+  --way: #003f8f; --target: #dcebfb; --source: #e2f2e3; --sourcerim: #14491b; --blind: #f6f6f6; --bad: #8c0f12;
+  --badfill: #fdeaea; } }
+.olap text { fill: var(--ink); font-family: "DejaVu Sans", Verdana, Arial, sans-serif; }
+.olap .sheet { fill: var(--paper); }
+.olap .node polygon, .olap .node path, .olap .node ellipse, .olap .node polyline { fill: var(--node); stroke: var(--rim); }
+.olap .edge path { fill: none; stroke: var(--line); } .olap .edge polygon { fill: var(--line); stroke: var(--line); }
+.olap .note polygon, .olap .note polyline { fill: var(--note); stroke: var(--noterim); }
+.olap .edge.tied path { stroke: var(--noterim); }
+.olap .fact ellipse { fill: var(--paper); stroke: var(--way); stroke-width: 2; }
+.olap .edge.way path { stroke: var(--way); stroke-width: 3; }
+.olap .edge.way polygon { fill: var(--way); stroke: var(--way); }
+.olap .target polygon, .olap .target path { fill: var(--target); stroke: var(--way); stroke-width: 2.5; }
+.olap .source polygon, .olap .source path { fill: var(--source); stroke: var(--sourcerim); stroke-width: 2; }
+.olap .blind polygon, .olap .blind path { fill: var(--blind); stroke: var(--rim); stroke-dasharray: 4 3; }
+.olap .bad polygon, .olap .bad path { fill: var(--badfill); stroke: var(--bad); stroke-width: 2.5; }
+"""
+
+
+@dataclass(frozen=True)
+class Node:
+    """A node: lines of text, what it is told as, how it looks, and the first line in bold."""
+
+    lines: tuple[str, ...]
+    told: str
+    kind: str = "member"
+    shape: str = "box"
+
+
+@dataclass(frozen=True)
+class Edge:
+    """An edge between nodes, by their keys."""
+
+    tail: str
+    head: str
+    told: str
+    kind: str = "up"
+
+
+@dataclass
+class Picture:
+    """A picture with its name, and what it shows told in words."""
+
+    name: str
+    told: str
+    nodes: dict[str, Node] = field(default_factory=dict)
+    edges: list[Edge] = field(default_factory=list)
+    level: list[tuple[str, str]] = field(default_factory=list)  # nodes that stand beside each other
+
+
+# What is drawn.
+
+
+def of_schema(schema: Schema, name: str) -> Picture:
+    """Categories, edges, and each category's constraints as a note beside it."""
+    picture = Picture(name, f"{counted(len(schema.categories), 'category', 'categories')}, {counted(len(schema.edges), 'edge')}, "
+                            f"{counted(len(schema.constraints), 'constraint')}")
+    for category in schema.categories:
+        picture.nodes[category] = Node((category,), f"category {category}", "category")
+    for child, parent in schema.edges:
+        picture.edges.append(Edge(child, parent, f"edge {child} {parent}"))
+    are_many = len(schema.constraints) > MOST_NOTES
+    notes: dict[str, list[str]] = defaultdict(list)
+    told: dict[str, list[str]] = defaultdict(list)
+    for number, constraint in enumerate(schema.constraints, 1):
+        text = f"{number}: {constraint.formula}"
+        told[constraint.root].append(text)
+        notes[constraint.root] += [str(number)] if are_many else shortened(text)
+    for root, lines in notes.items():
+        if are_many:
+            lines = textwrap.wrap("constraints " + ", ".join(lines), WIDE)
+        key = f"note {root}"
+        picture.nodes[key] = Node(tuple(lines), f"constraints of {root}: {'; '.join(told[root])}", "note", "note")
+        picture.edges.append(Edge(root, key, f"the note is about {root}", "tied"))
+        picture.level.append((key, root))
+    return picture
+
+
+def of_frozen(frozen: Frozen, root: str, name: str) -> Picture:
+    """A frozen dimension: its members, and all that lies above them."""
+    told = [told_of(category, text) for category, text in frozen.names.items()]
+    picture = Picture(name, f"{root}'s way up: {', '.join(told + ['all'])}")
+    for category, text in frozen.names.items():
+        picture.nodes[category] = Node(lines_of(category, text), told_of(category, text))
+    picture.nodes[ALL] = Node(("all",), "all")
+    picture.edges += [Edge(child, parent, f"{child} to {parent}") for child, parent in frozen.edges]
+    return picture
+
+
+def of_instance(members: Sequence[Member], name: str, bad: Iterable[str] = ()) -> Picture:
+    """An instance: each member with its category and, where they differ, its id and its name."""
+    picture = Picture(name, f"{counted(len(members), 'member')} without all")
+    marked = set(bad)
+    for member in members:
+        told = f"{member.category} {member.id}" + (f", named {member.name}" if member.name != member.id else "")
+        lines = (member.category, *wrapped(member.id), *(wrapped(f'"{member.name}"') if member.name != member.id else ()))
+        picture.nodes[member.id] = Node(lines, told, "bad" if member.id in marked else "member")
+    picture.nodes["all"] = Node(("all",), "all")
+    for member in members:
+        picture.edges += [Edge(member.id, parent, f"{member.id} to {parent}") for parent in member.parents]
+    return picture
+
+
+def of_counterexample(shown: Counterexample, sources: Sequence[str], name: str) -> Picture:
+    """The fact, the ways that it takes to the target, and which sources see it."""
+    seeing = [source for source in sources if shown.sees(source)]
+    if len(seeing) != (shown.views or 0):
+        raise Fault(f"of {' '.join(sources) or 'no source'} {len(seeing)} see the fact, and the program says {shown.views}", 70)
+    picture = of_frozen(shown.frozen, shown.root, name)
+    picture.told = told_of_counterexample(shown, seeing)
+    for category in (*shown.frozen.names, ALL):
+        node = picture.nodes[category]
+        if category == shown.target:
+            views = "none" if shown.views is None else str(shown.views)
+            picture.nodes[category] = marked(node, "target", "target: direct 1", f"from the views: {views}")
+            node = picture.nodes[category]
+        if category in sources:
+            sees = category in seeing
+            kind = node.kind if category == shown.target else "source" if sees else "blind"
+            picture.nodes[category] = marked(node, kind, "source: has the fact" if sees else "source: not below the target")
+    picture.nodes["fact"] = Node(("fact 1",), f"a fact of value 1 at {shown.root}", "fact", "ellipse")
+    on_way = ways(shown)
+    picture.edges = [Edge(e.tail, e.head, e.told, "way" if (e.tail, e.head) in on_way else "up") for e in picture.edges]
+    picture.edges.append(Edge("fact", shown.root, f"the fact lies at {shown.root}", "way"))
+    return picture
+
+
+def ways(shown: Counterexample) -> set[tuple[str, str]]:
+    """The edges that lie on a way of the fact to the target."""
+    return {(child, parent) for child, parent in shown.frozen.edges if shown.target in shown.above(parent)}
+
+
+def told_of_counterexample(shown: Counterexample, seeing: Sequence[str]) -> str:
+    by = {0: "no source", 1: "one source"}.get(len(seeing), f"{len(seeing)} sources")
+    which = f" ({', '.join(seeing)})" if seeing else ""
+    members = ", ".join(told_of(category, text) for category, text in shown.frozen.names.items())
+    views = "none" if shown.views is None else shown.views
+    return f"A fact of value 1 at {shown.root}; {by}{which} of the target {shown.target} has it. Direct 1, from the views {views}. Members: {members}"
+
+
+def marked(node: Node, kind: str, *lines: str) -> Node:
+    return Node((*node.lines, *lines), f"{node.told}, {', '.join(lines)}", kind, node.shape)
+
+
+def told_of(category: str, name: str) -> str:
+    return f'{category} "{name}"'
+
+
+def lines_of(category: str, name: str) -> tuple[str, ...]:
+    return (*wrapped(category), *wrapped(f'"{name}"'))
+
+
+def wrapped(text: str) -> tuple[str, ...]:
+    """The text in lines that a node holds, cut where it is long."""
+    pieces = [text[i : i + WIDE] for i in range(0, len(text), WIDE)] or [""]
+    return tuple(pieces if len(pieces) <= 4 else [*pieces[:3], pieces[3][:-1] + "…"])
+
+
+def shortened(text: str) -> list[str]:
+    lines = textwrap.wrap(text, NOTE_WIDE, subsequent_indent="     ", drop_whitespace=False)
+    return lines if len(lines) <= NOTE_LINES else [*lines[: NOTE_LINES - 1], lines[NOTE_LINES - 1][: NOTE_WIDE - 1] + "…"]
+
+
+def counted(number: int, one: str, more: str | None = None) -> str:
+    return f"{number:,} {one if number == 1 else more or one + 's'}"
+
+
+# To Graphviz, and back.
+
+
+def visible(text: str) -> str:
+    """The text with a sign for each character that XML doesn't hold or that isn't seen."""
+    return "".join(SIGNS.get(c) or signed(c) for c in text)
+
+
+def signed(character: str) -> str:
+    """A character that turns the direction of a text, or that no XML holds, as the sign for what can't be shown."""
+    turns = unicodedata.bidirectional(character) in TURNING or character in "\u200e\u200f\u061c"
+    return "\ufffd" if turns or unicodedata.category(character) in ("Cc", "Cs", "Cn", "Zl", "Zp") else character
+
+
+def quoted(text: str) -> str:
+    """A string of the language DOT that stands for just these characters; Graphviz reads entities and escapes in labels."""
+    return '"' + visible(text).replace("\\", "\\\\").replace("&", "&amp;").replace('"', '\\"') + '"'
+
+
+def label(node: Node) -> str:
+    """The lines in the middle, and those of a note from the left."""
+    end = "\\l" if node.shape == "note" else "\\n"
+    text = end.join(quoted(line)[1:-1] for line in node.lines)
+    return f'"{text}{end if node.shape == "note" else ""}"'
+
+
+def dot_text(picture: Picture) -> str:
+    place = {key: f"n{i}" for i, key in enumerate(picture.nodes)}
+    lines = [
+        "digraph {",
+        'graph [rankdir=BT, nodesep=0.3, ranksep=0.45, bgcolor=transparent]; node [fontname="DejaVu Sans", fontsize=12, '
+        'margin="0.12,0.06"]; edge [arrowsize=0.7];',
+    ]
+    for key, node in picture.nodes.items():
+        small = ", fontsize=10, margin=\"0.17,0.07\"" if node.shape == "note" else ""
+        style = ', style=rounded' if node.shape == "box" else ""
+        lines.append(f"{place[key]} [shape={node.shape}, class={quoted(node.kind)}, label={label(node)}{style}{small}];")
+    for edge in picture.edges:
+        look = ", style=dashed, arrowhead=none" if edge.kind == "tied" else ""
+        lines.append(f"{place[edge.tail]} -> {place[edge.head]} [class={quoted(edge.kind)}{look}];")
+    lines += [f"{{ rank=same; {place[one]}; {place[other]} }}" for one, other in picture.level]
+    return "\n".join([*lines, "}\n"])
+
+
+def drawn(pictures: Sequence[Picture], seconds: float | None = None) -> list[ET.Element]:
+    """The pictures as SVG elements without a style."""
+    found: list[ET.Element] = []
+    for start in range(0, len(pictures), BATCH):
+        batch = pictures[start : start + BATCH]
+        texts = graphviz("".join(dot_text(picture) for picture in batch), seconds).split("<?xml")[1:]
+        if len(texts) != len(batch):
+            raise Fault("Graphviz drew other pictures than those asked for", 70)
+        found += [cleaned(ET.fromstring("<?xml" + text), picture) for text, picture in zip(texts, batch)]
+    return found
+
+
+def graphviz(text: str, seconds: float | None) -> str:
+    try:
+        done = subprocess.run(["dot", "-Tsvg"], input=text.encode(), capture_output=True, timeout=seconds, check=False)
+    except FileNotFoundError:
+        raise Fault("no dot is in PATH: install Graphviz (Debian's package graphviz)", 70) from None
+    except subprocess.TimeoutExpired:
+        raise Fault("Graphviz took too long", 70) from None
+    if done.returncode != 0:
+        raise Fault(f"Graphviz: {done.stderr.decode(errors='replace').strip()}", 70)
+    return done.stdout.decode()
+
+
+def cleaned(given: ET.Element, picture: Picture) -> ET.Element:
+    """Shapes and texts alone, each node and edge with the title that tells it."""
+    place = {f"n{i}": node.told for i, node in enumerate(picture.nodes.values())}
+    number = {key: f"n{i}" for i, key in enumerate(picture.nodes)}
+    told = defaultdict(list)
+    for edge in picture.edges:
+        told[f"{number[edge.tail]}->{number[edge.head]}"].append(edge.told)
+    root = ET.Element("svg", {"class": "olap", "role": "img", "viewBox": given.attrib["viewBox"]})
+    root.set("width", given.attrib["width"].replace("pt", ""))
+    root.set("height", given.attrib["height"].replace("pt", ""))
+    ET.SubElement(root, "title").text = visible(picture.name)
+    ET.SubElement(root, "desc").text = visible(picture.told)
+    for group in given.iter(f"{{{SVG}}}g"):
+        if group.get("class", "").split()[:1] == ["graph"]:
+            whole = ET.SubElement(root, "g", {"transform": group.attrib["transform"]})
+            for part in group:
+                if part.tag == f"{{{SVG}}}g":
+                    title = part.findtext(f"{{{SVG}}}title", "")
+                    whole.append(kept(part, place[title] if title in place else told[title].pop(0)))
+    return root
+
+
+def kept(part: ET.Element, title: str | None = None) -> ET.Element:
+    tag = part.tag.removeprefix(f"{{{SVG}}}")
+    found = ET.Element(tag, {key: value for key, value in part.attrib.items() if key in KEPT[tag]})
+    if title is not None:
+        ET.SubElement(found, "title").text = visible(title)
+    found.text = part.text if tag == "text" else None
+    for child in part:
+        if child.tag.removeprefix(f"{{{SVG}}}") in KEPT:
+            found.append(kept(child))
+    return found
+
+
+def alone(element: ET.Element) -> str:
+    """An SVG text that stands by itself, with its style and sheet."""
+    left, top, width, height = element.attrib["viewBox"].split()
+    element = ET.fromstring(ET.tostring(element))
+    element.set("xmlns", SVG)
+    style = ET.Element("style")
+    style.text = STYLE
+    element.insert(2, style)
+    element.insert(3, ET.Element("rect", {"class": "sheet", "x": left, "y": top, "width": width, "height": height}))
+    return '<?xml version="1.0" encoding="UTF-8"?>\n' + ET.tostring(element, encoding="unicode") + "\n"
