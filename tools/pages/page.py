@@ -1,0 +1,355 @@
+"""The page of a schema: one HTML text with its style and pictures, no script, and nothing that is loaded."""
+
+import re
+import xml.etree.ElementTree as ET
+from collections import defaultdict
+from dataclasses import dataclass, field
+from typing import Callable, Iterator, Sequence
+
+from . import pictures, texts
+from .markup import Markup, el, many, picture
+from .pictures import counted
+from .questions import Facts, Ways
+
+COLUMNS = 8  # targets of one table
+MOST_LINES = 50  # frozen lines of a category
+MOST_DRAWN, MOST_DRAWN_LARGE, LARGE = 6, 1, 20  # pictures of a category's ways; of a schema with more categories than LARGE
+MOST_OPEN = 24  # counterexamples that aren't folded
+
+STYLE = """
+:root { color-scheme: light dark; --page: #fff; --text: #1a1c20; --soft: #555d6b; --rule: #c9d0da; --band: #f3f5f9; --link: #0b4fa3;
+  --yes: #1d5f2a; --no: #9b1417; }
+@media (prefers-color-scheme: dark) { :root { --page: #14171c; --text: #e8eaee; --soft: #a9b2c0; --rule: #3b4350; --band: #1d222a;
+  --link: #8ab8ff; --yes: #84d191; --no: #ff9a9c; } }
+* { box-sizing: border-box; }
+html { scroll-padding-top: 1rem; }
+body { margin: 0 auto; max-width: 72rem; padding: 1rem; background: var(--page); color: var(--text);
+  font: 1rem/1.5 system-ui, "DejaVu Sans", Verdana, Arial, sans-serif; overflow-wrap: anywhere; }
+h1 { font-size: 1.7rem; line-height: 1.25; margin: .5rem 0; } h2 { font-size: 1.35rem; margin: 2.2rem 0 .6rem; } h3 { font-size: 1.1rem; }
+a { color: var(--link); } a:focus-visible, summary:focus-visible, [tabindex]:focus-visible { outline: 3px solid var(--link);
+  outline-offset: 2px; }
+:target { outline: 3px solid var(--link); outline-offset: 2px; }
+.skip { position: absolute; left: -100rem; } .skip:focus { left: 1rem; top: .5rem; background: var(--page); padding: .5rem 1rem;
+  z-index: 2; }
+.hidden { position: absolute; width: 1px; height: 1px; overflow: hidden; clip-path: inset(50%); white-space: nowrap; }
+code, pre, .lines { font-family: ui-monospace, "DejaVu Sans Mono", Menlo, Consolas, monospace; font-size: .875rem; unicode-bidi: isolate; }
+pre { white-space: pre-wrap; background: var(--band); padding: .5rem .75rem; margin: .5rem 0; }
+nav ul { display: flex; flex-wrap: wrap; gap: .25rem 1.25rem; padding: 0; list-style: none; } nav a { display: inline-block; padding: .35rem 0; }
+.soft, figcaption, small { color: var(--soft); }
+figure { margin: .75rem 0; } .scroll > svg { width: 100%; height: auto; display: block; }
+.scroll { overflow-x: auto; max-width: 100%; position: relative; padding: 2px; }
+.row { display: flex; flex-wrap: wrap; gap: 1rem 2rem; align-items: flex-start; } .row figure { flex: 0 1 auto; max-width: 100%; min-width: 0; }
+table { border-collapse: separate; border-spacing: 0; margin: .5rem 0 1.25rem; overflow-wrap: normal; }
+caption { text-align: left; font-weight: 600; padding: .25rem 0; }
+th, td { border: 0 solid var(--rule); border-width: 0 1px 1px 0; padding: .3rem .5rem; text-align: left; vertical-align: top; }
+thead th { border-top-width: 1px; } tr > :first-child { border-left-width: 1px; }
+th { background: var(--band); font-weight: 600; max-width: 11rem; overflow-wrap: break-word; min-width: 3.5rem; }
+tbody th { position: sticky; left: 0; min-width: 6rem; } thead th:first-child { position: sticky; left: 0; z-index: 1; }
+td { white-space: nowrap; } td.yes { color: var(--yes); font-weight: 600; } td.no a { color: var(--no); display: inline-block;
+  padding: .1rem .2rem; margin: -.1rem -.2rem; }
+details { border: 1px solid var(--rule); border-radius: .4rem; margin: .6rem 0; padding: 0 .75rem; }
+summary { cursor: pointer; padding: .5rem 0; font-weight: 600; }
+.lines { padding-left: 3.5rem; margin: .5rem 0; } .lines li { padding-left: .5rem; border-left: 1px solid var(--rule); min-height: 1.5em;
+  white-space: pre-wrap; } .lines li::marker { color: var(--soft); } .lines code { font-size: inherit; }
+li.ghost { list-style: none; }
+footer { border-top: 1px solid var(--rule); margin-top: 2.5rem; padding-top: .75rem; color: var(--soft); }
+@media print {
+  @page { margin: 14mm; }
+  :root { --page: #fff; --text: #000; --soft: #444; --rule: #999; --band: #f3f3f3; --link: #003f8f; --yes: #14491b; --no: #8c0f12; }
+  body { max-width: none; padding: 0; font-size: 10pt; } nav, .skip, .back { display: none; } .scroll { overflow: visible; }
+  figure, .scroll, details { break-inside: avoid; } .scroll:has(table) { break-inside: auto; } tr { break-inside: avoid; }
+  h2, h3, summary, caption { break-after: avoid; } thead { display: table-header-group; }
+  tbody th, thead th:first-child { position: static; } th, td { padding: .15rem .3rem; } th { min-width: 0; } tbody th { min-width: 4rem; }
+  .scroll > svg { min-width: 0 !important; max-height: 240mm; } .group svg { max-height: 60mm; } .row svg { max-height: 80mm; }
+  .group { columns: 3; column-gap: 4mm; font-size: 9pt; } .group details { margin: 0 0 3mm; padding: 0 2mm; } details::details-content { content-visibility: visible; }
+}
+"""
+
+
+@dataclass
+class Shown:
+    """A counterexample and the lists of sources that it answers; the same sources of each see the fact, perhaps none."""
+
+    number: int
+    example: texts.Counterexample
+    seeing: tuple[str, ...]
+    lists: list[tuple[str, ...]] = field(default_factory=list)
+
+    @property
+    def anchor(self) -> str:
+        return f"no-{self.number}"
+
+
+@dataclass(frozen=True)
+class Places:
+    """The lines of the text, from 1, where things are declared."""
+
+    categories: dict[str, int]
+    edges: dict[tuple[str, str], int]
+    constraints: list[int]
+
+
+def places_of(text: str) -> Places:
+    categories, edges, constraints = {}, {}, []
+    for number, line in enumerate(text.split("\n"), 1):
+        words = line.split()
+        if words[:1] == ["category"]:
+            categories[words[1]] = number
+        elif words[:1] == ["edge"]:
+            edges[words[1], words[2]] = number
+        elif words[:1] == ["constraint"]:
+            constraints.append(number)
+    return Places(categories, edges, constraints)
+
+
+def grouped(facts: Facts) -> tuple[list[Shown], dict[tuple[str, tuple[str, ...]], Shown]]:
+    """The different counterexamples in the order of targets, and the one of each question that has one."""
+    shown: dict[tuple, Shown] = {}
+    of: dict[tuple[str, tuple[str, ...]], Shown] = {}
+    for target in facts.schema.categories:
+        for sources in [*facts.singles, *facts.pairs]:
+            example = facts.answers.get((target, sources))
+            if example is not None:
+                seeing = tuple(one for one in sources if example.sees(one))
+                key = (target, example.frozen.line, example.root, example.views, seeing)
+                shown.setdefault(key, Shown(len(shown) + 1, example, seeing)).lists.append(sources)
+                of[target, sources] = shown[key]
+    return list(shown.values()), of
+
+
+def listed(sources: Sequence[str]) -> str:
+    return " and ".join(sources)
+
+
+def views_of(example: texts.Counterexample) -> str:
+    return "none" if example.views is None else str(example.views)
+
+
+def fate(example: texts.Counterexample) -> str:
+    return "lost" if example.views is None else f"{example.views}\u00d7"
+
+
+class Page:
+    """Puts the page together; `draw` draws many pictures at once, and gives None for those that time doesn't allow."""
+
+    def __init__(self, facts: Facts, name: str, draw: Callable[[Sequence[pictures.Picture]], Sequence[ET.Element | None]]):
+        self.facts, self.name = facts, name
+        self.places = places_of(facts.text)
+        self.shown, self.shown_of = grouped(facts)
+        large = len(facts.schema.categories) > LARGE
+        self.most_drawn = MOST_DRAWN_LARGE if large else MOST_DRAWN
+        wanted = dict(self.wanted())
+        self.drawn = {key: picture(svg, number) for number, (key, svg) in enumerate(zip(wanted, draw(list(wanted.values()))), 1) if svg is not None}
+
+    def wanted(self) -> Iterator[tuple[tuple, pictures.Picture]]:
+        """Each picture of the page with its key."""
+        schema = self.facts.schema
+        yield ("schema",), pictures.of_schema(schema, f"Schema {self.name}")
+        for category in schema.categories:
+            for number, frozen in enumerate(self.drawn_ways(self.facts.ways[category]), 1):
+                name = f"Frozen dimension {number} of {category}"
+                yield ("frozen", category, number), pictures.of_frozen(frozen, category, name)
+        for shown in self.shown:
+            name = f"Counterexample {shown.number}: {shown.example.target} from {listed(shown.lists[0])}"
+            yield ("no", shown.number), pictures.of_counterexample(shown.example, shown.seeing, name)
+
+    def drawn_ways(self, ways: Ways) -> tuple[texts.Frozen, ...]:
+        known = ways.listed if ways.listed is not None else (ways.least,) if ways.least else ()
+        return known[: self.most_drawn]
+
+    def html(self) -> str:
+        title = f"Report on the schema {self.name}"
+        sections = [
+            ("picture", "Picture", self.picture()),
+            ("audit", "Audit", self.audit()),
+            ("frozen", "Frozen dimensions", self.frozen()),
+            ("table", "Targets and sources", self.tables()),
+            ("counterexamples", "Counterexamples", self.counterexamples()),
+            ("text", "Text", self.text()),
+        ]
+        head = el(
+            "head",
+            el("meta", charset="utf-8"),
+            el("meta", http_equiv="Content-Security-Policy", content="default-src 'none'; style-src 'unsafe-inline'"),
+            el("meta", name="viewport", content="width=device-width, initial-scale=1"),
+            el("meta", name="color-scheme", content="light dark"),
+            el("title", title),
+            el("style", Markup(STYLE + pictures.STYLE)),
+        )
+        links = [el("li", el("a", name, href=f"#{anchor}")) for anchor, name, _ in sections]
+        body = el(
+            "body",
+            el("a", "To the content", class_="skip", href="#content"),
+            el("header", el("h1", title), self.summary(), el("nav", el("ul", links), aria_label="Sections")),
+            el("main", [self.section(*each) for each in sections], id="content", tabindex="-1"),
+            el("footer", el("p", "Each answer on this page is one that the program olap gave. The program is proved; the page and its "
+                                 "pictures are not.")),
+        )
+        return "<!doctype html>\n" + el("html", head, body, lang="en") + "\n"
+
+    @staticmethod
+    def section(anchor: str, name: str, content: Markup) -> Markup:
+        heading = f"h-{anchor}"
+        return many(el("section", el("h2", name, id=heading), content, id=anchor, aria_labelledby=heading), Markup("\n"))
+
+    def summary(self) -> Markup:
+        schema, answers = self.facts.schema, self.facts.answers.values()
+        no = sum(1 for example in answers if example is not None)
+        return el(
+            "p",
+            f"{counted(len(schema.categories), 'category', 'categories')} (All among them), {counted(len(schema.edges), 'edge')}, "
+            f"{counted(len(schema.constraints), 'constraint')}. Asked whether a target's totals can be taken from sources' views, the "
+            f"program answered {counted(len(answers), 'question')}: {len(answers) - no:,} yes, {no:,} no.",
+        )
+
+    # The sections.
+
+    def figure(self, key: tuple, caption: object, label: str) -> Markup:
+        if key not in self.drawn:
+            return el("p", "This picture wasn't drawn in the time of this page; ", el("code", "tools/draw"), " draws it alone.")
+        svg = el("div", self.drawn[key], class_="scroll", tabindex="0", role="group", aria_label=label)
+        return el("figure", svg, el("figcaption", caption))
+
+    def picture(self) -> Markup:
+        facts = self.facts
+        if not facts.schema.constraints:
+            caption = "Categories and edges, from child to parent. There are no constraints."
+        elif len(facts.schema.constraints) > pictures.MOST_NOTES:
+            caption = "Categories and edges, from child to parent. A note has the numbers of a category's constraints, which stand in the text."
+        else:
+            caption = "Categories and edges, from child to parent. A note has a category's constraints with their numbers; long ones are cut."
+        items = [el("li", self.to_line(place, f"constraint {number}"), " ", el("code", f"{one.root}: {one.formula}"))
+                 for number, (one, place) in enumerate(zip(facts.schema.constraints, self.places.constraints), 1)]
+        constraints = el("details", el("summary", "The constraints in full"), el("ul", items)) if items else ""
+        return many(self.figure(("schema",), caption, "Picture of the schema"), constraints)
+
+    def to_line(self, number: int, text: str) -> Markup:
+        return el("a", text, href=f"#line-{number}")
+
+    def audit(self) -> Markup:
+        findings = self.facts.findings
+        if findings is None:
+            return el("p", "The audit had no answer in the time of this page: ", el("code", "olap audit SCHEMA"), " asks for it alone.")
+        if not findings:
+            return el("p", "No findings: each category can have a member, each constraint says something, each edge can be used.")
+        return many(el("p", f"{counted(len(findings), 'finding')}."), el("ul", [el("li", self.finding(one)) for one in findings]))
+
+    def finding(self, line: str) -> Markup:
+        kind, *words = line.split(" ")
+        if kind == "unsatisfiable":
+            place, told = self.places.categories.get(words[0]), f"no legal instance has a member of {words[0]}"
+        elif kind == "unused":
+            place, told = self.places.edges[words[0], words[1]], f"in no legal instance a member of {words[0]} has a parent in {words[1]}"
+        else:
+            one = self.facts.schema.constraints[int(words[0]) - 1]
+            place = self.places.constraints[int(words[0]) - 1]
+            told = many("it is met by every legal instance of the schema without it: ", el("code", f"{one.root}: {one.formula}"))
+        return many(self.to_line(place, line) if place else line, ": ", told)
+
+    def frozen(self) -> Markup:
+        intro = el("p", "A frozen dimension of a category is a legal instance in which it has a member, each category has at most one, and "
+                        "that member reaches every other: one of all the ways up. The digits are the schema's edges.")
+        late = [each for each, ways in self.facts.ways.items() if ways.listed is None and ways.least is None and not ways.too_many]
+        told = el("p", f"Of {', '.join(late)} nothing came in the time of this page: ", el("code", "olap frozen SCHEMA CATEGORY"), " lists it.")
+        return many(intro, [self.ways_of(each) for each in self.facts.schema.categories if each not in late], told if late else "")
+
+    def ways_of(self, category: str) -> Markup:
+        ways = self.facts.ways[category]
+        known = self.drawn_ways(ways)
+        if ways.listed is not None:
+            told = counted(len(ways.listed), "frozen dimension") if ways.listed else "None: no legal instance has a member of it"
+            told += f"; the first {len(known)} drawn" if 0 < len(known) < len(ways.listed) else ""
+        else:
+            told = "More than the program lists" if ways.too_many else "The list didn't come in the time of this page"
+            told += "; the least is drawn" if known else ""
+        lines = [frozen.line for frozen in (ways.listed if ways.listed is not None else known)]
+        more = [el("p", f"{len(lines) - MOST_LINES:,} more lines: ", el("code", f"olap frozen SCHEMA {category}"), " lists them.")]
+        drawn = [self.figure(("frozen", category, i), f"{i} of {category}", f"Frozen dimension {i} of {category}")
+                 for i in range(1, len(known) + 1)]
+        return many(
+            el("h3", category, id=f"ways-{category}"),
+            el("p", f"{told}."),
+            self.lines_pre(lines[:MOST_LINES]),
+            more if len(lines) > MOST_LINES else "",
+            el("div", drawn, class_="row") if drawn else "",
+        )
+
+    @staticmethod
+    def lines_pre(lines: Sequence[str]) -> Markup | str:
+        return el("pre", Markup("\n".join(many(line) for line in lines))) if lines else ""
+
+    def tables(self) -> Markup:
+        facts = self.facts
+        intro = el(
+            "p", "May the totals by the target be taken from the views of the sources, on every legal instance and for all facts? ",
+            el("em", "Lost"), " is a fact that no source has, and ", el("em", "2\u00d7"), " one that two of them have; each no leads to its "
+            "counterexample.",
+        )
+        asked = len(facts.schema.categories) * (len(facts.singles) + len(facts.pairs))
+        late = asked - len(facts.answers)
+        notes = [el("p", el("strong", f"{counted(late, 'question')} of {asked:,} had no answer in the time of this page."), " They say ",
+                    el("em", "no answer"), "; ask the program itself.")] if late else []
+        pairs = self.table_group("Pairs of sources", facts.pairs) if facts.asks_pairs else many(
+            el("h3", "Pairs of sources"),
+            el("p", f"Pairs weren't asked, for this schema has {counted(len(facts.schema.categories), 'category', 'categories')}: ",
+               el("code", "olap summarizable SCHEMA TARGET SOURCE SOURCE"), " asks for one."),
+        )
+        return many(intro, notes, self.table_group("Single sources", facts.singles), pairs)
+
+    def table_group(self, name: str, lists: list[tuple[str, ...]]) -> Markup:
+        targets = self.facts.schema.categories
+        columns = [targets[i : i + COLUMNS] for i in range(0, len(targets), COLUMNS)]
+        return many(el("h3", name), [self.table(name, lists, some) for some in columns if lists])
+
+    def table(self, name: str, lists: list[tuple[str, ...]], targets: Sequence[str]) -> Markup:
+        caption = f"{name}: targets {targets[0]} to {targets[-1]}" if len(targets) > 1 else f"{name}: target {targets[0]}"
+        head = el("thead", el("tr", el("th", "from the views of", scope="col"), [el("th", target, scope="col") for target in targets]))
+        rows = [el("tr", el("th", listed(sources), scope="row"), [self.cell(target, sources) for target in targets]) for sources in lists]
+        table = el("table", el("caption", caption), head, el("tbody", Markup("\n".join(rows))))
+        return el("div", table, class_="scroll", tabindex="0", role="group", aria_label=caption)
+
+    def cell(self, target: str, sources: tuple[str, ...]) -> Markup:
+        if (target, sources) not in self.facts.answers:
+            return el("td", "no answer", class_="none")
+        shown = self.shown_of.get((target, sources))
+        if shown is None:
+            return el("td", "yes", class_="yes")
+        where = el("span", f": counterexample for {target} from {listed(sources)}", class_="hidden")
+        return el("td", el("a", f"no, {fate(shown.example)}", where, href=f"#{shown.anchor}"), class_="no")
+
+    def counterexamples(self) -> Markup:
+        if not self.shown:
+            return el("p", "None: no answer was no.")
+        by_target = defaultdict(list)
+        for shown in self.shown:
+            by_target[shown.example.target].append(shown)
+        folded = len(self.shown) > MOST_OPEN
+        intro = el("p", f"{counted(len(self.shown), 'counterexample')}; each is the least legal instance that shows its no, with one fact. "
+                        "A source that isn't marked doesn't have it: it has no member there, or isn't below the target. Thick lines are the "
+                        "fact's ways to the target." + (" Open one to see its picture." if folded else ""))
+        groups = [many(el("h3", f"Target {target}"), el("div", [self.counterexample(one, folded) for one in some], class_="group"))
+                  for target, some in by_target.items()]
+        return many(intro, groups)
+
+    def counterexample(self, shown: Shown, folded: bool) -> Markup:
+        example = shown.example
+        lists = "; ".join(listed(sources) for sources in shown.lists)
+        summary = f"{example.target} from {listed(shown.lists[0])}: {fate(example)}"
+        summary += f" (and {counted(len(shown.lists) - 1, 'other list', 'other lists')})" if len(shown.lists) > 1 else ""
+        said = [example.frozen.line, f"fact {example.root} 1", f"direct {example.target} 1", f"views {example.target} {views_of(example)}"]
+        return el(
+            "details",
+            el("summary", summary),
+            el("p", "It answers the sources: ", lists, "."),
+            self.lines_pre(said),
+            self.figure(("no", shown.number), f"Direct 1, from the views {views_of(example)}.", f"Counterexample {shown.number}"),
+            el("p", el("a", "Back to the tables", href="#table"), class_="back"),
+            id=shown.anchor,
+            open=None if folded else "open",
+        )
+
+    def text(self) -> Markup:
+        lines = self.facts.text.split("\n")
+        lines = lines[:-1] if lines[-1] == "" else lines
+        items = [el("li", el("code", re.sub(r"\t", "    ", line.removesuffix("\r"))), id=f"line-{number}") for number, line in enumerate(lines, 1)]
+        return el("ol", Markup("\n".join(items)), class_="lines")

@@ -1,0 +1,152 @@
+"""All that a report asks the program about a schema, many questions at once, within a time.
+
+What wasn't answered in time stays unanswered, and the page says so.
+"""
+
+import os
+import sys
+import time
+from concurrent.futures import ThreadPoolExecutor, as_completed
+from dataclasses import dataclass, field
+from itertools import combinations
+from typing import Callable, Iterable, TypeVar
+
+from . import texts
+from .program import Fault, Late, Program
+
+SCHEMA = "schema.txt"
+TOO_MANY = "refused frozen TooMany"
+Key = TypeVar("Key")
+Value = TypeVar("Value")
+
+
+@dataclass(frozen=True)
+class Ways:
+    """The frozen dimensions of a category: all of them, or the least where the program lists no more, or none known."""
+
+    listed: tuple[texts.Frozen, ...] | None
+    least: texts.Frozen | None = None
+    too_many: bool = False
+
+
+@dataclass
+class Facts:
+    """What the program said of a schema. Of a target and sources: a counterexample, or None for yes."""
+
+    schema: texts.Schema
+    text: str
+    findings: list[str] | None = None
+    ways: dict[str, Ways] = field(default_factory=dict)
+    answers: dict[tuple[str, tuple[str, ...]], texts.Counterexample | None] = field(default_factory=dict)
+    asks_pairs: bool = True
+
+    @property
+    def singles(self) -> list[tuple[str, ...]]:
+        return [(one,) for one in self.schema.categories]
+
+    @property
+    def pairs(self) -> list[tuple[str, ...]]:
+        return list(combinations(self.schema.categories, 2)) if self.asks_pairs else []
+
+
+class Progress:
+    """A line on standard error, where that is a terminal."""
+
+    def __init__(self) -> None:
+        self.shown = sys.stderr.isatty()
+        self.began = self.last = time.monotonic()
+
+    def tell(self, what: str, done: int, of: int) -> None:
+        now = time.monotonic()
+        if self.shown and (now - self.last > 0.1 or done == of):
+            self.last = now
+            print(f"\r\033[Kreport: {what} {done} of {of}, {now - self.began:.0f} s", end="", file=sys.stderr, flush=True)
+
+    def clear(self) -> None:
+        if self.shown:
+            print("\r\033[K", end="", file=sys.stderr, flush=True)
+
+
+def workers() -> int:
+    """How many processors there are for this process."""
+    return len(os.sched_getaffinity(0)) if hasattr(os, "sched_getaffinity") else os.cpu_count() or 1
+
+
+class Asker:
+    """Asks many questions at once. Each has until the end that is given."""
+
+    def __init__(self, program: Program, progress: Progress):
+        self.program, self.progress = program, progress
+
+    def all(self, what: str, keys: Iterable[Key], ask: Callable[[Key, float], Value], end: float) -> dict[Key, Value]:
+        """The answers that came before the end."""
+        keys, found = list(keys), {}
+
+        def one(key: Key) -> Value:
+            left = end - time.monotonic()
+            if left <= 0:
+                raise Late
+            return ask(key, left)
+
+        with ThreadPoolExecutor(workers()) as pool:
+            asked = {pool.submit(one, key): key for key in keys}
+            try:
+                for done, future in enumerate(as_completed(asked), 1):
+                    try:
+                        found[asked[future]] = future.result()
+                    except Late:
+                        pass
+                    self.progress.tell(what, done, len(keys))
+            except Fault:
+                pool.shutdown(cancel_futures=True)
+                raise
+        return found
+
+
+def facts_of(program: Program, progress: Progress, most_for_pairs: int, seconds: float) -> Facts:
+    """Asks all: the audit and the least frozen dimensions first, then lists, single sources and pairs, as time allows."""
+    began = time.monotonic()
+    schema = texts.schema_of(program.must("format", SCHEMA).text)
+    facts = Facts(schema, (program.folder / SCHEMA).read_bytes().decode())
+    facts.asks_pairs = len(schema.categories) <= most_for_pairs
+    asker = Asker(program, progress)
+
+    def until(part: float) -> float:
+        return began + seconds * part
+
+    def findings(_: str, left: float) -> list[str]:
+        return program.must("audit", SCHEMA, seconds=left).text.split("\n")[:-2]
+
+    def least(category: str, left: float) -> texts.Frozen | None:
+        answer = program.must("satisfiable", SCHEMA, category, ends=(0, 1), seconds=left)
+        return texts.frozen_of(answer.text.split("\n")[1], schema) if answer.status == 0 else None
+
+    def listed(category: str, left: float) -> tuple[texts.Frozen, ...] | None:
+        answer = program.must("frozen", SCHEMA, category, ends=(0, 3), seconds=left)
+        if answer.status == 3:
+            if answer.text != TOO_MANY + "\n":
+                raise Fault(answer.text.rstrip("\n"))
+            return None
+        *lines, count, _ = answer.text.split("\n")
+        if count != f"count {len(lines)}":
+            raise Fault(f"the program says {count}, and {len(lines)} lines were read", 70)
+        return tuple(texts.frozen_of(line, schema) for line in lines)
+
+    def summarizable(question: tuple[str, tuple[str, ...]], left: float) -> texts.Counterexample | None:
+        target, sources = question
+        answer = program.must("summarizable", SCHEMA, target, *sources, ends=(0, 1), seconds=left)
+        return texts.counterexample_of(answer.text, schema) if answer.status == 1 else None
+
+    leasts = asker.all("least frozen dimensions", schema.categories, least, until(0.15))
+    facts.answers = asker.all("single sources", of_each(schema, facts.singles), summarizable, until(0.6))
+    facts.findings = asker.all("audit", ["audit"], findings, until(0.75)).get("audit")
+    lists = asker.all("frozen dimensions of", schema.categories, listed, until(0.85))
+    for category in schema.categories:
+        known = lists.get(category)
+        facts.ways[category] = Ways(known, leasts.get(category), category in lists and known is None)
+    facts.answers |= asker.all("pairs of sources", of_each(schema, facts.pairs), summarizable, until(1))
+    return facts
+
+
+def of_each(schema: texts.Schema, lists: list[tuple[str, ...]]) -> list[tuple[str, tuple[str, ...]]]:
+    return [(target, sources) for sources in lists for target in schema.categories]
