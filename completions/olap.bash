@@ -1,0 +1,88 @@
+# Completion of olap for bash: commands, then files, and categories as far as they can be read from the schema's text.
+# That text is only searched for lines that declare a category; nothing in it, or in the words, is ever run.
+# Where a file is wanted the function finds nothing, and bash completes file names by itself.
+
+# Cuts the line up to the cursor into words, without their quotes; the last word is the one to be completed.
+_olap_words() {
+    local line=$1 quote='' word='' i c
+    words=()
+    local begun=
+    for ((i = 0; i < ${#line}; i++)); do
+        c=${line:i:1}
+        if [[ $quote == "'" ]]; then
+            if [[ $c == "'" ]]; then quote=''; else word+=$c; fi
+        elif [[ $c == "\\" ]]; then
+            ((i++))
+            word+=${line:i:1} begun=1
+        elif [[ $quote == '"' ]]; then
+            if [[ $c == '"' ]]; then quote=''; else word+=$c; fi
+        elif [[ $c == [\"\'] ]]; then
+            quote=$c begun=1
+        elif [[ $c == [[:space:]] ]]; then
+            if [[ $begun || $word ]]; then words+=("$word"); fi
+            word='' begun=
+        else
+            word+=$c
+        fi
+    done
+    words+=("$word")
+}
+
+# The categories that the file declares, and All. No more than its first 256 KiB is read, and only of a plain file.
+_olap_categories() {
+    local file=$1 line
+    if [[ $file == \~/* ]]; then file=$HOME/${file:2}; fi
+    categories=()
+    if [[ ! -f $file || ! -r $file ]]; then return 1; fi
+    while IFS= read -r line; do
+        if [[ $line =~ ^[[:blank:]]*category[[:blank:]]+([A-Za-z][A-Za-z0-9]*)[[:blank:]]*$'\r'?$ ]]; then
+            categories+=("${BASH_REMATCH[1]}")
+        fi
+    done < <(head -c 262144 <"$file" 2>/dev/null)
+    categories+=(All)
+}
+
+# What stands at each place behind a command: f a file, c a category, r a category other than All, d categories that differ,
+# n nothing that could be completed.
+_olap_places() {
+    case $1 in
+    rollup) places='fffc' ;;
+    check) places='ff' ;;
+    format | audit) places='f' ;;
+    summarizable) places='fcd' ;;
+    implies) places='frn' ;;
+    satisfiable | frozen) places='fc' ;;
+    store) places='fffd' ;;
+    answer) places='fffc' ;;
+    *) places='' ;;
+    esac
+}
+
+_olap() {
+    local LC_ALL=C words places place current each used categories
+    COMPREPLY=()
+    _olap_words "${COMP_LINE:0:COMP_POINT}"
+    current=${words[-1]}
+    if [[ ${#words[@]} -le 2 ]]; then
+        compopt +o default
+        for each in rollup check format summarizable implies satisfiable frozen audit store answer generate; do
+            if [[ $each == "$current"* ]]; then COMPREPLY+=("$each"); fi
+        done
+        return
+    fi
+    _olap_places "${words[1]}"
+    place=${places:${#words[@]}-3:1}
+    if [[ ! $place && ${places: -1} == d ]]; then place=d; fi
+    if [[ $place == f ]]; then return; fi
+    compopt +o default
+    if [[ $place != [crd] ]] || ! _olap_categories "${words[2]}"; then return; fi
+    # Sources are completed behind the target, and the categories of a store behind the facts.
+    used=" ${words[*]:$((${#places} + 1)):$((${#words[@]} - ${#places} - 2))} "
+    for each in "${categories[@]}"; do
+        if [[ $each != "$current"* || ($place == r && $each == All) ]]; then continue; fi
+        if [[ $place == d && $used == *" $each "* ]]; then continue; fi
+        COMPREPLY+=("$each")
+    done
+}
+
+complete -o default -F _olap olap
