@@ -1,0 +1,182 @@
+"""What the checks share: tools and the program run, and pictures and pages taken apart again, with none of the tools' own readers."""
+
+import json
+import os
+import re
+import shutil
+import subprocess
+import sys
+import xml.etree.ElementTree as ET
+from dataclasses import dataclass, field
+from html.parser import HTMLParser
+from pathlib import Path
+
+from ..program import TOP, find
+
+TOOLS, EXAMPLES = TOP / "tools", TOP / "examples"
+SVG = "{http://www.w3.org/2000/svg}"
+SHAPES = {"svg", "g", "title", "desc", "style", "rect", "polygon", "polyline", "path", "ellipse", "text"}
+VOID = {"meta", "br"}
+PATIENCE = 170  # seconds
+
+
+def is_there(tool: str, package: str) -> bool:
+    """Is the tool there? It is installed where it isn't and the user is root."""
+    if shutil.which(tool) is None and os.geteuid() == 0 and shutil.which("apt-get"):
+        environment = {**os.environ, "DEBIAN_FRONTEND": "noninteractive"}
+        subprocess.run(["apt-get", "install", "-y", package], env=environment, capture_output=True, check=False)
+    return shutil.which(tool) is not None
+
+
+def olap(*words: str, folder: Path = EXAMPLES) -> tuple[int, str]:
+    done = subprocess.run([find(), *words], cwd=folder, capture_output=True, timeout=PATIENCE, check=False)
+    return done.returncode, done.stdout.decode()
+
+
+def tool(name: str, *words: str, folder: Path = EXAMPLES, **environment: str) -> subprocess.CompletedProcess:
+    """Runs a tool of tools/, with what it prints as texts."""
+    done = subprocess.run([sys.executable, TOOLS / name, *words], cwd=folder, env={**os.environ, **environment}, capture_output=True,
+                          timeout=PATIENCE, check=False, stdin=subprocess.DEVNULL)
+    done.stdout, done.stderr = done.stdout.decode(), done.stderr.decode()
+    return done
+
+
+# Schemas and frozen lines.
+
+
+def edges_of(schema: Path) -> list[tuple[str, str]]:
+    lines = [line.split() for line in olap("format", str(schema))[1].splitlines()]
+    return [(words[1], words[2]) for words in lines if words[0] == "edge"]
+
+
+def categories_of(schema: Path) -> list[str]:
+    lines = [line.split() for line in olap("format", str(schema))[1].splitlines()]
+    return [words[1] for words in lines if words[0] == "category"] + ["All"]
+
+
+def named(line: str) -> dict[str, str]:
+    """The names of a frozen line, whose strings are strings of JSON too."""
+    return {category: json.loads(text) for category, text in re.findall(r'(\w+)=("(?:[^"\\]|\\.)*")', line)}
+
+
+# Pictures.
+
+
+@dataclass
+class Drawn:
+    """A picture: of each node what it is told as and its text, and of each edge what it is told as."""
+
+    name: str
+    nodes: dict[str, str]
+    edges: list[str]
+
+
+def picture_of(svg: ET.Element) -> Drawn:
+    nodes, edges = {}, []
+    for group in svg.iter(f"{SVG}g"):
+        kind, title = group.get("class", "").split()[:1], group.findtext(f"{SVG}title", "")
+        if kind == ["node"]:
+            nodes[title] = "".join(text.text or "" for text in group.iter(f"{SVG}text"))
+        elif kind == ["edge"]:
+            edges.append(title)
+    return Drawn(svg.findtext(f"{SVG}title", ""), nodes, edges)
+
+
+def picture_faults(svg: ET.Element) -> list[str]:
+    """What an SVG has that it must not have."""
+    found = []
+    for element in svg.iter():
+        if element.tag.removeprefix(SVG) not in SHAPES:
+            found.append(f"an element {element.tag}")
+        for name, value in element.attrib.items():
+            if "href" in name or name.startswith("on") or "url(" in value or "://" in value:
+                found.append(f"an attribute {name}={value}")
+    return found
+
+
+def differs_from_frozen(drawn: Drawn, line: str, edges: list[tuple[str, str]]) -> str | None:
+    """What a picture of a frozen dimension shows that its line doesn't say, or the other way."""
+    texts = {f'{category} "{name}"': f'{category}"{name}"' for category, name in named(line).items()} | {"all": "all"}
+    if drawn.nodes != texts:
+        return f"the picture's members are {drawn.nodes}"
+    wanted = [f"{child} to {parent}" for (child, parent), digit in zip(edges, line.split()[1]) if digit == "1"]
+    return None if sorted(drawn.edges) == sorted(wanted) else f"the picture's edges are {drawn.edges}"
+
+
+def differs_from_counterexample(drawn: Drawn, text: str, edges: list[tuple[str, str]]) -> str | None:
+    """The same of a counterexample: members, edges, the fact, the target, and as many sources with the fact as the views say."""
+    lines = text.splitlines()
+    (_, root, _), (_, target, _), (_, _, views) = (line.split() for line in lines[-3:])
+    marked = {told: text for told, text in drawn.nodes.items() if "target: direct 1" in text}
+    if [told.split()[0].rstrip(",") for told in marked] != [target.replace("All", "all")]:
+        return f"the picture's target is {list(marked)}"
+    if f"from the views: {views}" not in next(iter(marked.values())):
+        return f"the target's text is {list(marked.values())}"
+    if sum("source: has the fact" in text for text in drawn.nodes.values()) != (0 if views == "none" else int(views)):
+        return f"the views are {views}, and the picture's sources are others"
+    if f"the fact lies at {root}" not in drawn.edges or f"a fact of value 1 at {root}" not in drawn.nodes:
+        return "the fact isn't where the program says"
+    plain = {re.sub(r", (target: |source: ).*", "", told): text for told, text in drawn.nodes.items() if "a fact of" not in told}
+    texts = {told: re.sub(r"(target: |source: ).*", "", text) for told, text in plain.items()}
+    rest = [edge for edge in drawn.edges if edge != f"the fact lies at {root}"]
+    return differs_from_frozen(Drawn(drawn.name, texts, rest), lines[1], edges)
+
+
+# Pages.
+
+
+@dataclass
+class Element:
+    tag: str
+    attributes: dict[str, str]
+    parts: list["Element | str"] = field(default_factory=list)
+
+    def text(self) -> str:
+        return "".join(part if isinstance(part, str) else part.text() for part in self.parts)
+
+    def all(self, tag: str | None = None, **attributes: str) -> list["Element"]:
+        found = [] if tag not in (None, self.tag) or attributes.items() - self.attributes.items() else [self]
+        return found + [each for part in self.parts if isinstance(part, Element) for each in part.all(tag, **attributes)]
+
+
+class Parser(HTMLParser):
+    """Reads a page whose elements all are closed in their order; else `wrong` says what isn't."""
+
+    def __init__(self) -> None:
+        super().__init__(convert_charrefs=True)
+        self.top = Element("", {})
+        self.open, self.wrong = [self.top], []
+
+    def handle_starttag(self, tag: str, attrs: list) -> None:
+        if len({name for name, _ in attrs}) != len(attrs):
+            self.wrong.append(f"an attribute of {tag} stands twice")
+        element = Element(tag, {name: value or "" for name, value in attrs})
+        self.open[-1].parts.append(element)
+        if tag not in VOID:
+            self.open.append(element)
+
+    def handle_startendtag(self, tag: str, attrs: list) -> None:
+        self.handle_starttag(tag, attrs)
+        self.handle_endtag(tag)
+
+    def handle_endtag(self, tag: str) -> None:
+        if self.open[-1].tag != tag:
+            self.wrong.append(f"{tag} ends where {self.open[-1].tag} is open")
+        elif tag not in VOID:
+            self.open.pop()
+
+    def handle_data(self, data: str) -> None:
+        self.open[-1].parts.append(data)
+
+
+def page_of(text: str) -> tuple[Element, list[str]]:
+    parser = Parser()
+    parser.feed(text)
+    parser.close()
+    return parser.top, parser.wrong + [f"{each.tag} isn't closed" for each in parser.open[1:]]
+
+
+def pictures_of_page(text: str) -> list[ET.Element]:
+    """The pictures of a page, which are XML."""
+    texts = re.findall(r"<svg .*?</svg>", text, re.S)
+    return [ET.fromstring(each.replace("<svg ", f'<svg xmlns="{SVG[1:-1]}" ', 1)) for each in texts]

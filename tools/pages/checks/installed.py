@@ -1,0 +1,110 @@
+"""tools/install puts three files and takes exactly those away; the completion reads schemas and runs nothing of them."""
+
+import os
+import subprocess
+import tempfile
+from pathlib import Path
+from typing import Iterator
+
+from .common import EXAMPLES, TOP, olap, tool
+
+PUT = {"bin/olap", "share/man/man1/olap.1", "share/bash-completion/completions/olap", "share/olap/installed"}
+TRY = """
+compopt() { :; }
+source "$1"
+COMP_LINE=$2 COMP_POINT=${#2}
+_olap
+printf '%s\\n' "${COMPREPLY[@]}"
+"""
+
+
+def files_of(folder: Path) -> set[str]:
+    return {str(path.relative_to(folder)) for path in folder.rglob("*") if not path.is_dir()}
+
+
+def paths_of(folder: Path) -> set[str]:
+    return {str(path.relative_to(folder)) for path in folder.rglob("*")}
+
+
+def put_and_taken(prefix: Path) -> Iterator[str]:
+    """In a prefix that isn't there, and in one with files and an empty folder of others."""
+    for before in ((), ("bin/other", "share/man/man1/other.1", "lib/")):
+        for name in before:
+            path = prefix / name
+            (path if name.endswith("/") else path.parent).mkdir(parents=True)
+            if not name.endswith("/"):
+                path.write_text("other\n")
+        was = paths_of(prefix) if before else None
+        for _ in range(2):  # the second time puts the same again
+            done = tool("install", str(prefix))
+            if done.returncode != 0 or done.stdout or done.stderr:
+                yield f"it ends with {done.returncode}: {done.stderr.strip()}"
+        if files_of(prefix) - set(before) != PUT:
+            yield f"it puts {sorted(files_of(prefix))}"
+        ran = subprocess.run([prefix / "bin" / "olap", "format", "location/schema.txt"], cwd=EXAMPLES, capture_output=True, text=True, check=False)
+        if (ran.returncode, ran.stdout) != olap("format", "location/schema.txt"):
+            yield "the program that is put does otherwise"
+        done = tool("install", "--remove", str(prefix))
+        if done.returncode != 0 or (paths_of(prefix) if prefix.exists() else None) != was:
+            yield f"--remove ends with {done.returncode}, and leaves {sorted(paths_of(prefix))}"
+
+
+def refused(prefix: Path) -> Iterator[str]:
+    """What isn't of this program stays as it is."""
+    foreign = prefix / "foreign"
+    (foreign / "bin").mkdir(parents=True)
+    (foreign / "bin" / "olap").write_text("mine\n")
+    if tool("install", str(foreign)).returncode == 0 or paths_of(foreign) != {"bin", "bin/olap"}:
+        yield "it puts its program in the place of another"
+    if tool("install", "--remove", str(foreign)).returncode == 0 or paths_of(foreign) != {"bin", "bin/olap"}:
+        yield "--remove takes what it didn't put"
+    ours = prefix / "ours"
+    tool("install", str(ours))
+    (ours / "share/man/man1/olap.1").write_text("edited\n")
+    if tool("install", "--remove", str(ours)).returncode == 0 or files_of(ours) != PUT:
+        yield "--remove takes a file that was changed"
+    outside = prefix / "outside"
+    outside.write_text("outside\n")
+    with (ours / "share/olap/installed").open("a") as record:
+        record.write("file 0 ../outside\n")
+    if tool("install", "--remove", str(ours)).returncode == 0 or not outside.exists() or files_of(ours) != PUT:
+        yield "--remove follows a record that leads elsewhere"
+
+
+def completed(line: str, folder: Path) -> list[str]:
+    words = ["bash", "--norc", "-c", TRY, "bash", str(TOP / "completions" / "olap.bash"), line]
+    done = subprocess.run(words, cwd=folder, capture_output=True, text=True, check=False)
+    return done.stdout.split() + done.stderr.split("\n")[:-1]
+
+
+def completion_faults(room: Path) -> Iterator[str]:
+    name = "it's a $(touch ran) `touch ran`;touch ran.txt"
+    (room / name).write_text("schema 1\ncategory $(touch ran)\n\tcategory  Store\r\ncategory City # no\ncategory Stage\nedge `touch ran` A\n")
+    quoted = "'" + name.replace("'", "'\\''") + "'"
+    escaped = "".join("\\" + each if not each.isalnum() else each for each in name)
+    wanted = {
+        "olap s": ["summarizable", "satisfiable", "store"],
+        "olap check a": [],
+        "olap generate ": [],
+        "olap nothing x ": [],
+        f"olap frozen {quoted} St": ["Store", "Stage"],
+        f"olap frozen {escaped} ": ["Store", "Stage", "All"],
+        f"olap implies {quoted} ": ["Store", "Stage"],
+        f"olap summarizable {quoted} Store Stage ": ["Store", "All"],
+        f"olap store {quoted} i f Stage A": ["All"],
+        f"olap answer {quoted} i s S": ["Store", "Stage"],
+        "olap frozen /dev/zero ": [],
+    }
+    for line, words in wanted.items():
+        if completed(line, room) != words:
+            yield f"`{line}` is completed by {completed(line, room)}"
+    if (room / "ran").exists() or sorted(os.listdir(room)) != [name]:
+        yield "it ran what stands in a name or a schema"
+
+
+def faults() -> Iterator[str]:
+    with tempfile.TemporaryDirectory() as folder:
+        for number, check in enumerate((put_and_taken, refused)):
+            yield from (f"install: {wrong}" for wrong in check(Path(folder) / f"a b{number}"))
+        (Path(folder) / "room").mkdir()
+        yield from (f"completions/olap.bash: {wrong}" for wrong in completion_faults(Path(folder) / "room"))

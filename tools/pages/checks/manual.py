@@ -1,0 +1,67 @@
+"""The manual has no warning, says what docs/FORMATS.md says, and its transcripts are what the program prints."""
+
+import re
+import shlex
+import subprocess
+from typing import Iterator
+
+from .common import EXAMPLES, TOP, is_there, olap
+
+MANUAL = TOP / "man" / "olap.1"
+LINTERS = (("groff", "groff", ["groff", "-man", "-ww", "-z"]), ("mandoc", "mandoc", ["mandoc", "-Tlint"]))
+
+
+def lint_faults() -> Iterator[str]:
+    for name, package, words in LINTERS:
+        if not is_there(name, package):
+            yield f"{name} isn't there, so the manual wasn't read by it"
+            continue
+        done = subprocess.run([*words, MANUAL], capture_output=True, text=True, check=False)
+        told = (done.stdout + done.stderr).strip()
+        if told or done.returncode != 0:
+            yield f"{name}: {told.splitlines()[0] if told else f'status {done.returncode}'}"
+
+
+def plain(text: str) -> str:
+    """The words of a manual's text, without its macros and fonts."""
+    text = re.sub(r"\\f[A-Z]|\\&", "", text).replace("\\-", "-").replace("\\(aq", "'").replace("\\(dq", '"').replace("\\e", "\\")
+    lines = [re.sub(r"^\.(B|I|BR|BI|IR|IB|RB|TP|SS|SH|PP|EX|EE) ?", "", line) for line in text.splitlines()]
+    return " ".join(re.sub(r'[",]', "", " ".join(lines)).split())
+
+
+def said_faults() -> Iterator[str]:
+    """Commands, statuses, kinds of faults and limits of the document stand in the manual."""
+    document, manual = (TOP / "docs" / "FORMATS.md").read_text(), plain(MANUAL.read_text())
+    commands = re.findall(r"^\| `([a-z]+ [A-Z .]+?)(?:\.\.)?` \|.*\|$", document, re.M)
+    for command in commands:
+        if plain(command) not in manual:
+            yield f"no command {command}"
+    for number in re.findall(r"^\|[^|`]*\| ([0-9,]+) \|$", document, re.M):
+        if not re.search(rf"\b{number.replace(',', '')} [a-z]", manual):
+            yield f"no limit of {number}"
+    kinds = {kind for each in re.findall(r"`([^`\n]*)`", document) for kind in re.findall(r"\b[A-Z][a-z]+[A-Z][A-Za-z0-9]*\b", each)}
+    refusals = set(re.findall(r"^\| `refused (?:\w+ )*?([A-Z][a-z]+[A-Za-z]*)`", document, re.M))
+    for kind in sorted(kinds | refusals | {"Stratification", "Partitioning", "Shortcut", "Constraint", "Connectivity", "NoParent"}):
+        if not re.search(rf"\b{kind}\b", manual):
+            yield f"no {kind}"
+
+
+def transcripts() -> Iterator[tuple[str, str]]:
+    for block in re.findall(r"^\.EX\n(\$ olap .*?)^\.EE$", MANUAL.read_text(), re.M | re.S):
+        text = block.replace("\\-", "-").replace("\\(aq", "'")
+        for command, below in re.findall(r"^\$ olap (.*)\n((?:(?!\$ ).*\n)*)", text, re.M):
+            yield command, below
+
+
+def transcript_faults() -> Iterator[str]:
+    found = list(transcripts())
+    if not found:
+        yield "no transcripts"
+    for command, below in found:
+        if olap(*shlex.split(command), folder=EXAMPLES / "location")[1] != below:
+            yield f"what this prints isn't what stands there: olap {command}"
+
+
+def faults() -> Iterator[str]:
+    for check in (lint_faults, said_faults, transcript_faults):
+        yield from (f"man/olap.1: {wrong}" for wrong in check())
