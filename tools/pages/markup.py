@@ -6,6 +6,7 @@ import xml.etree.ElementTree as ET
 from .pictures import visible
 
 EMPTY = ("meta", "link", "br")
+LARGE, SHRUNK = 1100, 0.65  # a picture is shrunk to a narrow screen so far, and one that is wider than LARGE is moved about instead
 
 
 class Markup(str):
@@ -39,6 +40,6 @@ def picture(element: ET.Element, number: int) -> Markup:
     element[0].set("id", f"t{number}")
     element[1].set("id", f"d{number}")
     wide = float(element.attrib["width"])
-    element.set("style", f"max-width:{wide:.0f}px;min-width:min({wide:.0f}px,{max(wide * 0.6, 240):.0f}px)")
-    text = ET.tostring(element, encoding="unicode")
-    return Markup(text)
+    least = wide if wide > LARGE else min(wide, max(wide * SHRUNK, 240))
+    element.set("style", f"max-width:{wide:.0f}px;min-width:{least:.0f}px")
+    return Markup(ET.tostring(element, encoding="unicode"))

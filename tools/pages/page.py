@@ -1,6 +1,5 @@
 """The page of a schema: one HTML text with its style and pictures, no script, and nothing that is loaded."""
 
-import re
 import xml.etree.ElementTree as ET
 from collections import defaultdict
 from dataclasses import dataclass, field
@@ -34,11 +33,13 @@ a { color: var(--link); } a:focus-visible, summary:focus-visible, [tabindex]:foc
 .hidden { position: absolute; width: 1px; height: 1px; overflow: hidden; clip-path: inset(50%); white-space: nowrap; }
 code, pre, .lines { font-family: ui-monospace, "DejaVu Sans Mono", Menlo, Consolas, monospace; font-size: .875rem; unicode-bidi: isolate; }
 pre { white-space: pre-wrap; background: var(--band); padding: .5rem .75rem; margin: .5rem 0; }
-nav ul { display: flex; flex-wrap: wrap; gap: .25rem 1.25rem; padding: 0; list-style: none; } nav a { display: inline-block; padding: .35rem 0; }
+nav ul { display: flex; flex-wrap: wrap; gap: .25rem 1.25rem; padding: 0; list-style: none; }
+nav a { display: inline-block; padding: .35rem 0; }
 .soft, figcaption, small { color: var(--soft); }
 figure { margin: .75rem 0; } .scroll > svg { width: 100%; height: auto; display: block; }
 .scroll { overflow-x: auto; max-width: 100%; position: relative; padding: 2px; }
-.row { display: flex; flex-wrap: wrap; gap: 1rem 2rem; align-items: flex-start; } .row figure { flex: 0 1 auto; max-width: 100%; min-width: 0; }
+.row { display: flex; flex-wrap: wrap; gap: 1rem 2rem; align-items: flex-start; }
+.row figure { flex: 0 1 auto; max-width: 100%; min-width: 0; }
 table { border-collapse: separate; border-spacing: 0; margin: .5rem 0 1.25rem; overflow-wrap: normal; }
 caption { text-align: left; font-weight: 600; padding: .25rem 0; }
 th, td { border: 0 solid var(--rule); border-width: 0 1px 1px 0; padding: .3rem .5rem; text-align: left; vertical-align: top; }
@@ -51,17 +52,17 @@ details { border: 1px solid var(--rule); border-radius: .4rem; margin: .6rem 0; 
 summary { cursor: pointer; padding: .5rem 0; font-weight: 600; }
 .lines { padding-left: 3.5rem; margin: .5rem 0; } .lines li { padding-left: .5rem; border-left: 1px solid var(--rule); min-height: 1.5em;
   white-space: pre-wrap; } .lines li::marker { color: var(--soft); } .lines code { font-size: inherit; }
-li.ghost { list-style: none; }
 footer { border-top: 1px solid var(--rule); margin-top: 2.5rem; padding-top: .75rem; color: var(--soft); }
 @media print {
   @page { margin: 14mm; }
   :root { --page: #fff; --text: #000; --soft: #444; --rule: #999; --band: #f3f3f3; --link: #003f8f; --yes: #14491b; --no: #8c0f12; }
   body { max-width: none; padding: 0; font-size: 10pt; } nav, .skip, .back { display: none; } .scroll { overflow: visible; }
   figure, .scroll, details { break-inside: avoid; } .scroll:has(table) { break-inside: auto; } tr { break-inside: avoid; }
-  h2, h3, summary, caption { break-after: avoid; } thead { display: table-header-group; }
+  h2, h3, h3 + p, summary, caption { break-after: avoid; } thead { display: table-header-group; }
   tbody th, thead th:first-child { position: static; } th, td { padding: .15rem .3rem; } th { min-width: 0; } tbody th { min-width: 4rem; }
   .scroll > svg { min-width: 0 !important; max-height: 240mm; } .group svg { max-height: 60mm; } .row svg { max-height: 80mm; }
-  .group { columns: 3; column-gap: 4mm; font-size: 9pt; } .group details { margin: 0 0 3mm; padding: 0 2mm; } details::details-content { content-visibility: visible; }
+  .group { columns: 3; column-gap: 4mm; font-size: 9pt; } .group details { margin: 0 0 3mm; padding: 0 2mm; }
+  details::details-content { content-visibility: visible; }
 }
 """
 
@@ -139,7 +140,8 @@ class Page:
         large = len(facts.schema.categories) > LARGE
         self.most_drawn = MOST_DRAWN_LARGE if large else MOST_DRAWN
         wanted = dict(self.wanted())
-        self.drawn = {key: picture(svg, number) for number, (key, svg) in enumerate(zip(wanted, draw(list(wanted.values()))), 1) if svg is not None}
+        drawn = zip(wanted, draw(list(wanted.values())))
+        self.drawn = {key: picture(svg, number) for number, (key, svg) in enumerate(drawn, 1) if svg is not None}
 
     def wanted(self) -> Iterator[tuple[tuple, pictures.Picture]]:
         """Each picture of the page with its key."""
@@ -213,11 +215,12 @@ class Page:
     def picture(self) -> Markup:
         facts = self.facts
         if not facts.schema.constraints:
-            caption = "Categories and edges, from child to parent. There are no constraints."
+            notes = "There are no constraints."
         elif len(facts.schema.constraints) > pictures.MOST_NOTES:
-            caption = "Categories and edges, from child to parent. A note has the numbers of a category's constraints, which stand in the text."
+            notes = "A note has the numbers of a category's constraints, which stand in full below."
         else:
-            caption = "Categories and edges, from child to parent. A note has a category's constraints with their numbers; long ones are cut."
+            notes = "A note has a category's constraints with their numbers; long ones are cut."
+        caption = f"Categories and edges, from child to parent. {notes}"
         items = [el("li", self.to_line(place, f"constraint {number}"), " ", el("code", f"{one.root}: {one.formula}"))
                  for number, (one, place) in enumerate(zip(facts.schema.constraints, self.places.constraints), 1)]
         constraints = el("details", el("summary", "The constraints in full"), el("ul", items)) if items else ""
@@ -250,7 +253,8 @@ class Page:
         intro = el("p", "A frozen dimension of a category is a legal instance in which it has a member, each category has at most one, and "
                         "that member reaches every other: one of all the ways up. The digits are the schema's edges.")
         late = [each for each, ways in self.facts.ways.items() if ways.listed is None and ways.least is None and not ways.too_many]
-        told = el("p", f"Of {', '.join(late)} nothing came in the time of this page: ", el("code", "olap frozen SCHEMA CATEGORY"), " lists it.")
+        ask = el("code", "olap frozen SCHEMA CATEGORY")
+        told = el("p", f"Of {', '.join(late)} nothing came in the time of this page: ", ask, " lists it.")
         return many(intro, [self.ways_of(each) for each in self.facts.schema.categories if each not in late], told if late else "")
 
     def ways_of(self, category: str) -> Markup:
@@ -351,5 +355,6 @@ class Page:
     def text(self) -> Markup:
         lines = self.facts.text.split("\n")
         lines = lines[:-1] if lines[-1] == "" else lines
-        items = [el("li", el("code", re.sub(r"\t", "    ", line.removesuffix("\r"))), id=f"line-{number}") for number, line in enumerate(lines, 1)]
+        shown = [line.removesuffix("\r").replace("\t", "    ") for line in lines]
+        items = [el("li", el("code", line), id=f"line-{number}") for number, line in enumerate(shown, 1)]
         return el("ol", Markup("\n".join(items)), class_="lines")

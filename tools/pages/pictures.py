@@ -176,7 +176,8 @@ def told_of_counterexample(shown: Counterexample, seeing: Sequence[str]) -> str:
     which = f" ({', '.join(seeing)})" if seeing else ""
     members = ", ".join(told_of(category, text) for category, text in shown.frozen.names.items())
     views = "none" if shown.views is None else shown.views
-    return f"A fact of value 1 at {shown.root}; {by}{which} of the target {shown.target} has it. Direct 1, from the views {views}. Members: {members}"
+    fact = f"A fact of value 1 at {shown.root}; {by}{which} of the target {shown.target} has it."
+    return f"{fact} Direct 1, from the views {views}. Members: {members}"
 
 
 def marked(node: Node, kind: str, *lines: str) -> Node:

@@ -115,8 +115,7 @@ def opened() -> Iterator[Program]:
 def write_whole(text: str, output: str | None) -> None:
     """Writes to standard output, or beside the file and then in its place, so that no half of a text is left."""
     if output is None:
-        sys.stdout.buffer.write(text.encode())
-        sys.stdout.buffer.flush()
+        write_out(text)
         return
     target = Path(output)
     try:
@@ -128,6 +127,16 @@ def write_whole(text: str, output: str | None) -> None:
         if "beside" in locals():
             Path(beside.name).unlink(missing_ok=True)
         raise Fault(f"{output}: {error.strerror}", 5) from None
+
+
+def write_out(text: str) -> None:
+    """To standard output, past what Python would write again when it ends."""
+    left = memoryview(text.encode())
+    try:
+        while left:
+            left = left[os.write(1, left) :]
+    except OSError as error:
+        raise Fault(f"standard output: {error.strerror}", 5) from None
 
 
 def current_umask() -> int:

@@ -112,7 +112,8 @@ def facts_of(program: Program, progress: Progress, most_for_pairs: int, seconds:
     asker = Asker(program, progress)
 
     def until(part: float) -> float:
-        return began + seconds * part
+        """The end of a part of the time; where pairs aren't asked, theirs is left to the others."""
+        return began + seconds * (part if facts.asks_pairs else min(1, part / 0.85))
 
     def findings(_: str, left: float) -> list[str]:
         return program.must("audit", SCHEMA, seconds=left).text.split("\n")[:-2]

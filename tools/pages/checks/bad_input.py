@@ -3,13 +3,14 @@
 import json
 import os
 import shutil
+import subprocess
 import sys
 import tempfile
 import xml.etree.ElementTree as ET
 from pathlib import Path
 from typing import Iterator
 
-from .common import EXAMPLES, page_of, picture_faults, picture_of, pictures_of_page, tool
+from .common import EXAMPLES, TOOLS, page_of, picture_faults, picture_of, pictures_of_page, tool
 from ..program import find
 
 LOCATION = str(EXAMPLES / "location" / "schema.txt")
@@ -30,6 +31,15 @@ MEMBERS = [
     ("]]>", "-->"),
     ("$(touch ran)", "\u202eturned"),
 ]
+
+
+LIAR = """#!{python}
+import subprocess, sys
+done = subprocess.run([{program}, *sys.argv[1:]], capture_output=True)
+sys.stdout.buffer.write(done.stdout.replace(b" none\\n", b" 2\\n"))
+sys.stdout.flush()
+sys.exit(done.returncode)
+"""
 
 
 def odd_files(room: Path) -> None:
@@ -122,17 +132,25 @@ def refusals(room: Path) -> Iterator[str]:
         yield f"files are left or changed: {os.listdir(room)}"
 
 
+def full_output(room: Path) -> Iterator[str]:
+    """Standard output that takes nothing."""
+    for words in (("draw", "schema", LOCATION), ("report", str(EXAMPLES / "chain" / "schema.txt"))):
+        with open("/dev/full", "wb") as full:
+            done = subprocess.run([sys.executable, TOOLS / words[0], *words[1:]], cwd=room, stdout=full, stderr=subprocess.PIPE, check=False)
+        if done.returncode != 5 or len(done.stderr.splitlines()) != 1:
+            yield f"{words[0]} >/dev/full: status {done.returncode}, {done.stderr.decode()!r}"
+
+
 def lies(room: Path) -> Iterator[str]:
     """Where the program says other sums than the instance that it shows, nothing is drawn and no page is made."""
     liar = room / "liar"
-    liar.write_text(f"#!{sys.executable}\nimport subprocess, sys\ndone = subprocess.run([{json.dumps(str(find()))}, *sys.argv[1:]], capture_output=True)\n"
-                    "sys.stdout.buffer.write(done.stdout.replace(b' none\\n', b' 2\\n'))\nsys.stdout.flush()\nsys.exit(done.returncode)\n")
+    liar.write_text(LIAR.format(python=sys.executable, program=json.dumps(str(find()))))
     liar.chmod(0o755)
     for words in (("draw", "summarizable", LOCATION, "Country", "State"), ("report", str(EXAMPLES / "chain" / "schema.txt"))):
         yield from one_line(f"{words[0]} of a program that lies", tool(*words, folder=room, OLAP=str(liar)), 70)
 
 
 def faults() -> Iterator[str]:
-    for check in (odd_names, refusals, lies):
+    for check in (odd_names, refusals, full_output, lies):
         with tempfile.TemporaryDirectory() as folder:
             yield from (f"bad input: {wrong}" for wrong in check(Path(folder)))

@@ -22,10 +22,16 @@ PATIENCE = 170  # seconds
 
 def is_there(tool: str, package: str) -> bool:
     """Is the tool there? It is installed where it isn't and the user is root."""
-    if shutil.which(tool) is None and os.geteuid() == 0 and shutil.which("apt-get"):
-        environment = {**os.environ, "DEBIAN_FRONTEND": "noninteractive"}
-        subprocess.run(["apt-get", "install", "-y", package], env=environment, capture_output=True, check=False)
+    environment = {**os.environ, "DEBIAN_FRONTEND": "noninteractive"}
+    for words in (["install", "-y", package], ["update"], ["install", "-y", package]):
+        if shutil.which(tool) is None and os.geteuid() == 0 and shutil.which("apt-get"):
+            subprocess.run(["apt-get", *words], env=environment, capture_output=True, check=False)
     return shutil.which(tool) is not None
+
+
+def not_run(what: str) -> None:
+    """Tells in one line what wasn't run; that is no fault."""
+    print(f"check-pages: {what}", flush=True)
 
 
 def olap(*words: str, folder: Path = EXAMPLES) -> tuple[int, str]:
@@ -64,22 +70,24 @@ def named(line: str) -> dict[str, str]:
 
 @dataclass
 class Drawn:
-    """A picture: of each node what it is told as and its text, and of each edge what it is told as."""
+    """A picture: of each node what it is told as and its text, of each edge what it is told as, and which edges are thick."""
 
     name: str
     nodes: dict[str, str]
     edges: list[str]
+    ways: set[str] = field(default_factory=set)
 
 
 def picture_of(svg: ET.Element) -> Drawn:
-    nodes, edges = {}, []
+    drawn = Drawn(svg.findtext(f"{SVG}title", ""), {}, [])
     for group in svg.iter(f"{SVG}g"):
-        kind, title = group.get("class", "").split()[:1], group.findtext(f"{SVG}title", "")
-        if kind == ["node"]:
-            nodes[title] = "".join(text.text or "" for text in group.iter(f"{SVG}text"))
-        elif kind == ["edge"]:
-            edges.append(title)
-    return Drawn(svg.findtext(f"{SVG}title", ""), nodes, edges)
+        kinds, title = group.get("class", "").split(), group.findtext(f"{SVG}title", "")
+        if kinds[:1] == ["node"]:
+            drawn.nodes[title] = "".join(text.text or "" for text in group.iter(f"{SVG}text"))
+        elif kinds[:1] == ["edge"]:
+            drawn.edges.append(title)
+            drawn.ways |= {title} if "way" in kinds else set()
+    return drawn
 
 
 def picture_faults(svg: ET.Element) -> list[str]:
@@ -103,6 +111,15 @@ def differs_from_frozen(drawn: Drawn, line: str, edges: list[tuple[str, str]]) -
     return None if sorted(drawn.edges) == sorted(wanted) else f"the picture's edges are {drawn.edges}"
 
 
+def ways_to(target: str, line: str, edges: list[tuple[str, str]]) -> set[str]:
+    """The edges of a frozen line from which its edges lead on to the target."""
+    there = [edge for edge, digit in zip(edges, line.split()[1]) if digit == "1"]
+    below, before = {target}, set()
+    while below != before:
+        before, below = below, below | {child for child, parent in there if parent in below}
+    return {f"{child} to {parent}" for child, parent in there if parent in below}
+
+
 def differs_from_counterexample(drawn: Drawn, text: str, edges: list[tuple[str, str]]) -> str | None:
     """The same of a counterexample: members, edges, the fact, the target, and as many sources with the fact as the views say."""
     lines = text.splitlines()
@@ -114,8 +131,10 @@ def differs_from_counterexample(drawn: Drawn, text: str, edges: list[tuple[str, 
         return f"the target's text is {list(marked.values())}"
     if sum("source: has the fact" in text for text in drawn.nodes.values()) != (0 if views == "none" else int(views)):
         return f"the views are {views}, and the picture's sources are others"
-    if f"the fact lies at {root}" not in drawn.edges or f"a fact of value 1 at {root}" not in drawn.nodes:
+    if f"the fact lies at {root}" not in drawn.ways or f"a fact of value 1 at {root}" not in drawn.nodes:
         return "the fact isn't where the program says"
+    if drawn.ways != {f"the fact lies at {root}", *ways_to(target, lines[1], edges)}:
+        return f"the fact's ways are {drawn.ways}"
     plain = {re.sub(r", (target: |source: ).*", "", told): text for told, text in drawn.nodes.items() if "a fact of" not in told}
     texts = {told: re.sub(r"(target: |source: ).*", "", text) for told, text in plain.items()}
     rest = [edge for edge in drawn.edges if edge != f"the fact lies at {root}"]

@@ -73,7 +73,8 @@ def instance_faults(schema: str, instance: str) -> Iterator[str]:
     yield from wrong
     picture = picture_of(svg)
     rows = list(csv.DictReader((EXAMPLES / instance).read_text().splitlines()))
-    if len(picture.nodes) != len(rows) + 1 or not all(any(told.startswith(f"{r['category']} {r['id']}") for told in picture.nodes) for r in rows):
+    starts = [f"{row['category']} {row['id']}" for row in rows]
+    if len(picture.nodes) != len(rows) + 1 or not all(any(told.startswith(start) for told in picture.nodes) for start in starts):
         yield f"its members are {list(picture.nodes)}"
     if sorted(picture.edges) != sorted(f"{row['id']} to {parent}" for row in rows for parent in row["parents"].split(";")):
         yield f"its edges are {picture.edges}"

@@ -41,8 +41,9 @@ def put_and_taken(prefix: Path) -> Iterator[str]:
                 yield f"it ends with {done.returncode}: {done.stderr.strip()}"
         if files_of(prefix) - set(before) != PUT:
             yield f"it puts {sorted(files_of(prefix))}"
-        ran = subprocess.run([prefix / "bin" / "olap", "format", "location/schema.txt"], cwd=EXAMPLES, capture_output=True, text=True, check=False)
-        if (ran.returncode, ran.stdout) != olap("format", "location/schema.txt"):
+        words = ["format", "location/schema.txt"]
+        ran = subprocess.run([prefix / "bin" / "olap", *words], cwd=EXAMPLES, capture_output=True, text=True, check=False)
+        if (ran.returncode, ran.stdout) != olap(*words):
             yield "the program that is put does otherwise"
         done = tool("install", "--remove", str(prefix))
         if done.returncode != 0 or (paths_of(prefix) if prefix.exists() else None) != was:

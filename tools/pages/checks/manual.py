@@ -5,7 +5,7 @@ import shlex
 import subprocess
 from typing import Iterator
 
-from .common import EXAMPLES, TOP, is_there, olap
+from .common import EXAMPLES, TOP, is_there, not_run, olap
 
 MANUAL = TOP / "man" / "olap.1"
 LINTERS = (("groff", "groff", ["groff", "-man", "-ww", "-z"]), ("mandoc", "mandoc", ["mandoc", "-Tlint"]))
@@ -14,7 +14,7 @@ LINTERS = (("groff", "groff", ["groff", "-man", "-ww", "-z"]), ("mandoc", "mando
 def lint_faults() -> Iterator[str]:
     for name, package, words in LINTERS:
         if not is_there(name, package):
-            yield f"{name} isn't there, so the manual wasn't read by it"
+            not_run(f"{name} isn't there (Debian's package {package}), so the manual wasn't read by it")
             continue
         done = subprocess.run([*words, MANUAL], capture_output=True, text=True, check=False)
         told = (done.stdout + done.stderr).strip()
@@ -36,7 +36,7 @@ def said_faults() -> Iterator[str]:
     for command in commands:
         if plain(command) not in manual:
             yield f"no command {command}"
-    for number in re.findall(r"^\|[^|`]*\| ([0-9,]+) \|$", document, re.M):
+    for number in re.findall(r"^\|[^|]*\| ([0-9,]+) \|$", document, re.M):
         if not re.search(rf"\b{number.replace(',', '')} [a-z]", manual):
             yield f"no limit of {number}"
     kinds = {kind for each in re.findall(r"`([^`\n]*)`", document) for kind in re.findall(r"\b[A-Z][a-z]+[A-Z][A-Za-z0-9]*\b", each)}

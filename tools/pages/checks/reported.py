@@ -7,8 +7,8 @@ from concurrent.futures import ThreadPoolExecutor
 from pathlib import Path
 from typing import Iterator
 
-from .common import (EXAMPLES, Element, categories_of, differs_from_counterexample, differs_from_frozen, edges_of, olap, page_of, picture_faults,
-                     picture_of, pictures_of_page, tool)
+from .common import (EXAMPLES, Element, categories_of, differs_from_counterexample, differs_from_frozen, edges_of, olap, page_of,
+                     picture_faults, picture_of, pictures_of_page, tool)
 
 FORBIDDEN = {"script", "link", "img", "iframe", "object", "embed", "base", "form", "image", "use", "foreignobject"}
 
