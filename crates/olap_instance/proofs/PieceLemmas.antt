@@ -1,17 +1,11 @@
 -- Pieces of a field of parents, and the stamps of the members that they name.
-use Rattle.std.proofs.Common.{◌≡◌, ◌+◌, ◌<◌, ◌++◌, ◌∷◌, ◌∙◌, ◌||◌, ◌==◌, inl, inr, Bool, true, false, Bor, ℕ, List, [], length, map, take, drop, get_or, Some, None, refl, sym, ap, arith, add-one, take_all, drop_of_length-le, ◌≤◌}
+use Rattle.std.proofs.Common.{◌≡◌, ◌++◌, ◌∷◌, ◌∙◌, ◌||◌, ◌==◌, inl, inr, Bool, true, false, ℕ, List, [], map, get_or, Some, refl, sym, ap}
 use Rattle.std.specs.List.{list_any}
-use Rattle.std.specs.Option.{option_map}
 use Rattle.std.specs.Str.{bytes_eq}
-use Rattle.std.proofs.Math.Seq.{drop-cons}
 use Rattle.std.proofs.lemmas.Bool.Decides.{eqb_tells}
-use Rattle.std.proofs.lemmas.List.{get_or-map, length-map, map-append, take_more}
 use Rattle.std.proofs.lemmas.Slice.Eq.{bytes_eq-Decides}
 use Rattle.olap_base.specs.Naming.{place_of}
-use Rattle.olap_records.proofs.Seeing.{HasSeen, see-all, see-fault, see-more, see-none}
-use Rattle.olap_instance.specs.InstanceText.{parent_read, piece_fault, pieces_fault}
-use Rattle.olap_instance.specs.Passes.{AreParents}
-use Rattle.olap_instance.specs.declared.refusals.InstanceKind.{InstanceKind}
+use Rattle.olap_instance.specs.InstanceText.{parent_read}
 use Rattle.olap_instance.proofs.PlaceFacts.{id-at-place}
 
 both : (a b : Bool) → (a ≡ true → b ≡ true) → (b ≡ true → a ≡ true) → a ≡ b
@@ -80,59 +74,3 @@ places-read ids (p ∷ ps) (n ∷ found) h =
     let one : place_of p ids ≡ Some n = cc in
     let rest : map (λ q. place_of q ids) ps ≡ map Some found = cc in
     rw one (ap (λ (t : List ℕ). n ∷ t) (places-read ids ps found rest))
-
-abbrev texts : List (Bor (List ℕ)) → List (List ℕ)
-texts ps = map (λ p. p.now) ps
-
-pub text-at : (ps : List (Bor (List ℕ))) (i : ℕ) (d : Bor (List ℕ)) → i < length ps
-    → (get_or ps i d).now ≡ get_or (texts ps) i []
-text-at ps i d l = sym (get_or-map (λ p. p.now) ps i d [] l)
-
-pub within : (ps : List (Bor (List ℕ))) (i : ℕ) → i < length ps → i < length (texts ps)
-within ps i l = let e = length-map ps (λ p. p.now) in omega arith
-
--- what the pieces before the i-th have given
-pub record HasFound (ids ps : List (List ℕ)) (i : ℕ) (found : List ℕ) : Type 0 where
-  pub seen : HasSeen (piece_fault ids) ps (take i ps) (drop i ps)
-  pub places : map (λ p. place_of p ids) (take i ps) ≡ map Some found
-
-pub found-none : (ids ps : List (List ℕ)) → HasFound ids ps 0 []
-found-none ids ps = record { seen = see-none (piece_fault ids) ps; places = refl }
-
-left-at : (ps : List (List ℕ)) (i : ℕ) → i < length ps → drop i ps ≡ get_or ps i [] ∷ drop (i + 1) ps
-left-at ps i l = drop-cons ps i [] l ∙ ap (λ (k : ℕ). get_or ps i [] ∷ drop k ps) (sym (add-one i))
-
--- a piece with no fault is passed
-pub found-more : (ids ps : List (List ℕ)) (i : ℕ) (found now : List ℕ) (m : ℕ) → i < length ps → HasFound ids ps i found
-    → piece_fault ids (take i ps) (get_or ps i []) ≡ None → place_of (get_or ps i []) ids ≡ Some m
-    → now ≡ found ++ m ∷ []
-    → HasFound ids ps (i + 1) now
-found-more ids ps i found now m l h ef ep en =
-    let x = get_or ps i [] in
-    let more : take (i + 1) ps ≡ take i ps ++ x ∷ [] = take_more ps i [] l in
-    let seen = see-more (piece_fault ids) ps (take i ps) (drop i ps) (drop (i + 1) ps) x h.seen (left-at ps i l) ef in
-    record {
-      seen = rw more seen;
-      places =
-          ap (map (λ p. place_of p ids)) more ∙ map-append (λ p. place_of p ids) (take i ps) (x ∷ [])
-          ∙ rw (h.places, ep, en) (sym (map-append Some found (m ∷ [])));
-    }
-
--- the first fault is that of a piece that has one
-pub found-fault : (ids ps : List (List ℕ)) (i : ℕ) (found : List ℕ) (k : InstanceKind) → i < length ps
-    → HasFound ids ps i found
-    → piece_fault ids (take i ps) (get_or ps i []) ≡ Some k → pieces_fault ids ps ≡ Some k
-found-fault ids ps i found k l h ef =
-    ap (option_map (λ (p : ℕ × InstanceKind). p.1))
-    (see-fault (piece_fault ids) ps (take i ps) (drop i ps) (drop (i + 1) ps) (get_or ps i []) k h.seen
-    (left-at ps i l) ef)
-
--- when all pieces have passed, they are parents
-pub found-all : (ids ps : List (List ℕ)) (i : ℕ) (found : List ℕ) → length ps ≤ i → HasFound ids ps i found
-    → AreParents ids ps found
-found-all ids ps i found l h =
-    let t : take i ps ≡ ps = take_all i ps l in
-    let d : drop i ps ≡ [] = drop_of_length-le ps l in (
-      ap (option_map (λ (p : ℕ × InstanceKind). p.1)) (see-all (piece_fault ids) ps (take i ps) (drop i ps) h.seen d).1,
-      places-read ids ps found (rw t at h.places),
-    )

@@ -1,7 +1,8 @@
 -- What the two passes over the records of a text find.
-use Rattle.std.specs.Prelude.{◌≡◌, ◌<◌, ◌==◌, ℕ, List, [], length, map, None, Vec, slice_index}
+use Rattle.std.specs.Prelude.{◌≡◌, ◌<◌, ◌==◌, ℕ, List, [], length, map, Option, Some, None, Vec, slice_index}
+use Rattle.std.specs.Borrow.{Bor}
 use Rattle.std.specs.Global.{Global}
-use Rattle.std.specs.List.{list_any}
+use Rattle.std.specs.List.{list_any, slice_split}
 use Rattle.olap_base.specs.Graph.{Graph}
 use Rattle.olap_base.specs.Instance.{Instance}
 use Rattle.olap_base.specs.declared.ids.MemberId.{MemberId}
@@ -19,6 +20,11 @@ PassesFirst g rows ms = (first_fault (member_fault g) [] rows ≡ None) × (ms �
 -- no piece has a fault, and these are the members that the pieces name
 abbrev pub AreParents : List (List ℕ) → List (List ℕ) → List ℕ → Type 0
 AreParents ids pieces places = (pieces_fault ids pieces ≡ None) × (places ≡ map (parent_read ids) pieces)
+
+-- the pieces of what is left of a field; where nothing is left, not even an empty piece
+abbrev pub pieces_left : Option (Bor (List ℕ)) → List (List ℕ)
+pieces_left None = []
+pieces_left (Some text) = slice_split (λ b. b == 59) text.now
 
 -- the mark stands at exactly the members found
 abbrev pub AreStamped : List ℕ → ℕ → List ℕ → Type 0

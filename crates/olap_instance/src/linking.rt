@@ -7,7 +7,7 @@ ghost use Rattle.olap_instance.specs.Passes.{AreBelow, AreParents, AreStamped, P
 ghost use Rattle.olap_instance.specs.Refusals.{IsFaultCause, IsRecordCause};
 
 use crate::rosters::Roster;
-use crate::texts::pieces;
+use crate::texts::{all_pieces, first_piece};
 use crate::{InstanceKind, InstanceRefusal};
 use olap_base::MemberId;
 use olap_records::Rows;
@@ -33,42 +33,7 @@ fn named(roster: &Roster, stamps: &[usize], mark: usize, piece: &[u8]) -> Result
     Ok(place)
 }
 
-// The members that the pieces of a field name, as parents of the child.
-fn link_pieces(
-    alloc: Global,
-    roster: &Roster,
-    stamps: &mut [usize],
-    child: usize,
-    all: &[&[u8]],
-) -> Result<Vec<MemberId>, InstanceRefusal>
-    requires as_many { length stamps.old ≡ length roster.now }
-    requires below { AreBelow stamps.old (child + 1) }
-    requires few { child < 2 ^ 63 }
-    ensures parents { MatchResult result
-        (λ v. AreParents (ids_in roster.now) (map (λ p. p.now) all.now) (numbers_of v.items))
-        (λ e. IsRecordCause (pieces_fault (ids_in roster.now) (map (λ p. p.now) all.now)) child e) }
-    ensures as_many { length stamps.new ≡ length roster.now }
-    ensures below { OnOk result (AreBelow stamps.new (child + 2)) }
-{
-    let mut found = Vec::new(alloc);
-    'pieces: for i in 0..all.len() {
-        match named(roster, stamps, child + 1, all[i]) {
-            Ok(place) => {
-                stamps[place as usize] = child + 1;
-                found.push(MemberId(place))?;
-            }
-            Err(kind) => {
-                return Err(InstanceRefusal::Fault {
-                    at: child as u64 + 2,
-                    kind,
-                });
-            }
-        }
-    }
-    Ok(found)
-}
-
-// The members that a field names, as parents of the child.
+// The members that a field names, as parents of the child. It is cut piece by piece, to its first fault.
 fn link(
     alloc: Global,
     roster: &Roster,
@@ -85,8 +50,25 @@ fn link(
     ensures as_many { length stamps.new ≡ length roster.now }
     ensures below { OnOk result (AreBelow stamps.new (child + 2)) }
 {
-    let all = pieces(alloc, field)?;
-    link_pieces(alloc, roster, stamps, child, &all)
+    let mut found = Vec::new(alloc);
+    let mut left = all_pieces(field);
+    'pieces: while let Some(text) = left {
+        let (piece, others) = first_piece(text);
+        match named(roster, stamps, child + 1, piece) {
+            Ok(place) => {
+                stamps[place as usize] = child + 1;
+                found.push(MemberId(place))?;
+            }
+            Err(kind) => {
+                return Err(InstanceRefusal::Fault {
+                    at: child as u64 + 2,
+                    kind,
+                });
+            }
+        }
+        left = others;
+    }
+    Ok(found)
 }
 
 // The field of parents of the record that was read last. What isn't there is empty.

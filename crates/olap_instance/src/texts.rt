@@ -1,11 +1,11 @@
 // Which texts an id and a name may be, and the pieces of a field of parents.
-ghost use Rattle.std.specs.Prelude.{◌≡◌, ◌==◌, IfOk, length, map};
-ghost use Rattle.std.specs.List.{list_any, slice_split};
+ghost use Rattle.std.specs.Prelude.{◌≡◌, ◌==◌, ◌<◌, ◌∷◌, IfSome, length};
+ghost use Rattle.std.specs.List.{list_any, position, slice_split};
 ghost use Rattle.std.specs.Str.{is_utf8};
 ghost use Rattle.olap_instance.specs.InstanceText.{is_bad_id, is_too_long, pieces_of};
+ghost use Rattle.olap_instance.specs.Passes.{pieces_left};
 
 use olap_base::MOST_TEXT_BYTES;
-use std::alloc::{AllocError, Global};
 
 /// Whether the bytes are UTF-8.
 pub(crate) fn is_text(bytes: &[u8]) -> bool
@@ -34,19 +34,27 @@ pub(crate) fn is_long(text: &[u8]) -> bool
     text.len() > MOST_TEXT_BYTES
 }
 
-// The parts of a field between its semicolons, of which there is one at least.
-fn parts(alloc: Global, field: &[u8]) -> Result<Vec<&[u8]>, AllocError>
-    ensures { IfOk result (λ v. map (λ p. p.now) v.items ≡ slice_split (λ b. b == 59) field.now) }
+// The place of the first semicolon.
+fn semicolon(text: &[u8]) -> Option<usize>
+    ensures { result ≡ position (λ b. b == 59) text.now }
 {
-    field.split(|b| *b == b';').collect(alloc)
+    text.iter().position(|b| *b == b';')
 }
 
-/// The pieces of a field between its semicolons; an empty field has none.
-pub(crate) fn pieces(alloc: Global, field: &[u8]) -> Result<Vec<&[u8]>, AllocError>
-    ensures { IfOk result (λ v. map (λ p. p.now) v.items ≡ pieces_of field.now) }
+/// The first piece of a text that is cut at its semicolons, and what stands behind its semicolon, if it has one.
+pub(crate) fn first_piece(text: &[u8]) -> (&[u8], Option<&[u8]>)
+    ensures pieces { slice_split (λ b. b == 59) text.now ≡ result.0.now ∷ pieces_left result.1 }
+    ensures less { IfSome result.1 (λ others. length others.now < length text.now) }
 {
-    if field.is_empty() {
-        return Ok(Vec::new(alloc));
+    match semicolon(text) {
+        Some(end) => (&text[..end], Some(&text[end + 1..])),
+        None => (text, None),
     }
-    parts(alloc, field)
+}
+
+/// The field, if it has pieces: an empty one has none.
+pub(crate) fn all_pieces(field: &[u8]) -> Option<&[u8]>
+    ensures { pieces_left result ≡ pieces_of field.now }
+{
+    if field.is_empty() { None } else { Some(field) }
 }

@@ -1,0 +1,15 @@
+-- A piece ends at the first semicolon, or with the text.
+use Rattle.std.proofs.Common.{◌==◌, ◌+◌, ◌∙◌, sym}
+use Rattle.olap_base.proofs.Writing.{rest_is}
+use Rattle.olap_instance.proofs.PiecesLeft.{split-none, split-some}
+use Rattle.olap_instance.proofs.texts.first_piece.Goals as goal
+
+pub returns-in-Some-clause-pieces : goal.returns-in-Some-clause-pieces
+returns-in-Some-clause-pieces c =
+    let text = c.args.text.now in
+    let end = c.in-Some.end in
+    let cut = (split-some (λ b. b == 59) text end (sym c.semicolon.ensures ∙ c.in-Some.is)).0 in
+    rw (rest_is (end + 1) text) cut
+
+pub returns-in-None-clause-pieces : goal.returns-in-None-clause-pieces
+returns-in-None-clause-pieces c = split-none (λ b. b == 59) c.args.text.now (sym c.semicolon.ensures ∙ c.in-None.is)
