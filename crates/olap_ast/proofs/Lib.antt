@@ -16,3 +16,4 @@ mod CandidatesExist
 mod Uniqueness
 mod QuestionLemmas
 mod ListingLemmas
+pub mod ThreeValueLemmas

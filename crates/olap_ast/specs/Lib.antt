@@ -11,6 +11,7 @@ pub mod Summarizable
 pub mod Findings
 pub mod Questions
 pub mod Example
+pub mod ThreeValues
 -- The inside: what the program's formulas stand for.
 pub mod Trees
 pub mod Listing

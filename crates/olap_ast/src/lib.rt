@@ -12,6 +12,7 @@ mod laws;
 mod measuring;
 #[cfg(test)]
 mod tests;
+mod three_values;
 
 pub use collecting::{constants, gather};
 pub use copying::copy;
@@ -24,3 +25,4 @@ pub use laws::{
     unsatisfiable_exactly_if_none_frozen, unused_exactly_if_none_frozen,
 };
 pub use measuring::{depth, nodes};
+pub use three_values::{OneCount, Truth3, values_agree};
