@@ -1,2 +1,3 @@
 -- Lemmas.
 pub mod ShapeLemmas
+pub mod PartialLemmas
