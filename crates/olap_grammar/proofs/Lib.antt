@@ -6,7 +6,9 @@ mod Hom
 pub mod CutComplete
 pub mod CutSound
 mod CutterLemmas
+mod KeepingLemmas
 mod StackLemmas
 pub mod ReaderLemmas
 pub mod WordLemmas
+pub mod PartLemmas
 pub mod LeafLemmas

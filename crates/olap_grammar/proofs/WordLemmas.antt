@@ -1,7 +1,7 @@
 -- The pieces of a word.
-use Rattle.std.proofs.Common.{◌≡◌, ◌==◌, ◌<◌, ℕ, true, false, List, length, arith, ap, ◌∙◌, refl}
+use Rattle.std.proofs.Common.{◌≡◌, ◌==◌, ◌<◌, ◌+◌, ℕ, true, false, List, length, arith, ap, ◌∙◌, refl}
 use Rattle.std.proofs.lemmas.List.Splits.{length-slice_split}
-use Rattle.std.specs.Prelude.{Bool, IsTrue, ◌↔◌}
+use Rattle.std.specs.Prelude.{Bool, IsTrue, ◌↔◌, count_by}
 use Rattle.olap_grammar.specs.Words.{pieces_of}
 
 -- there is at least one
@@ -15,3 +15,8 @@ same_answer true true p q = refl
 same_answer false false p q = refl
 same_answer true false p q = absurd (let e : false ≡ true = q.1 (p.0 refl) in cc)
 same_answer false true p q = absurd (let e : false ≡ true = p.1 (q.0 refl) in cc)
+
+-- there is one piece more than marks
+pub pieces_count : (mark : ℕ) (w : List ℕ) → length (pieces_of mark w) ≡ count_by (λ b. b == mark) w + 1
+unfolding pieces_of
+pieces_count mark w = length-slice_split (λ b. b == mark) w

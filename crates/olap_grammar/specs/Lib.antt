@@ -10,6 +10,8 @@ pub mod Quoting
 pub mod Known
 -- The inside: the readers' states, which `Laws` says find what is cut and formed.
 pub mod CuttingMachine
+pub mod Nodes
+pub mod Keeping
 pub mod Cutter
 pub mod Machine
 pub mod Clip

@@ -1,10 +1,12 @@
 -- What a word is in a formula, where the names of a graph are known.
 --     id_of          the category of a name, or a number that no category has
 --     pieces_of      the parts of a word between marks
+--     pieces_behind  the parts behind the first mark
 --     plain_of       a word by itself
 --     equality_of    a word with a string
 --     atoms_of       both
 use Rattle.std.specs.Prelude.{◌==◌, ℕ, not, List, [], Option, Some, None, codes, length, map, drop, if◌then◌else◌, nat_lt, unwrap_or, slice_index_or}
+use Rattle.std.specs.Borrow.{Bor}
 use Rattle.std.specs.List.{list_all, slice_split}
 use Rattle.std.specs.Str.{bytes_eq}
 use Rattle.olap_base.specs.Reaching.{is_category_name}
@@ -21,6 +23,11 @@ id_of g name = unwrap_or (category_named g name) 65535
 -- the parts of a word between marks
 unfoldable pub pieces_of : ℕ → List ℕ → List (List ℕ)
 pieces_of mark w = slice_split (λ b. b == mark) w
+
+-- the parts of what stands behind a mark; where there is no mark, not even an empty part
+abbrev pub pieces_behind : ℕ → Option (Bor (List ℕ)) → List (List ℕ)
+pieces_behind mark None = []
+pieces_behind mark (Some text) = pieces_of mark text.now
 
 -- parts that were joined by `_`
 abbrev pub path_of : Graph → List (List ℕ) → Option Formula

@@ -1,14 +1,32 @@
 // Cutting a line into tokens.
-ghost use Rattle.std.specs.Prelude.{◌≡◌, ◌++◌, [], ◌∷◌, OnOk, List, MatchResult, Some};
-ghost use Rattle.olap_grammar.specs.CuttingMachine as machine;
+ghost use Rattle.std.specs.Prelude.{◌≡◌, [], ◌∷◌, ℕ, List, IfOk, OnOk, MatchResult, Option, Some};
+ghost use Rattle.olap_grammar.specs.CuttingMachine.{tokens_of};
+ghost use Rattle.olap_grammar.specs.Keeping as keeping;
+ghost use Rattle.olap_grammar.specs.Keeping.{BeginsFound, Kept, counted, keep, kept_tokens, nothing_kept};
 ghost use Rattle.olap_grammar.specs.Cutting.{is_word_byte as is_word_byte_of};
-ghost use Rattle.olap_grammar.specs.Cutter.{CutEnds, CutsTo, FailsWith, cut_of};
+ghost use Rattle.olap_grammar.specs.Cutter.{CutEnds, CutsTo, FailsWith, cut_of, kept_of};
 ghost use Rattle.olap_grammar.specs.declared.tokens.Token.{Token as Tokens};
 ghost use Rattle.olap_grammar.specs.declared.tokens.Token.TheVariants as token;
 
 use crate::{CutRefusal, Joint, Token};
-use olap_base::{Memory, Text};
+use olap_base::{MOST_NODES, Memory, Text};
 use std::alloc::Global;
+
+/// Nodes are counted up to here: more than a formula may have, and the three tokens before it.
+pub const COUNTED_NODES: usize = MOST_NODES + 4;
+
+/// The tokens of a line from the first on, as many as may be kept.
+#[derive(Debug, Drop)]
+pub struct FirstTokens {
+    /// The tokens that are kept.
+    pub first: Vec<Token>,
+    /// Whether the line has more of them.
+    pub more: bool,
+    /// The nodes among all tokens of the line, or as many of them as were counted.
+    pub nodes: usize,
+    /// How many tokens are kept at most.
+    pub most: usize,
+}
 
 /// What was begun.
 #[derive(Drop)]
@@ -29,31 +47,47 @@ fn is_word_byte(byte: u8) -> bool
     byte.is_ascii_alphanumeric() || byte == b'_' || byte == b'.'
 }
 
-/// The token behind the others.
-fn add(tokens: &mut Vec<Token>, token: Token) -> Result<(), Memory>
-    ensures { OnOk result (tokens.new.items ≡ tokens.old.items ++ token ∷ []) }
+/// The nodes that were counted, and this token if it is one.
+fn count(nodes: usize, token: &Token) -> usize
+    ensures { result ≡ counted nodes token.now }
 {
-    tokens.push(token)?;
+    if token.is_node() && nodes < COUNTED_NODES {
+        nodes + 1
+    } else {
+        nodes
+    }
+}
+
+/// The token behind the others.
+fn add(tokens: &mut FirstTokens, token: Token) -> Result<(), Memory>
+    ensures { OnOk result (kept_of tokens.new ≡ keep (kept_of tokens.old) token) }
+{
+    tokens.nodes = count(tokens.nodes, &token);
+    if tokens.first.len() < tokens.most {
+        tokens.first.push(token)?;
+        return Ok(());
+    }
+    tokens.more = true;
     Ok(())
 }
 
 /// The word behind the others.
-fn add_word(alloc: Global, tokens: &mut Vec<Token>, word: &[u8]) -> Result<(), Memory>
-    ensures { OnOk result (tokens.new.items ≡ tokens.old.items ++ token.Word word.now ∷ []) }
+fn add_word(tokens: &mut FirstTokens, word: Vec<u8>) -> Result<(), Memory>
+    ensures { OnOk result (kept_of tokens.new ≡ keep (kept_of tokens.old) (token.Word word.items)) }
 {
-    add(tokens, Token::Word(Text::from_bytes(alloc, word)?))
+    add(tokens, Token::Word(Text::from_vec(word)))
 }
 
 /// The string behind the others.
-fn add_quoted(alloc: Global, tokens: &mut Vec<Token>, text: &[u8]) -> Result<(), Memory>
-    ensures { OnOk result (tokens.new.items ≡ tokens.old.items ++ token.Quoted text.now ∷ []) }
+fn add_quoted(tokens: &mut FirstTokens, text: Vec<u8>) -> Result<(), Memory>
+    ensures { OnOk result (kept_of tokens.new ≡ keep (kept_of tokens.old) (token.Quoted text.items)) }
 {
-    add(tokens, Token::Quoted(Text::from_bytes(alloc, text)?))
+    add(tokens, Token::Quoted(Text::from_vec(text)))
 }
 
 /// A byte where nothing was begun.
-fn between(alloc: Global, tokens: &mut Vec<Token>, byte: u8) -> Result<Begun, CutRefusal>
-    ensures { CutsTo result tokens.new.items (machine.between tokens.old.items byte) }
+fn between(alloc: Global, tokens: &mut FirstTokens, byte: u8) -> Result<Begun, CutRefusal>
+    ensures { CutsTo result (kept_of tokens.new) (keeping.between (kept_of tokens.old) byte) }
 {
     if is_word_byte(byte) {
         let mut word = Vec::new(alloc);
@@ -117,33 +151,33 @@ fn between(alloc: Global, tokens: &mut Vec<Token>, byte: u8) -> Result<Begun, Cu
 /// A byte behind those of a word.
 fn in_word(
     alloc: Global,
-    tokens: &mut Vec<Token>,
+    tokens: &mut FirstTokens,
     word: Vec<u8>,
     byte: u8,
 ) -> Result<Begun, CutRefusal>
-    ensures { CutsTo result tokens.new.items (machine.cut_step (machine.InWord tokens.old.items word.items) byte) }
+    ensures { CutsTo result (kept_of tokens.new) (keeping.kept_step (keeping.InWord (kept_of tokens.old) word.items) byte) }
 {
     let mut word = word;
     if is_word_byte(byte) {
         word.push(byte)?;
         return Ok(Begun::Word(word));
     }
-    add_word(alloc, tokens, &word)?;
+    add_word(tokens, word)?;
     between(alloc, tokens, byte)
 }
 
 /// A byte in a string.
 fn in_quotes(
     alloc: Global,
-    tokens: &mut Vec<Token>,
+    tokens: &mut FirstTokens,
     text: Vec<u8>,
     byte: u8,
 ) -> Result<Begun, CutRefusal>
-    ensures { CutsTo result tokens.new.items (machine.cut_step (machine.InQuotes tokens.old.items text.items) byte) }
+    ensures { CutsTo result (kept_of tokens.new) (keeping.kept_step (keeping.InQuotes (kept_of tokens.old) text.items) byte) }
 {
     let mut text = text;
     if byte == 34 {
-        add_quoted(alloc, tokens, &text)?;
+        add_quoted(tokens, text)?;
         return Ok(Begun::Nothing);
     }
     if byte == 92 {
@@ -155,7 +189,7 @@ fn in_quotes(
 
 /// A byte behind a backslash in a string: a quotation mark or another backslash, and nothing else.
 fn escaped(text: Vec<u8>, byte: u8) -> Result<Begun, CutRefusal>
-    ensures { (tokens : List Tokens) → CutsTo result tokens (machine.cut_step (machine.Escaped tokens text.items) byte) }
+    ensures { (k : Kept) → CutsTo result k (keeping.kept_step (keeping.Escaped k text.items) byte) }
 {
     let mut text = text;
     if byte == 34 {
@@ -170,8 +204,13 @@ fn escaped(text: Vec<u8>, byte: u8) -> Result<Begun, CutRefusal>
 }
 
 /// A byte of the line.
-fn step(alloc: Global, tokens: &mut Vec<Token>, begun: Begun, byte: u8) -> Result<Begun, CutRefusal>
-    ensures { CutsTo result tokens.new.items (machine.cut_step (cut_of begun tokens.old.items) byte) }
+fn step(
+    alloc: Global,
+    tokens: &mut FirstTokens,
+    begun: Begun,
+    byte: u8,
+) -> Result<Begun, CutRefusal>
+    ensures { CutsTo result (kept_of tokens.new) (keeping.kept_step (cut_of begun (kept_of tokens.old)) byte) }
 {
     match begun {
         Begun::Nothing => between(alloc, tokens, byte),
@@ -202,13 +241,13 @@ fn step(alloc: Global, tokens: &mut Vec<Token>, begun: Begun, byte: u8) -> Resul
 }
 
 /// The end of the line.
-fn end(alloc: Global, tokens: &mut Vec<Token>, begun: Begun) -> Result<(), CutRefusal>
-    ensures { CutEnds result tokens.new.items (machine.cut_ended (cut_of begun tokens.old.items)) }
+fn end(tokens: &mut FirstTokens, begun: Begun) -> Result<(), CutRefusal>
+    ensures { CutEnds result (kept_of tokens.new) (keeping.kept_ended (cut_of begun (kept_of tokens.old))) }
 {
     match begun {
         Begun::Nothing => Ok(()),
         Begun::Word(word) => {
-            add_word(alloc, tokens, &word)?;
+            add_word(tokens, word)?;
             Ok(())
         }
         Begun::Quotes(_) => Err(CutRefusal::BadForm),
@@ -219,10 +258,10 @@ fn end(alloc: Global, tokens: &mut Vec<Token>, begun: Begun) -> Result<(), CutRe
     }
 }
 
-/// The tokens of the line, in an empty list.
-#[tactic(auto, unfolding(crate::specs::CuttingMachine::tokens_of))]
-fn cut(alloc: Global, tokens: &mut Vec<Token>, line: &[u8]) -> Result<(), CutRefusal>
-    ensures { tokens.old.items ≡ [] → CutEnds result tokens.new.items (machine.tokens_of line.now) }
+/// The first tokens of the line, where nothing is kept before.
+#[tactic(auto, unfolding(crate::specs::Keeping::kept_tokens))]
+fn cut(alloc: Global, tokens: &mut FirstTokens, line: &[u8]) -> Result<(), CutRefusal>
+    ensures { (most : ℕ) → kept_of tokens.old ≡ nothing_kept most → CutEnds result (kept_of tokens.new) (kept_tokens most line.now) }
 {
     let mut begun = Begun::Nothing;
     let mut left = line;
@@ -233,18 +272,46 @@ fn cut(alloc: Global, tokens: &mut Vec<Token>, line: &[u8]) -> Result<(), CutRef
         }
         left = others;
     }
-    end(alloc, tokens, begun)
+    end(tokens, begun)
+}
+
+/// The tokens that the line is cut into, with spaces and tabs between them, of which as many are kept as `most`.
+///
+/// `BadForm` exactly where it can't be cut, and `Memory` where there is no room. One pass.
+pub fn first_tokens(alloc: Global, line: &[u8], most: usize) -> Result<FirstTokens, CutRefusal>
+    ensures found { MatchResult result (λ t. BeginsFound (kept_of t) (tokens_of line.now)) (λ e. FailsWith e (tokens_of line.now)) }
+    ensures most { IfOk result (λ t. t.most ≡ most) }
+{
+    let mut found = FirstTokens {
+        first: Vec::new(alloc),
+        more: false,
+        nodes: 0,
+        most,
+    };
+    match cut(alloc, &mut found, line) {
+        Ok(()) => Ok(found),
+        Err(e) => Err(e),
+    }
 }
 
 /// The tokens that the line is cut into, with spaces and tabs between them.
 ///
 /// `BadForm` exactly where it can't be cut, and `Memory` where there is no room. One pass.
 pub fn line_tokens(alloc: Global, line: &[u8]) -> Result<Vec<Token>, CutRefusal>
-    ensures { MatchResult result (λ v. machine.tokens_of line.now ≡ Some v.items) (λ e. FailsWith e (machine.tokens_of line.now)) }
+    ensures { MatchResult result (λ v. tokens_of line.now ≡ Some v.items) (λ e. FailsWith e (tokens_of line.now)) }
 {
-    let mut found = Vec::new(alloc);
-    match cut(alloc, &mut found, line) {
-        Ok(()) => Ok(found),
+    match first_tokens(alloc, line, usize::MAX) {
+        Ok(found) => all_of(found),
         Err(e) => Err(e),
     }
+}
+
+/// The tokens, where none is left out.
+fn all_of(found: FirstTokens) -> Result<Vec<Token>, CutRefusal>
+    ensures { (ts : Option (List Tokens)) → BeginsFound (kept_of found) ts → MatchResult result (λ v. ts ≡ Some v.items) (λ e. FailsWith e ts) }
+{
+    if found.more {
+        return Err(CutRefusal::Memory);
+    }
+    Ok(found.first)
 }

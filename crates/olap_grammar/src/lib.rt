@@ -17,7 +17,7 @@ mod stacking;
 mod tokens;
 mod words;
 
-pub use cutting::line_tokens;
+pub use cutting::{COUNTED_NODES, FirstTokens, first_tokens, line_tokens};
 pub use knowing::Known;
 pub use laws::{
     a_line_is_cut_in_one_way, formulas_are_found_as_formed, tokens_are_found_as_cut,
@@ -27,4 +27,4 @@ pub use quoting::push_quoted;
 pub use reading::formula;
 pub use refusals::{CutRefusal, FormRefusal};
 pub use tokens::{Joint, Token};
-pub use words::pieces;
+pub use words::{first_piece, marks, pieces};

@@ -2,10 +2,10 @@
 ghost use Rattle.olap_ast.specs.Trees.{formula_of};
 ghost use Rattle.olap_base.specs.Reaching.{is_category_name as is_name_of};
 ghost use Rattle.olap_grammar.specs.Known.{graph_seen};
-ghost use Rattle.olap_grammar.specs.Words.{equal_of, equality_of, id_of, path_of, pieces_of, plain_of, reach_of};
-ghost use Rattle.std.specs.List.{list_all};
+ghost use Rattle.olap_grammar.specs.Words.{equal_of, equality_of, id_of, path_of, pieces_behind, pieces_of, plain_of, reach_of};
+ghost use Rattle.std.specs.List.{list_all, position};
 ghost use Rattle.std.specs.Option.{option_map};
-ghost use Rattle.std.specs.Prelude.{◌≡◌, ◌<◌, IfOk, length, map, vec_len};
+ghost use Rattle.std.specs.Prelude.{◌≡◌, ◌==◌, ◌<◌, ◌+◌, ◌∷◌, IfOk, IfSome, None, Some, if◌then◌else◌, length, map, vec_len};
 ghost use Rattle.std.specs.Str.{bytes_eq};
 
 use crate::Known;
@@ -68,31 +68,68 @@ pub fn pieces(alloc: Global, mark: u8, word: &[u8]) -> Result<Vec<Text>, Memory>
     Ok(texts)
 }
 
+/// How many marks stand in a word: one less than it has parts.
+#[tactic(auto, using(crate::proofs::WordLemmas::pieces_count))]
+pub fn marks(mark: u8, word: &[u8]) -> usize
+    ensures { length (pieces_of mark word.now) ≡ result + 1 }
+{
+    word.iter().filter(|b| **b == mark).count()
+}
+
+/// The place of the first mark.
+fn place(mark: u8, text: &[u8]) -> Option<usize>
+    ensures { result ≡ position (λ b. b == mark) text.now }
+{
+    text.iter().position(|b| *b == mark)
+}
+
+/// The first part of a word between marks, and what stands behind its mark, if it has one.
+#[tactic(auto, unfolding(crate::specs::Words::pieces_of))]
+pub fn first_piece(mark: u8, text: &[u8]) -> (&[u8], Option<&[u8]>)
+    ensures pieces { pieces_of mark text.now ≡ result.0.now ∷ pieces_behind mark result.1 }
+    ensures less { IfSome result.1 (λ others. length others.now < length text.now) }
+{
+    match place(mark, text) {
+        Some(end) => (&text[..end], Some(&text[end + 1..])),
+        None => (text, None),
+    }
+}
+
 fn are_names(parts: &[Text]) -> bool
     ensures { result ≡ list_all is_name_of parts.now }
 {
     parts.iter().all(|p| is_name(p.bytes()))
 }
 
-fn ids(alloc: Global, known: &Known, parts: &[Text]) -> Result<Vec<CatId>, Memory>
-    ensures { IfOk result (λ v. map (λ c. c.0) v.items ≡ map (id_of (graph_seen known.now)) parts.now) }
+/// The categories of the names that are left of a word, if each part is a name.
+fn steps(alloc: Global, known: &Known, text: Option<&[u8]>) -> Result<Option<Vec<CatId>>, Memory>
+    ensures { let parts = pieces_behind 95 text.entry in
+        IfOk result (λ v. option_map (λ u. map (λ c. c.0) u.items) v ≡ (if list_all is_name_of parts then Some (map (id_of (graph_seen known.now)) parts) else None)) }
 {
     let mut found = Vec::new(alloc);
-    for part in parts {
-        found.push(id(known, part.bytes()))?;
+    let mut left = text;
+    'parts: while let Some(text) = left {
+        let (part, others) = first_piece(b'_', text);
+        if !is_name(part) {
+            return Ok(None);
+        }
+        found.push(id(known, part))?;
+        left = others;
     }
-    Ok(found)
+    Ok(Some(found))
 }
 
-fn path(alloc: Global, known: &Known, parts: &[Text]) -> Result<Option<Formula>, Memory>
-    requires { 0 < length parts.now }
-    ensures { IfOk result (λ f. option_map formula_of f ≡ path_of (graph_seen known.now) parts.now) }
+fn path(alloc: Global, known: &Known, word: &[u8]) -> Result<Option<Formula>, Memory>
+    ensures { IfOk result (λ f. option_map formula_of f ≡ path_of (graph_seen known.now) (pieces_of 95 word.now)) }
 {
-    if !are_names(parts) {
+    let (first, others) = first_piece(b'_', word);
+    if !is_name(first) {
         return Ok(None);
     }
-    let steps = ids(alloc, known, &parts[1..])?;
-    Ok(Some(Formula::Path(List::from_vec(steps))))
+    match steps(alloc, known, others)? {
+        Some(found) => Ok(Some(Formula::Path(List::from_vec(found)))),
+        None => Ok(None),
+    }
 }
 
 fn reach(known: &Known, parts: &[Text]) -> Option<Formula>
@@ -146,9 +183,11 @@ pub(crate) fn plain_word(
     if is(word.bytes(), b"false") {
         return Ok(Some(Formula::False));
     }
-    let steps = pieces(alloc, b'_', word.bytes())?;
-    if steps.len() > 1 {
-        return path(alloc, known, &steps);
+    if marks(b'_', word.bytes()) > 0 {
+        return path(alloc, known, word.bytes());
+    }
+    if marks(b'.', word.bytes()) > 2 {
+        return Ok(None);
     }
     let parts = pieces(alloc, b'.', word.bytes())?;
     Ok(reach(known, &parts))
@@ -164,6 +203,9 @@ pub(crate) fn equality(
 ) -> Result<Option<Formula>, Memory>
     ensures { IfOk result (λ f. option_map formula_of f ≡ equality_of (graph_seen known.now) word.now text.now) }
 {
+    if marks(b'.', word.bytes()) > 1 {
+        return Ok(None);
+    }
     let parts = pieces(alloc, b'.', word.bytes())?;
     equal(alloc, known, text, &parts)
 }

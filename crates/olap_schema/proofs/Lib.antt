@@ -4,6 +4,8 @@ pub mod PairCounting
 pub mod WithoutLemmas
 mod BracketLemmas
 mod LineLemmas
+mod LongLines
+mod RepeatLemmas
 mod PairLemmas
 mod PrintLemmas
 mod StuckLemmas

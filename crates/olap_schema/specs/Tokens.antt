@@ -2,22 +2,11 @@
 --     token_nodes    the nodes of the formula
 --     opens_over     too many brackets are open
 --     is_long        a name or a constant is too long
+pub use Rattle.olap_grammar.specs.Nodes.{is_node}
 use Rattle.std.specs.Prelude.{◌==◌, ◌||◌, ◌+◌, ℕ, Bool, true, false, List, [], ◌∷◌, length, count_by, nat_lt, if◌then◌else◌}
 use Rattle.olap_base.specs.Limits.{most_depth, most_text_bytes}
 use Rattle.olap_grammar.specs.declared.tokens.Token.{Token}
 use Rattle.olap_grammar.specs.declared.tokens.Token.TheVariants as token
-
--- a word, or a mark that is part of a formula's tree
-abbrev pub is_node : Token → Bool
-is_node (token.Word w) = true
-is_node (token.Quoted k) = false
-is_node token.Open = false
-is_node token.Close = false
-is_node token.Comma = false
-is_node token.Colon = false
-is_node token.Equal = false
-is_node token.Not = true
-is_node (token.Joint j) = true
 
 -- the words, and the marks `!`, `&`, `|`, `^`, `->` and `<->`
 abbrev pub token_nodes : List Token → ℕ

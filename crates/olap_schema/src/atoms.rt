@@ -1,15 +1,16 @@
 // The checks of a formula's atoms, from left to right.
 ghost use Rattle.olap_grammar.specs.Known.{graph_seen};
+ghost use Rattle.olap_grammar.specs.Words.{pieces_behind, pieces_of};
 ghost use Rattle.olap_graph.specs.Lookups.{category_named};
 ghost use Rattle.olap_schema.specs.Atoms.{atom_fault, has_edge, is_connective as is_connective_of, is_known as is_known_of, is_repeated as is_repeated_of, lacks_edge as lacks_edge_of, named_fault, stands_in as stands_in_of, token_fault, word_fault};
 ghost use Rattle.olap_schema.specs.Reading.{Finds};
 ghost use Rattle.std.specs.List.{list_all};
-ghost use Rattle.std.specs.Prelude.{◌≡◌, ◌<◌, length};
+ghost use Rattle.std.specs.Prelude.{◌≡◌, ◌<◌, IfOk, false, length, true};
 
 use crate::statements::is;
 use crate::{FormulaRefusal, SchemaKind};
-use olap_base::Text;
-use olap_grammar::{Known, Token, pieces};
+use olap_base::{Memory, Text};
+use olap_grammar::{Known, Token, first_piece, marks, pieces};
 use std::alloc::Global;
 
 /// Whether the word is no atom but `true`, `false` or `one`.
@@ -45,19 +46,37 @@ fn stands_in(names: &[Text], name: &[u8]) -> bool
     names.iter().any(|n| is(n.bytes(), name))
 }
 
-/// Whether a name comes twice.
-#[tactic(auto, unfolding(crate::specs::Atoms::is_repeated))]
-fn is_repeated(parts: &[Text]) -> bool
-    ensures { result ≡ is_repeated_of parts.now }
+/// Whether each name that is left of a path is a category's.
+fn is_path_known(known: &Known, path: Option<&[u8]>) -> bool
+    ensures { result ≡ list_all (is_known_of (graph_seen known.now)) (pieces_behind 95 path.entry) }
 {
-    let mut left = parts;
-    'parts: while let Some((part, others)) = left.split_first() {
-        if stands_in(others, part.bytes()) {
-            return true;
+    let mut left = path;
+    'names: while let Some(text) = left {
+        let (name, others) = first_piece(b'_', text);
+        if !is_known(known, name) {
+            return false;
         }
         left = others;
     }
-    false
+    true
+}
+
+/// Whether a name comes twice in a path. The names before the first that does are kept: of known names no more than there
+/// are categories.
+fn is_path_repeated(alloc: Global, path: &[u8]) -> Result<bool, Memory>
+    ensures { IfOk result (λ b. b ≡ is_repeated_of (pieces_of 95 path.now)) }
+{
+    let mut before = Vec::new(alloc);
+    let mut left = Some(path);
+    'names: while let Some(text) = left {
+        let (name, others) = first_piece(b'_', text);
+        if stands_in(&before, name) {
+            return Ok(true);
+        }
+        before.push(Text::from_bytes(alloc, name)?)?;
+        left = others;
+    }
+    Ok(false)
 }
 
 /// Whether an edge leads from one to the other.
@@ -91,10 +110,10 @@ fn lacks_edge(known: &Known, first: &[u8], parts: &[Text]) -> bool
     false
 }
 
-/// The names of an atom, the root first: known, from this root, and, of a path, each once and linked.
-fn check_names(known: &Known, root: &[u8], path: bool, parts: &[Text]) -> Result<(), FormulaRefusal>
+/// The names of an atom that is no path, the root first: known, and from this root.
+fn check_names(known: &Known, root: &[u8], parts: &[Text]) -> Result<(), FormulaRefusal>
     requires { 0 < length parts.now }
-    ensures { Finds result (named_fault (graph_seen known.now) root.now path parts.now) }
+    ensures { Finds result (named_fault (graph_seen known.now) root.now false parts.now) }
 {
     if !are_known(known, parts) {
         return Err(FormulaRefusal::Fault(SchemaKind::UnknownCategory));
@@ -102,13 +121,26 @@ fn check_names(known: &Known, root: &[u8], path: bool, parts: &[Text]) -> Result
     if !is(parts[0].bytes(), root) {
         return Err(FormulaRefusal::Fault(SchemaKind::MixedRoot));
     }
-    if !path {
-        return Ok(());
+    Ok(())
+}
+
+/// The names of a path, the root first: known, from this root, each once and linked. They are listed only once they are
+/// known to be few.
+fn check_path(alloc: Global, known: &Known, root: &[u8], path: &[u8]) -> Result<(), FormulaRefusal>
+    ensures { Finds result (named_fault (graph_seen known.now) root.now true (pieces_of 95 path.now)) }
+{
+    if !is_path_known(known, Some(path)) {
+        return Err(FormulaRefusal::Fault(SchemaKind::UnknownCategory));
     }
-    if is_repeated(parts) {
+    let (first, _) = first_piece(b'_', path);
+    if !is(first, root) {
+        return Err(FormulaRefusal::Fault(SchemaKind::MixedRoot));
+    }
+    if is_path_repeated(alloc, path)? {
         return Err(FormulaRefusal::Fault(SchemaKind::RepeatedCategory));
     }
-    if lacks_edge(known, root, &parts[1..]) {
+    let names = pieces(alloc, b'_', path)?;
+    if lacks_edge(known, root, &names[1..]) {
         return Err(FormulaRefusal::Fault(SchemaKind::NotAnEdge));
     }
     Ok(())
@@ -122,12 +154,11 @@ fn check_word(alloc: Global, known: &Known, root: &[u8], word: &[u8]) -> Result<
     if is_connective(word) {
         return Ok(());
     }
-    let steps = pieces(alloc, b'_', word)?;
-    if steps.len() > 1 {
-        return check_names(known, root, true, &steps);
+    if marks(b'_', word) > 0 {
+        return check_path(alloc, known, root, word);
     }
     let parts = pieces(alloc, b'.', word)?;
-    check_names(known, root, false, &parts)
+    check_names(known, root, &parts)
 }
 
 /// The atom that a token is, if it is a word.

@@ -1,27 +1,10 @@
 // The checks of a formula's tokens that look at no graph.
-ghost use Rattle.olap_schema.specs.Tokens.{has_long_name as has_long_name_of, is_long as is_long_of, is_node as is_node_of, opens_over, token_nodes};
+ghost use Rattle.olap_schema.specs.Tokens.{has_long_name as has_long_name_of, is_long as is_long_of, opens_over, token_nodes};
 ghost use Rattle.std.specs.List.{list_any};
 ghost use Rattle.std.specs.Prelude.{◌≡◌, ◌≤◌, length};
 
 use olap_base::{MOST_DEPTH, MOST_TEXT_BYTES};
 use olap_grammar::Token;
-
-/// Whether the token is a node of the formula.
-fn is_node(token: &Token) -> bool
-    ensures { result ≡ is_node_of token.now }
-{
-    match token {
-        Token::Word(_) => true,
-        Token::Not => true,
-        Token::Joint(_) => true,
-        Token::Quoted(_) => false,
-        Token::Open => false,
-        Token::Close => false,
-        Token::Comma => false,
-        Token::Colon => false,
-        Token::Equal => false,
-    }
-}
 
 /// How many nodes a formula of these tokens has.
 #[tactic(auto, using(crate::proofs::Counting::few_nodes))]
@@ -29,7 +12,7 @@ pub(crate) fn nodes(tokens: &[Token]) -> usize
     ensures count { result ≡ token_nodes tokens.now }
     ensures few { result ≤ length tokens.now }
 {
-    tokens.iter().filter(|t| is_node(t)).count()
+    tokens.iter().filter(|t| t.is_node()).count()
 }
 
 /// Whether more than `MOST_DEPTH` brackets are open at some place.

@@ -10,24 +10,33 @@ ghost use Rattle.olap_schema.specs.Judging.{category_read, constraint_added, con
 ghost use Rattle.olap_schema.specs.Reading.{Reads, ReadsFormula, above_of, said};
 ghost use Rattle.olap_ast.specs.Formula.{equalities};
 ghost use Rattle.olap_ast.specs.Valid.{with_pair};
+ghost use Rattle.olap_grammar.specs.Cutter.{kept_of};
 ghost use Rattle.olap_grammar.specs.CuttingMachine.{tokens_of};
+ghost use Rattle.olap_grammar.specs.Keeping.{BeginsFound};
 ghost use Rattle.olap_schema.specs.Statements.{statement_of};
 ghost use Rattle.olap_schema.specs.Tokens.{token_nodes};
-ghost use Rattle.std.specs.Prelude.{◌≡◌, ◌≤◌, ◌+◌, IfOk, IsTrue, fold};
+ghost use Rattle.std.specs.Prelude.{◌≡◌, ◌≤◌, ◌+◌, IfOk, IsTrue, fold, true};
 
 use crate::atoms::check_atoms;
 use crate::lines::{is_bad, is_quiet};
 use crate::measuring::{has_long_text, nodes, opens_too_deep};
 use crate::pairing::{Pair, add_pairs};
-use crate::statements::{Statement, is_version, statement_in};
+use crate::statements::{Statement, is_constraint, is_version, statement_in};
 use crate::{FormulaRefusal, SchemaKind};
 use olap_ast::{Constraint, Formula};
 use olap_base::{
     CatId, MOST_CONSTANTS, MOST_CONSTRAINTS, MOST_NODES, MOST_TEXT_BYTES, Memory, Text,
 };
-use olap_grammar::{CutRefusal, FormRefusal, Known, Token, formula, line_tokens};
+use olap_grammar::{
+    COUNTED_NODES, CutRefusal, FirstTokens, FormRefusal, Known, Token, first_tokens, formula,
+    line_tokens,
+};
 use olap_graph::{CategoryRefusal, EdgeRefusal, GraphBuilder};
 use std::alloc::Global;
+
+/// How many tokens of a line are kept at first. Lines that are taken hardly ever have so many, and most others are refused
+/// by these and by a count.
+const MOST_TOKENS: usize = 65_536;
 
 /// What the lines so far say.
 #[derive(Drop)]
@@ -247,6 +256,36 @@ fn read_first(reading: &mut Reading, tokens: &[Token]) -> Result<(), FormulaRefu
     Err(FormulaRefusal::Fault(SchemaKind::BadForm))
 }
 
+/// A line of more tokens than are kept at first. Where the first and the nodes that were counted don't refuse it, it is
+/// cut again, and all its tokens are kept.
+fn read_long(
+    alloc: Global,
+    reading: &mut Reading,
+    n: u64,
+    line: &[u8],
+    found: &FirstTokens,
+) -> Result<(), FormulaRefusal>
+    requires begins { BeginsFound (kept_of found.now) (tokens_of line.now) }
+    requires more { found.now.more ≡ true }
+    requires room { 4 ≤ found.now.most }
+    ensures { Reads result (above_of reading.new) (tokens_read (above_of reading.old) n (tokens_of line.now)) }
+{
+    if !reading.versioned {
+        return Err(FormulaRefusal::Fault(SchemaKind::BadForm));
+    }
+    if !is_constraint(&found.first) {
+        return Err(FormulaRefusal::Fault(SchemaKind::BadForm));
+    }
+    if found.nodes >= COUNTED_NODES {
+        return Err(FormulaRefusal::Fault(SchemaKind::TooManyNodes));
+    }
+    match line_tokens(alloc, line) {
+        Ok(tokens) => read_statement(alloc, reading, n, &tokens),
+        Err(CutRefusal::BadForm) => Err(FormulaRefusal::Fault(SchemaKind::BadForm)),
+        Err(CutRefusal::Memory) => Err(FormulaRefusal::Memory),
+    }
+}
+
 /// A line that says something.
 fn read_saying(
     alloc: Global,
@@ -256,12 +295,15 @@ fn read_saying(
 ) -> Result<(), FormulaRefusal>
     ensures { Reads result (above_of reading.new) (tokens_read (above_of reading.old) n (tokens_of line.now)) }
 {
-    match line_tokens(alloc, line) {
-        Ok(tokens) => {
+    match first_tokens(alloc, line, MOST_TOKENS) {
+        Ok(found) => {
+            if found.more {
+                return read_long(alloc, reading, n, line, &found);
+            }
             if reading.versioned {
-                read_statement(alloc, reading, n, &tokens)
+                read_statement(alloc, reading, n, &found.first)
             } else {
-                read_first(reading, &tokens)
+                read_first(reading, &found.first)
             }
         }
         Err(CutRefusal::BadForm) => Err(FormulaRefusal::Fault(SchemaKind::BadForm)),

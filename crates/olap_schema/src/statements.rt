@@ -98,7 +98,7 @@ fn is_edge(tokens: &[Token]) -> bool
 }
 
 /// Whether the tokens begin a constraint.
-fn is_constraint(tokens: &[Token]) -> bool
+pub(crate) fn is_constraint(tokens: &[Token]) -> bool
     ensures { result ≡ is_constraint_of tokens.now }
 {
     is(word_at(tokens, 0), b"constraint") && is_name(word_at(tokens, 1)) && colon_at(tokens, 2)

@@ -1,12 +1,12 @@
 use Rattle.std.proofs.Common.{◌≡◌, length}
 use Rattle.std.specs.List.{fold}
-use Rattle.olap_grammar.specs.CuttingMachine.{cut_step, Between}
-use Rattle.olap_grammar.specs.Cutter.{cut_of}
+use Rattle.olap_grammar.specs.Keeping.{kept_step, Between}
+use Rattle.olap_grammar.specs.Cutter.{cut_of, kept_of}
 use Rattle.olap_grammar.proofs.cutting.cut.Given as goal
 
 abbrev pub invariant-bytes : goal.invariant-bytes
-invariant-bytes l = fold cut_step (Between l.fn.tokens.items) l.line
-    ≡ fold cut_step (cut_of l.begun l.tokens.items) l.left
+invariant-bytes l = fold kept_step (Between (kept_of l.fn.tokens)) l.line
+    ≡ fold kept_step (cut_of l.begun (kept_of l.tokens)) l.left
 
 abbrev pub decreases-bytes : goal.decreases-bytes
 decreases-bytes l = length l.left

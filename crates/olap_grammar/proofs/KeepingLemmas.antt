@@ -1,0 +1,195 @@
+-- The cutter that keeps the first tokens, against the one that keeps all.
+--     kept-is     it keeps of a line what is kept of its tokens
+--     begins      what is kept of tokens begins them
+--     found, same-most, fails, whole     what a call's clause says
+use Rattle.std.proofs.Common.{◌≡◌, ◌≤◌, ◌<◌, ◌==◌, ◌&&◌, ◌+◌, ◌++◌, ◌∷◌, ◌∙◌, Bool, true, false, ℕ, List, [], cond, length, nat_lt, Option, Some, None, refl, sym, ap, subst, arith, append_assoc, append-nil}
+use Rattle.std.specs.Prelude.{count_by}
+use Rattle.std.specs.List.{fold}
+use Rattle.std.specs.Option.{option_map}
+use Rattle.std.proofs.lemmas.Bool.{ltb-false, ltb-true}
+use Rattle.std.proofs.lemmas.List.Sums.{fold-append, sum_by-append}
+use Rattle.olap_grammar.specs.Cutter.{FailsWith}
+use Rattle.olap_grammar.specs.Cutting.{is_word_byte}
+use Rattle.olap_grammar.specs.CuttingMachine as machine
+use Rattle.olap_grammar.specs.CuttingMachine.{Cut, tokens_of}
+use Rattle.olap_grammar.specs.Keeping as keeping
+use Rattle.olap_grammar.specs.Keeping.{Begins, BeginsFound, Going, Kept, counted, counted_nodes, keep, kept_tokens, nothing_kept}
+use Rattle.olap_grammar.specs.Nodes.{is_node}
+use Rattle.olap_grammar.specs.declared.refusals.CutRefusal.{CutRefusal}
+use Rattle.olap_grammar.specs.declared.refusals.CutRefusal.TheVariants as refusal
+use Rattle.olap_grammar.specs.declared.tokens.Token.{Token}
+use Rattle.olap_grammar.specs.declared.tokens.Token.TheVariants as token
+use Rattle.olap_grammar.specs.declared.tokens.Joint.TheVariants as joint
+
+-- ---- what is kept of a line
+
+module _ (most : ℕ) where
+  abbrev summary : List Token → Kept
+  summary ts = fold keep (nothing_kept most) ts
+
+  abbrev seen : Cut → Going
+  seen (machine.Between ts) = keeping.Between (summary ts)
+  seen (machine.InWord ts w) = keeping.InWord (summary ts) w
+  seen (machine.InQuotes ts k) = keeping.InQuotes (summary ts) k
+  seen (machine.Escaped ts k) = keeping.Escaped (summary ts) k
+  seen (machine.Dash ts) = keeping.Dash (summary ts)
+  seen (machine.Less ts) = keeping.Less (summary ts)
+  seen (machine.LessDash ts) = keeping.LessDash (summary ts)
+  seen machine.Stuck = keeping.Stuck
+
+  pushed : (ts : List Token) (t : Token) → summary (ts ++ t ∷ []) ≡ keep (summary ts) t
+  pushed ts t = fold-append keep (nothing_kept most) ts (t ∷ [])
+
+  mark : (ts : List Token) (t : Token) → seen (machine.Between (ts ++ t ∷ [])) ≡ keeping.Between (keep (summary ts) t)
+  mark ts t = ap keeping.Between (pushed ts t)
+
+  choose : (b : Bool) (x y : Cut) (v w : Going) → seen x ≡ v → seen y ≡ w → seen (cond b x y) ≡ cond b v w
+  choose true x y v w e f = e
+  choose false x y v w e f = f
+
+  between-seen : (ts : List Token) (b : ℕ) → seen (machine.between ts b) ≡ keeping.between (summary ts) b
+  between-seen ts b =
+      choose (is_word_byte b) _ _ _ _ refl
+      (choose (b == 32) _ _ _ _ refl
+      (choose (b == 9) _ _ _ _ refl
+      (choose (b == 34) _ _ _ _ refl
+      (choose (b == 45) _ _ _ _ refl
+      (choose (b == 60) _ _ _ _ refl
+      (choose (b == 40) _ _ _ _ (mark ts token.Open)
+      (choose (b == 41) _ _ _ _ (mark ts token.Close)
+      (choose (b == 44) _ _ _ _ (mark ts token.Comma)
+      (choose (b == 58) _ _ _ _ (mark ts token.Colon)
+      (choose (b == 61) _ _ _ _ (mark ts token.Equal)
+      (choose (b == 33) _ _ _ _ (mark ts token.Not)
+      (choose (b == 94) _ _ _ _ (mark ts (token.Joint joint.Xor))
+      (choose (b == 124) _ _ _ _ (mark ts (token.Joint joint.Or))
+      (choose (b == 38) _ _ _ _ (mark ts (token.Joint joint.And)) refl))))))))))))))
+
+  step-seen : (c : Cut) (b : ℕ) → seen (machine.cut_step c b) ≡ keeping.kept_step (seen c) b
+  step-seen (machine.Between ts) b = between-seen ts b
+  step-seen (machine.InWord ts w) b =
+      choose (is_word_byte b) _ _ _ _ refl
+      (between-seen (ts ++ token.Word w ∷ []) b ∙ ap (λ k. keeping.between k b) (pushed ts (token.Word w)))
+  step-seen (machine.InQuotes ts k) b =
+      choose (b == 34) _ _ _ _ (mark ts (token.Quoted k)) (choose (b == 92) _ _ _ _ refl refl)
+  step-seen (machine.Escaped ts k) b = choose (b == 34) _ _ _ _ refl (choose (b == 92) _ _ _ _ refl refl)
+  step-seen (machine.Dash ts) b = choose (b == 62) _ _ _ _ (mark ts (token.Joint joint.Implies)) refl
+  step-seen (machine.Less ts) b = choose (b == 45) _ _ _ _ refl refl
+  step-seen (machine.LessDash ts) b = choose (b == 62) _ _ _ _ (mark ts (token.Joint joint.Iff)) refl
+  step-seen machine.Stuck b = refl
+
+  fold-seen : (bs : List ℕ) (c : Cut) → seen (fold machine.cut_step c bs) ≡ fold keeping.kept_step (seen c) bs
+  fold-seen [] c = refl
+  fold-seen (b ∷ bs) c =
+      fold-seen bs (machine.cut_step c b) ∙ ap (λ g. fold keeping.kept_step g bs) (step-seen c b)
+
+  ended-seen : (c : Cut) → keeping.kept_ended (seen c) ≡ option_map summary (machine.cut_ended c)
+  ended-seen (machine.Between ts) = refl
+  ended-seen (machine.InWord ts w) = ap Some (sym (pushed ts (token.Word w)))
+  ended-seen (machine.InQuotes ts k) = refl
+  ended-seen (machine.Escaped ts k) = refl
+  ended-seen (machine.Dash ts) = refl
+  ended-seen (machine.Less ts) = refl
+  ended-seen (machine.LessDash ts) = refl
+  ended-seen machine.Stuck = refl
+
+  pub kept-is : (line : List ℕ) → kept_tokens most line ≡ option_map summary (tokens_of line)
+  unfolding kept_tokens tokens_of
+  kept-is line =
+      ap keeping.kept_ended (sym (fold-seen line (machine.Between [])))
+      ∙ ended-seen (fold machine.cut_step (machine.Between []) line)
+
+-- ---- what is kept of tokens
+
+counted-more : (n c : ℕ) (b : Bool) (l : Bool) → n ≤ c → cond (b && l) (n + 1) n ≤ c + cond b 1 0
+counted-more n c true true h = omega (arith, h)
+counted-more n c true false h = omega (arith, h)
+counted-more n c false l h = omega (arith, h)
+
+nodes-more : (k : Kept) (done : List Token) (t : Token) → k.nodes ≤ count_by is_node done
+    → counted k.nodes t ≤ count_by is_node (done ++ t ∷ [])
+nodes-more k done t h =
+    let e = sum_by-append (λ u. cond (is_node u) 1 0) done (t ∷ []) in
+    let m = counted-more k.nodes (count_by is_node done) (is_node t) (nat_lt k.nodes counted_nodes) h in
+    omega (arith, e, m)
+
+no-more : (b : Bool) (most n : ℕ) → n < most → (b ≡ true → most ≤ n) → b ≡ false
+no-more true most n l f = let h = f refl in absurd (omega (arith, l, h))
+no-more false most n l f = refl
+
+begins-more : (k : Kept) (done : List Token) (t : Token) → Begins k done → Begins (keep k t) (done ++ t ∷ [])
+begins-more k done t h = go (nat_lt (length k.first) k.most) refl
+  where
+    go : (b : Bool) → nat_lt (length k.first) k.most ≡ b
+        → Begins (cond b (record { most = k.most; first = k.first ++ t ∷ []; more = k.more; nodes = counted k.nodes t })
+        (record { most = k.most; first = k.first; more = true; nodes = counted k.nodes t })) (done ++ t ∷ [])
+    go true e =
+        let l = ltb-true (length k.first) k.most e in
+        let none = h.all (no-more k.more k.most (length k.first) l h.full) in
+        let same : done ≡ k.first = h.parts ∙ ap (λ r. k.first ++ r) none ∙ append-nil k.first in
+        record {
+          rest = [];
+          parts = ap (λ d. d ++ t ∷ []) same ∙ sym (append-nil (k.first ++ t ∷ []));
+          all = λ m. refl;
+          full = λ m. let f = h.full m in absurd (omega (arith, l, f));
+          nodes = nodes-more k done t h.nodes;
+        }
+    go false e = record {
+      rest = h.rest ++ t ∷ [];
+      parts = ap (λ d. d ++ t ∷ []) h.parts ∙ append_assoc k.first h.rest (t ∷ []);
+      all = λ m. absurd (cc);
+      full = λ m. ltb-false (length k.first) k.most e;
+      nodes = nodes-more k done t h.nodes;
+    }
+
+begins-on : (ts done : List Token) (k : Kept) → Begins k done → Begins (fold keep k ts) (done ++ ts)
+begins-on [] done k h = subst (Begins k) (sym (append-nil done)) h
+begins-on (t ∷ ts) done k h =
+    subst (Begins (fold keep (keep k t) ts)) (append_assoc done (t ∷ []) ts)
+    (begins-on ts (done ++ t ∷ []) (keep k t) (begins-more k done t h))
+
+pub begins : (most : ℕ) (ts : List Token) → Begins (summary most ts) ts
+begins most ts = begins-on ts [] (nothing_kept most)
+    (record { rest = []; parts = refl; all = λ m. refl; full = λ m. absurd (cc); nodes = omega arith })
+
+most-of : (b : Bool) (x y : Kept) (m : ℕ) → x.most ≡ m → y.most ≡ m → (cond b x y).most ≡ m
+most-of true x y m e f = e
+most-of false x y m e f = f
+
+most-on : (ts : List Token) (k : Kept) → (fold keep k ts).most ≡ k.most
+most-on [] k = refl
+most-on (t ∷ ts) k = most-on ts (keep k t) ∙ most-of (nat_lt (length k.first) k.most) _ _ k.most refl refl
+
+-- ---- what a call's clause says
+
+pub found : (most : ℕ) (line : List ℕ) (k : Kept) → kept_tokens most line ≡ Some k → BeginsFound k (tokens_of line)
+found most line k e = go (tokens_of line) (sym (kept-is most line) ∙ e)
+  where
+    go : (o : Option (List Token)) → option_map (summary most) o ≡ Some k → BeginsFound k o
+    go None f = absurd (cc)
+    go (Some ts) f =
+        let same : summary most ts ≡ k = cc in
+        (ts, refl, subst (λ j. Begins j ts) same (begins most ts))
+
+pub same-most : (most : ℕ) (line : List ℕ) (k : Kept) → kept_tokens most line ≡ Some k → k.most ≡ most
+same-most most line k e = go (tokens_of line) (sym (kept-is most line) ∙ e)
+  where
+    go : (o : Option (List Token)) → option_map (summary most) o ≡ Some k → k.most ≡ most
+    go None f = cc
+    go (Some ts) f =
+        let same : summary most ts ≡ k = cc in
+        ap (λ (j : Kept). j.most) (sym same) ∙ most-on ts (nothing_kept most)
+
+pub fails : (most : ℕ) (line : List ℕ) (e : CutRefusal) → FailsWith e (kept_tokens most line)
+    → FailsWith e (tokens_of line)
+fails most line refusal.BadForm h = go (tokens_of line) (sym (kept-is most line) ∙ h)
+  where
+    go : (o : Option (List Token)) → option_map (summary most) o ≡ None → o ≡ None
+    go None f = refl
+    go (Some ts) f = cc
+fails most line refusal.Memory h = tt
+
+pub whole : (k : Kept) (o : Option (List Token)) → BeginsFound k o → k.more ≡ false → o ≡ Some k.first
+whole k o b e =
+    let h = b.2 in
+    b.1 ∙ ap Some (h.parts ∙ ap (λ r. k.first ++ r) (h.all e) ∙ append-nil k.first)

@@ -1,0 +1,112 @@
+-- Cutting a line where only the first tokens are kept, and nodes are counted as far as it matters.
+--     Kept            what is kept of tokens
+--     keep            one token more
+--     Going           the states of `CuttingMachine`, over what is kept
+--     kept_tokens     what is kept of the tokens that a line is cut into
+--     Begins          what was kept is a beginning of the tokens
+use Rattle.std.specs.Prelude.{◌≡◌, ◌≤◌, ◌==◌, ◌&&◌, ◌+◌, ℕ, Bool, true, false, List, [], ◌∷◌, ◌++◌, Option, Some, None, count_by, length, nat_lt, if◌then◌else◌}
+use Rattle.std.specs.List.{fold}
+use Rattle.olap_base.specs.Limits.{most_nodes}
+use Rattle.olap_grammar.specs.Cutting.{is_word_byte}
+use Rattle.olap_grammar.specs.Nodes.{is_node}
+use Rattle.olap_grammar.specs.declared.tokens.Token.{Token}
+use Rattle.olap_grammar.specs.declared.tokens.Token.TheVariants as token
+use Rattle.olap_grammar.specs.declared.tokens.Joint.TheVariants as joint
+
+-- how many tokens are kept at most, those kept, whether there are more, and the nodes that were counted
+pub record Kept : Type 0 where
+  pub most : ℕ
+  pub first : List Token
+  pub more : Bool
+  pub nodes : ℕ
+
+-- nodes are counted up to here: more than a formula may have, and the three tokens before it
+abbrev pub counted_nodes : ℕ
+counted_nodes = most_nodes + 4
+
+abbrev pub counted : ℕ → Token → ℕ
+counted n t = if is_node t && nat_lt n counted_nodes then n + 1 else n
+
+-- one token more, which is kept while there is room
+abbrev pub keep : Kept → Token → Kept
+keep k t =
+    if nat_lt (length k.first) k.most then
+    record { most = k.most; first = k.first ++ t ∷ []; more = k.more; nodes = counted k.nodes t }
+    else record { most = k.most; first = k.first; more = true; nodes = counted k.nodes t }
+
+abbrev pub nothing_kept : ℕ → Kept
+nothing_kept most = record { most = most; first = []; more = false; nodes = 0 }
+
+-- ---- the cutter
+
+pub data Going : Type 0 where
+  Between : Kept → Going
+  InWord : Kept → List ℕ → Going
+  InQuotes : Kept → List ℕ → Going
+  Escaped : Kept → List ℕ → Going
+  Dash : Kept → Going
+  Less : Kept → Going
+  LessDash : Kept → Going
+  Stuck : Going
+
+-- after a byte where nothing was begun
+abbrev pub between : Kept → ℕ → Going
+between k b =
+    if is_word_byte b then InWord k (b ∷ [])
+    else if b == 32 then Between k
+    else if b == 9 then Between k
+    else if b == 34 then InQuotes k []
+    else if b == 45 then Dash k
+    else if b == 60 then Less k
+    else if b == 40 then Between (keep k token.Open)
+    else if b == 41 then Between (keep k token.Close)
+    else if b == 44 then Between (keep k token.Comma)
+    else if b == 58 then Between (keep k token.Colon)
+    else if b == 61 then Between (keep k token.Equal)
+    else if b == 33 then Between (keep k token.Not)
+    else if b == 94 then Between (keep k (token.Joint joint.Xor))
+    else if b == 124 then Between (keep k (token.Joint joint.Or))
+    else if b == 38 then Between (keep k (token.Joint joint.And))
+    else Stuck
+
+-- after one more byte
+abbrev pub kept_step : Going → ℕ → Going
+kept_step (Between k) b = between k b
+kept_step (InWord k w) b = if is_word_byte b then InWord k (w ++ b ∷ []) else between (keep k (token.Word w)) b
+kept_step (InQuotes k q) b =
+    if b == 34 then Between (keep k (token.Quoted q)) else if b == 92 then Escaped k q else InQuotes k (q ++ b ∷ [])
+kept_step (Escaped k q) b =
+    if b == 34 then InQuotes k (q ++ b ∷ []) else if b == 92 then InQuotes k (q ++ b ∷ []) else Stuck
+kept_step (Dash k) b = if b == 62 then Between (keep k (token.Joint joint.Implies)) else Stuck
+kept_step (Less k) b = if b == 45 then LessDash k else Stuck
+kept_step (LessDash k) b = if b == 62 then Between (keep k (token.Joint joint.Iff)) else Stuck
+kept_step Stuck b = Stuck
+
+-- at the end of the line
+abbrev pub kept_ended : Going → Option Kept
+kept_ended (Between k) = Some k
+kept_ended (InWord k w) = Some (keep k (token.Word w))
+kept_ended (InQuotes k q) = None
+kept_ended (Escaped k q) = None
+kept_ended (Dash k) = None
+kept_ended (Less k) = None
+kept_ended (LessDash k) = None
+kept_ended Stuck = None
+
+-- what is kept of the tokens that the line is cut into, if it can be
+unfoldable pub kept_tokens : ℕ → List ℕ → Option Kept
+kept_tokens most line = kept_ended (fold kept_step (Between (nothing_kept most)) line)
+
+-- ---- what is kept of tokens
+
+-- the tokens begin with those kept: with all of them, or else with as many as may be kept; the nodes counted are there
+pub record Begins (k : Kept) (ts : List Token) : Type 0 where
+  pub rest : List Token
+  pub parts : ts ≡ k.first ++ rest
+  pub all : k.more ≡ false → rest ≡ []
+  pub full : k.more ≡ true → k.most ≤ length k.first
+  pub nodes : k.nodes ≤ count_by is_node ts
+
+-- what was kept begins the tokens that were found
+abbrev pub BeginsFound : Kept → Option (List Token) → Type 0
+BeginsFound k found = (ts : List Token) × (found ≡ Some ts) × Begins k ts
