@@ -12,7 +12,7 @@ use Rattle.std.proofs.lemmas.Fmt.{IsAscii-from_digits}
 use Rattle.std.proofs.lemmas.Str.{IsUtf8-from_ascii}
 use Rattle.olap_records.specs.Numbers.{is_numeral}
 use Rattle.olap_records.proofs.Spelling.{numeral-decides, ok-where}
-use Rattle.olap_view.specs.StoredNumbers.{digits_of, is_wide}
+use Rattle.olap_view.specs.NumbersInside.{digits_of, is_wide}
 use mir.Syntax.{w128}
 
 -- ---- 64 bits

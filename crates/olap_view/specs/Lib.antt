@@ -1,14 +1,18 @@
 -- Definitions that contracts cite.
+
+-- What a reader of the claims believes.
 pub mod Seen
 pub mod Stores
 pub mod ViewText
 pub mod StoredNumbers
 pub mod StoreText
 pub mod Kinds
-pub mod StoreReading
 pub mod StoreLaws
+pub mod Tallies
+pub mod RollingUp
+-- The inside: what a table of summaries holds, and the numbers of the machine.
+pub mod NumbersInside
+pub mod StoreReading
 pub mod Bounds
 pub mod Tables
-pub mod Tallies
 pub mod Merging
-pub mod RollingUp

@@ -1,16 +1,22 @@
 -- The views of the definitions that a `View` and a `Store` stand for.
+--     ids          the numbers of categories
 --     summary_of   a summary
 --     row_of       a row
 --     rows_of      rows in order
 --     view_of      a view
 --     views_of     the views of a store, in order
-use Rattle.std.specs.Prelude.{List, map}
+use Rattle.std.specs.Prelude.{ℕ, List, map}
 use Rattle.olap_base.specs.Summaries.{Summary}
 use Rattle.olap_base.specs.Views.{Row, View}
+use Rattle.olap_base.specs.declared.ids.CatId.{CatId}
 use Rattle.olap_view.specs.declared.summaries.Summary as told_summary
 use Rattle.olap_view.specs.declared.views.Row as told_row
 use Rattle.olap_view.specs.declared.views.View as told_view
 use Rattle.olap_view.specs.declared.views.Store.{Store}
+
+-- the numbers of categories
+abbrev pub ids : List CatId → List ℕ
+ids categories = map (λ c. c.0) categories
 
 -- the summary that a struct stands for
 abbrev pub summary_of : told_summary.Summary → Summary

@@ -2,7 +2,6 @@
 --     count_of   a count
 --     is_sum     whether a number may be a stored sum
 --     sum_of     a sum
---     digits_of, wide_of   the same with the bounds of the machine's numbers
 use Rattle.std.specs.Prelude.{◌^◌, ◌&&◌, Bool, ℕ, ℤ, pos, negsuc, List, Option, Some, None, if◌then◌else◌, nat_le, nat_lt}
 use Rattle.std.specs.Str.Parse.{digits_value, signed_digits_value, without_leading_sign}
 use Rattle.olap_records.specs.Numbers.{is_numeral}
@@ -22,22 +21,5 @@ is_sum (negsuc n) = nat_lt n (2 ^ 95)
 abbrev pub sum_of : List ℕ → Option ℤ
 sum_of bs =
     if is_numeral (without_leading_sign bs) && is_sum (signed_digits_value 10 bs)
-    then Some (signed_digits_value 10 bs)
-    else None
-
--- decimal digits of a number of 64 bits
-abbrev pub digits_of : List ℕ → Option ℕ
-digits_of bs =
-    if is_numeral bs && nat_lt (digits_value 10 bs) (2 ^ 64) then Some (digits_value 10 bs) else None
-
--- from -2 ^ 127 to 2 ^ 127 - 1
-abbrev pub is_wide : ℤ → Bool
-is_wide (pos n) = nat_lt n (2 ^ 127)
-is_wide (negsuc n) = nat_lt n (2 ^ 127)
-
--- a plus, a minus or neither, and decimal digits of a number of 128 bits
-abbrev pub wide_of : List ℕ → Option ℤ
-wide_of bs =
-    if is_numeral (without_leading_sign bs) && is_wide (signed_digits_value 10 bs)
     then Some (signed_digits_value 10 bs)
     else None

@@ -7,22 +7,18 @@
 --     AreJoined      what joining it in each leaves
 --     PlacesSoFar    places for the members so far
 --     view_in        the view of a category
-use Rattle.std.specs.Prelude.{◌≡◌, ◌==◌, ◌&&◌, ℕ, ◌<◌, ◌≤◌, ◌^◌, Bool, List, length, map, slice_index, slice_index_or, filter_map, Option, Some, None, IfSome, Contains, if◌then◌else◌}
+use Rattle.std.specs.Prelude.{◌≡◌, ◌==◌, ◌&&◌, ℕ, ◌<◌, ◌≤◌, ◌^◌, Bool, List, length, slice_index, slice_index_or, filter_map, Option, Some, None, IfSome, Contains, if◌then◌else◌}
 use Rattle.std.specs.List.{list_any}
 use Rattle.std.specs.Option.{option_map}
 use Rattle.olap_base.specs.Reaching.{reaches}
 use Rattle.olap_base.specs.Instance.{Instance, IsMember, category_of}
 use Rattle.olap_base.specs.Summaries.{Summary, ◌⊕◌}
 use Rattle.olap_base.specs.Views.{View, members_of, row_at}
-use Rattle.olap_base.specs.declared.ids.CatId.{CatId}
 use Rattle.olap_view.specs.Bounds.{IsUpTo}
-use Rattle.olap_view.specs.Seen.{summary_of}
+use Rattle.olap_view.specs.Seen.{ids, summary_of}
 use Rattle.olap_view.specs.declared.tables.Table.{Table}
 
--- the numbers of categories
-abbrev pub ids : List CatId → List ℕ
-ids categories = map (λ c. c.0) categories
-
+-- the categories whose members have places
 abbrev pub categories_of : Table → List ℕ
 categories_of t = ids t.categories.items
 

@@ -4,10 +4,9 @@ ghost use Rattle.std.specs.List.{list_any};
 ghost use Rattle.olap_base.specs.Graph.{Graph as TheGraph};
 ghost use Rattle.olap_base.specs.Instance.{Instance as TheInstance, category_of};
 ghost use Rattle.olap_base.specs.Limits.{most_views};
-ghost use Rattle.olap_view.specs.Seen.{summary_of};
+ghost use Rattle.olap_view.specs.Seen.{ids, summary_of};
 ghost use Rattle.olap_view.specs.StoreReading.{HasOwnPlaces, IsInside, IsRowFor, Record, Says, Tells};
 ghost use Rattle.olap_view.specs.StoreText.{beginning_fault, begun, category_number, is_beginning as begins, row_fault, store_fault};
-ghost use Rattle.olap_view.specs.Tables.{ids};
 
 use crate::StoreKind;
 use crate::numbers::summary;

@@ -1,10 +1,11 @@
 // The numbers of stored rows, as fields spell them.
 ghost use Rattle.std.specs.Option.{option_map};
 ghost use Rattle.std.specs.Prelude.{◌≡◌, ◌==◌, ◌<◌, ◌≤◌, ◌^◌, ◌≤ℤ◌, ℕ, IfSome, length, neg_ℤ, pos, slice_index};
+ghost use Rattle.olap_view.specs.NumbersInside.{digits_of, wide_of};
 ghost use Rattle.olap_view.specs.Seen.{summary_of};
 ghost use Rattle.olap_view.specs.StoreReading.{IsStoredAt};
 ghost use Rattle.olap_view.specs.StoreText.{summary_read};
-ghost use Rattle.olap_view.specs.StoredNumbers.{count_of, digits_of, sum_of, wide_of};
+ghost use Rattle.olap_view.specs.StoredNumbers.{count_of, sum_of};
 
 use crate::fitting::{count_fits, sum_fits};
 use crate::summaries::Summary;

@@ -6,9 +6,8 @@ ghost use Rattle.olap_facts.specs.Refusals.{IsNextRefusedBy};
 ghost use Rattle.olap_instance.specs.Made.{IsMadeFor};
 ghost use Rattle.olap_records.specs.Records.{records_of};
 ghost use Rattle.olap_view.specs.RollingUp.{AreRolledUp};
-ghost use Rattle.olap_view.specs.Seen.{each_view_of};
+ghost use Rattle.olap_view.specs.Seen.{each_view_of, ids};
 ghost use Rattle.olap_view.specs.Stores.{Fits};
-ghost use Rattle.olap_view.specs.Tables.{ids};
 
 use crate::{Tally, View};
 use olap_base::{CatId, List, MOST_FACTS};

@@ -4,9 +4,9 @@ ghost use Rattle.std.specs.Option.{option_map};
 ghost use Rattle.olap_base.specs.Limits.{most_members};
 ghost use Rattle.olap_base.specs.Views.{row_at};
 ghost use Rattle.olap_view.specs.Bounds.{IsUpTo};
-ghost use Rattle.olap_view.specs.Seen.{each_view_of, row_of, rows_of, summary_of, view_of};
+ghost use Rattle.olap_view.specs.Seen.{each_view_of, ids, row_of, rows_of, summary_of, view_of};
 ghost use Rattle.olap_view.specs.StoreReading.{HasOwnPlaces};
-ghost use Rattle.olap_view.specs.Tables.{AreJoined, AreJoinedIn, HasPlaces, HasRoom, categories_of, ids, place_in, summary_at, view_in};
+ghost use Rattle.olap_view.specs.Tables.{AreJoined, AreJoinedIn, HasPlaces, HasRoom, categories_of, place_in, summary_at, view_in};
 
 use crate::summaries::Summary;
 use crate::{Row, View};

@@ -2,9 +2,8 @@
 ghost use Rattle.std.specs.Prelude.{◌≡◌, ◌≢◌, ◌+◌, ◌∷◌, ◌++◌, ◌<◌, ◌^◌, ℕ, All, AllPairs, Contains, IfOk, List as Items, [], length, map};
 ghost use Rattle.olap_base.specs.Views.{Fact as TheFact, direct_view};
 ghost use Rattle.olap_facts.specs.Seen.{fact_of};
-ghost use Rattle.olap_view.specs.Seen.{each_view_of, view_of};
+ghost use Rattle.olap_view.specs.Seen.{each_view_of, ids, view_of};
 ghost use Rattle.olap_view.specs.Stores.{Fits};
-ghost use Rattle.olap_view.specs.Tables.{ids};
 ghost use Rattle.olap_view.specs.Tallies.{StandsFor};
 
 use crate::View;

@@ -1,7 +1,7 @@
 -- Whether a view may begin.
 use Rattle.std.proofs.Common.{arith}
 use Rattle.std.proofs.lemmas.List.{length-map}
-use Rattle.olap_view.specs.Tables.{ids}
+use Rattle.olap_view.specs.Seen.{ids}
 use Rattle.olap_view.proofs.JudgingLemmas.{may-begin, too-many}
 use Rattle.olap_view.proofs.judging.beginning.Goals as goal
 

@@ -1,6 +1,6 @@
 -- One record more.
 use Rattle.std.proofs.Common.{ap}
-use Rattle.olap_view.specs.Tables.{ids}
+use Rattle.olap_view.specs.Seen.{ids}
 use Rattle.olap_view.proofs.StoreReadingLemmas.{tells-row, tells-view}
 use Rattle.olap_view.proofs.judging.enter.Goals as goal
 

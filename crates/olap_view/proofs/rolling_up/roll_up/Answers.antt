@@ -4,8 +4,7 @@ use Rattle.olap_base.specs.Limits.{most_facts}
 use Rattle.olap_base.specs.Views.{Fact}
 use Rattle.olap_facts.specs.Seen.{fact_of}
 use Rattle.olap_records.specs.Records.{records_of}
-use Rattle.olap_view.specs.Seen.{each_view_of}
-use Rattle.olap_view.specs.Tables.{ids}
+use Rattle.olap_view.specs.Seen.{each_view_of, ids}
 use Rattle.olap_view.specs.Tallies.{StandsFor}
 use Rattle.olap_view.proofs.RollingUpLemmas.{facts_more, facts_so_far, reader_more, rolled_up}
 use Rattle.olap_view.proofs.rolling_up.roll_up.Goals as goal

@@ -3,7 +3,7 @@ use Rattle.std.proofs.Common.{◌≡◌, ◌-◌, length, true}
 use Rattle.olap_base.specs.Limits.{most_facts}
 use Rattle.olap_records.specs.Records.{records_of}
 use Rattle.olap_facts.specs.FactReading.{body_of, reading}
-use Rattle.olap_view.specs.Tables.{ids}
+use Rattle.olap_view.specs.Seen.{ids}
 use Rattle.olap_view.specs.Tallies.{StandsFor}
 use Rattle.olap_view.proofs.RollingUpLemmas.{facts_so_far}
 use Rattle.olap_view.proofs.rolling_up.roll_up.Given as goal

@@ -8,9 +8,9 @@ use Rattle.olap_base.specs.Limits.{most_members}
 use Rattle.olap_base.specs.Views.{Row, row_at, rows_from_views}
 use Rattle.olap_base.proofs.ListLemmas.{contains_head}
 use Rattle.olap_view.specs.Merging.{AreMerged, total_of_rows}
-use Rattle.olap_view.specs.Seen.{each_view_of, row_of, rows_of, view_of, views_of}
+use Rattle.olap_view.specs.Seen.{each_view_of, ids, row_of, rows_of, view_of, views_of}
 use Rattle.olap_view.specs.Stores.{Fits, IsStored, chosen}
-use Rattle.olap_view.specs.Tables.{HasPlaces, categories_of, ids, summary_at, view_in}
+use Rattle.olap_view.specs.Tables.{HasPlaces, categories_of, summary_at, view_in}
 use Rattle.olap_view.specs.declared.views.Row as row
 use Rattle.olap_view.specs.declared.views.View as told
 use Rattle.olap_view.proofs.SeenLemmas.{each_row, each_view}

@@ -3,8 +3,8 @@ use Rattle.std.proofs.Common.{◌≡◌, ◌<◌, ℕ, List, length, get_or, tak
 use Rattle.std.specs.Prelude.{Contains}
 use Rattle.olap_base.specs.Summaries.{Summary}
 use Rattle.olap_view.specs.Bounds.{IsUpTo}
-use Rattle.olap_view.specs.Seen.{summary_of}
-use Rattle.olap_view.specs.Tables.{IsAmong, JoinedSoFar, categories_of, ids}
+use Rattle.olap_view.specs.Seen.{ids, summary_of}
+use Rattle.olap_view.specs.Tables.{IsAmong, JoinedSoFar, categories_of}
 use Rattle.olap_base.specs.declared.ids.CatId.{CatId}
 use Rattle.olap_view.proofs.TableLemmas.{id_fresh, id_in, ids_more, so_far_step, untouched}
 use Rattle.olap_view.proofs.tables.Table.join.Goals as goal

@@ -1,7 +1,7 @@
 -- The views of the categories so far.
 use Rattle.std.proofs.Common.{◌≡◌, map, take}
-use Rattle.olap_view.specs.Seen.{each_view_of}
-use Rattle.olap_view.specs.Tables.{ids, view_in}
+use Rattle.olap_view.specs.Seen.{each_view_of, ids}
+use Rattle.olap_view.specs.Tables.{view_in}
 use Rattle.olap_view.proofs.tables.Table.views.Given as goal
 
 abbrev pub invariant-categories : goal.invariant-categories
