@@ -52,7 +52,7 @@ module _ (g : Graph) (earlier : List Record) (cs : List ℕ) (c : ℕ) (b : Bool
 -- ---- a row
 
 -- the checks of a row by what they find: a view above, no member, its category, no numbers, a row above
-abbrev checks : Bool → Bool → Bool → Bool → Bool → Option StoreKind
+abbrev pub checks : Bool → Bool → Bool → Bool → Bool → Option StoreKind
 checks view no_member same no_numbers row =
     if not view then Some kind.NoView
     else if no_member then Some kind.UnknownMember
@@ -61,7 +61,7 @@ checks view no_member same no_numbers row =
     else if row then Some kind.DuplicateRow
     else None
 
-last-check : (a n k s f : Bool) → a ≡ true → n ≡ false → k ≡ true → s ≡ false
+pub last-check : (a n k s f : Bool) → a ≡ true → n ≡ false → k ≡ true → s ≡ false
     → checks a n k s f ≡ (if f then Some kind.DuplicateRow else None)
 last-check a n k s f ea en ek es = rw (ea, en, ek, es) refl
 

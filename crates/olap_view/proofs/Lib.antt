@@ -13,5 +13,7 @@ pub mod StoredNumbersLemmas
 pub mod StoreReadingLemmas
 pub mod JudgingLemmas
 pub mod StoreTextLemmas
+pub mod FileOrderLemmas
 pub mod StoreLemmas
 pub mod StoreLawLemmas
+pub mod PrintedStoreLemmas

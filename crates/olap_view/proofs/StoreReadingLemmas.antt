@@ -27,7 +27,7 @@ use Rattle.olap_view.specs.declared.tables.Table.{Table}
 abbrev one-there : Option told.Summary → ℕ
 one-there o = cond (is_some o) 1 0
 
-or-nothing : {A : Type 0} (o : Option A) → option_or o None ≡ o
+pub or-nothing : {A : Type 0} (o : Option A) → option_or o None ≡ o
 or-nothing None = refl
 or-nothing (Some x) = refl
 
@@ -36,7 +36,7 @@ or-false true = refl
 or-false false = refl
 
 -- no element passes the test
-find-none : {A : Type 0} (p : A → Bool) (xs : List A) → list_any p xs ≡ false → find p xs ≡ None
+pub find-none : {A : Type 0} (p : A → Bool) (xs : List A) → list_any p xs ≡ false → find p xs ≡ None
 find-none p [] e = refl
 find-none {A} p (x ∷ xs) e = go (p x) e (find-none p xs)
   where
@@ -50,7 +50,7 @@ find-more : {A : Type 0} (p : A → Bool) (xs : List A) (x : A) (b : Bool) → p
     → find p (xs ++ x ∷ []) ≡ option_or (find p xs) (cond b (Some x) None)
 find-more p xs x b e = find-append p xs (x ∷ []) ∙ ap (λ t. option_or (find p xs) (cond t (Some x) None)) e
 
-any-more : {A : Type 0} (p : A → Bool) (xs : List A) (x : A) (b : Bool) → p x ≡ b
+pub any-more : {A : Type 0} (p : A → Bool) (xs : List A) (x : A) (b : Bool) → p x ≡ b
     → list_any p (xs ++ x ∷ []) ≡ (list_any p xs || b)
 any-more p xs x b e = list_any-append p xs (x ∷ []) ∙ ap (λ t. list_any p xs || t) (or-false (p x) ∙ e)
 
@@ -64,14 +64,14 @@ is-none (Some x) e = absurd (cc)
 
 -- ---- the views that are begun
 
-begun-more : (g : Graph) (rows : List Record) (r : Record) → is_beginning r ≡ true
+pub begun-more : (g : Graph) (rows : List Record) (r : Record) → is_beginning r ≡ true
     → begun g (rows ++ r ∷ []) ≡ begun g rows ++ category_number g r ∷ []
 begun-more g rows r e =
     ap (map (category_number g)) (filter-append is_beginning rows (r ∷ [])
     ∙ ap (λ b. filter is_beginning rows ++ cond b (r ∷ []) []) e)
     ∙ map-append (category_number g) (filter is_beginning rows) (r ∷ [])
 
-begun-same : (g : Graph) (rows : List Record) (r : Record) → is_beginning r ≡ false
+pub begun-same : (g : Graph) (rows : List Record) (r : Record) → is_beginning r ≡ false
     → begun g (rows ++ r ∷ []) ≡ begun g rows
 begun-same g rows r e =
     ap (map (category_number g)) (filter-append is_beginning rows (r ∷ [])

@@ -40,7 +40,7 @@ list_step {A} h p y b o xs e t q =
     go true None t q = rw (t, ← q) (sym (append-nil xs))
     go true (Some x) t q = rw (t, ← q) refl
 
-filter_map_same : {A B : Type 0} (h k : A → Option B) (xs : List A) → ((x : A) → Contains xs x → h x ≡ k x)
+pub filter_map_same : {A B : Type 0} (h k : A → Option B) (xs : List A) → ((x : A) → Contains xs x → h x ≡ k x)
     → filter_map h xs ≡ filter_map k xs
 filter_map_same h k [] f = refl
 filter_map_same h k (x ∷ xs) f = ap (λ o. cons_option o (filter_map h xs)) (f x (contains_head x xs))

@@ -20,7 +20,7 @@ mod viewing;
 mod views;
 
 pub use kinds::{StoreKind, StoreRefusal};
-pub use laws::printed_numbers_are_read;
+pub use laws::{direct_views_are_read_back, printed_numbers_are_read, printed_stores_are_read};
 pub use printing::print_view;
 pub use rolling_up::roll_up;
 pub use storing::{print_store, read_store};

@@ -1,8 +1,8 @@
 // The text of stored views: reading and printing it.
 ghost use Rattle.std.specs.Prelude.{◌≡◌, ◌<◌, ◌≤◌, ◌++◌, [], All, IfOk, IsTrue, MatchResult, None, Ok, OnOk, drop, length};
-ghost use Rattle.olap_base.specs.Graph.{IsCategory};
+ghost use Rattle.olap_base.specs.Graph.{IsCategory, IsHierarchy};
+ghost use Rattle.olap_base.specs.Instance.{IsInstance};
 ghost use Rattle.olap_base.specs.Limits.{most_members};
-ghost use Rattle.olap_instance.specs.Made.{IsMadeFor};
 ghost use Rattle.olap_records.specs.Faults.{first_fault};
 ghost use Rattle.olap_records.specs.Records.{records_of};
 ghost use Rattle.olap_records.specs.Texts.{text_of_rows};
@@ -10,7 +10,7 @@ ghost use Rattle.olap_view.specs.Kinds.{IsStoreRefusedBy};
 ghost use Rattle.olap_view.specs.Seen.{each_view_of, rows_of, views_of};
 ghost use Rattle.olap_view.specs.StoreReading.{IsSoundStore, IsStoreFaultOf, Tells};
 ghost use Rattle.olap_view.specs.StoreText.{has_header, records_behind, records_of_store, store_fault, store_read, store_text, views_read};
-ghost use Rattle.olap_view.specs.Stores.{Fits, IsStore};
+ghost use Rattle.olap_view.specs.Stores.{Fits, IsInFileOrder, IsStore};
 
 use crate::judging::{enter, judge};
 use crate::printing::print_row;
@@ -68,9 +68,18 @@ fn print(
     out.finish()
 }
 
+// What is known of every graph and every instance, which reading back rests on.
+fn recall(graph: &Graph, instance: &Instance)
+    ensures hierarchy { IsHierarchy graph.now }
+    ensures sound { IsInstance instance.now }
+{
+    graph.categories();
+    instance.members();
+}
+
 /// The text of stored views: a header, and for each view a record that begins it and a record for each row, with the
-/// category's name, the member's id and the four numbers in decimal. Its records read back as these. `Memory`: want of
-/// memory.
+/// category's name, the member's id and the four numbers in decimal. Its records read back as these, and reading it
+/// gives the same store, where the views fit and their rows stand in file order. `Memory`: want of memory.
 pub fn print_store(
     alloc: Global,
     graph: &Graph,
@@ -83,7 +92,13 @@ pub fn print_store(
     ensures text { IfOk result (λ text. text ≡ store_text graph.now instance.now (views_of store.now)) }
     ensures reads { IfOk result (λ text. records_of text
         ≡ records_of_store graph.now instance.now (views_of store.now)) }
+
+    ensures reads_back { IsStore (views_of store.now) → All Fits (views_of store.now)
+        → All (IsInFileOrder instance.now) (views_of store.now)
+        → IfOk result (λ text. store_read graph.now instance.now (records_of text)
+        ≡ Ok (views_of store.now)) }
 {
+    recall(graph, instance);
     Ok(Text::from_vec(print(alloc, graph, instance, store)?))
 }
 
@@ -160,8 +175,6 @@ pub fn read_store(
     instance: &Instance,
     text: &[u8],
 ) -> Result<Store, StoreRefusal>
-    requires made { IsMadeFor graph.now instance.now }
-
     ensures read { MatchResult result
         (λ store. store_read graph.now instance.now (records_of text.now) ≡ Ok (views_of store))
         (λ e. IsStoreRefusedBy e (store_read graph.now instance.now (records_of text.now))) }
@@ -171,6 +184,7 @@ pub fn read_store(
     ensures categories { IfOk result (λ store. All (λ v. IsCategory graph.now v.category) (views_of store)) }
     ensures at_members { IfOk result (λ store.
         All (λ v. All (λ r. r.member < length instance.now) v.rows) (views_of store)) }
+    ensures order { IfOk result (λ store. All (IsInFileOrder instance.now) (views_of store)) }
 {
     let mut rows = Rows::new(alloc, text);
     if !begins(&mut rows)? {

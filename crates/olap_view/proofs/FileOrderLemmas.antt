@@ -1,0 +1,202 @@
+-- Rows at members of a category, in file order.
+--     all-rows      what holds of the rows of a function of members
+--     each-in-order they stand so
+--     store-of      such views may stand in a store
+--     rows-back     rows that stand so are those of the function that finds each at its member
+use Rattle.std.proofs.Common.{◌≡◌, ◌≢◌, ◌+◌, ◌<◌, ◌≤◌, ◌==◌, ◌∷◌, ◌∙◌, [], ℕ, zero, suc, Bool, true, false, cond, List, length, get_or, map, filter, filter_map, find, Option, Some, None, IfSome, option_map, refl, sym, ap, subst, inl, inr, arith}
+use Rattle.std.specs.Prelude.{All, AllPairs, Contains}
+use Rattle.std.specs.List.{cons_option, range_with_len}
+use Rattle.std.proofs.lemmas.Bool.Decides.{Decides-eqb, eqb_tells, nat_tests}
+use Rattle.std.proofs.lemmas.List.{get_or-map, length-map}
+use Rattle.std.proofs.lemmas.List.Elements.{All-cons, All-contains, All-map, All-nil, Contains-get_or}
+use Rattle.std.proofs.lemmas.List.Kept.{AllPairs-cons, AllPairs-filter}
+use Rattle.olap_base.specs.Deciding.{contains_cons}
+use Rattle.olap_base.specs.Instance.{Instance, IsMemberOf, category_of}
+use Rattle.olap_base.specs.Limits.{most_views}
+use Rattle.olap_base.specs.Summaries.{Summary}
+use Rattle.olap_base.specs.Views.{Row, View, members_of, row_at}
+use Rattle.olap_base.proofs.ListLemmas.{Contains-from_filter, Contains-from_range_at, contains_head}
+use Rattle.olap_view.specs.Stores.{IsInFileOrder, IsStore}
+use Rattle.olap_view.proofs.ViewingLemmas.{filter_map_same, member_is}
+
+-- the rows of these members, where there are any
+abbrev pub rows_at : (ℕ → Option Summary) → List ℕ → List Row
+rows_at h ys = filter_map (λ y. row_at y (h y)) ys
+
+pub all-rows : (P : Row → Type 0) (h : ℕ → Option Summary) (ys : List ℕ)
+    → ((y : ℕ) → Contains ys y → IfSome (row_at y (h y)) P) → All P (rows_at h ys)
+all-rows P h [] f = All-nil P
+all-rows P h (y ∷ ys) f = cons (row_at y (h y)) (f y (contains_head y ys))
+    (all-rows P h ys (λ z c. f z (contains_cons z ys y c)))
+  where
+    cons : (o : Option Row) → IfSome o P → All P (rows_at h ys) → All P (cons_option o (rows_at h ys))
+    cons None t a = a
+    cons (Some r) t a = All-cons P r (rows_at h ys) t a
+
+-- ---- rows of a function of members
+
+range-ascends : (a n : ℕ) → AllPairs ◌<◌ (range_with_len a n)
+range-ascends a zero = λ j k d l w. absurd (omega arith)
+range-ascends a (suc n) = AllPairs-cons ◌<◌ a (range_with_len (a + 1) n) above (range-ascends (a + 1) n)
+  where
+    above : All (λ z. a < z) (range_with_len (a + 1) n)
+    above k d l =
+        let z = get_or (range_with_len (a + 1) n) k d in
+        let h = Contains-from_range_at (a + 1) n z (Contains-get_or (range_with_len (a + 1) n) k d l) in
+        omega (arith, h.0)
+
+members-ascend : (i : Instance) (c : ℕ) → AllPairs ◌<◌ (members_of i c)
+members-ascend i c =
+    AllPairs-filter ◌<◌ (λ y. category_of i y == c) (range_with_len 0 (length i)) (range-ascends 0 (length i))
+
+rows-ascend : (h : ℕ → Option Summary) (ys : List ℕ) → AllPairs ◌<◌ ys
+    → AllPairs ◌<◌ (map (λ r. r.member) (rows_at h ys))
+rows-ascend h [] a = λ j k d l w. absurd (omega arith)
+rows-ascend h (y ∷ ys) a = go (h y) (rows-ascend h ys (λ j k d l w. a (suc j) (suc k) d (omega arith) (omega arith)))
+  where
+    above : All (λ z. y < z) ys
+    above k d l = a 0 (suc k) d (omega arith) (omega arith)
+
+    later : (z : ℕ) (o : Option Summary) → y < z → IfSome (row_at z o) (λ (r : Row). y < r.member)
+    later z None l = tt
+    later z (Some s) l = l
+
+    go : (o : Option Summary) → AllPairs ◌<◌ (map (λ (r : Row). r.member) (rows_at h ys))
+        → AllPairs ◌<◌ (map (λ (r : Row). r.member) (cons_option (row_at y o) (rows_at h ys)))
+    go None e = e
+    go (Some s) e =
+        AllPairs-cons ◌<◌ y (map (λ (r : Row). r.member) (rows_at h ys))
+        (All-map (λ z. y < z) (λ (r : Row). r.member) (rows_at h ys)
+        (all-rows (λ (r : Row). y < r.member) h ys (λ z k. later z (h z) (All-contains (λ w. y < w) ys z above k)))) e
+
+-- the view of c with a row or none for each member
+abbrev pub view_at : Instance → (ℕ → Option Summary) → ℕ → View
+view_at i h c = record { category = c; rows = rows_at h (members_of i c) }
+
+in-order : (i : Instance) (h : ℕ → Option Summary) (c : ℕ) → IsInFileOrder i (view_at i h c)
+in-order i h c = record {
+  members = all-rows (λ (r : Row). IsMemberOf i c r.member) h (members_of i c)
+      (λ y k. inside y (h y) (member_is i c y k));
+  ascend = rows-ascend h (members_of i c) (members-ascend i c);
+}
+  where
+    inside : (y : ℕ) (o : Option Summary) → IsMemberOf i c y
+        → IfSome (row_at y o) (λ (r : Row). IsMemberOf i c r.member)
+    inside y None m = tt
+    inside y (Some s) m = m
+
+pub each-in-order : (i : Instance) (h : ℕ → Option Summary) (cs : List ℕ)
+    → All (IsInFileOrder i) (map (view_at i h) cs)
+each-in-order i h cs = All-map (IsInFileOrder i) (view_at i h) cs (λ k d l. in-order i h (get_or cs k d))
+
+categories-back : (i : Instance) (h : ℕ → Option Summary) (cs : List ℕ)
+    → map (λ v. v.category) (map (view_at i h) cs) ≡ cs
+categories-back i h [] = refl
+categories-back i h (c ∷ cs) = ap (λ l. c ∷ l) (categories-back i h cs)
+
+-- a store may hold such views of few different categories
+pub store-of : (i : Instance) (h : ℕ → Option Summary) (cs : List ℕ) → length cs ≤ most_views → AllPairs ◌≢◌ cs
+    → IsStore (map (view_at i h) cs)
+store-of i h cs few differ = record {
+  few = let n = length-map cs (view_at i h) in omega arith;
+  categories = subst (AllPairs ◌≢◌) (sym (categories-back i h cs)) differ;
+  members = All-map (λ (v : View). AllPairs ◌≢◌ (map (λ (r : Row). r.member) v.rows)) (view_at i h) cs
+      (λ n e w. apart (view_at i h (get_or cs n e)) (in-order i h (get_or cs n e)));
+}
+  where
+    apart : (v : View) → IsInFileOrder i v → AllPairs ◌≢◌ (map (λ (r : Row). r.member) v.rows)
+    apart v o j k d l w e = let q = o.ascend j k d l w in omega arith
+
+-- ---- and back
+
+-- the row at y among rows
+abbrev pub row_in : List Row → ℕ → Option Row
+row_in rows y = find (λ r. r.member == y) rows
+
+-- its summary
+abbrev pub summary_in : List Row → ℕ → Option Summary
+summary_in rows y = option_map (λ r. r.summary) (row_in rows y)
+
+-- later rows stand at later members
+pub later-rows : (r : Row) (rows : List Row) → AllPairs ◌<◌ (map (λ s. s.member) (r ∷ rows))
+    → All (λ s. r.member < s.member) rows
+later-rows r rows p k d l =
+    let e = get_or-map (λ (s : Row). s.member) rows k d 0 l in
+    let n = length-map rows (λ (s : Row). s.member) in
+    let h : r.member < get_or (map (λ (s : Row). s.member) rows) k 0 = p 0 (suc k) 0 (omega arith) (omega arith) in
+    omega arith
+
+pub ascend-on : (r : Row) (rows : List Row) → AllPairs ◌<◌ (map (λ s. s.member) (r ∷ rows))
+    → AllPairs ◌<◌ (map (λ s. s.member) rows)
+ascend-on r rows p j k d l w = p (suc j) (suc k) d (omega arith) (omega arith)
+
+-- before the first row there is none
+row-before : (y : ℕ) (rows : List Row) → All (λ r. y < r.member) rows → row_in rows y ≡ None
+row-before y [] a = refl
+row-before y (r ∷ rows) a =
+    let l = a 0 r (omega arith) in
+    let e : (r.member == y) ≡ false = grind (arith, nat_tests) in
+    rw e (row-before y rows (λ k d l. a (suc k) d (omega arith)))
+
+none-left : (ys : List ℕ) → rows_at (summary_in []) ys ≡ []
+none-left [] = refl
+none-left (y ∷ ys) = none-left ys
+
+-- one member more, which has a row or none
+taken : (h : ℕ → Option Row) (n : ℕ) (b : Bool) (ys : List ℕ) (r : Row) (rows : List Row) → b ≡ true → h n ≡ Some r
+    → filter_map h ys ≡ rows → filter_map h (cond b (n ∷ ys) ys) ≡ r ∷ rows
+taken h n b ys r rows e f g = rw (e, f, g) refl
+
+left : (h : ℕ → Option Row) (n : ℕ) (b : Bool) (ys : List ℕ) (rows : List Row) → h n ≡ None
+    → filter_map h ys ≡ rows → filter_map h (cond b (n ∷ ys) ys) ≡ rows
+left h n true ys rows f g = rw (f, g) refl
+left h n false ys rows f g = g
+
+-- the row at its own member
+own-row : (r : Row) (rows : List Row) (n : ℕ) → (r.member == n) ≡ true → r.member ≡ n
+    → row_at n (summary_in (r ∷ rows) n) ≡ Some r
+own-row r rows n t e = rw t (ap (λ m. Some (record { member = m; summary = r.summary })) (sym e))
+
+-- rows that pass, from the member n on and below n + k
+back-from : (p : ℕ → Bool) (n k : ℕ) (rows : List Row) → All (λ r. n ≤ r.member) rows
+    → AllPairs ◌<◌ (map (λ r. r.member) rows) → All (λ r. (r.member < n + k) × (p r.member ≡ true)) rows
+    → rows_at (summary_in rows) (filter p (range_with_len n k)) ≡ rows
+back-from p n zero [] a o q = refl
+back-from p n zero (r ∷ rows) a o q =
+    let l = a 0 r (omega arith) in let h = (q 0 r (omega arith)).0 in absurd (omega arith)
+back-from p n (suc k) [] a o q = none-left (filter p (range_with_len n (suc k)))
+back-from p n (suc k) (r ∷ rows) a o q = elim (eqb_tells r.member n) [
+  | inl t ↦
+      let first : p n ≡ true = ap p (sym t.1) ∙ (q 0 r (omega arith)).1 in
+      let above : All (λ s. n + 1 ≤ s.member) rows = λ j d l. let h = later-rows r rows o j d l in let e = t.1 in
+      omega arith in
+      let rest = back-from p (n + 1) k rows above (ascend-on r rows o)
+      (λ j d l. let h = q (suc j) d (omega arith) in (omega (arith, h.0), h.1)) in
+      taken (λ y. row_at y (summary_in (r ∷ rows) y)) n (p n) (filter p (range_with_len (n + 1) k)) r rows first
+      (own-row r rows n t.0 t.1) (filter_map_same (λ y. row_at y (summary_in (r ∷ rows) y))
+      (λ y. row_at y (summary_in rows y)) (filter p (range_with_len (n + 1) k))
+      (λ y c. let l = (Contains-from_range_at (n + 1) k y (Contains-from_filter p (range_with_len (n + 1) k) y c).0).0 in
+      let m = t.1 in
+      let e : (r.member == y) ≡ false = grind (arith, nat_tests) in
+      rw e refl) ∙ rest)
+  | inr t ↦
+      let l = a 0 r (omega arith) in
+      let m = t.1 in
+      let above : All (λ s. n + 1 ≤ s.member) (r ∷ rows) = from (omega arith) (later-rows r rows o) in
+      left (λ y. row_at y (summary_in (r ∷ rows) y)) n (p n) (filter p (range_with_len (n + 1) k)) (r ∷ rows)
+      (ap (λ w. row_at n (option_map (λ (s : Row). s.summary) w))
+      (row-before n (r ∷ rows) (λ j d l. let h = above j d l in omega arith)))
+      (back-from p (n + 1) k (r ∷ rows) above o
+      (λ j d l. let h = q j d l in (omega (arith, h.0), h.1)))
+]
+  where
+    from : n + 1 ≤ r.member → All (λ s. r.member < s.member) rows → All (λ s. n + 1 ≤ s.member) (r ∷ rows)
+    from b f zero d l = b
+    from b f (suc j) d l = let h = f j d (omega arith) in omega arith
+
+-- rows in file order are those of the function that finds each at its member
+pub rows-back : (i : Instance) (v : View) → IsInFileOrder i v
+    → rows_at (summary_in v.rows) (members_of i v.category) ≡ v.rows
+rows-back i v o = back-from (λ y. category_of i y == v.category) 0 (length i) v.rows (λ k d l. omega arith) o.ascend
+    (λ k d l. let m = o.members k d l in
+    (omega (arith, m.0), (Decides-eqb (category_of i (get_or v.rows k d).member) v.category).1 m.1))

@@ -1,0 +1,368 @@
+-- A printed store is read whole: no record has a fault, and each row is found at its member.
+--     rows-pass, views-pass    no record of a view has a fault after the views before it, nor one of the views
+--     said-views               what the records say of a member is its row
+--     printed-stores           the views are read as they were
+--     direct-views             so are direct views
+use Rattle.std.proofs.Common.{◌≡◌, ◌≢◌, ◌+◌, ◌<◌, ◌≤◌, ◌==◌, ◌&&◌, ◌||◌, ◌++◌, ◌∷◌, ◌∙◌, [], ℕ, zero, suc, Bool, true, false, not, cond, List, drop, length, get_or, map, filter, find, flat_map, decimal, Option, Some, None, Ok, is_none, nat_le, option_map, option_and_then, unwrap_or, if◌then◌else◌, refl, sym, ap, subst, arith, append_assoc, zero-add}
+use Rattle.std.specs.Prelude.{All, AllPairs}
+use Rattle.std.specs.List.{list_any}
+use Rattle.std.specs.Option.{option_or}
+use Rattle.std.proofs.lemmas.Bool.Decides.{Decides-eqb, nat_tests}
+use Rattle.std.proofs.lemmas.Fmt.{decimal_is_IsNumeral_wide}
+use Rattle.std.proofs.lemmas.List.{append-nil, get_or-map, length-append, length-map, map-append}
+use Rattle.std.proofs.lemmas.List.Elements.{All-map, filter-append}
+use Rattle.std.proofs.lemmas.List.Folds.{find-append, list_any-append, list_any_none, map_fixed}
+use Rattle.olap_base.specs.Graph.{Graph, IsCategory, IsHierarchy}
+use Rattle.olap_base.specs.Instance.{Instance, IsInstance, IsMember, IsMemberOf, category_of, member_at, nobody}
+use Rattle.olap_base.specs.Limits.{most_views}
+use Rattle.olap_base.specs.Naming.{place_of}
+use Rattle.olap_base.specs.Views.{Row, View, direct_view, direct_views, row_at, total_of_facts}
+use Rattle.olap_graph.specs.Lookups.{category_named, name_of_category}
+use Rattle.olap_instance.proofs.CategoryNames.{named-category}
+use Rattle.olap_instance.proofs.PlaceFacts.{first-at}
+use Rattle.olap_records.specs.Faults.{first_fault, or_after}
+use Rattle.olap_view.specs.StoreLaws.{DirectViewsAreReadBack, PrintedStoresAreRead}
+use Rattle.olap_view.specs.StoreReading.{Record, said_of}
+use Rattle.olap_view.specs.StoreText.{beginning, begun, category_number, beginning_fault, has_header, is_beginning, is_row_of, member_named, member_number, records_of_one, records_of_store, row_fault, row_read, store_fault, store_read, summary_read, view_read, views_read}
+use Rattle.olap_view.specs.Stores.{Fits, IsInFileOrder, IsStore, IsStored}
+use Rattle.olap_view.specs.ViewText.{fields_in}
+use Rattle.olap_view.specs.declared.kinds.StoreKind.{StoreKind}
+use Rattle.olap_view.specs.declared.kinds.StoreKind.TheVariants as kind
+use Rattle.olap_view.proofs.FileOrderLemmas.{ascend-on, each-in-order, later-rows, row_in, rows-back, store-of, summary_in}
+use Rattle.olap_view.proofs.FittingLemmas.{direct_stored}
+use Rattle.olap_view.proofs.JudgingLemmas.{last-check}
+use Rattle.olap_view.proofs.StoreLawLemmas.{printed-numbers}
+use Rattle.olap_view.proofs.StoreReadingLemmas.{any-more, begun-more, begun-same, find-none, or-nothing}
+use Rattle.olap_view.proofs.ViewingLemmas.{fails, rows_same}
+
+-- ---- over plain variables
+
+not-both : (a b c : Bool) → b ≡ false → a && (b && c) ≡ false
+not-both true b c e = rw e refl
+not-both false b c e = refl
+
+-- a record whose category is found, and which passes what comes behind
+named-passes : (o : Option ℕ) (c : ℕ) (after : ℕ → Option StoreKind) → o ≡ Some c → after c ≡ None
+    → (if is_none o then Some kind.UnknownCategory else after (unwrap_or o 0)) ≡ None
+named-passes o c after e h = rw e h
+
+row-branch : (o : Option ℕ) (c : ℕ) (b : Bool) (p q : Option StoreKind) → o ≡ Some c → b ≡ false → q ≡ None
+    → (if is_none o then Some kind.UnknownCategory else if b then p else q) ≡ None
+row-branch o c b p q e f h = rw (e, f) h
+
+none-after : (n : ℕ) (o : Option StoreKind) (after : Option (ℕ × StoreKind)) → o ≡ None → after ≡ None
+    → or_after n o after ≡ None
+none-after n o after e f = rw e f
+
+-- what is read of the record that is found is the summary of the row that is found
+found : (p q : Bool) (x : Record) (r : Row) (o : Option Record) (s : Option Row) → p ≡ q
+    → summary_read x ≡ Some r.summary → option_and_then summary_read o ≡ option_map (λ (t : Row). t.summary) s
+    → option_and_then summary_read (cond p (Some x) o) ≡ option_map (λ (t : Row). t.summary) (cond q (Some r) s)
+found p true x r o s e h k = rw e h
+found p false x r o s e h k = rw e k
+
+or-false : (b c : Bool) → b ≡ false → c ≡ false → b || c ≡ false
+or-false b c e f = rw (e, f) refl
+
+or-true : (b : Bool) → b || true ≡ true
+or-true true = refl
+or-true false = refl
+
+is-self : (c : ℕ) → (c == c) ≡ true
+is-self c = (Decides-eqb c c).1 refl
+
+-- views of categories that differ
+abbrev Apart : List View → Type 0
+Apart [] = Unit {0}
+Apart (v ∷ views) = All (λ w. v.category ≢ w.category) views × Apart views
+
+apart : (views : List View) → AllPairs ◌≢◌ (map (λ v. v.category) views) → Apart views
+apart [] p = tt
+apart (v ∷ views) p = (
+  first,
+  apart views (λ j k d l w. p (suc j) (suc k) d (omega arith) (omega arith)),
+)
+  where
+    first : All (λ w. v.category ≢ w.category) views
+    first k d l e =
+        let n = length-map views (λ (w : View). w.category) in
+        let other = get_or-map (λ (w : View). w.category) views k d 0 l in
+        p 0 (suc k) 0 (omega arith) (omega arith) (e ∙ sym other)
+
+module _ (g : Graph) (i : Instance) (hierarchy : IsHierarchy g) (sound : IsInstance i) where
+  abbrev fault : List Record → Record → Option StoreKind
+  fault = store_fault g i
+
+  -- ---- a record
+
+  -- the record of a row in the view of c
+  abbrev record_in : ℕ → Row → Record
+  record_in c r = name_of_category g c ∷ fields_in i r
+
+  -- the record that begins the view of c
+  abbrev first_of : ℕ → Record
+  first_of c = beginning (name_of_category g c)
+
+  named : (c : ℕ) → IsCategory g c → unwrap_or (category_named g (name_of_category g c)) 0 ≡ c
+  named c k = ap (λ o. unwrap_or o 0) (named-category g hierarchy c k)
+
+  member-found : (m : ℕ) → IsMember i m → place_of (member_at i m).id (map (λ x. x.id) i) ≡ Some m
+  member-found m l =
+      let n = length-map i (λ x. x.id) in
+      let at : (j : ℕ) → j < length i → get_or (map (λ x. x.id) i) j [] ≡ (member_at i j).id =
+      λ j k. get_or-map (λ x. x.id) i j nobody [] k in
+      first-at (member_at i m).id (map (λ x. x.id) i) 0 m (omega arith) (at m l) (λ j b e.
+      let same : j ≡ m = sound.ids_differ j m (omega arith) l (sym (at j (omega arith)) ∙ e) in
+      omega arith) ∙ ap (λ (x : ℕ). Some x) (zero-add m)
+
+  is-row : (c : ℕ) (r : Row) → IsStored r → is_beginning (record_in c r) ≡ false
+  is-row c r h =
+      let few = h.few in
+      let filled = (decimal_is_IsNumeral_wide r.summary.count (omega arith)).0.0 in
+      let e : (length (decimal r.summary.count) == 0) ≡ false = grind (arith, nat_tests) in
+      not-both (length (member_at i r.member).id == 0) (length (decimal r.summary.count) == 0) _ e
+
+  row-of : (c y : ℕ) (r : Row) → IsStored r → IsMember i r.member
+      → is_row_of i y (record_in c r) ≡ (r.member == y)
+  row-of c y r h m =
+      ap (λ b. not b && (member_number i (record_in c r) == y)) (is-row c r h)
+      ∙ ap (λ o. unwrap_or o 0 == y) (member-found r.member m)
+
+  beginning-passes : (before : List Record) (c : ℕ) → IsCategory g c
+      → list_any (λ d. d == c) (begun g before) ≡ false → length (begun g before) < most_views
+      → fault before (first_of c) ≡ None
+  beginning-passes before c k new room =
+      named-passes (category_named g (name_of_category g c)) c (beginning_fault g before) (named-category g hierarchy c k)
+      (let n : nat_le most_views (length (begun g before)) ≡ false = grind (arith, nat_tests) in rw (new, n) refl)
+
+  row-passes : (before : List Record) (c : ℕ) (r : Row) → IsCategory g c → IsStored r → IsMemberOf i c r.member
+      → list_any (λ d. d == c) (begun g before) ≡ true → list_any (is_row_of i r.member) before ≡ false
+      → fault before (record_in c r) ≡ None
+  row-passes before c r k h m above new =
+      let x = record_in c r in
+      let number : member_number i x ≡ r.member = ap (λ o. unwrap_or o 0) (member-found r.member m.0) in
+      let same : (category_of i (member_number i x) == category_number g x) ≡ true =
+      ap (λ y. category_of i y == category_number g x) number ∙ ap (λ d. category_of i r.member == d) (named c k)
+      ∙ (Decides-eqb (category_of i r.member) c).1 m.1 in
+      row-branch (category_named g (name_of_category g c)) c (is_beginning x)
+      (beginning_fault g before (category_number g x)) (row_fault g i before x) (named-category g hierarchy c k)
+      (is-row c r h)
+      (last-check (list_any (λ d. d == category_number g x) (begun g before)) (is_none (member_named i x))
+      (category_of i (member_number i x) == category_number g x) (is_none (summary_read x))
+      (list_any (is_row_of i (member_number i x)) before)
+      (ap (λ y. list_any (λ d. d == y) (begun g before)) (named c k) ∙ above)
+      (ap is_none (member-found r.member m.0)) same (ap is_none (printed-numbers i (name_of_category g c) r h))
+      ∙ ap (λ y. if list_any (is_row_of i y) before then Some kind.DuplicateRow else None) number
+      ∙ ap (λ b. if b then Some kind.DuplicateRow else None) new)
+
+  -- ---- the records of views
+
+  -- a view of a category of the graph, with rows that may be stored, in file order
+  abbrev IsGood : View → Type 0
+  IsGood v = IsCategory g v.category × Fits v × IsInFileOrder i v
+
+  abbrev records : List View → List Record
+  records views = flat_map (records_of_one g i) views
+
+  begun-append : (xs ys : List Record) → begun g (xs ++ ys) ≡ begun g xs ++ begun g ys
+  begun-append xs ys =
+      ap (map (category_number g)) (filter-append is_beginning xs ys)
+      ∙ map-append (category_number g) (filter is_beginning xs) (filter is_beginning ys)
+
+  begun-rows : (c : ℕ) (rows : List Row) → All IsStored rows → begun g (map (record_in c) rows) ≡ []
+  begun-rows c [] h = refl
+  begun-rows c (r ∷ rows) h =
+      let later = filter is_beginning (map (record_in c) rows) in
+      ap (λ b. map (category_number g) (cond b (record_in c r ∷ later) later)) (is-row c r (h 0 r (omega arith)))
+      ∙ begun-rows c rows (λ k d l. h (suc k) d (omega arith))
+
+  begun-one : (v : View) → IsGood v → begun g (records_of_one g i v) ≡ v.category ∷ []
+  begun-one v w =
+      ap (λ l. category_number g (first_of v.category) ∷ l) (begun-rows v.category v.rows w.1)
+      ∙ ap (λ c. c ∷ []) (named v.category w.0)
+
+  begun-all : (views : List View) → All IsGood views → begun g (records views) ≡ map (λ v. v.category) views
+  begun-all [] w = refl
+  begun-all (v ∷ views) w =
+      begun-append (records_of_one g i v) (records views)
+      ∙ ap (λ l. l ++ begun g (records views)) (begun-one v (w 0 v (omega arith)))
+      ∙ ap (λ l. v.category ∷ l) (begun-all views (λ k d l. w (suc k) d (omega arith)))
+
+  -- no record of the view is a row of a member of another category
+  elsewhere : (v : View) → IsGood v → (y : ℕ) → category_of i y ≢ v.category
+      → list_any (is_row_of i y) (records_of_one g i v) ≡ false
+  elsewhere v w y n =
+      list_any_none (is_row_of i y) (map (record_in v.category) v.rows)
+      (All-map (λ x. is_row_of i y x ≡ false) (record_in v.category) v.rows (λ k d l.
+      let r = get_or v.rows k d in
+      let m = w.2.members k d l in
+      row-of v.category y r (w.1 k d l) m.0
+      ∙ fails r.member r.member y refl (λ e. n (ap (category_of i) (sym e) ∙ m.1))))
+
+  -- ---- no fault
+
+  rows-pass : (c : ℕ) → IsCategory g c → (rows : List Row) (before rest : List Record) → All IsStored rows
+      → All (λ r. IsMemberOf i c r.member) rows → AllPairs ◌<◌ (map (λ r. r.member) rows)
+      → list_any (λ d. d == c) (begun g before) ≡ true
+      → All (λ r. list_any (is_row_of i r.member) before ≡ false) rows
+      → first_fault fault (before ++ map (record_in c) rows) rest ≡ None
+      → first_fault fault before (map (record_in c) rows ++ rest) ≡ None
+  rows-pass c k [] before rest h m o above new e =
+      subst (λ b. first_fault fault b rest ≡ None) (append-nil before) e
+  rows-pass c k (r ∷ rows) before rest h m o above new e =
+      let x = record_in c r in
+      let here = h 0 r (omega arith) in
+      let own = m 0 r (omega arith) in
+      none-after (length before) (fault before x)
+      (first_fault fault (before ++ x ∷ []) (map (record_in c) rows ++ rest))
+      (row-passes before c r k here own above (new 0 r (omega arith)))
+      (rows-pass c k rows (before ++ x ∷ []) rest (λ j d l. h (suc j) d (omega arith))
+      (λ j d l. m (suc j) d (omega arith)) (ascend-on r rows o)
+      (ap (list_any (λ d. d == c)) (begun-same g before x (is-row c r here)) ∙ above)
+      (λ j d l. let y = (get_or rows j d).member in
+      let after = later-rows r rows o j d l in
+      any-more (is_row_of i y) before x false
+      (row-of c y r here own.0 ∙ fails r.member r.member y refl (λ q. omega arith))
+      ∙ ap (λ b. b || false) (new (suc j) d (omega arith)))
+      (subst (λ b. first_fault fault b rest ≡ None) (sym (append_assoc before (x ∷ []) (map (record_in c) rows))) e))
+
+  views-pass : (views : List View) (before : List Record) → All IsGood views → Apart views
+      → length (begun g before) + length views ≤ most_views
+      → All (λ v. list_any (λ d. d == v.category) (begun g before) ≡ false) views
+      → All (λ v. (y : ℕ) → category_of i y ≡ v.category → list_any (is_row_of i y) before ≡ false) views
+      → first_fault fault before (records views) ≡ None
+  views-pass [] before w a room new none = refl
+  views-pass (v ∷ views) before w a room new none =
+      let c = v.category in
+      let good = w 0 v (omega arith) in
+      let x = first_of c in
+      let begins : begun g (before ++ x ∷ []) ≡ begun g before ++ c ∷ [] =
+      begun-more g before x refl ∙ ap (λ d. begun g before ++ d ∷ []) (named c good.0) in
+      let after : begun g (before ++ records_of_one g i v) ≡ begun g before ++ c ∷ [] =
+      begun-append before (records_of_one g i v) ∙ ap (λ l. begun g before ++ l) (begun-one v good) in
+      none-after (length before) (fault before x)
+      (first_fault fault (before ++ x ∷ []) (map (record_in c) v.rows ++ records views))
+      (beginning-passes before c good.0 (new 0 v (omega arith)) (omega arith))
+      (rows-pass c good.0 v.rows (before ++ x ∷ []) (records views) good.1 good.2.members good.2.ascend
+      (ap (list_any (λ d. d == c)) begins ∙ any-more (λ d. d == c) (begun g before) c true (is-self c)
+      ∙ or-true (list_any (λ d. d == c) (begun g before)))
+      (λ k d l. let y = (get_or v.rows k d).member in
+      any-more (is_row_of i y) before x false refl
+      ∙ ap (λ b. b || false) (none 0 v (omega arith) y (good.2.members k d l).1))
+      (subst (λ b. first_fault fault b (records views) ≡ None)
+      (sym (append_assoc before (x ∷ []) (map (record_in c) v.rows)))
+      (views-pass views (before ++ records_of_one g i v) (λ k d l. w (suc k) d (omega arith)) a.1
+      (let n = ap length after in let m = length-append (begun g before) (c ∷ []) in omega arith)
+      (λ k d l. let other = (get_or views k d).category in
+      ap (list_any (λ e. e == other)) after
+      ∙ any-more (λ e. e == other) (begun g before) c false (fails c c other refl (a.0 k d l))
+      ∙ ap (λ b. b || false) (new (suc k) d (omega arith)))
+      (λ k d l y e. list_any-append (is_row_of i y) before (records_of_one g i v)
+      ∙ or-false (list_any (is_row_of i y) before) (list_any (is_row_of i y) (records_of_one g i v))
+      (none (suc k) d (omega arith) y e) (elsewhere v good y (λ q. a.0 k d l (sym q ∙ e)))))))
+
+  -- ---- each row at its member
+
+  abbrev rows_in : List View → List Row
+  rows_in views = flat_map (λ v. v.rows) views
+
+  said-rows : (y c : ℕ) (rows others : List Row) (behind : List Record) → All IsStored rows
+      → All (λ r. IsMemberOf i c r.member) rows → said_of i behind y ≡ summary_in others y
+      → said_of i (map (record_in c) rows ++ behind) y ≡ summary_in (rows ++ others) y
+  said-rows y c [] others behind h m e = e
+  said-rows y c (r ∷ rows) others behind h m e =
+      let x = record_in c r in
+      let here = h 0 r (omega arith) in
+      found (is_row_of i y x) (r.member == y) x r (find (is_row_of i y) (map (record_in c) rows ++ behind))
+      (row_in (rows ++ others) y) (row-of c y r here (m 0 r (omega arith)).0)
+      (printed-numbers i (name_of_category g c) r here)
+      (said-rows y c rows others behind (λ j d l. h (suc j) d (omega arith)) (λ j d l. m (suc j) d (omega arith)) e)
+
+  said-views : (y : ℕ) (views : List View) → All IsGood views
+      → said_of i (records views) y ≡ summary_in (rows_in views) y
+  said-views y [] w = refl
+  said-views y (v ∷ views) w =
+      let good = w 0 v (omega arith) in
+      said-rows y v.category v.rows (rows_in views) (records views) good.1 good.2.members
+      (said-views y views (λ k d l. w (suc k) d (omega arith)))
+
+  -- a view has no row at a member of another category
+  none-in : (v : View) → IsInFileOrder i v → (y : ℕ) → category_of i y ≢ v.category → row_in v.rows y ≡ None
+  none-in v o y n =
+      find-none (λ r. r.member == y) v.rows
+      (list_any_none (λ r. r.member == y) v.rows (λ k d l.
+      let m = o.members k d l in
+      fails (get_or v.rows k d).member (get_or v.rows k d).member y refl
+      (λ e. n (ap (category_of i) (sym e) ∙ m.1))))
+
+  none-among : (views : List View) → All IsGood views → (y : ℕ) → All (λ v. category_of i y ≢ v.category) views
+      → row_in (rows_in views) y ≡ None
+  none-among [] w y n = refl
+  none-among (v ∷ views) w y n =
+      find-append (λ r. r.member == y) v.rows (rows_in views)
+      ∙ ap (λ o. option_or o (row_in (rows_in views) y)) (none-in v (w 0 v (omega arith)).2 y (n 0 v (omega arith)))
+      ∙ none-among views (λ k d l. w (suc k) d (omega arith)) y (λ k d l. n (suc k) d (omega arith))
+
+  -- a member's row among all is its row in the view of its category
+  own-view : (views : List View) → All IsGood views → Apart views → (k : ℕ) (d : View) → k < length views → (y : ℕ)
+      → category_of i y ≡ (get_or views k d).category → row_in (rows_in views) y ≡ row_in (get_or views k d).rows y
+  own-view [] w a k d l y e = absurd (omega arith)
+  own-view (v ∷ views) w a zero d l y e =
+      find-append (λ r. r.member == y) v.rows (rows_in views)
+      ∙ ap (option_or (row_in v.rows y)) (none-among views (λ k d l. w (suc k) d (omega arith)) y
+      (λ k d l q. a.0 k d l (sym e ∙ q)))
+      ∙ or-nothing (row_in v.rows y)
+  own-view (v ∷ views) w a (suc k) d l y e =
+      find-append (λ r. r.member == y) v.rows (rows_in views)
+      ∙ ap (λ o. option_or o (row_in (rows_in views) y))
+      (none-in v (w 0 v (omega arith)).2 y (λ q. a.0 k d (omega arith) (sym q ∙ e)))
+      ∙ own-view views (λ j c m. w (suc j) c (omega arith)) a.1 k d (omega arith) y e
+
+  -- ---- the views
+
+  view-back : (views : List View) → All IsGood views → Apart views
+      → All (λ v. view_read i (records views) v.category ≡ v) views
+  view-back views w a k d l =
+      let v = get_or views k d in
+      let same : (y : ℕ) → IsMemberOf i v.category y → row_read i (records views) y ≡ row_at y (summary_in v.rows y) =
+      λ y m. ap (row_at y) (said-views y views w
+      ∙ ap (option_map (λ (r : Row). r.summary)) (own-view views w a k d l y m.1)) in
+      ap (λ rows. record { category = v.category; rows = rows })
+      (rows_same i v.category (row_read i (records views)) (λ y. row_at y (summary_in v.rows y)) same
+      ∙ rows-back i v (w k d l).2)
+
+  views-back : (views : List View) → All IsGood views → Apart views → views_read g i (records views) ≡ views
+  views-back views w a =
+      ap (map (view_read i (records views))) (begun-all views w) ∙ each views
+      ∙ map_fixed (λ v. view_read i (records views) v.category) views (view-back views w a)
+    where
+      each : (vs : List View) → map (view_read i (records views)) (map (λ (v : View). v.category) vs)
+          ≡ map (λ (v : View). view_read i (records views) v.category) vs
+      each [] = refl
+      each (v ∷ vs) = ap (λ l. view_read i (records views) v.category ∷ l) (each vs)
+
+  store-back : (views : List View) → IsStore views → All IsGood views
+      → store_read g i (records_of_store g i views) ≡ Ok views
+  store-back views s w =
+      let few = s.few in
+      let a = apart views s.categories in
+      read (records_of_store g i views) views refl
+      (views-pass views [] w a (omega arith) (λ k d l. refl) (λ k d l y e. refl)) (views-back views w a)
+    where
+      read : (all : List Record) (views : List View) → has_header all ≡ true
+          → first_fault fault [] (drop 1 all) ≡ None → views_read g i (drop 1 all) ≡ views
+          → store_read g i all ≡ Ok views
+      read all views h f e = rw (h, f) (ap (λ (v : List View). Ok v) e)
+
+-- views that a store may hold
+pub printed-stores : PrintedStoresAreRead
+printed-stores g i views hierarchy sound store fit known order =
+    store-back g i hierarchy sound views store (λ k d l. (known k d l, fit k d l, order k d l))
+
+-- direct views
+pub direct-views : DirectViewsAreReadBack
+direct-views g i facts cs hierarchy sound short values few differ known =
+    printed-stores g i (direct_views i facts cs) hierarchy sound (store-of i (total_of_facts i facts) cs few differ)
+    (All-map Fits (direct_view i facts) cs (λ k d l. direct_stored i (get_or cs k d) facts short values))
+    (All-map (λ v. IsCategory g v.category) (direct_view i facts) cs known)
+    (each-in-order i (total_of_facts i facts) cs)
