@@ -9,12 +9,13 @@ mod answering;
 mod choice;
 mod masks;
 mod planning;
+mod printing;
 mod refuting;
 
 pub use answering::answer;
 pub use choice::{Plan, PlanRefusal};
-pub use masks::sources;
 pub use planning::plan;
+pub use printing::print_plan;
 
 #[cfg(test)]
 mod tests;

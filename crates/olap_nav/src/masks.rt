@@ -19,7 +19,7 @@ pub(crate) fn has_bit(mask: u16, k: usize) -> bool
 }
 
 /// The categories of the views whose bits are in the mask, in order.
-pub fn sources(alloc: Global, store: &Store, mask: u16) -> Result<Vec<CatId>, Memory>
+pub(crate) fn sources(alloc: Global, store: &Store, mask: u16) -> Result<Vec<CatId>, Memory>
     requires { length store.now.views ≤ most_views }
     ensures { IfOk result (λ v. numbers_of v.items ≡ sources_in (views_of store.now) mask) }
 {
