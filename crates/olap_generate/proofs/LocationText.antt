@@ -1,0 +1,135 @@
+-- The text of the made input's schema stands for its schema.
+--     above, Follow      what the first lines say, and that each line adds what it says
+--     location_is_read   the whole text
+use Rattle.std.proofs.Common.{◌≡◌, ◌<◌, ◌++◌, ◌∙◌, ◌+◌, ◌-◌, ℕ, zero, suc, true, List, [], ◌∷◌, None, Ok, codes, take, drop, length, refl, ap, arith, lit<}
+use Rattle.std.specs.Prelude.{slice_index}
+use Rattle.std.specs.Str.{chars, is_utf8}
+use lib.Utf8.{encode}
+use Rattle.olap_base.specs.Reaching.{category_reaches, category_reaches_is}
+use Rattle.olap_ast.specs.Formula.{Equality}
+use Rattle.olap_grammar.specs.CuttingMachine.{tokens_of}
+use Rattle.olap_grammar.specs.Machine.{the_formula}
+use Rattle.olap_grammar.specs.Words.{equality_of, id_of, pieces_of, plain_of}
+use Rattle.olap_schema.specs.Atoms.{atom_fault, is_connective, is_repeated, lacks_edge, stands_in, word_fault}
+use Rattle.olap_schema.specs.Judging.{Above, first_stuck, form_read, line_read, lines_on, nothing_above, Read, schema_read, text_ended, whole}
+use Rattle.olap_schema.specs.Lines.{chomped, is_quiet, lines_of}
+use Rattle.olap_schema.specs.Statements.{colon_at, statement_of, word_at}
+use Rattle.olap_schema.specs.Tokens.{has_long_name, is_long, opens_over}
+use Rattle.olap_generate.specs.Location.{city, country, location_lines, location_text}
+use Rattle.olap_generate.proofs.Location.{location_graph, location_schema}
+use Rattle.olap_generate.proofs.LocationGraph.{all_is, city_is, country_is, location_is_hierarchy, province_is, region_is, state_is, store_is}
+
+-- ---- lines
+
+-- the text is cut into its lines
+cut : lines_of location_text ≡ location_lines
+unfolding lines_of
+cut = refl
+
+-- the atoms on names, in the order of the constraints
+abbrev atoms : List Equality
+atoms =
+    record { category = city; text = codes "Washington" }
+    ∷ record { category = country; text = codes "USA" }
+    ∷ record { category = country; text = codes "Mexico" }
+    ∷ record { category = country; text = codes "Canada" }
+    ∷ []
+
+-- so many nodes and atoms the first constraints have
+abbrev nodes : List ℕ
+nodes = 0 ∷ 3 ∷ 7 ∷ 10 ∷ 13 ∷ 16 ∷ 19 ∷ 20 ∷ []
+
+abbrev atom_counts : List ℕ
+atom_counts = 0 ∷ 1 ∷ 1 ∷ 2 ∷ 3 ∷ 3 ∷ 3 ∷ 4 ∷ []
+
+-- what the version, so many categories, so many edges and so many constraints say
+abbrev said : ℕ → ℕ → ℕ → Above
+said c e k = record {
+  versioned = true;
+  graph = record { names = take c location_graph.names; edges = take e location_graph.edges };
+  category_lines = take c (2 ∷ 3 ∷ 4 ∷ 5 ∷ 6 ∷ 7 ∷ []);
+  constraints = take k location_schema.constraints;
+  nodes = slice_index nodes k;
+  pairs = take (slice_index atom_counts k) atoms;
+}
+
+-- what the first lines say
+abbrev above : ℕ → Above
+above zero = nothing_above
+above (suc n) = said n (n - 6) (n - 15)
+
+-- each line adds what it says to those above it
+abbrev Follow : ℕ → List (List ℕ) → Type 0
+Follow n [] = Unit {0}
+Follow n (line ∷ lines) = (line_read (above n) (n + 1) (chomped line) ≡ Ok (above (n + 1))) × Follow (n + 1) lines
+
+-- what is read where these lines stand behind the first n
+abbrev from : List (List ℕ) → ℕ → Read
+from rest n = lines_on (Ok (above n)) n rest
+
+-- lines that follow are read on from there
+followed : (n : ℕ) (lines rest : List (List ℕ)) → Follow n lines → from (lines ++ rest) n ≡ from rest (n + length lines)
+followed n [] rest f = ap (from rest) (let e : n ≡ n + 0 = omega arith in e)
+followed n (line ∷ lines) rest f =
+    let e : n + 1 + length lines ≡ n + length (line ∷ lines) = omega arith in
+    ap (λ r. lines_on r (n + 1) (lines ++ rest)) f.0 ∙ followed (n + 1) lines rest f.1 ∙ ap (from rest) e
+
+-- a pair
+both : {A B : Type 0} → A → B → A × B
+both a b = (a, b)
+
+-- the version and the categories
+category_lines : Follow 0 (take 7 location_lines)
+unfolding line_read is_utf8 chars encode is_quiet tokens_of statement_of word_at
+category_lines =
+    both refl (both (rw store_is refl) (both (rw city_is refl) (both (rw state_is refl) (both (rw province_is refl)
+    (both (rw region_is refl) (both (rw country_is refl) tt))))))
+
+-- the edges
+edge_lines : Follow 7 (take 9 (drop 7 location_lines))
+unfolding line_read is_utf8 chars encode is_quiet tokens_of statement_of word_at
+edge_lines =
+    both (rw (store_is, city_is) refl) (both (rw (city_is, state_is) refl) (both (rw (city_is, province_is) refl)
+    (both (rw (city_is, country_is) refl) (both (rw (state_is, region_is) refl) (both (rw (state_is, country_is) refl)
+    (both (rw (province_is, region_is) refl) (both (rw (region_is, country_is) refl)
+    (both (rw (country_is, all_is) refl) tt))))))))
+
+-- the constraints
+constraint_lines : Follow 16 (drop 16 location_lines)
+unfolding line_read is_utf8 chars encode is_quiet tokens_of statement_of word_at colon_at
+    form_read the_formula plain_of equality_of pieces_of id_of opens_over is_long has_long_name
+    atom_fault word_fault is_connective stands_in is_repeated lacks_edge
+constraint_lines =
+    both (simp (city_is, country_is)) (both (simp (city_is, state_is, province_is, country_is))
+    (both (simp (city_is, country_is)) (both (simp (state_is, country_is))
+    (both (simp (state_is, region_is, country_is)) (both (simp (state_is, region_is, country_is))
+    (both (simp (province_is, country_is)) tt))))))
+
+-- all lines
+lines_say : from location_lines 0 ≡ Ok (above 23)
+lines_say =
+    followed 0 (take 7 location_lines) (drop 7 location_lines) category_lines
+    ∙ followed 7 (take 9 (drop 7 location_lines)) (drop 16 location_lines) edge_lines
+    ∙ followed 16 (drop 16 location_lines) [] constraint_lines
+
+-- ---- the whole
+
+-- each category reaches `All`
+reached : (c : ℕ) → c < 7 → category_reaches location_graph c 0 ≡ true
+reached c l = (category_reaches_is location_graph c 0).1 (location_is_hierarchy.reaches_all c l)
+
+none_stuck : first_stuck location_graph ≡ None
+none_stuck = rw (
+  reached 1 (lit< tt),
+  reached 2 (lit< tt),
+  reached 3 (lit< tt),
+  reached 4 (lit< tt),
+  reached 5 (lit< tt),
+  reached 6 (lit< tt),
+) refl
+
+pub location_is_read : schema_read location_text ≡ Ok location_schema
+unfolding schema_read
+location_is_read =
+    ap (λ lines. text_ended (lines_on (Ok nothing_above) 0 lines)) cut ∙ ap text_ended lines_say
+    ∙ ap (whole (above 23)) none_stuck

@@ -1,0 +1,7 @@
+use Rattle.olap_generate.proofs.InputLemmas.{input_is_made}
+use Rattle.olap_generate.proofs.Location.{location_schema}
+use Rattle.olap_generate.proofs.Made.{made, made_facts}
+use Rattle.olap_generate.proofs.laws.an_input_is_made.Goals as goal
+
+pub returns : goal.returns
+returns c seed size one few = (location_schema, made seed size, made_facts seed size, input_is_made seed size few)

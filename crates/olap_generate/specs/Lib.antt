@@ -1,0 +1,6 @@
+-- Definitions that contracts cite.
+pub mod Location
+pub mod Members
+pub mod Inputs
+pub mod Generated
+pub mod Stages

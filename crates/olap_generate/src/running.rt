@@ -1,0 +1,129 @@
+// The way of the made input: the readers, the check, and the stored views as a text.
+ghost use Rattle.std.specs.Prelude.{◌≡◌, ◌<◌, All, IfOk, Ok, length};
+ghost use Rattle.olap_base.specs.Graph.{IsCategory};
+ghost use Rattle.olap_schema.specs.Judging.{schema_read};
+ghost use Rattle.olap_schema.specs.Schemas.{schema_of};
+ghost use Rattle.olap_view.specs.Seen.{each_view_of, views_of};
+ghost use Rattle.olap_view.specs.Stores.{Fits, IsStore};
+ghost use Rattle.olap_generate.specs.Location.{location_text};
+ghost use Rattle.olap_generate.specs.Stages.{AreMadeMembers, AreMadeViews};
+
+use crate::facts::fact_text;
+use crate::inputs::Input;
+use crate::members::member_text;
+use olap_base::{CatId, List, Memory};
+use olap_check::{CheckRefusal, Legal, check};
+use olap_facts::NextRefusal;
+use olap_instance::{InstanceRefusal, read_instance};
+use olap_schema::{Schema, SchemaRefusal, read_schema};
+use olap_view::{
+    Store, StoreRefusal, View, direct_views_are_read_back, print_store, read_store, roll_up,
+};
+use std::alloc::Global;
+
+/// The text of the schema.
+const LOCATION: &[u8] = b"schema 1
+category Store
+category City
+category State
+category Province
+category Region
+category Country
+edge Store City
+edge City State
+edge City Province
+edge City Country
+edge State Region
+edge State Country
+edge Province Region
+edge Region Country
+edge Country All
+constraint City: City_Country <-> City = \"Washington\"
+constraint City: one(City_State, City_Province, City_Country)
+constraint City: City = \"Washington\" -> City.Country = \"USA\"
+constraint State: State.Country = \"USA\" | State.Country = \"Mexico\"
+constraint State: State_Region <-> State.Country = \"Mexico\"
+constraint State: State_Region ^ State_Country
+constraint Province: Province.Country = \"Canada\"
+";
+
+/// The categories of the views that are stored: the states, the provinces and the cities.
+const STORED: [CatId; 3] = [CatId(3), CatId(4), CatId(2)];
+
+/// The schema.
+pub(crate) fn made_schema(alloc: Global) -> Result<Schema, Memory>
+    ensures { IfOk result (λ s. schema_read location_text ≡ Ok (schema_of s)) }
+{
+    match read_schema(alloc, LOCATION) {
+        Ok(schema) => Ok(schema),
+        Err(SchemaRefusal::Memory) => Err(Memory),
+        Err(SchemaRefusal::Fault { .. }) => unreachable!(),
+    }
+}
+
+/// The members, which are a legal instance.
+pub(crate) fn made_members(alloc: Global, schema: &Schema, input: &Input) -> Result<Legal, Memory>
+    requires { schema_read location_text ≡ Ok (schema_of schema.now) }
+    ensures { IfOk result (λ legal.
+        AreMadeMembers input.now.seed input.now.size (schema_of schema.now) legal) }
+{
+    let text = member_text(alloc, input)?;
+    let instance = match read_instance(alloc, schema.graph(), &text) {
+        Ok(instance) => instance,
+        Err(InstanceRefusal::Memory) => return Err(Memory),
+        Err(InstanceRefusal::Fault { .. }) => unreachable!(),
+    };
+    match check(alloc, schema, instance) {
+        Ok(legal) => Ok(legal),
+        Err(CheckRefusal::Memory) => Err(Memory),
+        Err(CheckRefusal::Broken(_, _)) => unreachable!(),
+    }
+}
+
+/// The views of the facts.
+fn made_views(
+    alloc: Global,
+    schema: &Schema,
+    legal: &Legal,
+    input: &Input,
+) -> Result<List<View>, Memory>
+    requires { AreMadeMembers input.now.seed input.now.size (schema_of schema.now) legal.now }
+    ensures views { IfOk result (λ v.
+        AreMadeViews input.now.seed input.now.size (schema_of schema.now) legal.now (each_view_of v)) }
+    ensures members { IfOk result (λ v. All (λ w. All (λ r. r.member.0 < length legal.now) w.rows) v) }
+{
+    let text = fact_text(alloc, input)?;
+    match roll_up(alloc, schema.graph(), legal, &text, &STORED) {
+        Ok(views) => Ok(views),
+        Err(NextRefusal::Memory) => Err(Memory),
+        Err(NextRefusal::Fault { .. }) => unreachable!(),
+    }
+}
+
+/// The views of the facts, as they are read from the text that is printed of them.
+pub(crate) fn made_store(
+    alloc: Global,
+    schema: &Schema,
+    legal: &Legal,
+    input: &Input,
+) -> Result<Store, Memory>
+    requires { AreMadeMembers input.now.seed input.now.size (schema_of schema.now) legal.now }
+    ensures views { IfOk result (λ store.
+        AreMadeViews input.now.seed input.now.size (schema_of schema.now) legal.now (views_of store)) }
+    ensures store { IfOk result (λ store. IsStore (views_of store)) }
+    ensures fit { IfOk result (λ store. All Fits (views_of store)) }
+    ensures categories { IfOk result (λ store.
+        All (λ v. IsCategory (schema_of schema.now).graph v.category) (views_of store)) }
+    ensures at_members { IfOk result (λ store.
+        All (λ v. All (λ r. r.member < length legal.now) v.rows) (views_of store)) }
+{
+    // Called for its clause: what is printed of direct views is read as these views.
+    direct_views_are_read_back();
+    let views = made_views(alloc, schema, legal, input)?;
+    let text = print_store(alloc, schema.graph(), legal.instance(), &Store { views })?;
+    match read_store(alloc, schema.graph(), legal.instance(), text.bytes()) {
+        Ok(store) => Ok(store),
+        Err(StoreRefusal::Memory) => Err(Memory),
+        Err(StoreRefusal::Fault { .. }) => unreachable!(),
+    }
+}
