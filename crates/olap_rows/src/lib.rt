@@ -15,6 +15,8 @@ mod faults;
 #[cfg(test)]
 mod formats;
 #[cfg(test)]
+mod generated;
+#[cfg(test)]
 mod hostile;
 #[cfg(test)]
 mod limits;

@@ -5,3 +5,4 @@ mod Stepping
 mod TellingLemmas
 mod LineLemmas
 mod ListingLemmas
+mod NumberLemmas

@@ -12,6 +12,7 @@ use Rattle.olap_base.specs.Limits.{most_frozen}
 use Rattle.olap_base.specs.Views.{Fact, Row, View, direct_view, direct_views}
 use Rattle.olap_cex.specs.FrozenText.{frozen_text}
 use Rattle.olap_dimsat.specs.Listed.{AreAllFrozen}
+use Rattle.olap_generate.specs.Generated.{ShowsGenerated}
 use Rattle.olap_view.specs.Seen.{each_view_of, row_of, view_of}
 use Rattle.olap_view.specs.StoreText.{store_text}
 use Rattle.olap_view.specs.ViewText.{view_text}
@@ -21,7 +22,7 @@ use Rattle.olap_run.specs.Judged.{IsVerdict, Replies}
 use Rattle.olap_run.specs.Listings.{ShowsPlan, finding_text}
 use Rattle.olap_run.specs.Order.{Done}
 use Rattle.olap_run.specs.Outputs.{line, refusal}
-use Rattle.olap_run.specs.Questions.{ByAudit, ByFrozen, ByPlan, ByStore, ByView, IsAnswer, Question}
+use Rattle.olap_run.specs.Questions.{ByAudit, ByFrozen, ByGenerated, ByPlan, ByStore, ByView, IsAnswer, Question}
 use Rattle.olap_run.specs.Refusals.{IsRefusal}
 use Rattle.olap_run.specs.declared.replies.Reply.{Reply}
 use Rattle.olap_run.specs.declared.replies.Stop.{Stop}
@@ -82,6 +83,10 @@ findings_listed s findings are reply status text = done (ByAudit s) reply status
 pub plan_shown : (s : Schema) (i : Instance) (views : List View) (c : ℕ) (reply : Reply) → reply.status ≡ Yes
     → ShowsPlan s i views c reply.bytes.items → Replies IsAnswer (Done (ByPlan s i views c)) (Ok reply)
 plan_shown s i views c reply status shows = done (ByPlan s i views c) reply status (inl (status, shows))
+
+pub generated_shown : (seed size : ℕ) (reply : Reply) → reply.status ≡ Yes → ShowsGenerated seed size reply.bytes.items
+    → Replies IsAnswer (Done (ByGenerated seed size)) (Ok reply)
+generated_shown seed size reply status shows = done (ByGenerated seed size) reply status (status, shows)
 
 -- ---- views of facts
 

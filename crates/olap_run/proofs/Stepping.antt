@@ -100,3 +100,17 @@ module _ {D Q : Type 0} {answers : Q → Status → List ℕ → Type 0} {L : Li
     same = refl;
     later = omega arith;
   }
+
+-- ---- with no library
+
+module _ {Q T X : Type 0} {answers : Q → Status → List ℕ → Type 0} {step : (T → Order Q) → Order Q} {meaning : X → T} where
+  -- where the code stops at a step that reads nothing, so does the order
+  pub ended_unread : {stop : Stop} → PlainStep answers step meaning (Err stop) → (next : T → Order Q)
+      → (result : Result Reply Stop) → IsErrAnd result (λ e. e ≡ stop) → Replies answers (step next) result
+  ended_unread {stop} s next (Ok x) is = absurd is
+  ended_unread {stop} s next (Err e) is = subst (λ e. Replies answers (step next) (Err e)) (sym is) (s.ends next)
+
+  -- where it goes on, what answers the rest answers the order
+  pub followed_unread : {x : X} → PlainStep answers step meaning (Ok x) → (next : T → Order Q) → {result : Result Reply Stop}
+      → Replies answers (next (meaning x)) result → Replies answers (step next) result
+  followed_unread {x} s next {result} r = subst (λ order. Replies answers order result) (sym (s.goes_on next)) r

@@ -5,9 +5,10 @@ use Rattle.olap_base.specs.Views.{direct_view, direct_views}
 use Rattle.olap_ast.specs.Schema.{Schema}
 use Rattle.olap_graph.specs.Lookups.{category_named}
 use Rattle.olap_run.specs.Order.{Order, Done}
-use Rattle.olap_run.specs.Questions.{Question, ByUsage, ByView, ByFormat, ByLegal, BySatisfiable, ByImplied, BySummarizable, ByFrozen, ByAudit, ByStore, ByPlan}
-use Rattle.olap_run.specs.Requests.{Request, Rollup, Format, Check, Satisfiable, Implies, Summarizable, Frozen, Audit, Store, Answer, request_of}
-use Rattle.olap_run.specs.Steps.{known, with_root, with_formula, with_different, with_schema_in, with_legal_in, with_facts_in, with_store_in}
+use Rattle.olap_run.specs.Numbers.{number_of, size_of}
+use Rattle.olap_run.specs.Questions.{Question, ByUsage, ByView, ByFormat, ByLegal, BySatisfiable, ByImplied, BySummarizable, ByFrozen, ByAudit, ByStore, ByPlan, ByGenerated}
+use Rattle.olap_run.specs.Requests.{Request, Rollup, Format, Check, Satisfiable, Implies, Summarizable, Frozen, Audit, Store, Answer, Generate, request_of}
+use Rattle.olap_run.specs.Steps.{known, numbered, with_root, with_formula, with_different, with_schema_in, with_legal_in, with_facts_in, with_store_in}
 
 -- the facts, and then the view
 abbrev pub view_order : Schema → Instance → ℕ → List ℕ → Order Question
@@ -89,6 +90,13 @@ answer_order schema instance store target =
     with_store_in s i (codes "store") store (λ views.
     Done (ByPlan s i views c)))))
 
+-- the seed, and the size; no file
+abbrev pub generate_order : List ℕ → List ℕ → Order Question
+generate_order seed size =
+    numbered 2 (number_of seed) (λ q.
+    numbered 3 (size_of size) (λ n.
+    Done (ByGenerated q n)))
+
 -- the order of a command
 abbrev pub order : Request → Order Question
 order (Rollup schema instance facts category) = rollup_order schema instance facts category
@@ -101,6 +109,7 @@ order (Frozen schema category) = frozen_order schema category
 order (Audit schema) = audit_order schema
 order (Store schema instance facts categories) = store_order schema instance facts categories
 order (Answer schema instance store target) = answer_order schema instance store target
+order (Generate seed size) = generate_order seed size
 
 -- words that are no command are answered by the usage
 abbrev pub order_or_usage : Option Request → Order Question

@@ -7,6 +7,7 @@ pub mod Violations
 pub mod Certificates
 pub mod Listings
 pub mod Questions
+pub mod Numbers
 pub mod Steps
 pub mod Commands
 pub mod Judged

@@ -16,6 +16,7 @@ use Rattle.olap_base.specs.Views.{Fact, IsFactTable, View, direct_rows, direct_v
 use Rattle.olap_cex.specs.FrozenText.{frozen_text}
 use Rattle.olap_dimsat.specs.Listed.{AreAllFrozen, AreMoreThan}
 use Rattle.olap_graph.specs.Lookups.{edge_at, name_of_category}
+use Rattle.olap_nav.specs.PlanText.{plan_text}
 use Rattle.olap_nav.specs.Plans.{IsPlan, categories_of, sources_in}
 use Rattle.olap_run.specs.Outputs.{line}
 use Rattle.olap_view.specs.Stores.{chosen}
@@ -46,10 +47,6 @@ pub record ListsFindings (s : Schema) (bytes : List ℕ) : Type 0 where
   pub findings : List Finding
   pub are_findings : AreFindings s findings
   pub text : bytes ≡ flat_map (finding_text s.graph) findings ++ line (codes "findings " ++ decimal (length findings))
-
--- the line of a plan: the categories of its views, in stored order
-abbrev pub plan_text : Graph → List ℕ → List ℕ
-plan_text g sources = line (codes "plan" ++ flat_map (λ c. 32 ∷ name_of_category g c) sources)
 
 -- the plan for c, and the view of c from its views. That is the direct view, where the stored views are those of one
 -- fact table

@@ -11,6 +11,7 @@ use Rattle.olap_ast.specs.Questions.{IsImplied}
 use Rattle.olap_ast.specs.Schema.{Schema}
 use Rattle.olap_ast.specs.Summarizable.{IsSummarizable}
 use Rattle.olap_base.specs.Graph.{Graph}
+use Rattle.olap_generate.specs.Generated.{ShowsGenerated}
 use Rattle.olap_nav.specs.Plans.{Serves}
 use Rattle.olap_schema.specs.Printing.{schema_text}
 use Rattle.olap_view.specs.StoreText.{store_text}
@@ -46,6 +47,8 @@ pub data Question : Type 0 where
   ByStore : (graph : Graph) (members : Instance) (views : List View) → Question
   -- from which stored views is the target's view computed, and what is it?
   ByPlan : (schema : Schema) (members : Instance) (views : List View) (target : ℕ) → Question
+  -- what comes of the input that is made from a seed and a number of stores?
+  ByGenerated : (seed size : ℕ) → Question
 
 -- these are the status and the bytes
 abbrev pub IsAnswer : Question → Status → List ℕ → Type 0
@@ -72,3 +75,4 @@ IsAnswer (ByPlan s members views c) status bytes =
     ((status ≡ Yes) × ShowsPlan s members views c bytes)
     ⊎ ((status ≡ Refused) × ((mask : ℕ) → Serves s views c mask → ⊥)
     × (bytes ≡ refusal (codes "answer NotAnswerable")))
+IsAnswer (ByGenerated seed size) status bytes = (status ≡ Yes) × ShowsGenerated seed size bytes

@@ -15,6 +15,7 @@ pub data Request : Type 0 where
   Audit : (schema : List ℕ) → Request
   Store : (schema instance facts : List ℕ) (categories : List (List ℕ)) → Request
   Answer : (schema instance store target : List ℕ) → Request
+  Generate : (seed size : List ℕ) → Request
 
 -- the words behind `rollup`
 abbrev pub rollup_of : List (List ℕ) → Option Request
@@ -71,6 +72,11 @@ abbrev pub answer_of : List (List ℕ) → Option Request
 answer_of (schema ∷ instance ∷ store ∷ target ∷ []) = Some (Answer schema instance store target)
 answer_of words = None
 
+-- the words behind `generate`
+abbrev pub generate_of : List (List ℕ) → Option Request
+generate_of (seed ∷ size ∷ []) = Some (Generate seed size)
+generate_of words = None
+
 -- the command of that name with these words behind it, if there is one
 abbrev pub named : List ℕ → List (List ℕ) → Option Request
 named name words =
@@ -84,6 +90,7 @@ named name words =
     else if bytes_eq name (codes "audit") then audit_of words
     else if bytes_eq name (codes "store") then store_of words
     else if bytes_eq name (codes "answer") then answer_of words
+    else if bytes_eq name (codes "generate") then generate_of words
     else None
 
 -- the command that the words are, if any; more than `most_words` are none

@@ -1,6 +1,7 @@
 -- The steps of an order: how a run goes on by what a file or a word is.
 --     read_within      by a file, which is judged by its length first
 --     known            by a category word
+--     numbered         by a word that is to be a number
 --     accepted         by what a text stands for
 --     when_legal       by whether an instance is legal
 --     with_root, with_formula, with_different      by the words of a question
@@ -41,6 +42,11 @@ fault_text place at name = place ++ (codes " " ++ (decimal at ++ (codes " " ++ n
 abbrev pub known : ℕ → Option ℕ → (ℕ → Order Question) → Order Question
 known at None next = Done (ByRefusal (fault_text (codes "word") at (codes "UnknownCategory")))
 known at (Some c) next = next c
+
+-- what the word of that number spells, where it spells a number that it may be
+abbrev pub numbered : ℕ → Option ℕ → (ℕ → Order Question) → Order Question
+numbered at None next = Done (ByRefusal (fault_text (codes "word") at (codes "BadNumber")))
+numbered at (Some n) next = next n
 
 -- `All` is no root
 abbrev pub declared : ℕ → ℕ → Order Question → Order Question

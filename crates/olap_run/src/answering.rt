@@ -2,15 +2,14 @@
 ghost use Rattle.std.specs.Prelude.{◌≡◌, ◌++◌, ◌<◌, All, IfOk, length};
 ghost use Rattle.olap_ast.specs.Schema.{IsLegal};
 ghost use Rattle.olap_base.specs.Graph.{IsCategory};
+ghost use Rattle.olap_nav.specs.PlanText.{plan_text};
 ghost use Rattle.olap_nav.specs.Plans.{sources_in};
 ghost use Rattle.olap_schema.specs.Schemas.{schema_of};
-ghost use Rattle.olap_summ.specs.Counterexamples.{numbers_of};
 ghost use Rattle.olap_view.specs.Seen.{view_of, views_of};
 ghost use Rattle.olap_view.specs.Stores.{Fits, IsStore};
 ghost use Rattle.olap_view.specs.ViewText.{view_text};
 ghost use Rattle.olap_run.specs.Commands.{answer_order};
 ghost use Rattle.olap_run.specs.Judged.{Judged, Replies};
-ghost use Rattle.olap_run.specs.Listings.{plan_text};
 ghost use Rattle.olap_run.specs.Order.{Done};
 ghost use Rattle.olap_run.specs.Questions.{ByPlan, IsAnswer};
 
@@ -20,24 +19,10 @@ use crate::replies::{Reply, Stop, refuse, yes};
 use olap_base::{CatId, Library, Memory};
 use olap_check::Legal;
 use olap_graph::Graph;
-use olap_nav::{PlanRefusal, sources};
+use olap_nav::{PlanRefusal, print_plan};
 use olap_schema::Schema;
 use olap_view::{Store, View, print_view};
 use std::alloc::Global;
-
-/// The line of a plan that takes the views of these categories.
-fn plan_line(alloc: Global, graph: &Graph, sources: &[CatId]) -> Result<Vec<u8>, Memory>
-    requires { All (IsCategory graph.now) (numbers_of sources.now) }
-    ensures { IfOk result (λ text. text.items ≡ plan_text graph.now (numbers_of sources.now)) }
-{
-    let mut text = Vec::from_slice(alloc, b"plan")?;
-    'sources: for source in sources {
-        text.push(b' ')?;
-        text.extend_from_slice(graph.name(*source).bytes())?;
-    }
-    text.push(b'\n')?;
-    Ok(text)
-}
 
 /// The line of a plan, and the view that it gives.
 fn shown(
@@ -54,8 +39,7 @@ fn shown(
     ensures { IfOk result (λ text. text.items ≡ plan_text graph.now (sources_in (views_of store.now) mask)
         ++ view_text legal.now (view_of view.now)) }
 {
-    let sources = sources(alloc, store, mask)?;
-    let mut text = plan_line(alloc, graph, &sources)?;
+    let mut text = print_plan(alloc, graph, store, mask)?.into_bytes();
     let lines = print_view(alloc, legal.instance(), view)?;
     text.extend_from_slice(lines.bytes())?;
     Ok(text)

@@ -13,6 +13,7 @@ use crate::answering::answer;
 use crate::auditing::audit;
 use crate::checking::check;
 use crate::formatting::format;
+use crate::generating::generate;
 use crate::implying::implies;
 use crate::listing::frozen;
 use crate::replies::{Reply, Stop};
@@ -62,6 +63,7 @@ fn run<L: Library>(alloc: Global, command: Command, lib: &mut L) -> Result<Reply
             store,
             target,
         } => answer(alloc, schema, instance, store, target, lib),
+        Command::Generate { seed, size } => generate(alloc, seed, size),
     }
 }
 

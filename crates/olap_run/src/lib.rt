@@ -9,6 +9,7 @@ mod answering;
 mod auditing;
 mod checking;
 mod formatting;
+mod generating;
 mod implying;
 mod judging;
 mod listing;

@@ -1,7 +1,7 @@
 // Which words are a command.
 ghost use Rattle.std.specs.Prelude.{◌≡◌};
 ghost use Rattle.std.specs.Option.{option_map};
-ghost use Rattle.olap_run.specs.Requests.{answer_of, audit_of, check_of, format_of, frozen_of, implies_of, is_few, named, request_of, rollup_of, satisfiable_of, store_of, summarizable_of};
+ghost use Rattle.olap_run.specs.Requests.{answer_of, audit_of, check_of, format_of, frozen_of, generate_of, implies_of, is_few, named, request_of, rollup_of, satisfiable_of, store_of, summarizable_of};
 ghost use Rattle.olap_run.specs.Seen.{seen};
 ghost use Rattle.olap_run.specs.Words.{texts};
 
@@ -65,6 +65,11 @@ pub(crate) enum Command<'a> {
         instance: &'a str,
         store: &'a str,
         target: &'a str,
+    },
+    /// What comes of an input that is made from a number.
+    Generate {
+        seed: &'a str,
+        size: &'a str,
     },
 }
 
@@ -211,6 +216,19 @@ fn answer(words: &[String]) -> Option<Command<'_>>
     }
 }
 
+/// The words behind `generate`.
+fn generate(words: &[String]) -> Option<Command<'_>>
+    ensures { option_map seen result ≡ generate_of (texts words.now) }
+{
+    match words {
+        [seed, size] => Some(Command::Generate {
+            seed: seed.as_str(),
+            size: size.as_str(),
+        }),
+        _ => None,
+    }
+}
+
 /// The command of that name with these words behind it.
 fn with_words<'a>(name: &str, words: &'a [String]) -> Option<Command<'a>>
     ensures { option_map seen result ≡ named name.now (texts words.now) }
@@ -226,6 +244,7 @@ fn with_words<'a>(name: &str, words: &'a [String]) -> Option<Command<'a>>
         "audit" => audit(words),
         "store" => store(words),
         "answer" => answer(words),
+        "generate" => generate(words),
         _ => None,
     }
 }

@@ -3,6 +3,7 @@ use Rattle.olap_run.specs.Commands.{order}
 use Rattle.olap_run.specs.Judged.{Judged}
 use Rattle.olap_run.specs.Questions.{IsAnswer}
 use Rattle.olap_run.specs.Seen.{seen}
+use Rattle.olap_run.proofs.Stepping.{answered}
 use Rattle.olap_run.proofs.judging.run.Goals as goal
 
 pub returns-in-Summarizable : goal.returns-in-Summarizable
@@ -15,4 +16,10 @@ pub returns-in-Store : goal.returns-in-Store
 returns-in-Store g c = record {
   judged = subst (λ m. Judged IsAnswer g.L.Library c.args.lib.now c.store.new.lib (order (seen m)) c.store.result)
       (sym c.in-Store.is) c.store.ensures.judged;
+}
+
+pub returns-in-Generate : goal.returns-in-Generate
+returns-in-Generate g c = record {
+  judged = subst (λ m. Judged IsAnswer g.L.Library c.args.lib.now c.args.lib.now (order (seen m)) c.generate.result)
+      (sym c.in-Generate.is) (answered c.generate.result c.generate.ensures.replies);
 }
