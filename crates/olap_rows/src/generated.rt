@@ -79,7 +79,11 @@ fn words_that_are_no_number(rt: HostRuntime) -> Result<(), Fail> {
 
 #[test]
 fn other_numbers_of_words(rt: HostRuntime) -> Result<(), Fail> {
-    let rows: [&[&str]; 3] = [&["generate"], &["generate", "5"], &["generate", "5", "3", "7"]];
+    let rows: [&[&str]; 3] = [
+        &["generate"],
+        &["generate", "5"],
+        &["generate", "5", "3", "7"],
+    ];
     for line in rows {
         check_status(&rt, rt.alloc(), line, &[], Status::Usage, "usage\n")?;
     }

@@ -33,6 +33,15 @@ fn free_parents(alloc: Global) -> Result<String, Fail> {
     Ok(text)
 }
 
+/// The constraint that hands a name on from the i-th category of a chain to the next.
+fn handed_on(alloc: Global, i: u32, name: &str) -> Result<String, Fail> {
+    let above = i.saturating_add(1);
+    let line = format!(in alloc;
+        "constraint C{i}: C{i} = \"{name}\" -> C{i}.C{above} = \"{name}\"\n"
+    )?;
+    Ok(line)
+}
+
 /// A chain of categories, along which a name is handed on, be it "a" or "b".
 fn chain(alloc: Global) -> Result<String, Fail> {
     let mut text = String::from_str(alloc, "schema 1\ncategory C1\n")?;
@@ -40,12 +49,8 @@ fn chain(alloc: Global) -> Result<String, Fail> {
         let above = i + 1;
         let line = format!(in alloc; "category C{above}\nedge C{i} C{above}\n")?;
         text.push_str(&line)?;
-        for name in ["a", "b"] {
-            let line = format!(in alloc;
-                "constraint C{i}: C{i} = \"{name}\" -> C{i}.C{above} = \"{name}\"\n"
-            )?;
-            text.push_str(&line)?;
-        }
+        text.push_str(&handed_on(alloc, i, "a")?)?;
+        text.push_str(&handed_on(alloc, i, "b")?)?;
     }
     text.push_str("edge C30 All\n")?;
     Ok(text)
