@@ -7,6 +7,7 @@ use Rattle.std.specs.Str.{chars, is_utf8}
 use lib.Utf8.{encode}
 use Rattle.olap_base.specs.Reaching.{category_reaches, category_reaches_is}
 use Rattle.olap_ast.specs.Formula.{Equality}
+use Rattle.olap_grammar.specs.Brackets.{opens_over}
 use Rattle.olap_grammar.specs.CuttingMachine.{tokens_of}
 use Rattle.olap_grammar.specs.Machine.{the_formula}
 use Rattle.olap_grammar.specs.Words.{equality_of, id_of, pieces_of, plain_of}
@@ -14,7 +15,7 @@ use Rattle.olap_schema.specs.Atoms.{atom_fault, is_connective, is_repeated, lack
 use Rattle.olap_schema.specs.Judging.{Above, first_stuck, form_read, line_read, lines_on, nothing_above, Read, schema_read, text_ended, whole}
 use Rattle.olap_schema.specs.Lines.{chomped, is_quiet, lines_of}
 use Rattle.olap_schema.specs.Statements.{colon_at, statement_of, word_at}
-use Rattle.olap_schema.specs.Tokens.{has_long_name, is_long, opens_over}
+use Rattle.olap_schema.specs.Tokens.{has_long_name, is_long}
 use Rattle.olap_generate.specs.Location.{city, country, location_lines, location_text}
 use Rattle.olap_generate.proofs.Location.{location_graph, location_schema}
 use Rattle.olap_generate.proofs.LocationGraph.{all_is, city_is, country_is, location_is_hierarchy, province_is, region_is, state_is, store_is}

@@ -1,25 +1,27 @@
 -- The cutter that keeps the first tokens, against the one that keeps all.
 --     kept-is     it keeps of a line what is kept of its tokens
 --     begins      what is kept of tokens begins them
---     found, same-most, fails, whole     what a call's clause says
-use Rattle.std.proofs.Common.{◌≡◌, ◌≤◌, ◌<◌, ◌==◌, ◌&&◌, ◌+◌, ◌++◌, ◌∷◌, ◌∙◌, Bool, true, false, ℕ, List, [], cond, length, nat_lt, Option, Some, None, refl, sym, ap, subst, arith, append_assoc, append-nil}
-use Rattle.std.specs.Prelude.{count_by}
+--     found, same-most, fails     what a call's clause says
+use Rattle.std.proofs.Common.{◌≡◌, ◌≤◌, ◌<◌, ◌==◌, ◌++◌, ◌∷◌, ◌∙◌, Bool, true, false, ℕ, List, [], cond, length, nat_lt, Option, Some, None, refl, sym, ap, subst, arith, append_assoc, append-nil}
 use Rattle.std.specs.List.{fold}
 use Rattle.std.specs.Option.{option_map}
 use Rattle.std.proofs.lemmas.Bool.{ltb-false, ltb-true}
-use Rattle.std.proofs.lemmas.List.Sums.{fold-append, sum_by-append}
+use Rattle.std.proofs.lemmas.List.{length-append}
+use Rattle.std.proofs.lemmas.List.Sums.{fold-append}
 use Rattle.olap_grammar.specs.Cutter.{FailsWith}
 use Rattle.olap_grammar.specs.Cutting.{is_word_byte}
 use Rattle.olap_grammar.specs.CuttingMachine as machine
 use Rattle.olap_grammar.specs.CuttingMachine.{Cut, tokens_of}
 use Rattle.olap_grammar.specs.Keeping as keeping
-use Rattle.olap_grammar.specs.Keeping.{Begins, BeginsFound, Going, Kept, counted, counted_nodes, keep, kept_tokens, nothing_kept}
-use Rattle.olap_grammar.specs.Nodes.{is_node}
+use Rattle.olap_grammar.specs.Keeping.{Begins, BeginsFound, Going, IsTallyOf, Kept, keep, kept_tokens, nothing_kept}
+use Rattle.olap_grammar.specs.Tallying.{tallied}
+use Rattle.olap_grammar.specs.declared.tallying.Tally.{Tally}
 use Rattle.olap_grammar.specs.declared.refusals.CutRefusal.{CutRefusal}
 use Rattle.olap_grammar.specs.declared.refusals.CutRefusal.TheVariants as refusal
 use Rattle.olap_grammar.specs.declared.tokens.Token.{Token}
 use Rattle.olap_grammar.specs.declared.tokens.Token.TheVariants as token
 use Rattle.olap_grammar.specs.declared.tokens.Joint.TheVariants as joint
+use Rattle.olap_grammar.proofs.TallyLemmas.{tally_is}
 
 -- ---- what is kept of a line
 
@@ -101,28 +103,36 @@ module _ (most : ℕ) where
 
 -- ---- what is kept of tokens
 
-counted-more : (n c : ℕ) (b : Bool) (l : Bool) → n ≤ c → cond (b && l) (n + 1) n ≤ c + cond b 1 0
-counted-more n c true true h = omega (arith, h)
-counted-more n c true false h = omega (arith, h)
-counted-more n c false l h = omega (arith, h)
+-- of each token as much is counted, whether it is kept or not
+tally-of : (b : Bool) (x y : Kept) (m : Tally) → x.tally ≡ m → y.tally ≡ m → (cond b x y).tally ≡ m
+tally-of true x y m e f = e
+tally-of false x y m e f = f
 
-nodes-more : (k : Kept) (done : List Token) (t : Token) → k.nodes ≤ count_by is_node done
-    → counted k.nodes t ≤ count_by is_node (done ++ t ∷ [])
-nodes-more k done t h =
-    let e = sum_by-append (λ u. cond (is_node u) 1 0) done (t ∷ []) in
-    let m = counted-more k.nodes (count_by is_node done) (is_node t) (nat_lt k.nodes counted_nodes) h in
-    omega (arith, e, m)
+tally-on : (ts : List Token) (k : Kept) → (fold keep k ts).tally ≡ fold tallied k.tally ts
+tally-on [] k = refl
+tally-on (t ∷ ts) k =
+    tally-on ts (keep k t)
+    ∙ ap (λ y. fold tallied y ts) (tally-of (nat_lt (length k.first) k.most) _ _ (tallied k.tally t) refl refl)
 
 no-more : (b : Bool) (most n : ℕ) → n < most → (b ≡ true → most ≤ n) → b ≡ false
 no-more true most n l f = let h = f refl in absurd (omega (arith, l, h))
 no-more false most n l f = refl
 
-begins-more : (k : Kept) (done : List Token) (t : Token) → Begins k done → Begins (keep k t) (done ++ t ∷ [])
+-- the tokens begin with those kept
+record Keeps (k : Kept) (ts : List Token) : Type 0 where
+  rest : List Token
+  parts : ts ≡ k.first ++ rest
+  all : k.more ≡ false → rest ≡ []
+  full : k.more ≡ true → k.most ≤ length k.first
+  others : k.more ≡ true → 0 < length rest
+
+begins-more : (k : Kept) (done : List Token) (t : Token) → Keeps k done → Keeps (keep k t) (done ++ t ∷ [])
 begins-more k done t h = go (nat_lt (length k.first) k.most) refl
   where
     go : (b : Bool) → nat_lt (length k.first) k.most ≡ b
-        → Begins (cond b (record { most = k.most; first = k.first ++ t ∷ []; more = k.more; nodes = counted k.nodes t })
-        (record { most = k.most; first = k.first; more = true; nodes = counted k.nodes t })) (done ++ t ∷ [])
+        → Keeps
+        (cond b (record { most = k.most; first = k.first ++ t ∷ []; more = k.more; tally = tallied k.tally t })
+        (record { most = k.most; first = k.first; more = true; tally = tallied k.tally t })) (done ++ t ∷ [])
     go true e =
         let l = ltb-true (length k.first) k.most e in
         let none = h.all (no-more k.more k.most (length k.first) l h.full) in
@@ -132,25 +142,34 @@ begins-more k done t h = go (nat_lt (length k.first) k.most) refl
           parts = ap (λ d. d ++ t ∷ []) same ∙ sym (append-nil (k.first ++ t ∷ []));
           all = λ m. refl;
           full = λ m. let f = h.full m in absurd (omega (arith, l, f));
-          nodes = nodes-more k done t h.nodes;
+          others = λ m. let f = h.full m in absurd (omega (arith, l, f));
         }
     go false e = record {
       rest = h.rest ++ t ∷ [];
       parts = ap (λ d. d ++ t ∷ []) h.parts ∙ append_assoc k.first h.rest (t ∷ []);
       all = λ m. absurd (cc);
       full = λ m. ltb-false (length k.first) k.most e;
-      nodes = nodes-more k done t h.nodes;
+      others = λ m. let l = length-append h.rest (t ∷ []) in omega (arith, l);
     }
 
-begins-on : (ts done : List Token) (k : Kept) → Begins k done → Begins (fold keep k ts) (done ++ ts)
-begins-on [] done k h = subst (Begins k) (sym (append-nil done)) h
+begins-on : (ts done : List Token) (k : Kept) → Keeps k done → Keeps (fold keep k ts) (done ++ ts)
+begins-on [] done k h = subst (Keeps k) (sym (append-nil done)) h
 begins-on (t ∷ ts) done k h =
-    subst (Begins (fold keep (keep k t) ts)) (append_assoc done (t ∷ []) ts)
+    subst (Keeps (fold keep (keep k t) ts)) (append_assoc done (t ∷ []) ts)
     (begins-on ts (done ++ t ∷ []) (keep k t) (begins-more k done t h))
 
 pub begins : (most : ℕ) (ts : List Token) → Begins (summary most ts) ts
-begins most ts = begins-on ts [] (nothing_kept most)
-    (record { rest = []; parts = refl; all = λ m. refl; full = λ m. absurd (cc); nodes = omega arith })
+begins most ts =
+    let k = begins-on ts [] (nothing_kept most)
+    (record { rest = []; parts = refl; all = λ m. refl; full = λ m. absurd (cc); others = λ m. absurd (cc) }) in
+    record {
+      rest = k.rest;
+      parts = k.parts;
+      all = k.all;
+      full = k.full;
+      others = k.others;
+      tally = subst (λ y. IsTallyOf y ts) (sym (tally-on ts (nothing_kept most))) (tally_is ts);
+    }
 
 most-of : (b : Bool) (x y : Kept) (m : ℕ) → x.most ≡ m → y.most ≡ m → (cond b x y).most ≡ m
 most-of true x y m e f = e
@@ -188,8 +207,3 @@ fails most line refusal.BadForm h = go (tokens_of line) (sym (kept-is most line)
     go None f = refl
     go (Some ts) f = cc
 fails most line refusal.Memory h = tt
-
-pub whole : (k : Kept) (o : Option (List Token)) → BeginsFound k o → k.more ≡ false → o ≡ Some k.first
-whole k o b e =
-    let h = b.2 in
-    b.1 ∙ ap Some (h.parts ∙ ap (λ r. k.first ++ r) (h.all e) ∙ append-nil k.first)

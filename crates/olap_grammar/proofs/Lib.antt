@@ -3,9 +3,11 @@ pub mod Levels
 mod Complete
 pub mod Sound
 mod Hom
+pub mod FewTokens
 pub mod CutComplete
 pub mod CutSound
 mod CutterLemmas
+mod TallyLemmas
 mod KeepingLemmas
 mod StackLemmas
 pub mod ReaderLemmas

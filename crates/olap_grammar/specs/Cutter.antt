@@ -9,7 +9,7 @@ use Rattle.olap_grammar.specs.declared.refusals.CutRefusal.{CutRefusal}
 use Rattle.olap_grammar.specs.declared.refusals.CutRefusal.TheVariants as refusal
 
 abbrev pub kept_of : FirstTokens → Kept
-kept_of t = record { most = t.most; first = t.first.items; more = t.more; nodes = t.nodes }
+kept_of t = record { most = t.most; first = t.first.items; more = t.more; tally = t.tally }
 
 -- what was begun, behind what is kept
 abbrev pub cut_of : Begun → Kept → keeping.Going

@@ -1,41 +1,37 @@
--- Cutting a line where only the first tokens are kept, and nodes are counted as far as it matters.
+-- Cutting a line where only the first tokens are kept, and the others are counted with them.
 --     Kept            what is kept of tokens
 --     keep            one token more
 --     Going           the states of `CuttingMachine`, over what is kept
 --     kept_tokens     what is kept of the tokens that a line is cut into
 --     Begins          what was kept is a beginning of the tokens
-use Rattle.std.specs.Prelude.{◌≡◌, ◌≤◌, ◌==◌, ◌&&◌, ◌+◌, ℕ, Bool, true, false, List, [], ◌∷◌, ◌++◌, Option, Some, None, count_by, length, nat_lt, if◌then◌else◌}
+--     IsTallyOf       what was counted is so of the tokens
+use Rattle.std.specs.Prelude.{◌≡◌, ◌≤◌, ◌<◌, ◌==◌, ℕ, Bool, true, false, List, [], ◌∷◌, ◌++◌, Option, Some, None, count_by, length, nat_lt, if◌then◌else◌}
 use Rattle.std.specs.List.{fold}
-use Rattle.olap_base.specs.Limits.{most_nodes}
+use Rattle.olap_grammar.specs.Brackets.{opens_over}
 use Rattle.olap_grammar.specs.Cutting.{is_word_byte}
 use Rattle.olap_grammar.specs.Nodes.{is_node}
+use Rattle.olap_grammar.specs.Tallying.{counted_nodes, nothing_tallied, tallied}
+use Rattle.olap_grammar.specs.declared.tallying.Tally.{Tally}
 use Rattle.olap_grammar.specs.declared.tokens.Token.{Token}
 use Rattle.olap_grammar.specs.declared.tokens.Token.TheVariants as token
 use Rattle.olap_grammar.specs.declared.tokens.Joint.TheVariants as joint
 
--- how many tokens are kept at most, those kept, whether there are more, and the nodes that were counted
+-- how many tokens are kept at most, those kept, whether there are more, and what was counted of all
 pub record Kept : Type 0 where
   pub most : ℕ
   pub first : List Token
   pub more : Bool
-  pub nodes : ℕ
-
--- nodes are counted up to here: more than a formula may have, and the three tokens before it
-abbrev pub counted_nodes : ℕ
-counted_nodes = most_nodes + 4
-
-abbrev pub counted : ℕ → Token → ℕ
-counted n t = if is_node t && nat_lt n counted_nodes then n + 1 else n
+  pub tally : Tally
 
 -- one token more, which is kept while there is room
 abbrev pub keep : Kept → Token → Kept
 keep k t =
     if nat_lt (length k.first) k.most then
-    record { most = k.most; first = k.first ++ t ∷ []; more = k.more; nodes = counted k.nodes t }
-    else record { most = k.most; first = k.first; more = true; nodes = counted k.nodes t }
+    record { most = k.most; first = k.first ++ t ∷ []; more = k.more; tally = tallied k.tally t }
+    else record { most = k.most; first = k.first; more = true; tally = tallied k.tally t }
 
 abbrev pub nothing_kept : ℕ → Kept
-nothing_kept most = record { most = most; first = []; more = false; nodes = 0 }
+nothing_kept most = record { most = most; first = []; more = false; tally = nothing_tallied }
 
 -- ---- the cutter
 
@@ -99,13 +95,21 @@ kept_tokens most line = kept_ended (fold kept_step (Between (nothing_kept most))
 
 -- ---- what is kept of tokens
 
--- the tokens begin with those kept: with all of them, or else with as many as may be kept; the nodes counted are there
+-- the nodes, as far as they are counted, and whether too many brackets are open
+pub record IsTallyOf (y : Tally) (ts : List Token) : Type 0 where
+  pub few : y.nodes ≤ count_by is_node ts
+  pub nodes : y.nodes < counted_nodes → y.nodes ≡ count_by is_node ts
+  pub too_deep : y.too_deep ≡ opens_over 0 0 ts
+
+-- the tokens begin with those kept: with all of them, or else with as many as may be kept, and others are left; what
+-- was counted is so of all
 pub record Begins (k : Kept) (ts : List Token) : Type 0 where
   pub rest : List Token
   pub parts : ts ≡ k.first ++ rest
   pub all : k.more ≡ false → rest ≡ []
   pub full : k.more ≡ true → k.most ≤ length k.first
-  pub nodes : k.nodes ≤ count_by is_node ts
+  pub others : k.more ≡ true → 0 < length rest
+  pub tally : IsTallyOf k.tally ts
 
 -- what was kept begins the tokens that were found
 abbrev pub BeginsFound : Kept → Option (List Token) → Type 0

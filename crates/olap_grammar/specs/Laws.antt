@@ -1,10 +1,12 @@
--- What holds of all lines and tokens: the readers find what the grammar says.
-use Rattle.std.specs.Prelude.{◌≡◌, ◌↔◌, ℕ, List, Some}
+-- What holds of all lines and tokens: the readers find what the grammar says, and formulas are short.
+use Rattle.std.specs.Prelude.{◌≡◌, ◌≤◌, ◌↔◌, ℕ, List, Some, count_by, false, length}
 use Rattle.olap_ast.specs.Formula.{Formula}
+use Rattle.olap_grammar.specs.Brackets.{most_tokens, opens_over}
 use Rattle.olap_grammar.specs.Grammar.{Atoms, IsFormula}
 use Rattle.olap_grammar.specs.Cutting.{IsCut}
 use Rattle.olap_grammar.specs.CuttingMachine.{tokens_of}
 use Rattle.olap_grammar.specs.Machine.{the_formula}
+use Rattle.olap_grammar.specs.Nodes.{is_node}
 use Rattle.olap_grammar.specs.declared.tokens.Token.{Token}
 
 -- these tokens are found exactly where the line is cut into them
@@ -22,3 +24,9 @@ IsOneCut = (line : List ℕ) (ts us : List Token) → IsCut line ts → IsCut li
 -- tokens are at most one formula
 abbrev pub IsOneTree : Type 0
 IsOneTree = (a : Atoms Formula) (ts : List Token) (f g : Formula) → IsFormula a 1 ts f → IsFormula a 1 ts g → f ≡ g
+
+-- a formula in which too many brackets are never open has few tokens for its nodes
+abbrev pub HasFewTokens : Type 0
+HasFewTokens =
+    (a : Atoms Formula) (ts : List Token) (f : Formula) → IsFormula a 1 ts f → opens_over 0 0 ts ≡ false
+    → length ts ≤ most_tokens (count_by is_node ts)

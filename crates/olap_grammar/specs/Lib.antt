@@ -3,6 +3,7 @@
 -- What a reader of the claims believes: how a line is cut, what the tokens are, what the readers find and answer.
 pub mod Cutting
 pub mod Grammar
+pub mod Brackets
 pub mod Words
 pub mod Laws
 pub mod Answering
@@ -11,6 +12,7 @@ pub mod Known
 -- The inside: the readers' states, which `Laws` says find what is cut and formed.
 pub mod CuttingMachine
 pub mod Nodes
+pub mod Tallying
 pub mod Keeping
 pub mod Cutter
 pub mod Machine

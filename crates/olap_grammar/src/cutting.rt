@@ -1,19 +1,15 @@
 // Cutting a line into tokens.
-ghost use Rattle.std.specs.Prelude.{◌≡◌, [], ◌∷◌, ℕ, List, IfOk, OnOk, MatchResult, Option, Some};
+ghost use Rattle.std.specs.Prelude.{◌≡◌, [], ◌∷◌, ℕ, IfOk, OnOk, MatchResult};
 ghost use Rattle.olap_grammar.specs.CuttingMachine.{tokens_of};
 ghost use Rattle.olap_grammar.specs.Keeping as keeping;
-ghost use Rattle.olap_grammar.specs.Keeping.{BeginsFound, Kept, counted, keep, kept_tokens, nothing_kept};
+ghost use Rattle.olap_grammar.specs.Keeping.{BeginsFound, Kept, keep, kept_tokens, nothing_kept};
 ghost use Rattle.olap_grammar.specs.Cutting.{is_word_byte as is_word_byte_of};
 ghost use Rattle.olap_grammar.specs.Cutter.{CutEnds, CutsTo, FailsWith, cut_of, kept_of};
-ghost use Rattle.olap_grammar.specs.declared.tokens.Token.{Token as Tokens};
 ghost use Rattle.olap_grammar.specs.declared.tokens.Token.TheVariants as token;
 
-use crate::{CutRefusal, Joint, Token};
-use olap_base::{MOST_NODES, Memory, Text};
+use crate::{CutRefusal, Joint, Tally, Token};
+use olap_base::{Memory, Text};
 use std::alloc::Global;
-
-/// Nodes are counted up to here: more than a formula may have, and the three tokens before it.
-pub const COUNTED_NODES: usize = MOST_NODES + 4;
 
 /// The tokens of a line from the first on, as many as may be kept.
 #[derive(Debug, Drop)]
@@ -22,8 +18,8 @@ pub struct FirstTokens {
     pub first: Vec<Token>,
     /// Whether the line has more of them.
     pub more: bool,
-    /// The nodes among all tokens of the line, or as many of them as were counted.
-    pub nodes: usize,
+    /// What is counted of all tokens of the line.
+    pub tally: Tally,
     /// How many tokens are kept at most.
     pub most: usize,
 }
@@ -47,22 +43,11 @@ fn is_word_byte(byte: u8) -> bool
     byte.is_ascii_alphanumeric() || byte == b'_' || byte == b'.'
 }
 
-/// The nodes that were counted, and this token if it is one.
-fn count(nodes: usize, token: &Token) -> usize
-    ensures { result ≡ counted nodes token.now }
-{
-    if token.is_node() && nodes < COUNTED_NODES {
-        nodes + 1
-    } else {
-        nodes
-    }
-}
-
 /// The token behind the others.
 fn add(tokens: &mut FirstTokens, token: Token) -> Result<(), Memory>
     ensures { OnOk result (kept_of tokens.new ≡ keep (kept_of tokens.old) token) }
 {
-    tokens.nodes = count(tokens.nodes, &token);
+    tokens.tally.add(&token)?;
     if tokens.first.len() < tokens.most {
         tokens.first.push(token)?;
         return Ok(());
@@ -285,33 +270,11 @@ pub fn first_tokens(alloc: Global, line: &[u8], most: usize) -> Result<FirstToke
     let mut found = FirstTokens {
         first: Vec::new(alloc),
         more: false,
-        nodes: 0,
+        tally: Tally::new(),
         most,
     };
     match cut(alloc, &mut found, line) {
         Ok(()) => Ok(found),
         Err(e) => Err(e),
     }
-}
-
-/// The tokens that the line is cut into, with spaces and tabs between them.
-///
-/// `BadForm` exactly where it can't be cut, and `Memory` where there is no room. One pass.
-pub fn line_tokens(alloc: Global, line: &[u8]) -> Result<Vec<Token>, CutRefusal>
-    ensures { MatchResult result (λ v. tokens_of line.now ≡ Some v.items) (λ e. FailsWith e (tokens_of line.now)) }
-{
-    match first_tokens(alloc, line, usize::MAX) {
-        Ok(found) => all_of(found),
-        Err(e) => Err(e),
-    }
-}
-
-/// The tokens, where none is left out.
-fn all_of(found: FirstTokens) -> Result<Vec<Token>, CutRefusal>
-    ensures { (ts : Option (List Tokens)) → BeginsFound (kept_of found) ts → MatchResult result (λ v. ts ≡ Some v.items) (λ e. FailsWith e ts) }
-{
-    if found.more {
-        return Err(CutRefusal::Memory);
-    }
-    Ok(found.first)
 }

@@ -1,5 +1,5 @@
 // Laws of the grammar. Each is the clause of a function that does nothing.
-ghost use Rattle.olap_grammar.specs.Laws.{FoundAsCut, FoundAsFormula, IsOneCut, IsOneTree};
+ghost use Rattle.olap_grammar.specs.Laws.{FoundAsCut, FoundAsFormula, HasFewTokens, IsOneCut, IsOneTree};
 
 /// The tokens that are found are those that the line is cut into.
 pub fn tokens_are_found_as_cut()
@@ -19,4 +19,9 @@ pub fn a_line_is_cut_in_one_way()
 /// Tokens are at most one formula.
 pub fn tokens_are_one_formula()
     ensures { IsOneTree }
+{}
+
+/// A formula in which too many brackets are never open has few tokens for its nodes.
+pub fn formulas_have_few_tokens()
+    ensures { HasFewTokens }
 {}

@@ -1,6 +1,6 @@
 //! Tokens of a schema's lines, and the formulas that they are.
 //!
-//! `line_tokens` cuts a line, and `formula` reads tokens as a formula. What they find is the grammar's: a relation by
+//! `first_tokens` cuts a line, and `formula` reads tokens as a formula. What they find is the grammar's: a relation by
 //! cases between bytes and tokens (`specs/Cutting`), and one between tokens and a formula's tree (`specs/Grammar`);
 //! `laws` say so. Neither call itself: what is open stands on a list in memory, however deep a text is.
 #![tactic(auto)]
@@ -14,17 +14,19 @@ mod quoting;
 mod reading;
 mod refusals;
 mod stacking;
+mod tallying;
 mod tokens;
 mod words;
 
-pub use cutting::{COUNTED_NODES, FirstTokens, first_tokens, line_tokens};
+pub use cutting::{FirstTokens, first_tokens};
 pub use knowing::Known;
 pub use laws::{
-    a_line_is_cut_in_one_way, formulas_are_found_as_formed, tokens_are_found_as_cut,
-    tokens_are_one_formula,
+    a_line_is_cut_in_one_way, formulas_are_found_as_formed, formulas_have_few_tokens,
+    tokens_are_found_as_cut, tokens_are_one_formula,
 };
 pub use quoting::push_quoted;
 pub use reading::formula;
 pub use refusals::{CutRefusal, FormRefusal};
+pub use tallying::Tally;
 pub use tokens::{Joint, Token};
 pub use words::{first_piece, marks, pieces};

@@ -12,13 +12,14 @@ use Rattle.olap_graph.specs.Lookups.{category_named, name_of_category}
 use Rattle.olap_ast.specs.Formula.{Equality, Formula, equalities}
 use Rattle.olap_ast.specs.Schema.{Constraint, Schema}
 use Rattle.olap_ast.specs.Valid.{IsFormulaAt, IsValidSchema, depth_of, is_same_pair, node_count, with_pair}
+use Rattle.olap_grammar.specs.Brackets.{opens_over}
 use Rattle.olap_grammar.specs.Machine.{the_formula}
 use Rattle.olap_grammar.specs.Words.{atoms_of}
 use Rattle.olap_grammar.proofs.ReaderLemmas.{formula_is_found}
 use Rattle.olap_grammar.proofs.Sound.{tighter}
 use Rattle.olap_schema.specs.Atoms.{atom_fault}
 use Rattle.olap_schema.specs.Judging.{Above, constraint_read, form_read}
-use Rattle.olap_schema.specs.Tokens.{is_long, opens_over, token_nodes}
+use Rattle.olap_schema.specs.Tokens.{is_long, token_nodes}
 use Rattle.olap_schema.proofs.BackAtoms.{no_atom_fault}
 use Rattle.olap_schema.proofs.BackGraph.{lengths, stands}
 use Rattle.olap_schema.proofs.BackLengths.{AreShort, none_is_long}

@@ -9,11 +9,12 @@ use Rattle.olap_ast.specs.Formula as Meaning
 use Rattle.olap_ast.specs.Formula.{Formula, Terms}
 use Rattle.olap_ast.specs.Valid.{depth_of, depth_of_terms, node_count, node_count_of_terms}
 use Rattle.olap_base.specs.Limits.{most_depth}
+use Rattle.olap_grammar.specs.Brackets.{opens_over}
 use Rattle.olap_grammar.specs.declared.tokens.Token.{Token}
 use Rattle.olap_grammar.specs.declared.tokens.Token.TheVariants as token
 use Rattle.olap_grammar.specs.declared.tokens.Joint.{Joint}
 use Rattle.olap_grammar.specs.declared.tokens.Joint.TheVariants as joint
-use Rattle.olap_schema.specs.Tokens.{is_node, opens_over, token_nodes}
+use Rattle.olap_schema.specs.Tokens.{is_node, token_nodes}
 use Rattle.olap_schema.proofs.PrintTokens.{joined_tokens, spelt, spelt_list, spelt_rest}
 
 -- ---- nodes

@@ -9,7 +9,7 @@ use Rattle.olap_base.specs.Limits.{most_depth}
 use Rattle.olap_grammar.specs.declared.tokens.Token.{Token}
 use Rattle.olap_grammar.specs.declared.tokens.Token.TheVariants as token
 use Rattle.olap_schema.specs.Laws.{OpenBracketsAreCounted}
-use Rattle.olap_schema.specs.Tokens.{is_close, is_open, opens_over}
+use Rattle.olap_grammar.specs.Brackets.{is_close, is_open, opens_over}
 
 -- one token more is counted
 one_more : (p : Token → Bool) (t : Token) (ts : List Token) → count_by p (t ∷ ts) ≡ cond (p t) 1 0 + count_by p ts

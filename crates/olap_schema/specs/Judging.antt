@@ -22,6 +22,7 @@ use Rattle.olap_ast.specs.Formula.{Equality, Formula, equalities}
 use Rattle.olap_ast.specs.Schema.{Constraint, Schema}
 use Rattle.olap_ast.specs.Valid.{distinct_pairs, with_pair}
 use Rattle.olap_grammar.specs.Answering.{formula_answer}
+use Rattle.olap_grammar.specs.Brackets.{opens_over}
 use Rattle.olap_grammar.specs.CuttingMachine.{tokens_of}
 use Rattle.olap_grammar.specs.Machine.{the_formula}
 use Rattle.olap_grammar.specs.Words.{atoms_of}
@@ -32,7 +33,7 @@ use Rattle.olap_schema.specs.Atoms.{atom_fault}
 use Rattle.olap_schema.specs.Lines.{chomped, is_bad, is_quiet, lines_of}
 use Rattle.olap_schema.specs.Statements as says
 use Rattle.olap_schema.specs.Statements.{Statement, is_version, statement_of}
-use Rattle.olap_schema.specs.Tokens.{is_long, opens_over, token_nodes}
+use Rattle.olap_schema.specs.Tokens.{is_long, token_nodes}
 use Rattle.olap_schema.specs.declared.kinds.SchemaKind.{SchemaKind}
 use Rattle.olap_schema.specs.declared.kinds.SchemaKind.TheVariants as kind
 

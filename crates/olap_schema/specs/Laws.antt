@@ -7,8 +7,8 @@ use Rattle.olap_ast.specs.Formula.{Formula, equalities}
 use Rattle.olap_ast.specs.Schema.{Schema}
 use Rattle.olap_ast.specs.Valid.{IsQuestion, IsValidSchema}
 use Rattle.olap_schema.specs.Judging.{question_read, schema_read}
+use Rattle.olap_grammar.specs.Brackets.{is_close, is_open, opens_over}
 use Rattle.olap_grammar.specs.declared.tokens.Token.{Token}
-use Rattle.olap_schema.specs.Tokens.{is_close, is_open, opens_over}
 use Rattle.olap_schema.specs.PrintingLaws.{AreTexts, IsReadable}
 use Rattle.olap_schema.specs.declared.kinds.SchemaKind.{SchemaKind}
 

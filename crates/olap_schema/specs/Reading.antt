@@ -1,11 +1,16 @@
 -- What the values of the readers stand for.
-use Rattle.std.specs.Prelude.{◌≡◌, Result, Ok, Err, Option, Some, None, map, IsTrue}
+use Rattle.std.specs.Prelude.{◌≡◌, ◌≤◌, ◌<◌, ◌+◌, ℕ, List, Result, Ok, Err, Option, Some, None, map, IsTrue}
 use Rattle.olap_base.specs.Reaching.{is_category_name}
 use Rattle.olap_ast.specs.Formula as Meaning
 use Rattle.olap_ast.specs.Trees.{constraint_of, formula_of}
 use Rattle.olap_ast.specs.declared.formulas.Formula.{Formula}
+use Rattle.olap_grammar.specs.Brackets.{opens_over}
+use Rattle.olap_grammar.specs.Tallying.{counted_nodes}
+use Rattle.olap_grammar.specs.declared.tallying.Tally.{Tally}
+use Rattle.olap_grammar.specs.declared.tokens.Token.{Token}
 use Rattle.olap_schema.specs.Judging.{Above}
 use Rattle.olap_schema.specs.Statements as says
+use Rattle.olap_schema.specs.Tokens.{token_nodes}
 use Rattle.olap_schema.specs.declared.kinds.FormulaRefusal.{FormulaRefusal}
 use Rattle.olap_schema.specs.declared.kinds.FormulaRefusal.TheVariants as refusal
 use Rattle.olap_schema.specs.declared.kinds.SchemaKind.{SchemaKind}
@@ -69,3 +74,9 @@ HasName statement.Version = Unit {0}
 HasName (statement.Edge child parent) = Unit {0}
 HasName (statement.Constraint root tokens) = Unit {0}
 HasName statement.Other = Unit {0}
+
+-- what was counted of these tokens and of so many nodes in front of them
+pub record IsTallyBehind (front : ℕ) (y : Tally) (ts : List Token) : Type 0 where
+  pub few : y.nodes ≤ front + token_nodes ts
+  pub nodes : y.nodes < counted_nodes → y.nodes ≡ front + token_nodes ts
+  pub too_deep : y.too_deep ≡ opens_over 0 0 ts

@@ -1,39 +1,16 @@
--- The checks of a formula's tokens that look at no graph.
+-- The checks of a formula's tokens that look at no graph. That too many brackets are open is one more: `opens_over` of
+-- `olap_grammar`.
 --     token_nodes    the nodes of the formula
---     opens_over     too many brackets are open
 --     is_long        a name or a constant is too long
 pub use Rattle.olap_grammar.specs.Nodes.{is_node}
 use Rattle.std.specs.Prelude.{◌==◌, ◌||◌, ◌+◌, ℕ, Bool, true, false, List, [], ◌∷◌, length, count_by, nat_lt, if◌then◌else◌}
-use Rattle.olap_base.specs.Limits.{most_depth, most_text_bytes}
+use Rattle.olap_base.specs.Limits.{most_text_bytes}
 use Rattle.olap_grammar.specs.declared.tokens.Token.{Token}
 use Rattle.olap_grammar.specs.declared.tokens.Token.TheVariants as token
 
 -- the words, and the marks `!`, `&`, `|`, `^`, `->` and `<->`
 abbrev pub token_nodes : List Token → ℕ
 token_nodes ts = count_by is_node ts
-
--- the token is `(`
-abbrev pub is_open : Token → Bool
-is_open token.Open = true
-is_open t = false
-
--- the token is `)`
-abbrev pub is_close : Token → Bool
-is_close token.Close = true
-is_close t = false
-
--- after so many `(` and so many `)`, some `(` is too far above the `)`
-unfoldable pub opens_over : ℕ → ℕ → List Token → Bool
-opens_over o c [] = false
-opens_over o c (token.Open ∷ ts) = if nat_lt (c + most_depth) (o + 1) then true else opens_over (o + 1) c ts
-opens_over o c (token.Close ∷ ts) = opens_over o (c + 1) ts
-opens_over o c (token.Word w ∷ ts) = opens_over o c ts
-opens_over o c (token.Quoted k ∷ ts) = opens_over o c ts
-opens_over o c (token.Comma ∷ ts) = opens_over o c ts
-opens_over o c (token.Colon ∷ ts) = opens_over o c ts
-opens_over o c (token.Equal ∷ ts) = opens_over o c ts
-opens_over o c (token.Not ∷ ts) = opens_over o c ts
-opens_over o c (token.Joint j ∷ ts) = opens_over o c ts
 
 -- after so many bytes of a name, this or another name of the word has too many
 unfoldable pub has_long_name : ℕ → List ℕ → Bool

@@ -1,10 +1,37 @@
 // The checks of a formula's tokens that look at no graph.
-ghost use Rattle.olap_schema.specs.Tokens.{has_long_name as has_long_name_of, is_long as is_long_of, opens_over, token_nodes};
+ghost use Rattle.olap_base.specs.Graph.{Graph};
+ghost use Rattle.olap_base.specs.Limits.{most_nodes};
+ghost use Rattle.olap_grammar.specs.Brackets.{most_tokens, opens_over};
+ghost use Rattle.olap_grammar.specs.declared.tokens.Token.{Token as Tokens};
+ghost use Rattle.olap_schema.specs.Judging.{form_read};
+ghost use Rattle.olap_schema.specs.Reading.{IsTallyBehind};
+ghost use Rattle.olap_schema.specs.Tokens.{has_long_name as has_long_name_of, is_long as is_long_of, token_nodes};
 ghost use Rattle.std.specs.List.{list_any};
-ghost use Rattle.std.specs.Prelude.{◌≡◌, ◌≤◌, length};
+ghost use Rattle.std.specs.Prelude.{◌≡◌, ◌≤◌, ◌<◌, List, Err, length};
 
-use olap_base::{MOST_DEPTH, MOST_TEXT_BYTES};
-use olap_grammar::Token;
+use crate::SchemaKind;
+use olap_base::{MOST_DEPTH, MOST_NODES, MOST_TEXT_BYTES};
+use olap_grammar::{Tally, Token};
+
+/// How many tokens of a line are kept: as many as a formula may have, for each node two brackets at each depth and
+/// the three of a word with a string, and the three before it.
+pub(crate) const MOST_TOKENS: usize = (2 * MOST_DEPTH as usize + 3) * MOST_NODES + 3;
+
+/// Why tokens that are more than a formula may have are none, with so many nodes on the lines above, and so many that
+/// were counted in front of the formula.
+pub(crate) fn long_form_fault(before: u16, front: u16, tally: &Tally) -> SchemaKind
+    requires { front ≤ 3 }
+    ensures { (g : Graph) (ts : List Tokens) → IsTallyBehind front tally.now ts → most_tokens most_nodes < length ts
+        → form_read g before ts ≡ Err result }
+{
+    if before as usize + tally.nodes as usize > MOST_NODES + front as usize {
+        return SchemaKind::TooManyNodes;
+    }
+    if tally.too_deep {
+        return SchemaKind::TooDeep;
+    }
+    SchemaKind::BadForm
+}
 
 /// How many nodes a formula of these tokens has.
 #[tactic(auto, using(crate::proofs::Counting::few_nodes))]
@@ -16,7 +43,7 @@ pub(crate) fn nodes(tokens: &[Token]) -> usize
 }
 
 /// Whether more than `MOST_DEPTH` brackets are open at some place.
-#[tactic(auto, unfolding(crate::specs::Tokens::opens_over))]
+#[tactic(auto, unfolding(olap_grammar::specs::Brackets::opens_over))]
 pub(crate) fn opens_too_deep(tokens: &[Token]) -> bool
     ensures { result ≡ opens_over 0 0 tokens.now }
 {

@@ -17,13 +17,13 @@ ghost use Rattle.std.specs.Prelude.{◌≡◌, IfOk, OnOk, Some, None, flat_map,
 
 use crate::atoms::check_atoms;
 use crate::lines::is_bad;
-use crate::measuring::has_long_text;
+use crate::measuring::{MOST_TOKENS, has_long_text, long_form_fault};
 use crate::pairing::{Pair, add_pairs};
 use crate::reading::read_form;
 use crate::{FormulaRefusal, Schema, SchemaKind};
 use olap_ast::{Constraint, Formula};
 use olap_base::{CatId, MOST_CONSTANTS, Memory};
-use olap_grammar::{CutRefusal, Known, Token, line_tokens};
+use olap_grammar::{CutRefusal, Known, Token, first_tokens};
 use std::alloc::Global;
 
 /// The pairs of all constraints.
@@ -80,6 +80,27 @@ fn check_question(
     }
 }
 
+/// The formula of the tokens.
+fn read_tokens(
+    alloc: Global,
+    schema: &Schema,
+    root: CatId,
+    tokens: &[Token],
+) -> Result<Formula, FormulaRefusal>
+    requires { IsDeclared (schema_of schema.now).graph root.0 }
+    ensures { ReadsFormula result (question_cut (schema_of schema.now) root.0 (Some tokens.now)) }
+{
+    match read_form(alloc, &Known::Whole(schema.graph()), 0, tokens) {
+        Ok(f) => {
+            if has_long_text(tokens) {
+                return Err(FormulaRefusal::Fault(SchemaKind::TextTooLong));
+            }
+            check_question(alloc, schema, root, tokens, f)
+        }
+        Err(e) => Err(e),
+    }
+}
+
 /// The formula of a text without a bad byte.
 fn read_question(
     alloc: Global,
@@ -90,16 +111,13 @@ fn read_question(
     requires { IsDeclared (schema_of schema.now).graph root.0 }
     ensures { ReadsFormula result (question_cut (schema_of schema.now) root.0 (tokens_of text.now)) }
 {
-    match line_tokens(alloc, text) {
-        Ok(tokens) => match read_form(alloc, &Known::Whole(schema.graph()), 0, &tokens) {
-            Ok(f) => {
-                if has_long_text(&tokens) {
-                    return Err(FormulaRefusal::Fault(SchemaKind::TextTooLong));
-                }
-                check_question(alloc, schema, root, &tokens, f)
+    match first_tokens(alloc, text, MOST_TOKENS) {
+        Ok(found) => {
+            if found.more {
+                return Err(FormulaRefusal::Fault(long_form_fault(0, 0, &found.tally)));
             }
-            Err(e) => Err(e),
-        },
+            read_tokens(alloc, schema, root, &found.first)
+        }
         Err(CutRefusal::BadForm) => Err(FormulaRefusal::Fault(SchemaKind::BadForm)),
         Err(CutRefusal::Memory) => Err(FormulaRefusal::Memory),
     }

@@ -10,16 +10,18 @@ ghost use Rattle.olap_schema.specs.Judging.{category_read, constraint_added, con
 ghost use Rattle.olap_schema.specs.Reading.{Reads, ReadsFormula, above_of, said};
 ghost use Rattle.olap_ast.specs.Formula.{equalities};
 ghost use Rattle.olap_ast.specs.Valid.{with_pair};
+ghost use Rattle.olap_grammar.specs.Brackets.{most_tokens};
 ghost use Rattle.olap_grammar.specs.Cutter.{kept_of};
+ghost use Rattle.olap_grammar.specs.declared.tokens.Token.{Token as Tokens};
 ghost use Rattle.olap_grammar.specs.CuttingMachine.{tokens_of};
 ghost use Rattle.olap_grammar.specs.Keeping.{BeginsFound};
 ghost use Rattle.olap_schema.specs.Statements.{statement_of};
 ghost use Rattle.olap_schema.specs.Tokens.{token_nodes};
-ghost use Rattle.std.specs.Prelude.{◌≡◌, ◌≤◌, ◌+◌, IfOk, IsTrue, fold, true};
+ghost use Rattle.std.specs.Prelude.{◌≡◌, ◌≤◌, ◌+◌, ℕ, List, Option, Err, IfOk, IsTrue, fold, true};
 
 use crate::atoms::check_atoms;
 use crate::lines::{is_bad, is_quiet};
-use crate::measuring::{has_long_text, nodes, opens_too_deep};
+use crate::measuring::{MOST_TOKENS, has_long_text, long_form_fault, nodes, opens_too_deep};
 use crate::pairing::{Pair, add_pairs};
 use crate::statements::{Statement, is_constraint, is_version, statement_in};
 use crate::{FormulaRefusal, SchemaKind};
@@ -27,16 +29,9 @@ use olap_ast::{Constraint, Formula};
 use olap_base::{
     CatId, MOST_CONSTANTS, MOST_CONSTRAINTS, MOST_NODES, MOST_TEXT_BYTES, Memory, Text,
 };
-use olap_grammar::{
-    COUNTED_NODES, CutRefusal, FirstTokens, FormRefusal, Known, Token, first_tokens, formula,
-    line_tokens,
-};
+use olap_grammar::{CutRefusal, FirstTokens, FormRefusal, Known, Token, first_tokens, formula};
 use olap_graph::{CategoryRefusal, EdgeRefusal, GraphBuilder};
 use std::alloc::Global;
-
-/// How many tokens of a line are kept at first. Lines that are taken hardly ever have so many, and most others are refused
-/// by these and by a count.
-const MOST_TOKENS: usize = 65_536;
 
 /// What the lines so far say.
 #[derive(Drop)]
@@ -256,34 +251,20 @@ fn read_first(reading: &mut Reading, tokens: &[Token]) -> Result<(), FormulaRefu
     Err(FormulaRefusal::Fault(SchemaKind::BadForm))
 }
 
-/// A line of more tokens than are kept at first. Where the first and the nodes that were counted don't refuse it, it is
-/// cut again, and all its tokens are kept.
-fn read_long(
-    alloc: Global,
-    reading: &mut Reading,
-    n: u64,
-    line: &[u8],
-    found: &FirstTokens,
-) -> Result<(), FormulaRefusal>
-    requires begins { BeginsFound (kept_of found.now) (tokens_of line.now) }
+/// Why a line of which not all tokens are kept is refused.
+fn long_line_fault(reading: &Reading, found: &FirstTokens) -> SchemaKind
     requires more { found.now.more ≡ true }
-    requires room { 4 ≤ found.now.most }
-    ensures { Reads result (above_of reading.new) (tokens_read (above_of reading.old) n (tokens_of line.now)) }
+    requires room { most_tokens most_nodes + 3 ≤ found.now.most }
+    ensures { (n : ℕ) (ts : Option (List Tokens)) → BeginsFound (kept_of found.now) ts
+        → tokens_read (above_of reading.now) n ts ≡ Err result }
 {
     if !reading.versioned {
-        return Err(FormulaRefusal::Fault(SchemaKind::BadForm));
+        return SchemaKind::BadForm;
     }
     if !is_constraint(&found.first) {
-        return Err(FormulaRefusal::Fault(SchemaKind::BadForm));
+        return SchemaKind::BadForm;
     }
-    if found.nodes >= COUNTED_NODES {
-        return Err(FormulaRefusal::Fault(SchemaKind::TooManyNodes));
-    }
-    match line_tokens(alloc, line) {
-        Ok(tokens) => read_statement(alloc, reading, n, &tokens),
-        Err(CutRefusal::BadForm) => Err(FormulaRefusal::Fault(SchemaKind::BadForm)),
-        Err(CutRefusal::Memory) => Err(FormulaRefusal::Memory),
-    }
+    long_form_fault(reading.nodes, 2, &found.tally)
 }
 
 /// A line that says something.
@@ -298,7 +279,7 @@ fn read_saying(
     match first_tokens(alloc, line, MOST_TOKENS) {
         Ok(found) => {
             if found.more {
-                return read_long(alloc, reading, n, line, &found);
+                return Err(FormulaRefusal::Fault(long_line_fault(reading, &found)));
             }
             if reading.versioned {
                 read_statement(alloc, reading, n, &found.first)

@@ -1,5 +1,5 @@
 use Rattle.std.proofs.Common.{◌≡◌, ◌+◌, ◌≤◌, length}
-use Rattle.olap_schema.specs.Tokens.{opens_over}
+use Rattle.olap_grammar.specs.Brackets.{opens_over}
 use Rattle.olap_schema.proofs.measuring.opens_too_deep.Given as goal
 
 abbrev pub invariant-tokens : goal.invariant-tokens

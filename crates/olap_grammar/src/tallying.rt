@@ -1,0 +1,79 @@
+// What is counted of the tokens of a line, kept or not.
+ghost use Rattle.std.specs.Prelude.{◌≡◌, ◌+◌, OnOk, IfOk};
+ghost use Rattle.olap_grammar.specs.Tallying.{counted, nothing_tallied, tallied};
+
+use crate::Token;
+use olap_base::{MOST_DEPTH, MOST_NODES, Memory};
+
+/// Nodes are counted up to here: more than a formula may have, and the three tokens before it.
+const COUNTED_NODES: u16 = MOST_NODES as u16 + 4;
+
+/// What is counted of tokens.
+#[derive(Clone, Copy, Debug)]
+pub struct Tally {
+    /// The nodes, or as many of them as are counted.
+    pub nodes: u16,
+    /// The `(`.
+    pub opened: usize,
+    /// The `)`.
+    pub closed: usize,
+    /// Whether more than `MOST_DEPTH` brackets were open at some place.
+    pub too_deep: bool,
+}
+
+/// One node more, up to `COUNTED_NODES`.
+fn count(nodes: u16) -> u16
+    ensures { result ≡ counted nodes }
+{
+    if nodes < COUNTED_NODES {
+        nodes + 1
+    } else {
+        nodes
+    }
+}
+
+/// One bracket more. `Memory` where a machine has no room for so many.
+fn one_more(brackets: usize) -> Result<usize, Memory>
+    ensures { IfOk result (λ n. n ≡ brackets + 1) }
+{
+    match brackets.checked_add(1) {
+        Some(more) => Ok(more),
+        None => Err(Memory),
+    }
+}
+
+impl Tally {
+    /// Nothing is counted yet.
+    pub(crate) fn new() -> Tally
+        ensures { result ≡ nothing_tallied }
+    {
+        Tally {
+            nodes: 0,
+            opened: 0,
+            closed: 0,
+            too_deep: false,
+        }
+    }
+
+    /// One token more. `Memory` where a machine has no room for so many brackets.
+    pub(crate) fn add(&mut self, token: &Token) -> Result<(), Memory>
+        ensures { OnOk result (self.new ≡ tallied self.old token.now) }
+    {
+        match token {
+            Token::Word(_) => self.nodes = count(self.nodes),
+            Token::Not => self.nodes = count(self.nodes),
+            Token::Joint(_) => self.nodes = count(self.nodes),
+            Token::Open => {
+                self.opened = one_more(self.opened)?;
+                let open = self.opened.saturating_sub(self.closed);
+                self.too_deep = self.too_deep || open > MOST_DEPTH as usize;
+            }
+            Token::Close => self.closed = one_more(self.closed)?,
+            Token::Quoted(_) => {}
+            Token::Comma => {}
+            Token::Colon => {}
+            Token::Equal => {}
+        }
+        Ok(())
+    }
+}
