@@ -1,0 +1,9 @@
+-- Lemmas.
+mod WalkLemmas
+mod SetLemmas
+mod StageLemmas
+mod TableLemmas
+mod TakingLemmas
+mod DecisionLemmas
+mod CountingLemmas
+mod BypassLemmas

@@ -1,0 +1,155 @@
+-- The tables of no edges, and after the last edge is taken back.
+use Rattle.std.proofs.Common.{◌≡◌, ◌≢◌, ℕ, zero, suc, ◌+◌, ◌*◌, ◌-◌, ◌<◌, ◌≤◌, ◌⊎◌, ◌↔◌, List, [], ◌∷◌, length, get_or, set, take, replicate, Bool, true, false, refl, ap, sym, subst, ◌∙◌, inl, inr, arith}
+use Rattle.std.specs.FinSet.{FinSet, empty, remove}
+use Rattle.std.specs.Ordering.{nat_cmp}
+use Rattle.std.proofs.Math.ListN.{get_or-append, length-set}
+use Rattle.std.proofs.Math.Seq.{get_or-append_seam}
+use Rattle.std.proofs.lemmas.List.{length-replicate, length_push, take-append-le, take_all}
+use Rattle.olap_base.proofs.ListLemmas.{Contains-nil}
+use Rattle.olap_base.specs.Graph.{Edge}
+use Rattle.olap_base.specs.Steps.{Climb, Climb.climb}
+use Rattle.olap_bits.specs.CatSet.{IsOfWidth}
+use Rattle.olap_bits.specs.Sets.{members}
+use Rattle.olap_bits.specs.declared.sets.CatSet.{CatSet}
+use Rattle.olap_trail.specs.Drawing.{AreBeyond, IsCyclic, IsIn, IsNext, Joins, row}
+use Rattle.olap_trail.specs.Drawn.{AreTables}
+use Rattle.olap_trail.proofs.SetLemmas.{in_without, not_in_empty, row_other, row_same}
+use Rattle.olap_trail.proofs.WalkLemmas.{joins_cases, joins_more, joins_new, more}
+
+-- ---- no edges
+
+row_none : {W : ℕ} (x : CatSet W) → members x ≡ empty → (m i : ℕ) → row (replicate m x) i ≡ empty
+row_none x e zero i = refl
+row_none x e (suc m) zero = e
+row_none x e (suc m) (suc i) = row_none x e m i
+
+mark_none : (m i : ℕ) → get_or (replicate m false) i false ≡ false
+mark_none zero i = refl
+mark_none (suc m) zero = refl
+mark_none (suc m) (suc i) = mark_none m i
+
+no_climb : (es : List Edge) (x y : ℕ) → es ≡ [] → Climb (Joins es) x y → ⊥
+no_climb es x y e (climb {z = z} j s) =
+    Contains-nil (record { child = x; parent = z })
+    (subst (λ fs. Joins fs x z) e j)
+
+pub tables_none : {W : ℕ} (room n stages : ℕ) (x : CatSet W) (rows parents : List (CatSet W)) (cycles : List Bool)
+    → IsOfWidth W → n ≤ 64 * W → members x ≡ empty → 0 < stages → stages ≤ room + 1
+    → rows ≡ replicate (stages * n) x → parents ≡ replicate n x → cycles ≡ replicate stages false
+    → AreTables room [] 0 rows parents cycles
+tables_none {W} room n stages x rows parents cycles width wide e some reserved of_rows of_parents of_cycles =
+    subst (λ rs. AreTables room [] 0 rs parents cycles) (sym of_rows)
+    (subst (λ ps. AreTables room [] 0 (replicate (stages * n) x) ps cycles) (sym of_parents)
+    (subst (λ cs. AreTables room [] 0 (replicate (stages * n) x) (replicate n x) cs) (sym of_cycles) (record {
+      width = width;
+      wide = let l = length-replicate n x in omega (arith, l, wide);
+      few = let l = length-replicate stages false in omega (arith, l, some);
+      reserved = let l = length-replicate stages false in omega (arith, l, reserved);
+      size =
+          length-replicate (stages * n) x
+          ∙ (λ i. sym (length-replicate stages false) i * sym (length-replicate n x) i);
+      place = grind arith;
+      within = λ c d j. absurd (Contains-nil (record { child = c; parent = d }) j);
+      differ = λ i j d l h. absurd (omega (arith, h));
+      rows = λ k h c i d. (
+        λ m. absurd (not_in_empty d (subst (λ s. IsIn s d) (row_none x e (stages * n) (k * length (replicate n x) + c)) m)),
+        λ w. absurd (no_climb (take k []) c d (take_all k [] (omega arith)) w),
+      );
+      parents = λ c i d. (
+        λ m. absurd (not_in_empty d (subst (λ s. IsIn s d) (row_none x e n c) m)),
+        λ j. absurd (Contains-nil (record { child = c; parent = d }) j),
+      );
+      cycles = λ k h. (
+        λ m. let z : false ≡ true = sym (mark_none stages k) ∙ m in absurd (cc),
+        λ w. absurd (no_climb (take k []) w.0 w.0 (take_all k [] (omega arith)) w.1),
+      );
+    })))
+
+-- ---- the last edge is taken back
+
+module _ (es : List Edge) (c p : ℕ) where
+  -- where edges lead from the last edge's child
+  next_less : (s u : FinSet nat_cmp) → IsNext (more es c p) c s → u ≡ remove s p → (Joins es c p → ⊥) → IsNext es c u
+  next_less s u n e new d = subst (λ v. IsIn v d ↔ Joins es c d) (sym e) (
+    λ m.
+        let w = (in_without s p d).0 m in
+        elim (joins_cases es c p c d ((n d).0 w.1)) [ inl k ↦ k | inr q ↦ absurd (w.0 q.1) ],
+    λ j. (in_without s p d).1 (λ q. new (subst (λ y. Joins es c y) (sym q) j), (n d).1 (joins_more es c p c d j)),
+  )
+
+  -- and from another category
+  next_still : (x : ℕ) (s : FinSet nat_cmp) → x ≢ c → IsNext (more es c p) x s → IsNext es x s
+  next_still x s ne n d = (
+    λ m. elim (joins_cases es c p x d ((n d).0 m)) [ inl k ↦ k | inr q ↦ absurd (ne q.0) ],
+    λ j. (n d).1 (joins_more es c p x d j),
+  )
+
+module _ {W : ℕ} {room place : ℕ} (es : List Edge) (c p : ℕ) {rows parents : List (CatSet W)} {cycles : List Bool}
+    (t : AreTables room (more es c p) place rows parents cycles) where
+  size : length (more es c p) ≡ length es + 1
+  size = length_push es (record { child = c; parent = p })
+
+  -- the last edge isn't among those before it
+  new_last : Joins es c p → ⊥
+  new_last j =
+      let e : Edge = record { child = c; parent = p } in
+      t.differ j.0 (length es) e j.1 (omega (arith, size))
+      (get_or-append es (e ∷ []) e j.0 j.1 ∙ j.2 ∙ sym (get_or-append_seam es e [] e))
+
+  pub last_within : (c < length parents) × (p < length parents)
+  last_within = t.within c p (joins_new es c p)
+
+  -- the sets begin where they began before the last edge
+  pub place_back : (n : ℕ) → n ≡ length parents → place - n + length parents ≡ place
+  place_back n h =
+      let q = t.place in
+      let g : length (more es c p) * length parents ≡ (length es + 1) * length parents =
+      ap (λ j. j * length parents) size in
+      let e : (length es + 1) * length parents ≡ length es * length parents + length parents = grind arith in
+      omega (arith, q, g, e, h)
+
+  pub tables_pop : (new_room new_place : ℕ) (r : CatSet W) → length cycles ≤ new_room + 1
+      → new_place + length parents ≡ place → members r ≡ remove (row parents c) p
+      → AreTables new_room es new_place rows (set parents c r) cycles
+  tables_pop new_room new_place r reserved back taken = record {
+    width = t.width;
+    wide = let w = t.wide in omega (arith, w, count);
+    few = let f = t.few in omega (arith, f, size);
+    reserved = reserved;
+    size = t.size ∙ (λ i. length cycles * sym count i);
+    place =
+        let q = t.place in
+        let g : length (more es c p) * length parents ≡ (length es + 1) * length parents =
+        ap (λ j. j * length parents) size in
+        let e : (length es + 1) * length parents ≡ length es * length parents + length parents = grind arith in
+        (let s : new_place ≡ length es * length parents = omega (arith, back, q, g, e) in s)
+        ∙ (λ i. length es * sym count i);
+    within = λ x y j.
+        let w = t.within x y (joins_more es c p x y j) in
+        (omega (arith, w.0, count), omega (arith, w.1, count));
+    differ = λ i j d l h. λ q.
+        t.differ i j d l (omega (arith, h, size))
+        (get_or-append es ((record { child = c; parent = p }) ∷ []) d i (omega (arith, l, h)) ∙ q
+        ∙ sym (get_or-append es ((record { child = c; parent = p }) ∷ []) d j h));
+    rows = λ k h. subst (λ n. AreBeyond (take k es) n (k * n) rows) (sym count)
+        (subst (λ fs. AreBeyond fs (length parents) (k * length parents) rows) (before k h)
+        (t.rows k (omega (arith, h, size))));
+    parents = λ x h. elim (same_or_not x c) [
+      | inl e ↦ subst (λ y. IsNext es y (row (set parents c r) y)) (sym e)
+          (subst (λ s. IsNext es c s) (sym (row_same parents c r last_within.0))
+          (next_less es c p (row parents c) (members r) (t.parents c last_within.0) taken new_last))
+      | inr n ↦ subst (λ s. IsNext es x s) (sym (row_other parents c x r n))
+          (next_still es c p x (row parents x) n (t.parents x (omega (arith, h, count))))
+    ];
+    cycles = λ k h.
+        subst (λ fs. (get_or cycles k false ≡ true) ↔ IsCyclic fs) (before k h) (t.cycles k (omega (arith, h, size)));
+  }
+    where
+      count : length (set parents c r) ≡ length parents
+      count = length-set parents c r
+
+      same_or_not : (a b : ℕ) → (a ≡ b) ⊎ (a ≢ b)
+      same_or_not a b = grind arith
+
+      before : (k : ℕ) → k ≤ length es → take k (more es c p) ≡ take k es
+      before k l = take-append-le k es ((record { child = c; parent = p }) ∷ []) l

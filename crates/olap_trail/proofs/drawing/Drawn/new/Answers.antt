@@ -1,0 +1,26 @@
+-- The tables of no edges.
+use Rattle.std.proofs.Common.{◌≡◌, ◌+◌, ◌*◌, ◌≤◌, List, length, map, subst, sym, ap, arith}
+use Rattle.std.specs.Prelude.{vec_capacity}
+use Rattle.olap_base.specs.Graph.{Edge}
+use Rattle.olap_trail.specs.Drawing.{edge_of}
+use Rattle.olap_trail.specs.Drawn.{AreTables}
+use Rattle.olap_trail.proofs.TakingLemmas.{tables_none}
+use Rattle.olap_trail.proofs.drawing.Drawn.new.Goals as goal
+
+pub invariant_of-result : goal.invariant_of-result
+invariant_of-result g c =
+    let room = vec_capacity c.in_ok-with_capacity.field-0 in
+    let rows = c.in_ok-vec.field-0.items in
+    let parents = c.in_ok-vec-2.field-0.items in
+    let cycles = c.in_ok-vec-3.field-0.items in
+    let n = c.from-count.result in
+    let stages = c.from-stages.result + 1 in
+    subst (λ (es : List Edge). AreTables room es 0 rows parents cycles)
+    (sym (ap (map edge_of) c.in_ok-with_capacity.ensures.items))
+    (tables_none room n stages c.empty-nothing.result rows parents cycles c.requires.width
+    (let e = c.from-count.ensures in let w = c.requires.wide in omega (arith, e, w)) c.empty-nothing.ensures
+    (omega arith)
+    (let e = c.in_ok-with_capacity.ensures.exact in let f = c.from.ensures in let h = c.from-stages.ensures in
+    omega (arith, e, f, h)) (c.in_ok-vec.ensures.items_if_clones_equal (λ y e. e))
+    (c.in_ok-vec-2.ensures.items_if_clones_equal (λ y e. e))
+    (c.in_ok-vec-3.ensures.items_if_clones_equal (λ y e. e)))

@@ -1,0 +1,79 @@
+-- The tables with one edge more.
+use Rattle.std.proofs.Common.{◌≡◌, ◌↔◌, ◌+◌, ◌<◌, ◌≤◌, ◌++◌, ◌∷◌, ◌∙◌, [], List, drop, length, take, map, subst, sym, ap, arith, rules, slice_set, true}
+use Rattle.std.specs.FinSet.{insert}
+use Rattle.std.specs.Prelude.{vec_capacity}
+use Rattle.std.specs.Result.{is_ok}
+use Rattle.std.proofs.lemmas.List.{length-map, length_push, map_push, take_at}
+use Rattle.olap_base.specs.Graph.{Edge}
+use Rattle.olap_bits.specs.Sets.{members}
+use Rattle.olap_bits.specs.declared.sets.CatSet.{CatSet}
+use Rattle.olap_trail.specs.Drawing.{Drawing, IsAbove, IsCyclic, Joins, edge_of, row}
+use Rattle.olap_trail.specs.Drawn.{AreTables}
+use Rattle.olap_trail.proofs.DecisionLemmas.{pushed}
+use Rattle.olap_trail.proofs.SetLemmas.{row_read}
+use Rattle.olap_trail.proofs.StageLemmas.{AreCopied}
+use Rattle.olap_trail.proofs.TableLemmas.{next_fits, tables_push}
+use Rattle.olap_trail.proofs.WalkLemmas.{more}
+use Rattle.olap_trail.proofs.drawing.Drawn.push.Goals as goal
+
+pub draw-requires : goal.draw-requires
+draw-requires g c =
+    let a = c.self.inside in
+    let width = c.self.invariant.width in
+    let wide = c.self.invariant.wide in
+    let n = c.len-count.ensures in
+    let o = a.parents.ok in
+    let full = subst (λ (v : Drawing). length v.edges + 1 < v.room) (sym c.self.view_is) c.requires.room in
+    let f = next_fits c.self.invariant full in
+    let l = ap length c.deref_mut.ensures.value in
+    (search (rules, width), (omega (arith, n, o, wide, width.1), omega (arith, n, o, f, l)))
+
+pub invariant_of-self : goal.invariant_of-self
+invariant_of-self g c =
+    let a = c.self.inside in
+    let ends = c.args.ends in
+    let k = ends.child.0 in
+    let p = ends.parent.0 in
+    let es = map edge_of a.edges.items in
+    let room = vec_capacity c.push.new.self in
+    let n = length a.parents.items in
+    let place = a.place + c.len-count.result in
+    let rows = c.draw.new.rows in
+    let through = members c.above-through.result in
+    let size : c.len-count.result ≡ n = let l = c.len-count.ensures in let o = a.parents.ok in omega (arith, l, o) in
+    let child = subst (λ (v : Drawing). k < v.count) (sym c.self.view_is) c.requires.child in
+    let parent = subst (λ (v : Drawing). p < v.count) (sym c.self.view_is) c.requires.parent in
+    let full = subst (λ (v : Drawing). length v.edges + 1 < v.room) (sym c.self.view_is) c.requires.room in
+    let new = subst (λ (v : Drawing). Joins v.edges k p → ⊥) (sym c.self.view_is) c.requires.new in
+    let above = subst (λ (v : Drawing). IsAbove v.edges p through) (sym c.self.view_is) c.above-through.ensures in
+    let cyclic = subst (λ (v : Drawing). (c.closes_cycle-closes.result ≡ true) ↔ IsCyclic (v.edges ++ edge_of ends ∷ []))
+    (sym c.self.view_is) c.closes_cycle-closes.ensures in
+    let grown : c.push.new.self.items ≡ a.edges.items ++ ends ∷ [] =
+    pushed (is_ok c.push.result) c.push.new.self.items (a.edges.items ++ ends ∷ []) a.edges.items
+    (ap is_ok c.unwrap.ensures) c.push.ensures.items in
+    let edges : map edge_of c.push.new.self.items ≡ more es k p =
+    ap (map edge_of) grown ∙ map_push edge_of a.edges.items ends in
+    let stage : c.len.result ≡ length es + 1 =
+    let l = c.len.ensures in let o = c.push.new.self.ok in let m = ap length grown in
+    let q = length-map a.edges.items edge_of in omega (arith, l, o, m, q, length_push) in
+    let copied : AreCopied a.rows.items rows a.place n k through n =
+    subst (λ j. AreCopied a.rows.items rows a.place j k through j) size
+    (subst (λ (old : List (CatSet g.row.W)). AreCopied old rows a.place c.len-count.result k through c.len-count.result)
+    c.deref_mut.ensures.value
+    (record { same_length = c.draw.ensures.count; kept = c.draw.ensures.kept; grown = c.draw.ensures.grown })) in
+    let inside : c.from-child.result < n = let e = c.from-child.ensures in omega (arith, e, child) in
+    let own = c.with.ensures ∙ ap (λ s. insert s p)
+    (row_read a.parents.items c.from-child.result c.index.result.now inside c.index.ensures
+    ∙ ap (row a.parents.items) c.from-child.ensures) in
+    let written = take_at rows (drop (length rows) a.rows.items) a.rows.len (c.draw.ensures.count ∙ c.deref_mut.ensures.len) in
+    let reserved : length a.cycles.items ≤ room + 1 =
+    let r = c.self.invariant.reserved in let q = c.push.ensures.capacity in omega (arith, r, q) in
+    let marks = slice_set a.cycles.items c.len.result c.closes_cycle-closes.result in
+    let left = take a.rows.len (rows ++ drop (length rows) a.rows.items) in
+    let nexts = slice_set a.parents.items c.from-child.result c.with.result in
+    subst (λ (fs : List Edge). AreTables room fs place left nexts marks) (sym edges)
+    (subst (λ (rs : List (CatSet g.row.W)). AreTables room (more es k p) place rs nexts marks) (sym written)
+    (subst (λ j. AreTables room (more es k p) place rows (slice_set a.parents.items j c.with.result) marks)
+    (sym c.from-child.ensures)
+    (tables_push c.self.invariant k p room place c.len.result rows c.with.result c.closes_cycle-closes.result through child
+    parent full new reserved (ap (λ j. a.place + j) size) stage copied above own cyclic)))

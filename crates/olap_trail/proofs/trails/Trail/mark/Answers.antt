@@ -1,0 +1,17 @@
+-- There are no more decisions than edges.
+use Rattle.std.proofs.Common.{arith}
+use Rattle.std.proofs.lemmas.List.{length-map}
+use Rattle.olap_trail.specs.Inside.{decided}
+use Rattle.olap_trail.specs.Trails.{decision_of}
+use Rattle.olap_trail.proofs.CountingLemmas.{few_decisions}
+use Rattle.olap_trail.proofs.trails.Trail.mark.Goals as goal
+
+pub overflow_cast-result : goal.overflow_cast-result
+overflow_cast-result g c =
+    let a = c.self.inside in
+    let n = few_decisions (decided a) c.self.invariant.decisions in
+    let m = length-map a.decisions.items decision_of in
+    let f = c.self.invariant.few_edges in
+    let l = c.len.ensures in
+    let o = a.decisions.ok in
+    omega (arith, n, m, f, l, o)

@@ -1,0 +1,21 @@
+-- What the edges that were decided present say.
+use Rattle.std.proofs.Common.{◌≡◌, ◌⊎◌, ◌↔◌, List, subst}
+use Rattle.std.specs.Prelude.{IsTrue}
+use Rattle.olap_base.specs.Graph.{CategoryReaches, Edge}
+use Rattle.olap_base.specs.Steps.{Climb}
+use Rattle.olap_trail.specs.Decisions.{Decided, present_edges, present_graph}
+use Rattle.olap_trail.specs.Drawing.{Joins}
+use Rattle.olap_trail.specs.Inside.{decided}
+use Rattle.olap_trail.proofs.DecisionLemmas.{reaches_is}
+use Rattle.olap_trail.proofs.trails.Trail.reaches.Goals as goal
+
+pub returns : goal.returns
+returns g c =
+    let x = c.args.c.0 in
+    let y = c.args.d.0 in
+    let r = c.reaches.result in
+    let read = subst (λ (es : List Edge). IsTrue r ↔ ((x ≡ y) ⊎ Climb (Joins es) x y)) c.self.invariant.edges
+    c.reaches.ensures in
+    let q = reaches_is (present_edges (decided c.self.inside)) x y in
+    subst (λ (v : Decided). IsTrue r ↔ CategoryReaches (present_graph v) x y) c.self.view_is
+    (λ m. q.0 (read.0 m), λ w. read.1 (q.1 w))
