@@ -10,4 +10,5 @@ mod LinkingLemmas
 mod SplitLemmas
 mod FirstLemmas
 mod AboveLemmas
+mod BlockLemmas
 mod MeetingLemmas

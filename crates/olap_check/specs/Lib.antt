@@ -11,4 +11,5 @@ pub mod Rows
 pub mod Tables
 pub mod Passing
 pub mod Above
+pub mod Blocks
 pub mod Meeting

@@ -6,6 +6,7 @@
 #![tactic(auto)]
 
 mod above;
+mod blocks;
 mod checking;
 mod laws;
 mod legality;

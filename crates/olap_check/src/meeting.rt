@@ -8,10 +8,9 @@ ghost use Rattle.olap_check.specs.Meeting.{IsFirstUnmet, IsFirstViolated};
 ghost use Rattle.olap_check.specs.Rows.{IsBounded};
 ghost use Rattle.olap_check.specs.Tables.{IsTable};
 
-use crate::above::Above;
+use crate::blocks::{Block, WIDTH, members_from};
 use olap_ast::{Constraint, Formula};
-use olap_base::{CatId, MemberId};
-use olap_eval::holds;
+use olap_base::CatId;
 use olap_instance::Instance;
 
 /// The first member of the root at which the formula is false.
@@ -29,17 +28,18 @@ fn first_unmet(
         → Holds instance.now x (formula_of formula.now) }
 {
     let count = instance.members();
-    'members: for x in 0..count {
-        if instance.category(MemberId(x)).0 == root.0 {
-            let above = Above {
-                instance,
-                cells,
-                categories,
-                x,
-            };
-            if !holds(formula, root, &above) {
-                return Some(x);
-            }
+    'steps: for step in 0..count / WIDTH + 1 {
+        let start = step * WIDTH;
+        let block = Block {
+            instance,
+            cells,
+            categories,
+            root,
+            start,
+            places: members_from(instance, root, start),
+        };
+        if let Some(x) = block.first_unmet(formula) {
+            return Some(x);
         }
     }
     None

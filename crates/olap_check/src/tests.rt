@@ -5,6 +5,7 @@ use olap_instance::read_instance;
 use olap_schema::read_schema;
 use std::alloc::Global;
 use std::process::Abort;
+use std::test::Fail;
 
 // The answer to these texts.
 fn checked(
@@ -49,4 +50,34 @@ fn first_violations(rt: HostRuntime) {
         let broken = checked(&rt, rt.alloc(), schema, instance).err();
         assert_eq!(rt; broken, Some(violation));
     }
+}
+
+// Seventy stores below one city: some of them named y, the others x.
+fn seventy(alloc: Global, named: &[u32]) -> Result<String, Fail> {
+    let mut text = String::new(alloc);
+    text.push_str("id,category,name,parents\n")?;
+    for k in 0..70u32 {
+        let name = if named.contains(&k) { "y" } else { "x" };
+        let line = format!(in alloc; "s{k},Store,{name},c\n")?;
+        text.push_str(&line)?;
+    }
+    text.push_str("c,City,c,all\n")?;
+    Ok(text)
+}
+
+#[test]
+fn the_first_of_many_members_is_told(rt: HostRuntime) -> Result<(), Fail> {
+    let alloc = rt.alloc();
+    let mut schema = String::new(alloc);
+    schema.push_str(CHAIN)?;
+    schema.push_str("constraint Store: one(Store.City, Store = \"y\")\n")?;
+    let cases: [(&[u32], u32); 3] = [(&[64], 64), (&[66, 69], 66), (&[3, 65], 3)];
+    for (named, first) in cases {
+        let stores = seventy(alloc, named)?;
+        let broken = checked(&rt, alloc, &schema, &stores).err();
+        assert_eq!(rt; broken, Some(Violation::Constraint(1, MemberId(first))));
+    }
+    let stores = seventy(alloc, &[])?;
+    assert!(rt; checked(&rt, alloc, &schema, &stores).is_ok());
+    Ok(())
 }
