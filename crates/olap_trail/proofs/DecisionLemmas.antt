@@ -1,10 +1,10 @@
 -- Decisions, and the edges that are decided present, with one decision more or without the last one.
-use Rattle.std.proofs.Common.{◌≡◌, ◌≢◌, ℕ, suc, ◌+◌, ◌-◌, ◌<◌, ◌≤◌, ◌⊎◌, ◌↔◌, List, [], ◌∷◌, ◌++◌, length, get_or, set, take, map, cond, Bool, true, false, refl, ap, sym, subst, ◌∙◌, inl, inr, arith, eqb, eqb-true, eq-eqb}
-use Rattle.std.specs.Prelude.{All, AllPairs, Contains, Option, Some, None, filter, ◌==◌}
+use Rattle.std.proofs.Common.{◌≡◌, ◌≢◌, ℕ, ◌-◌, ◌<◌, ◌⊎◌, ◌↔◌, List, [], ◌∷◌, ◌++◌, length, get_or, set, take, map, cond, Bool, true, false, refl, ap, sym, subst, ◌∙◌, inl, inr, arith, eq-eqb}
+use Rattle.std.specs.Prelude.{AllPairs, Contains, Option, Some, None, filter, ◌==◌}
 use Rattle.std.proofs.Math.ListN.{get_or-append}
 use Rattle.std.proofs.Math.Seq.{get_or-append_seam, take-append_seam}
 use Rattle.std.proofs.lemmas.Bool.{ne_eqb}
-use Rattle.std.proofs.lemmas.List.{append-nil, get_or-set_other, get_or-set_same, length-map, length_push, map-append, map_push}
+use Rattle.std.proofs.lemmas.List.{append-nil, get_or-set_other, get_or-set_same, length_push, map-append, map_push}
 use Rattle.std.proofs.lemmas.List.Elements.{All-push, Contains-get_or, filter-append}
 use Rattle.std.proofs.lemmas.List.Quantifiers.{all_pairs_push}
 use Rattle.olap_base.proofs.ListLemmas.{Contains-from_filter, Contains-from_map, Contains-map, Contains-nil, Distinct-from_AllPairs, Distinct-places}

@@ -1,5 +1,5 @@
 -- What is in a set after each operation, and in the sets of a list.
-use Rattle.std.proofs.Common.{◌≡◌, ◌≢◌, ℕ, ◌+◌, ◌<◌, ◌⊎◌, ◌↔◌, List, length, get_or, set, map, Bool, true, false, not, refl, ap, sym, subst, ◌∙◌, inl, inr, arith, eqb, eqb-true, eq-eqb}
+use Rattle.std.proofs.Common.{◌≡◌, ◌≢◌, ℕ, ◌<◌, ◌⊎◌, ◌↔◌, List, length, get_or, set, map, Bool, true, false, not, refl, ap, sym, subst, ◌∙◌, inl, inr, arith, eqb, eqb-true, eq-eqb}
 use Rattle.std.specs.Cmp.{nat_cmp_total}
 use Rattle.std.specs.FinSet.{FinSet, contains, empty, insert, intersection, remove, union, contains-empty, contains-intersection, contains-union}
 use Rattle.std.specs.Ordering.{nat_cmp}

@@ -1,23 +1,21 @@
 -- What the tables beside a list of edges say, and how they change with an edge.
-use Rattle.std.proofs.Common.{◌≡◌, ◌≢◌, ℕ, zero, suc, ◌+◌, ◌*◌, ◌-◌, ◌<◌, ◌≤◌, ◌⊎◌, ◌↔◌, List, [], ◌∷◌, ◌++◌, length, get_or, set, take, map, replicate, Bool, true, false, refl, ap, sym, subst, ◌∙◌, inl, inr, arith}
-use Rattle.std.specs.Prelude.{AllPairs, Contains, IsTrue}
-use Rattle.std.specs.FinSet.{FinSet, empty, insert, remove}
+use Rattle.std.proofs.Common.{◌≡◌, ◌≢◌, ℕ, ◌+◌, ◌*◌, ◌<◌, ◌≤◌, ◌⊎◌, ◌↔◌, List, [], ◌∷◌, length, get_or, set, take, Bool, true, false, ap, sym, subst, ◌∙◌, inl, inr, arith}
+use Rattle.std.specs.Prelude.{Contains, IsTrue}
+use Rattle.std.specs.FinSet.{FinSet, insert}
 use Rattle.std.specs.Ordering.{nat_cmp}
-use Rattle.std.proofs.Math.ListN.{get_or-append, length-set}
+use Rattle.std.proofs.Math.ListN.{length-set}
 use Rattle.std.proofs.Math.Nat.{mul-le-mul_right}
-use Rattle.std.proofs.Math.Seq.{get_or-append_seam, take-length}
+use Rattle.std.proofs.Math.Seq.{take-length}
 use Rattle.std.proofs.lemmas.List.{get_or_default, get_or-set_other, get_or-set_same, length_push, take-append-le}
 use Rattle.std.proofs.lemmas.List.Quantifiers.{all_pairs_push}
 use Rattle.std.proofs.lemmas.List.Elements.{Contains-get_or}
-use Rattle.olap_base.proofs.ListLemmas.{Contains-nil}
 use Rattle.olap_base.specs.Graph.{Edge}
-use Rattle.olap_base.specs.Steps.{Climb, Climb.climb}
-use Rattle.olap_bits.specs.CatSet.{IsOfWidth}
+use Rattle.olap_base.specs.Steps.{Climb}
 use Rattle.olap_bits.specs.Sets.{members}
 use Rattle.olap_bits.specs.declared.sets.CatSet.{CatSet}
 use Rattle.olap_trail.specs.Drawing.{AreBeyond, IsAbove, IsBeyond, IsBypassed, IsCyclic, IsGrown, IsIn, IsNext, Joins, row}
 use Rattle.olap_trail.specs.Drawn.{AreTables}
-use Rattle.olap_trail.proofs.SetLemmas.{in_with, in_without, not_in_empty, row_other, row_read, row_same}
+use Rattle.olap_trail.proofs.SetLemmas.{in_with, row_other, row_read, row_same}
 use Rattle.olap_trail.proofs.StageLemmas.{AreCopied, stage_end}
 use Rattle.olap_trail.proofs.WalkLemmas.{climb_grown, cyclic_more, grows, joins_cases, joins_more, joins_new, more}
 

@@ -1,5 +1,5 @@
 -- What the fields of a trail stand for, and keep.
-use Rattle.std.specs.Prelude.{◌≡◌, ℕ, ◌+◌, ◌<◌, ◌≤◌, None, length, slice_index_or, vec_capacity}
+use Rattle.std.specs.Prelude.{◌≡◌, ℕ, ◌+◌, ◌≤◌, None, length, slice_index_or, vec_capacity}
 use Rattle.olap_base.specs.Graph.{IsHierarchy, category_count}
 use Rattle.olap_base.specs.Limits.{most_categories, most_edges}
 use Rattle.olap_bits.specs.CatSet.{IsOfWidth}

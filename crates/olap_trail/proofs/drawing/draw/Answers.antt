@@ -1,5 +1,5 @@
 -- One set more is copied and grown.
-use Rattle.std.proofs.Common.{◌≡◌, ◌+◌, ◌<◌, length, refl, subst, arith}
+use Rattle.std.proofs.Common.{◌+◌, ◌<◌, length, refl, subst, arith}
 use Rattle.olap_bits.specs.Sets.{members}
 use Rattle.olap_trail.specs.Drawing.{IsGrown}
 use Rattle.olap_trail.proofs.SetLemmas.{row_at}

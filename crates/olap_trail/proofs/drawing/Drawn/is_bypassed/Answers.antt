@@ -1,5 +1,5 @@
 -- A parent of the first edge's child is beyond its parent.
-use Rattle.std.proofs.Common.{◌≡◌, ◌↔◌, ◌+◌, ◌<◌, ◌++◌, ◌∷◌, [], length, map, subst, sym, ap}
+use Rattle.std.proofs.Common.{◌↔◌, ◌+◌, ◌<◌, ◌++◌, ◌∷◌, [], map, subst, sym, ap}
 use Rattle.std.specs.Prelude.{IsTrue}
 use Rattle.olap_bits.specs.Sets.{members}
 use Rattle.olap_trail.specs.Drawing.{Drawing, IsAbove, IsBeyond, IsBypassed, IsNext, edge_of}

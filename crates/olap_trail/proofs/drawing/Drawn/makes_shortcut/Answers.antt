@@ -1,7 +1,6 @@
 -- One edge more is looked at.
-use Rattle.std.proofs.Common.{◌≡◌, ◌<◌, ◌∙◌, ℕ, get_or, map, refl, subst, ap, arith, rules}
+use Rattle.std.proofs.Common.{◌<◌, ◌∙◌, ℕ, get_or, map, refl, subst, ap, arith, rules}
 use Rattle.olap_trail.specs.Drawing.{Drawing, Joins, edge_of}
-use Rattle.olap_trail.specs.declared.drawing.Ends.{Ends}
 use Rattle.olap_trail.proofs.BypassLemmas.{holds_is, joins_at, none_more}
 use Rattle.olap_trail.proofs.WalkLemmas.{joins_more, more}
 use Rattle.olap_trail.proofs.drawing.Drawn.makes_shortcut.Goals as goal

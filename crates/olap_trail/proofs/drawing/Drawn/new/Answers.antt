@@ -1,5 +1,5 @@
 -- The tables of no edges.
-use Rattle.std.proofs.Common.{◌≡◌, ◌+◌, ◌*◌, ◌≤◌, List, length, map, subst, sym, ap, arith}
+use Rattle.std.proofs.Common.{◌+◌, List, map, subst, sym, ap, arith}
 use Rattle.std.specs.Prelude.{vec_capacity}
 use Rattle.olap_base.specs.Graph.{Edge}
 use Rattle.olap_trail.specs.Drawing.{edge_of}

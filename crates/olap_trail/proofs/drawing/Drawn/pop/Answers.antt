@@ -1,10 +1,9 @@
 -- The tables without the last edge.
-use Rattle.std.proofs.Common.{◌≡◌, ◌+◌, ◌-◌, ◌<◌, ◌≤◌, ◌∙◌, List, length, map, subst, sym, ap, arith, rules, slice_set}
+use Rattle.std.proofs.Common.{◌≡◌, ◌-◌, ◌<◌, ◌∙◌, List, length, map, subst, sym, ap, arith, rules, slice_set}
 use Rattle.std.specs.FinSet.{remove}
 use Rattle.std.specs.Prelude.{vec_capacity}
 use Rattle.std.proofs.lemmas.List.{map_push}
 use Rattle.olap_base.specs.Graph.{Edge}
-use Rattle.olap_bits.specs.Sets.{members}
 use Rattle.olap_trail.specs.Drawing.{edge_of, row}
 use Rattle.olap_trail.specs.Drawn.{AreTables}
 use Rattle.olap_trail.proofs.SetLemmas.{row_read}

@@ -1,5 +1,5 @@
 -- What is beyond the category.
-use Rattle.std.proofs.Common.{◌≡◌, ◌+◌, ◌<◌, ◌∙◌, length, subst, sym, ap, inl, inr}
+use Rattle.std.proofs.Common.{◌+◌, ◌<◌, ◌∙◌, length, subst, sym, ap, inl, inr}
 use Rattle.olap_bits.specs.Sets.{members}
 use Rattle.olap_trail.specs.Drawing.{Drawing, IsBeyond}
 use Rattle.olap_trail.proofs.TableLemmas.{beyond_read}

@@ -1,5 +1,5 @@
 -- What is above the root.
-use Rattle.std.proofs.Common.{◌≡◌, ◌↔◌, List, subst}
+use Rattle.std.proofs.Common.{◌↔◌, List, subst}
 use Rattle.olap_bits.specs.Sets.{members}
 use Rattle.olap_base.specs.Graph.{Edge}
 use Rattle.olap_trail.specs.Decisions.{Decided, IsPresent, present_edges}
