@@ -63,7 +63,13 @@ fn meets<const W: usize>(left: &CatSet<W>, right: &CatSet<W>) -> bool
 }
 
 /// Copies the sets of so many categories behind themselves, each grown.
-fn draw<const W: usize>(rows: &mut [CatSet<W>], place: usize, count: usize, c: u16, through: &CatSet<W>)
+fn draw<const W: usize>(
+    rows: &mut [CatSet<W>],
+    place: usize,
+    count: usize,
+    c: u16,
+    through: &CatSet<W>,
+)
     requires count { count ≤ 65535 }
     requires room { place + count + count ≤ length rows.old }
     ensures count { length rows.new ≡ length rows.old }

@@ -8,9 +8,9 @@
 
 mod decisions;
 mod drawing;
-mod trails;
 #[cfg(test)]
 mod tests;
+mod trails;
 
 pub use decisions::{Decision, Mark};
 pub use trails::Trail;

@@ -99,8 +99,10 @@ impl<const W: usize> Trail<W> {
     pub fn decide(&mut self, edge: EdgeId, present: bool)
         requires edge { edge.0 < length self.old.graph.edges }
         requires open { status_of self.old edge.0 ≡ None }
-        ensures { self.new ≡ record self.old { decisions = self.old.decisions
-            ++ (record { edge = edge.0; present = present }) ∷ [] } }
+        ensures { self.new ≡ record self.old {
+          decisions = self.old.decisions
+              ++ (record { edge = edge.0; present = present }) ∷ [];
+        } }
     {
         let ends = self.ends(edge);
         self.statuses[usize::from(edge.0)] = Some(present);

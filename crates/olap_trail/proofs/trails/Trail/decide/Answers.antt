@@ -51,13 +51,24 @@ push-requires-then-present g c =
     let child = subst (λ (v : Decided). IsCategory v.graph c.ends-ends.result.child.0) (sym c.self.view_is)
     c.ends-ends.ensures.child in
     let parent = subst (λ (v : Decided). IsCategory v.graph c.ends-ends.result.parent.0) (sym c.self.view_is)
-    c.ends-ends.ensures.parent in
-    (omega arith, (c.self.invariant.width, (omega (arith, child, count), (omega (arith, parent, count), (
-      omega (arith, n, l, p, q, room),
-      λ h. present_new a.graph a.root.0 ds d c.self.invariant.hierarchy.edges_differ c.self.invariant.decisions inside
-          undecided (subst (λ x. Contains (present_edges (front a.graph a.root.0 ds d)) x) (sym edge)
-          (subst (λ (es : List Edge). Contains es (edge_of c.ends-ends.result)) c.self.invariant.edges h)),
-    )))))
+    c.ends-ends.ensures.parent in (
+      omega arith,
+      (
+        c.self.invariant.width,
+        (
+          omega (arith, child, count),
+          (
+            omega (arith, parent, count),
+            (
+              omega (arith, n, l, p, q, room),
+              λ h. present_new a.graph a.root.0 ds d c.self.invariant.hierarchy.edges_differ c.self.invariant.decisions inside
+                  undecided (subst (λ x. Contains (present_edges (front a.graph a.root.0 ds d)) x) (sym edge)
+                  (subst (λ (es : List Edge). Contains es (edge_of c.ends-ends.result)) c.self.invariant.edges h)),
+            ),
+          ),
+        ),
+      ),
+    )
 
 pub invariant_of-self : goal.invariant_of-self
 invariant_of-self g c =
@@ -89,7 +100,7 @@ invariant_of-self g c =
       reserved = let r = c.self.invariant.reserved in let q = c.push.ensures.capacity in omega (arith, r, q);
       count = ap (λ (v : Drawing). v.count) c.push-then-present.ensures ∙ c.self.invariant.count;
       room = ap (λ (v : Drawing). v.room) c.push-then-present.ensures ∙ c.self.invariant.room;
-      edges = 
+      edges =
           ap (λ (v : Drawing). v.edges) c.push-then-present.ensures
           ∙ ap (λ es. es ++ edge_of c.ends-ends.result ∷ []) c.self.invariant.edges
           ∙ ap (λ x. present_edges (decided a) ++ x ∷ []) (sym edge)
@@ -128,7 +139,7 @@ invariant_of-self-else-present g c =
       reserved = let r = c.self.invariant.reserved in let q = c.push.ensures.capacity in omega (arith, r, q);
       count = c.self.invariant.count;
       room = c.self.invariant.room;
-      edges = 
+      edges =
           c.self.invariant.edges ∙ sym (present ∙ present_skip a.graph a.root.0 ds d c.if-present.false);
       size = length-set a.statuses.items c.from.result (Some c.args.present) ∙ c.self.invariant.size;
       statuses = λ e.

@@ -51,7 +51,7 @@ invariant_of-self g c =
       reserved = let r = c.self.invariant.reserved in let q = c.in-Some.ensures.capacity in omega (arith, r, q);
       count = ap (λ (v : Drawing). v.count) c.pop-then-last.ensures ∙ c.self.invariant.count;
       room = ap (λ (v : Drawing). v.room) c.pop-then-last.ensures ∙ c.self.invariant.room;
-      edges = 
+      edges =
           ap (λ (v : Drawing). v.edges) c.pop-then-last.ensures
           ∙ present_back a.graph a.root.0 ds d a.drawn.edges c.if-last.true (c.self.invariant.edges ∙ present);
       size = length-set a.statuses.items c.from.result None ∙ c.self.invariant.size;
