@@ -1,6 +1,6 @@
 -- What the first bottom category with a frozen dimension says of summarizability.
-use Rattle.std.proofs.Common.{◌≡◌, ℕ, suc, ◌+◌, ◌<◌, List, [], ◌∷◌, length, get_or, drop, drop-cons, refl, ap, sym, subst, ◌∙◌, ◌↔◌, ◌⊎◌, inl, inr, Option, Some, None, arith}
-use Rattle.std.specs.Prelude.{All, IfSome, IsNone, slice_index}
+use Rattle.std.proofs.Common.{◌≡◌, ℕ, suc, ◌+◌, ◌<◌, List, [], ◌∷◌, length, get_or, drop, drop-cons, refl, ap, sym, subst, ◌∙◌, ◌⊎◌, inl, inr, arith}
+use Rattle.std.specs.Prelude.{All, slice_index}
 use Rattle.std.proofs.lemmas.List.{get_or-map, length-map}
 use Rattle.olap_base.specs.declared.ids.CatId.{CatId}
 use Rattle.olap_base.specs.Graph.{Graph, IsBottom, IsCategory, IsHierarchy}
@@ -15,8 +15,7 @@ use Rattle.olap_frozen.specs.declared.founding.Found.{Found}
 use Rattle.olap_frozen.specs.LeastFound.{IsLeastFound, frozen_of}
 use Rattle.olap_names.specs.Names.{candidates_of}
 use Rattle.olap_summ.specs.Answers.{IsNowhere}
-use Rattle.olap_summ.specs.Counterexamples.{IsCounterexampleFound, IsFirstFound, numbers_of}
-use Rattle.olap_summ.proofs.NowhereLemmas.{none_is, some_is}
+use Rattle.olap_summ.specs.Counterexamples.{IsCounterexampleFound, numbers_of}
 
 -- ---- the question
 
@@ -56,39 +55,33 @@ until P n f p d h = elim (which d n h) [ inl l ↦ f d l | inr e ↦ subst P (sy
     which : (d n : ℕ) → d < n + 1 → (d < n) ⊎ (d ≡ n)
     which d n h = grind arith
 
--- the first bottom category where one is found
-pub first_is : (s : Schema) (q : Formula) (b : ℕ) (o : Option Found) → IfSome o (λ _. IsBottom s.graph b)
-    → IfSome o (IsLeastFound s q b) → ((d : ℕ) → d < b → IsBottom s.graph d → IsNowhere s q d)
-    → IfSome o (IsFirstFound s q)
-first_is s q b None bottom l f = tt
-first_is s q b (Some found) bottom l f = record {
-  bottom = subst (λ r. IsBottom s.graph r) (sym l.root) bottom;
-  least = subst (λ r. IsLeastFound s q r found) (sym l.root) l;
-  first = λ d h. f d (subst (λ r. d < r) l.root h);
-}
-
 -- ---- the answer
+
+-- the least frozen dimension of the first bottom category that has one
+pub record IsFirstFound (s : Schema) (q : Formula) (found : Found) : Type 0 where
+  pub bottom : IsBottom s.graph found.frozen.root.0
+  pub least : IsLeastFound s q found.frozen.root.0 found
+  pub first : (d : ℕ) → d < found.frozen.root.0 → IsBottom s.graph d → IsNowhere s q d
 
 module _ (s : Schema) (c : ℕ) (sources : List ℕ) (hier : IsHierarchy s.graph) where
   abbrev q : Formula
   q = not_by_one c sources
 
-  pub summarizable_is : (o : Option Found) → CandidatesExist
-      → (IsNone o → (b : ℕ) → IsBottom s.graph b → IsNowhere s q b) → IfSome o (IsFirstFound s q)
-      → IsNone o ↔ IsSummarizable s c sources
-  summarizable_is None e n f =
+  -- where no bottom category has one
+  pub summarizable_is : CandidatesExist → ((b : ℕ) → IsBottom s.graph b → IsNowhere s q b) → IsSummarizable s c sources
+  summarizable_is e n =
       let k = e s q in
-      none_is Found (IsSummarizable s c sources)
-      ((summarizable_exactly s c sources k.0 hier k.1).1
-      (λ b bottom h t. let m = (frozen_exactly s q b k.0 hier k.1).0 (h, t) in n refl b bottom m.0 m.1 m.2 m.3 m.4))
-  summarizable_is (Some found) e n f =
-      some_is found (IsSummarizable s c sources)
-      (λ z. (summarizable_exactly s c sources (candidates_of found.candidates) hier f.least.least.candidates).0 z
-      found.frozen.root.0 f.bottom (frozen_of found.frozen) f.least.least.is_one)
+      (summarizable_exactly s c sources k.0 hier k.1).1
+      (λ b bottom h t. let m = (frozen_exactly s q b k.0 hier k.1).0 (h, t) in n b bottom m.0 m.1 m.2 m.3 m.4)
 
-  pub counterexample_is : (o : Option Found) → IfSome o (IsFirstFound s q) → IfSome o (IsCounterexampleFound s c sources)
-  counterexample_is None f = tt
-  counterexample_is (Some found) f = record {
+  -- where some bottom category has one
+  pub summarizable_isnt : (found : Found) → IsFirstFound s q found → IsSummarizable s c sources → ⊥
+  summarizable_isnt found f z =
+      (summarizable_exactly s c sources (candidates_of found.candidates) hier f.least.least.candidates).0 z
+      found.frozen.root.0 f.bottom (frozen_of found.frozen) f.least.least.is_one
+
+  pub counterexample_is : (found : Found) → IsFirstFound s q found → IsCounterexampleFound s c sources found
+  counterexample_is found f = record {
     is_one = record {
       bottom = f.bottom;
       least = f.least.least;

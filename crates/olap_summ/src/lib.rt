@@ -7,8 +7,10 @@
 
 mod asking;
 mod auditing;
+mod deciding;
 mod implying;
-mod questions;
+mod laws;
+mod questioning;
 mod satisfying;
 mod seeing;
 mod summarizing;
@@ -16,6 +18,9 @@ mod summarizing;
 mod tests;
 
 pub use auditing::{Finding, audit};
+pub use deciding::Decision;
 pub use implying::implies;
+pub use laws::decisions_agree;
+pub use questioning::Questions;
 pub use satisfying::satisfiable;
 pub use summarizing::{SummRefusal, summarizable};

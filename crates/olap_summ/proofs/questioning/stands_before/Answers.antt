@@ -3,7 +3,7 @@ use Rattle.std.proofs.lemmas.Grind.{common_steps}
 use Rattle.std.specs.Prelude.{slice_index}
 use Rattle.olap_summ.specs.Counterexamples.{numbers_of}
 use Rattle.olap_summ.proofs.CounterexampleLemmas.{number_at, until}
-use Rattle.olap_summ.proofs.summarizing.stands_before.Goals as goal
+use Rattle.olap_summ.proofs.questioning.stands_before.Goals as goal
 
 pub earlier-preserved : goal.earlier-preserved
 earlier-preserved c =

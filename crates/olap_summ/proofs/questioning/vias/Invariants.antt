@@ -3,7 +3,7 @@ use Rattle.std.proofs.Common.{◌≡◌, ◌≤◌, length, drop}
 use Rattle.olap_ast.specs.Summarizable.{vias}
 use Rattle.olap_ast.specs.Trees.{terms_of}
 use Rattle.olap_summ.specs.Counterexamples.{numbers_of}
-use Rattle.olap_summ.proofs.questions.vias.Given as goal
+use Rattle.olap_summ.proofs.questioning.vias.Given as goal
 
 abbrev pub invariant-sources : goal.invariant-sources
 invariant-sources l = record {

@@ -1,7 +1,7 @@
 use Rattle.std.proofs.Common.{◌-◌, arith}
 use Rattle.std.proofs.lemmas.Grind.{common_steps}
 use Rattle.olap_summ.proofs.CounterexampleLemmas.{vias_more}
-use Rattle.olap_summ.proofs.questions.vias.Goals as goal
+use Rattle.olap_summ.proofs.questioning.vias.Goals as goal
 
 pub sources-preserved : goal.sources-preserved
 sources-preserved c =

@@ -2,7 +2,7 @@
 use Rattle.std.proofs.Common.{◌≡◌, ℕ, ◌<◌}
 use Rattle.std.specs.Prelude.{slice_index}
 use Rattle.olap_summ.specs.Counterexamples.{numbers_of}
-use Rattle.olap_summ.proofs.summarizing.are_distinct.Given as goal
+use Rattle.olap_summ.proofs.questioning.are_distinct.Given as goal
 
 abbrev pub invariant-sources : goal.invariant-sources
 invariant-sources l = (i j : ℕ) → i < j → j < l.k

@@ -1,0 +1,5 @@
+use Rattle.olap_summ.proofs.AgreementLemmas.{decisions_agree_lem}
+use Rattle.olap_summ.proofs.laws.decisions_agree.Goals as goal
+
+pub returns : goal.returns
+returns c = decisions_agree_lem c.counterexample_is_one.ensures
