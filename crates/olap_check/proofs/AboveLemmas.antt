@@ -9,7 +9,7 @@ use Rattle.std.proofs.Common.{eqb, eqb-true, eq-eqb}
 use Rattle.std.proofs.lemmas.List.{get_or-map, length-map}
 use Rattle.std.proofs.lemmas.List.Elements.{contains_decides, Decides-contains}
 use Rattle.olap_base.proofs.ListLemmas.{Contains-map}
-use Rattle.olap_base.specs.Instance.{Instance, IsBelow, IsMemberOf, Reaches, ReachesCategory, category_of, parents_of}
+use Rattle.olap_base.specs.Instance.{Instance, IsBelow, IsMemberOf, Reaches, ReachesCategory, ReachesVia, category_of, name_of, parents_of}
 use Rattle.olap_base.specs.declared.ids.MemberId.{MemberId}
 use Rattle.olap_check.proofs.ParentLemmas.{places}
 use Rattle.olap_check.specs.Reports.{member}
@@ -18,7 +18,8 @@ use Rattle.olap_base.specs.Reaching.{reaches_is}
 use Rattle.olap_check.specs.Rows.{none, IsBounded}
 use Rattle.olap_check.specs.Tables.{cell, IsTable}
 use Rattle.olap_check.proofs.TableLemmas.{reached_inside, cell_some}
-use Rattle.olap_eval.specs.Shapes.{HasEdgeThere, IsShape, ReachesThere}
+use Rattle.olap_ast.specs.Formula.{ReachesNamed}
+use Rattle.olap_eval.specs.Shapes.{HasEdgeThere, HasNameThere, IsShape, ReachesThere}
 use Rattle.olap_check.specs.Above.{IsAbove, is_present}
 
 -- a present category is one of the graph, and its place has a member
@@ -69,13 +70,18 @@ member_is i n x c cells a y m =
     few : (k y : ℕ) → k ≡ y → y < length i → k < none
     few k y e h = let f = a.bounded.few in omega arith
 
+-- the place of a present category has a member that is reached
+present_member : (i : Instance) (n x c : ℕ) (cells : List ℕ) → IsAbove i n x cells → IsTrue (is_present n cells x c)
+    → IsMemberOf i c (cell n cells x c) × Reaches i x (cell n cells x c)
+present_member i n x c cells a p =
+    let t = present_parts n c (cell n cells x c) p in
+    cell_some i n x c (cell n cells x c) cells a.table a.inside t.0 refl t.1
+
 -- a present category has a member that is reached
 pub present_reaches : (i : Instance) (n x c : ℕ) (cells : List ℕ) → IsAbove i n x cells
     → IsTrue (is_present n cells x c) → ReachesCategory i x c
 present_reaches i n x c cells a p =
-    let t = present_parts n c (cell n cells x c) p in
-    let m = cell_some i n x c (cell n cells x c) cells a.table a.inside t.0 refl t.1 in
-    (cell n cells x c, m.0, m.1)
+    let m = present_member i n x c cells a p in (cell n cells x c, m.0, m.1)
 
 -- what the ancestor of the first category answers for the second
 pub reach_there : (i : Instance) (n x c d y : ℕ) (cells : List ℕ) (o : Option ℕ) (r : Bool) → IsAbove i n x cells
@@ -109,6 +115,43 @@ pub own_place : (i : Instance) (n x c : ℕ) (cells : List ℕ) → IsBounded i 
     → x < length i → category_of i x ≡ c → IsTrue (is_present n cells x c) × (cell n cells x c ≡ x) × (x < length i)
 own_place i n x c cells made table inside e =
     member_is i n x c cells (record { inside = inside; bounded = made; table = table }) x ((inside, e), inl refl)
+
+-- ---- atoms by one row
+
+module _ (i : Instance) (n x : ℕ) (cells : List ℕ) (a : IsAbove i n x cells) where
+  -- what the look at one place of the row answers
+  pub reach_by_row : (d : ℕ) (o : Option ℕ) (r : Bool)
+      → IfSome o (λ y. IsTrue (is_present n cells x d) × (cell n cells x d ≡ y) × (y < length i))
+      → (IsNone o → IsTrue (is_present n cells x d) → ⊥) → r ≡ is_some o → IsTrue r ↔ ReachesCategory i x d
+  reach_by_row d None r s f q = (
+    λ t. absurd (let z : false ≡ true = sym q ∙ t in cc),
+    λ h. absurd (f refl (member_is i n x d cells a h.0 (h.1, h.2)).0),
+  )
+  reach_by_row d (Some y) r s f q = (λ t. present_reaches i n x d cells a s.0, λ h. q)
+
+  -- what the row's member of one category reaches, x reaches by way of it
+  pub via_by_row : (d e : ℕ) → ReachesThere i (is_present n cells x) (cell n cells x) d e ↔ ReachesVia i x d e
+  via_by_row d e = (
+    λ t.
+        let m = present_member i n x d cells a t.0 in
+        let k = present_member i n x e cells a t.1 in (cell n cells x d, m.0, m.1, (cell n cells x e, k.0, t.2)),
+    λ r.
+        let on = Steps-append (Steps-from_reaches r.2) (Steps-from_reaches r.3.2) in
+        let m = member_is i n x d cells a r.0 (r.1, r.2) in
+        let k = member_is i n x e cells a r.3.0 (r.3.1, reaches_from_Steps on) in (
+          m.0,
+          k.0,
+          subst (λ v. Reaches i v (cell n cells x e)) (sym m.1) (subst (λ w. Reaches i r.0 w) (sym k.1) r.3.2),
+        ),
+  )
+
+  -- the name of the row's member of a category
+  pub named_by_row : (d : ℕ) (text : List ℕ)
+      → HasNameThere i (is_present n cells x) (cell n cells x) d text ↔ ReachesNamed i x d text
+  named_by_row d text = (
+    λ t. let m = present_member i n x d cells a t.0 in (cell n cells x d, m.0, m.1, t.1),
+    λ r. let m = member_is i n x d cells a r.0 (r.1, r.2) in (m.0, ap (name_of i) m.1 ∙ r.3),
+  )
 
 -- ---- a parent among the ids
 

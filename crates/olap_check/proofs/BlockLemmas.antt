@@ -5,7 +5,7 @@ use Rattle.std.specs.Prelude.{IsNone, Option, is_some}
 use Rattle.std.specs.Cmp.{nat_cmp_total}
 use Rattle.std.specs.FinSet.{FinSet, empty, contains, insert, union, intersection, difference, contains-empty, contains-union, contains-intersection, contains-difference}
 use Rattle.std.specs.Ordering.{nat_cmp}
-use Rattle.std.proofs.lemmas.Bool.{and_parts, both_ways, cases_eq, cases_lt, not-true}
+use Rattle.std.proofs.lemmas.Bool.{and_parts, both_ways, cases_eq, not-true}
 use Rattle.std.proofs.lemmas.Bool.Decides.{Decides-and, Decides-at, Decides-eqb, Decides-like, Decides-not, Decides-or}
 use Rattle.olap_ast.specs.Formula.{ExactlyOneHolds, Formula, Holds, NoneHolds}
 use Rattle.olap_ast.specs.Trees.{formula_of, terms_of}

@@ -1,6 +1,6 @@
 -- The walk upwards from one member: what is reached, and what is listed.
 use Rattle.std.proofs.Common.{◌≡◌, ℕ, ◌<◌, List, [], ◌∷◌, ◌++◌, length, get_or, set, refl, ap, sym, subst, ◌∙◌, inl, inr, arith}
-use Rattle.std.specs.Prelude.{Contains, replicate, Option, Some, None, MatchOption}
+use Rattle.std.specs.Prelude.{Contains, replicate}
 use Rattle.std.proofs.lemmas.List.{length-replicate, get_or-replicate}
 use Rattle.std.proofs.lemmas.List.Elements.{Contains-append_left, Contains-push, Contains-push_cases, Contains-get_or}
 use Rattle.olap_base.specs.Deciding.{contains_cases}

@@ -1,12 +1,16 @@
 // The shape of what one member reaches.
-ghost use Rattle.std.specs.Prelude.{◌≡◌, ◌<◌, length, IsTrue, IfSome, IsNone};
+ghost use Rattle.std.specs.Prelude.{◌≡◌, ◌<◌, ◌↔◌, length, IsTrue, IfSome, IsNone};
+ghost use Rattle.olap_ast.specs.Formula.{Holds};
+ghost use Rattle.olap_ast.specs.Trees.{formula_of};
+ghost use Rattle.olap_base.specs.Instance.{category_of};
 ghost use Rattle.olap_check.specs.Above.{IsAbove, is_present};
 ghost use Rattle.olap_check.specs.Tables.{cell};
 ghost use Rattle.olap_eval.specs.Shapes.{IsShape};
 
 use crate::parting::ancestor;
+use olap_ast::Formula;
 use olap_base::{CatId, MemberId, Text};
-use olap_eval::Shape;
+use olap_eval::{Shape, holds};
 use olap_instance::Instance;
 
 /// What x reaches, read from the table of ancestors.
@@ -32,6 +36,20 @@ impl<'a> Above<'a> {
             ancestor(self.instance, self.cells, self.categories, self.x, c)
         } else {
             None
+        }
+    }
+
+    /// Whether the formula is true at x, a member of the root. What a row has x reaches, so of an atom that isn't a path
+    /// the root needs no look.
+    pub(crate) fn is_true(&self, f: &Formula, root: CatId) -> bool
+        requires { category_of self.now.instance.now self.now.x ≡ root.0 }
+        ensures { IsTrue result ↔ Holds self.now.instance.now self.now.x (formula_of f.now) }
+    {
+        match f {
+            Formula::Reach(d) => self.member(d.0).is_some(),
+            Formula::Via(d, e) => self.reaches(*d, *e),
+            Formula::Equals(d, text) => self.name_is(*d, text),
+            _ => holds(f, root, self),
         }
     }
 }

@@ -11,7 +11,6 @@ use crate::above::Above;
 use olap_ast::{Formula, Terms};
 use olap_base::{CatId, MemberId};
 use olap_bits::CatSet;
-use olap_eval::holds;
 use olap_instance::Instance;
 
 /// How many places a block has.
@@ -19,8 +18,8 @@ pub(crate) const WIDTH: u32 = 64;
 
 /// The members of the root at 64 places of the instance, from `start` on.
 ///
-/// A set of places counts these from 0. The connectives of a formula are operations on such sets, so a node costs one
-/// operation for all members of the block.
+/// The numbers of a set are places, counted from `start`. A connective is an operation on such sets, so it costs the
+/// same for one member as for all of them.
 #[derive(Clone, Copy)]
 pub(crate) struct Block<'a> {
     pub instance: &'a Instance,
@@ -74,7 +73,7 @@ impl<'a> Block<'a> {
             categories: self.categories,
             x: self.start + u32::from(k),
         };
-        holds(f, self.root, &above)
+        above.is_true(f, self.root)
     }
 
     /// The places at which the formula is true, asked one by one.
@@ -91,9 +90,9 @@ impl<'a> Block<'a> {
         truths
     }
 
-    /// The places at which the formula is true: an atom's are asked one by one.
+    /// The places at which the formula is true.
     ///
-    /// It asks each atom once a member. It calls itself as deep as the formula is, and once more for each part of a list.
+    /// It asks each atom at each member. It calls itself as deep as the formula is, and once more for each part of a list.
     #[cycle(holding)]
     fn holding(&self, f: &Formula) -> CatSet<1>
         ensures { Selects (members self.now.places)

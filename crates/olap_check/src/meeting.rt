@@ -47,7 +47,7 @@ fn first_unmet(
 
 /// The place of the first constraint that isn't met, and the first member at which it isn't.
 ///
-/// Cost: for each constraint the members, and its formula at those of its root.
+/// Cost: for each constraint the members, its atoms at those of its root, and its other nodes once for 64 members.
 pub(crate) fn first_violated(
     instance: &Instance,
     cells: &[u32],

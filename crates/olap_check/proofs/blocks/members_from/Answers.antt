@@ -1,6 +1,5 @@
 -- One place after the other.
-use Rattle.std.proofs.Common.{◌≡◌, ℕ, ◌+◌, ◌<◌, ap, length, subst, sym, ◌∙◌, arith}
-use Rattle.std.specs.FinSet.{FinSet}
+use Rattle.std.proofs.Common.{ℕ, ◌+◌, subst, sym, ◌∙◌, arith}
 use Rattle.olap_base.specs.Instance.{IsMemberOf}
 use Rattle.olap_bits.specs.Sets.{members}
 use Rattle.olap_check.specs.Blocks.{Collects}

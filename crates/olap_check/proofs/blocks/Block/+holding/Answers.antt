@@ -1,6 +1,6 @@
 -- A connective is an operation on the sets of its parts, and `one(..)` is counted from its last part on.
-use Rattle.std.proofs.Common.{◌≡◌, ap, ◌∙◌}
-use Rattle.std.specs.FinSet.{FinSet, difference, union}
+use Rattle.std.proofs.Common.{ap, ◌∙◌}
+use Rattle.std.specs.FinSet.{difference, union}
 use Rattle.olap_bits.specs.Sets.{members}
 use Rattle.olap_check.proofs.BlockLemmas.{NoneTrueAt, OneTrueAt, TrueAt, select_and, select_iff, select_implies, select_none, select_not, select_one, select_or, select_others, select_part, select_whole, select_xor}
 use Rattle.olap_check.proofs.blocks.Block.+holding.Goals as goal

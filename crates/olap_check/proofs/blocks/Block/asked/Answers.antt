@@ -1,6 +1,6 @@
 -- One place after the other.
-use Rattle.std.proofs.Common.{◌≡◌, ℕ, ◌+◌, ◌<◌, true, subst, sym, ◌∙◌, arith}
-use Rattle.std.specs.FinSet.{FinSet, contains}
+use Rattle.std.proofs.Common.{◌≡◌, ℕ, ◌+◌, true, subst, sym, ◌∙◌, arith}
+use Rattle.std.specs.FinSet.{contains}
 use Rattle.std.proofs.lemmas.Bool.{both_ways}
 use Rattle.olap_bits.specs.Sets.{members}
 use Rattle.olap_check.specs.Blocks.{Collects}

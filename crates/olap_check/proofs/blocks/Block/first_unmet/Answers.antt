@@ -1,6 +1,5 @@
 -- The first of the places that are left over.
-use Rattle.std.proofs.Common.{◌≡◌, ◌+◌, ap, refl, subst, sym, ◌∙◌, arith}
-use Rattle.std.specs.FinSet.{FinSet, difference}
+use Rattle.std.proofs.Common.{◌+◌, refl, subst, sym, ◌∙◌}
 use Rattle.olap_ast.specs.Trees.{formula_of}
 use Rattle.olap_bits.specs.CatSet.{IsLeast}
 use Rattle.olap_bits.specs.Sets.{members}

@@ -1,11 +1,11 @@
--- The shape above a member has the member in the place of the root.
-use Rattle.std.proofs.Common.{◌≡◌, ◌+◌, ◌<◌, ◌↔◌, ap, length, subst, sym, ◌∙◌}
+-- The member of a place, with the row that the table has of it.
+use Rattle.std.proofs.Common.{◌+◌, ◌↔◌, subst, sym}
 use Rattle.std.specs.Prelude.{IsTrue}
 use Rattle.olap_ast.specs.Formula.{Holds}
 use Rattle.olap_ast.specs.Trees.{formula_of}
 use Rattle.olap_base.specs.Instance.{IsMemberOf}
 use Rattle.olap_check.specs.Above.{IsAbove}
-use Rattle.olap_check.proofs.AboveLemmas.{above_shape, own_place}
+use Rattle.olap_check.proofs.AboveLemmas.{above_shape}
 use Rattle.olap_check.proofs.blocks.Block.is_true_at.Goals as goal
 
 pub invariant_of-above : goal.invariant_of-above
@@ -19,21 +19,14 @@ invariant_of-above c =
     record { inside = member.0; bounded = t.bounded; table = t.table } in
     record { sound = sound; row_is_shape = above_shape b.instance.now b.categories x b.cells.now sound }
 
-pub holds-requires : goal.holds-requires
-holds-requires c =
+pub is_true-requires : goal.is_true-requires
+is_true-requires c =
     let b = c.args.self.now in
     let place = (b.sound.exact c.args.k).0 c.requires in
-    let member = subst (λ k. IsMemberOf b.instance.now b.root.0 (b.start + k)) (sym c.from.ensures) place.1 in
-    let t = b.sound.has_table in
-    (own_place b.instance.now b.categories (b.start + c.from.result) b.root.0 b.cells.now t.bounded t.table member.0 member.1).0
+    (subst (λ k. IsMemberOf b.instance.now b.root.0 (b.start + k)) (sym c.from.ensures) place.1).1
 
 pub returns : goal.returns
 returns c =
     let b = c.args.self.now in
-    let place = (b.sound.exact c.args.k).0 c.requires in
-    let member = subst (λ k. IsMemberOf b.instance.now b.root.0 (b.start + k)) (sym c.from.ensures) place.1 in
-    let t = b.sound.has_table in
-    let own =
-    own_place b.instance.now b.categories (b.start + c.from.result) b.root.0 b.cells.now t.bounded t.table member.0 member.1 in
-    subst (λ y. IsTrue c.holds.result ↔ Holds b.instance.now y (formula_of c.args.f.now))
-    (own.1 ∙ ap (λ k. b.start + k) c.from.ensures) c.holds.ensures
+    subst (λ k. IsTrue c.is_true.result ↔ Holds b.instance.now (b.start + k) (formula_of c.args.f.now)) c.from.ensures
+    c.is_true.ensures
