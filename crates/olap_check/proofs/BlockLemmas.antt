@@ -111,7 +111,8 @@ module _ (places : FinSet nat_cmp) where
         Decides-at _ _ (contains-union nat_cmp_total _ t k ∙ ap (λ b. b || contains t k) (left s k h))
         (implied _ _ (f k h) (g k h))
 
-    pub select_xor : Selects places (λ k. (P k × (Q k → ⊥)) ⊎ ((P k → ⊥) × Q k)) (union (difference s t) (difference t s))
+    pub select_xor : Selects places (λ k. (P k × (Q k → ⊥)) ⊎ ((P k → ⊥) × Q k))
+        (union (difference s t) (difference t s))
     select_xor k h = Decides-at _ _ (in_one s t k) (apart _ _ (f k h) (g k h))
 
     pub select_iff : Selects places (λ k. P k ↔ Q k) (difference places (union (difference s t) (difference t s)))
@@ -217,7 +218,8 @@ module _ (i : Instance) (root start : ℕ) (places : FinSet nat_cmp) (exact : Ar
         let e : start + (x - start) ≡ x = omega arith in
         let place = has_place x l h m in
         subst (λ y. Holds i y f) e
-        ((t (x - start) place).0 (known (contains truths (x - start)) (λ r. n (left places truths (x - start) place ∙ ap not r))))
+        ((t (x - start) place).0
+        (known (contains truths (x - start)) (λ r. n (left places truths (x - start) place ∙ ap not r))))
       where
         known : (b : Bool) → (b ≡ false → ⊥) → b ≡ true
         known true n = refl

@@ -39,8 +39,9 @@ impl<'a> Above<'a> {
         }
     }
 
-    /// Whether the formula is true at x, a member of the root. What a row has x reaches, so of an atom that isn't a path
-    /// the root needs no look.
+    /// Whether the formula is true at x, a member of the root.
+    ///
+    /// x reaches what its row has, so of an atom that isn't a path the root needs no look.
     pub(crate) fn is_true(&self, f: &Formula, root: CatId) -> bool
         requires { category_of self.now.instance.now self.now.x ≡ root.0 }
         ensures { IsTrue result ↔ Holds self.now.instance.now self.now.x (formula_of f.now) }

@@ -56,7 +56,8 @@ pub(crate) fn members_from(instance: &Instance, root: CatId, start: u32) -> CatS
 
 /// The places that are in one set alone.
 fn differing(a: CatSet<1>, b: CatSet<1>) -> CatSet<1>
-    ensures { members result ≡ set.union (set.difference (members a) (members b)) (set.difference (members b) (members a)) }
+    ensures { let first = set.difference (members a) (members b) in let second = set.difference (members b) (members a) in
+        members result ≡ set.union first second }
 {
     a.minus(b).union(b.minus(a))
 }
@@ -92,7 +93,8 @@ impl<'a> Block<'a> {
 
     /// The places at which the formula is true.
     ///
-    /// It asks each atom at each member. It calls itself as deep as the formula is, and once more for each part of a list.
+    /// It asks each atom at each member. It calls itself as deep as the formula is, and once more for each part of a
+    /// list.
     #[cycle(holding)]
     fn holding(&self, f: &Formula) -> CatSet<1>
         ensures { Selects (members self.now.places)
@@ -121,7 +123,8 @@ impl<'a> Block<'a> {
         ensures none { Selects (members self.now.places)
             (λ k. NoneHolds self.now.instance.now (self.now.start + k) (terms_of parts.now)) (members result.none) }
         ensures one { Selects (members self.now.places)
-            (λ k. ExactlyOneHolds self.now.instance.now (self.now.start + k) (terms_of parts.now)) (members result.one) }
+            (λ k. ExactlyOneHolds self.now.instance.now (self.now.start + k) (terms_of parts.now))
+            (members result.one) }
     {
         match parts {
             Terms::End => Counted {
@@ -141,7 +144,8 @@ impl<'a> Block<'a> {
 
     /// The first member of the block at which the formula is false.
     pub(crate) fn first_unmet(&self, f: &Formula) -> Option<u32>
-        ensures some { IfSome result (IsFirstUnmetFrom self.now.instance.now self.now.root.0 (formula_of f.now) self.now.start) }
+        ensures some { let formula = formula_of f.now in
+            IfSome result (IsFirstUnmetFrom self.now.instance.now self.now.root.0 formula self.now.start) }
         ensures none { IsNone result → (x : ℕ) → self.now.start ≤ x → x < self.now.start + 64
             → IsMemberOf self.now.instance.now self.now.root.0 x → Holds self.now.instance.now x (formula_of f.now) }
     {

@@ -53,7 +53,8 @@ holding-returns-in-Implies t c =
     let first = members c.holding-in-Implies.result in let second = members c.holding-in-Implies-2.result in
     let at_first = select_part places is_true first c.deref-in-Implies.ensures c.holding-in-Implies.ensures in
     let at_second = select_part places is_true second c.deref-in-Implies-2.ensures c.holding-in-Implies-2.ensures in
-    select_whole places is_true (members c.union-in-Implies.result) c.in-Implies.is (c.union-in-Implies.ensures ∙ ap (λ s. union s second) c.minus-in-Implies.ensures)
+    let same = c.union-in-Implies.ensures ∙ ap (λ s. union s second) c.minus-in-Implies.ensures in
+    select_whole places is_true (members c.union-in-Implies.result) c.in-Implies.is same
     (select_implies places first second at_first at_second)
 
 pub holding-returns-in-Iff : goal.holding-returns-in-Iff
@@ -64,7 +65,8 @@ holding-returns-in-Iff t c =
     let first = members c.holding-in-Iff.result in let second = members c.holding-in-Iff-2.result in
     let at_first = select_part places is_true first c.deref-in-Iff.ensures c.holding-in-Iff.ensures in
     let at_second = select_part places is_true second c.deref-in-Iff-2.ensures c.holding-in-Iff-2.ensures in
-    select_whole places is_true (members c.minus-in-Iff.result) c.in-Iff.is (c.minus-in-Iff.ensures ∙ ap (λ s. difference places s) c.differing.ensures)
+    let same = c.minus-in-Iff.ensures ∙ ap (λ s. difference places s) c.differing.ensures in
+    select_whole places is_true (members c.minus-in-Iff.result) c.in-Iff.is same
     (select_iff places first second at_first at_second)
 
 pub holding-returns-in-Xor : goal.holding-returns-in-Xor
@@ -93,7 +95,8 @@ counted-returns-in-More-clause-none t c =
     let is_so = NoneTrueAt b.instance.now b.start in
     let here = members c.holding-here.result in let none = members c.counted-others.result.none in
     let at_here = select_part places (TrueAt b.instance.now b.start) here c.deref.ensures c.holding-here.ensures in
-    let at_none = select_part places (NoneTrueAt b.instance.now b.start) none c.deref-in-More.ensures c.counted-others.ensures.none in
+    let at_none = select_part places (NoneTrueAt b.instance.now b.start) none c.deref-in-More.ensures
+    c.counted-others.ensures.none in
     select_whole places is_so (members c.minus.result) c.in-More.is c.minus.ensures
     (select_others places here none at_here at_none)
 
@@ -104,8 +107,10 @@ counted-returns-in-More-clause-one t c =
     let is_so = OneTrueAt b.instance.now b.start in
     let here = members c.holding-here.result in let none = members c.counted-others.result.none in
     let at_here = select_part places (TrueAt b.instance.now b.start) here c.deref.ensures c.holding-here.ensures in
-    let at_none = select_part places (NoneTrueAt b.instance.now b.start) none c.deref-in-More.ensures c.counted-others.ensures.none in
+    let at_none = select_part places (NoneTrueAt b.instance.now b.start) none c.deref-in-More.ensures
+    c.counted-others.ensures.none in
     let one = members c.counted-others.result.one in
     let at_one = select_part places is_so one c.deref-in-More.ensures c.counted-others.ensures.one in
-    select_whole places is_so (members c.union.result) c.in-More.is (c.union.ensures ∙ (λ i. union (c.meet.ensures i) (c.minus-in-More.ensures i)))
+    let same = c.union.ensures ∙ (λ i. union (c.meet.ensures i) (c.minus-in-More.ensures i)) in
+    select_whole places is_so (members c.union.result) c.in-More.is same
     (select_one places here none at_here at_none one at_one)

@@ -40,6 +40,7 @@ places-preserved c =
 pub returns : goal.returns
 returns c =
     let b = c.args.self.now in
-    select_collected (members b.places) (members c.places.truths) {P = TrueAt b.instance.now b.start c.args.f.now} c.places.k
+    select_collected (members b.places) (members c.places.truths) {P = TrueAt b.instance.now b.start c.args.f.now}
+    c.places.k
     (λ k h. let inside = ((b.sound.exact k).0 h).0 in omega (arith, c.places-test.false))
     c.places.invariant

@@ -11,7 +11,8 @@ pub returns-then-is_none-clause-none : goal.returns-then-is_none-clause-none
 returns-then-is_none-clause-none c = λ e x l h m.
     let b = c.args.self.now in
     let none = is_none_of c.first.result c.is_none.result c.if-is_none.true c.is_none.ensures in
-    absurd (no_member b.instance.now b.root.0 b.start (members b.places) b.sound.exact (c.first.ensures.none.0 none) x l h m)
+    absurd (no_member b.instance.now b.root.0 b.start (members b.places) b.sound.exact (c.first.ensures.none.0 none) x
+    l h m)
 
 pub returns-in-Some-clause-some : goal.returns-in-Some-clause-some
 returns-in-Some-clause-some c =
@@ -20,7 +21,8 @@ returns-in-Some-clause-some c =
     let truths = members c.holding.result in
     let least = subst (λ s. IsLeast s c.in-Some.k) c.minus-unmet.ensures c.in-Some.ensures.least in
     subst (λ k. IsFirstUnmetFrom b.instance.now b.root.0 f b.start (b.start + k)) (sym c.from.ensures)
-    (first_left b.instance.now b.root.0 b.start (members b.places) b.sound.exact f truths c.holding.ensures c.in-Some.k least)
+    (first_left b.instance.now b.root.0 b.start (members b.places) b.sound.exact f truths c.holding.ensures
+    c.in-Some.k least)
 
 pub returns-in-None-clause-none : goal.returns-in-None-clause-none
 returns-in-None-clause-none c = λ e x l h m.
