@@ -20,10 +20,12 @@ mod rolling_up;
 mod satisfying;
 mod status;
 mod storing;
+mod surely;
 mod summarizing;
 mod telling;
 mod top;
 mod words;
 
 pub use status::Status;
+pub use surely::olap_surely;
 pub use top::olap;
