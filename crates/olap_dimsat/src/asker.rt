@@ -22,4 +22,8 @@ pub struct Asker<'a> {
 pub struct Leaf {
     pub(crate) frozen: Frozen,
     pub(crate) room: Room,
+    /// Whether each trail of the search so far went on from the one before. A hint.
+    pub(crate) straight_down: bool,
+    /// How many literals the last trail had. A hint.
+    pub(crate) steps: usize,
 }

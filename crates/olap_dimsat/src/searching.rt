@@ -111,6 +111,8 @@ impl Search {
         let leaf = Leaf {
             frozen: blank(alloc, graph, root)?,
             room: Room::new(alloc, graph)?,
+            straight_down: true,
+            steps: 0,
         };
         let best = blank(alloc, graph, root)?;
         Ok(Search {
