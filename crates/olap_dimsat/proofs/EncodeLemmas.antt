@@ -82,7 +82,7 @@ other_default (x ∷ xs) (suc k) d e h = other_default xs k d e (omega arith)
 
 -- ---- what its valuations read
 
-same_truth : (a b : Bool) → (a ≡ true → b ≡ true) → (b ≡ true → a ≡ true) → a ≡ b
+pub same_truth : (a b : Bool) → (a ≡ true → b ≡ true) → (b ≡ true → a ≡ true) → a ≡ b
 same_truth a b f g = elim (true_or_false a) [
   | inl y ↦ y ∙ sym (f y)
   | inr n ↦ n ∙ sym (not_true b (λ y. let z : true ≡ false = sym (g y) ∙ n in cc))

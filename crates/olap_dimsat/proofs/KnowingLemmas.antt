@@ -13,7 +13,7 @@ use Rattle.olap_base.specs.Graph.{CategoryReaches, Edge, Graph, HasEdge, IsCateg
 use Rattle.olap_base.specs.Instance.{Instance}
 use Rattle.olap_base.specs.Naming.{place_of}
 use Rattle.olap_base.specs.Reaching.{category_reaches, category_reaches_is}
-use Rattle.olap_base.specs.Steps.{Steps, Steps.here, Steps.step, reaches_from_Steps}
+use Rattle.olap_base.specs.Steps.{Steps, Steps-from_reaches, reaches_from_Steps}
 use Rattle.olap_ast.specs.Formula.{Formula}
 use Rattle.olap_ast.specs.Frozen.{Frozen, chosen, instance_of, is_present, name_in}
 use Rattle.olap_ast.specs.Schema.{Constraint}
@@ -35,12 +35,15 @@ use Rattle.olap_frozen.proofs.ChosenInstance as made
 use Rattle.olap_frozen.proofs.ChosenLemmas.{bit_joins, choice_of, edge_inside, no_edge_joins}
 use Rattle.olap_graph.specs.Lookups.{edge_between, joins}
 use Rattle.olap_graph.proofs.PlaceLemmas.{found, joins-Decides}
+use Rattle.olap_trail.specs.Decisions.{Decided, present_graph}
 use Rattle.olap_names.specs.Names.{candidates_of}
 use Rattle.olap_dimsat.specs.Tasks.{IsOne, IsTask, Task, name_variable, on_variable, present_variable, schema_of}
-use Rattle.olap_dimsat.specs.Reads.{Reads, index_in}
-use Rattle.olap_dimsat.specs.Knowing.{HasMember, HoldsAt, IsBroken, IsFalseAt, NoneAgrees, both, knowledge, naming, presence, told, told_of_edge, told_of_name, truth_of, way}
-use Rattle.olap_dimsat.proofs.EncodeLemmas.{index_same}
+use Rattle.olap_dimsat.specs.Reads.{NoneAgrees, Reads, index_in}
+use Rattle.olap_dimsat.specs.Tracking.{IsTracked}
+use Rattle.olap_dimsat.specs.Knowing.{HasMember, HoldsAt, IsBroken, IsFalseAt, both, knowledge, naming, presence, told, told_of_edge, told_of_name, truth_of, way}
+use Rattle.olap_dimsat.proofs.EncodeLemmas.{index_same, same_truth}
 use Rattle.olap_dimsat.proofs.ReadLemmas.{index_absent}
+use Rattle.olap_dimsat.proofs.TrackingLemmas.{present_joins, wider}
 use Rattle.olap_dimsat.proofs.Truths.{is_same, not_both, same_is, true_or_false}
 
 -- ---- values of facts
@@ -62,12 +65,7 @@ known_both Unknown No P Q a b = λ t. b t.1
 known_both Unknown Yes P Q a b = tt
 known_both Unknown Unknown P Q a b = tt
 
--- ---- walks
-
--- a walk of some edges is one of more
-pub wider : {R S : ℕ → ℕ → Type 0} → ((x y : ℕ) → R x y → S x y) → {c d : ℕ} → Steps R c d → Steps S c d
-wider f here = here
-wider f (step {x = c} {y = z} r s) = step (f c z r) (wider f s)
+-- ---- lists and tests
 
 -- a list that has something is one of the lists
 has_some : (xs : List (List (List ℕ))) (c k : ℕ) → k < length (get_or xs c []) → c < length xs
@@ -94,23 +92,15 @@ no_edge_past g trail hier c d h = go (edge_between g c d) refl
         let k = (hier.categories c d (subst (λ x. Contains g.edges x) (f.3 z) (Contains-get_or g.edges f.0 z f.2))).0 in
         absurd (omega arith)
 
-pub some_way : (t : Task) (c d : ℕ) → c ≢ d → CategoryReaches t.graph c d → Unknown ≡ way t c d
-some_way t c d n w = go (c == d) refl (category_reaches t.graph c d) ((category_reaches_is t.graph c d).1 w)
-  where
-    go : (b : Bool) → (c == d) ≡ b → (w : Bool) → w ≡ true → Unknown ≡ cond b Yes (cond w Unknown No)
-    go true e w k = absurd (n (same_is c d e))
-    go false e true k = refl
-    go false e false k = absurd (let z : false ≡ true = k in cc)
+-- the test of a graph has the value of another that asks the same
+pub reach_test : (g : Graph) (c d : ℕ) (r b : Bool) → IsTrue r ↔ CategoryReaches g c d → r ≡ b → category_reaches g c d ≡ b
+reach_test g c d r b i e = let is = category_reaches_is g c d in
+    same_truth (category_reaches g c d) r (λ y. i.1 (is.0 y)) (λ y. is.1 (i.0 y)) ∙ e
 
-pub no_way : (t : Task) (c d : ℕ) (b : Bool) → c ≢ d → IsTrue b ↔ CategoryReaches t.graph c d → b ≡ false
-    → No ≡ way t c d
-no_way t c d b n i f = go (c == d) refl (category_reaches t.graph c d) refl
-  where
-    go : (b : Bool) → (c == d) ≡ b → (w : Bool) → category_reaches t.graph c d ≡ w
-        → No ≡ cond b Yes (cond w Unknown No)
-    go true e w k = absurd (n (same_is c d e))
-    go false e true k = absurd (not_both b (i.1 ((category_reaches_is t.graph c d).0 k)) f)
-    go false e false k = refl
+pub way_by : (t : Task) (d : Decided) (c e : ℕ) (b w : Bool) → category_reaches (present_graph d) c e ≡ b
+    → category_reaches t.graph c e ≡ w → cond b Yes (cond w Unknown No) ≡ way t d c e
+way_by t d c e b w p q = sym (ap (λ x. cond x Yes (cond (category_reaches t.graph c e) Unknown No)) p
+    ∙ ap (λ x. cond b Yes (cond x Unknown No)) q)
 
 pub place_inside : (text : List ℕ) (texts : List (List ℕ)) (o : Option ℕ) → o ≡ place_of text texts
     → IfSome o (λ j. j < length texts)
@@ -118,13 +108,13 @@ place_inside text texts None e = tt
 place_inside text texts (Some j) e =
     let at = found (bytes_eq text) (λ x. text ≡ x) (bytes_eq-Decides text) texts 0 j (sym e) in omega (arith, at.1, at.2)
 
-module _ (t : Task) (trail : Trail) (task : IsTask t) (f : Frozen) (v : ℕ → Bool) (one : IsOne t f) (r : Reads t f v)
-    (a : Agrees v (steps_of trail)) where
+module _ (t : Task) (trail : Trail) (d : Decided) (k : IsTracked t trail d) (f : Frozen) (v : ℕ → Bool) (one : IsOne t f)
+    (r : Reads t f v) (a : Agrees v (steps_of trail)) where
   abbrev es : List Edge
   es = chosen t.graph.edges f.edges
 
   ch : IsChoice t.graph t.root es
-  ch = choice_of t.graph t.root f.edges task.hierarchy task.root
+  ch = choice_of t.graph t.root f.edges k.task.hierarchy k.task.root
 
   abbrev name : ℕ → List ℕ
   name = name_in (candidates_of t.named) f
@@ -167,7 +157,7 @@ module _ (t : Task) (trail : Trail) (task : IsTask t) (f : Frozen) (v : ℕ → 
       go None e = λ h. no_edge_joins t.graph f.edges c d e
           ((made.below_joins t.graph t.root es ch name c d h.0 h.1).0 h.2)
       go (Some i) e =
-          let b = bit_joins t.graph f.edges c d i task.hierarchy e in
+          let b = bit_joins t.graph f.edges c d i k.task.hierarchy e in
           let n = r.on i (edge_inside t.graph c d i e) in
           known_same (told trail (on_variable i)) (v (on_variable i) ≡ true) (HasEdgeThere inst present place c d)
           (told_is (on_variable i))
@@ -181,33 +171,34 @@ module _ (t : Task) (trail : Trail) (task : IsTask t) (f : Frozen) (v : ℕ → 
   in_graph : (x y : ℕ) → Joins es x y → HasEdge t.graph x y
   in_graph x y j = ch.within (record { child = x; parent = y }) j
 
-  way_is : (c d : ℕ) → Tells (way t c d) (Steps (Joins es) c d)
-  way_is c d = go (c == d) refl (category_reaches t.graph c d) refl
+  way_is : (c e : ℕ) → Tells (way t d c e) (Steps (Joins es) c e)
+  way_is c e = go (category_reaches (present_graph d) c e) refl (category_reaches t.graph c e) refl
     where
-      go : (b : Bool) → (c == d) ≡ b → (w : Bool) → category_reaches t.graph c d ≡ w
-          → Tells (cond b Yes (cond w Unknown No)) (Steps (Joins es) c d)
-      go true e w k = subst (λ x. Steps (Joins es) c x) (same_is c d e) here
-      go false e true k = tt
-      go false e false k = λ s.
-          let y = (category_reaches_is t.graph c d).1 (reaches_from_Steps (wider in_graph s)) in
-          let z : true ≡ false = sym y ∙ k in cc
+      go : (b : Bool) → category_reaches (present_graph d) c e ≡ b → (w : Bool) → category_reaches t.graph c e ≡ w
+          → Tells (cond b Yes (cond w Unknown No)) (Steps (Joins es) c e)
+      go true p w q = wider (present_joins t trail f v one r a d k.of k.read)
+          (Steps-from_reaches ((category_reaches_is (present_graph d) c e).0 p))
+      go false p true q = tt
+      go false p false q = λ s.
+          let y = (category_reaches_is t.graph c e).1 (reaches_from_Steps (wider in_graph s)) in
+          let z : true ≡ false = sym y ∙ q in cc
 
-  reach_is : (c d : ℕ)
-      → Tells (both (both (presence t trail c) (presence t trail d)) (way t c d)) (ReachesThere inst present place c d)
-  reach_is c d = known_same (both (both (presence t trail c) (presence t trail d)) (way t c d))
-      (((present c ≡ true) × (present d ≡ true)) × Steps (Joins es) c d) (ReachesThere inst present place c d)
-      (known_both (both (presence t trail c) (presence t trail d)) (way t c d)
-      ((present c ≡ true) × (present d ≡ true)) (Steps (Joins es) c d)
-      (known_both (presence t trail c) (presence t trail d) (present c ≡ true) (present d ≡ true) (presence_is c) (presence_is d))
-      (way_is c d))
-      (λ h. (h.0.0, h.0.1, (made.reaches_walk t.graph t.root es ch name c d h.0.0 h.0.1).1 h.1))
-      (λ h. ((h.0, h.1), (made.reaches_walk t.graph t.root es ch name c d h.0 h.1).0 h.2))
+  reach_is : (c e : ℕ)
+      → Tells (both (both (presence t trail c) (presence t trail e)) (way t d c e)) (ReachesThere inst present place c e)
+  reach_is c e = known_same (both (both (presence t trail c) (presence t trail e)) (way t d c e))
+      (((present c ≡ true) × (present e ≡ true)) × Steps (Joins es) c e) (ReachesThere inst present place c e)
+      (known_both (both (presence t trail c) (presence t trail e)) (way t d c e)
+      ((present c ≡ true) × (present e ≡ true)) (Steps (Joins es) c e)
+      (known_both (presence t trail c) (presence t trail e) (present c ≡ true) (present e ≡ true) (presence_is c) (presence_is e))
+      (way_is c e))
+      (λ h. (h.0.0, h.0.1, (made.reaches_walk t.graph t.root es ch name c e h.0.0 h.0.1).1 h.1))
+      (λ h. ((h.0, h.1), (made.reaches_walk t.graph t.root es ch name c e h.0 h.1).0 h.2))
 
   -- a category with an index has a member
-  indexed_present : (c k : ℕ) → IsCategory t.graph c → index_in f c ≡ suc k → present c ≡ true
-  indexed_present c k h e = elim (true_or_false (present c)) [
+  indexed_present : (c n : ℕ) → IsCategory t.graph c → index_in f c ≡ suc n → present c ≡ true
+  indexed_present c n h e = elim (true_or_false (present c)) [
     | inl p ↦ p
-    | inr n ↦ absurd (let z = index_absent t f c one h n in omega arith)
+    | inr q ↦ absurd (let z = index_absent t f c one h q in omega arith)
   ]
 
   name_is : (c : ℕ) (text : List ℕ) → Tells (naming t trail c text) (HasNameThere inst present place c text)
@@ -222,10 +213,10 @@ module _ (t : Task) (trail : Trail) (task : IsTask t) (f : Frozen) (v : ℕ → 
           let same : at.0 ≡ j = omega (arith, at.1) in
           let few : j < length (get_or t.named.texts (suc c) []) = omega (arith, at.2) in
           let inside : suc c < category_count t.graph =
-          let l = has_some t.named.texts (suc c) j few in let n = task.texts in omega arith in
+          let l = has_some t.named.texts (suc c) j few in let n = k.task.texts in omega arith in
           let it : get_or (get_or t.named.texts (suc c) []) j text ≡ text =
-          ap (λ k. get_or (get_or t.named.texts (suc c) []) k text) (sym same) ∙ sym (at.3 text) in
-          let n = name_is_constant (schema_of t) t.question t.root (candidates_of t.named) task.candidates f one c j text
+          ap (λ m. get_or (get_or t.named.texts (suc c) []) m text) (sym same) ∙ sym (at.3 text) in
+          let n = name_is_constant (schema_of t) t.question t.root (candidates_of t.named) k.task.candidates f one c j text
           inside few it in
           let x = r.named (suc c) j inside few in
           known_same (told trail (name_variable t.layout (suc c) j)) (v (name_variable t.layout (suc c) j) ≡ true)
@@ -237,22 +228,23 @@ module _ (t : Task) (trail : Trail) (task : IsTask t) (f : Frozen) (v : ℕ → 
           (λ h. x ∙ is_same (index_in f (suc c)) (suc j)
           (sym (index_same f (suc c)) ∙ n.0 (sym (made.name_there t.graph t.root es ch name (suc c) h.0) ∙ h.1)))
 
-  pub completes : Completes (knowledge t trail) inst present place
+  pub completes : Completes (knowledge t trail d) inst present place
   completes = record { edges = edge_is; reaching = reach_is; names = name_is }
 
-  known_truth : (c : ℕ) (q : Formula) → present c ≡ true → Tells (value_at (knowledge t trail) c q) (HoldsAt t f c q)
-  known_truth c q p = values_are_truths (knowledge t trail) inst present place
+  known_truth : (c : ℕ) (q : Formula) → present c ≡ true → Tells (value_at (knowledge t trail d) c q) (HoldsAt t f c q)
+  known_truth c q p = values_are_truths (knowledge t trail d) inst present place
       (made.chosen_shape t.graph t.root es ch name) completes c p q
 
-module _ (t : Task) (trail : Trail) (task : IsTask t) where
-  pub false_at : (c : ℕ) (q : Formula) → value_at (knowledge t trail) c q ≡ No → IsFalseAt t trail c q
-  false_at c q e f v one r a p = subst (λ x. Tells x (HoldsAt t f c q)) e (known_truth t trail task f v one r a c q p)
+module _ (t : Task) (trail : Trail) (d : Decided) (k : IsTracked t trail d) where
+  pub false_at : (c : ℕ) (q : Formula) → value_at (knowledge t trail d) c q ≡ No → IsFalseAt t trail c q
+  false_at c q e f v one r a p = subst (λ x. Tells x (HoldsAt t f c q)) e (known_truth t trail d k f v one r a c q p)
 
-  pub broken : (k : Constraint) → presence t trail k.root ≡ Yes → IsFalseAt t trail k.root k.formula → IsBroken t trail k
-  broken k e n f v one r a =
-      let p = subst (λ x. Tells x (HasMember t f k.root)) e (presence_is t trail task f v one r a k.root) in
+  pub broken : (j : Constraint) → presence t trail j.root ≡ Yes → IsFalseAt t trail j.root j.formula → IsBroken t trail j
+  broken j e n f v one r a =
+      let p = subst (λ x. Tells x (HasMember t f j.root)) e (presence_is t trail d k f v one r a j.root) in
       (p, n f v one r a p)
 
+module _ (t : Task) (trail : Trail) (task : IsTask t) where
   -- constraints and question hold at the members of their roots
   met : (f : Frozen) → IsOne t f → IsMet (schema_of t) t.question t.root (chosen t.graph.edges f.edges)
       (name_in (candidates_of t.named) f)

@@ -5,8 +5,7 @@
 --     member_in      where a category's member stands
 --     IsFalseAt      the formula is false at the category's member, if it has one
 --     IsBroken       the constraint's root has a member, and the formula is false there
---     NoneAgrees     no frozen dimension agrees with the trail
-use Rattle.std.specs.Prelude.{ℕ, zero, suc, ◌&&◌, ◌==◌, true, Option, Some, None, List, [], IsTrue, nat_lt, if◌then◌else◌, slice_index_or}
+use Rattle.std.specs.Prelude.{ℕ, zero, suc, ◌&&◌, true, Option, Some, None, List, [], IsTrue, nat_lt, if◌then◌else◌, slice_index_or}
 use Rattle.olap_base.specs.Graph.{Graph, category_count}
 use Rattle.olap_base.specs.Naming.{place_of}
 use Rattle.olap_base.specs.Reaching.{category_reaches}
@@ -24,6 +23,7 @@ use Rattle.olap_clauses.specs.Trails.{values_of}
 use Rattle.olap_eval.specs.Partial.{Knowledge}
 use Rattle.olap_frozen.specs.Chosen as choices
 use Rattle.olap_graph.specs.Lookups.{edge_between}
+use Rattle.olap_trail.specs.Decisions.{Decided, present_graph}
 use Rattle.olap_names.specs.Names.{candidates_of}
 use Rattle.olap_dimsat.specs.Tasks.{Task, schema_of, on_variable, present_variable, name_variable}
 use Rattle.olap_dimsat.specs.Reads.{OfAgreeing}
@@ -49,9 +49,10 @@ abbrev pub told_of_edge : Trail → Option ℕ → Truth3
 told_of_edge trail None = No
 told_of_edge trail (Some e) = told trail (on_variable e)
 
--- whether a walk of present edges leads from c to d: surely to c itself, and never where the graph has none
-abbrev pub way : Task → ℕ → ℕ → Truth3
-way t c d = if c == d then Yes else if category_reaches t.graph c d then Unknown else No
+-- whether a walk of present edges leads from a to b: surely where edges were decided so, and never where the graph has none
+abbrev pub way : Task → Decided → ℕ → ℕ → Truth3
+way t d a b = if category_reaches (present_graph d) a b then Yes
+    else if category_reaches t.graph a b then Unknown else No
 
 abbrev pub both : Truth3 → Truth3 → Truth3
 both x y = value_of_both ◌&&◌ x y
@@ -66,11 +67,11 @@ abbrev pub naming : Task → Trail → ℕ → List ℕ → Truth3
 naming t trail zero text = Unknown
 naming t trail (suc c) text = told_of_name t trail (suc c) (place_of text (slice_index_or t.named.texts (suc c) []))
 
--- what the trail tells of edges, of reaching and of names
-abbrev pub knowledge : Task → Trail → Knowledge
-knowledge t trail = record {
-  edge = λ c d. told_of_edge trail (edge_between t.graph c d);
-  reaches = λ c d. both (both (presence t trail c) (presence t trail d)) (way t c d);
+-- what the trail tells of edges, of reaching and of names, with the decisions on edges
+abbrev pub knowledge : Task → Trail → Decided → Knowledge
+knowledge t trail d = record {
+  edge = λ a b. told_of_edge trail (edge_between t.graph a b);
+  reaches = λ a b. both (both (presence t trail a) (presence t trail b)) (way t d a b);
   name = naming t trail;
 }
 
@@ -95,7 +96,3 @@ IsFalseAt t trail c q = OfAgreeing t trail (λ f. HasMember t f c → HoldsAt t 
 -- in each that agrees, the constraint's root has a member, and the formula is false there
 abbrev pub IsBroken : Task → Trail → Constraint → Type 0
 IsBroken t trail k = OfAgreeing t trail (λ f. HasMember t f k.root × (HoldsAt t f k.root k.formula → ⊥))
-
--- no frozen dimension agrees with the trail
-abbrev pub NoneAgrees : Task → Trail → Type 0
-NoneAgrees t trail = OfAgreeing t trail (λ f. ⊥)

@@ -1,24 +1,14 @@
 // The judge of a search for frozen dimensions.
-ghost use Rattle.std.specs.Prelude.{◌≡◌, ℕ};
+ghost use Rattle.std.specs.Prelude.{ℕ};
 
 use crate::asker::{Asker, Leaf};
 use crate::cutting::is_cut;
 use crate::fitting::suits_all;
 use crate::picking::{open_name, pick_edge};
 use crate::reading::read;
+use crate::tracking::follow;
 use olap_clauses::{Judge, Trail, Verdict};
 use olap_frozen::is_frozen;
-
-// Whether nothing was undone in this search so far.
-fn goes_down(leaf: &mut Leaf, trail: &Trail) -> bool
-    ensures frozen { leaf.new.frozen ≡ leaf.old.frozen }
-    ensures room { leaf.new.room ≡ leaf.old.room }
-{
-    let steps = trail.len();
-    leaf.straight_down &= leaf.steps <= steps;
-    leaf.steps = steps;
-    leaf.straight_down
-}
 
 impl<'a> Judge<Leaf> for Asker<'a> {
     ghost use Rattle.olap_dimsat.specs.Asking.{IsSuited, task_of};
@@ -31,10 +21,13 @@ impl<'a> Judge<Leaf> for Asker<'a> {
     ghost Took = { λ a leaf steps. IsTaken (task_of a) leaf.frozen.edges leaf.frozen.names steps };
 
     fn judge(&self, leaf: &mut Leaf, trail: &Trail, scores: &[u32]) -> Verdict {
-        if goes_down(leaf, trail) && is_cut(self, trail) {
+        if !follow(self, leaf, trail) {
             return Verdict::Refuse;
         }
-        if let Some(lit) = pick_edge(self, trail, scores) {
+        if leaf.straight_down && is_cut(self, trail, &leaf.decided) {
+            return Verdict::Refuse;
+        }
+        if let Some(lit) = pick_edge(self, trail, scores, leaf.decided.present()) {
             return Verdict::Decide(lit);
         }
         if let Some(lit) = open_name(self, trail) {

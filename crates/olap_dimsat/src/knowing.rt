@@ -11,14 +11,17 @@ use olap_ast::Truth3;
 use olap_base::{CatId, Text};
 use olap_clauses::{Lit, Trail, Value};
 use olap_eval::Partial;
+use olap_trail::Trail as Decisions;
 
 /// What is known of edges, of reaching and of names.
 #[derive(Clone, Copy)]
 pub(crate) struct Known<'a> {
     pub(crate) asker: &'a Asker<'a>,
     pub(crate) trail: &'a Trail,
+    pub(crate) decided: &'a Decisions<1>,
     ghost laid: { IsLaid (task_of asker.now) },
     ghost texts: { length asker.now.candidates.now.texts ≡ category_count asker.now.graph.now },
+    ghost categories: { category_count decided.now.graph ≡ category_count asker.now.graph.now },
 }
 
 // A literal that stands is true.
@@ -59,9 +62,9 @@ impl<'a> Known<'a> {
     fn way(&self, c: CatId, d: CatId) -> Truth3
         requires child { IsCategory self.now.asker.now.graph.now c.0 }
         requires parent { IsCategory self.now.asker.now.graph.now d.0 }
-        ensures { result ≡ way (task_of self.now.asker.now) c.0 d.0 }
+        ensures { result ≡ way (task_of self.now.asker.now) self.now.decided.now c.0 d.0 }
     {
-        if c.0 == d.0 {
+        if self.decided.reaches(c, d) {
             return Truth3::Yes;
         }
         if self.asker.graph.reaches(c, d) {
@@ -88,7 +91,7 @@ impl<'a> Partial for Known<'a> {
     ghost use Rattle.olap_dimsat.specs.Asking.{task_of};
     ghost use Rattle.olap_dimsat.specs.Knowing.{knowledge};
 
-    ghost known = { λ s. knowledge (task_of s.asker.now) s.trail.now };
+    ghost known = { λ s. knowledge (task_of s.asker.now) s.trail.now s.decided.now };
 
     fn edge(&self, c: CatId, d: CatId) -> Truth3 {
         if c.0 >= self.asker.graph.categories() {
