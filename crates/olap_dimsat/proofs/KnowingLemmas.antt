@@ -3,8 +3,8 @@
 --     false_at       so a formula that is known to be false is
 --     broken_none    none agrees where a constraint is broken
 --     false_none     nor where the question is false at the root
-use Rattle.std.proofs.Common.{◌≡◌, ℕ, zero, suc, ◌+◌, ◌<◌, ◌≤◌, List, [], ◌∷◌, length, get_or, Bool, true, false, cond, Option, Some, None, refl, ap, sym, subst, ◌∙◌, ◌↔◌, inl, inr, arith}
-use Rattle.std.specs.Prelude.{◌==◌, ◌≢◌, Contains, IfSome, IsTrue, nat_lt}
+use Rattle.std.proofs.Common.{◌≡◌, ℕ, zero, suc, ◌<◌, ◌≤◌, List, [], ◌∷◌, length, get_or, Bool, true, false, cond, Option, Some, None, refl, ap, sym, subst, ◌∙◌, ◌↔◌, inl, inr, arith}
+use Rattle.std.specs.Prelude.{Contains, IfSome, IsTrue, nat_lt}
 use Rattle.std.specs.Str.{bytes_eq}
 use Rattle.std.proofs.lemmas.Bool.Decides.{nat_tests}
 use Rattle.std.proofs.lemmas.List.Elements.{Contains-get_or}
@@ -44,7 +44,7 @@ use Rattle.olap_dimsat.specs.Knowing.{HasMember, HoldsAt, IsBroken, IsFalseAt, b
 use Rattle.olap_dimsat.proofs.EncodeLemmas.{index_same, same_truth}
 use Rattle.olap_dimsat.proofs.ReadLemmas.{index_absent}
 use Rattle.olap_dimsat.proofs.TrackingLemmas.{present_joins, wider}
-use Rattle.olap_dimsat.proofs.Truths.{is_same, not_both, same_is, true_or_false}
+use Rattle.olap_dimsat.proofs.Truths.{is_same, same_is, true_or_false}
 
 -- ---- values of facts
 
