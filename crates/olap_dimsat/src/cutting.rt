@@ -21,7 +21,8 @@ fn is_false(known: &Known<'_>, formula: &Formula, c: CatId) -> bool
 {
     match holds3(formula, c, known) {
         Truth3::No => true,
-        Truth3::Yes | Truth3::Unknown => false,
+        Truth3::Yes => false,
+        Truth3::Unknown => false,
     }
 }
 
