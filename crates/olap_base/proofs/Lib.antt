@@ -9,3 +9,4 @@ pub mod Reading
 pub mod Writing
 pub mod Places
 pub mod FaultLemmas
+pub mod PiecesLeft

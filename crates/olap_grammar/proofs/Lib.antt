@@ -12,5 +12,4 @@ mod KeepingLemmas
 mod StackLemmas
 pub mod ReaderLemmas
 pub mod WordLemmas
-pub mod PartLemmas
 pub mod LeafLemmas

@@ -6,7 +6,7 @@ pub mod LookUps
 pub mod TextLemmas
 pub mod HeaderLemmas
 pub mod PieceLemmas
-pub mod PiecesLeft
+pub mod PiecesPassed
 pub mod Stamps
 pub mod EnteringLemmas
 pub mod LinkingLemmas

@@ -2,7 +2,7 @@
 use Rattle.std.proofs.Common.{◌==◌, ◌+◌, ◌∙◌, sym}
 use Rattle.olap_base.proofs.Writing.{rest_is}
 use Rattle.olap_grammar.specs.Words.{pieces_of}
-use Rattle.olap_grammar.proofs.PartLemmas.{split-none, split-some}
+use Rattle.olap_base.proofs.PiecesLeft.{split-none, split-some}
 use Rattle.olap_grammar.proofs.words.first_piece.Goals as goal
 
 pub returns-in-Some-clause-pieces : goal.returns-in-Some-clause-pieces

@@ -4,7 +4,7 @@ use Rattle.std.specs.List.{list_all}
 use Rattle.olap_base.specs.Reaching.{is_category_name}
 use Rattle.olap_grammar.specs.Known.{graph_seen}
 use Rattle.olap_grammar.specs.Words.{id_of, pieces_behind}
-use Rattle.olap_grammar.proofs.PartLemmas.{size_left}
+use Rattle.olap_base.proofs.PiecesLeft.{size_left}
 use Rattle.olap_grammar.proofs.words.steps.Given as goal
 
 abbrev pub invariant-parts : goal.invariant-parts

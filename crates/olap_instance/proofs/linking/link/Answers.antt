@@ -4,7 +4,8 @@ use Rattle.std.proofs.lemmas.List.{length-set, map-append}
 use Rattle.olap_records.proofs.Seeing.{see-more}
 use Rattle.olap_instance.specs.InstanceText.{piece_fault, pieces_of}
 use Rattle.olap_instance.specs.Passes.{ids_in, numbers_of, pieces_left}
-use Rattle.olap_instance.proofs.PiecesLeft.{passed-all, places-more, smaller}
+use Rattle.olap_base.proofs.PiecesLeft.{smaller}
+use Rattle.olap_instance.proofs.PiecesPassed.{passed-all, places-more}
 use Rattle.olap_instance.proofs.Stamps.{below-more, stamped-more}
 use Rattle.olap_instance.proofs.linking.link.Goals as goal
 

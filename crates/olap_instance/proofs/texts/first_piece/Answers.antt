@@ -1,7 +1,7 @@
 -- A piece ends at the first semicolon, or with the text.
 use Rattle.std.proofs.Common.{◌==◌, ◌+◌, ◌∙◌, sym}
 use Rattle.olap_base.proofs.Writing.{rest_is}
-use Rattle.olap_instance.proofs.PiecesLeft.{split-none, split-some}
+use Rattle.olap_base.proofs.PiecesLeft.{split-none, split-some}
 use Rattle.olap_instance.proofs.texts.first_piece.Goals as goal
 
 pub returns-in-Some-clause-pieces : goal.returns-in-Some-clause-pieces

@@ -3,7 +3,7 @@ use Rattle.std.proofs.Common.{◌≡◌}
 use Rattle.std.specs.List.{list_all}
 use Rattle.olap_grammar.specs.Known.{graph_seen}
 use Rattle.olap_grammar.specs.Words.{pieces_behind}
-use Rattle.olap_grammar.proofs.PartLemmas.{size_left}
+use Rattle.olap_base.proofs.PiecesLeft.{size_left}
 use Rattle.olap_schema.specs.Atoms.{is_known}
 use Rattle.olap_schema.proofs.atoms.is_path_known.Given as goal
 

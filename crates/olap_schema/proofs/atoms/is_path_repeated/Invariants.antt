@@ -1,7 +1,7 @@
 -- Of the names so far, none comes twice.
 use Rattle.std.proofs.Common.{◌≡◌, ◌++◌, false}
 use Rattle.olap_grammar.specs.Words.{pieces_behind, pieces_of}
-use Rattle.olap_grammar.proofs.PartLemmas.{size_left}
+use Rattle.olap_base.proofs.PiecesLeft.{size_left}
 use Rattle.olap_schema.specs.Atoms.{is_repeated}
 use Rattle.olap_schema.proofs.atoms.is_path_repeated.Given as goal
 

@@ -1,8 +1,7 @@
--- A word that is cut at its marks, part by part.
---     split-none     a word without a mark is one part
---     split-some     the first part ends at the first mark, and the others stand behind it
---     size_left      how much is left, where an empty part counts too
---     no_name, name_more     what the parts so far have given
+-- A text that is cut at its marks, piece by piece.
+--     split-none     a text without a mark is one piece
+--     split-some     the first piece ends at the first mark, and the others stand behind it
+--     size_left      how much is left, where an empty piece counts too
 use Rattle.std.proofs.Common.{◌≡◌, ◌+◌, ◌<◌, ◌∷◌, ◌∙◌, Bool, true, false, Bor, ℕ, List, [], cond, length, take, drop, nat_lt, Option, Some, None, IfSome, refl, ap, arith}
 use Rattle.std.specs.List.{after_first, before_first, onto_first, position, position_or_len, slice_split}
 use Rattle.std.proofs.lemmas.Bool.{le-ltb, ltb-false, ltb-true}

@@ -1,0 +1,28 @@
+-- What the pieces of a field so far have given.
+--     places-more     one piece more
+--     passed-all      all of them
+use Rattle.std.proofs.Common.{◌≡◌, ◌++◌, ◌∷◌, ◌∙◌, ℕ, List, [], map, Some, sym, ap}
+use Rattle.std.specs.Option.{option_map}
+use Rattle.std.proofs.lemmas.List.{map-append}
+use Rattle.olap_base.specs.Naming.{place_of}
+use Rattle.olap_records.proofs.Seeing.{HasSeen, see-all}
+use Rattle.olap_instance.specs.InstanceText.{piece_fault}
+use Rattle.olap_instance.specs.Passes.{AreParents}
+use Rattle.olap_instance.specs.declared.refusals.InstanceKind.{InstanceKind}
+use Rattle.olap_instance.proofs.PieceLemmas.{places-read}
+
+-- one piece more names a member
+pub places-more : (ids before : List (List ℕ)) (piece : List ℕ) (found now : List ℕ) (m : ℕ)
+    → map (λ p. place_of p ids) before ≡ map Some found → place_of piece ids ≡ Some m → now ≡ found ++ m ∷ []
+    → map (λ p. place_of p ids) (before ++ piece ∷ []) ≡ map Some now
+places-more ids before piece found now m h ep en =
+    map-append (λ p. place_of p ids) before (piece ∷ []) ∙ rw (h, ep, en) (sym (map-append Some found (m ∷ [])))
+
+-- where all pieces have passed, the members that they name are the parents
+pub passed-all : (ids ps before left : List (List ℕ)) (found : List ℕ) → HasSeen (piece_fault ids) ps before left
+    → left ≡ [] → map (λ p. place_of p ids) before ≡ map Some found → AreParents ids ps found
+passed-all ids ps before left found seen none h =
+    let all = see-all (piece_fault ids) ps before left seen none in (
+      ap (option_map (λ (p : ℕ × InstanceKind). p.1)) all.1,
+      places-read ids ps found (rw all.0 h),
+    )
