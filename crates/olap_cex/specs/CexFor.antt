@@ -7,7 +7,7 @@ use Rattle.std.specs.Option.{option_map}
 use Rattle.olap_base.specs.Graph.{Graph}
 use Rattle.olap_base.specs.Instance.{category_of}
 use Rattle.olap_bits.specs.declared.sets.CatSet.{CatSet}
-use Rattle.olap_frozen.specs.Rows.{Has}
+use Rattle.olap_graph.specs.Rows.{Has}
 use Rattle.olap_frozen.specs.declared.founding.Found.{Found}
 use Rattle.olap_instance.specs.Made.{IsMadeFor}
 use Rattle.olap_instance.specs.Printing.{text_of_instance}

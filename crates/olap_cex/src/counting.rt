@@ -6,7 +6,7 @@ ghost use Rattle.olap_base.specs.Instance.{ReachesVia};
 ghost use Rattle.olap_base.specs.OneFact.{HoldsTimes};
 ghost use Rattle.olap_cex.specs.CexFor.{IsWay};
 ghost use Rattle.olap_cex.specs.FoundFor.{IsFoundFor, found_instance, found_place};
-ghost use Rattle.olap_frozen.specs.Rows.{row};
+ghost use Rattle.olap_graph.specs.Rows.{row};
 
 use olap_base::{CatId, Memory};
 use olap_bits::CatSet;

@@ -18,7 +18,8 @@ use Rattle.olap_graph.specs.Lookups.{edge_between}
 use Rattle.olap_names.specs.Names.{Named, candidates_of, name_at, with_graph}
 use Rattle.olap_frozen.specs.Chosen.{AreNames, IsChoice, IsMet, IsSound}
 use Rattle.olap_frozen.specs.Leaves.{AreAbsentZero, IsLeaf, IsSized, chosen_of, leaf_instance, leaf_place, leaf_present, of_declared}
-use Rattle.olap_frozen.specs.Rows.{AreRows, row}
+use Rattle.olap_graph.specs.Rows.{row}
+use Rattle.olap_frozen.specs.Rows.{AreRows}
 use Rattle.olap_frozen.proofs.ChosenInstance as made
 use Rattle.olap_frozen.proofs.ChosenLemmas.{bit_joins, choice_of, no_edge_joins}
 use Rattle.olap_frozen.proofs.RowLemmas.{has_steps}

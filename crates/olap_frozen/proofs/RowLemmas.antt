@@ -1,77 +1,21 @@
 -- Rows of bits, step by step, and what they hold in the end.
-use Rattle.std.proofs.Common.{◌≡◌, ℕ, suc, ◌+◌, ◌<◌, ◌≤◌, List, length, get_or, set, map, Bool, true, false, refl, ap, sym, subst, ◌∙◌, ◌↔◌, ◌⊎◌, inl, inr, arith, eqb, eqb-true, eq-eqb}
+use Rattle.std.proofs.Common.{◌≡◌, ℕ, suc, ◌+◌, ◌<◌, ◌≤◌, List, length, get_or, set, Bool, true, false, refl, ap, sym, subst, ◌∙◌, ◌↔◌, ◌⊎◌, inl, inr, arith}
 use Rattle.std.specs.Prelude.{◌≢◌}
-use Rattle.std.specs.Cmp.{nat_cmp_total}
-use Rattle.std.specs.FinSet.{FinSet, contains, empty, insert, union, contains-empty, contains-union}
+use Rattle.std.specs.FinSet.{contains, empty, insert, union, contains-empty}
 use Rattle.std.specs.Ordering.{nat_cmp}
-use Rattle.std.proofs.lemmas.List.{get_or-map, length-map, map-set, get_or-set_same, get_or-set_other}
 use Rattle.olap_base.specs.Deciding.{Through, through_from_Steps, Steps-from_through}
 use Rattle.olap_base.specs.Reaching.{category_reaches, category_reaches_is}
 use Rattle.olap_base.specs.Graph.{Graph, Edge, IsHierarchy, category_count}
 use Rattle.olap_base.specs.Steps.{Steps, Steps-from_reaches, reaches_from_Steps}
 use Rattle.olap_ast.specs.Frozen.{chosen}
-use Rattle.olap_ast.proofs.Shape.{either_true, left_true, right_true}
 use Rattle.olap_bits.specs.Sets.{members}
 use Rattle.olap_bits.specs.declared.sets.CatSet.{CatSet}
-use Rattle.olap_bits.proofs.CatSetLemmas.{in_insert}
 use Rattle.olap_graph.specs.Lookups.{edge_at}
+use Rattle.olap_graph.specs.Rows.{Has, Passes, row}
+use Rattle.olap_graph.proofs.RowLemmas.{has_at, has_insert, has_union, newest, row_other, row_same, same_or_not}
 use Rattle.olap_frozen.specs.Chosen.{Joins}
-use Rattle.olap_frozen.specs.Rows.{AreDrawn, AreRows, Has, JoinsBefore, Passes, row, with_edges}
+use Rattle.olap_frozen.specs.Rows.{AreDrawn, AreRows, JoinsBefore, with_edges}
 use Rattle.olap_frozen.proofs.ChosenLemmas.{chosen_within, joins_before}
-
-abbrev numbers : CatSet 1 → FinSet nat_cmp
-numbers s = members s
-
--- ---- one row
-
-inside : (rows : List (CatSet 1)) (c : ℕ) → c < length rows → c < length (map numbers rows)
-inside rows c h = let e = length-map rows numbers in omega (arith, e)
-
-pub row_same : (rows : List (CatSet 1)) (c : ℕ) (x : CatSet 1) → c < length rows → row (set rows c x) c ≡ members x
-row_same rows c x h = ap (λ l. get_or l c empty) (map-set numbers rows c x)
-    ∙ get_or-set_same (map numbers rows) c (numbers x) empty (inside rows c h)
-
-pub row_other : (rows : List (CatSet 1)) (c d : ℕ) (x : CatSet 1) → d ≢ c → row (set rows c x) d ≡ row rows d
-row_other rows c d x n = ap (λ l. get_or l d empty) (map-set numbers rows c x)
-    ∙ get_or-set_other (map numbers rows) c d (numbers x) empty n
-
-pub row_read : (rows : List (CatSet 1)) (c : ℕ) (x : CatSet 1) → c < length rows → x ≡ get_or rows c x
-    → members x ≡ row rows c
-row_read rows c x h e = ap numbers e ∙ sym (get_or-map numbers rows c x empty h)
-
-pub row_at : (rows : List (CatSet 1)) (c : ℕ) (x : CatSet 1) → c < length rows → members (get_or rows c x) ≡ row rows c
-row_at rows c x h = sym (get_or-map numbers rows c x empty h)
-
-has_insert : (s : FinSet nat_cmp) (k q : ℕ) → (contains (insert s k) q ≡ true) ↔ ((k ≡ q) ⊎ (contains s q ≡ true))
-has_insert s k q = (
-  λ e. elim (either_true (eqb q k) (contains s q) (sym (in_insert s k q) ∙ e)) [
-    | inl a ↦ inl (sym (eqb-true q k a))
-    | inr b ↦ inr b
-  ],
-  λ t. in_insert s k q ∙ elim t [
-    | inl e ↦ left_true (eqb q k) (contains s q) (eq-eqb q k (sym e))
-    | inr b ↦ right_true (eqb q k) (contains s q) b
-  ],
-)
-
-has_union : (s t : FinSet nat_cmp) (q : ℕ)
-    → (contains (union s t) q ≡ true) ↔ ((contains s q ≡ true) ⊎ (contains t q ≡ true))
-has_union s t q = (
-  λ e. either_true (contains s q) (contains t q) (sym (contains-union nat_cmp_total s t q) ∙ e),
-  λ o. contains-union nat_cmp_total s t q ∙ elim o [
-    | inl a ↦ left_true (contains s q) (contains t q) a
-    | inr b ↦ right_true (contains s q) (contains t q) b
-  ],
-)
-
-newest : (a c : ℕ) → a < c + 1 → (a ≢ c) × (a < c) ⊎ (a ≡ c)
-newest a c h = grind arith
-
-same_or_not : (a c : ℕ) → (a ≡ c) ⊎ (a ≢ c)
-same_or_not a c = grind arith
-
-has_at : (s t : FinSet nat_cmp) (q : ℕ) (P : Type 0) → s ≡ t → (contains t q ≡ true) ↔ P → (contains s q ≡ true) ↔ P
-has_at s t q P e i = (λ h. i.0 (ap (λ u. contains u q) (sym e) ∙ h), λ p. ap (λ u. contains u q) e ∙ i.1 p)
 
 -- ---- each row alone
 

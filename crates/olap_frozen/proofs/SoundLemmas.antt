@@ -11,7 +11,8 @@ use Rattle.olap_ast.proofs.Shape.{last_step}
 use Rattle.olap_bits.specs.declared.sets.CatSet.{CatSet}
 use Rattle.olap_graph.specs.Lookups.{edge_at}
 use Rattle.olap_frozen.specs.Chosen.{IsChoice, IsSound, Joins}
-use Rattle.olap_frozen.specs.Rows.{AreRows, Fits, Has, ReachAll, row}
+use Rattle.olap_graph.specs.Rows.{Has, row}
+use Rattle.olap_frozen.specs.Rows.{AreRows, Fits, ReachAll}
 use Rattle.olap_frozen.proofs.ChosenInstance as made
 use Rattle.olap_frozen.proofs.ChosenLemmas.{choice_of, joins_before}
 use Rattle.olap_frozen.proofs.RowLemmas.{has_steps}

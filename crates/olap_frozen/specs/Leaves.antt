@@ -10,7 +10,8 @@ use Rattle.olap_base.specs.Instance.{Instance}
 use Rattle.olap_bits.specs.declared.sets.CatSet.{CatSet}
 use Rattle.olap_names.specs.Names.{Named, candidates_of}
 use Rattle.olap_frozen.specs.Chosen.{place_of}
-use Rattle.olap_frozen.specs.Rows.{AreRows, row}
+use Rattle.olap_graph.specs.Rows.{row}
+use Rattle.olap_frozen.specs.Rows.{AreRows}
 
 -- the entries of the declared categories
 abbrev pub of_declared : List ℕ → List ℕ

@@ -1,22 +1,13 @@
 -- Rows of bits, one for each category: what it reaches by chosen edges.
---     Has            a row has a number
 --     JoinsBefore    one of the first k edges is chosen, and leads from c to d
 --     AreRows        each row has what its category reaches
-use Rattle.std.specs.Prelude.{◌≡◌, ◌≢◌, ◌<◌, ◌⊎◌, ◌↔◌, ℕ, List, Bool, true, false, length, map, slice_index_or}
+use Rattle.std.specs.Prelude.{◌≡◌, ◌≢◌, ◌<◌, ◌⊎◌, ◌↔◌, ℕ, List, Bool, true, false, length, slice_index_or}
 use Rattle.std.specs.FinSet as set
-use Rattle.std.specs.Ordering.{nat_cmp}
 use Rattle.olap_base.specs.Reaching.{category_reaches}
 use Rattle.olap_base.specs.Graph.{Graph, Edge, category_count}
-use Rattle.olap_bits.specs.Sets.{members}
 use Rattle.olap_bits.specs.declared.sets.CatSet.{CatSet}
 use Rattle.olap_graph.specs.Lookups.{edge_at}
-
--- the numbers of a row
-abbrev pub row : List (CatSet 1) → ℕ → set.FinSet nat_cmp
-row rows c = slice_index_or (map members rows) c set.empty
-
-abbrev pub Has : List (CatSet 1) → ℕ → ℕ → Type 0
-Has rows c d = set.contains (row rows c) d ≡ true
+use Rattle.olap_graph.specs.Rows.{Has, row}
 
 -- one of the first k edges is chosen, and leads from c to d
 abbrev pub JoinsBefore : Graph → List Bool → ℕ → ℕ → ℕ → Type 0
@@ -26,10 +17,6 @@ JoinsBefore g bits k c d = (i : ℕ) × (i < k) × (slice_index_or bits i false 
 -- each row has its own number, and the parents by the chosen ones of the first k edges
 abbrev pub AreDrawn : Graph → List Bool → ℕ → List (CatSet 1) → Type 0
 AreDrawn g bits k rows = (c d : ℕ) → c < category_count g → Has rows c d ↔ ((c ≡ d) ⊎ JoinsBefore g bits k c d)
-
--- c's row has d, or has k, whose row has d
-abbrev pub Passes : List (CatSet 1) → ℕ → ℕ → ℕ → Type 0
-Passes rows k c d = Has rows c d ⊎ (Has rows c k × Has rows k d)
 
 -- the graph with these edges alone
 abbrev pub with_edges : Graph → List Edge → Graph

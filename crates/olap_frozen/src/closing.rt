@@ -3,7 +3,8 @@ ghost use Rattle.std.specs.Prelude.{◌≡◌, ◌<◌, ◌≤◌, ◌⊎◌, �
 ghost use Rattle.olap_ast.specs.Frozen.{chosen};
 ghost use Rattle.olap_base.specs.Limits.{most_categories};
 ghost use Rattle.olap_base.specs.Graph.{IsHierarchy, category_count};
-ghost use Rattle.olap_frozen.specs.Rows.{AreDrawn, AreRows, Has, Passes, row};
+ghost use Rattle.olap_graph.specs.Rows.{Has, Passes, row};
+ghost use Rattle.olap_frozen.specs.Rows.{AreDrawn, AreRows};
 ghost use Rattle.std.specs.FinSet as set;
 
 use olap_base::EdgeId;

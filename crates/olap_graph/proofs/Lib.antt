@@ -3,5 +3,5 @@ pub mod PlaceLemmas
 pub mod GrowthLemmas
 pub mod MarkLemmas
 mod TableLemmas
-mod RowLemmas
+pub mod RowLemmas
 mod EdgeLemmas

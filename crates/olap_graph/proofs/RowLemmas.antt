@@ -22,10 +22,10 @@ use Rattle.olap_graph.proofs.TableLemmas.{edge_at-drawn, has_edge_at, nowhere, p
 
 -- ---- one set
 
-newest : (a c : ℕ) → a < c + 1 → (a ≢ c) × (a < c) ⊎ (a ≡ c)
+pub newest : (a c : ℕ) → a < c + 1 → (a ≢ c) × (a < c) ⊎ (a ≡ c)
 newest a c h = grind arith
 
-same_or_not : (a c : ℕ) → (a ≡ c) ⊎ (a ≢ c)
+pub same_or_not : (a c : ℕ) → (a ≡ c) ⊎ (a ≢ c)
 same_or_not a c = grind arith
 
 module _ {W : ℕ} (rows : List (CatSet W)) where
@@ -46,7 +46,7 @@ module _ {W : ℕ} (rows : List (CatSet W)) where
   pub row_read : (c : ℕ) (x : CatSet W) → c < length rows → x ≡ get_or rows c x → members x ≡ row rows c
   row_read c x h e = ap members e ∙ row_at c x h
 
-has_insert : (s : FinSet nat_cmp) (k q : ℕ) → (contains (insert s k) q ≡ true) ↔ ((k ≡ q) ⊎ (contains s q ≡ true))
+pub has_insert : (s : FinSet nat_cmp) (k q : ℕ) → (contains (insert s k) q ≡ true) ↔ ((k ≡ q) ⊎ (contains s q ≡ true))
 has_insert s k q = (
   λ e. elim (or_cases (eqb q k) (contains s q) (sym (in_insert s k q) ∙ e)) [
     | inl a ↦ inl (sym (eqb-true q k a))
@@ -58,7 +58,7 @@ has_insert s k q = (
   ],
 )
 
-has_union : (s t : FinSet nat_cmp) (q : ℕ)
+pub has_union : (s t : FinSet nat_cmp) (q : ℕ)
     → (contains (union s t) q ≡ true) ↔ ((contains s q ≡ true) ⊎ (contains t q ≡ true))
 has_union s t q = (
   λ e. or_cases (contains s q) (contains t q) (sym (contains-union nat_cmp_total s t q) ∙ e),
@@ -68,7 +68,7 @@ has_union s t q = (
   ],
 )
 
-has_at : (s t : FinSet nat_cmp) (q : ℕ) (P : Type 0) → s ≡ t → (contains t q ≡ true) ↔ P → (contains s q ≡ true) ↔ P
+pub has_at : (s t : FinSet nat_cmp) (q : ℕ) (P : Type 0) → s ≡ t → (contains t q ≡ true) ↔ P → (contains s q ≡ true) ↔ P
 has_at s t q P e i = (λ h. i.0 (ap (λ u. contains u q) (sym e) ∙ h), λ p. ap (λ u. contains u q) e ∙ i.1 p)
 
 -- the sets so far have a number, and so has the next

@@ -23,10 +23,13 @@ use Rattle.olap_plain.specs.Plain.{instance_of, member_of, fact_of, facts_of, ex
 use Rattle.olap_plain.specs.declared.viewing.PlainRow.{PlainRow}
 use Rattle.olap_plain.specs.declared.viewing.PlainMember.{PlainMember}
 
-pub below_is : (ms : List PlainMember) (x y : ℕ) (m : PlainMember) (ps : List ℕ) (r : Bool) → x < length ms → m ≡ get_or ms x m → ps ≡ m.parents.items → IsAnyAnswer (λ z b. eqb z y ≡ b) ps r → IsTrue r ↔ IsBelow (instance_of ms) x y
+pub below_is : (ms : List PlainMember) (x y : ℕ) (m : PlainMember) (ps : List ℕ) (r : Bool) → x < length ms
+    → m ≡ get_or ms x m → ps ≡ m.parents.items → IsAnyAnswer (λ z b. eqb z y ≡ b) ps r
+    → IsTrue r ↔ IsBelow (instance_of ms) x y
 below_is ms x y m ps r h e q a =
     let d : Decides r (Contains ps y) = Decides-contains ps y r (contains_decides eqb Decides-eqb ps y r a) in
-    let p : ps ≡ parents_of (instance_of ms) x = q ∙ ap (λ (k : PlainMember). k.parents.items) e ∙ sym (ap (λ k. k.parents) (get_or-map member_of ms x m nobody h)) in
+    let p : ps ≡ parents_of (instance_of ms) x = q ∙ ap (λ (k : PlainMember). k.parents.items) e
+        ∙ sym (ap (λ k. k.parents) (get_or-map member_of ms x m nobody h)) in
     (λ t. subst (λ us. Contains us y) p (d.0 t), λ t. d.1 (subst (λ us. Contains us y) (sym p) t))
 
 module _ (R : ℕ → ℕ → Type 0) (k x y : ℕ) where
@@ -49,10 +52,12 @@ module _ (R : ℕ → ℕ → Type 0) (k x y : ℕ) where
 pub refuted : {P : Type 0} (r : Bool) → r ≡ false → IsTrue r ↔ P → P → ⊥
 refuted r e d p = let z : false ≡ true = sym e ∙ d.1 p in cc
 
-pub reaches_by_through : (i : Instance) (n : ℕ) (x y : ℕ) (r : Bool) → n ≡ length i → IsTrue r ↔ Through (IsBelow i) n x y → IsTrue r ↔ Reaches i x y
+pub reaches_by_through : (i : Instance) (n : ℕ) (x y : ℕ) (r : Bool) → n ≡ length i
+    → IsTrue r ↔ Through (IsBelow i) n x y → IsTrue r ↔ Reaches i x y
 reaches_by_through i n x y r e d = (
   λ t. reaches_from_Steps (Steps-from_through (IsBelow i) n x y (d.0 t)),
-  λ t. d.1 (subst (λ k. Through (IsBelow i) k x y) (sym e) (through_from_Steps (IsBelow i) (length i) (below_is_member i) (Steps-from_reaches t))),
+  λ t. d.1 (subst (λ k. Through (IsBelow i) k x y) (sym e)
+      (through_from_Steps (IsBelow i) (length i) (below_is_member i) (Steps-from_reaches t))),
 )
 
 -- ---- one more fact
@@ -66,14 +71,16 @@ map-append f [] ys = refl
 map-append f (x ∷ xs) ys = ap (λ t. f x ∷ t) (map-append f xs ys)
 
 direct_row_push : (y : ℕ) (vs : List ℤ) (v : ℤ) → value_row y (vs ++ v ∷ []) ≡ Some (extended y (value_row y vs) v)
-direct_row_push y vs v = ap (row_at y) (ap total (map-append of_value vs (v ∷ [])) ∙ total_push (map of_value vs) (of_value v))
+direct_row_push y vs v =
+    ap (row_at y) (ap total (map-append of_value vs (v ∷ [])) ∙ total_push (map of_value vs) (of_value v))
     ∙ go (total (map of_value vs))
   where
     go : (o : Option Summary) → row_at y (o ⊕ Some (of_value v)) ≡ Some (extended y (row_at y o) v)
     go None = refl
     go (Some s) = refl
 
-values_push : (i : Instance) (fs : List Fact) (f : Fact) (y : ℕ) → values_at i (fs ++ f ∷ []) y ≡ values_at i fs y ++ cond (reaches i f.member y) (f.value ∷ []) []
+values_push : (i : Instance) (fs : List Fact) (f : Fact) (y : ℕ)
+    → values_at i (fs ++ f ∷ []) y ≡ values_at i fs y ++ cond (reaches i f.member y) (f.value ∷ []) []
 values_push i fs f y = ap (map (λ (g : Fact). g.value)) (filter-append (λ g. reaches i g.member y) fs (f ∷ []))
     ∙ map-append (λ (g : Fact). g.value) (filter (λ g. reaches i g.member y) fs) (filter (λ g. reaches i g.member y) (f ∷ []))
     ∙ ap (λ t. map (λ (g : Fact). g.value) (filter (λ g. reaches i g.member y) fs) ++ t) (last (reaches i f.member y))
@@ -88,20 +95,25 @@ row_after y true o v = Some (extended y o v)
 row_after y false o v = o
 
 pub row_step : (i : Instance) (facts : List PlainFact) (k y : ℕ) (d : PlainFact) → k < length facts
-    → row_at y (total_of_facts i (facts_of (take (k + 1) facts)) y) ≡ row_after y (reaches i (get_or facts k d).member y) (row_at y (total_of_facts i (facts_of (take k facts)) y)) (get_or facts k d).value
+    → row_at y (total_of_facts i (facts_of (take (k + 1) facts)) y)
+    ≡ row_after y (reaches i (get_or facts k d).member y) (row_at y (total_of_facts i (facts_of (take k facts)) y))
+        (get_or facts k d).value
 row_step i facts k y d h = ap (λ fs. row_at y (total_of_facts i (facts_of fs) y)) (take_more facts k d h)
     ∙ ap (λ fs. row_at y (total_of_facts i fs y)) (map-append fact_of (take k facts) (get_or facts k d ∷ []))
     ∙ ap (value_row y) (values_push i (facts_of (take k facts)) (fact_of (get_or facts k d)) y)
     ∙ go (reaches i (get_or facts k d).member y)
   where
-    go : (b : Bool) → value_row y (values_at i (facts_of (take k facts)) y ++ cond b ((get_or facts k d).value ∷ []) []) ≡ row_after y b (row_at y (total_of_facts i (facts_of (take k facts)) y)) (get_or facts k d).value
+    go : (b : Bool)
+        → value_row y (values_at i (facts_of (take k facts)) y ++ cond b ((get_or facts k d).value ∷ []) [])
+        ≡ row_after y b (row_at y (total_of_facts i (facts_of (take k facts)) y)) (get_or facts k d).value
     go true = direct_row_push y (values_at i (facts_of (take k facts)) y) (get_or facts k d).value
     go false = ap (value_row y) (append-nil (values_at i (facts_of (take k facts)) y))
 
 pub test_of : (i : Instance) (x y : ℕ) (r b : Bool) → IsTrue r ↔ Reaches i x y → r ≡ b → reaches i x y ≡ b
 test_of i x y r b d e = one_answer (reaches i x y) r (reaches_is i x y) d ∙ e
 
-pub count_step : (y : ℕ) (o : Option PlainRow) (v : ℤ) (r : PlainRow) (n : ℕ) → IfSome o (λ q. (q.count ≤ n) × IsBounded q.sum q.count) → row_of r ≡ extended y (as_row o) v → r.count ≤ n + 1
+pub count_step : (y : ℕ) (o : Option PlainRow) (v : ℤ) (r : PlainRow) (n : ℕ)
+    → IfSome o (λ q. (q.count ≤ n) × IsBounded q.sum q.count) → row_of r ≡ extended y (as_row o) v → r.count ≤ n + 1
 count_step y None v r n h e = let c : r.count ≡ 1 = ap (λ q. q.summary.count) e in omega arith
 count_step y (Some q) v r n h e = let c : r.count ≡ q.count + 1 = ap (λ q. q.summary.count) e in omega (arith, h.0)
 
@@ -109,13 +121,17 @@ count_step y (Some q) v r n h e = let c : r.count ≡ q.count + 1 = ap (λ q. q.
 
 range_more : (a n : ℕ) → range_with_len a (suc n) ≡ range_with_len a n ++ (a + n) ∷ []
 range_more a zero = let e : a ≡ a + 0 = omega arith in ap (λ k. k ∷ []) e
-range_more a (suc n) = let e : (a + 1) + n ≡ a + suc n = omega arith in ap (λ t. a ∷ t) (range_more (a + 1) n ∙ ap (λ k. range_with_len (a + 1) n ++ k ∷ []) e)
+range_more a (suc n) =
+    let e : (a + 1) + n ≡ a + suc n = omega arith in
+    ap (λ t. a ∷ t) (range_more (a + 1) n ∙ ap (λ k. range_with_len (a + 1) n ++ k ∷ []) e)
 
-filter_map-append : {A B : Type 0} (h : A → Option B) (xs ys : List A) → filter_map h (xs ++ ys) ≡ filter_map h xs ++ filter_map h ys
+filter_map-append : {A B : Type 0} (h : A → Option B) (xs ys : List A)
+    → filter_map h (xs ++ ys) ≡ filter_map h xs ++ filter_map h ys
 filter_map-append h [] ys = refl
 filter_map-append {A} {B} h (x ∷ xs) ys = ap (cons_option (h x)) (filter_map-append h xs ys) ∙ go (h x)
   where
-    go : (o : Option B) → cons_option o (filter_map h xs ++ filter_map h ys) ≡ cons_option o (filter_map h xs) ++ filter_map h ys
+    go : (o : Option B)
+        → cons_option o (filter_map h xs ++ filter_map h ys) ≡ cons_option o (filter_map h xs) ++ filter_map h ys
     go None = refl
     go (Some y) = refl
 
@@ -125,20 +141,26 @@ rows_after rows false o = rows
 rows_after rows true None = rows
 rows_after rows true (Some r) = rows ++ r ∷ []
 
-pub rows_step : (h : ℕ → Option Row) (p : ℕ → Bool) (y : ℕ) (b : Bool) (o : Option Row) (rows : List Row) → rows ≡ filter_map h (filter p (range_with_len 0 y)) → p y ≡ b → o ≡ h y
+pub rows_step : (h : ℕ → Option Row) (p : ℕ → Bool) (y : ℕ) (b : Bool) (o : Option Row) (rows : List Row)
+    → rows ≡ filter_map h (filter p (range_with_len 0 y)) → p y ≡ b → o ≡ h y
     → rows_after rows b o ≡ filter_map h (filter p (range_with_len 0 (y + 1)))
 rows_step h p y b o rows e t q =
     let z : 0 + y ≡ y = omega arith in
     let n : y + 1 ≡ suc y = omega arith in
-    go b o t q ∙ sym (ap (λ k. filter_map h (filter p (range_with_len 0 k))) n ∙ ap (λ l. filter_map h (filter p l)) (range_more 0 y ∙ ap (λ k. range_with_len 0 y ++ k ∷ []) z)
-    ∙ ap (filter_map h) (filter-append p (range_with_len 0 y) (y ∷ [])) ∙ filter_map-append h (filter p (range_with_len 0 y)) (filter p (y ∷ [])) ∙ ap (λ l. l ++ filter_map h (filter p (y ∷ []))) (sym e))
+    go b o t q ∙ sym (ap (λ k. filter_map h (filter p (range_with_len 0 k))) n
+    ∙ ap (λ l. filter_map h (filter p l)) (range_more 0 y ∙ ap (λ k. range_with_len 0 y ++ k ∷ []) z)
+    ∙ ap (filter_map h) (filter-append p (range_with_len 0 y) (y ∷ []))
+    ∙ filter_map-append h (filter p (range_with_len 0 y)) (filter p (y ∷ []))
+    ∙ ap (λ l. l ++ filter_map h (filter p (y ∷ []))) (sym e))
   where
-    go : (b : Bool) (o : Option Row) → p y ≡ b → o ≡ h y → rows_after rows b o ≡ rows ++ filter_map h (cond (p y) (y ∷ []) [])
+    go : (b : Bool) (o : Option Row) → p y ≡ b → o ≡ h y
+        → rows_after rows b o ≡ rows ++ filter_map h (cond (p y) (y ∷ []) [])
     go false o t q = rw t (sym (append-nil rows))
     go true None t q = rw (t, ← q) (sym (append-nil rows))
     go true (Some r) t q = rw (t, ← q) refl
 
-pub category_is : (ms : List PlainMember) (y : ℕ) (d : PlainMember) → y < length ms → category_of (instance_of ms) y ≡ (get_or ms y d).category
+pub category_is : (ms : List PlainMember) (y : ℕ) (d : PlainMember) → y < length ms
+    → category_of (instance_of ms) y ≡ (get_or ms y d).category
 category_is ms y d h = ap (λ k. k.category) (get_or-map member_of ms y d nobody h)
 
 pub passes : (a b c : ℕ) → a ≡ b → b ≡ c → (a == c) ≡ true

@@ -18,7 +18,7 @@ use Rattle.olap_frozen.proofs.ChosenInstance.{sound_of_frozen}
 use Rattle.olap_frozen.proofs.ChosenLemmas.{choice_of}
 use Rattle.olap_frozen.specs.Chosen.{IsSound}
 use Rattle.olap_frozen.specs.Leaves.{AreAbsentZero, IsSized, chosen_of, of_declared}
-use Rattle.olap_frozen.specs.Rows.{row}
+use Rattle.olap_graph.specs.Rows.{row}
 use Rattle.olap_plain.specs.Searching.{AreFirstNames, NoneWith, code_of}
 
 -- ---- names

@@ -1,8 +1,8 @@
 -- The row is the one at the category's place.
 use Rattle.std.proofs.Common.{ap, ◌∙◌, arith}
 use Rattle.std.specs.FinSet as set
-use Rattle.olap_frozen.proofs.RowLemmas.{row_read}
-use Rattle.olap_frozen.specs.Rows.{row}
+use Rattle.olap_graph.proofs.RowLemmas.{row_read}
+use Rattle.olap_graph.specs.Rows.{row}
 use Rattle.olap_cex.proofs.counting.has.Goals as goal
 
 pub returns : goal.returns

@@ -1,7 +1,8 @@
 use Rattle.std.proofs.Common.{◌≡◌, ◌+◌, ap, sym, subst, ◌∙◌, arith, get_or, false}
 use Rattle.std.specs.FinSet.{insert}
 use Rattle.olap_frozen.specs.Rows.{AreDrawn}
-use Rattle.olap_frozen.proofs.RowLemmas.{draw_more, draw_skip, row_read}
+use Rattle.olap_graph.proofs.RowLemmas.{row_read}
+use Rattle.olap_frozen.proofs.RowLemmas.{draw_more, draw_skip}
 use Rattle.olap_frozen.proofs.closing.draw.Goals as goal
 use Rattle.olap_frozen.proofs.closing.draw.Goals.{then-edges-from, else-edges-from}
 

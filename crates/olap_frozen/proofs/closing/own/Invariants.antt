@@ -1,5 +1,5 @@
 use Rattle.std.proofs.Common.{◌≡◌, ◌<◌, ◌↔◌, ℕ}
-use Rattle.olap_frozen.specs.Rows.{Has}
+use Rattle.olap_graph.specs.Rows.{Has}
 use Rattle.olap_frozen.proofs.closing.own.Given as goal
 
 abbrev pub invariant-categories : goal.invariant-categories

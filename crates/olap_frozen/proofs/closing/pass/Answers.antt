@@ -1,8 +1,9 @@
 use Rattle.std.proofs.Common.{◌+◌, ap, sym, subst, ◌∙◌, arith}
 use Rattle.std.specs.FinSet.{union}
 use Rattle.olap_bits.specs.Sets.{members}
-use Rattle.olap_frozen.specs.Rows.{row}
-use Rattle.olap_frozen.proofs.RowLemmas.{IsPassing, pass_more, pass_skip, row_read}
+use Rattle.olap_graph.specs.Rows.{row}
+use Rattle.olap_graph.proofs.RowLemmas.{row_read}
+use Rattle.olap_frozen.proofs.RowLemmas.{IsPassing, pass_more, pass_skip}
 use Rattle.olap_frozen.proofs.closing.pass.Goals as goal
 use Rattle.olap_frozen.proofs.closing.pass.Goals.{then-row_has, else-row_has}
 

@@ -1,7 +1,7 @@
 use Rattle.std.proofs.Common.{ap, ◌∙◌, arith}
 use Rattle.std.specs.FinSet as set
-use Rattle.olap_frozen.proofs.RowLemmas.{row_read}
-use Rattle.olap_frozen.specs.Rows.{row}
+use Rattle.olap_graph.proofs.RowLemmas.{row_read}
+use Rattle.olap_graph.specs.Rows.{row}
 use Rattle.olap_frozen.proofs.closing.row_has.Goals as goal
 
 pub returns : goal.returns

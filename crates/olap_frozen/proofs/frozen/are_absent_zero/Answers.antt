@@ -1,7 +1,7 @@
 use Rattle.std.proofs.Common.{◌≡◌, ◌<◌, ◌+◌, ◌⊎◌, ℕ, true, false, inl, inr, ap, sym, ◌∙◌, arith}
 use Rattle.std.specs.Prelude.{slice_index}
 use Rattle.std.specs.FinSet as set
-use Rattle.olap_frozen.specs.Rows.{row}
+use Rattle.olap_graph.specs.Rows.{row}
 use Rattle.olap_frozen.proofs.SoundLemmas.{present_is}
 use Rattle.olap_frozen.proofs.frozen.are_absent_zero.Goals as goal
 use Rattle.olap_frozen.proofs.frozen.are_absent_zero.Goals.{else-not-row_has-via-then-not-row_has+else-names-from-ne0, else-not-row_has-via-else-not-row_has}

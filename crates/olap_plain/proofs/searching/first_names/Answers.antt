@@ -4,8 +4,8 @@ use Rattle.olap_ast.specs.Trees.{constraint_of, formula_of}
 use Rattle.olap_names.specs.Names.{candidates_of, with_graph}
 use Rattle.olap_names.specs.Walks.{marks_of}
 use Rattle.olap_frozen.specs.Leaves.{AreAbsentZero, chosen_of}
-use Rattle.olap_frozen.specs.Rows.{row}
-use Rattle.olap_frozen.proofs.RowLemmas.{row_at}
+use Rattle.olap_graph.specs.Rows.{row}
+use Rattle.olap_graph.proofs.RowLemmas.{row_at}
 use Rattle.olap_frozen.proofs.SoundLemmas.{present_is}
 use Rattle.olap_plain.proofs.SearchLemmas.{assigned_absent, frozen_sound, walking_ended, walking_falls, walking_found, walking_next, walking_start}
 use Rattle.olap_plain.proofs.searching.first_names.Goals as goal
