@@ -29,7 +29,7 @@ pub below_is : (ms : List PlainMember) (x y : ℕ) (m : PlainMember) (ps : List 
 below_is ms x y m ps r h e q a =
     let d : Decides r (Contains ps y) = Decides-contains ps y r (contains_decides eqb Decides-eqb ps y r a) in
     let p : ps ≡ parents_of (instance_of ms) x = q ∙ ap (λ (k : PlainMember). k.parents.items) e
-        ∙ sym (ap (λ k. k.parents) (get_or-map member_of ms x m nobody h)) in
+    ∙ sym (ap (λ k. k.parents) (get_or-map member_of ms x m nobody h)) in
     (λ t. subst (λ us. Contains us y) p (d.0 t), λ t. d.1 (subst (λ us. Contains us y) (sym p) t))
 
 module _ (R : ℕ → ℕ → Type 0) (k x y : ℕ) where
@@ -97,7 +97,7 @@ row_after y false o v = o
 pub row_step : (i : Instance) (facts : List PlainFact) (k y : ℕ) (d : PlainFact) → k < length facts
     → row_at y (total_of_facts i (facts_of (take (k + 1) facts)) y)
     ≡ row_after y (reaches i (get_or facts k d).member y) (row_at y (total_of_facts i (facts_of (take k facts)) y))
-        (get_or facts k d).value
+    (get_or facts k d).value
 row_step i facts k y d h = ap (λ fs. row_at y (total_of_facts i (facts_of fs) y)) (take_more facts k d h)
     ∙ ap (λ fs. row_at y (total_of_facts i fs y)) (map-append fact_of (take k facts) (get_or facts k d ∷ []))
     ∙ ap (value_row y) (values_push i (facts_of (take k facts)) (fact_of (get_or facts k d)) y)
