@@ -2,7 +2,7 @@
 use Rattle.std.proofs.Common.{◌≡◌, ℕ, zero, suc, ◌+◌, ◌<◌, ◌≤◌, ◌/◌, ◌%◌, List, [], ◌∷◌, ◌++◌, length, get_or, Bool, true, false, cond, refl, ap, sym, subst, ◌∙◌, inl, inr, ◌^◌, arith}
 use Rattle.std.specs.Prelude.{◌↔◌, ◌==◌, IsTrue, Contains, not, slice_index, slice_index_or}
 use Rattle.std.proofs.lemmas.List.Elements.{Contains-append_left}
-use Rattle.olap_base.specs.Graph.{IsCategory, category_count}
+use Rattle.olap_base.specs.Graph.{IsCategory, IsHierarchy, category_count}
 use Rattle.olap_base.proofs.ListLemmas.{contains_head}
 use Rattle.olap_base.specs.Deciding.{contains_cons}
 use Rattle.olap_ast.specs.Formula.{Formula}
@@ -82,13 +82,13 @@ other_default (x ∷ xs) (suc k) d e h = other_default xs k d e (omega arith)
 
 -- ---- what its valuations read
 
-same_truth : (a b : Bool) → (a ≡ true → b ≡ true) → (b ≡ true → a ≡ true) → a ≡ b
+pub same_truth : (a b : Bool) → (a ≡ true → b ≡ true) → (b ≡ true → a ≡ true) → a ≡ b
 same_truth a b f g = elim (true_or_false a) [
   | inl y ↦ y ∙ sym (f y)
   | inr n ↦ n ∙ sym (not_true b (λ y. let z : true ≡ false = sym (g y) ∙ n in cc))
 ]
 
-index_same : (f : Frozen) (c : ℕ) → index_of f c ≡ index_in f c
+pub index_same : (f : Frozen) (c : ℕ) → index_of f c ≡ index_in f c
 index_same f zero = refl
 index_same f (suc c) = refl
 
@@ -122,13 +122,13 @@ laid_for t ms laid few edges variables = record {
   names = λ c j h b. let l = (laid.named c j h b).0 in omega arith;
 }
 
-pub encoded : (t : Task) (e : Encoding) (pool : Pool) → IsCategory t.graph t.root
+pub encoded : (t : Task) (e : Encoding) (pool : Pool) → IsHierarchy t.graph → IsCategory t.graph t.root
     → AreCandidates (schema_of t) t.question (candidates_of t.named) → length t.named.texts ≡ category_count t.graph
     → IsLaidOut (problem_in t) e.meanings t.layout.starts.items → length e.meanings ≤ 2 ^ 30 → t.layout.edges ≡ length t.graph.edges
     → t.layout.variables ≡ length e.meanings → ((f : Frozen) → AreMetBy (problem_in t) e f)
     → ((v : ℕ → Bool) → AreAllMet v e.clauses → AreTrue v pool) → IsEncoded t pool
-encoded t e pool root k texts laid few edges variables met true_in = record {
-  task = record { root = root; candidates = k; texts = texts; laid = laid_for t e.meanings laid few edges variables };
+encoded t e pool hierarchy root k texts laid few edges variables met true_in = record {
+  task = record { hierarchy = hierarchy; root = root; candidates = k; texts = texts; laid = laid_for t e.meanings laid few edges variables };
   each = λ f one. let m = met f one in (
     valuation_in (problem_in t) e f,
     reads t f e.meanings (valuation_in (problem_in t) e f) laid edges m.0,

@@ -6,6 +6,7 @@ use Rattle.olap_frozen.specs.declared.frozen.Frozen.{Frozen}
 use Rattle.olap_dimsat.specs.declared.asker.Asker.{Asker}
 use Rattle.olap_dimsat.specs.declared.asker.Leaf.{Leaf}
 use Rattle.olap_dimsat.specs.Tasks.{Task, IsTask}
+use Rattle.olap_dimsat.specs.Tracking.{IsOf}
 
 abbrev pub task_of : Asker → Task
 task_of a = record {
@@ -27,5 +28,6 @@ pub record IsFor (t : Task) (frozen : Frozen) : Type 0 where
 pub record IsSuited (t : Task) (leaf : Leaf) (n : ℕ) : Type 0 where
   pub task : IsTask t
   pub frozen : IsFor t leaf.frozen
+  pub decided : IsOf t leaf.decided
   pub room : length leaf.room.rows.items ≡ category_count t.graph
   pub variables : n ≡ t.layout.variables

@@ -1,5 +1,6 @@
 -- Valuations of frozen dimensions, and what is read off a trail.
 --     Reads       the variables of edges, categories and names have the frozen dimension's values
+--     NoneAgrees  no frozen dimension agrees with a trail
 --     EdgeReads   in each frozen dimension that agrees with a trail the edge is present, or is absent
 --     NameReads   and the category has this index
 --     IsRead      each frozen dimension that agrees with the trail is this choice
@@ -37,6 +38,10 @@ IsMeant t v = (f : Frozen) × IsOne t f × Reads t f v
 -- P holds of each frozen dimension that agrees with the trail
 abbrev pub OfAgreeing : Task → Trail → (Frozen → Type 0) → Type 0
 OfAgreeing t trail P = (f : Frozen) (v : ℕ → Bool) → IsOne t f → Reads t f v → Agrees v (steps_of trail) → P f
+
+-- no frozen dimension agrees with the trail
+abbrev pub NoneAgrees : Task → Trail → Type 0
+NoneAgrees t trail = OfAgreeing t trail (λ f. ⊥)
 
 abbrev pub EdgeReads : Task → Trail → ℕ → Bool → Type 0
 EdgeReads t trail e b = OfAgreeing t trail (λ f. slice_index_or f.edges e false ≡ b)

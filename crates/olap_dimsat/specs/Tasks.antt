@@ -3,7 +3,7 @@
 --     IsOne     a frozen dimension of the task
 --     IsLaid    each edge, category and name has a variable
 use Rattle.std.specs.Prelude.{◌≡◌, ℕ, ◌+◌, ◌^◌, ◌<◌, ◌≤◌, List, [], length, slice_index, slice_index_or}
-use Rattle.olap_base.specs.Graph.{Graph, IsCategory, category_count}
+use Rattle.olap_base.specs.Graph.{Graph, IsCategory, IsHierarchy, category_count}
 use Rattle.olap_ast.specs.Formula.{Formula}
 use Rattle.olap_ast.specs.Schema.{Constraint, Schema}
 use Rattle.olap_ast.specs.Frozen.{AreCandidates, Frozen, IsFrozen}
@@ -47,6 +47,7 @@ pub record IsLaid (t : Task) : Type 0 where
       → name_variable t.layout c j < t.layout.variables
 
 pub record IsTask (t : Task) : Type 0 where
+  pub hierarchy : IsHierarchy t.graph
   pub root : IsCategory t.graph t.root
   pub candidates : AreCandidates (schema_of t) t.question (candidates_of t.named)
   pub texts : length t.named.texts ≡ category_count t.graph

@@ -5,6 +5,7 @@ use olap_base::CatId;
 use olap_frozen::{Frozen, Room};
 use olap_graph::Graph;
 use olap_names::Candidates;
+use olap_trail::Trail as Decisions;
 
 /// A question at a root of a schema, the candidates for names, and where the variables are.
 #[derive(Clone, Copy)]
@@ -17,9 +18,12 @@ pub struct Asker<'a> {
     pub(crate) layout: &'a Layout,
 }
 
-/// What is read off a trail, and room to test it.
-#[derive(Debug, Drop)]
+/// What a trail decides of edges, what is read off it, and room to test that.
+#[derive(Drop)]
 pub struct Leaf {
+    pub(crate) decided: Decisions<1>,
     pub(crate) frozen: Frozen,
     pub(crate) room: Room,
+    /// Whether nothing was undone in this search so far. A hint.
+    pub(crate) straight_down: bool,
 }

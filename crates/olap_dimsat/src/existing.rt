@@ -27,5 +27,6 @@ pub(crate) fn exists(engine: &mut Engine, a: &Asker<'_>, leaf: &mut Leaf) -> boo
     ensures ready { IsReady (task_of a.now) engine.new }
     ensures suited { IsSuited (task_of a.now) leaf.new (variables_of engine.new) }
 {
+    leaf.straight_down = true;
     engine.exists(a, leaf)
 }

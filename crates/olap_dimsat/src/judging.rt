@@ -2,9 +2,11 @@
 ghost use Rattle.std.specs.Prelude.{ℕ};
 
 use crate::asker::{Asker, Leaf};
+use crate::cutting::is_cut;
 use crate::fitting::suits_all;
 use crate::picking::{open_name, pick_edge};
 use crate::reading::read;
+use crate::tracking::follow;
 use olap_clauses::{Judge, Trail, Verdict};
 use olap_frozen::is_frozen;
 
@@ -19,7 +21,13 @@ impl<'a> Judge<Leaf> for Asker<'a> {
     ghost Took = { λ a leaf steps. IsTaken (task_of a) leaf.frozen.edges leaf.frozen.names steps };
 
     fn judge(&self, leaf: &mut Leaf, trail: &Trail, scores: &[u32]) -> Verdict {
-        if let Some(lit) = pick_edge(self, trail, scores) {
+        if !follow(self, leaf, trail) {
+            return Verdict::Refuse;
+        }
+        if leaf.straight_down && is_cut(self, trail, &leaf.decided) {
+            return Verdict::Refuse;
+        }
+        if let Some(lit) = pick_edge(self, trail, scores, leaf.decided.present()) {
             return Verdict::Decide(lit);
         }
         if let Some(lit) = open_name(self, trail) {

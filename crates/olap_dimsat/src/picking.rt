@@ -7,6 +7,7 @@ ghost use Rattle.olap_base.specs.Graph.{IsCategory};
 
 use crate::asker::Asker;
 use olap_base::{CatId, EdgeId};
+use olap_bits::CatSet;
 use olap_clauses::{Lit, Trail, Value};
 
 // The negation of an edge, if it is open and its child is known present.
@@ -24,14 +25,33 @@ fn open_at(a: &Asker<'_>, trail: &Trail, e: EdgeId) -> Option<Lit>
     }
 }
 
-// The first edge that is open and whose child is known present, as its negation.
-fn first_open(a: &Asker<'_>, trail: &Trail) -> Option<Lit>
+// The negation of an edge, if it is open and its child is known present, and is one of these where they are given.
+fn open_among(a: &Asker<'_>, trail: &Trail, among: Option<CatSet<1>>, e: EdgeId) -> Option<Lit>
+    requires task { IsTask (task_of a.now) }
+    requires edge { e.0 < length a.now.graph.now.edges }
+    requires variables { length (values_of trail.now) ≡ a.now.layout.now.variables }
+    ensures { IfSome result (λ l. IsOpen trail.now l) }
+{
+    let (child, _) = a.graph.ends(e);
+    let is_offered = match among {
+        Some(children) => children.has(child.0),
+        None => true,
+    };
+    if is_offered {
+        open_at(a, trail, e)
+    } else {
+        None
+    }
+}
+
+// The first of these edges, as its negation.
+fn first_open(a: &Asker<'_>, trail: &Trail, among: Option<CatSet<1>>) -> Option<Lit>
     requires task { IsTask (task_of a.now) }
     requires variables { length (values_of trail.now) ≡ a.now.layout.now.variables }
     ensures { IfSome result (λ l. IsOpen trail.now l) }
 {
     'edges: for e in 0..a.graph.edges() {
-        let open = open_at(a, trail, EdgeId(e));
+        let open = open_among(a, trail, among, EdgeId(e));
         if open.is_some() {
             return open;
         }
@@ -64,31 +84,54 @@ fn score_of(scores: &[u32], lit: Lit) -> u32 {
     }
 }
 
-// The edge of the highest score that is open and whose child is known present, as its negation.
-fn highest_open(a: &Asker<'_>, trail: &Trail, scores: &[u32]) -> Option<Lit>
+// The one of the highest score of these edges, as its negation.
+fn highest_open(
+    a: &Asker<'_>,
+    trail: &Trail,
+    scores: &[u32],
+    among: Option<CatSet<1>>,
+) -> Option<Lit>
     requires task { IsTask (task_of a.now) }
     requires variables { length (values_of trail.now) ≡ a.now.layout.now.variables }
     ensures { IfSome result (λ l. IsOpen trail.now l) }
 {
     let mut best: Option<Lit> = None;
     'edges: for e in 0..a.graph.edges() {
-        best = higher(best, open_at(a, trail, EdgeId(e)), scores);
+        best = higher(best, open_among(a, trail, among, EdgeId(e)), scores);
     }
     best
 }
 
-/// The negation of an open edge of a category that is known present: the first in declaration order, or, where there are
-/// scores, the one of the highest.
-pub(crate) fn pick_edge(a: &Asker<'_>, trail: &Trail, scores: &[u32]) -> Option<Lit>
+// The first of these edges in declaration order, or, where there are scores, the one of the highest.
+fn pick_among(a: &Asker<'_>, trail: &Trail, scores: &[u32], among: Option<CatSet<1>>) -> Option<Lit>
     requires task { IsTask (task_of a.now) }
     requires variables { length (values_of trail.now) ≡ a.now.layout.now.variables }
     ensures { IfSome result (λ l. IsOpen trail.now l) }
 {
     if scores.is_empty() {
-        first_open(a, trail)
+        first_open(a, trail, among)
     } else {
-        highest_open(a, trail, scores)
+        highest_open(a, trail, scores, among)
     }
+}
+
+/// The negation of an open edge: of a category that present edges lead to from the root, and where there is none, of any
+/// that is known present.
+pub(crate) fn pick_edge(
+    a: &Asker<'_>,
+    trail: &Trail,
+    scores: &[u32],
+    present: CatSet<1>,
+) -> Option<Lit>
+    requires task { IsTask (task_of a.now) }
+    requires variables { length (values_of trail.now) ≡ a.now.layout.now.variables }
+    ensures { IfSome result (λ l. IsOpen trail.now l) }
+{
+    let open = pick_among(a, trail, scores, Some(present));
+    if open.is_some() {
+        return open;
+    }
+    pick_among(a, trail, scores, None)
 }
 
 // The negation of a name, if it is open.

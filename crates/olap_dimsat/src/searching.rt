@@ -26,6 +26,7 @@ use olap_frozen::{Frozen, Room};
 use olap_graph::Graph;
 use olap_names::Candidates;
 use olap_schema::Schema;
+use olap_trail::Trail as Decisions;
 use std::alloc::Global;
 use std::mem::swap;
 
@@ -108,9 +109,12 @@ impl Search {
         ) else {
             return Err(Memory);
         };
+        let decided = Decisions::new(alloc, graph, root)?;
         let leaf = Leaf {
+            decided,
             frozen: blank(alloc, graph, root)?,
             room: Room::new(alloc, graph)?,
+            straight_down: true,
         };
         let best = blank(alloc, graph, root)?;
         Ok(Search {

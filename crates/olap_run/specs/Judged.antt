@@ -22,11 +22,13 @@ abbrev pub Gives : {Q : Type 0} → (Q → Status → List ℕ → Type 0) → F
 Gives answers files order status bytes = MatchOption (question files order) ⊥ (λ q. answers q status bytes)
 
 -- so it is where the library tells its contents
-abbrev pub GivesTold : {Q : Type 0} → (Q → Status → List ℕ → Type 0) → Option Files → Order Q → Status → List ℕ → Type 0
+abbrev pub GivesTold : {Q : Type 0} → (Q → Status → List ℕ → Type 0) → Option Files → Order Q → Status → List ℕ
+    → Type 0
 GivesTold answers None order status bytes = ⊤
 GivesTold answers (Some files) order status bytes = Gives answers files order status bytes
 
--- what the library was last asked for, where it tells that and its contents, is a file that the order comes to, or the order comes to a name without a content
+-- what the library was last asked for, where it tells that and its contents, is a file that the order comes to, or the
+-- order comes to a name without a content
 abbrev pub IsBlamed : {Q : Type 0} → Option Files → Order Q → Option (Option (List ℕ)) → Type 0
 IsBlamed None order asked = ⊤
 IsBlamed (Some files) order None = ⊤
@@ -53,14 +55,16 @@ Replied (Err (stops.Refused bytes)) P = P statuses.Refused bytes.items
 Replied (Err stop) P = ⊤
 
 -- what a command answers, along its order
-pub record Judged {D Q : Type 0} (answers : Q → Status → List ℕ → Type 0) (L : Library D) (old new : D) (order : Order Q) (result : Result Reply Stop) : Type 0 where
+pub record Judged {D Q : Type 0} (answers : Q → Status → List ℕ → Type 0) (L : Library D) (old new : D)
+    (order : Order Q) (result : Result Reply Stop) : Type 0 where
   pub right : Replied result (GivesTold answers (L.contents old) order)
   pub verdict : Replied result (λ status bytes. IsVerdict status)
   pub read : IsErrOf result stops.Read → ReadCause L old new order
   pub later : L.faults old ≤ L.faults new
 
 -- what a function answers that reads nothing: so it is whatever the files are
-pub record Replies {Q : Type 0} (answers : Q → Status → List ℕ → Type 0) (order : Order Q) (result : Result Reply Stop) : Type 0 where
+pub record Replies {Q : Type 0} (answers : Q → Status → List ℕ → Type 0) (order : Order Q)
+    (result : Result Reply Stop) : Type 0 where
   pub right : Replied result (λ status bytes. (files : Files) → Gives answers files order status bytes)
   pub verdict : Replied result (λ status bytes. IsVerdict status)
   pub unread : IsErrOf result stops.Read → ⊥

@@ -5,7 +5,8 @@
 --     accepted         by what a text stands for
 --     when_legal       by whether an instance is legal
 --     with_root, with_formula, with_different      by the words of a question
---     with_schema_in, with_legal_in, with_facts_in, with_store_in      by a schema, a legal instance, facts, stored views in a file
+--     with_schema_in, with_legal_in, with_facts_in, with_store_in
+--         by a schema, a legal instance, facts, stored views in a file
 use Rattle.std.specs.Prelude.{ℕ, zero, suc, List, [], ◌∷◌, ◌++◌, ◌==◌, length, nat_lt, codes, Option, None, Some, Result, Ok, Err, if◌then◌else◌}
 use Rattle.std.specs.Fmt.{decimal}
 use Rattle.std.specs.List.{list_any}
@@ -77,7 +78,8 @@ with_another twice g at earlier name next =
     known at (category_named g name) (λ c. undoubled twice at earlier c (next c))
 
 -- different categories from this word on, left to right, behind these
-abbrev pub with_different : List ℕ → Graph → ℕ → List ℕ → List (List ℕ) → (List ℕ → Order Question) → Order Question
+abbrev pub with_different : List ℕ → Graph → ℕ → List ℕ → List (List ℕ) → (List ℕ → Order Question)
+    → Order Question
 with_different twice g at earlier [] next = next earlier
 with_different twice g at earlier (name ∷ names) next =
     with_another twice g at earlier name (λ c. with_different twice g (suc at) (earlier ++ c ∷ []) names next)
@@ -92,7 +94,8 @@ abbrev pub part_text : List ℕ → List ℕ → ℕ → List ℕ → List ℕ
 part_text label part at name = label ++ (codes " " ++ fault_text part at name)
 
 -- a text that has no fault goes on with what it stands for; else its first fault is refused
-abbrev pub accepted : {T K : Type 0} → List ℕ → List ℕ → (K → List ℕ) → Result T (Fault K) → (T → Order Question) → Order Question
+abbrev pub accepted : {T K : Type 0} → List ℕ → List ℕ → (K → List ℕ) → Result T (Fault K) → (T → Order Question)
+    → Order Question
 accepted label part name (Ok x) next = next x
 accepted label part name (Err fault) next = Done (ByRefusal (part_text label part fault.at (name fault.kind)))
 

@@ -27,14 +27,16 @@ GoesOn None order rest = ⊤
 GoesOn (Some files) order rest = Leaves files order rest
 
 -- where the code has a value, the rest goes on with it; where it has none, the run ends as the order does
-pub record FileStep {D Q T X : Type 0} (answers : Q → Status → List ℕ → Type 0) (L : Library D) (old new : D) (step : (T → Order Q) → Order Q) (meaning : X → T) (result : Result X Stop) : Type 0 where
+pub record FileStep {D Q T X : Type 0} (answers : Q → Status → List ℕ → Type 0) (L : Library D) (old new : D)
+    (step : (T → Order Q) → Order Q) (meaning : X → T) (result : Result X Stop) : Type 0 where
   pub goes_on : (next : T → Order Q) → IfOk result (λ x. GoesOn (L.contents old) (step next) (next (meaning x)))
   pub ends : (next : T → Order Q) → IfErr result (λ stop. Judged answers L old new (step next) (Err stop))
   pub same : L.contents new ≡ L.contents old
   pub later : L.faults old ≤ L.faults new
 
 -- the same of a step for which no file is read
-pub record PlainStep {Q T X : Type 0} (answers : Q → Status → List ℕ → Type 0) (step : (T → Order Q) → Order Q) (meaning : X → T) (result : Result X Stop) : Type 0 where
+pub record PlainStep {Q T X : Type 0} (answers : Q → Status → List ℕ → Type 0) (step : (T → Order Q) → Order Q)
+    (meaning : X → T) (result : Result X Stop) : Type 0 where
   pub goes_on : (next : T → Order Q) → IfOk result (λ x. step next ≡ next (meaning x))
   pub ends : (next : T → Order Q) → IfErr result (λ stop. Replies answers (step next) (Err stop))
 

@@ -23,7 +23,8 @@ abbrev pub violation_text : Graph → Instance → Violation → List ℕ
 violation_text g i (law.Connectivity x y) = codes "Connectivity " ++ pair_text i x.0 y.0
 violation_text g i (law.NoParent x) = codes "NoParent " ++ id_text i x.0
 violation_text g i (law.Stratification x) = codes "Stratification " ++ id_text i x.0
-violation_text g i (law.Partitioning x c) = codes "Partitioning " ++ (id_text i x.0 ++ (codes " " ++ name_of_category g c.0))
+violation_text g i (law.Partitioning x c) =
+    codes "Partitioning " ++ (id_text i x.0 ++ (codes " " ++ name_of_category g c.0))
 violation_text g i (law.Shortcut x y) = codes "Shortcut " ++ pair_text i x.0 y.0
 violation_text g i (law.Constraint n x) = codes "Constraint " ++ (decimal n ++ (codes " " ++ id_text i x.0))
 

@@ -75,9 +75,10 @@ fn answered(alloc: Global, schema: &Schema, root: CatId) -> Result<Reply, Stop>
     // Called for its clause: the schema's constants are few.
     let _constraints = schema.constraints();
     let mut search = Search::new(alloc, schema, root, &Formula::True)?;
-    match search.all(schema, &Formula::True, MOST_FROZEN) {
+    let all = search.all(schema, &Formula::True, MOST_FROZEN);
+    let candidates = search.into_candidates();
+    match all {
         Ok(all) => {
-            let candidates = search.into_candidates();
             let text = listed(alloc, schema.graph(), &candidates, root, all.items())?;
             Ok(yes(text))
         }

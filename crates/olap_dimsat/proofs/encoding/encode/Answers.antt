@@ -46,7 +46,7 @@ returns c =
     (same_candidates c.fresh.result.now c.texts.result.now c.args.candidates.now c.fresh.ensures c.texts.ensures)) in
     let e = encoding_of c.in_ok-encoder.encoder in
     let laid = subst (λ (x : Problem). IsLaid x e.meanings e.starts) (c.in_ok-encoder.ensures.problem ∙ p) c.in_ok-encoder.ensures.sound.laid in
-    encoded t e c.in_ok-pool.pool c.requires.root c.requires.candidates c.requires.texts
+    encoded t e c.in_ok-pool.pool c.requires.valid.hierarchy c.requires.root c.requires.candidates c.requires.texts
     (subst (λ (xs : List ℕ). IsLaid (problem_in t) e.meanings xs) (sym (c.in_ok-starts.ensures.items ∙ c.starts.ensures)) laid)
     c.in_ok-encoder.ensures.sound.few c.edges-edges.ensures.count c.variables-variables.ensures
     (λ f. subst (λ (x : Problem). AreMetBy x e f) p (c.in_ok-encoder.ensures.met f))

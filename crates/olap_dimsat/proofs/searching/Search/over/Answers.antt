@@ -4,6 +4,7 @@ use Rattle.olap_ast.specs.Formula.{Equality}
 use Rattle.olap_names.specs.Names.{atoms}
 use Rattle.olap_ast.specs.Trees.{constraint_of, formula_of}
 use Rattle.olap_base.specs.declared.ids.CatId.{CatId}
+use Rattle.olap_trail.specs.Decisions.{Decided}
 use Rattle.olap_dimsat.specs.Tasks.{Task}
 use Rattle.olap_dimsat.proofs.AtomLemmas.{atoms_on}
 use Rattle.olap_dimsat.proofs.MadeLemmas.{ready_first}
@@ -38,6 +39,10 @@ returns-clause-made c =
       suited = record {
         task = e.task;
         frozen = record { root = ap (λ (r : CatId). r.0) b.root; edges = b.edges; names = b.names };
+        decided = record {
+          graph = ap (λ (d : Decided). d.graph) c.in_ok-decided.ensures.ok;
+          root = ap (λ (d : Decided). d.root) c.in_ok-decided.ensures.ok;
+        };
         room = c.in_ok-new.ensures;
         variables = c.in-Ok.ensures.variables;
       };

@@ -1,0 +1,261 @@
+-- What a trail tells is so in each frozen dimension that agrees with it.
+--     completes      the frozen dimension has all that is known
+--     false_at       so a formula that is known to be false is
+--     broken_none    none agrees where a constraint is broken
+--     false_none     nor where the question is false at the root
+use Rattle.std.proofs.Common.{◌≡◌, ℕ, zero, suc, ◌<◌, ◌≤◌, List, [], ◌∷◌, length, get_or, Bool, true, false, cond, Option, Some, None, refl, ap, sym, subst, ◌∙◌, ◌↔◌, inl, inr, arith}
+use Rattle.std.specs.Prelude.{Contains, IfSome, IsTrue, nat_lt}
+use Rattle.std.specs.Str.{bytes_eq}
+use Rattle.std.proofs.lemmas.Bool.Decides.{nat_tests}
+use Rattle.std.proofs.lemmas.List.Elements.{Contains-get_or}
+use Rattle.std.proofs.lemmas.Slice.Eq.{bytes_eq-Decides}
+use Rattle.olap_base.specs.Graph.{CategoryReaches, Edge, Graph, HasEdge, IsCategory, IsHierarchy, category_count}
+use Rattle.olap_base.specs.Instance.{Instance}
+use Rattle.olap_base.specs.Naming.{place_of}
+use Rattle.olap_base.specs.Reaching.{category_reaches, category_reaches_is}
+use Rattle.olap_base.specs.Steps.{Steps, Steps-from_reaches, reaches_from_Steps}
+use Rattle.olap_ast.specs.Formula.{Formula}
+use Rattle.olap_ast.specs.Frozen.{Frozen, chosen, instance_of, is_present, name_in}
+use Rattle.olap_ast.specs.Schema.{Constraint}
+use Rattle.olap_ast.specs.declared.three_values.Truth3.{Truth3}
+use Rattle.olap_ast.specs.declared.three_values.Truth3.TheVariants.{No, Yes, Unknown}
+use Rattle.olap_clauses.specs.declared.literals.Lit.{Lit}
+use Rattle.olap_clauses.specs.declared.literals.Value.{Value}
+use Rattle.olap_clauses.specs.declared.literals.Value.TheVariants.{Unknown as Untold, Yes as Stands, No as Fails}
+use Rattle.olap_clauses.specs.declared.trails.Trail.{Trail}
+use Rattle.olap_clauses.specs.Standing.{Agrees, value_of}
+use Rattle.olap_clauses.specs.Trails.{steps_of, values_of}
+use Rattle.olap_clauses.proofs.StandingLemmas.{no_fails, yes_holds}
+use Rattle.olap_encoding.proofs.TruthLemmas.{name_is_constant}
+use Rattle.olap_eval.specs.Partial.{Agrees as Tells, Completes, value_at}
+use Rattle.olap_eval.specs.Shapes.{HasEdgeThere, HasNameThere, ReachesThere}
+use Rattle.olap_eval.proofs.PartialLemmas.{values_are_truths}
+use Rattle.olap_frozen.specs.Chosen.{IsChoice, IsMet, Joins, place_of as place_in_choice}
+use Rattle.olap_frozen.proofs.ChosenInstance as made
+use Rattle.olap_frozen.proofs.ChosenLemmas.{bit_joins, choice_of, edge_inside, no_edge_joins}
+use Rattle.olap_graph.specs.Lookups.{edge_between, joins}
+use Rattle.olap_graph.proofs.PlaceLemmas.{found, joins-Decides}
+use Rattle.olap_trail.specs.Decisions.{Decided, present_graph}
+use Rattle.olap_names.specs.Names.{candidates_of}
+use Rattle.olap_dimsat.specs.Tasks.{IsOne, IsTask, Task, name_variable, on_variable, present_variable, schema_of}
+use Rattle.olap_dimsat.specs.Reads.{NoneAgrees, Reads, index_in}
+use Rattle.olap_dimsat.specs.Tracking.{IsTracked}
+use Rattle.olap_dimsat.specs.Knowing.{HasMember, HoldsAt, IsBroken, IsFalseAt, both, knowledge, naming, presence, told, told_of_edge, told_of_name, truth_of, way}
+use Rattle.olap_dimsat.proofs.EncodeLemmas.{index_same, same_truth}
+use Rattle.olap_dimsat.proofs.ReadLemmas.{index_absent}
+use Rattle.olap_dimsat.proofs.TrackingLemmas.{present_joins, wider}
+use Rattle.olap_dimsat.proofs.Truths.{is_same, same_is, true_or_false}
+
+-- ---- values of facts
+
+-- what is known of one fact is known of another that holds exactly where it does
+known_same : (x : Truth3) (P Q : Type 0) → Tells x P → (P → Q) → (Q → P) → Tells x Q
+known_same No P Q t f g = λ q. t (g q)
+known_same Yes P Q t f g = f t
+known_same Unknown P Q t f g = tt
+
+known_both : (x y : Truth3) (P Q : Type 0) → Tells x P → Tells y Q → Tells (both x y) (P × Q)
+known_both No No P Q a b = λ t. a t.0
+known_both No Yes P Q a b = λ t. a t.0
+known_both No Unknown P Q a b = λ t. a t.0
+known_both Yes No P Q a b = λ t. b t.1
+known_both Yes Yes P Q a b = (a, b)
+known_both Yes Unknown P Q a b = tt
+known_both Unknown No P Q a b = λ t. b t.1
+known_both Unknown Yes P Q a b = tt
+known_both Unknown Unknown P Q a b = tt
+
+-- ---- lists and tests
+
+-- a list that has something is one of the lists
+has_some : (xs : List (List (List ℕ))) (c k : ℕ) → k < length (get_or xs c []) → c < length xs
+has_some [] c k h = absurd (omega arith)
+has_some (x ∷ xs) zero k h = omega arith
+has_some (x ∷ xs) (suc c) k h = let r = has_some xs c k h in omega arith
+
+test_false : (c n : ℕ) → nat_lt c n ≡ false → c < n → ⊥
+test_false c n e h = grind (arith, nat_tests)
+
+test_true : (c n : ℕ) → nat_lt c n ≡ true → c < n
+test_true c n e = grind (arith, nat_tests)
+
+-- no edge leaves what is no category
+pub no_edge_past : (g : Graph) (trail : Trail) → IsHierarchy g → (c d : ℕ) → category_count g ≤ c
+    → No ≡ told_of_edge trail (edge_between g c d)
+no_edge_past g trail hier c d h = go (edge_between g c d) refl
+  where
+    go : (o : Option ℕ) → edge_between g c d ≡ o → No ≡ told_of_edge trail o
+    go None e = refl
+    go (Some i) e =
+        let f = found (joins c d) (λ x. x ≡ record { child = c; parent = d }) (joins-Decides c d) g.edges 0 i e in
+        let z : Edge = record { child = 0; parent = 0 } in
+        let k = (hier.categories c d (subst (λ x. Contains g.edges x) (f.3 z) (Contains-get_or g.edges f.0 z f.2))).0 in
+        absurd (omega arith)
+
+-- the test of a graph has the value of another that asks the same
+pub reach_test : (g : Graph) (c d : ℕ) (r b : Bool) → IsTrue r ↔ CategoryReaches g c d → r ≡ b → category_reaches g c d ≡ b
+reach_test g c d r b i e = let is = category_reaches_is g c d in
+    same_truth (category_reaches g c d) r (λ y. i.1 (is.0 y)) (λ y. is.1 (i.0 y)) ∙ e
+
+pub way_by : (t : Task) (d : Decided) (c e : ℕ) (b w : Bool) → category_reaches (present_graph d) c e ≡ b
+    → category_reaches t.graph c e ≡ w → cond b Yes (cond w Unknown No) ≡ way t d c e
+way_by t d c e b w p q = sym (ap (λ x. cond x Yes (cond (category_reaches t.graph c e) Unknown No)) p
+    ∙ ap (λ x. cond b Yes (cond x Unknown No)) q)
+
+pub place_inside : (text : List ℕ) (texts : List (List ℕ)) (o : Option ℕ) → o ≡ place_of text texts
+    → IfSome o (λ j. j < length texts)
+place_inside text texts None e = tt
+place_inside text texts (Some j) e =
+    let at = found (bytes_eq text) (λ x. text ≡ x) (bytes_eq-Decides text) texts 0 j (sym e) in omega (arith, at.1, at.2)
+
+module _ (t : Task) (trail : Trail) (d : Decided) (k : IsTracked t trail d) (f : Frozen) (v : ℕ → Bool) (one : IsOne t f)
+    (r : Reads t f v) (a : Agrees v (steps_of trail)) where
+  abbrev es : List Edge
+  es = chosen t.graph.edges f.edges
+
+  ch : IsChoice t.graph t.root es
+  ch = choice_of t.graph t.root f.edges k.task.hierarchy k.task.root
+
+  abbrev name : ℕ → List ℕ
+  name = name_in (candidates_of t.named) f
+
+  abbrev inst : Instance
+  inst = instance_of t.graph t.root es name
+
+  abbrev present : ℕ → Bool
+  present = is_present t.root es
+
+  abbrev place : ℕ → ℕ
+  place = place_in_choice t.graph t.root es
+
+  told_is : (x : ℕ) → Tells (told trail x) (v x ≡ true)
+  told_is x = go (value_of (values_of trail) l) refl
+    where
+      l : Lit
+      l = record { variable = x; positive = true }
+
+      go : (w : Value) → value_of (values_of trail) (record { variable = x; positive = true }) ≡ w
+          → Tells (truth_of w) (v x ≡ true)
+      go Untold e = tt
+      go Stands e = yes_holds v (steps_of trail) (values_of trail) (record { variable = x; positive = true }) trail.shown e a
+      go Fails e = no_fails v (steps_of trail) (values_of trail) (record { variable = x; positive = true }) trail.shown e a
+
+  presence_is : (c : ℕ) → Tells (presence t trail c) (present c ≡ true)
+  presence_is c = go (nat_lt c (category_count t.graph)) refl
+    where
+      go : (b : Bool) → nat_lt c (category_count t.graph) ≡ b
+          → Tells (cond b (told trail (present_variable t.layout c)) No) (present c ≡ true)
+      go true e = let p = r.present c (test_true c (category_count t.graph) e) in
+          known_same (told trail (present_variable t.layout c)) (v (present_variable t.layout c) ≡ true) (present c ≡ true)
+          (told_is (present_variable t.layout c)) (λ h. sym p ∙ h) (λ h. p ∙ h)
+      go false e = λ p. test_false c (category_count t.graph) e (made.present_category t.graph t.root es ch c p)
+
+  edge_is : (c d : ℕ) → Tells (told_of_edge trail (edge_between t.graph c d)) (HasEdgeThere inst present place c d)
+  edge_is c d = go (edge_between t.graph c d) refl
+    where
+      go : (o : Option ℕ) → edge_between t.graph c d ≡ o → Tells (told_of_edge trail o) (HasEdgeThere inst present place c d)
+      go None e = λ h. no_edge_joins t.graph f.edges c d e
+          ((made.below_joins t.graph t.root es ch name c d h.0 h.1).0 h.2)
+      go (Some i) e =
+          let b = bit_joins t.graph f.edges c d i k.task.hierarchy e in
+          let n = r.on i (edge_inside t.graph c d i e) in
+          known_same (told trail (on_variable i)) (v (on_variable i) ≡ true) (HasEdgeThere inst present place c d)
+          (told_is (on_variable i))
+          (λ h. let j = b.0 (sym n ∙ h) in (
+            made.child_present t.graph t.root es ch c d j,
+            made.parent_present t.graph t.root es ch c d j,
+            made.edge_below t.graph t.root es ch name c d j,
+          ))
+          (λ h. n ∙ b.1 ((made.below_joins t.graph t.root es ch name c d h.0 h.1).0 h.2))
+
+  in_graph : (x y : ℕ) → Joins es x y → HasEdge t.graph x y
+  in_graph x y j = ch.within (record { child = x; parent = y }) j
+
+  way_is : (c e : ℕ) → Tells (way t d c e) (Steps (Joins es) c e)
+  way_is c e = go (category_reaches (present_graph d) c e) refl (category_reaches t.graph c e) refl
+    where
+      go : (b : Bool) → category_reaches (present_graph d) c e ≡ b → (w : Bool) → category_reaches t.graph c e ≡ w
+          → Tells (cond b Yes (cond w Unknown No)) (Steps (Joins es) c e)
+      go true p w q = wider (present_joins t trail f v one r a d k.of k.read)
+          (Steps-from_reaches ((category_reaches_is (present_graph d) c e).0 p))
+      go false p true q = tt
+      go false p false q = λ s.
+          let y = (category_reaches_is t.graph c e).1 (reaches_from_Steps (wider in_graph s)) in
+          let z : true ≡ false = sym y ∙ q in cc
+
+  reach_is : (c e : ℕ)
+      → Tells (both (both (presence t trail c) (presence t trail e)) (way t d c e)) (ReachesThere inst present place c e)
+  reach_is c e = known_same (both (both (presence t trail c) (presence t trail e)) (way t d c e))
+      (((present c ≡ true) × (present e ≡ true)) × Steps (Joins es) c e) (ReachesThere inst present place c e)
+      (known_both (both (presence t trail c) (presence t trail e)) (way t d c e)
+      ((present c ≡ true) × (present e ≡ true)) (Steps (Joins es) c e)
+      (known_both (presence t trail c) (presence t trail e) (present c ≡ true) (present e ≡ true) (presence_is c) (presence_is e))
+      (way_is c e))
+      (λ h. (h.0.0, h.0.1, (made.reaches_walk t.graph t.root es ch name c e h.0.0 h.0.1).1 h.1))
+      (λ h. ((h.0, h.1), (made.reaches_walk t.graph t.root es ch name c e h.0 h.1).0 h.2))
+
+  -- a category with an index has a member
+  indexed_present : (c n : ℕ) → IsCategory t.graph c → index_in f c ≡ suc n → present c ≡ true
+  indexed_present c n h e = elim (true_or_false (present c)) [
+    | inl p ↦ p
+    | inr q ↦ absurd (let z = index_absent t f c one h q in omega arith)
+  ]
+
+  name_is : (c : ℕ) (text : List ℕ) → Tells (naming t trail c text) (HasNameThere inst present place c text)
+  name_is zero text = tt
+  name_is (suc c) text = go (place_of text (get_or t.named.texts (suc c) [])) refl
+    where
+      go : (o : Option ℕ) → place_of text (get_or t.named.texts (suc c) []) ≡ o
+          → Tells (told_of_name t trail (suc c) o) (HasNameThere inst present place (suc c) text)
+      go None e = tt
+      go (Some j) e =
+          let at = found (bytes_eq text) (λ x. text ≡ x) (bytes_eq-Decides text) (get_or t.named.texts (suc c) []) 0 j e in
+          let same : at.0 ≡ j = omega (arith, at.1) in
+          let few : j < length (get_or t.named.texts (suc c) []) = omega (arith, at.2) in
+          let inside : suc c < category_count t.graph =
+          let l = has_some t.named.texts (suc c) j few in let n = k.task.texts in omega arith in
+          let it : get_or (get_or t.named.texts (suc c) []) j text ≡ text =
+          ap (λ m. get_or (get_or t.named.texts (suc c) []) m text) (sym same) ∙ sym (at.3 text) in
+          let n = name_is_constant (schema_of t) t.question t.root (candidates_of t.named) k.task.candidates f one c j text
+          inside few it in
+          let x = r.named (suc c) j inside few in
+          known_same (told trail (name_variable t.layout (suc c) j)) (v (name_variable t.layout (suc c) j) ≡ true)
+          (HasNameThere inst present place (suc c) text) (told_is (name_variable t.layout (suc c) j))
+          (λ h.
+          let i = same_is (index_in f (suc c)) (suc j) (sym x ∙ h) in
+          let p = indexed_present (suc c) j inside i in
+          (p, made.name_there t.graph t.root es ch name (suc c) p ∙ n.1 (index_same f (suc c) ∙ i)))
+          (λ h. x ∙ is_same (index_in f (suc c)) (suc j)
+          (sym (index_same f (suc c)) ∙ n.0 (sym (made.name_there t.graph t.root es ch name (suc c) h.0) ∙ h.1)))
+
+  pub completes : Completes (knowledge t trail d) inst present place
+  completes = record { edges = edge_is; reaching = reach_is; names = name_is }
+
+  known_truth : (c : ℕ) (q : Formula) → present c ≡ true → Tells (value_at (knowledge t trail d) c q) (HoldsAt t f c q)
+  known_truth c q p = values_are_truths (knowledge t trail d) inst present place
+      (made.chosen_shape t.graph t.root es ch name) completes c p q
+
+module _ (t : Task) (trail : Trail) (d : Decided) (k : IsTracked t trail d) where
+  pub false_at : (c : ℕ) (q : Formula) → value_at (knowledge t trail d) c q ≡ No → IsFalseAt t trail c q
+  false_at c q e f v one r a p = subst (λ x. Tells x (HoldsAt t f c q)) e (known_truth t trail d k f v one r a c q p)
+
+  pub broken : (j : Constraint) → presence t trail j.root ≡ Yes → IsFalseAt t trail j.root j.formula → IsBroken t trail j
+  broken j e n f v one r a =
+      let p = subst (λ x. Tells x (HasMember t f j.root)) e (presence_is t trail d k f v one r a j.root) in
+      (p, n f v one r a p)
+
+module _ (t : Task) (trail : Trail) (task : IsTask t) where
+  -- constraints and question hold at the members of their roots
+  met : (f : Frozen) → IsOne t f → IsMet (schema_of t) t.question t.root (chosen t.graph.edges f.edges)
+      (name_in (candidates_of t.named) f)
+  met f one = made.met_of_frozen (schema_of t) t.question t.root (chosen t.graph.edges f.edges)
+      (choice_of t.graph t.root f.edges task.hierarchy task.root) (name_in (candidates_of t.named) f) one.stands_for
+
+  pub broken_none : (k : Constraint) → Contains t.constraints k → IsBroken t trail k → NoneAgrees t trail
+  broken_none k c b f v one r a = let w = b f v one r a in w.1 ((met f one).meets k c w.0)
+
+  pub false_none : IsFalseAt t trail t.root t.question → NoneAgrees t trail
+  false_none n f v one r a = n f v one r a
+      (made.root_present t.graph t.root (chosen t.graph.edges f.edges)
+      (choice_of t.graph t.root f.edges task.hierarchy task.root))
+      (met f one).question
