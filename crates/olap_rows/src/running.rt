@@ -38,6 +38,17 @@ fn listed(alloc: Global, call: Option<u64>) -> Result<List<u64>, Fail> {
     Ok(List::from_vec(calls))
 }
 
+/// The status of a command line over the library and the sink.
+fn status(
+    alloc: Global,
+    line: &[&str],
+    library: &mut MemLibrary,
+    sink: &mut MemSink,
+) -> Result<Status, Fail> {
+    let words = words(alloc, line)?;
+    Ok(olap(alloc, &words, library, sink))
+}
+
 /// Runs the command line, where one call of the library and one of the sink may be made to fail, over a sink with
 /// this much room, and compares the status and the output.
 pub(crate) fn check(
@@ -52,8 +63,7 @@ pub(crate) fn check(
 ) -> Result<(), Fail> {
     let mut library = MemLibrary::new(files(alloc, held)?, 16, listed(alloc, failing.0)?);
     let mut sink = MemSink::new(alloc, room, 7, listed(alloc, failing.1)?)?;
-    let words = words(alloc, line)?;
-    let status = olap(alloc, &words, &mut library, &mut sink);
+    let status = status(alloc, line, &mut library, &mut sink)?;
     assert_eq!(rt; status, wanted, "{output}");
     assert_eq!(rt; sink.contents(), output.as_bytes());
     Ok(())
@@ -70,8 +80,7 @@ pub(crate) fn check_status(
 ) -> Result<(), Fail> {
     let mut library = MemLibrary::new(files(alloc, held)?, 4096, listed(alloc, None)?);
     let mut sink = MemSink::new(alloc, 1_000_000, 4096, listed(alloc, None)?)?;
-    let words = words(alloc, line)?;
-    let status = olap(alloc, &words, &mut library, &mut sink);
+    let status = status(alloc, line, &mut library, &mut sink)?;
     assert_eq!(rt; status, wanted, "{output}");
     if !output.is_empty() {
         assert_eq!(rt; sink.contents(), output.as_bytes());
@@ -87,8 +96,7 @@ pub(crate) fn run(
 ) -> Result<(Status, String), Fail> {
     let mut library = MemLibrary::new(files(alloc, held)?, 4096, listed(alloc, None)?);
     let mut sink = MemSink::new(alloc, 1_000_000, 4096, listed(alloc, None)?)?;
-    let words = words(alloc, line)?;
-    let status = olap(alloc, &words, &mut library, &mut sink);
+    let status = status(alloc, line, &mut library, &mut sink)?;
     let Ok(output) = str::from_utf8(sink.contents()) else {
         return Err("an output that is no text".into());
     };
@@ -110,7 +118,7 @@ pub(crate) fn check_bytes(
     }
     let mut library = MemLibrary::new(List::from_vec(all), 4096, listed(alloc, None)?);
     let mut sink = MemSink::new(alloc, 1000, 4096, listed(alloc, None)?)?;
-    let status = olap(alloc, &words(alloc, line)?, &mut library, &mut sink);
+    let status = status(alloc, line, &mut library, &mut sink)?;
     assert_eq!(rt; status, wanted, "{output}");
     assert_eq!(rt; sink.contents(), output.as_bytes());
     Ok(())
@@ -126,8 +134,7 @@ pub(crate) fn run_failing(
 ) -> Result<(Status, String), Fail> {
     let mut library = MemLibrary::new(files(alloc, held)?, 16, listed(alloc, failing.0)?);
     let mut sink = MemSink::new(alloc, 1000, 7, listed(alloc, failing.1)?)?;
-    let words = words(alloc, line)?;
-    let status = olap(alloc, &words, &mut library, &mut sink);
+    let status = status(alloc, line, &mut library, &mut sink)?;
     let Ok(output) = str::from_utf8(sink.contents()) else {
         return Err("an output that is no text".into());
     };
