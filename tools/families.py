@@ -1,0 +1,121 @@
+"""Families of schemas that are hard for plain enumeration."""
+
+import random
+
+
+class Schema:
+    """Lines of a schema text."""
+
+    def __init__(self):
+        self.categories, self.edges, self.constraints = [], [], []
+
+    def category(self, name):
+        if name not in self.categories:
+            self.categories.append(name)
+        return name
+
+    def edge(self, child, parent):
+        self.category(child)
+        if parent != "All":
+            self.category(parent)
+        self.edges.append((child, parent))
+
+    def constraint(self, root, formula):
+        self.constraints.append(f"constraint {root}: {formula}\n")
+
+    def text(self):
+        lines = ["schema 1\n"] + [f"category {c}\n" for c in self.categories]
+        lines += [f"edge {c} {p}\n" for c, p in self.edges] + self.constraints
+        return "".join(lines)
+
+
+def diamond(layers, as_implication=False):
+    """Layers of two ways each; the last but one must take a way that leads nowhere."""
+    s = Schema()
+    for i in range(layers + 1):
+        s.category(f"L{i}")
+    for i in range(1, layers + 1):
+        for side in "AB":
+            s.edge(f"L{i - 1}", f"{side}{i}")
+        for side in "AB":
+            s.edge(f"{side}{i}", f"L{i}")
+    s.edge(f"L{layers}", "All")
+    s.constraint(f"L{layers - 1}", f"L{layers - 1}_A{layers}")
+    last = f"A{layers}_L{layers}"
+    s.constraint(f"A{layers}", f"{last} -> false" if as_implication else f"!{last}")
+    return s.text()
+
+
+def free_parents(count):
+    """Many free parents, declared before the one parent that must be there and can't."""
+    s = Schema()
+    s.category("S")
+    for i in range(count):
+        s.edge("S", f"F{i}")
+        s.edge(f"F{i}", "All")
+    s.edge("S", "T")
+    s.edge("T", "All")
+    s.constraint("S", "S_T")
+    s.constraint("T", "false")
+    return s.text()
+
+
+def parents(count):
+    """A category with so many parents, so that each set of them but the empty one is a way up."""
+    s = Schema()
+    s.category("S")
+    for i in range(1, count + 1):
+        s.edge("S", f"P{i}")
+        s.edge(f"P{i}", "All")
+    return s.text()
+
+
+def names_along_a_chain(length):
+    """A name that runs along a chain, and is forbidden at its end."""
+    s = Schema()
+    for i in range(1, length):
+        s.edge(f"C{i}", f"C{i + 1}")
+    s.edge(f"C{length}", "All")
+    for name in "ab":
+        for i in range(1, length):
+            s.constraint(f"C{i}", f'C{i} = "{name}" -> C{i}.C{i + 1} = "{name}"')
+    s.constraint("C1", 'C1 = "a"')
+    s.constraint(f"C{length}", f'!C{length} = "a"')
+    return s.text()
+
+
+def layered(edges, constraints, seed):
+    """A random schema in layers, with constraints as designers write them."""
+    chance = random.Random(seed)
+    s = Schema()
+    layers, width = (8, 7) if edges > 100 else (6, 5)
+    names = [[s.category(f"L{i}x{j}") for j in range(width)] for i in range(layers)]
+    for i in range(layers - 1):
+        for name in names[i]:
+            s.edge(name, chance.choice(names[i + 1]))
+    for name in names[-1]:
+        s.edge(name, "All")
+    while len(s.edges) < edges:
+        i = chance.randrange(layers - 1)
+        child, parent = chance.choice(names[i]), chance.choice(names[chance.randrange(i + 1, min(layers, i + 3))])
+        if (child, parent) not in s.edges:
+            s.edge(child, parent)
+    for _ in range(min(64, edges * constraints // 100)):
+        s.constraint(*random_constraint(s, names, chance))
+    return s.text()
+
+
+def random_constraint(s, names, chance):
+    i = chance.randrange(len(names) - 1)
+    root = chance.choice(names[i])
+    above = [name for layer in names[i + 1 :] for name in layer]
+    parents = [p for c, p in s.edges if c == root]
+    d, e = chance.choice(above), chance.choice(above)
+    forms = [
+        f"one({', '.join(f'{root}_{p}' for p in parents)})",
+        f"{root}.{d} -> {root}.{e}",
+        f"!({root}.{d} & {root}.{e})",
+        f"{root}_{chance.choice(parents)} ^ {root}.{d}",
+        f'{root} = "a" -> {root}_{chance.choice(parents)}',
+    ]
+    return root, chance.choice(forms)
