@@ -27,7 +27,58 @@ fn are_alike(one: &Frozen, other: &Frozen) -> bool {
     one.edges.items() == other.edges.items() && one.names.items() == other.names.items()
 }
 
-/// The search's answer, twice, against that of the plain one.
+/// The least frozen dimension, by the search's second answer, and whether the first was the same.
+fn searched(
+    alloc: Global,
+    schema: &Schema,
+    root: CatId,
+    question: &Formula,
+) -> Result<(Option<Frozen>, bool), Memory>
+    requires root { IsDeclared (schema_of schema.now).graph root.0 }
+    requires question { IsQuestion (schema_of schema.now) root.0 (formula_of question.now) }
+{
+    let mut search = Search::new(alloc, schema, root, question)?;
+    let mut first = search.blank()?;
+    let mut again = search.blank()?;
+    let is_found = search.first(schema, question, &mut first);
+    let is_found_again = search.first(schema, question, &mut again);
+    let is_same = is_found == is_found_again && are_alike(&first, &again);
+    Ok((if is_found_again { Some(again) } else { None }, is_same))
+}
+
+/// The least frozen dimension, by the plain search.
+fn searched_plainly(
+    alloc: Global,
+    schema: &Schema,
+    root: CatId,
+    question: &Formula,
+) -> Result<Option<Frozen>, Memory>
+    requires root { IsDeclared (schema_of schema.now).graph root.0 }
+    requires question { IsQuestion (schema_of schema.now) root.0 (formula_of question.now) }
+{
+    let graph = schema.graph();
+    let constraints = schema.constraints();
+    let mut search = PlainSearch::new(alloc, graph, constraints, root, question)?;
+    let mut least = search.blank()?;
+    if search.first(graph, constraints, question, &mut least) {
+        Ok(Some(least))
+    } else {
+        Ok(None)
+    }
+}
+
+impl Comparison {
+    /// How what was found compares with what is wanted.
+    fn of(found: Option<&Frozen>, wanted: Option<&Frozen>) -> Comparison {
+        match (found, wanted) {
+            (None, None) => Comparison::BothNone,
+            (Some(f), Some(g)) if are_alike(f, g) => Comparison::BothAlike,
+            _ => Comparison::Different,
+        }
+    }
+}
+
+/// The search's answer against that of the plain one.
 fn compared(
     alloc: Global,
     schema: &Schema,
@@ -37,24 +88,10 @@ fn compared(
     requires root { IsDeclared (schema_of schema.now).graph root.0 }
     requires question { IsQuestion (schema_of schema.now) root.0 (formula_of question.now) }
 {
-    let graph = schema.graph();
-    let constraints = schema.constraints();
-    let mut search = Search::new(alloc, schema, root, question)?;
-    let mut plain = PlainSearch::new(alloc, graph, constraints, root, question)?;
-    let mut first = search.blank()?;
-    let mut again = search.blank()?;
-    let mut wanted = plain.blank()?;
-    let is_wanted = plain.first(graph, constraints, question, &mut wanted);
-    let is_found = search.first(schema, question, &mut first);
-    let is_found_again = search.first(schema, question, &mut again);
-    if is_found != is_wanted || is_found_again != is_wanted {
-        return Ok(Comparison::Different);
-    }
-    if !is_wanted {
-        return Ok(Comparison::BothNone);
-    }
-    if are_alike(&first, &wanted) && are_alike(&again, &wanted) {
-        Ok(Comparison::BothAlike)
+    let (found, is_same) = searched(alloc, schema, root, question)?;
+    let wanted = searched_plainly(alloc, schema, root, question)?;
+    if is_same {
+        Ok(Comparison::of(found.as_ref(), wanted.as_ref()))
     } else {
         Ok(Comparison::Different)
     }

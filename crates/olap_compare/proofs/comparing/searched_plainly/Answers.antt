@@ -6,10 +6,10 @@ use Rattle.olap_base.specs.Graph.{Graph}
 use Rattle.olap_schema.specs.Schemas.{schema_of}
 use Rattle.olap_dimsat.proofs.AtomLemmas.{atoms_on}
 use Rattle.olap_dimsat.proofs.MadeLemmas.{whole}
-use Rattle.olap_compare.proofs.comparing.compared.Goals as goal
+use Rattle.olap_compare.proofs.comparing.searched_plainly.Goals as goal
 
-pub new-requires-2-clause-categories : goal.new-requires-2-clause-categories
-new-requires-2-clause-categories c =
+pub new-requires-clause-categories : goal.new-requires-clause-categories
+new-requires-clause-categories c =
     let g = c.graph-graph.result.now in
     let cs = map constraint_of c.constraints-constraints.result.now in
     let w = whole (schema_of c.args.schema.now) g cs c.graph-graph.ensures c.constraints-constraints.ensures.list in
