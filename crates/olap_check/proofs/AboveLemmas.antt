@@ -71,7 +71,7 @@ member_is i n x c cells a y m =
     few k y e h = let f = a.bounded.few in omega arith
 
 -- the place of a present category has a member that is reached
-present_member : (i : Instance) (n x c : ℕ) (cells : List ℕ) → IsAbove i n x cells → IsTrue (is_present n cells x c)
+pub present_member : (i : Instance) (n x c : ℕ) (cells : List ℕ) → IsAbove i n x cells → IsTrue (is_present n cells x c)
     → IsMemberOf i c (cell n cells x c) × Reaches i x (cell n cells x c)
 present_member i n x c cells a p =
     let t = present_parts n c (cell n cells x c) p in
@@ -119,16 +119,6 @@ own_place i n x c cells made table inside e =
 -- ---- atoms by one row
 
 module _ (i : Instance) (n x : ℕ) (cells : List ℕ) (a : IsAbove i n x cells) where
-  -- what the look at one place of the row answers
-  pub reach_by_row : (d : ℕ) (o : Option ℕ) (r : Bool)
-      → IfSome o (λ y. IsTrue (is_present n cells x d) × (cell n cells x d ≡ y) × (y < length i))
-      → (IsNone o → IsTrue (is_present n cells x d) → ⊥) → r ≡ is_some o → IsTrue r ↔ ReachesCategory i x d
-  reach_by_row d None r s f q = (
-    λ t. absurd (let z : false ≡ true = sym q ∙ t in cc),
-    λ h. absurd (f refl (member_is i n x d cells a h.0 (h.1, h.2)).0),
-  )
-  reach_by_row d (Some y) r s f q = (λ t. present_reaches i n x d cells a s.0, λ h. q)
-
   -- what the row's member of one category reaches, x reaches by way of it
   pub via_by_row : (d e : ℕ) → ReachesThere i (is_present n cells x) (cell n cells x) d e ↔ ReachesVia i x d e
   via_by_row d e = (

@@ -10,5 +10,7 @@ mod LinkingLemmas
 mod SplitLemmas
 mod FirstLemmas
 mod AboveLemmas
+mod SeenLemmas
+mod WayLemmas
 mod BlockLemmas
 mod MeetingLemmas

@@ -11,5 +11,6 @@ pub mod Rows
 pub mod Tables
 pub mod Passing
 pub mod Above
+pub mod Seen
 pub mod Blocks
 pub mod Meeting

@@ -1,16 +1,15 @@
 // The shape of what one member reaches.
 ghost use Rattle.std.specs.Prelude.{◌≡◌, ◌<◌, ◌↔◌, length, IsTrue, IfSome, IsNone};
-ghost use Rattle.olap_ast.specs.Formula.{Holds};
-ghost use Rattle.olap_ast.specs.Trees.{formula_of};
-ghost use Rattle.olap_base.specs.Instance.{category_of};
+ghost use Rattle.olap_ast.specs.Formula.{ReachesNamed};
 ghost use Rattle.olap_check.specs.Above.{IsAbove, is_present};
+ghost use Rattle.olap_check.specs.Seen.{GoesOn};
 ghost use Rattle.olap_check.specs.Tables.{cell};
 ghost use Rattle.olap_eval.specs.Shapes.{IsShape};
 
 use crate::parting::ancestor;
-use olap_ast::Formula;
+use crate::ways::Way;
 use olap_base::{CatId, MemberId, Text};
-use olap_eval::{Shape, holds};
+use olap_eval::Shape;
 use olap_instance::Instance;
 
 /// What x reaches, read from the table of ancestors.
@@ -39,19 +38,21 @@ impl<'a> Above<'a> {
         }
     }
 
-    /// Whether the formula is true at x, a member of the root.
-    ///
-    /// x reaches what its row has, so of an atom that isn't a path the root needs no look.
-    pub(crate) fn is_true(&self, f: &Formula, root: CatId) -> bool
-        requires { category_of self.now.instance.now self.now.x ≡ root.0 }
-        ensures { IsTrue result ↔ Holds self.now.instance.now self.now.x (formula_of f.now) }
+    /// Whether x reaches a member of c from which it goes on that way to one of d.
+    pub(crate) fn goes_on(&self, way: Way, c: CatId, d: CatId) -> bool
+        ensures { IsTrue result ↔ GoesOn self.now.instance.now way c.0 d.0 self.now.x }
     {
-        match f {
-            Formula::Reach(d) => self.member(d.0).is_some(),
-            Formula::Via(d, e) => self.reaches(*d, *e),
-            Formula::Equals(d, text) => self.name_is(*d, text),
-            _ => holds(f, root, self),
+        match way {
+            Way::Reaches => self.reaches(c, d),
+            Way::Steps => self.has_edge(c, d),
         }
+    }
+
+    /// Whether x reaches a member of d whose name is the text.
+    pub(crate) fn is_named(&self, d: CatId, text: &Text) -> bool
+        ensures { IsTrue result ↔ ReachesNamed self.now.instance.now self.now.x d.0 text.now }
+    {
+        self.name_is(d, text)
     }
 }
 

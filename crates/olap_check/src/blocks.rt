@@ -1,15 +1,18 @@
 // A formula at many members at once: at those of one category among 64 places of an instance.
-ghost use Rattle.std.specs.Prelude.{◌≡◌, ◌+◌, ◌<◌, ◌≤◌, ◌↔◌, length, ℕ, true, IsTrue, IfSome, IsNone};
+ghost use Rattle.std.specs.Prelude.{◌≡◌, ◌+◌, ◌<◌, ◌≤◌, ◌↔◌, length, map, ℕ, true, IsTrue, IfSome, IsNone};
 ghost use Rattle.std.specs.FinSet as set;
-ghost use Rattle.olap_ast.specs.Formula.{Holds, ExactlyOneHolds, NoneHolds};
+ghost use Rattle.olap_ast.specs.Formula.{Holds, HasPath, ReachesNamed, ExactlyOneHolds, NoneHolds};
 ghost use Rattle.olap_ast.specs.Trees.{formula_of, terms_of};
 ghost use Rattle.olap_base.specs.Instance.{IsMemberOf};
 ghost use Rattle.olap_bits.specs.Sets.{members};
 ghost use Rattle.olap_check.specs.Blocks.{AreMembersFrom, IsBlock, IsFirstUnmetFrom, Selects};
+ghost use Rattle.olap_check.specs.Seen.{GoesOn, IsSeen};
 
 use crate::above::Above;
+use crate::seen::Seen;
+use crate::ways::{Entry, Way};
 use olap_ast::{Formula, Terms};
-use olap_base::{CatId, MemberId};
+use olap_base::{CatId, MemberId, Text};
 use olap_bits::CatSet;
 use olap_instance::Instance;
 
@@ -63,10 +66,10 @@ fn differing(a: CatSet<1>, b: CatSet<1>) -> CatSet<1>
 }
 
 impl<'a> Block<'a> {
-    /// Whether the formula is true at the member of a place.
-    fn is_true_at(&self, f: &Formula, k: u16) -> bool
+    /// Whether it goes on that way from c to d above the member of a place.
+    fn goes_on_at(&self, way: Way, c: CatId, d: CatId, k: u16) -> bool
         requires { set.contains (members self.now.places) k ≡ true }
-        ensures { IsTrue result ↔ Holds self.now.instance.now (self.now.start + k) (formula_of f.now) }
+        ensures { IsTrue result ↔ GoesOn self.now.instance.now way c.0 d.0 (self.now.start + k) }
     {
         let above = Above {
             instance: self.instance,
@@ -74,52 +77,148 @@ impl<'a> Block<'a> {
             categories: self.categories,
             x: self.start + u32::from(k),
         };
-        above.is_true(f, self.root)
+        above.goes_on(way, c, d)
     }
 
-    /// The places at which the formula is true, asked one by one.
-    fn asked(&self, f: &Formula) -> CatSet<1>
+    /// The places above which it goes on that way from c to d, asked one by one.
+    fn asked_way(&self, way: Way, c: CatId, d: CatId) -> CatSet<1>
         ensures { Selects (members self.now.places)
-            (λ k. Holds self.now.instance.now (self.now.start + k) (formula_of f.now)) (members result) }
+            (λ k. GoesOn self.now.instance.now way c.0 d.0 (self.now.start + k)) (members result) }
     {
         let mut truths = CatSet::empty();
         'places: for k in 0..WIDTH as u16 {
-            if self.places.has(k) && self.is_true_at(f, k) {
+            if self.places.has(k) && self.goes_on_at(way, c, d, k) {
                 truths = truths.with(k);
             }
         }
         truths
     }
 
+    /// The places above which it goes on that way from c to d, remembered or asked now.
+    fn going_on(&self, way: Way, c: CatId, d: CatId, seen: &mut Seen) -> CatSet<1>
+        requires { IsSeen self.now.instance.now seen.old }
+        ensures seen { IsSeen self.now.instance.now seen.new }
+        ensures places { Selects (members self.now.places)
+            (λ k. GoesOn self.now.instance.now way c.0 d.0 (self.now.start + k)) (members result) }
+    {
+        if let Some(places) = seen.ways.kept(way, c, d, self.root, self.start) {
+            return places;
+        }
+        let places = self.asked_way(way, c, d);
+        let entry = Entry {
+            root: self.root,
+            start: self.start,
+            places,
+        };
+        seen.ways.keep(way, c, d, entry);
+        places
+    }
+
+    /// The places at which edges lead from the root through these categories.
+    fn along(&self, categories: &[CatId], seen: &mut Seen) -> CatSet<1>
+        requires { IsSeen self.now.instance.now seen.old }
+        ensures seen { IsSeen self.now.instance.now seen.new }
+        ensures places { let path = map (λ c. c.0) categories.now in Selects (members self.now.places)
+            (λ k. HasPath self.now.instance.now (self.now.start + k) path) (members result) }
+    {
+        let mut at = self.root;
+        let mut truths = self.places;
+        'path: for c in categories {
+            truths = truths.meet(self.going_on(Way::Steps, at, *c, seen));
+            at = *c;
+        }
+        truths
+    }
+
+    /// Whether a member of d with this name is reached from the member of a place.
+    fn is_named_at(&self, d: CatId, text: &Text, k: u16) -> bool
+        requires { set.contains (members self.now.places) k ≡ true }
+        ensures { IsTrue result ↔ ReachesNamed self.now.instance.now (self.now.start + k) d.0 text.now }
+    {
+        let above = Above {
+            instance: self.instance,
+            cells: self.cells,
+            categories: self.categories,
+            x: self.start + u32::from(k),
+        };
+        above.is_named(d, text)
+    }
+
+    /// The places above which a member of d has this name, asked one by one.
+    fn asked_name(&self, d: CatId, text: &Text) -> CatSet<1>
+        ensures { Selects (members self.now.places)
+            (λ k. ReachesNamed self.now.instance.now (self.now.start + k) d.0 text.now) (members result) }
+    {
+        let mut truths = CatSet::empty();
+        'places: for k in 0..WIDTH as u16 {
+            if self.places.has(k) && self.is_named_at(d, text, k) {
+                truths = truths.with(k);
+            }
+        }
+        truths
+    }
+
+    /// The places above which a member of d has this name, remembered or asked now.
+    fn named(&self, d: CatId, text: &Text, seen: &mut Seen) -> CatSet<1>
+        requires { IsSeen self.now.instance.now seen.old }
+        ensures seen { IsSeen self.now.instance.now seen.new }
+        ensures places { Selects (members self.now.places)
+            (λ k. ReachesNamed self.now.instance.now (self.now.start + k) d.0 text.now) (members result) }
+    {
+        let Some(place) = seen.names.place(d, text) else {
+            return self.asked_name(d, text);
+        };
+        if let Some(places) = seen.names.kept(place, d, text, self.root, self.start) {
+            return places;
+        }
+        let places = self.asked_name(d, text);
+        let entry = Entry {
+            root: self.root,
+            start: self.start,
+            places,
+        };
+        seen.names.keep(place, d, text, entry);
+        places
+    }
+
     /// The places at which the formula is true.
     ///
-    /// It asks each atom at each member. It calls itself as deep as the formula is, and once more for each part of a
-    /// list.
+    /// It asks each name, and each way from one category to another, once for the block. It calls itself as deep as the
+    /// formula is, and once more for each part of a list.
     #[cycle(holding)]
-    fn holding(&self, f: &Formula) -> CatSet<1>
-        ensures { Selects (members self.now.places)
+    fn holding(&self, f: &Formula, seen: &mut Seen) -> CatSet<1>
+        requires { IsSeen self.now.instance.now seen.old }
+        ensures seen { IsSeen self.now.instance.now seen.new }
+        ensures places { Selects (members self.now.places)
             (λ k. Holds self.now.instance.now (self.now.start + k) (formula_of f.now)) (members result) }
     {
         match f {
             Formula::True => self.places,
             Formula::False => CatSet::empty(),
-            Formula::Path(_) | Formula::Reach(_) | Formula::Via(_, _) | Formula::Equals(_, _) =>
-                self.asked(f),
-            Formula::Not(g) => self.places.minus(self.holding(g)),
-            Formula::And(g, h) => self.holding(g).meet(self.holding(h)),
-            Formula::Or(g, h) => self.holding(g).union(self.holding(h)),
-            Formula::Implies(g, h) => self.places.minus(self.holding(g)).union(self.holding(h)),
+            Formula::Path(categories) => self.along(categories.items(), seen),
+            Formula::Reach(d) => self.going_on(Way::Reaches, self.root, *d, seen),
+            Formula::Via(d, e) => self.going_on(Way::Reaches, *d, *e, seen),
+            Formula::Equals(d, text) => self.named(*d, text, seen),
+            Formula::Not(g) => self.places.minus(self.holding(g, seen)),
+            Formula::And(g, h) => self.holding(g, seen).meet(self.holding(h, seen)),
+            Formula::Or(g, h) => self.holding(g, seen).union(self.holding(h, seen)),
+            Formula::Implies(g, h) => self
+                .places
+                .minus(self.holding(g, seen))
+                .union(self.holding(h, seen)),
             Formula::Iff(g, h) => self
                 .places
-                .minus(differing(self.holding(g), self.holding(h))),
-            Formula::Xor(g, h) => differing(self.holding(g), self.holding(h)),
-            Formula::One(parts) => self.counted(parts).one,
+                .minus(differing(self.holding(g, seen), self.holding(h, seen))),
+            Formula::Xor(g, h) => differing(self.holding(g, seen), self.holding(h, seen)),
+            Formula::One(parts) => self.counted(parts, seen).one,
         }
     }
 
     /// The places at which none of the formulas is true, and at which exactly one is.
     #[cycle(holding)]
-    fn counted(&self, parts: &Terms) -> Counted
+    fn counted(&self, parts: &Terms, seen: &mut Seen) -> Counted
+        requires { IsSeen self.now.instance.now seen.old }
+        ensures seen { IsSeen self.now.instance.now seen.new }
         ensures none { Selects (members self.now.places)
             (λ k. NoneHolds self.now.instance.now (self.now.start + k) (terms_of parts.now)) (members result.none) }
         ensures one { Selects (members self.now.places)
@@ -132,8 +231,8 @@ impl<'a> Block<'a> {
                 one: CatSet::empty(),
             },
             Terms::More(f, rest) => {
-                let here = self.holding(f);
-                let others = self.counted(rest);
+                let here = self.holding(f, seen);
+                let others = self.counted(rest, seen);
                 Counted {
                     none: others.none.minus(here),
                     one: here.meet(others.none).union(others.one.minus(here)),
@@ -143,7 +242,9 @@ impl<'a> Block<'a> {
     }
 
     /// The first member of the block at which the formula is false.
-    pub(crate) fn first_unmet(&self, f: &Formula) -> Option<u32>
+    pub(crate) fn first_unmet(&self, f: &Formula, seen: &mut Seen) -> Option<u32>
+        requires { IsSeen self.now.instance.now seen.old }
+        ensures seen { IsSeen self.now.instance.now seen.new }
         ensures some { let formula = formula_of f.now in
             IfSome result (IsFirstUnmetFrom self.now.instance.now self.now.root.0 formula self.now.start) }
         ensures none { IsNone result → (x : ℕ) → self.now.start ≤ x → x < self.now.start + 64
@@ -152,7 +253,7 @@ impl<'a> Block<'a> {
         if self.places.first().is_none() {
             return None;
         }
-        let unmet = self.places.minus(self.holding(f));
+        let unmet = self.places.minus(self.holding(f, seen));
         match unmet.first() {
             Some(k) => Some(self.start + u32::from(k)),
             None => None,

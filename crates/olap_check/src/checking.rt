@@ -20,8 +20,9 @@ use std::alloc::Global;
 ///
 /// `Broken` exactly where it isn't legal, with the first violation: by law, and within a law in file order, as
 /// `IsFirstViolation` says. `Memory` where there is no room, and the instance is dropped. Cost: at most the members and
-/// their parents times the number of categories, the members times its square, and of each formula the atoms at the
-/// members of its root, and the other nodes once for 64 members. A cycle, or a member with many parents, costs no more.
+/// their parents times the number of categories, the members times its square, and of each formula its distinct pairs of
+/// categories and names at the members of its root, and its nodes once for 64 members. A cycle, or a member with many
+/// parents, costs no more.
 pub fn check(alloc: Global, schema: &Schema, instance: Instance) -> Result<Legal, CheckRefusal>
     requires { IsMadeFor (schema_of schema.now).graph instance }
     ensures same { IfOk result (λ legal. legal ≡ instance) }
@@ -49,7 +50,8 @@ fn check_parts(
         Ok(cells) => cells,
         Err(violation) => return Err(CheckRefusal::Broken(instance, violation)),
     };
-    if let Some((k, x)) = first_violated(&instance, &cells, categories, constraints) {
+    let found = first_violated(alloc, &instance, &cells, categories, constraints)?;
+    if let Some((k, x)) = found {
         let violation = Violation::Constraint(k as u16 + 1, MemberId(x));
         return Err(CheckRefusal::Broken(instance, violation));
     }

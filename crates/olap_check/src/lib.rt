@@ -12,13 +12,16 @@ mod laws;
 mod legality;
 mod linking;
 mod meeting;
+mod naming;
 mod parting;
 mod passing;
 mod rising;
+mod seen;
 mod strata;
 #[cfg(test)]
 mod tests;
 mod violations;
+mod ways;
 
 pub use checking::check;
 pub use legality::Legal;

@@ -1,17 +1,20 @@
 // Constraints, each at all members of its root.
-ghost use Rattle.std.specs.Prelude.{◌≡◌, ◌<◌, length, map, ℕ, Contains, IfSome, IsNone};
+ghost use Rattle.std.specs.Prelude.{◌≡◌, ◌<◌, length, map, ℕ, Contains, IfOk, IfSome, IsNone};
 ghost use Rattle.olap_ast.specs.Formula.{Holds};
 ghost use Rattle.olap_ast.specs.Schema.{Constraint as TheConstraint, Meets};
 ghost use Rattle.olap_ast.specs.Trees.{constraint_of, formula_of};
 ghost use Rattle.olap_base.specs.Instance.{IsMemberOf};
 ghost use Rattle.olap_check.specs.Meeting.{IsFirstUnmet, IsFirstViolated};
 ghost use Rattle.olap_check.specs.Rows.{IsBounded};
+ghost use Rattle.olap_check.specs.Seen.{IsSeen};
 ghost use Rattle.olap_check.specs.Tables.{IsTable};
 
 use crate::blocks::{Block, WIDTH, members_from};
+use crate::seen::Seen;
 use olap_ast::{Constraint, Formula};
-use olap_base::CatId;
+use olap_base::{CatId, Memory};
 use olap_instance::Instance;
+use std::alloc::Global;
 
 /// The first member of the root at which the formula is false.
 fn first_unmet(
@@ -20,9 +23,12 @@ fn first_unmet(
     categories: u16,
     root: CatId,
     formula: &Formula,
+    seen: &mut Seen,
 ) -> Option<u32>
     requires bounded { IsBounded instance.now categories }
     requires table { IsTable instance.now categories (length instance.now) cells.now }
+    requires seen { IsSeen instance.now seen.old }
+    ensures seen { IsSeen instance.now seen.new }
     ensures some { IfSome result (IsFirstUnmet instance.now root.0 (formula_of formula.now)) }
     ensures none { IsNone result → (x : ℕ) → IsMemberOf instance.now root.0 x
         → Holds instance.now x (formula_of formula.now) }
@@ -38,7 +44,7 @@ fn first_unmet(
             start,
             places: members_from(instance, root, start),
         };
-        if let Some(x) = block.first_unmet(formula) {
+        if let Some(x) = block.first_unmet(formula, seen) {
             return Some(x);
         }
     }
@@ -47,24 +53,29 @@ fn first_unmet(
 
 /// The place of the first constraint that isn't met, and the first member at which it isn't.
 ///
-/// Cost: for each constraint the members, its atoms at those of its root, and its other nodes once for 64 members.
+/// Cost: for each constraint the members; at those of its root its distinct names and pairs of categories; and its
+/// nodes, with each category of a path, once for 64 members.
 pub(crate) fn first_violated(
+    alloc: Global,
     instance: &Instance,
     cells: &[u32],
     categories: u16,
     constraints: &[Constraint],
-) -> Option<(usize, u32)>
+) -> Result<Option<(usize, u32)>, Memory>
     requires bounded { IsBounded instance.now categories }
     requires table { IsTable instance.now categories (length instance.now) cells.now }
-    ensures some { IfSome result (λ s. IsFirstViolated instance.now (map constraint_of constraints.now) s.0 s.1) }
-    ensures none { IsNone result → (c : TheConstraint) → Contains (map constraint_of constraints.now) c
-        → Meets instance.now c }
+    ensures some { let all = map constraint_of constraints.now in
+        IfOk result (λ r. IfSome r (λ s. IsFirstViolated instance.now all s.0 s.1)) }
+    ensures none { IfOk result (λ r. IsNone r → (c : TheConstraint) → Contains (map constraint_of constraints.now) c
+        → Meets instance.now c) }
 {
+    let mut seen = Seen::new(alloc, constraints)?;
     'constraints: for (k, constraint) in constraints.iter().enumerate() {
         let root = constraint.root;
-        if let Some(x) = first_unmet(instance, cells, categories, root, &constraint.formula) {
-            return Some((k, x));
+        let formula = &constraint.formula;
+        if let Some(x) = first_unmet(instance, cells, categories, root, formula, &mut seen) {
+            return Ok(Some((k, x)));
         }
     }
-    None
+    Ok(None)
 }

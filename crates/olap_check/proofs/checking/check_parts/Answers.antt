@@ -8,11 +8,12 @@ use Rattle.olap_check.proofs.checking.check_parts.Goals as goal
 pub returns-in-Some-clause-err : goal.returns-in-Some-clause-err
 returns-in-Some-clause-err c =
     let s = parts_of c.args.graph.now c.args.constraints.now in
-    let lawful = rw c.in-Ok.is at c.in_ok-cells.ensures.lawful in (
+    let lawful = rw c.in-Ok.is at c.in_ok-cells.ensures.lawful in
+    let first = rw c.in-Some.is at c.in_ok-found.ensures.some in (
       refl,
       record {
         violation = _;
-        is_first = first6 s c.args.instance lawful c.in-Some.k c.in-Some.x c.in-Some.ensures.some;
+        is_first = first6 s c.args.instance lawful c.in-Some.k c.in-Some.x first;
         is_told = ap (λ k. Constraint k (member c.in-Some.x)) (add-one c.in-Some.k);
       },
     )

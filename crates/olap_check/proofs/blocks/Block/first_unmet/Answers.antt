@@ -21,7 +21,7 @@ returns-in-Some-clause-some c =
     let truths = members c.holding.result in
     let least = subst (λ s. IsLeast s c.in-Some.k) c.minus-unmet.ensures c.in-Some.ensures.least in
     subst (λ k. IsFirstUnmetFrom b.instance.now b.root.0 f b.start (b.start + k)) (sym c.from.ensures)
-    (first_left b.instance.now b.root.0 b.start (members b.places) b.sound.exact f truths c.holding.ensures
+    (first_left b.instance.now b.root.0 b.start (members b.places) b.sound.exact f truths c.holding.ensures.places
     c.in-Some.k least)
 
 pub returns-in-None-clause-none : goal.returns-in-None-clause-none
@@ -30,4 +30,4 @@ returns-in-None-clause-none c = λ e x l h m.
     let f = formula_of c.args.f.now in
     let none = sym c.minus-unmet.ensures ∙ c.in-None.ensures.none.0 refl in
     none_left b.instance.now b.root.0 b.start (members b.places) b.sound.exact f (members c.holding.result)
-    c.holding.ensures none x l h m
+    c.holding.ensures.places none x l h m

@@ -1,12 +1,11 @@
 -- The member of a place, with the row that the table has of it.
 use Rattle.std.proofs.Common.{◌+◌, ◌↔◌, subst, sym}
 use Rattle.std.specs.Prelude.{IsTrue}
-use Rattle.olap_ast.specs.Formula.{Holds}
-use Rattle.olap_ast.specs.Trees.{formula_of}
+use Rattle.olap_ast.specs.Formula.{ReachesNamed}
 use Rattle.olap_base.specs.Instance.{IsMemberOf}
 use Rattle.olap_check.specs.Above.{IsAbove}
 use Rattle.olap_check.proofs.AboveLemmas.{above_shape}
-use Rattle.olap_check.proofs.blocks.Block.is_true_at.Goals as goal
+use Rattle.olap_check.proofs.blocks.Block.is_named_at.Goals as goal
 
 pub invariant_of-above : goal.invariant_of-above
 invariant_of-above c =
@@ -19,14 +18,8 @@ invariant_of-above c =
     record { inside = member.0; bounded = t.bounded; table = t.table } in
     record { sound = sound; row_is_shape = above_shape b.instance.now b.categories x b.cells.now sound }
 
-pub is_true-requires : goal.is_true-requires
-is_true-requires c =
-    let b = c.args.self.now in
-    let place = (b.sound.exact c.args.k).0 c.requires in
-    (subst (λ k. IsMemberOf b.instance.now b.root.0 (b.start + k)) (sym c.from.ensures) place.1).1
-
 pub returns : goal.returns
 returns c =
     let b = c.args.self.now in
-    subst (λ k. IsTrue c.is_true.result ↔ Holds b.instance.now (b.start + k) (formula_of c.args.f.now)) c.from.ensures
-    c.is_true.ensures
+    subst (λ k. IsTrue c.is_named.result ↔ ReachesNamed b.instance.now (b.start + k) c.args.d.0 c.args.text.now) c.from.ensures
+    c.is_named.ensures

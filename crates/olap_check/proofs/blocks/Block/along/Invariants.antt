@@ -1,0 +1,18 @@
+-- At each place the path goes on from the category reached so far, or is no longer there.
+use Rattle.std.proofs.Common.{◌≡◌, ℕ, ◌+◌, drop, true}
+use Rattle.std.specs.FinSet.{contains}
+use Rattle.olap_ast.specs.Formula.{HasPath}
+use Rattle.olap_bits.specs.Sets.{members}
+use Rattle.olap_check.specs.Above.{is_present}
+use Rattle.olap_check.specs.Seen.{IsSeen}
+use Rattle.olap_check.specs.Tables.{cell}
+use Rattle.olap_check.proofs.WayLemmas.{IsAlong}
+use Rattle.olap_eval.proofs.ShapeLemmas.{numbers}
+use Rattle.olap_check.proofs.blocks.Block.along.Given as goal
+
+abbrev pub invariant-path : goal.invariant-path
+invariant-path l =
+    let b = l.self in
+    IsSeen b.instance.now l.seen
+    × IsAlong b.instance.now b.categories b.start b.cells.now (members b.places) (numbers l.categories)
+    (members l.truths) l.at.0 (numbers (drop l.c-index l.categories))

@@ -1,0 +1,25 @@
+-- The member of a place, with the row that the table has of it.
+use Rattle.std.proofs.Common.{◌+◌, ◌↔◌, subst, sym}
+use Rattle.std.specs.Prelude.{IsTrue}
+use Rattle.olap_base.specs.Instance.{IsMemberOf}
+use Rattle.olap_check.specs.Above.{IsAbove}
+use Rattle.olap_check.specs.Seen.{GoesOn}
+use Rattle.olap_check.proofs.AboveLemmas.{above_shape}
+use Rattle.olap_check.proofs.blocks.Block.goes_on_at.Goals as goal
+
+pub invariant_of-above : goal.invariant_of-above
+invariant_of-above c =
+    let b = c.args.self.now in
+    let x = b.start + c.from.result in
+    let place = (b.sound.exact c.args.k).0 c.requires in
+    let member = subst (λ k. IsMemberOf b.instance.now b.root.0 (b.start + k)) (sym c.from.ensures) place.1 in
+    let t = b.sound.has_table in
+    let sound : IsAbove b.instance.now b.categories x b.cells.now =
+    record { inside = member.0; bounded = t.bounded; table = t.table } in
+    record { sound = sound; row_is_shape = above_shape b.instance.now b.categories x b.cells.now sound }
+
+pub returns : goal.returns
+returns c =
+    let b = c.args.self.now in
+    subst (λ k. IsTrue c.goes_on.result ↔ GoesOn b.instance.now c.args.way c.args.c.0 c.args.d.0 (b.start + k))
+    c.from.ensures c.goes_on.ensures
