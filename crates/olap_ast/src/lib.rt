@@ -10,8 +10,6 @@ mod copying;
 mod formulas;
 mod laws;
 mod measuring;
-#[cfg(test)]
-mod tests;
 mod three_values;
 
 pub use collecting::{constants, gather};

@@ -15,11 +15,10 @@ mod meeting;
 mod naming;
 mod parting;
 mod passing;
+mod places;
 mod rising;
 mod seen;
 mod strata;
-#[cfg(test)]
-mod tests;
 mod violations;
 mod ways;
 

@@ -4,14 +4,12 @@
 //! reaches, and how they are named. A contract sees it as an instance and one place of it for each present category.
 //! `holds` is the truth of a formula at the root's member of that instance.
 //!
-//! A `Partial` says of each edge, of each reaching and of each name what is known of it, and `holds3` what is known of a
-//! formula by that.
+//! A `Partial` says of each edge, of each reaching and of each name what is known of it, and `holds3` what is known
+//! of a formula by that.
 #![tactic(auto)]
 
 mod partial;
 mod shapes;
-#[cfg(test)]
-mod tests;
 mod truths;
 
 pub use partial::{Partial, holds3, values_are_truths};

@@ -11,11 +11,8 @@ mod readers;
 mod reading;
 mod tables;
 
-pub use kinds::{FactKind, FactRefusal, NextRefusal};
+pub use kinds::{FactKind, FactRefusal};
 pub use laws::bottom_is_decided;
 pub use readers::FactReader;
 pub use reading::read_facts;
 pub use tables::{Fact, Facts};
-
-#[cfg(test)]
-mod tests;

@@ -1,9 +1,9 @@
 //! A schema, an instance and facts that are made from a number, and what comes of them.
 //!
 //! A contract sees the made input as texts: `location_text` is the schema's, and `member_rows` and `fact_rows` are the
-//! records of the others (`specs`). `generate` makes the texts and goes the whole way over them: the readers, the check,
-//! the stored views as a text, and the plan for the regions. No made text has a fault, and the made instance is legal,
-//! so nothing but memory is ever wanting.
+//! records of the others (`specs`). `generate` makes the texts and goes the whole way over them: the readers, the
+//! check, the stored views as a text, and the plan for the regions. No made text has a fault, and the made instance
+//! is legal, so nothing but memory is ever wanting.
 #![tactic(auto)]
 
 mod facts;
@@ -16,6 +16,3 @@ mod running;
 
 pub use generating::generate;
 pub use laws::an_input_is_made;
-
-#[cfg(test)]
-mod tests;

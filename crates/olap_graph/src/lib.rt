@@ -13,8 +13,6 @@ mod naming;
 mod reaching;
 mod refusals;
 mod tables;
-#[cfg(test)]
-mod tests;
 
 pub use building::GraphBuilder;
 pub use graphs::Graph;

@@ -15,8 +15,6 @@ mod printing;
 mod reading;
 mod refusals;
 mod rosters;
-#[cfg(test)]
-mod tests;
 mod texts;
 
 pub use building::InstanceBuilder;

@@ -16,6 +16,3 @@ pub use answering::answer;
 pub use choice::{Plan, PlanRefusal};
 pub use planning::plan;
 pub use printing::print_plan;
-
-#[cfg(test)]
-mod tests;

@@ -5,8 +5,6 @@
 #![tactic(auto)]
 
 mod searching;
-#[cfg(test)]
-mod tests;
 mod viewing;
 
 pub use searching::Search;

@@ -9,8 +9,7 @@ mod laws;
 mod numbers;
 mod printing;
 mod reading;
-#[cfg(test)]
-mod tests;
+mod refused;
 
 pub use laws::{first_fault_is_first, no_fault_is_none, text_reads_back};
 pub use numbers::value;

@@ -2,12 +2,33 @@
 use crate::running::{changed, check};
 use crate::samples::{CYCLE, LOCATION, PLACES};
 use olap_run::Status;
+use std::alloc::Global;
+use std::process::Abort;
 use std::test::Fail;
 
 const LINE: [&str; 3] = ["check", "S", "I"];
 
+/// Each change of a line of the places is refused with its output.
+fn broken(rt: &impl Abort, alloc: Global, rows: &[(&str, &str, &str)]) -> Result<(), Fail> {
+    for (old, new, output) in rows {
+        let instance = changed(alloc, PLACES, old, new)?;
+        let held = [("S", LOCATION), ("I", instance.as_str())];
+        check(
+            rt,
+            alloc,
+            &LINE,
+            &held,
+            (None, None),
+            400,
+            Status::Refused,
+            output,
+        )?;
+    }
+    Ok(())
+}
+
 #[test]
-fn checks(rt: HostRuntime) -> Result<(), Fail> {
+fn legal_instances(rt: HostRuntime) -> Result<(), Fail> {
     let alloc = rt.alloc();
     let header = "id,category,name,parents\n";
     for (instance, output) in [(PLACES, "legal 17\n"), (header, "legal 0\n")] {
@@ -23,6 +44,11 @@ fn checks(rt: HostRuntime) -> Result<(), Fail> {
             output,
         )?;
     }
+    Ok(())
+}
+
+#[test]
+fn violations_over_locations(rt: HostRuntime) -> Result<(), Fail> {
     let rows: [(&str, &str, &str); 6] = [
         (
             "s1,Store,S1,w",
@@ -56,25 +82,16 @@ fn checks(rt: HostRuntime) -> Result<(), Fail> {
             "refused instance NoParent \"me\"\n",
         ),
     ];
-    for (old, new, output) in rows {
-        let instance = changed(alloc, PLACES, old, new)?;
-        let held = [("S", LOCATION), ("I", instance.as_str())];
-        check(
-            &rt,
-            alloc,
-            &LINE,
-            &held,
-            (None, None),
-            400,
-            Status::Refused,
-            output,
-        )?;
-    }
+    broken(&rt, rt.alloc(), &rows)
+}
+
+#[test]
+fn a_cycle_of_members(rt: HostRuntime) -> Result<(), Fail> {
     let ring = "id,category,name,parents\nb,B,b,r\nr,R,r,b\n";
     let held = [("S", CYCLE), ("I", ring)];
     check(
         &rt,
-        alloc,
+        rt.alloc(),
         &LINE,
         &held,
         (None, None),

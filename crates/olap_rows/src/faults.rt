@@ -6,9 +6,9 @@ use std::test::Fail;
 
 const LINE: [&str; 5] = ["rollup", "S", "I", "F", "City"];
 
-/// A name that isn't held, a read that fails, a first write that fails, and a sink with too little room.
+/// A name that isn't held, and a read that fails.
 #[test]
-fn faults(rt: HostRuntime) -> Result<(), Fail> {
+fn reads_that_fail(rt: HostRuntime) -> Result<(), Fail> {
     let alloc = rt.alloc();
     let held = [("S", CHAIN), ("I", TWO_STORES), ("F", ZERO_SUM)];
     check(
@@ -33,6 +33,14 @@ fn faults(rt: HostRuntime) -> Result<(), Fail> {
             "",
         )?;
     }
+    Ok(())
+}
+
+/// A first write that fails, a sink with too little room, and one with enough.
+#[test]
+fn writes_that_fail(rt: HostRuntime) -> Result<(), Fail> {
+    let alloc = rt.alloc();
+    let held = [("S", CHAIN), ("I", TWO_STORES), ("F", ZERO_SUM)];
     check(
         &rt,
         alloc,

@@ -2,12 +2,25 @@
 use crate::running::{check, grown};
 use crate::samples::{CHAIN, CYCLE, LOCATION};
 use olap_run::Status;
+use std::alloc::Global;
+use std::process::Abort;
 use std::test::Fail;
 
 const LINE: [&str; 2] = ["format", "X"];
 
+/// Each schema, with a line behind its last, is refused with this output.
+fn refused(rt: &impl Abort, alloc: Global, rows: &[(&str, &str, &str)]) -> Result<(), Fail> {
+    for (schema, line, output) in rows {
+        let text = grown(alloc, schema, line)?;
+        let held = [("X", text.as_str())];
+        let status = Status::Refused;
+        check(rt, alloc, &LINE, &held, (None, None), 400, status, output)?;
+    }
+    Ok(())
+}
+
 #[test]
-fn formats(rt: HostRuntime) -> Result<(), Fail> {
+fn canonical_text(rt: HostRuntime) -> Result<(), Fail> {
     let alloc = rt.alloc();
     let commented = grown(
         alloc,
@@ -29,8 +42,12 @@ fn formats(rt: HostRuntime) -> Result<(), Fail> {
         400,
         Status::Yes,
         canonical.as_str(),
-    )?;
-    let rows: [(&str, &str, &str); 7] = [
+    )
+}
+
+#[test]
+fn faulty_constraints(rt: HostRuntime) -> Result<(), Fail> {
+    let rows: [(&str, &str, &str); 5] = [
         (
             LOCATION,
             "constraint City: City_Region\n",
@@ -56,6 +73,13 @@ fn formats(rt: HostRuntime) -> Result<(), Fail> {
             "constraint S: S_B_R_B\n",
             "refused schema line 11 RepeatedCategory\n",
         ),
+    ];
+    refused(&rt, rt.alloc(), &rows)
+}
+
+#[test]
+fn schemas_without_a_way_or_a_line(rt: HostRuntime) -> Result<(), Fail> {
+    let rows: [(&str, &str, &str); 2] = [
         (
             "schema 1\n",
             "category A\n",
@@ -63,28 +87,11 @@ fn formats(rt: HostRuntime) -> Result<(), Fail> {
         ),
         ("", "", "refused schema line 1 BadForm\n"),
     ];
-    for (schema, line, output) in rows {
-        let text = grown(alloc, schema, line)?;
-        let held = [("X", text.as_str())];
-        check(
-            &rt,
-            alloc,
-            &LINE,
-            &held,
-            (None, None),
-            400,
-            Status::Refused,
-            output,
-        )?;
-    }
-    check(
-        &rt,
-        alloc,
-        &LINE,
-        &[],
-        (None, None),
-        400,
-        Status::ReadFault,
-        "",
-    )
+    refused(&rt, rt.alloc(), &rows)
+}
+
+#[test]
+fn a_schema_that_is_not_there(rt: HostRuntime) -> Result<(), Fail> {
+    let status = Status::ReadFault;
+    check(&rt, rt.alloc(), &LINE, &[], (None, None), 400, status, "")
 }

@@ -50,8 +50,8 @@ fn seeds_of_many_digits(rt: HostRuntime) -> Result<(), Fail> {
 }
 
 #[test]
-fn words_that_are_no_number(rt: HostRuntime) -> Result<(), Fail> {
-    let rows: [(&str, &str, &str); 17] = [
+fn seeds_that_are_no_number(rt: HostRuntime) -> Result<(), Fail> {
+    let rows: [(&str, &str, &str); 9] = [
         ("", "3", "refused word 2 BadNumber\n"),
         ("x", "3", "refused word 2 BadNumber\n"),
         ("+5", "3", "refused word 2 BadNumber\n"),
@@ -61,6 +61,17 @@ fn words_that_are_no_number(rt: HostRuntime) -> Result<(), Fail> {
         ("000000000000000000005", "3", "refused word 2 BadNumber\n"),
         ("18446744073709551616", "3", "refused word 2 BadNumber\n"),
         ("x", "x", "refused word 2 BadNumber\n"),
+    ];
+    for (seed, size, output) in rows {
+        let line: [&str; 3] = ["generate", seed, size];
+        check_status(&rt, rt.alloc(), &line, &[], Status::Refused, output)?;
+    }
+    Ok(())
+}
+
+#[test]
+fn sizes_that_are_no_number_or_too_great(rt: HostRuntime) -> Result<(), Fail> {
+    let rows: [(&str, &str, &str); 8] = [
         ("5", "", "refused word 3 BadNumber\n"),
         ("5", "+3", "refused word 3 BadNumber\n"),
         ("5", "-3", "refused word 3 BadNumber\n"),

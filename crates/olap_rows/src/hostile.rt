@@ -6,6 +6,7 @@ use crate::samples::CHAIN;
 use olap_base::{Failed, Library, List, MemSink, OpenError};
 use olap_run::{Status, olap};
 use std::alloc::Global;
+use std::process::Abort;
 use std::test::Fail;
 
 /// A library each of whose files is the byte `#` without end.
@@ -92,15 +93,26 @@ fn with_line(
 /// A schema of stores in cities whose last line isn't ended.
 const UNENDED: &str = "schema 1\ncategory Store\ncategory City\nedge Store City\nedge City All";
 
-/// Schemas that are cut off, and schemas with one more line.
+/// What `format` tells of each schema.
+fn formatted(rt: &impl Abort, alloc: Global, rows: &[(String, Status, &str)]) -> Result<(), Fail> {
+    for (text, status, output) in rows {
+        check_status(
+            rt,
+            alloc,
+            &["format", "X"],
+            &[("X", text.as_str())],
+            *status,
+            output,
+        )?;
+    }
+    Ok(())
+}
+
+/// Schemas that are cut off.
 #[test]
-fn schemas(rt: HostRuntime) -> Result<(), Fail> {
+fn schemas_that_are_cut_off(rt: HostRuntime) -> Result<(), Fail> {
     let alloc = rt.alloc();
-    let truths = line(alloc, "constraint City: one(true", ", true", 4094, ")\n")?;
-    let deep = line(alloc, "true", ")", 64, "\n")?;
-    let deeper = line(alloc, "true", ")", 65, "\n")?;
-    let plain = grown(alloc, CHAIN, "constraint City: true\n")?;
-    let rows: [(String, Status, &str); 10] = [
+    let rows: [(String, Status, &str); 3] = [
         (String::from_str(alloc, UNENDED)?, Status::Yes, CHAIN),
         (
             String::from_str(
@@ -118,6 +130,18 @@ fn schemas(rt: HostRuntime) -> Result<(), Fail> {
             Status::Refused,
             "refused schema line 5 UnknownCategory\n",
         ),
+    ];
+    formatted(&rt, alloc, &rows)
+}
+
+/// Schemas with one more line, of brackets or signs in each other.
+#[test]
+fn schemas_with_a_deep_line(rt: HostRuntime) -> Result<(), Fail> {
+    let alloc = rt.alloc();
+    let deep = line(alloc, "true", ")", 64, "\n")?;
+    let deeper = line(alloc, "true", ")", 65, "\n")?;
+    let plain = grown(alloc, CHAIN, "constraint City: true\n")?;
+    let rows: [(String, Status, &str); 3] = [
         (
             with_line(alloc, "constraint City: ", "(", 64, &deep)?,
             Status::Yes,
@@ -133,6 +157,16 @@ fn schemas(rt: HostRuntime) -> Result<(), Fail> {
             Status::Refused,
             "refused schema line 6 TooDeep\n",
         ),
+    ];
+    formatted(&rt, alloc, &rows)
+}
+
+/// Schemas with one more line, of many parts or of a long text, and one line beyond all limits.
+#[test]
+fn schemas_with_a_long_line(rt: HostRuntime) -> Result<(), Fail> {
+    let alloc = rt.alloc();
+    let truths = line(alloc, "constraint City: one(true", ", true", 4094, ")\n")?;
+    let rows: [(String, Status, &str); 4] = [
         (grown(alloc, CHAIN, &truths)?, Status::Yes, ""),
         (
             with_line(alloc, "constraint City: one(true", ", true", 4095, ")\n")?,
@@ -150,17 +184,7 @@ fn schemas(rt: HostRuntime) -> Result<(), Fail> {
             "refused schema TooLong\n",
         ),
     ];
-    for (text, status, output) in &rows {
-        check_status(
-            &rt,
-            alloc,
-            &["format", "X"],
-            &[("X", text.as_str())],
-            *status,
-            output,
-        )?;
-    }
-    Ok(())
+    formatted(&rt, alloc, &rows)
 }
 
 /// Bytes that are no text.

@@ -1,4 +1,5 @@
-//! The worked rows: command lines over files in memory, with the output and the status that each must have.
+//! The worked rows of the commands over data: command lines over files in memory, with the output and the status that
+//! each must have.
 //!
 //! Every row is worked out by hand from the definitions. Nothing here is proved of the rows beyond that they run;
 //! what is proved of `olap` stands in `olap_run`.
@@ -19,20 +20,10 @@ mod generated;
 #[cfg(test)]
 mod hostile;
 #[cfg(test)]
-mod limits;
-#[cfg(test)]
-mod listings;
-#[cfg(test)]
-mod many;
-#[cfg(test)]
-mod questions;
-#[cfg(test)]
 mod rollups;
 #[cfg(test)]
 mod running;
 #[cfg(test)]
 mod samples;
-#[cfg(test)]
-mod searches;
 #[cfg(test)]
 mod stores;

@@ -2,16 +2,28 @@
 use crate::running::{check, grown};
 use crate::samples::{CHAIN, CITY_VIEW, LOCATION, PLACES, SALES, TWO_STORES, ZERO_SUM};
 use olap_run::Status;
+use std::alloc::Global;
+use std::process::Abort;
 use std::test::Fail;
 
 const LINE: [&str; 5] = ["rollup", "S", "I", "F", "City"];
 
-/// The files of each row over a chain, and its output and status.
+/// A schema, an instance and facts, with the output and the status.
+type Row<'a> = (&'a str, &'a str, &'a str, &'a str, Status);
+
+/// Each row has its output and status.
+fn rolled_up(rt: &impl Abort, alloc: Global, rows: &[Row]) -> Result<(), Fail> {
+    for (schema, instance, facts, output, status) in rows {
+        let held = [("S", *schema), ("I", *instance), ("F", *facts)];
+        check(rt, alloc, &LINE, &held, (None, None), 400, *status, output)?;
+    }
+    Ok(())
+}
+
 #[test]
-fn rollups_over_a_chain(rt: HostRuntime) -> Result<(), Fail> {
-    let alloc = rt.alloc();
+fn views_over_a_chain(rt: HostRuntime) -> Result<(), Fail> {
     let quoted = "id,category,name,parents\ns,Store,s,\"a,b\"\n\"a,b\",City,x,all\n";
-    let rows: [(&str, &str, &str, &str, Status); 9] = [
+    let rows: [Row; 5] = [
         (CHAIN, TWO_STORES, ZERO_SUM, CITY_VIEW, Status::Yes),
         (
             CHAIN,
@@ -41,6 +53,13 @@ fn rollups_over_a_chain(rt: HostRuntime) -> Result<(), Fail> {
             "member,count,sum,least,greatest\n\"a,b\",1,4,4,4\n",
             Status::Yes,
         ),
+    ];
+    rolled_up(&rt, rt.alloc(), &rows)
+}
+
+#[test]
+fn faults_over_a_chain(rt: HostRuntime) -> Result<(), Fail> {
+    let rows: [Row; 4] = [
         (
             "schema 1\nconstraint\n",
             TWO_STORES,
@@ -70,11 +89,7 @@ fn rollups_over_a_chain(rt: HostRuntime) -> Result<(), Fail> {
             Status::Refused,
         ),
     ];
-    for (schema, instance, facts, output, status) in rows {
-        let held = [("S", schema), ("I", instance), ("F", facts)];
-        check(&rt, alloc, &LINE, &held, (None, None), 400, status, output)?;
-    }
-    Ok(())
+    rolled_up(&rt, rt.alloc(), &rows)
 }
 
 /// The view of each category of the location example, and a category that there isn't.
@@ -116,10 +131,24 @@ fn rollups_over_locations(rt: HostRuntime) -> Result<(), Fail> {
 }
 
 /// Records behind those of the location example, in the instance and in the facts, and the fault of each.
+fn faulty(rt: &impl Abort, alloc: Global, rows: &[(&str, &str, &str)]) -> Result<(), Fail> {
+    for (member, fact, output) in rows {
+        let instance = grown(alloc, PLACES, member)?;
+        let facts = grown(alloc, SALES, fact)?;
+        let held = [
+            ("S", LOCATION),
+            ("I", instance.as_str()),
+            ("F", facts.as_str()),
+        ];
+        let status = Status::Refused;
+        check(rt, alloc, &LINE, &held, (None, None), 400, status, output)?;
+    }
+    Ok(())
+}
+
 #[test]
-fn faults_of_records(rt: HostRuntime) -> Result<(), Fail> {
-    let alloc = rt.alloc();
-    let rows: [(&str, &str, &str); 13] = [
+fn faults_of_members(rt: HostRuntime) -> Result<(), Fail> {
+    let rows: [(&str, &str, &str); 8] = [
         ("x,Store,X\n", "", "refused instance record 19 FieldCount\n"),
         (
             "s1,Store,again,w\n",
@@ -152,32 +181,20 @@ fn faults_of_records(rt: HostRuntime) -> Result<(), Fail> {
             "",
             "refused instance record 20 FieldCount\n",
         ),
+    ];
+    faulty(&rt, rt.alloc(), &rows)
+}
+
+#[test]
+fn faults_of_facts(rt: HostRuntime) -> Result<(), Fail> {
+    let rows: [(&str, &str, &str); 5] = [
         ("", "zz,1\n", "refused facts record 7 UnknownMember\n"),
         ("", "w,1\n", "refused facts record 7 NotBottom\n"),
         ("", "all,1\n", "refused facts record 7 NotBottom\n"),
         ("", "s1,1.5\n", "refused facts record 7 BadNumber\n"),
         ("", "s1\n", "refused facts record 7 FieldCount\n"),
     ];
-    for (member, fact, output) in rows {
-        let instance = grown(alloc, PLACES, member)?;
-        let facts = grown(alloc, SALES, fact)?;
-        let held = [
-            ("S", LOCATION),
-            ("I", instance.as_str()),
-            ("F", facts.as_str()),
-        ];
-        check(
-            &rt,
-            alloc,
-            &LINE,
-            &held,
-            (None, None),
-            400,
-            Status::Refused,
-            output,
-        )?;
-    }
-    Ok(())
+    faulty(&rt, rt.alloc(), &rows)
 }
 
 /// No file is opened, so a library whose first call fails isn't asked.

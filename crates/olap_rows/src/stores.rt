@@ -2,6 +2,8 @@
 use crate::running::{check_status, grown};
 use crate::samples::{LOCATION, PLACES, SALES, STORED};
 use olap_run::Status;
+use std::alloc::Global;
+use std::process::Abort;
 use std::test::Fail;
 
 /// The view of the cities.
@@ -50,9 +52,22 @@ fn views_are_stored(rt: HostRuntime) -> Result<(), Fail> {
     Ok(())
 }
 
+/// A store and a target, with the status and the output of `answer`.
+type Row<'a> = (&'a str, &'a str, Status, &'a str);
+
+/// Each row has its status and output.
+fn answered(rt: &impl Abort, alloc: Global, rows: &[Row]) -> Result<(), Fail> {
+    for (store, target, status, output) in rows {
+        let held = [("S", LOCATION), ("I", PLACES), ("V", *store)];
+        let line = ["answer", "S", "I", "V", *target];
+        check_status(rt, alloc, &line, &held, *status, output)?;
+    }
+    Ok(())
+}
+
 #[test]
 fn views_are_answered(rt: HostRuntime) -> Result<(), Fail> {
-    let rows: [(&str, &str, Status, &str); 5] = [
+    let rows: [Row; 3] = [
         (
             STORED,
             "Region",
@@ -71,6 +86,13 @@ fn views_are_answered(rt: HostRuntime) -> Result<(), Fail> {
             Status::Yes,
             "plan City\nmember,count,sum,least,greatest\nall,5,20,-5,10\n",
         ),
+    ];
+    answered(&rt, rt.alloc(), &rows)
+}
+
+#[test]
+fn views_are_not_answered(rt: HostRuntime) -> Result<(), Fail> {
+    let rows: [Row; 2] = [
         (
             STATES,
             "Region",
@@ -84,12 +106,7 @@ fn views_are_answered(rt: HostRuntime) -> Result<(), Fail> {
             "refused word 5 UnknownCategory\n",
         ),
     ];
-    for (store, target, status, output) in rows {
-        let held = [("S", LOCATION), ("I", PLACES), ("V", store)];
-        let line = ["answer", "S", "I", "V", target];
-        check_status(&rt, rt.alloc(), &line, &held, status, output)?;
-    }
-    Ok(())
+    answered(&rt, rt.alloc(), &rows)
 }
 
 #[test]

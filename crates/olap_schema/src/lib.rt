@@ -1,8 +1,8 @@
 //! Schema texts: reading a schema and a question's formula, and printing a schema.
 //!
-//! A contract sees a `Schema` as the definitions' schema, and what `read_schema` gives as `schema_read` of the text: the
-//! schema, or the first fault with its line (`specs/Judging.antt`). Each schema is valid, so it is read back from what
-//! `print_schema` prints. Nothing here knows of instances.
+//! A contract sees a `Schema` as the definitions' schema, and what `read_schema` gives as `schema_read` of the text:
+//! the schema, or the first fault with its line (`specs/Judging.antt`). Each schema is valid, so it is read back from
+//! what `print_schema` prints. Nothing here knows of instances.
 #![tactic(auto)]
 
 mod atoms;
@@ -17,8 +17,6 @@ mod questions;
 mod reading;
 mod schemas;
 mod statements;
-#[cfg(test)]
-mod tests;
 
 pub use kinds::{FormulaRefusal, SchemaKind, SchemaRefusal};
 pub use laws::{

@@ -14,8 +14,6 @@ mod questioning;
 mod satisfying;
 mod seeing;
 mod summarizing;
-#[cfg(test)]
-mod tests;
 
 pub use auditing::{Finding, audit};
 pub use deciding::Decision;

@@ -8,8 +8,6 @@
 
 mod decisions;
 mod drawing;
-#[cfg(test)]
-mod tests;
 mod trails;
 
 pub use decisions::{Decision, Mark};

@@ -27,10 +27,3 @@ pub use storing::{print_store, read_store};
 pub use tallies::Tally;
 pub use viewing::{direct, from_views};
 pub use views::{Row, Store, View};
-
-#[cfg(test)]
-mod store_tests;
-#[cfg(test)]
-mod stored_tests;
-#[cfg(test)]
-mod tests;

@@ -1,0 +1,6 @@
+-- The reader is live.
+use Rattle.std.proofs.Common.{◌≡◌, true}
+use Rattle.olap_tests.proofs.facts.handed_out.Given as goal
+
+abbrev pub invariant-loop-count : goal.invariant-loop-count
+invariant-loop-count g l = l.reader.live ≡ true

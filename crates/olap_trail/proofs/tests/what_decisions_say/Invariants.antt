@@ -1,6 +1,0 @@
--- The trail stays one of the graph.
-use Rattle.std.proofs.Common.{◌≡◌}
-use Rattle.olap_trail.proofs.tests.what_decisions_say.Given as goal
-
-abbrev pub invariant-steps : goal.invariant-steps
-invariant-steps g l = l.trail.graph ≡ l.initial.trail.graph
