@@ -14,7 +14,7 @@ use Rattle.olap_ast.specs.declared.formulas.Terms.{Terms as Trees}
 use Rattle.olap_base.specs.Instance.{Instance, IsMemberOf}
 use Rattle.olap_bits.specs.CatSet.{IsLeast}
 use Rattle.olap_bits.proofs.CatSetLemmas.{in_insert}
-use Rattle.olap_check.specs.Blocks.{AreMembersFrom, Collects, IsFirstUnmetFrom, Selects}
+use Rattle.olap_check.specs.Blocks.{AreMembersFrom, Collects, IsFirstUnmetFrom, Selects, width}
 
 -- ---- two facts and their tests
 
@@ -199,20 +199,20 @@ select_collected places s n before c k h = (λ e. ((c k).0 e).1.1, λ p. (c k).1
 
 module _ (i : Instance) (root start : ℕ) (places : FinSet nat_cmp) (exact : AreMembersFrom i root start places) where
   -- a member of the root has its place
-  has_place : (x : ℕ) → start ≤ x → x < start + 64 → IsMemberOf i root x → contains places (x - start) ≡ true
+  has_place : (x : ℕ) → start ≤ x → x < start + width → IsMemberOf i root x → contains places (x - start) ≡ true
   has_place x l h m =
       let e : x ≡ start + (x - start) = omega arith in
       (exact (x - start)).1 (omega arith, subst (λ y. IsMemberOf i root y) e m)
 
   -- without places there is no member of the root
-  pub no_member : places ≡ empty → (x : ℕ) → start ≤ x → x < start + 64 → IsMemberOf i root x → ⊥
+  pub no_member : places ≡ empty → (x : ℕ) → start ≤ x → x < start + width → IsMemberOf i root x → ⊥
   no_member e x l h m =
       both_ways _ (contains-empty nat_cmp (x - start))
       (subst (λ s. contains s (x - start) ≡ true) e (has_place x l h m))
 
   module _ (f : Formula) (truths : FinSet nat_cmp) (t : Selects places (λ k. Holds i (start + k) f) truths) where
     -- the formula is true where its place isn't left over
-    true_unless : (x : ℕ) → start ≤ x → x < start + 64 → IsMemberOf i root x
+    true_unless : (x : ℕ) → start ≤ x → x < start + width → IsMemberOf i root x
         → (contains (difference places truths) (x - start) ≡ true → ⊥) → Holds i x f
     true_unless x l h m n =
         let e : start + (x - start) ≡ x = omega arith in
@@ -239,7 +239,7 @@ module _ (i : Instance) (root start : ℕ) (places : FinSet nat_cmp) (exact : Ar
         }
 
     -- where none is left over the formula is true at all
-    pub none_left : difference places truths ≡ empty → (x : ℕ) → start ≤ x → x < start + 64 → IsMemberOf i root x
+    pub none_left : difference places truths ≡ empty → (x : ℕ) → start ≤ x → x < start + width → IsMemberOf i root x
         → Holds i x f
     none_left e x l h m = true_unless x l h m
         (λ c. both_ways _ (contains-empty nat_cmp (x - start)) (subst (λ s. contains s (x - start) ≡ true) e c))

@@ -8,26 +8,26 @@ use Rattle.olap_ast.specs.Schema.{Constraint, Meets}
 use Rattle.olap_ast.specs.Trees.{constraint_of}
 use Rattle.olap_ast.specs.declared.formulas.Constraint.{Constraint as Stored}
 use Rattle.olap_base.specs.Instance.{Instance, IsMemberOf}
-use Rattle.olap_check.specs.Blocks.{IsFirstUnmetFrom}
+use Rattle.olap_check.specs.Blocks.{IsFirstUnmetFrom, width}
 use Rattle.olap_check.specs.Meeting.{IsFirstUnmet, IsFirstViolated, constraint_at, no_constraint}
 
 -- ---- one formula, step by step
 
 module _ (i : Instance) (root : ℕ) (f : Formula) (step : ℕ)
-    (before : (w : ℕ) → w < step * 64 → IsMemberOf i root w → Holds i w f) where
+    (before : (w : ℕ) → w < step * width → IsMemberOf i root w → Holds i w f) where
   -- the first of all at which it is false
-  pub first_of_all : (x : ℕ) → IsFirstUnmetFrom i root f (step * 64) x → IsFirstUnmet i root f x
+  pub first_of_all : (x : ℕ) → IsFirstUnmetFrom i root f (step * width) x → IsFirstUnmet i root f x
   first_of_all x u = record {
     is_member = u.is_member;
     unmet = u.unmet;
-    before = λ w h m. elim (cases_lt w (step * 64)) [
+    before = λ w h m. elim (cases_lt w (step * width)) [
       | inl l ↦ before w l m
       | inr l ↦ u.before w l h m
     ];
   }
 
   -- all of them are behind
-  pub true_at_all : length i < step * 64 → (w : ℕ) → IsMemberOf i root w → Holds i w f
+  pub true_at_all : length i < step * width → (w : ℕ) → IsMemberOf i root w → Holds i w f
   true_at_all h w m = let inside = m.0 in before w (omega arith) m
 
 -- ---- all constraints

@@ -31,7 +31,8 @@ module _ (i : Instance) (entries : List (Option Entry)) where
           let s = same_place l m c d e f h k n o (sym is ∙ sym q) in
           let at = get_or-set_at entries p (place_of m e f) (Some entry) None q inside in
           let moved = subst (λ x. IsKept i entry.root.0 entry.start (GoesOn i l x d) (members entry.places)) s.1 kept in
-          let moved_on = subst (λ x. IsKept i entry.root.0 entry.start (GoesOn i l e x) (members entry.places)) s.2 moved in
+          let moved_on = subst (λ x. IsKept i entry.root.0 entry.start (GoesOn i l e x) (members entry.places)) s.2
+          moved in
           subst (λ r. IsRight i (GoesOn i m e f) r) (sym at)
           (subst (λ x. IsKept i entry.root.0 entry.start (GoesOn i x e f) (members entry.places)) s.0 moved_on)
       | inr ne ↦

@@ -2,6 +2,7 @@
 --     StepsVia   a member reaches one of a category that has a parent in another
 --     GoesOn     a member reaches one of a category from which it goes on to one of another
 --     HasNamed   a member reaches one that an atom names
+--     IsSo       what is asked of a member is so
 --     IsKept     a set has exactly the places of a block at which something is so
 --     IsRight    an entry, if it is there, has such a set
 --     place_of   where the entry of a way and two categories stands
@@ -14,6 +15,9 @@ use Rattle.std.specs.Ordering.{nat_cmp}
 use Rattle.olap_ast.specs.Formula.{ReachesNamed}
 use Rattle.olap_base.specs.Instance.{Instance, IsBelow, IsMemberOf, Reaches, ReachesVia}
 use Rattle.olap_bits.specs.Sets.{members}
+use Rattle.olap_check.specs.Blocks.{width}
+use Rattle.olap_check.specs.declared.above.Asked.{Asked}
+use Rattle.olap_check.specs.declared.above.Asked.TheVariants as asked
 use Rattle.olap_check.specs.declared.naming.NameAtom.{NameAtom}
 use Rattle.olap_check.specs.declared.seen.Seen.{Seen}
 use Rattle.olap_check.specs.declared.ways.Entry.{Entry}
@@ -29,10 +33,15 @@ abbrev pub GoesOn : Instance → Way → ℕ → ℕ → ℕ → Type 0
 GoesOn i ByReaching d e x = ReachesVia i x d e
 GoesOn i ByStep d e x = StepsVia i x d e
 
--- of the root's members at 64 places the set has exactly those at which P is so
+-- what is asked of x is so
+abbrev pub IsSo : Instance → Asked → ℕ → Type 0
+IsSo i (asked.GoesOn way d e) x = GoesOn i way d.0 e.0 x
+IsSo i (asked.Named d text) x = ReachesNamed i x d.0 text.now
+
+-- of the root's members at the places of a block the set has exactly those at which P is so
 abbrev pub IsKept : Instance → ℕ → ℕ → (ℕ → Type 0) → FinSet nat_cmp → Type 0
 IsKept i root start P set =
-    (k : ℕ) → k < 64 → IsMemberOf i root (start + k) → (contains set k ≡ true) ↔ P (start + k)
+    (k : ℕ) → k < width → IsMemberOf i root (start + k) → (contains set k ≡ true) ↔ P (start + k)
 
 -- an entry that is there has the places of its block at which P is so
 abbrev pub IsRight : Instance → (ℕ → Type 0) → Option Entry → Type 0

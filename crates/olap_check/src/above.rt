@@ -1,8 +1,7 @@
 // The shape of what one member reaches.
 ghost use Rattle.std.specs.Prelude.{◌≡◌, ◌<◌, ◌↔◌, length, IsTrue, IfSome, IsNone};
-ghost use Rattle.olap_ast.specs.Formula.{ReachesNamed};
 ghost use Rattle.olap_check.specs.Above.{IsAbove, is_present};
-ghost use Rattle.olap_check.specs.Seen.{GoesOn};
+ghost use Rattle.olap_check.specs.Seen.{GoesOn, IsSo};
 ghost use Rattle.olap_check.specs.Tables.{cell};
 ghost use Rattle.olap_eval.specs.Shapes.{IsShape};
 
@@ -11,6 +10,15 @@ use crate::ways::Way;
 use olap_base::{CatId, MemberId, Text};
 use olap_eval::Shape;
 use olap_instance::Instance;
+
+/// What is asked of a member.
+#[derive(Clone, Copy)]
+pub(crate) enum Asked<'a> {
+    /// Whether it goes on that way from a member of the first category to one of the second.
+    GoesOn(Way, CatId, CatId),
+    /// Whether it reaches a member of the category that has this name.
+    Named(CatId, &'a Text),
+}
 
 /// What x reaches, read from the table of ancestors.
 #[derive(Clone, Copy)]
@@ -38,8 +46,8 @@ impl<'a> Above<'a> {
         }
     }
 
-    /// Whether x reaches a member of c from which it goes on that way to one of d.
-    pub(crate) fn goes_on(&self, way: Way, c: CatId, d: CatId) -> bool
+    // Whether x reaches a member of c from which it goes on that way to one of d.
+    fn goes_on(&self, way: Way, c: CatId, d: CatId) -> bool
         ensures { IsTrue result ↔ GoesOn self.now.instance.now way c.0 d.0 self.now.x }
     {
         match way {
@@ -48,11 +56,14 @@ impl<'a> Above<'a> {
         }
     }
 
-    /// Whether x reaches a member of d whose name is the text.
-    pub(crate) fn is_named(&self, d: CatId, text: &Text) -> bool
-        ensures { IsTrue result ↔ ReachesNamed self.now.instance.now self.now.x d.0 text.now }
+    /// Whether what is asked of x is so.
+    pub(crate) fn is_so(&self, asked: Asked) -> bool
+        ensures { IsTrue result ↔ IsSo self.now.instance.now asked.entry self.now.x }
     {
-        self.name_is(d, text)
+        match asked {
+            Asked::GoesOn(way, c, d) => self.goes_on(way, c, d),
+            Asked::Named(d, text) => self.name_is(d, text),
+        }
     }
 }
 

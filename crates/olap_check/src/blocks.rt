@@ -1,25 +1,22 @@
-// A formula at many members at once: at those of one category among 64 places of an instance.
+// A formula at many members at once: at those of one category among the places of a block.
 ghost use Rattle.std.specs.Prelude.{◌≡◌, ◌+◌, ◌<◌, ◌≤◌, ◌↔◌, length, map, ℕ, true, IsTrue, IfSome, IsNone};
 ghost use Rattle.std.specs.FinSet as set;
 ghost use Rattle.olap_ast.specs.Formula.{Holds, HasPath, ReachesNamed, ExactlyOneHolds, NoneHolds};
 ghost use Rattle.olap_ast.specs.Trees.{formula_of, terms_of};
 ghost use Rattle.olap_base.specs.Instance.{IsMemberOf};
 ghost use Rattle.olap_bits.specs.Sets.{members};
-ghost use Rattle.olap_check.specs.Blocks.{AreMembersFrom, IsBlock, IsFirstUnmetFrom, Selects};
-ghost use Rattle.olap_check.specs.Seen.{GoesOn, IsSeen};
+ghost use Rattle.olap_check.specs.Blocks.{AreMembersFrom, IsBlock, IsFirstUnmetFrom, Selects, width};
+ghost use Rattle.olap_check.specs.Seen.{GoesOn, IsSeen, IsSo};
 
-use crate::above::Above;
+use crate::above::{Above, Asked};
+use crate::places::{Places, WIDTH};
 use crate::seen::Seen;
 use crate::ways::{Entry, Way};
 use olap_ast::{Formula, Terms};
 use olap_base::{CatId, MemberId, Text};
-use olap_bits::CatSet;
 use olap_instance::Instance;
 
-/// How many places a block has.
-pub(crate) const WIDTH: u32 = 64;
-
-/// The members of the root at 64 places of the instance, from `start` on.
+/// The members of the root at `WIDTH` places of the instance, from `start` on.
 ///
 /// The numbers of a set are places, counted from `start`. A connective is an operation on such sets, so it costs the
 /// same for one member as for all of them.
@@ -30,24 +27,24 @@ pub(crate) struct Block<'a> {
     pub categories: u16,
     pub root: CatId,
     pub start: u32,
-    pub places: CatSet<1>,
+    pub places: Places,
     ghost sound: { IsBlock instance.now categories cells.now root.0 start (members places) },
 }
 
 /// Of some formulas: the places where none is true, and those where exactly one is.
 #[derive(Clone, Copy)]
 struct Counted {
-    none: CatSet<1>,
-    one: CatSet<1>,
+    none: Places,
+    one: Places,
 }
 
 /// The places, from the start on, that have members of the category.
-pub(crate) fn members_from(instance: &Instance, root: CatId, start: u32) -> CatSet<1>
+pub(crate) fn members_from(instance: &Instance, root: CatId, start: u32) -> Places
     requires { start ≤ length instance.now }
     ensures { AreMembersFrom instance.now root.0 start (members result) }
 {
     let count = instance.members();
-    let mut places = CatSet::empty();
+    let mut places = Places::empty();
     'places: for k in 0..WIDTH as u16 {
         let x = start + u32::from(k);
         if x < count && instance.category(MemberId(x)).0 == root.0 {
@@ -58,18 +55,19 @@ pub(crate) fn members_from(instance: &Instance, root: CatId, start: u32) -> CatS
 }
 
 /// The places that are in one set alone.
-fn differing(a: CatSet<1>, b: CatSet<1>) -> CatSet<1>
-    ensures { let first = set.difference (members a) (members b) in let second = set.difference (members b) (members a) in
+fn differing(a: Places, b: Places) -> Places
+    ensures { let first = set.difference (members a) (members b) in
+        let second = set.difference (members b) (members a) in
         members result ≡ set.union first second }
 {
     a.minus(b).union(b.minus(a))
 }
 
 impl<'a> Block<'a> {
-    /// Whether it goes on that way from c to d above the member of a place.
-    fn goes_on_at(&self, way: Way, c: CatId, d: CatId, k: u16) -> bool
+    /// Whether what is asked is so of the member of a place.
+    fn is_so_at(&self, asked: Asked, k: u16) -> bool
         requires { set.contains (members self.now.places) k ≡ true }
-        ensures { IsTrue result ↔ GoesOn self.now.instance.now way c.0 d.0 (self.now.start + k) }
+        ensures { IsTrue result ↔ IsSo self.now.instance.now asked.entry (self.now.start + k) }
     {
         let above = Above {
             instance: self.instance,
@@ -77,17 +75,17 @@ impl<'a> Block<'a> {
             categories: self.categories,
             x: self.start + u32::from(k),
         };
-        above.goes_on(way, c, d)
+        above.is_so(asked)
     }
 
-    /// The places above which it goes on that way from c to d, asked one by one.
-    fn asked_way(&self, way: Way, c: CatId, d: CatId) -> CatSet<1>
-        ensures { Selects (members self.now.places)
-            (λ k. GoesOn self.now.instance.now way c.0 d.0 (self.now.start + k)) (members result) }
+    /// The places at which what is asked is so, one by one.
+    fn places_of(&self, asked: Asked) -> Places
+        ensures { Selects (members self.now.places) (λ k. IsSo self.now.instance.now asked.entry (self.now.start + k))
+            (members result) }
     {
-        let mut truths = CatSet::empty();
+        let mut truths = Places::empty();
         'places: for k in 0..WIDTH as u16 {
-            if self.places.has(k) && self.goes_on_at(way, c, d, k) {
+            if self.places.has(k) && self.is_so_at(asked, k) {
                 truths = truths.with(k);
             }
         }
@@ -95,7 +93,7 @@ impl<'a> Block<'a> {
     }
 
     /// The places above which it goes on that way from c to d, remembered or asked now.
-    fn going_on(&self, way: Way, c: CatId, d: CatId, seen: &mut Seen) -> CatSet<1>
+    fn going_on(&self, way: Way, c: CatId, d: CatId, seen: &mut Seen) -> Places
         requires { IsSeen self.now.instance.now seen.old }
         ensures seen { IsSeen self.now.instance.now seen.new }
         ensures places { Selects (members self.now.places)
@@ -104,7 +102,7 @@ impl<'a> Block<'a> {
         if let Some(places) = seen.ways.kept(way, c, d, self.root, self.start) {
             return places;
         }
-        let places = self.asked_way(way, c, d);
+        let places = self.places_of(Asked::GoesOn(way, c, d));
         let entry = Entry {
             root: self.root,
             start: self.start,
@@ -115,7 +113,7 @@ impl<'a> Block<'a> {
     }
 
     /// The places at which edges lead from the root through these categories.
-    fn along(&self, categories: &[CatId], seen: &mut Seen) -> CatSet<1>
+    fn along(&self, categories: &[CatId], seen: &mut Seen) -> Places
         requires { IsSeen self.now.instance.now seen.old }
         ensures seen { IsSeen self.now.instance.now seen.new }
         ensures places { let path = map (λ c. c.0) categories.now in Selects (members self.now.places)
@@ -130,48 +128,20 @@ impl<'a> Block<'a> {
         truths
     }
 
-    /// Whether a member of d with this name is reached from the member of a place.
-    fn is_named_at(&self, d: CatId, text: &Text, k: u16) -> bool
-        requires { set.contains (members self.now.places) k ≡ true }
-        ensures { IsTrue result ↔ ReachesNamed self.now.instance.now (self.now.start + k) d.0 text.now }
-    {
-        let above = Above {
-            instance: self.instance,
-            cells: self.cells,
-            categories: self.categories,
-            x: self.start + u32::from(k),
-        };
-        above.is_named(d, text)
-    }
-
-    /// The places above which a member of d has this name, asked one by one.
-    fn asked_name(&self, d: CatId, text: &Text) -> CatSet<1>
-        ensures { Selects (members self.now.places)
-            (λ k. ReachesNamed self.now.instance.now (self.now.start + k) d.0 text.now) (members result) }
-    {
-        let mut truths = CatSet::empty();
-        'places: for k in 0..WIDTH as u16 {
-            if self.places.has(k) && self.is_named_at(d, text, k) {
-                truths = truths.with(k);
-            }
-        }
-        truths
-    }
-
     /// The places above which a member of d has this name, remembered or asked now.
-    fn named(&self, d: CatId, text: &Text, seen: &mut Seen) -> CatSet<1>
+    fn named(&self, d: CatId, text: &Text, seen: &mut Seen) -> Places
         requires { IsSeen self.now.instance.now seen.old }
         ensures seen { IsSeen self.now.instance.now seen.new }
         ensures places { Selects (members self.now.places)
             (λ k. ReachesNamed self.now.instance.now (self.now.start + k) d.0 text.now) (members result) }
     {
         let Some(place) = seen.names.place(d, text) else {
-            return self.asked_name(d, text);
+            return self.places_of(Asked::Named(d, text));
         };
         if let Some(places) = seen.names.kept(place, d, text, self.root, self.start) {
             return places;
         }
-        let places = self.asked_name(d, text);
+        let places = self.places_of(Asked::Named(d, text));
         let entry = Entry {
             root: self.root,
             start: self.start,
@@ -186,7 +156,7 @@ impl<'a> Block<'a> {
     /// It asks each name, and each way from one category to another, once for the block. It calls itself as deep as the
     /// formula is, and once more for each part of a list.
     #[cycle(holding)]
-    fn holding(&self, f: &Formula, seen: &mut Seen) -> CatSet<1>
+    fn holding(&self, f: &Formula, seen: &mut Seen) -> Places
         requires { IsSeen self.now.instance.now seen.old }
         ensures seen { IsSeen self.now.instance.now seen.new }
         ensures places { Selects (members self.now.places)
@@ -194,7 +164,7 @@ impl<'a> Block<'a> {
     {
         match f {
             Formula::True => self.places,
-            Formula::False => CatSet::empty(),
+            Formula::False => Places::empty(),
             Formula::Path(categories) => self.along(categories.items(), seen),
             Formula::Reach(d) => self.going_on(Way::Reaches, self.root, *d, seen),
             Formula::Via(d, e) => self.going_on(Way::Reaches, *d, *e, seen),
@@ -228,7 +198,7 @@ impl<'a> Block<'a> {
         match parts {
             Terms::End => Counted {
                 none: self.places,
-                one: CatSet::empty(),
+                one: Places::empty(),
             },
             Terms::More(f, rest) => {
                 let here = self.holding(f, seen);
@@ -247,7 +217,7 @@ impl<'a> Block<'a> {
         ensures seen { IsSeen self.now.instance.now seen.new }
         ensures some { let formula = formula_of f.now in
             IfSome result (IsFirstUnmetFrom self.now.instance.now self.now.root.0 formula self.now.start) }
-        ensures none { IsNone result → (x : ℕ) → self.now.start ≤ x → x < self.now.start + 64
+        ensures none { IsNone result → (x : ℕ) → self.now.start ≤ x → x < self.now.start + width
             → IsMemberOf self.now.instance.now self.now.root.0 x → Holds self.now.instance.now x (formula_of f.now) }
     {
         if self.places.first().is_none() {

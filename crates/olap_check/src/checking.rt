@@ -20,9 +20,9 @@ use std::alloc::Global;
 ///
 /// `Broken` exactly where it isn't legal, with the first violation: by law, and within a law in file order, as
 /// `IsFirstViolation` says. `Memory` where there is no room, and the instance is dropped. Cost: at most the members and
-/// their parents times the number of categories, the members times its square, and of each formula its distinct pairs of
-/// categories and names at the members of its root, and its nodes once for 64 members. A cycle, or a member with many
-/// parents, costs no more.
+/// their parents times the number of categories, the members times its square, and of each formula its distinct pairs
+/// of categories and names at the members of its root, and its nodes once for 256 members. A cycle, or a member with
+/// many parents, costs no more.
 pub fn check(alloc: Global, schema: &Schema, instance: Instance) -> Result<Legal, CheckRefusal>
     requires { IsMadeFor (schema_of schema.now).graph instance }
     ensures same { IfOk result (λ legal. legal ≡ instance) }

@@ -9,7 +9,8 @@ ghost use Rattle.olap_check.specs.Rows.{IsBounded};
 ghost use Rattle.olap_check.specs.Seen.{IsSeen};
 ghost use Rattle.olap_check.specs.Tables.{IsTable};
 
-use crate::blocks::{Block, WIDTH, members_from};
+use crate::blocks::{Block, members_from};
+use crate::places::WIDTH;
 use crate::seen::Seen;
 use olap_ast::{Constraint, Formula};
 use olap_base::{CatId, Memory};
@@ -54,7 +55,7 @@ fn first_unmet(
 /// The place of the first constraint that isn't met, and the first member at which it isn't.
 ///
 /// Cost: for each constraint the members; at those of its root its distinct names and pairs of categories; and its
-/// nodes, with each category of a path, once for 64 members.
+/// nodes, with each category of a path, once for 256 members.
 pub(crate) fn first_violated(
     alloc: Global,
     instance: &Instance,

@@ -5,10 +5,10 @@ ghost use Rattle.olap_base.specs.Instance.{Instance as TheInstance};
 ghost use Rattle.olap_bits.specs.Sets.{members};
 ghost use Rattle.olap_check.specs.Seen.{AreNamed, IsKept};
 
+use crate::places::Places;
 use crate::ways::Entry;
 use olap_ast::{Constraint, Formula, Terms};
 use olap_base::{CatId, Memory, Text};
-use olap_bits::CatSet;
 use std::alloc::Global;
 
 /// An atom on names: a member of the category that is reached has this name.
@@ -130,7 +130,7 @@ impl Names {
         text: &Text,
         root: CatId,
         start: u32,
-    ) -> Option<CatSet<1>>
+    ) -> Option<Places>
         ensures { (i : TheInstance) → AreNamed i self.now.atoms.items self.now.entries.items
             → IfSome result (λ set. IsKept i root.0 start (λ x. ReachesNamed i x d.0 text.now) (members set)) }
     {

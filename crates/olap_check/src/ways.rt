@@ -4,8 +4,8 @@ ghost use Rattle.olap_base.specs.Instance.{Instance as TheInstance};
 ghost use Rattle.olap_bits.specs.Sets.{members};
 ghost use Rattle.olap_check.specs.Seen.{AreKept, GoesOn, IsKept, place_of};
 
+use crate::places::Places;
 use olap_base::{CatId, Memory};
-use olap_bits::CatSet;
 use std::alloc::Global;
 
 /// How many categories have entries.
@@ -28,7 +28,7 @@ pub(crate) enum Way {
 pub(crate) struct Entry {
     pub root: CatId,
     pub start: u32,
-    pub places: CatSet<1>,
+    pub places: Places,
 }
 
 /// For each way and each two categories the places of the block of which it was asked last.
@@ -70,7 +70,7 @@ impl Ways {
         d: CatId,
         root: CatId,
         start: u32,
-    ) -> Option<CatSet<1>>
+    ) -> Option<Places>
         ensures { (i : TheInstance) → AreKept i self.now.entries.items
             → IfSome result (λ set. IsKept i root.0 start (GoesOn i way c.0 d.0) (members set)) }
     {
@@ -87,7 +87,8 @@ impl Ways {
     /// Remembers the places of a block.
     pub(crate) fn keep(&mut self, way: Way, c: CatId, d: CatId, entry: Entry)
         ensures { (i : TheInstance) → AreKept i self.old.entries.items
-            → IsKept i entry.root.0 entry.start (GoesOn i way c.0 d.0) (members entry.places) → AreKept i self.new.entries.items }
+            → IsKept i entry.root.0 entry.start (GoesOn i way c.0 d.0) (members entry.places)
+            → AreKept i self.new.entries.items }
     {
         if let Some(place) = place(way, c, d) {
             if place < self.entries.len() {

@@ -11,7 +11,8 @@ pairs-init c =
 pub pairs-preserved : goal.pairs-preserved
 pairs-preserved c =
     subst (λ l. AreEdgesBefore c.args.graph.now c.args.categories (c.pairs.pair + 1) l) (sym c.in_ok-push.ensures.items)
-    (edges_more c.pairs.invariant c.is_some.result _ c.is_some.ensures (rw c.from-width.ensures at c.edge-edge.ensures.has))
+    (edges_more c.pairs.invariant c.is_some.result _ c.is_some.ensures
+    (rw c.from-width.ensures at c.edge-edge.ensures.has))
 
 pub returns : goal.returns
 returns c =

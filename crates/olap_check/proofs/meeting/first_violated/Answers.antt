@@ -20,4 +20,5 @@ returns-in-Some-clause-some c =
 
 pub returns-clause-none : goal.returns-clause-none
 returns-clause-none c = λ e.
-    all_met c.args.instance.now c.args.constraints.now c.constraints.k c.constraints-test.false c.constraints.invariant.1
+    all_met c.args.instance.now c.args.constraints.now c.constraints.k c.constraints-test.false
+    c.constraints.invariant.1

@@ -62,7 +62,8 @@ holding-returns-in-Implies-clause-places t c =
     let is_true = TrueAt b.instance.now b.start in
     let first = members c.holding-in-Implies.result in let second = members c.holding-in-Implies-2.result in
     let at_first = select_part places is_true first c.deref-in-Implies.ensures c.holding-in-Implies.ensures.places in
-    let at_second = select_part places is_true second c.deref-in-Implies-2.ensures c.holding-in-Implies-2.ensures.places in
+    let at_second = select_part places is_true second c.deref-in-Implies-2.ensures
+    c.holding-in-Implies-2.ensures.places in
     let same = c.union-in-Implies.ensures ∙ ap (λ s. union s second) c.minus-in-Implies.ensures in
     select_whole places is_true (members c.union-in-Implies.result) c.in-Implies.is same
     (select_implies places first second at_first at_second)
@@ -104,7 +105,8 @@ counted-returns-in-More-clause-none t c =
     let places = members b.places in
     let is_so = NoneTrueAt b.instance.now b.start in
     let here = members c.holding-here.result in let none = members c.counted-others.result.none in
-    let at_here = select_part places (TrueAt b.instance.now b.start) here c.deref.ensures c.holding-here.ensures.places in
+    let at_here = select_part places (TrueAt b.instance.now b.start) here c.deref.ensures
+    c.holding-here.ensures.places in
     let at_none = select_part places (NoneTrueAt b.instance.now b.start) none c.deref-in-More.ensures
     c.counted-others.ensures.none in
     select_whole places is_so (members c.minus.result) c.in-More.is c.minus.ensures
@@ -116,7 +118,8 @@ counted-returns-in-More-clause-one t c =
     let places = members b.places in
     let is_so = OneTrueAt b.instance.now b.start in
     let here = members c.holding-here.result in let none = members c.counted-others.result.none in
-    let at_here = select_part places (TrueAt b.instance.now b.start) here c.deref.ensures c.holding-here.ensures.places in
+    let at_here = select_part places (TrueAt b.instance.now b.start) here c.deref.ensures
+    c.holding-here.ensures.places in
     let at_none = select_part places (NoneTrueAt b.instance.now b.start) none c.deref-in-More.ensures
     c.counted-others.ensures.none in
     let one = members c.counted-others.result.one in

@@ -1,11 +1,11 @@
 -- The member of a place, with the row that the table has of it.
 use Rattle.std.proofs.Common.{◌+◌, ◌↔◌, subst, sym}
 use Rattle.std.specs.Prelude.{IsTrue}
-use Rattle.olap_ast.specs.Formula.{ReachesNamed}
 use Rattle.olap_base.specs.Instance.{IsMemberOf}
 use Rattle.olap_check.specs.Above.{IsAbove}
+use Rattle.olap_check.specs.Seen.{IsSo}
 use Rattle.olap_check.proofs.AboveLemmas.{above_shape}
-use Rattle.olap_check.proofs.blocks.Block.is_named_at.Goals as goal
+use Rattle.olap_check.proofs.blocks.Block.is_so_at.Goals as goal
 
 pub invariant_of-above : goal.invariant_of-above
 invariant_of-above c =
@@ -21,5 +21,5 @@ invariant_of-above c =
 pub returns : goal.returns
 returns c =
     let b = c.args.self.now in
-    subst (λ k. IsTrue c.is_named.result ↔ ReachesNamed b.instance.now (b.start + k) c.args.d.0 c.args.text.now) c.from.ensures
-    c.is_named.ensures
+    subst (λ k. IsTrue c.is_so.result ↔ IsSo b.instance.now c.args.asked (b.start + k))
+    c.from.ensures c.is_so.ensures

@@ -1,0 +1,19 @@
+-- What is asked, by the row.
+use Rattle.std.proofs.Common.{◌↔◌, subst, sym}
+use Rattle.std.specs.Prelude.{IsTrue}
+use Rattle.olap_check.specs.Seen.{IsSo}
+use Rattle.olap_check.proofs.AboveLemmas.{named_by_row}
+use Rattle.olap_eval.proofs.ShapeLemmas.{iff_trans}
+use Rattle.olap_check.proofs.above.Above.is_so.Goals as goal
+
+pub returns-in-GoesOn : goal.returns-in-GoesOn
+returns-in-GoesOn c =
+    let s = c.args.self.now in
+    subst (λ a. IsTrue c.goes_on.result ↔ IsSo s.instance.now a s.x) (sym c.in-GoesOn.is) c.goes_on.ensures
+
+pub returns-in-Named : goal.returns-in-Named
+returns-in-Named c =
+    let s = c.args.self.now in
+    subst (λ a. IsTrue c.name_is.result ↔ IsSo s.instance.now a s.x) (sym c.in-Named.is)
+    (iff_trans c.name_is.ensures
+    (named_by_row s.instance.now s.categories s.x s.cells.now s.sound c.in-Named.d.0 c.in-Named.text.now))
