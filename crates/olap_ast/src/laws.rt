@@ -29,8 +29,8 @@ pub fn candidates_exist()
     ensures { CandidatesExist }
 {}
 
-/// In a hierarchy, and for the candidates of the schema and the question: there is a frozen dimension exactly where some
-/// legal instance, of any size, has a member of the root at which the question is true.
+/// In a hierarchy, and for the candidates of the schema and the question: there is a frozen dimension exactly where
+/// some legal instance, of any size, has a member of the root at which the question is true.
 pub fn frozen_exactly_if_some_instance()
     ensures { FrozenExactlyIfSomeInstance }
 {}
@@ -51,8 +51,8 @@ pub fn implied_exactly_if_none_frozen()
     ensures { ImpliedExactlyIfNoneFrozen }
 {}
 
-/// In a hierarchy: a constraint is redundant exactly where no frozen dimension of the schema without it makes its formula
-/// false.
+/// In a hierarchy: a constraint is redundant exactly where no frozen dimension of the schema without it makes its
+/// formula false.
 pub fn redundant_exactly_if_none_frozen()
     ensures { RedundantExactlyIfNoneFrozen }
 {}

@@ -20,7 +20,8 @@ module _ (p : ℕ → Bool) where
   not-found true k e = cc
   not-found false k e = refl
 
-  whole-step : (x : ℕ) (xs : List ℕ) (b : Bool) → p x ≡ b → nat_lt (position_or_len p (x ∷ xs)) (length (x ∷ xs)) ≡ false
+  whole-step : (x : ℕ) (xs : List ℕ) (b : Bool) → p x ≡ b
+      → nat_lt (position_or_len p (x ∷ xs)) (length (x ∷ xs)) ≡ false
       → (nat_lt (position_or_len p xs) (length xs) ≡ false → slice_split p xs ≡ xs ∷ [])
       → slice_split p (x ∷ xs) ≡ (x ∷ xs) ∷ []
   whole-step x xs true h e rest = let l = ltb-false 0 (length (x ∷ xs)) (rw h at e) in absurd (omega (arith, l))

@@ -26,11 +26,21 @@ int_max_assoc x y z = grind (arith, ints)
 
 pub joined_comm : (a b : Summary) → joined a b ≡ joined b a
 joined_comm a b =
-    λ i. record { count = add_comm a.count b.count i; sum = +ℤ_comm a.sum b.sum i; least = int_min_comm a.least b.least i; greatest = int_max_comm a.greatest b.greatest i }
+    λ i. record {
+      count = add_comm a.count b.count i;
+      sum = +ℤ_comm a.sum b.sum i;
+      least = int_min_comm a.least b.least i;
+      greatest = int_max_comm a.greatest b.greatest i;
+    }
 
 pub joined_assoc : (a b c : Summary) → joined (joined a b) c ≡ joined a (joined b c)
 joined_assoc a b c =
-    λ i. record { count = add_assoc a.count b.count c.count i; sum = +ℤ_assoc a.sum b.sum c.sum i; least = int_min_assoc a.least b.least c.least i; greatest = int_max_assoc a.greatest b.greatest c.greatest i }
+    λ i. record {
+      count = add_assoc a.count b.count c.count i;
+      sum = +ℤ_assoc a.sum b.sum c.sum i;
+      least = int_min_assoc a.least b.least c.least i;
+      greatest = int_max_assoc a.greatest b.greatest c.greatest i;
+    }
 
 -- ---- where there may be none
 

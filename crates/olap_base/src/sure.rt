@@ -87,7 +87,8 @@ impl Library for SureLibrary {
         ensures ready { sure_ready self.new ≡ is_ok result }
         ensures bound { IfOk result (λ n. n ≤ length buf.new) }
         ensures taken { IfOk result (λ n. sure_taken self.new ≡ sure_taken self.old + n) }
-        ensures bytes { IfOk result (λ n. Takes (sure_rest self.old) (sure_rest self.new) (take n buf.new) (length buf.new)) }
+        ensures bytes { IfOk result
+            (λ n. Takes (sure_rest self.old) (sure_rest self.new) (take n buf.new) (length buf.new)) }
         // Beside the trait's: it is never refused.
         ensures sure { is_ok result ≡ true }
     {

@@ -86,7 +86,8 @@ id_is_name g (suc c) n = refl
 
 none_refused : {A : Type 0} (a b c d e : Bool) (v w x y z : A) → a ≡ false → b ≡ false → c ≡ false → d ≡ false
     → e ≡ false
-    → ◌≡◌ {A = Option A} (cond a (Some v) (cond b (Some w) (cond c (Some x) (cond d (Some y) (cond e (Some z) None))))) None
+    → ◌≡◌ {A = Option A} (cond a (Some v)
+    (cond b (Some w) (cond c (Some x) (cond d (Some y) (cond e (Some z) None))))) None
 none_refused a b c d e v w x y z p q r s t = rw (p, q, r, s, t) refl
 
 -- members and the places of their parents, put together
@@ -382,7 +383,8 @@ module _ (g : Graph) (found : Found) (ok : IsFoundFor g found) (hier : IsHierarc
         (place_or_all r es d) ≡ found_draft g found (length g.names) (chosen (take (suc k) g.edges) bits)
     parent_added =
         let others = λ (y : ℕ) (n : y ≢ c).
-        told_push y ∙ ap (λ b. map to_place (filter (leaves y) linked ++ cond b (edge ∷ []) [])) (unequal c y (λ e. n (sym e)))
+        told_push y ∙ ap (λ b. map to_place (filter (leaves y) linked ++ cond b (edge ∷ []) []))
+        (unequal c y (λ e. n (sym e)))
         ∙ ap (map to_place) (append-nil (filter (leaves y) linked)) in
         let own = told_push c
         ∙ ap (λ b. map to_place (filter (leaves c) linked ++ cond b (edge ∷ []) [])) (is_same c c refl)

@@ -68,7 +68,8 @@ module _ (g : Graph) (found : Found) (ok : IsFoundFor g found) (hier : IsHierarc
         e ∙ ap (λ b. with_parent b m.0 (number_of (get_or places j None))) before
         ∙ ap (λ x. with_parent (found_draft g found (length g.names) (chosen (take k g.edges) found.frozen.edges)) x
         (number_of (get_or places j None))) member_is
-        ∙ ap (λ p. with_parent (found_draft g found (length g.names) (chosen (take k g.edges) found.frozen.edges)) place p)
+        ∙ ap (λ p. with_parent (found_draft g found (length g.names) (chosen (take k g.edges) found.frozen.edges))
+        place p)
         parent_told
         ∙ draft.parent_added g found ok hier k inside bit c d at
         ∙ ap (λ n. found_draft g found (length g.names) (chosen (take n g.edges) found.frozen.edges)) next

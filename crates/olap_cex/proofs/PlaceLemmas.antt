@@ -20,7 +20,8 @@ pub places_more : (old new : List (Option MemberId)) (o : Option MemberId) (n : 
 places_more old new o n place e count before here c l =
     ap (λ ps. number_of (get_or ps c None)) e ∙ go (eqb_tells c n)
   where
-    go : ((c == n ≡ true) × (c ≡ n)) ⊎ ((c == n ≡ false) × (c ≢ n)) → number_of (get_or (old ++ o ∷ []) c None) ≡ place c
+    go : ((c == n ≡ true) × (c ≡ n)) ⊎ ((c == n ≡ false) × (c ≢ n))
+        → number_of (get_or (old ++ o ∷ []) c None) ≡ place c
     go (inl q) =
         ap (λ i. number_of (get_or (old ++ o ∷ []) i None)) (q.1 ∙ sym count)
         ∙ ap number_of (get_or-append_seam old o [] None) ∙ here ∙ ap place (sym q.1)

@@ -89,7 +89,8 @@ place_counts p a (suc n) c l h t = elim (eqb_tells a c) [
         → place_in (filter p (range_with_len (a + 1) n)) c ≡ length (filter p (range_with_len (a + 1) (c - (a + 1))))
         → a == c ≡ false
         → place_in (cond b (a ∷ filter p (range_with_len (a + 1) n)) (filter p (range_with_len (a + 1) n))) c
-        ≡ length (cond b (a ∷ filter p (range_with_len (a + 1) (c - (a + 1)))) (filter p (range_with_len (a + 1) (c - (a + 1)))))
+        ≡ length (cond b (a ∷ filter p (range_with_len (a + 1) (c - (a + 1))))
+        (filter p (range_with_len (a + 1) (c - (a + 1)))))
     go true e f = rw f (ap suc e)
     go false e f = e
 
@@ -125,7 +126,8 @@ pub count_same : (r : ℕ) (es : List Edge) (c old new : ℕ) → 1 ≤ c → is
     → old ≡ length (first_present r es (c - 1)) → new ≡ old → new ≡ length (first_present r es (c + 1 - 1))
 count_same r es c old new l p e n =
     let step : c + 1 - 1 ≡ c = omega arith in
-    n ∙ e ∙ ap (λ (xs : List ℕ). length xs) (sym (absent_more r es c l p)) ∙ ap (λ k. length (first_present r es k)) (sym step)
+    n ∙ e ∙ ap (λ (xs : List ℕ). length xs) (sym (absent_more r es c l p))
+    ∙ ap (λ k. length (first_present r es k)) (sym step)
 
 pub count_few : (r : ℕ) (es : List Edge) (n : ℕ) → length (first_present r es n) ≤ n
 count_few r es n =

@@ -7,8 +7,8 @@ use std::fs::Files;
 use std::io::{ErrorKind, Read};
 use std::{fs, io};
 
-/// The files of the system. A name that isn't there is `Missing`; whatever else goes wrong is `Failed`, as opening a file
-/// that may not be read, or reading a directory.
+/// The files of the system. A name that isn't there is `Missing`; whatever else goes wrong is `Failed`, as opening a
+/// file that may not be read, or reading a directory.
 #[derive(Drop)]
 pub struct FileLibrary<'a, R: Files> {
     rt: &'a R,

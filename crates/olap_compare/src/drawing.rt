@@ -103,8 +103,8 @@ pub(crate) fn formula(
     Ok(text)
 }
 
-/// The text of a schema over so many categories: a way to `All` from each, cycles and shortcuts among the edges, and up to
-/// three constraints.
+/// The text of a schema over so many categories: a way to `All` from each, cycles and shortcuts among the edges, and
+/// up to three constraints.
 pub(crate) fn schema(alloc: Global, draws: &mut Draws, count: u64) -> Result<String, AllocError> {
     let mut text = String::from_str(alloc, "schema 1\n")?;
     for c in 1..=count {

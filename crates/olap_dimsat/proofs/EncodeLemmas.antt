@@ -66,7 +66,8 @@ problem_for p r v q k = (
   },
 )
 
-pub same_candidates : (fresh : List ℕ) (texts : List (List (List ℕ))) (named : TheNames) → fresh ≡ named.fresh → texts ≡ named.texts
+pub same_candidates : (fresh : List ℕ) (texts : List (List (List ℕ))) (named : TheNames) → fresh ≡ named.fresh
+    → texts ≡ named.texts
     → candidates_of named ≡ record { fresh = fresh; texts = λ d. slice_index_or texts d [] }
 same_candidates fresh texts named f t = λ i. record { fresh = sym f i; texts = λ d. slice_index_or (sym t i) d [] }
 
@@ -92,11 +93,13 @@ pub index_same : (f : Frozen) (c : ℕ) → index_of f c ≡ index_in f c
 index_same f zero = refl
 index_same f (suc c) = refl
 
-at_meaning : (t : Task) (f : Frozen) (ms : List Meaning) (v : ℕ → Bool) (x : ℕ) (m : Meaning) → x < length ms → meaning_at ms x ≡ m
+at_meaning : (t : Task) (f : Frozen) (ms : List Meaning) (v : ℕ → Bool) (x : ℕ) (m : Meaning) → x < length ms
+    → meaning_at ms x ≡ m
     → Fits (schema_of t) t.root f ms v → IsTrue (v x) ↔ Means (schema_of t) t.root f v m
 at_meaning t f ms v x m h e fits = subst (λ n. IsTrue (v x) ↔ Means (schema_of t) t.root f v n) e (fits.at x h)
 
-pub reads : (t : Task) (f : Frozen) (ms : List Meaning) (v : ℕ → Bool) → IsLaidOut (problem_in t) ms t.layout.starts.items
+pub reads : (t : Task) (f : Frozen) (ms : List Meaning) (v : ℕ → Bool)
+    → IsLaidOut (problem_in t) ms t.layout.starts.items
     → t.layout.edges ≡ length t.graph.edges → Fits (schema_of t) t.root f ms v → Reads t f v
 reads t f ms v laid edges fits = record {
   on = λ e h.
@@ -104,7 +107,8 @@ reads t f ms v laid edges fits = record {
       same_truth _ _ i.0 i.1;
   present = λ c h.
       let n : 1 + t.layout.edges + c ≡ 1 + length t.graph.edges + c = omega arith in
-      let i = at_meaning t f ms v (1 + length t.graph.edges + c) (Present c) (let r = laid.room in omega arith) (laid.present c h) fits in
+      let i = at_meaning t f ms v (1 + length t.graph.edges + c) (Present c) (let r = laid.room in omega arith)
+      (laid.present c h) fits in
       ap v n ∙ same_truth _ _ i.0 i.1;
   named = λ c j h b.
       let l = laid.named c j h b in
@@ -124,11 +128,18 @@ laid_for t ms laid few edges variables = record {
 
 pub encoded : (t : Task) (e : Encoding) (pool : Pool) → IsHierarchy t.graph → IsCategory t.graph t.root
     → AreCandidates (schema_of t) t.question (candidates_of t.named) → length t.named.texts ≡ category_count t.graph
-    → IsLaidOut (problem_in t) e.meanings t.layout.starts.items → length e.meanings ≤ 2 ^ 30 → t.layout.edges ≡ length t.graph.edges
+    → IsLaidOut (problem_in t) e.meanings t.layout.starts.items → length e.meanings ≤ 2 ^ 30
+    → t.layout.edges ≡ length t.graph.edges
     → t.layout.variables ≡ length e.meanings → ((f : Frozen) → AreMetBy (problem_in t) e f)
     → ((v : ℕ → Bool) → AreAllMet v e.clauses → AreTrue v pool) → IsEncoded t pool
 encoded t e pool hierarchy root k texts laid few edges variables met true_in = record {
-  task = record { hierarchy = hierarchy; root = root; candidates = k; texts = texts; laid = laid_for t e.meanings laid few edges variables };
+  task = record {
+    hierarchy = hierarchy;
+    root = root;
+    candidates = k;
+    texts = texts;
+    laid = laid_for t e.meanings laid few edges variables;
+  };
   each = λ f one. let m = met f one in (
     valuation_in (problem_in t) e f,
     reads t f e.meanings (valuation_in (problem_in t) e f) laid edges m.0,

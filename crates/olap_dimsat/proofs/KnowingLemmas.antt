@@ -93,7 +93,8 @@ no_edge_past g trail hier c d h = go (edge_between g c d) refl
         absurd (omega arith)
 
 -- the test of a graph has the value of another that asks the same
-pub reach_test : (g : Graph) (c d : ℕ) (r b : Bool) → IsTrue r ↔ CategoryReaches g c d → r ≡ b → category_reaches g c d ≡ b
+pub reach_test : (g : Graph) (c d : ℕ) (r b : Bool) → IsTrue r ↔ CategoryReaches g c d → r ≡ b
+    → category_reaches g c d ≡ b
 reach_test g c d r b i e = let is = category_reaches_is g c d in
     same_truth (category_reaches g c d) r (λ y. i.1 (is.0 y)) (λ y. is.1 (i.0 y)) ∙ e
 
@@ -106,9 +107,11 @@ pub place_inside : (text : List ℕ) (texts : List (List ℕ)) (o : Option ℕ) 
     → IfSome o (λ j. j < length texts)
 place_inside text texts None e = tt
 place_inside text texts (Some j) e =
-    let at = found (bytes_eq text) (λ x. text ≡ x) (bytes_eq-Decides text) texts 0 j (sym e) in omega (arith, at.1, at.2)
+    let at = found (bytes_eq text) (λ x. text ≡ x) (bytes_eq-Decides text) texts 0 j (sym e) in
+    omega (arith, at.1, at.2)
 
-module _ (t : Task) (trail : Trail) (d : Decided) (k : IsTracked t trail d) (f : Frozen) (v : ℕ → Bool) (one : IsOne t f)
+module _ (t : Task) (trail : Trail) (d : Decided) (k : IsTracked t trail d) (f : Frozen) (v : ℕ → Bool)
+    (one : IsOne t f)
     (r : Reads t f v) (a : Agrees v (steps_of trail)) where
   abbrev es : List Edge
   es = chosen t.graph.edges f.edges
@@ -137,8 +140,10 @@ module _ (t : Task) (trail : Trail) (d : Decided) (k : IsTracked t trail d) (f :
       go : (w : Value) → value_of (values_of trail) (record { variable = x; positive = true }) ≡ w
           → Tells (truth_of w) (v x ≡ true)
       go Untold e = tt
-      go Stands e = yes_holds v (steps_of trail) (values_of trail) (record { variable = x; positive = true }) trail.shown e a
-      go Fails e = no_fails v (steps_of trail) (values_of trail) (record { variable = x; positive = true }) trail.shown e a
+      go Stands e = yes_holds v (steps_of trail) (values_of trail) (record { variable = x; positive = true })
+          trail.shown e a
+      go Fails e = no_fails v (steps_of trail) (values_of trail) (record { variable = x; positive = true })
+          trail.shown e a
 
   presence_is : (c : ℕ) → Tells (presence t trail c) (present c ≡ true)
   presence_is c = go (nat_lt c (category_count t.graph)) refl
@@ -146,14 +151,16 @@ module _ (t : Task) (trail : Trail) (d : Decided) (k : IsTracked t trail d) (f :
       go : (b : Bool) → nat_lt c (category_count t.graph) ≡ b
           → Tells (cond b (told trail (present_variable t.layout c)) No) (present c ≡ true)
       go true e = let p = r.present c (test_true c (category_count t.graph) e) in
-          known_same (told trail (present_variable t.layout c)) (v (present_variable t.layout c) ≡ true) (present c ≡ true)
+          known_same (told trail (present_variable t.layout c)) (v (present_variable t.layout c) ≡ true)
+          (present c ≡ true)
           (told_is (present_variable t.layout c)) (λ h. sym p ∙ h) (λ h. p ∙ h)
       go false e = λ p. test_false c (category_count t.graph) e (made.present_category t.graph t.root es ch c p)
 
   edge_is : (c d : ℕ) → Tells (told_of_edge trail (edge_between t.graph c d)) (HasEdgeThere inst present place c d)
   edge_is c d = go (edge_between t.graph c d) refl
     where
-      go : (o : Option ℕ) → edge_between t.graph c d ≡ o → Tells (told_of_edge trail o) (HasEdgeThere inst present place c d)
+      go : (o : Option ℕ) → edge_between t.graph c d ≡ o
+          → Tells (told_of_edge trail o) (HasEdgeThere inst present place c d)
       go None e = λ h. no_edge_joins t.graph f.edges c d e
           ((made.below_joins t.graph t.root es ch name c d h.0 h.1).0 h.2)
       go (Some i) e =
@@ -184,12 +191,14 @@ module _ (t : Task) (trail : Trail) (d : Decided) (k : IsTracked t trail d) (f :
           let z : true ≡ false = sym y ∙ q in cc
 
   reach_is : (c e : ℕ)
-      → Tells (both (both (presence t trail c) (presence t trail e)) (way t d c e)) (ReachesThere inst present place c e)
+      → Tells (both (both (presence t trail c) (presence t trail e)) (way t d c e))
+      (ReachesThere inst present place c e)
   reach_is c e = known_same (both (both (presence t trail c) (presence t trail e)) (way t d c e))
       (((present c ≡ true) × (present e ≡ true)) × Steps (Joins es) c e) (ReachesThere inst present place c e)
       (known_both (both (presence t trail c) (presence t trail e)) (way t d c e)
       ((present c ≡ true) × (present e ≡ true)) (Steps (Joins es) c e)
-      (known_both (presence t trail c) (presence t trail e) (present c ≡ true) (present e ≡ true) (presence_is c) (presence_is e))
+      (known_both (presence t trail c) (presence t trail e) (present c ≡ true) (present e ≡ true) (presence_is c)
+      (presence_is e))
       (way_is c e))
       (λ h. (h.0.0, h.0.1, (made.reaches_walk t.graph t.root es ch name c e h.0.0 h.0.1).1 h.1))
       (λ h. ((h.0, h.1), (made.reaches_walk t.graph t.root es ch name c e h.0 h.1).0 h.2))
@@ -209,14 +218,16 @@ module _ (t : Task) (trail : Trail) (d : Decided) (k : IsTracked t trail d) (f :
           → Tells (told_of_name t trail (suc c) o) (HasNameThere inst present place (suc c) text)
       go None e = tt
       go (Some j) e =
-          let at = found (bytes_eq text) (λ x. text ≡ x) (bytes_eq-Decides text) (get_or t.named.texts (suc c) []) 0 j e in
+          let at = found (bytes_eq text) (λ x. text ≡ x) (bytes_eq-Decides text)
+          (get_or t.named.texts (suc c) []) 0 j e in
           let same : at.0 ≡ j = omega (arith, at.1) in
           let few : j < length (get_or t.named.texts (suc c) []) = omega (arith, at.2) in
           let inside : suc c < category_count t.graph =
           let l = has_some t.named.texts (suc c) j few in let n = k.task.texts in omega arith in
           let it : get_or (get_or t.named.texts (suc c) []) j text ≡ text =
           ap (λ m. get_or (get_or t.named.texts (suc c) []) m text) (sym same) ∙ sym (at.3 text) in
-          let n = name_is_constant (schema_of t) t.question t.root (candidates_of t.named) k.task.candidates f one c j text
+          let n = name_is_constant (schema_of t) t.question t.root (candidates_of t.named) k.task.candidates f one c j
+          text
           inside few it in
           let x = r.named (suc c) j inside few in
           known_same (told trail (name_variable t.layout (suc c) j)) (v (name_variable t.layout (suc c) j) ≡ true)
@@ -239,7 +250,8 @@ module _ (t : Task) (trail : Trail) (d : Decided) (k : IsTracked t trail d) wher
   pub false_at : (c : ℕ) (q : Formula) → value_at (knowledge t trail d) c q ≡ No → IsFalseAt t trail c q
   false_at c q e f v one r a p = subst (λ x. Tells x (HoldsAt t f c q)) e (known_truth t trail d k f v one r a c q p)
 
-  pub broken : (j : Constraint) → presence t trail j.root ≡ Yes → IsFalseAt t trail j.root j.formula → IsBroken t trail j
+  pub broken : (j : Constraint) → presence t trail j.root ≡ Yes → IsFalseAt t trail j.root j.formula
+      → IsBroken t trail j
   broken j e n f v one r a =
       let p = subst (λ x. Tells x (HasMember t f j.root)) e (presence_is t trail d k f v one r a j.root) in
       (p, n f v one r a p)

@@ -32,7 +32,8 @@ undone e ss q = q ∙ take_none ss
 pub suited_still : (t : Task) (leaf : Leaf) (m n : ℕ) → IsSuited t leaf m → n ≡ m → IsSuited t leaf n
 suited_still t leaf m n s q = subst (λ k. IsSuited t leaf k) (sym q) s
 
-pub ready_first : (t : Task) (pool : Pool) (e : Engine) → IsEncoded t pool → ((v : ℕ → Bool) → AreTrue v pool → admits v e) → IsReady t e
+pub ready_first : (t : Task) (pool : Pool) (e : Engine) → IsEncoded t pool
+    → ((v : ℕ → Bool) → AreTrue v pool → admits v e) → IsReady t e
 ready_first t pool e i a f one = let w = i.each f one in (w.0, w.1, a w.0 w.2)
 
 -- the graph and the constraints are the schema's
@@ -84,5 +85,6 @@ handed s q search best into task for l r e n =
           (subst (λ (ns : List ℕ). IsSized s.graph search.candidates best.edges ns) (sym n)
           (handed_sized t best.edges best.names task l for.names));
       least = subst (λ (es : List Bool). IsLeast t (chosen_of es into.names)) (sym e)
-          (subst (λ (ns : List ℕ). IsLeast t (chosen_of best.edges ns)) (sym n) (handed_least t best.edges best.names task l));
+          (subst (λ (ns : List ℕ). IsLeast t (chosen_of best.edges ns)) (sym n)
+          (handed_least t best.edges best.names task l));
     }

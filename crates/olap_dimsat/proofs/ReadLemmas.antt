@@ -21,7 +21,8 @@ bit_present g r bits e c d l q b = child_present r (chosen g.edges bits) c d
     (bit_chosen g.edges bits e (record { child = 0; parent = 0 }) l b))
 
 -- an index is none past the constants
-pub index_small : (t : Task) (f : Frozen) (c : ℕ) → IsOne t f → c < category_count t.graph → index_in f c ≤ constant_count t c
+pub index_small : (t : Task) (f : Frozen) (c : ℕ) → IsOne t f → c < category_count t.graph
+    → index_in f c ≤ constant_count t c
 index_small t f zero one h = omega arith
 index_small t f (suc c) one h = one.in_range c (let n = one.name_count in omega arith)
 
@@ -46,12 +47,14 @@ length-declared : (names : List ℕ) (n : ℕ) → length names ≡ n + 1 → le
 length-declared [] n e = absurd (omega arith)
 length-declared (x ∷ xs) n e = omega arith
 
-pub index_of_choice : (edges : List Bool) (names : List ℕ) (c : ℕ) → c ≢ 0 → index_in (chosen_of edges names) c ≡ slice_index names c
+pub index_of_choice : (edges : List Bool) (names : List ℕ) (c : ℕ) → c ≢ 0
+    → index_in (chosen_of edges names) c ≡ slice_index names c
 index_of_choice edges names zero n = absurd (n refl)
 index_of_choice edges names (suc c) n = at_declared names c
 
 -- a frozen dimension is the choice that has its edges and names
-pub is_choice : (t : Task) (f : Frozen) (edges : List Bool) (names : List ℕ) → IsOne t f → length edges ≡ length t.graph.edges
+pub is_choice : (t : Task) (f : Frozen) (edges : List Bool) (names : List ℕ) → IsOne t f
+    → length edges ≡ length t.graph.edges
     → length names ≡ category_count t.graph
     → ((e : ℕ) → e < length edges → slice_index_or f.edges e false ≡ slice_index_or edges e false)
     → ((c : ℕ) → c < length names → index_in f c ≡ slice_index names c) → f ≡ chosen_of edges names

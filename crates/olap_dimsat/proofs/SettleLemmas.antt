@@ -68,7 +68,8 @@ NamedSo t v c i n = (k : ℕ) → k < n → v (name_variable t.layout c k) ≡ (
 pub at_or_below : (q p : ℕ) → q < p + 1 → (q < p) ⊎ (q ≡ p)
 at_or_below q p h = grind arith
 
-pub named_more : (t : Task) (v : ℕ → Bool) (c i n : ℕ) → NamedSo t v c i n → v (name_variable t.layout c n) ≡ (suc n == i)
+pub named_more : (t : Task) (v : ℕ → Bool) (c i n : ℕ) → NamedSo t v c i n
+    → v (name_variable t.layout c n) ≡ (suc n == i)
     → NamedSo t v c i (n + 1)
 named_more t v c i n s e k h = elim (at_or_below k n h) [
   | inl l ↦ s k l
@@ -88,7 +89,8 @@ index_from : (i x n : ℕ) → i ≤ n → x ≤ n → ((k : ℕ) → k < n → 
 index_from zero x n h l f = none_is_zero x n l (λ k b. f k b ∙ suc_not_zero k)
 index_from (suc i) x n h l f = same_is x (suc i) (f i (omega arith) ∙ is_same (suc i) (suc i) refl)
 
-pub index_of_named : (t : Task) (f : Frozen) (v : ℕ → Bool) (c i : ℕ) → IsOne t f → Reads t f v → c < category_count t.graph
+pub index_of_named : (t : Task) (f : Frozen) (v : ℕ → Bool) (c i : ℕ) → IsOne t f → Reads t f v
+    → c < category_count t.graph
     → i ≤ constant_count t c → NamedSo t v c i (constant_count t c) → index_in f c ≡ i
 index_of_named t f v c i one r h l s = index_from i (index_in f c) (constant_count t c) l (index_small t f c one h)
     (λ k b. sym (r.named c k h b) ∙ s k b)
@@ -187,7 +189,8 @@ pinned_start t w steps e one = subst (λ ss. IsPinned t 0 w ss) (sym e) (record 
 -- ---- the least
 
 pub not_after : (xs ys : List ℕ) → length xs ≡ length ys
-    → ((q : ℕ) → q < length xs → ((k : ℕ) → k < q → slice_index ys k ≡ slice_index xs k) → slice_index xs q ≤ slice_index ys q)
+    → ((q : ℕ) → q < length xs → ((k : ℕ) → k < q → slice_index ys k ≡ slice_index xs k)
+    → slice_index xs q ≤ slice_index ys q)
     → IsNotAfter xs ys
 not_after [] ys e f = tt
 not_after (x ∷ xs) [] e f = absurd (omega arith)
@@ -232,7 +235,8 @@ longer_again a b c l m = (l.0 ++ m.0, m.1 ∙ ap (λ x. x ++ m.0) l.1 ∙ append
 pub longer_same : (a b c : List Step) → IsLonger a b → c ≡ b → IsLonger a c
 longer_same a b c l e = (l.0, e ∙ l.1)
 
-pub shaped_more : (t : Task) (old : List Step) (s : Step) → AreShaped t old → IsShaped t s.lit → AreShaped t (old ++ s ∷ [])
+pub shaped_more : (t : Task) (old : List Step) (s : Step) → AreShaped t old → IsShaped t s.lit
+    → AreShaped t (old ++ s ∷ [])
 shaped_more t old s shaped is k d h = elim (which k (length old)) [
   | inl l ↦ subst (λ (x : Step). IsShaped t x.lit) (sym (get_or_append_left old (s ∷ []) d k l)) (shaped k d l)
   | inr g ↦

@@ -132,10 +132,12 @@ module _ (t : Task) (trail : Trail) (task : IsTask t) (d : Decided) (of : IsOf t
       (choice_of t.graph t.root f.edges task.hierarchy task.root) (name_in (candidates_of t.named) f) one.stands_for
 
   pub cycle_none : HoldsCycle (present_with d e) → NoneAgrees t trail
-  cycle_none h f v one r a = (sound f one).acyclic h.0 (wider_climb (with_joins t trail f v one r a d of read e reads) h.1)
+  cycle_none h f v one r a =
+      (sound f one).acyclic h.0 (wider_climb (with_joins t trail f v one r a d of read e reads) h.1)
 
   pub shortcut_none : HoldsShortcut (present_with d e) → NoneAgrees t trail
   shortcut_none h f v one r a =
       let joins = with_joins t trail f v one r a d of read e reads in
-      (sound f one).straight h.child h.parent h.through (joins h.child h.parent h.edge) (joins h.child h.through h.first)
+      (sound f one).straight h.child h.parent h.through (joins h.child h.parent h.edge)
+      (joins h.child h.through h.first)
       (wider_climb joins h.rest)

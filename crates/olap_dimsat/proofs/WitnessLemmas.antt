@@ -18,7 +18,8 @@ use Rattle.olap_dimsat.proofs.StepLemmas.{agrees_at, all_agree}
 use Rattle.olap_dimsat.proofs.ReadLemmas.{index_of_choice}
 
 -- a choice that agrees with a literal of an edge or a name makes it true
-suits_holds : (t : Task) (edges : List Bool) (names : List ℕ) (v : ℕ → Bool) (l : Lit) → Suits t edges names l → IsShaped t l
+suits_holds : (t : Task) (edges : List Bool) (names : List ℕ) (v : ℕ → Bool) (l : Lit) → Suits t edges names l
+    → IsShaped t l
     → Reads t (chosen_of edges names) v → Holds v l
 suits_holds t edges names v l s (inl e) r =
     ap v e.2 ∙ r.on e.0 e.1 ∙ s.on e.0 e.1 e.2
@@ -34,15 +35,18 @@ taken_agrees t edges names v ss ts k shaped r = all_agree v ss (λ i d h.
     (subst (λ (s : Step). Suits t edges names s.lit) (get_or_append_left ss ts d i h)
     (k.suits i d (let l = length-append ss ts in omega arith))) (shaped i d h) r)
 
-pub ready_still : (t : Task) (old new : Engine) → IsReady t old → ((v : ℕ → Bool) → IsMeant t v → admits v old → admits v new)
+pub ready_still : (t : Task) (old new : Engine) → IsReady t old
+    → ((v : ℕ → Bool) → IsMeant t v → admits v old → admits v new)
     → IsReady t new
 ready_still t old new r k f one = let w = r f one in (w.0, w.1, k w.0 (f, one, w.1) w.2)
 
 -- what reads one frozen dimension agrees on literals of edges and names
-same_value : (t : Task) (f : Frozen) (v w : ℕ → Bool) (l : Lit) → IsShaped t l → Reads t f v → Reads t f w → v l.variable ≡ w l.variable
+same_value : (t : Task) (f : Frozen) (v w : ℕ → Bool) (l : Lit) → IsShaped t l → Reads t f v → Reads t f w
+    → v l.variable ≡ w l.variable
 same_value t f v w l (inl e) r s = ap v e.2 ∙ r.on e.0 e.1 ∙ sym (s.on e.0 e.1) ∙ sym (ap w e.2)
 same_value t f v w l (inr n) r s =
-    ap v n.is ∙ r.named n.category n.place n.inside n.count ∙ sym (s.named n.category n.place n.inside n.count) ∙ sym (ap w n.is)
+    ap v n.is ∙ r.named n.category n.place n.inside n.count ∙ sym (s.named n.category n.place n.inside n.count)
+    ∙ sym (ap w n.is)
 
 pub same_agrees : (t : Task) (f : Frozen) (v w : ℕ → Bool) (ss : List Step) → AreShaped t ss → Reads t f v → Reads t f w
     → Agrees v ss → Agrees w ss

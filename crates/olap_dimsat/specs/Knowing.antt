@@ -49,7 +49,8 @@ abbrev pub told_of_edge : Trail → Option ℕ → Truth3
 told_of_edge trail None = No
 told_of_edge trail (Some e) = told trail (on_variable e)
 
--- whether a walk of present edges leads from a to b: surely where edges were decided so, and never where the graph has none
+-- whether a walk of present edges leads from a to b: surely where edges were decided so, and never where the graph
+-- has none
 abbrev pub way : Task → Decided → ℕ → ℕ → Truth3
 way t d a b = if category_reaches (present_graph d) a b then Yes
     else if category_reaches t.graph a b then Unknown else No

@@ -29,7 +29,8 @@ fn is_false(known: &Known<'_>, formula: &Formula, c: CatId) -> bool
 // Whether it is known that the constraint's root has a member, and that the formula is false there.
 fn is_broken(known: &Known<'_>, constraint: &Constraint) -> bool
     requires { IsTracked (task_of known.now.asker.now) known.now.trail.now known.now.decided.now }
-    ensures { result ≡ true → IsBroken (task_of known.now.asker.now) known.now.trail.now (constraint_of constraint.now) }
+    ensures { result ≡ true → IsBroken (task_of known.now.asker.now) known.now.trail.now
+        (constraint_of constraint.now) }
 {
     match known.presence(constraint.root) {
         Truth3::Yes => is_false(known, &constraint.formula, constraint.root),

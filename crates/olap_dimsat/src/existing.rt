@@ -19,7 +19,8 @@ pub(crate) fn exists(engine: &mut Engine, a: &Asker<'_>, leaf: &mut Leaf) -> boo
     requires shaped { AreShaped (task_of a.now) (trail_of engine.old) }
     ensures one { result ≡ true → IsOne (task_of a.now) (chosen_of leaf.new.frozen.edges leaf.new.frozen.names) }
     ensures agrees { result ≡ true → (v : ℕ → Bool)
-        → Reads (task_of a.now) (chosen_of leaf.new.frozen.edges leaf.new.frozen.names) v → Agrees v (trail_of engine.old) }
+        → Reads (task_of a.now) (chosen_of leaf.new.frozen.edges leaf.new.frozen.names) v
+        → Agrees v (trail_of engine.old) }
     ensures none { result ≡ false → (f : TheFrozen) (v : ℕ → Bool) → IsOne (task_of a.now) f → Reads (task_of a.now) f v
         → Agrees v (trail_of engine.old) → ⊥ }
     ensures trail { trail_of engine.new ≡ trail_of engine.old }

@@ -1,5 +1,4 @@
 // The judge of a search for frozen dimensions.
-ghost use Rattle.std.specs.Prelude.{ℕ};
 
 use crate::asker::{Asker, Leaf};
 use crate::cutting::is_cut;

@@ -9,7 +9,7 @@ ghost use Rattle.olap_dimsat.specs.Tasks.{IsLaid, constant_count};
 use crate::asker::Asker;
 use olap_ast::Truth3;
 use olap_base::{CatId, Text};
-use olap_clauses::{Lit, Trail, Value};
+use olap_clauses::{Trail, Value};
 use olap_eval::Partial;
 use olap_trail::Trail as Decisions;
 

@@ -115,8 +115,8 @@ fn pick_among(a: &Asker<'_>, trail: &Trail, scores: &[u32], among: Option<CatSet
     }
 }
 
-/// The negation of an open edge: of a category that present edges lead to from the root, and where there is none, of any
-/// that is known present.
+/// The negation of an open edge: of a category that present edges lead to from the root, and where there is none, of
+/// any that is known present.
 pub(crate) fn pick_edge(
     a: &Asker<'_>,
     trail: &Trail,

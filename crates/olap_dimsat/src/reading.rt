@@ -91,7 +91,9 @@ fn read_edges(a: &Asker<'_>, trail: &Trail, edges: &mut List<bool>) -> Result<()
     requires task { IsTask (task_of a.now) }
     requires edges { length edges.old ≡ length a.now.graph.now.edges }
     requires variables { length (values_of trail.now) ≡ a.now.layout.now.variables }
-    ensures edges { IfOk result (λ _. (e : ℕ) → e < length edges.new → EdgeReads (task_of a.now) trail.now e (slice_index_or edges.new e false)) }
+    ensures edges { IfOk result
+        (λ _. (e : ℕ) → e < length edges.new
+        → EdgeReads (task_of a.now) trail.now e (slice_index_or edges.new e false)) }
     ensures size { length edges.new ≡ length edges.old }
     ensures open { IfErr result (λ l. IsOpen trail.now l) }
 {
@@ -107,8 +109,10 @@ fn read_names(a: &Asker<'_>, trail: &Trail, names: &mut List<u16>) -> Result<(),
     requires task { IsTask (task_of a.now) }
     requires names { length names.old ≡ category_count a.now.graph.now }
     requires variables { length (values_of trail.now) ≡ a.now.layout.now.variables }
-    ensures names { IfOk result (λ _. (c : ℕ) → c < length names.new → NameReads (task_of a.now) trail.now c (slice_index names.new c)) }
-    ensures in_range { IfOk result (λ _. (c : ℕ) → c < length names.new → slice_index names.new c ≤ constant_count (task_of a.now) c) }
+    ensures names { IfOk result
+        (λ _. (c : ℕ) → c < length names.new → NameReads (task_of a.now) trail.now c (slice_index names.new c)) }
+    ensures in_range { IfOk result
+        (λ _. (c : ℕ) → c < length names.new → slice_index names.new c ≤ constant_count (task_of a.now) c) }
     ensures size { length names.new ≡ length names.old }
     ensures open { IfErr result (λ l. IsOpen trail.now l) }
 {

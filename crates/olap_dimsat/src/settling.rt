@@ -24,7 +24,8 @@ fn assume(engine: &mut Engine, a: &Asker<'_>, lit: Lit) -> bool
     requires shaped { AreShaped (task_of a.now) (trail_of engine.old) }
     requires lit { IsShaped (task_of a.now) lit }
     requires inside { lit.variable < variables_of engine.old }
-    ensures yes { result ≡ true → (v : ℕ → Bool) → Agrees v (trail_of engine.new) ↔ (Agrees v (trail_of engine.old) × Holds v lit) }
+    ensures yes { result ≡ true → (v : ℕ → Bool) → Agrees v (trail_of engine.new)
+        ↔ (Agrees v (trail_of engine.old) × Holds v lit) }
     ensures no { result ≡ false → (v : ℕ → Bool) → Agrees v (trail_of engine.old) → Holds v lit → ⊥ }
     ensures longer { IsLonger (trail_of engine.old) (trail_of engine.new) }
     ensures shaped { AreShaped (task_of a.now) (trail_of engine.new) }
@@ -47,7 +48,8 @@ fn assume_edge(engine: &mut Engine, a: &Asker<'_>, e: EdgeId, present: bool) -> 
     requires shaped { AreShaped (task_of a.now) (trail_of engine.old) }
     requires edge { e.0 < length a.now.graph.now.edges }
     requires variables { variables_of engine.old ≡ a.now.layout.now.variables }
-    ensures yes { result ≡ true → SayAt (task_of a.now) e.0 (if present then 1 else 0) (trail_of engine.old) (trail_of engine.new) }
+    ensures yes { result ≡ true → SayAt (task_of a.now) e.0 (if present then 1 else 0) (trail_of engine.old)
+        (trail_of engine.new) }
     ensures no { result ≡ false → NoneAt (task_of a.now) e.0 (if present then 1 else 0) (trail_of engine.old) }
     ensures longer { IsLonger (trail_of engine.old) (trail_of engine.new) }
     ensures shaped { AreShaped (task_of a.now) (trail_of engine.new) }
@@ -70,8 +72,10 @@ fn assume_name(engine: &mut Engine, a: &Asker<'_>, c: CatId, i: u16) -> bool
     requires declared { c.0 ≢ 0 }
     requires index { i ≤ constant_count (task_of a.now) c.0 }
     requires variables { variables_of engine.old ≡ a.now.layout.now.variables }
-    ensures yes { result ≡ true → SayAt (task_of a.now) (length a.now.graph.now.edges + c.0 - 1) i (trail_of engine.old) (trail_of engine.new) }
-    ensures no { result ≡ false → NoneAt (task_of a.now) (length a.now.graph.now.edges + c.0 - 1) i (trail_of engine.old) }
+    ensures yes { result ≡ true → SayAt (task_of a.now) (length a.now.graph.now.edges + c.0 - 1) i
+        (trail_of engine.old) (trail_of engine.new) }
+    ensures no { result ≡ false → NoneAt (task_of a.now) (length a.now.graph.now.edges + c.0 - 1) i
+        (trail_of engine.old) }
     ensures longer { IsLonger (trail_of engine.old) (trail_of engine.new) }
     ensures shaped { AreShaped (task_of a.now) (trail_of engine.new) }
     ensures variables { variables_of engine.new ≡ variables_of engine.old }

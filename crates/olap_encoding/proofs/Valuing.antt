@@ -20,7 +20,8 @@ differ_is true false = (λ e i. let z : false ≡ true = i.0 refl in cc, λ n. r
 differ_is false true = (λ e i. let z : false ≡ true = i.1 refl in cc, λ n. refl)
 differ_is false false = (λ e i. cc, λ n. absurd (n (λ x. x, λ x. x)))
 
-truth_is : (s : Schema) (r : ℕ) (f : Frozen) (v : Valuation) (m : Meaning) → IsTrue (truth_of s r f v m) ↔ Means s r f v m
+truth_is : (s : Schema) (r : ℕ) (f : Frozen) (v : Valuation) (m : Meaning) → IsTrue (truth_of s r f v m)
+    ↔ Means s r f v m
 truth_is s r f v Always = (λ e. tt, λ t. refl)
 truth_is s r f v (On e) = (λ h. h, λ h. h)
 truth_is s r f v (Named c k) = (same_is (index_of f c) k, is_same (index_of f c) k)
@@ -101,11 +102,13 @@ module _ (s : Schema) (r : ℕ) (f : Frozen) (ms : List Meaning) where
       | inr k ↦ earlier k (first_values n x (omega arith) k)
     ]
       where
-        newest : x ≡ n → IsTrue (valuation s r f ms (suc n) x) ↔ Means s r f (valuation s r f ms (suc n)) (meaning_at ms x)
+        newest : x ≡ n → IsTrue (valuation s r f ms (suc n) x) ↔ Means s r f (valuation s r f ms (suc n))
+            (meaning_at ms x)
         newest q =
             let t = truth_is s r f (valuation s r f ms n) (meaning_at ms x) in
             let e : valuation s r f ms (suc n) x ≡ truth_of s r f (valuation s r f ms n) (meaning_at ms x) =
-            subst (λ y. valuation s r f ms (suc n) y ≡ truth_of s r f (valuation s r f ms n) (meaning_at ms y)) (sym q) (new_value n) in
+            subst (λ y. valuation s r f ms (suc n) y ≡ truth_of s r f (valuation s r f ms n) (meaning_at ms y))
+            (sym q) (new_value n) in
             let k = kept n x (omega arith) (omega arith) in
             (λ a. k.0 (t.0 (sym e ∙ a)), λ a. e ∙ t.1 (k.1 a))
 

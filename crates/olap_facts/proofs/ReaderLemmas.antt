@@ -38,7 +38,8 @@ module _ (r : FactReading) where
   faults-of = fact_fault_within r.most r.graph r.instance
 
   -- the records that were seen
-  seen-of : (left : List (List (List ℕ))) (b : HasBody r left) → HasSeen (fact_fault_within r.most r.graph r.instance) (body_of r.records) b.seen left
+  seen-of : (left : List (List (List ℕ))) (b : HasBody r left)
+      → HasSeen (fact_fault_within r.most r.graph r.instance) (body_of r.records) b.seen left
   seen-of left b = record { parts = b.parts; faults = b.faults }
 
   -- after the header
@@ -68,22 +69,27 @@ module _ (r : FactReading) where
       zero_or : (n : ℕ) → (n ≡ 0) ⊎ (0 < n)
       zero_or n = grind arith
 
-      go : (r.handed ≡ 0) ⊎ (0 < r.handed) → (all_read r ≡ Err (record { at = 1; kind = kind.BadHeader })) × (r.handed ≡ 0)
-      go (inl z) = let h : has_header r.records ≡ false = sym (ap has_header (a.start z)) ∙ sym (first z) ∙ f in (rw h refl, z)
+      go : (r.handed ≡ 0) ⊎ (0 < r.handed) → (all_read r ≡ Err (record { at = 1; kind = kind.BadHeader }))
+          × (r.handed ≡ 0)
+      go (inl z) = let h : has_header r.records ≡ false = sym (ap has_header (a.start z)) ∙ sym (first z) ∙ f in
+          (rw h refl, z)
       go (inr p) = absurd (let q : true ≡ false = sym (later p) ∙ f in cc)
 
   module _ (left after : List (List (List ℕ))) (row : List (List ℕ)) (b : HasBody r left) (e : left ≡ row ∷ after) where
-    pub next-fact : (f : Fact) → fact_fault_within r.most r.graph r.instance b.seen row ≡ None → f ≡ fact_read r.instance row
+    pub next-fact : (f : Fact) → fact_fault_within r.most r.graph r.instance b.seen row ≡ None
+        → f ≡ fact_read r.instance row
         → HandsOut r f × IsAt (one_more r) after
     next-fact f n q =
-        let more = see-more (fact_fault_within r.most r.graph r.instance) (body_of r.records) b.seen left after row (seen-of left b) e n in
+        let more = see-more (fact_fault_within r.most r.graph r.instance) (body_of r.records) b.seen left after row
+        (seen-of left b) e n in
         let whole : body_of r.records ≡ b.seen ++ row ∷ after = b.parts ∙ ap (λ t. b.seen ++ t) e in
         let s = b.size in (
           record {
             header = b.header;
             there = let l = ap length whole in omega (arith, length-append b.seen (row ∷ after));
             no_fault = λ p h.
-                let k = found-behind (fact_fault_within r.most r.graph r.instance) (b.seen ++ row ∷ []) after p (sym more.faults ∙ h) in
+                let k = found-behind (fact_fault_within r.most r.graph r.instance) (b.seen ++ row ∷ []) after p
+                (sym more.faults ∙ h) in
                 omega (arith, length-append b.seen (row ∷ []));
             fact = q ∙ ap (fact_read r.instance) (sym (ap (λ (l : List (List (List ℕ))). get_or l r.handed []) whole
                 ∙ ap (λ k. get_or (b.seen ++ row ∷ after) k []) (sym s) ∙ at-seam b.seen after row []));
@@ -103,15 +109,18 @@ module _ (r : FactReading) where
     pub next-fault : (k : FactKind) → fact_fault_within r.most r.graph r.instance b.seen row ≡ Some k
         → all_read r ≡ Err (record { at = r.handed + 2; kind = k })
     next-fault k n =
-        let f : first_fault (fact_fault_within r.most r.graph r.instance) [] (body_of r.records) ≡ Some (length b.seen, k) =
-        see-fault (fact_fault_within r.most r.graph r.instance) (body_of r.records) b.seen left after row k (seen-of left b) e n in
+        let f : first_fault (fact_fault_within r.most r.graph r.instance) [] (body_of r.records) ≡ Some
+        (length b.seen, k) =
+        see-fault (fact_fault_within r.most r.graph r.instance) (body_of r.records) b.seen left after row k
+        (seen-of left b) e n in
         let h = b.header in
         rw h (ap (λ o. or_read o (Ok (map (fact_read r.instance) (body_of r.records)))) f
         ∙ ap (λ m. Err (record { at = m + 2; kind = k })) b.size)
 
   pub next-end : (left : List (List (List ℕ))) → HasBody r left → left ≡ [] → IsAtEnd r
   next-end left b e =
-      let all = see-all (fact_fault_within r.most r.graph r.instance) (body_of r.records) b.seen left (seen-of left b) e in
+      let all = see-all (fact_fault_within r.most r.graph r.instance) (body_of r.records) b.seen left
+      (seen-of left b) e in
       let h = b.header in record {
         facts = map (fact_read r.instance) (body_of r.records);
         read = rw h (ap (λ o. or_read o (Ok (map (fact_read r.instance) (body_of r.records)))) all.1);

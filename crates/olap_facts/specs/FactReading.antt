@@ -13,8 +13,8 @@ use Rattle.olap_instance.specs.Made.{IsMadeFor}
 use Rattle.olap_records.specs.Faults.{first_fault}
 use Rattle.olap_facts.specs.FactText.{fact_fault_within, fact_read, facts_read_within, has_header}
 use Rattle.olap_facts.specs.declared.kinds.FactKind.{FactKind}
-use Rattle.olap_facts.specs.declared.kinds.NextRefusal.{NextRefusal}
-use Rattle.olap_facts.specs.declared.kinds.NextRefusal.TheVariants as refusal
+use Rattle.olap_facts.specs.declared.kinds.FactRefusal.{FactRefusal}
+use Rattle.olap_facts.specs.declared.kinds.FactRefusal.TheVariants as refusal
 
 -- the records of a text, the most facts that it may have, how many were handed out, and whether there may be more
 pub record FactReading : Type 0 where
@@ -49,7 +49,8 @@ stopped r = record r { live = false }
 pub record HandsOut (r : FactReading) (f : Fact) : Type 0 where
   pub header : has_header r.records ≡ true
   pub there : r.handed < length (body_of r.records)
-  pub no_fault : (p : ℕ × FactKind) → first_fault (fact_fault_within r.most r.graph r.instance) [] (body_of r.records) ≡ Some p
+  pub no_fault : (p : ℕ × FactKind) → first_fault (fact_fault_within r.most r.graph r.instance) []
+      (body_of r.records) ≡ Some p
       → r.handed < p.0
   pub fact : f ≡ fact_read r.instance (slice_index_or (body_of r.records) r.handed [])
 
@@ -61,7 +62,7 @@ pub record IsAtEnd (r : FactReading) : Type 0 where
 
 -- the text's first fault is that of the header, before any fact, or of the record behind those handed out; or memory
 -- ran out
-abbrev pub IsStopped : FactReading → NextRefusal → Type 0
+abbrev pub IsStopped : FactReading → FactRefusal → Type 0
 IsStopped r (refusal.Fault at kind) =
     (all_read r ≡ Err (record { at = at; kind = kind })) × (((at ≡ 1) × (r.handed ≡ 0)) ⊎ (at ≡ r.handed + 2))
 IsStopped r refusal.Memory = ⊤

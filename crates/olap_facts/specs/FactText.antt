@@ -61,7 +61,8 @@ or_read (Some p) after = Err (record { at = p.0 + 2; kind = p.1 })
 
 -- the records after the header
 abbrev pub body_read_within : ℕ → Graph → Instance → List (List (List ℕ)) → Result (List Fact) (Fault FactKind)
-body_read_within most g i rows = or_read (first_fault (fact_fault_within most g i) [] rows) (Ok (map (fact_read i) rows))
+body_read_within most g i rows =
+    or_read (first_fault (fact_fault_within most g i) [] rows) (Ok (map (fact_read i) rows))
 
 -- the first record is the header
 abbrev pub has_header : List (List (List ℕ)) → Bool

@@ -5,18 +5,11 @@ use Rattle.olap_base.specs.Views.{Fact}
 use Rattle.olap_facts.specs.declared.kinds.FactKind.{FactKind}
 use Rattle.olap_facts.specs.declared.kinds.FactRefusal.{FactRefusal}
 use Rattle.olap_facts.specs.declared.kinds.FactRefusal.TheVariants as refusal
-use Rattle.olap_facts.specs.declared.kinds.NextRefusal.{NextRefusal}
-use Rattle.olap_facts.specs.declared.kinds.NextRefusal.TheVariants as next
 
 -- the refusal tells the text's first fault, or that memory ran out
 abbrev pub IsRefusedBy : FactRefusal → Result (List Fact) (Fault FactKind) → Type 0
 IsRefusedBy (refusal.Fault at kind) read = read ≡ Err (record { at = at; kind = kind })
 IsRefusedBy refusal.Memory read = ⊤
-
--- the same of a reader's refusal
-abbrev pub IsNextRefusedBy : NextRefusal → Result (List Fact) (Fault FactKind) → Type 0
-IsNextRefusedBy (next.Fault at kind) read = read ≡ Err (record { at = at; kind = kind })
-IsNextRefusedBy next.Memory read = ⊤
 
 -- the refusal tells the first fault of the records after the header, or that memory ran out
 abbrev pub IsFaultCause : Option (ℕ × FactKind) → FactRefusal → Type 0

@@ -1,4 +1,7 @@
 // What may be wrong with a text of facts, and refusals.
+ghost use Rattle.std.specs.Prelude.{◌≡◌};
+ghost use Rattle.olap_facts.specs.declared.kinds.FactRefusal.TheVariants as refusal;
+
 use olap_base::Memory;
 use std::alloc::AllocFailed;
 
@@ -38,7 +41,7 @@ impl FactKind {
     }
 }
 
-/// Why a text of facts was refused.
+/// Why a text of facts was refused, or no fact of it was handed out.
 #[derive(Clone, Copy, Debug, PartialEq, Eq)]
 pub enum FactRefusal {
     /// The first fault, with the number of its record, from 1; the header is record 1.
@@ -48,9 +51,6 @@ pub enum FactRefusal {
 }
 
 impl From<Memory> for FactRefusal {
-    ghost use Rattle.std.specs.Prelude.{◌≡◌};
-    ghost use Rattle.olap_facts.specs.declared.kinds.FactRefusal.TheVariants as refusal;
-
     ghost from_gives = { λ _ e. e ≡ refusal.Memory };
 
     fn from(_: Memory) -> FactRefusal {
@@ -59,32 +59,9 @@ impl From<Memory> for FactRefusal {
 }
 
 impl<T: Drop> From<AllocFailed<T>> for FactRefusal {
-    ghost use Rattle.std.specs.Prelude.{◌≡◌};
-    ghost use Rattle.olap_facts.specs.declared.kinds.FactRefusal.TheVariants as refusal;
-
     ghost from_gives = { λ _ e. e ≡ refusal.Memory };
 
     fn from(_: AllocFailed<T>) -> FactRefusal {
         FactRefusal::Memory
-    }
-}
-
-/// Why no fact was handed out.
-#[derive(Clone, Copy, Debug, PartialEq, Eq)]
-pub enum NextRefusal {
-    /// The text's first fault, with the number of its record, from 1; the header is record 1.
-    Fault { at: u64, kind: FactKind },
-    /// Memory ran out.
-    Memory,
-}
-
-impl From<Memory> for NextRefusal {
-    ghost use Rattle.std.specs.Prelude.{◌≡◌};
-    ghost use Rattle.olap_facts.specs.declared.kinds.NextRefusal.TheVariants as refusal;
-
-    ghost from_gives = { λ _ e. e ≡ refusal.Memory };
-
-    fn from(_: Memory) -> NextRefusal {
-        NextRefusal::Memory
     }
 }

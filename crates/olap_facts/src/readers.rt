@@ -9,7 +9,7 @@ ghost use Rattle.olap_facts.specs.FactText.{has_header};
 ghost use Rattle.olap_facts.specs.Seen.{fact_of};
 
 use crate::reading::{begins, fact};
-use crate::{Fact, FactKind, NextRefusal};
+use crate::{Fact, FactKind, FactRefusal};
 use olap_base::Memory;
 use olap_graph::Graph;
 use olap_instance::Instance;
@@ -37,7 +37,8 @@ impl<'a> Model for FactReader<'a> {
 
     ghost view = { λ a. reading a.graph.now a.instance.now (records_of a.text.now) a.most a.handed a.live };
 
-    ghost invariant = { λ a. IsReader (reading a.graph.now a.instance.now (records_of a.text.now) a.most a.handed a.live)
+    ghost invariant = { λ a. IsReader
+        (reading a.graph.now a.instance.now (records_of a.text.now) a.most a.handed a.live)
         a.rows.left };
 }
 
@@ -61,7 +62,7 @@ fn next_of(
     rows: &mut Rows,
     handed: u64,
     most: u64,
-) -> Result<Option<Fact>, NextRefusal>
+) -> Result<Option<Fact>, FactRefusal>
     requires made { IsMadeFor graph.now instance.now }
     requires most { most < 2 ^ 63 }
     requires few { handed ≤ most }
@@ -76,7 +77,7 @@ fn next_of(
     ensures few { IfOk result (λ o. IfSome o (λ f. handed < most)) }
 {
     if !starts(rows, handed)? {
-        return Err(NextRefusal::Fault {
+        return Err(FactRefusal::Fault {
             at: 1,
             kind: FactKind::BadHeader,
         });
@@ -86,7 +87,7 @@ fn next_of(
     }
     match fact(graph, instance, rows, handed, most) {
         Ok(fact) => Ok(Some(fact)),
-        Err(kind) => Err(NextRefusal::Fault {
+        Err(kind) => Err(FactRefusal::Fault {
             at: handed + 2,
             kind,
         }),
@@ -118,7 +119,7 @@ impl<'a> FactReader<'a> {
     }
 
     /// The fact of the next record, if there is one. After the last, and after a refusal, the reader isn't live.
-    pub fn next(&mut self) -> Result<Option<Fact>, NextRefusal>
+    pub fn next(&mut self) -> Result<Option<Fact>, FactRefusal>
         requires live { IsTrue self.old.live }
         ensures reads { MatchResult result
             (λ o. MatchOption o (IsAtEnd self.old × (self.new ≡ stopped self.old))

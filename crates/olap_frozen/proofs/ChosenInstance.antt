@@ -154,7 +154,8 @@ module _ (g : Graph) (r : ℕ) (es : List Edge) (ch : IsChoice g r es) where
     below_edge k l b =
         let h = in_cats k (below_is_member inst k l b) in
         let c = get_or cats k 0 in
-        let t = Contains-from_map to_place (filter (leaves c) es) l (subst (λ ps. Contains ps l) (parents_inst k h) b) in
+        let t = Contains-from_map to_place (filter (leaves c) es) l
+        (subst (λ ps. Contains ps l) (parents_inst k h) b) in
         let u = Contains-from_filter (leaves c) es t.0 t.1 in
         let e : t.0.child ≡ c = same_is t.0.child c u.1 in
         let p = place_is t.0.parent (parent_present t.0.child t.0.parent u.0) in (
@@ -256,7 +257,8 @@ module _ (g : Graph) (r : ℕ) (es : List Edge) (ch : IsChoice g r es) where
         a b d l h
       where
         apart : (c : ℕ) → Distinct (map to_place (filter (leaves c) es))
-        apart c = Distinct-map to_place (filter (leaves c) es) (Distinct-filter (leaves c) es (Distinct-from_AllPairs es ch.differ))
+        apart c = Distinct-map to_place (filter (leaves c) es)
+            (Distinct-filter (leaves c) es (Distinct-from_AllPairs es ch.differ))
             (λ e f x y q.
             let s = Contains-from_filter (leaves c) es e x in
             let t = Contains-from_filter (leaves c) es f y in
@@ -269,7 +271,8 @@ module _ (g : Graph) (r : ℕ) (es : List Edge) (ch : IsChoice g r es) where
     ids_differ x y hx hy q =
         let a = in_cats x hx in
         let b = in_cats y hy in
-        same_cat x y a b (same_id g ch.hierarchy (get_or cats x 0) (get_or cats y 0) (cat_in_order x a) (cat_in_order y b)
+        same_cat x y a b (same_id g ch.hierarchy (get_or cats x 0) (get_or cats y 0) (cat_in_order x a)
+        (cat_in_order y b)
         (sym (ap (λ m. m.id) (at_inst x a)) ∙ q ∙ ap (λ m. m.id) (at_inst y b)))
 
     pub chosen_instance : is_present r es 0 ≡ true → name 0 ≡ codes "all" → IsInstance inst
@@ -303,8 +306,11 @@ module _ (g : Graph) (r : ℕ) (es : List Edge) (ch : IsChoice g r es) where
           (ch.within (record { child = get_or cats x 0; parent = get_or cats y 0 }) t.2));
       up_connectivity = λ x h n.
           let a = in_cats x h in
-          let t = s.upward (get_or cats x 0) (cat_present x a) (λ e. n (category_inst x a ∙ e)) in
-          (place t.0, subst (λ k. IsBelow inst k (place t.0)) (place_of_cat x a) (edge_below (get_or cats x 0) t.0 t.1));
+          let t = s.upward (get_or cats x 0) (cat_present x a) (λ e. n (category_inst x a ∙ e)) in (
+            place t.0,
+            subst (λ k. IsBelow inst k (place t.0)) (place_of_cat x a)
+                (edge_below (get_or cats x 0) t.0 t.1),
+          );
       stratification = λ x y f q.
           let c = Climb-from_leads f in
           let e = climb_ends c in

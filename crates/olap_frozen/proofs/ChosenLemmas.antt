@@ -97,7 +97,8 @@ bit_joins g bits c d i hier e =
     let at : get_or g.edges i z ≡ record { child = c; parent = d } = ap (λ j. get_or g.edges j z) k ∙ f.3 z in (
       λ b. place_chosen g.edges bits (record { child = c; parent = d }) z i inside b at,
       λ j. let t = chosen_place g.edges bits (record { child = c; parent = d }) z j in
-          let same : t.0 ≡ i = Distinct-places g.edges (Distinct-from_AllPairs g.edges hier.edges_differ) t.0 i z t.1 inside
+          let same : t.0 ≡ i = Distinct-places g.edges (Distinct-from_AllPairs g.edges hier.edges_differ) t.0 i z t.1
+          inside
           (t.3 ∙ sym at) in
           ap (λ j. get_or bits j false) (sym same) ∙ t.2,
     )

@@ -72,11 +72,15 @@ module _ (g : Graph) (k : Named) (r : ℕ) (bits : List Bool) (names : List ℕ)
       (λ p. let i = made.present_category g r es ch c p in omega arith)
 
   pub edge_there : (c d n i : ℕ) → n ≡ i → edge_between g c d ≡ Some i
-      → IsTrue (get_or bits n false) ↔ HasEdgeThere (leaf_instance g k r bits names) (leaf_present g r bits) (leaf_place g r bits) c d
+      → IsTrue (get_or bits n false) ↔ HasEdgeThere (leaf_instance g k r bits names) (leaf_present g r bits)
+      (leaf_place g r bits) c d
   edge_there c d n i q e =
       let b = bit_joins g bits c d i hier e in (
-        λ t. let j = b.0 (ap (λ m. get_or bits m false) (sym q) ∙ t) in
-            (made.child_present g r es ch c d j, made.parent_present g r es ch c d j, made.edge_below g r es ch name c d j),
+        λ t. let j = b.0 (ap (λ m. get_or bits m false) (sym q) ∙ t) in (
+          made.child_present g r es ch c d j,
+          made.parent_present g r es ch c d j,
+          made.edge_below g r es ch name c d j,
+        ),
         λ t. ap (λ m. get_or bits m false) q ∙ b.1 ((made.below_joins g r es ch name c d t.0 t.1).0 t.2),
       )
 

@@ -1,6 +1,5 @@
 -- Rows of bits, step by step, and what they hold in the end.
 use Rattle.std.proofs.Common.{◌≡◌, ℕ, suc, ◌+◌, ◌<◌, ◌≤◌, List, length, get_or, set, Bool, true, false, refl, ap, sym, subst, ◌∙◌, ◌↔◌, ◌⊎◌, inl, inr, arith}
-use Rattle.std.specs.Prelude.{◌≢◌}
 use Rattle.std.specs.FinSet.{contains, empty, insert, union, contains-empty}
 use Rattle.std.specs.Ordering.{nat_cmp}
 use Rattle.olap_base.specs.Deciding.{Through, through_from_Steps, Steps-from_through}

@@ -54,7 +54,8 @@ sound_of_tests g r es ch t = record {
   reached = reached;
   upward = λ c p n. up c n (t.tops c (made.present_category g r es ch c p) (reached c p));
   acyclic = acyclic;
-  straight = λ c d e j k l. t.unpassed c d e j k (λ q. acyclic d (subst (λ z. Climb (Joins es) z d) q l)) (Climb-steps l);
+  straight = λ c d e j k l. t.unpassed c d e j k (λ q. acyclic d (subst (λ z. Climb (Joins es) z d) q l))
+      (Climb-steps l);
 }
   where
     reached : (c : ℕ) → is_present r es c ≡ true → Steps (Joins es) r c
@@ -91,7 +92,8 @@ tests_of_sound g r es ch s = record {
       let inside : a.0 < length (made.inst g r es ch name) = let e = a.1 in omega arith in
       let o = made.only_member g r es ch name 0 a.0 (inside, (v.all_is_last a.0 inside).1 a.1) in
       (made.reaches_walk g r es ch name c 0 p o.0).0
-      (reaches_from_Steps (subst (λ y. Steps (IsBelow (made.inst g r es ch name)) (made.place g r es ch c) y) (sym o.1) a.2));
+      (reaches_from_Steps (subst (λ y. Steps (IsBelow (made.inst g r es ch name)) (made.place g r es ch c) y)
+      (sym o.1) a.2));
 }
 
 -- ---- the tests, as the program makes them

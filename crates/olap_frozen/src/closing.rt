@@ -1,5 +1,5 @@
 // Which categories reach which by chosen edges: a row of bits for each category.
-ghost use Rattle.std.specs.Prelude.{◌≡◌, ◌<◌, ◌≤◌, ◌⊎◌, ◌↔◌, ℕ, length};
+ghost use Rattle.std.specs.Prelude.{◌≡◌, ◌<◌, ◌≤◌, ◌↔◌, ℕ, length};
 ghost use Rattle.olap_ast.specs.Frozen.{chosen};
 ghost use Rattle.olap_base.specs.Limits.{most_categories};
 ghost use Rattle.olap_base.specs.Graph.{IsHierarchy, category_count};

@@ -1,4 +1,5 @@
--- The made texts as the readers meet them: they have no fault, and stand for one schema, one instance and one fact table.
+-- The made texts as the readers meet them: they have no fault, and stand for one schema, one instance and one fact
+-- table.
 --     only_one, no_fault                                      what a text stands for is one thing, and no fault
 --     schema_faultless, members_faultless, facts_faultless    a made text has no fault
 --     members_unbroken                                        the made instance breaks no law and no constraint
@@ -118,7 +119,8 @@ module _ (seed size : ℕ) (few : size ≤ most_generated) (s : Schema) (read : 
 
   -- what a reader of the text of the facts reads
   facts_in : (g : Graph) (text : List ℕ) → g ≡ s.graph → text ≡ text_of_rows (fact_rows seed size)
-      → facts_read_within most_facts g i (records_of text) ≡ facts_read_within most_facts s.graph i (fact_rows seed size)
+      → facts_read_within most_facts g i (records_of text) ≡ facts_read_within most_facts s.graph i
+      (fact_rows seed size)
   facts_in g text same e =
       ap (λ (h : Graph). facts_read_within most_facts h i (records_of text)) same
       ∙ ap (facts_read_within most_facts s.graph i) (ap records_of e ∙ fact_rows_read_back seed size)
@@ -148,7 +150,8 @@ module _ (seed size : ℕ) (few : size ≤ most_generated) (s : Schema) (read : 
   module _ (facts : List Fact) (stand : facts_read_within most_facts s.graph i (fact_rows seed size) ≡ Ok facts) where
     facts_are : facts ≡ made_facts seed size
     facts_are =
-        only_one (facts_read_within most_facts s.graph i (fact_rows seed size)) facts (made_facts seed size) stand facts_stand
+        only_one (facts_read_within most_facts s.graph i (fact_rows seed size)) facts
+        (made_facts seed size) stand facts_stand
 
     pub facts_table : IsFactTable s.graph i facts
     facts_table = subst (IsFactTable s.graph i) (sym facts_are)

@@ -13,7 +13,7 @@ use crate::inputs::Input;
 use crate::members::member_text;
 use olap_base::{CatId, List, Memory};
 use olap_check::{CheckRefusal, Legal, check};
-use olap_facts::NextRefusal;
+use olap_facts::FactRefusal;
 use olap_instance::{InstanceRefusal, read_instance};
 use olap_schema::{Schema, SchemaRefusal, read_schema};
 use olap_view::{
@@ -95,8 +95,8 @@ fn made_views(
     let text = fact_text(alloc, input)?;
     match roll_up(alloc, schema.graph(), legal, &text, &STORED) {
         Ok(views) => Ok(views),
-        Err(NextRefusal::Memory) => Err(Memory),
-        Err(NextRefusal::Fault { .. }) => unreachable!(),
+        Err(FactRefusal::Memory) => Err(Memory),
+        Err(FactRefusal::Fault { .. }) => unreachable!(),
     }
 }
 

@@ -244,7 +244,8 @@ negates f = go (nat_le (depth_of f) most_depth) refl
 ones : (fs : Terms) → clipped.one (clip_terms fs) ≡ clip (Meaning.Formula.One fs)
 ones fs = go (nat_le (depth_of_terms fs) most_depth) refl
   where
-    go : (r : Bool) → nat_le (depth_of_terms fs) most_depth ≡ r → clipped.one (clip_terms fs) ≡ clip (Meaning.Formula.One fs)
+    go : (r : Bool) → nat_le (depth_of_terms fs) most_depth ≡ r
+        → clipped.one (clip_terms fs) ≡ clip (Meaning.Formula.One fs)
     go true e = rw e refl
     go false e =
         rw e (sym (deep (1 + depth_of_terms fs) (Meaning.Formula.One fs)

@@ -89,7 +89,8 @@ pub not_deep : (o : Option Formula) (d : ℕ) (f : Formula) → option_map clip 
 not_deep None d f e h = absurd cc
 not_deep (Some g) d f e h = go (nat_le (depth_of g) most_depth) refl e
   where
-    go : (b : Bool) → nat_le (depth_of g) most_depth ≡ b → Some (chosen b g) ≡ Some (d, f) → formula_answer (Some g) ≡ Ok f
+    go : (b : Bool) → nat_le (depth_of g) most_depth ≡ b → Some (chosen b g) ≡ Some (d, f)
+        → formula_answer (Some g) ≡ Ok f
     go true q p = let s : g ≡ f = ap (λ (r : Built). r.1) (built g true d f p) in rw q (ap Ok s)
     go false q p = let s : suc most_depth ≡ d = ap (λ (r : Built). r.0) (built g false d f p) in absurd (omega arith)
 

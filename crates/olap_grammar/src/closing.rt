@@ -43,7 +43,8 @@ pub(crate) fn settle(
     part: Part,
     stack: &mut Stack,
 ) -> Result<Part, Memory>
-    ensures { IfOk result (λ p. settled clipped least (part_of part) (frames stack.old) ≡ (part_of p, frames stack.new)) }
+    ensures { IfOk result (λ p. settled clipped least (part_of part)
+        (frames stack.old) ≡ (part_of p, frames stack.new)) }
 {
     let mut whole = part;
     'frames: while let Some(frame) = stack.pop() {

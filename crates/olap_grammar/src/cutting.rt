@@ -140,7 +140,8 @@ fn in_word(
     word: Vec<u8>,
     byte: u8,
 ) -> Result<Begun, CutRefusal>
-    ensures { CutsTo result (kept_of tokens.new) (keeping.kept_step (keeping.InWord (kept_of tokens.old) word.items) byte) }
+    ensures { CutsTo result (kept_of tokens.new)
+        (keeping.kept_step (keeping.InWord (kept_of tokens.old) word.items) byte) }
 {
     let mut word = word;
     if is_word_byte(byte) {
@@ -158,7 +159,8 @@ fn in_quotes(
     text: Vec<u8>,
     byte: u8,
 ) -> Result<Begun, CutRefusal>
-    ensures { CutsTo result (kept_of tokens.new) (keeping.kept_step (keeping.InQuotes (kept_of tokens.old) text.items) byte) }
+    ensures { CutsTo result (kept_of tokens.new)
+        (keeping.kept_step (keeping.InQuotes (kept_of tokens.old) text.items) byte) }
 {
     let mut text = text;
     if byte == 34 {
@@ -246,7 +248,8 @@ fn end(tokens: &mut FirstTokens, begun: Begun) -> Result<(), CutRefusal>
 /// The first tokens of the line, where nothing is kept before.
 #[tactic(auto, unfolding(crate::specs::Keeping::kept_tokens))]
 fn cut(alloc: Global, tokens: &mut FirstTokens, line: &[u8]) -> Result<(), CutRefusal>
-    ensures { (most : ℕ) → kept_of tokens.old ≡ nothing_kept most → CutEnds result (kept_of tokens.new) (kept_tokens most line.now) }
+    ensures { (most : ℕ) → kept_of tokens.old ≡ nothing_kept most
+        → CutEnds result (kept_of tokens.new) (kept_tokens most line.now) }
 {
     let mut begun = Begun::Nothing;
     let mut left = line;
@@ -264,7 +267,8 @@ fn cut(alloc: Global, tokens: &mut FirstTokens, line: &[u8]) -> Result<(), CutRe
 ///
 /// `BadForm` exactly where it can't be cut, and `Memory` where there is no room. One pass.
 pub fn first_tokens(alloc: Global, line: &[u8], most: usize) -> Result<FirstTokens, CutRefusal>
-    ensures found { MatchResult result (λ t. BeginsFound (kept_of t) (tokens_of line.now)) (λ e. FailsWith e (tokens_of line.now)) }
+    ensures found { MatchResult result (λ t. BeginsFound (kept_of t) (tokens_of line.now))
+        (λ e. FailsWith e (tokens_of line.now)) }
     ensures most { IfOk result (λ t. t.most ≡ most) }
 {
     let mut found = FirstTokens {

@@ -141,7 +141,8 @@ fn after_plain<'a>(
     stack: &mut Stack,
     token: &Token,
 ) -> Result<State<'a>, FormRefusal>
-    ensures { GoesTo result (frames stack.new) (machine.after_atom clipped ((leaves_of (graph_seen known.now)).plain word.now) (frames stack.old) token.now) }
+    ensures { GoesTo result (frames stack.new)
+        (machine.after_atom clipped ((leaves_of (graph_seen known.now)).plain word.now) (frames stack.old) token.now) }
 {
     match plain_word(alloc, known, word)? {
         Some(f) => after(alloc, leaf(f), stack, token),
@@ -157,7 +158,8 @@ fn after_word<'a>(
     stack: &mut Stack,
     token: &Token,
 ) -> Result<State<'a>, FormRefusal>
-    ensures { GoesTo result (frames stack.new) (machine.after_word clipped (leaves_of (graph_seen known.now)) word.now (frames stack.old) token.now) }
+    ensures { GoesTo result (frames stack.new)
+        (machine.after_word clipped (leaves_of (graph_seen known.now)) word.now (frames stack.old) token.now) }
 {
     match token {
         Token::Open => {
@@ -186,7 +188,8 @@ fn after_equal<'a>(
     stack: &mut Stack,
     token: &Token,
 ) -> Result<State<'a>, FormRefusal>
-    ensures { GoesTo result (frames stack.new) (machine.after_equal (leaves_of (graph_seen known.now)) word.now (frames stack.old) token.now) }
+    ensures { GoesTo result (frames stack.new)
+        (machine.after_equal (leaves_of (graph_seen known.now)) word.now (frames stack.old) token.now) }
 {
     match token {
         Token::Quoted(text) => match equality(alloc, known, word, text)? {
@@ -211,7 +214,8 @@ fn step<'a>(
     stack: &mut Stack,
     token: &'a Token,
 ) -> Result<State<'a>, FormRefusal>
-    ensures { GoesTo result (frames stack.new) (machine.step clipped (leaves_of (graph_seen known.now)) (state_of state.entry (frames stack.old)) token.now) }
+    ensures { GoesTo result (frames stack.new)
+        (machine.step clipped (leaves_of (graph_seen known.now)) (state_of state.entry (frames stack.old)) token.now) }
 {
     match state {
         State::Wants => begin(stack, token),
@@ -234,7 +238,8 @@ fn alone(alloc: Global, part: Part, stack: &mut Stack) -> Result<Part, FormRefus
 }
 
 fn end(alloc: Global, known: &Known, state: State, stack: &mut Stack) -> Result<Part, FormRefusal>
-    ensures { Ends result (machine.ended clipped (leaves_of (graph_seen known.now)) (state_of state.entry (frames stack.old))) }
+    ensures { Ends result (machine.ended clipped (leaves_of (graph_seen known.now))
+        (state_of state.entry (frames stack.old))) }
 {
     match state {
         State::Has(part) => alone(alloc, part, stack),

@@ -1,17 +1,10 @@
-// Why there are no tokens, and why there is no formula.
+// Why there is no formula, and why there are no tokens.
 ghost use Rattle.std.specs.Prelude.{◌≡◌};
+ghost use Rattle.olap_grammar.specs.declared.refusals.FormRefusal.TheVariants as form;
+ghost use Rattle.olap_grammar.specs.declared.refusals.CutRefusal.TheVariants as cut;
 
 use olap_base::Memory;
-use std::alloc::{AllocError, AllocFailed};
-
-/// Why there are no tokens.
-#[derive(Clone, Copy, Debug, PartialEq, Eq)]
-pub enum CutRefusal {
-    /// The line can't be cut into tokens.
-    BadForm,
-    /// Want of memory.
-    Memory,
-}
+use std::alloc::AllocFailed;
 
 /// Why there is no formula.
 #[derive(Clone, Copy, Debug, PartialEq, Eq)]
@@ -25,39 +18,24 @@ pub enum FormRefusal {
 }
 
 impl From<Memory> for FormRefusal {
-    ghost use Rattle.olap_grammar.specs.declared.refusals.FormRefusal.TheVariants as refusal;
-
-    ghost from_gives = { λ _ e. e ≡ refusal.Memory };
+    ghost from_gives = { λ _ e. e ≡ form.Memory };
 
     fn from(_: Memory) -> Self {
         FormRefusal::Memory
     }
 }
 
-impl From<AllocError> for FormRefusal {
-    ghost use Rattle.olap_grammar.specs.declared.refusals.FormRefusal.TheVariants as refusal;
-
-    ghost from_gives = { λ _ e. e ≡ refusal.Memory };
-
-    fn from(_: AllocError) -> Self {
-        FormRefusal::Memory
-    }
-}
-
-impl<T: Drop> From<AllocFailed<T>> for FormRefusal {
-    ghost use Rattle.olap_grammar.specs.declared.refusals.FormRefusal.TheVariants as refusal;
-
-    ghost from_gives = { λ _ e. e ≡ refusal.Memory };
-
-    fn from(_: AllocFailed<T>) -> Self {
-        FormRefusal::Memory
-    }
+/// Why there are no tokens.
+#[derive(Clone, Copy, Debug, PartialEq, Eq)]
+pub enum CutRefusal {
+    /// The line can't be cut into tokens.
+    BadForm,
+    /// Want of memory.
+    Memory,
 }
 
 impl From<Memory> for CutRefusal {
-    ghost use Rattle.olap_grammar.specs.declared.refusals.CutRefusal.TheVariants as refusal;
-
-    ghost from_gives = { λ _ e. e ≡ refusal.Memory };
+    ghost from_gives = { λ _ e. e ≡ cut.Memory };
 
     fn from(_: Memory) -> Self {
         CutRefusal::Memory
@@ -65,9 +43,7 @@ impl From<Memory> for CutRefusal {
 }
 
 impl<T: Drop> From<AllocFailed<T>> for CutRefusal {
-    ghost use Rattle.olap_grammar.specs.declared.refusals.CutRefusal.TheVariants as refusal;
-
-    ghost from_gives = { λ _ e. e ≡ refusal.Memory };
+    ghost from_gives = { λ _ e. e ≡ cut.Memory };
 
     fn from(_: AllocFailed<T>) -> Self {
         CutRefusal::Memory

@@ -41,7 +41,8 @@ impl Stack {
     }
 
     pub fn pop(&mut self) -> Option<Frame>
-        ensures { MatchOption result ((frames self.old ≡ []) × (frames self.new ≡ [])) (λ frame. frames self.old ≡ frame_of frame ∷ frames self.new) }
+        ensures { MatchOption result ((frames self.old ≡ []) × (frames self.new ≡ []))
+            (λ frame. frames self.old ≡ frame_of frame ∷ frames self.new) }
     {
         self.frames.pop()
     }

@@ -104,7 +104,9 @@ fn are_names(parts: &[Text]) -> bool
 /// The categories of the names that are left of a word, if each part is a name.
 fn steps(alloc: Global, known: &Known, text: Option<&[u8]>) -> Result<Option<Vec<CatId>>, Memory>
     ensures { let parts = pieces_behind 95 text.entry in
-        IfOk result (λ v. option_map (λ u. map (λ c. c.0) u.items) v ≡ (if list_all is_name_of parts then Some (map (id_of (graph_seen known.now)) parts) else None)) }
+        IfOk result (λ v. option_map
+        (λ u. map (λ c. c.0) u.items) v
+        ≡ (if list_all is_name_of parts then Some (map (id_of (graph_seen known.now)) parts) else None)) }
 {
     let mut found = Vec::new(alloc);
     let mut left = text;

@@ -73,7 +73,8 @@ has_at s t q P e i = (λ h. i.0 (ap (λ u. contains u q) (sym e) ∙ h), λ p. a
 
 -- the sets so far have a number, and so has the next
 pub has_so_far : {W : ℕ} (rows : List (CatSet W)) (c d : ℕ) (x : CatSet W) → c < length rows → x ≡ get_or rows c x
-    → contains (members x) d ≡ true → ((a : ℕ) → 0 < a → a < c → Has rows a d) → (a : ℕ) → 0 < a → a < c + 1 → Has rows a d
+    → contains (members x) d ≡ true → ((a : ℕ) → 0 < a → a < c → Has rows a d) → (a : ℕ) → 0 < a → a < c + 1
+    → Has rows a d
 has_so_far rows c d x h e m f a p l = elim (newest a c l) [
   | inl t ↦ f a p t.1
   | inr q ↦ ap (λ k. contains (row rows k) d) q ∙ ap (λ s. contains s d) (sym (row_read rows c x h e)) ∙ m

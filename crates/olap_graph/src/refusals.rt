@@ -1,6 +1,6 @@
 // Why a category, an edge or a graph is refused.
 use olap_base::CatId;
-use std::alloc::{AllocError, AllocFailed};
+use std::alloc::AllocFailed;
 
 /// Why a category wasn't added, in the order in which it is tested.
 #[derive(Clone, Copy, Debug, PartialEq, Eq)]
@@ -56,17 +56,6 @@ impl<T: Drop> From<AllocFailed<T>> for EdgeRefusal {
 
     fn from(_: AllocFailed<T>) -> Self {
         EdgeRefusal::Memory
-    }
-}
-
-impl From<AllocError> for GraphRefusal {
-    ghost use Rattle.std.specs.Prelude.{◌≡◌};
-    ghost use Rattle.olap_graph.specs.declared.refusals.GraphRefusal.TheVariants.{Memory};
-
-    ghost from_gives = { λ _ e. e ≡ Memory };
-
-    fn from(_: AllocError) -> Self {
-        GraphRefusal::Memory
     }
 }
 

@@ -15,4 +15,5 @@ pub record IsReadFor (g : Graph) (i : Instance) : Type 0 where
   pub top : AllHasNoParents i
 
 abbrev pub ReadIsInstance : Type 0
-ReadIsInstance = (g : Graph) (records : List (List (List ℕ))) (i : Instance) → instance_read g records ≡ Ok i → IsReadFor g i
+ReadIsInstance = (g : Graph) (records : List (List (List ℕ))) (i : Instance) → instance_read g records ≡ Ok i
+    → IsReadFor g i

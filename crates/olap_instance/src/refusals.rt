@@ -1,4 +1,9 @@
 // What may be wrong with a text of members, and why a text, a member or a parent is refused.
+ghost use Rattle.std.specs.Prelude.{◌≡◌};
+ghost use Rattle.olap_instance.specs.declared.refusals.InstanceRefusal.TheVariants as instance;
+ghost use Rattle.olap_instance.specs.declared.refusals.MemberRefusal.TheVariants as member;
+ghost use Rattle.olap_instance.specs.declared.refusals.ParentRefusal.TheVariants as parent;
+
 use olap_base::Memory;
 use std::alloc::{AllocError, AllocFailed};
 
@@ -63,10 +68,7 @@ pub enum InstanceRefusal {
 }
 
 impl From<Memory> for InstanceRefusal {
-    ghost use Rattle.std.specs.Prelude.{◌≡◌};
-    ghost use Rattle.olap_instance.specs.declared.refusals.InstanceRefusal.TheVariants as refusal;
-
-    ghost from_gives = { λ _ e. e ≡ refusal.Memory };
+    ghost from_gives = { λ _ e. e ≡ instance.Memory };
 
     fn from(_: Memory) -> InstanceRefusal {
         InstanceRefusal::Memory
@@ -74,10 +76,7 @@ impl From<Memory> for InstanceRefusal {
 }
 
 impl From<AllocError> for InstanceRefusal {
-    ghost use Rattle.std.specs.Prelude.{◌≡◌};
-    ghost use Rattle.olap_instance.specs.declared.refusals.InstanceRefusal.TheVariants as refusal;
-
-    ghost from_gives = { λ _ e. e ≡ refusal.Memory };
+    ghost from_gives = { λ _ e. e ≡ instance.Memory };
 
     fn from(_: AllocError) -> InstanceRefusal {
         InstanceRefusal::Memory
@@ -85,10 +84,7 @@ impl From<AllocError> for InstanceRefusal {
 }
 
 impl<T: Drop> From<AllocFailed<T>> for InstanceRefusal {
-    ghost use Rattle.std.specs.Prelude.{◌≡◌};
-    ghost use Rattle.olap_instance.specs.declared.refusals.InstanceRefusal.TheVariants as refusal;
-
-    ghost from_gives = { λ _ e. e ≡ refusal.Memory };
+    ghost from_gives = { λ _ e. e ≡ instance.Memory };
 
     fn from(_: AllocFailed<T>) -> InstanceRefusal {
         InstanceRefusal::Memory
@@ -112,6 +108,30 @@ pub enum MemberRefusal {
     Memory,
 }
 
+impl From<Memory> for MemberRefusal {
+    ghost from_gives = { λ _ e. e ≡ member.Memory };
+
+    fn from(_: Memory) -> MemberRefusal {
+        MemberRefusal::Memory
+    }
+}
+
+impl From<AllocError> for MemberRefusal {
+    ghost from_gives = { λ _ e. e ≡ member.Memory };
+
+    fn from(_: AllocError) -> MemberRefusal {
+        MemberRefusal::Memory
+    }
+}
+
+impl<T: Drop> From<AllocFailed<T>> for MemberRefusal {
+    ghost from_gives = { λ _ e. e ≡ member.Memory };
+
+    fn from(_: AllocFailed<T>) -> MemberRefusal {
+        MemberRefusal::Memory
+    }
+}
+
 /// Why a parent wasn't added, in the order in which it is tested.
 #[derive(Clone, Copy, Debug, PartialEq, Eq)]
 pub enum ParentRefusal {
@@ -121,44 +141,8 @@ pub enum ParentRefusal {
     Memory,
 }
 
-impl From<Memory> for MemberRefusal {
-    ghost use Rattle.std.specs.Prelude.{◌≡◌};
-    ghost use Rattle.olap_instance.specs.declared.refusals.MemberRefusal.TheVariants as refusal;
-
-    ghost from_gives = { λ _ e. e ≡ refusal.Memory };
-
-    fn from(_: Memory) -> MemberRefusal {
-        MemberRefusal::Memory
-    }
-}
-
-impl From<AllocError> for MemberRefusal {
-    ghost use Rattle.std.specs.Prelude.{◌≡◌};
-    ghost use Rattle.olap_instance.specs.declared.refusals.MemberRefusal.TheVariants as refusal;
-
-    ghost from_gives = { λ _ e. e ≡ refusal.Memory };
-
-    fn from(_: AllocError) -> MemberRefusal {
-        MemberRefusal::Memory
-    }
-}
-
-impl<T: Drop> From<AllocFailed<T>> for MemberRefusal {
-    ghost use Rattle.std.specs.Prelude.{◌≡◌};
-    ghost use Rattle.olap_instance.specs.declared.refusals.MemberRefusal.TheVariants as refusal;
-
-    ghost from_gives = { λ _ e. e ≡ refusal.Memory };
-
-    fn from(_: AllocFailed<T>) -> MemberRefusal {
-        MemberRefusal::Memory
-    }
-}
-
 impl<T: Drop> From<AllocFailed<T>> for ParentRefusal {
-    ghost use Rattle.std.specs.Prelude.{◌≡◌};
-    ghost use Rattle.olap_instance.specs.declared.refusals.ParentRefusal.TheVariants as refusal;
-
-    ghost from_gives = { λ _ e. e ≡ refusal.Memory };
+    ghost from_gives = { λ _ e. e ≡ parent.Memory };
 
     fn from(_: AllocFailed<T>) -> ParentRefusal {
         ParentRefusal::Memory

@@ -66,7 +66,8 @@ in_fold (b ∷ es) pairs a (inr c) = go (contains_cases a b es c) (in_fold es (w
 text_distinct : (texts : List (List ℕ)) → AllPairs IsBefore texts → Distinct texts
 text_distinct texts o = Distinct-from_AllPairs texts (λ i j d below inside e.
     let b = o i j d below inside in
-    let s : slice_cmp nat_cmp (get_or texts i d) (get_or texts j d) ≡ slice_cmp nat_cmp (get_or texts i d) (get_or texts i d) =
+    let s : slice_cmp nat_cmp (get_or texts i d) (get_or texts j d) ≡ slice_cmp nat_cmp (get_or texts i d)
+    (get_or texts i d) =
     ap (λ t. slice_cmp nat_cmp (get_or texts i d) t) (sym e) in
     let r = tied_itself nat_list_cmp_total (get_or texts i d) in
     absurd (cc))
@@ -137,7 +138,8 @@ listed_everywhere all n texts w l d = elim (below_or_past d n) [
     get_category a = a.category
 
 pub few_everywhere : (all : List Equality) (n : ℕ) (texts : List (List (List ℕ))) → All (λ a. a.category < n) all
-    → length (distinct_pairs all) ≤ most_constants → AreListed all n texts → (d : ℕ) → length (get_or texts d []) ≤ most_constants
+    → length (distinct_pairs all) ≤ most_constants → AreListed all n texts → (d : ℕ)
+    → length (get_or texts d []) ≤ most_constants
 few_everywhere all n texts w f l d =
     let b = few_constants d all (get_or texts d []) (listed_everywhere all n texts w l d) in omega arith
 

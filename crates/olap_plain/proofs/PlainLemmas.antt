@@ -82,7 +82,8 @@ direct_row_push y vs v =
 values_push : (i : Instance) (fs : List Fact) (f : Fact) (y : ℕ)
     → values_at i (fs ++ f ∷ []) y ≡ values_at i fs y ++ cond (reaches i f.member y) (f.value ∷ []) []
 values_push i fs f y = ap (map (λ (g : Fact). g.value)) (filter-append (λ g. reaches i g.member y) fs (f ∷ []))
-    ∙ map-append (λ (g : Fact). g.value) (filter (λ g. reaches i g.member y) fs) (filter (λ g. reaches i g.member y) (f ∷ []))
+    ∙ map-append (λ (g : Fact). g.value) (filter (λ g. reaches i g.member y) fs)
+    (filter (λ g. reaches i g.member y) (f ∷ []))
     ∙ ap (λ t. map (λ (g : Fact). g.value) (filter (λ g. reaches i g.member y) fs) ++ t) (last (reaches i f.member y))
   where
     last : (b : Bool) → map (λ (g : Fact). g.value) (cond b (f ∷ []) []) ≡ cond b (f.value ∷ []) []

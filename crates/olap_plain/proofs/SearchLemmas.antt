@@ -23,7 +23,8 @@ use Rattle.olap_plain.specs.Searching.{AreFirstNames, NoneWith, code_of}
 
 -- ---- names
 
-limit_small : (texts : List (List (List ℕ))) (marks : List Bool) (c : ℕ) → limit texts marks c ≤ length (get_or texts c [])
+limit_small : (texts : List (List (List ℕ))) (marks : List Bool) (c : ℕ)
+    → limit texts marks c ≤ length (get_or texts c [])
 limit_small texts marks zero = omega arith
 limit_small texts marks (suc c) = go (get_or marks (suc c) false)
   where
@@ -80,7 +81,8 @@ module _ (g : Graph) (cs : List Constraint) (q : Formula) (k : Named) (r : ℕ) 
     where
       within : (c : ℕ) → c < n → slice_index (0 ∷ h.names) c ≤ bound c
       within zero l = omega arith
-      within (suc c) l = go (get_or (marks_of (row rows r) n) (suc c) false) (mark_at (row rows r) n (suc c) l ∙ is (suc c))
+      within (suc c) l = go (get_or (marks_of (row rows r) n) (suc c) false)
+          (mark_at (row rows r) n (suc c) l ∙ is (suc c))
         where
           inside : c < length h.names
           inside = let m = f.name_count in omega arith
@@ -155,7 +157,8 @@ module _ (g : Graph) (cs : List Constraint) (q : Formula) (k : Named) (r : ℕ) 
       → left (limit k.texts new.present) new.indexes < left (limit k.texts walk.present) walk.indexes
   walking_falls walk new w p x =
       let y = next_is walk new.indexes w x in
-      subst (λ z. left (limit k.texts z) new.indexes < left (limit k.texts walk.present) walk.indexes) (sym (p ∙ w.present))
+      subst (λ z. left (limit k.texts z) new.indexes < left (limit k.texts walk.present) walk.indexes)
+      (sym (p ∙ w.present))
       (subst (λ z. left bound new.indexes < left (limit k.texts z) walk.indexes) (sym w.present)
       (left_falls bound walk.indexes new.indexes (w.assigned.count ∙ sym y.is_one.count)
       (λ c h. y.is_one.within c (let e = y.is_one.count in omega arith)) y.after))
@@ -225,8 +228,10 @@ code_injective (x ∷ xs) (y ∷ ys) e =
     let t = code_injective xs ys (ap tail_of e) in
     let b = same_bit x y h in cc
 
-pub open_at : (bits : List Bool) (e : ℕ) → e < length bits → get_or bits e false ≡ false → slice_index (code_of bits) e < 1
-open_at bits e h f = let c = code_at bits e h in let z : bit (get_or bits e false) ≡ bit false = ap bit f in omega (arith, c, z)
+pub open_at : (bits : List Bool) (e : ℕ) → e < length bits → get_or bits e false ≡ false
+    → slice_index (code_of bits) e < 1
+open_at bits e h f = let c = code_at bits e h in let z : bit (get_or bits e false) ≡ bit false = ap bit f in
+    omega (arith, c, z)
 
 pub full_at : (bits : List Bool) (e : ℕ) → e < length bits → get_or bits e false ≡ true
     → slice_index (code_of bits) e < 1 → ⊥
@@ -305,7 +310,8 @@ module _ (s : Schema) (q : Formula) (r : ℕ) (k : Candidates) where
       ]
 
   pub earlier_found : (bits : List Bool) (names : List ℕ) → length bits ≡ length s.graph.edges
-      → AreFirstNames s q r k bits names → NoneEarlier bits → AreCandidates s q k → IsLeastFrozen s q r k (chosen_of bits names)
+      → AreFirstNames s q r k bits names → NoneEarlier bits → AreCandidates s q k
+      → IsLeastFrozen s q r k (chosen_of bits names)
   earlier_found bits names l a none are = record {
     candidates = are;
     is_one = a.is_one;
@@ -336,7 +342,8 @@ length_next old new x = sym (length-code new) ∙ x.is_one.count
 pub put_more : {A : Type 0} (xs ys : List A) (i : ℕ) (x d : A) → length xs ≡ length ys → i < length ys
     → x ≡ get_or ys i d → take i xs ≡ take i ys → take (i + 1) (set xs i x) ≡ take (i + 1) ys
 put_more xs ys i x d l h e t =
-    take_more_set xs i x (omega arith) ∙ ap (λ z. z ++ x ∷ []) t ∙ ap (λ z. take i ys ++ z ∷ []) e ∙ sym (take_more ys i d h)
+    take_more_set xs i x (omega arith) ∙ ap (λ z. z ++ x ∷ []) t ∙ ap (λ z. take i ys ++ z ∷ []) e
+    ∙ sym (take_more ys i d h)
 
 pub put_all : {A : Type 0} (xs ys : List A) (i : ℕ) → length xs ≡ length ys → length ys ≤ i → take i xs ≡ take i ys
     → xs ≡ ys

@@ -20,7 +20,10 @@ abbrev pub facts_of : List PlainFact → List Fact
 facts_of fs = map fact_of fs
 
 abbrev pub row_of : PlainRow → Row
-row_of r = record { member = r.member; summary = record { count = r.count; sum = r.sum; least = r.least; greatest = r.greatest } }
+row_of r = record {
+  member = r.member;
+  summary = record { count = r.count; sum = r.sum; least = r.least; greatest = r.greatest };
+}
 
 abbrev pub rows_of : List PlainRow → List Row
 rows_of rs = map row_of rs

@@ -147,7 +147,8 @@ fn least(
         (formula_of question.now) (candidates_of candidates.now) }
     ensures some { IsTrue result → IsLeastFrozen (with_graph graph.now (map constraint_of constraints.now))
         (formula_of question.now) root.0 (candidates_of candidates.now) (chosen_of edges.new walk.new.indexes) }
-    ensures none { result ≡ false → (f : TheFrozen) → IsFrozen (with_graph graph.now (map constraint_of constraints.now))
+    ensures none { result ≡ false → (f : TheFrozen)
+        → IsFrozen (with_graph graph.now (map constraint_of constraints.now))
         (formula_of question.now) root.0 (candidates_of candidates.now) f → ⊥ }
     ensures walk { length walk.new.indexes ≡ category_count graph.now }
 {

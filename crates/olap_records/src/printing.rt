@@ -2,27 +2,11 @@
 ghost use Rattle.std.specs.Prelude.{◌≡◌, ◌++◌, [], IfOk, IsTrue, OnErr, OnOk, false, length, map, true};
 ghost use Rattle.olap_records.specs.Texts.{text_of_row};
 
-use csv::{Error, Writer};
+use crate::refused::Refused;
+use csv::Writer;
 use olap_base::Memory;
 use std::alloc::Global;
 use std::marker::Model;
-
-/// A write was refused. To a list in memory, and between records of one length, memory is all that a
-/// write wants for.
-#[derive(Clone, Copy)]
-struct Unwritten;
-
-impl From<Error> for Unwritten {
-    fn from(_: Error) -> Unwritten {
-        Unwritten
-    }
-}
-
-impl From<Unwritten> for Memory {
-    fn from(_: Unwritten) -> Memory {
-        Memory
-    }
-}
 
 /// A text of records of one width. It is live until a record is refused, for want of memory.
 #[derive(Drop)]
@@ -60,7 +44,7 @@ impl Printer {
         }
     }
 
-    fn put(&mut self, fields: &[&[u8]]) -> Result<(), Unwritten>
+    fn put(&mut self, fields: &[&[u8]]) -> Result<(), Refused>
         ensures text { OnOk result (self.new.text ≡ self.old.text ++ text_of_row (map (λ f. f.now) fields.now)) }
         ensures width { self.new.width ≡ self.old.width }
         ensures live { OnOk result (IsTrue self.old.live) }
@@ -68,7 +52,7 @@ impl Printer {
         ensures over { OnErr result (self.new.live ≡ false) }
     {
         if !self.live {
-            return Err(Unwritten);
+            return Err(Refused);
         }
         self.live = false;
         self.wtr.write_fields(fields)?;

@@ -4,27 +4,11 @@ ghost use Rattle.std.specs.Bool.{MatchBool};
 ghost use Rattle.std.specs.Result.{MatchResult};
 ghost use Rattle.olap_records.specs.Records.{records_of};
 
-use csv::{ByteRecord, Error, Reader, ReaderBuilder};
+use crate::refused::Refused;
+use csv::{ByteRecord, Reader, ReaderBuilder};
 use olap_base::Memory;
 use std::alloc::Global;
 use std::marker::Model;
-
-/// A read was refused. Over bytes in memory, and where records may differ in length, memory is all that
-/// a read wants for.
-#[derive(Clone, Copy)]
-struct Unread;
-
-impl From<Error> for Unread {
-    fn from(_: Error) -> Unread {
-        Unread
-    }
-}
-
-impl From<Unread> for Memory {
-    fn from(_: Unread) -> Memory {
-        Memory
-    }
-}
 
 /// The records of a text, of which none is a header and any two may differ in length.
 #[derive(Drop)]
@@ -63,7 +47,7 @@ impl<'a> Rows<'a> {
         }
     }
 
-    fn next(&mut self) -> Result<bool, Unread>
+    fn next(&mut self) -> Result<bool, Refused>
         ensures { MatchResult result
             (λ found. MatchBool found
             (self.old.left ≡ self.new.row ∷ self.new.left)

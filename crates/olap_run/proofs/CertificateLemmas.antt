@@ -111,15 +111,17 @@ not_bad false b e = absurd (cc)
 -- the atoms of a schema and a question have texts
 pub all_texts : (s : Schema) (q : Formula) → AreTexts (flat_map (λ c. equalities c.formula) s.constraints)
     → AreTexts (equalities q) → AreTexts (all_equalities s q)
-all_texts s q a b e h = elim (Contains-append_cases (flat_map (λ c. equalities c.formula) s.constraints) (equalities q) e h) [
-  | inl x ↦ a e x
-  | inr y ↦ b e y
-]
+all_texts s q a b e h = elim (Contains-append_cases (flat_map (λ c. equalities c.formula) s.constraints)
+    (equalities q) e h) [
+      | inl x ↦ a e x
+      | inr y ↦ b e y
+    ]
 
 constant_is_utf8 : (s : Schema) (q : Formula) → AreTexts (all_equalities s q) → (c : ℕ) (text : List ℕ)
     → IsConstant s q c text → IsTrue (is_utf8 text)
 constant_is_utf8 s q a c text h =
-    let m = Contains-from_map (λ (e : Equality). e.text) (filter (λ (e : Equality). e.category == c) (all_equalities s q)) text h in
+    let m = Contains-from_map (λ (e : Equality). e.text)
+    (filter (λ (e : Equality). e.category == c) (all_equalities s q)) text h in
     let f = Contains-from_filter (λ (e : Equality). e.category == c) (all_equalities s q) m.0 m.1 in
     subst (λ w. IsTrue (is_utf8 w)) m.2 (not_bad (is_utf8 m.0.text) (list_any is_control m.0.text) (a m.0 f.0))
 
@@ -141,11 +143,13 @@ found_for s q r found category l texts = record {
   constraints = s.constraints;
   question = q;
   candidates = l.least.candidates;
-  is_one = subst (λ x. IsFrozen s q x (candidates_of found.candidates) (frozen_of found.frozen)) (sym l.root) l.least.is_one;
+  is_one = subst (λ x. IsFrozen s q x (candidates_of found.candidates) (frozen_of found.frozen))
+      (sym l.root) l.least.is_one;
   utf8 = constant_is_utf8 s q texts;
 }
 
-pub found_for_difference : (s : Schema) (c : ℕ) (sources : List ℕ) (found : Found) → IsCounterexampleFound s c sources found
+pub found_for_difference : (s : Schema) (c : ℕ) (sources : List ℕ) (found : Found)
+    → IsCounterexampleFound s c sources found
     → AreTexts (flat_map (λ c. equalities c.formula) s.constraints) → IsFoundFor s.graph found
 found_for_difference s c sources found f texts = record {
   sized = f.sized;

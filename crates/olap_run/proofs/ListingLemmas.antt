@@ -73,7 +73,8 @@ frozen_listed s c k all are few reply status text = done (ByFrozen s c) reply st
 
 pub findings_listed : (s : Schema) (findings : List Finding) → AreFindings s findings → (reply : Reply)
     → reply.status ≡ Yes
-    → reply.bytes.items ≡ flat_map (finding_text s.graph) findings ++ line (codes "findings " ++ decimal (length findings))
+    → reply.bytes.items ≡ flat_map (finding_text s.graph) findings ++ line
+    (codes "findings " ++ decimal (length findings))
     → Replies IsAnswer (Done (ByAudit s)) (Ok reply)
 findings_listed s findings are reply status text = done (ByAudit s) reply status (
   status,

@@ -25,5 +25,6 @@ pub number-parses : {E : Type 0} (bs : List ℕ) (r : Result ℕ E) → nat_le (
 number-parses bs r short e h =
     ok-where r (is_numeral bs && nat_lt (digits_value 10 bs) (2 ^ 64)) (digits_value 10 bs)
     (rw (without-plus bs e) at h) (number-decides bs)
-    ∙ ap (λ (b : Bool). if b && (is_numeral bs && nat_lt (digits_value 10 bs) (2 ^ 64)) then Some (digits_value 10 bs) else None)
+    ∙ ap (λ (b : Bool). if b && (is_numeral bs && nat_lt (digits_value 10 bs) (2 ^ 64)) then Some
+    (digits_value 10 bs) else None)
     (sym short)

@@ -80,7 +80,8 @@ module _ (twice : List ℕ) (g : Graph) (at : ℕ) (names : List (List ℕ)) whe
   -- all words are read
   pub read_all : (k : ℕ) (sources : List ℕ) → length names ≤ k → IsReadTo k sources → (next : List ℕ → Order Question)
       → with_different twice g at [] names next ≡ next sources
-  read_all k sources h r next = r.order next ∙ ap (λ ns. with_different twice g (at + k) sources ns next) (drop_all k names h)
+  read_all k sources h r next =
+      r.order next ∙ ap (λ ns. with_different twice g (at + k) sources ns next) (drop_all k names h)
 
   -- where a word isn't taken, the order ends as it does there
   pub ends_at : (k : ℕ) (sources : List ℕ) (stop : Stop) → k < length names → IsReadTo k sources

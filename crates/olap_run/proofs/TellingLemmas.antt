@@ -38,18 +38,21 @@ far_to i v x y f = go (Climb-from_leads f)
     go : Climb (IsBelow i) x y → IsMember i y
     go (climb {z} r s) = steps_inside i v s (v.parents_are_members x z r)
 
-pub tellable : (s : Schema) (i : Instance) → IsInstance i → IsMadeFor s.graph i → (w : Violation) → IsViolation s i w → IsTellable s.graph i (told i w)
+pub tellable : (s : Schema) (i : Instance) → IsInstance i → IsMadeFor s.graph i → (w : Violation) → IsViolation s i w
+    → IsTellable s.graph i (told i w)
 tellable s i v m (NoEdge x k) w =
     let b = parent_below i x k w.0 in (below_is_member i x _ b, v.parents_are_members x _ b)
 tellable s i v m (NoParent x) w = w.0
 tellable s i v m (SameCategory x) w = far_from i x w.0 w.1
-tellable s i v m (TwoAncestors x c) w = (far_from i x w.0 w.2, subst (λ d. IsCategory s.graph d) w.4 (m w.0 (far_to i v x w.0 w.2)))
+tellable s i v m (TwoAncestors x c) w =
+    (far_from i x w.0 w.2, subst (λ d. IsCategory s.graph d) w.4 (m w.0 (far_to i v x w.0 w.2)))
 tellable s i v m (Shortcut x k) w =
     let b = parent_below i x k w.1 in (below_is_member i x _ b, v.parents_are_members x _ b)
 tellable s i v m (Unmet k x) w = w.2.0
 
 -- what a check answers is whether there is a violation, and the first one
-pub judged_is : (s : Schema) (i : Instance) → IsInstance i → IsMadeFor s.graph i → (r : Result Instance CheckRefusal) → IfOk r (λ l. IsLegal s i)
+pub judged_is : (s : Schema) (i : Instance) → IsInstance i → IsMadeFor s.graph i → (r : Result Instance CheckRefusal)
+    → IfOk r (λ l. IsLegal s i)
     → IfErr r (IsRefused s i) → MatchResult r (λ l. first_violation s i ≡ None) (λ e. IsBrokenBy s i e)
 judged_is s i v m (Ok l) ok err = first_violation_none s i ok
 judged_is s i v m (Err (Broken j w)) ok err = (
@@ -58,7 +61,8 @@ judged_is s i v m (Err (Broken j w)) ok err = (
     violation = err.1.violation;
     first = first_violation_some s i v err.1.violation err.1.is_first;
     is_told = err.1.is_told;
-    tellable = subst (λ u. IsTellable s.graph i u) (sym err.1.is_told) (tellable s i v m err.1.violation err.1.is_first.is_one);
+    tellable = subst (λ u. IsTellable s.graph i u) (sym err.1.is_told)
+        (tellable s i v m err.1.violation err.1.is_first.is_one);
   },
 )
 judged_is s i v m (Err Memory) ok err = tt

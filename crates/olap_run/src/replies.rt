@@ -2,6 +2,7 @@
 ghost use Rattle.std.specs.Prelude.{◌≡◌, ◌++◌, codes};
 ghost use Rattle.olap_run.specs.Refusals.{IsRefusal};
 ghost use Rattle.olap_run.specs.Steps.{fault_text, part_text};
+ghost use Rattle.olap_run.specs.declared.replies.Stop.TheVariants as stop;
 
 use crate::Status;
 use olap_base::Memory;
@@ -25,10 +26,16 @@ pub(crate) enum Stop {
     Memory,
 }
 
-impl From<Memory> for Stop {
-    ghost use Rattle.olap_run.specs.declared.replies.Stop.TheVariants as stops;
+impl<T: Drop> From<AllocFailed<T>> for Stop {
+    ghost from_gives = { λ _ e. e ≡ stop.Memory };
 
-    ghost from_gives = { λ _ e. e ≡ stops.Memory };
+    fn from(_: AllocFailed<T>) -> Self {
+        Stop::Memory
+    }
+}
+
+impl From<Memory> for Stop {
+    ghost from_gives = { λ _ e. e ≡ stop.Memory };
 
     fn from(_: Memory) -> Self {
         Stop::Memory
@@ -36,21 +43,9 @@ impl From<Memory> for Stop {
 }
 
 impl From<AllocError> for Stop {
-    ghost use Rattle.olap_run.specs.declared.replies.Stop.TheVariants as stops;
-
-    ghost from_gives = { λ _ e. e ≡ stops.Memory };
+    ghost from_gives = { λ _ e. e ≡ stop.Memory };
 
     fn from(_: AllocError) -> Self {
-        Stop::Memory
-    }
-}
-
-impl<T: Drop> From<AllocFailed<T>> for Stop {
-    ghost use Rattle.olap_run.specs.declared.replies.Stop.TheVariants as stops;
-
-    ghost from_gives = { λ _ e. e ≡ stops.Memory };
-
-    fn from(_: AllocFailed<T>) -> Self {
         Stop::Memory
     }
 }

@@ -15,7 +15,7 @@ use crate::reading::{legal_in, read_file, schema_in};
 use crate::replies::{Reply, Stop, refuse_long, refuse_part, yes};
 use olap_base::{CatId, Library, List};
 use olap_check::Legal;
-use olap_facts::NextRefusal;
+use olap_facts::FactRefusal;
 use olap_schema::Schema;
 use olap_view::{View, print_view, roll_up};
 use std::alloc::Global;
@@ -43,8 +43,8 @@ pub(crate) fn views_in<L: Library>(
     };
     match roll_up(alloc, schema.graph(), legal, &text, categories) {
         Ok(views) => Ok(views),
-        Err(NextRefusal::Memory) => Err(Stop::Memory),
-        Err(NextRefusal::Fault { at, kind }) => Err(refuse_part(
+        Err(FactRefusal::Memory) => Err(Stop::Memory),
+        Err(FactRefusal::Fault { at, kind }) => Err(refuse_part(
             alloc,
             "facts",
             "record",

@@ -46,7 +46,8 @@ module _ (g : Graph) (h : IsHierarchy g) where
     where
       go : (o : Option ℕ) → edge_between g c d ≡ o → is_some o ≡ true
       go None q =
-          absurd (missing (joins c d) (λ x. x ≡ record { child = c; parent = d }) (joins-Decides c d) g.edges 0 q (record { child = c; parent = d }) e refl)
+          absurd (missing (joins c d) (λ x. x ≡ record { child = c; parent = d }) (joins-Decides c d) g.edges 0 q
+          (record { child = c; parent = d }) e refl)
       go (Some i) q = refl
 
   -- a chain of edges lacks none
@@ -59,7 +60,8 @@ module _ (g : Graph) (h : IsHierarchy g) where
       rw (named g h c l, named g h d m, edge_is_there c d k.0) refl
   no_edge_lacks c (d ∷ e ∷ cs) l k =
       let m = (h.categories c d k.0).1 in
-      let t : has_edge g (category_named g (name_of_category g c)) (category_named g (name_of_category g d)) ≡ true = rw (named g h c l, named g h d m) (edge_is_there c d k.0) in
+      let t : has_edge g (category_named g (name_of_category g c)) (category_named g (name_of_category g d)) ≡ true =
+      rw (named g h c l, named g h d m) (edge_is_there c d k.0) in
       rw t (no_edge_lacks d (e ∷ cs) m k.1)
 
   stands_not : (c : ℕ) (cs : List ℕ) → IsCategory g c → AreCategories g cs → All (λ d. c ≢ d) cs
@@ -67,7 +69,9 @@ module _ (g : Graph) (h : IsHierarchy g) where
   unfolding stands_in
   stands_not c [] l v a = refl
   stands_not c (d ∷ cs) l v a =
-      let n = false_from_ne_true (bytes_eq (name_of_category g d) (name_of_category g c)) (λ e. All-head (λ d. c ≢ d) d cs a (names_differ g h c d l v.0 (sym ((bytes_eq-Decides (name_of_category g d) (name_of_category g c)).0 e)))) in
+      let n = false_from_ne_true (bytes_eq (name_of_category g d) (name_of_category g c))
+      (λ e. All-head (λ d. c ≢ d) d cs a
+      (names_differ g h c d l v.0 (sym ((bytes_eq-Decides (name_of_category g d) (name_of_category g c)).0 e)))) in
       rw n (stands_not c cs l v.1 (All-tail (λ d. c ≢ d) d cs a))
 
   pairs_head : (c : ℕ) (cs : List ℕ) → AllPairs ◌≢◌ (c ∷ cs) → All (λ d. c ≢ d) cs
@@ -97,7 +101,8 @@ module _ (g : Graph) (h : IsHierarchy g) where
   path_fault : (r c : ℕ) (cs : List ℕ) → IsCategory g r → IsChain (HasEdge g) (r ∷ c ∷ cs)
       → AllPairs ◌≢◌ (r ∷ c ∷ cs) → word_fault g (name_of_category g r) (atom_word g r 95 (c ∷ cs)) ≡ None
   path_fault r c cs l k a =
-      unless_connective (name_of_category g r) (atom_word g r 95 (c ∷ cs)) (go (atom_word g r 95 (c ∷ cs)) (path_pieces g h r (c ∷ cs) l v))
+      unless_connective (name_of_category g r) (atom_word g r 95 (c ∷ cs))
+      (go (atom_word g r 95 (c ∷ cs)) (path_pieces g h r (c ∷ cs) l v))
     where
       v : AreCategories g (c ∷ cs)
       v = steps_are g h r (c ∷ cs) k
@@ -106,14 +111,22 @@ module _ (g : Graph) (h : IsHierarchy g) where
           → named_fault g (name_of_category g r) (is_path w) (names_in w) ≡ None
       go w p =
           let two : nat_lt 1 (length (map (name_of_category g) (r ∷ c ∷ cs))) ≡ true = grind (arith) in
-          rw (p, two, all_known (r ∷ c ∷ cs) (l, v), same_bytes (name_of_category g r), none_repeated (r ∷ c ∷ cs) (l, v) a, no_edge_lacks r (c ∷ cs) l k) refl
+          rw (
+            p,
+            two,
+            all_known (r ∷ c ∷ cs) (l, v),
+            same_bytes (name_of_category g r),
+            none_repeated (r ∷ c ∷ cs) (l, v) a,
+            no_edge_lacks r (c ∷ cs) l k,
+          ) refl
 
   -- a word with `.`, or without a mark
   plain_fault : (r : ℕ) (cs : List ℕ) (w : List ℕ) → IsCategory g r → AreCategories g cs
       → pieces_of 46 w ≡ map (name_of_category g) (r ∷ cs) → pieces_of 95 w ≡ w ∷ []
       → word_fault g (name_of_category g r) w ≡ None
   plain_fault r cs w l v p q =
-      unless_connective (name_of_category g r) w (rw (q, p, all_known (r ∷ cs) (l, v), same_bytes (name_of_category g r)) refl)
+      unless_connective (name_of_category g r) w
+      (rw (q, p, all_known (r ∷ cs) (l, v), same_bytes (name_of_category g r)) refl)
 
   reach_fault : (r : ℕ) (cs : List ℕ) → IsCategory g r → AreCategories g cs
       → word_fault g (name_of_category g r) (atom_word g r 46 cs) ≡ None
@@ -127,7 +140,8 @@ module _ (g : Graph) (h : IsHierarchy g) where
       go : (b : Bool)
           → word_fault g (name_of_category g r) (cond b (name_of_category g r) (atom_word g r 46 (d ∷ []))) ≡ None
       go true =
-          plain_fault r [] (name_of_category g r) l tt (name_whole g h 46 r (no_46 g h r l)) (name_whole g h 95 r (no_95 g h r l))
+          plain_fault r [] (name_of_category g r) l tt (name_whole g h 46 r (no_46 g h r l))
+          (name_whole g h 95 r (no_95 g h r l))
       go false = reach_fault r (d ∷ []) l (m, tt)
 
 -- ---- formulas
@@ -198,33 +212,44 @@ module _ (g : Graph) (h : IsHierarchy g) (r : ℕ) (l : IsCategory g r) where
     no_atom_fault Meaning.Formula.Falsity v = constant_faultless g (name_of_category g r) (codes "false") false_connects
     no_atom_fault (Meaning.Formula.Path []) v = absurd (v.0 refl)
     no_atom_fault (Meaning.Formula.Path (c ∷ cs)) v =
-        one_word g (name_of_category g r) (atom_word g r 95 (c ∷ cs)) [] (path_fault g h r c cs l v.1 v.2) (none_at_end g (name_of_category g r))
+        one_word g (name_of_category g r) (atom_word g r 95 (c ∷ cs)) [] (path_fault g h r c cs l v.1 v.2)
+        (none_at_end g (name_of_category g r))
     no_atom_fault (Meaning.Formula.Reach d) v =
-        one_word g (name_of_category g r) (atom_word g r 46 (d ∷ [])) [] (reach_fault g h r (d ∷ []) l (v, tt)) (none_at_end g (name_of_category g r))
+        one_word g (name_of_category g r) (atom_word g r 46 (d ∷ [])) [] (reach_fault g h r (d ∷ []) l (v, tt))
+        (none_at_end g (name_of_category g r))
     no_atom_fault (Meaning.Formula.Via d e) v =
-        one_word g (name_of_category g r) (atom_word g r 46 (d ∷ e ∷ [])) [] (reach_fault g h r (d ∷ e ∷ []) l (v.0, (v.1, tt))) (none_at_end g (name_of_category g r))
+        one_word g (name_of_category g r) (atom_word g r 46 (d ∷ e ∷ [])) []
+        (reach_fault g h r (d ∷ e ∷ []) l (v.0, (v.1, tt))) (none_at_end g (name_of_category g r))
     no_atom_fault (Meaning.Formula.Equals d k) v =
         equal_faultless g (name_of_category g r) (compared_word g r d) k (compared_fault g h r d l v.0)
     no_atom_fault (Meaning.Formula.Not f) v = not_faultless g (name_of_category g r) (spelt g r f) (no_atom_fault f v)
     no_atom_fault (Meaning.Formula.And f k) v =
-        joined_faultless g (name_of_category g r) joint.And (spelt g r f) (spelt g r k) (no_atom_fault f v.0) (no_atom_fault k v.1)
+        joined_faultless g (name_of_category g r) joint.And (spelt g r f) (spelt g r k) (no_atom_fault f v.0)
+        (no_atom_fault k v.1)
     no_atom_fault (Meaning.Formula.Or f k) v =
-        joined_faultless g (name_of_category g r) joint.Or (spelt g r f) (spelt g r k) (no_atom_fault f v.0) (no_atom_fault k v.1)
+        joined_faultless g (name_of_category g r) joint.Or (spelt g r f) (spelt g r k) (no_atom_fault f v.0)
+        (no_atom_fault k v.1)
     no_atom_fault (Meaning.Formula.Implies f k) v =
-        joined_faultless g (name_of_category g r) joint.Implies (spelt g r f) (spelt g r k) (no_atom_fault f v.0) (no_atom_fault k v.1)
+        joined_faultless g (name_of_category g r) joint.Implies (spelt g r f) (spelt g r k) (no_atom_fault f v.0)
+        (no_atom_fault k v.1)
     no_atom_fault (Meaning.Formula.Iff f k) v =
-        joined_faultless g (name_of_category g r) joint.Iff (spelt g r f) (spelt g r k) (no_atom_fault f v.0) (no_atom_fault k v.1)
+        joined_faultless g (name_of_category g r) joint.Iff (spelt g r f) (spelt g r k) (no_atom_fault f v.0)
+        (no_atom_fault k v.1)
     no_atom_fault (Meaning.Formula.Xor f k) v =
-        joined_faultless g (name_of_category g r) joint.Xor (spelt g r f) (spelt g r k) (no_atom_fault f v.0) (no_atom_fault k v.1)
+        joined_faultless g (name_of_category g r) joint.Xor (spelt g r f) (spelt g r k) (no_atom_fault f v.0)
+        (no_atom_fault k v.1)
     no_atom_fault (Meaning.Formula.One fs) v =
         one_faultless g (name_of_category g r) (spelt_list g r fs) (no_list_fault fs v)
 
     no_list_fault : (fs : Terms) → AreFormulasAt g r fs → atom_fault g (name_of_category g r) (spelt_list g r fs) ≡ None
     no_list_fault Meaning.Terms.End v = none_at_end g (name_of_category g r)
     no_list_fault (Meaning.Terms.More f fs) v =
-        faultless-append g (name_of_category g r) (spelt g r f) (spelt_rest g r fs) (no_atom_fault f v.0) (no_rest_fault fs v.1)
+        faultless-append g (name_of_category g r) (spelt g r f) (spelt_rest g r fs) (no_atom_fault f v.0)
+        (no_rest_fault fs v.1)
 
     no_rest_fault : (fs : Terms) → AreFormulasAt g r fs → atom_fault g (name_of_category g r) (spelt_rest g r fs) ≡ None
     no_rest_fault Meaning.Terms.End v = none_at_end g (name_of_category g r)
     no_rest_fault (Meaning.Terms.More f fs) v =
-        comma_faultless g (name_of_category g r) (spelt g r f ++ spelt_rest g r fs) (faultless-append g (name_of_category g r) (spelt g r f) (spelt_rest g r fs) (no_atom_fault f v.0) (no_rest_fault fs v.1))
+        comma_faultless g (name_of_category g r) (spelt g r f ++ spelt_rest g r fs)
+        (faultless-append g (name_of_category g r) (spelt g r f) (spelt_rest g r fs) (no_atom_fault f v.0)
+        (no_rest_fault fs v.1))

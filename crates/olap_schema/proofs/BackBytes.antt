@@ -51,7 +51,8 @@ ascii_one b l (suc k) = omega arith
 -- a printable ASCII character in front
 pub plain-cons : (b : ℕ) (bs : List ℕ) → b < 127 → 32 ≤ b → IsPlain bs → IsPlain (b ∷ bs)
 plain-cons b bs l m p =
-    plain-append (b ∷ []) bs (record { utf8 = IsUtf8-from_ascii (b ∷ []) (ascii_one b (omega arith)); plain = rw control refl }) p
+    plain-append (b ∷ []) bs
+    (record { utf8 = IsUtf8-from_ascii (b ∷ []) (ascii_one b (omega arith)); plain = rw control refl }) p
   where
     control : is_control b ≡ false
     control = grind arith
@@ -79,13 +80,18 @@ unfolding encode
 high_encode c e = rw e (go (nat_lt c 2048) (nat_lt c 65536))
   where
     go : (p q : Bool)
-        → All (λ b. 128 ≤ b) (cond p ((192 + c / 64) ∷ (128 + c % 64) ∷ []) (cond q ((224 + c / 4096) ∷ (128 + (c / 64) % 64) ∷ (128 + c % 64) ∷ []) ((240 + c / 262144) ∷ (128 + (c / 4096) % 64) ∷ (128 + (c / 64) % 64) ∷ (128 + c % 64) ∷ [])))
+        → All (λ b. 128 ≤ b) (cond p ((192 + c / 64) ∷ (128 + c % 64) ∷ [])
+        (cond q ((224 + c / 4096) ∷ (128 + (c / 64) % 64) ∷ (128 + c % 64) ∷ [])
+        ((240 + c / 262144) ∷ (128 + (c / 4096) % 64) ∷ (128 + (c / 64) % 64) ∷ (128 + c % 64) ∷ [])))
     go true q =
         All-from_recursion (λ b. 128 ≤ b) ((192 + c / 64) ∷ (128 + c % 64) ∷ []) (omega arith, (omega arith, tt))
     go false true =
-        All-from_recursion (λ b. 128 ≤ b) ((224 + c / 4096) ∷ (128 + (c / 64) % 64) ∷ (128 + c % 64) ∷ []) (omega arith, (omega arith, (omega arith, tt)))
+        All-from_recursion (λ b. 128 ≤ b) ((224 + c / 4096) ∷ (128 + (c / 64) % 64) ∷ (128 + c % 64) ∷ [])
+        (omega arith, (omega arith, (omega arith, tt)))
     go false false =
-        All-from_recursion (λ b. 128 ≤ b) ((240 + c / 262144) ∷ (128 + (c / 4096) % 64) ∷ (128 + (c / 64) % 64) ∷ (128 + c % 64) ∷ []) (omega arith, (omega arith, (omega arith, (omega arith, tt))))
+        All-from_recursion (λ b. 128 ≤ b)
+        ((240 + c / 262144) ∷ (128 + (c / 4096) % 64) ∷ (128 + (c / 64) % 64) ∷ (128 + c % 64) ∷ [])
+        (omega arith, (omega arith, (omega arith, (omega arith, tt))))
 
 ascii_two : (a b : ℕ) → a < 128 → b < 128 → IsAscii (a ∷ b ∷ [])
 ascii_two a b l m zero = l
@@ -113,7 +119,8 @@ all_utf8 (c ∷ cs) e = go (scalar c) (scalars cs) refl refl e (λ r. all_utf8 c
     go : (p q : Bool) → scalar c ≡ p → scalars cs ≡ q → p && q ≡ true
         → (scalars cs ≡ true → IsUtf8 (escaped (encodes cs))) → IsUtf8 (escaped (encode c ++ encodes cs))
     go true true a b r rest =
-        rw (escaped-append (encode c) (encodes cs)) (IsUtf8-append (escaped (encode c)) (escaped (encodes cs)) (one_utf8 c a) (rest b))
+        rw (escaped-append (encode c) (encodes cs))
+        (IsUtf8-append (escaped (encode c)) (escaped (encodes cs)) (one_utf8 c a) (rest b))
     go true false a b r rest = absurd (cc)
     go false q a b r rest = absurd (cc)
 

@@ -83,9 +83,11 @@ form_is : (g : Graph) (h : IsHierarchy g) (r : ℕ) (l : IsCategory g r) (f : Fo
 unfolding form_read
 form_is g h r l f v before few deep =
     let nodes = nodes_are g r f in
-    let n : nat_lt most_nodes (before + token_nodes (spelt g r f)) ≡ false = within before (token_nodes (spelt g r f)) (node_count f) nodes few in
+    let n : nat_lt most_nodes (before + token_nodes (spelt g r f)) ≡ false =
+    within before (token_nodes (spelt g r f)) (node_count f) nodes few in
     let o : opens_over 0 0 (spelt g r f) ≡ false = few_open g r f deep in
-    let read : the_formula (atoms_of g) (spelt g r f) ≡ Some f = formula_is_found (atoms_of g) (spelt g r f) f (tighter 1 6 (lit≤ tt) (spelt_is_formula g h r l f v)) in
+    let read : the_formula (atoms_of g) (spelt g r f) ≡ Some f =
+    formula_is_found (atoms_of g) (spelt g r f) f (tighter 1 6 (lit≤ tt) (spelt_is_formula g h r l f v)) in
     let d : nat_le (depth_of f) most_depth ≡ true = grind (arith) in
     rw (n, o, read, d) refl
   where
@@ -94,29 +96,41 @@ form_is g h r l f v before few deep =
 
 -- a constraint's line adds it
 pub add_constraint : (s : Schema) → IsValidSchema s → AreShort s.graph
-    → (done : List Constraint) (c : Constraint) (rest : List Constraint) (nodes : ℕ) (pairs : List Equality) (lines : List ℕ) →
-    done ++ c ∷ rest ≡ s.constraints → nodes + nodes_of (c ∷ rest) ≤ most_nodes → length (pairs_with pairs (c ∷ rest)) ≤ most_constants →
-    constraint_read (ruled s.graph done nodes pairs lines) (name_of_category s.graph c.root) (spelt s.graph c.root c.formula)
-    ≡ Ok (ruled s.graph (done ++ c ∷ []) (nodes + token_nodes (spelt s.graph c.root c.formula)) (fold with_pair pairs (equalities c.formula)) lines)
+    → (done : List Constraint) (c : Constraint) (rest : List Constraint) (nodes : ℕ) (pairs : List Equality)
+    (lines : List ℕ) →
+    done ++ c ∷ rest ≡ s.constraints → nodes + nodes_of (c ∷ rest) ≤ most_nodes
+    → length (pairs_with pairs (c ∷ rest)) ≤ most_constants →
+    constraint_read (ruled s.graph done nodes pairs lines) (name_of_category s.graph c.root)
+    (spelt s.graph c.root c.formula)
+    ≡ Ok (ruled s.graph (done ++ c ∷ []) (nodes + token_nodes (spelt s.graph c.root c.formula))
+    (fold with_pair pairs (equalities c.formula)) lines)
 add_constraint s v short done c rest nodes pairs lines e few_nodes few_pairs =
     let there : Contains s.constraints c = rw e at (stands done c rest) in
     let declared = v.roots c there in
     let at_root = v.formulas c there in
     let sum = first_nodes c rest in
     let fit : nodes + node_count c.formula ≤ most_nodes = omega (arith, sum, few_nodes) in
-    let form : form_read s.graph nodes (spelt s.graph c.root c.formula) ≡ Ok c.formula = form_is s.graph v.hierarchy c.root declared.1 c.formula at_root nodes fit (v.depth_fits c there) in
+    let form : form_read s.graph nodes (spelt s.graph c.root c.formula) ≡ Ok c.formula =
+    form_is s.graph v.hierarchy c.root declared.1 c.formula at_root nodes fit (v.depth_fits c there) in
     let ln = short c.root declared.1 in
     let sn : nat_lt most_text_bytes (length (name_of_category s.graph c.root)) ≡ false = grind (arith) in
-    let sl : list_any is_long (spelt s.graph c.root c.formula) ≡ false = none_is_long s.graph v.hierarchy short c.root declared.1 c.formula at_root in
-    let n : category_named s.graph (name_of_category s.graph c.root) ≡ Some c.root = named s.graph v.hierarchy c.root declared.1 in
+    let sl : list_any is_long (spelt s.graph c.root c.formula) ≡ false =
+    none_is_long s.graph v.hierarchy short c.root declared.1 c.formula at_root in
+    let n : category_named s.graph (name_of_category s.graph c.root) ≡ Some c.root =
+    named s.graph v.hierarchy c.root declared.1 in
     let z = false_from_ne_true (c.root == 0) (λ q. declared.0 (eqb-true c.root 0 q)) in
     let size = ap length e in
     let sizes = lengths done (c ∷ rest) in
-    let few : nat_le most_constraints (length done) ≡ false = room (length done) (length rest) (length s.constraints) v.constraints_fit (sym size ∙ sizes) in
-    let fault : atom_fault s.graph (name_of_category s.graph c.root) (spelt s.graph c.root c.formula) ≡ None = no_atom_fault s.graph v.hierarchy c.root declared.1 c.formula at_root in
+    let few : nat_le most_constraints (length done) ≡ false =
+    room (length done) (length rest) (length s.constraints) v.constraints_fit (sym size ∙ sizes) in
+    let fault : atom_fault s.graph (name_of_category s.graph c.root) (spelt s.graph c.root c.formula) ≡ None =
+    no_atom_fault s.graph v.hierarchy c.root declared.1 c.formula at_root in
     let more = grows (fold with_pair pairs (equalities c.formula)) (flat_map (λ x. equalities x.formula) rest) in
     let same = ap length (first_pairs pairs c rest) in
-    let p : nat_lt most_constants (length (fold with_pair pairs (equalities c.formula))) ≡ false = below (length (fold with_pair pairs (equalities c.formula))) (length (pairs_with (fold with_pair pairs (equalities c.formula)) rest)) (length (pairs_with pairs (c ∷ rest))) more same few_pairs in
+    let p : nat_lt most_constants (length (fold with_pair pairs (equalities c.formula))) ≡ false =
+    below (length (fold with_pair pairs (equalities c.formula)))
+    (length (pairs_with (fold with_pair pairs (equalities c.formula)) rest))
+    (length (pairs_with pairs (c ∷ rest))) more same few_pairs in
     rw (form, sn, sl, n, z, few, fault, p) refl
   where
     room : (a b n : ℕ) → n ≤ most_constraints → n ≡ a + suc b → nat_le most_constraints a ≡ false

@@ -87,7 +87,8 @@ new_name done name rest a n edges =
 
 pub add_category : (s : Schema) → IsValidSchema s
     → (n : ℕ) (done : List (List ℕ)) (name : List ℕ) (rest : List (List ℕ)) (lines : List ℕ) →
-    done ++ name ∷ rest ≡ s.graph.names → category_read (growing done [] lines) n name ≡ Ok (growing (done ++ name ∷ []) [] (lines ++ n ∷ []))
+    done ++ name ∷ rest ≡ s.graph.names
+    → category_read (growing done [] lines) n name ≡ Ok (growing (done ++ name ∷ []) [] (lines ++ n ∷ []))
 add_category s v n done name rest lines e =
     let there : Contains s.graph.names name = rw e at (stands done name rest) in
     let l = v.names_fit name there in
@@ -96,7 +97,8 @@ add_category s v n done name rest lines e =
     let new = new_name done name rest differ (v.hierarchy.names name there).1 [] in
     let size = ap length e in
     let sizes = lengths done (name ∷ rest) in
-    let few : nat_le most_categories (length done + 1) ≡ false = room (length done) (length rest) (length s.graph.names) v.categories_fit (sym size ∙ sizes) in
+    let few : nat_le most_categories (length done + 1) ≡ false =
+    room (length done) (length rest) (length s.graph.names) v.categories_fit (sym size ∙ sizes) in
     rw (short, new, few) refl
   where
     room : (a b n : ℕ) → n + 1 ≤ most_categories → n ≡ a + suc b → nat_le most_categories (a + 1) ≡ false
@@ -106,7 +108,8 @@ add_category s v n done name rest lines e =
 
 pub add_edge : (s : Schema) → IsValidSchema s → AreShort s.graph
     → (done : List Edge) (edge : Edge) (rest : List Edge) (lines : List ℕ) → done ++ edge ∷ rest ≡ s.graph.edges →
-    edge_read (growing s.graph.names done lines) (name_of_category s.graph edge.child) (name_of_category s.graph edge.parent) ≡ Ok (growing s.graph.names (done ++ edge ∷ []) lines)
+    edge_read (growing s.graph.names done lines) (name_of_category s.graph edge.child)
+    (name_of_category s.graph edge.parent) ≡ Ok (growing s.graph.names (done ++ edge ∷ []) lines)
 add_edge s v short done edge rest lines e =
     let there : Contains s.graph.edges edge = rw e at (stands done edge rest) in
     let ends = v.hierarchy.categories edge.child edge.parent there in
@@ -114,17 +117,22 @@ add_edge s v short done edge rest lines e =
     let lp = short edge.parent ends.1 in
     let sc : nat_lt most_text_bytes (length (name_of_category s.graph edge.child)) ≡ false = grind (arith) in
     let sp : nat_lt most_text_bytes (length (name_of_category s.graph edge.parent)) ≡ false = grind (arith) in
-    let nc : category_named (record { names = s.graph.names; edges = done }) (name_of_category s.graph edge.child) ≡ Some edge.child = named s.graph v.hierarchy edge.child ends.0 in
-    let np : category_named (record { names = s.graph.names; edges = done }) (name_of_category s.graph edge.parent) ≡ Some edge.parent = named s.graph v.hierarchy edge.parent ends.1 in
-    let loop = false_from_ne_true (edge.child == edge.parent) (λ q. v.hierarchy.no_loop edge.child edge.parent there (eqb-true edge.child edge.parent q)) in
+    let nc : category_named (record { names = s.graph.names; edges = done })
+    (name_of_category s.graph edge.child) ≡ Some edge.child = named s.graph v.hierarchy edge.child ends.0 in
+    let np : category_named (record { names = s.graph.names; edges = done })
+    (name_of_category s.graph edge.parent) ≡ Some edge.parent = named s.graph v.hierarchy edge.parent ends.1 in
+    let loop = false_from_ne_true (edge.child == edge.parent)
+    (λ q. v.hierarchy.no_loop edge.child edge.parent there (eqb-true edge.child edge.parent q)) in
     let all = false_from_ne_true (edge.child == 0) (λ q. from_all edge there (eqb-true edge.child 0 q)) in
     let differ : AllPairs ◌≢◌ (done ++ edge ∷ rest) = rw (← e) at v.hierarchy.edges_differ in
     let new : edge_between (record { names = s.graph.names; edges = done }) edge.child edge.parent ≡ None =
-    not_placed (joins edge.child edge.parent) (λ x. x ≡ record { child = edge.child; parent = edge.parent }) (joins-Decides edge.child edge.parent) done
+    not_placed (joins edge.child edge.parent) (λ x. x ≡ record { child = edge.child; parent = edge.parent })
+    (joins-Decides edge.child edge.parent) done
     (λ x c q. not_before done edge rest differ (rw q at c)) in
     let size = ap length e in
     let sizes = lengths done (edge ∷ rest) in
-    let few : nat_le most_edges (length done) ≡ false = room (length done) (length rest) (length s.graph.edges) v.edges_fit (sym size ∙ sizes) in
+    let few : nat_le most_edges (length done) ≡ false =
+    room (length done) (length rest) (length s.graph.edges) v.edges_fit (sym size ∙ sizes) in
     rw (sc, sp, nc, np, loop, all, new, few) refl
   where
     room : (a b n : ℕ) → n ≤ most_edges → n ≡ a + suc b → nat_le most_edges a ≡ false

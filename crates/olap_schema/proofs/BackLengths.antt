@@ -29,7 +29,8 @@ name_goes_on n [] rest a = let e : n ≡ n + 0 = omega arith in ap (λ k. has_lo
 name_goes_on n (b ∷ w) rest a =
     let l = All-head IsLetterOrDigit b w a in
     let e : (n + 1) + length w ≡ n + length (b ∷ w) = omega arith in
-    rw (no_underscore b l, no_mark 46 (lit≤ tt) b l) (name_goes_on (n + 1) w rest (All-tail IsLetterOrDigit b w a) ∙ ap (λ k. has_long_name k rest) e)
+    rw (no_underscore b l, no_mark 46 (lit≤ tt) b l)
+    (name_goes_on (n + 1) w rest (All-tail IsLetterOrDigit b w a) ∙ ap (λ k. has_long_name k rest) e)
 
 short_end : (n : ℕ) → n ≤ most_text_bytes → has_long_name n [] ≡ false
 unfolding has_long_name
@@ -97,7 +98,9 @@ closed_short ts e = none-append is_long ts (token.Close ∷ []) e (mark_short to
 joined_short : (j : Joint) (l r : List Token) → list_any is_long l ≡ false → list_any is_long r ≡ false
     → list_any is_long (joined_tokens j l r) ≡ false
 joined_short j l r d e =
-    mark_short token.Open _ open_short (none-append is_long l (token.Joint j ∷ (r ++ token.Close ∷ [])) d (mark_short (token.Joint j) _ (joint_short j) (closed_short r e)))
+    mark_short token.Open _ open_short
+    (none-append is_long l (token.Joint j ∷ (r ++ token.Close ∷ [])) d
+    (mark_short (token.Joint j) _ (joint_short j) (closed_short r e)))
 
 true_short : has_long_name 0 (codes "true") ≡ false
 unfolding has_long_name
@@ -149,7 +152,8 @@ module _ (g : Graph) (h : IsHierarchy g) (short : AreShort g) (r : ℕ) (l : IsC
     none_is_long (Meaning.Formula.Reach d) v =
         one_short (atom_word g r 46 (d ∷ [])) [] (atom_short g h short r 46 (d ∷ []) refl l (v, tt)) refl
     none_is_long (Meaning.Formula.Via d e) v =
-        one_short (atom_word g r 46 (d ∷ e ∷ [])) [] (atom_short g h short r 46 (d ∷ e ∷ []) refl l (v.0, (v.1, tt))) refl
+        one_short (atom_word g r 46 (d ∷ e ∷ [])) [] (atom_short g h short r 46 (d ∷ e ∷ []) refl l (v.0, (v.1, tt)))
+        refl
     none_is_long (Meaning.Formula.Equals d k) v =
         equal_short (compared_word g r d) k (compared_short g h short r d l v.0) v.1
     none_is_long (Meaning.Formula.Not f) v = mark_short token.Not (spelt g r f) not_short (none_is_long f v)
@@ -164,7 +168,9 @@ module _ (g : Graph) (h : IsHierarchy g) (short : AreShort g) (r : ℕ) (l : IsC
     none_is_long (Meaning.Formula.Xor f k) v =
         joined_short joint.Xor (spelt g r f) (spelt g r k) (none_is_long f v.0) (none_is_long k v.1)
     none_is_long (Meaning.Formula.One fs) v =
-        one_short (codes "one") (token.Open ∷ (spelt_list g r fs ++ token.Close ∷ [])) name_one_short (mark_short token.Open (spelt_list g r fs ++ token.Close ∷ []) open_short (closed_short (spelt_list g r fs) (no_part_is_long fs v)))
+        one_short (codes "one") (token.Open ∷ (spelt_list g r fs ++ token.Close ∷ [])) name_one_short
+        (mark_short token.Open (spelt_list g r fs ++ token.Close ∷ []) open_short
+        (closed_short (spelt_list g r fs) (no_part_is_long fs v)))
 
     no_part_is_long : (fs : Terms) → AreFormulasAt g r fs → list_any is_long (spelt_list g r fs) ≡ false
     no_part_is_long Meaning.Terms.End v = refl
@@ -174,4 +180,5 @@ module _ (g : Graph) (h : IsHierarchy g) (short : AreShort g) (r : ℕ) (l : IsC
     no_rest_is_long : (fs : Terms) → AreFormulasAt g r fs → list_any is_long (spelt_rest g r fs) ≡ false
     no_rest_is_long Meaning.Terms.End v = refl
     no_rest_is_long (Meaning.Terms.More f fs) v =
-        mark_short token.Comma (spelt g r f ++ spelt_rest g r fs) comma_short (none-append is_long (spelt g r f) (spelt_rest g r fs) (none_is_long f v.0) (no_rest_is_long fs v.1))
+        mark_short token.Comma (spelt g r f ++ spelt_rest g r fs) comma_short
+        (none-append is_long (spelt g r f) (spelt_rest g r fs) (none_is_long f v.0) (no_rest_is_long fs v.1))

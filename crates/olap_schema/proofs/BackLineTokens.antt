@@ -41,7 +41,8 @@ last_name w n = rw (append-nil w) at (cut_word (name_is_word w n) tt end)
 
 pub version_tokens : tokens_of version_text ≡ Some (token.Word (codes "schema") ∷ token.Word (codes "1") ∷ [])
 version_tokens =
-    cut_is_found _ _ (keyword 115 (codes "chema") (codes "1") (token.Word (codes "1") ∷ []) refl (word 49 [] (word_bytes (49 ∷ []) refl) tt end))
+    cut_is_found _ _ (keyword 115 (codes "chema") (codes "1") (token.Word (codes "1") ∷ []) refl
+    (word 49 [] (word_bytes (49 ∷ []) refl) tt end))
 
 pub category_tokens : (name : List ℕ) → IsCategoryName name
     → tokens_of (category_text name) ≡ Some (token.Word (codes "category") ∷ token.Word name ∷ [])
@@ -50,22 +51,31 @@ category_tokens name n =
 
 module _ (g : Graph) (h : IsHierarchy g) where
   pub edge_tokens : (e : Edge) → IsCategory g e.child → IsCategory g e.parent →
-      tokens_of (edge_text g e) ≡ Some (token.Word (codes "edge") ∷ token.Word (name_of_category g e.child) ∷ token.Word (name_of_category g e.parent) ∷ [])
+      tokens_of (edge_text g e) ≡ Some
+      (token.Word (codes "edge") ∷ token.Word (name_of_category g e.child) ∷ token.Word
+      (name_of_category g e.parent) ∷ [])
   edge_tokens e l m =
       let parent = last_name (name_of_category g e.parent) (name_is g h e.parent m) in
-      let child : IsCut (name_of_category g e.child ++ 32 ∷ name_of_category g e.parent) (token.Word (name_of_category g e.child) ∷ token.Word (name_of_category g e.parent) ∷ []) =
+      let child : IsCut (name_of_category g e.child ++ 32 ∷ name_of_category g e.parent)
+      (token.Word (name_of_category g e.child) ∷ token.Word (name_of_category g e.parent) ∷ []) =
       cut_word (name_is_word (name_of_category g e.child) (name_is g h e.child l)) refl (blank parent) in
-      cut_is_found _ _ (keyword 101 (codes "dge") (name_of_category g e.child ++ 32 ∷ name_of_category g e.parent) (token.Word (name_of_category g e.child) ∷ token.Word (name_of_category g e.parent) ∷ []) refl child)
+      cut_is_found _ _ (keyword 101 (codes "dge") (name_of_category g e.child ++ 32 ∷ name_of_category g e.parent)
+      (token.Word (name_of_category g e.child) ∷ token.Word (name_of_category g e.parent) ∷ []) refl child)
 
   pub constraint_tokens : (c : Constraint) → IsCategory g c.root → IsFormulaAt g c.root c.formula →
-      tokens_of (constraint_text g c) ≡ Some (token.Word (codes "constraint") ∷ token.Word (name_of_category g c.root) ∷ token.Colon ∷ spelt g c.root c.formula)
+      tokens_of (constraint_text g c) ≡ Some
+      (token.Word (codes "constraint") ∷ token.Word (name_of_category g c.root) ∷ token.Colon ∷ spelt g c.root
+      c.formula)
   constraint_tokens c l v =
       let name = name_of_category g c.root in
       let text = formula_text g c.root c.formula in
-      let cut : IsCut text (spelt g c.root c.formula) = rw (append-nil text, append-nil (spelt g c.root c.formula)) at (text_is_cut g h c.root l c.formula v [] [] tt end) in
+      let cut : IsCut text (spelt g c.root c.formula) =
+      rw (append-nil text, append-nil (spelt g c.root c.formula)) at
+      (text_is_cut g h c.root l c.formula v [] [] tt end) in
       let rest : IsCut (name ++ 58 ∷ 32 ∷ text) (token.Word name ∷ token.Colon ∷ spelt g c.root c.formula) =
       cut_word (name_is_word name (name_is g h c.root l)) refl (mark token.Colon tt (blank cut)) in
-      cut_is_found _ _ (keyword 99 (codes "onstraint") (name ++ 58 ∷ 32 ∷ text) (token.Word name ∷ token.Colon ∷ spelt g c.root c.formula) refl rest)
+      cut_is_found _ _ (keyword 99 (codes "onstraint") (name ++ 58 ∷ 32 ∷ text)
+      (token.Word name ∷ token.Colon ∷ spelt g c.root c.formula) refl rest)
 
 -- ---- bytes
 
@@ -78,9 +88,12 @@ category_plain name n = plain-append (codes "category ") name (ascii_plain (code
 pub edge_plain : (g : Graph) → IsHierarchy g → (e : Edge) → IsCategory g e.child → IsCategory g e.parent
     → IsPlain (edge_text g e)
 edge_plain g h e l m =
-    plain-append (codes "edge ") (name_of_category g e.child ++ 32 ∷ name_of_category g e.parent) (ascii_plain (codes "edge ") refl)
-    (plain-append (name_of_category g e.child) (32 ∷ name_of_category g e.parent) (name_plain (name_of_category g e.child) (name_is g h e.child l))
-    (plain-append (32 ∷ []) (name_of_category g e.parent) (ascii_plain (32 ∷ []) refl) (name_plain (name_of_category g e.parent) (name_is g h e.parent m))))
+    plain-append (codes "edge ") (name_of_category g e.child ++ 32 ∷ name_of_category g e.parent)
+    (ascii_plain (codes "edge ") refl)
+    (plain-append (name_of_category g e.child) (32 ∷ name_of_category g e.parent)
+    (name_plain (name_of_category g e.child) (name_is g h e.child l))
+    (plain-append (32 ∷ []) (name_of_category g e.parent) (ascii_plain (32 ∷ []) refl)
+    (name_plain (name_of_category g e.parent) (name_is g h e.parent m))))
 
 pub constraint_plain : (g : Graph) → IsHierarchy g → (c : Constraint) → IsCategory g c.root
     → IsFormulaAt g c.root c.formula → AreTexts (equalities c.formula) → IsPlain (constraint_text g c)

@@ -60,12 +60,15 @@ byte b bs e p = go (nat_lt b 127) (nat_le 32 b) refl refl e
 
 quoted_plain : (k : List ℕ) → IsPlain k → IsPlain (quoted k)
 quoted_plain k p =
-    byte 34 (escaped k ++ 34 ∷ []) refl (plain-append (escaped k) (34 ∷ []) (escaped_plain k p) (ascii_plain (34 ∷ []) refl))
+    byte 34 (escaped k ++ 34 ∷ []) refl
+    (plain-append (escaped k) (34 ∷ []) (escaped_plain k p) (ascii_plain (34 ∷ []) refl))
 
 joined_plain : (j : Joint) (x y : List ℕ) → IsPlain x → IsPlain y → IsPlain (joined_text j x y)
 joined_plain j x y p q =
-    byte 40 (x ++ 32 ∷ (joint_bytes j ++ 32 ∷ (y ++ 41 ∷ []))) refl (plain-append x (32 ∷ (joint_bytes j ++ 32 ∷ (y ++ 41 ∷ []))) p
-    (byte 32 (joint_bytes j ++ 32 ∷ (y ++ 41 ∷ [])) refl (plain-append (joint_bytes j) (32 ∷ (y ++ 41 ∷ [])) (joint_plain j)
+    byte 40 (x ++ 32 ∷ (joint_bytes j ++ 32 ∷ (y ++ 41 ∷ []))) refl
+    (plain-append x (32 ∷ (joint_bytes j ++ 32 ∷ (y ++ 41 ∷ []))) p
+    (byte 32 (joint_bytes j ++ 32 ∷ (y ++ 41 ∷ [])) refl
+    (plain-append (joint_bytes j) (32 ∷ (y ++ 41 ∷ [])) (joint_plain j)
     (byte 32 (y ++ 41 ∷ []) refl (plain-append y (41 ∷ []) q (ascii_plain (41 ∷ []) refl))))))
 
 module _ (g : Graph) (h : IsHierarchy g) where
@@ -73,12 +76,15 @@ module _ (g : Graph) (h : IsHierarchy g) where
   unfolding names_after
   after_plain m [] e v = plain-nil
   after_plain m (c ∷ cs) e v =
-      byte m (name_of_category g c ++ names_after g m cs) e (plain-append (name_of_category g c) (names_after g m cs) (name_plain (name_of_category g c) (name_is g h c v.0)) (after_plain m cs e v.1))
+      byte m (name_of_category g c ++ names_after g m cs) e
+      (plain-append (name_of_category g c) (names_after g m cs)
+      (name_plain (name_of_category g c) (name_is g h c v.0)) (after_plain m cs e v.1))
 
   atom_plain : (r m : ℕ) (cs : List ℕ) → is_printable m ≡ true → IsCategory g r → AreCategories g cs
       → IsPlain (atom_word g r m cs)
   atom_plain r m cs e l v =
-      plain-append (name_of_category g r) (names_after g m cs) (name_plain (name_of_category g r) (name_is g h r l)) (after_plain m cs e v)
+      plain-append (name_of_category g r) (names_after g m cs) (name_plain (name_of_category g r) (name_is g h r l))
+      (after_plain m cs e v)
 
   compared_plain : (r d : ℕ) → IsCategory g r → IsCategory g d → IsPlain (compared_word g r d)
   compared_plain r d l k = go (d == r)
@@ -95,7 +101,8 @@ right_texts xs ys t a c = t a (Contains-append_right xs ys a c)
 
 compared : (w k : List ℕ) → IsPlain w → IsPlain k → IsPlain (w ++ 32 ∷ 61 ∷ 32 ∷ quoted k)
 compared w k p q =
-    plain-append w (32 ∷ 61 ∷ 32 ∷ quoted k) p (byte 32 (61 ∷ 32 ∷ quoted k) refl (byte 61 (32 ∷ quoted k) refl (byte 32 (quoted k) refl (quoted_plain k q))))
+    plain-append w (32 ∷ 61 ∷ 32 ∷ quoted k) p
+    (byte 32 (61 ∷ 32 ∷ quoted k) refl (byte 61 (32 ∷ quoted k) refl (byte 32 (quoted k) refl (quoted_plain k q))))
 
 module _ (g : Graph) (h : IsHierarchy g) (r : ℕ) (l : IsCategory g r) where
   both : (j : Joint) (f k : Formula) → IsPlain (formula_text g r f) → IsPlain (formula_text g r k)
@@ -111,27 +118,40 @@ module _ (g : Graph) (h : IsHierarchy g) (r : ℕ) (l : IsCategory g r) where
     formula_plain (Meaning.Formula.Reach d) v t = atom_plain g h r 46 (d ∷ []) refl l (v, tt)
     formula_plain (Meaning.Formula.Via d e) v t = atom_plain g h r 46 (d ∷ e ∷ []) refl l (v.0, (v.1, tt))
     formula_plain (Meaning.Formula.Equals d k) v t =
-        compared (compared_word g r d) k (compared_plain g h r d l v.0) (from_not_bad k (t (record { category = d; text = k }) (0, lit< tt, refl)))
+        compared (compared_word g r d) k (compared_plain g h r d l v.0)
+        (from_not_bad k (t (record { category = d; text = k }) (0, lit< tt, refl)))
     formula_plain (Meaning.Formula.Not f) v t = byte 33 (formula_text g r f) refl (formula_plain f v t)
     formula_plain (Meaning.Formula.And f k) v t =
-        both joint.And f k (formula_plain f v.0 (left_texts (equalities f) (equalities k) t)) (formula_plain k v.1 (right_texts (equalities f) (equalities k) t))
+        both joint.And f k (formula_plain f v.0 (left_texts (equalities f) (equalities k) t))
+        (formula_plain k v.1 (right_texts (equalities f) (equalities k) t))
     formula_plain (Meaning.Formula.Or f k) v t =
-        both joint.Or f k (formula_plain f v.0 (left_texts (equalities f) (equalities k) t)) (formula_plain k v.1 (right_texts (equalities f) (equalities k) t))
+        both joint.Or f k (formula_plain f v.0 (left_texts (equalities f) (equalities k) t))
+        (formula_plain k v.1 (right_texts (equalities f) (equalities k) t))
     formula_plain (Meaning.Formula.Implies f k) v t =
-        both joint.Implies f k (formula_plain f v.0 (left_texts (equalities f) (equalities k) t)) (formula_plain k v.1 (right_texts (equalities f) (equalities k) t))
+        both joint.Implies f k (formula_plain f v.0 (left_texts (equalities f) (equalities k) t))
+        (formula_plain k v.1 (right_texts (equalities f) (equalities k) t))
     formula_plain (Meaning.Formula.Iff f k) v t =
-        both joint.Iff f k (formula_plain f v.0 (left_texts (equalities f) (equalities k) t)) (formula_plain k v.1 (right_texts (equalities f) (equalities k) t))
+        both joint.Iff f k (formula_plain f v.0 (left_texts (equalities f) (equalities k) t))
+        (formula_plain k v.1 (right_texts (equalities f) (equalities k) t))
     formula_plain (Meaning.Formula.Xor f k) v t =
-        both joint.Xor f k (formula_plain f v.0 (left_texts (equalities f) (equalities k) t)) (formula_plain k v.1 (right_texts (equalities f) (equalities k) t))
+        both joint.Xor f k (formula_plain f v.0 (left_texts (equalities f) (equalities k) t))
+        (formula_plain k v.1 (right_texts (equalities f) (equalities k) t))
     formula_plain (Meaning.Formula.One fs) v t =
-        plain-append (codes "one(") (list_text g r fs ++ 41 ∷ []) (ascii_plain (codes "one(") refl) (plain-append (list_text g r fs) (41 ∷ []) (list_plain fs v t) (ascii_plain (41 ∷ []) refl))
+        plain-append (codes "one(") (list_text g r fs ++ 41 ∷ []) (ascii_plain (codes "one(") refl)
+        (plain-append (list_text g r fs) (41 ∷ []) (list_plain fs v t) (ascii_plain (41 ∷ []) refl))
 
     list_plain : (fs : Terms) → AreFormulasAt g r fs → AreTexts (equalities_of_terms fs) → IsPlain (list_text g r fs)
     list_plain Meaning.Terms.End v t = plain-nil
     list_plain (Meaning.Terms.More f fs) v t =
-        plain-append (formula_text g r f) (rest_text g r fs) (formula_plain f v.0 (left_texts (equalities f) (equalities_of_terms fs) t)) (rest_plain fs v.1 (right_texts (equalities f) (equalities_of_terms fs) t))
+        plain-append (formula_text g r f) (rest_text g r fs)
+        (formula_plain f v.0 (left_texts (equalities f) (equalities_of_terms fs) t))
+        (rest_plain fs v.1 (right_texts (equalities f) (equalities_of_terms fs) t))
 
     rest_plain : (fs : Terms) → AreFormulasAt g r fs → AreTexts (equalities_of_terms fs) → IsPlain (rest_text g r fs)
     rest_plain Meaning.Terms.End v t = plain-nil
     rest_plain (Meaning.Terms.More f fs) v t =
-        byte 44 (32 ∷ (formula_text g r f ++ rest_text g r fs)) refl (byte 32 (formula_text g r f ++ rest_text g r fs) refl (plain-append (formula_text g r f) (rest_text g r fs) (formula_plain f v.0 (left_texts (equalities f) (equalities_of_terms fs) t)) (rest_plain fs v.1 (right_texts (equalities f) (equalities_of_terms fs) t))))
+        byte 44 (32 ∷ (formula_text g r f ++ rest_text g r fs)) refl
+        (byte 32 (formula_text g r f ++ rest_text g r fs) refl
+        (plain-append (formula_text g r f) (rest_text g r fs)
+        (formula_plain f v.0 (left_texts (equalities f) (equalities_of_terms fs) t))
+        (rest_plain fs v.1 (right_texts (equalities f) (equalities_of_terms fs) t))))

@@ -57,23 +57,31 @@ module _ (s : Schema) (v : IsValidSchema s) where
       let name = name_of_category s.graph c.root in
       let ts = spelt s.graph c.root c.formula in
       let above = ruled s.graph done nodes pairs lines in
-      let below = ruled s.graph (done ++ c ∷ []) (nodes + token_nodes ts) (fold with_pair pairs (equalities c.formula)) lines in
-      let read : tokens_read above (n + 1) (Some (token.Word (codes "constraint") ∷ token.Word name ∷ token.Colon ∷ ts)) ≡ Ok below =
+      let below = ruled s.graph (done ++ c ∷ []) (nodes + token_nodes ts)
+      (fold with_pair pairs (equalities c.formula)) lines in
+      let read : tokens_read above (n + 1)
+      (Some (token.Word (codes "constraint") ∷ token.Word name ∷ token.Colon ∷ ts)) ≡ Ok below =
       ap (statement_read above (n + 1)) (constraint_says name ts (is_name s.graph v.hierarchy c.root l))
       ∙ add_constraint s v short done c todo nodes pairs lines e few_nodes few_pairs in
-      let plain = constraint_plain s.graph v.hierarchy c l at_root (left_texts (equalities c.formula) (atoms_in todo) t) in
+      let plain = constraint_plain s.graph v.hierarchy c l at_root
+      (left_texts (equalities c.formula) (atoms_in todo) t) in
       let counted = nodes_are s.graph c.root c.formula in
       let sum = first_nodes c todo in
       let same = ap length (first_pairs pairs c todo) in
-      ap text_ended (goes_on above below n (constraint_text s.graph c) _ (map (constraint_text s.graph) todo) plain (constraint_speaks s.graph c) (constraint_tokens s.graph v.hierarchy c l at_root) read)
-      ∙ constraints_back todo (done ++ c ∷ []) (n + 1) (nodes + token_nodes ts) (fold with_pair pairs (equalities c.formula)) lines (append_assoc done (c ∷ []) todo ∙ e)
-      (omega (arith, counted, sum, few_nodes)) (omega (arith, same, few_pairs)) (right_texts (equalities c.formula) (atoms_in todo) t)
+      ap text_ended (goes_on above below n (constraint_text s.graph c) _ (map (constraint_text s.graph) todo) plain
+      (constraint_speaks s.graph c) (constraint_tokens s.graph v.hierarchy c l at_root) read)
+      ∙ constraints_back todo (done ++ c ∷ []) (n + 1) (nodes + token_nodes ts)
+      (fold with_pair pairs (equalities c.formula)) lines (append_assoc done (c ∷ []) todo ∙ e)
+      (omega (arith, counted, sum, few_nodes)) (omega (arith, same, few_pairs))
+      (right_texts (equalities c.formula) (atoms_in todo) t)
 
   edges_back : AreTexts (atoms_in s.constraints) → (todo done : List Edge) (n : ℕ) (lines : List ℕ)
       → done ++ todo ≡ s.graph.edges →
-      Ends (growing s.graph.names done lines) n (map (edge_text s.graph) todo ++ map (constraint_text s.graph) s.constraints) s
+      Ends (growing s.graph.names done lines) n
+      (map (edge_text s.graph) todo ++ map (constraint_text s.graph) s.constraints) s
   edges_back t [] done n lines e =
-      ap (λ es. text_ended (lines_on (Ok (growing s.graph.names es lines)) n (map (constraint_text s.graph) s.constraints))) (sym (append-nil done) ∙ e)
+      ap (λ es. text_ended (lines_on (Ok (growing s.graph.names es lines)) n
+      (map (constraint_text s.graph) s.constraints))) (sym (append-nil done) ∙ e)
       ∙ constraints_back s.constraints [] n 0 [] lines refl (let f = v.nodes_fit in omega (arith, f)) v.constants_fit t
   edges_back t (x ∷ todo) done n lines e =
       let there : Contains s.graph.edges x = rw e at (stands done x todo) in
@@ -82,17 +90,27 @@ module _ (s : Schema) (v : IsValidSchema s) where
       let parent = name_of_category s.graph x.parent in
       let above = growing s.graph.names done lines in
       let below = growing s.graph.names (done ++ x ∷ []) lines in
-      let read : tokens_read above (n + 1) (Some (token.Word (codes "edge") ∷ token.Word child ∷ token.Word parent ∷ [])) ≡ Ok below =
-      ap (statement_read above (n + 1)) (edge_says child parent (is_name s.graph v.hierarchy x.child ends.0) (is_name s.graph v.hierarchy x.parent ends.1))
+      let read : tokens_read above (n + 1)
+      (Some (token.Word (codes "edge") ∷ token.Word child ∷ token.Word parent ∷ [])) ≡ Ok below =
+      ap (statement_read above (n + 1))
+      (edge_says child parent (is_name s.graph v.hierarchy x.child ends.0)
+      (is_name s.graph v.hierarchy x.parent ends.1))
       ∙ add_edge s v short done x todo lines e in
-      ap text_ended (goes_on above below n (edge_text s.graph x) _ (map (edge_text s.graph) todo ++ map (constraint_text s.graph) s.constraints) (edge_plain s.graph v.hierarchy x ends.0 ends.1) (edge_speaks s.graph x) (edge_tokens s.graph v.hierarchy x ends.0 ends.1) read)
+      ap text_ended (goes_on above below n (edge_text s.graph x) _
+      (map (edge_text s.graph) todo ++ map (constraint_text s.graph) s.constraints)
+      (edge_plain s.graph v.hierarchy x ends.0 ends.1) (edge_speaks s.graph x)
+      (edge_tokens s.graph v.hierarchy x ends.0 ends.1) read)
       ∙ edges_back t todo (done ++ x ∷ []) (n + 1) lines (append_assoc done (x ∷ []) todo ∙ e)
 
   categories_back : AreTexts (atoms_in s.constraints) → (todo done : List (List ℕ)) (n : ℕ) (lines : List ℕ)
       → done ++ todo ≡ s.graph.names →
-      Ends (growing done [] lines) n (map category_text todo ++ (map (edge_text s.graph) s.graph.edges ++ map (constraint_text s.graph) s.constraints)) s
+      Ends (growing done [] lines) n
+      (map category_text todo ++ (map (edge_text s.graph) s.graph.edges ++ map
+      (constraint_text s.graph) s.constraints)) s
   categories_back t [] done n lines e =
-      ap (λ names. text_ended (lines_on (Ok (growing names [] lines)) n (map (edge_text s.graph) s.graph.edges ++ map (constraint_text s.graph) s.constraints))) (sym (append-nil done) ∙ e)
+      ap (λ names. text_ended (lines_on (Ok (growing names [] lines)) n
+      (map (edge_text s.graph) s.graph.edges ++ map (constraint_text s.graph) s.constraints)))
+      (sym (append-nil done) ∙ e)
       ∙ edges_back t s.graph.edges [] n lines refl
   categories_back t (name ∷ todo) done n lines e =
       let there : Contains s.graph.names name = rw e at (stands done name todo) in
@@ -102,8 +120,12 @@ module _ (s : Schema) (v : IsValidSchema s) where
       let read : tokens_read above (n + 1) (Some (token.Word (codes "category") ∷ token.Word name ∷ [])) ≡ Ok below =
       ap (statement_read above (n + 1)) (category_says name ((is_category_name_is name).1 is))
       ∙ add_category s v (n + 1) done name todo lines e in
-      ap text_ended (goes_on above below n (category_text name) _ (map category_text todo ++ (map (edge_text s.graph) s.graph.edges ++ map (constraint_text s.graph) s.constraints)) (category_plain name is) (category_speaks name) (category_tokens name is) read)
-      ∙ categories_back t todo (done ++ name ∷ []) (n + 1) (lines ++ (n + 1) ∷ []) (append_assoc done (name ∷ []) todo ∙ e)
+      ap text_ended (goes_on above below n (category_text name) _
+      (map category_text todo ++ (map (edge_text s.graph) s.graph.edges ++ map
+      (constraint_text s.graph) s.constraints)) (category_plain name is) (category_speaks name)
+      (category_tokens name is) read)
+      ∙ categories_back t todo (done ++ name ∷ []) (n + 1) (lines ++ (n + 1) ∷ [])
+      (append_assoc done (name ∷ []) todo ∙ e)
 
   -- ---- all lines are plain
 
@@ -114,8 +136,10 @@ module _ (s : Schema) (v : IsValidSchema s) where
   plain_names : (names : List (List ℕ)) → ((name : List ℕ) → Contains names name → IsCategoryName name)
       → ArePlain (map category_text names)
   plain_names [] f = tt
-  plain_names (name ∷ names) f =
-      (category_plain name (f name (0, omega arith, refl)), plain_names names (λ x c. f x (contains_cons x names name c)))
+  plain_names (name ∷ names) f = (
+    category_plain name (f name (0, omega arith, refl)),
+    plain_names names (λ x c. f x (contains_cons x names name c)),
+  )
 
   plain_edges : (edges : List Edge)
       → ((e : Edge) → Contains edges e → IsCategory s.graph e.child × IsCategory s.graph e.parent)
@@ -130,14 +154,16 @@ module _ (s : Schema) (v : IsValidSchema s) where
   plain_constraints [] f t = tt
   plain_constraints (c ∷ cs) f t =
       let there = f c (0, omega arith, refl) in (
-        constraint_plain s.graph v.hierarchy c (v.roots c there).1 (v.formulas c there) (left_texts (equalities c.formula) (atoms_in cs) t),
+        constraint_plain s.graph v.hierarchy c (v.roots c there).1 (v.formulas c there)
+            (left_texts (equalities c.formula) (atoms_in cs) t),
         plain_constraints cs (λ x k. f x (contains_cons x cs c k)) (right_texts (equalities c.formula) (atoms_in cs) t),
       )
 
   plain_lines : AreTexts (atoms_in s.constraints) → ArePlain (schema_lines s)
   plain_lines t = (
     version_plain,
-    plain_after (map category_text s.graph.names) (map (edge_text s.graph) s.graph.edges ++ map (constraint_text s.graph) s.constraints)
+    plain_after (map category_text s.graph.names)
+        (map (edge_text s.graph) s.graph.edges ++ map (constraint_text s.graph) s.constraints)
         (plain_names s.graph.names (λ name c. (v.hierarchy.names name c).0))
         (plain_after (map (edge_text s.graph) s.graph.edges) (map (constraint_text s.graph) s.constraints)
         (plain_edges s.graph.edges (λ e c. v.hierarchy.categories e.child e.parent c))
@@ -146,15 +172,20 @@ module _ (s : Schema) (v : IsValidSchema s) where
 
   lines_back : AreTexts (atoms_in s.constraints) → Ends nothing_above 0 (schema_lines s) s
   lines_back t =
-      let first : tokens_read nothing_above 1 (Some (token.Word (codes "schema") ∷ token.Word (codes "1") ∷ [])) ≡ Ok (growing [] [] []) = rw version_says refl in
-      ap text_ended (goes_on nothing_above (growing [] [] []) 0 version_text _ (map category_text s.graph.names ++ (map (edge_text s.graph) s.graph.edges ++ map (constraint_text s.graph) s.constraints)) version_plain version_speaks version_tokens first)
+      let first : tokens_read nothing_above 1 (Some (token.Word (codes "schema") ∷ token.Word (codes "1") ∷ [])) ≡ Ok
+      (growing [] [] []) = rw version_says refl in
+      ap text_ended (goes_on nothing_above (growing [] [] []) 0 version_text _
+      (map category_text s.graph.names
+      ++ (map (edge_text s.graph) s.graph.edges ++ map (constraint_text s.graph) s.constraints)) version_plain
+      version_speaks version_tokens first)
       ∙ categories_back t s.graph.names [] 1 [] refl
 
 -- the canonical text of a schema stands for it
 pub printed_is_read : PrintedIsRead
 unfolding schema_read
 printed_is_read s r =
-    ap (λ ls. text_ended (lines_on (Ok nothing_above) 0 ls)) (lines_are (schema_lines s) (plain_lines s r.valid r.texts))
+    ap (λ ls. text_ended (lines_on (Ok nothing_above) 0 ls))
+    (lines_are (schema_lines s) (plain_lines s r.valid r.texts))
     ∙ lines_back s r.valid r.texts
 
 -- what is printed is read back

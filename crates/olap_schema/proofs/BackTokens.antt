@@ -82,13 +82,15 @@ module _ (g : Graph) (r : ℕ) where
     list_nodes : (fs : Terms) → token_nodes (spelt_list g r fs) ≡ node_count_of_terms fs
     list_nodes Meaning.Terms.End = refl
     list_nodes (Meaning.Terms.More f fs) =
-        part_nodes (spelt g r f) (spelt_rest g r fs) (node_count f) (node_count_of_terms fs) (nodes_are f) (rest_nodes fs)
+        part_nodes (spelt g r f) (spelt_rest g r fs) (node_count f) (node_count_of_terms fs) (nodes_are f)
+        (rest_nodes fs)
 
     rest_nodes : (fs : Terms) → token_nodes (spelt_rest g r fs) ≡ node_count_of_terms fs
     rest_nodes Meaning.Terms.End = refl
     rest_nodes (Meaning.Terms.More f fs) =
         other_token token.Comma (spelt g r f ++ spelt_rest g r fs) refl
-        ∙ part_nodes (spelt g r f) (spelt_rest g r fs) (node_count f) (node_count_of_terms fs) (nodes_are f) (rest_nodes fs)
+        ∙ part_nodes (spelt g r f) (spelt_rest g r fs) (node_count f) (node_count_of_terms fs) (nodes_are f)
+        (rest_nodes fs)
 
 -- ---- brackets
 
@@ -112,7 +114,8 @@ shifted o c (token.Joint j ∷ ts) = shifted o c ts
 abbrev pub Balances : ℕ → List Token → Type 0
 Balances d ts = (o c : ℕ) (us : List Token) → o + d ≤ c + most_depth → opens_over o c (ts ++ us) ≡ opens_over o c us
 
-opened : (o c : ℕ) (ts : List Token) → o + 1 ≤ c + most_depth → opens_over o c (token.Open ∷ ts) ≡ opens_over (o + 1) c ts
+opened : (o c : ℕ) (ts : List Token) → o + 1 ≤ c + most_depth
+    → opens_over o c (token.Open ∷ ts) ≡ opens_over (o + 1) c ts
 unfolding opens_over
 opened o c ts l = let n : nat_lt (c + most_depth) (o + 1) ≡ false = grind (arith) in rw n refl
 
@@ -164,7 +167,8 @@ module _ (g : Graph) (r : ℕ) where
     balances (Meaning.Formula.Or f h) o c us b =
         both_balance joint.Or (depth_of f) (depth_of h) (spelt g r f) (spelt g r h) (balances f) (balances h) o c us b
     balances (Meaning.Formula.Implies f h) o c us b =
-        both_balance joint.Implies (depth_of f) (depth_of h) (spelt g r f) (spelt g r h) (balances f) (balances h) o c us b
+        both_balance joint.Implies (depth_of f) (depth_of h) (spelt g r f) (spelt g r h) (balances f)
+        (balances h) o c us b
     balances (Meaning.Formula.Iff f h) o c us b =
         both_balance joint.Iff (depth_of f) (depth_of h) (spelt g r f) (spelt g r h) (balances f) (balances h) o c us b
     balances (Meaning.Formula.Xor f h) o c us b =
@@ -177,7 +181,8 @@ module _ (g : Graph) (r : ℕ) where
     list_balances : (fs : Terms) → Balances (depth_of_terms fs) (spelt_list g r fs)
     list_balances Meaning.Terms.End o c us b = refl
     list_balances (Meaning.Terms.More f fs) o c us b =
-        simp append_assoc (balances f o c (spelt_rest g r fs ++ us) (omega arith) ∙ rest_balances fs o c us (omega arith))
+        simp append_assoc (balances f o c (spelt_rest g r fs ++ us) (omega arith)
+        ∙ rest_balances fs o c us (omega arith))
 
     rest_balances : (fs : Terms) → Balances (depth_of_terms fs) (spelt_rest g r fs)
     rest_balances Meaning.Terms.End o c us b = refl

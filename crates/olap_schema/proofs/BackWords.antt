@@ -53,15 +53,18 @@ module _ (g : Graph) (h : IsHierarchy g) where
   -- a name has no `_` and no `.`
   pub no_95 : (c : ℕ) → IsCategory g c → All (λ b. (b == 95) ≡ false) (name_of_category g c)
   no_95 c l =
-      All-weaker IsLetterOrDigit (λ b. (b == 95) ≡ false) no_underscore (name_of_category g c) (letters (name_of_category g c) (name_is g h c l))
+      All-weaker IsLetterOrDigit (λ b. (b == 95) ≡ false) no_underscore (name_of_category g c)
+      (letters (name_of_category g c) (name_is g h c l))
 
   pub no_46 : (c : ℕ) → IsCategory g c → All (λ b. (b == 46) ≡ false) (name_of_category g c)
   no_46 c l =
-      All-weaker IsLetterOrDigit (λ b. (b == 46) ≡ false) (no_mark 46 (lit≤ tt)) (name_of_category g c) (letters (name_of_category g c) (name_is g h c l))
+      All-weaker IsLetterOrDigit (λ b. (b == 46) ≡ false) (no_mark 46 (lit≤ tt)) (name_of_category g c)
+      (letters (name_of_category g c) (name_is g h c l))
 
   pieces_after : (m : ℕ) → ((c : ℕ) → IsCategory g c → All (λ b. (b == m) ≡ false) (name_of_category g c))
       → (x : List ℕ) (cs : List ℕ)
-      → All (λ b. (b == m) ≡ false) x → AreCategories g cs → pieces_of m (x ++ names_after g m cs) ≡ x ∷ map (name_of_category g) cs
+      → All (λ b. (b == m) ≡ false) x → AreCategories g cs
+      → pieces_of m (x ++ names_after g m cs) ≡ x ∷ map (name_of_category g) cs
   unfolding pieces_of names_after
   pieces_after m k x [] a v = rw (append-nil x) (slice_split_none (λ b. b == m) x a)
   pieces_after m k x (c ∷ cs) a v =
@@ -81,7 +84,8 @@ module _ (g : Graph) (h : IsHierarchy g) where
   unfolding names_after
   after_no_95 [] v = λ k d b. absurd (omega (arith, b))
   after_no_95 (c ∷ cs) v = All-cons (λ b. (b == 95) ≡ false) 46 (name_of_category g c ++ names_after g 46 cs) refl
-      (All-append (λ b. (b == 95) ≡ false) (name_of_category g c) (names_after g 46 cs) (no_95 c v.0) (after_no_95 cs v.1))
+      (All-append (λ b. (b == 95) ≡ false) (name_of_category g c) (names_after g 46 cs) (no_95 c v.0)
+      (after_no_95 cs v.1))
 
   -- a word with `.` is one piece at `_`
   pub reach_whole : (r : ℕ) (cs : List ℕ) → IsCategory g r → AreCategories g cs
@@ -121,8 +125,10 @@ module _ (g : Graph) (h : IsHierarchy g) where
       go w p =
           let t = other_word 95 w (codes "true") _ _ _ p true_at_95 in
           let f = other_word 95 w (codes "false") _ _ _ p false_at_95 in
-          let two : nat_lt 1 (length (name_of_category g r ∷ map (name_of_category g) (c ∷ cs))) ≡ true = grind (arith) in
-          let all : list_all is_category_name (name_of_category g r ∷ map (name_of_category g) (c ∷ cs)) ≡ true = all_names (r ∷ c ∷ cs) (l, v) in
+          let two : nat_lt 1 (length (name_of_category g r ∷ map (name_of_category g) (c ∷ cs))) ≡ true =
+          grind (arith) in
+          let all : list_all is_category_name (name_of_category g r ∷ map (name_of_category g) (c ∷ cs)) ≡ true =
+          all_names (r ∷ c ∷ cs) (l, v) in
           rw (t, f, p, two, all) (ap (λ ids. Some (Meaning.Formula.Path ids)) (ids_are (c ∷ cs) v))
 
   pub reach_means : (r d : ℕ) → IsCategory g r → IsCategory g d
@@ -136,21 +142,25 @@ module _ (g : Graph) (h : IsHierarchy g) where
       go w p q =
           let t = other_word 46 w (codes "true") _ _ _ p true_at_46 in
           let f = other_word 46 w (codes "false") _ _ _ p false_at_46 in
-          let all : list_all is_category_name (name_of_category g r ∷ name_of_category g d ∷ []) ≡ true = all_names (r ∷ d ∷ []) (l, (k, tt)) in
+          let all : list_all is_category_name (name_of_category g r ∷ name_of_category g d ∷ []) ≡ true =
+          all_names (r ∷ d ∷ []) (l, (k, tt)) in
           rw (t, f, q, p, all, id_is d k) refl
 
   pub via_means : (r d e : ℕ) → IsCategory g r → IsCategory g d → IsCategory g e
       → plain_of g (atom_word g r 46 (d ∷ e ∷ [])) ≡ Some (Meaning.Formula.Via d e)
   unfolding plain_of
   via_means r d e l k m =
-      go (atom_word g r 46 (d ∷ e ∷ [])) (reach_pieces r (d ∷ e ∷ []) l (k, (m, tt))) (reach_whole r (d ∷ e ∷ []) l (k, (m, tt)))
+      go (atom_word g r 46 (d ∷ e ∷ [])) (reach_pieces r (d ∷ e ∷ []) l (k, (m, tt)))
+      (reach_whole r (d ∷ e ∷ []) l (k, (m, tt)))
     where
       go : (w : List ℕ) → pieces_of 46 w ≡ name_of_category g r ∷ name_of_category g d ∷ name_of_category g e ∷ []
           → pieces_of 95 w ≡ w ∷ [] → plain_of g w ≡ Some (Meaning.Formula.Via d e)
       go w p q =
           let t = other_word 46 w (codes "true") _ _ _ p true_at_46 in
           let f = other_word 46 w (codes "false") _ _ _ p false_at_46 in
-          let all : list_all is_category_name (name_of_category g r ∷ name_of_category g d ∷ name_of_category g e ∷ []) ≡ true = all_names (r ∷ d ∷ e ∷ []) (l, (k, (m, tt))) in
+          let all : list_all is_category_name
+          (name_of_category g r ∷ name_of_category g d ∷ name_of_category g e ∷ []) ≡ true =
+          all_names (r ∷ d ∷ e ∷ []) (l, (k, (m, tt))) in
           rw (t, f, q, p, all, id_is d k, id_is e m) refl
 
   pub equals_means : (r d : ℕ) (k : List ℕ) → IsCategory g r → IsCategory g d
@@ -159,6 +169,7 @@ module _ (g : Graph) (h : IsHierarchy g) where
   equals_means r d k l m = go (d == r) refl
     where
       go : (b : Bool) → d == r ≡ b
-          → equal_of g k (pieces_of 46 (cond b (name_of_category g r) (atom_word g r 46 (d ∷ [])))) ≡ Some (Meaning.Formula.Equals d k)
+          → equal_of g k (pieces_of 46 (cond b (name_of_category g r) (atom_word g r 46 (d ∷ [])))) ≡ Some
+          (Meaning.Formula.Equals d k)
       go true e = let s : d ≡ r = eqb-true d r e in rw (name_whole 46 r (no_46 r l), is_name g h r l, id_is r l, s) refl
       go false e = rw (reach_pieces r (d ∷ []) l (m, tt), is_name g h r l, is_name g h d m, id_is d m) refl

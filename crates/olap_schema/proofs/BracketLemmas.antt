@@ -42,11 +42,25 @@ found o c (token.Open ∷ ts) h = go (nat_lt (c + most_depth) (o + 1)) refl h (�
         → (opens_over (o + 1) c ts ≡ true → OpensFrom (o + 1) c ts) → OpensFrom o c (token.Open ∷ ts)
     go true e q later = (1, let l = ltb-true (c + most_depth) (o + 1) e in omega (arith, l))
     go false e q later =
-        let f = later q in
-        (suc f.0, omega (arith, one_more is_open token.Open (take f.0 ts), one_more is_close token.Open (take f.0 ts), f.1))
+        let f = later q in (
+          suc f.0,
+          omega (
+            arith,
+            one_more is_open token.Open (take f.0 ts),
+            one_more is_close token.Open (take f.0 ts),
+            f.1,
+          ),
+        )
 found o c (token.Close ∷ ts) h =
-    let f = found o (c + 1) ts h in
-    (suc f.0, omega (arith, one_more is_open token.Close (take f.0 ts), one_more is_close token.Close (take f.0 ts), f.1))
+    let f = found o (c + 1) ts h in (
+      suc f.0,
+      omega (
+        arith,
+        one_more is_open token.Close (take f.0 ts),
+        one_more is_close token.Close (take f.0 ts),
+        f.1,
+      ),
+    )
 found o c (token.Word w ∷ ts) h = passed o c (token.Word w) ts refl refl (found o c ts h)
 found o c (token.Quoted k ∷ ts) h = passed o c (token.Quoted k) ts refl refl (found o c ts h)
 found o c (token.Comma ∷ ts) h = passed o c token.Comma ts refl refl (found o c ts h)

@@ -67,11 +67,13 @@ chosen : (a b c d e : Bool) (v x y z o : Statement) → a ≡ false → b ≡ fa
 chosen a b c d e v x y z o p q r s = rw (p, q, r, s) refl
 
 long_statement : (ts : List Token) → 4 ≤ length ts
-    → statement_of ts ≡ cond (is_constraint ts) (says.Statement.Constraint (word_at ts 1) (drop 3 ts)) says.Statement.Other
+    → statement_of ts ≡ cond (is_constraint ts) (says.Statement.Constraint (word_at ts 1) (drop 3 ts))
+    says.Statement.Other
 unfolding statement_of
 long_statement ts l =
     let three : nat_le 3 (length ts) ≡ true = le-leb 3 (length ts) (omega (arith, l)) in
-    chosen (is_version ts) (is_category ts) (is_edge ts) _ (is_constraint ts) _ _ _ _ _ (no_version ts l) (no_category ts l)
+    chosen (is_version ts) (is_category ts) (is_edge ts) _ (is_constraint ts) _ _ _ _ _ (no_version ts l)
+    (no_category ts l)
     (no_edge ts l) (rw three refl)
 
 -- ---- constraints

@@ -19,7 +19,8 @@ use Rattle.olap_ast.specs.Formula.{Equality}
 use Rattle.olap_ast.specs.Valid.{distinct_pairs, is_same_pair, with_pair}
 
 same_pairs : IsEquivalence is_same_pair
-same_pairs = and_equiv (on_equiv (λ (a : Equality). a.category) nat_eq_equiv) (on_texts_equal (λ (a : Equality). a.text))
+same_pairs = and_equiv (on_equiv (λ (a : Equality). a.category) nat_eq_equiv)
+    (on_texts_equal (λ (a : Equality). a.text))
 
 same_is : (a b : Equality) → is_same_pair a b ≡ true → a ≡ b
 same_is a b e =
@@ -53,7 +54,8 @@ has-with_pair pairs a q = go (has pairs a) (is_same_pair q a) refl refl
         let t : has pairs q ≡ true = list_any_congr same_pairs q a pairs f ∙ e in
         rw t refl
     go true false e f = sym (or_false (has pairs q))
-    go false c e f = list_any-append (is_same_pair q) pairs (a ∷ []) ∙ ap (λ x. has pairs q || x) (or_false (is_same_pair q a) ∙ f)
+    go false c e f = list_any-append (is_same_pair q) pairs (a ∷ [])
+        ∙ ap (λ x. has pairs q || x) (or_false (is_same_pair q a) ∙ f)
 
 distinct-fold : (atoms pairs : List Equality) → IsDistinct is_same_pair pairs
     → IsDistinct is_same_pair (fold with_pair pairs atoms)

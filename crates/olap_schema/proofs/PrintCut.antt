@@ -57,8 +57,12 @@ module _ (g : Graph) (h : IsHierarchy g) where
       → AreWordBytes (names_after g m cs)
   unfolding names_after
   after_are_word m e [] k = tt
-  after_are_word m e (c ∷ cs) k =
-      (e, words_append (name_of_category g c) (names_after g m cs) (letters_are_word (name_of_category g c) (letters (name_of_category g c) (name_is g h c k.0))) (after_are_word m e cs k.1))
+  after_are_word m e (c ∷ cs) k = (
+    e,
+    words_append (name_of_category g c) (names_after g m cs)
+        (letters_are_word (name_of_category g c) (letters (name_of_category g c) (name_is g h c k.0)))
+        (after_are_word m e cs k.1),
+  )
 
   pub atom_is_word : (r m : ℕ) → is_word_byte m ≡ true → (cs : List ℕ) → IsCategory g r → AreCategories g cs
       → IsWord (atom_word g r m cs)
@@ -104,7 +108,8 @@ Cuts text ts = (bs : List ℕ) (us : List Token) → EndsWord bs → IsCut bs us
 joined_cut : (j : Joint) (x y : List ℕ) (l r : List Token) → Cuts x l → Cuts y r
     → Cuts (joined_text j x y) (joined_tokens j l r)
 joined_cut j x y l r c d bs us n e =
-    let inner = c (32 ∷ (joint_bytes j ++ 32 ∷ (y ++ 41 ∷ bs))) (token.Joint j ∷ (r ++ token.Close ∷ us)) refl (blank (mark (token.Joint j) tt (blank (d (41 ∷ bs) (token.Close ∷ us) refl (mark token.Close tt e))))) in
+    let inner = c (32 ∷ (joint_bytes j ++ 32 ∷ (y ++ 41 ∷ bs))) (token.Joint j ∷ (r ++ token.Close ∷ us)) refl
+    (blank (mark (token.Joint j) tt (blank (d (41 ∷ bs) (token.Close ∷ us) refl (mark token.Close tt e))))) in
     simp append_assoc (mark token.Open tt inner)
 
 rest_ends : (g : Graph) (r : ℕ) (fs : Terms) (bs : List ℕ) → EndsWord bs → EndsWord (rest_text g r fs ++ bs)
@@ -127,24 +132,33 @@ module _ (g : Graph) (h : IsHierarchy g) (r : ℕ) (l : IsCategory g r) where
         simp append_assoc (cut_word (compared_is_word g h r d l v.0) refl (cut_quoted k bs us e))
     text_is_cut (Meaning.Formula.Not f) v bs us n e = mark token.Not tt (text_is_cut f v bs us n e)
     text_is_cut (Meaning.Formula.And f k) v bs us n e =
-        joined_cut joint.And (formula_text g r f) (formula_text g r k) (spelt g r f) (spelt g r k) (text_is_cut f v.0) (text_is_cut k v.1) bs us n e
+        joined_cut joint.And (formula_text g r f) (formula_text g r k) (spelt g r f) (spelt g r k) (text_is_cut f v.0)
+        (text_is_cut k v.1) bs us n e
     text_is_cut (Meaning.Formula.Or f k) v bs us n e =
-        joined_cut joint.Or (formula_text g r f) (formula_text g r k) (spelt g r f) (spelt g r k) (text_is_cut f v.0) (text_is_cut k v.1) bs us n e
+        joined_cut joint.Or (formula_text g r f) (formula_text g r k) (spelt g r f) (spelt g r k) (text_is_cut f v.0)
+        (text_is_cut k v.1) bs us n e
     text_is_cut (Meaning.Formula.Implies f k) v bs us n e =
-        joined_cut joint.Implies (formula_text g r f) (formula_text g r k) (spelt g r f) (spelt g r k) (text_is_cut f v.0) (text_is_cut k v.1) bs us n e
+        joined_cut joint.Implies (formula_text g r f) (formula_text g r k) (spelt g r f) (spelt g r k)
+        (text_is_cut f v.0) (text_is_cut k v.1) bs us n e
     text_is_cut (Meaning.Formula.Iff f k) v bs us n e =
-        joined_cut joint.Iff (formula_text g r f) (formula_text g r k) (spelt g r f) (spelt g r k) (text_is_cut f v.0) (text_is_cut k v.1) bs us n e
+        joined_cut joint.Iff (formula_text g r f) (formula_text g r k) (spelt g r f) (spelt g r k) (text_is_cut f v.0)
+        (text_is_cut k v.1) bs us n e
     text_is_cut (Meaning.Formula.Xor f k) v bs us n e =
-        joined_cut joint.Xor (formula_text g r f) (formula_text g r k) (spelt g r f) (spelt g r k) (text_is_cut f v.0) (text_is_cut k v.1) bs us n e
+        joined_cut joint.Xor (formula_text g r f) (formula_text g r k) (spelt g r f) (spelt g r k) (text_is_cut f v.0)
+        (text_is_cut k v.1) bs us n e
     text_is_cut (Meaning.Formula.One fs) v bs us n e =
-        simp append_assoc (word 111 (110 ∷ 101 ∷ []) (refl, (refl, (refl, tt))) refl (mark token.Open tt (list_is_cut fs v (41 ∷ bs) (token.Close ∷ us) refl (mark token.Close tt e))))
+        simp append_assoc (word 111 (110 ∷ 101 ∷ []) (refl, (refl, (refl, tt))) refl
+        (mark token.Open tt (list_is_cut fs v (41 ∷ bs) (token.Close ∷ us) refl (mark token.Close tt e))))
 
     list_is_cut : (fs : Terms) → AreFormulasAt g r fs → Cuts (list_text g r fs) (spelt_list g r fs)
     list_is_cut Meaning.Terms.End v bs us n e = e
     list_is_cut (Meaning.Terms.More f fs) v bs us n e =
-        simp append_assoc (text_is_cut f v.0 (rest_text g r fs ++ bs) (spelt_rest g r fs ++ us) (rest_ends g r fs bs n) (rest_is_cut fs v.1 bs us n e))
+        simp append_assoc (text_is_cut f v.0 (rest_text g r fs ++ bs) (spelt_rest g r fs ++ us)
+        (rest_ends g r fs bs n) (rest_is_cut fs v.1 bs us n e))
 
     rest_is_cut : (fs : Terms) → AreFormulasAt g r fs → Cuts (rest_text g r fs) (spelt_rest g r fs)
     rest_is_cut Meaning.Terms.End v bs us n e = e
     rest_is_cut (Meaning.Terms.More f fs) v bs us n e =
-        simp append_assoc (mark token.Comma tt (blank (text_is_cut f v.0 (rest_text g r fs ++ bs) (spelt_rest g r fs ++ us) (rest_ends g r fs bs n) (rest_is_cut fs v.1 bs us n e))))
+        simp append_assoc (mark token.Comma tt
+        (blank (text_is_cut f v.0 (rest_text g r fs ++ bs) (spelt_rest g r fs ++ us) (rest_ends g r fs bs n)
+        (rest_is_cut fs v.1 bs us n e))))

@@ -19,8 +19,10 @@ use Rattle.olap_schema.proofs.PrintTokens.{joined_tokens, spelt, spelt_rest}
 spelt_join : (a : Atoms Formula) (j : Joint) (l r : List Token) (f g : Formula) → IsFormula a 6 l f
     → IsFormula a 6 r g → IsFormula a 6 (joined_tokens j l r) (join j f g)
 spelt_join a j l r f g d e =
-    let both = joined j (tighter (left_level j) 6 (row j).left_most d) (tighter (right_level j) 6 (row j).right_most e) in
-    let e : (l ++ token.Joint j ∷ r) ++ token.Close ∷ [] ≡ l ++ token.Joint j ∷ (r ++ token.Close ∷ []) = simp append_assoc in
+    let both = joined j (tighter (left_level j) 6 (row j).left_most d)
+    (tighter (right_level j) 6 (row j).right_most e) in
+    let e : (l ++ token.Joint j ∷ r) ++ token.Close ∷ [] ≡ l ++ token.Joint j ∷ (r ++ token.Close ∷ []) =
+    simp append_assoc in
     looser (rw e at (bracketed (tighter 1 (level j) (row j).some both)))
 
 -- what follows a part of a list
@@ -55,21 +57,28 @@ module _ (g : Graph) (h : IsHierarchy g) (r : ℕ) (l : IsCategory g r) where
     spelt_is_formula (Meaning.Formula.Equals d k) v = looser (equal (equals_means g h r d k l v.0))
     spelt_is_formula (Meaning.Formula.Not f) v = negated (spelt_is_formula f v)
     spelt_is_formula (Meaning.Formula.And f k) v =
-        spelt_join (atoms_of g) joint.And (spelt g r f) (spelt g r k) f k (spelt_is_formula f v.0) (spelt_is_formula k v.1)
+        spelt_join (atoms_of g) joint.And (spelt g r f) (spelt g r k) f k (spelt_is_formula f v.0)
+        (spelt_is_formula k v.1)
     spelt_is_formula (Meaning.Formula.Or f k) v =
-        spelt_join (atoms_of g) joint.Or (spelt g r f) (spelt g r k) f k (spelt_is_formula f v.0) (spelt_is_formula k v.1)
+        spelt_join (atoms_of g) joint.Or (spelt g r f) (spelt g r k) f k (spelt_is_formula f v.0)
+        (spelt_is_formula k v.1)
     spelt_is_formula (Meaning.Formula.Implies f k) v =
-        spelt_join (atoms_of g) joint.Implies (spelt g r f) (spelt g r k) f k (spelt_is_formula f v.0) (spelt_is_formula k v.1)
+        spelt_join (atoms_of g) joint.Implies (spelt g r f) (spelt g r k) f k (spelt_is_formula f v.0)
+        (spelt_is_formula k v.1)
     spelt_is_formula (Meaning.Formula.Iff f k) v =
-        spelt_join (atoms_of g) joint.Iff (spelt g r f) (spelt g r k) f k (spelt_is_formula f v.0) (spelt_is_formula k v.1)
+        spelt_join (atoms_of g) joint.Iff (spelt g r f) (spelt g r k) f k (spelt_is_formula f v.0)
+        (spelt_is_formula k v.1)
     spelt_is_formula (Meaning.Formula.Xor f k) v =
-        spelt_join (atoms_of g) joint.Xor (spelt g r f) (spelt g r k) f k (spelt_is_formula f v.0) (spelt_is_formula k v.1)
+        spelt_join (atoms_of g) joint.Xor (spelt g r f) (spelt g r k) f k (spelt_is_formula f v.0)
+        (spelt_is_formula k v.1)
     spelt_is_formula (Meaning.Formula.One Meaning.Terms.End) v = looser (listed none)
     spelt_is_formula (Meaning.Formula.One (Meaning.Terms.More f fs)) v =
-        looser (listed (some (spelt_items (atoms_of g) (spelt g r f) (spelt_rest g r fs) f fs (spelt_is_formula f v.0) (spelt_rests fs v.1))))
+        looser (listed (some (spelt_items (atoms_of g) (spelt g r f) (spelt_rest g r fs) f fs (spelt_is_formula f v.0)
+        (spelt_rests fs v.1))))
 
     -- what follows the first part of a list: nothing, or a comma and the others
     spelt_rests : (fs : Terms) → AreFormulasAt g r fs → IsRest (atoms_of g) (spelt_rest g r fs) fs
     spelt_rests Meaning.Terms.End v = over
     spelt_rests (Meaning.Terms.More f fs) v =
-        goes (spelt_items (atoms_of g) (spelt g r f) (spelt_rest g r fs) f fs (spelt_is_formula f v.0) (spelt_rests fs v.1))
+        goes (spelt_items (atoms_of g) (spelt g r f) (spelt_rest g r fs) f fs (spelt_is_formula f v.0)
+        (spelt_rests fs v.1))

@@ -22,7 +22,8 @@ text_of_lines-append [] ys = refl
 text_of_lines-append (x ∷ xs) ys = rw (text_of_lines-append xs ys) (simp append_assoc)
 
 drop_first : {A : Type 0} (f : A → List ℕ) (xs : List A) (k : ℕ) (d : A) → k < length xs →
-    text_of_lines (map f (drop k xs)) ≡ ended_line (f (slice_index_or xs k d)) ++ text_of_lines (map f (drop (k + 1) xs))
+    text_of_lines (map f (drop k xs)) ≡ ended_line (f (slice_index_or xs k d)) ++ text_of_lines
+    (map f (drop (k + 1) xs))
 unfolding text_of_lines
 drop_first f [] k d l = absurd (omega arith)
 drop_first f (x ∷ xs) zero d l = simp append_assoc
@@ -43,7 +44,14 @@ pub all_lines : (s : Schema) (old first second third last : List ℕ) → first 
     last ≡ third ++ text_of_lines (map (constraint_text s.graph) s.constraints) → last ≡ old ++ schema_text s
 unfolding text_of_lines
 all_lines s old first second third last a b c d =
-    rw (d, c, b, a, text_of_lines-append (map category_text s.graph.names) _, text_of_lines-append (map (edge_text s.graph) s.graph.edges) _) (simp append_assoc)
+    rw (
+      d,
+      c,
+      b,
+      a,
+      text_of_lines-append (map category_text s.graph.names) _,
+      text_of_lines-append (map (edge_text s.graph) s.graph.edges) _,
+    ) (simp append_assoc)
 
 all_dropped : {A : Type 0} (xs : List A) (k : ℕ) → length xs ≤ k → drop k xs ≡ []
 all_dropped [] zero l = refl

@@ -27,7 +27,8 @@ all_is_name : IsCategoryName (codes "All")
 unfolding first_byte
 all_is_name = (
   inl (lit≤ tt, lit≤ tt),
-  All-from_recursion IsLetterOrDigit (108 ∷ 108 ∷ []) (inl (inr (lit≤ tt, lit≤ tt)), (inl (inr (lit≤ tt, lit≤ tt)), tt)),
+  All-from_recursion IsLetterOrDigit (108 ∷ 108 ∷ [])
+      (inl (inr (lit≤ tt, lit≤ tt)), (inl (inr (lit≤ tt, lit≤ tt)), tt)),
   not_reserved (codes "All") refl,
 )
 

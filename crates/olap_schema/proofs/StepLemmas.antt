@@ -83,7 +83,8 @@ last_true true true d h = h
 category_step : (a b : Above) (n : ℕ) (name : List ℕ) → category_read a n name ≡ Ok b → AddsCategory a b n name
 category_step a b n name h = go (category_refusal a.graph name) refl t.1
   where
-    t : (nat_lt most_text_bytes (length name) ≡ false) × (category_added a n name (category_refusal a.graph name) ≡ Ok b)
+    t : (nat_lt most_text_bytes (length name) ≡ false)
+        × (category_added a n name (category_refusal a.graph name) ≡ Ok b)
     t = passed_on _ _ _ _ h
 
     go : (o : Option CategoryRefusal) → category_refusal a.graph name ≡ o → category_added a n name o ≡ Ok b

@@ -95,10 +95,12 @@ module _ (s : Schema) (readable : IsReadable s) (root : ℕ) (declared : IsDecla
   where
     pub asked_is_question : (r : Result built.Formula FormulaRefusal)
         → ReadsFormula r (question_cut s root (tokens_of text)) → IfOk r (λ f. IsQuestion s root (formula_of f))
-    asked_is_question (Ok f) h = (cut_is_good s readable root declared text clean (formula_of f) (tokens_of text) refl h).0
+    asked_is_question (Ok f) h =
+        (cut_is_good s readable root declared text clean (formula_of f) (tokens_of text) refl h).0
     asked_is_question (Err e) h = tt
 
     pub asked_has_texts : (r : Result built.Formula FormulaRefusal)
         → ReadsFormula r (question_cut s root (tokens_of text)) → IfOk r (λ f. AreTexts (equalities (formula_of f)))
-    asked_has_texts (Ok f) h = (cut_is_good s readable root declared text clean (formula_of f) (tokens_of text) refl h).1
+    asked_has_texts (Ok f) h =
+        (cut_is_good s readable root declared text clean (formula_of f) (tokens_of text) refl h).1
     asked_has_texts (Err e) h = tt

@@ -182,7 +182,8 @@ formed g before ts f h =
     record { few = ltb-false most_nodes (before + token_nodes ts) many.0; formed = t.0; depth = t.1 }
   where
     shallow : (k : Formula) → the_formula (atoms_of g) ts ≡ Some k → (b : Bool) → nat_le (depth_of k) most_depth ≡ b
-        → form_answer (cond b (Ok k) (Err form.TooDeep)) ≡ Ok f → IsFormula (atoms_of g) 1 ts f × (depth_of f ≤ most_depth)
+        → form_answer (cond b (Ok k) (Err form.TooDeep)) ≡ Ok f → IsFormula (atoms_of g) 1 ts f
+        × (depth_of f ≤ most_depth)
     shallow k e true d q =
         subst (λ x. IsFormula (atoms_of g) 1 ts x × (depth_of x ≤ most_depth)) (sym (ok_is _ _ q))
         (found_is_formula (atoms_of g) ts k e, leb-true (depth_of k) most_depth d)

@@ -53,7 +53,8 @@ fewer_nodes f xs k d l =
     let parts = sum_by-append f (take k xs) (drop (suc k) xs) in
     let whole = sum_by-take-drop f xs k in
     let next : k + 1 ≡ suc k = omega arith in
-    let more = subst (λ n. sum_by f (drop k xs) ≡ f (get_or xs k d) + sum_by f (drop n xs)) next (sum_by-drop_more f xs k d l) in
+    let more = subst (λ n. sum_by f (drop k xs) ≡ f (get_or xs k d) + sum_by f (drop n xs)) next
+    (sum_by-drop_more f xs k d l) in
     omega arith
 
 pub without_is_readable : (s : Schema) (k : ℕ) → k < length s.constraints → IsReadable s → IsReadable (without s k)
@@ -87,7 +88,8 @@ without_is_readable s k l r =
       texts = λ a h. r.texts a (atoms_left s.constraints k a h);
     }
 
-pub same_readable : (g h : Graph) (cs ds : List Constraint) (k : ℕ) → IsReadable (record { graph = g; constraints = cs })
+pub same_readable : (g h : Graph) (cs ds : List Constraint) (k : ℕ)
+    → IsReadable (record { graph = g; constraints = cs })
     → h ≡ g → ds ≡ remove cs k → k < length cs → IsReadable (record { graph = h; constraints = ds })
 same_readable g h cs ds k r e q l =
     subst (λ x. IsReadable (record { graph = x; constraints = ds })) (sym e)

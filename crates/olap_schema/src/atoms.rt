@@ -61,8 +61,8 @@ fn is_path_known(known: &Known, path: Option<&[u8]>) -> bool
     true
 }
 
-/// Whether a name comes twice in a path. The names before the first that does are kept: of known names no more than there
-/// are categories.
+/// Whether a name comes twice in a path. The names before the first that does are kept: of known names no more than
+/// there are categories.
 fn is_path_repeated(alloc: Global, path: &[u8]) -> Result<bool, Memory>
     ensures { IfOk result (λ b. b ≡ is_repeated_of (pieces_of 95 path.now)) }
 {
@@ -81,7 +81,8 @@ fn is_path_repeated(alloc: Global, path: &[u8]) -> Result<bool, Memory>
 
 /// Whether an edge leads from one to the other.
 fn joins(known: &Known, child: &[u8], parent: &[u8]) -> bool
-    ensures { result ≡ has_edge (graph_seen known.now) (category_named (graph_seen known.now) child.now) (category_named (graph_seen known.now) parent.now) }
+    ensures { result ≡ has_edge (graph_seen known.now) (category_named (graph_seen known.now) child.now)
+        (category_named (graph_seen known.now) parent.now) }
 {
     match known.category(child) {
         Some(c) => match known.category(parent) {

@@ -1,8 +1,9 @@
 // What may be wrong with a schema text.
 ghost use Rattle.std.specs.Prelude.{◌≡◌};
+ghost use Rattle.olap_schema.specs.declared.kinds.FormulaRefusal.TheVariants as refusal;
 
 use olap_base::Memory;
-use std::alloc::{AllocError, AllocFailed};
+use std::alloc::AllocFailed;
 
 /// What is wrong with a line of a schema, or with a question's formula.
 #[derive(Clone, Copy, Debug, PartialEq, Eq)]
@@ -87,18 +88,7 @@ pub enum FormulaRefusal {
     Memory,
 }
 
-/// Why a schema text is refused.
-#[derive(Clone, Copy, Debug, PartialEq, Eq)]
-pub enum SchemaRefusal {
-    /// The first line with a fault, counted from 1, and what is wrong with it.
-    Fault { line: u64, kind: SchemaKind },
-    /// Want of memory.
-    Memory,
-}
-
 impl From<Memory> for FormulaRefusal {
-    ghost use Rattle.olap_schema.specs.declared.kinds.FormulaRefusal.TheVariants as refusal;
-
     ghost from_gives = { λ _ e. e ≡ refusal.Memory };
 
     fn from(_: Memory) -> Self {
@@ -106,22 +96,19 @@ impl From<Memory> for FormulaRefusal {
     }
 }
 
-impl From<AllocError> for FormulaRefusal {
-    ghost use Rattle.olap_schema.specs.declared.kinds.FormulaRefusal.TheVariants as refusal;
-
-    ghost from_gives = { λ _ e. e ≡ refusal.Memory };
-
-    fn from(_: AllocError) -> Self {
-        FormulaRefusal::Memory
-    }
-}
-
 impl<T: Drop> From<AllocFailed<T>> for FormulaRefusal {
-    ghost use Rattle.olap_schema.specs.declared.kinds.FormulaRefusal.TheVariants as refusal;
-
     ghost from_gives = { λ _ e. e ≡ refusal.Memory };
 
     fn from(_: AllocFailed<T>) -> Self {
         FormulaRefusal::Memory
     }
+}
+
+/// Why a schema text is refused.
+#[derive(Clone, Copy, Debug, PartialEq, Eq)]
+pub enum SchemaRefusal {
+    /// The first line with a fault, counted from 1, and what is wrong with it.
+    Fault { line: u64, kind: SchemaKind },
+    /// Want of memory.
+    Memory,
 }

@@ -50,7 +50,8 @@ fn add_pair(alloc: Global, pairs: &mut Vec<Pair>, d: CatId, text: &Text) -> Resu
 /// Adds the pairs of a formula that are new.
 #[cycle(pairs)]
 pub(crate) fn add_pairs(alloc: Global, pairs: &mut Vec<Pair>, f: &Formula) -> Result<(), Memory>
-    ensures { OnOk result (map pair_of pairs.new.items ≡ fold with_pair (map pair_of pairs.old.items) (equalities (formula_of f.now))) }
+    ensures { OnOk result (map pair_of pairs.new.items ≡ fold with_pair (map pair_of pairs.old.items)
+        (equalities (formula_of f.now))) }
 {
     match f {
         Formula::True | Formula::False => Ok(()),

@@ -186,7 +186,8 @@ fn push_rest(out: &mut Vec<u8>, graph: &Graph, root: CatId, terms: &Terms) -> Re
 
 /// The line of a category.
 fn push_category(out: &mut Vec<u8>, graph: &Graph, c: CatId) -> Result<(), AllocError>
-    ensures { OnOk result (out.new.items ≡ out.old.items ++ ended_line (category_text (name_of_category graph.now c.0))) }
+    ensures { OnOk result (out.new.items ≡ out.old.items ++ ended_line
+        (category_text (name_of_category graph.now c.0))) }
 {
     out.extend_from_slice(b"category ")?;
     out.extend_from_slice(name(graph, c))?;

@@ -91,7 +91,8 @@ fn read_category(
 fn add_edge(reading: &mut Reading, c: CatId, d: CatId) -> Result<(), FormulaRefusal>
     requires child { IsCategory (above_of reading.old).graph c.0 }
     requires parent { IsCategory (above_of reading.old).graph d.0 }
-    ensures { Reads result (above_of reading.new) (edge_added (above_of reading.old) c.0 d.0 (edge_refusal (above_of reading.old).graph c.0 d.0)) }
+    ensures { Reads result (above_of reading.new)
+        (edge_added (above_of reading.old) c.0 d.0 (edge_refusal (above_of reading.old).graph c.0 d.0)) }
 {
     match reading.builder.add_edge(c, d) {
         Ok(_) => Ok(()),

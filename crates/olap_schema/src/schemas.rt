@@ -56,8 +56,8 @@ impl Schema {
         &self.graph
     }
 
-    /// Its constraints, in declaration order: at most `MOST_CONSTRAINTS`. Each schema is valid, and its constants are UTF-8 without
-    /// control characters.
+    /// Its constraints, in declaration order: at most `MOST_CONSTRAINTS`. Each schema is valid, and its constants are
+    /// UTF-8 without control characters.
     pub fn constraints(&self) -> &[Constraint]
         ensures list { map constraint_of result.now ≡ (schema_of self.now).constraints }
         ensures few { length result.now ≤ most_constraints }
@@ -144,7 +144,8 @@ fn line_of(lines: &[u64], c: u16) -> u64
 /// Linear in the text; no call is nested deeper than a formula may be, whatever the text is.
 #[tactic(auto, unfolding(crate::specs::Judging::schema_read))]
 pub fn read_schema(alloc: Global, text: &[u8]) -> Result<Schema, SchemaRefusal>
-    ensures { MatchResult result (λ s. schema_read text.now ≡ Ok (schema_of s)) (λ e. IsRefusedBy e (schema_read text.now)) }
+    ensures { MatchResult result (λ s. schema_read text.now ≡ Ok (schema_of s))
+        (λ e. IsRefusedBy e (schema_read text.now)) }
 {
     match begin(alloc) {
         Ok(started) => read_from(alloc, started, text),

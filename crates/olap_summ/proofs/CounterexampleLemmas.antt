@@ -39,8 +39,10 @@ pub vias_more : (c : ℕ) (sources : List CatId) (k n : ℕ) (d : CatId) → k +
     → vias c (drop k (numbers_of sources)) ≡ More (Via (get_or sources k d).0 c) (vias c (drop n (numbers_of sources)))
 vias_more c sources k n d e h =
     ap (vias c) (drop-cons (numbers_of sources) k 0 (let l = length-map sources (λ (x : CatId). x.0) in omega arith))
-    ∙ ap (λ m. More (Via m c) (vias c (drop (suc k) (numbers_of sources)))) (get_or-map (λ (x : CatId). x.0) sources k d 0 h)
-    ∙ ap (λ m. More (Via (get_or sources k d).0 c) (vias c (drop m (numbers_of sources)))) (let z : suc k ≡ n = omega arith in z)
+    ∙ ap (λ m. More (Via m c) (vias c (drop (suc k) (numbers_of sources))))
+    (get_or-map (λ (x : CatId). x.0) sources k d 0 h)
+    ∙ ap (λ m. More (Via (get_or sources k d).0 c) (vias c (drop m (numbers_of sources))))
+    (let z : suc k ≡ n = omega arith in z)
 
 pub number_at : (sources : List CatId) (i : ℕ) → i < length sources
     → slice_index (numbers_of sources) i ≡ (get_or sources i (record { 0 = 0 })).0

@@ -1,6 +1,7 @@
 -- The searches of a decision: as they are made, asked and given up.
 --     first_names, own_names      the names of the first search of a category, and of each; `place_within`
---     AreMadeBefore               the searches so far, as they are made; `none_made`, `one_made`, `none_to_make`, `all_made`
+--     AreMadeBefore               the searches so far, as they are made; `none_made`, `one_made`, `none_to_make`,
+-- `all_made`
 --     asked_at, asked_few         what is asked may be asked
 --     AreThose                    the searches after some were asked; `one_asked`
 --     all_asked, found_here       what the searches answered
@@ -115,7 +116,8 @@ pub one_made : (s : Schema) (q : Formula) (n : ℕ) (xs : List Asked) (a : Asked
 one_made s q n xs a m bottom e is = record {
   asked = All-push (IsAskedOf s q) xs a m.asked is;
   ordered = subst (AllPairs ◌<◌) (sym roots) (all_pairs_push ◌<◌ (roots_of xs) a.root.0 m.ordered (
-      λ k d h. let t : get_or (roots_of xs) k d < n = ((m.bottoms (get_or (roots_of xs) k d)).0 (Contains-get_or (roots_of xs) k d h)).1 in
+      λ k d h. let t : get_or (roots_of xs) k d < n =
+      ((m.bottoms (get_or (roots_of xs) k d)).0 (Contains-get_or (roots_of xs) k d h)).1 in
       omega (arith, t, e)
       ));
   bottoms = λ b. (
@@ -147,7 +149,8 @@ all_made s q n xs m e b = (
 
 pub asked_at : (s : Schema) (q : Questions) (b : ℕ) → AreQuestionsFor s q → IsFormulaAt s.graph b (asked_by q)
 asked_at s q b is =
-    subst (IsFormulaAt s.graph b) (sym is.asked) (question_at s.graph b (target_of q) (sources_of q) is.target is.sources)
+    subst (IsFormulaAt s.graph b) (sym is.asked)
+    (question_at s.graph b (target_of q) (sources_of q) is.target is.sources)
 
 pub asked_few : (s : Schema) (q : Questions) → IsValidSchema s → AreQuestionsFor s q
     → length (distinct_pairs (all_equalities s (asked_by q))) ≤ most_constants
@@ -167,7 +170,8 @@ pub none_asked : (s : Schema) (q : Formula) (xs : List Asked) → All (IsAskedOf
 none_asked s q xs h = record { asked = h; roots = refl; names = λ r. refl }
 
 names_kept : (xs : List Asked) (k : ℕ) (a d : Asked) → a.root.0 ≡ (get_or xs k d).root.0
-    → named_in a.search ≡ named_in (get_or xs k d).search → (r : ℕ) → names_among (slice_set xs k a) r ≡ names_among xs r
+    → named_in a.search ≡ named_in (get_or xs k d).search → (r : ℕ)
+    → names_among (slice_set xs k a) r ≡ names_among xs r
 names_kept [] k a d e n r = refl
 names_kept (x ∷ xs) zero a d e n r =
     ap (λ c. if (c == r) then named_in a.search else names_among xs r) e
@@ -282,7 +286,8 @@ pub found_here : (s : Schema) (q : Questions) (old : Decision) (xs new : List As
     → IsFirstFound s (asked_by q) (record { frozen = f; candidates = names_among new f.root.0 })
 found_here s q old xs new k d f is t h none l u = record {
   bottom = subst (IsBottom s.graph) (sym root) (place_has_bottom s q old k is inside);
-  least = subst (λ (m : Named). IsLeastFound s (asked_by q) f.root.0 (record { frozen = f; candidates = m })) (sym named)
+  least = subst (λ (m : Named). IsLeastFound s (asked_by q) f.root.0 (record { frozen = f; candidates = m }))
+      (sym named)
       (subst (λ r. IsLeastFound s (asked_by q) r (found_in (get_or xs k d).search f)) (sym l.root) l);
   first = λ b less. before_place s q old k is inside none b (subst (λ r. b < r) root less);
 }

@@ -64,7 +64,8 @@ implied_is s r q o e = none_as o (IsNowhere s (Not q) r) (IsImplied s r q) e
 pub no_more_constants : (s : Schema) (q : Formula) → IsValidSchema s → equalities q ≡ []
     → length (distinct_pairs (all_equalities s q)) ≤ most_constants
 no_more_constants s q v e =
-    subst (λ xs. length (distinct_pairs (flat_map (λ (c : Constraint). equalities c.formula) s.constraints ++ xs)) ≤ most_constants)
+    subst (λ xs. length (distinct_pairs (flat_map (λ (c : Constraint). equalities c.formula) s.constraints ++ xs))
+    ≤ most_constants)
     (sym e)
     (subst (λ xs. length (distinct_pairs xs) ≤ most_constants)
     (sym (append-nil (flat_map (λ (c : Constraint). equalities c.formula) s.constraints))) v.constants_fit)

@@ -15,5 +15,6 @@ numbers_of sources = map (λ c. c.0) sources
 
 -- it is the counterexample, with an entry for each edge and each category, and indexes of its names
 pub record IsCounterexampleFound (s : Schema) (c : ℕ) (sources : List ℕ) (found : Found) : Type 0 where
-  pub is_one : IsCounterexample s c sources (candidates_of found.candidates) found.frozen.root.0 (frozen_of found.frozen)
+  pub is_one : IsCounterexample s c sources (candidates_of found.candidates) found.frozen.root.0
+      (frozen_of found.frozen)
   pub sized : IsSized s.graph found.candidates found.frozen.edges found.frozen.names

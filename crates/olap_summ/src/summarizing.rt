@@ -22,8 +22,6 @@ pub enum SummRefusal {
 }
 
 impl From<Memory> for SummRefusal {
-    ghost use Rattle.olap_summ.specs.declared.summarizing.SummRefusal.TheVariants as refusal;
-
     ghost from_gives = { λ _ e. e ≡ refusal.Memory };
 
     fn from(_: Memory) -> Self {
@@ -32,8 +30,6 @@ impl From<Memory> for SummRefusal {
 }
 
 impl From<AllocError> for SummRefusal {
-    ghost use Rattle.olap_summ.specs.declared.summarizing.SummRefusal.TheVariants as refusal;
-
     ghost from_gives = { λ _ e. e ≡ refusal.Memory };
 
     fn from(_: AllocError) -> Self {

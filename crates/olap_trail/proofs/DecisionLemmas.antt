@@ -70,14 +70,16 @@ module _ (g : Graph) (root : ℕ) (ds : List Decision) (d : Decision) where
     edges_differ =
         subst (λ es. AllPairs ◌≢◌ es) (sym (map_push (λ (e : Decision). e.edge) ds d))
         (all_pairs_push ◌≢◌ (edges_of ds) d.edge a.edges_differ
-        (λ k x l e. none_status ds d.edge undecided (subst (λ y. Contains (edges_of ds) y) e (Contains-get_or (edges_of ds) k x l))));
+        (λ k x l e. none_status ds d.edge undecided
+        (subst (λ y. Contains (edges_of ds) y) e (Contains-get_or (edges_of ds) k x l))));
   }
 
   -- the last decision is on another edge than those before it
   pub last_new : AreDecisions whole → Contains (edges_of ds) d.edge → ⊥
   last_new a c =
       let n = length_push (edges_of ds) d.edge in
-      (subst (λ es. AllPairs ◌≢◌ es) (map_push (λ (e : Decision). e.edge) ds d) a.edges_differ) c.0 (length (edges_of ds))
+      (subst (λ es. AllPairs ◌≢◌ es) (map_push (λ (e : Decision). e.edge) ds d) a.edges_differ) c.0
+      (length (edges_of ds))
       d.edge c.1 (omega (arith, n))
       (get_or-append (edges_of ds) (d.edge ∷ []) d.edge c.0 c.1 ∙ c.2
       ∙ sym (get_or-append_seam (edges_of ds) d.edge [] d.edge))
@@ -145,7 +147,8 @@ module _ (g : Graph) (root : ℕ) (ds : List Decision) (d : Decision) where
       let l : f.edge < length g.edges =
       subst (λ (e : Decision). e.edge < length g.edges) k.2 (a.edges k.0 f k.1) in
       let same : f.edge ≡ d.edge =
-      Distinct-places g.edges (Distinct-from_AllPairs g.edges differ) f.edge d.edge (record { child = 0; parent = 0 }) l h
+      Distinct-places g.edges (Distinct-from_AllPairs g.edges differ) f.edge d.edge
+      (record { child = 0; parent = 0 }) l h
       t.2 in
       none_status ds d.edge undecided
       (subst (λ y. Contains (edges_of ds) y) same (Contains-map (λ (e : Decision). e.edge) ds f k))

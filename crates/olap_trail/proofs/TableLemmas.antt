@@ -120,7 +120,8 @@ module _ {W : ℕ} {room : ℕ} {es : List Edge} {place : ℕ} {rows parents : L
   pub next_read : (x i : ℕ) (r : CatSet W) → x < length parents → i ≡ x → r ≡ get_or parents i r
       → IsNext es x (members r)
   next_read x i r h e q =
-      subst (λ s. IsNext es x s) (sym (row_read parents i r (omega (arith, h, e)) q ∙ ap (row parents) e)) (t.parents x h)
+      subst (λ s. IsNext es x s) (sym (row_read parents i r (omega (arith, h, e)) q ∙ ap (row parents) e))
+      (t.parents x h)
 
   pub cycle_read : (i : ℕ) (b : Bool) → i ≡ length es → b ≡ get_or cycles i b → IsTrue b ↔ IsCyclic es
   cycle_read i b e q =
@@ -142,7 +143,8 @@ module _ {W : ℕ} {room : ℕ} {es : List Edge} {place : ℕ} {rows parents : L
       → AreCopied rows new_rows place (length parents) c through (length parents) → IsAbove es p through
       → members r ≡ insert (row parents c) p → (IsTrue closes ↔ IsCyclic (more es c p))
       → AreTables new_room (more es c p) new_place new_rows (set parents c r) (set cycles stage closes)
-  tables_push c p new_room new_place stage new_rows r closes through hc hp full new reserved at_end next copied above own cyclic =
+  tables_push c p new_room new_place stage new_rows r closes through hc hp full new reserved at_end next copied above
+      own cyclic =
       record {
         width = t.width;
         wide = let w = t.wide in omega (arith, w, count);

@@ -52,7 +52,8 @@ tables_none {W} room n stages x rows parents cycles width wide e some reserved o
       within = λ c d j. absurd (Contains-nil (record { child = c; parent = d }) j);
       differ = λ i j d l h. absurd (omega (arith, h));
       rows = λ k h c i d. (
-        λ m. absurd (not_in_empty d (subst (λ s. IsIn s d) (row_none x e (stages * n) (k * length (replicate n x) + c)) m)),
+        λ m. absurd (not_in_empty d
+            (subst (λ s. IsIn s d) (row_none x e (stages * n) (k * length (replicate n x) + c)) m)),
         λ w. absurd (no_climb (take k []) c d (take_all k [] (omega arith)) w),
       );
       parents = λ c i d. (

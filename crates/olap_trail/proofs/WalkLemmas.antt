@@ -31,10 +31,11 @@ module _ (es : List Edge) (c p : ℕ) where
   joins_new = Contains-push es (record { child = c; parent = p })
 
   pub joins_cases : (x y : ℕ) → Joins more x y → Joins es x y ⊎ ((x ≡ c) × (p ≡ y))
-  joins_cases x y h = elim (Contains-push_cases es (record { child = c; parent = p }) (record { child = x; parent = y }) h) [
-    | inl k ↦ inl k
-    | inr e ↦ inr (ap (λ (z : Edge). z.child) (sym e), ap (λ (z : Edge). z.parent) e)
-  ]
+  joins_cases x y h = elim (Contains-push_cases es (record { child = c; parent = p })
+      (record { child = x; parent = y }) h) [
+        | inl k ↦ inl k
+        | inr e ↦ inr (ap (λ (z : Edge). z.child) (sym e), ap (λ (z : Edge). z.parent) e)
+      ]
 
   steps_more : {x y : ℕ} → Steps (Joins es) x y → Steps (Joins more) x y
   steps_more here = here

@@ -175,7 +175,8 @@ back-from p n (suc k) (r ∷ rows) a o q = elim (eqb_tells r.member n) [
       taken (λ y. row_at y (summary_in (r ∷ rows) y)) n (p n) (filter p (range_with_len (n + 1) k)) r rows first
       (own-row r rows n t.0 t.1) (filter_map_same (λ y. row_at y (summary_in (r ∷ rows) y))
       (λ y. row_at y (summary_in rows y)) (filter p (range_with_len (n + 1) k))
-      (λ y c. let l = (Contains-from_range_at (n + 1) k y (Contains-from_filter p (range_with_len (n + 1) k) y c).0).0 in
+      (λ y c. let l = (Contains-from_range_at (n + 1) k y
+      (Contains-from_filter p (range_with_len (n + 1) k) y c).0).0 in
       let m = t.1 in
       let e : (r.member == y) ≡ false = grind (arith, nat_tests) in
       rw e refl) ∙ rest)

@@ -30,7 +30,8 @@ of_values (Some s) n k h q = of_values_more n k s h q
 -- what some facts come to at y
 pub total_is_of_values : (i : Instance) (facts : List Fact) (y : ℕ) → All (λ f. SFits w64 f.value) facts
     → IfSome (total_of_facts i facts y) (IsOfValues (length facts))
-total_is_of_values i facts y a = of_values (total_of_facts i facts y) (length (values_at i facts y)) (length facts) short
+total_is_of_values i facts y a =
+    of_values (total_of_facts i facts y) (length (values_at i facts y)) (length facts) short
     (total_of_value_list (values_at i facts y)
     (All-map (SFits w64) (λ (f : Fact). f.value) (filter (λ f. reaches i f.member y) facts)
     (All-filter (λ (f : Fact). reaches i f.member y) (λ (f : Fact). SFits w64 f.value) facts a)))

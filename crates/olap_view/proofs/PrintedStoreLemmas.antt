@@ -132,7 +132,8 @@ module _ (g : Graph) (i : Instance) (hierarchy : IsHierarchy g) (sound : IsInsta
       → list_any (λ d. d == c) (begun g before) ≡ false → length (begun g before) < most_views
       → fault before (first_of c) ≡ None
   beginning-passes before c k new room =
-      named-passes (category_named g (name_of_category g c)) c (beginning_fault g before) (named-category g hierarchy c k)
+      named-passes (category_named g (name_of_category g c)) c (beginning_fault g before)
+      (named-category g hierarchy c k)
       (let n : nat_le most_views (length (begun g before)) ≡ false = grind (arith, nat_tests) in rw (new, n) refl)
 
   row-passes : (before : List Record) (c : ℕ) (r : Row) → IsCategory g c → IsStored r → IsMemberOf i c r.member

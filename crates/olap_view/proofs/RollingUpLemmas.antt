@@ -15,11 +15,11 @@ use Rattle.olap_base.specs.Views.{Fact, View, direct_view}
 use Rattle.olap_records.specs.Faults.{first_fault}
 use Rattle.olap_facts.specs.FactReading.{FactReading, HandsOut, IsAtEnd, IsStopped, all_read, body_of, one_more, reading}
 use Rattle.olap_facts.specs.FactText.{body_read_within, fact_fault_within, fact_read, facts_read_within, has_header, or_read}
-use Rattle.olap_facts.specs.Refusals.{IsNextRefusedBy}
+use Rattle.olap_facts.specs.Refusals.{IsRefusedBy}
 use Rattle.olap_facts.specs.declared.kinds.FactKind.{FactKind}
 use Rattle.olap_facts.specs.declared.kinds.FactKind.TheVariants as kind
-use Rattle.olap_facts.specs.declared.kinds.NextRefusal.{NextRefusal}
-use Rattle.olap_facts.specs.declared.kinds.NextRefusal.TheVariants as refusal
+use Rattle.olap_facts.specs.declared.kinds.FactRefusal.{FactRefusal}
+use Rattle.olap_facts.specs.declared.kinds.FactRefusal.TheVariants as refusal
 use Rattle.olap_view.specs.RollingUp.{AreRolledUp}
 use Rattle.olap_view.specs.Tallies.{StandsFor, Tallied}
 
@@ -45,7 +45,8 @@ facts_are most g i records facts e = go (has_header records) e
     body (Some p) e = cc e
 
     go : (b : Bool)
-        → (if b then body_read_within most g i (drop 1 records) else Err (record { at = 1; kind = kind.BadHeader })) ≡ Ok
+        → (if b then body_read_within most g i (drop 1 records) else Err (record { at = 1; kind = kind.BadHeader }))
+        ≡ Ok
         facts
         → facts ≡ map (fact_read i) (body_of records)
     go true e = body (first_fault (fact_fault_within most g i) [] (drop 1 records)) e
@@ -70,7 +71,7 @@ ended r h =
     e ∙ ap (map (fact_read r.instance)) (sym (take_all r.handed rows n))
 
 -- why a reader stopped is told of the whole text
-pub refused_by : (r : FactReading) (e : NextRefusal) → IsStopped r e → IsNextRefusedBy e (all_read r)
+pub refused_by : (r : FactReading) (e : FactRefusal) → IsStopped r e → IsRefusedBy e (all_read r)
 refused_by r (refusal.Fault at kind) h = h.0
 refused_by r refusal.Memory h = h
 

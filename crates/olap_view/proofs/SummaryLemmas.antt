@@ -74,10 +74,12 @@ of_values_more n k s h q = record {
   greatest = q.greatest;
 }
 
-joined_of_values : (n : ℕ) (v : ℤ) (s : Summary) → SFits w64 v → IsOfValues n s → IsOfValues (suc n) (joined (of_value v) s)
+joined_of_values : (n : ℕ) (v : ℤ) (s : Summary) → SFits w64 v → IsOfValues n s
+    → IsOfValues (suc n) (joined (of_value v) s)
 joined_of_values n v s f q = record {
   some = omega arith;
-  up_to = up_to_more (1 + n) (2 ^ 63 + n * 2 ^ 63) (suc n) (suc n * 2 ^ 63) (joined (of_value v) s) (omega arith) (omega arith)
+  up_to = up_to_more (1 + n) (2 ^ 63 + n * 2 ^ 63) (suc n) (suc n * 2 ^ 63) (joined (of_value v) s) (omega arith)
+      (omega arith)
       (joined_up_to 1 (2 ^ 63) n (n * 2 ^ 63) (of_value v) s (value_up_to v f) q.up_to);
   least = either_fits (int_lt s.least v) s.least v q.least f;
   greatest = either_fits (int_lt s.greatest v) v s.greatest f q.greatest;

@@ -124,7 +124,11 @@ module _ (i : Instance) (c x : ℕ) (s : Summary) (before : Table) (p : HasPlace
   }
     where
       among : IsAmong i (categories_of before) y
-      among = record { member = a.is_member.0; category = subst (Contains (categories_of before)) (sym a.is_member.1) k }
+      among = record {
+        member = a.is_member.0;
+        category = subst (Contains (categories_of before))
+            (sym a.is_member.1) k;
+      }
 
       inside : place_in before y < length before.summaries.items
       inside = p.inside y among
@@ -142,11 +146,13 @@ module _ (i : Instance) (c x : ℕ) (s : Summary) (before : Table) (p : HasPlace
       there w n = rw get_or-set_other refl
 
       tested : (category_of i y == c && reaches i x y) ≡ true
-      tested = ap (λ b. b && reaches i x y) (test_true (category_of i y) c a.is_member.1) ∙ (reaches_is i x y).1 a.reached
+      tested = ap (λ b. b && reaches i x y) (test_true (category_of i y) c a.is_member.1)
+          ∙ (reaches_is i x y).1 a.reached
 
       at : (z : ℕ) → IsAmong i (categories_of before) z → Dec (z ≡ y)
           → summary_at after z ≡ summary_at before z ⊕ when (category_of i z == c && reaches i x z) s
-      at z m (yes q) = subst (λ w. summary_at after w ≡ summary_at before w ⊕ when (category_of i w == c && reaches i x w) s)
+      at z m (yes q) = subst (λ w. summary_at after w ≡ summary_at before w ⊕ when
+          (category_of i w == c && reaches i x w) s)
           (sym q) (seen y ∙ ap (option_map summary_of) here ∙ h ∙ ap (λ b. summary_at before y ⊕ when b s) (sym tested))
       at z m (no n) = seen z
           ∙ ap (option_map summary_of) (there (place_in before z) (λ q. n (p.apart z y m among q)))
@@ -201,7 +207,8 @@ module _ (i : Instance) (done : List ℕ) (c x : ℕ) (s : Summary) (before betw
       (none_before (category_of i y) done (λ k. new (subst (Contains done) e k)))
       ∙ ⊕_none (summary_at before y)
 
-  pub so_far_step : (after : Table) → AreJoinedIn i c x s between after → JoinedSoFar i (done ++ c ∷ []) x s before after
+  pub so_far_step : (after : Table) → AreJoinedIn i c x s between after
+      → JoinedSoFar i (done ++ c ∷ []) x s before after
   so_far_step after a = record {
     same_categories = a.same_categories ∙ j.same_categories;
     same_places = a.same_places ∙ j.same_places;
@@ -209,7 +216,8 @@ module _ (i : Instance) (done : List ℕ) (c x : ℕ) (s : Summary) (before betw
     at = λ y m. a.at y (record {
       member = m.member;
       category =
-          subst (λ l. Contains l (category_of i y)) (sym (ap (λ l. map (λ d. d.0) l.items) j.same_categories)) m.category;
+          subst (λ l. Contains l (category_of i y)) (sym (ap (λ l. map (λ d. d.0) l.items) j.same_categories))
+          m.category;
     })
         ∙ go y m (category_of i y == c) refl
         ∙ ap (λ b. summary_at before y ⊕ when (b && reaches i x y) s)
@@ -218,7 +226,8 @@ module _ (i : Instance) (done : List ℕ) (c x : ℕ) (s : Summary) (before betw
     where
       go : (y : ℕ) → IsAmong i (categories_of before) y → (b : Bool) → (category_of i y == c) ≡ b
           → summary_at between y ⊕ when (category_of i y == c && reaches i x y) s
-          ≡ summary_at before y ⊕ when ((list_any (λ d. category_of i y == d) done || list_any (λ d. category_of i y == d) (c ∷ []))
+          ≡ summary_at before y ⊕ when
+          ((list_any (λ d. category_of i y == d) done || list_any (λ d. category_of i y == d) (c ∷ []))
           && reaches i x y) s
       go y m true e =
           let q = eqb_is (category_of i y) c e in

@@ -104,7 +104,8 @@ tally_more i t u n f h v j q = record {
 pub tally_room : (i : Instance) (t : Table) (n : ℕ) → IsTally i t n → (c : ℕ) → Contains (categories_of t) c
     → HasRoom i c t
 tally_room i t n q c k y m e =
-    let among : IsAmong i (categories_of t) y = record { member = m; category = subst (Contains (categories_of t)) (sym e) k } in
+    let among : IsAmong i (categories_of t) y =
+    record { member = m; category = subst (Contains (categories_of t)) (sym e) k } in
     let s : summary_at t y ≡ total_of_facts i q.facts y = sym (tallied_is i t n y m) ∙ q.stands.at y among in
     subst (λ (o : Option Summary). IfSome o (IsUpTo (2 ^ 62) (2 ^ 120))) (sym s)
     (go (total_of_facts i q.facts y) (total_is_of_values i q.facts y q.values))

@@ -39,7 +39,8 @@ pub record IsAmong (i : Instance) (categories : List ℕ) (y : ℕ) : Type 0 whe
 pub record HasPlaces (i : Instance) (t : Table) : Type 0 where
   pub size : length t.places.items ≡ length i
   pub inside : (y : ℕ) → IsAmong i (categories_of t) y → place_in t y < length t.summaries.items
-  pub apart : (y z : ℕ) → IsAmong i (categories_of t) y → IsAmong i (categories_of t) z → place_in t y ≡ place_in t z → y ≡ z
+  pub apart : (y z : ℕ) → IsAmong i (categories_of t) y → IsAmong i (categories_of t) z → place_in t y ≡ place_in t z
+      → y ≡ z
 
 -- the summaries at members of c are small
 abbrev pub HasRoom : Instance → ℕ → Table → Type 0
@@ -70,7 +71,8 @@ pub record AreJoined (i : Instance) (x : ℕ) (s : Summary) (before after : Tabl
   pub same_categories : after.categories ≡ before.categories
   pub same_places : after.places ≡ before.places
   pub same_length : length after.summaries.items ≡ length before.summaries.items
-  pub at : (y : ℕ) → IsAmong i (categories_of before) y → summary_at after y ≡ summary_at before y ⊕ when (reaches i x y) s
+  pub at : (y : ℕ) → IsAmong i (categories_of before) y
+      → summary_at after y ≡ summary_at before y ⊕ when (reaches i x y) s
 
 -- the view of c with these summaries
 abbrev pub view_in : Instance → Table → ℕ → View

@@ -33,7 +33,12 @@ pub record StandsFor (t : Tallied) (facts : List Fact) : Type 0 where
 
 -- what a tally over a table has counted
 abbrev pub tallied : Instance → Table → ℕ → Tallied
-tallied i t n = record { instance = i; categories = categories_of t; added = n; summaries = map (summary_at t) (range_with_len 0 (length i)) }
+tallied i t n = record {
+  instance = i;
+  categories = categories_of t;
+  added = n;
+  summaries = map (summary_at t) (range_with_len 0 (length i));
+}
 
 -- it stands for some fact table whose values are of 64 bits
 pub record IsTally (i : Instance) (t : Table) (n : ℕ) : Type 0 where

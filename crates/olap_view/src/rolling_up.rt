@@ -2,7 +2,7 @@
 ghost use Rattle.std.specs.Prelude.{◌≡◌, ◌≢◌, ◌<◌, All, AllPairs, IfErr, IfOk, length};
 ghost use Rattle.olap_base.specs.Limits.{most_facts};
 ghost use Rattle.olap_facts.specs.FactText.{facts_read_within};
-ghost use Rattle.olap_facts.specs.Refusals.{IsNextRefusedBy};
+ghost use Rattle.olap_facts.specs.Refusals.{IsRefusedBy};
 ghost use Rattle.olap_instance.specs.Made.{IsMadeFor};
 ghost use Rattle.olap_records.specs.Records.{records_of};
 ghost use Rattle.olap_view.specs.RollingUp.{AreRolledUp};
@@ -12,7 +12,7 @@ ghost use Rattle.olap_view.specs.Stores.{Fits};
 use crate::{Tally, View};
 use olap_base::{CatId, List, MOST_FACTS};
 use olap_check::Legal;
-use olap_facts::{FactReader, NextRefusal};
+use olap_facts::{FactReader, FactRefusal};
 use olap_graph::Graph;
 use std::alloc::Global;
 
@@ -26,7 +26,7 @@ pub fn roll_up(
     legal: &Legal,
     text: &[u8],
     categories: &[CatId],
-) -> Result<List<View>, NextRefusal>
+) -> Result<List<View>, FactRefusal>
     requires made { IsMadeFor graph.now legal.now }
     requires differ { AllPairs ◌≢◌ (ids categories.now) }
 
@@ -36,7 +36,7 @@ pub fn roll_up(
     ensures fit { IfOk result (λ v. All Fits (each_view_of v)) }
 
     ensures err { IfErr result (λ e.
-        IsNextRefusedBy e (facts_read_within most_facts graph.now legal.now (records_of text.now))) }
+        IsRefusedBy e (facts_read_within most_facts graph.now legal.now (records_of text.now))) }
 {
     let mut reader = FactReader::new(alloc, graph, legal.instance(), text, MOST_FACTS);
     let mut tally = Tally::new(alloc, legal, categories)?;

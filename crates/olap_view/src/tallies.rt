@@ -66,7 +66,8 @@ impl<'a> Tally<'a> {
         ensures instance { self.new.instance ≡ self.old.instance }
         ensures categories { self.new.categories ≡ self.old.categories }
         ensures added { self.new.added ≡ self.old.added + 1 }
-        ensures stands { (facts : Items TheFact) → StandsFor self.old facts → StandsFor self.new (facts ++ fact_of fact.now ∷ []) }
+        ensures stands { (facts : Items TheFact) → StandsFor self.old facts
+            → StandsFor self.new (facts ++ fact_of fact.now ∷ []) }
     {
         let legal = self.legal;
         self.table
@@ -77,7 +78,9 @@ impl<'a> Tally<'a> {
     /// The direct view of one of the categories.
     pub(crate) fn view(&self, c: CatId) -> Result<View, Memory>
         requires among { Contains self.now.categories c.0 }
-        ensures view { IfOk result (λ v. (facts : Items TheFact) → StandsFor self.now facts → view_of v ≡ direct_view self.now.instance facts c.0) }
+        ensures view { IfOk result
+            (λ v. (facts : Items TheFact) → StandsFor self.now facts
+            → view_of v ≡ direct_view self.now.instance facts c.0) }
         ensures members { IfOk result (λ v. All (λ r. r.member.0 < length self.now.instance) v.rows) }
         ensures fits { IfOk result (λ v. Fits (view_of v)) }
     {

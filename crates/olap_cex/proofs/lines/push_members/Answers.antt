@@ -20,10 +20,12 @@ categories-preserved c =
     elim c.if-has_member.branch [
       | then-has_member+in_ok-push_member w ↦
           let out = ap (λ o. o.items) w.out-is ∙ w.in_ok-push_member.ensures in
-          texts_more text f.root.0 es c.categories.c c.args.out.now.items c.categories.out.items c.if-has_member.out.items
+          texts_more text f.root.0 es c.categories.c c.args.out.now.items c.categories.out.items
+          c.if-has_member.out.items
           some (sym tells ∙ w.if-has_member.true) c.categories.invariant out
       | else-has_member w ↦
           let out = ap (λ o. o.items) w.out-is in
-          texts_less text f.root.0 es c.categories.c c.args.out.now.items c.categories.out.items c.if-has_member.out.items
+          texts_less text f.root.0 es c.categories.c c.args.out.now.items c.categories.out.items
+          c.if-has_member.out.items
           some (sym tells ∙ w.if-has_member.false) c.categories.invariant out
     ]

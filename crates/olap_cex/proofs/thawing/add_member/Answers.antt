@@ -28,7 +28,8 @@ only_memory-requires c =
     only_memory (named_refusal c.args.builder.now c.in_ok-id.id c.args.c.0) c.in-Err.refusal
     (ap (λ b. named_refusal b c.in_ok-id.id c.args.c.0) r.before
     ∙ ap (λ i. named_refusal (found_draft c.args.graph.now c.args.found.now (c.args.c.0 - 1) []) i c.args.c.0) id
-    ∙ accepted c.args.graph.now c.args.found.now r.found r.hierarchy c.args.c.0 r.declared r.category r.present r.limits)
+    ∙ accepted c.args.graph.now c.args.found.now r.found r.hierarchy c.args.c.0 r.declared r.category r.present
+    r.limits)
     c.in-Err.ensures.err
 
 pub returns-in-Ok-clause-added : goal.returns-in-Ok-clause-added

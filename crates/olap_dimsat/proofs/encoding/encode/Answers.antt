@@ -16,18 +16,22 @@ encode-requires-clause-problem c =
     let s = with_graph c.args.graph.now (map constraint_of c.args.constraints.now) in
     let q = formula_of c.args.question.now in
     let k : Candidates = record { fresh = c.fresh.result.now; texts = λ d. slice_index_or c.texts.result.now d [] } in
-    (problem_for (record { schema = s; question = q; root = c.args.root.0; candidates = k }) c.requires.root c.requires.valid
+    (problem_for (record { schema = s; question = q; root = c.args.root.0; candidates = k }) c.requires.root
+    c.requires.valid
     c.requires.question (subst (λ (x : Candidates). AreCandidates s q x)
-    (same_candidates c.fresh.result.now c.texts.result.now c.args.candidates.now c.fresh.ensures c.texts.ensures) c.requires.candidates)).0
+    (same_candidates c.fresh.result.now c.texts.result.now c.args.candidates.now c.fresh.ensures c.texts.ensures)
+    c.requires.candidates)).0
 
 pub encode-requires-clause-spoken : goal.encode-requires-clause-spoken
 encode-requires-clause-spoken c =
     let s = with_graph c.args.graph.now (map constraint_of c.args.constraints.now) in
     let q = formula_of c.args.question.now in
     let k : Candidates = record { fresh = c.fresh.result.now; texts = λ d. slice_index_or c.texts.result.now d [] } in
-    (problem_for (record { schema = s; question = q; root = c.args.root.0; candidates = k }) c.requires.root c.requires.valid
+    (problem_for (record { schema = s; question = q; root = c.args.root.0; candidates = k }) c.requires.root
+    c.requires.valid
     c.requires.question (subst (λ (x : Candidates). AreCandidates s q x)
-    (same_candidates c.fresh.result.now c.texts.result.now c.args.candidates.now c.fresh.ensures c.texts.ensures) c.requires.candidates)).1
+    (same_candidates c.fresh.result.now c.texts.result.now c.args.candidates.now c.fresh.ensures c.texts.ensures)
+    c.requires.candidates)).1
 
 pub returns : goal.returns
 returns c =
@@ -40,14 +44,20 @@ returns c =
       question = q;
       root = c.args.root.0;
       named = c.args.candidates.now;
-      layout = record { edges = c.edges-edges.result; starts = c.in_ok-starts.starts; variables = c.variables-variables.result };
+      layout = record {
+        edges = c.edges-edges.result;
+        starts = c.in_ok-starts.starts;
+        variables = c.variables-variables.result;
+      };
     } in
     let p = sym (same_problem s q c.args.root.0 (candidates_of c.args.candidates.now) k
     (same_candidates c.fresh.result.now c.texts.result.now c.args.candidates.now c.fresh.ensures c.texts.ensures)) in
     let e = encoding_of c.in_ok-encoder.encoder in
-    let laid = subst (λ (x : Problem). IsLaid x e.meanings e.starts) (c.in_ok-encoder.ensures.problem ∙ p) c.in_ok-encoder.ensures.sound.laid in
+    let laid = subst (λ (x : Problem). IsLaid x e.meanings e.starts)
+    (c.in_ok-encoder.ensures.problem ∙ p) c.in_ok-encoder.ensures.sound.laid in
     encoded t e c.in_ok-pool.pool c.requires.valid.hierarchy c.requires.root c.requires.candidates c.requires.texts
-    (subst (λ (xs : List ℕ). IsLaid (problem_in t) e.meanings xs) (sym (c.in_ok-starts.ensures.items ∙ c.starts.ensures)) laid)
+    (subst (λ (xs : List ℕ). IsLaid (problem_in t) e.meanings xs)
+    (sym (c.in_ok-starts.ensures.items ∙ c.starts.ensures)) laid)
     c.in_ok-encoder.ensures.sound.few c.edges-edges.ensures.count c.variables-variables.ensures
     (λ f. subst (λ (x : Problem). AreMetBy x e f) p (c.in_ok-encoder.ensures.met f))
     (λ v m. c.in_ok-pool.ensures v (subst (λ (xs : List (List ℕ)). AreAllMet v xs) (sym c.clauses.ensures) m))

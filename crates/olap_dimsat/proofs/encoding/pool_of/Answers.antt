@@ -10,7 +10,10 @@ clauses-preserved c = λ v f.
     let all = c.args.clauses.now in
     let t = c.clauses-test.true in
     c.in_ok-add.ensures v (c.clauses.invariant v (λ j h. f j (omega arith)))
-    (subst (λ (x : List ℕ). IsMet v x) (sym c.items.ensures) (subst (λ (x : List ℕ). IsMet v x) (sym c.clause-item.is) (subst (λ (x : List ℕ). IsMet v x) (other_default all k [] c.clause-item.result (omega arith)) (f k (omega arith)))))
+    (subst (λ (x : List ℕ). IsMet v x) (sym c.items.ensures)
+    (subst (λ (x : List ℕ). IsMet v x) (sym c.clause-item.is)
+    (subst (λ (x : List ℕ). IsMet v x) (other_default all k [] c.clause-item.result (omega arith))
+    (f k (omega arith)))))
 
 pub returns : goal.returns
 returns c = λ v all. c.clauses.invariant v (λ k h.

@@ -22,4 +22,5 @@ returns-clause-none c = λ e f v one r a.
     let t = task_of c.args.a.now in
     let steps = trail_of c.args.engine.now in
     let w = c.requires.ready f one in
-    c.exists.ensures.nothing e w.0 (f, one, w.1) w.2 (only_decisions w.0 steps (same_agrees t f v w.0 steps c.requires.shaped r w.1 a))
+    c.exists.ensures.nothing e w.0 (f, one, w.1) w.2
+    (only_decisions w.0 steps (same_agrees t f v w.0 steps c.requires.shaped r w.1 a))

@@ -9,4 +9,5 @@ returns-then-not-suits-clause-no c = λ e v r a.
     let items = c.steps-step-items.result.now in
     let h = c.steps-test.true in
     c.if-not-suits.ensures.no refl v r
-    (agrees_at v items c.steps.step-index _ (omega arith) (subst (λ (ss : List Step). Agrees v ss) (sym c.steps-step-items.ensures) a))
+    (agrees_at v items c.steps.step-index _ (omega arith)
+    (subst (λ (ss : List Step). Agrees v ss) (sym c.steps-step-items.ensures) a))

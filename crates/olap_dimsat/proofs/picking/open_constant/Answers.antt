@@ -13,4 +13,5 @@ returns-in-Unknown c =
     let l = c.requires.task.laid.names c.args.c.0 c.args.j c.requires.category c.requires.constant in
     let e = ap (λ (x : Lit). x.variable) c.name-name.ensures in
     let n = c.requires.variables in
-    subst (λ (x : Lit). IsOpen c.args.trail.now x) (sym c.negated.ensures) (c.in-Unknown.ensures.open refl (omega arith))
+    subst (λ (x : Lit). IsOpen c.args.trail.now x) (sym c.negated.ensures)
+    (c.in-Unknown.ensures.open refl (omega arith))

@@ -5,4 +5,5 @@ use Rattle.olap_dimsat.proofs.reading.absent.Goals as goal
 pub returns-in-No-clause-absent : goal.returns-in-No-clause-absent
 returns-in-No-clause-absent c = λ f v one r a.
     let e = c.present-present.ensures in
-    not_true _ (λ t. c.in-No.ensures.no refl v a (holds_at v _ _ (sym e) (r.present c.args.c.0 c.requires.category ∙ t)))
+    not_true _ (λ t. c.in-No.ensures.no refl v a
+    (holds_at v _ _ (sym e) (r.present c.args.c.0 c.requires.category ∙ t)))

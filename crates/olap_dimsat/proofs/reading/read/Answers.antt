@@ -14,5 +14,6 @@ returns-clause-read c =
         in_range = λ k h. c.in_ok-read_names.ensures.in_range k (omega arith);
       };
       only = λ f v one r a. is_choice (task_of c.args.a.now) f c.read_edges.new.edges c.read_names.new.names one es ns
-          (λ e h. c.in_ok-read_edges.ensures.edges e h f v one r a) (λ k h. c.in_ok-read_names.ensures.names k h f v one r a);
+          (λ e h. c.in_ok-read_edges.ensures.edges e h f v one r a)
+          (λ k h. c.in_ok-read_names.ensures.names k h f v one r a);
     }

@@ -6,5 +6,7 @@ use Rattle.olap_dimsat.proofs.reading.read_name.Goals as goal
 
 pub returns-clause-is : goal.returns-clause-is
 returns-clause-is c = λ f v one r a.
-    no_constant (task_of c.args.a.now) f c.args.c.0 (constant_count (task_of c.args.a.now) c.args.c.0) one c.requires.category refl
-    (λ k h. c.names.invariant k (let t = c.names-test.false in let e = ap length c.constants-j-end.ensures.list in omega arith) f v one r a)
+    no_constant (task_of c.args.a.now) f c.args.c.0 (constant_count (task_of c.args.a.now) c.args.c.0) one
+    c.requires.category refl
+    (λ k h. c.names.invariant k (let t = c.names-test.false in let e = ap length c.constants-j-end.ensures.list in
+    omega arith) f v one r a)

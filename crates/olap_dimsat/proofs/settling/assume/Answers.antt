@@ -31,7 +31,8 @@ returns-in-Unknown-clause-yes c = λ e v.
     let old = trail_of c.args.engine.now in (
       λ a. let b = subst (λ (ss : List Step). Agrees v ss) c.decide.ensures.trail a in
           (agrees_front v old (s ∷ []) b, (agrees_behind v old (s ∷ []) b).0),
-      λ t. subst (λ (ss : List Step). Agrees v ss) (sym c.decide.ensures.trail) (agrees_both v old (s ∷ []) t.0 (t.1, tt)),
+      λ t. subst (λ (ss : List Step). Agrees v ss) (sym c.decide.ensures.trail)
+          (agrees_both v old (s ∷ []) t.0 (t.1, tt)),
     )
 
 pub returns-in-Unknown-clause-shaped : goal.returns-in-Unknown-clause-shaped

@@ -55,7 +55,8 @@ constants-preserved c =
           ap v variable ∙ d.1 c.constants.j (omega arith) ∙ same,
         ),
       );
-      longer = longer_again (trail_of c.args.engine.now) (trail_of c.constants.engine) (trail_of c.assume.new.engine) i.longer c.assume.ensures.longer;
+      longer = longer_again (trail_of c.args.engine.now) (trail_of c.constants.engine)
+          (trail_of c.assume.new.engine) i.longer c.assume.ensures.longer;
       shaped = c.assume.ensures.shaped;
       variables = c.assume.ensures.variables ∙ i.variables;
       admits = λ v a. c.assume.ensures.admits v (i.admits v a);
@@ -68,8 +69,11 @@ returns-clause-yes c = λ e f v one r.
     let count = ap length c.constants-j-end.ensures.list in
     let i = c.constants.invariant in
     let code = code_index t f c.args.c.0 one c.requires.declared in (
-      λ a. let d = (i.say v).0 a in
-          (d.0, code ∙ index_of_named t f v c.args.c.0 c.args.i one r c.requires.category c.requires.index (λ k h. d.1 k (omega arith))),
+      λ a. let d = (i.say v).0 a in (
+        d.0,
+        code ∙ index_of_named t f v c.args.c.0 c.args.i one r c.requires.category c.requires.index
+            (λ k h. d.1 k (omega arith)),
+      ),
       λ d. (i.say v).1 (
         d.0,
         λ k h. named_of_index t f v c.args.c.0 c.args.i r c.requires.category (sym code ∙ d.1) k

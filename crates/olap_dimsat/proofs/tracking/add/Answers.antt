@@ -12,7 +12,8 @@ returns-then-makes_shortcut-clause-none c = λ _.
     let reads : EdgeReads t c.args.trail.now e true =
     subst (λ (b : Bool). EdgeReads t c.args.trail.now e b) c.if-present.true c.requires.reads in
     elim c.if-closes_cycle.branch [
-      | then-closes_cycle w ↦ cycle_none t c.args.trail.now c.requires.task c.args.decided.now c.requires.of c.requires.read
+      | then-closes_cycle w ↦ cycle_none t c.args.trail.now c.requires.task c.args.decided.now c.requires.of
+          c.requires.read
           e reads (c.closes_cycle.ensures.0 w.if-closes_cycle.true)
       | else-closes_cycle w ↦ shortcut_none t c.args.trail.now c.requires.task c.args.decided.now c.requires.of
           c.requires.read e reads (w.makes_shortcut.ensures.0 (sym w.value-is ∙ c.if-makes_shortcut.true))

@@ -8,4 +8,5 @@ add-requires-clause-reads c = λ f v one r a.
 
 pub add-requires-in-No-clause-reads : goal.add-requires-in-No-clause-reads
 add-requires-in-No-clause-reads c = λ f v one r a.
-    not_true _ (λ t. c.in-No.ensures.no refl v a (holds_at v _ _ (sym c.on.ensures) (r.on c.args.e.0 c.requires.edge ∙ t)))
+    not_true _ (λ t. c.in-No.ensures.no refl v a
+    (holds_at v _ _ (sym c.on.ensures) (r.on c.args.e.0 c.requires.edge ∙ t)))

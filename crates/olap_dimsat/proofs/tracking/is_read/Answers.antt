@@ -5,7 +5,8 @@ use Rattle.olap_dimsat.proofs.tracking.is_read.Goals as goal
 
 pub returns-in-Yes : goal.returns-in-Yes
 returns-in-Yes c = λ p f v one r a.
-    sym (r.on c.args.decision.edge.0 c.requires.edge) ∙ holds_at v _ _ c.on.ensures (c.in-Yes.ensures.yes refl v a) ∙ sym p
+    sym (r.on c.args.decision.edge.0 c.requires.edge) ∙ holds_at v _ _ c.on.ensures (c.in-Yes.ensures.yes refl v a)
+    ∙ sym p
 
 pub returns-in-No : goal.returns-in-No
 returns-in-No c = λ p f v one r a.

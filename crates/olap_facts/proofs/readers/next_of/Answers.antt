@@ -31,6 +31,7 @@ returns-in-Err-clause-reads c = λ records live a.
     let new = c.starts.new.rows.left in
     let b = body-of r c.args.rows.now.left new c.in_ok-starts.field-0 a s.first s.left s.kept c.if-not-branch.false in
     let left = rw c.if-not-branch-2.false at c.in_ok-advance.ensures in (
-      next-fault r new c.advance.new.self.left c.advance.new.self.row b left c.in-Err.kind (c.in-Err.ensures.fact b.seen b.size),
+      next-fault r new c.advance.new.self.left c.advance.new.self.row b left c.in-Err.kind
+          (c.in-Err.ensures.fact b.seen b.size),
       inr refl,
     )

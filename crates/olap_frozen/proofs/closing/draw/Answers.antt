@@ -21,7 +21,8 @@ edges-preserved c =
           (draw_more g bits k w.from-c.result w.ends.result.1.0 c.edges.rows w.with.result (at ∙ w.if-edges-from.true)
           (e ∙ (λ z. record { child = sym i z; parent = w.ends.result.1.0 })) (omega arith)
           (w.with.ensures ∙ ap (λ s. insert s w.ends.result.1.0)
-          (row_read c.edges.rows w.from-c.result w.index-rows-c.result (omega arith) w.index-rows-c.is)) c.edges.invariant)
+          (row_read c.edges.rows w.from-c.result w.index-rows-c.result (omega arith) w.index-rows-c.is))
+          c.edges.invariant)
       | else-edges-from w ↦ subst (λ rs. AreDrawn g bits (k + 1) rs) (sym w.rows-is)
           (draw_skip g bits k c.edges.rows (at ∙ w.if-edges-from.false) c.edges.invariant)
     ]

@@ -18,7 +18,8 @@ categories-preserved c =
           (pass_more old new k at w.union.result (sym c.row_has.ensures ∙ w.if-row_has.true) (omega arith)
           (w.union.ensures ∙ ap (λ s. union s (members c.index-rows-k.result))
           (row_read new at w.index-rows-c.result (omega arith) w.index-rows-c.is)
-          ∙ ap (λ s. union (row new at) s) (row_read old k c.index-rows-k.result (omega arith) c.index-rows-k.is)) c.categories.invariant)
+          ∙ ap (λ s. union (row new at) s) (row_read old k c.index-rows-k.result (omega arith) c.index-rows-k.is))
+          c.categories.invariant)
       | else-row_has w ↦ subst (λ rs. IsPassing old rs k (at + 1)) (sym w.rows-is)
           (pass_skip old new k at (sym c.row_has.ensures ∙ w.if-row_has.false) c.categories.invariant)
     ]

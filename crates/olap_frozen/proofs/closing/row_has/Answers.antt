@@ -9,5 +9,6 @@ returns c =
     let at = c.from.result in
     let e = c.from.ensures in
     c.has.ensures
-    ∙ ap (λ s. set.contains s c.args.d) (row_read c.args.rows.now at c.index-rows-from.result (omega arith) c.index-rows-from.is)
+    ∙ ap (λ s. set.contains s c.args.d)
+    (row_read c.args.rows.now at c.index-rows-from.result (omega arith) c.index-rows-from.is)
     ∙ ap (λ n. set.contains (row c.args.rows.now n) c.args.d) e

@@ -13,7 +13,8 @@ pub returns-then-names-from-ne0 : goal.returns-then-names-from-ne0
 returns-then-names-from-ne0 c = (
   λ e. absurd (cc),
   λ a. absurd (
-      let is = present_is c.args.graph.now c.args.root.0 c.args.edges.now c.args.rows.now c.categories-c-end.ensures.hierarchy
+      let is = present_is c.args.graph.now c.args.root.0 c.args.edges.now c.args.rows.now
+      c.categories-c-end.ensures.hierarchy
       c.requires.root c.requires.rows c.requires.sound c.categories.c in
       let k = c.categories-c-end.ensures.count in
       c.if-names-from-ne0.true (ap (slice_index c.args.names.now) c.from.ensures
@@ -27,7 +28,8 @@ categories-preserved c = λ x h p. elim (newest x c.categories.c h) [
     | else-not-row_has-via-then-not-row_has+else-names-from-ne0 w ↦
         ap (slice_index c.args.names.now) (q ∙ sym w.from.ensures) ∙ w.if-names-from-ne0.false
     | else-not-row_has-via-else-not-row_has w ↦
-        let is = present_is c.args.graph.now c.args.root.0 c.args.edges.now c.args.rows.now c.categories-c-end.ensures.hierarchy
+        let is = present_is c.args.graph.now c.args.root.0 c.args.edges.now c.args.rows.now
+        c.categories-c-end.ensures.hierarchy
         c.requires.root c.requires.rows c.requires.sound x in
         absurd (let z : false ≡ true = sym p ∙ sym is ∙ ap (set.contains (row c.args.rows.now c.args.root.0)) q
         ∙ sym c.row_has.ensures ∙ w.if-not-row_has.false in cc)

@@ -6,11 +6,13 @@ use Rattle.olap_frozen.proofs.frozen.named.Goals as goal
 pub invariant_of-leaf : goal.invariant_of-leaf
 invariant_of-leaf c =
     let a = c.args in record {
-      leaf = chosen_is_leaf a.graph.now (map constraint_of a.constraints.now) (formula_of a.question.now) a.candidates.now
+      leaf = chosen_is_leaf a.graph.now (map constraint_of a.constraints.now)
+          (formula_of a.question.now) a.candidates.now
           a.root.0 a.edges.now a.names.now c.requires.hierarchy c.requires.root c.requires.sized c.requires.candidates
           c.args.rows.now c.requires.size c.requires.rows
           c.requires.sound;
-      is_shape = chosen_is_shape a.graph.now (map constraint_of a.constraints.now) (formula_of a.question.now) a.candidates.now
+      is_shape = chosen_is_shape a.graph.now (map constraint_of a.constraints.now)
+          (formula_of a.question.now) a.candidates.now
           a.root.0 a.edges.now a.names.now c.requires.hierarchy c.requires.root c.requires.sized c.requires.candidates;
     }
 

@@ -9,7 +9,8 @@ returns-then-not-tops c = (
   λ s. absurd (
       let t = reach_all_of_sound c.args.graph.now c.args.root.0 c.args.edges.now c.args.rows.now
       c.categories-count.ensures.hierarchy c.requires.root c.requires.rows s in
-      let b = c.tops.ensures.1 (subst (λ n. ReachAll c.args.rows.now c.args.root.0 n) (sym c.categories-count.ensures.count) t) in
+      let b = c.tops.ensures.1
+      (subst (λ n. ReachAll c.args.rows.now c.args.root.0 n) (sym c.categories-count.ensures.count) t) in
       let f = c.if-not-tops.true in let z : true ≡ false = sym b ∙ f in cc),
 )
 

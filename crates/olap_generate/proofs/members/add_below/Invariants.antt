@@ -7,6 +7,7 @@ use Rattle.olap_generate.proofs.members.add_below.Given as goal
 
 abbrev pub invariant-members : goal.invariant-members
 invariant-members l = record {
-  text : l.out.text ≡ l.fn.out.text ++ text_of_rows (map (λ k. row (numbered l.fn.letter k) l.fn.category l.fn.parent) (range_with_len 0 l.k-counter));
+  text : l.out.text ≡ l.fn.out.text ++ text_of_rows
+      (map (λ k. row (numbered l.fn.letter k) l.fn.category l.fn.parent) (range_with_len 0 l.k-counter));
   width : l.out.width ≡ 4;
 }

@@ -7,6 +7,7 @@ use Rattle.olap_generate.proofs.members.add_beside.Given as goal
 
 abbrev pub invariant-members : goal.invariant-members
 invariant-members l = record {
-  text : l.out.text ≡ l.fn.out.text ++ text_of_rows (map (λ k. row (numbered l.fn.letter k) l.fn.category (numbered l.fn.above k)) (range_with_len 0 l.k-counter));
+  text : l.out.text ≡ l.fn.out.text ++ text_of_rows
+      (map (λ k. row (numbered l.fn.letter k) l.fn.category (numbered l.fn.above k)) (range_with_len 0 l.k-counter));
   width : l.out.width ≡ 4;
 }

@@ -14,7 +14,8 @@ unreachable-requires c =
     let text = c.deref.result.now in
     members_faultless input.seed input.size input.few (schema_of c.args.schema.now) c.requires g text c.graph.ensures
     (c.deref.ensures.value ∙ c.in_ok-text.ensures) _
-    (subst (λ e. IsRefusedBy e (instance_read g (records_of text))) c.in-Err-Fault.field-0-is c.in-Err-Fault.ensures.read)
+    (subst (λ e. IsRefusedBy e (instance_read g (records_of text))) c.in-Err-Fault.field-0-is
+    c.in-Err-Fault.ensures.read)
 
 pub returns-in-Ok-check : goal.returns-in-Ok-check
 returns-in-Ok-check c =

@@ -37,5 +37,6 @@ unreachable-requires c =
     c.graph.result.now c.graph-2.result.now c.instance.result.now c.instance-2.result.now c.in_ok-text.text
     c.bytes.result.now c.graph.ensures c.graph-2.ensures c.instance.ensures c.instance-2.ensures c.bytes.ensures
     c.in_ok-text.ensures.reads _
-    (subst (λ e. IsStoreRefusedBy e (store_read c.graph-2.result.now c.instance-2.result.now (records_of c.bytes.result.now)))
+    (subst (λ e. IsStoreRefusedBy e
+    (store_read c.graph-2.result.now c.instance-2.result.now (records_of c.bytes.result.now)))
     c.in-Err-Fault.field-0-is c.in-Err-Fault.ensures.read)

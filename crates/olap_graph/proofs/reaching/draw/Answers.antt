@@ -8,20 +8,23 @@ use Rattle.olap_graph.proofs.reaching.draw.Goals as goal
 
 pub bounds-rows-child : goal.bounds-rows-child
 bounds-rows-child c =
-    let w = ends_within c.args.edges.now (length c.args.rows.now) c.edges.ends-index c.requires.within c.edges-test.true in
+    let w = ends_within c.args.edges.now (length c.args.rows.now) c.edges.ends-index c.requires.within
+    c.edges-test.true in
     let e = c.from-child.ensures in
     let n = c.edges.invariant.count in
     omega (arith, w.0)
 
 pub with-requires : goal.with-requires
 with-requires c =
-    let w = ends_within c.args.edges.now (length c.args.rows.now) c.edges.ends-index c.requires.within c.edges-test.true in
+    let w = ends_within c.args.edges.now (length c.args.rows.now) c.edges.ends-index c.requires.within
+    c.edges-test.true in
     let n = c.requires.few in
     omega (arith, w.1)
 
 pub bounds-rows-child-in-edges : goal.bounds-rows-child-in-edges
 bounds-rows-child-in-edges c =
-    let w = ends_within c.args.edges.now (length c.args.rows.now) c.edges.ends-index c.requires.within c.edges-test.true in
+    let w = ends_within c.args.edges.now (length c.args.rows.now) c.edges.ends-index c.requires.within
+    c.edges-test.true in
     let e = c.from-child.ensures in
     let n = c.edges.invariant.count in
     omega (arith, w.0)
@@ -41,6 +44,7 @@ edges-preserved c =
       drawn =
           draw_more (drawn ends) k i d rows c.with.result
           (edge_at-drawn ends k c.edges-test.true ∙ (λ z. record { child = sym e z; parent = d })) inside
-          (c.with.ensures ∙ ap (λ s. insert s d) (row_read rows i c.index-rows-child.result inside c.index-rows-child.is))
+          (c.with.ensures ∙ ap (λ s. insert s d)
+          (row_read rows i c.index-rows-child.result inside c.index-rows-child.is))
           c.edges.invariant.drawn;
     }

@@ -15,7 +15,8 @@ categories-preserved c =
     let inside : at < length new = let n = c.categories.invariant.count in omega arith in
     let of_k : members c.index-rows-from.result ≡ row old k =
     row_read old c.from.result c.index-rows-from.result
-    (let e = c.from.ensures in let n = c.requires.inside in omega arith) c.index-rows-from.is ∙ ap (row old) c.from.ensures in
+    (let e = c.from.ensures in let n = c.requires.inside in omega arith) c.index-rows-from.is
+    ∙ ap (row old) c.from.ensures in
     let has = ap (λ s. contains s k) (sym (row_at new at c.index-rows-c.result inside))
     ∙ sym c.has.ensures in
     elim c.if-has.branch [

@@ -7,7 +7,8 @@ use Rattle.olap_plain.proofs.searching.least.Goals as goal
 pub edges-init : goal.edges-init
 edges-init c =
     let a = c.args in record {
-      none = earlier_start (with_graph a.graph.now (map constraint_of a.constraints.now)) (formula_of a.question.now) a.root.0
+      none = earlier_start (with_graph a.graph.now (map constraint_of a.constraints.now))
+          (formula_of a.question.now) a.root.0
           (candidates_of a.candidates.now) c.clear.new.edges (λ e. c.clear.ensures.cleared e (omega arith));
       walk = c.requires.walk;
     }
@@ -34,7 +35,8 @@ edges-smaller c = edges_fall c.edges.edges c.next_edges.new.edges (c.next_edges.
 pub edges-preserved : goal.edges-preserved
 edges-preserved c =
     let a = c.args in record {
-      none = earlier_next (with_graph a.graph.now (map constraint_of a.constraints.now)) (formula_of a.question.now) a.root.0
+      none = earlier_next (with_graph a.graph.now (map constraint_of a.constraints.now))
+          (formula_of a.question.now) a.root.0
           (candidates_of a.candidates.now) c.edges.edges c.next_edges.new.edges
           (c.edges.auto.edges ∙ c.clear.auto.edges ∙ c.requires.edges)
           (c.next_edges.ensures.next c.if-not-next_edges.false) (c.first_names.ensures.none c.if-first_names.false)

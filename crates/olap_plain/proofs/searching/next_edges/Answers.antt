@@ -12,8 +12,10 @@ returns-in-Some-clause-next c = λ t.
     let p = c.in-Some.e in
     let o = c.in-Some.ensures in
     step_next (λ c. 1) (length old) (code_of old) (code_of new) p (code_assigned old) o.0 o.1 o.2
-    (bits_step old new p o.0 (c.clear.auto.edges ∙ length-set old p true) o.1 c.clear.ensures.kept c.clear.ensures.cleared)
+    (bits_step old new p o.0 (c.clear.auto.edges ∙ length-set old p true) o.1 c.clear.ensures.kept
+    c.clear.ensures.cleared)
 
 pub returns-in-None-clause-last : goal.returns-in-None-clause-last
 returns-in-None-clause-last c = λ t.
-    full_last (λ c. 1) (length c.args.edges.now) (code_of c.args.edges.now) (code_assigned c.args.edges.now) c.in-None.ensures
+    full_last (λ c. 1) (length c.args.edges.now) (code_of c.args.edges.now)
+    (code_assigned c.args.edges.now) c.in-None.ensures

@@ -19,12 +19,18 @@ loop-y-preserved c =
     let old = rows_of c.loop-y.rows.items in
     elim c.if-members-y.branch [
       | then-members-y+in-Some+in_ok-push w ↦
-          ap (λ v. rows_of v.items) w.rows-is ∙ ap rows_of w.in_ok-push.ensures.items ∙ map-append row_of c.loop-y.rows.items (w.in-Some.r ∷ [])
-          ∙ rows_step h p y true (Some (row_of w.in-Some.r)) old c.loop-y.invariant (passes (category_of i y) m.category c.args.c k w.if-members-y.true) (ap as_row (sym w.in-Some.is) ∙ w.row_at.ensures)
+          ap (λ v. rows_of v.items) w.rows-is ∙ ap rows_of w.in_ok-push.ensures.items
+          ∙ map-append row_of c.loop-y.rows.items (w.in-Some.r ∷ [])
+          ∙ rows_step h p y true (Some (row_of w.in-Some.r)) old c.loop-y.invariant
+          (passes (category_of i y) m.category c.args.c k w.if-members-y.true)
+          (ap as_row (sym w.in-Some.is) ∙ w.row_at.ensures)
       | then-members-y+in_default w ↦
           ap (λ v. rows_of v.items) w.rows-is
-          ∙ rows_step h p y true None old c.loop-y.invariant (passes (category_of i y) m.category c.args.c k w.if-members-y.true) (sym (none_of w.row_at.result (λ r e. w.in_default.not-Some r e)) ∙ w.row_at.ensures)
+          ∙ rows_step h p y true None old c.loop-y.invariant
+          (passes (category_of i y) m.category c.args.c k w.if-members-y.true)
+          (sym (none_of w.row_at.result (λ r e. w.in_default.not-Some r e)) ∙ w.row_at.ensures)
       | else-members-y w ↦
           ap (λ v. rows_of v.items) w.rows-is
-          ∙ rows_step h p y false (h y) old c.loop-y.invariant (fails (category_of i y) m.category c.args.c k w.if-members-y.false) refl
+          ∙ rows_step h p y false (h y) old c.loop-y.invariant
+          (fails (category_of i y) m.category c.args.c k w.if-members-y.false) refl
     ]

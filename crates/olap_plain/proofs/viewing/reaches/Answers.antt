@@ -5,4 +5,5 @@ use Rattle.olap_plain.proofs.PlainLemmas.{reaches_by_through}
 use Rattle.olap_plain.proofs.viewing.reaches.Goals as goal
 
 pub returns : goal.returns
-returns c = reaches_by_through (instance_of c.args.members.now) (length c.args.members.now) c.args.x c.args.y c.through.result (sym (length-map c.args.members.now member_of)) c.through.ensures
+returns c = reaches_by_through (instance_of c.args.members.now) (length c.args.members.now) c.args.x c.args.y
+    c.through.result (sym (length-map c.args.members.now member_of)) c.through.ensures

@@ -13,7 +13,8 @@ abbrev none : PlainFact
 none = record { member = 0; value = pos 0 }
 
 -- a bound that grows
-grows : (o : Option PlainRow) (n : ℕ) → IfSome o (λ q. (q.count ≤ n) × IsBounded q.sum q.count) → IfSome o (λ q. (q.count ≤ n + 1) × IsBounded q.sum q.count)
+grows : (o : Option PlainRow) (n : ℕ) → IfSome o (λ q. (q.count ≤ n) × IsBounded q.sum q.count)
+    → IfSome o (λ q. (q.count ≤ n + 1) × IsBounded q.sum q.count)
 grows None n h = h
 grows (Some q) n h = (omega (arith, h.0), h.1)
 
@@ -27,15 +28,23 @@ loop-f-preserved c =
       | then-reaches w ↦
           let t = test_of i f.member c.args.y c.reaches.result true c.reaches.ensures w.if-reaches.true in
           let fits : SFits w64 f.value = search rules in
-          let e = w.with_value.ensures.row ∙ ap (extended c.args.y (as_row c.loop-f.row)) (to_z-of_z w64 f.value fits) in
+          let e = w.with_value.ensures.row
+          ∙ ap (extended c.args.y (as_row c.loop-f.row)) (to_z-of_z w64 f.value fits) in
           record {
-            so_far = ap as_row w.row-is ∙ ap Some (e ∙ ap (λ o. extended c.args.y o f.value) c.loop-f.invariant.so_far) ∙ sym (step ∙ ap (λ b. row_after c.args.y b old f.value) t);
-            bounded = rw w.row-is (count_step c.args.y c.loop-f.row f.value w.with_value.result c.loop-f.f-index c.loop-f.invariant.bounded e, w.with_value.ensures.bounded);
+            so_far = ap as_row w.row-is
+                ∙ ap Some (e ∙ ap (λ o. extended c.args.y o f.value) c.loop-f.invariant.so_far)
+                ∙ sym (step ∙ ap (λ b. row_after c.args.y b old f.value) t);
+            bounded = rw w.row-is (
+              count_step c.args.y c.loop-f.row f.value w.with_value.result c.loop-f.f-index
+                  c.loop-f.invariant.bounded e,
+              w.with_value.ensures.bounded,
+            );
           }
       | else-reaches w ↦
           let t = test_of i f.member c.args.y c.reaches.result false c.reaches.ensures w.if-reaches.false in
           record {
-            so_far = ap as_row w.row-is ∙ c.loop-f.invariant.so_far ∙ sym (step ∙ ap (λ b. row_after c.args.y b old f.value) t);
+            so_far = ap as_row w.row-is ∙ c.loop-f.invariant.so_far
+                ∙ sym (step ∙ ap (λ b. row_after c.args.y b old f.value) t);
             bounded = rw w.row-is (grows c.loop-f.row c.loop-f.f-index c.loop-f.invariant.bounded);
           }
     ]

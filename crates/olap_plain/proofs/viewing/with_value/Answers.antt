@@ -9,7 +9,8 @@ same : (g : ℤ → ℤ → ℤ) (x y : ℤ) → SFits w64 x → SFits w64 y →
 same g x y p q = rw (to_z-of_z w64 x p, to_z-of_z w64 y q)
 
 pub returns-in-Some-clause-bounded : goal.returns-in-Some-clause-bounded
-returns-in-Some-clause-bounded c = let h = rw c.in-Some.is at c.requires in let r = c.ranges.value in let f = c.from-in-Some.ensures in omega (arith, ints)
+returns-in-Some-clause-bounded c = let h = rw c.in-Some.is at c.requires in let r = c.ranges.value in
+    let f = c.from-in-Some.ensures in omega (arith, ints)
 
 pub returns-in-Some-clause-row : goal.returns-in-Some-clause-row
 returns-in-Some-clause-row c =
@@ -20,7 +21,11 @@ returns-in-Some-clause-row c =
     let vf = c.ranges.value in
     let mf : SFits w64 c.min.result = search rules in
     let xf : SFits w64 c.max.result = search rules in
-    let s : to_z w128 (of_z w128 (to_z w128 (of_z w128 c.in-Some.r.sum) +ℤ to_z w128 (of_z w128 c.from-in-Some.result))) ≡ c.in-Some.r.sum +ℤ c.args.value = omega (arith, ints) in
-    let a : to_z w64 (of_z w64 c.min.result) ≡ int_min c.in-Some.r.least c.args.value = to_z-of_z w64 c.min.result mf ∙ c.min.ensures.value ∙ same int_min c.in-Some.r.least c.args.value lf vf in
-    let b : to_z w64 (of_z w64 c.max.result) ≡ int_max c.in-Some.r.greatest c.args.value = to_z-of_z w64 c.max.result xf ∙ c.max.ensures.value ∙ same int_max c.in-Some.r.greatest c.args.value gf vf in
+    let s : to_z w128 (of_z w128
+    (to_z w128 (of_z w128 c.in-Some.r.sum) +ℤ to_z w128 (of_z w128 c.from-in-Some.result))) ≡ c.in-Some.r.sum +ℤ
+    c.args.value = omega (arith, ints) in
+    let a : to_z w64 (of_z w64 c.min.result) ≡ int_min c.in-Some.r.least c.args.value = to_z-of_z w64 c.min.result mf
+    ∙ c.min.ensures.value ∙ same int_min c.in-Some.r.least c.args.value lf vf in
+    let b : to_z w64 (of_z w64 c.max.result) ≡ int_max c.in-Some.r.greatest c.args.value =
+    to_z-of_z w64 c.max.result xf ∙ c.max.ensures.value ∙ same int_max c.in-Some.r.greatest c.args.value gf vf in
     rw (c.in-Some.is, s, a, b)

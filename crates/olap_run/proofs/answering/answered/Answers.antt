@@ -10,6 +10,7 @@ returns-in-Err-NotAnswerable c =
     let e = c.in-Err-NotAnswerable in
     let none = e.ensures.not_answerable (ap Err e.field-0-is) in
     record {
-      replies = refused (ByPlan (schema_of c.args.schema.now) c.args.legal.now (views_of c.args.store.now) c.args.target.0)
+      replies = refused (ByPlan (schema_of c.args.schema.now) c.args.legal.now
+          (views_of c.args.store.now) c.args.target.0)
           (codes "answer NotAnswerable") (λ bytes is. inr (refl, none, is)) c.refuse.result c.refuse.ensures.refused;
     }

@@ -13,4 +13,5 @@ listed-requires c =
     let s = schema_of c.args.schema.now in
     let all = c.in_ok-findings.findings in
     subst (λ (fs : List Finding). All (λ f. IsFinding s (finding_of f)) fs) (sym c.items.ensures)
-    (λ k d h. c.in_ok-findings.ensures.findings.sound (finding_of _) (Contains-map finding_of all _ (Contains-get_or all k d h)))
+    (λ k d h. c.in_ok-findings.ensures.findings.sound (finding_of _)
+    (Contains-map finding_of all _ (Contains-get_or all k d h)))

@@ -2,9 +2,7 @@ use Rattle.olap_run.proofs.Stepping.{answered, ended, followed}
 use Rattle.olap_run.proofs.auditing.audit.Goals as goal
 
 pub returns-in_err-schema : goal.returns-in_err-schema
-returns-in_err-schema g c = record {
-  judged = ended c.in_err-schema.ensures.step _ c.from_residual.result c.from_residual.ensures.1;
-}
+returns-in_err-schema g c = record { judged = ended c.in_err-schema.ensures.step _ c.from_residual.ensures.1 }
 
 pub returns : goal.returns
 returns g c = record {

@@ -8,7 +8,8 @@ use Rattle.olap_run.proofs.judging.run.Goals as goal
 
 pub returns-in-Summarizable : goal.returns-in-Summarizable
 returns-in-Summarizable g c = record {
-  judged = subst (λ m. Judged IsAnswer g.L.Library c.args.lib.now c.summarizable.new.lib (order (seen m)) c.summarizable.result)
+  judged = subst (λ m. Judged IsAnswer g.L.Library c.args.lib.now c.summarizable.new.lib
+      (order (seen m)) c.summarizable.result)
       (sym c.in-Summarizable.is) c.summarizable.ensures.judged;
 }
 

@@ -23,11 +23,14 @@ returns-in_err-category-clause-step c =
     let h : c.words.k < length (texts c.args.names.now) =
     subst (λ n. c.words.k < n) (sym (length-map c.args.names.now string_bytes)) c.words-test.true in
     plain_ends c.in_err-category.field-0.0 c.from_residual.result c.from_residual.ensures.1
-    (ends_at c.args.twice.now g c.args.at (texts c.args.names.now) c.words.k (numbers_of c.words.categories.items) c.in_err-category.field-0.0
+    (ends_at c.args.twice.now g c.args.at (texts c.args.names.now) c.words.k
+    (numbers_of c.words.categories.items) c.in_err-category.field-0.0
     h c.words.invariant
-    (λ next. subst (λ w. Replies IsAnswer (with_another c.args.twice.now g at (numbers_of c.words.categories.items) w next)
+    (λ next. subst (λ w. Replies IsAnswer
+    (with_another c.args.twice.now g at (numbers_of c.words.categories.items) w next)
     (Err c.in_err-category.field-0.0)) word
-    (subst (λ (xs : List CatId). Replies IsAnswer (with_another c.args.twice.now g at (numbers_of xs) c.as_str-name.result.now next)
+    (subst (λ (xs : List CatId). Replies IsAnswer
+    (with_another c.args.twice.now g at (numbers_of xs) c.as_str-name.result.now next)
     (Err c.in_err-category.field-0.0)) c.deref.ensures.value (c.in_err-category.ensures.step.ends next))))
 
 pub words-preserved : goal.words-preserved
@@ -40,8 +43,10 @@ words-preserved c =
     subst (λ n. c.words.k < n) (sym (length-map c.args.names.now string_bytes)) c.words-test.true in
     read_more c.args.twice.now g c.args.at (texts c.args.names.now) c.words.k (numbers_of c.words.categories.items)
     (numbers_of c.push.new.self.items) c.in_ok-category.category.0 h c.words.invariant
-    (λ next. subst (λ w. with_another c.args.twice.now g at (numbers_of c.words.categories.items) w next ≡ next c.in_ok-category.category.0) word
-    (subst (λ (xs : List CatId). with_another c.args.twice.now g at (numbers_of xs) c.as_str-name.result.now next ≡ next c.in_ok-category.category.0)
+    (λ next. subst (λ w. with_another c.args.twice.now g at (numbers_of c.words.categories.items) w next ≡ next
+    c.in_ok-category.category.0) word
+    (subst (λ (xs : List CatId). with_another c.args.twice.now g at (numbers_of xs) c.as_str-name.result.now next
+    ≡ next c.in_ok-category.category.0)
     c.deref.ensures.value (c.in_ok-category.ensures.step.goes_on next)))
     c.in_ok-category.ensures.category
     (subst (λ (xs : List CatId). list_any (λ d. d == c.in_ok-category.category.0) (numbers_of xs) ≡ false)

@@ -14,7 +14,7 @@ pub returns-in_err-views : goal.returns-in_err-views
 returns-in_err-views g c = record {
   judged = ended c.in_err-views.ensures.step
       (λ table. Done (ByView c.args.legal.now (direct_view c.args.legal.now table c.args.category.0)))
-      c.from_residual.result c.from_residual.ensures.1;
+      c.from_residual.ensures.1;
 }
 
 pub returns : goal.returns

@@ -9,7 +9,8 @@ use Rattle.olap_run.proofs.satisfying.answered.Goals as goal
 pub returns-in_ok-shown-in-Some : goal.returns-in_ok-shown-in-Some
 returns-in_ok-shown-in-Some c =
     let s = schema_of c.args.schema.now in
-    let least = subst (λ o. IfSome o (IsLeastFound s Truth c.args.category.0)) c.in-Some.is c.in_ok-satisfiable.ensures.some in
+    let least = subst (λ o. IfSome o (IsLeastFound s Truth c.args.category.0)) c.in-Some.is
+    c.in_ok-satisfiable.ensures.some in
     record {
       replies = member_shown s c.args.category.0 c.in-Some.found least c.yes.result c.yes.ensures.status
           (c.yes.ensures.bytes ∙ c.in_ok-shown-in-Some.ensures);

@@ -9,30 +9,25 @@ use Rattle.olap_run.proofs.Stepping.{ended, followed, unread}
 use Rattle.olap_run.proofs.storing.store.Goals as goal
 
 pub returns-in_err-schema : goal.returns-in_err-schema
-returns-in_err-schema g c = record {
-  judged = ended c.in_err-schema.ensures.step _ c.from_residual.result c.from_residual.ensures.1;
-}
+returns-in_err-schema g c = record { judged = ended c.in_err-schema.ensures.step _ c.from_residual.ensures.1 }
 
 pub returns-in_err-categories : goal.returns-in_err-categories
 returns-in_err-categories g c = record {
   judged = followed c.in_ok-schema.ensures.step _
-      (ended (unread _ c.in_err-categories.ensures.step) _
-      c.from_residual-in_err-categories.result c.from_residual-in_err-categories.ensures.1);
+      (ended (unread _ c.in_err-categories.ensures.step) _ c.from_residual-in_err-categories.ensures.1);
 }
 
 pub returns-in_err-legal : goal.returns-in_err-legal
 returns-in_err-legal g c = record {
-  judged = followed c.in_ok-schema.ensures.step _
-      (followed (unread _ c.in_ok-categories.ensures.step) _
-      (ended c.in_err-legal.ensures.step _ c.from_residual-in_err-legal.result c.from_residual-in_err-legal.ensures.1));
+  judged = followed c.in_ok-schema.ensures.step _ (followed (unread _ c.in_ok-categories.ensures.step) _
+      (ended c.in_err-legal.ensures.step _ c.from_residual-in_err-legal.ensures.1));
 }
 
 pub returns : goal.returns
 returns g c = record {
-  judged = followed c.in_ok-schema.ensures.step _
-      (followed (unread _ c.in_ok-categories.ensures.step) _
+  judged = followed c.in_ok-schema.ensures.step _ (followed (unread _ c.in_ok-categories.ensures.step) _
       (followed c.in_ok-legal.ensures.step _
-      (subst (λ (xs : List CatId). Judged IsAnswer g.L.Library c.legal_in.new.lib c.stored.new.lib (views_order (schema_of c.in_ok-schema.schema)
-      c.in_ok-legal.legal (numbers_of xs) c.args.facts.now) c.stored.result)
-      c.deref.ensures.value c.stored.ensures.judged)));
+      (subst (λ (xs : List CatId). Judged IsAnswer g.L.Library c.legal_in.new.lib c.stored.new.lib
+      (views_order (schema_of c.in_ok-schema.schema) c.in_ok-legal.legal (numbers_of xs) c.args.facts.now)
+      c.stored.result) c.deref.ensures.value c.stored.ensures.judged)));
 }

@@ -20,7 +20,7 @@ returns-in_err-views g c =
     record {
       judged = ended c.in_err-views.ensures.step
           (λ table. Done (ByStore (schema_of c.args.schema.now).graph i (direct_views i table cs)))
-          c.from_residual.result c.from_residual.ensures.1;
+          c.from_residual.ensures.1;
     }
 
 pub print_store-requires-clause-categories : goal.print_store-requires-clause-categories

@@ -13,7 +13,8 @@ use Rattle.olap_run.proofs.CertificateLemmas.{found_for_difference, root_there, 
 use Rattle.olap_run.proofs.summarizing.sums.Goals as goal
 
 pub counterexample-requires-clause-found : goal.counterexample-requires-clause-found
-counterexample-requires-clause-found c = subst (λ (g : Graph). IsFoundFor g c.args.found.now) (sym c.graph-graph.ensures)
+counterexample-requires-clause-found c =
+    subst (λ (g : Graph). IsFoundFor g c.args.found.now) (sym c.graph-graph.ensures)
     (found_for_difference (schema_of c.args.schema.now) c.args.target.0 (numbers_of c.args.sources.now) c.args.found.now
     c.requires.found c.constraints-constraints.ensures.texts)
 
@@ -35,7 +36,8 @@ print_cex-requires-clause-fact c =
     let found = c.args.found.now in
     let e = c.in_ok-cex.ensures.cex in
     let g = c.graph-graph.result.now in
-    let there = subst (λ (g : Graph). IsMember (found_instance g found) (found_place g found)) (sym c.graph-graph.ensures)
+    let there = subst (λ (g : Graph). IsMember (found_instance g found) (found_place g found))
+    (sym c.graph-graph.ensures)
     (root_there c.root_is_member.ensures (schema_of c.args.schema.now) c.args.target.0
     (numbers_of c.args.sources.now) found c.constraints-constraints.ensures.valid.hierarchy c.requires.found) in
     subst (λ (i : Instance). IsMember i c.in_ok-cex.cex.fact.0) (sym e.instance)

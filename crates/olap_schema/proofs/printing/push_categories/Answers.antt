@@ -9,10 +9,12 @@ categories-preserved c =
     let written = c.in_ok-push_category.ensures ∙ ap write (declared_name c.args.graph.now c.categories.done) in
     record {
       written =
-          next_line category_text c.args.graph.now.names c.categories.done [] _ _ _ (omega (arith, c.categories-test.true)) c.categories.invariant.written written;
+          next_line category_text c.args.graph.now.names c.categories.done [] _ _ _
+          (omega (arith, c.categories-test.true)) c.categories.invariant.written written;
       within = omega (arith, c.categories-test.true);
     }
 
 pub returns : goal.returns
 returns c =
-    no_more category_text c.args.graph.now.names c.categories.done _ _ (omega (arith, c.categories-test.false)) c.categories.invariant.written
+    no_more category_text c.args.graph.now.names c.categories.done _ _ (omega (arith, c.categories-test.false))
+    c.categories.invariant.written

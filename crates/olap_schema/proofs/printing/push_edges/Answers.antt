@@ -11,10 +11,12 @@ edges-preserved c =
     let written = c.in_ok-push_edge.ensures ∙ ap write (sym c.ends.ensures.edge) in
     record {
       written =
-          next_line (edge_text g) g.edges c.edges.done _ _ _ _ (omega (arith, c.edges-test.true)) c.edges.invariant.written written;
+          next_line (edge_text g) g.edges c.edges.done _ _ _ _
+          (omega (arith, c.edges-test.true)) c.edges.invariant.written written;
       within = omega (arith, c.edges-test.true);
     }
 
 pub returns : goal.returns
 returns c =
-    no_more (edge_text c.args.graph.now) c.args.graph.now.edges c.edges.done _ _ (omega (arith, c.edges-test.false)) c.edges.invariant.written
+    no_more (edge_text c.args.graph.now) c.args.graph.now.edges c.edges.done _ _
+    (omega (arith, c.edges-test.false)) c.edges.invariant.written

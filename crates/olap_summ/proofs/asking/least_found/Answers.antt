@@ -38,5 +38,6 @@ returns-clause-none c =
     (somewhere s q c.args.root.0 f c.in_ok-search.ensures.made.valid.hierarchy
     (subst (λ (k : Named). IsLeastFound s q c.args.root.0 (record { frozen = c.first.new.into; candidates = k }))
     (sym (c.into_candidates-candidates.ensures ∙ c.first.ensures.candidates))
-    (subst (λ r. IsLeastFound s q r (record { frozen = c.first.new.into; candidates = c.in_ok-search.search.candidates }))
+    (subst (λ r. IsLeastFound s q r
+    (record { frozen = c.first.new.into; candidates = c.in_ok-search.search.candidates }))
     c.in_ok-search.ensures.root (c.first.ensures.some c.if-not-first.false))))

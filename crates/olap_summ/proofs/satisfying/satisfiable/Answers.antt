@@ -5,7 +5,8 @@ use Rattle.olap_summ.proofs.NowhereLemmas.{no_more_constants, unsatisfiable_is}
 use Rattle.olap_summ.proofs.satisfying.satisfiable.Goals as goal
 
 pub least_found-requires-clause-few : goal.least_found-requires-clause-few
-least_found-requires-clause-few c = no_more_constants (schema_of c.args.schema.now) Truth c.constraints-valid.ensures.valid refl
+least_found-requires-clause-few c =
+    no_more_constants (schema_of c.args.schema.now) Truth c.constraints-valid.ensures.valid refl
 
 pub returns-clause-none : goal.returns-clause-none
 returns-clause-none c =

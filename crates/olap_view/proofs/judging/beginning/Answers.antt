@@ -13,4 +13,5 @@ returns-then-categories-ge-MOST_VIEWS c = λ g earlier e.
 pub returns : goal.returns
 returns c = λ g earlier e.
     may-begin g earlier (ids c.args.categories.now) c.args.c.0 c.is_among.result e c.is_among.ensures
-    c.if-is_among.false (let l = length-map c.args.categories.now (λ d. d.0) in let h = c.if-categories-ge-MOST_VIEWS.false in omega arith)
+    c.if-is_among.false (let l = length-map c.args.categories.now (λ d. d.0) in
+    let h = c.if-categories-ge-MOST_VIEWS.false in omega arith)

@@ -22,7 +22,8 @@ name-requires c =
     let k = c.views.view-index in
     let same = c.items-view-items.ensures in
     each_view (λ v. IsCategory c.args.graph.now v.category) views k c.view-item.result
-    (inside views read k same c.views-test.true) (here views read k c.view-item.result same c.view-item.is) c.requires.categories
+    (inside views read k same c.views-test.true) (here views read k c.view-item.result same c.view-item.is)
+    c.requires.categories
 
 pub print_stored-requires-clause-at_members : goal.print_stored-requires-clause-at_members
 print_stored-requires-clause-at_members c =

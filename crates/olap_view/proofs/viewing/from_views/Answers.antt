@@ -105,7 +105,8 @@ views-preserved c =
                 (places_kept i c.views.table u j.categories j.places j.same_length inv.places);
             merged = subst (AreMerged i next) (sym w.table-is)
                 (subst (λ (l : List Row). AreMerged i l u) (sym more)
-                (subst (λ (l : List row.Row). AreMerged i (rows ++ rows_of l) u) w.items.ensures (j.merged rows inv.merged)));
+                (subst (λ (l : List row.Row). AreMerged i (rows ++ rows_of l) u) w.items.ensures
+                (j.merged rows inv.merged)));
             few = subst (λ (l : List Row). length l ≤ (k + 1) * most_members) (sym more)
                 (let a = length-append rows (rows_of v.rows) in let b = length-map v.rows row_of in omega arith);
             stored = subst (All IsStored) (sym more) (All-append IsStored rows (rows_of v.rows) inv.stored stored);
@@ -134,7 +135,8 @@ returns-clause-view c =
     c.items-view-items.ensures c.views-test.false in
     let merged : AreMerged i (rows_chosen (views_of c.args.store.now) c.args.mask) t =
     subst (λ (l : List told.View). AreMerged i (rows_chosen (each_view_of l) c.args.mask) t) all inv.merged in
-    let among : Contains (categories_of t) d = subst (λ (l : List ℕ). Contains l d) (sym inv.categories) (contains_head d []) in
+    let among : Contains (categories_of t) d =
+    subst (λ (l : List ℕ). Contains l d) (sym inv.categories) (contains_head d []) in
     if_ok_more c.view.result (λ (v : told.View). view_of v ≡ view_in c.instance-instance.result.now t d)
     (λ (v : told.View). view_of v
     ≡ record { category = d; rows = rows_from_views i d (chosen (views_of c.args.store.now) c.args.mask) })
@@ -142,5 +144,6 @@ returns-clause-view c =
     ∙ ap (λ (r : List Row). record { category = d; rows = r })
     (rows_same i d (λ y. row_at y (summary_at t y))
     (λ y. row_at y (total_of_rows i (rows_chosen (views_of c.args.store.now) c.args.mask) y))
-    (λ y m. ap (row_at y) (merged.at y (record { member = m.0; category = subst (Contains (categories_of t)) (sym m.1) among })))))
+    (λ y m. ap (row_at y) (merged.at y
+    (record { member = m.0; category = subst (Contains (categories_of t)) (sym m.1) among })))))
     c.view.ensures.view

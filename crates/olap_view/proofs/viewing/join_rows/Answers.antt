@@ -23,7 +23,8 @@ join-requires-clause-this c =
     let rows = c.args.rows.now in
     let k = c.rows.row-index in
     subst (IsUpTo (2 ^ 62) (2 ^ 120)) (sym c.summary.ensures)
-    (stored_small (row_of (get_or rows k nothing)) (each_row IsStored rows k nothing c.rows-test.true c.requires.stored))
+    (stored_small (row_of (get_or rows k nothing))
+    (each_row IsStored rows k nothing c.rows-test.true c.requires.stored))
 
 pub join-requires-clause-room : goal.join-requires-clause-room
 join-requires-clause-room c =

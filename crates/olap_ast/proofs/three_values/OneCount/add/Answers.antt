@@ -8,4 +8,5 @@ pub returns-in-Yes : goal.returns-in-Yes
 returns-in-Yes c = λ xs h. count_yes xs c.args.t _ _ _ c.in-Yes.is c.saturating_add-self.ensures h
 
 pub returns-in-Unknown : goal.returns-in-Unknown
-returns-in-Unknown c = λ xs h. count_unknown xs c.args.t _ _ _ c.in-Unknown.is c.saturating_add-self-in-Unknown.ensures h
+returns-in-Unknown c = λ xs h. count_unknown xs c.args.t _ _ _ c.in-Unknown.is
+    c.saturating_add-self-in-Unknown.ensures h

@@ -15,7 +15,8 @@ use Rattle.olap_dimsat.proofs.searching.Search.all.Goals as goal
 pub all_over-requires : goal.all_over-requires
 all_over-requires c =
     let w = whole (schema_of c.args.schema.now) c.graph-graph.result.now
-    (map constraint_of c.constraints-constraints.result.now) c.graph-graph.ensures c.constraints-constraints.ensures.list in
+    (map constraint_of c.constraints-constraints.result.now) c.graph-graph.ensures
+    c.constraints-constraints.ensures.list in
     record {
       made = subst (λ (s : Schema). IsMadeWith s (formula_of c.args.question.now) c.args.self.now) (sym w)
           c.requires.made;
@@ -24,9 +25,11 @@ all_over-requires c =
 pub returns-clause-all : goal.returns-clause-all
 returns-clause-all c =
     let w = whole (schema_of c.args.schema.now) c.graph-graph.result.now
-    (map constraint_of c.constraints-constraints.result.now) c.graph-graph.ensures c.constraints-constraints.ensures.list in
+    (map constraint_of c.constraints-constraints.result.now) c.graph-graph.ensures
+    c.constraints-constraints.ensures.list in
     subst (λ (s : Schema). IfOk c.all_over.result (λ (list : List Frozen). AreAllFrozen s
-    (formula_of c.args.question.now) (root_of c.args.self.now) (candidates_in c.args.self.now) (map frozen_of list))) w c.all_over.ensures.all
+    (formula_of c.args.question.now) (root_of c.args.self.now) (candidates_in c.args.self.now) (map frozen_of list)))
+    w c.all_over.ensures.all
 
 pub returns-clause-sized : goal.returns-clause-sized
 returns-clause-sized c =
@@ -37,12 +40,14 @@ returns-clause-sized c =
 pub returns-clause-too_many : goal.returns-clause-too_many
 returns-clause-too_many c = λ e.
     let w = whole (schema_of c.args.schema.now) c.graph-graph.result.now
-    (map constraint_of c.constraints-constraints.result.now) c.graph-graph.ensures c.constraints-constraints.ensures.list in
+    (map constraint_of c.constraints-constraints.result.now) c.graph-graph.ensures
+    c.constraints-constraints.ensures.list in
     subst (λ (s : Schema). AreMoreThan c.args.limit s (formula_of c.args.question.now)
     (root_of c.args.self.now) (candidates_in c.args.self.now)) w (c.all_over.ensures.too_many e)
 
 pub returns-clause-made : goal.returns-clause-made
 returns-clause-made c =
     let w = whole (schema_of c.args.schema.now) c.graph-graph.result.now
-    (map constraint_of c.constraints-constraints.result.now) c.graph-graph.ensures c.constraints-constraints.ensures.list in
+    (map constraint_of c.constraints-constraints.result.now) c.graph-graph.ensures
+    c.constraints-constraints.ensures.list in
     subst (λ (s : Schema). IsMadeWith s (formula_of c.args.question.now) c.all_over.new.self) w c.all_over.ensures.made

@@ -10,26 +10,32 @@ use Rattle.olap_dimsat.proofs.searching.Search.first.Goals as goal
 
 pub first_over-requires-clause-made : goal.first_over-requires-clause-made
 first_over-requires-clause-made c =
-    let w = whole (schema_of c.args.schema.now) c.graph-graph.result.now (map constraint_of c.constraints-constraints.result.now)
+    let w = whole (schema_of c.args.schema.now) c.graph-graph.result.now
+    (map constraint_of c.constraints-constraints.result.now)
     c.graph-graph.ensures c.constraints-constraints.ensures.list in
     subst (λ (s : Schema). IsMadeWith s (formula_of c.args.question.now) c.args.self.now) (sym w) c.requires.made
 
 pub returns-clause-some : goal.returns-clause-some
 returns-clause-some c = λ t.
-    let w = whole (schema_of c.args.schema.now) c.graph-graph.result.now (map constraint_of c.constraints-constraints.result.now)
+    let w = whole (schema_of c.args.schema.now) c.graph-graph.result.now
+    (map constraint_of c.constraints-constraints.result.now)
     c.graph-graph.ensures c.constraints-constraints.ensures.list in
     subst (λ (s : Schema). IsLeastFound s (formula_of c.args.question.now) (root_of c.args.self.now)
     (found_in c.args.self.now c.first_over.new.into)) w (c.first_over.ensures.some t)
 
 pub returns-clause-none : goal.returns-clause-none
 returns-clause-none c = λ t.
-    let w = whole (schema_of c.args.schema.now) c.graph-graph.result.now (map constraint_of c.constraints-constraints.result.now)
+    let w = whole (schema_of c.args.schema.now) c.graph-graph.result.now
+    (map constraint_of c.constraints-constraints.result.now)
     c.graph-graph.ensures c.constraints-constraints.ensures.list in
-    subst (λ (s : Schema). NoneFrozen s (formula_of c.args.question.now) (root_of c.args.self.now) (candidates_in c.args.self.now)) w
+    subst (λ (s : Schema). NoneFrozen s (formula_of c.args.question.now) (root_of c.args.self.now)
+    (candidates_in c.args.self.now)) w
     (c.first_over.ensures.none t)
 
 pub returns-clause-made : goal.returns-clause-made
 returns-clause-made c =
-    let w = whole (schema_of c.args.schema.now) c.graph-graph.result.now (map constraint_of c.constraints-constraints.result.now)
+    let w = whole (schema_of c.args.schema.now) c.graph-graph.result.now
+    (map constraint_of c.constraints-constraints.result.now)
     c.graph-graph.ensures c.constraints-constraints.ensures.list in
-    subst (λ (s : Schema). IsMadeWith s (formula_of c.args.question.now) c.first_over.new.self) w c.first_over.ensures.made
+    subst (λ (s : Schema). IsMadeWith s (formula_of c.args.question.now) c.first_over.new.self) w
+    c.first_over.ensures.made

@@ -10,6 +10,7 @@ returns-clause-some c = λ _.
     let a = c.args in
     let same = c.swap.ensures.x_after in
     handed (with_graph a.graph.now (map constraint_of a.constraints.now)) (formula_of a.question.now) a.self.now
-    c.least-found.new.best _ c.requires.made.task c.least-found.ensures.best (c.least-found.ensures.some c.if-not-found.false)
+    c.least-found.new.best _ c.requires.made.task c.least-found.ensures.best
+    (c.least-found.ensures.some c.if-not-found.false)
     (ap (λ (f : Frozen). f.root) same) (ap (λ (f : Frozen). f.edges) same)
     (c.set.ensures ∙ ap (λ (f : Frozen). set f.names 0 0) same)

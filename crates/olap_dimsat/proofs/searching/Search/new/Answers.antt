@@ -12,12 +12,14 @@ use Rattle.olap_dimsat.proofs.MadeLemmas.{whole}
 use Rattle.olap_dimsat.proofs.searching.Search.new.Goals as goal
 
 pub over-requires-clause-root : goal.over-requires-clause-root
-over-requires-clause-root c = subst (λ (g : Graph). IsCategory g c.args.root.0) (sym c.graph-graph.ensures) c.requires.root
+over-requires-clause-root c =
+    subst (λ (g : Graph). IsCategory g c.args.root.0) (sym c.graph-graph.ensures) c.requires.root
 
 pub over-requires-clause-valid : goal.over-requires-clause-valid
 over-requires-clause-valid c =
     subst (λ (s : Schema). IsValidSchema s)
-    (sym (whole (schema_of c.args.schema.now) c.graph-graph.result.now (map constraint_of c.constraints-constraints.result.now)
+    (sym (whole (schema_of c.args.schema.now) c.graph-graph.result.now
+    (map constraint_of c.constraints-constraints.result.now)
     c.graph-graph.ensures c.constraints-constraints.ensures.list)) c.constraints-constraints.ensures.valid
 
 pub over-requires-clause-question : goal.over-requires-clause-question
@@ -28,11 +30,13 @@ over-requires-clause-question c =
 pub over-requires-clause-few : goal.over-requires-clause-few
 over-requires-clause-few c =
     subst (λ (s : Schema). length (distinct_pairs (all_equalities s (formula_of c.args.question.now))) ≤ most_constants)
-    (sym (whole (schema_of c.args.schema.now) c.graph-graph.result.now (map constraint_of c.constraints-constraints.result.now)
+    (sym (whole (schema_of c.args.schema.now) c.graph-graph.result.now
+    (map constraint_of c.constraints-constraints.result.now)
     c.graph-graph.ensures c.constraints-constraints.ensures.list)) c.requires.few
 
 pub returns-clause-made : goal.returns-clause-made
 returns-clause-made c =
-    let w = whole (schema_of c.args.schema.now) c.graph-graph.result.now (map constraint_of c.constraints-constraints.result.now)
+    let w = whole (schema_of c.args.schema.now) c.graph-graph.result.now
+    (map constraint_of c.constraints-constraints.result.now)
     c.graph-graph.ensures c.constraints-constraints.ensures.list in
     subst (λ (s : Schema). IfOk c.over.result (IsMadeWith s (formula_of c.args.question.now))) w c.over.ensures.made

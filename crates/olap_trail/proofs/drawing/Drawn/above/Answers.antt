@@ -11,7 +11,8 @@ returns g c =
     let x = c.args.c.0 in
     let r = c.index.result.now in
     let inside : x < length a.parents.items = subst (λ (v : Drawing). x < v.count) (sym c.self.view_is) c.requires in
-    let beyond = beyond_read c.self.invariant x (a.place + c.from.result) r inside (ap (λ j. a.place + j) c.from.ensures)
+    let beyond = beyond_read c.self.invariant x (a.place + c.from.result) r inside
+    (ap (λ j. a.place + j) c.from.ensures)
     c.index.ensures in
     subst (λ (v : Drawing). IsAbove v.edges x (members c.with.result)) c.self.view_is
     (above_is (map edge_of a.edges.items) x (members r) (members c.with.result) beyond c.with.ensures)

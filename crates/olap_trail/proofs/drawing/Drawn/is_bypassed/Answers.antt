@@ -32,7 +32,8 @@ returns-then-first-new g c =
     (next_more es k p (members own) (members c.with.result)
     (subst (λ y. IsNext es y (members own)) c.if-first-new.true next) c.with.ensures) in
     subst (λ (v : Drawing). IsTrue c.meets.result ↔ IsBypassed (v.edges ++ edge_of c.args.new ∷ []) x z) c.self.view_is
-    (bypassed_is (more es k p) x z (members c.grown-beyond.result) (members c.with.result) c.meets.result beyond next_now
+    (bypassed_is (more es k p) x z (members c.grown-beyond.result) (members c.with.result) c.meets.result beyond
+    next_now
     c.meets.ensures)
 
 pub returns-else-first-new : goal.returns-else-first-new

@@ -18,7 +18,8 @@ pub is_bypassed-requires : goal.is_bypassed-requires
 is_bypassed-requires g c =
     let items = c.deref-first-items.result.now in
     let x = get_or items c.edges.first-index (record { child = record { 0 = 0 }; parent = record { 0 = 0 } }) in
-    let j = joins_at items c.args.self.now.edges c.edges.first-index (record { child = record { 0 = 0 }; parent = record { 0 = 0 } })
+    let j = joins_at items c.args.self.now.edges c.edges.first-index
+    (record { child = record { 0 = 0 }; parent = record { 0 = 0 } })
     c.edges.invariant.items c.edges-test.true in
     let w = c.edges.invariant.within x.child.0 x.parent.0 j in
     let width = c.requires.width in

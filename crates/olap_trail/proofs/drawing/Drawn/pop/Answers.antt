@@ -64,8 +64,10 @@ invariant_of-self g c =
     let w = last_within es k ends.parent.0 t in
     let inside : i < length a.parents.items = let e = c.from-child.ensures in omega (arith, w.0, e) in
     let taken = c.without.ensures ∙ ap (λ s. remove s ends.parent.0)
-    (row_read a.parents.items i c.index.result.now inside c.index.ensures ∙ ap (row a.parents.items) c.from-child.ensures) in
-    let size : c.len.result ≡ length a.parents.items = let l = c.len.ensures in let o = a.parents.ok in omega (arith, l, o) in
+    (row_read a.parents.items i c.index.result.now inside c.index.ensures
+    ∙ ap (row a.parents.items) c.from-child.ensures) in
+    let size : c.len.result ≡ length a.parents.items = let l = c.len.ensures in let o = a.parents.ok in
+    omega (arith, l, o) in
     subst (λ j. AreTables room es (a.place - c.len.result) a.rows.items (slice_set a.parents.items j r) a.cycles.items)
     (sym c.from-child.ensures)
     (tables_pop es k ends.parent.0 t room (a.place - c.len.result) r

@@ -46,7 +46,8 @@ invariant_of-self g c =
     let full = subst (λ (v : Drawing). length v.edges + 1 < v.room) (sym c.self.view_is) c.requires.room in
     let new = subst (λ (v : Drawing). Joins v.edges k p → ⊥) (sym c.self.view_is) c.requires.new in
     let above = subst (λ (v : Drawing). IsAbove v.edges p through) (sym c.self.view_is) c.above-through.ensures in
-    let cyclic = subst (λ (v : Drawing). (c.closes_cycle-closes.result ≡ true) ↔ IsCyclic (v.edges ++ edge_of ends ∷ []))
+    let cyclic = subst (λ (v : Drawing). (c.closes_cycle-closes.result ≡ true)
+    ↔ IsCyclic (v.edges ++ edge_of ends ∷ []))
     (sym c.self.view_is) c.closes_cycle-closes.ensures in
     let grown : c.push.new.self.items ≡ a.edges.items ++ ends ∷ [] =
     pushed (is_ok c.push.result) c.push.new.self.items (a.edges.items ++ ends ∷ []) a.edges.items
@@ -65,7 +66,8 @@ invariant_of-self g c =
     let own = c.with.ensures ∙ ap (λ s. insert s p)
     (row_read a.parents.items c.from-child.result c.index.result.now inside c.index.ensures
     ∙ ap (row a.parents.items) c.from-child.ensures) in
-    let written = take_at rows (drop (length rows) a.rows.items) a.rows.len (c.draw.ensures.count ∙ c.deref_mut.ensures.len) in
+    let written = take_at rows (drop (length rows) a.rows.items) a.rows.len
+    (c.draw.ensures.count ∙ c.deref_mut.ensures.len) in
     let reserved : length a.cycles.items ≤ room + 1 =
     let r = c.self.invariant.reserved in let q = c.push.ensures.capacity in omega (arith, r, q) in
     let marks = slice_set a.cycles.items c.len.result c.closes_cycle-closes.result in
@@ -75,5 +77,6 @@ invariant_of-self g c =
     (subst (λ (rs : List (CatSet g.row.W)). AreTables room (more es k p) place rs nexts marks) (sym written)
     (subst (λ j. AreTables room (more es k p) place rows (slice_set a.parents.items j c.with.result) marks)
     (sym c.from-child.ensures)
-    (tables_push c.self.invariant k p room place c.len.result rows c.with.result c.closes_cycle-closes.result through child
+    (tables_push c.self.invariant k p room place c.len.result rows c.with.result c.closes_cycle-closes.result through
+    child
     parent full new reserved (ap (λ j. a.place + j) size) stage copied above own cyclic)))

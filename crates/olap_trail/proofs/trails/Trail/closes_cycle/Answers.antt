@@ -10,6 +10,7 @@ pub returns : goal.returns
 returns g c =
     let e = edge_of c.ends.result in
     let r = c.closes_cycle.result in
-    let read = subst (λ (es : List Edge). IsTrue r ↔ IsCyclic (es ++ e ∷ [])) c.self.invariant.edges c.closes_cycle.ensures in
+    let read = subst (λ (es : List Edge). IsTrue r ↔ IsCyclic (es ++ e ∷ [])) c.self.invariant.edges
+    c.closes_cycle.ensures in
     let seen = subst (λ (v : Decided). IsTrue r ↔ IsCyclic (present_edges v ++ e ∷ [])) c.self.view_is read in
     subst (λ (x : Edge). IsTrue r ↔ IsCyclic (present_edges c.args.self.now ++ x ∷ [])) (sym c.ends.ensures.edge) seen

@@ -61,7 +61,8 @@ push-requires-then-present g c =
             omega (arith, parent, count),
             (
               omega (arith, n, l, p, q, room),
-              λ h. present_new a.graph a.root.0 ds d c.self.invariant.hierarchy.edges_differ c.self.invariant.decisions inside
+              λ h. present_new a.graph a.root.0 ds d c.self.invariant.hierarchy.edges_differ
+                  c.self.invariant.decisions inside
                   undecided (subst (λ x. Contains (present_edges (front a.graph a.root.0 ds d)) x) (sym edge)
                   (subst (λ (es : List Edge). Contains es (edge_of c.ends-ends.result)) c.self.invariant.edges h)),
             ),
@@ -107,7 +108,8 @@ invariant_of-self g c =
           ∙ sym (present ∙ present_push a.graph a.root.0 ds d c.if-present.true);
       size = length-set a.statuses.items c.from.result (Some c.args.present) ∙ c.self.invariant.size;
       statuses = λ e.
-          statuses_push a.statuses.items ds d c.from.result c.from.ensures in_table undecided c.self.invariant.statuses e
+          statuses_push a.statuses.items ds d c.from.result c.from.ensures in_table undecided
+          c.self.invariant.statuses e
           ∙ sym (ap (λ es. status_in es e) split);
     }
 
@@ -143,6 +145,7 @@ invariant_of-self-else-present g c =
           c.self.invariant.edges ∙ sym (present ∙ present_skip a.graph a.root.0 ds d c.if-present.false);
       size = length-set a.statuses.items c.from.result (Some c.args.present) ∙ c.self.invariant.size;
       statuses = λ e.
-          statuses_push a.statuses.items ds d c.from.result c.from.ensures in_table undecided c.self.invariant.statuses e
+          statuses_push a.statuses.items ds d c.from.result c.from.ensures in_table undecided
+          c.self.invariant.statuses e
           ∙ sym (ap (λ es. status_in es e) split);
     }

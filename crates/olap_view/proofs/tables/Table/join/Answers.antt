@@ -21,7 +21,8 @@ join_in-requires-clause-room c = λ y m e.
     let h : c.categories.k < length c.args.self.now.categories.items =
     let o = c.args.self.now.categories.ok in let q = c.categories-test.true in omega arith in
     let in_it = id_in t.categories.items k d h is in
-    let among : IsAmong i (categories_of t) y = record { member = m; category = subst (Contains (categories_of t)) (sym e) in_it } in
+    let among : IsAmong i (categories_of t) y =
+    record { member = m; category = subst (Contains (categories_of t)) (sym e) in_it } in
     subst (λ (o : Option Summary). IfSome o (IsUpTo (2 ^ 62) (2 ^ 120)))
     (sym (untouched i (ids (take k t.categories.items)) d.0 c.args.x.0 (summary_of c.args.summary) t c.categories.self j
     (id_fresh t.categories.items k d h is c.requires.differ) y among e))

@@ -36,7 +36,8 @@ categories-preserved c =
           ∙ sym (ap (map f) taken ∙ map-append f (take k t.categories) (d.0 ∷ []));
       members = subst (All (λ (w : told.View). All (λ (r : told_row.Row). r.member.0 < length t.instance) w.rows))
           (sym items)
-          (All-push (λ (w : told.View). All (λ (r : told_row.Row). r.member.0 < length t.instance) w.rows) old v inv.members
+          (All-push (λ (w : told.View). All (λ (r : told_row.Row). r.member.0 < length t.instance) w.rows) old v
+          inv.members
           c.in_ok-view.ensures.members);
       fit = subst (All Fits) (sym (ap each_view_of items ∙ map-append view_of old (v ∷ [])))
           (All-push Fits (each_view_of old) (view_of v) inv.fit c.in_ok-view.ensures.fits);

@@ -19,7 +19,8 @@ returns-clause-view c =
     if_ok_more c.view.result (λ (v : told.View). view_of v ≡ view_in c.instance.result.now a.table d)
     (λ (v : told.View). (facts : List Fact) → StandsFor c.args.self.now facts
     → view_of v ≡ direct_view c.args.self.now.instance facts d)
-    (λ v e. subst (λ (t : Tallied). (facts : List Fact) → StandsFor t facts → view_of v ≡ direct_view t.instance facts d)
+    (λ v e. subst (λ (t : Tallied). (facts : List Fact) → StandsFor t facts
+    → view_of v ≡ direct_view t.instance facts d)
     c.self.view_is (λ facts s. e ∙ ap (λ i. view_in i a.table d) c.instance.ensures
     ∙ view_is a.legal.now a.table a.added d facts k s)) c.view.ensures.view
 
