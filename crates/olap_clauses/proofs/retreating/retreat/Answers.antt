@@ -4,7 +4,7 @@ use Rattle.olap_clauses.specs.declared.trails.Step.{Step}
 use Rattle.olap_clauses.specs.declared.trails.Reason.TheVariants.{Above}
 use Rattle.olap_clauses.specs.Standing.{Agrees}
 use Rattle.olap_clauses.specs.Trails.{steps_of}
-use Rattle.olap_clauses.proofs.RetreatLemmas.{retreat_start, retreat_more, goes_on, goes_over, goes_off, front_is, front_kept}
+use Rattle.olap_clauses.proofs.RetreatLemmas.{retreat_start, retreat_more, goes_on, goes_over, goes_off, left_cut, cut_more, front_is, front_kept}
 use Rattle.olap_clauses.proofs.retreating.retreat.Goals as goal
 
 pub branches-init : goal.branches-init
@@ -18,16 +18,17 @@ branches-smaller c =
     omega arith
 
 pub branches-preserved : goal.branches-preserved
-branches-preserved c = retreat_more c.back.new.trail c.branches.invariant c.in-Some.ensures.back
+branches-preserved c = retreat_more c.back.new.trail c.branches.invariant (left_cut c.in-Some.ensures.back)
     c.in-Some.ensures.variables c.in-Broken.ensures
 
 pub returns-in-Forces : goal.returns-in-Forces
 returns-in-Forces c =
     let s : Step = record { lit = c.in-Forces.forced; reason = c.reason_of.result } in
-    let g = goes_on c.back.new.trail c.push.new.self s c.branches.invariant
-    c.in-Some.ensures.back c.in-Some.ensures.variables
+    let b = cut_more (left_cut c.in-Some.ensures.back) c.jump.ensures.off in
+    let g = goes_on c.jump.new.trail c.push.new.self s c.branches.invariant
+    b (c.jump.ensures.variables ∙ c.in-Some.ensures.variables)
     c.push.ensures.steps c.push.ensures.variables c.reason_of.ensures
-    (λ v a n h. c.in-Forces.ensures.1 v a.clauses h) in
+    (λ v a n h. c.jump.ensures.forces v a.clauses h) in
     record {
       on = λ e. g.on;
       off = λ e. absurd (cc);
