@@ -14,6 +14,7 @@ pub(crate) struct Scores {
     scores: Vec<u32>,
     bump: u32,
     shown: bool,
+    free: bool,
 }
 
 impl Scores {
@@ -23,17 +24,24 @@ impl Scores {
             scores: vec![in alloc; 0; variables as usize]?,
             bump: FIRST,
             shown: false,
+            free: false,
         })
     }
 
-    /// Whether the judge is shown the scores.
-    pub(crate) fn show(&mut self, shown: bool) {
+    /// Whether the judge is shown the scores, and whether they are followed before it is asked.
+    pub(crate) fn show(&mut self, shown: bool, free: bool) {
         self.shown = shown;
+        self.free = free;
     }
 
     /// The scores, or none.
     pub(crate) fn shown(&self) -> &[u32] {
         if self.shown { &self.scores } else { &[] }
+    }
+
+    /// The scores, where they are followed before the judge is asked, or none.
+    pub(crate) fn free(&self) -> &[u32] {
+        if self.free { &self.scores } else { &[] }
     }
 
     /// A conflict more: what is added from now on counts more.

@@ -1,0 +1,38 @@
+// What is decided where the judge isn't asked.
+ghost use Rattle.std.specs.Prelude.{IfSome};
+ghost use Rattle.olap_clauses.specs.Trails.{IsOpen};
+
+use crate::literals::{Lit, Value};
+use crate::trails::Trail;
+
+/// The unknown variable of highest score, with the sign that it had last, if one has a score at
+/// all. Nothing is said of it.
+fn best(trail: &Trail, scores: &[u32]) -> Option<Lit> {
+    let mut best = None;
+    let mut top = 0;
+    let mut variable: u32 = 0;
+    for score in scores {
+        if *score > top {
+            let positive = trail.last_sign(variable);
+            let lit = Lit { variable, positive };
+            if trail.value(lit).is(Value::Unknown) {
+                best = Some(lit);
+                top = *score;
+            }
+        }
+        variable = variable.saturating_add(1);
+    }
+    best
+}
+
+/// The open literal that had most to do with conflicts of late, if one had.
+pub(crate) fn pick(trail: &Trail, scores: &[u32]) -> Option<Lit>
+    ensures { IfSome result (λ lit. IsOpen trail.now lit) }
+{
+    let lit = best(trail, scores)?;
+    if (lit.variable as usize) < trail.variables() && trail.value(lit).is(Value::Unknown) {
+        Some(lit)
+    } else {
+        None
+    }
+}
