@@ -11,7 +11,7 @@ use crate::scoring::Scores;
 use crate::trails::Trail;
 use crate::watching::Watches;
 
-/// So many literals at most has a learned clause that is kept for good.
+/// So many literals at most has an old learned clause that is kept.
 const SHORT: usize = 5;
 
 /// Whether the second clause says as much as the first: it is no longer, and has no other literals.
@@ -52,15 +52,40 @@ pub(crate) fn learn(
     Some(new)
 }
 
+/// How many clauses between the two places have at most so many literals.
+fn count_short(pool: &Pool, given: usize, newer: usize, most: usize) -> usize {
+    let mut count: usize = 0;
+    for id in 0..pool.len() {
+        if given <= id && id < newer && pool.clause(id).len() <= most {
+            count = count.saturating_add(1);
+        }
+    }
+    count
+}
+
+/// How many literals a clause between the two places may have to be kept: fewer than `SHORT` if more than half of them
+/// are as short as that, since the pool would stay full.
+fn short_enough(pool: &Pool, given: usize, newer: usize) -> usize {
+    let half = newer.saturating_sub(given) / 2;
+    for spared in 0..SHORT {
+        let most = SHORT - spared;
+        if count_short(pool, given, newer, most) <= half {
+            return most;
+        }
+    }
+    0
+}
+
 /// Copies the clauses before the first place and from the second on, and the short ones between
 /// them.
 pub(crate) fn copy_some(pool: &Pool, to: &mut Pool, given: usize, newer: usize)
     ensures { (v : ℕ → Bool) → AreTrue v pool.now → AreTrue v to.new }
 {
+    let most = short_enough(pool, given, newer);
     to.clear();
     'clauses: for id in 0..pool.len() {
         let clause = pool.clause(id);
-        let wanted = id < given || id >= newer || clause.len() <= SHORT;
+        let wanted = id < given || id >= newer || clause.len() <= most;
         to.keep_if(wanted, clause);
     }
 }

@@ -206,3 +206,84 @@ fn drawn_sets_are_decided_as_by_all_valuations(rt: HostRuntime) {
     }
     assert!(rt; some && !each);
 }
+
+// Whether the engine finds something where this literal is assumed, and again where it isn't.
+fn is_found_with(rt: &impl Abort, alloc: Global, clauses: &[Vec<Lit>], lit: Lit) -> bool {
+    let reader = Reader {
+        variables: 8,
+        clauses,
+    };
+    let mut pool = Pool::new(alloc);
+    for clause in clauses {
+        pool.add(clause).expect(rt, "memory");
+    }
+    let mut engine = Engine::new(alloc, 8, pool, 4000, 1000).expect(rt, "memory");
+    let mut refusals = Refusals(0);
+    let mut found = false;
+    if is_open(engine.trail(), lit) {
+        engine.decide(lit);
+        found = engine.exists(&reader, &mut refusals);
+    }
+    engine.undo(0);
+    let all = engine.exists(&reader, &mut refusals);
+    assert_eq!(rt; all, is_satisfiable(clauses));
+    assert_eq!(rt; refusals.0, 0);
+    found
+}
+
+#[test]
+fn assumptions_are_followed(rt: HostRuntime) {
+    for seed in 0..4 {
+        for variable in 0..8 {
+            for positive in [false, true] {
+                let lit = Lit { variable, positive };
+                let mut clauses = drawn(&rt, rt.alloc(), seed, 30);
+                let found = is_found_with(&rt, rt.alloc(), &clauses, lit);
+                let one = Vec::from_slice(rt.alloc(), &[lit]).expect(&rt, "memory");
+                clauses.push(one).expect(&rt, "memory");
+                assert_eq!(rt; found, is_satisfiable(&clauses), "seed {seed}, {variable} {positive}");
+            }
+        }
+    }
+}
+
+// Six pigeons in five holes, of which the first 30 variables speak, and a hundred variables behind them of which each
+// must be true.
+fn pigeons_and_facts(rt: &impl Abort, alloc: Global) -> Vec<Vec<Lit>> {
+    let mut clauses = pigeons(rt, alloc, 6, 5);
+    clauses.push(clause_of(rt, alloc, &[31])).expect(rt, "memory");
+    for variable in 31..130 {
+        let clause = clause_of(rt, alloc, &[-variable, variable + 1]);
+        clauses.push(clause).expect(rt, "memory");
+    }
+    clauses
+}
+
+// There are 6! ways to put five of six pigeons into five holes, each a conflict for whoever learns nothing, and a
+// clause that is learned needs none of the facts.
+#[test]
+fn little_is_learned_from_few_conflicts(rt: HostRuntime) {
+    for assumed in [false, true] {
+        let clauses = pigeons_and_facts(&rt, rt.alloc());
+        let reader = Reader {
+            variables: 131,
+            clauses: &clauses,
+        };
+        let mut pool = Pool::new(rt.alloc());
+        for clause in &clauses {
+            pool.add(clause).expect(&rt, "memory");
+        }
+        let mut engine = Engine::new(rt.alloc(), 131, pool, 4000, 1000).expect(&rt, "memory");
+        let spare = Lit {
+            variable: 130,
+            positive: true,
+        };
+        if assumed && is_open(engine.trail(), spare) {
+            engine.decide(spare);
+        }
+        assert!(rt; !engine.exists(&reader, &mut Refusals(0)));
+        let effort = engine.effort();
+        assert!(rt; 0 < effort.conflicts && effort.conflicts < 720, "{effort:?}");
+        assert!(rt; effort.literals < 30 * effort.conflicts, "{effort:?}");
+    }
+}
