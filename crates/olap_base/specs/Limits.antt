@@ -1,5 +1,5 @@
 -- The limits: what an input may have at most. Each stands here once, and is cited by its name.
-use Rattle.std.specs.Prelude.{ℕ}
+use Rattle.std.specs.Prelude.{ℕ, ◌^◌}
 
 -- categories of a schema, `All` counted
 abbrev pub most_categories : ℕ
@@ -44,6 +44,14 @@ most_listed_facts = 1048576
 -- views of a store
 abbrev pub most_views : ℕ
 most_views = 8
+
+-- the greatest count of a stored row
+abbrev pub most_count : ℕ
+most_count = 4294967295
+
+-- the greatest magnitude of a stored row's sum
+abbrev pub most_sum : ℕ
+most_sum = 2 ^ 95
 
 -- bytes of a file
 abbrev pub most_file_bytes : ℕ

@@ -10,7 +10,7 @@ use Rattle.olap_base.specs.Summaries.{Summary}
 use Rattle.olap_base.specs.Views.{Fact, direct_rows, direct_views, row_at, rows_from_views}
 
 -- P holds at exactly so many places of the list
-abbrev pub HoldsTimes : (ℕ → Type 0) → List ℕ → ℕ → Type 0
+abbrev pub HoldsTimes : {A : Type 0} → (A → Type 0) → List A → ℕ → Type 0
 HoldsTimes P [] n = n ≡ 0
 HoldsTimes P (x ∷ xs) n = (P x × (m : ℕ) × (n ≡ suc m) × HoldsTimes P xs m) ⊎ ((P x → ⊥) × HoldsTimes P xs n)
 

@@ -33,6 +33,12 @@ pub const MOST_LISTED_FACTS: u64 = 1_048_576;
 /// Views of a store.
 pub const MOST_VIEWS: usize = 8;
 
+/// The greatest count of a stored row.
+pub const MOST_COUNT: u64 = 4_294_967_295;
+
+/// The greatest magnitude of a stored row's sum: 2^95.
+pub const MOST_SUM: i128 = 39_614_081_257_132_168_796_771_975_168;
+
 /// Bytes of a file.
 pub const MOST_FILE_BYTES: u64 = 67_108_864;
 
