@@ -521,7 +521,8 @@ module _ {P C F R : Type 0} (r : Rolling P C F R) (w : IsRolling r) (c : C) (x y
   pub merged_of_one : (sources : List C) (n : ℕ) → HoldsTimes (λ s. By r x s y) sources n
       → from_rows r c (below r sources (r.one x ∷ [])) ≡ cons_option (row_of r y (ones n)) []
   merged_of_one sources n h =
-      filter_map_only (λ z. row_of r z (rows_total r (below r sources (r.one x ∷ [])) z)) y (r.points c) (w.distinct c) m
+      filter_map_only (λ z. row_of r z (rows_total r (below r sources (r.one x ∷ [])) z)) y (r.points c)
+      (w.distinct c) m
       (λ z k q. ap (row_of r z) (merged_at sources z k
       ∙ total_same (λ s. cond (by_source r w c z k x s) (single (pos 1)) None) (λ s. None) sources
       (λ s l. nothing_if (by_source r w c z k x s) (single (pos 1))

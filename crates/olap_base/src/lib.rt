@@ -9,22 +9,23 @@
 mod emitting;
 mod fetching;
 mod ids;
-mod in_memory;
 mod laws;
+mod library_in_memory;
 mod limits;
 mod lists;
 mod outside;
+mod sink_in_memory;
 mod sure;
 mod texts;
 
 pub use emitting::emit;
 pub use fetching::{FetchError, fetch};
 pub use ids::{CatId, EdgeId, Failed, MemberId, Memory};
-pub use in_memory::{MemLibrary, MemSink};
 pub use laws::{
     above_is_lawful, agree_exactly_if_reached_by_one, no_faults_none_rose, one_facts_views,
     totals_of_summaries, totals_of_values,
 };
+pub use library_in_memory::MemLibrary;
 pub use limits::{
     MOST_CATEGORIES, MOST_CONSTANTS, MOST_CONSTRAINTS, MOST_COUNT, MOST_DEPTH, MOST_EDGES,
     MOST_FACTS, MOST_FILE_BYTES, MOST_FROZEN, MOST_GENERATED, MOST_LISTED_FACTS, MOST_MEMBERS,
@@ -32,5 +33,6 @@ pub use limits::{
 };
 pub use lists::List;
 pub use outside::{Library, OpenError, Sink};
+pub use sink_in_memory::MemSink;
 pub use sure::{SureLibrary, SureSink};
 pub use texts::Text;

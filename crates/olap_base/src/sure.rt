@@ -1,9 +1,9 @@
 // A library and a sink that refuse nothing, so that no fault can come from them.
-ghost use Rattle.std.specs.Prelude.{◌≡◌, ◌+◌, ◌<◌, ◌≤◌, is_ok, IfOk, IsTrue, None, Ok, OnOk, length, take, true};
+ghost use Rattle.std.specs.Prelude.{◌≡◌, ◌+◌, ◌<◌, ◌≤◌, is_ok, false, IfOk, IsTrue, None, Ok, OnOk, length, take, true};
 ghost use Rattle.std.specs.Option.{ForSome};
 ghost use Rattle.olap_base.specs.Files.{opened_content};
 
-use crate::in_memory::{hand_out, place};
+use crate::library_in_memory::{hand_out, place};
 use crate::{Failed, Library, List, OpenError, Sink, Text};
 
 /// Files by name in memory, of which none is missing: a name that isn't held has no bytes. A read hands out at most
@@ -32,12 +32,16 @@ fn content(files: &[(Text, Text)], opened: Option<usize>) -> &[u8]
 }
 
 impl SureLibrary {
-    ghost use Rattle.olap_base.specs.Written.{sure_files};
+    ghost use Rattle.olap_base.specs.Written.{sure_chunk, sure_files, sure_ready, sure_taken};
 
     /// A library of these files, names with contents.
     pub fn new(files: List<(Text, Text)>, chunk: usize) -> SureLibrary
         requires { 0 < chunk }
-        ensures { sure_files result ≡ files }
+        ensures files { sure_files result ≡ files }
+        ensures chunk { sure_chunk result ≡ chunk }
+        // Fresh: no call was made.
+        ensures ready { sure_ready result ≡ false }
+        ensures taken { sure_taken result ≡ 0 }
     {
         SureLibrary {
             files,
@@ -51,7 +55,7 @@ impl SureLibrary {
 
 impl Library for SureLibrary {
     ghost use Rattle.olap_base.specs.Files.{Opens, Takes};
-    ghost use Rattle.olap_base.specs.Written.{sure_contents, sure_ready, sure_rest, sure_taken};
+    ghost use Rattle.olap_base.specs.Written.{sure_chunk, sure_contents, sure_files, sure_ready, sure_rest, sure_taken};
 
     ghost contents = { sure_contents };
 
@@ -65,6 +69,8 @@ impl Library for SureLibrary {
 
     ghost faults = { λ _. 0 };
 
+    ghost sure = { λ _. true };
+
     ghost told = { λ _ _ t. t };
 
     fn open_file(&mut self, name: &str) -> Result<(), OpenError>
@@ -72,8 +78,10 @@ impl Library for SureLibrary {
         ensures ready { sure_ready self.new ≡ is_ok result }
         ensures taken { sure_taken self.new ≡ 0 }
         ensures opened { OnOk result (Opens (sure_contents self.old) name.now (sure_rest self.new)) }
-        // Beside the trait's: it is never refused.
+        // Beside the trait's: it is never refused, and what it was made with stays.
         ensures sure { is_ok result ≡ true }
+        ensures files { sure_files self.new ≡ sure_files self.old }
+        ensures chunk { sure_chunk self.new ≡ sure_chunk self.old }
     {
         self.ready = true;
         self.taken = 0;
@@ -89,8 +97,11 @@ impl Library for SureLibrary {
         ensures taken { IfOk result (λ n. sure_taken self.new ≡ sure_taken self.old + n) }
         ensures bytes { IfOk result
             (λ n. Takes (sure_rest self.old) (sure_rest self.new) (take n buf.new) (length buf.new)) }
-        // Beside the trait's: it is never refused.
+        // Beside the trait's: it is never refused, hands out at most `chunk` bytes, and what it was made with stays.
         ensures sure { is_ok result ≡ true }
+        ensures piece { IfOk result (λ n. n ≤ sure_chunk self.old) }
+        ensures files { sure_files self.new ≡ sure_files self.old }
+        ensures chunk { sure_chunk self.new ≡ sure_chunk self.old }
     {
         let content = content(self.files.items(), self.opened);
         let count = hand_out(content, self.taken, self.chunk, buf);
@@ -114,6 +125,8 @@ impl Sink for SureSink {
     ghost contents = { λ _. None };
 
     ghost faults = { λ _. 0 };
+
+    ghost takes = { λ _ _. true };
 
     fn write(&mut self, piece: &[u8]) -> Result<usize, Failed>
         requires { 0 < length piece.now }

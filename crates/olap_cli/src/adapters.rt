@@ -1,6 +1,6 @@
 // The real files and standard output, as a library and a sink. They tell no content and no name, so what a real
 // file holds is nothing that a proof knows.
-ghost use Rattle.std.specs.Prelude.{◌≡◌, None, is_some};
+ghost use Rattle.std.specs.Prelude.{◌≡◌, ◌==◌, None, false, is_some};
 
 use olap_base::{Failed, Library, OpenError, Sink};
 use std::fs::Files;
@@ -41,6 +41,8 @@ impl<'a, R: Files> Library for FileLibrary<'a, R> {
     ghost taken = { λ s. s.taken };
 
     ghost faults = { λ s. s.faults };
+
+    ghost sure = { λ _. false };
 
     ghost told = { λ _ _ t. t };
 
@@ -97,6 +99,8 @@ impl<'a, P: Print> Sink for StdoutSink<'a, P> {
     ghost contents = { λ _. None };
 
     ghost faults = { λ s. s.faults };
+
+    ghost takes = { λ _ more. more == 0 };
 
     fn write(&mut self, piece: &[u8]) -> Result<usize, Failed> {
         match self.to.write_some(piece) {

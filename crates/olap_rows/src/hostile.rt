@@ -1,5 +1,5 @@
 // Texts that nobody writes in good faith, and a file without an end.
-ghost use Rattle.std.specs.Prelude.{None};
+ghost use Rattle.std.specs.Prelude.{None, false};
 
 use crate::running::{check_bytes, check_status, grown};
 use crate::samples::CHAIN;
@@ -29,6 +29,8 @@ impl Library for Endless {
     ghost taken = { λ s. s.taken };
 
     ghost faults = { λ s. s.faults };
+
+    ghost sure = { λ _. false };
 
     ghost told = { λ _ _ t. t };
 
