@@ -1,6 +1,6 @@
 -- A text that is cut at its marks, piece by piece.
 --     split-none     a text without a mark is one piece
---     split-some     the first piece ends at the first mark, and the others stand behind it
+--     split-some     the first piece ends at the first mark, and the others stand after it
 --     size_left      how much is left, where an empty piece counts too
 use Rattle.std.proofs.Common.{◌≡◌, ◌+◌, ◌<◌, ◌∷◌, ◌∙◌, Bool, true, false, Bor, ℕ, List, [], cond, length, take, drop, nat_lt, Option, Some, None, IfSome, refl, ap, arith}
 use Rattle.std.specs.List.{after_first, before_first, onto_first, position, position_or_len, slice_split}
@@ -46,7 +46,7 @@ module _ (p : ℕ → Bool) where
       let cut : slice_split p xs ≡ before_first p xs ∷ slice_split p (after_first p xs) = slice_split_first p xs 0 l in
       (rw f.1 at cut, rw f.1 at l)
 
--- what stands behind a piece is less than what it was cut from
+-- what stands after a piece is less than what it was cut from
 pub smaller : (left others : Option (Bor (List ℕ))) (text : Bor (List ℕ)) → left ≡ Some text
     → IfSome others (λ o. length o.now < length text.now) → size_left others < size_left left
 smaller left None text e l = rw e (omega arith)

@@ -1,4 +1,4 @@
--- Rolling up over any points: the two views agree for every list of facts exactly where each fact's point is reached by
+-- Rolling up over any points: the two views agree for every list of facts exactly if each fact's point is reached by
 -- one source. Members of an instance are a case of it, and so are tuples of members.
 use Rattle.std.proofs.Common.{◌≡◌, ℕ, zero, suc, ◌+◌, ◌⊎◌, ◌↔◌, List, [], ◌∷◌, ℤ, pos, Bool, true, false, cond, ◌&&◌, ◌||◌, map, refl, sym, ap, subst, ◌∙◌, inl, inr, Option, Some, None, arith}
 use Rattle.std.specs.Prelude.{Contains, filter, filter_map, flat_map, IsTrue}
@@ -446,7 +446,7 @@ one_more true (suc n) = let e : 1 + suc n ≡ suc (suc n) = omega arith in
     λ i. Some (record { count = e i; sum = pos (e i); least = pos 1; greatest = pos 1 })
 one_more false n = refl
 
--- as many ones as there are places at which the test answers yes
+-- as many ones as there are places of which the test is true
 ones_total : {A : Type 0} (P : A → Type 0) (p : A → Bool) → ((x : A) → IsTrue (p x) ↔ P x) → (xs : List A) (n : ℕ) →
     HoldsTimes P xs n → total_by (λ s. cond (p s) (single (pos 1)) None) xs ≡ ones n
 ones_total P p d [] n e = sym (ap ones e)

@@ -143,7 +143,7 @@ pub total_is : {A : Type 0} (f : A → Summary) (xs : List A) → total (map f x
 total_is f [] = refl
 total_is f (x ∷ xs) = ap (λ t. Some (f x) ⊕ t) (total_is f xs)
 
--- one more behind the others
+-- one more after the others
 pub total_push : (ss : List Summary) (s : Summary) → total (ss ++ s ∷ []) ≡ total ss ⊕ Some s
 total_push [] s = refl
 total_push (t ∷ ss) s = ap (λ u. Some t ⊕ u) (total_push ss s) ∙ sym (⊕_assoc (Some t) (total ss) (Some s))

@@ -1,4 +1,4 @@
--- Members of an instance as points: the two views of a category agree for every fact table exactly where each fact's
+-- Members of an instance as points: the two views of a category agree for every fact table exactly if each fact's
 -- member is reached by one source.
 use Rattle.std.proofs.Common.{◌≡◌, ℕ, ◌↔◌, List, length, pos, true, refl, sym, ap, subst, ◌∙◌, arith}
 use Rattle.std.specs.Prelude.{Contains, ◌==◌}

@@ -1,4 +1,12 @@
 -- What a library has, and what its calls do.
+--     Files         for each name its content, or that it has none
+--     Asks          what a library tells of the name that it was asked for
+--     Opens         the file of that name is open, from its first byte
+--     Takes         the next bytes were taken
+--     Lacks         the name has no content
+--     IsContent     these bytes are the name's content
+--     IsLonger      the name's content has more bytes than that
+--     content_of    the content of the first file of that name in a list
 use Rattle.std.specs.Cmp.Lexicographic.{pointwise}
 use Rattle.std.specs.Option.{unwrap_or}
 use Rattle.std.specs.Prelude.{◌≡◌, ◌⊎◌, ℕ, ◌<◌, List, [], ◌∷◌, ◌++◌, nat_eq, slice_index_or, length, ⊤, Option, None, Some, IsSome, is_some, if◌then◌else◌}

@@ -1,4 +1,4 @@
--- Tests whose answer is yes exactly where what they ask holds. How they decide is hidden.
+-- Tests that return true exactly if what they ask holds. How they decide is hidden.
 use Rattle.std.specs.Prelude.{ℕ, List, Bool, IsTrue, ◌↔◌}
 use Rattle.olap_base.specs.Graph.{Graph, CategoryReaches, IsCategoryName}
 use Rattle.olap_base.specs.Instance.{Instance, Reaches}
@@ -8,6 +8,7 @@ use Rattle.olap_base.specs.Deciding.{is_yes, is_yes_is, decide_reaches, decide_c
 pub reaches : Instance → ℕ → ℕ → Bool
 reaches i x y = is_yes (decide_reaches i x y)
 
+-- it is true exactly if x reaches y
 pub reaches_is : (i : Instance) (x y : ℕ) → IsTrue (reaches i x y) ↔ Reaches i x y
 unfolding reaches
 reaches_is i x y = is_yes_is (decide_reaches i x y)
@@ -16,6 +17,7 @@ reaches_is i x y = is_yes_is (decide_reaches i x y)
 pub category_reaches : Graph → ℕ → ℕ → Bool
 category_reaches g c d = is_yes (decide_category_reaches g c d)
 
+-- it is true exactly if c reaches d
 pub category_reaches_is : (g : Graph) (c d : ℕ) → IsTrue (category_reaches g c d) ↔ CategoryReaches g c d
 unfolding category_reaches
 category_reaches_is g c d = is_yes_is (decide_category_reaches g c d)
@@ -24,6 +26,7 @@ category_reaches_is g c d = is_yes_is (decide_category_reaches g c d)
 pub is_category_name : List ℕ → Bool
 is_category_name name = is_yes (decide_category_name name)
 
+-- it is true exactly if the text is a category name
 pub is_category_name_is : (name : List ℕ) → IsTrue (is_category_name name) ↔ IsCategoryName name
 unfolding is_category_name
 is_category_name_is name = is_yes_is (decide_category_name name)

@@ -7,15 +7,18 @@
 use Rattle.std.specs.Prelude.{◌≡◌, ℕ, ◌+◌, List, [], ◌∷◌, ℤ, ◌+ℤ◌, length, map, fold, sum_by, Option, Some, None}
 use Rattle.std.specs.Int.{int_min, int_max}
 
+-- how many values there are, their sum, the least and the greatest of them
 pub record Summary : Type 0 where
   pub count : ℕ
   pub sum : ℤ
   pub least : ℤ
   pub greatest : ℤ
 
+-- the summary of one value
 abbrev pub of_value : ℤ → Summary
 of_value v = record { count = 1; sum = v; least = v; greatest = v }
 
+-- the summary of two lots of values together
 abbrev pub joined : Summary → Summary → Summary
 joined s t = record {
   count = s.count + t.count;

@@ -78,7 +78,7 @@ impl Sink for MemSink {
         ensures written { WriteAppends (Some (written self.old)) (Some (written self.new)) result piece.now }
         ensures cause { HasCause (sink_faults self.old) (sink_faults self.new) result }
         ensures surely { TakesSurely (sink_takes self.old) (sink_takes self.new) (length piece.now) result }
-        // Beside the trait's: it is refused exactly if it is listed or no room is left, and takes at most `chunk` bytes.
+        // Beside the trait's: refused exactly if it is listed or no room is left, and takes `chunk` bytes at most.
         ensures refused { is_ok result ≡ not
             (refuses_next self.old || nat_le (sink_room self.old) (length (written self.old))) }
         ensures piece { IfOk result (λ n. n ≤ sink_chunk self.old) }
