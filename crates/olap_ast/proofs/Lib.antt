@@ -14,6 +14,8 @@ mod SummarizableExample
 pub mod TextLemmas
 mod CandidatesExist
 mod Uniqueness
+pub mod OrderedLists
+pub mod Determined
 mod QuestionLemmas
 mod ListingLemmas
 pub mod ThreeValueLemmas

@@ -9,7 +9,7 @@ use mathlib.Core.List.{List-discrete}
 use Rattle.olap_base.specs.Graph.{Edge, IsHierarchy}
 use Rattle.olap_base.specs.Instance.{Instance, IsMemberOf, category_of, name_of}
 use Rattle.olap_base.specs.Deciding.{decide_contains}
-use Rattle.olap_base.proofs.ListLemmas.{Contains-from_filter}
+use Rattle.olap_base.proofs.ListLemmas.{Contains-from_filter, Contains-nil}
 use Rattle.olap_ast.specs.Formula.{Formula, Holds, equalities}
 use Rattle.olap_ast.specs.Schema.{Schema, IsLegal}
 use Rattle.olap_ast.specs.Constants.{IsConstant, IsFreshName}
@@ -195,6 +195,36 @@ module _ (s : Schema) (q : Formula) (k : Candidates) (hier : IsHierarchy s.graph
       no_index : (b : Bool) (n : ℕ) → b ≡ false → cond b n 0 ≡ 0
       no_index true n e = absurd (cc)
       no_index false n e = refl
+
+  -- at the root's member the formulas without names have the truths that they have at x
+  truths : (h : Formula) → equalities h ≡ [] → (m : ℕ) → IsMemberOf small (category_of i x) m →
+      Holds small m h ↔ Holds i x h
+  truths h none m t =
+      let r = shape_root_is s.graph i hier legal.is_instance legal.lawful x hx name in
+      let a = shape_root s.graph i hier legal.is_instance legal.lawful x hx name in
+      let e : m ≡ a = shape_one_each s.graph i hier legal.is_instance legal.lawful x hx name m a t.0 r.0
+      (t.1 ∙ sym r.1) in
+      let u = same_truth a r.0 h (λ d text c. absurd (Contains-nil (record { category = d; text = text })
+      (subst (λ l. Contains l (record { category = d; text = text })) none c))) in (
+        λ z. subst (λ y. Holds i y h) r.2 (u.0 (subst (λ n. Holds small n h) e z)),
+        λ z. subst (λ n. Holds small n h) (sym e) (u.1 (subst (λ y. Holds i y h) (sym r.2) z)),
+      )
+
+  truths_thawed : (h : Formula) → equalities h ≡ [] → (m : ℕ) →
+      IsMemberOf (thawed s k (category_of i x) frozen) (category_of i x) m →
+      Holds (thawed s k (category_of i x) frozen) m h ↔ Holds i x h
+  truths_thawed h none =
+      subst (λ j. (m : ℕ) → IsMemberOf j (category_of i x) m → Holds j m h ↔ Holds i x h) (sym thawed_is)
+      (truths h none)
+
+-- there is one with the member's category as its root, at which the formulas without names are as true as at the member
+pub frozen_alike : (s : Schema) (q : Formula) (k : Candidates) → IsHierarchy s.graph → AreCandidates s q k
+    → (i : Instance) → IsLegal s i → (x : ℕ) → x < length i → Holds i x q
+    → (f : Frozen) × IsFrozen s q (category_of i x) k f
+    × ((h : Formula) → equalities h ≡ [] → (m : ℕ) → IsMemberOf (thawed s k (category_of i x) f) (category_of i x) m
+    → Holds (thawed s k (category_of i x) f) m h ↔ Holds i x h)
+frozen_alike s q k hier ok i l x hx t =
+    (frozen s q k hier ok i l x hx, frozen_is s q k hier ok i l x hx t, truths_thawed s q k hier ok i l x hx)
 
 pub frozen_exactly : FrozenExactlyIfSomeInstance
 frozen_exactly s q r k hier ok = (

@@ -1,12 +1,15 @@
--- There is one least frozen dimension at most, and one counterexample.
+-- For given candidates there is one least frozen dimension at most, and one counterexample.
 use Rattle.std.proofs.Common.{◌≡◌, ℕ, ◌<◌, List, [], ◌∷◌, ◌++◌, length, map, Bool, true, false, cond, refl, sym, subst, ◌∙◌, ◌⊎◌, inl, inr, arith}
 use Rattle.olap_ast.specs.Violation.{IsNotAfter}
-use Rattle.olap_ast.specs.Frozen.{Frozen, IsLeastFrozen, LeastIsOne, code}
-use Rattle.olap_ast.specs.Summarizable.{CounterexampleIsOne, not_by_one}
+use Rattle.olap_ast.specs.Formula.{Formula}
+use Rattle.olap_ast.specs.Schema.{Schema}
+use Rattle.olap_ast.specs.Frozen.{Candidates, Frozen, IsLeastFrozen, code}
+use Rattle.olap_ast.specs.Summarizable.{IsCounterexample, not_by_one}
 
 -- ---- the least is one
 
-not_after_both : (xs ys : List ℕ) → IsNotAfter xs ys → IsNotAfter ys xs → xs ≡ ys
+-- of two lists neither comes after the other only if they are equal
+pub not_after_both : (xs ys : List ℕ) → IsNotAfter xs ys → IsNotAfter ys xs → xs ≡ ys
 not_after_both [] [] a b = refl
 not_after_both [] (y ∷ ys) a b = absurd b
 not_after_both (x ∷ xs) [] a b = absurd a
@@ -15,18 +18,18 @@ not_after_both (x ∷ xs) (y ∷ ys) (inl l) (inr m) = let e = m.0 in absurd (om
 not_after_both (x ∷ xs) (y ∷ ys) (inr l) (inl m) = let e = l.0 in absurd (omega arith)
 not_after_both (x ∷ xs) (y ∷ ys) (inr l) (inr m) = let e = l.0 in let q = not_after_both xs ys l.1 m.1 in cc
 
-bit : Bool → ℕ
-bit b = cond b 1 0
-
+-- 0 for absent and 1 for present
 abbrev bits : List Bool → List ℕ
 bits bs = map (λ b. cond b 1 0) bs
 
+-- a bit is told by its number
 same_bit : (a b : Bool) → ◌≡◌ {A = ℕ} (cond a 1 0) (cond b 1 0) → a ≡ b
 same_bit true true e = refl
 same_bit true false e = absurd (omega arith)
 same_bit false true e = absurd (omega arith)
 same_bit false false e = refl
 
+-- equal codes have equal bits and equal indexes
 parts : (a b : List Bool) (m n : List ℕ) → length a ≡ length b → bits a ++ m ≡ bits b ++ n → (a ≡ b) × (m ≡ n)
 parts [] [] m n h e = (refl, e)
 parts [] (y ∷ b) m n h e = absurd (omega arith)
@@ -35,20 +38,30 @@ parts (x ∷ a) (y ∷ b) m n h e = let p : ◌≡◌ {A = ℕ} (cond x 1 0) (co
     cc e in let q : bits a ++ m ≡ bits b ++ n = cc e in
     let r = parts a b m n (omega arith) q in let z = same_bit x y p in let w = r.0 in (cc, r.1)
 
+-- a value is its bits and its indexes
 same_frozen : (f h : Frozen) → f.edges ≡ h.edges → f.names ≡ h.names → f ≡ h
 same_frozen f h p q = λ i. record { edges = p i; names = q i }
 
-pub least_is_one : LeastIsOne
-least_is_one s q r k f h a b =
-    let e = not_after_both (code f) (code h) (a.least h b.is_one) (b.least f a.is_one) in
-    let t = parts f.edges h.edges f.names h.names (a.is_one.edge_count ∙ sym b.is_one.edge_count) e in
+-- two values of as many edges, neither after the other by their codes, are equal
+pub code_is_one : (f h : Frozen) → length f.edges ≡ length h.edges → IsNotAfter (code f) (code h)
+    → IsNotAfter (code h) (code f) → f ≡ h
+code_is_one f h l a b =
+    let t = parts f.edges h.edges f.names h.names l (not_after_both (code f) (code h) a b) in
     same_frozen f h t.0 t.1
 
+-- the least is one
+pub least_is_one : (s : Schema) (q : Formula) (r : ℕ) (k : Candidates) (f h : Frozen) →
+    IsLeastFrozen s q r k f → IsLeastFrozen s q r k h → f ≡ h
+least_is_one s q r k f h a b =
+    code_is_one f h (a.is_one.edge_count ∙ sym b.is_one.edge_count) (a.least h b.is_one) (b.least f a.is_one)
+
+-- equal, or one below the other
 order : (m n : ℕ) → (m ≡ n) ⊎ ((m < n) ⊎ (n < m))
 order m n = grind arith
 
 -- a counterexample is one
-pub counterexample_is_one : CounterexampleIsOne
+pub counterexample_is_one : (s : Schema) (c : ℕ) (sources : List ℕ) (k : Candidates) (b d : ℕ) (f h : Frozen) →
+    IsCounterexample s c sources k b f → IsCounterexample s c sources k d h → (b ≡ d) × (f ≡ h)
 counterexample_is_one s c sources k b d f h x y =
     let e = go (order b d) in (
       e,

@@ -1,13 +1,14 @@
 -- What an audit of a schema finds: categories, constraints and edges that say or do nothing.
---     IsFinding      one finding
---     AreFindings    the whole list, in its order
+--     IsFinding            one finding
+--     AreFindings          the whole list, in its order
+--     TheFindingsAreOne    there is one such list at most
 use Rattle.std.specs.Prelude.{◌≡◌, ◌≢◌, ℕ, zero, suc, List, [], ◌∷◌, AllPairs, Contains, Some, remove, slice_get}
 use Rattle.olap_base.specs.Graph.{Edge, IsDeclared}
 use Rattle.olap_base.specs.Instance.{Instance, IsBelow, IsMemberOf, category_of}
 use Rattle.olap_ast.specs.Schema.{Constraint, IsLegal, Meets, Schema}
 use Rattle.olap_ast.specs.Violation.{IsNotAfter}
 
--- a constraint is counted from 1, an edge by its place
+-- what is found: a category, a constraint counted from 1, or an edge by its place
 pub data Finding : Type 0 where
   Unsatisfiable : (category : ℕ) → Finding
   Redundant : (constraint : ℕ) → Finding
@@ -32,6 +33,7 @@ IsUnused s e =
     (i : Instance) → IsLegal s i → (x y : ℕ) → IsBelow i x y → category_of i x ≡ e.child →
     category_of i y ≡ e.parent → ⊥
 
+-- the finding is so of the schema
 abbrev pub IsFinding : Schema → Finding → Type 0
 IsFinding s (Unsatisfiable c) = IsDeclared s.graph c × IsUnsatisfiable s c
 IsFinding s (Redundant zero) = ⊥
@@ -53,3 +55,8 @@ pub record AreFindings (s : Schema) (findings : List Finding) : Type 0 where
   pub ordered : AllPairs IsEarlier findings
   pub sound : (f : Finding) → Contains findings f → IsFinding s f
   pub complete : (f : Finding) → IsFinding s f → Contains findings f
+
+-- the findings of a schema are one list
+abbrev pub TheFindingsAreOne : Type 0
+TheFindingsAreOne = (s : Schema) (some others : List Finding) → AreFindings s some → AreFindings s others →
+    some ≡ others

@@ -17,20 +17,23 @@ IsImplied s r f = (i : Instance) → IsLegal s i → Meets i (record { root = r;
 abbrev pub NoneFrozen : Schema → Formula → ℕ → Candidates → Type 0
 NoneFrozen s q r k = (f : Frozen) → IsFrozen s q r k f → ⊥
 
+-- a category is unsatisfiable exactly if it is the root of no frozen dimension
 abbrev pub UnsatisfiableExactlyIfNoneFrozen : Type 0
 UnsatisfiableExactlyIfNoneFrozen = (s : Schema) (c : ℕ) (k : Candidates) → IsHierarchy s.graph →
     AreCandidates s Truth k → IsUnsatisfiable s c ↔ NoneFrozen s Truth c k
 
+-- a constraint is implied exactly if no frozen dimension with its root makes its formula false
 abbrev pub ImpliedExactlyIfNoneFrozen : Type 0
 ImpliedExactlyIfNoneFrozen = (s : Schema) (r : ℕ) (q : Formula) (k : Candidates) → IsHierarchy s.graph →
     AreCandidates s (Not q) k → IsImplied s r q ↔ NoneFrozen s (Not q) r k
 
--- the question is asked of the schema without the constraint
+-- a constraint is redundant exactly if no frozen dimension of the schema without it makes its formula false
 abbrev pub RedundantExactlyIfNoneFrozen : Type 0
 RedundantExactlyIfNoneFrozen = (s : Schema) (j : ℕ) (c : Constraint) (k : Candidates) → IsHierarchy s.graph →
     slice_get s.constraints j ≡ Some c → AreCandidates (without s j) (Not c.formula) k →
     IsRedundant s j ↔ NoneFrozen (without s j) (Not c.formula) c.root k
 
+-- an edge is unused exactly if no frozen dimension with its child as root has it
 abbrev pub UnusedExactlyIfNoneFrozen : Type 0
 UnusedExactlyIfNoneFrozen = (s : Schema) (e : Edge) (k : Candidates) → IsHierarchy s.graph →
     AreCandidates s (Path (e.parent ∷ [])) k → IsUnused s e ↔ NoneFrozen s (Path (e.parent ∷ [])) e.child k

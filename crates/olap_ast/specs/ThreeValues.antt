@@ -18,19 +18,22 @@ MayBe No b = b ≡ false
 MayBe Yes b = b ≡ true
 MayBe Unknown b = Unit {0}
 
--- Yes exactly where true is given always, No exactly where false is; so else Unknown
+-- Yes exactly if true is given always, No exactly if false is, else Unknown
 pub record IsAgreed (Given : Bool → Type 0) (value : Truth3) : Type 0 where
   pub yes : (value ≡ Yes) ↔ Given true
   pub no : (value ≡ No) ↔ Given false
 
 -- ---- connectives
 
+-- false only of true and false
 abbrev pub implies : Bool → Bool → Bool
 implies p q = not p || q
 
+-- the two are equal
 abbrev pub iff : Bool → Bool → Bool
 iff p q = if p then q else not q
 
+-- the two differ
 abbrev pub xor : Bool → Bool → Bool
 xor p q = not (iff p q)
 
@@ -65,7 +68,7 @@ AlwaysOne xs b = (bs : List Bool) → MayAllBe xs bs → exactly_one bs ≡ b
 
 -- ---- the value that is agreed, as a function
 
--- where it is known which it is
+-- if it is known which it is
 abbrev pub known : Bool → Truth3
 known false = No
 known true = Yes
@@ -86,27 +89,29 @@ over No f = f false
 over Yes f = f true
 over Unknown f = common (f false) (f true)
 
--- the value of a connective: of one value, and of two
+-- the value of a connective of one value
 abbrev pub value_of : (Bool → Bool) → Truth3 → Truth3
 value_of f x = over x (λ p. known (f p))
 
+-- the value of a connective of two
 abbrev pub value_of_both : (Bool → Bool → Bool) → Truth3 → Truth3 → Truth3
 value_of_both f x y = over x (λ p. over y (λ q. known (f p q)))
 
--- how many are true, and how many unknown
+-- how many are true
 abbrev pub yes_count : List Truth3 → ℕ
 yes_count [] = 0
 yes_count (No ∷ xs) = yes_count xs
 yes_count (Yes ∷ xs) = suc (yes_count xs)
 yes_count (Unknown ∷ xs) = yes_count xs
 
+-- how many are unknown
 abbrev pub unknown_count : List Truth3 → ℕ
 unknown_count [] = 0
 unknown_count (No ∷ xs) = unknown_count xs
 unknown_count (Yes ∷ xs) = unknown_count xs
 unknown_count (Unknown ∷ xs) = suc (unknown_count xs)
 
--- whether exactly one is true, where so many are true and so many unknown
+-- whether exactly one is true, if so many are true and so many unknown
 abbrev pub value_of_counts : ℕ → ℕ → Truth3
 value_of_counts zero zero = No
 value_of_counts (suc zero) zero = Yes
@@ -114,6 +119,7 @@ value_of_counts zero (suc u) = Unknown
 value_of_counts (suc zero) (suc u) = Unknown
 value_of_counts (suc (suc y)) u = No
 
+-- the value of `one(..)`
 abbrev pub value_of_one : List Truth3 → Truth3
 value_of_one xs = value_of_counts (yes_count xs) (unknown_count xs)
 

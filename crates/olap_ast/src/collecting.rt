@@ -8,7 +8,7 @@ use crate::{Formula, Terms};
 use olap_base::{CatId, List, Memory, Text};
 use std::alloc::Global;
 
-/// The distinct constants of the category in the formula, in byte order. `Memory` where there is no room for them.
+/// The distinct constants of the category in the formula, in byte order. `Memory` if there is no room for them.
 ///
 /// It calls itself as deep as the formula is, and sorts the texts.
 pub fn constants(alloc: Global, f: &Formula, c: CatId) -> Result<List<Text>, Memory>

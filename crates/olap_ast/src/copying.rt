@@ -8,7 +8,7 @@ use crate::{Formula, Terms};
 use olap_base::{CatId, List, Memory, Text};
 use std::alloc::Global;
 
-/// An equal formula. `Memory` where there is no room for it.
+/// An equal formula. `Memory` if there is no room for it.
 ///
 /// It calls itself as deep as the formula is. Linear in the formula.
 #[cycle(copy)]

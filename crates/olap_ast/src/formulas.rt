@@ -23,7 +23,7 @@ pub enum Formula {
     And(Box<Formula>, Box<Formula>),
     /// A part is true.
     Or(Box<Formula>, Box<Formula>),
-    /// The second part is true where the first is.
+    /// The second part is true if the first is.
     Implies(Box<Formula>, Box<Formula>),
     /// Both parts are true, or neither is.
     Iff(Box<Formula>, Box<Formula>),

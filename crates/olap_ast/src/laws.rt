@@ -1,10 +1,11 @@
 // Theorems over the definitions. Each is the clause of a function that does nothing.
 ghost use Rattle.olap_ast.specs.Constants.{FreshNamesExist, RenamingIsHarmless};
 ghost use Rattle.olap_ast.specs.Example.{OneStoreIsLegal, StoresAreSummarizable};
-ghost use Rattle.olap_ast.specs.Frozen.{CandidatesExist, FrozenExactlyIfSomeInstance, LeastIsOne};
+ghost use Rattle.olap_ast.specs.Findings.{TheFindingsAreOne};
+ghost use Rattle.olap_ast.specs.Frozen.{CandidatesExist, FrozenExactlyIfSomeInstance, TheLeastIsOne};
 ghost use Rattle.olap_ast.specs.Questions.{ImpliedExactlyIfNoneFrozen, RedundantExactlyIfNoneFrozen, UnsatisfiableExactlyIfNoneFrozen, UnusedExactlyIfNoneFrozen};
 ghost use Rattle.olap_ast.specs.Schema.{AboveIsLegal};
-ghost use Rattle.olap_ast.specs.Summarizable.{CounterexampleIsOne, SummarizableExactlyIfNoneFrozen};
+ghost use Rattle.olap_ast.specs.Summarizable.{SummarizableExactlyIfNoneFrozen, TheCounterexampleIsOne};
 ghost use Rattle.olap_ast.specs.Violation.{LegalExactlyIfNoViolation};
 
 /// What one member of a legal instance reaches is a legal instance with at most one member per category, and
@@ -29,51 +30,58 @@ pub fn candidates_exist()
     ensures { CandidatesExist }
 {}
 
-/// In a hierarchy, and for the candidates of the schema and the question: there is a frozen dimension exactly where
+/// In a hierarchy, and for the candidates of the schema and the question: there is a frozen dimension exactly if
 /// some legal instance, of any size, has a member of the root at which the question is true.
 pub fn frozen_exactly_if_some_instance()
     ensures { FrozenExactlyIfSomeInstance }
 {}
 
-/// There is one least frozen dimension at most.
-pub fn least_is_one()
-    ensures { LeastIsOne }
+/// There is one least frozen dimension at most, whichever candidates each side brings: its edges, its indexes, its
+/// names and its instance are the same.
+pub fn the_least_is_one()
+    ensures { TheLeastIsOne }
 {}
 
-/// In a hierarchy: a category is unsatisfiable exactly where it is the root of no frozen dimension.
+/// In a hierarchy: a category is unsatisfiable exactly if it is the root of no frozen dimension.
 pub fn unsatisfiable_exactly_if_none_frozen()
     ensures { UnsatisfiableExactlyIfNoneFrozen }
 {}
 
-/// In a hierarchy: every legal instance meets a constraint exactly where no frozen dimension has its root and makes its
+/// In a hierarchy: every legal instance meets a constraint exactly if no frozen dimension has its root and makes its
 /// formula false.
 pub fn implied_exactly_if_none_frozen()
     ensures { ImpliedExactlyIfNoneFrozen }
 {}
 
-/// In a hierarchy: a constraint is redundant exactly where no frozen dimension of the schema without it makes its
+/// In a hierarchy: a constraint is redundant exactly if no frozen dimension of the schema without it makes its
 /// formula false.
 pub fn redundant_exactly_if_none_frozen()
     ensures { RedundantExactlyIfNoneFrozen }
 {}
 
-/// In a hierarchy: an edge is unused exactly where no frozen dimension with its child as root has it.
+/// In a hierarchy: an edge is unused exactly if no frozen dimension with its child as root has it.
 pub fn unused_exactly_if_none_frozen()
     ensures { UnusedExactlyIfNoneFrozen }
 {}
 
-/// In a hierarchy: a category is summarizable exactly where no bottom category has a frozen dimension whose root
+/// In a hierarchy: a category is summarizable exactly if no bottom category has a frozen dimension whose root
 /// reaches it, and not by exactly one source.
 pub fn summarizable_exactly_if_none_frozen()
     ensures { SummarizableExactlyIfNoneFrozen }
 {}
 
-/// There is one counterexample at most.
-pub fn counterexample_is_one()
-    ensures { CounterexampleIsOne }
+/// There is one counterexample at most, whichever candidates each side brings: its bottom category, its instance and
+/// the place of its fact are the same, and so are the two sums.
+pub fn the_counterexample_is_one()
+    ensures { TheCounterexampleIsOne }
 {}
 
-/// A list of members that is an instance is legal exactly where no law and no constraint is violated.
+/// The findings of a schema are one list.
+pub fn the_findings_are_one()
+    ensures { TheFindingsAreOne }
+{}
+
+/// A list of members that is an instance is legal exactly if no law and no constraint is violated.
 pub fn legal_exactly_if_no_violation()
     ensures { LegalExactlyIfNoViolation }
 {}

@@ -58,7 +58,7 @@ impl Truth3 {
         table!(self, o; No Yes Unknown, Yes Yes Yes, Unknown Yes Unknown)
     }
 
-    /// Whether the second is true where the first is.
+    /// Whether the second is true if the first is.
     pub fn implies(self, o: Truth3) -> Truth3
         ensures { result ≡ value_of_both implies self o }
     {
@@ -125,7 +125,7 @@ impl OneCount {
     }
 }
 
-/// Each value is the one on which all agree that the unknowns may turn out to be, and `Unknown` where they don't.
+/// Each value is the one on which all agree that the unknowns may turn out to be, and `Unknown` if they don't.
 pub fn values_agree()
     ensures { ValuesAgree }
 {}

@@ -1,11 +1,11 @@
 // What the contracts come to together.
 ghost use Rattle.olap_summ.specs.Decisions.{DecisionsAgree};
 
-use olap_ast::counterexample_is_one;
+use olap_ast::the_counterexample_is_one;
 
 /// What a decision shows is the same at each call: the root, the edges and the indexes of the names.
 pub fn decisions_agree()
     ensures { DecisionsAgree }
 {
-    counterexample_is_one();
+    the_counterexample_is_one();
 }
