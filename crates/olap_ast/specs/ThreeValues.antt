@@ -68,7 +68,7 @@ AlwaysOne xs b = (bs : List Bool) → MayAllBe xs bs → exactly_one bs ≡ b
 
 -- ---- the value that is agreed, as a function
 
--- if it is known which it is
+-- the value of a Boolean that is known
 abbrev pub known : Bool → Truth3
 known false = No
 known true = Yes
