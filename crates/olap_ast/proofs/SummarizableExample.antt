@@ -1,12 +1,18 @@
--- What summarizable says of one store below `All`.
-use Rattle.std.proofs.Common.{◌≡◌, ℕ, ◌<◌, [], ◌∷◌, refl, ap, ◌⊎◌, inl, inr, arith}
-use Rattle.std.specs.Prelude.{◌≢◌}
+-- What summarizable and counterexamples are of one store below `All`.
+use Rattle.std.proofs.Common.{◌≡◌, ℕ, ◌<◌, ◌≤◌, List, [], ◌∷◌, length, Bool, true, false, refl, ap, sym, subst, ◌⊎◌, inl, inr, arith}
+use Rattle.std.specs.Prelude.{◌≢◌, Contains, slice_index}
 use Rattle.olap_base.specs.Graph.{Edge, IsBottom}
 use Rattle.olap_base.specs.Instance.{ReachesCategory, ReachesVia, category_of}
-use Rattle.olap_base.proofs.ListLemmas.{contains_head}
+use Rattle.olap_base.proofs.ListLemmas.{contains_head, Contains-nil}
 use Rattle.olap_base.proofs.ViewLemmas.{agree_exactly}
-use Rattle.olap_ast.specs.Summarizable.{IsSummarizable}
-use Rattle.olap_ast.specs.Example.{StoresAreSummarizable, stores, one_store}
+use Rattle.olap_ast.specs.Constants.{constants}
+use Rattle.olap_ast.specs.Formula.{Formula}
+use Rattle.olap_ast.specs.Schema.{IsLegal}
+use Rattle.olap_ast.specs.Violation.{IsNotAfter}
+use Rattle.olap_ast.specs.Frozen.{AreCandidates, Candidates, Frozen, IsFrozen, code, thawed}
+use Rattle.olap_ast.specs.Summarizable.{IsSummarizable, not_by_one}
+use Rattle.olap_ast.specs.Example.{OneStoreIsCounterexample, StoresAreSummarizable, stores, one_store, store_below_all}
+use Rattle.olap_ast.proofs.SmallModel.{frozen_exactly}
 use Rattle.olap_ast.proofs.Examples.{alone, one_store_is_legal}
 
 bottom : IsBottom stores.graph 1
@@ -54,3 +60,59 @@ not_from_both h = let l = one_store_is_legal.1 in
 
 pub stores_are_summarizable : StoresAreSummarizable
 stores_are_summarizable = (from_store, not_from_none, not_from_both)
+
+-- ---- the counterexample to no source
+
+abbrev asked : Formula
+asked = not_by_one 0 []
+
+-- without the edge the store lacks a parent
+edge_present : (k : Candidates) (b : Bool) (n : ℕ)
+    → IsLegal stores (thawed stores k 1 (record { edges = b ∷ []; names = n ∷ [] })) → b ≡ true
+edge_present k true n l = refl
+edge_present k false n l = let t = l.lawful.up_connectivity 0 (omega arith) (λ e. absurd (omega arith)) in
+    absurd (Contains-nil t.0 t.1)
+
+-- there are no constants
+no_texts : (k : Candidates) → AreCandidates stores asked k → length (k.texts 1) ≡ 0
+no_texts k ok = go (k.texts 1) (ok.texts 0).sound
+  where
+    go : (ts : List (List ℕ)) → ((text : List ℕ) → Contains ts text → Contains (constants stores asked 1) text)
+        → length ts ≡ 0
+    go [] sound = refl
+    go (t ∷ ts) sound = absurd (Contains-nil t (sound t (contains_head t ts)))
+
+-- it is the only frozen dimension
+only : (k : Candidates) → AreCandidates stores asked k → (f : Frozen) → IsFrozen stores asked 1 k f
+    → f ≡ store_below_all
+only k ok f z = go f.edges f.names z.edge_count z.name_count z.stands_for.legal (z.in_range 0)
+  where
+    go : (es : List Bool) (ns : List ℕ) → length es ≡ 1 → length ns ≡ 1
+        → IsLegal stores (thawed stores k 1 (record { edges = es; names = ns }))
+        → (0 < length ns → slice_index ns 0 ≤ length (k.texts 1))
+        → record { edges = es; names = ns } ≡ store_below_all
+    go (b ∷ []) (n ∷ []) p q l r =
+        let e = edge_present k b n l in
+        let m : n ≤ length (k.texts 1) = r (omega arith) in
+        let u : n ≡ 0 = let t = no_texts k ok in omega arith in
+        λ i. record { edges = e i ∷ []; names = u i ∷ [] }
+    go [] ns p q l r = absurd (omega arith)
+    go (b ∷ c ∷ es) ns p q l r = absurd (omega arith)
+    go (b ∷ []) [] p q l r = absurd (omega arith)
+    go (b ∷ []) (n ∷ m ∷ ns) p q l r = absurd (omega arith)
+
+pub one_store_is_counterexample : OneStoreIsCounterexample
+one_store_is_counterexample k ok = record {
+  bottom = bottom;
+  least = record {
+    candidates = ok;
+    is_one = subst (λ f. IsFrozen stores asked 1 k f) (only k ok some.0 some.1) some.1;
+    least = λ h z. subst (λ f. IsNotAfter (code store_below_all) (code f)) (sym (only k ok h z))
+        (inr (refl, inr (refl, tt)));
+  };
+  first = λ d l b h z. absurd (b.0.0 (omega arith));
+}
+  where
+    some : (f : Frozen) × IsFrozen stores asked 1 k f
+    some = (frozen_exactly stores asked 1 k one_store_is_legal.0 ok).1
+        (one_store, one_store_is_legal.1, 0, (omega arith, refl), (up, λ t. t))

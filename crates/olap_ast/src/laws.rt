@@ -1,6 +1,6 @@
 // Theorems over the definitions. Each is the clause of a function that does nothing.
 ghost use Rattle.olap_ast.specs.Constants.{FreshNamesExist, RenamingIsHarmless};
-ghost use Rattle.olap_ast.specs.Example.{OneStoreIsLegal, StoresAreSummarizable};
+ghost use Rattle.olap_ast.specs.Example.{OneStoreIsCounterexample, OneStoreIsLegal, StoresAreSummarizable};
 ghost use Rattle.olap_ast.specs.Findings.{TheFindingsAreOne};
 ghost use Rattle.olap_ast.specs.Frozen.{CandidatesExist, FrozenExactlyIfSomeInstance, TheLeastIsOne};
 ghost use Rattle.olap_ast.specs.Questions.{ImpliedExactlyIfNoneFrozen, RedundantExactlyIfNoneFrozen, UnsatisfiableExactlyIfNoneFrozen, UnusedExactlyIfNoneFrozen};
@@ -95,4 +95,10 @@ pub fn one_store_is_legal()
 /// taken from the stores' view, and neither from no view nor from the stores' view and its own together.
 pub fn stores_are_summarizable()
     ensures { StoresAreSummarizable }
+{}
+
+/// The definitions can be met: whatever its candidates, the schema with one store below `All` has a least frozen
+/// dimension, which is the counterexample to taking the total of `All` from no view.
+pub fn one_store_is_counterexample()
+    ensures { OneStoreIsCounterexample }
 {}
