@@ -166,7 +166,7 @@ one_list s q r k h a b xs ys ox oy sx sy cx cy =
     n : ℕ
     n = length s.graph.edges
 
--- where all of them are a list, there aren't more different ones than it has, whichever candidates are taken
+-- if all of them are in a list, there aren't more different ones than it has, whichever candidates are taken
 pub not_more : (s : Schema) (q : Formula) (r : ℕ) (k h : Candidates) → AreCandidates s q k → AreCandidates s q h
     → (all some : List Frozen) → ((f : Frozen) → IsFrozen s q r k f → Contains all f) → AllPairs ◌≢◌ some
     → ((f : Frozen) → Contains some f → IsFrozen s q r h f) → length some ≤ length all
@@ -217,6 +217,6 @@ not_both_answers s c sources k b f all x =
     let i = thawed s k b f in
     let bottom : IsBottom s.graph (category_of i z.root) =
     subst (λ d. IsBottom s.graph d) (sym z.root_is.1) x.bottom in
-    let one = (agree_exactly s.graph i c sources z.legal.is_instance z.legal.lawful).0 (all i z.legal) z.root z.root_is.0
-    bottom z.true_at_root.0 in
+    let exactly = agree_exactly s.graph i c sources z.legal.is_instance z.legal.lawful in
+    let one = exactly.0 (all i z.legal) z.root z.root_is.0 bottom z.true_at_root.0 in
     z.true_at_root.1 ((one_of i z.root c sources).1 one)
