@@ -1,21 +1,20 @@
 -- A set for each category, step by step, and what the sets hold in the end.
-use Rattle.std.proofs.Common.{◌≡◌, ◌≢◌, ℕ, suc, ◌+◌, ◌<◌, ◌≤◌, ◌⊎◌, ◌↔◌, ◌++◌, ◌∷◌, [], List, length, get_or, set, map, true, false, ap, sym, subst, ◌∙◌, inl, inr, arith, eqb, eqb-true, eq-eqb, length-append}
+use Rattle.std.proofs.Common.{◌≡◌, ◌≢◌, ℕ, suc, ◌+◌, ◌<◌, ◌≤◌, ◌⊎◌, ◌↔◌, List, length, get_or, set, map, true, false, refl, ap, sym, subst, ◌∙◌, inl, inr, arith, eqb, eqb-true, eq-eqb}
 use Rattle.std.specs.Cmp.{nat_cmp_total}
 use Rattle.std.specs.FinSet.{FinSet, contains, empty, insert, union, contains-empty, contains-union}
 use Rattle.std.specs.Ordering.{nat_cmp}
-use Rattle.std.proofs.Math.ListN.{get_or-append, length-set}
-use Rattle.std.proofs.Math.Seq.{get_or-append_seam}
+use Rattle.std.proofs.Math.ListN.{length-set}
 use Rattle.std.proofs.lemmas.Bool.{or_cases, or_left, or_right}
-use Rattle.std.proofs.lemmas.List.{get_or-map, length-map, map-set, get_or-set_same, get_or-set_other, map_push}
+use Rattle.std.proofs.lemmas.List.{get_or-map, get_or_past, length-map, map-set, get_or-set_same, get_or-set_other}
 use Rattle.olap_base.specs.Deciding.{Through, through_from_Steps, Steps-from_through}
 use Rattle.olap_base.specs.Graph.{Edge, Graph, HasEdge}
-use Rattle.olap_base.specs.Steps.{Steps-from_reaches, reaches_from_Steps}
+use Rattle.olap_base.specs.Steps.{Steps, Steps.here, Steps.step, Steps-from_reaches, reaches_from_Steps}
 use Rattle.olap_bits.specs.Sets.{members}
 use Rattle.olap_bits.specs.declared.sets.CatSet.{CatSet}
 use Rattle.olap_bits.proofs.CatSetLemmas.{in_insert}
 use Rattle.olap_graph.specs.Listing.{edge_of}
 use Rattle.olap_graph.specs.Lookups.{edge_at}
-use Rattle.olap_graph.specs.Rows.{AreDrawn, AreOwn, AreReached, Has, JoinsBefore, Passes, row}
+use Rattle.olap_graph.specs.Rows.{AreDrawn, AreJoined, AreOwn, AreReached, Has, IsClosure, JoinsBefore, Passes, row}
 use Rattle.olap_graph.specs.Tables.{LiesWithin, drawn}
 use Rattle.olap_graph.specs.declared.listing.Ends.{Ends}
 use Rattle.olap_graph.proofs.TableLemmas.{edge_at-drawn, has_edge_at, nowhere, place_of_edge}
@@ -80,37 +79,86 @@ has_so_far rows c d x h e m f a p l = elim (newest a c l) [
   | inr q ↦ ap (λ k. contains (row rows k) d) q ∙ ap (λ s. contains s d) (sym (row_read rows c x h e)) ∙ m
 ]
 
+-- a category whose set has something is one of them
+pub has_inside : {W : ℕ} (rows : List (CatSet W)) (c d : ℕ) → Has rows c d → c < length rows
+has_inside rows c d m = elim (below_or_past c (length rows)) [
+  | inl l ↦ l
+  | inr g ↦ absurd (
+      let none : row rows c ≡ empty = get_or_past (map members rows) c empty
+      (let e = length-map rows members in omega (arith, e)) in
+      let z : false ≡ true = sym (contains-empty nat_cmp d) ∙ ap (λ s. contains s d) (sym none) ∙ m in cc)
+]
+  where
+    below_or_past : (c n : ℕ) → (c < n) ⊎ (n ≤ c)
+    below_or_past c n = grind arith
+
 -- ---- each set alone
 
-pub own_more : {W : ℕ} (rows now : List (CatSet W)) (c : ℕ) (x e : CatSet W) → members x ≡ insert (members e) c
-    → members e ≡ empty → now ≡ rows ++ x ∷ [] → AreOwn c rows → AreOwn (c + 1) now
-own_more rows now c x e i z q own = record {
-  count = ap length q ∙ (let k = own.count in omega (arith, length-append rows (x ∷ [])));
-  each = λ a d h. subst (λ rs. Has rs a d ↔ (a ≡ d)) (sym q) (elim (newest a c h) [
-    | inl t ↦ has_at (row (rows ++ x ∷ []) a) (row rows a) d (a ≡ d) (before a t.1) (own.each a d t.1)
-    | inr p ↦ has_at (row (rows ++ x ∷ []) a) (insert empty c) d (a ≡ d)
-        (ap (row (rows ++ x ∷ [])) p ∙ last ∙ i ∙ ap (λ s. insert s c) z) (
-          λ m. elim ((has_insert empty c d).0 m) [
-            | inl s ↦ p ∙ s
-            | inr b ↦ absurd (let u : false ≡ true = sym (contains-empty nat_cmp d) ∙ b in cc)
-          ],
-          λ s. (has_insert empty c d).1 (inl (sym p ∙ s)),
-        )
-  ]);
-}
-  where
-    before : (a : ℕ) → a < c → row (rows ++ x ∷ []) a ≡ row rows a
-    before a h =
-        let size : a < length (map members rows) = let k = own.count in omega (arith, length-map rows members) in
-        ap (λ l. get_or l a empty) (map_push members rows x)
-        ∙ get_or-append (map members rows) (members x ∷ []) empty a size
+pub own_more : {W : ℕ} (rows : List (CatSet W)) (c : ℕ) (x e : CatSet W) → members x ≡ insert (members e) c
+    → members e ≡ empty → c < length rows → ((a d : ℕ) → a < c → Has rows a d ↔ (a ≡ d))
+    → (a d : ℕ) → a < c + 1 → Has (set rows c x) a d ↔ (a ≡ d)
+own_more rows c x e i z h f a d l = elim (newest a c l) [
+  | inl t ↦ has_at (row (set rows c x) a) (row rows a) d (a ≡ d) (row_other rows c a x t.0) (f a d t.1)
+  | inr q ↦ subst (λ b. Has (set rows c x) b d ↔ (b ≡ d)) (sym q)
+      (has_at (row (set rows c x) c) (insert empty c) d (c ≡ d)
+      (row_same rows c x h ∙ i ∙ ap (λ s. insert s c) z) (
+        λ m. elim ((has_insert empty c d).0 m) [
+          | inl p ↦ p
+          | inr b ↦ absurd (let u : false ≡ true = sym (contains-empty nat_cmp d) ∙ b in cc)
+        ],
+        λ p. (has_insert empty c d).1 (inl p),
+      ))
+]
 
-    last : row (rows ++ x ∷ []) c ≡ members x
-    last =
-        let size : length (map members rows) ≡ c = length-map rows members ∙ own.count in
-        ap (λ l. get_or l c empty) (map_push members rows x)
-        ∙ ap (λ k. get_or (map members rows ++ members x ∷ []) k empty) (sym size)
-        ∙ get_or-append_seam (map members rows) (members x) [] empty
+-- ---- one more that is joined
+
+-- the relation stays the same
+pub joined_same : {W : ℕ} (J K : ℕ → ℕ → Type 0) (rows : List (CatSet W)) → ((a b : ℕ) → K a b ↔ J a b)
+    → AreJoined J rows → AreJoined K rows
+joined_same J K rows same joined a b h = (
+  λ m. elim ((joined a b h).0 m) [ inl e ↦ inl e | inr j ↦ inr ((same a b).1 j) ],
+  λ o. (joined a b h).1 (elim o [ inl e ↦ inl e | inr k ↦ inr ((same a b).0 k) ]),
+)
+
+-- the relation joins c to d too
+pub joined_more : {W : ℕ} (J K : ℕ → ℕ → Type 0) (c d : ℕ) (rows : List (CatSet W)) (x : CatSet W)
+    → ((a b : ℕ) → K a b ↔ (J a b ⊎ ((c ≡ a) × (d ≡ b)))) → c < length rows → members x ≡ insert (row rows c) d
+    → AreJoined J rows → AreJoined K (set rows c x)
+joined_more J K c d rows x more h e joined a b l =
+    let inner : a < length rows = let n = length-set rows c x in omega (arith, l) in
+    elim (same_or_not a c) [
+      | inl q ↦ has_at (row (set rows c x) a) (insert (row rows c) d) b ((a ≡ b) ⊎ K a b)
+          (ap (row (set rows c x)) q ∙ row_same rows c x h ∙ e) (
+            λ m. elim ((has_insert (row rows c) d b).0 m) [
+              | inl p ↦ inr ((more a b).1 (inr (sym q, p)))
+              | inr o ↦ elim ((joined a b inner).0 (ap (λ z. contains (row rows z) b) q ∙ o)) [
+                | inl p ↦ inl p
+                | inr j ↦ inr ((more a b).1 (inl j))
+              ]
+            ],
+            λ o. (has_insert (row rows c) d b).1 (elim o [
+              | inl p ↦ inr (ap (λ z. contains (row rows z) b) (sym q) ∙ (joined a b inner).1 (inl p))
+              | inr k ↦ elim ((more a b).0 k) [
+                | inl j ↦ inr (ap (λ z. contains (row rows z) b) (sym q) ∙ (joined a b inner).1 (inr j))
+                | inr p ↦ inl p.1
+              ]
+            ]),
+          )
+      | inr n ↦ has_at (row (set rows c x) a) (row rows a) b ((a ≡ b) ⊎ K a b) (row_other rows c a x n) (
+        λ m. elim ((joined a b inner).0 m) [ inl p ↦ inl p | inr j ↦ inr ((more a b).1 (inl j)) ],
+        λ o. (joined a b inner).1 (elim o [
+          | inl p ↦ inl p
+          | inr k ↦ elim ((more a b).0 k) [
+            | inl j ↦ inr j
+            | inr p ↦ absurd (n (sym p.0))
+          ]
+        ]),
+      )
+    ]
+
+pub same_edge : {a c b d : ℕ} → c ≡ a → d ≡ b
+    → ◌≡◌ {A = Edge} (record { child = c; parent = d }) (record { child = a; parent = b })
+same_edge p q = λ i. record { child = p i; parent = q i }
 
 -- ---- one edge more
 
@@ -135,51 +183,49 @@ ends_within ends n k within h =
       subst (λ c. c < n) (ap (λ (x : Edge). x.parent) e) t.1,
     )
 
-pub draw_none : {W : ℕ} (g : Graph) (rows : List (CatSet W)) → AreOwn (length rows) rows → AreDrawn g 0 rows
+one_more : (g : Graph) (k c d : ℕ) → edge_at g k ≡ record { child = c; parent = d } → (a b : ℕ)
+    → JoinsBefore g (k + 1) a b ↔ (JoinsBefore g k a b ⊎ ((c ≡ a) × (d ≡ b)))
+one_more g k c d edge a b = (
+  λ t. elim (joins_cases g k a b t) [
+    | inl j ↦ inl j
+    | inr p ↦ inr (ap (λ (z : Edge). z.child) (sym edge ∙ p), ap (λ (z : Edge). z.parent) (sym edge ∙ p))
+  ],
+  λ o. elim o [
+    | inl j ↦ joins_lift g k a b j
+    | inr p ↦ (k, omega arith, edge ∙ same_edge p.0 p.1)
+  ],
+)
+
+pub draw_none : {W : ℕ} (g : Graph) (rows : List (CatSet W)) → AreOwn rows → AreDrawn g 0 rows
 draw_none g rows own a b h = (
-  λ m. inl ((own.each a b h).0 m),
-  λ o. elim o [ inl e ↦ (own.each a b h).1 e | inr t ↦ absurd (omega (arith, t.1)) ],
+  λ m. inl ((own a b h).0 m),
+  λ o. elim o [ inl e ↦ (own a b h).1 e | inr t ↦ absurd (omega (arith, t.1)) ],
 )
 
 pub draw_more : {W : ℕ} (g : Graph) (k c d : ℕ) (rows : List (CatSet W)) (x : CatSet W)
     → edge_at g k ≡ record { child = c; parent = d } → c < length rows → members x ≡ insert (row rows c) d
     → AreDrawn g k rows → AreDrawn g (k + 1) (set rows c x)
-draw_more g k c d rows x edge h e drawn a b l =
-    let inner : a < length rows = let n = length-set rows c x in omega (arith, l) in
-    elim (same_or_not a c) [
-      | inl q ↦ has_at (row (set rows c x) a) (insert (row rows c) d) b ((a ≡ b) ⊎ JoinsBefore g (k + 1) a b)
-          (ap (row (set rows c x)) q ∙ row_same rows c x h ∙ e) (
-            λ m. elim ((has_insert (row rows c) d b).0 m) [
-              | inl p ↦ inr (k, omega arith, edge ∙ both (sym q) p)
-              | inr o ↦ elim ((drawn a b inner).0 (ap (λ z. contains (row rows z) b) q ∙ o)) [
-                | inl p ↦ inl p
-                | inr t ↦ inr (joins_lift g k a b t)
-              ]
-            ],
-            λ o. (has_insert (row rows c) d b).1 (elim o [
-              | inl p ↦ inr (ap (λ z. contains (row rows z) b) (sym q) ∙ (drawn a b inner).1 (inl p))
-              | inr t ↦ elim (joins_cases g k a b t) [
-                | inl j ↦ inr (ap (λ z. contains (row rows z) b) (sym q) ∙ (drawn a b inner).1 (inr j))
-                | inr p ↦ inl (ap (λ (z : Edge). z.parent) (sym edge ∙ p))
-              ]
-            ]),
-          )
-      | inr n ↦ has_at (row (set rows c x) a) (row rows a) b ((a ≡ b) ⊎ JoinsBefore g (k + 1) a b)
-          (row_other rows c a x n) (
-            λ m. elim ((drawn a b inner).0 m) [ inl p ↦ inl p | inr t ↦ inr (joins_lift g k a b t) ],
-            λ o. (drawn a b inner).1 (elim o [
-              | inl p ↦ inl p
-              | inr t ↦ elim (joins_cases g k a b t) [
-                | inl j ↦ inr j
-                | inr p ↦ absurd (n (ap (λ (z : Edge). z.child) (sym p ∙ edge)))
-              ]
-            ]),
-          )
-    ]
+draw_more g k c d rows x edge h e drawn =
+    joined_more (JoinsBefore g k) (JoinsBefore g (k + 1)) c d rows x (one_more g k c d edge) h e drawn
+
+-- all edges are drawn
+edges_joined : {W : ℕ} (ends : List Ends) (rows : List (CatSet W)) → AreDrawn (drawn ends) (length ends) rows
+    → AreJoined (HasEdge (drawn ends)) rows
+edges_joined ends rows a =
+    joined_same (JoinsBefore (drawn ends) (length ends)) (HasEdge (drawn ends)) rows (λ c d. (placed c d, joined c d)) a
   where
-    both : {a c b d : ℕ} → c ≡ a → d ≡ b
-        → ◌≡◌ {A = Edge} (record { child = c; parent = d }) (record { child = a; parent = b })
-    both p q = λ i. record { child = p i; parent = q i }
+    joined : (c d : ℕ) → JoinsBefore (drawn ends) (length ends) c d → HasEdge (drawn ends) c d
+    joined c d t =
+        let e = t.2 in
+        let l : t.0 < length (map edge_of ends) = omega (arith, t.1, length-map ends edge_of) in
+        subst (λ b. HasEdge (drawn ends) c b) (ap (λ (x : Edge). x.parent) e)
+        (subst (λ b. HasEdge (drawn ends) b (edge_at (drawn ends) t.0).parent) (ap (λ (x : Edge). x.child) e)
+        (has_edge_at (drawn ends) t.0 l))
+
+    placed : (c d : ℕ) → HasEdge (drawn ends) c d → JoinsBefore (drawn ends) (length ends) c d
+    placed c d j =
+        let t = place_of_edge (drawn ends) c d j in
+        (t.0, omega (arith, t.1, length-map ends edge_of), t.2)
 
 -- ---- one category more to go through
 
@@ -227,45 +273,32 @@ pass_more old new k c x n h e p = record {
   left = λ a l. row_other new c a x (omega arith) ∙ p.left a (omega arith);
 }
 
--- ---- walks through more and more categories
+-- ---- steps through more and more categories
 
--- of n categories the set of each has those to which a walk through the first k leads
-pub record IsThrough {W : ℕ} (g : Graph) (n k : ℕ) (rows : List (CatSet W)) : Type 0 where
+-- of n categories the set of each has those to which steps by way of the first k lead
+pub record IsThrough {W : ℕ} (R : ℕ → ℕ → Type 0) (n k : ℕ) (rows : List (CatSet W)) : Type 0 where
   pub count : length rows ≡ n
-  pub each : (c d : ℕ) → c < n → Has rows c d ↔ Through (HasEdge g) k c d
+  pub each : (c d : ℕ) → c < n → Has rows c d ↔ Through R k c d
 
-pub through_start : {W : ℕ} (ends : List Ends) (n : ℕ) (rows : List (CatSet W)) → length rows ≡ n
-    → AreDrawn (drawn ends) (length ends) rows → IsThrough (drawn ends) n 0 rows
+pub through_start : {W : ℕ} (rows : List (CatSet W)) → ((c : ℕ) → c < length rows → Has rows c c)
+    → IsThrough (Has rows) (length rows) 0 rows
 unfolding Through
-through_start ends n rows size a = record {
-  count = size;
-  each = λ c d h. let l : c < length rows = omega arith in (
-    λ m. elim ((a c d l).0 m) [ inl e ↦ inl e | inr t ↦ inr (joined c d t) ],
-    λ o. (a c d l).1 (elim o [ inl e ↦ inl e | inr j ↦ inr (placed c d j) ]),
+through_start rows own = record {
+  count = refl;
+  each = λ c d h. (
+    λ m. inr m,
+    λ o. elim o [ inl e ↦ subst (λ b. Has rows c b) e (own c h) | inr m ↦ m ],
   );
 }
-  where
-    joined : (c d : ℕ) → JoinsBefore (drawn ends) (length ends) c d → HasEdge (drawn ends) c d
-    joined c d t =
-        let e = t.2 in
-        let l : t.0 < length (map edge_of ends) = omega (arith, t.1, length-map ends edge_of) in
-        subst (λ b. HasEdge (drawn ends) c b) (ap (λ (x : Edge). x.parent) e)
-        (subst (λ b. HasEdge (drawn ends) b (edge_at (drawn ends) t.0).parent) (ap (λ (x : Edge). x.child) e)
-        (has_edge_at (drawn ends) t.0 l))
 
-    placed : (c d : ℕ) → HasEdge (drawn ends) c d → JoinsBefore (drawn ends) (length ends) c d
-    placed c d j =
-        let t = place_of_edge (drawn ends) c d j in
-        (t.0, omega (arith, t.1, length-map ends edge_of), t.2)
-
-pub through_more : {W : ℕ} (g : Graph) (n k : ℕ) (old new : List (CatSet W)) → k < n → IsThrough g n k old
+pub through_more : {W : ℕ} (R : ℕ → ℕ → Type 0) (n k : ℕ) (old new : List (CatSet W)) → k < n → IsThrough R n k old
     → length new ≡ length old → ((c d : ℕ) → c < length old → Has new c d ↔ Passes old k c d)
-    → IsThrough g n (k + 1) new
+    → IsThrough R n (k + 1) new
 unfolding Through
-through_more g n k old new l f same p =
+through_more R n k old new l f same p =
     let size = f.count in
     let e : suc k ≡ k + 1 = omega arith in
-    subst (λ j. IsThrough g n j new) e (record {
+    subst (λ j. IsThrough R n j new) e (record {
       count = same ∙ size;
       each = λ c d h. let i : c < length old = omega arith in (
         λ m. elim ((p c d i).0 m) [
@@ -279,13 +312,51 @@ through_more g n k old new l f same p =
       );
     })
 
-pub through_end : {W : ℕ} (g : Graph) (n k : ℕ) (rows : List (CatSet W)) → LiesWithin g n → k ≡ n
-    → IsThrough g n k rows → AreReached g n rows
-through_end g n k rows within e f = record {
+pub through_end : {W : ℕ} (old new : List (CatSet W)) (k : ℕ) → k ≡ length old
+    → IsThrough (Has old) (length old) k new → IsClosure old new
+through_end old new k e f = record {
   count = f.count;
   each = λ c d h. (
-    λ m. reaches_from_Steps (Steps-from_through (HasEdge g) k c d ((f.each c d h).0 m)),
-    λ r. (f.each c d h).1 (subst (λ j. Through (HasEdge g) j c d) (sym e)
-        (through_from_Steps (HasEdge g) n (λ x y j. (within x y j).0) (Steps-from_reaches r))),
+    λ m. Steps-from_through (Has old) k c d ((f.each c d h).0 m),
+    λ s. (f.each c d h).1 (subst (λ j. Through (Has old) j c d) (sym e)
+        (through_from_Steps (Has old) (length old) (has_inside old) s)),
   );
+}
+
+-- ---- what the closure of what is joined has
+
+joined_steps : {W : ℕ} (J : ℕ → ℕ → Type 0) (rows : List (CatSet W)) → AreJoined J rows → {c d : ℕ}
+    → Steps (Has rows) c d → Steps J c d
+joined_steps J rows joined here = here
+joined_steps J rows joined (step {x = x} {y = y} {z = z} m s) =
+    let rest = joined_steps J rows joined s in
+    elim ((joined x y (has_inside rows x y m)).0 m) [
+      | inl e ↦ subst (λ w. Steps J w z) (sym e) rest
+      | inr j ↦ step j rest
+    ]
+
+steps_joined : {W : ℕ} (J : ℕ → ℕ → Type 0) (rows : List (CatSet W)) → AreJoined J rows
+    → ((c d : ℕ) → J c d → c < length rows) → {c d : ℕ} → Steps J c d → Steps (Has rows) c d
+steps_joined J rows joined within here = here
+steps_joined J rows joined within (step {x = x} {y = y} j s) =
+    step ((joined x y (within x y j)).1 (inr j)) (steps_joined J rows joined within s)
+
+pub closure_joined : {W : ℕ} (J : ℕ → ℕ → Type 0) (old new : List (CatSet W)) → AreJoined J old
+    → ((c d : ℕ) → J c d → c < length old) → IsClosure old new → (c d : ℕ) → c < length old
+    → Has new c d ↔ Steps J c d
+closure_joined J old new joined within f c d h = (
+  λ m. joined_steps J old joined ((f.each c d h).0 m),
+  λ s. (f.each c d h).1 (steps_joined J old joined within s),
+)
+
+pub reached_by_closure : {W : ℕ} (ends : List Ends) (n : ℕ) (old new : List (CatSet W)) → LiesWithin (drawn ends) n
+    → length old ≡ n → AreDrawn (drawn ends) (length ends) old → IsClosure old new → AreReached (drawn ends) n new
+reached_by_closure ends n old new within size a f = record {
+  count = f.count ∙ size;
+  each = λ c d h.
+      let i = closure_joined (HasEdge (drawn ends)) old new (edges_joined ends old a)
+      (λ x y e. let w = (within x y e).0 in omega (arith, w, size)) f c d (omega (arith, h, size)) in (
+        λ m. reaches_from_Steps (i.0 m),
+        λ r. i.1 (Steps-from_reaches r),
+      );
 }

@@ -10,7 +10,7 @@ ghost use Rattle.olap_graph.specs.Tables.{IsFirstWithout, HaveAll};
 
 use crate::GraphRefusal;
 use crate::listing::{Ends, copied, leading, named};
-use crate::reaching::Row;
+use crate::reaching::Categories;
 use crate::tables::Tables;
 use olap_base::{CatId, EdgeId, Memory, Text};
 use std::alloc::Global;
@@ -38,7 +38,7 @@ impl Model for Graph {
 }
 
 /// The first category but `All` whose set hasn't `All`.
-fn first_without_all(rows: &[Row]) -> Option<CatId>
+fn first_without_all(rows: &[Categories]) -> Option<CatId>
     requires few { length rows.now ≤ most_categories }
     ensures some { IfSome result (IsFirstWithout rows.now) }
     ensures none { IfNone result (HaveAll rows.now) }

@@ -17,4 +17,5 @@ mod tables;
 pub use building::GraphBuilder;
 pub use graphs::Graph;
 pub use naming::category_name;
+pub use reaching::{Categories, WORDS, close, isolate, row_has};
 pub use refusals::{CategoryRefusal, EdgeRefusal, GraphRefusal};

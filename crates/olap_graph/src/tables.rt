@@ -5,7 +5,7 @@ ghost use Rattle.olap_graph.specs.Lookups.{edges_from};
 ghost use Rattle.olap_graph.specs.Tables.{drawn, AreOut, AreBottoms, LiesWithin};
 
 use crate::listing::Ends;
-use crate::reaching::{Row, rows};
+use crate::reaching::{Categories, rows};
 use olap_base::{EdgeId, List, Memory};
 use std::alloc::Global;
 
@@ -13,7 +13,7 @@ use std::alloc::Global;
 #[derive(Debug, Drop)]
 pub(crate) struct Tables {
     pub(crate) out: Vec<List<EdgeId>>,
-    pub(crate) reached: Vec<Row>,
+    pub(crate) reached: Vec<Categories>,
     pub(crate) bottoms: Vec<bool>,
 }
 

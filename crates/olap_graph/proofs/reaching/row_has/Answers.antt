@@ -1,0 +1,14 @@
+use Rattle.std.proofs.Common.{ap, ◌∙◌, arith}
+use Rattle.std.specs.FinSet as set
+use Rattle.olap_graph.proofs.RowLemmas.{row_read}
+use Rattle.olap_graph.specs.Rows.{row}
+use Rattle.olap_graph.proofs.reaching.row_has.Goals as goal
+
+pub returns : goal.returns
+returns c =
+    let at = c.from.result in
+    let e = c.from.ensures in
+    c.has.ensures
+    ∙ ap (λ s. set.contains s c.args.d)
+    (row_read c.args.rows.now at c.index-rows-from.result (omega arith) c.index-rows-from.is)
+    ∙ ap (λ n. set.contains (row c.args.rows.now n) c.args.d) e
