@@ -6,8 +6,9 @@ use Rattle.std.specs.FinSet.{FinSet}
 use Rattle.std.specs.Ordering.{nat_cmp}
 use Rattle.olap_bits.specs.Sets.{members}
 use Rattle.olap_bits.specs.declared.sets.CatSet.{CatSet}
-use Rattle.olap_trail.specs.Drawing.{IsGrown, row}
-use Rattle.olap_trail.proofs.SetLemmas.{row_other, row_same}
+use Rattle.olap_graph.specs.Rows.{row}
+use Rattle.olap_trail.specs.Drawing.{IsGrown}
+use Rattle.olap_graph.proofs.RowLemmas.{row_other, row_same}
 
 newest : (a c : ℕ) → a < c + 1 → (a ≢ c) × (a < c) ⊎ (a ≡ c)
 newest a c h = grind arith

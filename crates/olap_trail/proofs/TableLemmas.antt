@@ -13,9 +13,10 @@ use Rattle.olap_base.specs.Graph.{Edge}
 use Rattle.olap_base.specs.Steps.{Climb}
 use Rattle.olap_bits.specs.Sets.{members}
 use Rattle.olap_bits.specs.declared.sets.CatSet.{CatSet}
-use Rattle.olap_trail.specs.Drawing.{AreBeyond, IsAbove, IsBeyond, IsBypassed, IsCyclic, IsGrown, IsIn, IsNext, Joins, row}
+use Rattle.olap_graph.specs.Rows.{row}
+use Rattle.olap_trail.specs.Drawing.{AreBeyond, IsAbove, IsBeyond, IsBypassed, IsCyclic, IsGrown, IsIn, IsNext, Joins}
 use Rattle.olap_trail.specs.Drawn.{AreTables}
-use Rattle.olap_trail.proofs.SetLemmas.{in_with, row_other, row_read, row_same}
+use Rattle.olap_graph.proofs.RowLemmas.{has_insert, row_other, row_read, row_same}
 use Rattle.olap_trail.proofs.StageLemmas.{AreCopied, stage_end}
 use Rattle.olap_trail.proofs.WalkLemmas.{climb_grown, cyclic_more, grows, joins_cases, joins_more, joins_new, more}
 
@@ -23,8 +24,8 @@ use Rattle.olap_trail.proofs.WalkLemmas.{climb_grown, cyclic_more, grows, joins_
 
 pub above_is : (es : List Edge) (c : ℕ) (s t : FinSet nat_cmp) → IsBeyond es c s → t ≡ insert s c → IsAbove es c t
 above_is es c s t b e d = subst (λ u. IsIn u d ↔ ((c ≡ d) ⊎ Climb (Joins es) c d)) (sym e) (
-  λ m. elim ((in_with s c d).0 m) [ inl q ↦ inl q | inr i ↦ inr ((b d).0 i) ],
-  λ o. (in_with s c d).1 (elim o [ inl q ↦ inl q | inr w ↦ inr ((b d).1 w) ]),
+  λ m. elim ((has_insert s c d).0 m) [ inl q ↦ inl q | inr i ↦ inr ((b d).0 i) ],
+  λ o. (has_insert s c d).1 (elim o [ inl q ↦ inl q | inr w ↦ inr ((b d).1 w) ]),
 )
 
 module _ (es : List Edge) (c p : ℕ) where
@@ -45,11 +46,11 @@ module _ (es : List Edge) (c p : ℕ) where
   -- where edges lead from the new edge's child
   pub next_more : (s t : FinSet nat_cmp) → IsNext es c s → t ≡ insert s p → IsNext (more es c p) c t
   next_more s t n e d = subst (λ u. IsIn u d ↔ Joins (more es c p) c d) (sym e) (
-    λ m. elim ((in_with s p d).0 m) [
+    λ m. elim ((has_insert s p d).0 m) [
       | inl q ↦ subst (λ y. Joins (more es c p) c y) q (joins_new es c p)
       | inr i ↦ joins_more es c p c d ((n d).0 i)
     ],
-    λ j. (in_with s p d).1 (elim (joins_cases es c p c d j) [
+    λ j. (has_insert s p d).1 (elim (joins_cases es c p c d j) [
       | inl k ↦ inr ((n d).1 k)
       | inr q ↦ inl q.1
     ]),

@@ -11,9 +11,11 @@ use Rattle.olap_base.specs.Steps.{Climb, Climb.climb}
 use Rattle.olap_bits.specs.CatSet.{IsOfWidth}
 use Rattle.olap_bits.specs.Sets.{members}
 use Rattle.olap_bits.specs.declared.sets.CatSet.{CatSet}
-use Rattle.olap_trail.specs.Drawing.{AreBeyond, IsCyclic, IsIn, IsNext, Joins, row}
+use Rattle.olap_graph.specs.Rows.{row}
+use Rattle.olap_trail.specs.Drawing.{AreBeyond, IsCyclic, IsIn, IsNext, Joins}
 use Rattle.olap_trail.specs.Drawn.{AreTables}
-use Rattle.olap_trail.proofs.SetLemmas.{in_without, not_in_empty, row_other, row_same}
+use Rattle.olap_graph.proofs.RowLemmas.{row_other, row_same}
+use Rattle.olap_trail.proofs.SetLemmas.{in_without, not_in_empty}
 use Rattle.olap_trail.proofs.WalkLemmas.{joins_cases, joins_more, joins_new, more}
 
 -- ---- no edges

@@ -6,13 +6,13 @@
 --     IsCyclic        some category climbs back to itself
 --     IsBypassed      a walk of two edges or more leads to a parent, by way of another one
 --     AreBeyond       for each category that set
-use Rattle.std.specs.Prelude.{◌≡◌, ℕ, ◌+◌, ◌<◌, ◌⊎◌, ◌↔◌, List, map, Contains, true, slice_index_or}
+use Rattle.std.specs.Prelude.{◌≡◌, ℕ, ◌+◌, ◌<◌, ◌⊎◌, ◌↔◌, List, Contains, true}
 use Rattle.std.specs.FinSet as set
 use Rattle.std.specs.Ordering.{nat_cmp}
 use Rattle.olap_base.specs.Graph.{Edge}
 use Rattle.olap_base.specs.Steps.{Climb}
-use Rattle.olap_bits.specs.Sets.{members}
 use Rattle.olap_bits.specs.declared.sets.CatSet.{CatSet}
+use Rattle.olap_graph.specs.Rows.{row}
 use Rattle.olap_trail.specs.declared.drawing.Ends.{Ends}
 
 -- how many categories there are, how many edges there is room for, and the edges
@@ -59,10 +59,6 @@ pub record HoldsBypass (es : List Edge) : Type 0 where
   pub through : ℕ
   pub first : Joins es child through
   pub bypass : IsBypassed es child through
-
--- the numbers of the set at a place
-abbrev pub row : {W : ℕ} → List (CatSet W) → ℕ → set.FinSet nat_cmp
-row rows i = slice_index_or (map members rows) i set.empty
 
 -- a set, after x began to lead wherever c leads, if x is c or its set has c
 abbrev pub IsGrown : set.FinSet nat_cmp → ℕ → ℕ → set.FinSet nat_cmp → set.FinSet nat_cmp → Type 0

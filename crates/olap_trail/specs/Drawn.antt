@@ -5,7 +5,8 @@ use Rattle.std.specs.Prelude.{◌≡◌, ◌≢◌, ℕ, ◌+◌, ◌*◌, ◌<�
 use Rattle.olap_base.specs.Graph.{Edge}
 use Rattle.olap_bits.specs.CatSet.{IsOfWidth}
 use Rattle.olap_bits.specs.declared.sets.CatSet.{CatSet}
-use Rattle.olap_trail.specs.Drawing.{AreBeyond, Drawing, IsCyclic, IsNext, Joins, edge_of, row}
+use Rattle.olap_graph.specs.Rows.{row}
+use Rattle.olap_trail.specs.Drawing.{AreBeyond, Drawing, IsCyclic, IsNext, Joins, edge_of}
 use Rattle.olap_trail.specs.declared.drawing.Drawn.TheInside as drawn
 
 -- how many categories, how many edges at most, and the edges

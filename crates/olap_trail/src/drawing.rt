@@ -3,7 +3,8 @@ ghost use Rattle.std.specs.Prelude.{◌≡◌, ◌↔◌, ◌⊎◌, ◌+◌, �
 ghost use Rattle.olap_base.specs.Steps.{Climb};
 ghost use Rattle.olap_bits.specs.CatSet.{IsOfWidth};
 ghost use Rattle.olap_bits.specs.Sets.{members};
-ghost use Rattle.olap_trail.specs.Drawing.{Joins, IsAbove, IsBypassed, IsCyclic, IsGrown, IsIn, HoldsBypass, edge_of, row};
+ghost use Rattle.olap_graph.specs.Rows.{row};
+ghost use Rattle.olap_trail.specs.Drawing.{Joins, IsAbove, IsBypassed, IsCyclic, IsGrown, IsIn, HoldsBypass, edge_of};
 
 use olap_base::{CatId, Memory};
 use olap_bits::CatSet;

@@ -2,7 +2,7 @@
 use Rattle.std.proofs.Common.{◌+◌, ◌<◌, length, refl, subst, arith}
 use Rattle.olap_bits.specs.Sets.{members}
 use Rattle.olap_trail.specs.Drawing.{IsGrown}
-use Rattle.olap_trail.proofs.SetLemmas.{row_at}
+use Rattle.olap_graph.proofs.RowLemmas.{row_at}
 use Rattle.olap_trail.proofs.StageLemmas.{copied_more}
 use Rattle.olap_trail.proofs.drawing.draw.Goals as goal
 

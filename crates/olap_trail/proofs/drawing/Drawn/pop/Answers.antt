@@ -4,9 +4,10 @@ use Rattle.std.specs.FinSet.{remove}
 use Rattle.std.specs.Prelude.{vec_capacity}
 use Rattle.std.proofs.lemmas.List.{map_push}
 use Rattle.olap_base.specs.Graph.{Edge}
-use Rattle.olap_trail.specs.Drawing.{edge_of, row}
+use Rattle.olap_graph.specs.Rows.{row}
+use Rattle.olap_trail.specs.Drawing.{edge_of}
 use Rattle.olap_trail.specs.Drawn.{AreTables}
-use Rattle.olap_trail.proofs.SetLemmas.{row_read}
+use Rattle.olap_graph.proofs.RowLemmas.{row_read}
 use Rattle.olap_trail.proofs.TakingLemmas.{last_within, place_back, tables_pop}
 use Rattle.olap_trail.proofs.drawing.Drawn.pop.Goals as goal
 

@@ -7,10 +7,11 @@ use Rattle.std.proofs.lemmas.List.{length-map, length_push, map_push, take_at}
 use Rattle.olap_base.specs.Graph.{Edge}
 use Rattle.olap_bits.specs.Sets.{members}
 use Rattle.olap_bits.specs.declared.sets.CatSet.{CatSet}
-use Rattle.olap_trail.specs.Drawing.{Drawing, IsAbove, IsCyclic, Joins, edge_of, row}
+use Rattle.olap_graph.specs.Rows.{row}
+use Rattle.olap_trail.specs.Drawing.{Drawing, IsAbove, IsCyclic, Joins, edge_of}
 use Rattle.olap_trail.specs.Drawn.{AreTables}
 use Rattle.olap_trail.proofs.DecisionLemmas.{pushed}
-use Rattle.olap_trail.proofs.SetLemmas.{row_read}
+use Rattle.olap_graph.proofs.RowLemmas.{row_read}
 use Rattle.olap_trail.proofs.StageLemmas.{AreCopied}
 use Rattle.olap_trail.proofs.TableLemmas.{next_fits, tables_push}
 use Rattle.olap_trail.proofs.WalkLemmas.{more}
