@@ -5,6 +5,7 @@ use Rattle.std.specs.Prelude.{Contains, ◌==◌, AllPairs, ◌≢◌, filter, c
 use Rattle.std.specs.List.{range_with_len, list_any}
 use Rattle.std.proofs.lemmas.List.{get_or-map, length-map}
 use Rattle.std.proofs.lemmas.List.Elements.{Contains-get_or, Contains-append_left, Contains-append_right}
+use Rattle.std.proofs.lemmas.Bool.{or_left, or_right}
 use native.Mathlib.Decide.{ℕ_discrete}
 use Rattle.olap_base.specs.Steps.{Steps, Steps.here, Steps.step, Climb, Climb.climb, Steps-from_reaches, reaches_from_Steps, Climb-from_leads, leads_from_Climb}
 use Rattle.olap_base.specs.Graph.{Graph, Edge, IsCategory, HasEdge}
@@ -17,7 +18,7 @@ use Rattle.olap_ast.specs.Formula.{Formula, Holds}
 use Rattle.olap_ast.specs.Schema.{Schema}
 use Rattle.olap_ast.specs.Constants.{IsConstant, IsFreshName}
 use Rattle.olap_ast.specs.Frozen.{is_present, categories_in_order, present_categories, id_of, member_of, instance_of, IsFrozenInstance}
-use Rattle.olap_ast.proofs.Shape.{list_any_is, same_is, is_same, either_true, left_true, right_true, Distinct-push, same_edge, same_id, last_in}
+use Rattle.olap_ast.proofs.Shape.{list_any_is, same_is, is_same, either_true, Distinct-push, same_edge, same_id, last_in}
 use Rattle.olap_eval.specs.Shapes.{IsShape}
 use Rattle.olap_frozen.specs.Chosen.{AreNames, FrozenExactlyIfSound, IsChoice, IsMet, Joins, IsSound}
 
@@ -48,17 +49,17 @@ module _ (g : Graph) (r : ℕ) (es : List Edge) (ch : IsChoice g r es) where
   joined_categories c d j = ch.hierarchy.categories c d (ch.within (record { child = c; parent = d }) j)
 
   pub child_present : (c d : ℕ) → Joins es c d → is_present r es c ≡ true
-  child_present c d j = right_true (c == r) (list_any (ends c) es)
+  child_present c d j = or_right (c == r) (list_any (ends c) es)
       ((list_any_is (ends c) es).1
-      (record { child = c; parent = d }, j, left_true (c == c) (d == c) (is_same c c refl)))
+      (record { child = c; parent = d }, j, or_left (c == c) (d == c) (is_same c c refl)))
 
   pub parent_present : (c d : ℕ) → Joins es c d → is_present r es d ≡ true
-  parent_present c d j = right_true (d == r) (list_any (ends d) es)
+  parent_present c d j = or_right (d == r) (list_any (ends d) es)
       ((list_any_is (ends d) es).1
-      (record { child = c; parent = d }, j, right_true (c == d) (d == d) (is_same d d refl)))
+      (record { child = c; parent = d }, j, or_right (c == d) (d == d) (is_same d d refl)))
 
   pub root_present : is_present r es r ≡ true
-  root_present = left_true (r == r) (list_any (ends r) es) (is_same r r refl)
+  root_present = or_left (r == r) (list_any (ends r) es) (is_same r r refl)
 
   -- a present category is the root, or at an end of a chosen edge
   pub present_cases : (c : ℕ) → is_present r es c ≡ true

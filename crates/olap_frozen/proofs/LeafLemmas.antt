@@ -3,6 +3,7 @@ use Rattle.std.proofs.Common.{◌≡◌, ℕ, zero, suc, ◌+◌, ◌≤◌, Lis
 use Rattle.std.specs.Prelude.{IsTrue, nat_lt, slice_index, ◌≢◌}
 use Rattle.std.specs.FinSet as set
 use Rattle.std.specs.Str.{bytes_eq}
+use Rattle.std.proofs.lemmas.Bool.{false_from_ne_true}
 use Rattle.std.proofs.lemmas.Bool.Decides.{nat_tests}
 use Rattle.std.proofs.lemmas.Slice.Eq.{bytes_eq-Decides}
 use Rattle.std.proofs.lemmas.List.Elements.{Contains-get_or}
@@ -24,10 +25,6 @@ use Rattle.olap_frozen.proofs.ChosenInstance as made
 use Rattle.olap_frozen.proofs.ChosenLemmas.{bit_joins, choice_of, no_edge_joins}
 use Rattle.olap_frozen.proofs.RowLemmas.{has_steps}
 use Rattle.olap_frozen.proofs.SoundLemmas.{present_is, present_of_steps}
-
-false_from : (b : Bool) → (b ≡ true → ⊥) → b ≡ false
-false_from true f = absurd (f refl)
-false_from false f = refl
 
 pub lt_false : (c n : ℕ) → n ≤ c → nat_lt c n ≡ false
 lt_false c n h = grind (arith, nat_tests)
@@ -55,7 +52,7 @@ name_of_index k bits names (suc c) = ap (text_of_index k.fresh (k.texts (suc c))
 
 -- ---- a leaf's answers
 
-module _ (g : Graph) (k : Named) (r : ℕ) (bits : List Bool) (names : List ℕ) (rows : List (CatSet 1))
+module _ {W : ℕ} (g : Graph) (k : Named) (r : ℕ) (bits : List Bool) (names : List ℕ) (rows : List (CatSet W))
     (hier : IsHierarchy g) (leaf : IsLeaf g k r bits names rows) where
   abbrev es : List Edge
   es = chosen g.edges bits
@@ -68,7 +65,7 @@ module _ (g : Graph) (k : Named) (r : ℕ) (bits : List Bool) (names : List ℕ)
 
   -- past the categories nothing is present
   pub present_past : (c : ℕ) → category_count g ≤ c → leaf_present g r bits c ≡ false
-  present_past c h = false_from (leaf_present g r bits c)
+  present_past c h = false_from_ne_true (leaf_present g r bits c)
       (λ p. let i = made.present_category g r es ch c p in omega arith)
 
   pub edge_there : (c d n i : ℕ) → n ≡ i → edge_between g c d ≡ Some i
@@ -180,7 +177,7 @@ module _ (g : Graph) (cs : List Constraint) (q : Formula) (k : Named) (r : ℕ) 
   pub chosen_is_shape : IsShape (leaf_instance g k r bits names) (leaf_present g r bits) (leaf_place g r bits)
   chosen_is_shape = made.chosen_shape g r edges choice named
 
-  pub chosen_is_leaf : (rows : List (CatSet 1)) → length rows ≡ category_count g
+  pub chosen_is_leaf : {W : ℕ} (rows : List (CatSet W)) → length rows ≡ category_count g
       → AreRows g edges rows → IsSound r edges → IsLeaf g k r bits names rows
   chosen_is_leaf rows e a s = record {
     root = root;

@@ -34,7 +34,7 @@ pub record AreTests (r n : ℕ) (es : List Edge) : Type 0 where
   pub tops : (c : ℕ) → c < n → Steps (Joins es) r c → Steps (Joins es) c 0
 
 -- one category more
-pub tops_more : (rows : List (CatSet 1)) (r c : ℕ) (a : Bool) → a ≡ set.contains (row rows r) c
+pub tops_more : {W : ℕ} (rows : List (CatSet W)) (r c : ℕ) (a : Bool) → a ≡ set.contains (row rows r) c
     → (a ≡ false) ⊎ (set.contains (row rows c) 0 ≡ true) → ReachAll rows r c → ReachAll rows r (c + 1)
 tops_more rows r c a e o t d h m = elim (newest d c h) [
   | inl l ↦ t d l m
@@ -98,7 +98,7 @@ tests_of_sound g r es ch s = record {
 
 -- ---- the tests, as the program makes them
 
-module _ (g : Graph) (r : ℕ) (bits : List Bool) (rows : List (CatSet 1)) (hier : IsHierarchy g) (root : IsCategory g r)
+module _ {W : ℕ} (g : Graph) (r : ℕ) (bits : List Bool) (rows : List (CatSet W)) (hier : IsHierarchy g) (root : IsCategory g r)
     (a : AreRows g (chosen g.edges bits) rows) where
   abbrev es : List Edge
   es = chosen g.edges bits

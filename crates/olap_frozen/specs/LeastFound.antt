@@ -1,7 +1,8 @@
 -- What a frozen dimension that was found says.
 --     frozen_of       the definitions' value
+--     HasNothing      a value has nothing present
 --     IsLeastFound    it is the least one, and names are there for its indexes
-use Rattle.std.specs.Prelude.{◌≡◌, ℕ}
+use Rattle.std.specs.Prelude.{◌≡◌, ℕ, All, false}
 use Rattle.olap_ast.specs.Formula.{Formula}
 use Rattle.olap_ast.specs.Frozen as frozen
 use Rattle.olap_ast.specs.Schema.{Schema}
@@ -13,6 +14,11 @@ use Rattle.olap_frozen.specs.Leaves.{IsSized, chosen_of}
 -- the choice of edges and names
 abbrev pub frozen_of : Frozen → frozen.Frozen
 frozen_of f = chosen_of f.edges f.names
+
+-- no edge is present, and each category has the index 0
+pub record HasNothing (f : Frozen) : Type 0 where
+  pub edges : All (λ b. b ≡ false) f.edges
+  pub names : All (λ n. n ≡ 0) f.names
 
 -- the least frozen dimension with this root for the question
 pub record IsLeastFound (s : Schema) (q : Formula) (r : ℕ) (found : Found) : Type 0 where

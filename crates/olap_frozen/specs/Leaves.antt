@@ -1,6 +1,7 @@
 -- A choice of edges and names as the program keeps it.
 --     chosen_of    the definitions' value
 --     IsSized      the value has an entry for each edge and each category
+--     IsZeroAtAll  `All` has the index 0
 --     IsLeaf       a sound choice, with the rows of what its categories reach
 use Rattle.std.specs.Prelude.{◌≡◌, ◌<◌, ◌≤◌, ℕ, List, [], ◌∷◌, Bool, false, length, slice_index, slice_index_or}
 use Rattle.std.specs.FinSet as set
@@ -28,14 +29,18 @@ pub record IsSized (g : Graph) (k : Named) (edges : List Bool) (names : List ℕ
   pub name_count : length names ≡ category_count g
   pub in_range : (c : ℕ) → c < category_count g → slice_index names c ≤ length (slice_index_or k.texts c [])
 
+-- `All` has the index 0
+abbrev pub IsZeroAtAll : List ℕ → Type 0
+IsZeroAtAll names = slice_index names 0 ≡ 0
+
 -- each absent declared category has the index 0
 abbrev pub AreAbsentZero : Graph → ℕ → List Bool → List ℕ → Type 0
 AreAbsentZero g r edges names = (c : ℕ) → c < length names → is_present r (chosen g.edges edges) c ≡ false
     → slice_index names c ≡ 0
 
 -- the choice is sized, the rows are those of its edges, and the root reaches the present categories
-pub record IsLeaf (g : Graph) (k : Named) (r : ℕ) (edges : List Bool) (names : List ℕ) (table : List (CatSet 1))
-    : Type 0 where
+pub record IsLeaf {W : ℕ} (g : Graph) (k : Named) (r : ℕ) (edges : List Bool) (names : List ℕ)
+    (table : List (CatSet W)) : Type 0 where
   pub root : IsCategory g r
   pub sized : IsSized g k edges names
   pub row_count : length table ≡ category_count g

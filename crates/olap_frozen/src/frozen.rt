@@ -8,13 +8,12 @@ ghost use Rattle.olap_frozen.specs.Leaves.{AreAbsentZero, IsSized, chosen_of};
 ghost use Rattle.olap_names.specs.Names.{candidates_of, with_graph};
 ghost use Rattle.olap_frozen.specs.Rows.{AreRows};
 
-use crate::closing::{close, row_has};
+use crate::closing::close;
 use crate::leaves::{Leaf, meets};
 use crate::sound::is_sound;
 use olap_ast::{Constraint, Formula};
 use olap_base::{CatId, List, Memory};
-use olap_bits::CatSet;
-use olap_graph::Graph;
+use olap_graph::{Categories, Graph, row_has};
 use olap_names::Candidates;
 use std::alloc::Global;
 
@@ -34,7 +33,7 @@ pub struct Frozen {
 #[derive(Debug, Drop)]
 pub struct Room {
     /// What each category reaches.
-    pub rows: Vec<CatSet<1>>,
+    pub rows: Vec<Categories>,
 }
 
 impl Room {
@@ -44,7 +43,7 @@ impl Room {
     {
         let mut rows = Vec::new(alloc);
         'categories: for _ in 0..graph.categories() {
-            rows.push(CatSet::empty())?;
+            rows.push(Categories::empty())?;
         }
         Ok(Room { rows })
     }
@@ -56,7 +55,7 @@ fn are_absent_zero(
     root: CatId,
     edges: &[bool],
     names: &[u16],
-    rows: &[CatSet<1>],
+    rows: &[Categories],
 ) -> bool
     requires root { IsCategory graph.now root.0 }
     requires size { length rows.now ≡ category_count graph.now }
@@ -83,7 +82,7 @@ pub fn named(
     root: CatId,
     edges: &[bool],
     names: &[u16],
-    rows: &[CatSet<1>],
+    rows: &[Categories],
 ) -> bool
     requires root { IsCategory graph.now root.0 }
     requires size { length rows.now ≡ category_count graph.now }
@@ -117,7 +116,7 @@ fn stands(
     root: CatId,
     edges: &[bool],
     names: &[u16],
-    rows: &mut [CatSet<1>],
+    rows: &mut [Categories],
 ) -> bool
     requires root { IsCategory graph.now root.0 }
     requires rows { length rows.old ≡ category_count graph.now }

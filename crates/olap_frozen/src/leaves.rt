@@ -8,12 +8,10 @@ ghost use Rattle.olap_base.specs.Graph.{IsCategory, IsHierarchy};
 ghost use Rattle.olap_eval.specs.Shapes.{IsShape};
 ghost use Rattle.olap_names.specs.Names.{candidates_of, with_graph};
 
-use crate::closing::row_has;
 use olap_ast::{Constraint, Formula};
 use olap_base::{CatId, Text};
-use olap_bits::CatSet;
 use olap_eval::{Shape, holds};
-use olap_graph::Graph;
+use olap_graph::{Categories, Graph, row_has};
 use olap_names::Candidates;
 
 /// A sound choice of edges with its names.
@@ -24,7 +22,7 @@ pub(crate) struct Leaf<'a> {
     pub root: CatId,
     pub edges: &'a [bool],
     pub names: &'a [u16],
-    pub rows: &'a [CatSet<1>],
+    pub rows: &'a [Categories],
     ghost leaf: { IsLeaf graph.now candidates.now root.0 edges.now names.now rows.now },
     ghost is_shape: { IsShape (leaf_instance graph.now candidates.now root.0 edges.now names.now)
         (leaf_present graph.now root.0 edges.now) (leaf_place graph.now root.0 edges.now) },

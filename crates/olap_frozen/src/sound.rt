@@ -6,13 +6,11 @@ ghost use Rattle.olap_frozen.specs.Chosen.{IsSound};
 ghost use Rattle.olap_frozen.specs.Rows.{AreRows, Fits, IsPassed, ReachAll};
 ghost use Rattle.olap_graph.specs.Lookups.{edge_at};
 
-use crate::closing::row_has;
 use olap_base::{CatId, EdgeId};
-use olap_bits::CatSet;
-use olap_graph::Graph;
+use olap_graph::{Categories, Graph, row_has};
 
 // Whether another chosen edge from c leads to a category that reaches d.
-fn is_passed(graph: &Graph, edges: &[bool], rows: &[CatSet<1>], c: CatId, d: CatId) -> bool
+fn is_passed(graph: &Graph, edges: &[bool], rows: &[Categories], c: CatId, d: CatId) -> bool
     requires edges { length edges.now ≡ length graph.now.edges }
     requires rows { length rows.now ≡ category_count graph.now }
     ensures { IsTrue result ↔ IsPassed graph.now edges.now rows.now (length graph.now.edges) c.0 d.0 }
@@ -29,7 +27,7 @@ fn is_passed(graph: &Graph, edges: &[bool], rows: &[CatSet<1>], c: CatId, d: Cat
 }
 
 // Whether a chosen edge is reached, closes no walk, and goes past none.
-fn fits(graph: &Graph, root: CatId, edges: &[bool], rows: &[CatSet<1>], e: EdgeId) -> bool
+fn fits(graph: &Graph, root: CatId, edges: &[bool], rows: &[Categories], e: EdgeId) -> bool
     requires edges { length edges.now ≡ length graph.now.edges }
     requires rows { length rows.now ≡ category_count graph.now }
     requires root { IsCategory graph.now root.0 }
@@ -45,7 +43,7 @@ fn fits(graph: &Graph, root: CatId, edges: &[bool], rows: &[CatSet<1>], e: EdgeI
 }
 
 // Whether each category that the root reaches reaches `All`.
-fn tops(rows: &[CatSet<1>], root: CatId, count: u16) -> bool
+fn tops(rows: &[Categories], root: CatId, count: u16) -> bool
     requires rows { length rows.now ≡ count }
     requires root { root.0 < count }
     ensures { IsTrue result ↔ ReachAll rows.now root.0 count }
@@ -61,7 +59,7 @@ fn tops(rows: &[CatSet<1>], root: CatId, count: u16) -> bool
 /// Whether the laws hold on the chosen edges.
 ///
 /// Cost: for each chosen edge the edges.
-pub fn is_sound(graph: &Graph, root: CatId, edges: &[bool], rows: &[CatSet<1>]) -> bool
+pub fn is_sound(graph: &Graph, root: CatId, edges: &[bool], rows: &[Categories]) -> bool
     requires edges { length edges.now ≡ length graph.now.edges }
     requires size { length rows.now ≡ category_count graph.now }
     requires root { IsCategory graph.now root.0 }

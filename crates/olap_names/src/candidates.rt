@@ -105,6 +105,8 @@ impl Candidates {
         ensures count { IfOk result (λ k. length k.texts ≡ categories) }
         ensures candidates { IfOk result (λ k. (g : Graph) → AreCandidates
             (with_graph g (map constraint_of constraints.now)) (formula_of question.now) (candidates_of k)) }
+        ensures constants { let all = atoms (map constraint_of constraints.now) (formula_of question.now) in
+            IfOk result (λ k. (c : ℕ) → AreInByteOrder (texts_on c all) (slice_index_or k.texts c [])) }
     {
         let mut texts = Vec::new(alloc);
         'categories: for c in 0..categories {

@@ -1,5 +1,0 @@
-use Rattle.olap_frozen.proofs.RowLemmas.{IsPassing}
-use Rattle.olap_frozen.proofs.closing.pass.Given as goal
-
-abbrev pub invariant-categories : goal.invariant-categories
-invariant-categories l = IsPassing l.initial.rows l.rows l.k l.c
