@@ -1,7 +1,7 @@
 -- The text of the made input's schema stands for its schema.
 --     above, Follow      what the first lines say, and that each line adds what it says
 --     location_is_read   the whole text
-use Rattle.std.proofs.Common.{◌≡◌, ◌<◌, ◌++◌, ◌∙◌, ◌+◌, ◌-◌, ℕ, zero, suc, true, List, [], ◌∷◌, None, Ok, codes, take, drop, length, refl, ap, arith, lit<}
+use Rattle.std.proofs.Common.{◌≡◌, ◌<◌, ◌++◌, ◌∙◌, ◌+◌, ◌-◌, ℕ, zero, suc, true, List, [], ◌∷◌, None, Some, Ok, codes, take, drop, length, refl, ap, arith, lit<}
 use Rattle.std.specs.Prelude.{slice_index}
 use Rattle.std.specs.Str.{chars, is_utf8}
 use lib.Utf8.{encode}
@@ -14,8 +14,9 @@ use Rattle.olap_grammar.specs.Words.{equality_of, id_of, pieces_of, plain_of}
 use Rattle.olap_schema.specs.Atoms.{atom_fault, is_connective, is_repeated, lacks_edge, stands_in, word_fault}
 use Rattle.olap_schema.specs.Judging.{Above, first_stuck, form_read, line_read, lines_on, nothing_above, Read, schema_read, text_ended, whole}
 use Rattle.olap_schema.specs.Lines.{chomped, is_quiet, lines_of}
-use Rattle.olap_schema.specs.Statements.{colon_at, statement_of, word_at}
-use Rattle.olap_schema.specs.Tokens.{has_long_name, is_long}
+use Rattle.olap_schema.specs.Statements.{statement_of}
+use Rattle.olap_schema.specs.Tokens.{is_long}
+use Rattle.olap_schema.specs.declared.statements.Version.TheVariants as version
 use Rattle.olap_generate.specs.Location.{city, country, location_lines, location_text}
 use Rattle.olap_generate.proofs.Location.{location_graph, location_schema}
 use Rattle.olap_generate.proofs.LocationGraph.{all_is, city_is, country_is, location_is_hierarchy, province_is, region_is, state_is, store_is}
@@ -46,7 +47,7 @@ atom_counts = 0 ∷ 1 ∷ 1 ∷ 2 ∷ 3 ∷ 3 ∷ 3 ∷ 4 ∷ []
 -- what the version, so many categories, so many edges and so many constraints say
 abbrev said : ℕ → ℕ → ℕ → Above
 said c e k = record {
-  versioned = true;
+  version = Some version.One;
   graph = record { names = take c location_graph.names; edges = take e location_graph.edges };
   category_lines = take c (2 ∷ 3 ∷ 4 ∷ 5 ∷ 6 ∷ 7 ∷ []);
   constraints = take k location_schema.constraints;
@@ -81,14 +82,14 @@ both a b = (a, b)
 
 -- the version and the categories
 category_lines : Follow 0 (take 7 location_lines)
-unfolding line_read is_utf8 chars encode is_quiet tokens_of statement_of word_at
+unfolding line_read is_utf8 chars encode is_quiet tokens_of statement_of
 category_lines =
     both refl (both (rw store_is refl) (both (rw city_is refl) (both (rw state_is refl) (both (rw province_is refl)
     (both (rw region_is refl) (both (rw country_is refl) tt))))))
 
 -- the edges
 edge_lines : Follow 7 (take 9 (drop 7 location_lines))
-unfolding line_read is_utf8 chars encode is_quiet tokens_of statement_of word_at
+unfolding line_read is_utf8 chars encode is_quiet tokens_of statement_of
 edge_lines =
     both (rw (store_is, city_is) refl) (both (rw (city_is, state_is) refl) (both (rw (city_is, province_is) refl)
     (both (rw (city_is, country_is) refl) (both (rw (state_is, region_is) refl) (both (rw (state_is, country_is) refl)
@@ -97,8 +98,8 @@ edge_lines =
 
 -- the constraints
 constraint_lines : Follow 16 (drop 16 location_lines)
-unfolding line_read is_utf8 chars encode is_quiet tokens_of statement_of word_at colon_at
-    form_read the_formula plain_of equality_of pieces_of id_of opens_over is_long has_long_name
+unfolding line_read is_utf8 chars encode is_quiet tokens_of statement_of
+    form_read the_formula plain_of equality_of pieces_of id_of opens_over is_long
     atom_fault word_fault is_connective stands_in is_repeated lacks_edge
 constraint_lines =
     both (simp (city_is, country_is)) (both (simp (city_is, state_is, province_is, country_is))

@@ -5,6 +5,7 @@ use Rattle.olap_ast.specs.Formula as Meaning
 use Rattle.olap_ast.specs.Formula.{Formula, Terms}
 use Rattle.olap_grammar.specs.declared.tokens.Token.{Token}
 use Rattle.olap_grammar.specs.declared.tokens.Token.TheVariants as token
+use Rattle.olap_grammar.specs.declared.tokens.Mark.TheVariants as mark
 use Rattle.olap_grammar.specs.declared.tokens.Joint.{Joint}
 use Rattle.olap_grammar.specs.Grammar.{Atoms, level, left_level, right_level, join, IsFormula, looser, joined, negated, bracketed, listed, plain, equal, IsList, none, some, IsItems, last, more}
 use Rattle.olap_grammar.specs.Machine.{trees, Frame, Negation, Left, Bracket, Listing, Part, State, Wants, WantsPart, Named, Has, settled, list_closed, after, step, alone, ended, formula_read}
@@ -35,9 +36,10 @@ admits_more m n (Part g ∷ s) l h = tt
 -- the state goes on as one in which the formula of the level was read on top of what is open
 pub record Stands (a : Atoms Formula) (n : ℕ) (f : Formula) (s : List (Frame Formula))
     (st : State Formula) : Type 0 where
-  pub joint : (j : Joint) → left_level j ≤ n → step trees a st (token.Joint j) ≡ after trees f s (token.Joint j)
-  pub close : step trees a st token.Close ≡ after trees f s token.Close
-  pub comma : step trees a st token.Comma ≡ after trees f s token.Comma
+  pub joint : (j : Joint) → left_level j ≤ n
+      → step trees a st (token.Mark (mark.Joint j)) ≡ after trees f s (token.Mark (mark.Joint j))
+  pub close : step trees a st (token.Mark mark.Close) ≡ after trees f s (token.Mark mark.Close)
+  pub comma : step trees a st (token.Mark mark.Comma) ≡ after trees f s (token.Mark mark.Comma)
   pub end : ended trees a st ≡ alone (settled trees 1 f s)
 
 stands_has : (a : Atoms Formula) (n : ℕ) (f : Formula) (s : List (Frame Formula)) → Stands a n f s (Has f s)
@@ -90,8 +92,9 @@ starts : {a : Atoms Formula} {n : ℕ} {ts : List Token} {f : Formula} → IsFor
     → fold (step trees a) (WantsPart s) ts ≡ fold (step trees a) (Wants (Listing ∷ s)) ts
 starts (looser d) s = starts d s
 starts {a = a} (joined j {left = left} {right = right} d e) s =
-    fold-append (step trees a) _ left _ ∙ ap (λ st. fold (step trees a) st (token.Joint j ∷ right)) (starts d s)
-    ∙ rw (fold-append (step trees a) (Wants (Listing ∷ s)) left (token.Joint j ∷ right)) refl
+    fold-append (step trees a) _ left _
+    ∙ ap (λ st. fold (step trees a) st (token.Mark (mark.Joint j) ∷ right)) (starts d s)
+    ∙ rw (fold-append (step trees a) (Wants (Listing ∷ s)) left (token.Mark (mark.Joint j) ∷ right)) refl
 starts (negated d) s = refl
 starts (bracketed d) s = refl
 starts (listed d) s = refl
@@ -108,7 +111,7 @@ IsOpenList (Listing ∷ s) = Unit {0}
 IsOpenList (Part g ∷ s) = Unit {0}
 
 closes_last : (a : Atoms Formula) (f : Formula) (s : List (Frame Formula)) → IsOpenList s
-    → after trees f s token.Close ≡ list_closed trees (Meaning.Terms.More f Meaning.Terms.End) s
+    → after trees f s (token.Mark mark.Close) ≡ list_closed trees (Meaning.Terms.More f Meaning.Terms.End) s
 closes_last a f [] h = absurd h
 closes_last a f (Negation ∷ s) h = absurd h
 closes_last a f (Left j g ∷ s) h = absurd h
@@ -116,7 +119,8 @@ closes_last a f (Bracket ∷ s) h = absurd h
 closes_last a f (Listing ∷ s) h = refl
 closes_last a f (Part g ∷ s) h = refl
 
-parts_one : (f : Formula) (s : List (Frame Formula)) → IsOpenList s → after trees f s token.Comma ≡ Wants (Part f ∷ s)
+parts_one : (f : Formula) (s : List (Frame Formula)) → IsOpenList s
+    → after trees f s (token.Mark mark.Comma) ≡ Wants (Part f ∷ s)
 parts_one f [] h = absurd h
 parts_one f (Negation ∷ s) h = absurd h
 parts_one f (Left j g ∷ s) h = absurd h
@@ -141,22 +145,25 @@ mutual
       let one = reads d s (admits_more (level j) (left_level j) s (row j).left_above h) in
       let two = reads e (Left j f ∷ s) (omega arith) in
       rw (
-        fold-append (step trees a) (Wants s) left (token.Joint j ∷ right),
+        fold-append (step trees a) (Wants s) left (token.Mark (mark.Joint j) ∷ right),
         one.joint j (omega arith),
         settled_stays j f s h,
       ) (stands_joined a j f g s _ two)
   reads {a = a} (negated {f = f} d) s h = stands_negated a f s _ (reads d (Negation ∷ s) (omega arith))
   reads {a = a} (bracketed {ts = ts} {f = f} d) s h =
-      rw (fold-append (step trees a) (Wants (Bracket ∷ s)) ts (token.Close ∷ []), (reads d (Bracket ∷ s) tt).close)
+      rw (
+        fold-append (step trees a) (Wants (Bracket ∷ s)) ts (token.Mark mark.Close ∷ []),
+        (reads d (Bracket ∷ s) tt).close,
+      )
       (stands_has a 7 f s)
   reads {a = a} (listed {ts = ts} {fs = fs} d) s h =
-      rw (fold-append (step trees a) (WantsPart s) ts (token.Close ∷ []), reads_list d s)
+      rw (fold-append (step trees a) (WantsPart s) ts (token.Mark mark.Close ∷ []), reads_list d s)
       (stands_has a 7 (Meaning.Formula.One fs) s)
   reads {a = a} (plain {w = w} {f = f} e) s h = stands_named a 7 w f s e
   reads {a = a} (equal {w = w} {k = k} {f = f} e) s h = rw e (stands_has a 7 f s)
 
   reads_list : {a : Atoms Formula} {ts : List Token} {fs : Terms} → IsList a ts fs → (s : List (Frame Formula))
-      → step trees a (fold (step trees a) (WantsPart s) ts) token.Close ≡ Has (Meaning.Formula.One fs) s
+      → step trees a (fold (step trees a) (WantsPart s) ts) (token.Mark mark.Close) ≡ Has (Meaning.Formula.One fs) s
   reads_list none s = refl
   reads_list (some d) s = rw (starts_items d s) (reads_items d (Listing ∷ s) tt)
 
@@ -165,17 +172,17 @@ mutual
   starts_items (last d) s = starts d s
   starts_items {a = a} (more {ts = ts} {us = us} d e) s =
       rw (
-        fold-append (step trees a) (WantsPart s) ts (token.Comma ∷ us),
-        fold-append (step trees a) (Wants (Listing ∷ s)) ts (token.Comma ∷ us),
+        fold-append (step trees a) (WantsPart s) ts (token.Mark mark.Comma ∷ us),
+        fold-append (step trees a) (Wants (Listing ∷ s)) ts (token.Mark mark.Comma ∷ us),
         starts d s,
       ) refl
 
   reads_items : {a : Atoms Formula} {ts : List Token} {fs : Terms} → IsItems a ts fs → (s : List (Frame Formula))
-      → IsOpenList s → step trees a (fold (step trees a) (Wants s) ts) token.Close ≡ list_closed trees fs s
+      → IsOpenList s → step trees a (fold (step trees a) (Wants s) ts) (token.Mark mark.Close) ≡ list_closed trees fs s
   reads_items {a = a} (last {f = f} d) s h = (reads d s (admits_any 1 s h)).close ∙ closes_last a f s h
   reads_items {a = a} (more {ts = ts} {us = us} {f = f} d e) s h =
       rw (
-        fold-append (step trees a) (Wants s) ts (token.Comma ∷ us),
+        fold-append (step trees a) (Wants s) ts (token.Mark mark.Comma ∷ us),
         (reads d s (admits_any 1 s h)).comma,
         parts_one f s h,
       ) (reads_items e (Part f ∷ s) tt)

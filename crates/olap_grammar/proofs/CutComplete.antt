@@ -1,10 +1,12 @@
 -- A line that can be cut is cut into its tokens.
 use Rattle.std.proofs.Common.{◌≡◌, ◌==◌, ℕ, true, false, List, [], ◌∷◌, ◌++◌, refl, Some, append_assoc, append-nil, ap, ◌∙◌}
 use Rattle.std.specs.List.{fold}
-use Rattle.olap_grammar.specs.Cutting.{is_word_byte, AreWordBytes, EndsWord, mark_bytes, IsMark, Spells, nothing, quote, backslash, other, IsCut, end, blank, tab, word, quoted, mark}
+use Rattle.olap_grammar.specs.Cutting.{is_word_byte, AreWordBytes, EndsWord, mark_bytes, Spells, nothing, quote, backslash, other, IsCut, end, blank, tab, word, quoted, marked}
 use Rattle.olap_grammar.specs.CuttingMachine.{Between, InWord, InQuotes, cut_step, cut_ended, tokens_of}
 use Rattle.olap_grammar.specs.declared.tokens.Token.{Token}
 use Rattle.olap_grammar.specs.declared.tokens.Token.TheVariants as token
+use Rattle.olap_grammar.specs.declared.tokens.Mark.{Mark}
+use Rattle.olap_grammar.specs.declared.tokens.Mark.TheVariants as mark
 use Rattle.olap_grammar.specs.declared.tokens.Joint.TheVariants as joint
 
 in_word : (ts : List Token) (w : List ℕ) (b : ℕ) → is_word_byte b ≡ true
@@ -55,25 +57,24 @@ cut_on (word b w {bs = bs} {ts = ts} h n d) done =
 cut_on (quoted {k = k} {bs = bs} {ts = ts} s d) done =
     let e : (done ++ token.Quoted k ∷ []) ++ ts ≡ done ++ token.Quoted k ∷ ts = simp append_assoc in
     rw (quotes_end s done [] bs) (rw e at (cut_on d (done ++ token.Quoted k ∷ [])))
-cut_on (mark t {bs = bs} {ts = ts} m d) done =
-    let e : (done ++ t ∷ []) ++ ts ≡ done ++ t ∷ ts = simp append_assoc in
-    go t bs m (rw e at (cut_on d (done ++ t ∷ [])))
+cut_on (marked m {bs = bs} {ts = ts} d) done =
+    let e : (done ++ token.Mark m ∷ []) ++ ts ≡ done ++ token.Mark m ∷ ts = simp append_assoc in
+    go m bs (rw e at (cut_on d (done ++ token.Mark m ∷ [])))
   where
-    go : (u : Token) (bs : List ℕ) → IsMark u → cut_ended (fold cut_step (Between (done ++ u ∷ [])) bs) ≡ Some
-        (done ++ u ∷ ts) → cut_ended (fold cut_step (Between done) (mark_bytes u ++ bs)) ≡ Some (done ++ u ∷ ts)
-    go token.Open bs m h = h
-    go token.Close bs m h = h
-    go token.Comma bs m h = h
-    go token.Colon bs m h = h
-    go token.Equal bs m h = h
-    go token.Not bs m h = h
-    go (token.Joint joint.Iff) bs m h = h
-    go (token.Joint joint.Implies) bs m h = h
-    go (token.Joint joint.Xor) bs m h = h
-    go (token.Joint joint.Or) bs m h = h
-    go (token.Joint joint.And) bs m h = h
-    go (token.Word w) bs m h = absurd m
-    go (token.Quoted k) bs m h = absurd m
+    go : (n : Mark) (bs : List ℕ)
+        → cut_ended (fold cut_step (Between (done ++ token.Mark n ∷ [])) bs) ≡ Some (done ++ token.Mark n ∷ ts)
+        → cut_ended (fold cut_step (Between done) (mark_bytes n ++ bs)) ≡ Some (done ++ token.Mark n ∷ ts)
+    go mark.Open bs h = h
+    go mark.Close bs h = h
+    go mark.Comma bs h = h
+    go mark.Colon bs h = h
+    go mark.Equal bs h = h
+    go mark.Not bs h = h
+    go (mark.Joint joint.Iff) bs h = h
+    go (mark.Joint joint.Implies) bs h = h
+    go (mark.Joint joint.Xor) bs h = h
+    go (mark.Joint joint.Or) bs h = h
+    go (mark.Joint joint.And) bs h = h
 
 -- a line that can be cut is cut into its tokens
 pub cut_is_found : (line : List ℕ) (ts : List Token) → IsCut line ts → tokens_of line ≡ Some ts

@@ -1,10 +1,13 @@
 -- A line is cut into the tokens that are found.
-use Rattle.std.proofs.Common.{◌≡◌, ◌==◌, ◌⊎◌, inl, inr, ℕ, Bool, true, false, List, [], ◌∷◌, ◌++◌, refl, Some, append_assoc, append-nil, arith, if◌then◌else◌}
+use Rattle.std.proofs.Common.{◌≡◌, ◌==◌, ◌⊎◌, inl, inr, ℕ, Bool, true, false, List, [], ◌∷◌, ◌++◌, refl, Option, Some, None, append_assoc, append-nil, arith, if◌then◌else◌}
 use Rattle.std.specs.List.{fold}
-use Rattle.olap_grammar.specs.Cutting.{is_word_byte, AreWordBytes, EndsWord, mark_bytes, IsMark, Spells, nothing, quote, backslash, other, IsCut, end, blank, tab, word, quoted, mark}
-use Rattle.olap_grammar.specs.CuttingMachine.{Cut, Between, InWord, InQuotes, Escaped, Dash, Less, LessDash, Stuck, between, cut_step, cut_ended, tokens_of}
+use Rattle.olap_grammar.specs.Cutting.{is_word_byte, AreWordBytes, EndsWord, mark_bytes, Spells, nothing, quote, backslash, other, IsCut, end, blank, tab, word, quoted, marked}
+use Rattle.olap_grammar.specs.CuttingMachine as machine
+use Rattle.olap_grammar.specs.CuttingMachine.{Cut, Between, InWord, InQuotes, Escaped, Dash, Less, LessDash, Stuck, between, mark_of, cut_step, cut_ended, tokens_of}
 use Rattle.olap_grammar.specs.declared.tokens.Token.{Token}
 use Rattle.olap_grammar.specs.declared.tokens.Token.TheVariants as token
+use Rattle.olap_grammar.specs.declared.tokens.Mark.{Mark}
+use Rattle.olap_grammar.specs.declared.tokens.Mark.TheVariants as mark
 use Rattle.olap_grammar.specs.declared.tokens.Joint.TheVariants as joint
 
 -- the tokens before, and the rest of the line is cut into the tokens after them
@@ -36,9 +39,12 @@ Gives (InWord ts w) bs all = EndsWordAt ts w bs all
 Gives (InQuotes ts k) bs all = EndsQuotesAt ts k bs all
 Gives (Escaped ts k) bs all = (b : ℕ) × (rest : List ℕ) × (bs ≡ b ∷ rest) × ((b ≡ 34) ⊎ (b ≡ 92))
     × EndsQuotesAt ts (k ++ b ∷ []) rest all
-Gives (Dash ts) bs all = (rest : List ℕ) × (bs ≡ 62 ∷ rest) × Follows (ts ++ token.Joint joint.Implies ∷ []) rest all
-Gives (Less ts) bs all = (rest : List ℕ) × (bs ≡ 45 ∷ 62 ∷ rest) × Follows (ts ++ token.Joint joint.Iff ∷ []) rest all
-Gives (LessDash ts) bs all = (rest : List ℕ) × (bs ≡ 62 ∷ rest) × Follows (ts ++ token.Joint joint.Iff ∷ []) rest all
+Gives (Dash ts) bs all = (rest : List ℕ) × (bs ≡ 62 ∷ rest)
+    × Follows (ts ++ token.Mark (mark.Joint joint.Implies) ∷ []) rest all
+Gives (Less ts) bs all = (rest : List ℕ) × (bs ≡ 45 ∷ 62 ∷ rest)
+    × Follows (ts ++ token.Mark (mark.Joint joint.Iff) ∷ []) rest all
+Gives (LessDash ts) bs all = (rest : List ℕ) × (bs ≡ 62 ∷ rest)
+    × Follows (ts ++ token.Mark (mark.Joint joint.Iff) ∷ []) rest all
 Gives Stuck bs all = ⊥
 
 same_byte : (a b : ℕ) → a == b ≡ true → a ≡ b
@@ -50,10 +56,40 @@ choose : {A : Type 0} (P : A → Type 0) (Q : Type 0) (t : Bool) (x y : A) → (
 choose P Q true x y f g h = f refl h
 choose P Q false x y f g h = g refl h
 
-after_mark : (t : Token) (done : List Token) (bs : List ℕ) (all : List Token) → IsMark t
-    → Follows (done ++ t ∷ []) bs all → Follows done (mark_bytes t ++ bs) all
-after_mark t done bs all m h =
-    record { later = t ∷ h.later; whole = rw h.whole (simp append_assoc); cut = mark t m h.cut }
+after_mark : (m : Mark) (done : List Token) (bs : List ℕ) (all : List Token)
+    → Follows (done ++ token.Mark m ∷ []) bs all → Follows done (mark_bytes m ++ bs) all
+after_mark m done bs all h =
+    record { later = token.Mark m ∷ h.later; whole = rw h.whole (simp append_assoc); cut = marked m h.cut }
+
+-- a mark that is found for a byte is spelt by it, if that holds of the marks after the first
+first_mark : (b c : ℕ) (first m : Mark) (others : Option Mark) → mark_bytes first ≡ c ∷ []
+    → (others ≡ Some m → mark_bytes m ≡ b ∷ []) → (if b == c then Some first else others) ≡ Some m
+    → mark_bytes m ≡ b ∷ []
+first_mark b c first m others spelt later h = go (b == c) refl h
+  where
+    go : (t : Bool) → b == c ≡ t → (if t then Some first else others) ≡ Some m → mark_bytes m ≡ b ∷ []
+    go true e q = let same : first ≡ m = cc in rw (← same, same_byte b c e) spelt
+    go false e q = later q
+
+-- the mark that a byte is by itself is spelt by it
+spelt_by : (b : ℕ) (m : Mark) → mark_of b ≡ Some m → mark_bytes m ≡ b ∷ []
+spelt_by b m =
+    first_mark b 40 mark.Open m _ refl
+    (first_mark b 41 mark.Close m _ refl
+    (first_mark b 44 mark.Comma m _ refl
+    (first_mark b 58 mark.Colon m _ refl
+    (first_mark b 61 mark.Equal m _ refl
+    (first_mark b 33 mark.Not m _ refl
+    (first_mark b 94 (mark.Joint joint.Xor) m _ refl
+    (first_mark b 124 (mark.Joint joint.Or) m _ refl
+    (first_mark b 38 (mark.Joint joint.And) m _ refl (λ h. absurd (cc))))))))))
+
+mark_gives : (ts : List Token) (b : ℕ) (bs : List ℕ) (all : List Token) (found : Option Mark) → mark_of b ≡ found
+    → Gives (machine.marked ts found) bs all → Follows ts (b ∷ bs) all
+mark_gives ts b bs all None e h = absurd h
+mark_gives ts b bs all (Some m) e h =
+    let line : mark_bytes m ++ bs ≡ b ∷ bs = rw (spelt_by b m e) refl in
+    rw line at (after_mark m ts bs all h)
 
 between_gives : (ts : List Token) (b : ℕ) (bs : List ℕ) (all : List Token) → Gives (between ts b) bs all
     → Follows ts (b ∷ bs) all
@@ -82,29 +118,20 @@ between_gives ts b bs all =
     (λ n. choose P Q (b == 45) _ _
     (λ e h. rw (same_byte b 45 e, h.1)
     (record {
-      later = token.Joint joint.Implies ∷ (h.2).later;
+      later = token.Mark (mark.Joint joint.Implies) ∷ (h.2).later;
       whole = rw (h.2).whole
           (simp append_assoc);
-      cut = mark (token.Joint joint.Implies) tt (h.2).cut;
+      cut = marked (mark.Joint joint.Implies) (h.2).cut;
     }))
     (λ n. choose P Q (b == 60) _ _
     (λ e h. rw (same_byte b 60 e, h.1)
     (record {
-      later = token.Joint joint.Iff ∷ (h.2).later;
+      later = token.Mark (mark.Joint joint.Iff) ∷ (h.2).later;
       whole = rw (h.2).whole
           (simp append_assoc);
-      cut = mark (token.Joint joint.Iff) tt (h.2).cut;
+      cut = marked (mark.Joint joint.Iff) (h.2).cut;
     }))
-    (λ n. choose P Q (b == 40) _ _ (λ e. rw (same_byte b 40 e) (after_mark token.Open ts bs all tt))
-    (λ n. choose P Q (b == 41) _ _ (λ e. rw (same_byte b 41 e) (after_mark token.Close ts bs all tt))
-    (λ n. choose P Q (b == 44) _ _ (λ e. rw (same_byte b 44 e) (after_mark token.Comma ts bs all tt))
-    (λ n. choose P Q (b == 58) _ _ (λ e. rw (same_byte b 58 e) (after_mark token.Colon ts bs all tt))
-    (λ n. choose P Q (b == 61) _ _ (λ e. rw (same_byte b 61 e) (after_mark token.Equal ts bs all tt))
-    (λ n. choose P Q (b == 33) _ _ (λ e. rw (same_byte b 33 e) (after_mark token.Not ts bs all tt))
-    (λ n. choose P Q (b == 94) _ _ (λ e. rw (same_byte b 94 e) (after_mark (token.Joint joint.Xor) ts bs all tt))
-    (λ n. choose P Q (b == 124) _ _ (λ e. rw (same_byte b 124 e) (after_mark (token.Joint joint.Or) ts bs all tt))
-    (λ n. choose P Q (b == 38) _ _ (λ e. rw (same_byte b 38 e) (after_mark (token.Joint joint.And) ts bs all tt))
-    (λ n h. absurd h)))))))))))))))
+    (λ n h. mark_gives ts b bs all (mark_of b) refl h))))))
 
 step_gives : (s : Cut) (b : ℕ) (bs : List ℕ) (all : List Token) → Gives (cut_step s b) bs all → Gives s (b ∷ bs) all
 step_gives (Between ts) b bs all h = between_gives ts b bs all h

@@ -14,6 +14,7 @@ use Rattle.olap_grammar.specs.Nodes.{is_node}
 use Rattle.olap_grammar.specs.declared.tokens.Joint.{Joint}
 use Rattle.olap_grammar.specs.declared.tokens.Token.{Token}
 use Rattle.olap_grammar.specs.declared.tokens.Token.TheVariants as token
+use Rattle.olap_grammar.specs.declared.tokens.Mark.TheVariants as mark
 
 -- ---- products
 
@@ -90,7 +91,8 @@ record Goes (room : ℕ) (rest : List Token) : Type 0 where
   on : opens_over opened closed rest ≡ false
 
 -- behind a `(` there is less room
-opens : (room o c : ℕ) (rest : List Token) → o + room ≡ c + most_depth → opens_over o c (token.Open ∷ rest) ≡ false
+opens : (room o c : ℕ) (rest : List Token) → o + room ≡ c + most_depth
+    → opens_over o c (token.Mark mark.Open ∷ rest) ≡ false
     → (less : ℕ) × (room ≡ suc less) × (o + 1 + less ≡ c + most_depth) × (opens_over (o + 1) c rest ≡ false)
 unfolding opens_over
 opens room o c rest e h = go room (nat_lt (c + most_depth) (o + 1)) refl e h
@@ -104,22 +106,23 @@ opens room o c rest e h = go room (nat_lt (c + most_depth) (o + 1)) refl e h
 
 -- behind a `)` there is more room
 closes : (room less o c : ℕ) (rest : List Token) → room ≡ suc less → o + less ≡ c + most_depth
-    → opens_over o c (token.Close ∷ rest) ≡ false → Goes room rest
+    → opens_over o c (token.Mark mark.Close ∷ rest) ≡ false → Goes room rest
 unfolding opens_over
 closes room less o c rest r e h = record { opened = o; closed = c + 1; left = omega (arith, r, e); on = h }
 
 -- other tokens change nothing
-joint_passes : (o c : ℕ) (j : Joint) (rest : List Token) → opens_over o c (token.Joint j ∷ rest) ≡ false
+joint_passes : (o c : ℕ) (j : Joint) (rest : List Token) → opens_over o c (token.Mark (mark.Joint j) ∷ rest) ≡ false
     → opens_over o c rest ≡ false
 unfolding opens_over
 joint_passes o c j rest h = h
 
-comma_passes : (o c : ℕ) (rest : List Token) → opens_over o c (token.Comma ∷ rest) ≡ false
+comma_passes : (o c : ℕ) (rest : List Token) → opens_over o c (token.Mark mark.Comma ∷ rest) ≡ false
     → opens_over o c rest ≡ false
 unfolding opens_over
 comma_passes o c rest h = h
 
-not_passes : (o c : ℕ) (rest : List Token) → opens_over o c (token.Not ∷ rest) ≡ false → opens_over o c rest ≡ false
+not_passes : (o c : ℕ) (rest : List Token) → opens_over o c (token.Mark mark.Not ∷ rest) ≡ false
+    → opens_over o c rest ≡ false
 unfolding opens_over
 not_passes o c rest h = h
 
@@ -129,7 +132,8 @@ unfolding opens_over
 word_passes o c w rest h = h
 
 equality_passes : (o c : ℕ) (w k : List ℕ) (rest : List Token)
-    → opens_over o c (token.Word w ∷ token.Equal ∷ token.Quoted k ∷ rest) ≡ false → opens_over o c rest ≡ false
+    → opens_over o c (token.Word w ∷ token.Mark mark.Equal ∷ token.Quoted k ∷ rest) ≡ false
+    → opens_over o c rest ≡ false
 unfolding opens_over
 equality_passes o c w k rest h = h
 
@@ -146,29 +150,32 @@ record PartsFit (room : ℕ) (ts rest : List Token) : Type 0 where
   goes : Goes room rest
   few : length ts ≤ each_part room * nodes ts
 
-fit_joined : (room : ℕ) (left right rest : List Token) (j : Joint) → Fits room left (token.Joint j ∷ (right ++ rest))
-    → Fits room right rest → Fits room (left ++ token.Joint j ∷ right) rest
+fit_joined : (room : ℕ) (left right rest : List Token) (j : Joint)
+    → Fits room left (token.Mark (mark.Joint j) ∷ (right ++ rest))
+    → Fits room right rest → Fits room (left ++ token.Mark (mark.Joint j) ∷ right) rest
 fit_joined room left right rest j h i =
-    let n = nodes_both left (token.Joint j ∷ right) in
-    let m = nodes_of (token.Joint j) right in
-    let l = length-append left (token.Joint j ∷ right) in
+    let n = nodes_both left (token.Mark (mark.Joint j) ∷ right) in
+    let m = nodes_of (token.Mark (mark.Joint j)) right in
+    let l = length-append left (token.Mark (mark.Joint j) ∷ right) in
     let s = h.some in
-    let same : nodes (left ++ token.Joint j ∷ right) ≡ nodes left + (1 + nodes right) = omega (arith, n, m) in
+    let same : nodes (left ++ token.Mark (mark.Joint j) ∷ right) ≡ nodes left + (1 + nodes right) =
+    omega (arith, n, m) in
     let b = joined_fits room (nodes left) (nodes right) (length left) (length right) h.few i.few in
     record {
       goes = i.goes;
       some = omega (arith, same);
-      few = subst (λ x. length (left ++ token.Joint j ∷ right) ≤ each room * x) (sym same) (omega (arith, l, b));
+      few = subst (λ x. length (left ++ token.Mark (mark.Joint j) ∷ right) ≤ each room * x) (sym same)
+          (omega (arith, l, b));
     }
 
-fit_negated : (room : ℕ) (ts rest : List Token) → Fits room ts rest → Fits room (token.Not ∷ ts) rest
+fit_negated : (room : ℕ) (ts rest : List Token) → Fits room ts rest → Fits room (token.Mark mark.Not ∷ ts) rest
 fit_negated room ts rest h =
-    let same = nodes_of token.Not ts in
+    let same = nodes_of (token.Mark mark.Not) ts in
     let b = negated_fits room (nodes ts) (length ts) h.few in
     record {
       goes = h.goes;
       some = omega (arith, same);
-      few = subst (λ x. length (token.Not ∷ ts) ≤ each room * x) (sym same) (omega (arith, b));
+      few = subst (λ x. length (token.Mark mark.Not ∷ ts) ≤ each room * x) (sym same) (omega (arith, b));
     }
 
 -- a bound for what room and nodes are
@@ -178,20 +185,21 @@ as_many room less us n r e h =
     subst (λ x. length us ≤ each room * x) (sym e) (subst (λ q. length us ≤ each q * n) (sym r) h)
 
 -- the tokens in brackets, with the closing one
-in_brackets : (ts : List Token) → (nodes (ts ++ token.Close ∷ []) ≡ nodes ts)
-    × (length (ts ++ token.Close ∷ []) ≡ length ts + 1)
+in_brackets : (ts : List Token) → (nodes (ts ++ token.Mark mark.Close ∷ []) ≡ nodes ts)
+    × (length (ts ++ token.Mark mark.Close ∷ []) ≡ length ts + 1)
 in_brackets ts =
-    let n = nodes_both ts (token.Close ∷ []) in
-    let m = nodes_of token.Close [] in
-    let l = length-append ts (token.Close ∷ []) in
+    let n = nodes_both ts (token.Mark mark.Close ∷ []) in
+    let m = nodes_of (token.Mark mark.Close) [] in
+    let l = length-append ts (token.Mark mark.Close ∷ []) in
     (omega (arith, n, m), omega (arith, l))
 
 fit_bracketed : (room less : ℕ) (ts rest : List Token) → room ≡ suc less → Goes room rest
-    → Fits less ts (token.Close ∷ rest) → Fits room (token.Open ∷ (ts ++ token.Close ∷ [])) rest
+    → Fits less ts (token.Mark mark.Close ∷ rest)
+    → Fits room (token.Mark mark.Open ∷ (ts ++ token.Mark mark.Close ∷ [])) rest
 fit_bracketed room less ts rest r g h =
-    let us : List Token = token.Open ∷ (ts ++ token.Close ∷ []) in
+    let us : List Token = token.Mark mark.Open ∷ (ts ++ token.Mark mark.Close ∷ []) in
     let t = in_brackets ts in
-    let n = nodes_of token.Open (ts ++ token.Close ∷ []) in
+    let n = nodes_of (token.Mark mark.Open) (ts ++ token.Mark mark.Close ∷ []) in
     let same : nodes us ≡ nodes ts = omega (arith, n, t.0) in
     let b = bracketed_fits less (nodes ts) (length ts) h.some h.few in
     let s = h.some in
@@ -199,11 +207,12 @@ fit_bracketed room less ts rest r g h =
     record { goes = g; some = omega (arith, same, s); few = as_many room less us (nodes ts) r same few }
 
 fit_listed : (room less : ℕ) (w : List ℕ) (ts rest : List Token) → room ≡ suc less → Goes room rest
-    → PartsFit less ts (token.Close ∷ rest) → Fits room (token.Word w ∷ token.Open ∷ (ts ++ token.Close ∷ [])) rest
+    → PartsFit less ts (token.Mark mark.Close ∷ rest)
+    → Fits room (token.Word w ∷ token.Mark mark.Open ∷ (ts ++ token.Mark mark.Close ∷ [])) rest
 fit_listed room less w ts rest r g h =
-    let vs : List Token = token.Open ∷ (ts ++ token.Close ∷ []) in
+    let vs : List Token = token.Mark mark.Open ∷ (ts ++ token.Mark mark.Close ∷ []) in
     let t = in_brackets ts in
-    let n = nodes_of token.Open (ts ++ token.Close ∷ []) in
+    let n = nodes_of (token.Mark mark.Open) (ts ++ token.Mark mark.Close ∷ []) in
     let m = nodes_of (token.Word w) vs in
     let same : nodes (token.Word w ∷ vs) ≡ 1 + nodes ts = omega (arith, n, m, t.0) in
     let b = listed_fits less (nodes ts) (length ts) h.few in
@@ -225,9 +234,9 @@ fit_plain room w rest g =
     }
 
 fit_equal : (room : ℕ) (w k : List ℕ) (rest : List Token) → Goes room rest
-    → Fits room (token.Word w ∷ token.Equal ∷ token.Quoted k ∷ []) rest
+    → Fits room (token.Word w ∷ token.Mark mark.Equal ∷ token.Quoted k ∷ []) rest
 fit_equal room w k rest g =
-    let same : nodes (token.Word w ∷ token.Equal ∷ token.Quoted k ∷ []) ≡ 1 = refl in
+    let same : nodes (token.Word w ∷ token.Mark mark.Equal ∷ token.Quoted k ∷ []) ≡ 1 = refl in
     record {
       goes = g;
       some = omega (arith, same);
@@ -237,17 +246,19 @@ fit_equal room w k rest g =
 fit_last : (room : ℕ) (ts rest : List Token) → Fits room ts rest → PartsFit room ts rest
 fit_last room ts rest h = record { goes = h.goes; few = last_fits room (nodes ts) (length ts) h.few }
 
-fit_more : (room : ℕ) (ts us rest : List Token) → Fits room ts (token.Comma ∷ (us ++ rest)) → PartsFit room us rest
-    → PartsFit room (ts ++ token.Comma ∷ us) rest
+fit_more : (room : ℕ) (ts us rest : List Token) → Fits room ts (token.Mark mark.Comma ∷ (us ++ rest))
+    → PartsFit room us rest
+    → PartsFit room (ts ++ token.Mark mark.Comma ∷ us) rest
 fit_more room ts us rest h i =
-    let n = nodes_both ts (token.Comma ∷ us) in
-    let m = nodes_of token.Comma us in
-    let l = length-append ts (token.Comma ∷ us) in
-    let same : nodes (ts ++ token.Comma ∷ us) ≡ nodes ts + nodes us = omega (arith, n, m) in
+    let n = nodes_both ts (token.Mark mark.Comma ∷ us) in
+    let m = nodes_of (token.Mark mark.Comma) us in
+    let l = length-append ts (token.Mark mark.Comma ∷ us) in
+    let same : nodes (ts ++ token.Mark mark.Comma ∷ us) ≡ nodes ts + nodes us = omega (arith, n, m) in
     let b = more_fits room (nodes ts) (nodes us) (length ts) (length us) h.some h.few i.few in
     record {
       goes = i.goes;
-      few = subst (λ x. length (ts ++ token.Comma ∷ us) ≤ each_part room * x) (sym same) (omega (arith, l, b));
+      few = subst (λ x. length (ts ++ token.Mark mark.Comma ∷ us) ≤ each_part room * x) (sym same)
+          (omega (arith, l, b));
     }
 
 mutual
@@ -256,26 +267,26 @@ mutual
       → Fits room ts rest
   fits (looser d) room o c rest e h = fits d room o c rest e h
   fits (joined j {left = left} {right = right} p q) room o c rest e h =
-      let s : opens_over o c (left ++ token.Joint j ∷ (right ++ rest)) ≡ false =
-      ap (opens_over o c) (sym (append_assoc left (token.Joint j ∷ right) rest)) ∙ h in
-      let one = fits p room o c (token.Joint j ∷ (right ++ rest)) e s in
+      let s : opens_over o c (left ++ token.Mark (mark.Joint j) ∷ (right ++ rest)) ≡ false =
+      ap (opens_over o c) (sym (append_assoc left (token.Mark (mark.Joint j) ∷ right) rest)) ∙ h in
+      let one = fits p room o c (token.Mark (mark.Joint j) ∷ (right ++ rest)) e s in
       let g = one.goes in
       let two = fits q room g.opened g.closed rest g.left (joint_passes g.opened g.closed j (right ++ rest) g.on) in
       fit_joined room left right rest j one two
   fits (negated {ts = ts} d) room o c rest e h =
       fit_negated room ts rest (fits d room o c rest e (not_passes o c (ts ++ rest) h))
   fits (bracketed {ts = ts} d) room o c rest e h =
-      let t = opens room o c ((ts ++ token.Close ∷ []) ++ rest) e h in
-      let s : opens_over (o + 1) c (ts ++ token.Close ∷ rest) ≡ false =
-      ap (opens_over (o + 1) c) (sym (append_assoc ts (token.Close ∷ []) rest)) ∙ t.3 in
-      let inner = fits d t.0 (o + 1) c (token.Close ∷ rest) t.2 s in
+      let t = opens room o c ((ts ++ token.Mark mark.Close ∷ []) ++ rest) e h in
+      let s : opens_over (o + 1) c (ts ++ token.Mark mark.Close ∷ rest) ≡ false =
+      ap (opens_over (o + 1) c) (sym (append_assoc ts (token.Mark mark.Close ∷ []) rest)) ∙ t.3 in
+      let inner = fits d t.0 (o + 1) c (token.Mark mark.Close ∷ rest) t.2 s in
       let g = inner.goes in
       fit_bracketed room t.0 ts rest t.1 (closes room t.0 g.opened g.closed rest t.1 g.left g.on) inner
   fits (listed {ts = ts} d) room o c rest e h =
-      let t = opens room o c ((ts ++ token.Close ∷ []) ++ rest) e (word_passes o c _ _ h) in
-      let s : opens_over (o + 1) c (ts ++ token.Close ∷ rest) ≡ false =
-      ap (opens_over (o + 1) c) (sym (append_assoc ts (token.Close ∷ []) rest)) ∙ t.3 in
-      let inner = list_fits d t.0 (o + 1) c (token.Close ∷ rest) t.2 s in
+      let t = opens room o c ((ts ++ token.Mark mark.Close ∷ []) ++ rest) e (word_passes o c _ _ h) in
+      let s : opens_over (o + 1) c (ts ++ token.Mark mark.Close ∷ rest) ≡ false =
+      ap (opens_over (o + 1) c) (sym (append_assoc ts (token.Mark mark.Close ∷ []) rest)) ∙ t.3 in
+      let inner = list_fits d t.0 (o + 1) c (token.Mark mark.Close ∷ rest) t.2 s in
       let g = inner.goes in
       fit_listed room t.0 _ ts rest t.1 (closes room t.0 g.opened g.closed rest t.1 g.left g.on) inner
   fits (plain {w = w} k) room o c rest e h =
@@ -295,9 +306,9 @@ mutual
       → PartsFit room ts rest
   items_fit (last {ts = ts} d) room o c rest e h = fit_last room ts rest (fits d room o c rest e h)
   items_fit (more {ts = ts} {us = us} p q) room o c rest e h =
-      let s : opens_over o c (ts ++ token.Comma ∷ (us ++ rest)) ≡ false =
-      ap (opens_over o c) (sym (append_assoc ts (token.Comma ∷ us) rest)) ∙ h in
-      let one = fits p room o c (token.Comma ∷ (us ++ rest)) e s in
+      let s : opens_over o c (ts ++ token.Mark mark.Comma ∷ (us ++ rest)) ≡ false =
+      ap (opens_over o c) (sym (append_assoc ts (token.Mark mark.Comma ∷ us) rest)) ∙ h in
+      let one = fits p room o c (token.Mark mark.Comma ∷ (us ++ rest)) e s in
       let g = one.goes in
       let two = items_fit q room g.opened g.closed rest g.left (comma_passes g.opened g.closed (us ++ rest) g.on) in
       fit_more room ts us rest one two

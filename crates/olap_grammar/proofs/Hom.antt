@@ -9,6 +9,7 @@ use Rattle.olap_grammar.specs.Grammar.{Atoms, level, left_level, join}
 use Rattle.olap_ast.specs.Valid.{depth_of, depth_of_terms}
 use Rattle.olap_grammar.specs.declared.tokens.Token.{Token}
 use Rattle.olap_grammar.specs.declared.tokens.Token.TheVariants as token
+use Rattle.olap_grammar.specs.declared.tokens.Mark.TheVariants as mark
 use Rattle.olap_grammar.specs.declared.tokens.Joint.{Joint}
 use Rattle.olap_grammar.specs.declared.tokens.Joint.TheVariants as joint
 use Rattle.olap_grammar.specs.Machine.{the_formula, trees, Making, Frame, Negation, Left, Bracket, Listing, Part, State, Wants, WantsPart, Named, Compared, Has, Bad, settled, list_closed, closed, parted, after, begun, begun_part, is_one, after_atom, after_word, has_atom, after_equal, step, alone, ended, formula_read}
@@ -99,38 +100,41 @@ module _ {A B L M : Type 0} (m : Making A L) (n : Making B M) (h : A → B) (k :
   lefts j (f, s) = refl
 
   afters : (f : A) (s : List (Frame A)) (t : Token) → after n (h f) (frames h s) t ≡ state h (after m f s t)
-  afters f s (token.Joint j) = ap (λ (r : B × List (Frame B)). Wants (Left j r.0 ∷ r.1)) (settles (left_level j) f s)
+  afters f s (token.Mark (mark.Joint j)) =
+      ap (λ (r : B × List (Frame B)). Wants (Left j r.0 ∷ r.1)) (settles (left_level j) f s)
       ∙ lefts j (settled m (left_level j) f s)
-  afters f s token.Close = ap (λ (r : B × List (Frame B)). closed n r.0 r.1) (settles 1 f s) ∙ closes (settled m 1 f s)
-  afters f s token.Comma = ap (λ (r : B × List (Frame B)). parted r.0 r.1) (settles 1 f s) ∙ parts (settled m 1 f s)
+  afters f s (token.Mark mark.Close) = ap (λ (r : B × List (Frame B)). closed n r.0 r.1) (settles 1 f s)
+      ∙ closes (settled m 1 f s)
+  afters f s (token.Mark mark.Comma) = ap (λ (r : B × List (Frame B)). parted r.0 r.1) (settles 1 f s)
+      ∙ parts (settled m 1 f s)
   afters f s (token.Word w) = refl
   afters f s (token.Quoted t) = refl
-  afters f s token.Open = refl
-  afters f s token.Colon = refl
-  afters f s token.Equal = refl
-  afters f s token.Not = refl
+  afters f s (token.Mark mark.Open) = refl
+  afters f s (token.Mark mark.Colon) = refl
+  afters f s (token.Mark mark.Equal) = refl
+  afters f s (token.Mark mark.Not) = refl
 
   begins : (s : List (Frame A)) (t : Token) → begun (frames h s) t ≡ state h (begun s t)
   begins s (token.Word w) = refl
   begins s (token.Quoted t) = refl
-  begins s token.Open = refl
-  begins s token.Close = refl
-  begins s token.Comma = refl
-  begins s token.Colon = refl
-  begins s token.Equal = refl
-  begins s token.Not = refl
-  begins s (token.Joint j) = refl
+  begins s (token.Mark mark.Open) = refl
+  begins s (token.Mark mark.Close) = refl
+  begins s (token.Mark mark.Comma) = refl
+  begins s (token.Mark mark.Colon) = refl
+  begins s (token.Mark mark.Equal) = refl
+  begins s (token.Mark mark.Not) = refl
+  begins s (token.Mark (mark.Joint j)) = refl
 
   begins_part : (s : List (Frame A)) (t : Token) → begun_part n (frames h s) t ≡ state h (begun_part m s t)
-  begins_part s token.Close = ap (λ x. Has x (frames h s)) (ap n.one e.end ∙ e.one m.end)
+  begins_part s (token.Mark mark.Close) = ap (λ x. Has x (frames h s)) (ap n.one e.end ∙ e.one m.end)
   begins_part s (token.Word w) = refl
   begins_part s (token.Quoted t) = refl
-  begins_part s token.Open = refl
-  begins_part s token.Comma = refl
-  begins_part s token.Colon = refl
-  begins_part s token.Equal = refl
-  begins_part s token.Not = refl
-  begins_part s (token.Joint j) = refl
+  begins_part s (token.Mark mark.Open) = refl
+  begins_part s (token.Mark mark.Comma) = refl
+  begins_part s (token.Mark mark.Colon) = refl
+  begins_part s (token.Mark mark.Equal) = refl
+  begins_part s (token.Mark mark.Not) = refl
+  begins_part s (token.Mark (mark.Joint j)) = refl
 
   atoms : (o : Option A) (s : List (Frame A)) (t : Token)
       → after_atom n (option_map h o) (frames h s) t ≡ state h (after_atom m o s t)
@@ -147,15 +151,15 @@ module _ {A B L M : Type 0} (m : Making A L) (n : Making B M) (h : A → B) (k :
 
   words : (w : List ℕ) (s : List (Frame A)) (t : Token)
       → after_word n b w (frames h s) t ≡ state h (after_word m a w s t)
-  words w s token.Open = lists (is_one w) s
-  words w s token.Equal = refl
-  words w s (token.Joint j) = word_atoms w s (token.Joint j)
-  words w s token.Close = word_atoms w s token.Close
-  words w s token.Comma = word_atoms w s token.Comma
-  words w s (token.Word v) = refl
-  words w s (token.Quoted t) = refl
-  words w s token.Colon = refl
-  words w s token.Not = refl
+  words w s (token.Mark mark.Open) = lists (is_one w) s
+  words w s (token.Mark mark.Equal) = refl
+  words w s (token.Mark (mark.Joint j)) = word_atoms w s (token.Mark (mark.Joint j))
+  words w s (token.Mark mark.Close) = word_atoms w s (token.Mark mark.Close)
+  words w s (token.Mark mark.Comma) = word_atoms w s (token.Mark mark.Comma)
+  words w s (token.Mark mark.Colon) = word_atoms w s (token.Mark mark.Colon)
+  words w s (token.Mark mark.Not) = word_atoms w s (token.Mark mark.Not)
+  words w s (token.Word v) = word_atoms w s (token.Word v)
+  words w s (token.Quoted t) = word_atoms w s (token.Quoted t)
 
   has_atoms : (o : Option A) (s : List (Frame A)) → has_atom (option_map h o) (frames h s) ≡ state h (has_atom o s)
   has_atoms None s = refl
@@ -165,13 +169,7 @@ module _ {A B L M : Type 0} (m : Making A L) (n : Making B M) (h : A → B) (k :
       → after_equal b w (frames h s) t ≡ state h (after_equal a w s t)
   equals w s (token.Quoted t) = ap (λ o. has_atom o (frames h s)) (u.equal w t) ∙ has_atoms (a.equal w t) s
   equals w s (token.Word v) = refl
-  equals w s token.Open = refl
-  equals w s token.Close = refl
-  equals w s token.Comma = refl
-  equals w s token.Colon = refl
-  equals w s token.Equal = refl
-  equals w s token.Not = refl
-  equals w s (token.Joint j) = refl
+  equals w s (token.Mark m) = refl
 
   steps : (st : State A) (t : Token) → step n b (state h st) t ≡ state h (step m a st t)
   steps (Wants s) t = begins s t

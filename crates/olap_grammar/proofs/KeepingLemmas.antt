@@ -11,7 +11,7 @@ use Rattle.std.proofs.lemmas.List.Sums.{fold-append}
 use Rattle.olap_grammar.specs.Cutter.{FailsWith}
 use Rattle.olap_grammar.specs.Cutting.{is_word_byte}
 use Rattle.olap_grammar.specs.CuttingMachine as machine
-use Rattle.olap_grammar.specs.CuttingMachine.{Cut, tokens_of}
+use Rattle.olap_grammar.specs.CuttingMachine.{Cut, mark_of, tokens_of}
 use Rattle.olap_grammar.specs.Keeping as keeping
 use Rattle.olap_grammar.specs.Keeping.{Begins, BeginsFound, Going, IsTallyOf, Kept, keep, kept_tokens, nothing_kept}
 use Rattle.olap_grammar.specs.Tallying.{tallied}
@@ -20,6 +20,8 @@ use Rattle.olap_grammar.specs.declared.refusals.CutRefusal.{CutRefusal}
 use Rattle.olap_grammar.specs.declared.refusals.CutRefusal.TheVariants as refusal
 use Rattle.olap_grammar.specs.declared.tokens.Token.{Token}
 use Rattle.olap_grammar.specs.declared.tokens.Token.TheVariants as token
+use Rattle.olap_grammar.specs.declared.tokens.Mark.{Mark}
+use Rattle.olap_grammar.specs.declared.tokens.Mark.TheVariants as mark
 use Rattle.olap_grammar.specs.declared.tokens.Joint.TheVariants as joint
 use Rattle.olap_grammar.proofs.TallyLemmas.{tally_is}
 
@@ -42,12 +44,18 @@ module _ (most : ℕ) where
   pushed : (ts : List Token) (t : Token) → summary (ts ++ t ∷ []) ≡ keep (summary ts) t
   pushed ts t = fold-append keep (nothing_kept most) ts (t ∷ [])
 
-  mark : (ts : List Token) (t : Token) → seen (machine.Between (ts ++ t ∷ [])) ≡ keeping.Between (keep (summary ts) t)
-  mark ts t = ap keeping.Between (pushed ts t)
+  one_more : (ts : List Token) (t : Token)
+      → seen (machine.Between (ts ++ t ∷ [])) ≡ keeping.Between (keep (summary ts) t)
+  one_more ts t = ap keeping.Between (pushed ts t)
 
   choose : (b : Bool) (x y : Cut) (v w : Going) → seen x ≡ v → seen y ≡ w → seen (cond b x y) ≡ cond b v w
   choose true x y v w e f = e
   choose false x y v w e f = f
+
+  marked-seen : (ts : List Token) (found : Option Mark)
+      → seen (machine.marked ts found) ≡ keeping.marked (summary ts) found
+  marked-seen ts None = refl
+  marked-seen ts (Some m) = one_more ts (token.Mark m)
 
   between-seen : (ts : List Token) (b : ℕ) → seen (machine.between ts b) ≡ keeping.between (summary ts) b
   between-seen ts b =
@@ -57,15 +65,7 @@ module _ (most : ℕ) where
       (choose (b == 34) _ _ _ _ refl
       (choose (b == 45) _ _ _ _ refl
       (choose (b == 60) _ _ _ _ refl
-      (choose (b == 40) _ _ _ _ (mark ts token.Open)
-      (choose (b == 41) _ _ _ _ (mark ts token.Close)
-      (choose (b == 44) _ _ _ _ (mark ts token.Comma)
-      (choose (b == 58) _ _ _ _ (mark ts token.Colon)
-      (choose (b == 61) _ _ _ _ (mark ts token.Equal)
-      (choose (b == 33) _ _ _ _ (mark ts token.Not)
-      (choose (b == 94) _ _ _ _ (mark ts (token.Joint joint.Xor))
-      (choose (b == 124) _ _ _ _ (mark ts (token.Joint joint.Or))
-      (choose (b == 38) _ _ _ _ (mark ts (token.Joint joint.And)) refl))))))))))))))
+      (marked-seen ts (mark_of b)))))))
 
   step-seen : (c : Cut) (b : ℕ) → seen (machine.cut_step c b) ≡ keeping.kept_step (seen c) b
   step-seen (machine.Between ts) b = between-seen ts b
@@ -73,11 +73,11 @@ module _ (most : ℕ) where
       choose (is_word_byte b) _ _ _ _ refl
       (between-seen (ts ++ token.Word w ∷ []) b ∙ ap (λ k. keeping.between k b) (pushed ts (token.Word w)))
   step-seen (machine.InQuotes ts k) b =
-      choose (b == 34) _ _ _ _ (mark ts (token.Quoted k)) (choose (b == 92) _ _ _ _ refl refl)
+      choose (b == 34) _ _ _ _ (one_more ts (token.Quoted k)) (choose (b == 92) _ _ _ _ refl refl)
   step-seen (machine.Escaped ts k) b = choose (b == 34) _ _ _ _ refl (choose (b == 92) _ _ _ _ refl refl)
-  step-seen (machine.Dash ts) b = choose (b == 62) _ _ _ _ (mark ts (token.Joint joint.Implies)) refl
+  step-seen (machine.Dash ts) b = choose (b == 62) _ _ _ _ (one_more ts (token.Mark (mark.Joint joint.Implies))) refl
   step-seen (machine.Less ts) b = choose (b == 45) _ _ _ _ refl refl
-  step-seen (machine.LessDash ts) b = choose (b == 62) _ _ _ _ (mark ts (token.Joint joint.Iff)) refl
+  step-seen (machine.LessDash ts) b = choose (b == 62) _ _ _ _ (one_more ts (token.Mark (mark.Joint joint.Iff))) refl
   step-seen machine.Stuck b = refl
 
   fold-seen : (bs : List ℕ) (c : Cut) → seen (fold machine.cut_step c bs) ≡ fold keeping.kept_step (seen c) bs

@@ -6,6 +6,7 @@ use Rattle.olap_ast.specs.Formula as Meaning
 use Rattle.olap_ast.specs.Formula.{Formula, Terms}
 use Rattle.olap_grammar.specs.declared.tokens.Token.{Token}
 use Rattle.olap_grammar.specs.declared.tokens.Token.TheVariants as token
+use Rattle.olap_grammar.specs.declared.tokens.Mark.TheVariants as mark
 use Rattle.olap_grammar.specs.declared.tokens.Joint.{Joint}
 use Rattle.olap_grammar.specs.declared.tokens.Joint.TheVariants as joint
 use Rattle.olap_grammar.specs.Grammar.{Atoms, level, left_level, right_level, join, IsFormula, looser, joined, negated, bracketed, listed, plain, equal, none, some, IsItems, last, more}
@@ -26,12 +27,15 @@ tighter m n l d = let e : n ≡ (n - m) + m = omega arith in down (n - m) m (rw 
 -- the tokens before, with what of them is open
 abbrev pub Opened : Atoms Formula → List (Frame Formula) → List Token → Type 0
 Opened a [] b = b ≡ []
-Opened a (Negation ∷ s) b = (c : List Token) × (b ≡ c ++ token.Not ∷ []) × Opened a s c
-Opened a (Left j f ∷ s) b = (c l : List Token) × (b ≡ c ++ (l ++ token.Joint j ∷ [])) × IsFormula a (left_level j) l f
+Opened a (Negation ∷ s) b = (c : List Token) × (b ≡ c ++ token.Mark mark.Not ∷ []) × Opened a s c
+Opened a (Left j f ∷ s) b = (c l : List Token) × (b ≡ c ++ (l ++ token.Mark (mark.Joint j) ∷ []))
+    × IsFormula a (left_level j) l f
     × Admits (level j) s × Opened a s c
-Opened a (Bracket ∷ s) b = (c : List Token) × (b ≡ c ++ token.Open ∷ []) × Opened a s c
-Opened a (Listing ∷ s) b = (c : List Token) × (b ≡ c ++ token.Word (codes "one") ∷ token.Open ∷ []) × Opened a s c
-Opened a (Part f ∷ s) b = (c l : List Token) × (b ≡ c ++ (l ++ token.Comma ∷ [])) × IsFormula a 1 l f × Opened a s c
+Opened a (Bracket ∷ s) b = (c : List Token) × (b ≡ c ++ token.Mark mark.Open ∷ []) × Opened a s c
+Opened a (Listing ∷ s) b = (c : List Token) × (b ≡ c ++ token.Word (codes "one") ∷ token.Mark mark.Open ∷ [])
+    × Opened a s c
+Opened a (Part f ∷ s) b = (c l : List Token) × (b ≡ c ++ (l ++ token.Mark mark.Comma ∷ [])) × IsFormula a 1 l f
+    × Opened a s c
 
 -- a formula of the level was read on top of what is open
 pub record Reached (a : Atoms Formula) (n : ℕ) (f : Formula) (s : List (Frame Formula)) (b : List Token) : Type 0 where
@@ -45,7 +49,7 @@ abbrev pub Tells : Atoms Formula → State Formula → List Token → Type 0
 Tells a (Wants s) b = Opened a s b
 Tells a (WantsPart s) b = Opened a (Listing ∷ s) b
 Tells a (Named w s) b = (c : List Token) × (b ≡ c ++ token.Word w ∷ []) × Opened a s c
-Tells a (Compared w s) b = (c : List Token) × (b ≡ c ++ token.Word w ∷ token.Equal ∷ []) × Opened a s c
+Tells a (Compared w s) b = (c : List Token) × (b ≡ c ++ token.Word w ∷ token.Mark mark.Equal ∷ []) × Opened a s c
 Tells a (Has f s) b = Reached a 7 f s b
 Tells a Bad b = Unit {0}
 
@@ -92,7 +96,7 @@ settles a k n f (Negation ∷ s) b l m h r =
     settles a k 6 (Meaning.Formula.Not f) s b m m (admits_six s)
     (record {
       earlier = o.0;
-      own = token.Not ∷ r.own;
+      own = token.Mark mark.Not ∷ r.own;
       all = r.all
           ∙ rw (o.1, append_assoc) refl;
       formula = negated (tighter 6 n h r.formula);
@@ -102,7 +106,7 @@ settles a k n f (Left j g ∷ s) b l m h r = go (nat_le k (level j)) refl
     (λ q. let o = r.opened in settles a k (level j) (join j g f) s b q m o.4
     (record {
       earlier = o.0;
-      own = o.1 ++ token.Joint j ∷ r.own;
+      own = o.1 ++ token.Mark (mark.Joint j) ∷ r.own;
       all = r.all
           ∙ rw o.2 (simp append_assoc);
       formula = joined j o.3 (tighter (right_level j) n h r.formula);
@@ -156,7 +160,7 @@ settled_admits j (Part f ∷ s) h = tt
 -- ---- closing
 
 list_tells : (a : Atoms Formula) (fs : Terms) (s : List (Frame Formula)) (b c us : List Token) → b ≡ c ++ us
-    → IsItems a us fs → Opened a s c → Tells a (list_closed trees fs s) (b ++ token.Close ∷ [])
+    → IsItems a us fs → Opened a s c → Tells a (list_closed trees fs s) (b ++ token.Mark mark.Close ∷ [])
 list_tells a fs [] b c us e d o = tt
 list_tells a fs (Negation ∷ s) b c us e d o = tt
 list_tells a fs (Left j g ∷ s) b c us e d o = tt
@@ -164,18 +168,18 @@ list_tells a fs (Bracket ∷ s) b c us e d o = tt
 list_tells a fs (Listing ∷ s) b c us e d o =
     record {
       earlier = o.0;
-      own = token.Word (codes "one") ∷ token.Open ∷ (us ++ token.Close ∷ []);
+      own = token.Word (codes "one") ∷ token.Mark mark.Open ∷ (us ++ token.Mark mark.Close ∷ []);
       all = rw (e, o.1)
           (simp append_assoc);
       formula = listed (some d);
       opened = o.2;
     }
 list_tells a fs (Part f ∷ s) b c us e d o =
-    list_tells a (Meaning.Terms.More f fs) s b o.0 (o.1 ++ token.Comma ∷ us) (rw (e, o.2) (simp append_assoc))
+    list_tells a (Meaning.Terms.More f fs) s b o.0 (o.1 ++ token.Mark mark.Comma ∷ us) (rw (e, o.2) (simp append_assoc))
     (more o.3 d) o.4
 
 closed_tells : (a : Atoms Formula) (r : Formula × List (Frame Formula)) (b : List Token) → IsReached a 1 r b
-    → Tells a (closed trees r.0 r.1) (b ++ token.Close ∷ [])
+    → Tells a (closed trees r.0 r.1) (b ++ token.Mark mark.Close ∷ [])
 closed_tells a (f, []) b h = tt
 closed_tells a (f, Negation ∷ s) b h = tt
 closed_tells a (f, Left j g ∷ s) b h = tt
@@ -183,7 +187,7 @@ closed_tells a (f, Bracket ∷ s) b h =
     let r = h.0 in let o = r.opened in
     record {
       earlier = o.0;
-      own = token.Open ∷ (r.own ++ token.Close ∷ []);
+      own = token.Mark mark.Open ∷ (r.own ++ token.Mark mark.Close ∷ []);
       all = rw (r.all, o.1)
           (simp append_assoc);
       formula = bracketed r.formula;
@@ -195,7 +199,7 @@ closed_tells a (f, Part g ∷ s) b h =
     list_tells a _ (Part g ∷ s) b (h.0).earlier (h.0).own (h.0).all (last (h.0).formula) (h.0).opened
 
 parted_tells : (a : Atoms Formula) (r : Formula × List (Frame Formula)) (b : List Token) → IsReached a 1 r b
-    → Tells a (parted r.0 r.1) (b ++ token.Comma ∷ [])
+    → Tells a (parted r.0 r.1) (b ++ token.Mark mark.Comma ∷ [])
 parted_tells a (f, []) b h = tt
 parted_tells a (f, Negation ∷ s) b h = tt
 parted_tells a (f, Left j g ∷ s) b h = tt
@@ -206,58 +210,58 @@ parted_tells a (f, Part g ∷ s) b h = let r = h.0 in
     (r.earlier, r.own, rw r.all (simp append_assoc), r.formula, r.opened)
 
 left_tells : (a : Atoms Formula) (j : Joint) (r : Formula × List (Frame Formula)) (b : List Token)
-    → IsReached a (left_level j) r b → Opened a (Left j r.0 ∷ r.1) (b ++ token.Joint j ∷ [])
+    → IsReached a (left_level j) r b → Opened a (Left j r.0 ∷ r.1) (b ++ token.Mark (mark.Joint j) ∷ [])
 left_tells a j (f, s) b h = let r = h.0 in
     (r.earlier, r.own, rw r.all (simp append_assoc), r.formula, settled_admits j s h.1, r.opened)
 
 after_tells : (a : Atoms Formula) (f : Formula) (s : List (Frame Formula)) (t : Token) (b : List Token)
     → Reached a 7 f s b → Tells a (after trees f s t) (b ++ t ∷ [])
-after_tells a f s (token.Joint j) b r =
+after_tells a f s (token.Mark (mark.Joint j)) b r =
     left_tells a j (settled trees (left_level j) f s) b
     (settles a (left_level j) 7 f s b (omega (arith, (row j).left_most)) (row j).left_most
     (admits_more 6 7 s (lit≤ tt) (admits_six s)) r)
-after_tells a f s token.Close b r = closed_tells a (settled trees 1 f s) b
+after_tells a f s (token.Mark mark.Close) b r = closed_tells a (settled trees 1 f s) b
     (settles a 1 7 f s b (lit≤ tt) (lit≤ tt) (admits_more 6 7 s (lit≤ tt) (admits_six s)) r)
-after_tells a f s token.Comma b r = parted_tells a (settled trees 1 f s) b
+after_tells a f s (token.Mark mark.Comma) b r = parted_tells a (settled trees 1 f s) b
     (settles a 1 7 f s b (lit≤ tt) (lit≤ tt) (admits_more 6 7 s (lit≤ tt) (admits_six s)) r)
 after_tells a f s (token.Word w) b r = tt
 after_tells a f s (token.Quoted k) b r = tt
-after_tells a f s token.Open b r = tt
-after_tells a f s token.Colon b r = tt
-after_tells a f s token.Equal b r = tt
-after_tells a f s token.Not b r = tt
+after_tells a f s (token.Mark mark.Open) b r = tt
+after_tells a f s (token.Mark mark.Colon) b r = tt
+after_tells a f s (token.Mark mark.Equal) b r = tt
+after_tells a f s (token.Mark mark.Not) b r = tt
 
 begun_tells : (a : Atoms Formula) (s : List (Frame Formula)) (t : Token) (b : List Token) → Opened a s b
     → Tells a (begun s t) (b ++ t ∷ [])
 begun_tells a s (token.Word w) b o = (b, refl, o)
-begun_tells a s token.Open b o = (b, refl, o)
-begun_tells a s token.Not b o = (b, refl, o)
+begun_tells a s (token.Mark mark.Open) b o = (b, refl, o)
+begun_tells a s (token.Mark mark.Not) b o = (b, refl, o)
 begun_tells a s (token.Quoted k) b o = tt
-begun_tells a s token.Close b o = tt
-begun_tells a s token.Comma b o = tt
-begun_tells a s token.Colon b o = tt
-begun_tells a s token.Equal b o = tt
-begun_tells a s (token.Joint j) b o = tt
+begun_tells a s (token.Mark mark.Close) b o = tt
+begun_tells a s (token.Mark mark.Comma) b o = tt
+begun_tells a s (token.Mark mark.Colon) b o = tt
+begun_tells a s (token.Mark mark.Equal) b o = tt
+begun_tells a s (token.Mark (mark.Joint j)) b o = tt
 
 part_tells : (a : Atoms Formula) (s : List (Frame Formula)) (t : Token) (b : List Token) → Opened a (Listing ∷ s) b
     → Tells a (begun_part trees s t) (b ++ t ∷ [])
-part_tells a s token.Close b o =
+part_tells a s (token.Mark mark.Close) b o =
     record {
       earlier = o.0;
-      own = token.Word (codes "one") ∷ token.Open ∷ token.Close ∷ [];
+      own = token.Word (codes "one") ∷ token.Mark mark.Open ∷ token.Mark mark.Close ∷ [];
       all = rw o.1
           (simp append_assoc);
       formula = listed none;
       opened = o.2;
     }
 part_tells a s (token.Word w) b o = begun_tells a (Listing ∷ s) (token.Word w) b o
-part_tells a s token.Open b o = begun_tells a (Listing ∷ s) token.Open b o
-part_tells a s token.Not b o = begun_tells a (Listing ∷ s) token.Not b o
+part_tells a s (token.Mark mark.Open) b o = begun_tells a (Listing ∷ s) (token.Mark mark.Open) b o
+part_tells a s (token.Mark mark.Not) b o = begun_tells a (Listing ∷ s) (token.Mark mark.Not) b o
 part_tells a s (token.Quoted k) b o = tt
-part_tells a s token.Comma b o = tt
-part_tells a s token.Colon b o = tt
-part_tells a s token.Equal b o = tt
-part_tells a s (token.Joint j) b o = tt
+part_tells a s (token.Mark mark.Comma) b o = tt
+part_tells a s (token.Mark mark.Colon) b o = tt
+part_tells a s (token.Mark mark.Equal) b o = tt
+part_tells a s (token.Mark (mark.Joint j)) b o = tt
 
 atom_tells : (a : Atoms Formula) (w : List ℕ) (s : List (Frame Formula)) (t : Token) (b c : List Token)
     → b ≡ c ++ token.Word w ∷ [] → Opened a s c → (o : Option Formula) → a.plain w ≡ o
@@ -268,29 +272,30 @@ atom_tells a w s t b c e h (Some f) p =
 
 word_tells : (a : Atoms Formula) (w : List ℕ) (s : List (Frame Formula)) (t : Token) (b : List Token)
     → Tells a (Named w s) b → Tells a (after_word trees a w s t) (b ++ t ∷ [])
-word_tells a w s token.Open b h = go (is_one w) refl
+word_tells a w s (token.Mark mark.Open) b h = go (is_one w) refl
   where
-    go : (t : Bool) → is_one w ≡ t → Tells a (cond t (WantsPart s) Bad) (b ++ token.Open ∷ [])
+    go : (t : Bool) → is_one w ≡ t → Tells a (cond t (WantsPart s) Bad) (b ++ token.Mark mark.Open ∷ [])
     go true e = let same : w ≡ codes "one" = (bytes_eq-Decides w (codes "one")).0 e in
         (h.0, rw (h.1, same) (simp append_assoc), h.2)
     go false e = tt
-word_tells a w s token.Equal b h = (h.0, rw h.1 (simp append_assoc), h.2)
-word_tells a w s (token.Joint j) b h = atom_tells a w s (token.Joint j) b h.0 h.1 h.2 (a.plain w) refl
-word_tells a w s token.Close b h = atom_tells a w s token.Close b h.0 h.1 h.2 (a.plain w) refl
-word_tells a w s token.Comma b h = atom_tells a w s token.Comma b h.0 h.1 h.2 (a.plain w) refl
-word_tells a w s (token.Word v) b h = tt
-word_tells a w s (token.Quoted k) b h = tt
-word_tells a w s token.Colon b h = tt
-word_tells a w s token.Not b h = tt
+word_tells a w s (token.Mark mark.Equal) b h = (h.0, rw h.1 (simp append_assoc), h.2)
+word_tells a w s (token.Mark (mark.Joint j)) b h =
+    atom_tells a w s (token.Mark (mark.Joint j)) b h.0 h.1 h.2 (a.plain w) refl
+word_tells a w s (token.Mark mark.Close) b h = atom_tells a w s (token.Mark mark.Close) b h.0 h.1 h.2 (a.plain w) refl
+word_tells a w s (token.Mark mark.Comma) b h = atom_tells a w s (token.Mark mark.Comma) b h.0 h.1 h.2 (a.plain w) refl
+word_tells a w s (token.Word v) b h = atom_tells a w s (token.Word v) b h.0 h.1 h.2 (a.plain w) refl
+word_tells a w s (token.Quoted k) b h = atom_tells a w s (token.Quoted k) b h.0 h.1 h.2 (a.plain w) refl
+word_tells a w s (token.Mark mark.Colon) b h = atom_tells a w s (token.Mark mark.Colon) b h.0 h.1 h.2 (a.plain w) refl
+word_tells a w s (token.Mark mark.Not) b h = atom_tells a w s (token.Mark mark.Not) b h.0 h.1 h.2 (a.plain w) refl
 
 has_tells : (a : Atoms Formula) (w k : List ℕ) (s : List (Frame Formula)) (b c : List Token)
-    → b ≡ c ++ token.Word w ∷ token.Equal ∷ [] → Opened a s c → (o : Option Formula) → a.equal w k ≡ o
+    → b ≡ c ++ token.Word w ∷ token.Mark mark.Equal ∷ [] → Opened a s c → (o : Option Formula) → a.equal w k ≡ o
     → Tells a (has_atom o s) (b ++ token.Quoted k ∷ [])
 has_tells a w k s b c e h None p = tt
 has_tells a w k s b c e h (Some f) p =
     record {
       earlier = c;
-      own = token.Word w ∷ token.Equal ∷ token.Quoted k ∷ [];
+      own = token.Word w ∷ token.Mark mark.Equal ∷ token.Quoted k ∷ [];
       all = rw e
           (simp append_assoc);
       formula = equal p;
@@ -304,13 +309,7 @@ step_tells a (WantsPart s) t b h = part_tells a s t b h
 step_tells a (Named w s) t b h = word_tells a w s t b h
 step_tells a (Compared w s) (token.Quoted k) b h = has_tells a w k s b h.0 h.1 h.2 (a.equal w k) refl
 step_tells a (Compared w s) (token.Word v) b h = tt
-step_tells a (Compared w s) token.Open b h = tt
-step_tells a (Compared w s) token.Close b h = tt
-step_tells a (Compared w s) token.Comma b h = tt
-step_tells a (Compared w s) token.Colon b h = tt
-step_tells a (Compared w s) token.Equal b h = tt
-step_tells a (Compared w s) token.Not b h = tt
-step_tells a (Compared w s) (token.Joint j) b h = tt
+step_tells a (Compared w s) (token.Mark m) b h = tt
 step_tells a (Has f s) t b h = after_tells a f s t b h
 step_tells a Bad t b h = tt
 

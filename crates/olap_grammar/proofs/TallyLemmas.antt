@@ -13,6 +13,7 @@ use Rattle.olap_grammar.specs.Tallying.{counted, counted_nodes, nothing_tallied,
 use Rattle.olap_grammar.specs.declared.tallying.Tally.{Tally}
 use Rattle.olap_grammar.specs.declared.tokens.Token.{Token}
 use Rattle.olap_grammar.specs.declared.tokens.Token.TheVariants as token
+use Rattle.olap_grammar.specs.declared.tokens.Mark.TheVariants as mark
 
 -- ---- nodes
 
@@ -38,13 +39,13 @@ one_more n all h = go (nat_lt n counted_nodes) refl
 nodes_tallied : (y : Tally) (t : Token) → (tallied y t).nodes ≡ cond (is_node t) (counted y.nodes) y.nodes
 nodes_tallied y (token.Word w) = refl
 nodes_tallied y (token.Quoted k) = refl
-nodes_tallied y token.Open = refl
-nodes_tallied y token.Close = refl
-nodes_tallied y token.Comma = refl
-nodes_tallied y token.Colon = refl
-nodes_tallied y token.Equal = refl
-nodes_tallied y token.Not = refl
-nodes_tallied y (token.Joint j) = refl
+nodes_tallied y (token.Mark mark.Open) = refl
+nodes_tallied y (token.Mark mark.Close) = refl
+nodes_tallied y (token.Mark mark.Comma) = refl
+nodes_tallied y (token.Mark mark.Colon) = refl
+nodes_tallied y (token.Mark mark.Equal) = refl
+nodes_tallied y (token.Mark mark.Not) = refl
+nodes_tallied y (token.Mark (mark.Joint j)) = refl
 
 as_before : (n all : ℕ) → Counts n all → Counts n (all + 0)
 as_before n all h =
@@ -97,18 +98,18 @@ deep_on : (ts : List Token) (y : Tally)
     → (fold tallied y ts).too_deep ≡ (y.too_deep || opens_over y.opened y.closed ts)
 unfolding opens_over
 deep_on [] y = nothing_more y.too_deep
-deep_on (token.Open ∷ ts) y =
-    deep_on ts (tallied y token.Open)
+deep_on (token.Mark mark.Open ∷ ts) y =
+    deep_on ts (tallied y (token.Mark mark.Open))
     ∙ ap (λ b. (y.too_deep || b) || opens_over (y.opened + 1) y.closed ts) (same_test y.opened y.closed)
     ∙ once_too_deep y.too_deep (nat_lt (y.closed + most_depth) (y.opened + 1)) (opens_over (y.opened + 1) y.closed ts)
-deep_on (token.Close ∷ ts) y = deep_on ts (tallied y token.Close)
+deep_on (token.Mark mark.Close ∷ ts) y = deep_on ts (tallied y (token.Mark mark.Close))
 deep_on (token.Word w ∷ ts) y = deep_on ts (tallied y (token.Word w))
 deep_on (token.Quoted k ∷ ts) y = deep_on ts y
-deep_on (token.Comma ∷ ts) y = deep_on ts y
-deep_on (token.Colon ∷ ts) y = deep_on ts y
-deep_on (token.Equal ∷ ts) y = deep_on ts y
-deep_on (token.Not ∷ ts) y = deep_on ts (tallied y token.Not)
-deep_on (token.Joint j ∷ ts) y = deep_on ts (tallied y (token.Joint j))
+deep_on (token.Mark mark.Comma ∷ ts) y = deep_on ts y
+deep_on (token.Mark mark.Colon ∷ ts) y = deep_on ts y
+deep_on (token.Mark mark.Equal ∷ ts) y = deep_on ts y
+deep_on (token.Mark mark.Not ∷ ts) y = deep_on ts (tallied y (token.Mark mark.Not))
+deep_on (token.Mark (mark.Joint j) ∷ ts) y = deep_on ts (tallied y (token.Mark (mark.Joint j)))
 
 -- ---- both
 

@@ -16,7 +16,7 @@ abbrev pub formula_answer : Option Meaning.Formula → Result Meaning.Formula Fo
 formula_answer None = Err refusal.BadForm
 formula_answer (Some f) = cond (nat_le (depth_of f) most_depth) (Ok f) (Err refusal.TooDeep)
 
--- want of memory, or that reason
+-- out of memory, or that reason
 abbrev pub IsRefusal : {A : Type 0} → FormRefusal → Result A FormRefusal → Type 0
 IsRefusal refusal.BadForm answer = answer ≡ Err refusal.BadForm
 IsRefusal refusal.TooDeep answer = answer ≡ Err refusal.TooDeep

@@ -5,29 +5,25 @@ use Rattle.std.specs.Prelude.{◌+◌, ◌*◌, ℕ, Bool, true, false, List, []
 use Rattle.olap_base.specs.Limits.{most_depth}
 use Rattle.olap_grammar.specs.declared.tokens.Token.{Token}
 use Rattle.olap_grammar.specs.declared.tokens.Token.TheVariants as token
+use Rattle.olap_grammar.specs.declared.tokens.Mark.TheVariants as mark
 
 -- the token is `(`
 abbrev pub is_open : Token → Bool
-is_open token.Open = true
+is_open (token.Mark mark.Open) = true
 is_open t = false
 
 -- the token is `)`
 abbrev pub is_close : Token → Bool
-is_close token.Close = true
+is_close (token.Mark mark.Close) = true
 is_close t = false
 
 -- after so many `(` and so many `)`, some `(` is too far above the `)`
 unfoldable pub opens_over : ℕ → ℕ → List Token → Bool
 opens_over o c [] = false
-opens_over o c (token.Open ∷ ts) = if nat_lt (c + most_depth) (o + 1) then true else opens_over (o + 1) c ts
-opens_over o c (token.Close ∷ ts) = opens_over o (c + 1) ts
-opens_over o c (token.Word w ∷ ts) = opens_over o c ts
-opens_over o c (token.Quoted k ∷ ts) = opens_over o c ts
-opens_over o c (token.Comma ∷ ts) = opens_over o c ts
-opens_over o c (token.Colon ∷ ts) = opens_over o c ts
-opens_over o c (token.Equal ∷ ts) = opens_over o c ts
-opens_over o c (token.Not ∷ ts) = opens_over o c ts
-opens_over o c (token.Joint j ∷ ts) = opens_over o c ts
+opens_over o c (token.Mark mark.Open ∷ ts) =
+    if nat_lt (c + most_depth) (o + 1) then true else opens_over (o + 1) c ts
+opens_over o c (token.Mark mark.Close ∷ ts) = opens_over o (c + 1) ts
+opens_over o c (t ∷ ts) = opens_over o c ts
 
 -- for each node two brackets at each depth, and the three tokens of a word with a string
 abbrev pub most_tokens : ℕ → ℕ

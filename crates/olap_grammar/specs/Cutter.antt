@@ -11,7 +11,7 @@ use Rattle.olap_grammar.specs.declared.refusals.CutRefusal.TheVariants as refusa
 abbrev pub kept_of : FirstTokens → Kept
 kept_of t = record { most = t.most; first = t.first.items; more = t.more; tally = t.tally }
 
--- what was begun, behind what is kept
+-- what was begun, after what is kept
 abbrev pub cut_of : Begun → Kept → keeping.Going
 cut_of begun.Nothing k = keeping.Going.Between k
 cut_of (begun.Word w) k = keeping.Going.InWord k w.items

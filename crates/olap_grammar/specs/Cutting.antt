@@ -3,6 +3,8 @@ use Rattle.std.specs.Prelude.{◌≡◌, ◌==◌, ◌||◌, ℕ, Bool, true, fa
 use Rattle.std.specs.Char.{is_ascii_alphanumeric}
 use Rattle.olap_grammar.specs.declared.tokens.Token.{Token}
 use Rattle.olap_grammar.specs.declared.tokens.Token.TheVariants as token
+use Rattle.olap_grammar.specs.declared.tokens.Mark.{Mark}
+use Rattle.olap_grammar.specs.declared.tokens.Mark.TheVariants as mark
 use Rattle.olap_grammar.specs.declared.tokens.Joint.{Joint}
 use Rattle.olap_grammar.specs.declared.tokens.Joint.TheVariants as joint
 
@@ -26,28 +28,15 @@ joint_bytes joint.Xor = codes "^"
 joint_bytes joint.Or = codes "|"
 joint_bytes joint.And = codes "&"
 
--- how a mark is spelt, and nothing for what is no mark
-abbrev pub mark_bytes : Token → List ℕ
-mark_bytes token.Open = codes "("
-mark_bytes token.Close = codes ")"
-mark_bytes token.Comma = codes ","
-mark_bytes token.Colon = codes ":"
-mark_bytes token.Equal = codes "="
-mark_bytes token.Not = codes "!"
-mark_bytes (token.Joint j) = joint_bytes j
-mark_bytes (token.Word w) = []
-mark_bytes (token.Quoted k) = []
-
-abbrev pub IsMark : Token → Type 0
-IsMark (token.Word w) = ⊥
-IsMark (token.Quoted k) = ⊥
-IsMark token.Open = Unit {0}
-IsMark token.Close = Unit {0}
-IsMark token.Comma = Unit {0}
-IsMark token.Colon = Unit {0}
-IsMark token.Equal = Unit {0}
-IsMark token.Not = Unit {0}
-IsMark (token.Joint j) = Unit {0}
+-- how a mark is spelt
+abbrev pub mark_bytes : Mark → List ℕ
+mark_bytes mark.Open = codes "("
+mark_bytes mark.Close = codes ")"
+mark_bytes mark.Comma = codes ","
+mark_bytes mark.Colon = codes ":"
+mark_bytes mark.Equal = codes "="
+mark_bytes mark.Not = codes "!"
+mark_bytes (mark.Joint j) = joint_bytes j
 
 -- the bytes between two quotes stand for this text
 pub data Spells : List ℕ → List ℕ → Type 0 where
@@ -65,4 +54,4 @@ pub data IsCut : List ℕ → List Token → Type 0 where
       → IsCut ((b ∷ w) ++ bs) (token.Word (b ∷ w) ∷ ts)
   quoted : {body k bs : List ℕ} {ts : List Token} → Spells body k → IsCut bs ts
       → IsCut (34 ∷ (body ++ 34 ∷ bs)) (token.Quoted k ∷ ts)
-  mark : (t : Token) {bs : List ℕ} {ts : List Token} → IsMark t → IsCut bs ts → IsCut (mark_bytes t ++ bs) (t ∷ ts)
+  marked : (m : Mark) {bs : List ℕ} {ts : List Token} → IsCut bs ts → IsCut (mark_bytes m ++ bs) (token.Mark m ∷ ts)

@@ -4,6 +4,8 @@ use Rattle.std.specs.List.{fold}
 use Rattle.olap_grammar.specs.Cutting.{is_word_byte}
 use Rattle.olap_grammar.specs.declared.tokens.Token.{Token}
 use Rattle.olap_grammar.specs.declared.tokens.Token.TheVariants as token
+use Rattle.olap_grammar.specs.declared.tokens.Mark.{Mark}
+use Rattle.olap_grammar.specs.declared.tokens.Mark.TheVariants as mark
 use Rattle.olap_grammar.specs.declared.tokens.Joint.TheVariants as joint
 
 -- the tokens so far, and what was begun: nothing, a word, a string, an escape in one, `-`, `<`, `<-`
@@ -17,6 +19,25 @@ pub data Cut : Type 0 where
   LessDash : List Token → Cut
   Stuck : Cut
 
+-- the mark that the byte is by itself
+abbrev pub mark_of : ℕ → Option Mark
+mark_of b =
+    if b == 40 then Some mark.Open
+    else if b == 41 then Some mark.Close
+    else if b == 44 then Some mark.Comma
+    else if b == 58 then Some mark.Colon
+    else if b == 61 then Some mark.Equal
+    else if b == 33 then Some mark.Not
+    else if b == 94 then Some (mark.Joint joint.Xor)
+    else if b == 124 then Some (mark.Joint joint.Or)
+    else if b == 38 then Some (mark.Joint joint.And)
+    else None
+
+-- after a byte that is this mark, or none
+abbrev pub marked : List Token → Option Mark → Cut
+marked ts None = Stuck
+marked ts (Some m) = Between (ts ++ token.Mark m ∷ [])
+
 -- after a byte where nothing was begun
 abbrev pub between : List Token → ℕ → Cut
 between ts b =
@@ -26,16 +47,7 @@ between ts b =
     else if b == 34 then InQuotes ts []
     else if b == 45 then Dash ts
     else if b == 60 then Less ts
-    else if b == 40 then Between (ts ++ token.Open ∷ [])
-    else if b == 41 then Between (ts ++ token.Close ∷ [])
-    else if b == 44 then Between (ts ++ token.Comma ∷ [])
-    else if b == 58 then Between (ts ++ token.Colon ∷ [])
-    else if b == 61 then Between (ts ++ token.Equal ∷ [])
-    else if b == 33 then Between (ts ++ token.Not ∷ [])
-    else if b == 94 then Between (ts ++ token.Joint joint.Xor ∷ [])
-    else if b == 124 then Between (ts ++ token.Joint joint.Or ∷ [])
-    else if b == 38 then Between (ts ++ token.Joint joint.And ∷ [])
-    else Stuck
+    else marked ts (mark_of b)
 
 -- after one more byte
 abbrev pub cut_step : Cut → ℕ → Cut
@@ -45,21 +57,16 @@ cut_step (InQuotes ts k) b =
     if b == 34 then Between (ts ++ token.Quoted k ∷ []) else if b == 92 then Escaped ts k else InQuotes ts (k ++ b ∷ [])
 cut_step (Escaped ts k) b =
     if b == 34 then InQuotes ts (k ++ b ∷ []) else if b == 92 then InQuotes ts (k ++ b ∷ []) else Stuck
-cut_step (Dash ts) b = if b == 62 then Between (ts ++ token.Joint joint.Implies ∷ []) else Stuck
+cut_step (Dash ts) b = if b == 62 then Between (ts ++ token.Mark (mark.Joint joint.Implies) ∷ []) else Stuck
 cut_step (Less ts) b = if b == 45 then LessDash ts else Stuck
-cut_step (LessDash ts) b = if b == 62 then Between (ts ++ token.Joint joint.Iff ∷ []) else Stuck
+cut_step (LessDash ts) b = if b == 62 then Between (ts ++ token.Mark (mark.Joint joint.Iff) ∷ []) else Stuck
 cut_step Stuck b = Stuck
 
 -- at the end of the line
 abbrev pub cut_ended : Cut → Option (List Token)
 cut_ended (Between ts) = Some ts
 cut_ended (InWord ts w) = Some (ts ++ token.Word w ∷ [])
-cut_ended (InQuotes ts k) = None
-cut_ended (Escaped ts k) = None
-cut_ended (Dash ts) = None
-cut_ended (Less ts) = None
-cut_ended (LessDash ts) = None
-cut_ended Stuck = None
+cut_ended c = None
 
 -- the tokens that the line is cut into, if it can be
 unfoldable pub tokens_of : List ℕ → Option (List Token)

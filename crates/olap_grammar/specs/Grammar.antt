@@ -4,6 +4,7 @@ use Rattle.olap_ast.specs.Formula as Meaning
 use Rattle.olap_ast.specs.Formula.{Formula, Terms}
 use Rattle.olap_grammar.specs.declared.tokens.Token.{Token}
 use Rattle.olap_grammar.specs.declared.tokens.Token.TheVariants as token
+use Rattle.olap_grammar.specs.declared.tokens.Mark.TheVariants as mark
 use Rattle.olap_grammar.specs.declared.tokens.Joint.{Joint}
 use Rattle.olap_grammar.specs.declared.tokens.Joint.TheVariants as joint
 
@@ -17,19 +18,13 @@ level joint.And = 5
 
 -- the least level of what stands to the left: the same where the grouping is to the left
 abbrev pub left_level : Joint → ℕ
-left_level joint.Iff = 1
 left_level joint.Implies = 3
-left_level joint.Xor = 3
-left_level joint.Or = 4
-left_level joint.And = 5
+left_level j = level j
 
 -- the least level of what stands to the right
 abbrev pub right_level : Joint → ℕ
-right_level joint.Iff = 2
 right_level joint.Implies = 2
-right_level joint.Xor = 4
-right_level joint.Or = 5
-right_level joint.And = 6
+right_level j = suc (level j)
 
 abbrev pub join : Joint → Formula → Formula → Formula
 join joint.Iff f g = Meaning.Formula.Iff f g
@@ -49,16 +44,17 @@ mutual
     looser : {n : ℕ} {ts : List Token} {f : Formula} → IsFormula a (suc n) ts f → IsFormula a n ts f
     joined : (j : Joint) {left right : List Token} {f g : Formula} → IsFormula a (left_level j) left f
         → IsFormula a (right_level j) right g
-        → IsFormula a (level j) (left ++ token.Joint j ∷ right) (join j f g)
+        → IsFormula a (level j) (left ++ token.Mark (mark.Joint j) ∷ right) (join j f g)
     negated : {ts : List Token} {f : Formula} → IsFormula a 6 ts f
-        → IsFormula a 6 (token.Not ∷ ts) (Meaning.Formula.Not f)
+        → IsFormula a 6 (token.Mark mark.Not ∷ ts) (Meaning.Formula.Not f)
     bracketed : {ts : List Token} {f : Formula} → IsFormula a 1 ts f
-        → IsFormula a 7 (token.Open ∷ (ts ++ token.Close ∷ [])) f
+        → IsFormula a 7 (token.Mark mark.Open ∷ (ts ++ token.Mark mark.Close ∷ [])) f
     listed : {ts : List Token} {fs : Terms} → IsList a ts fs
-        → IsFormula a 7 (token.Word (codes "one") ∷ token.Open ∷ (ts ++ token.Close ∷ [])) (Meaning.Formula.One fs)
+        → IsFormula a 7 (token.Word (codes "one") ∷ token.Mark mark.Open ∷ (ts ++ token.Mark mark.Close ∷ []))
+        (Meaning.Formula.One fs)
     plain : {w : List ℕ} {f : Formula} → a.plain w ≡ Some f → IsFormula a 7 (token.Word w ∷ []) f
     equal : {w k : List ℕ} {f : Formula} → a.equal w k ≡ Some f
-        → IsFormula a 7 (token.Word w ∷ token.Equal ∷ token.Quoted k ∷ []) f
+        → IsFormula a 7 (token.Word w ∷ token.Mark mark.Equal ∷ token.Quoted k ∷ []) f
 
   -- the tokens are no, one or more formulas with commas between them
   pub data IsList (a : Atoms Formula) : List Token → Terms → Type 0 where
@@ -68,4 +64,4 @@ mutual
   pub data IsItems (a : Atoms Formula) : List Token → Terms → Type 0 where
     last : {ts : List Token} {f : Formula} → IsFormula a 1 ts f → IsItems a ts (Meaning.Terms.More f Meaning.Terms.End)
     more : {ts us : List Token} {f : Formula} {fs : Terms} → IsFormula a 1 ts f → IsItems a us fs
-        → IsItems a (ts ++ token.Comma ∷ us) (Meaning.Terms.More f fs)
+        → IsItems a (ts ++ token.Mark mark.Comma ∷ us) (Meaning.Terms.More f fs)

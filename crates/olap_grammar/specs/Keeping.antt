@@ -9,11 +9,14 @@ use Rattle.std.specs.Prelude.{◌≡◌, ◌≤◌, ◌<◌, ◌==◌, ℕ, Bool
 use Rattle.std.specs.List.{fold}
 use Rattle.olap_grammar.specs.Brackets.{opens_over}
 use Rattle.olap_grammar.specs.Cutting.{is_word_byte}
+use Rattle.olap_grammar.specs.CuttingMachine.{mark_of}
 use Rattle.olap_grammar.specs.Nodes.{is_node}
 use Rattle.olap_grammar.specs.Tallying.{counted_nodes, nothing_tallied, tallied}
 use Rattle.olap_grammar.specs.declared.tallying.Tally.{Tally}
 use Rattle.olap_grammar.specs.declared.tokens.Token.{Token}
 use Rattle.olap_grammar.specs.declared.tokens.Token.TheVariants as token
+use Rattle.olap_grammar.specs.declared.tokens.Mark.{Mark}
+use Rattle.olap_grammar.specs.declared.tokens.Mark.TheVariants as mark
 use Rattle.olap_grammar.specs.declared.tokens.Joint.TheVariants as joint
 
 -- how many tokens are kept at most, those kept, whether there are more, and what was counted of all
@@ -45,6 +48,11 @@ pub data Going : Type 0 where
   LessDash : Kept → Going
   Stuck : Going
 
+-- after a byte that is this mark, or none
+abbrev pub marked : Kept → Option Mark → Going
+marked k None = Stuck
+marked k (Some m) = Between (keep k (token.Mark m))
+
 -- after a byte where nothing was begun
 abbrev pub between : Kept → ℕ → Going
 between k b =
@@ -54,16 +62,7 @@ between k b =
     else if b == 34 then InQuotes k []
     else if b == 45 then Dash k
     else if b == 60 then Less k
-    else if b == 40 then Between (keep k token.Open)
-    else if b == 41 then Between (keep k token.Close)
-    else if b == 44 then Between (keep k token.Comma)
-    else if b == 58 then Between (keep k token.Colon)
-    else if b == 61 then Between (keep k token.Equal)
-    else if b == 33 then Between (keep k token.Not)
-    else if b == 94 then Between (keep k (token.Joint joint.Xor))
-    else if b == 124 then Between (keep k (token.Joint joint.Or))
-    else if b == 38 then Between (keep k (token.Joint joint.And))
-    else Stuck
+    else marked k (mark_of b)
 
 -- after one more byte
 abbrev pub kept_step : Going → ℕ → Going
@@ -73,21 +72,16 @@ kept_step (InQuotes k q) b =
     if b == 34 then Between (keep k (token.Quoted q)) else if b == 92 then Escaped k q else InQuotes k (q ++ b ∷ [])
 kept_step (Escaped k q) b =
     if b == 34 then InQuotes k (q ++ b ∷ []) else if b == 92 then InQuotes k (q ++ b ∷ []) else Stuck
-kept_step (Dash k) b = if b == 62 then Between (keep k (token.Joint joint.Implies)) else Stuck
+kept_step (Dash k) b = if b == 62 then Between (keep k (token.Mark (mark.Joint joint.Implies))) else Stuck
 kept_step (Less k) b = if b == 45 then LessDash k else Stuck
-kept_step (LessDash k) b = if b == 62 then Between (keep k (token.Joint joint.Iff)) else Stuck
+kept_step (LessDash k) b = if b == 62 then Between (keep k (token.Mark (mark.Joint joint.Iff))) else Stuck
 kept_step Stuck b = Stuck
 
 -- at the end of the line
 abbrev pub kept_ended : Going → Option Kept
 kept_ended (Between k) = Some k
 kept_ended (InWord k w) = Some (keep k (token.Word w))
-kept_ended (InQuotes k q) = None
-kept_ended (Escaped k q) = None
-kept_ended (Dash k) = None
-kept_ended (Less k) = None
-kept_ended (LessDash k) = None
-kept_ended Stuck = None
+kept_ended c = None
 
 -- what is kept of the tokens that the line is cut into, if it can be
 unfoldable pub kept_tokens : ℕ → List ℕ → Option Kept

@@ -7,9 +7,10 @@ use Rattle.olap_ast.specs.Formula.{Formula, Terms}
 use Rattle.olap_grammar.specs.Grammar.{Atoms, join, level, left_level}
 use Rattle.olap_grammar.specs.declared.tokens.Token.{Token}
 use Rattle.olap_grammar.specs.declared.tokens.Token.TheVariants as token
+use Rattle.olap_grammar.specs.declared.tokens.Mark.TheVariants as mark
 use Rattle.olap_grammar.specs.declared.tokens.Joint.{Joint}
 
--- what is open: a `!`, a formula with a mark behind it, a bracket, a list, a part of a list with its comma
+-- what is open: a `!`, a formula with a mark after it, a bracket, a list, a part of a list with its comma
 pub record Making (A L : Type 0) : Type 0 where
   pub negate : A → A
   pub join : Joint → A → A → A
@@ -35,104 +36,68 @@ pub data State (A : Type 0) : Type 0 where
 
 -- what is open of this level or a tighter one is closed
 abbrev pub settled : {A L : Type 0} → Making A L → ℕ → A → List (Frame A) → A × List (Frame A)
-settled m n f [] = (f, [])
 settled m n f (Negation ∷ s) = settled m n (m.negate f) s
 settled m n f (Left j g ∷ s) = cond (nat_le n (level j)) (settled m n (m.join j g f) s) (f, Left j g ∷ s)
-settled m n f (Bracket ∷ s) = (f, Bracket ∷ s)
-settled m n f (Listing ∷ s) = (f, Listing ∷ s)
-settled m n f (Part g ∷ s) = (f, Part g ∷ s)
+settled m n f s = (f, s)
 
+-- a list with these last parts is closed
 abbrev pub list_closed : {A L : Type 0} → Making A L → L → List (Frame A) → State A
 list_closed m fs (Listing ∷ s) = Has (m.one fs) s
 list_closed m fs (Part f ∷ s) = list_closed m (m.more f fs) s
-list_closed m fs (Negation ∷ s) = Bad
-list_closed m fs (Left j g ∷ s) = Bad
-list_closed m fs (Bracket ∷ s) = Bad
-list_closed m fs [] = Bad
+list_closed m fs s = Bad
 
+-- the bracket or the list that is open is closed
 abbrev pub closed : {A L : Type 0} → Making A L → A → List (Frame A) → State A
 closed m f (Bracket ∷ s) = Has f s
-closed m f (Listing ∷ s) = list_closed m (m.more f m.end) (Listing ∷ s)
-closed m f (Part g ∷ s) = list_closed m (m.more f m.end) (Part g ∷ s)
-closed m f (Negation ∷ s) = Bad
-closed m f (Left j g ∷ s) = Bad
-closed m f [] = Bad
+closed m f s = list_closed m (m.more f m.end) s
 
+-- the part before a comma stays open
 abbrev pub parted : {A : Type 0} → A → List (Frame A) → State A
 parted f (Listing ∷ s) = Wants (Part f ∷ Listing ∷ s)
 parted f (Part g ∷ s) = Wants (Part f ∷ Part g ∷ s)
-parted f (Bracket ∷ s) = Bad
-parted f (Negation ∷ s) = Bad
-parted f (Left j g ∷ s) = Bad
-parted f [] = Bad
+parted f s = Bad
 
 -- after a formula
 abbrev pub after : {A L : Type 0} → Making A L → A → List (Frame A) → Token → State A
-after m f s (token.Joint j) = let r = settled m (left_level j) f s in Wants (Left j r.0 ∷ r.1)
-after m f s token.Close = let r = settled m 1 f s in closed m r.0 r.1
-after m f s token.Comma = let r = settled m 1 f s in parted r.0 r.1
-after m f s (token.Word w) = Bad
-after m f s (token.Quoted k) = Bad
-after m f s token.Open = Bad
-after m f s token.Colon = Bad
-after m f s token.Equal = Bad
-after m f s token.Not = Bad
+after m f s (token.Mark (mark.Joint j)) = let r = settled m (left_level j) f s in Wants (Left j r.0 ∷ r.1)
+after m f s (token.Mark mark.Close) = let r = settled m 1 f s in closed m r.0 r.1
+after m f s (token.Mark mark.Comma) = let r = settled m 1 f s in parted r.0 r.1
+after m f s t = Bad
 
 -- where a formula is to come
 abbrev pub begun : {A : Type 0} → List (Frame A) → Token → State A
 begun s (token.Word w) = Named w s
-begun s token.Open = Wants (Bracket ∷ s)
-begun s token.Not = Wants (Negation ∷ s)
-begun s (token.Quoted k) = Bad
-begun s token.Close = Bad
-begun s token.Comma = Bad
-begun s token.Colon = Bad
-begun s token.Equal = Bad
-begun s (token.Joint j) = Bad
+begun s (token.Mark mark.Open) = Wants (Bracket ∷ s)
+begun s (token.Mark mark.Not) = Wants (Negation ∷ s)
+begun s t = Bad
 
+-- where the first part of a list, or its end, is to come
 abbrev pub begun_part : {A L : Type 0} → Making A L → List (Frame A) → Token → State A
-begun_part m s token.Close = Has (m.one m.end) s
-begun_part m s (token.Word w) = begun (Listing ∷ s) (token.Word w)
-begun_part m s (token.Quoted k) = Bad
-begun_part m s token.Open = begun (Listing ∷ s) token.Open
-begun_part m s token.Comma = Bad
-begun_part m s token.Colon = Bad
-begun_part m s token.Equal = Bad
-begun_part m s token.Not = begun (Listing ∷ s) token.Not
-begun_part m s (token.Joint j) = Bad
+begun_part m s (token.Mark mark.Close) = Has (m.one m.end) s
+begun_part m s t = begun (Listing ∷ s) t
 
 abbrev pub is_one : List ℕ → Bool
 is_one w = pointwise nat_eq w (codes "one")
 
+-- after a word that is this atom, or none
 abbrev pub after_atom : {A L : Type 0} → Making A L → Option A → List (Frame A) → Token → State A
 after_atom m None s t = Bad
 after_atom m (Some f) s t = after m f s t
 
+-- after a word: a list begins, a comparison goes on, or the word is an atom by itself
 abbrev pub after_word : {A L : Type 0} → Making A L → Atoms A → List ℕ → List (Frame A) → Token → State A
-after_word m a w s token.Open = cond (is_one w) (WantsPart s) Bad
-after_word m a w s token.Equal = Compared w s
-after_word m a w s (token.Joint j) = after_atom m (a.plain w) s (token.Joint j)
-after_word m a w s token.Close = after_atom m (a.plain w) s token.Close
-after_word m a w s token.Comma = after_atom m (a.plain w) s token.Comma
-after_word m a w s (token.Word v) = Bad
-after_word m a w s (token.Quoted k) = Bad
-after_word m a w s token.Colon = Bad
-after_word m a w s token.Not = Bad
+after_word m a w s (token.Mark mark.Open) = cond (is_one w) (WantsPart s) Bad
+after_word m a w s (token.Mark mark.Equal) = Compared w s
+after_word m a w s t = after_atom m (a.plain w) s t
 
 abbrev pub has_atom : {A : Type 0} → Option A → List (Frame A) → State A
 has_atom None s = Bad
 has_atom (Some f) s = Has f s
 
+-- after a word with a `=`
 abbrev pub after_equal : {A : Type 0} → Atoms A → List ℕ → List (Frame A) → Token → State A
 after_equal a w s (token.Quoted k) = has_atom (a.equal w k) s
-after_equal a w s (token.Word v) = Bad
-after_equal a w s token.Open = Bad
-after_equal a w s token.Close = Bad
-after_equal a w s token.Comma = Bad
-after_equal a w s token.Colon = Bad
-after_equal a w s token.Equal = Bad
-after_equal a w s token.Not = Bad
-after_equal a w s (token.Joint j) = Bad
+after_equal a w s t = Bad
 
 abbrev pub step : {A L : Type 0} → Making A L → Atoms A → State A → Token → State A
 step m a (Wants s) t = begun s t
@@ -149,10 +114,7 @@ alone (f, b ∷ s) = None
 abbrev pub ended : {A L : Type 0} → Making A L → Atoms A → State A → Option A
 ended m a (Has f s) = alone (settled m 1 f s)
 ended m a (Named w s) = option_and_then (λ f. alone (settled m 1 f s)) (a.plain w)
-ended m a (Wants s) = None
-ended m a (WantsPart s) = None
-ended m a (Compared w s) = None
-ended m a Bad = None
+ended m a st = None
 
 -- the formula that the tokens are, if they are one
 abbrev pub formula_read : {A L : Type 0} → Making A L → Atoms A → List Token → Option A

@@ -1,9 +1,11 @@
 -- What is counted of tokens, gone over from the left.
 use Rattle.std.specs.Prelude.{◌||◌, ◌+◌, ◌-◌, ℕ, false, nat_lt, if◌then◌else◌}
 use Rattle.olap_base.specs.Limits.{most_depth, most_nodes}
+use Rattle.olap_grammar.specs.Nodes.{is_node}
 use Rattle.olap_grammar.specs.declared.tallying.Tally.{Tally}
 use Rattle.olap_grammar.specs.declared.tokens.Token.{Token}
 use Rattle.olap_grammar.specs.declared.tokens.Token.TheVariants as token
+use Rattle.olap_grammar.specs.declared.tokens.Mark.TheVariants as mark
 
 -- nodes are counted up to here: more than a formula may have, and the three tokens before it
 abbrev pub counted_nodes : ℕ
@@ -17,15 +19,9 @@ nothing_tallied = record { nodes = 0; opened = 0; closed = 0; too_deep = false }
 abbrev pub counted : ℕ → ℕ
 counted n = if nat_lt n counted_nodes then n + 1 else n
 
--- one token more: a node, a `(`, a `)`, or none of these
+-- one token more: a `(`, a `)`, a node, or none of these
 abbrev pub tallied : Tally → Token → Tally
-tallied y (token.Word w) = record y { nodes = counted y.nodes }
-tallied y token.Not = record y { nodes = counted y.nodes }
-tallied y (token.Joint j) = record y { nodes = counted y.nodes }
-tallied y token.Open =
+tallied y (token.Mark mark.Open) =
     record y { opened = y.opened + 1; too_deep = y.too_deep || nat_lt most_depth (y.opened + 1 - y.closed) }
-tallied y token.Close = record y { closed = y.closed + 1 }
-tallied y (token.Quoted k) = y
-tallied y token.Comma = y
-tallied y token.Colon = y
-tallied y token.Equal = y
+tallied y (token.Mark mark.Close) = record y { closed = y.closed + 1 }
+tallied y t = if is_node t then record y { nodes = counted y.nodes } else y

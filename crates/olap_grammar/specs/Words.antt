@@ -24,7 +24,7 @@ id_of g name = unwrap_or (category_named g name) 65535
 unfoldable pub pieces_of : ℕ → List ℕ → List (List ℕ)
 pieces_of mark w = slice_split (λ b. b == mark) w
 
--- the parts of what stands behind a mark; where there is no mark, not even an empty part
+-- the parts of what stands after a mark; where there is no mark, not even an empty part
 abbrev pub pieces_behind : ℕ → Option (Bor (List ℕ)) → List (List ℕ)
 pieces_behind mark None = []
 pieces_behind mark (Some text) = pieces_of mark text.now

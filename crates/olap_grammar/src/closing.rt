@@ -1,4 +1,4 @@
-// How what is open is closed.
+// Closing brackets, lists and connectives.
 ghost use Rattle.olap_grammar.specs.Clip.{clipped};
 ghost use Rattle.olap_grammar.specs.Frames.{frames};
 ghost use Rattle.olap_grammar.specs.Grammar.{left_level as left_level_of, level as level_of};
@@ -13,6 +13,7 @@ use crate::{FormRefusal, Joint};
 use olap_base::Memory;
 use std::alloc::Global;
 
+/// How tightly it binds.
 pub(crate) fn level(joint: Joint) -> u8
     ensures { result ≡ level_of joint }
 {
@@ -25,14 +26,13 @@ pub(crate) fn level(joint: Joint) -> u8
     }
 }
 
+/// The least level of what stands to its left.
 pub(crate) fn left_level(joint: Joint) -> u8
     ensures { result ≡ left_level_of joint }
 {
     match joint {
-        Joint::Iff => 1,
-        Joint::Implies | Joint::Xor => 3,
-        Joint::Or => 4,
-        Joint::And => 5,
+        Joint::Implies => 3,
+        _ => level(joint),
     }
 }
 
@@ -57,16 +57,8 @@ pub(crate) fn settle(
                 }
                 whole = joined(alloc, joint, left, whole)?;
             }
-            Frame::Bracket => {
-                stack.push(Frame::Bracket)?;
-                return Ok(whole);
-            }
-            Frame::Listing => {
-                stack.push(Frame::Listing)?;
-                return Ok(whole);
-            }
-            Frame::Part(part) => {
-                stack.push(Frame::Part(part))?;
+            other => {
+                stack.push(other)?;
                 return Ok(whole);
             }
         }
@@ -74,7 +66,7 @@ pub(crate) fn settle(
     Ok(whole)
 }
 
-/// The list that is open is closed behind its last parts.
+/// The list that is open is closed after its last parts.
 fn close_list(alloc: Global, last: Parts, stack: &mut Stack) -> Result<Part, FormRefusal>
     ensures { GoesBack result (frames stack.new) (list_closed clipped (parts_of last) (frames stack.old)) }
 {
@@ -83,9 +75,7 @@ fn close_list(alloc: Global, last: Parts, stack: &mut Stack) -> Result<Part, For
         match frame {
             Frame::Part(part) => parts = more(alloc, part, parts)?,
             Frame::Listing => return Ok(one(parts)),
-            Frame::Negation => return Err(FormRefusal::BadForm),
-            Frame::Left(_, _) => return Err(FormRefusal::BadForm),
-            Frame::Bracket => return Err(FormRefusal::BadForm),
+            _ => return Err(FormRefusal::BadForm),
         }
     }
     Err(FormRefusal::BadForm)

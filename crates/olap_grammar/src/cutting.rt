@@ -1,13 +1,13 @@
 // Cutting a line into tokens.
 ghost use Rattle.std.specs.Prelude.{◌≡◌, [], ◌∷◌, ℕ, IfOk, OnOk, MatchResult};
-ghost use Rattle.olap_grammar.specs.CuttingMachine.{tokens_of};
+ghost use Rattle.olap_grammar.specs.CuttingMachine.{mark_of, tokens_of};
 ghost use Rattle.olap_grammar.specs.Keeping as keeping;
 ghost use Rattle.olap_grammar.specs.Keeping.{BeginsFound, Kept, keep, kept_tokens, nothing_kept};
 ghost use Rattle.olap_grammar.specs.Cutting.{is_word_byte as is_word_byte_of};
 ghost use Rattle.olap_grammar.specs.Cutter.{CutEnds, CutsTo, FailsWith, cut_of, kept_of};
 ghost use Rattle.olap_grammar.specs.declared.tokens.Token.TheVariants as token;
 
-use crate::{CutRefusal, Joint, Tally, Token};
+use crate::{CutRefusal, Joint, Mark, Tally, Token};
 use olap_base::{Memory, Text};
 use std::alloc::Global;
 
@@ -43,7 +43,7 @@ fn is_word_byte(byte: u8) -> bool
     byte.is_ascii_alphanumeric() || byte == b'_' || byte == b'.'
 }
 
-/// The token behind the others.
+/// The token after the others.
 fn add(tokens: &mut FirstTokens, token: Token) -> Result<(), Memory>
     ensures { OnOk result (kept_of tokens.new ≡ keep (kept_of tokens.old) token) }
 {
@@ -56,18 +56,36 @@ fn add(tokens: &mut FirstTokens, token: Token) -> Result<(), Memory>
     Ok(())
 }
 
-/// The word behind the others.
+/// The word after the others.
 fn add_word(tokens: &mut FirstTokens, word: Vec<u8>) -> Result<(), Memory>
     ensures { OnOk result (kept_of tokens.new ≡ keep (kept_of tokens.old) (token.Word word.items)) }
 {
     add(tokens, Token::Word(Text::from_vec(word)))
 }
 
-/// The string behind the others.
+/// The string after the others.
 fn add_quoted(tokens: &mut FirstTokens, text: Vec<u8>) -> Result<(), Memory>
     ensures { OnOk result (kept_of tokens.new ≡ keep (kept_of tokens.old) (token.Quoted text.items)) }
 {
     add(tokens, Token::Quoted(Text::from_vec(text)))
+}
+
+/// The mark that the byte is by itself.
+fn mark(byte: u8) -> Option<Mark>
+    ensures { result ≡ mark_of byte }
+{
+    match byte {
+        b'(' => Some(Mark::Open),
+        b')' => Some(Mark::Close),
+        b',' => Some(Mark::Comma),
+        b':' => Some(Mark::Colon),
+        b'=' => Some(Mark::Equal),
+        b'!' => Some(Mark::Not),
+        b'^' => Some(Mark::Joint(Joint::Xor)),
+        b'|' => Some(Mark::Joint(Joint::Or)),
+        b'&' => Some(Mark::Joint(Joint::And)),
+        _ => None,
+    }
 }
 
 /// A byte where nothing was begun.
@@ -79,61 +97,22 @@ fn between(alloc: Global, tokens: &mut FirstTokens, byte: u8) -> Result<Begun, C
         word.push(byte)?;
         return Ok(Begun::Word(word));
     }
-    if byte == 32 {
-        return Ok(Begun::Nothing);
+    match byte {
+        b' ' | b'\t' => Ok(Begun::Nothing),
+        b'"' => Ok(Begun::Quotes(Vec::new(alloc))),
+        b'-' => Ok(Begun::Dash),
+        b'<' => Ok(Begun::Less),
+        _ => match mark(byte) {
+            Some(mark) => {
+                add(tokens, Token::Mark(mark))?;
+                Ok(Begun::Nothing)
+            }
+            None => Err(CutRefusal::BadForm),
+        },
     }
-    if byte == 9 {
-        return Ok(Begun::Nothing);
-    }
-    if byte == 34 {
-        return Ok(Begun::Quotes(Vec::new(alloc)));
-    }
-    if byte == 45 {
-        return Ok(Begun::Dash);
-    }
-    if byte == 60 {
-        return Ok(Begun::Less);
-    }
-    if byte == 40 {
-        add(tokens, Token::Open)?;
-        return Ok(Begun::Nothing);
-    }
-    if byte == 41 {
-        add(tokens, Token::Close)?;
-        return Ok(Begun::Nothing);
-    }
-    if byte == 44 {
-        add(tokens, Token::Comma)?;
-        return Ok(Begun::Nothing);
-    }
-    if byte == 58 {
-        add(tokens, Token::Colon)?;
-        return Ok(Begun::Nothing);
-    }
-    if byte == 61 {
-        add(tokens, Token::Equal)?;
-        return Ok(Begun::Nothing);
-    }
-    if byte == 33 {
-        add(tokens, Token::Not)?;
-        return Ok(Begun::Nothing);
-    }
-    if byte == 94 {
-        add(tokens, Token::Joint(Joint::Xor))?;
-        return Ok(Begun::Nothing);
-    }
-    if byte == 124 {
-        add(tokens, Token::Joint(Joint::Or))?;
-        return Ok(Begun::Nothing);
-    }
-    if byte == 38 {
-        add(tokens, Token::Joint(Joint::And))?;
-        return Ok(Begun::Nothing);
-    }
-    Err(CutRefusal::BadForm)
 }
 
-/// A byte behind those of a word.
+/// A byte after those of a word.
 fn in_word(
     alloc: Global,
     tokens: &mut FirstTokens,
@@ -163,27 +142,25 @@ fn in_quotes(
         (keeping.kept_step (keeping.InQuotes (kept_of tokens.old) text.items) byte) }
 {
     let mut text = text;
-    if byte == 34 {
-        add_quoted(tokens, text)?;
-        return Ok(Begun::Nothing);
+    match byte {
+        b'"' => {
+            add_quoted(tokens, text)?;
+            Ok(Begun::Nothing)
+        }
+        b'\\' => Ok(Begun::Escape(text)),
+        _ => {
+            text.push(byte)?;
+            Ok(Begun::Quotes(text))
+        }
     }
-    if byte == 92 {
-        return Ok(Begun::Escape(text));
-    }
-    text.push(byte)?;
-    Ok(Begun::Quotes(text))
 }
 
-/// A byte behind a backslash in a string: a quotation mark or another backslash, and nothing else.
+/// A byte after a backslash in a string: a quotation mark or another backslash, and nothing else.
 fn escaped(text: Vec<u8>, byte: u8) -> Result<Begun, CutRefusal>
     ensures { (k : Kept) → CutsTo result k (keeping.kept_step (keeping.Escaped k text.items) byte) }
 {
     let mut text = text;
-    if byte == 34 {
-        text.push(byte)?;
-        return Ok(Begun::Quotes(text));
-    }
-    if byte == 92 {
+    if byte == b'"' || byte == b'\\' {
         text.push(byte)?;
         return Ok(Begun::Quotes(text));
     }
@@ -205,21 +182,21 @@ fn step(
         Begun::Quotes(text) => in_quotes(alloc, tokens, text, byte),
         Begun::Escape(text) => escaped(text, byte),
         Begun::Dash => {
-            if byte == 62 {
-                add(tokens, Token::Joint(Joint::Implies))?;
+            if byte == b'>' {
+                add(tokens, Token::Mark(Mark::Joint(Joint::Implies)))?;
                 return Ok(Begun::Nothing);
             }
             Err(CutRefusal::BadForm)
         }
         Begun::Less => {
-            if byte == 45 {
+            if byte == b'-' {
                 return Ok(Begun::LessDash);
             }
             Err(CutRefusal::BadForm)
         }
         Begun::LessDash => {
-            if byte == 62 {
-                add(tokens, Token::Joint(Joint::Iff))?;
+            if byte == b'>' {
+                add(tokens, Token::Mark(Mark::Joint(Joint::Iff)))?;
                 return Ok(Begun::Nothing);
             }
             Err(CutRefusal::BadForm)
@@ -237,11 +214,7 @@ fn end(tokens: &mut FirstTokens, begun: Begun) -> Result<(), CutRefusal>
             add_word(tokens, word)?;
             Ok(())
         }
-        Begun::Quotes(_) => Err(CutRefusal::BadForm),
-        Begun::Escape(_) => Err(CutRefusal::BadForm),
-        Begun::Dash => Err(CutRefusal::BadForm),
-        Begun::Less => Err(CutRefusal::BadForm),
-        Begun::LessDash => Err(CutRefusal::BadForm),
+        _ => Err(CutRefusal::BadForm),
     }
 }
 

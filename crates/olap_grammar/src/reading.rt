@@ -13,7 +13,7 @@ use crate::closing::{close, left_level, settle};
 use crate::parts::{Part, leaf, no_parts, one};
 use crate::stacking::{Frame, Stack};
 use crate::words::{equality, is, plain_word};
-use crate::{FormRefusal, Known, Token};
+use crate::{FormRefusal, Known, Mark, Token};
 use olap_ast::Formula;
 use olap_base::{MOST_DEPTH, Text};
 use std::alloc::Global;
@@ -44,10 +44,7 @@ fn part_off<'a>(part: Part, stack: &mut Stack) -> Result<State<'a>, FormRefusal>
             stack.push(Frame::Part(part))?;
             Ok(State::Wants)
         }
-        Some(Frame::Negation) => Err(FormRefusal::BadForm),
-        Some(Frame::Left(_, _)) => Err(FormRefusal::BadForm),
-        Some(Frame::Bracket) => Err(FormRefusal::BadForm),
-        None => Err(FormRefusal::BadForm),
+        _ => Err(FormRefusal::BadForm),
     }
 }
 
@@ -61,26 +58,21 @@ fn after<'a>(
     ensures { GoesTo result (frames stack.new) (machine.after clipped (part_of part) (frames stack.old) token.now) }
 {
     match token {
-        Token::Joint(joint) => {
+        Token::Mark(Mark::Joint(joint)) => {
             let left = settle(alloc, left_level(*joint), part, stack)?;
             stack.push(Frame::Left(*joint, left))?;
             Ok(State::Wants)
         }
-        Token::Close => {
+        Token::Mark(Mark::Close) => {
             let last = settle(alloc, 1, part, stack)?;
             let whole = close(alloc, last, stack)?;
             Ok(State::Has(whole))
         }
-        Token::Comma => {
+        Token::Mark(Mark::Comma) => {
             let last = settle(alloc, 1, part, stack)?;
             part_off(last, stack)
         }
-        Token::Word(_) => Err(FormRefusal::BadForm),
-        Token::Quoted(_) => Err(FormRefusal::BadForm),
-        Token::Open => Err(FormRefusal::BadForm),
-        Token::Colon => Err(FormRefusal::BadForm),
-        Token::Equal => Err(FormRefusal::BadForm),
-        Token::Not => Err(FormRefusal::BadForm),
+        _ => Err(FormRefusal::BadForm),
     }
 }
 
@@ -90,20 +82,15 @@ fn begin<'a>(stack: &mut Stack, token: &'a Token) -> Result<State<'a>, FormRefus
 {
     match token {
         Token::Word(word) => Ok(State::Named(word)),
-        Token::Open => {
+        Token::Mark(Mark::Open) => {
             stack.push(Frame::Bracket)?;
             Ok(State::Wants)
         }
-        Token::Not => {
+        Token::Mark(Mark::Not) => {
             stack.push(Frame::Negation)?;
             Ok(State::Wants)
         }
-        Token::Quoted(_) => Err(FormRefusal::BadForm),
-        Token::Close => Err(FormRefusal::BadForm),
-        Token::Comma => Err(FormRefusal::BadForm),
-        Token::Colon => Err(FormRefusal::BadForm),
-        Token::Equal => Err(FormRefusal::BadForm),
-        Token::Joint(_) => Err(FormRefusal::BadForm),
+        _ => Err(FormRefusal::BadForm),
     }
 }
 
@@ -112,24 +99,11 @@ fn begin_part<'a>(stack: &mut Stack, token: &'a Token) -> Result<State<'a>, Form
     ensures { GoesTo result (frames stack.new) (machine.begun_part clipped (frames stack.old) token.now) }
 {
     match token {
-        Token::Close => Ok(State::Has(one(no_parts()))),
-        Token::Word(_) => {
+        Token::Mark(Mark::Close) => Ok(State::Has(one(no_parts()))),
+        _ => {
             stack.push(Frame::Listing)?;
             begin(stack, token)
         }
-        Token::Open => {
-            stack.push(Frame::Listing)?;
-            begin(stack, token)
-        }
-        Token::Not => {
-            stack.push(Frame::Listing)?;
-            begin(stack, token)
-        }
-        Token::Quoted(_) => Err(FormRefusal::BadForm),
-        Token::Comma => Err(FormRefusal::BadForm),
-        Token::Colon => Err(FormRefusal::BadForm),
-        Token::Equal => Err(FormRefusal::BadForm),
-        Token::Joint(_) => Err(FormRefusal::BadForm),
     }
 }
 
@@ -162,21 +136,15 @@ fn after_word<'a>(
         (machine.after_word clipped (leaves_of (graph_seen known.now)) word.now (frames stack.old) token.now) }
 {
     match token {
-        Token::Open => {
+        Token::Mark(Mark::Open) => {
             if is(word.bytes(), b"one") {
                 Ok(State::WantsPart)
             } else {
                 Err(FormRefusal::BadForm)
             }
         }
-        Token::Equal => Ok(State::Compared(word)),
-        Token::Joint(_) => after_plain(alloc, known, word, stack, token),
-        Token::Close => after_plain(alloc, known, word, stack, token),
-        Token::Comma => after_plain(alloc, known, word, stack, token),
-        Token::Word(_) => Err(FormRefusal::BadForm),
-        Token::Quoted(_) => Err(FormRefusal::BadForm),
-        Token::Colon => Err(FormRefusal::BadForm),
-        Token::Not => Err(FormRefusal::BadForm),
+        Token::Mark(Mark::Equal) => Ok(State::Compared(word)),
+        _ => after_plain(alloc, known, word, stack, token),
     }
 }
 
@@ -196,14 +164,7 @@ fn after_equal<'a>(
             Some(f) => Ok(State::Has(leaf(f))),
             None => Err(FormRefusal::BadForm),
         },
-        Token::Word(_) => Err(FormRefusal::BadForm),
-        Token::Open => Err(FormRefusal::BadForm),
-        Token::Close => Err(FormRefusal::BadForm),
-        Token::Comma => Err(FormRefusal::BadForm),
-        Token::Colon => Err(FormRefusal::BadForm),
-        Token::Equal => Err(FormRefusal::BadForm),
-        Token::Not => Err(FormRefusal::BadForm),
-        Token::Joint(_) => Err(FormRefusal::BadForm),
+        _ => Err(FormRefusal::BadForm),
     }
 }
 
@@ -247,9 +208,7 @@ fn end(alloc: Global, known: &Known, state: State, stack: &mut Stack) -> Result<
             Some(f) => alone(alloc, leaf(f), stack),
             None => Err(FormRefusal::BadForm),
         },
-        State::Wants => Err(FormRefusal::BadForm),
-        State::WantsPart => Err(FormRefusal::BadForm),
-        State::Compared(_) => Err(FormRefusal::BadForm),
+        _ => Err(FormRefusal::BadForm),
     }
 }
 

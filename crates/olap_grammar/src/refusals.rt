@@ -13,7 +13,7 @@ pub enum FormRefusal {
     BadForm,
     /// The formula is deeper than `MOST_DEPTH`.
     TooDeep,
-    /// Want of memory.
+    /// Out of memory.
     Memory,
 }
 
@@ -30,7 +30,7 @@ impl From<Memory> for FormRefusal {
 pub enum CutRefusal {
     /// The line can't be cut into tokens.
     BadForm,
-    /// Want of memory.
+    /// Out of memory.
     Memory,
 }
 

@@ -8,7 +8,7 @@ use crate::parts::Part;
 use olap_base::Memory;
 use std::alloc::Global;
 
-/// What is still open: a `!`, a formula with a mark behind it, a bracket, a list, a part of a list with its comma.
+/// What is still open: a `!`, a formula with a mark after it, a bracket, a list, a part of a list with its comma.
 #[derive(Drop)]
 pub(crate) enum Frame {
     Negation,

@@ -2,7 +2,7 @@
 ghost use Rattle.std.specs.Prelude.{◌≡◌, ◌+◌, OnOk, IfOk};
 ghost use Rattle.olap_grammar.specs.Tallying.{counted, nothing_tallied, tallied};
 
-use crate::Token;
+use crate::{Mark, Token};
 use olap_base::{MOST_DEPTH, MOST_NODES, Memory};
 
 /// Nodes are counted up to here: more than a formula may have, and the three tokens before it.
@@ -60,19 +60,17 @@ impl Tally {
         ensures { OnOk result (self.new ≡ tallied self.old token.now) }
     {
         match token {
-            Token::Word(_) => self.nodes = count(self.nodes),
-            Token::Not => self.nodes = count(self.nodes),
-            Token::Joint(_) => self.nodes = count(self.nodes),
-            Token::Open => {
+            Token::Mark(Mark::Open) => {
                 self.opened = one_more(self.opened)?;
                 let open = self.opened.saturating_sub(self.closed);
                 self.too_deep = self.too_deep || open > MOST_DEPTH as usize;
             }
-            Token::Close => self.closed = one_more(self.closed)?,
-            Token::Quoted(_) => {}
-            Token::Comma => {}
-            Token::Colon => {}
-            Token::Equal => {}
+            Token::Mark(Mark::Close) => self.closed = one_more(self.closed)?,
+            _ => {
+                if token.is_node() {
+                    self.nodes = count(self.nodes);
+                }
+            }
         }
         Ok(())
     }

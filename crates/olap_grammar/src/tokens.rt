@@ -1,6 +1,6 @@
 // Tokens.
-ghost use Rattle.std.specs.Prelude.{◌≡◌};
 ghost use Rattle.olap_grammar.specs.Nodes.{is_node};
+ghost use Rattle.std.specs.Prelude.{◌≡◌};
 
 use olap_base::Text;
 
@@ -14,11 +14,9 @@ pub enum Joint {
     And,
 }
 
-/// A token of a line.
-#[derive(Debug, Drop)]
-pub enum Token {
-    Word(Text),
-    Quoted(Text),
+/// A mark.
+#[derive(Clone, Copy, Debug, PartialEq, Eq)]
+pub enum Mark {
     Open,
     Close,
     Comma,
@@ -28,6 +26,14 @@ pub enum Token {
     Joint(Joint),
 }
 
+/// A token of a line.
+#[derive(Debug, Drop)]
+pub enum Token {
+    Word(Text),
+    Quoted(Text),
+    Mark(Mark),
+}
+
 impl Token {
     /// Whether it is a node of a formula's tree.
     pub fn is_node(&self) -> bool
@@ -35,14 +41,8 @@ impl Token {
     {
         match self {
             Token::Word(_) => true,
-            Token::Not => true,
-            Token::Joint(_) => true,
-            Token::Quoted(_) => false,
-            Token::Open => false,
-            Token::Close => false,
-            Token::Comma => false,
-            Token::Colon => false,
-            Token::Equal => false,
+            Token::Mark(mark) => matches!(mark, Mark::Not | Mark::Joint(_)),
+            _ => false,
         }
     }
 }

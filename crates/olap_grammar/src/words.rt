@@ -35,7 +35,7 @@ fn id(known: &Known, name: &[u8]) -> CatId
 {
     match known.category(name) {
         Some(c) => c,
-        None => CatId(65535),
+        None => CatId(u16::MAX),
     }
 }
 
@@ -83,7 +83,7 @@ fn place(mark: u8, text: &[u8]) -> Option<usize>
     text.iter().position(|b| *b == mark)
 }
 
-/// The first part of a word between marks, and what stands behind its mark, if it has one.
+/// The first part of a word between marks, and what stands after its mark, if it has one.
 #[tactic(auto, unfolding(crate::specs::Words::pieces_of))]
 pub fn first_piece(mark: u8, text: &[u8]) -> (&[u8], Option<&[u8]>)
     ensures pieces { pieces_of mark text.now ≡ result.0.now ∷ pieces_behind mark result.1 }

@@ -18,6 +18,7 @@ use Rattle.olap_ast.specs.Valid.{AreFormulasAt, IsFormulaAt}
 use Rattle.olap_grammar.specs.Words.{pieces_of}
 use Rattle.olap_grammar.specs.declared.tokens.Token.{Token}
 use Rattle.olap_grammar.specs.declared.tokens.Token.TheVariants as token
+use Rattle.olap_grammar.specs.declared.tokens.Mark.TheVariants as mark
 use Rattle.olap_grammar.specs.declared.tokens.Joint.{Joint}
 use Rattle.olap_grammar.specs.declared.tokens.Joint.TheVariants as joint
 use Rattle.olap_schema.specs.Atoms.{atom_fault, has_edge, is_connective, is_known, is_path, is_repeated, lacks_edge, named_fault, names_in, or_later, stands_in, token_fault, word_fault}
@@ -168,22 +169,24 @@ module _ (g : Graph) (root : List ℕ) where
       → atom_fault g root (joined_tokens j l r) ≡ None
   unfolding atom_fault
   joined_faultless j l r d e =
-      faultless-append l (token.Joint j ∷ (r ++ token.Close ∷ [])) d (faultless-append r (token.Close ∷ []) e refl)
+      faultless-append l (token.Mark (mark.Joint j) ∷ (r ++ token.Mark mark.Close ∷ [])) d
+      (faultless-append r (token.Mark mark.Close ∷ []) e refl)
 
   none_at_end : atom_fault g root [] ≡ None
   unfolding atom_fault
   none_at_end = refl
 
-  not_faultless : (ts : List Token) → atom_fault g root ts ≡ None → atom_fault g root (token.Not ∷ ts) ≡ None
+  not_faultless : (ts : List Token) → atom_fault g root ts ≡ None → atom_fault g root (token.Mark mark.Not ∷ ts) ≡ None
   unfolding atom_fault
   not_faultless ts d = d
 
-  comma_faultless : (ts : List Token) → atom_fault g root ts ≡ None → atom_fault g root (token.Comma ∷ ts) ≡ None
+  comma_faultless : (ts : List Token) → atom_fault g root ts ≡ None
+      → atom_fault g root (token.Mark mark.Comma ∷ ts) ≡ None
   unfolding atom_fault
   comma_faultless ts d = d
 
   equal_faultless : (w k : List ℕ) → word_fault g root w ≡ None
-      → atom_fault g root (token.Word w ∷ token.Equal ∷ token.Quoted k ∷ []) ≡ None
+      → atom_fault g root (token.Word w ∷ token.Mark mark.Equal ∷ token.Quoted k ∷ []) ≡ None
   unfolding atom_fault
   equal_faultless w k d = rw d refl
 
@@ -192,9 +195,9 @@ module _ (g : Graph) (root : List ℕ) where
   constant_faultless w e = rw e refl
 
   one_faultless : (ts : List Token) → atom_fault g root ts ≡ None
-      → atom_fault g root (token.Word (codes "one") ∷ token.Open ∷ (ts ++ token.Close ∷ [])) ≡ None
+      → atom_fault g root (token.Word (codes "one") ∷ token.Mark mark.Open ∷ (ts ++ token.Mark mark.Close ∷ [])) ≡ None
   unfolding atom_fault word_fault is_connective
-  one_faultless ts d = faultless-append ts (token.Close ∷ []) d refl
+  one_faultless ts d = faultless-append ts (token.Mark mark.Close ∷ []) d refl
 
 true_connects : is_connective (codes "true") ≡ true
 unfolding is_connective

@@ -19,6 +19,7 @@ use Rattle.olap_grammar.proofs.ReaderLemmas.{formula_is_found}
 use Rattle.olap_grammar.proofs.Sound.{tighter}
 use Rattle.olap_schema.specs.Atoms.{atom_fault}
 use Rattle.olap_schema.specs.Judging.{Above, constraint_read, form_read}
+use Rattle.olap_schema.specs.declared.statements.Version.TheVariants as version
 use Rattle.olap_schema.specs.Tokens.{is_long, token_nodes}
 use Rattle.olap_schema.proofs.BackAtoms.{no_atom_fault}
 use Rattle.olap_schema.proofs.BackGraph.{lengths, stands}
@@ -32,7 +33,7 @@ use Rattle.std.proofs.Common.{lit≤}
 -- the graph and these constraints stand above
 abbrev pub ruled : Graph → List Constraint → ℕ → List Equality → List ℕ → Above
 ruled g done nodes pairs lines = record {
-  versioned = true;
+  version = Some version.One;
   graph = g;
   category_lines = lines;
   constraints = done;

@@ -18,13 +18,14 @@ use Rattle.olap_graph.proofs.PlaceLemmas.{found, joins-Decides}
 use Rattle.olap_ast.specs.Schema.{Schema}
 use Rattle.olap_ast.specs.Valid.{IsValidSchema}
 use Rattle.olap_schema.specs.Judging.{Above, category_read, edge_read}
+use Rattle.olap_schema.specs.declared.statements.Version.TheVariants as version
 use Rattle.olap_schema.proofs.BackLengths.{AreShort}
 use Rattle.olap_schema.proofs.PrintNames.{named}
 
 -- these categories and edges stand above
 abbrev pub growing : List (List ℕ) → List Edge → List ℕ → Above
 growing names edges lines = record {
-  versioned = true;
+  version = Some version.One;
   graph = record { names = names; edges = edges };
   category_lines = lines;
   constraints = [];

@@ -6,10 +6,11 @@ use Rattle.olap_graph.specs.Lookups.{name_of_category}
 use Rattle.olap_ast.specs.Formula.{equalities}
 use Rattle.olap_ast.specs.Schema.{Constraint}
 use Rattle.olap_ast.specs.Valid.{IsFormulaAt}
-use Rattle.olap_grammar.specs.Cutting.{AreWordBytes, is_word_byte, IsCut, blank, end, mark, word}
+use Rattle.olap_grammar.specs.Cutting.{AreWordBytes, is_word_byte, IsCut, blank, end, marked, word}
 use Rattle.olap_grammar.specs.CuttingMachine.{tokens_of}
 use Rattle.olap_grammar.specs.declared.tokens.Token.{Token}
 use Rattle.olap_grammar.specs.declared.tokens.Token.TheVariants as token
+use Rattle.olap_grammar.specs.declared.tokens.Mark.TheVariants as mark
 use Rattle.olap_grammar.proofs.CutComplete.{cut_is_found}
 use Rattle.olap_schema.specs.Lines.{is_quiet}
 use Rattle.olap_schema.specs.Printing.{category_text, constraint_text, edge_text, formula_text, version_text}
@@ -64,7 +65,7 @@ module _ (g : Graph) (h : IsHierarchy g) where
 
   pub constraint_tokens : (c : Constraint) → IsCategory g c.root → IsFormulaAt g c.root c.formula →
       tokens_of (constraint_text g c) ≡ Some
-      (token.Word (codes "constraint") ∷ token.Word (name_of_category g c.root) ∷ token.Colon ∷ spelt g c.root
+      (token.Word (codes "constraint") ∷ token.Word (name_of_category g c.root) ∷ token.Mark mark.Colon ∷ spelt g c.root
       c.formula)
   constraint_tokens c l v =
       let name = name_of_category g c.root in
@@ -72,10 +73,10 @@ module _ (g : Graph) (h : IsHierarchy g) where
       let cut : IsCut text (spelt g c.root c.formula) =
       rw (append-nil text, append-nil (spelt g c.root c.formula)) at
       (text_is_cut g h c.root l c.formula v [] [] tt end) in
-      let rest : IsCut (name ++ 58 ∷ 32 ∷ text) (token.Word name ∷ token.Colon ∷ spelt g c.root c.formula) =
-      cut_word (name_is_word name (name_is g h c.root l)) refl (mark token.Colon tt (blank cut)) in
+      let rest : IsCut (name ++ 58 ∷ 32 ∷ text) (token.Word name ∷ token.Mark mark.Colon ∷ spelt g c.root c.formula) =
+      cut_word (name_is_word name (name_is g h c.root l)) refl (marked mark.Colon (blank cut)) in
       cut_is_found _ _ (keyword 99 (codes "onstraint") (name ++ 58 ∷ 32 ∷ text)
-      (token.Word name ∷ token.Colon ∷ spelt g c.root c.formula) refl rest)
+      (token.Word name ∷ token.Mark mark.Colon ∷ spelt g c.root c.formula) refl rest)
 
 -- ---- bytes
 

@@ -1,5 +1,5 @@
 -- A printed schema is read back.
-use Rattle.std.proofs.Common.{◌≡◌, ◌≤◌, ◌+◌, ℕ, zero, suc, List, [], ◌∷◌, ◌++◌, Some, length, map, get_or, refl, append_assoc, append-nil, arith, ap, sym, ◌∙◌, codes, lit≤}
+use Rattle.std.proofs.Common.{◌≡◌, ◌≤◌, ◌+◌, ℕ, zero, suc, List, [], ◌∷◌, ◌++◌, None, Some, length, map, get_or, refl, append_assoc, append-nil, arith, ap, sym, ◌∙◌, codes, lit≤}
 use Rattle.std.specs.Prelude.{Contains, Ok, flat_map, fold}
 use Rattle.std.proofs.lemmas.List.Elements.{Contains-get_or}
 use Rattle.olap_base.specs.Deciding.{contains_cons}
@@ -10,10 +10,12 @@ use Rattle.olap_ast.specs.Formula.{Equality, equalities}
 use Rattle.olap_ast.specs.Schema.{Constraint, Schema}
 use Rattle.olap_ast.specs.Valid.{IsValidSchema, with_pair}
 use Rattle.olap_grammar.specs.declared.tokens.Token.TheVariants as token
+use Rattle.olap_grammar.specs.declared.tokens.Mark.TheVariants as mark
 use Rattle.olap_schema.specs.Judging.{Above, lines_on, nothing_above, schema_read, statement_read, text_ended, tokens_read}
 use Rattle.olap_schema.specs.Printing.{category_text, constraint_text, edge_text, schema_lines, schema_text, version_text}
 use Rattle.olap_schema.specs.PrintingLaws.{AreTexts, IsReadable, PrintedIsRead}
 use Rattle.olap_schema.specs.Tokens.{token_nodes}
+use Rattle.olap_schema.specs.declared.statements.Version.TheVariants as version
 use Rattle.olap_schema.proofs.BackConstraints.{add_constraint, first_nodes, first_pairs, nodes_of, pairs_with, ruled}
 use Rattle.olap_schema.proofs.BackGraph.{add_category, add_edge, growing, stands}
 use Rattle.olap_schema.proofs.BackLengths.{AreShort}
@@ -60,8 +62,9 @@ module _ (s : Schema) (v : IsValidSchema s) where
       let below = ruled s.graph (done ++ c ∷ []) (nodes + token_nodes ts)
       (fold with_pair pairs (equalities c.formula)) lines in
       let read : tokens_read above (n + 1)
-      (Some (token.Word (codes "constraint") ∷ token.Word name ∷ token.Colon ∷ ts)) ≡ Ok below =
-      ap (statement_read above (n + 1)) (constraint_says name ts (is_name s.graph v.hierarchy c.root l))
+      (Some (token.Word (codes "constraint") ∷ token.Word name ∷ token.Mark mark.Colon ∷ ts)) ≡ Ok below =
+      ap (statement_read above (n + 1) (Some version.One))
+      (constraint_says name ts (is_name s.graph v.hierarchy c.root l))
       ∙ add_constraint s v short done c todo nodes pairs lines e few_nodes few_pairs in
       let plain = constraint_plain s.graph v.hierarchy c l at_root
       (left_texts (equalities c.formula) (atoms_in todo) t) in
@@ -92,7 +95,7 @@ module _ (s : Schema) (v : IsValidSchema s) where
       let below = growing s.graph.names (done ++ x ∷ []) lines in
       let read : tokens_read above (n + 1)
       (Some (token.Word (codes "edge") ∷ token.Word child ∷ token.Word parent ∷ [])) ≡ Ok below =
-      ap (statement_read above (n + 1))
+      ap (statement_read above (n + 1) (Some version.One))
       (edge_says child parent (is_name s.graph v.hierarchy x.child ends.0)
       (is_name s.graph v.hierarchy x.parent ends.1))
       ∙ add_edge s v short done x todo lines e in
@@ -118,7 +121,7 @@ module _ (s : Schema) (v : IsValidSchema s) where
       let above = growing done [] lines in
       let below = growing (done ++ name ∷ []) [] (lines ++ (n + 1) ∷ []) in
       let read : tokens_read above (n + 1) (Some (token.Word (codes "category") ∷ token.Word name ∷ [])) ≡ Ok below =
-      ap (statement_read above (n + 1)) (category_says name ((is_category_name_is name).1 is))
+      ap (statement_read above (n + 1) (Some version.One)) (category_says name ((is_category_name_is name).1 is))
       ∙ add_category s v (n + 1) done name todo lines e in
       ap text_ended (goes_on above below n (category_text name) _
       (map category_text todo ++ (map (edge_text s.graph) s.graph.edges ++ map
@@ -173,7 +176,7 @@ module _ (s : Schema) (v : IsValidSchema s) where
   lines_back : AreTexts (atoms_in s.constraints) → Ends nothing_above 0 (schema_lines s) s
   lines_back t =
       let first : tokens_read nothing_above 1 (Some (token.Word (codes "schema") ∷ token.Word (codes "1") ∷ [])) ≡ Ok
-      (growing [] [] []) = rw version_says refl in
+      (growing [] [] []) = ap (statement_read nothing_above 1 None) version_says in
       ap text_ended (goes_on nothing_above (growing [] [] []) 0 version_text _
       (map category_text s.graph.names
       ++ (map (edge_text s.graph) s.graph.edges ++ map (constraint_text s.graph) s.constraints)) version_plain

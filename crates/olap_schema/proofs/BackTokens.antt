@@ -12,6 +12,7 @@ use Rattle.olap_base.specs.Limits.{most_depth}
 use Rattle.olap_grammar.specs.Brackets.{opens_over}
 use Rattle.olap_grammar.specs.declared.tokens.Token.{Token}
 use Rattle.olap_grammar.specs.declared.tokens.Token.TheVariants as token
+use Rattle.olap_grammar.specs.declared.tokens.Mark.TheVariants as mark
 use Rattle.olap_grammar.specs.declared.tokens.Joint.{Joint}
 use Rattle.olap_grammar.specs.declared.tokens.Joint.TheVariants as joint
 use Rattle.olap_schema.specs.Tokens.{is_node, token_nodes}
@@ -32,11 +33,12 @@ node_token t ts e =
 
 joined_nodes : (j : Joint) (l r : List Token) → token_nodes (joined_tokens j l r) ≡ 1 + token_nodes l + token_nodes r
 joined_nodes j l r =
-    let a = other_token token.Open (l ++ token.Joint j ∷ (r ++ token.Close ∷ [])) refl in
-    let b = nodes-append l (token.Joint j ∷ (r ++ token.Close ∷ [])) in
-    let c = node_token (token.Joint j) (r ++ token.Close ∷ []) refl in
-    let d = nodes-append r (token.Close ∷ []) in
-    let e = other_token token.Close [] refl in
+    let a = other_token (token.Mark mark.Open)
+    (l ++ token.Mark (mark.Joint j) ∷ (r ++ token.Mark mark.Close ∷ [])) refl in
+    let b = nodes-append l (token.Mark (mark.Joint j) ∷ (r ++ token.Mark mark.Close ∷ [])) in
+    let c = node_token (token.Mark (mark.Joint j)) (r ++ token.Mark mark.Close ∷ []) refl in
+    let d = nodes-append r (token.Mark mark.Close ∷ []) in
+    let e = other_token (token.Mark mark.Close) [] refl in
     let z : token_nodes [] ≡ 0 = refl in
     omega (arith, a, b, c, d, e, z)
 
@@ -44,11 +46,12 @@ both_nodes : (j : Joint) (l r : List Token) (m n : ℕ) → token_nodes l ≡ m 
     → token_nodes (joined_tokens j l r) ≡ 1 + m + n
 both_nodes j l r m n d e = let s = joined_nodes j l r in omega (arith, s, d, e)
 
-bracketed_nodes : (ts : List Token) → token_nodes (token.Open ∷ (ts ++ token.Close ∷ [])) ≡ token_nodes ts
+bracketed_nodes : (ts : List Token)
+    → token_nodes (token.Mark mark.Open ∷ (ts ++ token.Mark mark.Close ∷ [])) ≡ token_nodes ts
 bracketed_nodes ts =
-    let a = other_token token.Open (ts ++ token.Close ∷ []) refl in
-    let b = nodes-append ts (token.Close ∷ []) in
-    let c = other_token token.Close [] refl in
+    let a = other_token (token.Mark mark.Open) (ts ++ token.Mark mark.Close ∷ []) refl in
+    let b = nodes-append ts (token.Mark mark.Close ∷ []) in
+    let c = other_token (token.Mark mark.Close) [] refl in
     let z : token_nodes [] ≡ 0 = refl in
     omega (arith, a, b, c, z)
 
@@ -64,7 +67,8 @@ module _ (g : Graph) (r : ℕ) where
     nodes_are (Meaning.Formula.Reach d) = refl
     nodes_are (Meaning.Formula.Via d e) = refl
     nodes_are (Meaning.Formula.Equals d k) = refl
-    nodes_are (Meaning.Formula.Not f) = node_token token.Not (spelt g r f) refl ∙ ap (λ n. 1 + n) (nodes_are f)
+    nodes_are (Meaning.Formula.Not f) = node_token (token.Mark mark.Not) (spelt g r f) refl
+        ∙ ap (λ n. 1 + n) (nodes_are f)
     nodes_are (Meaning.Formula.And f h) =
         both_nodes joint.And (spelt g r f) (spelt g r h) (node_count f) (node_count h) (nodes_are f) (nodes_are h)
     nodes_are (Meaning.Formula.Or f h) =
@@ -76,7 +80,8 @@ module _ (g : Graph) (r : ℕ) where
     nodes_are (Meaning.Formula.Xor f h) =
         both_nodes joint.Xor (spelt g r f) (spelt g r h) (node_count f) (node_count h) (nodes_are f) (nodes_are h)
     nodes_are (Meaning.Formula.One fs) =
-        node_token (token.Word (codes "one")) (token.Open ∷ (spelt_list g r fs ++ token.Close ∷ [])) refl
+        node_token (token.Word (codes "one"))
+        (token.Mark mark.Open ∷ (spelt_list g r fs ++ token.Mark mark.Close ∷ [])) refl
         ∙ ap (λ n. 1 + n) (bracketed_nodes (spelt_list g r fs) ∙ list_nodes fs)
 
     list_nodes : (fs : Terms) → token_nodes (spelt_list g r fs) ≡ node_count_of_terms fs
@@ -88,7 +93,7 @@ module _ (g : Graph) (r : ℕ) where
     rest_nodes : (fs : Terms) → token_nodes (spelt_rest g r fs) ≡ node_count_of_terms fs
     rest_nodes Meaning.Terms.End = refl
     rest_nodes (Meaning.Terms.More f fs) =
-        other_token token.Comma (spelt g r f ++ spelt_rest g r fs) refl
+        other_token (token.Mark mark.Comma) (spelt g r f ++ spelt_rest g r fs) refl
         ∙ part_nodes (spelt g r f) (spelt_rest g r fs) (node_count f) (node_count_of_terms fs) (nodes_are f)
         (rest_nodes fs)
 
@@ -98,57 +103,59 @@ module _ (g : Graph) (r : ℕ) where
 shifted : (o c : ℕ) (ts : List Token) → opens_over (o + 1) (c + 1) ts ≡ opens_over o c ts
 unfolding opens_over
 shifted o c [] = refl
-shifted o c (token.Open ∷ ts) =
+shifted o c (token.Mark mark.Open ∷ ts) =
     let n : nat_lt ((c + 1) + most_depth) ((o + 1) + 1) ≡ nat_lt (c + most_depth) (o + 1) = grind (arith) in
     rw (n, shifted (o + 1) c ts) refl
-shifted o c (token.Close ∷ ts) = shifted o (c + 1) ts
+shifted o c (token.Mark mark.Close ∷ ts) = shifted o (c + 1) ts
 shifted o c (token.Word w ∷ ts) = shifted o c ts
 shifted o c (token.Quoted k ∷ ts) = shifted o c ts
-shifted o c (token.Comma ∷ ts) = shifted o c ts
-shifted o c (token.Colon ∷ ts) = shifted o c ts
-shifted o c (token.Equal ∷ ts) = shifted o c ts
-shifted o c (token.Not ∷ ts) = shifted o c ts
-shifted o c (token.Joint j ∷ ts) = shifted o c ts
+shifted o c (token.Mark mark.Comma ∷ ts) = shifted o c ts
+shifted o c (token.Mark mark.Colon ∷ ts) = shifted o c ts
+shifted o c (token.Mark mark.Equal ∷ ts) = shifted o c ts
+shifted o c (token.Mark mark.Not ∷ ts) = shifted o c ts
+shifted o c (token.Mark (mark.Joint j) ∷ ts) = shifted o c ts
 
 -- where so many more may be open, these tokens open and close brackets in pairs
 abbrev pub Balances : ℕ → List Token → Type 0
 Balances d ts = (o c : ℕ) (us : List Token) → o + d ≤ c + most_depth → opens_over o c (ts ++ us) ≡ opens_over o c us
 
 opened : (o c : ℕ) (ts : List Token) → o + 1 ≤ c + most_depth
-    → opens_over o c (token.Open ∷ ts) ≡ opens_over (o + 1) c ts
+    → opens_over o c (token.Mark mark.Open ∷ ts) ≡ opens_over (o + 1) c ts
 unfolding opens_over
 opened o c ts l = let n : nat_lt (c + most_depth) (o + 1) ≡ false = grind (arith) in rw n refl
 
-closed : (o c : ℕ) (us : List Token) → opens_over (o + 1) c (token.Close ∷ us) ≡ opens_over o c us
+closed : (o c : ℕ) (us : List Token) → opens_over (o + 1) c (token.Mark mark.Close ∷ us) ≡ opens_over o c us
 unfolding opens_over
 closed o c us = shifted o c us
 
-joined_on : (j : Joint) (o c : ℕ) (us : List Token) → opens_over o c (token.Joint j ∷ us) ≡ opens_over o c us
+joined_on : (j : Joint) (o c : ℕ) (us : List Token)
+    → opens_over o c (token.Mark (mark.Joint j) ∷ us) ≡ opens_over o c us
 unfolding opens_over
 joined_on j o c us = refl
 
 both_balance : (j : Joint) (d e : ℕ) (l r : List Token) → Balances d l → Balances e r
     → Balances (1 + max d e) (joined_tokens j l r)
 both_balance j d e l r p q o c us b =
-    let left = p (o + 1) c (token.Joint j ∷ (r ++ token.Close ∷ us)) (omega arith) in
-    let right = q (o + 1) c (token.Close ∷ us) (omega arith) in
-    simp append_assoc (opened o c (l ++ token.Joint j ∷ (r ++ token.Close ∷ us)) (omega arith) ∙ left
-    ∙ joined_on j (o + 1) c (r ++ token.Close ∷ us) ∙ right ∙ closed o c us)
+    let left = p (o + 1) c (token.Mark (mark.Joint j) ∷ (r ++ token.Mark mark.Close ∷ us)) (omega arith) in
+    let right = q (o + 1) c (token.Mark mark.Close ∷ us) (omega arith) in
+    simp append_assoc
+    (opened o c (l ++ token.Mark (mark.Joint j) ∷ (r ++ token.Mark mark.Close ∷ us)) (omega arith) ∙ left
+    ∙ joined_on j (o + 1) c (r ++ token.Mark mark.Close ∷ us) ∙ right ∙ closed o c us)
 
 word_on : (w : List ℕ) (o c : ℕ) (us : List Token) → opens_over o c (token.Word w ∷ us) ≡ opens_over o c us
 unfolding opens_over
 word_on w o c us = refl
 
 equal_on : (w k : List ℕ) (o c : ℕ) (us : List Token)
-    → opens_over o c (token.Word w ∷ token.Equal ∷ token.Quoted k ∷ us) ≡ opens_over o c us
+    → opens_over o c (token.Word w ∷ token.Mark mark.Equal ∷ token.Quoted k ∷ us) ≡ opens_over o c us
 unfolding opens_over
 equal_on w k o c us = refl
 
-not_on : (o c : ℕ) (us : List Token) → opens_over o c (token.Not ∷ us) ≡ opens_over o c us
+not_on : (o c : ℕ) (us : List Token) → opens_over o c (token.Mark mark.Not ∷ us) ≡ opens_over o c us
 unfolding opens_over
 not_on o c us = refl
 
-comma_on : (o c : ℕ) (us : List Token) → opens_over o c (token.Comma ∷ us) ≡ opens_over o c us
+comma_on : (o c : ℕ) (us : List Token) → opens_over o c (token.Mark mark.Comma ∷ us) ≡ opens_over o c us
 unfolding opens_over
 comma_on o c us = refl
 
@@ -174,9 +181,10 @@ module _ (g : Graph) (r : ℕ) where
     balances (Meaning.Formula.Xor f h) o c us b =
         both_balance joint.Xor (depth_of f) (depth_of h) (spelt g r f) (spelt g r h) (balances f) (balances h) o c us b
     balances (Meaning.Formula.One fs) o c us b =
-        let list = list_balances fs (o + 1) c (token.Close ∷ us) (omega arith) in
-        simp append_assoc (word_on (codes "one") o c (token.Open ∷ (spelt_list g r fs ++ token.Close ∷ us))
-        ∙ opened o c (spelt_list g r fs ++ token.Close ∷ us) (omega arith) ∙ list ∙ closed o c us)
+        let list = list_balances fs (o + 1) c (token.Mark mark.Close ∷ us) (omega arith) in
+        simp append_assoc
+        (word_on (codes "one") o c (token.Mark mark.Open ∷ (spelt_list g r fs ++ token.Mark mark.Close ∷ us))
+        ∙ opened o c (spelt_list g r fs ++ token.Mark mark.Close ∷ us) (omega arith) ∙ list ∙ closed o c us)
 
     list_balances : (fs : Terms) → Balances (depth_of_terms fs) (spelt_list g r fs)
     list_balances Meaning.Terms.End o c us b = refl

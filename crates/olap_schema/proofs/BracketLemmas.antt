@@ -8,6 +8,7 @@ use Rattle.std.proofs.lemmas.List.Sums.{sum_by-cons}
 use Rattle.olap_base.specs.Limits.{most_depth}
 use Rattle.olap_grammar.specs.declared.tokens.Token.{Token}
 use Rattle.olap_grammar.specs.declared.tokens.Token.TheVariants as token
+use Rattle.olap_grammar.specs.declared.tokens.Mark.TheVariants as mark
 use Rattle.olap_schema.specs.Laws.{OpenBracketsAreCounted}
 use Rattle.olap_grammar.specs.Brackets.{is_close, is_open, opens_over}
 
@@ -36,38 +37,38 @@ passed o c t ts p q f =
 found : (o c : ℕ) (ts : List Token) → opens_over o c ts ≡ true → OpensFrom o c ts
 unfolding opens_over
 found o c [] h = absurd (cc)
-found o c (token.Open ∷ ts) h = go (nat_lt (c + most_depth) (o + 1)) refl h (λ q. found (o + 1) c ts q)
+found o c (token.Mark mark.Open ∷ ts) h = go (nat_lt (c + most_depth) (o + 1)) refl h (λ q. found (o + 1) c ts q)
   where
     go : (b : Bool) → nat_lt (c + most_depth) (o + 1) ≡ b → cond b true (opens_over (o + 1) c ts) ≡ true
-        → (opens_over (o + 1) c ts ≡ true → OpensFrom (o + 1) c ts) → OpensFrom o c (token.Open ∷ ts)
+        → (opens_over (o + 1) c ts ≡ true → OpensFrom (o + 1) c ts) → OpensFrom o c (token.Mark mark.Open ∷ ts)
     go true e q later = (1, let l = ltb-true (c + most_depth) (o + 1) e in omega (arith, l))
     go false e q later =
         let f = later q in (
           suc f.0,
           omega (
             arith,
-            one_more is_open token.Open (take f.0 ts),
-            one_more is_close token.Open (take f.0 ts),
+            one_more is_open (token.Mark mark.Open) (take f.0 ts),
+            one_more is_close (token.Mark mark.Open) (take f.0 ts),
             f.1,
           ),
         )
-found o c (token.Close ∷ ts) h =
+found o c (token.Mark mark.Close ∷ ts) h =
     let f = found o (c + 1) ts h in (
       suc f.0,
       omega (
         arith,
-        one_more is_open token.Close (take f.0 ts),
-        one_more is_close token.Close (take f.0 ts),
+        one_more is_open (token.Mark mark.Close) (take f.0 ts),
+        one_more is_close (token.Mark mark.Close) (take f.0 ts),
         f.1,
       ),
     )
 found o c (token.Word w ∷ ts) h = passed o c (token.Word w) ts refl refl (found o c ts h)
 found o c (token.Quoted k ∷ ts) h = passed o c (token.Quoted k) ts refl refl (found o c ts h)
-found o c (token.Comma ∷ ts) h = passed o c token.Comma ts refl refl (found o c ts h)
-found o c (token.Colon ∷ ts) h = passed o c token.Colon ts refl refl (found o c ts h)
-found o c (token.Equal ∷ ts) h = passed o c token.Equal ts refl refl (found o c ts h)
-found o c (token.Not ∷ ts) h = passed o c token.Not ts refl refl (found o c ts h)
-found o c (token.Joint j ∷ ts) h = passed o c (token.Joint j) ts refl refl (found o c ts h)
+found o c (token.Mark mark.Comma ∷ ts) h = passed o c (token.Mark mark.Comma) ts refl refl (found o c ts h)
+found o c (token.Mark mark.Colon ∷ ts) h = passed o c (token.Mark mark.Colon) ts refl refl (found o c ts h)
+found o c (token.Mark mark.Equal ∷ ts) h = passed o c (token.Mark mark.Equal) ts refl refl (found o c ts h)
+found o c (token.Mark mark.Not ∷ ts) h = passed o c (token.Mark mark.Not) ts refl refl (found o c ts h)
+found o c (token.Mark (mark.Joint j) ∷ ts) h = passed o c (token.Mark (mark.Joint j)) ts refl refl (found o c ts h)
 
 -- the beginning with so many tokens opens too many
 abbrev OpensAt : ℕ → ℕ → ℕ → List Token → Type 0
@@ -83,25 +84,42 @@ counted : (k o c : ℕ) (ts : List Token) → o ≤ c + most_depth → OpensAt k
 unfolding opens_over
 counted zero o c ts l h = absurd (omega (arith, l, h))
 counted (suc k) o c [] l h = absurd (omega (arith, l, h))
-counted (suc k) o c (token.Open ∷ ts) l h =
+counted (suc k) o c (token.Mark mark.Open ∷ ts) l h =
     go (nat_lt (c + most_depth) (o + 1)) refl
     (λ m. counted k (o + 1) c ts m
-    (omega (arith, one_more is_open token.Open (take k ts), one_more is_close token.Open (take k ts), h)))
+    (omega (
+      arith,
+      one_more is_open (token.Mark mark.Open) (take k ts),
+      one_more is_close (token.Mark mark.Open)
+          (take k ts),
+      h,
+    )))
   where
     go : (b : Bool) → nat_lt (c + most_depth) (o + 1) ≡ b
         → (o + 1 ≤ c + most_depth → opens_over (o + 1) c ts ≡ true) → cond b true (opens_over (o + 1) c ts) ≡ true
     go true e later = refl
     go false e later = later (ltb-false (c + most_depth) (o + 1) e)
-counted (suc k) o c (token.Close ∷ ts) l h =
+counted (suc k) o c (token.Mark mark.Close ∷ ts) l h =
     counted k o (c + 1) ts (omega (arith, l))
-    (omega (arith, one_more is_open token.Close (take k ts), one_more is_close token.Close (take k ts), h))
+    (omega (
+      arith,
+      one_more is_open (token.Mark mark.Close) (take k ts),
+      one_more is_close (token.Mark mark.Close)
+          (take k ts),
+      h,
+    ))
 counted (suc k) o c (token.Word w ∷ ts) l h = counted k o c ts l (left k o c (token.Word w) ts refl refl h)
 counted (suc k) o c (token.Quoted x ∷ ts) l h = counted k o c ts l (left k o c (token.Quoted x) ts refl refl h)
-counted (suc k) o c (token.Comma ∷ ts) l h = counted k o c ts l (left k o c token.Comma ts refl refl h)
-counted (suc k) o c (token.Colon ∷ ts) l h = counted k o c ts l (left k o c token.Colon ts refl refl h)
-counted (suc k) o c (token.Equal ∷ ts) l h = counted k o c ts l (left k o c token.Equal ts refl refl h)
-counted (suc k) o c (token.Not ∷ ts) l h = counted k o c ts l (left k o c token.Not ts refl refl h)
-counted (suc k) o c (token.Joint j ∷ ts) l h = counted k o c ts l (left k o c (token.Joint j) ts refl refl h)
+counted (suc k) o c (token.Mark mark.Comma ∷ ts) l h =
+    counted k o c ts l (left k o c (token.Mark mark.Comma) ts refl refl h)
+counted (suc k) o c (token.Mark mark.Colon ∷ ts) l h =
+    counted k o c ts l (left k o c (token.Mark mark.Colon) ts refl refl h)
+counted (suc k) o c (token.Mark mark.Equal ∷ ts) l h =
+    counted k o c ts l (left k o c (token.Mark mark.Equal) ts refl refl h)
+counted (suc k) o c (token.Mark mark.Not ∷ ts) l h =
+    counted k o c ts l (left k o c (token.Mark mark.Not) ts refl refl h)
+counted (suc k) o c (token.Mark (mark.Joint j) ∷ ts) l h =
+    counted k o c ts l (left k o c (token.Mark (mark.Joint j)) ts refl refl h)
 
 -- the law
 pub brackets_counted : OpenBracketsAreCounted

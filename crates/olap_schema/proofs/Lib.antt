@@ -4,6 +4,7 @@ pub mod PairCounting
 pub mod WithoutLemmas
 mod BracketLemmas
 mod LineLemmas
+mod StatementLemmas
 mod LongLines
 mod RepeatLemmas
 mod PairLemmas

@@ -8,10 +8,11 @@ use Rattle.olap_graph.specs.Lookups.{name_of_category}
 use Rattle.olap_ast.specs.Formula as Meaning
 use Rattle.olap_ast.specs.Formula.{Formula, Terms}
 use Rattle.olap_ast.specs.Valid.{AreFormulasAt, IsFormulaAt}
-use Rattle.olap_grammar.specs.Cutting.{AreWordBytes, EndsWord, is_word_byte, joint_bytes, Spells, nothing, quote, backslash, other, IsCut, blank, word, quoted, mark}
+use Rattle.olap_grammar.specs.Cutting.{AreWordBytes, EndsWord, is_word_byte, joint_bytes, Spells, nothing, quote, backslash, other, IsCut, blank, word, quoted, marked}
 use Rattle.olap_grammar.specs.Quoting.{escaped}
 use Rattle.olap_grammar.specs.declared.tokens.Token.{Token}
 use Rattle.olap_grammar.specs.declared.tokens.Token.TheVariants as token
+use Rattle.olap_grammar.specs.declared.tokens.Mark.TheVariants as mark
 use Rattle.olap_grammar.specs.declared.tokens.Joint.{Joint}
 use Rattle.olap_grammar.specs.declared.tokens.Joint.TheVariants as joint
 use Rattle.olap_schema.specs.Printing.{atom_word, compared_word, formula_text, joined_text, list_text, names_after, rest_text}
@@ -96,8 +97,8 @@ escaped_spells (b ∷ k) = go (b == 34) (b == 92) refl refl (escaped_spells k)
     go false false e f d = other e f d
 
 cut_quoted : (k bs : List ℕ) (ts : List Token) → IsCut bs ts
-    → IsCut (32 ∷ 61 ∷ 32 ∷ 34 ∷ (escaped k ++ 34 ∷ bs)) (token.Equal ∷ token.Quoted k ∷ ts)
-cut_quoted k bs ts d = blank (mark token.Equal tt (blank (quoted (escaped_spells k) d)))
+    → IsCut (32 ∷ 61 ∷ 32 ∷ 34 ∷ (escaped k ++ 34 ∷ bs)) (token.Mark mark.Equal ∷ token.Quoted k ∷ ts)
+cut_quoted k bs ts d = blank (marked mark.Equal (blank (quoted (escaped_spells k) d)))
 
 -- ---- formulas
 
@@ -108,9 +109,10 @@ Cuts text ts = (bs : List ℕ) (us : List Token) → EndsWord bs → IsCut bs us
 joined_cut : (j : Joint) (x y : List ℕ) (l r : List Token) → Cuts x l → Cuts y r
     → Cuts (joined_text j x y) (joined_tokens j l r)
 joined_cut j x y l r c d bs us n e =
-    let inner = c (32 ∷ (joint_bytes j ++ 32 ∷ (y ++ 41 ∷ bs))) (token.Joint j ∷ (r ++ token.Close ∷ us)) refl
-    (blank (mark (token.Joint j) tt (blank (d (41 ∷ bs) (token.Close ∷ us) refl (mark token.Close tt e))))) in
-    simp append_assoc (mark token.Open tt inner)
+    let inner =
+    c (32 ∷ (joint_bytes j ++ 32 ∷ (y ++ 41 ∷ bs))) (token.Mark (mark.Joint j) ∷ (r ++ token.Mark mark.Close ∷ us)) refl
+    (blank (marked (mark.Joint j) (blank (d (41 ∷ bs) (token.Mark mark.Close ∷ us) refl (marked mark.Close e))))) in
+    simp append_assoc (marked mark.Open inner)
 
 rest_ends : (g : Graph) (r : ℕ) (fs : Terms) (bs : List ℕ) → EndsWord bs → EndsWord (rest_text g r fs ++ bs)
 rest_ends g r Meaning.Terms.End bs n = n
@@ -130,7 +132,7 @@ module _ (g : Graph) (h : IsHierarchy g) (r : ℕ) (l : IsCategory g r) where
         cut_word (atom_is_word g h r 46 refl (d ∷ c ∷ []) l (v.0, (v.1, tt))) n e
     text_is_cut (Meaning.Formula.Equals d k) v bs us n e =
         simp append_assoc (cut_word (compared_is_word g h r d l v.0) refl (cut_quoted k bs us e))
-    text_is_cut (Meaning.Formula.Not f) v bs us n e = mark token.Not tt (text_is_cut f v bs us n e)
+    text_is_cut (Meaning.Formula.Not f) v bs us n e = marked mark.Not (text_is_cut f v bs us n e)
     text_is_cut (Meaning.Formula.And f k) v bs us n e =
         joined_cut joint.And (formula_text g r f) (formula_text g r k) (spelt g r f) (spelt g r k) (text_is_cut f v.0)
         (text_is_cut k v.1) bs us n e
@@ -148,7 +150,7 @@ module _ (g : Graph) (h : IsHierarchy g) (r : ℕ) (l : IsCategory g r) where
         (text_is_cut k v.1) bs us n e
     text_is_cut (Meaning.Formula.One fs) v bs us n e =
         simp append_assoc (word 111 (110 ∷ 101 ∷ []) (refl, (refl, (refl, tt))) refl
-        (mark token.Open tt (list_is_cut fs v (41 ∷ bs) (token.Close ∷ us) refl (mark token.Close tt e))))
+        (marked mark.Open (list_is_cut fs v (41 ∷ bs) (token.Mark mark.Close ∷ us) refl (marked mark.Close e))))
 
     list_is_cut : (fs : Terms) → AreFormulasAt g r fs → Cuts (list_text g r fs) (spelt_list g r fs)
     list_is_cut Meaning.Terms.End v bs us n e = e
@@ -159,6 +161,6 @@ module _ (g : Graph) (h : IsHierarchy g) (r : ℕ) (l : IsCategory g r) where
     rest_is_cut : (fs : Terms) → AreFormulasAt g r fs → Cuts (rest_text g r fs) (spelt_rest g r fs)
     rest_is_cut Meaning.Terms.End v bs us n e = e
     rest_is_cut (Meaning.Terms.More f fs) v bs us n e =
-        simp append_assoc (mark token.Comma tt
+        simp append_assoc (marked mark.Comma
         (blank (text_is_cut f v.0 (rest_text g r fs ++ bs) (spelt_rest g r fs ++ us) (rest_ends g r fs bs n)
         (rest_is_cut fs v.1 bs us n e))))

@@ -8,6 +8,7 @@ use Rattle.olap_grammar.specs.Grammar.{Atoms, level, left_level, right_level, jo
 use Rattle.olap_grammar.specs.Words.{atoms_of, plain_of}
 use Rattle.olap_grammar.specs.declared.tokens.Token.{Token}
 use Rattle.olap_grammar.specs.declared.tokens.Token.TheVariants as token
+use Rattle.olap_grammar.specs.declared.tokens.Mark.TheVariants as mark
 use Rattle.olap_grammar.specs.declared.tokens.Joint.{Joint}
 use Rattle.olap_grammar.specs.declared.tokens.Joint.TheVariants as joint
 use Rattle.olap_grammar.proofs.Levels.{row}
@@ -21,14 +22,15 @@ spelt_join : (a : Atoms Formula) (j : Joint) (l r : List Token) (f g : Formula) 
 spelt_join a j l r f g d e =
     let both = joined j (tighter (left_level j) 6 (row j).left_most d)
     (tighter (right_level j) 6 (row j).right_most e) in
-    let e : (l ++ token.Joint j ∷ r) ++ token.Close ∷ [] ≡ l ++ token.Joint j ∷ (r ++ token.Close ∷ []) =
+    let e : (l ++ token.Mark (mark.Joint j) ∷ r) ++ token.Mark mark.Close ∷ [] ≡ l ++ token.Mark (mark.Joint j) ∷
+    (r ++ token.Mark mark.Close ∷ []) =
     simp append_assoc in
     looser (rw e at (bracketed (tighter 1 (level j) (row j).some both)))
 
 -- what follows a part of a list
 data IsRest (a : Atoms Formula) : List Token → Terms → Type 0 where
   over : IsRest a [] Meaning.Terms.End
-  goes : {us : List Token} {fs : Terms} → IsItems a us fs → IsRest a (token.Comma ∷ us) fs
+  goes : {us : List Token} {fs : Terms} → IsItems a us fs → IsRest a (token.Mark mark.Comma ∷ us) fs
 
 spelt_items : (a : Atoms Formula) (us vs : List Token) (f : Formula) (fs : Terms) → IsFormula a 6 us f
     → IsRest a vs fs → IsItems a (us ++ vs) (Meaning.Terms.More f fs)

@@ -16,13 +16,17 @@ use Rattle.olap_graph.specs.declared.refusals.CategoryRefusal.{CategoryRefusal}
 use Rattle.olap_graph.specs.declared.refusals.EdgeRefusal.{EdgeRefusal}
 use Rattle.olap_grammar.specs.CuttingMachine.{tokens_of}
 use Rattle.olap_grammar.specs.declared.tokens.Token.{Token}
+use Rattle.olap_grammar.specs.declared.tokens.Token.TheVariants as token
+use Rattle.olap_grammar.specs.declared.tokens.Mark.TheVariants as mark
 use Rattle.olap_schema.specs.Atoms.{atom_fault}
-use Rattle.olap_schema.specs.Judging.{Above, atoms_read, category_added, category_read, constraint_read, edge_added, edge_read, ends_read, first_read, form_read, formed_read, line_read, lines_on, root_read, statement_read, tokens_read}
+use Rattle.olap_schema.specs.Judging.{Above, atoms_read, category_added, category_read, constraint_read, edge_added, edge_read, ends_read, form_read, formed_read, line_read, lines_on, root_read, statement_read, tokens_read}
 use Rattle.olap_schema.specs.Lines.{is_bad, chomped, is_quiet}
-use Rattle.olap_schema.specs.Statements.{Statement, Statement.Version, Statement.Category, Statement.Edge, Statement.Constraint, Statement.Other, is_category, is_constraint, is_edge, is_version, statement_of, word_at}
+use Rattle.olap_schema.specs.Statements.{Statement, Statement.Version, Statement.Category, Statement.Edge, Statement.Constraint, Statement.Other, statement_of}
 use Rattle.olap_schema.specs.Tokens.{is_long, token_nodes}
 use Rattle.olap_schema.specs.declared.kinds.SchemaKind.{SchemaKind}
 use Rattle.olap_schema.specs.declared.kinds.SchemaKind.TheVariants as kind
+use Rattle.olap_schema.specs.declared.statements.Version.{Version as TextVersion}
+use Rattle.olap_schema.proofs.StatementLemmas.{IsSaid, is_said}
 use Rattle.olap_schema.proofs.ValidTexts.{AreFine, drop_fine, line_is_fine}
 
 -- a category of this name is added
@@ -57,7 +61,7 @@ pub record AddsConstraint (a b : Above) (name : List ℕ) (ts : List Token) (f :
 -- the ways in which a line goes on
 pub data Step (a b : Above) : Type 0 where
   quiet : b ≡ a → Step a b
-  version : b ≡ record a { versioned = true } → Step a b
+  version : (v : TextVersion) → b ≡ record a { version = Some v } → Step a b
   category : (n : ℕ) (name : List ℕ) → is_category_name name ≡ true → AddsCategory a b n name → Step a b
   edge : (child parent : List ℕ) (c d : ℕ) → AddsEdge a b child parent c d → Step a b
   constraint : (name : List ℕ) (ts : List Token) (f : Formula) (root : ℕ) → AddsConstraint a b name ts f root → Step a b
@@ -74,11 +78,6 @@ ok_is a b h = cc
 neither : (b c : Bool) → b || c ≡ false → c ≡ false
 neither true c h = absurd (cc)
 neither false c h = h
-
-last_true : (b c d : Bool) → b && c && d ≡ true → d ≡ true
-last_true false c d h = absurd (cc)
-last_true true false d h = absurd (cc)
-last_true true true d h = h
 
 category_step : (a b : Above) (n : ℕ) (name : List ℕ) → category_read a n name ≡ Ok b → AddsCategory a b n name
 category_step a b n name h = go (category_refusal a.graph name) refl t.1
@@ -152,97 +151,36 @@ constraint_step a b name ts fine h = formed (form_read a.graph a.nodes ts) refl 
         (category_named a.graph name) refl t.1 in
         (f, r.0, r.1)
 
--- a name behind `category` is a category name
-named : (ts : List Token) (name : List ℕ) → statement_of ts ≡ Category name → is_category_name name ≡ true
-unfolding statement_of
-named ts name e = version (is_version ts) e
-  where
-    constraint : (c : Bool) → cond c (Constraint (word_at ts 1) (drop 3 ts)) Other ≡ Category name
-        → is_category_name name ≡ true
-    constraint true h = absurd (cc)
-    constraint false h = absurd (cc)
-
-    edge : (c : Bool)
-        → cond c (Edge (word_at ts 1) (word_at ts 2))
-        (cond (nat_le 3 (length ts) && is_constraint ts) (Constraint (word_at ts 1) (drop 3 ts)) Other)
-        ≡ Category name → is_category_name name ≡ true
-    edge true h = absurd (cc)
-    edge false h = constraint (nat_le 3 (length ts) && is_constraint ts) h
-
-    category : (c : Bool) → is_category ts ≡ c
-        → cond c (Category (word_at ts 1)) (cond (is_edge ts) (Edge (word_at ts 1) (word_at ts 2))
-        (cond (nat_le 3 (length ts) && is_constraint ts)
-        (Constraint (word_at ts 1) (drop 3 ts)) Other)) ≡ Category name → is_category_name name ≡ true
-    category true k h =
-        let same : word_at ts 1 ≡ name = cc in
-        subst (λ w. is_category_name w ≡ true) same
-        (last_true (length ts == 2) (bytes_eq (word_at ts 0) (codes "category"))
-        (is_category_name (word_at ts 1)) k)
-    category false k h = edge (is_edge ts) h
-
-    version : (c : Bool)
-        → cond c Version
-        (cond (is_category ts) (Category (word_at ts 1)) (cond (is_edge ts) (Edge (word_at ts 1) (word_at ts 2))
-        (cond (nat_le 3 (length ts) && is_constraint ts)
-        (Constraint (word_at ts 1) (drop 3 ts)) Other))) ≡ Category name → is_category_name name ≡ true
-    version true h = absurd (cc)
-    version false h = category (is_category ts) refl h
-
--- the tokens behind the colon are tokens of the line
+-- the tokens of a constraint's formula are tokens of the line
 formula_fine : (ts : List Token) (root : List ℕ) (us : List Token) → statement_of ts ≡ Constraint root us → AreFine ts
     → AreFine us
-unfolding statement_of
-formula_fine ts root us e fine = version (is_version ts) e
-  where
-    constraint : (c : Bool) → cond c (Constraint (word_at ts 1) (drop 3 ts)) Other ≡ Constraint root us → AreFine us
-    constraint true h = let same : drop 3 ts ≡ us = cc in subst AreFine same (drop_fine 3 ts fine)
-    constraint false h = absurd (cc)
+formula_fine ts root us e fine =
+    let said : IsSaid ts (Constraint root us) = subst (IsSaid ts) e (is_said ts) in
+    drop_fine 3 (token.Word said.0 ∷ token.Word root ∷ token.Mark mark.Colon ∷ us) (subst AreFine said.1 fine)
 
-    edge : (c : Bool) → cond c (Edge (word_at ts 1) (word_at ts 2))
-        (cond (nat_le 3 (length ts) && is_constraint ts)
-        (Constraint (word_at ts 1) (drop 3 ts)) Other) ≡ Constraint root us → AreFine us
-    edge true h = absurd (cc)
-    edge false h = constraint (nat_le 3 (length ts) && is_constraint ts) h
-
-    category : (c : Bool) → cond c (Category (word_at ts 1)) (cond (is_edge ts) (Edge (word_at ts 1) (word_at ts 2))
-        (cond (nat_le 3 (length ts) && is_constraint ts)
-        (Constraint (word_at ts 1) (drop 3 ts)) Other)) ≡ Constraint root us → AreFine us
-    category true h = absurd (cc)
-    category false h = edge (is_edge ts) h
-
-    version : (c : Bool)
-        → cond c Version
-        (cond (is_category ts) (Category (word_at ts 1)) (cond (is_edge ts) (Edge (word_at ts 1) (word_at ts 2))
-        (cond (nat_le 3 (length ts) && is_constraint ts)
-        (Constraint (word_at ts 1) (drop 3 ts)) Other))) ≡ Constraint root us → AreFine us
-    version true h = absurd (cc)
-    version false h = category (is_category ts) h
-
-statement_step : (a b : Above) (n : ℕ) (s : Statement)
+statement_step : (a b : Above) (n : ℕ) (v : Option TextVersion) (s : Statement)
     → ((name : List ℕ) → s ≡ Category name → is_category_name name ≡ true)
-    → ((root : List ℕ) (ts : List Token) → s ≡ Constraint root ts → AreFine ts) → statement_read a n s ≡ Ok b → Step a b
-statement_step a b n Version m fine h = absurd (cc)
-statement_step a b n (Category name) m fine h = category n name (m name refl) (category_step a b n name h)
-statement_step a b n (Edge child parent) m fine h = let t = edge_step a b child parent h in
-    edge child parent t.0 t.1 t.2
-statement_step a b n (Constraint root ts) m fine h = let t = constraint_step a b root ts (fine root ts refl) h in
-    constraint root ts t.0 t.1 t.2
-statement_step a b n Other m fine h = absurd (cc)
+    → ((root : List ℕ) (ts : List Token) → s ≡ Constraint root ts → AreFine ts)
+    → statement_read a n v s ≡ Ok b → Step a b
+statement_step a b n None (Version u) m fine h = version u (ok_is _ _ h)
+statement_step a b n None (Category name) m fine h = absurd (cc)
+statement_step a b n None (Edge child parent) m fine h = absurd (cc)
+statement_step a b n None (Constraint root ts) m fine h = absurd (cc)
+statement_step a b n None Other m fine h = absurd (cc)
+statement_step a b n (Some v) (Version u) m fine h = absurd (cc)
+statement_step a b n (Some v) (Category name) m fine h = category n name (m name refl) (category_step a b n name h)
+statement_step a b n (Some v) (Edge child parent) m fine h =
+    let t = edge_step a b child parent h in edge child parent t.0 t.1 t.2
+statement_step a b n (Some v) (Constraint root ts) m fine h =
+    let t = constraint_step a b root ts (fine root ts refl) h in constraint root ts t.0 t.1 t.2
+statement_step a b n (Some v) Other m fine h = absurd (cc)
 
 tokens_step : (a b : Above) (n : ℕ) (o : Option (List Token)) → ((ts : List Token) → o ≡ Some ts → AreFine ts)
     → tokens_read a n o ≡ Ok b → Step a b
 tokens_step a b n None fine h = absurd (cc)
-tokens_step a b n (Some ts) fine h = go a.versioned h
-  where
-    first : (c : Bool) → cond c (Ok (record a { versioned = true })) (Err kind.BadForm) ≡ Ok b → Step a b
-    first true h = version (ok_is _ _ h)
-    first false h = absurd (cc)
-
-    go : (c : Bool) → cond c (statement_read a n (statement_of ts)) (first_read a ts) ≡ Ok b → Step a b
-    go true h =
-        statement_step a b n (statement_of ts) (λ name e. named ts name e)
-        (λ root us e. formula_fine ts root us e (fine ts refl)) h
-    go false h = first (is_version ts) h
+tokens_step a b n (Some ts) fine h =
+    statement_step a b n a.version (statement_of ts) (λ name e. subst (IsSaid ts) e (is_said ts))
+    (λ root us e. formula_fine ts root us e (fine ts refl)) h
 
 -- a line without a fault goes on in one of the ways
 pub stepped : (a b : Above) (n : ℕ) (line : List ℕ) → line_read a n line ≡ Ok b → Step a b

@@ -20,6 +20,7 @@ use Rattle.olap_grammar.specs.declared.tokens.Joint.{Joint}
 use Rattle.olap_grammar.specs.declared.tokens.Joint.TheVariants as joint
 use Rattle.olap_grammar.specs.declared.tokens.Token.{Token}
 use Rattle.olap_grammar.specs.declared.tokens.Token.TheVariants as token
+use Rattle.olap_grammar.specs.declared.tokens.Mark.TheVariants as mark
 use Rattle.olap_schema.specs.Atoms.{atom_fault, or_later, token_fault}
 use Rattle.olap_schema.specs.Tokens.{is_long, is_node, token_nodes}
 use Rattle.olap_schema.specs.declared.kinds.SchemaKind.{SchemaKind}
@@ -82,26 +83,29 @@ module _ (g : Graph) (root : List ℕ) (c : ℕ) (root_is : category_named g roo
         → AreFaultless g root ts → IsFormulaAt g c f
     formula_is_valid (looser d) h = formula_is_valid d h
     formula_is_valid (joined j {left = left} {right = right} {f = f} {g = k} d e) h =
-        let t = parts_faultless g root left (token.Joint j ∷ right) h in
+        let t = parts_faultless g root left (token.Mark (mark.Joint j) ∷ right) h in
         join_is_valid g c j f k (formula_is_valid d t.0)
-        (formula_is_valid e (others_faultless g root (token.Joint j) right t.1))
-    formula_is_valid (negated {ts = ts} d) h = formula_is_valid d (others_faultless g root token.Not ts h)
+        (formula_is_valid e (others_faultless g root (token.Mark (mark.Joint j)) right t.1))
+    formula_is_valid (negated {ts = ts} d) h = formula_is_valid d (others_faultless g root (token.Mark mark.Not) ts h)
     formula_is_valid (bracketed {ts = ts} d) h =
         formula_is_valid d
-        (parts_faultless g root ts (token.Close ∷ [])
-        (others_faultless g root token.Open (ts ++ token.Close ∷ []) h)).0
+        (parts_faultless g root ts (token.Mark mark.Close ∷ [])
+        (others_faultless g root (token.Mark mark.Open) (ts ++ token.Mark mark.Close ∷ []) h)).0
     formula_is_valid (listed {ts = ts} d) h =
-        let rest = others_faultless g root (token.Word (codes "one")) (token.Open ∷ (ts ++ token.Close ∷ [])) h in
+        let rest =
+        others_faultless g root (token.Word (codes "one"))
+        (token.Mark mark.Open ∷ (ts ++ token.Mark mark.Close ∷ [])) h in
         list_is_valid d
-        (parts_faultless g root ts (token.Close ∷ [])
-        (others_faultless g root token.Open (ts ++ token.Close ∷ []) rest)).0
+        (parts_faultless g root ts (token.Mark mark.Close ∷ [])
+        (others_faultless g root (token.Mark mark.Open) (ts ++ token.Mark mark.Close ∷ []) rest)).0
     formula_is_valid (plain {w = w} {f = f} e) h =
         plain_is_valid g root c w f root_is (first_faultless g root (token.Word w) [] h).0 e
     formula_is_valid (equal {w = w} {k = k} {f = f} e) h =
         let rest =
-        others_faultless g root token.Equal (token.Quoted k ∷ [])
-        (others_faultless g root (token.Word w) (token.Equal ∷ token.Quoted k ∷ []) h) in
-        equal_is_valid g root c w k f (first_faultless g root (token.Word w) (token.Equal ∷ token.Quoted k ∷ []) h).0
+        others_faultless g root (token.Mark mark.Equal) (token.Quoted k ∷ [])
+        (others_faultless g root (token.Word w) (token.Mark mark.Equal ∷ token.Quoted k ∷ []) h) in
+        equal_is_valid g root c w k f
+        (first_faultless g root (token.Word w) (token.Mark mark.Equal ∷ token.Quoted k ∷ []) h).0
         (short_constant k (first_faultless g root (token.Quoted k) [] rest).1) e
 
     list_is_valid : {ts : List Token} {fs : Terms} → IsList (atoms_of g) ts fs → AreFaultless g root ts
@@ -113,8 +117,8 @@ module _ (g : Graph) (root : List ℕ) (c : ℕ) (root_is : category_named g roo
         → AreFormulasAt g c fs
     items_are_valid (last d) h = (formula_is_valid d h, tt)
     items_are_valid (more {ts = ts} {us = us} d e) h =
-        let t = parts_faultless g root ts (token.Comma ∷ us) h in
-        (formula_is_valid d t.0, items_are_valid e (others_faultless g root token.Comma us t.1))
+        let t = parts_faultless g root ts (token.Mark mark.Comma ∷ us) h in
+        (formula_is_valid d t.0, items_are_valid e (others_faultless g root (token.Mark mark.Comma) us t.1))
 
 -- ---- nodes
 
@@ -164,13 +168,13 @@ join_nodes joint.Or f g = refl
 join_nodes joint.And f g = refl
 
 -- brackets are no nodes
-closed : (ts : List Token) → token_nodes ts ≡ token_nodes (token.Open ∷ (ts ++ token.Close ∷ []))
+closed : (ts : List Token) → token_nodes ts ≡ token_nodes (token.Mark mark.Open ∷ (ts ++ token.Mark mark.Close ∷ []))
 closed ts =
     omega (
       arith,
-      nodes-cons token.Open (ts ++ token.Close ∷ []),
-      nodes-append ts (token.Close ∷ []),
-      nodes-cons token.Close [],
+      nodes-cons (token.Mark mark.Open) (ts ++ token.Mark mark.Close ∷ []),
+      nodes-append ts (token.Mark mark.Close ∷ []),
+      nodes-cons (token.Mark mark.Close) [],
     )
 
 module _ (a : Atoms Formula) (leaves : AreLeaves a) where
@@ -184,16 +188,16 @@ module _ (a : Atoms Formula) (leaves : AreLeaves a) where
           join_nodes j f g,
           formula_nodes d,
           formula_nodes e,
-          nodes-append left (token.Joint j ∷ right),
-          nodes-cons (token.Joint j) right,
+          nodes-append left (token.Mark (mark.Joint j) ∷ right),
+          nodes-cons (token.Mark (mark.Joint j)) right,
         )
-    formula_nodes (negated {ts = ts} d) = omega (arith, formula_nodes d, nodes-cons token.Not ts)
+    formula_nodes (negated {ts = ts} d) = omega (arith, formula_nodes d, nodes-cons (token.Mark mark.Not) ts)
     formula_nodes (bracketed {ts = ts} d) = formula_nodes d ∙ closed ts
     formula_nodes (listed {ts = ts} d) =
         omega (
           arith,
           list_nodes d,
-          nodes-cons (token.Word (codes "one")) (token.Open ∷ (ts ++ token.Close ∷ [])),
+          nodes-cons (token.Word (codes "one")) (token.Mark mark.Open ∷ (ts ++ token.Mark mark.Close ∷ [])),
           closed ts,
         )
     formula_nodes (plain {w = w} {f = f} e) = leaf_nodes f (leaves.plain w f e) ∙ sym (nodes-cons (token.Word w) [])
@@ -201,8 +205,8 @@ module _ (a : Atoms Formula) (leaves : AreLeaves a) where
         omega (
           arith,
           leaf_nodes f (leaves.equal w k f e),
-          nodes-cons (token.Word w) (token.Equal ∷ token.Quoted k ∷ []),
-          nodes-cons token.Equal (token.Quoted k ∷ []),
+          nodes-cons (token.Word w) (token.Mark mark.Equal ∷ token.Quoted k ∷ []),
+          nodes-cons (token.Mark mark.Equal) (token.Quoted k ∷ []),
           nodes-cons (token.Quoted k) [],
         )
 
@@ -213,7 +217,14 @@ module _ (a : Atoms Formula) (leaves : AreLeaves a) where
     items_nodes : {ts : List Token} {fs : Terms} → IsItems a ts fs → node_count_of_terms fs ≡ token_nodes ts
     items_nodes (last d) = omega (arith, formula_nodes d)
     items_nodes (more {ts = ts} {us = us} d e) =
-        omega (arith, formula_nodes d, items_nodes e, nodes-append ts (token.Comma ∷ us), nodes-cons token.Comma us)
+        omega (
+          arith,
+          formula_nodes d,
+          items_nodes e,
+          nodes-append ts (token.Mark mark.Comma ∷ us),
+          nodes-cons
+              (token.Mark mark.Comma) us,
+        )
 
 -- ---- a larger graph
 

@@ -2,7 +2,7 @@
 --     sound_kept          a line without a fault keeps what holds of those above it
 --     read_is_readable    what all lines say is so, if each category reaches `All`
 use Rattle.std.proofs.Common.{◌≡◌, ℕ, zero, suc, Bool, true, false, not, cond, List, [], ◌∷◌, Option, Some, None, Ok, Err, length, refl, sym, arith, subst, inl, inr}
-use Rattle.std.specs.Prelude.{Contains, find, flat_map}
+use Rattle.std.specs.Prelude.{Contains, find, flat_map, is_some}
 use Rattle.std.specs.List.{range_with_len}
 use Rattle.olap_ast.specs.Formula.{equalities}
 use Rattle.olap_ast.specs.Valid.{IsValidSchema}
@@ -25,7 +25,7 @@ use Rattle.olap_schema.proofs.ValidSteps.{IsSoundSoFar, category_kept, constrain
 -- a line without a fault keeps it
 sound_kept : (a b : Above) → Step a b → IsSoundSoFar a → IsSoundSoFar b
 sound_kept a b (quiet e) p = subst IsSoundSoFar (sym e) p
-sound_kept a b (version e) p =
+sound_kept a b (version v e) p =
     subst IsSoundSoFar (sym e) (record { unfinished = p.unfinished; limits = p.limits; constraints = p.constraints })
 sound_kept a b (category n name h s) p = category_kept a b n name h s p
 sound_kept a b (edge child parent c d s) p = edge_kept a b child parent c d s p
@@ -102,7 +102,7 @@ whole_is_readable a p s h = go (first_stuck a.graph) refl h
 
 ended_is_readable : (r : Read) → ((a : Above) → r ≡ Ok a → IsSoundSoFar a) → GivesReadable (text_ended r)
 ended_is_readable (Err e) p s h = absurd (cc)
-ended_is_readable (Ok a) p s h = go a.versioned h
+ended_is_readable (Ok a) p s h = go (is_some a.version) h
   where
     go : (b : Bool) → cond b (whole a (first_stuck a.graph)) (Err (record { at = 1; kind = kind.BadForm })) ≡ Ok s
         → IsReadable s
@@ -121,11 +121,11 @@ read_is_valid text s e = (read_is_readable text s e).valid
 -- ---- in the words of the code
 
 -- where all lines were read, the first of them the version, what they say is valid
-pub rest_is_readable : (r : Read) (a : Above) → r ≡ Ok a → a.versioned ≡ true → GivesReadable (text_ended r)
+pub rest_is_readable : (r : Read) (a : Above) → r ≡ Ok a → is_some a.version ≡ true → GivesReadable (text_ended r)
     → GivesReadable (whole a (first_stuck a.graph))
 rest_is_readable r a e v p =
     let known : GivesReadable (text_ended (Ok a)) = subst (λ x. GivesReadable (text_ended x)) e p in
-    go a.versioned v known
+    go (is_some a.version) v known
   where
     go : (b : Bool) → b ≡ true
         → GivesReadable (cond b (whole a (first_stuck a.graph)) (Err (record { at = 1; kind = kind.BadForm })))

@@ -20,7 +20,7 @@ use Rattle.olap_base.specs.Deciding.{contains_cases, contains_cons}
 use Rattle.olap_base.specs.Reaching.{is_category_name}
 use Rattle.olap_base.specs.Graph.{Graph}
 use Rattle.olap_base.proofs.ListLemmas.{Contains-nil, contains_head}
-use Rattle.olap_grammar.specs.Cutting.{AreWordBytes, IsCut, IsCut.end, IsCut.blank, IsCut.tab, IsCut.word, IsCut.quoted, IsCut.mark, IsMark, Spells, Spells.nothing, Spells.quote, Spells.backslash, Spells.other, is_word_byte, joint_bytes, mark_bytes}
+use Rattle.olap_grammar.specs.Cutting.{AreWordBytes, IsCut, IsCut.end, IsCut.blank, IsCut.tab, IsCut.word, IsCut.quoted, IsCut.marked, Spells, Spells.nothing, Spells.quote, Spells.backslash, Spells.other, is_word_byte, joint_bytes, mark_bytes}
 use Rattle.olap_grammar.specs.CuttingMachine.{tokens_of}
 use Rattle.olap_grammar.specs.Grammar.{IsFormula, IsFormula.looser, IsFormula.joined, IsFormula.negated, IsFormula.bracketed, IsFormula.listed, IsFormula.plain, IsFormula.equal, IsItems, IsItems.last, IsItems.more, IsList, IsList.none, IsList.some, join}
 use Rattle.olap_grammar.specs.Words.{atoms_of, equal_of, equality_of, id_of, path_of, pieces_of, plain_of, reach_of}
@@ -28,6 +28,8 @@ use Rattle.olap_grammar.specs.declared.tokens.Joint.{Joint}
 use Rattle.olap_grammar.specs.declared.tokens.Joint.TheVariants as joint
 use Rattle.olap_grammar.specs.declared.tokens.Token.{Token}
 use Rattle.olap_grammar.specs.declared.tokens.Token.TheVariants as token
+use Rattle.olap_grammar.specs.declared.tokens.Mark.{Mark}
+use Rattle.olap_grammar.specs.declared.tokens.Mark.TheVariants as mark
 use Rattle.olap_grammar.proofs.CutSound.{found_is_cut}
 use Rattle.olap_schema.specs.Lines.{is_bad, is_control}
 use Rattle.olap_schema.specs.PrintingLaws.{AreTexts}
@@ -162,19 +164,20 @@ joint_ascii joint.Xor = (omega arith, tt)
 joint_ascii joint.Or = (omega arith, tt)
 joint_ascii joint.And = (omega arith, tt)
 
-mark_ascii : (t : Token) → AreAscii (mark_bytes t)
-mark_ascii token.Open = (omega arith, tt)
-mark_ascii token.Close = (omega arith, tt)
-mark_ascii token.Comma = (omega arith, tt)
-mark_ascii token.Colon = (omega arith, tt)
-mark_ascii token.Equal = (omega arith, tt)
-mark_ascii token.Not = (omega arith, tt)
-mark_ascii (token.Joint j) = joint_ascii j
-mark_ascii (token.Word w) = tt
-mark_ascii (token.Quoted k) = tt
+mark_ascii : (m : Mark) → AreAscii (mark_bytes m)
+mark_ascii mark.Open = (omega arith, tt)
+mark_ascii mark.Close = (omega arith, tt)
+mark_ascii mark.Comma = (omega arith, tt)
+mark_ascii mark.Colon = (omega arith, tt)
+mark_ascii mark.Equal = (omega arith, tt)
+mark_ascii mark.Not = (omega arith, tt)
+mark_ascii (mark.Joint j) = joint_ascii j
 
 no_quote : (w : List ℕ) (k : List ℕ) → token.Word w ≡ token.Quoted k → ⊥
 no_quote w k e = absurd (cc)
+
+no_string : (m : Mark) (k : List ℕ) → token.Mark m ≡ token.Quoted k → ⊥
+no_string m k e = absurd (cc)
 
 same_string : (j k : List ℕ) → token.Quoted j ≡ token.Quoted k → j ≡ k
 same_string j k e = cc
@@ -190,8 +193,8 @@ cut_is_fine (quoted {body = body} {k = k} {bs = bs} s d) p =
     let t = cut_plain body 34 bs (omega arith) inner in
     let text : IsPlain k = record { utf8 = spelt s [] t.0.utf8; plain = spelt_controls s t.0.plain } in
     (λ j q. subst IsPlain (same_string k j q) text, cut_is_fine d (past_ascii 34 bs (omega arith) t.1))
-cut_is_fine (mark t {bs = bs} m d) p =
-    (λ k q. absurd (subst IsMark q m), cut_is_fine d (past_all (mark_bytes t) bs (mark_ascii t) p))
+cut_is_fine (marked m {bs = bs} d) p =
+    (λ k q. absurd (no_string m k q), cut_is_fine d (past_all (mark_bytes m) bs (mark_ascii m) p))
 
 -- the tokens of such a line
 pub line_is_fine : (line : List ℕ) (ts : List Token) → is_bad line ≡ false → tokens_of line ≡ Some ts → AreFine ts
@@ -275,11 +278,11 @@ module _ (g : Graph) where
         → AreTexts (equalities f)
     formula_is_fine (looser d) h = formula_is_fine d h
     formula_is_fine (joined j {left = left} {right = right} {f = f} {g = k} d e) h =
-        let t = parts_fine left (token.Joint j ∷ right) h in
+        let t = parts_fine left (token.Mark (mark.Joint j) ∷ right) h in
         join_texts j f k (formula_is_fine d t.0) (formula_is_fine e t.1.1)
     formula_is_fine (negated {ts = ts} d) h = formula_is_fine d h.1
-    formula_is_fine (bracketed {ts = ts} d) h = formula_is_fine d (parts_fine ts (token.Close ∷ []) h.1).0
-    formula_is_fine (listed {ts = ts} d) h = list_is_fine d (parts_fine ts (token.Close ∷ []) h.1.1).0
+    formula_is_fine (bracketed {ts = ts} d) h = formula_is_fine d (parts_fine ts (token.Mark mark.Close ∷ []) h.1).0
+    formula_is_fine (listed {ts = ts} d) h = list_is_fine d (parts_fine ts (token.Mark mark.Close ∷ []) h.1.1).0
     formula_is_fine (plain {w = w} {f = f} e) h = plain_texts g w f e
     formula_is_fine (equal {w = w} {k = k} {f = f} e) h = equality_texts g w k (h.1.1.0 k refl) f e
 
@@ -292,7 +295,7 @@ module _ (g : Graph) where
         → AreTexts (equalities_of_terms fs)
     items_are_fine (last {f = f} d) h = both_texts (equalities f) [] (formula_is_fine d h) no_texts
     items_are_fine (more {ts = ts} {us = us} {f = f} {fs = fs} d e) h =
-        let t = parts_fine ts (token.Comma ∷ us) h in
+        let t = parts_fine ts (token.Mark mark.Comma ∷ us) h in
         both_texts (equalities f) (equalities_of_terms fs) (formula_is_fine d t.0) (items_are_fine e t.1.1)
 
 -- where it is so of each constraint, it is so of all their constants

@@ -39,7 +39,7 @@ has_edge g None d = false
 has_edge g (Some c) None = false
 has_edge g (Some c) (Some d) = is_some (edge_between g c d)
 
--- behind a category of this name, two names that follow each other are no edge
+-- after a category of this name, two names that follow each other are no edge
 unfoldable pub lacks_edge : Graph → List ℕ → List (List ℕ) → Bool
 lacks_edge g n [] = false
 lacks_edge g n (m ∷ ms) = if not (has_edge g (category_named g n) (category_named g m)) then true else lacks_edge g m ms
@@ -59,14 +59,7 @@ word_fault g root w = if is_connective w then None else named_fault g root (is_p
 
 abbrev pub token_fault : Graph → List ℕ → Token → Option SchemaKind
 token_fault g root (token.Word w) = word_fault g root w
-token_fault g root (token.Quoted k) = None
-token_fault g root token.Open = None
-token_fault g root token.Close = None
-token_fault g root token.Comma = None
-token_fault g root token.Colon = None
-token_fault g root token.Equal = None
-token_fault g root token.Not = None
-token_fault g root (token.Joint j) = None
+token_fault g root t = None
 
 abbrev pub or_later : Option SchemaKind → Option SchemaKind → Option SchemaKind
 or_later (Some k) later = Some k

@@ -5,7 +5,7 @@
 --     question_read    the text of a question's formula, given a schema and a root
 -- Two functions that are cited are machines: `tokens_of` and `the_formula`. The laws `FoundAsCut` and `FoundAsFormula`
 -- of `olap_grammar` say that they are the relations `IsCut` and `IsFormula`.
-use Rattle.std.specs.Prelude.{◌==◌, ◌||◌, ◌+◌, ◌-◌, ℕ, Bool, true, false, not, List, [], ◌∷◌, ◌++◌, Option, Some, None, Result, Ok, Err, length, find, fold, nat_lt, nat_le, slice_index, if◌then◌else◌}
+use Rattle.std.specs.Prelude.{◌==◌, ◌||◌, ◌+◌, ◌-◌, ℕ, not, List, [], ◌∷◌, ◌++◌, Option, Some, None, Result, Ok, Err, length, find, fold, is_some, nat_lt, nat_le, slice_index, if◌then◌else◌}
 use Rattle.std.specs.List.{list_any, range_with_len}
 use Rattle.olap_base.specs.Reaching.{category_reaches}
 use Rattle.olap_base.specs.Graph.{Graph}
@@ -32,15 +32,16 @@ use Rattle.olap_grammar.specs.declared.tokens.Token.{Token}
 use Rattle.olap_schema.specs.Atoms.{atom_fault}
 use Rattle.olap_schema.specs.Lines.{chomped, is_bad, is_quiet, lines_of}
 use Rattle.olap_schema.specs.Statements as says
-use Rattle.olap_schema.specs.Statements.{Statement, is_version, statement_of}
+use Rattle.olap_schema.specs.Statements.{Statement, statement_of}
 use Rattle.olap_schema.specs.Tokens.{is_long, token_nodes}
 use Rattle.olap_schema.specs.declared.kinds.SchemaKind.{SchemaKind}
 use Rattle.olap_schema.specs.declared.kinds.SchemaKind.TheVariants as kind
+use Rattle.olap_schema.specs.declared.statements.Version.{Version}
 
--- whether the version line was read, the graph, the lines of its categories, the constraints, how many nodes they
+-- the version, once its line was read, the graph, the lines of its categories, the constraints, how many nodes they
 -- have, and their distinct pairs of a category and a constant
 pub record Above : Type 0 where
-  pub versioned : Bool
+  pub version : Option Version
   pub graph : Graph
   pub category_lines : List ℕ
   pub constraints : List Constraint
@@ -49,7 +50,7 @@ pub record Above : Type 0 where
 
 -- ---- categories and edges
 
--- the fault that a refused category is; want of memory is no reason of `category_refusal`, so that its case never comes
+-- the fault that a refused category is; `category_refusal` never says `Memory`
 abbrev pub category_kind : CategoryRefusal → SchemaKind
 category_kind of_category.DuplicateCategory = kind.DuplicateCategory
 category_kind of_category.TooManyCategories = kind.TooManyCategories
@@ -67,7 +68,7 @@ category_read a n name =
     if nat_lt most_text_bytes (length name) then Err kind.TextTooLong
     else category_added a n name (category_refusal a.graph name)
 
--- the fault that a refused edge is; the case of want of memory never comes
+-- the fault that a refused edge is; `edge_refusal` never says `Memory`
 abbrev pub edge_kind : EdgeRefusal → SchemaKind
 edge_kind of_edge.SelfEdge = kind.SelfEdge
 edge_kind of_edge.EdgeFromAll = kind.EdgeFromAll
@@ -94,7 +95,7 @@ edge_read a child parent =
 
 -- ---- formulas
 
--- the fault of tokens that are no formula; the case of want of memory never comes
+-- the fault of tokens that are no formula; `formula_answer` never says `Memory`
 abbrev pub form_kind : FormRefusal → SchemaKind
 form_kind form.BadForm = kind.BadForm
 form_kind form.TooDeep = kind.TooDeep
@@ -124,12 +125,12 @@ constraint_added a root ts f pairs =
       pairs = pairs;
     })
 
--- behind the check of the atoms
+-- after the check of the atoms
 abbrev pub atoms_read : Above → ℕ → List Token → Formula → Option SchemaKind → Result Above SchemaKind
 atoms_read a root ts f (Some k) = Err k
 atoms_read a root ts f None = constraint_added a root ts f (fold with_pair a.pairs (equalities f))
 
--- behind the look-up of the root
+-- after the look-up of the root
 abbrev pub root_read : Above → List ℕ → List Token → Formula → Option ℕ → Result Above SchemaKind
 root_read a name ts f None = Err kind.UnknownCategory
 root_read a name ts f (Some root) =
@@ -137,7 +138,7 @@ root_read a name ts f (Some root) =
     else if nat_le most_constraints (length a.constraints) then Err kind.TooManyConstraints
     else atoms_read a root ts f (atom_fault a.graph name ts)
 
--- behind the reading of the formula
+-- after the reading of the formula
 abbrev pub formed_read : Above → List ℕ → List Token → Result Formula SchemaKind → Result Above SchemaKind
 formed_read a name ts (Err k) = Err k
 formed_read a name ts (Ok f) =
@@ -150,22 +151,18 @@ constraint_read a name ts = formed_read a name ts (form_read a.graph a.nodes ts)
 
 -- ---- a line
 
--- a line behind the version
-abbrev pub statement_read : Above → ℕ → Statement → Result Above SchemaKind
-statement_read a n says.Statement.Version = Err kind.BadForm
-statement_read a n (says.Statement.Category name) = category_read a n name
-statement_read a n (says.Statement.Edge child parent) = edge_read a child parent
-statement_read a n (says.Statement.Constraint root ts) = constraint_read a root ts
-statement_read a n says.Statement.Other = Err kind.BadForm
-
--- the first line that says something: the version
-abbrev pub first_read : Above → List Token → Result Above SchemaKind
-first_read a ts = if is_version ts then Ok (record a { versioned = true }) else Err kind.BadForm
+-- a line that says this, by the version of the text: before it is known, a line must say which it is
+abbrev pub statement_read : Above → ℕ → Option Version → Statement → Result Above SchemaKind
+statement_read a n None (says.Statement.Version v) = Ok (record a { version = Some v })
+statement_read a n (Some v) (says.Statement.Category name) = category_read a n name
+statement_read a n (Some v) (says.Statement.Edge child parent) = edge_read a child parent
+statement_read a n (Some v) (says.Statement.Constraint root ts) = constraint_read a root ts
+statement_read a n v s = Err kind.BadForm
 
 -- a line that says something
 abbrev pub tokens_read : Above → ℕ → Option (List Token) → Result Above SchemaKind
 tokens_read a n None = Err kind.BadForm
-tokens_read a n (Some ts) = if a.versioned then statement_read a n (statement_of ts) else first_read a ts
+tokens_read a n (Some ts) = statement_read a n a.version (statement_of ts)
 
 -- the n-th line, without its CR
 unfoldable pub line_read : Above → ℕ → List ℕ → Result Above SchemaKind
@@ -189,7 +186,7 @@ lines_on (Ok a) n (line ∷ lines) = lines_on (line_read a (n + 1) (chomped line
 -- before the first line
 abbrev pub nothing_above : Above
 nothing_above =
-    record { versioned = false; graph = all_alone; category_lines = []; constraints = []; nodes = 0; pairs = [] }
+    record { version = None; graph = all_alone; category_lines = []; constraints = []; nodes = 0; pairs = [] }
 
 -- the first declared category that doesn't reach `All`
 abbrev pub first_stuck : Graph → Option ℕ
@@ -203,7 +200,8 @@ whole a None = Ok (record { graph = a.graph; constraints = a.constraints })
 -- the schema of a text, where some line is the version
 abbrev pub text_ended : Read → Result Schema (Fault SchemaKind)
 text_ended (Err fault) = Err fault
-text_ended (Ok a) = if a.versioned then whole a (first_stuck a.graph) else Err (record { at = 1; kind = kind.BadForm })
+text_ended (Ok a) =
+    if is_some a.version then whole a (first_stuck a.graph) else Err (record { at = 1; kind = kind.BadForm })
 
 -- the schema that the text stands for, or its first fault
 unfoldable pub schema_read : List ℕ → Result Schema (Fault SchemaKind)
@@ -211,13 +209,13 @@ schema_read text = text_ended (lines_on (Ok nothing_above) 0 (lines_of text))
 
 -- ---- a question's formula
 
--- behind the check of the atoms
+-- after the check of the atoms
 abbrev pub question_added : Schema → Formula → Option SchemaKind → Result Formula SchemaKind
 question_added s f (Some k) = Err k
 question_added s f None =
     if nat_lt most_constants (length (distinct_pairs (all_equalities s f))) then Err kind.TooManyConstants else Ok f
 
--- behind the reading of the formula
+-- after the reading of the formula
 abbrev pub question_formed : Schema → ℕ → List Token → Result Formula SchemaKind → Result Formula SchemaKind
 question_formed s root ts (Err k) = Err k
 question_formed s root ts (Ok f) =

@@ -52,7 +52,7 @@ abbrev mutual
   list_text g r Meaning.Terms.End = []
   list_text g r (Meaning.Terms.More f fs) = formula_text g r f ++ rest_text g r fs
 
-  -- the parts behind the first
+  -- the parts after the first
   pub rest_text : Graph → ℕ → Terms → List ℕ
   rest_text g r Meaning.Terms.End = []
   rest_text g r (Meaning.Terms.More f fs) = 44 ∷ 32 ∷ (formula_text g r f ++ rest_text g r fs)

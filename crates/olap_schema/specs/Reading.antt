@@ -19,17 +19,17 @@ use Rattle.olap_schema.specs.declared.reading.Reading.{Reading}
 use Rattle.olap_schema.specs.declared.statements.Statement.{Statement}
 use Rattle.olap_schema.specs.declared.statements.Statement.TheVariants as statement
 
--- want of memory, or that fault
+-- out of memory, or that fault
 abbrev pub IsFault : {A : Type 0} → FormulaRefusal → Result A SchemaKind → Type 0
 IsFault (refusal.Fault k) read = read ≡ Err k
 IsFault refusal.Memory read = Unit {0}
 
--- want of memory, or the first fault
+-- out of memory, or the first fault
 abbrev pub FindsFault : FormulaRefusal → Option SchemaKind → Type 0
 FindsFault (refusal.Fault k) first = first ≡ Some k
 FindsFault refusal.Memory first = Unit {0}
 
--- no fault, or want of memory, or that fault
+-- no fault, or out of memory, or that fault
 abbrev pub Finds : {A : Type 0} → Result A FormulaRefusal → Option SchemaKind → Type 0
 Finds (Ok u) first = first ≡ None
 Finds (Err e) first = FindsFault e first
@@ -41,7 +41,7 @@ pair_of p = record { category = p.category.0; text = p.text }
 -- what the reader knows
 abbrev pub above_of : Reading → Above
 above_of r = record {
-  versioned = r.versioned;
+  version = r.version;
   graph = r.builder;
   category_lines = r.category_lines.items;
   constraints = map constraint_of r.constraints.items;
@@ -61,7 +61,7 @@ ReadsFormula (Err e) read = IsFault e read
 
 -- what the tokens of a line say
 abbrev pub said : Statement → says.Statement
-said statement.Version = says.Statement.Version
+said (statement.Version v) = says.Statement.Version v
 said (statement.Category name) = says.Statement.Category name.now
 said (statement.Edge child parent) = says.Statement.Edge child.now parent.now
 said (statement.Constraint root tokens) = says.Statement.Constraint root.now tokens.now
@@ -70,10 +70,7 @@ said statement.Other = says.Statement.Other
 -- the name of a new category is a category name
 abbrev pub HasName : Statement → Type 0
 HasName (statement.Category name) = IsTrue (is_category_name name.now)
-HasName statement.Version = Unit {0}
-HasName (statement.Edge child parent) = Unit {0}
-HasName (statement.Constraint root tokens) = Unit {0}
-HasName statement.Other = Unit {0}
+HasName s = Unit {0}
 
 -- what was counted of these tokens and of so many nodes in front of them
 pub record IsTallyBehind (front : ℕ) (y : Tally) (ts : List Token) : Type 0 where

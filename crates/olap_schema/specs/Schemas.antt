@@ -15,7 +15,7 @@ use Rattle.olap_schema.specs.declared.schemas.Schema.{Schema}
 abbrev pub schema_of : Schema → schemas.Schema
 schema_of s = record { graph = s.graph; constraints = map constraint_of s.constraints }
 
--- want of memory, or that fault
+-- out of memory, or that fault
 abbrev pub IsRefusedBy : {A : Type 0} → SchemaRefusal → Result A (Fault SchemaKind) → Type 0
 IsRefusedBy (refusal.Fault line kind) read = read ≡ Err (record { at = line; kind = kind })
 IsRefusedBy refusal.Memory read = Unit {0}

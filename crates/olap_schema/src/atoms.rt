@@ -173,14 +173,7 @@ fn check_token(
 {
     match token {
         Token::Word(word) => check_word(alloc, known, root, word.bytes()),
-        Token::Quoted(_) => Ok(()),
-        Token::Open => Ok(()),
-        Token::Close => Ok(()),
-        Token::Comma => Ok(()),
-        Token::Colon => Ok(()),
-        Token::Equal => Ok(()),
-        Token::Not => Ok(()),
-        Token::Joint(_) => Ok(()),
+        _ => Ok(()),
     }
 }
 

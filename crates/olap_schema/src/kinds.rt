@@ -36,7 +36,7 @@ pub enum SchemaKind {
     TooManyEdges,
     /// More than `MOST_CONSTRAINTS`.
     TooManyConstraints,
-    /// More than 4,096 nodes of formulas.
+    /// More than `MOST_NODES` nodes of formulas.
     TooManyNodes,
     /// More than `MOST_DEPTH` brackets are open, or the formula is deeper.
     TooDeep,
@@ -84,7 +84,7 @@ impl SchemaKind {
 pub enum FormulaRefusal {
     /// What is wrong with it.
     Fault(SchemaKind),
-    /// Want of memory.
+    /// Out of memory.
     Memory,
 }
 
@@ -109,6 +109,6 @@ impl<T: Drop> From<AllocFailed<T>> for FormulaRefusal {
 pub enum SchemaRefusal {
     /// The first line with a fault, counted from 1, and what is wrong with it.
     Fault { line: u64, kind: SchemaKind },
-    /// Want of memory.
+    /// Out of memory.
     Memory,
 }

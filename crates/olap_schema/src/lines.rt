@@ -15,7 +15,7 @@ fn line_end(text: &[u8]) -> usize
     let mut end = 0;
     let mut left = text;
     'bytes: while let Some((byte, others)) = left.split_first() {
-        if *byte == 10 {
+        if *byte == b'\n' {
             return end;
         }
         end += 1;
@@ -24,7 +24,7 @@ fn line_end(text: &[u8]) -> usize
     end
 }
 
-/// The first line of a text, and what stands behind its LF.
+/// The first line of a text, and what stands after its LF.
 pub(crate) fn first_line(text: &[u8]) -> (&[u8], &[u8])
     requires { 0 < length text.now }
     ensures lines { lines_of text.now ≡ result.0.now ∷ lines_of result.1.now }
@@ -43,7 +43,7 @@ pub(crate) fn chomped(line: &[u8]) -> &[u8]
     ensures { result.now ≡ chomped_of line.now }
 {
     let end = line.len();
-    if end > 0 && line[end - 1] == 13 {
+    if end > 0 && line[end - 1] == b'\r' {
         &line[..end - 1]
     } else {
         line
@@ -54,7 +54,7 @@ pub(crate) fn chomped(line: &[u8]) -> &[u8]
 fn is_control(byte: u8) -> bool
     ensures { result ≡ is_control_of byte }
 {
-    (byte < 32 && byte != 9) || byte == 127
+    (byte < b' ' && byte != b'\t') || byte == 127
 }
 
 /// Whether the line is UTF-8.
@@ -88,10 +88,10 @@ pub(crate) fn is_quiet(line: &[u8]) -> bool
 {
     let mut left = line;
     'bytes: while let Some((byte, others)) = left.split_first() {
-        if *byte == 32 || *byte == 9 {
+        if *byte == b' ' || *byte == b'\t' {
             left = others;
         } else {
-            return *byte == 35;
+            return *byte == b'#';
         }
     }
     true

@@ -5,13 +5,15 @@ ghost use Rattle.olap_grammar.specs.Brackets.{most_tokens, opens_over};
 ghost use Rattle.olap_grammar.specs.declared.tokens.Token.{Token as Tokens};
 ghost use Rattle.olap_schema.specs.Judging.{form_read};
 ghost use Rattle.olap_schema.specs.Reading.{IsTallyBehind};
-ghost use Rattle.olap_schema.specs.Tokens.{has_long_name as has_long_name_of, is_long as is_long_of, token_nodes};
+ghost use Rattle.olap_grammar.specs.Words.{pieces_of};
+ghost use Rattle.olap_schema.specs.Atoms.{names_in};
+ghost use Rattle.olap_schema.specs.Tokens.{is_long as is_long_of, is_long_name, token_nodes};
 ghost use Rattle.std.specs.List.{list_any};
 ghost use Rattle.std.specs.Prelude.{◌≡◌, ◌≤◌, ◌<◌, List, Err, length};
 
 use crate::SchemaKind;
 use olap_base::{MOST_DEPTH, MOST_NODES, MOST_TEXT_BYTES};
-use olap_grammar::{Tally, Token};
+use olap_grammar::{Mark, Tally, Token, first_piece, marks};
 
 /// How many tokens of a line are kept: as many as a formula may have, for each node two brackets at each depth and
 /// the three of a word with a string, and the three before it.
@@ -52,20 +54,29 @@ pub(crate) fn opens_too_deep(tokens: &[Token]) -> bool
     let mut left = tokens;
     'tokens: while let Some((token, others)) = left.split_first() {
         match token {
-            Token::Open => {
+            Token::Mark(Mark::Open) => {
                 opened += 1;
                 if opened > closed + MOST_DEPTH as usize {
                     return true;
                 }
             }
-            Token::Close => closed += 1,
-            Token::Word(_) => {}
-            Token::Quoted(_) => {}
-            Token::Comma => {}
-            Token::Colon => {}
-            Token::Equal => {}
-            Token::Not => {}
-            Token::Joint(_) => {}
+            Token::Mark(Mark::Close) => closed += 1,
+            _ => {}
+        }
+        left = others;
+    }
+    false
+}
+
+/// Whether a name between these marks has more than `MOST_TEXT_BYTES`.
+fn has_long_piece(mark: u8, word: &[u8]) -> bool
+    ensures { result ≡ list_any is_long_name (pieces_of mark word.now) }
+{
+    let mut left = Some(word);
+    'names: while let Some(text) = left {
+        let (name, others) = first_piece(mark, text);
+        if name.len() > MOST_TEXT_BYTES {
+            return true;
         }
         left = others;
     }
@@ -73,24 +84,14 @@ pub(crate) fn opens_too_deep(tokens: &[Token]) -> bool
 }
 
 /// Whether a name in the word has more than `MOST_TEXT_BYTES`.
-#[tactic(auto, unfolding(crate::specs::Tokens::has_long_name))]
 fn has_long_name(word: &[u8]) -> bool
-    ensures { result ≡ has_long_name_of 0 word.now }
+    ensures { result ≡ list_any is_long_name (names_in word.now) }
 {
-    let mut length = 0usize;
-    let mut left = word;
-    'bytes: while let Some((byte, others)) = left.split_first() {
-        if *byte == b'_' || *byte == b'.' {
-            if length > MOST_TEXT_BYTES {
-                return true;
-            }
-            length = 0;
-        } else {
-            length += 1;
-        }
-        left = others;
+    if marks(b'_', word) > 0 {
+        has_long_piece(b'_', word)
+    } else {
+        has_long_piece(b'.', word)
     }
-    length > MOST_TEXT_BYTES
 }
 
 /// Whether a name in the token, or the string, has more than `MOST_TEXT_BYTES`.
@@ -101,13 +102,7 @@ fn is_long(token: &Token) -> bool
     match token {
         Token::Word(word) => has_long_name(word.bytes()),
         Token::Quoted(text) => text.bytes().len() > MOST_TEXT_BYTES,
-        Token::Open => false,
-        Token::Close => false,
-        Token::Comma => false,
-        Token::Colon => false,
-        Token::Equal => false,
-        Token::Not => false,
-        Token::Joint(_) => false,
+        _ => false,
     }
 }
 

@@ -34,7 +34,7 @@ fn has_pair(pairs: &[Pair], d: CatId, text: &[u8]) -> bool
     pairs.iter().any(|p| is_same(d, text, p))
 }
 
-/// The pair behind the others, if it is new.
+/// The pair after the others, if it is new.
 fn add_pair(alloc: Global, pairs: &mut Vec<Pair>, d: CatId, text: &Text) -> Result<(), Memory>
     ensures { let atom : Equality = record { category = d.0; text = text.now } in
         OnOk result (map pair_of pairs.new.items ≡ with_pair (map pair_of pairs.old.items) atom) }

@@ -48,7 +48,7 @@ fn push_names(
     Ok(())
 }
 
-/// The root's name and what stands behind it.
+/// The root's name and what stands after it.
 fn push_atom(
     out: &mut Vec<u8>,
     graph: &Graph,
@@ -63,7 +63,7 @@ fn push_atom(
     push_names(out, graph, mark, categories)
 }
 
-/// What is compared with a constant: the root by its name alone, another category behind a dot.
+/// What is compared with a constant: the root by its name alone, another category after a dot.
 fn push_compared(out: &mut Vec<u8>, graph: &Graph, root: CatId, d: CatId) -> Result<(), AllocError>
     ensures { OnOk result (out.new.items ≡ out.old.items ++ compared_word graph.now root.0 d.0) }
 {
@@ -170,7 +170,7 @@ fn push_list(out: &mut Vec<u8>, graph: &Graph, root: CatId, terms: &Terms) -> Re
     }
 }
 
-/// The parts behind the first, a comma in front of each.
+/// The parts after the first, a comma in front of each.
 #[cycle(push_formula)]
 fn push_rest(out: &mut Vec<u8>, graph: &Graph, root: CatId, terms: &Terms) -> Result<(), AllocError>
     ensures { OnOk result (out.new.items ≡ out.old.items ++ rest_text graph.now root.0 (terms_of terms.now)) }

@@ -6,7 +6,7 @@ ghost use Rattle.olap_base.specs.Limits.{most_nodes};
 ghost use Rattle.olap_graph.specs.Building.{edge_refusal};
 ghost use Rattle.olap_grammar.specs.Known.{graph_seen};
 ghost use Rattle.olap_graph.specs.Lookups.{category_named};
-ghost use Rattle.olap_schema.specs.Judging.{category_read, constraint_added, constraint_read, edge_added, edge_read, formed_read, first_read, form_read, line_read, nothing_above, root_read, statement_read, tokens_read};
+ghost use Rattle.olap_schema.specs.Judging.{category_read, constraint_added, constraint_read, edge_added, edge_read, formed_read, form_read, line_read, nothing_above, root_read, tokens_read};
 ghost use Rattle.olap_schema.specs.Reading.{Reads, ReadsFormula, above_of, said};
 ghost use Rattle.olap_ast.specs.Formula.{equalities};
 ghost use Rattle.olap_ast.specs.Valid.{with_pair};
@@ -15,15 +15,14 @@ ghost use Rattle.olap_grammar.specs.Cutter.{kept_of};
 ghost use Rattle.olap_grammar.specs.declared.tokens.Token.{Token as Tokens};
 ghost use Rattle.olap_grammar.specs.CuttingMachine.{tokens_of};
 ghost use Rattle.olap_grammar.specs.Keeping.{BeginsFound};
-ghost use Rattle.olap_schema.specs.Statements.{statement_of};
 ghost use Rattle.olap_schema.specs.Tokens.{token_nodes};
-ghost use Rattle.std.specs.Prelude.{◌≡◌, ◌≤◌, ◌+◌, ℕ, List, Option, Err, IfOk, IsTrue, fold, true};
+ghost use Rattle.std.specs.Prelude.{◌≡◌, ◌≤◌, ◌+◌, ℕ, List, Option, Err, Some, IfOk, IsTrue, fold, true};
 
 use crate::atoms::check_atoms;
 use crate::lines::{is_bad, is_quiet};
 use crate::measuring::{MOST_TOKENS, has_long_text, long_form_fault, nodes, opens_too_deep};
 use crate::pairing::{Pair, add_pairs};
-use crate::statements::{Statement, is_constraint, is_version, statement_in};
+use crate::statements::{Statement, Version, statement_in};
 use crate::{FormulaRefusal, SchemaKind};
 use olap_ast::{Constraint, Formula};
 use olap_base::{
@@ -36,7 +35,7 @@ use std::alloc::Global;
 /// What the lines so far say.
 #[derive(Drop)]
 pub(crate) struct Reading {
-    pub(crate) versioned: bool,
+    pub(crate) version: Option<Version>,
     pub(crate) builder: GraphBuilder,
     pub(crate) category_lines: Vec<u64>,
     pub(crate) constraints: Vec<Constraint>,
@@ -49,7 +48,7 @@ pub(crate) fn begin(alloc: Global) -> Result<Reading, Memory>
     ensures { IfOk result (λ reading. above_of reading ≡ nothing_above) }
 {
     Ok(Reading {
-        versioned: false,
+        version: None,
         builder: GraphBuilder::new(alloc)?,
         category_lines: Vec::new(alloc),
         constraints: Vec::new(alloc),
@@ -223,33 +222,28 @@ fn read_constraint(
     }
 }
 
-/// A line behind the version.
+/// A line that says something, by the version of the text: before it is known, a line must say which it is.
 fn read_statement(
     alloc: Global,
     reading: &mut Reading,
     n: u64,
     tokens: &[Token],
 ) -> Result<(), FormulaRefusal>
-    ensures { Reads result (above_of reading.new) (statement_read (above_of reading.old) n (statement_of tokens.now)) }
+    ensures { Reads result (above_of reading.new)
+        (tokens_read (above_of reading.old) n (Some tokens.now)) }
 {
-    match statement_in(tokens) {
-        Statement::Version => Err(FormulaRefusal::Fault(SchemaKind::BadForm)),
-        Statement::Category(name) => read_category(alloc, reading, n, name),
-        Statement::Edge(child, parent) => read_edge(reading, child, parent),
-        Statement::Constraint(root, formula) => read_constraint(alloc, reading, root, formula),
-        Statement::Other => Err(FormulaRefusal::Fault(SchemaKind::BadForm)),
+    match (reading.version, statement_in(tokens)) {
+        (None, Statement::Version(version)) => {
+            reading.version = Some(version);
+            Ok(())
+        }
+        (Some(_), Statement::Category(name)) => read_category(alloc, reading, n, name),
+        (Some(_), Statement::Edge(child, parent)) => read_edge(reading, child, parent),
+        (Some(_), Statement::Constraint(root, formula)) => {
+            read_constraint(alloc, reading, root, formula)
+        }
+        _ => Err(FormulaRefusal::Fault(SchemaKind::BadForm)),
     }
-}
-
-/// The first line that says something.
-fn read_first(reading: &mut Reading, tokens: &[Token]) -> Result<(), FormulaRefusal>
-    ensures { Reads result (above_of reading.new) (first_read (above_of reading.old) tokens.now) }
-{
-    if is_version(tokens) {
-        reading.versioned = true;
-        return Ok(());
-    }
-    Err(FormulaRefusal::Fault(SchemaKind::BadForm))
 }
 
 /// Why a line of which not all tokens are kept is refused.
@@ -259,13 +253,13 @@ fn long_line_fault(reading: &Reading, found: &FirstTokens) -> SchemaKind
     ensures { (n : ℕ) (ts : Option (List Tokens)) → BeginsFound (kept_of found.now) ts
         → tokens_read (above_of reading.now) n ts ≡ Err result }
 {
-    if !reading.versioned {
+    if reading.version.is_none() {
         return SchemaKind::BadForm;
     }
-    if !is_constraint(&found.first) {
-        return SchemaKind::BadForm;
+    match statement_in(&found.first) {
+        Statement::Constraint(_, _) => long_form_fault(reading.nodes, 2, &found.tally),
+        _ => SchemaKind::BadForm,
     }
-    long_form_fault(reading.nodes, 2, &found.tally)
 }
 
 /// A line that says something.
@@ -282,11 +276,7 @@ fn read_saying(
             if found.more {
                 return Err(FormulaRefusal::Fault(long_line_fault(reading, &found)));
             }
-            if reading.versioned {
-                read_statement(alloc, reading, n, &found.first)
-            } else {
-                read_first(reading, &found.first)
-            }
+            read_statement(alloc, reading, n, &found.first)
         }
         Err(CutRefusal::BadForm) => Err(FormulaRefusal::Fault(SchemaKind::BadForm)),
         Err(CutRefusal::Memory) => Err(FormulaRefusal::Memory),

@@ -67,7 +67,7 @@ impl Schema {
         self.constraints.items()
     }
 
-    /// The same schema without the constraint at this place. `Memory`: want of memory.
+    /// The same schema without the constraint at this place. `Memory`: out of memory.
     pub fn without(&self, index: usize) -> Result<Schema, Memory>
         requires { index < length (schema_of self.now).constraints }
         ensures { IfOk result (λ s. schema_of s ≡ without (schema_of self.now) index) }
@@ -162,7 +162,7 @@ fn read_from(alloc: Global, started: Reading, text: &[u8]) -> Result<Schema, Sch
     let mut reading = started;
     match read_lines(alloc, &mut reading, text) {
         Ok(()) => {
-            if !reading.versioned {
+            if reading.version.is_none() {
                 return Err(SchemaRefusal::Fault {
                     line: 1,
                     kind: SchemaKind::BadForm,
