@@ -1,45 +1,65 @@
--- What is remembered of two categories and of names: one entry more, and none.
-use Rattle.std.proofs.Common.{◌≡◌, ℕ, ◌+◌, ◌*◌, ◌<◌, zero, suc, List, length, replicate, set, get_or, refl, sym, subst, ◌∙◌, inl, inr, arith}
+-- What is remembered of atoms: one entry more, and none.
+use Rattle.std.proofs.Common.{◌≡◌, ℕ, ◌<◌, zero, suc, List, length, replicate, set, get_or, refl, sym, subst, inl, inr}
+use Rattle.std.specs.FinSet.{FinSet}
+use Rattle.std.specs.Ordering.{nat_cmp}
 use Rattle.std.specs.Prelude.{Option, Some, None}
 use Rattle.std.proofs.lemmas.Bool.{cases_eq}
 use Rattle.std.proofs.lemmas.Grind.{get_or-set_at}
-use Rattle.std.proofs.lemmas.List.{get_or-set_other}
+use Rattle.std.proofs.lemmas.List.{get_or-set_other, get_or_default}
+use Rattle.olap_ast.specs.Formula.{ReachesNamed}
 use Rattle.olap_base.specs.Instance.{Instance}
 use Rattle.olap_bits.specs.Sets.{members}
-use Rattle.olap_check.specs.Seen.{AreKept, AreNamed, GoesOn, HasNamed, IsKept, IsRight, place_of}
-use Rattle.olap_check.specs.declared.naming.NameAtom.{NameAtom}
-use Rattle.olap_check.specs.declared.ways.Entry.{Entry}
-use Rattle.olap_check.specs.declared.ways.Way.{Way}
-use Rattle.olap_check.specs.declared.ways.Way.TheVariants.{Reaches as ByReaching, Steps as ByStep}
+use Rattle.olap_check.specs.Seen.{AreRight, GoesOn, IsAtomAt, IsKept, IsRight, IsSameAtom, IsSo}
+use Rattle.olap_check.specs.declared.asked.Asked.{Asked}
+use Rattle.olap_check.specs.declared.asked.Asked.TheVariants as asked
+use Rattle.olap_check.specs.declared.seen.Entry.{Entry}
 
--- each two categories of a way have a place of their own
-same_place : (l m : Way) (c d e f : ℕ) → c < 64 → d < 64 → e < 64 → f < 64 → place_of l c d ≡ place_of m e f
-    → (l ≡ m) × (c ≡ e) × (d ≡ f)
-same_place ByReaching ByReaching c d e f h k n o q = (refl, omega arith, omega arith)
-same_place ByReaching ByStep c d e f h k n o q = absurd (omega arith)
-same_place ByStep ByReaching c d e f h k n o q = absurd (omega arith)
-same_place ByStep ByStep c d e f h k n o q = (refl, omega arith, omega arith)
+-- what asks the same as another, that asks the same as it
+pub same_sym : (a b : Asked) → IsSameAtom a b → IsSameAtom b a
+same_sym (asked.GoesOn l c d) (asked.GoesOn m e f) s = (sym s.0, sym s.1, sym s.2)
+same_sym (asked.GoesOn l c d) (asked.Named e t) s = s
+same_sym (asked.Named c n) (asked.GoesOn m e f) s = s
+same_sym (asked.Named c n) (asked.Named d t) s = (sym s.0, sym s.1)
 
-module _ (i : Instance) (entries : List (Option Entry)) where
+module _ (i : Instance) (root start : ℕ) (set : FinSet nat_cmp) where
+  -- what is kept of one atom is so of each that asks the same
+  pub kept_like : (a b : Asked) → IsSameAtom a b → IsKept i root start (IsSo i a) set
+      → IsKept i root start (IsSo i b) set
+  kept_like (asked.GoesOn l c d) (asked.GoesOn m e f) s kept =
+      let first = subst (λ y. IsKept i root start (GoesOn i l y d.0) set) s.1 kept in
+      let second = subst (λ y. IsKept i root start (GoesOn i l e.0 y) set) s.2 first in
+      subst (λ w. IsKept i root start (GoesOn i w e.0 f.0) set) s.0 second
+  kept_like (asked.GoesOn l c d) (asked.Named e t) s kept = absurd s
+  kept_like (asked.Named c n) (asked.GoesOn m e f) s kept = absurd s
+  kept_like (asked.Named c n) (asked.Named d t) s kept =
+      let first = subst (λ y. IsKept i root start (λ x. ReachesNamed i x y n.now) set) s.0 kept in
+      subst (λ y. IsKept i root start (λ x. ReachesNamed i x d.0 y) set) s.1 first
+
+module _ (i : Instance) (atoms : List Asked) (entries : List (Option Entry)) where
   -- one entry more
-  pub kept_more : (l : Way) (c d p : ℕ) (entry : Entry) → c < 64 → d < 64 → p ≡ place_of l c d → p < length entries
-      → AreKept i entries → IsKept i entry.root.0 entry.start (GoesOn i l c d) (members entry.places)
-      → AreKept i (set entries p (Some entry))
-  kept_more l c d p entry h k is inside seen kept = record {
-    right = λ m e f n o. elim (cases_eq (place_of m e f) p) [
-      | inl q ↦
-          let s = same_place l m c d e f h k n o (sym is ∙ sym q) in
-          let at = get_or-set_at entries p (place_of m e f) (Some entry) None q inside in
-          let moved = subst (λ x. IsKept i entry.root.0 entry.start (GoesOn i l x d) (members entry.places)) s.1 kept in
-          let moved_on = subst (λ x. IsKept i entry.root.0 entry.start (GoesOn i l e x) (members entry.places)) s.2
-          moved in
-          subst (λ r. IsRight i (GoesOn i m e f) r) (sym at)
-          (subst (λ x. IsKept i entry.root.0 entry.start (GoesOn i x e f) (members entry.places)) s.0 moved_on)
+  pub right_more : (k : ℕ) (atom : Asked) (entry : Entry) → k < length entries → IsAtomAt atoms k atom
+      → AreRight i atoms entries → IsKept i entry.root.0 entry.start (IsSo i atom) (members entry.places)
+      → AreRight i atoms (set entries k (Some entry))
+  right_more k atom entry inside at seen kept = record {
+    right = λ j a h q. elim (cases_eq j k) [
+      | inl e ↦
+          let same = at.same a (subst (λ n. a ≡ get_or atoms n a) e q) in
+          let own = kept_like i entry.root.0 entry.start (members entry.places) atom a (same_sym a atom same) kept in
+          subst (λ r. IsRight i (IsSo i a) r) (sym (get_or-set_at entries k j (Some entry) None e inside)) own
       | inr ne ↦
-          let other = get_or-set_other entries p (place_of m e f) (Some entry) None ne in
-          subst (λ r. IsRight i (GoesOn i m e f) r) (sym other) (seen.right m e f n o)
+          subst (λ r. IsRight i (IsSo i a) r) (sym (get_or-set_other entries k j (Some entry) None ne))
+          (seen.right j a h q)
     ];
   }
+
+  -- what is kept at the place of an atom is so of that atom
+  pub right_at : (k : ℕ) (atom : Asked) (entry : Entry) → IsAtomAt atoms k atom → AreRight i atoms entries
+      → get_or entries k None ≡ Some entry → IsKept i entry.root.0 entry.start (IsSo i atom) (members entry.places)
+  right_at k atom entry at seen e =
+      let a = get_or atoms k atom in
+      let is = get_or_default atoms k atom a at.inside in
+      let right = subst (λ r. IsRight i (IsSo i a) r) e (seen.right k a at.inside is) in
+      kept_like i entry.root.0 entry.start (members entry.places) a atom (at.same a is) right
 
 -- where there is no entry each is right
 right_none : (i : Instance) (P : ℕ → Type 0) (n k : ℕ) → IsRight i P (get_or (replicate n None) k None)
@@ -48,19 +68,11 @@ right_none i P (suc n) zero = tt
 right_none i P (suc n) (suc k) = right_none i P n k
 
 -- no entry at all
-pub kept_none : (i : Instance) (n : ℕ) (entries : List (Option Entry)) → entries ≡ replicate n None → AreKept i entries
-kept_none i n entries e = record {
-  right = λ m d f h k.
-      subst (λ l. IsRight i (GoesOn i m d f) (get_or l (place_of m d f) None)) (sym e)
-      (right_none i (GoesOn i m d f) n (place_of m d f));
-}
-
--- and no entry of a name
-pub named_none : (i : Instance) (atoms : List NameAtom) (n : ℕ) (entries : List (Option Entry))
-    → entries ≡ replicate n None → AreNamed i atoms entries
-named_none i atoms n entries e = record {
-  right = λ k atom h q.
-      subst (λ l. IsRight i (HasNamed i atom) (get_or l k None)) (sym e) (right_none i (HasNamed i atom) n k);
+pub all_none : (i : Instance) (atoms : List Asked) (n : ℕ) (entries : List (Option Entry))
+    → entries ≡ replicate n None → AreRight i atoms entries
+all_none i atoms n entries e = record {
+  right = λ k a h q.
+      subst (λ l. IsRight i (IsSo i a) (get_or l k None)) (sym e) (right_none i (IsSo i a) n k);
 }
 
 -- where nothing else is so, it is none

@@ -5,20 +5,11 @@ ghost use Rattle.olap_check.specs.Seen.{GoesOn, IsSo};
 ghost use Rattle.olap_check.specs.Tables.{cell};
 ghost use Rattle.olap_eval.specs.Shapes.{IsShape};
 
+use crate::asked::{Asked, Way};
 use crate::parting::ancestor;
-use crate::ways::Way;
 use olap_base::{CatId, MemberId, Text};
 use olap_eval::Shape;
 use olap_instance::Instance;
-
-/// What is asked of a member.
-#[derive(Clone, Copy)]
-pub(crate) enum Asked<'a> {
-    /// Whether it goes on that way from a member of the first category to one of the second.
-    GoesOn(Way, CatId, CatId),
-    /// Whether it reaches a member of the category that has this name.
-    Named(CatId, &'a Text),
-}
 
 /// What x reaches, read from the table of ancestors.
 #[derive(Clone, Copy)]

@@ -1,19 +1,19 @@
 // A formula at many members at once: at those of one category among the places of a block.
 ghost use Rattle.std.specs.Prelude.{◌≡◌, ◌+◌, ◌<◌, ◌≤◌, ◌↔◌, length, map, ℕ, true, IsTrue, IfSome, IsNone};
 ghost use Rattle.std.specs.FinSet as set;
-ghost use Rattle.olap_ast.specs.Formula.{Holds, HasPath, ReachesNamed, ExactlyOneHolds, NoneHolds};
+ghost use Rattle.olap_ast.specs.Formula.{Holds, HasPath, ExactlyOneHolds, NoneHolds};
 ghost use Rattle.olap_ast.specs.Trees.{formula_of, terms_of};
 ghost use Rattle.olap_base.specs.Instance.{IsMemberOf};
 ghost use Rattle.olap_bits.specs.Sets.{members};
 ghost use Rattle.olap_check.specs.Blocks.{AreMembersFrom, IsBlock, IsFirstUnmetFrom, Selects, width};
-ghost use Rattle.olap_check.specs.Seen.{GoesOn, IsSeen, IsSo};
+ghost use Rattle.olap_check.specs.Seen.{IsSeen, IsSo};
 
-use crate::above::{Above, Asked};
+use crate::above::Above;
+use crate::asked::{Asked, Way};
 use crate::places::{Places, WIDTH};
-use crate::seen::Seen;
-use crate::ways::{Entry, Way};
+use crate::seen::{Entry, Seen};
 use olap_ast::{Formula, Terms};
-use olap_base::{CatId, MemberId, Text};
+use olap_base::{CatId, MemberId};
 use olap_instance::Instance;
 
 /// The members of the root at `WIDTH` places of the instance, from `start` on.
@@ -92,23 +92,23 @@ impl<'a> Block<'a> {
         truths
     }
 
-    /// The places above which it goes on that way from c to d, remembered or asked now.
-    fn going_on(&self, way: Way, c: CatId, d: CatId, seen: &mut Seen) -> Places
+    /// The places at which what is asked is so, remembered or asked now.
+    fn look_up(&self, asked: Asked, seen: &mut Seen) -> Places
         requires { IsSeen self.now.instance.now seen.old }
         ensures seen { IsSeen self.now.instance.now seen.new }
         ensures places { Selects (members self.now.places)
-            (λ k. GoesOn self.now.instance.now way c.0 d.0 (self.now.start + k)) (members result) }
+            (λ k. IsSo self.now.instance.now asked.entry (self.now.start + k)) (members result) }
     {
-        if let Some(places) = seen.ways.kept(way, c, d, self.root, self.start) {
+        if let Some(places) = seen.kept(asked, self.root, self.start) {
             return places;
         }
-        let places = self.places_of(Asked::GoesOn(way, c, d));
+        let places = self.places_of(asked);
         let entry = Entry {
             root: self.root,
             start: self.start,
             places,
         };
-        seen.ways.keep(way, c, d, entry);
+        seen.keep(asked, entry);
         places
     }
 
@@ -122,33 +122,10 @@ impl<'a> Block<'a> {
         let mut at = self.root;
         let mut truths = self.places;
         'path: for c in categories {
-            truths = truths.meet(self.going_on(Way::Steps, at, *c, seen));
+            truths = truths.meet(self.look_up(Asked::GoesOn(Way::Steps, at, *c), seen));
             at = *c;
         }
         truths
-    }
-
-    /// The places above which a member of d has this name, remembered or asked now.
-    fn named(&self, d: CatId, text: &Text, seen: &mut Seen) -> Places
-        requires { IsSeen self.now.instance.now seen.old }
-        ensures seen { IsSeen self.now.instance.now seen.new }
-        ensures places { Selects (members self.now.places)
-            (λ k. ReachesNamed self.now.instance.now (self.now.start + k) d.0 text.now) (members result) }
-    {
-        let Some(place) = seen.names.place(d, text) else {
-            return self.places_of(Asked::Named(d, text));
-        };
-        if let Some(places) = seen.names.kept(place, d, text, self.root, self.start) {
-            return places;
-        }
-        let places = self.places_of(Asked::Named(d, text));
-        let entry = Entry {
-            root: self.root,
-            start: self.start,
-            places,
-        };
-        seen.names.keep(place, d, text, entry);
-        places
     }
 
     /// The places at which the formula is true.
@@ -166,9 +143,9 @@ impl<'a> Block<'a> {
             Formula::True => self.places,
             Formula::False => Places::empty(),
             Formula::Path(categories) => self.along(categories.items(), seen),
-            Formula::Reach(d) => self.going_on(Way::Reaches, self.root, *d, seen),
-            Formula::Via(d, e) => self.going_on(Way::Reaches, *d, *e, seen),
-            Formula::Equals(d, text) => self.named(*d, text, seen),
+            Formula::Reach(d) => self.look_up(Asked::GoesOn(Way::Reaches, self.root, *d), seen),
+            Formula::Via(d, e) => self.look_up(Asked::GoesOn(Way::Reaches, *d, *e), seen),
+            Formula::Equals(d, text) => self.look_up(Asked::Named(*d, text), seen),
             Formula::Not(g) => self.places.minus(self.holding(g, seen)),
             Formula::And(g, h) => self.holding(g, seen).meet(self.holding(h, seen)),
             Formula::Or(g, h) => self.holding(g, seen).union(self.holding(h, seen)),

@@ -6,13 +6,14 @@
 #![tactic(auto)]
 
 mod above;
+mod asked;
 mod blocks;
 mod checking;
+mod gathering;
 mod laws;
 mod legality;
 mod linking;
 mod meeting;
-mod naming;
 mod parting;
 mod passing;
 mod places;
@@ -20,7 +21,6 @@ mod rising;
 mod seen;
 mod strata;
 mod violations;
-mod ways;
 
 pub use checking::check;
 pub use legality::Legal;

@@ -18,10 +18,10 @@ pub holding-returns-in-Reach-clause-places : goal.holding-returns-in-Reach-claus
 holding-returns-in-Reach-clause-places t c =
     let b = c.args.self.now in
     let places = members b.places in
-    let set = members c.going_on.result in
+    let set = members c.look_up.result in
     select_part places (TrueAt b.instance.now b.start) set (sym c.in-Reach.is)
     (reach_selected b.instance.now b.root.0 b.start places b.sound.exact c.in-Reach.d.0 set
-    c.going_on.ensures.places)
+    c.look_up.ensures.places)
 
 pub holding-returns-in-Not-clause-places : goal.holding-returns-in-Not-clause-places
 holding-returns-in-Not-clause-places t c =

@@ -20,9 +20,9 @@ path-preserved c =
     let truths = members c.path.truths in
     let goes_on = subst (λ l. IsAlong b.instance.now b.categories b.start b.cells.now (members b.places) path truths
     c.path.at.0 l) (rest_is c.args.categories.now c.path.c-index c.path-test.true) c.path.invariant.1 in (
-      c.going_on.ensures.seen,
+      c.look_up.ensures.seen,
       along_more b.instance.now b.categories b.root.0 b.start b.cells.now (members b.places) b.sound goes_on
-          (members c.going_on.result) c.going_on.ensures.places c.meet-truths.ensures,
+          (members c.look_up.result) c.look_up.ensures.places c.meet-truths.ensures,
     )
 
 pub returns-clause-places : goal.returns-clause-places

@@ -2,7 +2,7 @@
 use Rattle.std.proofs.Common.{◌≤◌, ◌+◌, ◌*◌}
 use Rattle.olap_ast.specs.Trees.{formula_of, terms_of}
 use Rattle.olap_ast.specs.Valid.{node_count, node_count_of_terms}
-use Rattle.olap_check.proofs.naming.+gather.Given as goal
+use Rattle.olap_check.proofs.gathering.+gather.Given as goal
 
 abbrev pub decreases-gather : goal.decreases-gather
 decreases-gather l = 2 * node_count (formula_of l.f.now)

@@ -1,8 +1,0 @@
--- No entry is there.
-use Rattle.olap_check.proofs.SeenLemmas.{named_none, only_none}
-use Rattle.olap_check.proofs.naming.Names.new.Goals as goal
-
-pub returns : goal.returns
-returns c = λ i.
-    named_none i _ _ c.in_ok-entries.entries.items
-    (c.in_ok-entries.ensures.items_if_clones_equal (only_none _ (λ x q. q)))
