@@ -13,6 +13,16 @@ pub(crate) enum Way {
     Steps,
 }
 
+impl Way {
+    /// The row of the atoms that go on this way from a category.
+    pub(crate) fn row(self, c: CatId) -> usize {
+        match self {
+            Way::Reaches => 2 * usize::from(c.0),
+            Way::Steps => 2 * usize::from(c.0) + 1,
+        }
+    }
+}
+
 /// What is asked of a member.
 #[derive(Clone, Copy)]
 pub(crate) enum Asked<'a> {
@@ -34,24 +44,17 @@ impl<'a> Asked<'a> {
         }
     }
 
-    /// The row of the atoms that ask alike of one category.
-    pub(crate) fn row(self) -> usize {
-        match self {
-            Asked::GoesOn(Way::Reaches, c, _) => 3 * usize::from(c.0),
-            Asked::GoesOn(Way::Steps, c, _) => 3 * usize::from(c.0) + 1,
-            Asked::Named(c, _) => 3 * usize::from(c.0) + 2,
-        }
-    }
-
-    /// Whether it stands before the other: by row, then by the second category or the name.
+    /// Whether it stands before the other: pairs by row and second category, then names by category and text.
     pub(crate) fn is_before(self, other: Asked) -> bool {
-        let row = self.row();
-        let next = other.row();
         match (self, other) {
-            _ if row != next => row < next,
-            (Asked::GoesOn(_, _, d), Asked::GoesOn(_, _, e)) => d.0 < e.0,
-            (Asked::Named(_, s), Asked::Named(_, t)) => *s < *t,
-            _ => false,
+            (Asked::GoesOn(v, c, d), Asked::GoesOn(w, e, f)) => {
+                let row = v.row(c);
+                let next = w.row(e);
+                row < next || (row == next && d.0 < f.0)
+            }
+            (Asked::Named(c, s), Asked::Named(d, t)) => c.0 < d.0 || (c.0 == d.0 && *s < *t),
+            (Asked::GoesOn(_, _, _), Asked::Named(_, _)) => true,
+            (Asked::Named(_, _), Asked::GoesOn(_, _, _)) => false,
         }
     }
 }

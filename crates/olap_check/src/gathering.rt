@@ -7,20 +7,13 @@ use olap_ast::{Constraint, Formula, Terms};
 use olap_base::{CatId, Memory};
 use std::alloc::Global;
 
-/// Where the atoms of a row stand.
-#[derive(Clone, Copy)]
-pub(crate) struct Row {
-    pub from: usize,
-    pub to: usize,
-}
-
-/// Where the atom stands among those of a row; or, where it isn't found, where it would stand.
-pub(crate) fn find(atoms: &[Asked], row: Row, asked: Asked) -> Result<usize, usize>
+/// Where the atom stands; or, where it isn't found, where it would stand.
+pub(crate) fn find(atoms: &[Asked], asked: Asked) -> Result<usize, usize>
     ensures ok { IfOk result (λ k. IsAtomAt atoms.now k asked.entry) }
     ensures err { IfErr result (λ k. k ≤ length atoms.now) }
 {
-    let mut to = row.to.min(atoms.len());
-    let mut from = row.from.min(to);
+    let mut from = 0;
+    let mut to = atoms.len();
     'halves: while from < to {
         let middle = from + (to - from) / 2;
         let atom = atoms[middle];
@@ -38,11 +31,7 @@ pub(crate) fn find(atoms: &[Asked], row: Row, asked: Asked) -> Result<usize, usi
 
 /// Puts the atom into its place, if it is new.
 fn add<'a>(asked: Asked<'a>, atoms: &mut Vec<Asked<'a>>) -> Result<(), Memory> {
-    let all = Row {
-        from: 0,
-        to: atoms.len(),
-    };
-    if let Err(k) = find(atoms, all, asked) {
+    if let Err(k) = find(atoms, asked) {
         atoms.insert(k, asked)?;
     }
     Ok(())
@@ -109,15 +98,27 @@ pub(crate) fn atoms_of<'a>(
     Ok(atoms)
 }
 
-/// Where the atoms of each row stand.
-pub(crate) fn rows_of(alloc: Global, atoms: &[Asked]) -> Result<Vec<Row>, Memory> {
+/// Notes where the atom of a second category stands.
+fn note(row: &mut Vec<usize>, d: CatId, place: usize) -> Result<(), Memory> {
+    let cell = usize::from(d.0);
+    'cells: while row.len() <= cell {
+        row.push(0)?;
+    }
+    row[cell] = place;
+    Ok(())
+}
+
+/// For each way and first category, a row: for each second category where their atom stands, if they have one.
+pub(crate) fn rows_of(alloc: Global, atoms: &[Asked]) -> Result<Vec<Vec<usize>>, Memory> {
     let mut rows = Vec::new(alloc);
     'atoms: for k in 0..atoms.len() {
-        let row = atoms[k].row();
-        'empty: while rows.len() <= row {
-            rows.push(Row { from: k, to: k })?;
+        if let Asked::GoesOn(way, c, d) = atoms[k] {
+            let row = way.row(c);
+            'rows: while rows.len() <= row {
+                rows.push(Vec::new(alloc))?;
+            }
+            note(&mut rows[row], d, k)?;
         }
-        rows[row].to = k + 1;
     }
     Ok(rows)
 }

@@ -5,7 +5,7 @@ ghost use Rattle.olap_bits.specs.Sets.{members};
 ghost use Rattle.olap_check.specs.Seen.{IsAtomAt, IsKept, IsSeen, IsSo};
 
 use crate::asked::Asked;
-use crate::gathering::{Row, atoms_of, find, rows_of};
+use crate::gathering::{atoms_of, find, rows_of};
 use crate::places::Places;
 use olap_ast::Constraint;
 use olap_base::{CatId, Memory};
@@ -21,13 +21,22 @@ pub(crate) struct Entry {
 
 /// The atoms of some constraints, each once, and for each the places of the block of which it was asked last.
 ///
-/// An entry tells its block, so nothing needs to be forgotten where the next block begins. The atoms are in order, and
-/// `rows` tells where those of each row stand: that makes the search short, and no clause rests on it.
+/// An entry tells its block, so nothing needs to be forgotten where the next block begins. A name is searched for, since
+/// the atoms are in order; `rows` tells where a pair of categories stands. No clause rests on either: what is found is
+/// compared.
 #[derive(Drop)]
 pub(crate) struct Seen<'a> {
     pub atoms: Vec<Asked<'a>>,
-    pub rows: Vec<Row>,
+    pub rows: Vec<Vec<usize>>,
     pub entries: Vec<Option<Entry>>,
+}
+
+/// The number in a row's cell, if it has so many.
+fn cell(rows: &Vec<Vec<usize>>, row: usize, cell: usize) -> Option<usize> {
+    if row < rows.len() && cell < rows[row].len() {
+        return Some(rows[row][cell]);
+    }
+    None
 }
 
 impl<'a> Seen<'a> {
@@ -49,11 +58,14 @@ impl<'a> Seen<'a> {
     fn place(&self, asked: Asked) -> Option<usize>
         ensures { IfSome result (λ k. IsAtomAt self.now.atoms.items k asked.entry) }
     {
-        let row = asked.row();
-        if row >= self.rows.len() {
-            return None;
+        let Asked::GoesOn(way, c, d) = asked else {
+            return find(&self.atoms, asked).ok();
+        };
+        let k = cell(&self.rows, way.row(c), usize::from(d.0))?;
+        if k < self.atoms.len() && self.atoms[k].is(asked) {
+            return Some(k);
         }
-        find(&self.atoms, self.rows[row], asked).ok()
+        None
     }
 
     /// The places of the block from `start` on, if they are remembered.

@@ -1,6 +1,6 @@
--- Rows are added up to the atom's.
+-- Rows are added up to that of the atom.
 use Rattle.std.proofs.Common.{◌-◌, ◌+◌, vec_len}
 use Rattle.olap_check.proofs.gathering.rows_of.Given as goal
 
-abbrev pub decreases-empty : goal.decreases-empty
-decreases-empty l = l.row + 1 - vec_len l.rows
+abbrev pub decreases-rows : goal.decreases-rows
+decreases-rows l = l.row + 1 - vec_len l.rows
