@@ -8,6 +8,9 @@ from pathlib import Path
 TOP = Path(__file__).resolve().parent.parent.parent
 CRATES = TOP / "crates"
 
+# The crates that are tests of others.
+TESTS = ("olap_compare", "olap_questions", "olap_rows", "olap_tests", "olap_view_tests")
+
 FUNCTION = re.compile(r"( *)(?:pub(?:\([a-z]+\))? )?(?:const )?(?:unsafe )?fn (\w+)")
 BLOCK = re.compile(r"(?:pub )?(impl|trait)\b\s*(?:<[^{]*?>)?\s*([^{;]*)")
 CLAUSE = re.compile(r"\s*ensures (\w*) ?\{")
@@ -23,10 +26,25 @@ class Function:
     trait: str = ""
     public: bool = False
     labels: list = field(default_factory=list)  # an unlabelled clause has the label ""
+    file: Path | None = None
+    lines: list = field(default_factory=list)  # from its first line to the last one of its body
+    crate: str = ""
+
+    @property
+    def key(self):
+        """What tells it from all others, but from one of the same name and type."""
+        return self.crate, self.owner, self.name
 
 
 def crate_names():
     return sorted(folder.name for folder in CRATES.iterdir() if (folder / "src").is_dir())
+
+
+@cache
+def below(crate):
+    """The crates that a crate stands on, as its line of crates.txt lists them."""
+    lines = (TOP / "crates.txt").read_text().splitlines()
+    return next(line.split(":")[1].split() for line in lines if line.startswith(f"{crate}:"))
 
 
 def module_of(crate, file):
@@ -53,7 +71,7 @@ def functions(crate):
     """All functions of a crate. Its sources are formatted, so a body ends where a line closes at its indent."""
     found = []
     for file in sorted((CRATES / crate / "src").rglob("*.rt")):
-        owner, trait, is_trait, current = "", "", False, None
+        owner, trait, is_trait, current, last = "", "", False, None, None
         for line in file.read_text().splitlines():
             if BLOCK.match(line) and not line.startswith(" "):
                 owner, trait, is_trait = owner_of(line)
@@ -61,12 +79,17 @@ def functions(crate):
                 owner, trait, is_trait, current = "", "", False, None
             if head := FUNCTION.match(line):
                 public = is_trait or line.lstrip().startswith("pub ")
-                current = Function(head.group(2), module_of(crate, file), owner, trait, public)
+                current = Function(head.group(2), module_of(crate, file), owner, trait, public, file=file, crate=crate)
                 found.append(current)
+                last = current
             elif current and (clause := CLAUSE.match(line)):
                 current.labels.append(clause.group(1))
             elif current and re.match(r" *(\{|\{\}|\})$", line):
                 current = None
+            if last:
+                last.lines.append(line)
+                if line == re.match(" *", last.lines[0]).group(0) + "}" or line.endswith("{}"):
+                    last = None
     return found
 
 

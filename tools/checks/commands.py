@@ -1,0 +1,48 @@
+"""Each command of the program stands in each place that lists commands, and no other does.
+
+The commands are those of crates/olap_run/src/words.rt. Of docs/PROVED.md only the other way is left out: its rows speak of
+more than commands.
+"""
+
+import re
+
+from . import sources
+
+WORDS = sources.CRATES / "olap_run" / "src" / "words.rt"
+
+# Where commands are listed, what leads to the list there, and the form of a name in it.
+ROW = r"^\| `(\w+) [A-Z]"
+PLACES = (
+    ("README.md", "", ROW),
+    ("docs/FORMATS.md", "\n| words | what it does | status |\n", ROW),
+    ("docs/FORMATS.md", "\n| command | order |\n", r"^\| `(\w+)` \|"),
+    ("man/olap.1", "\n.SH SYNOPSIS\n", r"^\\fBolap (\w+)\\fR"),
+    ("man/olap.1", "\n.SH COMMANDS\n", r'^\.BI (\w+) "'),
+    ("completions/olap.bash", "\n        for each in ", r"\b([a-z]{3,})\b(?=[a-z ]*; do$)"),
+    ("examples/runs.txt", "", r"^[013456] \S+ (\w+)"),
+    ("tools/attack", "", r'\["([a-z]+)", '),
+    ("tools/refuse-memory", "\nCOMMANDS = (\n", r'^    \["(\w+)", '),
+    ("tools/real-edges", "\nORDERS = (\n", r'^    \(\["(\w+)", '),
+)
+
+
+def section(text, start):
+    """The part of a text after what begins it, up to the end of a table, a list or a section; without a start all of it."""
+    after = text.partition(start)[2] if start else text
+    return re.split(r"\n\n|\n\.SH |\n\)\n|(?<=; do)\n", after, maxsplit=1)[0] if start else after
+
+
+def faults():
+    commands = set(re.findall(r'^ +"(\w+)" => ', WORDS.read_text(), re.M))
+    if not commands:
+        yield WORDS, "no command was read"
+    for place, start, form in PLACES:
+        file = sources.TOP / place
+        listed = set(re.findall(form, section(file.read_text(), start), re.M))
+        for name in sorted(commands - listed):
+            yield file, f"it lacks the command {name}" + (f", after {start.strip()}" if start else "")
+        for name in sorted(listed - commands):
+            yield file, f"no such command: {name}"
+    proved = sources.TOP / "docs" / "PROVED.md"
+    for name in sorted(name for name in commands if not re.search(rf"`{name}`", proved.read_text())):
+        yield proved, f"no row speaks of the command {name}"
