@@ -1,6 +1,7 @@
 // The real files and standard output, as a library and a sink. They tell no content and no name, so what a real
 // file holds is nothing that a proof knows.
 ghost use Rattle.std.specs.Prelude.{◌≡◌, ◌==◌, None, false, is_some};
+ghost use Rattle.olap_cli.specs.Calls.{refused_calls, refused_writes};
 
 use olap_base::{Failed, Library, OpenError, Sink};
 use std::fs::Files;
@@ -18,8 +19,10 @@ pub struct FileLibrary<'a, R: Files> {
 }
 
 impl<'a, R: Files> FileLibrary<'a, R> {
-    /// No file is open.
-    pub fn new(rt: &'a R) -> FileLibrary<'a, R> {
+    /// No file is open, and no call was refused.
+    pub fn new(rt: &'a R) -> FileLibrary<'a, R>
+        ensures quiet { refused_calls result ≡ 0 }
+    {
         FileLibrary {
             rt,
             file: None,
@@ -89,8 +92,10 @@ pub struct StdoutSink<'a, P: Print> {
 }
 
 impl<'a, P: Print> StdoutSink<'a, P> {
-    /// Nothing is written.
-    pub fn new(to: &'a P) -> StdoutSink<'a, P> {
+    /// Nothing is written, and no call was refused.
+    pub fn new(to: &'a P) -> StdoutSink<'a, P>
+        ensures quiet { refused_writes result ≡ 0 }
+    {
         StdoutSink { to, faults: 0 }
     }
 }

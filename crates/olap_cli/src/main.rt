@@ -1,5 +1,8 @@
-//! The program: the words behind its name, the real files, standard output, and the exit status.
+//! The program: the words after its name, the real files, standard output, and the exit status.
 #![tactic(auto)]
+
+ghost use Rattle.std.specs.Prelude.{◌≡◌, ◌≢◌};
+ghost use Rattle.olap_cli.specs.Statuses.{exit_status};
 
 mod adapters;
 #[cfg(test)]
@@ -13,7 +16,9 @@ use std::io::ErrorKind;
 use std::process::ExitCode;
 
 /// The exit status.
-fn code(status: Status) -> u8 {
+fn code(status: Status) -> u8
+    ensures { result ≡ exit_status status }
+{
     match status {
         Status::Yes => 0,
         Status::No => 1,
@@ -25,9 +30,12 @@ fn code(status: Status) -> u8 {
     }
 }
 
-/// The status where the words can't be had. Words that aren't UTF-8 are no command: they end as wrong words do, with
+/// The status if the words can't be had. Words that aren't UTF-8 are no command: they end as wrong words do, with
 /// nothing printed.
-fn without_words(why: ErrorKind) -> Status {
+fn without_words(why: ErrorKind) -> Status
+    ensures memory { why ≡ ErrorKind.OutOfMemory → result ≡ Status.Memory }
+    ensures usage { why ≢ ErrorKind.OutOfMemory → result ≡ Status.Usage }
+{
     match why {
         ErrorKind::OutOfMemory => Status::Memory,
         _ => Status::Usage,

@@ -1,0 +1,15 @@
+-- The exit statuses.
+--     exit_status    the number by which the shell is told how a run ended
+use Rattle.std.specs.Prelude.{ℕ}
+use Rattle.olap_run.specs.declared.status.Status.{Status}
+use Rattle.olap_run.specs.declared.status.Status.TheVariants as statuses
+
+-- the number by which the shell is told how a run ended
+abbrev pub exit_status : Status → ℕ
+exit_status statuses.Yes = 0
+exit_status statuses.No = 1
+exit_status statuses.Usage = 2
+exit_status statuses.Refused = 3
+exit_status statuses.ReadFault = 4
+exit_status statuses.WriteFault = 5
+exit_status statuses.Memory = 6
