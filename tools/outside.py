@@ -16,9 +16,9 @@ TOP = Path(__file__).resolve().parent.parent
 PROGRAM = TOP / "crates" / "olap_cli" / "out" / "olap_cli"
 PATIENCE = 60  # seconds
 
-# FAULTS has a fault for each call or stretch of calls, as `3-3 f 5;4-9 s 1;`: the calls from the third to the third fail
-# with the error 5, those from the fourth to the ninth are handed one byte at most. REFUSED is the first and the last
-# request for memory that is refused. CALLS and REQUESTS name the files for what was called, and how much was requested.
+# FAULTS has a fault for each stretch of calls, as `3-3 f 5;4-9 s 1;`: the third call fails with the error 5, and those
+# from the fourth to the ninth are handed one byte at most. REFUSED is the first and the last request for memory that is
+# refused. CALLS and REQUESTS name the files for what was called, and how often memory was requested.
 SOURCE = r"""
 #define _GNU_SOURCE
 #include <dlfcn.h>

@@ -27,7 +27,7 @@ PLACES = (
 
 
 def section(text, start):
-    """The part of a text after what begins it, up to the end of a table, a list or a section; without a start all of it."""
+    """The part of a text after what begins it, up to the end of a table, list or section; without a start all of it."""
     after = text.partition(start)[2] if start else text
     return re.split(r"\n\n|\n\.SH |\n\)\n|(?<=; do)\n", after, maxsplit=1)[0] if start else after
 

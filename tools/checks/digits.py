@@ -12,7 +12,11 @@ LIMITS = sources.CRATES / "olap_base" / "specs" / "Limits.antt"
 # Other numbers that are equal to a limit, by crate, with what they are.
 OTHERS = {
     "olap_bits": {"64": "the bits of a word of a set"},
-    "olap_check": {"256": "the places of a block of members"},
+    "olap_check": {
+        "256": "the places of a block of members",
+        "4294967295": "the place of no member",
+        "4_294_967_295": "the place of no member",
+    },
     "olap_clauses": {
         "64": "what is added to a score, and the rounds after which the number of conflicts begins anew",
         "256": "the room with which a pool is full",

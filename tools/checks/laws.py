@@ -10,8 +10,10 @@ def is_law(function):
 
 
 def faults():
-    named = {call for cells in register.rows(register.REGISTER.read_text()) for call in register.NAMES.findall(cells[1])}
+    rows = register.rows(register.REGISTER.read_text())
+    named = {call for cells in rows for call in register.NAMES.findall(cells[1])}
     for crate in sources.crate_names():
         for function in sources.functions(crate):
-            if is_law(function) and function.name in sources.exports(crate) and f"{crate}::{function.name}" not in named:
-                yield register.REGISTER, f"no row has the law {crate}::{function.name}"
+            call = f"{crate}::{function.name}"
+            if is_law(function) and function.name in sources.exports(crate) and call not in named:
+                yield register.REGISTER, f"no row has the law {call}"

@@ -17,7 +17,8 @@ def said(crate):
 
 def named(crate):
     """All words of the crate's sources, definitions and proofs."""
-    files = (file for kind in ("src/**/*.rt", "specs/**/*.antt", "proofs/**/*.antt") for file in (sources.CRATES / crate).glob(kind))
+    kinds = ("src/**/*.rt", "specs/**/*.antt", "proofs/**/*.antt")
+    files = (file for kind in kinds for file in (sources.CRATES / crate).glob(kind))
     return {word for file in files for word in re.findall(r"\w+", file.read_text())}
 
 
