@@ -2,19 +2,16 @@
 --     many_nodes, too_deep, bad_form    the fault of the formula, by what was counted
 --     unversioned, no_constraint, no_formula    the fault of the line
 --     no_question    the fault of the question
-use Rattle.std.proofs.Common.{◌≡◌, ◌≤◌, ◌<◌, ◌==◌, ◌&&◌, ◌+◌, ◌++◌, ◌∷◌, ◌∙◌, Bool, true, false, cond, ℕ, suc, List, [], codes, length, drop, nat_le, nat_lt, Option, None, Some, Err, refl, sym, ap, subst, arith}
+use Rattle.std.proofs.Common.{◌≡◌, ◌≤◌, ◌<◌, ◌+◌, ◌++◌, ◌∷◌, ◌∙◌, true, false, cond, ℕ, suc, List, length, nat_lt, Option, None, Some, Err, refl, sym, ap, subst, arith}
 use Rattle.std.specs.Borrow.{Bor}
 use Rattle.std.specs.Prelude.{is_some}
-use Rattle.std.specs.Str.{bytes_eq}
-use Rattle.std.proofs.lemmas.Bool.{le-leb, le-ltb, lt-ltb, ne_eqb}
-use Rattle.std.proofs.lemmas.List.{get_or_append_left, length-append, length-drop}
+use Rattle.std.proofs.lemmas.Bool.{le-ltb, lt-ltb}
+use Rattle.std.proofs.lemmas.List.{length-append}
 use Rattle.std.proofs.lemmas.List.Sums.{sum_by-cons}
-use Rattle.std.proofs.lemmas.Slice.Eq.{bytes_eq-Decides}
 use Rattle.olap_ast.specs.Formula.{Formula}
 use Rattle.olap_ast.specs.Schema.{Schema}
 use Rattle.olap_base.specs.Graph.{Graph}
 use Rattle.olap_base.specs.Limits.{most_nodes}
-use Rattle.olap_base.specs.Reaching.{is_category_name, is_category_name_is}
 use Rattle.olap_grammar.specs.Brackets.{most_tokens, opens_over}
 use Rattle.olap_grammar.specs.Keeping.{Begins, BeginsFound, IsTallyOf, Kept}
 use Rattle.olap_grammar.specs.Machine.{the_formula}

@@ -8,7 +8,6 @@ use Rattle.olap_grammar.specs.declared.tokens.Token.{Token}
 use Rattle.olap_grammar.specs.declared.tokens.Token.TheVariants as token
 use Rattle.olap_grammar.specs.declared.tokens.Mark.TheVariants as mark
 use Rattle.olap_schema.specs.Statements.{Statement, Version, Category, Edge, Constraint, Other, statement_of}
-use Rattle.olap_schema.specs.declared.statements.Version.TheVariants as version
 
 -- the tokens of a statement
 abbrev pub IsSaid : List Token → Statement → Type 0

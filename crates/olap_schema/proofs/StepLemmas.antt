@@ -2,10 +2,9 @@
 --     Step        the ways in which a line goes on
 --     stepped     a line without a fault goes on in one of them
 --     all_steps   what each line keeps, all lines keep
-use Rattle.std.proofs.Common.{◌≡◌, ◌+◌, ℕ, Bool, true, false, cond, List, [], ◌∷◌, ◌++◌, Option, Some, None, drop, length, fold, refl, sym, subst}
-use Rattle.std.specs.Prelude.{◌==◌, ◌||◌, ◌&&◌, Result, Ok, Err, codes, nat_lt, nat_le}
+use Rattle.std.proofs.Common.{◌≡◌, ◌+◌, ℕ, Bool, true, false, cond, List, [], ◌∷◌, ◌++◌, Option, Some, None, length, fold, refl, sym, subst}
+use Rattle.std.specs.Prelude.{◌==◌, ◌||◌, Result, Ok, Err, nat_lt, nat_le}
 use Rattle.std.specs.List.{list_any}
-use Rattle.std.specs.Str.{bytes_eq}
 use Rattle.olap_ast.specs.Formula.{Formula, equalities}
 use Rattle.olap_ast.specs.Valid.{with_pair}
 use Rattle.olap_base.specs.Reaching.{is_category_name}
@@ -24,7 +23,6 @@ use Rattle.olap_schema.specs.Lines.{is_bad, chomped, is_quiet}
 use Rattle.olap_schema.specs.Statements.{Statement, Statement.Version, Statement.Category, Statement.Edge, Statement.Constraint, Statement.Other, statement_of}
 use Rattle.olap_schema.specs.Tokens.{is_long, token_nodes}
 use Rattle.olap_schema.specs.declared.kinds.SchemaKind.{SchemaKind}
-use Rattle.olap_schema.specs.declared.kinds.SchemaKind.TheVariants as kind
 use Rattle.olap_schema.specs.declared.statements.Version.{Version as TextVersion}
 use Rattle.olap_schema.proofs.StatementLemmas.{IsSaid, is_said}
 use Rattle.olap_schema.proofs.ValidTexts.{AreFine, drop_fine, line_is_fine}
