@@ -17,7 +17,7 @@ use Rattle.olap_names.proofs.OrderLemmas.{NoneBefore, compare, least_here, left,
 use Rattle.olap_frozen.proofs.ChosenInstance.{sound_of_frozen}
 use Rattle.olap_frozen.proofs.ChosenLemmas.{choice_of}
 use Rattle.olap_frozen.specs.Chosen.{IsSound}
-use Rattle.olap_frozen.specs.Leaves.{AreAbsentZero, IsSized, chosen_of, of_declared}
+use Rattle.olap_frozen.specs.Leaves.{AreAbsentZero, IsSized, IsZeroAtAll, chosen_of, of_declared}
 use Rattle.olap_graph.specs.Rows.{row}
 use Rattle.olap_plain.specs.Searching.{AreFirstNames, NoneWith, code_of}
 
@@ -45,8 +45,8 @@ zero_names [] ys z n = tt
 zero_names (x ∷ xs) ys z (inl l) = absurd (omega arith)
 zero_names (x ∷ xs) ys z (inr t) = t.1
 
-module _ (g : Graph) (cs : List Constraint) (q : Formula) (k : Named) (r : ℕ) (bits : List Bool)
-    (rows : List (CatSet 1)) where
+module _ {W : ℕ} (g : Graph) (cs : List Constraint) (q : Formula) (k : Named) (r : ℕ) (bits : List Bool)
+    (rows : List (CatSet W)) where
   abbrev n : ℕ
   n = category_count g
 
@@ -172,6 +172,10 @@ module _ (g : Graph) (cs : List Constraint) (q : Formula) (k : Named) (r : ℕ) 
         (least_here Stands bound n walk.indexes w.assigned.count w.none (0 ∷ h.names) (frozen_assigned is h e i)
         (as_names h e i));
   }
+
+  -- `All` has the index 0 all the way
+  pub walking_zero : (walk : Walk) → IsWalking walk → IsZeroAtAll walk.indexes
+  walking_zero walk w = let z : slice_index walk.indexes 0 ≤ 0 = w.assigned.within 0 (omega arith) in omega (arith, z)
 
   pub walking_ended : ((c : ℕ) → finite.contains (row rows r) c ≡ is_present r (chosen g.edges bits) c)
       → (walk : Walk) → IsWalking walk → (Stands walk.indexes → ⊥)

@@ -6,7 +6,8 @@ ghost use Rattle.olap_ast.specs.Trees.{constraint_of, formula_of};
 ghost use Rattle.olap_ast.specs.Valid.{distinct_pairs};
 ghost use Rattle.olap_base.specs.Limits.{most_constants};
 ghost use Rattle.olap_base.specs.Graph.{IsCategory, category_count};
-ghost use Rattle.olap_frozen.specs.Leaves.{chosen_of};
+ghost use Rattle.olap_frozen.specs.LeastFound.{HasNothing};
+ghost use Rattle.olap_frozen.specs.Leaves.{IsZeroAtAll, chosen_of};
 ghost use Rattle.olap_plain.specs.Searching.{AreFirstNames, NoneWith, code_of};
 ghost use Rattle.olap_plain.specs.Searches.{IsMadeWith};
 ghost use Rattle.olap_names.specs.Names.{atoms, candidates_of, with_graph};
@@ -14,9 +15,8 @@ ghost use Rattle.olap_names.specs.Walks.{IsLast, IsLastOpen, IsNext, IsStep};
 
 use olap_ast::{Constraint, Formula};
 use olap_base::{CatId, List, Memory};
-use olap_bits::CatSet;
 use olap_frozen::{Frozen, Room, close, is_sound, named};
-use olap_graph::Graph;
+use olap_graph::{Categories, Graph};
 use olap_names::{Candidates, NameWalk};
 use std::alloc::Global;
 
@@ -28,7 +28,7 @@ pub(crate) fn first_names(
     candidates: &Candidates,
     root: CatId,
     edges: &[bool],
-    rows: &mut [CatSet<1>],
+    rows: &mut [Categories],
     walk: &mut NameWalk,
 ) -> bool
     requires root { IsCategory graph.now root.0 }
@@ -40,6 +40,7 @@ pub(crate) fn first_names(
         (formula_of question.now) (candidates_of candidates.now) }
     ensures some { IsTrue result → AreFirstNames (with_graph graph.now (map constraint_of constraints.now))
         (formula_of question.now) root.0 (candidates_of candidates.now) edges.now walk.new.indexes }
+    ensures zero { IsTrue result → IsZeroAtAll walk.new.indexes }
     ensures none { result ≡ false → NoneWith (with_graph graph.now (map constraint_of constraints.now))
         (formula_of question.now) root.0 (candidates_of candidates.now) edges.now }
     ensures walk { length walk.new.indexes ≡ category_count graph.now }
@@ -135,7 +136,7 @@ fn least(
     candidates: &Candidates,
     root: CatId,
     edges: &mut [bool],
-    rows: &mut [CatSet<1>],
+    rows: &mut [Categories],
     walk: &mut NameWalk,
 ) -> bool
     requires root { IsCategory graph.now root.0 }
@@ -147,6 +148,7 @@ fn least(
         (formula_of question.now) (candidates_of candidates.now) }
     ensures some { IsTrue result → IsLeastFrozen (with_graph graph.now (map constraint_of constraints.now))
         (formula_of question.now) root.0 (candidates_of candidates.now) (chosen_of edges.new walk.new.indexes) }
+    ensures zero { IsTrue result → IsZeroAtAll walk.new.indexes }
     ensures none { result ≡ false → (f : TheFrozen)
         → IsFrozen (with_graph graph.now (map constraint_of constraints.now))
         (formula_of question.now) root.0 (candidates_of candidates.now) f → ⊥ }
@@ -216,8 +218,9 @@ impl Search {
 
     /// A value of the right sizes with nothing present.
     pub fn blank(&self) -> Result<Frozen, Memory>
-        ensures { IfOk result (λ f. (length f.edges ≡ length self.now.edges.items)
-            × (length f.names ≡ length self.now.walk.indexes)) }
+        ensures edges { IfOk result (λ f. length f.edges ≡ length self.now.edges.items) }
+        ensures names { IfOk result (λ f. length f.names ≡ length self.now.walk.indexes) }
+        ensures nothing { IfOk result HasNothing }
     {
         Ok(Frozen {
             root: self.root,
@@ -228,7 +231,7 @@ impl Search {
 
     /// The least frozen dimension whose root makes the question true. False where there is none; then `into` stays.
     ///
-    /// It takes no memory. Cost: in the worst case each choice of edges and names.
+    /// It can't return out of memory. Cost: in the worst case each choice of edges and names.
     pub fn first(
         &mut self,
         graph: &Graph,
@@ -243,6 +246,7 @@ impl Search {
         ensures some { IsTrue result → IsLeastFrozen (with_graph graph.now (map constraint_of constraints.now))
             (formula_of question.now) self.old.root.0 (candidates_of self.old.candidates)
             (chosen_of into.new.edges into.new.names) }
+        ensures zero { IsTrue result → IsZeroAtAll into.new.names }
         ensures none { result ≡ false → (f : TheFrozen)
             → IsFrozen (with_graph graph.now (map constraint_of constraints.now))
             (formula_of question.now) self.old.root.0 (candidates_of self.old.candidates) f → ⊥ }

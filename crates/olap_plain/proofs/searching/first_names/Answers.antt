@@ -7,7 +7,7 @@ use Rattle.olap_frozen.specs.Leaves.{AreAbsentZero, chosen_of}
 use Rattle.olap_graph.specs.Rows.{row}
 use Rattle.olap_graph.proofs.RowLemmas.{row_at}
 use Rattle.olap_frozen.proofs.SoundLemmas.{present_is}
-use Rattle.olap_plain.proofs.SearchLemmas.{assigned_absent, frozen_sound, walking_ended, walking_falls, walking_found, walking_next, walking_start}
+use Rattle.olap_plain.proofs.SearchLemmas.{assigned_absent, frozen_sound, walking_ended, walking_falls, walking_found, walking_next, walking_start, walking_zero}
 use Rattle.olap_plain.proofs.searching.first_names.Goals as goal
 
 pub returns-then-not-is_sound-clause-none : goal.returns-then-not-is_sound-clause-none
@@ -55,6 +55,13 @@ returns-then-named-clause-some c = λ t.
     (formula_of a.question.now) a.root.0
     (candidates_of a.candidates.now) (chosen_of a.edges.now xs)) c.indexes-names.ensures
     (c.named.ensures.0 c.if-named.true))
+
+pub returns-then-named-clause-zero : goal.returns-then-named-clause-zero
+returns-then-named-clause-zero c = λ t.
+    let a = c.args in
+    walking_zero a.graph.now (map constraint_of a.constraints.now) (formula_of a.question.now) a.candidates.now
+    a.root.0
+    a.edges.now c.close.new.rows c.names.walk c.names.invariant
 
 pub returns-then-not-next-clause-none : goal.returns-then-not-next-clause-none
 returns-then-not-next-clause-none c = λ t.
