@@ -28,6 +28,7 @@ fn most_at(a: &Asker<'_>, p: u16) -> u16
     ensures most { (x : ℕ) → InRange (task_of a.now) p x → x ≤ result }
 {
     let edges = a.graph.edges();
+    // Called for its clauses: the graph has few categories.
     let _few = a.graph.categories();
     if p < edges {
         1

@@ -202,7 +202,7 @@ impl Search {
 
     /// The least frozen dimension whose root makes the question true. False where there is none; then `into` stays.
     ///
-    /// It takes no memory.
+    /// It can't return out of memory.
     pub fn first(&mut self, schema: &Schema, question: &Formula, into: &mut Frozen) -> bool
         requires made { IsMadeWith (schema_of schema.now) (formula_of question.now) self.old }
         requires sizes { IsSizedFor self.old into.old }

@@ -109,6 +109,7 @@ fn assume_at(engine: &mut Engine, a: &Asker<'_>, p: u16, x: u16) -> bool
     ensures admits { (v : ℕ → Bool) → admits v engine.old → admits v engine.new }
 {
     let edges = a.graph.edges();
+    // Called for its clauses: the graph has few categories.
     let _few = a.graph.categories();
     if p < edges {
         assume_edge(engine, a, EdgeId(p), x == 1)

@@ -111,6 +111,7 @@ fn using_edge(
     ensures some { IfOk result (λ o. IfSome o (λ found. found.frozen.root.0 ≡ child.0)) }
     ensures witness { IfOk result (λ o. IfSome o (IsWitness (schema_of schema.now))) }
 {
+    // Called for its clauses: the schema is valid.
     let _valid = schema.constraints();
     let mut path = Vec::new(alloc);
     path.push(parent)?;

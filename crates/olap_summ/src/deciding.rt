@@ -41,6 +41,7 @@ impl Decision {
         requires { AreQuestionsFor (schema_of schema.now) questions.now }
         ensures { IfOk result (IsDecisionOf (schema_of schema.now) questions.now) }
     {
+        // Called for its clauses: the schema is valid.
         let _valid = schema.constraints();
         let graph = schema.graph();
         let mut searches = Vec::new(alloc);
@@ -75,7 +76,7 @@ impl Decision {
     /// isn't, `into` becomes the counterexample: the least frozen dimension of the first bottom category that has one
     /// whose root reaches the target, and not by exactly one source.
     ///
-    /// It takes no memory. As it is still a decision of these questions, it answers the same at each call.
+    /// It can't return out of memory. As it is still a decision of these questions, it returns the same at each call.
     pub fn decide(&mut self, schema: &Schema, questions: &Questions, into: &mut Frozen) -> bool
         requires made { IsDecisionOf (schema_of schema.now) questions.now self.old }
         requires sizes { HasSizesOf self.old into.old }
@@ -88,6 +89,7 @@ impl Decision {
         ensures made { IsDecisionOf (schema_of schema.now) questions.now self.new }
         ensures candidates { (r : ℕ) → candidates_at self.new r ≡ candidates_at self.old r }
     {
+        // Called for its clauses: the schema is valid.
         let _valid = schema.constraints();
         candidates_exist();
         'searches: for asked in self.searches.iter_mut() {

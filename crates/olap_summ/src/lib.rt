@@ -1,8 +1,9 @@
 //! Satisfiability, implication and summarizability of a schema, and its audit, over all of its legal instances, of any
 //! size.
 //!
-//! Each question is one about frozen dimensions with a root: `None` says that the answer is yes for all legal
-//! instances, and a `Found` is the least frozen dimension that shows the contrary, with its names.
+//! Each question is one about frozen dimensions with a root, and a `Found` is the least that settles it, with its names.
+//! `None` says of `implies` and `summarizable` that the answer is yes for all legal instances, and of `satisfiable` that
+//! no legal instance has a member; `audit` returns its findings, and a `Decision` a truth value.
 #![tactic(auto)]
 
 mod asking;

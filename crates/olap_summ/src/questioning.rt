@@ -91,6 +91,7 @@ impl Questions {
         ensures target { IfOk result (λ q. target_of q ≡ target.0) }
         ensures sources { IfOk result (λ q. sources_of q ≡ numbers_of sources.now) }
     {
+        // Called for its clause: it is the schema's graph.
         let _graph = schema.graph();
         if !are_distinct(sources) {
             return Err(SummRefusal::DuplicateSource);

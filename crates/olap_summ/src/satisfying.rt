@@ -19,6 +19,7 @@ pub fn satisfiable(alloc: Global, schema: &Schema, c: CatId) -> Result<Option<Fo
     ensures none { IfOk result (λ o. IsNone o ↔ IsUnsatisfiable (schema_of schema.now) c.0) }
     ensures some { IfOk result (λ o. IfSome o (IsLeastFound (schema_of schema.now) Meaning.Formula.Truth c.0)) }
 {
+    // Called for its clauses: the schema is valid.
     let _valid = schema.constraints();
     let found = least_found(alloc, schema, c, &Formula::True)?;
     Ok(found)

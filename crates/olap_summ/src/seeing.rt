@@ -59,6 +59,7 @@ impl Seen {
         ensures seen { IsSeen (schema_of schema.now) self.new }
         ensures kept { Keeps self.old self.new }
     {
+        // Called for its clauses: the schema is valid.
         let _valid = schema.constraints();
         let (child, parent) = schema.graph().ends(e);
         self.edges[usize::from(e.0)] = true;
