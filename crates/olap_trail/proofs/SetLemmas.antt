@@ -1,7 +1,7 @@
 -- What is in a set after a number is taken out, in what two sets share, and in a set that grew.
 use Rattle.std.proofs.Common.{◌≡◌, ◌≢◌, ℕ, ◌⊎◌, ◌↔◌, Bool, true, false, not, refl, ap, sym, subst, ◌∙◌, inl, inr, eq-eqb}
 use Rattle.std.specs.Cmp.{nat_cmp_total}
-use Rattle.std.specs.FinSet.{FinSet, contains, empty, intersection, remove, union, contains-empty, contains-intersection}
+use Rattle.std.specs.FinSet.{FinSet, empty, intersection, remove, union, contains-empty, contains-intersection}
 use Rattle.std.specs.Ordering.{nat_cmp}
 use Rattle.std.specs.Prelude.{IfSome, IsNone, IsTrue, None, Option, Some, is_some}
 use Rattle.std.proofs.lemmas.Bool.{and_from, ne_eqb}
