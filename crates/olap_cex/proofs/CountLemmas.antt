@@ -74,7 +74,7 @@ module _ (g : Graph) (found : Found) (ok : IsFoundFor g found) (hier : IsHierarc
   root : is_present r es r ≡ true
   root = made.root_present g r es ch
 
-  module _ (rows : List (CatSet 1)) (drawn : AreRows g es rows) (c s : ℕ) (source : IsCategory g s) where
+  module _ {W : ℕ} (rows : List (CatSet W)) (drawn : AreRows g es rows) (c s : ℕ) (source : IsCategory g s) where
     to : IsWay rows r c s → ReachesVia i (found_place g found) s c
     to t =
         let a = (has_steps g es rows drawn r s ok.root).0 t.0 in

@@ -6,7 +6,8 @@ use Rattle.std.proofs.lemmas.List.{append-nil, length-append, map-id}
 use Rattle.std.proofs.lemmas.List.Elements.{filter-append}
 use Rattle.std.proofs.lemmas.List.FromFn.{length-range_with_len, map-range_with_len_more}
 use Rattle.std.proofs.lemmas.Bool.Decides.{eqb_tells}
-use Rattle.olap_ast.proofs.Shape.{either_true, left_true, list_any_is, right_true, same_is, is_same}
+use Rattle.std.proofs.lemmas.Bool.{or_left, or_right}
+use Rattle.olap_ast.proofs.Shape.{either_true, list_any_is, same_is, is_same}
 use Rattle.olap_ast.specs.Frozen.{chosen, is_present}
 use Rattle.olap_base.specs.Above.{place_in}
 use Rattle.olap_base.specs.Graph.{Edge}
@@ -23,12 +24,12 @@ abbrev pub has_end : ℕ → Edge → Bool
 has_end c e = (e.child == c) || (e.parent == c)
 
 pub root_present : (r : ℕ) (es : List Edge) (c : ℕ) → c ≡ r → is_present r es c ≡ true
-root_present r es c e = left_true (c == r) (list_any (has_end c) es) (is_same c r e)
+root_present r es c e = or_left (c == r) (list_any (has_end c) es) (is_same c r e)
 
 -- an end of a chosen edge is present
 pub end_present : (r : ℕ) (es : List Edge) (bits : List Bool) (c i : ℕ) → i < length es → get_or bits i false ≡ true
     → has_end c (get_or es i nowhere) ≡ true → is_present r (chosen es bits) c ≡ true
-end_present r es bits c i h b t = right_true (c == r) (list_any (has_end c) (chosen es bits))
+end_present r es bits c i h b t = or_right (c == r) (list_any (has_end c) (chosen es bits))
     ((list_any_is (has_end c) (chosen es bits)).1
     (get_or es i nowhere, place_chosen es bits (get_or es i nowhere) nowhere i h b refl, t))
 

@@ -16,7 +16,7 @@ use Rattle.olap_cex.specs.FoundFor.{found_instance, found_place}
 use Rattle.olap_cex.specs.declared.counterexamples.Cex.{Cex}
 
 -- the root reaches the source, and the source the target
-abbrev pub IsWay : List (CatSet 1) → ℕ → ℕ → ℕ → Type 0
+abbrev pub IsWay : {W : ℕ} → List (CatSet W) → ℕ → ℕ → ℕ → Type 0
 IsWay rows root target source = Has rows root source × Has rows source target
 
 -- the instance, the fact at its root, and what that comes to at c directly and from the sources

@@ -1,38 +1,27 @@
 // The sources by which the root of a frozen dimension reaches a category.
 ghost use Rattle.std.specs.Prelude.{◌≡◌, ◌<◌, ◌↔◌, All, IsTrue, length, map, IfOk};
-ghost use Rattle.std.specs.FinSet as set;
 ghost use Rattle.olap_base.specs.Graph.{IsCategory, IsHierarchy, category_count};
 ghost use Rattle.olap_base.specs.Instance.{ReachesVia};
 ghost use Rattle.olap_base.specs.OneFact.{HoldsTimes};
 ghost use Rattle.olap_cex.specs.CexFor.{IsWay};
 ghost use Rattle.olap_cex.specs.FoundFor.{IsFoundFor, found_instance, found_place};
-ghost use Rattle.olap_graph.specs.Rows.{row};
 
 use olap_base::{CatId, Memory};
-use olap_bits::CatSet;
 use olap_frozen::{Found, Room, close};
-use olap_graph::Graph;
+use olap_graph::{Categories, Graph, row_has};
 use std::alloc::Global;
 
-// Whether c's row has d.
-fn has(rows: &[CatSet<1>], c: CatId, d: CatId) -> bool
-    requires { c.0 < length rows.now }
-    ensures { result ≡ set.contains (row rows.now c.0) d.0 }
-{
-    rows[usize::from(c.0)].has(d.0)
-}
-
 // Whether the root reaches the source, and the source the target.
-fn is_way(rows: &[CatSet<1>], root: CatId, source: CatId, target: CatId) -> bool
+fn is_way(rows: &[Categories], root: CatId, source: CatId, target: CatId) -> bool
     requires root { root.0 < length rows.now }
     requires source { source.0 < length rows.now }
     ensures { IsTrue result ↔ IsWay rows.now root.0 target.0 source.0 }
 {
-    has(rows, root, source) && has(rows, source, target)
+    row_has(rows, root.0, source.0) && row_has(rows, source.0, target.0)
 }
 
 // How many of the sources are ways from the root to the target.
-fn count_ways(rows: &[CatSet<1>], root: CatId, target: CatId, sources: &[CatId]) -> u64
+fn count_ways(rows: &[Categories], root: CatId, target: CatId, sources: &[CatId]) -> u64
     requires root { root.0 < length rows.now }
     requires sources { All (λ s. s.0 < length rows.now) sources.now }
     ensures { HoldsTimes (IsWay rows.now root.0 target.0) (map (λ s. s.0) sources.now) result }
@@ -50,7 +39,7 @@ fn count_ways(rows: &[CatSet<1>], root: CatId, target: CatId, sources: &[CatId])
 fn count_reaching(
     graph: &Graph,
     found: &Found,
-    rows: &mut [CatSet<1>],
+    rows: &mut [Categories],
     target: CatId,
     sources: &[CatId],
 ) -> u64
