@@ -13,7 +13,7 @@ use std::alloc::Global;
 /// Words of a set of categories, each of 64 bits: as many as the most categories of a schema need.
 pub const WORDS: usize = (MOST_CATEGORIES + 63) / 64;
 
-/// A set of categories. Its width follows from the limit, and stands nowhere else.
+/// A set of categories. Its width follows from the limit.
 pub type Categories = CatSet<{ WORDS }>;
 
 /// Whether the set of c has d.
