@@ -6,3 +6,4 @@ mod TellingLemmas
 mod LineLemmas
 mod ListingLemmas
 mod NumberLemmas
+mod OneOutcome

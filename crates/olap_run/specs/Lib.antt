@@ -12,6 +12,7 @@ pub mod Steps
 pub mod Commands
 pub mod Judged
 pub mod Outcome
+pub mod Laws
 pub mod Refusals
 pub mod Broken
 pub mod Taken

@@ -12,12 +12,12 @@ use Rattle.olap_ast.specs.Schema.{Schema}
 use Rattle.olap_base.specs.Graph.{Graph}
 use Rattle.olap_base.specs.Instance.{Instance}
 use Rattle.olap_base.specs.Limits.{most_frozen}
-use Rattle.olap_base.specs.Views.{Fact, IsFactTable, View, direct_rows, direct_views, rows_from_views}
+use Rattle.olap_base.specs.Views.{View, rows_from_views}
 use Rattle.olap_cex.specs.FrozenText.{frozen_text}
 use Rattle.olap_dimsat.specs.Listed.{AreAllFrozen, AreMoreThan}
 use Rattle.olap_graph.specs.Lookups.{edge_at, name_of_category}
 use Rattle.olap_nav.specs.PlanText.{plan_text}
-use Rattle.olap_nav.specs.Plans.{IsPlan, categories_of, sources_in}
+use Rattle.olap_nav.specs.Plans.{IsPlan, sources_in}
 use Rattle.olap_run.specs.Outputs.{line}
 use Rattle.olap_view.specs.Stores.{chosen}
 use Rattle.olap_view.specs.ViewText.{view_text}
@@ -48,12 +48,9 @@ pub record ListsFindings (s : Schema) (bytes : List ℕ) : Type 0 where
   pub are_findings : AreFindings s findings
   pub text : bytes ≡ flat_map (finding_text s.graph) findings ++ line (codes "findings " ++ decimal (length findings))
 
--- the plan for c, and the view of c from its views. That is the direct view, where the stored views are those of one
--- fact table
+-- the plan for c, and the view of c from its views
 pub record ShowsPlan (s : Schema) (i : Instance) (views : List View) (c : ℕ) (bytes : List ℕ) : Type 0 where
   pub mask : ℕ
   pub plan : IsPlan s views c mask
-  pub direct : (facts : List Fact) → IsFactTable s.graph i facts → views ≡ direct_views i facts (categories_of views)
-      → rows_from_views i c (chosen views mask) ≡ direct_rows i c facts
   pub text : bytes ≡ plan_text s.graph (sources_in views mask)
       ++ view_text i (record { category = c; rows = rows_from_views i c (chosen views mask) })

@@ -12,6 +12,7 @@ mod formatting;
 mod generating;
 mod implying;
 mod judging;
+mod laws;
 mod listing;
 mod naming;
 mod reading;
@@ -26,6 +27,7 @@ mod telling;
 mod top;
 mod words;
 
+pub use laws::{all_frozen_are_one, findings_are_one, outcome_is_one, plan_is_one, plans_give_direct_views, too_many_are_not_listed};
 pub use status::Status;
 pub use surely::olap_surely;
 pub use top::olap;

@@ -1,0 +1,5 @@
+use Rattle.olap_run.proofs.OneOutcome.{outcome_is_one}
+use Rattle.olap_run.proofs.laws.outcome_is_one.Goals as goal
+
+pub returns : goal.returns
+returns c = outcome_is_one
