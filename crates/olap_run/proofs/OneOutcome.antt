@@ -58,7 +58,8 @@ one_member s c xs ys a b =
     a.text ∙ ap (λ t. line (codes "yes") ++ t) l ∙ sym b.text
 
 no_member : (s : Schema) (c : ℕ) (ys : List ℕ) → IsUnsatisfiable s c → ShowsMember s c ys → ⊥
-no_member s c ys u m = let z = m.least.is_one.stands_for in u (thawed s m.candidates c m.frozen) z.legal z.root z.root_is
+no_member s c ys u m = let z = m.least.is_one.stands_for in
+    u (thawed s m.candidates c m.frozen) z.legal z.root z.root_is
 
 one_unmet : (s : Schema) (r : ℕ) (q : Formula) (xs ys : List ℕ) → ShowsUnmet s r q xs → ShowsUnmet s r q ys → xs ≡ ys
 one_unmet s r q xs ys a b =
@@ -75,11 +76,12 @@ one_difference : (s : Schema) (c : ℕ) (sources xs ys : List ℕ) → ShowsDiff
     → ShowsDifference s c sources ys → xs ≡ ys
 one_difference s c sources xs ys a b =
     let o = the_counterexample_is_one s c sources a.candidates b.candidates a.root b.root a.frozen b.frozen
-        a.counterexample b.counterexample in
+    a.counterexample b.counterexample in
     let q = o.0 in let p = o.1 in let t = o.3 in
     let l = same_line s.graph a.candidates b.candidates a.root b.root a.frozen b.frozen q p o.2 in
     a.text ∙ (λ i. line (codes "no") ++ (l i ++ (text_of_instance s.graph (t i) ++ sums_text s.graph (q i) c
-    (direct_sum (t i) (root_place s (q i) (p i)) c) (views_sum (t i) (root_place s (q i) (p i)) c sources)))) ∙ sym b.text
+    (direct_sum (t i) (root_place s (q i) (p i)) c) (views_sum (t i) (root_place s (q i) (p i)) c sources))))
+    ∙ sym b.text
 
 no_difference : (s : Schema) (c : ℕ) (sources ys : List ℕ) → IsSummarizable s c sources → ShowsDifference s c sources ys
     → ⊥
@@ -90,23 +92,25 @@ no_difference s c sources ys u m = not_both_answers s c sources m.candidates m.r
 one_listing : (s : Schema) (c : ℕ) (xs ys : List ℕ) → ListsFrozen s c xs → ListsFrozen s c ys → xs ≡ ys
 one_listing s c xs ys a b =
     let k = a.candidates in let h = b.candidates in
-    let p : a.frozen ≡ b.frozen = one_list s Truth c k h a.all.candidates b.all.candidates a.frozen b.frozen a.all.ordered
-        b.all.ordered a.all.sound b.all.sound a.all.complete b.all.complete in
+    let p : a.frozen ≡ b.frozen =
+    one_list s Truth c k h a.all.candidates b.all.candidates a.frozen b.frozen a.all.ordered
+    b.all.ordered a.all.sound b.all.sound a.all.complete b.all.complete in
     let m : (f : Frozen) → frozen_text s.graph k c f ≡ frozen_text s.graph h c f = λ f.
-        same_line s.graph k h c c f f refl refl (λ d. same_name s Truth k h a.all.candidates b.all.candidates f d) in
+    same_line s.graph k h c c f f refl refl (λ d. same_name s Truth k h a.all.candidates b.all.candidates f d) in
     a.text ∙ (λ i. flat_map (λ f. m f i) (p i) ++ line (codes "count " ++ decimal (length (p i)))) ∙ sym b.text
 
 no_listing : (s : Schema) (c : ℕ) (ys : List ℕ) → HasTooMany s c → ListsFrozen s c ys → ⊥
 no_listing s c ys m l =
     let h = m.0 in let t = m.1 in
     let r : length t.some ≤ length l.frozen = not_more s Truth c l.candidates h l.all.candidates t.candidates l.frozen
-        t.some l.all.complete t.differ t.sound in
+    t.some l.all.complete t.differ t.sound in
     let many = t.many in let few = l.few in omega (arith, r, many, few)
 
 one_audit : (s : Schema) (xs ys : List ℕ) → ListsFindings s xs → ListsFindings s ys → xs ≡ ys
 one_audit s xs ys a b =
     let p = findings_are_one s a.findings b.findings a.are_findings b.are_findings in
-    a.text ∙ ap (λ fs. flat_map (finding_text s.graph) fs ++ line (codes "findings " ++ decimal (length fs))) p ∙ sym b.text
+    a.text ∙ ap (λ fs. flat_map (finding_text s.graph) fs ++ line (codes "findings " ++ decimal (length fs))) p
+    ∙ sym b.text
 
 -- ---- plans
 
@@ -139,26 +143,27 @@ same_ok x y r a b = ap (λ t. taken t x) (sym a ∙ b)
 one_made : (seed size : ℕ) (xs ys : List ℕ) → ShowsGenerated seed size xs → ShowsGenerated seed size ys → xs ≡ ys
 one_made seed size xs ys a b =
     let p : a.schema ≡ b.schema = same_ok a.schema b.schema (schema_read location_text) a.made.schema_text
-        b.made.schema_text in
+    b.made.schema_text in
     let m : a.members ≡ b.members = same_ok a.members b.members (instance_read b.schema.graph (member_rows seed size))
-        (subst (λ (s : Schema). instance_read s.graph (member_rows seed size) ≡ Ok a.members) p a.made.member_text)
-        b.made.member_text in
+    (subst (λ (s : Schema). instance_read s.graph (member_rows seed size) ≡ Ok a.members) p a.made.member_text)
+    b.made.member_text in
     let t : facts_read_within most_facts b.schema.graph b.members (fact_rows seed size) ≡ Ok a.facts =
-        subst (λ (i : Instance). facts_read_within most_facts b.schema.graph i (fact_rows seed size) ≡ Ok a.facts) m
-        (subst (λ (s : Schema). facts_read_within most_facts s.graph a.members (fact_rows seed size) ≡ Ok a.facts) p
-        a.made.fact_text) in
+    subst (λ (i : Instance). facts_read_within most_facts b.schema.graph i (fact_rows seed size) ≡ Ok a.facts) m
+    (subst (λ (s : Schema). facts_read_within most_facts s.graph a.members (fact_rows seed size) ≡ Ok a.facts) p
+    a.made.fact_text) in
     let f : a.facts ≡ b.facts = same_ok a.facts b.facts
-        (facts_read_within most_facts b.schema.graph b.members (fact_rows seed size)) t b.made.fact_text in
+    (facts_read_within most_facts b.schema.graph b.members (fact_rows seed size)) t b.made.fact_text in
     let v : stored_views a.members a.facts ≡ stored_views b.members b.facts = λ i. stored_views (m i) (f i) in
     let plan : IsPlan b.schema (stored_views b.members b.facts) region a.mask =
-        subst (λ (vs : List View). IsPlan b.schema vs region a.mask) v
-        (subst (λ (s : Schema). IsPlan s (stored_views a.members a.facts) region a.mask) p a.plan) in
+    subst (λ (vs : List View). IsPlan b.schema vs region a.mask) v
+    (subst (λ (s : Schema). IsPlan s (stored_views a.members a.facts) region a.mask) p a.plan) in
     let n = one_mask b.schema (stored_views b.members b.facts) region a.mask b.mask plan b.plan in
     a.text ∙ (λ i. generated_text (p i) (m i) (f i) (n i)) ∙ sym b.text
 
 -- ---- all questions
 
-pub one_answer : (q : Question) (s t : Status) (xs ys : List ℕ) → IsAnswer q s xs → IsAnswer q t ys → (s ≡ t) × (xs ≡ ys)
+pub one_answer : (q : Question) (s t : Status) (xs ys : List ℕ) → IsAnswer q s xs → IsAnswer q t ys
+    → (s ≡ t) × (xs ≡ ys)
 one_answer ByUsage s t xs ys a b = (a.0 ∙ sym b.0, a.1 ∙ sym b.1)
 one_answer (ByRefusal why) s t xs ys a b = (a.0 ∙ sym b.0, a.1 ∙ sym b.1)
 one_answer (ByView members view) s t xs ys a b = (a.0 ∙ sym b.0, a.1 ∙ sym b.1)

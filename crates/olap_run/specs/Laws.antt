@@ -30,7 +30,7 @@ abbrev pub AllFrozenAreOne : Type 0
 AllFrozenAreOne = (s : Schema) (q : Formula) (r : ℕ) (k h : Candidates) (all others : List Frozen)
     → AreAllFrozen s q r k all → AreAllFrozen s q r h others → all ≡ others
 
--- where there are more frozen dimensions than may be listed, no list has all
+-- if there are more frozen dimensions than may be listed, no list has all
 abbrev pub TooManyAreNotListed : Type 0
 TooManyAreNotListed = (s : Schema) (c : ℕ) (bytes : List ℕ) → HasTooMany s c → ListsFrozen s c bytes → ⊥
 
@@ -43,7 +43,8 @@ FindingsAreOne = (s : Schema) (findings others : List Finding) → AreFindings s
 abbrev pub PlanIsOne : Type 0
 PlanIsOne = (s : Schema) (views : List View) (c m n : ℕ) → IsPlan s views c m → IsPlan s views c n → m ≡ n
 
--- where stored views are the direct views of one fact table on a legal instance, a plan for c gives the direct view of c
+-- if the stored views are the direct views of one fact table on a legal instance, a plan for c gives the direct view
+-- of c
 abbrev pub PlansGiveDirectViews : Type 0
 PlansGiveDirectViews = (s : Schema) (i : Instance) (views : List View) (c mask : ℕ) → IsLegal s i
     → IsPlan s views c mask → (facts : List Fact) → IsFactTable s.graph i facts

@@ -1,4 +1,4 @@
--- Definitions that contracts cite, in reading order: the claim of `olap`, and behind it what its parts say.
+-- Definitions that contracts cite, in reading order: the claim of `olap`, and then what its parts say.
 pub mod Words
 pub mod Requests
 pub mod Order

@@ -11,7 +11,7 @@ pub fn all_frozen_are_one()
     ensures { AllFrozenAreOne }
 {}
 
-/// Where there are more frozen dimensions than may be listed, no list has all.
+/// If there are more frozen dimensions than may be listed, no list has all.
 pub fn too_many_are_not_listed()
     ensures { TooManyAreNotListed }
 {}
@@ -26,7 +26,8 @@ pub fn plan_is_one()
     ensures { PlanIsOne }
 {}
 
-/// Where stored views are the direct views of one fact table on a legal instance, a plan gives the target's direct view.
+/// If the stored views are the direct views of one fact table on a legal instance, a plan gives the direct view of its
+/// target.
 pub fn plans_give_direct_views()
     ensures { PlansGiveDirectViews }
 {}

@@ -27,7 +27,10 @@ mod telling;
 mod top;
 mod words;
 
-pub use laws::{all_frozen_are_one, findings_are_one, outcome_is_one, plan_is_one, plans_give_direct_views, too_many_are_not_listed};
+pub use laws::{
+    all_frozen_are_one, findings_are_one, outcome_is_one, plan_is_one, plans_give_direct_views,
+    too_many_are_not_listed,
+};
 pub use status::Status;
 pub use surely::olap_surely;
 pub use top::olap;
