@@ -1,6 +1,6 @@
 // One run of the top call over files and output in memory.
-use olap_base::{List, MemLibrary, MemSink, Text};
-use olap_run::{Status, olap};
+use olap_base::{List, MemLibrary, MemSink, SureLibrary, SureSink, Text};
+use olap_run::{Status, olap, olap_surely};
 use std::alloc::Global;
 use std::process::Abort;
 use std::test::Fail;
@@ -66,6 +66,22 @@ pub(crate) fn check(
     let status = status(alloc, line, &mut library, &mut sink)?;
     assert_eq!(rt; status, wanted, "{output}");
     assert_eq!(rt; sink.contents(), output.as_bytes());
+    Ok(())
+}
+
+/// Runs the command line over files and output that refuse nothing, and compares the status.
+pub(crate) fn check_surely(
+    rt: &impl Abort,
+    alloc: Global,
+    line: &[&str],
+    held: &[(&str, &str)],
+    wanted: Status,
+) -> Result<(), Fail> {
+    let mut library = SureLibrary::new(files(alloc, held)?, 16);
+    let mut sink = SureSink::new();
+    let words = words(alloc, line)?;
+    let status = olap_surely(alloc, &words, &mut library, &mut sink);
+    assert_eq!(rt; status, wanted);
     Ok(())
 }
 
