@@ -4,7 +4,7 @@ use Rattle.std.specs.Result.{IsErrAnd}
 use Rattle.olap_base.specs.Faults.{Rose}
 use Rattle.olap_base.specs.Files.{Files}
 use Rattle.olap_base.specs.declared.outside.Library.{Ghosts as Library}
-use Rattle.olap_run.specs.Order.{Order, IsStuck}
+use Rattle.olap_run.specs.Order.{Order, IsStuck, ReadsNoFile}
 use Rattle.olap_run.specs.Judged.{Gives, GivesTold, IsBlamed, Judged, Replied, Replies}
 use Rattle.olap_run.specs.Taken.{GoesOn, Leaves, FileStep, PlainStep}
 use Rattle.olap_run.specs.declared.status.Status.{Status}
@@ -17,7 +17,8 @@ use Rattle.olap_run.specs.declared.replies.Stop.TheVariants as stops
 gives : {Q : Type 0} (answers : Q → Status → List ℕ → Type 0) (files : Option Files) (order rest : Order Q)
     → GoesOn files order rest → (status : Status) (bytes : List ℕ) → GivesTold answers files rest status bytes
     → GivesTold answers files order status bytes
-gives answers None order rest on status bytes g = tt
+gives answers None order rest on status bytes g = λ none files. let same : order ≡ rest = on none in
+    subst (λ o. Gives answers files o status bytes) (sym same) (g (subst ReadsNoFile same none) files)
 gives answers (Some files) order rest on status bytes g =
     subst (λ q. MatchOption q ⊥ (λ q. answers q status bytes)) (sym on.same) g
 
@@ -44,7 +45,7 @@ replied (Err stops.Memory) f p = tt
 
 -- an order goes on as itself
 goes_itself : {Q : Type 0} (files : Option Files) (order : Order Q) → GoesOn files order order
-goes_itself None order = tt
+goes_itself None order = λ none. refl
 goes_itself (Some files) order = record { same = refl; comes = λ file c. c }
 
 -- the count rose since an earlier state too
@@ -94,7 +95,7 @@ module _ {D Q : Type 0} {answers : Q → Status → List ℕ → Type 0} {L : Li
     where
       told : (files : Option Files) (status : Status) (bytes : List ℕ)
           → ((files : Files) → Gives answers files order status bytes) → GivesTold answers files order status bytes
-      told None status bytes a = tt
+      told None status bytes a = λ none. a
       told (Some files) status bytes a = a files
 
   -- a step that reads nothing is a step over a library that isn't asked

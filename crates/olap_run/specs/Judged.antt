@@ -10,7 +10,7 @@ use Rattle.std.specs.Prelude.{◌≡◌, ◌⊎◌, ◌≤◌, ℕ, false, List,
 use Rattle.olap_base.specs.Faults.{Rose}
 use Rattle.olap_base.specs.Files.{Files}
 use Rattle.olap_base.specs.declared.outside.Library.{Ghosts as Library}
-use Rattle.olap_run.specs.Order.{Order, question, ComesTo, IsStuck}
+use Rattle.olap_run.specs.Order.{Order, question, ComesTo, IsStuck, ReadsNoFile}
 use Rattle.olap_run.specs.declared.status.Status.{Status}
 use Rattle.olap_run.specs.declared.status.Status.TheVariants as statuses
 use Rattle.olap_run.specs.declared.replies.Reply.{Reply}
@@ -21,10 +21,10 @@ use Rattle.olap_run.specs.declared.replies.Stop.TheVariants as stops
 abbrev pub Gives : {Q : Type 0} → (Q → Status → List ℕ → Type 0) → Files → Order Q → Status → List ℕ → Type 0
 Gives answers files order status bytes = MatchOption (question files order) ⊥ (λ q. answers q status bytes)
 
--- so it is where the library tells its contents
+-- so it is where the library tells its contents; of one that tells none, where the order reads no file
 abbrev pub GivesTold : {Q : Type 0} → (Q → Status → List ℕ → Type 0) → Option Files → Order Q → Status → List ℕ
     → Type 0
-GivesTold answers None order status bytes = ⊤
+GivesTold answers None order status bytes = ReadsNoFile order → (files : Files) → Gives answers files order status bytes
 GivesTold answers (Some files) order status bytes = Gives answers files order status bytes
 
 -- what the library was last asked for, where it tells that and its contents, is a file that the order comes to, or the

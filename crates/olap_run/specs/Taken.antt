@@ -9,7 +9,7 @@ use Rattle.olap_base.specs.Files.{Files}
 use Rattle.olap_base.specs.Instance.{Instance}
 use Rattle.olap_base.specs.Views.{Fact, View, direct_views}
 use Rattle.olap_base.specs.declared.outside.Library.{Ghosts as Library}
-use Rattle.olap_run.specs.Order.{Order, question, ComesTo}
+use Rattle.olap_run.specs.Order.{Order, question, ComesTo, ReadsNoFile}
 use Rattle.olap_run.specs.Judged.{Judged, Replies}
 use Rattle.olap_run.specs.Questions.{Question}
 use Rattle.olap_run.specs.Steps.{with_facts_in}
@@ -21,9 +21,9 @@ pub record Leaves {Q : Type 0} (files : Files) (order rest : Order Q) : Type 0 w
   pub same : question files order ≡ question files rest
   pub comes : (file : List ℕ) → ComesTo files rest file → ComesTo files order file
 
--- so it is where the library tells its contents
+-- so it is where the library tells its contents; else the rest is the order itself, if that reads no file
 abbrev pub GoesOn : {Q : Type 0} → Option Files → Order Q → Order Q → Type 0
-GoesOn None order rest = ⊤
+GoesOn None order rest = ReadsNoFile order → order ≡ rest
 GoesOn (Some files) order rest = Leaves files order rest
 
 -- where the code has a value, the rest goes on with it; where it has none, the run ends as the order does
