@@ -2,6 +2,7 @@
 use Rattle.std.proofs.Common.{◌≡◌, ℕ, ◌<◌, ◌≤◌, List, [], ◌∷◌, ◌++◌, length, refl, ap, sym, subst, ◌∙◌, ◌⊎◌, inl, inr, arith}
 use Rattle.std.specs.Prelude.{AllPairs, Contains, MatchOption, None, Ok, Option, Result, Err, Some, codes, flat_map}
 use Rattle.std.specs.Fmt.{decimal}
+use Rattle.olap_base.specs.Files.{Files}
 use Rattle.olap_base.specs.Graph.{Graph}
 use Rattle.olap_base.specs.Instance.{Instance}
 use Rattle.olap_base.specs.Naming.{Fault}
@@ -34,11 +35,12 @@ use Rattle.olap_view.specs.ViewText.{view_text}
 use Rattle.olap_run.specs.Certificates.{ShowsDifference, ShowsMember, ShowsUnmet}
 use Rattle.olap_run.specs.Listings.{HasTooMany, ListsFindings, ListsFrozen, ShowsPlan, finding_text}
 use Rattle.olap_run.specs.Outputs.{line, refusal}
-use Rattle.olap_run.specs.Questions.{IsAnswer, Question, ByUsage, ByRefusal, ByView, ByFormat, ByLegal, BySatisfiable, ByImplied, BySummarizable, ByFrozen, ByAudit, ByStore, ByPlan, ByGenerated}
+use Rattle.olap_run.specs.Questions.{IsAnswer, Question, ByUsage, ByView, ByFormat, ByLegal, BySatisfiable, ByImplied, BySummarizable, ByFrozen, ByAudit, ByStore, ByPlan, ByGenerated}
 use Rattle.olap_run.specs.declared.status.Status.{Status}
 use Rattle.olap_run.specs.Commands.{order_of}
 use Rattle.olap_run.specs.Laws.{AllFrozenAreOne, FindingsAreOne, OutcomeIsOne, PlanIsOne, PlansGiveDirectViews, TooManyAreNotListed}
-use Rattle.olap_run.specs.Order.{question}
+use Rattle.olap_run.specs.Judged.{Gives}
+use Rattle.olap_run.specs.Order.{Order, Done, Refused, Read}
 
 -- ---- the line of a frozen dimension
 
@@ -165,7 +167,6 @@ one_made seed size xs ys a b =
 pub one_answer : (q : Question) (s t : Status) (xs ys : List ℕ) → IsAnswer q s xs → IsAnswer q t ys
     → (s ≡ t) × (xs ≡ ys)
 one_answer ByUsage s t xs ys a b = (a.0 ∙ sym b.0, a.1 ∙ sym b.1)
-one_answer (ByRefusal why) s t xs ys a b = (a.0 ∙ sym b.0, a.1 ∙ sym b.1)
 one_answer (ByView members view) s t xs ys a b = (a.0 ∙ sym b.0, a.1 ∙ sym b.1)
 one_answer (ByFormat schema) s t xs ys a b = (a.0 ∙ sym b.0, a.1 ∙ sym b.1)
 one_answer (ByLegal count) s t xs ys a b = (a.0 ∙ sym b.0, a.1 ∙ sym b.1)
@@ -194,13 +195,22 @@ one_answer (ByPlan z i views c) s t xs ys (inr a) (inl b) = absurd (a.1 b.1.mask
 one_answer (ByPlan z i views c) s t xs ys (inr a) (inr b) = (a.0 ∙ sym b.0, a.2 ∙ sym b.2)
 one_answer (ByGenerated seed size) s t xs ys a b = (a.0 ∙ sym b.0, one_made seed size xs ys a.1 b.1)
 
-pub outcome_is_one : OutcomeIsOne
-outcome_is_one words files s t xs ys = go (question files (order_of words))
+-- along any order
+one_given : (files : Files) (order : Order Question) (s t : Status) (xs ys : List ℕ) → Gives IsAnswer files order s xs
+    → Gives IsAnswer files order t ys → (s ≡ t) × (xs ≡ ys)
+one_given files (Done q) s t xs ys a b = one_answer q s t xs ys a b
+one_given files (Refused why) s t xs ys a b = (a.0 ∙ sym b.0, a.1 ∙ sym b.1)
+one_given files (Read name next) s t xs ys a b = go (files name) (λ text. one_given files (next text) s t xs ys) a b
   where
-    go : (o : Option Question) → MatchOption o ⊥ (λ q. IsAnswer q s xs) → MatchOption o ⊥ (λ q. IsAnswer q t ys)
-        → (s ≡ t) × (xs ≡ ys)
-    go None a b = absurd a
-    go (Some q) a b = one_answer q s t xs ys a b
+    go : (o : Option (List ℕ)) → ((text : List ℕ) → Gives IsAnswer files (next text) s xs
+        → Gives IsAnswer files (next text) t ys → (s ≡ t) × (xs ≡ ys))
+        → MatchOption o ⊥ (λ text. Gives IsAnswer files (next text) s xs)
+        → MatchOption o ⊥ (λ text. Gives IsAnswer files (next text) t ys) → (s ≡ t) × (xs ≡ ys)
+    go None one a b = absurd a
+    go (Some text) one a b = one text a b
+
+pub outcome_is_one : OutcomeIsOne
+outcome_is_one words files s t xs ys = one_given files (order_of words) s t xs ys
 
 -- ---- the parts of an outcome
 

@@ -15,11 +15,11 @@ use Rattle.olap_base.proofs.ListLemmas.{Distinct, list_any_is}
 use Rattle.olap_ast.proofs.Shape.{Distinct-push}
 use Rattle.olap_summ.specs.Counterexamples.{numbers_of}
 use Rattle.olap_run.specs.Judged.{Replies}
-use Rattle.olap_run.specs.Order.{Order}
-use Rattle.olap_run.specs.Questions.{Question, IsAnswer}
-use Rattle.olap_run.specs.Steps.{with_another, with_different}
-use Rattle.olap_run.specs.Taken.{PlainStep}
+use Rattle.olap_run.specs.Order.{Order, Done, and_then}
+use Rattle.olap_run.specs.Steps.{another_word, different_words}
+use Rattle.olap_run.specs.Taken.{NoAnswer, PlainStep}
 use Rattle.olap_run.specs.Words.{texts}
+use Rattle.olap_run.proofs.Stepping.{ends_both}
 use Rattle.olap_run.specs.declared.replies.Stop.{Stop}
 
 -- what is found among numbered things is found among their numbers
@@ -44,59 +44,57 @@ not_among xs c e h =
 
 module _ (twice : List ℕ) (g : Graph) (at : ℕ) (names : List (List ℕ)) where
   pub record IsReadTo (k : ℕ) (sources : List ℕ) : Type 0 where
-    pub order : (next : List ℕ → Order Question)
-        → with_different twice g at [] names next ≡ with_different twice g (at + k) sources (drop k names) next
+    pub order : different_words twice g at [] names ≡ different_words twice g (at + k) sources (drop k names)
     pub categories : All (IsCategory g) sources
     pub differ : Distinct sources
 
   -- with one word more to read, the order is that of this word's category
-  at_word : (k : ℕ) (sources : List ℕ) → k < length names → IsReadTo k sources → (next : List ℕ → Order Question)
-      → with_different twice g at [] names next ≡ with_another twice g (at + k) sources (get_or names k [])
-      (λ c. with_different twice g (suc (at + k)) (sources ++ c ∷ []) (drop (k + 1) names) next)
-  at_word k sources h r next = r.order next
-      ∙ ap (λ ns. with_different twice g (at + k) sources ns next) (drop_more names k [] h)
+  at_word : (k : ℕ) (sources : List ℕ) → k < length names → IsReadTo k sources
+      → different_words twice g at [] names ≡ and_then (another_word twice g (at + k) sources (get_or names k []))
+      (λ c. different_words twice g (suc (at + k)) (sources ++ c ∷ []) (drop (k + 1) names))
+  at_word k sources h r = r.order
+      ∙ ap (λ ns. different_words twice g (at + k) sources ns) (drop_more names k [] h)
 
   pub read_none : IsReadTo 0 []
   read_none = record {
-    order = λ next. let e : at ≡ at + 0 = omega arith in ap (λ n. with_different twice g n [] names next) e;
+    order = let e : at ≡ at + 0 = omega arith in ap (λ n. different_words twice g n [] names) e;
     categories = λ k d l. absurd (omega arith);
     differ = tt;
   }
 
   pub read_more : (k : ℕ) (sources new : List ℕ) (c : ℕ) → k < length names → IsReadTo k sources
-      → ((next : ℕ → Order Question) → with_another twice g (at + k) sources (get_or names k []) next ≡ next c)
+      → another_word twice g (at + k) sources (get_or names k []) ≡ Done c
       → IsCategory g c → list_any (λ d. d == c) sources ≡ false → new ≡ sources ++ c ∷ [] → IsReadTo (k + 1) new
   read_more k sources new c h r goes category fresh e = record {
-    order = λ next. at_word k sources h r next
-        ∙ goes (λ d. with_different twice g (suc (at + k)) (sources ++ d ∷ []) (drop (k + 1) names) next)
-        ∙ ap (λ xs. with_different twice g (suc (at + k)) xs (drop (k + 1) names) next) (sym e)
+    order = at_word k sources h r
+        ∙ ap (λ o. and_then o
+        (λ d. different_words twice g (suc (at + k)) (sources ++ d ∷ []) (drop (k + 1) names))) goes
+        ∙ ap (λ xs. different_words twice g (suc (at + k)) xs (drop (k + 1) names)) (sym e)
         ∙ (let p : suc (at + k) ≡ at + (k + 1) = omega arith in
-        ap (λ n. with_different twice g n new (drop (k + 1) names) next) p);
+        ap (λ n. different_words twice g n new (drop (k + 1) names)) p);
     categories = subst (All (IsCategory g)) (sym e) (All-append (IsCategory g) sources (c ∷ []) r.categories
         (All-cons (IsCategory g) c [] category (λ j d l. absurd (omega arith))));
     differ = subst Distinct (sym e) (Distinct-push sources c r.differ (not_among sources c fresh));
   }
 
   -- all words are read
-  pub read_all : (k : ℕ) (sources : List ℕ) → length names ≤ k → IsReadTo k sources → (next : List ℕ → Order Question)
-      → with_different twice g at [] names next ≡ next sources
-  read_all k sources h r next =
-      r.order next ∙ ap (λ ns. with_different twice g (at + k) sources ns next) (drop_all k names h)
+  pub read_all : (k : ℕ) (sources : List ℕ) → length names ≤ k → IsReadTo k sources
+      → different_words twice g at [] names ≡ Done sources
+  read_all k sources h r = r.order ∙ ap (λ ns. different_words twice g (at + k) sources ns) (drop_all k names h)
 
   -- where a word isn't taken, the order ends as it does there
   pub ends_at : (k : ℕ) (sources : List ℕ) (stop : Stop) → k < length names → IsReadTo k sources
-      → ((next : ℕ → Order Question)
-      → Replies IsAnswer (with_another twice g (at + k) sources (get_or names k []) next) (Err stop))
-      → (next : List ℕ → Order Question) → Replies IsAnswer (with_different twice g at [] names next) (Err stop)
-  ends_at k sources stop h r ends next = subst (λ o. Replies IsAnswer o (Err stop)) (sym (at_word k sources h r next))
-      (ends (λ c. with_different twice g (suc (at + k)) (sources ++ c ∷ []) (drop (k + 1) names) next))
+      → Replies NoAnswer (another_word twice g (at + k) sources (get_or names k [])) (Err stop)
+      → Replies NoAnswer (different_words twice g at [] names) (Err stop)
+  ends_at k sources stop h r ends = subst (λ o. Replies NoAnswer o (Err stop)) (sym (at_word k sources h r))
+      (ends_both ends (λ c. different_words twice g (suc (at + k)) (sources ++ c ∷ []) (drop (k + 1) names)))
 
 -- a step that isn't taken ends as its result does
-pub plain_ends : {T X : Type 0} {step : (T → Order Question) → Order Question} {meaning : X → T} (stop : Stop)
+pub plain_ends : {T X : Type 0} {step : Order T} {meaning : X → T} (stop : Stop)
     (result : Result X Stop) → IsErrAnd result (λ e. e ≡ stop)
-    → ((next : T → Order Question) → Replies IsAnswer (step next) (Err stop)) → PlainStep IsAnswer step meaning result
+    → Replies NoAnswer step (Err stop) → PlainStep step meaning result
 plain_ends stop (Ok x) is f = absurd is
 plain_ends {step = step} stop (Err e) is f = record {
-  goes_on = λ next. tt;
-  ends = λ next. subst (λ z. Replies IsAnswer (step next) (Err z)) (sym is) (f next);
+  comes_out = tt;
+  ends = subst (λ z. Replies NoAnswer step (Err z)) (sym is) f;
 }

@@ -10,7 +10,8 @@ use Rattle.std.specs.Prelude.{◌≡◌, ◌⊎◌, ◌≤◌, ℕ, false, List,
 use Rattle.olap_base.specs.Faults.{Rose}
 use Rattle.olap_base.specs.Files.{Files}
 use Rattle.olap_base.specs.declared.outside.Library.{Ghosts as Library}
-use Rattle.olap_run.specs.Order.{Order, question, ComesTo, IsStuck, ReadsNoFile}
+use Rattle.olap_run.specs.Order.{Order, Done, Refused, Read, ComesTo, IsStuck, ReadsNoFile}
+use Rattle.olap_run.specs.Outputs.{refusal}
 use Rattle.olap_run.specs.declared.status.Status.{Status}
 use Rattle.olap_run.specs.declared.status.Status.TheVariants as statuses
 use Rattle.olap_run.specs.declared.replies.Reply.{Reply}
@@ -19,7 +20,10 @@ use Rattle.olap_run.specs.declared.replies.Stop.TheVariants as stops
 
 -- the outcome has this status and these bytes
 abbrev pub Gives : {Q : Type 0} → (Q → Status → List ℕ → Type 0) → Files → Order Q → Status → List ℕ → Type 0
-Gives answers files order status bytes = MatchOption (question files order) ⊥ (λ q. answers q status bytes)
+Gives answers files (Done q) status bytes = answers q status bytes
+Gives answers files (Refused why) status bytes = (status ≡ statuses.Refused) × (bytes ≡ refusal why)
+Gives answers files (Read name next) status bytes =
+    MatchOption (files name) ⊥ (λ text. Gives answers files (next text) status bytes)
 
 -- so it is where the library tells its contents; of one that tells none, where the order reads no file
 abbrev pub GivesTold : {Q : Type 0} → (Q → Status → List ℕ → Type 0) → Option Files → Order Q → Status → List ℕ

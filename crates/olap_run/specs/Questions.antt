@@ -25,8 +25,6 @@ use Rattle.olap_run.specs.declared.status.Status.TheVariants.{Yes, No, Usage, Re
 pub data Question : Type 0 where
   -- the words are no command
   ByUsage : Question
-  -- a file or a word is at fault
-  ByRefusal : (why : List ℕ) → Question
   -- a view is wanted
   ByView : (members : Instance) (view : View) → Question
   -- the canonical text is wanted
@@ -53,7 +51,6 @@ pub data Question : Type 0 where
 -- these are the status and the bytes
 abbrev pub IsAnswer : Question → Status → List ℕ → Type 0
 IsAnswer ByUsage status bytes = (status ≡ Usage) × (bytes ≡ line (codes "usage"))
-IsAnswer (ByRefusal why) status bytes = (status ≡ Refused) × (bytes ≡ refusal why)
 IsAnswer (ByView members view) status bytes = (status ≡ Yes) × (bytes ≡ view_text members view)
 IsAnswer (ByFormat schema) status bytes = (status ≡ Yes) × (bytes ≡ schema_text schema)
 IsAnswer (ByLegal count) status bytes = (status ≡ Yes) × (bytes ≡ line (codes "legal " ++ decimal count))

@@ -1,12 +1,6 @@
--- The steps of an order: how a run goes on by what a file or a word is.
---     read_within      by a file, which is judged by its length first
---     known            by a category word
---     numbered         by a word that is to be a number
---     accepted         by what a text stands for
---     when_legal       by whether an instance is legal
---     with_root, with_formula, with_different      by the words of a question
---     with_schema_in, with_legal_in, with_facts_in, with_store_in
---         by a schema, a legal instance, facts, stored views in a file
+-- The steps of an order: what a run takes a word or a file for, or why it refuses it.
+--     category_word, root_word, number_word, formula_word, another_word, different_words     by words
+--     text_file, schema_file, legal_file, facts_file, store_file                             by files
 use Rattle.std.specs.Prelude.{ℕ, zero, suc, List, [], ◌∷◌, ◌++◌, ◌==◌, length, nat_lt, codes, Option, None, Some, Result, Ok, Err, if◌then◌else◌}
 use Rattle.std.specs.Fmt.{decimal}
 use Rattle.std.specs.List.{list_any}
@@ -31,101 +25,92 @@ use Rattle.olap_view.specs.StoreText.{store_read}
 use Rattle.olap_view.specs.Kinds.{name_of_kind as store_kind}
 use Rattle.olap_check.specs.FirstViolation.{first_violation}
 use Rattle.olap_check.specs.Reports.{told}
-use Rattle.olap_run.specs.Order.{Order, Done, Read}
-use Rattle.olap_run.specs.Questions.{Question, ByRefusal}
+use Rattle.olap_run.specs.Order.{Order, Done, Refused, Read, and_then, ok_or}
 use Rattle.olap_run.specs.Violations.{violation_text}
 
 -- what has that number, and the name of its fault
 abbrev pub fault_text : List ℕ → ℕ → List ℕ → List ℕ
 fault_text place at name = place ++ (codes " " ++ (decimal at ++ (codes " " ++ name)))
 
--- a category word, by its number on the command line
-abbrev pub known : ℕ → Option ℕ → (ℕ → Order Question) → Order Question
-known at None next = Done (ByRefusal (fault_text (codes "word") at (codes "UnknownCategory")))
-known at (Some c) next = next c
+-- ---- words, by their numbers on the command line
 
--- what the word of that number spells, where it spells a number that it may be
-abbrev pub numbered : ℕ → Option ℕ → (ℕ → Order Question) → Order Question
-numbered at None next = Done (ByRefusal (fault_text (codes "word") at (codes "BadNumber")))
-numbered at (Some n) next = next n
+-- the category that a word names
+abbrev pub category_word : Graph → ℕ → List ℕ → Order ℕ
+category_word g at name = ok_or (category_named g name) (fault_text (codes "word") at (codes "UnknownCategory"))
 
 -- `All` is no root
-abbrev pub declared : ℕ → ℕ → Order Question → Order Question
-declared at zero next = Done (ByRefusal (fault_text (codes "word") at (codes "RootIsAll")))
-declared at (suc c) next = next
+abbrev pub declared_word : ℕ → ℕ → Order ℕ
+declared_word at zero = Refused (fault_text (codes "word") at (codes "RootIsAll"))
+declared_word at (suc c) = Done (suc c)
 
 -- a root: a category that isn't `All`
-abbrev pub with_root : Graph → ℕ → List ℕ → (ℕ → Order Question) → Order Question
-with_root g at name next = known at (category_named g name) (λ c. declared at c (next c))
+abbrev pub root_word : Graph → ℕ → List ℕ → Order ℕ
+root_word g at name = and_then (category_word g at name) (declared_word at)
 
--- a formula's word goes on with the formula, or its first fault is refused
-abbrev pub worded : ℕ → Result Formula SchemaKind → (Formula → Order Question) → Order Question
-worded at (Ok f) next = next f
-worded at (Err kind) next = Done (ByRefusal (fault_text (codes "word") at (schema_kind kind)))
+-- the number that a word spells, if it spells one that it may be
+abbrev pub number_word : ℕ → Option ℕ → Order ℕ
+number_word at number = ok_or number (fault_text (codes "word") at (codes "BadNumber"))
+
+-- a formula, or its first fault
+abbrev pub formula_or_fault : ℕ → Result Formula SchemaKind → Order Formula
+formula_or_fault at (Ok f) = Done f
+formula_or_fault at (Err kind) = Refused (fault_text (codes "word") at (schema_kind kind))
 
 -- the formula of a question, at its root
-abbrev pub with_formula : Schema → ℕ → ℕ → List ℕ → (Formula → Order Question) → Order Question
-with_formula s root at text next = worded at (question_read s root text) next
+abbrev pub formula_word : Schema → ℕ → ℕ → List ℕ → Order Formula
+formula_word s root at text = formula_or_fault at (question_read s root text)
 
--- a category that is none of those before it goes on; else the fault has this name
-abbrev pub undoubled : List ℕ → ℕ → List ℕ → ℕ → Order Question → Order Question
-undoubled twice at earlier c next =
-    if list_any (λ d. d == c) earlier then Done (ByRefusal (fault_text (codes "word") at twice)) else next
+-- a category that is none of those before it; else the fault has this name
+abbrev pub another_word : List ℕ → Graph → ℕ → List ℕ → List ℕ → Order ℕ
+another_word twice g at earlier name = and_then (category_word g at name) (λ c.
+    if list_any (λ d. d == c) earlier then Refused (fault_text (codes "word") at twice) else Done c)
 
--- a category, behind these
-abbrev pub with_another : List ℕ → Graph → ℕ → List ℕ → List ℕ → (ℕ → Order Question) → Order Question
-with_another twice g at earlier name next =
-    known at (category_named g name) (λ c. undoubled twice at earlier c (next c))
+-- different categories from this word on, left to right, after these
+abbrev pub different_words : List ℕ → Graph → ℕ → List ℕ → List (List ℕ) → Order (List ℕ)
+different_words twice g at earlier [] = Done earlier
+different_words twice g at earlier (name ∷ names) = and_then (another_word twice g at earlier name) (λ c.
+    different_words twice g (suc at) (earlier ++ c ∷ []) names)
 
--- different categories from this word on, left to right, behind these
-abbrev pub with_different : List ℕ → Graph → ℕ → List ℕ → List (List ℕ) → (List ℕ → Order Question)
-    → Order Question
-with_different twice g at earlier [] next = next earlier
-with_different twice g at earlier (name ∷ names) next =
-    with_another twice g at earlier name (λ c. with_different twice g (suc at) (earlier ++ c ∷ []) names next)
+-- ---- files, each under its label
 
--- a file is read, and refused under its label where it is too long
-abbrev pub read_within : List ℕ → List ℕ → (List ℕ → Order Question) → Order Question
-read_within label file next = Read file (λ text.
-    if nat_lt most_file_bytes (length text) then Done (ByRefusal (label ++ codes " TooLong")) else next text)
+-- the text of a file that isn't too long
+abbrev pub text_file : List ℕ → List ℕ → Order (List ℕ)
+text_file label file = Read file (λ text.
+    if nat_lt most_file_bytes (length text) then Refused (label ++ codes " TooLong") else Done text)
 
 -- a line or record of the file with that label, and the name of its fault
 abbrev pub part_text : List ℕ → List ℕ → ℕ → List ℕ → List ℕ
 part_text label part at name = label ++ (codes " " ++ fault_text part at name)
 
--- a text that has no fault goes on with what it stands for; else its first fault is refused
-abbrev pub accepted : {T K : Type 0} → List ℕ → List ℕ → (K → List ℕ) → Result T (Fault K) → (T → Order Question)
-    → Order Question
-accepted label part name (Ok x) next = next x
-accepted label part name (Err fault) next = Done (ByRefusal (part_text label part fault.at (name fault.kind)))
+-- what a text stands for, or its first fault
+abbrev pub meaning_or_fault : {T K : Type 0} → List ℕ → List ℕ → (K → List ℕ) → Result T (Fault K) → Order T
+meaning_or_fault label part name (Ok x) = Done x
+meaning_or_fault label part name (Err fault) = Refused (part_text label part fault.at (name fault.kind))
 
--- an instance without a violation goes on; else its first violation is refused
-abbrev pub unbroken : List ℕ → Schema → Instance → Option Violation → Order Question → Order Question
-unbroken label s i None next = next
-unbroken label s i (Some v) next =
-    Done (ByRefusal (label ++ (codes " " ++ violation_text s.graph i (told i v))))
-
--- a legal instance goes on
-abbrev pub when_legal : List ℕ → Schema → Instance → Order Question → Order Question
-when_legal label s i next = unbroken label s i (first_violation s i) next
+-- an instance without a violation, or its first violation
+abbrev pub legal_or_violation : List ℕ → Schema → Instance → Option Violation → Order Instance
+legal_or_violation label s i None = Done i
+legal_or_violation label s i (Some v) =
+    Refused (label ++ (codes " " ++ violation_text s.graph i (told i v)))
 
 -- the schema in a file
-abbrev pub with_schema_in : List ℕ → List ℕ → (Schema → Order Question) → Order Question
-with_schema_in label file next = read_within label file (λ text.
-    accepted label (codes "line") schema_kind (schema_read text) next)
+abbrev pub schema_file : List ℕ → List ℕ → Order Schema
+schema_file label file = and_then (text_file label file) (λ text.
+    meaning_or_fault label (codes "line") schema_kind (schema_read text))
 
 -- the legal instance of a schema in a file
-abbrev pub with_legal_in : Schema → List ℕ → List ℕ → (Instance → Order Question) → Order Question
-with_legal_in s label file next = read_within label file (λ text.
-    accepted label (codes "record") instance_kind (instance_read s.graph (records_of text)) (λ i.
-    when_legal label s i (next i)))
+abbrev pub legal_file : Schema → List ℕ → List ℕ → Order Instance
+legal_file s label file =
+    and_then (text_file label file) (λ text.
+    and_then (meaning_or_fault label (codes "record") instance_kind (instance_read s.graph (records_of text))) (λ i.
+    legal_or_violation label s i (first_violation s i)))
 
 -- the facts at an instance's members in a file
-abbrev pub with_facts_in : Schema → Instance → List ℕ → List ℕ → (List Fact → Order Question) → Order Question
-with_facts_in s i label file next = read_within label file (λ text.
-    accepted label (codes "record") fact_kind (facts_read_within most_facts s.graph i (records_of text)) next)
+abbrev pub facts_file : Schema → Instance → List ℕ → List ℕ → Order (List Fact)
+facts_file s i label file = and_then (text_file label file) (λ text.
+    meaning_or_fault label (codes "record") fact_kind (facts_read_within most_facts s.graph i (records_of text)))
 
 -- the stored views of an instance in a file
-abbrev pub with_store_in : Schema → Instance → List ℕ → List ℕ → (List View → Order Question) → Order Question
-with_store_in s i label file next = read_within label file (λ text.
-    accepted label (codes "record") store_kind (store_read s.graph i (records_of text)) next)
+abbrev pub store_file : Schema → Instance → List ℕ → List ℕ → Order (List View)
+store_file s i label file = and_then (text_file label file) (λ text.
+    meaning_or_fault label (codes "record") store_kind (store_read s.graph i (records_of text)))

@@ -6,7 +6,7 @@ ghost use Rattle.olap_run.specs.Judged.{Replies};
 ghost use Rattle.olap_run.specs.Numbers.{number_of, size_of};
 ghost use Rattle.olap_run.specs.Order.{Done};
 ghost use Rattle.olap_run.specs.Questions.{ByGenerated, IsAnswer};
-ghost use Rattle.olap_run.specs.Steps.{numbered};
+ghost use Rattle.olap_run.specs.Steps.{number_word};
 ghost use Rattle.olap_run.specs.Taken.{PlainStep};
 
 use crate::replies::{Reply, Stop, refuse_at, yes};
@@ -38,7 +38,7 @@ fn size(word: &str) -> Option<u32>
 
 /// The seed that the word of this number spells.
 fn seed_at(alloc: Global, at: u64, word: &str) -> Result<u64, Stop>
-    ensures { PlainStep IsAnswer (numbered at (number_of word.now)) (λ n. n) result }
+    ensures { PlainStep (number_word at (number_of word.now)) (λ n. n) result }
 {
     match number(word) {
         Some(seed) => Ok(seed),
@@ -48,7 +48,7 @@ fn seed_at(alloc: Global, at: u64, word: &str) -> Result<u64, Stop>
 
 /// The size that the word of this number spells.
 fn size_at(alloc: Global, at: u64, word: &str) -> Result<u32, Stop>
-    ensures step { PlainStep IsAnswer (numbered at (size_of word.now)) (λ n. n) result }
+    ensures step { PlainStep (number_word at (size_of word.now)) (λ n. n) result }
     ensures some { IfOk result (λ n. 1 ≤ n) }
     ensures few { IfOk result (λ n. n ≤ most_generated) }
 {

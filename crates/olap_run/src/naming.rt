@@ -6,12 +6,10 @@ ghost use Rattle.olap_ast.specs.Formula.{equalities};
 ghost use Rattle.olap_ast.specs.Trees.{formula_of};
 ghost use Rattle.olap_ast.specs.Valid.{IsQuestion};
 ghost use Rattle.olap_base.specs.Graph.{IsCategory, IsDeclared};
-ghost use Rattle.olap_graph.specs.Lookups.{category_named};
 ghost use Rattle.olap_schema.specs.PrintingLaws.{AreTexts};
 ghost use Rattle.olap_schema.specs.Schemas.{schema_of};
 ghost use Rattle.olap_summ.specs.Counterexamples.{numbers_of};
-ghost use Rattle.olap_run.specs.Questions.{IsAnswer};
-ghost use Rattle.olap_run.specs.Steps.{known, with_another, with_different, with_formula, with_root};
+ghost use Rattle.olap_run.specs.Steps.{another_word, category_word, different_words, formula_word, root_word};
 ghost use Rattle.olap_run.specs.Taken.{PlainStep};
 ghost use Rattle.olap_run.specs.Words.{texts};
 
@@ -28,8 +26,8 @@ pub(crate) fn category_at(
     schema: &Schema,
     name: &str,
 ) -> Result<CatId, Stop>
-    ensures step { PlainStep IsAnswer
-        (known at (category_named (schema_of schema.now).graph name.now)) (λ c. c.0) result }
+    ensures step { PlainStep
+        (category_word (schema_of schema.now).graph at name.now) (λ c. c.0) result }
     ensures category { IfOk result (λ c. IsCategory (schema_of schema.now).graph c.0) }
 {
     match schema.graph().category(name.as_bytes()) {
@@ -40,8 +38,8 @@ pub(crate) fn category_at(
 
 /// The root that the word of this number names: a category that isn't `All`.
 pub(crate) fn root_at(alloc: Global, at: u64, schema: &Schema, name: &str) -> Result<CatId, Stop>
-    ensures step { PlainStep IsAnswer
-        (with_root (schema_of schema.now).graph at name.now) (λ c. c.0) result }
+    ensures step { PlainStep
+        (root_word (schema_of schema.now).graph at name.now) (λ c. c.0) result }
     ensures declared { IfOk result (λ c. IsDeclared (schema_of schema.now).graph c.0) }
 {
     match schema.graph().category(name.as_bytes()) {
@@ -60,8 +58,8 @@ pub(crate) fn formula_at(
     text: &str,
 ) -> Result<Formula, Stop>
     requires root { IsDeclared (schema_of schema.now).graph root.0 }
-    ensures step { PlainStep IsAnswer
-        (with_formula (schema_of schema.now) root.0 at text.now) formula_of result }
+    ensures step { PlainStep
+        (formula_word (schema_of schema.now) root.0 at text.now) formula_of result }
     ensures question { IfOk result (λ f. IsQuestion (schema_of schema.now) root.0 (formula_of f)) }
     ensures texts { IfOk result (λ f. AreTexts (equalities (formula_of f))) }
 {
@@ -88,8 +86,8 @@ fn another_at(
     earlier: &[CatId],
     name: &str,
 ) -> Result<CatId, Stop>
-    ensures step { PlainStep IsAnswer
-        (with_another twice.now (schema_of schema.now).graph at (numbers_of earlier.now) name.now)
+    ensures step { PlainStep
+        (another_word twice.now (schema_of schema.now).graph at (numbers_of earlier.now) name.now)
         (λ c. c.0) result }
     ensures category { IfOk result (λ c. IsCategory (schema_of schema.now).graph c.0) }
     ensures new { IfOk result (λ c.
@@ -112,8 +110,8 @@ pub(crate) fn categories_at(
     names: &[String],
 ) -> Result<Vec<CatId>, Stop>
     requires few { at + length names.now < 2 ^ 64 }
-    ensures step { PlainStep IsAnswer
-        (with_different twice.now (schema_of schema.now).graph at [] (texts names.now))
+    ensures step { PlainStep
+        (different_words twice.now (schema_of schema.now).graph at [] (texts names.now))
         (λ categories. numbers_of categories.items) result }
     ensures categories { IfOk result (λ categories.
         All (IsCategory (schema_of schema.now).graph) (numbers_of categories.items)) }

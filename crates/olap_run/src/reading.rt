@@ -9,8 +9,7 @@ ghost use Rattle.olap_schema.specs.Schemas.{schema_of};
 ghost use Rattle.olap_base.specs.Graph.{IsCategory};
 ghost use Rattle.olap_view.specs.Seen.{views_of};
 ghost use Rattle.olap_view.specs.Stores.{Fits, IsStore};
-ghost use Rattle.olap_run.specs.Questions.{IsAnswer};
-ghost use Rattle.olap_run.specs.Steps.{with_legal_in, with_schema_in, with_store_in};
+ghost use Rattle.olap_run.specs.Steps.{legal_file, schema_file, store_file};
 ghost use Rattle.olap_run.specs.Taken.{FileStep};
 ghost use Rattle.olap_run.specs.declared.replies.Stop.TheVariants as stops;
 
@@ -56,8 +55,8 @@ pub(crate) fn schema_in<L: Library>(
     file: &str,
     lib: &mut L,
 ) -> Result<Schema, Stop>
-    ensures step { FileStep IsAnswer L.Library lib.old lib.new
-        (with_schema_in label.now file.now) schema_of result }
+    ensures step { FileStep L.Library lib.old lib.new
+        (schema_file label.now file.now) schema_of result }
 {
     let Some(text) = read_file(alloc, file, lib)? else {
         return Err(refuse_long(alloc, label));
@@ -83,8 +82,8 @@ pub(crate) fn legal_in<L: Library>(
     file: &str,
     lib: &mut L,
 ) -> Result<Legal, Stop>
-    ensures step { FileStep IsAnswer L.Library lib.old lib.new
-        (with_legal_in (schema_of schema.now) label.now file.now) (λ i. i) result }
+    ensures step { FileStep L.Library lib.old lib.new
+        (legal_file (schema_of schema.now) label.now file.now) (λ i. i) result }
     ensures legal { IfOk result (λ i. IsLegal (schema_of schema.now) i) }
     ensures made { IfOk result (λ i. IsMadeFor (schema_of schema.now).graph i) }
 {
@@ -125,8 +124,8 @@ pub(crate) fn store_in<L: Library>(
     lib: &mut L,
 ) -> Result<Store, Stop>
     requires made { IsMadeFor (schema_of schema.now).graph legal.now }
-    ensures step { FileStep IsAnswer L.Library lib.old lib.new
-        (with_store_in (schema_of schema.now) legal.now label.now file.now) views_of result }
+    ensures step { FileStep L.Library lib.old lib.new
+        (store_file (schema_of schema.now) legal.now label.now file.now) views_of result }
     ensures store { IfOk result (λ store. IsStore (views_of store)) }
     ensures fit { IfOk result (λ store. All Fits (views_of store)) }
     ensures categories { IfOk result (λ store.

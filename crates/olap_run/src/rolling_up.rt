@@ -7,7 +7,7 @@ ghost use Rattle.olap_view.specs.Seen.{each_view_of};
 ghost use Rattle.olap_run.specs.Commands.{rollup_order, view_order};
 ghost use Rattle.olap_run.specs.Judged.{Judged};
 ghost use Rattle.olap_run.specs.Questions.{IsAnswer};
-ghost use Rattle.olap_run.specs.Steps.{with_facts_in};
+ghost use Rattle.olap_run.specs.Steps.{facts_file};
 ghost use Rattle.olap_run.specs.Taken.{AreOfFacts, FileStep};
 
 use crate::naming::category_at;
@@ -32,10 +32,10 @@ pub(crate) fn views_in<L: Library>(
     requires made { IsMadeFor (schema_of schema.now).graph legal.now }
     requires differ { AllPairs ◌≢◌ (numbers_of categories.now) }
     ensures step { MatchResult result
-        (λ views. AreOfFacts IsAnswer L.Library lib.old lib.new (schema_of schema.now) legal.now
+        (λ views. AreOfFacts L.Library lib.old lib.new (schema_of schema.now) legal.now
         (numbers_of categories.now) file.now (each_view_of views))
-        (λ stop. FileStep IsAnswer L.Library lib.old lib.new
-        (with_facts_in (schema_of schema.now) legal.now (codes "facts") file.now) (λ facts. facts) (Err stop)) }
+        (λ stop. FileStep L.Library lib.old lib.new
+        (facts_file (schema_of schema.now) legal.now (codes "facts") file.now) (λ facts. facts) (Err stop)) }
     ensures members { IfOk result (λ views. All (λ v. All (λ r. r.member.0 < length legal.now) v.rows) views) }
 {
     let Some(text) = read_file(alloc, file, lib)? else {

@@ -8,8 +8,9 @@ use Rattle.olap_base.proofs.ListLemmas.{AllPairs-from_Distinct}
 use Rattle.olap_schema.specs.Schemas.{schema_of}
 use Rattle.olap_summ.specs.Counterexamples.{numbers_of}
 use Rattle.olap_run.specs.Judged.{Replies}
-use Rattle.olap_run.specs.Questions.{IsAnswer}
-use Rattle.olap_run.specs.Steps.{with_another}
+use Rattle.olap_run.specs.Order.{Done}
+use Rattle.olap_run.specs.Steps.{another_word}
+use Rattle.olap_run.specs.Taken.{NoAnswer}
 use Rattle.olap_run.specs.Words.{texts}
 use Rattle.olap_run.proofs.SourceLemmas.{ends_at, plain_ends, read_more, word_is}
 use Rattle.olap_run.proofs.naming.categories_at.Goals as goal
@@ -26,12 +27,11 @@ returns-in_err-category-clause-step c =
     (ends_at c.args.twice.now g c.args.at (texts c.args.names.now) c.words.k
     (numbers_of c.words.categories.items) c.in_err-category.field-0.0
     h c.words.invariant
-    (λ next. subst (λ w. Replies IsAnswer
-    (with_another c.args.twice.now g at (numbers_of c.words.categories.items) w next)
+    (subst (λ w. Replies NoAnswer (another_word c.args.twice.now g at (numbers_of c.words.categories.items) w)
     (Err c.in_err-category.field-0.0)) word
-    (subst (λ (xs : List CatId). Replies IsAnswer
-    (with_another c.args.twice.now g at (numbers_of xs) c.as_str-name.result.now next)
-    (Err c.in_err-category.field-0.0)) c.deref.ensures.value (c.in_err-category.ensures.step.ends next))))
+    (subst (λ (xs : List CatId). Replies NoAnswer
+    (another_word c.args.twice.now g at (numbers_of xs) c.as_str-name.result.now)
+    (Err c.in_err-category.field-0.0)) c.deref.ensures.value c.in_err-category.ensures.step.ends)))
 
 pub words-preserved : goal.words-preserved
 words-preserved c =
@@ -43,11 +43,11 @@ words-preserved c =
     subst (λ n. c.words.k < n) (sym (length-map c.args.names.now string_bytes)) c.words-test.true in
     read_more c.args.twice.now g c.args.at (texts c.args.names.now) c.words.k (numbers_of c.words.categories.items)
     (numbers_of c.push.new.self.items) c.in_ok-category.category.0 h c.words.invariant
-    (λ next. subst (λ w. with_another c.args.twice.now g at (numbers_of c.words.categories.items) w next ≡ next
-    c.in_ok-category.category.0) word
-    (subst (λ (xs : List CatId). with_another c.args.twice.now g at (numbers_of xs) c.as_str-name.result.now next
-    ≡ next c.in_ok-category.category.0)
-    c.deref.ensures.value (c.in_ok-category.ensures.step.goes_on next)))
+    (subst (λ w. another_word c.args.twice.now g at (numbers_of c.words.categories.items) w
+    ≡ Done c.in_ok-category.category.0) word
+    (subst (λ (xs : List CatId). another_word c.args.twice.now g at (numbers_of xs) c.as_str-name.result.now
+    ≡ Done c.in_ok-category.category.0)
+    c.deref.ensures.value c.in_ok-category.ensures.step.comes_out))
     c.in_ok-category.ensures.category
     (subst (λ (xs : List CatId). list_any (λ d. d == c.in_ok-category.category.0) (numbers_of xs) ≡ false)
     c.deref.ensures.value c.in_ok-category.ensures.new)
