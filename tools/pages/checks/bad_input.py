@@ -115,7 +115,7 @@ def refusals(room: Path) -> Iterator[str]:
         (3, "report", "faulty.txt", *to_kept),
         (3, "report", BROKEN_HEADER, *to_kept),
         (5, "report", str(EXAMPLES / "chain" / "schema.txt"), "-o", "no/such/file"),
-        (5, "install", "no/such/prefix"),
+        (5, "install", "kept/no/such/prefix"),
         (1, "install", "--remove", "no/such/prefix"),
         (5, "install", "kept"),
     ]

@@ -1,6 +1,7 @@
 """tools/install puts three files and takes exactly those away; the completion reads schemas and runs nothing of them."""
 
 import os
+import shutil
 import subprocess
 import tempfile
 from pathlib import Path
@@ -26,8 +27,23 @@ def paths_of(folder: Path) -> set[str]:
     return {str(path.relative_to(folder)) for path in folder.rglob("*")}
 
 
+def told_faults(prefix: Path, lines: list[str]) -> Iterator[str]:
+    """Its first line says of which sources the program is, as the record does; and what the others say to set has everything found."""
+    named = os.environ.get("OLAP")
+    sources = "unknown" if named else subprocess.run(["bash", TOP / "tools" / "sources-sum"], capture_output=True, text=True, check=False).stdout.strip()
+    wanted = f"installed: {Path(shutil.which(named)).resolve()}, of unknown sources" if named else f"installed: proved, of the sources {sources}"
+    if lines[:1] != [wanted] or (prefix / "share/olap/installed").read_text().splitlines()[:1] != [f"sources {sources}"]:
+        yield f"of the sources it tells {lines[:1]}"
+    words = [line.partition(": ")[2] for line in lines[1:]]
+    looks = ["command -v olap", "complete -p olap", *(["man -w olap"] if shutil.which("man") else [])]
+    done = subprocess.run(["bash", "--norc", "-e", "-c", "\n".join([*words, *looks])], capture_output=True, text=True, check=False)
+    found = done.stdout.splitlines()
+    if done.returncode != 0 or found[:1] != [str(prefix / "bin" / "olap")] or found[2:] not in ([], [str(prefix / "share/man/man1/olap.1")]):
+        yield f"what it says to set finds {found}: {words} {done.stderr.strip()}"
+
+
 def put_and_taken(prefix: Path) -> Iterator[str]:
-    """In a prefix that isn't there, and in one with files and an empty folder of others."""
+    """In a prefix that isn't there, nor the folder above it, and in one with files and an empty folder of others."""
     for before in ((), ("bin/other", "share/man/man1/other.1", "lib/")):
         for name in before:
             path = prefix / name
@@ -37,8 +53,9 @@ def put_and_taken(prefix: Path) -> Iterator[str]:
         was = paths_of(prefix) if before else None
         for _ in range(2):  # the second time puts the same again
             done = tool("install", str(prefix))
-            if done.returncode != 0 or done.stdout or done.stderr:
+            if done.returncode != 0 or done.stderr:
                 yield f"it ends with {done.returncode}: {done.stderr.strip()}"
+            yield from told_faults(prefix, done.stdout.splitlines())
         if files_of(prefix) - set(before) != PUT:
             yield f"it puts {sorted(files_of(prefix))}"
         words = ["format", "location/schema.txt"]
@@ -106,6 +123,6 @@ def completion_faults(room: Path) -> Iterator[str]:
 def faults() -> Iterator[str]:
     with tempfile.TemporaryDirectory() as folder:
         for number, check in enumerate((put_and_taken, refused)):
-            yield from (f"install: {wrong}" for wrong in check(Path(folder) / f"a b{number}"))
+            yield from (f"install: {wrong}" for wrong in check(Path(folder) / f"no such{number}" / f"a b{number}"))
         (Path(folder) / "room").mkdir()
         yield from (f"completions/olap.bash: {wrong}" for wrong in completion_faults(Path(folder) / "room"))
