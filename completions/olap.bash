@@ -42,7 +42,7 @@ _olap_categories() {
     categories+=(All)
 }
 
-# What stands at each place behind a command: f a file, c a category, r a category other than All, d categories that differ,
+# What stands at each place after a command: f a file, c a category, r a category other than All, d categories that differ,
 # n nothing that could be completed.
 _olap_places() {
     case $1 in
@@ -76,7 +76,7 @@ _olap() {
     if [[ $place == f ]]; then return; fi
     compopt +o default
     if [[ $place != [crd] ]] || ! _olap_categories "${words[2]}"; then return; fi
-    # Sources are completed behind the target, and the categories of a store behind the facts.
+    # Sources are completed after the target, and the categories of a store after the facts.
     used=" ${words[*]:$((${#places} + 1)):$((${#words[@]} - ${#places} - 2))} "
     for each in "${categories[@]}"; do
         if [[ $each != "$current"* || ($place == r && $each == All) ]]; then continue; fi

@@ -16,7 +16,7 @@ give_up() {
     exit 70
 }
 
-# One line, in place of the last one where standard error is a terminal.
+# One line, in place of the last one if standard error is a terminal.
 say_line() {
     if [ -t 2 ]; then printf '\r\033[K%s: %s' "${0##*/}" "$1" >&2; else printf '%s: %s\n' "${0##*/}" "$1" >&2; fi
 }

@@ -7,6 +7,7 @@ import tempfile
 from pathlib import Path
 from typing import Iterator
 
+from ..program import find
 from .common import EXAMPLES, TOP, olap, tool
 
 PUT = {"bin/olap", "share/man/man1/olap.1", "share/bash-completion/completions/olap", "share/olap/installed"}
@@ -29,16 +30,20 @@ def paths_of(folder: Path) -> set[str]:
 
 def told_faults(prefix: Path, lines: list[str]) -> Iterator[str]:
     """Its first line says of which sources the program is, as the record does; and what the others say to set has everything found."""
-    named = os.environ.get("OLAP")
-    sources = "unknown" if named else subprocess.run(["bash", TOP / "tools" / "sources-sum"], capture_output=True, text=True, check=False).stdout.strip()
-    wanted = f"installed: {Path(shutil.which(named)).resolve()}, of unknown sources" if named else f"installed: proved, of the sources {sources}"
+    sources = "unknown"
+    wanted = f"installed: {find()}, of unknown sources"
+    if "OLAP" not in os.environ:
+        summed = subprocess.run(["bash", TOP / "tools" / "sources-sum"], capture_output=True, text=True, check=False)
+        sources = summed.stdout.strip()
+        wanted = f"installed: proved, of the sources {sources}"
     if lines[:1] != [wanted] or (prefix / "share/olap/installed").read_text().splitlines()[:1] != [f"sources {sources}"]:
         yield f"of the sources it tells {lines[:1]}"
     words = [line.partition(": ")[2] for line in lines[1:]]
     looks = ["command -v olap", "complete -p olap", *(["man -w olap"] if shutil.which("man") else [])]
     done = subprocess.run(["bash", "--norc", "-e", "-c", "\n".join([*words, *looks])], capture_output=True, text=True, check=False)
-    found = done.stdout.splitlines()
-    if done.returncode != 0 or found[:1] != [str(prefix / "bin" / "olap")] or found[2:] not in ([], [str(prefix / "share/man/man1/olap.1")]):
+    places = [str(prefix / "bin" / "olap"), str(prefix / "share/man/man1/olap.1")][: len(looks) - 1]
+    found = [line for line in done.stdout.splitlines() if not line.startswith("complete ")]
+    if done.returncode != 0 or found != places:
         yield f"what it says to set finds {found}: {words} {done.stderr.strip()}"
 
 
