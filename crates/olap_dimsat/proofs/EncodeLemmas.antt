@@ -2,6 +2,7 @@
 use Rattle.std.proofs.Common.{◌≡◌, ℕ, zero, suc, ◌+◌, ◌<◌, ◌≤◌, ◌/◌, ◌%◌, List, [], ◌∷◌, ◌++◌, length, get_or, Bool, true, false, cond, refl, ap, sym, subst, ◌∙◌, inl, inr, ◌^◌, arith}
 use Rattle.std.specs.Prelude.{◌↔◌, ◌==◌, IsTrue, Contains, not, slice_index, slice_index_or}
 use Rattle.std.proofs.lemmas.List.Elements.{Contains-append_left}
+use Rattle.std.proofs.lemmas.Bool.{cases_Bool, false_from_ne_true}
 use Rattle.olap_base.specs.Graph.{IsCategory, IsHierarchy, category_count}
 use Rattle.olap_base.proofs.ListLemmas.{contains_head}
 use Rattle.olap_base.specs.Deciding.{contains_cons}
@@ -26,7 +27,7 @@ use Rattle.olap_names.specs.Names.{Named as TheNames, candidates_of}
 use Rattle.olap_dimsat.specs.Tasks.{IsLaid, Task, schema_of}
 use Rattle.olap_dimsat.specs.Reads.{Reads, index_in}
 use Rattle.olap_dimsat.specs.Pinned.{AreAllMet, IsEncoded}
-use Rattle.olap_dimsat.proofs.Truths.{is_same, not_true, same_is, true_or_false}
+use Rattle.olap_dimsat.proofs.Truths.{is_same, same_is}
 
 abbrev pub problem_in : Task → Problem
 problem_in t = record { schema = schema_of t; question = t.question; root = t.root; candidates = candidates_of t.named }
@@ -84,9 +85,9 @@ other_default (x ∷ xs) (suc k) d e h = other_default xs k d e (omega arith)
 -- ---- what its valuations read
 
 pub same_truth : (a b : Bool) → (a ≡ true → b ≡ true) → (b ≡ true → a ≡ true) → a ≡ b
-same_truth a b f g = elim (true_or_false a) [
+same_truth a b f g = elim (cases_Bool a) [
   | inl y ↦ y ∙ sym (f y)
-  | inr n ↦ n ∙ sym (not_true b (λ y. let z : true ≡ false = sym (g y) ∙ n in cc))
+  | inr n ↦ n ∙ sym (false_from_ne_true b (λ y. let z : true ≡ false = sym (g y) ∙ n in cc))
 ]
 
 pub index_same : (f : Frozen) (c : ℕ) → index_of f c ≡ index_in f c

@@ -9,6 +9,7 @@ use Rattle.std.specs.Str.{bytes_eq}
 use Rattle.std.proofs.lemmas.Bool.Decides.{nat_tests}
 use Rattle.std.proofs.lemmas.List.Elements.{Contains-get_or}
 use Rattle.std.proofs.lemmas.Slice.Eq.{bytes_eq-Decides}
+use Rattle.std.proofs.lemmas.Bool.{cases_Bool}
 use Rattle.olap_base.specs.Graph.{CategoryReaches, Edge, Graph, HasEdge, IsCategory, IsHierarchy, category_count}
 use Rattle.olap_base.specs.Instance.{Instance}
 use Rattle.olap_base.specs.Naming.{place_of}
@@ -44,7 +45,7 @@ use Rattle.olap_dimsat.specs.Knowing.{HasMember, HoldsAt, IsBroken, IsFalseAt, b
 use Rattle.olap_dimsat.proofs.EncodeLemmas.{index_same, same_truth}
 use Rattle.olap_dimsat.proofs.ReadLemmas.{index_absent}
 use Rattle.olap_dimsat.proofs.TrackingLemmas.{present_joins, wider}
-use Rattle.olap_dimsat.proofs.Truths.{is_same, same_is, true_or_false}
+use Rattle.olap_dimsat.proofs.Truths.{is_same, same_is}
 
 -- ---- values of facts
 
@@ -205,7 +206,7 @@ module _ (t : Task) (trail : Trail) (d : Decided) (k : IsTracked t trail d) (f :
 
   -- a category with an index has a member
   indexed_present : (c n : ℕ) → IsCategory t.graph c → index_in f c ≡ suc n → present c ≡ true
-  indexed_present c n h e = elim (true_or_false (present c)) [
+  indexed_present c n h e = elim (cases_Bool (present c)) [
     | inl p ↦ p
     | inr q ↦ absurd (let z = index_absent t f c one h q in omega arith)
   ]

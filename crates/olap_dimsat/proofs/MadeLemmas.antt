@@ -14,7 +14,7 @@ use Rattle.olap_dimsat.specs.declared.asker.Leaf.{Leaf}
 use Rattle.olap_base.specs.declared.ids.CatId.{CatId}
 use Rattle.olap_frozen.specs.declared.frozen.Frozen.{Frozen}
 use Rattle.olap_frozen.specs.LeastFound.{IsLeastFound}
-use Rattle.olap_frozen.specs.Leaves.{IsSized, chosen_of, of_declared}
+use Rattle.olap_frozen.specs.Leaves.{IsSized, IsZeroAtAll, chosen_of, of_declared}
 use Rattle.olap_names.specs.Names.{with_graph}
 use Rattle.olap_dimsat.specs.Tasks.{IsTask, Task}
 use Rattle.olap_dimsat.specs.declared.searching.Search.{Search}
@@ -46,7 +46,7 @@ declared_same : (names : List ℕ) → of_declared (set names 0 0) ≡ of_declar
 declared_same [] = refl
 declared_same (x ∷ xs) = refl
 
-all_zero : (names : List ℕ) → slice_index (set names 0 0) 0 ≡ 0
+pub all_zero : (names : List ℕ) → IsZeroAtAll (set names 0 0)
 all_zero [] = refl
 all_zero (x ∷ xs) = refl
 
@@ -84,6 +84,7 @@ handed s q search best into task for l r e n =
       sized = subst (λ (es : List Bool). IsSized s.graph search.candidates es into.names) (sym e)
           (subst (λ (ns : List ℕ). IsSized s.graph search.candidates best.edges ns) (sym n)
           (handed_sized t best.edges best.names task l for.names));
+      zero = subst IsZeroAtAll (sym n) (all_zero best.names);
       least = subst (λ (es : List Bool). IsLeast t (chosen_of es into.names)) (sym e)
           (subst (λ (ns : List ℕ). IsLeast t (chosen_of best.edges ns)) (sym n)
           (handed_least t best.edges best.names task l));

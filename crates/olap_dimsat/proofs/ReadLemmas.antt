@@ -2,6 +2,7 @@
 use Rattle.std.proofs.Common.{◌≡◌, ◌≢◌, ℕ, zero, suc, ◌+◌, ◌<◌, ◌≤◌, List, [], ◌∷◌, length, get_or, Bool, true, false, refl, sym, subst, ◌∙◌, arith}
 use Rattle.std.specs.Prelude.{◌==◌, Contains, slice_index, slice_index_or}
 use Rattle.std.proofs.lemmas.List.{ext_get_or}
+use Rattle.std.proofs.lemmas.Bool.{false_from_ne_true}
 use Rattle.olap_base.specs.Graph.{Graph, category_count}
 use Rattle.olap_ast.specs.Frozen.{Frozen, chosen, is_present}
 use Rattle.olap_frozen.specs.Leaves.{chosen_of, of_declared}
@@ -10,7 +11,7 @@ use Rattle.olap_encoding.proofs.ChosenEdges.{child_present}
 use Rattle.olap_encoding.proofs.EdgeBits.{bit_chosen}
 use Rattle.olap_dimsat.specs.Tasks.{Task, IsOne, constant_count}
 use Rattle.olap_dimsat.specs.Reads.{index_in}
-use Rattle.olap_dimsat.proofs.Truths.{not_true, none_is_zero, same_is}
+use Rattle.olap_dimsat.proofs.Truths.{none_is_zero, same_is}
 
 -- the child of a present edge is present
 pub bit_present : (g : Graph) (r : ℕ) (bits : List Bool) (e c d : ℕ) → e < length g.edges
@@ -33,7 +34,7 @@ index_absent t f zero one h p = refl
 index_absent t f (suc c) one h p = one.absent c (let n = one.name_count in omega arith) p
 
 pub zero_not_suc : (i k : ℕ) → i ≡ 0 → (i == suc k) ≡ false
-zero_not_suc i k e = not_true (i == suc k) (λ t. let q = same_is i (suc k) t in omega arith)
+zero_not_suc i k e = false_from_ne_true (i == suc k) (λ t. let q = same_is i (suc k) t in omega arith)
 
 pub no_constant : (t : Task) (f : Frozen) (c n : ℕ) → IsOne t f → c < category_count t.graph → n ≡ constant_count t c
     → ((k : ℕ) → k < n → (index_in f c == suc k) ≡ false) → index_in f c ≡ 0

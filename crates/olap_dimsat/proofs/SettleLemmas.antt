@@ -2,6 +2,7 @@
 use Rattle.std.proofs.Common.{◌≡◌, ◌≢◌, ℕ, zero, suc, ◌+◌, ◌-◌, ◌<◌, ◌≤◌, List, [], ◌∷◌, ◌++◌, length, get_or, map, take, Bool, true, false, cond, refl, ap, sym, subst, ◌∙◌, ◌⊎◌, inl, inr, arith, length-append, append_assoc}
 use Rattle.std.specs.Prelude.{◌==◌, slice_index, slice_index_or}
 use Rattle.std.proofs.lemmas.List.{get_or-map, get_or_append_left, get_or-append_right, length-map}
+use Rattle.std.proofs.lemmas.Bool.{cases_Bool, false_from_ne_true}
 use Rattle.olap_base.specs.Graph.{category_count}
 use Rattle.olap_ast.specs.Frozen.{Frozen, code}
 use Rattle.olap_ast.specs.Violation.{IsNotAfter}
@@ -10,7 +11,7 @@ use Rattle.olap_clauses.specs.declared.trails.Step.{Step}
 use Rattle.olap_dimsat.specs.Tasks.{IsTask, Task, IsOne, constant_count, name_variable}
 use Rattle.olap_dimsat.specs.Reads.{Reads, IsShaped, index_in}
 use Rattle.olap_dimsat.specs.Pinned.{AreShaped, IsLeast, IsLonger, IsPinned, IsPlace, IsProbed, IsReady, IsReplaced, IsSame, NoneAt, NoneLess, SayAt}
-use Rattle.olap_dimsat.proofs.Truths.{same_is, is_same, not_true, none_is_zero, true_or_false}
+use Rattle.olap_dimsat.proofs.Truths.{same_is, is_same, none_is_zero}
 use Rattle.olap_dimsat.proofs.ReadLemmas.{index_small}
 
 -- ---- codes
@@ -77,13 +78,13 @@ named_more t v c i n s e k h = elim (at_or_below k n h) [
 ]
 
 eq_sym : (a b : ℕ) → (a == b) ≡ (b == a)
-eq_sym a b = elim (true_or_false (a == b)) [
+eq_sym a b = elim (cases_Bool (a == b)) [
   | inl y ↦ y ∙ sym (is_same b a (sym (same_is a b y)))
-  | inr n ↦ n ∙ sym (not_true (b == a) (λ y. let z : true ≡ false = sym (is_same a b (sym (same_is b a y))) ∙ n in cc))
+  | inr n ↦ n ∙ sym (false_from_ne_true (b == a) (λ y. let z : true ≡ false = sym (is_same a b (sym (same_is b a y))) ∙ n in cc))
 ]
 
 suc_not_zero : (k : ℕ) → (suc k == 0) ≡ false
-suc_not_zero k = not_true (suc k == 0) (λ y. let q = same_is (suc k) 0 y in omega arith)
+suc_not_zero k = false_from_ne_true (suc k == 0) (λ y. let q = same_is (suc k) 0 y in omega arith)
 
 index_from : (i x n : ℕ) → i ≤ n → x ≤ n → ((k : ℕ) → k < n → (x == suc k) ≡ (suc k == i)) → x ≡ i
 index_from zero x n h l f = none_is_zero x n l (λ k b. f k b ∙ suc_not_zero k)

@@ -3,12 +3,12 @@
 --     IsRaised     the least change of one place to more
 --     IsNext       the next frozen dimension
 --     NoneAfter    there is no next one
---     IsHanded     a value of the task's root and sizes
+--     IsHanded     a value of the task's root and sizes, with 0 at `All`
 use Rattle.std.specs.Prelude.{◌≡◌, ℕ, ◌<◌, ◌≤◌, slice_index}
 use Rattle.olap_ast.specs.Frozen.{Frozen, code}
 use Rattle.olap_ast.specs.Violation.{IsNotAfter}
 use Rattle.olap_frozen.specs.declared.frozen.Frozen as kept
-use Rattle.olap_frozen.specs.Leaves.{IsSized}
+use Rattle.olap_frozen.specs.Leaves.{IsSized, IsZeroAtAll}
 use Rattle.olap_dimsat.specs.Listed.{IsBefore}
 use Rattle.olap_dimsat.specs.Pinned.{IsSame}
 use Rattle.olap_dimsat.specs.Tasks.{Task, IsOne}
@@ -34,7 +34,8 @@ pub record IsNext (t : Task) (w y : Frozen) : Type 0 where
 abbrev pub NoneAfter : Task → Frozen → Type 0
 NoneAfter t w = (f : Frozen) → IsOne t f → IsBefore w f → ⊥
 
--- the value has the task's root, an entry for each edge and each category, and indexes of candidates
+-- the value has the task's root, an entry for each edge and each category, and indexes of candidates; `All` has 0
 pub record IsHanded (t : Task) (f : kept.Frozen) : Type 0 where
   pub root : f.root.0 ≡ t.root
   pub sized : IsSized t.graph t.named f.edges f.names
+  pub zero : IsZeroAtAll f.names

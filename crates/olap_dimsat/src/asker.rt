@@ -3,9 +3,12 @@ use crate::layout::Layout;
 use olap_ast::{Constraint, Formula};
 use olap_base::CatId;
 use olap_frozen::{Frozen, Room};
-use olap_graph::Graph;
+use olap_graph::{Graph, WORDS};
 use olap_names::Candidates;
-use olap_trail::Trail as Decisions;
+use olap_trail::Trail;
+
+/// Decisions on edges.
+pub(crate) type Decisions = Trail<{ WORDS }>;
 
 /// A question at a root of a schema, the candidates for names, and where the variables are.
 #[derive(Clone, Copy)]
@@ -21,7 +24,7 @@ pub struct Asker<'a> {
 /// What a trail decides of edges, what is read off it, and room to test that.
 #[derive(Drop)]
 pub struct Leaf {
-    pub(crate) decided: Decisions<1>,
+    pub(crate) decided: Decisions,
     pub(crate) frozen: Frozen,
     pub(crate) room: Room,
     /// Whether nothing was undone in this search so far. A hint.

@@ -6,13 +6,12 @@ ghost use Rattle.olap_dimsat.specs.Knowing.{IsBroken, IsFalseAt};
 ghost use Rattle.olap_dimsat.specs.Reads.{NoneAgrees};
 ghost use Rattle.olap_dimsat.specs.Tracking.{IsTracked};
 
-use crate::asker::Asker;
+use crate::asker::{Asker, Decisions};
 use crate::knowing::Known;
 use olap_ast::{Constraint, Formula, Truth3};
 use olap_base::CatId;
 use olap_clauses::Trail;
 use olap_eval::holds3;
-use olap_trail::Trail as Decisions;
 
 // Whether it is known that the formula is false at the category's member.
 fn is_false(known: &Known<'_>, formula: &Formula, c: CatId) -> bool
@@ -41,7 +40,7 @@ fn is_broken(known: &Known<'_>, constraint: &Constraint) -> bool
 /// Whether a constraint of a category that is known present, or the question at the root, is known to be false.
 ///
 /// Cost: each formula once, with one look at a table for each atom, and a search among its constants for each name.
-pub(crate) fn is_cut(a: &Asker<'_>, trail: &Trail, decided: &Decisions<1>) -> bool
+pub(crate) fn is_cut(a: &Asker<'_>, trail: &Trail, decided: &Decisions) -> bool
     requires { IsTracked (task_of a.now) trail.now decided.now }
     ensures { result ≡ true → NoneAgrees (task_of a.now) trail.now }
 {

@@ -6,19 +6,18 @@ ghost use Rattle.olap_dimsat.specs.Asking.{task_of};
 ghost use Rattle.olap_dimsat.specs.Knowing.{presence, told, told_of_name, truth_of, way};
 ghost use Rattle.olap_dimsat.specs.Tasks.{IsLaid, constant_count};
 
-use crate::asker::Asker;
+use crate::asker::{Asker, Decisions};
 use olap_ast::Truth3;
 use olap_base::{CatId, Text};
 use olap_clauses::{Trail, Value};
 use olap_eval::Partial;
-use olap_trail::Trail as Decisions;
 
 /// What is known of edges, of reaching and of names.
 #[derive(Clone, Copy)]
 pub(crate) struct Known<'a> {
     pub(crate) asker: &'a Asker<'a>,
     pub(crate) trail: &'a Trail,
-    pub(crate) decided: &'a Decisions<1>,
+    pub(crate) decided: &'a Decisions,
     ghost laid: { IsLaid (task_of asker.now) },
     ghost texts: { length asker.now.candidates.now.texts ≡ category_count asker.now.graph.now },
     ghost categories: { category_count decided.now.graph ≡ category_count asker.now.graph.now },

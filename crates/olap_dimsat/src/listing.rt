@@ -3,7 +3,7 @@ ghost use Rattle.std.specs.Prelude.{◌≡◌, ◌+◌, ◌^◌, ◌<◌, ◌≤
 ghost use Rattle.olap_ast.specs.Frozen.{Frozen as TheFrozen, code};
 ghost use Rattle.olap_clauses.specs.Engines.{trail_of, variables_of};
 ghost use Rattle.olap_frozen.specs.LeastFound.{frozen_of};
-ghost use Rattle.olap_frozen.specs.Leaves.{IsSized, chosen_of};
+ghost use Rattle.olap_frozen.specs.Leaves.{IsSized, IsZeroAtAll, chosen_of};
 ghost use Rattle.olap_names.specs.Names.{candidates_of};
 ghost use Rattle.olap_dimsat.specs.Asking.{IsFor, IsSuited, task_of};
 ghost use Rattle.olap_dimsat.specs.Following.{IsHanded, IsNext, IsRaised, NoneAfter, NoneMore};
@@ -198,6 +198,7 @@ pub(crate) fn list(
     ensures roots { IfOk result (λ list. All (λ f. f.root.0 ≡ a.now.root.0) list) }
     ensures sized { IfOk result (λ list. All
         (λ f. IsSized a.now.graph.now a.now.candidates.now f.edges f.names) list) }
+    ensures zero { IfOk result (λ list. All (λ f. IsZeroAtAll f.names) list) }
     ensures too_many { result ≡ Err refusal.TooMany → AreMoreThan limit (schema_of (task_of a.now))
         (task_of a.now).question (task_of a.now).root (candidates_of (task_of a.now).named) }
     ensures best { IsFor (task_of a.now) best.new }

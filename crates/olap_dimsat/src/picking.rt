@@ -7,8 +7,8 @@ ghost use Rattle.olap_base.specs.Graph.{IsCategory};
 
 use crate::asker::Asker;
 use olap_base::{CatId, EdgeId};
-use olap_bits::CatSet;
 use olap_clauses::{Lit, Trail, Value};
+use olap_graph::Categories;
 
 // The negation of an edge, if it is open and its child is known present.
 fn open_at(a: &Asker<'_>, trail: &Trail, e: EdgeId) -> Option<Lit>
@@ -26,7 +26,7 @@ fn open_at(a: &Asker<'_>, trail: &Trail, e: EdgeId) -> Option<Lit>
 }
 
 // The negation of an edge, if it is open and its child is known present, and is one of these where they are given.
-fn open_among(a: &Asker<'_>, trail: &Trail, among: Option<CatSet<1>>, e: EdgeId) -> Option<Lit>
+fn open_among(a: &Asker<'_>, trail: &Trail, among: Option<Categories>, e: EdgeId) -> Option<Lit>
     requires task { IsTask (task_of a.now) }
     requires edge { e.0 < length a.now.graph.now.edges }
     requires variables { length (values_of trail.now) ≡ a.now.layout.now.variables }
@@ -45,7 +45,7 @@ fn open_among(a: &Asker<'_>, trail: &Trail, among: Option<CatSet<1>>, e: EdgeId)
 }
 
 // The first of these edges, as its negation.
-fn first_open(a: &Asker<'_>, trail: &Trail, among: Option<CatSet<1>>) -> Option<Lit>
+fn first_open(a: &Asker<'_>, trail: &Trail, among: Option<Categories>) -> Option<Lit>
     requires task { IsTask (task_of a.now) }
     requires variables { length (values_of trail.now) ≡ a.now.layout.now.variables }
     ensures { IfSome result (λ l. IsOpen trail.now l) }
@@ -89,7 +89,7 @@ fn highest_open(
     a: &Asker<'_>,
     trail: &Trail,
     scores: &[u32],
-    among: Option<CatSet<1>>,
+    among: Option<Categories>,
 ) -> Option<Lit>
     requires task { IsTask (task_of a.now) }
     requires variables { length (values_of trail.now) ≡ a.now.layout.now.variables }
@@ -103,7 +103,7 @@ fn highest_open(
 }
 
 // The first of these edges in declaration order, or, where there are scores, the one of the highest.
-fn pick_among(a: &Asker<'_>, trail: &Trail, scores: &[u32], among: Option<CatSet<1>>) -> Option<Lit>
+fn pick_among(a: &Asker<'_>, trail: &Trail, scores: &[u32], among: Option<Categories>) -> Option<Lit>
     requires task { IsTask (task_of a.now) }
     requires variables { length (values_of trail.now) ≡ a.now.layout.now.variables }
     ensures { IfSome result (λ l. IsOpen trail.now l) }
@@ -121,7 +121,7 @@ pub(crate) fn pick_edge(
     a: &Asker<'_>,
     trail: &Trail,
     scores: &[u32],
-    present: CatSet<1>,
+    present: Categories,
 ) -> Option<Lit>
     requires task { IsTask (task_of a.now) }
     requires variables { length (values_of trail.now) ≡ a.now.layout.now.variables }

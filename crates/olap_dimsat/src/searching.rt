@@ -9,12 +9,12 @@ ghost use Rattle.olap_base.specs.Limits.{most_constants};
 ghost use Rattle.olap_dimsat.specs.Listed.{AreAllFrozen, AreMoreThan};
 ghost use Rattle.olap_dimsat.specs.declared.searching.AllRefusal.TheVariants as refusal;
 ghost use Rattle.olap_dimsat.specs.Searches.{IsMadeWith, IsSizedFor, candidates_in, found_in, named_in, root_of};
-ghost use Rattle.olap_frozen.specs.LeastFound.{IsLeastFound, frozen_of};
-ghost use Rattle.olap_frozen.specs.Leaves.{IsSized};
+ghost use Rattle.olap_frozen.specs.LeastFound.{HasNothing, IsLeastFound, frozen_of};
+ghost use Rattle.olap_frozen.specs.Leaves.{IsSized, IsZeroAtAll};
 ghost use Rattle.olap_names.specs.Names.{with_graph};
 ghost use Rattle.olap_schema.specs.Schemas.{schema_of};
 
-use crate::asker::{Asker, Leaf};
+use crate::asker::{Asker, Decisions, Leaf};
 use crate::encoding::encode;
 use crate::layout::Layout;
 use crate::listing::list;
@@ -26,7 +26,6 @@ use olap_frozen::{Frozen, Room};
 use olap_graph::Graph;
 use olap_names::Candidates;
 use olap_schema::Schema;
-use olap_trail::Trail as Decisions;
 use std::alloc::Global;
 use std::mem::swap;
 
@@ -149,7 +148,9 @@ impl Search {
 
     /// A value of the right sizes with nothing present.
     pub fn blank(&self) -> Result<Frozen, Memory>
-        ensures { IfOk result (IsSizedFor self.now) }
+        ensures sizes { IfOk result (IsSizedFor self.now) }
+        ensures nothing { IfOk result HasNothing }
+        ensures root { IfOk result (λ f. f.root.0 ≡ root_of self.now) }
     {
         let edges = self.best.edges.items().len();
         let names = self.best.names.items().len();
@@ -236,6 +237,7 @@ impl Search {
         ensures roots { IfOk result (λ list. All (λ f. f.root.0 ≡ root_of self.old) list) }
         ensures sized { IfOk result (λ list. All
             (λ f. IsSized graph.now (named_in self.old) f.edges f.names) list) }
+        ensures zero { IfOk result (λ list. All (λ f. IsZeroAtAll f.names) list) }
         ensures too_many { result ≡ Err refusal.TooMany
             → AreMoreThan limit (with_graph graph.now (map constraint_of constraints.now))
             (formula_of question.now) (root_of self.old) (candidates_in self.old) }
@@ -280,6 +282,7 @@ impl Search {
         ensures roots { IfOk result (λ list. All (λ f. f.root.0 ≡ root_of self.old) list) }
         ensures sized { IfOk result (λ list. All
             (λ f. IsSized (schema_of schema.now).graph (named_in self.old) f.edges f.names) list) }
+        ensures zero { IfOk result (λ list. All (λ f. IsZeroAtAll f.names) list) }
         ensures too_many { result ≡ Err refusal.TooMany → AreMoreThan limit (schema_of schema.now)
             (formula_of question.now) (root_of self.old) (candidates_in self.old) }
         ensures candidates { named_in self.new ≡ named_in self.old }

@@ -7,10 +7,10 @@ ghost use Rattle.olap_dimsat.specs.Reads.{EdgeReads, NoneAgrees};
 ghost use Rattle.olap_dimsat.specs.Tracking.{AreRead, IsOf};
 ghost use Rattle.olap_dimsat.specs.Tasks.{IsTask};
 
-use crate::asker::{Asker, Leaf};
+use crate::asker::{Asker, Decisions, Leaf};
 use olap_base::EdgeId;
 use olap_clauses::{Trail, Value};
-use olap_trail::{Decision, Mark, Trail as Decisions};
+use olap_trail::{Decision, Mark};
 
 // Whether the trail decides the edge so too.
 fn is_read(a: &Asker<'_>, trail: &Trail, decision: Decision) -> bool
@@ -26,7 +26,7 @@ fn is_read(a: &Asker<'_>, trail: &Trail, decision: Decision) -> bool
 }
 
 // How many decisions the trail makes too, up to the first that it doesn't.
-fn standing(a: &Asker<'_>, decided: &Decisions<1>, trail: &Trail) -> u16
+fn standing(a: &Asker<'_>, decided: &Decisions, trail: &Trail) -> u16
     requires task { IsTask (task_of a.now) }
     requires of { IsOf (task_of a.now) decided.now }
     ensures few { result ≤ length decided.now.decisions }
@@ -44,7 +44,7 @@ fn standing(a: &Asker<'_>, decided: &Decisions<1>, trail: &Trail) -> u16
 
 // Decides an edge as the trail does. False: no frozen dimension agrees with the trail, since the edge closes a cycle or
 // makes a shortcut.
-fn add(a: &Asker<'_>, decided: &mut Decisions<1>, trail: &Trail, e: EdgeId, present: bool) -> bool
+fn add(a: &Asker<'_>, decided: &mut Decisions, trail: &Trail, e: EdgeId, present: bool) -> bool
     requires task { IsTask (task_of a.now) }
     requires of { IsOf (task_of a.now) decided.old }
     requires edge { e.0 < length a.now.graph.now.edges }
@@ -63,7 +63,7 @@ fn add(a: &Asker<'_>, decided: &mut Decisions<1>, trail: &Trail, e: EdgeId, pres
 }
 
 // Decides the edge as the trail does, if the trail does and the edge is open.
-fn follow_edge(a: &Asker<'_>, decided: &mut Decisions<1>, trail: &Trail, e: EdgeId) -> bool
+fn follow_edge(a: &Asker<'_>, decided: &mut Decisions, trail: &Trail, e: EdgeId) -> bool
     requires task { IsTask (task_of a.now) }
     requires of { IsOf (task_of a.now) decided.old }
     requires edge { e.0 < length a.now.graph.now.edges }
@@ -83,7 +83,7 @@ fn follow_edge(a: &Asker<'_>, decided: &mut Decisions<1>, trail: &Trail, e: Edge
 }
 
 // Decides each open edge as the trail does. False: no frozen dimension agrees with the trail.
-fn follow_edges(a: &Asker<'_>, decided: &mut Decisions<1>, trail: &Trail) -> bool
+fn follow_edges(a: &Asker<'_>, decided: &mut Decisions, trail: &Trail) -> bool
     requires task { IsTask (task_of a.now) }
     requires of { IsOf (task_of a.now) decided.old }
     requires read { AreRead (task_of a.now) trail.now decided.old.decisions }

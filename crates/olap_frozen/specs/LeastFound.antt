@@ -9,7 +9,7 @@ use Rattle.olap_ast.specs.Schema.{Schema}
 use Rattle.olap_names.specs.Names.{candidates_of}
 use Rattle.olap_frozen.specs.declared.founding.Found.{Found}
 use Rattle.olap_frozen.specs.declared.frozen.Frozen.{Frozen}
-use Rattle.olap_frozen.specs.Leaves.{IsSized, chosen_of}
+use Rattle.olap_frozen.specs.Leaves.{IsSized, IsZeroAtAll, chosen_of}
 
 -- the choice of edges and names
 abbrev pub frozen_of : Frozen → frozen.Frozen
@@ -20,8 +20,9 @@ pub record HasNothing (f : Frozen) : Type 0 where
   pub edges : All (λ b. b ≡ false) f.edges
   pub names : All (λ n. n ≡ 0) f.names
 
--- the least frozen dimension with this root for the question
+-- the least frozen dimension with this root for the question; `All` has the index 0
 pub record IsLeastFound (s : Schema) (q : Formula) (r : ℕ) (found : Found) : Type 0 where
   pub root : found.frozen.root.0 ≡ r
   pub sized : IsSized s.graph found.candidates found.frozen.edges found.frozen.names
+  pub zero : IsZeroAtAll found.frozen.names
   pub least : frozen.IsLeastFrozen s q r (candidates_of found.candidates) (frozen_of found.frozen)

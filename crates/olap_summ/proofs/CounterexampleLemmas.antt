@@ -92,4 +92,5 @@ module _ (s : Schema) (c : ℕ) (sources : List ℕ) (hier : IsHierarchy s.graph
           f.first d l b m.0 m.1 m.2 m.3 m.4;
     };
     sized = f.least.sized;
+    zero = f.least.zero;
   }

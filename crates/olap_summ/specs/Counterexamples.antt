@@ -7,14 +7,15 @@ use Rattle.olap_ast.specs.Schema.{Schema}
 use Rattle.olap_ast.specs.Summarizable.{IsCounterexample}
 use Rattle.olap_frozen.specs.declared.founding.Found.{Found}
 use Rattle.olap_frozen.specs.LeastFound.{frozen_of}
-use Rattle.olap_frozen.specs.Leaves.{IsSized}
+use Rattle.olap_frozen.specs.Leaves.{IsSized, IsZeroAtAll}
 use Rattle.olap_names.specs.Names.{candidates_of}
 
 abbrev pub numbers_of : List CatId → List ℕ
 numbers_of sources = map (λ c. c.0) sources
 
--- it is the counterexample, with an entry for each edge and each category, and indexes of its names
+-- it is the counterexample, with an entry for each edge and each category, and indexes of its names; `All` has 0
 pub record IsCounterexampleFound (s : Schema) (c : ℕ) (sources : List ℕ) (found : Found) : Type 0 where
   pub is_one : IsCounterexample s c sources (candidates_of found.candidates) found.frozen.root.0
       (frozen_of found.frozen)
   pub sized : IsSized s.graph found.candidates found.frozen.edges found.frozen.names
+  pub zero : IsZeroAtAll found.frozen.names

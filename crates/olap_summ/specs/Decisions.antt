@@ -5,10 +5,9 @@
 --     candidates_at            the names of a category's search
 --     found_at                 a value with the names of its root's search
 --     HasSizesOf               a value has the decision's sizes
---     HasNothing               a value has nothing present
 --     IsDecisionOf             a decision is one for a schema and its questions
 --     DecisionsAgree           what it shows is the same at each call
-use Rattle.std.specs.Prelude.{◌≡◌, ◌<◌, ◌↔◌, ◌==◌, ℕ, List, [], ◌∷◌, All, AllPairs, Contains, false, if◌then◌else◌, length, map}
+use Rattle.std.specs.Prelude.{◌≡◌, ◌<◌, ◌↔◌, ◌==◌, ℕ, List, [], ◌∷◌, All, AllPairs, Contains, if◌then◌else◌, length, map}
 use Rattle.olap_base.specs.Graph.{IsBottom, IsCategory, category_count}
 use Rattle.olap_ast.specs.Formula.{Formula}
 use Rattle.olap_ast.specs.Schema.{Schema}
@@ -71,11 +70,6 @@ found_at d f = record { frozen = f; candidates = candidates_at d f.root.0 }
 pub record HasSizesOf (d : Decision) (f : Frozen) : Type 0 where
   pub edges : length f.edges ≡ d.edges
   pub names : length f.names ≡ d.categories
-
--- no edge is present, and each category has the index 0
-pub record HasNothing (f : Frozen) : Type 0 where
-  pub edges : All (λ b. b ≡ false) f.edges
-  pub names : All (λ n. n ≡ 0) f.names
 
 -- the search is one for the schema, the formula and its category
 pub record IsAskedOf (s : Schema) (q : Formula) (a : Asked) : Type 0 where

@@ -2,9 +2,10 @@
 ghost use Rattle.std.specs.Prelude.{◌≡◌, ◌<◌, ◌↔◌, ℕ, Contains, IfOk, IsTrue, false, length, slice_index_or};
 ghost use Rattle.olap_ast.specs.Summarizable.{IsSummarizable};
 ghost use Rattle.olap_dimsat.specs.Searches.{named_in};
+ghost use Rattle.olap_frozen.specs.LeastFound.{HasNothing};
 ghost use Rattle.olap_schema.specs.Schemas.{schema_of};
 ghost use Rattle.olap_summ.specs.Counterexamples.{IsCounterexampleFound};
-ghost use Rattle.olap_summ.specs.Decisions.{AreQuestionsFor, HasNothing, HasSizesOf, IsDecisionOf, candidates_at, found_at, roots_in, sources_of, target_of};
+ghost use Rattle.olap_summ.specs.Decisions.{AreQuestionsFor, HasSizesOf, IsDecisionOf, candidates_at, found_at, roots_in, sources_of, target_of};
 
 use crate::Questions;
 use olap_ast::candidates_exist;

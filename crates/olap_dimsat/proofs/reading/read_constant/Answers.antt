@@ -1,7 +1,8 @@
 use Rattle.std.proofs.Common.{refl, ap, sym, ◌∙◌, arith}
+use Rattle.std.proofs.lemmas.Bool.{false_from_ne_true}
 use Rattle.olap_clauses.specs.declared.literals.Lit.{Lit}
 use Rattle.olap_dimsat.specs.Asking.{task_of}
-use Rattle.olap_dimsat.proofs.Truths.{holds_at, not_true}
+use Rattle.olap_dimsat.proofs.Truths.{holds_at}
 use Rattle.olap_dimsat.proofs.ReadLemmas.{index_absent, zero_not_suc}
 use Rattle.olap_dimsat.proofs.reading.read_constant.Goals as goal
 
@@ -24,7 +25,7 @@ returns-in-Yes-clause-is c = λ f v one r a.
 
 pub returns-in-No-clause-is : goal.returns-in-No-clause-is
 returns-in-No-clause-is c = λ f v one r a.
-    not_true _ (λ t. c.in-No.ensures.no refl v a (holds_at v _ _ (sym c.name-name.ensures)
+    false_from_ne_true _ (λ t. c.in-No.ensures.no refl v a (holds_at v _ _ (sym c.name-name.ensures)
     (r.named c.args.c.0 c.args.j c.requires.category c.requires.constant ∙ t)))
 
 pub returns-in_ok-absent-in-Unknown-clause-is : goal.returns-in_ok-absent-in-Unknown-clause-is

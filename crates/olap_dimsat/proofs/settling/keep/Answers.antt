@@ -1,8 +1,8 @@
 use Rattle.std.proofs.Common.{inl, inr}
+use Rattle.std.proofs.lemmas.Bool.{cases_Bool}
 use Rattle.olap_clauses.specs.Engines.{trail_of}
 use Rattle.olap_frozen.specs.Leaves.{chosen_of}
 use Rattle.olap_dimsat.specs.Asking.{task_of}
-use Rattle.olap_dimsat.proofs.Truths.{true_or_false}
 use Rattle.olap_dimsat.proofs.WitnessLemmas.{ready_still}
 use Rattle.olap_dimsat.proofs.SettleLemmas.{has_its_own, kept}
 use Rattle.olap_dimsat.proofs.settling.keep.Goals as goal
@@ -14,7 +14,7 @@ returns-clause-pinned c =
     let old = trail_of c.args.engine.now in
     let n = c.number_at-number.result in
     let own = c.number_at-number.ensures.number in
-    elim (true_or_false c.assume_at.result) [
+    elim (cases_Bool c.assume_at.result) [
       | inl y ↦ kept t c.args.p n w old (trail_of c.assume_at.new.engine) c.requires.pinned own
           c.assume_at.ensures.shaped (c.assume_at.ensures.yes y)
       | inr z ↦ absurd (has_its_own t c.args.p n w old c.args.engine.now c.requires.ready c.requires.pinned own

@@ -1,5 +1,6 @@
 use Rattle.std.proofs.Common.{refl, sym, ◌∙◌}
-use Rattle.olap_dimsat.proofs.Truths.{holds_at, not_true}
+use Rattle.std.proofs.lemmas.Bool.{false_from_ne_true}
+use Rattle.olap_dimsat.proofs.Truths.{holds_at}
 use Rattle.olap_dimsat.proofs.TrackingLemmas.{not_is}
 use Rattle.olap_dimsat.proofs.tracking.is_read.Goals as goal
 
@@ -10,5 +11,5 @@ returns-in-Yes c = λ p f v one r a.
 
 pub returns-in-No : goal.returns-in-No
 returns-in-No c = λ p f v one r a.
-    not_true _ (λ t. c.in-No.ensures.no refl v a (holds_at v _ _ (sym c.on.ensures)
+    false_from_ne_true _ (λ t. c.in-No.ensures.no refl v a (holds_at v _ _ (sym c.on.ensures)
     (r.on c.args.decision.edge.0 c.requires.edge ∙ t))) ∙ not_is c.args.decision.present p
