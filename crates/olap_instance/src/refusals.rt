@@ -28,9 +28,9 @@ pub enum InstanceKind {
     UnknownParent,
     /// A member's parents name one member twice.
     DuplicateParent,
-    /// It is the 262,144th record after the header.
+    /// With `all` there are `MOST_MEMBERS` members before it.
     TooManyMembers,
-    /// An id or a name is over 255 bytes.
+    /// An id or a name has more than `MOST_TEXT_BYTES` bytes.
     TextTooLong,
 }
 
@@ -96,15 +96,15 @@ impl<T: Drop> From<AllocFailed<T>> for InstanceRefusal {
 pub enum MemberRefusal {
     /// The id is empty or holds a semicolon.
     BadId,
-    /// The id or the name is over 255 bytes.
+    /// The id or the name has more than `MOST_TEXT_BYTES` bytes.
     TextTooLong,
     /// The category is `All`.
     RowForAll,
     /// The id is that of another member or of `all`.
     DuplicateId,
-    /// There are 262,144 members, `all` included.
+    /// There are `MOST_MEMBERS` members, `all` included.
     TooManyMembers,
-    /// Want of memory.
+    /// Out of memory.
     Memory,
 }
 
@@ -137,7 +137,7 @@ impl<T: Drop> From<AllocFailed<T>> for MemberRefusal {
 pub enum ParentRefusal {
     /// The child has that parent.
     DuplicateParent,
-    /// Want of memory.
+    /// Out of memory.
     Memory,
 }
 
