@@ -1,5 +1,5 @@
 // Whichever call of the library or of the sink fails, nothing wrong is written.
-use crate::running::run_failing;
+use crate::running::{READ_CHUNK, WRITE_CHUNK, run_failing};
 use crate::samples::{LOCATION, PLACES, SALES, STORED};
 use olap_run::Status;
 use std::alloc::Global;
@@ -23,51 +23,66 @@ usa,1,10,10,10\n\
 ca,3,3,-5,5\n\
 me,1,7,7,7\n";
 
-/// More calls than a run makes.
-const MANY: u64 = 1000;
+/// How many calls of the library a run makes: each file is opened, and read piece by piece until nothing comes.
+fn calls_for(texts: &[&str]) -> u64 {
+    let mut calls = 0u64;
+    for text in texts {
+        let pieces = text.len().div_ceil(READ_CHUNK) as u64;
+        calls = calls.saturating_add(pieces).saturating_add(2);
+    }
+    calls
+}
 
-/// Each call of the library may fail: nothing is written. Then none fails.
+/// Each call of the library for these files fails in turn: nothing is written. One call more never comes.
 fn over_failing_reads(
     rt: &impl Abort,
     alloc: Global,
     line: &[&str],
+    texts: &[&str],
     wanted: &str,
 ) -> Result<(), Fail> {
-    for call in 1..MANY {
+    let calls = calls_for(texts);
+    for call in 1..=calls {
         let (status, output) = run_failing(alloc, line, &HELD, (Some(call), None))?;
-        if status == Status::Yes {
-            assert_eq!(rt; output.as_str(), wanted);
-            return Ok(());
-        }
         assert_eq!(rt; status, Status::ReadFault);
         assert_eq!(rt; output.as_str(), "");
     }
-    Err("more calls than there may be".into())
+    let beyond = Some(calls.saturating_add(1));
+    let (status, output) = run_failing(alloc, line, &HELD, (beyond, None))?;
+    assert_eq!(rt; status, Status::Yes);
+    assert_eq!(rt; output.as_str(), wanted);
+    Ok(())
 }
 
-/// Each call of the sink may fail: a part is written. Then none fails.
+/// Each call of the sink fails in turn: the pieces before it are written. One call more never comes.
 fn over_failing_writes(
     rt: &impl Abort,
     alloc: Global,
     line: &[&str],
     wanted: &str,
 ) -> Result<(), Fail> {
-    for call in 1..MANY {
+    let calls = wanted.len().div_ceil(WRITE_CHUNK) as u64;
+    let mut written = 0usize;
+    for call in 1..=calls {
         let (status, output) = run_failing(alloc, line, &HELD, (None, Some(call)))?;
-        if status == Status::Yes {
-            assert_eq!(rt; output.as_str(), wanted);
-            return Ok(());
-        }
         assert_eq!(rt; status, Status::WriteFault);
         assert!(rt; wanted.starts_with(output.as_str()));
+        assert_eq!(rt; output.len(), written);
+        written = written.saturating_add(WRITE_CHUNK);
     }
-    Err("more calls than there may be".into())
+    let beyond = Some(calls.saturating_add(1));
+    let (status, output) = run_failing(alloc, line, &HELD, (None, beyond))?;
+    assert_eq!(rt; status, Status::Yes);
+    assert_eq!(rt; output.as_str(), wanted);
+    Ok(())
 }
 
 #[test]
 fn each_read_may_fail(rt: HostRuntime) -> Result<(), Fail> {
-    over_failing_reads(&rt, rt.alloc(), &ANSWER, ANSWERED)?;
-    over_failing_reads(&rt, rt.alloc(), &ROLLUP, ROLLED_UP)
+    let texts = [LOCATION, PLACES, STORED];
+    over_failing_reads(&rt, rt.alloc(), &ANSWER, &texts, ANSWERED)?;
+    let texts = [LOCATION, PLACES, SALES];
+    over_failing_reads(&rt, rt.alloc(), &ROLLUP, &texts, ROLLED_UP)
 }
 
 #[test]

@@ -1,5 +1,5 @@
 // Files that can't be read, and output that can't be written.
-use crate::running::{check, check_surely};
+use crate::running::check;
 use crate::samples::{CHAIN, CITY_VIEW, TWO_STORES, ZERO_SUM};
 use olap_run::Status;
 use std::test::Fail;
@@ -71,15 +71,4 @@ fn writes_that_fail(rt: HostRuntime) -> Result<(), Fail> {
         Status::Yes,
         CITY_VIEW,
     )
-}
-
-/// Files and output that refuse nothing: a name that isn't held stands for a file without bytes.
-#[test]
-fn nothing_is_refused(rt: HostRuntime) -> Result<(), Fail> {
-    let alloc = rt.alloc();
-    let held = [("S", CHAIN), ("I", TWO_STORES), ("F", ZERO_SUM)];
-    check_surely(&rt, alloc, &LINE, &held, Status::Yes)?;
-    let unheld = ["rollup", "X", "I", "F", "City"];
-    check_surely(&rt, alloc, &unheld, &held, Status::Refused)?;
-    check_surely(&rt, alloc, &["rollup"], &held, Status::Usage)
 }

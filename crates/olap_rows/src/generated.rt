@@ -32,6 +32,28 @@ fn inputs_are_made(rt: HostRuntime) -> Result<(), Fail> {
     Ok(())
 }
 
+// One store more than a thousand, and one more than two to the sixteenth. 1001 stores: each value once, and that of the
+// last store, -458, which lies below a region, once more. 65537 stores: each value 65 times, and those of the first 537
+// once more, of which 269 lie below a region.
+#[test]
+fn inputs_of_other_sizes(rt: HostRuntime) -> Result<(), Fail> {
+    let rows: [(&str, &str); 2] = [
+        (
+            "1001",
+            "members 1148\nfacts 1001\nstored 112\nplan State Province\nrows 32\ncount 501\nsum -208\n",
+        ),
+        (
+            "65537",
+            "members 74765\nfacts 65537\nstored 1750\nplan State Province\nrows 500\ncount 32769\nsum 17494\n",
+        ),
+    ];
+    for (size, output) in rows {
+        let line: [&str; 3] = ["generate", "5", size];
+        check_status(&rt, rt.alloc(), &line, &[], Status::Yes, output)?;
+    }
+    Ok(())
+}
+
 // Only the seed's last three digits count, and zeros may stand first: up to twenty digits, and up to 2^64 - 1.
 #[test]
 fn seeds_of_many_digits(rt: HostRuntime) -> Result<(), Fail> {

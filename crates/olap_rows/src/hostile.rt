@@ -1,73 +1,42 @@
 // Texts that nobody writes in good faith, and a file without an end.
-ghost use Rattle.std.specs.Prelude.{None, false};
-
-use crate::running::{check_bytes, check_status, grown};
-use crate::samples::CHAIN;
-use olap_base::{Failed, Library, List, MemSink, OpenError};
-use olap_run::{Status, olap};
+use crate::libraries::Content;
+use crate::running::{check_bytes, check_once, check_status, grown};
+use crate::samples::{CHAIN, TWO_STORES};
+use olap_run::Status;
 use std::alloc::Global;
 use std::process::Abort;
 use std::test::Fail;
 
-/// A library each of whose files is the byte `#` without end.
-#[derive(Drop)]
-struct Endless {
-    open: bool,
-    taken: u64,
-    faults: u64,
-}
-
-impl Library for Endless {
-    ghost contents = { λ _. None };
-
-    ghost rest = { λ _. None };
-
-    ghost asked = { λ _. None };
-
-    ghost ready = { λ s. s.open };
-
-    ghost taken = { λ s. s.taken };
-
-    ghost faults = { λ s. s.faults };
-
-    ghost sure = { λ _. false };
-
-    ghost told = { λ _ _ t. t };
-
-    fn open_file(&mut self, _name: &str) -> Result<(), OpenError> {
-        self.open = true;
-        self.taken = 0;
-        Ok(())
-    }
-
-    fn read(&mut self, buf: &mut [u8]) -> Result<usize, Failed> {
-        let Some(taken) = self.taken.checked_add(buf.len() as u64) else {
-            self.open = false;
-            self.faults = self.faults.saturating_add(1);
-            return Err(Failed);
-        };
-        buf.fill(b'#');
-        self.taken = taken;
-        Ok(buf.len())
-    }
-}
-
+/// Each file may be the one without an end. More of it than the limit and one piece isn't read.
 #[test]
 fn a_file_without_an_end(rt: HostRuntime) -> Result<(), Fail> {
-    let alloc = rt.alloc();
-    let mut library = Endless {
-        open: false,
-        taken: 0,
-        faults: 0,
-    };
-    let mut sink = MemSink::new(alloc, 100, 100, List::from_vec(Vec::new(alloc)))?;
-    let mut words = Vec::new(alloc);
-    for word in ["format", "X"] {
-        words.push(String::from_str(alloc, word)?)?;
+    let schema = ("S", Content::Bytes(CHAIN.as_bytes()));
+    let instance = ("I", Content::Bytes(TWO_STORES.as_bytes()));
+    let rows: [(&[&str], &[(&str, Content)], &str); 4] = [
+        (
+            &["format", "X"],
+            &[("X", Content::Endless)],
+            "refused schema TooLong\n",
+        ),
+        (
+            &["check", "S", "X"],
+            &[schema, ("X", Content::Endless)],
+            "refused instance TooLong\n",
+        ),
+        (
+            &["rollup", "S", "I", "X", "City"],
+            &[schema, instance, ("X", Content::Endless)],
+            "refused facts TooLong\n",
+        ),
+        (
+            &["answer", "S", "I", "X", "City"],
+            &[schema, instance, ("X", Content::Endless)],
+            "refused store TooLong\n",
+        ),
+    ];
+    for (line, files, output) in rows {
+        check_once(&rt, rt.alloc(), line, files, Status::Refused, output)?;
     }
-    let status = olap(alloc, &words, &mut library, &mut sink);
-    assert_eq!(rt; status, Status::Refused);
-    assert_eq!(rt; sink.contents(), b"refused schema TooLong\n".as_slice());
     Ok(())
 }
 

@@ -20,6 +20,12 @@ mod generated;
 #[cfg(test)]
 mod hostile;
 #[cfg(test)]
+mod libraries;
+#[cfg(test)]
+mod openings;
+#[cfg(test)]
+mod plans;
+#[cfg(test)]
 mod rollups;
 #[cfg(test)]
 mod running;
@@ -27,3 +33,5 @@ mod running;
 mod samples;
 #[cfg(test)]
 mod stores;
+#[cfg(test)]
+mod surely;

@@ -1,9 +1,16 @@
 // One run of the top call over files and output in memory.
+use crate::libraries::{Content, Once};
 use olap_base::{List, MemLibrary, MemSink, SureLibrary, SureSink, Text};
 use olap_run::{Status, olap, olap_surely};
 use std::alloc::Global;
 use std::process::Abort;
 use std::test::Fail;
+
+/// How many bytes at most a library of which a call may fail hands out at a time.
+pub(crate) const READ_CHUNK: usize = 16;
+
+/// How many bytes at most a sink of which a call may fail takes at a time.
+pub(crate) const WRITE_CHUNK: usize = 7;
 
 /// The words of a command line.
 fn words(alloc: Global, line: &[&str]) -> Result<Vec<String>, Fail> {
@@ -61,27 +68,11 @@ pub(crate) fn check(
     wanted: Status,
     output: &str,
 ) -> Result<(), Fail> {
-    let mut library = MemLibrary::new(files(alloc, held)?, 16, listed(alloc, failing.0)?);
-    let mut sink = MemSink::new(alloc, room, 7, listed(alloc, failing.1)?)?;
+    let mut library = MemLibrary::new(files(alloc, held)?, READ_CHUNK, listed(alloc, failing.0)?);
+    let mut sink = MemSink::new(alloc, room, WRITE_CHUNK, listed(alloc, failing.1)?)?;
     let status = status(alloc, line, &mut library, &mut sink)?;
     assert_eq!(rt; status, wanted, "{output}");
     assert_eq!(rt; sink.contents(), output.as_bytes());
-    Ok(())
-}
-
-/// Runs the command line over files and output that refuse nothing, and compares the status.
-pub(crate) fn check_surely(
-    rt: &impl Abort,
-    alloc: Global,
-    line: &[&str],
-    held: &[(&str, &str)],
-    wanted: Status,
-) -> Result<(), Fail> {
-    let mut library = SureLibrary::new(files(alloc, held)?, 16);
-    let mut sink = SureSink::new();
-    let words = words(alloc, line)?;
-    let status = olap_surely(alloc, &words, &mut library, &mut sink);
-    assert_eq!(rt; status, wanted);
     Ok(())
 }
 
@@ -148,13 +139,45 @@ pub(crate) fn run_failing(
     held: &[(&str, &str)],
     failing: (Option<u64>, Option<u64>),
 ) -> Result<(Status, String), Fail> {
-    let mut library = MemLibrary::new(files(alloc, held)?, 16, listed(alloc, failing.0)?);
-    let mut sink = MemSink::new(alloc, 1000, 7, listed(alloc, failing.1)?)?;
+    let mut library = MemLibrary::new(files(alloc, held)?, READ_CHUNK, listed(alloc, failing.0)?);
+    let mut sink = MemSink::new(alloc, 1000, WRITE_CHUNK, listed(alloc, failing.1)?)?;
     let status = status(alloc, line, &mut library, &mut sink)?;
     let Ok(output) = str::from_utf8(sink.contents()) else {
         return Err("an output that is no text".into());
     };
     Ok((status, String::from_str(alloc, output)?))
+}
+
+/// Runs the command line over files of which each can be opened once, and compares the status and the output: the run
+/// opens them all, in this order, and asks for nothing else.
+pub(crate) fn check_once(
+    rt: &impl Abort,
+    alloc: Global,
+    line: &[&str],
+    files: &[(&str, Content)],
+    wanted: Status,
+    output: &str,
+) -> Result<(), Fail> {
+    let mut library = Once::new(files);
+    let mut sink = MemSink::new(alloc, 1000, 4096, listed(alloc, None)?)?;
+    let words = words(alloc, line)?;
+    let status = olap(alloc, &words, &mut library, &mut sink);
+    assert_eq!(rt; status, wanted, "{output}");
+    assert_eq!(rt; sink.contents(), output.as_bytes());
+    assert!(rt; library.is_used_up());
+    Ok(())
+}
+
+/// The status of a command line over files of which none is missing, and a sink that takes all.
+pub(crate) fn status_surely(
+    alloc: Global,
+    line: &[&str],
+    held: &[(&str, &str)],
+) -> Result<Status, Fail> {
+    let mut library = SureLibrary::new(files(alloc, held)?, READ_CHUNK);
+    let mut sink = SureSink::new();
+    let words = words(alloc, line)?;
+    Ok(olap_surely(alloc, &words, &mut library, &mut sink))
 }
 
 /// The text with the first place of this line changed.
