@@ -6,6 +6,10 @@
 #![tactic(auto)]
 
 #[cfg(test)]
+mod bottoms;
+#[cfg(test)]
+mod formulas;
+#[cfg(test)]
 mod limits;
 #[cfg(test)]
 mod listings;
@@ -19,3 +23,5 @@ mod running;
 mod samples;
 #[cfg(test)]
 mod searches;
+#[cfg(test)]
+mod texts;

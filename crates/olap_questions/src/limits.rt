@@ -1,5 +1,6 @@
 // The limits of a schema: the last that is allowed, and the first that is refused.
 use crate::running::check;
+use crate::texts::{constants, repeated};
 use olap_run::Status;
 use std::alloc::Global;
 use std::process::Abort;
@@ -9,22 +10,6 @@ const LINE: [&str; 2] = ["format", "X"];
 
 /// A category that reaches `All`, and then a constraint on it up to its formula.
 const START: &str = "schema 1\ncategory A\nedge A All\nconstraint A: ";
-
-/// A text of so many times the piece, behind a start and before an end.
-fn repeated(
-    alloc: Global,
-    start: &str,
-    piece: &str,
-    times: u32,
-    end: &str,
-) -> Result<String, Fail> {
-    let mut text = String::from_str(alloc, start)?;
-    for _ in 0..times {
-        text.push_str(piece)?;
-    }
-    text.push_str(end)?;
-    Ok(text)
-}
 
 /// So many categories below `All`.
 fn categories(alloc: Global, count: u32) -> Result<String, Fail> {
@@ -52,16 +37,10 @@ fn edges(alloc: Global, count: u32) -> Result<String, Fail> {
     Ok(text)
 }
 
-/// A list of so many distinct constants.
-fn constants(alloc: Global, count: u32) -> Result<String, Fail> {
-    let mut text = String::from_str(alloc, START)?;
-    text.push_str("one(A = \"k\"")?;
-    for i in 1..count {
-        let atom = format!(in alloc; ", A = \"k{i}\"")?;
-        text.push_str(&atom)?;
-    }
-    text.push_str(")\n")?;
-    Ok(text)
+/// A schema of so many distinct constants.
+fn named_one_of(alloc: Global, count: u32) -> Result<String, Fail> {
+    let formula = constants(alloc, "A", count)?;
+    repeated(alloc, START, &formula, 1, "\n")
 }
 
 /// A schema whose one category has a name of so many bytes.
@@ -193,9 +172,9 @@ fn limits_of_depth(rt: HostRuntime) -> Result<(), Fail> {
 fn limits_of_constants_and_texts(rt: HostRuntime) -> Result<(), Fail> {
     let alloc = rt.alloc();
     let rows: [(String, &str); 5] = [
-        (constants(alloc, 256)?, ""),
+        (named_one_of(alloc, 256)?, ""),
         (
-            constants(alloc, 257)?,
+            named_one_of(alloc, 257)?,
             "refused schema line 4 TooManyConstants\n",
         ),
         (named(alloc, 255)?, ""),

@@ -1,6 +1,7 @@
 // `frozen` and `audit`: all frozen dimensions with a root, and what a schema says or does for nothing.
-use crate::running::{check, grown};
+use crate::running::{check, grown, run};
 use crate::samples::{CHAIN, CYCLE, LOCATION};
+use crate::texts::repeated;
 use olap_run::Status;
 use std::alloc::Global;
 use std::test::Fail;
@@ -108,13 +109,17 @@ edge S T\nedge T All\nedge S U\nedge U All\n\
 constraint S: S_T & !S_U | S_U & !(S_T | S_P1 | S_P2 | S_P3 | S_P4 | S_P5 | S_P6\
  | S_P7 | S_P8 | S_P9 | S_P10 | S_P11 | S_P12)\n";
 
+/// The listing of S over a schema with so many parents and some lines more.
+fn listed(alloc: Global, count: u16, more: &str) -> Result<(Status, String), Fail> {
+    let schema = grown(alloc, parents(alloc, count)?.as_str(), more)?;
+    run(alloc, &["frozen", "S", "S"], &[("S", schema.as_str())])
+}
+
 #[test]
 fn of_parents(rt: HostRuntime) -> Result<(), Fail> {
     let alloc = rt.alloc();
-    let rows: [(u16, &str, Status, &str); 5] = [
+    let rows: [(u16, &str, Status, &str); 3] = [
         (3, "", Status::Yes, THREE_PARENTS),
-        (12, "", Status::Yes, ""),
-        (12, FORCED, Status::Yes, ""),
         (
             12,
             FORCED_OR_ALONE,
@@ -123,16 +128,28 @@ fn of_parents(rt: HostRuntime) -> Result<(), Fail> {
         ),
         (13, "", Status::Refused, "refused frozen TooMany\n"),
     ];
-    for (count, more, status, output) in rows {
-        let schema = grown(alloc, parents(alloc, count)?.as_str(), more)?;
-        check(
-            &rt,
-            alloc,
-            &["frozen", "S", "S"],
-            &[("S", schema.as_str())],
-            status,
-            output,
-        )?;
+    for (count, more, wanted, output) in rows {
+        let (status, written) = listed(alloc, count, more)?;
+        assert_eq!(rt; status, wanted);
+        assert_eq!(rt; written.as_str(), output);
     }
+    Ok(())
+}
+
+// Each set of the parents but the empty one; and with one parent forced each set of the others, in more than a million
+// bytes: each of these lines has 301 bytes beside those of the twelve parents, which are 8 or 9 for each that is there,
+// and each is there in half of the lines. The count has 11.
+#[test]
+fn of_many_lines(rt: HostRuntime) -> Result<(), Fail> {
+    let alloc = rt.alloc();
+    let (status, output) = listed(alloc, 12, "")?;
+    assert_eq!(rt; status, Status::Yes);
+    assert!(rt; output.as_str().ends_with("\ncount 4095\n"));
+    let name = repeated(alloc, "constraint S: S = \"", "k", 255, "\"\n")?;
+    let more = grown(alloc, FORCED, &name)?;
+    let (status, output) = listed(alloc, 12, &more)?;
+    assert_eq!(rt; status, Status::Yes);
+    assert!(rt; output.as_str().ends_with("\ncount 4096\n"));
+    assert_eq!(rt; output.len(), 1_435_659);
     Ok(())
 }

@@ -162,6 +162,17 @@ fn of_chains(rt: HostRuntime) -> Result<(), Fail> {
         Status::Yes,
         output,
     )?;
+    let above = grown(alloc, CHAIN, "constraint City: City.All = \"nk\" | true\n")?;
+    let held = [("S", above.as_str())];
+    let output = "yes\nfrozen 11 Store=\"nk_\" City=\"nk_\"\n";
+    check(
+        &rt,
+        alloc,
+        &["satisfiable", "S", "Store"],
+        &held,
+        Status::Yes,
+        output,
+    )?;
     let empty = grown(alloc, CHAIN, "constraint City: false\n")?;
     let rows: [Row; 3] = [
         (&["satisfiable", "S", "City"], Status::No, "no\n"),

@@ -24,6 +24,44 @@ fn files(alloc: Global, files: &[(&str, &str)]) -> Result<List<(Text, Text)>, Fa
     Ok(List::from_vec(all))
 }
 
+/// The status and the output of a command line over this library and ample room.
+fn run_over(
+    alloc: Global,
+    line: &[&str],
+    mut library: MemLibrary,
+) -> Result<(Status, String), Fail> {
+    let mut sink = MemSink::new(alloc, 2_000_000, 4096, List::from_vec(Vec::new(alloc)))?;
+    let words = words(alloc, line)?;
+    let status = olap(alloc, &words, &mut library, &mut sink);
+    let Ok(output) = str::from_utf8(sink.contents()) else {
+        return Err("an output that is no text".into());
+    };
+    Ok((status, String::from_str(alloc, output)?))
+}
+
+/// The status and the output of a command line over ample room.
+pub(crate) fn run(
+    alloc: Global,
+    line: &[&str],
+    held: &[(&str, &str)],
+) -> Result<(Status, String), Fail> {
+    let library = MemLibrary::new(files(alloc, held)?, 4096, List::from_vec(Vec::new(alloc)));
+    run_over(alloc, line, library)
+}
+
+/// The status and the output of a command line over files that are read 16 bytes at a time, where this call fails.
+pub(crate) fn run_failing(
+    alloc: Global,
+    line: &[&str],
+    held: &[(&str, &str)],
+    call: u64,
+) -> Result<(Status, String), Fail> {
+    let mut calls = Vec::new(alloc);
+    calls.push(call)?;
+    let library = MemLibrary::new(files(alloc, held)?, 16, List::from_vec(calls));
+    run_over(alloc, line, library)
+}
+
 /// Runs the command line over ample room, and compares the status, and the output where one is given.
 pub(crate) fn check(
     rt: &impl Abort,
@@ -33,13 +71,10 @@ pub(crate) fn check(
     wanted: Status,
     output: &str,
 ) -> Result<(), Fail> {
-    let mut library = MemLibrary::new(files(alloc, held)?, 4096, List::from_vec(Vec::new(alloc)));
-    let mut sink = MemSink::new(alloc, 1_000_000, 4096, List::from_vec(Vec::new(alloc)))?;
-    let words = words(alloc, line)?;
-    let status = olap(alloc, &words, &mut library, &mut sink);
+    let (status, written) = run(alloc, line, held)?;
     assert_eq!(rt; status, wanted, "{output}");
     if !output.is_empty() {
-        assert_eq!(rt; sink.contents(), output.as_bytes());
+        assert_eq!(rt; written.as_str(), output);
     }
     Ok(())
 }

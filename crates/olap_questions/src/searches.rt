@@ -1,24 +1,25 @@
 // Schemas on which a plain enumeration of edges or of names never ends.
-use crate::running::check;
+use crate::running::{check, run_failing};
 use olap_run::Status;
 use std::alloc::Global;
 use std::test::Fail;
 
-/// Layers of two ways each, from L0 to L20.
-fn layers(alloc: Global) -> Result<String, Fail> {
+/// So many layers of two ways each, from L0 upwards.
+fn layers(alloc: Global, count: u32) -> Result<String, Fail> {
     let mut text = String::from_str(alloc, "schema 1\ncategory L0\n")?;
-    for i in 1..21_u32 {
+    for i in 1..=count {
         let line = format!(in alloc; "category A{i}\ncategory B{i}\ncategory L{i}\n")?;
         text.push_str(&line)?;
     }
-    for below in 0..20_u32 {
+    for below in 0..count {
         let i = below + 1;
         let line = format!(in alloc;
             "edge L{below} A{i}\nedge L{below} B{i}\nedge A{i} L{i}\nedge B{i} L{i}\n"
         )?;
         text.push_str(&line)?;
     }
-    text.push_str("edge L20 All\n")?;
+    let top = format!(in alloc; "edge L{count} All\n")?;
+    text.push_str(&top)?;
     Ok(text)
 }
 
@@ -64,7 +65,7 @@ fn of_layers(rt: HostRuntime) -> Result<(), Fail> {
         "constraint L19: L19_A20\nconstraint A20: A20_L20 -> false\n",
     ];
     for constraints in last {
-        let mut text = layers(alloc)?;
+        let mut text = layers(alloc, 20)?;
         text.push_str(constraints)?;
         let held = [("S", text.as_str())];
         check(
@@ -76,6 +77,21 @@ fn of_layers(rt: HostRuntime) -> Result<(), Fail> {
             "no\n",
         )?;
     }
+    Ok(())
+}
+
+/// Ten layers, whose last has no way upwards; and the same where the third call for the file fails.
+#[test]
+fn of_a_file_that_fails(rt: HostRuntime) -> Result<(), Fail> {
+    let alloc = rt.alloc();
+    let mut text = layers(alloc, 10)?;
+    text.push_str("constraint L9: L9_A10\nconstraint A10: !A10_L10\n")?;
+    let held = [("S", text.as_str())];
+    let line = ["satisfiable", "S", "L0"];
+    check(&rt, alloc, &line, &held, Status::No, "no\n")?;
+    let (status, output) = run_failing(alloc, &line, &held, 3)?;
+    assert_eq!(rt; status, Status::ReadFault);
+    assert_eq!(rt; output.as_str(), "");
     Ok(())
 }
 
