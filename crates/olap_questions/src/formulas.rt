@@ -39,12 +39,7 @@ fn faults_of_form_and_names(rt: HostRuntime) -> Result<(), Fail> {
             "City_Region",
             "refused word 4 NotAnEdge\n",
         ),
-        (
-            CYCLE,
-            "S",
-            "S_B_R_B",
-            "refused word 4 RepeatedCategory\n",
-        ),
+        (CYCLE, "S", "S_B_R_B", "refused word 4 RepeatedCategory\n"),
         (LOCATION, "Town", "true", "refused word 3 UnknownCategory\n"),
     ];
     refused(&rt, rt.alloc(), &rows)

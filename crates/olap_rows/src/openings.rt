@@ -6,8 +6,7 @@ use olap_run::Status;
 use std::test::Fail;
 
 /// The view of the city, stored.
-const CITY_STORED: &str =
-    "category,member,count,sum,least,greatest\nCity,,,,,\nCity,c1,3,0,-5,5\n";
+const CITY_STORED: &str = "category,member,count,sum,least,greatest\nCity,,,,,\nCity,c1,3,0,-5,5\n";
 
 /// The view of the city, from itself.
 const CITY_ANSWERED: &str = "plan City\nmember,count,sum,least,greatest\nc1,3,0,-5,5\n";

@@ -9,7 +9,10 @@ fn answers_without_a_fault(rt: HostRuntime) -> Result<(), Fail> {
     let held = [
         ("S", CHAIN),
         ("I", TWO_STORES),
-        ("E", "schema 1\ncategory A\nedge A All\nconstraint A: false\n"),
+        (
+            "E",
+            "schema 1\ncategory A\nedge A All\nconstraint A: false\n",
+        ),
     ];
     let rows: [(&[&str], Status); 5] = [
         (&["check", "S", "I"], Status::Yes),
