@@ -1,4 +1,5 @@
-"""What a crate stands on: its README says what crates.txt says, and each entry of crates.txt is named by the crate.
+"""What a crate stands on: its README says what crates.txt says, and each entry of crates.txt is named by the crate, or by one
+that it stands on, since the types of the one may be those of the other.
 
 A README says it in a sentence with `Stands on` and names in backticks. A README without one says nothing of it.
 """
@@ -12,7 +13,8 @@ def said(crate):
     """The crates that the README says it stands on, if it says so."""
     text = (sources.CRATES / crate / "README.md").read_text()
     found = re.search(r"\bStands on (.*?)(?:\.(?=\s)|;|\Z)", text, re.S)
-    return None if found is None else set(re.findall(r"`(\w+)`", found.group(1)))
+    names = set(re.findall(r"`(\w+)`", found.group(1))) if found else set()
+    return names or None
 
 
 def named(crate):
@@ -23,9 +25,10 @@ def named(crate):
 
 
 def faults():
-    for crate in sources.crate_names():
+    crates = set(sources.crate_names())
+    for crate in sorted(crates):
         listed, there, file = set(sources.below(crate)), said(crate), sources.CRATES / crate / "README.md"
-        for name in sorted(listed - named(crate)):
+        for name in sorted(listed - named(crate) - {name for other in listed & crates for name in sources.below(other)}):
             yield sources.TOP / "crates.txt", f"{crate} stands on {name} there, and doesn't name it"
         if there is not None and listed - there:
             yield file, f"it stands on these too, by crates.txt: {' '.join(sorted(listed - there))}"

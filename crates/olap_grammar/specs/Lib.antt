@@ -4,6 +4,7 @@
 pub mod Cutting
 pub mod Grammar
 pub mod Brackets
+pub mod Nodes
 pub mod Words
 pub mod Laws
 pub mod Answering
@@ -11,7 +12,6 @@ pub mod Quoting
 pub mod Known
 -- The inside: the readers' states, which `Laws` says find what is cut and formed.
 pub mod CuttingMachine
-pub mod Nodes
 pub mod Tallying
 pub mod Keeping
 pub mod Cutter
