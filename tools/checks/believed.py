@@ -150,8 +150,10 @@ def law_of(module, name):
     return (module, law) if law in modules()[module].declarations else None
 
 
-def believed(starts):
-    """The lines to believe of each declaration that these lead to, themselves included."""
+def believed(starts, cut=None):
+    """The lines to believe of each declaration that these lead to, themselves included. Of a declaration that is cut only the
+    lines that are given count, and only these lead on.
+    """
     seen, left = {}, list(starts)
     while left:
         module, name = place = left.pop()
@@ -162,6 +164,7 @@ def believed(starts):
         law = law_of(module, name)
         is_law = name.endswith("_is") and name.removesuffix("_is") in here.declarations
         lines = declaration.type_lines if law or is_law else declaration.type_lines + declaration.body
+        lines = (cut or {}).get(place, lines)
         seen[place] = len(lines)
         left += [law] if law else []
         left += mentioned(module, here.imports, lines)

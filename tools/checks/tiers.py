@@ -1,0 +1,75 @@
+"""What the reader of one command must believe, in tiers: the subject, what every run shares, what a schema's text stands for, and
+the command's own.
+
+A command's own words, order and question are found in crates/olap_run/specs: of each declaration that has a case for each
+command, only the case of this one is read.
+"""
+
+import re
+
+from .believed import believed, modules
+
+REQUESTS, COMMANDS, QUESTIONS = (("olap_run", name) for name in ("Requests", "Commands", "Questions"))
+TIERS = ("subject", "every run", "schema's text", "its own")
+
+
+def cases(module, name, pattern):
+    """The lines of a declaration's body that the pattern begins, with those that go on with them."""
+    body, kept, found = modules()[module].declarations[name].body, False, []
+    depth = min((len(line) - len(line.lstrip()) for line in body), default=0)
+    for line in body:
+        if len(line) - len(line.lstrip()) == depth:
+            kept = bool(re.match(pattern, line.strip()))
+        found += [line] if kept else []
+    return found
+
+
+def commands():
+    """The names of the commands, in the order in which they are told apart, and the functions of their words."""
+    body = "\n".join(modules()[REQUESTS].declarations["named"].body)
+    return re.findall(r'codes "(\w+)"\) then (\w+)', body)
+
+
+def question_of(order):
+    """The question that an order of commands ends in."""
+    left, seen = [order], set()
+    while left:
+        name = left.pop()
+        seen.add(name)
+        body = "\n".join(modules()[COMMANDS].declarations[name].body)
+        if found := re.search(r"\bDone \(?(By\w+)", body):
+            return found.group(1)
+        left += [word for word in re.findall(r"\w+_order\b", body) if word not in seen]
+    raise ValueError(f"{order} has no question")
+
+
+def cut_to(command, words_of):
+    """The declarations with a case for each command, cut to those of this one."""
+    request = re.search(r"Some \((\w+)", "\n".join(modules()[REQUESTS].declarations[words_of].body)).group(1)
+    order = re.search(r"= (\w+)", cases(COMMANDS, "order", rf"order \({request}\b")[0]).group(1)
+    question = question_of(order)
+    type_of = lambda module, name: modules()[module].declarations[name].type_lines  # noqa: E731
+    return {
+        (REQUESTS, "Request"): type_of(REQUESTS, "Request") + cases(REQUESTS, "Request", rf"{request} :"),
+        (REQUESTS, "named"): type_of(REQUESTS, "named") + cases(REQUESTS, "named", rf'.*codes "{command}"'),
+        (COMMANDS, "order"): type_of(COMMANDS, "order") + cases(COMMANDS, "order", rf"order \({request}\b"),
+        (QUESTIONS, "Question"): type_of(QUESTIONS, "Question") + cases(QUESTIONS, "Question", rf"({question}|ByUsage) :"),
+        (QUESTIONS, "IsAnswer"): type_of(QUESTIONS, "IsAnswer")
+        + cases(QUESTIONS, "IsAnswer", rf"IsAnswer \(?({question}|ByUsage)\b"),
+    }
+
+
+def tiers(claim, subject):
+    """Of each command the lines of each tier that its reader believes. Given are what the clauses of `olap` mention, and what the
+    subject's sentences are about.
+    """
+    about = set(believed(subject))
+    schema = set(believed([(("olap_schema", "Judging"), name) for name in ("schema_read", "question_read")]))
+    all_of = {command: believed(claim, cut_to(command, words_of)) for command, words_of in commands()}
+    shared = set.intersection(*(set(lines) for lines in all_of.values()))
+    for command, lines in all_of.items():
+        counts = dict.fromkeys(TIERS, 0)
+        for place, count in lines.items():
+            tier = 0 if place in about else 2 if place in schema else 1 if place in shared else 3
+            counts[TIERS[tier]] += count
+        yield command, counts
