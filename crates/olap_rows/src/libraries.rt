@@ -35,7 +35,7 @@ impl<'a> Content<'a> {
 #[derive(Drop)]
 pub(crate) struct Once<'a> {
     unopened: &'a [(&'a str, Content<'a>)],
-    open: Option<Content<'a>>,
+    opened: Option<Content<'a>>,
     taken: u64,
     faults: u64,
 }
@@ -45,7 +45,7 @@ impl<'a> Once<'a> {
     pub(crate) fn new(files: &'a [(&'a str, Content<'a>)]) -> Once<'a> {
         Once {
             unopened: files,
-            open: None,
+            opened: None,
             taken: 0,
             faults: 0,
         }
@@ -64,7 +64,7 @@ impl<'a> Library for Once<'a> {
 
     ghost asked = { λ _. None };
 
-    ghost ready = { λ s. is_some s.open };
+    ghost ready = { λ s. is_some s.opened };
 
     ghost taken = { λ s. s.taken };
 
@@ -79,27 +79,27 @@ impl<'a> Library for Once<'a> {
         if let Some((file, others)) = self.unopened.split_first() {
             if file.0 == name {
                 self.unopened = others;
-                self.open = Some(file.1);
+                self.opened = Some(file.1);
                 return Ok(());
             }
         }
-        self.open = None;
+        self.opened = None;
         self.faults = self.faults.saturating_add(1);
         Err(OpenError::Missing)
     }
 
     fn read(&mut self, buf: &mut [u8]) -> Result<usize, Failed> {
-        let Some(content) = self.open else {
+        let Some(content) = self.opened else {
             unreachable!();
         };
         let (count, left) = content.fill(buf);
         let Some(taken) = self.taken.checked_add(count as u64) else {
-            self.open = None;
+            self.opened = None;
             self.faults = self.faults.saturating_add(1);
             return Err(Failed);
         };
         self.taken = taken;
-        self.open = Some(left);
+        self.opened = Some(left);
         Ok(count)
     }
 }
