@@ -1,12 +1,15 @@
-"""Each `$ ./olap ..` of README.md, docs/ and recipes/ prints what stands below it, word for word.
+"""Each command of README.md, docs/ and recipes/ does what stands there.
 
-A transcript is a block of indented lines, or one between lines of three backticks. Its commands begin with `$ ./olap`, and
-what stands below one, up to the next command or the block's end, is what it prints. A command that ends in `> FILE` prints
-nothing, and its output is there for the commands below in the same document. They are run by the program that is built, which
-isn't built for this, in a folder that has all that is at the top, and is taken away.
+A transcript is a block of indented lines, or one between lines of three backticks. Its commands begin with `$ `, and what stands
+below one, up to the next command or the block's end, is what it prints, word for word; where a line ends in `&&` or a backslash,
+the command goes on in the next. A line that begins with `./olap ` is a command too, which must end with status 0. All run in a
+shell, with the program that is built, in a folder that has all that is at the top, and is taken away; what one command of a
+document writes is there for those below it. Those of recipes are run by tools/check-recipes.
 """
 
-import shlex
+import os
+import re
+import shutil
 import subprocess
 import tempfile
 from pathlib import Path
@@ -14,7 +17,11 @@ from pathlib import Path
 from . import sources
 
 PROGRAM = sources.CRATES / "olap_cli" / "out" / "olap_cli"
-COMMAND = "$ ./olap"
+MARK, BARE = "$ ", "./olap "
+GOES_ON = ("&&", "\\")
+OF_RECIPES = re.compile(r"\brecipes/\w+/run\b")
+OWN = "\n## On your own tables\n"  # what stands below this, tools/check-recipes runs
+KEPT = ("README.md", "docs", "examples", "recipes", "tools", "man", "completions")
 
 
 def blocks(text):
@@ -31,11 +38,14 @@ def blocks(text):
             block = []
 
 
-def commands(text, start=COMMAND):
-    """Each command of a document, with the lines that stand below it."""
+def commands(text, start=MARK):
+    """Each command of a document that begins so, with the lines that stand below it."""
     for block in blocks(text):
         command, below = None, []
         for line in [*block, start]:
+            if command is not None and not below and command.endswith(GOES_ON):
+                command += "\n" + line
+                continue
             if not line.startswith(start):
                 below.append(line)
                 continue
@@ -44,30 +54,51 @@ def commands(text, start=COMMAND):
             command, below = line, []
 
 
-def printed(folder, command):
-    """What a command prints that is run in this folder, where its output isn't kept in a file."""
-    words = shlex.split(command.removeprefix(COMMAND))
-    *words, mark, name = words if ">" in words[-2:-1] else [*words, "", ""]
-    ran = subprocess.run([PROGRAM, *words], cwd=folder, capture_output=True, timeout=120)
-    if mark and "/" not in name and not (folder / name).is_symlink():
-        (folder / name).write_bytes(ran.stdout)
-        return ""
-    return ran.stdout.decode(errors="replace")
+def asked(text):
+    """Each command that is run here, and what it prints; None where only the status is judged."""
+    for command, below in commands(text):
+        if not OF_RECIPES.search(command):
+            yield command.removeprefix(MARK), below
+    for block in blocks(text.partition(OWN)[0]):
+        yield from ((line, None) for line in block if line.startswith(BARE))
+
+
+def run(folder, command):
+    """The status and the output of a command that is run by a shell in this folder."""
+    environment = {**os.environ, "OLAP": str(folder / "olap")}
+    words = ["bash", "-c", command]
+    done = subprocess.run(words, cwd=folder, env=environment, stdin=subprocess.DEVNULL, capture_output=True, timeout=120, check=False)
+    return done.returncode, done.stdout.decode(errors="replace")
+
+
+def put(folder):
+    """A copy of all that documents speak of, with the program in the place of ./olap."""
+    for name in KEPT:
+        place = sources.TOP / name
+        copy = shutil.copytree if place.is_dir() else shutil.copy
+        copy(place, folder / name)
+    (folder / "olap").symlink_to(program())
+
+
+def program():
+    """The program that is built, or the one that the variable OLAP names."""
+    return Path(shutil.which(os.environ.get("OLAP", "")) or PROGRAM).resolve()
 
 
 def faults():
     places = ("README.md", "docs/*.md", "recipes/**/*.md")
     documents = [document for place in places for document in sorted(sources.TOP.glob(place))]
-    found = {document: list(commands(document.read_text())) for document in documents}
-    if not PROGRAM.exists():
+    found = {document: list(asked(document.read_text())) for document in documents}
+    if not program().exists():
         count = sum(map(len, found.values()))
         yield PROGRAM, f"not built, so the {count} commands of README.md, docs/ and recipes/ were not run"
         return
     for document in documents:
         with tempfile.TemporaryDirectory() as name:
-            folder = Path(name)
-            for each in sources.TOP.iterdir():
-                (folder / each.name).symlink_to(each)
+            put(Path(name))
             for command, wanted in found[document]:
-                if printed(folder, command) != wanted:
+                status, output = run(Path(name), command)
+                if wanted is None and status != 0:
+                    yield document, f"this ends with status {status}: {command}"
+                elif wanted is not None and output != wanted:
                     yield document, f"what this prints is not what stands there: {command}"

@@ -52,7 +52,8 @@ class Facts:
 class Progress:
     """A line on standard error, where that is a terminal."""
 
-    def __init__(self) -> None:
+    def __init__(self, tool: str = "report") -> None:
+        self.tool, self.counted = tool, 0
         self.shown = sys.stderr.isatty()
         self.began = self.last = time.monotonic()
 
@@ -60,7 +61,16 @@ class Progress:
         now = time.monotonic()
         if self.shown and (now - self.last > 0.1 or done == of):
             self.last = now
-            print(f"\r\033[Kreport: {what} {done} of {of}, {now - self.began:.0f} s", end="", file=sys.stderr, flush=True)
+            self.show(f"{what} {done} of {of}, {now - self.began:.0f} s")
+
+    def count(self, what: str) -> None:
+        """One more of something of which nobody knows how many there will be."""
+        self.counted += 1
+        if self.shown:
+            self.show(f"{self.counted} {what}, {time.monotonic() - self.began:.0f} s")
+
+    def show(self, text: str) -> None:
+        print(f"\r\033[K{self.tool}: {text}", end="", file=sys.stderr, flush=True)
 
     def clear(self) -> None:
         if self.shown:

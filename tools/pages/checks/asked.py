@@ -1,0 +1,199 @@
+"""The small tools least, compare, constants, propose, made and explain say what the program says, on examples and on hostile texts."""
+
+import csv
+import itertools
+import os
+import subprocess
+import sys
+import tempfile
+from pathlib import Path
+from typing import Iterator
+
+from .bad_input import one_line
+from .common import EXAMPLES, TOOLS, TOP, categories_of, olap, tool
+from ..program import find
+
+LOCATION, IMPOSSIBLE = "location/schema.txt", "impossible/schema.txt"
+PARTITIONS = str(TOP / "recipes" / "partitions" / "schema.txt")
+MADE = ((7, 1000), (0, 1), (2**64 - 1, 70))
+HOSTILE = '-$(touch ran) "é" <b>\u202e; %s\\'
+
+
+def is_yes(schema: str, target: str, sources: tuple[str, ...]) -> bool:
+    return olap("summarizable", schema, target, *sources)[0] == 0
+
+
+def least_faults(_: Path) -> Iterator[str]:
+    """Against every list of up to four other sources of a schema."""
+    for schema, target in ((LOCATION, "Region"), (LOCATION, "Country"), (PARTITIONS, "Country")):
+        others = [each for each in categories_of(Path(schema)) if each not in (target, "All")]
+        enough: list[tuple[str, ...]] = []
+        for size in range(5):
+            for some in itertools.combinations(others, size):
+                if not any(set(each) <= set(some) for each in enough) and is_yes(schema, target, some):
+                    enough.append(some)
+        done = tool("least", schema, target)
+        if done.stdout.splitlines() != [f"{target} from {' '.join(some)}" for some in enough] or done.returncode != 0:
+            yield f"least {schema} {target}: {done.stdout!r} {done.stderr!r}, and enough is {enough}"
+    yield from one_line("least of a lowest category", tool("least", LOCATION, "Store"), 1)
+    yield from one_line("least without facts", tool("least", IMPOSSIBLE, "City"), 1)
+
+
+def compare_faults(room: Path) -> Iterator[str]:
+    text = (EXAMPLES / LOCATION).read_text()
+    (room / "new.txt").write_text(text.replace('City_Country <-> City = "Washington"', "!City_Country").replace("Store", "Shop"))
+    old, new = str(EXAMPLES / LOCATION), str(room / "new.txt")
+    done = tool("compare", old, new)
+    both = [each for each in categories_of(Path(old)) if each != "Store"]
+    wanted = ["only in the old schema: Store", "only in the new schema: Shop"]
+    for target in both:
+        for some in [*((one,) for one in both), *itertools.combinations(both, 2)] if target in ("Country", "Region") else []:
+            said = [{True: "yes", False: "no"}[is_yes(schema, target, some)] for schema in (old, new)]
+            wanted += [f"{target} from {' '.join(some)}: was {said[0]}, is {said[1]}"] if said[0] != said[1] else []
+    lines = [line for line in done.stdout.splitlines() if not line.startswith("All from")]
+    if lines != wanted or done.returncode != 1 or len(wanted) < 3:
+        yield f"compare: {done.stdout!r} {done.stderr!r}, and not {wanted}"
+    done = tool("compare", old, old)
+    if (done.returncode, done.stdout) != (0, ""):
+        yield f"compare of a schema with itself: status {done.returncode}, {done.stdout!r}"
+    done = tool("compare", IMPOSSIBLE, IMPOSSIBLE)
+    if done.stdout.splitlines() != ["the old schema: unsatisfiable Stall", "the new schema: unsatisfiable Stall"]:
+        yield f"compare doesn't tell what the audit does: {done.stdout!r}"
+
+
+def constants_faults(room: Path) -> Iterator[str]:
+    spelt = HOSTILE.replace("\\", "\\\\").replace('"', '\\"')
+    text = (EXAMPLES / LOCATION).read_text()
+    (room / "schema.txt").write_text(text + f'constraint Store: Store.Country = "Untied States" -> Store = "{spelt}" | Store = "a = \\"b"\n')
+    words = ("schema.txt", str(EXAMPLES / "location" / "instance.csv"))
+    number = sum(line.startswith("constraint ") for line in text.splitlines()) + 1
+    shown = HOSTILE.replace("\u202e", "\\u202e")
+    wanted = [f"constraint {number}: no {what} has the name \"{name}\"" for what, name in (("Country", "Untied States"), ("Store", shown), ("Store", 'a = "b'))]
+    done = tool("constants", *words, folder=room)
+    if done.returncode != 1 or done.stdout.splitlines() != wanted:
+        yield f"constants: status {done.returncode}, {done.stdout!r} {done.stderr!r}"
+    with (EXAMPLES / "location" / "instance.csv").open(newline="") as file:
+        rows = [*csv.reader(file), ["h", "Store", HOSTILE, "w"], ["i", "Store", 'a = "b', "w"], ["u", "Country", "Untied States", "all"]]
+    with (room / "instance.csv").open("w", newline="") as file:
+        csv.writer(file).writerows(rows)
+    done = tool("constants", "schema.txt", "instance.csv", folder=room)
+    if (done.returncode, done.stdout) != (0, ""):
+        yield f"constants where each has a member: status {done.returncode}, {done.stdout!r} {done.stderr!r}"
+
+
+def propose_faults(room: Path) -> Iterator[str]:
+    for instance in ("location/instance.csv", "chain/instance.csv"):
+        done = tool("propose", instance)
+        (room / "proposed.txt").write_text(done.stdout)
+        said = olap("check", str(room / "proposed.txt"), instance)[1]
+        if done.returncode != 0 or not said.startswith("legal ") or "constraint" in done.stdout:
+            yield f"propose {instance}: status {done.returncode}, {said!r}"
+    header = "id,category,name,parents\n"
+    for text in ("", "member,value\n", header + "a,Store,a\n", header + '"a","Store\nedge A B",a,all\n', header + "a,All,a,all\n",
+                 header + "a,Store,a,b\n", header + "a,Störe,a,all\n"):
+        (room / "bad.csv").write_text(text)
+        yield from one_line(f"propose of {text!r}", tool("propose", "bad.csv", folder=room), 3)
+    (room / "odd.csv").write_text(header + '"a""b\n",Store,"-x",all;c\nc,Store,c,\n')
+    done = tool("propose", "odd.csv", folder=room)
+    if done.returncode != 0 or done.stdout.count("which no schema allows") != 2 or "edge Store All\n" not in done.stdout:
+        yield f"propose of what no schema allows: {done.stdout!r} {done.stderr!r}"
+
+
+def made_faults(room: Path) -> Iterator[str]:
+    """Against the seven lines of `generate`."""
+    for seed, size in MADE:
+        folder = room / f"{seed} {size}"
+        done = tool("made", str(seed), str(size), str(folder))
+        files = [str(folder / name) for name in ("schema.txt", "instance.csv", "facts.csv")]
+        said = dict(line.split(" ", 1) for line in olap("generate", str(seed), str(size))[1].splitlines())
+        store = olap("store", *files, "State", "Province", "City")[1]
+        (room / "store.csv").write_text(store)
+        plan, _, *rows = olap("answer", *files[:2], str(room / "store.csv"), "Region")[1].splitlines()
+        sums = [row.split(",") for row in rows]
+        found = {
+            "members": olap("check", *files[:2])[1].strip().removeprefix("legal "), "plan": plan.removeprefix("plan "),
+            "facts": olap("rollup", *files, "All")[1].splitlines()[1].split(",")[1], "stored": str(len(store.splitlines()) - 4),
+            "rows": str(len(rows)), "count": str(sum(int(row[1]) for row in sums)), "sum": str(sum(int(row[2]) for row in sums)),
+        }  # fmt: skip
+        if done.returncode != 0 or done.stdout or found != said:
+            yield f"made {seed} {size}: status {done.returncode}, {found}, and generate says {said}"
+        yield from one_line("made into a folder that isn't empty", tool("made", "1", "1", str(folder)), 5)
+    for words in (("x", "1"), ("-1", "1"), ("1", "0"), ("1", "200001"), (str(2**64), "1"), ("1", "١")):
+        if words[0] != "-1":
+            yield from one_line(f"made {words}", tool("made", *words, "new", folder=room), 3)
+    yield from one_line("made into no folder", tool("made", "1", "1", "no/such/folder", folder=room), 5)
+    if {path.name for path in room.iterdir()} != {"store.csv", *(f"{seed} {size}" for seed, size in MADE)}:
+        yield f"made leaves {sorted(os.listdir(room))}"
+
+
+def through_explain(room: Path, *words: str) -> subprocess.CompletedProcess:
+    said = subprocess.run([find(), *words], cwd=room, capture_output=True, check=False).stdout
+    done = subprocess.run([sys.executable, TOOLS / "explain", *words], cwd=room, input=said, capture_output=True, check=False)
+    done.said, done.stdout, done.stderr = said.decode(), done.stdout.decode(), done.stderr.decode()
+    return done
+
+
+def explain_faults(room: Path) -> Iterator[str]:
+    """What was printed stands first, and below it the line or record, and the manual's sentence."""
+    schema, instance = str(EXAMPLES / LOCATION), str(EXAMPLES / "location" / "instance.csv")
+    head = "id,category,name,parents\n"
+    hostile = '"a\nb","Store","<b>\u202e","nowhere, ""x"""\n'
+    texts = {"two.csv": head + "usa,Country,USA,all\nusa,Country,x,all\n", "hostile.csv": head + "\n\n" + hostile, "facts.csv": "member,value\nusa,1\n",
+             "bad.txt": "schema 1\ncategory A\nedge A all\n", "none.csv": head + "s,Store,s,\n", "state.csv": head + "c,Country,x,all\nt,State,t,c\n"}  # fmt: skip
+    for name, text in texts.items():
+        (room / name).write_text(text)
+    cases = (
+        (("check", schema, str(EXAMPLES / "broken" / "instance.csv")), ("record of: s1 | Store | S1 | w;to", "below the City: w |", "below the City: to |")),
+        (("check", schema, "two.csv"), ("record 3: usa | Country | x | all", "record 2: usa | Country | USA | all", "manual: ")),
+        (("check", schema, "hostile.csv"), ("record 2: a\\nb | Store | <b>\\u202e | nowhere", 'no member has the id: nowhere, "x"', "manual: no member has that id")),
+        (("check", schema, "none.csv"), ("record of: s | Store | s | ", "manual: X has no parent")),
+        (("check", schema, "state.csv"), ("constraint 4: State: State.Country", "manual: the Nth constraint is false at X")),
+        (("rollup", schema, instance, "facts.csv", "City"), ("record 2: usa | 1", "manual: the fact's member isn't of a bottom category")),
+        (("format", "bad.txt"), ("line 3: edge A all", "manual: the line has none of the forms")),
+        (("implies", schema, "Store", "Store.Town"), ("word 4: Store.Town", "manual: ")),
+        (("summarizable", schema, "Country", "City"), ()),
+        (("check", schema, instance), ()),
+    )
+    for words, wanted in cases:
+        done = through_explain(room, *words)
+        below = done.stdout.removeprefix(done.said)
+        if done.returncode != 0 or not done.stdout.startswith(done.said) or (not wanted and below):
+            yield f"explain {words}: status {done.returncode}, {done.stdout!r} {done.stderr!r}"
+        yield from (f"explain {words}: it doesn't say {each!r}: {below!r}" for each in wanted if each not in below)
+    for name in ("no such\nfile", "."):
+        yield from one_line("explain of a file that can't be read", through_explain(room, "check", schema, name), 4)
+
+
+def refusals(room: Path) -> Iterator[str]:
+    """Each in one line, with nothing on standard output and no file left."""
+    (room / "faulty.txt").write_text("schema 1\ncategory <&\n")
+    schema, instance = str(EXAMPLES / LOCATION), str(EXAMPLES / "location" / "instance.csv")
+    cases = [
+        (4, "least", "no\nsuch", "City"), (3, "least", "faulty.txt", "City"), (3, "least", schema, "<Town>"),
+        (4, "compare", "no\nsuch", schema), (3, "compare", schema, "faulty.txt"), (4, "compare", schema, str(room)),
+        (4, "constants", "no\nsuch", instance), (4, "constants", schema, "-"), (3, "constants", schema, "faulty.txt"),
+        (3, "constants", "faulty.txt", instance), (4, "propose", "no\nsuch"), (4, "propose", str(room)), (2, "explain", "none"),
+    ]  # fmt: skip
+    for status, name, *words in cases:
+        if name == "explain":
+            said = "refused schema line 1 BadForm\n"
+            done = subprocess.run([sys.executable, TOOLS / name, *words], input=said, cwd=room, capture_output=True, text=True, check=False)
+            done.stdout = done.stdout.removeprefix(said)
+        else:
+            done = tool(name, *words, folder=room)
+        yield from one_line(f"{name} {words!r}", done, status)
+    for name, *words in (("least", schema, "City"), ("compare", schema, schema), ("constants", schema, instance)):
+        yield from one_line(f"{name} with no program", tool(name, *words, folder=room, OLAP=str(room / "none")), 70)
+    for name, *words in (("least", schema, "Country"), ("propose", instance)):
+        with open("/dev/full", "wb") as full:
+            done = subprocess.run([sys.executable, TOOLS / name, *words], cwd=room, stdout=full, stderr=subprocess.PIPE, check=False)
+        if done.returncode != 5 or len(done.stderr.splitlines()) != 1:
+            yield f"{name} >/dev/full: status {done.returncode}, {done.stderr.decode()!r}"
+    if sorted(os.listdir(room)) != ["faulty.txt"]:
+        yield f"files are left: {os.listdir(room)}"
+
+
+def faults() -> Iterator[str]:
+    for check in (least_faults, compare_faults, constants_faults, propose_faults, made_faults, explain_faults, refusals):
+        with tempfile.TemporaryDirectory() as folder:
+            yield from check(Path(folder))
