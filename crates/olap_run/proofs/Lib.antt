@@ -7,3 +7,4 @@ mod LineLemmas
 mod ListingLemmas
 mod NumberLemmas
 mod OneOutcome
+mod SureLemmas

@@ -1,11 +1,12 @@
 -- Steps of an order, one after another.
-use Rattle.std.proofs.Common.{◌≡◌, ◌≤◌, ◌⊎◌, ℕ, List, Option, None, Some, Result, Ok, Err, MatchOption, subst, sym, ap, refl, inl, inr, arith}
+use Rattle.std.proofs.Common.{◌≡◌, ◌≤◌, ◌⊎◌, ℕ, List, Option, None, Some, Result, Ok, Err, MatchOption, subst, sym, refl, inl, inr, arith, ◌∙◌}
+use Rattle.std.specs.Prelude.{IsTrue}
 use Rattle.std.specs.Result.{IsErrAnd}
 use Rattle.olap_base.specs.Faults.{Rose}
 use Rattle.olap_base.specs.Files.{Files}
 use Rattle.olap_base.specs.declared.outside.Library.{Ghosts as Library}
 use Rattle.olap_run.specs.Order.{Order, Done, Refused, Read, ComesTo, IsStuck, ReadsNoFile, and_then}
-use Rattle.olap_run.specs.Judged.{Gives, GivesTold, IsBlamed, Judged, Replied, Replies}
+use Rattle.olap_run.specs.Judged.{Gives, GivesTold, IsBlamed, IsLater, IsStuckTold, Judged, Replied, Replies}
 use Rattle.olap_run.specs.Taken.{ComesOut, ComesOutTold, NoAnswer, FileStep, PlainStep}
 use Rattle.olap_run.specs.declared.status.Status.{Status}
 use Rattle.olap_run.specs.declared.status.Status.TheVariants as statuses
@@ -108,6 +109,13 @@ module _ {T Q : Type 0} (next : T → Order Q) where
       go None f e = absurd e
       go (Some text) f e = f text e
 
+-- where one order is stuck, another is that comes to all its files
+stuck_too : {T Q : Type 0} (files : Option Files) (one : Order T) (other : Order Q)
+    → ((known : Files) → files ≡ Some known → (file : List ℕ) → ComesTo known one file → ComesTo known other file)
+    → IsStuckTold files one → IsStuckTold files other
+stuck_too None one other on h = tt
+stuck_too (Some files) one other on h = (h.0, on files refl h.0 h.1, h.2)
+
 -- what one order explains, another does that comes to all its files
 blamed : {T Q : Type 0} (files : Option Files) (one : Order T) (other : Order Q)
     → ((known : Files) → files ≡ Some known → (file : List ℕ) → ComesTo known one file → ComesTo known other file)
@@ -125,6 +133,14 @@ comes_then_told next told step x out files e file c = comes_then next files step
     (subst (λ o. ComesOutTold o step x) e out) file c
 
 -- ---- over a library
+
+-- later than later is later
+after : {D : Type 0} {L : Library D} {old mid new : D} → IsLater L old mid → IsLater L mid new → IsLater L old new
+after a b = let m = a.faults in let n = b.faults in record { faults = omega (arith, m, n); sure = b.sure ∙ a.sure }
+
+-- a library that wasn't asked
+same_state : {D : Type 0} {L : Library D} {old : D} → IsLater L old old
+same_state = record { faults = omega arith; sure = refl }
 
 module _ {D T Q X : Type 0} {answers : Q → Status → List ℕ → Type 0} {L : Library D} {old mid : D}
     {step : Order T} {meaning : X → T} where
@@ -145,6 +161,8 @@ module _ {D T Q X : Type 0} {answers : Q → Status → List ℕ → Type 0} {L 
           unready = (s.ends.read is).unready;
           place = blamed (L.contents old) step (and_then step next) (λ files e. comes_first next files step)
               (L.asked mid) (s.ends.read is).place;
+          stuck = λ sure. stuck_too (L.contents old) step (and_then step next) (λ files e. comes_first next files step)
+              ((s.ends.read is).stuck sure);
         };
         later = s.ends.later;
       }
@@ -160,13 +178,17 @@ module _ {D T Q X : Type 0} {answers : Q → Status → List ℕ → Type 0} {L 
             (subst (λ files. Replied result (GivesTold answers files (next (meaning x)))) same j.right);
         verdict = j.verdict;
         read = λ is. record {
-          risen = rose (L.faults old) (L.faults mid) (L.faults new) s.later (j.read is).risen;
+          risen = rose (L.faults old) (L.faults mid) (L.faults new) s.later.faults (j.read is).risen;
           unready = (j.read is).unready;
           place = blamed (L.contents old) (next (meaning x)) (and_then step next)
               (comes_then_told next (L.contents old) step (meaning x) s.comes_out) (L.asked new)
               (subst (λ files. IsBlamed files (next (meaning x)) (L.asked new)) same (j.read is).place);
+          stuck = λ sure. stuck_too (L.contents old) (next (meaning x)) (and_then step next)
+              (comes_then_told next (L.contents old) step (meaning x) s.comes_out)
+              (subst (λ files. IsStuckTold files (next (meaning x))) same
+              ((j.read is).stuck (subst IsTrue (sym s.later.sure) sure)));
         };
-        later = omega (arith, s.later, j.later);
+        later = after s.later j.later;
       }
 
 -- a reply that is right whatever the files are is right over this library, which wasn't asked
@@ -176,7 +198,7 @@ answered {answers = answers} {L = L} {old = old} {order = order} result r = reco
   right = replied result (told (L.contents old)) r.right;
   verdict = r.verdict;
   read = λ is. absurd (r.unread is);
-  later = omega arith;
+  later = same_state;
 }
   where
     told : (files : Option Files) (status : Status) (bytes : List ℕ)
@@ -196,13 +218,13 @@ unread {L = L} {old = old} {step = step} {meaning = meaning} (Ok x) s = record {
   comes_out = out (L.contents old) step (meaning x) s.comes_out;
   ends = tt;
   same = refl;
-  later = omega arith;
+  later = same_state;
 }
 unread (Err stop) s = record {
   comes_out = tt;
   ends = answered (Err stop) s.ends;
   same = refl;
-  later = omega arith;
+  later = same_state;
 }
 
 -- ---- with no library

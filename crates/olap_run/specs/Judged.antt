@@ -6,7 +6,7 @@
 --     Replied    of the status and the bytes of a result, if it has some
 --     Judged     what a command answers, along its order
 --     Replies    what a function answers that reads nothing
-use Rattle.std.specs.Prelude.{◌≡◌, ◌⊎◌, ◌≤◌, ℕ, false, List, Option, None, Some, MatchOption, ⊤, Result, Ok, Err, IsErrOf}
+use Rattle.std.specs.Prelude.{◌≡◌, ◌⊎◌, ◌≤◌, ℕ, false, List, Option, None, Some, MatchOption, ⊤, Result, Ok, Err, IsErrOf, IsTrue}
 use Rattle.olap_base.specs.Faults.{Rose}
 use Rattle.olap_base.specs.Files.{Files}
 use Rattle.olap_base.specs.declared.outside.Library.{Ghosts as Library}
@@ -39,11 +39,17 @@ IsBlamed (Some files) order None = ⊤
 IsBlamed (Some files) order (Some None) = IsStuck files order
 IsBlamed (Some files) order (Some (Some file)) = ComesTo files order file ⊎ IsStuck files order
 
--- a call to the library was refused, and with it the run
+-- the order comes to a name without a content, where the library tells its contents
+abbrev pub IsStuckTold : {Q : Type 0} → Option Files → Order Q → Type 0
+IsStuckTold None order = ⊤
+IsStuckTold (Some files) order = IsStuck files order
+
+-- a call to the library was refused, and with it the run; a sure library refuses only a name without a content
 pub record ReadCause {D Q : Type 0} (L : Library D) (old new : D) (order : Order Q) : Type 0 where
   pub risen : Rose (L.faults old) (L.faults new)
   pub unready : L.ready new ≡ false
   pub place : IsBlamed (L.contents old) order (L.asked new)
+  pub stuck : IsTrue (L.sure old) → IsStuckTold (L.contents old) order
 
 -- the answers that a command may give; these are not of the words
 abbrev pub IsVerdict : Status → Type 0
@@ -58,13 +64,18 @@ Replied (Ok reply) P = P reply.status reply.bytes.items
 Replied (Err (stops.Refused bytes)) P = P statuses.Refused bytes.items
 Replied (Err stop) P = ⊤
 
+-- the count of refused calls hasn't fallen, and the library is as sure as it was
+pub record IsLater {D : Type 0} (L : Library D) (old new : D) : Type 0 where
+  pub faults : L.faults old ≤ L.faults new
+  pub sure : L.sure new ≡ L.sure old
+
 -- what a command answers, along its order
 pub record Judged {D Q : Type 0} (answers : Q → Status → List ℕ → Type 0) (L : Library D) (old new : D)
     (order : Order Q) (result : Result Reply Stop) : Type 0 where
   pub right : Replied result (GivesTold answers (L.contents old) order)
   pub verdict : Replied result (λ status bytes. IsVerdict status)
   pub read : IsErrOf result stops.Read → ReadCause L old new order
-  pub later : L.faults old ≤ L.faults new
+  pub later : IsLater L old new
 
 -- what a function answers that reads nothing: so it is whatever the files are
 pub record Replies {Q : Type 0} (answers : Q → Status → List ℕ → Type 0) (order : Order Q)

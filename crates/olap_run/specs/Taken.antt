@@ -4,14 +4,14 @@
 --     FileStep     a step that reads
 --     PlainStep    a step that reads nothing
 --     AreOfFacts   views of the facts that a step read
-use Rattle.std.specs.Prelude.{◌≡◌, ◌≤◌, List, ℕ, Option, None, Some, MatchOption, Result, Ok, Err, IfOk, IfErr, codes}
+use Rattle.std.specs.Prelude.{◌≡◌, List, ℕ, Option, None, Some, MatchOption, Result, Ok, Err, IfOk, IfErr, codes}
 use Rattle.olap_ast.specs.Schema.{Schema}
 use Rattle.olap_base.specs.Files.{Files}
 use Rattle.olap_base.specs.Instance.{Instance}
 use Rattle.olap_base.specs.Views.{Fact, View, direct_views}
 use Rattle.olap_base.specs.declared.outside.Library.{Ghosts as Library}
 use Rattle.olap_run.specs.Order.{Order, Done, Refused, Read, ReadsNoFile}
-use Rattle.olap_run.specs.Judged.{Judged, Replies}
+use Rattle.olap_run.specs.Judged.{IsLater, Judged, Replies}
 use Rattle.olap_run.specs.Steps.{facts_file}
 use Rattle.olap_run.specs.declared.status.Status.{Status}
 use Rattle.olap_run.specs.declared.replies.Stop.{Stop}
@@ -37,7 +37,7 @@ pub record FileStep {D T X : Type 0} (L : Library D) (old new : D) (step : Order
   pub comes_out : IfOk result (λ x. ComesOutTold (L.contents old) step (meaning x))
   pub ends : IfErr result (λ stop. Judged NoAnswer L old new step (Err stop))
   pub same : L.contents new ≡ L.contents old
-  pub later : L.faults old ≤ L.faults new
+  pub later : IsLater L old new
 
 -- the same of a step for which no file is read
 pub record PlainStep {T X : Type 0} (step : Order T) (meaning : X → T) (result : Result X Stop) : Type 0 where

@@ -1,7 +1,7 @@
 // The steps of an order that read a file.
-ghost use Rattle.std.specs.Prelude.{◌≡◌, ◌<◌, ◌≤◌, All, length, false, IfOk, IsErrOf, MatchOption, ⊤};
+ghost use Rattle.std.specs.Prelude.{◌≡◌, ◌<◌, ◌≤◌, All, length, false, IfOk, IsErrOf, IsTrue, MatchOption, ⊤};
 ghost use Rattle.olap_base.specs.Faults.{Rose};
-ghost use Rattle.olap_base.specs.Files.{Asks, IsContent, IsLonger};
+ghost use Rattle.olap_base.specs.Files.{Asks, IsContent, IsLonger, Lacks};
 ghost use Rattle.olap_base.specs.Limits.{most_file_bytes};
 ghost use Rattle.olap_ast.specs.Schema.{IsLegal};
 ghost use Rattle.olap_instance.specs.Made.{IsMadeFor};
@@ -9,6 +9,7 @@ ghost use Rattle.olap_schema.specs.Schemas.{schema_of};
 ghost use Rattle.olap_base.specs.Graph.{IsCategory};
 ghost use Rattle.olap_view.specs.Seen.{views_of};
 ghost use Rattle.olap_view.specs.Stores.{Fits, IsStore};
+ghost use Rattle.olap_run.specs.Judged.{IsLater};
 ghost use Rattle.olap_run.specs.Steps.{legal_file, schema_file, store_file};
 ghost use Rattle.olap_run.specs.Taken.{FileStep};
 ghost use Rattle.olap_run.specs.declared.replies.Stop.TheVariants as stops;
@@ -38,7 +39,8 @@ pub(crate) fn read_file<L: Library>(
     ensures unrefused { (bytes : _) → IsErrOf result (stops.Refused bytes) → ⊥ }
     ensures asked { Asks (L.contents lib.old) file.now (L.asked lib.new) }
     ensures contents { L.contents lib.new ≡ L.contents lib.old }
-    ensures later { L.faults lib.old ≤ L.faults lib.new }
+    ensures lacking { IsErrOf result Stop.Read → IsTrue (L.sure lib.old) → Lacks (L.contents lib.old) file.now }
+    ensures later { IsLater L.Library lib.old lib.new }
 {
     match fetch(alloc, lib, file, MOST_FILE_BYTES) {
         Ok(bytes) => Ok(Some(bytes)),

@@ -1,5 +1,9 @@
 // The top call where nothing outside can fail.
-ghost use Rattle.std.specs.Prelude.{◌≡◌};
+ghost use Rattle.std.specs.Prelude.{◌≡◌, ◌⊎◌, None};
+ghost use Rattle.olap_base.specs.Written.{sure_contents};
+ghost use Rattle.olap_run.specs.Outcome.{IsAnswered, WritesOutcome};
+ghost use Rattle.olap_run.specs.Requests.{request_of};
+ghost use Rattle.olap_run.specs.Words.{texts};
 
 use crate::Status;
 use crate::top::olap;
@@ -7,13 +11,17 @@ use olap_base::{SureLibrary, SureSink};
 use std::alloc::Global;
 
 /// Does what the words say, over files in memory of which none is missing, and a sink that takes all: neither fault
-/// comes. For the rest it is `olap`.
+/// comes. For the rest it is `olap`; the sink tells nothing, so nothing is said of what is written.
 pub fn olap_surely(
     alloc: Global,
     words: &[String],
     lib: &mut SureLibrary,
     out: &mut SureSink,
 ) -> Status
+    // The answers are those of the words and the files.
+    ensures right { IsAnswered result → WritesOutcome (texts words.now) (sure_contents lib.old) result None None }
+    ensures usage_only { request_of (texts words.now) ≡ None → (result ≡ Status.Usage) ⊎ (result ≡ Status.Memory) }
+    // Neither fault comes.
     ensures read { result ≡ Status.ReadFault → ⊥ }
     ensures written { result ≡ Status.WriteFault → ⊥ }
 {

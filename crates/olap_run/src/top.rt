@@ -1,11 +1,11 @@
 // The top call.
-ghost use Rattle.std.specs.Prelude.{◌≡◌, ◌⊎◌, None, OnOk, OnErr};
+ghost use Rattle.std.specs.Prelude.{◌≡◌, ◌⊎◌, None, IsTrue, length};
 ghost use Rattle.std.specs.Io.KnownBytes.{Appends};
 ghost use Rattle.olap_base.specs.Faults.{HasCause, Rose};
 ghost use Rattle.olap_base.specs.Sinks.{AppendsPart};
 ghost use Rattle.olap_run.specs.Commands.{order_of};
 ghost use Rattle.olap_run.specs.Judged.{ReadCause};
-ghost use Rattle.olap_run.specs.Outcome.{Outcome, IsAnswered, WritesOutcome, WritesPart, TellsAll};
+ghost use Rattle.olap_run.specs.Outcome.{IsAnswered, TakesOutcome, TellsAll, WritesOutcome, WritesPart};
 ghost use Rattle.olap_run.specs.Requests.{request_of};
 ghost use Rattle.olap_run.specs.Words.{texts};
 
@@ -23,6 +23,7 @@ fn written<K: Sink>(out: &mut K, status: Status, bytes: &[u8]) -> Status
     ensures part { result ≡ Status.WriteFault →
         AppendsPart (K.contents out.old) (K.contents out.new) bytes.now }
     ensures risen { result ≡ Status.WriteFault → Rose (K.faults out.old) (K.faults out.new) }
+    ensures surely { result ≡ Status.WriteFault → IsTrue (K.takes out.old (length bytes.now)) → ⊥ }
 {
     match emit(out, bytes) {
         Ok(()) => status,
@@ -31,6 +32,7 @@ fn written<K: Sink>(out: &mut K, status: Status, bytes: &[u8]) -> Status
 }
 
 /// Does what the words say, over the files of the library, and writes the answer to the sink.
+#[tactic(auto, using(crate::proofs::SureLemmas::held_is_read))]
 pub fn olap<L: Library, K: Sink>(
     alloc: Global,
     words: &[String],
@@ -48,6 +50,11 @@ pub fn olap<L: Library, K: Sink>(
     ensures read_fault { result ≡ Status.ReadFault →
         ReadCause L.Library lib.old lib.new (order_of (texts words.now)) }
     ensures write_fault { result ≡ Status.WriteFault → Rose (K.faults out.old) (K.faults out.new) }
+    // Over a sure library that holds every file of the order, and a sink that takes the outcome, they don't come.
+    ensures sure_read { IsTrue (L.sure lib.old) → TellsAll (texts words.now) (L.contents lib.old) →
+        result ≡ Status.ReadFault → ⊥ }
+    ensures sure_write { TakesOutcome (texts words.now) (L.contents lib.old) (K.takes out.old) →
+        result ≡ Status.WriteFault → ⊥ }
     // Nothing, or a part, is written where there is no answer.
     ensures silent { (result ≡ Status.ReadFault) ⊎ (result ≡ Status.Memory) →
         K.contents out.new ≡ K.contents out.old }

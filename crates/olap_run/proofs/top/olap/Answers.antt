@@ -1,0 +1,25 @@
+use Rattle.std.proofs.Common.{ℕ, List, Err, length, subst, sym}
+use Rattle.std.specs.Prelude.{IsTrue}
+use Rattle.olap_run.specs.Commands.{order_of}
+use Rattle.olap_run.specs.Judged.{GivesTold, Replied}
+use Rattle.olap_run.specs.Questions.{IsAnswer}
+use Rattle.olap_run.specs.Words.{texts}
+use Rattle.olap_run.specs.declared.replies.Stop.{Stop}
+use Rattle.olap_run.specs.declared.status.Status.TheVariants.{Refused}
+use Rattle.olap_run.proofs.top.olap.Goals as goal
+
+-- the sink takes the bytes of the outcome, and these are its bytes
+pub returns-in-Ok-clause-sure_write : goal.returns-in-Ok-clause-sure_write
+returns-in-Ok-clause-sure_write g c = λ takes fault. c.written.ensures.surely fault
+    (subst (λ (bytes : List ℕ). IsTrue (g.K.Sink.takes c.args.out.now (length bytes))) (sym c.deref.ensures.value)
+    (takes c.in-Ok.reply.status c.in-Ok.reply.bytes.items c.in-Ok.ensures.right))
+
+pub returns-in-Err-Refused-clause-sure_write : goal.returns-in-Err-Refused-clause-sure_write
+returns-in-Err-Refused-clause-sure_write g c =
+    let e = c.in-Err-Refused in
+    let right = subst (λ (stop : Stop). Replied (Err stop)
+    (GivesTold IsAnswer (g.L.Library.contents c.args.lib.now) (order_of (texts c.args.words.now))))
+    e.field-0-is e.ensures.right in
+    λ takes fault. c.written-in-Err-Refused.ensures.surely fault
+    (subst (λ (bytes : List ℕ). IsTrue (g.K.Sink.takes c.args.out.now (length bytes)))
+    (sym c.deref-in-Err-Refused.ensures.value) (takes Refused e.bytes.items right))
