@@ -93,7 +93,7 @@ def faults():
         count = sum(map(len, found.values()))
         yield PROGRAM, f"not built, so the {count} commands of README.md, docs/ and recipes/ were not run"
         return
-    for document in documents:
+    for document in (each for each in documents if found[each]):
         with tempfile.TemporaryDirectory() as name:
             put(Path(name))
             for command, wanted in found[document]:

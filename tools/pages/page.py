@@ -6,6 +6,7 @@ from dataclasses import dataclass, field
 from typing import Callable, Iterator, Sequence
 
 from . import pictures, texts
+from .enough import MOST
 from .markup import Markup, el, many, picture
 from .pictures import counted
 from .questions import Facts, Ways
@@ -13,13 +14,14 @@ from .questions import Facts, Ways
 COLUMNS = 8  # targets of one table
 MOST_LINES = 50  # frozen lines of a category
 MOST_DRAWN, MOST_DRAWN_LARGE, LARGE = 6, 1, 20  # pictures of a category's ways; of a schema with more categories than LARGE
-MOST_OPEN = 24  # counterexamples that aren't folded
+MOST_OPEN = 6  # counterexamples that aren't folded
+MOST_ENOUGH = 8  # lists of a target that stand in the first table
 
 STYLE = """
 :root { color-scheme: light dark; --page: #fff; --text: #1a1c20; --soft: #555d6b; --rule: #c9d0da; --band: #f3f5f9; --link: #0b4fa3;
-  --yes: #1d5f2a; --no: #9b1417; }
+  --yes: #1d5f2a; --no: #9b1417; --none: #f0f1f4; }
 @media (prefers-color-scheme: dark) { :root { --page: #14171c; --text: #e8eaee; --soft: #a9b2c0; --rule: #3b4350; --band: #1d222a;
-  --link: #8ab8ff; --yes: #84d191; --no: #ff9a9c; } }
+  --link: #8ab8ff; --yes: #84d191; --no: #ff9a9c; --none: #20242b; } }
 * { box-sizing: border-box; }
 html { scroll-padding-top: 1rem; }
 body { margin: 0 auto; max-width: 72rem; padding: 1rem; background: var(--page); color: var(--text);
@@ -39,7 +41,7 @@ nav a { display: inline-block; padding: .35rem 0; }
 figure { margin: .75rem 0; } .scroll > svg { width: 100%; height: auto; display: block; }
 .scroll { overflow-x: auto; max-width: 100%; position: relative; padding: 2px; }
 .row { display: flex; flex-wrap: wrap; gap: 1rem 2rem; align-items: flex-start; }
-.row figure { flex: 0 1 auto; max-width: 100%; min-width: 0; }
+.row figure { flex: 0 1 auto; max-width: 100%; min-width: 0; } .row figcaption { max-width: 32rem; }
 table { border-collapse: separate; border-spacing: 0; margin: .5rem 0 1.25rem; overflow-wrap: normal; }
 caption { text-align: left; font-weight: 600; padding: .25rem 0; }
 th, td { border: 0 solid var(--rule); border-width: 0 1px 1px 0; padding: .3rem .5rem; text-align: left; vertical-align: top; }
@@ -48,6 +50,12 @@ th { background: var(--band); font-weight: 600; max-width: 11rem; overflow-wrap:
 tbody th { position: sticky; left: 0; min-width: 6rem; } thead th:first-child { position: sticky; left: 0; z-index: 1; }
 td { white-space: nowrap; } td.yes { color: var(--yes); font-weight: 600; } td.no a { color: var(--no); display: inline-block;
   padding: .1rem .2rem; margin: -.1rem -.2rem; }
+td.other { background: var(--none); color: var(--soft); } table.text td { white-space: normal; } .list { font-weight: 600; }
+.alarm { color: var(--no); border: 2px solid var(--no); border-radius: .4rem; padding: .6rem .8rem; font-weight: 600; }
+.legend { list-style: none; padding: 0; margin: .25rem 0; } .legend li { margin: .25rem 0; } .sample { display: inline-block; width: 2.6rem;
+  border-top: 2px solid var(--text); vertical-align: middle; margin-right: .6rem; } .sample.sometimes { border-top-style: dashed; }
+.sample.idle { border-top-style: dotted; opacity: .45; } .sample.twice { border-top: 3px solid var(--no); }
+.sample.way { border-top: 3px solid var(--link); } .side { flex: 1 1 18rem; min-width: 0; }
 details { border: 1px solid var(--rule); border-radius: .4rem; margin: .6rem 0; padding: 0 .75rem; }
 summary { cursor: pointer; padding: .5rem 0; font-weight: 600; }
 .lines { padding-left: 3.5rem; margin: .5rem 0; } .lines li { padding-left: .5rem; border-left: 1px solid var(--rule); min-height: 1.5em;
@@ -80,6 +88,11 @@ class Shown:
     def anchor(self) -> str:
         return f"no-{self.number}"
 
+    @property
+    def drawn_for(self) -> tuple[str, ...]:
+        """The sources that the picture shows."""
+        return self.lists[0]
+
 
 @dataclass(frozen=True)
 class Places:
@@ -107,7 +120,7 @@ def grouped(facts: Facts) -> tuple[list[Shown], dict[tuple[str, tuple[str, ...]]
     """The different counterexamples in the order of targets, and the one of each question that has one."""
     shown: dict[tuple, Shown] = {}
     of: dict[tuple[str, tuple[str, ...]], Shown] = {}
-    for target in facts.schema.categories:
+    for target in facts.targets:
         for sources in [*facts.singles, *facts.pairs]:
             example = facts.answers.get((target, sources))
             if example is not None:
@@ -116,6 +129,18 @@ def grouped(facts: Facts) -> tuple[list[Shown], dict[tuple[str, tuple[str, ...]]
                 shown.setdefault(key, Shown(len(shown) + 1, example, seeing)).lists.append(sources)
                 of[target, sources] = shown[key]
     return list(shown.values()), of
+
+
+def joined(ways: Sequence[texts.Frozen]) -> list[tuple[texts.Frozen, int]]:
+    """The first of those that differ in names alone, and how many others there are."""
+    groups: dict[tuple, list[texts.Frozen]] = {}
+    for way in ways:
+        groups.setdefault((way.edges, tuple(way.names)), []).append(way)
+    return [(some[0], len(some) - 1) for some in groups.values()]
+
+
+def listing(words: Sequence[str]) -> str:
+    return ", ".join(words)
 
 
 def listed(sources: Sequence[str]) -> str:
@@ -146,27 +171,35 @@ class Page:
     def wanted(self) -> Iterator[tuple[tuple, pictures.Picture]]:
         """Each picture of the page with its key."""
         schema = self.facts.schema
-        yield ("schema",), pictures.of_schema(schema, f"Schema {self.name}")
-        for category in schema.categories:
-            for number, frozen in enumerate(self.drawn_ways(self.facts.ways[category]), 1):
+        yield ("schema",), pictures.of_schema(schema, f"Schema {self.name}", self.facts.taken())
+        for category in self.order:
+            for number, (frozen, _) in enumerate(self.drawn_ways(self.facts.ways[category]), 1):
                 name = f"Frozen dimension {number} of {category}"
                 yield ("frozen", category, number), pictures.of_frozen(frozen, category, name)
         for shown in self.shown:
-            name = f"Counterexample {shown.number}: {shown.example.target} from {listed(shown.lists[0])}"
-            yield ("no", shown.number), pictures.of_counterexample(shown.example, shown.seeing, name)
+            name = f"Counterexample {shown.number}: {shown.example.target} from {listed(shown.drawn_for)}"
+            yield ("no", shown.number), pictures.of_counterexample(shown.example, shown.drawn_for, name)
 
-    def drawn_ways(self, ways: Ways) -> tuple[texts.Frozen, ...]:
+    @property
+    def order(self) -> list[str]:
+        """The bottom categories, and then the others that are declared."""
+        schema = self.facts.schema
+        return [*schema.bottoms, *(category for category in schema.declared if category not in schema.bottoms)]
+
+    def drawn_ways(self, ways: Ways) -> list[tuple[texts.Frozen, int]]:
         known = ways.listed if ways.listed is not None else (ways.least,) if ways.least else ()
-        return known[: self.most_drawn]
+        return joined(known)[: self.most_drawn]
 
     def html(self) -> str:
         title = f"Report on the schema {self.name}"
+        can_have_facts = len(self.facts.barren) < len(self.facts.schema.bottoms)
         sections = [
+            *([("enough", "What is enough", self.enough())] if can_have_facts else []),
             ("picture", "Picture", self.picture()),
             ("audit", "Audit", self.audit()),
-            ("frozen", "Frozen dimensions", self.frozen()),
-            ("table", "Targets and sources", self.tables()),
-            ("counterexamples", "Counterexamples", self.counterexamples()),
+            *([("table", "Targets and sources", self.tables())] if can_have_facts else []),
+            *([("counterexamples", "Counterexamples", self.counterexamples())] if can_have_facts else []),
+            ("frozen", "All ways up", self.frozen()),
             ("text", "Text", self.text()),
         ]
         head = el(
@@ -182,7 +215,7 @@ class Page:
         body = el(
             "body",
             el("a", "To the content", class_="skip", href="#content"),
-            el("header", el("h1", title), self.summary(), el("nav", el("ul", links), aria_label="Sections")),
+            el("header", el("h1", title), self.summary(), self.alarm(), el("nav", el("ul", links), aria_label="Sections")),
             el("main", [self.section(*each) for each in sections], id="content", tabindex="-1"),
             el("footer", el("p", "Each answer on this page is one that the program olap gave. The program is proved; the page and its "
                                  "pictures are not.")),
@@ -204,7 +237,42 @@ class Page:
             f"program answered {counted(len(answers), 'question')}: {len(answers) - no:,} yes, {no:,} no.",
         )
 
+    def alarm(self) -> Markup | str:
+        """A red line where no fact can stand in a bottom category."""
+        barren = self.facts.barren
+        if not barren:
+            return ""
+        rest = ("so there can be no fact at all, and every question would be answered by yes: this page has no tables"
+                if len(barren) == len(self.facts.schema.bottoms) else "so a yes on this page says nothing about facts there")
+        return el("p", f"No legal instance has a member of {', '.join(barren)}, {rest}. The schema contradicts itself there: see the audit.",
+                  class_="alarm")
+
     # The sections.
+
+    def enough(self) -> Markup:
+        facts = self.facts
+        intro = el("p", "Keep the views of one line, and the totals by the target can be taken from them, for all facts, on every instance "
+                        "that the schema allows; whether yours is one, ", el("code", "olap check"), " says. These are the least lists of up "
+                        f"to {MOST} sources: without one of them facts are lost.")
+        head = el("thead", el("tr", el("th", "totals by", scope="col"), el("th", "can be taken from", scope="col")))
+        rows = [el("tr", el("th", target, scope="row"), el("td", self.enough_for(target))) for target in facts.targets]
+        table = el("table", head, el("tbody", Markup("\n".join(rows))), class_="text")
+        return many(intro, el("div", table, class_="scroll", tabindex="0", role="group", aria_label="What is enough for each target"))
+
+    def enough_for(self, target: str) -> Markup | str:
+        found = self.facts.enough.get(target)
+        if found is None:
+            return "no answer in the time of this page"
+        if found.lists == [()]:
+            return "no fact can reach it"
+        items = [el("span", " + ".join(sources), class_="list") for sources in found.lists[:MOST_ENOUGH]]
+        more = len(found.lists) - len(items)
+        notes = [f"and {counted(more, 'more list')}: tools/least lists them"] if more else []
+        if not found.is_whole:
+            notes.append("there may be more: the search didn't end in the time of this page")
+        elif not items:
+            notes.append(f"no list of up to {MOST} other sources")
+        return many([many(" or " if i else "", item) for i, item in enumerate(items)], [el("small", f" ({note})") for note in notes])
 
     def figure(self, key: tuple, caption: object, label: str) -> Markup:
         if key not in self.drawn:
@@ -221,10 +289,14 @@ class Page:
         else:
             notes = "A note has a category's constraints with their numbers; long ones are cut."
         caption = f"Categories and edges, from child to parent. {notes}"
+        legend = el("ul", [el("li", el("span", "", class_=f"sample {kind}"), text) for kind, text in (
+            ("always", "every member of the child takes this edge"), ("sometimes", "some may not take it"),
+            ("idle", "no fact goes this way"))], class_="legend")
         items = [el("li", self.to_line(place, f"constraint {number}"), " ", el("code", f"{one.root}: {one.formula}"))
                  for number, (one, place) in enumerate(zip(facts.schema.constraints, self.places.constraints), 1)]
         constraints = el("details", el("summary", "The constraints in full"), el("ul", items)) if items else ""
-        return many(self.figure(("schema",), caption, "Picture of the schema"), constraints)
+        side = el("div", legend, constraints, class_="side")
+        return el("div", self.figure(("schema",), caption, "Picture of the schema"), side, class_="row")
 
     def to_line(self, number: int, text: str) -> Markup:
         return el("a", text, href=f"#line-{number}")
@@ -233,9 +305,14 @@ class Page:
         findings = self.facts.findings
         if findings is None:
             return el("p", "The audit had no answer in the time of this page: ", el("code", "olap audit SCHEMA"), " asks for it alone.")
+        unused = {tuple(line.split(" ")[1:]) for line in findings if line.startswith("unused ")}
+        idle = [edge for edge, kind in self.facts.taken().items() if kind == "idle" and edge not in unused]
+        dead = el("p", "No fact goes by these edges, for no way up of a bottom category has them, though a member without facts may: ",
+                  listing([f"{child} {parent}" for child, parent in idle]), ".") if idle else ""
         if not findings:
-            return el("p", "No findings: each category can have a member, each constraint says something, each edge can be used.")
-        return many(el("p", f"{counted(len(findings), 'finding')}."), el("ul", [el("li", self.finding(one)) for one in findings]))
+            return many(el("p", "No findings: each category can have a member, each constraint says something, and each edge can be used "
+                                "by some member, if only by one without facts."), dead)
+        return many(el("p", f"{counted(len(findings), 'finding')}."), el("ul", [el("li", self.finding(one)) for one in findings]), dead)
 
     def finding(self, line: str) -> Markup:
         kind, *words = line.split(" ")
@@ -251,25 +328,32 @@ class Page:
 
     def frozen(self) -> Markup:
         intro = el("p", "A frozen dimension of a category is a legal instance in which it has a member, each category has at most one, and "
-                        "that member reaches every other: one of all the ways up. The digits are the schema's edges.")
+                        "that member reaches every other: one of all the ways up. The digits are the schema's edges, and ", el("code", "nk"),
+                   " is any name that the schema doesn't mention. Ways that differ in names alone are told once.")
         late = [each for each, ways in self.facts.ways.items() if ways.listed is None and ways.least is None and not ways.too_many]
         ask = el("code", "olap frozen SCHEMA CATEGORY")
         told = el("p", f"Of {', '.join(late)} nothing came in the time of this page: ", ask, " lists it.")
-        return many(intro, [self.ways_of(each) for each in self.facts.schema.categories if each not in late], told if late else "")
+        shown = [each for each in self.order if each not in late]
+        bottoms, others = ([self.ways_of(each) for each in shown if (each in self.facts.schema.bottoms) is is_bottom] for is_bottom in (True, False))
+        folded = el("details", el("summary", "The ways of the other categories"), others) if others else ""
+        return many(intro, bottoms, folded, told if late else "")
 
     def ways_of(self, category: str) -> Markup:
         ways = self.facts.ways[category]
         known = self.drawn_ways(ways)
         if ways.listed is not None:
             told = counted(len(ways.listed), "frozen dimension") if ways.listed else "None: no legal instance has a member of it"
-            told += f"; the first {len(known)} drawn" if 0 < len(known) < len(ways.listed) else ""
+            groups = joined(ways.listed)
+            told += f" in {counted(len(groups), 'way')}" if len(groups) < len(ways.listed) else ""
+            told += f"; the first {len(known)} drawn" if 0 < len(known) < len(groups) else ""
         else:
             told = "More than the program lists" if ways.too_many else "The list didn't come in the time of this page"
             told += "; the least is drawn" if known else ""
-        lines = [frozen.line for frozen in (ways.listed if ways.listed is not None else known)]
+        groups = joined(ways.listed) if ways.listed is not None else known
+        lines = [frozen.line + (f"   and {counted(others, 'other list', 'other lists')} of names" if others else "") for frozen, others in groups]
         more = [el("p", f"{len(lines) - MOST_LINES:,} more lines: ", el("code", f"olap frozen SCHEMA {category}"), " lists them.")]
-        drawn = [self.figure(("frozen", category, i), f"{i} of {category}", f"Frozen dimension {i} of {category}")
-                 for i in range(1, len(known) + 1)]
+        drawn = [self.figure(("frozen", category, i), f"{i} of {category}" + (f", and {others:,} with other names" if others else ""),
+                             f"Frozen dimension {i} of {category}") for i, (_, others) in enumerate(known, 1)]
         return many(
             el("h3", category, id=f"ways-{category}"),
             el("p", f"{told}."),
@@ -287,13 +371,13 @@ class Page:
         intro = el(
             "p", "May the totals by the target be taken from the views of the sources, on every legal instance and for all facts? ",
             el("em", "Lost"), " is a fact that no source has, and ", el("em", "2\u00d7"), " one that two of them have; each no leads to its "
-            "counterexample.",
+            "counterexample. Grey is what isn't asked: a source that isn't below the target adds nothing, and a target is its own view.",
         )
-        asked = len(facts.schema.categories) * (len(facts.singles) + len(facts.pairs))
-        late = asked - len(facts.answers)
+        questions = facts.asked(facts.singles + facts.pairs)
+        asked, late = len(questions), sum(1 for question in questions if question not in facts.answers)
         notes = [el("p", el("strong", f"{counted(late, 'question')} of {asked:,} had no answer in the time of this page."), " They say ",
                     el("em", "no answer"), "; ask the program itself.")] if late else []
-        pairs = self.table_group("Pairs of sources", facts.pairs) if facts.asks_pairs else many(
+        pairs = el("details", el("summary", "Pairs of sources"), self.table_group("", facts.pairs)) if facts.asks_pairs else many(
             el("h3", "Pairs of sources"),
             el("p", f"Pairs weren't asked, for this schema has {counted(len(facts.schema.categories), 'category', 'categories')}: ",
                el("code", "olap summarizable SCHEMA TARGET SOURCE SOURCE"), " asks for one."),
@@ -301,14 +385,21 @@ class Page:
         return many(intro, notes, self.table_group("Single sources", facts.singles), pairs)
 
     def table_group(self, name: str, lists: list[tuple[str, ...]]) -> Markup:
-        targets = self.facts.schema.categories
+        targets = self.facts.targets
         columns = [targets[i : i + COLUMNS] for i in range(0, len(targets), COLUMNS)]
-        return many(el("h3", name), [self.table(name, lists, some) for some in columns if lists])
+        asked = set(self.facts.asked(lists))
+        tables = []
+        for some in columns:
+            rows = [sources for sources in lists if any((target, sources) in asked for target in some)]
+            tables += [self.table(name or "Pairs of sources", rows, some, asked)] if rows else []
+        return many(el("h3", name) if name else "", tables)
 
-    def table(self, name: str, lists: list[tuple[str, ...]], targets: Sequence[str]) -> Markup:
+    def table(self, name: str, lists: list[tuple[str, ...]], targets: Sequence[str], asked: set) -> Markup:
         caption = f"{name}: targets {targets[0]} to {targets[-1]}" if len(targets) > 1 else f"{name}: target {targets[0]}"
         head = el("thead", el("tr", el("th", "from the views of", scope="col"), [el("th", target, scope="col") for target in targets]))
-        rows = [el("tr", el("th", listed(sources), scope="row"), [self.cell(target, sources) for target in targets]) for sources in lists]
+        other = el("td", "\u2013", class_="other")
+        rows = [el("tr", el("th", listed(sources), scope="row"),
+                   [self.cell(target, sources) if (target, sources) in asked else other for target in targets]) for sources in lists]
         table = el("table", el("caption", caption), head, el("tbody", Markup("\n".join(rows))))
         return el("div", table, class_="scroll", tabindex="0", role="group", aria_label=caption)
 
@@ -329,8 +420,9 @@ class Page:
             by_target[shown.example.target].append(shown)
         folded = len(self.shown) > MOST_OPEN
         intro = el("p", f"{counted(len(self.shown), 'counterexample')}; each is the least legal instance that shows its no, with one fact. "
-                        "A source that isn't marked doesn't have it: it has no member there, or isn't below the target. Thick lines are the "
-                        "fact's ways to the target." + (" Open one to see its picture." if folded else ""))
+                        "The target is red, with what it gets instead of 1. Blue lines are the fact's ways up to it, and a red arrow is a "
+                        "source that adds the fact to it; a source in a dashed box doesn't have the fact." +
+                        (" Open one to see its picture." if folded else ""))
         groups = [many(el("h3", f"Target {target}"), el("div", [self.counterexample(one, folded) for one in some], class_="group"))
                   for target, some in by_target.items()]
         return many(intro, groups)
@@ -344,11 +436,11 @@ class Page:
         return el(
             "details",
             el("summary", summary),
-            el("p", "It answers the sources: ", lists, "."),
+            el("p", "It answers the sources: ", lists, ".", id=shown.anchor),
             self.lines_pre(said),
-            self.figure(("no", shown.number), f"Direct 1, from the views {views_of(example)}.", f"Counterexample {shown.number}"),
+            self.figure(("no", shown.number), f"{listed(shown.drawn_for)}: direct 1, from the views {views_of(example)}.",
+                        f"Counterexample {shown.number}"),
             el("p", el("a", "Back to the tables", href="#table"), class_="back"),
-            id=shown.anchor,
             open=None if folded else "open",
         )
 

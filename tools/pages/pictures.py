@@ -10,8 +10,8 @@ import textwrap
 import unicodedata
 import xml.etree.ElementTree as ET
 from collections import defaultdict
-from dataclasses import dataclass, field
-from typing import Iterable, Sequence
+from dataclasses import dataclass, field, replace
+from typing import Iterable, Mapping, Sequence
 
 from .program import Fault
 from .texts import ALL, Counterexample, Frozen, Member, Schema
@@ -31,6 +31,13 @@ MOST_NOTES = 24  # constraints whose formulas stand in the picture; of more, the
 SIGNS = {"\n": "\u21b5", "\r": "\u21b5", "\t": "\u21e5"}
 TURNING = ("LRE", "RLE", "LRO", "RLO", "PDF", "LRI", "RLI", "FSI", "PDI")
 BATCH = 8  # pictures of one run of Graphviz
+# Of kinds of edges, what Graphviz is told; an edge `above` isn't seen, and only puts the one node over the other.
+LOOKS = {"tied": ", style=dashed, arrowhead=none", "sometimes": ", style=dashed", "idle": ", style=dotted", "above": ", style=invis",
+         "twice": ", constraint=false, style=bold"}
+TITLE = 26  # the height of a title
+
+# How an edge of a schema is taken.
+TAKEN = {"always": "each {child} takes it", "sometimes": "some {child} may not take it", "idle": "no fact goes this way"}
 
 STYLE = """
 .olap { --paper: #fff; --ink: #1a1c20; --line: #4d5563; --node: #eef2f8; --rim: #5b6b85; --note: #fff6d8; --noterim: #8a6d1a;
@@ -54,7 +61,11 @@ STYLE = """
 .olap .target polygon, .olap .target path { fill: var(--target); stroke: var(--way); stroke-width: 2.5; }
 .olap .source polygon, .olap .source path { fill: var(--source); stroke: var(--sourcerim); stroke-width: 2; }
 .olap .blind polygon, .olap .blind path { fill: var(--blind); stroke: var(--rim); stroke-dasharray: 4 3; }
-.olap .bad polygon, .olap .bad path { fill: var(--badfill); stroke: var(--bad); stroke-width: 2.5; }
+.olap .node.bad polygon, .olap .node.bad path { fill: var(--badfill); stroke: var(--bad); stroke-width: 2.5; }
+.olap .edge.bad path, .olap .edge.twice path { stroke: var(--bad); stroke-width: 3; }
+.olap .edge.bad polygon, .olap .edge.twice polygon { fill: var(--bad); stroke: var(--bad); }
+.olap .bottom polygon, .olap .bottom path { stroke-width: 2.5; }
+.olap .edge.idle path { stroke-width: 2; } .olap .edge.idle path, .olap .edge.idle polygon { opacity: .6; }
 """
 
 
@@ -92,14 +103,18 @@ class Picture:
 # What is drawn.
 
 
-def of_schema(schema: Schema, name: str) -> Picture:
-    """Categories, edges, and each category's constraints as a note beside it."""
+def of_schema(schema: Schema, name: str, taken: Mapping[tuple[str, str], str] | None = None) -> Picture:
+    """Categories, edges, and each category's constraints as a note beside it; and of edges which are taken, where that is known."""
     picture = Picture(name, f"{counted(len(schema.categories), 'category', 'categories')}, {counted(len(schema.edges), 'edge')}, "
                             f"{counted(len(schema.constraints), 'constraint')}")
     for category in schema.categories:
-        picture.nodes[category] = Node((category,), f"category {category}", "category")
+        is_bottom = category in schema.bottoms
+        lines, told = ((category, "facts stand here"), ": facts stand here") if is_bottom else ((category,), "")
+        picture.nodes[category] = Node(lines, f"category {category}{told}", "bottom" if is_bottom else "category")
     for child, parent in schema.edges:
-        picture.edges.append(Edge(child, parent, f"edge {child} {parent}"))
+        kind = (taken or {}).get((child, parent), "up")
+        told = f": {TAKEN[kind].format(child=child)}" if kind in TAKEN else ""
+        picture.edges.append(Edge(child, parent, f"edge {child} {parent}{told}", kind))
     are_many = len(schema.constraints) > MOST_NOTES
     notes: dict[str, list[str]] = defaultdict(list)
     told: dict[str, list[str]] = defaultdict(list)
@@ -128,18 +143,47 @@ def of_frozen(frozen: Frozen, root: str, name: str) -> Picture:
     return picture
 
 
-def of_instance(members: Sequence[Member], name: str, bad: Iterable[str] = ()) -> Picture:
-    """An instance: each member with its category and, where they differ, its id and its name."""
+def of_instance(members: Sequence[Member], name: str, bad: Iterable[str] = (), twice: str | None = None) -> Picture:
+    """An instance: each member with its category and, where they differ, its id and its name; members of a category side by side.
+
+    The `bad` members are marked, and where the first of them is below two members of the category `twice`, these and its ways there.
+    """
     picture = Picture(name, f"{counted(len(members), 'member')} without all")
     marked = set(bad)
+    wrong = wrong_ways(members, next(iter(bad), ""), twice) if twice else set()
+    marked |= {parent for _, parent in wrong for member in members if member.id == parent and member.category == twice}
     for member in members:
         told = f"{member.category} {member.id}" + (f", named {member.name}" if member.name != member.id else "")
         lines = (member.category, *wrapped(member.id), *(wrapped(f'"{member.name}"') if member.name != member.id else ()))
         picture.nodes[member.id] = Node(lines, told, "bad" if member.id in marked else "member")
     picture.nodes["all"] = Node(("all",), "all")
     for member in members:
-        picture.edges += [Edge(member.id, parent, f"{member.id} to {parent}") for parent in member.parents]
+        for parent in member.parents:
+            picture.edges.append(Edge(member.id, parent, f"{member.id} to {parent}", "bad" if (member.id, parent) in wrong else "up"))
+    first: dict[str, str] = {}
+    for member in members:
+        if first.setdefault(member.category, member.id) != member.id:
+            picture.level.append((first[member.category], member.id))
     return picture
+
+
+def wrong_ways(members: Sequence[Member], start: str, category: str) -> set[tuple[str, str]]:
+    """The edges on the ways of a member to all members of a category."""
+    parents = {member.id: member.parents for member in members}
+    kind = {member.id: member.category for member in members}
+
+    def leading(id: str, seen: tuple[str, ...]) -> set[tuple[str, str]] | None:
+        """The edges from here on, or None where no way leads there."""
+        if kind.get(id) == category and seen:
+            return set()
+        found = None
+        for parent in parents.get(id, ()):
+            on = leading(parent, (*seen, id)) if parent not in seen else None
+            if on is not None:
+                found = (found or set()) | {(id, parent)} | on
+        return found
+
+    return leading(start, ()) or set()
 
 
 def of_counterexample(shown: Counterexample, sources: Sequence[str], name: str) -> Picture:
@@ -152,18 +196,28 @@ def of_counterexample(shown: Counterexample, sources: Sequence[str], name: str) 
     for category in (*shown.frozen.names, ALL):
         node = picture.nodes[category]
         if category == shown.target:
-            views = "none" if shown.views is None else str(shown.views)
-            picture.nodes[category] = marked(node, "target", "target: direct 1", f"from the views: {views}")
+            picture.nodes[category] = marked(node, "bad", "target", f"from the views: {amount(shown)} instead of 1")
             node = picture.nodes[category]
         if category in sources:
             sees = category in seeing
             kind = node.kind if category == shown.target else "source" if sees else "blind"
             picture.nodes[category] = marked(node, kind, "source: has the fact" if sees else "source: not below the target")
+            if sees and category != shown.target:
+                picture.edges.append(Edge(category, shown.target, f"the view of {category} adds the fact to {shown.target}", "twice"))
+    for category in sources:
+        if category not in picture.nodes:
+            picture.nodes[category] = Node((category, "source: no member here"), f"{category}, source: no member here", "blind")
+            picture.edges.append(Edge(category, shown.target, f"{category} would lie below {shown.target}", "above"))
     picture.nodes["fact"] = Node(("fact 1",), f"a fact of value 1 at {shown.root}", "fact", "ellipse")
     on_way = ways(shown)
-    picture.edges = [Edge(e.tail, e.head, e.told, "way" if (e.tail, e.head) in on_way else "up") for e in picture.edges]
+    picture.edges = [replace(e, kind="way") if e.kind == "up" and (e.tail, e.head) in on_way else e for e in picture.edges]
     picture.edges.append(Edge("fact", shown.root, f"the fact lies at {shown.root}", "way"))
     return picture
+
+
+def amount(shown: Counterexample) -> str:
+    """What the target has from the views."""
+    return "nothing" if shown.views is None else str(shown.views)
 
 
 def ways(shown: Counterexample) -> set[tuple[str, str]]:
@@ -245,7 +299,7 @@ def dot_text(picture: Picture) -> str:
         style = ', style=rounded' if node.shape == "box" else ""
         lines.append(f"{place[key]} [shape={node.shape}, class={quoted(node.kind)}, label={label(node)}{style}{small}];")
     for edge in picture.edges:
-        look = ", style=dashed, arrowhead=none" if edge.kind == "tied" else ""
+        look = LOOKS.get(edge.kind, "")
         lines.append(f"{place[edge.tail]} -> {place[edge.head]} [class={quoted(edge.kind)}{look}];")
     lines += [f"{{ rank=same; {place[one]}; {place[other]} }}" for one, other in picture.level]
     return "\n".join([*lines, "}\n"])
@@ -311,11 +365,17 @@ def kept(part: ET.Element, title: str | None = None) -> ET.Element:
 
 def alone(element: ET.Element) -> str:
     """An SVG text that stands by itself, with its style and sheet."""
-    left, top, width, height = element.attrib["viewBox"].split()
+    left, top, width, height = map(float, element.attrib["viewBox"].split())
     element = ET.fromstring(ET.tostring(element))
-    element.set("xmlns", SVG)
+    title = element.findtext("title", "")
+    width, top, height = max(width, 7.5 * len(title) + 16), top - TITLE, height + TITLE
+    element.attrib |= {"viewBox": f"{left:g} {top:g} {width:g} {height:g}", "width": f"{width:g}", "height": f"{height:g}", "xmlns": SVG}
     style = ET.Element("style")
     style.text = STYLE
     element.insert(2, style)
-    element.insert(3, ET.Element("rect", {"class": "sheet", "x": left, "y": top, "width": width, "height": height}))
+    sheet = {"x": left, "y": top, "width": width, "height": height}
+    element.insert(3, ET.Element("rect", {"class": "sheet", **{key: f"{value:g}" for key, value in sheet.items()}}))
+    written = ET.Element("text", {"x": f"{left + 8:g}", "y": f"{top + 17:g}", "font-size": "13", "font-weight": "bold"})
+    written.text = title
+    element.insert(4, written)
     return '<?xml version="1.0" encoding="UTF-8"?>\n' + ET.tostring(element, encoding="unicode") + "\n"

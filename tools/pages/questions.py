@@ -12,6 +12,7 @@ from itertools import combinations
 from typing import Callable, Iterable, TypeVar
 
 from . import texts
+from .enough import Enough, below
 from .program import Fault, Late, Program
 
 SCHEMA = "schema.txt"
@@ -37,8 +38,16 @@ class Facts:
     text: str
     findings: list[str] | None = None
     ways: dict[str, Ways] = field(default_factory=dict)
+    has_members: dict[str, bool] = field(default_factory=dict)  # can a legal instance have a member of the category?
+    always: dict[tuple[str, str], bool] = field(default_factory=dict)  # does each member of the child take the edge?
+    enough: dict[str, Enough] = field(default_factory=dict)
     answers: dict[tuple[str, tuple[str, ...]], texts.Counterexample | None] = field(default_factory=dict)
     asks_pairs: bool = True
+
+    @property
+    def targets(self) -> list[str]:
+        """The categories that others lie below: of the others nobody asks."""
+        return [target for target in self.schema.categories if below(self.schema, target)]
 
     @property
     def singles(self) -> list[tuple[str, ...]]:
@@ -47,6 +56,24 @@ class Facts:
     @property
     def pairs(self) -> list[tuple[str, ...]]:
         return list(combinations(self.schema.categories, 2)) if self.asks_pairs else []
+
+    def asked(self, lists: list[tuple[str, ...]]) -> list[tuple[str, tuple[str, ...]]]:
+        """The questions of these lists: those whose sources all lie below the target."""
+        lower = {target: set(below(self.schema, target)) for target in self.targets}
+        return [(target, sources) for sources in lists for target in self.targets if lower[target].issuperset(sources)]
+
+    @property
+    def barren(self) -> list[str]:
+        """The bottom categories that are known to have no member: no fact can stand there."""
+        return [category for category in self.schema.bottoms if self.has_members.get(category) is False]
+
+    def taken(self) -> dict[tuple[str, str], str]:
+        """How edges are taken, as far as that is known: by all members, by some, or by none that a fact comes to."""
+        lists = [self.ways[bottom].listed for bottom in self.schema.bottoms]
+        used = {edge for ways in lists if ways is not None for way in ways for edge in way.edges}
+        idle = set() if None in lists else set(self.schema.edges) - used
+        kinds = {edge: "always" if always else "sometimes" for edge, always in self.always.items()}
+        return kinds | dict.fromkeys(idle, "idle")
 
 
 class Progress:
@@ -114,10 +141,11 @@ class Asker:
 
 
 def facts_of(program: Program, progress: Progress, most_for_pairs: int, seconds: float) -> Facts:
-    """Asks all: the audit and the least frozen dimensions first, then lists, single sources and pairs, as time allows."""
+    """Asks all: what is enough first, then single sources, edges, the audit, ways and pairs, as time allows."""
     began = time.monotonic()
-    schema = texts.schema_of(program.must("format", SCHEMA).text)
-    facts = Facts(schema, (program.folder / SCHEMA).read_bytes().decode())
+    text = (program.folder / SCHEMA).read_bytes().decode(errors="replace")
+    schema = texts.in_own_words(texts.schema_of(program.must("format", SCHEMA).text), text)
+    facts = Facts(schema, text)
     facts.asks_pairs = len(schema.categories) <= most_for_pairs
     asker = Asker(program, progress)
 
@@ -148,16 +176,41 @@ def facts_of(program: Program, progress: Progress, most_for_pairs: int, seconds:
         answer = program.must("summarizable", SCHEMA, target, *sources, ends=(0, 1), seconds=left)
         return texts.counterexample_of(answer.text, schema) if answer.status == 1 else None
 
-    leasts = asker.all("least frozen dimensions", schema.categories, least, until(0.15))
-    facts.answers = asker.all("single sources", of_each(schema, facts.singles), summarizable, until(0.6))
-    facts.findings = asker.all("audit", ["audit"], findings, until(0.75)).get("audit")
-    lists = asker.all("frozen dimensions of", schema.categories, listed, until(0.85))
+    def enough(target: str, left: float) -> Enough:
+        end = time.monotonic() + left
+
+        def shown(of: str, sources: tuple[str, ...]) -> texts.Counterexample | None:
+            key = (of, sources)
+            if key not in facts.answers:
+                facts.answers[key] = summarizable(key, end - time.monotonic())
+            return facts.answers[key]
+
+        return Enough(schema, target, shown).search(end)
+
+    def always(edge: tuple[str, str], left: float) -> bool:
+        return program.must("implies", SCHEMA, edge[0], "_".join(edge), ends=(0, 1), seconds=left).status == 0
+
+    leasts = asker.all("least frozen dimensions", schema.categories, least, until(0.12))
+    facts.has_members = {category: frozen is not None for category, frozen in leasts.items()}
+    if len(facts.barren) < len(schema.bottoms):
+        facts.enough = asker.all("targets: what is enough", facts.targets, enough, until(0.4))
+        facts.answers |= asker.all("single sources", facts.asked(facts.singles), remembered(facts, summarizable), until(0.6))
+    facts.always = asker.all("edges", schema.edges, always, until(0.68))
+    facts.findings = asker.all("audit", ["audit"], findings, until(0.78)).get("audit")
+    order = sorted(schema.declared, key=lambda category: category not in schema.bottoms)
+    lists = asker.all("frozen dimensions of", order, listed, until(0.88))
     for category in schema.categories:
         known = lists.get(category)
         facts.ways[category] = Ways(known, leasts.get(category), category in lists and known is None)
-    facts.answers |= asker.all("pairs of sources", of_each(schema, facts.pairs), summarizable, until(1))
+    if len(facts.barren) < len(schema.bottoms):
+        facts.answers |= asker.all("pairs of sources", facts.asked(facts.pairs), remembered(facts, summarizable), until(1))
     return facts
 
 
-def of_each(schema: texts.Schema, lists: list[tuple[str, ...]]) -> list[tuple[str, tuple[str, ...]]]:
-    return [(target, sources) for sources in lists for target in schema.categories]
+def remembered(facts: Facts, ask: Callable[[Key, float], Value]) -> Callable[[Key, float], Value]:
+    """The same question, which isn't asked again where its answer came before."""
+
+    def once(key: Key, left: float) -> Value:
+        return facts.answers[key] if key in facts.answers else ask(key, left)
+
+    return once

@@ -7,7 +7,7 @@ they stop with a `Fault`.
 import csv
 import io
 import re
-from dataclasses import dataclass
+from dataclasses import dataclass, replace
 
 from .program import Fault
 
@@ -34,6 +34,12 @@ class Schema:
     @property
     def categories(self) -> tuple[str, ...]:
         return (*self.declared, ALL)
+
+    @property
+    def bottoms(self) -> tuple[str, ...]:
+        """The categories that are no edge's parent: facts stand at their members."""
+        above = {parent for _, parent in self.edges}
+        return tuple(category for category in self.declared if category not in above)
 
 
 @dataclass(frozen=True)
@@ -97,6 +103,15 @@ def schema_of(text: str) -> Schema:
         else:
             raise Fault(f"this line of a canonical schema isn't known: {line}", 70)
     return Schema(tuple(declared), tuple(edges), tuple(constraints))
+
+
+def in_own_words(schema: Schema, text: str) -> Schema:
+    """The schema with each formula as it stands in the user's text, whose constraints are a line each."""
+    lines = [line.removesuffix("\r") for line in text.split("\n") if line.split()[:1] == ["constraint"]]
+    if len(lines) != len(schema.constraints):
+        raise Fault(f"the program knows {len(schema.constraints)} constraints, and {len(lines)} were read", 70)
+    own = tuple(Constraint(one.root, line.partition(":")[2].strip()) for one, line in zip(schema.constraints, lines))
+    return replace(schema, constraints=own)
 
 
 def frozen_of(line: str, schema: Schema) -> Frozen:

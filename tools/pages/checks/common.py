@@ -8,6 +8,7 @@ import subprocess
 import sys
 import xml.etree.ElementTree as ET
 from dataclasses import dataclass, field
+from functools import cache
 from html.parser import HTMLParser
 from pathlib import Path
 
@@ -50,11 +51,13 @@ def tool(name: str, *words: str, folder: Path = EXAMPLES, **environment: str) ->
 # Schemas and frozen lines.
 
 
+@cache
 def edges_of(schema: Path) -> list[tuple[str, str]]:
     lines = [line.split() for line in olap("format", str(schema))[1].splitlines()]
     return [(words[1], words[2]) for words in lines if words[0] == "edge"]
 
 
+@cache
 def categories_of(schema: Path) -> list[str]:
     lines = [line.split() for line in olap("format", str(schema))[1].splitlines()]
     return [words[1] for words in lines if words[0] == "category"] + ["All"]
@@ -76,6 +79,8 @@ class Drawn:
     nodes: dict[str, str]
     edges: list[str]
     ways: set[str] = field(default_factory=set)
+    bad: set[str] = field(default_factory=set)
+    kinds: dict[str, str] = field(default_factory=dict)  # of each edge
 
 
 def picture_of(svg: ET.Element) -> Drawn:
@@ -87,6 +92,8 @@ def picture_of(svg: ET.Element) -> Drawn:
         elif kinds[:1] == ["edge"]:
             drawn.edges.append(title)
             drawn.ways |= {title} if "way" in kinds else set()
+            drawn.bad |= {title} if "bad" in kinds else set()
+            drawn.kinds[title] = kinds[-1]
     return drawn
 
 
@@ -124,10 +131,10 @@ def differs_from_counterexample(drawn: Drawn, text: str, edges: list[tuple[str, 
     """The same of a counterexample: members, edges, the fact, the target, and as many sources with the fact as the views say."""
     lines = text.splitlines()
     (_, root, _), (_, target, _), (_, _, views) = (line.split() for line in lines[-3:])
-    marked = {told: text for told, text in drawn.nodes.items() if "target: direct 1" in text}
+    marked = {told: text for told, text in drawn.nodes.items() if "instead of 1" in text}
     if [told.split()[0].rstrip(",") for told in marked] != [target.replace("All", "all")]:
         return f"the picture's target is {list(marked)}"
-    if f"from the views: {views}" not in next(iter(marked.values())):
+    if f"from the views: {views.replace('none', 'nothing')} instead of 1" not in next(iter(marked.values())):
         return f"the target's text is {list(marked.values())}"
     if sum("source: has the fact" in text for text in drawn.nodes.values()) != (0 if views == "none" else int(views)):
         return f"the views are {views}, and the picture's sources are others"
@@ -135,9 +142,18 @@ def differs_from_counterexample(drawn: Drawn, text: str, edges: list[tuple[str, 
         return "the fact isn't where the program says"
     if drawn.ways != {f"the fact lies at {root}", *ways_to(target, lines[1], edges)}:
         return f"the fact's ways are {drawn.ways}"
-    plain = {re.sub(r", (target: |source: ).*", "", told): text for told, text in drawn.nodes.items() if "a fact of" not in told}
-    texts = {told: re.sub(r"(target: |source: ).*", "", text) for told, text in plain.items()}
-    rest = [edge for edge in drawn.edges if edge != f"the fact lies at {root}"]
+    there = {told: text for told, text in drawn.nodes.items() if "a fact of" not in told and "no member here" not in told}
+    plain = {re.sub(r", (target|source: ).*", "", told): text for told, text in there.items()}
+    texts = {told: re.sub(r"(targetfrom |source: ).*", "", text) for told, text in plain.items()}
+    absent = [told.split(",")[0] for told in drawn.nodes if "no member here" in told]
+    if set(absent) & set(named(lines[1])):
+        return f"the picture has no member of {absent}"
+    seeing = {told.split()[0].rstrip(",").replace("all", "All") for told, text in there.items() if "source: has the fact" in text}
+    adding = {f"the view of {source} adds the fact to {target}" for source in seeing - {target}}
+    if {edge for edge in drawn.edges if edge.startswith("the view of")} != adding:
+        return f"the picture's sources add by {drawn.edges}"
+    others = ("the fact lies at", "the view of")
+    rest = [edge for edge in drawn.edges if not edge.startswith(others) and "would lie below" not in edge]
     return differs_from_frozen(Drawn(drawn.name, texts, rest), lines[1], edges)
 
 

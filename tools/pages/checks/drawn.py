@@ -25,12 +25,15 @@ def schema_faults(schema: str) -> Iterator[str]:
     svg, wrong = drawn("schema", schema)
     yield from wrong
     picture, edges = picture_of(svg), edges_of(Path(schema))
-    categories = [told.split()[1] for told in picture.nodes if told.startswith("category ")]
+    categories = [told.split()[1].rstrip(":") for told in picture.nodes if told.startswith("category ")]
     if sorted(categories) != sorted(categories_of(Path(schema))):
         yield f"its categories are {categories}"
+    bottoms = {told.split()[1].rstrip(":") for told, text in picture.nodes.items() if "facts stand here" in text}
+    if bottoms != {child for child, _ in edges} - {parent for _, parent in edges}:
+        yield f"facts stand at {bottoms}"
     if sorted(edge for edge in picture.edges if edge.startswith("edge ")) != sorted(f"edge {c} {p}" for c, p in edges):
         yield f"its edges are {picture.edges}"
-    said = [line.split(" ", 1)[1] for line in olap("format", schema)[1].splitlines() if line.startswith("constraint ")]
+    said = [line.split(" ", 1)[1] for line in (EXAMPLES / schema).read_text().splitlines() if line.startswith("constraint ")]
     notes = " ".join(told for told in picture.nodes if told.startswith("constraints of "))
     for number, constraint in enumerate(said, 1):
         if f"{number}: {constraint.split(': ', 1)[1]}" not in notes:
@@ -78,6 +81,9 @@ def instance_faults(schema: str, instance: str) -> Iterator[str]:
         yield f"its members are {list(picture.nodes)}"
     if sorted(picture.edges) != sorted(f"{row['id']} to {parent}" for row in rows for parent in row["parents"].split(";")):
         yield f"its edges are {picture.edges}"
+    bad = sorted(title for title in picture.bad if " to " in title)
+    if bad != (["s1 to to", "s1 to w"] if "broken" in instance else []):
+        yield f"its faults are {bad}"
     if olap("check", schema, instance)[1].strip() not in picture.name:
         yield f"its name is {picture.name}"
 

@@ -7,8 +7,8 @@ from concurrent.futures import ThreadPoolExecutor
 from pathlib import Path
 from typing import Iterator
 
-from .common import (EXAMPLES, Element, categories_of, differs_from_counterexample, differs_from_frozen, edges_of, olap, page_of,
-                     picture_faults, picture_of, pictures_of_page, tool)
+from .common import (EXAMPLES, TOP, Element, categories_of, differs_from_counterexample, differs_from_frozen, edges_of, named, olap,
+                     page_of, picture_faults, picture_of, pictures_of_page, tool)
 
 FORBIDDEN = {"script", "link", "img", "iframe", "object", "embed", "base", "form", "image", "use", "foreignobject"}
 
@@ -48,43 +48,101 @@ def said_faults(top: Element, file: Path) -> Iterator[str]:
         yield "its findings aren't those of the audit"
 
 
+def joined(lines: list[str]) -> list[str]:
+    """The first of those that differ in names alone, and how many others there are."""
+    groups: dict[tuple, list[str]] = {}
+    for line in lines:
+        groups.setdefault((line.split()[1], *named(line)), []).append(line)
+    others = {1: "", 2: "   and 1 other list of names"}
+    return [some[0] + others.get(len(some), f"   and {len(some) - 1:,} other lists of names") for some in groups.values()]
+
+
 def ways_faults(top: Element, text: str, file: Path) -> Iterator[str]:
-    """The lines below each category's head, and the pictures of them."""
+    """The lines below each category's head, and the pictures of them; those of the lowest categories aren't folded."""
     drawn = {picture.name: picture for picture in map(picture_of, pictures_of_page(text))}
-    parts = [part for part in top.all(id="frozen")[0].parts if isinstance(part, Element)]
+    section = top.all(id="frozen")[0]
+    folded = [part for each in section.all("details") for part in each.parts]
     below: dict[str, list[str]] = {}
-    for part in parts:
+    for part in [each for each in [*section.parts, *folded] if isinstance(each, Element)]:
         if part.tag == "h3":
             category = part.text()
             below[category] = []
+            if (part in folded) is (category in bottoms_of(file)):
+                yield f"{category} is folded, or isn't"
         elif part.tag == "pre":
             below[category] = part.text().splitlines()
-    for category in categories_of(file):
+    for category in categories_of(file)[:-1]:
         lines = olap("frozen", str(file), category)[1].splitlines()[:-1]
-        if below.get(category) != lines:
+        if below.get(category) != joined(lines)[:50]:
             yield f"the lines of {category} aren't the program's"
-        for number, line in enumerate(lines[:6], 1):
+        for number, line in enumerate((each.split("   and ")[0] for each in joined(lines)[:6]), 1):
             name = f"Frozen dimension {number} of {category}"
             wrong = differs_from_frozen(drawn[name], line, edges_of(file)) if name in drawn else "isn't drawn"
             if wrong:
                 yield f"{name}: {wrong}"
 
 
+def bottoms_of(file: Path) -> set[str]:
+    edges = edges_of(file)
+    return {child for child, _ in edges} - {parent for _, parent in edges}
+
+
+def below(file: Path, target: str) -> set[str]:
+    """The categories below the target."""
+    found: set[str] = set()
+    while more := {child for child, parent in edges_of(file) if parent in found | {target}} - found:
+        found |= more
+    return found
+
+
+def edge_faults(text: str, file: Path) -> Iterator[str]:
+    """Edges are solid where each member takes them, dashed where not, dotted where no way of a lowest category does."""
+    ways = [line.split()[1] for bottom in sorted(bottoms_of(file)) for line in olap("frozen", str(file), bottom)[1].splitlines()[:-1]]
+    kinds = next(picture for picture in map(picture_of, pictures_of_page(text)) if picture.name.startswith("Schema")).kinds
+    found = {" ".join(title.split(":")[0].split()[1:]): kind for title, kind in kinds.items() if title.startswith("edge ")}
+    for number, (child, parent) in enumerate(edges_of(file)):
+        always = olap("implies", str(file), child, f"{child}_{parent}")[0] == 0
+        kind = ("always" if always else "sometimes") if any(way[number] == "1" for way in ways) else "idle"
+        if found.get(f"{child} {parent}") != kind:
+            yield f"the edge {child} {parent} is drawn as {found.get(f'{child} {parent}')}, and not as {kind}"
+
+
+def enough_faults(top: Element, file: Path) -> Iterator[str]:
+    """The first table against tools/least."""
+    found = {}
+    for row in top.all(id="enough")[0].all("tbody")[0].all("tr"):
+        found[row.all("th")[0].text()] = [each.text().split(" + ") for each in row.all("span", **{"class": "list"})]
+    for target in categories_of(file):
+        said = [line.partition(" from ")[2].split() for line in tool("least", str(file), target).stdout.splitlines()]
+        if (below(file, target) and target not in found) or found.get(target, said) != said[:8]:
+            yield f"of {target} it says {found.get(target)}, and least {said}"
+
+
+def alarm_faults(top: Element, file: Path) -> Iterator[str]:
+    """A lowest category without members is told above all, and where none has members there are no tables."""
+    barren = {each for each in bottoms_of(file) if olap("satisfiable", str(file), each)[0] == 1}
+    told = [each.text() for each in top.all("p", **{"class": "alarm"})]
+    if bool(told) is not bool(barren) or any(each not in told[0] for each in barren):
+        yield f"{barren} can't have a member, and it says {told}"
+    if barren == bottoms_of(file) and (top.all("table") or top.all("td")):
+        yield "it has tables where there can be no fact"
+
+
 def cells_of(top: Element) -> dict[tuple[str, tuple[str, ...]], Element]:
     cells = {}
-    for table in top.all("table"):
+    for table in [each for each in top.all("table") if each.all("caption")]:
         targets = [each.text() for each in table.all("thead")[0].all("th")[1:]]
         for row in table.all("tbody")[0].all("tr"):
             sources = tuple(row.all("th")[0].text().split(" and "))
             cells |= {(target, sources): cell for target, cell in zip(targets, row.all("td"), strict=True)}
-    return cells
+    return {key: cell for key, cell in cells.items() if cell.attributes.get("class") != "other"}
 
 
 def cell_faults(top: Element, text: str, file: Path, sample: int = 1) -> Iterator[str]:
     """Each answer of the tables against the program, asked anew, and the counterexample that a no leads to."""
     cells, edges = cells_of(top), edges_of(file)
     drawn = {picture.name.split(":")[0]: picture for picture in map(picture_of, pictures_of_page(text))}
-    places = {each.attributes["id"]: each for each in top.all("details") if "id" in each.attributes}
+    places = {each.all("p")[0].attributes["id"]: each for each in top.all("details") if each.all("p") and "id" in each.all("p")[0].attributes}
     answered = [key for key, cell in cells.items() if cell.text() != "no answer"][::sample]
     with ThreadPoolExecutor() as pool:
         answers = pool.map(lambda key: olap("summarizable", str(file), key[0], *key[1]), answered)
@@ -104,7 +162,8 @@ def cell_faults(top: Element, text: str, file: Path, sample: int = 1) -> Iterato
                 yield f"{what}: its counterexample is another"
             if " and ".join(sources) not in re.split(r"; |: |\.$", place.all("p")[0].text()):
                 yield f"{what}: its counterexample doesn't name the sources"
-            wrong = differs_from_counterexample(drawn[f"Counterexample {place.attributes['id'].removeprefix('no-')}"], said, edges)
+            anchor = cell.all("a")[0].attributes["href"].removeprefix("#no-")
+            wrong = differs_from_counterexample(drawn[f"Counterexample {anchor}"], said, edges)
             if wrong:
                 yield f"{what}: {wrong}"
 
@@ -121,10 +180,15 @@ def page_faults(file: Path) -> Iterator[str]:
         yield from picture_faults(svg)
     yield from said_faults(top, file)
     yield from ways_faults(top, done.stdout, file)
-    categories = categories_of(file)
-    wanted = len(categories) * (len(categories) + len(list(itertools.combinations(categories, 2))))
-    if len(cells_of(top)) != wanted or any(cell.text() == "no answer" for cell in cells_of(top).values()):
-        yield f"its tables have {len(cells_of(top))} cells, and not {wanted} answers"
+    yield from edge_faults(done.stdout, file)
+    yield from alarm_faults(top, file)
+    if top.all(**{"class": "alarm"}) and not top.all("table"):
+        return
+    yield from enough_faults(top, file)
+    lower = {target: [each for each in categories_of(file) if each in below(file, target)] for target in categories_of(file)}
+    wanted = {(target, some) for target, each in lower.items() for size in (1, 2) for some in itertools.combinations(each, size)}
+    if set(cells_of(top)) != wanted or any(cell.text() == "no answer" for cell in cells_of(top).values()):
+        yield f"its tables have {len(cells_of(top))} cells, and not {len(wanted)} answers"
     yield from cell_faults(top, done.stdout, file)
 
 
@@ -158,12 +222,13 @@ def large_faults() -> Iterator[str]:
         top, wrong = page_of(done.stdout)
         yield from wrong
         yield from shape_faults(top, done.stdout)
-        if done.returncode != 0 or len(cells_of(top)) != 64 * 64 or "Pairs weren't asked" not in top.text():
+        wanted = sum(len(below(file, target)) for target in categories_of(file))
+        if done.returncode != 0 or len(cells_of(top)) != wanted or "Pairs weren't asked" not in top.text():
             yield f"status {done.returncode}, {len(cells_of(top))} cells"
         yield from cell_faults(top, done.stdout, file, 200)
 
 
 def faults() -> Iterator[str]:
-    for file in sorted(EXAMPLES.glob("*/schema.txt")):
+    for file in [*sorted(EXAMPLES.glob("*/schema.txt")), TOP / "recipes" / "partitions" / "schema.txt"]:
         yield from (f"report {file.parent.name}: {wrong}" for wrong in page_faults(file))
     yield from (f"report on a large schema: {wrong}" for wrong in large_faults())
