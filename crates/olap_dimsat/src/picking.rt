@@ -103,7 +103,12 @@ fn highest_open(
 }
 
 // The first of these edges in declaration order, or, where there are scores, the one of the highest.
-fn pick_among(a: &Asker<'_>, trail: &Trail, scores: &[u32], among: Option<Categories>) -> Option<Lit>
+fn pick_among(
+    a: &Asker<'_>,
+    trail: &Trail,
+    scores: &[u32],
+    among: Option<Categories>,
+) -> Option<Lit>
     requires task { IsTask (task_of a.now) }
     requires variables { length (values_of trail.now) ≡ a.now.layout.now.variables }
     ensures { IfSome result (λ l. IsOpen trail.now l) }

@@ -241,7 +241,11 @@ fn assumptions_are_followed(rt: HostRuntime) {
                 let found = is_found_with(&rt, rt.alloc(), &clauses, lit);
                 let one = Vec::from_slice(rt.alloc(), &[lit]).expect(&rt, "memory");
                 clauses.push(one).expect(&rt, "memory");
-                assert_eq!(rt; found, is_satisfiable(&clauses), "seed {seed}, {variable} {positive}");
+                assert_eq!(rt;
+                    found,
+                    is_satisfiable(&clauses),
+                    "seed {seed}, {variable} {positive}"
+                );
             }
         }
     }
@@ -251,7 +255,9 @@ fn assumptions_are_followed(rt: HostRuntime) {
 // must be true.
 fn pigeons_and_facts(rt: &impl Abort, alloc: Global) -> Vec<Vec<Lit>> {
     let mut clauses = pigeons(rt, alloc, 6, 5);
-    clauses.push(clause_of(rt, alloc, &[31])).expect(rt, "memory");
+    clauses
+        .push(clause_of(rt, alloc, &[31]))
+        .expect(rt, "memory");
     for variable in 31..130 {
         let clause = clause_of(rt, alloc, &[-variable, variable + 1]);
         clauses.push(clause).expect(rt, "memory");
@@ -283,7 +289,10 @@ fn little_is_learned_from_few_conflicts(rt: HostRuntime) {
         }
         assert!(rt; !engine.exists(&reader, &mut Refusals(0)));
         let effort = engine.effort();
-        assert!(rt; 0 < effort.conflicts && effort.conflicts < 720, "{effort:?}");
+        assert!(rt;
+            0 < effort.conflicts && effort.conflicts < 720,
+            "{effort:?}"
+        );
         assert!(rt; effort.literals < 30 * effort.conflicts, "{effort:?}");
     }
 }
