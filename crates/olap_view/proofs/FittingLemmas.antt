@@ -8,6 +8,7 @@ use Rattle.std.proofs.lemmas.List.{length-map}
 use Rattle.std.proofs.lemmas.List.Elements.{All-cons, All-filter, All-map, All-nil}
 use Rattle.olap_base.specs.Reaching.{reaches}
 use Rattle.olap_base.specs.Instance.{Instance}
+use Rattle.olap_base.specs.Limits.{most_count}
 use Rattle.olap_base.specs.Summaries.{Summary}
 use Rattle.olap_base.specs.Views.{Fact, direct_rows, members_of, row_at, total_of_facts, values_at}
 use Rattle.olap_view.specs.Bounds.{IsOfValues}
@@ -40,7 +41,7 @@ total_is_of_values i facts y a =
     short = let e = length-map (filter (λ (f : Fact). reaches i f.member y) facts) (λ (f : Fact). f.value) in
         let l = filter_short (λ (f : Fact). reaches i f.member y) facts in omega arith
 
-row_stored : (y n : ℕ) (o : Option Summary) → n < 2 ^ 32 → IfSome o (IsOfValues n) → IfSome (row_at y o) IsStored
+row_stored : (y n : ℕ) (o : Option Summary) → n ≤ most_count → IfSome o (IsOfValues n) → IfSome (row_at y o) IsStored
 row_stored y n None h q = tt
 row_stored y n (Some s) h q =
     let u = q.up_to in let a = u.count in let b = u.sum_from in let d = u.sum_to in record {
@@ -61,7 +62,7 @@ filter_map_all : {A B : Type 0} (P : B → Type 0) (h : A → Option B) (xs : Li
 filter_map_all P h [] f = All-nil P
 filter_map_all P h (x ∷ xs) f = cons_all P (h x) (filter_map h xs) (f x) (filter_map_all P h xs f)
 
-pub direct_stored : (i : Instance) (c : ℕ) (facts : List Fact) → length facts < 2 ^ 32
+pub direct_stored : (i : Instance) (c : ℕ) (facts : List Fact) → length facts ≤ most_count
     → All (λ f. SFits w64 f.value) facts → All IsStored (direct_rows i c facts)
 direct_stored i c facts h a = filter_map_all IsStored (λ y. row_at y (total_of_facts i facts y)) (members_of i c)
     (λ y. row_stored y (length facts) (total_of_facts i facts y) h (total_is_of_values i facts y a))

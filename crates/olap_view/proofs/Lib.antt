@@ -1,19 +1,19 @@
 -- Lemmas.
-pub mod PrintingLemmas
+mod PrintingLemmas
 pub mod SeenLemmas
-pub mod StoresLemmas
-pub mod SummaryLemmas
-pub mod TableLemmas
-pub mod ViewingLemmas
+mod StoresLemmas
+mod SummaryLemmas
+mod TableLemmas
+mod ViewingLemmas
 pub mod FittingLemmas
-pub mod TallyLemmas
-pub mod MergingLemmas
-pub mod RollingUpLemmas
-pub mod StoredNumbersLemmas
-pub mod StoreReadingLemmas
-pub mod JudgingLemmas
-pub mod StoreTextLemmas
-pub mod FileOrderLemmas
-pub mod StoreLemmas
-pub mod StoreLawLemmas
-pub mod PrintedStoreLemmas
+mod TallyLemmas
+mod MergingLemmas
+mod RollingUpLemmas
+mod StoredNumbersLemmas
+mod StoreReadingLemmas
+mod JudgingLemmas
+mod StoreTextLemmas
+mod FileOrderLemmas
+mod StoreLemmas
+mod StoreLawLemmas
+mod PrintedStoreLemmas

@@ -8,6 +8,7 @@ use Rattle.std.proofs.lemmas.List.{append-nil, map-append}
 use Rattle.std.proofs.lemmas.List.Elements.{All-filter, filter-append}
 use Rattle.olap_base.specs.Reaching.{reaches}
 use Rattle.olap_base.specs.Instance.{Instance, category_of}
+use Rattle.olap_base.specs.Limits.{most_count, most_sum}
 use Rattle.olap_base.specs.Summaries.{Summary, total, ◌⊕◌}
 use Rattle.olap_base.specs.Views.{Row}
 use Rattle.olap_base.proofs.TotalLemmas.{total_push, ⊕_none}
@@ -20,7 +21,7 @@ use Rattle.olap_view.proofs.FittingLemmas.{filter_short}
 use Rattle.olap_view.proofs.SummaryLemmas.{stored_up_to, total_of_stored, up_to_more}
 
 pub stored_small : (r : Row) → IsStored r → IsUpTo (2 ^ 62) (2 ^ 120) r.summary
-stored_small r q = up_to_more (2 ^ 32) (2 ^ 95) (2 ^ 62) (2 ^ 120) r.summary (omega arith) (omega arith)
+stored_small r q = up_to_more most_count most_sum (2 ^ 62) (2 ^ 120) r.summary (omega arith) (omega arith)
     (stored_up_to r q)
 
 pub merged_start : (i : Instance) (t : Table) → ((y : ℕ) → summary_at t y ≡ None) → AreMerged i [] t
@@ -71,9 +72,9 @@ holds_room i rows t h q a c k y m e =
     short = filter_short (λ (r : Row). reaches i r.member y) rows
 
     go : (o : Option Summary)
-        → IfSome o (IsUpTo (length (reaching i rows y) * 2 ^ 32) (length (reaching i rows y) * 2 ^ 95))
+        → IfSome o (IsUpTo (length (reaching i rows y) * most_count) (length (reaching i rows y) * most_sum))
         → IfSome o (IsUpTo (2 ^ 62) (2 ^ 120))
     go None u = u
     go (Some s) u = let l = short in
-        up_to_more (length (reaching i rows y) * 2 ^ 32) (length (reaching i rows y) * 2 ^ 95) (2 ^ 62) (2 ^ 120) s
-        (omega arith) (omega arith) u
+        up_to_more (length (reaching i rows y) * most_count) (length (reaching i rows y) * most_sum) (2 ^ 62) (2 ^ 120)
+        s (omega arith) (omega arith) u

@@ -7,6 +7,7 @@ use Rattle.std.proofs.Common.{◌≡◌, ◌≢◌, ◌+◌, ◌<◌, ◌≤◌,
 use Rattle.std.specs.Prelude.{All, AllPairs}
 use Rattle.std.specs.List.{list_any}
 use Rattle.std.specs.Option.{option_or}
+use Rattle.std.proofs.lemmas.Bool.{or_from}
 use Rattle.std.proofs.lemmas.Bool.Decides.{Decides-eqb, nat_tests}
 use Rattle.std.proofs.lemmas.Fmt.{decimal_is_IsNumeral_wide}
 use Rattle.std.proofs.lemmas.List.{append-nil, get_or-map, length-append, length-map, map-append}
@@ -60,9 +61,6 @@ found : (p q : Bool) (x : Record) (r : Row) (o : Option Record) (s : Option Row)
     → option_and_then summary_read (cond p (Some x) o) ≡ option_map (λ (t : Row). t.summary) (cond q (Some r) s)
 found p true x r o s e h k = rw e h
 found p false x r o s e h k = rw e k
-
-or-false : (b c : Bool) → b ≡ false → c ≡ false → b || c ≡ false
-or-false b c e f = rw (e, f) refl
 
 or-true : (b : Bool) → b || true ≡ true
 or-true true = refl
@@ -259,7 +257,7 @@ module _ (g : Graph) (i : Instance) (hierarchy : IsHierarchy g) (sound : IsInsta
       ∙ any-more (λ e. e == other) (begun g before) c false (fails c c other refl (a.0 k d l))
       ∙ ap (λ b. b || false) (new (suc k) d (omega arith)))
       (λ k d l y e. list_any-append (is_row_of i y) before (records_of_one g i v)
-      ∙ or-false (list_any (is_row_of i y) before) (list_any (is_row_of i y) (records_of_one g i v))
+      ∙ or_from (list_any (is_row_of i y) before) (list_any (is_row_of i y) (records_of_one g i v))
       (none (suc k) d (omega arith) y e) (elsewhere v good y (λ q. a.0 k d l (sym q ∙ e)))))))
 
   -- ---- each row at its member

@@ -1,6 +1,7 @@
 -- The views of a table that tells the records of a text: those that the records stand for, which a store may hold.
 --     views-told      the views are those that the records stand for
 --     views-sound     a store may hold them
+--     views-ordered   their rows stand in file order
 use Rattle.std.proofs.Common.{◌≡◌, ◌≢◌, ◌∷◌, ◌∙◌, [], ℕ, List, length, get_or, map, Option, Some, None, IfSome, refl, sym, ap, subst, arith}
 use Rattle.std.specs.Prelude.{All, AllPairs}
 use Rattle.std.proofs.lemmas.List.Elements.{All-map}
@@ -8,9 +9,9 @@ use Rattle.olap_base.specs.Graph.{Graph, IsCategory}
 use Rattle.olap_base.specs.Instance.{Instance}
 use Rattle.olap_base.specs.Summaries.{Summary}
 use Rattle.olap_base.specs.Views.{View, members_of, row_at}
-use Rattle.olap_view.specs.StoreReading.{IsSoundStore, IsStoredAt, Record, Tells}
+use Rattle.olap_view.specs.StoreReading.{IsStoredAt, Record, Tells}
 use Rattle.olap_view.specs.StoreText.{begun, view_read, views_read, row_read}
-use Rattle.olap_view.specs.Stores.{Fits, IsInFileOrder, IsStored}
+use Rattle.olap_view.specs.Stores.{Fits, IsInFileOrder, IsSoundStore, IsStored}
 use Rattle.olap_view.specs.Tables.{categories_of, summary_at, view_in}
 use Rattle.olap_view.specs.declared.tables.Table.{Table}
 use Rattle.olap_view.proofs.FileOrderLemmas.{all-rows, each-in-order, store-of}
@@ -39,8 +40,8 @@ module _ (g : Graph) (i : Instance) (rows : List Record) (t : Table) (h : Tells 
       stored y None e = e
       stored y (Some s) e = e
 
-  ordered : All (IsInFileOrder i) (map (view_in i t) (categories_of t))
-  ordered = each-in-order i (summary_at t) (categories_of t)
+  pub views-ordered : All (IsInFileOrder i) (map (view_in i t) (categories_of t))
+  views-ordered = each-in-order i (summary_at t) (categories_of t)
 
   pub views-sound : IsSoundStore g i (map (view_in i t) (categories_of t))
   views-sound = record {
@@ -50,6 +51,5 @@ module _ (g : Graph) (i : Instance) (rows : List Record) (t : Table) (h : Tells 
     fit = All-map Fits (view_in i t) (categories_of t) (λ k d l. stored-in (get_or (categories_of t) k d));
     categories = All-map (λ (v : View). IsCategory g v.category) (view_in i t) (categories_of t)
         (subst (All (IsCategory g)) (sym h.categories) h.known);
-    at_members = λ k d l m e w. ((ordered k d l).members m e w).0;
-    order = ordered;
+    at_members = λ k d l m e w. ((views-ordered k d l).members m e w).0;
   }

@@ -8,6 +8,7 @@ use Rattle.std.specs.Prelude.{All, int_lt}
 use mir.Val.{SFits}
 use Rattle.std.proofs.lemmas.Int.{ints, to_z-of_z}
 use Rattle.std.proofs.lemmas.List.Elements.{All-head, All-tail}
+use Rattle.olap_base.specs.Limits.{most_count, most_sum}
 use Rattle.olap_base.specs.Summaries.{Summary, joined, of_value, total, ◌⊕◌}
 use Rattle.olap_base.specs.Views.{Row}
 use Rattle.olap_view.specs.Bounds.{IsOfValues, IsUpTo}
@@ -34,25 +35,25 @@ joined_up_to n m k l s t u v =
 
 -- ---- rows that are stored
 
-pub stored_up_to : (r : Row) → IsStored r → IsUpTo (2 ^ 32) (2 ^ 95) r.summary
+pub stored_up_to : (r : Row) → IsStored r → IsUpTo most_count most_sum r.summary
 stored_up_to r q = let a = q.few in record { count = omega arith; sum_from = q.sum_from; sum_to = q.sum_to }
 
 pub total_of_stored : (rows : List Row) → All IsStored rows
-    → IfSome (total (map (λ r. r.summary) rows)) (IsUpTo (length rows * 2 ^ 32) (length rows * 2 ^ 95))
+    → IfSome (total (map (λ r. r.summary) rows)) (IsUpTo (length rows * most_count) (length rows * most_sum))
 total_of_stored [] a = tt
 total_of_stored (r ∷ rows) a =
     go (total (map (λ (q : Row). q.summary) rows)) (total_of_stored rows (All-tail IsStored r rows a))
   where
-    one : IsUpTo (2 ^ 32) (2 ^ 95) r.summary
+    one : IsUpTo most_count most_sum r.summary
     one = stored_up_to r (All-head IsStored r rows a)
 
-    go : (o : Option Summary) → IfSome o (IsUpTo (length rows * 2 ^ 32) (length rows * 2 ^ 95))
-        → IfSome (Some r.summary ⊕ o) (IsUpTo (suc (length rows) * 2 ^ 32) (suc (length rows) * 2 ^ 95))
-    go None h = up_to_more (2 ^ 32) (2 ^ 95) (suc (length rows) * 2 ^ 32) (suc (length rows) * 2 ^ 95) r.summary
+    go : (o : Option Summary) → IfSome o (IsUpTo (length rows * most_count) (length rows * most_sum))
+        → IfSome (Some r.summary ⊕ o) (IsUpTo (suc (length rows) * most_count) (suc (length rows) * most_sum))
+    go None h = up_to_more most_count most_sum (suc (length rows) * most_count) (suc (length rows) * most_sum) r.summary
         (omega arith) (omega arith) one
-    go (Some s) h = up_to_more (2 ^ 32 + length rows * 2 ^ 32) (2 ^ 95 + length rows * 2 ^ 95)
-        (suc (length rows) * 2 ^ 32) (suc (length rows) * 2 ^ 95) (joined r.summary s) (omega arith) (omega arith)
-        (joined_up_to (2 ^ 32) (2 ^ 95) (length rows * 2 ^ 32) (length rows * 2 ^ 95) r.summary s one h)
+    go (Some s) h = up_to_more (most_count + length rows * most_count) (most_sum + length rows * most_sum)
+        (suc (length rows) * most_count) (suc (length rows) * most_sum) (joined r.summary s) (omega arith) (omega arith)
+        (joined_up_to most_count most_sum (length rows * most_count) (length rows * most_sum) r.summary s one h)
 
 -- ---- values of 64 bits
 

@@ -2,16 +2,18 @@
 --     stands_start, stands_more    no fact, and one fact more
 --     tally_start, tally_more      what is true of every tally
 --     tally_room                   no sum wraps
---     view_is, view_stored         the views
-use Rattle.std.proofs.Common.{◌≡◌, ◌≢◌, ℕ, ◌+◌, ◌*◌, ◌^◌, ◌<◌, List, [], ◌∷◌, ◌++◌, length, map, Bool, true, false, cond, refl, ap, sym, subst, ◌∙◌, arith, Option, Some, None, IfSome, w64, length-append}
-use Rattle.std.specs.Prelude.{AllPairs, Contains, filter}
+--     view_is, view_stored         the view of a category
+--     views_are, views_stored      the views of all of them
+use Rattle.std.proofs.Common.{◌≡◌, ◌≢◌, ℕ, ◌+◌, ◌*◌, ◌^◌, ◌<◌, ◌≤◌, List, [], ◌∷◌, ◌++◌, length, get_or, map, Bool, true, false, cond, refl, ap, sym, subst, ◌∙◌, arith, Option, Some, None, IfSome, w64, length-append}
+use Rattle.std.specs.Prelude.{All, AllPairs, Contains, filter}
 use Rattle.std.specs.List.{range_with_len}
 use mir.Val.{SFits}
 use Rattle.std.proofs.lemmas.List.{append-nil, get_or-map, map-append}
 use Rattle.std.proofs.lemmas.List.FromFn.{get_or-range_with_len, length-range_with_len}
-use Rattle.std.proofs.lemmas.List.Elements.{All-push, All-nil, filter-append}
+use Rattle.std.proofs.lemmas.List.Elements.{All-map, All-push, All-nil, Contains-get_or, filter-append}
 use Rattle.olap_base.specs.Reaching.{reaches}
 use Rattle.olap_base.specs.Instance.{Instance, category_of}
+use Rattle.olap_base.specs.Limits.{most_count}
 use Rattle.olap_base.specs.Summaries.{Summary, of_value, total, ◌⊕◌}
 use Rattle.olap_base.specs.Views.{Fact, View, direct_view, row_at, total_of_facts, values_at}
 use Rattle.olap_base.proofs.TotalLemmas.{total_push, ⊕_none}
@@ -23,7 +25,7 @@ use Rattle.olap_view.specs.declared.tables.Table.{Table}
 use Rattle.olap_view.proofs.FittingLemmas.{direct_stored, total_is_of_values}
 use Rattle.olap_view.proofs.SummaryLemmas.{up_to_more}
 use Rattle.olap_view.proofs.TableLemmas.{places_kept}
-use Rattle.olap_view.proofs.ViewingLemmas.{rows_same}
+use Rattle.olap_view.proofs.ViewingLemmas.{map_same, rows_same}
 
 -- what stands at a member
 tallied_is : (i : Instance) (t : Table) (n y : ℕ) → y < length i → tallied_at (tallied i t n) y ≡ summary_at t y
@@ -90,7 +92,7 @@ tally_start i t p d e = record {
   stands = stands_start i t e;
 }
 
-pub tally_more : (i : Instance) (t u : Table) (n : ℕ) (f : Fact) → n + 1 < 2 ^ 32 → SFits w64 f.value
+pub tally_more : (i : Instance) (t u : Table) (n : ℕ) (f : Fact) → n + 1 ≤ most_count → SFits w64 f.value
     → AreJoined i f.member (of_value f.value) t u → IsTally i t n → IsTally i u (n + 1)
 tally_more i t u n f h v j q = record {
   places = places_kept i t u j.same_categories j.same_places j.same_length q.places;
@@ -128,3 +130,13 @@ pub view_stored : (i : Instance) (t : Table) (n c : ℕ) → Contains (categorie
     → Fits (view_in i t c)
 view_stored i t n c k q = subst (λ (v : View). Fits v) (sym (view_is i t n c q.facts k q.stands))
     (direct_stored i c q.facts (let a = q.few in let b = q.stands.added in omega arith) q.values)
+
+module _ (i : Instance) (t : Table) (n : ℕ) where
+  pub views_are : (facts : List Fact) → StandsFor (tallied i t n) facts
+      → map (view_in i t) (categories_of t) ≡ map (direct_view i facts) (categories_of t)
+  views_are facts s = map_same (view_in i t) (direct_view i facts) (categories_of t)
+      (λ c k. view_is i t n c facts k s)
+
+  pub views_stored : IsTally i t n → All Fits (map (view_in i t) (categories_of t))
+  views_stored q = All-map Fits (view_in i t) (categories_of t)
+      (λ k d l. view_stored i t n (get_or (categories_of t) k d) (Contains-get_or (categories_of t) k d l) q)

@@ -1,5 +1,5 @@
 -- The rows of a category, member by member.
-use Rattle.std.proofs.Common.{◌≡◌, ◌≢◌, ℕ, zero, suc, ◌+◌, List, [], ◌∷◌, ◌++◌, Bool, true, false, cond, refl, ap, sym, ◌∙◌, arith, Option, Some, None}
+use Rattle.std.proofs.Common.{◌≡◌, ◌≢◌, ℕ, zero, suc, ◌+◌, List, [], ◌∷◌, ◌++◌, map, Bool, true, false, cond, refl, ap, sym, ◌∙◌, arith, Option, Some, None}
 use Rattle.std.specs.Prelude.{◌==◌, Contains, IfOk, Result, Ok, Err, filter, filter_map}
 use Rattle.std.specs.List.{cons_option, range_with_len}
 use Rattle.std.proofs.lemmas.Bool.Decides.{nat_tests}
@@ -45,6 +45,12 @@ pub filter_map_same : {A B : Type 0} (h k : A → Option B) (xs : List A) → ((
 filter_map_same h k [] f = refl
 filter_map_same h k (x ∷ xs) f = ap (λ o. cons_option o (filter_map h xs)) (f x (contains_head x xs))
     ∙ ap (cons_option (k x)) (filter_map_same h k xs (λ y c. f y (contains_cons y xs x c)))
+
+pub map_same : {A B : Type 0} (h k : A → B) (xs : List A) → ((x : A) → Contains xs x → h x ≡ k x)
+    → map h xs ≡ map k xs
+map_same h k [] f = refl
+map_same h k (x ∷ xs) f = ap (λ y. y ∷ map h xs) (f x (contains_head x xs))
+    ∙ ap (λ ys. k x ∷ ys) (map_same h k xs (λ y c. f y (contains_cons y xs x c)))
 
 pub passes : (a b c : ℕ) → a ≡ b → a ≡ c → (b == c) ≡ true
 passes a b c e f = grind (arith, nat_tests)

@@ -2,11 +2,11 @@
 --     PrintedNumbersAreRead   the numbers of a printed row are read as they were
 --     PrintedStoresAreRead    printed views are read as they were
 --     DirectViewsAreReadBack  so are direct views
-use Rattle.std.specs.Prelude.{◌≡◌, ◌≢◌, ◌<◌, ◌≤◌, ◌∷◌, ◌^◌, ℕ, List, length, All, AllPairs, FitsSigned, Some, Ok}
+use Rattle.std.specs.Prelude.{◌≡◌, ◌≢◌, ◌≤◌, ◌∷◌, ℕ, List, length, All, AllPairs, FitsSigned, Some, Ok}
 use Rattle.std.specs.Int.{w64}
 use Rattle.olap_base.specs.Graph.{Graph, IsCategory, IsHierarchy}
 use Rattle.olap_base.specs.Instance.{Instance, IsInstance}
-use Rattle.olap_base.specs.Limits.{most_views}
+use Rattle.olap_base.specs.Limits.{most_count, most_views}
 use Rattle.olap_base.specs.Views.{Fact, Row, View, direct_views}
 use Rattle.olap_view.specs.StoreText.{records_of_store, store_read, summary_read}
 use Rattle.olap_view.specs.Stores.{Fits, IsInFileOrder, IsStore, IsStored}
@@ -23,9 +23,10 @@ PrintedStoresAreRead = (g : Graph) (i : Instance) (views : List View) → IsHier
     → All Fits views → All (λ v. IsCategory g v.category) views → All (IsInFileOrder i) views
     → store_read g i (records_of_store g i views) ≡ Ok views
 
--- so are the direct views of a few categories, where the facts are fewer than 2 ^ 32 and their values of 64 bits
+-- so are the direct views of a few categories, if the facts are no more than a stored row may count, and their values
+-- of 64 bits
 abbrev pub DirectViewsAreReadBack : Type 0
 DirectViewsAreReadBack = (g : Graph) (i : Instance) (facts : List Fact) (categories : List ℕ) → IsHierarchy g
-    → IsInstance i → length facts < 2 ^ 32 → All (λ f. FitsSigned w64 f.value) facts
+    → IsInstance i → length facts ≤ most_count → All (λ f. FitsSigned w64 f.value) facts
     → length categories ≤ most_views → AllPairs ◌≢◌ categories → All (IsCategory g) categories
     → store_read g i (records_of_store g i (direct_views i facts categories)) ≡ Ok (direct_views i facts categories)

@@ -7,7 +7,6 @@
 --     IsRowFor          a record without a fault is a row
 --     Says              what a record without a fault says
 --     IsInside          a row's member is one of the members
---     IsSoundStore      views that may be stored, of categories of the graph, with rows at members in file order
 --     IsStoreFaultOf    the refusal tells the first fault of the records after the header
 use Rattle.std.specs.Prelude.{◌≡◌, ◌≢◌, ◌==◌, ◌+◌, ◌<◌, ◌≤◌, ⊤, true, false, ℕ, List, length, count_by, find, All, AllPairs, IfSome, Option, Some, is_some}
 use Rattle.std.specs.List.{list_any}
@@ -16,10 +15,9 @@ use Rattle.olap_base.specs.Graph.{Graph, IsCategory}
 use Rattle.olap_base.specs.Instance.{Instance, IsMember}
 use Rattle.olap_base.specs.Limits.{most_views}
 use Rattle.olap_base.specs.Summaries.{Summary}
-use Rattle.olap_base.specs.Views.{View}
 use Rattle.olap_view.specs.Seen.{summary_of}
 use Rattle.olap_view.specs.StoreText.{begun, category_number, is_beginning, is_row_of, member_number, summary_read}
-use Rattle.olap_view.specs.Stores.{Fits, IsInFileOrder, IsStore, IsStored}
+use Rattle.olap_view.specs.Stores.{IsStored}
 use Rattle.olap_view.specs.Tables.{categories_of, place_in, summary_at}
 use Rattle.olap_view.specs.declared.judging.Entry.{Entry}
 use Rattle.olap_view.specs.declared.judging.Entry.TheVariants as entry
@@ -90,11 +88,3 @@ IsInside n (entry.Row m s) = m.0 < n
 abbrev pub IsStoreFaultOf : Option (ℕ × StoreKind) → StoreRefusal → Type 0
 IsStoreFaultOf fault (refusal.Fault at kind) = (i : ℕ) × (at ≡ i + 2) × (fault ≡ Some (i, kind))
 IsStoreFaultOf fault refusal.Memory = ⊤
-
--- views that a store may hold, each of a category of the graph, with rows that may be stored, at members in file order
-pub record IsSoundStore (g : Graph) (i : Instance) (views : List View) : Type 0 where
-  pub store : IsStore views
-  pub fit : All Fits views
-  pub categories : All (λ v. IsCategory g v.category) views
-  pub at_members : All (λ v. All (λ r. r.member < length i) v.rows) views
-  pub order : All (IsInFileOrder i) views

@@ -4,10 +4,11 @@
 --     StandsFor        it stands for a fact table
 --     tallied          what a tally over a table has counted
 --     IsTally          what is true of every tally's table
-use Rattle.std.specs.Prelude.{◌≡◌, ◌≢◌, ℕ, ◌<◌, ◌^◌, List, length, map, slice_index_or, All, AllPairs, FitsSigned, Option, None}
+use Rattle.std.specs.Prelude.{◌≡◌, ◌≢◌, ℕ, ◌≤◌, List, length, map, slice_index_or, All, AllPairs, FitsSigned, Option, None}
 use Rattle.std.specs.List.{range_with_len}
 use Rattle.std.specs.Int.{w64}
 use Rattle.olap_base.specs.Instance.{Instance}
+use Rattle.olap_base.specs.Limits.{most_count}
 use Rattle.olap_base.specs.Summaries.{Summary}
 use Rattle.olap_base.specs.Views.{Fact, total_of_facts}
 use Rattle.olap_view.specs.Tables.{HasPlaces, IsAmong, categories_of, summary_at}
@@ -44,7 +45,7 @@ tallied i t n = record {
 pub record IsTally (i : Instance) (t : Table) (n : ℕ) : Type 0 where
   pub places : HasPlaces i t
   pub differ : AllPairs ◌≢◌ (categories_of t)
-  pub few : n < 2 ^ 32
+  pub few : n ≤ most_count
   pub facts : List Fact
   pub values : All (λ f. FitsSigned w64 f.value) facts
   pub stands : StandsFor (tallied i t n) facts

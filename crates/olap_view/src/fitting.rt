@@ -1,20 +1,16 @@
 // Whether a view may be stored.
-ghost use Rattle.std.specs.Prelude.{◌≡◌, ◌↔◌, ◌<◌, ◌≤◌, ◌^◌, ◌≤ℤ◌, ℕ, All, IsTrue, neg_ℤ, pos};
+ghost use Rattle.std.specs.Prelude.{◌≡◌, ◌↔◌, ◌≤◌, ◌≤ℤ◌, ℕ, All, IsTrue, neg_ℤ, pos};
+ghost use Rattle.olap_base.specs.Limits.{most_count, most_sum};
 ghost use Rattle.olap_view.specs.Seen.{row_of, rows_of, view_of};
 ghost use Rattle.olap_view.specs.StoredNumbers.{is_sum};
 ghost use Rattle.olap_view.specs.Stores.{Fits, IsStored};
 
 use crate::{Row, View};
-
-/// The greatest count of a stored row.
-const MOST_COUNT: u64 = 4_294_967_295;
-
-/// The greatest magnitude of a stored row's sum: 2^95.
-const MOST_SUM: i128 = 39_614_081_257_132_168_796_771_975_168;
+use olap_base::{MOST_COUNT, MOST_SUM};
 
 /// Whether a stored row may have this count.
 pub(crate) fn count_fits(count: u64) -> bool
-    ensures { IsTrue result ↔ ((1 ≤ count) × (count < 2 ^ 32)) }
+    ensures { IsTrue result ↔ ((1 ≤ count) × (count ≤ most_count)) }
 {
     1 <= count && count <= MOST_COUNT
 }
@@ -22,7 +18,7 @@ pub(crate) fn count_fits(count: u64) -> bool
 /// Whether a stored row may have this sum.
 pub(crate) fn sum_fits(sum: i128) -> bool
     ensures value { result ≡ is_sum sum }
-    ensures bounds { IsTrue result ↔ ((neg_ℤ (pos (2 ^ 95)) ≤ℤ sum) × (sum ≤ℤ pos (2 ^ 95))) }
+    ensures bounds { IsTrue result ↔ ((neg_ℤ (pos most_sum) ≤ℤ sum) × (sum ≤ℤ pos most_sum)) }
 {
     -MOST_SUM <= sum && sum <= MOST_SUM
 }
@@ -47,8 +43,8 @@ fn rows_fit(rows: &[Row]) -> bool
 }
 
 impl View {
-    /// Whether the view may be stored: each row has a count from 1 to 4,294,967,295, and a sum of magnitude
-    /// at most 2^95.
+    /// Whether the view may be stored: each row has a count from 1 to `MOST_COUNT`, and a sum of magnitude at most
+    /// `MOST_SUM`.
     pub fn fits(&self) -> bool
         ensures { IsTrue result ↔ Fits (view_of self.now) }
     {

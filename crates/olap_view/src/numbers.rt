@@ -1,6 +1,7 @@
 // The numbers of stored rows, as fields spell them.
 ghost use Rattle.std.specs.Option.{option_map};
-ghost use Rattle.std.specs.Prelude.{◌≡◌, ◌==◌, ◌<◌, ◌≤◌, ◌^◌, ◌≤ℤ◌, ℕ, IfSome, length, neg_ℤ, pos, slice_index};
+ghost use Rattle.std.specs.Prelude.{◌≡◌, ◌==◌, ◌<◌, ◌≤◌, ◌≤ℤ◌, ℕ, IfSome, length, neg_ℤ, pos, slice_index};
+ghost use Rattle.olap_base.specs.Limits.{most_count, most_sum};
 ghost use Rattle.olap_view.specs.NumbersInside.{digits_of, wide_of};
 ghost use Rattle.olap_view.specs.Seen.{summary_of};
 ghost use Rattle.olap_view.specs.StoreReading.{IsStoredAt};
@@ -37,7 +38,7 @@ fn digits(field: &[u8]) -> Option<u64>
 /// The count that a field spells.
 fn count(field: &[u8]) -> Option<u64>
     ensures value { result ≡ count_of field.now }
-    ensures bounds { IfSome result (λ n. (1 ≤ n) × (n < 2 ^ 32)) }
+    ensures bounds { IfSome result (λ n. (1 ≤ n) × (n ≤ most_count)) }
 {
     match digits(field) {
         Some(n) if count_fits(n) => Some(n),
@@ -58,7 +59,7 @@ fn wide(field: &[u8]) -> Option<i128>
 /// The sum that a field spells.
 fn sum(field: &[u8]) -> Option<i128>
     ensures value { result ≡ sum_of field.now }
-    ensures bounds { IfSome result (λ z. (neg_ℤ (pos (2 ^ 95)) ≤ℤ z) × (z ≤ℤ pos (2 ^ 95))) }
+    ensures bounds { IfSome result (λ z. (neg_ℤ (pos most_sum) ≤ℤ z) × (z ≤ℤ pos most_sum)) }
 {
     match wide(field) {
         Some(z) if sum_fits(z) => Some(z),

@@ -8,9 +8,9 @@ ghost use Rattle.olap_records.specs.Records.{records_of};
 ghost use Rattle.olap_records.specs.Texts.{text_of_rows};
 ghost use Rattle.olap_view.specs.Kinds.{IsStoreRefusedBy};
 ghost use Rattle.olap_view.specs.Seen.{each_view_of, rows_of, views_of};
-ghost use Rattle.olap_view.specs.StoreReading.{IsSoundStore, IsStoreFaultOf, Tells};
+ghost use Rattle.olap_view.specs.StoreReading.{IsStoreFaultOf, Tells};
 ghost use Rattle.olap_view.specs.StoreText.{has_header, records_behind, records_of_store, store_fault, store_read, store_text, views_read};
-ghost use Rattle.olap_view.specs.Stores.{Fits, IsInFileOrder, IsStore};
+ghost use Rattle.olap_view.specs.Stores.{IsInFileOrder, IsSoundStore};
 
 use crate::judging::{enter, judge};
 use crate::printing::print_row;
@@ -79,7 +79,7 @@ fn recall(graph: &Graph, instance: &Instance)
 
 /// The text of stored views: a header, and for each view a record that begins it and a record for each row, with the
 /// category's name, the member's id and the four numbers in decimal. Its records read back as these, and reading it
-/// gives the same store, where the views fit and their rows stand in file order. `Memory`: want of memory.
+/// gives the same store, if it is sound and its rows stand in file order. `Memory`: want of memory.
 pub fn print_store(
     alloc: Global,
     graph: &Graph,
@@ -93,7 +93,7 @@ pub fn print_store(
     ensures reads { IfOk result (λ text. records_of text
         ≡ records_of_store graph.now instance.now (views_of store.now)) }
 
-    ensures reads_back { IsStore (views_of store.now) → All Fits (views_of store.now)
+    ensures reads_back { IsSoundStore graph.now instance.now (views_of store.now)
         → All (IsInFileOrder instance.now) (views_of store.now)
         → IfOk result (λ text. store_read graph.now instance.now (records_of text)
         ≡ Ok (views_of store.now)) }
@@ -158,6 +158,7 @@ fn read_views(
         × (each_view_of v ≡ views_read graph.now instance.now rows.old.left))
         (λ e. IsStoreFaultOf (first_fault (store_fault graph.now instance.now) [] rows.old.left) e) }
     ensures sound { IfOk result (λ v. IsSoundStore graph.now instance.now (each_view_of v)) }
+    ensures order { IfOk result (λ v. All (IsInFileOrder instance.now) (each_view_of v)) }
 {
     let mut table = Table::open(alloc, instance)?;
     read_rows(graph, instance, rows, &mut table)?;
@@ -179,11 +180,7 @@ pub fn read_store(
         (λ store. store_read graph.now instance.now (records_of text.now) ≡ Ok (views_of store))
         (λ e. IsStoreRefusedBy e (store_read graph.now instance.now (records_of text.now))) }
 
-    ensures store { IfOk result (λ store. IsStore (views_of store)) }
-    ensures fit { IfOk result (λ store. All Fits (views_of store)) }
-    ensures categories { IfOk result (λ store. All (λ v. IsCategory graph.now v.category) (views_of store)) }
-    ensures at_members { IfOk result (λ store.
-        All (λ v. All (λ r. r.member < length instance.now) v.rows) (views_of store)) }
+    ensures sound { IfOk result (λ store. IsSoundStore graph.now instance.now (views_of store)) }
     ensures order { IfOk result (λ store. All (IsInFileOrder instance.now) (views_of store)) }
 {
     let mut rows = Rows::new(alloc, text);

@@ -180,7 +180,9 @@ impl Table {
     /// The view of each of the categories, in their order.
     pub(crate) fn views(&self, alloc: Global, instance: &Instance) -> Result<List<View>, Memory>
         requires places { HasPlaces instance.now self.now }
-        ensures { IfOk result (λ v. each_view_of v ≡ map (view_in instance.now self.now) (categories_of self.now)) }
+        ensures views { IfOk result
+            (λ v. each_view_of v ≡ map (view_in instance.now self.now) (categories_of self.now)) }
+        ensures members { IfOk result (λ v. All (λ w. All (λ r. r.member.0 < length instance.now) w.rows) v) }
     {
         let mut views = Vec::new(alloc);
         'categories: for c in &self.categories {

@@ -1,5 +1,6 @@
 // Tallies: facts are added one at a time, and give the direct views of some categories.
 ghost use Rattle.std.specs.Prelude.{◌≡◌, ◌≢◌, ◌+◌, ◌∷◌, ◌++◌, ◌<◌, ◌^◌, ℕ, All, AllPairs, Contains, IfOk, List as Items, [], length, map};
+ghost use Rattle.olap_base.specs.Limits.{most_count};
 ghost use Rattle.olap_base.specs.Views.{Fact as TheFact, direct_view};
 ghost use Rattle.olap_facts.specs.Seen.{fact_of};
 ghost use Rattle.olap_view.specs.Seen.{each_view_of, ids, view_of};
@@ -62,7 +63,7 @@ impl<'a> Tally<'a> {
     /// the ancestors of the fact's member for each category.
     pub fn add(&mut self, fact: &Fact)
         requires member { fact.now.member.0 < length self.old.instance }
-        requires room { self.old.added < 4294967295 }
+        requires room { self.old.added < most_count }
         ensures instance { self.new.instance ≡ self.old.instance }
         ensures categories { self.new.categories ≡ self.old.categories }
         ensures added { self.new.added ≡ self.old.added + 1 }
@@ -94,11 +95,6 @@ impl<'a> Tally<'a> {
         ensures members { IfOk result (λ v. All (λ w. All (λ r. r.member.0 < length self.entry.instance) w.rows) v) }
         ensures fit { IfOk result (λ v. All Fits (each_view_of v)) }
     {
-        let mut views = Vec::new(self.alloc);
-        'categories: for k in 0..self.table.categories.len() {
-            let view = self.view(self.table.categories[k])?;
-            views.push(view)?;
-        }
-        Ok(List::from_vec(views))
+        self.table.views(self.alloc, self.legal.instance())
     }
 }

@@ -1,7 +1,7 @@
 // The view of a category, from facts or from stored views.
 ghost use Rattle.std.specs.Int.{bit_at};
 ghost use Rattle.std.specs.Prelude.{◌≡◌, ◌≢◌, ◌==◌, ◌++◌, ◌<◌, ◌≤◌, ◌*◌, ◌^◌, ℕ, All, AllPairs, IfOk, List as Items, length};
-ghost use Rattle.olap_base.specs.Limits.{most_members};
+ghost use Rattle.olap_base.specs.Limits.{most_count, most_members};
 ghost use Rattle.olap_base.specs.Views.{Row as TheRow, direct_view, rows_from_views};
 ghost use Rattle.olap_facts.specs.Seen.{facts_of};
 ghost use Rattle.olap_view.specs.Merging.{AreMerged, HoldsRows};
@@ -22,7 +22,7 @@ use std::alloc::Global;
 /// It takes the memory of a tally, and one look at a table for each fact. `Memory`: want of memory.
 pub fn direct(alloc: Global, legal: &Legal, facts: &Facts, c: CatId) -> Result<View, Memory>
     requires at_members { All (λ f. f.member.0 < length legal.now) facts.now.rows }
-    requires few { length facts.now.rows < 2 ^ 32 }
+    requires few { length facts.now.rows ≤ most_count }
 
     ensures view { IfOk result (λ v. view_of v ≡ direct_view legal.now (facts_of facts.now) c.0) }
     ensures members { IfOk result (λ v. All (λ r. r.member.0 < length legal.now) v.rows) }

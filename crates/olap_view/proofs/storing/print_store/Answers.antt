@@ -18,6 +18,6 @@ returns-clause-reads_back c =
     let i = c.args.instance.now in
     let views = views_of c.args.store.now in
     let known = c.recall.ensures in
-    λ store fit order. ap (store_read g i) (ap records_of (c.from_vec.ensures ∙ c.in_ok-print.ensures)
+    λ sound order. ap (store_read g i) (ap records_of (c.from_vec.ensures ∙ c.in_ok-print.ensures)
     ∙ store-reads g i views)
-    ∙ printed-stores g i views known.hierarchy known.sound store fit c.requires.categories order
+    ∙ printed-stores g i views known.hierarchy known.sound sound.store sound.fit sound.categories order

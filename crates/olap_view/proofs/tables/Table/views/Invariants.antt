@@ -1,9 +1,12 @@
 -- The views of the categories so far.
-use Rattle.std.proofs.Common.{◌≡◌, map, take}
+use Rattle.std.proofs.Common.{◌≡◌, ◌<◌, length, map, take}
+use Rattle.std.specs.Prelude.{All}
 use Rattle.olap_view.specs.Seen.{each_view_of, ids}
 use Rattle.olap_view.specs.Tables.{view_in}
 use Rattle.olap_view.proofs.tables.Table.views.Given as goal
 
 abbrev pub invariant-categories : goal.invariant-categories
-invariant-categories l = each_view_of l.views.items
-    ≡ map (view_in l.instance l.self) (ids (take l.c-index l.self.categories.items))
+invariant-categories l = record {
+  views : each_view_of l.views.items ≡ map (view_in l.instance l.self) (ids (take l.c-index l.self.categories.items));
+  members : All (λ w. All (λ r. r.member.0 < length l.instance) w.rows) l.views.items;
+}

@@ -1,7 +1,8 @@
 -- One fact more.
-use Rattle.std.proofs.Common.{◌+◌, ◌<◌, ◌^◌, ap, sym, subst, ◌∙◌, arith, rules, w64}
+use Rattle.std.proofs.Common.{◌+◌, ◌≤◌, ap, sym, subst, ◌∙◌, arith, rules, w64}
 use mir.Val.{SFits}
 use Rattle.std.proofs.lemmas.Int.{to_z-of_z}
+use Rattle.olap_base.specs.Limits.{most_count}
 use Rattle.olap_base.specs.Summaries.{Summary, of_value}
 use Rattle.olap_facts.specs.Seen.{fact_of}
 use Rattle.olap_view.specs.Tables.{AreJoined}
@@ -16,7 +17,7 @@ join-requires-clause-room c =
 pub invariant_of-self : goal.invariant_of-self
 invariant_of-self c =
     let a = c.self.inside in
-    let few : c.self.inside.added + 1 < 2 ^ 32 =
+    let few : c.self.inside.added + 1 ≤ most_count =
     let r = c.requires.room in let e = ap (λ (t : Tallied). t.added) c.self.view_is in omega arith in
     let fits : SFits w64 c.args.fact.now.value = search rules in
     tally_more a.legal.now a.table c.join.new.self a.added (fact_of c.args.fact.now) few fits
