@@ -7,7 +7,7 @@ ghost use Rattle.olap_nav.specs.Plans.{IsPlan, Serves, categories_of, rows_in};
 ghost use Rattle.olap_nav.specs.declared.choice.PlanRefusal.TheVariants as refusal;
 ghost use Rattle.olap_schema.specs.Schemas.{schema_of};
 ghost use Rattle.olap_view.specs.Seen.{view_of, views_of};
-ghost use Rattle.olap_view.specs.Stores.{Fits, IsStore, chosen};
+ghost use Rattle.olap_view.specs.Stores.{IsSoundStore, chosen};
 
 use crate::choice::{Plan, PlanRefusal};
 use crate::planning::plan;
@@ -30,10 +30,7 @@ pub fn answer(
 ) -> Result<(Plan, View), PlanRefusal>
     requires target { IsCategory (schema_of schema.now).graph target.0 }
     requires legal { IsLegal (schema_of schema.now) legal.now }
-    requires store { IsStore (views_of store.now) }
-    requires fit { All Fits (views_of store.now) }
-    requires categories { All (λ v. IsCategory (schema_of schema.now).graph v.category) (views_of store.now) }
-    requires at_members { All (λ v. All (λ r. r.member < length legal.now) v.rows) (views_of store.now) }
+    requires sound { IsSoundStore (schema_of schema.now).graph legal.now (views_of store.now) }
 
     ensures plan { IfOk result (λ a. IsPlan (schema_of schema.now) (views_of store.now) target.0 a.0.mask) }
     ensures rows { IfOk result (λ a. a.0.rows ≡ rows_in (views_of store.now) a.0.mask) }

@@ -6,7 +6,7 @@ ghost use Rattle.olap_nav.specs.PlanText.{plan_text};
 ghost use Rattle.olap_nav.specs.Plans.{sources_in};
 ghost use Rattle.olap_schema.specs.Schemas.{schema_of};
 ghost use Rattle.olap_view.specs.Seen.{view_of, views_of};
-ghost use Rattle.olap_view.specs.Stores.{Fits, IsStore};
+ghost use Rattle.olap_view.specs.Stores.{IsSoundStore, IsStore};
 ghost use Rattle.olap_view.specs.ViewText.{view_text};
 ghost use Rattle.olap_run.specs.Commands.{answer_order};
 ghost use Rattle.olap_run.specs.Judged.{Judged, Replies};
@@ -55,10 +55,7 @@ fn answered(
 ) -> Result<Reply, Stop>
     requires target { IsCategory (schema_of schema.now).graph target.0 }
     requires legal { IsLegal (schema_of schema.now) legal.now }
-    requires store { IsStore (views_of store.now) }
-    requires fit { All Fits (views_of store.now) }
-    requires categories { All (λ v. IsCategory (schema_of schema.now).graph v.category) (views_of store.now) }
-    requires at_members { All (λ v. All (λ r. r.member < length legal.now) v.rows) (views_of store.now) }
+    requires sound { IsSoundStore (schema_of schema.now).graph legal.now (views_of store.now) }
     ensures replies { Replies IsAnswer
         (Done (ByPlan (schema_of schema.now) legal.now (views_of store.now) target.0)) result }
 {

@@ -1,14 +1,13 @@
 // The steps of an order that read a file.
-ghost use Rattle.std.specs.Prelude.{◌≡◌, ◌<◌, ◌≤◌, All, length, false, IfOk, IsErrOf, IsTrue, MatchOption, ⊤};
+ghost use Rattle.std.specs.Prelude.{◌≡◌, ◌≤◌, length, false, IfOk, IsErrOf, IsTrue, MatchOption, ⊤};
 ghost use Rattle.olap_base.specs.Faults.{Rose};
 ghost use Rattle.olap_base.specs.Files.{Asks, IsContent, IsLonger, Lacks};
 ghost use Rattle.olap_base.specs.Limits.{most_file_bytes};
 ghost use Rattle.olap_ast.specs.Schema.{IsLegal};
 ghost use Rattle.olap_instance.specs.Made.{IsMadeFor};
 ghost use Rattle.olap_schema.specs.Schemas.{schema_of};
-ghost use Rattle.olap_base.specs.Graph.{IsCategory};
 ghost use Rattle.olap_view.specs.Seen.{views_of};
-ghost use Rattle.olap_view.specs.Stores.{Fits, IsStore};
+ghost use Rattle.olap_view.specs.Stores.{IsSoundStore};
 ghost use Rattle.olap_run.specs.Judged.{IsLater};
 ghost use Rattle.olap_run.specs.Steps.{legal_file, schema_file, store_file};
 ghost use Rattle.olap_run.specs.Taken.{FileStep};
@@ -128,12 +127,8 @@ pub(crate) fn store_in<L: Library>(
     requires made { IsMadeFor (schema_of schema.now).graph legal.now }
     ensures step { FileStep L.Library lib.old lib.new
         (store_file (schema_of schema.now) legal.now label.now file.now) views_of result }
-    ensures store { IfOk result (λ store. IsStore (views_of store)) }
-    ensures fit { IfOk result (λ store. All Fits (views_of store)) }
-    ensures categories { IfOk result (λ store.
-        All (λ v. IsCategory (schema_of schema.now).graph v.category) (views_of store)) }
-    ensures at_members { IfOk result (λ store.
-        All (λ v. All (λ r. r.member < length legal.now) v.rows) (views_of store)) }
+    ensures sound { IfOk result (λ store.
+        IsSoundStore (schema_of schema.now).graph legal.now (views_of store)) }
 {
     let Some(text) = read_file(alloc, file, lib)? else {
         return Err(refuse_long(alloc, label));
