@@ -1,8 +1,9 @@
 -- What the counts and the sums of rows come to, row by row.
 --     no_row                 what stands in no place of a list of rows
 --     next_count, next_sum   the bounds of the next row's numbers
-use Rattle.std.proofs.Common.{ℕ, pos, neg_ℤ, ◌<◌, ◌^◌, ◌≤ℤ◌, List, length, get_or}
+use Rattle.std.proofs.Common.{ℕ, pos, neg_ℤ, ◌<◌, ◌≤◌, ◌≤ℤ◌, List, length, get_or}
 use Rattle.std.specs.Prelude.{All}
+use Rattle.olap_base.specs.Limits.{most_count, most_sum}
 use Rattle.olap_view.specs.Seen.{row_of, rows_of}
 use Rattle.olap_view.specs.Stores.{IsStored}
 use Rattle.olap_view.specs.declared.views.Row.{Row}
@@ -15,8 +16,8 @@ module _ (rows : List Row) (fit : All IsStored (rows_of rows)) (k : ℕ) (h : k 
   next : IsStored (row_of (get_or rows k no_row))
   next = each_row IsStored rows k no_row h fit
 
-  pub next_count : (get_or rows k no_row).count < 2 ^ 32
+  pub next_count : (get_or rows k no_row).count ≤ most_count
   next_count = next.few
 
-  pub next_sum : (neg_ℤ (pos (2 ^ 95)) ≤ℤ (get_or rows k no_row).sum) × ((get_or rows k no_row).sum ≤ℤ pos (2 ^ 95))
+  pub next_sum : (neg_ℤ (pos most_sum) ≤ℤ (get_or rows k no_row).sum) × ((get_or rows k no_row).sum ≤ℤ pos most_sum)
   next_sum = (next.sum_from, next.sum_to)

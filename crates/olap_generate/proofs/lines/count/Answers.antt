@@ -1,4 +1,4 @@
--- No count passes 2 ^ 32, and there are few rows.
+-- No count passes `most_count`, and there are few rows.
 use Rattle.std.proofs.Common.{ap, arith, sym, ◌+◌, ◌∙◌, ℕ, get_or}
 use Rattle.std.proofs.lemmas.List.Sums.{sum_by_more}
 use Rattle.olap_view.specs.declared.views.Row.{Row}

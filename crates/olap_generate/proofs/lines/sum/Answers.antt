@@ -1,4 +1,4 @@
--- No sum passes 2 ^ 95, and there are few rows.
+-- No sum passes `most_sum`, and there are few rows.
 use Rattle.std.proofs.Common.{◌≡◌, ap, arith, get_or, pos, sym, to_z, of_z, ◌+ℤ◌, ◌∙◌, ℤ}
 use mir.Syntax.{w128}
 use Rattle.std.proofs.lemmas.Int.{ints}
