@@ -174,7 +174,11 @@ def facts_of(program: Program, progress: Progress, most_for_pairs: int, seconds:
     def summarizable(question: tuple[str, tuple[str, ...]], left: float) -> texts.Counterexample | None:
         target, sources = question
         answer = program.must("summarizable", SCHEMA, target, *sources, ends=(0, 1), seconds=left)
-        return texts.counterexample_of(answer.text, schema) if answer.status == 1 else None
+        example = texts.counterexample_of(answer.text, schema) if answer.status == 1 else None
+        seeing = sum(example.sees(source) for source in sources) if example else 0
+        if example and seeing != (example.views or 0):
+            raise Fault(f"of {' '.join(sources) or 'no source'} {seeing} see the fact, and the program says {example.views}", 70)
+        return example
 
     def enough(target: str, left: float) -> Enough:
         end = time.monotonic() + left
