@@ -46,7 +46,7 @@ use Rattle.olap_cex.proofs.PresentLemmas.{nowhere, place_counts, present_more}
 abbrev underscores : ℕ → List ℕ
 underscores n = replicate n 95
 
-fresh_is_utf8 : (n : ℕ) → IsTrue (is_utf8 (fresh_candidate n))
+pub fresh_is_utf8 : (n : ℕ) → IsTrue (is_utf8 (fresh_candidate n))
 fresh_is_utf8 n = is_utf8-from_IsUtf8 (fresh_candidate n)
     (IsUtf8-from_ascii (fresh_candidate n) (IsAscii-from_all (fresh_candidate n) all))
   where
@@ -66,7 +66,7 @@ not_semicolon b (inl (inr h)) = let l = h.0 in grind (arith, nat_tests)
 not_semicolon b (inr h) = let l = h.1 in grind (arith, nat_tests)
 
 -- a category's name is no bad id
-name_is_good : (name : List ℕ) → IsCategoryName name → is_bad_id name ≡ false
+pub name_is_good : (name : List ℕ) → IsCategoryName name → is_bad_id name ≡ false
 name_is_good [] h = absurd h
 name_is_good (b ∷ rest) h =
     let e : (length (b ∷ rest) == 0) ≡ false = grind (arith, nat_tests) in

@@ -9,3 +9,4 @@ mod PlaceLemmas
 mod CountLemmas
 mod CexLemmas
 mod LawLemmas
+mod PrintedLemmas

@@ -5,3 +5,4 @@ pub mod Present
 pub mod FoundFor
 pub mod CexFor
 pub mod Laws
+pub mod PrintingLaws

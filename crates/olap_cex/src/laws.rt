@@ -1,5 +1,6 @@
 // Theorems over the definitions. Each is the clause of a function that does nothing.
 ghost use Rattle.olap_cex.specs.Laws.{CounterexampleSums, FrozenIsLegal, QuestionIsTrue, RootIsMember};
+ghost use Rattle.olap_cex.specs.PrintingLaws.{PrintedFrozenDimensionsAreRead, PrintedInstancesAreRead};
 
 /// The instance that a frozen dimension stands for is legal.
 pub fn frozen_is_legal()
@@ -20,4 +21,16 @@ pub fn question_is_true()
 /// in the view from the sources' views.
 pub fn counterexample_sums_differ()
     ensures { CounterexampleSums }
+{}
+
+/// What is printed of an instance that a text may stand for, with no more members than there may be, is read as that
+/// instance, by the definition of reading.
+pub fn printed_instances_are_read()
+    ensures { PrintedInstancesAreRead }
+{}
+
+/// What is printed of the instance of a frozen dimension whose names are short enough for a file is read as that
+/// instance, by the definition of reading. The schema is valid, and the constants are UTF-8.
+pub fn printed_frozen_dimensions_are_read()
+    ensures { PrintedFrozenDimensionsAreRead }
 {}

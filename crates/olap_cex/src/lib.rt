@@ -12,6 +12,9 @@ mod members;
 mod thawing;
 
 pub use counterexamples::{Cex, counterexample, print_cex};
-pub use laws::{counterexample_sums_differ, frozen_is_legal, question_is_true, root_is_member};
+pub use laws::{
+    counterexample_sums_differ, frozen_is_legal, printed_frozen_dimensions_are_read,
+    printed_instances_are_read, question_is_true, root_is_member,
+};
 pub use lines::print_frozen;
 pub use thawing::thaw;
