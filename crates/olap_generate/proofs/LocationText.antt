@@ -1,7 +1,7 @@
 -- The text of the made input's schema stands for its schema.
 --     above, Follow      what the first lines say, and that each line adds what it says
 --     location_is_read   the whole text
-use Rattle.std.proofs.Common.{◌≡◌, ◌<◌, ◌++◌, ◌∙◌, ◌+◌, ◌-◌, ℕ, zero, suc, true, List, [], ◌∷◌, None, Some, Ok, codes, take, drop, length, refl, ap, arith, lit<}
+use Rattle.std.proofs.Common.{◌≡◌, ◌<◌, ◌++◌, ◌∙◌, ◌+◌, ◌-◌, ℕ, zero, suc, true, List, [], ◌∷◌, None, Some, Ok, Err, Result, codes, take, drop, length, refl, ap, arith, lit<}
 use Rattle.std.specs.Prelude.{slice_index}
 use Rattle.std.specs.Str.{chars, is_utf8}
 use lib.Utf8.{encode}
@@ -12,11 +12,11 @@ use Rattle.olap_grammar.specs.CuttingMachine.{tokens_of}
 use Rattle.olap_grammar.specs.Machine.{the_formula}
 use Rattle.olap_grammar.specs.Words.{equality_of, id_of, pieces_of, plain_of}
 use Rattle.olap_schema.specs.Atoms.{atom_fault, is_connective, is_repeated, lacks_edge, stands_in, word_fault}
-use Rattle.olap_schema.specs.Judging.{Above, first_stuck, form_read, line_read, lines_on, nothing_above, Read, schema_read, text_ended, whole}
+use Rattle.olap_schema.specs.Judging.{Above, first_stuck, form_read, line_read, lines_on, nothing_above, Read, schema_read, statement_read, text_ended, whole}
 use Rattle.olap_schema.specs.Lines.{chomped, is_quiet, lines_of}
 use Rattle.olap_schema.specs.Statements.{statement_of}
 use Rattle.olap_schema.specs.Tokens.{is_long}
-use Rattle.olap_schema.specs.declared.statements.Version.TheVariants as version
+use Rattle.olap_grammar.specs.declared.tokens.Token.TheVariants as token
 use Rattle.olap_generate.specs.Location.{city, country, location_lines, location_text}
 use Rattle.olap_generate.proofs.Location.{location_graph, location_schema}
 use Rattle.olap_generate.proofs.LocationGraph.{all_is, city_is, country_is, location_is_hierarchy, province_is, region_is, state_is, store_is}
@@ -44,10 +44,20 @@ nodes = 0 ∷ 3 ∷ 7 ∷ 10 ∷ 13 ∷ 16 ∷ 19 ∷ 20 ∷ []
 abbrev atom_counts : List ℕ
 atom_counts = 0 ∷ 1 ∷ 1 ∷ 2 ∷ 3 ∷ 3 ∷ 3 ∷ 4 ∷ []
 
+-- a result's value, or else this
+abbrev value_or : {A E : Type 0} → A → Result A E → A
+value_or a (Ok x) = x
+value_or a (Err e) = a
+
+-- what the version's line says
+abbrev versioned : Above
+versioned = value_or nothing_above
+    (statement_read nothing_above 1 None (statement_of (token.Word (codes "schema") ∷ token.Word (codes "1") ∷ [])))
+
 -- what the version, so many categories, so many edges and so many constraints say
 abbrev said : ℕ → ℕ → ℕ → Above
 said c e k = record {
-  version = Some version.One;
+  version = versioned.version;
   graph = record { names = take c location_graph.names; edges = take e location_graph.edges };
   category_lines = take c (2 ∷ 3 ∷ 4 ∷ 5 ∷ 6 ∷ 7 ∷ []);
   constraints = take k location_schema.constraints;
@@ -131,7 +141,7 @@ none_stuck = rw (
 ) refl
 
 pub location_is_read : schema_read location_text ≡ Ok location_schema
-unfolding schema_read
+unfolding schema_read statement_of
 location_is_read =
     ap (λ lines. text_ended (lines_on (Ok nothing_above) 0 lines)) cut ∙ ap text_ended lines_say
     ∙ ap (whole (above 23)) none_stuck
