@@ -1,5 +1,5 @@
 // What comes of the made input.
-ghost use Rattle.std.specs.Prelude.{◌≡◌, ◌++◌, ◌-◌, ◌<◌, ◌≤◌, All, IfOk, codes, decimal, length, sum_by};
+ghost use Rattle.std.specs.Prelude.{◌≡◌, ◌++◌, ◌-◌, ◌≤◌, All, IfOk, codes, decimal, length, sum_by};
 ghost use Rattle.std.specs.Fmt.{signed_decimal};
 ghost use Rattle.olap_base.specs.Graph.{IsCategory};
 ghost use Rattle.olap_base.specs.Views.{rows_from_views};
@@ -7,7 +7,7 @@ ghost use Rattle.olap_nav.specs.PlanText.{plan_text};
 ghost use Rattle.olap_nav.specs.Plans.{IsPlan, sources_in};
 ghost use Rattle.olap_schema.specs.Schemas.{schema_of};
 ghost use Rattle.olap_view.specs.Seen.{rows_of, view_of, views_of};
-ghost use Rattle.olap_view.specs.Stores.{Fits, IsStore, IsStored, chosen};
+ghost use Rattle.olap_view.specs.Stores.{IsSoundStore, IsStore, IsStored, chosen};
 ghost use Rattle.olap_generate.specs.Generated.{ShowsGenerated, counted, row_count, sum_of_rows};
 ghost use Rattle.olap_base.specs.Limits.{most_generated};
 ghost use Rattle.olap_generate.specs.Location.{region};
@@ -35,10 +35,7 @@ fn answer(
     input: &Input,
 ) -> Result<(Plan, View), Memory>
     requires views { AreMadeViews input.now.seed input.now.size (schema_of schema.now) legal.now (views_of store.now) }
-    requires store { IsStore (views_of store.now) }
-    requires fit { All Fits (views_of store.now) }
-    requires categories { All (λ v. IsCategory (schema_of schema.now).graph v.category) (views_of store.now) }
-    requires at_members { All (λ v. All (λ r. r.member < length legal.now) v.rows) (views_of store.now) }
+    requires sound { IsSoundStore (schema_of schema.now).graph legal.now (views_of store.now) }
 
     ensures plan { IfOk result (λ a. IsPlan (schema_of schema.now) (views_of store.now) region a.0.mask) }
     ensures rows { IfOk result (λ a. rows_of a.1.rows

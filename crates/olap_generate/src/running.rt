@@ -1,10 +1,9 @@
 // The way of the made input: the readers, the check, and the stored views as a text.
 ghost use Rattle.std.specs.Prelude.{◌≡◌, ◌<◌, All, IfOk, Ok, length};
-ghost use Rattle.olap_base.specs.Graph.{IsCategory};
 ghost use Rattle.olap_schema.specs.Judging.{schema_read};
 ghost use Rattle.olap_schema.specs.Schemas.{schema_of};
 ghost use Rattle.olap_view.specs.Seen.{each_view_of, views_of};
-ghost use Rattle.olap_view.specs.Stores.{Fits, IsStore};
+ghost use Rattle.olap_view.specs.Stores.{IsSoundStore};
 ghost use Rattle.olap_generate.specs.Location.{location_text};
 ghost use Rattle.olap_generate.specs.Stages.{AreMadeMembers, AreMadeViews};
 
@@ -110,12 +109,8 @@ pub(crate) fn made_store(
     requires { AreMadeMembers input.now.seed input.now.size (schema_of schema.now) legal.now }
     ensures views { IfOk result (λ store.
         AreMadeViews input.now.seed input.now.size (schema_of schema.now) legal.now (views_of store)) }
-    ensures store { IfOk result (λ store. IsStore (views_of store)) }
-    ensures fit { IfOk result (λ store. All Fits (views_of store)) }
-    ensures categories { IfOk result (λ store.
-        All (λ v. IsCategory (schema_of schema.now).graph v.category) (views_of store)) }
-    ensures at_members { IfOk result (λ store.
-        All (λ v. All (λ r. r.member < length legal.now) v.rows) (views_of store)) }
+    ensures sound { IfOk result (λ store.
+        IsSoundStore (schema_of schema.now).graph legal.now (views_of store)) }
 {
     // Called for its clause: what is printed of direct views is read as these views.
     direct_views_are_read_back();
