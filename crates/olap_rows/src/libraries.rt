@@ -1,5 +1,5 @@
 // A library whose files can be opened once each, in the order in which they are given.
-ghost use Rattle.std.specs.Prelude.{◌≤◌, None, false, is_some, length};
+ghost use Rattle.std.specs.Prelude.{◌≤◌, None, false, length};
 
 use olap_base::{Failed, Library, OpenError};
 
@@ -13,19 +13,20 @@ pub(crate) enum Content<'a> {
 }
 
 impl<'a> Content<'a> {
-    /// Fills the front of the buffer. How many bytes these are, and what is left.
-    fn fill(self, buf: &mut [u8]) -> (usize, Content<'a>)
-        ensures within { result.0 ≤ length buf.new }
+    /// Fills the buffer with what comes after so many bytes, and says how many bytes these are.
+    fn fill(self, taken: usize, buf: &mut [u8]) -> usize
+        ensures within { result ≤ length buf.new }
     {
         match self {
             Content::Bytes(bytes) => {
-                let count = bytes.len().min(buf.len());
-                buf[..count].copy_from_slice(&bytes[..count]);
-                (count, Content::Bytes(&bytes[count..]))
+                let left = &bytes[taken.min(bytes.len())..];
+                let count = left.len().min(buf.len());
+                buf[..count].copy_from_slice(&left[..count]);
+                count
             }
             Content::Endless => {
                 buf.fill(b'#');
-                (buf.len(), Content::Endless)
+                buf.len()
             }
         }
     }
@@ -34,9 +35,12 @@ impl<'a> Content<'a> {
 /// Files with their names. Only the first that wasn't opened yet can be opened: any other name is missing.
 #[derive(Drop)]
 pub(crate) struct Once<'a> {
-    unopened: &'a [(&'a str, Content<'a>)],
-    opened: Option<Content<'a>>,
-    taken: u64,
+    files: &'a [(&'a str, Content<'a>)],
+    /// How many of them were opened.
+    opened: usize,
+    /// The last of these can be read.
+    ready: bool,
+    taken: usize,
     faults: u64,
 }
 
@@ -44,8 +48,9 @@ impl<'a> Once<'a> {
     /// None of the files is opened yet.
     pub(crate) fn new(files: &'a [(&'a str, Content<'a>)]) -> Once<'a> {
         Once {
-            unopened: files,
-            opened: None,
+            files,
+            opened: 0,
+            ready: false,
             taken: 0,
             faults: 0,
         }
@@ -53,7 +58,7 @@ impl<'a> Once<'a> {
 
     /// Whether each file was opened, and nothing was refused.
     pub(crate) fn is_used_up(&self) -> bool {
-        self.unopened.is_empty() && self.faults == 0
+        self.opened == self.files.len() && self.faults == 0
     }
 }
 
@@ -64,7 +69,7 @@ impl<'a> Library for Once<'a> {
 
     ghost asked = { λ _. None };
 
-    ghost ready = { λ s. is_some s.opened };
+    ghost ready = { λ s. s.ready };
 
     ghost taken = { λ s. s.taken };
 
@@ -76,30 +81,30 @@ impl<'a> Library for Once<'a> {
 
     fn open_file(&mut self, name: &str) -> Result<(), OpenError> {
         self.taken = 0;
-        if let Some((file, others)) = self.unopened.split_first() {
-            if file.0 == name {
-                self.unopened = others;
-                self.opened = Some(file.1);
-                return Ok(());
-            }
+        let is_next = match self.files.get(self.opened) {
+            Some(file) => file.0 == name,
+            None => false,
+        };
+        self.ready = is_next;
+        if !is_next {
+            self.faults = self.faults.saturating_add(1);
+            return Err(OpenError::Missing);
         }
-        self.opened = None;
-        self.faults = self.faults.saturating_add(1);
-        Err(OpenError::Missing)
+        self.opened = self.opened.saturating_add(1);
+        Ok(())
     }
 
     fn read(&mut self, buf: &mut [u8]) -> Result<usize, Failed> {
-        let Some(content) = self.opened else {
-            unreachable!();
+        let count = match self.files.get(self.opened.saturating_sub(1)) {
+            Some(file) => file.1.fill(self.taken, buf),
+            None => 0,
         };
-        let (count, left) = content.fill(buf);
-        let Some(taken) = self.taken.checked_add(count as u64) else {
-            self.opened = None;
+        let Some(taken) = self.taken.checked_add(count) else {
+            self.ready = false;
             self.faults = self.faults.saturating_add(1);
             return Err(Failed);
         };
         self.taken = taken;
-        self.opened = Some(left);
         Ok(count)
     }
 }
