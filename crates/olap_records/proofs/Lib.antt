@@ -8,3 +8,4 @@ pub mod Seeing
 pub mod ReadingBack
 pub mod Spelling
 pub mod Printed
+mod Digits

@@ -1,7 +1,7 @@
 use Rattle.std.proofs.Common.{◌∙◌}
 use Rattle.olap_records.specs.Numbers.{is_i64}
 use Rattle.olap_records.proofs.Spelling.{i64-decides, signed-of-text, signed-parses}
-use Rattle.olap_records.proofs.numbers.value.Goals as goal
+use Rattle.olap_records.proofs.numbers.long_value.Goals as goal
 use mir.Syntax.{w64}
 
 pub returns-in-Ok : goal.returns-in-Ok
