@@ -6,7 +6,7 @@ from dataclasses import dataclass, field
 from typing import Callable, Iterator, Sequence
 
 from . import pictures, texts
-from .enough import MOST
+from .enough import MOST, Enough
 from .markup import Markup, el, many, picture
 from .pictures import counted
 from .questions import Facts, Ways
@@ -29,7 +29,7 @@ body { margin: 0 auto; max-width: 72rem; padding: 1rem; background: var(--page);
 h1 { font-size: 1.7rem; line-height: 1.25; margin: .5rem 0; } h2 { font-size: 1.35rem; margin: 2.2rem 0 .6rem; } h3 { font-size: 1.1rem; }
 a { color: var(--link); } a:focus-visible, summary:focus-visible, [tabindex]:focus-visible { outline: 3px solid var(--link);
   outline-offset: 2px; }
-:target { outline: 3px solid var(--link); outline-offset: 2px; }
+:target { outline: 3px solid var(--link); outline-offset: 2px; } details > p:target { scroll-margin-top: 3.5rem; }
 .skip { position: absolute; left: -100rem; } .skip:focus { left: 1rem; top: .5rem; background: var(--page); padding: .5rem 1rem;
   z-index: 2; }
 .hidden { position: absolute; width: 1px; height: 1px; overflow: hidden; clip-path: inset(50%); white-space: nowrap; }
@@ -50,12 +50,13 @@ th { background: var(--band); font-weight: 600; max-width: 11rem; overflow-wrap:
 tbody th { position: sticky; left: 0; min-width: 6rem; } thead th:first-child { position: sticky; left: 0; z-index: 1; }
 td { white-space: nowrap; } td.yes { color: var(--yes); font-weight: 600; } td.no a { color: var(--no); display: inline-block;
   padding: .1rem .2rem; margin: -.1rem -.2rem; }
-td.other { background: var(--none); color: var(--soft); } table.text td { white-space: normal; } .list { font-weight: 600; }
+td.other { background: var(--none); color: var(--soft); } table.text td { white-space: normal; }
+table.text thead th { max-width: none; } .list { font-weight: 600; }
 .alarm { color: var(--no); border: 2px solid var(--no); border-radius: .4rem; padding: .6rem .8rem; font-weight: 600; }
-.legend { list-style: none; padding: 0; margin: .25rem 0; } .legend li { margin: .25rem 0; } .sample { display: inline-block; width: 2.6rem;
-  border-top: 2px solid var(--text); vertical-align: middle; margin-right: .6rem; } .sample.sometimes { border-top-style: dashed; }
-.sample.idle { border-top-style: dotted; opacity: .45; } .sample.twice { border-top: 3px solid var(--no); }
-.sample.way { border-top: 3px solid var(--link); } .side { flex: 1 1 18rem; min-width: 0; }
+.legend { list-style: none; padding: 0; margin: .25rem 0; } .legend li { margin: .25rem 0; display: flex; align-items: center; gap: .6rem; }
+.sample { flex: none; width: 2.6rem; border-top: 2px solid var(--text); } .sample.sometimes { border-top-style: dashed; }
+.sample.idle { border-top-style: dotted; opacity: .45; }
+.sample.unknown { opacity: .4; } .side { flex: 1 1 18rem; min-width: 0; }
 details { border: 1px solid var(--rule); border-radius: .4rem; margin: .6rem 0; padding: 0 .75rem; }
 summary { cursor: pointer; padding: .5rem 0; font-weight: 600; }
 .lines { padding-left: 3.5rem; margin: .5rem 0; } .lines li { padding-left: .5rem; border-left: 1px solid var(--rule); min-height: 1.5em;
@@ -251,18 +252,22 @@ class Page:
 
     def enough(self) -> Markup:
         facts = self.facts
-        intro = el("p", "Keep the views of one line, and the totals by the target can be taken from them, for all facts, on every instance "
-                        "that the schema allows; whether yours is one, ", el("code", "olap check"), " says. These are the least lists of up "
-                        f"to {MOST} sources: without one of them facts are lost.")
+        intro = el("p", "The totals by a target can be taken from the views of any one of its lists, for all facts, on every instance that "
+                        "the schema allows; whether yours is one, ", el("code", "olap check"), " says. These are the least lists of up "
+                        f"to {MOST} sources: leave one out of a list, and facts may be lost.")
         head = el("thead", el("tr", el("th", "totals by", scope="col"), el("th", "can be taken from", scope="col")))
-        rows = [el("tr", el("th", target, scope="row"), el("td", self.enough_for(target))) for target in facts.targets]
+        known = {target: found for target, found in facts.enough.items() if found.lists or found.is_whole}
+        late = [target for target in facts.targets if target not in known]
+        rows = [el("tr", el("th", target, scope="row"), el("td", self.enough_for(known[target])))
+                for target in facts.targets if target in known]
+        told = el("p", f"Of {', '.join(late)} no list was found in the time of this page: ", el("code", "tools/least SCHEMA TARGET"),
+                  " looks for them.") if late else ""
         table = el("table", head, el("tbody", Markup("\n".join(rows))), class_="text")
-        return many(intro, el("div", table, class_="scroll", tabindex="0", role="group", aria_label="What is enough for each target"))
+        group = el("div", table, class_="scroll", tabindex="0", role="group", aria_label="What is enough for each target")
+        return many(many(intro, group) if rows else "", told)
 
-    def enough_for(self, target: str) -> Markup | str:
-        found = self.facts.enough.get(target)
-        if found is None:
-            return "no answer in the time of this page"
+    @staticmethod
+    def enough_for(found: Enough) -> Markup | str:
         if found.lists == [()]:
             return "no fact can reach it"
         items = [el("span", " + ".join(sources), class_="list") for sources in found.lists[:MOST_ENOUGH]]
@@ -289,9 +294,11 @@ class Page:
         else:
             notes = "A note has a category's constraints with their numbers; long ones are cut."
         caption = f"Categories and edges, from child to parent. {notes}"
-        legend = el("ul", [el("li", el("span", "", class_=f"sample {kind}"), text) for kind, text in (
-            ("always", "every member of the child takes this edge"), ("sometimes", "some may not take it"),
-            ("idle", "no fact goes this way"))], class_="legend")
+        lines = [("always", "every member of the child takes this edge"), ("sometimes", "some may not take it"),
+                 ("idle", "no fact goes this way")]
+        if set(facts.schema.edges) - facts.taken().keys():
+            lines.append(("unknown", "no answer in the time of this page"))
+        legend = el("ul", [el("li", el("span", "", class_=f"sample {kind}"), text) for kind, text in lines], class_="legend")
         items = [el("li", self.to_line(place, f"constraint {number}"), " ", el("code", f"{one.root}: {one.formula}"))
                  for number, (one, place) in enumerate(zip(facts.schema.constraints, self.places.constraints), 1)]
         constraints = el("details", el("summary", "The constraints in full"), el("ul", items)) if items else ""
@@ -423,9 +430,16 @@ class Page:
                         "The target is red, with what it gets instead of 1. Blue lines are the fact's ways up to it, and a red arrow is a "
                         "source that adds the fact to it; a source in a dashed box doesn't have the fact." +
                         (" Open one to see its picture." if folded else ""))
-        groups = [many(el("h3", f"Target {target}"), el("div", [self.counterexample(one, folded) for one in some], class_="group"))
-                  for target, some in by_target.items()]
+        groups = [many(el("h3", f"Target {target}"), self.counterexamples_of(some, folded)) for target, some in by_target.items()]
         return many(intro, groups)
+
+    def counterexamples_of(self, some: Sequence[Shown], folded: bool) -> Markup:
+        """Those of single sources one below another; those of pairs alone are many, so they are folded once more."""
+        single = [one for one in some if not folded or min(map(len, one.lists)) == 1]
+        pairs = [one for one in some if one not in single]
+        more = el("details", el("summary", f"{counted(len(pairs), 'counterexample')} for pairs of sources"),
+                  [self.counterexample(one, folded) for one in pairs]) if pairs else ""
+        return el("div", [self.counterexample(one, folded) for one in single], more, class_="group")
 
     def counterexample(self, shown: Shown, folded: bool) -> Markup:
         example = shown.example

@@ -37,7 +37,8 @@ LOOKS = {"tied": ", style=dashed, arrowhead=none", "sometimes": ", style=dashed"
 TITLE = 26  # the height of a title
 
 # How an edge of a schema is taken.
-TAKEN = {"always": "each {child} takes it", "sometimes": "some {child} may not take it", "idle": "no fact goes this way"}
+TAKEN = {"always": "each {child} takes it", "sometimes": "some {child} may not take it", "idle": "no fact goes this way",
+         "unknown": "no answer in the time of this page"}
 
 STYLE = """
 .olap { --paper: #fff; --ink: #1a1c20; --line: #4d5563; --node: #eef2f8; --rim: #5b6b85; --note: #fff6d8; --noterim: #8a6d1a;
@@ -65,6 +66,7 @@ STYLE = """
 .olap .edge.bad path, .olap .edge.twice path { stroke: var(--bad); stroke-width: 3; }
 .olap .edge.bad polygon, .olap .edge.twice polygon { fill: var(--bad); stroke: var(--bad); }
 .olap .bottom polygon, .olap .bottom path { stroke-width: 2.5; }
+.olap .edge.unknown path, .olap .edge.unknown polygon { opacity: .4; }
 .olap .edge.idle path { stroke-width: 2; } .olap .edge.idle path, .olap .edge.idle polygon { opacity: .6; }
 """
 
@@ -112,7 +114,7 @@ def of_schema(schema: Schema, name: str, taken: Mapping[tuple[str, str], str] | 
         lines, told = ((category, "facts stand here"), ": facts stand here") if is_bottom else ((category,), "")
         picture.nodes[category] = Node(lines, f"category {category}{told}", "bottom" if is_bottom else "category")
     for child, parent in schema.edges:
-        kind = (taken or {}).get((child, parent), "up")
+        kind = "up" if taken is None else taken.get((child, parent), "unknown")
         told = f": {TAKEN[kind].format(child=child)}" if kind in TAKEN else ""
         picture.edges.append(Edge(child, parent, f"edge {child} {parent}{told}", kind))
     are_many = len(schema.constraints) > MOST_NOTES

@@ -180,16 +180,16 @@ def facts_of(program: Program, progress: Progress, most_for_pairs: int, seconds:
             raise Fault(f"of {' '.join(sources) or 'no source'} {seeing} see the fact, and the program says {example.views}", 70)
         return example
 
+    def shown(target: str, sources: tuple[str, ...]) -> texts.Counterexample | None:
+        key = (target, sources)
+        if key not in facts.answers:
+            facts.answers[key] = summarizable(key, until(0.4) - time.monotonic())
+        return facts.answers[key]
+
+    searches = {target: Enough(schema, target, shown) for target in facts.targets}
+
     def enough(target: str, left: float) -> Enough:
-        end = time.monotonic() + left
-
-        def shown(of: str, sources: tuple[str, ...]) -> texts.Counterexample | None:
-            key = (of, sources)
-            if key not in facts.answers:
-                facts.answers[key] = summarizable(key, end - time.monotonic())
-            return facts.answers[key]
-
-        return Enough(schema, target, shown).search(end)
+        return searches[target].search(time.monotonic() + min(left, share))
 
     def always(edge: tuple[str, str], left: float) -> bool:
         return program.must("implies", SCHEMA, edge[0], "_".join(edge), ends=(0, 1), seconds=left).status == 0
@@ -197,7 +197,11 @@ def facts_of(program: Program, progress: Progress, most_for_pairs: int, seconds:
     leasts = asker.all("least frozen dimensions", schema.categories, least, until(0.12))
     facts.has_members = {category: frozen is not None for category, frozen in leasts.items()}
     if len(facts.barren) < len(schema.bottoms):
-        facts.enough = asker.all("targets: what is enough", facts.targets, enough, until(0.4))
+        # Each target has its share of the time, and those whose search didn't end share what the others left.
+        for _ in range(2):
+            unfinished = [target for target in facts.targets if not searches[target].is_whole]
+            share = (until(0.4) - time.monotonic()) * workers() / max(1, len(unfinished))
+            facts.enough |= asker.all("targets: what is enough", unfinished, enough, until(0.4))
         facts.answers |= asker.all("single sources", facts.asked(facts.singles), remembered(facts, summarizable), until(0.6))
     facts.always = asker.all("edges", schema.edges, always, until(0.68))
     facts.findings = asker.all("audit", ["audit"], findings, until(0.78)).get("audit")
