@@ -1,5 +1,10 @@
 -- Prints what is wrong with the views member, lies_in and fact, before they are exported: kinds of faults with how many there are
--- and an example each. It needs the table edge(child, parent) with the schema's edges. The program would tell the first alone.
+-- and an example each. It reads the schema's edges from edges.txt, a child and a parent a line. The program would tell the first
+-- fault alone.
+create temp table edge (child text not null, parent text not null);
+.mode csv
+.separator " "
+.import edges.txt edge
 .mode list
 .separator " | "
 select 'id twice', id, count(*) from member group by id having count(*) > 1 or id = 'all' limit 20;
