@@ -1,0 +1,4 @@
+-- Lemmas of this crate.
+pub mod AgreeingLemmas
+pub mod WayLemmas
+pub mod CertificateLemmas

@@ -1,0 +1,4 @@
+-- Definitions that contracts cite.
+pub mod Places
+pub mod Lines
+pub mod Certificates

@@ -1,0 +1,108 @@
+-- The lines of a certificate's trees: what each says, and when one closes its place.
+--     Line         a split of what is still open, or a reason why nothing is
+--     line_text    its bytes, without the LF
+--     Closes       no frozen dimension has what is decided: the line says why
+use Rattle.std.specs.Prelude.{◌≡◌, ◌≢◌, ◌⊎◌, ◌++◌, ℕ, zero, suc, List, [], ◌∷◌, All, true, false, Some, IsTrue, codes}
+use Rattle.std.specs.Fmt.{decimal}
+use Rattle.olap_base.specs.Graph.{CategoryReaches, Graph}
+use Rattle.olap_ast.specs.Formula.{Formula}
+use Rattle.olap_ast.specs.Frozen.{Candidates}
+use Rattle.olap_ast.specs.Schema.{Constraint, Schema}
+use Rattle.olap_ast.specs.declared.three_values.Truth3.TheVariants.{No}
+use Rattle.olap_eval.specs.Partial.{value_at}
+use Rattle.olap_graph.specs.Lookups.{edge_at, edges_from, name_of_category}
+use Rattle.olap_trail.specs.Decisions.{HoldsCycle, HoldsShortcut, present_graph, status_of}
+use Rattle.olap_proof.specs.declared.forms.Form.{Form}
+use Rattle.olap_proof.specs.declared.forms.Form.TheVariants.{Long, Short}
+use Rattle.olap_proof.specs.Places.{Place, is_known, knowledge, leads, possible_graph, reached, way_of}
+
+-- the first three split what is open; the others close it
+pub data Line : Type 0 where
+  EdgeOrNot : (edge : ℕ) → Line
+  NameOf : (category : ℕ) → Line
+  WayOrNot : (child parent : ℕ) → Line
+  Dead : (category : ℕ) → Line
+  Cycle : Line
+  Shortcut : Line
+  Loose : (edge : ℕ) → Line
+  Unreached : (category : ℕ) → Line
+  Clash : (child parent : ℕ) → Line
+  Unmet : (constraint : ℕ) → Line
+  Asked : Line
+
+-- ---- the bytes
+
+-- two words, with a space between them
+abbrev pub words : List ℕ → List ℕ → List ℕ
+words w v = w ++ 32 ∷ v
+
+-- the names of two categories
+abbrev pub way_words : Graph → ℕ → ℕ → List ℕ
+way_words g a b = words (name_of_category g a) (name_of_category g b)
+
+-- the names of an edge's ends
+abbrev pub edge_words : Graph → ℕ → List ℕ
+edge_words g e = way_words g (edge_at g e).child (edge_at g e).parent
+
+-- constraints are numbered from 1
+abbrev pub line_text : Graph → Line → List ℕ
+line_text g (EdgeOrNot e) = words (codes "edge") (edge_words g e)
+line_text g (NameOf c) = words (codes "name") (name_of_category g c)
+line_text g (WayOrNot a b) = words (codes "reach") (way_words g a b)
+line_text g (Dead c) = words (codes "dead") (name_of_category g c)
+line_text g Cycle = codes "cycle"
+line_text g Shortcut = codes "shortcut"
+line_text g (Loose e) = words (codes "loose") (edge_words g e)
+line_text g (Unreached c) = words (codes "loose") (name_of_category g c)
+line_text g (Clash a b) = words (codes "steps") (way_words g a b)
+line_text g (Unmet n) = words (codes "constraint") (decimal (suc n))
+line_text g Asked = codes "question"
+
+-- ---- the reasons
+
+-- c has a member, and all edges out of c are absent
+abbrev pub IsDead : Graph → Place → ℕ → Type 0
+IsDead g p c = (c ≢ 0) × IsTrue (is_known p c) × All (λ e. status_of p.decided e ≡ Some false) (edges_from g c)
+
+-- the edge is present, and no walk of edges that aren't absent leads from the root to its child, another category
+abbrev pub IsLoose : Graph → Place → ℕ → Type 0
+IsLoose g p e = ((edge_at g e).child ≢ p.decided.root) × (status_of p.decided e ≡ Some true)
+    × (CategoryReaches (possible_graph p.decided) p.decided.root (edge_at g e).child → ⊥)
+
+-- c has a member, and the root's, another one, doesn't reach it
+abbrev pub IsUnreached : Form → Place → ℕ → Type 0
+IsUnreached f p c = (c ≢ p.decided.root) × IsTrue (is_known p c) × (reached f p p.decided.root c ≡ No)
+
+-- the edge is absent, or what it leads to doesn't reach b
+abbrev pub IsNoStep : Form → Graph → Place → ℕ → ℕ → Type 0
+IsNoStep f g p b e = (status_of p.decided e ≡ Some false) ⊎ (reached f p (edge_at g e).parent b ≡ No)
+
+-- it was decided that the way is there, and no first step of it can be; or that it isn't, and it is known to be
+abbrev pub IsClash : Form → Graph → Place → ℕ → ℕ → Type 0
+IsClash f g p a b =
+    ((way_of p.ways a b ≡ Some true) × (a ≢ b) × All (IsNoStep f g p b) (edges_from g a))
+    ⊎ ((way_of p.ways a b ≡ Some false) × IsTrue (leads f p a b))
+
+-- the root of the constraint has a member, at which the formula is known to be false
+abbrev pub IsUnmet : Form → Candidates → Place → Constraint → Type 0
+IsUnmet f k p c = IsTrue (is_known p c.root) × (value_at (knowledge f k p) c.root c.formula ≡ No)
+
+-- the constraint at this place of the list
+abbrev pub IsUnmetAt : Form → List Constraint → ℕ → Candidates → Place → Type 0
+IsUnmetAt f [] n k p = ⊥
+IsUnmetAt f (c ∷ cs) zero k p = IsUnmet f k p c
+IsUnmetAt f (c ∷ cs) (suc n) k p = IsUnmetAt f cs n k p
+
+-- no frozen dimension for the question has what is decided, for the reason that the line says
+abbrev pub Closes : Form → Schema → Formula → Candidates → Place → Line → Type 0
+Closes f s q k p (EdgeOrNot e) = ⊥
+Closes f s q k p (NameOf c) = ⊥
+Closes f s q k p (WayOrNot a b) = ⊥
+Closes f s q k p (Dead c) = IsDead s.graph p c
+Closes f s q k p Cycle = HoldsCycle (present_graph p.decided)
+Closes f s q k p Shortcut = HoldsShortcut (present_graph p.decided)
+Closes f s q k p (Loose e) = (f ≡ Long) × IsLoose s.graph p e
+Closes f s q k p (Unreached c) = (f ≡ Short) × IsUnreached f p c
+Closes f s q k p (Clash a b) = (f ≡ Short) × IsClash f s.graph p a b
+Closes f s q k p (Unmet n) = IsUnmetAt f s.constraints n k p
+Closes f s q k p Asked = value_at (knowledge f k p) p.decided.root q ≡ No
