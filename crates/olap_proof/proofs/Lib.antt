@@ -2,3 +2,4 @@
 pub mod AgreeingLemmas
 pub mod WayLemmas
 pub mod CertificateLemmas
+pub mod ExampleLemmas

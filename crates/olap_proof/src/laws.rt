@@ -1,7 +1,18 @@
 // Theorems over the definitions. Each is the clause of a function that does nothing.
 ghost use Rattle.olap_proof.specs.Certificates.{CertificatesAreRight};
+ghost use Rattle.olap_proof.specs.Examples.{ChainIsCertified, ChainIsShortlyCertified};
 
 /// A certificate, of either form, exists only where the target is summarizable from the sources.
 pub fn certificates_are_right()
     ensures { CertificatesAreRight }
+{}
+
+/// City's totals can be taken from Store's, where Store, City and `All` stand one above the other: five lines say why.
+pub fn chain_is_certified()
+    ensures { ChainIsCertified }
+{}
+
+/// And so do seven lines of the short form.
+pub fn chain_is_shortly_certified()
+    ensures { ChainIsShortlyCertified }
 {}

@@ -9,4 +9,4 @@ mod forms;
 mod laws;
 
 pub use forms::Form;
-pub use laws::certificates_are_right;
+pub use laws::{certificates_are_right, chain_is_certified, chain_is_shortly_certified};
