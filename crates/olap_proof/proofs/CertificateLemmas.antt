@@ -187,7 +187,7 @@ module _ (form : Form) (s : Schema) (q : Formula) (k : Candidates) (hier : IsHie
       way_split p a b
       (all (At (with_way p a b false)) (contains_head (At (with_way p a b false)) (At (with_way p a b true) ∷ [])))
       (all (At (with_way p a b true)) (1, omega arith, refl))
-  step_refuted (closes {p = p} l h) all = at_closed p l h
+  step_refuted (closes {p = p} l a h) all = at_closed p l h
 
   runs_refuted : {lines : List (List ℕ)} {os end : List Open} → Runs form s q k lines os end → end ≡ []
       → (x : Open) → Contains os x → Refuted x

@@ -68,21 +68,21 @@ module _ (k : Candidates) where
 
 pub chain_is_certified : ChainIsCertified
 chain_is_certified k = more begins (more (roots {b = 1}) (more (edges {e = 0} (omega arith) refl)
-    (more (closes (Dead 1) (
+    (more (closes (Dead 1) (omega arith) (
       λ e. cc,
       refl,
       All-cons (λ e. status_of (linked false []).decided e ≡ Some false) 0 [] refl
           (All-nil (λ e. status_of (linked false []).decided e ≡ Some false)),
     ))
-    (more (closes Asked (question_closes k)) none))))
+    (more (closes Asked tt (question_closes k)) none))))
 
 pub chain_is_shortly_certified : ChainIsShortlyCertified
 chain_is_shortly_certified k = more begins (more (roots {b = 1})
     (more (ways {a = 1} {b = 2} refl (omega arith) (omega arith) refl) (more (edges {e = 0} (omega arith) refl)
-    (more (closes (Dead 1) (
+    (more (closes (Dead 1) (omega arith) (
       λ e. cc,
       refl,
       All-cons (λ e. status_of (linked false []).decided e ≡ Some false) 0 [] refl
           (All-nil (λ e. status_of (linked false []).decided e ≡ Some false)),
     ))
-    (more (closes (Clash 1 2) (steps_close k)) (more (closes Asked (question_closes_shortly k)) none))))))
+    (more (closes (Clash 1 2) (omega arith, omega arith) (steps_close k)) (more (closes Asked tt (question_closes_shortly k)) none))))))

@@ -18,7 +18,7 @@ use Rattle.olap_trail.specs.Decisions.{status_of}
 use Rattle.olap_proof.specs.declared.forms.Form.{Form}
 use Rattle.olap_proof.specs.declared.forms.Form.TheVariants.{Long, Short}
 use Rattle.olap_proof.specs.Places.{Place, index_of, way_of}
-use Rattle.olap_proof.specs.Lines.{Closes, Line, Line.EdgeOrNot, Line.NameOf, Line.WayOrNot, line_text, words}
+use Rattle.olap_proof.specs.Lines.{Closes, IsAbout, Line, Line.EdgeOrNot, Line.NameOf, Line.WayOrNot, line_text, words}
 
 -- ---- the first lines
 
@@ -80,7 +80,7 @@ pub data Steps (f : Form) (s : Schema) (q : Formula) (k : Candidates) : List ℕ
   ways : {p : Place} {a b : ℕ} → f ≡ Short → IsCategory s.graph a → IsCategory s.graph b → way_of p.ways a b ≡ None
       → Steps f s q k (line_text s.graph (WayOrNot a b)) (At p)
       (At (with_way p a b false) ∷ At (with_way p a b true) ∷ [])
-  closes : {p : Place} (l : Line) → Closes f s q k p l → Steps f s q k (line_text s.graph l) (At p) []
+  closes : {p : Place} (l : Line) → IsAbout s l → Closes f s q k p l → Steps f s q k (line_text s.graph l) (At p) []
 
 -- lines one after another
 pub data Runs (f : Form) (s : Schema) (q : Formula) (k : Candidates) : List (List ℕ) → List Open → List Open → Type 0

@@ -1,10 +1,11 @@
 -- The lines of a certificate's trees: what each says, and when one closes its place.
 --     Line         a split of what is still open, or a reason why nothing is
 --     line_text    its bytes, without the LF
+--     IsAbout      what it names is in the schema
 --     Closes       no frozen dimension has what is decided: the line says why
-use Rattle.std.specs.Prelude.{◌≡◌, ◌≢◌, ◌⊎◌, ◌++◌, ℕ, zero, suc, List, [], ◌∷◌, All, true, false, Some, IsTrue, codes}
+use Rattle.std.specs.Prelude.{◌≡◌, ◌≢◌, ◌<◌, ◌⊎◌, ◌++◌, ℕ, zero, suc, List, [], ◌∷◌, All, true, false, Some, IsTrue, codes, length}
 use Rattle.std.specs.Fmt.{decimal}
-use Rattle.olap_base.specs.Graph.{CategoryReaches, Graph}
+use Rattle.olap_base.specs.Graph.{CategoryReaches, Graph, IsCategory}
 use Rattle.olap_ast.specs.Formula.{Formula}
 use Rattle.olap_ast.specs.Frozen.{Candidates}
 use Rattle.olap_ast.specs.Schema.{Constraint, Schema}
@@ -57,6 +58,20 @@ line_text g (Unreached c) = words (codes "loose") (name_of_category g c)
 line_text g (Clash a b) = words (codes "steps") (way_words g a b)
 line_text g (Unmet n) = words (codes "constraint") (decimal (suc n))
 line_text g Asked = codes "question"
+
+-- what the line names is in the schema
+abbrev pub IsAbout : Schema → Line → Type 0
+IsAbout s (EdgeOrNot e) = e < length s.graph.edges
+IsAbout s (NameOf c) = IsCategory s.graph c
+IsAbout s (WayOrNot a b) = IsCategory s.graph a × IsCategory s.graph b
+IsAbout s (Dead c) = IsCategory s.graph c
+IsAbout s Cycle = Unit {0}
+IsAbout s Shortcut = Unit {0}
+IsAbout s (Loose e) = e < length s.graph.edges
+IsAbout s (Unreached c) = IsCategory s.graph c
+IsAbout s (Clash a b) = IsCategory s.graph a × IsCategory s.graph b
+IsAbout s (Unmet n) = n < length s.constraints
+IsAbout s Asked = Unit {0}
 
 -- ---- the reasons
 
