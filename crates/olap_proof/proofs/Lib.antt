@@ -3,3 +3,8 @@ pub mod AgreeingLemmas
 pub mod WayLemmas
 pub mod CertificateLemmas
 pub mod ExampleLemmas
+pub mod TallyLemmas
+pub mod ToldLemmas
+pub mod FullPlaceLemmas
+pub mod ClosingLemmas
+pub mod PlainTreeLemmas

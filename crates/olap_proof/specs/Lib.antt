@@ -3,3 +3,5 @@ pub mod Places
 pub mod Lines
 pub mod Certificates
 pub mod Examples
+pub mod FullPlaces
+pub mod Existing

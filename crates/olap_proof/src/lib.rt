@@ -5,8 +5,10 @@
 //! `src/laws.rt`, over the definitions alone. Nothing here knows how a certificate is found.
 #![tactic(auto)]
 
+mod existence;
 mod forms;
 mod laws;
 
+pub use existence::{certificates_exist_exactly_where_summarizable, full_places_close};
 pub use forms::Form;
 pub use laws::{certificates_are_right, chain_is_certified, chain_is_shortly_certified};

@@ -1,0 +1,15 @@
+-- On which questions there are certificates.
+--     CertificatesExistExactlyWhereSummarizable    a certificate exists exactly where the target is summarizable
+use Rattle.std.specs.Prelude.{◌↔◌, ℕ, List}
+use Rattle.olap_base.specs.Graph.{IsHierarchy}
+use Rattle.olap_ast.specs.Frozen.{AreCandidates, Candidates}
+use Rattle.olap_ast.specs.Schema.{Schema}
+use Rattle.olap_ast.specs.Summarizable.{IsSummarizable, not_by_one}
+use Rattle.olap_proof.specs.declared.forms.Form.TheVariants.{Long}
+use Rattle.olap_proof.specs.Certificates.{IsCertificate}
+
+-- there is a certificate of the long form exactly where the target is summarizable from the sources
+abbrev pub CertificatesExistExactlyWhereSummarizable : Type 0
+CertificatesExistExactlyWhereSummarizable = (s : Schema) (c : ℕ) (sources : List ℕ) (k : Candidates)
+    → IsHierarchy s.graph → AreCandidates s (not_by_one c sources) k
+    → IsSummarizable s c sources ↔ ((lines : List (List ℕ)) × IsCertificate Long s (not_by_one c sources) k lines)
