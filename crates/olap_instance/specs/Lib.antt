@@ -1,4 +1,5 @@
 -- Definitions that contracts cite.
+pub mod Hashing
 pub mod Members
 pub mod Made
 pub mod RosterInside

@@ -1,0 +1,17 @@
+use Rattle.std.proofs.Common.{ap, sym, ◌∙◌, arith, get_or}
+use Rattle.std.proofs.Math.Seq.{take_all}
+use Rattle.std.specs.List.{fold}
+use Rattle.std.proofs.lemmas.List.Sums.{fold_more}
+use Rattle.olap_instance.specs.Hashing.{with_byte, with_bytes}
+use Rattle.olap_instance.proofs.hashing.IdHasherHasher.write.Goals as goal
+
+pub bytes-preserved : goal.bytes-preserved
+bytes-preserved c =
+    let bytes = c.args.bytes.now in
+    let i = c.bytes.i in
+    let more = fold_more with_byte c.args.self.now bytes i 0 (omega arith) in
+    (omega arith, c.write_byte.ensures ∙ ap (λ h. with_byte h (get_or bytes i 0)) c.bytes.invariant.1 ∙ sym more)
+
+pub returns : goal.returns
+unfolding with_bytes
+returns c = c.bytes.invariant.1 ∙ ap (fold with_byte c.args.self.now) (take_all c.bytes.i c.args.bytes.now (omega arith))
