@@ -1,7 +1,7 @@
 """The definitions of specs/, declaration by declaration, and what a statement leads to.
 
 A declaration's lines are those that aren't blank, a comment or an import. Of a function whose way of finding its answer is
-hidden only the type counts, and the type of its law: that of the same name with `_is` behind it, or as LAWS says.
+hidden only the type counts, and the type of its law: that of the same name with `_is` after it, or as LAWS says.
 """
 
 import re

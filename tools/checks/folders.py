@@ -1,6 +1,6 @@
 """Each folder of proofs/ belongs to a function of src/.
 
-The folder's path is the function's: the module, then the type of a method, with the trait's name behind it where the
+The folder's path is the function's: the module, then the type of a method, with the trait's name after it if the
 method is a trait's, then the function. A folder `+NAME` belongs to functions that call each other: NAME is one of them,
 or what `#[cycle(NAME)]` calls them.
 """
