@@ -1,7 +1,7 @@
 """PostgreSQL servers of one's own: each in a folder of its own, on a socket there, stopped when they are left.
 
 The servers run as a user who isn't root, listen on no network, trust whoever gets to the socket (whose folder is closed to
-others), and care for speed and not for the data. They are stopped also where the program that started them is killed.
+others), and care for speed and not for the data. They are stopped also if the program that started them is killed.
 """
 
 import os
@@ -13,7 +13,7 @@ import tempfile
 import time
 from pathlib import Path
 
-USERS = ("postgres", "nobody")  # for whom a server runs where root starts it
+USERS = ("postgres", "nobody")  # for whom a server runs if root starts it
 PATIENCE = 60  # seconds, for a server to start or stop
 SETTINGS = {"listen_addresses": "", "fsync": "off", "synchronous_commit": "off", "full_page_writes": "off"}
 

@@ -22,7 +22,7 @@ def rows(text):
 
 
 def found(call):
-    """The functions that a call of the register names: none where it isn't public."""
+    """The functions that a call of the register names: none if it isn't public."""
     crate, *path = call.split("::")
     if crate not in sources.crate_names() or not path or path[0] not in sources.exports(crate):
         return []

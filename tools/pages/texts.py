@@ -1,6 +1,6 @@
 """The texts that the program prints, as data: canonical schemas, frozen lines, instances and counterexamples.
 
-These readers take only what the program printed or accepted. They judge nothing, and where a text isn't as docs/FORMATS.md says,
+These readers take only what the program printed or accepted. They judge nothing, and if a text isn't as docs/FORMATS.md says,
 they stop with a `Fault`.
 """
 

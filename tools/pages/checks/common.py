@@ -22,7 +22,7 @@ PATIENCE = 170  # seconds
 
 
 def is_there(tool: str, package: str) -> bool:
-    """Is the tool there? It is installed where it isn't and the user is root."""
+    """Is the tool there? It is installed if it isn't and the user is root."""
     environment = {**os.environ, "DEBIAN_FRONTEND": "noninteractive"}
     for words in (["install", "-y", package], ["update"], ["install", "-y", package]):
         if shutil.which(tool) is None and os.geteuid() == 0 and shutil.which("apt-get"):
