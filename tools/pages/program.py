@@ -100,7 +100,7 @@ def find() -> Path:
             raise Fault(f"OLAP names no program: {named}", 70)
         return Path(found).resolve()
     if not is_current():
-        raise Fault("no program is built from these sources: run ./olap once, or name a program in the variable OLAP", 70)
+        raise Fault("no program is built from these sources: run ./olap once, or set OLAP=./olap-unproved, which needs no proof", 70)
     return BUILT
 
 
