@@ -1,9 +1,11 @@
 -- An index of a list: a look-up gives the place, and a new id goes last.
-use Rattle.std.proofs.Common.{◌≡◌, ◌+◌, ◌∷◌, ◌++◌, ◌∙◌, ℕ, List, [], cond, map, length, Option, Some, refl, ap, arith}
+use Rattle.std.proofs.Common.{◌≡◌, ◌+◌, ◌<◌, ◌∷◌, ◌++◌, ◌∙◌, ℕ, List, [], cond, get_or, map, length, Option, Some, refl, ap, sym, arith}
 use Rattle.std.specs.List.{position_from}
 use Rattle.std.specs.Map.{lookup}
 use Rattle.std.specs.Str.{bytes_eq}
-use Rattle.std.proofs.lemmas.List.{length-map, map-append}
+use Rattle.std.proofs.lemmas.List.{get_or-map, length-map, map-append}
+use Rattle.olap_base.specs.Instance.{Instance, category_of, nobody}
+use Rattle.olap_base.specs.declared.ids.CatId.{CatId}
 use Rattle.olap_instance.specs.Members.{member_of_head}
 use Rattle.olap_instance.specs.RosterInside.{numbered}
 use Rattle.olap_instance.specs.declared.rosters.Head.{Head}
@@ -53,3 +55,27 @@ ids-push heads now h e =
 
 pub ids-count : (heads : List Head) → length (map (λ m. m.id) (map member_of_head heads)) ≡ length heads
 ids-count heads = length-map (map member_of_head heads) (λ m. m.id) ∙ length-map heads member_of_head
+
+-- ---- a column of categories
+
+module _ (cs : List CatId) (ms : Instance) (h : map (λ c. c.0) cs ≡ map (λ m. m.category) ms) where
+  pub column-length : length cs ≡ length ms
+  column-length = sym (length-map cs (λ c. c.0)) ∙ ap length h ∙ length-map ms (λ m. m.category)
+
+  -- what stands at a place of the column is the category of the member there
+  pub column-place : (x : ℕ) (d : CatId) → x < length ms → (get_or cs x d).0 ≡ category_of ms x
+  column-place x d l =
+      sym (get_or-map (λ c. c.0) cs x d 0 (let e = column-length in omega arith))
+      ∙ ap (λ (cs : List ℕ). get_or cs x 0) h
+      ∙ get_or-map (λ m. m.category) ms x nobody 0 l
+
+-- one more
+pub column-push : (cs now : List CatId) (heads later : List Head) (h : Head)
+    → map (λ c. c.0) cs ≡ map (λ m. m.category) (map member_of_head heads)
+    → now ≡ cs ++ h.category ∷ [] → later ≡ heads ++ h ∷ []
+    → map (λ c. c.0) now ≡ map (λ m. m.category) (map member_of_head later)
+column-push cs now heads later h k e f =
+    rw (e, f)
+    (map-append (λ c. c.0) cs (h.category ∷ []) ∙ ap (λ ks. ks ++ h.category.0 ∷ []) k
+    ∙ sym (map-append (λ m. m.category) (map member_of_head heads) (member_of_head h ∷ []))
+    ∙ ap (map (λ m. m.category)) (sym (map-append member_of_head heads (h ∷ []))))

@@ -2,7 +2,9 @@
 -- point that is the key, modulo 2 ^ 61 - 1. Numbers that are equal modulo 2 ^ 61 - 1 stand for each other.
 --     stepped     the value after one more coefficient
 --     with_byte   a hasher after one byte
-use Rattle.std.specs.Prelude.{ℕ, ◌+◌, ◌*◌, ◌/◌, ◌%◌, ◌^◌, List, if◌then◌else◌, nat_lt, bit_or}
+--     with_bytes  a hasher after bytes that are written at once
+use Rattle.std.specs.Prelude.{ℕ, ◌+◌, ◌*◌, ◌/◌, ◌%◌, ◌^◌, ◌==◌, List, length, if◌then◌else◌, nat_lt, bit_or}
+use Rattle.std.specs.Int.{w64, from_le_bytes}
 use Rattle.std.specs.List.{fold}
 use Rattle.olap_instance.specs.declared.hashing.IdHasher.{IdHasher}
 
@@ -33,9 +35,15 @@ with_byte h byte =
     then record { point = h.point; value = h.value; tail = tail_with h byte; count = h.count + 1 }
     else record { point = h.point; value = stepped h.point h.value (tail_with h byte); tail = 0; count = 0 }
 
--- a hasher after these bytes
+-- a hasher after a number of 64 bits, which is a coefficient
+abbrev pub with_number : IdHasher → ℕ → IdHasher
+with_number h number =
+    record { point = h.point; value = stepped h.point h.value number; tail = h.tail; count = h.count }
+
+-- a hasher after these bytes: eight of them at once are a number
 unfoldable pub with_bytes : IdHasher → List ℕ → IdHasher
-with_bytes h bytes = fold with_byte h bytes
+with_bytes h bytes =
+    if length bytes == 8 then with_number h (from_le_bytes w64 bytes) else fold with_byte h bytes
 
 -- the hash: what is left over is the last coefficient
 abbrev pub finished : IdHasher → ℕ

@@ -15,3 +15,12 @@ members_of_roster a = map member_of_head a.heads.items
 -- the index has each id with its place, in order
 abbrev pub IsIndexed : Inside → Type 0
 IsIndexed a = map (λ e. (e.0.items, e.1)) a.index.entries ≡ numbered 0 (map (λ m. m.id) (members_of_roster a))
+
+-- the categories of the heads, in order
+abbrev pub HasCategories : Inside → Type 0
+HasCategories a = map (λ c. c.0) a.categories.items ≡ map (λ m. m.category) (members_of_roster a)
+
+-- what a roster keeps
+pub record IsRoster (a : Inside) : Type 0 where
+  pub indexed : IsIndexed a
+  pub categories : HasCategories a

@@ -12,7 +12,8 @@ const LOW: u64 = 0x2000_0000_0000_0000;
 
 const HALF: u128 = 0x1_0000_0000_0000_0000;
 
-/// The value at a point of a polynomial modulo 2 ^ 61 - 1, whose coefficients are the bytes written, seven at a time.
+/// The value at a point of a polynomial modulo 2 ^ 61 - 1. Its coefficients are the bytes written, seven at a time; a
+/// number of 64 bits, as a slice's length, is one by itself.
 #[derive(Clone, Copy)]
 pub(crate) struct IdHasher {
     // Eight times the point.
@@ -47,6 +48,12 @@ impl IdHasher {
             self.count = 0;
         }
     }
+
+    fn write_number(&mut self, number: u64)
+        ensures { self.new ≡ hashing.with_number self.old number }
+    {
+        self.value = stepped(self.point, self.value, number);
+    }
 }
 
 impl Hasher for IdHasher {
@@ -59,9 +66,23 @@ impl Hasher for IdHasher {
     }
 
     fn write(&mut self, bytes: &[u8]) {
+        if bytes.len() == 8 {
+            self.write_number(u64::from_le_bytes([
+                bytes[0], bytes[1], bytes[2], bytes[3], bytes[4], bytes[5], bytes[6], bytes[7],
+            ]));
+            return;
+        }
         'bytes: for i in 0..bytes.len() {
             self.write_byte(bytes[i]);
         }
+    }
+
+    fn write_u8(&mut self, byte: u8) {
+        self.write_byte(byte);
+    }
+
+    fn write_usize(&mut self, number: usize) {
+        self.write_number(number as u64);
     }
 }
 

@@ -56,7 +56,7 @@ impl Instance {
         requires { m.0 < length self.now }
         ensures { result.0 ≡ category_of self.now m.0 }
     {
-        self.roster.head(m.0).category
+        self.roster.category(m.0)
     }
 
     /// The id of a member.

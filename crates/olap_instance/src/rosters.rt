@@ -1,6 +1,6 @@
 // The members of an instance without their parents, and an index of their ids.
 ghost use Rattle.std.specs.Prelude.{◌≡◌, ◌∷◌, ◌++◌, ◌<◌, ◌^◌, [], codes, length, map, None, OnOk, OnErr};
-ghost use Rattle.olap_base.specs.Instance.{member_at};
+ghost use Rattle.olap_base.specs.Instance.{category_of, member_at};
 ghost use Rattle.olap_base.specs.Naming.{place_of};
 ghost use Rattle.olap_instance.specs.Members.{all_member, member_of_head};
 
@@ -22,6 +22,8 @@ pub(crate) struct Head {
 #[derive(Drop)]
 pub(crate) struct Roster {
     heads: Vec<Head>,
+    // The category of each head, side by side: most passes over the members ask for nothing else.
+    categories: Vec<CatId>,
     // The place of each id.
     index: IndexMap<Vec<u8>, u32, KeyedHash>,
     alloc: Global,
@@ -32,11 +34,11 @@ impl Model for Roster {
 
     ghost Value = { Instance };
 
-    ghost use Rattle.olap_instance.specs.RosterInside.{members_of_roster, IsIndexed};
+    ghost use Rattle.olap_instance.specs.RosterInside.{members_of_roster, IsRoster};
 
     ghost view = { members_of_roster };
 
-    ghost invariant = { IsIndexed };
+    ghost invariant = { IsRoster };
 }
 
 impl Roster {
@@ -46,6 +48,7 @@ impl Roster {
     {
         Roster {
             heads: Vec::new(alloc),
+            categories: Vec::new(alloc),
             index: IndexMap::with_hasher(alloc, hash),
             alloc,
         }
@@ -65,6 +68,14 @@ impl Roster {
         &self.heads[place as usize]
     }
 
+    /// The category of the member at a place.
+    pub(crate) fn category(&self, place: u32) -> CatId
+        requires { place < length self.now }
+        ensures { result.0 ≡ category_of self.now place }
+    {
+        self.categories[place as usize]
+    }
+
     /// The place of the member of that id.
     pub(crate) fn find(&self, id: &[u8]) -> Option<u32>
         ensures { result ≡ place_of id.now (map (λ m. m.id) self.now) }
@@ -82,7 +93,9 @@ impl Roster {
         let key = Vec::from_slice(self.alloc, head.id.bytes())?;
         let place = self.heads.len();
         self.heads.reserve(1)?;
+        self.categories.reserve(1)?;
         self.index.insert(key, place as u32)?;
+        self.categories.push(head.category)?;
         self.heads.push(head)?;
         Ok(())
     }

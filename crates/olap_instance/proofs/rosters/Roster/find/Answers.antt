@@ -6,4 +6,4 @@ pub returns : goal.returns
 returns c = rw (← c.self.view_is)
     (c.copied.ensures
     ∙ (c.get.ensures.value
-    ∙ find-place (λ v. v.items) c.args.id.now c.self.inside.index.entries _ 0 c.self.invariant))
+    ∙ find-place (λ v. v.items) c.args.id.now c.self.inside.index.entries _ 0 c.self.invariant.indexed))
