@@ -16,6 +16,7 @@ MOST_LINES = 50  # frozen lines of a category
 MOST_DRAWN, MOST_DRAWN_LARGE, LARGE = 6, 1, 20  # pictures of a category's ways; of a schema with more categories than LARGE
 MOST_OPEN = 6  # counterexamples that aren't folded
 MOST_ENOUGH = 8  # lists of a target that stand in the first table
+MOST_NAMED = 12  # categories of which nothing is known that are told by name
 
 STYLE = """
 :root { color-scheme: light dark; --page: #fff; --text: #1a1c20; --soft: #555d6b; --rule: #c9d0da; --band: #f3f5f9; --link: #0b4fa3;
@@ -144,6 +145,10 @@ def listing(words: Sequence[str]) -> str:
     return ", ".join(words)
 
 
+def named(categories: Sequence[str], one: str, more: str) -> str:
+    return listing(categories) if len(categories) <= MOST_NAMED else counted(len(categories), one, more)
+
+
 def listed(sources: Sequence[str]) -> str:
     return " and ".join(sources)
 
@@ -260,7 +265,7 @@ class Page:
         late = [target for target in facts.targets if target not in known]
         rows = [el("tr", el("th", target, scope="row"), el("td", self.enough_for(known[target])))
                 for target in facts.targets if target in known]
-        told = el("p", f"Of {', '.join(late)} no list was found in the time of this page: ", el("code", "tools/least SCHEMA TARGET"),
+        told = el("p", f"Of {named(late, 'target', 'targets')} no list was found in the time of this page: ", el("code", "tools/least SCHEMA TARGET"),
                   " looks for them.") if late else ""
         table = el("table", head, el("tbody", Markup("\n".join(rows))), class_="text")
         group = el("div", table, class_="scroll", tabindex="0", role="group", aria_label="What is enough for each target")
@@ -339,7 +344,7 @@ class Page:
                    " is any name that the schema doesn't mention. Ways that differ in names alone are told once.")
         late = [each for each, ways in self.facts.ways.items() if ways.listed is None and ways.least is None and not ways.too_many]
         ask = el("code", "olap frozen SCHEMA CATEGORY")
-        told = el("p", f"Of {', '.join(late)} nothing came in the time of this page: ", ask, " lists it.")
+        told = el("p", f"Of {named(late, 'category', 'categories')} nothing came in the time of this page: ", ask, " lists it.")
         shown = [each for each in self.order if each not in late]
         bottoms, others = ([self.ways_of(each) for each in shown if (each in self.facts.schema.bottoms) is is_bottom] for is_bottom in (True, False))
         folded = el("details", el("summary", "The ways of the other categories"), others) if others else ""
