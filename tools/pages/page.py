@@ -342,7 +342,8 @@ class Page:
         intro = el("p", "A frozen dimension of a category is a legal instance in which it has a member, each category has at most one, and "
                         "that member reaches every other: one of all the ways up. The digits are the schema's edges, and ", el("code", "nk"),
                    " is any name that the schema doesn't mention. Ways that differ in names alone are told once.")
-        late = [each for each, ways in self.facts.ways.items() if ways.listed is None and ways.least is None and not ways.too_many]
+        ways = self.facts.ways
+        late = [each for each in self.order if ways[each].listed is None and ways[each].least is None and not ways[each].too_many]
         ask = el("code", "olap frozen SCHEMA CATEGORY")
         told = el("p", f"Of {named(late, 'category', 'categories')} nothing came in the time of this page: ", ask, " lists it.")
         shown = [each for each in self.order if each not in late]
