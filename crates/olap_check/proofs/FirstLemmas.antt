@@ -15,7 +15,7 @@ use Rattle.olap_base.specs.Deciding.{below_is_member}
 use Rattle.olap_ast.specs.Schema.{Schema}
 use Rattle.olap_ast.specs.Violation.{Violation, Violation.NoEdge, Violation.NoParent, Violation.SameCategory, Violation.TwoAncestors, Violation.Shortcut, Violation.Unmet, IsViolation, rank, IsNotAfter, IsFirstViolation}
 use Rattle.olap_check.specs.Rows.{IsBounded}
-use Rattle.olap_check.specs.Strata.{Repeats, IsFirstRepeat}
+use Rattle.olap_check.specs.Strata.{AreLinked, Repeats, IsFirstRepeat}
 use Rattle.olap_check.specs.Tables.{IsTable, IsFirstSplit, IsLeastSplit, SplitsAt}
 use Rattle.olap_check.specs.Passing.{IsStratified, IsFirstShortcut, HasNoShortcut}
 use Rattle.olap_check.specs.Linking.{IsLinked, IsTableOf, IsFirstUnlinked, IsLinkedAt, IsFirstOrphan, IsOrphan}
@@ -81,6 +81,13 @@ module _ (i : Instance) (n : ℕ) (edges : List Bool) (bounded : IsBounded i n) 
   -- no member is far below one of its category
   abbrev pub Law3 : Type 0
   Law3 = (x : ℕ) → Repeats i x → ⊥
+
+  -- the first law in the words of the search for the third
+  pub links : Law1 → (g : Graph) → IsTableOf g n edges → AreLinked g i
+  links l1 g t x y b =
+      let e = get_or_default (parents_of i x) b.0 0 y b.1 ∙ b.2 in
+      subst (λ z. HasEdge g (category_of i x) (category_of i z)) e
+      (edge_of (record { graph = g; constraints = [] }) t x b.0 b.1 (l1 x (below_is_member i x y b) b.0 b.1))
 
   -- where the first law holds, nothing violates it
   no1 : Law1 → (s : Schema) → IsTableOf s.graph n edges → (x k : ℕ) → IsViolation s i (NoEdge x k) → ⊥
@@ -198,9 +205,7 @@ module _ (i : Instance) (n : ℕ) (edges : List Bool) (bounded : IsBounded i n) 
   pub all_five : Law1 → Law2 → Law3 → (cells : List ℕ) → IsTable i n (length i) cells → HasNoShortcut i → (g : Graph)
       → IsTableOf g n edges → IsLawful g i
   all_five l1 l2 l3 cells r l5 g t = record {
-    connectivity = λ x y b. let e = get_or_default (parents_of i x) b.0 0 y b.1 ∙ b.2 in
-        subst (λ z. HasEdge g (category_of i x) (category_of i z)) e
-        (edge_of (record { graph = g; constraints = [] }) t x b.0 b.1 (l1 x (below_is_member i x y b) b.0 b.1));
+    connectivity = links l1 g t;
     up_connectivity = λ x h m. some_parent (parents_of i x) (λ e. l2 x h (m, e));
     stratification = strata_of l3;
     partitioning = λ x y z f h e. elim (ℕ_discrete y z) [

@@ -4,14 +4,15 @@ use Rattle.std.specs.Prelude.{Contains, replicate}
 use Rattle.std.proofs.lemmas.List.{length-replicate}
 use Rattle.std.proofs.lemmas.List.Elements.{Contains-append_left, Contains-push, Contains-push_cases}
 use native.Mathlib.Decide.{ℕ_discrete}
+use Rattle.olap_base.specs.Graph.{Graph, HasEdge, CategoryReaches}
 use Rattle.olap_base.specs.Instance.{Instance, IsBelow, IsFarBelow, category_of, parents_of}
 use Rattle.olap_graph.specs.Tables.{IsMarked}
 use Rattle.olap_check.proofs.ParentLemmas.{taken}
-use Rattle.olap_base.specs.Steps.{Steps, Steps.here, Steps.step, Climb, Climb.climb, Steps-append, Climb-from_leads, leads_from_Climb, Steps-climb}
+use Rattle.olap_base.specs.Steps.{Steps, Steps.here, Steps.step, Climb, Climb.climb, Steps-append, Climb-from_leads, leads_from_Climb, Steps-climb, reaches_from_Steps}
 use Rattle.olap_base.proofs.ListLemmas.{Contains-nil}
 use Rattle.olap_check.specs.Rows.{IsBounded}
 use Rattle.olap_base.specs.Deciding.{below_is_member}
-use Rattle.olap_check.specs.Strata.{Repeats, HasNoneAbove, IsFirstIn, IsFirstOf, IsFirstRepeat, IsPassed, IsClosed, IsMarking, Hits, IsSearch, RepeatGives}
+use Rattle.olap_check.specs.Strata.{AreLinked, IsOnCycle, Repeats, HasNoneAbove, IsFirstIn, IsFirstOf, IsFirstRepeat, IsPassed, IsClosed, IsMarking, Hits, IsSearch, RepeatGives}
 
 module _ {i : Instance} {c : ℕ} (x : ℕ) (inside : (a b : ℕ) → IsBelow i a b → b < length i) where
   -- the parents of x, over marks that are closed
@@ -148,6 +149,38 @@ pub first_found : (i : Instance) (c limit x y : ℕ) → x < limit → IsFarBelo
     → category_of i x ≡ c → ((w : ℕ) → w < x → category_of i w ≡ c → HasNoneAbove i c w) → IsFirstIn i c limit x
 first_found i c limit x y h f e q below =
     record { within = omega arith; found = λ l. (y, f, q ∙ sym e); before = below }
+
+-- ---- a category that lies on no cycle
+
+-- edges lead along with the parents
+edges_along : (g : Graph) (i : Instance) → AreLinked g i → {x y : ℕ} → Steps (IsBelow i) x y
+    → Steps (HasEdge g) (category_of i x) (category_of i y)
+edges_along g i l here = here
+edges_along g i l (step {x = x} {y = z} r s) = step (l x z r) (edges_along g i l s)
+
+-- no member of it is far below another
+pub off_cycle : (g : Graph) (i : Instance) (c x : ℕ) → AreLinked g i → (IsOnCycle g c → ⊥) → category_of i x ≡ c
+    → HasNoneAbove i c x
+off_cycle g i c x l n e y f q = go (Climb-from_leads f)
+  where
+    go : Climb (IsBelow i) x y → ⊥
+    go (climb {z = z} r s) =
+        n (
+          category_of i z,
+          (
+            subst (λ d. HasEdge g d (category_of i z)) e (l x z r),
+            subst (CategoryReaches g (category_of i z)) q (reaches_from_Steps (edges_along g i l s)),
+          ),
+        )
+
+-- none of its members repeats
+pub first_off_cycle : (g : Graph) (i : Instance) (c limit : ℕ) → AreLinked g i → (IsOnCycle g c → ⊥)
+    → IsFirstIn i c limit limit
+first_off_cycle g i c limit l n = record {
+  within = omega arith;
+  found = λ h. absurd (omega (arith, h));
+  before = λ x h e. off_cycle g i c x l n e;
+}
 
 -- ---- category after category
 

@@ -64,7 +64,7 @@ pub(crate) fn lawful(
     if let Some(x) = first_orphan(instance) {
         return Ok(Err(Violation::NoParent(MemberId(x))));
     }
-    if let Some(x) = first_repeated(alloc, instance, categories)? {
+    if let Some(x) = first_repeated(alloc, graph, instance, categories)? {
         return Ok(Err(Violation::Stratification(MemberId(x))));
     }
     let cells = match table(alloc, instance, categories)? {

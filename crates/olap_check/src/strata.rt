@@ -1,10 +1,12 @@
 // Members that are far below a member of their own category.
-ghost use Rattle.std.specs.Prelude.{◌≡◌, ◌<◌, ◌≤◌, length, ℕ, IfOk, IfSome, IsNone, vec_len};
+ghost use Rattle.std.specs.Prelude.{◌≡◌, ◌<◌, ◌≤◌, ◌↔◌, length, ℕ, IfOk, IfSome, IsNone, IsTrue, vec_len};
+ghost use Rattle.olap_base.specs.Graph.{IsCategory, category_count};
 ghost use Rattle.olap_base.specs.Instance.{parents_of, IsBelow};
 ghost use Rattle.olap_check.specs.Rows.{IsBounded};
-ghost use Rattle.olap_check.specs.Strata.{IsClosed, IsFirstIn, IsFirstRepeat, MarkGives, RepeatGives, Repeats};
+ghost use Rattle.olap_check.specs.Strata.{AreLinked, IsClosed, IsFirstIn, IsFirstRepeat, IsOnCycle, LeadsBack, MarkGives, RepeatGives, Repeats};
 
-use olap_base::{MemberId, Memory};
+use olap_base::{CatId, MemberId, Memory};
+use olap_graph::Graph;
 use olap_instance::Instance;
 use std::alloc::Global;
 
@@ -80,21 +82,49 @@ fn first_in(alloc: Global, instance: &Instance, category: u16, limit: u32) -> Re
     Ok(limit)
 }
 
-/// The first member that is far below a member of its category.
+/// Whether an edge leads from the child to the parent, and edges from there back to the child.
+fn leads_back(graph: &Graph, child: u16, parent: u16) -> bool
+    requires child { IsCategory graph.now child }
+    requires parent { IsCategory graph.now parent }
+    ensures { IsTrue result ↔ LeadsBack graph.now child parent }
+{
+    graph.edge(CatId(child), CatId(parent)).is_some() && graph.reaches(CatId(parent), CatId(child))
+}
+
+/// Whether edges lead from the category back to it.
+fn is_on_cycle(graph: &Graph, category: u16) -> bool
+    requires { IsCategory graph.now category }
+    ensures { IsTrue result ↔ IsOnCycle graph.now category }
+{
+    'parents: for parent in 0..graph.categories() {
+        if leads_back(graph, category, parent) {
+            return true;
+        }
+    }
+    false
+}
+
+/// The first member that is far below a member of its category, where an edge leads to each parent. Only members of a
+/// category on a cycle of edges can be, so no others are looked at.
 ///
-/// Cost: for each category at most all parents once, and mostly those of the members above that category.
+/// Cost: for each category on a cycle at most all parents once, and mostly those of the members above that category.
 pub(crate) fn first_repeated(
     alloc: Global,
+    graph: &Graph,
     instance: &Instance,
     categories: u16,
 ) -> Result<Option<u32>, Memory>
-    requires { IsBounded instance.now categories }
+    requires bounded { IsBounded instance.now categories }
+    requires count { categories ≡ category_count graph.now }
+    requires linked { AreLinked graph.now instance.now }
     ensures none { IfOk result (λ o. IsNone o → (x : ℕ) → Repeats instance.now x → ⊥) }
     ensures some { IfOk result (λ o. IfSome o (IsFirstRepeat instance.now)) }
 {
     let mut first = instance.members();
     'categories: for category in 0..categories {
-        first = first_in(alloc, instance, category, first)?;
+        if is_on_cycle(graph, category) {
+            first = first_in(alloc, instance, category, first)?;
+        }
     }
     if first < instance.members() {
         Ok(Some(first))

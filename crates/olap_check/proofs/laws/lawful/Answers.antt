@@ -4,7 +4,7 @@ use Rattle.olap_ast.specs.Schema.{Schema}
 use Rattle.olap_check.specs.Linking.{IsTableOf}
 use Rattle.olap_check.specs.Reports.{member}
 use Rattle.olap_check.specs.declared.violations.Violation.TheVariants.{Connectivity, Shortcut}
-use Rattle.olap_check.proofs.FirstLemmas.{first1, first2, first3, first4, first5, all_five, strata_of}
+use Rattle.olap_check.proofs.FirstLemmas.{first1, first2, first3, first4, first5, all_five, links, strata_of}
 use Rattle.olap_check.proofs.laws.lawful.Goals as goal
 
 pub returns-in-Some-clause-first : goal.returns-in-Some-clause-first
@@ -33,6 +33,13 @@ returns-in-Some-first_orphan-clause-first c = λ constraints.
       is_first = first2 i n edges c.requires.bounded (c.in_default.ensures.none refl) orphan.x orphan.ensures.some s t;
       is_told = refl;
     }
+
+pub first_repeated-requires-clause-linked : goal.first_repeated-requires-clause-linked
+first_repeated-requires-clause-linked c =
+    let n = c.args.categories in
+    let edges = c.deref.result.now in
+    let t = subst (λ l. IsTableOf c.args.graph.now n l) (sym c.deref.ensures.value) c.in_ok-edges.ensures in
+    links c.args.instance.now n edges c.requires.bounded (c.in_default.ensures.none refl) c.args.graph.now t
 
 pub returns-in-Some-2-clause-first : goal.returns-in-Some-2-clause-first
 returns-in-Some-2-clause-first c = λ constraints.
