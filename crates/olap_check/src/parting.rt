@@ -24,12 +24,16 @@ pub(crate) fn table(
         IfOk result (λ r. IfOk r (λ cells. IsTable instance.now categories count cells.items)) }
     ensures err { IfOk result (λ r. IfErr r (IsFirstSplit instance.now categories)) }
 {
-    let mut cells = Vec::new(alloc);
-    'members: for x in 0..instance.members() {
-        match rise(alloc, instance, categories, x)? {
-            Some(row) => cells.extend_from_slice(&row)?,
-            None => return Ok(Err(x)),
+    let members = instance.members();
+    let width = usize::from(categories);
+    let mut cells = Vec::with_capacity(alloc, members as usize * width)?;
+    let mut row = vec![in alloc; NONE; width]?;
+    let mut list = Vec::new(alloc);
+    'members: for x in 0..members {
+        if !rise(instance, x, &mut row, &mut list)? {
+            return Ok(Err(x));
         }
+        cells.extend_from_slice(&row)?;
     }
     Ok(Ok(cells))
 }

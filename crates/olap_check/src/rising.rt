@@ -1,11 +1,10 @@
 // The walk upwards from one member, with one place for each category.
-ghost use Rattle.std.specs.Prelude.{◌≡◌, ◌<◌, length, ℕ, IfOk, IfSome, IsNone, vec_len};
+ghost use Rattle.std.specs.Prelude.{◌≡◌, ◌<◌, length, ℕ, IfOk, IsTrue, false, vec_len};
 ghost use Rattle.olap_base.specs.Instance.{parents_of};
 ghost use Rattle.olap_check.specs.Rows.{IsBounded, IsRise, IsRow, Splits, VisitGives};
 
 use olap_base::{MemberId, Memory};
 use olap_instance::Instance;
-use std::alloc::Global;
 
 /// No member's place.
 pub const NONE: u32 = 4_294_967_295;
@@ -37,30 +36,30 @@ fn visit(
     Ok(true)
 }
 
-/// For each category the member that x reaches, or `NONE`; nothing where two such members share a category.
+/// For each category the member that x reaches, or `NONE`, as the row; false where two such members share a category.
 ///
 /// A place is filled once, so the walk ends on a cycle too. Cost: the parents of the members that are met, of which
-/// there is at most one for each category.
+/// there is at most one for each category. What stood in the row and in the list doesn't count.
 pub(crate) fn rise(
-    alloc: Global,
     instance: &Instance,
-    categories: u16,
     x: u32,
-) -> Result<Option<Vec<u32>>, Memory>
+    row: &mut Vec<u32>,
+    list: &mut Vec<u32>,
+) -> Result<bool, Memory>
     requires x { x < length instance.now }
-    requires bounded { IsBounded instance.now categories }
-    ensures some { IfOk result (λ o. IfSome o (λ row. IsRise instance.now categories x row.items)) }
-    ensures none { IfOk result (λ o. IsNone o → Splits instance.now x) }
+    requires bounded { IsBounded instance.now (vec_len row.old) }
+    ensures whole { IfOk result (λ whole. IsTrue whole → IsRise instance.now (vec_len row.old) x row.new.items) }
+    ensures split { IfOk result (λ whole. whole ≡ false → Splits instance.now x) }
 {
-    let mut row = vec![in alloc; NONE; usize::from(categories)]?;
+    row.fill(NONE);
     row[usize::from(instance.category(MemberId(x)).0)] = x;
-    let mut list = Vec::new(alloc);
+    list.clear();
     list.push(x)?;
     'listed: while let Some(z) = list.pop() {
-        let whole = visit(instance, z, &mut row, &mut list)?;
+        let whole = visit(instance, z, row, list)?;
         if !whole {
-            return Ok(None);
+            return Ok(false);
         }
     }
-    Ok(Some(row))
+    Ok(true)
 }

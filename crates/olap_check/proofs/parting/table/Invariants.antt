@@ -1,6 +1,11 @@
 -- The rows of the members so far.
+use Rattle.std.proofs.Common.{◌≡◌}
+use Rattle.std.specs.Prelude.{vec_len}
 use Rattle.olap_check.specs.Tables.{IsTable}
 use Rattle.olap_check.proofs.parting.table.Given as goal
 
 abbrev pub invariant-members : goal.invariant-members
-invariant-members l = IsTable l.instance l.categories l.x l.cells.items
+invariant-members l = record {
+  table : IsTable l.instance l.categories l.x l.cells.items;
+  row : vec_len l.row ≡ l.categories;
+}

@@ -1,5 +1,6 @@
 -- The walk ends with all places filled, or at two members of one category.
 use Rattle.std.proofs.Common.{◌≡◌, [], ◌∷◌, ◌++◌, length, replicate, ap, sym, subst, ◌∙◌, arith, set}
+use Rattle.std.specs.Prelude.{vec_len}
 use Rattle.std.proofs.Math.ListN.{length-set}
 use Rattle.std.proofs.lemmas.List.{length-replicate}
 use Rattle.olap_base.specs.Instance.{category_of}
@@ -11,16 +12,15 @@ use Rattle.olap_check.proofs.rising.rise.Goals as goal
 
 pub listed-init : goal.listed-init
 listed-init c =
-    let n = c.args.categories in
+    let n = vec_len c.args.row.now in
     let x = c.args.x in
-    let row = c.in_ok-row.row.items in
-    let d : c.from-2.result ≡ category_of c.args.instance.now x = c.from-2.ensures ∙ c.category.ensures in
-    let e : row ≡ replicate n none =
-    c.in_ok-row.ensures.items_if_clones_equal (λ y e. e) ∙ ap (λ n. replicate n none) c.from.ensures in
+    let row = c.fill.new.self.items in
+    let d : c.from.result ≡ category_of c.args.instance.now x = c.from.ensures ∙ c.category.ensures in
+    let e : row ≡ replicate n none = c.fill.ensures.items (λ y e. e) in
     let q : c.push.new.self.items ≡ x ∷ [] =
-    c.in_ok-push.ensures.items ∙ ap (λ l. l ++ x ∷ []) c.new-list.ensures.items in
+    c.in_ok-push.ensures.items ∙ ap (λ l. l ++ x ∷ []) c.clear.ensures.items in
     record {
-      size = length-set row c.from-2.result x ∙ ap length e ∙ length-replicate n none;
+      size = length-set row c.from.result x ∙ ap length e ∙ length-replicate n none;
       frontier = subst (λ k. IsFrontier c.args.instance.now x (set row k x) c.push.new.self.items) (sym d)
           (frontier_start c.requires.bounded c.requires.x e q);
     }
@@ -30,8 +30,8 @@ visit-requires-clause-z c =
     let listed = taken c.pop.new.self.items c.in-Some.z c.in-Some.ensures.items in
     (c.listed.invariant.frontier.listed c.in-Some.z listed).0
 
-pub returns-then-not-whole-clause-none : goal.returns-then-not-whole-clause-none
-returns-then-not-whole-clause-none c = λ e.
+pub returns-then-not-whole-clause-split : goal.returns-then-not-whole-clause-split
+returns-then-not-whole-clause-split c = λ e.
     let met = c.in_ok-whole.ensures.met c.if-not-whole.true in
     frontier_splits c.pop.new.self.items c.in-Some.z c.listed.invariant.frontier c.in-Some.ensures.items met
 
@@ -51,8 +51,8 @@ listed-smaller c =
     let f = v.fewer in
     omega (arith, f, taken_fewer c.pop.new.self.items c.in-Some.z c.in-Some.ensures.items)
 
-pub returns-clause-some : goal.returns-clause-some
-returns-clause-some c =
+pub returns-clause-whole : goal.returns-clause-whole
+returns-clause-whole c = λ t.
     let n = none_case c.pop.result _ _ c.in_default.not-Some c.pop.ensures.cases in
     let o = c.listed.list.ok in
     let e : length c.listed.list.items ≡ 0 = let m = n.0 in omega arith in

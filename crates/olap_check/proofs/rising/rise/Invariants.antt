@@ -1,11 +1,12 @@
 -- The places are those of the members reached so far. A place that is filled is used up.
 use Rattle.std.proofs.Common.{◌+◌, ◌≡◌, length}
+use Rattle.std.specs.Prelude.{vec_len}
 use Rattle.olap_check.specs.Rows.{IsFrontier, free_count}
 use Rattle.olap_check.proofs.rising.rise.Given as goal
 
 abbrev pub invariant-listed : goal.invariant-listed
 invariant-listed l = record {
-  size : length l.row.items ≡ l.categories;
+  size : length l.row.items ≡ vec_len l.fn.row;
   frontier : IsFrontier l.instance l.x l.row.items l.list.items;
 }
 
