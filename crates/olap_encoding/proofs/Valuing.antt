@@ -10,7 +10,7 @@ use Rattle.olap_encoding.specs.Literals.{Valuation, value}
 use Rattle.olap_encoding.specs.Meanings.{edges_of, index_of, Means, IsEither, meaning_at, Fits, IsBelow, AreOrdered, chosen_graph, truth_of, valuation}
 use Rattle.olap_encoding.specs.declared.meanings.Meaning.{Meaning}
 use Rattle.olap_encoding.specs.declared.meanings.Meaning.TheVariants.{Always, On, Named, Present, Reaching, Both, Differ}
-use Rattle.olap_encoding.proofs.Tests.{same_is, is_same}
+use Rattle.olap_ast.proofs.Shape.{same_is, is_same}
 
 -- ---- whether a meaning holds
 

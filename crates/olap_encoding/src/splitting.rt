@@ -1,0 +1,155 @@
+// A formula that must be true, as clauses of its parts.
+ghost use Rattle.std.specs.Prelude.{Contains, IfOk, true};
+ghost use Rattle.olap_base.specs.Graph.{IsCategory};
+ghost use Rattle.olap_ast.specs.Trees.{formula_of, constraint_of};
+ghost use Rattle.olap_encoding.specs.Encoding.{IsSound, IsNext, AreKnown};
+ghost use Rattle.olap_encoding.specs.EncoderInside.{encoding_of};
+ghost use Rattle.olap_encoding.specs.Formulas.{IsSpoken, IsTrueAt, IsWidened, signed};
+
+use crate::encoders::{Encoder, negated};
+use crate::formulas::literal;
+use olap_ast::{Constraint, Formula};
+use olap_base::{CatId, Memory};
+
+// One literal more: that of the formula, or of its negation.
+fn push_literal(
+    e: &mut Encoder,
+    c: CatId,
+    f: &Formula,
+    holds: bool,
+    literals: &mut Vec<u32>,
+) -> Result<(), Memory>
+    requires sound { IsSound (encoding_of e.old) }
+    requires category { IsCategory e.old.problem.graph.now c.0 }
+    requires speaks { IsSpoken (encoding_of e.old).problem (formula_of f.now) }
+    requires known { AreKnown (encoding_of e.old) literals.old.items }
+    ensures next { IfOk result (λ _. IsNext (encoding_of e.old) (encoding_of e.new)) }
+    ensures widened { IfOk result (λ _. IsWidened (encoding_of e.new) c.0 (signed holds (formula_of f.now))
+        literals.old.items literals.new.items) }
+{
+    let l = literal(e, c, f)?;
+    if holds {
+        literals.push(l)?;
+    } else {
+        literals.push(negated(l))?;
+    }
+    Ok(())
+}
+
+// The literals of the alternatives of a formula, or of its negation, behind those that are there.
+fn alternatives(
+    e: &mut Encoder,
+    c: CatId,
+    f: &Formula,
+    holds: bool,
+    literals: &mut Vec<u32>,
+) -> Result<(), Memory>
+    requires sound { IsSound (encoding_of e.old) }
+    requires category { IsCategory e.old.problem.graph.now c.0 }
+    requires speaks { IsSpoken (encoding_of e.old).problem (formula_of f.now) }
+    requires known { AreKnown (encoding_of e.old) literals.old.items }
+    ensures next { IfOk result (λ _. IsNext (encoding_of e.old) (encoding_of e.new)) }
+    ensures widened { IfOk result (λ _. IsWidened (encoding_of e.new) c.0 (signed holds (formula_of f.now))
+        literals.old.items literals.new.items) }
+{
+    match (f, holds) {
+        (Formula::Not(g), _) => {
+            alternatives(e, c, g, !holds, literals)?;
+            Ok(())
+        }
+        (Formula::Or(g, h), true) => {
+            alternatives(e, c, g, true, literals)?;
+            alternatives(e, c, h, true, literals)?;
+            Ok(())
+        }
+        (Formula::And(g, h), false) => {
+            alternatives(e, c, g, false, literals)?;
+            alternatives(e, c, h, false, literals)?;
+            Ok(())
+        }
+        (Formula::Implies(g, h), true) => {
+            alternatives(e, c, g, false, literals)?;
+            alternatives(e, c, h, true, literals)?;
+            Ok(())
+        }
+        _ => {
+            push_literal(e, c, f, holds, literals)?;
+            Ok(())
+        }
+    }
+}
+
+// One clause: the category is absent, or one of the alternatives is true.
+fn one_clause(e: &mut Encoder, c: CatId, f: &Formula, holds: bool) -> Result<(), Memory>
+    requires sound { IsSound (encoding_of e.old) }
+    requires category { IsCategory e.old.problem.graph.now c.0 }
+    requires speaks { IsSpoken (encoding_of e.old).problem (formula_of f.now) }
+    requires so { IsTrueAt (encoding_of e.old) c.0 (signed holds (formula_of f.now)) }
+    ensures next { IfOk result (λ _. IsNext (encoding_of e.old) (encoding_of e.new)) }
+{
+    let p = e.present(c);
+    let not_p = negated(p);
+    let mut literals = Vec::new(e.alloc);
+    literals.push(not_p)?;
+    alternatives(e, c, f, holds, &mut literals)?;
+    e.clause(&literals)?;
+    Ok(())
+}
+
+// The clauses of a formula that is true at a category wherever this is present, or of one that never is.
+fn require(e: &mut Encoder, c: CatId, f: &Formula, holds: bool) -> Result<(), Memory>
+    requires sound { IsSound (encoding_of e.old) }
+    requires category { IsCategory e.old.problem.graph.now c.0 }
+    requires speaks { IsSpoken (encoding_of e.old).problem (formula_of f.now) }
+    requires so { IsTrueAt (encoding_of e.old) c.0 (signed holds (formula_of f.now)) }
+    ensures next { IfOk result (λ _. IsNext (encoding_of e.old) (encoding_of e.new)) }
+{
+    match (f, holds) {
+        (Formula::Not(g), _) => {
+            require(e, c, g, !holds)?;
+            Ok(())
+        }
+        (Formula::And(g, h), true) => {
+            require(e, c, g, true)?;
+            require(e, c, h, true)?;
+            Ok(())
+        }
+        (Formula::Or(g, h), false) => {
+            require(e, c, g, false)?;
+            require(e, c, h, false)?;
+            Ok(())
+        }
+        (Formula::Implies(g, h), false) => {
+            require(e, c, g, true)?;
+            require(e, c, h, false)?;
+            Ok(())
+        }
+        _ => {
+            one_clause(e, c, f, holds)?;
+            Ok(())
+        }
+    }
+}
+
+/// The clauses of a constraint.
+pub fn constraint(e: &mut Encoder, k: &Constraint) -> Result<(), Memory>
+    requires sound { IsSound (encoding_of e.old) }
+    requires category { IsCategory e.old.problem.graph.now k.now.root.0 }
+    requires constraint { Contains (encoding_of e.old).problem.schema.constraints (constraint_of k.now) }
+    requires speaks { IsSpoken (encoding_of e.old).problem (formula_of k.now.formula) }
+    ensures next { IfOk result (λ _. IsNext (encoding_of e.old) (encoding_of e.new)) }
+{
+    require(e, k.root, &k.formula, true)?;
+    Ok(())
+}
+
+/// The clauses of the question.
+pub fn question(e: &mut Encoder) -> Result<(), Memory>
+    requires sound { IsSound (encoding_of e.old) }
+    requires speaks { IsSpoken (encoding_of e.old).problem (encoding_of e.old).problem.question }
+    ensures next { IfOk result (λ _. IsNext (encoding_of e.old) (encoding_of e.new)) }
+{
+    let p = e.problem();
+    require(e, p.root, p.question, true)?;
+    Ok(())
+}
