@@ -1,6 +1,7 @@
 -- The valuation of a frozen dimension gives each variable the value of its meaning.
 use Rattle.std.proofs.Common.{◌≡◌, ℕ, zero, suc, ◌<◌, ◌≤◌, ◌/◌, ◌%◌, List, length, Bool, true, false, cond, refl, ap, sym, subst, ◌∙◌, ◌↔◌, ◌⊎◌, inl, inr, arith}
-use Rattle.std.specs.Prelude.{◌==◌, IsTrue, not}
+use Rattle.std.specs.Prelude.{◌==◌, IsTrue, nat_le, not}
+use Rattle.std.proofs.lemmas.Bool.Decides.{nat_tests}
 use Rattle.olap_base.specs.Steps.{Steps-from_reaches, reaches_from_Steps}
 use Rattle.olap_base.specs.Reaching.{category_reaches, category_reaches_is}
 use Rattle.olap_base.proofs.ListLemmas.{both_true, first_true, second_true}
@@ -9,7 +10,7 @@ use Rattle.olap_ast.specs.Frozen.{Frozen, is_present}
 use Rattle.olap_encoding.specs.Literals.{Valuation, value}
 use Rattle.olap_encoding.specs.Meanings.{edges_of, index_of, Means, IsEither, meaning_at, Fits, IsBelow, AreOrdered, chosen_graph, truth_of, valuation}
 use Rattle.olap_encoding.specs.declared.meanings.Meaning.{Meaning}
-use Rattle.olap_encoding.specs.declared.meanings.Meaning.TheVariants.{Always, On, Named, Present, Reaching, Both, Differ}
+use Rattle.olap_encoding.specs.declared.meanings.Meaning.TheVariants.{Always, On, Named, UpTo, Present, Reaching, Both, Differ}
 use Rattle.olap_ast.proofs.Shape.{same_is, is_same}
 
 -- ---- whether a meaning holds
@@ -20,11 +21,18 @@ differ_is true false = (λ e i. let z : false ≡ true = i.0 refl in cc, λ n. r
 differ_is false true = (λ e i. let z : false ≡ true = i.1 refl in cc, λ n. refl)
 differ_is false false = (λ e i. cc, λ n. absurd (n (λ x. x, λ x. x)))
 
+at_most : (a b : ℕ) → nat_le a b ≡ true → a ≤ b
+at_most a b e = grind (arith, nat_tests)
+
+is_at_most : (a b : ℕ) → a ≤ b → nat_le a b ≡ true
+is_at_most a b h = grind (arith, nat_tests)
+
 truth_is : (s : Schema) (r : ℕ) (f : Frozen) (v : Valuation) (m : Meaning) → IsTrue (truth_of s r f v m)
     ↔ Means s r f v m
 truth_is s r f v Always = (λ e. tt, λ t. refl)
 truth_is s r f v (On e) = (λ h. h, λ h. h)
 truth_is s r f v (Named c k) = (same_is (index_of f c) k, is_same (index_of f c) k)
+truth_is s r f v (UpTo c k) = (at_most (index_of f c) k, is_at_most (index_of f c) k)
 truth_is s r f v (Present c) = (λ h. h, λ h. h)
 truth_is s r f v (Reaching c d) =
     let a = is_present r (edges_of s f) c in
@@ -50,6 +58,7 @@ means_alike : (s : Schema) (r : ℕ) (f : Frozen) (v w : Valuation) (n : ℕ) (m
 means_alike s r f v w n Always b e h = h
 means_alike s r f v w n (On x) b e h = h
 means_alike s r f v w n (Named c k) b e h = h
+means_alike s r f v w n (UpTo c k) b e h = h
 means_alike s r f v w n (Present c) b e h = h
 means_alike s r f v w n (Reaching c d) b e h = h
 means_alike s r f v w n (Both x y) b e h = (

@@ -3,7 +3,7 @@
 --     Fits         the variables have the values of their meanings
 --     AreOrdered   each meaning speaks of literals of earlier variables
 --     valuation    the one valuation, by recursion
-use Rattle.std.specs.Prelude.{◌≡◌, ℕ, zero, suc, ◌<◌, ◌/◌, List, [], Bool, true, false, not, IsTrue, ◌↔◌, ◌==◌, ◌&&◌, if◌then◌else◌, length, slice_index, slice_index_or}
+use Rattle.std.specs.Prelude.{◌≡◌, ℕ, zero, suc, ◌<◌, ◌≤◌, ◌/◌, List, [], Bool, true, false, not, IsTrue, ◌↔◌, ◌==◌, nat_le, ◌&&◌, if◌then◌else◌, length, slice_index, slice_index_or}
 use Rattle.olap_base.specs.Graph.{Edge, Graph}
 use Rattle.olap_base.specs.Reaching.{category_reaches}
 use Rattle.olap_ast.specs.Schema.{Schema}
@@ -11,7 +11,7 @@ use Rattle.olap_ast.specs.Frozen.{Frozen, chosen, is_present}
 use Rattle.olap_encoding.specs.Choices.{IsPresent, IsReaching}
 use Rattle.olap_encoding.specs.Literals.{Valuation, value, Is}
 use Rattle.olap_encoding.specs.declared.meanings.Meaning.{Meaning}
-use Rattle.olap_encoding.specs.declared.meanings.Meaning.TheVariants.{Always, On, Named, Present, Reaching, Both, Differ}
+use Rattle.olap_encoding.specs.declared.meanings.Meaning.TheVariants.{Always, On, Named, UpTo, Present, Reaching, Both, Differ}
 
 -- the chosen edges of a frozen dimension
 abbrev pub edges_of : Schema → Frozen → List Edge
@@ -35,6 +35,7 @@ abbrev pub Means : Schema → ℕ → Frozen → Valuation → Meaning → Type 
 Means s r f v Always = Unit {0}
 Means s r f v (On e) = IsOn f e
 Means s r f v (Named c k) = index_of f c ≡ k
+Means s r f v (UpTo c k) = index_of f c ≤ k
 Means s r f v (Present c) = IsPresent r (edges_of s f) c
 Means s r f v (Reaching c d) = IsReaching r (edges_of s f) c d
 Means s r f v (Both a b) = Is v a × Is v b
@@ -52,6 +53,7 @@ abbrev pub IsBelow : ℕ → Meaning → Type 0
 IsBelow n Always = Unit {0}
 IsBelow n (On e) = Unit {0}
 IsBelow n (Named c k) = Unit {0}
+IsBelow n (UpTo c k) = Unit {0}
 IsBelow n (Present c) = Unit {0}
 IsBelow n (Reaching c d) = Unit {0}
 IsBelow n (Both a b) = (a / 2 < n) × (b / 2 < n)
@@ -71,6 +73,7 @@ abbrev pub truth_of : Schema → ℕ → Frozen → Valuation → Meaning → Bo
 truth_of s r f v Always = true
 truth_of s r f v (On e) = slice_index_or f.edges e false
 truth_of s r f v (Named c k) = index_of f c == k
+truth_of s r f v (UpTo c k) = nat_le (index_of f c) k
 truth_of s r f v (Present c) = is_present r (edges_of s f) c
 truth_of s r f v (Reaching c d) = is_present r (edges_of s f) c && category_reaches (chosen_graph (edges_of s f)) c d
 truth_of s r f v (Both a b) = value v a && value v b

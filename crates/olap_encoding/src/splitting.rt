@@ -131,7 +131,7 @@ fn require(e: &mut Encoder, c: CatId, f: &Formula, holds: bool) -> Result<(), Me
     }
 }
 
-/// The clauses of a constraint.
+/// The clauses of a constraint: none, where the root doesn't walk to its category.
 pub fn constraint(e: &mut Encoder, k: &Constraint) -> Result<(), Memory>
     requires sound { IsSound (encoding_of e.old) }
     requires category { IsCategory e.old.problem.graph.now k.now.root.0 }
@@ -139,6 +139,9 @@ pub fn constraint(e: &mut Encoder, k: &Constraint) -> Result<(), Memory>
     requires speaks { IsSpoken (encoding_of e.old).problem (formula_of k.now.formula) }
     ensures next { IfOk result (λ _. IsNext (encoding_of e.old) (encoding_of e.new)) }
 {
+    if !e.problem.graph.reaches(e.problem.root, k.root) {
+        return Ok(());
+    }
     require(e, k.root, &k.formula, true)?;
     Ok(())
 }
