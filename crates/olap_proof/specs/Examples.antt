@@ -2,13 +2,18 @@
 --     chain                      Store, City and `All`, one above the other
 --     ChainIsCertified           City's totals can be taken from Store's: five lines say why
 --     ChainIsShortlyCertified    and so do seven of the short form
-use Rattle.std.specs.Prelude.{[], ◌∷◌, codes}
+--     EdgesAreDecidedOnce        no certificate decides an edge where it is decided
+--     NamesAreDecidedOnce        nor a name
+--     TheRootIsNotLoose          nor calls the bottom category of a tree loose
+--     LinesAreSpelledExactly     nor has two spaces between words
+use Rattle.std.specs.Prelude.{[], ◌∷◌, List, ℕ, codes}
 use Rattle.olap_ast.specs.Formula.{Formula}
 use Rattle.olap_ast.specs.Frozen.{Candidates}
 use Rattle.olap_ast.specs.Schema.{Schema}
 use Rattle.olap_ast.specs.Summarizable.{not_by_one}
+use Rattle.olap_proof.specs.declared.forms.Form.{Form}
 use Rattle.olap_proof.specs.declared.forms.Form.TheVariants.{Long, Short}
-use Rattle.olap_proof.specs.Certificates.{IsCertificate}
+use Rattle.olap_proof.specs.Certificates.{IsCertificate, head_text}
 
 -- Store, City and `All`, one above the other
 abbrev pub chain : Schema
@@ -34,3 +39,24 @@ abbrev pub ChainIsShortlyCertified : Type 0
 ChainIsShortlyCertified = (k : Candidates) → IsCertificate Short chain city_not_by_store k
     (codes "short certificate 1" ∷ codes "bottom Store" ∷ codes "reach Store City" ∷ codes "edge Store City"
     ∷ codes "dead Store" ∷ codes "steps Store City" ∷ codes "question" ∷ [])
+
+-- no certificate decides an edge where it is decided, whatever its other lines are
+abbrev pub EdgesAreDecidedOnce : Type 0
+EdgesAreDecidedOnce = (f : Form) (k : Candidates) (others : List (List ℕ)) → IsCertificate f chain city_not_by_store k
+    (head_text f ∷ codes "bottom Store" ∷ codes "edge Store City" ∷ codes "edge Store City" ∷ others) → ⊥
+
+-- nor a name
+abbrev pub NamesAreDecidedOnce : Type 0
+NamesAreDecidedOnce = (f : Form) (k : Candidates) (others : List (List ℕ)) → IsCertificate f chain city_not_by_store k
+    (head_text f ∷ codes "bottom Store" ∷ codes "name Store" ∷ codes "name Store" ∷ others) → ⊥
+
+-- nor calls the bottom category of a tree loose
+abbrev pub TheRootIsNotLoose : Type 0
+TheRootIsNotLoose = (k : Candidates) (others : List (List ℕ)) → IsCertificate Long chain city_not_by_store k
+    (head_text Long ∷ codes "bottom Store" ∷ codes "edge Store City" ∷ codes "dead Store" ∷ codes "loose Store City"
+    ∷ others) → ⊥
+
+-- nor has two spaces between words
+abbrev pub LinesAreSpelledExactly : Type 0
+LinesAreSpelledExactly = (f : Form) (k : Candidates) (others : List (List ℕ))
+    → IsCertificate f chain city_not_by_store k (head_text f ∷ codes "bottom  Store" ∷ others) → ⊥

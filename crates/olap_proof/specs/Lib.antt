@@ -5,3 +5,5 @@ pub mod Certificates
 pub mod Examples
 pub mod FullPlaces
 pub mod Existing
+-- How the program reads a text.
+pub mod Reading

@@ -1,6 +1,6 @@
 // Theorems over the definitions. Each is the clause of a function that does nothing.
 ghost use Rattle.olap_proof.specs.Certificates.{CertificatesAreRight};
-ghost use Rattle.olap_proof.specs.Examples.{ChainIsCertified, ChainIsShortlyCertified};
+ghost use Rattle.olap_proof.specs.Examples.{ChainIsCertified, ChainIsShortlyCertified, EdgesAreDecidedOnce, LinesAreSpelledExactly, NamesAreDecidedOnce, TheRootIsNotLoose};
 
 /// A certificate, of either form, exists only where the target is summarizable from the sources.
 pub fn certificates_are_right()
@@ -15,4 +15,24 @@ pub fn chain_is_certified()
 /// And so do seven lines of the short form.
 pub fn chain_is_shortly_certified()
     ensures { ChainIsShortlyCertified }
+{}
+
+/// No certificate decides an edge where it is decided.
+pub fn edges_are_decided_once()
+    ensures { EdgesAreDecidedOnce }
+{}
+
+/// Nor a name.
+pub fn names_are_decided_once()
+    ensures { NamesAreDecidedOnce }
+{}
+
+/// Nor does one call the bottom category of a tree loose.
+pub fn the_root_is_not_loose()
+    ensures { TheRootIsNotLoose }
+{}
+
+/// Nor has one two spaces between words.
+pub fn lines_are_spelled_exactly()
+    ensures { LinesAreSpelledExactly }
 {}

@@ -8,7 +8,11 @@
 mod existence;
 mod forms;
 mod laws;
+mod lines;
 
 pub use existence::{certificates_exist_exactly_where_summarizable, full_places_close};
 pub use forms::Form;
-pub use laws::{certificates_are_right, chain_is_certified, chain_is_shortly_certified};
+pub use laws::{
+    certificates_are_right, chain_is_certified, chain_is_shortly_certified, edges_are_decided_once,
+    lines_are_spelled_exactly, names_are_decided_once, the_root_is_not_loose,
+};

@@ -1,0 +1,126 @@
+-- A line's first word and what stands behind it.
+--     joined          a word with what stands behind it
+--     line_joined     a line is that
+--     joined_once     in one way only
+--     words_differ    two words have different bytes
+--     word_unread     bytes whose first word is none are no line
+--     line_read       bytes are the line of their first word and what stands behind it
+use Rattle.std.proofs.Common.{◌≡◌, ℕ, ◌++◌, List, ◌∷◌, get_or, true, false, cond, Option, Some, None, refl, ap, sym, ◌∙◌, Bor}
+use Rattle.std.specs.Prelude.{Contains, IfSome, IsNone, ◌==◌}
+use Rattle.std.specs.Option.{option_map}
+use Rattle.std.specs.List.{list_any}
+use Rattle.olap_base.specs.Graph.{Graph}
+use Rattle.olap_base.proofs.ListLemmas.{list_any_is}
+use Rattle.olap_ast.specs.Schema.{Schema}
+use Rattle.olap_proof.specs.declared.lines.Word.{Word}
+use Rattle.olap_proof.specs.declared.lines.Word.TheVariants as word
+use Rattle.olap_proof.specs.Lines.{Line, Line.Asked, Line.Clash, Line.Cycle, Line.Dead, Line.EdgeOrNot, Line.Loose, Line.NameOf, Line.Shortcut, Line.Unmet, Line.Unreached, Line.WayOrNot, line_text, words}
+use Rattle.olap_proof.specs.declared.lines.Line as program
+use Rattle.olap_proof.specs.Reading.{IsLineOf, IsReading, first_of, rest_of, said, word_text}
+use Rattle.olap_proof.proofs.LineLemmas.{parted, unparted}
+
+-- a word with what stands behind it
+abbrev pub joined : List ℕ → Option (List ℕ) → List ℕ
+joined w None = w
+joined w (Some rest) = words w rest
+
+-- a line is its first word with what stands behind it
+pub line_joined : (g : Graph) (l : Line) → joined (word_text (first_of l)) (rest_of g l) ≡ line_text g l
+line_joined g (EdgeOrNot e) = refl
+line_joined g (NameOf c) = refl
+line_joined g (WayOrNot a b) = refl
+line_joined g (Dead c) = refl
+line_joined g Cycle = refl
+line_joined g Shortcut = refl
+line_joined g (Loose e) = refl
+line_joined g (Unreached c) = refl
+line_joined g (Clash a b) = refl
+line_joined g (Unmet n) = refl
+line_joined g Asked = refl
+
+-- what is joined is joined of one word and one rest
+pub joined_once : (w x : List ℕ) (r t : Option (List ℕ)) → (Contains w 32 → ⊥) → (Contains x 32 → ⊥)
+    → joined w r ≡ joined x t → (w ≡ x) × (r ≡ t)
+joined_once w x None None n m e = (e, refl)
+joined_once w x None (Some t) n m e = absurd (unparted 32 w x t n (sym e))
+joined_once w x (Some r) None n m e = absurd (unparted 32 x w r m e)
+joined_once w x (Some r) (Some t) n m e = let p = parted 32 w r x t n m e in (p.0, ap (λ (y : List ℕ). Some y) p.1)
+
+-- ---- first words
+
+no_space : (w : Word) → list_any (λ b. b == 32) (word_text w) ≡ false
+no_space word.Edge = refl
+no_space word.Name = refl
+no_space word.Reach = refl
+no_space word.Dead = refl
+no_space word.Cycle = refl
+no_space word.Shortcut = refl
+no_space word.Loose = refl
+no_space word.Steps = refl
+no_space word.Constraint = refl
+no_space word.Question = refl
+
+-- no space stands in a word
+pub word_plain : (w : Word) → Contains (word_text w) 32 → ⊥
+word_plain w c =
+    let t = (list_any_is (λ b. b == 32) (word_text w)).1 (32, c, refl) in
+    let z : true ≡ false = sym t ∙ no_space w in cc
+
+-- the word of a first and a second byte
+abbrev word_by : ℕ → ℕ → Word
+word_by a b = cond (a == 101) word.Edge (cond (a == 110) word.Name (cond (a == 114) word.Reach
+    (cond (a == 100) word.Dead (cond (a == 108) word.Loose (cond (a == 113) word.Question
+    (cond (b == 121) word.Cycle (cond (b == 104) word.Shortcut (cond (b == 116) word.Steps word.Constraint))))))))
+
+abbrev word_in : List ℕ → Word
+word_in bytes = word_by (get_or bytes 0 0) (get_or bytes 1 0)
+
+word_again : (w : Word) → word_in (word_text w) ≡ w
+word_again word.Edge = refl
+word_again word.Name = refl
+word_again word.Reach = refl
+word_again word.Dead = refl
+word_again word.Cycle = refl
+word_again word.Shortcut = refl
+word_again word.Loose = refl
+word_again word.Steps = refl
+word_again word.Constraint = refl
+word_again word.Question = refl
+
+-- two words have different bytes
+pub words_differ : (w x : Word) → word_text w ≡ word_text x → w ≡ x
+words_differ w x e = sym (word_again w) ∙ ap word_in e ∙ word_again x
+
+-- ---- lines
+
+-- the word and the rest of a line are those that its bytes were cut into
+pub line_cut : (g : Graph) (l : Line) (bytes first : List ℕ) (rest : Option (List ℕ)) → (Contains first 32 → ⊥)
+    → joined first rest ≡ bytes → line_text g l ≡ bytes → (word_text (first_of l) ≡ first) × (rest_of g l ≡ rest)
+line_cut g l bytes first rest n j e =
+    joined_once (word_text (first_of l)) first (rest_of g l) rest (word_plain (first_of l)) n
+    (line_joined g l ∙ e ∙ sym j)
+
+-- what was cut is joined again
+pub cut_joined : (bytes first : List ℕ) (rest : Option (Bor (List ℕ)))
+    → IfSome rest (λ r. bytes ≡ first ++ 32 ∷ r.now) → (IsNone rest → first ≡ bytes)
+    → joined first (option_map (λ r. r.now) rest) ≡ bytes
+cut_joined bytes first None s n = n refl
+cut_joined bytes first (Some r) s n = sym s
+
+-- bytes whose first word is none are no line
+pub word_unread : (s : Schema) (bytes first : List ℕ) (rest : Option (List ℕ)) → (Contains first 32 → ⊥)
+    → joined first rest ≡ bytes → ((w : Word) → word_text w ≡ first → ⊥) → IsLineOf s bytes None
+word_unread s bytes first rest n j none = λ l a e. none (first_of l) (line_cut s.graph l bytes first rest n j e).0
+
+-- bytes are the line of their first word and what stands behind it
+pub line_read : (s : Schema) (bytes first : List ℕ) (rest : Option (List ℕ)) (w : Word) (r : Option program.Line)
+    → (Contains first 32 → ⊥) → joined first rest ≡ bytes → word_text w ≡ first → IsReading s w rest r
+    → IsLineOf s bytes r
+line_read s bytes first rest w None n j e h = λ l a q.
+    let p = line_cut s.graph l bytes first rest n j q in
+    h l a (words_differ (first_of l) w (p.0 ∙ sym e)) p.1
+line_read s bytes first rest w (Some l) n j e h = (
+  h.0,
+  sym (line_joined s.graph (said l)) ∙ ap (λ x. joined (word_text x) (rest_of s.graph (said l))) h.1
+      ∙ ap (λ t. joined (word_text w) t) h.2 ∙ ap (λ x. joined x rest) e ∙ j,
+)

@@ -1,0 +1,5 @@
+use Rattle.olap_proof.proofs.RefusedLemmas as refused
+use Rattle.olap_proof.proofs.laws.edges_are_decided_once.Goals as goal
+
+pub returns : goal.returns
+returns c = refused.edges_are_decided_once
