@@ -7,3 +7,5 @@ pub mod FullPlaces
 pub mod Existing
 -- How the program reads a text.
 pub mod Reading
+pub mod KeptParts
+pub mod Kept

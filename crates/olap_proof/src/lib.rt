@@ -9,6 +9,7 @@ mod existence;
 mod forms;
 mod laws;
 mod lines;
+mod places;
 
 pub use existence::{certificates_exist_exactly_where_summarizable, full_places_close};
 pub use forms::Form;

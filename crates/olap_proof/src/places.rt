@@ -1,0 +1,172 @@
+// The place in a tree at which the reading stands.
+ghost use Rattle.std.specs.Prelude.{◌≡◌, ◌-◌, ◌<◌, IfOk, None, OnErr, OnOk, length, map, take};
+ghost use Rattle.std.specs.Option.{option_map};
+ghost use Rattle.olap_base.specs.Graph.{IsCategory};
+ghost use Rattle.olap_proof.specs.Certificates.{start, with_edge, with_name, with_way};
+ghost use Rattle.olap_proof.specs.KeptParts.{naming_kept, way_kept};
+ghost use Rattle.olap_proof.specs.Places.{index_of, way_of};
+ghost use Rattle.olap_trail.specs.Decisions.{status_of};
+
+use olap_base::{CatId, EdgeId, Memory};
+use olap_graph::{Graph, WORDS};
+use olap_trail::{Mark, Trail};
+use std::alloc::Global;
+use std::marker::Model;
+
+/// The category's name is the one at this index.
+#[derive(Clone, Copy, PartialEq, Eq, Debug)]
+pub(crate) struct Naming {
+    pub(crate) category: CatId,
+    pub(crate) index: u16,
+}
+
+/// Whether the child category has a member that reaches one of the parent category.
+#[derive(Clone, Copy, PartialEq, Eq, Debug)]
+pub(crate) struct Way {
+    pub(crate) child: CatId,
+    pub(crate) parent: CatId,
+    pub(crate) there: bool,
+}
+
+/// A root, with what was decided of edges, of names and of ways, each in the order in which it was decided.
+#[derive(Drop)]
+pub(crate) struct Place {
+    trail: Trail<{ WORDS }>,
+    namings: Vec<Naming>,
+    ways: Vec<Way>,
+}
+
+impl Model for Place {
+    ghost use Rattle.olap_proof.specs.Places.{Place as Decisions};
+
+    ghost Value = { Decisions };
+
+    ghost use Rattle.olap_proof.specs.Kept.{place_kept};
+
+    ghost view = { place_kept };
+}
+
+/// The index that was decided for the category's name, first of these.
+fn index_in(namings: &[Naming], c: CatId) -> Option<u16>
+    ensures { result ≡ index_of (map naming_kept namings.now) c.0 }
+{
+    let mut left = namings;
+    'namings: while let Some((naming, others)) = left.split_first() {
+        if naming.category.0 == c.0 {
+            return Some(naming.index);
+        }
+        left = others;
+    }
+    None
+}
+
+/// What was decided of the way, first of these.
+fn way_in(ways: &[Way], child: CatId, parent: CatId) -> Option<bool>
+    ensures { result ≡ way_of (map way_kept ways.now) child.0 parent.0 }
+{
+    let mut left = ways;
+    'ways: while let Some((way, others)) = left.split_first() {
+        if way.child.0 == child.0 && way.parent.0 == parent.0 {
+            return Some(way.there);
+        }
+        left = others;
+    }
+    None
+}
+
+impl Place {
+    /// Nothing is decided. It takes the memory for a decision on each edge.
+    pub(crate) fn new(alloc: Global, graph: &Graph, root: CatId) -> Result<Place, Memory>
+        requires { IsCategory graph.now root.0 }
+        ensures { IfOk result (λ p. p ≡ start graph.now root.0) }
+    {
+        // Called for its clause: there are few categories.
+        let _few = graph.categories();
+        Ok(Place {
+            trail: Trail::new(alloc, graph, root)?,
+            namings: Vec::new(alloc),
+            ways: Vec::new(alloc),
+        })
+    }
+
+    /// What was decided of the edge. One look at a table.
+    pub(crate) fn status(&self, edge: EdgeId) -> Option<bool>
+        requires { edge.0 < length self.now.decided.graph.edges }
+        ensures { result ≡ status_of self.now.decided edge.0 }
+    {
+        self.trail.status(edge)
+    }
+
+    /// The index that was decided for the category's name. Cost: how many names are decided.
+    pub(crate) fn index(&self, c: CatId) -> Option<u16>
+        ensures { result ≡ index_of self.now.namings c.0 }
+    {
+        index_in(&self.namings, c)
+    }
+
+    /// What was decided of the way. Cost: how many ways are decided.
+    pub(crate) fn way(&self, child: CatId, parent: CatId) -> Option<bool>
+        ensures { result ≡ way_of self.now.ways child.0 parent.0 }
+    {
+        way_in(&self.ways, child, parent)
+    }
+
+    /// Decides an edge that is undecided.
+    pub(crate) fn decide(&mut self, edge: EdgeId, present: bool)
+        requires edge { edge.0 < length self.old.decided.graph.edges }
+        requires open { status_of self.old.decided edge.0 ≡ None }
+        ensures { self.new ≡ with_edge self.old edge.0 present }
+    {
+        self.trail.decide(edge, present);
+    }
+
+    /// Decides a name. `Memory`: out of memory, and nothing is decided.
+    pub(crate) fn name(&mut self, category: CatId, index: u16) -> Result<(), Memory>
+        ensures ok { OnOk result (self.new ≡ with_name self.old category.0 index) }
+        ensures same { OnErr result (self.new ≡ self.old) }
+    {
+        self.namings.push(Naming { category, index })?;
+        Ok(())
+    }
+
+    /// Decides a way. `Memory`: out of memory, and nothing is decided.
+    pub(crate) fn lead(&mut self, child: CatId, parent: CatId, there: bool) -> Result<(), Memory>
+        ensures ok { OnOk result (self.new ≡ with_way self.old child.0 parent.0 there) }
+        ensures same { OnErr result (self.new ≡ self.old) }
+    {
+        self.ways.push(Way {
+            child,
+            parent,
+            there,
+        })?;
+        Ok(())
+    }
+
+    /// Takes the last decision on an edge back, if there is one.
+    pub(crate) fn undecide(&mut self)
+        ensures { self.new ≡ record self.old {
+          decided = record self.old.decided {
+            decisions = take (length self.old.decided.decisions - 1) self.old.decided.decisions;
+          };
+        } }
+    {
+        let mark = self.trail.mark();
+        if mark.0 > 0 {
+            self.trail.undo(Mark(mark.0 - 1));
+        }
+    }
+
+    /// Takes the last decision on a name back, if there is one.
+    pub(crate) fn unname(&mut self)
+        ensures { self.new ≡ record self.old { namings = take (length self.old.namings - 1) self.old.namings } }
+    {
+        let _last = self.namings.pop();
+    }
+
+    /// Takes the last decision on a way back, if there is one.
+    pub(crate) fn unlead(&mut self)
+        ensures { self.new ≡ record self.old { ways = take (length self.old.ways - 1) self.old.ways } }
+    {
+        let _last = self.ways.pop();
+    }
+}
