@@ -10,7 +10,7 @@ import xml.etree.ElementTree as ET
 from pathlib import Path
 from typing import Iterator
 
-from .common import EXAMPLES, TOOLS, page_of, picture_faults, picture_of, pictures_of_page, tool
+from .common import EXAMPLES, IN_TIME, TOOLS, page_of, picture_faults, picture_of, pictures_of_page, tool
 from ..program import find
 
 LOCATION = str(EXAMPLES / "location" / "schema.txt")
@@ -146,7 +146,7 @@ def lies(room: Path) -> Iterator[str]:
     liar = room / "liar"
     liar.write_text(LIAR.format(python=sys.executable, program=json.dumps(str(find()))))
     liar.chmod(0o755)
-    for words in (("draw", "summarizable", LOCATION, "Country", "State"), ("report", str(EXAMPLES / "chain" / "schema.txt"))):
+    for words in (("draw", "summarizable", LOCATION, "Country", "State"), ("report", *IN_TIME, str(EXAMPLES / "chain" / "schema.txt"))):
         yield from one_line(f"{words[0]} of a program that lies", tool(*words, folder=room, OLAP=str(liar)), 70)
 
 

@@ -19,6 +19,7 @@ SVG = "{http://www.w3.org/2000/svg}"
 SHAPES = {"svg", "g", "title", "desc", "style", "rect", "polygon", "polyline", "path", "ellipse", "text"}
 VOID = {"meta", "br"}
 PATIENCE = 170  # seconds
+IN_TIME = ("--seconds", "120")  # for a report whose questions are all to be answered, on a loaded machine too
 
 
 def is_there(tool: str, package: str) -> bool:

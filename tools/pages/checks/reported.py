@@ -8,7 +8,7 @@ from concurrent.futures import ThreadPoolExecutor
 from pathlib import Path
 from typing import Iterator
 
-from .common import (EXAMPLES, TOP, Element, categories_of, differs_from_counterexample, differs_from_frozen, edges_of, named, olap,
+from .common import (EXAMPLES, IN_TIME, TOP, Element, categories_of, differs_from_counterexample, differs_from_frozen, edges_of, named, olap,
                      page_of, picture_faults, picture_of, pictures_of_page, tool)
 
 FEW_SECONDS, BY_DEFAULT = 4, 32  # for the questions of a page
@@ -176,7 +176,7 @@ def cell_faults(top: Element, text: str, file: Path, sample: int = 1) -> Iterato
 
 
 def page_faults(file: Path) -> Iterator[str]:
-    done = tool("report", str(file))
+    done = tool("report", *IN_TIME, str(file))
     if done.returncode != 0 or done.stderr:
         yield f"status {done.returncode}: {done.stderr.strip()}"
         return
