@@ -1,7 +1,7 @@
 """What the reader of one command must believe, in tiers: the subject, what every run shares, what a schema's text stands for, and
 the command's own.
 
-A command's own words, order and question are found in crates/olap_run/specs: of each declaration that has a case for each
+A command's own order and question are found in crates/olap_run/specs: of each declaration that has a case for each
 command, only the case of this one is read.
 """
 
@@ -9,7 +9,7 @@ import re
 
 from .believed import believed, modules
 
-REQUESTS, COMMANDS, QUESTIONS = (("olap_run", name) for name in ("Requests", "Commands", "Questions"))
+COMMANDS, QUESTIONS = (("olap_run", name) for name in ("Commands", "Questions"))
 TIERS = ("subject", "every run", "schema's text", "its own")
 
 
@@ -25,8 +25,8 @@ def cases(module, name, pattern):
 
 
 def commands():
-    """The names of the commands, in the order in which they are told apart, and the functions of their words."""
-    body = "\n".join(modules()[REQUESTS].declarations["named"].body)
+    """The names of the commands, in the order in which they are told apart, and their orders."""
+    body = "\n".join(modules()[COMMANDS].declarations["order_named"].body)
     return re.findall(r'codes "(\w+)"\) then (\w+)', body)
 
 
@@ -37,25 +37,25 @@ def question_of(order):
         name = left.pop()
         seen.add(name)
         body = "\n".join(modules()[COMMANDS].declarations[name].body)
-        if found := re.search(r"\bDone \(?(By\w+)", body):
+        if found := re.search(r"\bDone \(?(Told|By\w+)", body):
             return found.group(1)
         left += [word for word in re.findall(r"\w+_order\b", body) if word not in seen]
     raise ValueError(f"{order} has no question")
 
 
-def cut_to(command, words_of):
+def cut_to(command, order):
     """The declarations with a case for each command, cut to those of this one."""
-    request = re.search(r"Some \((\w+)", "\n".join(modules()[REQUESTS].declarations[words_of].body)).group(1)
-    order = re.search(r"= (\w+)", cases(COMMANDS, "order", rf"order \({request}\b")[0]).group(1)
     question = question_of(order)
-    type_of = lambda module, name: modules()[module].declarations[name].type_lines  # noqa: E731
+    named, asked, answered = (
+        modules()[module].declarations[name]
+        for module, name in ((COMMANDS, "order_named"), (QUESTIONS, "Question"), (QUESTIONS, "IsAnswer"))
+    )
+    own_name = [line for line in named.body if "codes" not in line or f'codes "{command}"' in line]
     return {
-        (REQUESTS, "Request"): type_of(REQUESTS, "Request") + cases(REQUESTS, "Request", rf"{request} :"),
-        (REQUESTS, "named"): type_of(REQUESTS, "named") + cases(REQUESTS, "named", rf'.*codes "{command}"'),
-        (COMMANDS, "order"): type_of(COMMANDS, "order") + cases(COMMANDS, "order", rf"order \({request}\b"),
-        (QUESTIONS, "Question"): type_of(QUESTIONS, "Question") + cases(QUESTIONS, "Question", rf"({question}|ByUsage) :"),
-        (QUESTIONS, "IsAnswer"): type_of(QUESTIONS, "IsAnswer")
-        + cases(QUESTIONS, "IsAnswer", rf"IsAnswer \(?({question}|ByUsage)\b"),
+        (COMMANDS, "order_named"): named.type_lines + own_name,
+        (QUESTIONS, "Question"): asked.type_lines + cases(QUESTIONS, "Question", rf"({question}|Told) :"),
+        (QUESTIONS, "IsAnswer"): answered.type_lines
+        + cases(QUESTIONS, "IsAnswer", rf"IsAnswer \(?({question}|Told)\b"),
     }
 
 
@@ -65,7 +65,7 @@ def tiers(claim, subject):
     """
     about = set(believed(subject))
     schema = set(believed([(("olap_schema", "Judging"), name) for name in ("schema_read", "question_read")]))
-    all_of = {command: believed(claim, cut_to(command, words_of)) for command, words_of in commands()}
+    all_of = {command: believed(claim, cut_to(command, order)) for command, order in commands()}
     shared = set.intersection(*(set(lines) for lines in all_of.values()))
     for command, lines in all_of.items():
         counts = dict.fromkeys(TIERS, 0)

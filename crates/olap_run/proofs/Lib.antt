@@ -8,3 +8,4 @@ mod ListingLemmas
 mod NumberLemmas
 mod OneOutcome
 mod SureLemmas
+mod WordLemmas

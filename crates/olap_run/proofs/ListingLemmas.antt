@@ -14,15 +14,13 @@ use Rattle.olap_cex.specs.FrozenText.{frozen_text}
 use Rattle.olap_dimsat.specs.Listed.{AreAllFrozen}
 use Rattle.olap_generate.specs.Generated.{ShowsGenerated}
 use Rattle.olap_view.specs.Seen.{each_view_of, row_of, view_of}
-use Rattle.olap_view.specs.StoreText.{store_text}
-use Rattle.olap_view.specs.ViewText.{view_text}
 use Rattle.olap_view.specs.declared.views.Row as told_row
 use Rattle.olap_view.specs.declared.views.View as told
 use Rattle.olap_run.specs.Judged.{IsVerdict, Replies}
 use Rattle.olap_run.specs.Listings.{ShowsPlan, finding_text}
 use Rattle.olap_run.specs.Order.{Done}
 use Rattle.olap_run.specs.Outputs.{line, refusal}
-use Rattle.olap_run.specs.Questions.{ByAudit, ByFrozen, ByGenerated, ByPlan, ByStore, ByView, IsAnswer, Question}
+use Rattle.olap_run.specs.Questions.{ByAudit, ByFrozen, ByGenerated, ByPlan, IsAnswer, Question, Told}
 use Rattle.olap_run.specs.Refusals.{IsRefusal}
 use Rattle.olap_run.specs.declared.replies.Reply.{Reply}
 use Rattle.olap_run.specs.declared.replies.Stop.{Stop}
@@ -54,13 +52,10 @@ refused q why answer stops.Memory is = record {
   unread = λ e. absurd (cc);
 }
 
-pub view_shown : (i : Instance) (view : View) (reply : Reply) → reply.status ≡ Yes
-    → reply.bytes.items ≡ view_text i view → Replies IsAnswer (Done (ByView i view)) (Ok reply)
-view_shown i view reply status text = done (ByView i view) reply status (status, text)
-
-pub views_shown : (g : Graph) (i : Instance) (views : List View) (reply : Reply) → reply.status ≡ Yes
-    → reply.bytes.items ≡ store_text g i views → Replies IsAnswer (Done (ByStore g i views)) (Ok reply)
-views_shown g i views reply status text = done (ByStore g i views) reply status (status, text)
+-- what is told is told
+pub told_shown : (text : List ℕ) (reply : Reply) → reply.status ≡ Yes → reply.bytes.items ≡ text
+    → Replies IsAnswer (Done (Told Yes text)) (Ok reply)
+told_shown text reply status bytes = done (Told Yes text) reply status (status, bytes)
 
 pub frozen_listed : (s : Schema) (c : ℕ) (k : Candidates) (all : List Frozen) → AreAllFrozen s Truth c k all
     → length all ≤ most_frozen → (reply : Reply) → reply.status ≡ Yes

@@ -35,7 +35,7 @@ use Rattle.olap_view.specs.ViewText.{view_text}
 use Rattle.olap_run.specs.Certificates.{ShowsDifference, ShowsMember, ShowsUnmet}
 use Rattle.olap_run.specs.Listings.{HasTooMany, ListsFindings, ListsFrozen, ShowsPlan, finding_text}
 use Rattle.olap_run.specs.Outputs.{line, refusal}
-use Rattle.olap_run.specs.Questions.{IsAnswer, Question, ByUsage, ByView, ByFormat, ByLegal, BySatisfiable, ByImplied, BySummarizable, ByFrozen, ByAudit, ByStore, ByPlan, ByGenerated}
+use Rattle.olap_run.specs.Questions.{IsAnswer, Question, Told, BySatisfiable, ByImplied, BySummarizable, ByFrozen, ByAudit, ByPlan, ByGenerated}
 use Rattle.olap_run.specs.declared.status.Status.{Status}
 use Rattle.olap_run.specs.Commands.{order_of}
 use Rattle.olap_run.specs.Laws.{AllFrozenAreOne, FindingsAreOne, OutcomeIsOne, PlanIsOne, PlansGiveDirectViews, TooManyAreNotListed}
@@ -166,10 +166,7 @@ one_made seed size xs ys a b =
 
 pub one_answer : (q : Question) (s t : Status) (xs ys : List ℕ) → IsAnswer q s xs → IsAnswer q t ys
     → (s ≡ t) × (xs ≡ ys)
-one_answer ByUsage s t xs ys a b = (a.0 ∙ sym b.0, a.1 ∙ sym b.1)
-one_answer (ByView members view) s t xs ys a b = (a.0 ∙ sym b.0, a.1 ∙ sym b.1)
-one_answer (ByFormat schema) s t xs ys a b = (a.0 ∙ sym b.0, a.1 ∙ sym b.1)
-one_answer (ByLegal count) s t xs ys a b = (a.0 ∙ sym b.0, a.1 ∙ sym b.1)
+one_answer (Told status text) s t xs ys a b = (a.0 ∙ sym b.0, a.1 ∙ sym b.1)
 one_answer (BySatisfiable z c) s t xs ys (inl a) (inl b) = (a.0 ∙ sym b.0, a.2 ∙ sym b.2)
 one_answer (BySatisfiable z c) s t xs ys (inl a) (inr b) = absurd (no_member z c ys a.1 b.1)
 one_answer (BySatisfiable z c) s t xs ys (inr a) (inl b) = absurd (no_member z c xs b.1 a.1)
@@ -188,7 +185,6 @@ one_answer (ByFrozen z c) s t xs ys (inl a) (inr b) = absurd (no_listing z c xs 
 one_answer (ByFrozen z c) s t xs ys (inr a) (inl b) = absurd (no_listing z c ys a.1 b.1)
 one_answer (ByFrozen z c) s t xs ys (inr a) (inr b) = (a.0 ∙ sym b.0, a.2 ∙ sym b.2)
 one_answer (ByAudit z) s t xs ys a b = (a.0 ∙ sym b.0, one_audit z xs ys a.1 b.1)
-one_answer (ByStore g members views) s t xs ys a b = (a.0 ∙ sym b.0, a.1 ∙ sym b.1)
 one_answer (ByPlan z i views c) s t xs ys (inl a) (inl b) = (a.0 ∙ sym b.0, one_plan z i views c xs ys a.1 b.1)
 one_answer (ByPlan z i views c) s t xs ys (inl a) (inr b) = absurd (b.1 a.1.mask a.1.plan.serves)
 one_answer (ByPlan z i views c) s t xs ys (inr a) (inl b) = absurd (a.1 b.1.mask b.1.plan.serves)

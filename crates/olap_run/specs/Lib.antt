@@ -1,6 +1,5 @@
 -- Definitions that contracts cite, in reading order: the claim of `olap`, and then what its parts say.
 pub mod Words
-pub mod Requests
 pub mod Order
 pub mod Outputs
 pub mod Violations

@@ -1,8 +1,7 @@
 -- What is left to be answered once all files of a run are read, and what answers it.
 --     Question   a command's question, with all that it needs
 --     IsAnswer   a status and bytes answer the question
-use Rattle.std.specs.Prelude.{◌≡◌, ◌⊎◌, ℕ, List, ◌++◌, codes}
-use Rattle.std.specs.Fmt.{decimal}
+use Rattle.std.specs.Prelude.{◌≡◌, ◌⊎◌, ℕ, List, codes}
 use Rattle.olap_base.specs.Instance.{Instance}
 use Rattle.olap_base.specs.Views.{View}
 use Rattle.olap_ast.specs.Findings.{IsUnsatisfiable}
@@ -10,27 +9,17 @@ use Rattle.olap_ast.specs.Formula.{Formula}
 use Rattle.olap_ast.specs.Questions.{IsImplied}
 use Rattle.olap_ast.specs.Schema.{Schema}
 use Rattle.olap_ast.specs.Summarizable.{IsSummarizable}
-use Rattle.olap_base.specs.Graph.{Graph}
 use Rattle.olap_generate.specs.Generated.{ShowsGenerated}
 use Rattle.olap_nav.specs.Plans.{Serves}
-use Rattle.olap_schema.specs.Printing.{schema_text}
-use Rattle.olap_view.specs.StoreText.{store_text}
-use Rattle.olap_view.specs.ViewText.{view_text}
 use Rattle.olap_run.specs.Certificates.{ShowsMember, ShowsUnmet, ShowsDifference}
 use Rattle.olap_run.specs.Listings.{HasTooMany, ListsFindings, ListsFrozen, ShowsPlan}
 use Rattle.olap_run.specs.Outputs.{line, refusal}
 use Rattle.olap_run.specs.declared.status.Status.{Status}
-use Rattle.olap_run.specs.declared.status.Status.TheVariants.{Yes, No, Usage, Refused}
+use Rattle.olap_run.specs.declared.status.Status.TheVariants.{Yes, No, Refused}
 
 pub data Question : Type 0 where
-  -- the words are no command
-  ByUsage : Question
-  -- a view is wanted
-  ByView : (members : Instance) (view : View) → Question
-  -- the canonical text is wanted
-  ByFormat : (schema : Schema) → Question
-  -- an instance with so many members beside `all` is legal
-  ByLegal : (count : ℕ) → Question
+  -- nothing is asked: this is told
+  Told : (status : Status) (bytes : List ℕ) → Question
   -- can the category have a member in a legal instance?
   BySatisfiable : (schema : Schema) (category : ℕ) → Question
   -- does every legal instance meet the constraint?
@@ -41,8 +30,6 @@ pub data Question : Type 0 where
   ByFrozen : (schema : Schema) (root : ℕ) → Question
   -- what does the schema say or do for nothing?
   ByAudit : (schema : Schema) → Question
-  -- views are to be stored
-  ByStore : (graph : Graph) (members : Instance) (views : List View) → Question
   -- from which stored views is the target's view computed, and what is it?
   ByPlan : (schema : Schema) (members : Instance) (views : List View) (target : ℕ) → Question
   -- what comes of the input that is made from a seed and a number of stores?
@@ -50,10 +37,7 @@ pub data Question : Type 0 where
 
 -- these are the status and the bytes
 abbrev pub IsAnswer : Question → Status → List ℕ → Type 0
-IsAnswer ByUsage status bytes = (status ≡ Usage) × (bytes ≡ line (codes "usage"))
-IsAnswer (ByView members view) status bytes = (status ≡ Yes) × (bytes ≡ view_text members view)
-IsAnswer (ByFormat schema) status bytes = (status ≡ Yes) × (bytes ≡ schema_text schema)
-IsAnswer (ByLegal count) status bytes = (status ≡ Yes) × (bytes ≡ line (codes "legal " ++ decimal count))
+IsAnswer (Told s text) status bytes = (status ≡ s) × (bytes ≡ text)
 IsAnswer (BySatisfiable s c) status bytes =
     ((status ≡ No) × IsUnsatisfiable s c × (bytes ≡ line (codes "no")))
     ⊎ ((status ≡ Yes) × ShowsMember s c bytes)
@@ -67,7 +51,6 @@ IsAnswer (ByFrozen s c) status bytes =
     ((status ≡ Yes) × ListsFrozen s c bytes)
     ⊎ ((status ≡ Refused) × HasTooMany s c × (bytes ≡ refusal (codes "frozen TooMany")))
 IsAnswer (ByAudit s) status bytes = (status ≡ Yes) × ListsFindings s bytes
-IsAnswer (ByStore g members views) status bytes = (status ≡ Yes) × (bytes ≡ store_text g members views)
 IsAnswer (ByPlan s members views c) status bytes =
     ((status ≡ Yes) × ShowsPlan s members views c bytes)
     ⊎ ((status ≡ Refused) × ((mask : ℕ) → Serves s views c mask → ⊥)

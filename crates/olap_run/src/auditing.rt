@@ -1,5 +1,5 @@
 // The command `audit`: what a schema says or does for nothing.
-ghost use Rattle.std.specs.Prelude.{◌≡◌, ◌<◌, ◌++◌, codes, decimal, All, IfOk, OnOk, flat_map, length, map};
+ghost use Rattle.std.specs.Prelude.{[], ◌∷◌, ◌≡◌, ◌<◌, ◌++◌, codes, decimal, All, IfOk, OnOk, flat_map, length, map};
 ghost use Rattle.olap_ast.specs.Findings.{Finding.Redundant, Finding.Unsatisfiable, Finding.Unused, IsFinding};
 ghost use Rattle.olap_base.specs.Graph.{IsCategory};
 ghost use Rattle.olap_schema.specs.Schemas.{schema_of};
@@ -99,7 +99,7 @@ fn answered(alloc: Global, schema: &Schema) -> Result<Reply, Stop>
 
 /// What the schema in a file says or does for nothing.
 pub(crate) fn audit<L: Library>(alloc: Global, schema: &str, lib: &mut L) -> Result<Reply, Stop>
-    ensures judged { Judged IsAnswer L.Library lib.old lib.new (audit_order schema.now) result }
+    ensures judged { Judged IsAnswer L.Library lib.old lib.new (audit_order (schema.now ∷ [])) result }
 {
     let schema = schema_in(alloc, "schema", schema, lib)?;
     answered(alloc, &schema)

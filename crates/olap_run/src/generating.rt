@@ -1,5 +1,5 @@
 // The command `generate`: what comes of an input that is made from a seed and a number of stores.
-ghost use Rattle.std.specs.Prelude.{◌≡◌, ◌≤◌, IfOk};
+ghost use Rattle.std.specs.Prelude.{[], ◌∷◌, ◌≡◌, ◌≤◌, IfOk};
 ghost use Rattle.olap_base.specs.Limits.{most_generated};
 ghost use Rattle.olap_run.specs.Commands.{generate_order};
 ghost use Rattle.olap_run.specs.Judged.{Replies};
@@ -70,7 +70,7 @@ fn answered(alloc: Global, seed: u64, size: u32) -> Result<Reply, Stop>
 
 /// What comes of the input that is made from a seed and a number of stores. No file is read.
 pub(crate) fn generate(alloc: Global, seed: &str, size: &str) -> Result<Reply, Stop>
-    ensures replies { Replies IsAnswer (generate_order seed.now size.now) result }
+    ensures replies { Replies IsAnswer (generate_order (seed.now ∷ size.now ∷ [])) result }
 {
     let seed = seed_at(alloc, 2, seed)?;
     let size = size_at(alloc, 3, size)?;

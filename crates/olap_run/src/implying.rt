@@ -1,5 +1,5 @@
 // The command `implies`: whether all legal instances meet a constraint.
-ghost use Rattle.std.specs.Prelude.{◌≡◌, ◌++◌, codes, IfOk};
+ghost use Rattle.std.specs.Prelude.{[], ◌∷◌, ◌≡◌, ◌++◌, codes, IfOk};
 ghost use Rattle.olap_ast.specs.Formula.{equalities};
 ghost use Rattle.olap_ast.specs.Frozen.{thawed};
 ghost use Rattle.olap_ast.specs.Trees.{formula_of};
@@ -69,7 +69,7 @@ pub(crate) fn implies<L: Library>(
     lib: &mut L,
 ) -> Result<Reply, Stop>
     ensures judged { Judged IsAnswer L.Library lib.old lib.new
-        (implies_order schema.now root.now formula.now) result }
+        (implies_order (schema.now ∷ root.now ∷ formula.now ∷ [])) result }
 {
     let schema = schema_in(alloc, "schema", schema, lib)?;
     let root = root_at(alloc, 3, &schema, root)?;

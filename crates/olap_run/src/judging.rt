@@ -1,10 +1,10 @@
 // What comes of the words and the files, before anything is written.
-ghost use Rattle.std.specs.Prelude.{◌≡◌, None, IfOk, IsErrOf};
-ghost use Rattle.olap_run.specs.Commands.{order, order_of};
+ghost use Rattle.std.specs.Prelude.{◌≡◌, IfOk, IsErrOf, codes};
+ghost use Rattle.olap_run.specs.Commands.{order_of, usage};
 ghost use Rattle.olap_run.specs.Judged.{GivesTold, Judged, ReadCause, Replied};
+ghost use Rattle.olap_run.specs.Outputs.{line};
 ghost use Rattle.olap_run.specs.Outcome.{IsAnswered};
-ghost use Rattle.olap_run.specs.Questions.{ByUsage, IsAnswer};
-ghost use Rattle.olap_run.specs.Requests.{request_of};
+ghost use Rattle.olap_run.specs.Questions.{IsAnswer, Told};
 ghost use Rattle.olap_run.specs.Seen.{seen};
 ghost use Rattle.olap_run.specs.Words.{texts};
 
@@ -27,7 +27,7 @@ use std::alloc::Global;
 
 /// The reply of a command.
 fn run<L: Library>(alloc: Global, command: Command, lib: &mut L) -> Result<Reply, Stop>
-    ensures judged { Judged IsAnswer L.Library lib.old lib.new (order (seen command.entry)) result }
+    ensures judged { Judged IsAnswer L.Library lib.old lib.new (seen command.entry) result }
 {
     match command {
         Command::Rollup {
@@ -69,7 +69,7 @@ fn run<L: Library>(alloc: Global, command: Command, lib: &mut L) -> Result<Reply
 
 /// The usage line.
 fn usage(alloc: Global) -> Result<Reply, Stop>
-    ensures replies { Replied result (IsAnswer ByUsage) }
+    ensures replies { Replied result (IsAnswer (Told Status.Usage (line (codes "usage")))) }
     ensures unread { IsErrOf result Stop.Read → ⊥ }
     ensures answers { IfOk result (λ reply. reply.status ≡ Status.Usage) }
 {
@@ -80,16 +80,17 @@ fn usage(alloc: Global) -> Result<Reply, Stop>
 }
 
 /// The reply to the words.
+#[tactic(auto, using(crate::proofs::WordLemmas::command_is_no_usage))]
 pub(crate) fn judge<L: Library>(alloc: Global, words: &[String], lib: &mut L) -> Result<Reply, Stop>
     ensures right { Replied result
         (GivesTold IsAnswer (L.contents lib.old) (order_of (texts words.now))) }
     ensures answered { Replied result (λ status bytes. IsAnswered status) }
     ensures usage { Replied result (λ status bytes.
-        status ≡ Status.Usage → request_of (texts words.now) ≡ None) }
+        status ≡ Status.Usage → order_of (texts words.now) ≡ usage) }
     ensures usage_only { Replied result (λ status bytes.
-        request_of (texts words.now) ≡ None → status ≡ Status.Usage) }
-    ensures unread { request_of (texts words.now) ≡ None → lib.new ≡ lib.old }
-    ensures unfailed { request_of (texts words.now) ≡ None → IsErrOf result Stop.Read → ⊥ }
+        order_of (texts words.now) ≡ usage → status ≡ Status.Usage) }
+    ensures unread { order_of (texts words.now) ≡ usage → lib.new ≡ lib.old }
+    ensures unfailed { order_of (texts words.now) ≡ usage → IsErrOf result Stop.Read → ⊥ }
     ensures read { IsErrOf result Stop.Read →
         ReadCause L.Library lib.old lib.new (order_of (texts words.now)) }
 {

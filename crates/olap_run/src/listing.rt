@@ -1,5 +1,5 @@
 // The command `frozen`: all frozen dimensions with a root.
-ghost use Rattle.std.specs.Prelude.{◌≡◌, ◌++◌, codes, decimal, All, IfOk, OnOk, flat_map, length, map};
+ghost use Rattle.std.specs.Prelude.{[], ◌∷◌, ◌≡◌, ◌++◌, codes, decimal, All, IfOk, OnOk, flat_map, length, map};
 ghost use Rattle.olap_base.specs.Graph.{IsCategory};
 ghost use Rattle.olap_cex.specs.FrozenText.{frozen_text};
 ghost use Rattle.olap_frozen.specs.LeastFound.{frozen_of};
@@ -95,7 +95,7 @@ pub(crate) fn frozen<L: Library>(
     lib: &mut L,
 ) -> Result<Reply, Stop>
     ensures judged { Judged IsAnswer L.Library lib.old lib.new
-        (frozen_order schema.now category.now) result }
+        (frozen_order (schema.now ∷ category.now ∷ [])) result }
 {
     let schema = schema_in(alloc, "schema", schema, lib)?;
     let category = category_at(alloc, 3, &schema, category)?;

@@ -1,15 +1,19 @@
 // The command `rollup`: the direct view of a category.
-ghost use Rattle.std.specs.Prelude.{◌≢◌, ◌≡◌, ◌<◌, All, AllPairs, Err, IfOk, MatchResult, codes, length};
+ghost use Rattle.std.specs.Prelude.{[], ◌∷◌, ◌≢◌, ◌≡◌, ◌<◌, All, AllPairs, Err, IfOk, MatchResult, codes, length};
 ghost use Rattle.olap_instance.specs.Made.{IsMadeFor};
 ghost use Rattle.olap_schema.specs.Schemas.{schema_of};
 ghost use Rattle.olap_summ.specs.Counterexamples.{numbers_of};
+ghost use Rattle.olap_base.specs.Views.{direct_view};
 ghost use Rattle.olap_view.specs.Seen.{each_view_of};
-ghost use Rattle.olap_run.specs.Commands.{rollup_order, view_order};
+ghost use Rattle.olap_view.specs.ViewText.{view_text};
+ghost use Rattle.olap_run.specs.Commands.{rollup_order};
 ghost use Rattle.olap_run.specs.Judged.{Judged};
-ghost use Rattle.olap_run.specs.Questions.{IsAnswer};
+ghost use Rattle.olap_run.specs.Order.{Done, and_then};
+ghost use Rattle.olap_run.specs.Questions.{IsAnswer, Told};
 ghost use Rattle.olap_run.specs.Steps.{facts_file};
 ghost use Rattle.olap_run.specs.Taken.{AreOfFacts, FileStep};
 
+use crate::Status;
 use crate::naming::category_at;
 use crate::reading::{legal_in, read_file, schema_in};
 use crate::replies::{Reply, Stop, refuse_long, refuse_part, yes};
@@ -65,7 +69,8 @@ fn view_in<L: Library>(
 ) -> Result<Reply, Stop>
     requires { IsMadeFor (schema_of schema.now).graph legal.now }
     ensures judged { Judged IsAnswer L.Library lib.old lib.new
-        (view_order (schema_of schema.now) legal.now category.0 file.now) result }
+        (and_then (facts_file (schema_of schema.now) legal.now (codes "facts") file.now) (λ table.
+        Done (Told Status.Yes (view_text legal.now (direct_view legal.now table category.0))))) result }
 {
     let views = views_in(alloc, schema, legal, &[category], file, lib)?;
     let text = print_view(alloc, legal.instance(), &views.items()[0])?;
@@ -82,7 +87,7 @@ pub(crate) fn rollup<L: Library>(
     lib: &mut L,
 ) -> Result<Reply, Stop>
     ensures judged { Judged IsAnswer L.Library lib.old lib.new
-        (rollup_order schema.now instance.now facts.now category.now) result }
+        (rollup_order (schema.now ∷ instance.now ∷ facts.now ∷ category.now ∷ [])) result }
 {
     let schema = schema_in(alloc, "schema", schema, lib)?;
     let category = category_at(alloc, 5, &schema, category)?;

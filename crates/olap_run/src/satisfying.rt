@@ -1,5 +1,5 @@
 // The command `satisfiable`: whether a category can have a member.
-ghost use Rattle.std.specs.Prelude.{◌≡◌, ◌++◌, codes, IfOk};
+ghost use Rattle.std.specs.Prelude.{[], ◌∷◌, ◌≡◌, ◌++◌, codes, IfOk};
 ghost use Rattle.olap_base.specs.Graph.{IsCategory};
 ghost use Rattle.olap_cex.specs.FrozenText.{frozen_text};
 ghost use Rattle.olap_frozen.specs.LeastFound.{frozen_of};
@@ -55,7 +55,7 @@ pub(crate) fn satisfiable<L: Library>(
     lib: &mut L,
 ) -> Result<Reply, Stop>
     ensures judged { Judged IsAnswer L.Library lib.old lib.new
-        (satisfiable_order schema.now category.now) result }
+        (satisfiable_order (schema.now ∷ category.now ∷ [])) result }
 {
     let schema = schema_in(alloc, "schema", schema, lib)?;
     let category = category_at(alloc, 3, &schema, category)?;

@@ -1,14 +1,19 @@
 // The command `store`: the direct views of some categories as a text of stored views.
-ghost use Rattle.std.specs.Prelude.{◌≢◌, ◌≡◌, ◌+◌, ◌<◌, ◌^◌, All, AllPairs, length};
+ghost use Rattle.std.specs.Prelude.{◌≢◌, ◌≡◌, ◌+◌, ◌<◌, ◌^◌, All, AllPairs, codes, length};
 ghost use Rattle.olap_base.specs.Graph.{IsCategory};
+ghost use Rattle.olap_base.specs.Views.{direct_views};
 ghost use Rattle.olap_instance.specs.Made.{IsMadeFor};
+ghost use Rattle.olap_view.specs.StoreText.{store_text};
 ghost use Rattle.olap_schema.specs.Schemas.{schema_of};
 ghost use Rattle.olap_summ.specs.Counterexamples.{numbers_of};
-ghost use Rattle.olap_run.specs.Commands.{store_order, views_order};
+ghost use Rattle.olap_run.specs.Commands.{views_order};
 ghost use Rattle.olap_run.specs.Judged.{Judged};
-ghost use Rattle.olap_run.specs.Questions.{IsAnswer};
+ghost use Rattle.olap_run.specs.Order.{Done, and_then};
+ghost use Rattle.olap_run.specs.Questions.{IsAnswer, Told};
+ghost use Rattle.olap_run.specs.Steps.{facts_file};
 ghost use Rattle.olap_run.specs.Words.{texts};
 
+use crate::Status;
 use crate::naming::categories_at;
 use crate::reading::{legal_in, schema_in};
 use crate::replies::{Reply, Stop, yes};
@@ -32,7 +37,9 @@ fn stored<L: Library>(
     requires categories { All (IsCategory (schema_of schema.now).graph) (numbers_of categories.now) }
     requires differ { AllPairs ◌≢◌ (numbers_of categories.now) }
     ensures judged { Judged IsAnswer L.Library lib.old lib.new
-        (views_order (schema_of schema.now) legal.now (numbers_of categories.now) file.now) result }
+        (and_then (facts_file (schema_of schema.now) legal.now (codes "facts") file.now) (λ table.
+        Done (Told Status.Yes (store_text (schema_of schema.now).graph legal.now
+        (direct_views legal.now table (numbers_of categories.now)))))) result }
 {
     let views = views_in(alloc, schema, legal, categories, file, lib)?;
     let text = print_store(alloc, schema.graph(), legal.instance(), &Store { views })?;
@@ -50,7 +57,7 @@ pub(crate) fn store<L: Library>(
 ) -> Result<Reply, Stop>
     requires few { length categories.now < 2 ^ 63 }
     ensures judged { Judged IsAnswer L.Library lib.old lib.new
-        (store_order schema.now instance.now facts.now (texts categories.now)) result }
+        (views_order schema.now instance.now facts.now (texts categories.now)) result }
 {
     let schema = schema_in(alloc, "schema", schema, lib)?;
     let categories = categories_at(alloc, 5, "DuplicateView", &schema, categories)?;

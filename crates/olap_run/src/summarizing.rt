@@ -1,5 +1,5 @@
 // The command `summarizable`: whether a view is always that from others.
-ghost use Rattle.std.specs.Prelude.{◌≡◌, ◌≢◌, ◌++◌, All, AllPairs, codes, length, ◌<◌, ◌^◌, ◌+◌, IfOk};
+ghost use Rattle.std.specs.Prelude.{◌∷◌, ◌≡◌, ◌≢◌, ◌++◌, All, AllPairs, codes, length, ◌<◌, ◌^◌, ◌+◌, IfOk};
 ghost use Rattle.olap_base.specs.Graph.{IsCategory};
 ghost use Rattle.olap_cex.specs.CexText.{counterexample_text};
 ghost use Rattle.olap_cex.specs.FrozenText.{frozen_text};
@@ -105,7 +105,7 @@ pub(crate) fn summarizable<L: Library>(
 ) -> Result<Reply, Stop>
     requires few { length sources.now < 2 ^ 63 }
     ensures judged { Judged IsAnswer L.Library lib.old lib.new
-        (summarizable_order schema.now target.now (texts sources.now)) result }
+        (summarizable_order (schema.now ∷ target.now ∷ texts sources.now)) result }
 {
     let schema = schema_in(alloc, "schema", schema, lib)?;
     let target = category_at(alloc, 3, &schema, target)?;

@@ -2,7 +2,7 @@
 ghost use Rattle.std.specs.Prelude.{◌≡◌, ◌⊎◌, None};
 ghost use Rattle.olap_base.specs.Written.{sure_contents};
 ghost use Rattle.olap_run.specs.Outcome.{IsAnswered, WritesOutcome};
-ghost use Rattle.olap_run.specs.Requests.{request_of};
+ghost use Rattle.olap_run.specs.Commands.{order_of, usage};
 ghost use Rattle.olap_run.specs.Words.{texts};
 
 use crate::Status;
@@ -20,7 +20,7 @@ pub fn olap_surely(
 ) -> Status
     // The answers are those of the words and the files.
     ensures right { IsAnswered result → WritesOutcome (texts words.now) (sure_contents lib.old) result None None }
-    ensures usage_only { request_of (texts words.now) ≡ None → (result ≡ Status.Usage) ⊎ (result ≡ Status.Memory) }
+    ensures usage_only { order_of (texts words.now) ≡ usage → (result ≡ Status.Usage) ⊎ (result ≡ Status.Memory) }
     // Neither fault comes.
     ensures read { result ≡ Status.ReadFault → ⊥ }
     ensures written { result ≡ Status.WriteFault → ⊥ }

@@ -1,12 +1,11 @@
 // The top call.
-ghost use Rattle.std.specs.Prelude.{◌≡◌, ◌⊎◌, None, IsTrue, length};
+ghost use Rattle.std.specs.Prelude.{◌≡◌, ◌⊎◌, IsTrue, length};
 ghost use Rattle.std.specs.Io.KnownBytes.{Appends};
 ghost use Rattle.olap_base.specs.Faults.{HasCause, Rose};
 ghost use Rattle.olap_base.specs.Sinks.{AppendsPart};
-ghost use Rattle.olap_run.specs.Commands.{order_of};
+ghost use Rattle.olap_run.specs.Commands.{order_of, usage};
 ghost use Rattle.olap_run.specs.Judged.{ReadCause};
 ghost use Rattle.olap_run.specs.Outcome.{IsAnswered, TakesOutcome, TellsAll, WritesOutcome, WritesPart};
-ghost use Rattle.olap_run.specs.Requests.{request_of};
 ghost use Rattle.olap_run.specs.Words.{texts};
 
 use crate::Status;
@@ -42,10 +41,10 @@ pub fn olap<L: Library, K: Sink>(
     // The four answers are those of the words and the files, and so is what is written.
     ensures right { IsAnswered result → WritesOutcome (texts words.now) (L.contents lib.old) result
         (K.contents out.old) (K.contents out.new) }
-    ensures usage { result ≡ Status.Usage → request_of (texts words.now) ≡ None }
-    ensures usage_only { request_of (texts words.now) ≡ None →
+    ensures usage { result ≡ Status.Usage → order_of (texts words.now) ≡ usage }
+    ensures usage_only { order_of (texts words.now) ≡ usage →
         (result ≡ Status.Usage) ⊎ (result ≡ Status.WriteFault) ⊎ (result ≡ Status.Memory) }
-    ensures unread { request_of (texts words.now) ≡ None → lib.new ≡ lib.old }
+    ensures unread { order_of (texts words.now) ≡ usage → lib.new ≡ lib.old }
     // The faults come only by their causes.
     ensures read_fault { result ≡ Status.ReadFault →
         ReadCause L.Library lib.old lib.new (order_of (texts words.now)) }

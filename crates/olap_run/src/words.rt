@@ -1,8 +1,7 @@
 // Which words are a command.
 ghost use Rattle.std.specs.Prelude.{◌≡◌};
-ghost use Rattle.std.specs.Option.{option_map};
-ghost use Rattle.olap_run.specs.Requests.{answer_of, audit_of, check_of, format_of, frozen_of, generate_of, implies_of, is_few, named, request_of, rollup_of, satisfiable_of, store_of, summarizable_of};
-ghost use Rattle.olap_run.specs.Seen.{seen};
+ghost use Rattle.olap_run.specs.Commands.{answer_order, audit_order, check_order, format_order, frozen_order, generate_order, implies_order, is_few, order_named, order_of, rollup_order, satisfiable_order, store_order, summarizable_order};
+ghost use Rattle.olap_run.specs.Seen.{meant};
 ghost use Rattle.olap_run.specs.Words.{texts};
 
 use olap_base::{MOST_VIEWS, MOST_WORDS};
@@ -73,9 +72,9 @@ pub(crate) enum Command<'a> {
     },
 }
 
-/// The words behind `rollup`.
+/// The words after `rollup`.
 fn rollup(words: &[String]) -> Option<Command<'_>>
-    ensures { option_map seen result ≡ rollup_of (texts words.now) }
+    ensures { meant result ≡ rollup_order (texts words.now) }
 {
     match words {
         [schema, instance, facts, category] => Some(Command::Rollup {
@@ -88,9 +87,9 @@ fn rollup(words: &[String]) -> Option<Command<'_>>
     }
 }
 
-/// The words behind `format`.
+/// The words after `format`.
 fn format(words: &[String]) -> Option<Command<'_>>
-    ensures { option_map seen result ≡ format_of (texts words.now) }
+    ensures { meant result ≡ format_order (texts words.now) }
 {
     match words {
         [schema] => Some(Command::Format {
@@ -100,9 +99,9 @@ fn format(words: &[String]) -> Option<Command<'_>>
     }
 }
 
-/// The words behind `check`.
+/// The words after `check`.
 fn check(words: &[String]) -> Option<Command<'_>>
-    ensures { option_map seen result ≡ check_of (texts words.now) }
+    ensures { meant result ≡ check_order (texts words.now) }
 {
     match words {
         [schema, instance] => Some(Command::Check {
@@ -113,9 +112,9 @@ fn check(words: &[String]) -> Option<Command<'_>>
     }
 }
 
-/// The words behind `satisfiable`.
+/// The words after `satisfiable`.
 fn satisfiable(words: &[String]) -> Option<Command<'_>>
-    ensures { option_map seen result ≡ satisfiable_of (texts words.now) }
+    ensures { meant result ≡ satisfiable_order (texts words.now) }
 {
     match words {
         [schema, category] => Some(Command::Satisfiable {
@@ -126,9 +125,9 @@ fn satisfiable(words: &[String]) -> Option<Command<'_>>
     }
 }
 
-/// The words behind `implies`.
+/// The words after `implies`.
 fn implies(words: &[String]) -> Option<Command<'_>>
-    ensures { option_map seen result ≡ implies_of (texts words.now) }
+    ensures { meant result ≡ implies_order (texts words.now) }
 {
     match words {
         [schema, root, formula] => Some(Command::Implies {
@@ -140,9 +139,9 @@ fn implies(words: &[String]) -> Option<Command<'_>>
     }
 }
 
-/// The words behind `summarizable`.
+/// The words after `summarizable`.
 fn summarizable(words: &[String]) -> Option<Command<'_>>
-    ensures { option_map seen result ≡ summarizable_of (texts words.now) }
+    ensures { meant result ≡ summarizable_order (texts words.now) }
 {
     match words {
         [schema, target, sources @ ..] => Some(Command::Summarizable {
@@ -154,9 +153,9 @@ fn summarizable(words: &[String]) -> Option<Command<'_>>
     }
 }
 
-/// The words behind `frozen`.
+/// The words after `frozen`.
 fn frozen(words: &[String]) -> Option<Command<'_>>
-    ensures { option_map seen result ≡ frozen_of (texts words.now) }
+    ensures { meant result ≡ frozen_order (texts words.now) }
 {
     match words {
         [schema, category] => Some(Command::Frozen {
@@ -167,9 +166,9 @@ fn frozen(words: &[String]) -> Option<Command<'_>>
     }
 }
 
-/// The words behind `audit`.
+/// The words after `audit`.
 fn audit(words: &[String]) -> Option<Command<'_>>
-    ensures { option_map seen result ≡ audit_of (texts words.now) }
+    ensures { meant result ≡ audit_order (texts words.now) }
 {
     match words {
         [schema] => Some(Command::Audit {
@@ -186,9 +185,9 @@ fn are_few(categories: &[String]) -> bool
     !categories.is_empty() && categories.len() <= MOST_VIEWS
 }
 
-/// The words behind `store`.
+/// The words after `store`.
 fn store(words: &[String]) -> Option<Command<'_>>
-    ensures { option_map seen result ≡ store_of (texts words.now) }
+    ensures { meant result ≡ store_order (texts words.now) }
 {
     match words {
         [schema, instance, facts, categories @ ..] if are_few(categories) => Some(Command::Store {
@@ -201,9 +200,9 @@ fn store(words: &[String]) -> Option<Command<'_>>
     }
 }
 
-/// The words behind `answer`.
+/// The words after `answer`.
 fn answer(words: &[String]) -> Option<Command<'_>>
-    ensures { option_map seen result ≡ answer_of (texts words.now) }
+    ensures { meant result ≡ answer_order (texts words.now) }
 {
     match words {
         [schema, instance, store, target] => Some(Command::Answer {
@@ -216,9 +215,9 @@ fn answer(words: &[String]) -> Option<Command<'_>>
     }
 }
 
-/// The words behind `generate`.
+/// The words after `generate`.
 fn generate(words: &[String]) -> Option<Command<'_>>
-    ensures { option_map seen result ≡ generate_of (texts words.now) }
+    ensures { meant result ≡ generate_order (texts words.now) }
 {
     match words {
         [seed, size] => Some(Command::Generate {
@@ -229,9 +228,9 @@ fn generate(words: &[String]) -> Option<Command<'_>>
     }
 }
 
-/// The command of that name with these words behind it.
+/// The command of that name with these words after it.
 fn with_words<'a>(name: &str, words: &'a [String]) -> Option<Command<'a>>
-    ensures { option_map seen result ≡ named name.now (texts words.now) }
+    ensures { meant result ≡ order_named name.now (texts words.now) }
 {
     match name {
         "rollup" => rollup(words),
@@ -251,7 +250,7 @@ fn with_words<'a>(name: &str, words: &'a [String]) -> Option<Command<'a>>
 
 /// The command that the words are, if any.
 pub(crate) fn parse(words: &[String]) -> Option<Command<'_>>
-    ensures { option_map seen result ≡ request_of (texts words.now) }
+    ensures { meant result ≡ order_of (texts words.now) }
 {
     if words.len() > MOST_WORDS {
         return None;

@@ -5,15 +5,16 @@ use Rattle.olap_view.specs.Seen.{view_of}
 use Rattle.olap_view.specs.ViewText.{view_text}
 use Rattle.olap_view.specs.declared.views.View as told
 use Rattle.olap_run.specs.Order.{Done}
-use Rattle.olap_run.specs.Questions.{ByView}
-use Rattle.olap_run.proofs.ListingLemmas.{only_view, view_shown}
+use Rattle.olap_run.specs.Questions.{Told}
+use Rattle.olap_run.specs.declared.status.Status.TheVariants.{Yes}
+use Rattle.olap_run.proofs.ListingLemmas.{only_view, told_shown}
 use Rattle.olap_run.proofs.Stepping.{answered, ended, followed}
 use Rattle.olap_run.proofs.rolling_up.view_in.Goals as goal
 
 pub returns-in_err-views : goal.returns-in_err-views
 returns-in_err-views g c = record {
   judged = ended c.in_err-views.ensures.step
-      (λ table. Done (ByView c.args.legal.now (direct_view c.args.legal.now table c.args.category.0)))
+      (λ table. Done (Told Yes (view_text c.args.legal.now (direct_view c.args.legal.now table c.args.category.0))))
       c.from_residual.ensures.1;
 }
 
@@ -28,6 +29,6 @@ returns g c =
     ∙ ap (λ (j : Instance). view_text j (view_of view)) c.instance.ensures
     ∙ ap (view_text i) (only_view c.in_ok-views.views view direct read.direct first) in
     record {
-      judged = followed read.step (λ table. Done (ByView i (direct_view i table c.args.category.0)))
-          (answered _ (view_shown i direct c.yes.result c.yes.ensures.status text));
+      judged = followed read.step (λ table. Done (Told Yes (view_text i (direct_view i table c.args.category.0))))
+          (answered _ (told_shown (view_text i direct) c.yes.result c.yes.ensures.status text));
     }

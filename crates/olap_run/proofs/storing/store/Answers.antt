@@ -1,10 +1,14 @@
-use Rattle.std.proofs.Common.{List, subst}
+use Rattle.std.proofs.Common.{List, codes, subst}
 use Rattle.olap_base.specs.declared.ids.CatId.{CatId}
 use Rattle.olap_schema.specs.Schemas.{schema_of}
 use Rattle.olap_summ.specs.Counterexamples.{numbers_of}
-use Rattle.olap_run.specs.Commands.{views_order}
 use Rattle.olap_run.specs.Judged.{Judged}
-use Rattle.olap_run.specs.Questions.{IsAnswer}
+use Rattle.olap_run.specs.Order.{Done, and_then}
+use Rattle.olap_run.specs.Questions.{IsAnswer, Told}
+use Rattle.olap_run.specs.Steps.{facts_file}
+use Rattle.olap_run.specs.declared.status.Status.TheVariants.{Yes}
+use Rattle.olap_base.specs.Views.{direct_views}
+use Rattle.olap_view.specs.StoreText.{store_text}
 use Rattle.olap_run.proofs.Stepping.{ended, followed, unread}
 use Rattle.olap_run.proofs.storing.store.Goals as goal
 
@@ -28,6 +32,8 @@ returns g c = record {
   judged = followed c.in_ok-schema.ensures.step _ (followed (unread _ c.in_ok-categories.ensures.step) _
       (followed c.in_ok-legal.ensures.step _
       (subst (λ (xs : List CatId). Judged IsAnswer g.L.Library c.legal_in.new.lib c.stored.new.lib
-      (views_order (schema_of c.in_ok-schema.schema) c.in_ok-legal.legal (numbers_of xs) c.args.facts.now)
+      (and_then (facts_file (schema_of c.in_ok-schema.schema) c.in_ok-legal.legal (codes "facts") c.args.facts.now)
+      (λ table. Done (Told Yes (store_text (schema_of c.in_ok-schema.schema).graph c.in_ok-legal.legal
+      (direct_views c.in_ok-legal.legal table (numbers_of xs))))))
       c.stored.result) c.deref.ensures.value c.stored.ensures.judged)));
 }

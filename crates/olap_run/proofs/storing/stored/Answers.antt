@@ -8,8 +8,9 @@ use Rattle.olap_summ.specs.Counterexamples.{numbers_of}
 use Rattle.olap_view.specs.Seen.{each_view_of}
 use Rattle.olap_view.specs.StoreText.{store_text}
 use Rattle.olap_run.specs.Order.{Done}
-use Rattle.olap_run.specs.Questions.{ByStore}
-use Rattle.olap_run.proofs.ListingLemmas.{direct_categories, members_seen, views_shown}
+use Rattle.olap_run.specs.Questions.{Told}
+use Rattle.olap_run.specs.declared.status.Status.TheVariants.{Yes}
+use Rattle.olap_run.proofs.ListingLemmas.{direct_categories, members_seen, told_shown}
 use Rattle.olap_run.proofs.Stepping.{answered, ended, followed}
 use Rattle.olap_run.proofs.storing.stored.Goals as goal
 
@@ -19,7 +20,7 @@ returns-in_err-views g c =
     let cs = numbers_of c.args.categories.now in
     record {
       judged = ended c.in_err-views.ensures.step
-          (λ table. Done (ByStore (schema_of c.args.schema.now).graph i (direct_views i table cs)))
+          (λ table. Done (Told Yes (store_text (schema_of c.args.schema.now).graph i (direct_views i table cs))))
           c.from_residual.ensures.1;
     }
 
@@ -48,6 +49,7 @@ returns g c =
     ∙ ap (λ (j : Instance). store_text graph j told) c.instance.ensures
     ∙ ap (store_text graph i) read.direct in
     record {
-      judged = followed read.step (λ table. Done (ByStore graph i (direct_views i table cs)))
-          (answered _ (views_shown graph i (direct_views i read.facts cs) c.yes.result c.yes.ensures.status text));
+      judged = followed read.step (λ table. Done (Told Yes (store_text graph i (direct_views i table cs))))
+          (answered _ (told_shown (store_text graph i (direct_views i read.facts cs)) c.yes.result
+          c.yes.ensures.status text));
     }
