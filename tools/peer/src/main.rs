@@ -1,4 +1,7 @@
-//! Rolls facts up as a plain program would: `peer rollup SCHEMA INSTANCE FACTS CATEGORY` and `peer check SCHEMA INSTANCE`.
+//! Rolls facts up as a plain program would.
+//!
+//!     peer rollup SCHEMA INSTANCE FACTS CATEGORY
+//!     peer check SCHEMA INSTANCE
 //!
 //! It checks the five laws of an instance, and no constraint: a schema that has one is refused. What is wrong with an
 //! input is told in a line of its own making. For valid inputs it prints the bytes that `olap` prints.
@@ -76,7 +79,8 @@ impl Instance {
             }
             let category = graph.number(std::str::from_utf8(&record[1])?)?;
             let id = &record[0];
-            if category == 0 || id.is_empty() || id == b"all" || id.len() > 255 || record[2].len() > 255 || id.contains(&b';') {
+            let is_bad = id.is_empty() || id == b"all" || id.contains(&b';');
+            if category == 0 || is_bad || id.len() > 255 || record[2].len() > 255 {
                 return Err("a bad member".into());
             }
             if instance.places.insert(id.to_vec(), ()).is_some() || instance.places.len() == 262_144 {
