@@ -10,6 +10,8 @@ mod answers;
 #[cfg(test)]
 mod checks;
 #[cfg(test)]
+mod collisions;
+#[cfg(test)]
 mod failing;
 #[cfg(test)]
 mod faults;
