@@ -5,6 +5,8 @@ pub mod ReadingLemmas
 pub mod AgreeingLemmas
 pub mod WayLemmas
 pub mod CertificateLemmas
+pub mod WalkingLemmas
+pub mod SeenLemmas
 pub mod StepLemmas
 pub mod ExampleLemmas
 pub mod TallyLemmas

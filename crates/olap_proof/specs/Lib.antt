@@ -9,3 +9,5 @@ pub mod Existing
 pub mod Reading
 pub mod KeptParts
 pub mod Kept
+pub mod Walking
+pub mod Seen

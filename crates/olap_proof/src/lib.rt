@@ -10,6 +10,7 @@ mod forms;
 mod laws;
 mod lines;
 mod places;
+mod walking;
 
 pub use existence::{certificates_exist_exactly_where_summarizable, full_places_close};
 pub use forms::Form;

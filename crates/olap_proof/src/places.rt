@@ -5,11 +5,12 @@ ghost use Rattle.olap_base.specs.Graph.{IsCategory};
 ghost use Rattle.olap_proof.specs.Certificates.{start, with_edge, with_name, with_way};
 ghost use Rattle.olap_proof.specs.KeptParts.{naming_kept, way_kept};
 ghost use Rattle.olap_proof.specs.Places.{index_of, way_of};
-ghost use Rattle.olap_trail.specs.Decisions.{status_of};
+ghost use Rattle.olap_trail.specs.Decisions.{AreDecisions, status_of};
+ghost use Rattle.olap_trail.specs.Trails.{decisions_of};
 
 use olap_base::{CatId, EdgeId, Memory};
 use olap_graph::{Graph, WORDS};
-use olap_trail::{Mark, Trail};
+use olap_trail::{Decision, Mark, Trail};
 use std::alloc::Global;
 use std::marker::Model;
 
@@ -95,6 +96,21 @@ impl Place {
         ensures { result ≡ status_of self.now.decided edge.0 }
     {
         self.trail.status(edge)
+    }
+
+    /// The decisions on edges.
+    pub(crate) fn decisions(&self) -> &[Decision]
+        ensures list { decisions_of result.now ≡ self.now.decided.decisions }
+        ensures decisions { AreDecisions self.now.decided }
+    {
+        self.trail.decisions()
+    }
+
+    /// The decisions on ways.
+    pub(crate) fn ways(&self) -> &[Way]
+        ensures { map way_kept result.now ≡ self.now.ways }
+    {
+        &self.ways
     }
 
     /// The index that was decided for the category's name. Cost: how many names are decided.

@@ -1,0 +1,53 @@
+-- Decisions and ways lie in the graph, and their edges are all that is known.
+use Rattle.std.proofs.Common.{◌<◌, ◌⊎◌, length, subst, sym, inl, inr}
+use Rattle.std.specs.Prelude.{◌||◌}
+use Rattle.olap_base.specs.Graph.{Graph, HasEdge, category_count}
+use Rattle.olap_bits.specs.Sets.{members}
+use Rattle.olap_graph.specs.Lookups.{edge_at}
+use Rattle.olap_proof.specs.Places.{leading_graph}
+use Rattle.olap_proof.specs.Seen.{SeenDecisions, SeenWays, decision_at, way_at}
+use Rattle.olap_proof.specs.Walking.{Grows}
+use Rattle.olap_proof.proofs.SeenLemmas.{decisions_within, leading_seen, seen_present, seen_way, ways_within}
+use Rattle.olap_proof.proofs.WalkingLemmas.{grows_on, grows_then}
+use Rattle.olap_proof.proofs.walking.grow_by_known.Goals as goal
+
+pub grow_by_decisions-by_decisions-requires : goal.grow_by_decisions-by_decisions-requires
+grow_by_decisions-by_decisions-requires c = λ k l.
+    let ds = c.decisions-decisions.result.now in
+    subst (λ (g : Graph). (decision_at ds k).edge.0 < length g.edges) c.requires.graph
+    (decisions_within c.args.place.now.decided ds c.decisions-decisions.ensures.decisions
+    c.decisions-decisions.ensures.list k l)
+
+pub grow_by_ways-by_ways-requires-clause-ways : goal.grow_by_ways-by_ways-requires-clause-ways
+grow_by_ways-by_ways-requires-clause-ways c = λ k l.
+    let ws = c.ways-ways.result.now in
+    subst (λ n. (way_at ws k).parent.0 < n) (sym c.categories-count.ensures.count)
+    (ways_within c.args.graph.now c.args.place.now.ways ws c.requires.ways c.ways-ways.ensures k l)
+
+pub returns : goal.returns
+returns c =
+    let p = c.args.place.now in
+    let graph = c.args.graph.now in
+    let lead = leading_graph p in
+    let n = category_count graph in
+    let ds = c.decisions-decisions.result.now in
+    let ws = c.ways-ways.result.now in
+    let listed = sym c.decisions-decisions.ensures.list in
+    let kept = sym c.ways-ways.ensures in
+    let old = members c.args.set.now in
+    let mid = members c.grow_by_decisions-by_decisions.new.set in
+    let new = members c.grow_by_ways-by_ways.new.set in
+    let a = c.grow_by_decisions-by_decisions.result in
+    let b = c.grow_by_ways-by_ways.result in
+    let first = c.grow_by_decisions-by_decisions.ensures lead (λ k l h.
+    let e = (decision_at ds k).edge.0 in
+    subst (λ (g : Graph). HasEdge lead (edge_at g e).child (edge_at g e).parent) c.requires.graph
+    (seen_present p ds listed k l h)) in
+    let second = subst (λ m. Grows lead m (SeenWays ws (length ws)) mid new b) c.categories-count.ensures.count
+    (c.grow_by_ways-by_ways.ensures lead (λ k l h. seen_way p ws kept k l h)) in
+    grows_on lead n (λ x y. SeenDecisions graph ds (length ds) x y ⊎ SeenWays ws (length ws) x y) (HasEdge lead) old new
+    (a || b) (grows_then lead n (SeenDecisions graph ds (length ds)) (SeenWays ws (length ws)) old mid new a b first second)
+    (λ x y e. elim (leading_seen p ds ws listed kept x y e) [
+      | inl s ↦ inl (subst (λ (g : Graph). SeenDecisions g ds (length ds) x y) c.requires.graph s)
+      | inr s ↦ inr s
+    ])

@@ -1,0 +1,40 @@
+-- Which edges and ways the program has seen, of those that it goes through in their order.
+--     AreOfGraph       ways between categories of a graph
+--     SeenWays         of ways, those that are there
+--     SeenDecisions    of decisions on edges, those that say present
+--     SeenPossible     of the edges of a graph, those that weren't decided absent
+use Rattle.std.specs.Prelude.{ℕ, Contains, List, false, slice_index_or}
+use Rattle.olap_base.specs.Graph.{Graph, IsCategory}
+use Rattle.olap_graph.specs.Lookups.{edge_at}
+use Rattle.olap_trail.specs.Decisions.{Decided, status_of}
+use Rattle.olap_trail.specs.declared.decisions.Decision.{Decision}
+use Rattle.olap_proof.specs.declared.places.Way.{Way}
+use Rattle.olap_proof.specs.Places.{is_possible, Way as WayHere}
+use Rattle.olap_proof.specs.Walking.{SeenUpTo}
+
+-- the way at a place of the list
+abbrev pub way_at : List Way → ℕ → Way
+way_at ways k = slice_index_or ways k (record { child = record { 0 = 0 }; parent = record { 0 = 0 }; there = false })
+
+-- one of the first i ways, that is there, leads from c to d
+abbrev pub SeenWays : List Way → ℕ → ℕ → ℕ → Type 0
+SeenWays ways i c d =
+    SeenUpTo (λ k. (way_at ways k).there) (λ k. (way_at ways k).child.0) (λ k. (way_at ways k).parent.0) i c d
+
+-- the decision at a place of the list
+abbrev pub decision_at : List Decision → ℕ → Decision
+decision_at decisions k = slice_index_or decisions k (record { edge = record { 0 = 0 }; present = false })
+
+-- one of the first i decisions says that an edge from c to d is present
+abbrev pub SeenDecisions : Graph → List Decision → ℕ → ℕ → ℕ → Type 0
+SeenDecisions g ds i c d = SeenUpTo (λ k. (decision_at ds k).present) (λ k. (edge_at g (decision_at ds k).edge.0).child)
+    (λ k. (edge_at g (decision_at ds k).edge.0).parent) i c d
+
+-- one of the first i edges, that wasn't decided absent, leads from c to d
+abbrev pub SeenPossible : Decided → ℕ → ℕ → ℕ → Type 0
+SeenPossible t i c d = SeenUpTo (λ k. is_possible (status_of t k)) (λ k. (edge_at t.graph k).child)
+    (λ k. (edge_at t.graph k).parent) i c d
+
+-- the ways lead from one category to another
+abbrev pub AreOfGraph : Graph → List WayHere → Type 0
+AreOfGraph g ways = (w : WayHere) → Contains ways w → IsCategory g w.child × IsCategory g w.parent

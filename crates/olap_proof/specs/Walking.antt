@@ -1,0 +1,38 @@
+-- Sets of categories that grow by edges.
+--     IsAdded      a category was added, where another was in the set and an edge leads there
+--     SeenUpTo     an edge that was seen
+--     Grows        the set took in what edges lead to, each edge that was seen once
+--     IsWalk       the set of what a category reaches
+use Rattle.std.specs.Prelude.{◌≡◌, ◌<◌, ◌⊎◌, ◌↔◌, ℕ, Bool, true, false}
+use Rattle.std.specs.FinSet as set
+use Rattle.std.specs.Ordering.{nat_cmp}
+use Rattle.olap_base.specs.Graph.{CategoryReaches, Graph}
+
+-- the number is in the set
+abbrev pub IsIn : set.FinSet nat_cmp → ℕ → Type 0
+IsIn s x = set.contains s x ≡ true
+
+-- d was added, where an edge joins c and d, c was in the set, and d wasn't; and whether the set grew, now or before
+pub record IsAdded (old : set.FinSet nat_cmp) (joins : Bool) (c d : ℕ) (grew : Bool) (new : set.FinSet nat_cmp) (now : Bool)
+    : Type 0 where
+  pub kept : (x : ℕ) → IsIn old x → IsIn new x
+  pub only : (x : ℕ) → IsIn new x → IsIn old x ⊎ ((x ≡ d) × IsIn old c × (joins ≡ true))
+  pub same : now ≡ false → (grew ≡ false) × (new ≡ old) × (joins ≡ true → IsIn old c → IsIn old d)
+  pub more : now ≡ true → (grew ≡ true) ⊎ (IsIn new d × (IsIn old d → ⊥))
+
+-- one of the edges that were seen, of those that are taken, leads from c to d
+abbrev pub SeenUpTo : (ℕ → Bool) → (ℕ → ℕ) → (ℕ → ℕ) → ℕ → ℕ → ℕ → Type 0
+SeenUpTo takes child parent i c d = (k : ℕ) × (k < i) × (takes k ≡ true) × (child k ≡ c) × (parent k ≡ d)
+
+-- the set took in what edges of a graph of n categories lead to, each edge that was seen once
+pub record Grows (g : Graph) (n : ℕ) (Seen : ℕ → ℕ → Type 0) (old new : set.FinSet nat_cmp) (grew : Bool)
+    : Type 0 where
+  pub kept : (x : ℕ) → IsIn old x → IsIn new x
+  pub sound : (a : ℕ) → ((x : ℕ) → IsIn old x → CategoryReaches g a x) → (x : ℕ) → IsIn new x → CategoryReaches g a x
+  pub same : grew ≡ false → new ≡ old
+  pub closed : grew ≡ false → (c d : ℕ) → Seen c d → IsIn old c → IsIn old d
+  pub more : grew ≡ true → (x : ℕ) × (x < n) × IsIn new x × (IsIn old x → ⊥)
+
+-- the set of what a category reaches
+abbrev pub IsWalk : Graph → ℕ → set.FinSet nat_cmp → Type 0
+IsWalk g a s = (x : ℕ) → IsIn s x ↔ CategoryReaches g a x
