@@ -479,7 +479,8 @@ module _ (s : Schema) (k : Candidates) (hier : IsHierarchy s.graph) (r : ℕ) (d
       same w q h = let n = name_decided c h in let e : n.0 ≡ w = cc in n.2 ∙ e
 
       of_test : (w : List ℕ) → name_of k ns c ≡ Some w → (a : Bool) → bytes_eq w text ≡ a
-          → (b : Bool) → is_known p c ≡ b → Tells (cond a (cond b Yes Unknown) No) (HasNameThere inst present place c text)
+          → (b : Bool) → is_known p c ≡ b
+          → Tells (cond a (cond b Yes Unknown) No) (HasNameThere inst present place c text)
       of_test w q true x true y =
           let h = known_present c y in
           (h, made.name_there s.graph r es ch name c h ∙ same w q h ∙ (bytes_eq-Decides w text).0 x)

@@ -15,3 +15,5 @@ pub mod FullPlaceLemmas
 pub mod ClosingLemmas
 pub mod PlainTreeLemmas
 pub mod RefusedLemmas
+pub mod TreeTextLemmas
+pub mod BottomLemmas

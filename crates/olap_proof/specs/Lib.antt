@@ -11,3 +11,6 @@ pub mod KeptParts
 pub mod Kept
 pub mod Walking
 pub mod Seen
+-- How it writes one.
+pub mod Asking
+pub mod Trees

@@ -5,12 +5,19 @@
 //! `src/laws.rt`, over the definitions alone. Nothing here knows how a certificate is found.
 #![tactic(auto)]
 
+mod asking;
+mod cases;
+mod closing;
 mod existence;
 mod forms;
+mod growing;
 mod laws;
 mod lines;
 mod places;
+mod plain;
+mod splitting;
 mod walking;
+mod writing;
 
 pub use existence::{certificates_exist_exactly_where_summarizable, full_places_close};
 pub use forms::Form;

@@ -1,0 +1,82 @@
+-- The bottom categories one after another, with their trees, are a certificate.
+--     first_bottoms           those among the first n that are declared
+--     bottoms_more            one more
+--     bottoms_same            or none
+--     certified               all of them
+use Rattle.std.proofs.Common.{◌≡◌, ℕ, ◌+◌, List, [], ◌∷◌, ◌++◌, length, map, Bool, true, false, cond, ap, sym, subst, ◌∙◌, arith}
+use Rattle.std.specs.Prelude.{◌==◌, filter, not}
+use Rattle.std.specs.List.{list_any, range_with_len}
+use Rattle.std.proofs.lemmas.List.{append-nil, map-append, map-id}
+use Rattle.std.proofs.lemmas.List.Elements.{filter-append}
+use Rattle.std.proofs.lemmas.List.FromFn.{map-range_with_len_more}
+use Rattle.olap_base.proofs.ListLemmas.{Contains-filter, Contains-from_filter, Contains-range_at}
+use Rattle.olap_base.specs.Graph.{Edge, Graph, IsBottom, IsDeclared}
+use Rattle.olap_ast.specs.Formula.{Formula}
+use Rattle.olap_ast.specs.Frozen.{Candidates}
+use Rattle.olap_ast.specs.Schema.{Schema}
+use Rattle.olap_proof.specs.declared.forms.Form.TheVariants.{Long}
+use Rattle.olap_proof.specs.Certificates.{IsCertificateText, Open.Bottom, Runs, Runs.more, Runs.none, Steps.begins, bottoms_of, ended, head_text}
+use Rattle.olap_proof.specs.Trees.{Adds}
+use Rattle.olap_proof.proofs.CertificateLemmas.{bottom_listed}
+use Rattle.olap_proof.proofs.PlainTreeLemmas.{listed_bottom}
+use Rattle.olap_proof.proofs.TallyLemmas.{false_from}
+use Rattle.olap_proof.proofs.TreeTextLemmas.{adds_more}
+
+-- no edge leads to it
+abbrev pub has_no_child : Graph → ℕ → Bool
+has_no_child g c = not (list_any (λ (e : Edge). e.parent == c) g.edges)
+
+-- the bottom categories among the first n that are declared
+abbrev pub first_bottoms : Graph → ℕ → List ℕ
+first_bottoms g n = filter (has_no_child g) (range_with_len 1 n)
+
+range_more : (n b : ℕ) → 1 + n ≡ b → range_with_len 1 (n + 1) ≡ range_with_len 1 n ++ b ∷ []
+range_more n b e =
+    sym (map-id (range_with_len 1 (n + 1))) ∙ map-range_with_len_more (λ x. x) 1 n b e
+    ∙ ap (λ xs. xs ++ b ∷ []) (map-id (range_with_len 1 n))
+
+more_or_same : (g : Graph) (n b : ℕ) (t : Bool) → 1 + n ≡ b → has_no_child g b ≡ t
+    → first_bottoms g (n + 1) ≡ first_bottoms g n ++ cond t (b ∷ []) []
+more_or_same g n b t e h =
+    ap (filter (has_no_child g)) (range_more n b e) ∙ filter-append (has_no_child g) (range_with_len 1 n) (b ∷ [])
+    ∙ ap (λ t. first_bottoms g n ++ cond t (b ∷ []) []) h
+
+pub bottoms_more : (g : Graph) (n b : ℕ) → 1 + n ≡ b → IsBottom g b
+    → first_bottoms g (n + 1) ≡ first_bottoms g n ++ b ∷ []
+bottoms_more g n b e h = more_or_same g n b true e
+    (Contains-from_filter (has_no_child g) (range_with_len 1 (length g.names)) b (bottom_listed g b h)).1
+
+pub bottoms_same : (g : Graph) (n b : ℕ) → 1 + n ≡ b → IsDeclared g b → (IsBottom g b → ⊥)
+    → first_bottoms g (n + 1) ≡ first_bottoms g n
+bottoms_same g n b e d h =
+    more_or_same g n b false e (false_from (has_no_child g b) (λ t. h (listed_bottom g b
+    (Contains-filter (has_no_child g) (range_with_len 1 (length g.names)) b t
+    (Contains-range_at 1 (length g.names) b (omega arith) (let l = d.1 in omega arith))))))
+    ∙ append-nil (first_bottoms g n)
+
+module _ (s : Schema) (q : Formula) (k : Candidates) where
+  -- one bottom category's tree more
+  pub bottom_written : (n b : ℕ) (a c d : List ℕ) → 1 + n ≡ b → IsBottom s.graph b
+      → Adds s q k (map Bottom (first_bottoms s.graph n)) a c → Adds s q k (Bottom b ∷ []) c d
+      → Adds s q k (map Bottom (first_bottoms s.graph (n + 1))) a d
+  bottom_written n b a c d e h f i =
+      subst (λ os. Adds s q k os a d)
+      (sym (ap (map Bottom) (bottoms_more s.graph n b e h) ∙ map-append Bottom (first_bottoms s.graph n) (b ∷ [])))
+      (adds_more s q k (map Bottom (first_bottoms s.graph n)) (Bottom b ∷ []) a c d f i)
+
+  -- or none
+  pub none_written : (n b : ℕ) (a c : List ℕ) → 1 + n ≡ b → IsDeclared s.graph b → (IsBottom s.graph b → ⊥)
+      → Adds s q k (map Bottom (first_bottoms s.graph n)) a c
+      → Adds s q k (map Bottom (first_bottoms s.graph (n + 1))) a c
+  none_written n b a c e d h f =
+      subst (λ os. Adds s q k os a c) (sym (ap (map Bottom) (bottoms_same s.graph n b e d h))) f
+
+  -- all are a certificate, below its first line
+  pub certified : (a c : List ℕ) → a ≡ head_text Long ++ 10 ∷ []
+      → Adds s q k (map Bottom (first_bottoms s.graph (length s.graph.names))) a c → IsCertificateText Long s q k c
+  certified a c e f = (
+    head_text Long ∷ f.0,
+    f.1 ∙ ap (λ x. x ++ ended f.0) e,
+    more begins (subst (λ ls. Runs Long s q k ls (map Bottom (bottoms_of s.graph) ++ []) []) (append-nil f.0)
+        (f.2 [] [] [] none)),
+  )

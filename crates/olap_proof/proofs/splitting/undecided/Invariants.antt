@@ -1,0 +1,7 @@
+-- Each edge so far is decided.
+use Rattle.std.proofs.Common.{◌<◌, ◌≢◌, None, ℕ}
+use Rattle.olap_trail.specs.Decisions.{status_of}
+use Rattle.olap_proof.proofs.splitting.undecided.Given as goal
+
+abbrev pub invariant-edges : goal.invariant-edges
+invariant-edges g l = (x : ℕ) → x < l.e → status_of (g.C.Case.place l.case).decided x ≢ None

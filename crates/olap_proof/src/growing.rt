@@ -1,0 +1,53 @@
+// A tree over a place, line by line: it is closed where some line closes it, and else split.
+ghost use Rattle.std.specs.Prelude.{◌≡◌, ℕ, OnOk, [], ◌∷◌};
+ghost use Rattle.olap_ast.specs.Frozen.{Frozen, IsFrozen};
+ghost use Rattle.olap_proof.specs.Asking.{IsAsked, names_in, question_in, schema_in};
+ghost use Rattle.olap_proof.specs.Certificates.{Open.At};
+ghost use Rattle.olap_proof.specs.Trees.{Adds, IsPlaceOf};
+
+use crate::asking::Asked;
+use crate::cases::Case;
+use crate::closing::closing;
+use crate::lines::Line;
+use crate::splitting::{next_edge, next_name};
+use crate::writing::push_line;
+use olap_base::Memory;
+
+/// Appends the lines of a tree over the place, where there is no frozen dimension with its root.
+///
+/// The place is closed if some line closes it. Else it is split by an edge that isn't decided, and where each edge is
+/// by a name. It calls itself as deep as there are edges and names. `Memory`: out of memory.
+pub(crate) fn grow<C: Case>(case: &mut C, asked: &Asked, out: &mut Vec<u8>) -> Result<(), Memory>
+    requires asked { IsAsked asked.now }
+    requires place { IsPlaceOf asked.now.graph.now (names_in asked.now) (C.place case.old) }
+    requires none { (f : Frozen) → IsFrozen (schema_in asked.now) (question_in asked.now)
+        (C.place case.old).decided.root (names_in asked.now) f → ⊥ }
+    ensures tree { OnOk result (Adds (schema_in asked.now) (question_in asked.now) (names_in asked.now)
+        (At (C.place case.old) ∷ []) out.old.items out.new.items) }
+    ensures same { OnOk result (C.place case.new ≡ C.place case.old) }
+{
+    if let Some(line) = closing(case, asked) {
+        push_line(out, asked.graph, asked.constraints, line)?;
+        return Ok(());
+    }
+    if let Some(edge) = next_edge(case, asked) {
+        push_line(out, asked.graph, asked.constraints, Line::Edge(edge))?;
+        case.decide(edge, false);
+        grow(case, asked, out)?;
+        case.undecide();
+        case.decide(edge, true);
+        grow(case, asked, out)?;
+        case.undecide();
+        return Ok(());
+    }
+    if let Some(c) = next_name(case, asked) {
+        push_line(out, asked.graph, asked.constraints, Line::Name(c))?;
+        let last = asked.candidates.constants(c).len() as u16;
+        'names: for index in 0..last + 1 {
+            case.name(c, index)?;
+            grow(case, asked, out)?;
+            case.unname();
+        }
+    }
+    Ok(())
+}

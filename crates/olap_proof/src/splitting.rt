@@ -1,0 +1,108 @@
+// What a place is split by.
+ghost use Rattle.std.specs.Prelude.{◌≡◌, ◌≢◌, ◌<◌, ℕ, IfSome, IsNone, None, length};
+ghost use Rattle.olap_base.specs.Graph.{IsDeclared};
+ghost use Rattle.olap_proof.specs.Asking.{IsUndecided, IsUnnamed};
+ghost use Rattle.olap_proof.specs.Places.{index_of};
+ghost use Rattle.olap_trail.specs.Decisions.{status_of};
+
+use crate::asking::Asked;
+use crate::cases::Case;
+use crate::closing::closing;
+use olap_base::{CatId, EdgeId};
+
+/// Whether some line closes the place once the edge is decided so.
+fn closes_at_once<C: Case>(case: &mut C, asked: &Asked, edge: EdgeId, present: bool) -> bool
+    requires graph { (C.place case.old).decided.graph ≡ asked.now.graph.now }
+    requires open { IsUndecided asked.now (C.place case.old) edge }
+    ensures { C.place case.new ≡ C.place case.old }
+{
+    case.decide(edge, present);
+    let is_closed = closing(case, asked).is_some();
+    case.undecide();
+    is_closed
+}
+
+/// The first undecided edge one of whose values closes at once.
+fn forced<C: Case>(case: &mut C, asked: &Asked) -> Option<EdgeId>
+    requires { (C.place case.old).decided.graph ≡ asked.now.graph.now }
+    ensures open { IfSome result (IsUndecided asked.now (C.place case.old)) }
+    ensures same { C.place case.new ≡ C.place case.old }
+{
+    'edges: for e in 0..asked.graph.edges() {
+        let edge = EdgeId(e);
+        if case.status(edge).is_none() {
+            let is_forced = closes_at_once(case, asked, edge, false)
+                || closes_at_once(case, asked, edge, true);
+            if is_forced {
+                return Some(edge);
+            }
+        }
+    }
+    None
+}
+
+/// The first undecided edge whose child is known to have a member.
+fn above_known<C: Case>(case: &C, asked: &Asked) -> Option<EdgeId>
+    requires { (C.place case.now).decided.graph ≡ asked.now.graph.now }
+    ensures { IfSome result (IsUndecided asked.now (C.place case.now)) }
+{
+    'edges: for e in 0..asked.graph.edges() {
+        let edge = EdgeId(e);
+        let (child, _) = asked.graph.ends(edge);
+        if case.status(edge).is_none() && case.is_known(child) {
+            return Some(edge);
+        }
+    }
+    None
+}
+
+/// The first undecided edge.
+fn undecided<C: Case>(case: &C, asked: &Asked) -> Option<EdgeId>
+    requires { (C.place case.now).decided.graph ≡ asked.now.graph.now }
+    ensures some { IfSome result (IsUndecided asked.now (C.place case.now)) }
+    ensures none { IsNone result → (e : ℕ) → e < length asked.now.graph.now.edges
+        → status_of (C.place case.now).decided e ≢ None }
+{
+    'edges: for e in 0..asked.graph.edges() {
+        let edge = EdgeId(e);
+        if case.status(edge).is_none() {
+            return Some(edge);
+        }
+    }
+    None
+}
+
+/// An undecided edge, if there is one: first one of whose values closes at once, then one whose child is known to have
+/// a member.
+pub(crate) fn next_edge<C: Case>(case: &mut C, asked: &Asked) -> Option<EdgeId>
+    requires { (C.place case.old).decided.graph ≡ asked.now.graph.now }
+    ensures some { IfSome result (IsUndecided asked.now (C.place case.old)) }
+    ensures none { IsNone result → (e : ℕ) → e < length asked.now.graph.now.edges
+        → status_of (C.place case.old).decided e ≢ None }
+    ensures same { C.place case.new ≡ C.place case.old }
+{
+    let by_looking = forced(case, asked);
+    if by_looking.is_some() {
+        return by_looking;
+    }
+    let by_child = above_known(case, asked);
+    if by_child.is_some() {
+        return by_child;
+    }
+    undecided(case, asked)
+}
+
+/// The first declared category whose name isn't decided.
+pub(crate) fn next_name<C: Case>(case: &C, asked: &Asked) -> Option<CatId>
+    requires { (C.place case.now).decided.graph ≡ asked.now.graph.now }
+    ensures some { IfSome result (IsUnnamed asked.now (C.place case.now)) }
+    ensures none { IsNone result → (c : ℕ) → IsDeclared asked.now.graph.now c
+        → index_of (C.place case.now).namings c ≢ None }
+{
+    'categories: for c in 1..asked.graph.categories() {
+        if case.index(CatId(c)).is_none() {
+            return Some(CatId(c));
+        }
+    }
+    None
+}

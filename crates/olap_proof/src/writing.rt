@@ -1,0 +1,110 @@
+// The lines of a certificate, written.
+ghost use Rattle.std.specs.Prelude.{◌≡◌, ◌<◌, ◌++◌, ◌∷◌, [], OnOk, decimal, length, map};
+ghost use Rattle.olap_ast.specs.Trees.{constraint_of};
+ghost use Rattle.olap_base.specs.Graph.{IsCategory};
+ghost use Rattle.olap_graph.specs.Lookups.{name_of_category};
+ghost use Rattle.olap_names.specs.Names.{with_graph};
+ghost use Rattle.olap_proof.specs.Certificates.{bottom_text};
+ghost use Rattle.olap_proof.specs.Lines.{IsAbout, edge_words, line_text, way_words, words};
+ghost use Rattle.olap_proof.specs.Reading.{said};
+
+use crate::lines::Line;
+use itoa::Buffer;
+use olap_ast::Constraint;
+use olap_base::{CatId, EdgeId};
+use olap_graph::Graph;
+use std::alloc::AllocError;
+
+/// A word, and a category's name.
+fn push_name(out: &mut Vec<u8>, graph: &Graph, word: &[u8], c: CatId) -> Result<(), AllocError>
+    requires { IsCategory graph.now c.0 }
+    ensures { OnOk result (out.new.items ≡ out.old.items ++ words word.now (name_of_category graph.now c.0)) }
+{
+    out.extend_from_slice(word)?;
+    out.extend_from_slice(b" ")?;
+    out.extend_from_slice(graph.name(c).bytes())
+}
+
+/// A word, and the names of two categories.
+fn push_way(
+    out: &mut Vec<u8>,
+    graph: &Graph,
+    word: &[u8],
+    child: CatId,
+    parent: CatId,
+) -> Result<(), AllocError>
+    requires child { IsCategory graph.now child.0 }
+    requires parent { IsCategory graph.now parent.0 }
+    ensures { OnOk result (out.new.items ≡ out.old.items ++ words word.now (way_words graph.now child.0 parent.0)) }
+{
+    push_name(out, graph, word, child)?;
+    out.extend_from_slice(b" ")?;
+    out.extend_from_slice(graph.name(parent).bytes())
+}
+
+/// A word, and the names of an edge's ends.
+fn push_edge(out: &mut Vec<u8>, graph: &Graph, word: &[u8], edge: EdgeId) -> Result<(), AllocError>
+    requires { edge.0 < length graph.now.edges }
+    ensures { OnOk result (out.new.items ≡ out.old.items ++ words word.now (edge_words graph.now edge.0)) }
+{
+    let (child, parent) = graph.ends(edge);
+    push_way(out, graph, word, child, parent)
+}
+
+/// A word, and a number.
+fn push_number(out: &mut Vec<u8>, word: &[u8], n: u64) -> Result<(), AllocError>
+    ensures { OnOk result (out.new.items ≡ out.old.items ++ words word.now (decimal n)) }
+{
+    let mut buffer = Buffer::new();
+    out.extend_from_slice(word)?;
+    out.extend_from_slice(b" ")?;
+    out.extend_from_slice(buffer.format(n).as_bytes())
+}
+
+/// The words of a line of a schema with this graph and these constraints.
+fn push_words(
+    out: &mut Vec<u8>,
+    graph: &Graph,
+    constraints: &[Constraint],
+    line: Line,
+) -> Result<(), AllocError>
+    requires { IsAbout (with_graph graph.now (map constraint_of constraints.now)) (said line) }
+    ensures { OnOk result (out.new.items ≡ out.old.items ++ line_text graph.now (said line)) }
+{
+    match line {
+        Line::Edge(e) => push_edge(out, graph, b"edge", e),
+        Line::Name(c) => push_name(out, graph, b"name", c),
+        Line::Reach(c, d) => push_way(out, graph, b"reach", c, d),
+        Line::Dead(c) => push_name(out, graph, b"dead", c),
+        Line::Cycle => out.extend_from_slice(b"cycle"),
+        Line::Shortcut => out.extend_from_slice(b"shortcut"),
+        Line::LooseEdge(e) => push_edge(out, graph, b"loose", e),
+        Line::LooseCategory(c) => push_name(out, graph, b"loose", c),
+        Line::Steps(c, d) => push_way(out, graph, b"steps", c, d),
+        Line::Constraint(n) => push_number(out, b"constraint", n as u64 + 1),
+        Line::Question => out.extend_from_slice(b"question"),
+    }
+}
+
+/// A line of a schema with this graph and these constraints, ended by an LF.
+pub(crate) fn push_line(
+    out: &mut Vec<u8>,
+    graph: &Graph,
+    constraints: &[Constraint],
+    line: Line,
+) -> Result<(), AllocError>
+    requires { IsAbout (with_graph graph.now (map constraint_of constraints.now)) (said line) }
+    ensures { OnOk result (out.new.items ≡ out.old.items ++ (line_text graph.now (said line) ++ 10 ∷ [])) }
+{
+    push_words(out, graph, constraints, line)?;
+    out.extend_from_slice(b"\n")
+}
+
+/// The line above a bottom category's tree, ended by an LF.
+pub(crate) fn push_bottom(out: &mut Vec<u8>, graph: &Graph, c: CatId) -> Result<(), AllocError>
+    requires { IsCategory graph.now c.0 }
+    ensures { OnOk result (out.new.items ≡ out.old.items ++ (bottom_text graph.now c.0 ++ 10 ∷ [])) }
+{
+    push_name(out, graph, b"bottom", c)?;
+    out.extend_from_slice(b"\n")
+}
