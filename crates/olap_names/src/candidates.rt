@@ -1,12 +1,12 @@
 // The constants of each category, and the fresh name.
-ghost use Rattle.std.specs.Prelude.{◌≡◌, ◌<◌, ◌≤◌, ◌↔◌, All, Contains, IfOk, IsTrue, codes, length, map, slice_index_or, [], ℕ};
+ghost use Rattle.std.specs.Prelude.{◌≡◌, ◌+◌, ◌<◌, ◌≤◌, ◌↔◌, All, Contains, IfOk, IsTrue, codes, length, map, slice_index_or, [], ℕ};
 ghost use Rattle.olap_ast.specs.Constants.{AreInByteOrder, texts_on};
 ghost use Rattle.olap_ast.specs.Frozen.{AreCandidates};
 ghost use Rattle.olap_ast.specs.Trees.{constraint_of, formula_of};
 ghost use Rattle.olap_ast.specs.Valid.{distinct_pairs};
 ghost use Rattle.olap_base.specs.Limits.{most_constants};
 ghost use Rattle.olap_base.specs.Graph.{Graph};
-ghost use Rattle.olap_names.specs.Names.{IsConstantSomewhere, IsFreshAmong, atoms, candidates_of, name_at, with_graph};
+ghost use Rattle.olap_names.specs.Names.{IsConstantSomewhere, IsFreshAmong, atoms, candidates_of, name_at, names_of, with_graph};
 
 use olap_ast::{Constraint, Formula, gather};
 use olap_base::{CatId, List, Memory, Text};
@@ -131,6 +131,15 @@ impl Candidates {
         ensures few { length result.now ≤ most_constants }
     {
         self.texts[usize::from(c.0)].items()
+    }
+
+    /// How many names a member of the category may have, the fresh one counted: an index is below that.
+    pub fn names(&self, c: CatId) -> u16
+        requires { c.0 < length self.now.texts }
+        ensures count { result ≡ names_of self.now c.0 }
+        ensures few { result ≤ most_constants + 1 }
+    {
+        self.constants(c).len() as u16 + 1
     }
 
     /// The constants of each category, in byte order.
