@@ -38,6 +38,10 @@ schema_of t = with_graph t.graph t.constraints
 abbrev pub IsOne : Task → Frozen → Type 0
 IsOne t f = IsFrozen (schema_of t) t.question t.root (candidates_of t.named) f
 
+-- the names of the first n categories have their variables before this one
+abbrev pub AreNamesBefore : Task → ℕ → ℕ → Type 0
+AreNamesBefore t n end = (c j : ℕ) → c < n → j < constant_count t c → name_variable t.layout c j < end
+
 pub record IsLaid (t : Task) : Type 0 where
   pub edges : t.layout.edges ≡ length t.graph.edges
   pub starts : length t.layout.starts.items ≡ category_count t.graph

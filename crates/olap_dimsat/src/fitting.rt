@@ -1,11 +1,11 @@
 // Whether a choice of edges and names agrees with literals.
 ghost use Rattle.std.specs.Prelude.{◌≡◌, ◌≢◌, ◌==◌, ◌<◌, ℕ, Bool, false, suc, length, slice_index, slice_index_or, true};
-ghost use Rattle.olap_base.specs.Graph.{IsCategory};
+ghost use Rattle.olap_base.specs.Graph.{IsCategory, category_count};
 ghost use Rattle.olap_clauses.specs.Literals.{Holds};
 ghost use Rattle.olap_clauses.specs.Standing.{Agrees};
 ghost use Rattle.olap_clauses.specs.Trails.{steps_of};
 ghost use Rattle.olap_frozen.specs.Leaves.{chosen_of};
-ghost use Rattle.olap_dimsat.specs.Tasks.{IsTask, constant_count, name_variable, on_variable};
+ghost use Rattle.olap_dimsat.specs.Tasks.{AreNamesBefore, IsTask, constant_count, name_variable, on_variable};
 ghost use Rattle.olap_dimsat.specs.Reads.{AllSuit, Reads, Suits};
 ghost use Rattle.olap_dimsat.specs.Asking.{IsFor, task_of};
 
@@ -43,22 +43,70 @@ fn suits_name(a: &Asker<'_>, frozen: &Frozen, c: CatId, lit: Lit) -> bool
         → Holds v lit → ⊥ }
 {
     let start = a.layout.starts[usize::from(c.0)];
-    let count = a.candidates.constants(c).len();
+    let names = a.candidates.names(c);
     if lit.variable < start {
         return true;
     }
     let place = (lit.variable - start) as usize;
-    if place >= count {
+    if place + 1 >= usize::from(names) {
         return true;
     }
     let is = usize::from(frozen.names.items()[usize::from(c.0)]) == place + 1;
     is == lit.positive
 }
 
-// Whether the choice agrees with the literal, if this is one of an edge or of a name.
-fn suits(a: &Asker<'_>, frozen: &Frozen, lit: Lit) -> bool
+// Where the variables of a category's names end.
+fn end_of(a: &Asker<'_>, c: CatId) -> u32
+    requires task { IsTask (task_of a.now) }
+    requires category { IsCategory a.now.graph.now c.0 }
+    ensures { (j : ℕ) → j < constant_count (task_of a.now) c.0 → name_variable (task_of a.now).layout c.0 j < result }
+{
+    let last = a.candidates.names(c) - 1;
+    if last == 0 {
+        return 0;
+    }
+    a.layout.name(c, usize::from(last) - 1).variable + 1
+}
+
+// Where the variables of names end.
+fn names_end(a: &Asker<'_>) -> u32
+    requires { IsTask (task_of a.now) }
+    ensures { AreNamesBefore (task_of a.now) (category_count a.now.graph.now) result }
+{
+    let mut end = 0;
+    'categories: for c in 0..a.graph.categories() {
+        let own = end_of(a, CatId(c));
+        if own > end {
+            end = own;
+        }
+    }
+    end
+}
+
+// Whether the choice agrees with the literal, if this is one of a category's name.
+fn suits_names(a: &Asker<'_>, frozen: &Frozen, lit: Lit) -> bool
     requires task { IsTask (task_of a.now) }
     requires sizes { IsFor (task_of a.now) frozen.now }
+    ensures yes { result ≡ true → (c j : ℕ) → c < category_count a.now.graph.now → c ≢ 0
+        → j < constant_count (task_of a.now) c → lit.variable ≡ name_variable (task_of a.now).layout c j
+        → (slice_index frozen.now.names c == suc j) ≡ lit.positive }
+    ensures no { result ≡ false → (v : ℕ → Bool) → Reads (task_of a.now) (chosen_of frozen.now.edges frozen.now.names) v
+        → Holds v lit → ⊥ }
+{
+    'categories: for c in 1..a.graph.categories() {
+        if !suits_name(a, frozen, CatId(c), lit) {
+            return false;
+        }
+    }
+    true
+}
+
+// Whether the choice agrees with the literal, if this is one of an edge or of a name. No name stands at the end or
+// behind it, so that most literals need no look at the categories.
+fn suits(a: &Asker<'_>, frozen: &Frozen, end: u32, lit: Lit) -> bool
+    requires task { IsTask (task_of a.now) }
+    requires sizes { IsFor (task_of a.now) frozen.now }
+    requires end { AreNamesBefore (task_of a.now) (category_count a.now.graph.now) end }
     ensures yes { result ≡ true → Suits (task_of a.now) frozen.now.edges frozen.now.names lit }
     ensures no { result ≡ false → (v : ℕ → Bool) → Reads (task_of a.now) (chosen_of frozen.now.edges frozen.now.names) v
         → Holds v lit → ⊥ }
@@ -66,12 +114,10 @@ fn suits(a: &Asker<'_>, frozen: &Frozen, lit: Lit) -> bool
     if !suits_edge(a, frozen, lit) {
         return false;
     }
-    'categories: for c in 1..a.graph.categories() {
-        if !suits_name(a, frozen, CatId(c), lit) {
-            return false;
-        }
+    if lit.variable >= end {
+        return true;
     }
-    true
+    suits_names(a, frozen, lit)
 }
 
 /// Whether the choice agrees with the literals of a trail.
@@ -82,8 +128,9 @@ pub(crate) fn suits_all(a: &Asker<'_>, frozen: &Frozen, trail: &Trail) -> bool
     ensures no { result ≡ false → (v : ℕ → Bool) → Reads (task_of a.now) (chosen_of frozen.now.edges frozen.now.names) v
         → Agrees v (steps_of trail.now) → ⊥ }
 {
+    let end = names_end(a);
     'steps: for step in trail.steps() {
-        if !suits(a, frozen, step.lit) {
+        if !suits(a, frozen, end, step.lit) {
             return false;
         }
     }

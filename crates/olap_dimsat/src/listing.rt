@@ -33,7 +33,7 @@ fn most_at(a: &Asker<'_>, p: u16) -> u16
     if p < edges {
         1
     } else {
-        a.candidates.constants(CatId(p - edges + 1)).len() as u16
+        a.candidates.names(CatId(p - edges + 1)) - 1
     }
 }
 

@@ -162,8 +162,8 @@ fn open_name_of(a: &Asker<'_>, trail: &Trail, c: CatId) -> Option<Lit>
     requires variables { length (values_of trail.now) ≡ a.now.layout.now.variables }
     ensures { IfSome result (λ l. IsOpen trail.now l) }
 {
-    'names: for j in 0..a.candidates.constants(c).len() {
-        let open = open_constant(a, trail, c, j);
+    'indexes: for i in 1..a.candidates.names(c) {
+        let open = open_constant(a, trail, c, usize::from(i) - 1);
         if open.is_some() {
             return open;
         }

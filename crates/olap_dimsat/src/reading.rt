@@ -78,9 +78,9 @@ fn read_name(a: &Asker<'_>, trail: &Trail, c: CatId) -> Result<u16, Lit>
     ensures in_range { IfOk result (λ i. i ≤ constant_count (task_of a.now) c.0) }
     ensures open { IfErr result (λ l. IsOpen trail.now l) }
 {
-    'names: for j in 0..a.candidates.constants(c).len() {
-        if read_constant(a, trail, c, j)? {
-            return Ok(j as u16 + 1);
+    'indexes: for i in 1..a.candidates.names(c) {
+        if read_constant(a, trail, c, usize::from(i) - 1)? {
+            return Ok(i);
         }
     }
     Ok(0)

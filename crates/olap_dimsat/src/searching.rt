@@ -1,5 +1,5 @@
 // The search as a value: room for one task.
-ghost use Rattle.std.specs.Prelude.{◌≡◌, ◌≤◌, All, Err, IfOk, IsTrue, false, length, map};
+ghost use Rattle.std.specs.Prelude.{◌≡◌, ◌<◌, ◌≤◌, All, Err, IfOk, IsTrue, false, length, map, slice_set};
 ghost use Rattle.olap_ast.specs.Constants.{all_equalities};
 ghost use Rattle.olap_ast.specs.Questions.{NoneFrozen};
 ghost use Rattle.olap_ast.specs.Trees.{constraint_of, formula_of};
@@ -7,6 +7,7 @@ ghost use Rattle.olap_ast.specs.Valid.{IsFormulaAt, IsValidSchema, distinct_pair
 ghost use Rattle.olap_base.specs.Graph.{IsCategory, category_count};
 ghost use Rattle.olap_base.specs.Limits.{most_constants};
 ghost use Rattle.olap_dimsat.specs.Listed.{AreAllFrozen, AreMoreThan};
+ghost use Rattle.olap_dimsat.specs.OneFound.{IsOneFound};
 ghost use Rattle.olap_dimsat.specs.declared.searching.AllRefusal.TheVariants as refusal;
 ghost use Rattle.olap_dimsat.specs.Searches.{IsMadeWith, IsSizedFor, candidates_in, found_in, named_in, root_of};
 ghost use Rattle.olap_frozen.specs.LeastFound.{HasNothing, IsLeastFound, frozen_of};
@@ -16,6 +17,7 @@ ghost use Rattle.olap_schema.specs.Schemas.{schema_of};
 
 use crate::asker::{Asker, Decisions, Leaf};
 use crate::encoding::encode;
+use crate::existing::exists;
 use crate::layout::Layout;
 use crate::listing::list;
 use crate::settling::least;
@@ -71,6 +73,21 @@ fn blank(alloc: Global, graph: &Graph, root: CatId) -> Result<Frozen, Memory>
         edges: List::from_vec(vec![in alloc; false; usize::from(graph.edges())]?),
         names: List::from_vec(vec![in alloc; 0; usize::from(graph.categories())]?),
     })
+}
+
+// Hands out what was found, with 0 as the index of `All`, and keeps what was brought in its place, at this root.
+fn hand_out(root: CatId, found: &mut Frozen, into: &mut Frozen)
+    requires { 0 < length found.old.names }
+    ensures into_root { into.new.root ≡ found.old.root }
+    ensures into_edges { into.new.edges ≡ found.old.edges }
+    ensures into_names { into.new.names ≡ slice_set found.old.names 0 0 }
+    ensures left_root { found.new.root ≡ root }
+    ensures left_edges { found.new.edges ≡ into.old.edges }
+    ensures left_names { found.new.names ≡ into.old.names }
+{
+    into.root = root;
+    swap(into, found);
+    into.names.set(0, 0);
 }
 
 /// Literals of learned clauses that there is room for. With much less, whole families of schemas take for ever.
@@ -195,9 +212,7 @@ impl Search {
         if !found {
             return false;
         }
-        into.root = self.root;
-        swap(into, &mut self.best);
-        into.names.set(0, 0);
+        hand_out(self.root, &mut self.best, into);
         true
     }
 
@@ -219,6 +234,65 @@ impl Search {
         let graph = schema.graph();
         let constraints = schema.constraints();
         self.first_over(graph, constraints, question, into)
+    }
+
+    // Any one, over this graph and these constraints.
+    fn any_over(
+        &mut self,
+        graph: &Graph,
+        constraints: &[Constraint],
+        question: &Formula,
+        into: &mut Frozen,
+    ) -> bool
+        requires made { IsMadeWith (with_graph graph.now (map constraint_of constraints.now))
+            (formula_of question.now) self.old }
+        requires sizes { IsSizedFor self.old into.old }
+        ensures some { IsTrue result → IsOneFound (with_graph graph.now (map constraint_of constraints.now))
+            (formula_of question.now) (root_of self.old) (found_in self.old into.new) }
+        ensures none { result ≡ false → NoneFrozen (with_graph graph.now (map constraint_of constraints.now))
+            (formula_of question.now) (root_of self.old) (candidates_in self.old) }
+        ensures stays { result ≡ false → into.new ≡ into.old }
+        ensures candidates { named_in self.new ≡ named_in self.old }
+        ensures root { root_of self.new ≡ root_of self.old }
+        ensures made { IsMadeWith (with_graph graph.now (map constraint_of constraints.now))
+            (formula_of question.now) self.new }
+    {
+        let asker = Asker {
+            graph,
+            constraints,
+            question,
+            root: self.root,
+            candidates: &self.candidates,
+            layout: &self.layout,
+        };
+        let found = exists(&mut self.engine, &asker, &mut self.leaf);
+        self.engine.undo(0);
+        if !found {
+            return false;
+        }
+        hand_out(self.root, &mut self.leaf.frozen, into);
+        true
+    }
+
+    /// Any frozen dimension whose root makes the question true. False where there is none; then `into` stays.
+    ///
+    /// It can't return out of memory. It is one search, where `first` makes one more for each edge and each name that
+    /// may yet be less. Which one it finds may differ from call to call.
+    pub fn any(&mut self, schema: &Schema, question: &Formula, into: &mut Frozen) -> bool
+        requires made { IsMadeWith (schema_of schema.now) (formula_of question.now) self.old }
+        requires sizes { IsSizedFor self.old into.old }
+        ensures some { IsTrue result → IsOneFound (schema_of schema.now) (formula_of question.now)
+            (root_of self.old) (found_in self.old into.new) }
+        ensures none { result ≡ false → NoneFrozen (schema_of schema.now) (formula_of question.now)
+            (root_of self.old) (candidates_in self.old) }
+        ensures stays { result ≡ false → into.new ≡ into.old }
+        ensures candidates { named_in self.new ≡ named_in self.old }
+        ensures root { root_of self.new ≡ root_of self.old }
+        ensures made { IsMadeWith (schema_of schema.now) (formula_of question.now) self.new }
+    {
+        let graph = schema.graph();
+        let constraints = schema.constraints();
+        self.any_over(graph, constraints, question, into)
     }
 
     // All of them, over this graph and these constraints.

@@ -81,11 +81,11 @@ fn assume_name(engine: &mut Engine, a: &Asker<'_>, c: CatId, i: u16) -> bool
     ensures variables { variables_of engine.new ≡ variables_of engine.old }
     ensures admits { (v : ℕ → Bool) → admits v engine.old → admits v engine.new }
 {
-    'constants: for j in 0..a.candidates.constants(c).len() {
-        let name = a.layout.name(c, j);
+    'indexes: for j in 1..a.candidates.names(c) {
+        let name = a.layout.name(c, usize::from(j) - 1);
         let lit = Lit {
             variable: name.variable,
-            positive: j + 1 == usize::from(i),
+            positive: j == i,
         };
         if !assume(engine, a, lit) {
             return false;

@@ -1,4 +1,4 @@
-use Rattle.std.proofs.Common.{◌≡◌, ◌+◌, ◌-◌, ◌<◌, length, suc, ap, sym, ◌∙◌, arith}
+use Rattle.std.proofs.Common.{◌≡◌, ◌+◌, ◌-◌, ◌<◌, suc, ap, sym, ◌∙◌, arith}
 use Rattle.std.specs.Prelude.{◌==◌, slice_index}
 use Rattle.std.proofs.lemmas.Grind.{get_or_default_zero}
 use Rattle.olap_frozen.specs.Leaves.{chosen_of}
@@ -21,14 +21,14 @@ returns-clause-no c = λ n v r h.
     (let l = c.requires.task.laid.starts in let h = c.requires.category in omega (arith, f))
     ∙ ap (λ k. slice_index a.layout.now.starts.items k) f in
     let inside : j < constant_count (task_of a) c.args.c.0 =
-    let t = c.if-place-count.false in let e = ap length c.constants-count.ensures.list in omega arith in
+    let t = c.if-place-from.false in let e = c.names-names.ensures.count in let n = c.from-2.ensures in omega arith in
     let is : c.args.lit.variable ≡ name_variable a.layout.now c.args.c.0 j = let t = c.if-lit-start.false in
     omega (arith, s) in
-    let q : c.from-3.result ≡ index_in (chosen_of edges names) c.args.c.0 =
-    c.from-3.ensures ∙ ap (λ xs. slice_index xs c.from-2.result) c.items.ensures
-    ∙ ap (λ k. slice_index names k) c.from-2.ensures
+    let q : c.from-4.result ≡ index_in (chosen_of edges names) c.args.c.0 =
+    c.from-4.ensures ∙ ap (λ xs. slice_index xs c.from-3.result) c.items.ensures
+    ∙ ap (λ k. slice_index names k) c.from-3.ensures
     ∙ sym (index_of_choice edges names c.args.c.0 c.requires.declared) in
     let next : (j + 1) ≡ suc j = omega arith in
-    beq_false (c.from-3.result == (j + 1)) c.args.lit.positive n
+    beq_false (c.from-4.result == (j + 1)) c.args.lit.positive n
     (ap (λ x. x == (j + 1)) q ∙ ap (λ k. index_in (chosen_of edges names) c.args.c.0 == k) next
     ∙ sym (r.named c.args.c.0 j c.requires.category inside) ∙ ap v (sym is) ∙ h)

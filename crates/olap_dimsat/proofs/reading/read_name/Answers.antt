@@ -1,4 +1,4 @@
-use Rattle.std.proofs.Common.{length, refl, ap, arith}
+use Rattle.std.proofs.Common.{refl, arith}
 use Rattle.olap_dimsat.specs.Asking.{task_of}
 use Rattle.olap_dimsat.specs.Tasks.{constant_count}
 use Rattle.olap_dimsat.proofs.ReadLemmas.{no_constant}
@@ -8,5 +8,5 @@ pub returns-clause-is : goal.returns-clause-is
 returns-clause-is c = λ f v one r a.
     no_constant (task_of c.args.a.now) f c.args.c.0 (constant_count (task_of c.args.a.now) c.args.c.0) one
     c.requires.category refl
-    (λ k h. c.names.invariant k (let t = c.names-test.false in let e = ap length c.constants-j-end.ensures.list in
+    (λ k h. c.indexes.invariant k (let t = c.indexes-test.false in let e = c.names-i-end.ensures.count in
     omega arith) f v one r a)

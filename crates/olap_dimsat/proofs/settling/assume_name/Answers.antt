@@ -1,61 +1,77 @@
-use Rattle.std.proofs.Common.{◌≡◌, suc, ◌+◌, length, refl, ap, sym, ◌∙◌, arith}
+use Rattle.std.proofs.Common.{◌≡◌, ◌-◌, ◌<◌, suc, refl, ap, sym, ◌∙◌, arith}
 use Rattle.std.specs.Prelude.{◌==◌}
 use Rattle.olap_clauses.specs.declared.literals.Lit.{Lit}
 use Rattle.olap_clauses.specs.Engines.{trail_of}
 use Rattle.olap_dimsat.specs.Asking.{task_of}
+use Rattle.olap_dimsat.specs.Tasks.{constant_count, name_variable}
 use Rattle.olap_dimsat.proofs.SettleLemmas.{code_index, index_of_named, longer_again, named_more, named_of_index}
 use Rattle.olap_dimsat.proofs.settling.assume_name.Goals as goal
 
 pub name-name-requires-clause-inside : goal.name-name-requires-clause-inside
 name-name-requires-clause-inside c =
-    let t = c.constants-test.true in
-    let e = ap length c.constants-j-end.ensures.list in
-    let l = c.requires.task.laid.names c.args.c.0 c.constants.j c.requires.category (omega arith) in
+    let t = task_of c.args.a.now in
+    let test = c.indexes-test.true in
+    let count = c.names-j-end.ensures.count in
+    let above = c.indexes.auto.j in
+    let from = c.from.ensures in
+    let within : c.from.result - 1 < constant_count t c.args.c.0 = omega arith in
+    let l = c.requires.task.laid.names c.args.c.0 (c.from.result - 1) c.requires.category within in
     let s = c.requires.task.laid.small in omega arith
 
 pub assume-requires-clause-inside : goal.assume-requires-clause-inside
 assume-requires-clause-inside c =
-    let t = c.constants-test.true in
-    let e = ap length c.constants-j-end.ensures.list in
-    let l = c.requires.task.laid.names c.args.c.0 c.constants.j c.requires.category (omega arith) in
+    let t = task_of c.args.a.now in
+    let test = c.indexes-test.true in
+    let count = c.names-j-end.ensures.count in
+    let above = c.indexes.auto.j in
+    let from = c.from.ensures in
+    let within : c.from.result - 1 < constant_count t c.args.c.0 = omega arith in
+    let l = c.requires.task.laid.names c.args.c.0 (c.from.result - 1) c.requires.category within in
     let n = ap (λ (x : Lit). x.variable) c.name-name.ensures in
-    let v = c.constants.invariant.variables in let w = c.requires.variables in omega arith
+    let v = c.indexes.invariant.variables in let w = c.requires.variables in omega arith
 
 pub returns-then-not-assume-clause-no : goal.returns-then-not-assume-clause-no
 returns-then-not-assume-clause-no c = λ e f v one r a q.
     let t = task_of c.args.a.now in
     let index = sym (code_index t f c.args.c.0 one c.requires.declared) ∙ q in
-    let test = c.constants-test.true in
-    let count = ap length c.constants-j-end.ensures.list in
+    let test = c.indexes-test.true in
+    let count = c.names-j-end.ensures.count in
+    let above = c.indexes.auto.j in
+    let p = c.indexes.j - 1 in
+    let next : suc p ≡ c.indexes.j = omega arith in
     let named = named_of_index t f v c.args.c.0 c.args.i r c.requires.category index in
-    let cur = (c.constants.invariant.say v).1 (a, λ k h. named k (omega arith)) in
-    let next : suc c.constants.j ≡ c.constants.j + 1 = omega arith in
+    let cur = (c.indexes.invariant.say v).1 (a, λ k h. named k (omega arith)) in
+    let variable = ap (λ (x : Lit). x.variable) c.name-name.ensures
+    ∙ ap (λ n. name_variable t.layout c.args.c.0 (n - 1)) c.from.ensures in
     c.if-not-assume.ensures.no refl v cur
-    (ap v (ap (λ (x : Lit). x.variable) c.name-name.ensures) ∙ named c.constants.j (omega arith)
-    ∙ ap (λ k. k == c.args.i) next ∙ ap (λ k. (c.constants.j + 1) == k) (sym c.from.ensures))
+    (ap v variable ∙ named p (omega arith) ∙ ap (λ k. k == c.args.i) next)
 
 pub returns-then-not-assume-clause-admits : goal.returns-then-not-assume-clause-admits
-returns-then-not-assume-clause-admits c = λ v a. c.assume.ensures.admits v (c.constants.invariant.admits v a)
+returns-then-not-assume-clause-admits c = λ v a. c.assume.ensures.admits v (c.indexes.invariant.admits v a)
 
-pub constants-preserved : goal.constants-preserved
-constants-preserved c =
-    let i = c.constants.invariant in
+pub indexes-preserved : goal.indexes-preserved
+indexes-preserved c =
+    let i = c.indexes.invariant in
     let s = c.if-not-assume.ensures in
     let t = task_of c.args.a.now in
-    let next : suc c.constants.j ≡ c.constants.j + 1 = omega arith in
-    let same : (suc c.constants.j == c.args.i) ≡ ((c.constants.j + 1) == c.from.result) =
-    ap (λ k. k == c.args.i) next ∙ ap (λ k. (c.constants.j + 1) == k) (sym c.from.ensures) in
-    let variable = ap (λ (x : Lit). x.variable) c.name-name.ensures in
+    let above = c.indexes.auto.j in
+    let p = c.indexes.j - 1 in
+    let next : suc p ≡ c.indexes.j = omega arith in
+    let same : (suc p == c.args.i) ≡ (c.indexes.j == c.args.i) = ap (λ k. k == c.args.i) next in
+    let variable = ap (λ (x : Lit). x.variable) c.name-name.ensures
+    ∙ ap (λ n. name_variable t.layout c.args.c.0 (n - 1)) c.from.ensures in
     record {
       say = λ v. (
-        λ a. let b = (s.yes refl v).0 a in let d = (i.say v).0 b.0 in
-            (d.0, named_more t v c.args.c.0 c.args.i c.constants.j d.1 (ap v (sym variable) ∙ b.1 ∙ sym same)),
+        λ a. let b = (s.yes refl v).0 a in let d = (i.say v).0 b.0 in (
+          d.0,
+          λ k h. named_more t v c.args.c.0 c.args.i p d.1 (ap v (sym variable) ∙ b.1 ∙ sym same) k (omega arith),
+        ),
         λ d. (s.yes refl v).1 (
           (i.say v).1 (d.0, λ k h. d.1 k (omega arith)),
-          ap v variable ∙ d.1 c.constants.j (omega arith) ∙ same,
+          ap v variable ∙ d.1 p (omega arith) ∙ same,
         ),
       );
-      longer = longer_again (trail_of c.args.engine.now) (trail_of c.constants.engine)
+      longer = longer_again (trail_of c.args.engine.now) (trail_of c.indexes.engine)
           (trail_of c.assume.new.engine) i.longer c.assume.ensures.longer;
       shaped = c.assume.ensures.shaped;
       variables = c.assume.ensures.variables ∙ i.variables;
@@ -65,9 +81,9 @@ constants-preserved c =
 pub returns-clause-yes : goal.returns-clause-yes
 returns-clause-yes c = λ e f v one r.
     let t = task_of c.args.a.now in
-    let test = c.constants-test.false in
-    let count = ap length c.constants-j-end.ensures.list in
-    let i = c.constants.invariant in
+    let test = c.indexes-test.false in
+    let count = c.names-j-end.ensures.count in
+    let i = c.indexes.invariant in
     let code = code_index t f c.args.c.0 one c.requires.declared in (
       λ a. let d = (i.say v).0 a in (
         d.0,
@@ -77,6 +93,6 @@ returns-clause-yes c = λ e f v one r.
       λ d. (i.say v).1 (
         d.0,
         λ k h. named_of_index t f v c.args.c.0 c.args.i r c.requires.category (sym code ∙ d.1) k
-            (let b = c.constants.auto.j-end in omega arith),
+            (let b = c.indexes.auto.j-end in omega arith),
       ),
     )

@@ -1,4 +1,4 @@
-use Rattle.std.proofs.Common.{◌≡◌, ℕ, Bool}
+use Rattle.std.proofs.Common.{◌≡◌, ◌-◌, ℕ, Bool}
 use Rattle.std.specs.Prelude.{◌↔◌}
 use Rattle.olap_clauses.specs.Engines.{admits, trail_of, variables_of}
 use Rattle.olap_clauses.specs.Standing.{Agrees}
@@ -7,10 +7,10 @@ use Rattle.olap_dimsat.specs.Pinned.{AreShaped, IsLonger}
 use Rattle.olap_dimsat.proofs.SettleLemmas.{NamedSo}
 use Rattle.olap_dimsat.proofs.settling.assume_name.Given as goal
 
-abbrev pub invariant-constants : goal.invariant-constants
-invariant-constants l = record {
+abbrev pub invariant-indexes : goal.invariant-indexes
+invariant-indexes l = record {
   say : (v : ℕ → Bool) → Agrees v (trail_of l.engine)
-      ↔ (Agrees v (trail_of l.fn.engine) × NamedSo (task_of l.a) v l.c.0 l.i l.j);
+      ↔ (Agrees v (trail_of l.fn.engine) × NamedSo (task_of l.a) v l.c.0 l.i (l.j - 1));
   longer : IsLonger (trail_of l.fn.engine) (trail_of l.engine);
   shaped : AreShaped (task_of l.a) (trail_of l.engine);
   variables : variables_of l.engine ≡ variables_of l.fn.engine;

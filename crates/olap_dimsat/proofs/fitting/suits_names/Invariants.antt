@@ -2,7 +2,7 @@ use Rattle.std.proofs.Common.{◌≡◌, ℕ, suc, ◌<◌}
 use Rattle.std.specs.Prelude.{◌≢◌, ◌==◌, slice_index}
 use Rattle.olap_dimsat.specs.Asking.{task_of}
 use Rattle.olap_dimsat.specs.Tasks.{constant_count, name_variable}
-use Rattle.olap_dimsat.proofs.fitting.suits.Given as goal
+use Rattle.olap_dimsat.proofs.fitting.suits_names.Given as goal
 
 abbrev pub invariant-categories : goal.invariant-categories
 invariant-categories l = (k j : ℕ) → k < l.c → k ≢ 0 → j < constant_count (task_of l.a) k

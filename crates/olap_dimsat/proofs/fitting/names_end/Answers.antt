@@ -1,0 +1,30 @@
+use Rattle.std.proofs.Common.{◌<◌, ◌≤◌, inl, inr, sym, subst, arith}
+use Rattle.olap_dimsat.specs.Asking.{task_of}
+use Rattle.olap_dimsat.specs.Tasks.{constant_count, name_variable}
+use Rattle.olap_dimsat.proofs.SettleLemmas.{at_or_below}
+use Rattle.olap_dimsat.proofs.fitting.names_end.Goals as goal
+use Rattle.olap_dimsat.proofs.fitting.names_end.Goals.{then-own-end, else-own-end}
+
+pub categories-preserved : goal.categories-preserved
+categories-preserved c = λ d j h t.
+    let a = c.args.a.now in
+    let old : c.categories.end ≤ c.if-own-end.end = elim c.if-own-end.branch [
+      | then-own-end w ↦ let is = w.end-is in let more = w.if-own-end.true in omega arith
+      | else-own-end w ↦ let is = w.end-is in omega arith
+    ] in
+    let own : c.end_of-own.result ≤ c.if-own-end.end = elim c.if-own-end.branch [
+      | then-own-end w ↦ let is = w.end-is in omega arith
+      | else-own-end w ↦ let is = w.end-is in let less = w.if-own-end.false in omega arith
+    ] in
+    elim (at_or_below d c.categories.c h) [
+      | inl l ↦ let b = c.categories.invariant d j l t in omega (arith, old, b)
+      | inr q ↦
+          let b = c.end_of-own.ensures j (subst (λ k. j < constant_count (task_of a) k) q t) in
+          subst (λ k. name_variable a.layout.now k j < c.if-own-end.end) (sym q) (omega (arith, own, b))
+    ]
+
+pub returns : goal.returns
+returns c = λ d j h t.
+    let count = c.categories-c-end.ensures.count in
+    let end = c.categories-test.false in
+    c.categories.invariant d j (omega (arith, h, count, end)) t
