@@ -7,13 +7,14 @@ pub mod WayLemmas
 pub mod CertificateLemmas
 pub mod WalkingLemmas
 pub mod SeenLemmas
+pub mod TouchingLemmas
 pub mod StepLemmas
 pub mod ExampleLemmas
+pub mod RefusedLemmas
 pub mod TallyLemmas
 pub mod ToldLemmas
 pub mod FullPlaceLemmas
 pub mod ClosingLemmas
 pub mod PlainTreeLemmas
-pub mod RefusedLemmas
 pub mod TreeTextLemmas
 pub mod BottomLemmas

@@ -139,3 +139,11 @@ ways_within g ways ws are e k l =
     let x = way_at ws k in
     let none : OneWay = record { child = record { 0 = 0 }; parent = record { 0 = 0 }; there = false } in
     (are (way_kept x) (subst (λ xs. Contains xs (way_kept x)) e (Contains-map way_kept ws x (Contains-get_or ws k none l)))).1
+
+-- each way is between two categories
+pub ways_between : (g : Graph) (ways : List Way) (ws : List OneWay) → AreOfGraph g ways → map way_kept ws ≡ ways → (k : ℕ)
+    → k < length ws → IsCategory g (way_at ws k).child.0 × IsCategory g (way_at ws k).parent.0
+ways_between g ways ws are e k l =
+    let x = way_at ws k in
+    let none : OneWay = record { child = record { 0 = 0 }; parent = record { 0 = 0 }; there = false } in
+    are (way_kept x) (subst (λ xs. Contains xs (way_kept x)) e (Contains-map way_kept ws x (Contains-get_or ws k none l)))

@@ -19,7 +19,7 @@ use Rattle.olap_bits.proofs.CatSetLemmas.{in_insert}
 use Rattle.olap_ast.proofs.Shape.{either_true, is_same, same_is}
 use Rattle.olap_proof.specs.Walking.{Grows, IsAdded, IsIn, IsWalk, SeenUpTo}
 
-false_true : (b : Bool) → b ≡ false → b ≡ true → ⊥
+pub false_true : (b : Bool) → b ≡ false → b ≡ true → ⊥
 false_true b p q = let z : false ≡ true = sym p ∙ q in cc
 
 pub not_true : (b : Bool) → not b ≡ true → b ≡ false

@@ -3,6 +3,7 @@
 --     SeenUpTo     an edge that was seen
 --     Grows        the set took in what edges lead to, each edge that was seen once
 --     IsWalk       the set of what a category reaches
+--     IsTouched    both ends of an edge were added
 use Rattle.std.specs.Prelude.{◌≡◌, ◌<◌, ◌⊎◌, ◌↔◌, ℕ, Bool, true, false}
 use Rattle.std.specs.FinSet as set
 use Rattle.std.specs.Ordering.{nat_cmp}
@@ -36,3 +37,12 @@ pub record Grows (g : Graph) (n : ℕ) (Seen : ℕ → ℕ → Type 0) (old new 
 -- the set of what a category reaches
 abbrev pub IsWalk : Graph → ℕ → set.FinSet nat_cmp → Type 0
 IsWalk g a s = (x : ℕ) → IsIn s x ↔ CategoryReaches g a x
+
+-- both ends of an edge were added, where it is one that is taken
+abbrev pub IsTouched : set.FinSet nat_cmp → Bool → ℕ → ℕ → set.FinSet nat_cmp → Type 0
+IsTouched old joins c d new = (x : ℕ) → IsIn new x ↔ (IsIn old x ⊎ ((joins ≡ true) × ((c ≡ x) ⊎ (d ≡ x))))
+
+-- the number was in the set, or is an end of one of the edges that were seen, of those that are taken
+abbrev pub TouchedUpTo : set.FinSet nat_cmp → (ℕ → Bool) → (ℕ → ℕ) → (ℕ → ℕ) → ℕ → ℕ → Type 0
+TouchedUpTo old takes child parent i x =
+    IsIn old x ⊎ ((k : ℕ) × (k < i) × (takes k ≡ true) × ((child k ≡ x) ⊎ (parent k ≡ x)))

@@ -11,6 +11,7 @@ mod closing;
 mod existence;
 mod forms;
 mod growing;
+mod knowing;
 mod laws;
 mod lines;
 mod places;

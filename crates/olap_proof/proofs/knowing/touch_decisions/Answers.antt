@@ -1,0 +1,35 @@
+-- One decision more is seen.
+use Rattle.std.proofs.Common.{◌≡◌, ℕ, ◌↔◌, length, subst, sym, arith}
+use Rattle.olap_base.specs.Graph.{Edge}
+use Rattle.olap_bits.specs.Sets.{members}
+use Rattle.olap_graph.specs.Lookups.{edge_at}
+use Rattle.olap_proof.specs.Seen.{TouchedByDecisions, decision_at}
+use Rattle.olap_proof.specs.Walking.{IsIn, IsTouched}
+use Rattle.olap_proof.proofs.TouchingLemmas.{touched_at_first, touched_by}
+use Rattle.olap_proof.proofs.knowing.touch_decisions.Goals as goal
+
+pub decisions-init : goal.decisions-init
+decisions-init c =
+    let ds = c.args.decisions.now in
+    let g = c.args.graph.now in
+    touched_at_first (λ k. (decision_at ds k).present) (λ k. (edge_at g (decision_at ds k).edge.0).child)
+    (λ k. (edge_at g (decision_at ds k).edge.0).parent) (members c.args.set.now)
+
+pub decisions-preserved : goal.decisions-preserved
+decisions-preserved c =
+    let ds = c.args.decisions.now in
+    let g = c.args.graph.now in
+    let i = c.decisions.i in
+    let new = members c.touch.new.set in
+    touched_by (λ k. (decision_at ds k).present) (λ k. (edge_at g (decision_at ds k).edge.0).child)
+    (λ k. (edge_at g (decision_at ds k).edge.0).parent) i (members c.args.set.now) (members c.decisions.set) new
+    c.decisions.invariant
+    (subst (λ (x : Edge). IsTouched (members c.decisions.set) (decision_at ds i).present x.child x.parent new)
+    (sym c.ends.ensures.edge) c.touch.ensures)
+
+pub returns : goal.returns
+returns c =
+    let ds = c.args.decisions.now in
+    let end : c.decisions.i ≡ length ds = omega (arith, c.decisions.auto.i-end, c.decisions-test.false) in
+    subst (λ n. (x : ℕ) → IsIn (members c.decisions.set) x
+    ↔ TouchedByDecisions (members c.args.set.now) c.args.graph.now ds n x) end c.decisions.invariant
