@@ -3,6 +3,7 @@ mod PrintingLemmas
 pub mod SeenLemmas
 mod StoresLemmas
 mod SummaryLemmas
+mod ColumnLemmas
 mod TableLemmas
 mod ViewingLemmas
 pub mod FittingLemmas

@@ -14,5 +14,6 @@ pub mod RollingUp
 pub mod NumbersInside
 pub mod StoreReading
 pub mod Bounds
+pub mod Columns
 pub mod Tables
 pub mod Merging

@@ -5,6 +5,7 @@
 //! on a legal instance.
 #![tactic(auto)]
 
+mod columns;
 mod fitting;
 mod judging;
 mod kinds;

@@ -4,10 +4,12 @@ ghost use Rattle.std.specs.Option.{option_map};
 ghost use Rattle.olap_base.specs.Limits.{most_members};
 ghost use Rattle.olap_base.specs.Views.{row_at};
 ghost use Rattle.olap_view.specs.Bounds.{IsUpTo};
+ghost use Rattle.olap_view.specs.Columns.{AreColumns, ascent};
 ghost use Rattle.olap_view.specs.Seen.{each_view_of, ids, row_of, rows_of, summary_of, view_of};
 ghost use Rattle.olap_view.specs.StoreReading.{HasOwnPlaces};
 ghost use Rattle.olap_view.specs.Tables.{AreJoined, AreJoinedIn, HasPlaces, HasRoom, categories_of, place_in, summary_at, view_in};
 
+use crate::columns::Column;
 use crate::summaries::Summary;
 use crate::{Row, View};
 use olap_base::{CatId, List, MemberId, Memory};
@@ -108,7 +110,8 @@ impl Table {
     }
 
     /// Joins the summary to what stands at the member of the category that x reaches, if there is one.
-    fn join_in(&mut self, legal: &Legal, c: CatId, x: MemberId, summary: Summary)
+    fn join_in(&mut self, legal: &Legal, column: &Column, c: CatId, x: MemberId, summary: Summary)
+        requires column { column.now ≡ ascent legal.now c.0 }
         requires member { x.0 < length legal.now }
         requires among { Contains (categories_of self.old) c.0 }
         requires places { HasPlaces legal.now self.old }
@@ -116,14 +119,15 @@ impl Table {
         requires room { HasRoom legal.now c.0 self.old }
         ensures { AreJoinedIn legal.now c.0 x.0 (summary_of summary) self.old self.new }
     {
-        if let Some(y) = legal.ancestor(x, c) {
+        if let Some(y) = column.ancestor(x) {
             let place = self.places[y.0 as usize] as usize;
             self.summaries[place] = Some(summary.beside(self.summaries[place]));
         }
     }
 
     /// Joins the summary to what stands at the members of the categories that x reaches.
-    pub(crate) fn join(&mut self, legal: &Legal, x: MemberId, summary: Summary)
+    pub(crate) fn join(&mut self, legal: &Legal, columns: &[Column], x: MemberId, summary: Summary)
+        requires columns { AreColumns legal.now (categories_of self.old) columns.now }
         requires member { x.0 < length legal.now }
         requires differ { AllPairs ◌≢◌ (categories_of self.old) }
         requires places { HasPlaces legal.now self.old }
@@ -133,7 +137,7 @@ impl Table {
     {
         'categories: for k in 0..self.categories.len() {
             let c = self.categories[k];
-            self.join_in(legal, c, x, summary);
+            self.join_in(legal, &columns[k], c, x, summary);
         }
     }
 

@@ -8,6 +8,7 @@ ghost use Rattle.olap_view.specs.Stores.{Fits};
 ghost use Rattle.olap_view.specs.Tallies.{StandsFor};
 
 use crate::View;
+use crate::columns::{Column, columns};
 use crate::summaries::Summary;
 use crate::tables::Table;
 use olap_base::{CatId, List, Memory};
@@ -21,23 +22,28 @@ use std::marker::Model;
 pub struct Tally<'a> {
     alloc: Global,
     legal: &'a Legal,
+    // For each category the members that members reach.
+    columns: Vec<Column<'a>>,
     table: Table,
     added: u64,
 }
 
 impl<'a> Model for Tally<'a> {
+    ghost use Rattle.olap_view.specs.Columns.{AreColumns};
+    ghost use Rattle.olap_view.specs.Tables.{categories_of};
     ghost use Rattle.olap_view.specs.Tallies.{IsTally, Tallied, tallied};
 
     ghost Value = { Tallied };
 
     ghost view = { λ a. tallied a.legal.now a.table a.added };
 
-    ghost invariant = { λ a. IsTally a.legal.now a.table a.added };
+    ghost invariant = { λ a. IsTally a.legal.now a.table a.added
+        × AreColumns a.legal.now (categories_of a.table) a.columns.items };
 }
 
 impl<'a> Tally<'a> {
-    /// A tally to which no fact was added. It takes memory for each member of the instance, and for a summary at each
-    /// member of the categories. `Memory`: want of memory.
+    /// A tally to which no fact was added. It takes four bytes for each member of the instance, four more for each
+    /// category, and memory for a summary at each member of the categories. `Memory`: want of memory.
     pub fn new(alloc: Global, legal: &'a Legal, categories: &[CatId]) -> Result<Tally<'a>, Memory>
         requires differ { AllPairs ◌≢◌ (ids categories.now) }
         ensures instance { IfOk result (λ t. t.instance ≡ legal.now) }
@@ -47,6 +53,7 @@ impl<'a> Tally<'a> {
         Ok(Tally {
             alloc,
             legal,
+            columns: columns(alloc, legal, categories)?,
             table: Table::new(alloc, legal.instance(), categories)?,
             added: 0,
         })
@@ -60,7 +67,7 @@ impl<'a> Tally<'a> {
     }
 
     /// Adds a fact: a tally that stood for some facts stands for them and this one behind them. It takes one look at
-    /// the ancestors of the fact's member for each category.
+    /// a list for each category.
     pub fn add(&mut self, fact: &Fact)
         requires member { fact.now.member.0 < length self.old.instance }
         requires room { self.old.added < most_count }
@@ -71,8 +78,12 @@ impl<'a> Tally<'a> {
             → StandsFor self.new (facts ++ fact_of fact.now ∷ []) }
     {
         let legal = self.legal;
-        self.table
-            .join(legal, fact.member, Summary::of_value(fact.value));
+        self.table.join(
+            legal,
+            &self.columns,
+            fact.member,
+            Summary::of_value(fact.value),
+        );
         self.added += 1;
     }
 

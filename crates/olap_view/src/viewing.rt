@@ -4,11 +4,13 @@ ghost use Rattle.std.specs.Prelude.{◌≡◌, ◌≢◌, ◌==◌, ◌++◌, �
 ghost use Rattle.olap_base.specs.Limits.{most_count, most_members};
 ghost use Rattle.olap_base.specs.Views.{Row as TheRow, direct_view, rows_from_views};
 ghost use Rattle.olap_facts.specs.Seen.{facts_of};
+ghost use Rattle.olap_view.specs.Columns.{AreColumns};
 ghost use Rattle.olap_view.specs.Merging.{AreMerged, HoldsRows};
 ghost use Rattle.olap_view.specs.Seen.{rows_of, view_of, views_of};
 ghost use Rattle.olap_view.specs.Stores.{Fits, IsStore, IsStored, chosen};
 ghost use Rattle.olap_view.specs.Tables.{HasPlaces, categories_of};
 
+use crate::columns::{Column, columns};
 use crate::tables::Table;
 use crate::{Row, Store, Tally, View};
 use olap_base::{CatId, Memory};
@@ -44,7 +46,8 @@ fn has_bit(mask: u16, k: usize) -> bool
 }
 
 /// Joins each row to what stands at the members that its member reaches. So many rows may have been joined before.
-fn join_rows(table: &mut Table, legal: &Legal, rows: &[Row])
+fn join_rows(table: &mut Table, legal: &Legal, columns: &[Column], rows: &[Row])
+    requires columns { AreColumns legal.now (categories_of table.old) columns.now }
     requires at_members { All (λ r. r.member.0 < length legal.now) rows.now }
     requires stored { All IsStored (rows_of rows.now) }
     requires short { length rows.now ≤ most_members }
@@ -58,7 +61,7 @@ fn join_rows(table: &mut Table, legal: &Legal, rows: &[Row])
         → AreMerged legal.now (earlier ++ rows_of rows.now) table.new }
 {
     'rows: for row in rows {
-        table.join(legal, row.member, row.summary());
+        table.join(legal, columns, row.member, row.summary());
     }
 }
 
@@ -84,10 +87,11 @@ pub fn from_views(
     ensures members { IfOk result (λ v. All (λ r. r.member.0 < length legal.now) v.rows) }
 {
     let instance = legal.instance();
+    let columns = columns(alloc, legal, &[c])?;
     let mut table = Table::new(alloc, instance, &[c])?;
     'views: for (k, view) in store.views.items().iter().enumerate() {
         if has_bit(mask, k) {
-            join_rows(&mut table, legal, view.rows.items());
+            join_rows(&mut table, legal, &columns, view.rows.items());
         }
     }
     table.view(alloc, instance, c)

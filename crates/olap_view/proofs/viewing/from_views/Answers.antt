@@ -17,6 +17,7 @@ use Rattle.olap_view.proofs.SeenLemmas.{each_row, each_view}
 use Rattle.olap_view.proofs.StoresLemmas.{few_rows, rows_chosen, rows_chosen_more, rows_chosen_same}
 use Rattle.olap_view.proofs.TableLemmas.{places_kept}
 use Rattle.olap_view.proofs.ViewingLemmas.{if_ok_more, rows_same}
+use Rattle.olap_view.specs.Columns.{AreColumns, Ascent}
 use Rattle.olap_view.proofs.viewing.from_views.Goals as goal
 use Rattle.olap_view.proofs.viewing.from_views.Goals.{then-has_bit, else-has_bit}
 
@@ -42,6 +43,14 @@ short i views k v rows h e differ inside few q =
     let l : length (rows_of v.rows) ≡ length v.rows = length-map v.rows row_of in
     let n : length rows ≡ length v.rows = ap length q in
     omega arith
+
+pub join_rows-requires-clause-columns : goal.join_rows-requires-clause-columns
+join_rows-requires-clause-columns c =
+    let i = c.args.legal.now in
+    let t = c.views.table in
+    subst (λ (l : List Ascent). AreColumns i (categories_of t) l) (sym c.deref.ensures.value)
+    (subst (λ (cs : List ℕ). AreColumns i cs c.in_ok-columns.columns.items) (sym c.views.invariant.categories)
+    c.in_ok-columns.ensures)
 
 pub join_rows-requires-clause-at_members : goal.join_rows-requires-clause-at_members
 join_rows-requires-clause-at_members c = λ k d h.

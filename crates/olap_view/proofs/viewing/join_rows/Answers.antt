@@ -12,10 +12,19 @@ use Rattle.olap_view.specs.Tables.{AreJoined}
 use Rattle.olap_view.specs.declared.views.Row as told
 use Rattle.olap_view.proofs.MergingLemmas.{holds_room, merged_more, stored_small}
 use Rattle.olap_view.proofs.SeenLemmas.{each_row, rows_more_is, rows_of_taken, rows_taken}
+use Rattle.std.proofs.Common.{Global, Vec}
+use Rattle.olap_base.specs.declared.ids.CatId.{CatId}
+use Rattle.olap_view.specs.Columns.{AreColumns}
+use Rattle.olap_view.specs.Seen.{ids}
 use Rattle.olap_view.proofs.viewing.join_rows.Goals as goal
 
 nothing : told.Row
 nothing = record { member = record { 0 = 0 }; count = 0; sum = pos 0; least = pos 0; greatest = pos 0 }
+
+pub join-requires-clause-columns : goal.join-requires-clause-columns
+join-requires-clause-columns c =
+    subst (λ (v : Vec CatId Global). AreColumns c.args.legal.now (ids v.items) c.args.columns.now)
+    (sym c.rows.invariant.categories) c.requires.columns
 
 pub join-requires-clause-this : goal.join-requires-clause-this
 unfolding nothing

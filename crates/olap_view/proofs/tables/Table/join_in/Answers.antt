@@ -3,6 +3,9 @@ use Rattle.std.proofs.Common.{◌≡◌, ◌<◌, length, get_or, set, ap, sym, 
 use Rattle.std.specs.Option.{option_map}
 use Rattle.std.proofs.lemmas.List.{get_or_default}
 use Rattle.olap_base.specs.Summaries.{◌⊕◌}
+use Rattle.olap_base.specs.Instance.{ReachesCategory}
+use Rattle.olap_check.specs.Ancestors.{IsAncestor}
+use Rattle.olap_view.specs.Columns.{Ascent}
 use Rattle.olap_view.specs.Seen.{summary_of}
 use Rattle.olap_view.specs.Tables.{IsAmong, categories_of, place_in}
 use Rattle.std.specs.Prelude.{Contains}
@@ -10,13 +13,17 @@ use Rattle.olap_view.proofs.TableLemmas.{joined_none, joined_some}
 use Rattle.olap_view.proofs.ViewingLemmas.{none_of}
 use Rattle.olap_view.proofs.tables.Table.join_in.Goals as goal
 
+pub ancestor-requires : goal.ancestor-requires
+ancestor-requires c = subst (λ (w : Ascent). c.args.x.0 < length w.instance) (sym c.requires.column) c.requires.member
+
 pub returns-in-Some : goal.returns-in-Some
 returns-in-Some c =
     let i = c.args.legal.now in
     let t = c.args.self.now in
     let y = c.in-Some.y.0 in
     let s = summary_of c.args.summary in
-    let a = c.in-Some.ensures.some in
+    let a = subst (λ (w : Ascent). IsAncestor w.instance c.args.x.0 w.category y) c.requires.column
+    c.in-Some.ensures.some in
     let among : IsAmong i (categories_of t) y = record {
       member = a.is_member.0;
       category = subst (Contains (categories_of t)) (sym a.is_member.1) c.requires.among;
@@ -39,4 +46,6 @@ returns-in_default c =
     let n : c.ancestor.result ≡ None = none_of c.ancestor.result c.in_default.not-Some in
     let none : IsNone c.ancestor.result = rw n (search rules) in
     joined_none c.args.legal.now c.args.c.0 c.args.x.0 (summary_of c.args.summary) c.args.self.now c.requires.places
-    c.requires.among (c.ancestor.ensures.none none)
+    c.requires.among
+    (subst (λ (w : Ascent). ReachesCategory w.instance c.args.x.0 w.category → ⊥) c.requires.column
+    (c.ancestor.ensures.none none))

@@ -32,4 +32,4 @@ returns-clause-fit c =
     ≡ map (view_in c.instance.result.now a.table) (categories_of a.table) in
     if_ok_more c.views.result of_table (λ (v : List told.View). All Fits (each_view_of v))
     (λ v e. subst (All Fits) (sym (e ∙ ap (λ i. map (view_in i a.table) (categories_of a.table)) c.instance.ensures))
-    (views_stored a.legal.now a.table a.added c.self.invariant)) c.views.ensures.views
+    (views_stored a.legal.now a.table a.added c.self.invariant.0)) c.views.ensures.views

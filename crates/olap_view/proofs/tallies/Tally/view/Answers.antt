@@ -32,4 +32,4 @@ returns-clause-fits c =
     if_ok_more c.view.result (λ (v : told.View). view_of v ≡ view_in c.instance.result.now a.table d)
     (λ (v : told.View). Fits (view_of v))
     (λ v e. subst Fits (sym (e ∙ ap (λ i. view_in i a.table d) c.instance.ensures))
-    (view_stored a.legal.now a.table a.added d k c.self.invariant)) c.view.ensures.view
+    (view_stored a.legal.now a.table a.added d k c.self.invariant.0)) c.view.ensures.view

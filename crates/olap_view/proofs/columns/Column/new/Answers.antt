@@ -1,0 +1,16 @@
+-- A cell more.
+use Rattle.std.proofs.Common.{◌+◌, sym, subst}
+use Rattle.olap_view.specs.Columns.{IsTold}
+use Rattle.olap_view.proofs.ColumnLemmas.{told_more, told_start}
+use Rattle.olap_view.proofs.columns.Column.new.Goals as goal
+
+pub members-init : goal.members-init
+members-init c = rw c.in_ok-cells.ensures.items (told_start c.args.legal.now c.args.category.0)
+
+pub members-preserved : goal.members-preserved
+members-preserved c =
+    let i = c.args.legal.now in
+    let d = c.args.category.0 in
+    let x = c.members.x in
+    subst (IsTold i d (x + 1)) (sym c.in_ok-push.ensures.items)
+    (told_more i d x c.members.cells.items c.cell.result c.members.invariant c.cell.ensures)
