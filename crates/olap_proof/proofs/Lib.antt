@@ -8,6 +8,7 @@ pub mod CertificateLemmas
 pub mod WalkingLemmas
 pub mod SeenLemmas
 pub mod TouchingLemmas
+pub mod TellingLemmas
 pub mod StepLemmas
 pub mod ExampleLemmas
 pub mod RefusedLemmas

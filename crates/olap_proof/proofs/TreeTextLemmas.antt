@@ -7,12 +7,13 @@
 --     adds_bottom             a bottom category's line, with the tree below it
 --     edge_below, name_below  a place with one decision more
 --     place_edge, place_name  a place with one decision more
-use Rattle.std.proofs.Common.{◌≡◌, ℕ, ◌+◌, ◌<◌, ◌≤◌, List, [], ◌∷◌, ◌++◌, length, map, Bool, true, false, None, Some, inl, inr, refl, ap, sym, subst, ◌∙◌, arith}
+use Rattle.std.proofs.Common.{◌≡◌, ℕ, ◌+◌, ◌<◌, ◌≤◌, List, [], ◌∷◌, ◌++◌, length, map, Bool, true, false, None, inl, inr, refl, ap, sym, subst, ◌∙◌, arith}
 use Rattle.std.specs.Prelude.{◌≢◌, is_none}
 use Rattle.std.proofs.lemmas.List.FromFn.{map-range_with_len_more}
 use Rattle.std.proofs.lemmas.List.{append_assoc, append-nil}
 use Rattle.std.proofs.lemmas.List.Concat.{flat_map-append}
 use Rattle.std.specs.List.{range_with_len}
+use Rattle.std.proofs.lemmas.List.Elements.{Contains-push_cases}
 use native.Mathlib.Decide.{ℕ_discrete}
 use Rattle.olap_ast.specs.Formula.{Formula}
 use Rattle.olap_ast.specs.Frozen.{AreCandidates, Candidates, Frozen, IsFrozen}
@@ -23,8 +24,9 @@ use Rattle.olap_trail.specs.Decisions.{status_of}
 use Rattle.olap_proof.specs.declared.forms.Form.TheVariants.{Long}
 use Rattle.olap_proof.specs.Certificates.{Open, Open.At, Open.Bottom, Runs, Runs.more, Steps.closes, Steps.edges, Steps.names, Steps.roots, bottom_text, ended, indexes_of, start, with_edge, with_name}
 use Rattle.olap_proof.specs.Lines.{Closes, IsAbout, Line, Line.EdgeOrNot, Line.NameOf, line_text}
-use Rattle.olap_proof.specs.Places.{Place, index_of}
+use Rattle.olap_proof.specs.Places.{Naming, Place, index_of}
 use Rattle.olap_proof.specs.Trees.{Adds, Close, IsPlaceOf}
+use Rattle.olap_proof.proofs.AgreeingLemmas.{index_some}
 use Rattle.olap_proof.proofs.ClosingLemmas.{full_places_close}
 use Rattle.olap_proof.proofs.PlainTreeLemmas.{decisions_push, index_new, index_other, status_new, status_other}
 use Rattle.olap_proof.proofs.TallyLemmas.{tally, tally_more}
@@ -104,25 +106,21 @@ place_edge g k p e b i h u = record {
   graph = i.graph;
   decisions = decisions_push p.decided.graph p.decided.root p.decided.decisions e b i.decisions
       (subst (λ (x : Graph). e < length x.edges) (sym i.graph) h) u;
-  in_range = i.in_range;
+  indexes = i.indexes;
   no_ways = i.no_ways;
 }
 
-pub place_name : (g : Graph) (k : Candidates) (p : Place) (c i : ℕ) → IsPlaceOf g k p → index_of p.namings c ≡ None
+pub place_name : (g : Graph) (k : Candidates) (p : Place) (c i : ℕ) → IsPlaceOf g k p → IsCategory g c
     → i ≤ length (k.texts c) → IsPlaceOf g k (with_name p c i)
-place_name g k p c i a u h = record {
+place_name g k p c i a d h = record {
   graph = a.graph;
   decisions = a.decisions;
-  in_range = λ x j z. elim (ℕ_discrete x c) [
-    | yes e ↦ small x j e (sym (index_new p.namings c i u)
-        ∙ subst (λ y. index_of (p.namings ++ (record { category = c; index = i }) ∷ []) y ≡ Some j) e z)
-    | no m ↦ a.in_range x j (sym (index_other p.namings c i x m) ∙ z)
+  indexes = λ n m. elim (Contains-push_cases p.namings (record { category = c; index = i }) n m) [
+    | inl e ↦ a.indexes n e
+    | inr e ↦ subst (λ (x : Naming). IsCategory g x.category × (x.index ≤ length (k.texts x.category))) e (d, h)
   ];
   no_ways = a.no_ways;
 }
-  where
-    small : (x j : ℕ) → x ≡ c → Some i ≡ Some j → j ≤ length (k.texts x)
-    small x j e z = let y : i ≡ j = cc in subst (λ w. j ≤ length (k.texts w)) (sym e) (omega arith)
 
 -- where nothing is left to decide and no line closes, there is a frozen dimension
 pub none_left : (s : Schema) (q : Formula) (k : Candidates) (p : Place) → IsHierarchy s.graph → AreCandidates s q k
@@ -135,7 +133,10 @@ none_left s q k p hier are i nothing open_there told named = elim (full_places_c
   decisions = i.decisions;
   edges = told;
   names = named;
-  in_range = i.in_range;
+  in_range = λ c j z.
+      let n = index_some p.namings c j z in
+      subst (λ x. x ≤ length (k.texts c)) n.3
+      (subst (λ x. n.0.index ≤ length (k.texts x)) n.2 (i.indexes n.0 n.1).1);
   no_ways = i.no_ways;
 })) [
   | inl w ↦ open_there w.0 w.1 w.2
@@ -211,7 +212,7 @@ pub name_below : (s : Schema) (q : Formula) (k : Candidates) (p x : Place) (c j 
     → IsDeclared s.graph c × (index_of p.namings c ≡ None) → j ≤ length (k.texts c) → x ≡ with_name p c j
     → IsBelow s q k p x
 name_below s q k p x c j i n u h new = subst (λ y. IsBelow s q k p y) (sym new) (record {
-  place = place_name s.graph k p c j i u.1 h;
+  place = place_name s.graph k p c j i u.0.1 h;
   none = n;
   less = sum_less_right (open_edges (with_name p c j)) (open_names (with_name p c j)) (open_edges p) (open_names p)
       refl (fewer_names p c j (subst (λ (g : Graph). IsCategory g c) (sym i.graph) u.0.1) u.1);

@@ -11,6 +11,7 @@ pub mod KeptParts
 pub mod Kept
 pub mod Walking
 pub mod Seen
+pub mod Within
 -- How it writes one.
 pub mod Asking
 pub mod Trees

@@ -2,21 +2,22 @@
 --     IsPlaceOf    a place of this schema, at which no way is decided
 --     Close        the lines close these, and leave what else is open
 --     Adds         bytes are appended: such lines, each ended by an LF
-use Rattle.std.specs.Prelude.{◌≡◌, ◌≤◌, ◌++◌, ℕ, List, [], Some, length}
+use Rattle.std.specs.Prelude.{◌≡◌, ◌≤◌, ◌++◌, ℕ, Contains, List, [], length}
 use Rattle.olap_ast.specs.Formula.{Formula}
 use Rattle.olap_ast.specs.Frozen.{Candidates}
 use Rattle.olap_ast.specs.Schema.{Schema}
-use Rattle.olap_base.specs.Graph.{Graph}
+use Rattle.olap_base.specs.Graph.{Graph, IsCategory}
 use Rattle.olap_trail.specs.Decisions.{AreDecisions}
 use Rattle.olap_proof.specs.declared.forms.Form.TheVariants.{Long}
 use Rattle.olap_proof.specs.Certificates.{Open, Runs, ended}
-use Rattle.olap_proof.specs.Places.{Place, index_of}
+use Rattle.olap_proof.specs.Places.{Naming, Place}
 
 -- no edge is decided twice, the names that are decided have indexes, and no way is decided
 pub record IsPlaceOf (g : Graph) (k : Candidates) (p : Place) : Type 0 where
   pub graph : p.decided.graph ≡ g
   pub decisions : AreDecisions p.decided
-  pub in_range : (c i : ℕ) → index_of p.namings c ≡ Some i → i ≤ length (k.texts c)
+  pub indexes : (n : Naming) → Contains p.namings n
+      → IsCategory g n.category × (n.index ≤ length (k.texts n.category))
   pub no_ways : p.ways ≡ []
 
 -- the lines close these, whatever else is open, and whatever lines come after

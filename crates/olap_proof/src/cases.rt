@@ -1,11 +1,12 @@
 // What a tree is grown over: a place, with decisions that are taken and taken back.
 ghost use Rattle.std.specs.Prelude.{◌≡◌, ◌<◌, ◌↔◌, ℕ, Bool, IfOk, IsTrue, None, OnOk, length};
 ghost use Rattle.olap_base.specs.Graph.{IsCategory};
-ghost use Rattle.olap_proof.specs.Asking.{ClosesHere, schema_in};
+ghost use Rattle.olap_proof.specs.Asking.{ClosesHere, IsAsked, names_in, schema_in};
 ghost use Rattle.olap_proof.specs.Certificates.{start, with_edge, with_name};
 ghost use Rattle.olap_proof.specs.Lines.{IsAbout};
 ghost use Rattle.olap_proof.specs.Places.{Place, index_of, is_known};
 ghost use Rattle.olap_proof.specs.Reading.{said};
+ghost use Rattle.olap_proof.specs.Trees.{IsPlaceOf};
 ghost use Rattle.olap_trail.specs.Decisions.{status_of};
 
 use crate::asking::Asked;
@@ -40,7 +41,8 @@ pub(crate) trait Case {
     /// Whether the line closes the place.
     fn closes(&self, asked: &Asked, line: Line) -> bool
         requires about { IsAbout (schema_in asked.now) (said line) }
-        requires graph { (place self.now).decided.graph ≡ asked.now.graph.now }
+        requires asked { IsAsked asked.now }
+        requires place { IsPlaceOf asked.now.graph.now (names_in asked.now) (place self.now) }
         ensures { IsTrue result ↔ ClosesHere asked.now (place self.now) line };
 
     /// One decision more, on an edge.

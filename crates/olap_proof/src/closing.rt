@@ -1,9 +1,10 @@
 // Which line closes a place.
 ghost use Rattle.std.specs.Prelude.{◌≡◌, ◌<◌, ℕ, IfSome, IsNone, length};
 ghost use Rattle.olap_base.specs.Graph.{IsCategory};
-ghost use Rattle.olap_proof.specs.Asking.{ClosesHere, IsClosing, IsOpenTo, schema_in};
+ghost use Rattle.olap_proof.specs.Asking.{ClosesHere, IsAsked, IsClosing, IsOpenTo, names_in, schema_in};
 ghost use Rattle.olap_proof.specs.Lines.{IsAbout, Line as AnyLine, Line.Dead, Line.Loose, Line.Unmet};
 ghost use Rattle.olap_proof.specs.declared.lines.Line.TheVariants as variant;
+ghost use Rattle.olap_proof.specs.Trees.{IsPlaceOf};
 
 use crate::asking::Asked;
 use crate::cases::Case;
@@ -12,7 +13,8 @@ use olap_base::{CatId, EdgeId};
 
 /// A line of one word that closes the place.
 fn alone<C: Case>(case: &C, asked: &Asked) -> Option<Line>
-    requires { (C.place case.now).decided.graph ≡ asked.now.graph.now }
+    requires asked { IsAsked asked.now }
+    requires place { IsPlaceOf asked.now.graph.now (names_in asked.now) (C.place case.now) }
     ensures some { IfSome result (IsClosing asked.now (C.place case.now)) }
     ensures cycle { IsNone result → ClosesHere asked.now (C.place case.now) variant.Cycle → ⊥ }
     ensures shortcut { IsNone result → ClosesHere asked.now (C.place case.now) variant.Shortcut → ⊥ }
@@ -31,7 +33,8 @@ fn alone<C: Case>(case: &C, asked: &Asked) -> Option<Line>
 
 /// A line that closes the place since a category has no parent there.
 fn dead<C: Case>(case: &C, asked: &Asked) -> Option<Line>
-    requires { (C.place case.now).decided.graph ≡ asked.now.graph.now }
+    requires asked { IsAsked asked.now }
+    requires place { IsPlaceOf asked.now.graph.now (names_in asked.now) (C.place case.now) }
     ensures some { IfSome result (IsClosing asked.now (C.place case.now)) }
     ensures none { IsNone result → (c : ℕ) → IsCategory (schema_in asked.now).graph c
         → IsOpenTo asked.now (C.place case.now) (Dead c) }
@@ -47,7 +50,8 @@ fn dead<C: Case>(case: &C, asked: &Asked) -> Option<Line>
 
 /// A line that closes the place since the root can't reach an edge's child.
 fn loose<C: Case>(case: &C, asked: &Asked) -> Option<Line>
-    requires { (C.place case.now).decided.graph ≡ asked.now.graph.now }
+    requires asked { IsAsked asked.now }
+    requires place { IsPlaceOf asked.now.graph.now (names_in asked.now) (C.place case.now) }
     ensures some { IfSome result (IsClosing asked.now (C.place case.now)) }
     ensures none { IsNone result → (e : ℕ) → e < length (schema_in asked.now).graph.edges
         → IsOpenTo asked.now (C.place case.now) (Loose e) }
@@ -63,7 +67,8 @@ fn loose<C: Case>(case: &C, asked: &Asked) -> Option<Line>
 
 /// A line that closes the place since a constraint is false there.
 fn unmet<C: Case>(case: &C, asked: &Asked) -> Option<Line>
-    requires { (C.place case.now).decided.graph ≡ asked.now.graph.now }
+    requires asked { IsAsked asked.now }
+    requires place { IsPlaceOf asked.now.graph.now (names_in asked.now) (C.place case.now) }
     ensures some { IfSome result (IsClosing asked.now (C.place case.now)) }
     ensures none { IsNone result → (n : ℕ) → n < length (schema_in asked.now).constraints
         → IsOpenTo asked.now (C.place case.now) (Unmet n) }
@@ -79,7 +84,8 @@ fn unmet<C: Case>(case: &C, asked: &Asked) -> Option<Line>
 
 /// A line that closes the place, if one does.
 pub(crate) fn closing<C: Case>(case: &C, asked: &Asked) -> Option<Line>
-    requires { (C.place case.now).decided.graph ≡ asked.now.graph.now }
+    requires asked { IsAsked asked.now }
+    requires place { IsPlaceOf asked.now.graph.now (names_in asked.now) (C.place case.now) }
     ensures some { IfSome result (IsClosing asked.now (C.place case.now)) }
     ensures none { IsNone result → (l : AnyLine) → IsAbout (schema_in asked.now) l
         → IsOpenTo asked.now (C.place case.now) l }

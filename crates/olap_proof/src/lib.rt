@@ -17,6 +17,7 @@ mod lines;
 mod places;
 mod plain;
 mod splitting;
+mod telling;
 mod walking;
 mod writing;
 

@@ -1,9 +1,10 @@
 // What a place is split by.
 ghost use Rattle.std.specs.Prelude.{◌≡◌, ◌≢◌, ◌<◌, ℕ, IfSome, IsNone, None, length};
 ghost use Rattle.olap_base.specs.Graph.{IsDeclared};
-ghost use Rattle.olap_proof.specs.Asking.{IsUndecided, IsUnnamed};
+ghost use Rattle.olap_proof.specs.Asking.{IsAsked, IsUndecided, IsUnnamed, names_in};
 ghost use Rattle.olap_proof.specs.Places.{index_of};
 ghost use Rattle.olap_trail.specs.Decisions.{status_of};
+ghost use Rattle.olap_proof.specs.Trees.{IsPlaceOf};
 
 use crate::asking::Asked;
 use crate::cases::Case;
@@ -12,7 +13,8 @@ use olap_base::{CatId, EdgeId};
 
 /// Whether some line closes the place once the edge is decided so.
 fn closes_at_once<C: Case>(case: &mut C, asked: &Asked, edge: EdgeId, present: bool) -> bool
-    requires graph { (C.place case.old).decided.graph ≡ asked.now.graph.now }
+    requires asked { IsAsked asked.now }
+    requires place { IsPlaceOf asked.now.graph.now (names_in asked.now) (C.place case.old) }
     requires open { IsUndecided asked.now (C.place case.old) edge }
     ensures { C.place case.new ≡ C.place case.old }
 {
@@ -24,7 +26,8 @@ fn closes_at_once<C: Case>(case: &mut C, asked: &Asked, edge: EdgeId, present: b
 
 /// The first undecided edge one of whose values closes at once.
 fn forced<C: Case>(case: &mut C, asked: &Asked) -> Option<EdgeId>
-    requires { (C.place case.old).decided.graph ≡ asked.now.graph.now }
+    requires asked { IsAsked asked.now }
+    requires place { IsPlaceOf asked.now.graph.now (names_in asked.now) (C.place case.old) }
     ensures open { IfSome result (IsUndecided asked.now (C.place case.old)) }
     ensures same { C.place case.new ≡ C.place case.old }
 {
@@ -43,7 +46,8 @@ fn forced<C: Case>(case: &mut C, asked: &Asked) -> Option<EdgeId>
 
 /// The first undecided edge whose child is known to have a member.
 fn above_known<C: Case>(case: &C, asked: &Asked) -> Option<EdgeId>
-    requires { (C.place case.now).decided.graph ≡ asked.now.graph.now }
+    requires asked { IsAsked asked.now }
+    requires place { IsPlaceOf asked.now.graph.now (names_in asked.now) (C.place case.now) }
     ensures { IfSome result (IsUndecided asked.now (C.place case.now)) }
 {
     'edges: for e in 0..asked.graph.edges() {
@@ -58,7 +62,8 @@ fn above_known<C: Case>(case: &C, asked: &Asked) -> Option<EdgeId>
 
 /// The first undecided edge.
 fn undecided<C: Case>(case: &C, asked: &Asked) -> Option<EdgeId>
-    requires { (C.place case.now).decided.graph ≡ asked.now.graph.now }
+    requires asked { IsAsked asked.now }
+    requires place { IsPlaceOf asked.now.graph.now (names_in asked.now) (C.place case.now) }
     ensures some { IfSome result (IsUndecided asked.now (C.place case.now)) }
     ensures none { IsNone result → (e : ℕ) → e < length asked.now.graph.now.edges
         → status_of (C.place case.now).decided e ≢ None }
@@ -75,7 +80,8 @@ fn undecided<C: Case>(case: &C, asked: &Asked) -> Option<EdgeId>
 /// An undecided edge, if there is one: first one of whose values closes at once, then one whose child is known to have
 /// a member.
 pub(crate) fn next_edge<C: Case>(case: &mut C, asked: &Asked) -> Option<EdgeId>
-    requires { (C.place case.old).decided.graph ≡ asked.now.graph.now }
+    requires asked { IsAsked asked.now }
+    requires place { IsPlaceOf asked.now.graph.now (names_in asked.now) (C.place case.old) }
     ensures some { IfSome result (IsUndecided asked.now (C.place case.old)) }
     ensures none { IsNone result → (e : ℕ) → e < length asked.now.graph.now.edges
         → status_of (C.place case.old).decided e ≢ None }
@@ -94,7 +100,8 @@ pub(crate) fn next_edge<C: Case>(case: &mut C, asked: &Asked) -> Option<EdgeId>
 
 /// The first declared category whose name isn't decided.
 pub(crate) fn next_name<C: Case>(case: &C, asked: &Asked) -> Option<CatId>
-    requires { (C.place case.now).decided.graph ≡ asked.now.graph.now }
+    requires asked { IsAsked asked.now }
+    requires place { IsPlaceOf asked.now.graph.now (names_in asked.now) (C.place case.now) }
     ensures some { IfSome result (IsUnnamed asked.now (C.place case.now)) }
     ensures none { IsNone result → (c : ℕ) → IsDeclared asked.now.graph.now c
         → index_of (C.place case.now).namings c ≢ None }

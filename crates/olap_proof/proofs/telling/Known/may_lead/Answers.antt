@@ -1,0 +1,9 @@
+use Rattle.std.proofs.Common.{◌∙◌}
+use Rattle.olap_bits.specs.Sets.{members}
+use Rattle.olap_proof.specs.Places.{possible_graph}
+use Rattle.olap_proof.proofs.TellingLemmas.{walk_test}
+use Rattle.olap_proof.proofs.telling.Known.may_lead.Goals as goal
+
+pub returns : goal.returns
+returns c = c.has.ensures ∙ walk_test (possible_graph c.args.self.now.place.now.decided) c.args.c.0
+    (members c.possible_from.result) c.args.d.0 c.possible_from.ensures

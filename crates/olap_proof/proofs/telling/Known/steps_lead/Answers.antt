@@ -1,0 +1,9 @@
+use Rattle.std.proofs.Common.{◌∙◌}
+use Rattle.olap_bits.specs.Sets.{members}
+use Rattle.olap_proof.specs.Places.{leading_graph}
+use Rattle.olap_proof.proofs.TellingLemmas.{walk_test}
+use Rattle.olap_proof.proofs.telling.Known.steps_lead.Goals as goal
+
+pub returns : goal.returns
+returns c = c.has.ensures ∙ walk_test (leading_graph c.args.self.now.place.now) c.args.c.0
+    (members c.known_from.result) c.args.d.0 c.known_from.ensures
