@@ -34,8 +34,10 @@ pub(crate) trait Case {
         ensures { result ≡ index_of (place self.now).namings c.0 };
 
     /// Whether the category is known to have a member.
-    fn is_known(&self, c: CatId) -> bool
-        requires { IsCategory (place self.now).decided.graph c.0 }
+    fn is_known(&self, asked: &Asked, c: CatId) -> bool
+        requires category { IsCategory asked.now.graph.now c.0 }
+        requires asked { IsAsked asked.now }
+        requires place { IsPlaceOf asked.now.graph.now (names_in asked.now) (place self.now) }
         ensures { result ≡ is_known (place self.now) c.0 };
 
     /// Whether the line closes the place.

@@ -1,8 +1,8 @@
 //! Certificates of summarizability: texts that say, line by line, why a category's totals can be taken from others'.
 //!
 //! A certificate splits what a counterexample could look like, case by case, and closes each case by a reason that is
-//! checked at sight (`specs/Certificates.antt`). It exists only where the target is summarizable: that is the law of
-//! `src/laws.rt`, over the definitions alone. Nothing here knows how a certificate is found.
+//! checked at sight (`specs/Certificates.antt`). It exists only where the target is summarizable, and the long form has
+//! one wherever it is: the laws of `src/laws.rt` and `src/existence.rt`, over the definitions alone.
 #![tactic(auto)]
 
 mod asking;

@@ -53,7 +53,7 @@ fn above_known<C: Case>(case: &C, asked: &Asked) -> Option<EdgeId>
     'edges: for e in 0..asked.graph.edges() {
         let edge = EdgeId(e);
         let (child, _) = asked.graph.ends(edge);
-        if case.status(edge).is_none() && case.is_known(child) {
+        if case.status(edge).is_none() && case.is_known(asked, child) {
             return Some(edge);
         }
     }
