@@ -4,13 +4,13 @@
 --     no_way_out        from what is no category nothing is reached
 --     no_edge_out       and no edge leads
 --     named_index       a name that was decided is one of the category's
-use Rattle.std.proofs.Common.{◌≡◌, ℕ, ◌<◌, ◌≤◌, [], length, get_or, map, true, Option, Some, None, refl, ap, sym, subst, ◌∙◌, inl, inr, arith}
+use Rattle.std.proofs.Common.{◌≡◌, ℕ, ◌<◌, ◌≤◌, [], length, get_or, map, true, Option, Some, None, refl, ap, sym, subst, ◌∙◌, inl, inr, arith, Bool, false, not, ◌↔◌}
 use Rattle.std.specs.Prelude.{◌||◌, ◌==◌, Contains, filter}
 use Rattle.std.specs.FinSet.{FinSet, contains}
 use Rattle.std.specs.List.{list_any}
 use Rattle.std.specs.Ordering.{nat_cmp}
 use Rattle.std.proofs.lemmas.List.Elements.{Contains-append_cases}
-use Rattle.olap_base.specs.Graph.{Edge, Graph, HasEdge, IsCategory, IsHierarchy}
+use Rattle.olap_base.specs.Graph.{CategoryReaches, Edge, Graph, HasEdge, IsCategory, IsHierarchy}
 use Rattle.olap_base.specs.Reaching.{category_reaches, category_reaches_is}
 use Rattle.olap_base.specs.Steps.{Steps, Steps.here, Steps.step, Steps-from_reaches}
 use Rattle.olap_base.proofs.ListLemmas.{Contains-from_filter, Contains-from_map, list_any_is, same_truth}
@@ -105,3 +105,15 @@ named_index g k p w c i h =
       (let t = w.texts in omega arith),
       subst (λ j. j ≤ length (get_or k.texts c [])) n.3 (subst (λ x. n.0.index ≤ length (get_or k.texts x [])) n.2 l.1),
     )
+
+-- where the test of a walk fails, there is none
+pub not_reached : (g : Graph) (a b : ℕ) (r : Bool) → r ≡ category_reaches g a b
+    → (not r ≡ true) ↔ (CategoryReaches g a b → ⊥)
+not_reached g a b true e = (
+  λ t. absurd (let z : false ≡ true = t in cc),
+  λ n. absurd (n ((category_reaches_is g a b).0 (sym e))),
+)
+not_reached g a b false e = (
+  λ t r. let z : false ≡ true = e ∙ (category_reaches_is g a b).1 r in cc,
+  λ n. refl,
+)

@@ -13,6 +13,7 @@ mod forms;
 mod growing;
 mod knowing;
 mod laws;
+mod leaves;
 mod lines;
 mod places;
 mod plain;
