@@ -2,7 +2,7 @@
 --     unused_is       the question at an edge's child
 --     redundant_is    the question of the schema without a constraint
 --     path_of         the path of one edge
---     witness_of      what is the least for a question was found for one
+--     witness_of      what was found for a question at a root is a witness
 use Rattle.std.proofs.Common.{◌≡◌, ℕ, ◌<◌, List, [], ◌∷◌, ◌++◌, length, get_or, refl, ap, sym, subst, ◌∙◌, ◌↔◌, inl, inr, map, Option, Some, None, arith}
 use Rattle.std.specs.Prelude.{◌≤◌, Bool, true, false, not, is_some, Contains, IfSome, IsNone, IsTrue, flat_map, remove, slice_get}
 use Rattle.std.proofs.lemmas.List.{length-map}
@@ -26,7 +26,7 @@ use Rattle.olap_ast.specs.Valid.{IsFormulaAt, IsValidSchema, distinct_pairs}
 use Rattle.olap_schema.proofs.PairCounting.{few_pairs}
 use Rattle.olap_schema.proofs.WithoutLemmas.{atoms_left}
 use Rattle.olap_frozen.specs.declared.founding.Found.{Found}
-use Rattle.olap_frozen.specs.LeastFound.{IsLeastFound}
+use Rattle.olap_dimsat.specs.OneFound.{IsOneFound}
 use Rattle.olap_summ.specs.Answers.{IsNowhere}
 use Rattle.olap_summ.specs.Sights.{IsWitness}
 use Rattle.olap_summ.proofs.NowhereLemmas.{none_as}
@@ -61,27 +61,22 @@ pub path_of : (path pushed start : List CatId) (d : CatId) → path ≡ pushed �
     → map (λ (c : CatId). c.0) path ≡ d.0 ∷ []
 path_of path pushed start d e p q = ap (map (λ (c : CatId). c.0)) (e ∙ p ∙ ap (λ l. l ++ d ∷ []) q)
 
-pub witness_of : (s : Schema) (q : Formula) (r : ℕ) (o : Option Found) → IfSome o (IsLeastFound s q r)
+pub witness_of : (s : Schema) (q : Formula) (r : ℕ) (o : Option Found) → IfSome o (IsOneFound s q r)
     → IfSome o (IsWitness s)
 witness_of s q r None l = tt
-witness_of s q r (Some found) l = (q, subst (λ x. IsLeastFound s q x found) (sym l.root) l)
+witness_of s q r (Some found) l = (q, subst (λ x. IsOneFound s q x found) (sym l.root) l)
 
 -- ---- constraints
 
-pub redundant_is : {A : Type 0} (s : Schema) (k : ℕ) (c : Constraint) (o : Option A)
-    → slice_get s.constraints k ≡ Some c → IsNone o ↔ IsImplied (without s k) c.root c.formula
-    → IsNone o ↔ IsRedundant s k
-redundant_is s k c o at e =
-    none_as o (IsImplied (without s k) c.root c.formula) (IsRedundant s k) e (λ h. (c, at, h))
-    (λ r i l. subst (λ (w : Constraint). Meets i w) (same r.0 r.1) (r.2 i l))
+pub redundant_is : (s : Schema) (k : ℕ) (c : Constraint) (P : Type 0) → slice_get s.constraints k ≡ Some c
+    → P ↔ IsImplied (without s k) c.root c.formula → P ↔ IsRedundant s k
+redundant_is s k c P at e = (
+  λ p. (c, at, e.0 p),
+  λ r. e.1 (λ i l. subst (λ (w : Constraint). Meets i w) (same r.0 r.1) (r.2 i l)),
+)
   where
     same : (d : Constraint) → slice_get s.constraints k ≡ Some d → d ≡ c
     same d q = let t : Some d ≡ Some c = sym q ∙ at in cc
-
--- a test for none
-pub none_told : {A : Type 0} (o : Option A) (r : Bool) (P : Type 0) → is_some o ≡ not r → IsNone o ↔ P → IsTrue r ↔ P
-none_told o true P e n = (λ h. n.0 e, λ p. refl)
-none_told o false P e n = (λ h. absurd (cc), λ p. absurd (let t : true ≡ false = sym e ∙ n.1 p in cc))
 
 pub listed_at : {A : Type 0} (xs : List A) (k : ℕ) (x : A) → slice_get xs k ≡ Some x → Contains xs x
 listed_at xs k x e = (k, slice_get_within xs k x e, get_or_from_slice_get xs k x x e)
@@ -138,8 +133,7 @@ module _ (s t : Schema) (k : ℕ) (stored : List StoredConstraint) (c : StoredCo
       subst (λ (x : Schema). length (distinct_pairs (all_equalities x (formula_of c.formula))) ≤ most_constants)
       (sym same) (few_asked s k (constraint_of c) v among)
 
-  pub asked_is : {A : Type 0} (o : Option A) → IsNone o ↔ IsImplied t c.root.0 (formula_of c.formula)
-      → IsNone o ↔ IsRedundant s k
-  asked_is o e =
-      redundant_is s k (constraint_of c) o asked_at
-      (subst (λ x. IsNone o ↔ IsImplied x c.root.0 (formula_of c.formula)) same e)
+  pub asked_is : (P : Type 0) → P ↔ IsImplied t c.root.0 (formula_of c.formula) → P ↔ IsRedundant s k
+  asked_is P e =
+      redundant_is s k (constraint_of c) P asked_at
+      (subst (λ x. P ↔ IsImplied x c.root.0 (formula_of c.formula)) same e)

@@ -1,6 +1,6 @@
 -- What the first bottom category with a frozen dimension says of summarizability.
-use Rattle.std.proofs.Common.{◌≡◌, ℕ, suc, ◌+◌, ◌<◌, List, [], ◌∷◌, length, get_or, drop, drop-cons, refl, ap, sym, subst, ◌∙◌, ◌⊎◌, inl, inr, arith}
-use Rattle.std.specs.Prelude.{All, slice_index}
+use Rattle.std.proofs.Common.{◌≡◌, ℕ, suc, ◌+◌, ◌<◌, List, [], ◌∷◌, length, get_or, drop, drop-cons, refl, ap, sym, subst, ◌∙◌, ◌⊎◌, inl, inr, Option, Some, None, arith}
+use Rattle.std.specs.Prelude.{All, IfSome, slice_index}
 use Rattle.std.proofs.lemmas.List.{get_or-map, length-map}
 use Rattle.olap_base.specs.declared.ids.CatId.{CatId}
 use Rattle.olap_base.specs.Graph.{Graph, IsBottom, IsCategory, IsHierarchy}
@@ -11,11 +11,13 @@ use Rattle.olap_ast.specs.Summarizable.{IsSummarizable, not_by_one, vias}
 use Rattle.olap_ast.specs.Valid.{AreFormulasAt, IsFormulaAt}
 use Rattle.olap_ast.proofs.SmallModel.{frozen_exactly}
 use Rattle.olap_ast.proofs.Summing.{summarizable_exactly}
+use Rattle.olap_dimsat.specs.OneFound.{IsOneFound}
 use Rattle.olap_frozen.specs.declared.founding.Found.{Found}
 use Rattle.olap_frozen.specs.LeastFound.{IsLeastFound, frozen_of}
 use Rattle.olap_names.specs.Names.{candidates_of}
 use Rattle.olap_summ.specs.Answers.{IsNowhere}
-use Rattle.olap_summ.specs.Counterexamples.{IsCounterexampleFound, numbers_of}
+use Rattle.olap_summ.specs.Counterexamples.{IsCounterexampleFound, IsOneCounterexampleFound, numbers_of}
+use Rattle.olap_summ.proofs.NowhereLemmas.{one_of}
 
 -- ---- the question
 
@@ -77,10 +79,15 @@ module _ (s : Schema) (c : ℕ) (sources : List ℕ) (hier : IsHierarchy s.graph
       (λ b bottom h t. let m = (frozen_exactly s q b k.0 hier k.1).0 (h, t) in n b bottom m.0 m.1 m.2 m.3 m.4)
 
   -- where some bottom category has one
+  pub not_summarizable : (found : Found) → IsOneCounterexampleFound s c sources found → IsSummarizable s c sources → ⊥
+  not_summarizable found f z =
+      (summarizable_exactly s c sources (candidates_of found.candidates) hier f.one.candidates).0 z
+      found.frozen.root.0 f.bottom (frozen_of found.frozen) f.one.is_one
+
   pub summarizable_isnt : (found : Found) → IsFirstFound s q found → IsSummarizable s c sources → ⊥
-  summarizable_isnt found f z =
-      (summarizable_exactly s c sources (candidates_of found.candidates) hier f.least.least.candidates).0 z
-      found.frozen.root.0 f.bottom (frozen_of found.frozen) f.least.least.is_one
+  summarizable_isnt found f =
+      not_summarizable found
+      (record { bottom = f.bottom; one = one_of s q found.frozen.root.0 found f.least })
 
   pub counterexample_is : (found : Found) → IsFirstFound s q found → IsCounterexampleFound s c sources found
   counterexample_is found f = record {
@@ -94,3 +101,14 @@ module _ (s : Schema) (c : ℕ) (sources : List ℕ) (hier : IsHierarchy s.graph
     sized = f.least.sized;
     zero = f.least.zero;
   }
+
+-- what was found at a bottom category for the question
+pub shown_by : (s : Schema) (p : Formula) (c : ℕ) (sources : List ℕ) (r : ℕ) → IsBottom s.graph r
+    → p ≡ not_by_one c sources → (o : Option Found) → IfSome o (IsOneFound s p r)
+    → IfSome o (IsOneCounterexampleFound s c sources)
+shown_by s p c sources r bottom e None one = tt
+shown_by s p c sources r bottom e (Some found) one = record {
+  bottom = subst (IsBottom s.graph) (sym one.root) bottom;
+  one = subst (λ (f : Formula). IsOneFound s f found.frozen.root.0 found) e
+      (subst (λ x. IsOneFound s p x found) (sym one.root) one);
+}

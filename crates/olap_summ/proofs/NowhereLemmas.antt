@@ -1,6 +1,6 @@
 -- What a search finds, or doesn't, in all legal instances.
-use Rattle.std.proofs.Common.{◌≡◌, ℕ, [], length, refl, sym, subst, ◌↔◌, true, false, Option, Some, None}
-use Rattle.std.specs.Prelude.{◌≤◌, ◌++◌, IfSome, IsNone, flat_map}
+use Rattle.std.proofs.Common.{◌≡◌, ℕ, [], Bool, length, refl, sym, subst, ◌↔◌, ◌∙◌, true, false, Option, Some, None}
+use Rattle.std.specs.Prelude.{◌≤◌, ◌++◌, IfSome, IsNone, IsTrue, flat_map, is_some, not}
 use Rattle.std.proofs.lemmas.List.{append-nil}
 use Rattle.olap_base.specs.Graph.{IsHierarchy}
 use Rattle.olap_base.specs.Instance.{Instance}
@@ -17,6 +17,7 @@ use Rattle.olap_ast.proofs.SmallModel.{frozen_exactly}
 use Rattle.olap_names.specs.Names.{candidates_of}
 use Rattle.olap_frozen.specs.declared.founding.Found.{Found}
 use Rattle.olap_frozen.specs.LeastFound.{IsLeastFound, frozen_of}
+use Rattle.olap_dimsat.specs.OneFound.{IsOneFound}
 use Rattle.olap_summ.specs.Answers.{IsNowhere}
 
 -- where no frozen dimension was found
@@ -25,12 +26,22 @@ pub nowhere : (s : Schema) (q : Formula) (r : ℕ) (k : Candidates) → IsHierar
 nowhere s q r k h are n i l x m t = let f = (frozen_exactly s q r k h are).1 (i, l, x, m, t) in n f.0 f.1
 
 -- what was found is the root's part of a legal instance
-pub somewhere : (s : Schema) (q : Formula) (r : ℕ) (found : Found) → IsHierarchy s.graph → IsLeastFound s q r found
+pub somewhere : (s : Schema) (q : Formula) (r : ℕ) (found : Found) → IsHierarchy s.graph → IsOneFound s q r found
     → IsNowhere s q r → ⊥
-somewhere s q r found h l n =
-    let m = (frozen_exactly s q r (candidates_of found.candidates) h l.least.candidates).0
-    (frozen_of found.frozen, l.least.is_one) in
+somewhere s q r found h one n =
+    let m = (frozen_exactly s q r (candidates_of found.candidates) h one.candidates).0
+    (frozen_of found.frozen, one.is_one) in
     n m.0 m.1 m.2 m.3 m.4
+
+-- the least one is one
+pub one_of : (s : Schema) (q : Formula) (r : ℕ) (found : Found) → IsLeastFound s q r found → IsOneFound s q r found
+one_of s q r found l = record {
+  root = l.root;
+  sized = l.sized;
+  zero = l.zero;
+  candidates = l.least.candidates;
+  is_one = l.least.is_one;
+}
 
 pub none_is : (A P : Type 0) → P → IsNone {T = A} None ↔ P
 none_is A P p = (λ e. p, λ q. refl)
@@ -41,6 +52,17 @@ some_of (Some a) P p = p
 
 pub some_is : {A : Type 0} (a : A) (P : Type 0) → (P → ⊥) → IsNone (Some a) ↔ P
 some_is a P n = (λ e. absurd (let z : true ≡ false = e in cc), λ p. absurd (n p))
+
+-- what was found contradicts it
+pub some_told : {A : Type 0} (o : Option A) (P : A → Type 0) (Q : Type 0) → is_some o ≡ true → IfSome o P
+    → ((a : A) → P a → Q → ⊥) → IsNone o ↔ Q
+some_told None P Q e h n = absurd (let t : false ≡ true = e in cc)
+some_told (Some a) P Q e h n = some_is a Q (n a h)
+
+-- a test for none
+pub none_told : {A : Type 0} (o : Option A) (r : Bool) (P : Type 0) → is_some o ≡ not r → IsNone o ↔ P → IsTrue r ↔ P
+none_told o true P e n = (λ h. n.0 e, λ p. refl)
+none_told o false P e n = (λ h. absurd (cc), λ p. absurd (let t : true ≡ false = sym e ∙ n.1 p in cc))
 
 -- what is equivalent to a question's answer
 pub none_as : {A : Type 0} (o : Option A) (P Q : Type 0) → IsNone o ↔ P → (P → Q) → (Q → P) → IsNone o ↔ Q

@@ -41,7 +41,7 @@ module _ (s : Schema) (found : Found) (hier : IsHierarchy s.graph) (root : IsCat
   stood = thawed s (candidates_of found.candidates) r (frozen_of found.frozen)
 
   legal : IsLegal s stood
-  legal = w.1.least.is_one.stands_for.legal
+  legal = w.1.is_one.stands_for.legal
 
   has_present : (c : ℕ) → is_present r es c ≡ true → IsUnsatisfiable s c → ⊥
   has_present c p u = u stood legal (place s.graph r es choice c) (member_is s.graph r es choice name c p)

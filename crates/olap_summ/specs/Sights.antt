@@ -8,7 +8,7 @@ use Rattle.olap_base.specs.Graph.{category_count}
 use Rattle.olap_ast.specs.Findings.{IsUnsatisfiable, IsUnused}
 use Rattle.olap_ast.specs.Formula.{Formula}
 use Rattle.olap_ast.specs.Schema.{Schema}
-use Rattle.olap_frozen.specs.LeastFound.{IsLeastFound}
+use Rattle.olap_dimsat.specs.OneFound.{IsOneFound}
 use Rattle.olap_frozen.specs.declared.founding.Found.{Found}
 use Rattle.olap_graph.specs.Lookups.{edge_at}
 use Rattle.olap_summ.specs.declared.seeing.Seen.{Seen}
@@ -37,7 +37,7 @@ AreAllSettled s seen = AreSettled s (category_count s.graph) seen
 
 -- it was found for some question at its root
 abbrev pub IsWitness : Schema → Found → Type 0
-IsWitness s found = (q : Formula) × IsLeastFound s q found.frozen.root.0 found
+IsWitness s found = (q : Formula) × IsOneFound s q found.frozen.root.0 found
 
 -- no mark is lost
 pub record Keeps (old new : Seen) : Type 0 where

@@ -1,10 +1,11 @@
-// The least frozen dimension for a question at a root.
+// A frozen dimension for a question at a root: the least, or any.
 ghost use Rattle.std.specs.Prelude.{◌≤◌, ◌↔◌, IfOk, IfSome, IsNone, length};
 ghost use Rattle.olap_ast.specs.Constants.{all_equalities};
 ghost use Rattle.olap_ast.specs.Trees.{formula_of};
 ghost use Rattle.olap_ast.specs.Valid.{IsFormulaAt, distinct_pairs};
 ghost use Rattle.olap_base.specs.Graph.{IsCategory};
 ghost use Rattle.olap_base.specs.Limits.{most_constants};
+ghost use Rattle.olap_dimsat.specs.OneFound.{IsOneFound};
 ghost use Rattle.olap_frozen.specs.LeastFound.{IsLeastFound};
 ghost use Rattle.olap_schema.specs.Schemas.{schema_of};
 ghost use Rattle.olap_summ.specs.Answers.{IsNowhere};
@@ -35,6 +36,31 @@ pub(crate) fn least_found(
     let mut search = Search::new(alloc, schema, root, question)?;
     let mut frozen = search.blank()?;
     if !search.first(schema, question, &mut frozen) {
+        return Ok(None);
+    }
+    let candidates = search.into_candidates();
+    Ok(Some(Found { frozen, candidates }))
+}
+
+/// Any frozen dimension whose root makes the question true. None exactly where it is true at no member of the root in
+/// any legal instance. It is one search, where the least takes one for each edge and name that may yet be less.
+pub(crate) fn one_found(
+    alloc: Global,
+    schema: &Schema,
+    root: CatId,
+    question: &Formula,
+) -> Result<Option<Found>, Memory>
+    requires root { IsCategory (schema_of schema.now).graph root.0 }
+    requires question { IsFormulaAt (schema_of schema.now).graph root.0 (formula_of question.now) }
+    requires few { length (distinct_pairs (all_equalities (schema_of schema.now) (formula_of question.now)))
+        ≤ most_constants }
+    ensures none { IfOk result (λ o. IsNone o ↔ IsNowhere (schema_of schema.now) (formula_of question.now) root.0) }
+    ensures some { IfOk result (λ o. IfSome o
+        (IsOneFound (schema_of schema.now) (formula_of question.now) root.0)) }
+{
+    let mut search = Search::new(alloc, schema, root, question)?;
+    let mut frozen = search.blank()?;
+    if !search.any(schema, question, &mut frozen) {
         return Ok(None);
     }
     let candidates = search.into_candidates();

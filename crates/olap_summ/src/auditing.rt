@@ -7,9 +7,9 @@ ghost use Rattle.olap_schema.specs.Schemas.{schema_of};
 ghost use Rattle.olap_summ.specs.Audits.{AreFindingsBefore, finding_of};
 ghost use Rattle.olap_summ.specs.Sights.{AreAllSettled, IsSeen, IsWitness, Keeps};
 
-use crate::asking::least_found;
+use crate::asking::one_found;
+use crate::implying::is_implied;
 use crate::seeing::Seen;
-use crate::{implies, satisfiable};
 use olap_ast::Formula;
 use olap_base::{CatId, EdgeId, List, Memory};
 use olap_frozen::Found;
@@ -25,6 +25,19 @@ pub enum Finding {
     Redundant(u16),
     /// In no legal instance a member of the edge's child lies directly below one of its parent.
     Unused(EdgeId),
+}
+
+// A frozen dimension of the category. None exactly where no legal instance has a member in it.
+fn having_member(alloc: Global, schema: &Schema, c: CatId) -> Result<Option<Found>, Memory>
+    requires { IsCategory (schema_of schema.now).graph c.0 }
+    ensures none { IfOk result (λ o. IsNone o ↔ IsUnsatisfiable (schema_of schema.now) c.0) }
+    ensures some { IfOk result (λ o. IfSome o (λ found. found.frozen.root.0 ≡ c.0)) }
+    ensures witness { IfOk result (λ o. IfSome o (IsWitness (schema_of schema.now))) }
+{
+    // Called for its clauses: the schema is valid.
+    let _valid = schema.constraints();
+    let found = one_found(alloc, schema, c, &Formula::True)?;
+    Ok(found)
 }
 
 // Whether the category can have a member: it was seen so, or it is asked.
@@ -44,7 +57,7 @@ fn can_have_member(
     if seen.categories[usize::from(c.0)] {
         return Ok(true);
     }
-    match satisfiable(alloc, schema, c)? {
+    match having_member(alloc, schema, c)? {
         Some(found) => {
             seen.note(schema, &found);
             Ok(true)
@@ -81,8 +94,8 @@ fn is_redundant(alloc: Global, schema: &Schema, k: usize) -> Result<bool, Memory
 {
     let others = schema.without(k)?;
     let constraint = &schema.constraints()[k];
-    let found = implies(alloc, &others, constraint.root, &constraint.formula)?;
-    Ok(found.is_none())
+    let is_implied = is_implied(alloc, &others, constraint.root, &constraint.formula)?;
+    Ok(is_implied)
 }
 
 // Adds the constraints that follow from the others.
@@ -98,7 +111,7 @@ fn add_redundant(alloc: Global, schema: &Schema, findings: &mut Vec<Finding>) ->
     Ok(())
 }
 
-// The least frozen dimension of the child in which the edge is chosen. None exactly where no legal instance uses it.
+// A frozen dimension of the child in which the edge is chosen. None exactly where no legal instance uses it.
 fn using_edge(
     alloc: Global,
     schema: &Schema,
@@ -116,7 +129,7 @@ fn using_edge(
     let mut path = Vec::new(alloc);
     path.push(parent)?;
     let question = Formula::Path(List::from_vec(path));
-    let found = least_found(alloc, schema, child, &question)?;
+    let found = one_found(alloc, schema, child, &question)?;
     Ok(found)
 }
 

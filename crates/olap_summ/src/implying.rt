@@ -1,5 +1,5 @@
 // Which constraints hold in all legal instances.
-ghost use Rattle.std.specs.Prelude.{◌≤◌, ◌↔◌, IfOk, IfSome, IsNone, length};
+ghost use Rattle.std.specs.Prelude.{◌≡◌, ◌≤◌, ◌↔◌, IfOk, IfSome, IsNone, IsTrue, length};
 ghost use Rattle.olap_ast.specs.Constants.{all_equalities};
 ghost use Rattle.olap_ast.specs.Formula as Meaning;
 ghost use Rattle.olap_ast.specs.Questions.{IsImplied};
@@ -10,12 +10,20 @@ ghost use Rattle.olap_base.specs.Limits.{most_constants};
 ghost use Rattle.olap_frozen.specs.LeastFound.{IsLeastFound};
 ghost use Rattle.olap_schema.specs.Schemas.{schema_of};
 
-use crate::asking::least_found;
+use crate::asking::{least_found, one_found};
 use olap_ast::{Formula, copy};
 use olap_base::{CatId, Memory};
 use olap_frozen::Found;
 use olap_schema::Schema;
 use std::alloc::Global;
+
+// The formula's negation.
+fn negation(alloc: Global, f: &Formula) -> Result<Formula, Memory>
+    ensures { IfOk result (λ q. formula_of q ≡ Meaning.Formula.Not (formula_of f.now)) }
+{
+    let part = Box::new(alloc, copy(alloc, f)?)?;
+    Ok(Formula::Not(part))
+}
 
 /// The least frozen dimension whose root makes the formula false. None exactly where every legal instance meets the
 /// constraint of this root and formula.
@@ -33,8 +41,25 @@ pub fn implies(
     ensures some { IfOk result (λ o. IfSome o
         (IsLeastFound (schema_of schema.now) (Meaning.Formula.Not (formula_of f.now)) root.0)) }
 {
-    let part = Box::new(alloc, copy(alloc, f)?)?;
-    let negated = Formula::Not(part);
+    let negated = negation(alloc, f)?;
     let found = least_found(alloc, schema, root, &negated)?;
     Ok(found)
+}
+
+/// Whether every legal instance meets the constraint of this root and formula.
+pub(crate) fn is_implied(
+    alloc: Global,
+    schema: &Schema,
+    root: CatId,
+    f: &Formula,
+) -> Result<bool, Memory>
+    requires root { IsCategory (schema_of schema.now).graph root.0 }
+    requires formula { IsFormulaAt (schema_of schema.now).graph root.0 (formula_of f.now) }
+    requires few { length (distinct_pairs (all_equalities (schema_of schema.now) (formula_of f.now)))
+        ≤ most_constants }
+    ensures { IfOk result (λ b. IsTrue b ↔ IsImplied (schema_of schema.now) root.0 (formula_of f.now)) }
+{
+    let negated = negation(alloc, f)?;
+    let found = one_found(alloc, schema, root, &negated)?;
+    Ok(found.is_none())
 }

@@ -22,4 +22,4 @@ pub use implying::implies;
 pub use laws::decisions_agree;
 pub use questioning::Questions;
 pub use satisfying::satisfiable;
-pub use summarizing::{SummRefusal, summarizable};
+pub use summarizing::{SummRefusal, any_counterexample, summarizable};

@@ -7,7 +7,7 @@ use Rattle.olap_frozen.specs.LeastFound.{IsLeastFound}
 use Rattle.olap_names.specs.Names.{Named}
 use Rattle.olap_schema.specs.Schemas.{schema_of}
 use Rattle.olap_summ.specs.Answers.{IsNowhere}
-use Rattle.olap_summ.proofs.NowhereLemmas.{none_is, nowhere, some_is, somewhere}
+use Rattle.olap_summ.proofs.NowhereLemmas.{none_is, nowhere, one_of, some_is, somewhere}
 use Rattle.olap_summ.proofs.asking.least_found.Goals as goal
 
 pub returns-then-not-first-clause-none : goal.returns-then-not-first-clause-none
@@ -36,8 +36,9 @@ returns-clause-none c =
     let f : Found = record { frozen = c.first.new.into; candidates = c.into_candidates-candidates.result } in
     some_is f (IsNowhere s q c.args.root.0)
     (somewhere s q c.args.root.0 f c.in_ok-search.ensures.made.valid.hierarchy
+    (one_of s q c.args.root.0 f
     (subst (λ (k : Named). IsLeastFound s q c.args.root.0 (record { frozen = c.first.new.into; candidates = k }))
     (sym (c.into_candidates-candidates.ensures ∙ c.first.ensures.candidates))
     (subst (λ r. IsLeastFound s q r
     (record { frozen = c.first.new.into; candidates = c.in_ok-search.search.candidates }))
-    c.in_ok-search.ensures.root (c.first.ensures.some c.if-not-first.false))))
+    c.in_ok-search.ensures.root (c.first.ensures.some c.if-not-first.false)))))

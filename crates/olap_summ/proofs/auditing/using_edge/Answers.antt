@@ -7,12 +7,12 @@ use Rattle.olap_summ.specs.Answers.{IsNowhere}
 use Rattle.olap_summ.proofs.AuditLemmas.{edge_at_child, path_of, unused_is, witness_of}
 use Rattle.olap_summ.proofs.auditing.using_edge.Goals as goal
 
-pub least_found-requires-clause-root : goal.least_found-requires-clause-root
-least_found-requires-clause-root c =
+pub one_found-requires-clause-root : goal.one_found-requires-clause-root
+one_found-requires-clause-root c =
     (c.constraints-valid.ensures.valid.hierarchy.categories c.args.child.0 c.args.parent.0 c.requires.edge).0
 
-pub least_found-requires-clause-question : goal.least_found-requires-clause-question
-least_found-requires-clause-question c =
+pub one_found-requires-clause-question : goal.one_found-requires-clause-question
+one_found-requires-clause-question c =
     let g = (schema_of c.args.schema.now).graph in
     let path = path_of c.from_vec.result c.push.new.self.items c.new-path.result.items c.args.parent
     c.from_vec.ensures c.in_ok-push.ensures.items c.new-path.ensures.items in
