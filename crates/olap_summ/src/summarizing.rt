@@ -118,7 +118,7 @@ fn shown(alloc: Global, schema: &Schema, questions: &Questions) -> Result<Option
 /// A counterexample to summarizability, where any serves: a frozen dimension of some bottom category whose root reaches
 /// the target, and not by exactly one source. None exactly where the target is summarizable from the sources.
 ///
-/// The target may be a source, and either may be `All`. One search stands at a time, and none is made behind the first
+/// The target may be a source, and either may be `All`. One search stands at a time, and none is made after the first
 /// that finds one; each finds any, so this is cheaper than `summarizable`.
 pub fn any_counterexample(
     alloc: Global,
