@@ -94,20 +94,20 @@ module _ (s : Schema) (c : ℕ) (found : Found) (hier : IsHierarchy s.graph) (t 
   q = not_by_one c t.0
 
   abbrev is_one : IsFrozen s q r k f
-  is_one = t.1.is_one.least.is_one
+  is_one = t.1.one.is_one
 
   place : found_root s found ≡ is_one.stands_for.root
-  place = place_is s q r k f hier t.1.is_one.bottom.0.1 is_one
+  place = place_is s q r k f hier t.1.bottom.0.1 is_one
 
   -- the candidates are those of each question on a way
   pub candidates_for : (v : ℕ) → AreCandidates s (Via v c) k
-  candidates_for v = same_candidates s q (Via v c) (vias_free c t.0) k t.1.is_one.least.candidates
+  candidates_for v = same_candidates s q (Via v c) (vias_free c t.0) k t.1.one.candidates
 
   -- the same choice is a frozen dimension for the question on a way exactly where the root has that way
   pub way_is : (v : ℕ) → IsFrozen s (Via v c) r k f ↔ ReachesVia (found_instance s found) (found_root s found) v c
   way_is v = (
     λ w. subst (λ x. ReachesVia (found_instance s found) x v c)
-        (sym (place_is s (Via v c) r k f hier t.1.is_one.bottom.0.1 w)) w.stands_for.true_at_root,
+        (sym (place_is s (Via v c) r k f hier t.1.bottom.0.1 w)) w.stands_for.true_at_root,
     λ h. same_frozen s q (Via v c) (vias_free c t.0) r k f is_one
         (subst (λ x. ReachesVia (found_instance s found) x v c) place h),
   )
@@ -121,7 +121,7 @@ module _ (s : Schema) (c : ℕ) (found : Found) (hier : IsHierarchy s.graph) (t 
         legal = is_one.stands_for.legal;
         member = x;
         is_member = is_one.stands_for.root_is.0;
-        bottom = subst (λ d. IsBottom s.graph d) (sym is_one.stands_for.root_is.1) t.1.is_one.bottom;
+        bottom = subst (λ d. IsBottom s.graph d) (sym is_one.stands_for.root_is.1) t.1.bottom;
         reaches = is_one.stands_for.true_at_root.0;
         ways_are = subst (λ y. AreWays (found_instance s found) y c views ways) place a;
       }

@@ -1,5 +1,5 @@
 -- What one counterexample says of all choices of stored views.
---     IsSomeCounterexample    a counterexample to summarizability from some sources
+--     IsSomeCounterexample    a counterexample to summarizability from some sources, the least or not
 --     AreWays                 for each view whether a member reaches a category by way of the view's
 --     IsPattern               that of a member at the bottom of some legal instance
 --     ways_in                 how many of a mask's views are ways
@@ -13,11 +13,11 @@ use Rattle.olap_base.specs.Views.{View}
 use Rattle.olap_frozen.specs.declared.founding.Found.{Found}
 use Rattle.olap_frozen.specs.LeastFound.{frozen_of}
 use Rattle.olap_names.specs.Names.{candidates_of}
-use Rattle.olap_summ.specs.Counterexamples.{IsCounterexampleFound}
+use Rattle.olap_summ.specs.Counterexamples.{IsOneCounterexampleFound}
 
--- the counterexample to the summarizability of c from some sources
+-- a counterexample to the summarizability of c from some sources
 abbrev pub IsSomeCounterexample : Schema → ℕ → Found → Type 0
-IsSomeCounterexample s c found = (sources : List ℕ) × IsCounterexampleFound s c sources found
+IsSomeCounterexample s c found = (sources : List ℕ) × IsOneCounterexampleFound s c sources found
 
 -- the instance that it stands for
 abbrev pub found_instance : Schema → Found → Instance

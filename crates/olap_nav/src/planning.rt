@@ -19,7 +19,7 @@ use crate::refuting::{pattern, refute};
 use olap_base::{CatId, List, Memory};
 use olap_frozen::{Found, Room};
 use olap_schema::Schema;
-use olap_summ::{SummRefusal, summarizable};
+use olap_summ::{SummRefusal, any_counterexample};
 use olap_view::Store;
 use std::alloc::Global;
 
@@ -64,7 +64,8 @@ fn cheapest(store: &Store, may_serve: &[bool]) -> Option<Plan>
     best
 }
 
-/// The counterexample to summarizability from sources that differ.
+/// A counterexample to summarizability from sources that differ. Which one doesn't matter: each refutes the mask that is
+/// asked, and what it refutes besides is never the plan.
 fn counterexample(
     alloc: Global,
     schema: &Schema,
@@ -78,14 +79,14 @@ fn counterexample(
         ↔ IsSummarizable (schema_of schema.now) target.0 (numbers_of sources.now)) }
     ensures some { IfOk result (λ o. IfSome o (IsSomeCounterexample (schema_of schema.now) target.0)) }
 {
-    match summarizable(alloc, schema, target, sources) {
+    match any_counterexample(alloc, schema, target, sources) {
         Ok(found) => Ok(found),
         Err(SummRefusal::DuplicateSource) => unreachable!(),
         Err(SummRefusal::Memory) => Err(Memory),
     }
 }
 
-/// The pattern of the counterexample to summarizability from the mask's views. None exactly where the target is
+/// The pattern of a counterexample to summarizability from the mask's views. None exactly where the target is
 /// summarizable from them.
 fn pattern_against(
     alloc: Global,

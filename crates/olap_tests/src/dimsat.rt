@@ -73,6 +73,25 @@ fn least_store(alloc: Global, text: &[u8], limit: usize) -> Result<Frozen, AllRe
     }
 }
 
+// Any store of a schema's text, if there is one, and the least one, which is asked for afterwards.
+fn any_and_least(alloc: Global, text: &[u8]) -> Result<Option<(Frozen, Frozen)>, AllRefusal> {
+    let schema = read_schema(alloc, text).map_err(|_| AllRefusal::Memory)?;
+    let Some(store) = schema.graph().category(b"Store") else {
+        return Err(AllRefusal::Memory);
+    };
+    let mut search = search_at(alloc, &schema, store)?;
+    let mut one = search.blank()?;
+    let mut least = search.blank()?;
+    if !search.any(&schema, &Formula::True, &mut one) {
+        return Ok(None);
+    }
+    if search.first(&schema, &Formula::True, &mut least) {
+        Ok(Some((one, least)))
+    } else {
+        Err(AllRefusal::Memory)
+    }
+}
+
 // Whether exactly these edges are present, and each name is the fresh one.
 fn is_choice(frozen: &Frozen, code: &[u8]) -> bool {
     let edges = frozen.edges.items();
@@ -112,5 +131,28 @@ fn no_store_at_all(rt: HostRuntime) -> Result<(), Fail> {
     let alloc = rt.alloc();
     let all = all_stores(alloc, IMPOSSIBLE, 0).map_err(|_| "no list")?;
     assert!(rt; all.items().is_empty());
+    Ok(())
+}
+
+#[test]
+fn any_store_is_one_of_all(rt: HostRuntime) -> Result<(), Fail> {
+    let alloc = rt.alloc();
+    let Some((one, least)) = any_and_least(alloc, PLACES).map_err(|_| "no search")? else {
+        return Err("no store".into());
+    };
+    let mut among = false;
+    for code in &CHOICES {
+        among |= is_choice(&one, code);
+    }
+    assert!(rt; among);
+    assert!(rt; is_choice(&least, b"000011"));
+    Ok(())
+}
+
+#[test]
+fn no_store_is_none_of_all(rt: HostRuntime) -> Result<(), Fail> {
+    let alloc = rt.alloc();
+    let found = any_and_least(alloc, IMPOSSIBLE).map_err(|_| "no search")?;
+    assert!(rt; found.is_none());
     Ok(())
 }
