@@ -1,0 +1,3 @@
+-- Lemmas.
+pub mod TupleLemmas
+pub mod CubeLemmas

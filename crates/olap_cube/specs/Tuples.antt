@@ -1,0 +1,54 @@
+-- Tuples of members, one of each dimension, and how they reach one another: place by place. Lists of different lengths
+-- are never related, and have no tuples.
+--     TupleReaches       each member reaches its counterpart
+--     IsTupleOf          members of these categories
+--     IsBottomTuple      members of bottom categories
+--     TupleReachesVia    each member reaches one of its source's category that reaches one of its target's
+--     tuples_of          the tuples of members of a tuple of categories, in lexicographic file order
+use Rattle.std.specs.Prelude.{ℕ, List, [], ◌∷◌, map, flat_map, Bool, true, false, ◌&&◌}
+use Rattle.olap_base.specs.Graph.{Graph, IsBottom}
+use Rattle.olap_base.specs.Instance.{Instance, IsLawful, IsMember, IsMemberOf, Reaches, ReachesVia, category_of}
+use Rattle.olap_base.specs.Reaching.{reaches}
+use Rattle.olap_base.specs.Views.{members_of}
+
+-- each instance is lawful for its graph
+abbrev pub AreLawful : List Graph → List Instance → Type 0
+AreLawful [] [] = Unit {0}
+AreLawful (g ∷ gs) (i ∷ is) = IsLawful g i × AreLawful gs is
+AreLawful _ _ = ⊥
+
+-- each member reaches its counterpart
+abbrev pub TupleReaches : List Instance → List ℕ → List ℕ → Type 0
+TupleReaches [] [] [] = Unit {0}
+TupleReaches (i ∷ is) (x ∷ xs) (y ∷ ys) = Reaches i x y × TupleReaches is xs ys
+TupleReaches _ _ _ = ⊥
+
+-- the same as a test
+abbrev pub tuple_reaches : List Instance → List ℕ → List ℕ → Bool
+tuple_reaches [] [] [] = true
+tuple_reaches (i ∷ is) (x ∷ xs) (y ∷ ys) = reaches i x y && tuple_reaches is xs ys
+tuple_reaches _ _ _ = false
+
+-- each is a member of its category
+abbrev pub IsTupleOf : List Instance → List ℕ → List ℕ → Type 0
+IsTupleOf [] [] [] = Unit {0}
+IsTupleOf (i ∷ is) (c ∷ cs) (y ∷ ys) = IsMemberOf i c y × IsTupleOf is cs ys
+IsTupleOf _ _ _ = ⊥
+
+-- each is a member of a bottom category
+abbrev pub IsBottomTuple : List Graph → List Instance → List ℕ → Type 0
+IsBottomTuple [] [] [] = Unit {0}
+IsBottomTuple (g ∷ gs) (i ∷ is) (x ∷ xs) = IsMember i x × IsBottom g (category_of i x) × IsBottomTuple gs is xs
+IsBottomTuple _ _ _ = ⊥
+
+-- each member reaches one of its source's category that reaches one of its target's
+abbrev pub TupleReachesVia : List Instance → List ℕ → List ℕ → List ℕ → Type 0
+TupleReachesVia [] [] [] [] = Unit {0}
+TupleReachesVia (i ∷ is) (x ∷ xs) (t ∷ ts) (c ∷ cs) = ReachesVia i x t c × TupleReachesVia is xs ts cs
+TupleReachesVia _ _ _ _ = ⊥
+
+-- the tuples of members of these categories, in lexicographic file order
+abbrev pub tuples_of : List Instance → List ℕ → List (List ℕ)
+tuples_of [] [] = [] ∷ []
+tuples_of (i ∷ is) (c ∷ cs) = flat_map (λ y. map (λ ys. y ∷ ys) (tuples_of is cs)) (members_of i c)
+tuples_of _ _ = []
