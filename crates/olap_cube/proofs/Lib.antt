@@ -1,3 +1,8 @@
 -- Lemmas.
 pub mod TupleLemmas
 pub mod CubeLemmas
+pub mod ChoiceLemmas
+mod DeterminedLemmas
+mod SumLemmas
+mod OneDimensionLemmas
+pub mod QuestionLemmas

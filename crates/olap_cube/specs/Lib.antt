@@ -1,3 +1,4 @@
 -- Definitions that contracts cite.
 pub mod Tuples
 pub mod CubeViews
+pub mod CubeSummarizable

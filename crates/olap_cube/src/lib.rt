@@ -6,4 +6,8 @@
 
 mod laws;
 
-pub use laws::{cubes_agree_exactly_if_reached_by_one, one_cube_facts_views};
+pub use laws::{
+    bad_choices_have_two_sums, counterexamples_of_one_dimension,
+    cube_summarizable_exactly_if_none_bad, cubes_agree_exactly_if_reached_by_one,
+    cubes_of_one_dimension, one_cube_facts_views, the_cube_counterexample_is_one,
+};
