@@ -2,3 +2,4 @@
 pub mod Tuples
 pub mod CubeViews
 pub mod CubeSummarizable
+pub mod Told

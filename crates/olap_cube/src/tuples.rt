@@ -1,0 +1,9 @@
+// Tuples of categories.
+use olap_base::{CatId, List};
+
+/// A category of each dimension, in the dimensions' order.
+#[derive(Debug, Drop)]
+pub struct Tuple {
+    /// The categories.
+    pub categories: List<CatId>,
+}
