@@ -9,7 +9,14 @@ pub mod WalkingLemmas
 pub mod SeenLemmas
 pub mod TouchingLemmas
 pub mod TellingLemmas
+pub mod DrawnLemmas
+pub mod EdgesOutLemmas
+pub mod UnmetLemmas
+pub mod OneLineLemmas
+pub mod BranchLemmas
+pub mod WithinLemmas
 pub mod StepLemmas
+pub mod DoingLemmas
 pub mod ExampleLemmas
 pub mod RefusedLemmas
 pub mod TallyLemmas

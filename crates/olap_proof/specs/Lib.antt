@@ -6,12 +6,16 @@ pub mod Examples
 pub mod FullPlaces
 pub mod Existing
 -- How the program reads a text.
+pub mod Doing
 pub mod Reading
 pub mod KeptParts
 pub mod Kept
 pub mod Walking
 pub mod Seen
 pub mod Within
+pub mod DoneHere
+pub mod Branches
+pub mod Advancing
 -- How it writes one.
 pub mod Asking
 pub mod Trees

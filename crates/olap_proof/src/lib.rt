@@ -5,9 +5,13 @@
 //! one wherever it is: the laws of `src/laws.rt` and `src/existence.rt`, over the definitions alone.
 #![tactic(auto)]
 
+mod advancing;
 mod asking;
+mod branches;
 mod cases;
 mod closing;
+mod doing;
+mod drawn;
 mod existence;
 mod forms;
 mod growing;

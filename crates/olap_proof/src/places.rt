@@ -1,11 +1,11 @@
 // The place in a tree at which the reading stands.
-ghost use Rattle.std.specs.Prelude.{◌≡◌, ◌-◌, ◌<◌, IfOk, None, OnErr, OnOk, length, map, take};
+ghost use Rattle.std.specs.Prelude.{◌≡◌, ◌-◌, ◌<◌, ◌↔◌, IfOk, IsTrue, None, OnErr, OnOk, length, map, take};
 ghost use Rattle.std.specs.Option.{option_map};
 ghost use Rattle.olap_base.specs.Graph.{IsCategory};
 ghost use Rattle.olap_proof.specs.Certificates.{start, with_edge, with_name, with_way};
 ghost use Rattle.olap_proof.specs.KeptParts.{naming_kept, way_kept};
 ghost use Rattle.olap_proof.specs.Places.{index_of, way_of};
-ghost use Rattle.olap_trail.specs.Decisions.{AreDecisions, status_of};
+ghost use Rattle.olap_trail.specs.Decisions.{AreDecisions, HoldsCycle, HoldsShortcut, present_with, status_of};
 ghost use Rattle.olap_trail.specs.Trails.{decisions_of};
 
 use olap_base::{CatId, EdgeId, Memory};
@@ -125,6 +125,22 @@ impl Place {
         ensures { result ≡ way_of self.now.ways child.0 parent.0 }
     {
         way_in(&self.ways, child, parent)
+    }
+
+    /// Whether the present edges together with this one hold a cycle. Two looks at tables.
+    pub(crate) fn closes_cycle(&self, edge: EdgeId) -> bool
+        requires { edge.0 < length self.now.decided.graph.edges }
+        ensures { IsTrue result ↔ HoldsCycle (present_with self.now.decided edge.0) }
+    {
+        self.trail.closes_cycle(edge)
+    }
+
+    /// Whether the present edges together with this one hold a shortcut. Cost: the present edges.
+    pub(crate) fn makes_shortcut(&self, edge: EdgeId) -> bool
+        requires { edge.0 < length self.now.decided.graph.edges }
+        ensures { IsTrue result ↔ HoldsShortcut (present_with self.now.decided edge.0) }
+    {
+        self.trail.makes_shortcut(edge)
     }
 
     /// Decides an edge that is undecided.

@@ -1,0 +1,161 @@
+-- Branches of a tree, by their last choice.
+--     take_last        a list without what was put behind it
+--     led_last         the choices lead where the last leads, from where the others do
+--     left_last        what is open after them is what is open after the last, and after the others
+--     legal_last       they are legal, and so is the last
+--     legal_more       and one more, if it is
+--     back_there       a branch without its last choice
+--     legal_named      what is decided legally has names, if it is a name
+--     branch_more      with one more
+--     left_back        what is open without a last choice that has no case after it
+--     left_next        and with the case after it
+--     left_first       the cases of a split, the first of which was chosen
+use Rattle.std.proofs.Common.{◌≡◌, ◌-◌, ◌++◌, List, [], ◌∷◌, length, take, refl, ap, sym, subst, ◌∙◌, arith}
+use Rattle.std.proofs.lemmas.List.{length-append}
+use Rattle.std.proofs.Math.Seq.{take-append_seam}
+use Rattle.olap_base.specs.Graph.{Graph, IsCategory, category_count}
+use Rattle.olap_names.specs.Names.{Named}
+use Rattle.olap_proof.specs.declared.branches.Choice.{Choice}
+use Rattle.olap_proof.specs.declared.branches.Choice.TheVariants.{Edge, Name, Way}
+use Rattle.olap_proof.specs.Branches.{AreLegal, IsBranch, IsLegal, IsNamed, chosen, first_of, led, left_open, siblings}
+use Rattle.olap_proof.specs.Certificates.{Open, Open.At}
+use Rattle.olap_proof.specs.Places.{Place}
+
+-- a list without what was put behind it
+pub take_last : {A : Type 0} (xs : List A) (y : A) → take (length (xs ++ y ∷ []) - 1) (xs ++ y ∷ []) ≡ xs
+take_last xs y =
+    let n = length-append xs (y ∷ []) in
+    let m : length (xs ++ y ∷ []) - 1 ≡ length xs = omega (arith, n) in
+    ap (λ k. take k (xs ++ y ∷ [])) m ∙ take-append_seam xs (y ∷ [])
+
+-- the choices lead where the last leads, from where the others do
+pub led_last : (p : Place) (xs : List Choice) (x : Choice) → led p (xs ++ x ∷ []) ≡ chosen (led p xs) x
+led_last p [] x = refl
+led_last p (y ∷ ys) x = led_last (chosen p y) ys x
+
+-- what is open after them is what is open after the last, and after the others
+pub left_last : (k : Named) (p : Place) (xs : List Choice) (x : Choice) (acc : List Open)
+    → left_open k p (xs ++ x ∷ []) acc ≡ siblings k (led p xs) x ++ left_open k p xs acc
+left_last k p [] x acc = refl
+left_last k p (y ∷ ys) x acc = left_last k (chosen p y) ys x (siblings k p y ++ acc)
+
+-- they are legal, and so is the last
+pub legal_last : (g : Graph) (k : Named) (p : Place) (xs : List Choice) (x : Choice)
+    → AreLegal g k p (xs ++ x ∷ []) → AreLegal g k p xs × IsLegal g k (led p xs) x
+legal_last g k p [] x h = (tt, h.0)
+legal_last g k p (y ∷ ys) x h = let r = legal_last g k (chosen p y) ys x h.1 in ((h.0, r.0), r.1)
+
+-- and one more, if it is
+pub legal_more : (g : Graph) (k : Named) (p : Place) (xs : List Choice) (x : Choice) → AreLegal g k p xs
+    → IsLegal g k (led p xs) x → AreLegal g k p (xs ++ x ∷ [])
+legal_more g k p [] x h i = (i, tt)
+legal_more g k p (y ∷ ys) x h i = (h.0, legal_more g k (chosen p y) ys x h.1 i)
+
+-- ---- where nothing is decided
+
+first_chosen : (p : Place) (x : Choice) → first_of (chosen p x) ≡ first_of p
+first_chosen p (Edge e b) = refl
+first_chosen p (Name c i) = refl
+first_chosen p (Way a b t) = refl
+
+-- choices change neither the graph nor the root
+pub first_led : (p : Place) (xs : List Choice) → first_of (led p xs) ≡ first_of p
+first_led p [] = refl
+first_led p (x ∷ xs) = first_led (chosen p x) xs ∙ first_chosen p x
+
+-- ---- branches
+
+-- without its last choice
+pub record IsBack (g : Graph) (k : Named) (p r : Place) (xs : List Choice) (x : Choice) : Type 0 where
+  pub branch : IsBranch g k r xs
+  pub first : first_of r ≡ first_of p
+  pub legal : IsLegal g k r x
+  pub there : r ≡ led (first_of p) xs
+
+branch_back : (g : Graph) (k : Named) (p r : Place) (xs : List Choice) (x : Choice)
+    → IsBranch g k p (xs ++ x ∷ []) → r ≡ led (first_of p) xs → IsBack g k p r xs x
+branch_back g k p r xs x h e =
+    let first : first_of r ≡ first_of p = ap first_of e ∙ first_led (first_of p) xs in
+    let both = legal_last g k (first_of p) xs x h.legal in
+    record {
+      branch = record {
+        graph = ap (λ (y : Place). y.decided.graph) first ∙ h.graph;
+        root = subst (λ (y : Place). IsCategory g y.decided.root) (sym first) h.root;
+        texts = h.texts;
+        led_there = subst (λ (y : Place). r ≡ led y xs) (sym first) e;
+        legal = subst (λ (y : Place). AreLegal g k y xs) (sym first) both.0;
+      };
+      first = first;
+      legal = subst (λ (y : Place). IsLegal g k y x) (sym e) both.1;
+      there = e;
+    }
+
+-- where the last choice was taken back
+pub back_there : (g : Graph) (k : Named) (p r : Place) (all xs : List Choice) (x : Choice) → IsBranch g k p all
+    → all ≡ xs ++ x ∷ [] → ((y : Place) → p ≡ chosen y x → r ≡ y) → IsBack g k p r xs x
+back_there g k p r all xs x h same back =
+    let b : IsBranch g k p (xs ++ x ∷ []) = subst (λ (ys : List Choice). IsBranch g k p ys) same h in
+    branch_back g k p r xs x b (back (led (first_of p) xs) (b.led_there ∙ led_last (first_of p) xs x))
+
+-- what is decided legally has names, if it is a name
+pub legal_named : (g : Graph) (k : Named) (p : Place) (x : Choice) → length k.texts ≡ category_count g
+    → IsLegal g k p x → IsNamed k x
+legal_named g k p (Edge e b) t l = tt
+legal_named g k p (Name c i) t l = let n = l.0.1 in omega (arith, t, n)
+legal_named g k p (Way a b w) t l = tt
+
+-- with one choice more
+pub branch_more : (g : Graph) (k : Named) (p r : Place) (xs : List Choice) (x : Choice) → IsBranch g k p xs
+    → IsLegal g k p x → r ≡ chosen p x → IsBranch g k r (xs ++ x ∷ []) × (first_of r ≡ first_of p)
+branch_more g k p r xs x h i e =
+    let first : first_of r ≡ first_of p = ap first_of e ∙ first_chosen p x in
+    let there : r ≡ led (first_of p) (xs ++ x ∷ []) =
+    e ∙ ap (λ (y : Place). chosen y x) h.led_there ∙ sym (led_last (first_of p) xs x) in
+    let legal : AreLegal g k (first_of p) (xs ++ x ∷ []) =
+    legal_more g k (first_of p) xs x h.legal (subst (λ (y : Place). IsLegal g k y x) h.led_there i) in (
+      record {
+        graph = ap (λ (y : Place). y.decided.graph) first ∙ h.graph;
+        root = subst (λ (y : Place). IsCategory g y.decided.root) (sym first) h.root;
+        texts = h.texts;
+        led_there = subst (λ (y : Place). r ≡ led y (xs ++ x ∷ [])) (sym first) there;
+        legal = subst (λ (y : Place). AreLegal g k y (xs ++ x ∷ [])) (sym first) legal;
+      },
+      first,
+    )
+
+-- where the last choice has no case after it, what is open is what is open without it
+pub left_back : (k : Named) (p r : Place) (xs : List Choice) (x : Choice) → first_of r ≡ first_of p
+    → siblings k (led (first_of p) xs) x ≡ [] → (acc : List Open)
+    → left_open k (first_of p) (xs ++ x ∷ []) acc ≡ left_open k (first_of r) xs acc
+left_back k p r xs x first none acc =
+    left_last k (first_of p) xs x acc
+    ∙ ap (λ ys. ys ++ left_open k (first_of p) xs acc) none
+    ∙ ap (λ (y : Place). left_open k y xs acc) (sym first)
+
+-- where it has one, that comes next
+pub left_next : (k : Named) (p r t : Place) (xs : List Choice) (x y : Choice) → first_of r ≡ first_of p
+    → first_of t ≡ first_of r → r ≡ led (first_of p) xs → t ≡ chosen r y
+    → siblings k r x ≡ At (chosen r y) ∷ siblings k r y → (acc : List Open)
+    → left_open k (first_of p) (xs ++ x ∷ []) acc ≡ At t ∷ left_open k (first_of t) (xs ++ y ∷ []) acc
+left_next k p r t xs x y first then e u some acc =
+    let others = left_open k (first_of p) xs acc in
+    let old : left_open k (first_of p) (xs ++ x ∷ []) acc ≡ At (chosen r y) ∷ (siblings k r y ++ others) =
+    left_last k (first_of p) xs x acc
+    ∙ ap (λ (z : Place). siblings k z x ++ others) (sym e) ∙ ap (λ zs. zs ++ others) some in
+    let new : left_open k (first_of t) (xs ++ y ∷ []) acc ≡ siblings k r y ++ others =
+    ap (λ (z : Place). left_open k z (xs ++ y ∷ []) acc) (then ∙ first)
+    ∙ left_last k (first_of p) xs y acc ∙ ap (λ (z : Place). siblings k z y ++ others) (sym e) in
+    old ∙ ap (λ (z : Place). At z ∷ (siblings k r y ++ others)) (sym u) ∙ ap (λ zs. At t ∷ zs) (sym new)
+
+-- the cases of a split, the first of which was chosen
+pub left_first : (g : Graph) (k : Named) (p t : Place) (xs : List Choice) (x : Choice) → IsBranch g k p xs
+    → first_of t ≡ first_of p → t ≡ chosen p x → (acc : List Open)
+    → (At (chosen p x) ∷ siblings k p x) ++ left_open k (first_of p) xs acc
+    ≡ At t ∷ left_open k (first_of t) (xs ++ x ∷ []) acc
+left_first g k p t xs x h then u acc =
+    let new : left_open k (first_of t) (xs ++ x ∷ []) acc ≡ siblings k p x ++ left_open k (first_of p) xs acc =
+    ap (λ (z : Place). left_open k z (xs ++ x ∷ []) acc) then
+    ∙ left_last k (first_of p) xs x acc
+    ∙ ap (λ (z : Place). siblings k z x ++ left_open k (first_of p) xs acc) (sym h.led_there) in
+    ap (λ (z : Place). At z ∷ (siblings k p x ++ left_open k (first_of p) xs acc)) (sym u)
+    ∙ ap (λ zs. At t ∷ zs) (sym new)

@@ -1,0 +1,252 @@
+-- A line's bytes are those of one line only.
+--     Args          what stands behind the first word
+--     args_once     in one way only, behind the same word
+--     line_once     so two lines about a schema with the same bytes are one
+use Rattle.std.proofs.Common.{◌≡◌, ◌⊎◌, ℕ, zero, suc, ◌<◌, ◌^◌, List, length, Option, Some, None, refl, ap, sym, ◌∙◌, inl, inr, arith}
+use Rattle.std.specs.Fmt.{decimal}
+use Rattle.std.proofs.lemmas.Fmt.{decimal_injective}
+use Rattle.olap_base.specs.Graph.{Graph, IsCategory, IsHierarchy}
+use Rattle.olap_ast.specs.Schema.{Schema}
+use Rattle.olap_graph.specs.Lookups.{edge_at, name_of_category}
+use Rattle.olap_proof.specs.declared.lines.Word.{Word}
+use Rattle.olap_proof.specs.declared.lines.Word.TheVariants as word
+use Rattle.olap_proof.specs.Lines.{IsAbout, Line, Line.Asked, Line.Clash, Line.Cycle, Line.Dead, Line.EdgeOrNot, Line.Loose, Line.NameOf, Line.Shortcut, Line.Unmet, Line.Unreached, Line.WayOrNot, edge_words, line_text, way_words}
+use Rattle.olap_proof.specs.Reading.{first_of, rest_of, word_text}
+use Rattle.olap_proof.proofs.LineLemmas.{edge_there, name_plain, names_differ, pair_once, unparted}
+use Rattle.olap_proof.proofs.ReadingLemmas.{joined_once, line_joined, word_plain, words_differ}
+
+-- what stands behind the first word
+data Args : Type 0 where
+  Nothing : Args
+  Named : (category : ℕ) → Args
+  Paired : (child parent : ℕ) → Args
+  Edged : (edge : ℕ) → Args
+  Numbered : (place : ℕ) → Args
+
+abbrev args_of : Line → Args
+args_of (EdgeOrNot e) = Edged e
+args_of (NameOf c) = Named c
+args_of (WayOrNot a b) = Paired a b
+args_of (Dead c) = Named c
+args_of Cycle = Nothing
+args_of Shortcut = Nothing
+args_of (Loose e) = Edged e
+args_of (Unreached c) = Named c
+args_of (Clash a b) = Paired a b
+args_of (Unmet n) = Numbered n
+args_of Asked = Nothing
+
+-- its bytes
+abbrev rest_text : Graph → Args → Option (List ℕ)
+rest_text g Nothing = None
+rest_text g (Named c) = Some (name_of_category g c)
+rest_text g (Paired a b) = Some (way_words g a b)
+rest_text g (Edged e) = Some (edge_words g e)
+rest_text g (Numbered n) = Some (decimal (suc n))
+
+rest_is : (g : Graph) (l : Line) → rest_text g (args_of l) ≡ rest_of g l
+rest_is g (EdgeOrNot e) = refl
+rest_is g (NameOf c) = refl
+rest_is g (WayOrNot a b) = refl
+rest_is g (Dead c) = refl
+rest_is g Cycle = refl
+rest_is g Shortcut = refl
+rest_is g (Loose e) = refl
+rest_is g (Unreached c) = refl
+rest_is g (Clash a b) = refl
+rest_is g (Unmet n) = refl
+rest_is g Asked = refl
+
+-- what it names is in the schema
+abbrev IsArg : Schema → Args → Type 0
+IsArg s Nothing = Unit {0}
+IsArg s (Named c) = IsCategory s.graph c
+IsArg s (Paired a b) = IsCategory s.graph a × IsCategory s.graph b
+IsArg s (Edged e) = e < length s.graph.edges
+IsArg s (Numbered n) = n < length s.constraints
+
+about : (s : Schema) (l : Line) → IsAbout s l → IsArg s (args_of l)
+about s (EdgeOrNot e) a = a
+about s (NameOf c) a = a
+about s (WayOrNot x y) a = a
+about s (Dead c) a = a
+about s Cycle a = a
+about s Shortcut a = a
+about s (Loose e) a = a
+about s (Unreached c) a = a
+about s (Clash x y) a = a
+about s (Unmet n) a = a
+about s Asked a = a
+
+-- the sort of what stands behind a word; the bytes tell an edge from a category
+abbrev sort_of : Args → ℕ
+sort_of Nothing = 0
+sort_of (Named c) = 1
+sort_of (Paired a b) = 2
+sort_of (Edged e) = 1
+sort_of (Numbered n) = 3
+
+abbrev sort_behind : Word → ℕ
+sort_behind word.Edge = 1
+sort_behind word.Name = 1
+sort_behind word.Reach = 2
+sort_behind word.Dead = 1
+sort_behind word.Cycle = 0
+sort_behind word.Shortcut = 0
+sort_behind word.Loose = 1
+sort_behind word.Steps = 2
+sort_behind word.Constraint = 3
+sort_behind word.Question = 0
+
+sort_is : (l : Line) → sort_of (args_of l) ≡ sort_behind (first_of l)
+sort_is (EdgeOrNot e) = refl
+sort_is (NameOf c) = refl
+sort_is (WayOrNot a b) = refl
+sort_is (Dead c) = refl
+sort_is Cycle = refl
+sort_is Shortcut = refl
+sort_is (Loose e) = refl
+sort_is (Unreached c) = refl
+sort_is (Clash a b) = refl
+sort_is (Unmet n) = refl
+sort_is Asked = refl
+
+-- ---- the line again
+
+abbrev first_arg : Args → ℕ
+first_arg Nothing = 0
+first_arg (Named c) = c
+first_arg (Paired a b) = a
+first_arg (Edged e) = e
+first_arg (Numbered n) = n
+
+abbrev second_arg : Args → ℕ
+second_arg Nothing = 0
+second_arg (Named c) = 0
+second_arg (Paired a b) = b
+second_arg (Edged e) = 0
+second_arg (Numbered n) = 0
+
+abbrev loose_line : Args → Line
+loose_line Nothing = Asked
+loose_line (Named c) = Unreached c
+loose_line (Paired a b) = Asked
+loose_line (Edged e) = Loose e
+loose_line (Numbered n) = Asked
+
+abbrev line_with : Word → Args → Line
+line_with word.Edge x = EdgeOrNot (first_arg x)
+line_with word.Name x = NameOf (first_arg x)
+line_with word.Reach x = WayOrNot (first_arg x) (second_arg x)
+line_with word.Dead x = Dead (first_arg x)
+line_with word.Cycle x = Cycle
+line_with word.Shortcut x = Shortcut
+line_with word.Loose x = loose_line x
+line_with word.Steps x = Clash (first_arg x) (second_arg x)
+line_with word.Constraint x = Unmet (first_arg x)
+line_with word.Question x = Asked
+
+again : (l : Line) → line_with (first_of l) (args_of l) ≡ l
+again (EdgeOrNot e) = refl
+again (NameOf c) = refl
+again (WayOrNot a b) = refl
+again (Dead c) = refl
+again Cycle = refl
+again Shortcut = refl
+again (Loose e) = refl
+again (Unreached c) = refl
+again (Clash a b) = refl
+again (Unmet n) = refl
+again Asked = refl
+
+-- ---- once
+
+-- two edges are between different categories
+edges_apart : (g : Graph) → IsHierarchy g → (e f : ℕ) → e < length g.edges → f < length g.edges
+    → edge_at g e ≡ edge_at g f → e ≡ f
+edges_apart g h e f l m same = elim (ordered e f) [
+  | inl q ↦ q
+  | inr o ↦ elim o [
+    | inl b ↦ absurd (h.edges_differ e f (record { child = 0; parent = 0 }) b m same)
+    | inr b ↦ absurd (h.edges_differ f e (record { child = 0; parent = 0 }) b l (sym same))
+  ]
+]
+  where
+    ordered : (c d : ℕ) → (c ≡ d) ⊎ ((c < d) ⊎ (d < c))
+    ordered zero zero = inl refl
+    ordered zero (suc d) = inr (inl (omega arith))
+    ordered (suc c) zero = inr (inr (omega arith))
+    ordered (suc c) (suc d) = elim (ordered c d) [
+      | inl q ↦ inl (ap suc q)
+      | inr o ↦ elim o [
+        | inl b ↦ inr (inl (omega (arith, b)))
+        | inr b ↦ inr (inr (omega (arith, b)))
+      ]
+    ]
+
+-- and have different words
+edge_once : (g : Graph) → IsHierarchy g → (e f : ℕ) → e < length g.edges → f < length g.edges
+    → edge_words g e ≡ edge_words g f → e ≡ f
+edge_once g h e f l m q =
+    let x = edge_at g e in
+    let y = edge_at g f in
+    let i = h.categories x.child x.parent (edge_there g e l) in
+    let j = h.categories y.child y.parent (edge_there g f m) in
+    let p = pair_once g h x.child x.parent y.child y.parent i.0 i.1 j.0 j.1 q in
+    let same : x ≡ y = ap (λ c. record { child = c; parent = x.parent }) p.0
+    ∙ ap (λ d. record { child = y.child; parent = d }) p.1 in
+    edges_apart g h e f l m same
+
+some_is : {A : Type 0} (x y : A) → Some x ≡ Some y → x ≡ y
+some_is x y q = cc
+
+args_once : (s : Schema) → IsHierarchy s.graph → length s.constraints < 2 ^ 64 → (x y : Args) → IsArg s x → IsArg s y
+    → sort_of x ≡ sort_of y → rest_text s.graph x ≡ rest_text s.graph y → x ≡ y
+args_once s h few Nothing Nothing a b t q = refl
+args_once s h few Nothing (Named d) a b t q = absurd (omega (arith, t))
+args_once s h few Nothing (Paired c d) a b t q = absurd (omega (arith, t))
+args_once s h few Nothing (Edged e) a b t q = absurd (omega (arith, t))
+args_once s h few Nothing (Numbered n) a b t q = absurd (omega (arith, t))
+args_once s h few (Named c) Nothing a b t q = absurd (omega (arith, t))
+args_once s h few (Named c) (Named d) a b t q = ap Named (names_differ s.graph h c d a b (some_is _ _ q))
+args_once s h few (Named c) (Paired d e) a b t q = absurd (omega (arith, t))
+args_once s h few (Named c) (Edged e) a b t q =
+    absurd (unparted 32 (name_of_category s.graph c) (name_of_category s.graph (edge_at s.graph e).child)
+    (name_of_category s.graph (edge_at s.graph e).parent) (name_plain s.graph h c a 32 (omega arith))
+    (sym (some_is _ _ q)))
+args_once s h few (Named c) (Numbered n) a b t q = absurd (omega (arith, t))
+args_once s h few (Paired c d) Nothing a b t q = absurd (omega (arith, t))
+args_once s h few (Paired c d) (Named e) a b t q = absurd (omega (arith, t))
+args_once s h few (Paired c d) (Paired e f) a b t q =
+    let p = pair_once s.graph h c d e f a.0 a.1 b.0 b.1 (some_is _ _ q) in
+    ap (λ x. Paired x d) p.0 ∙ ap (λ y. Paired e y) p.1
+args_once s h few (Paired c d) (Edged e) a b t q = absurd (omega (arith, t))
+args_once s h few (Paired c d) (Numbered n) a b t q = absurd (omega (arith, t))
+args_once s h few (Edged e) Nothing a b t q = absurd (omega (arith, t))
+args_once s h few (Edged e) (Named c) a b t q =
+    absurd (unparted 32 (name_of_category s.graph c) (name_of_category s.graph (edge_at s.graph e).child)
+    (name_of_category s.graph (edge_at s.graph e).parent) (name_plain s.graph h c b 32 (omega arith)) (some_is _ _ q))
+args_once s h few (Edged e) (Paired c d) a b t q = absurd (omega (arith, t))
+args_once s h few (Edged e) (Edged f) a b t q = ap Edged (edge_once s.graph h e f a b (some_is _ _ q))
+args_once s h few (Edged e) (Numbered n) a b t q = absurd (omega (arith, t))
+args_once s h few (Numbered n) Nothing a b t q = absurd (omega (arith, t))
+args_once s h few (Numbered n) (Named c) a b t q = absurd (omega (arith, t))
+args_once s h few (Numbered n) (Paired c d) a b t q = absurd (omega (arith, t))
+args_once s h few (Numbered n) (Edged e) a b t q = absurd (omega (arith, t))
+args_once s h few (Numbered n) (Numbered m) a b t q =
+    let same : suc n ≡ suc m =
+    decimal_injective (suc n) (suc m) (omega (arith, a, few)) (omega (arith, b, few)) (some_is _ _ q) in
+    ap Numbered (omega (arith, same))
+
+-- two lines about a schema with the same bytes are one
+pub line_once : (s : Schema) → IsHierarchy s.graph → length s.constraints < 2 ^ 64 → (l m : Line) → IsAbout s l
+    → IsAbout s m → line_text s.graph l ≡ line_text s.graph m → l ≡ m
+line_once s h few l m a b q =
+    let g = s.graph in
+    let p = joined_once (word_text (first_of l)) (word_text (first_of m)) (rest_of g l) (rest_of g m)
+    (word_plain (first_of l)) (word_plain (first_of m)) (line_joined g l ∙ q ∙ sym (line_joined g m)) in
+    let word : first_of l ≡ first_of m = words_differ (first_of l) (first_of m) p.0 in
+    let args : args_of l ≡ args_of m =
+    args_once s h few (args_of l) (args_of m) (about s l a) (about s m b)
+    (sort_is l ∙ ap sort_behind word ∙ sym (sort_is m)) (rest_is g l ∙ p.1 ∙ sym (rest_is g m)) in
+    sym (again l) ∙ ap (λ w. line_with w (args_of l)) word ∙ ap (λ x. line_with (first_of m) x) args ∙ again m

@@ -1,0 +1,31 @@
+use Rattle.std.proofs.Common.{◌≡◌, ◌↔◌, ◌∙◌, ◌<◌, IsTrue, length, map, get_or, ap, subst, sym}
+use Rattle.std.proofs.lemmas.List.{get_or-map, length-map}
+use Rattle.olap_ast.specs.Schema.{Constraint}
+use Rattle.olap_ast.specs.Trees.{constraint_of, formula_of}
+use Rattle.olap_names.specs.Names.{candidates_of, with_graph}
+use Rattle.olap_proof.specs.Lines.{Closes, IsAbout, IsUnmet}
+use Rattle.olap_proof.specs.Reading.{said}
+use Rattle.olap_proof.specs.declared.lines.Line.{Line}
+use Rattle.olap_proof.proofs.UnmetLemmas.{unmet_at}
+use Rattle.olap_proof.proofs.leaves.closes.Goals as goal
+
+pub returns-in-Constraint : goal.returns-in-Constraint
+returns-in-Constraint c =
+    let s = c.args.known.now in
+    let k = candidates_of s.candidates.now in
+    let p = s.place.now in
+    let cs = c.args.constraints.now in
+    let n = c.in-Constraint.n in
+    let x = c.index-constraints-n.result in
+    let here = with_graph s.graph.now (map constraint_of cs) in
+    let q = formula_of c.args.question.now in
+    let inside : n < length (map constraint_of cs) =
+    subst (λ (l : Line). IsAbout here (said l)) c.in-Constraint.is c.requires in
+    let among : n < length cs = subst (λ m. n < m) (length-map cs constraint_of) inside in
+    let same : get_or (map constraint_of cs) n (constraint_of x) ≡ constraint_of x =
+    get_or-map constraint_of cs n x (constraint_of x) among ∙ ap constraint_of (sym c.index-constraints-n.is) in
+    let u = unmet_at s.form k p (map constraint_of cs) n (constraint_of x) inside in
+    subst (λ (l : Line). IsTrue c.is_unmet.result ↔ Closes s.form here q k p (said l)) (sym c.in-Constraint.is) (
+      λ t. u.0 (subst (λ (y : Constraint). IsUnmet s.form k p y) (sym same) (c.is_unmet.ensures.0 t)),
+      λ h. c.is_unmet.ensures.1 (subst (λ (y : Constraint). IsUnmet s.form k p y) same (u.1 h)),
+    )
