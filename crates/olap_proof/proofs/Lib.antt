@@ -26,3 +26,9 @@ pub mod ClosingLemmas
 pub mod PlainTreeLemmas
 pub mod TreeTextLemmas
 pub mod BottomLemmas
+pub mod AlikeLemmas
+pub mod PlainLineLemmas
+pub mod StageLemmas
+pub mod LeadingLemmas
+pub mod QuestionLemmas
+pub mod VerdictLemmas

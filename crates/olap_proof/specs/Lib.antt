@@ -16,6 +16,8 @@ pub mod Within
 pub mod DoneHere
 pub mod Branches
 pub mod Advancing
+pub mod Stages
+pub mod Verifying
 -- How it writes one.
 pub mod Asking
 pub mod Trees

@@ -1,6 +1,7 @@
 // Theorems over the definitions. Each is the clause of a function that does nothing.
 ghost use Rattle.olap_proof.specs.Certificates.{CertificatesAreRight};
 ghost use Rattle.olap_proof.specs.Examples.{ChainIsCertified, ChainIsShortlyCertified, EdgesAreDecidedOnce, LinesAreSpelledExactly, NamesAreDecidedOnce, TheRootIsNotLoose};
+ghost use Rattle.olap_proof.specs.Verifying.{VerdictsAreOne};
 
 /// A certificate, of either form, exists only where the target is summarizable from the sources.
 pub fn certificates_are_right()
@@ -35,4 +36,9 @@ pub fn the_root_is_not_loose()
 /// Nor has one two spaces between words.
 pub fn lines_are_spelled_exactly()
     ensures { LinesAreSpelledExactly }
+{}
+
+/// A certificate has no first wrong line, and another text has one at most.
+pub fn verdicts_are_one()
+    ensures { VerdictsAreOne }
 {}

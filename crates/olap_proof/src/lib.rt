@@ -15,14 +15,18 @@ mod drawn;
 mod existence;
 mod forms;
 mod growing;
+mod judging;
 mod knowing;
 mod laws;
 mod leaves;
 mod lines;
 mod places;
 mod plain;
+mod questions;
 mod splitting;
+mod stages;
 mod telling;
+mod verifying;
 mod walking;
 mod writing;
 
@@ -30,5 +34,6 @@ pub use existence::{certificates_exist_exactly_where_summarizable, full_places_c
 pub use forms::Form;
 pub use laws::{
     certificates_are_right, chain_is_certified, chain_is_shortly_certified, edges_are_decided_once,
-    lines_are_spelled_exactly, names_are_decided_once, the_root_is_not_loose,
+    lines_are_spelled_exactly, names_are_decided_once, the_root_is_not_loose, verdicts_are_one,
 };
+pub use verifying::{VerifyRefusal, verify};

@@ -1,0 +1,47 @@
+-- What a text is for a schema, a target and sources, whichever candidates are taken: they have the same names.
+--     numbers_of          the numbers of sources
+--     IsWrongAt           a line is the first that is wrong
+--     IsCertificateFor    a text is a certificate
+--     IsFirstWrongFor     a line of a text is the first that is wrong
+--     VerdictsAreOne      a certificate has no first wrong line, and another text has one at most
+use Rattle.std.specs.Prelude.{◌≡◌, ◌+◌, ◌<◌, ◌^◌, ℕ, List, length, map}
+use Rattle.olap_base.specs.Graph.{IsHierarchy}
+use Rattle.olap_base.specs.declared.ids.CatId.{CatId}
+use Rattle.olap_ast.specs.Formula.{Formula}
+use Rattle.olap_ast.specs.Frozen.{AreCandidates, Candidates}
+use Rattle.olap_ast.specs.Schema.{Schema}
+use Rattle.olap_ast.specs.Summarizable.{not_by_one}
+use Rattle.olap_proof.specs.declared.forms.Form.{Form}
+use Rattle.olap_proof.specs.Certificates.{IsCertificateText, IsFirstWrong}
+
+-- the numbers of sources
+abbrev pub numbers_of : List CatId → List ℕ
+numbers_of sources = map (λ c. c.0) sources
+
+-- the line is the first that is wrong, counted from 1 on
+abbrev pub IsWrongAt : Form → Schema → Formula → Candidates → List ℕ → ℕ → Type 0
+IsWrongAt f s q k text line = (count : ℕ) × (line ≡ count + 1) × IsFirstWrong f s q k text count
+
+-- the text is a certificate
+abbrev pub IsCertificateFor : Form → Schema → ℕ → List ℕ → List ℕ → Type 0
+IsCertificateFor f s c sources text = (k : Candidates) → AreCandidates s (not_by_one c sources) k
+    → IsCertificateText f s (not_by_one c sources) k text
+
+-- the line is the first that is wrong
+abbrev pub IsFirstWrongFor : Form → Schema → ℕ → List ℕ → List ℕ → ℕ → Type 0
+IsFirstWrongFor f s c sources text line = (k : Candidates) → AreCandidates s (not_by_one c sources) k
+    → IsWrongAt f s (not_by_one c sources) k text line
+
+-- a certificate has no first wrong line
+abbrev pub NoneIsWrong : Form → Schema → Formula → Candidates → List ℕ → Type 0
+NoneIsWrong f s q k text = (line : ℕ) → IsWrongAt f s q k text line → IsCertificateText f s q k text → ⊥
+
+-- and another text has one at most
+abbrev pub OneIsFirstWrong : Form → Schema → Formula → Candidates → List ℕ → Type 0
+OneIsFirstWrong f s q k text =
+    (line other : ℕ) → IsWrongAt f s q k text line → IsWrongAt f s q k text other → line ≡ other
+
+-- of a schema with so few constraints that they can be numbered by 64 bits
+abbrev pub VerdictsAreOne : Type 0
+VerdictsAreOne = (f : Form) (s : Schema) (q : Formula) (k : Candidates) (text : List ℕ) → IsHierarchy s.graph
+    → length s.constraints < 2 ^ 64 → NoneIsWrong f s q k text × OneIsFirstWrong f s q k text

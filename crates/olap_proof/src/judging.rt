@@ -1,0 +1,75 @@
+// A text, judged line by line.
+ghost use Rattle.std.specs.Prelude.{◌≡◌, ◌++◌, ◌∷◌, ◌↔◌, ◌<◌, ◌^◌, [], Contains, IfOk, IfSome, IsNone, IsTrue, length};
+ghost use Rattle.olap_proof.specs.Asking.{IsAsked, names_in, question_in, schema_in};
+ghost use Rattle.olap_proof.specs.Certificates.{IsCertificateText};
+ghost use Rattle.olap_proof.specs.Stages.{open_at};
+ghost use Rattle.olap_proof.specs.Verifying.{IsWrongAt};
+ghost use Rattle.olap_proof.specs.declared.asking.Asked.{Asked as AnyAsked};
+
+use crate::Form;
+use crate::asking::Asked;
+use crate::lines::cut;
+use crate::stages::{Stage, step};
+use olap_base::Memory;
+use std::alloc::Global;
+
+/// A line, without its LF, and what stands after it, if there is one.
+fn next_line(text: &[u8]) -> Option<(&[u8], &[u8])>
+    ensures some { IfSome result (λ p. text.now ≡ p.0.now ++ 10 ∷ p.1.now) }
+    ensures whole { IfSome result (λ p. Contains p.0.now 10 → ⊥) }
+    ensures none { IsNone result → Contains text.now 10 → ⊥ }
+{
+    match cut(text, b'\n') {
+        (line, Some(others)) => Some((line, others)),
+        (_, None) => None,
+    }
+}
+
+/// Whether nothing is open.
+fn is_done(stage: &Stage) -> bool
+    ensures { (a : AnyAsked) → IsTrue result ↔ (open_at a stage.now ≡ []) }
+{
+    match stage {
+        Stage::Done => true,
+        Stage::Head | Stage::Bottom(_) | Stage::Tree(_) => false,
+    }
+}
+
+/// Whether the text is at its end, and nothing is open.
+fn is_over(rest: &[u8], stage: &Stage) -> bool
+    ensures { (a : AnyAsked) → IsTrue result ↔ ((rest.now ≡ []) × (open_at a stage.now ≡ [])) }
+{
+    rest.is_empty() && is_done(stage)
+}
+
+/// The number of the first line that is wrong, from 1 on, if one is; where the text ends too early, the one after its
+/// last. One pass over the text. `Memory`: out of memory.
+pub(crate) fn first_wrong(
+    alloc: Global,
+    asked: &Asked<'_>,
+    form: Form,
+    text: &[u8],
+) -> Result<Option<u64>, Memory>
+    requires asked { IsAsked asked.now }
+    requires few { length (schema_in asked.now).constraints < 2 ^ 64 }
+    ensures none { IfOk result (λ o. IsNone o
+        → IsCertificateText form (schema_in asked.now) (question_in asked.now) (names_in asked.now) text.now) }
+    ensures some { IfOk result (λ o. IfSome o
+        (IsWrongAt form (schema_in asked.now) (question_in asked.now) (names_in asked.now) text.now)) }
+{
+    let mut stage = Stage::Head;
+    let mut rest = text;
+    let mut count = 0u64;
+    'lines: while let Some((line, others)) = next_line(rest) {
+        match step(alloc, asked, form, stage, line)? {
+            Some(later) => stage = later,
+            None => return Ok(Some(count + 1)),
+        }
+        rest = others;
+        count += 1;
+    }
+    if is_over(rest, &stage) {
+        return Ok(None);
+    }
+    Ok(Some(count + 1))
+}

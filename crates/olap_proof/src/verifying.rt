@@ -1,0 +1,88 @@
+// Whether a text is a certificate.
+ghost use Rattle.std.specs.Prelude.{◌≡◌, ◌≢◌, ◌↔◌, ℕ, All, AllPairs, Err, OnOk};
+ghost use Rattle.olap_ast.specs.Summarizable.{IsSummarizable};
+ghost use Rattle.olap_base.specs.Graph.{IsCategory};
+ghost use Rattle.olap_proof.specs.Verifying.{IsCertificateFor, IsFirstWrongFor, numbers_of};
+ghost use Rattle.olap_proof.specs.declared.verifying.VerifyRefusal.TheVariants as refusal;
+ghost use Rattle.olap_schema.specs.Schemas.{schema_of};
+
+use crate::Form;
+use crate::asking::Asked;
+use crate::judging::first_wrong;
+use crate::questions::{are_distinct, not_by_one};
+use olap_base::{CatId, Memory};
+use olap_names::Candidates;
+use olap_schema::Schema;
+use std::alloc::{AllocError, Global};
+
+/// Why a text isn't accepted, in the order in which it is tested.
+#[derive(Clone, Copy, PartialEq, Eq, Debug)]
+pub enum VerifyRefusal {
+    /// A source stands twice.
+    DuplicateSource,
+    /// The text is no certificate: this line, from 1 on, is the first that is wrong after those above it. A text that
+    /// ends too early is wrong at the line after its last.
+    Rejected { line: u64 },
+    /// There is no room.
+    Memory,
+}
+
+impl From<Memory> for VerifyRefusal {
+    ghost from_gives = { λ _ e. e ≡ refusal.Memory };
+
+    fn from(_: Memory) -> Self {
+        VerifyRefusal::Memory
+    }
+}
+
+impl From<AllocError> for VerifyRefusal {
+    ghost from_gives = { λ _ e. e ≡ refusal.Memory };
+
+    fn from(_: AllocError) -> Self {
+        VerifyRefusal::Memory
+    }
+}
+
+/// Accepts the text exactly if it is a certificate of that form, which says why the target is summarizable from the
+/// sources. Nothing is searched: each line is checked where it stands, in one pass.
+///
+/// `DuplicateSource`: exactly if a source stands twice. `Rejected`: the line is the first that is wrong after those
+/// above it. The target may be a source, and either may be `All`. Cost: for each line that splits or closes what is open
+/// a walk of the schema's edges, or a formula; the memory is that of the decisions above a place, whatever the text's
+/// length.
+pub fn verify(
+    alloc: Global,
+    schema: &Schema,
+    form: Form,
+    target: CatId,
+    sources: &[CatId],
+    text: &[u8],
+) -> Result<(), VerifyRefusal>
+    requires target { IsCategory (schema_of schema.now).graph target.0 }
+    requires sources { All (IsCategory (schema_of schema.now).graph) (numbers_of sources.now) }
+    ensures duplicate { (result ≡ Err refusal.DuplicateSource) ↔ (AllPairs ◌≢◌ (numbers_of sources.now) → ⊥) }
+    ensures ok { OnOk result
+        (IsCertificateFor form (schema_of schema.now) target.0 (numbers_of sources.now) text.now) }
+    ensures rejected { (line : ℕ) → result ≡ Err (refusal.Rejected line)
+        → IsFirstWrongFor form (schema_of schema.now) target.0 (numbers_of sources.now) text.now line }
+    ensures summarizable { OnOk result
+        (IsSummarizable (schema_of schema.now) target.0 (numbers_of sources.now)) }
+{
+    if !are_distinct(sources) {
+        return Err(VerifyRefusal::DuplicateSource);
+    }
+    let graph = schema.graph();
+    let constraints = schema.constraints();
+    let question = not_by_one(alloc, target, sources)?;
+    let candidates = Candidates::of(alloc, graph.categories(), constraints, &question)?;
+    let asked = Asked {
+        graph,
+        constraints,
+        question: &question,
+        candidates: &candidates,
+    };
+    match first_wrong(alloc, &asked, form, text)? {
+        None => Ok(()),
+        Some(line) => Err(VerifyRefusal::Rejected { line }),
+    }
+}
