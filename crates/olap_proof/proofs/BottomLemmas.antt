@@ -14,7 +14,7 @@ use Rattle.olap_base.specs.Graph.{Edge, Graph, IsBottom, IsDeclared}
 use Rattle.olap_ast.specs.Formula.{Formula}
 use Rattle.olap_ast.specs.Frozen.{Candidates}
 use Rattle.olap_ast.specs.Schema.{Schema}
-use Rattle.olap_proof.specs.declared.forms.Form.TheVariants.{Long}
+use Rattle.olap_proof.specs.declared.forms.Form.{Form}
 use Rattle.olap_proof.specs.Certificates.{IsCertificateText, Open.Bottom, Runs, Runs.more, Runs.none, Steps.begins, bottoms_of, ended, head_text}
 use Rattle.olap_proof.specs.Trees.{Adds}
 use Rattle.olap_proof.proofs.CertificateLemmas.{bottom_listed}
@@ -54,29 +54,29 @@ bottoms_same g n b e d h =
     (Contains-range_at 1 (length g.names) b (omega arith) (let l = d.1 in omega arith))))))
     ∙ append-nil (first_bottoms g n)
 
-module _ (s : Schema) (q : Formula) (k : Candidates) where
+module _ (m : Form) (s : Schema) (q : Formula) (k : Candidates) where
   -- one bottom category's tree more
   pub bottom_written : (n b : ℕ) (a c d : List ℕ) → 1 + n ≡ b → IsBottom s.graph b
-      → Adds s q k (map Bottom (first_bottoms s.graph n)) a c → Adds s q k (Bottom b ∷ []) c d
-      → Adds s q k (map Bottom (first_bottoms s.graph (n + 1))) a d
+      → Adds m s q k (map Bottom (first_bottoms s.graph n)) a c → Adds m s q k (Bottom b ∷ []) c d
+      → Adds m s q k (map Bottom (first_bottoms s.graph (n + 1))) a d
   bottom_written n b a c d e h f i =
-      subst (λ os. Adds s q k os a d)
+      subst (λ os. Adds m s q k os a d)
       (sym (ap (map Bottom) (bottoms_more s.graph n b e h) ∙ map-append Bottom (first_bottoms s.graph n) (b ∷ [])))
-      (adds_more s q k (map Bottom (first_bottoms s.graph n)) (Bottom b ∷ []) a c d f i)
+      (adds_more m s q k (map Bottom (first_bottoms s.graph n)) (Bottom b ∷ []) a c d f i)
 
   -- or none
   pub none_written : (n b : ℕ) (a c : List ℕ) → 1 + n ≡ b → IsDeclared s.graph b → (IsBottom s.graph b → ⊥)
-      → Adds s q k (map Bottom (first_bottoms s.graph n)) a c
-      → Adds s q k (map Bottom (first_bottoms s.graph (n + 1))) a c
+      → Adds m s q k (map Bottom (first_bottoms s.graph n)) a c
+      → Adds m s q k (map Bottom (first_bottoms s.graph (n + 1))) a c
   none_written n b a c e d h f =
-      subst (λ os. Adds s q k os a c) (sym (ap (map Bottom) (bottoms_same s.graph n b e d h))) f
+      subst (λ os. Adds m s q k os a c) (sym (ap (map Bottom) (bottoms_same s.graph n b e d h))) f
 
   -- all are a certificate, below its first line
-  pub certified : (a c : List ℕ) → a ≡ head_text Long ++ 10 ∷ []
-      → Adds s q k (map Bottom (first_bottoms s.graph (length s.graph.names))) a c → IsCertificateText Long s q k c
+  pub certified : (a c : List ℕ) → a ≡ head_text m ++ 10 ∷ []
+      → Adds m s q k (map Bottom (first_bottoms s.graph (length s.graph.names))) a c → IsCertificateText m s q k c
   certified a c e f = (
-    head_text Long ∷ f.0,
+    head_text m ∷ f.0,
     f.1 ∙ ap (λ x. x ++ ended f.0) e,
-    more begins (subst (λ ls. Runs Long s q k ls (map Bottom (bottoms_of s.graph) ++ []) []) (append-nil f.0)
+    more begins (subst (λ ls. Runs m s q k ls (map Bottom (bottoms_of s.graph) ++ []) []) (append-nil f.0)
         (f.2 [] [] [] none)),
   )

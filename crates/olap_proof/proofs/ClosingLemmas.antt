@@ -1,11 +1,12 @@
--- Whether a line of the long form closes a place can be decided; where nothing is left to decide, one does, or there
+-- Whether a line closes a place can be decided; where nothing is left to decide, one does, or there
 -- is a frozen dimension.
 --     search                whether something of a list has a property
 --     dec_cycle             whether a graph holds a cycle
 --     dec_shortcut          whether it holds a shortcut
 --     some_unmet            whether some constraint is unmet
 --     full_places_close     where nothing is left to decide
-use Rattle.std.proofs.Common.{◌≡◌, ℕ, zero, suc, ◌<◌, List, [], ◌∷◌, length, Bool, true, false, Option, Some, None, refl, sym, subst, ◌⊎◌, inl, inr, arith}
+use Rattle.std.specs.Prelude.{◌==◌, ◌&&◌, ◌||◌, ◌≢◌}
+use Rattle.std.proofs.Common.{cond, ◌≡◌, ℕ, zero, suc, ◌<◌, List, [], ◌∷◌, length, Bool, true, false, Option, Some, None, refl, sym, subst, ◌⊎◌, inl, inr, arith}
 use Rattle.std.specs.Prelude.{All, Contains, IsTrue}
 use Rattle.std.specs.List.{range_with_len}
 use Rattle.std.proofs.lemmas.List.Elements.{All-cons, All-head, All-nil, All-tail}
@@ -22,11 +23,16 @@ use Rattle.olap_ast.specs.declared.three_values.Truth3.TheVariants.{No, Yes, Unk
 use Rattle.olap_eval.specs.Partial.{value_at}
 use Rattle.olap_graph.specs.Lookups.{edge_at, edges_from}
 use Rattle.olap_trail.specs.Decisions.{Decision, HoldsCycle, HoldsShortcut, present_graph, status_of}
-use Rattle.olap_proof.specs.declared.forms.Form.TheVariants.{Long}
+use Rattle.olap_proof.specs.declared.forms.Form.{Form}
+use Rattle.olap_proof.specs.declared.forms.Form.TheVariants.{Long, Short}
 use Rattle.olap_proof.specs.FullPlaces.{FullPlacesClose, IsFull}
-use Rattle.olap_proof.specs.Lines.{Closes, IsAbout, IsDead, IsLoose, IsUnmet, IsUnmetAt, Line, Line.Asked, Line.Cycle, Line.Dead, Line.Loose, Line.Shortcut, Line.Unmet}
-use Rattle.olap_proof.specs.Places.{Naming, Place, is_known, knowledge, possible_graph}
-use Rattle.olap_proof.proofs.FullPlaceLemmas.{frozen_there, sound, value_of_place}
+use Rattle.olap_proof.proofs.LineLemmas.{edge_there}
+use Rattle.olap_proof.proofs.AgreeingLemmas.{wider}
+use Rattle.std.proofs.lemmas.Bool.{ne_eqb}
+use Rattle.olap_base.specs.Reaching.{category_reaches, category_reaches_is}
+use Rattle.olap_proof.specs.Lines.{Closes, IsAbout, IsDead, IsLoose, IsUnmet, IsUnmetAt, Line, Line.Asked, Line.Cycle, Line.Dead, Line.Loose, Line.Shortcut, Line.Unmet, Line.Unreached}
+use Rattle.olap_proof.specs.Places.{Naming, Place, is_known, knowledge, leading_graph, possible_graph, reached}
+use Rattle.olap_proof.proofs.FullPlaceLemmas.{child_known, frozen_there, joins_possible, leading_joins, reaches_all, sound, value_of_place}
 
 -- ---- decisions
 
@@ -138,31 +144,31 @@ dec_loose g p e = dec_three (dec_not (ℕ_discrete (edge_at g e).child p.decided
     (dec_not (decide_category_reaches (possible_graph p.decided) p.decided.root (edge_at g e).child))
 
 -- whether some constraint of these is unmet
-pub some_unmet : (k : Candidates) (p : Place) (cs : List Constraint) → Dec ((n : ℕ) × IsUnmetAt Long cs n k p)
-some_unmet k p [] = no (λ w. w.1)
-some_unmet k p (c ∷ cs) = go (dec_and (dec_true (is_known p c.root))
-    (dec_false (value_at (knowledge Long k p) c.root c.formula))) (some_unmet k p cs)
+pub some_unmet : (m : Form) (k : Candidates) (p : Place) (cs : List Constraint) → Dec ((n : ℕ) × IsUnmetAt m cs n k p)
+some_unmet m k p [] = no (λ w. w.1)
+some_unmet m k p (c ∷ cs) = go (dec_and (dec_true (is_known p c.root))
+    (dec_false (value_at (knowledge m k p) c.root c.formula))) (some_unmet m k p cs)
   where
-    neither : (IsUnmet Long k p c → ⊥) → ((n : ℕ) × IsUnmetAt Long cs n k p → ⊥) → (n : ℕ)
-        → IsUnmetAt Long (c ∷ cs) n k p → ⊥
+    neither : (IsUnmet m k p c → ⊥) → ((n : ℕ) × IsUnmetAt m cs n k p → ⊥) → (n : ℕ)
+        → IsUnmetAt m (c ∷ cs) n k p → ⊥
     neither a b zero h = a h
     neither a b (suc n) h = b (n, h)
 
-    go : Dec (IsUnmet Long k p c) → Dec ((n : ℕ) × IsUnmetAt Long cs n k p)
-        → Dec ((n : ℕ) × IsUnmetAt Long (c ∷ cs) n k p)
+    go : Dec (IsUnmet m k p c) → Dec ((n : ℕ) × IsUnmetAt m cs n k p)
+        → Dec ((n : ℕ) × IsUnmetAt m (c ∷ cs) n k p)
     go (yes h) d = yes (0, h)
     go (no a) (yes w) = yes (suc w.0, w.1)
     go (no a) (no b) = no (λ w. neither a b w.0 w.1)
 
 -- a constraint that is unmet is one of them
-unmet_inside : (k : Candidates) (p : Place) (cs : List Constraint) (n : ℕ) → IsUnmetAt Long cs n k p → n < length cs
-unmet_inside k p [] n h = absurd h
-unmet_inside k p (c ∷ cs) zero h = omega arith
-unmet_inside k p (c ∷ cs) (suc n) h = let i = unmet_inside k p cs n h in omega arith
+unmet_inside : (m : Form) (k : Candidates) (p : Place) (cs : List Constraint) (n : ℕ) → IsUnmetAt m cs n k p → n < length cs
+unmet_inside m k p [] n h = absurd h
+unmet_inside m k p (c ∷ cs) zero h = omega arith
+unmet_inside m k p (c ∷ cs) (suc n) h = let i = unmet_inside m k p cs n h in omega arith
 
 -- ---- where nothing is left to decide
 
-module _ (s : Schema) (q : Formula) (k : Candidates) (hier : IsHierarchy s.graph) (are : AreCandidates s q k) (r : ℕ)
+module _ (m : Form) (s : Schema) (q : Formula) (k : Candidates) (hier : IsHierarchy s.graph) (are : AreCandidates s q k) (r : ℕ)
     (ds : List Decision) (ns : List Naming)
     (full : IsFull s.graph k (record {
       decided = record { graph = s.graph; root = r; decisions = ds };
@@ -173,21 +179,59 @@ module _ (s : Schema) (q : Formula) (k : Candidates) (hier : IsHierarchy s.graph
   p = record { decided = record { graph = s.graph; root = r; decisions = ds }; namings = ns; ways = [] }
 
   abbrev pub Answer : Type 0
-  Answer = ((l : Line) × IsAbout s l × Closes Long s q k p l) ⊎ ((f : Frozen) × IsFrozen s q r k f)
+  Answer = ((l : Line) × IsAbout s l × Closes m s q k p l) ⊎ ((f : Frozen) × IsFrozen s q r k f)
+
+  -- an edge that is loose is so in the words of either form
+  by_loose : (f : Form) (e : ℕ) → e < length s.graph.edges → IsLoose s.graph p e
+      → (l : Line) × IsAbout s l × Closes f s q k p l
+  by_loose Long e h w = (Loose e, h, (refl, w))
+  by_loose Short e h w =
+      let x = edge_at s.graph e in
+      let i : Contains s.graph.edges x = edge_there s.graph e h in (
+        Unreached x.child,
+        (hier.categories x.child x.parent i).0,
+        (
+          refl,
+          (
+            w.0,
+            child_known s k hier r ds ns full e h w.1,
+            cut_off x.child
+                (λ z. hier.none_from_all x.parent (subst (λ c. HasEdge s.graph c x.parent) z i)) w.2,
+          ),
+        ),
+      )
+    where
+      -- what the root can't reach by possible edges isn't reached
+      cut_off : (c : ℕ) → c ≢ 0 → (CategoryReaches (possible_graph p.decided) r c → ⊥) → reached Short p r c ≡ No
+      cut_off c n u =
+          go (is_known p r) (c == 0) (ne_eqb c 0 n) (category_reaches (leading_graph p) r c) refl
+          (category_reaches (possible_graph p.decided) r c) refl
+        where
+          go : (a b : Bool) → b ≡ false → (d : Bool) → category_reaches (leading_graph p) r c ≡ d
+              → (w : Bool) → category_reaches (possible_graph p.decided) r c ≡ w
+              → cond (a && (b || d)) Yes (cond w Unknown No) ≡ No
+          go a true z d y w v = absurd (cc)
+          go a false z d y true v = absurd (u ((category_reaches_is (possible_graph p.decided) r c).0 v))
+          go false false z d y false v = refl
+          go true false z true y false v = absurd (u (reaches_from_Steps
+              (wider (λ i j o. joins_possible s k hier r ds ns full i j (leading_joins s k hier r ds ns full i j o))
+              (Steps-from_reaches ((category_reaches_is (leading_graph p) r c).0 y)))))
+          go true false z false y false v = refl
 
   -- if no line on the laws closes the place
   by_formulas : (HoldsCycle (present_graph p.decided) → ⊥) → (HoldsShortcut (present_graph p.decided) → ⊥)
       → ((c : ℕ) → c < category_count s.graph → IsDead s.graph p c → ⊥)
       → ((e : ℕ) → e < length s.graph.edges → IsLoose s.graph p e → ⊥) → Answer
-  by_formulas no_cycle no_shortcut no_dead no_loose = go (some_unmet k p s.constraints)
-      (dec_false (value_at (knowledge Long k p) r q))
+  by_formulas no_cycle no_shortcut no_dead no_loose = go (some_unmet m k p s.constraints)
+      (dec_false (value_at (knowledge m k p) r q))
     where
-      go : Dec ((n : ℕ) × IsUnmetAt Long s.constraints n k p) → Dec (value_at (knowledge Long k p) r q ≡ No) → Answer
-      go (yes w) d = inl (Unmet w.0, unmet_inside k p s.constraints w.0 w.1, w.1)
+      go : Dec ((n : ℕ) × IsUnmetAt m s.constraints n k p) → Dec (value_at (knowledge m k p) r q ≡ No) → Answer
+      go (yes w) d = inl (Unmet w.0, unmet_inside m k p s.constraints w.0 w.1, w.1)
       go (no a) (yes h) = inl (Asked, tt, h)
       go (no a) (no b) = inr (
         value_of_place s.graph r ds ns,
-        frozen_there s k hier r ds ns full q are
+        frozen_there s k hier r ds ns full m
+            (reaches_all s k hier r ds ns full no_cycle no_shortcut no_dead no_loose) q are
             (sound s k hier r ds ns full no_cycle no_shortcut no_dead no_loose) (λ n h. a (n, h)) b,
       )
 
@@ -202,17 +246,17 @@ module _ (s : Schema) (q : Formula) (k : Candidates) (hier : IsHierarchy s.graph
       go (yes h) b c d = inl (Cycle, tt, h)
       go (no a) (yes h) c d = inl (Shortcut, tt, h)
       go (no a) (no b) (yes w) d = inl (Dead w.0, Contains-from_range (category_count s.graph) w.0 w.1, w.2)
-      go (no a) (no b) (no c) (yes w) = inl
-          (Loose w.0, Contains-from_range (length s.graph.edges) w.0 w.1, (refl, w.2))
+      go (no a) (no b) (no c) (yes w) =
+          inl (by_loose m w.0 (Contains-from_range (length s.graph.edges) w.0 w.1) w.2)
       go (no a) (no b) (no c) (no d) = by_formulas a b
           (λ x h i. c (x, Contains-range (category_count s.graph) x h, i))
           (λ e h i. d (e, Contains-range (length s.graph.edges) e h, i))
 
 pub full_places_close : FullPlacesClose
-full_places_close s q k p hier are full =
-    subst (λ (x : Place). IsFull s.graph k x → ((l : Line) × IsAbout s l × Closes Long s q k x l)
+full_places_close m s q k p hier are full =
+    subst (λ (x : Place). IsFull s.graph k x → ((l : Line) × IsAbout s l × Closes m s q k x l)
     ⊎ ((f : Frozen) × IsFrozen s q x.decided.root k f)) same
-    (λ h. closes_or_frozen s q k hier are p.decided.root p.decided.decisions p.namings h) full
+    (λ h. closes_or_frozen m s q k hier are p.decided.root p.decided.decisions p.namings h) full
   where
     same : record {
       decided = record { graph = s.graph; root = p.decided.root; decisions = p.decided.decisions };

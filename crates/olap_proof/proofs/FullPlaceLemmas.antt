@@ -4,6 +4,7 @@
 --     known_present      what is known to have a member has one
 --     sound              the laws hold, if no line on the laws closes
 --     truth_at           a formula that isn't known to be false is true
+--     reaches_all        what has a member reaches all, likewise
 --     frozen_there       what was decided is a frozen dimension, if no line on formulas closes either
 use Rattle.std.proofs.Common.{◌≡◌, ℕ, zero, suc, ◌<◌, ◌≤◌, List, [], ◌∷◌, length, map, get_or, Bool, true, false, cond, Option, Some, None, refl, ap, sym, subst, ◌∙◌, ◌⊎◌, inl, inr, arith}
 use Rattle.std.specs.Prelude.{All, Contains, ◌==◌, ◌&&◌, ◌||◌, ◌≢◌, codes, filter}
@@ -36,15 +37,21 @@ use Rattle.olap_frozen.proofs.ChosenLemmas.{bit_joins, choice_of, chosen_place, 
 use Rattle.olap_graph.specs.Lookups.{edge_at, edge_between, edges_from}
 use Rattle.olap_names.specs.Names.{name_at}
 use Rattle.olap_trail.specs.Decisions.{Decided, Decision, HoldsCycle, HoldsShortcut, present_edges, present_graph, status_in, status_of}
-use Rattle.olap_proof.specs.declared.forms.Form.TheVariants.{Long}
+use Rattle.olap_proof.specs.declared.forms.Form.{Form}
+use Rattle.olap_proof.specs.declared.forms.Form.TheVariants.{Long, Short}
 use Rattle.olap_proof.specs.FullPlaces.{IsFull}
 use Rattle.olap_proof.specs.Lines.{IsDead, IsLoose, IsUnmetAt}
-use Rattle.olap_proof.specs.Places.{Naming, Place, index_of, indexed, is_known, is_possible, knowledge, leading, leading_graph, name_of, possible_graph, reached, told, told_between, told_name}
+use Rattle.olap_proof.specs.Places.{Naming, Place, index_of, indexed, is_known, is_possible, is_top, knowledge, leading, leading_graph, name_of, possible_graph, reached, told, told_between, told_name}
 use Rattle.olap_proof.proofs.AgreeingLemmas.{status_some, walk_present, wider, wider_climb}
 use Rattle.olap_proof.proofs.TallyLemmas.{false_from, tally, tally_more}
 use Rattle.olap_proof.proofs.ToldLemmas.{IsTold, formula_told, truth_told, unmet_listed}
 
 -- ---- decisions
+
+-- the top is 0
+top_zero : (m : Form) (b : ℕ) → is_top m b ≡ true → b ≡ 0
+top_zero Long b h = absurd (cc)
+top_zero Short b h = same_is b 0 h
 
 -- where no edge is decided twice, each decision tells of its edge
 pub status_there : (ds : List Decision) (d : Decision) → Distinct (map (λ (x : Decision). x.edge) ds) → Contains ds d
@@ -220,6 +227,14 @@ module _ (s : Schema) (k : Candidates) (hier : IsHierarchy s.graph) (r : ℕ) (d
   pub present_known : (c : ℕ) → present c ≡ true → is_known p c ≡ true
   present_known c h = present_kept r c es (leading p) joins_leading h
 
+  -- the child of an edge that was decided present is known
+  pub child_known : (e : ℕ) → e < length s.graph.edges → status_in ds e ≡ Some true
+      → is_known p (edge_at s.graph e).child ≡ true
+  child_known e h q =
+      let x = edge_at s.graph e in
+      present_known x.child
+      (made.child_present s.graph r es ch x.child x.parent (taken_joins x (e, h, q, refl)))
+
   pub steps_present : (c d : ℕ) → Steps (Joins es) c d → category_reaches (present_graph t) c d ≡ true
   steps_present c d w = (category_reaches_is (present_graph t) c d).1 (reaches_from_Steps (wider joins_present w))
 
@@ -310,20 +325,26 @@ module _ (s : Schema) (k : Candidates) (hier : IsHierarchy s.graph) (r : ℕ) (d
         (false_from (category_reaches (present_graph t) d c) (λ h. acyclic c (climb j (present_steps d c h))))
         (steps_present c c here)
 
-    climbs_to_all : (n c : ℕ) → count c < n → present c ≡ true → present 0 ≡ true
+    climbs_to_all : (n c : ℕ) → count c < n → present c ≡ true → Steps (Joins es) c 0
     climbs_to_all zero c l h = absurd (omega arith)
     climbs_to_all (suc n) c l h = elim (ℕ_discrete c 0) [
-      | yes e ↦ subst (λ x. present x ≡ true) e h
+      | yes e ↦ subst (λ x. Steps (Joins es) c x) e here
       | no m ↦
           let u = upward c h m in
           let f = fewer c u.0 u.1 in
-          climbs_to_all n u.0 (omega arith) (made.parent_present s.graph r es ch c u.0 u.1)
+          step u.1 (climbs_to_all n u.0 (omega arith) (made.parent_present s.graph r es ch c u.0 u.1))
     ]
+
+    -- what is present reaches all
+    pub reaches_all : (c : ℕ) → present c ≡ true → Steps (Joins es) c 0
+    reaches_all c h = climbs_to_all (suc (count c)) c (omega arith) h
 
     -- the laws hold
     pub sound : IsSound r es
     sound = record {
-      top = climbs_to_all (suc (count r)) r (omega arith) (made.root_present s.graph r es ch);
+      top =
+          let root = made.root_present s.graph r es ch in
+          walk_present s.graph r es ch root (reaches_all r root);
       reached = root_reaches;
       upward = upward;
       acyclic = acyclic;
@@ -429,48 +450,6 @@ module _ (s : Schema) (k : Candidates) (hier : IsHierarchy s.graph) (r : ℕ) (d
           subst (λ o. Tells (told o) (HasEdgeThere inst present place c d) × IsTold (told o)) (sym q.1)
           (of_bit i e q.0 (bit_at i h ∙ ap bit_of q.1))
 
-  reach_is : (c e : ℕ) → Tells (reached Long p c e) (ReachesThere inst present place c e)
-  reach_is c e = go (is_known p c) refl (category_reaches (leading_graph p) c e) refl
-      (category_reaches (possible_graph t) c e) refl
-    where
-      unreached : category_reaches (possible_graph t) c e ≡ false → ReachesThere inst present place c e → ⊥
-      unreached x h =
-          let w = (made.reaches_walk s.graph r es ch name c e h.0 h.1).0 h.2 in
-          let v = (category_reaches_is (possible_graph t) c e).1 (reaches_from_Steps (wider joins_possible w)) in
-          let z : true ≡ false = sym v ∙ x in cc
-
-      go : (a : Bool) → is_known p c ≡ a → (b : Bool) → category_reaches (leading_graph p) c e ≡ b
-          → (w : Bool) → category_reaches (possible_graph t) c e ≡ w
-          → Tells (cond (a && b) Yes (cond w Unknown No)) (ReachesThere inst present place c e)
-      go true x true y w z =
-          let h = known_present c x in
-          let v = wider leading_joins (Steps-from_reaches ((category_reaches_is (leading_graph p) c e).0 y)) in
-          let i = walk_present s.graph r es ch h v in
-          (h, i, (made.reaches_walk s.graph r es ch name c e h i).1 v)
-      go true x false y true z = tt
-      go true x false y false z = unreached z
-      go false x b y true z = tt
-      go false x b y false z = unreached z
-
-  reach_told : (c e : ℕ) → present c ≡ true → IsTold (reached Long p c e)
-  reach_told c e h = go (is_known p c) (present_known c h) (category_reaches (leading_graph p) c e) refl
-      (category_reaches (possible_graph t) c e) refl
-    where
-      go : (a : Bool) → a ≡ true → (b : Bool) → category_reaches (leading_graph p) c e ≡ b
-          → (w : Bool) → category_reaches (possible_graph t) c e ≡ w → IsTold (cond (a && b) Yes (cond w Unknown No))
-      go false x b y w z = absurd (cc)
-      go true x true y w z = tt
-      go true x false y false z = tt
-      go true x false y true z =
-          let v = wider possible_joins (Steps-from_reaches ((category_reaches_is (possible_graph t) c e).0 z)) in
-          let u = (category_reaches_is (leading_graph p) c e).1 (reaches_from_Steps (wider joins_leading v)) in
-          let z : true ≡ false = sym u ∙ y in absurd (cc)
-
-  reach_there : (c e : ℕ) → reached Long p c e ≡ Yes → present e ≡ true
-  reach_there c e q =
-      let h : ReachesThere inst present place c e =
-      subst (λ v. Tells v (ReachesThere inst present place c e)) q (reach_is c e) in h.1
-
   name_is : (c : ℕ) (text : List ℕ)
       → Tells (told_name p c (name_of k ns c) text) (HasNameThere inst present place c text)
   name_is c text = go (name_of k ns c) refl
@@ -505,59 +484,113 @@ module _ (s : Schema) (k : Candidates) (hier : IsHierarchy s.graph) (r : ℕ) (d
       go true false y = absurd (cc)
       go false b y = tt
 
-  completes : Completes (knowledge Long k p) inst present place
-  completes = record { edges = λ c d. (edge_is c d).0; reaching = reach_is; names = name_is }
+  -- what is known to lead on is so, where each category reaches all
+  module _ (m : Form) (tops : (c : ℕ) → present c ≡ true → Steps (Joins es) c 0) where
+    leads_walk : (c e : ℕ) → present c ≡ true → is_top m e || category_reaches (leading_graph p) c e ≡ true
+        → Steps (Joins es) c e
+    leads_walk c e h y = elim (either_true (is_top m e) (category_reaches (leading_graph p) c e) y) [
+      | inl a ↦ subst (λ x. Steps (Joins es) c x) (sym (top_zero m e a)) (tops c h)
+      | inr a ↦ wider leading_joins (Steps-from_reaches ((category_reaches_is (leading_graph p) c e).0 a))
+    ]
 
-  -- what isn't known to be false is true
-  pub truth_at : (c : ℕ) (f : Formula) → present c ≡ true → (value_at (knowledge Long k p) c f ≡ No → ⊥)
-      → Holds inst (place c) f
-  truth_at c f h n =
-      truth_told (value_at (knowledge Long k p) c f) (Holds inst (place c) f)
-      (values_are_truths (knowledge Long k p) inst present place (made.chosen_shape s.graph r es ch name) completes c h
-      f)
-      (formula_told (knowledge Long k p) (λ c. present c ≡ true) (λ c d. (edge_is c d).1) reach_told reach_there
-      name_told c h f) n
-
-  -- ---- the frozen dimension
-
-  module _ (q : Formula) (are : AreCandidates s q k) (lawful : IsSound r es)
-      (no_unmet : (n : ℕ) → IsUnmetAt Long s.constraints n k p → ⊥)
-      (not_asked : value_at (knowledge Long k p) r q ≡ No → ⊥) where
-    met : IsMet s q r es name
-    met = record {
-      meets = λ c m h. truth_at c.root c.formula h (λ n.
-          let w = unmet_listed k p s.constraints c m (present_known c.root h, n) in no_unmet w.0 w.1);
-      question = truth_at r q (made.root_present s.graph r es ch) not_asked;
-    }
-
-    abbrev indexes : List ℕ
-    indexes = map (index_there s.graph r ds ns) (range_with_len 0 (length s.graph.names))
-
-    name_count : length indexes ≡ length s.graph.names
-    name_count =
-        length-map (range_with_len 0 (length s.graph.names)) (index_there s.graph r ds ns)
-        ∙ length-range_with_len 0 (length s.graph.names)
-
-    index_is : (c : ℕ) → c < length indexes → get_or indexes c 0 ≡ index_there s.graph r ds ns c
-    index_is c h =
-        get_or-map-range_with_len (index_there s.graph r ds ns) 0 (length s.graph.names) c c 0
-        (let n = name_count in omega arith) (omega arith)
-
-    small : (c : ℕ) → index_there s.graph r ds ns c ≤ length (k.texts (suc c))
-    small c = go (present (suc c)) (index_of ns (suc c)) refl
+    reach_is : (c e : ℕ) → Tells (reached m p c e) (ReachesThere inst present place c e)
+    reach_is c e = go (is_known p c) refl (is_top m e || category_reaches (leading_graph p) c e) refl
+        (category_reaches (possible_graph t) c e) refl
       where
-        go : (b : Bool) (o : Option ℕ) → index_of ns (suc c) ≡ o → cond b (index_or o) 0 ≤ length (k.texts (suc c))
-        go false o e = omega arith
-        go true None e = omega arith
-        go true (Some i) e = full.in_range (suc c) i e
+        unreached : category_reaches (possible_graph t) c e ≡ false → ReachesThere inst present place c e → ⊥
+        unreached x h =
+            let w = (made.reaches_walk s.graph r es ch name c e h.0 h.1).0 h.2 in
+            let v = (category_reaches_is (possible_graph t) c e).1 (reaches_from_Steps (wider joins_possible w)) in
+            let z : true ≡ false = sym v ∙ x in cc
 
-    -- what was decided
-    pub frozen_there : IsFrozen s q r k (value_of_place s.graph r ds ns)
-    frozen_there = record {
-      edge_count = length-map (range_with_len 0 (length s.graph.edges)) (λ e. bit_of (status_in ds e))
-          ∙ length-range_with_len 0 (length s.graph.edges);
-      name_count = name_count;
-      in_range = λ c h. let e = index_is c h in let l = small c in omega arith;
-      absent = λ c h a. index_is c h ∙ ap (λ b. cond b (index_or (index_of ns (suc c))) 0) a;
-      stands_for = made.frozen_from s q r es ch name (are_names q are) lawful met;
-    }
+        go : (a : Bool) → is_known p c ≡ a
+            → (b : Bool) → is_top m e || category_reaches (leading_graph p) c e ≡ b
+            → (w : Bool) → category_reaches (possible_graph t) c e ≡ w
+            → Tells (cond (a && b) Yes (cond w Unknown No)) (ReachesThere inst present place c e)
+        go true x true y w z =
+            let h = known_present c x in
+            let v = leads_walk c e h y in
+            let i = walk_present s.graph r es ch h v in
+            (h, i, (made.reaches_walk s.graph r es ch name c e h i).1 v)
+        go true x false y true z = tt
+        go true x false y false z = unreached z
+        go false x b y true z = tt
+        go false x b y false z = unreached z
+
+    reach_told : (c e : ℕ) → present c ≡ true → IsTold (reached m p c e)
+    reach_told c e h = go (is_known p c) (present_known c h)
+        (is_top m e || category_reaches (leading_graph p) c e) refl
+        (category_reaches (possible_graph t) c e) refl
+      where
+        go : (a : Bool) → a ≡ true → (b : Bool) → is_top m e || category_reaches (leading_graph p) c e ≡ b
+            → (w : Bool) → category_reaches (possible_graph t) c e ≡ w → IsTold (cond (a && b) Yes (cond w Unknown No))
+        go false x b y w z = absurd (cc)
+        go true x true y w z = tt
+        go true x false y false z = tt
+        go true x false y true z =
+            let v = wider possible_joins (Steps-from_reaches ((category_reaches_is (possible_graph t) c e).0 z)) in
+            let u = (category_reaches_is (leading_graph p) c e).1 (reaches_from_Steps (wider joins_leading v)) in
+            let z : true ≡ false =
+            sym (right_true (is_top m e) (category_reaches (leading_graph p) c e) u) ∙ y in absurd (cc)
+
+    reach_there : (c e : ℕ) → reached m p c e ≡ Yes → present e ≡ true
+    reach_there c e q =
+        let h : ReachesThere inst present place c e =
+        subst (λ v. Tells v (ReachesThere inst present place c e)) q (reach_is c e) in h.1
+
+    completes : Completes (knowledge m k p) inst present place
+    completes = record { edges = λ c d. (edge_is c d).0; reaching = reach_is; names = name_is }
+
+    -- what isn't known to be false is true
+    pub truth_at : (c : ℕ) (f : Formula) → present c ≡ true → (value_at (knowledge m k p) c f ≡ No → ⊥)
+        → Holds inst (place c) f
+    truth_at c f h n =
+        truth_told (value_at (knowledge m k p) c f) (Holds inst (place c) f)
+        (values_are_truths (knowledge m k p) inst present place (made.chosen_shape s.graph r es ch name) completes c h
+        f)
+        (formula_told (knowledge m k p) (λ c. present c ≡ true) (λ c d. (edge_is c d).1) reach_told reach_there
+        name_told c h f) n
+
+    -- ---- the frozen dimension
+
+    module _ (q : Formula) (are : AreCandidates s q k) (lawful : IsSound r es)
+        (no_unmet : (n : ℕ) → IsUnmetAt m s.constraints n k p → ⊥)
+        (not_asked : value_at (knowledge m k p) r q ≡ No → ⊥) where
+      met : IsMet s q r es name
+      met = record {
+        meets = λ c i h. truth_at c.root c.formula h (λ n.
+            let w = unmet_listed m k p s.constraints c i (present_known c.root h, n) in no_unmet w.0 w.1);
+        question = truth_at r q (made.root_present s.graph r es ch) not_asked;
+      }
+
+      abbrev indexes : List ℕ
+      indexes = map (index_there s.graph r ds ns) (range_with_len 0 (length s.graph.names))
+
+      name_count : length indexes ≡ length s.graph.names
+      name_count =
+          length-map (range_with_len 0 (length s.graph.names)) (index_there s.graph r ds ns)
+          ∙ length-range_with_len 0 (length s.graph.names)
+
+      index_is : (c : ℕ) → c < length indexes → get_or indexes c 0 ≡ index_there s.graph r ds ns c
+      index_is c h =
+          get_or-map-range_with_len (index_there s.graph r ds ns) 0 (length s.graph.names) c c 0
+          (let n = name_count in omega arith) (omega arith)
+
+      small : (c : ℕ) → index_there s.graph r ds ns c ≤ length (k.texts (suc c))
+      small c = go (present (suc c)) (index_of ns (suc c)) refl
+        where
+          go : (b : Bool) (o : Option ℕ) → index_of ns (suc c) ≡ o → cond b (index_or o) 0 ≤ length (k.texts (suc c))
+          go false o e = omega arith
+          go true None e = omega arith
+          go true (Some i) e = full.in_range (suc c) i e
+
+      -- what was decided
+      pub frozen_there : IsFrozen s q r k (value_of_place s.graph r ds ns)
+      frozen_there = record {
+        edge_count = length-map (range_with_len 0 (length s.graph.edges)) (λ e. bit_of (status_in ds e))
+            ∙ length-range_with_len 0 (length s.graph.edges);
+        name_count = name_count;
+        in_range = λ c h. let e = index_is c h in let l = small c in omega arith;
+        absent = λ c h a. index_is c h ∙ ap (λ b. cond b (index_or (index_of ns (suc c))) 0) a;
+        stands_for = made.frozen_from s q r es ch name (are_names q are) lawful met;
+      }

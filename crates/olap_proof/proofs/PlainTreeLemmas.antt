@@ -23,7 +23,7 @@ use Rattle.olap_ast.specs.Summarizable.{not_by_one}
 use Rattle.olap_ast.proofs.Shape.{is_same, list_any_is}
 use Rattle.olap_ast.proofs.Summing.{summarizable_exactly}
 use Rattle.olap_trail.specs.Decisions.{AreDecisions, Decision, status_in}
-use Rattle.olap_proof.specs.declared.forms.Form.TheVariants.{Long}
+use Rattle.olap_proof.specs.declared.forms.Form.{Form}
 use Rattle.olap_proof.specs.Certificates.{IsCertificate, Open, Open.At, Open.Bottom, Runs, Runs.more, Runs.none, Steps.begins, Steps.closes, Steps.edges, Steps.names, Steps.roots, bottom_text, bottoms_of, head_text, indexes_of, start, with_edge, with_name}
 use Rattle.olap_proof.specs.Existing.{CertificatesExistExactlyWhereSummarizable}
 use Rattle.olap_proof.specs.FullPlaces.{IsFull}
@@ -104,16 +104,16 @@ index_other (x ∷ ns) c i d n = ap (λ o. cond (x.category == d) (Some x.index)
 
 -- ---- trees
 
-module _ (s : Schema) (q : Formula) (k : Candidates) where
+module _ (m : Form) (s : Schema) (q : Formula) (k : Candidates) where
   -- some lines close all that is open
   abbrev pub Ends : List Open → Type 0
-  Ends os = (lines : List (List ℕ)) × Runs Long s q k lines os []
+  Ends os = (lines : List (List ℕ)) × Runs m s q k lines os []
 
   -- some lines close the place, whatever else is open
   abbrev pub HasTree : Place → Type 0
   HasTree p = (rest : List Open) → Ends rest → Ends (At p ∷ rest)
 
-  pub leaf_tree : (p : Place) (l : Line) → IsAbout s l → Closes Long s q k p l → HasTree p
+  pub leaf_tree : (p : Place) (l : Line) → IsAbout s l → Closes m s q k p l → HasTree p
   leaf_tree p l a h rest e = (line_text s.graph l ∷ e.0, more (closes l a h) e.1)
 
   pub edge_tree : (p : Place) (e : ℕ) → e < length s.graph.edges → status_in p.decided.decisions e ≡ None
@@ -139,7 +139,7 @@ module _ (s : Schema) (q : Formula) (k : Candidates) where
 
 -- ---- what is left to decide, in order
 
-module _ (s : Schema) (q : Formula) (k : Candidates) (hier : IsHierarchy s.graph) (are : AreCandidates s q k) (r : ℕ)
+module _ (t : Form) (s : Schema) (q : Formula) (k : Candidates) (hier : IsHierarchy s.graph) (are : AreCandidates s q k) (r : ℕ)
     (root : IsCategory s.graph r) (nothing : (f : Frozen) → IsFrozen s q r k f → ⊥) where
   abbrev at : List Decision → List Naming → Place
   at ds ns = record { decided = record { graph = s.graph; root = r; decisions = ds }; namings = ns; ways = [] }
@@ -156,9 +156,9 @@ module _ (s : Schema) (q : Formula) (k : Candidates) (hier : IsHierarchy s.graph
     above : (x : ℕ) → c ≤ x → index_of ns x ≡ None
     in_range : (x i : ℕ) → index_of ns x ≡ Some i → i ≤ length (k.texts x)
 
-  full_tree : (ds : List Decision) (ns : List Naming) → IsFull s.graph k (at ds ns) → HasTree s q k (at ds ns)
-  full_tree ds ns full = elim (full_places_close s q k (at ds ns) hier are full) [
-    | inl w ↦ leaf_tree s q k (at ds ns) w.0 w.1 w.2
+  full_tree : (ds : List Decision) (ns : List Naming) → IsFull s.graph k (at ds ns) → HasTree t s q k (at ds ns)
+  full_tree ds ns full = elim (full_places_close t s q k (at ds ns) hier are full) [
+    | inl w ↦ leaf_tree t s q k (at ds ns) w.0 w.1 w.2
     | inr w ↦ absurd (nothing w.0 w.1)
   ]
 
@@ -188,7 +188,7 @@ module _ (s : Schema) (q : Formula) (k : Candidates) (hier : IsHierarchy s.graph
           subst (λ w. j ≤ length (k.texts w)) (sym e) (omega arith)
 
   names_tree : (m c : ℕ) → suc c + m ≡ length s.graph.names + 1 → (ds : List Decision) (ns : List Naming)
-      → AreDecidedBelow (length s.graph.edges) ds → AreNamedBelow (suc c) ns → HasTree s q k (at ds ns)
+      → AreDecidedBelow (length s.graph.edges) ds → AreNamedBelow (suc c) ns → HasTree t s q k (at ds ns)
   names_tree zero c e ds ns d a = full_tree ds ns (record {
     graph = refl;
     decisions = d.decisions;
@@ -198,7 +198,7 @@ module _ (s : Schema) (q : Formula) (k : Candidates) (hier : IsHierarchy s.graph
     no_ways = refl;
   })
   names_tree (suc m) c e ds ns d a =
-      name_tree s q k (at ds ns) (suc c) ((λ z. absurd (omega arith)), omega arith) (a.above (suc c) (omega arith))
+      name_tree t s q k (at ds ns) (suc c) ((λ z. absurd (omega arith)), omega arith) (a.above (suc c) (omega arith))
       (λ i h. names_tree m (suc c) (omega arith) ds (ns ++ (record { category = suc c; index = i }) ∷ []) d
       (named_one_more ns (suc c) i a h))
 
@@ -215,7 +215,7 @@ module _ (s : Schema) (q : Formula) (k : Candidates) (hier : IsHierarchy s.graph
   }
 
   edges_tree : (m e : ℕ) → e + m ≡ length s.graph.edges → (ds : List Decision) → AreDecidedBelow e ds
-      → HasTree s q k (at ds [])
+      → HasTree t s q k (at ds [])
   edges_tree zero e l ds a =
       names_tree (length s.graph.names) 0 (omega arith) ds []
       (subst (λ x. AreDecidedBelow x ds) (let z : e ≡ length s.graph.edges = omega arith in z) a)
@@ -225,14 +225,14 @@ module _ (s : Schema) (q : Formula) (k : Candidates) (hier : IsHierarchy s.graph
         in_range = λ x i z. absurd (cc);
       })
   edges_tree (suc m) e l ds a =
-      edge_tree s q k (at ds []) e (omega arith) (a.above e (omega arith))
+      edge_tree t s q k (at ds []) e (omega arith) (a.above e (omega arith))
       (edges_tree m (suc e) (omega arith) (ds ++ (record { edge = e; present = false }) ∷ [])
       (decided_one_more ds e false a (omega arith)))
       (edges_tree m (suc e) (omega arith) (ds ++ (record { edge = e; present = true }) ∷ [])
       (decided_one_more ds e true a (omega arith)))
 
   -- from the place at which nothing is decided
-  pub tree_by_edges : HasTree s q k (start s.graph r)
+  pub tree_by_edges : HasTree t s q k (start s.graph r)
   tree_by_edges = edges_tree (length s.graph.edges) 0 (omega arith) [] (record {
     decisions = record {
       root = root;
@@ -259,23 +259,23 @@ listed_bottom g b c =
         (list_any_is (λ (e : Edge). e.parent == b) g.edges).1 (record { child = d; parent = b }, h, is_same b b refl) in
         let z : not true ≡ true = ap not (sym w) ∙ t in cc
 
-module _ (s : Schema) (q : Formula) (k : Candidates) (hier : IsHierarchy s.graph) (are : AreCandidates s q k)
+module _ (t : Form) (s : Schema) (q : Formula) (k : Candidates) (hier : IsHierarchy s.graph) (are : AreCandidates s q k)
     (nothing : (b : ℕ) → IsBottom s.graph b → (f : Frozen) → IsFrozen s q b k f → ⊥) where
-  bottoms_end : (bs : List ℕ) → ((b : ℕ) → Contains bs b → IsBottom s.graph b) → Ends s q k (map Bottom bs ++ [])
+  bottoms_end : (bs : List ℕ) → ((b : ℕ) → Contains bs b → IsBottom s.graph b) → Ends t s q k (map Bottom bs ++ [])
   bottoms_end [] f = ([], none)
   bottoms_end (b ∷ bs) f =
       let i = f b (contains_head b bs) in
-      let r = tree_by_edges s q k hier are b i.0.1 (nothing b i) (map Bottom bs ++ [])
+      let r = tree_by_edges t s q k hier are b i.0.1 (nothing b i) (map Bottom bs ++ [])
       (bottoms_end bs (λ x c. f x (contains_cons x bs b c))) in
       (bottom_text s.graph b ∷ r.0, more roots r.1)
 
-  pub certificate_of_none : (lines : List (List ℕ)) × IsCertificate Long s q k lines
+  pub certificate_of_none : (lines : List (List ℕ)) × IsCertificate t s q k lines
   certificate_of_none =
       let r = bottoms_end (bottoms_of s.graph) (listed_bottom s.graph) in
-      (head_text Long ∷ r.0, more begins r.1)
+      (head_text t ∷ r.0, more begins r.1)
 
 pub certificates_exist_exactly_where_summarizable : CertificatesExistExactlyWhereSummarizable
-certificates_exist_exactly_where_summarizable s c sources k hier are = (
-  λ h. certificate_of_none s (not_by_one c sources) k hier are ((summarizable_exactly s c sources k hier are).0 h),
-  λ w. certificates_are_right Long s c sources k w.0 hier are w.1,
+certificates_exist_exactly_where_summarizable t s c sources k hier are = (
+  λ h. certificate_of_none t s (not_by_one c sources) k hier are ((summarizable_exactly s c sources k hier are).0 h),
+  λ w. certificates_are_right t s c sources k w.0 hier are w.1,
 )

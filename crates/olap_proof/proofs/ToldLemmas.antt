@@ -13,7 +13,7 @@ use Rattle.olap_ast.specs.ThreeValues.{iff, implies, known, unknown_count, value
 use Rattle.olap_ast.specs.declared.three_values.Truth3.{Truth3}
 use Rattle.olap_ast.specs.declared.three_values.Truth3.TheVariants.{No, Yes, Unknown}
 use Rattle.olap_eval.specs.Partial.{Agrees as Tells, Knowledge, value_along, value_at, values_of}
-use Rattle.olap_proof.specs.declared.forms.Form.TheVariants.{Long}
+use Rattle.olap_proof.specs.declared.forms.Form.{Form}
 use Rattle.olap_proof.specs.Lines.{IsUnmet, IsUnmetAt}
 use Rattle.olap_proof.specs.Places.{Place}
 
@@ -108,10 +108,10 @@ module _ (k : Knowledge) (Here : ℕ → Type 0) (edges : (a b : ℕ) → IsTold
 -- ---- constraints
 
 -- a constraint that is unmet has a number
-pub unmet_listed : (k : Candidates) (p : Place) (cs : List Constraint) (c : Constraint) → Contains cs c
-    → IsUnmet Long k p c → (n : ℕ) × IsUnmetAt Long cs n k p
-unmet_listed k p [] c m h = absurd (omega (arith, m.1))
-unmet_listed k p (d ∷ cs) c m h = elim (contains_cases c d cs m) [
-  | inl e ↦ (0, subst (λ x. IsUnmet Long k p x) (sym e) h)
-  | inr i ↦ let w = unmet_listed k p cs c i h in (suc w.0, w.1)
+pub unmet_listed : (f : Form) (k : Candidates) (p : Place) (cs : List Constraint) (c : Constraint) → Contains cs c
+    → IsUnmet f k p c → (n : ℕ) × IsUnmetAt f cs n k p
+unmet_listed f k p [] c m h = absurd (omega (arith, m.1))
+unmet_listed f k p (d ∷ cs) c m h = elim (contains_cases c d cs m) [
+  | inl e ↦ (0, subst (λ x. IsUnmet f k p x) (sym e) h)
+  | inr i ↦ let w = unmet_listed f k p cs c i h in (suc w.0, w.1)
 ]

@@ -7,8 +7,9 @@
 --     adds_bottom             a bottom category's line, with the tree below it
 --     edge_below, name_below  a place with one decision more
 --     place_edge, place_name  a place with one decision more
+--     place_within            its decisions are about what is in the schema
 use Rattle.std.proofs.Common.{◌≡◌, ℕ, ◌+◌, ◌<◌, ◌≤◌, List, [], ◌∷◌, ◌++◌, length, map, Bool, true, false, None, inl, inr, refl, ap, sym, subst, ◌∙◌, arith}
-use Rattle.std.specs.Prelude.{◌≢◌, is_none}
+use Rattle.std.specs.Prelude.{◌≢◌, All, Contains, is_none}
 use Rattle.std.proofs.lemmas.List.FromFn.{map-range_with_len_more}
 use Rattle.std.proofs.lemmas.List.{append_assoc, append-nil}
 use Rattle.std.proofs.lemmas.List.Concat.{flat_map-append}
@@ -19,13 +20,15 @@ use Rattle.olap_ast.specs.Formula.{Formula}
 use Rattle.olap_ast.specs.Frozen.{AreCandidates, Candidates, Frozen, IsFrozen}
 use Rattle.olap_ast.specs.Schema.{Schema}
 use Rattle.olap_base.specs.Graph.{Graph, IsCategory, IsDeclared, IsHierarchy, category_count}
-use Rattle.olap_base.proofs.ListLemmas.{Contains-range}
-use Rattle.olap_trail.specs.Decisions.{status_of}
-use Rattle.olap_proof.specs.declared.forms.Form.TheVariants.{Long}
+use Rattle.olap_base.proofs.ListLemmas.{Contains-nil, Contains-range}
+use Rattle.olap_names.specs.Names.{Named, candidates_of}
+use Rattle.olap_trail.specs.Decisions.{Decision, status_of}
+use Rattle.olap_proof.specs.declared.forms.Form.{Form}
 use Rattle.olap_proof.specs.Certificates.{Open, Open.At, Open.Bottom, Runs, Runs.more, Steps.closes, Steps.edges, Steps.names, Steps.roots, bottom_text, ended, indexes_of, start, with_edge, with_name}
 use Rattle.olap_proof.specs.Lines.{Closes, IsAbout, Line, Line.EdgeOrNot, Line.NameOf, line_text}
 use Rattle.olap_proof.specs.Places.{Naming, Place, index_of}
 use Rattle.olap_proof.specs.Trees.{Adds, Close, IsPlaceOf}
+use Rattle.olap_proof.specs.Within.{IsWithin}
 use Rattle.olap_proof.proofs.AgreeingLemmas.{index_some}
 use Rattle.olap_proof.proofs.ClosingLemmas.{full_places_close}
 use Rattle.olap_proof.proofs.PlainTreeLemmas.{decisions_push, index_new, index_other, status_new, status_other}
@@ -33,32 +36,32 @@ use Rattle.olap_proof.proofs.TallyLemmas.{tally, tally_more}
 
 -- ---- lines
 
-module _ (s : Schema) (q : Formula) (k : Candidates) where
-  close_more : (os us : List Open) (ls ms : List (List ℕ)) → Close s q k os ls → Close s q k us ms
-      → Close s q k (os ++ us) (ls ++ ms)
+module _ (m : Form) (s : Schema) (q : Formula) (k : Candidates) where
+  close_more : (os us : List Open) (ls ms : List (List ℕ)) → Close m s q k os ls → Close m s q k us ms
+      → Close m s q k (os ++ us) (ls ++ ms)
   close_more os us ls ms f g after rest end r =
-      subst (λ x. Runs Long s q k x ((os ++ us) ++ rest) end) (sym (append_assoc ls ms after))
-      (subst (λ x. Runs Long s q k (ls ++ (ms ++ after)) x end) (sym (append_assoc os us rest))
+      subst (λ x. Runs m s q k x ((os ++ us) ++ rest) end) (sym (append_assoc ls ms after))
+      (subst (λ x. Runs m s q k (ls ++ (ms ++ after)) x end) (sym (append_assoc os us rest))
       (f (ms ++ after) (us ++ rest) end (g after rest end r)))
 
   -- a line, and those that close what it leaves
   close_edge : (p : Place) (e : ℕ) → e < length s.graph.edges → status_of p.decided e ≡ None
-      → (ls : List (List ℕ)) → Close s q k (At (with_edge p e false) ∷ At (with_edge p e true) ∷ []) ls
-      → Close s q k (At p ∷ []) (line_text s.graph (EdgeOrNot e) ∷ ls)
+      → (ls : List (List ℕ)) → Close m s q k (At (with_edge p e false) ∷ At (with_edge p e true) ∷ []) ls
+      → Close m s q k (At p ∷ []) (line_text s.graph (EdgeOrNot e) ∷ ls)
   close_edge p e h u ls f after rest end r = more (edges h u) (f after rest end r)
 
   close_names : (p : Place) (c : ℕ) → IsDeclared s.graph c → index_of p.namings c ≡ None
-      → (ls : List (List ℕ)) → Close s q k (map (λ i. At (with_name p c i)) (indexes_of k c)) ls
-      → Close s q k (At p ∷ []) (line_text s.graph (NameOf c) ∷ ls)
+      → (ls : List (List ℕ)) → Close m s q k (map (λ i. At (with_name p c i)) (indexes_of k c)) ls
+      → Close m s q k (At p ∷ []) (line_text s.graph (NameOf c) ∷ ls)
   close_names p c d u ls f after rest end r = more (names d u) (f after rest end r)
 
   -- ---- bytes
 
-  pub adds_none : (old : List ℕ) → Adds s q k [] old old
+  pub adds_none : (old : List ℕ) → Adds m s q k [] old old
   adds_none old = ([], sym (append-nil old), λ after rest end r. r)
 
-  pub adds_more : (os us : List Open) (a b c : List ℕ) → Adds s q k os a b → Adds s q k us b c
-      → Adds s q k (os ++ us) a c
+  pub adds_more : (os us : List Open) (a b c : List ℕ) → Adds m s q k os a b → Adds m s q k us b c
+      → Adds m s q k (os ++ us) a c
   adds_more os us a b c f g = (
     f.0 ++ g.0,
     g.1 ∙ ap (λ x. x ++ ended g.0) f.1 ∙ append_assoc a (ended f.0) (ended g.0)
@@ -71,8 +74,8 @@ module _ (s : Schema) (q : Formula) (k : Candidates) where
       → c ≡ b ++ ended ls → c ≡ a ++ ended (line ∷ ls)
   in_front line ls a b c e f = f ∙ ap (λ x. x ++ ended ls) e ∙ append_assoc a (line ++ 10 ∷ []) (ended ls)
 
-  pub adds_leaf : (p : Place) (l : Line) (a b : List ℕ) → IsAbout s l → Closes Long s q k p l
-      → b ≡ a ++ (line_text s.graph l ++ 10 ∷ []) → Adds s q k (At p ∷ []) a b
+  pub adds_leaf : (p : Place) (l : Line) (a b : List ℕ) → IsAbout s l → Closes m s q k p l
+      → b ≡ a ++ (line_text s.graph l ++ 10 ∷ []) → Adds m s q k (At p ∷ []) a b
   adds_leaf p l a b i h e = (
     line_text s.graph l ∷ [],
     in_front (line_text s.graph l) [] a b b e (sym (append-nil b)),
@@ -80,8 +83,8 @@ module _ (s : Schema) (q : Formula) (k : Candidates) where
   )
 
   pub adds_edge : (p : Place) (e : ℕ) (a b c d : List ℕ) → e < length s.graph.edges → status_of p.decided e ≡ None
-      → b ≡ a ++ (line_text s.graph (EdgeOrNot e) ++ 10 ∷ []) → Adds s q k (At (with_edge p e false) ∷ []) b c
-      → Adds s q k (At (with_edge p e true) ∷ []) c d → Adds s q k (At p ∷ []) a d
+      → b ≡ a ++ (line_text s.graph (EdgeOrNot e) ++ 10 ∷ []) → Adds m s q k (At (with_edge p e false) ∷ []) b c
+      → Adds m s q k (At (with_edge p e true) ∷ []) c d → Adds m s q k (At p ∷ []) a d
   adds_edge p e a b c d h u w f g =
       let t = adds_more (At (with_edge p e false) ∷ []) (At (with_edge p e true) ∷ []) b c d f g in (
         line_text s.graph (EdgeOrNot e) ∷ t.0,
@@ -91,7 +94,7 @@ module _ (s : Schema) (q : Formula) (k : Candidates) where
 
   pub adds_names : (p : Place) (c : ℕ) (a b d : List ℕ) → IsDeclared s.graph c → index_of p.namings c ≡ None
       → b ≡ a ++ (line_text s.graph (NameOf c) ++ 10 ∷ [])
-      → Adds s q k (map (λ i. At (with_name p c i)) (indexes_of k c)) b d → Adds s q k (At p ∷ []) a d
+      → Adds m s q k (map (λ i. At (with_name p c i)) (indexes_of k c)) b d → Adds m s q k (At p ∷ []) a d
   adds_names p c a b d i u w f = (
     line_text s.graph (NameOf c) ∷ f.0,
     in_front (line_text s.graph (NameOf c)) f.0 a b d w f.1,
@@ -122,13 +125,26 @@ place_name g k p c i a d h = record {
   no_ways = a.no_ways;
 }
 
+-- its decisions are about what is in the schema
+pub place_within : (g : Graph) (k : Named) (p : Place) → length k.texts ≡ category_count g
+    → IsPlaceOf g (candidates_of k) p → IsWithin g k p
+place_within g k p t i = record {
+  graph = i.graph;
+  root = subst (λ (x : Graph). IsCategory x p.decided.root) i.graph i.decisions.root;
+  edges = subst (λ (x : Graph). All (λ (d : Decision). d.edge < length x.edges) p.decided.decisions) i.graph
+      i.decisions.edges;
+  ways = λ w c. absurd (Contains-nil w (subst (λ ws. Contains ws w) i.no_ways c));
+  texts = t;
+  indexes = i.indexes;
+}
+
 -- where nothing is left to decide and no line closes, there is a frozen dimension
-pub none_left : (s : Schema) (q : Formula) (k : Candidates) (p : Place) → IsHierarchy s.graph → AreCandidates s q k
+pub none_left : (m : Form) (s : Schema) (q : Formula) (k : Candidates) (p : Place) → IsHierarchy s.graph → AreCandidates s q k
     → IsPlaceOf s.graph k p → ((f : Frozen) → IsFrozen s q p.decided.root k f → ⊥)
-    → ((l : Line) → IsAbout s l → Closes Long s q k p l → ⊥)
+    → ((l : Line) → IsAbout s l → Closes m s q k p l → ⊥)
     → ((e : ℕ) → e < length s.graph.edges → status_of p.decided e ≢ None)
     → ((c : ℕ) → IsDeclared s.graph c → index_of p.namings c ≢ None) → ⊥
-none_left s q k p hier are i nothing open_there told named = elim (full_places_close s q k p hier are (record {
+none_left m s q k p hier are i nothing open_there told named = elim (full_places_close m s q k p hier are (record {
   graph = i.graph;
   decisions = i.decisions;
   edges = told;
@@ -221,32 +237,32 @@ name_below s q k p x c j i n u h new = subst (λ y. IsBelow s q k p y) (sym new)
 -- ---- steps of the program
 
 -- the trees of an edge that the program has written, one after another
-pub edge_written : (s : Schema) (q : Formula) (k : Candidates) (p x y : Place) (e : ℕ) (a b c d : List ℕ)
+pub edge_written : (m : Form) (s : Schema) (q : Formula) (k : Candidates) (p x y : Place) (e : ℕ) (a b c d : List ℕ)
     → (e < length s.graph.edges) × (status_of p.decided e ≡ None)
     → b ≡ a ++ (line_text s.graph (EdgeOrNot e) ++ 10 ∷ []) → x ≡ with_edge p e false → y ≡ with_edge p e true
-    → Adds s q k (At x ∷ []) b c → Adds s q k (At y ∷ []) c d → Adds s q k (At p ∷ []) a d
-edge_written s q k p x y e a b c d u w f g i j =
-    adds_edge s q k p e a b c d u.0 u.1 w (subst (λ z. Adds s q k (At z ∷ []) b c) f i)
-    (subst (λ z. Adds s q k (At z ∷ []) c d) g j)
+    → Adds m s q k (At x ∷ []) b c → Adds m s q k (At y ∷ []) c d → Adds m s q k (At p ∷ []) a d
+edge_written m s q k p x y e a b c d u w f g i j =
+    adds_edge m s q k p e a b c d u.0 u.1 w (subst (λ z. Adds m s q k (At z ∷ []) b c) f i)
+    (subst (λ z. Adds m s q k (At z ∷ []) c d) g j)
 
 -- one name's tree more
-pub name_written : (s : Schema) (q : Formula) (k : Candidates) (p x : Place) (c j : ℕ) (a b d : List ℕ)
-    → Adds s q k (map (λ i. At (with_name p c i)) (range_with_len 0 j)) a b → x ≡ with_name p c j
-    → Adds s q k (At x ∷ []) b d → Adds s q k (map (λ i. At (with_name p c i)) (range_with_len 0 (j + 1))) a d
-name_written s q k p x c j a b d i e f =
-    subst (λ os. Adds s q k os a d) (sym (map-range_with_len_more (λ i. At (with_name p c i)) 0 j j (omega arith)))
-    (adds_more s q k (map (λ i. At (with_name p c i)) (range_with_len 0 j)) (At (with_name p c j) ∷ []) a b d i
-    (subst (λ z. Adds s q k (At z ∷ []) b d) e f))
+pub name_written : (m : Form) (s : Schema) (q : Formula) (k : Candidates) (p x : Place) (c j : ℕ) (a b d : List ℕ)
+    → Adds m s q k (map (λ i. At (with_name p c i)) (range_with_len 0 j)) a b → x ≡ with_name p c j
+    → Adds m s q k (At x ∷ []) b d → Adds m s q k (map (λ i. At (with_name p c i)) (range_with_len 0 (j + 1))) a d
+name_written m s q k p x c j a b d i e f =
+    subst (λ os. Adds m s q k os a d) (sym (map-range_with_len_more (λ i. At (with_name p c i)) 0 j j (omega arith)))
+    (adds_more m s q k (map (λ i. At (with_name p c i)) (range_with_len 0 j)) (At (with_name p c j) ∷ []) a b d i
+    (subst (λ z. Adds m s q k (At z ∷ []) b d) e f))
 
 -- ---- bottom categories
 
 -- a bottom category's line, with its tree
-pub adds_bottom : (s : Schema) (q : Formula) (k : Candidates) (b : ℕ) (x : Place) (a c d : List ℕ)
-    → c ≡ a ++ (bottom_text s.graph b ++ 10 ∷ []) → x ≡ start s.graph b → Adds s q k (At x ∷ []) c d
-    → Adds s q k (Bottom b ∷ []) a d
-adds_bottom s q k b x a c d w e f =
-    let h = subst (λ y. Adds s q k (At y ∷ []) c d) e f in (
+pub adds_bottom : (m : Form) (s : Schema) (q : Formula) (k : Candidates) (b : ℕ) (x : Place) (a c d : List ℕ)
+    → c ≡ a ++ (bottom_text s.graph b ++ 10 ∷ []) → x ≡ start s.graph b → Adds m s q k (At x ∷ []) c d
+    → Adds m s q k (Bottom b ∷ []) a d
+adds_bottom m s q k b x a c d w e f =
+    let h = subst (λ y. Adds m s q k (At y ∷ []) c d) e f in (
       bottom_text s.graph b ∷ h.0,
-      in_front s q k (bottom_text s.graph b) h.0 a c d w h.1,
+      in_front m s q k (bottom_text s.graph b) h.0 a c d w h.1,
       λ after rest end r. more roots (h.2 after rest end r),
     )

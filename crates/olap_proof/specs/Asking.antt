@@ -1,7 +1,7 @@
 -- What a certificate is written for, as the program has it.
 --     schema_in, question_in, names_in    the schema, the question, and the names that members may have
 --     IsAsked                             a hierarchy, with the names of the schema and the question
---     ClosesHere, IsClosing, IsOpenTo     a line closes a place, or doesn't
+--     IsClosing, IsOpenTo                 a line closes a place, or doesn't
 --     IsUndecided, IsUnnamed              an edge or a name that may be decided there
 use Rattle.std.specs.Prelude.{◌≡◌, ◌<◌, None, length, map}
 use Rattle.olap_ast.specs.Formula.{Formula}
@@ -14,7 +14,7 @@ use Rattle.olap_base.specs.declared.ids.EdgeId.{EdgeId}
 use Rattle.olap_names.specs.Names.{candidates_of, with_graph}
 use Rattle.olap_trail.specs.Decisions.{status_of}
 use Rattle.olap_proof.specs.declared.asking.Asked.{Asked}
-use Rattle.olap_proof.specs.declared.forms.Form.TheVariants.{Long}
+use Rattle.olap_proof.specs.declared.forms.Form.{Form}
 use Rattle.olap_proof.specs.declared.lines.Line as program
 use Rattle.olap_proof.specs.Lines.{Closes, IsAbout, Line}
 use Rattle.olap_proof.specs.Places.{Place, index_of}
@@ -32,17 +32,14 @@ question_in a = formula_of a.question.now
 abbrev pub names_in : Asked → Candidates
 names_in a = candidates_of a.candidates.now
 
--- the line closes the place
-abbrev pub ClosesHere : Asked → Place → program.Line → Type 0
-ClosesHere a p l = Closes Long (schema_in a) (question_in a) (names_in a) p (said l)
-
 -- it is a line about this schema, and closes the place
-abbrev pub IsClosing : Asked → Place → program.Line → Type 0
-IsClosing a p l = IsAbout (schema_in a) (said l) × ClosesHere a p l
+abbrev pub IsClosing : Form → Asked → Place → program.Line → Type 0
+IsClosing f a p l =
+    IsAbout (schema_in a) (said l) × Closes f (schema_in a) (question_in a) (names_in a) p (said l)
 
 -- the line doesn't close the place
-abbrev pub IsOpenTo : Asked → Place → Line → Type 0
-IsOpenTo a p l = Closes Long (schema_in a) (question_in a) (names_in a) p l → ⊥
+abbrev pub IsOpenTo : Form → Asked → Place → Line → Type 0
+IsOpenTo f a p l = Closes f (schema_in a) (question_in a) (names_in a) p l → ⊥
 
 -- the edge is the schema's, and isn't decided at the place
 abbrev pub IsUndecided : Asked → Place → EdgeId → Type 0

@@ -5,11 +5,11 @@ use Rattle.olap_base.specs.Graph.{IsHierarchy}
 use Rattle.olap_ast.specs.Frozen.{AreCandidates, Candidates}
 use Rattle.olap_ast.specs.Schema.{Schema}
 use Rattle.olap_ast.specs.Summarizable.{IsSummarizable, not_by_one}
-use Rattle.olap_proof.specs.declared.forms.Form.TheVariants.{Long}
+use Rattle.olap_proof.specs.declared.forms.Form.{Form}
 use Rattle.olap_proof.specs.Certificates.{IsCertificate}
 
--- there is a certificate of the long form exactly where the target is summarizable from the sources
+-- there is a certificate of either form exactly where the target is summarizable from the sources
 abbrev pub CertificatesExistExactlyWhereSummarizable : Type 0
-CertificatesExistExactlyWhereSummarizable = (s : Schema) (c : ℕ) (sources : List ℕ) (k : Candidates)
+CertificatesExistExactlyWhereSummarizable = (f : Form) (s : Schema) (c : ℕ) (sources : List ℕ) (k : Candidates)
     → IsHierarchy s.graph → AreCandidates s (not_by_one c sources) k
-    → IsSummarizable s c sources ↔ ((lines : List (List ℕ)) × IsCertificate Long s (not_by_one c sources) k lines)
+    → IsSummarizable s c sources ↔ ((lines : List (List ℕ)) × IsCertificate f s (not_by_one c sources) k lines)

@@ -7,7 +7,7 @@ use Rattle.olap_ast.specs.Formula.{Formula}
 use Rattle.olap_ast.specs.Frozen.{AreCandidates, Candidates, Frozen, IsFrozen}
 use Rattle.olap_ast.specs.Schema.{Schema}
 use Rattle.olap_trail.specs.Decisions.{AreDecisions, status_of}
-use Rattle.olap_proof.specs.declared.forms.Form.TheVariants.{Long}
+use Rattle.olap_proof.specs.declared.forms.Form.{Form}
 use Rattle.olap_proof.specs.Lines.{Closes, IsAbout, Line}
 use Rattle.olap_proof.specs.Places.{Place, index_of}
 
@@ -20,8 +20,8 @@ pub record IsFull (g : Graph) (k : Candidates) (p : Place) : Type 0 where
   pub in_range : (c i : ℕ) → index_of p.namings c ≡ Some i → i ≤ length (k.texts c)
   pub no_ways : p.ways ≡ []
 
--- where nothing is left to decide, some line closes the place, or there is a frozen dimension
+-- in either form, where nothing is left to decide, some line closes the place, or there is a frozen dimension
 abbrev pub FullPlacesClose : Type 0
-FullPlacesClose = (s : Schema) (q : Formula) (k : Candidates) (p : Place) → IsHierarchy s.graph
+FullPlacesClose = (m : Form) (s : Schema) (q : Formula) (k : Candidates) (p : Place) → IsHierarchy s.graph
     → AreCandidates s q k → IsFull s.graph k p
-    → ((l : Line) × IsAbout s l × Closes Long s q k p l) ⊎ ((f : Frozen) × IsFrozen s q p.decided.root k f)
+    → ((l : Line) × IsAbout s l × Closes m s q k p l) ⊎ ((f : Frozen) × IsFrozen s q p.decided.root k f)

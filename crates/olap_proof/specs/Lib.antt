@@ -19,5 +19,7 @@ pub mod Advancing
 pub mod Stages
 pub mod Verifying
 -- How it writes one.
+pub mod ClosedHere
 pub mod Asking
 pub mod Trees
+pub mod Rooted

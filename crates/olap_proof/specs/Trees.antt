@@ -8,7 +8,7 @@ use Rattle.olap_ast.specs.Frozen.{Candidates}
 use Rattle.olap_ast.specs.Schema.{Schema}
 use Rattle.olap_base.specs.Graph.{Graph, IsCategory}
 use Rattle.olap_trail.specs.Decisions.{AreDecisions}
-use Rattle.olap_proof.specs.declared.forms.Form.TheVariants.{Long}
+use Rattle.olap_proof.specs.declared.forms.Form.{Form}
 use Rattle.olap_proof.specs.Certificates.{Open, Runs, ended}
 use Rattle.olap_proof.specs.Places.{Naming, Place}
 
@@ -21,10 +21,10 @@ pub record IsPlaceOf (g : Graph) (k : Candidates) (p : Place) : Type 0 where
   pub no_ways : p.ways ≡ []
 
 -- the lines close these, whatever else is open, and whatever lines come after
-abbrev pub Close : Schema → Formula → Candidates → List Open → List (List ℕ) → Type 0
-Close s q k os lines = (after : List (List ℕ)) (rest end : List Open) → Runs Long s q k after rest end
-    → Runs Long s q k (lines ++ after) (os ++ rest) end
+abbrev pub Close : Form → Schema → Formula → Candidates → List Open → List (List ℕ) → Type 0
+Close f s q k os lines = (after : List (List ℕ)) (rest end : List Open) → Runs f s q k after rest end
+    → Runs f s q k (lines ++ after) (os ++ rest) end
 
 -- lines that close these are appended, each ended by an LF
-abbrev pub Adds : Schema → Formula → Candidates → List Open → List ℕ → List ℕ → Type 0
-Adds s q k os old new = (lines : List (List ℕ)) × (new ≡ old ++ ended lines) × Close s q k os lines
+abbrev pub Adds : Form → Schema → Formula → Candidates → List Open → List ℕ → List ℕ → Type 0
+Adds f s q k os old new = (lines : List (List ℕ)) × (new ≡ old ++ ended lines) × Close f s q k os lines

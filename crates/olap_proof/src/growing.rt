@@ -5,9 +5,9 @@ ghost use Rattle.olap_proof.specs.Asking.{IsAsked, names_in, question_in, schema
 ghost use Rattle.olap_proof.specs.Certificates.{Open.At};
 ghost use Rattle.olap_proof.specs.Trees.{Adds, IsPlaceOf};
 
+use crate::Form;
 use crate::asking::Asked;
 use crate::cases::Case;
-use crate::closing::closing;
 use crate::lines::Line;
 use crate::splitting::{next_edge, next_name};
 use crate::writing::push_line;
@@ -17,26 +17,31 @@ use olap_base::Memory;
 ///
 /// The place is closed if some line closes it. Else it is split by an edge that isn't decided, and where each edge is
 /// by a name. It calls itself as deep as there are edges and names. `Memory`: out of memory.
-pub(crate) fn grow<C: Case>(case: &mut C, asked: &Asked, out: &mut Vec<u8>) -> Result<(), Memory>
+pub(crate) fn grow(
+    case: &mut Case,
+    asked: &Asked<'_>,
+    form: Form,
+    out: &mut Vec<u8>,
+) -> Result<(), Memory>
     requires asked { IsAsked asked.now }
-    requires place { IsPlaceOf asked.now.graph.now (names_in asked.now) (C.place case.old) }
+    requires place { IsPlaceOf asked.now.graph.now (names_in asked.now) case.old }
     requires none { (f : Frozen) → IsFrozen (schema_in asked.now) (question_in asked.now)
-        (C.place case.old).decided.root (names_in asked.now) f → ⊥ }
-    ensures tree { OnOk result (Adds (schema_in asked.now) (question_in asked.now) (names_in asked.now)
-        (At (C.place case.old) ∷ []) out.old.items out.new.items) }
-    ensures same { OnOk result (C.place case.new ≡ C.place case.old) }
+        case.old.decided.root (names_in asked.now) f → ⊥ }
+    ensures tree { OnOk result (Adds form (schema_in asked.now) (question_in asked.now) (names_in asked.now)
+        (At case.old ∷ []) out.old.items out.new.items) }
+    ensures same { OnOk result (case.new ≡ case.old) }
 {
-    if let Some(line) = closing(case, asked) {
+    if let Some(line) = case.closing(asked, form) {
         push_line(out, asked.graph, asked.constraints, line)?;
         return Ok(());
     }
-    if let Some(edge) = next_edge(case, asked) {
+    if let Some(edge) = next_edge(case, asked, form) {
         push_line(out, asked.graph, asked.constraints, Line::Edge(edge))?;
         case.decide(edge, false);
-        grow(case, asked, out)?;
+        grow(case, asked, form, out)?;
         case.undecide();
         case.decide(edge, true);
-        grow(case, asked, out)?;
+        grow(case, asked, form, out)?;
         case.undecide();
         return Ok(());
     }
@@ -45,7 +50,7 @@ pub(crate) fn grow<C: Case>(case: &mut C, asked: &Asked, out: &mut Vec<u8>) -> R
         let last = asked.candidates.constants(c).len() as u16;
         'names: for index in 0..last + 1 {
             case.name(c, index)?;
-            grow(case, asked, out)?;
+            grow(case, asked, form, out)?;
             case.unname();
         }
     }

@@ -4,32 +4,33 @@ ghost use Rattle.olap_ast.specs.Frozen.{Frozen, IsFrozen};
 ghost use Rattle.olap_base.specs.Graph.{IsBottom};
 ghost use Rattle.olap_proof.specs.Asking.{IsAsked, names_in, question_in, schema_in};
 ghost use Rattle.olap_proof.specs.Certificates.{IsCertificateText};
-ghost use Rattle.olap_proof.specs.declared.forms.Form.TheVariants.{Long};
 
+use crate::Form;
 use crate::asking::Asked;
 use crate::cases::Case;
 use crate::growing::grow;
-use crate::writing::push_bottom;
+use crate::writing::{push_bottom, push_head};
 use olap_base::{CatId, Memory};
 use std::alloc::Global;
 
-/// A certificate of the long form, where no bottom category has a frozen dimension for the question.
+/// A certificate, where no bottom category has a frozen dimension for the question.
 ///
 /// It may take as long as there are choices of edges and names, and be as long. `Memory`: out of memory.
-pub(crate) fn plain<C: Case + Drop>(alloc: Global, asked: &Asked) -> Result<Vec<u8>, Memory>
+pub(crate) fn plain(alloc: Global, asked: &Asked<'_>, form: Form) -> Result<Vec<u8>, Memory>
     requires asked { IsAsked asked.now }
     requires none { (b : ℕ) → IsBottom asked.now.graph.now b → (f : Frozen)
         → IsFrozen (schema_in asked.now) (question_in asked.now) b (names_in asked.now) f → ⊥ }
     ensures { IfOk result (λ text.
-        IsCertificateText Long (schema_in asked.now) (question_in asked.now) (names_in asked.now) text.items) }
+        IsCertificateText form (schema_in asked.now) (question_in asked.now) (names_in asked.now) text.items) }
 {
-    let mut out = Vec::from_slice(alloc, b"certificate 1\n")?;
+    let mut out = Vec::new(alloc);
+    push_head(&mut out, form)?;
     'categories: for b in 1..asked.graph.categories() {
         let root = CatId(b);
         if asked.graph.is_bottom(root) {
             push_bottom(&mut out, asked.graph, root)?;
-            let mut case = C::start(alloc, asked.graph, root)?;
-            grow(&mut case, asked, &mut out)?;
+            let mut case = Case::start(alloc, asked.graph, root)?;
+            grow(&mut case, asked, form, &mut out)?;
         }
     }
     Ok(out)

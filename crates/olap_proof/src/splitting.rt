@@ -6,36 +6,42 @@ ghost use Rattle.olap_proof.specs.Places.{index_of};
 ghost use Rattle.olap_trail.specs.Decisions.{status_of};
 ghost use Rattle.olap_proof.specs.Trees.{IsPlaceOf};
 
+use crate::Form;
 use crate::asking::Asked;
 use crate::cases::Case;
-use crate::closing::closing;
 use olap_base::{CatId, EdgeId};
 
 /// Whether some line closes the place once the edge is decided so.
-fn closes_at_once<C: Case>(case: &mut C, asked: &Asked, edge: EdgeId, present: bool) -> bool
+fn closes_at_once(
+    case: &mut Case,
+    asked: &Asked<'_>,
+    form: Form,
+    edge: EdgeId,
+    present: bool,
+) -> bool
     requires asked { IsAsked asked.now }
-    requires place { IsPlaceOf asked.now.graph.now (names_in asked.now) (C.place case.old) }
-    requires open { IsUndecided asked.now (C.place case.old) edge }
-    ensures { C.place case.new ≡ C.place case.old }
+    requires place { IsPlaceOf asked.now.graph.now (names_in asked.now) case.old }
+    requires open { IsUndecided asked.now case.old edge }
+    ensures { case.new ≡ case.old }
 {
     case.decide(edge, present);
-    let is_closed = closing(case, asked).is_some();
+    let is_closed = case.closing(asked, form).is_some();
     case.undecide();
     is_closed
 }
 
 /// The first undecided edge one of whose values closes at once.
-fn forced<C: Case>(case: &mut C, asked: &Asked) -> Option<EdgeId>
+fn forced(case: &mut Case, asked: &Asked<'_>, form: Form) -> Option<EdgeId>
     requires asked { IsAsked asked.now }
-    requires place { IsPlaceOf asked.now.graph.now (names_in asked.now) (C.place case.old) }
-    ensures open { IfSome result (IsUndecided asked.now (C.place case.old)) }
-    ensures same { C.place case.new ≡ C.place case.old }
+    requires place { IsPlaceOf asked.now.graph.now (names_in asked.now) case.old }
+    ensures open { IfSome result (IsUndecided asked.now case.old) }
+    ensures same { case.new ≡ case.old }
 {
     'edges: for e in 0..asked.graph.edges() {
         let edge = EdgeId(e);
         if case.status(edge).is_none() {
-            let is_forced = closes_at_once(case, asked, edge, false)
-                || closes_at_once(case, asked, edge, true);
+            let is_forced = closes_at_once(case, asked, form, edge, false)
+                || closes_at_once(case, asked, form, edge, true);
             if is_forced {
                 return Some(edge);
             }
@@ -45,10 +51,10 @@ fn forced<C: Case>(case: &mut C, asked: &Asked) -> Option<EdgeId>
 }
 
 /// The first undecided edge whose child is known to have a member.
-fn above_known<C: Case>(case: &C, asked: &Asked) -> Option<EdgeId>
+fn above_known(case: &Case, asked: &Asked<'_>) -> Option<EdgeId>
     requires asked { IsAsked asked.now }
-    requires place { IsPlaceOf asked.now.graph.now (names_in asked.now) (C.place case.now) }
-    ensures { IfSome result (IsUndecided asked.now (C.place case.now)) }
+    requires place { IsPlaceOf asked.now.graph.now (names_in asked.now) case.now }
+    ensures { IfSome result (IsUndecided asked.now case.now) }
 {
     'edges: for e in 0..asked.graph.edges() {
         let edge = EdgeId(e);
@@ -61,12 +67,12 @@ fn above_known<C: Case>(case: &C, asked: &Asked) -> Option<EdgeId>
 }
 
 /// The first undecided edge.
-fn undecided<C: Case>(case: &C, asked: &Asked) -> Option<EdgeId>
+fn undecided(case: &Case, asked: &Asked<'_>) -> Option<EdgeId>
     requires asked { IsAsked asked.now }
-    requires place { IsPlaceOf asked.now.graph.now (names_in asked.now) (C.place case.now) }
-    ensures some { IfSome result (IsUndecided asked.now (C.place case.now)) }
+    requires place { IsPlaceOf asked.now.graph.now (names_in asked.now) case.now }
+    ensures some { IfSome result (IsUndecided asked.now case.now) }
     ensures none { IsNone result → (e : ℕ) → e < length asked.now.graph.now.edges
-        → status_of (C.place case.now).decided e ≢ None }
+        → status_of case.now.decided e ≢ None }
 {
     'edges: for e in 0..asked.graph.edges() {
         let edge = EdgeId(e);
@@ -79,15 +85,15 @@ fn undecided<C: Case>(case: &C, asked: &Asked) -> Option<EdgeId>
 
 /// An undecided edge, if there is one: first one of whose values closes at once, then one whose child is known to have
 /// a member.
-pub(crate) fn next_edge<C: Case>(case: &mut C, asked: &Asked) -> Option<EdgeId>
+pub(crate) fn next_edge(case: &mut Case, asked: &Asked<'_>, form: Form) -> Option<EdgeId>
     requires asked { IsAsked asked.now }
-    requires place { IsPlaceOf asked.now.graph.now (names_in asked.now) (C.place case.old) }
-    ensures some { IfSome result (IsUndecided asked.now (C.place case.old)) }
+    requires place { IsPlaceOf asked.now.graph.now (names_in asked.now) case.old }
+    ensures some { IfSome result (IsUndecided asked.now case.old) }
     ensures none { IsNone result → (e : ℕ) → e < length asked.now.graph.now.edges
-        → status_of (C.place case.old).decided e ≢ None }
-    ensures same { C.place case.new ≡ C.place case.old }
+        → status_of case.old.decided e ≢ None }
+    ensures same { case.new ≡ case.old }
 {
-    let by_looking = forced(case, asked);
+    let by_looking = forced(case, asked, form);
     if by_looking.is_some() {
         return by_looking;
     }
@@ -99,12 +105,12 @@ pub(crate) fn next_edge<C: Case>(case: &mut C, asked: &Asked) -> Option<EdgeId>
 }
 
 /// The first declared category whose name isn't decided.
-pub(crate) fn next_name<C: Case>(case: &C, asked: &Asked) -> Option<CatId>
+pub(crate) fn next_name(case: &Case, asked: &Asked<'_>) -> Option<CatId>
     requires asked { IsAsked asked.now }
-    requires place { IsPlaceOf asked.now.graph.now (names_in asked.now) (C.place case.now) }
-    ensures some { IfSome result (IsUnnamed asked.now (C.place case.now)) }
+    requires place { IsPlaceOf asked.now.graph.now (names_in asked.now) case.now }
+    ensures some { IfSome result (IsUnnamed asked.now case.now) }
     ensures none { IsNone result → (c : ℕ) → IsDeclared asked.now.graph.now c
-        → index_of (C.place case.now).namings c ≢ None }
+        → index_of case.now.namings c ≢ None }
 {
     'categories: for c in 1..asked.graph.categories() {
         if case.index(CatId(c)).is_none() {

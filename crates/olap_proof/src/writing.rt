@@ -4,10 +4,11 @@ ghost use Rattle.olap_ast.specs.Trees.{constraint_of};
 ghost use Rattle.olap_base.specs.Graph.{IsCategory};
 ghost use Rattle.olap_graph.specs.Lookups.{name_of_category};
 ghost use Rattle.olap_names.specs.Names.{with_graph};
-ghost use Rattle.olap_proof.specs.Certificates.{bottom_text};
+ghost use Rattle.olap_proof.specs.Certificates.{bottom_text, head_text};
 ghost use Rattle.olap_proof.specs.Lines.{IsAbout, edge_words, line_text, way_words, words};
 ghost use Rattle.olap_proof.specs.Reading.{said};
 
+use crate::Form;
 use crate::lines::Line;
 use itoa::Buffer;
 use olap_ast::Constraint;
@@ -98,6 +99,16 @@ pub(crate) fn push_line(
 {
     push_words(out, graph, constraints, line)?;
     out.extend_from_slice(b"\n")
+}
+
+/// A certificate's first line, ended by an LF.
+pub(crate) fn push_head(out: &mut Vec<u8>, form: Form) -> Result<(), AllocError>
+    ensures { OnOk result (out.new.items ≡ out.old.items ++ (head_text form ++ 10 ∷ [])) }
+{
+    match form {
+        Form::Long => out.extend_from_slice(b"certificate 1\n"),
+        Form::Short => out.extend_from_slice(b"short certificate 1\n"),
+    }
 }
 
 /// The line above a bottom category's tree, ended by an LF.

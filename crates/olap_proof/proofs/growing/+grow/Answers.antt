@@ -11,103 +11,103 @@ use Rattle.olap_proof.proofs.TreeTextLemmas.{adds_leaf, adds_names, edge_below, 
 use Rattle.olap_proof.proofs.growing.+grow.Goals as goal
 
 pub returns-in-Some-clause-tree : goal.returns-in-Some-clause-tree
-returns-in-Some-clause-tree g t c =
+returns-in-Some-clause-tree t c =
     let a = c.args.asked.now in
     let h = c.in-Some.ensures.some in
-    adds_leaf (schema_in a) (question_in a) (names_in a) (g.C.Case.place c.args.case.now) (said c.in-Some.line)
+    adds_leaf c.args.form (schema_in a) (question_in a) (names_in a) c.args.case.now (said c.in-Some.line)
     c.args.out.now.items c.push_line.new.out.items h.0 h.1 c.in_ok-push_line.ensures
 
 pub grow-requires : goal.grow-requires
-grow-requires g t c κs within =
+grow-requires t c =
     let a = c.args.asked.now in
-    let p = g.C.Case.place c.args.case.now in
+    let p = c.args.case.now in
     let e = c.in-Some-next_edge.edge.0 in
     let new = c.decide.ensures ∙ ap (λ x. with_edge x e false) c.next_edge.ensures.same in
-    let below = edge_below (schema_in a) (question_in a) (names_in a) p (g.C.Case.place c.decide.new.self) e false
+    let below = edge_below (schema_in a) (question_in a) (names_in a) p c.decide.new.self e false
     c.requires.place c.requires.none c.in-Some-next_edge.ensures.some new in (
-      subst (λ n. left (g.C.Case.place c.decide.new.self) < n) c.decreases below.less,
-      (within, (c.requires.asked, (below.place, below.none))),
+      subst (λ n. left c.decide.new.self < n) c.decreases below.less,
+      (c.requires.asked, (below.place, below.none)),
     )
 
 pub grow-requires-in-Some-next_edge : goal.grow-requires-in-Some-next_edge
-grow-requires-in-Some-next_edge g t c κs within =
+grow-requires-in-Some-next_edge t c =
     let a = c.args.asked.now in
-    let p = g.C.Case.place c.args.case.now in
+    let p = c.args.case.now in
     let e = c.in-Some-next_edge.edge.0 in
     let first = c.decide.ensures ∙ ap (λ x. with_edge x e false) c.next_edge.ensures.same in
     let back = c.undecide.ensures p e false (c.in_ok-grow.ensures.same ∙ first) in
     let new = c.decide-in-Some-next_edge.ensures ∙ ap (λ x. with_edge x e true) back in
     let below = edge_below (schema_in a) (question_in a) (names_in a) p
-    (g.C.Case.place c.decide-in-Some-next_edge.new.self) e true
+    c.decide-in-Some-next_edge.new.self e true
     c.requires.place c.requires.none c.in-Some-next_edge.ensures.some new in (
-      subst (λ n. left (g.C.Case.place c.decide-in-Some-next_edge.new.self) < n) c.decreases below.less,
-      (within, (c.requires.asked, (below.place, below.none))),
+      subst (λ n. left c.decide-in-Some-next_edge.new.self < n) c.decreases below.less,
+      (c.requires.asked, (below.place, below.none)),
     )
 
 pub returns-in-Some-next_edge-clause-tree : goal.returns-in-Some-next_edge-clause-tree
-returns-in-Some-next_edge-clause-tree g t c =
+returns-in-Some-next_edge-clause-tree t c =
     let a = c.args.asked.now in
-    let p = g.C.Case.place c.args.case.now in
+    let p = c.args.case.now in
     let e = c.in-Some-next_edge.edge.0 in
     let first = c.decide.ensures ∙ ap (λ x. with_edge x e false) c.next_edge.ensures.same in
     let back = c.undecide.ensures p e false (c.in_ok-grow.ensures.same ∙ first) in
     let second = c.decide-in-Some-next_edge.ensures ∙ ap (λ x. with_edge x e true) back in
-    edge_written (schema_in a) (question_in a) (names_in a) p (g.C.Case.place c.decide.new.self)
-    (g.C.Case.place c.decide-in-Some-next_edge.new.self) e c.args.out.now.items
+    edge_written c.args.form (schema_in a) (question_in a) (names_in a) p c.decide.new.self
+    c.decide-in-Some-next_edge.new.self e c.args.out.now.items
     c.push_line-in-Some-next_edge.new.out.items c.grow.new.out.items c.grow-in-Some-next_edge.new.out.items
     c.in-Some-next_edge.ensures.some c.in_ok-push_line-2.ensures first second c.in_ok-grow.ensures.tree
     c.in_ok-grow-2.ensures.tree
 
 pub grow-requires-in-names : goal.grow-requires-in-names
-grow-requires-in-names g t c κs within =
+grow-requires-in-names t c =
     let a = c.args.asked.now in
-    let p = g.C.Case.place c.args.case.now in
+    let p = c.args.case.now in
     let d = c.in-Some-next_name.c in
     let same = c.names.invariant.same ∙ c.next_edge.ensures.same in
     let new = c.in_ok-name.ensures ∙ ap (λ x. with_name x d.0 c.names.index) same in
     let unnamed = subst (λ x. IsUnnamed a x d) c.next_edge.ensures.same c.in-Some-next_name.ensures.some in
     let small : c.names.index ≤ length ((names_in a).texts d.0) =
     omega (arith, ap length c.constants.ensures.list, c.names-test.true) in
-    let below = name_below (schema_in a) (question_in a) (names_in a) p (g.C.Case.place c.name.new.self) d.0
+    let below = name_below (schema_in a) (question_in a) (names_in a) p c.name.new.self d.0
     c.names.index c.requires.place c.requires.none unnamed small new in (
-      subst (λ n. left (g.C.Case.place c.name.new.self) < n) c.decreases below.less,
-      (within, (c.requires.asked, (below.place, below.none))),
+      subst (λ n. left c.name.new.self < n) c.decreases below.less,
+      (c.requires.asked, (below.place, below.none)),
     )
 
 pub names-preserved : goal.names-preserved
-names-preserved g t c =
+names-preserved t c =
     let a = c.args.asked.now in
     let d = c.in-Some-next_name.c in
-    let back = c.unname.ensures (g.C.Case.place c.names.case) d.0 c.names.index
+    let back = c.unname.ensures c.names.case d.0 c.names.index
     (c.in_ok-grow-3.ensures.same ∙ c.in_ok-name.ensures) in
     let new = c.in_ok-name.ensures ∙ ap (λ x. with_name x d.0 c.names.index) c.names.invariant.same in
     record {
       same = back ∙ c.names.invariant.same;
-      written = name_written (schema_in a) (question_in a) (names_in a) (g.C.Case.place c.next_edge.new.case)
-          (g.C.Case.place c.name.new.self) d.0 c.names.index c.push_line-in-Some-next_name.new.out.items
+      written = name_written c.args.form (schema_in a) (question_in a) (names_in a) c.next_edge.new.case
+          c.name.new.self d.0 c.names.index c.push_line-in-Some-next_name.new.out.items
           c.names.out.items c.grow-in-names.new.out.items c.names.invariant.written new c.in_ok-grow-3.ensures.tree;
     }
 
 pub returns-after-names-clause-tree : goal.returns-after-names-clause-tree
-returns-after-names-clause-tree g t c =
+returns-after-names-clause-tree t c =
     let a = c.args.asked.now in
     let s = schema_in a in
     let d = c.in-Some-next_name.c in
-    let p = g.C.Case.place c.next_edge.new.case in
+    let p = c.next_edge.new.case in
     let all : c.names.index ≡ length ((names_in a).texts d.0) + 1 =
     omega (arith, ap length c.constants.ensures.list, c.names-test.false, c.names.auto.index-end) in
-    subst (λ x. Adds s (question_in a) (names_in a) (At x ∷ []) c.args.out.now.items c.names.out.items)
+    subst (λ x. Adds c.args.form s (question_in a) (names_in a) (At x ∷ []) c.args.out.now.items c.names.out.items)
     c.next_edge.ensures.same
-    (adds_names s (question_in a) (names_in a) p d.0 c.args.out.now.items
+    (adds_names c.args.form s (question_in a) (names_in a) p d.0 c.args.out.now.items
     c.push_line-in-Some-next_name.new.out.items c.names.out.items c.in-Some-next_name.ensures.some.0
     c.in-Some-next_name.ensures.some.1 c.in_ok-push_line-3.ensures
-    (subst (λ n. Adds s (question_in a) (names_in a) (map (λ i. At (with_name p d.0 i)) (range_with_len 0 n))
+    (subst (λ n. Adds c.args.form s (question_in a) (names_in a) (map (λ i. At (with_name p d.0 i)) (range_with_len 0 n))
     c.push_line-in-Some-next_name.new.out.items c.names.out.items) all c.names.invariant.written))
 
 pub returns-in_default-next_name-clause-tree : goal.returns-in_default-next_name-clause-tree
-returns-in_default-next_name-clause-tree g t c =
+returns-in_default-next_name-clause-tree t c =
     let a = c.args.asked.now in
-    absurd (none_left (schema_in a) (question_in a) (names_in a) (g.C.Case.place c.args.case.now)
+    absurd (none_left c.args.form (schema_in a) (question_in a) (names_in a) c.args.case.now
     c.requires.asked.hierarchy c.requires.asked.candidates c.requires.place c.requires.none
     (c.in_default.ensures.none refl) (c.in_default-next_edge.ensures.none refl)
     (subst (λ (y : Place). (x : ℕ) → IsDeclared a.graph.now x → index_of y.namings x ≢ None) c.next_edge.ensures.same

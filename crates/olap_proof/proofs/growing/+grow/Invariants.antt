@@ -8,12 +8,12 @@ use Rattle.olap_proof.proofs.TreeTextLemmas.{left}
 use Rattle.olap_proof.proofs.growing.+grow.Given as goal
 
 abbrev pub decreases-grow : goal.decreases-grow
-decreases-grow g l = left (g.C.Case.place l.case.now)
+decreases-grow l = left l.case.now
 
 abbrev pub invariant-names : goal.invariant-names
-invariant-names g l = record {
-  same : g.C.Case.place l.case ≡ g.C.Case.place l.initial.case;
-  written : Adds (schema_in l.asked) (question_in l.asked) (names_in l.asked)
-      (map (λ i. At (with_name (g.C.Case.place l.initial.case) l.c.0 i)) (range_with_len 0 l.index))
+invariant-names l = record {
+  same : l.case ≡ l.initial.case;
+  written : Adds l.form (schema_in l.asked) (question_in l.asked) (names_in l.asked)
+      (map (λ i. At (with_name l.initial.case l.c.0 i)) (range_with_len 0 l.index))
       l.initial.out.items l.out.items;
 }

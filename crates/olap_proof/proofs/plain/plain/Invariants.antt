@@ -7,5 +7,5 @@ use Rattle.olap_proof.proofs.BottomLemmas.{first_bottoms}
 use Rattle.olap_proof.proofs.plain.plain.Given as goal
 
 abbrev pub invariant-categories : goal.invariant-categories
-invariant-categories g l = Adds (schema_in l.asked) (question_in l.asked) (names_in l.asked)
+invariant-categories l = Adds l.form (schema_in l.asked) (question_in l.asked) (names_in l.asked)
     (map Bottom (first_bottoms l.asked.graph.now (l.b - 1))) l.initial.out.items l.out.items

@@ -6,11 +6,11 @@ use Rattle.olap_proof.proofs.TreeTextLemmas.{place_edge}
 use Rattle.olap_proof.proofs.splitting.closes_at_once.Goals as goal
 
 pub closing-requires : goal.closing-requires
-closing-requires g c =
+closing-requires c =
     let a = c.args.asked.now in
     record {
       asked = c.requires.asked;
       place = subst (λ x. IsPlaceOf a.graph.now (names_in a) x) (sym c.decide.ensures)
-          (place_edge a.graph.now (names_in a) (g.C.Case.place c.args.case.now) c.args.edge.0 c.args.present
+          (place_edge a.graph.now (names_in a) c.args.case.now c.args.edge.0 c.args.present
           c.requires.place c.requires.open.0 c.requires.open.1);
     }

@@ -4,4 +4,4 @@ use Rattle.olap_trail.specs.Decisions.{status_of}
 use Rattle.olap_proof.proofs.splitting.undecided.Given as goal
 
 abbrev pub invariant-edges : goal.invariant-edges
-invariant-edges g l = (x : ℕ) → x < l.e → status_of (g.C.Case.place l.case).decided x ≢ None
+invariant-edges l = (x : ℕ) → x < l.e → status_of l.case.decided x ≢ None
