@@ -36,4 +36,7 @@ pub use laws::{
     certificates_are_right, chain_is_certified, chain_is_shortly_certified, edges_are_decided_once,
     lines_are_spelled_exactly, names_are_decided_once, the_root_is_not_loose, verdicts_are_one,
 };
+pub use lines::Line;
+pub use plain::plain_certificate;
 pub use verifying::{VerifyRefusal, verify};
+pub use writing::{push_bottom, push_head, push_known_line};

@@ -18,7 +18,7 @@ use std::str;
 
 /// A line of a tree: the first three split what is open, the others close it.
 #[derive(Clone, Copy, PartialEq, Eq, Debug)]
-pub(crate) enum Line {
+pub enum Line {
     /// `edge C D`.
     Edge(EdgeId),
     /// `name C`.

@@ -1,16 +1,22 @@
 // The plain certificate: for each bottom category a tree that is grown with nothing learnt.
-ghost use Rattle.std.specs.Prelude.{◌≡◌, ℕ, IfOk};
+ghost use Rattle.std.specs.Prelude.{◌≡◌, ℕ, All, IfOk};
+ghost use Rattle.olap_ast.specs.Summarizable.{IsSummarizable};
 ghost use Rattle.olap_ast.specs.Frozen.{Frozen, IsFrozen};
-ghost use Rattle.olap_base.specs.Graph.{IsBottom};
+ghost use Rattle.olap_base.specs.Graph.{IsBottom, IsCategory};
 ghost use Rattle.olap_proof.specs.Asking.{IsAsked, names_in, question_in, schema_in};
 ghost use Rattle.olap_proof.specs.Certificates.{IsCertificateText};
+ghost use Rattle.olap_proof.specs.Verifying.{IsCertificateFor, numbers_of};
+ghost use Rattle.olap_schema.specs.Schemas.{schema_of};
 
 use crate::Form;
 use crate::asking::Asked;
 use crate::cases::Case;
 use crate::growing::grow;
+use crate::questions::not_by_one;
 use crate::writing::{push_bottom, push_head};
-use olap_base::{CatId, Memory};
+use olap_base::{CatId, Memory, Text};
+use olap_names::Candidates;
+use olap_schema::Schema;
 use std::alloc::Global;
 
 /// A certificate, where no bottom category has a frozen dimension for the question.
@@ -34,4 +40,33 @@ pub(crate) fn plain(alloc: Global, asked: &Asked<'_>, form: Form) -> Result<Vec<
         }
     }
     Ok(out)
+}
+
+/// A certificate of that form, where the target is summarizable from the sources: it is written with nothing learnt.
+///
+/// It may take as long as there are choices of edges and names, and be as long. `Memory`: out of memory.
+pub fn plain_certificate(
+    alloc: Global,
+    schema: &Schema,
+    form: Form,
+    target: CatId,
+    sources: &[CatId],
+) -> Result<Text, Memory>
+    requires target { IsCategory (schema_of schema.now).graph target.0 }
+    requires sources { All (IsCategory (schema_of schema.now).graph) (numbers_of sources.now) }
+    requires summarizable { IsSummarizable (schema_of schema.now) target.0 (numbers_of sources.now) }
+    ensures { IfOk result (IsCertificateFor form (schema_of schema.now) target.0 (numbers_of sources.now)) }
+{
+    let graph = schema.graph();
+    let constraints = schema.constraints();
+    let question = not_by_one(alloc, target, sources)?;
+    let candidates = Candidates::of(alloc, graph.categories(), constraints, &question)?;
+    let asked = Asked {
+        graph,
+        constraints,
+        question: &question,
+        candidates: &candidates,
+    };
+    let text = plain(alloc, &asked, form)?;
+    Ok(Text::from_vec(text))
 }

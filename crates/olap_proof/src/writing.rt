@@ -1,5 +1,5 @@
 // The lines of a certificate, written.
-ghost use Rattle.std.specs.Prelude.{◌≡◌, ◌<◌, ◌++◌, ◌∷◌, [], OnOk, decimal, length, map};
+ghost use Rattle.std.specs.Prelude.{◌≡◌, ◌<◌, ◌++◌, ◌∷◌, [], ◌↔◌, IfOk, IsTrue, OnOk, decimal, length, map};
 ghost use Rattle.olap_ast.specs.Trees.{constraint_of};
 ghost use Rattle.olap_base.specs.Graph.{IsCategory};
 ghost use Rattle.olap_graph.specs.Lookups.{name_of_category};
@@ -87,6 +87,41 @@ fn push_words(
     }
 }
 
+/// Whether what the line names is in a schema with this graph and these constraints.
+fn is_about(graph: &Graph, constraints: &[Constraint], line: Line) -> bool
+    ensures { IsTrue result ↔ IsAbout (with_graph graph.now (map constraint_of constraints.now)) (said line) }
+{
+    match line {
+        Line::Edge(e) | Line::LooseEdge(e) => e.0 < graph.edges(),
+        Line::Name(c) | Line::Dead(c) | Line::LooseCategory(c) => c.0 < graph.categories(),
+        Line::Reach(c, d) | Line::Steps(c, d) => {
+            c.0 < graph.categories() && d.0 < graph.categories()
+        }
+        Line::Constraint(n) => n < constraints.len(),
+        Line::Cycle | Line::Shortcut | Line::Question => true,
+    }
+}
+
+/// Appends the line, ended by an LF, if what it names is in a schema with this graph and these constraints. Whether it
+/// is.
+pub fn push_known_line(
+    out: &mut Vec<u8>,
+    graph: &Graph,
+    constraints: &[Constraint],
+    line: Line,
+) -> Result<bool, AllocError>
+    ensures about { IfOk result (λ told. IsTrue told
+        ↔ IsAbout (with_graph graph.now (map constraint_of constraints.now)) (said line)) }
+    ensures line { IfOk result (λ told. IsTrue told
+        → out.new.items ≡ out.old.items ++ (line_text graph.now (said line) ++ 10 ∷ [])) }
+{
+    if !is_about(graph, constraints, line) {
+        return Ok(false);
+    }
+    push_line(out, graph, constraints, line)?;
+    Ok(true)
+}
+
 /// A line of a schema with this graph and these constraints, ended by an LF.
 pub(crate) fn push_line(
     out: &mut Vec<u8>,
@@ -101,8 +136,8 @@ pub(crate) fn push_line(
     out.extend_from_slice(b"\n")
 }
 
-/// A certificate's first line, ended by an LF.
-pub(crate) fn push_head(out: &mut Vec<u8>, form: Form) -> Result<(), AllocError>
+/// Appends a certificate's first line, ended by an LF.
+pub fn push_head(out: &mut Vec<u8>, form: Form) -> Result<(), AllocError>
     ensures { OnOk result (out.new.items ≡ out.old.items ++ (head_text form ++ 10 ∷ [])) }
 {
     match form {
@@ -111,8 +146,8 @@ pub(crate) fn push_head(out: &mut Vec<u8>, form: Form) -> Result<(), AllocError>
     }
 }
 
-/// The line above a bottom category's tree, ended by an LF.
-pub(crate) fn push_bottom(out: &mut Vec<u8>, graph: &Graph, c: CatId) -> Result<(), AllocError>
+/// Appends the line above a bottom category's tree, ended by an LF.
+pub fn push_bottom(out: &mut Vec<u8>, graph: &Graph, c: CatId) -> Result<(), AllocError>
     requires { IsCategory graph.now c.0 }
     ensures { OnOk result (out.new.items ≡ out.old.items ++ (bottom_text graph.now c.0 ++ 10 ∷ [])) }
 {
