@@ -3,7 +3,7 @@
 --     each-in-order they stand so
 --     store-of      such views may stand in a store
 --     rows-back     rows that stand so are those of the function that finds each at its member
-use Rattle.std.proofs.Common.{◌≡◌, ◌≢◌, ◌+◌, ◌<◌, ◌≤◌, ◌==◌, ◌∷◌, ◌∙◌, [], ℕ, zero, suc, Bool, true, false, cond, List, length, get_or, map, filter, filter_map, find, Option, Some, None, IfSome, option_map, refl, sym, ap, subst, inl, inr, arith}
+use Rattle.std.proofs.Common.{◌≡◌, ◌≢◌, ◌+◌, ◌<◌, ◌≤◌, ◌==◌, ◌∷◌, ◌∙◌, [], ℕ, zero, suc, Bool, true, false, cond, List, length, get_or, map, filter, filter_map, Option, Some, None, IfSome, option_map, refl, sym, ap, subst, inl, inr, arith}
 use Rattle.std.specs.Prelude.{All, AllPairs, Contains}
 use Rattle.std.specs.List.{cons_option, range_with_len}
 use Rattle.std.proofs.lemmas.Bool.Decides.{Decides-eqb, eqb_tells, nat_tests}
@@ -16,22 +16,22 @@ use Rattle.olap_base.specs.Limits.{most_views}
 use Rattle.olap_base.specs.Summaries.{Summary}
 use Rattle.olap_base.specs.Views.{Row, View, members_of, row_at}
 use Rattle.olap_base.proofs.ListLemmas.{Contains-from_filter, Contains-from_range_at, contains_head}
-use Rattle.olap_view.specs.Stores.{IsInFileOrder, IsStore}
+use Rattle.olap_view.specs.Stores.{IsInFileOrder, IsStore, row_in, summary_in}
 use Rattle.olap_view.proofs.ViewingLemmas.{filter_map_same, member_is}
 
 -- the rows of these members, where there are any
-abbrev pub rows_at : (ℕ → Option Summary) → List ℕ → List Row
-rows_at h ys = filter_map (λ y. row_at y (h y)) ys
+abbrev pub rows_by : (ℕ → Option Summary) → List ℕ → List Row
+rows_by h ys = filter_map (λ y. row_at y (h y)) ys
 
 pub all-rows : (P : Row → Type 0) (h : ℕ → Option Summary) (ys : List ℕ)
-    → ((y : ℕ) → Contains ys y → IfSome (row_at y (h y)) P) → All P (rows_at h ys)
+    → ((y : ℕ) → Contains ys y → IfSome (row_at y (h y)) P) → All P (rows_by h ys)
 all-rows P h [] f = All-nil P
 all-rows P h (y ∷ ys) f = cons (row_at y (h y)) (f y (contains_head y ys))
     (all-rows P h ys (λ z c. f z (contains_cons z ys y c)))
   where
-    cons : (o : Option Row) → IfSome o P → All P (rows_at h ys) → All P (cons_option o (rows_at h ys))
+    cons : (o : Option Row) → IfSome o P → All P (rows_by h ys) → All P (cons_option o (rows_by h ys))
     cons None t a = a
-    cons (Some r) t a = All-cons P r (rows_at h ys) t a
+    cons (Some r) t a = All-cons P r (rows_by h ys) t a
 
 -- ---- rows of a function of members
 
@@ -50,7 +50,7 @@ members-ascend i c =
     AllPairs-filter ◌<◌ (λ y. category_of i y == c) (range_with_len 0 (length i)) (range-ascends 0 (length i))
 
 rows-ascend : (h : ℕ → Option Summary) (ys : List ℕ) → AllPairs ◌<◌ ys
-    → AllPairs ◌<◌ (map (λ r. r.member) (rows_at h ys))
+    → AllPairs ◌<◌ (map (λ r. r.member) (rows_by h ys))
 rows-ascend h [] a = λ j k d l w. absurd (omega arith)
 rows-ascend h (y ∷ ys) a = go (h y) (rows-ascend h ys (λ j k d l w. a (suc j) (suc k) d (omega arith) (omega arith)))
   where
@@ -61,19 +61,19 @@ rows-ascend h (y ∷ ys) a = go (h y) (rows-ascend h ys (λ j k d l w. a (suc j)
     later z None l = tt
     later z (Some s) l = l
 
-    go : (o : Option Summary) → AllPairs ◌<◌ (map (λ (r : Row). r.member) (rows_at h ys))
-        → AllPairs ◌<◌ (map (λ (r : Row). r.member) (cons_option (row_at y o) (rows_at h ys)))
+    go : (o : Option Summary) → AllPairs ◌<◌ (map (λ (r : Row). r.member) (rows_by h ys))
+        → AllPairs ◌<◌ (map (λ (r : Row). r.member) (cons_option (row_at y o) (rows_by h ys)))
     go None e = e
     go (Some s) e =
-        AllPairs-cons ◌<◌ y (map (λ (r : Row). r.member) (rows_at h ys))
-        (All-map (λ z. y < z) (λ (r : Row). r.member) (rows_at h ys)
+        AllPairs-cons ◌<◌ y (map (λ (r : Row). r.member) (rows_by h ys))
+        (All-map (λ z. y < z) (λ (r : Row). r.member) (rows_by h ys)
         (all-rows (λ (r : Row). y < r.member) h ys (λ z k. later z (h z) (All-contains (λ w. y < w) ys z above k)))) e
 
 -- the view of c with a row or none for each member
-abbrev pub view_at : Instance → (ℕ → Option Summary) → ℕ → View
-view_at i h c = record { category = c; rows = rows_at h (members_of i c) }
+abbrev pub view_by : Instance → (ℕ → Option Summary) → ℕ → View
+view_by i h c = record { category = c; rows = rows_by h (members_of i c) }
 
-in-order : (i : Instance) (h : ℕ → Option Summary) (c : ℕ) → IsInFileOrder i (view_at i h c)
+in-order : (i : Instance) (h : ℕ → Option Summary) (c : ℕ) → IsInFileOrder i (view_by i h c)
 in-order i h c = record {
   members = all-rows (λ (r : Row). IsMemberOf i c r.member) h (members_of i c)
       (λ y k. inside y (h y) (member_is i c y k));
@@ -86,36 +86,28 @@ in-order i h c = record {
     inside y (Some s) m = m
 
 pub each-in-order : (i : Instance) (h : ℕ → Option Summary) (cs : List ℕ)
-    → All (IsInFileOrder i) (map (view_at i h) cs)
-each-in-order i h cs = All-map (IsInFileOrder i) (view_at i h) cs (λ k d l. in-order i h (get_or cs k d))
+    → All (IsInFileOrder i) (map (view_by i h) cs)
+each-in-order i h cs = All-map (IsInFileOrder i) (view_by i h) cs (λ k d l. in-order i h (get_or cs k d))
 
 categories-back : (i : Instance) (h : ℕ → Option Summary) (cs : List ℕ)
-    → map (λ v. v.category) (map (view_at i h) cs) ≡ cs
+    → map (λ v. v.category) (map (view_by i h) cs) ≡ cs
 categories-back i h [] = refl
 categories-back i h (c ∷ cs) = ap (λ l. c ∷ l) (categories-back i h cs)
 
 -- a store may hold such views of few different categories
 pub store-of : (i : Instance) (h : ℕ → Option Summary) (cs : List ℕ) → length cs ≤ most_views → AllPairs ◌≢◌ cs
-    → IsStore (map (view_at i h) cs)
+    → IsStore (map (view_by i h) cs)
 store-of i h cs few differ = record {
-  few = let n = length-map cs (view_at i h) in omega arith;
+  few = let n = length-map cs (view_by i h) in omega arith;
   categories = subst (AllPairs ◌≢◌) (sym (categories-back i h cs)) differ;
-  members = All-map (λ (v : View). AllPairs ◌≢◌ (map (λ (r : Row). r.member) v.rows)) (view_at i h) cs
-      (λ n e w. apart (view_at i h (get_or cs n e)) (in-order i h (get_or cs n e)));
+  members = All-map (λ (v : View). AllPairs ◌≢◌ (map (λ (r : Row). r.member) v.rows)) (view_by i h) cs
+      (λ n e w. apart (view_by i h (get_or cs n e)) (in-order i h (get_or cs n e)));
 }
   where
     apart : (v : View) → IsInFileOrder i v → AllPairs ◌≢◌ (map (λ (r : Row). r.member) v.rows)
     apart v o j k d l w e = let q = o.ascend j k d l w in omega arith
 
 -- ---- and back
-
--- the row at y among rows
-abbrev pub row_in : List Row → ℕ → Option Row
-row_in rows y = find (λ r. r.member == y) rows
-
--- its summary
-abbrev pub summary_in : List Row → ℕ → Option Summary
-summary_in rows y = option_map (λ r. r.summary) (row_in rows y)
 
 -- later rows stand at later members
 pub later-rows : (r : Row) (rows : List Row) → AllPairs ◌<◌ (map (λ s. s.member) (r ∷ rows))
@@ -138,7 +130,7 @@ row-before y (r ∷ rows) a =
     let e : (r.member == y) ≡ false = grind (arith, nat_tests) in
     rw e (row-before y rows (λ k d l. a (suc k) d (omega arith)))
 
-none-left : (ys : List ℕ) → rows_at (summary_in []) ys ≡ []
+none-left : (ys : List ℕ) → rows_by (summary_in []) ys ≡ []
 none-left [] = refl
 none-left (y ∷ ys) = none-left ys
 
@@ -160,7 +152,7 @@ own-row r rows n t e = rw t (ap (λ m. Some (record { member = m; summary = r.su
 -- rows that pass, from the member n on and below n + k
 back-from : (p : ℕ → Bool) (n k : ℕ) (rows : List Row) → All (λ r. n ≤ r.member) rows
     → AllPairs ◌<◌ (map (λ r. r.member) rows) → All (λ r. (r.member < n + k) × (p r.member ≡ true)) rows
-    → rows_at (summary_in rows) (filter p (range_with_len n k)) ≡ rows
+    → rows_by (summary_in rows) (filter p (range_with_len n k)) ≡ rows
 back-from p n zero [] a o q = refl
 back-from p n zero (r ∷ rows) a o q =
     let l = a 0 r (omega arith) in let h = (q 0 r (omega arith)).0 in absurd (omega arith)
@@ -197,7 +189,7 @@ back-from p n (suc k) (r ∷ rows) a o q = elim (eqb_tells r.member n) [
 
 -- rows in file order are those of the function that finds each at its member
 pub rows-back : (i : Instance) (v : View) → IsInFileOrder i v
-    → rows_at (summary_in v.rows) (members_of i v.category) ≡ v.rows
+    → rows_by (summary_in v.rows) (members_of i v.category) ≡ v.rows
 rows-back i v o = back-from (λ y. category_of i y == v.category) 0 (length i) v.rows (λ k d l. omega arith) o.ascend
     (λ k d l. let m = o.members k d l in
     (omega (arith, m.0), (Decides-eqb (category_of i (get_or v.rows k d).member) v.category).1 m.1))

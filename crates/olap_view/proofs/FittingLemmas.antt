@@ -1,5 +1,5 @@
 -- The rows of a direct view are within the bounds of stored rows.
-use Rattle.std.proofs.Common.{ℕ, suc, ◌^◌, ◌<◌, ◌≤◌, List, [], ◌∷◌, length, Bool, true, false, cond, arith, Option, Some, None, IfSome, w64}
+use Rattle.std.proofs.Common.{ℕ, suc, ◌≤◌, List, [], ◌∷◌, length, Bool, true, false, cond, arith, Option, Some, None, IfSome, w64}
 use Rattle.std.specs.Prelude.{All, filter, filter_map}
 use Rattle.std.specs.List.{cons_option}
 use mir.Val.{SFits}

@@ -7,14 +7,15 @@ mod ColumnLemmas
 mod TableLemmas
 mod ViewingLemmas
 pub mod FittingLemmas
+mod SummaryTableLemmas
 mod TallyLemmas
 mod MergingLemmas
-mod RollingUpLemmas
+pub mod RollingUpLemmas
 mod StoredNumbersLemmas
 mod StoreReadingLemmas
 mod JudgingLemmas
 mod StoreTextLemmas
-mod FileOrderLemmas
+pub mod FileOrderLemmas
 mod StoreLemmas
 mod StoreLawLemmas
 mod PrintedStoreLemmas

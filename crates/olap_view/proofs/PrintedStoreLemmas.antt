@@ -25,11 +25,11 @@ use Rattle.olap_records.specs.Faults.{first_fault, or_after}
 use Rattle.olap_view.specs.StoreLaws.{DirectViewsAreReadBack, PrintedStoresAreRead}
 use Rattle.olap_view.specs.StoreReading.{Record, said_of}
 use Rattle.olap_view.specs.StoreText.{beginning, begun, category_number, beginning_fault, has_header, is_beginning, is_row_of, member_named, member_number, records_of_one, records_of_store, row_fault, row_read, store_fault, store_read, summary_read, view_read, views_read}
-use Rattle.olap_view.specs.Stores.{Fits, IsInFileOrder, IsStore, IsStored}
+use Rattle.olap_view.specs.Stores.{Fits, IsInFileOrder, IsStore, IsStored, row_in, summary_in}
 use Rattle.olap_view.specs.ViewText.{fields_in}
 use Rattle.olap_view.specs.declared.kinds.StoreKind.{StoreKind}
 use Rattle.olap_view.specs.declared.kinds.StoreKind.TheVariants as kind
-use Rattle.olap_view.proofs.FileOrderLemmas.{ascend-on, each-in-order, later-rows, row_in, rows-back, store-of, summary_in}
+use Rattle.olap_view.proofs.FileOrderLemmas.{ascend-on, each-in-order, later-rows, rows-back, store-of}
 use Rattle.olap_view.proofs.FittingLemmas.{direct_stored}
 use Rattle.olap_view.proofs.JudgingLemmas.{last-check}
 use Rattle.olap_view.proofs.StoreLawLemmas.{printed-numbers}

@@ -8,6 +8,7 @@ pub mod StoredNumbers
 pub mod StoreText
 pub mod Kinds
 pub mod StoreLaws
+pub mod SummaryTables
 pub mod Tallies
 pub mod RollingUp
 -- The inside: what a table of summaries holds, and the numbers of the machine.

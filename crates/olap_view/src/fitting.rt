@@ -5,7 +5,7 @@ ghost use Rattle.olap_view.specs.Seen.{row_of, rows_of, view_of};
 ghost use Rattle.olap_view.specs.StoredNumbers.{is_sum};
 ghost use Rattle.olap_view.specs.Stores.{Fits, IsStored};
 
-use crate::{Row, View};
+use crate::{Row, Summary, View};
 use olap_base::{MOST_COUNT, MOST_SUM};
 
 /// Whether a stored row may have this count.
@@ -21,6 +21,15 @@ pub(crate) fn sum_fits(sum: i128) -> bool
     ensures bounds { IsTrue result ↔ ((neg_ℤ (pos most_sum) ≤ℤ sum) × (sum ≤ℤ pos most_sum)) }
 {
     -MOST_SUM <= sum && sum <= MOST_SUM
+}
+
+impl Summary {
+    /// Whether a stored row may have the sum: its magnitude is at most `MOST_SUM`.
+    pub fn sum_fits(&self) -> bool
+        ensures { result ≡ is_sum self.now.sum }
+    {
+        sum_fits(self.sum)
+    }
 }
 
 /// Whether a row is within the bounds of stored rows.

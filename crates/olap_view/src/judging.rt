@@ -8,10 +8,9 @@ ghost use Rattle.olap_view.specs.Seen.{ids, summary_of};
 ghost use Rattle.olap_view.specs.StoreReading.{HasOwnPlaces, IsInside, IsRowFor, Record, Says, Tells};
 ghost use Rattle.olap_view.specs.StoreText.{beginning_fault, begun, category_number, is_beginning as begins, row_fault, store_fault};
 
-use crate::StoreKind;
 use crate::numbers::summary;
-use crate::summaries::Summary;
 use crate::tables::{Table, is_among};
+use crate::{StoreKind, Summary};
 use olap_base::{CatId, MOST_VIEWS, MemberId, Memory};
 use olap_graph::Graph;
 use olap_instance::Instance;

@@ -2,7 +2,8 @@
 //!
 //! A contract sees a `View` as the definition's record (`view_of` of `specs/Seen.antt`). A `Tally` stands for a fact
 //! table, and gives the definition's `direct_view`; `direct` answers it too, and `from_views` its `rows_from_views`,
-//! on a legal instance.
+//! on a legal instance. A `SummaryTable` has what stands at each member of some categories: stored views are read into
+//! it, changed member by member, and read out of it.
 #![tactic(auto)]
 
 mod columns;
@@ -15,6 +16,7 @@ mod printing;
 mod rolling_up;
 mod storing;
 mod summaries;
+mod summary_tables;
 mod tables;
 mod tallies;
 mod viewing;
@@ -25,6 +27,8 @@ pub use laws::{direct_views_are_read_back, printed_numbers_are_read, printed_sto
 pub use printing::print_view;
 pub use rolling_up::roll_up;
 pub use storing::{print_store, read_store};
+pub use summaries::Summary;
+pub use summary_tables::SummaryTable;
 pub use tallies::Tally;
 pub use viewing::{direct, from_views};
 pub use views::{Row, Store, View};

@@ -8,8 +8,8 @@ ghost use Rattle.olap_view.specs.StoreReading.{IsStoredAt};
 ghost use Rattle.olap_view.specs.StoreText.{summary_read};
 ghost use Rattle.olap_view.specs.StoredNumbers.{count_of, sum_of};
 
+use crate::Summary;
 use crate::fitting::{count_fits, sum_fits};
-use crate::summaries::Summary;
 use olap_records::{Rows, value};
 
 /// Whether a plus stands first.

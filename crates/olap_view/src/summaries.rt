@@ -9,20 +9,20 @@ use crate::Row;
 
 /// What some values come to.
 #[derive(Clone, Copy, Debug, PartialEq, Eq)]
-pub(crate) struct Summary {
+pub struct Summary {
     /// How many they are.
-    pub(crate) count: u64,
+    pub count: u64,
     /// Their sum.
-    pub(crate) sum: i128,
+    pub sum: i128,
     /// The least of them.
-    pub(crate) least: i64,
+    pub least: i64,
     /// The greatest of them.
-    pub(crate) greatest: i64,
+    pub greatest: i64,
 }
 
 impl Summary {
     /// What one value comes to.
-    pub(crate) fn of_value(value: i64) -> Summary
+    pub fn of_value(value: i64) -> Summary
         ensures { summary_of result ≡ of_value value }
     {
         Summary {
@@ -34,7 +34,7 @@ impl Summary {
     }
 
     /// What two lots of values come to together.
-    fn joined(self, other: Summary) -> Summary
+    pub fn joined(self, other: Summary) -> Summary
         requires this { IsUpTo (2 ^ 62) (2 ^ 120) (summary_of self) }
         requires that { IsUpTo (2 ^ 62) (2 ^ 120) (summary_of other) }
         ensures { summary_of result ≡ joined (summary_of self) (summary_of other) }

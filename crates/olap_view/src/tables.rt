@@ -10,8 +10,7 @@ ghost use Rattle.olap_view.specs.StoreReading.{HasOwnPlaces};
 ghost use Rattle.olap_view.specs.Tables.{AreJoined, AreJoinedIn, HasPlaces, HasRoom, categories_of, place_in, summary_at, view_in};
 
 use crate::columns::Column;
-use crate::summaries::Summary;
-use crate::{Row, View};
+use crate::{Row, Summary, View};
 use olap_base::{CatId, List, MemberId, Memory};
 use olap_check::Legal;
 use olap_instance::Instance;
@@ -99,11 +98,12 @@ impl Table {
 
     /// Puts a summary at a member, whatever stands there.
     pub(crate) fn put(&mut self, y: MemberId, summary: Summary)
-        requires own { HasOwnPlaces self.old }
-        requires member { y.0 < length self.old.summaries.items }
+        requires member { y.0 < length self.old.places.items }
+        requires place { place_in self.old y.0 < length self.old.summaries.items }
         ensures categories { self.new.categories ≡ self.old.categories }
         ensures places { self.new.places ≡ self.old.places }
-        ensures summaries { self.new.summaries.items ≡ set self.old.summaries.items y.0 (Some summary) }
+        ensures summaries { self.new.summaries.items
+            ≡ set self.old.summaries.items (place_in self.old y.0) (Some summary) }
     {
         let place = self.places[y.0 as usize] as usize;
         self.summaries[place] = Some(summary);
@@ -142,7 +142,7 @@ impl Table {
     }
 
     /// The summary of a member of the categories.
-    fn at(&self, y: MemberId) -> Option<Summary>
+    pub(crate) fn at(&self, y: MemberId) -> Option<Summary>
         requires member { y.0 < length self.now.places.items }
         requires place { place_in self.now y.0 < length self.now.summaries.items }
         ensures { option_map summary_of result ≡ summary_at self.now y.0 }

@@ -7,10 +7,7 @@ ghost use Rattle.olap_view.specs.Seen.{each_view_of, ids, view_of};
 ghost use Rattle.olap_view.specs.Stores.{Fits};
 ghost use Rattle.olap_view.specs.Tallies.{StandsFor};
 
-use crate::View;
-use crate::columns::{Column, columns};
-use crate::summaries::Summary;
-use crate::tables::Table;
+use crate::{Summary, SummaryTable, View};
 use olap_base::{CatId, List, Memory};
 use olap_check::Legal;
 use olap_facts::Fact;
@@ -20,25 +17,18 @@ use std::marker::Model;
 /// What the values of the facts that were added come to, at each member of some categories.
 #[derive(Drop)]
 pub struct Tally<'a> {
-    alloc: Global,
-    legal: &'a Legal,
-    // For each category the members that members reach.
-    columns: Vec<Column<'a>>,
-    table: Table,
+    table: SummaryTable<'a>,
     added: u64,
 }
 
 impl<'a> Model for Tally<'a> {
-    ghost use Rattle.olap_view.specs.Columns.{AreColumns};
-    ghost use Rattle.olap_view.specs.Tables.{categories_of};
     ghost use Rattle.olap_view.specs.Tallies.{IsTally, Tallied, tallied};
 
     ghost Value = { Tallied };
 
-    ghost view = { λ a. tallied a.legal.now a.table a.added };
+    ghost view = { λ a. tallied a.table a.added };
 
-    ghost invariant = { λ a. IsTally a.legal.now a.table a.added
-        × AreColumns a.legal.now (categories_of a.table) a.columns.items };
+    ghost invariant = { λ a. IsTally a.table a.added };
 }
 
 impl<'a> Tally<'a> {
@@ -51,10 +41,7 @@ impl<'a> Tally<'a> {
         ensures stands { IfOk result (λ t. StandsFor t []) }
     {
         Ok(Tally {
-            alloc,
-            legal,
-            columns: columns(alloc, legal, categories)?,
-            table: Table::new(alloc, legal.instance(), categories)?,
+            table: SummaryTable::new(alloc, legal, categories)?,
             added: 0,
         })
     }
@@ -77,13 +64,7 @@ impl<'a> Tally<'a> {
         ensures stands { (facts : Items TheFact) → StandsFor self.old facts
             → StandsFor self.new (facts ++ fact_of fact.now ∷ []) }
     {
-        let legal = self.legal;
-        self.table.join(
-            legal,
-            &self.columns,
-            fact.member,
-            Summary::of_value(fact.value),
-        );
+        self.table.join(fact.member, Summary::of_value(fact.value));
         self.added += 1;
     }
 
@@ -96,7 +77,7 @@ impl<'a> Tally<'a> {
         ensures members { IfOk result (λ v. All (λ r. r.member.0 < length self.now.instance) v.rows) }
         ensures fits { IfOk result (λ v. Fits (view_of v)) }
     {
-        self.table.view(self.alloc, self.legal.instance(), c)
+        self.table.view(c)
     }
 
     /// The direct views of the categories, in their order. `Memory`: want of memory.
@@ -106,6 +87,6 @@ impl<'a> Tally<'a> {
         ensures members { IfOk result (λ v. All (λ w. All (λ r. r.member.0 < length self.entry.instance) w.rows) v) }
         ensures fit { IfOk result (λ v. All Fits (each_view_of v)) }
     {
-        self.table.views(self.alloc, self.legal.instance())
+        self.table.views()
     }
 }
