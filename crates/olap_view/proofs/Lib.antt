@@ -2,10 +2,10 @@
 mod PrintingLemmas
 pub mod SeenLemmas
 mod StoresLemmas
-mod SummaryLemmas
+pub mod SummaryLemmas
 mod ColumnLemmas
 mod TableLemmas
-mod ViewingLemmas
+pub mod ViewingLemmas
 pub mod FittingLemmas
 mod SummaryTableLemmas
 mod TallyLemmas

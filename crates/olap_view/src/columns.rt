@@ -16,7 +16,7 @@ const NOBODY: u32 = 0xFFFF_FFFF;
 
 /// For one category the member that each member of a legal instance reaches.
 #[derive(Drop)]
-pub(crate) struct Column<'a> {
+pub struct Column<'a> {
     legal: &'a Legal,
     category: CatId,
     // For each member the place of the one that it reaches, or `NOBODY`.
@@ -47,8 +47,9 @@ fn cell(legal: &Legal, category: CatId, x: MemberId) -> u32
 }
 
 impl<'a> Column<'a> {
-    /// The column of a category. It takes one look at the table of ancestors for each member.
-    pub(crate) fn new(
+    /// The column of a category. It takes one look at the table of ancestors, and four bytes, for each member. `Memory`:
+    /// want of memory.
+    pub fn new(
         alloc: Global,
         legal: &'a Legal,
         category: CatId,
@@ -67,8 +68,8 @@ impl<'a> Column<'a> {
         })
     }
 
-    /// The member of the category that x reaches.
-    pub(crate) fn ancestor(&self, x: MemberId) -> Option<MemberId>
+    /// The member of the category that x reaches. One look at a list.
+    pub fn ancestor(&self, x: MemberId) -> Option<MemberId>
         requires { x.0 < length self.now.instance }
         ensures some { IfSome result (λ y. IsAncestor self.now.instance x.0 self.now.category y.0) }
         ensures none { IsNone result → ReachesCategory self.now.instance x.0 self.now.category → ⊥ }

@@ -48,7 +48,7 @@ impl Summary {
     }
 
     /// The summary joined to what is there, if there is anything.
-    pub(crate) fn beside(self, there: Option<Summary>) -> Summary
+    pub fn beside(self, there: Option<Summary>) -> Summary
         requires this { IsUpTo (2 ^ 62) (2 ^ 120) (summary_of self) }
         requires there { IfSome (option_map summary_of there) (IsUpTo (2 ^ 62) (2 ^ 120)) }
         ensures { Some (summary_of result) ≡ option_map summary_of there ⊕ Some (summary_of self) }
