@@ -1,0 +1,118 @@
+-- Printing a cube's view row by row, and reading its text back.
+--     ids_more, ids_end    the ids of a row's members, one more, and all of them
+--     members_from         the members from one on; four_more, four_same: four items behind others
+--     cube_view_more       one row more
+--     cube_view_reads      the text reads back
+use Rattle.std.proofs.Common.{◌≡◌, ℕ, zero, suc, ◌+◌, ◌<◌, ◌≤◌, ◌++◌, ◌∷◌, ◌∙◌, List, [], length, map, take, drop, get_or, arith, refl, sym, ap, subst, append_assoc, append-nil, length-append}
+use Rattle.std.specs.Prelude.{All}
+use Rattle.std.proofs.lemmas.List.Elements.{All-map}
+use Rattle.std.proofs.lemmas.List.{drop_all, drop_more, get_or-map, length-map, map-append, take_more}
+use Rattle.olap_base.specs.Instance.{Instance, IsMember, member_at}
+use Rattle.olap_base.specs.declared.ids.MemberId.{MemberId}
+use Rattle.olap_cube.specs.CubeViews.{CubeRow, CubeView}
+use Rattle.olap_records.specs.Records.{records_of}
+use Rattle.olap_records.specs.Texts.{text_of_row, text_of_rows}
+use Rattle.olap_records.proofs.ReadingBack.{text-back, texts-push}
+use Rattle.olap_cube_views.specs.CubeTallies.{AreMembers}
+use Rattle.olap_cube_views.specs.CubeViewText.{cube_view_text, fields_in, header, ids_in, numbers_of, records_of_cube_view}
+use Rattle.olap_cube_views.specs.Seen.{cube_row_of, cube_rows_of, members_of}
+use Rattle.olap_cube_views.specs.declared.views.CubeRow as told
+
+-- ---- the ids of a row's members
+
+module _ (is : List Instance) (ys : List ℕ) where
+  -- these are the first k ids; the others go behind them
+  pub record IdsSoFar (k : ℕ) (ids : List (List ℕ)) : Type 0 where
+    pub all : ids ++ ids_in (drop k is) (drop k ys) ≡ ids_in is ys
+    pub inside : AreMembers (drop k is) (drop k ys)
+    pub size : length ids ≡ k
+
+  pub ids_start : AreMembers is ys → IdsSoFar 0 []
+  ids_start m = record { all = refl; inside = m; size = refl }
+
+  module _ (k : ℕ) (ids : List (List ℕ)) (h : IdsSoFar k ids) (i : Instance) (y : ℕ)
+      (di : drop k is ≡ i ∷ drop (k + 1) is) (dy : drop k ys ≡ y ∷ drop (k + 1) ys) where
+    both : AreMembers (i ∷ drop (k + 1) is) (y ∷ drop (k + 1) ys)
+    both = subst (λ t. AreMembers t (y ∷ drop (k + 1) ys)) di (subst (λ t. AreMembers (drop k is) t) dy h.inside)
+
+    pub is_inside : IsMember i y
+    is_inside = both.0
+
+    pub ids_more : (new : List (List ℕ)) → new ≡ ids ++ (member_at i y).id ∷ [] → IdsSoFar (k + 1) new
+    ids_more new e = record {
+      all = ap (λ t. t ++ ids_in (drop (k + 1) is) (drop (k + 1) ys)) e
+          ∙ append_assoc ids ((member_at i y).id ∷ []) (ids_in (drop (k + 1) is) (drop (k + 1) ys))
+          ∙ ap (λ t. ids ++ ids_in t (y ∷ drop (k + 1) ys)) (sym di) ∙ ap (λ t. ids ++ ids_in (drop k is) t) (sym dy)
+          ∙ h.all;
+      inside = both.1;
+      size = let n = h.size in omega (arith, ap length e, length-append ids ((member_at i y).id ∷ []));
+    }
+
+  pub ids_end : (k : ℕ) (ids : List (List ℕ)) → length is ≤ k → IdsSoFar k ids → ids ≡ ids_in is ys
+  ids_end k ids l h = sym (append-nil ids)
+      ∙ ap (λ t. ids ++ ids_in t (drop k ys)) (sym (drop_all k is l)) ∙ h.all
+
+-- the members from the k-th on
+pub members_from : (ms : List MemberId) (k : ℕ) (d : MemberId) → k < length ms
+    → drop k (members_of ms) ≡ (get_or ms k d).0 ∷ drop (k + 1) (members_of ms)
+members_from ms k d l =
+    let n = length-map ms (λ (m : MemberId). m.0) in
+    let h : k < length (members_of ms) = omega arith in
+    drop_more (members_of ms) k 0 h
+    ∙ ap (λ y. y ∷ drop (k + 1) (members_of ms)) (get_or-map (λ (m : MemberId). m.0) ms k d 0 l)
+
+-- four items more
+pub four_more : {A B : Type 0} (f : A → B) (xs : List A) (a b c d : A)
+    → map f ((((xs ++ a ∷ []) ++ b ∷ []) ++ c ∷ []) ++ d ∷ []) ≡ map f xs ++ (f a ∷ f b ∷ f c ∷ f d ∷ [])
+four_more f [] a b c d = refl
+four_more f (x ∷ xs) a b c d = ap (λ t. f x ∷ t) (four_more f xs a b c d)
+
+pub four_same : (xs : List (List ℕ)) (a b c d p q r s : List ℕ) → a ≡ p → b ≡ q → c ≡ r → d ≡ s
+    → xs ++ (a ∷ b ∷ c ∷ d ∷ []) ≡ xs ++ (p ∷ q ∷ r ∷ s ∷ [])
+four_same xs a b c d p q r s e f g h = λ i. xs ++ (e i ∷ f i ∷ g i ∷ h i ∷ [])
+
+-- ---- rows
+
+-- one row more
+pub cube_view_more : (top : List (List ℕ)) (fields : CubeRow → List (List ℕ)) (rows : List told.CubeRow) (k : ℕ)
+    (d : told.CubeRow) (out new : List ℕ) → k < length rows
+    → out ≡ text_of_rows (top ∷ map fields (cube_rows_of (take k rows)))
+    → new ≡ out ++ text_of_row (fields (cube_row_of (get_or rows k d)))
+    → new ≡ text_of_rows (top ∷ map fields (cube_rows_of (take (k + 1) rows)))
+cube_view_more top fields rows k d out new l eo en =
+    let row = get_or rows k d in
+    let before = map fields (cube_rows_of (take k rows)) in
+    let more : map fields (cube_rows_of (take (k + 1) rows)) ≡ before ++ fields (cube_row_of row) ∷ [] =
+    ap (λ (rs : List told.CubeRow). map fields (cube_rows_of rs)) (take_more rows k d l)
+    ∙ ap (map fields) (map-append cube_row_of (take k rows) (row ∷ []))
+    ∙ map-append fields (cube_rows_of (take k rows)) (cube_row_of row ∷ []) in
+    en ∙ ap (λ (t : List ℕ). t ++ text_of_row (fields (cube_row_of row))) eo
+    ∙ sym (texts-push (top ∷ before) (fields (cube_row_of row)))
+    ∙ ap (λ (t : List (List (List ℕ))). text_of_rows (top ∷ t)) (sym more)
+
+-- each record has a field, where the first has and those behind it have
+all-full : (top : List (List ℕ)) (rows : List (List (List ℕ))) → 0 < length top → All (λ r. 0 < length r) rows
+    → All (λ r. 0 < length r) (top ∷ rows)
+all-full top rows h t zero d l = h
+all-full top rows h t (suc k) d l = t k d (omega arith)
+
+-- the header has a field, and the text doesn't begin as a byte order mark does
+header-full : (k : ℕ) → 0 < length (header k)
+header-full zero = omega arith
+header-full (suc k) = omega arith
+
+no-mark : (k : ℕ) (rows : List (List (List ℕ))) → get_or (text_of_rows (header k ∷ rows)) 0 0 ≡ 239 → ⊥
+no-mark zero rows e = absurd (omega arith)
+no-mark (suc k) rows e = absurd (omega arith)
+
+fields-full : (is : List Instance) (r : CubeRow) → 0 < length (fields_in is r)
+fields-full is r = omega (arith, length-append (ids_in is r.members) (numbers_of r.summary))
+
+-- the text of a view reads back
+pub cube_view_reads : (is : List Instance) (v : CubeView)
+    → records_of (cube_view_text is v) ≡ records_of_cube_view is v
+cube_view_reads is v =
+    text-back (records_of_cube_view is v)
+    (all-full (header (length is)) (map (fields_in is) v.rows) (header-full (length is))
+    (All-map (λ r. 0 < length r) (fields_in is) v.rows (λ k d l. fields-full is (get_or v.rows k d))))
+    (no-mark (length is) (map (fields_in is) v.rows))

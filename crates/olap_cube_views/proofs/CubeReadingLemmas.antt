@@ -1,0 +1,163 @@
+-- The fields of a record that name members, from left to right, and the records of a text.
+--     MembersSoFar     the first fields' members
+--     members_more     one field more; members_stop where it has a fault; members_end all of them
+--     header_is        whether the first record is the header
+--     told_cause       a record's fault is the text's first
+--     cube_rolled_up   a view of all facts of a text
+--     cube_facts_more, cube_table_more, cube_table_members   a fact table that grows
+use Rattle.std.proofs.Common.{◌≡◌, ◌↔◌, ℕ, suc, ◌+◌, ◌≤◌, List, [], ◌∷◌, ◌++◌, length, get_or, map, drop, Bool, true, IsTrue, Option, Some, None, refl, sym, ap, subst, ◌∙◌, inl, inr, arith, append_assoc, append-nil}
+use Rattle.std.specs.Prelude.{All, Err, Ok, if◌then◌else◌}
+use Rattle.std.specs.Bool.{one_answer}
+use Rattle.std.specs.Cmp.Lexicographic.{pointwise}
+use Rattle.std.specs.Option.{option_or}
+use Rattle.std.specs.Str.{bytes_eq}
+use Rattle.std.proofs.lemmas.List.{drop_all, map-append}
+use Rattle.std.proofs.lemmas.List.Elements.{Contains-get_or, Contains-push_cases}
+use Rattle.std.proofs.lemmas.Slice.Eq.{bytes_eq-Decides, slice_eq-Decides}
+use Rattle.olap_base.specs.Graph.{Graph, IsBottom}
+use Rattle.olap_base.specs.Instance.{Instance, IsMember, category_of}
+use Rattle.olap_base.proofs.ListLemmas.{Contains-map, Contains-nil}
+use Rattle.olap_instance.specs.Made.{IsMadeFor}
+use Rattle.olap_records.specs.Faults.{first_fault}
+use Rattle.olap_records.proofs.Seeing.{HasSeen, see-fault}
+use Rattle.olap_facts.specs.Refusals.{IsFaultCause}
+use Rattle.olap_facts.specs.declared.kinds.FactKind.{FactKind}
+use Rattle.olap_facts.specs.declared.kinds.FactKind.TheVariants as kinds
+use Rattle.olap_facts.specs.declared.kinds.FactRefusal.{FactRefusal}
+use Rattle.olap_facts.specs.declared.kinds.FactRefusal.TheVariants as refusal
+use Rattle.olap_cube.specs.CubeViews.{CubeFact, CubeView, IsCubeFactTable, cube_direct_view}
+use Rattle.olap_cube.specs.Tuples.{IsBottomTuple}
+use Rattle.olap_cube_views.specs.CubeFactText.{body_read, cube_fact_fault, cube_fact_read, has_header, member_fault, member_number, members_fault, members_read, or_read}
+use Rattle.olap_cube_views.specs.CubeRefusals.{IsToldAt}
+use Rattle.olap_cube_views.specs.CubeRollingUp.{IsCubeRolledUp}
+use Rattle.olap_cube_views.specs.CubeTallies.{AreMembers}
+use Rattle.olap_cube_views.specs.Dimensions.{AreMadeFor}
+use Rattle.olap_cube_views.specs.Seen.{cube_fact_of, members_of}
+use Rattle.olap_cube_views.specs.declared.tables.CubeFact as told
+
+pub made_length : (gs : List Graph) (is : List Instance) → AreMadeFor gs is → length gs ≡ length is
+made_length [] [] m = refl
+made_length [] (i ∷ is) m = absurd m
+made_length (g ∷ gs) [] m = absurd m
+made_length (g ∷ gs) (i ∷ is) m = ap suc (made_length gs is m.1)
+
+pub bottom_members : (gs : List Graph) (is : List Instance) (xs : List ℕ) → IsBottomTuple gs is xs → AreMembers is xs
+bottom_members [] [] [] b = tt
+bottom_members [] [] (x ∷ xs) b = absurd b
+bottom_members [] (i ∷ is) xs b = absurd b
+bottom_members (g ∷ gs) [] xs b = absurd b
+bottom_members (g ∷ gs) (i ∷ is) [] b = absurd b
+bottom_members (g ∷ gs) (i ∷ is) (x ∷ xs) b = (b.0, bottom_members gs is xs b.2)
+
+-- ---- the members of a record
+
+module _ (gs : List Graph) (is : List Instance) (row : List (List ℕ)) where
+  -- the first k fields have no fault and name these members; what the others say goes behind it
+  pub record MembersSoFar (k : ℕ) (xs : List ℕ) : Type 0 where
+    pub faults : members_fault gs is row ≡ members_fault (drop k gs) (drop k is) (drop k row)
+    pub read : members_read is row ≡ xs ++ members_read (drop k is) (drop k row)
+    pub bottom : (ys : List ℕ) → IsBottomTuple (drop k gs) (drop k is) ys → IsBottomTuple gs is (xs ++ ys)
+    pub made : AreMadeFor (drop k gs) (drop k is)
+
+  pub members_start : AreMadeFor gs is → MembersSoFar 0 []
+  members_start m = record { faults = refl; read = refl; bottom = λ ys b. b; made = m }
+
+  module _ (k : ℕ) (xs : List ℕ) (h : MembersSoFar k xs) (g : Graph) (i : Instance) (f : List ℕ)
+      (dg : drop k gs ≡ g ∷ drop (k + 1) gs) (di : drop k is ≡ i ∷ drop (k + 1) is)
+      (dr : drop k row ≡ f ∷ drop (k + 1) row) where
+    made_next : AreMadeFor (g ∷ drop (k + 1) gs) (i ∷ drop (k + 1) is)
+    made_next = subst (λ t. AreMadeFor t (i ∷ drop (k + 1) is)) dg (subst (λ t. AreMadeFor (drop k gs) t) di h.made)
+
+    pub made_here : IsMadeFor g i
+    made_here = made_next.0
+
+    faults_here : members_fault gs is row
+        ≡ option_or (member_fault g i f) (members_fault (drop (k + 1) gs) (drop (k + 1) is) (drop (k + 1) row))
+    faults_here = h.faults ∙ ap (λ t. members_fault t (drop k is) (drop k row)) dg
+        ∙ ap (λ t. members_fault (g ∷ drop (k + 1) gs) t (drop k row)) di
+        ∙ ap (λ t. members_fault (g ∷ drop (k + 1) gs) (i ∷ drop (k + 1) is) t) dr
+
+    pub members_more : (x : ℕ) → member_fault g i f ≡ None → x ≡ member_number i f → IsMember i x
+        → IsBottom g (category_of i x) → MembersSoFar (k + 1) (xs ++ x ∷ [])
+    members_more x none same inside bottom = record {
+      faults = faults_here
+          ∙ ap (λ o. option_or o (members_fault (drop (k + 1) gs) (drop (k + 1) is) (drop (k + 1) row))) none;
+      read = h.read ∙ ap (λ t. xs ++ members_read t (drop k row)) di
+          ∙ ap (λ t. xs ++ members_read (i ∷ drop (k + 1) is) t) dr
+          ∙ ap (λ y. xs ++ y ∷ members_read (drop (k + 1) is) (drop (k + 1) row)) (sym same)
+          ∙ sym (append_assoc xs (x ∷ []) (members_read (drop (k + 1) is) (drop (k + 1) row)));
+      bottom = λ ys b. subst (IsBottomTuple gs is) (sym (append_assoc xs (x ∷ []) ys))
+          (h.bottom (x ∷ ys) (subst (λ t. IsBottomTuple t (drop k is) (x ∷ ys)) (sym dg)
+          (subst (λ t. IsBottomTuple (g ∷ drop (k + 1) gs) t (x ∷ ys)) (sym di) (inside, bottom, b))));
+      made = made_next.1;
+    }
+
+    pub members_stop : (kind : FactKind) → member_fault g i f ≡ Some kind → members_fault gs is row ≡ Some kind
+    members_stop kind e = faults_here
+        ∙ ap (λ o. option_or o (members_fault (drop (k + 1) gs) (drop (k + 1) is) (drop (k + 1) row))) e
+
+  pub members_end : (k : ℕ) (xs : List ℕ) → AreMadeFor gs is → length is ≤ k → MembersSoFar k xs
+      → (members_fault gs is row ≡ None) × (xs ≡ members_read is row) × IsBottomTuple gs is xs
+  members_end k xs m l h =
+      let no_is = drop_all k is l in
+      let n = made_length gs is m in
+      let no_gs = drop_all k gs (omega arith) in (
+        h.faults ∙ ap (λ t. members_fault t (drop k is) (drop k row)) no_gs,
+        sym (h.read ∙ ap (λ t. xs ++ members_read t (drop k row)) no_is ∙ append-nil xs),
+        subst (IsBottomTuple gs is) (append-nil xs) (h.bottom [] (subst (λ t. IsBottomTuple t (drop k is) []) (sym no_gs)
+            (subst (λ t. IsBottomTuple [] t []) (sym no_is) tt))),
+      )
+
+-- ---- records
+
+pub header_is : (row top : List (List ℕ)) (b : Bool) → IsTrue b ↔ (row ≡ top) → b ≡ pointwise bytes_eq row top
+header_is row top b h =
+    let d : IsTrue (pointwise bytes_eq row top) ↔ (row ≡ top) =
+    slice_eq-Decides bytes_eq-Decides row top (pointwise bytes_eq row top) refl in
+    one_answer b (pointwise bytes_eq row top) h d
+
+pub told_cause : (fault : List (List (List ℕ)) → List (List ℕ) → Option FactKind)
+    (all seen left after : List (List (List ℕ))) (row : List (List ℕ)) (n : ℕ) (e : FactRefusal)
+    → HasSeen fault all seen left → left ≡ row ∷ after → length seen ≡ n → IsToldAt (n + 2) (fault seen row) e
+    → IsFaultCause (first_fault fault [] all) e
+told_cause fault all seen left after row n (refusal.Fault at kind) s l size t = (
+  length seen,
+  let q = t.0 in omega arith,
+  see-fault fault all seen left after row kind s l t.1,
+)
+told_cause fault all seen left after row n refusal.Memory s l size t = t
+
+-- the facts after one record more
+pub cube_facts_more : (is : List Instance) (seen : List (List (List ℕ))) (r : List (List ℕ)) (fs : List told.CubeFact)
+    (f : told.CubeFact) → map cube_fact_of fs ≡ map (cube_fact_read is) seen → cube_fact_of f ≡ cube_fact_read is r
+    → map cube_fact_of (fs ++ f ∷ []) ≡ map (cube_fact_read is) (seen ++ r ∷ [])
+cube_facts_more is seen r fs f e q =
+    map-append cube_fact_of fs (f ∷ []) ∙ ap (λ (t : List CubeFact). t ++ cube_fact_of f ∷ []) e
+    ∙ ap (λ (t : CubeFact). map (cube_fact_read is) seen ++ t ∷ []) q ∙ sym (map-append (cube_fact_read is) seen (r ∷ []))
+
+pub cube_table_none : (gs : List Graph) (is : List Instance) → IsCubeFactTable gs is []
+cube_table_none gs is f c = absurd (Contains-nil f c)
+
+pub cube_table_more : (gs : List Graph) (is : List Instance) (fs : List CubeFact) (f : CubeFact)
+    → IsCubeFactTable gs is fs → IsBottomTuple gs is f.members → IsCubeFactTable gs is (fs ++ f ∷ [])
+cube_table_more gs is fs f t b q c = elim (Contains-push_cases fs f q c) [
+  | inl h ↦ t q h
+  | inr e ↦ subst (λ (p : CubeFact). IsBottomTuple gs is p.members) e b
+]
+
+pub cube_table_members : (gs : List Graph) (is : List Instance) (fs : List told.CubeFact)
+    → IsCubeFactTable gs is (map cube_fact_of fs) → All (λ f. AreMembers is (members_of f.members)) fs
+cube_table_members gs is fs t k d h = bottom_members gs is (members_of (get_or fs k d).members)
+    (t (cube_fact_of (get_or fs k d)) (Contains-map cube_fact_of fs (get_or fs k d) (Contains-get_or fs k d h)))
+
+-- a view of all facts of a text
+pub cube_rolled_up : (gs : List Graph) (is : List Instance) (records left : List (List (List ℕ))) (target : List ℕ)
+    (view : CubeView) → has_header (length is) records ≡ true → left ≡ drop 1 records
+    → first_fault (cube_fact_fault gs is) [] left ≡ None
+    → view ≡ cube_direct_view is (map (cube_fact_read is) left) target → IsCubeRolledUp gs is records target view
+cube_rolled_up gs is records left target view h e none v = record {
+  facts = map (cube_fact_read is) left;
+  read = ap (λ b. if b then body_read gs is (drop 1 records) else Err (record { at = 1; kind = kinds.BadHeader })) h
+      ∙ ap (body_read gs is) (sym e) ∙ ap (λ o. or_read o (Ok (map (cube_fact_read is) left))) none;
+  direct = v;
+}

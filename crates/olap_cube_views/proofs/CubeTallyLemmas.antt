@@ -1,0 +1,304 @@
+-- For which fact tables a tally of a cube stands.
+--     stands_start                  no fact
+--     stands_apart, stands_joined   one fact more that reaches no tuple of the target, and one that reaches a tuple
+--     tally_*                       what is true of every tally
+--     room                          no sum wraps
+--     direct_rows_are               the rows of the direct view
+use Rattle.std.proofs.Common.{◌≡◌, ℕ, suc, ◌+◌, ◌*◌, ◌^◌, ◌≤◌, List, [], ◌∷◌, ◌++◌, length, map, take, Bool, true, false, cond, refl, ap, sym, subst, ◌∙◌, arith, Option, Some, None, IfSome, option_map, w64, length-append}
+use Rattle.std.specs.Prelude.{All, Contains, Err, IsSome, Ok, OnOk, Result, filter, if◌then◌else◌}
+use mir.Val.{SFits}
+use Rattle.std.specs.BTreeMap.{is_at}
+use Rattle.std.specs.Cmp.{tied_itself}
+use Rattle.std.specs.List.Sorted.{IsStrictlySortedBy}
+use Rattle.std.specs.Map.{keys_of, lookup}
+use Rattle.std.specs.Ordering.{is_eq}
+use Rattle.std.specs.declared.cmp.Ordering.{Ordering}
+use Rattle.std.specs.declared.cmp.Ordering.TheVariants.{Less, Equal, Greater}
+use Rattle.std.proofs.lemmas.Cmp.{nat_list_cmp_total}
+use Rattle.std.proofs.lemmas.List.{append-nil, length-map, map-append}
+use Rattle.std.proofs.lemmas.List.Elements.{All-filter, All-map, All-nil, All-push, filter-append}
+use Rattle.std.proofs.lemmas.Map.Lookups.{exact_bytes}
+use Rattle.std.proofs.lemmas.Map.Made.{keys_of-map_values, lookup-map_values}
+use Rattle.olap_base.specs.Instance.{Instance}
+use Rattle.olap_base.specs.Limits.{most_count}
+use Rattle.olap_base.specs.Summaries.{Summary, of_value, total, ◌⊕◌}
+use Rattle.olap_base.proofs.TotalLemmas.{total_push, ⊕_none}
+use Rattle.olap_cube.specs.CubeViews.{CubeFact, cube_direct_rows, cube_row_at, cube_values_at, total_of_cube_facts}
+use Rattle.olap_cube.specs.Tuples.{IsTupleOf, TupleReaches, tuple_reaches, tuples_of}
+use Rattle.olap_cube.proofs.TupleLemmas.{is_tuple_of, tuple_reaches_is, tuples_of_is}
+use Rattle.olap_view.specs.Columns.{Ascent}
+use Rattle.olap_view.specs.Bounds.{IsOfValues, IsUpTo}
+use Rattle.olap_view.specs.Seen.{summary_of}
+use Rattle.olap_view.specs.Tables.{when}
+use Rattle.olap_view.specs.declared.summaries.Summary as told
+use Rattle.olap_view.proofs.SummaryLemmas.{of_values_more, total_of_value_list, up_to_more}
+use Rattle.olap_view.proofs.ViewingLemmas.{filter_map_same}
+use Rattle.olap_cube_views.specs.CubeTallies.{CubeStandsFor, CubeTallied, Entry, IsCubeTally, IsKeyOf, IsTupleAncestor, ReachesNone, categories_in, entries_of, instances_in, is_key, key_cmp, key_of, row_of_entry, summary_at, tallied}
+use Rattle.olap_cube_views.specs.Dimensions.{most_dimensions}
+use Rattle.olap_cube_views.proofs.AncestorLemmas.{tuple_length}
+use Rattle.olap_cube_views.proofs.KeyLemmas.{filled_same, take-filled}
+use Rattle.olap_cube_views.proofs.OrderLemmas.{keys-ascend}
+use Rattle.olap_cube_views.proofs.RowLemmas.{rows_are}
+
+-- ---- totals
+
+values_push : (is : List Instance) (fs : List CubeFact) (f : CubeFact) (y : List ℕ)
+    → cube_values_at is (fs ++ f ∷ []) y
+    ≡ cube_values_at is fs y ++ cond (tuple_reaches is f.members y) (f.value ∷ []) []
+values_push is fs f y =
+    ap (map (λ (g : CubeFact). g.value)) (filter-append (λ g. tuple_reaches is g.members y) fs (f ∷ []))
+    ∙ map-append (λ (g : CubeFact). g.value) (filter (λ g. tuple_reaches is g.members y) fs)
+    (filter (λ g. tuple_reaches is g.members y) (f ∷ []))
+    ∙ ap (λ t. map (λ (g : CubeFact). g.value) (filter (λ g. tuple_reaches is g.members y) fs) ++ t)
+    (last (tuple_reaches is f.members y))
+  where
+    last : (b : Bool) → map (λ (g : CubeFact). g.value) (cond b (f ∷ []) []) ≡ cond b (f.value ∷ []) []
+    last true = refl
+    last false = refl
+
+total_more : (is : List Instance) (fs : List CubeFact) (f : CubeFact) (y : List ℕ)
+    → total_of_cube_facts is (fs ++ f ∷ []) y
+    ≡ total_of_cube_facts is fs y ⊕ when (tuple_reaches is f.members y) (of_value f.value)
+total_more is fs f y =
+    ap (λ vs. total (map of_value vs)) (values_push is fs f y) ∙ go (tuple_reaches is f.members y)
+  where
+    go : (b : Bool) → total (map of_value (cube_values_at is fs y ++ cond b (f.value ∷ []) []))
+        ≡ total_of_cube_facts is fs y ⊕ when b (of_value f.value)
+    go true = ap total (map-append of_value (cube_values_at is fs y) (f.value ∷ []))
+        ∙ total_push (map of_value (cube_values_at is fs y)) (of_value f.value)
+    go false = ap (λ vs. total (map of_value vs)) (append-nil (cube_values_at is fs y))
+        ∙ sym (⊕_none (total_of_cube_facts is fs y))
+
+filter_short : {A : Type 0} (p : A → Bool) (xs : List A) → length (filter p xs) ≤ length xs
+filter_short p [] = omega arith
+filter_short {A} p (x ∷ xs) = go (p x) (filter_short p xs)
+  where
+    go : (b : Bool) → length (filter p xs) ≤ length xs
+        → length (cond b (x ∷ filter p xs) (filter p xs)) ≤ suc (length xs)
+    go true h = omega arith
+    go false h = omega arith
+
+of_values : (o : Option Summary) (n k : ℕ) → n ≤ k → IfSome o (IsOfValues n) → IfSome o (IsOfValues k)
+of_values None n k h q = q
+of_values (Some s) n k h q = of_values_more n k s h q
+
+-- what some facts come to at y
+total_is_of_values : (is : List Instance) (facts : List CubeFact) (y : List ℕ) → All (λ f. SFits w64 f.value) facts
+    → IfSome (total_of_cube_facts is facts y) (IsOfValues (length facts))
+total_is_of_values is facts y a =
+    of_values (total_of_cube_facts is facts y) (length (cube_values_at is facts y)) (length facts) short
+    (total_of_value_list (cube_values_at is facts y)
+    (All-map (SFits w64) (λ (f : CubeFact). f.value) (filter (λ f. tuple_reaches is f.members y) facts)
+    (All-filter (λ (f : CubeFact). tuple_reaches is f.members y) (λ (f : CubeFact). SFits w64 f.value) facts a)))
+  where
+    short : length (cube_values_at is facts y) ≤ length facts
+    short =
+        let e = length-map (filter (λ (f : CubeFact). tuple_reaches is f.members y) facts) (λ (f : CubeFact). f.value) in
+        let l = filter_short (λ (f : CubeFact). tuple_reaches is f.members y) facts in omega arith
+
+-- ---- keys
+
+equal : (r : Ordering) → is_eq r ≡ true → r ≡ Equal
+equal Less e = absurd (cc)
+equal Equal e = refl
+equal Greater e = absurd (cc)
+
+pub own_key : (p q : List ℕ) → p ≡ q → is_key p q ≡ true
+own_key p q e = ap is_eq (subst (λ w. key_cmp p w ≡ Equal) e (tied_itself nat_list_cmp_total p))
+
+pub same_key : (p q : List ℕ) → is_key p q ≡ true → p ≡ q
+same_key p q e = exact_bytes p q (equal (key_cmp p q) e)
+
+-- what stands at a key of a map
+pub found_is : (entries : List (List ℕ × told.Summary)) (q : List ℕ)
+    → summary_at (entries_of entries) q ≡ option_map summary_of (lookup (is_at (key_cmp q)) entries)
+found_is entries q = lookup-map_values summary_of (is_at (key_cmp q)) entries
+
+-- what stands at each key after a summary is joined at one
+pub joined_at : (old new : List (List ℕ × told.Summary)) (p : List ℕ) (v : Summary)
+    → ((q : List ℕ) → option_map summary_of (lookup (is_at (key_cmp q)) new)
+    ≡ (if is_key p q then option_map summary_of (lookup (is_at (key_cmp p)) old) ⊕ Some v
+    else option_map summary_of (lookup (is_at (key_cmp q)) old)))
+    → (q : List ℕ) → summary_at (entries_of new) q
+    ≡ (if is_key p q then summary_at (entries_of old) p ⊕ Some v else summary_at (entries_of old) q)
+joined_at old new p v h q = found_is new q ∙ h q
+    ∙ ap (λ o. if is_key p q then o ⊕ Some v else option_map summary_of (lookup (is_at (key_cmp q)) old))
+    (sym (found_is old p))
+    ∙ ap (λ o. if is_key p q then summary_at (entries_of old) p ⊕ Some v else o) (sym (found_is old q))
+
+-- ---- one fact more
+
+-- a tally of one fact more, with these entries
+abbrev pub with_entries : CubeTallied → List Entry → CubeTallied
+with_entries t entries = record { instances = t.instances; target = t.target; added = t.added + 1; entries = entries }
+
+module _ (t : CubeTallied) (facts : List CubeFact) (f : CubeFact) (s : CubeStandsFor t facts) where
+  one_more : t.added + 1 ≡ length (facts ++ f ∷ [])
+  one_more = let a = s.added in omega (arith, length-append {A = CubeFact})
+
+  pub stands_apart : ReachesNone t.instances f.members t.target
+      → CubeStandsFor (with_entries t t.entries) (facts ++ f ∷ [])
+  stands_apart n = record {
+    added = one_more;
+    at = λ y m. s.at y m ∙ sym (total_more t.instances facts f y
+        ∙ same y (tuple_reaches t.instances f.members y) (apart y m));
+    keys = s.keys;
+  }
+    where
+      apart : (y : List ℕ) → IsTupleOf t.instances t.target y → tuple_reaches t.instances f.members y ≡ false
+      apart y m = go (tuple_reaches t.instances f.members y) refl
+        where
+          go : (b : Bool) → tuple_reaches t.instances f.members y ≡ b → b ≡ false
+          go true e = absurd (n y m ((tuple_reaches_is t.instances f.members y).0 e))
+          go false e = refl
+
+      same : (y : List ℕ) (b : Bool) → b ≡ false
+          → total_of_cube_facts t.instances facts y ⊕ when b (of_value f.value) ≡ total_of_cube_facts t.instances facts y
+      same y true e = absurd (cc)
+      same y false e = ⊕_none (total_of_cube_facts t.instances facts y)
+
+  module _ (entries : List Entry) (y : List ℕ) (p : List ℕ) (r : IsTupleAncestor t.instances f.members t.target y)
+      (k : p ≡ key_of y) (few : length t.instances ≤ most_dimensions)
+      (at : (q : List ℕ) → summary_at entries q
+      ≡ (if is_key p q then summary_at t.entries p ⊕ Some (of_value f.value) else summary_at t.entries q)) where
+    here : (z : List ℕ) → IsTupleOf t.instances t.target z → is_key p (key_of z) ≡ true → z ≡ y
+    here z m e =
+        let a = tuple_length t.instances t.target y r.is_tuple in
+        let b = tuple_length t.instances t.target z m in
+        filled_same most_dimensions z y (b ∙ sym a) (omega arith) (sym (same_key p (key_of z) e) ∙ k)
+
+    at_tuple : (z : List ℕ) → IsTupleOf t.instances t.target z
+        → summary_at entries (key_of z) ≡ total_of_cube_facts t.instances (facts ++ f ∷ []) z
+    at_tuple z m = go (tuple_reaches t.instances f.members z) refl
+      where
+        go : (b : Bool) → tuple_reaches t.instances f.members z ≡ b
+            → summary_at entries (key_of z) ≡ total_of_cube_facts t.instances (facts ++ f ∷ []) z
+        go true e =
+            let same : z ≡ y = r.only z m ((tuple_reaches_is t.instances f.members z).0 e) in
+            let own : p ≡ key_of z = k ∙ ap key_of (sym same) in
+            at (key_of z)
+            ∙ ap (λ b. if b then summary_at t.entries p ⊕ Some (of_value f.value) else summary_at t.entries (key_of z))
+            (own_key p (key_of z) own)
+            ∙ ap (λ q. summary_at t.entries q ⊕ Some (of_value f.value)) own
+            ∙ ap (λ o. o ⊕ Some (of_value f.value)) (s.at z m)
+            ∙ sym (total_more t.instances facts f z
+            ∙ ap (λ b. total_of_cube_facts t.instances facts z ⊕ when b (of_value f.value)) e)
+        go false e =
+            at (key_of z)
+            ∙ ap (λ b. if b then summary_at t.entries p ⊕ Some (of_value f.value) else summary_at t.entries (key_of z))
+            (not_here (is_key p (key_of z)) refl)
+            ∙ s.at z m ∙ sym (total_more t.instances facts f z
+            ∙ ap (λ b. total_of_cube_facts t.instances facts z ⊕ when b (of_value f.value)) e
+            ∙ ⊕_none (total_of_cube_facts t.instances facts z))
+          where
+            not_here : (b : Bool) → is_key p (key_of z) ≡ b → b ≡ false
+            not_here true h =
+                let reached = (tuple_reaches_is t.instances f.members z).1
+                (subst (λ w. TupleReaches t.instances f.members w) (sym (here z m h)) r.reached) in
+                absurd (cc (reached, e))
+            not_here false h = refl
+
+    at_key : (q : List ℕ) → IsSome (summary_at entries q) → IsKeyOf t.instances t.target q
+    at_key q w = go (is_key p q) refl
+      where
+        go : (b : Bool) → is_key p q ≡ b → IsKeyOf t.instances t.target q
+        go true e = (y, r.is_tuple, sym (same_key p q e) ∙ k)
+        go false e = s.keys q (subst IsSome (at q
+            ∙ ap (λ b. if b then summary_at t.entries p ⊕ Some (of_value f.value) else summary_at t.entries q) e) w)
+
+    pub stands_joined : CubeStandsFor (with_entries t entries) (facts ++ f ∷ [])
+    stands_joined = record { added = one_more; at = at_tuple; keys = at_key }
+
+-- the same of a map's entries, where a summary is joined at the key of the tuple that the fact reaches
+pub fact_joined : {T E : Type 0} (o : Result T E) (columns : List Ascent) (old new : List (List ℕ × told.Summary))
+    (f : CubeFact) (y p : List ℕ) (v : Summary) → length columns ≤ most_dimensions
+    → IsTupleAncestor (instances_in columns) f.members (categories_in columns) y → p ≡ key_of y → v ≡ of_value f.value
+    → OnOk o ((q : List ℕ) → option_map summary_of (lookup (is_at (key_cmp q)) new)
+    ≡ (if is_key p q then option_map summary_of (lookup (is_at (key_cmp p)) old) ⊕ Some v
+    else option_map summary_of (lookup (is_at (key_cmp q)) old)))
+    → OnOk o ((n : ℕ) (facts : List CubeFact) → CubeStandsFor (tallied columns old n) facts
+    → CubeStandsFor (tallied columns new (n + 1)) (facts ++ f ∷ []))
+fact_joined (Ok u) columns old new f y p v few r k e h = λ n facts s.
+    let l = length-map columns (λ (a : Ascent). a.instance) in
+    stands_joined (tallied columns old n) facts f s (entries_of new) y p r k (omega arith)
+    (λ q. subst (λ w. summary_at (entries_of new) q
+    ≡ (if is_key p q then summary_at (entries_of old) p ⊕ Some w else summary_at (entries_of old) q)) e
+    (joined_at old new p v h q))
+fact_joined (Err u) columns old new f y p v few r k e h = h
+
+-- and where the fact reaches none
+pub fact_apart : (columns : List Ascent) (entries : List (List ℕ × told.Summary)) (f : CubeFact)
+    → ReachesNone (instances_in columns) f.members (categories_in columns) → (n : ℕ) (facts : List CubeFact)
+    → CubeStandsFor (tallied columns entries n) facts
+    → CubeStandsFor (tallied columns entries (n + 1)) (facts ++ f ∷ [])
+fact_apart columns entries f none n facts s = stands_apart (tallied columns entries n) facts f s none
+
+-- ---- every tally
+
+pub tally_more : (t : CubeTallied) (q : IsCubeTally t) (f : CubeFact) (entries : List Entry) → t.added + 1 ≤ most_count
+    → SFits w64 f.value → CubeStandsFor (with_entries t entries) (q.facts ++ f ∷ []) → IsCubeTally (with_entries t entries)
+tally_more t q f entries h v s = record {
+  dimensions = q.dimensions;
+  few = h;
+  facts = q.facts ++ f ∷ [];
+  values = All-push (λ (f : CubeFact). SFits w64 f.value) q.facts f q.values v;
+  stands = s;
+}
+
+pub stands_start : (is : List Instance) (c : List ℕ)
+    → CubeStandsFor (record { instances = is; target = c; added = 0; entries = [] }) []
+stands_start is c = record { added = refl; at = λ y m. refl; keys = λ q w. absurd (cc) }
+
+pub tally_start : (is : List Instance) (c : List ℕ) → length is ≤ most_dimensions
+    → IsCubeTally (record { instances = is; target = c; added = 0; entries = [] })
+tally_start is c few = record {
+  dimensions = few;
+  few = omega arith;
+  facts = [];
+  values = All-nil (λ (f : CubeFact). SFits w64 f.value);
+  stands = stands_start is c;
+}
+
+pub room : (t : CubeTallied) → IsCubeTally t → (q : List ℕ) → IfSome (summary_at t.entries q) (IsUpTo (2 ^ 62) (2 ^ 120))
+room t k q = go (summary_at t.entries q) refl
+  where
+    small : (o : Option Summary) → IfSome o (IsOfValues (length k.facts)) → IfSome o (IsUpTo (2 ^ 62) (2 ^ 120))
+    small None h = h
+    small (Some s) h = let a = k.few in let b = k.stands.added in
+        up_to_more (length k.facts) (length k.facts * 2 ^ 63) (2 ^ 62) (2 ^ 120) s (omega arith) (omega arith) h.up_to
+
+    go : (o : Option Summary) → summary_at t.entries q ≡ o → IfSome o (IsUpTo (2 ^ 62) (2 ^ 120))
+    go None e = tt
+    go (Some s) e =
+        let y = k.stands.keys q (subst IsSome (sym e) refl) in
+        let at : total_of_cube_facts t.instances k.facts y.0 ≡ Some s =
+        sym (k.stands.at y.0 y.1) ∙ ap (summary_at t.entries) (sym y.2) ∙ e in
+        subst (λ o. IfSome o (IsUpTo (2 ^ 62) (2 ^ 120))) at
+        (small (total_of_cube_facts t.instances k.facts y.0) (total_is_of_values t.instances k.facts y.0 k.values))
+
+-- ---- rows
+
+pub direct_rows_are : (t : CubeTallied) (facts : List CubeFact) → length t.instances ≤ most_dimensions
+    → CubeStandsFor t facts → IsStrictlySortedBy key_cmp (keys_of t.entries)
+    → map (row_of_entry (length t.instances)) t.entries ≡ cube_direct_rows t.instances t.target facts
+direct_rows_are t facts few s o =
+    rows_are key_cmp nat_list_cmp_total exact_bytes key_of (λ y x. record { members = y; summary = x })
+    (row_of_entry (length t.instances)) (tuples_of t.instances t.target) t.entries reads
+    (keys-ascend t.instances t.target few) o keys
+    ∙ filter_map_same (λ y. cube_row_at y (summary_at t.entries (key_of y)))
+    (λ y. cube_row_at y (total_of_cube_facts t.instances facts y)) (tuples_of t.instances t.target)
+    (λ y c. ap (cube_row_at y) (s.at y (tuples_of_is t.instances t.target y c)))
+  where
+    reads : (y : List ℕ) → Contains (tuples_of t.instances t.target) y → (x : Summary)
+        → row_of_entry (length t.instances) (key_of y, x) ≡ record { members = y; summary = x }
+    reads y c x =
+        let n = tuple_length t.instances t.target y (tuples_of_is t.instances t.target y c) in
+        ap (λ ys. record { members = ys; summary = x })
+        (ap (λ j. take j (key_of y)) (sym n) ∙ take-filled most_dimensions y (omega arith))
+
+    keys : (q : List ℕ) → IsSome (summary_at t.entries q)
+        → (y : List ℕ) × Contains (tuples_of t.instances t.target) y × (key_of y ≡ q)
+    keys q w = let y = s.keys q w in (y.0, is_tuple_of t.instances t.target y.0 y.1, sym y.2)
+
+pub entry_keys : (entries : List (List ℕ × told.Summary)) → keys_of (entries_of entries) ≡ keys_of entries
+entry_keys entries = keys_of-map_values summary_of entries

@@ -1,0 +1,8 @@
+-- Lemmas.
+mod RowLemmas
+mod KeyLemmas
+mod AncestorLemmas
+mod OrderLemmas
+mod CubeTallyLemmas
+mod CubeReadingLemmas
+mod CubePrintingLemmas

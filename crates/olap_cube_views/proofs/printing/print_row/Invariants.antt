@@ -1,0 +1,8 @@
+-- The ids of the first members.
+use Rattle.std.proofs.Common.{map}
+use Rattle.olap_cube_views.specs.Seen.{members_of}
+use Rattle.olap_cube_views.proofs.CubePrintingLemmas.{IdsSoFar}
+use Rattle.olap_cube_views.proofs.printing.print_row.Given as goal
+
+abbrev pub invariant-ids : goal.invariant-ids
+invariant-ids l = IdsSoFar l.legals (members_of l.row.members) l.k (map (λ f. f.now) l.fields.items)

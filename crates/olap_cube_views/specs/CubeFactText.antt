@@ -1,0 +1,97 @@
+-- What the records of a text of a cube's facts stand for: a fact table, or the text's first fault.
+--     member_columns     the first columns' names, one for each dimension
+--     member_fault       what is wrong with a field that names a member
+--     members_fault      what is first wrong with those of a record
+--     cube_fact_fault    what is wrong with a record
+--     cube_facts_read    the facts or the fault
+use Rattle.std.specs.Prelude.{◌==◌, ◌+◌, ◌++◌, ◌∷◌, Bool, false, not, ℕ, pos, List, [], length, drop, map, take, codes, Option, Some, None, is_none, unwrap_or, if◌then◌else◌, nat_le, Result, Ok, Err}
+use Rattle.std.specs.Cmp.Lexicographic.{pointwise}
+use Rattle.std.specs.Option.{option_or}
+use Rattle.std.specs.Str.{bytes_eq}
+use Rattle.olap_base.specs.Graph.{Graph}
+use Rattle.olap_base.specs.Instance.{Instance, category_of}
+use Rattle.olap_base.specs.Limits.{most_listed_facts}
+use Rattle.olap_base.specs.Naming.{Fault, place_of}
+use Rattle.olap_records.specs.Faults.{field, first_fault}
+use Rattle.olap_records.specs.Numbers.{value_of}
+use Rattle.olap_facts.specs.FactText.{is_bottom}
+use Rattle.olap_facts.specs.declared.kinds.FactKind.{FactKind}
+use Rattle.olap_facts.specs.declared.kinds.FactKind.TheVariants as kind
+use Rattle.olap_cube.specs.CubeViews.{CubeFact}
+
+-- the names of the columns of members, one for each of so many dimensions
+abbrev pub member_columns : ℕ → List (List ℕ)
+member_columns k = take k (codes "m1" ∷ codes "m2" ∷ codes "m3" ∷ codes "m4" ∷ [])
+
+-- the fields of the first record, where there are so many dimensions
+abbrev pub header : ℕ → List (List ℕ)
+header k = member_columns k ++ codes "value" ∷ []
+
+-- ---- a record
+
+-- the member that a field names, if there is one
+abbrev pub member_named : Instance → List ℕ → Option ℕ
+member_named i f = place_of f (map (λ m. m.id) i)
+
+-- that member, or else the first
+abbrev pub member_number : Instance → List ℕ → ℕ
+member_number i f = unwrap_or (member_named i f) 0
+
+-- a field that names a member of a bottom category has no fault
+abbrev pub member_fault : Graph → Instance → List ℕ → Option FactKind
+member_fault g i f =
+    if is_none (member_named i f) then Some kind.UnknownMember
+    else if not (is_bottom g (category_of i (member_number i f))) then Some kind.NotBottom
+    else None
+
+-- the first fault of a record's first fields, one for each dimension, from left to right
+abbrev pub members_fault : List Graph → List Instance → List (List ℕ) → Option FactKind
+members_fault (g ∷ gs) (i ∷ is) (f ∷ fields) = option_or (member_fault g i f) (members_fault gs is fields)
+members_fault _ _ _ = None
+
+-- the members that they name
+abbrev pub members_read : List Instance → List (List ℕ) → List ℕ
+members_read (i ∷ is) (f ∷ fields) = member_number i f ∷ members_read is fields
+members_read _ _ = []
+
+-- the fault of a record whose members have none: the last field spells no value, or there are too many facts before
+abbrev pub value_fault : List (List (List ℕ)) → List ℕ → Option FactKind
+value_fault before f =
+    if is_none (value_of f) then Some kind.BadNumber
+    else if nat_le most_listed_facts (length before) then Some kind.TooManyFacts
+    else None
+
+-- the first check that a record fails, after the records before it
+abbrev pub cube_fact_fault : List Graph → List Instance → List (List (List ℕ)) → List (List ℕ) → Option FactKind
+cube_fact_fault gs is before r =
+    if not (length r == length is + 1) then Some kind.FieldCount
+    else option_or (members_fault gs is r) (value_fault before (field r (length is)))
+
+-- a record's fact: the members that it names, and the value that it spells
+abbrev pub cube_fact_read : List Instance → List (List ℕ) → CubeFact
+cube_fact_read is r =
+    record { members = members_read is r; value = unwrap_or (value_of (field r (length is))) (pos 0) }
+
+-- ---- all of them
+
+-- the fault, if there is one, at its record, of which the header is the first; else what comes after it
+abbrev pub or_read : Option (ℕ × FactKind) → Result (List CubeFact) (Fault FactKind)
+    → Result (List CubeFact) (Fault FactKind)
+or_read None after = after
+or_read (Some p) after = Err (record { at = p.0 + 2; kind = p.1 })
+
+-- the records after the header
+abbrev pub body_read : List Graph → List Instance → List (List (List ℕ)) → Result (List CubeFact) (Fault FactKind)
+body_read gs is rows = or_read (first_fault (cube_fact_fault gs is) [] rows) (Ok (map (cube_fact_read is) rows))
+
+-- the first record is the header
+abbrev pub has_header : ℕ → List (List (List ℕ)) → Bool
+has_header k [] = false
+has_header k (top ∷ rows) = pointwise bytes_eq top (header k)
+
+-- what the records of a text stand for
+abbrev pub cube_facts_read : List Graph → List Instance → List (List (List ℕ))
+    → Result (List CubeFact) (Fault FactKind)
+cube_facts_read gs is records =
+    if has_header (length is) records then body_read gs is (drop 1 records)
+    else Err (record { at = 1; kind = kind.BadHeader })

@@ -1,0 +1,14 @@
+-- The view of a text of a cube's facts.
+--     IsCubeRolledUp   a view is the direct one of the facts that a text stands for
+use Rattle.std.specs.Prelude.{◌≡◌, ℕ, List, Ok}
+use Rattle.olap_base.specs.Graph.{Graph}
+use Rattle.olap_base.specs.Instance.{Instance}
+use Rattle.olap_cube.specs.CubeViews.{CubeFact, CubeView, cube_direct_view}
+use Rattle.olap_cube_views.specs.CubeFactText.{cube_facts_read}
+
+-- the records stand for facts, and the view is the direct one of this target
+pub record IsCubeRolledUp (gs : List Graph) (is : List Instance) (records : List (List (List ℕ))) (target : List ℕ)
+    (view : CubeView) : Type 0 where
+  pub facts : List CubeFact
+  pub read : cube_facts_read gs is records ≡ Ok facts
+  pub direct : view ≡ cube_direct_view is facts target

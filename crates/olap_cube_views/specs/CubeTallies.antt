@@ -1,0 +1,121 @@
+-- A tally of a cube's facts: what the values come to, by tuples of the target's members.
+--     Key              the members of a tuple, and zeros up to four numbers
+--     IsTupleAncestor  the one tuple of the target that a tuple reaches
+--     CubeTallied      what a tally has counted
+--     CubeStandsFor    it stands for a fact table
+--     IsCubeTally      what is true of every tally
+use Rattle.std.specs.Prelude.{◌≡◌, Bool, ℕ, zero, suc, ◌≤◌, List, [], ◌∷◌, length, map, take, All, FitsSigned, Option, IsSome}
+use Rattle.std.specs.Cmp.Lexicographic.{slice_cmp}
+use Rattle.std.specs.Int.{w64}
+use Rattle.std.specs.BTreeMap.{is_at}
+use Rattle.std.specs.Map.{lookup}
+use Rattle.std.specs.Ordering.{nat_cmp}
+use Rattle.std.specs.declared.cmp.Ordering.{Ordering}
+use Rattle.olap_base.specs.Instance.{Instance, IsMember}
+use Rattle.olap_base.specs.Limits.{most_count}
+use Rattle.olap_base.specs.Summaries.{Summary}
+use Rattle.olap_cube.specs.CubeViews.{CubeFact, CubeRow, total_of_cube_facts}
+use Rattle.olap_cube.specs.Tuples.{IsTupleOf, TupleReaches}
+use Rattle.olap_view.specs.Columns.{Ascent}
+use Rattle.olap_view.specs.Seen.{summary_of}
+use Rattle.olap_view.specs.declared.summaries.Summary as told
+use Rattle.olap_cube_views.specs.Dimensions.{most_dimensions}
+
+-- ---- the tuple that a fact reaches
+
+-- y is the one tuple of members of c that x reaches
+pub record IsTupleAncestor (is : List Instance) (x c y : List ℕ) : Type 0 where
+  pub is_tuple : IsTupleOf is c y
+  pub reached : TupleReaches is x y
+  pub only : (w : List ℕ) → IsTupleOf is c w → TupleReaches is x w → w ≡ y
+
+-- x reaches no tuple of members of c
+abbrev pub ReachesNone : List Instance → List ℕ → List ℕ → Type 0
+ReachesNone is x c = (w : List ℕ) → IsTupleOf is c w → TupleReaches is x w → ⊥
+
+-- each is a member of its instance
+abbrev pub AreMembers : List Instance → List ℕ → Type 0
+AreMembers [] [] = Unit {0}
+AreMembers (i ∷ is) (x ∷ xs) = IsMember i x × AreMembers is xs
+AreMembers _ _ = ⊥
+
+-- the instances that columns lead up in, and the categories that they lead to
+abbrev pub instances_in : List Ascent → List Instance
+instances_in columns = map (λ a. a.instance) columns
+
+abbrev pub categories_in : List Ascent → List ℕ
+categories_in columns = map (λ a. a.category) columns
+
+-- ---- keys
+
+-- the first numbers of a list, and zeros where it has fewer
+abbrev pub filled : ℕ → List ℕ → List ℕ
+filled zero ys = []
+filled (suc n) [] = 0 ∷ filled n []
+filled (suc n) (y ∷ ys) = y ∷ filled n ys
+
+-- the key of a tuple
+abbrev pub key_of : List ℕ → List ℕ
+key_of ys = filled most_dimensions ys
+
+-- keys are compared number by number
+abbrev pub key_cmp : List ℕ → List ℕ → Ordering
+key_cmp = slice_cmp nat_cmp
+
+-- whether two keys are one
+abbrev pub is_key : List ℕ → List ℕ → Bool
+is_key p q = is_at (key_cmp p) q
+
+-- a key with its summary
+abbrev pub Entry : Type 0
+Entry = List ℕ × Summary
+
+-- the entries that a map's entries stand for
+abbrev pub entries_of : List (List ℕ × told.Summary) → List Entry
+entries_of entries = map (λ e. (e.0, summary_of e.1)) entries
+
+-- the summary at a key
+abbrev pub summary_at : List Entry → List ℕ → Option Summary
+summary_at entries q = lookup (is_at (key_cmp q)) entries
+
+-- the row of an entry, where there are so many dimensions
+abbrev pub row_of_entry : ℕ → Entry → CubeRow
+row_of_entry k e = record { members = take k e.0; summary = e.1 }
+
+-- ---- tallies
+
+-- how many facts were added on some instances, and what their values come to at tuples of members of the target
+pub record CubeTallied : Type 0 where
+  pub instances : List Instance
+  pub target : List ℕ
+  pub added : ℕ
+  pub entries : List Entry
+
+-- a key is that of a tuple of members of the target
+abbrev pub IsKeyOf : List Instance → List ℕ → List ℕ → Type 0
+IsKeyOf is c q = (y : List ℕ) × IsTupleOf is c y × (q ≡ key_of y)
+
+-- as many facts were added as the table has, and at each tuple of the target stands what the values of the facts that
+-- reach it come to, and nothing at any other key
+pub record CubeStandsFor (t : CubeTallied) (facts : List CubeFact) : Type 0 where
+  pub added : t.added ≡ length facts
+  pub at : (y : List ℕ) → IsTupleOf t.instances t.target y
+      → summary_at t.entries (key_of y) ≡ total_of_cube_facts t.instances facts y
+  pub keys : (q : List ℕ) → IsSome (summary_at t.entries q) → IsKeyOf t.instances t.target q
+
+-- it stands for some fact table whose values are of 64 bits
+pub record IsCubeTally (t : CubeTallied) : Type 0 where
+  pub dimensions : length t.instances ≤ most_dimensions
+  pub few : t.added ≤ most_count
+  pub facts : List CubeFact
+  pub values : All (λ f. FitsSigned w64 f.value) facts
+  pub stands : CubeStandsFor t facts
+
+-- what a tally over columns and a map's entries has counted
+abbrev pub tallied : List Ascent → List (List ℕ × told.Summary) → ℕ → CubeTallied
+tallied columns entries n = record {
+  instances = instances_in columns;
+  target = categories_in columns;
+  added = n;
+  entries = entries_of entries;
+}

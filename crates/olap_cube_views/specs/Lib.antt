@@ -1,0 +1,11 @@
+-- Definitions that contracts cite.
+
+-- What a reader of the claims believes.
+pub mod Dimensions
+pub mod Seen
+pub mod CubeFactText
+pub mod CubeRefusals
+pub mod CubeRollingUp
+pub mod CubeViewText
+-- The inside: what a map of summaries by tuples holds.
+pub mod CubeTallies

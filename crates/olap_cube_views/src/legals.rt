@@ -1,0 +1,68 @@
+// The legal instances of a cube's dimensions.
+ghost use Rattle.std.specs.Prelude.{◌≡◌, ◌++◌, ◌∷◌, ◌<◌, ◌≤◌, [], IfErr, OnErr, OnOk, length, slice_index_or};
+ghost use Rattle.olap_cube_views.specs.Dimensions.{most_dimensions};
+
+use olap_check::Legal;
+use std::alloc::Global;
+use std::marker::Model;
+
+/// How many dimensions a cube may have.
+pub const MOST_DIMENSIONS: usize = 4;
+
+/// The legal instances of up to four dimensions, in order.
+#[derive(Drop)]
+pub struct Legals {
+    legals: Vec<Legal>,
+}
+
+impl Model for Legals {
+    ghost use Rattle.std.specs.Prelude.{◌≤◌, List as Items, length};
+    ghost use Rattle.olap_base.specs.Instance.{Instance};
+    ghost use Rattle.olap_cube_views.specs.Dimensions.{most_dimensions};
+
+    ghost Value = { Items Instance };
+
+    ghost view = { λ a. a.legals.items };
+
+    ghost invariant = { λ a. length a.legals.items ≤ most_dimensions };
+}
+
+impl Legals {
+    /// No dimension.
+    pub fn new(alloc: Global) -> Legals
+        ensures { result ≡ [] }
+    {
+        Legals {
+            legals: Vec::new(alloc),
+        }
+    }
+
+    /// Adds the legal instance of one dimension more. Out of memory it comes back, and the others stay.
+    pub fn push(&mut self, legal: Legal) -> Result<(), Legal>
+        requires { length self.old < most_dimensions }
+        ensures ok { OnOk result (self.new ≡ self.old ++ legal ∷ []) }
+        ensures err { OnErr result (self.new ≡ self.old) }
+        ensures back { IfErr result (λ l. l ≡ legal) }
+    {
+        match self.legals.push(legal) {
+            Ok(()) => Ok(()),
+            Err(failed) => Err(failed.value),
+        }
+    }
+
+    /// How many dimensions there are: at most four.
+    pub fn len(&self) -> usize
+        ensures count { result ≡ length self.now }
+        ensures few { length self.now ≤ most_dimensions }
+    {
+        self.legals.len()
+    }
+
+    /// The legal instance of a dimension, from 0.
+    pub fn legal(&self, i: usize) -> &Legal
+        requires { i < length self.now }
+        ensures { result.now ≡ slice_index_or self.now i [] }
+    {
+        &self.legals[i]
+    }
+}

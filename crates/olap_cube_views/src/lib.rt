@@ -1,0 +1,21 @@
+//! Facts of up to four dimensions at once, read from texts, and their views.
+//!
+//! A contract sees a `Legals` as the definition's list of instances, a `CubeFacts` as its list of facts and a `CubeView`
+//! as its record (`specs/Seen.antt`). `cube_direct` answers the definition's direct view, and `cube_roll_up` that of the
+//! facts that a text stands for. Nothing here knows how an instance is read or checked.
+#![tactic(auto)]
+
+mod legals;
+mod printing;
+mod reading;
+mod tables;
+mod tallies;
+mod viewing;
+mod views;
+
+pub use legals::{Legals, MOST_DIMENSIONS};
+pub use printing::print_cube_view;
+pub use reading::read_cube_facts;
+pub use tables::{CubeFact, CubeFacts};
+pub use viewing::{cube_direct, cube_roll_up};
+pub use views::{CubeRow, CubeView};

@@ -1,0 +1,207 @@
+// The facts of a cube, read from a text.
+ghost use Rattle.std.specs.Prelude.{◌≡◌, ◌↔◌, ◌+◌, ◌<◌, ◌≤◌, ℕ, All, IfOk, IsTrue, List as Items, MatchResult, None, Ok, Some, [], drop, length, map};
+ghost use Rattle.olap_base.specs.Graph.{IsBottom};
+ghost use Rattle.olap_base.specs.Instance.{category_of};
+ghost use Rattle.olap_base.specs.Limits.{most_listed_facts};
+ghost use Rattle.olap_cube.specs.CubeViews.{IsCubeFactTable};
+ghost use Rattle.olap_cube.specs.Tuples.{IsBottomTuple};
+ghost use Rattle.olap_facts.specs.FactText.{is_bottom};
+ghost use Rattle.olap_facts.specs.Refusals.{IsFaultCause};
+ghost use Rattle.olap_instance.specs.Made.{IsMadeFor};
+ghost use Rattle.olap_records.specs.Faults.{first_fault};
+ghost use Rattle.olap_records.specs.Records.{records_of};
+ghost use Rattle.olap_cube_views.specs.CubeFactText.{cube_fact_fault, cube_fact_read, cube_facts_read, has_header, header, member_fault, member_number, members_fault, members_read};
+ghost use Rattle.olap_cube_views.specs.CubeTallies.{AreMembers};
+ghost use Rattle.olap_cube_views.specs.CubeRefusals.{IsCubeRefusedBy, IsToldAt};
+ghost use Rattle.olap_cube_views.specs.Dimensions.{AreMadeFor, graphs_of, most_dimensions};
+ghost use Rattle.olap_cube_views.specs.Seen.{cube_fact_of, cube_facts_of, members_of};
+
+use crate::{CubeFact, CubeFacts, Legals};
+use olap_base::{List, MOST_LISTED_FACTS, MemberId, Memory};
+use olap_facts::{FactKind, FactRefusal};
+use olap_graph::Graph;
+use olap_instance::Instance;
+use olap_records::{Rows, value};
+use std::alloc::Global;
+
+/// Reads the first record, and says whether it is the header for so many dimensions.
+pub(crate) fn begins(rows: &mut Rows, dimensions: usize) -> Result<bool, Memory>
+    requires few { dimensions ≤ most_dimensions }
+    ensures header { IfOk result (λ b. b ≡ has_header dimensions rows.old.left) }
+    ensures left { IfOk result (λ b. IsTrue b → rows.new.left ≡ drop 1 rows.old.left) }
+{
+    let found = rows.advance()?;
+    Ok(found && is_header(rows, dimensions))
+}
+
+/// Whether the record that was read last is the header for so many dimensions.
+fn is_header(rows: &Rows, dimensions: usize) -> bool
+    requires few { dimensions ≤ most_dimensions }
+    ensures { IsTrue result ↔ (rows.now.row ≡ header dimensions) }
+{
+    match dimensions {
+        0 => rows.is_row(&[b"value"]),
+        1 => rows.is_row(&[b"m1", b"value"]),
+        2 => rows.is_row(&[b"m1", b"m2", b"value"]),
+        3 => rows.is_row(&[b"m1", b"m2", b"m3", b"value"]),
+        _ => rows.is_row(&[b"m1", b"m2", b"m3", b"m4", b"value"]),
+    }
+}
+
+/// Whether a member is of a bottom category.
+fn is_at_bottom(graph: &Graph, instance: &Instance, m: MemberId) -> bool
+    requires made { IsMadeFor graph.now instance.now }
+    requires member { m.0 < length instance.now }
+    ensures value { result ≡ is_bottom graph.now (category_of instance.now m.0) }
+    ensures bottom { IsTrue result → IsBottom graph.now (category_of instance.now m.0) }
+{
+    graph.is_bottom(instance.category(m))
+}
+
+/// The member of a bottom category that a field names.
+fn member(graph: &Graph, instance: &Instance, field: &[u8]) -> Result<MemberId, FactKind>
+    requires made { IsMadeFor graph.now instance.now }
+    ensures member { MatchResult result
+        (λ m. (member_fault graph.now instance.now field.now ≡ None) × (m.0 ≡ member_number instance.now field.now))
+        (λ k. member_fault graph.now instance.now field.now ≡ Some k) }
+    ensures inside { IfOk result (λ m. m.0 < length instance.now) }
+    ensures bottom { IfOk result (λ m. IsBottom graph.now (category_of instance.now m.0)) }
+{
+    let Some(member) = instance.find(field) else {
+        return Err(FactKind::UnknownMember);
+    };
+    if !is_at_bottom(graph, instance, member) {
+        return Err(FactKind::NotBottom);
+    }
+    Ok(member)
+}
+
+/// The members that the first fields of the record that was read last name, one of each dimension. A fault is told at
+/// the record of this number.
+fn members(
+    alloc: Global,
+    graphs: &[&Graph],
+    legals: &Legals,
+    rows: &Rows,
+    at: u64,
+) -> Result<Vec<MemberId>, FactRefusal>
+    requires made { AreMadeFor (graphs_of graphs.now) legals.now }
+    requires width { length rows.now.row ≡ length legals.now + 1 }
+    ensures read { MatchResult result
+        (λ v. (members_fault (graphs_of graphs.now) legals.now rows.now.row ≡ None)
+        × (members_of v.items ≡ members_read legals.now rows.now.row))
+        (IsToldAt at (members_fault (graphs_of graphs.now) legals.now rows.now.row)) }
+    ensures bottom { IfOk result (λ v. IsBottomTuple (graphs_of graphs.now) legals.now (members_of v.items)) }
+{
+    let mut members = Vec::new(alloc);
+    'dimensions: for k in 0..legals.len() {
+        match member(graphs[k], legals.legal(k).instance(), rows.field(k)) {
+            Ok(member) => members.push(member)?,
+            Err(kind) => return Err(FactRefusal::Fault { at, kind }),
+        }
+    }
+    Ok(members)
+}
+
+/// The fact of the record that was read last, after this many facts.
+pub(crate) fn fact(
+    alloc: Global,
+    graphs: &[&Graph],
+    legals: &Legals,
+    rows: &Rows,
+    before: u64,
+) -> Result<CubeFact, FactRefusal>
+    requires made { AreMadeFor (graphs_of graphs.now) legals.now }
+    requires before { before ≤ most_listed_facts }
+    ensures fact { (earlier : Items (Items (Items ℕ))) → length earlier ≡ before
+        → MatchResult result
+        (λ f. (cube_fact_fault (graphs_of graphs.now) legals.now earlier rows.now.row ≡ None)
+        × (cube_fact_of f ≡ cube_fact_read legals.now rows.now.row))
+        (IsToldAt (before + 2) (cube_fact_fault (graphs_of graphs.now) legals.now earlier rows.now.row)) }
+    ensures bottom { IfOk result (λ f. IsBottomTuple (graphs_of graphs.now) legals.now (members_of f.members)) }
+    ensures few { IfOk result (λ f. before < most_listed_facts) }
+{
+    let at = before + 2;
+    let dimensions = legals.len();
+    if rows.len() != dimensions + 1 {
+        return Err(FactRefusal::Fault {
+            at,
+            kind: FactKind::FieldCount,
+        });
+    }
+    let members = members(alloc, graphs, legals, rows, at)?;
+    let Some(value) = value(rows.field(dimensions)) else {
+        return Err(FactRefusal::Fault {
+            at,
+            kind: FactKind::BadNumber,
+        });
+    };
+    if before >= MOST_LISTED_FACTS {
+        return Err(FactRefusal::Fault {
+            at,
+            kind: FactKind::TooManyFacts,
+        });
+    }
+    Ok(CubeFact {
+        members: List::from_vec(members),
+        value,
+    })
+}
+
+/// The facts of the records that are left.
+fn read_rows(
+    alloc: Global,
+    graphs: &[&Graph],
+    legals: &Legals,
+    rows: &mut Rows,
+) -> Result<Vec<CubeFact>, FactRefusal>
+    requires made { AreMadeFor (graphs_of graphs.now) legals.now }
+    ensures facts { MatchResult result
+        (λ v. (first_fault (cube_fact_fault (graphs_of graphs.now) legals.now) [] rows.old.left ≡ None)
+        × (map cube_fact_of v.items ≡ map (cube_fact_read legals.now) rows.old.left))
+        (IsFaultCause (first_fault (cube_fact_fault (graphs_of graphs.now) legals.now) [] rows.old.left)) }
+    ensures table { IfOk result
+        (λ v. IsCubeFactTable (graphs_of graphs.now) legals.now (map cube_fact_of v.items)) }
+    ensures few { IfOk result (λ v. length v.items ≤ most_listed_facts) }
+{
+    let mut facts = Vec::new(alloc);
+    'rows: while rows.advance()? {
+        let fact = fact(alloc, graphs, legals, rows, facts.len() as u64)?;
+        facts.push(fact)?;
+    }
+    Ok(facts)
+}
+
+/// The fact table that a text tells, or the text's first fault. The graphs are those of the dimensions, in order. Each
+/// record takes a look-up of an id for each dimension.
+///
+/// Of a record the first of these is its fault: `FieldCount`; for each member from left to right `UnknownMember`,
+/// `NotBottom`; `BadNumber`; `TooManyFacts` where it is one more than `MOST_LISTED_FACTS`. `Memory`: want of memory.
+pub fn read_cube_facts(
+    alloc: Global,
+    graphs: &[&Graph],
+    legals: &Legals,
+    text: &[u8],
+) -> Result<CubeFacts, FactRefusal>
+    requires made { AreMadeFor (graphs_of graphs.now) legals.now }
+
+    ensures read { MatchResult result
+        (λ f. cube_facts_read (graphs_of graphs.now) legals.now (records_of text.now) ≡ Ok (cube_facts_of f))
+        (λ e. IsCubeRefusedBy e (cube_facts_read (graphs_of graphs.now) legals.now (records_of text.now))) }
+
+    ensures members { IfOk result (λ f. All (λ q. AreMembers legals.now (members_of q.members)) f.rows) }
+    ensures few { IfOk result (λ f. length f.rows ≤ most_listed_facts) }
+    ensures table { IfOk result (λ f. IsCubeFactTable (graphs_of graphs.now) legals.now (cube_facts_of f)) }
+{
+    let mut rows = Rows::new(alloc, text);
+    if !begins(&mut rows, legals.len())? {
+        return Err(FactRefusal::Fault {
+            at: 1,
+            kind: FactKind::BadHeader,
+        });
+    }
+    let facts = read_rows(alloc, graphs, legals, &mut rows)?;
+    Ok(CubeFacts {
+        rows: List::from_vec(facts),
+    })
+}

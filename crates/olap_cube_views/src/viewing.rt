@@ -1,0 +1,120 @@
+// The direct view of a cube's target, from facts or from a text of them.
+ghost use Rattle.std.specs.Prelude.{◌≡◌, ◌≤◌, All, IfErr, IfOk, MatchResult, [], length, map};
+ghost use Rattle.olap_base.specs.Limits.{most_count, most_listed_facts};
+ghost use Rattle.olap_cube.specs.CubeViews.{CubeFact as TheFact, cube_direct_rows, cube_direct_view};
+ghost use Rattle.olap_facts.specs.Refusals.{IsFaultCause};
+ghost use Rattle.olap_records.specs.Faults.{first_fault};
+ghost use Rattle.olap_records.specs.Records.{records_of};
+ghost use Rattle.olap_view.specs.Seen.{ids};
+ghost use Rattle.olap_cube_views.specs.CubeFactText.{cube_fact_fault, cube_fact_read, cube_facts_read};
+ghost use Rattle.olap_cube_views.specs.CubeRefusals.{IsCubeRefusedBy};
+ghost use Rattle.olap_cube_views.specs.CubeRollingUp.{IsCubeRolledUp};
+ghost use Rattle.olap_cube_views.specs.CubeTallies.{AreMembers, CubeStandsFor};
+ghost use Rattle.olap_cube_views.specs.Dimensions.{AreMadeFor, graphs_of};
+ghost use Rattle.olap_cube_views.specs.Seen.{cube_facts_of, cube_rows_of, cube_view_of, members_of};
+
+use crate::reading::{begins, fact};
+use crate::tallies::CubeTally;
+use crate::{CubeFacts, CubeRow, CubeView, Legals};
+use olap_base::{CatId, List, Memory};
+use olap_facts::{FactKind, FactRefusal};
+use olap_graph::Graph;
+use olap_records::Rows;
+use std::alloc::Global;
+
+/// A view with these rows.
+fn view(alloc: Global, target: &[CatId], rows: Vec<CubeRow>) -> Result<CubeView, Memory>
+    ensures target { IfOk result (λ v. ids v.target ≡ ids target.now) }
+    ensures rows { IfOk result (λ v. v.rows ≡ rows.items) }
+{
+    let mut categories = Vec::new(alloc);
+    categories.extend_from_slice(target)?;
+    Ok(CubeView {
+        target: List::from_vec(categories),
+        rows: List::from_vec(rows),
+    })
+}
+
+/// The direct view of a target, a category of each dimension: a row for each tuple of their members that some fact's
+/// members reach, in file order of the first dimension's members, then of the second's, and so on, with the count, sum,
+/// least and greatest of those facts' values.
+///
+/// It takes four bytes for each member of the instances, and memory for each row; a fact takes a look at a list for each
+/// dimension and a look-up among the rows. `Memory`: want of memory.
+pub fn cube_direct(
+    alloc: Global,
+    legals: &Legals,
+    facts: &CubeFacts,
+    target: &[CatId],
+) -> Result<CubeView, Memory>
+    requires target { length target.now ≡ length legals.now }
+    requires at_members { All (λ f. AreMembers legals.now (members_of f.members)) facts.now.rows }
+    requires few { length facts.now.rows ≤ most_count }
+
+    ensures view { IfOk result
+        (λ v. cube_view_of v ≡ cube_direct_view legals.now (cube_facts_of facts.now) (ids target.now)) }
+{
+    let mut tally = CubeTally::new(alloc, legals, target)?;
+    'facts: for fact in facts.rows.items() {
+        tally.add(fact)?;
+    }
+    let rows = tally.rows(alloc)?;
+    view(alloc, target, rows)
+}
+
+/// Adds the facts of the records that are left.
+fn add_rows(
+    alloc: Global,
+    graphs: &[&Graph],
+    legals: &Legals,
+    rows: &mut Rows,
+    tally: &mut CubeTally,
+) -> Result<(), FactRefusal>
+    requires made { AreMadeFor (graphs_of graphs.now) legals.now }
+    requires instances { tally.old.instances ≡ legals.now }
+    requires start { CubeStandsFor tally.old [] }
+    ensures facts { MatchResult result
+        (λ u. (first_fault (cube_fact_fault (graphs_of graphs.now) legals.now) [] rows.old.left ≡ None)
+        × CubeStandsFor tally.new (map (cube_fact_read legals.now) rows.old.left))
+        (IsFaultCause (first_fault (cube_fact_fault (graphs_of graphs.now) legals.now) [] rows.old.left)) }
+    ensures instances { tally.new.instances ≡ legals.now }
+    ensures target { tally.new.target ≡ tally.old.target }
+{
+    'rows: while rows.advance()? {
+        let fact = fact(alloc, graphs, legals, rows, tally.added())?;
+        tally.add(&fact)?;
+    }
+    Ok(())
+}
+
+/// The direct view of a target from a text of facts, or the text's first fault, which is that of `read_cube_facts`. The
+/// graphs are those of the dimensions, in order.
+///
+/// Each fact is read once and added, and no list of facts is kept. `Memory`: want of memory.
+pub fn cube_roll_up(
+    alloc: Global,
+    graphs: &[&Graph],
+    legals: &Legals,
+    text: &[u8],
+    target: &[CatId],
+) -> Result<CubeView, FactRefusal>
+    requires made { AreMadeFor (graphs_of graphs.now) legals.now }
+    requires target { length target.now ≡ length legals.now }
+
+    ensures view { IfOk result (λ v. IsCubeRolledUp (graphs_of graphs.now) legals.now (records_of text.now)
+        (ids target.now) (cube_view_of v)) }
+    ensures err { IfErr result (λ e.
+        IsCubeRefusedBy e (cube_facts_read (graphs_of graphs.now) legals.now (records_of text.now))) }
+{
+    let mut rows = Rows::new(alloc, text);
+    if !begins(&mut rows, legals.len())? {
+        return Err(FactRefusal::Fault {
+            at: 1,
+            kind: FactKind::BadHeader,
+        });
+    }
+    let mut tally = CubeTally::new(alloc, legals, target)?;
+    add_rows(alloc, graphs, legals, &mut rows, &mut tally)?;
+    let rows = tally.rows(alloc)?;
+    Ok(view(alloc, target, rows)?)
+}
