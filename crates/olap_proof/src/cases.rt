@@ -28,9 +28,9 @@ pub(crate) struct Case {
 }
 
 impl Model for Case {
-    ghost use Rattle.olap_proof.specs.Places.{Place as All};
+    ghost use Rattle.olap_proof.specs.Places.{Place as Decisions};
 
-    ghost Value = { All };
+    ghost Value = { Decisions };
 
     ghost use Rattle.olap_proof.specs.Rooted.{IsRooted, place_in};
 
