@@ -49,11 +49,7 @@ fn cell(legal: &Legal, category: CatId, x: MemberId) -> u32
 impl<'a> Column<'a> {
     /// The column of a category. It takes one look at the table of ancestors, and four bytes, for each member. `Memory`:
     /// want of memory.
-    pub fn new(
-        alloc: Global,
-        legal: &'a Legal,
-        category: CatId,
-    ) -> Result<Column<'a>, Memory>
+    pub fn new(alloc: Global, legal: &'a Legal, category: CatId) -> Result<Column<'a>, Memory>
         ensures { IfOk result (λ a. a ≡ ascent legal.now category.0) }
     {
         let members = legal.instance().members();
