@@ -1,5 +1,5 @@
 -- The report: names beside ids, units as they were, and averages, each the sum by the count, or by another sum, of one department.
-create view total as
+create view if not exists total as
     select member.name as department,
         cents_total.count as sales,
         round(cents_total.sum / 100.0, 2) as revenue,
