@@ -23,6 +23,7 @@ OTHERS = {
         "4096": "the rounds of a search",
     },
     "olap_graph": {"64": "the bits of a word of a set"},
+    "olap_patterns": {"256": "the masks over eight sources"},
     "olap_generate": {"64": "the stores for each group of cities"},
 }
 

@@ -1,0 +1,10 @@
+use Rattle.std.proofs.Common.{◌++◌, ◌∷◌}
+use Rattle.olap_patterns.specs.Masks.{CanBeBad, all_of}
+use Rattle.olap_patterns.proofs.FamilyLemmas.{first_by_order}
+use Rattle.olap_patterns.proofs.families.first_family.Goals as goal
+
+pub returns-then-all_can_be_bad-clause-first : goal.returns-then-all_can_be_bad-clause-first
+returns-then-all_can_be_bad-clause-first c =
+    first_by_order (λ f. CanBeBad c.args.sources (c.args.done.now ++ f.patterns ∷ c.args.rest.now) (all_of c.args.sources))
+    c.args.families.now c.families.k c.index-families-k.result c.requires.ordered c.families-test.true
+    c.index-families-k.is c.families.invariant.none

@@ -1,0 +1,10 @@
+-- What the formula says of the first sources.
+use Rattle.olap_ast.specs.Trees.{formula_of}
+use Rattle.olap_patterns.specs.Ways.{HasWaysTo, IsAboutWays, numbers_of}
+use Rattle.olap_patterns.proofs.ways.has_pattern.Given as goal
+
+abbrev pub invariant-sources : goal.invariant-sources
+invariant-sources l = record {
+  says : IsAboutWays l.target.0 (numbers_of l.column)
+      (λ i x. HasWaysTo l.k i x l.target.0 (numbers_of l.column) l.pattern) (formula_of l.formula);
+}
