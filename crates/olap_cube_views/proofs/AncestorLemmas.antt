@@ -1,5 +1,5 @@
 -- Tuples that a tuple reaches, dimension by dimension.
---     lengths            a tuple has as many members as there are instances
+--     tuple_length, tuple_members      a tuple has as many members as there are instances, each one of its instance
 --     tuple_more         one dimension more
 --     none_here, none_on one dimension more in which nothing is reached
 --     KeySoFar           the key of the first dimensions
@@ -23,6 +23,14 @@ tuple_length [] (c ∷ cs) ys t = absurd t
 tuple_length (i ∷ is) [] ys t = absurd t
 tuple_length (i ∷ is) (c ∷ cs) [] t = absurd t
 tuple_length (i ∷ is) (c ∷ cs) (y ∷ ys) t = ap suc (tuple_length is cs ys t.1)
+
+pub tuple_members : (is : List Instance) (cs ys : List ℕ) → IsTupleOf is cs ys → AreMembers is ys
+tuple_members [] [] [] t = tt
+tuple_members [] [] (y ∷ ys) t = absurd t
+tuple_members [] (c ∷ cs) ys t = absurd t
+tuple_members (i ∷ is) [] ys t = absurd t
+tuple_members (i ∷ is) (c ∷ cs) [] t = absurd t
+tuple_members (i ∷ is) (c ∷ cs) (y ∷ ys) t = (t.0.0, tuple_members is cs ys t.1)
 
 pub members_length : (is : List Instance) (xs : List ℕ) → AreMembers is xs → length xs ≡ length is
 members_length [] [] m = refl

@@ -3,27 +3,30 @@
 --     stands_apart, stands_joined   one fact more that reaches no tuple of the target, and one that reaches a tuple
 --     tally_*                       what is true of every tally
 --     room                          no sum wraps
---     direct_rows_are               the rows of the direct view
-use Rattle.std.proofs.Common.{◌≡◌, ℕ, suc, ◌+◌, ◌*◌, ◌^◌, ◌≤◌, List, [], ◌∷◌, ◌++◌, length, map, take, Bool, true, false, cond, refl, ap, sym, subst, ◌∙◌, arith, Option, Some, None, IfSome, option_map, w64, length-append}
-use Rattle.std.specs.Prelude.{All, Contains, Err, IsSome, Ok, OnOk, Result, filter, if◌then◌else◌}
+--     direct_rows_are               the rows of the direct view; told_members: they stand at members
+use Rattle.std.proofs.Common.{◌≡◌, ℕ, suc, ◌+◌, ◌*◌, ◌^◌, ◌<◌, ◌≤◌, List, [], ◌∷◌, ◌++◌, length, map, take, Bool, true, false, cond, refl, ap, sym, subst, ◌∙◌, arith, Option, Some, None, IfSome, option_map, w64, length-append}
+use Rattle.std.specs.Prelude.{All, filter_map, Contains, Err, IsSome, Ok, OnOk, Result, filter, if◌then◌else◌}
 use mir.Val.{SFits}
 use Rattle.std.specs.BTreeMap.{is_at}
 use Rattle.std.specs.Cmp.{tied_itself}
 use Rattle.std.specs.List.Sorted.{IsStrictlySortedBy}
+use Rattle.std.specs.List.{cons_option}
 use Rattle.std.specs.Map.{keys_of, lookup}
 use Rattle.std.specs.Ordering.{is_eq}
 use Rattle.std.specs.declared.cmp.Ordering.{Ordering}
 use Rattle.std.specs.declared.cmp.Ordering.TheVariants.{Less, Equal, Greater}
 use Rattle.std.proofs.lemmas.Cmp.{nat_list_cmp_total}
-use Rattle.std.proofs.lemmas.List.{append-nil, length-map, map-append}
-use Rattle.std.proofs.lemmas.List.Elements.{All-filter, All-map, All-nil, All-push, filter-append}
+use Rattle.std.proofs.lemmas.List.{append-nil, get_or-map, length-map, map-append}
+use Rattle.std.proofs.lemmas.List.Elements.{All-cons, All-filter, All-map, All-nil, All-push, filter-append}
 use Rattle.std.proofs.lemmas.Map.Lookups.{exact_bytes}
 use Rattle.std.proofs.lemmas.Map.Made.{keys_of-map_values, lookup-map_values}
+use Rattle.olap_base.specs.Deciding.{contains_cons}
 use Rattle.olap_base.specs.Instance.{Instance}
 use Rattle.olap_base.specs.Limits.{most_count}
 use Rattle.olap_base.specs.Summaries.{Summary, of_value, total, ◌⊕◌}
+use Rattle.olap_base.proofs.ListLemmas.{contains_head}
 use Rattle.olap_base.proofs.TotalLemmas.{total_push, ⊕_none}
-use Rattle.olap_cube.specs.CubeViews.{CubeFact, cube_direct_rows, cube_row_at, cube_values_at, total_of_cube_facts}
+use Rattle.olap_cube.specs.CubeViews.{CubeFact, CubeRow, cube_direct_rows, cube_row_at, cube_values_at, total_of_cube_facts}
 use Rattle.olap_cube.specs.Tuples.{IsTupleOf, TupleReaches, tuple_reaches, tuples_of}
 use Rattle.olap_cube.proofs.TupleLemmas.{is_tuple_of, tuple_reaches_is, tuples_of_is}
 use Rattle.olap_view.specs.Columns.{Ascent}
@@ -33,9 +36,11 @@ use Rattle.olap_view.specs.Tables.{when}
 use Rattle.olap_view.specs.declared.summaries.Summary as told
 use Rattle.olap_view.proofs.SummaryLemmas.{of_values_more, total_of_value_list, up_to_more}
 use Rattle.olap_view.proofs.ViewingLemmas.{filter_map_same}
-use Rattle.olap_cube_views.specs.CubeTallies.{CubeStandsFor, CubeTallied, Entry, IsCubeTally, IsKeyOf, IsTupleAncestor, ReachesNone, categories_in, entries_of, instances_in, is_key, key_cmp, key_of, row_of_entry, summary_at, tallied}
+use Rattle.olap_cube_views.specs.CubeTallies.{AreMembers, CubeStandsFor, CubeTallied, Entry, IsCubeTally, IsKeyOf, IsTupleAncestor, ReachesNone, categories_in, entries_of, instances_in, is_key, key_cmp, key_of, row_of_entry, summary_at, tallied}
 use Rattle.olap_cube_views.specs.Dimensions.{most_dimensions}
-use Rattle.olap_cube_views.proofs.AncestorLemmas.{tuple_length}
+use Rattle.olap_cube_views.specs.Seen.{cube_row_of, cube_rows_of, members_of}
+use Rattle.olap_cube_views.specs.declared.views.CubeRow as told_row
+use Rattle.olap_cube_views.proofs.AncestorLemmas.{tuple_length, tuple_members}
 use Rattle.olap_cube_views.proofs.KeyLemmas.{filled_same, take-filled}
 use Rattle.olap_cube_views.proofs.OrderLemmas.{keys-ascend}
 use Rattle.olap_cube_views.proofs.RowLemmas.{rows_are}
@@ -299,6 +304,34 @@ direct_rows_are t facts few s o =
     keys : (q : List ℕ) → IsSome (summary_at t.entries q)
         → (y : List ℕ) × Contains (tuples_of t.instances t.target) y × (key_of y ≡ q)
     keys q w = let y = s.keys q w in (y.0, is_tuple_of t.instances t.target y.0 y.1, sym y.2)
+
+-- each row of a direct view stands at members
+rows_members : (is : List Instance) (h : List ℕ → Option Summary) (ts : List (List ℕ))
+    → ((y : List ℕ) → Contains ts y → AreMembers is y)
+    → All (λ (r : CubeRow). AreMembers is r.members) (filter_map (λ y. cube_row_at y (h y)) ts)
+rows_members is h [] f = All-nil (λ (r : CubeRow). AreMembers is r.members)
+rows_members is h (y ∷ ys) f =
+    cons (h y) (f y (contains_head y ys)) (rows_members is h ys (λ z c. f z (contains_cons z ys y c)))
+  where
+    cons : (o : Option Summary) → AreMembers is y
+        → All (λ (r : CubeRow). AreMembers is r.members) (filter_map (λ y. cube_row_at y (h y)) ys)
+        → All (λ (r : CubeRow). AreMembers is r.members)
+        (cons_option (cube_row_at y o) (filter_map (λ y. cube_row_at y (h y)) ys))
+    cons None m a = a
+    cons (Some s) m a = All-cons (λ (r : CubeRow). AreMembers is r.members) (record { members = y; summary = s })
+        (filter_map (λ y. cube_row_at y (h y)) ys) m a
+
+pub told_members : (is : List Instance) (c : List ℕ) (facts : List CubeFact) (rows : List told_row.CubeRow)
+    → cube_rows_of rows ≡ cube_direct_rows is c facts → All (λ r. AreMembers is (members_of r.members)) rows
+told_members is c facts rows e k d l =
+    let n = length-map rows cube_row_of in
+    let h : k < length (cube_rows_of rows) = omega arith in
+    let at : All (λ (r : CubeRow). AreMembers is r.members) (cube_rows_of rows) =
+    subst (All (λ (r : CubeRow). AreMembers is r.members)) (sym e)
+    (rows_members is (total_of_cube_facts is facts) (tuples_of is c)
+    (λ y m. tuple_members is c y (tuples_of_is is c y m))) in
+    subst (λ (r : CubeRow). AreMembers is r.members) (get_or-map cube_row_of rows k d (cube_row_of d) l)
+    (at k (cube_row_of d) h)
 
 pub entry_keys : (entries : List (List ℕ × told.Summary)) → keys_of (entries_of entries) ≡ keys_of entries
 entry_keys entries = keys_of-map_values summary_of entries

@@ -1,7 +1,7 @@
 // A tally of a cube's facts: what the values come to, at each tuple of the target's members that some fact reaches.
 ghost use Rattle.std.specs.BTreeMap.{IsOrdered, IsUnchanged, get};
 ghost use Rattle.std.specs.Option.{option_map};
-ghost use Rattle.std.specs.Prelude.{◌≡◌, ◌+◌, ◌++◌, ◌∷◌, ◌<◌, ◌≤◌, ◌^◌, ℕ, IfOk, IfSome, IsNone, List as Items, None, OnErr, OnOk, Some, [], if◌then◌else◌, length, map, take};
+ghost use Rattle.std.specs.Prelude.{◌≡◌, ◌+◌, ◌++◌, ◌∷◌, ◌<◌, ◌≤◌, ◌^◌, ℕ, All, IfOk, IfSome, IsNone, List as Items, None, OnErr, OnOk, Some, [], if◌then◌else◌, length, map, take};
 ghost use Rattle.olap_base.specs.Limits.{most_count};
 ghost use Rattle.olap_base.specs.Summaries.{of_value, ◌⊕◌};
 ghost use Rattle.olap_cube.specs.CubeViews.{CubeFact as TheFact, cube_direct_rows};
@@ -206,8 +206,9 @@ impl<'a> CubeTally<'a> {
 
     /// The rows of the direct view.
     pub(crate) fn rows(&self, alloc: Global) -> Result<Vec<CubeRow>, Memory>
-        ensures { IfOk result (λ v. (facts : Items TheFact) → CubeStandsFor self.now facts
+        ensures rows { IfOk result (λ v. (facts : Items TheFact) → CubeStandsFor self.now facts
             → cube_rows_of v.items ≡ cube_direct_rows self.now.instances self.now.target facts) }
+        ensures members { IfOk result (λ v. All (λ r. AreMembers self.now.instances (members_of r.members)) v.items) }
     {
         rows(alloc, &self.summaries, self.columns.len())
     }

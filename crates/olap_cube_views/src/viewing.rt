@@ -53,6 +53,7 @@ pub fn cube_direct(
 
     ensures view { IfOk result
         (λ v. cube_view_of v ≡ cube_direct_view legals.now (cube_facts_of facts.now) (ids target.now)) }
+    ensures members { IfOk result (λ v. All (λ r. AreMembers legals.now (members_of r.members)) v.rows) }
 {
     let mut tally = CubeTally::new(alloc, legals, target)?;
     'facts: for fact in facts.rows.items() {
@@ -103,6 +104,8 @@ pub fn cube_roll_up(
 
     ensures view { IfOk result (λ v. IsCubeRolledUp (graphs_of graphs.now) legals.now (records_of text.now)
         (ids target.now) (cube_view_of v)) }
+    ensures members { IfOk result (λ v. All (λ r. AreMembers legals.now (members_of r.members)) v.rows) }
+
     ensures err { IfErr result (λ e.
         IsCubeRefusedBy e (cube_facts_read (graphs_of graphs.now) legals.now (records_of text.now))) }
 {

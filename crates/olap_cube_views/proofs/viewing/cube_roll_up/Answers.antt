@@ -20,7 +20,7 @@ returns-clause-view c =
     let t = c.add_rows.new.tally in
     let target = ids c.args.target.now in
     let rows = ap cube_rows_of c.in_ok-view.ensures.rows
-    ∙ c.in_ok-rows.ensures facts c.in_ok-add_rows.ensures.facts.1
+    ∙ c.in_ok-rows.ensures.rows facts c.in_ok-add_rows.ensures.facts.1
     ∙ ap (λ (js : List Instance). cube_direct_rows js t.target facts) c.in_ok-add_rows.ensures.instances
     ∙ ap (λ (cs : List ℕ). cube_direct_rows is cs facts)
     (c.in_ok-add_rows.ensures.target ∙ c.in_ok-tally.ensures.target) in
