@@ -1,0 +1,105 @@
+-- Stored views that are changed fact by fact.
+--     HasTaken                      some facts were taken
+--     taken_none, taken_more        no fact, and one more
+--     taken_store, taken_refused, taken_sound, taken_order    what is handed out
+--     changed_by                    what comes of the facts of a text
+use Rattle.std.proofs.Common.{◌≡◌, ◌+◌, ◌∷◌, ◌++◌, [], ℕ, List, length, sym, ap, subst, ◌∙◌, arith, length-append}
+use Rattle.std.specs.Prelude.{All, IfErr, IfOk, Result, Ok, true}
+use Rattle.std.proofs.lemmas.Result.{IfErr-weaker, IfOk-weaker, MatchResult-from_both}
+use Rattle.olap_base.specs.Graph.{Graph}
+use Rattle.olap_base.specs.Instance.{Instance}
+use Rattle.olap_base.specs.Limits.{most_listed_facts}
+use Rattle.olap_base.specs.Views.{Fact, View}
+use Rattle.olap_facts.specs.FactReading.{FactReading, IsAtEnd, reading}
+use Rattle.olap_view.specs.Seen.{views_of}
+use Rattle.olap_view.specs.Stores.{IsInFileOrder, IsSoundStore}
+use Rattle.olap_view.specs.SummaryTables.{categories_in}
+use Rattle.olap_view.specs.declared.views.Store.{Store}
+use Rattle.olap_view.proofs.RollingUpLemmas.{ended, facts_so_far}
+use Rattle.olap_delta.specs.Changes.{fact_after, store_changed}
+use Rattle.olap_delta.specs.Changing.{Delta, step_of}
+use Rattle.olap_delta.specs.declared.changes.Change.{Change}
+use Rattle.olap_delta.specs.Kinds.{IsDeltaRefusedBy}
+use Rattle.olap_delta.specs.Reading.{IsChangedBy}
+use Rattle.olap_delta.specs.declared.kinds.DeltaRefusal.{DeltaRefusal}
+use Rattle.olap_delta.proofs.ChangingLemmas.{fact_behind}
+
+-- these facts were taken, by this step, at these views
+pub record HasTaken (by : Change) (i : Instance) (stored : List View) (facts : List Fact) (d : Delta) : Type 0 where
+  pub change : d.change ≡ by
+  pub instance : d.instance ≡ i
+  pub categories : d.categories ≡ categories_in stored
+  pub taken : d.taken ≡ length facts
+  pub views : d.views ≡ store_changed (step_of by) i stored facts
+
+pub taken_more : (by : Change) (i : Instance) (views : List View) (facts : List Fact) (f : Fact) (d e : Delta)
+    → HasTaken by i views facts d → e.change ≡ d.change → e.instance ≡ d.instance → e.categories ≡ d.categories
+    → e.taken ≡ d.taken + 1 → e.views ≡ fact_after (step_of d.change) d.instance (d.taken + 2) f d.views
+    → HasTaken by i views (facts ++ f ∷ []) e
+taken_more by i views facts f d e h s j c t v = record {
+  change = s ∙ h.change;
+  instance = j ∙ h.instance;
+  categories = c ∙ h.categories;
+  taken = let a = h.taken in omega (arith, length-append {A = Fact});
+  views = v
+      ∙ ap (λ p. fact_after (step_of p) d.instance (d.taken + 2) f d.views) h.change
+      ∙ ap (λ k. fact_after (step_of by) k (d.taken + 2) f d.views) h.instance
+      ∙ ap (λ n. fact_after (step_of by) i n f d.views) at
+      ∙ ap (fact_after (step_of by) i (2 + length facts) f) h.views
+      ∙ sym (fact_behind (step_of by) i (Ok views) 2 facts f);
+}
+  where
+    at : d.taken + 2 ≡ 2 + length facts
+    at = let a = h.taken in omega arith
+
+pub taken_none : (by : Change) (i : Instance) (views : List View) (d : Delta) → d.change ≡ by → d.instance ≡ i
+    → d.categories ≡ categories_in views → d.taken ≡ 0 → d.views ≡ Ok views → HasTaken by i views [] d
+taken_none by i views d s j c t v = record { change = s; instance = j; categories = c; taken = t; views = v }
+
+-- ---- what is handed out
+
+module _ (by : Change) (i : Instance) (views : List View) (facts : List Fact) (d : Delta)
+    (h : HasTaken by i views facts d) (r : Result Store DeltaRefusal) where
+  pub taken_store : IfOk r (λ s. d.views ≡ Ok (views_of s))
+      → IfOk r (λ s. store_changed (step_of by) i views facts ≡ Ok (views_of s))
+  taken_store = IfOk-weaker r (λ (s : Store). d.views ≡ Ok (views_of s))
+      (λ (s : Store). store_changed (step_of by) i views facts ≡ Ok (views_of s)) (λ s e. sym h.views ∙ e)
+
+  pub taken_refused : IfErr r (λ e. IsDeltaRefusedBy e d.views)
+      → IfErr r (λ e. IsDeltaRefusedBy e (store_changed (step_of by) i views facts))
+  taken_refused = IfErr-weaker r (λ (e : DeltaRefusal). IsDeltaRefusedBy e d.views)
+      (λ (e : DeltaRefusal). IsDeltaRefusedBy e (store_changed (step_of by) i views facts))
+      (λ e p. subst (IsDeltaRefusedBy e) h.views p)
+
+  pub taken_sound : IfOk r (λ s. (g : Graph) (before : List View) → d.categories ≡ categories_in before
+      → IsSoundStore g d.instance before → IsSoundStore g d.instance (views_of s))
+      → IfOk r (λ s. (g : Graph) → IsSoundStore g i views → IsSoundStore g i (views_of s))
+  taken_sound = IfOk-weaker r (λ (s : Store). (g : Graph) (before : List View) → d.categories ≡ categories_in before
+      → IsSoundStore g d.instance before → IsSoundStore g d.instance (views_of s))
+      (λ (s : Store). (g : Graph) → IsSoundStore g i views → IsSoundStore g i (views_of s))
+      (λ s p g q. subst (λ (j : Instance). IsSoundStore g j (views_of s)) h.instance
+      (p g views h.categories (subst (λ (j : Instance). IsSoundStore g j views) (sym h.instance) q)))
+
+  pub taken_order : IfOk r (λ s. All (IsInFileOrder d.instance) (views_of s))
+      → IfOk r (λ s. All (IsInFileOrder i) (views_of s))
+  taken_order = IfOk-weaker r (λ (s : Store). All (IsInFileOrder d.instance) (views_of s))
+      (λ (s : Store). All (IsInFileOrder i) (views_of s))
+      (λ s p. subst (λ (j : Instance). All (IsInFileOrder j) (views_of s)) h.instance p)
+
+-- the facts of a reader at its end were taken
+pub changed_by : (by : Change) (g : Graph) (i : Instance) (records : List (List (List ℕ))) (views : List View)
+    (old : FactReading) (d : Delta) (r : Result Store DeltaRefusal)
+    → old ≡ reading g i records most_listed_facts old.handed true → IsAtEnd old
+    → HasTaken by i views (facts_so_far i records old.handed) d → IfOk r (λ s. d.views ≡ Ok (views_of s))
+    → IfErr r (λ e. IsDeltaRefusedBy e d.views) → IsChangedBy (step_of by) g i records views r
+changed_by by g i records views old d r is end h ok err =
+    let q = reading g i records most_listed_facts old.handed true in
+    let e : IsAtEnd q = subst IsAtEnd is end in
+    let t : HasTaken by i views e.facts d = subst (λ (fs : List Fact). HasTaken by i views fs d) (sym (ended q e)) h in
+    record {
+      facts = e.facts;
+      read = e.read;
+      changed = MatchResult-from_both r (λ (s : Store). store_changed (step_of by) i views e.facts ≡ Ok (views_of s))
+          (λ (x : DeltaRefusal). IsDeltaRefusedBy x (store_changed (step_of by) i views e.facts))
+          (taken_store by i views e.facts d t r ok) (taken_refused by i views e.facts d t r err);
+    }

@@ -1,0 +1,158 @@
+-- Direct views, fact by fact.
+use Rattle.std.proofs.Common.{◌≡◌, ◌+◌, ◌<◌, ℕ, suc, List, [], ◌∷◌, ◌++◌, length, map, Bool, true, false, cond, refl, sym, ap, subst, ◌∙◌, inl, inr, Option, Some, None, IfSome, w64, arith}
+use Rattle.std.specs.Prelude.{All, Contains, MatchResult, Result, Ok, Err}
+use Rattle.std.specs.List.{cons_option}
+use Rattle.std.specs.List.Sorted.{IsPermutation}
+use mir.Val.{SFits}
+use Rattle.std.proofs.lemmas.List.{append-nil, append_assoc}
+use Rattle.std.proofs.lemmas.List.Elements.{All-contains, All-head, All-tail}
+use Rattle.olap_base.specs.Deciding.{contains_cases}
+use Rattle.olap_base.specs.Graph.{Graph}
+use Rattle.olap_base.specs.Instance.{Instance, IsLawful}
+use Rattle.olap_base.specs.Naming.{Fault}
+use Rattle.olap_base.specs.Reaching.{reaches}
+use Rattle.olap_base.specs.Summaries.{Summary, of_value, ◌⊕◌}
+use Rattle.olap_base.specs.Views.{Fact, Row, View, direct_view, direct_views, members_of, row_at, total_of_facts, values_at}
+use Rattle.olap_base.proofs.ListLemmas.{Contains-map, Contains-nil}
+use Rattle.olap_base.proofs.TotalLemmas.{⊕_none}
+use Rattle.olap_view.specs.StoreReading.{IsStoredAt}
+use Rattle.olap_view.specs.Stores.{Fits}
+use Rattle.olap_delta.specs.Changes.{Step, appended, retracted, store_after, views_after}
+use Rattle.olap_delta.specs.Laws.{AppendGivesDirectViews, RetractGivesDirectViews}
+use Rattle.olap_delta.specs.declared.kinds.DeltaKind.{DeltaKind}
+use Rattle.olap_delta.specs.declared.kinds.DeltaKind.TheVariants as kind
+use Rattle.olap_view.proofs.FileOrderLemmas.{rows_by, view_by}
+use Rattle.olap_delta.proofs.ChangeLemmas.{AreSmall, Makes, view_alike, views_step}
+use Rattle.olap_delta.proofs.StorableLemmas.{rows_stored}
+use Rattle.olap_delta.proofs.PermutedLemmas.{added, fact_among, fact_behind, facts_permuted}
+use Rattle.olap_delta.proofs.RowLemmas.{IsSmall, appended_total, retracted_total}
+
+stored_small : (y : ℕ) (o : Option Summary) → IfSome o (IsStoredAt y) → IfSome o IsSmall
+stored_small y None q = tt
+stored_small y (Some s) q = record { few = q.few; least = q.least; greatest = q.greatest }
+
+-- what stands at the rows of views that may be stored is small
+views_small : (i : Instance) (h : ℕ → Option Summary) (cs : List ℕ) → All Fits (map (view_by i h) cs)
+    → (c : ℕ) → Contains cs c → AreSmall i c h
+views_small i h cs a c k = λ y m. stored_small y (h y) (rows_stored h (members_of i c)
+    (All-contains Fits (map (view_by i h) cs) (view_by i h c) a (Contains-map (view_by i h) cs c k)) y m)
+
+-- a fault stays
+faulty : (step : Step) (i : Instance) (fault : Fault DeltaKind) (at : ℕ) (facts : List Fact)
+    → store_after step i (Err fault) at facts ≡ Err fault
+faulty step i fault at [] = refl
+faulty step i fault at (f ∷ facts) = faulty step i fault (at + 1) facts
+
+-- what the facts after the first make of the views after it
+then : (step : Step) (i : Instance) (views : List View) (at : ℕ) (f : Fact) (facts : List Fact) (P : List View → Type 0)
+    (k : DeltaKind)
+    → MatchResult (views_after step i views f)
+    (λ views. MatchResult (store_after step i (Ok views) (at + 1) facts) P (λ fault. fault.kind ≡ k)) (λ j. j ≡ k)
+    → MatchResult (store_after step i (Ok views) at (f ∷ facts)) P (λ fault. fault.kind ≡ k)
+then step i views at f facts P k = go (views_after step i views f)
+  where
+    go : (r : Result (List View) DeltaKind)
+        → MatchResult r (λ views. MatchResult (store_after step i (Ok views) (at + 1) facts) P (λ fault. fault.kind ≡ k)) (λ j. j ≡ k)
+        → MatchResult (store_after step i (elim r [
+          | Ok changed ↦ Ok changed
+          | Err j ↦ Err (record { at = at; kind = j })
+        ]) (at + 1) facts) P (λ fault. fault.kind ≡ k)
+    go (Ok vs) h = h
+    go (Err j) h = subst (λ (r : Result (List View) (Fault DeltaKind)). MatchResult r P (λ fault. fault.kind ≡ k))
+        (sym (faulty step i (record { at = at; kind = j }) (at + 1) facts)) h
+
+weaker : {A B : Type 0} (r : Result A B) (P Q : A → Type 0) (R : B → Type 0) → ((a : A) → P a → Q a) → MatchResult r P R
+    → MatchResult r Q R
+weaker (Ok a) P Q R f h = f a h
+weaker (Err b) P Q R f h = h
+
+module _ (g : Graph) (i : Instance) (w : IsLawful g i) (cs : List ℕ) where
+  append_all : (new facts : List Fact) (at : ℕ) → ((c : ℕ) → Contains cs c → AreSmall i c (total_of_facts i facts))
+      → All (λ f. SFits w64 f.value) new
+      → MatchResult (store_after appended i (Ok (direct_views i facts cs)) at new)
+      (λ views. views ≡ direct_views i (facts ++ new) cs) (λ fault. fault.kind ≡ kind.Full)
+  append_all [] facts at small fit = ap (λ l. direct_views i l cs) (sym (append-nil facts))
+  append_all (f ∷ new) facts at small fit =
+      then appended i (direct_views i facts cs) at f new (λ views. views ≡ direct_views i (facts ++ f ∷ new) cs) kind.Full
+      (weaker (views_after appended i (direct_views i facts cs) f)
+      (λ vs. (vs ≡ map (view_by i after) cs) × ((c : ℕ) → Contains cs c → AreSmall i c after))
+      (λ views. MatchResult (store_after appended i (Ok views) (at + 1) new) (λ views. views ≡ direct_views i (facts ++ f ∷ new) cs)
+      (λ fault. fault.kind ≡ kind.Full)) (λ k. k ≡ kind.Full)
+      (λ vs p. subst (λ l. MatchResult (store_after appended i (Ok vs) (at + 1) new) (λ views. views ≡ direct_views i l cs)
+      (λ fault. fault.kind ≡ kind.Full)) (append_assoc facts (f ∷ []) new)
+      (subst (λ ws. MatchResult (store_after appended i (Ok ws) (at + 1) new)
+      (λ views. views ≡ direct_views i ((facts ++ f ∷ []) ++ new) cs) (λ fault. fault.kind ≡ kind.Full)) (sym p.0)
+      (append_all new (facts ++ f ∷ []) (at + 1) p.1 (All-tail (λ (f : Fact). SFits w64 f.value) f new fit))))
+      (views_step appended kind.Full g i w before after f elsewhere there cs small))
+    where
+      before : ℕ → Option Summary
+      before = total_of_facts i facts
+
+      after : ℕ → Option Summary
+      after = total_of_facts i (facts ++ f ∷ [])
+
+      elsewhere : (y : ℕ) → reaches i f.member y ≡ false → total_of_facts i facts y ≡ total_of_facts i (facts ++ f ∷ []) y
+      elsewhere y r = sym (fact_behind i y facts f
+          ∙ ap (λ b. total_of_facts i facts y ⊕ cond b (Some (of_value f.value)) None) r
+          ∙ ⊕_none (total_of_facts i facts y))
+
+      there : (y : ℕ) → reaches i f.member y ≡ true → IfSome (total_of_facts i facts y) IsSmall
+          → Makes appended kind.Full (total_of_facts i facts y) f.value (total_of_facts i (facts ++ f ∷ []) y)
+      there y r h = subst (λ o. Makes appended kind.Full (total_of_facts i facts y) f.value o)
+          (sym (fact_behind i y facts f ∙ ap (λ b. total_of_facts i facts y ⊕ cond b (Some (of_value f.value)) None) r))
+          (appended_total (values_at i facts y) f.value (All-head (λ (f : Fact). SFits w64 f.value) f new fit) h)
+
+  retract_all : (withdrawn left : List Fact) (at : ℕ)
+      → ((c : ℕ) → Contains cs c → AreSmall i c (total_of_facts i (left ++ withdrawn)))
+      → MatchResult (store_after retracted i (Ok (direct_views i (left ++ withdrawn) cs)) at withdrawn)
+      (λ views. views ≡ direct_views i left cs) (λ fault. fault.kind ≡ kind.Extreme)
+  retract_all [] left at small = ap (λ l. direct_views i l cs) (append-nil left)
+  retract_all (f ∷ withdrawn) left at small =
+      then retracted i (direct_views i (left ++ f ∷ withdrawn) cs) at f withdrawn (λ views. views ≡ direct_views i left cs)
+      kind.Extreme
+      (weaker (views_after retracted i (direct_views i (left ++ f ∷ withdrawn) cs) f)
+      (λ vs. (vs ≡ direct_views i (left ++ withdrawn) cs)
+      × ((c : ℕ) → Contains cs c → AreSmall i c (total_of_facts i (left ++ withdrawn))))
+      (λ views. MatchResult (store_after retracted i (Ok views) (at + 1) withdrawn) (λ views. views ≡ direct_views i left cs)
+      (λ fault. fault.kind ≡ kind.Extreme)) (λ k. k ≡ kind.Extreme)
+      (λ vs p. subst (λ ws. MatchResult (store_after retracted i (Ok ws) (at + 1) withdrawn)
+      (λ views. views ≡ direct_views i left cs) (λ fault. fault.kind ≡ kind.Extreme)) (sym p.0)
+      (retract_all withdrawn left (at + 1) p.1))
+      (views_step retracted kind.Extreme g i w (total_of_facts i (left ++ f ∷ withdrawn)) (total_of_facts i (left ++ withdrawn)) f
+      elsewhere there cs small))
+    where
+      elsewhere : (y : ℕ) → reaches i f.member y ≡ false
+          → total_of_facts i (left ++ f ∷ withdrawn) y ≡ total_of_facts i (left ++ withdrawn) y
+      elsewhere y r = fact_among i y left f withdrawn
+          ∙ ap (λ b. cond b (Some (of_value f.value)) None ⊕ total_of_facts i (left ++ withdrawn) y) r
+
+      there : (y : ℕ) → reaches i f.member y ≡ true → IfSome (total_of_facts i (left ++ f ∷ withdrawn) y) IsSmall
+          → Makes retracted kind.Extreme (total_of_facts i (left ++ f ∷ withdrawn) y) f.value
+          (total_of_facts i (left ++ withdrawn) y)
+      there y r h =
+          let e : total_of_facts i (left ++ f ∷ withdrawn) y ≡ Some (of_value f.value) ⊕ total_of_facts i (left ++ withdrawn) y =
+          fact_among i y left f withdrawn
+          ∙ ap (λ b. cond b (Some (of_value f.value)) None ⊕ total_of_facts i (left ++ withdrawn) y) r in
+          subst (λ o. Makes retracted kind.Extreme o f.value (total_of_facts i (left ++ withdrawn) y)) (sym e)
+          (retracted_total (values_at i (left ++ withdrawn) y) f.value
+          (subst (λ (o : Option Summary). IfSome o IsSmall) e h))
+
+pub append_gives : AppendGivesDirectViews
+append_gives g i cs facts new w fit values =
+    append_all g i w cs new facts 2 (views_small i (total_of_facts i facts) cs fit) values
+
+pub retract_gives : RetractGivesDirectViews
+retract_gives g i cs facts left withdrawn w fit p =
+    let same : direct_views i facts cs ≡ direct_views i (left ++ withdrawn) cs =
+    reordered cs in
+    subst (λ views. MatchResult (store_after retracted i (Ok views) 2 withdrawn) (λ views. views ≡ direct_views i left cs)
+    (λ fault. fault.kind ≡ kind.Extreme)) (sym same)
+    (retract_all g i w cs withdrawn left 2 (views_small i (total_of_facts i (left ++ withdrawn)) cs
+    (subst (All Fits) same fit)))
+  where
+    reordered : (cs : List ℕ) → direct_views i facts cs ≡ direct_views i (left ++ withdrawn) cs
+    reordered [] = refl
+    reordered (c ∷ cs) = ap (λ v. v ∷ direct_views i facts cs)
+        (view_alike i (total_of_facts i facts) (total_of_facts i (left ++ withdrawn)) c
+        (λ y k. facts_permuted i y facts (left ++ withdrawn) p))
+        ∙ ap (λ vs. direct_view i (left ++ withdrawn) c ∷ vs) (reordered cs)

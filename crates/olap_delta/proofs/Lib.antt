@@ -1,0 +1,9 @@
+-- Lemmas.
+mod RowLemmas
+mod PermutedLemmas
+mod ChangeLemmas
+mod StorableLemmas
+mod LawLemmas
+mod ChangingLemmas
+mod StepLemmas
+mod DeltaLemmas

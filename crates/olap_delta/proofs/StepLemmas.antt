@@ -1,0 +1,59 @@
+-- A step at a row that may be stored.
+--     kept              what is there may be stored
+--     small             no sum wraps
+--     joined_storable, without_storable   what comes of it may be stored
+use Rattle.std.proofs.Common.{◌≡◌, ◌≢◌, ◌^◌, ◌≤◌, ◌<◌, ◌+◌, ◌-◌, ℕ, Bool, true, false, cond, refl, sym, ap, subst, ◌∙◌, ℤ, pos, negsuc, neg_ℤ, ◌+ℤ◌, ◌-ℤ◌, ◌≤ℤ◌, Option, Some, None, IfSome, w64, arith}
+use Rattle.std.specs.Prelude.{int_lt}
+use Rattle.std.specs.Option.{option_map}
+use mir.Val.{SFits}
+use Rattle.std.proofs.lemmas.Bool.Decides.{nat_tests}
+use Rattle.std.proofs.lemmas.Int.{ints}
+use Rattle.olap_base.specs.Limits.{most_count, most_sum}
+use Rattle.olap_base.specs.Summaries.{Summary, joined, of_value}
+use Rattle.olap_view.specs.Bounds.{IsUpTo}
+use Rattle.olap_view.specs.Seen.{summary_of}
+use Rattle.olap_view.specs.StoredNumbers.{is_sum}
+use Rattle.olap_view.specs.declared.summaries.Summary as told
+use Rattle.olap_delta.specs.Changes.{without}
+use Rattle.olap_delta.specs.Changing.{IsStorable}
+
+pub kept : (there : Option told.Summary) (row : told.Summary) → there ≡ Some row
+    → IfSome (option_map summary_of there) IsStorable → IsStorable (summary_of row)
+kept there row e h = subst (λ (o : Option told.Summary). IfSome (option_map summary_of o) IsStorable) e h
+
+pub small : (s : Summary) → IsStorable s → IsUpTo (2 ^ 62) (2 ^ 120) s
+small s q = let a = (q 0).few in let b = (q 0).sum_from in let c = (q 0).sum_to in record {
+  count = omega arith;
+  sum_from = omega (arith, ints);
+  sum_to = omega (arith, ints);
+}
+
+sum_bounds : (z : ℤ) → is_sum z ≡ true → (neg_ℤ (pos most_sum) ≤ℤ z) × (z ≤ℤ pos most_sum)
+sum_bounds (pos n) e = let l : n ≤ most_sum = grind (arith, nat_tests) in (omega (arith, ints), omega (arith, ints))
+sum_bounds (negsuc n) e = let l : n < most_sum = grind (arith, nat_tests) in (omega (arith, ints), omega (arith, ints))
+
+either : (b : Bool) (x y : ℤ) → SFits w64 x → SFits w64 y → SFits w64 (cond b x y)
+either true x y p q = p
+either false x y p q = q
+
+pub joined_storable : (s : Summary) (v : ℤ) → s.count ≢ most_count → SFits w64 v → is_sum (s.sum +ℤ v) ≡ true
+    → IsStorable s → IsStorable (joined s (of_value v))
+joined_storable s v n f e q = λ y. let few = (q y).few in let b = sum_bounds (s.sum +ℤ v) e in record {
+  some = omega arith;
+  few = omega arith;
+  sum_from = b.0;
+  sum_to = b.1;
+  least = either (int_lt v s.least) v s.least f (q y).least;
+  greatest = either (int_lt v s.greatest) s.greatest v (q y).greatest f;
+}
+
+pub without_storable : (s : Summary) (v : ℤ) → 3 ≤ s.count → is_sum (s.sum -ℤ v) ≡ true → IsStorable s
+    → IsStorable (without s v)
+without_storable s v h e q = λ y. let few = (q y).few in let b = sum_bounds (s.sum -ℤ v) e in record {
+  some = omega arith;
+  few = omega arith;
+  sum_from = b.0;
+  sum_to = b.1;
+  least = (q y).least;
+  greatest = (q y).greatest;
+}

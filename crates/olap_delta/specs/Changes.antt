@@ -1,0 +1,95 @@
+-- Stores after facts came or were withdrawn.
+--     appended, retracted   what a fact's value makes of a row's summary, or its fault
+--     view_after            what a fact makes of a view
+--     views_after           what it makes of several, one after another
+--     store_after           what facts make of stored views, one after another, or the first fault
+use Rattle.std.specs.Prelude.{◌==◌, ◌||◌, ◌+◌, ◌-◌, ℕ, ℤ, ◌+ℤ◌, ◌-ℤ◌, int_lt, nat_le, not, List, [], ◌∷◌, filter, filter_map, Option, None, Some, Result, Ok, Err, if◌then◌else◌}
+use Rattle.std.specs.Ordering.{int_eq}
+use Rattle.olap_base.specs.Instance.{Instance}
+use Rattle.olap_base.specs.Limits.{most_count}
+use Rattle.olap_base.specs.Naming.{Fault}
+use Rattle.olap_base.specs.Reaching.{reaches}
+use Rattle.olap_base.specs.Summaries.{Summary, joined, of_value}
+use Rattle.olap_base.specs.Views.{Fact, Row, View, members_of, row_at}
+use Rattle.olap_view.specs.StoredNumbers.{is_sum}
+use Rattle.olap_view.specs.Stores.{summary_in}
+use Rattle.olap_delta.specs.declared.kinds.DeltaKind.{DeltaKind}
+use Rattle.olap_delta.specs.declared.kinds.DeltaKind.TheVariants as kind
+
+-- ---- a row
+
+-- what a value makes of the summary at a member, if there is one
+abbrev pub Step : Type 0
+Step = Option Summary → ℤ → Result Summary DeltaKind
+
+-- a value that came: it is joined to those that are there
+abbrev pub appended : Step
+appended None v = Ok (of_value v)
+appended (Some s) v =
+    if s.count == most_count then Err kind.Full
+    else if not (is_sum (s.sum +ℤ v)) then Err kind.Bound
+    else Ok (joined s (of_value v))
+
+-- a value less, which is neither the least nor the greatest
+abbrev pub without : Summary → ℤ → Summary
+without s v = record s { count = s.count - 1; sum = s.sum -ℤ v }
+
+-- a value that was withdrawn: the least and the greatest of the others must be known, so they stay as they are
+abbrev pub retracted : Step
+retracted None v = Err kind.NoRow
+retracted (Some s) v =
+    if int_lt v s.least || int_lt s.greatest v then Err kind.Outside
+    else if int_eq v s.least || int_eq v s.greatest then Err kind.Extreme
+    else if nat_le s.count 2 then Err kind.Short
+    else if not (is_sum (s.sum -ℤ v)) then Err kind.Bound
+    else Ok (without s v)
+
+-- ---- a view
+
+-- the view with this summary at y; its rows stand by member
+abbrev pub view_with : Instance → View → ℕ → Summary → View
+view_with i v y s = record v {
+  rows = filter_map (λ z. row_at z (if z == y then Some s else summary_in v.rows z)) (members_of i v.category);
+}
+
+-- the view after the step at the first of some members, if there is one
+abbrev pub view_after_at : Step → Instance → View → ℤ → List ℕ → Result View DeltaKind
+view_after_at step i v value [] = Ok v
+view_after_at step i v value (y ∷ ys) = elim (step (summary_in v.rows y) value) [
+  | Ok s ↦ Ok (view_with i v y s)
+  | Err k ↦ Err k
+]
+
+-- the view after the step at the member of its category that the fact's member reaches, of which there is one at most
+abbrev pub view_after : Step → Instance → View → Fact → Result View DeltaKind
+view_after step i v f =
+    view_after_at step i v f.value (filter (λ y. reaches i f.member y) (members_of i v.category))
+
+-- ---- a store
+
+-- each view after the fact, in order, or the first fault
+abbrev pub views_after : Step → Instance → List View → Fact → Result (List View) DeltaKind
+views_after step i [] f = Ok []
+views_after step i (v ∷ views) f = elim (view_after step i v f) [
+  | Ok w ↦ elim (views_after step i views f) [ Ok ws ↦ Ok (w ∷ ws) | Err k ↦ Err k ]
+  | Err k ↦ Err k
+]
+
+-- the views after the fact of that record, or the fault that comes of it or came before
+abbrev pub fact_after : Step → Instance → ℕ → Fact → Result (List View) (Fault DeltaKind)
+    → Result (List View) (Fault DeltaKind)
+fact_after step i at f (Err fault) = Err fault
+fact_after step i at f (Ok views) = elim (views_after step i views f) [
+  | Ok changed ↦ Ok changed
+  | Err k ↦ Err (record { at = at; kind = k })
+]
+
+-- the views after the facts, in order, or the first fault; the first fact's record is this one
+abbrev pub store_after : Step → Instance → Result (List View) (Fault DeltaKind) → ℕ → List Fact
+    → Result (List View) (Fault DeltaKind)
+store_after step i changed at [] = changed
+store_after step i changed at (f ∷ facts) = store_after step i (fact_after step i at f changed) (at + 1) facts
+
+-- the same of stored views, where a header stands before the first fact
+abbrev pub store_changed : Step → Instance → List View → List Fact → Result (List View) (Fault DeltaKind)
+store_changed step i views facts = store_after step i (Ok views) 2 facts
