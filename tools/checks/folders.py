@@ -19,22 +19,11 @@ def cycles(crate):
             yield f"{module}/+{name}"
 
 
-def homes(crate):
-    """The module of each type: a method's path begins with it, wherever its `impl` stands."""
-    found = {}
-    for file in sorted((sources.CRATES / crate / "src").rglob("*.rt")):
-        for name in re.findall(r"^\s*(?:pub(?:\(crate\))? )?(?:struct|enum) (\w+)", file.read_text(), re.M):
-            found[name] = sources.module_of(crate, file)
-    return found
-
-
 def wanted(crate):
     """The paths that folders with proofs of this crate may have."""
     paths = set(cycles(crate))
-    types = homes(crate)
     for function in sources.functions(crate):
-        module = types.get(function.owner, function.module)
-        start = f"{module}/" if module else ""
+        start = f"{function.module}/" if function.module else ""
         owner = f"{function.owner}{function.trait}/" if function.owner else ""
         paths.update({f"{start}{owner}{function.name}", f"{start}{owner}+{function.name}"})
     return paths
