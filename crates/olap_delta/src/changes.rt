@@ -1,13 +1,16 @@
-// What a fact's value makes of a row.
-ghost use Rattle.std.specs.Prelude.{◌≡◌, Err, IfOk, IfSome, MatchResult, Ok, Some};
+// What a fact's value makes of a row, and what the fact makes of the views of a summary table.
+ghost use Rattle.std.specs.Prelude.{◌≡◌, ◌≢◌, ◌<◌, ℕ, Contains, Err, IfOk, IfSome, MatchResult, Ok, Some, length, slice_index};
 ghost use Rattle.std.specs.Option.{option_map};
-ghost use Rattle.olap_delta.specs.Changes.{appended, retracted, without as less_one};
-ghost use Rattle.olap_delta.specs.Changing.{IsStorable, step_of};
+ghost use Rattle.olap_delta.specs.Changes.{appended, retracted, view_after, views_after, without as less_one};
+ghost use Rattle.olap_delta.specs.Changing.{AreStorable, IsStorable, step_of};
+ghost use Rattle.olap_facts.specs.Seen.{fact_of};
 ghost use Rattle.olap_view.specs.Seen.{summary_of};
+ghost use Rattle.olap_view.specs.SummaryTables.{view_at, views_at};
 
 use crate::DeltaKind;
 use olap_base::MOST_COUNT;
-use olap_view::Summary;
+use olap_facts::Fact;
+use olap_view::{Summary, SummaryTable};
 
 /// How stored views change.
 #[derive(Clone, Copy, Debug, PartialEq, Eq)]
@@ -82,7 +85,7 @@ fn retract(there: Option<Summary>, value: i64) -> Result<Summary, DeltaKind>
 
 impl Change {
     /// The summary of a member's row after the change by a value, or why it can't be.
-    pub(crate) fn of_row(self, there: Option<Summary>, value: i64) -> Result<Summary, DeltaKind>
+    fn of_row(self, there: Option<Summary>, value: i64) -> Result<Summary, DeltaKind>
         requires { IfSome (option_map summary_of there) IsStorable }
         ensures step { MatchResult result
             (λ s. step_of self (option_map summary_of there) value ≡ Ok (summary_of s))
@@ -93,5 +96,45 @@ impl Change {
             Change::Append => append(there, value),
             Change::Retract => retract(there, value),
         }
+    }
+
+    /// Changes what stands at the member of the k-th category that the fact's member reaches, if there is one.
+    fn view(self, table: &mut SummaryTable, k: usize, fact: &Fact) -> Result<(), DeltaKind>
+        requires category { k < length table.old.categories }
+        requires member { fact.now.member.0 < length table.old.instance }
+        requires storable { AreStorable table.old }
+        ensures instance { table.new.instance ≡ table.old.instance }
+        ensures categories { table.new.categories ≡ table.old.categories }
+        ensures storable { AreStorable table.new }
+        ensures view { let c = slice_index table.old.categories k in MatchResult result
+            (λ _. view_after (step_of self) table.old.instance (view_at table.old c) (fact_of fact.now)
+            ≡ Ok (view_at table.new c))
+            (λ e. view_after (step_of self) table.old.instance (view_at table.old c) (fact_of fact.now) ≡ Err e) }
+        ensures others { (c : ℕ) → Contains table.old.categories c → c ≢ slice_index table.old.categories k
+            → view_at table.new c ≡ view_at table.old c }
+    {
+        if let Some(y) = table.ancestor(k, fact.member) {
+            let summary = self.of_row(table.at(y), fact.value)?;
+            table.put(y, summary);
+        }
+        Ok(())
+    }
+
+    /// Changes what stands at the members of the categories that the fact's member reaches.
+    pub(crate) fn views(self, table: &mut SummaryTable, fact: &Fact) -> Result<(), DeltaKind>
+        requires member { fact.now.member.0 < length table.old.instance }
+        requires storable { AreStorable table.old }
+        ensures instance { table.new.instance ≡ table.old.instance }
+        ensures categories { table.new.categories ≡ table.old.categories }
+        ensures storable { AreStorable table.new }
+        ensures views { MatchResult result
+            (λ _. views_after (step_of self) table.old.instance (views_at table.old) (fact_of fact.now)
+            ≡ Ok (views_at table.new))
+            (λ e. views_after (step_of self) table.old.instance (views_at table.old) (fact_of fact.now) ≡ Err e) }
+    {
+        'categories: for k in 0..table.categories().len() {
+            self.view(table, k, fact)?;
+        }
+        Ok(())
     }
 }

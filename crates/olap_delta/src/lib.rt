@@ -6,7 +6,6 @@
 #![tactic(auto)]
 
 mod changes;
-mod changing;
 mod deltas;
 mod kinds;
 mod laws;
