@@ -1,14 +1,14 @@
 """Each command of the program stands in each place that lists commands, and no other does.
 
-The commands are those of crates/olap_run/src/words.rt. Of docs/PROVED.md only the other way is left out: its rows speak of
+The commands are those that src/words.rt of each family tells apart. Of docs/PROVED.md only the other way is left out: its rows speak of
 more than commands.
 """
 
 import re
 
-from . import sources
+from . import families, sources
 
-WORDS = sources.CRATES / "olap_run" / "src" / "words.rt"
+WORDS = [sources.CRATES / family / "src" / "words.rt" for family in families.FAMILIES]
 
 # Where commands are listed, what leads to the list there, and the form of a name in it.
 ROW = r"^\| `(\w+) [A-Z]"
@@ -33,9 +33,12 @@ def section(text, start):
 
 
 def faults():
-    commands = set(re.findall(r'^ +"(\w+)" => ', WORDS.read_text(), re.M))
-    if not commands:
-        yield WORDS, "no command was read"
+    commands = set()
+    for words in WORDS:
+        found = set(re.findall(r'^ +"(\w+)" => ', words.read_text(), re.M))
+        commands |= found
+        if not found:
+            yield words, "no command was read"
     for place, start, form in PLACES:
         file = sources.TOP / place
         listed = set(re.findall(form, section(file.read_text(), start), re.M))

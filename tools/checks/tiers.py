@@ -1,15 +1,16 @@
 """What the reader of one command must believe, in tiers: the subject, what every run shares, what a schema's text stands for, and
 the command's own.
 
-A command's own order and question are found in crates/olap_run/specs: of each declaration that has a case for each
-command, only the case of this one is read.
+A command's own order and question are found in the definitions of its family: of each declaration that has a case for each
+command, or for each family, only the case of this one is read.
 """
 
 import re
 
+from . import families
 from .believed import believed, modules
 
-COMMANDS, QUESTIONS = (("olap_run", name) for name in ("Commands", "Questions"))
+TOP = families.TOP
 TIERS = ("subject", "every run", "schema's text", "its own")
 
 
@@ -25,38 +26,44 @@ def cases(module, name, pattern):
 
 
 def commands():
-    """The names of the commands, in the order in which they are told apart, and their orders."""
-    body = "\n".join(modules()[COMMANDS].declarations["order_named"].body)
-    return re.findall(r'codes "(\w+)"\) then (\w+)', body)
+    """The names of the commands, in the order in which they are told apart, with their families and orders."""
+    for family in families.FAMILIES:
+        body = "\n".join(modules()[family, "Commands"].declarations["order_named"].body)
+        for name, order in re.findall(r'codes "(\w+)"\) then (?:by_\w+ )?(\w+)', body):
+            yield name, (family, order)
 
 
-def question_of(order):
-    """The question that an order of commands ends in."""
+def question_of(family, order):
+    """The question that an order of commands ends in; none if it ends in what is told."""
     left, seen = [order], set()
     while left:
         name = left.pop()
         seen.add(name)
-        body = "\n".join(modules()[COMMANDS].declarations[name].body)
-        if found := re.search(r"\bDone \(?(Told|By\w+)", body):
+        body = "\n".join(modules()[family, "Commands"].declarations[name].body)
+        if found := re.search(r"\b(?:Done \(?(By\w+)|Told)", body):
             return found.group(1)
         left += [word for word in re.findall(r"\w+_order\b", body) if word not in seen]
-    raise ValueError(f"{order} has no question")
+    raise ValueError(f"{order} has no end")
 
 
-def cut_to(command, order):
-    """The declarations with a case for each command, cut to those of this one."""
-    question = question_of(order)
-    named, asked, answered = (
-        modules()[module].declarations[name]
-        for module, name in ((COMMANDS, "order_named"), (QUESTIONS, "Question"), (QUESTIONS, "IsAnswer"))
-    )
-    own_name = [line for line in named.body if "codes" not in line or f'codes "{command}"' in line]
-    return {
-        (COMMANDS, "order_named"): named.type_lines + own_name,
-        (QUESTIONS, "Question"): asked.type_lines + cases(QUESTIONS, "Question", rf"({question}|Told) :"),
-        (QUESTIONS, "IsAnswer"): answered.type_lines
-        + cases(QUESTIONS, "IsAnswer", rf"IsAnswer \(?({question}|Told)\b"),
-    }
+def cut_to(command, family, order):
+    """The declarations with a case for each command or family, cut to those of this one."""
+    question = question_of(family, order)
+    alias, asked = families.of(family)
+    cut = {}
+
+    def keep(module, name, lines):
+        cut[module, name] = modules()[module].declarations[name].type_lines + lines
+
+    named = modules()[family, "Commands"].declarations["order_named"].body
+    keep((family, "Commands"), "order_named", [x for x in named if "codes" not in x or f'codes "{command}"' in x])
+    every = modules()[TOP, "Commands"].declarations["order_named"].body
+    keep((TOP, "Commands"), "order_named", [x for x in every if "asking" not in x or f"{alias}." in x])
+    for module, only in (((family, "Questions"), question), ((TOP, "Questions"), asked)):
+        if modules()[module].declarations["Question"].kind == "data":
+            keep(module, "Question", cases(module, "Question", rf"{only} :"))
+            keep(module, "IsAnswer", cases(module, "IsAnswer", rf"IsAnswer \(?{only}\b"))
+    return cut
 
 
 def tiers(claim, subject):
@@ -65,7 +72,7 @@ def tiers(claim, subject):
     """
     about = set(believed(subject))
     schema = set(believed([(("olap_schema", "Judging"), name) for name in ("schema_read", "question_read")]))
-    all_of = {command: believed(claim, cut_to(command, order)) for command, order in commands()}
+    all_of = {command: believed(claim, cut_to(command, *place)) for command, place in commands()}
     shared = set.intersection(*(set(lines) for lines in all_of.values()))
     for command, lines in all_of.items():
         counts = dict.fromkeys(TIERS, 0)

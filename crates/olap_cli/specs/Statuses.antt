@@ -1,8 +1,8 @@
 -- The exit statuses.
 --     exit_status    the number by which the shell is told how a run ended
 use Rattle.std.specs.Prelude.{ℕ}
-use Rattle.olap_run.specs.declared.status.Status.{Status}
-use Rattle.olap_run.specs.declared.status.Status.TheVariants as statuses
+use Rattle.olap_order.specs.declared.status.Status.{Status}
+use Rattle.olap_order.specs.declared.status.Status.TheVariants as statuses
 
 -- the number by which the shell is told how a run ended
 abbrev pub exit_status : Status → ℕ

@@ -1,11 +1,3 @@
 -- Lemmas.
-mod CertificateLemmas
-mod SourceLemmas
-mod Stepping
-mod TellingLemmas
-mod LineLemmas
-mod ListingLemmas
-mod NumberLemmas
 mod OneOutcome
 mod SureLemmas
-mod WordLemmas

@@ -6,7 +6,7 @@ use Rattle.std.specs.Prelude.{IsSome, IsTrue}
 use Rattle.olap_base.specs.Files.{Files}
 use Rattle.olap_base.specs.declared.outside.Library.{Ghosts as Library}
 use Rattle.olap_run.specs.Commands.{order_of}
-use Rattle.olap_run.specs.Judged.{IsStuckTold, ReadCause}
+use Rattle.olap_order.specs.Judged.{IsStuckTold, ReadCause}
 use Rattle.olap_run.specs.Outcome.{TellsAll}
 
 -- what is none isn't some

@@ -3,11 +3,11 @@ ghost use Rattle.std.specs.Prelude.{◌≡◌, ◌⊎◌, None};
 ghost use Rattle.olap_base.specs.Written.{sure_contents};
 ghost use Rattle.olap_run.specs.Outcome.{IsAnswered, WritesOutcome};
 ghost use Rattle.olap_run.specs.Commands.{order_of, usage};
-ghost use Rattle.olap_run.specs.Words.{texts};
+ghost use Rattle.olap_order.specs.Words.{texts};
 
-use crate::Status;
 use crate::top::olap;
 use olap_base::{SureLibrary, SureSink};
+use olap_order::Status;
 use std::alloc::Global;
 
 /// Does what the words say, over files in memory of which none is missing, and a sink that takes all: neither fault

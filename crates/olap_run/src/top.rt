@@ -4,14 +4,13 @@ ghost use Rattle.std.specs.Io.KnownBytes.{Appends};
 ghost use Rattle.olap_base.specs.Faults.{HasCause, Rose};
 ghost use Rattle.olap_base.specs.Sinks.{AppendsPart};
 ghost use Rattle.olap_run.specs.Commands.{order_of, usage};
-ghost use Rattle.olap_run.specs.Judged.{ReadCause};
+ghost use Rattle.olap_order.specs.Judged.{ReadCause};
 ghost use Rattle.olap_run.specs.Outcome.{IsAnswered, TakesOutcome, TellsAll, WritesOutcome, WritesPart};
-ghost use Rattle.olap_run.specs.Words.{texts};
+ghost use Rattle.olap_order.specs.Words.{texts};
 
-use crate::Status;
 use crate::judging::judge;
-use crate::replies::Stop;
 use olap_base::{Library, Sink, emit};
+use olap_order::{Status, Stop};
 use std::alloc::Global;
 
 /// Writes the bytes of an answer; the status is that of the run.

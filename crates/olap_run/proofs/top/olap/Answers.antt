@@ -1,11 +1,11 @@
 use Rattle.std.proofs.Common.{ℕ, List, Err, length, subst, sym}
 use Rattle.std.specs.Prelude.{IsTrue}
 use Rattle.olap_run.specs.Commands.{order_of}
-use Rattle.olap_run.specs.Judged.{GivesTold, Replied}
+use Rattle.olap_order.specs.Judged.{GivesTold, Replied}
 use Rattle.olap_run.specs.Questions.{IsAnswer}
-use Rattle.olap_run.specs.Words.{texts}
-use Rattle.olap_run.specs.declared.replies.Stop.{Stop}
-use Rattle.olap_run.specs.declared.status.Status.TheVariants.{Refused}
+use Rattle.olap_order.specs.Words.{texts}
+use Rattle.olap_order.specs.declared.replies.Stop.{Stop}
+use Rattle.olap_order.specs.declared.status.Status.TheVariants.{Refused}
 use Rattle.olap_run.proofs.top.olap.Goals as goal
 
 -- the sink takes the bytes of the outcome, and these are its bytes

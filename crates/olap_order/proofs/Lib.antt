@@ -1,0 +1,5 @@
+-- Lemmas.
+pub mod Stepping
+pub mod Replying
+pub mod Joining
+mod SourceLemmas

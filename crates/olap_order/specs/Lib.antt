@@ -1,0 +1,10 @@
+-- Definitions that contracts cite, in reading order: orders, what is judged along them, and their steps.
+pub mod Words
+pub mod Outputs
+pub mod Order
+pub mod Judged
+pub mod Families
+pub mod Arguments
+pub mod Steps
+pub mod Taken
+pub mod Refusals

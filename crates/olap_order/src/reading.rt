@@ -1,0 +1,68 @@
+// The steps of an order that read a file.
+ghost use Rattle.std.specs.Prelude.{◌≡◌, ◌≤◌, length, false, IfOk, IsErrOf, IsTrue, MatchOption, ⊤};
+ghost use Rattle.olap_base.specs.Faults.{Rose};
+ghost use Rattle.olap_base.specs.Files.{Asks, IsContent, IsLonger, Lacks};
+ghost use Rattle.olap_base.specs.Limits.{most_file_bytes};
+ghost use Rattle.olap_schema.specs.Schemas.{schema_of};
+ghost use Rattle.olap_order.specs.Judged.{IsLater};
+ghost use Rattle.olap_order.specs.Steps.{schema_file};
+ghost use Rattle.olap_order.specs.Taken.{FileStep};
+ghost use Rattle.olap_order.specs.declared.replies.Stop.TheVariants as stops;
+
+use crate::replies::{Stop, refuse_long, refuse_part};
+use olap_base::{FetchError, Library, MOST_FILE_BYTES, fetch};
+use olap_schema::{Schema, SchemaRefusal, read_schema};
+use std::alloc::Global;
+
+/// A file of the library; none where it is too long.
+pub fn read_file<L: Library>(
+    alloc: Global,
+    file: &str,
+    lib: &mut L,
+) -> Result<Option<Vec<u8>>, Stop>
+    ensures read { IfOk result (λ text. MatchOption text
+        (IsLonger (L.contents lib.old) file.now most_file_bytes)
+        (λ bytes. IsContent (L.contents lib.old) file.now bytes.items)) }
+    ensures within { IfOk result (λ text.
+        MatchOption text ⊤ (λ bytes. length bytes.items ≤ most_file_bytes)) }
+    ensures risen { IsErrOf result Stop.Read → Rose (L.faults lib.old) (L.faults lib.new) }
+    ensures unready { IsErrOf result Stop.Read → L.ready lib.new ≡ false }
+    ensures unrefused { (bytes : _) → IsErrOf result (stops.Refused bytes) → ⊥ }
+    ensures asked { Asks (L.contents lib.old) file.now (L.asked lib.new) }
+    ensures contents { L.contents lib.new ≡ L.contents lib.old }
+    ensures lacking { IsErrOf result Stop.Read → IsTrue (L.sure lib.old) → Lacks (L.contents lib.old) file.now }
+    ensures later { IsLater L.Library lib.old lib.new }
+{
+    match fetch(alloc, lib, file, MOST_FILE_BYTES) {
+        Ok(bytes) => Ok(Some(bytes)),
+        Err(FetchError::TooLong) => Ok(None),
+        Err(FetchError::Missing) | Err(FetchError::Failed) => Err(Stop::Read),
+        Err(FetchError::Memory) => Err(Stop::Memory),
+    }
+}
+
+/// The schema in a file.
+pub fn schema_in<L: Library>(
+    alloc: Global,
+    label: &str,
+    file: &str,
+    lib: &mut L,
+) -> Result<Schema, Stop>
+    ensures step { FileStep L.Library lib.old lib.new
+        (schema_file label.now file.now) schema_of result }
+{
+    let Some(text) = read_file(alloc, file, lib)? else {
+        return Err(refuse_long(alloc, label));
+    };
+    match read_schema(alloc, &text) {
+        Ok(schema) => Ok(schema),
+        Err(SchemaRefusal::Memory) => Err(Stop::Memory),
+        Err(SchemaRefusal::Fault { line, kind }) => Err(refuse_part(
+            alloc,
+            label,
+            "line",
+            line,
+            kind.name(),
+        )),
+    }
+}

@@ -1,0 +1,5 @@
+-- Lemmas.
+mod NumberLemmas
+mod OneAnswer
+mod PlanLemmas
+mod WordLemmas

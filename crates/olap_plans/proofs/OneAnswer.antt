@@ -1,0 +1,92 @@
+-- There is one answer at most to a question that a plan answers.
+use Rattle.std.proofs.Common.{◌≡◌, ℕ, List, ◌++◌, ap, sym, subst, ◌∙◌, inl, inr, arith}
+use Rattle.std.specs.Prelude.{Ok, Result, Err}
+use Rattle.olap_base.specs.Instance.{Instance}
+use Rattle.olap_base.specs.Limits.{most_facts}
+use Rattle.olap_base.specs.Views.{View, rows_from_views}
+use Rattle.olap_ast.specs.Schema.{Schema}
+use Rattle.olap_facts.specs.FactText.{facts_read_within}
+use Rattle.olap_generate.specs.Generated.{ShowsGenerated, generated_text, stored_views}
+use Rattle.olap_generate.specs.Location.{location_text, region}
+use Rattle.olap_generate.specs.Members.{fact_rows, member_rows}
+use Rattle.olap_instance.specs.InstanceText.{instance_read}
+use Rattle.olap_nav.specs.Plans.{IsPlan, IsNoDearer, sources_in}
+use Rattle.olap_nav.specs.PlanText.{plan_text}
+use Rattle.olap_nav.proofs.ChosenLemmas.{chosen_direct}
+use Rattle.olap_schema.specs.Judging.{schema_read}
+use Rattle.olap_view.specs.Stores.{chosen}
+use Rattle.olap_view.specs.ViewText.{view_text}
+use Rattle.olap_order.specs.declared.status.Status.{Status}
+use Rattle.olap_plans.specs.Laws.{AnswersAreOne, PlanIsOne, PlansGiveDirectViews}
+use Rattle.olap_plans.specs.Questions.{IsAnswer, Question, ByPlan, ByGenerated}
+use Rattle.olap_plans.specs.Shown.{ShowsPlan}
+
+-- ---- plans
+
+least_mask : (views : List View) (m n : ℕ) → IsNoDearer views m n → IsNoDearer views n m → m ≡ n
+least_mask views m n (inl a) (inl b) = absurd (omega arith)
+least_mask views m n (inl a) (inr b) = let e = b.0 in absurd (omega arith)
+least_mask views m n (inr a) (inl b) = let e = a.0 in absurd (omega arith)
+least_mask views m n (inr a) (inr b) = let x = a.1 in let y = b.1 in omega arith
+
+one_mask : (s : Schema) (views : List View) (c m n : ℕ) → IsPlan s views c m → IsPlan s views c n → m ≡ n
+one_mask s views c m n a b = least_mask views m n (a.cheapest n b.serves) (b.cheapest m a.serves)
+
+one_plan : (s : Schema) (i : Instance) (views : List View) (c : ℕ) (xs ys : List ℕ) → ShowsPlan s i views c xs
+    → ShowsPlan s i views c ys → xs ≡ ys
+one_plan s i views c xs ys a b =
+    let p = one_mask s views c a.mask b.mask a.plan b.plan in
+    a.text ∙ ap (λ mask. plan_text s.graph (sources_in views mask)
+    ++ view_text i (record { category = c; rows = rows_from_views i c (chosen views mask) })) p ∙ sym b.text
+
+-- ---- made inputs
+
+taken : {A B : Type 0} → Result A B → A → A
+taken (Ok x) d = x
+taken (Err e) d = d
+
+same_ok : {A B : Type 0} (x y : A) (r : Result A B) → r ≡ Ok x → r ≡ Ok y → x ≡ y
+unfolding taken
+same_ok x y r a b = ap (λ t. taken t x) (sym a ∙ b)
+
+one_made : (seed size : ℕ) (xs ys : List ℕ) → ShowsGenerated seed size xs → ShowsGenerated seed size ys → xs ≡ ys
+one_made seed size xs ys a b =
+    let p : a.schema ≡ b.schema = same_ok a.schema b.schema (schema_read location_text) a.made.schema_text
+    b.made.schema_text in
+    let m : a.members ≡ b.members = same_ok a.members b.members (instance_read b.schema.graph (member_rows seed size))
+    (subst (λ (s : Schema). instance_read s.graph (member_rows seed size) ≡ Ok a.members) p a.made.member_text)
+    b.made.member_text in
+    let t : facts_read_within most_facts b.schema.graph b.members (fact_rows seed size) ≡ Ok a.facts =
+    subst (λ (i : Instance). facts_read_within most_facts b.schema.graph i (fact_rows seed size) ≡ Ok a.facts) m
+    (subst (λ (s : Schema). facts_read_within most_facts s.graph a.members (fact_rows seed size) ≡ Ok a.facts) p
+    a.made.fact_text) in
+    let f : a.facts ≡ b.facts = same_ok a.facts b.facts
+    (facts_read_within most_facts b.schema.graph b.members (fact_rows seed size)) t b.made.fact_text in
+    let v : stored_views a.members a.facts ≡ stored_views b.members b.facts = λ i. stored_views (m i) (f i) in
+    let plan : IsPlan b.schema (stored_views b.members b.facts) region a.mask =
+    subst (λ (vs : List View). IsPlan b.schema vs region a.mask) v
+    (subst (λ (s : Schema). IsPlan s (stored_views a.members a.facts) region a.mask) p a.plan) in
+    let n = one_mask b.schema (stored_views b.members b.facts) region a.mask b.mask plan b.plan in
+    a.text ∙ (λ i. generated_text (p i) (m i) (f i) (n i)) ∙ sym b.text
+
+-- ---- all questions
+
+one_answer : (q : Question) (s t : Status) (xs ys : List ℕ) → IsAnswer q s xs → IsAnswer q t ys
+    → (s ≡ t) × (xs ≡ ys)
+one_answer (ByPlan z i views c) s t xs ys (inl a) (inl b) = (a.0 ∙ sym b.0, one_plan z i views c xs ys a.1 b.1)
+one_answer (ByPlan z i views c) s t xs ys (inl a) (inr b) = absurd (b.1 a.1.mask a.1.plan.serves)
+one_answer (ByPlan z i views c) s t xs ys (inr a) (inl b) = absurd (a.1 b.1.mask b.1.plan.serves)
+one_answer (ByPlan z i views c) s t xs ys (inr a) (inr b) = (a.0 ∙ sym b.0, a.2 ∙ sym b.2)
+one_answer (ByGenerated seed size) s t xs ys a b = (a.0 ∙ sym b.0, one_made seed size xs ys a.1 b.1)
+
+pub answers_are_one : AnswersAreOne
+answers_are_one = one_answer
+
+pub plan_is_one : PlanIsOne
+plan_is_one = one_mask
+
+-- views of one fact table that a plan takes give what the facts give
+pub plans_give_direct_views : PlansGiveDirectViews
+plans_give_direct_views s i views c mask legal plan facts table e =
+    ap (rows_from_views i c) (chosen_direct i facts 0 views mask e)
+    ∙ sym (plan.serves.summarizable i legal facts table)

@@ -1,0 +1,88 @@
+// The command `answer`: a view from stored views.
+ghost use Rattle.std.specs.Prelude.{◌≡◌, ◌++◌, ◌<◌, All, IfOk, length};
+ghost use Rattle.olap_ast.specs.Schema.{IsLegal};
+ghost use Rattle.olap_base.specs.Graph.{IsCategory};
+ghost use Rattle.olap_nav.specs.PlanText.{plan_text};
+ghost use Rattle.olap_nav.specs.Plans.{sources_in};
+ghost use Rattle.olap_schema.specs.Schemas.{schema_of};
+ghost use Rattle.olap_view.specs.Seen.{view_of, views_of};
+ghost use Rattle.olap_view.specs.Stores.{IsSoundStore, IsStore};
+ghost use Rattle.olap_view.specs.ViewText.{view_text};
+ghost use Rattle.olap_plans.specs.Commands.{answer_order};
+ghost use Rattle.olap_order.specs.Judged.{Judged, Replies};
+ghost use Rattle.olap_order.specs.Order.{Done};
+ghost use Rattle.olap_plans.specs.Questions.{ByPlan, IsAnswer};
+
+use olap_base::{CatId, Library, Memory};
+use olap_check::Legal;
+use olap_graph::Graph;
+use olap_nav::{PlanRefusal, print_plan};
+use olap_order::{Reply, Stop, category_at, refuse, schema_in, yes};
+use olap_reading::{legal_in, store_in};
+use olap_schema::Schema;
+use olap_view::{Store, View, print_view};
+use std::alloc::Global;
+
+/// The line of a plan, and the view that it gives.
+fn shown(
+    alloc: Global,
+    graph: &Graph,
+    legal: &Legal,
+    store: &Store,
+    mask: u16,
+    view: &View,
+) -> Result<Vec<u8>, Memory>
+    requires store { IsStore (views_of store.now) }
+    requires categories { All (λ v. IsCategory graph.now v.category) (views_of store.now) }
+    requires members { All (λ r. r.member.0 < length legal.now) view.now.rows }
+    ensures { IfOk result (λ text. text.items ≡ plan_text graph.now (sources_in (views_of store.now) mask)
+        ++ view_text legal.now (view_of view.now)) }
+{
+    let mut text = print_plan(alloc, graph, store, mask)?.into_bytes();
+    let lines = print_view(alloc, legal.instance(), view)?;
+    text.extend_from_slice(lines.bytes())?;
+    Ok(text)
+}
+
+/// The view of the target from the stored views, where there is a plan.
+fn answered(
+    alloc: Global,
+    schema: &Schema,
+    legal: &Legal,
+    store: &Store,
+    target: CatId,
+) -> Result<Reply, Stop>
+    requires target { IsCategory (schema_of schema.now).graph target.0 }
+    requires legal { IsLegal (schema_of schema.now) legal.now }
+    requires sound { IsSoundStore (schema_of schema.now).graph legal.now (views_of store.now) }
+    ensures replies { Replies IsAnswer
+        (Done (ByPlan (schema_of schema.now) legal.now (views_of store.now) target.0)) result }
+{
+    match olap_nav::answer(alloc, schema, legal, store, target) {
+        Ok((plan, view)) => {
+            let text = shown(alloc, schema.graph(), legal, store, plan.mask, &view)?;
+            Ok(yes(text))
+        }
+        Err(PlanRefusal::NotAnswerable) => Err(refuse(alloc, "answer NotAnswerable")),
+        Err(PlanRefusal::Memory) => Err(Stop::Memory),
+    }
+}
+
+/// A view from stored views, from a schema, an instance and a store.
+pub(crate) fn answer<L: Library>(
+    alloc: Global,
+    schema: &str,
+    instance: &str,
+    store: &str,
+    target: &str,
+    lib: &mut L,
+) -> Result<Reply, Stop>
+    ensures judged { Judged IsAnswer L.Library lib.old lib.new
+        (answer_order schema.now instance.now store.now target.now) result }
+{
+    let schema = schema_in(alloc, "schema", schema, lib)?;
+    let target = category_at(alloc, 5, &schema, target)?;
+    let legal = legal_in(alloc, &schema, "instance", instance, lib)?;
+    let store = store_in(alloc, &schema, &legal, "store", store, lib)?;
+    answered(alloc, &schema, &legal, &store, target)
+}

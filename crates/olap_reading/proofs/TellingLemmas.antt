@@ -1,0 +1,68 @@
+-- The members that a violation names are there.
+use Rattle.std.proofs.Common.{◌≡◌, ℕ, ◌<◌, length, subst, sym}
+use Rattle.std.specs.Prelude.{slice_index}
+use Rattle.std.proofs.lemmas.List.Elements.{Contains-get_or}
+use Rattle.olap_base.specs.Graph.{IsCategory}
+use Rattle.olap_base.specs.Instance.{Instance, IsBelow, IsFarBelow, IsInstance, IsMember, parents_of}
+use Rattle.olap_base.specs.Deciding.{below_is_member}
+use Rattle.olap_base.specs.Steps.{Steps, Steps.here, Steps.step, Climb, Climb.climb, Climb-from_leads}
+use Rattle.olap_ast.specs.Schema.{Schema, IsLegal}
+use Rattle.olap_ast.specs.Violation.{Violation, NoEdge, NoParent, SameCategory, TwoAncestors, Shortcut, Unmet, IsViolation}
+use Rattle.std.specs.Prelude.{Result, Ok, Err, None, IfOk, IfErr, MatchResult}
+use Rattle.olap_check.specs.FirstViolation.{first_violation, first_violation_none, first_violation_some}
+use Rattle.olap_check.specs.Reports.{told, IsRefused}
+use Rattle.olap_check.specs.declared.violations.CheckRefusal.{CheckRefusal}
+use Rattle.olap_check.specs.declared.violations.CheckRefusal.TheVariants.{Broken, Memory}
+use Rattle.olap_reading.specs.Broken.{IsBrokenBy}
+use Rattle.olap_instance.specs.Made.{IsMadeFor}
+use Rattle.olap_reading.specs.Violations.{IsTellable}
+
+-- the k-th parent is a parent
+parent_below : (i : Instance) (x k : ℕ) → k < length (parents_of i x) → IsBelow i x (slice_index (parents_of i x) k)
+parent_below i x k h = Contains-get_or (parents_of i x) k 0 h
+
+-- what is reached by steps from a member is one
+steps_inside : (i : Instance) → IsInstance i → {x y : ℕ} → Steps (IsBelow i) x y → IsMember i x → IsMember i y
+steps_inside i v here h = h
+steps_inside i v (step {x} {y} r s) h = steps_inside i v s (v.parents_are_members x y r)
+
+far_from : (i : Instance) (x y : ℕ) → IsFarBelow i x y → IsMember i x
+far_from i x y f = go (Climb-from_leads f)
+  where
+    go : Climb (IsBelow i) x y → IsMember i x
+    go (climb {z} r s) = below_is_member i x z r
+
+far_to : (i : Instance) → IsInstance i → (x y : ℕ) → IsFarBelow i x y → IsMember i y
+far_to i v x y f = go (Climb-from_leads f)
+  where
+    go : Climb (IsBelow i) x y → IsMember i y
+    go (climb {z} r s) = steps_inside i v s (v.parents_are_members x z r)
+
+pub tellable : (s : Schema) (i : Instance) → IsInstance i → IsMadeFor s.graph i → (w : Violation) → IsViolation s i w
+    → IsTellable s.graph i (told i w)
+tellable s i v m (NoEdge x k) w =
+    let b = parent_below i x k w.0 in (below_is_member i x _ b, v.parents_are_members x _ b)
+tellable s i v m (NoParent x) w = w.0
+tellable s i v m (SameCategory x) w = far_from i x w.0 w.1
+tellable s i v m (TwoAncestors x c) w =
+    (far_from i x w.0 w.2, subst (λ d. IsCategory s.graph d) w.4 (m w.0 (far_to i v x w.0 w.2)))
+tellable s i v m (Shortcut x k) w =
+    let b = parent_below i x k w.1 in (below_is_member i x _ b, v.parents_are_members x _ b)
+tellable s i v m (Unmet k x) w = w.2.0
+
+-- what a check answers is whether there is a violation, and the first one
+pub judged_is : (s : Schema) (i : Instance) → IsInstance i → IsMadeFor s.graph i → (r : Result Instance CheckRefusal)
+    → IfOk r (λ l. IsLegal s i)
+    → IfErr r (IsRefused s i) → MatchResult r (λ l. first_violation s i ≡ None) (λ e. IsBrokenBy s i e)
+judged_is s i v m (Ok l) ok err = first_violation_none s i ok
+judged_is s i v m (Err (Broken j w)) ok err = (
+  err.0,
+  record {
+    violation = err.1.violation;
+    first = first_violation_some s i v err.1.violation err.1.is_first;
+    is_told = err.1.is_told;
+    tellable = subst (λ u. IsTellable s.graph i u) (sym err.1.is_told)
+        (tellable s i v m err.1.violation err.1.is_first.is_one);
+  },
+)
+judged_is s i v m (Err Memory) ok err = tt

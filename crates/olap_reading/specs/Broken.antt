@@ -1,0 +1,23 @@
+-- What a refused check says of the instance.
+use Rattle.std.specs.Prelude.{◌≡◌, Some}
+use Rattle.olap_check.specs.FirstViolation.{first_violation}
+use Rattle.olap_ast.specs.Schema.{Schema}
+use Rattle.olap_ast.specs.Violation as meaning
+use Rattle.olap_base.specs.Instance.{Instance}
+use Rattle.olap_check.specs.Reports.{told}
+use Rattle.olap_check.specs.declared.violations.CheckRefusal.{CheckRefusal}
+use Rattle.olap_check.specs.declared.violations.CheckRefusal.TheVariants.{Broken, Memory}
+use Rattle.olap_check.specs.declared.violations.Violation.{Violation}
+use Rattle.olap_reading.specs.Violations.{IsTellable}
+
+-- it tells the first violation of the instance, whose members are there
+pub record IsFirst (s : Schema) (i : Instance) (v : Violation) : Type 0 where
+  pub violation : meaning.Violation
+  pub first : first_violation s i ≡ Some violation
+  pub is_told : v ≡ told i violation
+  pub tellable : IsTellable s.graph i v
+
+-- the same instance is handed back with its first violation, or memory was wanted
+abbrev pub IsBrokenBy : Schema → Instance → CheckRefusal → Type 0
+IsBrokenBy s i (Broken j v) = (j ≡ i) × IsFirst s i v
+IsBrokenBy s i Memory = Unit {0}

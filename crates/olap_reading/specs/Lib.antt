@@ -1,0 +1,5 @@
+-- Definitions that contracts cite: the steps, and how a violation is told.
+pub mod Violations
+pub mod Steps
+pub mod OfFacts
+pub mod Broken

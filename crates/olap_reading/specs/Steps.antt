@@ -1,0 +1,45 @@
+-- The steps of an order that read an instance and what stands over it.
+--     legal_file    a legal instance
+--     facts_file    facts at its members
+--     store_file    stored views of it
+use Rattle.std.specs.Prelude.{List, ℕ, ◌++◌, codes, Option, None, Some}
+use Rattle.olap_base.specs.Instance.{Instance}
+use Rattle.olap_base.specs.Limits.{most_facts}
+use Rattle.olap_base.specs.Views.{Fact, View}
+use Rattle.olap_ast.specs.Schema.{Schema}
+use Rattle.olap_ast.specs.Violation.{Violation}
+use Rattle.olap_records.specs.Records.{records_of}
+use Rattle.olap_instance.specs.InstanceText.{instance_read}
+use Rattle.olap_instance.specs.Kinds.{name_of_kind as instance_kind}
+use Rattle.olap_facts.specs.FactText.{facts_read_within}
+use Rattle.olap_facts.specs.Kinds.{name_of_kind as fact_kind}
+use Rattle.olap_view.specs.StoreText.{store_read}
+use Rattle.olap_view.specs.Kinds.{name_of_kind as store_kind}
+use Rattle.olap_check.specs.FirstViolation.{first_violation}
+use Rattle.olap_check.specs.Reports.{told}
+use Rattle.olap_order.specs.Order.{Order, Done, and_then, refused}
+use Rattle.olap_order.specs.Steps.{meaning_or_fault, text_file}
+use Rattle.olap_reading.specs.Violations.{violation_text}
+
+-- an instance without a violation, or its first violation
+abbrev pub legal_or_violation : List ℕ → Schema → Instance → Option Violation → Order Instance
+legal_or_violation label s i None = Done i
+legal_or_violation label s i (Some v) =
+    refused (label ++ (codes " " ++ violation_text s.graph i (told i v)))
+
+-- the legal instance of a schema in a file
+abbrev pub legal_file : Schema → List ℕ → List ℕ → Order Instance
+legal_file s label file =
+    and_then (text_file label file) (λ text.
+    and_then (meaning_or_fault label (codes "record") instance_kind (instance_read s.graph (records_of text))) (λ i.
+    legal_or_violation label s i (first_violation s i)))
+
+-- the facts at an instance's members in a file
+abbrev pub facts_file : Schema → Instance → List ℕ → List ℕ → Order (List Fact)
+facts_file s i label file = and_then (text_file label file) (λ text.
+    meaning_or_fault label (codes "record") fact_kind (facts_read_within most_facts s.graph i (records_of text)))
+
+-- the stored views of an instance in a file
+abbrev pub store_file : Schema → Instance → List ℕ → List ℕ → Order (List View)
+store_file s i label file = and_then (text_file label file) (λ text.
+    meaning_or_fault label (codes "record") store_kind (store_read s.graph i (records_of text)))

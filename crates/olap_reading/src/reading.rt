@@ -1,0 +1,125 @@
+// The steps of an order that read an instance and what stands over it.
+ghost use Rattle.std.specs.Prelude.{◌≡◌, ◌≢◌, ◌<◌, All, AllPairs, Err, IfOk, MatchResult, codes, length};
+ghost use Rattle.olap_ast.specs.Schema.{IsLegal};
+ghost use Rattle.olap_instance.specs.Made.{IsMadeFor};
+ghost use Rattle.olap_schema.specs.Schemas.{schema_of};
+ghost use Rattle.olap_view.specs.Seen.{each_view_of, ids, views_of};
+ghost use Rattle.olap_view.specs.Stores.{IsSoundStore};
+ghost use Rattle.olap_order.specs.Taken.{FileStep};
+ghost use Rattle.olap_reading.specs.OfFacts.{AreOfFacts};
+ghost use Rattle.olap_reading.specs.Steps.{facts_file, legal_file, store_file};
+
+use crate::telling::{check_laws, refuse_violation};
+use olap_base::{CatId, Library, List};
+use olap_check::{CheckRefusal, Legal};
+use olap_facts::FactRefusal;
+use olap_instance::{InstanceRefusal, read_instance};
+use olap_order::{Stop, read_file, refuse_long, refuse_part};
+use olap_schema::Schema;
+use olap_view::{Store, StoreRefusal, View, read_store, roll_up};
+use std::alloc::Global;
+
+/// The legal instance in a file.
+pub fn legal_in<L: Library>(
+    alloc: Global,
+    schema: &Schema,
+    label: &str,
+    file: &str,
+    lib: &mut L,
+) -> Result<Legal, Stop>
+    ensures step { FileStep L.Library lib.old lib.new
+        (legal_file (schema_of schema.now) label.now file.now) (λ i. i) result }
+    ensures legal { IfOk result (λ i. IsLegal (schema_of schema.now) i) }
+    ensures made { IfOk result (λ i. IsMadeFor (schema_of schema.now).graph i) }
+{
+    let Some(text) = read_file(alloc, file, lib)? else {
+        return Err(refuse_long(alloc, label));
+    };
+    let members = match read_instance(alloc, schema.graph(), &text) {
+        Ok(members) => members,
+        Err(InstanceRefusal::Memory) => return Err(Stop::Memory),
+        Err(InstanceRefusal::Fault { at, kind }) => return Err(refuse_part(
+            alloc,
+            label,
+            "record",
+            at,
+            kind.name(),
+        )),
+    };
+    match check_laws(alloc, schema, members) {
+        Ok(legal) => Ok(legal),
+        Err(CheckRefusal::Memory) => Err(Stop::Memory),
+        Err(CheckRefusal::Broken(broken, violation)) => Err(refuse_violation(
+            alloc,
+            label,
+            schema.graph(),
+            &broken,
+            violation,
+        )),
+    }
+}
+
+/// The stored views of an instance in a file.
+pub fn store_in<L: Library>(
+    alloc: Global,
+    schema: &Schema,
+    legal: &Legal,
+    label: &str,
+    file: &str,
+    lib: &mut L,
+) -> Result<Store, Stop>
+    requires made { IsMadeFor (schema_of schema.now).graph legal.now }
+    ensures step { FileStep L.Library lib.old lib.new
+        (store_file (schema_of schema.now) legal.now label.now file.now) views_of result }
+    ensures sound { IfOk result (λ store.
+        IsSoundStore (schema_of schema.now).graph legal.now (views_of store)) }
+{
+    let Some(text) = read_file(alloc, file, lib)? else {
+        return Err(refuse_long(alloc, label));
+    };
+    match read_store(alloc, schema.graph(), legal.instance(), &text) {
+        Ok(store) => Ok(store),
+        Err(StoreRefusal::Memory) => Err(Stop::Memory),
+        Err(StoreRefusal::Fault { at, kind }) => Err(refuse_part(
+            alloc,
+            label,
+            "record",
+            at,
+            kind.name(),
+        )),
+    }
+}
+
+/// The direct views of some categories, from the facts in a file.
+pub fn views_in<L: Library>(
+    alloc: Global,
+    schema: &Schema,
+    legal: &Legal,
+    categories: &[CatId],
+    file: &str,
+    lib: &mut L,
+) -> Result<List<View>, Stop>
+    requires made { IsMadeFor (schema_of schema.now).graph legal.now }
+    requires differ { AllPairs ◌≢◌ (ids categories.now) }
+    ensures step { MatchResult result
+        (λ views. AreOfFacts L.Library lib.old lib.new (schema_of schema.now) legal.now
+        (ids categories.now) file.now (each_view_of views))
+        (λ stop. FileStep L.Library lib.old lib.new
+        (facts_file (schema_of schema.now) legal.now (codes "facts") file.now) (λ facts. facts) (Err stop)) }
+    ensures members { IfOk result (λ views. All (λ v. All (λ r. r.member.0 < length legal.now) v.rows) views) }
+{
+    let Some(text) = read_file(alloc, file, lib)? else {
+        return Err(refuse_long(alloc, "facts"));
+    };
+    match roll_up(alloc, schema.graph(), legal, &text, categories) {
+        Ok(views) => Ok(views),
+        Err(FactRefusal::Memory) => Err(Stop::Memory),
+        Err(FactRefusal::Fault { at, kind }) => Err(refuse_part(
+            alloc,
+            "facts",
+            "record",
+            at,
+            kind.name(),
+        )),
+    }
+}

@@ -1,0 +1,6 @@
+-- Lemmas.
+mod CertificateLemmas
+mod ListingLemmas
+mod LineLemmas
+mod OneAnswer
+mod WordLemmas

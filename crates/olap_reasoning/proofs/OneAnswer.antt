@@ -1,0 +1,134 @@
+-- There is one answer at most to a question about all legal instances.
+use Rattle.std.proofs.Common.{◌≡◌, [], ℕ, ◌<◌, ◌≤◌, List, ◌∷◌, ◌++◌, length, refl, ap, sym, ◌∙◌, inl, inr, arith}
+use Rattle.std.specs.Prelude.{codes, flat_map}
+use Rattle.std.specs.Fmt.{decimal}
+use Rattle.olap_base.specs.Graph.{Graph}
+use Rattle.olap_ast.specs.Findings.{IsUnsatisfiable}
+use Rattle.olap_ast.specs.Formula.{Formula, Formula.Truth, Formula.Not}
+use Rattle.olap_ast.specs.Frozen.{Candidates, Frozen, chosen, name_in, root_place, thawed}
+use Rattle.olap_ast.specs.Questions.{IsImplied}
+use Rattle.olap_ast.specs.Schema.{Schema}
+use Rattle.olap_ast.specs.Summarizable.{IsSummarizable}
+use Rattle.olap_ast.proofs.Determined.{findings_are_one, not_both_answers, not_more, one_list, same_name, the_counterexample_is_one, the_least_is_one}
+use Rattle.olap_cex.specs.CexText.{direct_sum, sums_text, views_sum}
+use Rattle.olap_cex.specs.FrozenText.{edge_bits, frozen_text}
+use Rattle.olap_cex.specs.Present.{first_present}
+use Rattle.olap_grammar.specs.Quoting.{quoted}
+use Rattle.olap_graph.specs.Lookups.{name_of_category}
+use Rattle.olap_instance.specs.Printing.{text_of_instance}
+use Rattle.olap_order.specs.Outputs.{line}
+use Rattle.olap_order.specs.declared.status.Status.{Status}
+use Rattle.olap_reasoning.specs.Certificates.{ShowsDifference, ShowsMember, ShowsUnmet}
+use Rattle.olap_reasoning.specs.Laws.{AllFrozenAreOne, AnswersAreOne, FindingsAreOne, TooManyAreNotListed}
+use Rattle.olap_reasoning.specs.Listings.{HasTooMany, ListsFindings, ListsFrozen, finding_text}
+use Rattle.olap_reasoning.specs.Questions.{IsAnswer, Question, BySatisfiable, ByImplied, BySummarizable, ByFrozen, ByAudit}
+
+-- ---- the line of a frozen dimension
+
+same_line : (g : Graph) (k h : Candidates) (r d : ℕ) (f w : Frozen) → r ≡ d → f ≡ w
+    → ((c : ℕ) → name_in k f c ≡ name_in h w c) → frozen_text g k r f ≡ frozen_text g h d w
+same_line g k h r d f w q p n = λ i.
+    codes "frozen " ++ (edge_bits (p i).edges ++ (flat_map
+    (λ c. 32 ∷ (name_of_category g c ++ 61 ∷ quoted (n c i)))
+    (first_present (q i) (chosen g.edges (p i).edges) (length g.names)) ++ 10 ∷ []))
+
+-- ---- satisfiable, implies, summarizable
+
+one_member : (s : Schema) (c : ℕ) (xs ys : List ℕ) → ShowsMember s c xs → ShowsMember s c ys → xs ≡ ys
+one_member s c xs ys a b =
+    let r = the_least_is_one s Truth c a.candidates b.candidates a.frozen b.frozen a.least b.least in
+    let l = same_line s.graph a.candidates b.candidates c c a.frozen b.frozen refl r.0 r.1 in
+    a.text ∙ ap (λ t. line (codes "yes") ++ t) l ∙ sym b.text
+
+no_member : (s : Schema) (c : ℕ) (ys : List ℕ) → IsUnsatisfiable s c → ShowsMember s c ys → ⊥
+no_member s c ys u m = let z = m.least.is_one.stands_for in
+    u (thawed s m.candidates c m.frozen) z.legal z.root z.root_is
+
+one_unmet : (s : Schema) (r : ℕ) (q : Formula) (xs ys : List ℕ) → ShowsUnmet s r q xs → ShowsUnmet s r q ys → xs ≡ ys
+one_unmet s r q xs ys a b =
+    let o = the_least_is_one s (Not q) r a.candidates b.candidates a.frozen b.frozen a.least b.least in
+    let l = same_line s.graph a.candidates b.candidates r r a.frozen b.frozen refl o.0 o.1 in
+    let t = o.2 in
+    a.text ∙ (λ i. line (codes "no") ++ (l i ++ text_of_instance s.graph (t i))) ∙ sym b.text
+
+no_unmet : (s : Schema) (r : ℕ) (q : Formula) (ys : List ℕ) → IsImplied s r q → ShowsUnmet s r q ys → ⊥
+no_unmet s r q ys u m = let z = m.least.is_one.stands_for in
+    z.true_at_root (u (thawed s m.candidates r m.frozen) z.legal z.root z.root_is)
+
+one_difference : (s : Schema) (c : ℕ) (sources xs ys : List ℕ) → ShowsDifference s c sources xs
+    → ShowsDifference s c sources ys → xs ≡ ys
+one_difference s c sources xs ys a b =
+    let o = the_counterexample_is_one s c sources a.candidates b.candidates a.root b.root a.frozen b.frozen
+    a.counterexample b.counterexample in
+    let q = o.0 in let p = o.1 in let t = o.3 in
+    let l = same_line s.graph a.candidates b.candidates a.root b.root a.frozen b.frozen q p o.2 in
+    a.text ∙ (λ i. line (codes "no") ++ (l i ++ (text_of_instance s.graph (t i) ++ sums_text s.graph (q i) c
+    (direct_sum (t i) (root_place s (q i) (p i)) c) (views_sum (t i) (root_place s (q i) (p i)) c sources))))
+    ∙ sym b.text
+
+no_difference : (s : Schema) (c : ℕ) (sources ys : List ℕ) → IsSummarizable s c sources → ShowsDifference s c sources ys
+    → ⊥
+no_difference s c sources ys u m = not_both_answers s c sources m.candidates m.root m.frozen u m.counterexample
+
+-- ---- frozen, audit
+
+one_listing : (s : Schema) (c : ℕ) (xs ys : List ℕ) → ListsFrozen s c xs → ListsFrozen s c ys → xs ≡ ys
+one_listing s c xs ys a b =
+    let k = a.candidates in let h = b.candidates in
+    let p : a.frozen ≡ b.frozen =
+    one_list s Truth c k h a.all.candidates b.all.candidates a.frozen b.frozen a.all.ordered
+    b.all.ordered a.all.sound b.all.sound a.all.complete b.all.complete in
+    let m : (f : Frozen) → frozen_text s.graph k c f ≡ frozen_text s.graph h c f = λ f.
+    same_line s.graph k h c c f f refl refl (λ d. same_name s Truth k h a.all.candidates b.all.candidates f d) in
+    a.text ∙ (λ i. flat_map (λ f. m f i) (p i) ++ line (codes "count " ++ decimal (length (p i)))) ∙ sym b.text
+
+no_listing : (s : Schema) (c : ℕ) (ys : List ℕ) → HasTooMany s c → ListsFrozen s c ys → ⊥
+no_listing s c ys m l =
+    let h = m.0 in let t = m.1 in
+    let r : length t.some ≤ length l.frozen = not_more s Truth c l.candidates h l.all.candidates t.candidates l.frozen
+    t.some l.all.complete t.differ t.sound in
+    let many = t.many in let few = l.few in omega (arith, r, many, few)
+
+one_audit : (s : Schema) (xs ys : List ℕ) → ListsFindings s xs → ListsFindings s ys → xs ≡ ys
+one_audit s xs ys a b =
+    let p = findings_are_one s a.findings b.findings a.are_findings b.are_findings in
+    a.text ∙ ap (λ fs. flat_map (finding_text s.graph) fs ++ line (codes "findings " ++ decimal (length fs))) p
+    ∙ sym b.text
+
+-- ---- all questions
+
+one_answer : (q : Question) (s t : Status) (xs ys : List ℕ) → IsAnswer q s xs → IsAnswer q t ys
+    → (s ≡ t) × (xs ≡ ys)
+one_answer (BySatisfiable z c) s t xs ys (inl a) (inl b) = (a.0 ∙ sym b.0, a.2 ∙ sym b.2)
+one_answer (BySatisfiable z c) s t xs ys (inl a) (inr b) = absurd (no_member z c ys a.1 b.1)
+one_answer (BySatisfiable z c) s t xs ys (inr a) (inl b) = absurd (no_member z c xs b.1 a.1)
+one_answer (BySatisfiable z c) s t xs ys (inr a) (inr b) = (a.0 ∙ sym b.0, one_member z c xs ys a.1 b.1)
+one_answer (ByImplied z r q) s t xs ys (inl a) (inl b) = (a.0 ∙ sym b.0, a.2 ∙ sym b.2)
+one_answer (ByImplied z r q) s t xs ys (inl a) (inr b) = absurd (no_unmet z r q ys a.1 b.1)
+one_answer (ByImplied z r q) s t xs ys (inr a) (inl b) = absurd (no_unmet z r q xs b.1 a.1)
+one_answer (ByImplied z r q) s t xs ys (inr a) (inr b) = (a.0 ∙ sym b.0, one_unmet z r q xs ys a.1 b.1)
+one_answer (BySummarizable z c sources) s t xs ys (inl a) (inl b) = (a.0 ∙ sym b.0, a.2 ∙ sym b.2)
+one_answer (BySummarizable z c sources) s t xs ys (inl a) (inr b) = absurd (no_difference z c sources ys a.1 b.1)
+one_answer (BySummarizable z c sources) s t xs ys (inr a) (inl b) = absurd (no_difference z c sources xs b.1 a.1)
+one_answer (BySummarizable z c sources) s t xs ys (inr a) (inr b) =
+    (a.0 ∙ sym b.0, one_difference z c sources xs ys a.1 b.1)
+one_answer (ByFrozen z c) s t xs ys (inl a) (inl b) = (a.0 ∙ sym b.0, one_listing z c xs ys a.1 b.1)
+one_answer (ByFrozen z c) s t xs ys (inl a) (inr b) = absurd (no_listing z c xs b.1 a.1)
+one_answer (ByFrozen z c) s t xs ys (inr a) (inl b) = absurd (no_listing z c ys a.1 b.1)
+one_answer (ByFrozen z c) s t xs ys (inr a) (inr b) = (a.0 ∙ sym b.0, a.2 ∙ sym b.2)
+one_answer (ByAudit z) s t xs ys a b = (a.0 ∙ sym b.0, one_audit z xs ys a.1 b.1)
+
+pub answers_are_one : AnswersAreOne
+answers_are_one = one_answer
+
+-- ---- the parts of an answer
+
+pub all_frozen_are_one : AllFrozenAreOne
+all_frozen_are_one s q r k h xs ys a b = one_list s q r k h a.candidates b.candidates xs ys a.ordered b.ordered a.sound
+    b.sound a.complete b.complete
+
+pub too_many_are_not_listed : TooManyAreNotListed
+too_many_are_not_listed = no_listing
+
+pub findings_are_one_list : FindingsAreOne
+findings_are_one_list = findings_are_one

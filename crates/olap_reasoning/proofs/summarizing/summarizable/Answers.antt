@@ -1,0 +1,34 @@
+use Rattle.std.proofs.Common.{List, subst}
+use Rattle.olap_base.specs.declared.ids.CatId.{CatId}
+use Rattle.olap_schema.specs.Schemas.{schema_of}
+use Rattle.olap_summ.specs.Counterexamples.{numbers_of}
+use Rattle.olap_order.specs.Judged.{Replies}
+use Rattle.olap_order.specs.Order.{Done}
+use Rattle.olap_reasoning.specs.Questions.{BySummarizable, IsAnswer}
+use Rattle.olap_order.proofs.Stepping.{answered, ended, followed, unread}
+use Rattle.olap_reasoning.proofs.summarizing.summarizable.Goals as goal
+
+pub returns-in_err-schema : goal.returns-in_err-schema
+returns-in_err-schema g c = record { judged = ended c.in_err-schema.ensures.step _ c.from_residual.ensures.1 }
+
+pub returns-in_err-target : goal.returns-in_err-target
+returns-in_err-target g c = record {
+  judged = followed c.in_ok-schema.ensures.step _
+      (ended (unread _ c.in_err-target.ensures.step) _ c.from_residual-in_err-target.ensures.1);
+}
+
+pub returns-in_err-sources : goal.returns-in_err-sources
+returns-in_err-sources g c = record {
+  judged = followed c.in_ok-schema.ensures.step _ (followed (unread _ c.in_ok-target.ensures.step) _
+      (ended (unread _ c.in_err-sources.ensures.step) _ c.from_residual-in_err-sources.ensures.1));
+}
+
+pub returns : goal.returns
+returns g c = record {
+  judged = followed c.in_ok-schema.ensures.step _ (followed (unread _ c.in_ok-target.ensures.step) _
+      (followed (unread _ c.in_ok-sources.ensures.step) _
+      (answered c.answered.result
+      (subst (λ (xs : List CatId). Replies IsAnswer
+      (Done (BySummarizable (schema_of c.in_ok-schema.schema) c.in_ok-target.target.0 (numbers_of xs)))
+      c.answered.result) c.deref.ensures.value c.answered.ensures.replies))));
+}

@@ -1,0 +1,59 @@
+-- The order in which each command about a schema judges its file and words.
+--     order_named    of the command of that name, by the words after it
+use Rattle.std.specs.Prelude.{ℕ, List, [], codes, if◌then◌else◌, Option, None}
+use Rattle.std.specs.Str.{bytes_eq}
+use Rattle.olap_schema.specs.Printing.{schema_text}
+use Rattle.olap_order.specs.Arguments.{by_one, by_three, by_two, by_two_or_more}
+use Rattle.olap_order.specs.Order.{Order, Done, Told, and_then}
+use Rattle.olap_order.specs.Steps.{category_word, different_words, formula_word, root_word, schema_file}
+use Rattle.olap_order.specs.declared.status.Status.TheVariants.{Yes}
+use Rattle.olap_reasoning.specs.Questions.{Question, BySatisfiable, ByImplied, BySummarizable, ByFrozen, ByAudit}
+
+-- the schema alone
+abbrev pub format_order : (schema : List ℕ) → Order Question
+format_order schema = and_then (schema_file (codes "schema") schema) (λ s. Told Yes (schema_text s))
+
+-- the schema, and the category
+abbrev pub satisfiable_order : (schema category : List ℕ) → Order Question
+satisfiable_order schema category =
+    and_then (schema_file (codes "schema") schema) (λ s.
+    and_then (category_word s.graph 3 category) (λ c.
+    Done (BySatisfiable s c)))
+
+-- the schema, the root, and the formula
+abbrev pub implies_order : (schema root formula : List ℕ) → Order Question
+implies_order schema root formula =
+    and_then (schema_file (codes "schema") schema) (λ s.
+    and_then (root_word s.graph 3 root) (λ r.
+    and_then (formula_word s r 4 formula) (λ q.
+    Done (ByImplied s r q))))
+
+-- the schema, the target, and any number of sources from left to right
+abbrev pub summarizable_order : (schema target : List ℕ) (sources : List (List ℕ)) → Order Question
+summarizable_order schema target sources =
+    and_then (schema_file (codes "schema") schema) (λ s.
+    and_then (category_word s.graph 3 target) (λ c.
+    and_then (different_words (codes "DuplicateSource") s.graph 4 [] sources) (λ cs.
+    Done (BySummarizable s c cs))))
+
+-- the schema, and the category
+abbrev pub frozen_order : (schema category : List ℕ) → Order Question
+frozen_order schema category =
+    and_then (schema_file (codes "schema") schema) (λ s.
+    and_then (category_word s.graph 3 category) (λ c.
+    Done (ByFrozen s c)))
+
+-- the schema alone
+abbrev pub audit_order : (schema : List ℕ) → Order Question
+audit_order schema = and_then (schema_file (codes "schema") schema) (λ s. Done (ByAudit s))
+
+-- of the command of that name
+abbrev pub order_named : List ℕ → List (List ℕ) → Option (Order Question)
+order_named name words =
+    if bytes_eq name (codes "format") then by_one format_order words
+    else if bytes_eq name (codes "satisfiable") then by_two satisfiable_order words
+    else if bytes_eq name (codes "implies") then by_three implies_order words
+    else if bytes_eq name (codes "summarizable") then by_two_or_more summarizable_order words
+    else if bytes_eq name (codes "frozen") then by_two frozen_order words
+    else if bytes_eq name (codes "audit") then by_one audit_order words
+    else None

@@ -1,0 +1,76 @@
+// The command `implies`: whether all legal instances meet a constraint.
+ghost use Rattle.std.specs.Prelude.{◌≡◌, ◌++◌, codes, IfOk};
+ghost use Rattle.olap_ast.specs.Formula.{equalities};
+ghost use Rattle.olap_ast.specs.Frozen.{thawed};
+ghost use Rattle.olap_ast.specs.Trees.{formula_of};
+ghost use Rattle.olap_ast.specs.Valid.{IsQuestion};
+ghost use Rattle.olap_cex.specs.FoundFor.{IsFoundFor, found_instance};
+ghost use Rattle.olap_cex.specs.FrozenText.{frozen_text};
+ghost use Rattle.olap_frozen.specs.LeastFound.{frozen_of};
+ghost use Rattle.olap_instance.specs.Printing.{text_of_instance};
+ghost use Rattle.olap_names.specs.Names.{candidates_of};
+ghost use Rattle.olap_schema.specs.PrintingLaws.{AreTexts};
+ghost use Rattle.olap_schema.specs.Schemas.{schema_of};
+ghost use Rattle.olap_reasoning.specs.Commands.{implies_order};
+ghost use Rattle.olap_order.specs.Judged.{Judged, Replies};
+ghost use Rattle.olap_order.specs.Order.{Done};
+ghost use Rattle.olap_order.specs.Outputs.{line};
+ghost use Rattle.olap_reasoning.specs.Questions.{ByImplied, IsAnswer};
+
+use olap_ast::Formula;
+use olap_base::{CatId, Library, Memory};
+use olap_cex::{print_frozen, thaw};
+use olap_frozen::Found;
+use olap_instance::print_instance;
+use olap_order::{Reply, Stop, formula_at, no, root_at, schema_in, yes};
+use olap_schema::Schema;
+use std::alloc::Global;
+
+/// `no`, the line of a frozen dimension, and its instance.
+fn shown(alloc: Global, schema: &Schema, found: &Found) -> Result<Vec<u8>, Memory>
+    requires { IsFoundFor (schema_of schema.now).graph found.now }
+    ensures { let g = (schema_of schema.now).graph in
+        IfOk result (λ text. text.items ≡ line (codes "no")
+        ++ (frozen_text g (candidates_of found.now.candidates) found.now.frozen.root.0
+        (frozen_of found.now.frozen) ++ text_of_instance g (found_instance g found.now))) }
+{
+    let line = print_frozen(alloc, schema.graph(), &found.frozen, &found.candidates)?;
+    let instance = thaw(alloc, schema.graph(), found)?;
+    let lines = print_instance(alloc, schema.graph(), &instance)?;
+    let mut text = Vec::from_slice(alloc, b"no\n")?;
+    text.extend_from_slice(line.bytes())?;
+    text.extend_from_slice(lines.bytes())?;
+    Ok(text)
+}
+
+/// Whether all legal instances meet the constraint, with what shows that they don't.
+fn answered(alloc: Global, schema: &Schema, root: CatId, formula: &Formula) -> Result<Reply, Stop>
+    requires question { IsQuestion (schema_of schema.now) root.0 (formula_of formula.now) }
+    requires texts { AreTexts (equalities (formula_of formula.now)) }
+    ensures replies { Replies IsAnswer
+        (Done (ByImplied (schema_of schema.now) root.0 (formula_of formula.now))) result }
+{
+    // Called for its clauses: the schema's constants are text.
+    let _constraints = schema.constraints();
+    match olap_summ::implies(alloc, schema, root, formula)? {
+        None => Ok(yes(Vec::from_slice(alloc, b"yes\n")?)),
+        Some(found) => Ok(no(shown(alloc, schema, &found)?)),
+    }
+}
+
+/// Whether all instances that are legal for the schema in a file meet a constraint.
+pub(crate) fn implies<L: Library>(
+    alloc: Global,
+    schema: &str,
+    root: &str,
+    formula: &str,
+    lib: &mut L,
+) -> Result<Reply, Stop>
+    ensures judged { Judged IsAnswer L.Library lib.old lib.new
+        (implies_order schema.now root.now formula.now) result }
+{
+    let schema = schema_in(alloc, "schema", schema, lib)?;
+    let root = root_at(alloc, 3, &schema, root)?;
+    let formula = formula_at(alloc, 4, &schema, root, formula)?;
+    answered(alloc, &schema, root, &formula)
+}

@@ -1,0 +1,18 @@
+//! The commands that ask about all legal instances of a schema, and that print it.
+//!
+//! A command is an order (`specs/Commands.antt`) that ends in a question (`specs/Questions.antt`). Which status and bytes
+//! answer it is the relation `IsAnswer`. `judge` is the one call: the reply to a command's name and words.
+#![tactic(auto)]
+
+mod auditing;
+mod formatting;
+mod implying;
+mod judging;
+mod laws;
+mod listing;
+mod satisfying;
+mod summarizing;
+mod words;
+
+pub use judging::judge;
+pub use laws::{all_frozen_are_one, answers_are_one, findings_are_one, too_many_are_not_listed};

@@ -1,0 +1,101 @@
+// The command `frozen`: all frozen dimensions with a root.
+ghost use Rattle.std.specs.Prelude.{◌≡◌, ◌++◌, codes, decimal, All, IfOk, OnOk, flat_map, length, map};
+ghost use Rattle.olap_base.specs.Graph.{IsCategory};
+ghost use Rattle.olap_cex.specs.FrozenText.{frozen_text};
+ghost use Rattle.olap_frozen.specs.LeastFound.{frozen_of};
+ghost use Rattle.olap_frozen.specs.Leaves.{IsSized};
+ghost use Rattle.olap_names.specs.Names.{candidates_of};
+ghost use Rattle.olap_schema.specs.Schemas.{schema_of};
+ghost use Rattle.olap_reasoning.specs.Commands.{frozen_order};
+ghost use Rattle.olap_order.specs.Judged.{Judged, Replies};
+ghost use Rattle.olap_order.specs.Order.{Done};
+ghost use Rattle.olap_order.specs.Outputs.{line};
+ghost use Rattle.olap_reasoning.specs.Questions.{ByFrozen, IsAnswer};
+
+use olap_ast::Formula;
+use olap_base::{CatId, Library, MOST_FROZEN, Memory};
+use olap_cex::print_frozen;
+use olap_dimsat::{AllRefusal, Search};
+use olap_frozen::Frozen;
+use olap_graph::Graph;
+use olap_names::Candidates;
+use olap_order::{Reply, Stop, category_at, refuse, schema_in, yes};
+use olap_schema::Schema;
+use std::alloc::Global;
+
+/// Appends the line of each frozen dimension.
+fn push_lines(
+    alloc: Global,
+    out: &mut Vec<u8>,
+    graph: &Graph,
+    candidates: &Candidates,
+    root: CatId,
+    all: &[Frozen],
+) -> Result<(), Memory>
+    requires roots { All (λ f. f.root.0 ≡ root.0) all.now }
+    requires sized { All (λ f. IsSized graph.now candidates.now f.edges f.names) all.now }
+    ensures { OnOk result (out.new.items ≡ out.old.items ++ flat_map
+        (frozen_text graph.now (candidates_of candidates.now) root.0) (map frozen_of all.now)) }
+{
+    'lines: for frozen in all {
+        let line = print_frozen(alloc, graph, frozen, candidates)?;
+        out.extend_from_slice(line.bytes())?;
+    }
+    Ok(())
+}
+
+/// The line of each frozen dimension, and how many they are.
+fn listed(
+    alloc: Global,
+    graph: &Graph,
+    candidates: &Candidates,
+    root: CatId,
+    all: &[Frozen],
+) -> Result<Vec<u8>, Memory>
+    requires roots { All (λ f. f.root.0 ≡ root.0) all.now }
+    requires sized { All (λ f. IsSized graph.now candidates.now f.edges f.names) all.now }
+    ensures { IfOk result (λ text. text.items ≡ flat_map
+        (frozen_text graph.now (candidates_of candidates.now) root.0) (map frozen_of all.now)
+        ++ line (codes "count " ++ decimal (length all.now))) }
+{
+    let mut text = Vec::new(alloc);
+    push_lines(alloc, &mut text, graph, candidates, root, all)?;
+    let count = format!(in alloc; "count {}\n", all.len())?;
+    text.extend_from_slice(count.as_bytes())?;
+    Ok(text)
+}
+
+/// All frozen dimensions with a root, where they aren't too many.
+fn answered(alloc: Global, schema: &Schema, root: CatId) -> Result<Reply, Stop>
+    requires { IsCategory (schema_of schema.now).graph root.0 }
+    ensures replies { Replies IsAnswer (Done (ByFrozen (schema_of schema.now) root.0)) result }
+{
+    // Called for its clause: the schema's constants are few.
+    let _constraints = schema.constraints();
+    let mut search = Search::new(alloc, schema, root, &Formula::True)?;
+    let all = search.all(schema, &Formula::True, MOST_FROZEN);
+    let candidates = search.into_candidates();
+    match all {
+        Ok(all) => {
+            let text = listed(alloc, schema.graph(), &candidates, root, all.items())?;
+            Ok(yes(text))
+        }
+        Err(AllRefusal::TooMany) => Err(refuse(alloc, "frozen TooMany")),
+        Err(AllRefusal::Memory) => Err(Stop::Memory),
+    }
+}
+
+/// All frozen dimensions with a root, of the schema in a file.
+pub(crate) fn frozen<L: Library>(
+    alloc: Global,
+    schema: &str,
+    category: &str,
+    lib: &mut L,
+) -> Result<Reply, Stop>
+    ensures judged { Judged IsAnswer L.Library lib.old lib.new
+        (frozen_order schema.now category.now) result }
+{
+    let schema = schema_in(alloc, "schema", schema, lib)?;
+    let category = category_at(alloc, 3, &schema, category)?;
+    answered(alloc, &schema, category)
+}

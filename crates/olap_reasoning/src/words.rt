@@ -1,0 +1,134 @@
+// Which words are a command about all legal instances of a schema.
+ghost use Rattle.std.specs.Prelude.{◌≡◌, option_map};
+ghost use Rattle.olap_order.specs.Arguments.{by_one, by_three, by_two, by_two_or_more};
+ghost use Rattle.olap_order.specs.Words.{texts};
+ghost use Rattle.olap_reasoning.specs.Commands.{audit_order, format_order, frozen_order, implies_order, order_named, satisfiable_order, summarizable_order};
+ghost use Rattle.olap_reasoning.specs.Seen.{seen};
+
+/// A command with its words.
+#[derive(Clone, Copy)]
+pub(crate) enum Command<'a> {
+    /// The canonical text of a schema.
+    Format {
+        schema: &'a str,
+    },
+    /// Whether a category can have a member.
+    Satisfiable {
+        schema: &'a str,
+        category: &'a str,
+    },
+    /// Whether all legal instances meet a constraint.
+    Implies {
+        schema: &'a str,
+        root: &'a str,
+        formula: &'a str,
+    },
+    /// Whether a view is always that from others.
+    Summarizable {
+        schema: &'a str,
+        target: &'a str,
+        sources: &'a [String],
+    },
+    /// All frozen dimensions with a root.
+    Frozen {
+        schema: &'a str,
+        category: &'a str,
+    },
+    /// What a schema says or does for nothing.
+    Audit {
+        schema: &'a str,
+    },
+}
+
+/// The words after `format`.
+fn format(words: &[String]) -> Option<Command<'_>>
+    ensures { option_map seen result ≡ by_one format_order (texts words.now) }
+{
+    match words {
+        [schema] => Some(Command::Format {
+            schema: schema.as_str(),
+        }),
+        _ => None,
+    }
+}
+
+/// The words after `satisfiable`.
+fn satisfiable(words: &[String]) -> Option<Command<'_>>
+    ensures { option_map seen result ≡ by_two satisfiable_order (texts words.now) }
+{
+    match words {
+        [schema, category] => Some(Command::Satisfiable {
+            schema: schema.as_str(),
+            category: category.as_str(),
+        }),
+        _ => None,
+    }
+}
+
+/// The words after `implies`.
+fn implies(words: &[String]) -> Option<Command<'_>>
+    ensures { option_map seen result ≡ by_three implies_order (texts words.now) }
+{
+    match words {
+        [schema, root, formula] => Some(Command::Implies {
+            schema: schema.as_str(),
+            root: root.as_str(),
+            formula: formula.as_str(),
+        }),
+        _ => None,
+    }
+}
+
+/// The words after `summarizable`.
+fn summarizable(words: &[String]) -> Option<Command<'_>>
+    ensures { option_map seen result ≡ by_two_or_more summarizable_order (texts words.now) }
+{
+    match words {
+        [schema, target, sources @ ..] => Some(Command::Summarizable {
+            schema: schema.as_str(),
+            target: target.as_str(),
+            sources,
+        }),
+        _ => None,
+    }
+}
+
+/// The words after `frozen`.
+fn frozen(words: &[String]) -> Option<Command<'_>>
+    ensures { option_map seen result ≡ by_two frozen_order (texts words.now) }
+{
+    match words {
+        [schema, category] => Some(Command::Frozen {
+            schema: schema.as_str(),
+            category: category.as_str(),
+        }),
+        _ => None,
+    }
+}
+
+/// The words after `audit`.
+fn audit(words: &[String]) -> Option<Command<'_>>
+    ensures { option_map seen result ≡ by_one audit_order (texts words.now) }
+{
+    match words {
+        [schema] => Some(Command::Audit {
+            schema: schema.as_str(),
+        }),
+        _ => None,
+    }
+}
+
+/// The command of that name with these words after it, if it is one of this family.
+pub(crate) fn parse<'a>(name: &str, words: &'a [String]) -> Option<Command<'a>>
+    ensures { option_map seen result ≡ order_named name.now (texts words.now) }
+{
+    match name {
+        "format" => format(words),
+        "satisfiable" => satisfiable(words),
+        "implies" => implies(words),
+        "summarizable" => summarizable(words),
+        "frozen" => frozen(words),
+        "audit" => audit(words),
+        _ => None,
+    }
+}

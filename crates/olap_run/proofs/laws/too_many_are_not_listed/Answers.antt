@@ -1,5 +1,0 @@
-use Rattle.olap_run.proofs.OneOutcome.{too_many_are_not_listed}
-use Rattle.olap_run.proofs.laws.too_many_are_not_listed.Goals as goal
-
-pub returns : goal.returns
-returns c = too_many_are_not_listed

@@ -1,9 +1,0 @@
-use Rattle.olap_schema.specs.Schemas.{schema_of}
-use Rattle.olap_summ.specs.Counterexamples.{numbers_of}
-use Rattle.olap_run.specs.Words.{texts}
-use Rattle.olap_run.proofs.SourceLemmas.{IsReadTo}
-use Rattle.olap_run.proofs.naming.categories_at.Given as goal
-
--- so many words are read
-abbrev pub invariant-words : goal.invariant-words
-invariant-words l = IsReadTo l.twice (schema_of l.schema).graph l.at (texts l.names) l.k (numbers_of l.categories.items)

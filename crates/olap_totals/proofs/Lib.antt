@@ -1,0 +1,3 @@
+-- Lemmas.
+mod ViewLemmas
+mod WordLemmas

@@ -1,0 +1,60 @@
+-- The order in which each command over an instance judges its files and words. Their answers are functions of what was
+-- read, so each order ends in what is told.
+--     order_named    of the command of that name, by the words after it
+use Rattle.std.specs.Prelude.{ℕ, Bool, List, [], ◌∷◌, ◌++◌, ◌-◌, ◌&&◌, length, codes, if◌then◌else◌, nat_le, nat_lt, Option, None, Some}
+use Rattle.std.specs.Fmt.{decimal}
+use Rattle.std.specs.Str.{bytes_eq}
+use Rattle.olap_base.specs.Limits.{most_views}
+use Rattle.olap_base.specs.Views.{direct_view, direct_views}
+use Rattle.olap_view.specs.StoreText.{store_text}
+use Rattle.olap_view.specs.ViewText.{view_text}
+use Rattle.olap_order.specs.Arguments.{by_four, by_two}
+use Rattle.olap_order.specs.Order.{Order, Told, and_then}
+use Rattle.olap_order.specs.Outputs.{line}
+use Rattle.olap_order.specs.Steps.{category_word, different_words, schema_file}
+use Rattle.olap_reading.specs.Steps.{facts_file, legal_file}
+use Rattle.olap_order.specs.declared.status.Status.TheVariants.{Yes}
+use Rattle.olap_totals.specs.Questions.{Question}
+
+-- the schema, the category, the instance and its laws, and then the facts
+abbrev pub rollup_order : (schema instance facts category : List ℕ) → Order Question
+rollup_order schema instance facts category =
+    and_then (schema_file (codes "schema") schema) (λ s.
+    and_then (category_word s.graph 5 category) (λ c.
+    and_then (legal_file s (codes "instance") instance) (λ i.
+    and_then (facts_file s i (codes "facts") facts) (λ table.
+    Told Yes (view_text i (direct_view i table c))))))
+
+-- the schema, the instance and its laws
+abbrev pub check_order : (schema instance : List ℕ) → Order Question
+check_order schema instance =
+    and_then (schema_file (codes "schema") schema) (λ s.
+    and_then (legal_file s (codes "instance") instance) (λ i.
+    Told Yes (line (codes "legal " ++ decimal (length i - 1)))))
+
+-- the schema, the categories from left to right, the instance and its laws, and then the facts
+abbrev pub store_order : (schema instance facts : List ℕ) (categories : List (List ℕ)) → Order Question
+store_order schema instance facts categories =
+    and_then (schema_file (codes "schema") schema) (λ s.
+    and_then (different_words (codes "DuplicateView") s.graph 5 [] categories) (λ cs.
+    and_then (legal_file s (codes "instance") instance) (λ i.
+    and_then (facts_file s i (codes "facts") facts) (λ table.
+    Told Yes (store_text s.graph i (direct_views i table cs))))))
+
+-- one category or more, and no more than there may be views
+abbrev pub is_few : List (List ℕ) → Bool
+is_few categories = nat_lt 0 (length categories) && nat_le (length categories) most_views
+
+-- so it is of a few categories
+abbrev pub store_by : List (List ℕ) → Option (Order Question)
+store_by (schema ∷ instance ∷ facts ∷ categories) =
+    if is_few categories then Some (store_order schema instance facts categories) else None
+store_by words = None
+
+-- of the command of that name
+abbrev pub order_named : List ℕ → List (List ℕ) → Option (Order Question)
+order_named name words =
+    if bytes_eq name (codes "rollup") then by_four rollup_order words
+    else if bytes_eq name (codes "check") then by_two check_order words
+    else if bytes_eq name (codes "store") then store_by words
+    else None

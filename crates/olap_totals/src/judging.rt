@@ -1,0 +1,51 @@
+// What comes of the commands over an instance and its facts, before anything is written.
+ghost use Rattle.olap_order.specs.Families.{FamilyJudged};
+ghost use Rattle.olap_order.specs.Judged.{Judged};
+ghost use Rattle.olap_order.specs.Words.{texts};
+ghost use Rattle.olap_totals.specs.Commands.{order_named};
+ghost use Rattle.olap_totals.specs.Questions.{IsAnswer};
+ghost use Rattle.olap_totals.specs.Seen.{seen};
+
+use crate::checking::check;
+use crate::rolling_up::rollup;
+use crate::storing::store;
+use crate::words::{Command, parse};
+use olap_base::Library;
+use olap_order::{Reply, Stop};
+use std::alloc::Global;
+
+/// The reply of a command.
+fn run<L: Library>(alloc: Global, command: Command, lib: &mut L) -> Result<Reply, Stop>
+    ensures judged { Judged IsAnswer L.Library lib.old lib.new (seen command.entry) result }
+{
+    match command {
+        Command::Rollup {
+            schema,
+            instance,
+            facts,
+            category,
+        } => rollup(alloc, schema, instance, facts, category, lib),
+        Command::Check { schema, instance } => check(alloc, schema, instance, lib),
+        Command::Store {
+            schema,
+            instance,
+            facts,
+            categories,
+        } => store(alloc, schema, instance, facts, categories, lib),
+    }
+}
+
+/// The reply of the command of that name with these words after it; none, and no file is opened, where it is no command of
+/// this family.
+pub fn judge<L: Library>(
+    alloc: Global,
+    name: &str,
+    words: &[String],
+    lib: &mut L,
+) -> Option<Result<Reply, Stop>>
+    ensures judged { FamilyJudged IsAnswer L.Library lib.old lib.new
+        (order_named name.now (texts words.now)) result }
+{
+    let command = parse(name, words)?;
+    Some(run(alloc, command, lib))
+}

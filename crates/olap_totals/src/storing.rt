@@ -1,0 +1,63 @@
+// The command `store`: the direct views of some categories as a text of stored views.
+ghost use Rattle.std.specs.Prelude.{◌≢◌, ◌<◌, ◌^◌, All, AllPairs, codes, length};
+ghost use Rattle.olap_base.specs.Graph.{IsCategory};
+ghost use Rattle.olap_base.specs.Views.{direct_views};
+ghost use Rattle.olap_instance.specs.Made.{IsMadeFor};
+ghost use Rattle.olap_view.specs.StoreText.{store_text};
+ghost use Rattle.olap_schema.specs.Schemas.{schema_of};
+ghost use Rattle.olap_view.specs.Seen.{ids};
+ghost use Rattle.olap_totals.specs.Commands.{store_order};
+ghost use Rattle.olap_order.specs.Judged.{Judged};
+ghost use Rattle.olap_order.specs.Order.{Told, and_then};
+ghost use Rattle.olap_totals.specs.Questions.{IsAnswer};
+ghost use Rattle.olap_reading.specs.Steps.{facts_file};
+ghost use Rattle.olap_order.specs.Words.{texts};
+
+use olap_base::{CatId, Library};
+use olap_check::Legal;
+use olap_order::{Reply, Status, Stop, categories_at, schema_in, yes};
+use olap_reading::{legal_in, views_in};
+use olap_schema::Schema;
+use olap_view::{Store, print_store};
+use std::alloc::Global;
+
+/// The direct views of some categories, from the facts in a file.
+fn stored<L: Library>(
+    alloc: Global,
+    schema: &Schema,
+    legal: &Legal,
+    categories: &[CatId],
+    file: &str,
+    lib: &mut L,
+) -> Result<Reply, Stop>
+    requires made { IsMadeFor (schema_of schema.now).graph legal.now }
+    requires categories { All (IsCategory (schema_of schema.now).graph) (ids categories.now) }
+    requires differ { AllPairs ◌≢◌ (ids categories.now) }
+    ensures judged { Judged IsAnswer L.Library lib.old lib.new
+        (and_then (facts_file (schema_of schema.now) legal.now (codes "facts") file.now) (λ table.
+        Told Status.Yes (store_text (schema_of schema.now).graph legal.now
+        (direct_views legal.now table (ids categories.now))))) result }
+{
+    let views = views_in(alloc, schema, legal, categories, file, lib)?;
+    let text = print_store(alloc, schema.graph(), legal.instance(), &Store { views })?;
+    Ok(yes(text.into_bytes()))
+}
+
+/// The direct views of some categories, from a schema, an instance and facts.
+pub(crate) fn store<L: Library>(
+    alloc: Global,
+    schema: &str,
+    instance: &str,
+    facts: &str,
+    categories: &[String],
+    lib: &mut L,
+) -> Result<Reply, Stop>
+    requires few { length categories.now < 2 ^ 63 }
+    ensures judged { Judged IsAnswer L.Library lib.old lib.new
+        (store_order schema.now instance.now facts.now (texts categories.now)) result }
+{
+    let schema = schema_in(alloc, "schema", schema, lib)?;
+    let categories = categories_at(alloc, 5, "DuplicateView", &schema, categories)?;
+    let legal = legal_in(alloc, &schema, "instance", instance, lib)?;
+    stored(alloc, &schema, &legal, &categories, facts, lib)
+}

@@ -1,0 +1,94 @@
+// Which words are a command over an instance and its facts.
+ghost use Rattle.std.specs.Prelude.{◌≡◌, option_map};
+ghost use Rattle.olap_order.specs.Arguments.{by_four, by_two};
+ghost use Rattle.olap_order.specs.Words.{texts};
+ghost use Rattle.olap_totals.specs.Commands.{check_order, is_few, order_named, rollup_order, store_by};
+ghost use Rattle.olap_totals.specs.Seen.{seen};
+
+use olap_base::MOST_VIEWS;
+
+/// A command with its words.
+#[derive(Clone, Copy)]
+pub(crate) enum Command<'a> {
+    /// The direct view of a category.
+    Rollup {
+        schema: &'a str,
+        instance: &'a str,
+        facts: &'a str,
+        category: &'a str,
+    },
+    /// Whether an instance is legal.
+    Check {
+        schema: &'a str,
+        instance: &'a str,
+    },
+    /// The direct views of some categories, to be stored.
+    Store {
+        schema: &'a str,
+        instance: &'a str,
+        facts: &'a str,
+        categories: &'a [String],
+    },
+}
+
+/// The words after `rollup`.
+fn rollup(words: &[String]) -> Option<Command<'_>>
+    ensures { option_map seen result ≡ by_four rollup_order (texts words.now) }
+{
+    match words {
+        [schema, instance, facts, category] => Some(Command::Rollup {
+            schema: schema.as_str(),
+            instance: instance.as_str(),
+            facts: facts.as_str(),
+            category: category.as_str(),
+        }),
+        _ => None,
+    }
+}
+
+/// The words after `check`.
+fn check(words: &[String]) -> Option<Command<'_>>
+    ensures { option_map seen result ≡ by_two check_order (texts words.now) }
+{
+    match words {
+        [schema, instance] => Some(Command::Check {
+            schema: schema.as_str(),
+            instance: instance.as_str(),
+        }),
+        _ => None,
+    }
+}
+
+/// Whether a store may have as many views as these are categories, and has one.
+fn are_few(categories: &[String]) -> bool
+    ensures { result ≡ is_few (texts categories.now) }
+{
+    !categories.is_empty() && categories.len() <= MOST_VIEWS
+}
+
+/// The words after `store`.
+fn store(words: &[String]) -> Option<Command<'_>>
+    ensures { option_map seen result ≡ store_by (texts words.now) }
+{
+    match words {
+        [schema, instance, facts, categories @ ..] if are_few(categories) => Some(Command::Store {
+            schema: schema.as_str(),
+            instance: instance.as_str(),
+            facts: facts.as_str(),
+            categories,
+        }),
+        _ => None,
+    }
+}
+
+/// The command of that name with these words after it, if it is one of this family.
+pub(crate) fn parse<'a>(name: &str, words: &'a [String]) -> Option<Command<'a>>
+    ensures { option_map seen result ≡ order_named name.now (texts words.now) }
+{
+    match name {
+        "rollup" => rollup(words),
+        "check" => check(words),
+        "store" => store(words),
+        _ => None,
+    }
+}
