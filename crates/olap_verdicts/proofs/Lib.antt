@@ -1,0 +1,4 @@
+-- Lemmas.
+mod OneAnswer
+mod WordLemmas
+mod ReplyLemmas

@@ -1,0 +1,25 @@
+-- The reply to a text that is no certificate.
+use Rattle.std.proofs.Common.{◌≡◌, ◌++◌, ℕ, List, Ok, inr, subst, sym}
+use Rattle.std.specs.Prelude.{codes}
+use Rattle.std.specs.Fmt.{decimal}
+use Rattle.olap_ast.specs.Schema.{Schema}
+use Rattle.olap_ast.specs.Valid.{IsValidSchema}
+use Rattle.olap_order.specs.Judged.{IsVerdict, Replies}
+use Rattle.olap_order.specs.Order.{Done}
+use Rattle.olap_order.specs.Outputs.{line}
+use Rattle.olap_order.specs.declared.replies.Reply.{Reply}
+use Rattle.olap_order.specs.declared.status.Status.TheVariants.{No}
+use Rattle.olap_proof.specs.Verifying.{IsFirstWrongFor}
+use Rattle.olap_proof.specs.declared.forms.Form.{Form}
+use Rattle.olap_verdicts.specs.Questions.{ByCertificate, IsAnswer}
+
+-- the first line that is wrong is told
+pub wrong_shown : (f : Form) (s : Schema) (c : ℕ) (sources text : List ℕ) (at : ℕ) → IsValidSchema s
+    → IsFirstWrongFor f s c sources text at → (reply : Reply) → reply.status ≡ No
+    → reply.bytes.items ≡ line (codes "rejected line " ++ decimal at)
+    → Replies IsAnswer (Done (ByCertificate f s c sources text)) (Ok reply)
+wrong_shown f s c sources text at v w reply status bytes = record {
+  right = λ files. (v, inr (status, (at, w, bytes)));
+  verdict = subst IsVerdict (sym status) tt;
+  unread = λ e. absurd (cc);
+}

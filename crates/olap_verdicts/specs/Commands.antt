@@ -1,0 +1,32 @@
+-- The order in which each command about a certificate judges its files and words.
+--     verify_order    of `verify` and `verify-short`
+--     order_named     of the command of that name, by the words after it
+use Rattle.std.specs.Prelude.{ℕ, List, [], ◌∷◌, codes, if◌then◌else◌, Option, None, Some}
+use Rattle.std.specs.Str.{bytes_eq}
+use Rattle.olap_order.specs.Order.{Order, Done, and_then}
+use Rattle.olap_order.specs.Steps.{category_word, different_words, schema_file, text_file}
+use Rattle.olap_proof.specs.declared.forms.Form.{Form}
+use Rattle.olap_proof.specs.declared.forms.Form.TheVariants.{Long, Short}
+use Rattle.olap_verdicts.specs.Questions.{Question, ByCertificate}
+
+-- by three words, and those behind them
+abbrev pub by_three_or_more : {Q : Type 0} → (List ℕ → List ℕ → List ℕ → List (List ℕ) → Order Q) → List (List ℕ)
+    → Option (Order Q)
+by_three_or_more order (a ∷ b ∷ c ∷ more) = Some (order a b c more)
+by_three_or_more order words = None
+
+-- the schema, the target, any number of sources from left to right, and then the certificate
+abbrev pub verify_order : Form → (schema certificate target : List ℕ) (sources : List (List ℕ)) → Order Question
+verify_order form schema certificate target sources =
+    and_then (schema_file (codes "schema") schema) (λ s.
+    and_then (category_word s.graph 4 target) (λ c.
+    and_then (different_words (codes "DuplicateSource") s.graph 5 [] sources) (λ cs.
+    and_then (text_file (codes "certificate") certificate) (λ text.
+    Done (ByCertificate form s c cs text)))))
+
+-- of the command of that name
+abbrev pub order_named : List ℕ → List (List ℕ) → Option (Order Question)
+order_named name words =
+    if bytes_eq name (codes "verify") then by_three_or_more (verify_order Long) words
+    else if bytes_eq name (codes "verify-short") then by_three_or_more (verify_order Short) words
+    else None

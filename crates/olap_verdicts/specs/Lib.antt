@@ -1,0 +1,5 @@
+-- Definitions that contracts cite, in reading order: what is asked, what answers it, and the commands' orders.
+pub mod Questions
+pub mod Commands
+pub mod Laws
+pub mod Seen

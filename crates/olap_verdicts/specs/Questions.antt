@@ -1,0 +1,23 @@
+-- What is asked about a text, and what answers it.
+--     Question   a command's question, with all that it needs
+--     IsAnswer   a status and bytes answer the question
+use Rattle.std.specs.Prelude.{◌≡◌, ◌⊎◌, ◌++◌, ℕ, List, codes}
+use Rattle.std.specs.Fmt.{decimal}
+use Rattle.olap_ast.specs.Schema.{Schema}
+use Rattle.olap_ast.specs.Valid.{IsValidSchema}
+use Rattle.olap_order.specs.Outputs.{line}
+use Rattle.olap_order.specs.declared.status.Status.{Status}
+use Rattle.olap_order.specs.declared.status.Status.TheVariants.{Yes, No}
+use Rattle.olap_proof.specs.Verifying.{IsCertificateFor, IsFirstWrongFor}
+use Rattle.olap_proof.specs.declared.forms.Form.{Form}
+
+pub data Question : Type 0 where
+  -- is the text a certificate of that form for the schema, the target and the sources?
+  ByCertificate : (form : Form) (schema : Schema) (target : ℕ) (sources : List ℕ) (text : List ℕ) → Question
+
+-- these are the status and the bytes, of a valid schema
+abbrev pub IsAnswer : Question → Status → List ℕ → Type 0
+IsAnswer (ByCertificate f s c sources text) status bytes = IsValidSchema s
+    × (((status ≡ Yes) × IsCertificateFor f s c sources text × (bytes ≡ line (codes "accepted")))
+    ⊎ ((status ≡ No) × ((at : ℕ) × IsFirstWrongFor f s c sources text at
+    × (bytes ≡ line (codes "rejected line " ++ decimal at)))))

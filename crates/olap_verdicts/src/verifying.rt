@@ -1,0 +1,85 @@
+// The commands `verify` and `verify-short`: whether a text is a certificate.
+ghost use Rattle.std.specs.Prelude.{◌≡◌, ◌≢◌, ◌++◌, ◌<◌, ◌^◌, All, AllPairs, IfOk, codes, decimal, length};
+ghost use Rattle.olap_base.specs.Graph.{IsCategory};
+ghost use Rattle.olap_order.specs.Judged.{Judged, Replies};
+ghost use Rattle.olap_order.specs.Order.{Done};
+ghost use Rattle.olap_order.specs.Outputs.{line};
+ghost use Rattle.olap_order.specs.Steps.{text_file};
+ghost use Rattle.olap_order.specs.Taken.{FileStep};
+ghost use Rattle.olap_order.specs.Words.{numbers_of, texts};
+ghost use Rattle.olap_schema.specs.Schemas.{schema_of};
+ghost use Rattle.olap_verdicts.specs.Commands.{verify_order};
+ghost use Rattle.olap_verdicts.specs.Questions.{ByCertificate, IsAnswer};
+
+use olap_base::{CatId, Library};
+use olap_order::{
+    Reply, Stop, categories_at, category_at, no, read_file, refuse_long, schema_in, yes,
+};
+use olap_proof::{Form, VerifyRefusal};
+use olap_schema::Schema;
+use std::alloc::{AllocError, Global};
+
+/// The text of a file.
+fn text_in<L: Library>(alloc: Global, label: &str, file: &str, lib: &mut L) -> Result<Vec<u8>, Stop>
+    ensures step { FileStep L.Library lib.old lib.new
+        (text_file label.now file.now) (λ text. text.items) result }
+{
+    match read_file(alloc, file, lib)? {
+        Some(text) => Ok(text),
+        None => Err(refuse_long(alloc, label)),
+    }
+}
+
+/// `rejected line` and the line's number.
+fn rejected(alloc: Global, at: u64) -> Result<Vec<u8>, AllocError>
+    ensures { IfOk result (λ text. text.items ≡ line (codes "rejected line " ++ decimal at)) }
+{
+    let text = format!(in alloc; "rejected line {at}\n")?;
+    Ok(text.into_bytes())
+}
+
+/// Whether the text is a certificate, and else the first line that is wrong.
+fn told(
+    alloc: Global,
+    schema: &Schema,
+    form: Form,
+    target: CatId,
+    sources: &[CatId],
+    text: &[u8],
+) -> Result<Reply, Stop>
+    requires target { IsCategory (schema_of schema.now).graph target.0 }
+    requires sources { All (IsCategory (schema_of schema.now).graph) (numbers_of sources.now) }
+    requires differ { AllPairs ◌≢◌ (numbers_of sources.now) }
+    ensures replies { Replies IsAnswer (Done (ByCertificate form (schema_of schema.now) target.0
+        (numbers_of sources.now) text.now)) result }
+{
+    // Called for its clause: the schema is valid.
+    let _valid = schema.constraints();
+    match olap_proof::verify(alloc, schema, form, target, sources, text) {
+        Ok(()) => Ok(yes(Vec::from_slice(alloc, b"accepted\n")?)),
+        Err(VerifyRefusal::Rejected { line }) => Ok(no(rejected(alloc, line)?)),
+        Err(VerifyRefusal::DuplicateSource) => unreachable!(),
+        Err(VerifyRefusal::Memory) => Err(Stop::Memory),
+    }
+}
+
+/// Whether the text in a file is a certificate for the schema in another, the target and the sources.
+pub(crate) fn verify<L: Library>(
+    alloc: Global,
+    form: Form,
+    schema: &str,
+    certificate: &str,
+    target: &str,
+    sources: &[String],
+    lib: &mut L,
+) -> Result<Reply, Stop>
+    requires few { length sources.now < 2 ^ 63 }
+    ensures judged { Judged IsAnswer L.Library lib.old lib.new
+        (verify_order form schema.now certificate.now target.now (texts sources.now)) result }
+{
+    let schema = schema_in(alloc, "schema", schema, lib)?;
+    let target = category_at(alloc, 4, &schema, target)?;
+    let sources = categories_at(alloc, 5, "DuplicateSource", &schema, sources)?;
+    let text = text_in(alloc, "certificate", certificate, lib)?;
+    told(alloc, &schema, form, target, &sources, &text)
+}
