@@ -3,7 +3,7 @@
 --     view_unreached, view_reached   one view after a fact
 --     views_step             several
 use Rattle.std.proofs.Common.{◌≡◌, ℕ, List, [], ◌∷◌, map, Bool, true, false, cond, refl, sym, ap, subst, ◌∙◌, inl, inr, ℤ, Option, Some, None, IfSome, arith}
-use Rattle.std.specs.Prelude.{Contains, filter, filter_map, find, ◌==◌, MatchResult, Result, Ok, Err}
+use Rattle.std.specs.Prelude.{Contains, filter, find, ◌==◌, MatchResult, Result, Ok, Err}
 use Rattle.std.specs.List.{cons_option}
 use Rattle.std.specs.Option.{option_map}
 use Rattle.std.proofs.lemmas.Bool.Decides.{nat_tests}

@@ -3,7 +3,7 @@
 --     view_put, view_refused, view_left, view_kept   the views after it
 --     so_far_first, so_far_next, so_far_refused, so_far_all   category by category
 --     fact_behind, taken_ok, taken_err   fact by fact
-use Rattle.std.proofs.Common.{◌≡◌, ◌≢◌, ◌+◌, ◌<◌, ◌≤◌, ℕ, suc, List, [], ◌∷◌, ◌++◌, length, get_or, take, drop, map, Bool, true, false, cond, refl, sym, ap, subst, ◌∙◌, inl, inr, ℤ, Option, Some, None, IfSome, arith, drop-cons, length-drop}
+use Rattle.std.proofs.Common.{◌≡◌, ◌≢◌, ◌+◌, ◌<◌, ◌≤◌, ℕ, suc, List, [], ◌∷◌, ◌++◌, length, get_or, take, drop, map, Bool, true, false, cond, refl, sym, ap, subst, ◌∙◌, inl, inr, Option, Some, IfSome, arith, drop-cons, length-drop}
 use Rattle.std.specs.Prelude.{◌==◌, ◌⊎◌, AllPairs, Contains, Result, Ok, Err}
 use Rattle.std.proofs.Math.Seq.{take_all}
 use Rattle.std.proofs.lemmas.Bool.Decides.{nat_tests}
@@ -11,10 +11,10 @@ use Rattle.std.proofs.lemmas.List.{append-nil, append_assoc, drop_all, get_or-dr
 use Rattle.std.proofs.lemmas.List.Elements.{Contains-get_or}
 use Rattle.olap_base.specs.Instance.{Instance, ReachesCategory, category_of}
 use Rattle.olap_base.specs.Naming.{Fault}
-use Rattle.olap_base.specs.Reaching.{reaches, reaches_is}
+use Rattle.olap_base.specs.Reaching.{reaches_is}
 use Rattle.olap_base.specs.Summaries.{Summary}
 use Rattle.olap_base.specs.Views.{Fact, View, members_of}
-use Rattle.olap_base.proofs.ViewLemmas.{eqb_is, is_member_of, members_of_is}
+use Rattle.olap_base.proofs.ViewLemmas.{is_member_of, members_of_is}
 use Rattle.olap_check.specs.Ancestors.{IsAncestor}
 use Rattle.olap_view.specs.SummaryTables.{Summarized, stands_at, view_at, views_at}
 use Rattle.olap_view.specs.Tables.{IsAmong}

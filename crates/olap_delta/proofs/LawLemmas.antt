@@ -1,19 +1,16 @@
 -- Direct views, fact by fact.
-use Rattle.std.proofs.Common.{◌≡◌, ◌+◌, ◌<◌, ℕ, suc, List, [], ◌∷◌, ◌++◌, length, map, Bool, true, false, cond, refl, sym, ap, subst, ◌∙◌, inl, inr, Option, Some, None, IfSome, w64, arith}
+use Rattle.std.proofs.Common.{◌≡◌, ◌+◌, ℕ, List, [], ◌∷◌, ◌++◌, map, true, false, cond, refl, sym, ap, subst, ◌∙◌, Option, Some, None, IfSome, w64}
 use Rattle.std.specs.Prelude.{All, Contains, MatchResult, Result, Ok, Err}
-use Rattle.std.specs.List.{cons_option}
-use Rattle.std.specs.List.Sorted.{IsPermutation}
 use mir.Val.{SFits}
 use Rattle.std.proofs.lemmas.List.{append-nil, append_assoc}
 use Rattle.std.proofs.lemmas.List.Elements.{All-contains, All-head, All-tail}
-use Rattle.olap_base.specs.Deciding.{contains_cases}
 use Rattle.olap_base.specs.Graph.{Graph}
 use Rattle.olap_base.specs.Instance.{Instance, IsLawful}
 use Rattle.olap_base.specs.Naming.{Fault}
 use Rattle.olap_base.specs.Reaching.{reaches}
 use Rattle.olap_base.specs.Summaries.{Summary, of_value, ◌⊕◌}
-use Rattle.olap_base.specs.Views.{Fact, Row, View, direct_view, direct_views, members_of, row_at, total_of_facts, values_at}
-use Rattle.olap_base.proofs.ListLemmas.{Contains-map, Contains-nil}
+use Rattle.olap_base.specs.Views.{Fact, View, direct_view, direct_views, members_of, total_of_facts, values_at}
+use Rattle.olap_base.proofs.ListLemmas.{Contains-map}
 use Rattle.olap_base.proofs.TotalLemmas.{⊕_none}
 use Rattle.olap_view.specs.StoreReading.{IsStoredAt}
 use Rattle.olap_view.specs.Stores.{Fits}
@@ -21,10 +18,10 @@ use Rattle.olap_delta.specs.Changes.{Step, appended, retracted, store_after, vie
 use Rattle.olap_delta.specs.Laws.{AppendGivesDirectViews, RetractGivesDirectViews}
 use Rattle.olap_delta.specs.declared.kinds.DeltaKind.{DeltaKind}
 use Rattle.olap_delta.specs.declared.kinds.DeltaKind.TheVariants as kind
-use Rattle.olap_view.proofs.FileOrderLemmas.{rows_by, view_by}
+use Rattle.olap_view.proofs.FileOrderLemmas.{view_by}
 use Rattle.olap_delta.proofs.ChangeLemmas.{AreSmall, Makes, view_alike, views_step}
 use Rattle.olap_delta.proofs.StorableLemmas.{rows_stored}
-use Rattle.olap_delta.proofs.PermutedLemmas.{added, fact_among, fact_behind, facts_permuted}
+use Rattle.olap_delta.proofs.PermutedLemmas.{fact_among, fact_behind, facts_permuted}
 use Rattle.olap_delta.proofs.RowLemmas.{IsSmall, appended_total, retracted_total}
 
 stored_small : (y : ℕ) (o : Option Summary) → IfSome o (IsStoredAt y) → IfSome o IsSmall

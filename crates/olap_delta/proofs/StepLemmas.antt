@@ -2,7 +2,7 @@
 --     kept              what is there may be stored
 --     small             no sum wraps
 --     joined_storable, without_storable   what comes of it may be stored
-use Rattle.std.proofs.Common.{◌≡◌, ◌≢◌, ◌^◌, ◌≤◌, ◌<◌, ◌+◌, ◌-◌, ℕ, Bool, true, false, cond, refl, sym, ap, subst, ◌∙◌, ℤ, pos, negsuc, neg_ℤ, ◌+ℤ◌, ◌-ℤ◌, ◌≤ℤ◌, Option, Some, None, IfSome, w64, arith}
+use Rattle.std.proofs.Common.{◌≡◌, ◌≢◌, ◌^◌, ◌≤◌, ◌<◌, Bool, true, false, cond, subst, ℤ, pos, negsuc, neg_ℤ, ◌+ℤ◌, ◌-ℤ◌, ◌≤ℤ◌, Option, Some, IfSome, w64, arith}
 use Rattle.std.specs.Prelude.{int_lt}
 use Rattle.std.specs.Option.{option_map}
 use mir.Val.{SFits}

@@ -10,7 +10,7 @@ use Rattle.olap_base.specs.Limits.{most_count}
 use Rattle.olap_base.specs.Naming.{Fault}
 use Rattle.olap_base.specs.Reaching.{reaches}
 use Rattle.olap_base.specs.Summaries.{Summary, joined, of_value}
-use Rattle.olap_base.specs.Views.{Fact, Row, View, members_of, row_at}
+use Rattle.olap_base.specs.Views.{Fact, View, members_of, row_at}
 use Rattle.olap_view.specs.StoredNumbers.{is_sum}
 use Rattle.olap_view.specs.Stores.{summary_in}
 use Rattle.olap_delta.specs.declared.kinds.DeltaKind.{DeltaKind}

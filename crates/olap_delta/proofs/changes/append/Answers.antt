@@ -1,5 +1,5 @@
 -- No sum wraps, and what comes may be stored.
-use Rattle.std.proofs.Common.{◌≡◌, true, ap, sym, subst, ◌∙◌, w64, rules}
+use Rattle.std.proofs.Common.{◌≡◌, ap, sym, subst, ◌∙◌, w64}
 use mir.Val.{SFits}
 use Rattle.std.proofs.lemmas.Int.{to_z-of_z}
 use Rattle.olap_base.specs.Summaries.{Summary, joined, of_value}

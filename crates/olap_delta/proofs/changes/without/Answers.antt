@@ -1,9 +1,7 @@
 -- No number wraps.
-use Rattle.std.proofs.Common.{◌≡◌, ◌-◌, ◌-ℤ◌, ◌≤ℤ◌, neg_ℤ, pos, ℤ, arith, w64, to_z, of_z}
+use Rattle.std.proofs.Common.{◌≡◌, ◌-◌, ◌-ℤ◌, arith, w64, to_z, of_z}
 use mir.Syntax.{w128}
-use mir.Val.{SFits}
 use Rattle.std.proofs.lemmas.Int.{ints, to_z-of_z}
-use Rattle.olap_base.specs.Limits.{most_sum}
 use Rattle.olap_delta.proofs.changes.without.Goals as goal
 
 pub overflow_sub-result : goal.overflow_sub-result

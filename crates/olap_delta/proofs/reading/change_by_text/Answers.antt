@@ -1,5 +1,5 @@
 -- One fact more, and all of them.
-use Rattle.std.proofs.Common.{◌≡◌, ◌<◌, List, length, true, ap, sym, subst, ◌∙◌, arith}
+use Rattle.std.proofs.Common.{◌≡◌, List, length, true, ap, sym, subst, ◌∙◌, arith}
 use Rattle.olap_base.specs.Instance.{Instance}
 use Rattle.olap_base.specs.Limits.{most_listed_facts}
 use Rattle.olap_base.specs.Views.{Fact}

@@ -4,7 +4,6 @@ use Rattle.olap_base.specs.Limits.{most_listed_facts}
 use Rattle.olap_facts.specs.FactReading.{body_of, reading}
 use Rattle.olap_records.specs.Records.{records_of}
 use Rattle.olap_view.specs.Seen.{views_of}
-use Rattle.olap_view.specs.SummaryTables.{categories_in}
 use Rattle.olap_view.proofs.RollingUpLemmas.{facts_so_far}
 use Rattle.olap_delta.proofs.DeltaLemmas.{HasTaken}
 use Rattle.olap_delta.proofs.reading.change_by_text.Given as goal

@@ -1,5 +1,5 @@
 -- The view after the step at the member that is reached.
-use Rattle.std.proofs.Common.{◌≡◌, Option, ap, sym, ◌∙◌, get_or, refl, of_z, rules, to_z, w64}
+use Rattle.std.proofs.Common.{Option, ap, sym, ◌∙◌, get_or, refl, of_z, rules, to_z, w64}
 use mir.Val.{SFits}
 use Rattle.std.proofs.lemmas.Int.{to_z-of_z}
 use Rattle.std.proofs.lemmas.Result.{err_from_is_err_and}

@@ -1,5 +1,5 @@
 -- One category more, and all of them.
-use Rattle.std.proofs.Common.{◌≡◌, ◌<◌, length, ap, arith}
+use Rattle.std.proofs.Common.{◌<◌, length, ap, arith}
 use Rattle.std.proofs.lemmas.List.{length-map}
 use Rattle.olap_facts.specs.Seen.{fact_of}
 use Rattle.olap_delta.specs.Changing.{step_of}
