@@ -4,7 +4,7 @@ ghost use Rattle.olap_ast.specs.Schema.{IsLegal};
 ghost use Rattle.olap_instance.specs.Made.{IsMadeFor};
 ghost use Rattle.olap_schema.specs.Schemas.{schema_of};
 ghost use Rattle.olap_view.specs.Seen.{each_view_of, ids, views_of};
-ghost use Rattle.olap_view.specs.Stores.{IsSoundStore};
+ghost use Rattle.olap_view.specs.Stores.{IsInFileOrder, IsSoundStore};
 ghost use Rattle.olap_order.specs.Taken.{FileStep};
 ghost use Rattle.olap_reading.specs.OfFacts.{AreOfFacts};
 ghost use Rattle.olap_reading.specs.Steps.{facts_file, legal_file, store_file};
@@ -73,6 +73,7 @@ pub fn store_in<L: Library>(
         (store_file (schema_of schema.now) legal.now label.now file.now) views_of result }
     ensures sound { IfOk result (λ store.
         IsSoundStore (schema_of schema.now).graph legal.now (views_of store)) }
+    ensures order { IfOk result (λ store. All (IsInFileOrder legal.now) (views_of store)) }
 {
     let Some(text) = read_file(alloc, file, lib)? else {
         return Err(refuse_long(alloc, label));

@@ -6,6 +6,7 @@ ghost use Rattle.olap_totals.specs.Commands.{order_named};
 ghost use Rattle.olap_totals.specs.Questions.{IsAnswer};
 ghost use Rattle.olap_totals.specs.Seen.{seen};
 
+use crate::changing::change;
 use crate::checking::check;
 use crate::rolling_up::rollup;
 use crate::storing::store;
@@ -32,6 +33,13 @@ fn run<L: Library>(alloc: Global, command: Command, lib: &mut L) -> Result<Reply
             facts,
             categories,
         } => store(alloc, schema, instance, facts, categories, lib),
+        Command::Change {
+            change: how,
+            schema,
+            instance,
+            store,
+            facts,
+        } => change(alloc, how, schema, instance, store, facts, lib),
     }
 }
 

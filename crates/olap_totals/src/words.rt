@@ -2,10 +2,12 @@
 ghost use Rattle.std.specs.Prelude.{◌≡◌, option_map};
 ghost use Rattle.olap_order.specs.Arguments.{by_four, by_two};
 ghost use Rattle.olap_order.specs.Words.{texts};
-ghost use Rattle.olap_totals.specs.Commands.{check_order, is_few, order_named, rollup_order, store_by};
+ghost use Rattle.olap_delta.specs.Changing.{step_of};
+ghost use Rattle.olap_totals.specs.Commands.{change_order, check_order, is_few, order_named, rollup_order, store_by};
 ghost use Rattle.olap_totals.specs.Seen.{seen};
 
 use olap_base::MOST_VIEWS;
+use olap_delta::Change;
 
 /// A command with its words.
 #[derive(Clone, Copy)]
@@ -28,6 +30,14 @@ pub(crate) enum Command<'a> {
         instance: &'a str,
         facts: &'a str,
         categories: &'a [String],
+    },
+    /// Stored views after facts came or were withdrawn.
+    Change {
+        change: Change,
+        schema: &'a str,
+        instance: &'a str,
+        store: &'a str,
+        facts: &'a str,
     },
 }
 
@@ -81,6 +91,22 @@ fn store(words: &[String]) -> Option<Command<'_>>
     }
 }
 
+/// The words after `append` or `retract`.
+fn changed(change: Change, words: &[String]) -> Option<Command<'_>>
+    ensures { option_map seen result ≡ by_four (change_order (step_of change)) (texts words.now) }
+{
+    match words {
+        [schema, instance, store, facts] => Some(Command::Change {
+            change,
+            schema: schema.as_str(),
+            instance: instance.as_str(),
+            store: store.as_str(),
+            facts: facts.as_str(),
+        }),
+        _ => None,
+    }
+}
+
 /// The command of that name with these words after it, if it is one of this family.
 pub(crate) fn parse<'a>(name: &str, words: &'a [String]) -> Option<Command<'a>>
     ensures { option_map seen result ≡ order_named name.now (texts words.now) }
@@ -89,6 +115,8 @@ pub(crate) fn parse<'a>(name: &str, words: &'a [String]) -> Option<Command<'a>>
         "rollup" => rollup(words),
         "check" => check(words),
         "store" => store(words),
+        "append" => changed(Change::Append, words),
+        "retract" => changed(Change::Retract, words),
         _ => None,
     }
 }

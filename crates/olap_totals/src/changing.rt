@@ -1,0 +1,103 @@
+// The commands `append` and `retract`: stored views after facts came or were withdrawn.
+ghost use Rattle.std.specs.Prelude.{All, IfOk, codes};
+ghost use Rattle.olap_delta.specs.Changing.{step_of};
+ghost use Rattle.olap_instance.specs.Made.{IsMadeFor};
+ghost use Rattle.olap_schema.specs.Schemas.{schema_of};
+ghost use Rattle.olap_view.specs.Seen.{views_of};
+ghost use Rattle.olap_view.specs.StoreText.{store_text};
+ghost use Rattle.olap_view.specs.Stores.{IsInFileOrder, IsSoundStore};
+ghost use Rattle.olap_order.specs.Judged.{Judged, Replies};
+ghost use Rattle.olap_order.specs.Order.{Told};
+ghost use Rattle.olap_order.specs.Steps.{text_file};
+ghost use Rattle.olap_order.specs.Taken.{FileStep, PlainStep};
+ghost use Rattle.olap_totals.specs.Commands.{change_order, changed_text};
+ghost use Rattle.olap_totals.specs.Questions.{IsAnswer};
+
+use olap_base::Library;
+use olap_check::Legal;
+use olap_delta::{Change, DeltaRefusal, change_by_text};
+use olap_facts::FactRefusal;
+use olap_order::{Reply, Status, Stop, read_file, refuse_long, refuse_part, schema_in, yes};
+use olap_reading::{legal_in, store_in};
+use olap_schema::Schema;
+use olap_view::{Store, print_store};
+use std::alloc::Global;
+
+/// The text of the facts in a file.
+fn facts_in<L: Library>(alloc: Global, file: &str, lib: &mut L) -> Result<Vec<u8>, Stop>
+    ensures step { FileStep L.Library lib.old lib.new
+        (text_file (codes "facts") file.now) (λ text. text.items) result }
+{
+    match read_file(alloc, file, lib)? {
+        Some(text) => Ok(text),
+        None => Err(refuse_long(alloc, "facts")),
+    }
+}
+
+/// The stored views after the change by the facts of a text.
+fn changed_by(
+    alloc: Global,
+    change: Change,
+    schema: &Schema,
+    legal: &Legal,
+    store: &Store,
+    facts: &[u8],
+) -> Result<Store, Stop>
+    requires made { IsMadeFor (schema_of schema.now).graph legal.now }
+    requires sound { IsSoundStore (schema_of schema.now).graph legal.now (views_of store.now) }
+    requires order { All (IsInFileOrder legal.now) (views_of store.now) }
+    ensures step { PlainStep (changed_text (step_of change) (schema_of schema.now) legal.now
+        (views_of store.now) facts.now) views_of result }
+    ensures sound { IfOk result (λ s.
+        IsSoundStore (schema_of schema.now).graph legal.now (views_of s)) }
+{
+    match change_by_text(alloc, change, schema.graph(), legal, store, facts) {
+        Ok(Ok(changed)) => Ok(changed),
+        Ok(Err(DeltaRefusal::Memory)) | Err(FactRefusal::Memory) => Err(Stop::Memory),
+        Ok(Err(DeltaRefusal::Fault { at, kind })) => Err(refuse_part(
+            alloc,
+            "facts",
+            "record",
+            at,
+            kind.name(),
+        )),
+        Err(FactRefusal::Fault { at, kind }) => Err(refuse_part(
+            alloc,
+            "facts",
+            "record",
+            at,
+            kind.name(),
+        )),
+    }
+}
+
+/// The text of stored views.
+fn told(alloc: Global, schema: &Schema, legal: &Legal, store: &Store) -> Result<Reply, Stop>
+    requires sound { IsSoundStore (schema_of schema.now).graph legal.now (views_of store.now) }
+    ensures replies { Replies IsAnswer (Told Status.Yes (store_text (schema_of schema.now).graph
+        legal.now (views_of store.now))) result }
+{
+    let text = print_store(alloc, schema.graph(), legal.instance(), store)?;
+    Ok(yes(text.into_bytes()))
+}
+
+/// The stored views in a file after the change by the facts in another, from a schema and an instance.
+pub(crate) fn change<L: Library>(
+    alloc: Global,
+    change: Change,
+    schema: &str,
+    instance: &str,
+    store: &str,
+    facts: &str,
+    lib: &mut L,
+) -> Result<Reply, Stop>
+    ensures judged { Judged IsAnswer L.Library lib.old lib.new
+        (change_order (step_of change) schema.now instance.now store.now facts.now) result }
+{
+    let schema = schema_in(alloc, "schema", schema, lib)?;
+    let legal = legal_in(alloc, &schema, "instance", instance, lib)?;
+    let store = store_in(alloc, &schema, &legal, "store", store, lib)?;
+    let text = facts_in(alloc, facts, lib)?;
+    let changed = changed_by(alloc, change, &schema, &legal, &store, &text)?;
+    told(alloc, &schema, &legal, &changed)
+}
