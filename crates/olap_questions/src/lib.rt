@@ -8,6 +8,8 @@
 #[cfg(test)]
 mod bottoms;
 #[cfg(test)]
+mod certificates;
+#[cfg(test)]
 mod formulas;
 #[cfg(test)]
 mod limits;

@@ -9,14 +9,16 @@ use Rattle.olap_plans.specs.Laws.{AnswersAreOne as PlansAnswersAreOne}
 use Rattle.olap_reasoning.specs.Laws.{AnswersAreOne}
 use Rattle.olap_run.specs.Commands.{order_of}
 use Rattle.olap_run.specs.Laws.{OutcomeIsOne}
-use Rattle.olap_run.specs.Questions.{IsAnswer, Question, OfReasoning, OfTotals, OfPlans}
+use Rattle.olap_run.specs.Questions.{IsAnswer, Question, OfReasoning, OfTotals, OfPlans, OfVerdicts}
+use Rattle.olap_verdicts.specs.Laws.{AnswersAreOne as VerdictsAnswersAreOne}
 
-module _ (about_all : AnswersAreOne) (planned : PlansAnswersAreOne) where
+module _ (about_all : AnswersAreOne) (planned : PlansAnswersAreOne) (judged : VerdictsAnswersAreOne) where
   one_answer : (q : Question) (s t : Status) (xs ys : List ℕ) → IsAnswer q s xs → IsAnswer q t ys
       → (s ≡ t) × (xs ≡ ys)
   one_answer (OfReasoning q) s t xs ys a b = about_all q s t xs ys a b
   one_answer (OfTotals q) s t xs ys a b = absurd a
   one_answer (OfPlans q) s t xs ys a b = planned q s t xs ys a b
+  one_answer (OfVerdicts q) s t xs ys a b = judged q s t xs ys a b
 
   -- along any order
   one_given : (files : Files) (order : Order Question) (s t : Status) (xs ys : List ℕ) → Gives IsAnswer files order s xs

@@ -10,8 +10,9 @@ use Rattle.olap_order.specs.Outputs.{line}
 use Rattle.olap_order.specs.declared.status.Status.TheVariants.{Usage}
 use Rattle.olap_plans.specs.Commands as plans
 use Rattle.olap_reasoning.specs.Commands as reasoning
-use Rattle.olap_run.specs.Questions.{Question, OfReasoning, OfTotals, OfPlans}
+use Rattle.olap_run.specs.Questions.{Question, OfReasoning, OfTotals, OfPlans, OfVerdicts}
 use Rattle.olap_totals.specs.Commands as totals
+use Rattle.olap_verdicts.specs.Commands as verdicts
 
 -- words that are no command are answered by the usage
 abbrev pub usage : Order Question
@@ -22,7 +23,8 @@ abbrev pub order_named : List ℕ → List (List ℕ) → Option (Order Question
 order_named name words =
     option_or (asking OfReasoning (reasoning.order_named name words))
     (option_or (asking OfTotals (totals.order_named name words))
-    (asking OfPlans (plans.order_named name words)))
+    (option_or (asking OfPlans (plans.order_named name words))
+    (asking OfVerdicts (verdicts.order_named name words))))
 
 -- the order of what the words ask for; more than `most_words` are no command
 abbrev pub order_of : List (List ℕ) → Order Question

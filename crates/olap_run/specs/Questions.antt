@@ -6,6 +6,7 @@ use Rattle.olap_order.specs.declared.status.Status.{Status}
 use Rattle.olap_plans.specs.Questions as plans
 use Rattle.olap_reasoning.specs.Questions as reasoning
 use Rattle.olap_totals.specs.Questions as totals
+use Rattle.olap_verdicts.specs.Questions as verdicts
 
 pub data Question : Type 0 where
   -- about all legal instances of a schema
@@ -14,9 +15,12 @@ pub data Question : Type 0 where
   OfTotals : totals.Question → Question
   -- from which stored views a total is taken
   OfPlans : plans.Question → Question
+  -- about a certificate
+  OfVerdicts : verdicts.Question → Question
 
 -- these are the status and the bytes
 abbrev pub IsAnswer : Question → Status → List ℕ → Type 0
 IsAnswer (OfReasoning q) status bytes = reasoning.IsAnswer q status bytes
 IsAnswer (OfTotals q) status bytes = totals.IsAnswer q status bytes
 IsAnswer (OfPlans q) status bytes = plans.IsAnswer q status bytes
+IsAnswer (OfVerdicts q) status bytes = verdicts.IsAnswer q status bytes

@@ -8,4 +8,5 @@ pub fn outcome_is_one()
     // Called for their clauses.
     olap_reasoning::answers_are_one();
     olap_plans::answers_are_one();
+    olap_verdicts::answers_are_one();
 }

@@ -5,10 +5,12 @@ use Rattle.olap_order.proofs.Joining.{joined, or_next, or_this}
 use Rattle.olap_plans.specs.Commands as plans
 use Rattle.olap_plans.specs.Questions.{IsAnswer as IsPlansAnswer}
 use Rattle.olap_reasoning.specs.Questions.{IsAnswer as IsReasoningAnswer}
-use Rattle.olap_run.specs.Questions.{IsAnswer, OfPlans, OfReasoning, OfTotals}
+use Rattle.olap_run.specs.Questions.{IsAnswer, OfPlans, OfReasoning, OfTotals, OfVerdicts}
 use Rattle.olap_run.proofs.judging.named.Goals as goal
 use Rattle.olap_totals.specs.Commands as totals
 use Rattle.olap_totals.specs.Questions.{IsAnswer as IsTotalsAnswer}
+use Rattle.olap_verdicts.specs.Commands as verdicts
+use Rattle.olap_verdicts.specs.Questions.{IsAnswer as IsVerdictsAnswer}
 use Rattle.std.specs.Option.{option_or}
 
 pub returns-in-Some : goal.returns-in-Some
@@ -17,7 +19,7 @@ returns-in-Some g c =
     let words = texts c.args.words.now in
     record {
       judged = or_this (option_or (asking OfTotals (totals.order_named name words))
-          (asking OfPlans (plans.order_named name words)))
+          (option_or (asking OfPlans (plans.order_named name words)) (asking OfVerdicts (verdicts.order_named name words))))
           (joined IsReasoningAnswer IsAnswer OfReasoning (λ q status bytes a. a) (Some c.in-Some.result)
           c.in-Some.ensures.judged);
     }
@@ -25,14 +27,25 @@ returns-in-Some g c =
 pub returns-in-Some-judge : goal.returns-in-Some-judge
 returns-in-Some-judge g c = record {
   judged = or_next (joined IsReasoningAnswer IsAnswer OfReasoning (λ q status bytes a. a) None c.in_default.ensures.judged)
-      (or_this (asking OfPlans (plans.order_named c.args.name.now (texts c.args.words.now)))
+      (or_this (option_or (asking OfPlans (plans.order_named c.args.name.now (texts c.args.words.now)))
+      (asking OfVerdicts (verdicts.order_named c.args.name.now (texts c.args.words.now))))
       (joined IsTotalsAnswer IsAnswer OfTotals (λ q status bytes a. a) (Some c.in-Some-judge.result)
       c.in-Some-judge.ensures.judged));
+}
+
+pub returns-in-Some-judge-2 : goal.returns-in-Some-judge-2
+returns-in-Some-judge-2 g c = record {
+  judged = or_next (joined IsReasoningAnswer IsAnswer OfReasoning (λ q status bytes a. a) None c.in_default.ensures.judged)
+      (or_next (joined IsTotalsAnswer IsAnswer OfTotals (λ q status bytes a. a) None c.in_default-judge.ensures.judged)
+      (or_this (asking OfVerdicts (verdicts.order_named c.args.name.now (texts c.args.words.now)))
+      (joined IsPlansAnswer IsAnswer OfPlans (λ q status bytes a. a) (Some c.in-Some-judge-2.result)
+      c.in-Some-judge-2.ensures.judged)));
 }
 
 pub returns : goal.returns
 returns g c = record {
   judged = or_next (joined IsReasoningAnswer IsAnswer OfReasoning (λ q status bytes a. a) None c.in_default.ensures.judged)
       (or_next (joined IsTotalsAnswer IsAnswer OfTotals (λ q status bytes a. a) None c.in_default-judge.ensures.judged)
-      (joined IsPlansAnswer IsAnswer OfPlans (λ q status bytes a. a) c.judge-3.result c.judge-3.ensures.judged));
+      (or_next (joined IsPlansAnswer IsAnswer OfPlans (λ q status bytes a. a) None c.in_default-judge-2.ensures.judged)
+      (joined IsVerdictsAnswer IsAnswer OfVerdicts (λ q status bytes a. a) c.judge-4.result c.judge-4.ensures.judged)));
 }
