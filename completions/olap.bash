@@ -54,6 +54,7 @@ _olap_places() {
     satisfiable | frozen) places='fc' ;;
     store) places='fffd' ;;
     answer) places='fffc' ;;
+    append | retract) places='ffff' ;;
     *) places='' ;;
     esac
 }
@@ -65,7 +66,7 @@ _olap() {
     current=${words[-1]}
     if [[ ${#words[@]} -le 2 ]]; then
         compopt +o default
-        for each in rollup check format summarizable implies satisfiable frozen audit store answer generate; do
+        for each in rollup check format summarizable implies satisfiable frozen audit store answer append retract generate; do
             if [[ $each == "$current"* ]]; then COMPREPLY+=("$each"); fi
         done
         return

@@ -107,7 +107,9 @@ def completion_faults(room: Path) -> Iterator[str]:
     escaped = "".join("\\" + each if not each.isalnum() else each for each in name)
     wanted = {
         "olap s": ["summarizable", "satisfiable", "store"],
+        "olap a": ["audit", "answer", "append"],
         "olap check a": [],
+        "olap retract a b c d": [],
         "olap generate ": [],
         "olap nothing x ": [],
         f"olap frozen {quoted} St": ["Store", "Stage"],
