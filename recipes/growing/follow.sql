@@ -1,0 +1,20 @@
+-- Follows the tables from now on: each sale that comes or goes is a change, and so is a place that is moved, renamed or taken
+-- away. A sale that is corrected goes and comes. Numbers of changes only grow.
+create table change (id integer primary key autoincrement, kind text not null, member text not null, value integer);
+
+create trigger sale_came after insert on sale begin
+    insert into change (kind, member, value) values ('came', new.place_id, new.cents);
+end;
+create trigger sale_went after delete on sale begin
+    insert into change (kind, member, value) values ('went', old.place_id, old.cents);
+end;
+create trigger sale_corrected after update of place_id, cents on sale begin
+    insert into change (kind, member, value)
+    values ('went', old.place_id, old.cents), ('came', new.place_id, new.cents);
+end;
+create trigger place_changed after update on place begin
+    insert into change (kind, member) values ('place', old.id);
+end;
+create trigger place_went after delete on place begin
+    insert into change (kind, member) values ('place', old.id);
+end;
