@@ -50,6 +50,7 @@ _olap_places() {
     check) places='ff' ;;
     format | audit) places='f' ;;
     summarizable) places='fcd' ;;
+    verify | verify-short) places='ffcd' ;;
     implies) places='frn' ;;
     satisfiable | frozen) places='fc' ;;
     store) places='fffd' ;;
@@ -66,7 +67,7 @@ _olap() {
     current=${words[-1]}
     if [[ ${#words[@]} -le 2 ]]; then
         compopt +o default
-        for each in rollup check format summarizable implies satisfiable frozen audit store answer append retract generate; do
+        for each in rollup check format summarizable verify verify-short implies satisfiable frozen audit store answer append retract generate; do
             if [[ $each == "$current"* ]]; then COMPREPLY+=("$each"); fi
         done
         return

@@ -53,6 +53,20 @@ def word_faults() -> Iterator[str]:
                 yield f"check-certificate {words}: status {done.returncode}, {done.stdout!r} {done.stderr[-200:]!r}, not {status}, {output!r}"
 
 
+def example_faults() -> Iterator[str]:
+    """The certificates of examples/runs.txt, where what the program prints stands. A text of the other form is a matter of the command."""
+    for row in (checker.TOP / "examples" / "runs.txt").read_text().splitlines():
+        status, expected, command, *words = row.split() if row.startswith(tuple("0123456")) else ("", "", "")
+        if command not in ("verify", "verify-short") or expected.endswith("/first_line.txt"):
+            continue
+        run = [sys.executable, checker.TOOL, *words]
+        done = subprocess.run(run, cwd=checker.TOP / "examples", capture_output=True, check=False)
+        wanted = b"" if expected == "/dev/null" else (checker.TOP / "examples" / expected).read_bytes()
+        if (done.returncode, done.stdout) != (int(status), wanted):
+            yield f"{row}: status {done.returncode}, {done.stdout.decode()!r}"
+
+
 def faults() -> Iterator[str]:
     yield from table_faults()
     yield from word_faults()
+    yield from example_faults()

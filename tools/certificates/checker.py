@@ -4,7 +4,8 @@ import importlib.machinery
 import importlib.util
 from pathlib import Path
 
-TOOL = Path(__file__).resolve().parents[1] / "check-certificate"
+TOP = Path(__file__).resolve().parents[2]
+TOOL = TOP / "tools" / "check-certificate"
 
 
 def loaded():

@@ -11,18 +11,18 @@ from . import families, sources
 WORDS = [sources.CRATES / family / "src" / "words.rt" for family in families.FAMILIES]
 
 # Where commands are listed, what leads to the list there, and the form of a name in it.
-ROW = r"^\| `(\w+) [A-Z]"
+ROW = r"^\| `([\w-]+) [A-Z]"
 PLACES = (
     ("README.md", "", ROW),
     ("docs/FORMATS.md", "\n| words | what it does | status |\n", ROW),
-    ("docs/FORMATS.md", "\n| command | order |\n", r"^\| `(\w+)` \|"),
-    ("man/olap.1", "\n.SH SYNOPSIS\n", r"^\\fBolap (\w+)\\fR"),
-    ("man/olap.1", "\n.SH COMMANDS\n", r'^\.BI (\w+) "'),
-    ("completions/olap.bash", "\n        for each in ", r"\b([a-z]{3,})\b(?=[a-z ]*; do$)"),
-    ("examples/runs.txt", "", r"^[013456] \S+ (\w+)"),
-    ("tools/attack", "", r'\["([a-z]+)", '),
-    ("tools/refuse-memory", "\nCOMMANDS = (\n", r'^    \["(\w+)", '),
-    ("tools/real-edges", "\nORDERS = (\n", r'^    \(\["(\w+)", '),
+    ("docs/FORMATS.md", "\n| command | order |\n", r"^\| `([\w-]+)` \|"),
+    ("man/olap.1", "\n.SH SYNOPSIS\n", r"^\\fBolap ([\w\\-]+)\\fR"),
+    ("man/olap.1", "\n.SH COMMANDS\n", r'^\.BI ([\w\\-]+) "'),
+    ("completions/olap.bash", "\n        for each in ", r"(?<![\w-])([a-z-]{3,})(?![\w-])(?=[a-z -]*; do$)"),
+    ("examples/runs.txt", "", r"^[013456] \S+ ([\w-]+)"),
+    ("tools/attack", "", r'\["([a-z-]+)", '),
+    ("tools/refuse-memory", "\nCOMMANDS = (\n", r'^    \["([\w-]+)", '),
+    ("tools/real-edges", "\nORDERS = (\n", r'^    \(\["([\w-]+)", '),
 )
 
 
@@ -35,13 +35,13 @@ def section(text, start):
 def faults():
     commands = set()
     for words in WORDS:
-        found = set(re.findall(r'^ +"(\w+)" => ', words.read_text(), re.M))
+        found = set(re.findall(r'^ +"([\w-]+)" => ', words.read_text(), re.M))
         commands |= found
         if not found:
             yield words, "no command was read"
     for place, start, form in PLACES:
         file = sources.TOP / place
-        listed = set(re.findall(form, section(file.read_text(), start), re.M))
+        listed = {name.replace("\\", "") for name in re.findall(form, section(file.read_text(), start), re.M)}
         for name in sorted(commands - listed):
             yield file, f"it lacks the command {name}" + (f", after {start.strip()}" if start else "")
         for name in sorted(listed - commands):

@@ -29,7 +29,7 @@ def commands():
     """The names of the commands, in the order in which they are told apart, with their families and orders."""
     for family in families.FAMILIES:
         body = "\n".join(modules()[family, "Commands"].declarations["order_named"].body)
-        for name, order in re.findall(r'codes "(\w+)"\) then (?:by_\w+ )?(\w+)', body):
+        for name, order in re.findall(r'codes "([\w-]+)"\) then (?:by_\w+ )?\(?(\w+)', body):
             yield name, (family, order)
 
 

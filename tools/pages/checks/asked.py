@@ -142,6 +142,8 @@ def explain_faults(room: Path) -> Iterator[str]:
              "bad.txt": "schema 1\ncategory A\nedge A all\n", "none.csv": head + "s,Store,s,\n", "state.csv": head + "c,Country,x,all\nt,State,t,c\n"}  # fmt: skip
     for name, text in texts.items():
         (room / name).write_text(text)
+    certificate = str(EXAMPLES / "location" / "certificates" / "Country-short.txt")
+    (room / "cut.txt").write_text("short certificate 1\nbottom Store\n")
     cases = (
         (("check", schema, str(EXAMPLES / "broken" / "instance.csv")), ("record of: s1 | Store | S1 | w;to", "below the City: w |", "below the City: to |")),
         (("check", schema, "two.csv"), ("record 3: usa | Country | x | all", "record 2: usa | Country | USA | all", "manual: ")),
@@ -154,6 +156,10 @@ def explain_faults(room: Path) -> Iterator[str]:
         (("append", schema, instance, "facts.csv", "facts.csv"), ("record 1: member | value", "it must be: category,member,")),
         (("format", "bad.txt"), ("line 3: edge A all", "manual: the line has none of the forms")),
         (("implies", schema, "Store", "Store.Town"), ("word 4: Store.Town", "manual: ")),
+        (("verify", schema, certificate, "Country", "City"), ("line 1: short certificate 1",)),
+        (("verify-short", schema, certificate, "Country", "State"), ("line 11: question",)),
+        (("verify-short", schema, "cut.txt", "Country", "City"), ("the certificate ends too early",)),
+        (("verify-short", schema, certificate, "Country", "City"), ()),
         (("summarizable", schema, "Country", "City"), ()),
         (("check", schema, instance), ()),
     )

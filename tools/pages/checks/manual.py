@@ -33,7 +33,7 @@ def said_faults() -> Iterator[str]:
     """Commands, statuses, kinds of faults and limits of the document stand in the manual."""
     document, manual = (TOP / "docs" / "FORMATS.md").read_text(), plain(MANUAL.read_text())
     table = document.partition("## Commands and statuses")[2].partition("\n## ")[0]
-    commands = re.findall(r"^\| `([a-z]+ [A-Z .]+?)(?:\.\.)?` \|.*\|$", table, re.M)
+    commands = re.findall(r"^\| `([a-z-]+ [A-Z .]+?)(?:\.\.)?` \|.*\|$", table, re.M)
     for command in commands:
         if plain(command) not in manual:
             yield f"no command {command}"
