@@ -11,12 +11,12 @@ use Rattle.olap_totals.proofs.changing.told.Goals as goal
 pub print_store-requires-clause-categories : goal.print_store-requires-clause-categories
 print_store-requires-clause-categories c =
     subst (λ (h : Graph). All (λ v. IsCategory h v.category) (views_of c.args.store.now)) (sym c.graph.ensures)
-    c.requires.categories
+    c.requires.sound.categories
 
 pub print_store-requires-clause-at_members : goal.print_store-requires-clause-at_members
 print_store-requires-clause-at_members c =
     subst (λ (j : Instance). All (λ v. All (λ r. r.member < length j) v.rows) (views_of c.args.store.now))
-    (sym c.instance.ensures) c.requires.at_members
+    (sym c.instance.ensures) c.requires.sound.at_members
 
 pub returns : goal.returns
 returns c =
@@ -26,4 +26,4 @@ returns c =
     let text = c.yes.ensures.bytes ∙ c.into_bytes.ensures ∙ c.in_ok-text.ensures.text
     ∙ ap (λ (h : Graph). store_text h c.instance.result.now views) c.graph.ensures
     ∙ ap (λ (j : Instance). store_text graph j views) c.instance.ensures in
-    told_shown (store_text graph i views) c.yes.result c.yes.ensures.status text
+    record { replies = told_shown (store_text graph i views) c.yes.result c.yes.ensures.status text }
