@@ -25,6 +25,7 @@ OTHERS = {
     "olap_graph": {"64": "the bits of a word of a set"},
     "olap_patterns": {"256": "the masks over eight sources"},
     "olap_generate": {"64": "the stores for each group of cities"},
+    "olap_prove": {"256": "the share of the greatest score at which scores begin anew"},
 }
 
 # A number that is read as a limit has two digits at least: smaller ones mean too much else.

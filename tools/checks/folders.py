@@ -17,6 +17,8 @@ def cycles(crate):
         for name in re.findall(r"#\[cycle\((\w+)\)\]", file.read_text()):
             yield f"+{name}"
             yield f"{module}/+{name}"
+            for owner in {function.owner for function in sources.functions(crate) if function.owner and function.module == module}:
+                yield f"{module}/{owner}/+{name}"
 
 
 def wanted(crate):

@@ -1,3 +1,4 @@
 -- Lemmas.
+mod LongWords
 mod OneOutcome
 mod SureLemmas

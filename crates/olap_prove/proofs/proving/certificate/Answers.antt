@@ -1,0 +1,12 @@
+-- The text has the draft's bytes.
+use Rattle.std.proofs.Common.{ℕ, List, subst, sym}
+use Rattle.olap_proof.specs.Verifying.{IsCertificateFor}
+use Rattle.olap_schema.specs.Schemas.{schema_of}
+use Rattle.olap_summ.specs.Counterexamples.{numbers_of}
+use Rattle.olap_prove.proofs.proving.certificate.Goals as goal
+
+pub returns-in-Some : goal.returns-in-Some
+returns-in-Some c =
+    let s = schema_of c.args.schema.now in
+    subst (λ (xs : List ℕ). IsCertificateFor c.args.form s c.args.target.0 (numbers_of c.args.sources.now) xs)
+    (sym c.from_vec.ensures) (rw c.in-Some.is at c.in_ok-drafted.ensures)

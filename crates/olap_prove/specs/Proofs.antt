@@ -1,0 +1,20 @@
+-- What a proof says.
+--     IsYes    it says that the target is summarizable
+--     Shows    it is a certificate, or the counterexample
+use Rattle.std.specs.Prelude.{ℕ, List}
+use Rattle.olap_ast.specs.Schema.{Schema}
+use Rattle.olap_proof.specs.declared.forms.Form.{Form}
+use Rattle.olap_proof.specs.Verifying.{IsCertificateFor}
+use Rattle.olap_prove.specs.declared.proving.Proof.{Proof}
+use Rattle.olap_prove.specs.declared.proving.Proof.TheVariants.{Yes, No}
+use Rattle.olap_summ.specs.Counterexamples.{IsCounterexampleFound}
+
+-- it says that the target is summarizable
+abbrev pub IsYes : Proof → Type 0
+IsYes (Yes text) = Unit {0}
+IsYes (No found) = ⊥
+
+-- its text is a certificate of the form, or what was found is the counterexample
+abbrev pub Shows : Form → Schema → ℕ → List ℕ → Proof → Type 0
+Shows f s c sources (Yes text) = IsCertificateFor f s c sources text
+Shows f s c sources (No found) = IsCounterexampleFound s c sources found

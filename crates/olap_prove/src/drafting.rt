@@ -1,0 +1,110 @@
+// A draft of a certificate, by a search of which nothing is promised.
+use crate::searches::{Node, Search};
+use crate::steps::Words;
+use crate::tasks::Task;
+use olap_ast::{Constraint, gather};
+use olap_base::{CatId, List, Memory, Text};
+use olap_graph::Graph;
+use olap_proof::{Form, push_bottom, push_head, push_known_line};
+use olap_schema::Schema;
+use std::alloc::Global;
+
+/// How often a decision may be tried below a root.
+const TRIES: u32 = 1 << 17;
+
+/// How many lines a draft may have.
+const MOST_LINES: u32 = 1 << 22;
+
+/// The distinct constants of each category, in byte order.
+fn constants(
+    alloc: Global,
+    graph: &Graph,
+    constraints: &[Constraint],
+) -> Result<Vec<List<Text>>, Memory> {
+    let mut all = Vec::new(alloc);
+    'categories: for c in 0..graph.categories() {
+        let mut texts = Vec::new(alloc);
+        'constraints: for constraint in constraints {
+            gather(alloc, &constraint.formula, CatId(c), &mut texts)?;
+        }
+        texts.sort_unstable();
+        texts.dedup();
+        all.push(List::from_vec(texts))?;
+    }
+    Ok(all)
+}
+
+/// Appends the lines of a tree. Whether all of it was written.
+fn push_tree(
+    alloc: Global,
+    graph: &Graph,
+    constraints: &[Constraint],
+    nodes: &[Node],
+    tree: usize,
+    out: &mut Vec<u8>,
+) -> Result<bool, Memory> {
+    let mut left = Vec::new(alloc);
+    left.push(tree)?;
+    'lines: for _ in 0..MOST_LINES {
+        let place = match left.pop() {
+            Some(place) => place,
+            None => return Ok(true),
+        };
+        if place >= nodes.len() {
+            return Ok(false);
+        }
+        if !push_known_line(out, graph, constraints, nodes[place].line)? {
+            return Ok(false);
+        }
+        let cases = &nodes[place].cases;
+        'cases: for i in 0..cases.len() {
+            left.push(cases[cases.len() - 1 - i])?;
+        }
+    }
+    Ok(false)
+}
+
+/// The text of what may be a certificate of that form, if a tree is found for each bottom category. `Memory`: out of
+/// memory.
+pub(crate) fn draft(
+    alloc: Global,
+    schema: &Schema,
+    form: Form,
+    target: CatId,
+    sources: &[CatId],
+) -> Result<Option<Vec<u8>>, Memory> {
+    let graph = schema.graph();
+    let constraints = schema.constraints();
+    let constants = constants(alloc, graph, constraints)?;
+    let words = Words {
+        graph,
+        constants: &constants,
+    };
+    let mut out = Vec::new(alloc);
+    push_head(&mut out, form)?;
+    'categories: for b in 1..graph.categories() {
+        let root = CatId(b);
+        if graph.is_bottom(root) {
+            push_bottom(&mut out, graph, root)?;
+            let task = Task::new(alloc, &words, form, constraints, root, target, sources)?;
+            let mut search = Search::new(alloc, &task, TRIES)?;
+            let written = match search.run()? {
+                Some(refuted) => {
+                    push_tree(
+                        alloc,
+                        graph,
+                        constraints,
+                        &search.nodes,
+                        refuted.tree,
+                        &mut out,
+                    )?
+                },
+                None => false,
+            };
+            if !written {
+                return Ok(None);
+            }
+        }
+    }
+    Ok(Some(out))
+}

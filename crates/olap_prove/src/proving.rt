@@ -1,0 +1,99 @@
+// A certificate where the target is summarizable, and a counterexample where it isn't.
+ghost use Rattle.std.specs.Prelude.{◌≡◌, ◌≢◌, ◌↔◌, All, AllPairs, Err, IfOk, IfSome};
+ghost use Rattle.olap_base.specs.Graph.{IsCategory};
+ghost use Rattle.olap_ast.specs.Summarizable.{IsSummarizable};
+ghost use Rattle.olap_proof.specs.Verifying.{IsCertificateFor};
+ghost use Rattle.olap_prove.specs.Proofs.{IsYes, Shows};
+ghost use Rattle.olap_schema.specs.Schemas.{schema_of};
+ghost use Rattle.olap_summ.specs.Counterexamples.{numbers_of};
+ghost use Rattle.olap_summ.specs.declared.summarizing.SummRefusal.TheVariants as refusal;
+
+use crate::drafting::draft;
+use olap_base::{CatId, Memory, Text};
+use olap_frozen::Found;
+use olap_proof::{Form, VerifyRefusal, plain_certificate, verify};
+use olap_schema::Schema;
+use olap_summ::{SummRefusal, summarizable};
+use std::alloc::Global;
+
+/// Why the target is summarizable from the sources, or why it isn't.
+#[derive(Debug, Drop)]
+pub enum Proof {
+    /// It is: the text of a certificate.
+    Yes(Text),
+    /// It isn't: the counterexample.
+    No(Found),
+}
+
+// The draft, if there is one and it is a certificate.
+fn accepted_draft(
+    alloc: Global,
+    schema: &Schema,
+    form: Form,
+    target: CatId,
+    sources: &[CatId],
+) -> Result<Option<Vec<u8>>, Memory>
+    requires target { IsCategory (schema_of schema.now).graph target.0 }
+    requires sources { All (IsCategory (schema_of schema.now).graph) (numbers_of sources.now) }
+    ensures { IfOk result (λ o. IfSome o (λ text.
+        IsCertificateFor form (schema_of schema.now) target.0 (numbers_of sources.now) text.items)) }
+{
+    let text = match draft(alloc, schema, form, target, sources)? {
+        Some(text) => text,
+        None => return Ok(None),
+    };
+    match verify(alloc, schema, form, target, sources, &text) {
+        Ok(()) => Ok(Some(text)),
+        Err(VerifyRefusal::Memory) => Err(Memory),
+        Err(_) => Ok(None),
+    }
+}
+
+// A certificate where the target is summarizable: the draft if it is one, and else the plain one.
+fn certificate(
+    alloc: Global,
+    schema: &Schema,
+    form: Form,
+    target: CatId,
+    sources: &[CatId],
+) -> Result<Text, Memory>
+    requires target { IsCategory (schema_of schema.now).graph target.0 }
+    requires sources { All (IsCategory (schema_of schema.now).graph) (numbers_of sources.now) }
+    requires summarizable { IsSummarizable (schema_of schema.now) target.0 (numbers_of sources.now) }
+    ensures { IfOk result (IsCertificateFor form (schema_of schema.now) target.0 (numbers_of sources.now)) }
+{
+    let drafted = accepted_draft(alloc, schema, form, target, sources)?;
+    match drafted {
+        Some(text) => Ok(Text::from_vec(text)),
+        None => plain_certificate(alloc, schema, form, target, sources),
+    }
+}
+
+/// Why the target is summarizable from the sources, or why it isn't: `Yes` exactly if it is, with a certificate of the
+/// form, and else `No` with the counterexample that `summarizable` gives.
+///
+/// `DuplicateSource`: exactly if a source stands twice. The target may be a source, and either may be `All`. Most
+/// certificates are short. A plain one, which is written where a search with a budget found none, may be as long as
+/// there are choices of edges and names, and take as long.
+pub fn prove(
+    alloc: Global,
+    schema: &Schema,
+    form: Form,
+    target: CatId,
+    sources: &[CatId],
+) -> Result<Proof, SummRefusal>
+    requires target { IsCategory (schema_of schema.now).graph target.0 }
+    requires sources { All (IsCategory (schema_of schema.now).graph) (numbers_of sources.now) }
+    ensures duplicate { (result ≡ Err refusal.DuplicateSource) ↔ (AllPairs ◌≢◌ (numbers_of sources.now) → ⊥) }
+    ensures yes { IfOk result (λ p.
+        IsYes p ↔ IsSummarizable (schema_of schema.now) target.0 (numbers_of sources.now)) }
+    ensures proof { IfOk result (Shows form (schema_of schema.now) target.0 (numbers_of sources.now)) }
+{
+    match summarizable(alloc, schema, target, sources)? {
+        Some(found) => Ok(Proof::No(found)),
+        None => {
+            let text = certificate(alloc, schema, form, target, sources)?;
+            Ok(Proof::Yes(text))
+        }
+    }
+}
