@@ -3,3 +3,4 @@ pub mod Tuples
 pub mod CubeViews
 pub mod CubeSummarizable
 pub mod Told
+pub mod Limits

@@ -6,6 +6,7 @@
 #![tactic(auto)]
 
 mod laws;
+mod limits;
 mod tuples;
 
 pub use laws::{
@@ -13,4 +14,5 @@ pub use laws::{
     cube_summarizable_exactly_if_none_bad, cubes_agree_exactly_if_reached_by_one,
     cubes_of_one_dimension, one_cube_facts_views, the_cube_counterexample_is_one,
 };
+pub use limits::MOST_DIMENSIONS;
 pub use tuples::Tuple;

@@ -12,7 +12,7 @@ use Rattle.olap_check.specs.Ancestors.{IsAncestor}
 use Rattle.olap_cube.specs.Tuples.{IsTupleOf, TupleReaches}
 use Rattle.olap_view.specs.Columns.{Ascent}
 use Rattle.olap_cube_views.specs.CubeTallies.{AreMembers, IsTupleAncestor, ReachesNone, categories_in, instances_in, key_of}
-use Rattle.olap_cube_views.specs.Dimensions.{most_dimensions}
+use Rattle.olap_cube.specs.Limits.{most_dimensions}
 use Rattle.olap_cube_views.specs.Seen.{members_of}
 use Rattle.olap_cube_views.proofs.KeyLemmas.{filled_more}
 

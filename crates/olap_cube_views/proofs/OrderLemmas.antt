@@ -17,7 +17,7 @@ use Rattle.olap_base.proofs.ListLemmas.{Contains-from_filter, Contains-from_map,
 use Rattle.olap_cube.specs.Tuples.{tuples_of}
 use Rattle.olap_cube.proofs.TupleLemmas.{tuples_of_is}
 use Rattle.olap_cube_views.specs.CubeTallies.{key_cmp, key_of}
-use Rattle.olap_cube_views.specs.Dimensions.{most_dimensions}
+use Rattle.olap_cube.specs.Limits.{most_dimensions}
 use Rattle.olap_cube_views.proofs.AncestorLemmas.{tuple_length}
 use Rattle.olap_cube_views.proofs.KeyLemmas.{filled_order}
 use Rattle.olap_cube_views.proofs.RowLemmas.{Ascends, ascends-append}

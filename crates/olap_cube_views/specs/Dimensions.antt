@@ -1,16 +1,11 @@
 -- The dimensions of a cube, side by side.
---     most_dimensions   how many there may be
---     graphs_of         their graphs
---     AreMadeFor        each instance was made for its graph
-use Rattle.std.specs.Prelude.{ℕ, List, [], ◌∷◌, map}
+--     graphs_of    their graphs
+--     AreMadeFor   each instance was made for its graph
+use Rattle.std.specs.Prelude.{List, [], ◌∷◌, map}
 use denote.Ref.{Bor}
 use Rattle.olap_base.specs.Graph.{Graph}
 use Rattle.olap_base.specs.Instance.{Instance}
 use Rattle.olap_instance.specs.Made.{IsMadeFor}
-
--- dimensions of a cube
-abbrev pub most_dimensions : ℕ
-most_dimensions = 4
 
 -- the graphs that references point to
 abbrev pub graphs_of : List (Bor Graph) → List Graph

@@ -1,13 +1,10 @@
 // The legal instances of a cube's dimensions.
 ghost use Rattle.std.specs.Prelude.{◌≡◌, ◌++◌, ◌∷◌, ◌<◌, ◌≤◌, [], IfErr, OnErr, OnOk, length, slice_index_or};
-ghost use Rattle.olap_cube_views.specs.Dimensions.{most_dimensions};
+ghost use Rattle.olap_cube.specs.Limits.{most_dimensions};
 
 use olap_check::Legal;
 use std::alloc::Global;
 use std::marker::Model;
-
-/// How many dimensions a cube may have.
-pub const MOST_DIMENSIONS: usize = 4;
 
 /// The legal instances of up to four dimensions, in order.
 #[derive(Drop)]
@@ -18,7 +15,7 @@ pub struct Legals {
 impl Model for Legals {
     ghost use Rattle.std.specs.Prelude.{◌≤◌, List as Items, length};
     ghost use Rattle.olap_base.specs.Instance.{Instance};
-    ghost use Rattle.olap_cube_views.specs.Dimensions.{most_dimensions};
+    ghost use Rattle.olap_cube.specs.Limits.{most_dimensions};
 
     ghost Value = { Items Instance };
 

@@ -13,7 +13,7 @@ mod tallies;
 mod viewing;
 mod views;
 
-pub use legals::{Legals, MOST_DIMENSIONS};
+pub use legals::Legals;
 pub use printing::print_cube_view;
 pub use reading::read_cube_facts;
 pub use tables::{CubeFact, CubeFacts};

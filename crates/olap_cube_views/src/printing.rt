@@ -4,7 +4,7 @@ ghost use Rattle.olap_records.specs.Records.{records_of};
 ghost use Rattle.olap_records.specs.Texts.{text_of_row};
 ghost use Rattle.olap_cube_views.specs.CubeTallies.{AreMembers};
 ghost use Rattle.olap_cube_views.specs.CubeViewText.{cube_view_text, fields_in, header, records_of_cube_view};
-ghost use Rattle.olap_cube_views.specs.Dimensions.{most_dimensions};
+ghost use Rattle.olap_cube.specs.Limits.{most_dimensions};
 ghost use Rattle.olap_cube_views.specs.Seen.{cube_row_of, cube_view_of, members_of};
 
 use crate::{CubeRow, CubeView, Legals};

@@ -13,7 +13,8 @@ ghost use Rattle.olap_records.specs.Records.{records_of};
 ghost use Rattle.olap_cube_views.specs.CubeFactText.{cube_fact_fault, cube_fact_read, cube_facts_read, has_header, header, member_fault, member_number, members_fault, members_read};
 ghost use Rattle.olap_cube_views.specs.CubeTallies.{AreMembers};
 ghost use Rattle.olap_cube_views.specs.CubeRefusals.{IsCubeRefusedBy, IsToldAt};
-ghost use Rattle.olap_cube_views.specs.Dimensions.{AreMadeFor, graphs_of, most_dimensions};
+ghost use Rattle.olap_cube.specs.Limits.{most_dimensions};
+ghost use Rattle.olap_cube_views.specs.Dimensions.{AreMadeFor, graphs_of};
 ghost use Rattle.olap_cube_views.specs.Seen.{cube_fact_of, cube_facts_of, members_of};
 
 use crate::{CubeFact, CubeFacts, Legals};

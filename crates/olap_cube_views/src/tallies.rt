@@ -8,11 +8,12 @@ ghost use Rattle.olap_cube.specs.CubeViews.{CubeFact as TheFact, cube_direct_row
 ghost use Rattle.olap_view.specs.Bounds.{IsUpTo};
 ghost use Rattle.olap_view.specs.Seen.{ids, summary_of};
 ghost use Rattle.olap_cube_views.specs.CubeTallies.{AreMembers, CubeStandsFor, IsTupleAncestor, ReachesNone, categories_in, entries_of, instances_in, is_key, key_cmp, key_of, row_of_entry, summary_at, tallied};
-ghost use Rattle.olap_cube_views.specs.Dimensions.{most_dimensions};
+ghost use Rattle.olap_cube.specs.Limits.{most_dimensions};
 ghost use Rattle.olap_cube_views.specs.Seen.{cube_fact_of, cube_row_of, cube_rows_of, fact_at, members_of};
 
-use crate::{CubeFact, CubeRow, Legals, MOST_DIMENSIONS};
+use crate::{CubeFact, CubeRow, Legals};
 use olap_base::{CatId, List, MemberId, Memory};
+use olap_cube::MOST_DIMENSIONS;
 use olap_view::{Column, Summary};
 use std::alloc::Global;
 use std::collections::BTreeMap;

@@ -2,7 +2,7 @@
 use Rattle.std.proofs.Common.{◌+◌, ◌<◌, ◌≤◌, ◌∷◌, length, drop, refl, sym, ap, ◌∙◌, arith}
 use Rattle.std.proofs.lemmas.List.{drop_more}
 use Rattle.olap_view.specs.Columns.{Ascent}
-use Rattle.olap_cube_views.specs.Dimensions.{most_dimensions}
+use Rattle.olap_cube.specs.Limits.{most_dimensions}
 use Rattle.olap_cube_views.proofs.AncestorLemmas.{as_many, key_end, key_more, none_reached}
 use Rattle.olap_cube_views.proofs.tallies.key.Goals as goal
 

@@ -3,7 +3,7 @@ use Rattle.std.proofs.Common.{◌≤◌, length, sym, subst, arith}
 use Rattle.std.proofs.lemmas.List.{length-map}
 use Rattle.olap_view.specs.Columns.{Ascent}
 use Rattle.olap_cube_views.specs.CubeTallies.{IsCubeTally, categories_in, instances_in, tallied}
-use Rattle.olap_cube_views.specs.Dimensions.{most_dimensions}
+use Rattle.olap_cube.specs.Limits.{most_dimensions}
 use Rattle.olap_cube_views.proofs.CubeTallyLemmas.{tally_start}
 use Rattle.olap_cube_views.proofs.tallies.CubeTally.new.Goals as goal
 
