@@ -1,7 +1,7 @@
 // The schemas of a cube's dimensions.
 ghost use Rattle.std.specs.Prelude.{◌≡◌, ◌++◌, ◌∷◌, ◌<◌, ◌≤◌, [], IfErr, OnErr, OnOk, length, slice_index_or};
 ghost use Rattle.olap_cube.specs.Limits.{most_dimensions};
-ghost use Rattle.olap_dimensions.specs.Dimensions.{no_schema};
+ghost use Rattle.olap_dimensions.specs.Dimensions.{no_schema, schemas_of};
 ghost use Rattle.olap_schema.specs.Schemas.{schema_of};
 
 use olap_schema::Schema;
@@ -15,14 +15,17 @@ pub struct Cube {
 }
 
 impl Model for Cube {
-    ghost use Rattle.std.specs.Prelude.{◌≤◌, List as Items, length, map};
-    ghost use Rattle.olap_ast.specs.Schema.{Schema as Defined};
+    ghost use Rattle.std.specs.Coded.{codes};
+    ghost use Rattle.std.specs.Prelude.{◌≤◌, List as Items, length};
+    ghost use Rattle.olap_ast.specs.contracts.formulas.Formula as formula;
     ghost use Rattle.olap_cube.specs.Limits.{most_dimensions};
-    ghost use Rattle.olap_schema.specs.Schemas.{schema_of};
+    ghost use Rattle.olap_schema.specs.Shown.{Shown};
 
-    ghost Value = { Items Defined };
+    ghost Value = { Items Shown };
 
-    ghost view = { λ a. map schema_of a.schemas.items };
+    ghost coded = { Prim.hlevel (codes, formula.the_row.coded) };
+
+    ghost view = { λ a. a.schemas.items };
 
     ghost invariant = { λ a. length a.schemas.items ≤ most_dimensions };
 }
@@ -30,7 +33,7 @@ impl Model for Cube {
 impl Cube {
     /// No dimension.
     pub fn new(alloc: Global) -> Cube
-        ensures { result ≡ [] }
+        ensures { schemas_of result ≡ [] }
     {
         Cube {
             schemas: Vec::new(alloc),
@@ -39,8 +42,8 @@ impl Cube {
 
     /// Adds the schema of one dimension more. Out of memory it comes back, and the others stay.
     pub fn push(&mut self, schema: Schema) -> Result<(), Schema>
-        requires { length self.old < most_dimensions }
-        ensures ok { OnOk result (self.new ≡ self.old ++ schema_of schema ∷ []) }
+        requires { length (schemas_of self.old) < most_dimensions }
+        ensures ok { OnOk result (schemas_of self.new ≡ schemas_of self.old ++ schema_of schema ∷ []) }
         ensures err { OnErr result (self.new ≡ self.old) }
         ensures back { IfErr result (λ s. s ≡ schema) }
     {
@@ -52,16 +55,16 @@ impl Cube {
 
     /// How many dimensions there are: at most four.
     pub fn len(&self) -> usize
-        ensures count { result ≡ length self.now }
-        ensures few { length self.now ≤ most_dimensions }
+        ensures count { result ≡ length (schemas_of self.now) }
+        ensures few { length (schemas_of self.now) ≤ most_dimensions }
     {
         self.schemas.len()
     }
 
     /// The schema of a dimension, from 0.
     pub fn schema(&self, i: usize) -> &Schema
-        requires { i < length self.now }
-        ensures { schema_of result.now ≡ slice_index_or self.now i no_schema }
+        requires { i < length (schemas_of self.now) }
+        ensures { schema_of result.now ≡ slice_index_or (schemas_of self.now) i no_schema }
     {
         &self.schemas[i]
     }
