@@ -19,7 +19,7 @@ use Rattle.olap_cube.specs.Tuples.{IsTupleOf, TupleReaches}
 use Rattle.olap_view.specs.Columns.{Ascent}
 use Rattle.olap_view.specs.Seen.{summary_of}
 use Rattle.olap_view.specs.declared.summaries.Summary as told
-use Rattle.olap_cube_views.specs.Dimensions.{most_dimensions}
+use Rattle.olap_cube.specs.Limits.{most_dimensions}
 
 -- ---- the tuple that a fact reaches
 
