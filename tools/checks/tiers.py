@@ -40,7 +40,7 @@ def question_of(family, order):
         name = left.pop()
         seen.add(name)
         body = "\n".join(modules()[family, "Commands"].declarations[name].body)
-        if found := re.search(r"\b(?:Done \(?(By\w+)|Told)", body):
+        if found := re.search(r"\b(?:(By[A-Z]\w+)|Told)", body):
             return found.group(1)
         left += [word for word in re.findall(r"\w+_order\b", body) if word not in seen]
     raise ValueError(f"{order} has no end")

@@ -13,7 +13,7 @@ use Rattle.olap_ast.specs.Constants.{IsConstant, all_equalities}
 use Rattle.olap_ast.specs.Formula.{Equality, Formula, Formula.Truth, Formula.Not, equalities, equalities_of_terms}
 use Rattle.olap_ast.specs.Frozen.{IsFrozen, IsLeastFrozen}
 use Rattle.olap_ast.specs.Schema.{Schema}
-use Rattle.olap_ast.specs.Summarizable.{not_by_one, vias}
+use Rattle.olap_ast.specs.Summarizable.{IsSummarizable, not_by_one, vias}
 use Rattle.olap_instance.specs.Printing.{text_of_instance}
 use Rattle.olap_cex.specs.CexText.{counterexample_text}
 use Rattle.olap_cex.specs.FoundFor.{IsFoundFor, found_instance, found_place}
@@ -25,12 +25,16 @@ use Rattle.olap_names.specs.Names.{candidates_of}
 use Rattle.olap_schema.specs.Lines.{is_control}
 use Rattle.olap_schema.specs.PrintingLaws.{AreTexts}
 use Rattle.olap_summ.specs.Counterexamples.{IsCounterexampleFound, numbers_of}
-use Rattle.olap_reasoning.specs.Certificates.{ShowsUnmet}
+use Rattle.olap_reasoning.specs.Certificates.{ShowsDifference, ShowsUnmet}
 use Rattle.olap_order.specs.Judged.{IsVerdict, Replies}
+use Rattle.olap_order.proofs.Replying.{done}
+use Rattle.olap_proof.specs.Verifying.{IsCertificateFor}
+use Rattle.olap_proof.specs.declared.forms.Form.{Form}
 use Rattle.olap_order.specs.Order.{Done}
 use Rattle.olap_order.specs.Outputs.{line}
-use Rattle.olap_reasoning.specs.Questions.{ByImplied, BySatisfiable, BySummarizable, IsAnswer}
+use Rattle.olap_reasoning.specs.Questions.{ByImplied, ByProof, BySatisfiable, IsAnswer, Question}
 use Rattle.olap_order.specs.declared.replies.Reply.{Reply}
+use Rattle.olap_order.specs.declared.status.Status.{Status}
 use Rattle.olap_order.specs.declared.status.Status.TheVariants.{No, Yes}
 
 -- ---- replies
@@ -80,27 +84,34 @@ unmet_shown s r q found least reply status text = record {
       text = e;
     })
 
--- the counterexample that was found shows that the view isn't always that from the sources' views
-pub difference_shown : (s : Schema) (c : ℕ) (sources : List ℕ) (found : Found) → IsCounterexampleFound s c sources found
+-- the counterexample that was found shows that the view isn't always that from the sources' views, which answers each
+-- question that this answers
+pub difference_shown : (q : Question) (s : Schema) (c : ℕ) (sources : List ℕ) (found : Found)
+    → IsCounterexampleFound s c sources found
+    → ((status : Status) (bytes : List ℕ) → status ≡ No → ShowsDifference s c sources bytes → IsAnswer q status bytes)
     → (reply : Reply) → reply.status ≡ No
     → reply.bytes.items ≡ line (codes "no") ++ (frozen_text s.graph (candidates_of found.candidates)
     found.frozen.root.0 (frozen_of found.frozen)
     ++ counterexample_text s (candidates_of found.candidates) found.frozen.root.0 (frozen_of found.frozen) c sources)
-    → Replies IsAnswer (Done (BySummarizable s c sources)) (Ok reply)
-difference_shown s c sources found f reply status text = record {
-  right = λ files. inr (
-    status,
-    record {
-      candidates = candidates_of found.candidates;
-      root = found.frozen.root.0;
-      frozen = frozen_of found.frozen;
-      counterexample = f.is_one;
-      text = text;
-    },
-  );
+    → Replies IsAnswer (Done q) (Ok reply)
+difference_shown q s c sources found f answers reply status text = record {
+  right = λ files. answers reply.status reply.bytes.items status (record {
+    candidates = candidates_of found.candidates;
+    root = found.frozen.root.0;
+    frozen = frozen_of found.frozen;
+    counterexample = f.is_one;
+    text = text;
+  });
   verdict = subst IsVerdict (sym status) tt;
   unread = λ e. absurd (cc);
 }
+
+-- a certificate shows that the target is summarizable
+pub certificate_shown : (f : Form) (s : Schema) (c : ℕ) (sources : List ℕ) → IsSummarizable s c sources
+    → (reply : Reply) → reply.status ≡ Yes → IsCertificateFor f s c sources reply.bytes.items
+    → Replies IsAnswer (Done (ByProof f s c sources)) (Ok reply)
+certificate_shown f s c sources is reply status certificate = done (ByProof f s c sources) reply status
+    (inl (status, is, certificate))
 
 -- ---- constants are UTF-8
 

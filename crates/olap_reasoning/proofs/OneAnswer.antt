@@ -1,5 +1,5 @@
 -- There is one answer at most to a question about all legal instances.
-use Rattle.std.proofs.Common.{◌≡◌, [], ℕ, ◌<◌, ◌≤◌, List, ◌∷◌, ◌++◌, length, refl, ap, sym, ◌∙◌, inl, inr, arith}
+use Rattle.std.proofs.Common.{◌≡◌, ◌⊎◌, [], ℕ, ◌≤◌, List, ◌∷◌, ◌++◌, length, refl, ap, sym, ◌∙◌, inl, inr, arith}
 use Rattle.std.specs.Prelude.{codes, flat_map}
 use Rattle.std.specs.Fmt.{decimal}
 use Rattle.olap_base.specs.Graph.{Graph}
@@ -19,9 +19,9 @@ use Rattle.olap_instance.specs.Printing.{text_of_instance}
 use Rattle.olap_order.specs.Outputs.{line}
 use Rattle.olap_order.specs.declared.status.Status.{Status}
 use Rattle.olap_reasoning.specs.Certificates.{ShowsDifference, ShowsMember, ShowsUnmet}
-use Rattle.olap_reasoning.specs.Laws.{AllFrozenAreOne, AnswersAreOne, FindingsAreOne, TooManyAreNotListed}
+use Rattle.olap_reasoning.specs.Laws.{AllFrozenAreOne, AnswersAreOne, AreCertificates, FindingsAreOne, TooManyAreNotListed}
 use Rattle.olap_reasoning.specs.Listings.{HasTooMany, ListsFindings, ListsFrozen, finding_text}
-use Rattle.olap_reasoning.specs.Questions.{IsAnswer, Question, BySatisfiable, ByImplied, BySummarizable, ByFrozen, ByAudit}
+use Rattle.olap_reasoning.specs.Questions.{IsAnswer, Question, BySatisfiable, ByImplied, BySummarizable, ByProof, ByFrozen, ByAudit}
 
 -- ---- the line of a frozen dimension
 
@@ -98,25 +98,30 @@ one_audit s xs ys a b =
 -- ---- all questions
 
 one_answer : (q : Question) (s t : Status) (xs ys : List ℕ) → IsAnswer q s xs → IsAnswer q t ys
-    → (s ≡ t) × (xs ≡ ys)
-one_answer (BySatisfiable z c) s t xs ys (inl a) (inl b) = (a.0 ∙ sym b.0, a.2 ∙ sym b.2)
+    → (s ≡ t) × ((xs ≡ ys) ⊎ AreCertificates q xs ys)
+one_answer (BySatisfiable z c) s t xs ys (inl a) (inl b) = (a.0 ∙ sym b.0, inl (a.2 ∙ sym b.2))
 one_answer (BySatisfiable z c) s t xs ys (inl a) (inr b) = absurd (no_member z c ys a.1 b.1)
 one_answer (BySatisfiable z c) s t xs ys (inr a) (inl b) = absurd (no_member z c xs b.1 a.1)
-one_answer (BySatisfiable z c) s t xs ys (inr a) (inr b) = (a.0 ∙ sym b.0, one_member z c xs ys a.1 b.1)
-one_answer (ByImplied z r q) s t xs ys (inl a) (inl b) = (a.0 ∙ sym b.0, a.2 ∙ sym b.2)
+one_answer (BySatisfiable z c) s t xs ys (inr a) (inr b) = (a.0 ∙ sym b.0, inl (one_member z c xs ys a.1 b.1))
+one_answer (ByImplied z r q) s t xs ys (inl a) (inl b) = (a.0 ∙ sym b.0, inl (a.2 ∙ sym b.2))
 one_answer (ByImplied z r q) s t xs ys (inl a) (inr b) = absurd (no_unmet z r q ys a.1 b.1)
 one_answer (ByImplied z r q) s t xs ys (inr a) (inl b) = absurd (no_unmet z r q xs b.1 a.1)
-one_answer (ByImplied z r q) s t xs ys (inr a) (inr b) = (a.0 ∙ sym b.0, one_unmet z r q xs ys a.1 b.1)
-one_answer (BySummarizable z c sources) s t xs ys (inl a) (inl b) = (a.0 ∙ sym b.0, a.2 ∙ sym b.2)
+one_answer (ByImplied z r q) s t xs ys (inr a) (inr b) = (a.0 ∙ sym b.0, inl (one_unmet z r q xs ys a.1 b.1))
+one_answer (BySummarizable z c sources) s t xs ys (inl a) (inl b) = (a.0 ∙ sym b.0, inl (a.2 ∙ sym b.2))
 one_answer (BySummarizable z c sources) s t xs ys (inl a) (inr b) = absurd (no_difference z c sources ys a.1 b.1)
 one_answer (BySummarizable z c sources) s t xs ys (inr a) (inl b) = absurd (no_difference z c sources xs b.1 a.1)
 one_answer (BySummarizable z c sources) s t xs ys (inr a) (inr b) =
-    (a.0 ∙ sym b.0, one_difference z c sources xs ys a.1 b.1)
-one_answer (ByFrozen z c) s t xs ys (inl a) (inl b) = (a.0 ∙ sym b.0, one_listing z c xs ys a.1 b.1)
+    (a.0 ∙ sym b.0, inl (one_difference z c sources xs ys a.1 b.1))
+one_answer (ByProof f z c sources) s t xs ys (inl a) (inl b) = (a.0 ∙ sym b.0, inr (a.2, b.2))
+one_answer (ByProof f z c sources) s t xs ys (inl a) (inr b) = absurd (no_difference z c sources ys a.1 b.1)
+one_answer (ByProof f z c sources) s t xs ys (inr a) (inl b) = absurd (no_difference z c sources xs b.1 a.1)
+one_answer (ByProof f z c sources) s t xs ys (inr a) (inr b) =
+    (a.0 ∙ sym b.0, inl (one_difference z c sources xs ys a.1 b.1))
+one_answer (ByFrozen z c) s t xs ys (inl a) (inl b) = (a.0 ∙ sym b.0, inl (one_listing z c xs ys a.1 b.1))
 one_answer (ByFrozen z c) s t xs ys (inl a) (inr b) = absurd (no_listing z c xs b.1 a.1)
 one_answer (ByFrozen z c) s t xs ys (inr a) (inl b) = absurd (no_listing z c ys a.1 b.1)
-one_answer (ByFrozen z c) s t xs ys (inr a) (inr b) = (a.0 ∙ sym b.0, a.2 ∙ sym b.2)
-one_answer (ByAudit z) s t xs ys a b = (a.0 ∙ sym b.0, one_audit z xs ys a.1 b.1)
+one_answer (ByFrozen z c) s t xs ys (inr a) (inr b) = (a.0 ∙ sym b.0, inl (a.2 ∙ sym b.2))
+one_answer (ByAudit z) s t xs ys a b = (a.0 ∙ sym b.0, inl (one_audit z xs ys a.1 b.1))
 
 pub answers_are_one : AnswersAreOne
 answers_are_one = one_answer

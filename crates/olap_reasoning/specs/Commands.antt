@@ -1,13 +1,17 @@
 -- The order in which each command about a schema judges its file and words.
---     order_named    of the command of that name, by the words after it
+--     sources_order    of a question about a target and its sources
+--     order_named      of the command of that name, by the words after it
 use Rattle.std.specs.Prelude.{ℕ, List, [], codes, if◌then◌else◌, Option, None}
 use Rattle.std.specs.Str.{bytes_eq}
+use Rattle.olap_ast.specs.Schema.{Schema}
 use Rattle.olap_schema.specs.Printing.{schema_text}
 use Rattle.olap_order.specs.Arguments.{by_one, by_three, by_two, by_two_or_more}
 use Rattle.olap_order.specs.Order.{Order, Done, Told, and_then}
 use Rattle.olap_order.specs.Steps.{category_word, different_words, formula_word, root_word, schema_file}
 use Rattle.olap_order.specs.declared.status.Status.TheVariants.{Yes}
-use Rattle.olap_reasoning.specs.Questions.{Question, BySatisfiable, ByImplied, BySummarizable, ByFrozen, ByAudit}
+use Rattle.olap_proof.specs.declared.forms.Form.{Form}
+use Rattle.olap_proof.specs.declared.forms.Form.TheVariants.{Long, Short}
+use Rattle.olap_reasoning.specs.Questions.{Question, BySatisfiable, ByImplied, BySummarizable, ByProof, ByFrozen, ByAudit}
 
 -- the schema alone
 abbrev pub format_order : (schema : List ℕ) → Order Question
@@ -29,12 +33,21 @@ implies_order schema root formula =
     Done (ByImplied s r q))))
 
 -- the schema, the target, and any number of sources from left to right
-abbrev pub summarizable_order : (schema target : List ℕ) (sources : List (List ℕ)) → Order Question
-summarizable_order schema target sources =
+abbrev pub sources_order : (Schema → ℕ → List ℕ → Question) → (schema target : List ℕ) (sources : List (List ℕ))
+    → Order Question
+sources_order asked schema target sources =
     and_then (schema_file (codes "schema") schema) (λ s.
     and_then (category_word s.graph 3 target) (λ c.
     and_then (different_words (codes "DuplicateSource") s.graph 4 [] sources) (λ cs.
-    Done (BySummarizable s c cs))))
+    Done (asked s c cs))))
+
+-- is the target's view always that from the sources' views?
+abbrev pub summarizable_order : (schema target : List ℕ) (sources : List (List ℕ)) → Order Question
+summarizable_order = sources_order BySummarizable
+
+-- and why? a certificate of that form says it
+abbrev pub prove_order : Form → (schema target : List ℕ) (sources : List (List ℕ)) → Order Question
+prove_order form = sources_order (ByProof form)
 
 -- the schema, and the category
 abbrev pub frozen_order : (schema category : List ℕ) → Order Question
@@ -54,6 +67,8 @@ order_named name words =
     else if bytes_eq name (codes "satisfiable") then by_two satisfiable_order words
     else if bytes_eq name (codes "implies") then by_three implies_order words
     else if bytes_eq name (codes "summarizable") then by_two_or_more summarizable_order words
+    else if bytes_eq name (codes "prove") then by_two_or_more (prove_order Long) words
+    else if bytes_eq name (codes "prove-short") then by_two_or_more (prove_order Short) words
     else if bytes_eq name (codes "frozen") then by_two frozen_order words
     else if bytes_eq name (codes "audit") then by_one audit_order words
     else None

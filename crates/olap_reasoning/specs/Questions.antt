@@ -10,6 +10,8 @@ use Rattle.olap_ast.specs.Summarizable.{IsSummarizable}
 use Rattle.olap_order.specs.Outputs.{line, refusal}
 use Rattle.olap_order.specs.declared.status.Status.{Status}
 use Rattle.olap_order.specs.declared.status.Status.TheVariants.{Yes, No, Refused}
+use Rattle.olap_proof.specs.Verifying.{IsCertificateFor}
+use Rattle.olap_proof.specs.declared.forms.Form.{Form}
 use Rattle.olap_reasoning.specs.Certificates.{ShowsMember, ShowsUnmet, ShowsDifference}
 use Rattle.olap_reasoning.specs.Listings.{HasTooMany, ListsFindings, ListsFrozen}
 
@@ -20,6 +22,8 @@ pub data Question : Type 0 where
   ByImplied : (schema : Schema) (root : ℕ) (formula : Formula) → Question
   -- is the target's view always that from the sources' views?
   BySummarizable : (schema : Schema) (target : ℕ) (sources : List ℕ) → Question
+  -- why is the target's view always that from the sources' views?
+  ByProof : (form : Form) (schema : Schema) (target : ℕ) (sources : List ℕ) → Question
   -- which frozen dimensions with this root are there?
   ByFrozen : (schema : Schema) (root : ℕ) → Question
   -- what does the schema say or do for nothing?
@@ -35,6 +39,9 @@ IsAnswer (ByImplied s r q) status bytes =
     ⊎ ((status ≡ No) × ShowsUnmet s r q bytes)
 IsAnswer (BySummarizable s c sources) status bytes =
     ((status ≡ Yes) × IsSummarizable s c sources × (bytes ≡ line (codes "yes")))
+    ⊎ ((status ≡ No) × ShowsDifference s c sources bytes)
+IsAnswer (ByProof f s c sources) status bytes =
+    ((status ≡ Yes) × IsSummarizable s c sources × IsCertificateFor f s c sources bytes)
     ⊎ ((status ≡ No) × ShowsDifference s c sources bytes)
 IsAnswer (ByFrozen s c) status bytes =
     ((status ≡ Yes) × ListsFrozen s c bytes)

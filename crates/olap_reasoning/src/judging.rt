@@ -30,10 +30,11 @@ fn run<L: Library>(alloc: Global, command: Command, lib: &mut L) -> Result<Reply
             formula,
         } => implies(alloc, schema, root, formula, lib),
         Command::Summarizable {
+            wanted,
             schema,
             target,
             sources,
-        } => summarizable(alloc, schema, target, sources, lib),
+        } => summarizable(alloc, wanted, schema, target, sources, lib),
         Command::Frozen { schema, category } => frozen(alloc, schema, category, lib),
         Command::Audit { schema } => audit(alloc, schema, lib),
     }

@@ -5,11 +5,13 @@
 #![tactic(auto)]
 
 mod auditing;
+mod differing;
 mod formatting;
 mod implying;
 mod judging;
 mod laws;
 mod listing;
+mod proving;
 mod satisfying;
 mod summarizing;
 mod words;

@@ -2,8 +2,19 @@
 ghost use Rattle.std.specs.Prelude.{◌≡◌, option_map};
 ghost use Rattle.olap_order.specs.Arguments.{by_one, by_three, by_two, by_two_or_more};
 ghost use Rattle.olap_order.specs.Words.{texts};
-ghost use Rattle.olap_reasoning.specs.Commands.{audit_order, format_order, frozen_order, implies_order, order_named, satisfiable_order, summarizable_order};
-ghost use Rattle.olap_reasoning.specs.Seen.{seen};
+ghost use Rattle.olap_reasoning.specs.Commands.{audit_order, format_order, frozen_order, implies_order, order_named, satisfiable_order, sources_order};
+ghost use Rattle.olap_reasoning.specs.Seen.{question_of, seen};
+
+use olap_proof::Form;
+
+/// What is wanted where a target is summarizable.
+#[derive(Clone, Copy)]
+pub(crate) enum Wanted {
+    /// That it is.
+    Answer,
+    /// Why: a certificate of that form.
+    Certificate(Form),
+}
 
 /// A command with its words.
 #[derive(Clone, Copy)]
@@ -23,8 +34,9 @@ pub(crate) enum Command<'a> {
         root: &'a str,
         formula: &'a str,
     },
-    /// Whether a view is always that from others.
+    /// Whether a view is always that from others, or why.
     Summarizable {
+        wanted: Wanted,
         schema: &'a str,
         target: &'a str,
         sources: &'a [String],
@@ -79,12 +91,13 @@ fn implies(words: &[String]) -> Option<Command<'_>>
     }
 }
 
-/// The words after `summarizable`.
-fn summarizable(words: &[String]) -> Option<Command<'_>>
-    ensures { option_map seen result ≡ by_two_or_more summarizable_order (texts words.now) }
+/// The words after `summarizable`, `prove` and `prove-short`.
+fn summarizable(wanted: Wanted, words: &[String]) -> Option<Command<'_>>
+    ensures { option_map seen result ≡ by_two_or_more (sources_order (question_of wanted)) (texts words.now) }
 {
     match words {
         [schema, target, sources @ ..] => Some(Command::Summarizable {
+            wanted,
             schema: schema.as_str(),
             target: target.as_str(),
             sources,
@@ -126,7 +139,9 @@ pub(crate) fn parse<'a>(name: &str, words: &'a [String]) -> Option<Command<'a>>
         "format" => format(words),
         "satisfiable" => satisfiable(words),
         "implies" => implies(words),
-        "summarizable" => summarizable(words),
+        "summarizable" => summarizable(Wanted::Answer, words),
+        "prove" => summarizable(Wanted::Certificate(Form::Long), words),
+        "prove-short" => summarizable(Wanted::Certificate(Form::Short), words),
         "frozen" => frozen(words),
         "audit" => audit(words),
         _ => None,

@@ -1,10 +1,24 @@
 -- What the definitions leave no choice in.
-use Rattle.std.specs.Prelude.{◌≡◌, ℕ, List}
+--     AreCertificates    two texts that answer words which ask for a certificate
+--     OutcomeIsOne       words and files have one status at most, and one list of bytes but for certificates
+use Rattle.std.specs.Prelude.{◌≡◌, ◌⊎◌, ℕ, List, MatchOption}
 use Rattle.olap_base.specs.Files.{Files}
+use Rattle.olap_order.specs.Order.{Order, Done, Told, Read}
 use Rattle.olap_order.specs.declared.status.Status.{Status}
+use Rattle.olap_reasoning.specs.Laws as reasoning
+use Rattle.olap_run.specs.Commands.{order_of}
 use Rattle.olap_run.specs.Outcome.{Outcome}
+use Rattle.olap_run.specs.Questions.{Question, OfReasoning}
 
--- for words and files there is one status and one list of bytes at most
+-- the order comes to a question that asks for a certificate, and both texts are certificates for it
+abbrev pub AreCertificates : Files → Order Question → List ℕ → List ℕ → Type 0
+AreCertificates files (Done (OfReasoning q)) b c = reasoning.AreCertificates q b c
+AreCertificates files (Done q) b c = ⊥
+AreCertificates files (Told status text) b c = ⊥
+AreCertificates files (Read name next) b c =
+    MatchOption (files name) ⊥ (λ text. AreCertificates files (next text) b c)
+
+-- for words and files there is one status at most, and one list of bytes, but that there may be many certificates
 abbrev pub OutcomeIsOne : Type 0
 OutcomeIsOne = (words : List (List ℕ)) (files : Files) (s t : Status) (b c : List ℕ) → Outcome words files s b
-    → Outcome words files t c → (s ≡ t) × (b ≡ c)
+    → Outcome words files t c → (s ≡ t) × ((b ≡ c) ⊎ AreCertificates files (order_of words) b c)

@@ -4,7 +4,8 @@ use Rattle.olap_schema.specs.Schemas.{schema_of}
 use Rattle.olap_summ.specs.Counterexamples.{numbers_of}
 use Rattle.olap_order.specs.Judged.{Replies}
 use Rattle.olap_order.specs.Order.{Done}
-use Rattle.olap_reasoning.specs.Questions.{BySummarizable, IsAnswer}
+use Rattle.olap_reasoning.specs.Questions.{IsAnswer}
+use Rattle.olap_reasoning.specs.Seen.{question_of}
 use Rattle.olap_order.proofs.Stepping.{answered, ended, followed, unread}
 use Rattle.olap_reasoning.proofs.summarizing.summarizable.Goals as goal
 
@@ -29,6 +30,6 @@ returns g c = record {
       (followed (unread _ c.in_ok-sources.ensures.step) _
       (answered c.answered.result
       (subst (λ (xs : List CatId). Replies IsAnswer
-      (Done (BySummarizable (schema_of c.in_ok-schema.schema) c.in_ok-target.target.0 (numbers_of xs)))
+      (Done (question_of c.args.wanted (schema_of c.in_ok-schema.schema) c.in_ok-target.target.0 (numbers_of xs)))
       c.answered.result) c.deref.ensures.value c.answered.ensures.replies))));
 }

@@ -1,9 +1,10 @@
-use Rattle.std.proofs.Common.{subst, ◌∙◌}
+use Rattle.std.proofs.Common.{inr, subst, ◌∙◌}
 use Rattle.std.specs.Prelude.{IfSome}
 use Rattle.olap_schema.specs.Schemas.{schema_of}
 use Rattle.olap_summ.specs.Counterexamples.{IsCounterexampleFound, numbers_of}
+use Rattle.olap_reasoning.specs.Questions.{BySummarizable}
 use Rattle.olap_reasoning.proofs.CertificateLemmas.{difference_shown}
-use Rattle.olap_reasoning.proofs.summarizing.answered.Goals as goal
+use Rattle.olap_reasoning.proofs.summarizing.decided.Goals as goal
 
 pub returns-in_ok-shown-in-Ok-Some : goal.returns-in_ok-shown-in-Ok-Some
 returns-in_ok-shown-in-Ok-Some c =
@@ -12,6 +13,7 @@ returns-in_ok-shown-in-Ok-Some c =
     let f = subst (λ o. IfSome o (IsCounterexampleFound s c.args.target.0 sources)) c.in-Ok-Some.field-0-is
     c.in-Ok-Some.ensures.some in
     record {
-      replies = difference_shown s c.args.target.0 sources c.in-Ok-Some.found f c.no.result c.no.ensures.status
+      replies = difference_shown (BySummarizable s c.args.target.0 sources) s c.args.target.0 sources
+          c.in-Ok-Some.found f (λ status bytes is shows. inr (is, shows)) c.no.result c.no.ensures.status
           (c.no.ensures.bytes ∙ c.in_ok-shown-in-Ok-Some.ensures);
     }

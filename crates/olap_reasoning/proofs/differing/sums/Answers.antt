@@ -10,7 +10,7 @@ use Rattle.olap_names.specs.Names.{candidates_of, with_graph}
 use Rattle.olap_schema.specs.Schemas.{schema_of}
 use Rattle.olap_summ.specs.Counterexamples.{numbers_of}
 use Rattle.olap_reasoning.proofs.CertificateLemmas.{found_for_difference, root_there, sources_are, target_reached}
-use Rattle.olap_reasoning.proofs.summarizing.sums.Goals as goal
+use Rattle.olap_reasoning.proofs.differing.sums.Goals as goal
 
 pub counterexample-requires-clause-found : goal.counterexample-requires-clause-found
 counterexample-requires-clause-found c =
