@@ -1,0 +1,4 @@
+-- Definitions that contracts cite.
+pub mod CubeCexText
+pub mod Founds
+pub mod Laws

@@ -1,0 +1,58 @@
+// What is told of each dimension.
+ghost use Rattle.std.specs.Prelude.{◌≡◌, ◌++◌, OnOk, map};
+ghost use Rattle.olap_cube_cex.specs.CubeCexText.{dimension_text, dimensions_text};
+ghost use Rattle.olap_cube_cex.specs.Founds.{AreFound, IsFoundOf};
+ghost use Rattle.olap_dimensions.specs.Found.{chosen_of};
+ghost use Rattle.olap_schema.specs.Schemas.{schema_of};
+
+use olap_base::Memory;
+use olap_cex::{print_frozen, thaw};
+use olap_dimensions::Cube;
+use olap_frozen::Found;
+use olap_instance::print_instance;
+use olap_schema::Schema;
+use std::alloc::Global;
+
+// Appends the line of a dimension's number, the line of its frozen dimension, and its instance.
+fn push_dimension(
+    alloc: Global,
+    out: &mut Vec<u8>,
+    number: usize,
+    schema: &Schema,
+    found: &Found,
+) -> Result<(), Memory>
+    requires { IsFoundOf (schema_of schema.now) found.now }
+    ensures { OnOk result (out.new.items
+        ≡ out.old.items ++ dimension_text number (schema_of schema.now) (chosen_of found.now)) }
+{
+    // Called for its clauses: the constants are text.
+    let _constraints = schema.constraints();
+    let graph = schema.graph();
+    let digits = format!(in alloc; "{number}")?;
+    let line = print_frozen(alloc, graph, &found.frozen, &found.candidates)?;
+    let instance = thaw(alloc, graph, found)?;
+    let lines = print_instance(alloc, graph, &instance)?;
+    out.extend_from_slice(b"dimension ")?;
+    out.extend_from_slice(digits.as_bytes())?;
+    out.push(b'\n')?;
+    out.extend_from_slice(line.bytes())?;
+    out.extend_from_slice(lines.bytes())?;
+    Ok(())
+}
+
+/// Appends what is told of each dimension, numbered from 1.
+pub(crate) fn push_dimensions(
+    alloc: Global,
+    out: &mut Vec<u8>,
+    cube: &Cube,
+    founds: &[Found],
+) -> Result<(), Memory>
+    requires { AreFound cube.now founds.now }
+    ensures { OnOk result (out.new.items
+        ≡ out.old.items ++ dimensions_text 1 cube.now (map chosen_of founds.now)) }
+{
+    'dimensions: for i in 0..cube.len() {
+        push_dimension(alloc, out, i + 1, cube.schema(i), &founds[i])?;
+    }
+    Ok(())
+}

@@ -1,0 +1,99 @@
+// The sources by which the roots of a choice reach the target.
+ghost use Rattle.std.specs.Prelude.{◌≡◌, ◌<◌, ◌↔◌, All, IfOk, IsTrue, length, map};
+ghost use Rattle.olap_base.specs.OneFact.{HoldsTimes};
+ghost use Rattle.olap_cex.specs.CexFor.{IsWay};
+ghost use Rattle.olap_cube.specs.CubeSummarizable.{instances_of};
+ghost use Rattle.olap_cube.specs.Told.{tuple_of, tuples_in};
+ghost use Rattle.olap_cube.specs.Tuples.{TupleReachesVia};
+ghost use Rattle.olap_cube_cex.specs.CubeCexText.{roots_of};
+ghost use Rattle.olap_cube_cex.specs.Founds.{AreDrawn, AreFound, IsDrawn, IsFoundOf};
+ghost use Rattle.olap_dimensions.specs.Dimensions.{AreCategoriesOf};
+ghost use Rattle.olap_dimensions.specs.Found.{chosen_of};
+ghost use Rattle.olap_schema.specs.Schemas.{schema_of};
+
+use olap_base::{CatId, Memory};
+use olap_cube::Tuple;
+use olap_dimensions::Cube;
+use olap_frozen::{Found, Room, close};
+use olap_graph::{Categories, row_has};
+use olap_schema::Schema;
+use std::alloc::Global;
+
+// What each category reaches in a frozen dimension.
+fn drawn(alloc: Global, schema: &Schema, found: &Found) -> Result<Room, Memory>
+    requires { IsFoundOf (schema_of schema.now) found.now }
+    ensures { IfOk result (IsDrawn (schema_of schema.now) found.now) }
+{
+    let graph = schema.graph();
+    let mut room = Room::new(alloc, graph)?;
+    close(graph, found.frozen.edges.items(), &mut room.rows);
+    Ok(room)
+}
+
+/// What each category reaches, in the frozen dimension of each dimension.
+pub(crate) fn drawn_of_each(
+    alloc: Global,
+    cube: &Cube,
+    founds: &[Found],
+) -> Result<Vec<Room>, Memory>
+    requires { AreFound cube.now founds.now }
+    ensures { IfOk result (λ rooms. AreDrawn cube.now founds.now rooms.items) }
+{
+    let mut rooms = Vec::new(alloc);
+    'dimensions: for i in 0..cube.len() {
+        rooms.push(drawn(alloc, cube.schema(i), &founds[i])?)?;
+    }
+    Ok(rooms)
+}
+
+// Whether the root reaches the source, and the source the target.
+fn is_way(rows: &[Categories], root: CatId, source: CatId, target: CatId) -> bool
+    requires root { root.0 < length rows.now }
+    requires source { source.0 < length rows.now }
+    ensures { IsTrue result ↔ IsWay rows.now root.0 target.0 source.0 }
+{
+    row_has(rows, root.0, source.0) && row_has(rows, source.0, target.0)
+}
+
+// Whether the roots reach the target by the source, in every dimension.
+fn reaches_by(cube: &Cube, founds: &[Found], rooms: &[Room], source: &Tuple, target: &Tuple) -> bool
+    requires drawn { AreDrawn cube.now founds.now rooms.now }
+    requires source { AreCategoriesOf cube.now (tuple_of source.now) }
+    requires target { AreCategoriesOf cube.now (tuple_of target.now) }
+    ensures { let choice = map chosen_of founds.now in IsTrue result ↔ TupleReachesVia
+        (instances_of cube.now choice) (roots_of cube.now choice) (tuple_of source.now) (tuple_of target.now) }
+{
+    'dimensions: for i in 0..cube.len() {
+        let root = founds[i].frozen.root;
+        let from = source.categories.items()[i];
+        let to = target.categories.items()[i];
+        if !is_way(&rooms[i].rows, root, from, to) {
+            return false;
+        }
+    }
+    true
+}
+
+/// By how many of the sources the roots reach the target.
+pub(crate) fn count_ways(
+    cube: &Cube,
+    founds: &[Found],
+    rooms: &[Room],
+    target: &Tuple,
+    sources: &[Tuple],
+) -> u64
+    requires drawn { AreDrawn cube.now founds.now rooms.now }
+    requires target { AreCategoriesOf cube.now (tuple_of target.now) }
+    requires sources { All (AreCategoriesOf cube.now) (tuples_in sources.now) }
+    ensures { let choice = map chosen_of founds.now in HoldsTimes
+        (λ t. TupleReachesVia (instances_of cube.now choice) (roots_of cube.now choice) t (tuple_of target.now))
+        (tuples_in sources.now) result }
+{
+    let mut ways = 0;
+    'sources: for source in sources {
+        if reaches_by(cube, founds, rooms, source, target) {
+            ways += 1;
+        }
+    }
+    ways
+}
