@@ -1,1 +1,6 @@
 -- Lemmas.
+mod DimensionLemmas
+mod TextLemmas
+mod WayLemmas
+mod SumLemmas
+mod OneText

@@ -30,11 +30,15 @@ tuple_text gs c = join_with_byte 44 (names_of gs c)
 
 -- ---- dimensions
 
--- the line of the dimension's number, the line of its frozen dimension, and its instance
+-- the line of the dimension's number
+abbrev pub number_line : ℕ → List ℕ
+number_line n = codes "dimension " ++ (decimal n ++ 10 ∷ [])
+
+-- that line, the line of its frozen dimension, and its instance
 abbrev pub dimension_text : ℕ → Schema → Chosen → List ℕ
 dimension_text n s p =
-    codes "dimension " ++ (decimal n ++ (10 ∷ (frozen_text s.graph p.candidates p.bottom p.frozen
-    ++ text_of_instance s.graph (thawed s p.candidates p.bottom p.frozen))))
+    number_line n ++ (frozen_text s.graph p.candidates p.bottom p.frozen
+    ++ text_of_instance s.graph (thawed s p.candidates p.bottom p.frozen))
 
 -- of each dimension, numbered from n
 abbrev pub dimensions_text : ℕ → List Schema → List Chosen → List ℕ

@@ -1,14 +1,11 @@
 // The sources by which the roots of a choice reach the target.
-ghost use Rattle.std.specs.Prelude.{◌≡◌, ◌<◌, ◌↔◌, All, IfOk, IsTrue, length, map};
+ghost use Rattle.std.specs.Prelude.{◌<◌, ◌↔◌, All, IfOk, IsTrue, length};
 ghost use Rattle.olap_base.specs.OneFact.{HoldsTimes};
 ghost use Rattle.olap_cex.specs.CexFor.{IsWay};
-ghost use Rattle.olap_cube.specs.CubeSummarizable.{instances_of};
 ghost use Rattle.olap_cube.specs.Told.{tuple_of, tuples_in};
-ghost use Rattle.olap_cube.specs.Tuples.{TupleReachesVia};
-ghost use Rattle.olap_cube_cex.specs.CubeCexText.{roots_of};
 ghost use Rattle.olap_cube_cex.specs.Founds.{AreDrawn, AreFound, IsDrawn, IsFoundOf};
-ghost use Rattle.olap_dimensions.specs.Dimensions.{AreCategoriesOf};
-ghost use Rattle.olap_dimensions.specs.Found.{chosen_of};
+ghost use Rattle.olap_cube_cex.specs.Ways.{ReachBy, ReachesAt};
+ghost use Rattle.olap_dimensions.specs.Dimensions.{AreCategoriesOf, schemas_of};
 ghost use Rattle.olap_schema.specs.Schemas.{schema_of};
 
 use olap_base::{CatId, Memory};
@@ -36,12 +33,13 @@ pub(crate) fn drawn_of_each(
     cube: &Cube,
     founds: &[Found],
 ) -> Result<Vec<Room>, Memory>
-    requires { AreFound cube.now founds.now }
-    ensures { IfOk result (λ rooms. AreDrawn cube.now founds.now rooms.items) }
+    requires { AreFound (schemas_of cube.now) founds.now }
+    ensures { IfOk result (λ rooms. AreDrawn (schemas_of cube.now) founds.now rooms.items) }
 {
     let mut rooms = Vec::new(alloc);
     'dimensions: for i in 0..cube.len() {
-        rooms.push(drawn(alloc, cube.schema(i), &founds[i])?)?;
+        let room = drawn(alloc, cube.schema(i), &founds[i])?;
+        rooms.push(room)?;
     }
     Ok(rooms)
 }
@@ -55,19 +53,41 @@ fn is_way(rows: &[Categories], root: CatId, source: CatId, target: CatId) -> boo
     row_has(rows, root.0, source.0) && row_has(rows, source.0, target.0)
 }
 
+// Whether the root of the i-th dimension reaches the target by the source.
+fn reaches_at(
+    cube: &Cube,
+    founds: &[Found],
+    rooms: &[Room],
+    source: &Tuple,
+    target: &Tuple,
+    i: usize,
+) -> bool
+    requires drawn { AreDrawn (schemas_of cube.now) founds.now rooms.now }
+    requires source { AreCategoriesOf (schemas_of cube.now) (tuple_of source.now) }
+    requires target { AreCategoriesOf (schemas_of cube.now) (tuple_of target.now) }
+    requires inside { i < length (schemas_of cube.now) }
+    ensures { IsTrue result
+        ↔ ReachesAt (schemas_of cube.now) founds.now (tuple_of source.now) (tuple_of target.now) i }
+{
+    // Called for its clauses: there are few dimensions.
+    let _few = cube.len();
+    let from = source.categories.items();
+    let to = target.categories.items();
+    let found = &founds[i];
+    let room = &rooms[i];
+    is_way(&room.rows, found.frozen.root, from[i], to[i])
+}
+
 // Whether the roots reach the target by the source, in every dimension.
-fn reaches_by(cube: &Cube, founds: &[Found], rooms: &[Room], source: &Tuple, target: &Tuple) -> bool
-    requires drawn { AreDrawn cube.now founds.now rooms.now }
-    requires source { AreCategoriesOf cube.now (tuple_of source.now) }
-    requires target { AreCategoriesOf cube.now (tuple_of target.now) }
-    ensures { let choice = map chosen_of founds.now in IsTrue result ↔ TupleReachesVia
-        (instances_of cube.now choice) (roots_of cube.now choice) (tuple_of source.now) (tuple_of target.now) }
+fn reach_by(cube: &Cube, founds: &[Found], rooms: &[Room], source: &Tuple, target: &Tuple) -> bool
+    requires drawn { AreDrawn (schemas_of cube.now) founds.now rooms.now }
+    requires source { AreCategoriesOf (schemas_of cube.now) (tuple_of source.now) }
+    requires target { AreCategoriesOf (schemas_of cube.now) (tuple_of target.now) }
+    ensures { IsTrue result
+        ↔ ReachBy (schemas_of cube.now) founds.now (tuple_of source.now) (tuple_of target.now) }
 {
     'dimensions: for i in 0..cube.len() {
-        let root = founds[i].frozen.root;
-        let from = source.categories.items()[i];
-        let to = target.categories.items()[i];
-        if !is_way(&rooms[i].rows, root, from, to) {
+        if !reaches_at(cube, founds, rooms, source, target, i) {
             return false;
         }
     }
@@ -82,16 +102,15 @@ pub(crate) fn count_ways(
     target: &Tuple,
     sources: &[Tuple],
 ) -> u64
-    requires drawn { AreDrawn cube.now founds.now rooms.now }
-    requires target { AreCategoriesOf cube.now (tuple_of target.now) }
-    requires sources { All (AreCategoriesOf cube.now) (tuples_in sources.now) }
-    ensures { let choice = map chosen_of founds.now in HoldsTimes
-        (λ t. TupleReachesVia (instances_of cube.now choice) (roots_of cube.now choice) t (tuple_of target.now))
+    requires drawn { AreDrawn (schemas_of cube.now) founds.now rooms.now }
+    requires target { AreCategoriesOf (schemas_of cube.now) (tuple_of target.now) }
+    requires sources { All (AreCategoriesOf (schemas_of cube.now)) (tuples_in sources.now) }
+    ensures { HoldsTimes (λ t. ReachBy (schemas_of cube.now) founds.now t (tuple_of target.now))
         (tuples_in sources.now) result }
 {
     let mut ways = 0;
     'sources: for source in sources {
-        if reaches_by(cube, founds, rooms, source, target) {
+        if reach_by(cube, founds, rooms, source, target) {
             ways += 1;
         }
     }

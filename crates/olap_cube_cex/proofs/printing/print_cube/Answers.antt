@@ -1,0 +1,46 @@
+-- The lines with the sum of so many ones are the text.
+use Rattle.std.proofs.Common.{List, ◌++◌, Some, map, pos, sym, subst, ap, ◌∙◌}
+use Rattle.std.specs.Option.{option_map}
+use Rattle.olap_base.specs.declared.ids.CatId.{CatId}
+use Rattle.olap_cube.specs.CubeSummarizable.{bottoms_of, graphs_of}
+use Rattle.olap_cube.specs.Told.{tuple_of, tuples_in}
+use Rattle.olap_dimensions.specs.Dimensions.{schemas_of}
+use Rattle.olap_dimensions.specs.Found.{IsCubeCounterexampleFound, chosen_of}
+use Rattle.olap_frozen.specs.declared.founding.Found.{Found}
+use Rattle.olap_cube_cex.specs.CubeCexText.{cube_counterexample_text, cube_sums_text, dimensions_text}
+use Rattle.olap_cube_cex.specs.Founds.{AreFound}
+use Rattle.olap_cube_cex.proofs.DimensionLemmas.{founds_are}
+use Rattle.olap_cube_cex.proofs.SumLemmas.{text_is}
+use Rattle.olap_cube_cex.proofs.printing.print_cube.Goals as goal
+
+pub drawn_of_each-requires : goal.drawn_of_each-requires
+drawn_of_each-requires c =
+    let ss = schemas_of c.args.cube.now in
+    let found = c.requires.found in
+    subst (λ (fs : List Found). AreFound ss fs) (sym c.items-founds.ensures)
+    (founds_are ss (tuple_of c.args.target.now) c.args.found.now.founds found.is_one.is_bad.chosen found.sized)
+
+pub lines-requires-clause-found : goal.lines-requires-clause-found
+lines-requires-clause-found c =
+    let ss = schemas_of c.args.cube.now in
+    let found = c.requires.found in
+    subst (λ (fs : List Found). AreFound ss fs) (sym c.items-founds.ensures)
+    (founds_are ss (tuple_of c.args.target.now) c.args.found.now.founds found.is_one.is_bad.chosen found.sized)
+
+pub returns : goal.returns
+returns c =
+    let ss = schemas_of c.args.cube.now in
+    let fs = c.items-founds.result.now in
+    let cs = tuple_of c.args.target.now in
+    let sources = tuples_in c.args.sources.now in
+    let views = option_map pos c.sum_of-views.result in
+    let found = subst (λ (fs : List Found). IsCubeCounterexampleFound ss cs sources fs) (sym c.items-founds.ensures)
+    c.requires.found in
+    record {
+      text = c.from_vec.ensures ∙ c.in_ok-out.ensures
+          ∙ ap (λ (to : List CatId). dimensions_text 1 ss (map chosen_of fs) ++ cube_sums_text (graphs_of ss)
+          (bottoms_of (map chosen_of fs)) (map (λ (c : CatId). c.0) to) (Some (pos 1)) views) c.items-to.ensures
+          ∙ text_is ss cs sources fs c.in_ok-rooms.rooms.items found c.in_ok-rooms.ensures c.count_ways-ways.result
+          c.count_ways-ways.ensures views c.sum_of-views.ensures
+          ∙ ap (λ (fs : List Found). cube_counterexample_text ss (map chosen_of fs) cs sources) c.items-founds.ensures;
+    }
