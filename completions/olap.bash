@@ -49,7 +49,7 @@ _olap_places() {
     rollup) places='fffc' ;;
     check) places='ff' ;;
     format | audit) places='f' ;;
-    summarizable) places='fcd' ;;
+    summarizable | prove | prove-short) places='fcd' ;;
     verify | verify-short) places='ffcd' ;;
     implies) places='frn' ;;
     satisfiable | frozen) places='fc' ;;
@@ -67,7 +67,7 @@ _olap() {
     current=${words[-1]}
     if [[ ${#words[@]} -le 2 ]]; then
         compopt +o default
-        for each in rollup check format summarizable verify verify-short implies satisfiable frozen audit store answer append retract generate; do
+        for each in rollup check format summarizable prove verify prove-short verify-short implies satisfiable frozen audit store answer append retract generate; do
             if [[ $each == "$current"* ]]; then COMPREPLY+=("$each"); fi
         done
         return

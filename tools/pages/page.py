@@ -16,6 +16,7 @@ MOST_LINES = 50  # frozen lines of a category
 MOST_DRAWN, MOST_DRAWN_LARGE, LARGE = 6, 1, 20  # pictures of a category's ways; of a schema with more categories than LARGE
 MOST_OPEN = 6  # counterexamples that aren't folded
 MOST_ENOUGH = 8  # lists of a target that stand in the first table
+MOST_REASONS = 60  # lines of a certificate
 MOST_NAMED = 12  # categories of which nothing is known that are told by name
 
 STYLE = """
@@ -49,8 +50,8 @@ th, td { border: 0 solid var(--rule); border-width: 0 1px 1px 0; padding: .3rem 
 thead th { border-top-width: 1px; } tr > :first-child { border-left-width: 1px; }
 th { background: var(--band); font-weight: 600; max-width: 11rem; overflow-wrap: break-word; min-width: 3.5rem; }
 tbody th { position: sticky; left: 0; min-width: 6rem; } thead th:first-child { position: sticky; left: 0; z-index: 1; }
-td { white-space: nowrap; } td.yes { color: var(--yes); font-weight: 600; } td.no a { color: var(--no); display: inline-block;
-  padding: .1rem .2rem; margin: -.1rem -.2rem; }
+td { white-space: nowrap; } td.yes { color: var(--yes); font-weight: 600; } td a { display: inline-block;
+  padding: .1rem .2rem; margin: -.1rem -.2rem; } td.no a { color: var(--no); } td.yes a { color: var(--yes); }
 td.other { background: var(--none); color: var(--soft); } table.text td { white-space: normal; }
 table.text thead th { max-width: none; } .list { font-weight: 600; }
 .alarm { color: var(--no); border: 2px solid var(--no); border-radius: .4rem; padding: .6rem .8rem; font-weight: 600; }
@@ -168,6 +169,7 @@ class Page:
         self.facts, self.name = facts, name
         self.places = places_of(facts.text)
         self.shown, self.shown_of = grouped(facts)
+        self.certified = {key: f"yes-{number}" for number, key in enumerate(facts.certificates, 1)}
         large = len(facts.schema.categories) > LARGE
         self.most_drawn = MOST_DRAWN_LARGE if large else MOST_DRAWN
         wanted = dict(self.wanted())
@@ -205,6 +207,7 @@ class Page:
             ("audit", "Audit", self.audit()),
             *([("table", "Targets and sources", self.tables())] if can_have_facts else []),
             *([("counterexamples", "Counterexamples", self.counterexamples())] if can_have_facts else []),
+            *([("certificates", "Certificates", self.certificates())] if can_have_facts else []),
             ("frozen", "All ways up", self.frozen()),
             ("text", "Text", self.text()),
         ]
@@ -271,11 +274,11 @@ class Page:
         group = el("div", table, class_="scroll", tabindex="0", role="group", aria_label="What is enough for each target")
         return many(many(intro, group) if rows else "", told)
 
-    @staticmethod
-    def enough_for(found: Enough) -> Markup | str:
+    def enough_for(self, found: Enough) -> Markup | str:
         if found.lists == [()]:
             return "no fact can reach it"
-        items = [el("span", " + ".join(sources), class_="list") for sources in found.lists[:MOST_ENOUGH]]
+        items = [el("span", self.to_certificate(found.target, sources, " + ".join(sources)), class_="list")
+                 for sources in found.lists[:MOST_ENOUGH]]
         more = len(found.lists) - len(items)
         notes = [f"and {counted(more, 'more list')}: tools/least lists them"] if more else []
         if not found.is_whole:
@@ -309,6 +312,11 @@ class Page:
         constraints = el("details", el("summary", "The constraints in full"), el("ul", items)) if items else ""
         side = el("div", legend, constraints, class_="side")
         return el("div", self.figure(("schema",), caption, "Picture of the schema"), side, class_="row")
+
+    def to_certificate(self, target: str, sources: tuple[str, ...], *text: object) -> Markup:
+        """What is said, as a link where there is a certificate."""
+        anchor = self.certified.get((target, sources))
+        return el("a", *text, href=f"#{anchor}") if anchor else many(*text)
 
     def to_line(self, number: int, text: str) -> Markup:
         return el("a", text, href=f"#line-{number}")
@@ -421,7 +429,9 @@ class Page:
             return el("td", "no answer", class_="none")
         shown = self.shown_of.get((target, sources))
         if shown is None:
-            return el("td", "yes", class_="yes")
+            about = el("span", f": certificate for {target} from {listed(sources)}", class_="hidden")
+            told = ("yes", about) if (target, sources) in self.certified else ("yes",)
+            return el("td", self.to_certificate(target, sources, *told), class_="yes")
         where = el("span", f": counterexample for {target} from {listed(sources)}", class_="hidden")
         return el("td", el("a", f"no, {fate(shown.example)}", where, href=f"#{shown.anchor}"), class_="no")
 
@@ -462,6 +472,36 @@ class Page:
                         f"Counterexample {shown.number}"),
             el("p", el("a", "Back to the tables", href="#table"), class_="back"),
             open=None if folded else "open",
+        )
+
+    def certificates(self) -> Markup:
+        known = self.facts.certificates
+        late = len(self.facts.yes) - len(known)
+        words = el("code", "olap prove-short SCHEMA TARGET SOURCE..")
+        told = el("p", f"Of {counted(late, 'yes', 'yeses')} none came in the time of this page: ", words, " writes one.") if late else ""
+        if not known:
+            return told or el("p", "None: no answer was yes.")
+        intro = el("p", "Why each yes is right, line by line: in each, a case is split by what may be, or closed for a reason. ",
+                   el("code", "docs/FORMATS.md"), ", \u201cCertificates\u201d, says what the lines mean. Whoever doubts one puts it into a file and "
+                   "asks ", el("code", "olap verify-short SCHEMA FILE TARGET SOURCE.."), ", or without the program ",
+                   el("code", "tools/check-certificate SCHEMA FILE TARGET SOURCE.."), ".")
+        by_target = defaultdict(list)
+        for target, sources in known:
+            by_target[target].append(sources)
+        groups = [many(el("h3", f"Target {target}"), el("div", [self.certificate(target, one) for one in lists], class_="group"))
+                  for target, lists in by_target.items()]
+        return many(intro, groups, told)
+
+    def certificate(self, target: str, sources: tuple[str, ...]) -> Markup:
+        lines = self.facts.certificates[target, sources].splitlines()
+        words = el("code", " ".join(["olap prove-short SCHEMA", target, *sources]))
+        more = len(lines) - MOST_REASONS
+        return el(
+            "details",
+            el("summary", f"{target} from {listed(sources) or 'no source'}: {counted(len(lines), 'line')}"),
+            el("p", words, f" writes it{f', with {more:,} more lines' if more > 0 else ''}.", id=self.certified[target, sources]),
+            self.lines_pre(lines[:MOST_REASONS]),
+            el("p", el("a", "Back to the tables", href="#table"), class_="back"),
         )
 
     def text(self) -> Markup:

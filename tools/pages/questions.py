@@ -17,6 +17,7 @@ from .program import Fault, Late, Program
 
 SCHEMA = "schema.txt"
 TOO_MANY = "refused frozen TooMany"
+WITHOUT_PAIRS = 0.94  # of the time with pairs, what is left for the rest without them
 Key = TypeVar("Key")
 Value = TypeVar("Value")
 
@@ -42,6 +43,7 @@ class Facts:
     always: dict[tuple[str, str], bool] = field(default_factory=dict)  # does each member of the child take the edge?
     enough: dict[str, Enough] = field(default_factory=dict)
     answers: dict[tuple[str, tuple[str, ...]], texts.Counterexample | None] = field(default_factory=dict)
+    certificates: dict[tuple[str, tuple[str, ...]], str] = field(default_factory=dict)  # of yes's, in the short form
     asks_pairs: bool = True
 
     @property
@@ -61,6 +63,18 @@ class Facts:
         """The questions of these lists: those whose sources all lie below the target."""
         lower = {target: set(below(self.schema, target)) for target in self.targets}
         return [(target, sources) for sources in lists for target in self.targets if lower[target].issuperset(sources)]
+
+    @property
+    def enough_lists(self) -> list[tuple[str, tuple[str, ...]]]:
+        """The lists of sources that were found to be enough, with their targets."""
+        return [(target, sources) for target in self.targets if target in self.enough for sources in self.enough[target].lists]
+
+    @property
+    def yes(self) -> list[tuple[str, tuple[str, ...]]]:
+        """The questions of the page that were answered by yes: first what is enough, then by target."""
+        others = [(target, sources) for target in self.targets for sources in [*self.singles, *self.pairs]]
+        answered = [key for key in dict.fromkeys(self.enough_lists + others) if key in self.answers]
+        return [key for key in answered if self.answers[key] is None]
 
     @property
     def barren(self) -> list[str]:
@@ -141,7 +155,7 @@ class Asker:
 
 
 def facts_of(program: Program, progress: Progress, most_for_pairs: int, seconds: float) -> Facts:
-    """Asks all: what is enough first, then single sources, edges, the audit, ways and pairs, as time allows."""
+    """Asks all: what is enough first, then single sources, edges, the audit, ways, pairs and certificates, as time allows."""
     began = time.monotonic()
     text = (program.folder / SCHEMA).read_bytes().decode(errors="replace")
     schema = texts.in_own_words(texts.schema_of(program.must("format", SCHEMA).text), text)
@@ -151,7 +165,7 @@ def facts_of(program: Program, progress: Progress, most_for_pairs: int, seconds:
 
     def until(part: float) -> float:
         """The end of a part of the time; where pairs aren't asked, theirs is left to the others."""
-        return began + seconds * (part if facts.asks_pairs else min(1, part / 0.85))
+        return began + seconds * (part if facts.asks_pairs else min(1, part / WITHOUT_PAIRS))
 
     def findings(_: str, left: float) -> list[str]:
         return program.must("audit", SCHEMA, seconds=left).text.split("\n")[:-2]
@@ -179,6 +193,10 @@ def facts_of(program: Program, progress: Progress, most_for_pairs: int, seconds:
         if example and seeing != (example.views or 0):
             raise Fault(f"of {' '.join(sources) or 'no source'} {seeing} see the fact, and the program says {example.views}", 70)
         return example
+
+    def certificate(question: tuple[str, tuple[str, ...]], left: float) -> str:
+        target, sources = question
+        return program.must("prove-short", SCHEMA, target, *sources, seconds=left).text
 
     def shown(target: str, sources: tuple[str, ...]) -> texts.Counterexample | None:
         key = (target, sources)
@@ -211,7 +229,9 @@ def facts_of(program: Program, progress: Progress, most_for_pairs: int, seconds:
         known = lists.get(category)
         facts.ways[category] = Ways(known, leasts.get(category), category in lists and known is None)
     if len(facts.barren) < len(schema.bottoms):
-        facts.answers |= asker.all("pairs of sources", facts.asked(facts.pairs), remembered(facts, summarizable), until(1))
+        facts.answers |= asker.all("pairs of sources", facts.asked(facts.pairs), remembered(facts, summarizable), until(0.95))
+        certificates = asker.all("certificates", facts.yes, certificate, until(1))
+        facts.certificates = {question: certificates[question] for question in facts.yes if question in certificates}
     return facts
 
 

@@ -8,6 +8,8 @@ from concurrent.futures import ThreadPoolExecutor
 from pathlib import Path
 from typing import Iterator
 
+from certificates import checker
+
 from .common import (EXAMPLES, IN_TIME, TOP, Element, categories_of, differs_from_counterexample, differs_from_frozen, edges_of, named, olap,
                      page_of, picture_faults, picture_of, pictures_of_page, tool)
 
@@ -156,7 +158,7 @@ def cell_faults(top: Element, text: str, file: Path, sample: int = 1) -> Iterato
         for (target, sources), (status, said) in zip(answered, answers):
             cell, what = cells[target, sources], f"{target} from {' and '.join(sources)}"
             if status == 0:
-                if cell.text() != "yes":
+                if cell.text().split(":")[0] != "yes":
                     yield f"{what}: the page says {cell.text()}, and the program yes"
                 continue
             views = said.split()[-1]
@@ -173,6 +175,28 @@ def cell_faults(top: Element, text: str, file: Path, sample: int = 1) -> Iterato
             wrong = differs_from_counterexample(drawn[f"Counterexample {anchor}"], said, edges)
             if wrong:
                 yield f"{what}: {wrong}"
+
+
+def certificate_faults(top: Element, file: Path) -> Iterator[str]:
+    """Each yes of the tables leads to a certificate, which the program accepts for its words, and so does tools/check-certificate."""
+    places = {place.all("p")[0].attributes["id"]: place for place in top.all(id="certificates")[0].all("details")}
+    for (target, sources), cell in cells_of(top).items():
+        if not cell.text().startswith("yes"):
+            continue
+        place = places[cell.all("a")[0].attributes["href"][1:]] if cell.all("a") else None
+        words = place.all("code")[0].text().split()[3:] if place else []
+        if words != [target, *sources]:
+            yield f"the yes of {target} from {' and '.join(sources)} leads to {words}"
+    with tempfile.TemporaryDirectory() as folder:
+        text = Path(folder) / "certificate"
+        for place in places.values():
+            words, lines = place.all("code")[0].text().split()[3:], place.all("pre")[0].text() + "\n"
+            if "more lines" in place.all("p")[0].text():
+                continue
+            text.write_text(lines)
+            said = olap("verify-short", str(file), str(text), *words)[1].strip(), checker.said(file.read_bytes(), words, lines.encode())
+            if said != ("accepted", "accepted"):
+                yield f"of the certificate for {words} the program and check-certificate say {said}"
 
 
 def page_faults(file: Path) -> Iterator[str]:
@@ -197,6 +221,7 @@ def page_faults(file: Path) -> Iterator[str]:
     if set(cells_of(top)) != wanted or any(cell.text() == "no answer" for cell in cells_of(top).values()):
         yield f"its tables have {len(cells_of(top))} cells, and not {len(wanted)} answers"
     yield from cell_faults(top, done.stdout, file)
+    yield from certificate_faults(top, file)
 
 
 def large(folder: Path) -> Path:
