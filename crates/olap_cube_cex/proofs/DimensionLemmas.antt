@@ -37,6 +37,10 @@ category_at (s ∷ ss) [] i a l = absurd a
 category_at (s ∷ ss) (c ∷ cs) zero a l = a.0
 category_at (s ∷ ss) (c ∷ cs) (suc i) a l = category_at ss cs i a.1 (omega arith)
 
+-- as many numbers are of as many categories
+pub counted : (ss : List Schema) (cs : List CatId) → AreCategoriesOf ss (map (λ c. c.0) cs) → length cs ≡ length ss
+counted ss cs a = sym (length-map cs (λ (c : CatId). c.0)) ∙ category_count ss (map (λ c. c.0) cs) a
+
 -- one of the sources
 pub source_at : (ss : List Schema) (sources : List Tuple) (i : ℕ) (t : Tuple)
     → All (AreCategoriesOf ss) (tuples_in sources) → i < length sources → t ≡ get_or sources i t
@@ -64,13 +68,21 @@ found_count [] (f ∷ fs) a = absurd a
 found_count (s ∷ ss) [] a = absurd a
 found_count (s ∷ ss) (f ∷ fs) a = ap suc (found_count ss fs a.1)
 
-pub found_at : (ss : List Schema) (fs : List Found) (i : ℕ) (d : Found) → AreFound ss fs → i < length ss
+found_at : (ss : List Schema) (fs : List Found) (i : ℕ) (d : Found) → AreFound ss fs → i < length ss
     → IsFoundOf (get_or ss i no_schema) (get_or fs i d)
 found_at [] fs i d a l = absurd (omega arith)
 found_at (s ∷ ss) [] i d a l = absurd a
 found_at (s ∷ ss) (f ∷ fs) zero d a l = a.0
 found_at (s ∷ ss) (f ∷ fs) (suc i) d a l = found_at ss fs i d a.1 (omega arith)
 
+-- the program's schema and frozen dimension of a place
+pub found_here : (ss : List Schema) (fs : List Found) (i : ℕ) (s : Schema) (f : Found) → AreFound ss fs → i < length ss
+    → s ≡ get_or ss i no_schema → f ≡ get_or fs i f → IsFoundOf s f
+found_here ss fs i s f a l schema_is found_is =
+    subst (λ (t : Schema). IsFoundOf t f) (sym schema_is)
+    (subst (λ (h : Found). IsFoundOf (get_or ss i no_schema) h) (sym found_is) (found_at ss fs i f a l))
+
+-- the numbers of the roots' categories
 pub roots_are : (fs : List Found)
     → map (λ (c : CatId). c.0) (map (λ (f : Found). f.frozen.root) fs) ≡ bottoms_of (map chosen_of fs)
 roots_are [] = refl

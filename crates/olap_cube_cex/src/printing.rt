@@ -119,7 +119,7 @@ fn push_sums(
     Ok(())
 }
 
-// The lines of the choice, with so many ways.
+// The lines of a choice, with that SUM from the sources.
 fn lines(
     alloc: Global,
     cube: &Cube,
@@ -136,10 +136,10 @@ fn lines(
         (option_map pos views)) }
 {
     let fact = root_names(alloc, cube, founds)?;
-    let at = names(alloc, cube, target)?;
+    let goal = names(alloc, cube, target)?;
     let mut out = Vec::new(alloc);
     push_dimensions(alloc, &mut out, cube, founds)?;
-    push_sums(alloc, &mut out, &fact, &at, views)?;
+    push_sums(alloc, &mut out, &fact, &goal, views)?;
     Ok(out)
 }
 

@@ -1,13 +1,12 @@
 -- One dimension more.
-use Rattle.std.proofs.Common.{◌≡◌, ◌+◌, ◌<◌, ◌++◌, length, get_or, sym, subst, ap, ◌∙◌, arith}
+use Rattle.std.proofs.Common.{◌≡◌, ◌+◌, ◌<◌, ◌++◌, length, get_or, ap, ◌∙◌, arith}
 use Rattle.olap_ast.specs.Schema.{Schema}
 use Rattle.olap_dimensions.specs.Dimensions.{no_schema, schemas_of}
 use Rattle.olap_dimensions.specs.Found.{chosen_of}
 use Rattle.olap_frozen.specs.declared.founding.Found.{Found}
 use Rattle.olap_schema.specs.Schemas.{schema_of}
 use Rattle.olap_cube_cex.specs.CubeCexText.{dimension_text}
-use Rattle.olap_cube_cex.specs.Founds.{IsFoundOf}
-use Rattle.olap_cube_cex.proofs.DimensionLemmas.{found_at, found_count}
+use Rattle.olap_cube_cex.proofs.DimensionLemmas.{found_count, found_here}
 use Rattle.olap_cube_cex.proofs.TextLemmas.{dimensions_all, dimensions_more}
 use Rattle.olap_cube_cex.proofs.dimensions.push_dimensions.Goals as goal
 
@@ -17,13 +16,8 @@ bounds-founds-i c =
 
 pub push_dimension-requires : goal.push_dimension-requires
 push_dimension-requires c =
-    let ss = schemas_of c.args.cube.now in
-    let i = c.dimensions.i in
-    let f = c.index-founds-i.result in
-    let l : i < length ss = omega (arith, c.len-i-end.ensures.count) in
-    subst (λ (s : Schema). IsFoundOf s f) (sym c.schema.ensures)
-    (subst (λ (h : Found). IsFoundOf (get_or ss i no_schema) h) (sym c.index-founds-i.is)
-    (found_at ss c.args.founds.now i f c.requires l))
+    found_here (schemas_of c.args.cube.now) c.args.founds.now c.dimensions.i (schema_of c.schema.result.now)
+    c.index-founds-i.result c.requires (omega (arith, c.len-i-end.ensures.count)) c.schema.ensures c.index-founds-i.is
 
 pub dimensions-preserved : goal.dimensions-preserved
 dimensions-preserved c =

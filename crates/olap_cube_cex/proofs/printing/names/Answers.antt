@@ -1,23 +1,20 @@
 -- One name more.
 use Rattle.std.proofs.Common.{◌≡◌, ◌<◌, ℕ, List, [], length, get_or, map, sym, subst, ap, ◌∙◌, arith}
 use Rattle.std.specs.List.{join_with_byte}
-use Rattle.std.proofs.lemmas.List.{get_or-map, length-map, take_all}
+use Rattle.std.proofs.lemmas.List.{get_or-map, take_all}
 use Rattle.olap_ast.specs.Schema.{Schema}
 use Rattle.olap_base.specs.Graph.{Graph, IsCategory}
 use Rattle.olap_base.specs.declared.ids.CatId.{CatId}
 use Rattle.olap_cube.specs.CubeSummarizable.{graphs_of}
-use Rattle.olap_dimensions.specs.Dimensions.{AreCategoriesOf, no_schema, schemas_of}
+use Rattle.olap_dimensions.specs.Dimensions.{no_schema, schemas_of}
 use Rattle.olap_graph.specs.Lookups.{name_of_category}
 use Rattle.olap_cube_cex.specs.CubeCexText.{names_of}
-use Rattle.olap_cube_cex.proofs.DimensionLemmas.{category_at, category_count}
+use Rattle.olap_cube_cex.proofs.DimensionLemmas.{category_at, counted}
 use Rattle.olap_cube_cex.proofs.TextLemmas.{join_more, name_at, names_count}
 use Rattle.olap_cube_cex.proofs.printing.names.Goals as goal
 
 abbrev numbers : List CatId → List ℕ
 numbers cs = map (λ (c : CatId). c.0) cs
-
-counted : (ss : List Schema) (cs : List CatId) → AreCategoriesOf ss (numbers cs) → length cs ≡ length ss
-counted ss cs a = sym (length-map cs (λ (c : CatId). c.0)) ∙ category_count ss (numbers cs) a
 
 pub bounds-categories-i : goal.bounds-categories-i
 bounds-categories-i c =

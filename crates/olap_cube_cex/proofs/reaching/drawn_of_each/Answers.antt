@@ -5,8 +5,8 @@ use Rattle.olap_dimensions.specs.Dimensions.{no_schema, schemas_of}
 use Rattle.olap_frozen.specs.declared.founding.Found.{Found}
 use Rattle.olap_frozen.specs.declared.frozen.Room.{Room}
 use Rattle.olap_schema.specs.Schemas.{schema_of}
-use Rattle.olap_cube_cex.specs.Founds.{AreDrawn, IsDrawn, IsFoundOf}
-use Rattle.olap_cube_cex.proofs.DimensionLemmas.{drawn_all, drawn_more, found_at, found_count}
+use Rattle.olap_cube_cex.specs.Founds.{AreDrawn, IsDrawn}
+use Rattle.olap_cube_cex.proofs.DimensionLemmas.{drawn_all, drawn_more, found_count, found_here}
 use Rattle.olap_cube_cex.proofs.reaching.drawn_of_each.Goals as goal
 
 pub bounds-founds-i : goal.bounds-founds-i
@@ -15,13 +15,8 @@ bounds-founds-i c =
 
 pub drawn-requires : goal.drawn-requires
 drawn-requires c =
-    let ss = schemas_of c.args.cube.now in
-    let i = c.dimensions.i in
-    let f = c.index-founds-i.result in
-    let l : i < length ss = omega (arith, c.len-i-end.ensures.count) in
-    subst (λ (s : Schema). IsFoundOf s f) (sym c.schema.ensures)
-    (subst (λ (h : Found). IsFoundOf (get_or ss i no_schema) h) (sym c.index-founds-i.is)
-    (found_at ss c.args.founds.now i f c.requires l))
+    found_here (schemas_of c.args.cube.now) c.args.founds.now c.dimensions.i (schema_of c.schema.result.now)
+    c.index-founds-i.result c.requires (omega (arith, c.len-i-end.ensures.count)) c.schema.ensures c.index-founds-i.is
 
 pub dimensions-preserved : goal.dimensions-preserved
 dimensions-preserved c =

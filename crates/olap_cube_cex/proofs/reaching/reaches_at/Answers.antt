@@ -1,22 +1,21 @@
 -- A way in the rows is one in the instance.
 use Rattle.std.proofs.Common.{◌≡◌, ◌<◌, ◌↔◌, ℕ, List, length, get_or, map, sym, subst, ap, ◌∙◌, arith}
 use Rattle.std.specs.Prelude.{IsTrue}
-use Rattle.std.proofs.lemmas.List.{get_or-map, length-map}
+use Rattle.std.proofs.lemmas.List.{get_or-map}
 use Rattle.olap_base.specs.declared.ids.CatId.{CatId}
 use Rattle.olap_cex.specs.CexFor.{IsWay}
 use Rattle.olap_cube.specs.Told.{tuple_of}
 use Rattle.olap_cube.specs.declared.tuples.Tuple.{Tuple}
 use Rattle.olap_dimensions.specs.Dimensions.{AreCategoriesOf, schemas_of}
 use Rattle.olap_ast.specs.Schema.{Schema}
-use Rattle.olap_cube_cex.proofs.DimensionLemmas.{category_count, drawn_count}
+use Rattle.olap_cube_cex.proofs.DimensionLemmas.{counted, drawn_count}
 use Rattle.olap_cube_cex.proofs.WayLemmas.{way_at}
 use Rattle.olap_cube_cex.proofs.reaching.reaches_at.Goals as goal
 
 -- a tuple has as many categories as there are dimensions
-counted : (ss : List Schema) (t : Tuple) (items : List CatId) → items ≡ t.categories → AreCategoriesOf ss (tuple_of t)
+as_many : (ss : List Schema) (t : Tuple) (items : List CatId) → items ≡ t.categories → AreCategoriesOf ss (tuple_of t)
     → length items ≡ length ss
-counted ss t items e a =
-    ap length e ∙ sym (length-map t.categories (λ (c : CatId). c.0)) ∙ category_count ss (tuple_of t) a
+as_many ss t items e a = ap length e ∙ counted ss t.categories a
 
 -- its i-th
 here : (t : Tuple) (items : List CatId) (i : ℕ) (d : CatId) → items ≡ t.categories → i < length items
@@ -43,14 +42,14 @@ pub bounds-from-i : goal.bounds-from-i
 bounds-from-i c = omega (
   arith,
   c.requires.inside,
-  counted (schemas_of c.args.cube.now) c.args.source.now c.items-from.result.now c.items-from.ensures c.requires.source,
+  as_many (schemas_of c.args.cube.now) c.args.source.now c.items-from.result.now c.items-from.ensures c.requires.source,
 )
 
 pub bounds-to-i : goal.bounds-to-i
 bounds-to-i c = omega (
   arith,
   c.requires.inside,
-  counted (schemas_of c.args.cube.now) c.args.target.now c.items-to.result.now c.items-to.ensures c.requires.target,
+  as_many (schemas_of c.args.cube.now) c.args.target.now c.items-to.result.now c.items-to.ensures c.requires.target,
 )
 
 pub is_way-requires-clause-root : goal.is_way-requires-clause-root
@@ -69,7 +68,7 @@ is_way-requires-clause-source c =
     let l : c.args.i < length c.items-from.result.now = omega (
       arith,
       c.requires.inside,
-      counted ss c.args.source.now c.items-from.result.now c.items-from.ensures c.requires.source,
+      as_many ss c.args.source.now c.items-from.result.now c.items-from.ensures c.requires.source,
     ) in
     let at = here c.args.source.now c.items-from.result.now c.args.i (record { 0 = 0 }) c.items-from.ensures l in
     omega (arith, w.source, at, ap length c.deref.ensures.value)
@@ -85,12 +84,12 @@ returns c =
     let l : c.args.i < length c.items-from.result.now = omega (
       arith,
       c.requires.inside,
-      counted ss c.args.source.now c.items-from.result.now c.items-from.ensures c.requires.source,
+      as_many ss c.args.source.now c.items-from.result.now c.items-from.ensures c.requires.source,
     ) in
     let m : c.args.i < length c.items-to.result.now = omega (
       arith,
       c.requires.inside,
-      counted ss c.args.target.now c.items-to.result.now c.items-to.ensures c.requires.target,
+      as_many ss c.args.target.now c.items-to.result.now c.items-to.ensures c.requires.target,
     ) in
     let at = here c.args.source.now c.items-from.result.now c.args.i (record { 0 = 0 }) c.items-from.ensures l in
     let to = here c.args.target.now c.items-to.result.now c.args.i (record { 0 = 0 }) c.items-to.ensures m in
