@@ -5,6 +5,7 @@ mod FrontierLemmas
 mod StrataLemmas
 mod SearchLemmas
 mod TableLemmas
+mod JoiningLemmas
 mod PassingLemmas
 mod LinkingLemmas
 mod SplitLemmas

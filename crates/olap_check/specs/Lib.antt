@@ -9,6 +9,7 @@ pub mod Linking
 pub mod Strata
 pub mod Rows
 pub mod Tables
+pub mod Joining
 pub mod Passing
 pub mod Above
 pub mod Seen

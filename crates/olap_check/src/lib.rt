@@ -10,6 +10,7 @@ mod asked;
 mod blocks;
 mod checking;
 mod gathering;
+mod joining;
 mod laws;
 mod legality;
 mod linking;

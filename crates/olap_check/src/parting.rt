@@ -6,15 +6,15 @@ ghost use Rattle.olap_check.specs.Rows.{IsBounded, Splits};
 ghost use Rattle.olap_check.specs.Passing.{IsStratified};
 ghost use Rattle.olap_check.specs.Tables.{HasTwo, IsFirstSplit, IsLeastSplit, IsTable, MarksAbove};
 
+use crate::joining::joined;
 use crate::rising::{NONE, rise};
 use crate::strata::mark;
 use olap_base::{MemberId, Memory};
 use olap_instance::Instance;
 use std::alloc::Global;
 
-/// For each member and each category the member of it that is reached; or the first member that reaches two members of
-/// one category. A row of the table for each member.
-pub(crate) fn table(
+/// The table, by a walk upwards from each member; or the first member that reaches two members of one category.
+fn walked(
     alloc: Global,
     instance: &Instance,
     categories: u16,
@@ -36,6 +36,24 @@ pub(crate) fn table(
         cells.extend_from_slice(&row)?;
     }
     Ok(Ok(cells))
+}
+
+/// For each member and each category the member of it that is reached; or the first member that reaches two members of
+/// one category. A row of the table for each member. Where rows can't be joined, walks find out why.
+pub(crate) fn table(
+    alloc: Global,
+    instance: &Instance,
+    categories: u16,
+) -> Result<Result<Vec<u32>, u32>, Memory>
+    requires { IsBounded instance.now categories }
+    ensures ok { let count = length instance.now in
+        IfOk result (λ r. IfOk r (λ cells. IsTable instance.now categories count cells.items)) }
+    ensures err { IfOk result (λ r. IfErr r (IsFirstSplit instance.now categories)) }
+{
+    match joined(alloc, instance, categories)? {
+        Some(cells) => Ok(Ok(cells)),
+        None => walked(alloc, instance, categories),
+    }
 }
 
 /// The member of the category that x reaches. One look at the table.

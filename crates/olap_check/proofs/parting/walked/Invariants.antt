@@ -2,7 +2,7 @@
 use Rattle.std.proofs.Common.{◌≡◌}
 use Rattle.std.specs.Prelude.{vec_len}
 use Rattle.olap_check.specs.Tables.{IsTable}
-use Rattle.olap_check.proofs.parting.table.Given as goal
+use Rattle.olap_check.proofs.parting.walked.Given as goal
 
 abbrev pub invariant-members : goal.invariant-members
 invariant-members l = record {

@@ -3,7 +3,7 @@ use Rattle.std.proofs.Common.{◌<◌, ◌+◌, ◌++◌, length, ap, sym, subst
 use Rattle.olap_check.specs.Rows.{IsRise}
 use Rattle.olap_check.specs.Tables.{IsTable}
 use Rattle.olap_check.proofs.TableLemmas.{table_start, table_step, first_split}
-use Rattle.olap_check.proofs.parting.table.Goals as goal
+use Rattle.olap_check.proofs.parting.walked.Goals as goal
 
 pub members-init : goal.members-init
 members-init c = record {

@@ -1,0 +1,12 @@
+-- A row more, and in the end all of them.
+use Rattle.std.proofs.Common.{arith, below_more}
+use Rattle.olap_check.proofs.JoiningLemmas.{rows_table}
+use Rattle.olap_check.proofs.joining.is_whole.Goals as goal
+
+pub members-preserved : goal.members-preserved
+members-preserved c = below_more _ _ c.members.invariant c.in-Some.ensures.has
+
+pub returns : goal.returns
+returns c = λ _.
+    rows_table c.requires.bounded c.requires.rows.size
+    (λ x h. c.members.invariant x (omega (arith, h, c.members-test.false, c.members-x-end.ensures.count)))
