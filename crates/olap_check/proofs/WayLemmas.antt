@@ -4,7 +4,7 @@ use Rattle.std.specs.FinSet.{FinSet, contains, intersection, contains-intersecti
 use Rattle.std.specs.Ordering.{nat_cmp}
 use Rattle.std.specs.Cmp.{nat_cmp_total}
 use Rattle.std.proofs.lemmas.Bool.{and_parts}
-use Rattle.olap_base.specs.Instance.{Instance, IsBelow, IsMemberOf, Reaches, ReachesCategory, ReachesVia}
+use Rattle.olap_base.specs.Instance.{Instance, IsBelow, IsMemberOf, ReachesCategory, ReachesVia}
 use Rattle.olap_base.specs.Steps.{Steps.here, Steps.step, Steps-append, Steps-from_reaches, reaches_from_Steps}
 use Rattle.olap_ast.specs.Formula.{HasPath}
 use Rattle.olap_eval.specs.Shapes.{HasEdgeThere, IsShape}
@@ -12,7 +12,7 @@ use Rattle.olap_eval.proofs.ShapeLemmas.{IsFollowed, follow_done, follow_step, p
 use Rattle.olap_check.specs.Above.{IsAbove, is_present}
 use Rattle.olap_check.specs.Blocks.{AreMembersFrom, IsBlock, Selects}
 use Rattle.olap_check.specs.Seen.{IsKept, StepsVia}
-use Rattle.olap_check.specs.Tables.{HasTable, cell}
+use Rattle.olap_check.specs.Tables.{cell}
 use Rattle.olap_check.proofs.AboveLemmas.{above_shape, member_is, own_place, present_member}
 
 -- a member of the first category has one of the second as a parent, by the row of x

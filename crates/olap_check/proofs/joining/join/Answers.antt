@@ -1,5 +1,5 @@
 -- A place more, with what stands there in either row.
-use Rattle.std.proofs.Common.{◌<◌, ◌∙◌, length, get_or, arith, get_or-set_other}
+use Rattle.std.proofs.Common.{◌<◌, ◌∙◌, length, arith, get_or-set_other}
 use Rattle.olap_check.proofs.JoiningLemmas.{join_more}
 use Rattle.olap_check.proofs.joining.join.Goals as goal
 
