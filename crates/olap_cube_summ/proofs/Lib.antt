@@ -1,0 +1,12 @@
+-- Lemmas.
+mod BelowLemmas
+mod SearchLemmas
+mod PatternLemmas
+mod ChoiceLemmas
+mod DimensionLemmas
+mod AnswerLemmas
+mod WayLemmas
+mod FamilyLemmas
+mod LeastLemmas
+mod TupleLemmas
+mod SettingLemmas

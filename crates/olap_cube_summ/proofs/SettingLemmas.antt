@@ -1,0 +1,121 @@
+-- The questions of a cube, and the answers to them.
+use Rattle.std.proofs.Common.{◌≡◌, ℕ, zero, suc, ◌+◌, ◌<◌, ◌≤◌, ◌↔◌, ◌++◌, List, [], ◌∷◌, Bool, true, false, length, get_or, refl, ap, sym, subst, ◌∙◌, inl, inr, arith}
+use Rattle.std.specs.Prelude.{All, IsTrue, slice_index, slice_index_or}
+use Rattle.std.proofs.lemmas.List.{get_or-map, get_or_append_left, get_or_push, length-map}
+use Rattle.olap_ast.specs.Schema.{Schema}
+use Rattle.olap_base.specs.Graph.{IsCategory, IsHierarchy}
+use Rattle.olap_base.specs.Limits.{most_views}
+use Rattle.olap_bits.specs.declared.sets.CatSet.{CatSet}
+use Rattle.olap_cube.specs.CubeSummarizable.{CubeSummarizableExactlyIfNoneBad, IsCubeSummarizable, graphs_of}
+use Rattle.olap_dimensions.specs.Dimensions.{AreCategoriesOf, no_schema}
+use Rattle.olap_patterns.specs.Families.{AreUnions, IsOrdered}
+use Rattle.olap_patterns.specs.Masks.{CanBeBad, all_of}
+use Rattle.olap_patterns.specs.declared.families.Family.{Family}
+use Rattle.olap_cube_summ.specs.Dimensions.{AreFamiliesOf}
+use Rattle.olap_cube_summ.specs.Patterns.{AreFamilies}
+use Rattle.olap_cube_summ.specs.Questions.{AreQuestions, AreQuestionsOf, no_question, sources_in, target_in}
+use Rattle.olap_cube_summ.specs.declared.questions.Question.{Question}
+use Rattle.olap_cube_summ.proofs.AnswerLemmas.{none_bad}
+use Rattle.olap_cube_summ.proofs.BelowLemmas.{below_suc}
+
+same_item : {A : Type 0} (xs : List A) (k : ℕ) (d e : A) → k < length xs → get_or xs k d ≡ get_or xs k e
+same_item [] k d e l = absurd (omega arith)
+same_item (x ∷ xs) zero d e l = refl
+same_item (x ∷ xs) (suc k) d e l = same_item xs k d e (let z : suc k < suc (length xs) = l in omega arith)
+
+-- ---- categories of each dimension
+
+-- there are as many as dimensions
+pub as_many : (ss : List Schema) (cs : List ℕ) → AreCategoriesOf ss cs → length cs ≡ length ss
+as_many [] [] a = refl
+as_many [] (c ∷ cs) a = absurd a
+as_many (s ∷ ss) [] a = absurd a
+as_many (s ∷ ss) (c ∷ cs) a = let e = as_many ss cs a.1 in omega arith
+
+category_at : (ss : List Schema) (cs : List ℕ) → AreCategoriesOf ss cs → (i : ℕ) → i < length ss
+    → IsCategory (slice_index_or ss i no_schema).graph (slice_index cs i)
+category_at [] cs a i l = absurd (omega arith)
+category_at (s ∷ ss) [] a i l = absurd a
+category_at (s ∷ ss) (c ∷ cs) a zero l = a.0
+category_at (s ∷ ss) (c ∷ cs) a (suc i) l =
+    category_at ss cs a.1 i (let z : suc i < suc (length ss) = l in omega arith)
+
+-- the questions are ones of the schemas
+pub are_questions_of : (ss : List Schema) (c : List ℕ) (sources : List (List ℕ)) (qs : List Question) → AreCategoriesOf ss c
+    → All (AreCategoriesOf ss) sources → length sources ≤ most_views → AreQuestions c sources qs → AreQuestionsOf ss qs
+are_questions_of ss c sources qs t all few asked = record {
+  count = count;
+  each = λ i l. let m : i < length qs = subst (λ w. i < w) (sym count) l in record {
+    target = subst (IsCategory (slice_index_or ss i no_schema).graph)
+        (ap (λ w. slice_index w i) (sym asked.targets) ∙ get_or-map target_in qs i no_question 0 m)
+        (category_at ss c t i l);
+    sources = λ k d o. let n : k < length sources = subst (λ w. k < w)
+        (length-map (get_or qs i no_question).sources (λ x. x.0) ∙ asked.counts i no_question m) o in
+        subst (IsCategory (slice_index_or ss i no_schema).graph)
+        (ap (λ w. slice_index w i) (sym (asked.rows k n))
+        ∙ get_or-map (λ q. slice_index (sources_in q) k) qs i no_question 0 m
+        ∙ same_item (sources_in (get_or qs i no_question)) k 0 d o)
+        (category_at ss (slice_index_or sources k []) (all k [] n) i l);
+    few = subst (λ w. w ≤ most_views) (sym (asked.counts i no_question m)) few;
+  };
+}
+  where
+    count : length qs ≡ length ss
+    count = sym (length-map qs target_in) ∙ ap length asked.targets ∙ as_many ss c t
+
+-- ---- families of each dimension
+
+-- one dimension more
+pub families_next : (ss : List Schema) (qs : List Question) (i : ℕ) (all next : List (List Family)) (new : List Family)
+    (s : Schema) (q : Question) → i < length qs → s ≡ slice_index_or ss i no_schema → q ≡ get_or qs i q → length all ≡ i
+    → next ≡ all ++ new ∷ [] → AreFamilies s q new
+    → ((j : ℕ) → j < i → AreFamilies (slice_index_or ss j no_schema) (slice_index_or qs j no_question) (slice_index_or all j []))
+    → (j : ℕ) → j < i + 1
+    → AreFamilies (slice_index_or ss j no_schema) (slice_index_or qs j no_question) (slice_index_or next j [])
+families_next ss qs i all next new s q l x y n made a before j m = elim (below_suc j i (omega arith)) [
+  | inl o ↦ subst (AreFamilies (slice_index_or ss j no_schema) (slice_index_or qs j no_question))
+      (sym (ap (λ w. slice_index_or w j []) made
+      ∙ get_or_append_left all (new ∷ []) [] j (subst (λ w. j < w) (sym n) o))) (before j o)
+  | inr e ↦ subst (λ w. AreFamilies (slice_index_or ss w no_schema) (slice_index_or qs w no_question)
+      (slice_index_or next w [])) (sym e) here
+]
+  where
+    here : AreFamilies (slice_index_or ss i no_schema) (slice_index_or qs i no_question) (slice_index_or next i [])
+    here = subst (AreFamilies (slice_index_or ss i no_schema) (slice_index_or qs i no_question))
+        (sym (ap (λ w. slice_index_or w i []) made ∙ get_or_push all new [] i n))
+        (subst (λ w. AreFamilies w (slice_index_or qs i no_question) new) x
+        (subst (λ w. AreFamilies s w new) (y ∙ same_item qs i q no_question l) a))
+
+pub hierarchies_next : (ss : List Schema) (i : ℕ) (s : Schema) → s ≡ slice_index_or ss i no_schema → IsHierarchy s.graph
+    → ((j : ℕ) → j < i → IsHierarchy (slice_index_or ss j no_schema).graph) → (j : ℕ) → j < i + 1
+    → IsHierarchy (slice_index_or ss j no_schema).graph
+hierarchies_next ss i s e h before j l = elim (below_suc j i (omega arith)) [
+  | inl o ↦ before j o
+  | inr q ↦ subst (λ w. IsHierarchy (slice_index_or ss w no_schema).graph) (sym q)
+      (subst (λ (w : Schema). IsHierarchy w.graph) e h)
+]
+
+pub all_hierarchies : (ss : List Schema) (i : ℕ) → length ss ≤ i
+    → ((j : ℕ) → j < i → IsHierarchy (slice_index_or ss j no_schema).graph) → All IsHierarchy (graphs_of ss)
+all_hierarchies ss i n h k d l =
+    let m : k < length ss = subst (λ w. k < w) (length-map ss (λ s. s.graph)) l in
+    subst IsHierarchy (sym (get_or-map (λ (s : Schema). s.graph) ss k no_schema d m)) (h k (omega arith))
+
+-- they are ordered
+pub all_ordered : (ss : List Schema) (qs : List Question) (fss : List (List Family)) → AreFamiliesOf ss qs fss
+    → All IsOrdered fss
+all_ordered ss qs fss f k d l = subst IsOrdered (same_item fss k [] d l) (f.each k (subst (λ w. k < w) f.count l)).ordered
+
+-- ---- where no choice is bad
+
+pub summarizable_is : CubeSummarizableExactlyIfNoneBad → (ss : List Schema) (c : List ℕ) (sources : List (List ℕ))
+    (qs : List Question) (fss : List (List Family)) → AreQuestions c sources qs → AreQuestionsOf ss qs
+    → AreFamiliesOf ss qs fss → All IsHierarchy (graphs_of ss) → (n : ℕ) → length sources ≡ n
+    → (sets items : List (CatSet 4)) → AreUnions fss sets → items ≡ sets → (mask : ℕ) → mask ≡ all_of n → (b : Bool)
+    → IsTrue b ↔ CanBeBad n items mask → b ≡ false → IsCubeSummarizable ss c sources
+summarizable_is law ss c sources qs fss asked of families hier n e sets items u same mask full b is lost =
+    (law ss c sources hier).1 (none_bad ss c sources qs fss asked of families sets u none)
+  where
+    none : CanBeBad (length sources) sets (all_of (length sources)) → ⊥
+    none bad = let z : false ≡ true = sym lost ∙ is.1 (subst (CanBeBad n items) (sym full)
+        (subst (λ w. CanBeBad n w (all_of n)) (sym same) (subst (λ w. CanBeBad w sets (all_of w)) e bad))) in cc

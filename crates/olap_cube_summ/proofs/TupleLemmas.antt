@@ -1,0 +1,68 @@
+-- Tuples of categories, and the questions that are made of them.
+use Rattle.std.proofs.Common.{◌≡◌, ℕ, zero, suc, ◌<◌, List, [], ◌∷◌, eqb, length, map, get_or, refl, ap, sym, subst, ◌∙◌, arith}
+use Rattle.std.specs.Prelude.{All, slice_index, slice_index_or}
+use Rattle.std.specs.Bool.{Decides}
+use Rattle.std.proofs.lemmas.Bool.Decides.{Decides-eqb}
+use Rattle.std.proofs.lemmas.Grind.{same_number_lists}
+use Rattle.std.proofs.lemmas.List.{get_or-map, length-map}
+use Rattle.olap_base.specs.declared.ids.CatId.{CatId}
+use Rattle.olap_cube.specs.Told.{tuple_of, tuples_in}
+use Rattle.olap_cube.specs.declared.tuples.Tuple.{Tuple}
+use Rattle.olap_cube_summ.specs.Questions.{AreQuestions, IsColumn, no_question, sources_in, target_in}
+use Rattle.olap_cube_summ.specs.declared.questions.Question.{Question}
+
+-- ---- tuples
+
+abbrev category_of_number : ℕ → CatId
+category_of_number n = record { 0 = n }
+
+back : (xs : List CatId) → map category_of_number (map (λ c. c.0) xs) ≡ xs
+back [] = refl
+back (x ∷ xs) = ap (λ w. x ∷ w) (back xs)
+
+-- categories with the same numbers are the same
+pub same_by_numbers : (xs ys : List CatId) → map (λ (c : CatId). c.0) xs ≡ map (λ (c : CatId). c.0) ys → xs ≡ ys
+same_by_numbers xs ys e = sym (back xs) ∙ ap (map category_of_number) e ∙ back ys
+
+pub same_category : (a b : CatId) → Decides (eqb a.0 b.0) (a ≡ b)
+same_category a b = let d = Decides-eqb a.0 b.0 in (
+  λ e. (let q = d.0 e in λ i. record { 0 = q i }),
+  λ e. d.1 (ap (λ (c : CatId). c.0) e),
+)
+
+-- the tuple at a place
+pub tuple_at : (ts : List Tuple) (k : ℕ) (t : Tuple) → k < length ts → t ≡ get_or ts k t
+    → slice_index_or (tuples_in ts) k [] ≡ tuple_of t
+tuple_at ts k t l e = get_or-map tuple_of ts k t [] l ∙ ap tuple_of (sym e)
+
+-- what all tuples keep, it keeps
+pub kept_at : (P : List ℕ → Type 0) (ts : List Tuple) (k : ℕ) (t : Tuple) → k < length ts → t ≡ get_or ts k t
+    → All P (tuples_in ts) → P (tuple_of t)
+kept_at P ts k t l e all = subst P (tuple_at ts k t l e)
+    (all k [] (subst (λ w. k < w) (sym (length-map ts tuple_of)) l))
+
+-- ---- questions
+
+same_item : {A : Type 0} (xs : List A) (k : ℕ) (d e : A) → k < length xs → get_or xs k d ≡ get_or xs k e
+same_item [] k d e l = absurd (omega arith)
+same_item (x ∷ xs) zero d e l = refl
+same_item (x ∷ xs) (suc k) d e l = same_item xs k d e (let z : suc k < suc (length xs) = l in omega arith)
+
+-- what they ask together
+pub are_questions : (c : List ℕ) (sources : List (List ℕ)) (n i : ℕ) (qs : List Question) → length c ≡ n
+    → All (λ t. length t ≡ n) sources → i ≡ n → length qs ≡ i
+    → ((j : ℕ) → j < i → target_in (slice_index_or qs j no_question) ≡ slice_index c j)
+    → ((j : ℕ) → j < i → IsColumn j sources (sources_in (slice_index_or qs j no_question))) → AreQuestions c sources qs
+are_questions c sources n i qs lc ls e lq targets columns = record {
+  targets = same_number_lists (map target_in qs) c (length-map qs target_in ∙ lq ∙ e ∙ sym lc)
+      (λ k l. let m : k < length qs = subst (λ w. k < w) (length-map qs target_in) l in
+      get_or-map target_in qs k no_question 0 m ∙ targets k (subst (λ w. k < w) lq m));
+  counts = λ k d l. let t = columns k (subst (λ w. k < w) lq l) in
+      subst (λ (q : Question). length q.sources ≡ length sources) (same_item qs k no_question d l)
+      (sym (length-map (get_or qs k no_question).sources (λ (x : CatId). x.0)) ∙ t.count);
+  rows = λ k l. same_number_lists (map (λ q. slice_index (sources_in q) k) qs) (slice_index_or sources k [])
+      (length-map qs (λ q. slice_index (sources_in q) k) ∙ lq ∙ e ∙ sym (ls k [] l))
+      (λ j m. let o : j < length qs = subst (λ w. j < w) (length-map qs (λ q. slice_index (sources_in q) k)) m in
+      get_or-map (λ q. slice_index (sources_in q) k) qs j no_question 0 o
+      ∙ (columns j (subst (λ w. j < w) lq o)).each k l);
+}

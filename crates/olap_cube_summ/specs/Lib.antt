@@ -1,0 +1,4 @@
+-- Definitions that contracts cite.
+pub mod Questions
+pub mod Patterns
+pub mod Dimensions
