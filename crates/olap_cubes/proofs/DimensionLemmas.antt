@@ -1,0 +1,97 @@
+-- One dimension after the other.
+--     schemas_from, legals_from   the files from one of them on: the step of this one, and the files behind it
+--     schemas_end, legals_end     no file is left
+--     made_more, made_all         instances that were made for the graphs of so many dimensions
+--     file_is                     the bytes of a file's name
+--     target_fits                 there are as many categories as instances
+use Rattle.std.proofs.Common.{◌≡◌, ◌+◌, ◌<◌, ◌≤◌, ℕ, zero, suc, List, [], ◌∷◌, ◌++◌, length, get_or, drop, take, ap, refl, subst, sym, arith, ◌∙◌}
+use Rattle.std.specs.Prelude.{codes}
+use Rattle.std.proofs.lemmas.List.{drop_all, drop_more, get_or-map, length-map, take_all}
+use Rattle.std.specs.String.{string_bytes}
+use Rattle.std.specs.declared.string.String.{String}
+use Rattle.std.specs.declared.alloc.Global.{Global}
+use Rattle.olap_base.specs.Graph.{Graph}
+use Rattle.olap_base.specs.Instance.{Instance}
+use Rattle.olap_ast.specs.Schema.{Schema}
+use Rattle.olap_cube.specs.CubeSummarizable.{graphs_of}
+use Rattle.olap_cube_views.specs.Dimensions.{AreMadeFor}
+use Rattle.olap_base.specs.declared.ids.CatId.{CatId}
+use Rattle.olap_dimensions.specs.Dimensions.{AreCategoriesOf, no_schema}
+use Rattle.olap_instance.specs.Made.{IsMadeFor}
+use Rattle.olap_order.specs.Order.{Done, and_then}
+use Rattle.olap_order.specs.Steps.{schema_file}
+use Rattle.olap_order.specs.Words.{numbers_of, texts}
+use Rattle.olap_reading.specs.Steps.{legal_file}
+use Rattle.olap_cubes.specs.Steps.{legal_files, numbered, schema_files}
+
+-- the bytes of a file's name
+pub file_is : (files : List (String Global)) (k : ℕ) (file : String Global) → k < length files
+    → file ≡ get_or files k file → string_bytes file ≡ get_or (texts files) k []
+file_is files k file h e = ap string_bytes e ∙ sym (get_or-map string_bytes files k file [] h)
+
+pub schemas_from : (files : List (List ℕ)) (k : ℕ) (read : List Schema) → k < length files
+    → schema_files (k + 1) read (drop k files)
+    ≡ and_then (schema_file (numbered (codes "schema") (k + 1)) (get_or files k []))
+    (λ s. schema_files (k + 1 + 1) (read ++ s ∷ []) (drop (k + 1) files))
+schemas_from files k read h =
+    let next : suc (k + 1) ≡ k + 1 + 1 = omega arith in
+    ap (schema_files (k + 1) read) (drop_more files k [] h)
+    ∙ ap (λ n. and_then (schema_file (numbered (codes "schema") (k + 1)) (get_or files k []))
+    (λ s. schema_files n (read ++ s ∷ []) (drop (k + 1) files))) next
+
+pub schemas_end : (files : List (List ℕ)) (k : ℕ) (read : List Schema) → length files ≤ k
+    → schema_files (k + 1) read (drop k files) ≡ Done read
+schemas_end files k read h = ap (schema_files (k + 1) read) (drop_all k files h)
+
+pub legals_from : (schemas : List Schema) (files : List (List ℕ)) (k : ℕ) (read : List Instance) → k < length schemas
+    → k < length files → legal_files (k + 1) read (drop k schemas) (drop k files)
+    ≡ and_then (legal_file (get_or schemas k no_schema) (numbered (codes "instance") (k + 1)) (get_or files k []))
+    (λ i. legal_files (k + 1 + 1) (read ++ i ∷ []) (drop (k + 1) schemas) (drop (k + 1) files))
+legals_from schemas files k read l h =
+    let next : suc (k + 1) ≡ k + 1 + 1 = omega arith in
+    ap (λ ss. legal_files (k + 1) read ss (drop k files)) (drop_more schemas k no_schema l)
+    ∙ ap (legal_files (k + 1) read (get_or schemas k no_schema ∷ drop (k + 1) schemas)) (drop_more files k [] h)
+    ∙ ap (λ n. and_then (legal_file (get_or schemas k no_schema) (numbered (codes "instance") (k + 1)) (get_or files k []))
+    (λ i. legal_files n (read ++ i ∷ []) (drop (k + 1) schemas) (drop (k + 1) files))) next
+
+pub legals_end : (schemas : List Schema) (files : List (List ℕ)) (k : ℕ) (read : List Instance) → length schemas ≤ k
+    → legal_files (k + 1) read (drop k schemas) (drop k files) ≡ Done read
+legals_end schemas files k read l =
+    ap (λ ss. legal_files (k + 1) read ss (drop k files)) (drop_all k schemas l)
+
+-- ---- instances that were made for graphs
+
+made_next : (schemas : List Schema) (k : ℕ) (is : List Instance) (i : Instance) → k < length schemas
+    → AreMadeFor (take k (graphs_of schemas)) is → IsMadeFor (get_or schemas k no_schema).graph i
+    → AreMadeFor (take (suc k) (graphs_of schemas)) (is ++ i ∷ [])
+made_next [] k is i h a m = absurd (omega arith)
+made_next (s ∷ schemas) zero [] i h a m = (m, tt)
+made_next (s ∷ schemas) zero (j ∷ is) i h a m = absurd a
+made_next (s ∷ schemas) (suc k) [] i h a m = absurd a
+made_next (s ∷ schemas) (suc k) (j ∷ is) i h a m = (a.0, made_next schemas k is i (omega arith) a.1 m)
+
+-- one instance more
+pub made_more : (schemas : List Schema) (k : ℕ) (is all : List Instance) (i : Instance) → k < length schemas
+    → AreMadeFor (take k (graphs_of schemas)) is → IsMadeFor (get_or schemas k no_schema).graph i → all ≡ is ++ i ∷ []
+    → AreMadeFor (take (k + 1) (graphs_of schemas)) all
+made_more schemas k is all i h a m e =
+    let next : suc k ≡ k + 1 = omega arith in
+    subst (λ n. AreMadeFor (take n (graphs_of schemas)) all) next
+    (subst (AreMadeFor (take (suc k) (graphs_of schemas))) (sym e) (made_next schemas k is i h a m))
+
+-- all of them
+pub made_all : (schemas : List Schema) (k : ℕ) (is : List Instance) → length schemas ≤ k
+    → AreMadeFor (take k (graphs_of schemas)) is → AreMadeFor (graphs_of schemas) is
+made_all schemas k is h a =
+    let few : length (graphs_of schemas) ≤ k = omega (arith, length-map schemas (λ (s : Schema). s.graph)) in
+    subst (λ (gs : List Graph). AreMadeFor gs is) (take_all k (graphs_of schemas) few) a
+
+-- a target has as many categories as there are instances
+pub target_fits : (schemas : List Schema) (target : List CatId) (is : List Instance)
+    → AreCategoriesOf schemas (numbers_of target) → AreMadeFor (graphs_of schemas) is → length target ≡ length is
+target_fits [] [] [] a m = refl
+target_fits [] [] (i ∷ is) a m = absurd m
+target_fits [] (c ∷ target) is a m = absurd a
+target_fits (s ∷ schemas) [] is a m = absurd a
+target_fits (s ∷ schemas) (c ∷ target) [] a m = absurd m
+target_fits (s ∷ schemas) (c ∷ target) (i ∷ is) a m = ap suc (target_fits schemas target is a.1 m.1)

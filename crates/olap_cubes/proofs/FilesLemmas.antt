@@ -1,0 +1,157 @@
+-- Files that are read in a loop: a step and what comes behind it are a step.
+--     file_followed, file_ended   a step and the rest
+--     as_ended                    a step that ended, as the code hands it on
+--     no_memory                   a step that wants memory
+--     AreReadTo                   what is read of the files that are left is read of all
+use Rattle.std.proofs.Common.{◌≡◌, ◌+◌, ℕ, List, [], ◌∷◌, ◌++◌, Option, None, Some, Result, Ok, Err, MatchOption, ap, subst, sym, refl, arith, ◌∙◌}
+use Rattle.std.specs.Result.{IsErrAnd}
+use Rattle.olap_base.specs.Files.{Files}
+use Rattle.olap_base.specs.declared.outside.Library.{Ghosts as Library}
+use Rattle.olap_order.specs.Judged.{IsLater}
+use Rattle.olap_order.specs.Order.{Order, Done, Told, Read, ReadsNoFile, and_then}
+use Rattle.olap_order.specs.Taken.{ComesOut, ComesOutTold, FileStep, NoAnswer}
+use Rattle.olap_order.specs.declared.replies.Stop.{Stop}
+use Rattle.olap_order.specs.declared.replies.Stop.TheVariants as stops
+use Rattle.olap_order.proofs.Stepping.{ended, followed, step_reads_none}
+
+-- later than later is later
+after : {D : Type 0} {L : Library D} {old mid new : D} → IsLater L old mid → IsLater L mid new → IsLater L old new
+after a b = let m = a.faults in let n = b.faults in record { faults = omega (arith, m, n); sure = b.sure ∙ a.sure }
+
+-- a library that wasn't asked
+same_state : {D : Type 0} {L : Library D} {old : D} → IsLater L old old
+same_state = record { faults = omega arith; sure = refl }
+
+module _ {T Q : Type 0} (next : T → Order Q) where
+  comes_out_then : (files : Files) (step : Order T) (x : T) (y : Q) → ComesOut files step x → ComesOut files (next x) y
+      → ComesOut files (and_then step next) y
+  comes_out_then files (Done z) x y e f = subst (λ w. ComesOut files (next w) y) (sym e) f
+  comes_out_then files (Told status bytes) x y e f = absurd e
+  comes_out_then files (Read name rest) x y e f =
+      go (files name) (λ text h. comes_out_then files (rest text) x y h f) e
+    where
+      go : (o : Option (List ℕ)) → ((text : List ℕ) → ComesOut files (rest text) x
+          → ComesOut files (and_then (rest text) next) y)
+          → MatchOption o ⊥ (λ text. ComesOut files (rest text) x)
+          → MatchOption o ⊥ (λ text. ComesOut files (and_then (rest text) next) y)
+      go None f e = absurd e
+      go (Some text) f e = f text e
+
+  comes_out_told_then : (files : Option Files) (step : Order T) (x : T) (y : Q) → ComesOutTold files step x
+      → ComesOutTold files (next x) y → ComesOutTold files (and_then step next) y
+  comes_out_told_then None step x y e f = λ none.
+      let is : step ≡ Done x = e (step_reads_none NoAnswer next step none) in
+      let here : ReadsNoFile (next x) = subst (λ (o : Order T). ReadsNoFile (and_then o next)) is none in
+      ap (λ (o : Order T). and_then o next) is ∙ f here
+  comes_out_told_then (Some files) step x y e f = comes_out_then files step x y e f
+
+module _ {D T Q X Y : Type 0} {L : Library D} {old mid : D} {step : Order T} {meaning : X → T} {other : Y → Q} where
+  -- where a step goes on, the step behind it is that of both
+  pub file_followed : {x : X} → FileStep L old mid step meaning (Ok x) → (next : T → Order Q) → {new : D}
+      → (result : Result Y Stop) → FileStep L mid new (next (meaning x)) other result
+      → FileStep L old new (and_then step next) other result
+  file_followed {x} s next (Ok y) r = record {
+    comes_out = comes_out_told_then next (L.contents old) step (meaning x) (other y) s.comes_out
+        (subst (λ files. ComesOutTold files (next (meaning x)) (other y)) s.same r.comes_out);
+    ends = tt;
+    same = r.same ∙ s.same;
+    later = after s.later r.later;
+  }
+  file_followed {x} s next (Err stop) r = record {
+    comes_out = tt;
+    ends = followed s next r.ends;
+    same = r.same ∙ s.same;
+    later = after s.later r.later;
+  }
+
+  -- where it ends, both do
+  pub file_ended : {stop : Stop} → FileStep L old mid step meaning (Err stop) → (next : T → Order Q)
+      → FileStep L old mid (and_then step next) other (Err stop)
+  file_ended {stop} s next = record {
+    comes_out = tt;
+    ends = ended s next refl;
+    same = s.same;
+    later = s.later;
+  }
+
+module _ {D T X : Type 0} {L : Library D} {old new : D} {step : Order T} {meaning : X → T} where
+  -- the code hands on why a step ended
+  pub as_ended : (result : Result X Stop) (stop : Stop) → IsErrAnd result (λ e. e ≡ stop)
+      → FileStep L old new step meaning (Err stop) → FileStep L old new step meaning result
+  as_ended (Ok x) stop is s = absurd is
+  as_ended (Err e) stop is s = subst (λ e. FileStep L old new step meaning (Err e)) (sym is) s
+
+  -- a step that wants memory, whatever it is
+  pub no_memory : IsLater L old new → L.contents new ≡ L.contents old → FileStep L old new step meaning (Err stops.Memory)
+  no_memory later same = record {
+    comes_out = tt;
+    ends = record { right = tt; verdict = tt; read = λ is. absurd (cc); later = later };
+    same = same;
+    later = later;
+  }
+
+module _ {D T X : Type 0} {L : Library D} {old new : D} {step : Order T} {meaning : X → T} where
+  -- what was read, as the code has it
+  pub as_read : (x : X) → FileStep L old new step (λ y. y) (Ok (meaning x)) → FileStep L old new step meaning (Ok x)
+  as_read x s = record { comes_out = s.comes_out; ends = tt; same = s.same; later = s.later }
+
+  -- a step ends as it does whatever it would have come to
+  pub ended_so : {stop : Stop} → FileStep {T = T} {X = T} L old new step (λ y. y) (Err stop)
+      → FileStep L old new step meaning (Err stop)
+  ended_so s = record { comes_out = tt; ends = s.ends; same = s.same; later = s.later }
+
+-- ---- one file after the other: `behind` is what comes when so many are read, and what they came to
+
+module _ {D T : Type 0} (L : Library D) (start : D) (order : Order (List T)) (behind : ℕ → List T → Order (List T)) where
+  pub record AreReadTo (k : ℕ) (now : D) (read : List T) : Type 0 where
+    pub rest : (new : D) (result : Result (List T) Stop) → FileStep L now new (behind k read) (λ x. x) result
+        → FileStep L start new order (λ x. x) result
+    pub same : L.contents now ≡ L.contents start
+    pub later : IsLater L start now
+
+  pub read_none : order ≡ behind 0 [] → AreReadTo 0 start []
+  read_none e = record {
+    rest = λ new result s. subst (λ o. FileStep L start new o (λ x. x) result) (sym e) s;
+    same = refl;
+    later = same_state;
+  }
+
+  pub read_more : {X : Type 0} (k : ℕ) (now new : D) (read all : List T) (step : Order T) (meaning : X → T) (x : X)
+      → AreReadTo k now read
+      → behind k read ≡ and_then step (λ t. behind (k + 1) (read ++ t ∷ []))
+      → FileStep L now new step meaning (Ok x) → all ≡ read ++ meaning x ∷ [] → AreReadTo (k + 1) new all
+  read_more k now new read all step meaning x r e s is = subst (AreReadTo (k + 1) new) (sym is) (record {
+    rest = λ last result t. r.rest last result (subst (λ o. FileStep L now last o (λ x. x) result) (sym e)
+        (file_followed s (λ t. behind (k + 1) (read ++ t ∷ [])) result t));
+    same = s.same ∙ r.same;
+    later = after r.later s.later;
+  })
+
+  -- where a file isn't taken, the order ends as it does there
+  pub read_ends : {X : Type 0} (k : ℕ) (now new : D) (read : List T) (step : Order T) (meaning : X → T) (stop : Stop)
+      → AreReadTo k now read
+      → behind k read ≡ and_then step (λ t. behind (k + 1) (read ++ t ∷ []))
+      → FileStep L now new step meaning (Err stop) → FileStep {T = List T} {X = List T} L start new order (λ x. x) (Err stop)
+  read_ends k now new read step meaning stop r e s = r.rest new (Err stop)
+      (subst (λ o. FileStep {T = List T} {X = List T} L now new o (λ x. x) (Err stop)) (sym e)
+      (file_ended s (λ t. behind (k + 1) (read ++ t ∷ []))))
+
+  -- a file was taken, and then memory was wanted
+  pub read_wants : {X : Type 0} (k : ℕ) (now new : D) (read : List T) (step : Order T) (meaning : X → T) (x : X)
+      → AreReadTo k now read → FileStep L now new step meaning (Ok x)
+      → FileStep {T = List T} {X = List T} L start new order (λ x. x) (Err stops.Memory)
+  read_wants k now new read step meaning x r s = no_memory (after r.later s.later) (s.same ∙ r.same)
+
+  -- all are read
+  pub read_all : (k : ℕ) (now : D) (read : List T) → AreReadTo k now read → behind k read ≡ Done read
+      → FileStep L start now order (λ x. x) (Ok read)
+  read_all k now read r e = r.rest now (Ok read) (record {
+    comes_out = out (L.contents now);
+    ends = tt;
+    same = refl;
+    later = same_state;
+  })
+    where
+      out : (files : Option Files) → ComesOutTold files (behind k read) read
+      out None = λ none. e
+      out (Some files) = subst (λ o. ComesOut files o read) (sym e) refl

@@ -1,0 +1,5 @@
+-- Lemmas.
+mod FilesLemmas
+mod DimensionLemmas
+mod NameLemmas
+mod WordLemmas

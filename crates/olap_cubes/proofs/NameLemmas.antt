@@ -1,0 +1,85 @@
+-- Names of categories that are looked up, one dimension after the other.
+--     AreNamedTo    the names that are left say what all names are
+use Rattle.std.proofs.Common.{◌≡◌, ◌+◌, ◌<◌, ◌≤◌, ℕ, zero, suc, List, [], ◌∷◌, ◌++◌, Option, None, Some, length, get_or, drop, take, ap, subst, sym, refl, arith, ◌∙◌, append-nil, append_assoc}
+use Rattle.std.specs.Prelude.{option_and_then, option_map}
+use Rattle.std.proofs.lemmas.List.{drop_all, drop_more, take_all}
+use Rattle.olap_base.specs.Graph.{IsCategory}
+use Rattle.olap_ast.specs.Schema.{Schema}
+use Rattle.olap_dimensions.specs.Dimensions.{AreCategoriesOf, no_schema}
+use Rattle.olap_graph.specs.Lookups.{category_named}
+use Rattle.olap_cubes.specs.Steps.{categories_named}
+
+-- nothing is put in front
+none_before : (o : Option (List ℕ)) → o ≡ option_map (λ rest. [] ++ rest) o
+none_before None = refl
+none_before (Some rest) = refl
+
+-- one number is put in front, and then others
+one_before : (cs : List ℕ) (c : ℕ) (o : Option (List ℕ)) → option_map (λ rest. cs ++ rest) (option_map (λ rest. c ∷ rest) o)
+    ≡ option_map (λ rest. (cs ++ c ∷ []) ++ rest) o
+one_before cs c None = refl
+one_before cs c (Some rest) = ap Some (sym (append_assoc cs (c ∷ []) rest))
+
+categories_next : (schemas : List Schema) (k : ℕ) (cs : List ℕ) (c : ℕ) → k < length schemas
+    → AreCategoriesOf (take k schemas) cs → IsCategory (get_or schemas k no_schema).graph c
+    → AreCategoriesOf (take (suc k) schemas) (cs ++ c ∷ [])
+categories_next [] k cs c h a i = absurd (omega arith)
+categories_next (s ∷ schemas) zero [] c h a i = (i, tt)
+categories_next (s ∷ schemas) zero (d ∷ cs) c h a i = absurd a
+categories_next (s ∷ schemas) (suc k) [] c h a i = absurd a
+categories_next (s ∷ schemas) (suc k) (d ∷ cs) c h a i = (a.0, categories_next schemas k cs c (omega arith) a.1 i)
+
+module _ (schemas : List Schema) (names : List (List ℕ)) where
+  pub record AreNamedTo (k : ℕ) (cs : List ℕ) : Type 0 where
+    pub named : categories_named schemas names
+        ≡ option_map (λ rest. cs ++ rest) (categories_named (drop k schemas) (drop k names))
+    pub categories : AreCategoriesOf (take k schemas) cs
+
+  pub named_none : AreNamedTo 0 []
+  named_none = record { named = none_before (categories_named schemas names); categories = tt }
+
+  -- from one name on: the category of this one, and those of the names behind it
+  named_from : (k : ℕ) (cs : List ℕ) → k < length schemas → k < length names → AreNamedTo k cs → (o : Option ℕ)
+      → category_named (get_or schemas k no_schema).graph (get_or names k []) ≡ o
+      → categories_named schemas names ≡ option_map (λ rest. cs ++ rest) (option_and_then
+      (λ c. option_map (λ rest. c ∷ rest) (categories_named (drop (k + 1) schemas) (drop (k + 1) names))) o)
+  named_from k cs l h r o e =
+      r.named
+      ∙ ap (λ ss. option_map (λ rest. cs ++ rest) (categories_named ss (drop k names))) (drop_more schemas k no_schema l)
+      ∙ ap (λ ns. option_map (λ rest. cs ++ rest)
+      (categories_named (get_or schemas k no_schema ∷ drop (k + 1) schemas) ns)) (drop_more names k [] h)
+      ∙ ap (λ p. option_map (λ rest. cs ++ rest) (option_and_then
+      (λ c. option_map (λ rest. c ∷ rest) (categories_named (drop (k + 1) schemas) (drop (k + 1) names))) p)) e
+
+  pub named_more : (k : ℕ) (cs all : List ℕ) (c : ℕ) → k < length schemas → k < length names → AreNamedTo k cs
+      → category_named (get_or schemas k no_schema).graph (get_or names k []) ≡ Some c
+      → IsCategory (get_or schemas k no_schema).graph c → all ≡ cs ++ c ∷ [] → AreNamedTo (k + 1) all
+  named_more k cs all c l h r e i is =
+      let next : suc k ≡ k + 1 = omega arith in
+      subst (AreNamedTo (k + 1)) (sym is) (record {
+        named = named_from k cs l h r (Some c) e
+            ∙ one_before cs c (categories_named (drop (k + 1) schemas) (drop (k + 1) names));
+        categories = subst (λ n. AreCategoriesOf (take n schemas) (cs ++ c ∷ [])) next
+            (categories_next schemas k cs c l r.categories i);
+      })
+
+  -- a name isn't known
+  pub named_not : (k : ℕ) (cs : List ℕ) → k < length schemas → k < length names → AreNamedTo k cs
+      → category_named (get_or schemas k no_schema).graph (get_or names k []) ≡ None
+      → categories_named schemas names ≡ None
+  named_not k cs l h r e = named_from k cs l h r None e
+
+  -- all are known
+  pub named_all : (k : ℕ) (cs : List ℕ) → length names ≤ k → AreNamedTo k cs → categories_named schemas names ≡ Some cs
+  named_all k cs h r =
+      r.named
+      ∙ ap (λ ns. option_map (λ rest. cs ++ rest) (categories_named (drop k schemas) ns)) (drop_all k names h)
+      ∙ last (drop k schemas)
+    where
+      last : (ss : List Schema) → option_map (λ rest. cs ++ rest) (categories_named ss []) ≡ Some cs
+      last [] = ap Some (append-nil cs)
+      last (s ∷ ss) = ap Some (append-nil cs)
+
+  pub categories_all : (k : ℕ) (cs : List ℕ) → length schemas ≤ k → AreNamedTo k cs → AreCategoriesOf schemas cs
+  categories_all k cs h r =
+      subst (λ (ss : List Schema). AreCategoriesOf ss cs) (take_all k schemas h) r.categories

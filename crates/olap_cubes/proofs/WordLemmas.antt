@@ -1,0 +1,44 @@
+-- The words of a command over several dimensions.
+--     seen_is_no_usage    a command isn't what is answered by the usage
+--     cut_words           the words of a command, cut after the first and the second kind of files
+--     too_few             there are too few words for a file of each dimension
+use Rattle.std.proofs.Common.{◌≡◌, ◌<◌, ◌≤◌, ℕ, List, [], ◌∷◌, None, length, drop, take, ap, sym, arith, ◌∙◌}
+use Rattle.std.proofs.lemmas.List.{drop_all, drop-map, take-map}
+use Rattle.std.specs.String.{string_bytes}
+use Rattle.std.specs.declared.string.String.{String}
+use Rattle.std.specs.declared.alloc.Global.{Global}
+use Rattle.olap_order.specs.Arguments.{by_two}
+use Rattle.olap_order.specs.Families.{IsNoUsage}
+use Rattle.olap_order.specs.Order.{Told}
+use Rattle.olap_order.specs.Words.{texts}
+use Rattle.olap_order.specs.declared.status.Status.TheVariants.{Usage}
+use Rattle.olap_cubes.specs.Commands.{cubeview_by, cubeview_order}
+use Rattle.olap_cubes.specs.Seen.{HasFiles, seen}
+use Rattle.olap_cubes.specs.declared.words.Command.{Command}
+use Rattle.olap_cubes.specs.declared.words.Command.TheVariants as code
+
+-- the order of a command isn't the usage
+pub seen_is_no_usage : (command : Command) → HasFiles command → IsNoUsage (seen command)
+seen_is_no_usage (code.CubeView schemas instances facts target) h bytes e = reads_first schemas.now h.0.0 e
+  where
+    reads_first : (words : List (String Global)) → 0 < length words
+        → cubeview_order (texts words) (texts instances.now) facts.now target.now ≡ Told Usage bytes → ⊥
+    reads_first [] l e = absurd (omega arith)
+    reads_first (word ∷ words) l e = absurd (cc)
+
+-- the words after the schemas and the instances
+pub cut_words : (words schemas instances : List (String Global)) (k : ℕ) → schemas ≡ take k words
+    → instances ≡ take k (drop k words) → cubeview_by k (texts words)
+    ≡ by_two (cubeview_order (texts schemas) (texts instances)) (texts (drop k (drop k words)))
+cut_words words schemas instances k s i =
+    let rest : drop k (texts words) ≡ texts (drop k words) = drop-map string_bytes k words in
+    ap (λ ws. by_two (cubeview_order ws (take k (drop k (texts words)))) (drop k (drop k (texts words))))
+    (take-map string_bytes k words ∙ ap texts (sym s))
+    ∙ ap (λ ws. by_two (cubeview_order (texts schemas) (take k ws)) (drop k ws)) rest
+    ∙ ap (λ ws. by_two (cubeview_order (texts schemas) ws) (drop k (texts (drop k words))))
+    (take-map string_bytes k (drop k words) ∙ ap texts (sym i))
+    ∙ ap (by_two (cubeview_order (texts schemas) (texts instances))) (drop-map string_bytes k (drop k words))
+
+-- too few words
+pub too_few : (words : List (List ℕ)) (k : ℕ) → length (drop k words) ≤ k → cubeview_by k words ≡ None
+too_few words k h = ap (by_two (cubeview_order (take k words) (take k (drop k words)))) (drop_all k (drop k words) h)

@@ -1,0 +1,8 @@
+-- So many names are known.
+use Rattle.olap_dimensions.specs.Dimensions.{schemas_of}
+use Rattle.olap_order.specs.Words.{numbers_of}
+use Rattle.olap_cubes.proofs.NameLemmas.{AreNamedTo}
+use Rattle.olap_cubes.proofs.naming.named.Given as goal
+
+abbrev pub invariant-names : goal.invariant-names
+invariant-names l = AreNamedTo (schemas_of l.cube) l.names l.k (numbers_of l.categories.items)

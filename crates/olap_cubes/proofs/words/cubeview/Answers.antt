@@ -1,0 +1,21 @@
+use Rattle.std.proofs.Common.{◌≡◌, List, ap, drop, sym, take, ◌∙◌}
+use Rattle.std.specs.declared.string.String.{String}
+use Rattle.std.specs.declared.alloc.Global.{Global}
+use Rattle.olap_order.specs.Arguments.{by_two}
+use Rattle.olap_order.specs.Words.{texts}
+use Rattle.olap_cubes.specs.Commands.{cubeview_order}
+use Rattle.olap_cubes.proofs.WordLemmas.{cut_words}
+use Rattle.olap_cubes.proofs.words.cubeview.Goals as goal
+
+pub returns-clause-order : goal.returns-clause-order
+returns-clause-order c =
+    let k = c.args.dimensions in
+    let words = c.args.words.now in
+    let first = c.in_ok-schemas.ensures.cases in
+    let second = c.in_ok-instances.ensures.cases in
+    let left : c.in_ok-instances.words.now ≡ drop k (drop k words) = second.2 ∙ ap (drop k) first.2 in
+    let order = cubeview_order (texts c.in_ok-schemas.schemas.now) (texts c.in_ok-instances.instances.now) in
+    c.after_files.ensures.order
+    ∙ ap (λ (ws : List (String Global)). by_two order (texts ws)) left
+    ∙ sym (cut_words words c.in_ok-schemas.schemas.now c.in_ok-instances.instances.now k first.1
+    (second.1 ∙ ap (take k) first.2))

@@ -1,0 +1,105 @@
+// The steps that read a file of each dimension.
+ghost use Rattle.std.specs.Prelude.{◌≡◌, ◌≤◌, [], IfOk, codes, length};
+ghost use Rattle.std.specs.String.{string_bytes};
+ghost use Rattle.olap_cube.specs.CubeSummarizable.{graphs_of};
+ghost use Rattle.olap_cube.specs.Limits.{most_dimensions};
+ghost use Rattle.olap_cube_views.specs.Dimensions.{AreMadeFor};
+ghost use Rattle.olap_dimensions.specs.Dimensions.{schemas_of};
+ghost use Rattle.olap_instance.specs.Made.{IsMadeFor};
+ghost use Rattle.olap_schema.specs.Schemas.{schema_of};
+ghost use Rattle.olap_order.specs.Steps.{schema_file};
+ghost use Rattle.olap_order.specs.Taken.{FileStep};
+ghost use Rattle.olap_order.specs.Words.{texts};
+ghost use Rattle.olap_reading.specs.Steps.{legal_file};
+ghost use Rattle.olap_cubes.specs.Steps.{legal_files, numbered, schema_files};
+
+use olap_base::Library;
+use olap_check::Legal;
+use olap_cube_views::Legals;
+use olap_dimensions::Cube;
+use olap_order::{Stop, schema_in};
+use olap_reading::legal_in;
+use olap_schema::Schema;
+use std::alloc::{AllocError, Global};
+
+/// The label of the file of a dimension.
+fn label_of(alloc: Global, label: &str, dimension: usize) -> Result<String, AllocError>
+    ensures { IfOk result (λ text. string_bytes text ≡ numbered label.now dimension) }
+{
+    format!(in alloc; "{label} {dimension}")
+}
+
+/// The schema of a dimension.
+fn dimension_schema<L: Library>(
+    alloc: Global,
+    dimension: usize,
+    file: &str,
+    lib: &mut L,
+) -> Result<Schema, Stop>
+    ensures step { FileStep L.Library lib.old lib.new
+        (schema_file (numbered (codes "schema") dimension) file.now) schema_of result }
+{
+    let label = label_of(alloc, "schema", dimension)?;
+    schema_in(alloc, label.as_str(), file, lib)
+}
+
+/// The schemas in files, one of each dimension.
+pub(crate) fn schemas_in<L: Library>(
+    alloc: Global,
+    files: &[String],
+    lib: &mut L,
+) -> Result<Cube, Stop>
+    requires few { length files.now ≤ most_dimensions }
+    ensures step { FileStep L.Library lib.old lib.new
+        (schema_files 1 [] (texts files.now)) schemas_of result }
+    ensures each { IfOk result (λ cube. length (schemas_of cube) ≡ length files.now) }
+{
+    let mut cube = Cube::new(alloc);
+    'files: for k in 0..files.len() {
+        let schema = dimension_schema(alloc, k + 1, files[k].as_str(), lib)?;
+        match cube.push(schema) {
+            Ok(()) => {}
+            Err(_) => return Err(Stop::Memory),
+        }
+    }
+    Ok(cube)
+}
+
+/// The legal instance of a dimension.
+fn dimension_legal<L: Library>(
+    alloc: Global,
+    dimension: usize,
+    schema: &Schema,
+    file: &str,
+    lib: &mut L,
+) -> Result<Legal, Stop>
+    ensures step { FileStep L.Library lib.old lib.new
+        (legal_file (schema_of schema.now) (numbered (codes "instance") dimension) file.now) (λ i. i) result }
+    ensures made { IfOk result (λ i. IsMadeFor (schema_of schema.now).graph i) }
+{
+    let label = label_of(alloc, "instance", dimension)?;
+    legal_in(alloc, schema, label.as_str(), file, lib)
+}
+
+/// The legal instances in files, one of each dimension's schema.
+pub(crate) fn legals_in<L: Library>(
+    alloc: Global,
+    cube: &Cube,
+    files: &[String],
+    lib: &mut L,
+) -> Result<Legals, Stop>
+    requires each { length files.now ≡ length (schemas_of cube.now) }
+    ensures step { FileStep L.Library lib.old lib.new
+        (legal_files 1 [] (schemas_of cube.now) (texts files.now)) (λ is. is) result }
+    ensures made { IfOk result (λ is. AreMadeFor (graphs_of (schemas_of cube.now)) is) }
+{
+    let mut legals = Legals::new(alloc);
+    'files: for k in 0..cube.len() {
+        let legal = dimension_legal(alloc, k + 1, cube.schema(k), files[k].as_str(), lib)?;
+        match legals.push(legal) {
+            Ok(()) => {}
+            Err(_) => return Err(Stop::Memory),
+        }
+    }
+    Ok(legals)
+}

@@ -1,0 +1,45 @@
+// What comes of the commands over several dimensions, before anything is written.
+ghost use Rattle.olap_order.specs.Families.{FamilyJudged};
+ghost use Rattle.olap_order.specs.Judged.{Judged};
+ghost use Rattle.olap_order.specs.Words.{texts};
+ghost use Rattle.olap_cubes.specs.Commands.{order_named};
+ghost use Rattle.olap_cubes.specs.Questions.{IsAnswer};
+ghost use Rattle.olap_cubes.specs.Seen.{HasFiles, seen};
+
+use crate::viewing::cubeview;
+use crate::words::{Command, parse};
+use olap_base::Library;
+use olap_order::{Reply, Stop};
+use std::alloc::Global;
+
+/// The reply of a command.
+fn run<L: Library>(alloc: Global, command: Command, lib: &mut L) -> Result<Reply, Stop>
+    requires files { HasFiles command }
+    ensures judged { Judged IsAnswer L.Library lib.old lib.new (seen command.entry) result }
+{
+    match command {
+        Command::CubeView {
+            schemas,
+            instances,
+            facts,
+            target,
+        } => cubeview(alloc, schemas, instances, facts, target, lib),
+    }
+}
+
+/// The reply of the command of that name with these words after it; none, and no file is opened, where it is no command of
+/// this family.
+pub fn judge<L: Library>(
+    alloc: Global,
+    name: &str,
+    words: &[String],
+    lib: &mut L,
+) -> Option<Result<Reply, Stop>>
+    ensures judged { FamilyJudged IsAnswer L.Library lib.old lib.new
+        (order_named name.now (texts words.now)) result }
+{
+    match parse(name, words) {
+        Some(command) => Some(run(alloc, command, lib)),
+        None => None,
+    }
+}

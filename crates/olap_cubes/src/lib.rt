@@ -1,0 +1,14 @@
+//! The commands over several dimensions: what is the direct view of a cube's target?
+//!
+//! A command is an order (`specs/Commands.antt`): K schemas, K instances and words that name a category of each dimension.
+//! `judge` is the one call: the reply to a command's name and words.
+#![tactic(auto)]
+
+mod counting;
+mod dimensions;
+mod judging;
+mod naming;
+mod viewing;
+mod words;
+
+pub use judging::judge;

@@ -1,0 +1,138 @@
+// The command `cubeview`: the direct view of a target, a category of each dimension.
+ghost use Rattle.std.specs.Prelude.{◌≡◌, All, Err, IfErr, IfOk, MatchResult, length};
+ghost use Rattle.olap_cube.specs.CubeSummarizable.{graphs_of};
+ghost use Rattle.olap_cube.specs.CubeViews.{cube_direct_view};
+ghost use Rattle.olap_cube_views.specs.CubeFactText.{cube_facts_read};
+ghost use Rattle.olap_cube_views.specs.CubeRefusals.{IsCubeRefusedBy};
+ghost use Rattle.olap_cube_views.specs.CubeRollingUp.{IsCubeRolledUp};
+ghost use Rattle.olap_cube_views.specs.CubeTallies.{AreMembers};
+ghost use Rattle.olap_cube_views.specs.CubeViewText.{cube_view_text};
+ghost use Rattle.olap_cube_views.specs.Dimensions.{AreMadeFor, graphs_of as graphs_at};
+ghost use Rattle.olap_cube_views.specs.Seen.{cube_view_of, members_of};
+ghost use Rattle.olap_dimensions.specs.Dimensions.{schemas_of};
+ghost use Rattle.olap_records.specs.Records.{records_of};
+ghost use Rattle.olap_view.specs.Seen.{ids};
+ghost use Rattle.olap_order.specs.Judged.{Judged};
+ghost use Rattle.olap_order.specs.Order.{Told, and_then};
+ghost use Rattle.olap_order.specs.Taken.{FileStep};
+ghost use Rattle.olap_order.specs.Words.{texts};
+ghost use Rattle.olap_cubes.specs.Commands.{cubeview_order};
+ghost use Rattle.olap_cubes.specs.OfFacts.{IsOfFacts};
+ghost use Rattle.olap_cubes.specs.Questions.{IsAnswer};
+ghost use Rattle.olap_cubes.specs.Seen.{AreDimensions};
+ghost use Rattle.olap_cubes.specs.Steps.{cube_facts_file};
+
+use crate::dimensions::{legals_in, schemas_in};
+use crate::naming::tuple_at;
+use olap_base::{CatId, Library, Memory};
+use olap_cube_views::{CubeView, Legals, cube_roll_up, print_cube_view};
+use olap_dimensions::Cube;
+use olap_facts::FactRefusal;
+use olap_graph::Graph;
+use olap_order::{Reply, Status, Stop, read_file, refuse_long, refuse_part, yes};
+use std::alloc::Global;
+
+/// The graphs of the dimensions, in order.
+fn graphs(alloc: Global, cube: &Cube) -> Result<Vec<&Graph>, Memory>
+    ensures { IfOk result (λ graphs. graphs_at graphs.items ≡ graphs_of (schemas_of cube.now)) }
+{
+    let mut graphs = Vec::new(alloc);
+    'dimensions: for k in 0..cube.len() {
+        graphs.push(cube.schema(k).graph())?;
+    }
+    Ok(graphs)
+}
+
+/// The direct view of a target from the facts of a text, or the text's first fault.
+fn rolled_up(
+    alloc: Global,
+    cube: &Cube,
+    legals: &Legals,
+    target: &[CatId],
+    text: &[u8],
+) -> Result<CubeView, FactRefusal>
+    requires made { AreMadeFor (graphs_of (schemas_of cube.now)) legals.now }
+    requires target { length target.now ≡ length legals.now }
+    ensures view { IfOk result (λ v. IsCubeRolledUp (graphs_of (schemas_of cube.now)) legals.now (records_of text.now)
+        (ids target.now) (cube_view_of v)) }
+    ensures members { IfOk result (λ v. All (λ r. AreMembers legals.now (members_of r.members)) v.rows) }
+    ensures err { IfErr result (λ e.
+        IsCubeRefusedBy e (cube_facts_read (graphs_of (schemas_of cube.now)) legals.now (records_of text.now))) }
+{
+    let graphs = graphs(alloc, cube)?;
+    cube_roll_up(alloc, &graphs, legals, text, target)
+}
+
+/// The direct view of a target from the facts in a file.
+fn view_in<L: Library>(
+    alloc: Global,
+    cube: &Cube,
+    legals: &Legals,
+    target: &[CatId],
+    file: &str,
+    lib: &mut L,
+) -> Result<CubeView, Stop>
+    requires made { AreMadeFor (graphs_of (schemas_of cube.now)) legals.now }
+    requires target { length target.now ≡ length legals.now }
+    ensures step { MatchResult result
+        (λ v. IsOfFacts L.Library lib.old lib.new (schemas_of cube.now) legals.now (ids target.now) file.now (cube_view_of v))
+        (λ stop. FileStep L.Library lib.old lib.new
+        (cube_facts_file (schemas_of cube.now) legals.now file.now) (λ facts. facts) (Err stop)) }
+    ensures members { IfOk result (λ v. All (λ r. AreMembers legals.now (members_of r.members)) v.rows) }
+{
+    let Some(text) = read_file(alloc, file, lib)? else {
+        return Err(refuse_long(alloc, "facts"));
+    };
+    match rolled_up(alloc, cube, legals, target, &text) {
+        Ok(view) => Ok(view),
+        Err(FactRefusal::Memory) => Err(Stop::Memory),
+        Err(FactRefusal::Fault { at, kind }) => Err(refuse_part(
+            alloc,
+            "facts",
+            "record",
+            at,
+            kind.name(),
+        )),
+    }
+}
+
+/// The text of the direct view of a target from the facts in a file.
+fn told<L: Library>(
+    alloc: Global,
+    cube: &Cube,
+    legals: &Legals,
+    target: &[CatId],
+    file: &str,
+    lib: &mut L,
+) -> Result<Reply, Stop>
+    requires made { AreMadeFor (graphs_of (schemas_of cube.now)) legals.now }
+    requires target { length target.now ≡ length legals.now }
+    ensures judged { Judged IsAnswer L.Library lib.old lib.new
+        (and_then (cube_facts_file (schemas_of cube.now) legals.now file.now) (λ table.
+        Told Status.Yes (cube_view_text legals.now (cube_direct_view legals.now table (ids target.now))))) result }
+{
+    let view = view_in(alloc, cube, legals, target, file, lib)?;
+    let text = print_cube_view(alloc, legals, &view)?;
+    Ok(yes(text.into_bytes()))
+}
+
+/// The direct view of a target, from a schema and an instance of each dimension and facts.
+pub(crate) fn cubeview<L: Library>(
+    alloc: Global,
+    schemas: &[String],
+    instances: &[String],
+    facts: &str,
+    target: &str,
+    lib: &mut L,
+) -> Result<Reply, Stop>
+    requires few { AreDimensions (length schemas.now) }
+    requires each { length instances.now ≡ length schemas.now }
+    ensures judged { Judged IsAnswer L.Library lib.old lib.new
+        (cubeview_order (texts schemas.now) (texts instances.now) facts.now target.now) result }
+{
+    let at = 2 * schemas.len() as u64 + 4;
+    let cube = schemas_in(alloc, schemas, lib)?;
+    let target = tuple_at(alloc, at, &cube, target)?;
+    let legals = legals_in(alloc, &cube, instances, lib)?;
+    told(alloc, &cube, &legals, &target, facts, lib)
+}

@@ -1,0 +1,68 @@
+// Which words are a command over several dimensions.
+ghost use Rattle.std.specs.Prelude.{◌≡◌, IfSome, length, option_map};
+ghost use Rattle.olap_order.specs.Arguments.{by_two};
+ghost use Rattle.olap_order.specs.Words.{texts};
+ghost use Rattle.olap_cubes.specs.Commands.{cubeview_by, cubeview_order, order_named};
+ghost use Rattle.olap_cubes.specs.Seen.{AreDimensions, HasFiles, seen};
+
+use crate::counting::counted;
+
+/// A command with its words.
+#[derive(Clone, Copy)]
+pub(crate) enum Command<'a> {
+    /// The direct view of a target.
+    CubeView {
+        schemas: &'a [String],
+        instances: &'a [String],
+        facts: &'a str,
+        target: &'a str,
+    },
+}
+
+/// The words after the files of each dimension of `cubeview`.
+fn after_files<'a>(
+    schemas: &'a [String],
+    instances: &'a [String],
+    words: &'a [String],
+) -> Option<Command<'a>>
+    requires few { AreDimensions (length schemas.now) }
+    requires each { length instances.now ≡ length schemas.now }
+    ensures order { option_map seen result
+        ≡ by_two (cubeview_order (texts schemas.now) (texts instances.now)) (texts words.now) }
+    ensures files { IfSome result HasFiles }
+{
+    match words {
+        [facts, target] => Some(Command::CubeView {
+            schemas,
+            instances,
+            facts: facts.as_str(),
+            target: target.as_str(),
+        }),
+        _ => None,
+    }
+}
+
+/// The words after `cubeview` and the number of dimensions.
+fn cubeview(dimensions: usize, words: &[String]) -> Option<Command<'_>>
+    requires few { AreDimensions dimensions }
+    ensures order { option_map seen result ≡ cubeview_by dimensions (texts words.now) }
+    ensures files { IfSome result HasFiles }
+{
+    let (schemas, words) = words.split_at_checked(dimensions)?;
+    let (instances, words) = words.split_at_checked(dimensions)?;
+    after_files(schemas, instances, words)
+}
+
+/// The command of that name with these words after it, if it is one of this family.
+pub(crate) fn parse<'a>(name: &str, words: &'a [String]) -> Option<Command<'a>>
+    ensures order { option_map seen result ≡ order_named name.now (texts words.now) }
+    ensures files { IfSome result HasFiles }
+{
+    match name {
+        "cubeview" => {
+            let (dimensions, words) = counted(words)?;
+            cubeview(dimensions, words)
+        }
+        _ => None,
+    }
+}
