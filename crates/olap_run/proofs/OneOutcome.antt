@@ -9,7 +9,7 @@ use Rattle.olap_plans.specs.Laws.{AnswersAreOne as PlansAnswersAreOne}
 use Rattle.olap_reasoning.specs.Laws.{AnswersAreOne}
 use Rattle.olap_run.specs.Commands.{order_of}
 use Rattle.olap_run.specs.Laws.{AreCertificates, OutcomeIsOne}
-use Rattle.olap_run.specs.Questions.{IsAnswer, Question, OfReasoning, OfTotals, OfPlans, OfVerdicts}
+use Rattle.olap_run.specs.Questions.{IsAnswer, Question, OfReasoning, OfTotals, OfPlans, OfVerdicts, OfCubes}
 use Rattle.olap_verdicts.specs.Laws.{AnswersAreOne as VerdictsAnswersAreOne}
 
 module _ (about_all : AnswersAreOne) (planned : PlansAnswersAreOne) (judged : VerdictsAnswersAreOne) where
@@ -19,6 +19,7 @@ module _ (about_all : AnswersAreOne) (planned : PlansAnswersAreOne) (judged : Ve
   one_answer files (OfTotals q) s t xs ys a b = absurd a
   one_answer files (OfPlans q) s t xs ys a b = let one = planned q s t xs ys a b in (one.0, inl one.1)
   one_answer files (OfVerdicts q) s t xs ys a b = let one = judged q s t xs ys a b in (one.0, inl one.1)
+  one_answer files (OfCubes q) s t xs ys a b = absurd a
 
   -- along any order
   one_given : (files : Files) (order : Order Question) (s t : Status) (xs ys : List ℕ) → Gives IsAnswer files order s xs

@@ -8,9 +8,10 @@ use Rattle.olap_order.specs.Families.{asking}
 use Rattle.olap_order.specs.Order.{Order, Told}
 use Rattle.olap_order.specs.Outputs.{line}
 use Rattle.olap_order.specs.declared.status.Status.TheVariants.{Usage}
+use Rattle.olap_cubes.specs.Commands as cubes
 use Rattle.olap_plans.specs.Commands as plans
 use Rattle.olap_reasoning.specs.Commands as reasoning
-use Rattle.olap_run.specs.Questions.{Question, OfReasoning, OfTotals, OfPlans, OfVerdicts}
+use Rattle.olap_run.specs.Questions.{Question, OfReasoning, OfTotals, OfPlans, OfVerdicts, OfCubes}
 use Rattle.olap_totals.specs.Commands as totals
 use Rattle.olap_verdicts.specs.Commands as verdicts
 
@@ -24,7 +25,8 @@ order_named name words =
     option_or (asking OfReasoning (reasoning.order_named name words))
     (option_or (asking OfTotals (totals.order_named name words))
     (option_or (asking OfPlans (plans.order_named name words))
-    (asking OfVerdicts (verdicts.order_named name words))))
+    (option_or (asking OfVerdicts (verdicts.order_named name words))
+    (asking OfCubes (cubes.order_named name words)))))
 
 -- the order of what the words ask for; more than `most_words` are no command
 abbrev pub order_of : List (List ℕ) → Order Question

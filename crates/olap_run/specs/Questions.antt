@@ -3,6 +3,7 @@
 --     IsAnswer   a status and bytes answer the question
 use Rattle.std.specs.Prelude.{ℕ, List}
 use Rattle.olap_order.specs.declared.status.Status.{Status}
+use Rattle.olap_cubes.specs.Questions as cubes
 use Rattle.olap_plans.specs.Questions as plans
 use Rattle.olap_reasoning.specs.Questions as reasoning
 use Rattle.olap_totals.specs.Questions as totals
@@ -17,6 +18,8 @@ pub data Question : Type 0 where
   OfPlans : plans.Question → Question
   -- about a certificate
   OfVerdicts : verdicts.Question → Question
+  -- over several dimensions
+  OfCubes : cubes.Question → Question
 
 -- these are the status and the bytes
 abbrev pub IsAnswer : Question → Status → List ℕ → Type 0
@@ -24,3 +27,4 @@ IsAnswer (OfReasoning q) status bytes = reasoning.IsAnswer q status bytes
 IsAnswer (OfTotals q) status bytes = totals.IsAnswer q status bytes
 IsAnswer (OfPlans q) status bytes = plans.IsAnswer q status bytes
 IsAnswer (OfVerdicts q) status bytes = verdicts.IsAnswer q status bytes
+IsAnswer (OfCubes q) status bytes = cubes.IsAnswer q status bytes

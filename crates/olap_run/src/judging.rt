@@ -31,7 +31,10 @@ fn named<L: Library>(
     if let Some(result) = olap_plans::judge(alloc, name, words, lib) {
         return Some(result);
     }
-    olap_verdicts::judge(alloc, name, words, lib)
+    if let Some(result) = olap_verdicts::judge(alloc, name, words, lib) {
+        return Some(result);
+    }
+    olap_cubes::judge(alloc, name, words, lib)
 }
 
 /// The reply of the command that the words are, if they are one.
