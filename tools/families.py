@@ -29,8 +29,8 @@ class Schema:
         return "".join(lines)
 
 
-def diamond(layers, as_implication=False):
-    """Layers of two ways each; the last but one must take a way that leads nowhere."""
+def layers_of_ways(layers):
+    """Layers of two ways each."""
     s = Schema()
     for i in range(layers + 1):
         s.category(f"L{i}")
@@ -40,6 +40,19 @@ def diamond(layers, as_implication=False):
         for side in "AB":
             s.edge(f"{side}{i}", f"L{i}")
     s.edge(f"L{layers}", "All")
+    return s
+
+
+def free_ways(layers):
+    """Layers of two ways each, which may both be taken."""
+    return layers_of_ways(layers).text()
+
+
+def diamond(layers, as_implication=False, is_exclusive=False):
+    """Layers of two ways each, of which one may be taken if it is exclusive; the last but one must take a way that leads nowhere."""
+    s = layers_of_ways(layers)
+    for i in range(1, layers + 1) if is_exclusive else ():
+        s.constraint(f"L{i - 1}", f"L{i - 1}_A{i} ^ L{i - 1}_B{i}")
     s.constraint(f"L{layers - 1}", f"L{layers - 1}_A{layers}")
     last = f"A{layers}_L{layers}"
     s.constraint(f"A{layers}", f"{last} -> false" if as_implication else f"!{last}")
