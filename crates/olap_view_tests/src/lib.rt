@@ -6,8 +6,6 @@
 #![tactic(auto)]
 
 #[cfg(test)]
-mod generate;
-#[cfg(test)]
 mod nav;
 #[cfg(test)]
 mod reading;
