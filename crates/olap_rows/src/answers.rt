@@ -1,6 +1,7 @@
 // What `answer` takes from two stored views is what `rollup` makes from the facts, for each two views and each target.
-use crate::running::run;
+use crate::running::{Files, WIDE, run};
 use crate::samples::{LOCATION, PLACES, SALES};
+use crate::texts::Piece::Text;
 use olap_run::Status;
 use std::alloc::Global;
 use std::process::Abort;
@@ -8,6 +9,12 @@ use std::test::Fail;
 
 const TARGETS: [&str; 7] = [
     "Store", "City", "State", "Province", "Region", "Country", "All",
+];
+
+const SOLD: Files = &[
+    ("S", &[Text(LOCATION)]),
+    ("I", &[Text(PLACES)]),
+    ("F", &[Text(SALES)]),
 ];
 
 const PAIRS: [(&str, &str); 21] = [
@@ -36,13 +43,13 @@ const PAIRS: [(&str, &str); 21] = [
 
 /// The answer for a target, behind the line of its plan, is the roll-up; or there is no plan.
 fn agrees(rt: &impl Abort, alloc: Global, store: &str, target: &str) -> Result<(), Fail> {
-    let held = [("S", LOCATION), ("I", PLACES), ("F", SALES), ("V", store)];
-    let (status, answer) = run(alloc, &["answer", "S", "I", "V", target], &held)?;
+    let own: Files = &[("V", &[Text(store)])];
+    let (status, answer) = run(alloc, WIDE, &["answer", "S", "I", "V", target], own, SOLD)?;
     if status == Status::Refused {
         assert_eq!(rt; answer.as_str(), "refused answer NotAnswerable\n");
         return Ok(());
     }
-    let (_, rollup) = run(alloc, &["rollup", "S", "I", "F", target], &held)?;
+    let (_, rollup) = run(alloc, WIDE, &["rollup", "S", "I", "F", target], SOLD, &[])?;
     let Some((_, view)) = answer.as_str().split_once("\n") else {
         return Err("an answer without a plan".into());
     };
@@ -52,8 +59,13 @@ fn agrees(rt: &impl Abort, alloc: Global, store: &str, target: &str) -> Result<(
 
 /// The two views answer each target as the facts do.
 fn answers(rt: &impl Abort, alloc: Global, first: &str, second: &str) -> Result<(), Fail> {
-    let held = [("S", LOCATION), ("I", PLACES), ("F", SALES)];
-    let (_, store) = run(alloc, &["store", "S", "I", "F", first, second], &held)?;
+    let (_, store) = run(
+        alloc,
+        WIDE,
+        &["store", "S", "I", "F", first, second],
+        SOLD,
+        &[],
+    )?;
     for target in TARGETS {
         agrees(rt, alloc, store.as_str(), target)?;
     }

@@ -1,8 +1,10 @@
 // Two ids with one hash.
-use crate::running::check_status;
+use crate::running::{Files, WIDE, run};
 use crate::samples::CHAIN;
+use crate::texts::Piece::Text;
 use olap_run::Status;
 use std::alloc::Global;
+use std::process::Abort;
 use std::test::Fail;
 
 /// A hundred stores in two cities. The name of the last city was found by trying: under the key that comes of this text
@@ -18,28 +20,44 @@ fn stores(alloc: Global) -> Result<String, Fail> {
     Ok(text)
 }
 
+const SOLD: Files = &[
+    ("S", &[Text(CHAIN)]),
+    ("F", &[Text("member,value\ns36,5\ns99,7\ns36,1\n")]),
+];
+
+/// What is told of them.
+const ROWS: &[(&[&str], &str)] = &[
+    (&["check", "S", "I"], "legal 102\n"),
+    (
+        &["rollup", "S", "I", "F", "City"],
+        "member,count,sum,least,greatest\nc1,2,6,1,5\nc2,1,7,7,7\n",
+    ),
+    (
+        &["rollup", "S", "I", "F", "Store"],
+        "member,count,sum,least,greatest\ns36,2,6,1,5\ns99,1,7,7,7\n",
+    ),
+];
+
+/// The row over this instance has its output.
+fn told(
+    rt: &impl Abort,
+    alloc: Global,
+    instance: &str,
+    words: &[&str],
+    output: &str,
+) -> Result<(), Fail> {
+    let own: Files = &[("I", &[Text(instance)])];
+    let (status, written) = run(alloc, WIDE, words, own, SOLD)?;
+    assert_eq!(rt; status, Status::Yes, "{output}");
+    assert_eq!(rt; written.as_str(), output);
+    Ok(())
+}
+
 #[test]
 fn ids_with_one_hash(rt: HostRuntime) -> Result<(), Fail> {
-    let alloc = rt.alloc();
-    let instance = stores(alloc)?;
-    let held = [
-        ("S", CHAIN),
-        ("I", instance.as_str()),
-        ("F", "member,value\ns36,5\ns99,7\ns36,1\n"),
-    ];
-    let rows: [(&[&str], &str); 3] = [
-        (&["check", "S", "I"], "legal 102\n"),
-        (
-            &["rollup", "S", "I", "F", "City"],
-            "member,count,sum,least,greatest\nc1,2,6,1,5\nc2,1,7,7,7\n",
-        ),
-        (
-            &["rollup", "S", "I", "F", "Store"],
-            "member,count,sum,least,greatest\ns36,2,6,1,5\ns99,1,7,7,7\n",
-        ),
-    ];
-    for (line, output) in rows {
-        check_status(&rt, alloc, line, &held, Status::Yes, output)?;
+    let instance = stores(rt.alloc())?;
+    for (words, output) in ROWS {
+        told(&rt, rt.alloc(), &instance, words, output)?;
     }
     Ok(())
 }

@@ -1,13 +1,20 @@
 // Whichever call of the library or of the sink fails, nothing wrong is written.
-use crate::running::{READ_CHUNK, WRITE_CHUNK, run_failing};
+use crate::running::{Files, NARROW, Outside, READ_CHUNK, WRITE_CHUNK, run};
 use crate::samples::{LOCATION, PLACES, SALES, STORED};
+use crate::searches::TEN_LAYERS;
+use crate::texts::Piece::Text;
 use olap_run::Status;
 use std::alloc::Global;
 use std::process::Abort;
 use std::test::Fail;
 
 /// Command lines over these files, with their outputs.
-const HELD: [(&str, &str); 4] = [("S", LOCATION), ("I", PLACES), ("F", SALES), ("V", STORED)];
+const HELD: Files = &[
+    ("S", &[Text(LOCATION)]),
+    ("I", &[Text(PLACES)]),
+    ("F", &[Text(SALES)]),
+    ("V", &[Text(STORED)]),
+];
 
 const ANSWER: [&str; 5] = ["answer", "S", "I", "V", "Region"];
 
@@ -22,6 +29,22 @@ const ROLLED_UP: &str = "member,count,sum,least,greatest\n\
 usa,1,10,10,10\n\
 ca,3,3,-5,5\n\
 me,1,7,7,7\n";
+
+/// The outside where one call of the library fails.
+fn failing_read(call: u64) -> Outside {
+    Outside {
+        failing_read: Some(call),
+        ..NARROW
+    }
+}
+
+/// The outside where one call of the sink fails.
+fn failing_write(call: u64) -> Outside {
+    Outside {
+        failing_write: Some(call),
+        ..NARROW
+    }
+}
 
 /// How many calls of the library a run makes: each file is opened, and read piece by piece until nothing comes.
 fn calls_for(texts: &[&str]) -> u64 {
@@ -43,12 +66,12 @@ fn over_failing_reads(
 ) -> Result<(), Fail> {
     let calls = calls_for(texts);
     for call in 1..=calls {
-        let (status, output) = run_failing(alloc, line, &HELD, (Some(call), None))?;
+        let (status, output) = run(alloc, failing_read(call), line, HELD, &[])?;
         assert_eq!(rt; status, Status::ReadFault);
         assert_eq!(rt; output.as_str(), "");
     }
-    let beyond = Some(calls.saturating_add(1));
-    let (status, output) = run_failing(alloc, line, &HELD, (beyond, None))?;
+    let beyond = failing_read(calls.saturating_add(1));
+    let (status, output) = run(alloc, beyond, line, HELD, &[])?;
     assert_eq!(rt; status, Status::Yes);
     assert_eq!(rt; output.as_str(), wanted);
     Ok(())
@@ -64,14 +87,14 @@ fn over_failing_writes(
     let calls = wanted.len().div_ceil(WRITE_CHUNK) as u64;
     let mut written = 0usize;
     for call in 1..=calls {
-        let (status, output) = run_failing(alloc, line, &HELD, (None, Some(call)))?;
+        let (status, output) = run(alloc, failing_write(call), line, HELD, &[])?;
         assert_eq!(rt; status, Status::WriteFault);
         assert!(rt; wanted.starts_with(output.as_str()));
         assert_eq!(rt; output.len(), written);
         written = written.saturating_add(WRITE_CHUNK);
     }
-    let beyond = Some(calls.saturating_add(1));
-    let (status, output) = run_failing(alloc, line, &HELD, (None, beyond))?;
+    let beyond = failing_write(calls.saturating_add(1));
+    let (status, output) = run(alloc, beyond, line, HELD, &[])?;
     assert_eq!(rt; status, Status::Yes);
     assert_eq!(rt; output.as_str(), wanted);
     Ok(())
@@ -89,4 +112,14 @@ fn each_read_may_fail(rt: HostRuntime) -> Result<(), Fail> {
 fn each_write_may_fail(rt: HostRuntime) -> Result<(), Fail> {
     over_failing_writes(&rt, rt.alloc(), &ANSWER, ANSWERED)?;
     over_failing_writes(&rt, rt.alloc(), &ROLLUP, ROLLED_UP)
+}
+
+/// A question of a schema whose third read fails.
+#[test]
+fn a_question_over_a_read_that_fails(rt: HostRuntime) -> Result<(), Fail> {
+    let words = ["satisfiable", "S", "L0"];
+    let (status, output) = run(rt.alloc(), failing_read(3), &words, TEN_LAYERS, &[])?;
+    assert_eq!(rt; status, Status::ReadFault);
+    assert_eq!(rt; output.as_str(), "");
+    Ok(())
 }

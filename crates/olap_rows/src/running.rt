@@ -1,38 +1,132 @@
-// One run of the top call over files and output in memory.
+// Rows, and one run of the top call over files and output in memory.
+ghost use Rattle.std.specs.Prelude.{◌<◌};
+
 use crate::libraries::{Content, Once};
+use crate::texts::{Piece, joined};
 use olap_base::{List, MemLibrary, MemSink, SureLibrary, SureSink, Text};
 use olap_run::{Status, olap, olap_surely};
 use std::alloc::Global;
 use std::process::Abort;
 use std::test::Fail;
 
-/// How many bytes at most a library of which a call may fail hands out at a time.
+/// Files by name.
+pub(crate) type Files<'a> = &'a [(&'a str, &'a [Piece<'a>])];
+
+/// What must be written.
+#[derive(Clone, Copy)]
+pub(crate) enum Output<'a> {
+    /// These bytes.
+    Just(&'a str),
+    /// A canonical text that the row doesn't repeat.
+    Any,
+}
+
+/// A command line over files, with the status and the output that it must have.
+#[derive(Clone, Copy)]
+pub(crate) struct Row<'a> {
+    /// What it shows.
+    pub(crate) name: &'a str,
+    pub(crate) words: &'a [&'a str],
+    /// The files of this row, before those of its table.
+    pub(crate) files: Files<'a>,
+    pub(crate) status: Status,
+    pub(crate) output: Output<'a>,
+}
+
+/// Rows over the same files, but for those that a row names itself.
+#[derive(Clone, Copy)]
+pub(crate) struct Table<'a> {
+    pub(crate) files: Files<'a>,
+    pub(crate) rows: &'a [Row<'a>],
+}
+
+/// How the outside hands out and takes bytes.
+#[derive(Clone, Copy)]
+pub(crate) enum Pace {
+    /// Thousands at a time.
+    Wide,
+    /// As `READ_CHUNK` and `WRITE_CHUNK` say.
+    Narrow,
+}
+
+/// How many bytes at most a narrow library hands out at a time.
 pub(crate) const READ_CHUNK: usize = 16;
 
-/// How many bytes at most a sink of which a call may fail takes at a time.
+/// How many bytes at most a narrow sink takes at a time.
 pub(crate) const WRITE_CHUNK: usize = 7;
 
+impl Pace {
+    fn reads(self) -> usize
+        ensures { 0 < result }
+    {
+        match self {
+            Pace::Wide => 4096,
+            Pace::Narrow => READ_CHUNK,
+        }
+    }
+
+    fn writes(self) -> usize
+        ensures { 0 < result }
+    {
+        match self {
+            Pace::Wide => 4096,
+            Pace::Narrow => WRITE_CHUNK,
+        }
+    }
+}
+
+/// The outside of a run.
+#[derive(Clone, Copy)]
+pub(crate) struct Outside {
+    pub(crate) pace: Pace,
+    /// How many bytes the sink has room for.
+    pub(crate) room: usize,
+    /// The call of the library that fails.
+    pub(crate) failing_read: Option<u64>,
+    /// The call of the sink that fails.
+    pub(crate) failing_write: Option<u64>,
+}
+
+/// Nothing fails, in large pieces.
+pub(crate) const WIDE: Outside = Outside {
+    pace: Pace::Wide,
+    room: 2_000_000,
+    failing_read: None,
+    failing_write: None,
+};
+
+/// Nothing fails, in small pieces.
+pub(crate) const NARROW: Outside = Outside {
+    pace: Pace::Narrow,
+    room: 2_000_000,
+    failing_read: None,
+    failing_write: None,
+};
+
 /// The words of a command line.
-fn words(alloc: Global, line: &[&str]) -> Result<Vec<String>, Fail> {
+fn typed(alloc: Global, words: &[&str]) -> Result<Vec<String>, Fail> {
     let mut all = Vec::new(alloc);
-    for word in line {
+    for word in words {
         all.push(String::from_str(alloc, word)?)?;
     }
     Ok(all)
 }
 
-/// A file of that name.
-fn file(alloc: Global, name: &str, content: &[u8]) -> Result<(Text, Text), Fail> {
-    let name = Text::from_bytes(alloc, name.as_bytes())?;
-    Ok((name, Text::from_bytes(alloc, content)?))
+/// Adds the files, held in memory.
+fn hold(alloc: Global, files: Files, all: &mut Vec<(Text, Text)>) -> Result<(), Fail> {
+    for (name, pieces) in files {
+        let name = Text::from_bytes(alloc, name.as_bytes())?;
+        let content = joined(alloc, pieces)?;
+        all.push((name, Text::from_bytes(alloc, content.as_bytes())?))?;
+    }
+    Ok(())
 }
 
-/// Files by name.
-fn files(alloc: Global, files: &[(&str, &str)]) -> Result<List<(Text, Text)>, Fail> {
+/// The files of a row and those of its table.
+fn held(alloc: Global, own: Files, shared: Files) -> Result<List<(Text, Text)>, Fail> {
     let mut all = Vec::new(alloc);
-    for (name, content) in files {
-        all.push(file(alloc, name, content.as_bytes())?)?;
-    }
+    hold(alloc, own, &mut all)?;
+    hold(alloc, shared, &mut all)?;
     Ok(List::from_vec(all))
 }
 
@@ -45,155 +139,91 @@ fn listed(alloc: Global, call: Option<u64>) -> Result<List<u64>, Fail> {
     Ok(List::from_vec(calls))
 }
 
-/// The status of a command line over the library and the sink.
-fn status(
+/// The status and the output of a command line over files of its own, and over others.
+pub(crate) fn run(
     alloc: Global,
-    line: &[&str],
-    library: &mut MemLibrary,
-    sink: &mut MemSink,
-) -> Result<Status, Fail> {
-    let words = words(alloc, line)?;
-    Ok(olap(alloc, &words, library, sink))
+    outside: Outside,
+    words: &[&str],
+    own: Files,
+    shared: Files,
+) -> Result<(Status, String), Fail> {
+    let fails = listed(alloc, outside.failing_read)?;
+    let mut library = MemLibrary::new(held(alloc, own, shared)?, outside.pace.reads(), fails);
+    let fails = listed(alloc, outside.failing_write)?;
+    let mut sink = MemSink::new(alloc, outside.room, outside.pace.writes(), fails)?;
+    let words = typed(alloc, words)?;
+    let status = olap(alloc, &words, &mut library, &mut sink);
+    let Ok(output) = str::from_utf8(sink.contents()) else {
+        return Err("an output that is no text".into());
+    };
+    Ok((status, String::from_str(alloc, output)?))
 }
 
-/// Runs the command line, where one call of the library and one of the sink may be made to fail, over a sink with
-/// this much room, and compares the status and the output.
+/// Runs a row of a table over these files, and compares the status and the output.
 pub(crate) fn check(
     rt: &impl Abort,
     alloc: Global,
-    line: &[&str],
-    held: &[(&str, &str)],
-    failing: (Option<u64>, Option<u64>),
-    room: usize,
-    wanted: Status,
-    output: &str,
+    outside: Outside,
+    row: &Row,
+    files: Files,
 ) -> Result<(), Fail> {
-    let mut library = MemLibrary::new(files(alloc, held)?, READ_CHUNK, listed(alloc, failing.0)?);
-    let mut sink = MemSink::new(alloc, room, WRITE_CHUNK, listed(alloc, failing.1)?)?;
-    let status = status(alloc, line, &mut library, &mut sink)?;
-    assert_eq!(rt; status, wanted, "{output}");
-    assert_eq!(rt; sink.contents(), output.as_bytes());
-    Ok(())
-}
-
-/// Runs the command line over ample room, and compares the status, and the output where one is given.
-pub(crate) fn check_status(
-    rt: &impl Abort,
-    alloc: Global,
-    line: &[&str],
-    held: &[(&str, &str)],
-    wanted: Status,
-    output: &str,
-) -> Result<(), Fail> {
-    let mut library = MemLibrary::new(files(alloc, held)?, 4096, listed(alloc, None)?);
-    let mut sink = MemSink::new(alloc, 1_000_000, 4096, listed(alloc, None)?)?;
-    let status = status(alloc, line, &mut library, &mut sink)?;
-    assert_eq!(rt; status, wanted, "{output}");
-    if !output.is_empty() {
-        assert_eq!(rt; sink.contents(), output.as_bytes());
+    let (status, written) = run(alloc, outside, row.words, row.files, files)?;
+    assert_eq!(rt; status, row.status, "{}", row.name);
+    if let Output::Just(output) = row.output {
+        assert_eq!(rt; written.as_str(), output, "{}", row.name);
     }
     Ok(())
 }
 
-/// The status and the output of a command line, over ample room.
-pub(crate) fn run(
-    alloc: Global,
-    line: &[&str],
-    held: &[(&str, &str)],
-) -> Result<(Status, String), Fail> {
-    let mut library = MemLibrary::new(files(alloc, held)?, 4096, listed(alloc, None)?);
-    let mut sink = MemSink::new(alloc, 1_000_000, 4096, listed(alloc, None)?)?;
-    let status = status(alloc, line, &mut library, &mut sink)?;
-    let Ok(output) = str::from_utf8(sink.contents()) else {
-        return Err("an output that is no text".into());
-    };
-    Ok((status, String::from_str(alloc, output)?))
-}
-
-/// Runs the command line over files of bytes and ample room, and compares the status and the output.
-pub(crate) fn check_bytes(
+/// Runs each row of each table, and compares the status and the output.
+pub(crate) fn check_all(
     rt: &impl Abort,
     alloc: Global,
-    line: &[&str],
-    held: &[(&str, &[u8])],
-    wanted: Status,
-    output: &str,
+    outside: Outside,
+    tables: &[Table],
 ) -> Result<(), Fail> {
-    let mut all = Vec::new(alloc);
-    for (name, content) in held {
-        all.push(file(alloc, name, content)?)?;
+    for table in tables {
+        for row in table.rows {
+            check(rt, alloc, outside, row, table.files)?;
+        }
     }
-    let mut library = MemLibrary::new(List::from_vec(all), 4096, listed(alloc, None)?);
-    let mut sink = MemSink::new(alloc, 1000, 4096, listed(alloc, None)?)?;
-    let status = status(alloc, line, &mut library, &mut sink)?;
-    assert_eq!(rt; status, wanted, "{output}");
-    assert_eq!(rt; sink.contents(), output.as_bytes());
     Ok(())
 }
 
-/// The status and the output of a command line, where one call of the library and one of the sink may be made to fail,
-/// over ample room.
-pub(crate) fn run_failing(
-    alloc: Global,
-    line: &[&str],
-    held: &[(&str, &str)],
-    failing: (Option<u64>, Option<u64>),
-) -> Result<(Status, String), Fail> {
-    let mut library = MemLibrary::new(files(alloc, held)?, READ_CHUNK, listed(alloc, failing.0)?);
-    let mut sink = MemSink::new(alloc, 1000, WRITE_CHUNK, listed(alloc, failing.1)?)?;
-    let status = status(alloc, line, &mut library, &mut sink)?;
-    let Ok(output) = str::from_utf8(sink.contents()) else {
-        return Err("an output that is no text".into());
-    };
-    Ok((status, String::from_str(alloc, output)?))
+/// A command line over files of which each can be opened once, with the status and the output that it must have.
+#[derive(Clone, Copy)]
+pub(crate) struct Opening<'a> {
+    pub(crate) words: &'a [&'a str],
+    pub(crate) files: &'a [(&'a str, Content<'a>)],
+    pub(crate) status: Status,
+    pub(crate) output: &'a str,
 }
 
-/// Runs the command line over files of which each can be opened once, and compares the status and the output: the run
-/// opens them all, in this order, and asks for nothing else.
-pub(crate) fn check_once(
-    rt: &impl Abort,
-    alloc: Global,
-    line: &[&str],
-    files: &[(&str, Content)],
-    wanted: Status,
-    output: &str,
-) -> Result<(), Fail> {
-    let mut library = Once::new(files);
+/// Runs the command line, and compares the status and the output: the run opens all files, in their order, and asks
+/// for nothing else.
+fn check_opening(rt: &impl Abort, alloc: Global, row: &Opening) -> Result<(), Fail> {
+    let mut library = Once::new(row.files);
     let mut sink = MemSink::new(alloc, 1000, 4096, listed(alloc, None)?)?;
-    let words = words(alloc, line)?;
+    let words = typed(alloc, row.words)?;
     let status = olap(alloc, &words, &mut library, &mut sink);
-    assert_eq!(rt; status, wanted, "{output}");
-    assert_eq!(rt; sink.contents(), output.as_bytes());
-    assert!(rt; library.is_used_up());
+    assert_eq!(rt; status, row.status, "{}", row.output);
+    assert_eq!(rt; sink.contents(), row.output.as_bytes());
+    assert!(rt; library.is_used_up(), "{}", row.output);
+    Ok(())
+}
+
+/// Each of the command lines opens its files so.
+pub(crate) fn check_openings(rt: &impl Abort, alloc: Global, rows: &[Opening]) -> Result<(), Fail> {
+    for row in rows {
+        check_opening(rt, alloc, row)?;
+    }
     Ok(())
 }
 
 /// The status of a command line over files of which none is missing, and a sink that takes all.
-pub(crate) fn status_surely(
-    alloc: Global,
-    line: &[&str],
-    held: &[(&str, &str)],
-) -> Result<Status, Fail> {
-    let mut library = SureLibrary::new(files(alloc, held)?, READ_CHUNK);
+pub(crate) fn status_surely(alloc: Global, words: &[&str], files: Files) -> Result<Status, Fail> {
+    let mut library = SureLibrary::new(held(alloc, files, &[])?, READ_CHUNK);
     let mut sink = SureSink::new();
-    let words = words(alloc, line)?;
+    let words = typed(alloc, words)?;
     Ok(olap_surely(alloc, &words, &mut library, &mut sink))
-}
-
-/// The text with the first place of this line changed.
-pub(crate) fn changed(alloc: Global, text: &str, old: &str, new: &str) -> Result<String, Fail> {
-    let Some((before, behind)) = text.split_once(old) else {
-        return Err("no such line".into());
-    };
-    let mut all = String::from_str(alloc, before)?;
-    all.push_str(new)?;
-    all.push_str(behind)?;
-    Ok(all)
-}
-
-/// The text with lines behind its last.
-pub(crate) fn grown(alloc: Global, text: &str, more: &str) -> Result<String, Fail> {
-    let mut all = String::from_str(alloc, text)?;
-    all.push_str(more)?;
-    Ok(all)
 }

@@ -1,10 +1,9 @@
 // `store` and `answer`: views that are kept, and views from them without the facts.
-use crate::running::{check_status, grown};
+use crate::running::Output::Just;
+use crate::running::{Row, Table};
 use crate::samples::{LOCATION, PLACES, SALES, STORED};
+use crate::texts::Piece::Text;
 use olap_run::Status;
-use std::alloc::Global;
-use std::process::Abort;
-use std::test::Fail;
 
 /// The view of the cities.
 const CITIES: &str = "category,member,count,sum,least,greatest\n\
@@ -18,121 +17,145 @@ const STATES: &str = "category,member,count,sum,least,greatest\n\
 State,,,,,\n\
 State,yu,1,7,7,7\n";
 
-#[test]
-fn views_are_stored(rt: HostRuntime) -> Result<(), Fail> {
-    let held = [("S", LOCATION), ("I", PLACES), ("F", SALES)];
-    let rows: [(&[&str], Status, &str); 5] = [
-        (
-            &["store", "S", "I", "F", "State", "Province", "City"],
-            Status::Yes,
-            STORED,
-        ),
-        (&["store", "S", "I", "F"], Status::Usage, "usage\n"),
-        (
-            &[
+pub(crate) const TABLE: Table = Table {
+    files: &[
+        ("S", &[Text(LOCATION)]),
+        ("I", &[Text(PLACES)]),
+        ("F", &[Text(SALES)]),
+        ("V", &[Text(STORED)]),
+    ],
+    rows: &[
+        Row {
+            name: "three views",
+            words: &["store", "S", "I", "F", "State", "Province", "City"],
+            files: &[],
+            status: Status::Yes,
+            output: Just(STORED),
+        },
+        Row {
+            name: "a store of no view",
+            words: &["store", "S", "I", "F"],
+            files: &[],
+            status: Status::Usage,
+            output: Just("usage\n"),
+        },
+        Row {
+            name: "a store of nine views",
+            words: &[
                 "store", "S", "I", "F", "A", "B", "C", "D", "E", "F", "G", "H", "I",
             ],
-            Status::Usage,
-            "usage\n",
-        ),
-        (
-            &["store", "S", "I", "F", "City", "State", "City"],
-            Status::Refused,
-            "refused word 7 DuplicateView\n",
-        ),
-        (
-            &["store", "S", "I", "F", "City", "Town"],
-            Status::Refused,
-            "refused word 6 UnknownCategory\n",
-        ),
-    ];
-    for (line, status, output) in rows {
-        check_status(&rt, rt.alloc(), line, &held, status, output)?;
-    }
-    Ok(())
-}
-
-/// A store and a target, with the status and the output of `answer`.
-type Row<'a> = (&'a str, &'a str, Status, &'a str);
-
-/// Each row has its status and output.
-fn answered(rt: &impl Abort, alloc: Global, rows: &[Row]) -> Result<(), Fail> {
-    for (store, target, status, output) in rows {
-        let held = [("S", LOCATION), ("I", PLACES), ("V", *store)];
-        let line = ["answer", "S", "I", "V", *target];
-        check_status(rt, alloc, &line, &held, *status, output)?;
-    }
-    Ok(())
-}
-
-#[test]
-fn views_are_answered(rt: HostRuntime) -> Result<(), Fail> {
-    let rows: [Row; 3] = [
-        (
-            STORED,
-            "Region",
-            Status::Yes,
-            "plan State Province\nmember,count,sum,least,greatest\neast,3,3,-5,5\nsouth,1,7,7,7\n",
-        ),
-        (
-            STORED,
-            "Country",
-            Status::Yes,
-            "plan City\nmember,count,sum,least,greatest\nusa,1,10,10,10\nca,3,3,-5,5\nme,1,7,7,7\n",
-        ),
-        (
-            CITIES,
-            "All",
-            Status::Yes,
-            "plan City\nmember,count,sum,least,greatest\nall,5,20,-5,10\n",
-        ),
-    ];
-    answered(&rt, rt.alloc(), &rows)
-}
-
-#[test]
-fn views_are_not_answered(rt: HostRuntime) -> Result<(), Fail> {
-    let rows: [Row; 2] = [
-        (
-            STATES,
-            "Region",
-            Status::Refused,
-            "refused answer NotAnswerable\n",
-        ),
-        (
-            STORED,
-            "Town",
-            Status::Refused,
-            "refused word 5 UnknownCategory\n",
-        ),
-    ];
-    answered(&rt, rt.alloc(), &rows)
-}
-
-#[test]
-fn stored_faults(rt: HostRuntime) -> Result<(), Fail> {
-    let alloc = rt.alloc();
-    let rows: [(&str, &str); 8] = [
-        ("City,,,,,\n", "refused store record 10 DuplicateView\n"),
-        ("Region,east,1,1,1,1\n", "refused store record 10 NoView\n"),
-        (
-            "City,tx,1,1,1,1\n",
-            "refused store record 10 WrongCategory\n",
-        ),
-        (
-            "City,zz,1,1,1,1\n",
-            "refused store record 10 UnknownMember\n",
-        ),
-        ("City,au,0,0,0,0\n", "refused store record 10 BadNumber\n"),
-        ("City,w,1,1,1,1\n", "refused store record 10 DuplicateRow\n"),
-        ("Town,,,,,\n", "refused store record 10 UnknownCategory\n"),
-        ("City,au\n", "refused store record 10 FieldCount\n"),
-    ];
-    for (record, output) in rows {
-        let store = grown(alloc, STORED, record)?;
-        let held = [("S", LOCATION), ("I", PLACES), ("V", store.as_str())];
-        let line = ["answer", "S", "I", "V", "City"];
-        check_status(&rt, alloc, &line, &held, Status::Refused, output)?;
-    }
-    Ok(())
-}
+            files: &[],
+            status: Status::Usage,
+            output: Just("usage\n"),
+        },
+        Row {
+            name: "a view twice",
+            words: &["store", "S", "I", "F", "City", "State", "City"],
+            files: &[],
+            status: Status::Refused,
+            output: Just("refused word 7 DuplicateView\n"),
+        },
+        Row {
+            name: "a stored view of no category",
+            words: &["store", "S", "I", "F", "City", "Town"],
+            files: &[],
+            status: Status::Refused,
+            output: Just("refused word 6 UnknownCategory\n"),
+        },
+        Row {
+            name: "regions from states and provinces",
+            words: &["answer", "S", "I", "V", "Region"],
+            files: &[],
+            status: Status::Yes,
+            output: Just(
+                "plan State Province\nmember,count,sum,least,greatest\neast,3,3,-5,5\nsouth,1,7,7,7\n",
+            ),
+        },
+        Row {
+            name: "countries from cities",
+            words: &["answer", "S", "I", "V", "Country"],
+            files: &[],
+            status: Status::Yes,
+            output: Just(
+                "plan City\nmember,count,sum,least,greatest\nusa,1,10,10,10\nca,3,3,-5,5\nme,1,7,7,7\n",
+            ),
+        },
+        Row {
+            name: "all from cities",
+            words: &["answer", "S", "I", "V", "All"],
+            files: &[("V", &[Text(CITIES)])],
+            status: Status::Yes,
+            output: Just("plan City\nmember,count,sum,least,greatest\nall,5,20,-5,10\n"),
+        },
+        Row {
+            name: "regions from states alone",
+            words: &["answer", "S", "I", "V", "Region"],
+            files: &[("V", &[Text(STATES)])],
+            status: Status::Refused,
+            output: Just("refused answer NotAnswerable\n"),
+        },
+        Row {
+            name: "an answer for no category",
+            words: &["answer", "S", "I", "V", "Town"],
+            files: &[],
+            status: Status::Refused,
+            output: Just("refused word 5 UnknownCategory\n"),
+        },
+        Row {
+            name: "a stored view that comes twice",
+            words: &["answer", "S", "I", "V", "City"],
+            files: &[("V", &[Text(STORED), Text("City,,,,,\n")])],
+            status: Status::Refused,
+            output: Just("refused store record 10 DuplicateView\n"),
+        },
+        Row {
+            name: "a row before its view",
+            words: &["answer", "S", "I", "V", "City"],
+            files: &[("V", &[Text(STORED), Text("Region,east,1,1,1,1\n")])],
+            status: Status::Refused,
+            output: Just("refused store record 10 NoView\n"),
+        },
+        Row {
+            name: "a row of a state in the view of cities",
+            words: &["answer", "S", "I", "V", "City"],
+            files: &[("V", &[Text(STORED), Text("City,tx,1,1,1,1\n")])],
+            status: Status::Refused,
+            output: Just("refused store record 10 WrongCategory\n"),
+        },
+        Row {
+            name: "a row of no member",
+            words: &["answer", "S", "I", "V", "City"],
+            files: &[("V", &[Text(STORED), Text("City,zz,1,1,1,1\n")])],
+            status: Status::Refused,
+            output: Just("refused store record 10 UnknownMember\n"),
+        },
+        Row {
+            name: "a row of no facts",
+            words: &["answer", "S", "I", "V", "City"],
+            files: &[("V", &[Text(STORED), Text("City,au,0,0,0,0\n")])],
+            status: Status::Refused,
+            output: Just("refused store record 10 BadNumber\n"),
+        },
+        Row {
+            name: "a row that comes twice",
+            words: &["answer", "S", "I", "V", "City"],
+            files: &[("V", &[Text(STORED), Text("City,w,1,1,1,1\n")])],
+            status: Status::Refused,
+            output: Just("refused store record 10 DuplicateRow\n"),
+        },
+        Row {
+            name: "a view of no category in a store",
+            words: &["answer", "S", "I", "V", "City"],
+            files: &[("V", &[Text(STORED), Text("Town,,,,,\n")])],
+            status: Status::Refused,
+            output: Just("refused store record 10 UnknownCategory\n"),
+        },
+        Row {
+            name: "a row of two fields",
+            words: &["answer", "S", "I", "V", "City"],
+            files: &[("V", &[Text(STORED), Text("City,au\n")])],
+            status: Status::Refused,
+            output: Just("refused store record 10 FieldCount\n"),
+        },
+    ],
+};

@@ -1,29 +1,32 @@
 // The top call over files of which none is missing, and a sink that takes all.
-use crate::running::status_surely;
+use crate::running::{Files, status_surely};
 use crate::samples::{CHAIN, TWO_STORES};
+use crate::texts::Piece::Text;
 use olap_run::Status;
 use std::test::Fail;
 
+const HELD: Files = &[
+    ("S", &[Text(CHAIN)]),
+    ("I", &[Text(TWO_STORES)]),
+    (
+        "E",
+        &[Text("schema 1\ncategory A\nedge A All\nconstraint A: false\n")],
+    ),
+];
+
+const ROWS: &[(&[&str], Status)] = &[
+    (&["check", "S", "I"], Status::Yes),
+    (&["satisfiable", "E", "A"], Status::No),
+    (&["satisfiable", "S", "Town"], Status::Refused),
+    // A name that isn't held has no bytes, and these are no schema.
+    (&["format", "X"], Status::Refused),
+    (&["format"], Status::Usage),
+];
+
 #[test]
 fn answers_without_a_fault(rt: HostRuntime) -> Result<(), Fail> {
-    let held = [
-        ("S", CHAIN),
-        ("I", TWO_STORES),
-        (
-            "E",
-            "schema 1\ncategory A\nedge A All\nconstraint A: false\n",
-        ),
-    ];
-    let rows: [(&[&str], Status); 5] = [
-        (&["check", "S", "I"], Status::Yes),
-        (&["satisfiable", "E", "A"], Status::No),
-        (&["satisfiable", "S", "Town"], Status::Refused),
-        // A name that isn't held has no bytes, and these are no schema.
-        (&["format", "X"], Status::Refused),
-        (&["format"], Status::Usage),
-    ];
-    for (line, wanted) in rows {
-        assert_eq!(rt; status_surely(rt.alloc(), line, &held)?, wanted);
+    for (words, wanted) in ROWS {
+        assert_eq!(rt; status_surely(rt.alloc(), words, HELD)?, *wanted);
     }
     Ok(())
 }
