@@ -3,3 +3,5 @@ mod FilesLemmas
 mod DimensionLemmas
 mod NameLemmas
 mod WordLemmas
+mod TupleLemmas
+mod OneAnswer

@@ -1,9 +1,8 @@
 -- The words of a command over several dimensions.
 --     seen_is_no_usage    a command isn't what is answered by the usage
 --     cut_words           the words of a command, cut after the first and the second kind of files
---     too_few             there are too few words for a file of each dimension
-use Rattle.std.proofs.Common.{◌≡◌, ◌<◌, ◌≤◌, ℕ, List, [], ◌∷◌, None, length, drop, take, ap, sym, arith, ◌∙◌}
-use Rattle.std.proofs.lemmas.List.{drop_all, drop-map, take-map}
+use Rattle.std.proofs.Common.{◌≡◌, ◌<◌, ℕ, List, [], ◌∷◌, length, drop, take, ap, sym, arith, ◌∙◌}
+use Rattle.std.proofs.lemmas.List.{drop-map, take-map}
 use Rattle.std.specs.String.{string_bytes}
 use Rattle.std.specs.declared.string.String.{String}
 use Rattle.std.specs.declared.alloc.Global.{Global}
@@ -12,7 +11,7 @@ use Rattle.olap_order.specs.Families.{IsNoUsage}
 use Rattle.olap_order.specs.Order.{Told}
 use Rattle.olap_order.specs.Words.{texts}
 use Rattle.olap_order.specs.declared.status.Status.TheVariants.{Usage}
-use Rattle.olap_cubes.specs.Commands.{cubeview_by, cubeview_order}
+use Rattle.olap_cubes.specs.Commands.{by_target, cube_by, cube_order, cubeview_by, cubeview_order}
 use Rattle.olap_cubes.specs.Seen.{HasFiles, seen}
 use Rattle.olap_cubes.specs.declared.words.Command.{Command}
 use Rattle.olap_cubes.specs.declared.words.Command.TheVariants as code
@@ -25,6 +24,19 @@ seen_is_no_usage (code.CubeView schemas instances facts target) h bytes e = read
         → cubeview_order (texts words) (texts instances.now) facts.now target.now ≡ Told Usage bytes → ⊥
     reads_first [] l e = absurd (omega arith)
     reads_first (word ∷ words) l e = absurd (cc)
+seen_is_no_usage (code.Cube schemas target sources) h bytes e = reads_first schemas.now h.0.0 e
+  where
+    reads_first : (words : List (String Global)) → 0 < length words
+        → cube_order (texts words) target.now (texts sources.now) ≡ Told Usage bytes → ⊥
+    reads_first [] l e = absurd (omega arith)
+    reads_first (word ∷ words) l e = absurd (cc)
+
+-- the words after the schemas
+pub cut_schemas : (words schemas : List (String Global)) (k : ℕ) → schemas ≡ take k words
+    → cube_by k (texts words) ≡ by_target (cube_order (texts schemas)) (texts (drop k words))
+cut_schemas words schemas k s =
+    ap (λ ws. by_target (cube_order ws) (drop k (texts words))) (take-map string_bytes k words ∙ ap texts (sym s))
+    ∙ ap (by_target (cube_order (texts schemas))) (drop-map string_bytes k words)
 
 -- the words after the schemas and the instances
 pub cut_words : (words schemas instances : List (String Global)) (k : ℕ) → schemas ≡ take k words
@@ -38,7 +50,3 @@ cut_words words schemas instances k s i =
     ∙ ap (λ ws. by_two (cubeview_order (texts schemas) ws) (drop k (texts (drop k words))))
     (take-map string_bytes k (drop k words) ∙ ap texts (sym i))
     ∙ ap (by_two (cubeview_order (texts schemas) (texts instances))) (drop-map string_bytes k (drop k words))
-
--- too few words
-pub too_few : (words : List (List ℕ)) (k : ℕ) → length (drop k words) ≤ k → cubeview_by k words ≡ None
-too_few words k h = ap (by_two (cubeview_order (take k words) (take k (drop k words)))) (drop_all k (drop k words) h)

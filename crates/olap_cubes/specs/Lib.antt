@@ -3,5 +3,6 @@
 pub mod Questions
 pub mod Steps
 pub mod Commands
+pub mod Laws
 pub mod OfFacts
 pub mod Seen

@@ -2,10 +2,11 @@
 --     seen         the order of a command
 --     HasFiles     a command has a file of each kind for each of its dimensions
 use Rattle.std.specs.Prelude.{◌≡◌, ◌<◌, ◌≤◌, ℕ, length}
+use Rattle.olap_base.specs.Limits.{most_views}
 use Rattle.olap_cube.specs.Limits.{most_dimensions}
 use Rattle.olap_order.specs.Order.{Order}
 use Rattle.olap_order.specs.Words.{texts}
-use Rattle.olap_cubes.specs.Commands.{cubeview_order}
+use Rattle.olap_cubes.specs.Commands.{cube_order, cubeview_order}
 use Rattle.olap_cubes.specs.Questions.{Question}
 use Rattle.olap_cubes.specs.declared.words.Command.{Command}
 use Rattle.olap_cubes.specs.declared.words.Command.TheVariants as code
@@ -14,12 +15,14 @@ use Rattle.olap_cubes.specs.declared.words.Command.TheVariants as code
 abbrev pub seen : Command → Order Question
 seen (code.CubeView schemas instances facts target) =
     cubeview_order (texts schemas.now) (texts instances.now) facts.now target.now
+seen (code.Cube schemas target sources) = cube_order (texts schemas.now) target.now (texts sources.now)
 
 -- a cube may have so many dimensions: one to four
 abbrev pub AreDimensions : ℕ → Type 0
 AreDimensions k = (0 < k) × (k ≤ most_dimensions)
 
--- it has a schema of each dimension, and where it has instances, one of each
+-- it has a schema of each dimension, and where it has instances, one of each; of sources there are no more than may be
 abbrev pub HasFiles : Command → Type 0
 HasFiles (code.CubeView schemas instances facts target) =
     AreDimensions (length schemas.now) × (length instances.now ≡ length schemas.now)
+HasFiles (code.Cube schemas target sources) = AreDimensions (length schemas.now) × (length sources.now ≤ most_views)

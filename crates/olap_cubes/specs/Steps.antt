@@ -4,9 +4,12 @@
 --     legal_files        a legal instance of each
 --     cube_facts_file    facts at members of those
 --     tuple_word         a tuple of categories, one of each dimension
-use Rattle.std.specs.Prelude.{ℕ, suc, List, [], ◌∷◌, ◌++◌, ◌==◌, length, codes, Option, Some, option_map, if◌then◌else◌}
+--     different_tuples   tuples that differ
+use Rattle.std.specs.Prelude.{ℕ, suc, List, [], ◌∷◌, ◌++◌, ◌==◌, length, codes, Option, Some, option_map, if◌then◌else◌, nat_eq}
 use Rattle.std.specs.Prelude.{option_and_then}
 use Rattle.std.specs.Fmt.{decimal}
+use Rattle.std.specs.Cmp.Lexicographic.{pointwise}
+use Rattle.std.specs.List.{list_any}
 use Rattle.olap_base.specs.Instance.{Instance}
 use Rattle.olap_ast.specs.Schema.{Schema}
 use Rattle.olap_graph.specs.Lookups.{category_named}
@@ -60,3 +63,16 @@ tuple_word schemas at word =
     if length (pieces_of 44 word) == length schemas
     then ok_or (categories_named schemas (pieces_of 44 word)) (fault_text (codes "word") at (codes "UnknownCategory"))
     else refused (fault_text (codes "word") at (codes "BadForm"))
+
+-- a tuple that is none of those before it
+abbrev pub another_tuple : List Schema → ℕ → List (List ℕ) → List ℕ → Order (List ℕ)
+another_tuple schemas at earlier word = and_then (tuple_word schemas at word) (λ c.
+    if list_any (λ d. pointwise nat_eq d c) earlier
+    then refused (fault_text (codes "word") at (codes "DuplicateSource"))
+    else Done c)
+
+-- different tuples from this word on, left to right, after these
+abbrev pub different_tuples : List Schema → ℕ → List (List ℕ) → List (List ℕ) → Order (List (List ℕ))
+different_tuples schemas at earlier [] = Done earlier
+different_tuples schemas at earlier (word ∷ words) = and_then (another_tuple schemas at earlier word) (λ c.
+    different_tuples schemas (suc at) (earlier ++ c ∷ []) words)

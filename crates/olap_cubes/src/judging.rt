@@ -6,6 +6,7 @@ ghost use Rattle.olap_cubes.specs.Commands.{order_named};
 ghost use Rattle.olap_cubes.specs.Questions.{IsAnswer};
 ghost use Rattle.olap_cubes.specs.Seen.{HasFiles, seen};
 
+use crate::summarizing::cube;
 use crate::viewing::cubeview;
 use crate::words::{Command, parse};
 use olap_base::Library;
@@ -24,6 +25,11 @@ fn run<L: Library>(alloc: Global, command: Command, lib: &mut L) -> Result<Reply
             facts,
             target,
         } => cubeview(alloc, schemas, instances, facts, target, lib),
+        Command::Cube {
+            schemas,
+            target,
+            sources,
+        } => cube(alloc, schemas, target, sources, lib),
     }
 }
 

@@ -1,4 +1,4 @@
-//! The commands over several dimensions: what is the direct view of a cube's target?
+//! The commands over several dimensions: what is the direct view of a cube's target, and may it be taken from sources?
 //!
 //! A command is an order (`specs/Commands.antt`): K schemas, K instances and words that name a category of each dimension.
 //! `judge` is the one call: the reply to a command's name and words.
@@ -7,8 +7,11 @@
 mod counting;
 mod dimensions;
 mod judging;
+mod laws;
 mod naming;
+mod summarizing;
 mod viewing;
 mod words;
 
 pub use judging::judge;
+pub use laws::answers_are_one;

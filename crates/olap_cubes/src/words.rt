@@ -2,10 +2,11 @@
 ghost use Rattle.std.specs.Prelude.{◌≡◌, IfSome, length, option_map};
 ghost use Rattle.olap_order.specs.Arguments.{by_two};
 ghost use Rattle.olap_order.specs.Words.{texts};
-ghost use Rattle.olap_cubes.specs.Commands.{cubeview_by, cubeview_order, order_named};
+ghost use Rattle.olap_cubes.specs.Commands.{by_target, cube_by, cube_order, cubeview_by, cubeview_order, order_named};
 ghost use Rattle.olap_cubes.specs.Seen.{AreDimensions, HasFiles, seen};
 
 use crate::counting::counted;
+use olap_base::MOST_VIEWS;
 
 /// A command with its words.
 #[derive(Clone, Copy)]
@@ -16,6 +17,12 @@ pub(crate) enum Command<'a> {
         instances: &'a [String],
         facts: &'a str,
         target: &'a str,
+    },
+    /// Whether a target is summarizable from sources.
+    Cube {
+        schemas: &'a [String],
+        target: &'a str,
+        sources: &'a [String],
     },
 }
 
@@ -53,12 +60,42 @@ fn cubeview(dimensions: usize, words: &[String]) -> Option<Command<'_>>
     after_files(schemas, instances, words)
 }
 
+/// The words after the schemas of `cube`.
+fn after_schemas<'a>(schemas: &'a [String], words: &'a [String]) -> Option<Command<'a>>
+    requires few { AreDimensions (length schemas.now) }
+    ensures order { option_map seen result ≡ by_target (cube_order (texts schemas.now)) (texts words.now) }
+    ensures files { IfSome result HasFiles }
+{
+    match words {
+        [target, sources @ ..] if sources.len() <= MOST_VIEWS => Some(Command::Cube {
+            schemas,
+            target: target.as_str(),
+            sources,
+        }),
+        _ => None,
+    }
+}
+
+/// The words after `cube` and the number of dimensions.
+fn cube(dimensions: usize, words: &[String]) -> Option<Command<'_>>
+    requires few { AreDimensions dimensions }
+    ensures order { option_map seen result ≡ cube_by dimensions (texts words.now) }
+    ensures files { IfSome result HasFiles }
+{
+    let (schemas, words) = words.split_at_checked(dimensions)?;
+    after_schemas(schemas, words)
+}
+
 /// The command of that name with these words after it, if it is one of this family.
 pub(crate) fn parse<'a>(name: &str, words: &'a [String]) -> Option<Command<'a>>
     ensures order { option_map seen result ≡ order_named name.now (texts words.now) }
     ensures files { IfSome result HasFiles }
 {
     match name {
+        "cube" => {
+            let (dimensions, words) = counted(words)?;
+            cube(dimensions, words)
+        }
         "cubeview" => {
             let (dimensions, words) = counted(words)?;
             cubeview(dimensions, words)

@@ -1,0 +1,99 @@
+-- Tuples of categories that are read from words, one after the other.
+--     numbers_compared categories are compared as their numbers are
+--     ended_plain      a step that reads nothing ends, and what comes behind it with it
+--     AreNamedUpTo     the order of all the words is that of those that are left, behind the tuples that were read
+use Rattle.std.proofs.Common.{◌≡◌, ◌+◌, ◌<◌, ◌≤◌, ℕ, suc, List, [], ◌∷◌, ◌++◌, Result, Ok, Err, length, get_or, drop, true, false, ap, refl, subst, sym, arith, ◌∙◌}
+use Rattle.std.specs.Cmp.Lexicographic.{pointwise}
+use Rattle.std.specs.List.{list_any}
+use Rattle.std.specs.Prelude.{◌&&◌, All, Contains, nat_eq}
+use Rattle.std.specs.Result.{IsErrAnd}
+use Rattle.std.proofs.lemmas.List.{drop_all, drop_more, length_push}
+use Rattle.std.proofs.lemmas.List.Elements.{All-append, All-cons}
+use Rattle.std.proofs.lemmas.Slice.Eq.{bytes_eq-Decides}
+use Rattle.olap_ast.specs.Schema.{Schema}
+use Rattle.olap_ast.proofs.Shape.{Distinct-push}
+use Rattle.olap_base.specs.declared.ids.CatId.{CatId}
+use Rattle.olap_base.proofs.ListLemmas.{Distinct, list_any_is}
+use Rattle.olap_dimensions.specs.Dimensions.{AreCategoriesOf}
+use Rattle.olap_order.specs.Judged.{Replies}
+use Rattle.olap_order.specs.Order.{Order, Done, and_then}
+use Rattle.olap_order.specs.Taken.{NoAnswer, PlainStep}
+use Rattle.olap_order.specs.Words.{numbers_of}
+use Rattle.olap_order.specs.declared.replies.Stop.{Stop}
+use Rattle.olap_order.proofs.Stepping.{ends_both}
+use Rattle.olap_cubes.specs.Steps.{another_tuple, different_tuples}
+
+pub numbers_compared : (xs ys : List CatId) → pointwise (λ (a b : CatId). nat_eq a.0 b.0) xs ys
+    ≡ pointwise nat_eq (numbers_of xs) (numbers_of ys)
+numbers_compared [] [] = refl
+numbers_compared [] (y ∷ ys) = refl
+numbers_compared (x ∷ xs) [] = refl
+numbers_compared (x ∷ xs) (y ∷ ys) = ap (λ b. nat_eq x.0 y.0 && b) (numbers_compared xs ys)
+
+module _ {T X : Type 0} {step : Order T} {meaning : X → T} where
+  -- the code hands on why a step ended
+  pub ended_plain : (result : Result X Stop) (stop : Stop) → IsErrAnd result (λ e. e ≡ stop)
+      → Replies NoAnswer step (Err stop) → PlainStep step meaning result
+  ended_plain (Ok x) stop is s = absurd is
+  ended_plain (Err e) stop is s = record {
+    comes_out = tt;
+    ends = subst (λ e. Replies NoAnswer step (Err e)) (sym is) s;
+  }
+
+-- a tuple that isn't found in a list isn't in it
+not_among : (tuples : List (List ℕ)) (c : List ℕ) → list_any (λ d. pointwise nat_eq d c) tuples ≡ false
+    → Contains tuples c → ⊥
+not_among tuples c e h =
+    let found : list_any (λ d. pointwise nat_eq d c) tuples ≡ true =
+    (list_any_is (λ d. pointwise nat_eq d c) tuples).1 (c, h, (bytes_eq-Decides c c).1 refl) in
+    absurd (let q : true ≡ false = sym found ∙ e in cc)
+
+module _ (schemas : List Schema) (at : ℕ) (words : List (List ℕ)) where
+  pub record AreNamedUpTo (k : ℕ) (tuples : List (List ℕ)) : Type 0 where
+    pub order : different_tuples schemas at [] words ≡ different_tuples schemas (at + k) tuples (drop k words)
+    pub each : length tuples ≡ k
+    pub categories : All (AreCategoriesOf schemas) tuples
+    pub differ : Distinct tuples
+
+  -- from one word on: the order of this word's tuple, and of the words behind it
+  from_word : (k : ℕ) (tuples : List (List ℕ)) → k < length words → AreNamedUpTo k tuples
+      → different_tuples schemas at [] words ≡ and_then (another_tuple schemas (at + k) tuples (get_or words k []))
+      (λ c. different_tuples schemas (suc (at + k)) (tuples ++ c ∷ []) (drop (k + 1) words))
+  from_word k tuples h r = r.order
+      ∙ ap (λ ws. different_tuples schemas (at + k) tuples ws) (drop_more words k [] h)
+
+  pub no_word : AreNamedUpTo 0 []
+  no_word = record {
+    order = let e : at ≡ at + 0 = omega arith in ap (λ n. different_tuples schemas n [] words) e;
+    each = refl;
+    categories = λ k d l. absurd (omega arith);
+    differ = tt;
+  }
+
+  pub word_more : (k : ℕ) (tuples all : List (List ℕ)) (c : List ℕ) → k < length words → AreNamedUpTo k tuples
+      → another_tuple schemas (at + k) tuples (get_or words k []) ≡ Done c
+      → AreCategoriesOf schemas c → list_any (λ d. pointwise nat_eq d c) tuples ≡ false → all ≡ tuples ++ c ∷ []
+      → AreNamedUpTo (k + 1) all
+  word_more k tuples all c h r goes categories fresh e = subst (AreNamedUpTo (k + 1)) (sym e) (record {
+    order = from_word k tuples h r
+        ∙ ap (λ o. and_then o
+        (λ d. different_tuples schemas (suc (at + k)) (tuples ++ d ∷ []) (drop (k + 1) words))) goes
+        ∙ (let p : suc (at + k) ≡ at + (k + 1) = omega arith in
+        ap (λ n. different_tuples schemas n (tuples ++ c ∷ []) (drop (k + 1) words)) p);
+    each = length_push tuples c ∙ ap (λ n. n + 1) r.each;
+    categories = All-append (AreCategoriesOf schemas) tuples (c ∷ []) r.categories
+        (All-cons (AreCategoriesOf schemas) c [] categories (λ j d l. absurd (omega arith)));
+    differ = Distinct-push tuples c r.differ (not_among tuples c fresh);
+  })
+
+  -- all words are read
+  pub word_last : (k : ℕ) (tuples : List (List ℕ)) → length words ≤ k → AreNamedUpTo k tuples
+      → different_tuples schemas at [] words ≡ Done tuples
+  word_last k tuples h r = r.order ∙ ap (λ ws. different_tuples schemas (at + k) tuples ws) (drop_all k words h)
+
+  -- where a word isn't taken, the order ends as it does there
+  pub word_ends : (k : ℕ) (tuples : List (List ℕ)) (stop : Stop) → k < length words → AreNamedUpTo k tuples
+      → Replies NoAnswer (another_tuple schemas (at + k) tuples (get_or words k [])) (Err stop)
+      → Replies NoAnswer (different_tuples schemas at [] words) (Err stop)
+  word_ends k tuples stop h r ends = subst (λ o. Replies NoAnswer o (Err stop)) (sym (from_word k tuples h r))
+      (ends_both ends (λ c. different_tuples schemas (suc (at + k)) (tuples ++ c ∷ []) (drop (k + 1) words)))
