@@ -2,6 +2,7 @@
 use Rattle.std.proofs.Common.{◌≡◌, ◌⊎◌, List, ℕ, inl, sym, ◌∙◌}
 use Rattle.std.specs.Prelude.{MatchOption, None, Option, Some}
 use Rattle.olap_base.specs.Files.{Files}
+use Rattle.olap_cubes.specs.Laws.{AnswersAreOne as CubesAnswersAreOne}
 use Rattle.olap_order.specs.Judged.{Gives}
 use Rattle.olap_order.specs.Order.{Order, Done, Told, Read}
 use Rattle.olap_order.specs.declared.status.Status.{Status}
@@ -12,14 +13,15 @@ use Rattle.olap_run.specs.Laws.{AreCertificates, OutcomeIsOne}
 use Rattle.olap_run.specs.Questions.{IsAnswer, Question, OfReasoning, OfTotals, OfPlans, OfVerdicts, OfCubes}
 use Rattle.olap_verdicts.specs.Laws.{AnswersAreOne as VerdictsAnswersAreOne}
 
-module _ (about_all : AnswersAreOne) (planned : PlansAnswersAreOne) (judged : VerdictsAnswersAreOne) where
+module _ (about_all : AnswersAreOne) (planned : PlansAnswersAreOne) (judged : VerdictsAnswersAreOne)
+    (of_cubes : CubesAnswersAreOne) where
   one_answer : (files : Files) (q : Question) (s t : Status) (xs ys : List ℕ) → IsAnswer q s xs → IsAnswer q t ys
       → (s ≡ t) × ((xs ≡ ys) ⊎ AreCertificates files (Done q) xs ys)
   one_answer files (OfReasoning q) s t xs ys a b = about_all q s t xs ys a b
   one_answer files (OfTotals q) s t xs ys a b = absurd a
   one_answer files (OfPlans q) s t xs ys a b = let one = planned q s t xs ys a b in (one.0, inl one.1)
   one_answer files (OfVerdicts q) s t xs ys a b = let one = judged q s t xs ys a b in (one.0, inl one.1)
-  one_answer files (OfCubes q) s t xs ys a b = absurd a
+  one_answer files (OfCubes q) s t xs ys a b = let one = of_cubes q s t xs ys a b in (one.0, inl one.1)
 
   -- along any order
   one_given : (files : Files) (order : Order Question) (s t : Status) (xs ys : List ℕ) → Gives IsAnswer files order s xs

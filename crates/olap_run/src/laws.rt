@@ -10,4 +10,5 @@ pub fn outcome_is_one()
     olap_reasoning::answers_are_one();
     olap_plans::answers_are_one();
     olap_verdicts::answers_are_one();
+    olap_cubes::answers_are_one();
 }
