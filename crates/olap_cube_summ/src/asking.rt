@@ -1,5 +1,5 @@
 // Frozen dimensions that are searched for by their patterns.
-ghost use Rattle.std.specs.Prelude.{◌≡◌, IfOk, IfSome, IsNone};
+ghost use Rattle.std.specs.Prelude.{IfOk, IfSome, IsNone};
 ghost use Rattle.olap_base.specs.Graph.{IsBottom};
 ghost use Rattle.olap_cube_summ.specs.Patterns.{AreAllKnown, IsLeastKnown, IsOther, SomeIsKnown};
 ghost use Rattle.olap_cube_summ.specs.Questions.{IsQuestionOf};

@@ -1,9 +1,7 @@
 // The least bad choice of frozen dimensions with given roots.
-ghost use Rattle.std.specs.Prelude.{◌≡◌, ◌<◌, ◌≤◌, ◌^◌, ◌∷◌, All, IfOk, List as Items, length, map};
+ghost use Rattle.std.specs.Prelude.{◌≡◌, ◌<◌, ◌≤◌, ◌^◌, ◌∷◌, All, IfOk, length};
 ghost use Rattle.olap_base.specs.Limits.{most_views};
 ghost use Rattle.olap_cube_summ.specs.Dimensions.{AreLeast, IsDimension, IsLeastBefore, dimensions_of};
-ghost use Rattle.olap_cube_summ.specs.Patterns.{IsFamily};
-ghost use Rattle.olap_cube_summ.specs.Questions.{IsQuestionOf};
 ghost use Rattle.olap_dimensions.specs.Dimensions.{schemas_of};
 ghost use Rattle.olap_patterns.specs.Families.{patterns_of};
 ghost use Rattle.olap_patterns.specs.Masks.{CanBeBad, all_of};
@@ -76,9 +74,11 @@ pub(crate) fn least_choice(
     requires few { sources ≤ most_views }
     requires questions { length questions.now ≡ length (schemas_of cube.now) }
     requires families { length families.now ≡ length (schemas_of cube.now) }
-    requires dimensions { All (IsDimension sources) (dimensions_of (schemas_of cube.now) questions.now families.now) }
+    requires dimensions { All (IsDimension sources)
+        (dimensions_of (schemas_of cube.now) questions.now families.now) }
     requires bad { CanBeBad sources (patterns_of families.now) (all_of sources) }
-    ensures { IfOk result (AreLeast sources (dimensions_of (schemas_of cube.now) questions.now families.now) (all_of sources)) }
+    ensures { IfOk result (AreLeast sources (dimensions_of (schemas_of cube.now) questions.now families.now)
+        (all_of sources)) }
 {
     let sets = sets(alloc, families)?;
     let mut mask = all(sources);

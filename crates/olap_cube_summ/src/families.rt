@@ -1,6 +1,6 @@
 // The patterns that the frozen dimensions of bottom categories have.
 ghost use Rattle.std.specs.Prelude.{◌≡◌, IfOk, length};
-ghost use Rattle.olap_base.specs.Graph.{IsBottom, IsHierarchy, category_count};
+ghost use Rattle.olap_base.specs.Graph.{IsBottom, category_count};
 ghost use Rattle.olap_cube_summ.specs.Patterns.{AreFamilies, IsFamily};
 ghost use Rattle.olap_cube_summ.specs.Questions.{IsQuestionOf};
 ghost use Rattle.olap_schema.specs.Schemas.{schema_of};

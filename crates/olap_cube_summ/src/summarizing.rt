@@ -73,7 +73,8 @@ fn counterexample(
     ensures none { IfOk result (λ o. IsNone o
         ↔ IsCubeSummarizable (schemas_of cube.now) (tuple_of target.now) (tuples_in sources.now)) }
     ensures found { IfOk result (λ o. IfSome o
-        (λ found. IsCubeCounterexampleFound (schemas_of cube.now) (tuple_of target.now) (tuples_in sources.now) found.founds)) }
+        (λ found. IsCubeCounterexampleFound (schemas_of cube.now) (tuple_of target.now) (tuples_in sources.now)
+        found.founds)) }
 {
     let count = sources.len();
     let questions = questions(alloc, cube.len(), target, sources)?;
@@ -95,8 +96,8 @@ fn counterexample(
 ///
 /// `DuplicateSource`: exactly where a source stands twice. `Memory`: out of memory. The target may be a source.
 ///
-/// It makes one search for each pattern of each bottom category of each dimension, and one more for each bottom category
-/// and each dimension; one stands at a time.
+/// It makes one search for each pattern of each bottom category of each dimension, and one more for each bottom
+/// category and each dimension; one stands at a time.
 pub fn cube_summarizable(
     alloc: Global,
     cube: &Cube,
@@ -111,7 +112,8 @@ pub fn cube_summarizable(
     ensures none { IfOk result (λ o. IsNone o
         ↔ IsCubeSummarizable (schemas_of cube.now) (tuple_of target.now) (tuples_in sources.now)) }
     ensures found { IfOk result (λ o. IfSome o
-        (λ found. IsCubeCounterexampleFound (schemas_of cube.now) (tuple_of target.now) (tuples_in sources.now) found.founds)) }
+        (λ found. IsCubeCounterexampleFound (schemas_of cube.now) (tuple_of target.now) (tuples_in sources.now)
+        found.founds)) }
 {
     if !are_distinct(sources) {
         return Err(CubeRefusal::DuplicateSource);

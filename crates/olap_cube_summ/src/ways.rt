@@ -19,7 +19,8 @@ use olap_schema::Schema;
 fn reaches_by(schema: &Schema, target: CatId, source: CatId, found: &Found, room: &mut Room) -> bool
     requires found { IsFoundFor (schema_of schema.now) target.0 found.now }
     requires room { length room.old.rows.items ≡ category_count (schema_of schema.now).graph }
-    ensures way { (x : ℕ) → IsMemberOf (shape_of (schema_of schema.now) (chosen_of found.now)) found.now.frozen.root.0 x
+    ensures way { (x : ℕ)
+        → IsMemberOf (shape_of (schema_of schema.now) (chosen_of found.now)) found.now.frozen.root.0 x
         → IsTrue result
         ↔ ReachesVia (shape_of (schema_of schema.now) (chosen_of found.now)) x source.0 target.0 }
     ensures room { length room.new.rows.items ≡ category_count (schema_of schema.now).graph }
