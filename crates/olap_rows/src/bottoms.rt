@@ -1,8 +1,9 @@
 // `summarizable` over schemas of three and of four bottom categories.
 use crate::running::Output::Just;
-use crate::running::{Row, Table};
+use crate::running::{Row, Table, WIDE, check_all};
 use crate::texts::Piece::Text;
 use olap_run::Status;
+use std::test::Fail;
 
 /// Three bottom categories below one.
 const THREE: &str = "schema 1\n\
@@ -38,7 +39,7 @@ fact B4 1\n\
 direct C 1\n\
 views C none\n";
 
-pub(crate) const TABLE: Table = Table {
+const TABLE: Table = Table {
     files: &[("S", &[Text(THREE)])],
     rows: &[
         Row {
@@ -71,3 +72,8 @@ pub(crate) const TABLE: Table = Table {
         },
     ],
 };
+
+#[test]
+fn of_three_and_four_bottoms(rt: HostRuntime) -> Result<(), Fail> {
+    check_all(&rt, rt.alloc(), WIDE, &TABLE)
+}

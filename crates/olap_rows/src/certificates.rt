@@ -1,9 +1,10 @@
 // `verify` and `verify-short`: texts about stores in cities, with their verdicts.
 use crate::running::Output::Just;
-use crate::running::{Row, Table};
+use crate::running::{Row, Table, WIDE, check_all};
 use crate::samples::CHAIN;
 use crate::texts::Piece::Text;
 use olap_run::Status;
+use std::test::Fail;
 
 /// City's totals are those of the stores.
 const ACCEPTED: &str = "certificate 1\nbottom Store\nedge Store City\ndead Store\nquestion\n";
@@ -14,7 +15,7 @@ const CUT: &str = "certificate 1\nbottom Store\nedge Store City\ndead Store\n";
 /// The same in the short form.
 const SHORT: &str = "short certificate 1\nbottom Store\nedge Store City\ndead Store\nquestion\n";
 
-pub(crate) const TABLE: Table = Table {
+const TABLE: Table = Table {
     files: &[("S", &[Text(CHAIN)]), ("C", &[Text(ACCEPTED)])],
     rows: &[
         Row {
@@ -75,3 +76,8 @@ pub(crate) const TABLE: Table = Table {
         },
     ],
 };
+
+#[test]
+fn verdicts_over_a_chain(rt: HostRuntime) -> Result<(), Fail> {
+    check_all(&rt, rt.alloc(), WIDE, &TABLE)
+}

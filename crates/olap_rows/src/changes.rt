@@ -1,9 +1,10 @@
 // `append` and `retract`: stored views after facts came, or were withdrawn.
 use crate::running::Output::Just;
-use crate::running::{Row, Table};
+use crate::running::{NARROW, Row, Table, check_all};
 use crate::samples::{LOCATION, PLACES, STORED};
 use crate::texts::Piece::{Changed, Text};
 use olap_run::Status;
+use std::test::Fail;
 
 /// The stored views after the first sale in Austin.
 const AUSTIN_CAME: &str = "category,member,count,sum,least,greatest\n\
@@ -29,7 +30,7 @@ City,w,1,10,10,10\n\
 City,to,2,0,-5,5\n\
 City,mx,1,7,7,7\n";
 
-pub(crate) const TABLE: Table = Table {
+const TABLE: Table = Table {
     files: &[
         ("S", &[Text(LOCATION)]),
         ("I", &[Text(PLACES)]),
@@ -117,3 +118,8 @@ pub(crate) const TABLE: Table = Table {
         },
     ],
 };
+
+#[test]
+fn facts_that_come_and_go(rt: HostRuntime) -> Result<(), Fail> {
+    check_all(&rt, rt.alloc(), NARROW, &TABLE)
+}

@@ -1,11 +1,12 @@
 // `check`: legal instances, and one that breaks each law and a constraint.
 use crate::running::Output::Just;
-use crate::running::{Row, Table};
+use crate::running::{NARROW, Row, Table, check_all};
 use crate::samples::{CYCLE, LOCATION, PLACES};
 use crate::texts::Piece::{Changed, Text};
 use olap_run::Status;
+use std::test::Fail;
 
-pub(crate) const TABLE: Table = Table {
+const TABLE: Table = Table {
     files: &[("S", &[Text(LOCATION)]), ("I", &[Text(PLACES)])],
     rows: &[
         Row {
@@ -92,3 +93,8 @@ pub(crate) const TABLE: Table = Table {
         },
     ],
 };
+
+#[test]
+fn legal_instances_and_violations(rt: HostRuntime) -> Result<(), Fail> {
+    check_all(&rt, rt.alloc(), NARROW, &TABLE)
+}

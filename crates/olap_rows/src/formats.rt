@@ -1,9 +1,10 @@
 // `format`: the canonical text, and faulty schemas.
 use crate::running::Output::Just;
-use crate::running::{Row, Table};
+use crate::running::{NARROW, Row, Table, check_all};
 use crate::samples::{CYCLE, LOCATION};
 use crate::texts::Piece::Text;
 use olap_run::Status;
+use std::test::Fail;
 
 /// A chain with a comment, and a constraint without brackets.
 const COMMENTED: &str =
@@ -14,7 +15,7 @@ constraint Store: !Store_City | Store.City & Store.All -> true\n";
 const BRACKETED: &str = "schema 1\ncategory Store\ncategory City\nedge Store City\nedge City All\n\
 constraint Store: ((!Store_City | (Store.City & Store.All)) -> true)\n";
 
-pub(crate) const TABLE: Table = Table {
+const TABLE: Table = Table {
     files: &[],
     rows: &[
         Row {
@@ -91,3 +92,8 @@ pub(crate) const TABLE: Table = Table {
         },
     ],
 };
+
+#[test]
+fn canonical_text_and_faults(rt: HostRuntime) -> Result<(), Fail> {
+    check_all(&rt, rt.alloc(), NARROW, &TABLE)
+}

@@ -1,6 +1,6 @@
 // `implies`: each fault of a formula, told of the word that it is.
 use crate::running::Output::Just;
-use crate::running::{Row, Table, WIDE, run};
+use crate::running::{Row, Table, WIDE, check_all, run};
 use crate::samples::{CHAIN, CYCLE, LOCATION};
 use crate::texts::Piece::{Numbered, Text, Times};
 use crate::texts::{Piece, joined};
@@ -28,7 +28,7 @@ const TOO_LARGE: &[(&[Piece], &str)] = &[
     ),
 ];
 
-pub(crate) const TABLE: Table = Table {
+const TABLE: Table = Table {
     files: &[("S", &[Text(LOCATION)])],
     rows: &[
         Row {
@@ -93,4 +93,9 @@ fn formulas_that_are_too_large(rt: HostRuntime) -> Result<(), Fail> {
         assert_eq!(rt; written.as_str(), *output);
     }
     Ok(())
+}
+
+#[test]
+fn faults_of_form_and_names(rt: HostRuntime) -> Result<(), Fail> {
+    check_all(&rt, rt.alloc(), WIDE, &TABLE)
 }

@@ -1,7 +1,8 @@
 // `generate`: what comes of an input that is made from a seed and a number of stores.
 use crate::running::Output::Just;
-use crate::running::{Row, Table};
+use crate::running::{Row, Table, WIDE, check_all};
 use olap_run::Status;
+use std::test::Fail;
 
 // 3 stores: s1 in c2 with -458, s2 in c3 with -421, s3 in c0 with -384. One state, one province and three cities have
 // a row; the regions m0 and n0 have -458 and -421. 1000 stores: each value from -500 to 499 once, and half of the stores
@@ -13,7 +14,7 @@ use olap_run::Status;
 const OF_THREE: &str =
     "members 15\nfacts 3\nstored 5\nplan State Province\nrows 2\ncount 2\nsum -879\n";
 
-pub(crate) const TABLE: Table = Table {
+const TABLE: Table = Table {
     files: &[],
     rows: &[
         Row {
@@ -229,3 +230,8 @@ pub(crate) const TABLE: Table = Table {
         },
     ],
 };
+
+#[test]
+fn inputs_are_made(rt: HostRuntime) -> Result<(), Fail> {
+    check_all(&rt, rt.alloc(), WIDE, &TABLE)
+}

@@ -1,10 +1,11 @@
 // Texts that nobody writes in good faith, and a file without an end.
 use crate::libraries::Content;
 use crate::running::Output::{Any, Just};
-use crate::running::{Opening, Row, Table};
+use crate::running::{Opening, Row, Table, WIDE, check_all};
 use crate::samples::{CHAIN, TWO_STORES};
 use crate::texts::Piece::{Text, Times};
 use olap_run::Status;
+use std::test::Fail;
 
 /// A schema of stores in cities whose last line isn't ended.
 const UNENDED: &str = "schema 1\ncategory Store\ncategory City\nedge Store City\nedge City All";
@@ -71,7 +72,7 @@ pub(crate) const OPENINGS: &[Opening] = &[
     },
 ];
 
-pub(crate) const TABLE: Table = Table {
+const TABLE: Table = Table {
     files: &[],
     rows: &[
         Row {
@@ -204,3 +205,8 @@ pub(crate) const TABLE: Table = Table {
         },
     ],
 };
+
+#[test]
+fn schemas_of_bad_faith(rt: HostRuntime) -> Result<(), Fail> {
+    check_all(&rt, rt.alloc(), WIDE, &TABLE)
+}

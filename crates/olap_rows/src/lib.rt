@@ -2,7 +2,7 @@
 //!
 //! Every row is worked out by hand from the definitions. Nothing here is proved of the rows beyond that they run;
 //! what is proved of `olap` stands in `olap_run`. Rows stand in constant tables, since a test is proved like any
-//! function: a table costs one proof, however long it is.
+//! function: a table costs one proof.
 #![tactic(auto)]
 
 #[cfg(test)]
@@ -55,7 +55,5 @@ mod searches;
 mod stores;
 #[cfg(test)]
 mod surely;
-#[cfg(test)]
-mod tables;
 #[cfg(test)]
 mod texts;

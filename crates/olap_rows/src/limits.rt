@@ -1,8 +1,9 @@
 // The limits of a schema: the last that is allowed, and the first that is refused.
 use crate::running::Output::{Any, Just};
-use crate::running::{Row, Table};
+use crate::running::{Row, Table, WIDE, check_all};
 use crate::texts::Piece::{Numbered, Text, Times};
 use olap_run::Status;
+use std::test::Fail;
 
 /// A category that reaches `All`, and then a constraint on it up to its formula.
 const START: &str = "schema 1\ncategory A\nedge A All\nconstraint A: ";
@@ -10,7 +11,7 @@ const START: &str = "schema 1\ncategory A\nedge A All\nconstraint A: ";
 /// One of the categories right below `All`.
 const CATEGORY: &str = "category C#\nedge C# All\n";
 
-pub(crate) const TABLE: Table = Table {
+const TABLE: Table = Table {
     files: &[],
     rows: &[
         Row {
@@ -284,3 +285,8 @@ pub(crate) const TABLE: Table = Table {
         },
     ],
 };
+
+#[test]
+fn limits_of_schemas(rt: HostRuntime) -> Result<(), Fail> {
+    check_all(&rt, rt.alloc(), WIDE, &TABLE)
+}

@@ -1,6 +1,6 @@
 // `frozen` and `audit`: all frozen dimensions with a root, and what a schema says or does for nothing.
 use crate::running::Output::Just;
-use crate::running::{Row, Table, WIDE, run};
+use crate::running::{Row, Table, WIDE, check_all, run};
 use crate::samples::{CHAIN, CYCLE, LOCATION};
 use crate::texts::Piece::{Numbered, Text, Times};
 use olap_run::Status;
@@ -43,7 +43,7 @@ constraint S: S_T & !S_U | S_U & !(S_T | S_P1 | S_P2 | S_P3 | S_P4 | S_P5 | S_P6
 /// One of the parents of S, each of which lies under `All`.
 const PARENT: &str = "category P#\nedge S P#\nedge P# All\n";
 
-pub(crate) const TABLE: Table = Table {
+const TABLE: Table = Table {
     files: &[("S", &[Text(LOCATION)])],
     rows: &[
         Row {
@@ -165,4 +165,9 @@ fn as_many_as_are_listed(rt: HostRuntime) -> Result<(), Fail> {
     assert!(rt; output.as_str().ends_with("\ncount 4096\n"));
     assert_eq!(rt; output.len(), 1_435_659);
     Ok(())
+}
+
+#[test]
+fn of_small_schemas(rt: HostRuntime) -> Result<(), Fail> {
+    check_all(&rt, rt.alloc(), WIDE, &TABLE)
 }

@@ -1,11 +1,12 @@
 // The limits of members, facts and texts of an instance: the last that is allowed, and the first that is refused.
 use crate::running::Output::Just;
-use crate::running::{Row, Table};
+use crate::running::{Row, Table, WIDE, check_all};
 use crate::samples::{CHAIN, TWO_STORES};
 use crate::texts::Piece::{Numbered, Text, Times};
 use olap_run::Status;
+use std::test::Fail;
 
-pub(crate) const MEMBERS: Table = Table {
+const MEMBERS: Table = Table {
     files: &[("S", &[Text(CHAIN)])],
     rows: &[
         Row {
@@ -65,7 +66,7 @@ pub(crate) const MEMBERS: Table = Table {
     ],
 };
 
-pub(crate) const FACTS: Table = Table {
+const FACTS: Table = Table {
     files: &[("S", &[Text(CHAIN)]), ("I", &[Text(TWO_STORES)])],
     rows: &[
         Row {
@@ -84,3 +85,13 @@ pub(crate) const FACTS: Table = Table {
         },
     ],
 };
+
+#[test]
+fn limits_of_instances(rt: HostRuntime) -> Result<(), Fail> {
+    check_all(&rt, rt.alloc(), WIDE, &MEMBERS)
+}
+
+#[test]
+fn limits_of_facts(rt: HostRuntime) -> Result<(), Fail> {
+    check_all(&rt, rt.alloc(), WIDE, &FACTS)
+}

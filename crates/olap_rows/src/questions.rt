@@ -1,9 +1,10 @@
 // `satisfiable`, `implies` and `summarizable`: the questions about all legal instances.
 use crate::running::Output::Just;
-use crate::running::{Row, Table};
+use crate::running::{Row, Table, WIDE, check_all};
 use crate::samples::{CHAIN, CYCLE, LOCATION};
 use crate::texts::Piece::{Named, Text};
 use olap_run::Status;
+use std::test::Fail;
 
 /// Two categories that reach each other, and no bottom.
 const LOOP: &str = "schema 1\ncategory A\ncategory B\nedge A B\nedge B A\nedge A All\n";
@@ -57,7 +58,7 @@ const PARENTS: &[&str] = &[
     "t", "u", "v", "w", "x", "y", "z",
 ];
 
-pub(crate) const OVER_LOCATIONS: Table = Table {
+const OVER_LOCATIONS: Table = Table {
     files: &[("S", &[Text(LOCATION)])],
     rows: &[
         Row {
@@ -142,7 +143,7 @@ pub(crate) const OVER_LOCATIONS: Table = Table {
     ],
 };
 
-pub(crate) const OVER_OTHERS: Table = Table {
+const OVER_OTHERS: Table = Table {
     files: &[],
     rows: &[
         Row {
@@ -230,3 +231,13 @@ pub(crate) const OVER_OTHERS: Table = Table {
         },
     ],
 };
+
+#[test]
+fn of_locations(rt: HostRuntime) -> Result<(), Fail> {
+    check_all(&rt, rt.alloc(), WIDE, &OVER_LOCATIONS)
+}
+
+#[test]
+fn of_cycles_and_chains(rt: HostRuntime) -> Result<(), Fail> {
+    check_all(&rt, rt.alloc(), WIDE, &OVER_OTHERS)
+}

@@ -1,14 +1,15 @@
 // `rollup`: views, and faults of schemas, instances and facts.
 use crate::running::Output::Just;
-use crate::running::{Row, Table};
+use crate::running::{NARROW, Row, Table, check_all};
 use crate::samples::{CHAIN, CITY_VIEW, LOCATION, PLACES, SALES, TWO_STORES, ZERO_SUM};
 use crate::texts::Piece::Text;
 use olap_run::Status;
+use std::test::Fail;
 
 /// A store in a city whose id has a comma.
 const QUOTED: &str = "id,category,name,parents\ns,Store,s,\"a,b\"\n\"a,b\",City,x,all\n";
 
-pub(crate) const OVER_A_CHAIN: Table = Table {
+const OVER_A_CHAIN: Table = Table {
     files: &[
         ("S", &[Text(CHAIN)]),
         ("I", &[Text(TWO_STORES)]),
@@ -91,7 +92,7 @@ pub(crate) const OVER_A_CHAIN: Table = Table {
     ],
 };
 
-pub(crate) const OVER_LOCATIONS: Table = Table {
+const OVER_LOCATIONS: Table = Table {
     files: &[
         ("S", &[Text(LOCATION)]),
         ("I", &[Text(PLACES)]),
@@ -221,3 +222,13 @@ pub(crate) const OVER_LOCATIONS: Table = Table {
         },
     ],
 };
+
+#[test]
+fn views_and_faults_over_a_chain(rt: HostRuntime) -> Result<(), Fail> {
+    check_all(&rt, rt.alloc(), NARROW, &OVER_A_CHAIN)
+}
+
+#[test]
+fn views_and_faults_over_locations(rt: HostRuntime) -> Result<(), Fail> {
+    check_all(&rt, rt.alloc(), NARROW, &OVER_LOCATIONS)
+}

@@ -175,17 +175,15 @@ pub(crate) fn check(
     Ok(())
 }
 
-/// Runs each row of each table, and compares the status and the output.
+/// Runs each row of a table, and compares the status and the output.
 pub(crate) fn check_all(
     rt: &impl Abort,
     alloc: Global,
     outside: Outside,
-    tables: &[Table],
+    table: &Table,
 ) -> Result<(), Fail> {
-    for table in tables {
-        for row in table.rows {
-            check(rt, alloc, outside, row, table.files)?;
-        }
+    for row in table.rows {
+        check(rt, alloc, outside, row, table.files)?;
     }
     Ok(())
 }

@@ -1,8 +1,9 @@
 // Schemas on which a plain enumeration of edges or of names never ends.
 use crate::running::Output::Just;
-use crate::running::{Files, Row, Table};
+use crate::running::{Files, Row, Table, WIDE, check_all};
 use crate::texts::Piece::{Numbered, Text};
 use olap_run::Status;
+use std::test::Fail;
 
 /// Ten layers of two ways each, whose last has no way upwards.
 pub(crate) const TEN_LAYERS: Files = &[(
@@ -21,7 +22,7 @@ const HANDED_ON: &str = "category C@\nedge C# C@\n\
 constraint C#: C# = \"a\" -> C#.C@ = \"a\"\n\
 constraint C#: C# = \"b\" -> C#.C@ = \"b\"\n";
 
-pub(crate) const TABLE: Table = Table {
+const TABLE: Table = Table {
     files: &[],
     rows: &[
         Row {
@@ -95,3 +96,8 @@ pub(crate) const TABLE: Table = Table {
         },
     ],
 };
+
+#[test]
+fn of_many_choices(rt: HostRuntime) -> Result<(), Fail> {
+    check_all(&rt, rt.alloc(), WIDE, &TABLE)
+}

@@ -1,9 +1,10 @@
 // `store` and `answer`: views that are kept, and views from them without the facts.
 use crate::running::Output::Just;
-use crate::running::{Row, Table};
+use crate::running::{Row, Table, WIDE, check_all};
 use crate::samples::{LOCATION, PLACES, SALES, STORED};
 use crate::texts::Piece::Text;
 use olap_run::Status;
+use std::test::Fail;
 
 /// The view of the cities.
 const CITIES: &str = "category,member,count,sum,least,greatest\n\
@@ -17,7 +18,7 @@ const STATES: &str = "category,member,count,sum,least,greatest\n\
 State,,,,,\n\
 State,yu,1,7,7,7\n";
 
-pub(crate) const TABLE: Table = Table {
+const TABLE: Table = Table {
     files: &[
         ("S", &[Text(LOCATION)]),
         ("I", &[Text(PLACES)]),
@@ -159,3 +160,8 @@ pub(crate) const TABLE: Table = Table {
         },
     ],
 };
+
+#[test]
+fn views_are_stored_and_answered(rt: HostRuntime) -> Result<(), Fail> {
+    check_all(&rt, rt.alloc(), WIDE, &TABLE)
+}
