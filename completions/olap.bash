@@ -56,8 +56,33 @@ _olap_places() {
     store) places='fffd' ;;
     answer) places='fffc' ;;
     append | retract) places='ffff' ;;
+    cubeview) places='' ;; # the number says: below, in _olap_cube
     *) places='' ;;
     esac
+}
+
+# Of a cube: K, then files, twice as many as K says and the facts, and then a tuple of categories.
+_olap_cube() {
+    local count=${words[2]} place=$((${#words[@]} - 3)) files each number piece front
+    if [[ ${#words[@]} -eq 3 ]]; then
+        compopt +o default
+        for number in 1 2 3 4; do
+            if [[ $number == "$current"* ]]; then COMPREPLY+=("$number"); fi
+        done
+        return
+    fi
+    if [[ $count != [1-4] ]]; then compopt +o default; return; fi
+    files=$((2 * count + 1))
+    if [[ $place -le $files ]]; then return; fi
+    compopt +o default -o nospace
+    # Of a tuple that is begun, the last piece is completed; the others stay.
+    front=${current%"${current##*,}"} piece=${front//[!,]/}
+    number=${#piece}
+    if [[ $number -ge $count || $place -gt $((files + 1)) ]]; then return; fi
+    if ! _olap_categories "${words[$((3 + number))]}"; then return; fi
+    for each in "${categories[@]}"; do
+        if [[ $each == "${current##*,}"* ]]; then COMPREPLY+=("$front$each"); fi
+    done
 }
 
 _olap() {
@@ -67,11 +92,12 @@ _olap() {
     current=${words[-1]}
     if [[ ${#words[@]} -le 2 ]]; then
         compopt +o default
-        for each in rollup check format summarizable prove verify prove-short verify-short implies satisfiable frozen audit store answer append retract generate; do
+        for each in rollup check format summarizable prove verify prove-short verify-short implies satisfiable frozen audit store answer append retract cubeview generate; do
             if [[ $each == "$current"* ]]; then COMPREPLY+=("$each"); fi
         done
         return
     fi
+    if [[ ${words[1]} == cubeview ]]; then _olap_cube; return; fi
     _olap_places "${words[1]}"
     place=${places:${#words[@]}-3:1}
     if [[ ! $place && ${places: -1} == d ]]; then place=d; fi

@@ -136,10 +136,12 @@ def through_explain(room: Path, *words: str) -> subprocess.CompletedProcess:
 def explain_faults(room: Path) -> Iterator[str]:
     """What was printed stands first, and below it the line or record, and the manual's sentence."""
     schema, instance = str(EXAMPLES / LOCATION), str(EXAMPLES / "location" / "instance.csv")
+    calendar, days = (str(EXAMPLES / "cubes" / name) for name in ("calendar.txt", "days.csv"))
     head = "id,category,name,parents\n"
     hostile = '"a\nb","Store","<b>\u202e","nowhere, ""x"""\n'
     texts = {"two.csv": head + "usa,Country,USA,all\nusa,Country,x,all\n", "hostile.csv": head + "\n\n" + hostile, "facts.csv": "member,value\nusa,1\n",
              "bad.txt": "schema 1\ncategory A\nedge A all\n", "none.csv": head + "s,Store,s,\n", "state.csv": head + "c,Country,x,all\nt,State,t,c\n"}  # fmt: skip
+    texts["pairs.csv"] = "m1,m2,value\n2026-01-31,nobody,1\n"
     for name, text in texts.items():
         (room / name).write_text(text)
     certificate = str(EXAMPLES / "location" / "certificates" / "Country-short.txt")
@@ -154,6 +156,12 @@ def explain_faults(room: Path) -> Iterator[str]:
         (("retract", schema, instance, str(EXAMPLES / "location" / "store.csv"), str(EXAMPLES / "location" / "facts.csv")),
          ("record 2: s1 | 10", "manual: the value is the row's least or its greatest")),
         (("append", schema, instance, "facts.csv", "facts.csv"), ("record 1: member | value", "it must be: category,member,")),
+        (("cubeview", "2", schema, "bad.txt", instance, days, "x", "City,A"), ("line 3: edge A all", "manual: the line has none of the forms")),
+        (("cubeview", "2", calendar, schema, days, str(EXAMPLES / "broken" / "instance.csv"), "x", "Day,City"), ("below the City: w |", )),
+        (("cubeview", "2", schema, calendar, instance, days, "x", "City"), ("word 8: City", "manual: the target of cubeview isn't as many names")),
+        (("cubeview", "2", calendar, schema, days, "two.csv", "x", "Day,City"), ("record 2: usa | Country | USA | all", "manual: ")),
+        (("cubeview", "2", calendar, schema, days, instance, "facts.csv", "Day,City"), ("it must be: m1,m2,value", )),
+        (("cubeview", "2", calendar, schema, days, instance, "pairs.csv", "Day,City"), ("record 2: ", "member of dimension 2: nobody", "manual: ")),
         (("format", "bad.txt"), ("line 3: edge A all", "manual: the line has none of the forms")),
         (("implies", schema, "Store", "Store.Town"), ("word 4: Store.Town", "manual: ")),
         (("verify", schema, certificate, "Country", "City"), ("line 1: short certificate 1",)),
