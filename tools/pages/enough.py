@@ -5,13 +5,22 @@ each no rules out many lists that need not be asked, and each list that is given
 """
 
 import time
-from typing import Callable
+from typing import Callable, Protocol
 
 from .program import Late
-from .texts import Counterexample, Schema
+from .texts import Schema
 
 MOST = 4  # sources of a list
-Ask = Callable[[str, tuple[str, ...]], Counterexample | None]
+
+
+class Example(Protocol):
+    """What a no of the program shows: one fact."""
+
+    def sees(self, source: str) -> bool:
+        """Does the fact come to the target by this source?"""
+
+
+Ask = Callable[[str, tuple[str, ...]], Example | None]
 
 
 def below(schema: Schema, target: str) -> tuple[str, ...]:
@@ -24,11 +33,10 @@ def below(schema: Schema, target: str) -> tuple[str, ...]:
 
 
 class Enough:
-    """The search for one target. `lists` are those found so far, the shortest first; `is_whole` says whether they are all."""
+    """The search for one target, in lists of these sources. `lists` are those found so far, the shortest first; `is_whole` says whether they are all."""
 
-    def __init__(self, schema: Schema, target: str, ask: Ask, most: int = MOST):
-        self.target, self.ask, self.most = target, ask, most
-        self.sources = below(schema, target)
+    def __init__(self, sources: tuple[str, ...], target: str, ask: Ask, most: int = MOST):
+        self.sources, self.target, self.ask, self.most = sources, target, ask, most
         self.examples: list[frozenset[str]] = []  # of each no, the sources that have its fact
         self.lists: list[tuple[str, ...]] = []
         self.is_whole = False

@@ -162,6 +162,34 @@ def fate(example: texts.Counterexample) -> str:
     return "lost" if example.views is None else f"{example.views}\u00d7"
 
 
+def whole(title: str, summary: Markup, sections: Sequence[tuple[str, str, Markup]]) -> str:
+    """A page of sections, each with an anchor and a name."""
+    head = el(
+        "head",
+        el("meta", charset="utf-8"),
+        el("meta", http_equiv="Content-Security-Policy", content="default-src 'none'; style-src 'unsafe-inline'"),
+        el("meta", name="viewport", content="width=device-width, initial-scale=1"),
+        el("meta", name="color-scheme", content="light dark"),
+        el("title", title),
+        el("style", Markup(STYLE + pictures.STYLE)),
+    )
+    links = [el("li", el("a", name, href=f"#{anchor}")) for anchor, name, _ in sections]
+    body = el(
+        "body",
+        el("a", "To the content", class_="skip", href="#content"),
+        el("header", el("h1", title), summary, el("nav", el("ul", links), aria_label="Sections")),
+        el("main", [section(*each) for each in sections], id="content", tabindex="-1"),
+        el("footer", el("p", "Each answer on this page is one that the program olap gave. The program is proved; the page and its "
+                             "pictures are not.")),
+    )
+    return "<!doctype html>\n" + el("html", head, body, lang="en") + "\n"
+
+
+def section(anchor: str, name: str, content: Markup) -> Markup:
+    heading = f"h-{anchor}"
+    return many(el("section", el("h2", name, id=heading), content, id=anchor, aria_labelledby=heading), Markup("\n"))
+
+
 class Page:
     """Puts the page together; `draw` draws many pictures at once, and gives None for those that time doesn't allow."""
 
@@ -211,30 +239,7 @@ class Page:
             ("frozen", "All ways up", self.frozen()),
             ("text", "Text", self.text()),
         ]
-        head = el(
-            "head",
-            el("meta", charset="utf-8"),
-            el("meta", http_equiv="Content-Security-Policy", content="default-src 'none'; style-src 'unsafe-inline'"),
-            el("meta", name="viewport", content="width=device-width, initial-scale=1"),
-            el("meta", name="color-scheme", content="light dark"),
-            el("title", title),
-            el("style", Markup(STYLE + pictures.STYLE)),
-        )
-        links = [el("li", el("a", name, href=f"#{anchor}")) for anchor, name, _ in sections]
-        body = el(
-            "body",
-            el("a", "To the content", class_="skip", href="#content"),
-            el("header", el("h1", title), self.summary(), self.alarm(), el("nav", el("ul", links), aria_label="Sections")),
-            el("main", [self.section(*each) for each in sections], id="content", tabindex="-1"),
-            el("footer", el("p", "Each answer on this page is one that the program olap gave. The program is proved; the page and its "
-                                 "pictures are not.")),
-        )
-        return "<!doctype html>\n" + el("html", head, body, lang="en") + "\n"
-
-    @staticmethod
-    def section(anchor: str, name: str, content: Markup) -> Markup:
-        heading = f"h-{anchor}"
-        return many(el("section", el("h2", name, id=heading), content, id=anchor, aria_labelledby=heading), Markup("\n"))
+        return whole(title, many(self.summary(), self.alarm()), sections)
 
     def summary(self) -> Markup:
         schema, answers = self.facts.schema, self.facts.answers.values()

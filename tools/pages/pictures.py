@@ -217,6 +217,28 @@ def of_counterexample(shown: Counterexample, sources: Sequence[str], name: str) 
     return picture
 
 
+def of_cube_way(shown: Counterexample, sources: Sequence[str], name: str) -> Picture:
+    """One dimension of a cube's counterexample: the fact's ways to the target's category, and which sources, by number, have it here."""
+    picture = of_frozen(shown.frozen, shown.root, name)
+    picture.nodes[shown.target] = marked(picture.nodes[shown.target], "target", "target")
+    for number, category in enumerate(sources, 1):
+        if category in picture.nodes:
+            sees = shown.sees(category)
+            node = picture.nodes[category]
+            kind = "target" if category == shown.target else "source" if sees or node.kind == "source" else "blind"
+            picture.nodes[category] = marked(node, kind, f"source {number}: {'has the fact here' if sees else 'not below the target'}")
+        else:
+            node = picture.nodes.get(f"no {category}", Node((category,), category, "blind"))
+            picture.nodes[f"no {category}"] = marked(node, "blind", f"source {number}: no member here")
+    for key in [key for key in picture.nodes if key.startswith("no ")]:
+        picture.edges.append(Edge(key, shown.target, f"{key[3:]} would lie below {shown.target}", "above"))
+    picture.nodes["the fact"] = Node(("fact 1",), f"a fact of value 1 at {shown.root}", "fact", "ellipse")
+    on_way = ways(shown)
+    picture.edges = [replace(e, kind="way") if e.kind == "up" and (e.tail, e.head) in on_way else e for e in picture.edges]
+    picture.edges.append(Edge("the fact", shown.root, f"the fact lies at {shown.root}", "way"))
+    return picture
+
+
 def amount(shown: Counterexample) -> str:
     """What the target has from the views."""
     return "nothing" if shown.views is None else str(shown.views)

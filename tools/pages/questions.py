@@ -204,7 +204,7 @@ def facts_of(program: Program, progress: Progress, most_for_pairs: int, seconds:
             facts.answers[key] = summarizable(key, until(0.4) - time.monotonic())
         return facts.answers[key]
 
-    searches = {target: Enough(schema, target, shown) for target in facts.targets}
+    searches = {target: Enough(below(schema, target), target, shown) for target in facts.targets}
 
     def enough(target: str, left: float) -> Enough:
         return searches[target].search(time.monotonic() + min(left, share))

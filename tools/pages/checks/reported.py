@@ -272,7 +272,48 @@ def large_faults() -> Iterator[str]:
                 yield f"the edge {child} {parent} is drawn as {kind}"
 
 
+def cube_faults(files: list[Path]) -> Iterator[str]:
+    """The page of a cube: each list is enough and none without one of its sources, and each counterexample is the program's."""
+    names = [str(file) for file in files]
+    done = tool("report", *IN_TIME, *names)
+    if done.returncode != 0 or done.stderr:
+        yield f"status {done.returncode}: {done.stderr.strip()}"
+        return
+    top, wrong = page_of(done.stdout)
+    yield from wrong
+    yield from shape_faults(top, done.stdout)
+    for svg in pictures_of_page(done.stdout):
+        yield from picture_faults(svg)
+
+    def ask(target: str, sources: list[str]) -> tuple[int, str]:
+        return olap("cube", str(len(files)), *names, target, *sources)
+
+    rows = top.all(id="enough")[0].all("tbody")[0].all("tr")
+    lower = [[each for each in categories_of(file) if below(file, each)] for file in files]
+    if [row.all("th")[0].text() for row in rows] != [",".join(each) for each in itertools.product(*lower)]:
+        yield "its targets are others"
+    questions = [(row.all("th")[0].text(), each.text().split(" + ")) for row in rows for each in row.all("span", **{"class": "list"})]
+    shorter = [(target, [*some[:place], *some[place + 1 :]]) for target, some in questions for place in range(len(some))]
+    shown = [each for each in top.all(id="counterexamples")[0].all("details")]
+    with ThreadPoolExecutor() as pool:
+        for wanted, asked in ((0, questions), (1, shorter)):
+            for (target, sources), (status, _) in zip(asked, pool.map(lambda each: ask(*each), asked)):
+                if status != wanted:
+                    yield f"{target} from {' and '.join(sources)}: status {status}, not {wanted}"
+    if not shown:
+        yield "no counterexample"
+    for each in shown:
+        target, _, rest = each.all("summary")[0].text().partition(" from ")
+        sources = rest.rpartition(": ")[0].split(" and ")
+        lines = ask(target, sources)[1].splitlines()
+        kept = [line for place, line in enumerate(lines) if line.startswith("dimension ") or lines[place - 1].startswith("dimension ")]
+        if each.all("pre")[0].text().splitlines() != [*kept, *lines[-3:]]:
+            yield f"{target} from {' and '.join(sources)}: its counterexample is another"
+
+
 def faults() -> Iterator[str]:
+    cube = [EXAMPLES / "location" / "schema.txt", EXAMPLES / "cubes" / "calendar.txt"]
+    yield from (f"report of a cube: {wrong}" for wrong in cube_faults(cube))
     for file in [*sorted(EXAMPLES.glob("*/schema.txt")), TOP / "recipes" / "partitions" / "schema.txt"]:
         yield from (f"report {file.parent.name}: {wrong}" for wrong in page_faults(file))
     yield from (f"report on a large schema: {wrong}" for wrong in large_faults())
