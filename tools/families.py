@@ -83,6 +83,32 @@ def parents(count):
     return s.text()
 
 
+def halves(bottoms, sides=2):
+    """Bottom categories, each below one of the sides, and these below the top."""
+    s = Schema()
+    names = [f"M{i}" for i in range(sides)]
+    for i in range(bottoms):
+        for side in names:
+            s.edge(f"B{i}", side)
+        s.constraint(f"B{i}", f"one({', '.join(f'B{i}_{side}' for side in names)})")
+    for side in names:
+        s.edge(side, "T")
+    s.edge("T", "All")
+    return s.text()
+
+
+def patterns(count):
+    """A category with any of so many parents below the top, or none of them: each set of them is met by a way up."""
+    s = Schema()
+    for i in range(count):
+        s.edge("S", f"M{i}")
+    s.edge("S", "T")
+    for i in range(count):
+        s.edge(f"M{i}", "T")
+    s.edge("T", "All")
+    return s.text()
+
+
 def names_along_a_chain(length):
     """A name that runs along a chain, and is forbidden at its end."""
     s = Schema()

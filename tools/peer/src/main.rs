@@ -2,11 +2,13 @@
 //!
 //!     peer rollup SCHEMA INSTANCE FACTS CATEGORY
 //!     peer check SCHEMA INSTANCE
+//!     peer cubeview K SCHEMA.. INSTANCE.. FACTS TARGET
 //!
 //! It checks the five laws of an instance, and no constraint: a schema that has one is refused. What is wrong with an
 //! input is told in a line of its own making. For valid inputs it prints the bytes that `olap` prints.
 
 use indexmap::IndexMap;
+use std::collections::BTreeMap;
 use std::error::Error;
 use std::io::Write;
 
@@ -205,7 +207,7 @@ impl Instance {
     }
 }
 
-/// What the facts at one member come to.
+/// What the facts at one member, or at a tuple of members, come to.
 #[derive(Clone, Copy)]
 struct Summary {
     count: u64,
@@ -214,10 +216,29 @@ struct Summary {
     greatest: i64,
 }
 
+impl Summary {
+    const NONE: Summary = Summary { count: 0, sum: 0, least: i64::MAX, greatest: i64::MIN };
+
+    fn add(&mut self, value: i64) {
+        self.count += 1;
+        self.sum += i128::from(value);
+        self.least = self.least.min(value);
+        self.greatest = self.greatest.max(value);
+    }
+
+    fn write(&self, writer: &mut csv::Writer<Vec<u8>>) -> Answer<()> {
+        writer.write_field(itoa::Buffer::new().format(self.count))?;
+        writer.write_field(itoa::Buffer::new().format(self.sum))?;
+        writer.write_field(itoa::Buffer::new().format(self.least))?;
+        writer.write_field(itoa::Buffer::new().format(self.greatest))?;
+        Ok(writer.write_record(None::<&[u8]>)?)
+    }
+}
+
 fn roll_up(graph: &Graph, instance: &Instance, table: &[u32], text: &[u8], target: u16) -> Answer<Vec<Summary>> {
     let width = graph.names.len();
     let bottoms: Vec<bool> = (0..width).map(|c| graph.is_bottom(c as u16)).collect();
-    let mut summaries = vec![Summary { count: 0, sum: 0, least: i64::MAX, greatest: i64::MIN }; instance.len()];
+    let mut summaries = vec![Summary::NONE; instance.len()];
     let mut reader = csv::ReaderBuilder::new().flexible(true).from_reader(text);
     if reader.byte_headers()? != vec!["member", "value"] {
         return Err("another header".into());
@@ -234,11 +255,7 @@ fn roll_up(graph: &Graph, instance: &Instance, table: &[u32], text: &[u8], targe
         let value: i64 = std::str::from_utf8(&record[1])?.parse()?;
         let y = table[m * width + target as usize];
         if y != NONE {
-            let summary = &mut summaries[y as usize];
-            summary.count += 1;
-            summary.sum += i128::from(value);
-            summary.least = summary.least.min(value);
-            summary.greatest = summary.greatest.max(value);
+            summaries[y as usize].add(value);
         }
     }
     Ok(summaries)
@@ -250,22 +267,97 @@ fn print(instance: &Instance, summaries: &[Summary]) -> Answer<Vec<u8>> {
     for (m, s) in summaries.iter().enumerate().filter(|(_, s)| s.count > 0) {
         let (id, _) = instance.places.get_index(m).ok_or("no such member")?;
         writer.write_field(id)?;
-        writer.write_field(itoa::Buffer::new().format(s.count))?;
-        writer.write_field(itoa::Buffer::new().format(s.sum))?;
-        writer.write_field(itoa::Buffer::new().format(s.least))?;
-        writer.write_field(itoa::Buffer::new().format(s.greatest))?;
-        writer.write_record(None::<&[u8]>)?;
+        s.write(&mut writer)?;
     }
     Ok(writer.into_inner()?)
+}
+
+/// Of one dimension: its bottom categories, its instance, and of each member the one that it reaches in the target's category.
+struct Dimension {
+    bottoms: Vec<bool>,
+    instance: Instance,
+    above: Vec<u32>,
+}
+
+impl Dimension {
+    fn read(schema: &str, members: &str, target: &str) -> Answer<Dimension> {
+        let graph = Graph::read(&std::fs::read_to_string(schema)?)?;
+        let instance = Instance::read(&graph, &std::fs::read(members)?)?;
+        let (width, target) = (graph.names.len(), graph.number(target)? as usize);
+        let above = instance.ancestors(&graph)?.chunks(width).map(|row| row[target]).collect();
+        let bottoms = (0..width).map(|c| graph.is_bottom(c as u16)).collect();
+        Ok(Dimension { bottoms, instance, above })
+    }
+}
+
+/// The rows of a cube's view, by the members' places, at most four.
+fn roll_up_cube(dimensions: &[Dimension], text: &[u8]) -> Answer<BTreeMap<[u32; 4], Summary>> {
+    let mut rows = BTreeMap::new();
+    let mut reader = csv::ReaderBuilder::new().flexible(true).from_reader(text);
+    let header: Vec<String> = (1..=dimensions.len()).map(|i| format!("m{i}")).chain(["value".into()]).collect();
+    if reader.byte_headers()? != header {
+        return Err("another header".into());
+    }
+    let mut record = csv::ByteRecord::new();
+    while reader.read_byte_record(&mut record)? {
+        if record.len() != dimensions.len() + 1 {
+            return Err("a record of another length".into());
+        }
+        let mut key = [0; 4];
+        let mut is_there = true;
+        for (i, dimension) in dimensions.iter().enumerate() {
+            let m = dimension.instance.places.get_index_of(&record[i]).ok_or("no such member")?;
+            if !dimension.bottoms[dimension.instance.categories[m] as usize] {
+                return Err("a fact at no bottom member".into());
+            }
+            key[i] = dimension.above[m];
+            is_there &= key[i] != NONE;
+        }
+        let value: i64 = std::str::from_utf8(&record[dimensions.len()])?.parse()?;
+        if is_there {
+            rows.entry(key).or_insert(Summary::NONE).add(value);
+        }
+    }
+    Ok(rows)
+}
+
+fn print_cube(dimensions: &[Dimension], rows: &BTreeMap<[u32; 4], Summary>) -> Answer<Vec<u8>> {
+    let mut writer = csv::Writer::from_writer(Vec::new());
+    for i in 1..=dimensions.len() {
+        writer.write_field(format!("m{i}"))?;
+    }
+    writer.write_record(["count", "sum", "least", "greatest"])?;
+    for (key, s) in rows {
+        for (dimension, m) in dimensions.iter().zip(key) {
+            let (id, _) = dimension.instance.places.get_index(*m as usize).ok_or("no such member")?;
+            writer.write_field(id)?;
+        }
+        s.write(&mut writer)?;
+    }
+    Ok(writer.into_inner()?)
+}
+
+fn cubeview(words: &[&str]) -> Answer<Vec<u8>> {
+    let [files @ .., facts, target] = words else { return Err("too few words".into()) };
+    let (schemas, instances) = files.split_at(files.len() / 2);
+    let targets: Vec<&str> = target.split(',').collect();
+    if schemas.len() != instances.len() || schemas.len() != targets.len() || schemas.is_empty() || schemas.len() > 4 {
+        return Err("as many schemas, instances and categories, from one to four".into());
+    }
+    let dimensions = schemas.iter().zip(instances).zip(targets).map(|((s, i), t)| Dimension::read(s, i, t)).collect::<Answer<Vec<_>>>()?;
+    print_cube(&dimensions, &roll_up_cube(&dimensions, &std::fs::read(facts)?)?)
 }
 
 fn main() -> Answer<()> {
     let words: Vec<String> = std::env::args().skip(1).collect();
     let words: Vec<&str> = words.iter().map(String::as_str).collect();
+    if let ["cubeview", _, rest @ ..] = &words[..] {
+        return Ok(std::io::stdout().write_all(&cubeview(rest)?)?);
+    }
     let (schema, members, rest) = match words[..] {
         ["rollup", schema, members, facts, target] => (schema, members, Some((facts, target))),
         ["check", schema, members] => (schema, members, None),
-        _ => return Err("peer rollup SCHEMA INSTANCE FACTS CATEGORY | peer check SCHEMA INSTANCE".into()),
+        _ => return Err("peer rollup SCHEMA INSTANCE FACTS CATEGORY | peer check SCHEMA INSTANCE | peer cubeview K ..".into()),
     };
     let graph = Graph::read(&std::fs::read_to_string(schema)?)?;
     let instance = Instance::read(&graph, &std::fs::read(members)?)?;
