@@ -56,12 +56,12 @@ _olap_places() {
     store) places='fffd' ;;
     answer) places='fffc' ;;
     append | retract) places='ffff' ;;
-    cubeview) places='' ;; # the number says: below, in _olap_cube
+    cube | cubeview) places='' ;; # the number says: below, in _olap_cube
     *) places='' ;;
     esac
 }
 
-# Of a cube: K, then files, twice as many as K says and the facts, and then a tuple of categories.
+# Of a cube: K, then files, as many as K says and for cubeview that once more and the facts, and then tuples of categories.
 _olap_cube() {
     local count=${words[2]} place=$((${#words[@]} - 3)) files each number piece front
     if [[ ${#words[@]} -eq 3 ]]; then
@@ -72,13 +72,14 @@ _olap_cube() {
         return
     fi
     if [[ $count != [1-4] ]]; then compopt +o default; return; fi
-    files=$((2 * count + 1))
+    files=$count
+    if [[ ${words[1]} == cubeview ]]; then files=$((2 * count + 1)); fi
     if [[ $place -le $files ]]; then return; fi
     compopt +o default -o nospace
     # Of a tuple that is begun, the last piece is completed; the others stay.
     front=${current%"${current##*,}"} piece=${front//[!,]/}
     number=${#piece}
-    if [[ $number -ge $count || $place -gt $((files + 1)) ]]; then return; fi
+    if [[ $number -ge $count || (${words[1]} == cubeview && $place -gt $((files + 1))) ]]; then return; fi
     if ! _olap_categories "${words[$((3 + number))]}"; then return; fi
     for each in "${categories[@]}"; do
         if [[ $each == "${current##*,}"* ]]; then COMPREPLY+=("$front$each"); fi
@@ -92,12 +93,12 @@ _olap() {
     current=${words[-1]}
     if [[ ${#words[@]} -le 2 ]]; then
         compopt +o default
-        for each in rollup check format summarizable prove verify prove-short verify-short implies satisfiable frozen audit store answer append retract cubeview generate; do
+        for each in rollup check format summarizable prove verify prove-short verify-short implies satisfiable frozen audit store answer append retract cube cubeview generate; do
             if [[ $each == "$current"* ]]; then COMPREPLY+=("$each"); fi
         done
         return
     fi
-    if [[ ${words[1]} == cubeview ]]; then _olap_cube; return; fi
+    if [[ ${words[1]} == cube || ${words[1]} == cubeview ]]; then _olap_cube; return; fi
     _olap_places "${words[1]}"
     place=${places:${#words[@]}-3:1}
     if [[ ! $place && ${places: -1} == d ]]; then place=d; fi
