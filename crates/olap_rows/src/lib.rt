@@ -18,6 +18,8 @@ mod checks;
 #[cfg(test)]
 mod collisions;
 #[cfg(test)]
+mod cubes;
+#[cfg(test)]
 mod failing;
 #[cfg(test)]
 mod faults;
@@ -41,6 +43,8 @@ mod many;
 mod openings;
 #[cfg(test)]
 mod plans;
+#[cfg(test)]
+mod proofs;
 #[cfg(test)]
 mod questions;
 #[cfg(test)]
