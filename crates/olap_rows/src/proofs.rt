@@ -4,6 +4,7 @@ use crate::running::{Files, Row, Table, WIDE, check_all, run};
 use crate::samples::{CHAIN, LOCATION};
 use crate::texts::Piece::Text;
 use olap_run::Status;
+use std::alloc::Global;
 use std::test::Fail;
 
 /// Two categories without a bottom category.
@@ -75,17 +76,31 @@ fn proofs_of_cities(rt: HostRuntime) -> Result<(), Fail> {
 /// The locations' schema.
 const LOCATIONS: Files = &[("S", &[Text(LOCATION)])];
 
+/// What `verify` says of a text about countries from cities.
+fn verdict(alloc: Global, certificate: &str) -> Result<(Status, String), Fail> {
+    let own: Files = &[("P", &[Text(certificate)])];
+    run(
+        alloc,
+        WIDE,
+        &["verify", "S", "P", "Country", "City"],
+        own,
+        LOCATIONS,
+    )
+}
+
 /// What is written of countries from cities is accepted.
 #[test]
 fn a_proof_is_accepted(rt: HostRuntime) -> Result<(), Fail> {
     let alloc = rt.alloc();
-    let words = ["prove", "S", "Country", "City"];
-    let (status, certificate) = run(alloc, WIDE, &words, LOCATIONS, &[])?;
+    let (status, certificate) = run(
+        alloc,
+        WIDE,
+        &["prove", "S", "Country", "City"],
+        LOCATIONS,
+        &[],
+    )?;
     assert_eq!(rt; status, Status::Yes);
-    let pieces = [Text(certificate.as_str())];
-    let own = [("P", pieces.as_slice())];
-    let words = ["verify", "S", "P", "Country", "City"];
-    let (status, verdict) = run(alloc, WIDE, &words, &own, LOCATIONS)?;
+    let (status, verdict) = verdict(alloc, certificate.as_str())?;
     assert_eq!(rt; status, Status::Yes);
     assert_eq!(rt; verdict.as_str(), "accepted\n");
     Ok(())
