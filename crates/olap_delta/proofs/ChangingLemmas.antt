@@ -31,12 +31,12 @@ pub record IsPut (y : ℕ) (s : Summary) (old new : Summarized) : Type 0 where
   pub at : (z : ℕ) → IsAmong old.instance old.categories z
       → stands_at new z ≡ cond (z == y) (Some s) (stands_at old z)
 
-among : (t : Summarized) (c z : ℕ) → Contains t.categories c → Contains (members_of t.instance c) z
+pub among : (t : Summarized) (c z : ℕ) → Contains t.categories c → Contains (members_of t.instance c) z
     → IsAmong t.instance t.categories z
 among t c z k m = let q = members_of_is t.instance c z m in
     record { member = q.0; category = subst (Contains t.categories) (sym q.1) k }
 
-test_false : (x y : ℕ) → x ≢ y → (x == y) ≡ false
+pub test_false : (x y : ℕ) → x ≢ y → (x == y) ≡ false
 test_false x y n = grind (arith, nat_tests)
 
 module _ (y : ℕ) (s : Summary) (old new : Summarized) (p : IsPut y s old new) where

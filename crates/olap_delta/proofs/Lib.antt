@@ -7,3 +7,7 @@ mod LawLemmas
 mod ChangingLemmas
 mod StepLemmas
 mod DeltaLemmas
+mod JoinedRowLemmas
+mod LotLemmas
+mod JoiningLemmas
+mod JoinedTableLemmas

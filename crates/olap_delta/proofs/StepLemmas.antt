@@ -2,7 +2,9 @@
 --     kept              what is there may be stored
 --     small             no sum wraps
 --     joined_storable, without_storable   what comes of it may be stored
-use Rattle.std.proofs.Common.{◌≡◌, ◌≢◌, ◌^◌, ◌≤◌, ◌<◌, Bool, true, false, cond, subst, ℤ, pos, negsuc, neg_ℤ, ◌+ℤ◌, ◌-ℤ◌, ◌≤ℤ◌, Option, Some, IfSome, w64, arith}
+--     lot_small, lot_storable             a lot of values alone
+--     lot_joined_storable, lot_less_storable   what comes of a lot at a row
+use Rattle.std.proofs.Common.{◌≡◌, ◌≢◌, ◌+◌, ◌-◌, ◌^◌, ◌≤◌, ◌<◌, Bool, true, false, cond, subst, ℤ, pos, negsuc, neg_ℤ, ◌+ℤ◌, ◌-ℤ◌, ◌≤ℤ◌, Option, Some, IfSome, w64, arith}
 use Rattle.std.specs.Prelude.{int_lt}
 use Rattle.std.specs.Option.{option_map}
 use mir.Val.{SFits}
@@ -10,12 +12,13 @@ use Rattle.std.proofs.lemmas.Bool.Decides.{nat_tests}
 use Rattle.std.proofs.lemmas.Int.{ints}
 use Rattle.olap_base.specs.Limits.{most_count, most_sum}
 use Rattle.olap_base.specs.Summaries.{Summary, joined, of_value}
-use Rattle.olap_view.specs.Bounds.{IsUpTo}
+use Rattle.olap_view.specs.Bounds.{IsOfValues, IsUpTo}
 use Rattle.olap_view.specs.Seen.{summary_of}
 use Rattle.olap_view.specs.StoredNumbers.{is_sum}
 use Rattle.olap_view.specs.declared.summaries.Summary as told
 use Rattle.olap_delta.specs.Changes.{without}
 use Rattle.olap_delta.specs.Changing.{IsStorable}
+use Rattle.olap_delta.specs.Joining.{HasRoom, less}
 
 pub kept : (there : Option told.Summary) (row : told.Summary) → there ≡ Some row
     → IfSome (option_map summary_of there) IsStorable → IsStorable (summary_of row)
@@ -57,3 +60,50 @@ without_storable s v h e q = λ y. let few = (q y).few in let b = sum_bounds (s.
   least = (q y).least;
   greatest = (q y).greatest;
 }
+
+-- ---- a lot of values
+
+pub lot_small : (s : Summary) → IsOfValues s.count s → s.count ≤ most_count → IsUpTo (2 ^ 62) (2 ^ 120) s
+lot_small s q h = let a = q.up_to.sum_from in let b = q.up_to.sum_to in record {
+  count = omega arith;
+  sum_from = omega (arith, ints);
+  sum_to = omega (arith, ints);
+}
+
+pub lot_storable : (s : Summary) → IsOfValues s.count s → s.count ≤ most_count → IsStorable s
+lot_storable s q h = λ y. let a = q.up_to.sum_from in let b = q.up_to.sum_to in record {
+  some = q.some;
+  few = h;
+  sum_from = omega (arith, ints);
+  sum_to = omega (arith, ints);
+  least = q.least;
+  greatest = q.greatest;
+}
+
+pub lot_joined_storable : (s t : Summary) → IsStorable s → IsOfValues t.count t → s.count + t.count ≤ most_count
+    → HasRoom (most_count - s.count) s → IsStorable (joined s t)
+lot_joined_storable s t p q h r = λ y.
+    let a = q.up_to.sum_from in let b = q.up_to.sum_to in let low = r.low in let high = r.high in
+    let some = (p y).some in
+    record {
+      some = omega arith;
+      few = h;
+      sum_from = omega (arith, ints);
+      sum_to = omega (arith, ints);
+      least = either (int_lt t.least s.least) t.least s.least q.least (p y).least;
+      greatest = either (int_lt t.greatest s.greatest) s.greatest t.greatest (p y).greatest q.greatest;
+    }
+
+pub lot_less_storable : (s t : Summary) → IsStorable s → IsOfValues t.count t → t.count + 2 ≤ s.count
+    → HasRoom s.count s → IsStorable (less s t)
+lot_less_storable s t p q h r = λ y.
+    let a = q.up_to.sum_from in let b = q.up_to.sum_to in let low = r.low in let high = r.high in
+    let few = (p y).few in
+    record {
+      some = omega arith;
+      few = omega arith;
+      sum_from = omega (arith, ints);
+      sum_to = omega (arith, ints);
+      least = (p y).least;
+      greatest = (p y).greatest;
+    }

@@ -5,5 +5,7 @@ pub mod Changes
 pub mod Laws
 pub mod Kinds
 pub mod Reading
--- The inside: a summary table while it is changed.
+-- The inside: a summary table while it is changed, fact by fact or by facts that are joined by member.
 pub mod Changing
+pub mod Lots
+pub mod Joining

@@ -7,8 +7,10 @@
 
 mod changes;
 mod deltas;
+mod joining;
 mod kinds;
 mod laws;
+mod lots;
 mod reading;
 mod storing;
 

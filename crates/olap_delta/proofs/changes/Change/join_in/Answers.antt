@@ -1,0 +1,49 @@
+-- One lot more.
+use Rattle.std.proofs.Common.{ℕ, List, get_or, take, sym, subst, ◌∙◌, pos}
+use Rattle.std.specs.Prelude.{All}
+use Rattle.std.proofs.lemmas.List.{get_or_default, take_more}
+use Rattle.std.proofs.lemmas.List.Elements.{All-push}
+use Rattle.olap_base.specs.Instance.{Instance}
+use Rattle.olap_base.specs.Reaching.{reaches}
+use Rattle.olap_view.specs.Seen.{summary_of}
+use Rattle.olap_view.specs.Tables.{when}
+use Rattle.olap_delta.specs.Joining.{IsJoinedIn, IsOnce}
+use Rattle.olap_delta.specs.declared.lots.Lot.{Lot}
+use Rattle.olap_delta.proofs.JoinedTableLemmas.{joined_next}
+use Rattle.olap_delta.proofs.changes.Change.join_in.Goals as goal
+
+-- what lots have past their end
+nobody : Lot
+nobody = record {
+  member = record { 0 = 0 };
+  summary = record { count = 0; sum = pos 0; least = pos 0; greatest = pos 0 };
+}
+
+pub lots-preserved : goal.lots-preserved
+unfolding nobody
+lots-preserved c =
+    let old = c.args.table.now in
+    let now = c.lots.table in
+    let inv = c.lots.invariant in
+    let lots = c.args.lots.now in
+    let k = c.lots.lot-index in
+    let d = get_or old.categories c.args.k 0 in
+    let lot = get_or lots k nobody in
+    let h = c.lots-test.true in
+    let e = c.join.ensures in
+    let was = c.if-not-join.false in
+    record {
+      instance = e.instance ∙ inv.instance;
+      categories = e.categories ∙ inv.categories;
+      storable = e.storable;
+      once = subst (All (λ (l : Lot). IsOnce old.instance d l.member.0)) (sym (take_more lots k nobody h))
+          (All-push (λ (l : Lot). IsOnce old.instance d l.member.0) (take k lots) lot inv.once
+          (subst (λ (i : Instance). IsOnce i d lot.member.0) inv.instance
+          (subst (λ (cs : List ℕ). IsOnce now.instance (get_or cs c.args.k 0) lot.member.0) inv.categories
+          (e.once was))));
+      joined = joined_next c.args.self d old now lots k lot c.join.new.table h (get_or_default lots k nobody lot h)
+          inv.instance inv.categories inv.joined
+          (subst (λ (cs : List ℕ). IsJoinedIn c.args.self (get_or cs c.args.k 0)
+          (λ y. when (reaches now.instance lot.member.0 y) (summary_of lot.summary)) now c.join.new.table)
+          inv.categories (e.joined was));
+    }
