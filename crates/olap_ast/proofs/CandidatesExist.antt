@@ -1,5 +1,5 @@
 -- The fresh name and the candidates exist, whatever the schema and the question, and there is one fresh name.
-use Rattle.std.proofs.Common.{◌≡◌, ℕ, zero, suc, ◌+◌, ◌<◌, ◌≤◌, List, [], ◌∷◌, length, map, replicate, true, refl, ap, sym, subst, ◌∙◌, ◌⊎◌, inl, inr, arith, Ordering, Less, Equal, Greater, nat_cmp}
+use Rattle.std.proofs.Common.{◌≡◌, ℕ, zero, suc, ◌+◌, ◌<◌, ◌≤◌, List, [], ◌∷◌, length, map, replicate, Bool, true, false, refl, ap, sym, subst, ◌∙◌, ◌⊎◌, inl, inr, arith, Ordering, Less, Equal, Greater, nat_cmp}
 use Rattle.std.specs.Prelude.{Contains, codes, filter, ◌==◌, All, AllPairs}
 use Rattle.std.proofs.lemmas.List.{length-append, length-replicate}
 use Rattle.std.proofs.lemmas.List.Elements.{All-cons}
@@ -13,8 +13,11 @@ use Rattle.olap_base.specs.Deciding.{decide_contains, contains_cases, contains_c
 use Rattle.olap_base.proofs.ListLemmas.{contains_head, Contains-nil, Contains-map, Contains-from_map, Contains-filter, Contains-from_filter}
 use Rattle.olap_ast.specs.Formula.{Formula, Equality}
 use Rattle.olap_ast.specs.Schema.{Schema}
-use Rattle.olap_ast.specs.Constants.{IsConstant, IsFreshName, IsBefore, AreInByteOrder, FreshNamesExist, all_equalities, fresh_candidate, constants}
-use Rattle.olap_ast.specs.Frozen.{CandidatesExist}
+use Rattle.olap_ast.specs.Constants.{IsConstant, IsFreshName, IsBefore, AreInByteOrder, FreshNamesExist, HasKinds, all_equalities, fresh_candidate, constants, numbers}
+use Rattle.olap_ast.specs.Frozen.{AreNamesOf, CandidatesExist}
+use Rattle.olap_base.specs.Graph.{is_number}
+use Rattle.olap_numerals.specs.Representatives.{AreSmall}
+use Rattle.olap_numerals.proofs.NameLemmas.{number_names_exist}
 use Rattle.olap_ast.proofs.TextLemmas.{same_text}
 
 -- ---- the fresh name
@@ -105,7 +108,7 @@ fresh_exists s q =
       },
     )
 
-fresh_is_one : (s : Schema) (q : Formula) (a b : List ℕ) → IsFreshName s q a → IsFreshName s q b → a ≡ b
+pub fresh_is_one : (s : Schema) (q : Formula) (a b : List ℕ) → IsFreshName s q a → IsFreshName s q b → a ≡ b
 fresh_is_one s q a b f g = go (order f.underscores g.underscores)
   where
     order : (m n : ℕ) → (m ≡ n) ⊎ ((m < n) ⊎ (n < m))
@@ -219,10 +222,20 @@ in_order_exist : (xs : List (List ℕ)) → (ts : List (List ℕ)) × AreInByteO
 in_order_exist xs = let r = sorted xs in
     (r.out, record { ordered = ascending r.out r.up; sound = r.sound; complete = r.complete })
 
+-- each category has names
+names_exist : (s : Schema) (q : Formula) → HasKinds s q → (d : ℕ) →
+    (first : List ℕ) × (others : List (List ℕ)) × AreNamesOf (is_number s.graph d) s q d first others
+names_exist s q h d = go (is_number s.graph d) (λ n c. (h.numbers d n c).1)
+  where
+    go : (m : Bool) → AreSmall (numbers s q d)
+        → (first : List ℕ) × (others : List (List ℕ)) × AreNamesOf m s q d first others
+    go false small = let f = fresh_exists s q in let t = in_order_exist (constants s q d) in (f.0, t.0, (f.1, t.1))
+    go true small = number_names_exist (numbers s q d) small
+
 pub candidates_exist : CandidatesExist
-candidates_exist s q = (
-  record { fresh = (fresh_exists s q).0; texts = λ d. (in_order_exist (constants s q d)).0 },
-  record { fresh = (fresh_exists s q).1; texts = λ c. (in_order_exist (constants s q (suc c))).1 },
+candidates_exist s q h = (
+  record { first = λ d. (names_exist s q h d).0; texts = λ d. (names_exist s q h d).1 },
+  record { kinds = h; names = λ c. (names_exist s q h (suc c)).2 },
 )
 
 pub fresh_names_exist : FreshNamesExist

@@ -1,13 +1,13 @@
 -- The atoms of the constraints and of the question compare names with constants alone.
-use Rattle.std.proofs.Common.{◌≡◌, ℕ, List, [], ◌∷◌, true, sym, subst, inl, inr, arith}
+use Rattle.std.proofs.Common.{◌≡◌, ℕ, ℤ, List, [], ◌∷◌, true, sym, subst, inl, inr, arith}
 use Rattle.std.specs.Prelude.{Contains, filter, flat_map, ◌==◌}
 use Rattle.std.proofs.lemmas.List.Elements.{Contains-append_left, Contains-append_right}
 use Rattle.std.proofs.lemmas.Bool.Decides.{nat_tests}
 use Rattle.olap_base.specs.Deciding.{contains_cases}
 use Rattle.olap_base.proofs.ListLemmas.{Contains-map, Contains-filter, Contains-nil}
-use Rattle.olap_ast.specs.Formula.{Formula, Equality, equalities}
+use Rattle.olap_ast.specs.Formula.{Formula, Equality, Comparison, equalities, comparisons}
 use Rattle.olap_ast.specs.Schema.{Schema, Constraint}
-use Rattle.olap_ast.specs.Constants.{all_equalities, IsConstant}
+use Rattle.olap_ast.specs.Constants.{all_equalities, all_comparisons, IsConstant, IsNumberConstant}
 
 Contains-flat_map : {A B : Type 0} (f : A → List B) (xs : List A) (x : A) (y : B) → Contains xs x →
     Contains (f x) y → Contains (flat_map f xs) y
@@ -41,3 +41,28 @@ pub constant_in_question : (s : Schema) (q : Formula) (d : ℕ) (text : List ℕ
 constant_in_question s q d text a = constant_of s q d text
     (Contains-append_right (flat_map (λ (b : Constraint). equalities b.formula) s.constraints) (equalities q)
     (record { category = d; text = text }) a)
+
+-- ---- numbers
+
+number_of_atoms : (s : Schema) (q : Formula) (d : ℕ) (n : ℤ) →
+    Contains (all_comparisons s q) (record { category = d; number = n }) → IsNumberConstant s q d n
+number_of_atoms s q d n c = Contains-map (λ (a : Comparison). a.number)
+    (filter (λ a. a.category == d) (all_comparisons s q)) (record { category = d; number = n })
+    (Contains-filter (λ a. a.category == d) (all_comparisons s q) (record { category = d; number = n })
+    (eqb_same d) c)
+
+pub number_in_constraint : (s : Schema) (q : Formula) (c : Constraint) → Contains s.constraints c →
+    (d : ℕ) (n : ℤ) → Contains (comparisons c.formula) (record { category = d; number = n }) →
+    IsNumberConstant s q d n
+number_in_constraint s q c h d n a =
+    number_of_atoms s q d n
+    (Contains-append_left (flat_map (λ (b : Constraint). comparisons b.formula) s.constraints)
+    (comparisons q) (record { category = d; number = n })
+    (Contains-flat_map (λ (b : Constraint). comparisons b.formula) s.constraints c
+    (record { category = d; number = n }) h a))
+
+pub number_in_question : (s : Schema) (q : Formula) (d : ℕ) (n : ℤ) →
+    Contains (comparisons q) (record { category = d; number = n }) → IsNumberConstant s q d n
+number_in_question s q d n a = number_of_atoms s q d n
+    (Contains-append_right (flat_map (λ (b : Constraint). comparisons b.formula) s.constraints) (comparisons q)
+    (record { category = d; number = n }) a)

@@ -1,5 +1,9 @@
 -- The truth of a formula at a member of an instance can be decided.
-use Rattle.std.proofs.Common.{◌≡◌, ℕ, List, [], ◌∷◌, length, refl, sym, subst, inl, inr}
+use Rattle.std.proofs.Common.{◌≡◌, ◌∙◌, ℕ, ℤ, List, [], ◌∷◌, length, Option, Some, None, refl, sym, subst, inl, inr, arith}
+use Rattle.std.proofs.Math.IntN.{ℤ_discrete}
+use Rattle.std.proofs.lemmas.Int.{ints, by_lt_z}
+use Rattle.olap_numerals.specs.Comparing.{Op, Op.Equal, Op.Less, Op.AtMost, Compares}
+use Rattle.olap_numerals.specs.Numerals.{number_of}
 use Rattle.std.specs.Prelude.{Contains}
 use Rattle.std.specs.List.{range_with_len}
 use native.Mathlib.Decide.{ℕ_discrete}
@@ -7,7 +11,7 @@ use mathlib.Core.List.{List-discrete}
 use Rattle.olap_base.specs.Instance.{Instance, IsMemberOf, Reaches, ReachesCategory, ReachesVia, category_of, name_of, parents_of}
 use Rattle.olap_base.specs.Deciding.{dec_or, dec_and, dec_iff, decide_reaches, contains_cons, contains_cases}
 use Rattle.olap_base.proofs.ListLemmas.{contains_head, Contains-nil, Contains-range, Contains-from_range}
-use Rattle.olap_ast.specs.Formula.{Formula, Terms, Formula.Truth, Formula.Falsity, Formula.Path, Formula.Reach, Formula.Via, Formula.Equals, Formula.Not, Formula.And, Formula.Or, Formula.Implies, Formula.Iff, Formula.Xor, Formula.One, Terms.End, Terms.More, Holds, ExactlyOneHolds, NoneHolds, HasPath, ReachesNamed}
+use Rattle.olap_ast.specs.Formula.{Formula, Terms, Formula.Truth, Formula.Falsity, Formula.Path, Formula.Reach, Formula.Via, Formula.Equals, Formula.Compare, Formula.Not, Formula.And, Formula.Or, Formula.Implies, Formula.Iff, Formula.Xor, Formula.One, Terms.End, Terms.More, Holds, ExactlyOneHolds, NoneHolds, HasPath, IsNumbered, ReachesNamed, ReachesNumbered}
 
 pub dec_not : {A : Type 0} → Dec A → Dec (A → ⊥)
 dec_not (yes a) = no (λ f. f a)
@@ -51,6 +55,27 @@ dec_named i x d text = dec_iff (λ t. (t.0, t.1, t.2.0, t.2.1)) (λ t. (t.0, t.1
     (dec_member i d (λ y. Reaches i x y × (name_of i y ≡ text))
     (λ y. dec_and (decide_reaches i x y) (List-discrete ℕ_discrete (name_of i y) text)))
 
+dec_compares : (op : Op) (a b : ℤ) → Dec (Compares op a b)
+dec_compares Equal a b = ℤ_discrete a b
+dec_compares Less a b = by_lt_z a b (λ l. yes l) (λ g. no (λ l. omega (arith, ints)))
+dec_compares AtMost a b = by_lt_z b a (λ l. no (λ g. omega (arith, ints))) (λ g. yes g)
+
+pub dec_number : (name : List ℕ) (op : Op) (n : ℤ) → Dec (IsNumbered name op n)
+dec_number name op n = go (number_of name) refl
+  where
+    other : (a b : ℤ) → ◌≡◌ {A = Option ℤ} (Some a) (Some b) → a ≡ b
+    other a b e = cc
+
+    go : (o : Option ℤ) → number_of name ≡ o → Dec (IsNumbered name op n)
+    go None e = no (λ t. let z : ◌≡◌ {A = Option ℤ} None (Some t.0) = sym e ∙ t.1 in cc)
+    go (Some a) e = dec_iff (λ c. (a, e, c)) (λ t. subst (λ b. Compares op b n) (other t.0 a (sym t.1 ∙ e)) t.2)
+        (dec_compares op a n)
+
+dec_numbered : (i : Instance) (x d : ℕ) (op : Op) (n : ℤ) → Dec (ReachesNumbered i x d op n)
+dec_numbered i x d op n = dec_iff (λ t. (t.0, t.1, t.2.0, t.2.1)) (λ t. (t.0, t.1, (t.2, t.3)))
+    (dec_member i d (λ y. Reaches i x y × IsNumbered (name_of i y) op n)
+    (λ y. dec_and (decide_reaches i x y) (dec_number (name_of i y) op n)))
+
 path_from : (i : Instance) (x c : ℕ) (cs : List ℕ) → HasPath i x (c ∷ cs) →
     (y : ℕ) × Contains (parents_of i x) y × ((category_of i y ≡ c) × HasPath i y cs)
 path_from i x c cs ([], h, q) = absurd (cc)
@@ -70,6 +95,7 @@ mutual
   decide_holds i x (Reach d) = dec_reach i x d
   decide_holds i x (Via d e) = dec_via i x d e
   decide_holds i x (Equals d k) = dec_named i x d k
+  decide_holds i x (Compare d op n) = dec_numbered i x d op n
   decide_holds i x (Not f) = dec_not (decide_holds i x f)
   decide_holds i x (And f g) = dec_and (decide_holds i x f) (decide_holds i x g)
   decide_holds i x (Or f g) = dec_or (decide_holds i x f) (decide_holds i x g)

@@ -4,20 +4,22 @@
 --     one_list, not_more           the list of all frozen dimensions, and that there aren't more than it has
 --     the_counterexample_is_one    the counterexample
 --     not_both_answers             a yes and a no to summarizable exclude each other
-use Rattle.std.proofs.Common.{◌≡◌, ℕ, zero, suc, ◌≤◌, List, ◌∷◌, length, refl, ap, sym, subst, ◌∙◌, arith, Ordering, Less, Greater, nat_cmp}
+use Rattle.std.proofs.Common.{◌≡◌, ℕ, zero, suc, ◌≤◌, ◌<ℤ◌, List, [], ◌∷◌, map, length, Bool, true, false, refl, ap, sym, subst, ◌∙◌, arith, Ordering, Less, Greater, nat_cmp}
 use Rattle.std.specs.Prelude.{◌≢◌, Contains, AllPairs, slice_index}
 use Rattle.std.specs.Ordering.{ordering_reverse}
 use Rattle.std.specs.Cmp.Lexicographic.{slice_cmp, nat_list_cmp_total}
+use Rattle.std.proofs.lemmas.Int.{ints}
 use Rattle.std.proofs.lemmas.List.Elements.{All-contains_itself}
 use Rattle.olap_base.proofs.ViewLemmas.{agree_exactly}
-use Rattle.olap_base.specs.Graph.{IsBottom}
+use Rattle.olap_base.specs.Graph.{IsBottom, is_number}
+use Rattle.olap_numerals.specs.Numerals.{canonical}
 use Rattle.olap_base.specs.Instance.{category_of}
 use Rattle.olap_ast.specs.Formula.{Formula}
 use Rattle.olap_ast.specs.Schema.{Schema}
 use Rattle.olap_ast.specs.Violation.{IsNotAfter}
 use Rattle.olap_ast.specs.Constants.{AreInByteOrder, IsBefore, constants}
 use Rattle.olap_ast.specs.Findings.{Finding, Finding.Unsatisfiable, Finding.Redundant, Finding.Unused, IsEarlier, TheFindingsAreOne, finding_rank}
-use Rattle.olap_ast.specs.Frozen.{AreCandidates, Candidates, Frozen, IsFrozen, IsFrozenInstance, IsLeastFrozen, TheLeastIsOne, chosen, code, instance_of, name_in, root_place, text_of_index, thawed}
+use Rattle.olap_ast.specs.Frozen.{AreCandidates, AreNamesOf, Candidates, Frozen, IsFrozen, IsFrozenInstance, IsLeastFrozen, TheLeastIsOne, chosen, code, instance_of, name_in, root_place, text_of_index, thawed}
 use Rattle.olap_ast.specs.Summarizable.{IsCounterexample, IsSummarizable, TheCounterexampleIsOne, not_by_one}
 use Rattle.olap_ast.proofs.CandidatesExist.{fresh_names_exist}
 use Rattle.olap_ast.proofs.OrderedLists.{Apart, no_longer, same_list}
@@ -42,22 +44,53 @@ same_order : (all xs ys : List (List ℕ)) → AreInByteOrder all xs → AreInBy
 same_order all xs ys a b = same_list IsBefore apart_texts xs ys a.ordered b.ordered
     (λ t c. b.complete t (a.sound t c)) (λ t c. a.complete t (b.sound t c))
 
--- the fresh name is one
-pub same_fresh : (s : Schema) (q : Formula) (k h : Candidates) → AreCandidates s q k → AreCandidates s q h
-    → k.fresh ≡ h.fresh
-same_fresh s q k h a b = let u = (fresh_names_exist s q).2 in u k.fresh a.fresh ∙ sym (u h.fresh b.fresh)
+-- no two numbers are each less than the other
+apart_numbers : Apart ◌<ℤ◌
+apart_numbers a b l m = absurd (omega (arith, ints))
 
--- so are a declared category's constants
+-- the names of a category are one list, of either kind
+same_names_of : (numeric : Bool) (s : Schema) (q : Formula) (d : ℕ) (x y : List ℕ) (xs ys : List (List ℕ))
+    → AreNamesOf numeric s q d x xs → AreNamesOf numeric s q d y ys → x ∷ xs ≡ y ∷ ys
+same_names_of false s q d x y xs ys a b =
+    let u = (fresh_names_exist s q).2 in
+    let e : x ≡ y = u x a.0 ∙ sym (u y b.0) in
+    let t : xs ≡ ys = same_order (constants s q d) xs ys a.1 b.1 in λ i. e i ∷ t i
+same_names_of true s q d x y xs ys a b = a.spelled ∙ ap (λ ns. map canonical ns)
+    (same_list ◌<ℤ◌ apart_numbers a.numbers b.numbers a.ascending b.ascending
+    (λ n c. b.complete n (a.sound n c)) (λ n c. a.complete n (b.sound n c))) ∙ sym b.spelled
+
+-- so are those of a declared category
+same_names : (s : Schema) (q : Formula) (k h : Candidates) → AreCandidates s q k → AreCandidates s q h → (c : ℕ)
+    → k.first (suc c) ∷ k.texts (suc c) ≡ h.first (suc c) ∷ h.texts (suc c)
+same_names s q k h a b c = same_names_of (is_number s.graph (suc c)) s q (suc c) (k.first (suc c)) (h.first (suc c))
+    (k.texts (suc c)) (h.texts (suc c)) (a.names c) (b.names c)
+
+-- what is in front of a list, and what follows it
+front : List (List ℕ) → List ℕ
+front [] = []
+front (x ∷ xs) = x
+
+rest : List (List ℕ) → List (List ℕ)
+rest [] = []
+rest (x ∷ xs) = xs
+
+-- the first name is one
+pub same_first : (s : Schema) (q : Formula) (k h : Candidates) → AreCandidates s q k → AreCandidates s q h → (c : ℕ)
+    → k.first (suc c) ≡ h.first (suc c)
+unfolding front
+same_first s q k h a b c = ap (λ xs. front xs) (same_names s q k h a b c)
+
+-- so are the others
 pub same_texts : (s : Schema) (q : Formula) (k h : Candidates) → AreCandidates s q k → AreCandidates s q h → (c : ℕ)
     → k.texts (suc c) ≡ h.texts (suc c)
-same_texts s q k h a b c =
-    same_order (constants s q (suc c)) (k.texts (suc c)) (h.texts (suc c)) (a.texts c) (b.texts c)
+unfolding rest
+same_texts s q k h a b c = ap (λ xs. rest xs) (same_names s q k h a b c)
 
 -- the name of a category's member is one
 pub same_name : (s : Schema) (q : Formula) (k h : Candidates) → AreCandidates s q k → AreCandidates s q h
     → (f : Frozen) (c : ℕ) → name_in k f c ≡ name_in h f c
 same_name s q k h a b f zero = refl
-same_name s q k h a b f (suc c) = let u = same_fresh s q k h a b in let t = same_texts s q k h a b c in
+same_name s q k h a b f (suc c) = let u = same_first s q k h a b c in let t = same_texts s q k h a b c in
     λ i. text_of_index (u i) (t i) (slice_index f.names c)
 
 -- so is the instance

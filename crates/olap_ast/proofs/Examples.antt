@@ -1,8 +1,8 @@
 -- The smallest example of a legal instance: one store below `All`.
 use Rattle.std.proofs.Common.{◌≡◌, ℕ, zero, suc, ◌<◌, ◌≤◌, List, [], ◌∷◌, refl, ap, sym, subst, ◌∙◌, ◌↔◌, ◌⊎◌, inl, inr, arith, lit≤}
-use Rattle.std.specs.Prelude.{Contains, ◌≢◌, All, codes}
+use Rattle.std.specs.Prelude.{Contains, ◌≢◌, All, codes, IsTrue, true, false}
 use Rattle.olap_base.specs.Steps.{Steps.here, Steps.step, Climb, Climb.climb, Climb-from_leads}
-use Rattle.olap_base.specs.Graph.{Edge, HasEdge, CategoryReaches, IsCategoryName, IsLetterOrDigit, reserved}
+use Rattle.olap_base.specs.Graph.{Edge, HasEdge, CategoryReaches, is_number, IsCategoryName, IsLetterOrDigit, reserved}
 use Rattle.olap_base.specs.Instance.{IsBelow, IsFarBelow, category_of, member_at, parents_of}
 use Rattle.olap_base.specs.Deciding.{contains_cases}
 use Rattle.olap_base.proofs.ListLemmas.{contains_head, Contains-nil, Contains-map, Distinct, AllPairs-from_Distinct}
@@ -104,9 +104,15 @@ edge_there x y e = subst (λ a. HasEdge stores.graph (category_of one_store a) (
 last_is : (x : ℕ) → suc x ≡ 2 → x ≡ 1
 last_is x e = omega arith
 
+no_number : (x : ℕ) → x < 2 → IsTrue (is_number stores.graph (category_of one_store x)) → ⊥
+no_number zero h b = let z : false ≡ true = b in cc
+no_number (suc zero) h b = let z : false ≡ true = b in cc
+no_number (suc (suc x)) h b = omega arith
+
 pub one_store_is_legal : OneStoreIsLegal
 one_store_is_legal = (
   record {
+    kinds_known = refl;
     names_differ = AllPairs-from_Distinct (codes "Store" ∷ []) (Contains-nil (codes "Store"), tt);
     names = λ name c. name_is name (alone (codes "Store") name c);
     categories = λ c d h. let e = edge c d h in (omega (arith, e.0), omega (arith, e.1));
@@ -126,6 +132,7 @@ one_store_is_legal = (
       all_id = λ x e. ap (λ a. (member_at one_store a).id) (last_is x e);
       all_name = λ x e. ap (λ a. (member_at one_store a).name) (last_is x e);
     };
+    numerals = λ x h b. absurd (no_number x h b);
     lawful = record {
       connectivity = λ x y b. edge_there x y (below x y b);
       up_connectivity = up;

@@ -5,6 +5,10 @@ pub mod Least
 pub mod Violated
 pub mod Truth
 pub mod ConstantLemmas
+pub mod AtomLemmas
+pub mod SameAtoms
+pub mod CandidatesExist
+pub mod NewNames
 pub mod Renaming
 pub mod Shape
 pub mod SmallModel
@@ -12,10 +16,10 @@ pub mod Summing
 pub mod Examples
 mod SummarizableExample
 pub mod TextLemmas
-mod CandidatesExist
-mod Uniqueness
+pub mod Uniqueness
 pub mod OrderedLists
 pub mod Determined
 mod QuestionLemmas
+pub mod SourceLemmas
 mod ListingLemmas
 pub mod ThreeValueLemmas

@@ -1,21 +1,26 @@
 -- What one member of a legal instance reaches gives a frozen dimension.
-use Rattle.std.proofs.Common.{◌≡◌, ℕ, zero, suc, ◌<◌, ◌≤◌, List, [], ◌∷◌, length, map, get_or, Bool, true, false, cond, refl, ap, sym, subst, ◌∙◌, ◌↔◌, ◌⊎◌, inl, inr, arith}
-use Rattle.std.specs.Prelude.{Contains, ◌≢◌, filter, slice_index}
+use Rattle.std.proofs.Common.{◌≡◌, ℕ, zero, suc, ◌<◌, ◌≤◌, List, [], ◌∷◌, length, map, get_or, Bool, true, false, cond, refl, ap, sym, subst, ◌∙◌, ◌↔◌, inl, inr, arith}
+use Rattle.std.specs.Prelude.{Contains, IsSome, IsTrue, filter, slice_index}
 use Rattle.std.specs.List.{range_with_len}
 use Rattle.std.proofs.lemmas.List.{length-map, get_or_default}
 use Rattle.std.proofs.lemmas.List.FromFn.{length-map-range_with_len, get_or-map-range_with_len}
 use native.Mathlib.Decide.{ℕ_discrete}
 use mathlib.Core.List.{List-discrete}
-use Rattle.olap_base.specs.Graph.{Edge, IsHierarchy}
+use Rattle.olap_base.specs.Graph.{Edge, IsHierarchy, is_number}
 use Rattle.olap_base.specs.Instance.{Instance, IsMemberOf, category_of, name_of}
-use Rattle.olap_base.specs.Deciding.{decide_contains}
-use Rattle.olap_base.proofs.ListLemmas.{Contains-from_filter, Contains-nil}
-use Rattle.olap_ast.specs.Formula.{Formula, Holds, equalities}
+use Rattle.olap_base.specs.Deciding.{decide_contains, contains_cons}
+use Rattle.olap_base.proofs.ListLemmas.{Contains-from_filter, Contains-nil, contains_head}
+use Rattle.olap_ast.specs.Formula.{Formula, Holds, equalities, IsNumbered, comparisons}
+use Rattle.olap_base.proofs.Part.{IsPart}
+use Rattle.olap_numerals.specs.Numerals.{number_of}
+use Rattle.olap_numerals.proofs.NameLemmas.{has_name}
 use Rattle.olap_ast.specs.Schema.{Schema, IsLegal}
-use Rattle.olap_ast.specs.Constants.{IsConstant, IsFreshName}
-use Rattle.olap_ast.specs.Frozen.{Frozen, Candidates, AreCandidates, is_present, categories_in_order, instance_of, chosen, text_of_index, name_in, thawed, IsFrozen, IsFrozenInstance, FrozenExactlyIfSomeInstance}
-use Rattle.olap_ast.proofs.Truth.{same, NamesAgree}
-use Rattle.olap_ast.proofs.ConstantLemmas.{constant_in_constraint, constant_in_question}
+use Rattle.olap_ast.specs.Constants.{IsConstant, IsFreshName, IsNameOf, IsNumberConstant, new_name, numbers}
+use Rattle.olap_ast.specs.Frozen.{Frozen, Candidates, AreCandidates, AreNamesOf, is_present, categories_in_order, instance_of, chosen, text_of_index, name_in, thawed, IsFrozen, IsFrozenInstance, FrozenExactlyIfSomeInstance}
+use Rattle.olap_ast.proofs.Truth.{AsksOnly, same, NamesAgree, NumbersAgree}
+use Rattle.olap_ast.proofs.ConstantLemmas.{constant_in_constraint, constant_in_question, number_in_constraint, number_in_question}
+use Rattle.olap_ast.proofs.CandidatesExist.{fresh_is_one, fresh_names_exist}
+use Rattle.olap_ast.proofs.NewNames.{new_all, new_known, new_numbered, new_spells, new_text}
 use Rattle.olap_ast.proofs.Shape.{seen, seen_edges, member_above, shape_categories, shape, whole, shape_is_part, shape_instance, shape_lawful, shape_one_each, shape_root, shape_root_is, shape_reached, name_shape, listed, category_shape, declared}
 
 -- ---- edges and names as bits and indexes
@@ -24,37 +29,54 @@ chosen_by : (t : Edge → Bool) (es : List Edge) → chosen es (map t es) ≡ fi
 chosen_by t [] = refl
 chosen_by t (e ∷ es) = ap (λ l. cond (t e) (e ∷ l) l) (chosen_by t es)
 
--- 0 where the text is none of them, else one more than its place
-index_of : List (List ℕ) → List ℕ → ℕ
-index_of texts name = elim (decide_contains (List-discrete ℕ_discrete) texts name) [ yes c ↦ suc c.0 | no n ↦ 0 ]
+-- the place of the text among the names, or 0
+index_of : List ℕ → List (List ℕ) → List ℕ → ℕ
+index_of first texts name =
+    elim (decide_contains (List-discrete ℕ_discrete) (first ∷ texts) name) [ yes c ↦ c.0 | no n ↦ 0 ]
 
-record IsIndex (fresh : List ℕ) (texts : List (List ℕ)) (name : List ℕ) (n : ℕ) : Type 0 where
+-- the text at a place
+text_at : (first : List ℕ) (texts : List (List ℕ)) (n : ℕ) (name : List ℕ) → n ≤ length texts →
+    text_of_index first texts n ≡ get_or (first ∷ texts) n name
+text_at first texts zero name h = refl
+text_at first texts (suc n) name h = get_or_default texts n first name (omega arith)
+
+record IsIndex (first : List ℕ) (texts : List (List ℕ)) (name : List ℕ) (n : ℕ) : Type 0 where
   in_range : n ≤ length texts
-  known : (Contains texts name × (text_of_index fresh texts n ≡ name))
-      ⊎ ((Contains texts name → ⊥) × (text_of_index fresh texts n ≡ fresh))
+  named : Contains (first ∷ texts) name → text_of_index first texts n ≡ name
 
-index_of_is : (fresh : List ℕ) (texts : List (List ℕ)) (name : List ℕ) →
-    IsIndex fresh texts name (index_of texts name)
+index_of_is : (first : List ℕ) (texts : List (List ℕ)) (name : List ℕ) →
+    IsIndex first texts name (index_of first texts name)
 unfolding index_of
-index_of_is fresh texts name = go (decide_contains (List-discrete ℕ_discrete) texts name)
+index_of_is first texts name = go (decide_contains (List-discrete ℕ_discrete) (first ∷ texts) name)
   where
-    go : (d : Dec (Contains texts name)) → IsIndex fresh texts name (elim d [ yes c ↦ suc c.0 | no n ↦ 0 ])
-    go (yes c) = record {
-      in_range = omega (arith, c.1);
-      known = inl (
-        c,
-        get_or_default texts c.0 fresh name c.1
-            ∙ c.2,
-      );
-    }
-    go (no n) = record { in_range = omega arith; known = inr (n, refl) }
+    go : (d : Dec (Contains (first ∷ texts) name)) → IsIndex first texts name (elim d [ yes c ↦ c.0 | no n ↦ 0 ])
+    go (yes c) =
+        let h : c.0 ≤ length texts = let l = c.1 in omega arith in
+        record { in_range = h; named = λ d. text_at first texts c.0 name h ∙ c.2 }
+    go (no n) = record { in_range = omega arith; named = λ d. absurd (n d) }
+
+-- a name of its own is among a category's names
+among : (s : Schema) (q : Formula) (d : ℕ) (first : List ℕ) (others : List (List ℕ)) (name : List ℕ) (m : Bool) →
+    AreNamesOf m s q d first others → IsNameOf m s q d name → Contains (first ∷ others) name
+among s q d first others name false k (inl c) = contains_cons name others first (k.1.complete name c)
+among s q d first others name false k (inr f) = subst (λ t. Contains (first ∷ others) t)
+    (fresh_is_one s q first name k.0 f) (contains_head first others)
+among s q d first others name true k t = subst (λ w. Contains (first ∷ others) w) (sym t.2)
+    (has_name (numbers s q d) first others k t.0 t.1)
 
 module _ (s : Schema) (q : Formula) (k : Candidates) (hier : IsHierarchy s.graph) (ok : AreCandidates s q k)
-    (i : Instance) (legal : IsLegal s i) (x : ℕ) (hx : x < length i) where
-  -- the index of the name of the member of a declared category
+    (fresh : List ℕ) (is_fresh : IsFreshName s q fresh) (i : Instance) (legal : IsLegal s i) (x : ℕ)
+    (hx : x < length i) where
+  -- the new name of the member of a declared category, and its index
+  wanted : ℕ → List ℕ → List ℕ
+  wanted c name = new_name s q fresh (suc c) name
+
+  place : ℕ → List ℕ → ℕ
+  place c name = index_of (k.first (suc c)) (k.texts (suc c)) (wanted c name)
+
   index : ℕ → ℕ
   index c = cond (is_present (category_of i x) (seen_edges s.graph i x) (suc c))
-      (index_of (k.texts (suc c)) (name_of i (member_above i x (suc c)))) 0
+      (place c (name_of i (member_above i x (suc c)))) 0
 
   abbrev frozen : Frozen
   frozen =
@@ -77,7 +99,7 @@ module _ (s : Schema) (q : Formula) (k : Candidates) (hier : IsHierarchy s.graph
 
   -- the name of a declared category's member, as an index
   name_at : (c : ℕ) → Contains (shape_categories s.graph i hier legal.is_instance legal.lawful x hx) (suc c) →
-      (slice_index frozen.names c ≡ index_of (k.texts (suc c)) (name_of i (member_above i x (suc c))))
+      (slice_index frozen.names c ≡ place c (name_of i (member_above i x (suc c))))
   unfolding index
   name_at c h = let t = Contains-from_filter (is_present (category_of i x) (seen_edges s.graph i x))
       (categories_in_order s.graph) (suc c) h in
@@ -85,62 +107,65 @@ module _ (s : Schema) (q : Formula) (k : Candidates) (hier : IsHierarchy s.graph
       ∙ yes_index (is_present (category_of i x) (seen_edges s.graph i x) (suc c)) t.1
     where
       yes_index : (b : Bool) → b ≡ true →
-          cond b (index_of (k.texts (suc c)) (name_of i (member_above i x (suc c)))) 0
-          ≡ index_of (k.texts (suc c)) (name_of i (member_above i x (suc c)))
+          cond b (place c (name_of i (member_above i x (suc c)))) 0
+          ≡ place c (name_of i (member_above i x (suc c)))
       yes_index true e = refl
       yes_index false e = absurd (cc)
 
-  -- the name of the member of a category, in the small instance and in the whole one
-  named_alike : (c : ℕ) → Contains (shape_categories s.graph i hier legal.is_instance legal.lawful x hx) c →
+  numeral_at : (y : ℕ) → y < length i → IsTrue (is_number s.graph (category_of i y)) → IsSome (number_of (name_of i y))
+  numeral_at y h = legal.numerals y h
+
+  -- the name of the member of a category, in the small instance
+  name_is : (c : ℕ) → Contains (shape_categories s.graph i hier legal.is_instance legal.lawful x hx) c →
       (y : ℕ) → y ≡ member_above i x c → category_of i y ≡ c → y < length i
-      → ((text : List ℕ) → IsConstant s q c text → (name c ≡ text) ↔ (name_of i y ≡ text))
-      × (c ≢ 0 → IsConstant s q c (name c) ⊎ IsFreshName s q (name c))
-  named_alike zero h y e f l = (
-    λ text t. let n = legal.is_instance.all_name y
-        ((legal.is_instance.all_is_last y l).0 f) in (λ a. n ∙ a, λ a. sym n ∙ a),
-    λ n. absurd (n refl),
-  )
-  named_alike (suc c) h y e f l =
-      let t = index_of_is k.fresh (k.texts (suc c)) (name_of i y) in
-      let n : name (suc c) ≡ text_of_index k.fresh (k.texts (suc c)) (index_of (k.texts (suc c)) (name_of i y)) =
-      ap (text_of_index k.fresh (k.texts (suc c))) (name_at c h
-      ∙ ap (λ z. index_of (k.texts (suc c)) (name_of i z)) (sym e)) in
-      go (name (suc c))
-      (text_of_index k.fresh (k.texts (suc c)) (index_of (k.texts (suc c)) (name_of i y))) n t.known
-    where
-      go : (a b : List ℕ) → a ≡ b → (Contains (k.texts (suc c)) (name_of i y) × (b ≡ name_of i y))
-          ⊎ ((Contains (k.texts (suc c)) (name_of i y) → ⊥) × (b ≡ k.fresh))
-          → ((text : List ℕ) → IsConstant s q (suc c) text → (a ≡ text) ↔ (name_of i y ≡ text))
-          × (suc c ≢ 0 → IsConstant s q (suc c) a ⊎ IsFreshName s q a)
-      go a b n (inl u) = (
-        λ text t. (λ z. sym (n ∙ u.1) ∙ z, λ z. n ∙ u.1 ∙ z),
-        λ p. inl (subst (λ z. IsConstant s q (suc c) z) (sym (n ∙ u.1))
-            ((ok.texts c).sound (name_of i y) u.0)),
-      )
-      go a b n (inr u) = (
-        λ text t. (
-          λ z. absurd (ok.fresh.free (suc c) (subst (λ w. IsConstant s q (suc c) w) (sym z ∙ n ∙ u.1) t)),
-          λ z. absurd (u.0 (subst (λ w. Contains (k.texts (suc c)) w) (sym z) ((ok.texts c).complete text t))),
-        ),
-        λ p. inr (subst (λ z. IsFreshName s q z) (sym (n ∙ u.1)) ok.fresh),
-      )
+      → name c ≡ new_name s q fresh c (name_of i y)
+  unfolding place wanted
+  name_is zero h y e f l = sym (legal.is_instance.all_name y ((legal.is_instance.all_is_last y l).0 f))
+      ∙ sym (new_all s q fresh ok.kinds is_fresh.free 0 refl (name_of i y))
+  name_is (suc c) h y e f l =
+      let t = index_of_is (k.first (suc c)) (k.texts (suc c)) (wanted c (name_of i y)) in
+      let n : name (suc c) ≡ text_of_index (k.first (suc c)) (k.texts (suc c)) (place c (name_of i y)) =
+      ap (text_of_index (k.first (suc c)) (k.texts (suc c))) (name_at c h ∙ ap (λ z. place c (name_of i z)) (sym e)) in
+      n ∙ t.named (among s q (suc c) (k.first (suc c)) (k.texts (suc c)) (wanted c (name_of i y))
+      (is_number s.graph (suc c)) (ok.names c)
+      (new_known s q fresh ok.kinds is_fresh.free (suc c) is_fresh (λ z. absurd (omega arith)) (name_of i y)
+      (λ b. numeral_at y l (subst (λ d. IsTrue (is_number s.graph d)) (sym f) b))))
+
+  the_part : IsPart i small of_small
+  the_part = shape_is_part s.graph i hier legal.is_instance legal.lawful x hx name
+
+  the_name : (m : ℕ) → m < length small
+      → name_of small m ≡ new_name s q fresh (category_of small m) (name_of i (of_small m))
+  the_name m h =
+      let c = category_shape s.graph i hier legal.is_instance legal.lawful x hx name m h in
+      name_shape s.graph i hier legal.is_instance legal.lawful x hx name m h ∙ ap name c
+      ∙ name_is (get_or (shape_categories s.graph i hier legal.is_instance legal.lawful x hx) m 0)
+      (listed s.graph i hier legal.is_instance legal.lawful x hx name m h) (of_small m) refl
+      (sym (the_part.category m h) ∙ c) (the_part.member m h)
+      ∙ ap (λ d. new_name s q fresh d (name_of i (of_small m))) (sym c)
+
+  small_numeral : (m : ℕ) → m < length small → IsTrue (is_number s.graph (category_of small m))
+      → IsSome (number_of (name_of i (of_small m)))
+  small_numeral m h b = numeral_at (of_small m) (the_part.member m h)
+      (subst (λ c. IsTrue (is_number s.graph c)) (the_part.category m h) b)
 
   names_agree : NamesAgree i small of_small (IsConstant s q)
   names_agree m text h t =
-      let p = shape_is_part s.graph i hier legal.is_instance legal.lawful x hx name in
-      let c = category_shape s.graph i hier legal.is_instance legal.lawful x hx name m h in
-      let l = listed s.graph i hier legal.is_instance legal.lawful x hx name m h in
-      let n = name_shape s.graph i hier legal.is_instance legal.lawful x hx name m h ∙ ap name c in
-      let a = (named_alike (get_or (shape_categories s.graph i hier legal.is_instance legal.lawful x hx) m 0) l
-      (of_small m) refl (sym (p.category m h) ∙ c) (p.member m h)).0 text
-      (subst (λ d. IsConstant s q d text) c t) in
-      (λ z. a.0 (sym n ∙ z), λ z. n ∙ a.1 z)
+      let u = new_text s q fresh ok.kinds is_fresh.free (category_of small m) (name_of i (of_small m)) text t in
+      (λ z. u.0 (sym (the_name m h) ∙ z), λ z. the_name m h ∙ u.1 z)
+
+  numbers_agree : NumbersAgree i small of_small (IsNumberConstant s q)
+  numbers_agree m op n h t =
+      let u = new_numbered s q fresh ok.kinds is_fresh.free (category_of small m) (name_of i (of_small m)) op n t
+      (small_numeral m h) in (
+        λ z. u.0 (subst (λ w. IsNumbered w op n) (the_name m h) z),
+        λ z. subst (λ w. IsNumbered w op n) (sym (the_name m h)) (u.1 z),
+      )
 
   same_truth : (m : ℕ) → m < length small → (f : Formula) →
-      ((d : ℕ) (text : List ℕ) → Contains (equalities f) (record { category = d; text = text }) →
-      IsConstant s q d text) → Holds small m f ↔ Holds i (of_small m) f
+      AsksOnly (IsConstant s q) (IsNumberConstant s q) (equalities f) (comparisons f) → Holds small m f ↔ Holds i (of_small m) f
   same_truth = same i small of_small (shape_is_part s.graph i hier legal.is_instance legal.lawful x hx name)
-      (IsConstant s q) names_agree
+      (IsConstant s q) (IsNumberConstant s q) names_agree numbers_agree
 
   small_is_frozen : Holds i x q → IsFrozenInstance s q (category_of i x) small
   small_is_frozen t =
@@ -150,45 +175,43 @@ module _ (s : Schema) (q : Formula) (k : Candidates) (hier : IsHierarchy s.graph
       record {
         legal = record {
           is_instance = shape_instance s.graph i hier legal.is_instance legal.lawful x hx name refl;
+          numerals = λ m h b. subst (λ w. IsSome (number_of w)) (sym (the_name m h))
+              (new_spells s q fresh ok.kinds is_fresh.free (category_of small m) (name_of i (of_small m)) b
+              (small_numeral m h b));
           lawful = shape_lawful s.graph i hier legal.is_instance legal.lawful x hx name;
-          meets = λ c d m h. (same_truth m h.0 c.formula (constant_in_constraint s q c d)).1
+          meets = λ c d m h. (same_truth m h.0 c.formula (constant_in_constraint s q c d, number_in_constraint s q c d)).1
               (legal.meets c d (of_small m) (p.member m h.0, sym (p.category m h.0) ∙ h.1));
         };
         one_each = shape_one_each s.graph i hier legal.is_instance legal.lawful x hx name;
         root = a;
         root_is = (r.0, r.1);
         reached = shape_reached s.graph i hier legal.is_instance legal.lawful x hx name;
-        named = λ m h n.
-            let c = category_shape s.graph i hier legal.is_instance legal.lawful x hx name m h in
-            let l = listed s.graph i hier legal.is_instance legal.lawful x hx name m h in
-            let e = name_shape s.graph i hier legal.is_instance legal.lawful x hx name m h in
-            let u = (named_alike
-            (get_or (shape_categories s.graph i hier legal.is_instance legal.lawful x hx) m 0) l
-            (of_small m) refl (sym (p.category m h) ∙ c) (p.member m h)).1 (λ z. n (c ∙ z)) in
-            subst (λ z. IsConstant s q (category_of small m) z ⊎ IsFreshName s q z) (sym e)
-            (subst (λ d. IsConstant s q d (name d) ⊎ IsFreshName s q (name d)) (sym c) u);
-        true_at_root = (same_truth a r.0 q (constant_in_question s q)).1 (subst (λ y. Holds i y q) (sym r.2) t);
+        named = λ m h n. subst (λ w. IsNameOf (is_number s.graph (category_of small m)) s q (category_of small m) w)
+            (sym (the_name m h))
+            (new_known s q fresh ok.kinds is_fresh.free (category_of small m) is_fresh n (name_of i (of_small m))
+            (small_numeral m h));
+        true_at_root = (same_truth a r.0 q (constant_in_question s q, number_in_question s q)).1 (subst (λ y. Holds i y q) (sym r.2) t);
       }
 
   frozen_is : Holds i x q → IsFrozen s q (category_of i x) k frozen
-  unfolding index
+  unfolding index place wanted
   frozen_is t = record {
     edge_count = length-map s.graph.edges (seen i x);
     name_count = length-map-range_with_len index 0 (length s.graph.names);
     in_range = λ c h. let l : c < length s.graph.names = rw length-map-range_with_len at h in
         subst (λ n. n ≤ length (k.texts (suc c))) (sym (names_at c l))
         (bound c (is_present (category_of i x) (seen_edges s.graph i x) (suc c))
-        (index_of_is k.fresh (k.texts (suc c)) (name_of i (member_above i x (suc c)))));
+        (index_of_is (k.first (suc c)) (k.texts (suc c)) (wanted c (name_of i (member_above i x (suc c))))));
     absent = λ c h e. let l : c < length s.graph.names = rw length-map-range_with_len at h in
         names_at c l ∙ no_index (is_present (category_of i x) (seen_edges s.graph i x) (suc c))
-        (index_of (k.texts (suc c)) (name_of i (member_above i x (suc c))))
+        (place c (name_of i (member_above i x (suc c))))
         (sym (ap (λ es. is_present (category_of i x) es (suc c)) (chosen_by (seen i x) s.graph.edges)) ∙ e);
     stands_for = subst (λ j. IsFrozenInstance s q (category_of i x) j) (sym thawed_is) (small_is_frozen t);
   }
     where
-      bound : (c : ℕ) (b : Bool) → IsIndex k.fresh (k.texts (suc c)) (name_of i (member_above i x (suc c)))
-          (index_of (k.texts (suc c)) (name_of i (member_above i x (suc c)))) →
-          cond b (index_of (k.texts (suc c)) (name_of i (member_above i x (suc c)))) 0 ≤ length (k.texts (suc c))
+      bound : (c : ℕ) (b : Bool) → IsIndex (k.first (suc c)) (k.texts (suc c)) (wanted c (name_of i (member_above i x (suc c))))
+          (place c (name_of i (member_above i x (suc c)))) →
+          cond b (place c (name_of i (member_above i x (suc c)))) 0 ≤ length (k.texts (suc c))
       bound c true t = t.in_range
       bound c false t = omega arith
 
@@ -197,34 +220,41 @@ module _ (s : Schema) (q : Formula) (k : Candidates) (hier : IsHierarchy s.graph
       no_index false n e = refl
 
   -- at the root's member the formulas without names have the truths that they have at x
-  truths : (h : Formula) → equalities h ≡ [] → (m : ℕ) → IsMemberOf small (category_of i x) m →
+  truths : (h : Formula) → equalities h ≡ [] → comparisons h ≡ [] → (m : ℕ) → IsMemberOf small (category_of i x) m →
       Holds small m h ↔ Holds i x h
-  truths h none m t =
+  truths h none no_numbers m t =
       let r = shape_root_is s.graph i hier legal.is_instance legal.lawful x hx name in
       let a = shape_root s.graph i hier legal.is_instance legal.lawful x hx name in
       let e : m ≡ a = shape_one_each s.graph i hier legal.is_instance legal.lawful x hx name m a t.0 r.0
       (t.1 ∙ sym r.1) in
-      let u = same_truth a r.0 h (λ d text c. absurd (Contains-nil (record { category = d; text = text })
-      (subst (λ l. Contains l (record { category = d; text = text })) none c))) in (
+      let u = same_truth a r.0 h (
+        (λ d text c. absurd (Contains-nil (record { category = d; text = text })
+            (subst (λ l. Contains l (record { category = d; text = text })) none c))),
+        (λ d n c. absurd (Contains-nil (record { category = d; number = n })
+            (subst (λ l. Contains l (record { category = d; number = n })) no_numbers c))),
+      ) in (
         λ z. subst (λ y. Holds i y h) r.2 (u.0 (subst (λ n. Holds small n h) e z)),
         λ z. subst (λ n. Holds small n h) (sym e) (u.1 (subst (λ y. Holds i y h) (sym r.2) z)),
       )
 
-  truths_thawed : (h : Formula) → equalities h ≡ [] → (m : ℕ) →
+  truths_thawed : (h : Formula) → equalities h ≡ [] → comparisons h ≡ [] → (m : ℕ) →
       IsMemberOf (thawed s k (category_of i x) frozen) (category_of i x) m →
       Holds (thawed s k (category_of i x) frozen) m h ↔ Holds i x h
-  truths_thawed h none =
+  truths_thawed h none no_numbers =
       subst (λ j. (m : ℕ) → IsMemberOf j (category_of i x) m → Holds j m h ↔ Holds i x h) (sym thawed_is)
-      (truths h none)
+      (truths h none no_numbers)
 
 -- there is one with the member's category as its root, at which the formulas without names are as true as at the member
 pub frozen_alike : (s : Schema) (q : Formula) (k : Candidates) → IsHierarchy s.graph → AreCandidates s q k
     → (i : Instance) → IsLegal s i → (x : ℕ) → x < length i → Holds i x q
     → (f : Frozen) × IsFrozen s q (category_of i x) k f
-    × ((h : Formula) → equalities h ≡ [] → (m : ℕ) → IsMemberOf (thawed s k (category_of i x) f) (category_of i x) m
+    × ((h : Formula) → equalities h ≡ [] → comparisons h ≡ [] → (m : ℕ) → IsMemberOf (thawed s k (category_of i x) f) (category_of i x) m
     → Holds (thawed s k (category_of i x) f) m h ↔ Holds i x h)
-frozen_alike s q k hier ok i l x hx t =
-    (frozen s q k hier ok i l x hx, frozen_is s q k hier ok i l x hx t, truths_thawed s q k hier ok i l x hx)
+frozen_alike s q k hier ok i l x hx t = let z = fresh_names_exist s q in (
+  frozen s q k hier ok z.0 z.1 i l x hx,
+  frozen_is s q k hier ok z.0 z.1 i l x hx t,
+  truths_thawed s q k hier ok z.0 z.1 i l x hx,
+)
 
 pub frozen_exactly : FrozenExactlyIfSomeInstance
 frozen_exactly s q r k hier ok = (
@@ -233,5 +263,7 @@ frozen_exactly s q r k hier ok = (
 )
   where
     go : (i : Instance) → IsLegal s i → (x : ℕ) → IsMemberOf i r x → Holds i x q → (f : Frozen) × IsFrozen s q r k f
-    go i l x m t = let e = frozen s q k hier ok i l x m.0 in
-        (e, subst (λ d. IsFrozen s q d k e) m.1 (frozen_is s q k hier ok i l x m.0 t))
+    go i l x m t =
+        let z = fresh_names_exist s q in
+        let e = frozen s q k hier ok z.0 z.1 i l x m.0 in
+        (e, subst (λ d. IsFrozen s q d k e) m.1 (frozen_is s q k hier ok z.0 z.1 i l x m.0 t))

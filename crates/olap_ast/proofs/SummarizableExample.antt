@@ -75,7 +75,7 @@ edge_present k false n l = let t = l.lawful.up_connectivity 0 (omega arith) (λ 
 
 -- there are no constants
 no_texts : (k : Candidates) → AreCandidates stores asked k → length (k.texts 1) ≡ 0
-no_texts k ok = go (k.texts 1) (ok.texts 0).sound
+no_texts k ok = go (k.texts 1) (ok.names 0).1.sound
   where
     go : (ts : List (List ℕ)) → ((text : List ℕ) → Contains ts text → Contains (constants stores asked 1) text)
         → length ts ≡ 0

@@ -1,9 +1,9 @@
--- The texts of the atoms of two formulas.
+-- The texts and the numbers of the atoms of two formulas.
 use Rattle.std.proofs.Common.{◌≡◌, List, ◌++◌, ℕ, Bool, map, refl, ap, ◌∙◌}
 use Rattle.std.specs.Prelude.{◌==◌, filter}
 use Rattle.std.proofs.lemmas.List.{map-append}
 use Rattle.std.proofs.lemmas.List.Elements.{filter-append}
-use Rattle.olap_ast.specs.Constants.{IsBefore, texts_on}
+use Rattle.olap_ast.specs.Constants.{IsBefore, numbers_on, texts_on}
 use Rattle.std.specs.Prelude.{AllPairs, nat_eq, true}
 use Rattle.std.specs.List.{All, AllByRecursion}
 use Rattle.std.proofs.lemmas.List.Elements.{All-cons}
@@ -14,13 +14,20 @@ use Rattle.std.specs.Ordering.{nat_cmp}
 use Rattle.std.specs.Cmp.Lexicographic.{pointwise, slice_cmp}
 use Rattle.std.proofs.lemmas.List.Kept.{AllPairs-cons}
 use Rattle.std.proofs.Common.{[], ◌∷◌, arith}
-use Rattle.olap_ast.specs.Formula.{Equality}
+use Rattle.olap_ast.specs.Formula.{Comparison, Equality}
 
 pub texts_on-append : (d : ℕ) (xs ys : List Equality) → texts_on d (xs ++ ys) ≡ texts_on d xs ++ texts_on d ys
 texts_on-append d xs ys =
     let on : Equality → Bool = λ a. a.category == d in
     ap (map (λ (a : Equality). a.text)) (filter-append on xs ys)
     ∙ map-append (λ (a : Equality). a.text) (filter on xs) (filter on ys)
+
+pub numbers_on-append : (d : ℕ) (xs ys : List Comparison)
+    → numbers_on d (xs ++ ys) ≡ numbers_on d xs ++ numbers_on d ys
+numbers_on-append d xs ys =
+    let on : Comparison → Bool = λ a. a.category == d in
+    ap (map (λ (a : Comparison). a.number)) (filter-append on xs ys)
+    ∙ map-append (λ (a : Comparison). a.number) (filter on xs) (filter on ys)
 
 -- the tests of two equal texts
 pub same_text : (x y : List ℕ) → pointwise nat_eq x y ≡ true → x ≡ y

@@ -1,5 +1,5 @@
 -- A formula has one truth in an instance and in a part of it that is closed under parents.
-use Rattle.std.proofs.Common.{◌≡◌, ℕ, ◌<◌, ◌↔◌, List, [], ◌∷◌, ◌++◌, length, get_or, map, refl, sym, ap, subst, ◌∙◌, inl, inr}
+use Rattle.std.proofs.Common.{◌≡◌, ℕ, ℤ, ◌<◌, ◌↔◌, List, [], ◌∷◌, ◌++◌, length, get_or, map, refl, sym, ap, subst, ◌∙◌, inl, inr}
 use Rattle.olap_base.specs.Chains.{IsChain}
 use Rattle.olap_base.specs.Steps.{Steps-from_reaches, reaches_from_Steps}
 use Rattle.olap_base.specs.Instance.{Instance, IsInstance, IsBelow, Reaches, ReachesCategory, ReachesVia, category_of, name_of}
@@ -7,9 +7,12 @@ use Rattle.olap_base.specs.Above.{above, self_above, members_above}
 use Rattle.olap_base.proofs.Part.{IsPart, part_steps, part_lift, part_inside}
 use Rattle.olap_base.proofs.AboveLemmas.{above_is_part, above_instance, above_lawful, one_member_each, self_is, name_above}
 use Rattle.olap_base.proofs.ListLemmas.{contains_head}
-use Rattle.std.specs.Prelude.{Contains}
+use Rattle.std.specs.Prelude.{Contains, IsSome, IsTrue}
+use Rattle.olap_base.specs.Graph.{is_number}
 use Rattle.std.proofs.lemmas.List.Elements.{Contains-append_left, Contains-append_right}
-use Rattle.olap_ast.specs.Formula.{Formula, Terms, Formula.Truth, Formula.Falsity, Formula.Path, Formula.Reach, Formula.Via, Formula.Equals, Formula.Not, Formula.And, Formula.Or, Formula.Implies, Formula.Iff, Formula.Xor, Formula.One, Terms.End, Terms.More, Holds, ExactlyOneHolds, NoneHolds, Equality, equalities, equalities_of_terms, HasPath, ReachesNamed}
+use Rattle.olap_ast.specs.Formula.{Formula, Terms, Formula.Truth, Formula.Falsity, Formula.Path, Formula.Reach, Formula.Via, Formula.Equals, Formula.Compare, Formula.Not, Formula.And, Formula.Or, Formula.Implies, Formula.Iff, Formula.Xor, Formula.One, Terms.End, Terms.More, Holds, ExactlyOneHolds, NoneHolds, Equality, equalities, equalities_of_terms, Comparison, comparisons, comparisons_of_terms, HasPath, IsNumbered, ReachesNamed, ReachesNumbered}
+use Rattle.olap_numerals.specs.Comparing.{Op}
+use Rattle.olap_numerals.specs.Numerals.{number_of}
 use Rattle.olap_ast.specs.Schema.{AboveIsLegal}
 
 -- the texts of Q are the only ones that names are compared with: the names agree as far as these tell
@@ -17,8 +20,19 @@ abbrev pub NamesAgree : Instance → Instance → (ℕ → ℕ) → (ℕ → Lis
 NamesAgree i j e Q = (k : ℕ) (text : List ℕ) → k < length j → Q (category_of j k) text →
     (name_of j k ≡ text) ↔ (name_of i (e k) ≡ text)
 
-module _ (i j : Instance) (e : ℕ → ℕ) (p : IsPart i j e) (Q : ℕ → List ℕ → Type 0)
-    (names : NamesAgree i j e Q) where
+-- the same of the numbers of N
+abbrev pub NumbersAgree : Instance → Instance → (ℕ → ℕ) → (ℕ → ℤ → Type 0) → Type 0
+NumbersAgree i j e N = (k : ℕ) (op : Op) (n : ℤ) → k < length j → N (category_of j k) n →
+    IsNumbered (name_of j k) op n ↔ IsNumbered (name_of i (e k)) op n
+
+-- a formula's texts are of Q, and its numbers of N
+abbrev pub AsksOnly : (ℕ → List ℕ → Type 0) → (ℕ → ℤ → Type 0) → List Equality → List Comparison → Type 0
+AsksOnly Q N texts numbers =
+    ((d : ℕ) (text : List ℕ) → Contains texts (record { category = d; text = text }) → Q d text)
+    × ((d : ℕ) (n : ℤ) → Contains numbers (record { category = d; number = n }) → N d n)
+
+module _ (i j : Instance) (e : ℕ → ℕ) (p : IsPart i j e) (Q : ℕ → List ℕ → Type 0) (N : ℕ → ℤ → Type 0)
+    (names : NamesAgree i j e Q) (numbers : NumbersAgree i j e N) where
   down : {k l : ℕ} → Reaches j k l → Reaches i (e k) (e l)
   down r = reaches_from_Steps (part_steps i j e p (Steps-from_reaches r))
 
@@ -65,6 +79,26 @@ module _ (i j : Instance) (e : ℕ → ℕ) (p : IsPart i j e) (Q : ℕ → List
       p.category t.0 t.1 ∙ ap (category_of i) t.3 ∙ m.1 in
       (t.0, (t.1, c), t.2, (names t.0 text t.1 (subst (λ d. Q d text) (sym c) u)).1 (ap (name_of i) t.3 ∙ q))
 
+  numbered_down : (k d : ℕ) (op : Op) (n : ℤ) → k < length j → N d n → ReachesNumbered j k d op n →
+      ReachesNumbered i (e k) d op n
+  numbered_down k d op n h u (l, m, r, q) = (
+    e l,
+    (p.member l m.0, sym (p.category l m.0) ∙ m.1),
+    down r,
+    (numbers l op n m.0 (subst (λ c. N c n) (sym m.1) u)).0 q,
+  )
+
+  numbered_up : (k d : ℕ) (op : Op) (n : ℤ) → k < length j → N d n → ReachesNumbered i (e k) d op n →
+      ReachesNumbered j k d op n
+  numbered_up k d op n h u (y, m, r, q) = let t = lift k y h r in let c =
+      p.category t.0 t.1 ∙ ap (category_of i) t.3 ∙ m.1 in (
+        t.0,
+        (t.1, c),
+        t.2,
+        (numbers t.0 op n t.1 (subst (λ d. N d n) (sym c) u)).1
+            (subst (λ z. IsNumbered (name_of i z) op n) (sym t.3) q),
+      )
+
   chain_down : (k : ℕ) (ls : List ℕ) → IsChain (IsBelow j) (k ∷ ls) →
       IsChain (IsBelow i) (e k ∷ map e ls) × (map (category_of i) (map e ls) ≡ map (category_of j) ls)
   chain_down k [] c = (tt, refl)
@@ -87,64 +121,72 @@ module _ (i j : Instance) (e : ℕ → ℕ) (p : IsPart i j e) (Q : ℕ → List
 
   -- ---- formulas
 
-  abbrev Within : List Equality → Type 0
-  Within atoms = (d : ℕ) (text : List ℕ) → Contains atoms (record { category = d; text = text }) → Q d text
+  abbrev Within : List Equality → List Comparison → Type 0
+  Within texts numbers = AsksOnly Q N texts numbers
 
-  left : (xs ys : List Equality) → Within (xs ++ ys) → Within xs
-  left xs ys w d text c = w d text (Contains-append_left xs ys (record { category = d; text = text }) c)
+  left : (xs ys : List Equality) (ns ms : List Comparison) → Within (xs ++ ys) (ns ++ ms) → Within xs ns
+  left xs ys ns ms w = (
+    λ d text c. w.0 d text (Contains-append_left xs ys (record { category = d; text = text }) c),
+    λ d n c. w.1 d n (Contains-append_left ns ms (record { category = d; number = n }) c),
+  )
 
-  right : (xs ys : List Equality) → Within (xs ++ ys) → Within ys
-  right xs ys w d text c = w d text (Contains-append_right xs ys (record { category = d; text = text }) c)
+  right : (xs ys : List Equality) (ns ms : List Comparison) → Within (xs ++ ys) (ns ++ ms) → Within ys ms
+  right xs ys ns ms w = (
+    λ d text c. w.0 d text (Contains-append_right xs ys (record { category = d; text = text }) c),
+    λ d n c. w.1 d n (Contains-append_right ns ms (record { category = d; number = n }) c),
+  )
 
   mutual
-    pub same : (k : ℕ) → k < length j → (f : Formula) → Within (equalities f) → Holds j k f ↔ Holds i (e k) f
+    pub same : (k : ℕ) → k < length j → (f : Formula) → Within (equalities f) (comparisons f) → Holds j k f ↔ Holds i (e k) f
     same k h Truth w = (λ t. t, λ t. t)
     same k h Falsity w = (λ t. t, λ t. t)
     same k h (Path cs) w = (path_down k cs, path_up k cs h)
     same k h (Reach d) w = (reach_down k d h, reach_up k d h)
     same k h (Via d c) w = (via_down k d c h, via_up k d c h)
-    same k h (Equals d text) w = let u = w d text (contains_head (record { category = d; text = text }) []) in
+    same k h (Equals d text) w = let u = w.0 d text (contains_head (record { category = d; text = text }) []) in
         (named_down k d text h u, named_up k d text h u)
+    same k h (Compare d op n) w = let u = w.1 d n (contains_head (record { category = d; number = n }) []) in
+        (numbered_down k d op n h u, numbered_up k d op n h u)
     same k h (Not f) w = let s = same k h f w in (λ n a. n (s.1 a), λ n a. n (s.0 a))
-    same k h (And f g) w = let s = same k h f (left (equalities f) (equalities g) w) in let t =
-        same k h g (right (equalities f) (equalities g) w) in (λ a. (s.0 a.0, t.0 a.1), λ a. (s.1 a.0, t.1 a.1))
-    same k h (Or f g) w = let s = same k h f (left (equalities f) (equalities g) w) in let t =
-        same k h g (right (equalities f) (equalities g) w) in (
+    same k h (And f g) w = let s = same k h f (left (equalities f) (equalities g) (comparisons f) (comparisons g) w) in let t =
+        same k h g (right (equalities f) (equalities g) (comparisons f) (comparisons g) w) in (λ a. (s.0 a.0, t.0 a.1), λ a. (s.1 a.0, t.1 a.1))
+    same k h (Or f g) w = let s = same k h f (left (equalities f) (equalities g) (comparisons f) (comparisons g) w) in let t =
+        same k h g (right (equalities f) (equalities g) (comparisons f) (comparisons g) w) in (
           λ a. elim a [ inl b ↦ inl (s.0 b) | inr b ↦ inr (t.0 b) ],
           λ a. elim a [ inl b ↦ inl (s.1 b) | inr b ↦ inr (t.1 b) ],
         )
-    same k h (Implies f g) w = let s = same k h f (left (equalities f) (equalities g) w) in let t =
-        same k h g (right (equalities f) (equalities g) w) in (λ a b. t.0 (a (s.1 b)), λ a b. t.1 (a (s.0 b)))
-    same k h (Iff f g) w = let s = same k h f (left (equalities f) (equalities g) w) in let t =
-        same k h g (right (equalities f) (equalities g) w) in (
+    same k h (Implies f g) w = let s = same k h f (left (equalities f) (equalities g) (comparisons f) (comparisons g) w) in let t =
+        same k h g (right (equalities f) (equalities g) (comparisons f) (comparisons g) w) in (λ a b. t.0 (a (s.1 b)), λ a b. t.1 (a (s.0 b)))
+    same k h (Iff f g) w = let s = same k h f (left (equalities f) (equalities g) (comparisons f) (comparisons g) w) in let t =
+        same k h g (right (equalities f) (equalities g) (comparisons f) (comparisons g) w) in (
           λ a. (λ b. t.0 (a.0 (s.1 b)), λ b. s.0 (a.1 (t.1 b))),
           λ a.
               (λ b. t.1 (a.0 (s.0 b)), λ b. s.1 (a.1 (t.0 b))),
         )
-    same k h (Xor f g) w = let s = same k h f (left (equalities f) (equalities g) w) in let t =
-        same k h g (right (equalities f) (equalities g) w) in (
+    same k h (Xor f g) w = let s = same k h f (left (equalities f) (equalities g) (comparisons f) (comparisons g) w) in let t =
+        same k h g (right (equalities f) (equalities g) (comparisons f) (comparisons g) w) in (
           λ a. elim a [ inl b ↦ inl (s.0 b.0, λ c. b.1 (t.1 c)) | inr b ↦ inr (λ c. b.0 (s.1 c), t.0 b.1) ],
           λ a. elim a [ inl b ↦ inl (s.1 b.0, λ c. b.1 (t.0 c)) | inr b ↦ inr (λ c. b.0 (s.0 c), t.1 b.1) ],
         )
     same k h (One ts) w = same_one k h ts w
 
-    same_one : (k : ℕ) → k < length j → (ts : Terms) → Within (equalities_of_terms ts) →
+    same_one : (k : ℕ) → k < length j → (ts : Terms) → Within (equalities_of_terms ts) (comparisons_of_terms ts) →
         ExactlyOneHolds j k ts ↔ ExactlyOneHolds i (e k) ts
     same_one k h End w = (λ t. t, λ t. t)
     same_one k h (More f ts) w =
-        let s = same k h f (left (equalities f) (equalities_of_terms ts) w) in
-        let n = same_none k h ts (right (equalities f) (equalities_of_terms ts) w) in
-        let t = same_one k h ts (right (equalities f) (equalities_of_terms ts) w) in (
+        let s = same k h f (left (equalities f) (equalities_of_terms ts) (comparisons f) (comparisons_of_terms ts) w) in
+        let n = same_none k h ts (right (equalities f) (equalities_of_terms ts) (comparisons f) (comparisons_of_terms ts) w) in
+        let t = same_one k h ts (right (equalities f) (equalities_of_terms ts) (comparisons f) (comparisons_of_terms ts) w) in (
           λ a. elim a [ inl b ↦ inl (s.0 b.0, n.0 b.1) | inr b ↦ inr (λ c. b.0 (s.1 c), t.0 b.1) ],
           λ a. elim a [ inl b ↦ inl (s.1 b.0, n.1 b.1) | inr b ↦ inr (λ c. b.0 (s.0 c), t.1 b.1) ],
         )
 
-    same_none : (k : ℕ) → k < length j → (ts : Terms) → Within (equalities_of_terms ts) →
+    same_none : (k : ℕ) → k < length j → (ts : Terms) → Within (equalities_of_terms ts) (comparisons_of_terms ts) →
         NoneHolds j k ts ↔ NoneHolds i (e k) ts
     same_none k h End w = (λ t. t, λ t. t)
     same_none k h (More f ts) w =
-        let s = same k h f (left (equalities f) (equalities_of_terms ts) w) in
-        let n = same_none k h ts (right (equalities f) (equalities_of_terms ts) w) in
+        let s = same k h f (left (equalities f) (equalities_of_terms ts) (comparisons f) (comparisons_of_terms ts) w) in
+        let n = same_none k h ts (right (equalities f) (equalities_of_terms ts) (comparisons f) (comparisons_of_terms ts) w) in
         (λ a. (λ c. a.0 (s.1 c), n.0 a.1), λ a. (λ c. a.0 (s.0 c), n.1 a.1))
 
 -- ---- above one member
@@ -152,9 +194,19 @@ module _ (i j : Instance) (e : ℕ → ℕ) (p : IsPart i j e) (Q : ℕ → List
 abbrev Any_text : ℕ → List ℕ → Type 0
 Any_text d text = Unit {0}
 
+abbrev Any_number : ℕ → ℤ → Type 0
+Any_number d n = Unit {0}
+
 names_above : (i : Instance) (x : ℕ) (v : IsInstance i) →
     NamesAgree i (above i x) (λ k. get_or (members_above i x) k 0) Any_text
 names_above i x v k text h u = (λ q. sym (name_above i x v k h) ∙ q, λ q. name_above i x v k h ∙ q)
+
+numbers_above : (i : Instance) (x : ℕ) (v : IsInstance i) →
+    NumbersAgree i (above i x) (λ k. get_or (members_above i x) k 0) Any_number
+numbers_above i x v k op n h u = (
+  λ q. subst (λ t. IsNumbered t op n) (name_above i x v k h) q,
+  λ q. subst (λ t. IsNumbered t op n) (sym (name_above i x v k h)) q,
+)
 
 pub above_is_legal_lem : AboveIsLegal
 above_is_legal_lem s i x v h =
@@ -164,12 +216,14 @@ above_is_legal_lem s i x v h =
     record {
       legal = record {
         is_instance = above_instance i x v.is_instance s.graph v.lawful h;
+        numerals = λ m k a. let b = subst (λ c. IsTrue (is_number s.graph c)) (p.category m k) a in
+            subst (λ t. IsSome (number_of t)) (sym (name_above i x v.is_instance m k)) (v.numerals (e m) (p.member m k) b);
         lawful = above_lawful i x v.is_instance s.graph v.lawful;
-        meets = λ c d k m. (same i (above i x) e p Any_text (names_above i x v.is_instance) k m.0 c.formula
-            (λ a b r. tt)).1 (v.meets c d (e k) (p.member k m.0, sym (p.category k m.0) ∙ m.1));
+        meets = λ c d k m. (same i (above i x) e p Any_text Any_number (names_above i x v.is_instance)
+            (numbers_above i x v.is_instance) k m.0 c.formula (λ a b r. tt, λ a b r. tt)).1 (v.meets c d (e k) (p.member k m.0, sym (p.category k m.0) ∙ m.1));
       };
       one_each = one_member_each i x v.is_instance s.graph v.lawful;
-      same_truth = λ f. let u = same i (above i x) e p Any_text (names_above i x v.is_instance)
-          (self_above i x) t.0 f (λ a b r. tt) in
+      same_truth = λ f. let u = same i (above i x) e p Any_text Any_number (names_above i x v.is_instance)
+          (numbers_above i x v.is_instance) (self_above i x) t.0 f (λ a b r. tt, λ a b r. tt) in
           (λ a. subst (λ y. Holds i y f) t.1 (u.0 a), λ a. u.1 (subst (λ y. Holds i y f) (sym t.1) a));
     }

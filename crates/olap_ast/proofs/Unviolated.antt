@@ -40,7 +40,7 @@ found (d ∷ ds) zero c e = (0, omega arith, cc)
 found (d ∷ ds) (suc k) c e = let t = found ds k c e in (suc t.0, omega (arith, t.1), t.2)
 
 pub legal_exactly : LegalExactlyIfNoViolation
-legal_exactly s i v = (to, from)
+legal_exactly s i v numerals = (to, from)
   where
     at : (x k : ℕ) → k < length (parents_of i x) → IsBelow i x (slice_index (parents_of i x) k)
     at x k h = (k, h, get_or_default (parents_of i x) k (slice_index (parents_of i x) k) 0 h)
@@ -59,6 +59,7 @@ legal_exactly s i v = (to, from)
     from : ((w : Violation) → IsViolation s i w → ⊥) → IsLegal s i
     from n = record {
       is_instance = v;
+      numerals = numerals;
       lawful = record {
         connectivity = λ x y b. stable (decide_contains edge_discrete s.graph.edges
             (record { child = category_of i x; parent = category_of i y }))

@@ -22,6 +22,7 @@ pub fn copy(alloc: Global, f: &Formula) -> Result<Formula, Memory>
         Formula::Reach(d) => Ok(Formula::Reach(*d)),
         Formula::Via(d, e) => Ok(Formula::Via(*d, *e)),
         Formula::Equals(d, text) => Ok(Formula::Equals(*d, Text::from_bytes(alloc, text.bytes())?)),
+        Formula::Compare(d, op, n) => Ok(Formula::Compare(*d, *op, *n)),
         Formula::Not(f) => Ok(Formula::Not(copy_part(alloc, f)?)),
         Formula::And(f, g) => Ok(Formula::And(copy_part(alloc, f)?, copy_part(alloc, g)?)),
         Formula::Or(f, g) => Ok(Formula::Or(copy_part(alloc, f)?, copy_part(alloc, g)?)),

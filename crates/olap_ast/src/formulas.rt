@@ -1,5 +1,33 @@
 // Formulas about one member, as the program keeps them.
+ghost use Rattle.std.specs.Prelude.{◌↔◌, IsTrue};
+ghost use Rattle.olap_numerals.specs.Comparing.{Compares};
+ghost use Rattle.olap_ast.specs.Trees.{op_of};
+
 use olap_base::{CatId, List, Text};
+
+/// How two numbers are compared.
+#[derive(Clone, Copy, Debug, PartialEq, Eq, PartialOrd, Ord)]
+pub enum Op {
+    /// They are equal.
+    Equal,
+    /// The first is less.
+    Less,
+    /// The first is less, or they are equal.
+    AtMost,
+}
+
+impl Op {
+    /// Whether the comparison holds of the two.
+    pub fn test(self, a: i64, b: i64) -> bool
+        ensures { IsTrue result ↔ Compares (op_of self) a b }
+    {
+        match self {
+            Op::Equal => a == b,
+            Op::Less => a < b,
+            Op::AtMost => a <= b,
+        }
+    }
+}
 
 /// A formula about one member of its root. An atom doesn't name the root.
 #[derive(Debug, Drop)]
@@ -17,6 +45,8 @@ pub enum Formula {
     Via(CatId, CatId),
     /// A member of the category is reached whose name is the text. At the root it is the member itself.
     Equals(CatId, Text),
+    /// A member of the category is reached whose number compares so with this one.
+    Compare(CatId, Op, i64),
     /// The part isn't true.
     Not(Box<Formula>),
     /// Both parts are true.

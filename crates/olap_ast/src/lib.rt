@@ -10,11 +10,12 @@ mod copying;
 mod formulas;
 mod laws;
 mod measuring;
+mod questioning;
 mod three_values;
 
-pub use collecting::{constants, gather};
+pub use collecting::{constants, gather, gather_numbers, numbers};
 pub use copying::copy;
-pub use formulas::{Constraint, Formula, Terms};
+pub use formulas::{Constraint, Formula, Op, Terms};
 pub use laws::{
     above_is_legal, candidates_exist, fresh_names_exist, frozen_exactly_if_some_instance,
     implied_exactly_if_none_frozen, legal_exactly_if_no_violation, one_store_is_counterexample,
@@ -24,4 +25,5 @@ pub use laws::{
     unused_exactly_if_none_frozen,
 };
 pub use measuring::{depth, nodes};
+pub use questioning::{are_distinct, not_by_one};
 pub use three_values::{OneCount, Truth3, values_agree};

@@ -16,6 +16,7 @@ pub fn nodes(f: &Formula) -> u64
     match f {
         Formula::True | Formula::False => 1,
         Formula::Path(_) | Formula::Reach(_) | Formula::Via(_, _) | Formula::Equals(_, _) => 1,
+        Formula::Compare(_, _, _) => 1,
         Formula::Not(f) => 1 + nodes(f),
         Formula::And(f, g) => 1 + nodes(f) + nodes(g),
         Formula::Or(f, g) => 1 + nodes(f) + nodes(g),
@@ -51,6 +52,7 @@ pub fn depth(f: &Formula) -> u64
     match f {
         Formula::True | Formula::False | Formula::Path(_) => 1,
         Formula::Reach(_) | Formula::Via(_, _) | Formula::Equals(_, _) => 1,
+        Formula::Compare(_, _, _) => 1,
         Formula::Not(f) => 1 + depth(f),
         Formula::And(f, g) => 1 + depth(f).max(depth(g)),
         Formula::Or(f, g) => 1 + depth(f).max(depth(g)),

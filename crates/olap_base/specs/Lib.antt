@@ -2,6 +2,7 @@
 
 -- What a reader of the claims believes.
 pub mod Chains
+pub mod Steps
 pub mod Graph
 pub mod Instance
 pub mod Reaching
@@ -15,7 +16,6 @@ pub mod Faults
 pub mod Files
 pub mod Sinks
 -- The inside: how a test decides, and what the values in memory stand for.
-pub mod Steps
 pub mod Deciding
 pub mod Told
 pub mod Written

@@ -3,7 +3,7 @@ use Rattle.std.specs.Prelude.{ℕ, ◌^◌}
 
 -- categories of a schema, `All` counted
 abbrev pub most_categories : ℕ
-most_categories = 64
+most_categories = 256
 
 -- edges of a schema
 abbrev pub most_edges : ℕ

@@ -1,7 +1,7 @@
 // The limits as numbers of the program. `specs/Limits.antt` says what each bounds.
 
 /// Categories of a schema, `All` counted.
-pub const MOST_CATEGORIES: usize = 64;
+pub const MOST_CATEGORIES: usize = 256;
 
 /// Edges of a schema.
 pub const MOST_EDGES: usize = 256;

@@ -1,6 +1,8 @@
 -- The draft of a frozen dimension's instance: why no member and no parent is refused, and what it becomes.
-use Rattle.std.proofs.Common.{◌≡◌, ◌≢◌, ℕ, zero, suc, ◌+◌, ◌-◌, ◌<◌, ◌≤◌, ◌==◌, ◌||◌, List, [], ◌∷◌, ◌++◌, length, get_or, map, take, codes, Bool, true, false, cond, Option, Some, None, refl, sym, ◌∙◌, ap, subst, inl, inr, arith}
-use Rattle.std.specs.Prelude.{All, Contains, IsTrue, filter, is_some, nat_le, replicate, unwrap_or}
+use Rattle.std.proofs.Common.{◌≡◌, ◌≢◌, ℕ, ℤ, pos, negsuc, zero, suc, ◌+◌, ◌-◌, ◌<◌, ◌≤◌, ◌==◌, ◌||◌, List, [], ◌∷◌, ◌++◌, length, get_or, map, take, codes, Bool, true, false, cond, Option, Some, None, refl, sym, ◌∙◌, ap, subst, inl, inr, arith}
+use Rattle.std.proofs.lemmas.Int.{ints}
+use Rattle.std.specs.Int.Signed.{mag}
+use Rattle.std.specs.Prelude.{◌^◌, All, Contains, IsSome, IsTrue, filter, is_some, nat_le, replicate, unwrap_or}
 use Rattle.std.specs.List.{range_with_len}
 use Rattle.std.specs.Str.{bytes_eq, is_utf8}
 use Rattle.std.proofs.lemmas.Bool.Decides.{eqb_tells, nat_tests}
@@ -12,14 +14,17 @@ use Rattle.std.proofs.lemmas.Slice.Eq.{bytes_eq-Decides}
 use Rattle.std.proofs.lemmas.Str.{IsUtf8-from_ascii, is_utf8-from_IsUtf8}
 use Rattle.std.proofs.lemmas.Str.Ascii.{IsAscii-from_all}
 use Rattle.olap_base.specs.Above.{place_in}
-use Rattle.olap_base.specs.Graph.{Edge, Graph, IsCategory, IsCategoryName, IsHierarchy, IsLetterOrDigit, reserved}
-use Rattle.olap_base.specs.Instance.{Member, nobody}
+use Rattle.olap_base.specs.Graph.{Edge, Graph, IsCategory, IsCategoryName, IsHierarchy, IsLetterOrDigit, is_number, reserved}
+use Rattle.olap_base.specs.Instance.{Member, category_of, name_of, nobody}
 use Rattle.olap_base.specs.Limits.{most_members}
 use Rattle.olap_base.specs.Naming.{place_of}
 use Rattle.olap_base.specs.Deciding.{contains_cons}
 use Rattle.olap_base.proofs.ListLemmas.{Contains-filter, Contains-from_filter, Contains-from_map, Contains-from_range_at, Contains-range_at, Distinct, Distinct-filter, Distinct-from_AllPairs, Distinct-places, Distinct-range, contains_head, place_in_is}
 use Rattle.olap_base.proofs.AboveLemmas.{place_in_injective}
-use Rattle.olap_ast.specs.Constants.{fresh_candidate}
+use Rattle.olap_ast.specs.Constants.{IsConstant, IsNameOf, fresh_candidate}
+use Rattle.olap_ast.specs.Formula.{Formula}
+use Rattle.std.proofs.lemmas.Fmt.{IsAscii-signed}
+use Rattle.olap_numerals.specs.Numerals.{IsSmall, canonical, most_number, number_of}
 use Rattle.olap_ast.specs.Frozen.{IsFrozenInstance, categories_in_order, chosen, id_of, instance_of, is_present, member_of, present_categories}
 use Rattle.olap_ast.specs.Schema.{Schema}
 use Rattle.olap_ast.proofs.Shape.{same_id, same_is, is_same}
@@ -31,10 +36,11 @@ use Rattle.olap_frozen.specs.declared.founding.Found.{Found}
 use Rattle.olap_frozen.proofs.ChosenInstance as made
 use Rattle.olap_frozen.proofs.ChosenLemmas.{choice_of, chosen_place, place_chosen}
 use Rattle.olap_names.specs.Names.{with_graph}
-use Rattle.olap_instance.specs.Drafts.{HasParent, instance_built, named_refusal, places_of, with_member, with_parent}
-use Rattle.olap_instance.specs.InstanceText.{is_bad_id, is_too_long}
+use Rattle.olap_instance.specs.Drafts.{HasParent, has_numbers, instance_built, named_refusal, numbers_in, places_of, with_member, with_parent}
+use Rattle.olap_instance.specs.InstanceText.{is_bad_id, is_bad_number, is_too_long}
 use Rattle.olap_instance.specs.Members.{all_member, childless, with_parents}
 use Rattle.olap_instance.proofs.BuilderSteps.{not-found}
+use Rattle.olap_instance.proofs.Checks.{kind-at, number-good}
 use Rattle.olap_instance.proofs.CategoryNames.{category-utf8}
 use Rattle.olap_cex.specs.FoundFor.{IsFoundFor, found_draft, found_edges, found_instance, found_name, found_place}
 use Rattle.olap_cex.specs.Present.{first_present, place_or_all}
@@ -84,11 +90,30 @@ id_is_name : (g : Graph) (c : ℕ) → c ≢ 0 → name_of_category g c ≡ id_o
 id_is_name g zero n = absurd (n refl)
 id_is_name g (suc c) n = refl
 
-none_refused : {A : Type 0} (a b c d e : Bool) (v w x y z : A) → a ≡ false → b ≡ false → c ≡ false → d ≡ false
-    → e ≡ false
-    → ◌≡◌ {A = Option A} (cond a (Some v)
-    (cond b (Some w) (cond c (Some x) (cond d (Some y) (cond e (Some z) None))))) None
-none_refused a b c d e v w x y z p q r s t = rw (p, q, r, s, t) refl
+none_refused : {A : Type 0} (a b c d e f : Bool) (u v w x y z : A) → a ≡ false → b ≡ false → c ≡ false → d ≡ false
+    → e ≡ false → f ≡ false
+    → ◌≡◌ {A = Option A} (cond a (Some u)
+    (cond b (Some v) (cond c (Some w) (cond d (Some x) (cond e (Some y) (cond f (Some z) None)))))) None
+none_refused a b c d e f u v w x y z p q r s t o = rw (p, q, r, s, t, o) refl
+
+small_mag : (z : ℤ) → IsSmall z → mag z < 2 ^ 63
+small_mag (pos n) h = let l : n ≤ most_number = omega (arith, ints, h.1) in omega arith
+small_mag (negsuc n) h = let l : n < most_number = omega (arith, ints, h.0) in omega arith
+
+-- a numeral is UTF-8
+numeral_utf8 : (z : ℤ) → IsSmall z → IsTrue (is_utf8 (canonical z))
+numeral_utf8 z small =
+    is_utf8-from_IsUtf8 (canonical z) (IsUtf8-from_ascii (canonical z) (IsAscii-signed z (small_mag z small)))
+
+-- so are the names of a category whose constants are
+pub name_is_utf8 : (number : Bool) (s : Schema) (q : Formula) (d : ℕ) (name : List ℕ)
+    → ((text : List ℕ) → IsConstant s q d text → IsTrue (is_utf8 text)) → IsNameOf number s q d name
+    → IsTrue (is_utf8 name)
+name_is_utf8 false s q d name utf8 n = elim n [
+  | inl c ↦ utf8 name c
+  | inr f ↦ subst (λ t. IsTrue (is_utf8 t)) (sym f.spelled) (fresh_is_utf8 f.underscores)
+]
+name_is_utf8 true s q d name utf8 n = subst (λ t. IsTrue (is_utf8 t)) (sym n.2) (numeral_utf8 n.0 n.1.0)
 
 -- members and the places of their parents, put together
 join : (head whole : ℕ → Member) (told : ℕ → List (Option ℕ)) (n : ℕ) (cs : List ℕ)
@@ -212,10 +237,20 @@ module _ (g : Graph) (found : Found) (ok : IsFoundFor g found) (hier : IsHierarc
     name_utf8 =
         let m = made.member_is g r es choice name c p in
         let e = made.name_there g r es choice name c p in
-        elim (stands.named (made.place g r es choice c) m.0 (λ z. declared (sym m.1 ∙ z))) [
-          | inl k ↦ subst (λ t. IsTrue (is_utf8 t)) e (ok.utf8 _ _ k)
-          | inr f ↦ subst (λ t. IsTrue (is_utf8 t)) (sym f.spelled ∙ e) (fresh_is_utf8 f.underscores)
-        ]
+        let there = category_of (instance_of g r es name) (made.place g r es choice c) in
+        subst (λ t. IsTrue (is_utf8 t)) e
+        (name_is_utf8 (is_number g there) s ok.question there (name_of (instance_of g r es name) (made.place g r es choice c))
+        (ok.utf8 there) (stands.named (made.place g r es choice c) m.0 (λ z. declared (sym m.1 ∙ z))))
+
+    -- where the category's names are numbers, its name is a numeral
+    numeral : is_bad_number (has_numbers (found_draft g found (c - 1) []) c) (found_name found c) ≡ false
+    numeral =
+        let m = made.member_is g r es choice name c p in
+        subst (λ b. is_bad_number b (found_name found c) ≡ false) (sym (kind-at g c))
+        (number-good (is_number g c) (found_name found c)
+        (λ b. subst (λ t. IsSome (number_of t)) (made.name_there g r es choice name c p)
+        (stands.legal.numerals (made.place g r es choice c) m.0
+        (subst (λ d. IsTrue (is_number g d)) (sym m.1) b))))
 
     abbrev before : List ℕ
     before = first_present r es (c - 1)
@@ -246,7 +281,8 @@ module _ (g : Graph) (found : Found) (ok : IsFoundFor g found) (hier : IsHierarc
         (sym at ∙ e ∙ id_is_name g c declared) in
         omega (arith, t.1)
 
-    pub accepted : IsWithinLimits g → named_refusal (found_draft g found (c - 1) []) (name_of_category g c) c ≡ None
+    pub accepted : IsWithinLimits g
+        → named_refusal (found_draft g found (c - 1) []) (name_of_category g c) c (found_name found c) ≡ None
     accepted limits =
         let id = name_of_category g c in
         let spelled = category_name c declared category in
@@ -261,10 +297,11 @@ module _ (g : Graph) (found : Found) (ok : IsFoundFor g found) (hier : IsHierarc
         let b = length_filter (is_present r es) (range_with_len 1 (c - 1)) in
         let e = length-range_with_len 1 (c - 1) in
         omega arith in
-        none_refused (is_bad_id id) (is_too_long id || false) (c == 0)
+        none_refused (is_bad_id id) (is_too_long id) (c == 0)
+        (is_bad_number (has_numbers (found_draft g found (c - 1) []) c) (found_name found c))
         (bytes_eq id (codes "all") || is_some (place_of id (map (λ m. m.id) (map head before))))
-        (nat_le most_members (length (map head before) + 1)) _ _ _ _ _
-        good (rw short refl) (grind (arith, nat_tests)) (rw (other, new) refl) (grind (arith, nat_tests))
+        (nat_le most_members (length (map head before) + 1)) _ _ _ _ _ _
+        good short (grind (arith, nat_tests)) numeral (rw (other, new) refl) (grind (arith, nat_tests))
       where
         category_name : (d : ℕ) → d ≢ 0 → IsCategory g d
             → IsCategoryName (name_of_category g d) × Contains g.names (name_of_category g d)
@@ -291,7 +328,12 @@ module _ (g : Graph) (found : Found) (ok : IsFoundFor g found) (hier : IsHierarc
         ∙ ap (λ i. map head before ++ childless i c (name c) ∷ []) (sym (id_is_name g c declared)) in
         let ps : map (told []) (first_present r es c) ≡ map (told []) before ++ [] ∷ [] =
         ap (map (told [])) e ∙ map-append (told []) before (c ∷ []) in
-        λ z. record { categories = length g.names + 1; members = sym ms z; parents = sym ps z }
+        λ z. record {
+          categories = length g.names + 1;
+          numbers = numbers_in g;
+          members = sym ms z;
+          parents = sym ps z;
+        }
 
     pub member_place : Some (length before) ≡ place_or_all r es c
     member_place =
@@ -391,7 +433,12 @@ module _ (g : Graph) (found : Found) (ok : IsFoundFor g found) (hier : IsHierarc
         ∙ map-append to_place (filter (leaves c) linked) (edge ∷ []) in
         let ps = set_at_place (told linked) (told (chosen (take (suc k) g.edges) bits)) all_listed c
         (place_or_all r es d) distinct (listed c child_there child_declared) others own in
-        λ z. record { categories = length g.names + 1; members = map head all_listed; parents = ps z }
+        λ z. record {
+          categories = length g.names + 1;
+          numbers = numbers_in g;
+          members = map head all_listed;
+          parents = ps z;
+        }
       where
         unequal : (x y : ℕ) → x ≢ y → x == y ≡ false
         unequal x y n = elim (eqb_tells x y) [ inl e ↦ absurd (n e.1) | inr e ↦ e.0 ]

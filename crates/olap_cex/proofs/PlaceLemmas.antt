@@ -56,6 +56,7 @@ absent_draft g found c l p =
         → found_draft g found (c - 1) [] ≡ found_draft g found c []
     same q = λ z. record {
       categories = (found_draft g found c []).categories;
+      numbers = (found_draft g found c []).numbers;
       members = ap (map (λ d. childless (id_of g d) d (found_name found d))) q z;
       parents = ap (map none_told) q z;
     }

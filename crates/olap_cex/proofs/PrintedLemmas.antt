@@ -10,7 +10,7 @@ use Rattle.std.proofs.lemmas.List.FromFn.{length-range_with_len}
 use Rattle.std.proofs.lemmas.Str.{IsUtf8-from_ascii, is_utf8-from_IsUtf8}
 use native.Mathlib.Decide.{ℕ_discrete}
 use Rattle.olap_base.specs.Deciding.{contains_cases}
-use Rattle.olap_base.specs.Graph.{Edge, Graph, HasEdge, IsCategory, IsHierarchy}
+use Rattle.olap_base.specs.Graph.{Edge, Graph, HasEdge, IsCategory, IsHierarchy, is_number}
 use Rattle.olap_base.specs.Instance.{Instance, IsMember, category_of, member_at, name_of, nobody, parents_of}
 use Rattle.olap_base.specs.Limits.{most_members, most_text_bytes}
 use Rattle.olap_base.proofs.ListLemmas.{Contains-from_filter, Contains-from_range_at, Contains-nil, contains_head}
@@ -23,7 +23,7 @@ use Rattle.olap_instance.specs.Made.{IsMadeFor}
 use Rattle.olap_instance.proofs.CategoryNames.{category-utf8}
 use Rattle.olap_instance.proofs.ReadBack.{reads-back}
 use Rattle.olap_cex.specs.PrintingLaws.{ConstantsAreUtf8, IsReadBack, PrintedFrozenDimensionsAreRead, PrintedInstancesAreRead}
-use Rattle.olap_cex.proofs.DraftLemmas.{fresh_is_utf8, name_is_good}
+use Rattle.olap_cex.proofs.DraftLemmas.{name_is_good, name_is_utf8}
 use Rattle.olap_cex.proofs.ListLemmas.{length_filter}
 
 pub printed_instances : PrintedInstancesAreRead
@@ -110,7 +110,10 @@ module _ (s : Schema) (q : Formula) (r : ℕ) (k : Candidates) (f : Frozen) (val
   id_is x h = ap (λ m. m.id) (at x h)
 
   made : IsMadeFor s.graph i
-  made x h = subst (λ c. IsCategory s.graph c) (sym (category_is x h)) (category_at x h)
+  made = record {
+    categories = λ x h. subst (λ c. IsCategory s.graph c) (sym (category_is x h)) (category_at x h);
+    numerals = t.stands_for.legal.numerals;
+  }
 
   id_there : (x : ℕ) → IsMember i x → IsMemberId (member_at i x).id
   id_there x h = subst (λ d. IsMemberId d) (sym (id_is x h))
@@ -121,10 +124,8 @@ module _ (s : Schema) (q : Formula) (r : ℕ) (k : Candidates) (f : Frozen) (val
     | yes z ↦ subst (λ n. IsTrue (is_utf8 n))
         (sym (t.stands_for.legal.is_instance.all_name x ((t.stands_for.legal.is_instance.all_is_last x h).0 z)))
         all_utf8
-    | no n ↦ elim (t.stands_for.named x h n) [
-      | inl c ↦ utf8 (category_of i x) (name_of i x) c
-      | inr e ↦ subst (λ n. IsTrue (is_utf8 n)) (sym e.spelled) (fresh_is_utf8 e.underscores)
-    ]
+    | no n ↦ name_is_utf8 (is_number s.graph (category_of i x)) s q (category_of i x) (name_of i x) (utf8 (category_of i x))
+        (t.stands_for.named x h n)
   ]
 
   texts : HasTexts i

@@ -10,5 +10,6 @@ only_memory first of_member.Memory n c = refl
 only_memory first of_member.BadId n c = let t : None ≡ Some of_member.BadId = sym n ∙ c in cc
 only_memory first of_member.TextTooLong n c = let t : None ≡ Some of_member.TextTooLong = sym n ∙ c in cc
 only_memory first of_member.RowForAll n c = let t : None ≡ Some of_member.RowForAll = sym n ∙ c in cc
+only_memory first of_member.BadNumber n c = let t : None ≡ Some of_member.BadNumber = sym n ∙ c in cc
 only_memory first of_member.DuplicateId n c = let t : None ≡ Some of_member.DuplicateId = sym n ∙ c in cc
 only_memory first of_member.TooManyMembers n c = let t : None ≡ Some of_member.TooManyMembers = sym n ∙ c in cc

@@ -6,7 +6,7 @@ use Rattle.std.specs.Prelude.{ℕ, zero, suc, ◌==◌, List, Option, Some, None
 use Rattle.std.specs.List.{range_with_len}
 use Rattle.olap_ast.specs.Frozen.{id_of, is_present}
 use Rattle.olap_base.specs.Graph.{Edge, Graph, category_count}
-use Rattle.olap_instance.specs.Drafts.{Draft}
+use Rattle.olap_instance.specs.Drafts.{Draft, numbers_in}
 use Rattle.olap_instance.specs.Members.{childless}
 
 abbrev pub first_present : ℕ → List Edge → ℕ → List ℕ
@@ -22,6 +22,7 @@ place_or_all root edges (suc c) =
 abbrev pub drafted : Graph → ℕ → List Edge → (ℕ → List ℕ) → ℕ → List Edge → Draft
 drafted g root edges name n linked = record {
   categories = category_count g;
+  numbers = numbers_in g;
   members = map (λ c. childless (id_of g c) c (name c)) (first_present root edges n);
   parents = map
       (λ c. map (λ e. place_or_all root edges e.parent) (filter (λ e. e.child == c) linked))

@@ -1,5 +1,5 @@
 -- The table's row of a member is a shape, and what the shape answers.
-use Rattle.std.proofs.Common.{◌≡◌, ◌≢◌, ℕ, ◌<◌, List, length, Bool, true, false, ◌&&◌, not, refl, ap, sym, subst, ◌∙◌, ◌↔◌, inl, arith}
+use Rattle.std.proofs.Common.{◌≡◌, ◌≢◌, ℕ, ℤ, ◌<◌, List, length, Bool, true, false, ◌&&◌, not, refl, ap, sym, subst, ◌∙◌, ◌↔◌, inl, arith}
 use Rattle.std.specs.Prelude.{IsTrue, nat_eq, nat_lt, Option, Some, None, IfSome, IsNone, is_some}
 use Rattle.std.proofs.lemmas.Bool.Decides.{nat_tests}
 use Rattle.std.specs.Prelude.{Contains}
@@ -18,8 +18,9 @@ use Rattle.olap_base.specs.Reaching.{reaches_is}
 use Rattle.olap_check.specs.Rows.{none, IsBounded}
 use Rattle.olap_check.specs.Tables.{cell, IsTable}
 use Rattle.olap_check.proofs.TableLemmas.{reached_inside, cell_some}
-use Rattle.olap_ast.specs.Formula.{ReachesNamed}
-use Rattle.olap_eval.specs.Shapes.{HasEdgeThere, HasNameThere, IsShape, ReachesThere}
+use Rattle.olap_ast.specs.Formula.{IsNumbered, ReachesNamed, ReachesNumbered}
+use Rattle.olap_numerals.specs.Comparing.{Op}
+use Rattle.olap_eval.specs.Shapes.{HasEdgeThere, HasNameThere, HasNumberThere, IsShape, ReachesThere}
 use Rattle.olap_check.specs.Above.{IsAbove, is_present}
 
 -- a present category is one of the graph, and its place has a member
@@ -141,6 +142,15 @@ module _ (i : Instance) (n x : ℕ) (cells : List ℕ) (a : IsAbove i n x cells)
   named_by_row d text = (
     λ t. let m = present_member i n x d cells a t.0 in (cell n cells x d, m.0, m.1, t.1),
     λ r. let m = member_is i n x d cells a r.0 (r.1, r.2) in (m.0, ap (name_of i) m.1 ∙ r.3),
+  )
+
+  -- the number of the row's member of a category
+  pub numbered_by_row : (d : ℕ) (op : Op) (number : ℤ)
+      → HasNumberThere i (is_present n cells x) (cell n cells x) d op number ↔ ReachesNumbered i x d op number
+  numbered_by_row d op number = (
+    λ t. let m = present_member i n x d cells a t.0 in (cell n cells x d, m.0, m.1, t.1),
+    λ r. let m = member_is i n x d cells a r.0 (r.1, r.2) in
+        (m.0, subst (λ y. IsNumbered (name_of i y) op number) (sym m.1) r.3),
   )
 
 -- ---- a parent among the ids

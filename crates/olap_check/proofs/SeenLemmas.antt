@@ -6,7 +6,8 @@ use Rattle.std.specs.Prelude.{Option, Some, None}
 use Rattle.std.proofs.lemmas.Bool.{cases_eq}
 use Rattle.std.proofs.lemmas.Grind.{get_or-set_at}
 use Rattle.std.proofs.lemmas.List.{get_or-set_other, get_or_default}
-use Rattle.olap_ast.specs.Formula.{ReachesNamed}
+use Rattle.olap_ast.specs.Formula.{ReachesNamed, ReachesNumbered}
+use Rattle.olap_ast.specs.Trees.{op_of}
 use Rattle.olap_base.specs.Instance.{Instance}
 use Rattle.olap_bits.specs.Sets.{members}
 use Rattle.olap_check.specs.Seen.{AreRight, GoesOn, IsAtomAt, IsKept, IsRight, IsSameAtom, IsSo}
@@ -19,7 +20,12 @@ pub same_sym : (a b : Asked) → IsSameAtom a b → IsSameAtom b a
 same_sym (asked.GoesOn l c d) (asked.GoesOn m e f) s = (sym s.0, sym s.1, sym s.2)
 same_sym (asked.GoesOn l c d) (asked.Named e t) s = s
 same_sym (asked.Named c n) (asked.GoesOn m e f) s = s
+same_sym (asked.GoesOn l c d) (asked.Compares e o m) s = s
 same_sym (asked.Named c n) (asked.Named d t) s = (sym s.0, sym s.1)
+same_sym (asked.Named c n) (asked.Compares e o m) s = s
+same_sym (asked.Compares c o m) (asked.GoesOn l e f) s = s
+same_sym (asked.Compares c o m) (asked.Named e t) s = s
+same_sym (asked.Compares c o m) (asked.Compares d p n) s = (sym s.0, sym s.1, sym s.2)
 
 module _ (i : Instance) (root start : ℕ) (set : FinSet nat_cmp) where
   -- what is kept of one atom is so of each that asks the same
@@ -34,6 +40,14 @@ module _ (i : Instance) (root start : ℕ) (set : FinSet nat_cmp) where
   kept_like (asked.Named c n) (asked.Named d t) s kept =
       let first = subst (λ y. IsKept i root start (λ x. ReachesNamed i x y n.now) set) s.0 kept in
       subst (λ y. IsKept i root start (λ x. ReachesNamed i x d.0 y) set) s.1 first
+  kept_like (asked.GoesOn l c d) (asked.Compares e o m) s kept = absurd s
+  kept_like (asked.Named c n) (asked.Compares e o m) s kept = absurd s
+  kept_like (asked.Compares c o m) (asked.GoesOn l e f) s kept = absurd s
+  kept_like (asked.Compares c o m) (asked.Named e t) s kept = absurd s
+  kept_like (asked.Compares c o m) (asked.Compares d p n) s kept =
+      let first = subst (λ y. IsKept i root start (λ x. ReachesNumbered i x y (op_of o) m) set) s.0 kept in
+      let second = subst (λ y. IsKept i root start (λ x. ReachesNumbered i x d.0 (op_of y) m) set) s.1 first in
+      subst (λ y. IsKept i root start (λ x. ReachesNumbered i x d.0 (op_of p) y) set) s.2 second
 
 module _ (i : Instance) (atoms : List Asked) (entries : List (Option Entry)) where
   -- one entry more

@@ -9,6 +9,7 @@ use native.Mathlib.Decide.{ℕ_discrete}
 use mathlib.Core.List.{List-discrete}
 use Rattle.olap_base.specs.Instance.{Instance, IsInstance}
 use Rattle.olap_base.specs.Deciding.{dec_and, dec_iff}
+use Rattle.olap_numerals.specs.Named.{HasNumerals}
 use Rattle.olap_ast.specs.Schema.{Schema, IsLegal}
 use Rattle.olap_ast.specs.Violation.{Violation, Violation.NoEdge, Violation.NoParent, Violation.SameCategory, Violation.TwoAncestors, Violation.Shortcut, Violation.Unmet, IsViolation, IsFirstViolation, IsNotAfter, rank}
 use Rattle.olap_ast.proofs.Unviolated.{legal_exactly}
@@ -95,15 +96,15 @@ first_of s i xs t = record {
   least = λ w h. subst (λ r. IsNotAfter r (rank w)) (sym t.has.1) (t.least (rank w) (w, refl, h));
 }
 
--- there is none exactly where the instance is legal, and else it is the first
-pub first_violation_is : (s : Schema) (i : Instance) → IsInstance i →
+-- of an instance with numerals there is none exactly where it is legal, and else it is the first
+pub first_violation_is : (s : Schema) (i : Instance) → IsInstance i → HasNumerals s.graph i →
     MatchOption (first_violation s i) (IsLegal s i) (IsFirstViolation s i)
 unfolding first_violation answer
-first_violation_is s i v = go (find s i)
+first_violation_is s i v numerals = go (find s i)
   where
     go : (o : FirstOrNone (HasRank s i)) → MatchOption (answer s i o) (IsLegal s i) (IsFirstViolation s i)
     go (inl t) = first_of s i t.0 t.1
-    go (inr f) = (legal_exactly s i v).1 (λ w h. f (rank w) (w, refl, h))
+    go (inr f) = (legal_exactly s i v numerals).1 (λ w h. f (rank w) (w, refl, h))
 
 -- of a legal instance there is none
 pub first_violation_none : (s : Schema) (i : Instance) → IsLegal s i → first_violation s i ≡ None
@@ -111,7 +112,7 @@ unfolding first_violation answer
 first_violation_none s i l = go (find s i)
   where
     go : (o : FirstOrNone (HasRank s i)) → answer s i o ≡ None
-    go (inl t) = absurd ((legal_exactly s i l.is_instance).0 l t.1.has.0 t.1.has.2)
+    go (inl t) = absurd ((legal_exactly s i l.is_instance l.numerals).0 l t.1.has.0 t.1.has.2)
     go (inr f) = refl
 
 -- where there is a first one, it is that
@@ -124,7 +125,7 @@ first_violation_some s i n v h = go (find s i)
     go (inl t) = ap Some (only_one s i t.1.has.0 v (first_of s i t.0 t.1) h)
     go (inr f) = absurd (f (rank v) (v, refl, h.is_one))
 
--- the first violation is none exactly where the instance is legal, and else the first
+-- of an instance with numerals the first violation is none exactly where it is legal, and else the first
 abbrev pub FirstViolationIsFirst : Type 0
-FirstViolationIsFirst = (s : Schema) (i : Instance) → IsInstance i →
+FirstViolationIsFirst = (s : Schema) (i : Instance) → IsInstance i → HasNumerals s.graph i →
     MatchOption (first_violation s i) (IsLegal s i) (IsFirstViolation s i)

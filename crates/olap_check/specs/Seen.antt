@@ -11,7 +11,8 @@
 use Rattle.std.specs.Prelude.{◌≡◌, ℕ, ◌+◌, ◌<◌, ◌↔◌, List, Option, Some, None, length, true, slice_index_or}
 use Rattle.std.specs.FinSet.{FinSet, contains}
 use Rattle.std.specs.Ordering.{nat_cmp}
-use Rattle.olap_ast.specs.Formula.{ReachesNamed}
+use Rattle.olap_ast.specs.Formula.{ReachesNamed, ReachesNumbered}
+use Rattle.olap_ast.specs.Trees.{op_of}
 use Rattle.olap_base.specs.Instance.{Instance, IsBelow, IsMemberOf, Reaches, ReachesVia}
 use Rattle.olap_bits.specs.Sets.{members}
 use Rattle.olap_check.specs.Blocks.{width}
@@ -35,13 +36,19 @@ GoesOn i ByStep d e x = StepsVia i x d e
 abbrev pub IsSo : Instance → Asked → ℕ → Type 0
 IsSo i (asked.GoesOn way d e) x = GoesOn i way d.0 e.0 x
 IsSo i (asked.Named d text) x = ReachesNamed i x d.0 text.now
+IsSo i (asked.Compares d op n) x = ReachesNumbered i x d.0 (op_of op) n
 
 -- the two ask the same
 abbrev pub IsSameAtom : Asked → Asked → Type 0
 IsSameAtom (asked.GoesOn l c d) (asked.GoesOn m e f) = (l ≡ m) × (c.0 ≡ e.0) × (d.0 ≡ f.0)
 IsSameAtom (asked.GoesOn l c d) (asked.Named e t) = ⊥
 IsSameAtom (asked.Named c s) (asked.GoesOn m e f) = ⊥
+IsSameAtom (asked.GoesOn l c d) (asked.Compares e o m) = ⊥
 IsSameAtom (asked.Named c s) (asked.Named d t) = (c.0 ≡ d.0) × (s.now ≡ t.now)
+IsSameAtom (asked.Named c s) (asked.Compares e o m) = ⊥
+IsSameAtom (asked.Compares c o m) (asked.GoesOn l e f) = ⊥
+IsSameAtom (asked.Compares c o m) (asked.Named e t) = ⊥
+IsSameAtom (asked.Compares c o m) (asked.Compares d p n) = (c.0 ≡ d.0) × (o ≡ p) × (m ≡ n)
 
 -- of the root's members at the places of a block the set has exactly those at which P is so
 abbrev pub IsKept : Instance → ℕ → ℕ → (ℕ → Type 0) → FinSet nat_cmp → Type 0

@@ -7,9 +7,11 @@ ghost use Rattle.olap_eval.specs.Shapes.{IsShape};
 
 use crate::asked::{Asked, Way};
 use crate::parting::ancestor;
+use olap_ast::Op;
 use olap_base::{CatId, MemberId, Text};
 use olap_eval::Shape;
 use olap_instance::Instance;
+use olap_numerals::number;
 
 /// What x reaches, read from the table of ancestors.
 #[derive(Clone, Copy)]
@@ -54,6 +56,7 @@ impl<'a> Above<'a> {
         match asked {
             Asked::GoesOn(way, c, d) => self.goes_on(way, c, d),
             Asked::Named(d, text) => self.name_is(d, text),
+            Asked::Compares(d, op, n) => self.number_is(d, op, n),
         }
     }
 }
@@ -91,6 +94,16 @@ impl<'a> Shape for Above<'a> {
     fn name_is(&self, c: CatId, k: &Text) -> bool {
         match self.member(c.0) {
             Some(y) => self.instance.name(MemberId(y)).bytes() == k.bytes(),
+            None => false,
+        }
+    }
+
+    fn number_is(&self, c: CatId, op: Op, n: i64) -> bool {
+        let Some(y) = self.member(c.0) else {
+            return false;
+        };
+        match number(self.instance.name(MemberId(y)).bytes()) {
+            Some(a) => op.test(a, n),
             None => false,
         }
     }

@@ -2,6 +2,7 @@
 ghost use Rattle.std.specs.Prelude.{IsTrue};
 ghost use Rattle.olap_check.specs.Seen.{IsSameAtom};
 
+use olap_ast::Op;
 use olap_base::{CatId, Text};
 
 /// How it goes on from a member that is reached.
@@ -30,6 +31,8 @@ pub(crate) enum Asked<'a> {
     GoesOn(Way, CatId, CatId),
     /// Whether it reaches a member of the category that has this name.
     Named(CatId, &'a Text),
+    /// Whether it reaches a member of the category whose number compares so with this one.
+    Compares(CatId, Op, i64),
 }
 
 impl<'a> Asked<'a> {
@@ -40,11 +43,13 @@ impl<'a> Asked<'a> {
         match (self, other) {
             (Asked::GoesOn(v, c, d), Asked::GoesOn(w, e, f)) => v == w && c.0 == e.0 && d.0 == f.0,
             (Asked::Named(c, s), Asked::Named(d, t)) => c.0 == d.0 && s.bytes() == t.bytes(),
+            (Asked::Compares(c, o, m), Asked::Compares(d, p, n)) => c.0 == d.0 && o == p && m == n,
             _ => false,
         }
     }
 
-    /// Whether it stands before the other: pairs by row and second category, then names by category and text.
+    /// Whether it stands before the other: pairs by row and second category, then names by category and text, then
+    /// numbers by category, number and comparison.
     pub(crate) fn is_before(self, other: Asked) -> bool {
         match (self, other) {
             (Asked::GoesOn(v, c, d), Asked::GoesOn(w, e, f)) => {
@@ -53,8 +58,10 @@ impl<'a> Asked<'a> {
                 row < next || (row == next && d.0 < f.0)
             }
             (Asked::Named(c, s), Asked::Named(d, t)) => c.0 < d.0 || (c.0 == d.0 && *s < *t),
-            (Asked::GoesOn(_, _, _), Asked::Named(_, _)) => true,
-            (Asked::Named(_, _), Asked::GoesOn(_, _, _)) => false,
+            (Asked::Compares(c, o, m), Asked::Compares(d, p, n)) => (c.0, m, o) < (d.0, n, p),
+            (Asked::GoesOn(_, _, _), _) => true,
+            (Asked::Named(_, _), Asked::Compares(_, _, _)) => true,
+            _ => false,
         }
     }
 }

@@ -130,8 +130,8 @@ impl<'a> Block<'a> {
 
     /// The places at which the formula is true.
     ///
-    /// It asks each name, and each way from one category to another, once for the block. It calls itself as deep as the
-    /// formula is, and once more for each part of a list.
+    /// It asks each name, each number, and each way from one category to another, once for the block. It calls itself as
+    /// deep as the formula is, and once more for each part of a list.
     #[cycle(holding)]
     fn holding(&self, f: &Formula, seen: &mut Seen) -> Places
         requires { IsSeen self.now.instance.now seen.old }
@@ -146,6 +146,7 @@ impl<'a> Block<'a> {
             Formula::Reach(d) => self.look_up(Asked::GoesOn(Way::Reaches, self.root, *d), seen),
             Formula::Via(d, e) => self.look_up(Asked::GoesOn(Way::Reaches, *d, *e), seen),
             Formula::Equals(d, text) => self.look_up(Asked::Named(*d, text), seen),
+            Formula::Compare(d, op, n) => self.look_up(Asked::Compares(*d, *op, *n), seen),
             Formula::Not(g) => self.places.minus(self.holding(g, seen)),
             Formula::And(g, h) => self.holding(g, seen).meet(self.holding(h, seen)),
             Formula::Or(g, h) => self.holding(g, seen).union(self.holding(h, seen)),

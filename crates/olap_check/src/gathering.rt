@@ -58,6 +58,7 @@ fn gather<'a>(root: CatId, f: &'a Formula, atoms: &mut Vec<Asked<'a>>) -> Result
         Formula::Reach(d) => add(Asked::GoesOn(Way::Reaches, root, *d), atoms),
         Formula::Via(d, e) => add(Asked::GoesOn(Way::Reaches, *d, *e), atoms),
         Formula::Equals(d, text) => add(Asked::Named(*d, text), atoms),
+        Formula::Compare(d, op, n) => add(Asked::Compares(*d, *op, *n), atoms),
         Formula::Not(g) => gather(root, g, atoms),
         Formula::And(g, h)
         | Formula::Or(g, h)

@@ -41,8 +41,8 @@ impl From<Memory> for CheckRefusal {
     }
 }
 
-/// Of a list of members that is an instance, the function `first_violation` of the definitions gives nothing exactly
-/// where it is legal, and else the first violation.
+/// Of a list of members that is an instance, and in which the names of number categories are numerals, the function
+/// `first_violation` of the definitions gives nothing exactly where it is legal, and else the first violation.
 pub fn first_violation_is_first()
     ensures { FirstViolationIsFirst }
 {}

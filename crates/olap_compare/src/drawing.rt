@@ -54,17 +54,43 @@ fn push_edges(
     Ok(())
 }
 
+/// Whether the members of a category are named by numbers: those of each second one are.
+fn is_number(c: u64) -> bool {
+    c % 2 == 0
+}
+
+/// What the name of a category's member is compared with: a text or a number, as its names are.
+fn compared_with(alloc: Global, draws: &mut Draws, c: u64) -> Result<String, AllocError> {
+    if !is_number(c) {
+        let name = if draws.below(2) == 0 { "x" } else { "y" };
+        return format!(in alloc; "= \"{name}\"");
+    }
+    let mark = match draws.below(3) {
+        0 => "=",
+        1 => "<",
+        _ => "<=",
+    };
+    let minus = if draws.below(8) == 0 { "-" } else { "" };
+    let number = draws.below(2);
+    format!(in alloc; "{mark} {minus}{number}")
+}
+
 /// An atom at a category, on categories that need not be above it.
 fn atom(alloc: Global, draws: &mut Draws, c: u64, count: u64) -> Result<String, AllocError> {
     let d = draws.category(count);
     let e = draws.category(count);
-    let name = if draws.below(2) == 0 { "x" } else { "y" };
     match draws.below(5) {
         0 => format!(in alloc; "C{c}_C{d}"),
         1 => format!(in alloc; "C{c}.C{d}"),
         2 => format!(in alloc; "C{c}.C{d}.C{e}"),
-        3 => format!(in alloc; "C{c}.C{d} = \"{name}\""),
-        _ => format!(in alloc; "C{c} = \"{name}\""),
+        3 => {
+            let comparison = compared_with(alloc, draws, d)?;
+            format!(in alloc; "C{c}.C{d} {comparison}")
+        }
+        _ => {
+            let comparison = compared_with(alloc, draws, c)?;
+            format!(in alloc; "C{c} {comparison}")
+        }
     }
 }
 
@@ -103,12 +129,13 @@ pub(crate) fn formula(
     Ok(text)
 }
 
-/// The text of a schema over so many categories: a way to `All` from each, cycles and shortcuts among the edges, and
-/// up to three constraints.
+/// The text of a schema over so many categories, each second one of numbers: a way to `All` from each, cycles and
+/// shortcuts among the edges, and up to three constraints.
 pub(crate) fn schema(alloc: Global, draws: &mut Draws, count: u64) -> Result<String, AllocError> {
-    let mut text = String::from_str(alloc, "schema 1\n")?;
+    let mut text = String::from_str(alloc, "schema 2\n")?;
     for c in 1..=count {
-        text.push_str(&format!(in alloc; "category C{c}\n")?)?;
+        let kind = if is_number(c) { " number" } else { "" };
+        text.push_str(&format!(in alloc; "category C{c}{kind}\n")?)?;
     }
     for c in 1..=count {
         push_edges(alloc, &mut text, draws, c, count)?;

@@ -7,13 +7,14 @@ use Rattle.olap_base.specs.Instance.{Instance, IsMemberOf, ReachesCategory, Reac
 use Rattle.olap_base.specs.Deciding.{dec_and, dec_or}
 use Rattle.olap_base.specs.Views.{ExactlyOne, NoneOf}
 use Rattle.olap_base.proofs.RollingLemmas.{one_same}
-use Rattle.olap_ast.specs.Formula.{Formula.Reach, Formula.Via}
+use Rattle.olap_ast.specs.Formula.{Formula.Reach, Formula.Truth, Formula.Via}
 use Rattle.olap_ast.specs.Frozen.{CandidatesExist, thawed}
 use Rattle.olap_ast.specs.Schema.{Schema}
 use Rattle.olap_ast.proofs.Decided.{dec_not, dec_via}
+use Rattle.olap_ast.proofs.SameAtoms.{kinds_too}
 use Rattle.olap_ast.proofs.SmallModel.{frozen_alike}
 use Rattle.olap_cube.specs.Tuples.{TupleReaches, IsTupleOf, IsBottomTuple, AreLawful, TupleReachesVia}
-use Rattle.olap_cube.specs.CubeSummarizable.{AreChosen, AreLegal, IsCubeSummarizable, Chosen, IsChosen, IsBadChoice, CubeSummarizableExactlyIfNoneBad, bottoms_of, graphs_of, instances_of}
+use Rattle.olap_cube.specs.CubeSummarizable.{AreChosen, AreLegal, IsCubeSummarizable, Chosen, IsChosen, IsBadChoice, IsKinded, CubeSummarizableExactlyIfNoneBad, bottoms_of, graphs_of, instances_of}
 use Rattle.olap_cube.proofs.CubeLemmas.{cubes_agree_exactly}
 
 pub lawful_from_legal : (ss : List Schema) (is : List Instance) → AreLegal ss is → AreLawful (graphs_of ss) is
@@ -88,27 +89,27 @@ record Alike (ss : List Schema) (cs : List ℕ) (is : List Instance) (x : List �
   roots_are : IsTupleOf (instances_of ss choice) (bottoms_of choice) roots
   same : (t : List ℕ) → TupleReachesVia (instances_of ss choice) roots t cs ↔ TupleReachesVia is x t cs
 
-alike : CandidatesExist → (ss : List Schema) (cs : List ℕ) (is : List Instance) (x y : List ℕ) → All IsHierarchy (graphs_of ss)
-    → AreLegal ss is → IsBottomTuple (graphs_of ss) is x → IsTupleOf is cs y → TupleReaches is x y → Alike ss cs is x
-alike exist [] [] [] [] y a l b m r = record {
+alike : CandidatesExist → (ss : List Schema) (cs : List ℕ) (is : List Instance) (x y : List ℕ)
+    → All IsHierarchy (graphs_of ss) → All IsKinded ss → AreLegal ss is → IsBottomTuple (graphs_of ss) is x → IsTupleOf is cs y → TupleReaches is x y → Alike ss cs is x
+alike exist [] [] [] [] y a w l b m r = record {
   choice = [];
   chosen = tt;
   roots = [];
   roots_are = tt;
   same = λ t. (λ v. v, λ v. v);
 }
-alike exist [] (c ∷ cs) [] [] y a l b m r = absurd m
-alike exist [] cs [] (x ∷ xs) y a l b m r = absurd b
-alike exist [] cs (i ∷ is) x y a l b m r = absurd l
-alike exist (s ∷ ss) cs [] x y a l b m r = absurd l
-alike exist (s ∷ ss) cs (i ∷ is) [] y a l b m r = absurd b
-alike exist (s ∷ ss) [] (i ∷ is) (x ∷ xs) y a l b m r = absurd m
-alike exist (s ∷ ss) (c ∷ cs) (i ∷ is) (x ∷ xs) [] a l b m r = absurd m
-alike exist (s ∷ ss) (c ∷ cs) (i ∷ is) (x ∷ xs) (y ∷ ys) a l b m r =
-    let k = exist s (Reach c) in
+alike exist [] (c ∷ cs) [] [] y a w l b m r = absurd m
+alike exist [] cs [] (x ∷ xs) y a w l b m r = absurd b
+alike exist [] cs (i ∷ is) x y a w l b m r = absurd l
+alike exist (s ∷ ss) cs [] x y a w l b m r = absurd l
+alike exist (s ∷ ss) cs (i ∷ is) [] y a w l b m r = absurd b
+alike exist (s ∷ ss) [] (i ∷ is) (x ∷ xs) y a w l b m r = absurd m
+alike exist (s ∷ ss) (c ∷ cs) (i ∷ is) (x ∷ xs) [] a w l b m r = absurd m
+alike exist (s ∷ ss) (c ∷ cs) (i ∷ is) (x ∷ xs) (y ∷ ys) a w l b m r =
+    let k = exist s (Reach c) (kinds_too s Truth (Reach c) refl refl (All-head IsKinded s ss w)) in
     let hier = All-head IsHierarchy s.graph (graphs_of ss) a in
     let f = frozen_alike s (Reach c) k.0 hier k.1 i l.0 x b.0 (y, m.0, r.0) in
-    let rest = alike exist ss cs is xs ys (All-tail IsHierarchy s.graph (graphs_of ss) a) l.1 b.2 m.1 r.1 in
+    let rest = alike exist ss cs is xs ys (All-tail IsHierarchy s.graph (graphs_of ss) a) (All-tail IsKinded s ss w) l.1 b.2 m.1 r.1 in
     let p : Chosen = record { bottom = category_of i x; candidates = k.0; frozen = f.0 } in
     let z = f.1.stands_for.root in
     record {
@@ -117,7 +118,7 @@ alike exist (s ∷ ss) (c ∷ cs) (i ∷ is) (x ∷ xs) (y ∷ ys) a l b m r =
       roots = z ∷ rest.roots;
       roots_are = (f.1.stands_for.root_is, rest.roots_are);
       same = λ t. joined t (thawed s k.0 (category_of i x) f.0) z
-          (λ d. f.2 (Via d c) refl z f.1.stands_for.root_is) rest;
+          (λ d. f.2 (Via d c) refl refl z f.1.stands_for.root_is) rest;
     }
   where
     joined : (t : List ℕ) (j : Instance) (z : ℕ) → ((d : ℕ) → ReachesVia j z d c ↔ ReachesVia i x d c)
@@ -151,7 +152,7 @@ dec_tuple_via (i ∷ is) (x ∷ xs) (t ∷ ts) (c ∷ cs) = dec_and (dec_via i x
 
 -- the law
 pub cube_summarizable_exactly : CandidatesExist → CubeSummarizableExactlyIfNoneBad
-cube_summarizable_exactly exist ss cs sources hier = (to, from)
+cube_summarizable_exactly exist ss cs sources hier kinds = (to, from)
   where
     to : IsCubeSummarizable ss cs sources → (choice : List Chosen) → IsBadChoice ss cs sources choice → ⊥
     to h choice b = b.bad (by_one ss cs sources choice b.chosen b.roots b.roots_are h)
@@ -165,7 +166,7 @@ cube_summarizable_exactly exist ss cs sources hier = (to, from)
             → TupleReaches is x y → Dec (ExactlyOne (λ t. TupleReachesVia is x t cs) sources)
             → ExactlyOne (λ t. TupleReachesVia is x t cs) sources
         one x b y m r (yes o) = o
-        one x b y m r (no n) = let a = alike exist ss cs is x y hier l b m r in
+        one x b y m r (no n) = let a = alike exist ss cs is x y hier kinds l b m r in
             absurd (none a.choice (record {
               chosen = a.chosen;
               roots = a.roots;

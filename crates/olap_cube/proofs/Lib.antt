@@ -5,4 +5,3 @@ pub mod ChoiceLemmas
 mod DeterminedLemmas
 mod SumLemmas
 mod OneDimensionLemmas
-pub mod QuestionLemmas

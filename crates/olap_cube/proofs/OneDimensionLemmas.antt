@@ -5,18 +5,19 @@ use Rattle.olap_base.specs.Instance.{Instance, IsMemberOf, ReachesVia}
 use Rattle.olap_base.specs.Above.{HasOneMemberEach}
 use Rattle.olap_base.specs.Views.{ExactlyOne, NoneOf}
 use Rattle.olap_base.proofs.ViewLemmas.{agree_exactly}
-use Rattle.olap_ast.specs.Formula.{Formula, Formula.Reach, equalities, equalities_of_terms}
+use Rattle.olap_ast.specs.Formula.{Formula, Formula.Reach, comparisons, equalities}
 use Rattle.olap_ast.specs.Frozen.{AreCandidates, Candidates, Frozen, IsFrozen, IsFrozenInstance, code, thawed}
 use Rattle.olap_ast.specs.Schema.{Schema}
-use Rattle.olap_ast.specs.Summarizable.{IsCounterexample, IsSummarizable, not_by_one, vias}
+use Rattle.olap_ast.specs.Summarizable.{IsCounterexample, IsSummarizable, not_by_one}
 use Rattle.olap_ast.specs.Violation.{IsNotAfter}
 use Rattle.olap_ast.proofs.Determined.{still_frozen}
+use Rattle.olap_ast.proofs.SameAtoms.{candidates_too, frozen_too}
+use Rattle.olap_ast.proofs.SourceLemmas.{question_free, question_numberless}
 use Rattle.olap_ast.proofs.Summing.{one_of}
 use Rattle.olap_cube.specs.Tuples.{IsBottomTuple, IsTupleOf, TupleReaches, TupleReachesVia}
 use Rattle.olap_cube.specs.CubeViews.{CubeViewsAgree}
 use Rattle.olap_cube.specs.CubeSummarizable.{AreLegal, AreNotAfter, Chosen, CounterexamplesOfOneDimension, CubesOfOneDimension, IsBadChoice, IsCubeCounterexample, IsCubeSummarizable, bottoms_of, codes_of}
 use Rattle.olap_cube.proofs.CubeLemmas.{cubes_agree_exactly}
-use Rattle.olap_cube.proofs.QuestionLemmas.{candidates_too, frozen_too}
 
 -- each as a tuple of one
 abbrev alone : List ℕ → List (List ℕ)
@@ -68,10 +69,6 @@ cubes_of_one_dimension s c sources = (to, from)
 
 -- ---- counterexamples
 
-vias_free : (c : ℕ) (sources : List ℕ) → equalities_of_terms (vias c sources) ≡ []
-vias_free c [] = refl
-vias_free c (s ∷ ss) = vias_free c ss
-
 order : (m n : ℕ) → (m < n) ⊎ ((m ≡ n) ⊎ (n < m))
 order m n = grind arith
 
@@ -87,7 +84,10 @@ module _ (s : Schema) (c : ℕ) (sources : List ℕ) where
   q = not_by_one c sources
 
   free : equalities (Reach c) ≡ equalities q
-  free = sym (vias_free c sources)
+  free = sym (question_free c sources)
+
+  numberless : comparisons (Reach c) ≡ comparisons q
+  numberless = sym (question_numberless c sources)
 
   abbrev Bad : List Chosen → Type 0
   Bad choice = IsBadChoice (s ∷ []) (c ∷ []) (alone sources) choice
@@ -102,8 +102,8 @@ module _ (s : Schema) (c : ℕ) (sources : List ℕ) where
     chosen = (
       record {
         bottom = bottom;
-        candidates = candidates_too s q (Reach c) (sym free) k a;
-        is_one = frozen_too s q (Reach c) (sym free) b k f t t.stands_for.true_at_root.0;
+        candidates = candidates_too s q (Reach c) (sym free) (sym numberless) k a;
+        is_one = frozen_too s q (Reach c) (sym free) (sym numberless) b k f t t.stands_for.true_at_root.0;
       },
       tt,
     );
@@ -118,10 +118,10 @@ module _ (s : Schema) (c : ℕ) (sources : List ℕ) where
   bad_bottom p b = b.chosen.0.bottom
 
   bad_candidates : (p : Chosen) → Bad (p ∷ []) → AreCandidates s q p.candidates
-  bad_candidates p b = candidates_too s (Reach c) q free p.candidates b.chosen.0.candidates
+  bad_candidates p b = candidates_too s (Reach c) q free numberless p.candidates b.chosen.0.candidates
 
   bad_frozen : (p : Chosen) → Bad (p ∷ []) → IsFrozen s q p.bottom p.candidates p.frozen
-  bad_frozen p b = frozen_too s (Reach c) q free p.bottom p.candidates p.frozen b.chosen.0.is_one
+  bad_frozen p b = frozen_too s (Reach c) q free numberless p.bottom p.candidates p.frozen b.chosen.0.is_one
       (f.true_at_root, λ o. not_one ((one_alone i f.root c sources).1 ((one_of i f.root c sources).0 o)))
     where
       i : Instance

@@ -8,7 +8,8 @@ use Rattle.std.specs.Prelude.{◌≡◌, ℕ, List, [], ◌∷◌, ℤ, pos, map
 use Rattle.olap_base.specs.Graph.{Graph, IsBottom, IsHierarchy}
 use Rattle.olap_base.specs.Instance.{Instance}
 use Rattle.olap_base.specs.Views.{ExactlyOne}
-use Rattle.olap_ast.specs.Formula.{Formula.Reach}
+use Rattle.olap_ast.specs.Constants.{HasKinds}
+use Rattle.olap_ast.specs.Formula.{Formula.Reach, Formula.Truth}
 use Rattle.olap_ast.specs.Frozen.{AreCandidates, AreOneFrozenDimension, Candidates, Frozen, IsFrozen, code, thawed}
 use Rattle.olap_ast.specs.Schema.{Schema, IsLegal}
 use Rattle.olap_ast.specs.Summarizable.{IsCounterexample, IsSummarizable}
@@ -72,10 +73,14 @@ pub record IsBadChoice (schemas : List Schema) (c : List ℕ) (sources : List (L
   pub roots_are : IsTupleOf (instances_of schemas choice) (bottoms_of choice) roots
   pub bad : ExactlyOne (λ t. TupleReachesVia (instances_of schemas choice) roots t c) sources → ⊥
 
+-- the constraints ask texts of text categories alone, and numbers of number categories alone
+abbrev pub IsKinded : Schema → Type 0
+IsKinded s = HasKinds s Truth
+
 -- the target is summarizable exactly if no choice is bad
 abbrev pub CubeSummarizableExactlyIfNoneBad : Type 0
 CubeSummarizableExactlyIfNoneBad = (schemas : List Schema) (c : List ℕ) (sources : List (List ℕ)) →
-    All IsHierarchy (graphs_of schemas)
+    All IsHierarchy (graphs_of schemas) → All IsKinded schemas
     → IsCubeSummarizable schemas c sources ↔ ((choice : List Chosen) → IsBadChoice schemas c sources choice → ⊥)
 
 -- ---- counterexamples

@@ -1,50 +1,37 @@
 -- What searches for frozen dimensions by their patterns say.
-use Rattle.std.proofs.Common.{◌≡◌, ℕ, ◌≤◌, ◌↔◌, ◌++◌, List, [], length, sym, subst, ◌∙◌}
-use Rattle.std.specs.Prelude.{flat_map, slice_index}
+use Rattle.std.proofs.Common.{◌≡◌, ℕ, ◌↔◌, List, length, sym, subst, ◌∙◌}
+use Rattle.std.specs.Prelude.{slice_index}
 use Rattle.std.specs.FinSet as set
 use Rattle.std.specs.Int.{bit_at}
 use Rattle.std.specs.List.{range_with_len}
-use Rattle.std.proofs.lemmas.List.{append-nil}
 use native.Mathlib.Decide.{ℕ_discrete}
 use Rattle.olap_base.specs.Deciding.{dec_and, dec_iff}
 use Rattle.olap_base.specs.Graph.{IsBottom}
 use Rattle.olap_base.specs.Instance.{Instance, IsMemberOf, ReachesCategory, ReachesVia}
-use Rattle.olap_base.specs.Limits.{most_constants}
 use Rattle.olap_base.specs.declared.ids.CatId.{CatId}
 use Rattle.olap_base.proofs.ListLemmas.{Contains-range}
-use Rattle.olap_ast.specs.Constants.{all_equalities}
-use Rattle.olap_ast.specs.Formula.{Formula, Formula.Reach, equalities}
+use Rattle.olap_ast.specs.Formula.{Formula, Formula.Reach}
 use Rattle.olap_ast.specs.Frozen.{AreCandidates, Candidates, Frozen, IsFrozen, thawed}
 use Rattle.olap_ast.specs.Questions.{NoneFrozen}
-use Rattle.olap_ast.specs.Schema.{Constraint, Schema}
-use Rattle.olap_ast.specs.Valid.{IsValidSchema, distinct_pairs}
+use Rattle.olap_ast.specs.Schema.{Schema}
 use Rattle.olap_ast.proofs.Decided.{dec_some, dec_via}
 use Rattle.olap_ast.proofs.Determined.{still_frozen}
 use Rattle.olap_bits.specs.Sets.{members}
 use Rattle.olap_bits.specs.declared.sets.CatSet.{CatSet}
 use Rattle.olap_cube.specs.CubeSummarizable.{Chosen, IsChosen}
-use Rattle.olap_cube.proofs.QuestionLemmas.{candidates_too, frozen_too}
+use Rattle.olap_ast.proofs.SameAtoms.{candidates_too, frozen_too}
 use Rattle.olap_dimensions.specs.Found.{chosen_of}
 use Rattle.olap_dimsat.specs.OneFound.{IsOneFound}
 use Rattle.olap_frozen.specs.declared.founding.Found.{Found}
 use Rattle.olap_frozen.specs.LeastFound.{IsLeastFound, frozen_of}
 use Rattle.olap_names.specs.Names.{candidates_of}
 use Rattle.olap_patterns.specs.Masks.{Has, IsIn}
-use Rattle.olap_patterns.specs.Ways.{HasWays, HasWaysIn, IsAboutWays, IsInside, IsOutside, numbers_of}
+use Rattle.olap_ast.specs.Trees.{numbers_of}
+use Rattle.olap_patterns.specs.Ways.{HasWays, HasWaysIn, IsAboutWays, IsInside, IsOutside}
 use Rattle.olap_cube_summ.specs.Patterns.{AreAllKnown, IsKnown, IsLeastKnown, IsOther, SomeIsKnown, shape_of}
 use Rattle.olap_cube_summ.specs.Questions.{sources_in, target_in}
 use Rattle.olap_cube_summ.specs.declared.questions.Question.{Question}
 use Rattle.olap_cube_summ.proofs.BelowLemmas.{dec_below, dec_both, dec_less, dec_true}
-
--- a question without constants keeps the limit
-pub no_more_constants : (s : Schema) (f : Formula) → IsValidSchema s → equalities f ≡ []
-    → length (distinct_pairs (all_equalities s f)) ≤ most_constants
-no_more_constants s f v e =
-    subst (λ xs. length (distinct_pairs (flat_map (λ (c : Constraint). equalities c.formula) s.constraints ++ xs))
-    ≤ most_constants)
-    (sym e)
-    (subst (λ xs. length (distinct_pairs xs) ≤ most_constants)
-    (sym (append-nil (flat_map (λ (c : Constraint). equalities c.formula) s.constraints))) v.constants_fit)
 
 -- what holds at the root holds at each member of its category
 pub at_root : (s : Schema) (f : Formula) (r : ℕ) (k : Candidates) (h : Frozen) → (t : IsFrozen s f r k h)
@@ -81,8 +68,8 @@ module _ (s : Schema) (q : Question) where
     pub asked : (h : Chosen) → (a : IsChosen s c h) → P (shape_of s h) a.is_one.stands_for.root
         → IsFrozen s f h.bottom k h.frozen
     asked h a p = still_frozen s f h.bottom h.candidates k
-        (candidates_too s (Reach c) f (sym about.free) h.candidates a.candidates) candidates h.frozen
-        (frozen_too s (Reach c) f (sym about.free) h.bottom h.candidates h.frozen a.is_one
+        (candidates_too s (Reach c) f (sym about.free) (sym about.numberless) h.candidates a.candidates) candidates h.frozen
+        (frozen_too s (Reach c) f (sym about.free) (sym about.numberless) h.bottom h.candidates h.frozen a.is_one
         ((about.means (shape_of s h) a.is_one.stands_for.root).1 p))
 
     -- and what it finds is a choice
@@ -90,8 +77,8 @@ module _ (s : Schema) (q : Question) where
         → IsFrozen s f r k h → IsChosen s c (record { bottom = r; candidates = k; frozen = h })
     chosen r b reach h t = record {
       bottom = b;
-      candidates = candidates_too s f (Reach c) about.free k candidates;
-      is_one = frozen_too s f (Reach c) about.free r k h t
+      candidates = candidates_too s f (Reach c) about.free about.numberless k candidates;
+      is_one = frozen_too s f (Reach c) about.free about.numberless r k h t
           (reach (thawed s k r h) t.stands_for.root
           ((about.means (thawed s k r h) t.stands_for.root).0 t.stands_for.true_at_root));
     }

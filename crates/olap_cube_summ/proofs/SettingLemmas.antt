@@ -2,11 +2,14 @@
 use Rattle.std.proofs.Common.{◌≡◌, ℕ, zero, suc, ◌+◌, ◌<◌, ◌≤◌, ◌↔◌, ◌++◌, List, [], ◌∷◌, Bool, true, false, length, get_or, refl, ap, sym, subst, ◌∙◌, inl, inr, arith}
 use Rattle.std.specs.Prelude.{All, IsTrue, slice_index, slice_index_or}
 use Rattle.std.proofs.lemmas.List.{get_or-map, get_or_append_left, get_or_push, length-map}
+use Rattle.olap_ast.specs.Formula.{Formula.Truth}
 use Rattle.olap_ast.specs.Schema.{Schema}
+use Rattle.olap_ast.specs.Valid.{IsValidSchema}
+use Rattle.olap_ast.proofs.AtomLemmas.{has_kinds}
 use Rattle.olap_base.specs.Graph.{IsCategory, IsHierarchy}
 use Rattle.olap_base.specs.Limits.{most_views}
 use Rattle.olap_bits.specs.declared.sets.CatSet.{CatSet}
-use Rattle.olap_cube.specs.CubeSummarizable.{CubeSummarizableExactlyIfNoneBad, IsCubeSummarizable, graphs_of}
+use Rattle.olap_cube.specs.CubeSummarizable.{CubeSummarizableExactlyIfNoneBad, IsCubeSummarizable, IsKinded, graphs_of}
 use Rattle.olap_dimensions.specs.Dimensions.{AreCategoriesOf, no_schema}
 use Rattle.olap_patterns.specs.Families.{AreUnions, IsOrdered}
 use Rattle.olap_patterns.specs.Masks.{CanBeBad, all_of}
@@ -86,20 +89,27 @@ families_next ss qs i all next new s q l x y n made a before j m = elim (below_s
         (subst (λ w. AreFamilies w (slice_index_or qs i no_question) new) x
         (subst (λ w. AreFamilies s w new) (y ∙ same_item qs i q no_question l) a))
 
-pub hierarchies_next : (ss : List Schema) (i : ℕ) (s : Schema) → s ≡ slice_index_or ss i no_schema → IsHierarchy s.graph
-    → ((j : ℕ) → j < i → IsHierarchy (slice_index_or ss j no_schema).graph) → (j : ℕ) → j < i + 1
-    → IsHierarchy (slice_index_or ss j no_schema).graph
-hierarchies_next ss i s e h before j l = elim (below_suc j i (omega arith)) [
+pub valid_next : (ss : List Schema) (i : ℕ) (s : Schema) → s ≡ slice_index_or ss i no_schema → IsValidSchema s
+    → ((j : ℕ) → j < i → IsValidSchema (slice_index_or ss j no_schema)) → (j : ℕ) → j < i + 1
+    → IsValidSchema (slice_index_or ss j no_schema)
+valid_next ss i s e v before j l = elim (below_suc j i (omega arith)) [
   | inl o ↦ before j o
-  | inr q ↦ subst (λ w. IsHierarchy (slice_index_or ss w no_schema).graph) (sym q)
-      (subst (λ (w : Schema). IsHierarchy w.graph) e h)
+  | inr q ↦ subst (λ w. IsValidSchema (slice_index_or ss w no_schema)) (sym q) (subst IsValidSchema e v)
 ]
 
-pub all_hierarchies : (ss : List Schema) (i : ℕ) → length ss ≤ i
-    → ((j : ℕ) → j < i → IsHierarchy (slice_index_or ss j no_schema).graph) → All IsHierarchy (graphs_of ss)
-all_hierarchies ss i n h k d l =
+pub all_valid : (ss : List Schema) (i : ℕ) → length ss ≤ i
+    → ((j : ℕ) → j < i → IsValidSchema (slice_index_or ss j no_schema)) → All IsValidSchema ss
+all_valid ss i n v k d l = subst IsValidSchema (same_item ss k no_schema d l) (v k (omega arith))
+
+-- graphs of valid schemas are hierarchies
+pub hierarchies : (ss : List Schema) → All IsValidSchema ss → All IsHierarchy (graphs_of ss)
+hierarchies ss v k d l =
     let m : k < length ss = subst (λ w. k < w) (length-map ss (λ s. s.graph)) l in
-    subst IsHierarchy (sym (get_or-map (λ (s : Schema). s.graph) ss k no_schema d m)) (h k (omega arith))
+    subst IsHierarchy (sym (get_or-map (λ (s : Schema). s.graph) ss k no_schema d m)) (v k no_schema m).hierarchy
+
+-- and their atoms are of the kinds of their categories
+pub kinded : (ss : List Schema) → All IsValidSchema ss → All IsKinded ss
+kinded ss v k d l = has_kinds (get_or ss k d) 0 Truth (v k d l).formulas tt
 
 -- they are ordered
 pub all_ordered : (ss : List Schema) (qs : List Question) (fss : List (List Family)) → AreFamiliesOf ss qs fss
@@ -110,11 +120,11 @@ all_ordered ss qs fss f k d l = subst IsOrdered (same_item fss k [] d l) (f.each
 
 pub summarizable_is : CubeSummarizableExactlyIfNoneBad → (ss : List Schema) (c : List ℕ) (sources : List (List ℕ))
     (qs : List Question) (fss : List (List Family)) → AreQuestions c sources qs → AreQuestionsOf ss qs
-    → AreFamiliesOf ss qs fss → All IsHierarchy (graphs_of ss) → (n : ℕ) → length sources ≡ n
+    → AreFamiliesOf ss qs fss → All IsValidSchema ss → (n : ℕ) → length sources ≡ n
     → (sets items : List (CatSet 4)) → AreUnions fss sets → items ≡ sets → (mask : ℕ) → mask ≡ all_of n → (b : Bool)
     → IsTrue b ↔ CanBeBad n items mask → b ≡ false → IsCubeSummarizable ss c sources
-summarizable_is law ss c sources qs fss asked of families hier n e sets items u same mask full b is lost =
-    (law ss c sources hier).1 (none_bad ss c sources qs fss asked of families sets u none)
+summarizable_is law ss c sources qs fss asked of families valid n e sets items u same mask full b is lost =
+    (law ss c sources (hierarchies ss valid) (kinded ss valid)).1 (none_bad ss c sources qs fss asked of families sets u none)
   where
     none : CanBeBad (length sources) sets (all_of (length sources)) → ⊥
     none bad = let z : false ≡ true = sym lost ∙ is.1 (subst (CanBeBad n items) (sym full)

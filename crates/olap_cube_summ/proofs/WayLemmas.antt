@@ -12,14 +12,15 @@ use Rattle.olap_ast.specs.Frozen.{AreCandidates, IsFrozen}
 use Rattle.olap_ast.specs.Schema.{Constraint, Schema}
 use Rattle.olap_base.specs.Graph.{Graph}
 use Rattle.olap_base.specs.Instance.{Instance, IsMemberOf, ReachesVia}
-use Rattle.olap_cube.proofs.QuestionLemmas.{candidates_too, frozen_too}
+use Rattle.olap_ast.proofs.SameAtoms.{candidates_too, frozen_too}
 use Rattle.olap_dimensions.specs.Found.{chosen_of}
 use Rattle.olap_frozen.specs.declared.founding.Found.{Found}
 use Rattle.olap_frozen.specs.LeastFound.{frozen_of}
 use Rattle.olap_names.specs.Names.{candidates_of, with_graph}
 use Rattle.olap_patterns.specs.Masks.{Has}
 use Rattle.olap_base.specs.declared.ids.CatId.{CatId}
-use Rattle.olap_patterns.specs.Ways.{HasWaysTo, numbers_of}
+use Rattle.olap_ast.specs.Trees.{numbers_of}
+use Rattle.olap_patterns.specs.Ways.{HasWaysTo}
 use Rattle.olap_cube_summ.specs.Patterns.{IsFoundFor, shape_of}
 use Rattle.olap_cube_summ.proofs.BelowLemmas.{below_suc}
 use Rattle.olap_cube_summ.proofs.SearchLemmas.{at_root}
@@ -31,7 +32,7 @@ whole_is s g cs e f = λ i. record { graph = e i; constraints = f i }
 module _ (s : Schema) (c : ℕ) (found : Found) (serves : IsFoundFor s c found) where
   -- the question by way of a source has the same names
   pub candidates_for : (d : ℕ) → AreCandidates s (Via d c) (candidates_of found.candidates)
-  candidates_for d = candidates_too s (Reach c) (Via d c) refl (candidates_of found.candidates) serves.chosen.candidates
+  candidates_for d = candidates_too s (Reach c) (Via d c) refl refl (candidates_of found.candidates) serves.chosen.candidates
 
   -- it is a frozen dimension for it exactly if its root reaches the target by way of the source
   pub way_is : (d x : ℕ) → IsMemberOf (shape_of s (chosen_of found)) found.frozen.root.0 x
@@ -40,7 +41,7 @@ module _ (s : Schema) (c : ℕ) (found : Found) (serves : IsFoundFor s c found) 
   way_is d x m = (
     λ t. at_root s (Via d c) found.frozen.root.0 (candidates_of found.candidates) (frozen_of found.frozen) t
         (λ y. ReachesVia (shape_of s (chosen_of found)) y d c) t.stands_for.true_at_root x m,
-    λ v. frozen_too s (Reach c) (Via d c) refl found.frozen.root.0 (candidates_of found.candidates)
+    λ v. frozen_too s (Reach c) (Via d c) refl refl found.frozen.root.0 (candidates_of found.candidates)
         (frozen_of found.frozen) serves.chosen.is_one (back v),
   )
     where

@@ -2,7 +2,7 @@
 ghost use Rattle.std.specs.Prelude.{◌≡◌, ◌<◌, All, IfOk, length, slice_index};
 ghost use Rattle.olap_cube.specs.Told.{tuple_of, tuples_in};
 ghost use Rattle.olap_cube_summ.specs.Questions.{AreQuestions, IsColumn};
-ghost use Rattle.olap_patterns.specs.Ways.{numbers_of};
+ghost use Rattle.olap_ast.specs.Trees.{numbers_of};
 
 use olap_base::{CatId, List, Memory};
 use olap_cube::Tuple;

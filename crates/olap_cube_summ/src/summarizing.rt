@@ -1,8 +1,8 @@
 // Which tuples of categories can be computed from others.
 ghost use Rattle.std.specs.Prelude.{◌≡◌, ◌≢◌, ◌<◌, ◌≤◌, ◌↔◌, All, AllPairs, Err, IfOk, IfSome, IsNone, length};
-ghost use Rattle.olap_base.specs.Graph.{IsHierarchy};
+ghost use Rattle.olap_ast.specs.Valid.{IsValidSchema};
 ghost use Rattle.olap_base.specs.Limits.{most_views};
-ghost use Rattle.olap_cube.specs.CubeSummarizable.{IsCubeSummarizable, graphs_of};
+ghost use Rattle.olap_cube.specs.CubeSummarizable.{IsCubeSummarizable};
 ghost use Rattle.olap_cube.specs.Told.{tuple_of, tuples_in};
 ghost use Rattle.olap_cube_summ.specs.Dimensions.{AreFamiliesOf};
 ghost use Rattle.olap_cube_summ.specs.Questions.{AreQuestionsOf};
@@ -47,7 +47,7 @@ fn all_families(
 ) -> Result<Vec<List<Family>>, Memory>
     requires { AreQuestionsOf (schemas_of cube.now) questions.now }
     ensures families { IfOk result (λ families. AreFamiliesOf (schemas_of cube.now) questions.now families.items) }
-    ensures hierarchies { IfOk result (λ _. All IsHierarchy (graphs_of (schemas_of cube.now))) }
+    ensures valid { IfOk result (λ _. All IsValidSchema (schemas_of cube.now)) }
 {
     let mut all = Vec::new(alloc);
     'dimensions: for i in 0..cube.len() {

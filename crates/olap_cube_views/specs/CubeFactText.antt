@@ -13,7 +13,7 @@ use Rattle.olap_base.specs.Instance.{Instance, category_of}
 use Rattle.olap_base.specs.Limits.{most_listed_facts}
 use Rattle.olap_base.specs.Naming.{Fault, place_of}
 use Rattle.olap_records.specs.Faults.{field, first_fault}
-use Rattle.olap_records.specs.Numbers.{value_of}
+use Rattle.olap_numerals.specs.Values.{value_of}
 use Rattle.olap_facts.specs.FactText.{is_bottom}
 use Rattle.olap_facts.specs.declared.kinds.FactKind.{FactKind}
 use Rattle.olap_facts.specs.declared.kinds.FactKind.TheVariants as kind

@@ -5,7 +5,6 @@ ghost use Rattle.olap_base.specs.Instance.{category_of};
 ghost use Rattle.olap_base.specs.Limits.{most_listed_facts};
 ghost use Rattle.olap_cube.specs.CubeViews.{IsCubeFactTable};
 ghost use Rattle.olap_cube.specs.Tuples.{IsBottomTuple};
-ghost use Rattle.olap_facts.specs.FactText.{is_bottom};
 ghost use Rattle.olap_facts.specs.Refusals.{IsFaultCause};
 ghost use Rattle.olap_instance.specs.Made.{IsMadeFor};
 ghost use Rattle.olap_records.specs.Faults.{first_fault};
@@ -19,10 +18,11 @@ ghost use Rattle.olap_cube_views.specs.Seen.{cube_fact_of, cube_facts_of, member
 
 use crate::{CubeFact, CubeFacts, Legals};
 use olap_base::{List, MOST_LISTED_FACTS, MemberId, Memory};
-use olap_facts::{FactKind, FactRefusal};
+use olap_facts::{FactKind, FactRefusal, is_at_bottom};
 use olap_graph::Graph;
 use olap_instance::Instance;
-use olap_records::{Rows, value};
+use olap_numerals::value;
+use olap_records::Rows;
 use std::alloc::Global;
 
 /// Reads the first record, and says whether it is the header for so many dimensions.
@@ -47,16 +47,6 @@ fn is_header(rows: &Rows, dimensions: usize) -> bool
         3 => rows.is_row(&[b"m1", b"m2", b"m3", b"value"]),
         _ => rows.is_row(&[b"m1", b"m2", b"m3", b"m4", b"value"]),
     }
-}
-
-/// Whether a member is of a bottom category.
-fn is_at_bottom(graph: &Graph, instance: &Instance, m: MemberId) -> bool
-    requires made { IsMadeFor graph.now instance.now }
-    requires member { m.0 < length instance.now }
-    ensures value { result ≡ is_bottom graph.now (category_of instance.now m.0) }
-    ensures bottom { IsTrue result → IsBottom graph.now (category_of instance.now m.0) }
-{
-    graph.is_bottom(instance.category(m))
 }
 
 /// The member of a bottom category that a field names.

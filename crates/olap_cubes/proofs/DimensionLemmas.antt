@@ -20,7 +20,8 @@ use Rattle.olap_dimensions.specs.Dimensions.{AreCategoriesOf, no_schema}
 use Rattle.olap_instance.specs.Made.{IsMadeFor}
 use Rattle.olap_order.specs.Order.{Done, and_then}
 use Rattle.olap_order.specs.Steps.{schema_file}
-use Rattle.olap_order.specs.Words.{numbers_of, texts}
+use Rattle.olap_ast.specs.Trees.{numbers_of}
+use Rattle.olap_order.specs.Words.{texts}
 use Rattle.olap_reading.specs.Steps.{legal_file}
 use Rattle.olap_cubes.specs.Steps.{legal_files, numbered, schema_files}
 

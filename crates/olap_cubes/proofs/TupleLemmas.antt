@@ -18,7 +18,7 @@ use Rattle.olap_dimensions.specs.Dimensions.{AreCategoriesOf}
 use Rattle.olap_order.specs.Judged.{Replies}
 use Rattle.olap_order.specs.Order.{Order, Done, and_then}
 use Rattle.olap_order.specs.Taken.{NoAnswer, PlainStep}
-use Rattle.olap_order.specs.Words.{numbers_of}
+use Rattle.olap_ast.specs.Trees.{numbers_of}
 use Rattle.olap_order.specs.declared.replies.Stop.{Stop}
 use Rattle.olap_order.proofs.Stepping.{ends_both}
 use Rattle.olap_cubes.specs.Steps.{another_tuple, different_tuples}

@@ -5,7 +5,8 @@ ghost use Rattle.std.specs.List.{list_any};
 ghost use Rattle.olap_cube.specs.Told.{tuple_of, tuples_in};
 ghost use Rattle.olap_dimensions.specs.Dimensions.{AreCategoriesOf, schemas_of};
 ghost use Rattle.olap_order.specs.Taken.{PlainStep};
-ghost use Rattle.olap_order.specs.Words.{numbers_of, texts};
+ghost use Rattle.olap_ast.specs.Trees.{numbers_of};
+ghost use Rattle.olap_order.specs.Words.{texts};
 ghost use Rattle.olap_cubes.specs.Steps.{another_tuple, categories_named, different_tuples, tuple_word};
 
 use olap_base::{CatId, List, Memory, Text};

@@ -14,7 +14,7 @@ schemas_of cube = map schema_of cube
 
 -- a schema of nothing
 abbrev pub no_schema : Schema
-no_schema = record { graph = record { names = []; edges = [] }; constraints = [] }
+no_schema = record { graph = record { names = []; numbers = []; edges = [] }; constraints = [] }
 
 -- a category of each dimension
 abbrev pub AreCategoriesOf : List Schema → List ℕ → Type 0

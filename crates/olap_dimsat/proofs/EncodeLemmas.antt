@@ -67,10 +67,13 @@ problem_for p r v q k = (
   },
 )
 
-pub same_candidates : (fresh : List ℕ) (texts : List (List (List ℕ))) (named : TheNames) → fresh ≡ named.fresh
-    → texts ≡ named.texts
-    → candidates_of named ≡ record { fresh = fresh; texts = λ d. slice_index_or texts d [] }
-same_candidates fresh texts named f t = λ i. record { fresh = sym f i; texts = λ d. slice_index_or (sym t i) d [] }
+pub same_candidates : (fresh : List ℕ) (first : List (List ℕ)) (texts : List (List (List ℕ))) (named : TheNames)
+    → fresh ≡ named.fresh → first ≡ named.first → texts ≡ named.texts
+    → candidates_of named ≡ record { first = λ d. slice_index_or first d fresh; texts = λ d. slice_index_or texts d [] }
+same_candidates fresh first texts named f g t = λ i. record {
+  first = λ d. slice_index_or (sym g i) d (sym f i);
+  texts = λ d. slice_index_or (sym t i) d [];
+}
 
 pub same_problem : (s : Schema) (q : Formula) (r : ℕ) (k l : Candidates) → k ≡ l
     → ◌≡◌ {A = Problem} (record { schema = s; question = q; root = r; candidates = k })

@@ -241,7 +241,7 @@ module _ (t : Task) (trail : Trail) (d : Decided) (k : IsTracked t trail d) (f :
           (sym (index_same f (suc c)) ∙ n.0 (sym (made.name_there t.graph t.root es ch name (suc c) h.0) ∙ h.1)))
 
   pub completes : Completes (knowledge t trail d) inst present place
-  completes = record { edges = edge_is; reaching = reach_is; names = name_is }
+  completes = record { edges = edge_is; reaching = reach_is; names = name_is; numbers = λ c op n. tt }
 
   known_truth : (c : ℕ) (q : Formula) → present c ≡ true → Tells (value_at (knowledge t trail d) c q) (HoldsAt t f c q)
   known_truth c q p = values_are_truths (knowledge t trail d) inst present place

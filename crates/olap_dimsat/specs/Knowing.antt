@@ -68,12 +68,13 @@ abbrev pub naming : Task → Trail → ℕ → List ℕ → Truth3
 naming t trail zero text = Unknown
 naming t trail (suc c) text = told_of_name t trail (suc c) (place_of text (slice_index_or t.named.texts (suc c) []))
 
--- what the trail tells of edges, of reaching and of names, with the decisions on edges
+-- what the trail tells of edges, of reaching and of names, with the decisions on edges; of numbers it tells nothing
 abbrev pub knowledge : Task → Trail → Decided → Knowledge
 knowledge t trail d = record {
   edge = λ a b. told_of_edge trail (edge_between t.graph a b);
   reaches = λ a b. both (both (presence t trail a) (presence t trail b)) (way t d a b);
   name = naming t trail;
+  number = λ c op n. Unknown;
 }
 
 -- ---- what follows

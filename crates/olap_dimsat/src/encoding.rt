@@ -100,6 +100,7 @@ pub(crate) fn encode(
         question,
         root,
         fresh: candidates.fresh(),
+        firsts: candidates.firsts(),
         constants: candidates.texts(),
     };
     let encoder = write_clauses(alloc, &problem)?;

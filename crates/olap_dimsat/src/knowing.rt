@@ -7,7 +7,7 @@ ghost use Rattle.olap_dimsat.specs.Knowing.{presence, told, told_of_name, truth_
 ghost use Rattle.olap_dimsat.specs.Tasks.{IsLaid, constant_count};
 
 use crate::asker::{Asker, Decisions};
-use olap_ast::Truth3;
+use olap_ast::{Op, Truth3};
 use olap_base::{CatId, Text};
 use olap_clauses::{Trail, Value};
 use olap_eval::Partial;
@@ -115,6 +115,10 @@ impl<'a> Partial for Known<'a> {
         if c.0 == 0 || c.0 >= self.asker.graph.categories() {
             return Truth3::Unknown;
         }
-        self.named(c, place(self.asker.candidates.constants(c), k))
+        self.named(c, place(self.asker.candidates.others(c), k))
+    }
+
+    fn number(&self, _c: CatId, _op: Op, _n: i64) -> Truth3 {
+        Truth3::Unknown
     }
 }

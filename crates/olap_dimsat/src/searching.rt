@@ -1,9 +1,9 @@
 // The search as a value: room for one task.
 ghost use Rattle.std.specs.Prelude.{◌≡◌, ◌<◌, ◌≤◌, All, Err, IfOk, IsTrue, false, length, map, slice_set};
-ghost use Rattle.olap_ast.specs.Constants.{all_equalities};
+ghost use Rattle.olap_ast.specs.Constants.{all_comparisons, all_equalities};
 ghost use Rattle.olap_ast.specs.Questions.{NoneFrozen};
 ghost use Rattle.olap_ast.specs.Trees.{constraint_of, formula_of};
-ghost use Rattle.olap_ast.specs.Valid.{IsFormulaAt, IsValidSchema, distinct_pairs};
+ghost use Rattle.olap_ast.specs.Valid.{IsFormulaAt, IsValidSchema, pair_count};
 ghost use Rattle.olap_base.specs.Graph.{IsCategory, category_count};
 ghost use Rattle.olap_base.specs.Limits.{most_constants};
 ghost use Rattle.olap_dimsat.specs.Listed.{AreAllFrozen, AreMoreThan};
@@ -108,13 +108,14 @@ impl Search {
         requires root { IsCategory graph.now root.0 }
         requires valid { IsValidSchema (with_graph graph.now (map constraint_of constraints.now)) }
         requires question { IsFormulaAt graph.now root.0 (formula_of question.now) }
-        requires few { length (distinct_pairs (all_equalities
-            (with_graph graph.now (map constraint_of constraints.now)) (formula_of question.now))) ≤ most_constants }
+        requires few { let schema = with_graph graph.now (map constraint_of constraints.now) in
+            pair_count (all_equalities schema (formula_of question.now))
+            (all_comparisons schema (formula_of question.now)) ≤ most_constants }
         ensures made { IfOk result (IsMadeWith (with_graph graph.now (map constraint_of constraints.now))
             (formula_of question.now)) }
         ensures root { IfOk result (λ search. root_of search ≡ root.0) }
     {
-        let candidates = Candidates::of(alloc, graph.categories(), constraints, question)?;
+        let candidates = Candidates::of(alloc, graph, constraints, question)?;
         let encoded = encode(alloc, graph, constraints, question, root, &candidates)?;
         let Ok(engine) = Engine::new(
             alloc,
@@ -153,8 +154,8 @@ impl Search {
     ) -> Result<Search, Memory>
         requires root { IsCategory (schema_of schema.now).graph root.0 }
         requires question { IsFormulaAt (schema_of schema.now).graph root.0 (formula_of question.now) }
-        requires few { length (distinct_pairs (all_equalities (schema_of schema.now) (formula_of question.now)))
-            ≤ most_constants }
+        requires few { pair_count (all_equalities (schema_of schema.now) (formula_of question.now))
+            (all_comparisons (schema_of schema.now) (formula_of question.now)) ≤ most_constants }
         ensures made { IfOk result (IsMadeWith (schema_of schema.now) (formula_of question.now)) }
         ensures root { IfOk result (λ search. root_of search ≡ root.0) }
     {

@@ -73,7 +73,7 @@ module _ (e : Encoding) (t : IsSound e) where
         (λ n. met_first v l [] ((b.exactly f v h).1 (unnamed f v h c p u a n (index_of f c) refl)));
   }
 
-  index_in_range : (f : Frozen) (v : Valuation) → Stands e f v → (c : ℕ) → c < categories_of e.problem
+  pub index_in_range : (f : Frozen) (v : Valuation) → Stands e f v → (c : ℕ) → c < categories_of e.problem
       → index_of f c ≤ length (e.problem.candidates.texts c)
   index_in_range f v h zero u = omega arith
   index_in_range f v h (suc c) u = h.frozen.in_range c (let z = h.frozen.name_count in omega arith)

@@ -66,7 +66,7 @@ pub record AreOrdered (ms : List Meaning) : Type 0 where
 -- ---- the valuation of a frozen dimension
 
 abbrev pub chosen_graph : List Edge → Graph
-chosen_graph es = record { names = []; edges = es }
+chosen_graph es = record { names = []; numbers = []; edges = es }
 
 -- whether the meaning holds
 abbrev pub truth_of : Schema → ℕ → Frozen → Valuation → Meaning → Bool

@@ -2,14 +2,14 @@
 use Rattle.std.proofs.Common.{◌≡◌, ◌+◌, ◌<◌, ◌∙◌, ◌∷◌, ◌++◌, ◌⊎◌, ◌↔◌, ◌&&◌, ◌||◌, ℕ, zero, suc, [], Bool, List, length, drop, get_or, not, ap, append_assoc, inl, inr, refl, sym, subst}
 use Rattle.std.specs.Prelude.{IsTrue}
 use Rattle.olap_base.specs.Instance.{Instance}
-use Rattle.olap_ast.specs.Formula.{Formula, Terms, Formula.Truth, Formula.Falsity, Formula.Path, Formula.Reach, Formula.Via, Formula.Equals, Formula.Not, Formula.And, Formula.Or, Formula.Implies, Formula.Iff, Formula.Xor, Formula.One, Terms.End, Terms.More, ExactlyOneHolds, HasPath, Holds, NoneHolds}
+use Rattle.olap_ast.specs.Formula.{Formula, Terms, Formula.Truth, Formula.Falsity, Formula.Path, Formula.Reach, Formula.Via, Formula.Equals, Formula.Compare, Formula.Not, Formula.And, Formula.Or, Formula.Implies, Formula.Iff, Formula.Xor, Formula.One, Terms.End, Terms.More, ExactlyOneHolds, HasPath, Holds, NoneHolds}
 use Rattle.olap_ast.specs.ThreeValues.{IsCount, iff, implies, unknown_count, value_of, value_of_both, value_of_counts, xor, yes_count}
 use Rattle.olap_ast.specs.declared.three_values.Truth3.{Truth3}
 use Rattle.olap_ast.specs.declared.three_values.Truth3.TheVariants.{No, Yes, Unknown}
 use Rattle.olap_base.specs.declared.ids.CatId.{CatId}
 use Rattle.olap_eval.specs.Partial.{Agrees, Completes, Knowledge, ValuesAreTruths, value_along, value_at, values_of}
 use Rattle.olap_eval.specs.Shapes.{IsShape, HasEdgeThere}
-use Rattle.olap_eval.proofs.ShapeLemmas.{named_is, nowhere, numbers, path_from, path_none, path_to, reach_is, rest_is, via_is}
+use Rattle.olap_eval.proofs.ShapeLemmas.{named_is, numbered_is, nowhere, numbers, path_from, path_none, path_to, reach_is, rest_is, via_is}
 
 -- ---- along a path
 
@@ -216,6 +216,9 @@ module _ (k : Knowledge) (i : Instance) (present : ℕ → Bool) (place : ℕ �
       value_agrees (Equals d text) = agrees_iff (value_of_both ◌&&◌ (k.reaches r d) (k.name d text))
           (named_is i present place s r p d text)
           (agrees_and _ _ (k.reaches r d) (k.name d text) (c.reaching r d) (c.names d text))
+      value_agrees (Compare d op n) = agrees_iff (value_of_both ◌&&◌ (k.reaches r d) (k.number d op n))
+          (numbered_is i present place s r p d op n)
+          (agrees_and _ _ (k.reaches r d) (k.number d op n) (c.reaching r d) (c.numbers d op n))
       value_agrees (Not f) = agrees_not _ (value_at k r f) (value_agrees f)
       value_agrees (And f g) = agrees_and _ _ (value_at k r f) (value_at k r g) (value_agrees f) (value_agrees g)
       value_agrees (Or f g) = agrees_or _ _ (value_at k r f) (value_at k r g) (value_agrees f) (value_agrees g)

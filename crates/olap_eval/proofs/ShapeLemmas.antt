@@ -1,15 +1,17 @@
 -- What a shape's answers say of the members.
-use Rattle.std.proofs.Common.{◌≡◌, ℕ, zero, suc, ◌+◌, ◌<◌, ◌≤◌, List, [], ◌∷◌, length, map, get_or, drop, Bool, true, false, refl, ap, sym, subst, ◌∙◌, ◌↔◌, arith, add-one, drop-cons}
+use Rattle.std.proofs.Common.{◌≡◌, ℕ, ℤ, zero, suc, ◌+◌, ◌<◌, ◌≤◌, List, [], ◌∷◌, length, map, get_or, drop, Bool, true, false, refl, ap, sym, subst, ◌∙◌, ◌↔◌, arith, add-one, drop-cons}
 use Rattle.std.specs.Prelude.{IsTrue}
 use Rattle.olap_base.specs.Chains.{IsChain}
 use Rattle.olap_base.specs.Instance.{Instance, IsBelow, Reaches, ReachesCategory, ReachesVia, category_of, name_of}
 use Rattle.olap_base.specs.Steps.{Steps.here, Steps.step, Steps-append, Steps-from_reaches, reaches_from_Steps}
-use Rattle.olap_ast.specs.Formula.{HasPath, Holds, ReachesNamed}
-use Rattle.olap_ast.specs.Trees.{formula_of}
+use Rattle.olap_ast.specs.Formula.{HasPath, Holds, IsNumbered, ReachesNamed, ReachesNumbered}
+use Rattle.olap_numerals.specs.Comparing.{Op}
+use Rattle.olap_ast.specs.Trees.{formula_of, op_of}
+use Rattle.olap_ast.specs.declared.formulas.Op as declared
 use Rattle.olap_ast.specs.declared.formulas.Formula.{Formula}
-use Rattle.olap_ast.specs.declared.formulas.Formula.TheVariants.{Reach, Via, Equals}
+use Rattle.olap_ast.specs.declared.formulas.Formula.TheVariants.{Reach, Via, Equals, Compare}
 use Rattle.olap_base.specs.declared.ids.CatId.{CatId}
-use Rattle.olap_eval.specs.Shapes.{IsShape, HasEdgeThere, ReachesThere, HasNameThere}
+use Rattle.olap_eval.specs.Shapes.{IsShape, HasEdgeThere, ReachesThere, HasNameThere, HasNumberThere}
 
 module _ (i : Instance) (present : ℕ → Bool) (place : ℕ → ℕ) (s : IsShape i present place) (root : ℕ)
     (p : IsTrue (present root)) where
@@ -43,6 +45,18 @@ module _ (i : Instance) (present : ℕ → Bool) (place : ℕ → ℕ) (s : IsSh
     λ r.
         let a = at d r.0 r.1.1 r.2 in
         ((p, a.0, subst (λ y. Reaches i (place root) y) (sym a.1) r.2), (a.0, ap (name_of i) a.1 ∙ r.3)),
+  )
+
+  pub numbered_is : (d : ℕ) (op : Op) (n : ℤ)
+      → (ReachesThere i present place root d × HasNumberThere i present place d op n)
+      ↔ ReachesNumbered i (place root) d op n
+  numbered_is d op n = (
+    λ t. (place d, s.members d t.0.1, t.0.2, t.1.1),
+    λ r.
+        let a = at d r.0 r.1.1 r.2 in (
+          (p, a.0, subst (λ y. Reaches i (place root) y) (sym a.1) r.2),
+          (a.0, subst (λ y. IsNumbered (name_of i y) op n) (sym a.1) r.3),
+        ),
   )
 
   -- ---- paths
@@ -172,3 +186,16 @@ module _ {i : Instance} {present : ℕ → Bool} {place : ℕ → ℕ} (s : IsSh
 
     pub named_stops : r ≡ false → IsTruth f r
     named_stops n = named r (iff_not_first r n a)
+
+  module _ {f : Formula} {d : CatId} {op : declared.Op} {n : ℤ} (r : Bool) (is : f ≡ Compare d op n)
+      (a : IsTrue r ↔ ReachesThere i present place root d.0) where
+    numbered : (b : Bool)
+        → IsTrue b ↔ (ReachesThere i present place root d.0 × HasNumberThere i present place d.0 (op_of op) n)
+        → IsTruth f b
+    numbered b t = subst (λ g. IsTruth g b) (sym is) (iff_trans t (numbered_is i present place s root p d.0 (op_of op) n))
+
+    pub numbered_truth : (q : Bool) → r ≡ true → IsTrue q ↔ HasNumberThere i present place d.0 (op_of op) n → IsTruth f q
+    numbered_truth q t b = numbered q (iff_both r q t a b)
+
+    pub numbered_stops : r ≡ false → IsTruth f r
+    numbered_stops m = numbered r (iff_not_first r m a)

@@ -3,7 +3,10 @@
 --     HasEdgeThere    both categories are present, and the first one's member is below the second's
 --     ReachesThere    both are present, and the first one's member reaches the second's
 --     HasNameThere    the category is present, and its member has the name
-use Rattle.std.specs.Prelude.{◌≡◌, ℕ, Bool, IsTrue, List}
+--     HasNumberThere  the category is present, and its member's number compares so
+use Rattle.std.specs.Prelude.{◌≡◌, ℕ, ℤ, Bool, IsTrue, List}
+use Rattle.olap_numerals.specs.Comparing.{Op}
+use Rattle.olap_ast.specs.Formula.{IsNumbered}
 use Rattle.olap_base.specs.Instance.{Instance, IsMemberOf, IsBelow, Reaches, category_of, name_of}
 
 -- each present category has the member at its place, and a member that is reached is that of its category
@@ -23,3 +26,7 @@ ReachesThere i present place c d = IsTrue (present c) × IsTrue (present d) × R
 -- the category is present, and its member has the name
 abbrev pub HasNameThere : Instance → (ℕ → Bool) → (ℕ → ℕ) → ℕ → List ℕ → Type 0
 HasNameThere i present place c text = IsTrue (present c) × (name_of i (place c) ≡ text)
+
+-- the category is present, and its member's number compares so
+abbrev pub HasNumberThere : Instance → (ℕ → Bool) → (ℕ → ℕ) → ℕ → Op → ℤ → Type 0
+HasNumberThere i present place c op n = IsTrue (present c) × IsNumbered (name_of i (place c)) op n

@@ -1,11 +1,11 @@
 // Partial shapes: what is known of edges, reaching and names, and a formula's value by it.
 ghost use Rattle.olap_ast.specs.ThreeValues.{IsCount};
-ghost use Rattle.olap_ast.specs.Trees.{formula_of, terms_of};
+ghost use Rattle.olap_ast.specs.Trees.{formula_of, op_of, terms_of};
 ghost use Rattle.olap_ast.specs.declared.three_values.Truth3.{Truth3 as Value};
 ghost use Rattle.olap_eval.specs.Partial.{Knowledge, ValuesAreTruths, value_along, value_at, values_of};
 ghost use Rattle.std.specs.Prelude.{◌++◌, ◌≡◌, List, map};
 
-use olap_ast::{Formula, OneCount, Terms, Truth3};
+use olap_ast::{Formula, OneCount, Op, Terms, Truth3};
 use olap_base::{CatId, Text};
 
 /// What is known of a shape.
@@ -23,6 +23,10 @@ pub trait Partial {
     /// Whether the category is present, and its member has this name.
     fn name(&self, c: CatId, k: &Text) -> Truth3
         ensures { result ≡ (known self.now).name c.0 k.now };
+
+    /// Whether the category is present, and its member's number compares so with this one.
+    fn number(&self, c: CatId, op: Op, n: i64) -> Truth3
+        ensures { result ≡ (known self.now).number c.0 (op_of op) n };
 }
 
 /// Whether edges lead from the root through these categories.
@@ -52,6 +56,7 @@ pub fn holds3<P: Partial>(f: &Formula, root: CatId, p: &P) -> Truth3
         Formula::Reach(d) => p.reaches(root, *d),
         Formula::Via(d, e) => p.reaches(root, *d).and(p.reaches(*d, *e)),
         Formula::Equals(d, text) => p.reaches(root, *d).and(p.name(*d, text)),
+        Formula::Compare(d, op, n) => p.reaches(root, *d).and(p.number(*d, *op, *n)),
         Formula::Not(g) => holds3(g, root, p).not(),
         Formula::And(g, h) => holds3(g, root, p).and(holds3(h, root, p)),
         Formula::Or(g, h) => holds3(g, root, p).or(holds3(h, root, p)),

@@ -38,6 +38,7 @@ pub fn holds<S: Shape>(f: &Formula, root: CatId, s: &S) -> bool
         Formula::Reach(d) => s.reaches(root, *d),
         Formula::Via(d, e) => s.reaches(root, *d) && s.reaches(*d, *e),
         Formula::Equals(d, text) => s.reaches(root, *d) && s.name_is(*d, text),
+        Formula::Compare(d, op, n) => s.reaches(root, *d) && s.number_is(*d, *op, *n),
         Formula::Not(g) => !holds(g, root, s),
         Formula::And(g, h) => holds(g, root, s) && holds(h, root, s),
         Formula::Or(g, h) => holds(g, root, s) || holds(h, root, s),

@@ -12,7 +12,7 @@ use Rattle.olap_base.specs.Limits.{most_listed_facts}
 use Rattle.olap_base.specs.Naming.{Fault, place_of}
 use Rattle.olap_base.specs.Views.{Fact}
 use Rattle.olap_records.specs.Faults.{field, first_fault}
-use Rattle.olap_records.specs.Numbers.{value_of}
+use Rattle.olap_numerals.specs.Values.{value_of}
 use Rattle.olap_facts.specs.declared.kinds.FactKind.{FactKind}
 use Rattle.olap_facts.specs.declared.kinds.FactKind.TheVariants as kind
 

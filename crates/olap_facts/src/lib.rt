@@ -14,5 +14,5 @@ mod tables;
 pub use kinds::{FactKind, FactRefusal};
 pub use laws::bottom_is_decided;
 pub use readers::FactReader;
-pub use reading::read_facts;
+pub use reading::{is_at_bottom, read_facts};
 pub use tables::{Fact, Facts};

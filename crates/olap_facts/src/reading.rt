@@ -15,7 +15,8 @@ use crate::{Fact, FactKind, FactRefusal, Facts};
 use olap_base::{List, MOST_LISTED_FACTS, MemberId, Memory};
 use olap_graph::Graph;
 use olap_instance::Instance;
-use olap_records::{Rows, value};
+use olap_numerals::value;
+use olap_records::Rows;
 use std::alloc::Global;
 
 /// Reads the first record, and says whether it is the header.
@@ -28,7 +29,7 @@ pub(crate) fn begins(rows: &mut Rows) -> Result<bool, Memory>
 }
 
 /// Whether a member is of a bottom category.
-fn is_at_bottom(graph: &Graph, instance: &Instance, m: MemberId) -> bool
+pub fn is_at_bottom(graph: &Graph, instance: &Instance, m: MemberId) -> bool
     requires made { IsMadeFor graph.now instance.now }
     requires member { m.0 < length instance.now }
     ensures value { result ≡ is_bottom graph.now (category_of instance.now m.0) }

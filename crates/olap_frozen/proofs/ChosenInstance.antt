@@ -1,22 +1,24 @@
 -- The instance that a choice of edges and names stands for, read on the chosen edges: its members are the present
 -- categories, `<` is the chosen edges, `<<` is a walk of them, and each law has its reading.
-use Rattle.std.proofs.Common.{◌≡◌, ℕ, suc, ◌-◌, ◌<◌, ◌≤◌, List, [], ◌∷◌, length, map, get_or, Bool, true, ◌||◌, refl, ap, sym, subst, ◌∙◌, ◌↔◌, ◌⊎◌, inl, inr, arith}
-use Rattle.std.specs.Prelude.{Contains, ◌==◌, AllPairs, ◌≢◌, filter, codes}
+use Rattle.std.proofs.Common.{◌≡◌, ℕ, suc, ◌-◌, ◌<◌, ◌≤◌, List, [], ◌∷◌, length, map, get_or, Bool, true, false, ◌||◌, refl, ap, sym, subst, ◌∙◌, ◌↔◌, ◌⊎◌, inl, inr, arith}
+use Rattle.std.specs.Prelude.{Contains, ◌==◌, AllPairs, ◌≢◌, filter, codes, IsSome, IsTrue}
 use Rattle.std.specs.List.{range_with_len, list_any}
 use Rattle.std.proofs.lemmas.List.{get_or-map, length-map}
 use Rattle.std.proofs.lemmas.List.Elements.{Contains-get_or, Contains-append_left, Contains-append_right}
 use Rattle.std.proofs.lemmas.Bool.{or_left, or_right}
 use native.Mathlib.Decide.{ℕ_discrete}
 use Rattle.olap_base.specs.Steps.{Steps, Steps.here, Steps.step, Climb, Climb.climb, Steps-from_reaches, reaches_from_Steps, Climb-from_leads, leads_from_Climb}
-use Rattle.olap_base.specs.Graph.{Graph, Edge, IsCategory, HasEdge}
+use Rattle.olap_base.specs.Graph.{Graph, Edge, IsCategory, HasEdge, is_number}
 use Rattle.olap_base.specs.Instance.{Instance, nobody, IsInstance, IsLawful, IsBelow, IsMember, IsMemberOf, Reaches, member_at, category_of, name_of, parents_of}
 use Rattle.olap_base.specs.Deciding.{below_is_member}
 use Rattle.olap_base.specs.Above.{place_in, HasOneMemberEach}
 use Rattle.olap_base.proofs.ListLemmas.{contains_head, Contains-map, Contains-from_map, Contains-filter, Contains-from_filter, Contains-from_range_at, Contains-range_at, place_in_is, Distinct, Distinct-range, Distinct-filter, Distinct-map, Distinct-places, AllPairs-from_Distinct, Distinct-from_AllPairs}
 use Rattle.olap_base.proofs.AboveLemmas.{place_in_injective}
 use Rattle.olap_ast.specs.Formula.{Formula, Holds}
+use Rattle.olap_numerals.specs.Numerals.{number_of}
+use Rattle.olap_numerals.proofs.NumeralLemmas.{numbers_read_back}
 use Rattle.olap_ast.specs.Schema.{Schema}
-use Rattle.olap_ast.specs.Constants.{IsConstant, IsFreshName}
+use Rattle.olap_ast.specs.Constants.{IsNameOf}
 use Rattle.olap_ast.specs.Frozen.{is_present, categories_in_order, present_categories, id_of, member_of, instance_of, IsFrozenInstance}
 use Rattle.olap_ast.proofs.Shape.{list_any_is, same_is, is_same, either_true, Distinct-push, same_edge, same_id, last_in}
 use Rattle.olap_eval.specs.Shapes.{IsShape}
@@ -351,6 +353,17 @@ module _ (g : Graph) (r : ℕ) (es : List Edge) (ch : IsChoice g r es) where
 
 -- ---- frozen dimensions
 
+-- `All` is no number category
+not_all : (g : Graph) (c : ℕ) → IsTrue (is_number g c) → c ≢ 0
+not_all g c b e = absurd (let z : IsTrue (is_number g 0) = subst (λ d. IsTrue (is_number g d)) e b in cc)
+
+-- a name of a number category is a numeral
+named_numeral : (b : Bool) (s : Schema) (q : Formula) (d : ℕ) (name : List ℕ) → IsNameOf b s q d name → IsTrue b
+    → IsSome (number_of name)
+named_numeral false s q d name n e = absurd (cc)
+named_numeral true s q d name n e =
+    subst (λ o. IsSome o) (sym (ap number_of n.2 ∙ numbers_read_back n.0 n.1.0)) refl
+
 module _ (s : Schema) (q : Formula) (r : ℕ) (es : List Edge) (ch : IsChoice s.graph r es) (name : ℕ → List ℕ) where
   pub frozen_from : AreNames s q r es name → IsSound r es → IsMet s q r es name
       → IsFrozenInstance s q r (instance_of s.graph r es name)
@@ -361,6 +374,11 @@ module _ (s : Schema) (q : Formula) (r : ℕ) (es : List Edge) (ch : IsChoice s.
       record {
         legal = record {
           is_instance = chosen_instance g r es ch name sound.top n.all;
+          numerals = λ y h b. let o = only_member g r es ch name (category_of i y) y (h, refl) in
+              named_numeral (is_number g (category_of i y)) s q (category_of i y) (name_of i y)
+              (subst (λ t. IsNameOf (is_number g (category_of i y)) s q (category_of i y) t)
+              (sym (name_there g r es ch name (category_of i y) o.0) ∙ ap (name_of i) o.1)
+              (n.known (category_of i y) o.0 (not_all g (category_of i y) b))) b;
           lawful = chosen_lawful g r es ch name sound;
           meets = λ k c x m. let o = only_member g r es ch name k.root x m in
               subst (λ y. Holds i y k.formula) o.1 (met.meets k c o.0);
@@ -373,7 +391,7 @@ module _ (s : Schema) (q : Formula) (r : ℕ) (es : List Edge) (ch : IsChoice s.
             ((reaches_walk g r es ch name r (category_of i y) (root_present g r es ch) o.0).1
             (sound.reached (category_of i y) o.0));
         named = λ y h e. let o = only_member g r es ch name (category_of i y) y (h, refl) in
-            subst (λ t. IsConstant s q (category_of i y) t ⊎ IsFreshName s q t)
+            subst (λ t. IsNameOf (is_number g (category_of i y)) s q (category_of i y) t)
             (sym (name_there g r es ch name (category_of i y) o.0) ∙ ap (name_of i) o.1)
             (n.known (category_of i y) o.0 e);
         true_at_root = met.question;

@@ -1,20 +1,25 @@
 -- What a leaf answers.
-use Rattle.std.proofs.Common.{◌≡◌, ℕ, zero, suc, ◌+◌, ◌≤◌, List, [], ◌∷◌, length, get_or, Bool, true, false, Some, None, refl, ap, sym, subst, ◌∙◌, ◌↔◌, ◌⊎◌, inl, inr, arith}
-use Rattle.std.specs.Prelude.{IsTrue, nat_lt, slice_index, ◌≢◌}
+use Rattle.std.proofs.Common.{◌≡◌, ℕ, ℤ, zero, suc, ◌+◌, ◌≤◌, List, [], ◌∷◌, length, get_or, Bool, true, false, Some, None, refl, ap, sym, subst, ◌∙◌, ◌↔◌, inl, inr, arith}
+use Rattle.std.specs.Prelude.{Contains, IsTrue, nat_lt, slice_index, ◌≢◌}
 use Rattle.std.specs.FinSet as set
 use Rattle.std.specs.Str.{bytes_eq}
 use Rattle.std.proofs.lemmas.Bool.{false_from_ne_true}
 use Rattle.std.proofs.lemmas.Bool.Decides.{nat_tests}
 use Rattle.std.proofs.lemmas.Slice.Eq.{bytes_eq-Decides}
 use Rattle.std.proofs.lemmas.List.Elements.{Contains-get_or}
-use Rattle.olap_base.specs.Graph.{Graph, Edge, IsCategory, IsHierarchy, category_count}
+use Rattle.olap_base.specs.Graph.{Graph, Edge, IsCategory, IsHierarchy, category_count, is_number}
 use Rattle.olap_base.specs.Steps.{Steps-append}
-use Rattle.olap_ast.specs.Formula.{Formula}
-use Rattle.olap_ast.specs.Schema.{Constraint}
-use Rattle.olap_ast.specs.Constants.{IsConstant, IsFreshName}
-use Rattle.olap_ast.specs.Frozen.{AreCandidates, Candidates, IsFrozen, chosen, is_present, name_in, text_of_index}
+use Rattle.olap_base.specs.Deciding.{contains_cons}
+use Rattle.olap_base.proofs.ListLemmas.{contains_head}
+use Rattle.olap_ast.specs.Formula.{Formula, IsNumbered}
+use Rattle.olap_numerals.specs.Comparing.{Compares, Op}
+use Rattle.olap_numerals.specs.Numerals.{number_of}
+use Rattle.olap_numerals.proofs.NameLemmas.{name_is_one}
+use Rattle.olap_ast.specs.Schema.{Constraint, Schema}
+use Rattle.olap_ast.specs.Constants.{IsNameOf, numbers}
+use Rattle.olap_ast.specs.Frozen.{AreCandidates, AreNamesOf, Candidates, IsFrozen, chosen, is_present, name_in, text_of_index}
 use Rattle.olap_bits.specs.declared.sets.CatSet.{CatSet}
-use Rattle.olap_eval.specs.Shapes.{HasEdgeThere, HasNameThere, IsShape, ReachesThere}
+use Rattle.olap_eval.specs.Shapes.{HasEdgeThere, HasNameThere, HasNumberThere, IsShape, ReachesThere}
 use Rattle.olap_graph.specs.Lookups.{edge_between}
 use Rattle.olap_names.specs.Names.{Named, candidates_of, name_at, with_graph}
 use Rattle.olap_frozen.specs.Chosen.{AreNames, IsChoice, IsMet, IsSound}
@@ -48,7 +53,7 @@ declared_length (x ∷ xs) n e = omega arith
 pub name_of_index : (k : Candidates) (bits : List Bool) (names : List ℕ) (c : ℕ)
     → name_at k c (slice_index names c) ≡ name_in k (chosen_of bits names) c
 name_of_index k bits names zero = refl
-name_of_index k bits names (suc c) = ap (text_of_index k.fresh (k.texts (suc c))) (sym (declared_at names c))
+name_of_index k bits names (suc c) = ap (text_of_index (k.first (suc c)) (k.texts (suc c))) (sym (declared_at names c))
 
 -- ---- a leaf's answers
 
@@ -110,12 +115,56 @@ module _ {W : ℕ} (g : Graph) (k : Named) (r : ℕ) (bits : List Bool) (names :
         λ t. i.1 (sym n ∙ t.1),
       )
 
+  pub number_there : (c : ℕ) (op : Op) (n : ℤ) (b : Bool) → leaf_present g r bits c ≡ true
+      → IsTrue b ↔ IsNumbered (name_at (candidates_of k) c (slice_index names c)) op n
+      → IsTrue b ↔ HasNumberThere (leaf_instance g k r bits names) (leaf_present g r bits) (leaf_place g r bits) c op n
+  number_there c op n b p i =
+      let e = made.name_there g r es ch name c p ∙ sym (name_of_index (candidates_of k) bits names c) in (
+        λ t. (p, subst (λ w. IsNumbered w op n) (sym e) (i.0 t)),
+        λ t. i.1 (subst (λ w. IsNumbered w op n) e t.1),
+      )
+
+-- the number that a text spells, compared
+pub numbered : (text : List ℕ) (op : Op) (n a : ℤ) (b : Bool) → number_of text ≡ Some a
+    → IsTrue b ↔ Compares op a n → IsTrue b ↔ IsNumbered text op n
+numbered text op n a b e t = (
+  λ h. (a, e, t.0 h),
+  λ h. t.1 (subst (λ w. Compares op w n) (the_same (sym h.1 ∙ e)) h.2),
+)
+  where
+    the_same : {x y : ℤ} → Some x ≡ Some y → x ≡ y
+    the_same e = cc
+
+-- a text that is no numeral has none
+pub not_numbered : (text : List ℕ) (op : Op) (n : ℤ) → number_of text ≡ None → IsTrue false ↔ IsNumbered text op n
+not_numbered text op n e = (λ h. absurd (cc), λ h. absurd (none (sym e ∙ h.1)))
+  where
+    none : {x : ℤ} → None ≡ Some x → ⊥
+    none e = cc
+
 -- an absent category has nothing
 pub absent_there : {A : Type 0} (b : Bool) → b ≡ false → (A → b ≡ true) → IsTrue false ↔ A
 absent_there {A} b f g = (λ e. absurd (cc), λ a. absurd (no b f (g a)))
   where
     no : (b : Bool) → b ≡ false → b ≡ true → ⊥
     no b f t = absurd (let z : false ≡ true = sym f ∙ t in cc)
+
+-- ---- the name of an index
+
+at_index : (first : List ℕ) (others : List (List ℕ)) (i : ℕ) → i ≤ length others
+    → Contains (first ∷ others) (text_of_index first others i)
+at_index first others zero h = contains_head first others
+at_index first others (suc i) h = contains_cons (get_or others i first) others first
+    (Contains-get_or others i first (omega arith))
+
+-- it is one of the names of the category
+pub name_of_kind : (b : Bool) (s : Schema) (q : Formula) (d : ℕ) (first : List ℕ) (others : List (List ℕ)) (i : ℕ)
+    → i ≤ length others → AreNamesOf b s q d first others → IsNameOf b s q d (text_of_index first others i)
+name_of_kind false s q d first others zero h a = inr a.0
+name_of_kind false s q d first others (suc i) h a = inl (a.1.sound (get_or others i first)
+    (Contains-get_or others i first (omega arith)))
+name_of_kind true s q d first others i h a = name_is_one (numbers s q d) first others a (text_of_index first others i)
+    (at_index first others i h)
 
 -- ---- the whole test
 
@@ -131,19 +180,12 @@ module _ (g : Graph) (cs : List Constraint) (q : Formula) (k : Named) (r : ℕ) 
   choice : IsChoice g r edges
   choice = choice_of g r bits hier root
 
-  known : (c : ℕ) → is_present r edges c ≡ true → c ≢ 0
-      → IsConstant (with_graph g cs) q c (named c) ⊎ IsFreshName (with_graph g cs) q (named c)
+  known : (c : ℕ) → is_present r edges c ≡ true → c ≢ 0 → IsNameOf (is_number g c) (with_graph g cs) q c (named c)
   known zero p n = absurd (n refl)
-  known (suc c) p n = go (slice_index (of_declared names) c)
+  known (suc c) p n = name_of_kind (is_number g (suc c)) (with_graph g cs) q (suc c) (get_or k.first (suc c) k.fresh)
+      (get_or k.texts (suc c) []) (slice_index (of_declared names) c)
       (subst (λ i. i ≤ length (get_or k.texts (suc c) [])) (sym (declared_at names c))
-      (sized.in_range (suc c) (made.present_category g r edges choice (suc c) p)))
-    where
-      go : (i : ℕ) → i ≤ length (get_or k.texts (suc c) [])
-          → IsConstant (with_graph g cs) q (suc c) (text_of_index k.fresh (get_or k.texts (suc c) []) i)
-          ⊎ IsFreshName (with_graph g cs) q (text_of_index k.fresh (get_or k.texts (suc c) []) i)
-      go zero h = inr ok.fresh
-      go (suc i) h = inl ((ok.texts c).sound (get_or (get_or k.texts (suc c) []) i k.fresh)
-          (Contains-get_or (get_or k.texts (suc c) []) i k.fresh (omega arith)))
+      (sized.in_range (suc c) (made.present_category g r edges choice (suc c) p))) (ok.names c)
 
   are_names : AreNames (with_graph g cs) q r edges named
   are_names = record { all = refl; known = known }

@@ -20,7 +20,7 @@ AreDrawn g bits k rows = AreJoined (JoinsBefore g bits k) rows
 
 -- the graph with these edges alone
 abbrev pub with_edges : Graph → List Edge → Graph
-with_edges g edges = record { names = g.names; edges = edges }
+with_edges g edges = record { names = g.names; numbers = g.numbers; edges = edges }
 
 -- each row has what its category reaches
 abbrev pub AreRows : {W : ℕ} → Graph → List Edge → List (CatSet W) → Type 0

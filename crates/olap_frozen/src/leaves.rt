@@ -8,11 +8,12 @@ ghost use Rattle.olap_base.specs.Graph.{IsCategory, IsHierarchy};
 ghost use Rattle.olap_eval.specs.Shapes.{IsShape};
 ghost use Rattle.olap_names.specs.Names.{candidates_of, with_graph};
 
-use olap_ast::{Constraint, Formula};
+use olap_ast::{Constraint, Formula, Op};
 use olap_base::{CatId, Text};
 use olap_eval::{Shape, holds};
 use olap_graph::{Categories, Graph, row_has};
 use olap_names::Candidates;
+use olap_numerals::number;
 
 /// A sound choice of edges with its names.
 #[derive(Clone, Copy)]
@@ -71,6 +72,17 @@ impl<'a> Shape for Leaf<'a> {
         }
         let index = self.names[usize::from(c.0)];
         self.candidates.name(c, index).bytes() == k.bytes()
+    }
+
+    fn number_is(&self, c: CatId, op: Op, n: i64) -> bool {
+        if !self.has(c) {
+            return false;
+        }
+        let index = self.names[usize::from(c.0)];
+        match number(self.candidates.name(c, index).bytes()) {
+            Some(a) => op.test(a, n),
+            None => false,
+        }
     }
 
     ghost shape = { λ s. s.is_shape };

@@ -21,7 +21,7 @@ use Rattle.olap_base.specs.Limits.{most_facts, most_generated}
 use Rattle.olap_base.specs.Naming.{place_of}
 use Rattle.olap_base.specs.Views.{Fact, IsFactTable}
 use Rattle.olap_records.specs.Faults.{field, first_fault}
-use Rattle.olap_records.specs.Numbers.{is_i64, value_of}
+use Rattle.olap_numerals.specs.Values.{is_i64, value_of}
 use Rattle.olap_records.specs.Records.{records_of}
 use Rattle.olap_records.specs.Texts.{text_of_rows}
 use Rattle.olap_records.proofs.FaultLemmas.{none-iff}

@@ -9,7 +9,7 @@ use Rattle.olap_ast.specs.Formula.{Formula.Iff, Formula.Implies, Formula.One, Fo
 use Rattle.olap_ast.specs.Schema.{Constraint, IsLegal, Meets}
 use Rattle.olap_base.specs.Limits.{most_generated}
 use Rattle.olap_generate.specs.Location.{city, country, province, region, state, store}
-use Rattle.olap_generate.proofs.Location.{in_canada, in_mexico, in_usa, lies_in, location_graph, location_schema, washington}
+use Rattle.olap_generate.proofs.Location.{in_canada, in_mexico, in_usa, lies_in, location_graph, location_schema, no_numbers, washington}
 use Rattle.olap_generate.proofs.Made.{canada, made, mexico, usa}
 use Rattle.olap_generate.proofs.OneParent.{IsUnder, named_once, path_is_up, path_up, under_below}
 use Rattle.olap_generate.proofs.Places.{length_made, at_canada, at_mexico, at_usa}
@@ -184,6 +184,7 @@ module _ (seed size : ℕ) where
   pub made_is_legal : size ≤ most_generated → IsLegal location_schema i
   made_is_legal few = record {
     is_instance = sound_instance seed size few;
+    numerals = λ x l b. absurd (no_numbers (category_of i x) b);
     lawful = made_is_lawful seed size;
     meets = λ c h. subst (Meets i) h.2 (met_at h.0 c h.1);
   }

@@ -2,10 +2,11 @@
 --     location_schema      the schema
 --     location_falls       each edge leads to a category of a lower rank
 --     bottom_is_store      the stores' category is the only bottom category
-use Rattle.std.proofs.Common.{◌≡◌, ◌==◌, ◌||◌, ◌<◌, ◌↔◌, ℕ, zero, suc, Bool, true, not, [], ◌∷◌, refl, sym, subst, arith, codes, nat_lt, slice_index_or}
+use Rattle.std.proofs.Common.{◌≡◌, ◌==◌, ◌||◌, ◌<◌, ◌↔◌, ℕ, zero, suc, Bool, true, false, not, [], ◌∷◌, refl, sym, subst, arith, codes, nat_lt, slice_index_or}
 use Rattle.std.specs.List.{list_all}
 use Rattle.std.proofs.lemmas.List.Sums.{AllPass-from_list_all}
-use Rattle.olap_base.specs.Graph.{Edge, Graph, HasEdge, IsBottom}
+use Rattle.std.specs.Prelude.{IsTrue, replicate}
+use Rattle.olap_base.specs.Graph.{Edge, Graph, HasEdge, IsBottom, is_number}
 use Rattle.olap_ast.specs.Formula.{Formula, Formula.Path, Formula.Equals, Formula.Implies, Formula.Iff, Formula.Or, Formula.Xor, Formula.One, Terms.End, Terms.More}
 use Rattle.olap_ast.specs.Schema.{Constraint, Schema}
 use Rattle.olap_generate.specs.Location.{city, country, province, region, state, store}
@@ -16,9 +17,21 @@ edge c d = record { child = c; parent = d }
 abbrev pub location_graph : Graph
 location_graph = record {
   names = codes "Store" ∷ codes "City" ∷ codes "State" ∷ codes "Province" ∷ codes "Region" ∷ codes "Country" ∷ [];
+  numbers = replicate 6 false;
   edges = edge store city ∷ edge city state ∷ edge city province ∷ edge city country ∷ edge state region
       ∷ edge state country ∷ edge province region ∷ edge region country ∷ edge country 0 ∷ [];
 }
+
+-- no category is one of numbers
+pub no_numbers : (c : ℕ) → IsTrue (is_number location_graph c) → ⊥
+no_numbers zero b = cc b
+no_numbers (suc zero) b = cc b
+no_numbers (suc (suc zero)) b = cc b
+no_numbers (suc (suc (suc zero))) b = cc b
+no_numbers (suc (suc (suc (suc zero)))) b = cc b
+no_numbers (suc (suc (suc (suc (suc zero))))) b = cc b
+no_numbers (suc (suc (suc (suc (suc (suc zero)))))) b = cc b
+no_numbers (suc (suc (suc (suc (suc (suc (suc c))))))) b = cc b
 
 -- a city of this name, and what lies in a country of this name
 abbrev pub washington : Formula

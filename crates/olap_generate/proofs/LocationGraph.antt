@@ -144,6 +144,7 @@ inside c d h =
 pub location_is_hierarchy : IsHierarchy location_graph
 location_is_hierarchy = record {
   names_differ = AllPairs-from_Distinct location_graph.names names_distinct;
+  kinds_known = refl;
   names = λ name h. subst IsDeclaredName h.2 (declared_at h.0 name h.1);
   categories = λ c d h. (inside c d h).0;
   edges_differ = AllPairs-from_Distinct location_graph.edges edges_distinct;

@@ -10,12 +10,13 @@ use Rattle.olap_ast.specs.Formula.{Equality}
 use Rattle.olap_grammar.specs.Brackets.{opens_over}
 use Rattle.olap_grammar.specs.CuttingMachine.{tokens_of}
 use Rattle.olap_grammar.specs.Machine.{the_formula}
-use Rattle.olap_grammar.specs.Words.{equality_of, id_of, pieces_of, plain_of}
-use Rattle.olap_schema.specs.Atoms.{atom_fault, is_connective, is_repeated, lacks_edge, stands_in, word_fault}
+use Rattle.olap_grammar.specs.Nodes.{nodes_behind}
+use Rattle.olap_grammar.specs.Words.{equality_of, id_of, is_number_token, pieces_of, plain_of}
+use Rattle.olap_schema.specs.Atoms.{atom_fault, is_no_atom, is_repeated, lacks_edge, stands_in, word_fault}
 use Rattle.olap_schema.specs.Judging.{Above, first_stuck, form_read, line_read, lines_on, nothing_above, Read, schema_read, statement_read, text_ended, whole}
 use Rattle.olap_schema.specs.Lines.{chomped, is_quiet, lines_of}
 use Rattle.olap_schema.specs.Statements.{statement_of}
-use Rattle.olap_schema.specs.Tokens.{is_long}
+use Rattle.olap_schema.specs.Tokens.{is_bad_number, is_long}
 use Rattle.olap_grammar.specs.declared.tokens.Token.TheVariants as token
 use Rattle.olap_generate.specs.Location.{city, country, location_lines, location_text}
 use Rattle.olap_generate.proofs.Location.{location_graph, location_schema}
@@ -58,11 +59,16 @@ versioned = value_or nothing_above
 abbrev said : ℕ → ℕ → ℕ → Above
 said c e k = record {
   version = versioned.version;
-  graph = record { names = take c location_graph.names; edges = take e location_graph.edges };
+  graph = record {
+    names = take c location_graph.names;
+    numbers = take c location_graph.numbers;
+    edges = take e location_graph.edges;
+  };
   category_lines = take c (2 ∷ 3 ∷ 4 ∷ 5 ∷ 6 ∷ 7 ∷ []);
   constraints = take k location_schema.constraints;
   nodes = slice_index nodes k;
   pairs = take (slice_index atom_counts k) atoms;
+  numbers = [];
 }
 
 -- what the first lines say
@@ -109,8 +115,8 @@ edge_lines =
 -- the constraints
 constraint_lines : Follow 16 (drop 16 location_lines)
 unfolding line_read is_utf8 chars encode is_quiet tokens_of statement_of
-    form_read the_formula plain_of equality_of pieces_of id_of opens_over is_long
-    atom_fault word_fault is_connective stands_in is_repeated lacks_edge
+    form_read the_formula plain_of equality_of pieces_of id_of opens_over nodes_behind is_long is_bad_number
+    is_number_token atom_fault word_fault is_no_atom stands_in is_repeated lacks_edge
 constraint_lines =
     both (simp (city_is, country_is)) (both (simp (city_is, state_is, province_is, country_is))
     (both (simp (city_is, country_is)) (both (simp (state_is, country_is))

@@ -88,7 +88,7 @@ module _ (seed size : ℕ) (few : size ≤ most_generated) (s : Schema) (read : 
 
     pub members_unbroken : (v : Violation) → IsFirstReport s i v → ⊥
     members_unbroken v r =
-        (legal_exactly s i legal.is_instance).0 legal r.violation r.is_first.is_one
+        (legal_exactly s i legal.is_instance legal.numerals).0 legal r.violation r.is_first.is_one
 
     pub members_made : IsMadeFor g i → (checked : Instance) → checked ≡ i → AreMadeMembers seed size s checked
     members_made made_for checked eq = subst (AreMadeMembers seed size s) (sym eq) (record {

@@ -6,14 +6,14 @@ use Rattle.std.specs.Prelude.{AllPairs, Contains}
 use Rattle.std.proofs.lemmas.List.{get_or_past}
 use Rattle.olap_base.proofs.ListLemmas.{Contains-nil}
 use Rattle.olap_base.specs.Deciding.{below_is_member, contains_cases}
-use Rattle.olap_base.specs.Instance.{IsInstance, IsMember, Member, member_at, nobody, parents_of}
+use Rattle.olap_base.specs.Instance.{IsInstance, IsMember, Member, member_at, nobody, parents_of, category_of}
 use Rattle.olap_base.specs.Limits.{most_generated, most_members}
 use Rattle.olap_instance.specs.Made.{IsMadeFor}
 use Rattle.olap_instance.specs.Members.{AllHasNoParents, HasShortNames, HasTexts, IsMemberId, all_member}
 use Rattle.olap_generate.specs.Location as location
 use Rattle.olap_generate.specs.Members.{city_name, groups, numbered, step}
 use Rattle.olap_generate.proofs.Ids.{numbered_id, numbered_place, place_told, told_by_number, worded_id}
-use Rattle.olap_generate.proofs.Location.{location_graph}
+use Rattle.olap_generate.proofs.Location.{location_graph, no_numbers}
 use Rattle.olap_generate.proofs.Made.{above_city, below, canada, canadian_regions, cities, made, mexican_regions, mexican_states, mexico, plain, provinces, states, top, usa}
 use Rattle.olap_generate.proofs.Places.{Place, Place.of_all, Place.of_canada, Place.of_canadian_region, Place.of_city, Place.of_mexican_region, Place.of_mexican_state, Place.of_mexico, Place.of_province, Place.of_state, Place.of_store, Place.of_usa, at_all, at_canada, at_canadian_region, at_city, at_mexican_region, at_mexican_state, at_mexico, at_province, at_state, at_store, at_usa, length_made, place}
 
@@ -211,4 +211,7 @@ module _ (seed size : ℕ) where
     few_members = let n = length_made seed size in omega arith
 
     pub made_for_location : IsMadeFor location_graph (made seed size)
-    made_for_location x l = (sound_member x l).category
+    made_for_location = record {
+      categories = λ x l. (sound_member x l).category;
+      numerals = λ x l b. absurd (no_numbers (category_of (made seed size) x) b);
+    }

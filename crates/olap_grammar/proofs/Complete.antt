@@ -1,5 +1,6 @@
 -- What is a formula is read, with its tree.
 use Rattle.std.proofs.Common.{◌≡◌, ◌≤◌, ◌<◌, ℕ, suc, List, [], ◌∷◌, ◌++◌, refl, arith, true, false, nat_le, ap, ◌∙◌, Some}
+use Rattle.olap_numerals.specs.Comparing.{Op}
 use Rattle.std.specs.List.{fold}
 use Rattle.olap_ast.specs.Formula as Meaning
 use Rattle.olap_ast.specs.Formula.{Formula, Terms}
@@ -7,8 +8,8 @@ use Rattle.olap_grammar.specs.declared.tokens.Token.{Token}
 use Rattle.olap_grammar.specs.declared.tokens.Token.TheVariants as token
 use Rattle.olap_grammar.specs.declared.tokens.Mark.TheVariants as mark
 use Rattle.olap_grammar.specs.declared.tokens.Joint.{Joint}
-use Rattle.olap_grammar.specs.Grammar.{Atoms, level, left_level, right_level, join, IsFormula, looser, joined, negated, bracketed, listed, plain, equal, IsList, none, some, IsItems, last, more}
-use Rattle.olap_grammar.specs.Machine.{trees, Frame, Negation, Left, Bracket, Listing, Part, State, Wants, WantsPart, Named, Has, settled, list_closed, after, step, alone, ended, formula_read}
+use Rattle.olap_grammar.specs.Grammar.{Atoms, level, left_level, right_level, join, comparing, digits_of, IsFormula, looser, joined, negated, bracketed, listed, plain, equal, compared, IsList, none, some, IsItems, last, more}
+use Rattle.olap_grammar.specs.Machine.{trees, Frame, Negation, Left, Bracket, Listing, Part, State, Wants, WantsPart, Named, Compared, Has, settled, list_closed, after, after_word, after_compared, has_atom, step, alone, ended, formula_read}
 use Rattle.olap_grammar.proofs.Levels.{row, apart}
 
 pub fold-append : {A B : Type 0} (f : B → A → B) (b : B) (xs ys : List A)
@@ -87,6 +88,33 @@ stands_named : (a : Atoms Formula) (n : ℕ) (w : List ℕ) (f : Formula) (s : L
     → Stands a n f s (Named w s)
 stands_named a n w f s e = record { joint = λ j l. rw e refl; close = rw e refl; comma = rw e refl; end = rw e refl }
 
+-- after a word a mark that compares is kept
+names_op : (a : Atoms Formula) (w : List ℕ) (op : Op) (s : List (Frame Formula))
+    → after_word trees a w s (token.Mark (comparing op)) ≡ Compared w op s
+names_op a w Op.Equal s = refl
+names_op a w Op.Less s = refl
+names_op a w Op.AtMost s = refl
+
+pub after_word_digits : (a : Atoms Formula) (w : List ℕ) (op : Op) (s : List (Frame Formula)) (v : List ℕ)
+    → after_compared a w op s (token.Word v) ≡ has_atom (a.compare w op v) s
+after_word_digits a w Op.Equal s v = refl
+after_word_digits a w Op.Less s v = refl
+after_word_digits a w Op.AtMost s v = refl
+
+pub after_signed_digits : (a : Atoms Formula) (w : List ℕ) (op : Op) (s : List (Frame Formula)) (v : List ℕ)
+    → after_compared a w op s (token.Signed v) ≡ has_atom (a.compare w op v) s
+after_signed_digits a w Op.Equal s v = refl
+after_signed_digits a w Op.Less s v = refl
+after_signed_digits a w Op.AtMost s v = refl
+
+-- behind it the digits of a number are compared with
+after_digits : (a : Atoms Formula) (w : List ℕ) (op : Op) (s : List (Frame Formula)) (t : Token) (v : List ℕ)
+    → digits_of t ≡ Some v → after_compared a w op s t ≡ has_atom (a.compare w op v) s
+after_digits a w op s (token.Word u) v e = let same : u ≡ v = cc in rw same (after_word_digits a w op s v)
+after_digits a w op s (token.Signed u) v e = let same : u ≡ v = cc in rw same (after_signed_digits a w op s v)
+after_digits a w op s (token.Quoted k) v e = absurd cc
+after_digits a w op s (token.Mark m) v e = absurd cc
+
 -- a formula at the head of a list is read as elsewhere
 starts : {a : Atoms Formula} {n : ℕ} {ts : List Token} {f : Formula} → IsFormula a n ts f → (s : List (Frame Formula))
     → fold (step trees a) (WantsPart s) ts ≡ fold (step trees a) (Wants (Listing ∷ s)) ts
@@ -100,6 +128,7 @@ starts (bracketed d) s = refl
 starts (listed d) s = refl
 starts (plain e) s = refl
 starts (equal e) s = refl
+starts (compared op t e p) s = refl
 
 -- a list is open, after its start or a comma
 abbrev pub IsOpenList : List (Frame Formula) → Type 0
@@ -161,6 +190,8 @@ mutual
       (stands_has a 7 (Meaning.Formula.One fs) s)
   reads {a = a} (plain {w = w} {f = f} e) s h = stands_named a 7 w f s e
   reads {a = a} (equal {w = w} {k = k} {f = f} e) s h = rw e (stands_has a 7 f s)
+  reads {a = a} (compared op t {w = w} {digits = v} {f = f} e p) s h =
+      rw (names_op a w op s, after_digits a w op s t v e, p) (stands_has a 7 f s)
 
   reads_list : {a : Atoms Formula} {ts : List Token} {fs : Terms} → IsList a ts fs → (s : List (Frame Formula))
       → step trees a (fold (step trees a) (WantsPart s) ts) (token.Mark mark.Close) ≡ Has (Meaning.Formula.One fs) s

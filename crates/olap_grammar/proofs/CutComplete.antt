@@ -1,82 +1,164 @@
 -- A line that can be cut is cut into its tokens.
-use Rattle.std.proofs.Common.{◌≡◌, ◌==◌, ℕ, true, false, List, [], ◌∷◌, ◌++◌, refl, Some, append_assoc, append-nil, ap, ◌∙◌}
+use Rattle.std.proofs.Common.{◌≡◌, ◌==◌, ℕ, Bool, true, false, arith, List, [], ◌∷◌, ◌++◌, refl, Some, append_assoc, append-nil, ap, ◌∙◌}
 use Rattle.std.specs.List.{fold}
-use Rattle.olap_grammar.specs.Cutting.{is_word_byte, AreWordBytes, EndsWord, mark_bytes, Spells, nothing, quote, backslash, other, IsCut, end, blank, tab, word, quoted, marked}
-use Rattle.olap_grammar.specs.CuttingMachine.{Between, InWord, InQuotes, cut_step, cut_ended, tokens_of}
+use Rattle.std.specs.Char.{is_ascii_digit}
+use Rattle.olap_grammar.specs.Cutting.{is_word_byte, AreWordBytes, EndsWord, mark_bytes, EndsDash, EndsLess, EndsMark, IsMarkIn, Spells, nothing, quote, backslash, other, IsCut, end, blank, tab, word, quoted, signed, marked}
+use Rattle.olap_grammar.specs.CuttingMachine.{Between, InWord, InQuotes, InSigned, Dash, Less, LessDash, cut_step, cut_ended, tokens_of}
 use Rattle.olap_grammar.specs.declared.tokens.Token.{Token}
 use Rattle.olap_grammar.specs.declared.tokens.Token.TheVariants as token
 use Rattle.olap_grammar.specs.declared.tokens.Mark.{Mark}
 use Rattle.olap_grammar.specs.declared.tokens.Mark.TheVariants as mark
 use Rattle.olap_grammar.specs.declared.tokens.Joint.TheVariants as joint
+use Rattle.olap_grammar.specs.declared.tokens.Version.{Version}
+use Rattle.olap_grammar.specs.declared.tokens.Version.TheVariants as version
 
-in_word : (ts : List Token) (w : List ℕ) (b : ℕ) → is_word_byte b ≡ true
-    → cut_step (InWord ts w) b ≡ InWord ts (w ++ b ∷ [])
-in_word ts w b h = rw h refl
+in_word : (v : Version) (ts : List Token) (w : List ℕ) (b : ℕ) → is_word_byte b ≡ true
+    → cut_step v (InWord ts w) b ≡ InWord ts (w ++ b ∷ [])
+in_word v ts w b h = rw h refl
 
-begins_word : (ts : List Token) (b : ℕ) → is_word_byte b ≡ true → cut_step (Between ts) b ≡ InWord ts (b ∷ [])
-begins_word ts b h = rw h refl
+in_signed : (v : Version) (ts : List Token) (w : List ℕ) (b : ℕ) → is_word_byte b ≡ true
+    → cut_step v (InSigned ts w) b ≡ InSigned ts (w ++ b ∷ [])
+in_signed v ts w b h = rw h refl
 
-in_quotes : (ts : List Token) (k : List ℕ) (b : ℕ) → b == 34 ≡ false → b == 92 ≡ false
-    → cut_step (InQuotes ts k) b ≡ InQuotes ts (k ++ b ∷ [])
-in_quotes ts k b p q = rw (p, q) refl
+begins_word : (v : Version) (ts : List Token) (b : ℕ) → is_word_byte b ≡ true
+    → cut_step v (Between ts) b ≡ InWord ts (b ∷ [])
+begins_word v ts b h = rw h refl
 
-word_goes_on : (ts : List Token) (w v bs : List ℕ) → AreWordBytes v
-    → fold cut_step (InWord ts w) (v ++ bs) ≡ fold cut_step (InWord ts (w ++ v)) bs
-word_goes_on ts w [] bs h = rw append-nil refl
-word_goes_on ts w (b ∷ v) bs h = let ih = word_goes_on ts (w ++ b ∷ []) v bs h.1 in
-    let e : (w ++ b ∷ []) ++ v ≡ w ++ b ∷ v = simp append_assoc in
-    ap (λ s. fold cut_step s (v ++ bs)) (in_word ts w b h.0) ∙ rw e at ih
+in_quotes : (v : Version) (ts : List Token) (k : List ℕ) (b : ℕ) → b == 34 ≡ false → b == 92 ≡ false
+    → cut_step v (InQuotes ts k) b ≡ InQuotes ts (k ++ b ∷ [])
+in_quotes v ts k b p q = rw (p, q) refl
 
-word_ends : (ts : List Token) (w bs : List ℕ) → EndsWord bs
-    → cut_ended (fold cut_step (InWord ts w) bs) ≡ cut_ended (fold cut_step (Between (ts ++ token.Word w ∷ [])) bs)
-word_ends ts w [] h = refl
-word_ends ts w (b ∷ bs) h = rw h refl
+word_goes_on : (v : Version) (ts : List Token) (w u bs : List ℕ) → AreWordBytes u
+    → fold (cut_step v) (InWord ts w) (u ++ bs) ≡ fold (cut_step v) (InWord ts (w ++ u)) bs
+word_goes_on v ts w [] bs h = rw append-nil refl
+word_goes_on v ts w (b ∷ u) bs h = let ih = word_goes_on v ts (w ++ b ∷ []) u bs h.1 in
+    let e : (w ++ b ∷ []) ++ u ≡ w ++ b ∷ u = simp append_assoc in
+    ap (λ s. fold (cut_step v) s (u ++ bs)) (in_word v ts w b h.0) ∙ rw e at ih
 
-quotes_end : {body k : List ℕ} → Spells body k → (ts : List Token) (start bs : List ℕ)
-    → fold cut_step (InQuotes ts start) (body ++ 34 ∷ bs) ≡ fold cut_step
-    (Between (ts ++ token.Quoted (start ++ k) ∷ [])) bs
-quotes_end nothing ts start bs = rw append-nil refl
-quotes_end (quote {k = k} d) ts start bs = let e : (start ++ 34 ∷ []) ++ k ≡ start ++ 34 ∷ k =
-    simp append_assoc in rw e at (quotes_end d ts (start ++ 34 ∷ []) bs)
-quotes_end (backslash {k = k} d) ts start bs = let e : (start ++ 92 ∷ []) ++ k ≡ start ++ 92 ∷ k =
-    simp append_assoc in rw e at (quotes_end d ts (start ++ 92 ∷ []) bs)
-quotes_end (other {b = b} {bs = body} {k = k} p q d) ts start bs = let e : (start ++ b ∷ []) ++ k ≡ start ++ b ∷ k =
-    simp append_assoc in ap (λ s. fold cut_step s (body ++ 34 ∷ bs)) (in_quotes ts start b p q)
-    ∙ rw e at (quotes_end d ts (start ++ b ∷ []) bs)
+word_ends : (v : Version) (ts : List Token) (w bs : List ℕ) → EndsWord bs
+    → cut_ended v (fold (cut_step v) (InWord ts w) bs)
+    ≡ cut_ended v (fold (cut_step v) (Between (ts ++ token.Word w ∷ [])) bs)
+word_ends v ts w [] h = refl
+word_ends v ts w (b ∷ bs) h = rw h refl
 
-cut_on : {line : List ℕ} {ts : List Token} → IsCut line ts → (done : List Token)
-    → cut_ended (fold cut_step (Between done) line) ≡ Some (done ++ ts)
+number_goes_on : (v : Version) (ts : List Token) (w u bs : List ℕ) → AreWordBytes u
+    → fold (cut_step v) (InSigned ts w) (u ++ bs) ≡ fold (cut_step v) (InSigned ts (w ++ u)) bs
+number_goes_on v ts w [] bs h = rw append-nil refl
+number_goes_on v ts w (b ∷ u) bs h = let ih = number_goes_on v ts (w ++ b ∷ []) u bs h.1 in
+    let e : (w ++ b ∷ []) ++ u ≡ w ++ b ∷ u = simp append_assoc in
+    ap (λ s. fold (cut_step v) s (u ++ bs)) (in_signed v ts w b h.0) ∙ rw e at ih
+
+number_ends : (v : Version) (ts : List Token) (w bs : List ℕ) → EndsWord bs
+    → cut_ended v (fold (cut_step v) (InSigned ts w) bs)
+    ≡ cut_ended v (fold (cut_step v) (Between (ts ++ token.Signed w ∷ [])) bs)
+number_ends v ts w [] h = refl
+number_ends v ts w (b ∷ bs) h = rw h refl
+
+-- a digit is no `>`
+digit_other : (d : ℕ) → is_ascii_digit d ≡ true → d == 62 ≡ false
+digit_other d h = grind arith
+
+-- a digit behind `-` begins a number
+begins_number : (ts : List Token) (d : ℕ) → is_ascii_digit d ≡ true
+    → cut_step version.Two (Dash ts) d ≡ InSigned ts (45 ∷ d ∷ [])
+begins_number ts d h = rw (digit_other d h, h) refl
+
+-- behind `<` and `-`, where no arrow ends, the rest is cut as behind a `-` after the mark `<`
+dash_on : (ts : List Token) (bs : List ℕ) → EndsDash bs
+    → cut_ended version.Two (fold (cut_step version.Two) (LessDash ts) bs)
+    ≡ cut_ended version.Two (fold (cut_step version.Two) (Dash (ts ++ token.Mark mark.Less ∷ [])) bs)
+dash_on ts [] h = refl
+dash_on ts (b ∷ bs) h = rw h refl
+
+-- behind `<`, where no longer mark goes on, the rest is cut as after the mark `<`
+less_on : (ts : List Token) (bs : List ℕ) → EndsLess bs
+    → cut_ended version.Two (fold (cut_step version.Two) (Less ts) bs)
+    ≡ cut_ended version.Two (fold (cut_step version.Two) (Between (ts ++ token.Mark mark.Less ∷ [])) bs)
+less_on ts [] h = refl
+less_on ts (b ∷ bs) h = go (b == 45) refl
+  where
+    go : (t : Bool) → b == 45 ≡ t
+        → cut_ended version.Two (fold (cut_step version.Two) (Less ts) (b ∷ bs))
+        ≡ cut_ended version.Two (fold (cut_step version.Two) (Between (ts ++ token.Mark mark.Less ∷ [])) (b ∷ bs))
+    go true e = let same : b ≡ 45 = grind (arith) in rw same (dash_on ts bs (h.1 e))
+    go false e = rw (e, h.0) refl
+
+quotes_end : {body k : List ℕ} → Spells body k → (v : Version) (ts : List Token) (start bs : List ℕ)
+    → fold (cut_step v) (InQuotes ts start) (body ++ 34 ∷ bs)
+    ≡ fold (cut_step v) (Between (ts ++ token.Quoted (start ++ k) ∷ [])) bs
+quotes_end nothing v ts start bs = rw append-nil refl
+quotes_end (quote {k = k} d) v ts start bs = let e : (start ++ 34 ∷ []) ++ k ≡ start ++ 34 ∷ k =
+    simp append_assoc in rw e at (quotes_end d v ts (start ++ 34 ∷ []) bs)
+quotes_end (backslash {k = k} d) v ts start bs = let e : (start ++ 92 ∷ []) ++ k ≡ start ++ 92 ∷ k =
+    simp append_assoc in rw e at (quotes_end d v ts (start ++ 92 ∷ []) bs)
+quotes_end (other {b = b} {bs = body} {k = k} p q d) v ts start bs = let e : (start ++ b ∷ []) ++ k ≡ start ++ b ∷ k =
+    simp append_assoc in ap (λ s. fold (cut_step v) s (body ++ 34 ∷ bs)) (in_quotes v ts start b p q)
+    ∙ rw e at (quotes_end d v ts (start ++ b ∷ []) bs)
+
+cut_on : {v : Version} {line : List ℕ} {ts : List Token} → IsCut v line ts → (done : List Token)
+    → cut_ended v (fold (cut_step v) (Between done) line) ≡ Some (done ++ ts)
 cut_on end done = rw append-nil refl
 cut_on (blank d) done = cut_on d done
 cut_on (tab d) done = cut_on d done
-cut_on (word b w {bs = bs} {ts = ts} h n d) done =
+cut_on {v = v} (word b w {bs = bs} {ts = ts} h n d) done =
     let e : (done ++ token.Word (b ∷ w) ∷ []) ++ ts ≡ done ++ token.Word (b ∷ w) ∷ ts = simp append_assoc in
-    ap (λ s. cut_ended (fold cut_step s (w ++ bs))) (begins_word done b h.0)
-    ∙ ap cut_ended (word_goes_on done (b ∷ []) w bs h.1) ∙ word_ends done (b ∷ w) bs n
+    ap (λ s. cut_ended v (fold (cut_step v) s (w ++ bs))) (begins_word v done b h.0)
+    ∙ ap (cut_ended v) (word_goes_on v done (b ∷ []) w bs h.1) ∙ word_ends v done (b ∷ w) bs n
     ∙ rw e at (cut_on d (done ++ token.Word (b ∷ w) ∷ []))
-cut_on (quoted {k = k} {bs = bs} {ts = ts} s d) done =
+cut_on {v = v} (quoted {k = k} {bs = bs} {ts = ts} s d) done =
     let e : (done ++ token.Quoted k ∷ []) ++ ts ≡ done ++ token.Quoted k ∷ ts = simp append_assoc in
-    rw (quotes_end s done [] bs) (rw e at (cut_on d (done ++ token.Quoted k ∷ [])))
-cut_on (marked m {bs = bs} {ts = ts} d) done =
-    let e : (done ++ token.Mark m ∷ []) ++ ts ≡ done ++ token.Mark m ∷ ts = simp append_assoc in
-    go m bs (rw e at (cut_on d (done ++ token.Mark m ∷ [])))
+    rw (quotes_end s v done [] bs) (rw e at (cut_on d (done ++ token.Quoted k ∷ [])))
+cut_on {v = v} (signed c w {bs = bs} {ts = ts} two digit h n d) done =
+    go v two (cut_on d (done ++ token.Signed (45 ∷ c ∷ w) ∷ []))
   where
-    go : (n : Mark) (bs : List ℕ)
-        → cut_ended (fold cut_step (Between (done ++ token.Mark n ∷ [])) bs) ≡ Some (done ++ token.Mark n ∷ ts)
-        → cut_ended (fold cut_step (Between done) (mark_bytes n ++ bs)) ≡ Some (done ++ token.Mark n ∷ ts)
-    go mark.Open bs h = h
-    go mark.Close bs h = h
-    go mark.Comma bs h = h
-    go mark.Colon bs h = h
-    go mark.Equal bs h = h
-    go mark.Not bs h = h
-    go (mark.Joint joint.Iff) bs h = h
-    go (mark.Joint joint.Implies) bs h = h
-    go (mark.Joint joint.Xor) bs h = h
-    go (mark.Joint joint.Or) bs h = h
-    go (mark.Joint joint.And) bs h = h
+    go : (v : Version) → v ≡ version.Two
+        → cut_ended v (fold (cut_step v) (Between (done ++ token.Signed (45 ∷ c ∷ w) ∷ [])) bs)
+        ≡ Some ((done ++ token.Signed (45 ∷ c ∷ w) ∷ []) ++ ts)
+        → cut_ended v (fold (cut_step v) (Between done) (45 ∷ c ∷ (w ++ bs)))
+        ≡ Some (done ++ token.Signed (45 ∷ c ∷ w) ∷ ts)
+    go version.One q ih = absurd (cc)
+    go version.Two q ih =
+        let e : (done ++ token.Signed (45 ∷ c ∷ w) ∷ []) ++ ts ≡ done ++ token.Signed (45 ∷ c ∷ w) ∷ ts =
+        simp append_assoc in
+        ap (λ s. cut_ended version.Two (fold (cut_step version.Two) s (w ++ bs))) (begins_number done c digit)
+        ∙ ap (cut_ended version.Two) (number_goes_on version.Two done (45 ∷ c ∷ []) w bs h)
+        ∙ number_ends version.Two done (45 ∷ c ∷ w) bs n ∙ rw e at ih
+cut_on {v = v} (marked m {bs = bs} {ts = ts} in' ends d) done =
+    let e : (done ++ token.Mark m ∷ []) ++ ts ≡ done ++ token.Mark m ∷ ts = simp append_assoc in
+    go v m bs in' ends (rw e at (cut_on d (done ++ token.Mark m ∷ [])))
+  where
+    less : (v : Version) (bs : List ℕ) → v ≡ version.Two → EndsLess bs
+        → cut_ended v (fold (cut_step v) (Between (done ++ token.Mark mark.Less ∷ [])) bs)
+        ≡ Some (done ++ token.Mark mark.Less ∷ ts)
+        → cut_ended v (fold (cut_step v) (Less done) bs) ≡ Some (done ++ token.Mark mark.Less ∷ ts)
+    less version.One bs q ends h = absurd (cc)
+    less version.Two bs q ends h = less_on done bs ends ∙ h
+
+    at_most : (v : Version) (bs : List ℕ) → v ≡ version.Two
+        → cut_ended v (fold (cut_step v) (Between (done ++ token.Mark mark.AtMost ∷ [])) bs)
+        ≡ Some (done ++ token.Mark mark.AtMost ∷ ts)
+        → cut_ended v (fold (cut_step v) (Less done) (61 ∷ bs)) ≡ Some (done ++ token.Mark mark.AtMost ∷ ts)
+    at_most version.One bs q h = absurd (cc)
+    at_most version.Two bs q h = h
+
+    go : (v : Version) (n : Mark) (bs : List ℕ) → IsMarkIn n v → EndsMark n bs
+        → cut_ended v (fold (cut_step v) (Between (done ++ token.Mark n ∷ [])) bs) ≡ Some (done ++ token.Mark n ∷ ts)
+        → cut_ended v (fold (cut_step v) (Between done) (mark_bytes n ++ bs)) ≡ Some (done ++ token.Mark n ∷ ts)
+    go v mark.Open bs in' ends h = h
+    go v mark.Close bs in' ends h = h
+    go v mark.Comma bs in' ends h = h
+    go v mark.Colon bs in' ends h = h
+    go v mark.Equal bs in' ends h = h
+    go v mark.Less bs in' ends h = less v bs in' ends h
+    go v mark.AtMost bs in' ends h = at_most v bs in' h
+    go v mark.Not bs in' ends h = h
+    go v (mark.Joint joint.Iff) bs in' ends h = h
+    go v (mark.Joint joint.Implies) bs in' ends h = h
+    go v (mark.Joint joint.Xor) bs in' ends h = h
+    go v (mark.Joint joint.Or) bs in' ends h = h
+    go v (mark.Joint joint.And) bs in' ends h = h
 
 -- a line that can be cut is cut into its tokens
-pub cut_is_found : (line : List ℕ) (ts : List Token) → IsCut line ts → tokens_of line ≡ Some ts
+pub cut_is_found : (v : Version) (line : List ℕ) (ts : List Token) → IsCut v line ts → tokens_of v line ≡ Some ts
 unfolding tokens_of
-cut_is_found line ts d = cut_on d []
+cut_is_found v line ts d = cut_on d []

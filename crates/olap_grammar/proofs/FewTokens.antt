@@ -1,20 +1,21 @@
 -- A formula that never opens too many brackets has few tokens for its nodes.
 --     few_tokens     no more than `most_tokens` of its nodes
-use Rattle.std.proofs.Common.{◌≡◌, ◌≤◌, ◌+◌, ◌*◌, ◌++◌, ◌∷◌, ◌∙◌, ℕ, zero, suc, Bool, true, false, cond, List, [], length, nat_lt, refl, sym, ap, subst, arith, append_assoc, append-nil}
-use Rattle.std.specs.Prelude.{count_by}
+use Rattle.std.proofs.Common.{◌≡◌, ◌≤◌, ◌+◌, ◌*◌, ◌++◌, ◌∷◌, ◌∙◌, ℕ, zero, suc, Bool, true, false, cond, List, [], length, nat_lt, Some, refl, sym, ap, subst, arith, append_assoc, append-nil}
 use Rattle.std.proofs.Math.Nat.{add-mul, mul-add}
 use Rattle.std.proofs.lemmas.Bool.{ltb-false}
 use Rattle.std.proofs.lemmas.List.{length-append}
-use Rattle.std.proofs.lemmas.List.Sums.{sum_by-append, sum_by-cons}
+use Rattle.olap_numerals.specs.Comparing.{Op}
 use Rattle.olap_ast.specs.Formula.{Formula, Terms}
 use Rattle.olap_base.specs.Limits.{most_depth}
 use Rattle.olap_grammar.specs.Brackets.{most_tokens, opens_over}
-use Rattle.olap_grammar.specs.Grammar.{Atoms, IsFormula, looser, joined, negated, bracketed, listed, plain, equal, IsList, none, some, IsItems, last, more}
-use Rattle.olap_grammar.specs.Nodes.{is_node}
+use Rattle.olap_grammar.specs.Grammar.{Atoms, comparing, digits_of, IsFormula, looser, joined, negated, bracketed, listed, plain, equal, compared, IsList, none, some, IsItems, last, more}
+use Rattle.olap_grammar.specs.Nodes.{compares, nodes_behind, nodes_of}
 use Rattle.olap_grammar.specs.declared.tokens.Joint.{Joint}
 use Rattle.olap_grammar.specs.declared.tokens.Token.{Token}
 use Rattle.olap_grammar.specs.declared.tokens.Token.TheVariants as token
 use Rattle.olap_grammar.specs.declared.tokens.Mark.TheVariants as mark
+use Rattle.olap_grammar.specs.declared.tokens.Version.{Version}
+use Rattle.olap_grammar.specs.declared.tokens.Version.TheVariants as version
 
 -- ---- products
 
@@ -70,16 +71,68 @@ more_fits room n m l k s h i =
     let f = with_comma room n in
     omega (arith, s, h, i, e, f)
 
--- ---- lists of tokens
+atom_fits : (room n : ℕ) → 1 ≤ n → 3 ≤ each room * n
+atom_fits room zero h = absurd (omega (arith, h))
+atom_fits room (suc n) h = let e = one_node (each room) n in omega (arith, e)
 
-abbrev nodes : List Token → ℕ
-nodes ts = count_by is_node ts
+-- ---- nodes
 
-nodes_of : (t : Token) (ts : List Token) → nodes (t ∷ ts) ≡ cond (is_node t) 1 0 + nodes ts
-nodes_of t ts = sum_by-cons (λ u. cond (is_node u) 1 0) t ts
+-- none of these marks compares, so what stands behind is counted by itself
+joint_node : (v : Version) (j : Joint) (us : List Token) → nodes_of v (token.Mark (mark.Joint j) ∷ us)
+    ≡ 1 + nodes_of v us
+unfolding nodes_behind
+joint_node version.One j us = refl
+joint_node version.Two j us = refl
 
-nodes_both : (ts us : List Token) → nodes (ts ++ us) ≡ nodes ts + nodes us
-nodes_both ts us = sum_by-append (λ u. cond (is_node u) 1 0) ts us
+not_node : (v : Version) (us : List Token) → nodes_of v (token.Mark mark.Not ∷ us) ≡ 1 + nodes_of v us
+unfolding nodes_behind
+not_node version.One us = refl
+not_node version.Two us = refl
+
+word_node : (v : Version) (w : List ℕ) (us : List Token) → nodes_of v (token.Word w ∷ us) ≡ 1 + nodes_of v us
+unfolding nodes_behind
+word_node version.One w us = refl
+word_node version.Two w us = refl
+
+open_none : (v : Version) (us : List Token) → nodes_of v (token.Mark mark.Open ∷ us) ≡ nodes_of v us
+unfolding nodes_behind
+open_none version.One us = omega arith
+open_none version.Two us = omega arith
+
+close_none : (v : Version) (us : List Token) → nodes_of v (token.Mark mark.Close ∷ us) ≡ nodes_of v us
+unfolding nodes_behind
+close_none version.One us = omega arith
+close_none version.Two us = omega arith
+
+comma_none : (v : Version) (us : List Token) → nodes_of v (token.Mark mark.Comma ∷ us) ≡ nodes_of v us
+unfolding nodes_behind
+comma_none version.One us = omega arith
+comma_none version.Two us = omega arith
+
+no_nodes : (v : Version) → nodes_of v [] ≡ 0
+unfolding nodes_behind
+no_nodes v = refl
+
+-- behind these tokens nodes are counted as by themselves
+abbrev Adds : Version → List Token → Type 0
+Adds v ts = (us : List Token) → nodes_of v (ts ++ us) ≡ nodes_of v ts + nodes_of v us
+
+-- what stands behind three tokens is counted by itself where the last doesn't compare
+three_add : (v : Version) (t u w : Token) → compares v w ≡ false → Adds v (t ∷ u ∷ w ∷ [])
+unfolding nodes_behind
+three_add v t u w e us = rw e (omega arith)
+
+quoted_ends : (v : Version) (k : List ℕ) → compares v (token.Quoted k) ≡ false
+quoted_ends version.One k = refl
+quoted_ends version.Two k = refl
+
+number_ends : (v : Version) (t : Token) (digits : List ℕ) → digits_of t ≡ Some digits → compares v t ≡ false
+number_ends version.One (token.Word w) digits e = refl
+number_ends version.Two (token.Word w) digits e = refl
+number_ends version.One (token.Signed w) digits e = refl
+number_ends version.Two (token.Signed w) digits e = refl
+number_ends v (token.Quoted k) digits e = absurd cc
+number_ends v (token.Mark m) digits e = absurd cc
 
 -- ---- brackets
 
@@ -137,183 +190,277 @@ equality_passes : (o c : ℕ) (w k : List ℕ) (rest : List Token)
 unfolding opens_over
 equality_passes o c w k rest h = h
 
+number_passes : (o c : ℕ) (op : Op) (t : Token) (w digits : List ℕ) (rest : List Token) → digits_of t ≡ Some digits
+    → opens_over o c (token.Word w ∷ token.Mark (comparing op) ∷ t ∷ rest) ≡ false → opens_over o c rest ≡ false
+unfolding opens_over
+number_passes o c Op.Equal (token.Word u) w digits rest e h = h
+number_passes o c Op.Equal (token.Signed u) w digits rest e h = h
+number_passes o c Op.Less (token.Word u) w digits rest e h = h
+number_passes o c Op.Less (token.Signed u) w digits rest e h = h
+number_passes o c Op.AtMost (token.Word u) w digits rest e h = h
+number_passes o c Op.AtMost (token.Signed u) w digits rest e h = h
+number_passes o c op (token.Quoted k) w digits rest e h = absurd cc
+number_passes o c op (token.Mark m) w digits rest e h = absurd cc
+
 -- ---- formulas
 
--- a formula has few tokens, and its brackets are closed behind it
-record Fits (room : ℕ) (ts rest : List Token) : Type 0 where
+-- a formula has few tokens, its brackets are closed behind it, and no mark that compares stands at its end
+record Fits (v : Version) (room : ℕ) (ts rest : List Token) : Type 0 where
   goes : Goes room rest
-  some : 1 ≤ nodes ts
-  few : length ts ≤ each room * nodes ts
+  adds : Adds v ts
+  some : 1 ≤ nodes_of v ts
+  few : length ts ≤ each room * nodes_of v ts
 
 -- so do parts of a list, with their commas
-record PartsFit (room : ℕ) (ts rest : List Token) : Type 0 where
+record PartsFit (v : Version) (room : ℕ) (ts rest : List Token) : Type 0 where
   goes : Goes room rest
-  few : length ts ≤ each_part room * nodes ts
+  adds : Adds v ts
+  few : length ts ≤ each_part room * nodes_of v ts
 
-fit_joined : (room : ℕ) (left right rest : List Token) (j : Joint)
-    → Fits room left (token.Mark (mark.Joint j) ∷ (right ++ rest))
-    → Fits room right rest → Fits room (left ++ token.Mark (mark.Joint j) ∷ right) rest
-fit_joined room left right rest j h i =
-    let n = nodes_both left (token.Mark (mark.Joint j) ∷ right) in
-    let m = nodes_of (token.Mark (mark.Joint j)) right in
+-- what stands behind a mark that is a node or none is counted by itself
+joined_adds : (v : Version) (j : Joint) (left right : List Token) → Adds v left → Adds v right
+    → Adds v (left ++ token.Mark (mark.Joint j) ∷ right)
+joined_adds v j left right p q us =
+    let e = ap (nodes_of v) (append_assoc left (token.Mark (mark.Joint j) ∷ right) us) in
+    let a = p (token.Mark (mark.Joint j) ∷ (right ++ us)) in
+    let b = joint_node v j (right ++ us) in
+    let c = p (token.Mark (mark.Joint j) ∷ right) in
+    let d = joint_node v j right in
+    let f = q us in
+    omega (arith, e, a, b, c, d, f)
+
+parted_adds : (v : Version) (ts us : List Token) → Adds v ts → Adds v us → Adds v (ts ++ token.Mark mark.Comma ∷ us)
+parted_adds v ts us p q vs =
+    let e = ap (nodes_of v) (append_assoc ts (token.Mark mark.Comma ∷ us) vs) in
+    let a = p (token.Mark mark.Comma ∷ (us ++ vs)) in
+    let b = comma_none v (us ++ vs) in
+    let c = p (token.Mark mark.Comma ∷ us) in
+    let d = comma_none v us in
+    let f = q vs in
+    omega (arith, e, a, b, c, d, f)
+
+-- the tokens in brackets, with the closing one
+record InBrackets (v : Version) (ts : List Token) : Type 0 where
+  nodes : nodes_of v (ts ++ token.Mark mark.Close ∷ []) ≡ nodes_of v ts
+  all : length (ts ++ token.Mark mark.Close ∷ []) ≡ length ts + 1
+  adds : Adds v (ts ++ token.Mark mark.Close ∷ [])
+
+in_brackets : (v : Version) (ts : List Token) → Adds v ts → InBrackets v ts
+in_brackets v ts p =
+    let n = p (token.Mark mark.Close ∷ []) in
+    let m = close_none v [] in
+    let z = no_nodes v in
+    let l = length-append ts (token.Mark mark.Close ∷ []) in
+    record {
+      nodes = omega (arith, n, m, z);
+      all = omega (arith, l);
+      adds = λ us.
+          let e = ap (nodes_of v) (append_assoc ts (token.Mark mark.Close ∷ []) us) in
+          let a = p (token.Mark mark.Close ∷ us) in
+          let b = close_none v us in
+          omega (arith, e, a, b, n, m, z);
+    }
+
+opened_adds : (v : Version) (ts : List Token) → Adds v ts → Adds v (token.Mark mark.Open ∷ ts)
+opened_adds v ts p us =
+    let a = open_none v (ts ++ us) in let b = open_none v ts in let c = p us in omega (arith, a, b, c)
+
+worded_adds : (v : Version) (w : List ℕ) (ts : List Token) → Adds v ts → Adds v (token.Word w ∷ ts)
+worded_adds v w ts p us =
+    let a = word_node v w (ts ++ us) in let b = word_node v w ts in let c = p us in omega (arith, a, b, c)
+
+negated_adds : (v : Version) (ts : List Token) → Adds v ts → Adds v (token.Mark mark.Not ∷ ts)
+negated_adds v ts p us =
+    let a = not_node v (ts ++ us) in let b = not_node v ts in let c = p us in omega (arith, a, b, c)
+
+fit_joined : (v : Version) (room : ℕ) (left right rest : List Token) (j : Joint)
+    → Fits v room left (token.Mark (mark.Joint j) ∷ (right ++ rest))
+    → Fits v room right rest → Fits v room (left ++ token.Mark (mark.Joint j) ∷ right) rest
+fit_joined v room left right rest j h i =
+    let n = h.adds (token.Mark (mark.Joint j) ∷ right) in
+    let m = joint_node v j right in
     let l = length-append left (token.Mark (mark.Joint j) ∷ right) in
     let s = h.some in
-    let same : nodes (left ++ token.Mark (mark.Joint j) ∷ right) ≡ nodes left + (1 + nodes right) =
+    let same : nodes_of v (left ++ token.Mark (mark.Joint j) ∷ right) ≡ nodes_of v left + (1 + nodes_of v right) =
     omega (arith, n, m) in
-    let b = joined_fits room (nodes left) (nodes right) (length left) (length right) h.few i.few in
+    let b = joined_fits room (nodes_of v left) (nodes_of v right) (length left) (length right) h.few i.few in
     record {
       goes = i.goes;
+      adds = joined_adds v j left right h.adds i.adds;
       some = omega (arith, same);
       few = subst (λ x. length (left ++ token.Mark (mark.Joint j) ∷ right) ≤ each room * x) (sym same)
           (omega (arith, l, b));
     }
 
-fit_negated : (room : ℕ) (ts rest : List Token) → Fits room ts rest → Fits room (token.Mark mark.Not ∷ ts) rest
-fit_negated room ts rest h =
-    let same = nodes_of (token.Mark mark.Not) ts in
-    let b = negated_fits room (nodes ts) (length ts) h.few in
+fit_negated : (v : Version) (room : ℕ) (ts rest : List Token) → Fits v room ts rest
+    → Fits v room (token.Mark mark.Not ∷ ts) rest
+fit_negated v room ts rest h =
+    let same = not_node v ts in
+    let b = negated_fits room (nodes_of v ts) (length ts) h.few in
     record {
       goes = h.goes;
+      adds = negated_adds v ts h.adds;
       some = omega (arith, same);
       few = subst (λ x. length (token.Mark mark.Not ∷ ts) ≤ each room * x) (sym same) (omega (arith, b));
     }
 
 -- a bound for what room and nodes are
-as_many : (room less : ℕ) (us : List Token) (n : ℕ) → room ≡ suc less → nodes us ≡ n
-    → length us ≤ each (suc less) * n → length us ≤ each room * nodes us
-as_many room less us n r e h =
+as_many : (v : Version) (room less : ℕ) (us : List Token) (n : ℕ) → room ≡ suc less → nodes_of v us ≡ n
+    → length us ≤ each (suc less) * n → length us ≤ each room * nodes_of v us
+as_many v room less us n r e h =
     subst (λ x. length us ≤ each room * x) (sym e) (subst (λ q. length us ≤ each q * n) (sym r) h)
 
--- the tokens in brackets, with the closing one
-in_brackets : (ts : List Token) → (nodes (ts ++ token.Mark mark.Close ∷ []) ≡ nodes ts)
-    × (length (ts ++ token.Mark mark.Close ∷ []) ≡ length ts + 1)
-in_brackets ts =
-    let n = nodes_both ts (token.Mark mark.Close ∷ []) in
-    let m = nodes_of (token.Mark mark.Close) [] in
-    let l = length-append ts (token.Mark mark.Close ∷ []) in
-    (omega (arith, n, m), omega (arith, l))
-
-fit_bracketed : (room less : ℕ) (ts rest : List Token) → room ≡ suc less → Goes room rest
-    → Fits less ts (token.Mark mark.Close ∷ rest)
-    → Fits room (token.Mark mark.Open ∷ (ts ++ token.Mark mark.Close ∷ [])) rest
-fit_bracketed room less ts rest r g h =
+fit_bracketed : (v : Version) (room less : ℕ) (ts rest : List Token) → room ≡ suc less → Goes room rest
+    → Fits v less ts (token.Mark mark.Close ∷ rest)
+    → Fits v room (token.Mark mark.Open ∷ (ts ++ token.Mark mark.Close ∷ [])) rest
+fit_bracketed v room less ts rest r g h =
     let us : List Token = token.Mark mark.Open ∷ (ts ++ token.Mark mark.Close ∷ []) in
-    let t = in_brackets ts in
-    let n = nodes_of (token.Mark mark.Open) (ts ++ token.Mark mark.Close ∷ []) in
-    let same : nodes us ≡ nodes ts = omega (arith, n, t.0) in
-    let b = bracketed_fits less (nodes ts) (length ts) h.some h.few in
+    let t = in_brackets v ts h.adds in
+    let n = open_none v (ts ++ token.Mark mark.Close ∷ []) in
+    let inner = t.nodes in
+    let all = t.all in
+    let same : nodes_of v us ≡ nodes_of v ts = omega (arith, n, inner) in
+    let b = bracketed_fits less (nodes_of v ts) (length ts) h.some h.few in
     let s = h.some in
-    let few : length us ≤ each (suc less) * nodes ts = omega (arith, t.1, b) in
-    record { goes = g; some = omega (arith, same, s); few = as_many room less us (nodes ts) r same few }
+    let few : length us ≤ each (suc less) * nodes_of v ts = omega (arith, all, b) in
+    record {
+      goes = g;
+      adds = opened_adds v (ts ++ token.Mark mark.Close ∷ []) t.adds;
+      some = omega (arith, same, s);
+      few = as_many v room less us (nodes_of v ts) r same few;
+    }
 
-fit_listed : (room less : ℕ) (w : List ℕ) (ts rest : List Token) → room ≡ suc less → Goes room rest
-    → PartsFit less ts (token.Mark mark.Close ∷ rest)
-    → Fits room (token.Word w ∷ token.Mark mark.Open ∷ (ts ++ token.Mark mark.Close ∷ [])) rest
-fit_listed room less w ts rest r g h =
+fit_listed : (v : Version) (room less : ℕ) (w : List ℕ) (ts rest : List Token) → room ≡ suc less → Goes room rest
+    → PartsFit v less ts (token.Mark mark.Close ∷ rest)
+    → Fits v room (token.Word w ∷ token.Mark mark.Open ∷ (ts ++ token.Mark mark.Close ∷ [])) rest
+fit_listed v room less w ts rest r g h =
     let vs : List Token = token.Mark mark.Open ∷ (ts ++ token.Mark mark.Close ∷ []) in
-    let t = in_brackets ts in
-    let n = nodes_of (token.Mark mark.Open) (ts ++ token.Mark mark.Close ∷ []) in
-    let m = nodes_of (token.Word w) vs in
-    let same : nodes (token.Word w ∷ vs) ≡ 1 + nodes ts = omega (arith, n, m, t.0) in
-    let b = listed_fits less (nodes ts) (length ts) h.few in
-    let few : length (token.Word w ∷ vs) ≡ 3 + length ts = omega (arith, t.1) in
-    let all : length (token.Word w ∷ vs) ≤ each (suc less) * (1 + nodes ts) = omega (arith, few, b) in
+    let t = in_brackets v ts h.adds in
+    let n = open_none v (ts ++ token.Mark mark.Close ∷ []) in
+    let m = word_node v w vs in
+    let inner = t.nodes in
+    let more = t.all in
+    let same : nodes_of v (token.Word w ∷ vs) ≡ 1 + nodes_of v ts = omega (arith, n, m, inner) in
+    let b = listed_fits less (nodes_of v ts) (length ts) h.few in
+    let few : length (token.Word w ∷ vs) ≡ 3 + length ts = omega (arith, more) in
+    let all : length (token.Word w ∷ vs) ≤ each (suc less) * (1 + nodes_of v ts) = omega (arith, few, b) in
     record {
       goes = g;
+      adds = worded_adds v w vs (opened_adds v (ts ++ token.Mark mark.Close ∷ []) t.adds);
       some = omega (arith, same);
-      few = as_many room less (token.Word w ∷ vs) (1 + nodes ts) r same all;
+      few = as_many v room less (token.Word w ∷ vs) (1 + nodes_of v ts) r same all;
     }
 
-fit_plain : (room : ℕ) (w : List ℕ) (rest : List Token) → Goes room rest → Fits room (token.Word w ∷ []) rest
-fit_plain room w rest g =
-    let same : nodes (token.Word w ∷ []) ≡ 1 = refl in
+fit_plain : (v : Version) (room : ℕ) (w : List ℕ) (rest : List Token) → Goes room rest
+    → Fits v room (token.Word w ∷ []) rest
+fit_plain v room w rest g =
+    let s = word_node v w [] in
+    let z = no_nodes v in
+    let one : 1 ≤ nodes_of v (token.Word w ∷ []) = omega (arith, s) in
+    let b = atom_fits room (nodes_of v (token.Word w ∷ [])) one in
     record {
       goes = g;
-      some = omega (arith, same);
-      few = subst (λ x. 1 ≤ each room * x) (sym same) (omega arith);
+      adds = λ us. let e = word_node v w us in omega (arith, e, s, z);
+      some = one;
+      few = omega (arith, b);
     }
 
-fit_equal : (room : ℕ) (w k : List ℕ) (rest : List Token) → Goes room rest
-    → Fits room (token.Word w ∷ token.Mark mark.Equal ∷ token.Quoted k ∷ []) rest
-fit_equal room w k rest g =
-    let same : nodes (token.Word w ∷ token.Mark mark.Equal ∷ token.Quoted k ∷ []) ≡ 1 = refl in
+-- a word with a mark that compares and what it is compared with
+fit_compared : (v : Version) (room : ℕ) (w : List ℕ) (t u : Token) (rest : List Token) → Goes room rest
+    → compares v u ≡ false → Fits v room (token.Word w ∷ t ∷ u ∷ []) rest
+fit_compared v room w t u rest g e =
+    let ts : List Token = token.Word w ∷ t ∷ u ∷ [] in
+    let s = word_node v w (t ∷ u ∷ []) in
+    let one : 1 ≤ nodes_of v ts = omega (arith, s) in
     record {
       goes = g;
-      some = omega (arith, same);
-      few = subst (λ x. 3 ≤ each room * x) (sym same) (omega arith);
+      adds = three_add v (token.Word w) t u e;
+      some = one;
+      few = atom_fits room (nodes_of v ts) one;
     }
 
-fit_last : (room : ℕ) (ts rest : List Token) → Fits room ts rest → PartsFit room ts rest
-fit_last room ts rest h = record { goes = h.goes; few = last_fits room (nodes ts) (length ts) h.few }
+fit_last : (v : Version) (room : ℕ) (ts rest : List Token) → Fits v room ts rest → PartsFit v room ts rest
+fit_last v room ts rest h =
+    record { goes = h.goes; adds = h.adds; few = last_fits room (nodes_of v ts) (length ts) h.few }
 
-fit_more : (room : ℕ) (ts us rest : List Token) → Fits room ts (token.Mark mark.Comma ∷ (us ++ rest))
-    → PartsFit room us rest
-    → PartsFit room (ts ++ token.Mark mark.Comma ∷ us) rest
-fit_more room ts us rest h i =
-    let n = nodes_both ts (token.Mark mark.Comma ∷ us) in
-    let m = nodes_of (token.Mark mark.Comma) us in
+fit_more : (v : Version) (room : ℕ) (ts us rest : List Token) → Fits v room ts (token.Mark mark.Comma ∷ (us ++ rest))
+    → PartsFit v room us rest
+    → PartsFit v room (ts ++ token.Mark mark.Comma ∷ us) rest
+fit_more v room ts us rest h i =
+    let n = h.adds (token.Mark mark.Comma ∷ us) in
+    let m = comma_none v us in
     let l = length-append ts (token.Mark mark.Comma ∷ us) in
-    let same : nodes (ts ++ token.Mark mark.Comma ∷ us) ≡ nodes ts + nodes us = omega (arith, n, m) in
-    let b = more_fits room (nodes ts) (nodes us) (length ts) (length us) h.some h.few i.few in
+    let same : nodes_of v (ts ++ token.Mark mark.Comma ∷ us) ≡ nodes_of v ts + nodes_of v us = omega (arith, n, m) in
+    let b = more_fits room (nodes_of v ts) (nodes_of v us) (length ts) (length us) h.some h.few i.few in
     record {
       goes = i.goes;
+      adds = parted_adds v ts us h.adds i.adds;
       few = subst (λ x. length (ts ++ token.Mark mark.Comma ∷ us) ≤ each_part room * x) (sym same)
           (omega (arith, l, b));
     }
 
 mutual
   fits : {a : Atoms Formula} {n : ℕ} {ts : List Token} {f : Formula} → IsFormula a n ts f
-      → (room o c : ℕ) (rest : List Token) → o + room ≡ c + most_depth → opens_over o c (ts ++ rest) ≡ false
-      → Fits room ts rest
-  fits (looser d) room o c rest e h = fits d room o c rest e h
-  fits (joined j {left = left} {right = right} p q) room o c rest e h =
+      → (v : Version) (room o c : ℕ) (rest : List Token) → o + room ≡ c + most_depth
+      → opens_over o c (ts ++ rest) ≡ false → Fits v room ts rest
+  fits (looser d) v room o c rest e h = fits d v room o c rest e h
+  fits (joined j {left = left} {right = right} p q) v room o c rest e h =
       let s : opens_over o c (left ++ token.Mark (mark.Joint j) ∷ (right ++ rest)) ≡ false =
       ap (opens_over o c) (sym (append_assoc left (token.Mark (mark.Joint j) ∷ right) rest)) ∙ h in
-      let one = fits p room o c (token.Mark (mark.Joint j) ∷ (right ++ rest)) e s in
+      let one = fits p v room o c (token.Mark (mark.Joint j) ∷ (right ++ rest)) e s in
       let g = one.goes in
-      let two = fits q room g.opened g.closed rest g.left (joint_passes g.opened g.closed j (right ++ rest) g.on) in
-      fit_joined room left right rest j one two
-  fits (negated {ts = ts} d) room o c rest e h =
-      fit_negated room ts rest (fits d room o c rest e (not_passes o c (ts ++ rest) h))
-  fits (bracketed {ts = ts} d) room o c rest e h =
+      let two = fits q v room g.opened g.closed rest g.left (joint_passes g.opened g.closed j (right ++ rest) g.on) in
+      fit_joined v room left right rest j one two
+  fits (negated {ts = ts} d) v room o c rest e h =
+      fit_negated v room ts rest (fits d v room o c rest e (not_passes o c (ts ++ rest) h))
+  fits (bracketed {ts = ts} d) v room o c rest e h =
       let t = opens room o c ((ts ++ token.Mark mark.Close ∷ []) ++ rest) e h in
       let s : opens_over (o + 1) c (ts ++ token.Mark mark.Close ∷ rest) ≡ false =
       ap (opens_over (o + 1) c) (sym (append_assoc ts (token.Mark mark.Close ∷ []) rest)) ∙ t.3 in
-      let inner = fits d t.0 (o + 1) c (token.Mark mark.Close ∷ rest) t.2 s in
+      let inner = fits d v t.0 (o + 1) c (token.Mark mark.Close ∷ rest) t.2 s in
       let g = inner.goes in
-      fit_bracketed room t.0 ts rest t.1 (closes room t.0 g.opened g.closed rest t.1 g.left g.on) inner
-  fits (listed {ts = ts} d) room o c rest e h =
+      fit_bracketed v room t.0 ts rest t.1 (closes room t.0 g.opened g.closed rest t.1 g.left g.on) inner
+  fits (listed {ts = ts} d) v room o c rest e h =
       let t = opens room o c ((ts ++ token.Mark mark.Close ∷ []) ++ rest) e (word_passes o c _ _ h) in
       let s : opens_over (o + 1) c (ts ++ token.Mark mark.Close ∷ rest) ≡ false =
       ap (opens_over (o + 1) c) (sym (append_assoc ts (token.Mark mark.Close ∷ []) rest)) ∙ t.3 in
-      let inner = list_fits d t.0 (o + 1) c (token.Mark mark.Close ∷ rest) t.2 s in
+      let inner = list_fits d v t.0 (o + 1) c (token.Mark mark.Close ∷ rest) t.2 s in
       let g = inner.goes in
-      fit_listed room t.0 _ ts rest t.1 (closes room t.0 g.opened g.closed rest t.1 g.left g.on) inner
-  fits (plain {w = w} k) room o c rest e h =
-      fit_plain room w rest (record { opened = o; closed = c; left = e; on = word_passes o c w rest h })
-  fits (equal {w = w} {k = k} v) room o c rest e h =
-      fit_equal room w k rest (record { opened = o; closed = c; left = e; on = equality_passes o c w k rest h })
+      fit_listed v room t.0 _ ts rest t.1 (closes room t.0 g.opened g.closed rest t.1 g.left g.on) inner
+  fits (plain {w = w} k) v room o c rest e h =
+      fit_plain v room w rest (record { opened = o; closed = c; left = e; on = word_passes o c w rest h })
+  fits (equal {w = w} {k = k} p) v room o c rest e h =
+      fit_compared v room w (token.Mark mark.Equal) (token.Quoted k) rest
+      (record { opened = o; closed = c; left = e; on = equality_passes o c w k rest h }) (quoted_ends v k)
+  fits (compared op t {w = w} {digits = digits} d p) v room o c rest e h =
+      fit_compared v room w (token.Mark (comparing op)) t rest
+      (record { opened = o; closed = c; left = e; on = number_passes o c op t w digits rest d h })
+      (number_ends v t digits d)
 
   list_fits : {a : Atoms Formula} {ts : List Token} {fs : Terms} → IsList a ts fs
-      → (room o c : ℕ) (rest : List Token) → o + room ≡ c + most_depth → opens_over o c (ts ++ rest) ≡ false
-      → PartsFit room ts rest
-  list_fits none room o c rest e h =
-      record { goes = record { opened = o; closed = c; left = e; on = h }; few = omega arith }
-  list_fits (some d) room o c rest e h = items_fit d room o c rest e h
+      → (v : Version) (room o c : ℕ) (rest : List Token) → o + room ≡ c + most_depth
+      → opens_over o c (ts ++ rest) ≡ false → PartsFit v room ts rest
+  list_fits none v room o c rest e h =
+      record {
+        goes = record { opened = o; closed = c; left = e; on = h };
+        adds = λ us. let z = no_nodes v in omega (arith, z);
+        few = omega arith;
+      }
+  list_fits (some d) v room o c rest e h = items_fit d v room o c rest e h
 
   items_fit : {a : Atoms Formula} {ts : List Token} {fs : Terms} → IsItems a ts fs
-      → (room o c : ℕ) (rest : List Token) → o + room ≡ c + most_depth → opens_over o c (ts ++ rest) ≡ false
-      → PartsFit room ts rest
-  items_fit (last {ts = ts} d) room o c rest e h = fit_last room ts rest (fits d room o c rest e h)
-  items_fit (more {ts = ts} {us = us} p q) room o c rest e h =
+      → (v : Version) (room o c : ℕ) (rest : List Token) → o + room ≡ c + most_depth
+      → opens_over o c (ts ++ rest) ≡ false → PartsFit v room ts rest
+  items_fit (last {ts = ts} d) v room o c rest e h = fit_last v room ts rest (fits d v room o c rest e h)
+  items_fit (more {ts = ts} {us = us} p q) v room o c rest e h =
       let s : opens_over o c (ts ++ token.Mark mark.Comma ∷ (us ++ rest)) ≡ false =
       ap (opens_over o c) (sym (append_assoc ts (token.Mark mark.Comma ∷ us) rest)) ∙ h in
-      let one = fits p room o c (token.Mark mark.Comma ∷ (us ++ rest)) e s in
+      let one = fits p v room o c (token.Mark mark.Comma ∷ (us ++ rest)) e s in
       let g = one.goes in
-      let two = items_fit q room g.opened g.closed rest g.left (comma_passes g.opened g.closed (us ++ rest) g.on) in
-      fit_more room ts us rest one two
+      let two = items_fit q v room g.opened g.closed rest g.left (comma_passes g.opened g.closed (us ++ rest) g.on) in
+      fit_more v room ts us rest one two
 
 -- no more than `most_tokens` of its nodes
-pub few_tokens : (a : Atoms Formula) (ts : List Token) (f : Formula) → IsFormula a 1 ts f → opens_over 0 0 ts ≡ false
-    → length ts ≤ most_tokens (count_by is_node ts)
-few_tokens a ts f d h = (fits d most_depth 0 0 [] refl (ap (opens_over 0 0) (append-nil ts) ∙ h)).few
+pub few_tokens : (v : Version) (a : Atoms Formula) (ts : List Token) (f : Formula) → IsFormula a 1 ts f
+    → opens_over 0 0 ts ≡ false → length ts ≤ most_tokens (nodes_of v ts)
+few_tokens v a ts f d h = (fits d v most_depth 0 0 [] refl (ap (opens_over 0 0) (append-nil ts) ∙ h)).few

@@ -5,6 +5,7 @@ use Rattle.std.specs.List.{fold}
 use Rattle.olap_ast.specs.Formula as Meaning
 use Rattle.olap_ast.specs.Formula.{Formula, Terms}
 use Rattle.olap_base.specs.Limits.{most_depth}
+use Rattle.olap_numerals.specs.Comparing.{Op}
 use Rattle.olap_grammar.specs.Grammar.{Atoms, level, left_level, join}
 use Rattle.olap_ast.specs.Valid.{depth_of, depth_of_terms}
 use Rattle.olap_grammar.specs.declared.tokens.Token.{Token}
@@ -12,7 +13,7 @@ use Rattle.olap_grammar.specs.declared.tokens.Token.TheVariants as token
 use Rattle.olap_grammar.specs.declared.tokens.Mark.TheVariants as mark
 use Rattle.olap_grammar.specs.declared.tokens.Joint.{Joint}
 use Rattle.olap_grammar.specs.declared.tokens.Joint.TheVariants as joint
-use Rattle.olap_grammar.specs.Machine.{the_formula, trees, Making, Frame, Negation, Left, Bracket, Listing, Part, State, Wants, WantsPart, Named, Compared, Has, Bad, settled, list_closed, closed, parted, after, begun, begun_part, is_one, after_atom, after_word, has_atom, after_equal, step, alone, ended, formula_read}
+use Rattle.olap_grammar.specs.Machine.{the_formula, trees, Making, Frame, Negation, Left, Bracket, Listing, Part, State, Wants, WantsPart, Named, Compared, Has, Bad, settled, list_closed, closed, parted, after, begun, begun_part, is_one, after_atom, after_word, has_atom, after_compared, step, alone, ended, formula_read}
 use Rattle.olap_grammar.specs.Clip.{AreLeaves, clip, clip_terms, clipped, kept, kept_terms, leaves}
 
 pub record Keeps {A B L M : Type 0} (m : Making A L) (n : Making B M) (h : A → B) (k : L → M) : Type 0 where
@@ -26,6 +27,7 @@ pub record Keeps {A B L M : Type 0} (m : Making A L) (n : Making B M) (h : A →
 pub record KeepsAtoms {A B : Type 0} (a : Atoms A) (b : Atoms B) (h : A → B) : Type 0 where
   pub plain : (w : List ℕ) → b.plain w ≡ option_map h (a.plain w)
   pub equal : (w t : List ℕ) → b.equal w t ≡ option_map h (a.equal w t)
+  pub compare : (w : List ℕ) (op : Op) (t : List ℕ) → b.compare w op t ≡ option_map h (a.compare w op t)
 
 abbrev frame : {A B : Type 0} → (A → B) → Frame A → Frame B
 frame h Negation = Negation
@@ -42,7 +44,7 @@ abbrev state : {A B : Type 0} → (A → B) → State A → State B
 state h (Wants s) = Wants (frames h s)
 state h (WantsPart s) = WantsPart (frames h s)
 state h (Named w s) = Named w (frames h s)
-state h (Compared w s) = Compared w (frames h s)
+state h (Compared w op s) = Compared w op (frames h s)
 state h (Has f s) = Has (h f) (frames h s)
 state h Bad = Bad
 
@@ -109,19 +111,25 @@ module _ {A B L M : Type 0} (m : Making A L) (n : Making B M) (h : A → B) (k :
       ∙ parts (settled m 1 f s)
   afters f s (token.Word w) = refl
   afters f s (token.Quoted t) = refl
+  afters f s (token.Signed w) = refl
   afters f s (token.Mark mark.Open) = refl
   afters f s (token.Mark mark.Colon) = refl
   afters f s (token.Mark mark.Equal) = refl
+  afters f s (token.Mark mark.Less) = refl
+  afters f s (token.Mark mark.AtMost) = refl
   afters f s (token.Mark mark.Not) = refl
 
   begins : (s : List (Frame A)) (t : Token) → begun (frames h s) t ≡ state h (begun s t)
   begins s (token.Word w) = refl
   begins s (token.Quoted t) = refl
+  begins s (token.Signed w) = refl
   begins s (token.Mark mark.Open) = refl
   begins s (token.Mark mark.Close) = refl
   begins s (token.Mark mark.Comma) = refl
   begins s (token.Mark mark.Colon) = refl
   begins s (token.Mark mark.Equal) = refl
+  begins s (token.Mark mark.Less) = refl
+  begins s (token.Mark mark.AtMost) = refl
   begins s (token.Mark mark.Not) = refl
   begins s (token.Mark (mark.Joint j)) = refl
 
@@ -129,10 +137,13 @@ module _ {A B L M : Type 0} (m : Making A L) (n : Making B M) (h : A → B) (k :
   begins_part s (token.Mark mark.Close) = ap (λ x. Has x (frames h s)) (ap n.one e.end ∙ e.one m.end)
   begins_part s (token.Word w) = refl
   begins_part s (token.Quoted t) = refl
+  begins_part s (token.Signed w) = refl
   begins_part s (token.Mark mark.Open) = refl
   begins_part s (token.Mark mark.Comma) = refl
   begins_part s (token.Mark mark.Colon) = refl
   begins_part s (token.Mark mark.Equal) = refl
+  begins_part s (token.Mark mark.Less) = refl
+  begins_part s (token.Mark mark.AtMost) = refl
   begins_part s (token.Mark mark.Not) = refl
   begins_part s (token.Mark (mark.Joint j)) = refl
 
@@ -153,6 +164,8 @@ module _ {A B L M : Type 0} (m : Making A L) (n : Making B M) (h : A → B) (k :
       → after_word n b w (frames h s) t ≡ state h (after_word m a w s t)
   words w s (token.Mark mark.Open) = lists (is_one w) s
   words w s (token.Mark mark.Equal) = refl
+  words w s (token.Mark mark.Less) = refl
+  words w s (token.Mark mark.AtMost) = refl
   words w s (token.Mark (mark.Joint j)) = word_atoms w s (token.Mark (mark.Joint j))
   words w s (token.Mark mark.Close) = word_atoms w s (token.Mark mark.Close)
   words w s (token.Mark mark.Comma) = word_atoms w s (token.Mark mark.Comma)
@@ -160,22 +173,36 @@ module _ {A B L M : Type 0} (m : Making A L) (n : Making B M) (h : A → B) (k :
   words w s (token.Mark mark.Not) = word_atoms w s (token.Mark mark.Not)
   words w s (token.Word v) = word_atoms w s (token.Word v)
   words w s (token.Quoted t) = word_atoms w s (token.Quoted t)
+  words w s (token.Signed v) = word_atoms w s (token.Signed v)
 
   has_atoms : (o : Option A) (s : List (Frame A)) → has_atom (option_map h o) (frames h s) ≡ state h (has_atom o s)
   has_atoms None s = refl
   has_atoms (Some f) s = refl
 
-  equals : (w : List ℕ) (s : List (Frame A)) (t : Token)
-      → after_equal b w (frames h s) t ≡ state h (after_equal a w s t)
-  equals w s (token.Quoted t) = ap (λ o. has_atom o (frames h s)) (u.equal w t) ∙ has_atoms (a.equal w t) s
-  equals w s (token.Word v) = refl
-  equals w s (token.Mark m) = refl
+  numbers : (w : List ℕ) (op : Op) (s : List (Frame A)) (v : List ℕ)
+      → has_atom (b.compare w op v) (frames h s) ≡ state h (has_atom (a.compare w op v) s)
+  numbers w op s v = ap (λ o. has_atom o (frames h s)) (u.compare w op v) ∙ has_atoms (a.compare w op v) s
+
+  compares : (w : List ℕ) (op : Op) (s : List (Frame A)) (t : Token)
+      → after_compared b w op (frames h s) t ≡ state h (after_compared a w op s t)
+  compares w Op.Equal s (token.Quoted t) = ap (λ o. has_atom o (frames h s)) (u.equal w t) ∙ has_atoms (a.equal w t) s
+  compares w Op.Equal s (token.Word v) = numbers w Op.Equal s v
+  compares w Op.Equal s (token.Signed v) = numbers w Op.Equal s v
+  compares w Op.Equal s (token.Mark m) = refl
+  compares w Op.Less s (token.Quoted t) = refl
+  compares w Op.Less s (token.Word v) = numbers w Op.Less s v
+  compares w Op.Less s (token.Signed v) = numbers w Op.Less s v
+  compares w Op.Less s (token.Mark m) = refl
+  compares w Op.AtMost s (token.Quoted t) = refl
+  compares w Op.AtMost s (token.Word v) = numbers w Op.AtMost s v
+  compares w Op.AtMost s (token.Signed v) = numbers w Op.AtMost s v
+  compares w Op.AtMost s (token.Mark m) = refl
 
   steps : (st : State A) (t : Token) → step n b (state h st) t ≡ state h (step m a st t)
   steps (Wants s) t = begins s t
   steps (WantsPart s) t = begins_part s t
   steps (Named w s) t = words w s t
-  steps (Compared w s) t = equals w s t
+  steps (Compared w op s) t = compares w op s t
   steps (Has f s) t = afters f s t
   steps Bad t = refl
 
@@ -202,7 +229,7 @@ module _ {A B L M : Type 0} (m : Making A L) (n : Making B M) (h : A → B) (k :
       ∙ ends_atom (a.plain w) s
   ends (Wants s) = refl
   ends (WantsPart s) = refl
-  ends (Compared w s) = refl
+  ends (Compared w op s) = refl
   ends Bad = refl
 
   -- what keeps the operations keeps what is read
@@ -305,7 +332,11 @@ leaf None h = refl
 leaf (Some f) h = rw (h f refl) refl
 
 leaves_keep : (a : Atoms Formula) → AreLeaves a → KeepsAtoms a (leaves a) clip
-leaves_keep a h = record { plain = λ w. leaf (a.plain w) (h.plain w); equal = λ w k. leaf (a.equal w k) (h.equal w k) }
+leaves_keep a h = record {
+  plain = λ w. leaf (a.plain w) (h.plain w);
+  equal = λ w k. leaf (a.equal w k) (h.equal w k);
+  compare = λ w op digits. leaf (a.compare w op digits) (h.compare w op digits);
+}
 
 -- the reader that builds no deeper tree reads what the reader reads
 pub reads_clipped : (a : Atoms Formula) (ts : List Token) → AreLeaves a

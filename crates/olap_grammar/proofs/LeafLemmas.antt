@@ -1,11 +1,12 @@
 -- Atoms have depth 1, and what the reader built says what it read.
 use Rattle.std.proofs.Common.{◌≡◌, ◌≤◌, ◌<◌, ℕ, suc, Bool, true, false, cond, List, refl, sym, ap, ◌∙◌, Option, Some, None, Ok, Err, nat_le, nat_lt, length, not, drop, map, codes, arith}
-use Rattle.std.specs.Prelude.{◌==◌, slice_index_or, []}
+use Rattle.std.specs.Prelude.{◌==◌, ℤ, slice_index_or, []}
 use Rattle.std.specs.List.{list_all}
 use Rattle.std.specs.Str.{bytes_eq}
 use Rattle.std.specs.Option.{option_map}
 use Rattle.olap_base.specs.Reaching.{is_category_name}
 use Rattle.olap_base.specs.Graph.{Graph}
+use Rattle.olap_numerals.specs.Comparing.{Op}
 use Rattle.olap_ast.specs.Formula as Meaning
 use Rattle.olap_ast.specs.Formula.{Formula}
 use Rattle.olap_ast.specs.Valid.{depth_of}
@@ -14,8 +15,10 @@ use Rattle.olap_grammar.specs.Answering.{IsRefusal, formula_answer}
 use Rattle.olap_grammar.specs.Clip.{AreLeaves, clip}
 use Rattle.olap_grammar.specs.Reader.{Built, Ends}
 use Rattle.olap_grammar.specs.declared.refusals.FormRefusal.{FormRefusal}
-use Rattle.olap_grammar.specs.Words.{atoms_of, equal_of, equality_of, id_of, path_of, pieces_of, plain_of, reach_of}
+use Rattle.olap_grammar.specs.Words.{atoms_of, compared_of, comparison_in, comparison_of, equal_of, equality_of, id_of, is_number_token, path_of, pieces_of, plain_of, reach_of}
 use Rattle.olap_grammar.specs.declared.refusals.FormRefusal.TheVariants as refusal
+use Rattle.olap_grammar.specs.declared.tokens.Version.{Version}
+use Rattle.olap_grammar.specs.declared.tokens.Version.TheVariants as version
 
 abbrev IsLeaf : Option Formula → Type 0
 IsLeaf o = (f : Formula) → o ≡ Some f → depth_of f ≡ 1
@@ -60,8 +63,26 @@ equality_leaf : (g : Graph) (w k : List ℕ) → IsLeaf (equality_of g w k)
 unfolding equality_of
 equality_leaf g w k = equal_leaf g k (pieces_of 46 w)
 
-pub atoms_are_leaves : (g : Graph) → AreLeaves (atoms_of g)
-atoms_are_leaves g = record { plain = λ w f e. plain_leaf g w f e; equal = λ w k f e. equality_leaf g w k f e }
+compared_leaf : (g : Graph) (op : Op) (n : ℤ) (parts : List (List ℕ)) → IsLeaf (compared_of g op n parts)
+compared_leaf g op n parts =
+    pick (not (list_all is_category_name parts)) _ _ no_leaf
+    (pick (length parts == 1) _ _ (one_leaf (Meaning.Formula.Compare (id_of g (slice_index_or parts 0 [])) op n) refl)
+    (pick (length parts == 2) _ _ (one_leaf (Meaning.Formula.Compare (id_of g (slice_index_or parts 1 [])) op n) refl)
+    no_leaf))
+
+comparison_leaf : (v : Version) (g : Graph) (w : List ℕ) (op : Op) (digits : List ℕ)
+    → IsLeaf (comparison_in v g w op digits)
+unfolding comparison_of
+comparison_leaf version.One g w op digits = no_leaf
+comparison_leaf version.Two g w op digits =
+    pick (is_number_token digits) _ _ (compared_leaf g op _ (pieces_of 46 w)) no_leaf
+
+pub atoms_are_leaves : (v : Version) (g : Graph) → AreLeaves (atoms_of v g)
+atoms_are_leaves v g = record {
+  plain = λ w f e. plain_leaf g w f e;
+  equal = λ w k f e. equality_leaf g w k f e;
+  compare = λ w op digits f e. comparison_leaf v g w op digits f e;
+}
 
 -- ---- what was built
 

@@ -2,6 +2,7 @@
 use Rattle.std.proofs.Common.{◌≡◌, ◌≤◌, ◌<◌, ◌+◌, ℕ, suc, zero, ◌-◌, lit≤, append-nil, Bool, List, [], ◌∷◌, ◌++◌, refl, arith, true, false, cond, nat_le, sym, ◌∙◌, Option, Some, None, codes, append_assoc, option_and_then}
 use Rattle.std.proofs.lemmas.Slice.Eq.{bytes_eq-Decides}
 use Rattle.std.specs.List.{fold}
+use Rattle.olap_numerals.specs.Comparing.{Op}
 use Rattle.olap_ast.specs.Formula as Meaning
 use Rattle.olap_ast.specs.Formula.{Formula, Terms}
 use Rattle.olap_grammar.specs.declared.tokens.Token.{Token}
@@ -9,10 +10,10 @@ use Rattle.olap_grammar.specs.declared.tokens.Token.TheVariants as token
 use Rattle.olap_grammar.specs.declared.tokens.Mark.TheVariants as mark
 use Rattle.olap_grammar.specs.declared.tokens.Joint.{Joint}
 use Rattle.olap_grammar.specs.declared.tokens.Joint.TheVariants as joint
-use Rattle.olap_grammar.specs.Grammar.{Atoms, level, left_level, right_level, join, IsFormula, looser, joined, negated, bracketed, listed, plain, equal, none, some, IsItems, last, more}
-use Rattle.olap_grammar.specs.Machine.{trees, Frame, Negation, Left, Bracket, Listing, Part, State, Wants, WantsPart, Named, Compared, Has, Bad, settled, list_closed, closed, parted, after, after_atom, after_word, has_atom, begun, begun_part, is_one, step, alone, ended, formula_read}
+use Rattle.olap_grammar.specs.Grammar.{Atoms, level, left_level, right_level, join, comparing, digits_of, IsFormula, looser, joined, negated, bracketed, listed, plain, equal, compared, none, some, IsItems, last, more}
+use Rattle.olap_grammar.specs.Machine.{trees, Frame, Negation, Left, Bracket, Listing, Part, State, Wants, WantsPart, Named, Compared, Has, Bad, settled, list_closed, closed, parted, after, after_atom, after_word, after_compared, has_atom, begun, begun_part, is_one, step, alone, ended, formula_read}
 use Rattle.olap_grammar.proofs.Levels.{row}
-use Rattle.olap_grammar.proofs.Complete.{Admits, admits_more}
+use Rattle.olap_grammar.proofs.Complete.{Admits, admits_more, after_signed_digits, after_word_digits}
 
 -- a formula of a tighter level is one of a looser level
 down : {a : Atoms Formula} {ts : List Token} {f : Formula} (k n : ℕ) → IsFormula a (k + n) ts f → IsFormula a n ts f
@@ -49,7 +50,7 @@ abbrev pub Tells : Atoms Formula → State Formula → List Token → Type 0
 Tells a (Wants s) b = Opened a s b
 Tells a (WantsPart s) b = Opened a (Listing ∷ s) b
 Tells a (Named w s) b = (c : List Token) × (b ≡ c ++ token.Word w ∷ []) × Opened a s c
-Tells a (Compared w s) b = (c : List Token) × (b ≡ c ++ token.Word w ∷ token.Mark mark.Equal ∷ []) × Opened a s c
+Tells a (Compared w op s) b = (c : List Token) × (b ≡ c ++ token.Word w ∷ token.Mark (comparing op) ∷ []) × Opened a s c
 Tells a (Has f s) b = Reached a 7 f s b
 Tells a Bad b = Unit {0}
 
@@ -226,9 +227,12 @@ after_tells a f s (token.Mark mark.Comma) b r = parted_tells a (settled trees 1 
     (settles a 1 7 f s b (lit≤ tt) (lit≤ tt) (admits_more 6 7 s (lit≤ tt) (admits_six s)) r)
 after_tells a f s (token.Word w) b r = tt
 after_tells a f s (token.Quoted k) b r = tt
+after_tells a f s (token.Signed w) b r = tt
 after_tells a f s (token.Mark mark.Open) b r = tt
 after_tells a f s (token.Mark mark.Colon) b r = tt
 after_tells a f s (token.Mark mark.Equal) b r = tt
+after_tells a f s (token.Mark mark.Less) b r = tt
+after_tells a f s (token.Mark mark.AtMost) b r = tt
 after_tells a f s (token.Mark mark.Not) b r = tt
 
 begun_tells : (a : Atoms Formula) (s : List (Frame Formula)) (t : Token) (b : List Token) → Opened a s b
@@ -237,10 +241,13 @@ begun_tells a s (token.Word w) b o = (b, refl, o)
 begun_tells a s (token.Mark mark.Open) b o = (b, refl, o)
 begun_tells a s (token.Mark mark.Not) b o = (b, refl, o)
 begun_tells a s (token.Quoted k) b o = tt
+begun_tells a s (token.Signed w) b o = tt
 begun_tells a s (token.Mark mark.Close) b o = tt
 begun_tells a s (token.Mark mark.Comma) b o = tt
 begun_tells a s (token.Mark mark.Colon) b o = tt
 begun_tells a s (token.Mark mark.Equal) b o = tt
+begun_tells a s (token.Mark mark.Less) b o = tt
+begun_tells a s (token.Mark mark.AtMost) b o = tt
 begun_tells a s (token.Mark (mark.Joint j)) b o = tt
 
 part_tells : (a : Atoms Formula) (s : List (Frame Formula)) (t : Token) (b : List Token) → Opened a (Listing ∷ s) b
@@ -258,9 +265,12 @@ part_tells a s (token.Word w) b o = begun_tells a (Listing ∷ s) (token.Word w)
 part_tells a s (token.Mark mark.Open) b o = begun_tells a (Listing ∷ s) (token.Mark mark.Open) b o
 part_tells a s (token.Mark mark.Not) b o = begun_tells a (Listing ∷ s) (token.Mark mark.Not) b o
 part_tells a s (token.Quoted k) b o = tt
+part_tells a s (token.Signed w) b o = tt
 part_tells a s (token.Mark mark.Comma) b o = tt
 part_tells a s (token.Mark mark.Colon) b o = tt
 part_tells a s (token.Mark mark.Equal) b o = tt
+part_tells a s (token.Mark mark.Less) b o = tt
+part_tells a s (token.Mark mark.AtMost) b o = tt
 part_tells a s (token.Mark (mark.Joint j)) b o = tt
 
 atom_tells : (a : Atoms Formula) (w : List ℕ) (s : List (Frame Formula)) (t : Token) (b c : List Token)
@@ -279,20 +289,23 @@ word_tells a w s (token.Mark mark.Open) b h = go (is_one w) refl
         (h.0, rw (h.1, same) (simp append_assoc), h.2)
     go false e = tt
 word_tells a w s (token.Mark mark.Equal) b h = (h.0, rw h.1 (simp append_assoc), h.2)
+word_tells a w s (token.Mark mark.Less) b h = (h.0, rw h.1 (simp append_assoc), h.2)
+word_tells a w s (token.Mark mark.AtMost) b h = (h.0, rw h.1 (simp append_assoc), h.2)
 word_tells a w s (token.Mark (mark.Joint j)) b h =
     atom_tells a w s (token.Mark (mark.Joint j)) b h.0 h.1 h.2 (a.plain w) refl
 word_tells a w s (token.Mark mark.Close) b h = atom_tells a w s (token.Mark mark.Close) b h.0 h.1 h.2 (a.plain w) refl
 word_tells a w s (token.Mark mark.Comma) b h = atom_tells a w s (token.Mark mark.Comma) b h.0 h.1 h.2 (a.plain w) refl
 word_tells a w s (token.Word v) b h = atom_tells a w s (token.Word v) b h.0 h.1 h.2 (a.plain w) refl
 word_tells a w s (token.Quoted k) b h = atom_tells a w s (token.Quoted k) b h.0 h.1 h.2 (a.plain w) refl
+word_tells a w s (token.Signed v) b h = atom_tells a w s (token.Signed v) b h.0 h.1 h.2 (a.plain w) refl
 word_tells a w s (token.Mark mark.Colon) b h = atom_tells a w s (token.Mark mark.Colon) b h.0 h.1 h.2 (a.plain w) refl
 word_tells a w s (token.Mark mark.Not) b h = atom_tells a w s (token.Mark mark.Not) b h.0 h.1 h.2 (a.plain w) refl
 
-has_tells : (a : Atoms Formula) (w k : List ℕ) (s : List (Frame Formula)) (b c : List Token)
+equal_tells : (a : Atoms Formula) (w k : List ℕ) (s : List (Frame Formula)) (b c : List Token)
     → b ≡ c ++ token.Word w ∷ token.Mark mark.Equal ∷ [] → Opened a s c → (o : Option Formula) → a.equal w k ≡ o
     → Tells a (has_atom o s) (b ++ token.Quoted k ∷ [])
-has_tells a w k s b c e h None p = tt
-has_tells a w k s b c e h (Some f) p =
+equal_tells a w k s b c e h None p = tt
+equal_tells a w k s b c e h (Some f) p =
     record {
       earlier = c;
       own = token.Word w ∷ token.Mark mark.Equal ∷ token.Quoted k ∷ [];
@@ -302,14 +315,41 @@ has_tells a w k s b c e h (Some f) p =
       opened = h;
     }
 
+number_tells : (a : Atoms Formula) (w : List ℕ) (op : Op) (t : Token) (v : List ℕ) (s : List (Frame Formula))
+    (b c : List Token) → b ≡ c ++ token.Word w ∷ token.Mark (comparing op) ∷ [] → Opened a s c → digits_of t ≡ Some v
+    → (o : Option Formula) → a.compare w op v ≡ o → Tells a (has_atom o s) (b ++ t ∷ [])
+number_tells a w op t v s b c e h d None p = tt
+number_tells a w op t v s b c e h d (Some f) p =
+    record {
+      earlier = c;
+      own = token.Word w ∷ token.Mark (comparing op) ∷ t ∷ [];
+      all = rw e
+          (simp append_assoc);
+      formula = compared op t d p;
+      opened = h;
+    }
+
+compared_tells : (a : Atoms Formula) (w : List ℕ) (op : Op) (s : List (Frame Formula)) (t : Token) (b : List Token)
+    → Tells a (Compared w op s) b → Tells a (after_compared a w op s t) (b ++ t ∷ [])
+compared_tells a w Op.Equal s (token.Quoted k) b h = equal_tells a w k s b h.0 h.1 h.2 (a.equal w k) refl
+compared_tells a w Op.Less s (token.Quoted k) b h = tt
+compared_tells a w Op.AtMost s (token.Quoted k) b h = tt
+compared_tells a w op s (token.Word v) b h =
+    rw (after_word_digits a w op s v)
+    (number_tells a w op (token.Word v) v s b h.0 h.1 h.2 refl (a.compare w op v) refl)
+compared_tells a w op s (token.Signed v) b h =
+    rw (after_signed_digits a w op s v)
+    (number_tells a w op (token.Signed v) v s b h.0 h.1 h.2 refl (a.compare w op v) refl)
+compared_tells a w Op.Equal s (token.Mark m) b h = tt
+compared_tells a w Op.Less s (token.Mark m) b h = tt
+compared_tells a w Op.AtMost s (token.Mark m) b h = tt
+
 step_tells : (a : Atoms Formula) (st : State Formula) (t : Token) (b : List Token) → Tells a st b
     → Tells a (step trees a st t) (b ++ t ∷ [])
 step_tells a (Wants s) t b h = begun_tells a s t b h
 step_tells a (WantsPart s) t b h = part_tells a s t b h
 step_tells a (Named w s) t b h = word_tells a w s t b h
-step_tells a (Compared w s) (token.Quoted k) b h = has_tells a w k s b h.0 h.1 h.2 (a.equal w k) refl
-step_tells a (Compared w s) (token.Word v) b h = tt
-step_tells a (Compared w s) (token.Mark m) b h = tt
+step_tells a (Compared w op s) t b h = compared_tells a w op s t b h
 step_tells a (Has f s) t b h = after_tells a f s t b h
 step_tells a Bad t b h = tt
 
@@ -341,7 +381,7 @@ ended_tells a (Named w s) b f h e = go (a.plain w) refl e
         (record { earlier = h.0; own = token.Word w ∷ []; all = h.1; formula = plain p; opened = h.2 })) q
 ended_tells a (Wants s) b f h e = absurd cc
 ended_tells a (WantsPart s) b f h e = absurd cc
-ended_tells a (Compared w s) b f h e = absurd cc
+ended_tells a (Compared w op s) b f h e = absurd cc
 ended_tells a Bad b f h e = absurd cc
 
 -- what is read is a formula, with this tree

@@ -4,7 +4,7 @@ use Rattle.std.specs.Option.{option_to_list}
 use Rattle.olap_grammar.specs.Reader.{frame_of}
 use Rattle.olap_grammar.specs.Frames.{frames_of}
 use Rattle.olap_grammar.specs.declared.stacking.Frame.{Frame}
-use Rattle.olap_grammar.proofs.Complete.{fold-append}
+use Rattle.std.proofs.lemmas.List.Sums.{fold-append}
 
 pub frames_none : frames_of [] ≡ []
 unfolding frames_of

@@ -1,19 +1,18 @@
 -- What is counted of tokens, gone over from the left, is so of all of them.
 --     tally_is      the nodes that are counted, and whether too many brackets are open
-use Rattle.std.proofs.Common.{◌≡◌, ◌≤◌, ◌<◌, ◌+◌, ◌-◌, ◌∷◌, ◌∙◌, ◌||◌, Bool, true, false, cond, ℕ, List, [], nat_lt, refl, ap, arith}
-use Rattle.std.specs.Prelude.{count_by}
+use Rattle.std.proofs.Common.{◌≡◌, ◌≤◌, ◌<◌, ◌+◌, ◌-◌, ◌∷◌, ◌∙◌, ◌||◌, ◌&&◌, Bool, true, false, not, cond, ℕ, List, [], nat_lt, refl, ap, arith}
 use Rattle.std.specs.List.{fold}
 use Rattle.std.proofs.lemmas.Bool.{ltb-false, ltb-true}
-use Rattle.std.proofs.lemmas.List.Sums.{sum_by-cons}
 use Rattle.olap_base.specs.Limits.{most_depth}
 use Rattle.olap_grammar.specs.Brackets.{opens_over}
 use Rattle.olap_grammar.specs.Keeping.{IsTallyOf}
-use Rattle.olap_grammar.specs.Nodes.{is_node}
-use Rattle.olap_grammar.specs.Tallying.{counted, counted_nodes, nothing_tallied, tallied}
+use Rattle.olap_grammar.specs.Nodes.{compares, is_node, nodes_behind}
+use Rattle.olap_grammar.specs.Tallying.{added, counted, counted_nodes, nothing_tallied, tallied}
 use Rattle.olap_grammar.specs.declared.tallying.Tally.{Tally}
 use Rattle.olap_grammar.specs.declared.tokens.Token.{Token}
 use Rattle.olap_grammar.specs.declared.tokens.Token.TheVariants as token
 use Rattle.olap_grammar.specs.declared.tokens.Mark.TheVariants as mark
+use Rattle.olap_grammar.specs.declared.tokens.Version.{Version}
 
 -- ---- nodes
 
@@ -35,17 +34,34 @@ one_more n all h = go (nat_lt n counted_nodes) refl
         let f = h.few in
         record { few = omega (arith, f); exact = λ m. absurd (omega (arith, l, m)) }
 
--- a node is counted, and no other token is
-nodes_tallied : (y : Tally) (t : Token) → (tallied y t).nodes ≡ cond (is_node t) (counted y.nodes) y.nodes
-nodes_tallied y (token.Word w) = refl
-nodes_tallied y (token.Quoted k) = refl
-nodes_tallied y (token.Mark mark.Open) = refl
-nodes_tallied y (token.Mark mark.Close) = refl
-nodes_tallied y (token.Mark mark.Comma) = refl
-nodes_tallied y (token.Mark mark.Colon) = refl
-nodes_tallied y (token.Mark mark.Equal) = refl
-nodes_tallied y (token.Mark mark.Not) = refl
-nodes_tallied y (token.Mark (mark.Joint j)) = refl
+-- a tally, with one node more or not
+abbrev with_node : Bool → Tally → Tally
+with_node b y = cond b (record y { nodes = counted y.nodes }) y
+
+with_node_nodes : (b : Bool) (y : Tally) → (with_node b y).nodes ≡ cond b (counted y.nodes) y.nodes
+with_node_nodes true y = refl
+with_node_nodes false y = refl
+
+-- brackets are no nodes
+no_node : (c : Bool) (n : ℕ) → n ≡ cond (not c && false) (counted n) n
+no_node true n = refl
+no_node false n = refl
+
+-- a node is counted unless it is compared with, and no other token is
+nodes_tallied : (y : Tally) (t : Token)
+    → (added y t).nodes ≡ cond (not y.is_compared && is_node t) (counted y.nodes) y.nodes
+nodes_tallied y (token.Word w) = with_node_nodes (not y.is_compared && true) y
+nodes_tallied y (token.Quoted k) = with_node_nodes (not y.is_compared && false) y
+nodes_tallied y (token.Signed w) = with_node_nodes (not y.is_compared && false) y
+nodes_tallied y (token.Mark mark.Open) = no_node y.is_compared y.nodes
+nodes_tallied y (token.Mark mark.Close) = no_node y.is_compared y.nodes
+nodes_tallied y (token.Mark mark.Comma) = with_node_nodes (not y.is_compared && false) y
+nodes_tallied y (token.Mark mark.Colon) = with_node_nodes (not y.is_compared && false) y
+nodes_tallied y (token.Mark mark.Equal) = with_node_nodes (not y.is_compared && false) y
+nodes_tallied y (token.Mark mark.Less) = with_node_nodes (not y.is_compared && false) y
+nodes_tallied y (token.Mark mark.AtMost) = with_node_nodes (not y.is_compared && false) y
+nodes_tallied y (token.Mark mark.Not) = with_node_nodes (not y.is_compared && true) y
+nodes_tallied y (token.Mark (mark.Joint j)) = with_node_nodes (not y.is_compared && true) y
 
 as_before : (n all : ℕ) → Counts n all → Counts n (all + 0)
 as_before n all h =
@@ -56,16 +72,17 @@ one_token : (b : Bool) (n all : ℕ) → Counts n all → Counts (cond b (counte
 one_token true n all h = one_more n all h
 one_token false n all h = as_before n all h
 
-counts_on : (ts : List Token) (y : Tally) (before : ℕ) → Counts y.nodes before
-    → Counts (fold tallied y ts).nodes (before + count_by is_node ts)
-counts_on [] y before h = as_before y.nodes before h
-counts_on (t ∷ ts) y before h =
-    let one : Counts (tallied y t).nodes (before + cond (is_node t) 1 0) =
-    rw (nodes_tallied y t) (one_token (is_node t) y.nodes before h) in
-    let all = counts_on ts (tallied y t) (before + cond (is_node t) 1 0) one in
-    let e = sum_by-cons (λ u. cond (is_node u) 1 0) t ts in
+counts_on : (v : Version) (ts : List Token) (y : Tally) (before : ℕ) → Counts y.nodes before
+    → Counts (fold (tallied v) y ts).nodes (before + nodes_behind v y.is_compared ts)
+unfolding nodes_behind
+counts_on v [] y before h = as_before y.nodes before h
+counts_on v (t ∷ ts) y before h =
+    let node : Bool = not y.is_compared && is_node t in
+    let one : Counts (tallied v y t).nodes (before + cond node 1 0) =
+    rw (nodes_tallied y t) (one_token node y.nodes before h) in
+    let all = counts_on v ts (tallied v y t) (before + cond node 1 0) one in
     let f = all.few in
-    record { few = omega (arith, e, f); exact = λ m. let g = all.exact m in omega (arith, e, g) }
+    record { few = omega (arith, f); exact = λ m. let g = all.exact m in omega (arith, g) }
 
 -- ---- brackets
 
@@ -94,31 +111,64 @@ nothing_more : (d : Bool) → d ≡ (d || false)
 nothing_more true = refl
 nothing_more false = refl
 
-deep_on : (ts : List Token) (y : Tally)
-    → (fold tallied y ts).too_deep ≡ (y.too_deep || opens_over y.opened y.closed ts)
+-- a node more leaves the brackets as they are
+same_brackets : {A : Type 0} (part : Tally → A) (b : Bool) (y : Tally)
+    → part (record y { nodes = counted y.nodes }) ≡ part y → part (with_node b y) ≡ part y
+same_brackets part true y e = e
+same_brackets part false y e = refl
+
+-- after tokens of which the first isn't a bracket
+deep_after : (v : Version) (ts : List Token) (b : Bool) (y : Tally) (t : Token) (d : Bool) (o c : ℕ)
+    → ((z : Tally) → z.too_deep ≡ d → z.opened ≡ o → z.closed ≡ c
+    → (fold (tallied v) z ts).too_deep ≡ (d || opens_over o c ts))
+    → y.too_deep ≡ d → y.opened ≡ o → y.closed ≡ c
+    → (fold (tallied v) (record (with_node b y) { is_compared = compares v t }) ts).too_deep ≡ (d || opens_over o c ts)
+deep_after v ts b y t d o c later e f g =
+    later (record (with_node b y) { is_compared = compares v t })
+    (same_brackets (λ z. z.too_deep) b y refl ∙ e)
+    (same_brackets (λ z. z.opened) b y refl ∙ f)
+    (same_brackets (λ z. z.closed) b y refl ∙ g)
+
+deep_on : (v : Version) (ts : List Token) (d : Bool) (o c : ℕ) (y : Tally) → y.too_deep ≡ d → y.opened ≡ o
+    → y.closed ≡ c → (fold (tallied v) y ts).too_deep ≡ (d || opens_over o c ts)
 unfolding opens_over
-deep_on [] y = nothing_more y.too_deep
-deep_on (token.Mark mark.Open ∷ ts) y =
-    deep_on ts (tallied y (token.Mark mark.Open))
-    ∙ ap (λ b. (y.too_deep || b) || opens_over (y.opened + 1) y.closed ts) (same_test y.opened y.closed)
-    ∙ once_too_deep y.too_deep (nat_lt (y.closed + most_depth) (y.opened + 1)) (opens_over (y.opened + 1) y.closed ts)
-deep_on (token.Mark mark.Close ∷ ts) y = deep_on ts (tallied y (token.Mark mark.Close))
-deep_on (token.Word w ∷ ts) y = deep_on ts (tallied y (token.Word w))
-deep_on (token.Quoted k ∷ ts) y = deep_on ts y
-deep_on (token.Mark mark.Comma ∷ ts) y = deep_on ts y
-deep_on (token.Mark mark.Colon ∷ ts) y = deep_on ts y
-deep_on (token.Mark mark.Equal ∷ ts) y = deep_on ts y
-deep_on (token.Mark mark.Not ∷ ts) y = deep_on ts (tallied y (token.Mark mark.Not))
-deep_on (token.Mark (mark.Joint j) ∷ ts) y = deep_on ts (tallied y (token.Mark (mark.Joint j)))
+deep_on v [] d o c y e f g = e ∙ nothing_more d
+deep_on v (token.Mark mark.Open ∷ ts) d o c y e f g =
+    deep_on v ts (d || nat_lt most_depth (o + 1 - c)) (o + 1) c (tallied v y (token.Mark mark.Open)) (rw (e, f, g) refl)
+    (rw f refl) g
+    ∙ ap (λ b. (d || b) || opens_over (o + 1) c ts) (same_test o c)
+    ∙ once_too_deep d (nat_lt (c + most_depth) (o + 1)) (opens_over (o + 1) c ts)
+deep_on v (token.Mark mark.Close ∷ ts) d o c y e f g =
+    deep_on v ts d o (c + 1) (tallied v y (token.Mark mark.Close)) e f (rw g refl)
+deep_on v (token.Word w ∷ ts) d o c y e f g =
+    deep_after v ts (not y.is_compared && true) y (token.Word w) d o c (deep_on v ts d o c) e f g
+deep_on v (token.Quoted k ∷ ts) d o c y e f g =
+    deep_after v ts (not y.is_compared && false) y (token.Quoted k) d o c (deep_on v ts d o c) e f g
+deep_on v (token.Signed w ∷ ts) d o c y e f g =
+    deep_after v ts (not y.is_compared && false) y (token.Signed w) d o c (deep_on v ts d o c) e f g
+deep_on v (token.Mark mark.Comma ∷ ts) d o c y e f g =
+    deep_after v ts (not y.is_compared && false) y (token.Mark mark.Comma) d o c (deep_on v ts d o c) e f g
+deep_on v (token.Mark mark.Colon ∷ ts) d o c y e f g =
+    deep_after v ts (not y.is_compared && false) y (token.Mark mark.Colon) d o c (deep_on v ts d o c) e f g
+deep_on v (token.Mark mark.Equal ∷ ts) d o c y e f g =
+    deep_after v ts (not y.is_compared && false) y (token.Mark mark.Equal) d o c (deep_on v ts d o c) e f g
+deep_on v (token.Mark mark.Less ∷ ts) d o c y e f g =
+    deep_after v ts (not y.is_compared && false) y (token.Mark mark.Less) d o c (deep_on v ts d o c) e f g
+deep_on v (token.Mark mark.AtMost ∷ ts) d o c y e f g =
+    deep_after v ts (not y.is_compared && false) y (token.Mark mark.AtMost) d o c (deep_on v ts d o c) e f g
+deep_on v (token.Mark mark.Not ∷ ts) d o c y e f g =
+    deep_after v ts (not y.is_compared && true) y (token.Mark mark.Not) d o c (deep_on v ts d o c) e f g
+deep_on v (token.Mark (mark.Joint j) ∷ ts) d o c y e f g =
+    deep_after v ts (not y.is_compared && true) y (token.Mark (mark.Joint j)) d o c (deep_on v ts d o c) e f g
 
 -- ---- both
 
-pub tally_is : (ts : List Token) → IsTallyOf (fold tallied nothing_tallied ts) ts
-tally_is ts =
-    let n = counts_on ts nothing_tallied 0 (record { few = omega arith; exact = λ m. refl }) in
+pub tally_is : (v : Version) (ts : List Token) → IsTallyOf v (fold (tallied v) nothing_tallied ts) ts
+tally_is v ts =
+    let n = counts_on v ts nothing_tallied 0 (record { few = omega arith; exact = λ m. refl }) in
     let f = n.few in
     record {
       few = omega (arith, f);
       nodes = λ m. let e = n.exact m in omega (arith, e);
-      too_deep = deep_on ts nothing_tallied;
+      too_deep = deep_on v ts false 0 0 nothing_tallied refl refl refl;
     }

@@ -1,7 +1,10 @@
 -- The pieces of a word.
 use Rattle.std.proofs.Common.{◌≡◌, ◌==◌, ◌<◌, ◌+◌, ℕ, true, false, List, length, arith, ap, ◌∙◌, refl}
 use Rattle.std.proofs.lemmas.List.Splits.{length-slice_split}
-use Rattle.std.specs.Prelude.{Bool, IsTrue, ◌↔◌, count_by}
+use Rattle.std.specs.Prelude.{◌&&◌, ◌∷◌, [], Bool, IsTrue, ◌↔◌, count_by}
+use Rattle.std.specs.Char.{is_ascii_digit}
+use Rattle.std.specs.List.{list_all}
+use Rattle.std.specs.Str.{all_ascii_digits}
 use Rattle.olap_grammar.specs.Words.{pieces_of}
 
 -- there is at least one
@@ -20,3 +23,8 @@ same_answer false true p q = absurd (let e : false ≡ true = p.1 (q.0 refl) in 
 pub pieces_count : (mark : ℕ) (w : List ℕ) → length (pieces_of mark w) ≡ count_by (λ b. b == mark) w + 1
 unfolding pieces_of
 pieces_count mark w = length-slice_split (λ b. b == mark) w
+
+-- digits are tested one by one
+pub each_is_digit : (ds : List ℕ) → list_all is_ascii_digit ds ≡ all_ascii_digits ds
+each_is_digit [] = refl
+each_is_digit (d ∷ ds) = ap (λ r. is_ascii_digit d && r) (each_is_digit ds)

@@ -1,6 +1,7 @@
 -- A formula that is built only as far as it is no deeper than a formula may be, with its depth.
 use Rattle.std.specs.Prelude.{◌≡◌, ◌+◌, ℕ, suc, List, Some, cond, nat_le, max}
 use Rattle.std.specs.Option.{option_map}
+use Rattle.olap_numerals.specs.Comparing.{Op}
 use Rattle.olap_ast.specs.Formula as Meaning
 use Rattle.olap_ast.specs.Formula.{Formula, Terms}
 use Rattle.olap_ast.specs.Valid.{depth_of, depth_of_terms}
@@ -33,10 +34,14 @@ clipped = record {
 
 -- the atoms, each of depth 1
 abbrev pub leaves : Atoms Formula → Atoms (ℕ × Formula)
-leaves a =
-    record { plain = λ w. option_map (λ f. (1, f)) (a.plain w); equal = λ w k. option_map (λ f. (1, f)) (a.equal w k) }
+leaves a = record {
+  plain = λ w. option_map (λ f. (1, f)) (a.plain w);
+  equal = λ w k. option_map (λ f. (1, f)) (a.equal w k);
+  compare = λ w op digits. option_map (λ f. (1, f)) (a.compare w op digits);
+}
 
 -- each atom has depth 1
 pub record AreLeaves (a : Atoms Formula) : Type 0 where
   pub plain : (w : List ℕ) (f : Formula) → a.plain w ≡ Some f → depth_of f ≡ 1
   pub equal : (w k : List ℕ) (f : Formula) → a.equal w k ≡ Some f → depth_of f ≡ 1
+  pub compare : (w : List ℕ) (op : Op) (digits : List ℕ) (f : Formula) → a.compare w op digits ≡ Some f → depth_of f ≡ 1

@@ -17,6 +17,7 @@ cut_of begun.Nothing k = keeping.Going.Between k
 cut_of (begun.Word w) k = keeping.Going.InWord k w.items
 cut_of (begun.Quotes q) k = keeping.Going.InQuotes k q.items
 cut_of (begun.Escape q) k = keeping.Going.Escaped k q.items
+cut_of (begun.Signed w) k = keeping.Going.InSigned k w.items
 cut_of begun.Dash k = keeping.Going.Dash k
 cut_of begun.Less k = keeping.Going.Less k
 cut_of begun.LessDash k = keeping.Going.LessDash k

@@ -1,12 +1,14 @@
--- Which tokens a line is cut into.
+-- Which tokens a line is cut into, by a version of the text.
 use Rattle.std.specs.Prelude.{◌≡◌, ◌==◌, ◌||◌, ℕ, Bool, true, false, List, [], ◌∷◌, ◌++◌, codes}
-use Rattle.std.specs.Char.{is_ascii_alphanumeric}
+use Rattle.std.specs.Char.{is_ascii_alphanumeric, is_ascii_digit}
 use Rattle.olap_grammar.specs.declared.tokens.Token.{Token}
 use Rattle.olap_grammar.specs.declared.tokens.Token.TheVariants as token
 use Rattle.olap_grammar.specs.declared.tokens.Mark.{Mark}
 use Rattle.olap_grammar.specs.declared.tokens.Mark.TheVariants as mark
 use Rattle.olap_grammar.specs.declared.tokens.Joint.{Joint}
 use Rattle.olap_grammar.specs.declared.tokens.Joint.TheVariants as joint
+use Rattle.olap_grammar.specs.declared.tokens.Version.{Version}
+use Rattle.olap_grammar.specs.declared.tokens.Version.TheVariants as version
 
 -- a letter, a digit, `_` or `.`
 abbrev pub is_word_byte : ℕ → Bool
@@ -35,8 +37,36 @@ mark_bytes mark.Close = codes ")"
 mark_bytes mark.Comma = codes ","
 mark_bytes mark.Colon = codes ":"
 mark_bytes mark.Equal = codes "="
+mark_bytes mark.Less = codes "<"
+mark_bytes mark.AtMost = codes "<="
 mark_bytes mark.Not = codes "!"
 mark_bytes (mark.Joint j) = joint_bytes j
+
+-- numbers and comparisons may stand there
+abbrev pub has_numbers : Version → Bool
+has_numbers version.One = false
+has_numbers version.Two = true
+
+-- the mark is one of the version
+abbrev pub IsMarkIn : Mark → Version → Type 0
+IsMarkIn mark.Less v = v ≡ version.Two
+IsMarkIn mark.AtMost v = v ≡ version.Two
+IsMarkIn m v = Unit {0}
+
+-- no arrow ends here
+abbrev pub EndsDash : List ℕ → Type 0
+EndsDash [] = Unit {0}
+EndsDash (b ∷ bs) = b == 62 ≡ false
+
+-- behind a `<` no longer mark goes on here: neither `<=` nor `<->`
+abbrev pub EndsLess : List ℕ → Type 0
+EndsLess [] = Unit {0}
+EndsLess (b ∷ bs) = (b == 61 ≡ false) × (b == 45 ≡ true → EndsDash bs)
+
+-- no longer mark goes on here
+abbrev pub EndsMark : Mark → List ℕ → Type 0
+EndsMark mark.Less bs = EndsLess bs
+EndsMark m bs = Unit {0}
 
 -- the bytes between two quotes stand for this text
 pub data Spells : List ℕ → List ℕ → Type 0 where
@@ -46,12 +76,16 @@ pub data Spells : List ℕ → List ℕ → Type 0 where
   other : {b : ℕ} {bs k : List ℕ} → b == 34 ≡ false → b == 92 ≡ false → Spells bs k → Spells (b ∷ bs) (b ∷ k)
 
 -- the line is cut into these tokens
-pub data IsCut : List ℕ → List Token → Type 0 where
-  end : IsCut [] []
-  blank : {bs : List ℕ} {ts : List Token} → IsCut bs ts → IsCut (32 ∷ bs) ts
-  tab : {bs : List ℕ} {ts : List Token} → IsCut bs ts → IsCut (9 ∷ bs) ts
-  word : (b : ℕ) (w : List ℕ) {bs : List ℕ} {ts : List Token} → AreWordBytes (b ∷ w) → EndsWord bs → IsCut bs ts
-      → IsCut ((b ∷ w) ++ bs) (token.Word (b ∷ w) ∷ ts)
-  quoted : {body k bs : List ℕ} {ts : List Token} → Spells body k → IsCut bs ts
-      → IsCut (34 ∷ (body ++ 34 ∷ bs)) (token.Quoted k ∷ ts)
-  marked : (m : Mark) {bs : List ℕ} {ts : List Token} → IsCut bs ts → IsCut (mark_bytes m ++ bs) (token.Mark m ∷ ts)
+pub data IsCut (v : Version) : List ℕ → List Token → Type 0 where
+  end : IsCut v [] []
+  blank : {bs : List ℕ} {ts : List Token} → IsCut v bs ts → IsCut v (32 ∷ bs) ts
+  tab : {bs : List ℕ} {ts : List Token} → IsCut v bs ts → IsCut v (9 ∷ bs) ts
+  word : (b : ℕ) (w : List ℕ) {bs : List ℕ} {ts : List Token} → AreWordBytes (b ∷ w) → EndsWord bs → IsCut v bs ts
+      → IsCut v ((b ∷ w) ++ bs) (token.Word (b ∷ w) ∷ ts)
+  quoted : {body k bs : List ℕ} {ts : List Token} → Spells body k → IsCut v bs ts
+      → IsCut v (34 ∷ (body ++ 34 ∷ bs)) (token.Quoted k ∷ ts)
+  signed : (d : ℕ) (w : List ℕ) {bs : List ℕ} {ts : List Token} → v ≡ version.Two → is_ascii_digit d ≡ true
+      → AreWordBytes w → EndsWord bs → IsCut v bs ts
+      → IsCut v (45 ∷ d ∷ (w ++ bs)) (token.Signed (45 ∷ d ∷ w) ∷ ts)
+  marked : (m : Mark) {bs : List ℕ} {ts : List Token} → IsMarkIn m v → EndsMark m bs → IsCut v bs ts
+      → IsCut v (mark_bytes m ++ bs) (token.Mark m ∷ ts)

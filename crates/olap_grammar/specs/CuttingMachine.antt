@@ -1,19 +1,23 @@
--- Cutting a line from left to right.
-use Rattle.std.specs.Prelude.{◌==◌, ℕ, List, [], ◌∷◌, ◌++◌, Option, Some, None, if◌then◌else◌}
+-- Cutting a line from left to right, by a version of the text.
+use Rattle.std.specs.Prelude.{◌==◌, ◌&&◌, ℕ, Bool, true, false, List, [], ◌∷◌, ◌++◌, Option, Some, None, if◌then◌else◌}
 use Rattle.std.specs.List.{fold}
-use Rattle.olap_grammar.specs.Cutting.{is_word_byte}
+use Rattle.std.specs.Char.{is_ascii_digit}
+use Rattle.olap_grammar.specs.Cutting.{has_numbers, is_word_byte}
 use Rattle.olap_grammar.specs.declared.tokens.Token.{Token}
 use Rattle.olap_grammar.specs.declared.tokens.Token.TheVariants as token
 use Rattle.olap_grammar.specs.declared.tokens.Mark.{Mark}
 use Rattle.olap_grammar.specs.declared.tokens.Mark.TheVariants as mark
 use Rattle.olap_grammar.specs.declared.tokens.Joint.TheVariants as joint
+use Rattle.olap_grammar.specs.declared.tokens.Version.{Version}
 
--- the tokens so far, and what was begun: nothing, a word, a string, an escape in one, `-`, `<`, `<-`
+-- the tokens so far, and what was begun: nothing, a word, a string, an escape in one, a number with its sign, `-`, `<`
+-- or `<-`
 pub data Cut : Type 0 where
   Between : List Token → Cut
   InWord : List Token → List ℕ → Cut
   InQuotes : List Token → List ℕ → Cut
   Escaped : List Token → List ℕ → Cut
+  InSigned : List Token → List ℕ → Cut
   Dash : List Token → Cut
   Less : List Token → Cut
   LessDash : List Token → Cut
@@ -49,25 +53,43 @@ between ts b =
     else if b == 60 then Less ts
     else marked ts (mark_of b)
 
+-- after a byte behind `-` that ends no arrow
+abbrev pub after_dash : Version → List Token → ℕ → Cut
+after_dash v ts b = if has_numbers v && is_ascii_digit b then InSigned ts (45 ∷ b ∷ []) else Stuck
+
+-- after a byte behind `<` that isn't `-`
+abbrev pub after_less : Version → List Token → ℕ → Cut
+after_less v ts b =
+    if has_numbers v then (if b == 61 then Between (ts ++ token.Mark mark.AtMost ∷ [])
+    else between (ts ++ token.Mark mark.Less ∷ []) b)
+    else Stuck
+
 -- after one more byte
-abbrev pub cut_step : Cut → ℕ → Cut
-cut_step (Between ts) b = between ts b
-cut_step (InWord ts w) b = if is_word_byte b then InWord ts (w ++ b ∷ []) else between (ts ++ token.Word w ∷ []) b
-cut_step (InQuotes ts k) b =
+abbrev pub cut_step : Version → Cut → ℕ → Cut
+cut_step v (Between ts) b = between ts b
+cut_step v (InWord ts w) b = if is_word_byte b then InWord ts (w ++ b ∷ []) else between (ts ++ token.Word w ∷ []) b
+cut_step v (InSigned ts w) b =
+    if is_word_byte b then InSigned ts (w ++ b ∷ []) else between (ts ++ token.Signed w ∷ []) b
+cut_step v (InQuotes ts k) b =
     if b == 34 then Between (ts ++ token.Quoted k ∷ []) else if b == 92 then Escaped ts k else InQuotes ts (k ++ b ∷ [])
-cut_step (Escaped ts k) b =
+cut_step v (Escaped ts k) b =
     if b == 34 then InQuotes ts (k ++ b ∷ []) else if b == 92 then InQuotes ts (k ++ b ∷ []) else Stuck
-cut_step (Dash ts) b = if b == 62 then Between (ts ++ token.Mark (mark.Joint joint.Implies) ∷ []) else Stuck
-cut_step (Less ts) b = if b == 45 then LessDash ts else Stuck
-cut_step (LessDash ts) b = if b == 62 then Between (ts ++ token.Mark (mark.Joint joint.Iff) ∷ []) else Stuck
-cut_step Stuck b = Stuck
+cut_step v (Dash ts) b =
+    if b == 62 then Between (ts ++ token.Mark (mark.Joint joint.Implies) ∷ []) else after_dash v ts b
+cut_step v (Less ts) b = if b == 45 then LessDash ts else after_less v ts b
+cut_step v (LessDash ts) b =
+    if b == 62 then Between (ts ++ token.Mark (mark.Joint joint.Iff) ∷ [])
+    else after_dash v (ts ++ token.Mark mark.Less ∷ []) b
+cut_step v Stuck b = Stuck
 
 -- at the end of the line
-abbrev pub cut_ended : Cut → Option (List Token)
-cut_ended (Between ts) = Some ts
-cut_ended (InWord ts w) = Some (ts ++ token.Word w ∷ [])
-cut_ended c = None
+abbrev pub cut_ended : Version → Cut → Option (List Token)
+cut_ended v (Between ts) = Some ts
+cut_ended v (InWord ts w) = Some (ts ++ token.Word w ∷ [])
+cut_ended v (InSigned ts w) = Some (ts ++ token.Signed w ∷ [])
+cut_ended v (Less ts) = if has_numbers v then Some (ts ++ token.Mark mark.Less ∷ []) else None
+cut_ended v c = None
 
 -- the tokens that the line is cut into, if it can be
-unfoldable pub tokens_of : List ℕ → Option (List Token)
-tokens_of line = cut_ended (fold cut_step (Between []) line)
+unfoldable pub tokens_of : Version → List ℕ → Option (List Token)
+tokens_of v line = cut_ended v (fold (cut_step v) (Between []) line)

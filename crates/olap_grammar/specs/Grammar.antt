@@ -1,9 +1,11 @@
 -- Which lists of tokens are a formula, and of which tree.
-use Rattle.std.specs.Prelude.{◌≡◌, ℕ, suc, List, [], ◌∷◌, ◌++◌, Option, Some, codes}
+use Rattle.std.specs.Prelude.{◌≡◌, ℕ, suc, List, [], ◌∷◌, ◌++◌, Option, Some, None, codes}
+use Rattle.olap_numerals.specs.Comparing.{Op}
 use Rattle.olap_ast.specs.Formula as Meaning
 use Rattle.olap_ast.specs.Formula.{Formula, Terms}
 use Rattle.olap_grammar.specs.declared.tokens.Token.{Token}
 use Rattle.olap_grammar.specs.declared.tokens.Token.TheVariants as token
+use Rattle.olap_grammar.specs.declared.tokens.Mark.{Mark}
 use Rattle.olap_grammar.specs.declared.tokens.Mark.TheVariants as mark
 use Rattle.olap_grammar.specs.declared.tokens.Joint.{Joint}
 use Rattle.olap_grammar.specs.declared.tokens.Joint.TheVariants as joint
@@ -33,10 +35,23 @@ join joint.Xor f g = Meaning.Formula.Xor f g
 join joint.Or f g = Meaning.Formula.Or f g
 join joint.And f g = Meaning.Formula.And f g
 
--- what a word is by itself, and with a string
+-- the mark of a comparison
+abbrev pub comparing : Op → Mark
+comparing Op.Equal = mark.Equal
+comparing Op.Less = mark.Less
+comparing Op.AtMost = mark.AtMost
+
+-- the bytes of a token that may spell a number
+abbrev pub digits_of : Token → Option (List ℕ)
+digits_of (token.Word w) = Some w
+digits_of (token.Signed w) = Some w
+digits_of t = None
+
+-- what a word is by itself, with a string, and with the digits of a number
 pub record Atoms (A : Type 0) : Type 0 where
   pub plain : List ℕ → Option A
   pub equal : List ℕ → List ℕ → Option A
+  pub compare : List ℕ → Op → List ℕ → Option A
 
 mutual
   -- the tokens are a formula of the level, or of a tighter one, with this tree
@@ -55,6 +70,8 @@ mutual
     plain : {w : List ℕ} {f : Formula} → a.plain w ≡ Some f → IsFormula a 7 (token.Word w ∷ []) f
     equal : {w k : List ℕ} {f : Formula} → a.equal w k ≡ Some f
         → IsFormula a 7 (token.Word w ∷ token.Mark mark.Equal ∷ token.Quoted k ∷ []) f
+    compared : (op : Op) (t : Token) {w digits : List ℕ} {f : Formula} → digits_of t ≡ Some digits
+        → a.compare w op digits ≡ Some f → IsFormula a 7 (token.Word w ∷ token.Mark (comparing op) ∷ t ∷ []) f
 
   -- the tokens are no, one or more formulas with commas between them
   pub data IsList (a : Atoms Formula) : List Token → Terms → Type 0 where

@@ -5,12 +5,14 @@
 --     kept_tokens     what is kept of the tokens that a line is cut into
 --     Begins          what was kept is a beginning of the tokens
 --     IsTallyOf       what was counted is so of the tokens
-use Rattle.std.specs.Prelude.{◌≡◌, ◌≤◌, ◌<◌, ◌==◌, ℕ, Bool, true, false, List, [], ◌∷◌, ◌++◌, Option, Some, None, count_by, length, nat_lt, if◌then◌else◌}
+use Rattle.std.specs.Prelude.{◌≡◌, ◌≤◌, ◌<◌, ◌==◌, ◌&&◌, ℕ, Bool, true, false, List, [], ◌∷◌, ◌++◌, Option, Some, None, length, nat_lt, if◌then◌else◌}
 use Rattle.std.specs.List.{fold}
 use Rattle.olap_grammar.specs.Brackets.{opens_over}
 use Rattle.olap_grammar.specs.Cutting.{is_word_byte}
+use Rattle.std.specs.Char.{is_ascii_digit}
+use Rattle.olap_grammar.specs.Cutting.{has_numbers}
 use Rattle.olap_grammar.specs.CuttingMachine.{mark_of}
-use Rattle.olap_grammar.specs.Nodes.{is_node}
+use Rattle.olap_grammar.specs.Nodes.{nodes_of}
 use Rattle.olap_grammar.specs.Tallying.{counted_nodes, nothing_tallied, tallied}
 use Rattle.olap_grammar.specs.declared.tallying.Tally.{Tally}
 use Rattle.olap_grammar.specs.declared.tokens.Token.{Token}
@@ -18,6 +20,7 @@ use Rattle.olap_grammar.specs.declared.tokens.Token.TheVariants as token
 use Rattle.olap_grammar.specs.declared.tokens.Mark.{Mark}
 use Rattle.olap_grammar.specs.declared.tokens.Mark.TheVariants as mark
 use Rattle.olap_grammar.specs.declared.tokens.Joint.TheVariants as joint
+use Rattle.olap_grammar.specs.declared.tokens.Version.{Version}
 
 -- how many tokens are kept at most, those kept, whether there are more, and what was counted of all
 pub record Kept : Type 0 where
@@ -27,11 +30,11 @@ pub record Kept : Type 0 where
   pub tally : Tally
 
 -- one token more, which is kept while there is room
-abbrev pub keep : Kept → Token → Kept
-keep k t =
+abbrev pub keep : Version → Kept → Token → Kept
+keep v k t =
     if nat_lt (length k.first) k.most then
-    record { most = k.most; first = k.first ++ t ∷ []; more = k.more; tally = tallied k.tally t }
-    else record { most = k.most; first = k.first; more = true; tally = tallied k.tally t }
+    record { most = k.most; first = k.first ++ t ∷ []; more = k.more; tally = tallied v k.tally t }
+    else record { most = k.most; first = k.first; more = true; tally = tallied v k.tally t }
 
 abbrev pub nothing_kept : ℕ → Kept
 nothing_kept most = record { most = most; first = []; more = false; tally = nothing_tallied }
@@ -43,68 +46,87 @@ pub data Going : Type 0 where
   InWord : Kept → List ℕ → Going
   InQuotes : Kept → List ℕ → Going
   Escaped : Kept → List ℕ → Going
+  InSigned : Kept → List ℕ → Going
   Dash : Kept → Going
   Less : Kept → Going
   LessDash : Kept → Going
   Stuck : Going
 
 -- after a byte that is this mark, or none
-abbrev pub marked : Kept → Option Mark → Going
-marked k None = Stuck
-marked k (Some m) = Between (keep k (token.Mark m))
+abbrev pub marked : Version → Kept → Option Mark → Going
+marked v k None = Stuck
+marked v k (Some m) = Between (keep v k (token.Mark m))
 
 -- after a byte where nothing was begun
-abbrev pub between : Kept → ℕ → Going
-between k b =
+abbrev pub between : Version → Kept → ℕ → Going
+between v k b =
     if is_word_byte b then InWord k (b ∷ [])
     else if b == 32 then Between k
     else if b == 9 then Between k
     else if b == 34 then InQuotes k []
     else if b == 45 then Dash k
     else if b == 60 then Less k
-    else marked k (mark_of b)
+    else marked v k (mark_of b)
+
+-- after a byte behind `-` that ends no arrow
+abbrev pub after_dash : Version → Kept → ℕ → Going
+after_dash v k b = if has_numbers v && is_ascii_digit b then InSigned k (45 ∷ b ∷ []) else Stuck
+
+-- after a byte behind `<` that isn't `-`
+abbrev pub after_less : Version → Kept → ℕ → Going
+after_less v k b =
+    if has_numbers v then (if b == 61 then Between (keep v k (token.Mark mark.AtMost))
+    else between v (keep v k (token.Mark mark.Less)) b)
+    else Stuck
 
 -- after one more byte
-abbrev pub kept_step : Going → ℕ → Going
-kept_step (Between k) b = between k b
-kept_step (InWord k w) b = if is_word_byte b then InWord k (w ++ b ∷ []) else between (keep k (token.Word w)) b
-kept_step (InQuotes k q) b =
-    if b == 34 then Between (keep k (token.Quoted q)) else if b == 92 then Escaped k q else InQuotes k (q ++ b ∷ [])
-kept_step (Escaped k q) b =
+abbrev pub kept_step : Version → Going → ℕ → Going
+kept_step v (Between k) b = between v k b
+kept_step v (InWord k w) b = if is_word_byte b then InWord k (w ++ b ∷ []) else between v (keep v k (token.Word w)) b
+kept_step v (InSigned k w) b =
+    if is_word_byte b then InSigned k (w ++ b ∷ []) else between v (keep v k (token.Signed w)) b
+kept_step v (InQuotes k q) b =
+    if b == 34 then Between (keep v k (token.Quoted q)) else if b == 92 then Escaped k q else InQuotes k (q ++ b ∷ [])
+kept_step v (Escaped k q) b =
     if b == 34 then InQuotes k (q ++ b ∷ []) else if b == 92 then InQuotes k (q ++ b ∷ []) else Stuck
-kept_step (Dash k) b = if b == 62 then Between (keep k (token.Mark (mark.Joint joint.Implies))) else Stuck
-kept_step (Less k) b = if b == 45 then LessDash k else Stuck
-kept_step (LessDash k) b = if b == 62 then Between (keep k (token.Mark (mark.Joint joint.Iff))) else Stuck
-kept_step Stuck b = Stuck
+kept_step v (Dash k) b =
+    if b == 62 then Between (keep v k (token.Mark (mark.Joint joint.Implies))) else after_dash v k b
+kept_step v (Less k) b = if b == 45 then LessDash k else after_less v k b
+kept_step v (LessDash k) b =
+    if b == 62 then Between (keep v k (token.Mark (mark.Joint joint.Iff)))
+    else after_dash v (keep v k (token.Mark mark.Less)) b
+kept_step v Stuck b = Stuck
 
 -- at the end of the line
-abbrev pub kept_ended : Going → Option Kept
-kept_ended (Between k) = Some k
-kept_ended (InWord k w) = Some (keep k (token.Word w))
-kept_ended c = None
+abbrev pub kept_ended : Version → Going → Option Kept
+kept_ended v (Between k) = Some k
+kept_ended v (InWord k w) = Some (keep v k (token.Word w))
+kept_ended v (InSigned k w) = Some (keep v k (token.Signed w))
+kept_ended v (Less k) = if has_numbers v then Some (keep v k (token.Mark mark.Less)) else None
+kept_ended v c = None
 
 -- what is kept of the tokens that the line is cut into, if it can be
-unfoldable pub kept_tokens : ℕ → List ℕ → Option Kept
-kept_tokens most line = kept_ended (fold kept_step (Between (nothing_kept most)) line)
+unfoldable pub kept_tokens : Version → ℕ → List ℕ → Option Kept
+kept_tokens v most line = kept_ended v (fold (kept_step v) (Between (nothing_kept most)) line)
 
 -- ---- what is kept of tokens
 
 -- the nodes, as far as they are counted, and whether too many brackets are open
-pub record IsTallyOf (y : Tally) (ts : List Token) : Type 0 where
-  pub few : y.nodes ≤ count_by is_node ts
-  pub nodes : y.nodes < counted_nodes → y.nodes ≡ count_by is_node ts
+pub record IsTallyOf (v : Version) (y : Tally) (ts : List Token) : Type 0 where
+  pub few : y.nodes ≤ nodes_of v ts
+  pub nodes : y.nodes < counted_nodes → y.nodes ≡ nodes_of v ts
   pub too_deep : y.too_deep ≡ opens_over 0 0 ts
 
 -- the tokens begin with those kept: with all of them, or else with as many as may be kept, and others are left; what
 -- was counted is so of all
-pub record Begins (k : Kept) (ts : List Token) : Type 0 where
+pub record Begins (v : Version) (k : Kept) (ts : List Token) : Type 0 where
   pub rest : List Token
   pub parts : ts ≡ k.first ++ rest
   pub all : k.more ≡ false → rest ≡ []
   pub full : k.more ≡ true → k.most ≤ length k.first
   pub others : k.more ≡ true → 0 < length rest
-  pub tally : IsTallyOf k.tally ts
+  pub tally : IsTallyOf v k.tally ts
 
 -- what was kept begins the tokens that were found
-abbrev pub BeginsFound : Kept → Option (List Token) → Type 0
-BeginsFound k found = (ts : List Token) × (found ≡ Some ts) × Begins k ts
+abbrev pub BeginsFound : Version → Kept → Option (List Token) → Type 0
+BeginsFound v k found = (ts : List Token) × (found ≡ Some ts) × Begins v k ts

@@ -1,17 +1,18 @@
 -- What holds of all lines and tokens: the readers find what the grammar says, and formulas are short.
-use Rattle.std.specs.Prelude.{◌≡◌, ◌≤◌, ◌↔◌, ℕ, List, Some, count_by, false, length}
+use Rattle.std.specs.Prelude.{◌≡◌, ◌≤◌, ◌↔◌, ℕ, List, Some, false, length}
 use Rattle.olap_ast.specs.Formula.{Formula}
 use Rattle.olap_grammar.specs.Brackets.{most_tokens, opens_over}
 use Rattle.olap_grammar.specs.Grammar.{Atoms, IsFormula}
 use Rattle.olap_grammar.specs.Cutting.{IsCut}
 use Rattle.olap_grammar.specs.CuttingMachine.{tokens_of}
 use Rattle.olap_grammar.specs.Machine.{the_formula}
-use Rattle.olap_grammar.specs.Nodes.{is_node}
+use Rattle.olap_grammar.specs.Nodes.{nodes_of}
 use Rattle.olap_grammar.specs.declared.tokens.Token.{Token}
+use Rattle.olap_grammar.specs.declared.tokens.Version.{Version}
 
 -- these tokens are found exactly where the line is cut into them
 abbrev pub FoundAsCut : Type 0
-FoundAsCut = (line : List ℕ) (ts : List Token) → (tokens_of line ≡ Some ts) ↔ IsCut line ts
+FoundAsCut = (v : Version) (line : List ℕ) (ts : List Token) → (tokens_of v line ≡ Some ts) ↔ IsCut v line ts
 
 -- this formula is found exactly where the tokens are one with this tree
 abbrev pub FoundAsFormula : Type 0
@@ -19,7 +20,7 @@ FoundAsFormula = (a : Atoms Formula) (ts : List Token) (f : Formula) → (the_fo
 
 -- a line is cut in at most one way
 abbrev pub IsOneCut : Type 0
-IsOneCut = (line : List ℕ) (ts us : List Token) → IsCut line ts → IsCut line us → ts ≡ us
+IsOneCut = (v : Version) (line : List ℕ) (ts us : List Token) → IsCut v line ts → IsCut v line us → ts ≡ us
 
 -- tokens are at most one formula
 abbrev pub IsOneTree : Type 0
@@ -28,5 +29,5 @@ IsOneTree = (a : Atoms Formula) (ts : List Token) (f g : Formula) → IsFormula 
 -- a formula in which too many brackets are never open has few tokens for its nodes
 abbrev pub HasFewTokens : Type 0
 HasFewTokens =
-    (a : Atoms Formula) (ts : List Token) (f : Formula) → IsFormula a 1 ts f → opens_over 0 0 ts ≡ false
-    → length ts ≤ most_tokens (count_by is_node ts)
+    (v : Version) (a : Atoms Formula) (ts : List Token) (f : Formula) → IsFormula a 1 ts f → opens_over 0 0 ts ≡ false
+    → length ts ≤ most_tokens (nodes_of v ts)

@@ -2,6 +2,7 @@
 use Rattle.std.specs.Prelude.{ℕ, Bool, List, [], ◌∷◌, Option, Some, None, codes, cond, nat_le, nat_eq, option_and_then}
 use Rattle.std.specs.Cmp.Lexicographic.{pointwise}
 use Rattle.std.specs.List.{fold}
+use Rattle.olap_numerals.specs.Comparing.{Op}
 use Rattle.olap_ast.specs.Formula as Meaning
 use Rattle.olap_ast.specs.Formula.{Formula, Terms}
 use Rattle.olap_grammar.specs.Grammar.{Atoms, join, level, left_level}
@@ -25,12 +26,13 @@ pub data Frame (A : Type 0) : Type 0 where
   Listing : Frame A
   Part : A → Frame A
 
--- a formula is to come, or the end of an empty list too; a word, or a word with `=`, was read; a formula was read
+-- a formula is to come, or the end of an empty list too; a word, or a word with a mark that compares, was read; a
+-- formula was read
 pub data State (A : Type 0) : Type 0 where
   Wants : List (Frame A) → State A
   WantsPart : List (Frame A) → State A
   Named : List ℕ → List (Frame A) → State A
-  Compared : List ℕ → List (Frame A) → State A
+  Compared : List ℕ → Op → List (Frame A) → State A
   Has : A → List (Frame A) → State A
   Bad : State A
 
@@ -87,23 +89,27 @@ after_atom m (Some f) s t = after m f s t
 -- after a word: a list begins, a comparison goes on, or the word is an atom by itself
 abbrev pub after_word : {A L : Type 0} → Making A L → Atoms A → List ℕ → List (Frame A) → Token → State A
 after_word m a w s (token.Mark mark.Open) = cond (is_one w) (WantsPart s) Bad
-after_word m a w s (token.Mark mark.Equal) = Compared w s
+after_word m a w s (token.Mark mark.Equal) = Compared w Op.Equal s
+after_word m a w s (token.Mark mark.Less) = Compared w Op.Less s
+after_word m a w s (token.Mark mark.AtMost) = Compared w Op.AtMost s
 after_word m a w s t = after_atom m (a.plain w) s t
 
 abbrev pub has_atom : {A : Type 0} → Option A → List (Frame A) → State A
 has_atom None s = Bad
 has_atom (Some f) s = Has f s
 
--- after a word with a `=`
-abbrev pub after_equal : {A : Type 0} → Atoms A → List ℕ → List (Frame A) → Token → State A
-after_equal a w s (token.Quoted k) = has_atom (a.equal w k) s
-after_equal a w s t = Bad
+-- after a word with a mark that compares
+abbrev pub after_compared : {A : Type 0} → Atoms A → List ℕ → Op → List (Frame A) → Token → State A
+after_compared a w Op.Equal s (token.Quoted k) = has_atom (a.equal w k) s
+after_compared a w op s (token.Word digits) = has_atom (a.compare w op digits) s
+after_compared a w op s (token.Signed digits) = has_atom (a.compare w op digits) s
+after_compared a w op s t = Bad
 
 abbrev pub step : {A L : Type 0} → Making A L → Atoms A → State A → Token → State A
 step m a (Wants s) t = begun s t
 step m a (WantsPart s) t = begun_part m s t
 step m a (Named w s) t = after_word m a w s t
-step m a (Compared w s) t = after_equal a w s t
+step m a (Compared w op s) t = after_compared a w op s t
 step m a (Has f s) t = after m f s t
 step m a Bad t = Bad
 

@@ -1,6 +1,7 @@
 -- What the values of the reader stand for.
 use Rattle.std.specs.Prelude.{◌≡◌, ℕ, List, Result, Ok, Err, Option, Some, None}
 use Rattle.olap_ast.specs.Formula.{Formula}
+use Rattle.olap_ast.specs.Trees.{op_of}
 use Rattle.olap_grammar.specs.Machine as machine
 use Rattle.olap_base.specs.Graph.{Graph}
 use Rattle.olap_grammar.specs.Clip.{leaves}
@@ -8,6 +9,7 @@ use Rattle.olap_grammar.specs.Grammar.{Atoms}
 use Rattle.olap_grammar.specs.Parts.{part_of}
 use Rattle.olap_grammar.specs.Words.{atoms_of}
 use Rattle.olap_grammar.specs.declared.parts.Part.{Part}
+use Rattle.olap_grammar.specs.declared.tokens.Version.{Version}
 use Rattle.olap_grammar.specs.declared.reading.State.{State}
 use Rattle.olap_grammar.specs.declared.reading.State.TheVariants as state
 use Rattle.olap_grammar.specs.declared.stacking.Frame.{Frame}
@@ -19,9 +21,9 @@ use Rattle.olap_grammar.specs.declared.refusals.FormRefusal.TheVariants as refus
 abbrev pub Built : Type 0
 Built = ℕ × Formula
 
--- the words of formulas, where the names of a graph are known
-abbrev pub leaves_of : Graph → Atoms Built
-leaves_of g = leaves (atoms_of g)
+-- the words of formulas of a version, where the names of a graph are known
+abbrev pub leaves_of : Version → Graph → Atoms Built
+leaves_of v g = leaves (atoms_of v g)
 
 abbrev pub frame_of : Frame → machine.Frame Built
 frame_of frame.Negation = machine.Frame.Negation
@@ -42,7 +44,7 @@ abbrev pub state_of : State → List (machine.Frame Built) → machine.State Bui
 state_of state.Wants s = machine.State.Wants s
 state_of state.WantsPart s = machine.State.WantsPart s
 state_of (state.Named w) s = machine.State.Named w.now s
-state_of (state.Compared w) s = machine.State.Compared w.now s
+state_of (state.Compared w op) s = machine.State.Compared w.now (op_of op) s
 state_of (state.Has p) s = machine.State.Has (part_of p) s
 
 -- the reader goes on to the state, or the form is bad

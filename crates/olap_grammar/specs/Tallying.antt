@@ -1,11 +1,12 @@
 -- What is counted of tokens, gone over from the left.
-use Rattle.std.specs.Prelude.{◌||◌, ◌+◌, ◌-◌, ℕ, false, nat_lt, if◌then◌else◌}
+use Rattle.std.specs.Prelude.{◌||◌, ◌&&◌, ◌+◌, ◌-◌, ℕ, false, not, nat_lt, if◌then◌else◌}
 use Rattle.olap_base.specs.Limits.{most_depth, most_nodes}
-use Rattle.olap_grammar.specs.Nodes.{is_node}
+use Rattle.olap_grammar.specs.Nodes.{compares, is_node}
 use Rattle.olap_grammar.specs.declared.tallying.Tally.{Tally}
 use Rattle.olap_grammar.specs.declared.tokens.Token.{Token}
 use Rattle.olap_grammar.specs.declared.tokens.Token.TheVariants as token
 use Rattle.olap_grammar.specs.declared.tokens.Mark.TheVariants as mark
+use Rattle.olap_grammar.specs.declared.tokens.Version.{Version}
 
 -- nodes are counted up to here: more than a formula may have, and the three tokens before it
 abbrev pub counted_nodes : ℕ
@@ -13,15 +14,19 @@ counted_nodes = most_nodes + 4
 
 -- nothing is counted yet
 abbrev pub nothing_tallied : Tally
-nothing_tallied = record { nodes = 0; opened = 0; closed = 0; too_deep = false }
+nothing_tallied = record { nodes = 0; opened = 0; closed = 0; too_deep = false; is_compared = false }
 
 -- one node more
 abbrev pub counted : ℕ → ℕ
 counted n = if nat_lt n counted_nodes then n + 1 else n
 
 -- one token more: a `(`, a `)`, a node, or none of these
-abbrev pub tallied : Tally → Token → Tally
-tallied y (token.Mark mark.Open) =
+abbrev pub added : Tally → Token → Tally
+added y (token.Mark mark.Open) =
     record y { opened = y.opened + 1; too_deep = y.too_deep || nat_lt most_depth (y.opened + 1 - y.closed) }
-tallied y (token.Mark mark.Close) = record y { closed = y.closed + 1 }
-tallied y t = if is_node t then record y { nodes = counted y.nodes } else y
+added y (token.Mark mark.Close) = record y { closed = y.closed + 1 }
+added y t = if not y.is_compared && is_node t then record y { nodes = counted y.nodes } else y
+
+-- and whether what comes next is compared with
+abbrev pub tallied : Version → Tally → Token → Tally
+tallied v y t = record (added y t) { is_compared = compares v t }

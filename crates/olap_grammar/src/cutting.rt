@@ -1,13 +1,15 @@
 // Cutting a line into tokens.
 ghost use Rattle.std.specs.Prelude.{◌≡◌, [], ◌∷◌, ℕ, IfOk, OnOk, MatchResult};
+ghost use Rattle.olap_grammar.specs.Cutting.{has_numbers as has_numbers_of};
 ghost use Rattle.olap_grammar.specs.CuttingMachine.{mark_of, tokens_of};
+ghost use Rattle.olap_grammar.specs.declared.tokens.Version.{Version as TheVersion};
 ghost use Rattle.olap_grammar.specs.Keeping as keeping;
 ghost use Rattle.olap_grammar.specs.Keeping.{BeginsFound, Kept, keep, kept_tokens, nothing_kept};
 ghost use Rattle.olap_grammar.specs.Cutting.{is_word_byte as is_word_byte_of};
 ghost use Rattle.olap_grammar.specs.Cutter.{CutEnds, CutsTo, FailsWith, cut_of, kept_of};
 ghost use Rattle.olap_grammar.specs.declared.tokens.Token.TheVariants as token;
 
-use crate::{CutRefusal, Joint, Mark, Tally, Token};
+use crate::{CutRefusal, Joint, Mark, Tally, Token, Version};
 use olap_base::{Memory, Text};
 use std::alloc::Global;
 
@@ -31,6 +33,7 @@ enum Begun {
     Word(Vec<u8>),
     Quotes(Vec<u8>),
     Escape(Vec<u8>),
+    Signed(Vec<u8>),
     Dash,
     Less,
     LessDash,
@@ -44,10 +47,10 @@ fn is_word_byte(byte: u8) -> bool
 }
 
 /// The token after the others.
-fn add(tokens: &mut FirstTokens, token: Token) -> Result<(), Memory>
-    ensures { OnOk result (kept_of tokens.new ≡ keep (kept_of tokens.old) token) }
+fn add(version: Version, tokens: &mut FirstTokens, token: Token) -> Result<(), Memory>
+    ensures { OnOk result (kept_of tokens.new ≡ keep version (kept_of tokens.old) token) }
 {
-    tokens.tally.add(&token)?;
+    tokens.tally.add(version, &token)?;
     if tokens.first.len() < tokens.most {
         tokens.first.push(token)?;
         return Ok(());
@@ -57,17 +60,24 @@ fn add(tokens: &mut FirstTokens, token: Token) -> Result<(), Memory>
 }
 
 /// The word after the others.
-fn add_word(tokens: &mut FirstTokens, word: Vec<u8>) -> Result<(), Memory>
-    ensures { OnOk result (kept_of tokens.new ≡ keep (kept_of tokens.old) (token.Word word.items)) }
+fn add_word(version: Version, tokens: &mut FirstTokens, word: Vec<u8>) -> Result<(), Memory>
+    ensures { OnOk result (kept_of tokens.new ≡ keep version (kept_of tokens.old) (token.Word word.items)) }
 {
-    add(tokens, Token::Word(Text::from_vec(word)))
+    add(version, tokens, Token::Word(Text::from_vec(word)))
 }
 
 /// The string after the others.
-fn add_quoted(tokens: &mut FirstTokens, text: Vec<u8>) -> Result<(), Memory>
-    ensures { OnOk result (kept_of tokens.new ≡ keep (kept_of tokens.old) (token.Quoted text.items)) }
+fn add_quoted(version: Version, tokens: &mut FirstTokens, text: Vec<u8>) -> Result<(), Memory>
+    ensures { OnOk result (kept_of tokens.new ≡ keep version (kept_of tokens.old) (token.Quoted text.items)) }
 {
-    add(tokens, Token::Quoted(Text::from_vec(text)))
+    add(version, tokens, Token::Quoted(Text::from_vec(text)))
+}
+
+/// The number with its sign after the others.
+fn add_signed(version: Version, tokens: &mut FirstTokens, number: Vec<u8>) -> Result<(), Memory>
+    ensures { OnOk result (kept_of tokens.new ≡ keep version (kept_of tokens.old) (token.Signed number.items)) }
+{
+    add(version, tokens, Token::Signed(Text::from_vec(number)))
 }
 
 /// The mark that the byte is by itself.
@@ -89,8 +99,13 @@ fn mark(byte: u8) -> Option<Mark>
 }
 
 /// A byte where nothing was begun.
-fn between(alloc: Global, tokens: &mut FirstTokens, byte: u8) -> Result<Begun, CutRefusal>
-    ensures { CutsTo result (kept_of tokens.new) (keeping.between (kept_of tokens.old) byte) }
+fn between(
+    alloc: Global,
+    version: Version,
+    tokens: &mut FirstTokens,
+    byte: u8,
+) -> Result<Begun, CutRefusal>
+    ensures { CutsTo result (kept_of tokens.new) (keeping.between version (kept_of tokens.old) byte) }
 {
     if is_word_byte(byte) {
         let mut word = Vec::new(alloc);
@@ -104,7 +119,7 @@ fn between(alloc: Global, tokens: &mut FirstTokens, byte: u8) -> Result<Begun, C
         b'<' => Ok(Begun::Less),
         _ => match mark(byte) {
             Some(mark) => {
-                add(tokens, Token::Mark(mark))?;
+                add(version, tokens, Token::Mark(mark))?;
                 Ok(Begun::Nothing)
             }
             None => Err(CutRefusal::BadForm),
@@ -115,36 +130,38 @@ fn between(alloc: Global, tokens: &mut FirstTokens, byte: u8) -> Result<Begun, C
 /// A byte after those of a word.
 fn in_word(
     alloc: Global,
+    version: Version,
     tokens: &mut FirstTokens,
     word: Vec<u8>,
     byte: u8,
 ) -> Result<Begun, CutRefusal>
     ensures { CutsTo result (kept_of tokens.new)
-        (keeping.kept_step (keeping.InWord (kept_of tokens.old) word.items) byte) }
+        (keeping.kept_step version (keeping.InWord (kept_of tokens.old) word.items) byte) }
 {
     let mut word = word;
     if is_word_byte(byte) {
         word.push(byte)?;
         return Ok(Begun::Word(word));
     }
-    add_word(tokens, word)?;
-    between(alloc, tokens, byte)
+    add_word(version, tokens, word)?;
+    between(alloc, version, tokens, byte)
 }
 
 /// A byte in a string.
 fn in_quotes(
     alloc: Global,
+    version: Version,
     tokens: &mut FirstTokens,
     text: Vec<u8>,
     byte: u8,
 ) -> Result<Begun, CutRefusal>
     ensures { CutsTo result (kept_of tokens.new)
-        (keeping.kept_step (keeping.InQuotes (kept_of tokens.old) text.items) byte) }
+        (keeping.kept_step version (keeping.InQuotes (kept_of tokens.old) text.items) byte) }
 {
     let mut text = text;
     match byte {
         b'"' => {
-            add_quoted(tokens, text)?;
+            add_quoted(version, tokens, text)?;
             Ok(Begun::Nothing)
         }
         b'\\' => Ok(Begun::Escape(text)),
@@ -157,7 +174,7 @@ fn in_quotes(
 
 /// A byte after a backslash in a string: a quotation mark or another backslash, and nothing else.
 fn escaped(text: Vec<u8>, byte: u8) -> Result<Begun, CutRefusal>
-    ensures { (k : Kept) → CutsTo result k (keeping.kept_step (keeping.Escaped k text.items) byte) }
+    ensures { (v : TheVersion) (k : Kept) → CutsTo result k (keeping.kept_step v (keeping.Escaped k text.items) byte) }
 {
     let mut text = text;
     if byte == b'"' || byte == b'\\' {
@@ -167,51 +184,148 @@ fn escaped(text: Vec<u8>, byte: u8) -> Result<Begun, CutRefusal>
     Err(CutRefusal::BadForm)
 }
 
+/// A byte after those of a number with its sign.
+fn in_signed(
+    alloc: Global,
+    version: Version,
+    tokens: &mut FirstTokens,
+    number: Vec<u8>,
+    byte: u8,
+) -> Result<Begun, CutRefusal>
+    ensures { CutsTo result (kept_of tokens.new)
+        (keeping.kept_step version (keeping.InSigned (kept_of tokens.old) number.items) byte) }
+{
+    let mut number = number;
+    if is_word_byte(byte) {
+        number.push(byte)?;
+        return Ok(Begun::Signed(number));
+    }
+    add_signed(version, tokens, number)?;
+    between(alloc, version, tokens, byte)
+}
+
+/// Whether numbers may stand in a line.
+fn has_numbers(version: Version) -> bool
+    ensures { result ≡ has_numbers_of version }
+{
+    match version {
+        Version::One => false,
+        Version::Two => true,
+    }
+}
+
+/// A byte behind `-` that ends no arrow: it begins a number.
+fn after_dash(alloc: Global, version: Version, byte: u8) -> Result<Begun, CutRefusal>
+    ensures { (k : Kept) → CutsTo result k (keeping.after_dash version k byte) }
+{
+    if has_numbers(version) && byte.is_ascii_digit() {
+        let mut number = Vec::new(alloc);
+        number.push(b'-')?;
+        number.push(byte)?;
+        return Ok(Begun::Signed(number));
+    }
+    Err(CutRefusal::BadForm)
+}
+
+/// A byte behind `-`.
+fn in_dash(
+    alloc: Global,
+    version: Version,
+    tokens: &mut FirstTokens,
+    byte: u8,
+) -> Result<Begun, CutRefusal>
+    ensures { CutsTo result (kept_of tokens.new)
+        (keeping.kept_step version (keeping.Dash (kept_of tokens.old)) byte) }
+{
+    if byte == b'>' {
+        add(version, tokens, Token::Mark(Mark::Joint(Joint::Implies)))?;
+        return Ok(Begun::Nothing);
+    }
+    after_dash(alloc, version, byte)
+}
+
+/// A byte behind `<`.
+fn in_less(
+    alloc: Global,
+    version: Version,
+    tokens: &mut FirstTokens,
+    byte: u8,
+) -> Result<Begun, CutRefusal>
+    ensures { CutsTo result (kept_of tokens.new)
+        (keeping.kept_step version (keeping.Less (kept_of tokens.old)) byte) }
+{
+    if byte == b'-' {
+        return Ok(Begun::LessDash);
+    }
+    if !has_numbers(version) {
+        return Err(CutRefusal::BadForm);
+    }
+    if byte == b'=' {
+        add(version, tokens, Token::Mark(Mark::AtMost))?;
+        return Ok(Begun::Nothing);
+    }
+    add(version, tokens, Token::Mark(Mark::Less))?;
+    between(alloc, version, tokens, byte)
+}
+
+/// A byte behind `<-`.
+fn in_less_dash(
+    alloc: Global,
+    version: Version,
+    tokens: &mut FirstTokens,
+    byte: u8,
+) -> Result<Begun, CutRefusal>
+    ensures { CutsTo result (kept_of tokens.new)
+        (keeping.kept_step version (keeping.LessDash (kept_of tokens.old)) byte) }
+{
+    if byte == b'>' {
+        add(version, tokens, Token::Mark(Mark::Joint(Joint::Iff)))?;
+        return Ok(Begun::Nothing);
+    }
+    let number = after_dash(alloc, version, byte)?;
+    add(version, tokens, Token::Mark(Mark::Less))?;
+    Ok(number)
+}
+
 /// A byte of the line.
 fn step(
     alloc: Global,
+    version: Version,
     tokens: &mut FirstTokens,
     begun: Begun,
     byte: u8,
 ) -> Result<Begun, CutRefusal>
-    ensures { CutsTo result (kept_of tokens.new) (keeping.kept_step (cut_of begun (kept_of tokens.old)) byte) }
+    ensures { CutsTo result (kept_of tokens.new)
+        (keeping.kept_step version (cut_of begun (kept_of tokens.old)) byte) }
 {
     match begun {
-        Begun::Nothing => between(alloc, tokens, byte),
-        Begun::Word(word) => in_word(alloc, tokens, word, byte),
-        Begun::Quotes(text) => in_quotes(alloc, tokens, text, byte),
+        Begun::Nothing => between(alloc, version, tokens, byte),
+        Begun::Word(word) => in_word(alloc, version, tokens, word, byte),
+        Begun::Quotes(text) => in_quotes(alloc, version, tokens, text, byte),
         Begun::Escape(text) => escaped(text, byte),
-        Begun::Dash => {
-            if byte == b'>' {
-                add(tokens, Token::Mark(Mark::Joint(Joint::Implies)))?;
-                return Ok(Begun::Nothing);
-            }
-            Err(CutRefusal::BadForm)
-        }
-        Begun::Less => {
-            if byte == b'-' {
-                return Ok(Begun::LessDash);
-            }
-            Err(CutRefusal::BadForm)
-        }
-        Begun::LessDash => {
-            if byte == b'>' {
-                add(tokens, Token::Mark(Mark::Joint(Joint::Iff)))?;
-                return Ok(Begun::Nothing);
-            }
-            Err(CutRefusal::BadForm)
-        }
+        Begun::Signed(number) => in_signed(alloc, version, tokens, number, byte),
+        Begun::Dash => in_dash(alloc, version, tokens, byte),
+        Begun::Less => in_less(alloc, version, tokens, byte),
+        Begun::LessDash => in_less_dash(alloc, version, tokens, byte),
     }
 }
 
 /// The end of the line.
-fn end(tokens: &mut FirstTokens, begun: Begun) -> Result<(), CutRefusal>
-    ensures { CutEnds result (kept_of tokens.new) (keeping.kept_ended (cut_of begun (kept_of tokens.old))) }
+fn end(version: Version, tokens: &mut FirstTokens, begun: Begun) -> Result<(), CutRefusal>
+    ensures { CutEnds result (kept_of tokens.new) (keeping.kept_ended version (cut_of begun (kept_of tokens.old))) }
 {
     match begun {
         Begun::Nothing => Ok(()),
         Begun::Word(word) => {
-            add_word(tokens, word)?;
+            add_word(version, tokens, word)?;
+            Ok(())
+        }
+        Begun::Signed(number) => {
+            add_signed(version, tokens, number)?;
+            Ok(())
+        }
+        Begun::Less if has_numbers(version) => {
+            add(version, tokens, Token::Mark(Mark::Less))?;
             Ok(())
         }
         _ => Err(CutRefusal::BadForm),
@@ -220,28 +334,38 @@ fn end(tokens: &mut FirstTokens, begun: Begun) -> Result<(), CutRefusal>
 
 /// The first tokens of the line, where nothing is kept before.
 #[tactic(auto, unfolding(crate::specs::Keeping::kept_tokens))]
-fn cut(alloc: Global, tokens: &mut FirstTokens, line: &[u8]) -> Result<(), CutRefusal>
+fn cut(
+    alloc: Global,
+    version: Version,
+    tokens: &mut FirstTokens,
+    line: &[u8],
+) -> Result<(), CutRefusal>
     ensures { (most : ℕ) → kept_of tokens.old ≡ nothing_kept most
-        → CutEnds result (kept_of tokens.new) (kept_tokens most line.now) }
+        → CutEnds result (kept_of tokens.new) (kept_tokens version most line.now) }
 {
     let mut begun = Begun::Nothing;
     let mut left = line;
     'bytes: while let Some((byte, others)) = left.split_first() {
-        match step(alloc, tokens, begun, *byte) {
+        match step(alloc, version, tokens, begun, *byte) {
             Ok(next) => begun = next,
             Err(e) => return Err(e),
         }
         left = others;
     }
-    end(tokens, begun)
+    end(version, tokens, begun)
 }
 
-/// The tokens that the line is cut into, with spaces and tabs between them, of which as many are kept as `most`.
+/// The tokens that the line is cut into by the version, with spaces and tabs between them. As many are kept as `most`.
 ///
 /// `BadForm` exactly where it can't be cut, and `Memory` where there is no room. One pass.
-pub fn first_tokens(alloc: Global, line: &[u8], most: usize) -> Result<FirstTokens, CutRefusal>
-    ensures found { MatchResult result (λ t. BeginsFound (kept_of t) (tokens_of line.now))
-        (λ e. FailsWith e (tokens_of line.now)) }
+pub fn first_tokens(
+    alloc: Global,
+    version: Version,
+    line: &[u8],
+    most: usize,
+) -> Result<FirstTokens, CutRefusal>
+    ensures found { MatchResult result (λ t. BeginsFound version (kept_of t) (tokens_of version line.now))
+        (λ e. FailsWith e (tokens_of version line.now)) }
     ensures most { IfOk result (λ t. t.most ≡ most) }
 {
     let mut found = FirstTokens {
@@ -250,7 +374,7 @@ pub fn first_tokens(alloc: Global, line: &[u8], most: usize) -> Result<FirstToke
         tally: Tally::new(),
         most,
     };
-    match cut(alloc, &mut found, line) {
+    match cut(alloc, version, &mut found, line) {
         Ok(()) => Ok(found),
         Err(e) => Err(e),
     }

@@ -1,5 +1,5 @@
 // Where the names of categories are looked up.
-ghost use Rattle.olap_base.specs.Graph.{HasEdge, IsCategory};
+ghost use Rattle.olap_base.specs.Graph.{HasEdge, IsCategory, is_number as is_number_of};
 ghost use Rattle.olap_graph.specs.Lookups.{category_named, edge_between};
 ghost use Rattle.olap_grammar.specs.Known.{graph_seen};
 ghost use Rattle.std.specs.Option.{option_map};
@@ -26,6 +26,17 @@ impl Known<'_> {
         match self {
             Known::Growing(builder) => builder.category(name),
             Known::Whole(graph) => graph.category(name),
+        }
+    }
+
+    /// Whether the members' names are numbers.
+    pub fn is_number(&self, c: CatId) -> bool
+        requires { IsCategory (graph_seen self.now) c.0 }
+        ensures { result ≡ is_number_of (graph_seen self.now) c.0 }
+    {
+        match self {
+            Known::Growing(builder) => builder.is_number(c),
+            Known::Whole(graph) => graph.is_number(c),
         }
     }
 

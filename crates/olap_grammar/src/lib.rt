@@ -28,5 +28,5 @@ pub use quoting::push_quoted;
 pub use reading::formula;
 pub use refusals::{CutRefusal, FormRefusal};
 pub use tallying::Tally;
-pub use tokens::{Joint, Mark, Token};
-pub use words::{first_piece, marks, pieces};
+pub use tokens::{Joint, Mark, Token, Version};
+pub use words::{first_piece, is_number_token, marks, pieces};

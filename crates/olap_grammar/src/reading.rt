@@ -6,26 +6,29 @@ ghost use Rattle.olap_grammar.specs.Known.{graph_seen};
 ghost use Rattle.olap_grammar.specs.Machine as machine;
 ghost use Rattle.olap_grammar.specs.Machine.{the_formula};
 ghost use Rattle.olap_grammar.specs.Parts.{part_of};
-ghost use Rattle.olap_grammar.specs.Reader.{Ends, GoesTo, leaves_of, state_of};
+ghost use Rattle.olap_grammar.specs.Reader.{Built, Ends, GoesTo, leaves_of, state_of};
 ghost use Rattle.olap_grammar.specs.Words.{atoms_of};
+ghost use Rattle.olap_ast.specs.Trees.{formula_of, op_of};
+ghost use Rattle.std.specs.Option.{option_map};
+ghost use Rattle.std.specs.Prelude.{List};
 
 use crate::closing::{close, left_level, settle};
 use crate::parts::{Part, leaf, no_parts, one};
 use crate::stacking::{Frame, Stack};
-use crate::words::{equality, is, plain_word};
-use crate::{FormRefusal, Known, Mark, Token};
-use olap_ast::Formula;
+use crate::words::{comparison, equality, is, plain_word};
+use crate::{FormRefusal, Known, Mark, Token, Version};
+use olap_ast::{Formula, Op};
 use olap_base::{MOST_DEPTH, Text};
 use std::alloc::Global;
 
-/// What was read last: nothing of the formula that is to come, the start of a list, a word, a word with a `=`, or a
-/// formula.
+/// What was read last: nothing of the formula that is to come, the start of a list, a word, a word with a mark that
+/// compares, or a formula.
 #[derive(Drop)]
 enum State<'a> {
     Wants,
     WantsPart,
     Named(&'a Text),
-    Compared(&'a Text),
+    Compared(&'a Text, Op),
     Has(Part),
 }
 
@@ -111,12 +114,13 @@ fn begin_part<'a>(stack: &mut Stack, token: &'a Token) -> Result<State<'a>, Form
 fn after_plain<'a>(
     alloc: Global,
     known: &Known,
+    version: Version,
     word: &Text,
     stack: &mut Stack,
     token: &Token,
 ) -> Result<State<'a>, FormRefusal>
-    ensures { GoesTo result (frames stack.new)
-        (machine.after_atom clipped ((leaves_of (graph_seen known.now)).plain word.now) (frames stack.old) token.now) }
+    ensures { GoesTo result (frames stack.new) (machine.after_atom clipped
+        ((leaves_of version (graph_seen known.now)).plain word.now) (frames stack.old) token.now) }
 {
     match plain_word(alloc, known, word)? {
         Some(f) => after(alloc, leaf(f), stack, token),
@@ -128,12 +132,13 @@ fn after_plain<'a>(
 fn after_word<'a>(
     alloc: Global,
     known: &Known,
+    version: Version,
     word: &'a Text,
     stack: &mut Stack,
     token: &Token,
 ) -> Result<State<'a>, FormRefusal>
     ensures { GoesTo result (frames stack.new)
-        (machine.after_word clipped (leaves_of (graph_seen known.now)) word.now (frames stack.old) token.now) }
+        (machine.after_word clipped (leaves_of version (graph_seen known.now)) word.now (frames stack.old) token.now) }
 {
     match token {
         Token::Mark(Mark::Open) => {
@@ -143,27 +148,44 @@ fn after_word<'a>(
                 Err(FormRefusal::BadForm)
             }
         }
-        Token::Mark(Mark::Equal) => Ok(State::Compared(word)),
-        _ => after_plain(alloc, known, word, stack, token),
+        Token::Mark(Mark::Equal) => Ok(State::Compared(word, Op::Equal)),
+        Token::Mark(Mark::Less) => Ok(State::Compared(word, Op::Less)),
+        Token::Mark(Mark::AtMost) => Ok(State::Compared(word, Op::AtMost)),
+        _ => after_plain(alloc, known, version, word, stack, token),
     }
 }
 
-/// After a word with a `=`.
-fn after_equal<'a>(
+/// An atom, if there is one.
+fn has_atom<'a>(atom: Option<Formula>) -> Result<State<'a>, FormRefusal>
+    ensures { (s : List (machine.Frame Built)) →
+        GoesTo result s (machine.has_atom (option_map (λ f. (1, formula_of f)) atom) s) }
+{
+    match atom {
+        Some(f) => Ok(State::Has(leaf(f))),
+        None => Err(FormRefusal::BadForm),
+    }
+}
+
+/// After a word with a mark that compares.
+fn after_compared<'a>(
     alloc: Global,
     known: &Known,
+    version: Version,
     word: &Text,
+    op: Op,
     stack: &mut Stack,
     token: &Token,
 ) -> Result<State<'a>, FormRefusal>
-    ensures { GoesTo result (frames stack.new)
-        (machine.after_equal (leaves_of (graph_seen known.now)) word.now (frames stack.old) token.now) }
+    ensures { GoesTo result (frames stack.new) (machine.after_compared (leaves_of version (graph_seen known.now))
+        word.now (op_of op) (frames stack.old) token.now) }
 {
     match token {
-        Token::Quoted(text) => match equality(alloc, known, word, text)? {
-            Some(f) => Ok(State::Has(leaf(f))),
-            None => Err(FormRefusal::BadForm),
+        Token::Quoted(text) => match op {
+            Op::Equal => has_atom(equality(alloc, known, word, text)?),
+            _ => Err(FormRefusal::BadForm),
         },
+        Token::Word(digits) => { has_atom(comparison(alloc, known, version, word, op, digits)?) }
+        Token::Signed(digits) => { has_atom(comparison(alloc, known, version, word, op, digits)?) }
         _ => Err(FormRefusal::BadForm),
     }
 }
@@ -171,18 +193,19 @@ fn after_equal<'a>(
 fn step<'a>(
     alloc: Global,
     known: &Known,
+    version: Version,
     state: State<'a>,
     stack: &mut Stack,
     token: &'a Token,
 ) -> Result<State<'a>, FormRefusal>
-    ensures { GoesTo result (frames stack.new)
-        (machine.step clipped (leaves_of (graph_seen known.now)) (state_of state.entry (frames stack.old)) token.now) }
+    ensures { GoesTo result (frames stack.new) (machine.step clipped (leaves_of version (graph_seen known.now))
+        (state_of state.entry (frames stack.old)) token.now) }
 {
     match state {
         State::Wants => begin(stack, token),
         State::WantsPart => begin_part(stack, token),
-        State::Named(word) => after_word(alloc, known, word, stack, token),
-        State::Compared(word) => after_equal(alloc, known, word, stack, token),
+        State::Named(word) => after_word(alloc, known, version, word, stack, token),
+        State::Compared(word, op) => after_compared(alloc, known, version, word, op, stack, token),
         State::Has(part) => after(alloc, part, stack, token),
     }
 }
@@ -198,8 +221,14 @@ fn alone(alloc: Global, part: Part, stack: &mut Stack) -> Result<Part, FormRefus
     }
 }
 
-fn end(alloc: Global, known: &Known, state: State, stack: &mut Stack) -> Result<Part, FormRefusal>
-    ensures { Ends result (machine.ended clipped (leaves_of (graph_seen known.now))
+fn end(
+    alloc: Global,
+    known: &Known,
+    version: Version,
+    state: State,
+    stack: &mut Stack,
+) -> Result<Part, FormRefusal>
+    ensures { Ends result (machine.ended clipped (leaves_of version (graph_seen known.now))
         (state_of state.entry (frames stack.old))) }
 {
     match state {
@@ -212,30 +241,40 @@ fn end(alloc: Global, known: &Known, state: State, stack: &mut Stack) -> Result<
     }
 }
 
-fn read_tokens(alloc: Global, known: &Known, tokens: &[Token]) -> Result<Part, FormRefusal>
-    ensures { Ends result (machine.formula_read clipped (leaves_of (graph_seen known.now)) tokens.now) }
+fn read_tokens(
+    alloc: Global,
+    known: &Known,
+    version: Version,
+    tokens: &[Token],
+) -> Result<Part, FormRefusal>
+    ensures { Ends result (machine.formula_read clipped (leaves_of version (graph_seen known.now)) tokens.now) }
 {
     let mut stack = Stack::new(alloc);
     let mut state = State::Wants;
     let mut left = tokens;
     'tokens: while let Some((token, others)) = left.split_first() {
-        match step(alloc, known, state, &mut stack, token) {
+        match step(alloc, known, version, state, &mut stack, token) {
             Ok(next) => state = next,
             Err(e) => return Err(e),
         }
         left = others;
     }
-    end(alloc, known, state, &mut stack)
+    end(alloc, known, version, state, &mut stack)
 }
 
-/// The formula that the tokens are.
+/// The formula of the version that the tokens are.
 ///
 /// `BadForm` where they are none, and else `TooDeep` where it is deeper than `MOST_DEPTH`. One pass, and no tree that
 /// is deeper than one more comes about, whatever the tokens are. `Memory` where there is no room.
-pub fn formula(alloc: Global, known: &Known, tokens: &[Token]) -> Result<Formula, FormRefusal>
-    ensures { Answers result (formula_answer (the_formula (atoms_of (graph_seen known.now)) tokens.now)) }
+pub fn formula(
+    alloc: Global,
+    known: &Known,
+    version: Version,
+    tokens: &[Token],
+) -> Result<Formula, FormRefusal>
+    ensures { Answers result (formula_answer (the_formula (atoms_of version (graph_seen known.now)) tokens.now)) }
 {
-    match read_tokens(alloc, known, tokens) {
+    match read_tokens(alloc, known, version, tokens) {
         Ok(part) => {
             if part.depth > MOST_DEPTH as u8 {
                 return Err(FormRefusal::TooDeep);

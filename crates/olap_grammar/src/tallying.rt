@@ -1,8 +1,8 @@
 // What is counted of the tokens of a line, kept or not.
 ghost use Rattle.std.specs.Prelude.{◌≡◌, ◌+◌, OnOk, IfOk};
-ghost use Rattle.olap_grammar.specs.Tallying.{counted, nothing_tallied, tallied};
+ghost use Rattle.olap_grammar.specs.Tallying.{added, counted, nothing_tallied, tallied};
 
-use crate::{Mark, Token};
+use crate::{Mark, Token, Version};
 use olap_base::{MOST_DEPTH, MOST_NODES, Memory};
 
 /// Nodes are counted up to here: more than a formula may have, and the three tokens before it.
@@ -19,6 +19,8 @@ pub struct Tally {
     pub closed: usize,
     /// Whether more than `MOST_DEPTH` brackets were open at some place.
     pub too_deep: bool,
+    /// Whether what comes next is compared with: it is no node.
+    pub is_compared: bool,
 }
 
 /// One node more, up to `COUNTED_NODES`.
@@ -52,12 +54,13 @@ impl Tally {
             opened: 0,
             closed: 0,
             too_deep: false,
+            is_compared: false,
         }
     }
 
-    /// One token more. `Memory` where a machine has no room for so many brackets.
-    pub(crate) fn add(&mut self, token: &Token) -> Result<(), Memory>
-        ensures { OnOk result (self.new ≡ tallied self.old token.now) }
+    /// One token more, but for what comes next. `Memory` where a machine has no room for so many brackets.
+    fn count(&mut self, token: &Token) -> Result<(), Memory>
+        ensures { OnOk result (self.new ≡ added self.old token.now) }
     {
         match token {
             Token::Mark(Mark::Open) => {
@@ -67,11 +70,20 @@ impl Tally {
             }
             Token::Mark(Mark::Close) => self.closed = one_more(self.closed)?,
             _ => {
-                if token.is_node() {
+                if !self.is_compared && token.is_node() {
                     self.nodes = count(self.nodes);
                 }
             }
         }
+        Ok(())
+    }
+
+    /// One token more. `Memory` where a machine has no room for so many brackets.
+    pub(crate) fn add(&mut self, version: Version, token: &Token) -> Result<(), Memory>
+        ensures { OnOk result (self.new ≡ tallied version self.old token.now) }
+    {
+        self.count(token)?;
+        self.is_compared = token.compares(version);
         Ok(())
     }
 }

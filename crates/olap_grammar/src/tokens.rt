@@ -1,8 +1,15 @@
 // Tokens.
-ghost use Rattle.olap_grammar.specs.Nodes.{is_node};
+ghost use Rattle.olap_grammar.specs.Nodes.{compares, is_node};
 ghost use Rattle.std.specs.Prelude.{◌≡◌};
 
 use olap_base::Text;
+
+/// A version of the schema text. The second has numbers, and comparisons with them.
+#[derive(Clone, Copy, Debug, PartialEq, Eq)]
+pub enum Version {
+    One,
+    Two,
+}
 
 /// A mark that joins two formulas.
 #[derive(Clone, Copy, Debug, PartialEq, Eq)]
@@ -22,6 +29,8 @@ pub enum Mark {
     Comma,
     Colon,
     Equal,
+    Less,
+    AtMost,
     Not,
     Joint(Joint),
 }
@@ -31,11 +40,23 @@ pub enum Mark {
 pub enum Token {
     Word(Text),
     Quoted(Text),
+    /// A `-` before a digit, with the bytes of a word behind it.
+    Signed(Text),
     Mark(Mark),
 }
 
 impl Token {
-    /// Whether it is a node of a formula's tree.
+    /// Whether it is a mark before a number: `=`, `<` or `<=`, in the version that has numbers.
+    pub fn compares(&self, version: Version) -> bool
+        ensures { result ≡ compares version self.now }
+    {
+        match version {
+            Version::One => false,
+            Version::Two => { matches!(self, Token::Mark(Mark::Equal | Mark::Less | Mark::AtMost)) }
+        }
+    }
+
+    /// Whether it is a node of a formula's tree, unless it is compared with.
     pub fn is_node(&self) -> bool
         ensures { result ≡ is_node self.now }
     {

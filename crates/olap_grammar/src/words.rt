@@ -1,17 +1,20 @@
 // What a word is in a formula.
-ghost use Rattle.olap_ast.specs.Trees.{formula_of};
+ghost use Rattle.olap_ast.specs.Trees.{formula_of, op_of};
 ghost use Rattle.olap_base.specs.Reaching.{is_category_name as is_name_of};
+ghost use Rattle.olap_numerals.specs.Numerals.{digits_in};
 ghost use Rattle.olap_grammar.specs.Known.{graph_seen};
-ghost use Rattle.olap_grammar.specs.Words.{equal_of, equality_of, id_of, path_of, pieces_behind, pieces_of, plain_of, reach_of};
+ghost use Rattle.olap_grammar.specs.Words.{compared_of, comparison_in, comparison_of, equal_of, equality_of, id_of, is_number_token as is_number_token_of, path_of, pieces_behind, pieces_of, plain_of, reach_of};
+ghost use Rattle.std.specs.Char.{is_ascii_digit};
 ghost use Rattle.std.specs.List.{list_all, position};
 ghost use Rattle.std.specs.Option.{option_map};
 ghost use Rattle.std.specs.Prelude.{◌≡◌, ◌==◌, ◌<◌, ◌+◌, ◌∷◌, IfOk, IfSome, None, Some, if◌then◌else◌, length, map, vec_len};
 ghost use Rattle.std.specs.Str.{bytes_eq};
 
-use crate::Known;
-use olap_ast::Formula;
+use crate::{Known, Version};
+use olap_ast::{Formula, Op};
 use olap_base::{CatId, List, Memory, Text};
 use olap_graph::category_name;
+use olap_numerals::number;
 use std::alloc::{AllocError, Global};
 
 /// Whether the word is that text.
@@ -210,4 +213,83 @@ pub(crate) fn equality(
     }
     let parts = pieces(alloc, b'.', word.bytes())?;
     equal(alloc, known, text, &parts)
+}
+
+/// What stands behind a `-`, if one stands in front.
+fn behind_sign(text: &[u8]) -> &[u8]
+    ensures { result.now ≡ digits_in text.now }
+{
+    match text.split_first() {
+        Some((first, others)) => { if *first == b'-' { others } else { text } }
+        None => text,
+    }
+}
+
+/// Whether the bytes are decimal digits.
+fn are_digits(text: &[u8]) -> bool
+    ensures { result ≡ list_all is_ascii_digit text.now }
+{
+    text.iter().all(|b| b.is_ascii_digit())
+}
+
+/// Whether the bytes are a `-` or none, decimal digits, one at least, and nothing else.
+#[tactic(auto, using(crate::proofs::WordLemmas::each_is_digit), unfolding(crate::specs::Words::is_number_token))]
+pub fn is_number_token(text: &[u8]) -> bool
+    ensures { result ≡ is_number_token_of text.now }
+{
+    let digits = behind_sign(text);
+    !digits.is_empty() && are_digits(digits)
+}
+
+fn compared(known: &Known, op: Op, n: i64, parts: &[Text]) -> Option<Formula>
+    ensures { option_map formula_of result ≡ compared_of (graph_seen known.now) (op_of op) n parts.now }
+{
+    if !are_names(parts) {
+        return None;
+    }
+    if parts.len() == 1 {
+        return Some(Formula::Compare(id(known, parts[0].bytes()), op, n));
+    }
+    if parts.len() == 2 {
+        return Some(Formula::Compare(id(known, parts[1].bytes()), op, n));
+    }
+    None
+}
+
+/// What a word is with a number.
+#[tactic(auto, unfolding(crate::specs::Words::comparison_of))]
+fn with_number(
+    alloc: Global,
+    known: &Known,
+    word: &Text,
+    op: Op,
+    digits: &Text,
+) -> Result<Option<Formula>, Memory>
+    ensures { IfOk result (λ f. option_map formula_of f
+        ≡ comparison_of (graph_seen known.now) word.now (op_of op) digits.now) }
+{
+    if !is_number_token(digits.bytes()) || marks(b'.', word.bytes()) > 1 {
+        return Ok(None);
+    }
+    let n = number(digits.bytes()).unwrap_or(0);
+    let parts = pieces(alloc, b'.', word.bytes())?;
+    Ok(compared(known, op, n, &parts))
+}
+
+/// What a word is with a number, in the version.
+pub(crate) fn comparison(
+    alloc: Global,
+    known: &Known,
+    version: Version,
+    word: &Text,
+    op: Op,
+    digits: &Text,
+) -> Result<Option<Formula>, Memory>
+    ensures { IfOk result (λ f. option_map formula_of f
+        ≡ comparison_in version (graph_seen known.now) word.now (op_of op) digits.now) }
+{
+    match version {
+        Version::One => Ok(None),
+        Version::Two => with_number(alloc, known, word, op, digits),
+    }
 }

@@ -1,5 +1,5 @@
 -- The edge from one category to another, found among the edges out of the child.
-use Rattle.std.proofs.Common.{◌≡◌, ◌≢◌, ℕ, ◌<◌, List, length, get_or, map, Option, Some, None, refl, ap, sym, ◌∙◌, arith, zero-add}
+use Rattle.std.proofs.Common.{Bool, ◌≡◌, ◌≢◌, ℕ, ◌<◌, List, length, get_or, map, Option, Some, None, refl, ap, sym, ◌∙◌, arith, zero-add}
 use Rattle.std.specs.Prelude.{AllPairs, Contains, IfNone, IfSome}
 use Rattle.std.specs.Option.{option_map}
 use Rattle.std.proofs.lemmas.List.{get_or-map, length-map}
@@ -42,21 +42,21 @@ leading_is g c d out (Some e) differ q some none =
     sym (edge_between-at g c d e.0 differ t.0 same)
 
 -- the same, where the edges were read from the table
-pub edge_found : (names : List (List ℕ)) (ends : List Ends) (n c i d : ℕ) (table : List (List EdgeId))
+pub edge_found : (names : List (List ℕ)) (kinds : List Bool) (ends : List Ends) (n c i d : ℕ) (table : List (List EdgeId))
     (row out : List EdgeId) (r : Option EdgeId)
     → AreOut (drawn ends) n table → AllPairs ◌≢◌ (map edge_of ends) → c < n → i ≡ c → row ≡ get_or table i row
     → out ≡ row
     → IfSome r (λ e. Contains out e × ((edge_at (drawn ends) e.0).parent ≡ d))
     → IfNone r (Contains (parents_of (drawn ends) out) d → ⊥)
-    → option_map (λ e. e.0) r ≡ edge_between (graph_of names ends) c d
-edge_found names ends n c i d table row out r a differ h e q o some none =
+    → option_map (λ e. e.0) r ≡ edge_between (graph_of names kinds ends) c d
+edge_found names kinds ends n c i d table row out r a differ h e q o some none =
     leading_is (drawn ends) c d out r differ (out_read (drawn ends) n table c i row out a h e q o) some none
 
 -- the ends that are read from the list are categories
-pub ends_are : (names : List (List ℕ)) (ends : List Ends) (k i : ℕ) (x : Ends) → IsHierarchy (graph_of names ends)
+pub ends_are : (names : List (List ℕ)) (kinds : List Bool) (ends : List Ends) (k i : ℕ) (x : Ends) → IsHierarchy (graph_of names kinds ends)
     → k < length (map edge_of ends) → i ≡ k
-    → x ≡ get_or ends i x → IsCategory (graph_of names ends) x.child.0 × IsCategory (graph_of names ends) x.parent.0
-ends_are names ends k i x v h e q =
+    → x ≡ get_or ends i x → IsCategory (graph_of names kinds ends) x.child.0 × IsCategory (graph_of names kinds ends) x.parent.0
+ends_are names kinds ends k i x v h e q =
     let l : k < length ends = let n = length-map ends edge_of in omega arith in
     let read : get_or (map edge_of ends) k (edge_of x) ≡ edge_of x =
     get_or-map edge_of ends k x (edge_of x) l ∙ ap edge_of (ap (λ j. get_or ends j x) (sym e) ∙ sym q) in

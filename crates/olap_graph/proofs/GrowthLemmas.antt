@@ -1,5 +1,5 @@
 -- A graph in the making keeps its promises when a category or an edge is added.
-use Rattle.std.proofs.Common.{◌≡◌, ◌≢◌, ℕ, ◌<◌, ◌≤◌, List, [], ◌∷◌, ◌++◌, length, drop, map, Option, None, Some, false, is_some, refl, sym, ap, ◌∙◌, subst, inl, inr, arith}
+use Rattle.std.proofs.Common.{◌≡◌, ◌≢◌, ℕ, ◌<◌, ◌≤◌, List, [], ◌∷◌, ◌++◌, Bool, length, drop, map, Option, None, Some, false, is_some, refl, sym, ap, ◌∙◌, subst, inl, inr, arith}
 use Rattle.std.specs.Prelude.{Contains, AllPairs, codes, ◌==◌}
 use Rattle.std.specs.Option.{option_map}
 use Rattle.std.proofs.lemmas.Bool.Decides.{Decides-eqb}
@@ -12,7 +12,7 @@ use Rattle.olap_base.specs.Limits.{most_categories, most_edges, most_text_bytes}
 use Rattle.olap_base.proofs.ListLemmas.{contains_head}
 use Rattle.olap_graph.specs.declared.listing.Ends.{Ends}
 use Rattle.olap_graph.specs.Lookups.{category_named, edge_between, joins}
-use Rattle.olap_graph.specs.Building.{IsWithinLimits, IsUnfinished, with_category, with_edge}
+use Rattle.olap_graph.specs.Building.{IsWithinLimits, IsUnfinished, with_kind, with_edge}
 use Rattle.olap_graph.specs.Listing.{IsHeaded, edge_of, graph_of}
 use Rattle.olap_graph.proofs.PlaceLemmas.{missing, joins-Decides, place_of-none}
 
@@ -23,9 +23,9 @@ differ_push xs x a new =
 
 -- ---- one more category
 
-pub limits-with_category : (g : Graph) (name : List ℕ) → IsWithinLimits g → category_count g < most_categories
-    → length name ≤ most_text_bytes → IsWithinLimits (with_category g name)
-limits-with_category g name w few short = record {
+pub limits-with_category : (number : Bool) (g : Graph) (name : List ℕ) → IsWithinLimits g → category_count g < most_categories
+    → length name ≤ most_text_bytes → IsWithinLimits (with_kind number g name)
+limits-with_category number g name w few short = record {
   few = omega (arith, length_push g.names name);
   few_edges = w.few_edges;
   short_names =
@@ -35,9 +35,11 @@ limits-with_category g name w few short = record {
       ];
 }
 
-pub unfinished-with_category : (g : Graph) (name : List ℕ) → IsUnfinished g → IsCategoryName name
-    → category_named g name ≡ None → IsUnfinished (with_category g name)
-unfinished-with_category g name u n none = record {
+pub unfinished-with_category : (number : Bool) (g : Graph) (name : List ℕ) → IsUnfinished g → IsCategoryName name
+    → category_named g name ≡ None → IsUnfinished (with_kind number g name)
+unfinished-with_category number g name u n none = record {
+  kinds_known = let a = length_push g.numbers number in let b = length_push g.names name in
+      let c = u.kinds_known in omega arith;
   names_differ =
       differ_push g.names name u.names_differ
       (λ c. place_of-none name (codes "All" ∷ g.names) none (contains_cons name g.names (codes "All") c));
@@ -69,6 +71,7 @@ limits-with_edge g c d w few = record {
 pub unfinished-with_edge : (g : Graph) (c d : ℕ) → IsUnfinished g → IsCategory g c → IsCategory g d → c ≢ d → c ≢ 0
     → edge_between g c d ≡ None → IsUnfinished (with_edge g c d)
 unfinished-with_edge g c d u hc hd loop from_all none = record {
+  kinds_known = u.kinds_known;
   names_differ = u.names_differ;
   names = u.names;
   categories = λ a b h. each (λ x y. IsCategory g x × IsCategory g y) a b h u.categories (hc, hd);
@@ -102,20 +105,21 @@ drop-headed (x ∷ names) name h = refl
 pub headed_push : (names : List (List ℕ)) (name : List ℕ) → IsHeaded names → IsHeaded (names ++ name ∷ [])
 headed_push names name h = ap (λ ns. ns ++ name ∷ []) h ∙ ap (λ ns. codes "All" ∷ ns) (sym (drop-headed names name h))
 
-pub graph_of-category : (names : List (List ℕ)) (ends : List Ends) (name : List ℕ) → IsHeaded names
-    → graph_of (names ++ name ∷ []) ends ≡ with_category (graph_of names ends) name
-graph_of-category names ends name h =
-    ap (λ ns. let g : Graph = record { names = ns; edges = map edge_of ends } in g) (drop-headed names name h)
+pub graph_of-category : (number : Bool) (names : List (List ℕ)) (kinds : List Bool) (ends : List Ends)
+    (name : List ℕ) → IsHeaded names
+    → graph_of (names ++ name ∷ []) (kinds ++ number ∷ []) ends ≡ with_kind number (graph_of names kinds ends) name
+graph_of-category number names kinds ends name h =
+    ap (λ ns. let g : Graph = record { names = ns; numbers = kinds ++ number ∷ []; edges = map edge_of ends } in g) (drop-headed names name h)
 
-pub graph_of-edge : (names : List (List ℕ)) (ends : List Ends) (e : Ends)
-    → graph_of names (ends ++ e ∷ []) ≡ with_edge (graph_of names ends) e.child.0 e.parent.0
-graph_of-edge names ends e =
-    ap (λ es. let g : Graph = record { names = drop 1 names; edges = es } in g) (map_push edge_of ends e)
+pub graph_of-edge : (names : List (List ℕ)) (kinds : List Bool) (ends : List Ends) (e : Ends)
+    → graph_of names kinds (ends ++ e ∷ []) ≡ with_edge (graph_of names kinds ends) e.child.0 e.parent.0
+graph_of-edge names kinds ends e =
+    ap (λ es. let g : Graph = record { names = drop 1 names; numbers = kinds; edges = es } in g) (map_push edge_of ends e)
 
 -- there are as many names as categories
-pub headed_length : (names : List (List ℕ)) (ends : List Ends) → IsHeaded names
-    → length names ≡ category_count (graph_of names ends)
-headed_length names ends h = let l = ap length h in omega (arith, l)
+pub headed_length : (names : List (List ℕ)) (kinds : List Bool) (ends : List Ends) → IsHeaded names
+    → length names ≡ category_count (graph_of names kinds ends)
+headed_length names kinds ends h = let l = ap length h in omega (arith, l)
 
 -- where the look-up gave nothing, there is nothing
 pub nothing : {X Y : Type 0} (f : X → Y) (r : Option X) (o : Option Y) → option_map f r ≡ o → is_some r ≡ false

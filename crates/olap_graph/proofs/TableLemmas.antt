@@ -213,38 +213,38 @@ bottoms_done g n marks l i = record {
 }
 
 -- what is read from the marks
-pub bottom_is : (names : List (List ℕ)) (ends : List Ends) (n c : ℕ) (marks : List Bool) (r : Bool)
-    → AreBottoms (drawn ends) n marks → n ≡ category_count (graph_of names ends)
-    → c < n → r ≡ get_or marks c r → IsTrue r ↔ IsBottom (graph_of names ends) c
-bottom_is names ends n c marks r b q h e =
+pub bottom_is : (names : List (List ℕ)) (kinds : List Bool) (ends : List Ends) (n c : ℕ) (marks : List Bool) (r : Bool)
+    → AreBottoms (drawn ends) n marks → n ≡ category_count (graph_of names kinds ends)
+    → c < n → r ≡ get_or marks c r → IsTrue r ↔ IsBottom (graph_of names kinds ends) c
+bottom_is names kinds ends n c marks r b q h e =
     let t = b.exact c h in
     let l : c < length marks = let k = b.count in omega arith in
     let is : get_or marks c false ≡ r = get_or_default marks c false r l ∙ sym e in
-    let within : c < category_count (graph_of names ends) = omega arith in (
+    let within : c < category_count (graph_of names kinds ends) = omega arith in (
       λ m. let u = t.0 (is ∙ m) in ((u.0, within), u.1),
       λ u. sym is ∙ t.1 (u.0.0, u.1),
     )
 
 -- ---- what is reached
 
-pub row_is : {W : ℕ} (names : List (List ℕ)) (ends : List Ends) (n c d : ℕ) (rows : List (CatSet W)) (r : Bool)
+pub row_is : {W : ℕ} (names : List (List ℕ)) (kinds : List Bool) (ends : List Ends) (n c d : ℕ) (rows : List (CatSet W)) (r : Bool)
     → AreReached (drawn ends) n rows → c < n → r ≡ contains (row rows c) d
-    → IsTrue r ↔ CategoryReaches (graph_of names ends) c d
-row_is names ends n c d rows r a h q =
+    → IsTrue r ↔ CategoryReaches (graph_of names kinds ends) c d
+row_is names kinds ends n c d rows r a h q =
     let t = a.each c d h in
     (λ m. t.0 (sym q ∙ m), λ u. q ∙ t.1 u)
 
 -- the ends of the edges are categories
-pub lies_within : (names : List (List ℕ)) (ends : List Ends) (n : ℕ) → n ≡ category_count (graph_of names ends)
-    → ((c d : ℕ) → HasEdge (graph_of names ends) c d → IsCategory (graph_of names ends) c × IsCategory
-    (graph_of names ends) d) → LiesWithin (drawn ends) n
-lies_within names ends n q f c d h = let t = f c d h in (omega (arith, t.0), omega (arith, t.1))
+pub lies_within : (names : List (List ℕ)) (kinds : List Bool) (ends : List Ends) (n : ℕ) → n ≡ category_count (graph_of names kinds ends)
+    → ((c d : ℕ) → HasEdge (graph_of names kinds ends) c d → IsCategory (graph_of names kinds ends) c × IsCategory
+    (graph_of names kinds ends) d) → LiesWithin (drawn ends) n
+lies_within names kinds ends n q f c d h = let t = f c d h in (omega (arith, t.0), omega (arith, t.1))
 
 -- the first set without `All` is that of the first category without a way
-pub first_without_way : {W : ℕ} (names : List (List ℕ)) (ends : List Ends) (n : ℕ) (rows : List (CatSet W)) (c : CatId)
-    → AreReached (drawn ends) n rows → n ≡ category_count (graph_of names ends) → IsFirstWithout rows c
-    → IsFirstWithoutWay (graph_of names ends) c.0
-first_without_way names ends n rows c a q f =
+pub first_without_way : {W : ℕ} (names : List (List ℕ)) (kinds : List Bool) (ends : List Ends) (n : ℕ) (rows : List (CatSet W)) (c : CatId)
+    → AreReached (drawn ends) n rows → n ≡ category_count (graph_of names kinds ends) → IsFirstWithout rows c
+    → IsFirstWithoutWay (graph_of names kinds ends) c.0
+first_without_way names kinds ends n rows c a q f =
     let k = a.count in
     let l : c.0 < n = let t = f.declared.1 in omega arith in
     record {
@@ -258,11 +258,11 @@ first_without_way names ends n rows c a q f =
     positive (suc d) n = omega arith
 
 -- where each set has `All`, each category reaches `All`
-pub all_reach : {W : ℕ} (names : List (List ℕ)) (ends : List Ends) (n : ℕ) (rows : List (CatSet W))
-    → AreReached (drawn ends) n rows → n ≡ category_count (graph_of names ends) → HaveAll rows
-    → (c : ℕ) → IsCategory (graph_of names ends) c → CategoryReaches (graph_of names ends) c 0
-all_reach names ends n rows a q m zero h = inl refl
-all_reach names ends n rows a q m (suc c) h =
+pub all_reach : {W : ℕ} (names : List (List ℕ)) (kinds : List Bool) (ends : List Ends) (n : ℕ) (rows : List (CatSet W))
+    → AreReached (drawn ends) n rows → n ≡ category_count (graph_of names kinds ends) → HaveAll rows
+    → (c : ℕ) → IsCategory (graph_of names kinds ends) c → CategoryReaches (graph_of names kinds ends) c 0
+all_reach names kinds ends n rows a q m zero h = inl refl
+all_reach names kinds ends n rows a q m (suc c) h =
     let k = a.count in
     (a.each (suc c) 0 (omega arith)).0 (m (suc c) (omega arith) (omega arith))
 
@@ -270,6 +270,7 @@ all_reach names ends n rows a q m (suc c) h =
 pub hierarchy : (g : Graph) → IsUnfinished g → ((c : ℕ) → IsCategory g c → CategoryReaches g c 0) → IsHierarchy g
 hierarchy g u w = record {
   names_differ = u.names_differ;
+  kinds_known = u.kinds_known;
   names = u.names;
   categories = u.categories;
   edges_differ = u.edges_differ;

@@ -4,7 +4,7 @@
 --     category_refusal     the first reason to refuse a category
 --     edge_refusal         the first reason to refuse an edge
 --     IsFirstWithoutWay    the first declared category that doesn't reach `All`
-use Rattle.std.specs.Prelude.{◌≡◌, ◌≢◌, ℕ, ◌<◌, ◌≤◌, List, [], ◌∷◌, ◌++◌, length, AllPairs, Contains, codes, Option, Some, None, is_some, nat_le, if◌then◌else◌, ◌==◌}
+use Rattle.std.specs.Prelude.{◌≡◌, ◌≢◌, ℕ, Bool, true, false, ◌<◌, ◌≤◌, List, [], ◌∷◌, ◌++◌, length, AllPairs, Contains, codes, Option, Some, None, is_some, nat_le, if◌then◌else◌, ◌==◌}
 use Rattle.olap_base.specs.Graph.{Graph, category_count, IsCategory, IsDeclared, HasEdge, CategoryReaches, IsCategoryName}
 use Rattle.olap_base.specs.Limits.{most_categories, most_edges, most_text_bytes}
 use Rattle.olap_graph.specs.Lookups.{category_named, edge_between}
@@ -24,6 +24,7 @@ pub record IsWithinLimits (g : Graph) : Type 0 where
 -- names and edges differ, and no edge is a loop or leaves `All`
 pub record IsUnfinished (g : Graph) : Type 0 where
   pub names_differ : AllPairs ◌≢◌ g.names
+  pub kinds_known : length g.numbers ≡ length g.names
   pub names : (name : List ℕ) → Contains g.names name → IsCategoryName name × (name ≢ codes "All")
   pub categories : (c d : ℕ) → HasEdge g c d → IsCategory g c × IsCategory g d
   pub edges_differ : AllPairs ◌≢◌ g.edges
@@ -32,11 +33,19 @@ pub record IsUnfinished (g : Graph) : Type 0 where
 
 -- `All` alone
 abbrev pub all_alone : Graph
-all_alone = record { names = []; edges = [] }
+all_alone = record { names = []; numbers = []; edges = [] }
 
--- the graph with one more category
+-- the graph with one more category, of numbers or not
+abbrev pub with_kind : Bool → Graph → List ℕ → Graph
+with_kind number g name = record g { names = g.names ++ name ∷ []; numbers = g.numbers ++ number ∷ [] }
+
+-- the graph with one more category, whose names are texts
 abbrev pub with_category : Graph → List ℕ → Graph
-with_category g name = record g { names = g.names ++ name ∷ [] }
+with_category g name = with_kind false g name
+
+-- the graph with one more category, whose names are numbers
+abbrev pub with_number_category : Graph → List ℕ → Graph
+with_number_category g name = with_kind true g name
 
 -- the graph with one more edge
 abbrev pub with_edge : Graph → ℕ → ℕ → Graph

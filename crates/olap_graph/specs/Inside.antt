@@ -9,7 +9,7 @@ use Rattle.olap_graph.specs.declared.graphs.Graph.TheInside as graph
 
 -- the graph so far
 abbrev pub built : builder.Inside → Graph
-built a = graph_of a.names.items a.edges.items
+built a = graph_of a.names.items a.numbers.items a.edges.items
 
 -- what a builder keeps
 pub record IsBuilt (a : builder.Inside) : Type 0 where
@@ -19,7 +19,7 @@ pub record IsBuilt (a : builder.Inside) : Type 0 where
 
 -- the graph
 abbrev pub finished : graph.Inside → Graph
-finished a = graph_of a.names.items a.edges.items
+finished a = graph_of a.names.items a.numbers.items a.edges.items
 
 -- what a graph keeps
 pub record IsFinished (a : graph.Inside) : Type 0 where

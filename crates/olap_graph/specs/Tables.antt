@@ -17,7 +17,7 @@ use Rattle.olap_graph.specs.declared.tables.Tables.{Tables}
 
 -- a graph with these edges, whatever its names
 abbrev pub drawn : List Ends → Graph
-drawn ends = record { names = []; edges = map edge_of ends }
+drawn ends = record { names = []; numbers = []; edges = map edge_of ends }
 
 -- the mark of a number is set
 abbrev pub IsMarked : List Bool → ℕ → Type 0

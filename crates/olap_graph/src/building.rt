@@ -1,10 +1,10 @@
 // Graphs in the making.
 ghost use Rattle.std.specs.Prelude.{◌≡◌, ◌↔◌, ◌≤◌, ℕ, None, length, IfOk, IfErr, IfSome, OnErr, IsSome};
 ghost use Rattle.std.specs.Option.{option_map};
-ghost use Rattle.olap_base.specs.Graph.{IsCategory, IsCategoryName, HasEdge, CategoryReaches, category_count};
+ghost use Rattle.olap_base.specs.Graph.{IsCategory, IsCategoryName, HasEdge, CategoryReaches, category_count, is_number as is_number_of};
 ghost use Rattle.olap_base.specs.Limits.{most_text_bytes};
 ghost use Rattle.olap_graph.specs.Lookups.{category_named, edge_between};
-ghost use Rattle.olap_graph.specs.Building.{all_alone, with_category, with_edge, category_refusal, edge_refusal, IsCategoryCause, IsEdgeCause, IsGraphCause};
+ghost use Rattle.olap_graph.specs.Building.{all_alone, with_category, with_kind, with_number_category, with_edge, category_refusal, edge_refusal, IsCategoryCause, IsEdgeCause, IsGraphCause};
 
 use crate::listing::{Ends, joining, named};
 use crate::{CategoryRefusal, EdgeRefusal, Graph, GraphRefusal};
@@ -16,6 +16,7 @@ use std::marker::Model;
 #[derive(Drop)]
 pub struct GraphBuilder {
     names: Vec<Text>,
+    numbers: Vec<bool>,
     edges: Vec<Ends>,
     alloc: Global,
 }
@@ -41,9 +42,33 @@ impl GraphBuilder {
         names.push(Text::from_bytes(alloc, b"All")?)?;
         Ok(GraphBuilder {
             names,
+            numbers: Vec::new(alloc),
             edges: Vec::new(alloc),
             alloc,
         })
+    }
+
+    // Adds a category of that kind.
+    fn add_kind(&mut self, name: Text, number: bool) -> Result<CatId, CategoryRefusal>
+        requires name { IsCategoryName name }
+        requires short { length name ≤ most_text_bytes }
+        ensures ok { IfOk result (λ c. category_refusal self.old name ≡ None) }
+        ensures number { IfOk result (λ c. c.0 ≡ category_count self.old) }
+        ensures added { IfOk result (λ _. self.new ≡ with_kind number self.old name) }
+        ensures err { IfErr result (IsCategoryCause (category_refusal self.old name)) }
+        ensures same { OnErr result (self.new ≡ self.old) }
+    {
+        if self.category(name.bytes()).is_some() {
+            return Err(CategoryRefusal::DuplicateCategory);
+        }
+        if self.names.len() >= MOST_CATEGORIES {
+            return Err(CategoryRefusal::TooManyCategories);
+        }
+        let category = CatId(self.names.len() as u16);
+        self.numbers.reserve(1)?;
+        self.names.push(name)?;
+        self.numbers.push(number)?;
+        Ok(category)
     }
 
     /// Adds a category, and says which it is.
@@ -56,15 +81,20 @@ impl GraphBuilder {
         ensures err { IfErr result (IsCategoryCause (category_refusal self.old name)) }
         ensures same { OnErr result (self.new ≡ self.old) }
     {
-        if self.category(name.bytes()).is_some() {
-            return Err(CategoryRefusal::DuplicateCategory);
-        }
-        if self.names.len() >= MOST_CATEGORIES {
-            return Err(CategoryRefusal::TooManyCategories);
-        }
-        let category = CatId(self.names.len() as u16);
-        self.names.push(name)?;
-        Ok(category)
+        self.add_kind(name, false)
+    }
+
+    /// Adds a category whose members' names are numbers, and says which it is.
+    pub fn add_number_category(&mut self, name: Text) -> Result<CatId, CategoryRefusal>
+        requires name { IsCategoryName name }
+        requires short { length name ≤ most_text_bytes }
+        ensures ok { IfOk result (λ c. category_refusal self.old name ≡ None) }
+        ensures number { IfOk result (λ c. c.0 ≡ category_count self.old) }
+        ensures added { IfOk result (λ _. self.new ≡ with_number_category self.old name) }
+        ensures err { IfErr result (IsCategoryCause (category_refusal self.old name)) }
+        ensures same { OnErr result (self.new ≡ self.old) }
+    {
+        self.add_kind(name, true)
     }
 
     /// Adds an edge, and says which it is.
@@ -110,12 +140,20 @@ impl GraphBuilder {
         joining(&self.edges, child, parent)
     }
 
+    /// Whether the members' names are numbers.
+    pub fn is_number(&self, c: CatId) -> bool
+        requires { IsCategory self.now c.0 }
+        ensures { result ≡ is_number_of self.now c.0 }
+    {
+        c.0 != 0 && self.numbers[usize::from(c.0) - 1]
+    }
+
     /// The graph with these categories and edges. Cost: categories times categories and edges.
     pub fn finish(self) -> Result<Graph, GraphRefusal>
         ensures ok { IfOk result (λ graph. graph ≡ self) }
         ensures way { IfOk result (λ graph. (c : ℕ) → IsCategory graph c → CategoryReaches graph c 0) }
         ensures err { IfErr result (IsGraphCause self) }
     {
-        Graph::of(self.alloc, self.names, self.edges)
+        Graph::of(self.alloc, self.names, self.numbers, self.edges)
     }
 }

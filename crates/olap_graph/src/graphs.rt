@@ -1,7 +1,7 @@
 // Category graphs.
 ghost use Rattle.std.specs.Prelude.{◌≡◌, ◌↔◌, ◌≤◌, ◌<◌, ℕ, length, map, All, IfOk, IfErr, IfSome, IfNone, IsSome, IsTrue};
 ghost use Rattle.std.specs.Option.{option_map};
-ghost use Rattle.olap_base.specs.Graph.{IsCategory, IsDeclared, IsBottom, IsHierarchy, HasEdge, CategoryReaches, category_count};
+ghost use Rattle.olap_base.specs.Graph.{IsCategory, IsDeclared, IsBottom, IsHierarchy, HasEdge, CategoryReaches, category_count, is_number as is_number_of};
 ghost use Rattle.olap_base.specs.Limits.{most_categories, most_edges};
 ghost use Rattle.olap_graph.specs.Lookups.{category_named, name_of_category, edge_between, edge_at, edges_from};
 ghost use Rattle.olap_graph.specs.Building.{IsWithinLimits, IsUnfinished, IsGraphCause};
@@ -20,6 +20,7 @@ use std::marker::Model;
 #[derive(Debug, Drop)]
 pub struct Graph {
     names: Vec<Text>,
+    numbers: Vec<bool>,
     edges: Vec<Ends>,
     tables: Tables,
     alloc: Global,
@@ -56,14 +57,15 @@ impl Graph {
     pub(crate) fn of(
         alloc: Global,
         names: Vec<Text>,
+        numbers: Vec<bool>,
         edges: Vec<Ends>,
     ) -> Result<Graph, GraphRefusal>
         requires headed { IsHeaded names.items }
-        requires limits { IsWithinLimits (graph_of names.items edges.items) }
-        requires unfinished { IsUnfinished (graph_of names.items edges.items) }
-        ensures ok { IfOk result (λ graph. graph ≡ graph_of names.items edges.items) }
+        requires limits { IsWithinLimits (graph_of names.items numbers.items edges.items) }
+        requires unfinished { IsUnfinished (graph_of names.items numbers.items edges.items) }
+        ensures ok { IfOk result (λ graph. graph ≡ graph_of names.items numbers.items edges.items) }
         ensures way { IfOk result (λ graph. (c : ℕ) → IsCategory graph c → CategoryReaches graph c 0) }
-        ensures err { IfErr result (IsGraphCause (graph_of names.items edges.items)) }
+        ensures err { IfErr result (IsGraphCause (graph_of names.items numbers.items edges.items)) }
     {
         let tables = Tables::of(alloc, &edges, names.len() as u16)?;
         if let Some(category) = first_without_all(&tables.reached) {
@@ -71,6 +73,7 @@ impl Graph {
         }
         Ok(Graph {
             names,
+            numbers,
             edges,
             tables,
             alloc,
@@ -116,6 +119,14 @@ impl Graph {
         ensures { result.now ≡ name_of_category self.now c.0 }
     {
         &self.names[usize::from(c.0)]
+    }
+
+    /// Whether the members' names are numbers.
+    pub fn is_number(&self, c: CatId) -> bool
+        requires { IsCategory self.now c.0 }
+        ensures { result ≡ is_number_of self.now c.0 }
+    {
+        c.0 != 0 && self.numbers[usize::from(c.0) - 1]
     }
 
     /// Whether the category is a bottom one. One look at a table.
@@ -173,9 +184,11 @@ impl Graph {
         ensures { IfOk result (λ graph. graph ≡ self.now) }
     {
         let names = copied(self.alloc, &self.names)?;
+        let numbers = Vec::from_slice(self.alloc, &self.numbers)?;
         let edges = Vec::from_slice(self.alloc, &self.edges)?;
         Ok(Graph {
             names,
+            numbers,
             edges,
             tables: self.tables.copy(self.alloc)?,
             alloc: self.alloc,

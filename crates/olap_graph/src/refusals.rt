@@ -1,6 +1,6 @@
 // Why a category, an edge or a graph is refused.
 use olap_base::CatId;
-use std::alloc::AllocFailed;
+use std::alloc::{AllocError, AllocFailed};
 
 /// Why a category wasn't added, in the order in which it is tested.
 #[derive(Clone, Copy, Debug, PartialEq, Eq)]
@@ -35,6 +35,17 @@ pub enum GraphRefusal {
     NoWayToAll(CatId),
     /// Want of memory.
     Memory,
+}
+
+impl From<AllocError> for CategoryRefusal {
+    ghost use Rattle.std.specs.Prelude.{◌≡◌};
+    ghost use Rattle.olap_graph.specs.declared.refusals.CategoryRefusal.TheVariants.{Memory};
+
+    ghost from_gives = { λ _ e. e ≡ Memory };
+
+    fn from(_: AllocError) -> Self {
+        CategoryRefusal::Memory
+    }
 }
 
 impl<T: Drop> From<AllocFailed<T>> for CategoryRefusal {

@@ -1,19 +1,21 @@
 -- What it tells that a record, or a piece of a field of parents, fails no check.
-use Rattle.std.proofs.Common.{◌≡◌, ◌≢◌, ◌+◌, ◌<◌, ◌≤◌, ◌==◌, ◌||◌, ◌∷◌, ◌∙◌, not, Bool, cond, true, false, ℕ, zero, suc, List, [], length, map, take, codes, get_or, length-take, Option, Some, None, if◌then◌else◌, refl, sym, ap, arith}
-use Rattle.std.specs.Prelude.{AllPairs, Contains, is_none, is_some, nat_le, nat_lt}
+use Rattle.std.proofs.Common.{◌≡◌, ◌≢◌, ◌+◌, ◌<◌, ◌≤◌, ◌==◌, ◌||◌, ◌∷◌, ◌∙◌, not, Bool, cond, true, false, ℕ, ℤ, zero, suc, List, [], length, map, take, codes, get_or, length-take, Option, Some, None, if◌then◌else◌, refl, sym, ap, arith}
+use Rattle.std.specs.Prelude.{AllPairs, Contains, IsSome, IsTrue, is_none, is_some, nat_le, nat_lt}
 use Rattle.std.specs.List.{list_any, position_from}
 use Rattle.std.specs.Option.{option_map}
 use Rattle.std.specs.Str.{bytes_eq}
 use Rattle.std.proofs.lemmas.List.{get_or-map, get_or-take, length-map}
 use Rattle.std.proofs.lemmas.Option.{slice_get-get_or}
 use Rattle.std.proofs.lemmas.Slice.Eq.{bytes_eq-Decides}
-use Rattle.olap_base.specs.Graph.{Graph}
+use Rattle.olap_base.specs.Graph.{Graph, is_number}
 use Rattle.olap_base.specs.Limits.{most_members, most_text_bytes}
 use Rattle.olap_base.specs.Naming.{place_of}
 use Rattle.olap_graph.specs.Lookups.{category_named}
 use Rattle.olap_records.specs.Faults.{first_fault}
 use Rattle.olap_records.proofs.FaultLemmas.{none-iff}
-use Rattle.olap_instance.specs.InstanceText.{category_field, category_number, id_field, is_bad_id, is_known, is_no_text, is_too_long, member_fault, name_field, parent_read, piece_fault}
+use Rattle.olap_instance.specs.InstanceText.{category_field, category_number, id_field, is_bad_id, is_bad_number, is_known, is_no_text, is_too_long, member_fault, name_field, parent_read, piece_fault}
+use Rattle.olap_numerals.specs.Numerals.{number_of}
+use Rattle.olap_instance.specs.Drafts.{numbers_in}
 use Rattle.olap_instance.proofs.PlaceFacts.{id-at-place, place-within}
 
 -- ---- checks
@@ -50,6 +52,7 @@ pub record IsGood (g : Graph) (before : List (List (List ℕ))) (r : List (List 
   pub short : (is_too_long (id_field r) || is_too_long (name_field r)) ≡ false
   pub named : is_none (category_named g (category_field r)) ≡ false
   pub declared : (category_number g r == 0) ≡ false
+  pub numeral : is_bad_number (is_number g (category_number g r)) (name_field r) ≡ false
   pub fresh : is_known before (id_field r) ≡ false
   pub room : nat_le most_members (length before + 1) ≡ false
 
@@ -62,9 +65,35 @@ good g before r e =
     let d = else-none (is_too_long (id_field r) || is_too_long (name_field r)) _ _ c.1 in
     let f = else-none (is_none (category_named g (category_field r))) _ _ d.1 in
     let h = else-none (category_number g r == 0) _ _ f.1 in
-    let i = else-none (is_known before (id_field r)) _ _ h.1 in
+    let n = else-none (is_bad_number (is_number g (category_number g r)) (name_field r)) _ _ h.1 in
+    let i = else-none (is_known before (id_field r)) _ _ n.1 in
     let j = else-none (nat_le most_members (length before + 1)) _ _ i.1 in
-    record { text = b.0; id = c.0; short = d.0; named = f.0; declared = h.0; fresh = i.0; room = j.0 }
+    record { text = b.0; id = c.0; short = d.0; named = f.0; declared = h.0; numeral = n.0; fresh = i.0; room = j.0 }
+
+-- a name that is no bad one of a number category is a numeral
+pub good-number : (number : Bool) (name : List ℕ) → is_bad_number number name ≡ false → IsTrue number
+    → IsSome (number_of name)
+good-number false name e t = cc t
+good-number true name e t = by (number_of name) e
+  where
+    by : (o : Option ℤ) → is_none o ≡ false → IsSome o
+    by None e = cc e
+    by (Some z) e = refl
+
+-- and the other way round
+pub number-good : (number : Bool) (name : List ℕ) → (IsTrue number → IsSome (number_of name))
+    → is_bad_number number name ≡ false
+number-good false name h = refl
+number-good true name h = by (number_of name) (h refl)
+  where
+    by : (o : Option ℤ) → IsSome o → is_none o ≡ false
+    by None e = cc e
+    by (Some z) e = refl
+
+-- whether the names of a category are numbers, looked up
+pub kind-at : (g : Graph) (c : ℕ) → get_or (numbers_in g) c false ≡ is_number g c
+kind-at g zero = refl
+kind-at g (suc c) = refl
 
 pub fresh-parts : (before : List (List (List ℕ))) (id : List ℕ) → is_known before id ≡ false
     → (bytes_eq id (codes "all") ≡ false) × (place_of id (map id_field before) ≡ None)

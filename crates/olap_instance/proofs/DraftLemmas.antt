@@ -10,19 +10,22 @@ use Rattle.std.proofs.lemmas.List.Elements.{Contains-push_cases}
 use Rattle.std.proofs.lemmas.List.Quantifiers.{all_pairs_push}
 use Rattle.std.proofs.lemmas.Slice.Eq.{bytes_eq-Decides}
 use Rattle.olap_base.proofs.ListLemmas.{AllPairs-from_Distinct, Contains-from_map, Distinct-from_AllPairs, Distinct-map}
-use Rattle.olap_base.specs.Instance.{Instance, Member, category_of, member_at, nobody}
+use Rattle.olap_base.specs.Graph.{Graph, IsHierarchy}
+use Rattle.olap_base.specs.Instance.{Instance, Member, category_of, member_at, name_of, nobody}
 use Rattle.olap_base.specs.Limits.{most_members}
 use Rattle.olap_base.specs.Naming.{place_of}
-use Rattle.olap_instance.specs.Drafts.{Draft, HasParent, IsDraft, named_refusal, no_members, parents_so_far, places_of, with_member, with_parent}
-use Rattle.olap_instance.specs.InstanceText.{is_bad_id, is_too_long}
+use Rattle.olap_instance.specs.Drafts.{Draft, HasParent, IsDraft, has_numbers, named_refusal, no_members, parents_so_far, places_of, with_member, with_parent}
+use Rattle.olap_instance.specs.InstanceText.{is_bad_id, is_bad_number, is_too_long}
 use Rattle.olap_instance.specs.Members.{IsMemberId, childless}
 use Rattle.olap_instance.specs.Passes.{ids_in}
 use Rattle.olap_instance.proofs.Completing.{AreComplete}
-use Rattle.olap_instance.proofs.Checks.{absent-at, else-none, missing, neither, within}
+use Rattle.olap_instance.proofs.Checks.{absent-at, else-none, good-number, missing, neither, within}
 
 -- a draft without members
-pub draft-none : (n : ℕ) → IsDraft (no_members n)
-draft-none n = record {
+pub draft-none : (g : Graph) → IsHierarchy g → IsDraft (no_members g)
+draft-none g h = record {
+  kinds_known = let e = h.kinds_known in omega arith;
+  numerals = λ x l. absurd (omega arith);
   as_many = refl;
   few = omega arith;
   ids_differ = λ x y l m e. absurd (omega arith);
@@ -44,35 +47,38 @@ inside-or-past x n = grind arith
 
 -- ---- one member more
 
-record IsAccepted (d : Draft) (id : List ℕ) (category : ℕ) : Type 0 where
+record IsAccepted (d : Draft) (id : List ℕ) (category : ℕ) (name : List ℕ) : Type 0 where
   good : is_bad_id id ≡ false
-  short : (is_too_long id || false) ≡ false
+  short : is_too_long id ≡ false
   declared : (category == 0) ≡ false
+  numeral : is_bad_number (has_numbers d category) name ≡ false
   fresh : (bytes_eq id (codes "all") || is_some (place_of id (ids_in d.members))) ≡ false
   room : nat_le most_members (length d.members + 1) ≡ false
 
-accepted : (d : Draft) (id : List ℕ) (category : ℕ) → named_refusal d id category ≡ None → IsAccepted d id category
-accepted d id category e =
+accepted : (d : Draft) (id : List ℕ) (category : ℕ) (name : List ℕ) → named_refusal d id category name ≡ None
+    → IsAccepted d id category name
+accepted d id category name e =
     let a = else-none (is_bad_id id) _ _ e in
-    let b = else-none (is_too_long id || false) _ _ a.1 in
+    let b = else-none (is_too_long id) _ _ a.1 in
     let c = else-none (category == 0) _ _ b.1 in
-    let f = else-none (bytes_eq id (codes "all") || is_some (place_of id (ids_in d.members))) _ _ c.1 in
+    let n = else-none (is_bad_number (has_numbers d category) name) _ _ c.1 in
+    let f = else-none (bytes_eq id (codes "all") || is_some (place_of id (ids_in d.members))) _ _ n.1 in
     let g = else-none (nat_le most_members (length d.members + 1)) _ _ f.1 in
-    record { good = a.0; short = b.0; declared = c.0; fresh = f.0; room = g.0 }
+    record { good = a.0; short = b.0; declared = c.0; numeral = n.0; fresh = f.0; room = g.0 }
 
 not-zero : (n : ℕ) → (n == 0) ≡ false → n ≢ 0
 not-zero n f e = cc (rw e at f)
 
 module _ (d : Draft) (h : IsDraft d) (id : List ℕ) (category : ℕ) (name : List ℕ)
-    (passes : named_refusal d id category ≡ None) where
+    (passes : named_refusal d id category name ≡ None) where
   abbrev new : Member
   new = childless id category name
 
   abbrev more : Instance
   more = d.members ++ new ∷ []
 
-  ok : IsAccepted d id category
-  ok = accepted d id category passes
+  ok : IsAccepted d id category name
+  ok = accepted d id category name passes
 
   pub fresh-is : (bytes_eq id (codes "all") ≡ false) × (place_of id (ids_in d.members) ≡ None)
   fresh-is =
@@ -136,6 +142,11 @@ module _ (d : Draft) (h : IsDraft d) (id : List ℕ) (category : ℕ) (name : Li
   pub draft-member : category < d.categories → IsTrue (is_utf8 id) → IsTrue (is_utf8 name)
       → IsDraft (with_member d id category name)
   draft-member known text1 text2 = record {
+    kinds_known = h.kinds_known;
+    numerals = λ x l. elim (old-or-new x l) [
+      | inl a ↦ rw (category_of, name_of, old-at x a) (h.numerals x a)
+      | inr a ↦ rw (category_of, name_of, a, new-at) (good-number (has_numbers d category) name ok.numeral)
+    ];
     as_many =
         let a = length-append d.members (new ∷ []) in
         let b = length-append d.parents ([] ∷ []) in
@@ -165,9 +176,8 @@ module _ (d : Draft) (h : IsDraft d) (id : List ℕ) (category : ℕ) (name : Li
       good-texts : IsMemberId id × IsTrue (is_utf8 name)
       good-texts =
           let b = neither (length id == 0) (list_any (λ b. b == 59) id) ok.good in
-          let s = neither (is_too_long id) false ok.short in
           let id-good : IsMemberId id =
-          record { utf8 = text1; short = within (length id) s.0; filled = not-zero (length id) b.0; whole = b.1 } in
+          record { utf8 = text1; short = within (length id) ok.short; filled = not-zero (length id) b.0; whole = b.1 } in
           (id-good, text2)
 
 -- ---- one parent more
@@ -184,6 +194,8 @@ module _ (d : Draft) (h : IsDraft d) (x : ℕ) (l : x < length d.members) (p : O
 
   pub draft-parent : IfSome p (λ y. y < length d.members) → (HasParent d x p → ⊥) → IsDraft (with_parent d x p)
   draft-parent inside absent = record {
+    kinds_known = h.kinds_known;
+    numerals = h.numerals;
     as_many = h.as_many ∙ sym (length-set d.parents x (parents_so_far d x ++ p ∷ []));
     few = h.few;
     ids_differ = h.ids_differ;

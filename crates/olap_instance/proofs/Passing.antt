@@ -4,11 +4,11 @@ use Rattle.std.specs.Prelude.{All, is_none, nat_le, nat_lt}
 use Rattle.std.specs.List.{list_any}
 use Rattle.std.proofs.lemmas.Bool.Decides.{eqb_tells}
 use Rattle.std.proofs.lemmas.List.Elements.{All-map}
-use Rattle.olap_base.specs.Graph.{Graph}
+use Rattle.olap_base.specs.Graph.{Graph, is_number}
 use Rattle.olap_base.specs.Limits.{most_members, most_text_bytes}
 use Rattle.olap_base.specs.Instance.{Instance, Member, member_at}
 use Rattle.olap_graph.specs.Lookups.{category_named}
-use Rattle.olap_instance.specs.InstanceText.{id_field, category_field, category_number, is_bad_id, is_known, is_no_text, is_too_long, name_field, member_fault}
+use Rattle.olap_instance.specs.InstanceText.{id_field, category_field, category_number, is_bad_id, is_bad_number, is_known, is_no_text, is_too_long, name_field, member_fault}
 use Rattle.olap_instance.specs.Passes.{ids_in}
 use Rattle.olap_instance.specs.Printing.{member_fields}
 
@@ -45,9 +45,10 @@ pub unrefused : (g : Graph) (before : List (List (List ℕ))) (r : List (List �
     → is_no_text r ≡ false
     → is_bad_id (id_field r) ≡ false → (is_too_long (id_field r) || is_too_long (name_field r)) ≡ false
     → is_none (category_named g (category_field r)) ≡ false → (category_number g r == 0) ≡ false
+    → is_bad_number (is_number g (category_number g r)) (name_field r) ≡ false
     → is_known before (id_field r) ≡ false
     → nat_le most_members (length before + 1) ≡ false → member_fault g before r ≡ None
-unrefused g before r a b c d e f h k = rw (a, b, c, d, e, f, h, k) refl
+unrefused g before r a b c d e f n h k = rw (a, b, c, d, e, f, n, h, k) refl
 
 pub short : (n : ℕ) → n ≤ most_text_bytes → nat_lt most_text_bytes n ≡ false
 short n h = grind arith

@@ -11,7 +11,7 @@ use Rattle.std.proofs.lemmas.Slice.Eq.{bytes_eq-Decides, slice_eq-Decides}
 use Rattle.std.proofs.lemmas.Str.{IsUtf8-from_is_utf8, is_utf8-from_IsUtf8}
 use Rattle.olap_base.specs.Deciding.{contains_cons}
 use Rattle.olap_base.proofs.ListLemmas.{contains_head}
-use Rattle.olap_base.specs.Graph.{Graph, IsHierarchy}
+use Rattle.olap_base.specs.Graph.{Graph, IsHierarchy, is_number}
 use Rattle.olap_base.specs.Instance.{Instance, IsInstance, IsMember, Member, category_of, member_at, nobody}
 use Rattle.olap_base.specs.Limits.{most_members}
 use Rattle.olap_base.specs.Naming.{place_of}
@@ -30,6 +30,7 @@ use Rattle.olap_instance.proofs.Joining.{IsPiece, pieces-joined, utf8-joined}
 use Rattle.olap_instance.proofs.PieceLemmas.{places-read}
 use Rattle.olap_instance.proofs.PlaceFacts.{AreDistinct, place-of-id}
 use Rattle.olap_instance.proofs.BuilderSteps.{not-found}
+use Rattle.olap_instance.proofs.Checks.{number-good}
 use Rattle.olap_instance.proofs.Passing.{all-full, any-none, differ-zero, four-texts, ids-kept, isnt, round, rows-full, short, two, unrefused}
 
 -- records without faults stand for their members
@@ -202,7 +203,7 @@ module _ (g : Graph) (i : Instance) (hierarchy : IsHierarchy g) (sound : IsInsta
 
   category-found : (j : ℕ) → j < length rows
       → category_named g (name_of_category g (at j).category) ≡ Some (at j).category
-  category-found j l = named-category g hierarchy (at j).category (made j (is-member j l))
+  category-found j l = named-category g hierarchy (at j).category (made.categories j (is-member j l))
 
   member-passes : (j : ℕ) → j < length rows → member_fault g (take j rows) (member_fields g i (at j)) ≡ None
   member-passes j l =
@@ -211,14 +212,15 @@ module _ (g : Graph) (i : Instance) (hierarchy : IsHierarchy g) (sound : IsInsta
       let m = length-take-le j rows (omega arith) in
       let named = category-found j l in
       let category : is_utf8 (name_of_category g (at j).category) ≡ true =
-      is_utf8-from_IsUtf8 _ (category-utf8 g hierarchy (at j).category (made j (is-member j l)) (not-all j l)) in
+      is_utf8-from_IsUtf8 _ (category-utf8 g hierarchy (at j).category (made.categories j (is-member j l)) (not-all j l)) in
       unrefused g (take j rows) (member_fields g i (at j)) refl
       (four-texts _ _ _ _ h.0.utf8 category h.1 (field-utf8 (at j) (below j) (sound.parents_differ j)))
       (two (length (at j).id == 0) (list_any (λ b. b == 59) (at j).id) (differ-zero (length (at j).id) h.0.filled)
       h.0.whole)
       (two (is_too_long (at j).id) (is_too_long (at j).name) (short (length (at j).id) h.0.short)
       (short (length (at j).name) (names j (is-member j l))))
-      (rw named refl) (rw named (differ-zero (at j).category (not-all j l))) (fresh j l)
+      (rw named refl) (rw named (differ-zero (at j).category (not-all j l)))
+      (rw named (number-good (is_number g (at j).category) (at j).name (made.numerals j (is-member j l)))) (fresh j l)
       (room (length (take j rows)) (omega arith))
     where
       room : (k : ℕ) → k + 1 < most_members → nat_le most_members (k + 1) ≡ false

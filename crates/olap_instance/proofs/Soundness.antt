@@ -1,6 +1,6 @@
 -- What the records of a text stand for is a dimension instance, made for the graph.
 use Rattle.std.proofs.Common.{◌≡◌, ◌≢◌, ◌+◌, ◌<◌, ◌≤◌, ◌==◌, ◌++◌, ◌∷◌, ◌∙◌, ◌⊎◌, inl, inr, Bool, true, false, ℕ, zero, suc, List, [], length, map, take, drop, codes, get_or, length-take, Option, Some, None, Ok, Err, if◌then◌else◌, refl, sym, ap, arith}
-use Rattle.std.specs.Prelude.{nat_le}
+use Rattle.std.specs.Prelude.{IsSome, IsTrue, nat_le}
 use Rattle.std.specs.List.{list_any}
 use Rattle.std.specs.Str.{is_utf8}
 use Rattle.std.proofs.lemmas.Bool.Decides.{eqb_tells}
@@ -8,8 +8,9 @@ use Rattle.std.proofs.Math.Seq.{get_or-append_seam}
 use Rattle.std.proofs.lemmas.List.{get_or_append_left, get_or-map, get_or-take, length-append, length-map, map-append}
 use Rattle.std.proofs.lemmas.Option.{slice_get-get_or}
 use Rattle.std.proofs.lemmas.Slice.Eq.{bytes_eq-Decides}
-use Rattle.olap_base.specs.Graph.{Graph, IsCategory}
-use Rattle.olap_base.specs.Instance.{Instance, Member, category_of, member_at, nobody}
+use Rattle.olap_base.specs.Graph.{Graph, IsCategory, is_number}
+use Rattle.olap_numerals.specs.Numerals.{number_of}
+use Rattle.olap_base.specs.Instance.{Instance, Member, category_of, member_at, name_of, nobody}
 use Rattle.olap_base.specs.Limits.{most_members}
 use Rattle.olap_graph.specs.Lookups.{category_named, names_of}
 use Rattle.olap_records.specs.Faults.{field, first_fault}
@@ -24,7 +25,7 @@ use Rattle.olap_instance.specs.Passes.{PassesFirst, PassesSecond, ids_in}
 use Rattle.olap_instance.proofs.Completing.{AreComplete, complete-names, complete-sound}
 use Rattle.olap_instance.proofs.EnteringLemmas.{ids-read}
 use Rattle.olap_instance.proofs.PlaceFacts.{place-within}
-use Rattle.olap_instance.proofs.Checks.{IsGood, absent-at, four, fresh-parts, good, neither, no-second, place-inside, places-differ, there, within}
+use Rattle.olap_instance.proofs.Checks.{IsGood, absent-at, four, fresh-parts, good, good-number, neither, no-second, place-inside, places-differ, there, within}
 
 -- ---- records
 
@@ -177,6 +178,12 @@ module _ (g : Graph) (rows : List (List (List ℕ))) (first : first_fault (membe
       let w = place-within (category_field (row x)) (names_of g) p.0 p.1 in
       rw p.1 (omega arith)
 
+  -- and each name a numeral, where names are numbers
+  pub read-numeral : (x : ℕ) → x < length rows → IsTrue (is_number g (category_number g (row x)))
+      → IsSome (number_of (name_field (row x)))
+  read-numeral x l t =
+      good-number (is_number g (category_number g (row x))) (name_field (row x)) (good-at x l).numeral t
+
 -- what the two passes find, put together
 pub record IsRead (g : Graph) (rows : List (List (List ℕ))) (ms : Instance) (ps : List (List ℕ)) : Type 0 where
   pub second : first_fault (parents_fault (ids_of rows)) [] rows ≡ None
@@ -198,25 +205,38 @@ module _ (g : Graph) (rows : List (List (List ℕ))) where
   put-together ids [] = refl
   put-together ids (r ∷ xs) = ap (λ (t : Instance). whole_read g ids r ∷ t) (put-together ids xs)
 
-  all-made : first_fault (member_fault g) [] rows ≡ None → first_fault (parents_fault (ids_of rows)) [] rows ≡ None
-      → IsMadeFor g (members_read g rows)
-  all-made first second x l =
+  -- the member at a place is that of a record, or `all`
+  at-place : (x : ℕ) → x < length (members_read g rows)
+      → ((x < length rows) × (member_at (members_read g rows) x ≡ whole_read g (ids_of rows) (get_or rows x [])))
+      ⊎ (member_at (members_read g rows) x ≡ all_member)
+  at-place x l =
       let f = whole_read g (ids_of rows) in
       let n = length-append (map f rows) (all_member ∷ []) in
       let m = length-map rows f in
       elim (eqb_tells x (length rows)) [
         | inl t ↦
-            let e : member_at (members_read g rows) x ≡ all_member =
-            ap (λ (k : ℕ). member_at (members_read g rows) k) (t.1 ∙ sym m)
-            ∙ get_or-append_seam (map f rows) all_member [] nobody in
-            within-graph x all_member e (omega arith)
+            inr (ap (λ (k : ℕ). member_at (members_read g rows) k) (t.1 ∙ sym m)
+            ∙ get_or-append_seam (map f rows) all_member [] nobody)
         | inr d ↦
             let k : x < length rows = let ne = d.1 in omega arith in
             let i : x < length (map f rows) = omega arith in
-            let e : member_at (members_read g rows) x ≡ f (get_or rows x []) =
-            get_or_append_left (map f rows) (all_member ∷ []) nobody x i ∙ get_or-map f rows x [] nobody k in
-            within-graph x (f (get_or rows x [])) e (read-made g rows first second x k)
+            inl (k, get_or_append_left (map f rows) (all_member ∷ []) nobody x i ∙ get_or-map f rows x [] nobody k)
       ]
+
+  all-made : first_fault (member_fault g) [] rows ≡ None → first_fault (parents_fault (ids_of rows)) [] rows ≡ None
+      → IsMadeFor g (members_read g rows)
+  all-made first second = record {
+    categories = λ x l. elim (at-place x l) [
+      | inl t ↦ within-graph x (whole_read g (ids_of rows) (get_or rows x [])) t.1
+          (read-made g rows first second x t.0)
+      | inr e ↦ within-graph x all_member e (omega arith)
+    ];
+    numerals = λ x l t. elim (at-place x l) [
+      | inl u ↦ rw (name_of, u.1)
+          (read-numeral g rows first second x u.0 (rw (category_of, u.1) at t))
+      | inr e ↦ absurd (let z : IsTrue false = rw (category_of, e) at t in cc)
+    ];
+  }
     where
       within-graph : (x : ℕ) (m : Member) → member_at (members_read g rows) x ≡ m → IsCategory g m.category
           → IsCategory g (category_of (members_read g rows) x)

@@ -14,7 +14,12 @@ abbrev pub parents_told : List (Vec (Option MemberId) Global) → List (List (Op
 parents_told parents = map (λ ps. map number_of ps.items) parents
 
 abbrev pub draft_of : Inside → Draft
-draft_of a = record { categories = a.categories; members = a.roster; parents = parents_told a.parents.items }
+draft_of a = record {
+  categories = a.categories;
+  numbers = a.numbers.items;
+  members = a.roster;
+  parents = parents_told a.parents.items;
+}
 
 abbrev pub IsKept : Inside → Type 0
 IsKept a = IsDraft (draft_of a)

@@ -5,25 +5,37 @@
 --     named_refusal     the same, where the name may have any length
 --     HasParent         a member has that parent
 --     instance_built    the instance that a draft becomes
-use Rattle.std.specs.Prelude.{◌≡◌, ◌≢◌, ◌<◌, ◌≤◌, ◌+◌, ◌==◌, ◌||◌, ◌∷◌, ◌++◌, ℕ, List, [], length, map, codes, AllPairs, Contains, Option, Some, None, is_some, unwrap_or, if◌then◌else◌, nat_le, slice_index_or, slice_set}
+use Rattle.std.specs.Prelude.{◌≡◌, ◌≢◌, ◌<◌, ◌≤◌, ◌+◌, ◌==◌, ◌||◌, ◌∷◌, ◌++◌, ℕ, Bool, false, List, [], length, map, codes, AllPairs, Contains, Option, Some, None, IsSome, IsTrue, is_some, unwrap_or, if◌then◌else◌, nat_le, slice_index_or, slice_set}
 use Rattle.std.specs.Str.{bytes_eq}
-use Rattle.olap_base.specs.Instance.{Instance, category_of, member_at}
+use Rattle.olap_base.specs.Graph.{Graph, category_count}
+use Rattle.olap_base.specs.Instance.{Instance, category_of, member_at, name_of}
 use Rattle.olap_base.specs.Limits.{most_members}
 use Rattle.olap_base.specs.Naming.{place_of}
-use Rattle.olap_instance.specs.InstanceText.{is_bad_id, is_too_long}
+use Rattle.olap_numerals.specs.Numerals.{number_of}
+use Rattle.olap_instance.specs.InstanceText.{is_bad_id, is_bad_number, is_too_long}
 use Rattle.olap_instance.specs.Members.{HasTexts, all_member, childless, with_parents}
 use Rattle.olap_instance.specs.declared.refusals.MemberRefusal.{MemberRefusal}
 use Rattle.olap_instance.specs.declared.refusals.MemberRefusal.TheVariants as of_member
 
--- how many categories the graph has, the members so far without their parents, and the parents of each. A parent is
--- a member by its place, or `None` for `all`, which has no place before the last member is there.
+-- how many categories the graph has, whether the names of each are numbers, the members so far without their parents,
+-- and the parents of each. A parent is a member by its place, or `None` for `all`, which has no place before the last
+-- member is there.
 pub record Draft : Type 0 where
   pub categories : ℕ
+  pub numbers : List Bool
   pub members : Instance
   pub parents : List (List (Option ℕ))
 
 abbrev pub parents_so_far : Draft → ℕ → List (Option ℕ)
 parents_so_far d x = slice_index_or d.parents x []
+
+-- for each category whether names are numbers, `All` first
+abbrev pub numbers_in : Graph → List Bool
+numbers_in g = false ∷ g.numbers
+
+-- whether the names of the category are numbers
+abbrev pub has_numbers : Draft → ℕ → Bool
+has_numbers d c = slice_index_or d.numbers c false
 
 -- p is a parent of the member x
 abbrev pub HasParent : Draft → ℕ → Option ℕ → Type 0
@@ -31,6 +43,7 @@ HasParent d x p = Contains (parents_so_far d x) p
 
 -- what holds of a draft at each moment
 pub record IsDraft (d : Draft) : Type 0 where
+  pub kinds_known : length d.numbers ≡ d.categories
   pub as_many : length d.members ≡ length d.parents
   pub few : length d.members + 1 ≤ most_members
   pub ids_differ : (x y : ℕ) → x < length d.members → y < length d.members
@@ -38,13 +51,15 @@ pub record IsDraft (d : Draft) : Type 0 where
   pub not_all : (x : ℕ) → x < length d.members → (member_at d.members x).id ≢ codes "all"
   pub declared : (x : ℕ) → x < length d.members
       → (category_of d.members x ≢ 0) × (category_of d.members x < d.categories)
+  pub numerals : (x : ℕ) → x < length d.members → IsTrue (has_numbers d (category_of d.members x))
+      → IsSome (number_of (name_of d.members x))
   pub texts : HasTexts d.members
   pub parents_are_members : (x y : ℕ) → HasParent d x (Some y) → y < length d.members
   pub parents_differ : (x : ℕ) → AllPairs ◌≢◌ (parents_so_far d x)
 
--- no members, for a graph of that many categories
-abbrev pub no_members : ℕ → Draft
-no_members categories = record { categories = categories; members = []; parents = [] }
+-- no members, for a graph
+abbrev pub no_members : Graph → Draft
+no_members g = record { categories = category_count g; numbers = numbers_in g; members = []; parents = [] }
 
 -- the draft with one more member, which has no parents yet
 abbrev pub with_member : Draft → List ℕ → ℕ → List ℕ → Draft
@@ -55,20 +70,29 @@ with_member d id category name =
 abbrev pub with_parent : Draft → ℕ → Option ℕ → Draft
 with_parent d x p = record d { parents = slice_set d.parents x (parents_so_far d x ++ p ∷ []) }
 
--- the first reason to refuse a member
-abbrev pub member_refusal : Draft → List ℕ → ℕ → List ℕ → Option MemberRefusal
-member_refusal d id category name =
-    if is_bad_id id then Some of_member.BadId
-    else if is_too_long id || is_too_long name then Some of_member.TextTooLong
-    else if category == 0 then Some of_member.RowForAll
+-- the first reason to refuse a member that lies in its category or in the other members
+abbrev pub place_refusal : Draft → List ℕ → ℕ → List ℕ → Option MemberRefusal
+place_refusal d id category name =
+    if category == 0 then Some of_member.RowForAll
+    else if is_bad_number (has_numbers d category) name then Some of_member.BadNumber
     else if bytes_eq id (codes "all") || is_some (place_of id (map (λ m. m.id) d.members)) then Some
     of_member.DuplicateId
     else if nat_le most_members (length d.members + 1) then Some of_member.TooManyMembers
     else None
 
--- the first reason to refuse a member whose name may have any length: what it is with an empty name
-abbrev pub named_refusal : Draft → List ℕ → ℕ → Option MemberRefusal
-named_refusal d id category = member_refusal d id category []
+-- the first reason to refuse a member
+abbrev pub member_refusal : Draft → List ℕ → ℕ → List ℕ → Option MemberRefusal
+member_refusal d id category name =
+    if is_bad_id id then Some of_member.BadId
+    else if is_too_long id || is_too_long name then Some of_member.TextTooLong
+    else place_refusal d id category name
+
+-- the first reason to refuse a member whose name may have any length
+abbrev pub named_refusal : Draft → List ℕ → ℕ → List ℕ → Option MemberRefusal
+named_refusal d id category name =
+    if is_bad_id id then Some of_member.BadId
+    else if is_too_long id then Some of_member.TextTooLong
+    else place_refusal d id category name
 
 -- why a member is refused: want of memory, or the first reason
 abbrev pub IsMemberCause : Option MemberRefusal → MemberRefusal → Type 0

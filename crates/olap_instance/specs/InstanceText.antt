@@ -2,16 +2,17 @@
 --     instance_read   the instance or the fault
 --     member_fault    what is wrong with a member, its parents aside
 --     parents_fault   what is wrong with a member's parents
-use Rattle.std.specs.Prelude.{◌==◌, ◌||◌, ◌+◌, ◌∷◌, ◌++◌, Bool, false, not, ℕ, List, [], length, drop, map, codes, Option, Some, None, is_some, is_none, unwrap_or, if◌then◌else◌, nat_le, nat_lt, Result, Ok, Err}
+use Rattle.std.specs.Prelude.{◌==◌, ◌&&◌, ◌||◌, ◌+◌, ◌∷◌, ◌++◌, Bool, false, not, ℕ, List, [], length, drop, map, codes, Option, Some, None, is_some, is_none, unwrap_or, if◌then◌else◌, nat_le, nat_lt, Result, Ok, Err}
 use Rattle.std.specs.Cmp.Lexicographic.{pointwise}
 use Rattle.std.specs.List.{list_any, slice_split}
 use Rattle.std.specs.Option.{option_map}
 use Rattle.std.specs.Str.{bytes_eq, is_utf8}
-use Rattle.olap_base.specs.Graph.{Graph}
+use Rattle.olap_base.specs.Graph.{Graph, is_number}
 use Rattle.olap_base.specs.Instance.{Instance, Member}
 use Rattle.olap_base.specs.Limits.{most_members, most_text_bytes}
 use Rattle.olap_base.specs.Naming.{Fault, place_of}
 use Rattle.olap_graph.specs.Lookups.{category_named}
+use Rattle.olap_numerals.specs.Numerals.{number_of}
 use Rattle.olap_records.specs.Faults.{field, first_fault}
 use Rattle.olap_instance.specs.Members.{all_member, childless}
 use Rattle.olap_instance.specs.declared.refusals.InstanceKind.{InstanceKind}
@@ -51,6 +52,10 @@ is_bad_id id = (length id == 0) || list_any (λ b. b == 59) id
 abbrev pub is_too_long : List ℕ → Bool
 is_too_long text = nat_lt most_text_bytes (length text)
 
+-- no numeral, where names are numbers
+abbrev pub is_bad_number : Bool → List ℕ → Bool
+is_bad_number number name = number && is_none (number_of name)
+
 -- the id of `all`, or of an earlier record
 abbrev pub is_known : List (List (List ℕ)) → List ℕ → Bool
 is_known before id = bytes_eq id (codes "all") || is_some (place_of id (map id_field before))
@@ -64,6 +69,7 @@ member_fault g before r =
     else if is_too_long (id_field r) || is_too_long (name_field r) then Some kind.TextTooLong
     else if is_none (category_named g (category_field r)) then Some kind.UnknownCategory
     else if category_number g r == 0 then Some kind.RowForAll
+    else if is_bad_number (is_number g (category_number g r)) (name_field r) then Some kind.BadNumber
     else if is_known before (id_field r) then Some kind.DuplicateId
     else if nat_le most_members (length before + 1) then Some kind.TooManyMembers
     else None

@@ -1,16 +1,16 @@
 // Instances in the making.
-ghost use Rattle.std.specs.Prelude.{◌≡◌, ◌↔◌, ◌<◌, ◌∷◌, ◌++◌, [], ℕ, Contains, None, length, map, unwrap_or, IfErr, IfOk, IfSome, IsErrOf, IsTrue, OnErr, OnOk};
+ghost use Rattle.std.specs.Prelude.{◌≡◌, ◌↔◌, ◌<◌, ◌∷◌, ◌++◌, [], ℕ, Contains, None, false, length, map, slice_index_or, unwrap_or, IfErr, IfOk, IfSome, IsErrOf, IsTrue, OnErr, OnOk};
 ghost use Rattle.std.specs.Str.{is_utf8};
 ghost use Rattle.olap_base.specs.Graph.{Graph, category_count};
 ghost use Rattle.olap_instance.specs.DraftInside.{number_of, parents_told};
-ghost use Rattle.olap_instance.specs.Drafts.{Draft, HasParent, IsMemberCause, instance_built, member_refusal, named_refusal, no_members, places_of, with_member, with_parent};
+ghost use Rattle.olap_instance.specs.Drafts.{Draft, HasParent, IsMemberCause, has_numbers, instance_built, member_refusal, named_refusal, no_members, numbers_in, places_of, with_member, with_parent};
 ghost use Rattle.olap_instance.specs.Made.{IsMadeFor};
 ghost use Rattle.olap_instance.specs.Passes.{numbers_of, parents_in};
 ghost use Rattle.olap_instance.specs.declared.refusals.ParentRefusal.TheVariants as of_parent;
 
 use crate::hashing::KeyedHash;
 use crate::rosters::{Head, Roster};
-use crate::texts::{is_bad, is_long};
+use crate::texts::{is_bad, is_bad_number, is_long};
 use crate::{Instance, MemberRefusal, ParentRefusal};
 use olap_base::{CatId, MOST_MEMBERS, MemberId, Memory, Text};
 use olap_graph::Graph;
@@ -23,8 +23,9 @@ pub struct InstanceBuilder {
     roster: Roster,
     // The parents of each member, `None` for `all`.
     parents: Vec<Vec<Option<MemberId>>>,
-    // How many categories the graph has.
+    // How many categories the graph has, and whether the names of each are numbers.
     categories: u16,
+    numbers: Vec<bool>,
     alloc: Global,
 }
 
@@ -78,9 +79,35 @@ fn linked_all(
     Ok(lists)
 }
 
+// For each category whether names are numbers.
+fn kinds(alloc: Global, graph: &Graph) -> Result<Vec<bool>, Memory>
+    ensures { IfOk result (λ v. v.items ≡ numbers_in graph.now) }
+{
+    let mut numbers = Vec::new(alloc);
+    'categories: for c in 0..graph.categories() {
+        numbers.push(graph.is_number(CatId(c)))?;
+    }
+    Ok(numbers)
+}
+
+// Whether the names of the category are numbers.
+fn has_kind(numbers: &[bool], category: CatId) -> bool
+    requires { category.0 < length numbers.now }
+    ensures { result ≡ slice_index_or numbers.now category.0 false }
+{
+    numbers[usize::from(category.0)]
+}
+
 // The first reason to refuse a member whose name may have any length, beside want of memory.
-fn refusal(roster: &Roster, id: &[u8], category: CatId) -> Option<MemberRefusal>
-    ensures { (d : Draft) → d.members ≡ roster.now → result ≡ named_refusal d id.now category.0 }
+fn refusal(
+    roster: &Roster,
+    id: &[u8],
+    category: CatId,
+    is_number: bool,
+    name: &[u8],
+) -> Option<MemberRefusal>
+    ensures { (d : Draft) → d.members ≡ roster.now → has_numbers d category.0 ≡ is_number
+        → result ≡ named_refusal d id.now category.0 name.now }
 {
     if is_bad(id) {
         return Some(MemberRefusal::BadId);
@@ -90,6 +117,9 @@ fn refusal(roster: &Roster, id: &[u8], category: CatId) -> Option<MemberRefusal>
     }
     if category.0 == 0 {
         return Some(MemberRefusal::RowForAll);
+    }
+    if is_bad_number(is_number, name) {
+        return Some(MemberRefusal::BadNumber);
     }
     if id == b"all".as_slice() || roster.find(id).is_some() {
         return Some(MemberRefusal::DuplicateId);
@@ -104,12 +134,13 @@ impl InstanceBuilder {
     /// No member but `all`. The index of ids has a hash without a key: members are added whose ids the
     /// program picked.
     pub fn new(alloc: Global, graph: &Graph) -> Result<InstanceBuilder, Memory>
-        ensures { IfOk result (λ builder. builder ≡ no_members (category_count graph.now)) }
+        ensures { IfOk result (λ builder. builder ≡ no_members graph.now) }
     {
         Ok(InstanceBuilder {
             roster: Roster::new(alloc, KeyedHash::fixed()),
             parents: Vec::new(alloc),
             categories: graph.categories(),
+            numbers: kinds(alloc, graph)?,
             alloc,
         })
     }
@@ -130,6 +161,7 @@ impl InstanceBuilder {
         ensures err { IfErr result (IsMemberCause (member_refusal self.old id category.0 name)) }
         ensures same { OnErr result (self.new ≡ self.old) }
         ensures categories { self.new.categories ≡ self.old.categories }
+        ensures numbers { self.new.numbers ≡ self.old.numbers }
     {
         if is_long(name.bytes()) && !is_bad(id.bytes()) {
             return Err(MemberRefusal::TextTooLong);
@@ -148,14 +180,22 @@ impl InstanceBuilder {
         requires id { IsTrue (is_utf8 id) }
         requires name { IsTrue (is_utf8 name) }
         requires category { category.0 < self.old.categories }
-        ensures ok { IfOk result (λ m. named_refusal self.old id category.0 ≡ None) }
+        ensures ok { IfOk result (λ m. named_refusal self.old id category.0 name ≡ None) }
         ensures number { IfOk result (λ m. m.0 ≡ length self.old.members) }
         ensures added { OnOk result (self.new ≡ with_member self.old id category.0 name) }
-        ensures err { IfErr result (IsMemberCause (named_refusal self.old id category.0)) }
+        ensures err { IfErr result (IsMemberCause (named_refusal self.old id category.0 name)) }
         ensures same { OnErr result (self.new ≡ self.old) }
         ensures categories { self.new.categories ≡ self.old.categories }
+        ensures numbers { self.new.numbers ≡ self.old.numbers }
     {
-        if let Some(refusal) = refusal(&self.roster, id.bytes(), category) {
+        let is_number = has_kind(&self.numbers, category);
+        if let Some(refusal) = refusal(
+            &self.roster,
+            id.bytes(),
+            category,
+            is_number,
+            name.bytes(),
+        ) {
             return Err(refusal);
         }
         let member = MemberId(self.roster.len() as u32);
@@ -179,6 +219,7 @@ impl InstanceBuilder {
         ensures duplicate { IsErrOf result of_parent.DuplicateParent → HasParent self.old child.0 (number_of parent) }
         ensures same { OnErr result (self.new ≡ self.old) }
         ensures categories { self.new.categories ≡ self.old.categories }
+        ensures numbers { self.new.numbers ≡ self.old.numbers }
         ensures members { self.new.members ≡ self.old.members }
     {
         let parents = &mut self.parents[child.0 as usize];
@@ -192,12 +233,14 @@ impl InstanceBuilder {
     /// The members with their parents, and `all` as the last.
     pub fn finish(self) -> Result<Instance, Memory>
         ensures built { IfOk result (λ i. i ≡ instance_built self) }
-        ensures made { IfOk result (λ i. (g : Graph) → category_count g ≡ self.categories → IsMadeFor g i) }
+        ensures made { IfOk result (λ i. (g : Graph) → category_count g ≡ self.categories
+            → numbers_in g ≡ self.numbers → IsMadeFor g i) }
     {
         let InstanceBuilder {
             mut roster,
             parents,
             categories: _,
+            numbers: _,
             alloc,
         } = self;
         let all = MemberId(roster.len() as u32);

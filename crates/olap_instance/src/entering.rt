@@ -1,5 +1,6 @@
 // The first pass over a text: its members, their parents aside.
-ghost use Rattle.std.specs.Prelude.{◌≡◌, ◌<◌, ◌+◌, ◌∷◌, ◌++◌, [], ℕ, List, codes, false, length, map, None, Some, OnOk, IfOk, MatchResult};
+ghost use Rattle.std.specs.Prelude.{◌≡◌, ◌<◌, ◌+◌, ◌∷◌, ◌++◌, [], ℕ, List, codes, false, length, map, None, Some, OnOk, IfOk, IfSome, MatchResult};
+ghost use Rattle.olap_base.specs.Graph.{IsCategory};
 ghost use Rattle.std.specs.Str.{bytes_eq};
 ghost use Rattle.olap_base.specs.Limits.{most_members};
 ghost use Rattle.olap_base.specs.Naming.{place_of};
@@ -11,7 +12,7 @@ ghost use Rattle.olap_instance.specs.Refusals.{IsFaultCause, IsRecordCause};
 
 use crate::hashing::KeyedHash;
 use crate::rosters::{Head, Roster};
-use crate::texts::{is_bad, is_long, is_text};
+use crate::texts::{is_bad, is_bad_number, is_long, is_text};
 use crate::{InstanceKind, InstanceRefusal};
 use olap_base::{CatId, MOST_MEMBERS, Text};
 use olap_graph::Graph;
@@ -19,7 +20,8 @@ use olap_records::Rows;
 use std::alloc::Global;
 
 fn category(graph: &Graph, name: &[u8]) -> Option<u16>
-    ensures { result ≡ category_named graph.now name.now }
+    ensures named { result ≡ category_named graph.now name.now }
+    ensures category { IfSome result (IsCategory graph.now) }
 {
     match graph.category(name) {
         Some(category) => Some(category.0),
@@ -67,6 +69,9 @@ fn checked(graph: &Graph, roster: &Roster, rows: &Rows) -> Result<u16, InstanceK
     };
     if category == 0 {
         return Err(InstanceKind::RowForAll);
+    }
+    if is_bad_number(graph.is_number(CatId(category)), rows.field(2)) {
+        return Err(InstanceKind::BadNumber);
     }
     if id == b"all".as_slice() || roster.find(id).is_some() {
         return Err(InstanceKind::DuplicateId);

@@ -32,6 +32,8 @@ pub enum InstanceKind {
     TooManyMembers,
     /// An id or a name has more than `MOST_TEXT_BYTES` bytes.
     TextTooLong,
+    /// The name of a member of a number category is no numeral.
+    BadNumber,
 }
 
 impl InstanceKind {
@@ -54,6 +56,7 @@ impl InstanceKind {
             InstanceKind::DuplicateParent => "DuplicateParent",
             InstanceKind::TooManyMembers => "TooManyMembers",
             InstanceKind::TextTooLong => "TextTooLong",
+            InstanceKind::BadNumber => "BadNumber",
         }
     }
 }
@@ -100,6 +103,8 @@ pub enum MemberRefusal {
     TextTooLong,
     /// The category is `All`.
     RowForAll,
+    /// The category is a number category, and the name no numeral.
+    BadNumber,
     /// The id is that of another member or of `all`.
     DuplicateId,
     /// There are `MOST_MEMBERS` members, `all` included.

@@ -2,10 +2,11 @@
 ghost use Rattle.std.specs.Prelude.{◌≡◌, ◌==◌, ◌<◌, ◌∷◌, IfSome, length};
 ghost use Rattle.std.specs.List.{list_any, position, slice_split};
 ghost use Rattle.std.specs.Str.{is_utf8};
-ghost use Rattle.olap_instance.specs.InstanceText.{is_bad_id, is_too_long, pieces_of};
+ghost use Rattle.olap_instance.specs.InstanceText.{is_bad_id, is_bad_number as is_bad_number_of, is_too_long, pieces_of};
 ghost use Rattle.olap_instance.specs.Passes.{pieces_left};
 
 use olap_base::MOST_TEXT_BYTES;
+use olap_numerals::number;
 
 /// Whether the bytes are UTF-8.
 pub(crate) fn is_text(bytes: &[u8]) -> bool
@@ -32,6 +33,13 @@ pub(crate) fn is_long(text: &[u8]) -> bool
     ensures { result ≡ is_too_long text.now }
 {
     text.len() > MOST_TEXT_BYTES
+}
+
+/// Whether the text is no numeral, where names are numbers.
+pub(crate) fn is_bad_number(is_number: bool, name: &[u8]) -> bool
+    ensures { result ≡ is_bad_number_of is_number name.now }
+{
+    is_number && number(name).is_none()
 }
 
 // The place of the first semicolon.

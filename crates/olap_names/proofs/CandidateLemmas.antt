@@ -1,27 +1,24 @@
--- What the lists of constants and the fresh name are, taken together.
-use Rattle.std.proofs.Common.{◌≡◌, suc, ℕ, ◌+◌, ◌<◌, ◌≤◌, List, [], ◌∷◌, ◌++◌, length, get_or, map, fold, Bool, true, false, cond, refl, ap, sym, subst, ◌∙◌, arith, inl, inr, ◌⊎◌}
-use Rattle.std.specs.Prelude.{All, AllPairs, Contains, ◌==◌, filter}
-use Rattle.std.specs.List.{list_any}
+-- What the lists of names and the fresh name are, taken together.
+use Rattle.std.proofs.Common.{◌≡◌, suc, ℕ, ◌+◌, ◌<◌, ◌≤◌, List, [], ◌∷◌, ◌++◌, length, get_or, map, true, false, Result, Ok, Err, refl, ap, sym, subst, ◌∙◌, arith, inl, inr, ◌⊎◌}
+use Rattle.std.specs.Prelude.{All, AllPairs, Contains, IfOk, ◌==◌}
 use Rattle.std.specs.Str.{bytes_eq}
 use Rattle.std.specs.Cmp.Lexicographic.{slice_cmp, nat_list_cmp_total}
 use Rattle.std.specs.Ordering.{nat_cmp}
 use Rattle.std.proofs.lemmas.Cmp.{tied_itself}
 use Rattle.std.proofs.lemmas.Bool.{eqb-true}
 use Rattle.std.proofs.lemmas.List.{length-map, length_push, get_or_past, get_or_push, get_or_append_left}
-use Rattle.std.proofs.lemmas.List.Elements.{Contains-append_left, Contains-push}
-use Rattle.std.proofs.lemmas.List.Folds.{Any-from_list_any}
+use Rattle.std.proofs.lemmas.List.Elements.{All-contains}
 use Rattle.std.proofs.lemmas.Slice.Eq.{bytes_eq-Decides}
-use Rattle.olap_base.specs.Limits.{most_constants}
-use Rattle.olap_base.specs.Deciding.{contains_cases}
-use Rattle.olap_base.specs.Graph.{Graph}
-use Rattle.olap_base.proofs.ListLemmas.{Distinct, Contains-nil, Contains-from_map, Contains-from_filter, Distinct-map, Distinct-from_AllPairs, first_true, second_true}
+use Rattle.olap_base.specs.Graph.{Graph, IsHierarchy, category_count, is_number}
+use Rattle.olap_base.proofs.ListLemmas.{Distinct, Contains-nil, Contains-from_map, Distinct-map, Distinct-from_AllPairs, first_true, second_true}
 use Rattle.olap_ast.specs.Formula.{Formula, Equality}
-use Rattle.olap_ast.specs.Schema.{Constraint}
-use Rattle.olap_ast.specs.Constants.{AreInByteOrder, IsBefore, texts_on}
-use Rattle.olap_ast.specs.Frozen.{AreCandidates}
-use Rattle.olap_ast.specs.Valid.{is_same_pair, with_pair, distinct_pairs}
-use Rattle.olap_names.specs.Names.{IsFreshAmong, Named, atoms, candidates_of, with_graph}
-use Rattle.olap_names.proofs.Counting.{few_distinct}
+use Rattle.olap_ast.specs.Schema.{Constraint, Schema}
+use Rattle.olap_ast.specs.Constants.{AreInByteOrder, HasKinds, IsBefore, IsFreshName, texts_on}
+use Rattle.olap_ast.specs.Frozen.{AreCandidates, AreNamesOf}
+use Rattle.olap_ast.specs.Valid.{is_same_pair, distinct_pairs}
+use Rattle.olap_ast.proofs.AtomLemmas.{atom_on_names}
+use Rattle.olap_names.specs.Names.{IsFreshAmong, Named, atoms, candidates_of, most_others, with_graph}
+use Rattle.olap_names.proofs.Counting.{few_distinct, in_fold}
 
 -- ---- distinct pairs hold every atom
 
@@ -31,35 +28,6 @@ same_pair a b e =
     let t = (bytes_eq-Decides a.text b.text).0
     (second_true (a.category == b.category) (bytes_eq a.text b.text) e) in
     λ i. record { category = c i; text = t i }
-
-kept_pair : (pairs : List Equality) (a b : Equality) → Contains pairs b → Contains (with_pair pairs a) b
-kept_pair pairs a b c = go (list_any (is_same_pair a) pairs)
-  where
-    go : (t : Bool) → Contains (cond t pairs (pairs ++ a ∷ [])) b
-    go true = c
-    go false = Contains-append_left pairs (a ∷ []) b c
-
-new_pair : (pairs : List Equality) (a : Equality) → Contains (with_pair pairs a) a
-new_pair pairs a = go (list_any (is_same_pair a) pairs) refl
-  where
-    go : (t : Bool) → list_any (is_same_pair a) pairs ≡ t → Contains (cond t pairs (pairs ++ a ∷ [])) a
-    go true e =
-        let u = Any-from_list_any (is_same_pair a) pairs e in
-        subst (λ w. Contains pairs w) (sym (same_pair a u.1 u.4)) (u.0, u.2, u.3)
-    go false e = Contains-push pairs a
-
-in_fold : (es pairs : List Equality) (a : Equality) → Contains pairs a ⊎ Contains es a
-    → Contains (fold with_pair pairs es) a
-in_fold [] pairs a (inl c) = c
-in_fold [] pairs a (inr c) = absurd (Contains-nil a c)
-in_fold (b ∷ es) pairs a (inl c) = in_fold es (with_pair pairs b) a (inl (kept_pair pairs b a c))
-in_fold (b ∷ es) pairs a (inr c) = go (contains_cases a b es c) (in_fold es (with_pair pairs b) a)
-  where
-    go : (b ≡ a) ⊎ Contains es a
-        → (Contains (with_pair pairs b) a ⊎ Contains es a → Contains (fold with_pair (with_pair pairs b) es) a)
-        → Contains (fold with_pair (with_pair pairs b) es) a
-    go (inl e) f = f (inl (subst (λ w. Contains (with_pair pairs b) w) e (new_pair pairs b)))
-    go (inr d) f = f (inr d)
 
 -- ---- a category has no more constants than there are pairs
 
@@ -72,18 +40,6 @@ text_distinct texts o = Distinct-from_AllPairs texts (λ i j d below inside e.
     let r = tied_itself nat_list_cmp_total (get_or texts i d) in
     absurd (cc))
 
-atom_of : (d : ℕ) (es : List Equality) (text : List ℕ) → Contains (texts_on d es) text
-    → Contains es (record { category = d; text = text })
-atom_of d es text c =
-    let t = Contains-from_map (λ (a : Equality). a.text) (filter (λ (a : Equality). a.category == d) es) text c in
-    let u = Contains-from_filter (λ (a : Equality). a.category == d) es t.0 t.1 in
-    let e : t.0.category ≡ d = eqb-true t.0.category d u.1 in
-    let q : t.0.text ≡ text = t.2 in
-    subst (λ a. Contains es a) (same t.0 e q) u.0
-  where
-    same : (a : Equality) → a.category ≡ d → a.text ≡ text → a ≡ record { category = d; text = text }
-    same a e q = λ i. record { category = e i; text = q i }
-
 pub few_constants : (d : ℕ) (es : List Equality) (texts : List (List ℕ)) → AreInByteOrder (texts_on d es) texts
     → length texts ≤ length (distinct_pairs es)
 few_constants d es texts o =
@@ -91,11 +47,18 @@ few_constants d es texts o =
     let l = few_distinct (map pair texts) (distinct_pairs es)
     (Distinct-map pair texts (text_distinct texts o.ordered) (λ x y c e q. ap (λ (a : Equality). a.text) q))
     (λ a c. let t = Contains-from_map pair texts a c in
-    in_fold es [] a (inr (subst (λ w. Contains es w) t.2 (atom_of d es t.0 (o.sound t.0 t.1))))) in
+    in_fold is_same_pair same_pair es [] a
+    (inr (subst (λ w. Contains es w) t.2 (atom_on_names d es t.0 (o.sound t.0 t.1))))) in
     let e = length-map texts pair in
     omega (arith, l, e)
 
--- ---- all together
+-- what follows from both of two facts of a result
+pub both_ok : {A E : Type 0} (r : Result A E) (P Q R : A → Type 0) → ((a : A) → P a → Q a → R a) → IfOk r P
+    → IfOk r Q → IfOk r R
+both_ok (Ok a) P Q R f p q = f a p q
+both_ok (Err e) P Q R f p q = p
+
+-- ---- the constants of each category
 
 pub record AreListed (all : List Equality) (n : ℕ) (texts : List (List (List ℕ))) : Type 0 where
   pub count : length texts ≡ n
@@ -119,41 +82,139 @@ listed_more all n texts new x l o e = record {
 below_or_past : (d n : ℕ) → (d < n) ⊎ (n ≤ d)
 below_or_past d n = grind arith
 
+-- a category of which no atom speaks has no constants
+no_constants : (d : ℕ) (all : List Equality) → ((a : Equality) → Contains all a → a.category ≡ d → ⊥)
+    → AreInByteOrder (texts_on d all) []
+no_constants d all none = record {
+  ordered = λ i j e below inside. absurd (omega arith);
+  sound = λ text c. absurd (Contains-nil text c);
+  complete = λ text c. absurd (none (record { category = d; text = text }) (atom_on_names d all text c) refl);
+}
+
 pub listed_everywhere : (all : List Equality) (n : ℕ) (texts : List (List (List ℕ))) → All (λ a. a.category < n) all
     → AreListed all n texts → (d : ℕ) → AreInByteOrder (texts_on d all) (get_or texts d [])
 listed_everywhere all n texts w l d = elim (below_or_past d n) [
   | inl h ↦ l.each d h
   | inr h ↦ subst (λ t. AreInByteOrder (texts_on d all) t)
-      (sym (get_or_past texts d [] (let e = l.count in omega arith))) (record {
-        ordered = λ i j e below inside. absurd (omega arith);
-        sound = λ text c. absurd (Contains-nil text c);
-        complete = λ text c. let t = atom_of d all text c in
-            let b : get_category (get_or all t.0 (record { category = d; text = text })) < n =
-            w t.0 (record { category = d; text = text }) t.1 in
-            let q = ap get_category t.2 in absurd (omega arith);
-      })
+      (sym (get_or_past texts d [] (let e = l.count in omega arith)))
+      (no_constants d all (λ a b e. let u : a.category < n =
+      All-contains (λ (x : Equality). x.category < n) all a w b in absurd (omega arith)))
 ]
+
+-- ---- all together
+
+-- what the names of the first n categories are
+pub record AreNamed (s : Schema) (q : Formula) (n : ℕ) (first : List (List ℕ)) (texts : List (List (List ℕ))) : Type 0
   where
-    get_category : Equality → ℕ
-    get_category a = a.category
+    pub first_count : length first ≡ n
+    pub count : length texts ≡ n
+    pub each : (d : ℕ) (z : List ℕ) → d < n
+        → AreNamesOf (is_number s.graph d) s q d (get_or first d z) (get_or texts d [])
+    pub few : (d : ℕ) → d < n → length (get_or texts d []) ≤ most_others
 
-pub few_everywhere : (all : List Equality) (n : ℕ) (texts : List (List (List ℕ))) → All (λ a. a.category < n) all
-    → length (distinct_pairs all) ≤ most_constants → AreListed all n texts → (d : ℕ)
-    → length (get_or texts d []) ≤ most_constants
-few_everywhere all n texts w f l d =
-    let b = few_constants d all (get_or texts d []) (listed_everywhere all n texts w l d) in omega arith
+pub none_named : (s : Schema) (q : Formula) → AreNamed s q 0 [] []
+none_named s q = record {
+  first_count = refl;
+  count = refl;
+  each = λ d z h. absurd (omega arith);
+  few = λ d h. absurd (omega arith);
+}
 
-pub are_candidates : (cs : List Constraint) (q : Formula) (n : ℕ) (k : Named)
-    → All (λ a. a.category < n) (atoms cs q) → AreListed (atoms cs q) n k.texts → IsFreshAmong k.texts k.fresh
-    → (g : Graph) → AreCandidates (with_graph g cs) q (candidates_of k)
-are_candidates cs q n k w l f g =
-    let all = listed_everywhere (atoms cs q) n k.texts w l in
-    record {
-      fresh = record {
-        underscores = f.underscores;
-        spelled = f.spelled;
-        free = λ d c. f.free (d, (all d).complete k.fresh c);
-        first = λ m h. let t = f.first m h in (t.0, (all t.0).sound _ t.1);
-      };
-      texts = λ c. all (suc c);
-    }
+newest : (d n : ℕ) → d < n + 1 → (d < n) ⊎ (d ≡ n)
+newest d n h = grind arith
+
+-- one category more
+pub named_more : (s : Schema) (q : Formula) (n : ℕ) (first : List (List ℕ)) (texts : List (List (List ℕ)))
+    (name : List ℕ) (others : List (List ℕ)) → AreNamed s q n first texts
+    → AreNamesOf (is_number s.graph n) s q n name others → length others ≤ most_others
+    → AreNamed s q (n + 1) (first ++ name ∷ []) (texts ++ others ∷ [])
+named_more s q n first texts name others a is few = record {
+  first_count = length_push first name ∙ ap (λ k. k + 1) a.first_count;
+  count = length_push texts others ∙ ap (λ k. k + 1) a.count;
+  each = λ d z h. elim (newest d n h) [
+    | inl b ↦ before d z b
+    | inr e ↦ subst (λ k. AreNamesOf (is_number s.graph k) s q k (get_or (first ++ name ∷ []) k z)
+        (get_or (texts ++ others ∷ []) k [])) (sym e) (here z)
+  ];
+  few = λ d h. elim (newest d n h) [
+    | inl b ↦ subst (λ (l : List (List ℕ)). length l ≤ most_others) (sym (old_texts d b)) (a.few d b)
+    | inr e ↦ subst (λ k. length (get_or (texts ++ others ∷ []) k []) ≤ most_others) (sym e)
+        (subst (λ (l : List (List ℕ)). length l ≤ most_others) (sym new_texts) few)
+  ];
+}
+  where
+    old_texts : (d : ℕ) → d < n → get_or (texts ++ others ∷ []) d [] ≡ get_or texts d []
+    old_texts d b = get_or_append_left texts (others ∷ []) [] d (let k = a.count in omega arith)
+
+    old_first : (d : ℕ) (z : List ℕ) → d < n → get_or (first ++ name ∷ []) d z ≡ get_or first d z
+    old_first d z b = get_or_append_left first (name ∷ []) z d (let k = a.first_count in omega arith)
+
+    new_texts : get_or (texts ++ others ∷ []) n [] ≡ others
+    new_texts = get_or_push texts others [] n a.count
+
+    before : (d : ℕ) (z : List ℕ) → d < n → AreNamesOf (is_number s.graph d) s q d (get_or (first ++ name ∷ []) d z)
+        (get_or (texts ++ others ∷ []) d [])
+    before d z b = subst (λ f. AreNamesOf (is_number s.graph d) s q d f (get_or (texts ++ others ∷ []) d []))
+        (sym (old_first d z b)) (subst (λ t. AreNamesOf (is_number s.graph d) s q d (get_or first d z) t)
+        (sym (old_texts d b)) (a.each d z b))
+
+    here : (z : List ℕ) → AreNamesOf (is_number s.graph n) s q n (get_or (first ++ name ∷ []) n z)
+        (get_or (texts ++ others ∷ []) n [])
+    here z = subst (λ f. AreNamesOf (is_number s.graph n) s q n f (get_or (texts ++ others ∷ []) n []))
+        (sym (get_or_push first name z n a.first_count))
+        (subst (λ t. AreNamesOf (is_number s.graph n) s q n name t) (sym new_texts) is)
+
+-- no category has more names than there is room for
+pub few_named : (s : Schema) (q : Formula) (n : ℕ) (first : List (List ℕ)) (texts : List (List (List ℕ)))
+    → AreNamed s q n first texts → (d : ℕ) → length (get_or texts d []) ≤ most_others
+few_named s q n first texts a d = elim (below_or_past d n) [
+  | inl l ↦ a.few d l
+  | inr l ↦ subst (λ (t : List (List ℕ)). length t ≤ most_others)
+      (sym (get_or_past texts d [] (let e = a.count in omega arith))) (omega arith)
+]
+
+-- past the graph's categories there are texts alone, and no constants
+no_number : (g : Graph) (c : ℕ) → IsHierarchy g → length g.names ≤ c → is_number g (suc c) ≡ false
+no_number g c h l = get_or_past g.numbers c false (let e = h.kinds_known in omega arith)
+
+pub are_candidates : (g : Graph) (cs : List Constraint) (q : Formula) (k : Named) → IsHierarchy g
+    → All (λ a. a.category < category_count g) (atoms cs q) → HasKinds (with_graph g cs) q
+    → IsFreshName (with_graph g cs) q k.fresh → AreNamed (with_graph g cs) q (category_count g) k.first k.texts
+    → AreCandidates (with_graph g cs) q (candidates_of k)
+are_candidates g cs q k h w kinds fresh named = record {
+  kinds = kinds;
+  names = λ c. elim (below_or_past (suc c) (category_count g)) [
+    | inl l ↦ named.each (suc c) k.fresh l
+    | inr l ↦ past c l
+  ];
+}
+  where
+    s : Schema
+    s = with_graph g cs
+
+    first_past : (c : ℕ) → category_count g ≤ suc c → get_or k.first (suc c) k.fresh ≡ k.fresh
+    first_past c l = get_or_past k.first (suc c) k.fresh (let e = named.first_count in omega arith)
+
+    texts_past : (c : ℕ) → category_count g ≤ suc c → get_or k.texts (suc c) [] ≡ []
+    texts_past c l = get_or_past k.texts (suc c) [] (let e = named.count in omega arith)
+
+    past : (c : ℕ) → category_count g ≤ suc c → AreNamesOf (is_number g (suc c)) (with_graph g cs) q (suc c)
+        (get_or k.first (suc c) k.fresh) (get_or k.texts (suc c) [])
+    past c l = subst (λ b. AreNamesOf b (with_graph g cs) q (suc c) (get_or k.first (suc c) k.fresh)
+        (get_or k.texts (suc c) [])) (sym (no_number g c h (omega arith))) (
+          subst (λ f. IsFreshName (with_graph g cs) q f) (sym (first_past c l)) fresh,
+          subst (λ t. AreInByteOrder (texts_on (suc c) (atoms cs q)) t) (sym (texts_past c l))
+              (no_constants (suc c) (atoms cs q) (λ a b e. let u : a.category < category_count g =
+              All-contains (λ (x : Equality). x.category < category_count g) (atoms cs q) a w b in absurd (omega arith))),
+        )
+
+-- the first of nk, nk_, .. that is none of the constants of the categories is the fresh name
+pub is_fresh : (g : Graph) (cs : List Constraint) (q : Formula) (texts : List (List (List ℕ))) (name : List ℕ)
+    → ((d : ℕ) → AreInByteOrder (texts_on d (atoms cs q)) (get_or texts d [])) → IsFreshAmong texts name
+    → IsFreshName (with_graph g cs) q name
+is_fresh g cs q texts name all f = record {
+  underscores = f.underscores;
+  spelled = f.spelled;
+  free = λ d c. f.free (d, (all d).complete name c);
+  first = λ m h. let t = f.first m h in (t.0, (all t.0).sound _ t.1);
+}

@@ -1,22 +1,26 @@
-// The constants of each category, and the fresh name.
-ghost use Rattle.std.specs.Prelude.{◌≡◌, ◌+◌, ◌<◌, ◌≤◌, ◌↔◌, All, Contains, IfOk, IsTrue, codes, length, map, slice_index_or, [], ℕ};
-ghost use Rattle.olap_ast.specs.Constants.{AreInByteOrder, texts_on};
-ghost use Rattle.olap_ast.specs.Frozen.{AreCandidates};
+// The names of each category: of texts the fresh name and the constants, and of numbers numerals.
+ghost use Rattle.std.specs.Prelude.{◌≡◌, ◌+◌, ◌*◌, ◌<◌, ◌≤◌, ◌↔◌, All, Contains, IfOk, IsTrue, codes, length, map, slice_index_or, [], ◌∷◌, ℕ};
+ghost use Rattle.olap_ast.specs.Constants.{AreAscending, AreInByteOrder, IsFreshName, numbers_on, texts_on};
+ghost use Rattle.olap_ast.specs.Frozen.{AreCandidates, AreNamesOf};
 ghost use Rattle.olap_ast.specs.Trees.{constraint_of, formula_of};
-ghost use Rattle.olap_ast.specs.Valid.{distinct_pairs};
-ghost use Rattle.olap_base.specs.Limits.{most_constants};
-ghost use Rattle.olap_base.specs.Graph.{Graph};
-ghost use Rattle.olap_names.specs.Names.{IsConstantSomewhere, IsFreshAmong, atoms, candidates_of, name_at, names_of, with_graph};
+ghost use Rattle.olap_ast.specs.Valid.{distinct_numbers};
+ghost use Rattle.olap_base.specs.Graph.{IsCategory, category_count, is_number};
+ghost use Rattle.olap_names.specs.Names.{CanBeNamed, IsConstantSomewhere, IsFreshAmong, atoms, candidates_of, most_others, name_at, names_of, number_atoms, with_graph};
+ghost use Rattle.olap_numerals.specs.Numerals.{canonical};
+ghost use Rattle.olap_numerals.specs.Representatives.{AreNumberNames, AreSmall};
 
-use olap_ast::{Constraint, Formula, gather};
+use olap_ast::{Constraint, Formula, gather, gather_numbers};
 use olap_base::{CatId, List, Memory, Text};
+use olap_graph::Graph;
+use olap_numerals::{numeral, numerals, representatives};
 use std::alloc::Global;
 use std::marker::Model;
 
-/// For each category its constants in byte order, and the fresh name.
+/// For each category its first name, and its other names in their order.
 #[derive(Debug, Drop)]
 pub struct Candidates {
     texts: Vec<List<Text>>,
+    first: Vec<Text>,
     fresh: Text,
     all: Text,
 }
@@ -28,7 +32,7 @@ impl Model for Candidates {
 
     ghost use Rattle.olap_names.specs.Inside.{IsKept};
 
-    ghost view = { λ a. record { fresh = a.fresh; texts = a.texts.items } };
+    ghost view = { λ a. record { fresh = a.fresh; first = a.first.items; texts = a.texts.items } };
 
     ghost invariant = { IsKept };
 }
@@ -88,33 +92,148 @@ fn constants_of(
     Ok(List::from_vec(texts))
 }
 
+// The distinct constants of each category, in byte order.
+fn all_constants(
+    alloc: Global,
+    categories: u16,
+    constraints: &[Constraint],
+    question: &Formula,
+) -> Result<Vec<List<Text>>, Memory>
+    requires { All (λ a. a.category < categories)
+        (atoms (map constraint_of constraints.now) (formula_of question.now)) }
+    ensures { let all = atoms (map constraint_of constraints.now) (formula_of question.now) in
+        IfOk result (λ v. (c : ℕ) → AreInByteOrder (texts_on c all) (slice_index_or v.items c [])) }
+{
+    let mut texts = Vec::new(alloc);
+    'categories: for c in 0..categories {
+        texts.push(constants_of(alloc, constraints, question, CatId(c))?)?;
+    }
+    Ok(texts)
+}
+
+// The distinct numbers that the category's are compared with, ascending.
+fn numbers_of(
+    alloc: Global,
+    constraints: &[Constraint],
+    question: &Formula,
+    c: CatId,
+) -> Result<Vec<i64>, Memory>
+    ensures { let all = number_atoms (map constraint_of constraints.now) (formula_of question.now) in
+        IfOk result (λ v. AreAscending (numbers_on c.0 all) v.items) }
+{
+    let mut numbers = Vec::new(alloc);
+    'constraints: for constraint in constraints {
+        gather_numbers(&constraint.formula, c, &mut numbers)?;
+    }
+    gather_numbers(question, c, &mut numbers)?;
+    numbers.sort_unstable();
+    numbers.dedup();
+    Ok(numbers)
+}
+
+// The numerals of the numbers: the first, and the others.
+#[tactic(auto, using(crate::proofs::NumberLemmas::spelled_is))]
+fn spelled(alloc: Global, numbers: &[i64]) -> Result<(Text, List<Text>), Memory>
+    requires { 0 < length numbers.now }
+    ensures { IfOk result (λ p. p.0 ∷ p.1 ≡ map canonical numbers.now) }
+{
+    let first = numeral(alloc, numbers[0])?;
+    let others = numerals(alloc, &numbers[1..])?;
+    Ok((first, others))
+}
+
+// The names of a category of numbers: the numerals of those that stand for all, ascending.
+fn number_names(
+    alloc: Global,
+    constraints: &[Constraint],
+    question: &Formula,
+    c: CatId,
+) -> Result<(Text, List<Text>), Memory>
+    requires { let all = number_atoms (map constraint_of constraints.now) (formula_of question.now) in
+        AreSmall (numbers_on c.0 all) }
+    ensures names { let all = number_atoms (map constraint_of constraints.now) (formula_of question.now) in
+        IfOk result (λ p. AreNumberNames (numbers_on c.0 all) p.0 p.1) }
+    ensures few { let all = number_atoms (map constraint_of constraints.now) (formula_of question.now) in
+        IfOk result (λ p. length p.1 ≤ 2 * length (distinct_numbers all)) }
+{
+    let constants = numbers_of(alloc, constraints, question, c)?;
+    let numbers = representatives(alloc, &constants)?;
+    spelled(alloc, &numbers)
+}
+
+// The names of a category of texts: the fresh name, and its constants.
+fn text_names(
+    alloc: Global,
+    constraints: &[Constraint],
+    question: &Formula,
+    fresh: &Text,
+    c: CatId,
+) -> Result<(Text, List<Text>), Memory>
+    ensures fresh { IfOk result (λ p. p.0 ≡ fresh.now) }
+    ensures constants { let all = atoms (map constraint_of constraints.now) (formula_of question.now) in
+        IfOk result (λ p. AreInByteOrder (texts_on c.0 all) p.1) }
+{
+    let others = constants_of(alloc, constraints, question, c)?;
+    let first = Text::from_bytes(alloc, fresh.bytes())?;
+    Ok((first, others))
+}
+
+// The names of a category.
+fn names_in(
+    alloc: Global,
+    graph: &Graph,
+    constraints: &[Constraint],
+    question: &Formula,
+    fresh: &Text,
+    c: CatId,
+) -> Result<(Text, List<Text>), Memory>
+    requires category { IsCategory graph.now c.0 }
+    requires named { CanBeNamed graph.now (map constraint_of constraints.now) (formula_of question.now) }
+    requires fresh { IsFreshName (with_graph graph.now (map constraint_of constraints.now)) (formula_of question.now)
+        fresh.now }
+    ensures names { let schema = with_graph graph.now (map constraint_of constraints.now) in
+        IfOk result (λ p. AreNamesOf (is_number graph.now c.0) schema (formula_of question.now) c.0 p.0 p.1) }
+    ensures few { IfOk result (λ p. length p.1 ≤ most_others) }
+{
+    if graph.is_number(c) {
+        number_names(alloc, constraints, question, c)
+    } else {
+        text_names(alloc, constraints, question, fresh, c)
+    }
+}
+
 impl Candidates {
-    /// The candidates of a schema of that many categories with these constraints, and of a question.
+    /// The candidates of a schema of that graph with these constraints, and of a question. `Memory`: out of memory.
     ///
-    /// Cost: for each category the formulas, and a sort of its constants.
+    /// Cost: for each category the formulas twice, and two sorts of its constants.
     pub fn of(
         alloc: Global,
-        categories: u16,
+        graph: &Graph,
         constraints: &[Constraint],
         question: &Formula,
     ) -> Result<Candidates, Memory>
-        requires categories { All (λ a. a.category < categories)
-            (atoms (map constraint_of constraints.now) (formula_of question.now)) }
-        requires few { length (distinct_pairs (atoms (map constraint_of constraints.now) (formula_of question.now)))
-            ≤ most_constants }
-        ensures count { IfOk result (λ k. length k.texts ≡ categories) }
-        ensures candidates { IfOk result (λ k. (g : Graph) → AreCandidates
-            (with_graph g (map constraint_of constraints.now)) (formula_of question.now) (candidates_of k)) }
-        ensures constants { let all = atoms (map constraint_of constraints.now) (formula_of question.now) in
-            IfOk result (λ k. (c : ℕ) → AreInByteOrder (texts_on c all) (slice_index_or k.texts c [])) }
+        requires { CanBeNamed graph.now (map constraint_of constraints.now) (formula_of question.now) }
+        ensures count { IfOk result (λ k. length k.texts ≡ category_count graph.now) }
+        ensures candidates { IfOk result (λ k. AreCandidates
+            (with_graph graph.now (map constraint_of constraints.now)) (formula_of question.now) (candidates_of k)) }
     {
+        let count = graph.categories();
+        let constants = all_constants(alloc, count, constraints, question)?;
+        let fresh = fresh_name(alloc, &constants)?;
+        let mut first = Vec::new(alloc);
         let mut texts = Vec::new(alloc);
-        'categories: for c in 0..categories {
-            texts.push(constants_of(alloc, constraints, question, CatId(c))?)?;
+        'categories: for c in 0..count {
+            let names = names_in(alloc, graph, constraints, question, &fresh, CatId(c))?;
+            first.push(names.0)?;
+            texts.push(names.1)?;
         }
-        let fresh = fresh_name(alloc, &texts)?;
         let all = Text::from_bytes(alloc, b"all")?;
-        Ok(Candidates { texts, fresh, all })
+        Ok(Candidates {
+            texts,
+            first,
+            fresh,
+            all,
+        })
     }
 
     /// How many categories there are.
@@ -124,29 +243,45 @@ impl Candidates {
         self.texts.len() as u16
     }
 
-    /// The constants of the category, in byte order.
-    pub fn constants(&self, c: CatId) -> &[Text]
+    /// The names of the category beside the first, in their order: of texts the constants in byte order, of numbers the
+    /// further numerals.
+    pub fn others(&self, c: CatId) -> &[Text]
         requires { c.0 < length self.now.texts }
         ensures list { result.now ≡ slice_index_or self.now.texts c.0 [] }
-        ensures few { length result.now ≤ most_constants }
+        ensures few { length result.now ≤ most_others }
     {
         self.texts[usize::from(c.0)].items()
     }
 
-    /// How many names a member of the category may have, the fresh one counted: an index is below that.
+    /// The first name of the category: of texts the fresh name, of numbers the least numeral.
+    pub fn first(&self, c: CatId) -> &Text
+        requires { c.0 < length self.now.texts }
+        ensures { result.now ≡ slice_index_or self.now.first c.0 self.now.fresh }
+    {
+        &self.first[usize::from(c.0)]
+    }
+
+    /// How many names a member of the category may have, the first one counted: an index is below that.
     pub fn names(&self, c: CatId) -> u16
         requires { c.0 < length self.now.texts }
         ensures count { result ≡ names_of self.now c.0 }
-        ensures few { result ≤ most_constants + 1 }
+        ensures few { result ≤ most_others + 1 }
     {
-        self.constants(c).len() as u16 + 1
+        self.others(c).len() as u16 + 1
     }
 
-    /// The constants of each category, in byte order.
+    /// The other names of each category.
     pub fn texts(&self) -> &[List<Text>]
         ensures { result.now ≡ self.now.texts }
     {
         &self.texts
+    }
+
+    /// The first name of each category.
+    pub fn firsts(&self) -> &[Text]
+        ensures { result.now ≡ self.now.first }
+    {
+        &self.first
     }
 
     /// The fresh name.
@@ -156,7 +291,7 @@ impl Candidates {
         &self.fresh
     }
 
-    /// The name of an index: `all` for `All`, else the fresh name for 0 and the i-th constant for i.
+    /// The name of an index: `all` for `All`, else the first name for 0 and the i-th of the others for i.
     pub fn name(&self, c: CatId, index: u16) -> &Text
         requires category { c.0 < length self.now.texts }
         requires index { index ≤ length (slice_index_or self.now.texts c.0 []) }
@@ -166,7 +301,7 @@ impl Candidates {
             return &self.all;
         }
         if index == 0 {
-            return &self.fresh;
+            return self.first(c);
         }
         &self.texts[usize::from(c.0)].items()[usize::from(index) - 1]
     }

@@ -1,7 +1,8 @@
 -- What is known of a counterexample that was found: its root, and by way of what the root reaches the target.
 use Rattle.std.proofs.Common.{◌≡◌, ℕ, suc, List, [], ◌∷◌, ◌++◌, Bool, refl, ap, sym, subst, ◌∙◌, ◌↔◌, inl, inr}
 use Rattle.std.specs.Prelude.{Contains, flat_map}
-use Rattle.olap_ast.specs.Constants.{AreInByteOrder, IsFreshName, constants, fresh_candidate, texts_on}
+use Rattle.olap_ast.proofs.SameAtoms.{candidates_too, frozen_too}
+use Rattle.olap_ast.proofs.SourceLemmas.{question_free, question_numberless}
 use Rattle.olap_ast.specs.Formula.{Formula, Formula.Via, Holds, equalities, equalities_of_terms}
 use Rattle.olap_ast.specs.Frozen.{AreCandidates, Candidates, Frozen, IsFrozen, chosen, name_in, root_place, thawed}
 use Rattle.olap_ast.specs.Schema.{Constraint, Schema}
@@ -19,55 +20,6 @@ use Rattle.olap_nav.specs.Patterns.{AreWays, IsPattern, IsSomeCounterexample, fo
 -- a schema is its graph and its constraints
 pub whole_is : (s : Schema) (g : Graph) (cs : List Constraint) → g ≡ s.graph → cs ≡ s.constraints → with_graph g cs ≡ s
 whole_is s g cs e f = ap (λ h. with_graph h cs) e ∙ ap (λ l. with_graph s.graph l) f
-
--- ---- questions with the same atoms on names have the same candidates
-
-module _ (s : Schema) (q p : Formula) (e : equalities q ≡ equalities p) where
-  same_constants : (d : ℕ) → constants s q d ≡ constants s p d
-  same_constants d =
-      ap (λ atoms. texts_on d (flat_map (λ (c : Constraint). equalities c.formula) s.constraints ++ atoms)) e
-
-  same_fresh : (name : List ℕ) → IsFreshName s q name → IsFreshName s p name
-  same_fresh name f = record {
-    underscores = f.underscores;
-    spelled = f.spelled;
-    free = λ d h. f.free d (subst (λ l. Contains l name) (sym (same_constants d)) h);
-    first = λ m h. let t = f.first m h in
-        (t.0, subst (λ l. Contains l (fresh_candidate m)) (same_constants t.0) t.1);
-  }
-
-  pub same_candidates : (k : Candidates) → AreCandidates s q k → AreCandidates s p k
-  same_candidates k a = record {
-    fresh = same_fresh k.fresh a.fresh;
-    texts = λ c. subst (λ l. AreInByteOrder l (k.texts (suc c))) (same_constants (suc c)) (a.texts c);
-  }
-
-  -- what is a frozen dimension for the one question is one for the other, where that is true at the root
-  pub same_frozen : (r : ℕ) (k : Candidates) (f : Frozen) → (t : IsFrozen s q r k f)
-      → Holds (thawed s k r f) t.stands_for.root p → IsFrozen s p r k f
-  same_frozen r k f t h = record {
-    edge_count = t.edge_count;
-    name_count = t.name_count;
-    in_range = t.in_range;
-    absent = t.absent;
-    stands_for = record {
-      legal = t.stands_for.legal;
-      one_each = t.stands_for.one_each;
-      root = t.stands_for.root;
-      root_is = t.stands_for.root_is;
-      reached = t.stands_for.reached;
-      named = λ y m n. elim (t.stands_for.named y m n) [
-        | inl c ↦ inl (subst (λ l. Contains l (name_of (thawed s k r f) y))
-            (same_constants (category_of (thawed s k r f) y)) c)
-        | inr c ↦ inr (same_fresh (name_of (thawed s k r f) y) c)
-      ];
-      true_at_root = h;
-    };
-  }
-
-vias_free : (c : ℕ) (sources : List ℕ) → equalities_of_terms (vias c sources) ≡ []
-vias_free c [] = refl
-vias_free c (s ∷ ss) = vias_free c ss
 
 -- ---- the root
 
@@ -101,14 +53,14 @@ module _ (s : Schema) (c : ℕ) (found : Found) (hier : IsHierarchy s.graph) (t 
 
   -- the candidates are those of each question on a way
   pub candidates_for : (v : ℕ) → AreCandidates s (Via v c) k
-  candidates_for v = same_candidates s q (Via v c) (vias_free c t.0) k t.1.one.candidates
+  candidates_for v = candidates_too s q (Via v c) (question_free c t.0) (question_numberless c t.0) k t.1.one.candidates
 
   -- the same choice is a frozen dimension for the question on a way exactly where the root has that way
   pub way_is : (v : ℕ) → IsFrozen s (Via v c) r k f ↔ ReachesVia (found_instance s found) (found_root s found) v c
   way_is v = (
     λ w. subst (λ x. ReachesVia (found_instance s found) x v c)
         (sym (place_is s (Via v c) r k f hier t.1.bottom.0.1 w)) w.stands_for.true_at_root,
-    λ h. same_frozen s q (Via v c) (vias_free c t.0) r k f is_one
+    λ h. frozen_too s q (Via v c) (question_free c t.0) (question_numberless c t.0) r k f is_one
         (subst (λ x. ReachesVia (found_instance s found) x v c) place h),
   )
 

@@ -3,7 +3,7 @@ ghost use Rattle.std.specs.Int.{bit_at};
 ghost use Rattle.std.specs.Prelude.{◌≡◌, ◌==◌, ◌<◌, ◌≤◌, IfOk, length};
 ghost use Rattle.olap_base.specs.Limits.{most_views};
 ghost use Rattle.olap_nav.specs.Plans.{rows_in, sources_in};
-ghost use Rattle.olap_summ.specs.Counterexamples.{numbers_of};
+ghost use Rattle.olap_ast.specs.Trees.{numbers_of};
 ghost use Rattle.olap_view.specs.Seen.{views_of};
 
 use olap_base::{CatId, Memory};

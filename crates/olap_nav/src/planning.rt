@@ -9,7 +9,7 @@ ghost use Rattle.olap_nav.specs.Patterns.{IsPattern, IsSomeCounterexample};
 ghost use Rattle.olap_nav.specs.Plans.{IsPlan, Serves, rows_in, sources_in};
 ghost use Rattle.olap_nav.specs.declared.choice.PlanRefusal.TheVariants as refusal;
 ghost use Rattle.olap_schema.specs.Schemas.{schema_of};
-ghost use Rattle.olap_summ.specs.Counterexamples.{numbers_of};
+ghost use Rattle.olap_ast.specs.Trees.{numbers_of};
 ghost use Rattle.olap_view.specs.Seen.{views_of};
 ghost use Rattle.olap_view.specs.Stores.{IsStore};
 

@@ -4,7 +4,7 @@ ghost use Rattle.olap_base.specs.Graph.{IsCategory};
 ghost use Rattle.olap_base.specs.Limits.{most_views};
 ghost use Rattle.olap_nav.specs.PlanText.{plan_text};
 ghost use Rattle.olap_nav.specs.Plans.{sources_in};
-ghost use Rattle.olap_summ.specs.Counterexamples.{numbers_of};
+ghost use Rattle.olap_ast.specs.Trees.{numbers_of};
 ghost use Rattle.olap_view.specs.Seen.{views_of};
 
 use crate::masks::sources;

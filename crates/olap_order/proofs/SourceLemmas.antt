@@ -17,7 +17,8 @@ use Rattle.olap_order.specs.Judged.{Replies}
 use Rattle.olap_order.specs.Order.{Order, Done, and_then}
 use Rattle.olap_order.specs.Steps.{another_word, different_words}
 use Rattle.olap_order.specs.Taken.{NoAnswer, PlainStep}
-use Rattle.olap_order.specs.Words.{numbers_of, texts}
+use Rattle.olap_order.specs.Words.{texts}
+use Rattle.olap_ast.specs.Trees.{numbers_of}
 use Rattle.olap_order.proofs.Stepping.{ends_both}
 use Rattle.olap_order.specs.declared.replies.Stop.{Stop}
 

@@ -8,7 +8,3 @@ use Rattle.olap_base.specs.declared.ids.CatId.{CatId}
 -- the bytes of the words
 abbrev pub texts : List (String Global) → List (List ℕ)
 texts words = map string_bytes words
-
--- the numbers of categories
-abbrev pub numbers_of : List CatId → List ℕ
-numbers_of categories = map (λ c. c.0) categories

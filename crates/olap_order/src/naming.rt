@@ -3,14 +3,14 @@ ghost use Rattle.std.specs.Prelude.{◌≡◌, ◌≢◌, ◌+◌, ◌<◌, ◌^
 ghost use Rattle.std.specs.List.{list_any};
 ghost use Rattle.std.specs.Prelude.{◌==◌, ◌↔◌};
 ghost use Rattle.olap_ast.specs.Formula.{equalities};
-ghost use Rattle.olap_ast.specs.Trees.{formula_of};
+ghost use Rattle.olap_ast.specs.Trees.{formula_of, numbers_of};
 ghost use Rattle.olap_ast.specs.Valid.{IsQuestion};
 ghost use Rattle.olap_base.specs.Graph.{IsCategory, IsDeclared};
 ghost use Rattle.olap_schema.specs.PrintingLaws.{AreTexts};
 ghost use Rattle.olap_schema.specs.Schemas.{schema_of};
 ghost use Rattle.olap_order.specs.Steps.{another_word, category_word, different_words, formula_word, root_word};
 ghost use Rattle.olap_order.specs.Taken.{PlainStep};
-ghost use Rattle.olap_order.specs.Words.{numbers_of, texts};
+ghost use Rattle.olap_order.specs.Words.{texts};
 
 use crate::replies::{Stop, refuse_at};
 use olap_ast::Formula;

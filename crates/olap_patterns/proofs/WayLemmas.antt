@@ -3,7 +3,7 @@ use Rattle.std.proofs.Common.{◌≡◌, ◌≢◌, ℕ, suc, ◌+◌, ◌<◌, 
 use Rattle.std.specs.Prelude.{All, slice_index}
 use Rattle.std.specs.Int.{bit_at}
 use Rattle.std.proofs.lemmas.Bool.{cases_eq, eq-eqb, ne_eqb}
-use Rattle.olap_ast.specs.Formula.{Formula, Formula.Truth, Formula.Falsity, Formula.Not, Formula.And, Formula.Or, Formula.Reach, Formula.Via, Holds, equalities}
+use Rattle.olap_ast.specs.Formula.{Formula, Formula.Truth, Formula.Falsity, Formula.Not, Formula.And, Formula.Or, Formula.Reach, Formula.Via, Holds, comparisons, equalities}
 use Rattle.olap_base.specs.Graph.{Graph, IsCategory}
 use Rattle.olap_base.specs.Instance.{Instance, ReachesCategory, ReachesVia}
 use Rattle.olap_bits.specs.declared.sets.CatSet.{CatSet}
@@ -19,6 +19,7 @@ module _ (c : ℕ) (column : List ℕ) where
   pub no_ways : (p : ℕ) → IsAboutWays c column (λ i x. HasWaysTo 0 i x c column p) Truth
   no_ways p = record {
     free = refl;
+    numberless = refl;
     at = λ g b t a. tt;
     means = λ i x. (λ h k l. absurd (omega arith), λ h. tt);
   }
@@ -29,6 +30,7 @@ module _ (c : ℕ) (column : List ℕ) where
       → IsAboutWays c column (λ i x. HasWaysTo (k + 1) i x c column p) (And f (way_of c (slice_index column k) b))
   next_way p k l f true e a = record {
     free = nothing_joined (equalities f) [] a.free refl;
+    numberless = nothing_joined (comparisons f) [] a.numberless refl;
     at = λ g b t all. (a.at g b t all, (all k 0 l, t));
     means = λ i x. (
       λ h j m. elim (below_next j k m) [
@@ -45,6 +47,7 @@ module _ (c : ℕ) (column : List ℕ) where
       is_one (inr q) = absurd (let z : false ≡ true = sym (ne_eqb (bit_at p k) 1 q) ∙ e in cc)
   next_way p k l f false e a = record {
     free = nothing_joined (equalities f) [] a.free refl;
+    numberless = nothing_joined (comparisons f) [] a.numberless refl;
     at = λ g b t all. (a.at g b t all, (all k 0 l, t));
     means = λ i x. (
       λ h j m. elim (below_next j k m) [
@@ -79,6 +82,7 @@ module _ (c : ℕ) (column : List ℕ) where
     pub no_pattern : IsAboutWays c column (Below 0) Falsity
     no_pattern = record {
       free = refl;
+      numberless = refl;
       at = λ g b t a. tt;
       means = λ i x. (λ h. absurd h, λ h. let l = h.1 in absurd (omega arith));
     }
@@ -87,6 +91,7 @@ module _ (c : ℕ) (column : List ℕ) where
         → IsAboutWays c column (λ i x. HasWays i x c column n) next → IsAboutWays c column (Below (n + 1)) (Or f next)
     pattern_added n h f next a b = record {
       free = nothing_joined (equalities f) (equalities next) a.free b.free;
+      numberless = nothing_joined (comparisons f) (comparisons next) a.numberless b.numberless;
       at = λ g r t all. (a.at g r t all, b.at g r t all);
       means = λ i x. (
         λ y. elim y [
@@ -104,6 +109,7 @@ module _ (c : ℕ) (column : List ℕ) where
         → IsAboutWays c column (Below (n + 1)) f
     pattern_passed n out f a = record {
       free = a.free;
+      numberless = a.numberless;
       at = a.at;
       means = λ i x. (
         λ y. let t = (a.means i x).0 y in (t.0, (let l = t.1 in omega arith), t.2, t.3),
@@ -118,6 +124,7 @@ module _ (c : ℕ) (column : List ℕ) where
         → IsAboutWays c column (λ i x. HasWaysIn i x c column patterns) f
     all_below n e f a = record {
       free = a.free;
+      numberless = a.numberless;
       at = a.at;
       means = λ i x. (
         λ y. let t = (a.means i x).0 y in (t.0, t.2, t.3),
@@ -129,6 +136,7 @@ module _ (c : ℕ) (column : List ℕ) where
         → IsAboutWays c column (IsInside c column patterns) (And (Reach c) f)
     is_inside f a = record {
       free = a.free;
+      numberless = a.numberless;
       at = λ g b t all. (t, a.at g b t all);
       means = λ i x. (λ h. (h.0, (a.means i x).0 h.1), λ h. (h.0, (a.means i x).1 h.1));
     }
@@ -137,6 +145,7 @@ module _ (c : ℕ) (column : List ℕ) where
         → IsAboutWays c column (IsOutside c column patterns) (And (Reach c) (Not f))
     is_outside f a = record {
       free = a.free;
+      numberless = a.numberless;
       at = λ g b t all. (t, a.at g b t all);
       means = λ i x. (
         λ h. (h.0, λ w. h.1 ((a.means i x).1 w)),

@@ -1,9 +1,9 @@
 // Patterns of sources as formulas.
 ghost use Rattle.std.specs.Prelude.{◌≡◌, ◌≤◌, IfOk, length};
 ghost use Rattle.olap_ast.specs.Formula.{Formula.And, Formula.Or};
-ghost use Rattle.olap_ast.specs.Trees.{formula_of};
+ghost use Rattle.olap_ast.specs.Trees.{formula_of, numbers_of};
 ghost use Rattle.olap_base.specs.Limits.{most_views};
-ghost use Rattle.olap_patterns.specs.Ways.{HasWays, HasWaysIn, IsAboutWays, IsInside, IsOutside, numbers_of, way_of};
+ghost use Rattle.olap_patterns.specs.Ways.{HasWays, HasWaysIn, IsAboutWays, IsInside, IsOutside, way_of};
 
 use crate::masks::{PATTERNS, Patterns, has_bit};
 use olap_ast::Formula;

@@ -1,16 +1,14 @@
 // The least frozen dimension by trying: all choices of edges and names, in code order.
-ghost use Rattle.std.specs.Prelude.{◌≡◌, ◌<◌, ◌≤◌, ℕ, All, IfOk, IfSome, IsTrue, false, length, map, slice_index, slice_index_or, true};
+ghost use Rattle.std.specs.Prelude.{◌≡◌, ◌<◌, ◌≤◌, ℕ, IfOk, IfSome, IsTrue, false, length, map, slice_index, slice_index_or, true};
 ghost use Rattle.olap_ast.specs.Formula.{Formula as TheFormula};
 ghost use Rattle.olap_ast.specs.Frozen.{AreCandidates, Frozen as TheFrozen, IsFrozen, IsLeastFrozen};
 ghost use Rattle.olap_ast.specs.Trees.{constraint_of, formula_of};
-ghost use Rattle.olap_ast.specs.Valid.{distinct_pairs};
-ghost use Rattle.olap_base.specs.Limits.{most_constants};
 ghost use Rattle.olap_base.specs.Graph.{IsCategory, category_count};
 ghost use Rattle.olap_frozen.specs.LeastFound.{HasNothing};
 ghost use Rattle.olap_frozen.specs.Leaves.{IsZeroAtAll, chosen_of};
 ghost use Rattle.olap_plain.specs.Searching.{AreFirstNames, NoneWith, code_of};
 ghost use Rattle.olap_plain.specs.Searches.{IsMadeWith};
-ghost use Rattle.olap_names.specs.Names.{atoms, candidates_of, with_graph};
+ghost use Rattle.olap_names.specs.Names.{CanBeNamed, candidates_of, with_graph};
 ghost use Rattle.olap_names.specs.Walks.{IsLast, IsLastOpen, IsNext, IsStep};
 
 use olap_ast::{Constraint, Formula};
@@ -195,14 +193,11 @@ impl Search {
         question: &Formula,
     ) -> Result<Search, Memory>
         requires root { IsCategory graph.now root.0 }
-        requires categories { All (λ a. a.category < category_count graph.now)
-            (atoms (map constraint_of constraints.now) (formula_of question.now)) }
-        requires few { length (distinct_pairs (atoms (map constraint_of constraints.now) (formula_of question.now)))
-            ≤ most_constants }
+        requires named { CanBeNamed graph.now (map constraint_of constraints.now) (formula_of question.now) }
         ensures { IfOk result (λ search. IsMadeWith graph.now (map constraint_of constraints.now)
             (formula_of question.now) root.0 search) }
     {
-        let candidates = Candidates::of(alloc, graph.categories(), constraints, question)?;
+        let candidates = Candidates::of(alloc, graph, constraints, question)?;
         let edges = vec![in alloc; false; usize::from(graph.edges())]?;
         let walk = NameWalk::new(alloc, &candidates)?;
         let room = Room::new(alloc, graph)?;

@@ -4,8 +4,8 @@ use Rattle.std.specs.Bool.{Decides}
 use Rattle.std.specs.Result.{result_ok}
 use Rattle.std.specs.Str.Parse.{IsNumeral, ParsesUnsigned, digits_value, without_leading_plus}
 use Rattle.std.proofs.lemmas.Bool.Decides.{Decides-and, Decides-ltb}
-use Rattle.olap_records.specs.Numbers.{is_numeral}
-use Rattle.olap_records.proofs.Spelling.{numeral-decides, ok-where}
+use Rattle.olap_numerals.specs.Values.{is_numeral}
+use Rattle.olap_numerals.proofs.Spelling.{numeral-decides, ok-where}
 use Rattle.olap_plans.specs.Numbers.{is_number, number_of}
 
 -- the test of digits decides std's words

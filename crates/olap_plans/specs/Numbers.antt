@@ -4,7 +4,7 @@
 use Rattle.std.specs.Prelude.{◌^◌, ◌&&◌, Bool, ℕ, List, length, Option, Some, None, option_and_then, if◌then◌else◌, nat_le, nat_lt}
 use Rattle.std.specs.Str.Parse.{digits_value}
 use Rattle.olap_base.specs.Limits.{most_generated}
-use Rattle.olap_records.specs.Numbers.{is_numeral}
+use Rattle.olap_numerals.specs.Values.{is_numeral}
 
 -- one to twenty decimal digits of a number below 2 ^ 64
 abbrev pub is_number : List ℕ → Bool

@@ -12,12 +12,12 @@ use Rattle.olap_ast.specs.Formula.{Formula}
 use Rattle.olap_ast.specs.Frozen.{AreCandidates, Candidates, text_of_index}
 use Rattle.olap_ast.specs.Schema.{Constraint, Schema}
 use Rattle.olap_ast.specs.declared.three_values.Truth3.TheVariants.{No}
-use Rattle.olap_ast.proofs.Determined.{same_fresh, same_texts}
+use Rattle.olap_ast.proofs.Determined.{same_first, same_texts}
 use Rattle.olap_eval.specs.Partial.{value_at}
 use Rattle.olap_graph.specs.Lookups.{edge_between}
 use Rattle.olap_names.specs.Names.{name_at}
 use Rattle.olap_proof.specs.declared.forms.Form.{Form}
-use Rattle.olap_proof.specs.Places.{Naming, Place, index_of, indexed, knowledge, name_of, reached, told_between, told_name}
+use Rattle.olap_proof.specs.Places.{Naming, Place, index_of, indexed, knowledge, name_of, reached, told_between, told_name, told_number}
 use Rattle.olap_proof.specs.Lines.{Closes, IsUnmetAt, Line, Line.Asked, Line.Clash, Line.Cycle, Line.Dead, Line.EdgeOrNot, Line.Loose, Line.NameOf, Line.Shortcut, Line.Unmet, Line.Unreached, Line.WayOrNot, line_text}
 use Rattle.olap_proof.specs.Certificates.{IsCertificateText, IsFirstWrong, Open, Open.At, Runs, Runs.more, Runs.none, Steps, Steps.begins, Steps.closes, Steps.edges, Steps.names, Steps.roots, Steps.ways, with_name}
 
@@ -33,7 +33,7 @@ alike s q k h a b = record { names = names; counts = λ c. ap length (same_texts
     names : (c i : ℕ) → name_at k c i ≡ name_at h c i
     names zero i = refl
     names (suc c) i =
-        let u = same_fresh s q k h a b in
+        let u = same_first s q k h a b c in
         let t = same_texts s q k h a b c in
         λ j. text_of_index (u j) (t j) i
 
@@ -57,6 +57,7 @@ module _ (f : Form) (k h : Candidates) (a : Alike k h) where
     edge = λ x y. told_between p.decided (edge_between p.decided.graph x y);
     reaches = reached f p;
     name = λ c text. told_name p c (name_alike p.namings c j) text;
+    number = λ c op n. told_number p c (name_alike p.namings c j) op n;
   }
 
   unmet_alike : (p : Place) (cs : List Constraint) (n : ℕ) → IsUnmetAt f cs n k p → IsUnmetAt f cs n h p

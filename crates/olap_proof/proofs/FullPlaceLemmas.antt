@@ -6,7 +6,7 @@
 --     truth_at           a formula that isn't known to be false is true
 --     reaches_all        what has a member reaches all, likewise
 --     frozen_there       what was decided is a frozen dimension, if no line on formulas closes either
-use Rattle.std.proofs.Common.{◌≡◌, ℕ, zero, suc, ◌<◌, ◌≤◌, List, [], ◌∷◌, length, map, get_or, Bool, true, false, cond, Option, Some, None, refl, ap, sym, subst, ◌∙◌, ◌⊎◌, inl, inr, arith}
+use Rattle.std.proofs.Common.{◌≡◌, ℕ, ℤ, zero, suc, ◌<◌, ◌≤◌, List, [], ◌∷◌, length, map, get_or, Bool, true, false, cond, Option, Some, None, refl, ap, sym, subst, ◌∙◌, ◌⊎◌, inl, inr, arith}
 use Rattle.std.specs.Prelude.{All, Contains, ◌==◌, ◌&&◌, ◌||◌, ◌≢◌, codes, filter}
 use Rattle.std.specs.List.{list_any, range_with_len}
 use Rattle.std.specs.Str.{bytes_eq}
@@ -17,32 +17,35 @@ use Rattle.std.proofs.lemmas.List.FromFn.{get_or-map-range_with_len, length-rang
 use Rattle.std.proofs.lemmas.Slice.Eq.{bytes_eq-Decides}
 use native.Mathlib.Decide.{ℕ_discrete}
 use Rattle.olap_base.specs.Deciding.{contains_cases, contains_cons, decide_category_reaches}
-use Rattle.olap_base.specs.Graph.{CategoryReaches, Edge, Graph, HasEdge, IsCategory, IsHierarchy, category_count}
+use Rattle.olap_base.specs.Graph.{CategoryReaches, Edge, Graph, HasEdge, IsCategory, IsHierarchy, category_count, is_number}
 use Rattle.olap_base.specs.Instance.{Instance}
 use Rattle.olap_base.specs.Reaching.{category_reaches, category_reaches_is}
 use Rattle.olap_base.specs.Steps.{Climb, Climb.climb, Steps, Steps.here, Steps.step, Steps-append, Steps-from_reaches, reaches_from_Steps}
 use Rattle.olap_base.proofs.ListLemmas.{Contains-filter, Contains-from_filter, Contains-from_map, Contains-from_range, Contains-map, Contains-nil, Contains-range, Distinct, Distinct-from_AllPairs, contains_head}
-use Rattle.olap_ast.specs.Constants.{IsConstant, IsFreshName}
-use Rattle.olap_ast.specs.Formula.{Formula, Holds}
+use Rattle.olap_ast.specs.Constants.{IsNameOf}
+use Rattle.olap_proof.proofs.KindLemmas.{name_of_kind}
+use Rattle.olap_ast.specs.Formula.{Formula, Holds, IsNumbered}
 use Rattle.olap_ast.specs.Frozen.{AreCandidates, Candidates, Frozen, IsFrozen, chosen, instance_of, is_present, name_in, text_of_index}
 use Rattle.olap_ast.specs.Schema.{Schema}
 use Rattle.olap_ast.proofs.Shape.{either_true, is_same, left_true, list_any_is, right_true, same_is}
 use Rattle.olap_ast.specs.declared.three_values.Truth3.TheVariants.{No, Yes, Unknown}
 use Rattle.olap_eval.specs.Partial.{Agrees as Tells, Completes, value_at}
-use Rattle.olap_eval.specs.Shapes.{HasEdgeThere, HasNameThere, ReachesThere}
+use Rattle.olap_eval.specs.Shapes.{HasEdgeThere, HasNameThere, HasNumberThere, ReachesThere}
 use Rattle.olap_eval.proofs.PartialLemmas.{values_are_truths}
 use Rattle.olap_frozen.specs.Chosen.{AreNames, IsChoice, IsMet, IsSound, Joins, place_of}
 use Rattle.olap_frozen.proofs.ChosenInstance as made
 use Rattle.olap_frozen.proofs.ChosenLemmas.{bit_joins, choice_of, chosen_place, edge_inside, no_edge_joins, place_chosen}
 use Rattle.olap_graph.specs.Lookups.{edge_at, edge_between, edges_from}
 use Rattle.olap_names.specs.Names.{name_at}
+use Rattle.olap_numerals.specs.Comparing.{Op}
 use Rattle.olap_trail.specs.Decisions.{Decided, Decision, HoldsCycle, HoldsShortcut, present_edges, present_graph, status_in, status_of}
 use Rattle.olap_proof.specs.declared.forms.Form.{Form}
 use Rattle.olap_proof.specs.declared.forms.Form.TheVariants.{Long, Short}
 use Rattle.olap_proof.specs.FullPlaces.{IsFull}
 use Rattle.olap_proof.specs.Lines.{IsDead, IsLoose, IsUnmetAt}
-use Rattle.olap_proof.specs.Places.{Naming, Place, index_of, indexed, is_known, is_possible, is_top, knowledge, leading, leading_graph, name_of, possible_graph, reached, told, told_between, told_name}
+use Rattle.olap_proof.specs.Places.{Naming, Place, index_of, indexed, is_known, is_numbered, is_possible, is_top, knowledge, leading, leading_graph, name_of, possible_graph, reached, told, told_between, told_name, told_number}
 use Rattle.olap_proof.proofs.AgreeingLemmas.{status_some, walk_present, wider, wider_climb}
+use Rattle.olap_proof.proofs.NumberTests.{numbered_is}
 use Rattle.olap_proof.proofs.TallyLemmas.{false_from, tally, tally_more}
 use Rattle.olap_proof.proofs.ToldLemmas.{IsTold, formula_told, truth_told, unmet_listed}
 
@@ -386,25 +389,19 @@ module _ (s : Schema) (k : Candidates) (hier : IsHierarchy s.graph) (r : ℕ) (d
   name_decided zero h = (codes "all", refl, refl)
   name_decided (suc c) h =
       let i = index_at c h in
-      (name_at k (suc c) i.0, ap (indexed k (suc c)) i.1, ap (text_of_index k.fresh (k.texts (suc c))) i.2)
+      (name_at k (suc c) i.0, ap (indexed k (suc c)) i.1, ap (text_of_index (k.first (suc c)) (k.texts (suc c))) i.2)
 
   are_names : (q : Formula) → AreCandidates s q k → AreNames s q r es name
   are_names q are = record { all = refl; known = known }
     where
-      known : (c : ℕ) → present c ≡ true → c ≢ 0 → IsConstant s q c (name c) ⊎ IsFreshName s q (name c)
+      known : (c : ℕ) → present c ≡ true → c ≢ 0 → IsNameOf (is_number s.graph c) s q c (name c)
       known zero h n = absurd (n refl)
       known (suc c) h n =
           let i = index_at c h in
-          subst (λ j. IsConstant s q (suc c) (text_of_index k.fresh (k.texts (suc c)) j)
-          ⊎ IsFreshName s q (text_of_index k.fresh (k.texts (suc c)) j)) (sym i.2)
-          (go i.0 (full.in_range (suc c) i.0 i.1))
-        where
-          go : (j : ℕ) → j ≤ length (k.texts (suc c))
-              → IsConstant s q (suc c) (text_of_index k.fresh (k.texts (suc c)) j)
-              ⊎ IsFreshName s q (text_of_index k.fresh (k.texts (suc c)) j)
-          go zero l = inr are.fresh
-          go (suc j) l = inl ((are.texts c).sound (get_or (k.texts (suc c)) j k.fresh)
-              (Contains-get_or (k.texts (suc c)) j k.fresh (omega arith)))
+          subst (λ j. IsNameOf (is_number s.graph (suc c)) s q (suc c)
+          (text_of_index (k.first (suc c)) (k.texts (suc c)) j)) (sym i.2)
+          (name_of_kind (is_number s.graph (suc c)) s q (suc c) (k.first (suc c)) (k.texts (suc c)) i.0
+          (full.in_range (suc c) i.0 i.1) (are.names c))
 
   -- ---- what is known is so, and at a category that has a member nothing is unknown
 
@@ -484,6 +481,41 @@ module _ (s : Schema) (k : Candidates) (hier : IsHierarchy s.graph) (r : ℕ) (d
       go true false y = absurd (cc)
       go false b y = tt
 
+  number_is : (c : ℕ) (op : Op) (n : ℤ)
+      → Tells (told_number p c (name_of k ns c) op n) (HasNumberThere inst present place c op n)
+  number_is c op n = go (name_of k ns c) refl
+    where
+      same : (w : List ℕ) → name_of k ns c ≡ Some w → present c ≡ true → name c ≡ w
+      same w q h = let d = name_decided c h in let e : d.0 ≡ w = cc in d.2 ∙ e
+
+      of_test : (w : List ℕ) → name_of k ns c ≡ Some w → (a : Bool) → is_numbered w op n ≡ a
+          → (b : Bool) → is_known p c ≡ b
+          → Tells (cond a (cond b Yes Unknown) No) (HasNumberThere inst present place c op n)
+      of_test w q true x true y =
+          let h = known_present c y in
+          let e = made.name_there s.graph r es ch name c h ∙ same w q h in
+          (h, subst (λ t. IsNumbered t op n) (sym e) ((numbered_is w op n).0 x))
+      of_test w q true x false y = tt
+      of_test w q false x b y = λ h.
+          let e = made.name_there s.graph r es ch name c h.0 ∙ same w q h.0 in
+          let v = (numbered_is w op n).1 (subst (λ t. IsNumbered t op n) e h.1) in
+          let z : true ≡ false = sym v ∙ x in cc
+
+      go : (o : Option (List ℕ)) → name_of k ns c ≡ o
+          → Tells (told_number p c o op n) (HasNumberThere inst present place c op n)
+      go None q = tt
+      go (Some w) q = of_test w q (is_numbered w op n) refl (is_known p c) refl
+
+  number_told : (c : ℕ) (op : Op) (n : ℤ) → present c ≡ true → IsTold (told_number p c (name_of k ns c) op n)
+  number_told c op n h =
+      let d = name_decided c h in
+      subst (λ o. IsTold (told_number p c o op n)) (sym d.1) (go (is_numbered d.0 op n) (is_known p c) (present_known c h))
+    where
+      go : (a b : Bool) → b ≡ true → IsTold (cond a (cond b Yes Unknown) No)
+      go true true y = tt
+      go true false y = absurd (cc)
+      go false b y = tt
+
   -- what is known to lead on is so, where each category reaches all
   module _ (m : Form) (tops : (c : ℕ) → present c ≡ true → Steps (Joins es) c 0) where
     leads_walk : (c e : ℕ) → present c ≡ true → is_top m e || category_reaches (leading_graph p) c e ≡ true
@@ -539,7 +571,7 @@ module _ (s : Schema) (k : Candidates) (hier : IsHierarchy s.graph) (r : ℕ) (d
         subst (λ v. Tells v (ReachesThere inst present place c e)) q (reach_is c e) in h.1
 
     completes : Completes (knowledge m k p) inst present place
-    completes = record { edges = λ c d. (edge_is c d).0; reaching = reach_is; names = name_is }
+    completes = record { edges = λ c d. (edge_is c d).0; reaching = reach_is; names = name_is; numbers = number_is }
 
     -- what isn't known to be false is true
     pub truth_at : (c : ℕ) (f : Formula) → present c ≡ true → (value_at (knowledge m k p) c f ≡ No → ⊥)
@@ -549,7 +581,7 @@ module _ (s : Schema) (k : Candidates) (hier : IsHierarchy s.graph) (r : ℕ) (d
         (values_are_truths (knowledge m k p) inst present place (made.chosen_shape s.graph r es ch name) completes c h
         f)
         (formula_told (knowledge m k p) (λ c. present c ≡ true) (λ c d. (edge_is c d).1) reach_told reach_there
-        name_told c h f) n
+        name_told number_told c h f) n
 
     -- ---- the frozen dimension
 

@@ -6,6 +6,7 @@ pub mod AgreeingLemmas
 pub mod WayLemmas
 pub mod CertificateLemmas
 pub mod WalkingLemmas
+pub mod KeptWayLemmas
 pub mod SeenLemmas
 pub mod TouchingLemmas
 pub mod TellingLemmas
@@ -31,4 +32,6 @@ pub mod PlainLineLemmas
 pub mod StageLemmas
 pub mod LeadingLemmas
 pub mod QuestionLemmas
+mod NumberTests
+mod KindLemmas
 pub mod VerdictLemmas

@@ -2,21 +2,21 @@
 --     possible_seen, seen_possible    those that weren't decided absent
 --     leading_seen                    those that were decided present, and ways that are there
 --     seen_present, seen_way          and each of these is known to be there
-use Rattle.std.proofs.Common.{◌≡◌, ℕ, ◌<◌, ◌⊎◌, List, length, map, false, true, ap, sym, subst, ◌∙◌, inl, inr}
+use Rattle.std.proofs.Common.{◌≡◌, ℕ, ◌<◌, ◌⊎◌, List, length, map, false, true, ap, refl, sym, subst, ◌∙◌, inl, inr}
 use Rattle.std.specs.Prelude.{Contains, filter}
 use Rattle.std.specs.List.{range_with_len}
 use Rattle.std.proofs.lemmas.List.{get_or_default}
 use Rattle.std.proofs.lemmas.List.Elements.{Contains-append_cases, Contains-append_left, Contains-append_right, Contains-get_or}
-use Rattle.olap_base.specs.Graph.{Edge, Graph, HasEdge, IsCategory}
+use Rattle.olap_base.specs.Graph.{Edge, HasEdge}
 use Rattle.olap_base.proofs.ListLemmas.{Contains-filter, Contains-from_filter, Contains-from_map, Contains-from_range, Contains-map, Contains-range}
 use Rattle.olap_graph.specs.Lookups.{edge_at}
 use Rattle.olap_trail.specs.Decisions.{AreDecisions, Decided, Decision, present_edges, status_of}
 use Rattle.olap_trail.specs.Trails.{decision_of, decisions_of}
 use Rattle.olap_trail.specs.declared.decisions.Decision.{Decision as OneDecision}
-use Rattle.olap_proof.specs.declared.places.Way.{Way as OneWay}
-use Rattle.olap_proof.specs.KeptParts.{way_kept}
+use Rattle.olap_proof.specs.KeptWays.{leading_way}
 use Rattle.olap_proof.specs.Places.{Place, Way, edge_of_way, is_possible, leading_graph, possible_graph}
-use Rattle.olap_proof.specs.Seen.{AreOfGraph, SeenDecisions, SeenPossible, SeenWays, decision_at, way_at}
+use Rattle.olap_proof.specs.Seen.{LeadsHere, SeenDecisions, SeenPossible, decision_at}
+use Rattle.olap_proof.proofs.KeptWayLemmas.{whole}
 
 -- ---- edges that weren't decided absent
 
@@ -63,32 +63,22 @@ present_seen t ds c d e h =
     )
 
 -- and a way that is there among the ways
-pub way_seen : (ways : List Way) (ws : List OneWay) (c d : ℕ) → ways ≡ map way_kept ws
+pub way_seen : (ways : List Way) (c d : ℕ)
     → Contains (map edge_of_way (filter (λ (w : Way). w.there) ways)) (record { child = c; parent = d })
-    → SeenWays ws (length ws) c d
-way_seen ways ws c d e h =
+    → LeadsHere ways c d
+way_seen ways c d h =
     let m = Contains-from_map edge_of_way (filter (λ (x : Way). x.there) ways) (record { child = c; parent = d }) h in
     let u = Contains-from_filter (λ (x : Way). x.there) ways m.0 m.1 in
-    let w = Contains-from_map way_kept ws m.0 (subst (λ xs. Contains xs m.0) e u.0) in
-    let at : way_at ws w.1.0 ≡ w.0 =
-    get_or_default ws w.1.0 (record { child = record { 0 = 0 }; parent = record { 0 = 0 }; there = false }) w.0 w.1.1
-    ∙ w.1.2 in
-    let same : way_kept (way_at ws w.1.0) ≡ m.0 = ap way_kept at ∙ w.2 in (
-      w.1.0,
-      w.1.1,
-      ap (λ (x : Way). x.there) same ∙ u.1,
-      ap (λ (x : Way). x.child) same ∙ ap (λ (x : Edge). x.child) m.2,
-      ap (λ (x : Way). x.parent) same ∙ ap (λ (x : Edge). x.parent) m.2,
-    )
+    subst (λ x. Contains ways x) (whole m.0 c d true (ap (λ (x : Edge). x.child) m.2) (ap (λ (x : Edge). x.parent) m.2) u.1)
+    u.0
 
 -- so each step was seen
-pub leading_seen : (p : Place) (ds : List OneDecision) (ws : List OneWay) → p.decided.decisions ≡ decisions_of ds
-    → p.ways ≡ map way_kept ws → (c d : ℕ) → HasEdge (leading_graph p) c d
-    → SeenDecisions p.decided.graph ds (length ds) c d ⊎ SeenWays ws (length ws) c d
-leading_seen p ds ws e u c d h = elim (Contains-append_cases (present_edges p.decided)
+pub leading_seen : (p : Place) (ds : List OneDecision) → p.decided.decisions ≡ decisions_of ds → (c d : ℕ)
+    → HasEdge (leading_graph p) c d → SeenDecisions p.decided.graph ds (length ds) c d ⊎ LeadsHere p.ways c d
+leading_seen p ds e c d h = elim (Contains-append_cases (present_edges p.decided)
     (map edge_of_way (filter (λ (w : Way). w.there) p.ways)) (record { child = c; parent = d }) h) [
       | inl a ↦ inl (present_seen p.decided ds c d e a)
-      | inr a ↦ inr (way_seen p.ways ws c d u a)
+      | inr a ↦ inr (way_seen p.ways c d a)
     ]
 
 -- a decision that says present is a step
@@ -108,17 +98,12 @@ seen_present p ds e k l h =
     (Contains-filter (λ (y : Decision). y.present) p.decided.decisions (decision_of x) h there))
 
 -- and so is a way that is there
-pub seen_way : (p : Place) (ws : List OneWay) → p.ways ≡ map way_kept ws → (k : ℕ) → k < length ws
-    → (way_at ws k).there ≡ true → HasEdge (leading_graph p) (way_at ws k).child.0 (way_at ws k).parent.0
-seen_way p ws e k l h =
-    let x = way_at ws k in
-    let there : Contains p.ways (way_kept x) =
-    subst (λ xs. Contains xs (way_kept x)) (sym e) (Contains-map way_kept ws x (Contains-get_or ws k
-    (record { child = record { 0 = 0 }; parent = record { 0 = 0 }; there = false }) l)) in
+pub seen_way : (p : Place) (c d : ℕ) → LeadsHere p.ways c d → HasEdge (leading_graph p) c d
+seen_way p c d h =
     Contains-append_right (present_edges p.decided) (map edge_of_way (filter (λ (w : Way). w.there) p.ways))
-    (edge_of_way (way_kept x))
-    (Contains-map edge_of_way (filter (λ (y : Way). y.there) p.ways) (way_kept x)
-    (Contains-filter (λ (y : Way). y.there) p.ways (way_kept x) h there))
+    (record { child = c; parent = d })
+    (Contains-map edge_of_way (filter (λ (y : Way). y.there) p.ways) (leading_way c d)
+    (Contains-filter (λ (y : Way). y.there) p.ways (leading_way c d) refl h))
 
 -- ---- within the graph
 
@@ -131,19 +116,3 @@ decisions_within t ds are e k l =
     let there : Contains t.decisions (decision_of x) =
     subst (λ xs. Contains xs (decision_of x)) e (Contains-map decision_of ds x (Contains-get_or ds k none l)) in
     subst (λ (d : Decision). d.edge < length t.graph.edges) there.2 (are.edges there.0 (decision_of x) there.1)
-
--- each way leads to a category
-pub ways_within : (g : Graph) (ways : List Way) (ws : List OneWay) → AreOfGraph g ways → map way_kept ws ≡ ways → (k : ℕ)
-    → k < length ws → IsCategory g (way_at ws k).parent.0
-ways_within g ways ws are e k l =
-    let x = way_at ws k in
-    let none : OneWay = record { child = record { 0 = 0 }; parent = record { 0 = 0 }; there = false } in
-    (are (way_kept x) (subst (λ xs. Contains xs (way_kept x)) e (Contains-map way_kept ws x (Contains-get_or ws k none l)))).1
-
--- each way is between two categories
-pub ways_between : (g : Graph) (ways : List Way) (ws : List OneWay) → AreOfGraph g ways → map way_kept ws ≡ ways → (k : ℕ)
-    → k < length ws → IsCategory g (way_at ws k).child.0 × IsCategory g (way_at ws k).parent.0
-ways_between g ways ws are e k l =
-    let x = way_at ws k in
-    let none : OneWay = record { child = record { 0 = 0 }; parent = record { 0 = 0 }; there = false } in
-    are (way_kept x) (subst (λ xs. Contains xs (way_kept x)) e (Contains-map way_kept ws x (Contains-get_or ws k none l)))

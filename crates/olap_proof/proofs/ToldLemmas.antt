@@ -3,16 +3,17 @@
 --     truth_told       what is told and isn't false is true
 --     formula_told     a formula is told where what it asks is
 --     unmet_listed     a constraint that is unmet has a number
-use Rattle.std.proofs.Common.{◌≡◌, ℕ, zero, suc, List, [], ◌∷◌, Bool, true, false, refl, subst, sym, inl, inr, arith}
+use Rattle.std.proofs.Common.{◌≡◌, ℕ, ℤ, zero, suc, List, [], ◌∷◌, Bool, true, false, refl, subst, sym, inl, inr, arith}
 use Rattle.std.specs.Prelude.{Contains, ◌&&◌, ◌||◌, not}
 use Rattle.olap_base.specs.Deciding.{contains_cases}
-use Rattle.olap_ast.specs.Formula.{Formula, Formula.And, Formula.Equals, Formula.Falsity, Formula.Iff, Formula.Implies, Formula.Not, Formula.One, Formula.Or, Formula.Path, Formula.Reach, Formula.Truth, Formula.Via, Formula.Xor, Terms, Terms.End, Terms.More}
+use Rattle.olap_ast.specs.Formula.{Formula, Formula.And, Formula.Compare, Formula.Equals, Formula.Falsity, Formula.Iff, Formula.Implies, Formula.Not, Formula.One, Formula.Or, Formula.Path, Formula.Reach, Formula.Truth, Formula.Via, Formula.Xor, Terms, Terms.End, Terms.More}
 use Rattle.olap_ast.specs.Frozen.{Candidates}
 use Rattle.olap_ast.specs.Schema.{Constraint}
 use Rattle.olap_ast.specs.ThreeValues.{iff, implies, known, unknown_count, value_of, value_of_both, value_of_counts, xor, yes_count}
 use Rattle.olap_ast.specs.declared.three_values.Truth3.{Truth3}
 use Rattle.olap_ast.specs.declared.three_values.Truth3.TheVariants.{No, Yes, Unknown}
 use Rattle.olap_eval.specs.Partial.{Agrees as Tells, Knowledge, value_along, value_at, values_of}
+use Rattle.olap_numerals.specs.Comparing.{Op}
 use Rattle.olap_proof.specs.declared.forms.Form.{Form}
 use Rattle.olap_proof.specs.Lines.{IsUnmet, IsUnmetAt}
 use Rattle.olap_proof.specs.Places.{Place}
@@ -66,7 +67,8 @@ truth_told Unknown P t h n = absurd h
 -- where what is asked of the root's category and of those that it reaches is told, so is each formula
 module _ (k : Knowledge) (Here : ℕ → Type 0) (edges : (a b : ℕ) → IsTold (k.edge a b))
     (reaching : (a b : ℕ) → Here a → IsTold (k.reaches a b)) (there : (a b : ℕ) → k.reaches a b ≡ Yes → Here b)
-    (names : (a : ℕ) (text : List ℕ) → Here a → IsTold (k.name a text)) where
+    (names : (a : ℕ) (text : List ℕ) → Here a → IsTold (k.name a text))
+    (numbers : (a : ℕ) (op : Op) (n : ℤ) → Here a → IsTold (k.number a op n)) where
   along_told : (c : ℕ) (cs : List ℕ) → IsTold (value_along k c cs)
   along_told c [] = tt
   along_told c (d ∷ ds) = both_told ◌&&◌ (k.edge c d) (value_along k d ds) (edges c d) (along_told d ds)
@@ -81,6 +83,8 @@ module _ (k : Knowledge) (Here : ℕ → Type 0) (edges : (a b : ℕ) → IsTold
         and_told (k.reaches c d) (k.reaches d e) (reaching c d h) (λ y. reaching d e (there c d y))
     formula_told c h (Equals d text) =
         and_told (k.reaches c d) (k.name d text) (reaching c d h) (λ y. names d text (there c d y))
+    formula_told c h (Compare d op n) =
+        and_told (k.reaches c d) (k.number d op n) (reaching c d h) (λ y. numbers d op n (there c d y))
     formula_told c h (Not f) = one_told not (value_at k c f) (formula_told c h f)
     formula_told c h (And f g) =
         both_told ◌&&◌ (value_at k c f) (value_at k c g) (formula_told c h f) (formula_told c h g)

@@ -2,6 +2,8 @@
 --     added_is, added_none    what adding one does
 --     grows_none              where no edge was seen
 --     grows_by                after one edge more
+--     added_from_is, added_from_none, one_left, none_left    what adding all that a category leads to does
+--     grows_from              after one category more
 --     grows_on                where what was seen grew by nothing
 --     grows_then              one growth after another
 --     missing                 how many numbers below this one aren't in a set
@@ -9,15 +11,18 @@
 --     IsOnWay, way_begins ..  a walk while it grows
 --     walk_done               where nothing grows, the set has all that is reached
 --     fewer_missing           and less is missing after each round
-use Rattle.std.proofs.Common.{◌≡◌, ℕ, zero, suc, ◌+◌, ◌<◌, ◌≤◌, ◌⊎◌, Bool, true, false, cond, eqb, not, refl, ap, sym, subst, ◌∙◌, inl, inr, arith}
-use Rattle.std.specs.Prelude.{◌||◌}
-use Rattle.std.specs.FinSet.{FinSet, contains, contains-empty, empty, insert}
+use Rattle.std.proofs.Common.{◌≡◌, ℕ, zero, suc, ◌+◌, ◌<◌, ◌≤◌, ◌⊎◌, ◌↔◌, Bool, true, false, cond, eqb, not, refl, ap, sym, subst, ◌∙◌, inl, inr, arith}
+use Rattle.std.specs.Prelude.{◌&&◌, ◌||◌}
+use Rattle.std.specs.Cmp.{nat_cmp_total}
+use Rattle.std.specs.FinSet.{FinSet, contains, contains-difference, contains-empty, difference, empty, insert, union}
 use Rattle.std.specs.Ordering.{nat_cmp}
 use Rattle.olap_base.specs.Graph.{CategoryReaches, Graph, HasEdge}
 use Rattle.olap_base.specs.Steps.{Steps, Steps.here, Steps.step, Steps-append, Steps-from_reaches, reaches_from_Steps}
+use Rattle.olap_base.proofs.ListLemmas.{both_true, first_true, second_true}
 use Rattle.olap_bits.proofs.CatSetLemmas.{in_insert}
+use Rattle.olap_graph.proofs.RowLemmas.{has_union}
 use Rattle.olap_ast.proofs.Shape.{either_true, is_same, same_is}
-use Rattle.olap_proof.specs.Walking.{Grows, IsAdded, IsIn, IsWalk, SeenUpTo}
+use Rattle.olap_proof.specs.Walking.{Grows, IsAdded, IsAddedFrom, IsIn, IsWalk, SeenFrom, SeenUpTo}
 
 pub false_true : (b : Bool) → b ≡ false → b ≡ true → ⊥
 false_true b p q = let z : false ≡ true = sym p ∙ q in cc
@@ -98,6 +103,86 @@ grows_by g n takes child parent i old mid new grew now h edge small one = record
   more = λ t. elim (one.more t) [
     | inl b ↦ let w = h.more b in (w.0, w.1, one.kept w.0 w.2, w.3)
     | inr b ↦ (parent i, small, b.0, λ m. b.1 (h.kept (parent i) m))
+  ];
+}
+  where
+    last : (k i : ℕ) → k < i + 1 → (k < i) ⊎ (k ≡ i)
+    last k i l = grind arith
+
+-- ---- what leads from a category
+
+-- all that it leads to is added, where some of that isn't in the set
+pub added_from_is : (old to new : FinSet nat_cmp) (c x : ℕ) (grew : Bool) → new ≡ union old to → IsIn to x
+    → (IsIn old x → ⊥) → IsIn old c → IsAddedFrom old c to grew new true
+added_from_is old to new c x grew e m out there = record {
+  kept = λ y h. subst (λ s. IsIn s y) (sym e) ((has_union old to y).1 (inl h));
+  only = λ y h. elim ((has_union old to y).0 (subst (λ s. IsIn s y) e h)) [ inl a ↦ inl a | inr a ↦ inr (there, a) ];
+  same = λ f. absurd (let z : true ≡ false = f in cc);
+  more = λ t. inr (x, m, subst (λ s. IsIn s x) (sym e) ((has_union old to x).1 (inr m)), out);
+}
+
+-- else nothing is
+pub added_from_none : (old to : FinSet nat_cmp) (c : ℕ) (grew : Bool)
+    → (IsIn old c → (x : ℕ) → IsIn to x → IsIn old x) → IsAddedFrom old c to grew old grew
+added_from_none old to c grew h = record {
+  kept = λ x i. i;
+  only = λ x i. inl i;
+  same = λ f. (f, refl, h);
+  more = λ t. inl t;
+}
+
+-- what is left without the set isn't in it
+pub one_left : (old to less : FinSet nat_cmp) (x : ℕ) → less ≡ difference to old → IsIn less x
+    → IsIn to x × (IsIn old x → ⊥)
+one_left old to less x l m =
+    let both : contains to x && not (contains old x) ≡ true =
+    sym (contains-difference nat_cmp_total to old x) ∙ subst (λ s. IsIn s x) l m in (
+      first_true (contains to x) (not (contains old x)) both,
+      false_true (contains old x) (not_true (contains old x) (second_true (contains to x) (not (contains old x)) both)),
+    )
+
+-- and where nothing is left, all is in it
+pub none_left : (old to less : FinSet nat_cmp) → less ≡ difference to old → less ≡ empty → (x : ℕ) → IsIn to x
+    → IsIn old x
+none_left old to less l e x m = go (contains old x) refl
+  where
+    nothing : contains to x && not (contains old x) ≡ false
+    nothing =
+        sym (contains-difference nat_cmp_total to old x)
+        ∙ ap (λ s. contains s x) (sym l ∙ e) ∙ contains-empty nat_cmp x
+
+    go : (b : Bool) → contains old x ≡ b → contains old x ≡ true
+    go true h = h
+    go false h = absurd (
+        let both : contains to x && not (contains old x) ≡ true =
+        both_true (contains to x) (not (contains old x)) m (ap not h) in
+        false_true (contains to x && not (contains old x)) nothing both)
+
+-- and after one category more
+pub grows_from : (g : Graph) (n : ℕ) (Leads : ℕ → ℕ → Type 0) (i : ℕ) (old mid new to : FinSet nat_cmp) (grew now : Bool)
+    → Grows g n (SeenFrom Leads i) old mid grew → ((d : ℕ) → IsIn to d ↔ Leads i d)
+    → ((d : ℕ) → Leads i d → HasEdge g i d × (d < n)) → IsAddedFrom mid i to grew new now
+    → Grows g n (SeenFrom Leads (i + 1)) old new now
+grows_from g n Leads i old mid new to grew now h set_is edge one = record {
+  kept = λ x m. one.kept x (h.kept x m);
+  sound = λ a all x m. elim (one.only x m) [
+    | inl k ↦ h.sound a all x k
+    | inr k ↦ reaches_from_Steps (Steps-append (Steps-from_reaches (h.sound a all i k.0))
+        (step ((edge x ((set_is x).0 k.1)).0) here))
+  ];
+  same = λ f. let b = one.same f in b.1 ∙ h.same b.0;
+  closed = λ f c d seen m.
+      let b = one.same f in
+      let still = h.same b.0 in
+      elim (last c i seen.0) [
+        | inl before ↦ h.closed b.0 c d (before, seen.1) m
+        | inr e ↦
+            let there : IsIn mid i = subst (λ w. IsIn mid w) e (subst (λ z. IsIn z c) (sym still) m) in
+            subst (λ z. IsIn z d) still (b.2 there d ((set_is d).1 (subst (λ w. Leads w d) e seen.1)))
+      ];
+  more = λ t. elim (one.more t) [
+    | inl b ↦ let w = h.more b in (w.0, w.1, one.kept w.0 w.2, w.3)
+    | inr b ↦ (b.0, (edge b.0 ((set_is b.0).0 b.1)).1, b.2, λ m. b.3 (h.kept b.0 m))
   ];
 }
   where

@@ -4,9 +4,10 @@
 --     leads_is       what is known to lead somewhere does
 --     reached_is     so what is known of reaching is so
 --     name_is        and what is known of names
+--     number_is      and of comparisons
 --     completes      all that is known is so
 --     closed_none    none agrees where a line closes
-use Rattle.std.proofs.Common.{◌≡◌, ◌≢◌, ℕ, zero, suc, ◌<◌, ◌⊎◌, List, [], ◌∷◌, length, get_or, map, Bool, true, false, cond, Option, Some, None, refl, sym, subst, ◌∙◌, inl, inr, arith}
+use Rattle.std.proofs.Common.{◌≡◌, ◌≢◌, ℕ, ℤ, zero, suc, ◌<◌, ◌⊎◌, List, [], ◌∷◌, length, get_or, map, Bool, true, false, cond, Option, Some, None, refl, sym, subst, ◌∙◌, inl, inr, arith}
 use Rattle.std.specs.Prelude.{Contains, ◌==◌, ◌&&◌, ◌||◌, All, filter}
 use Rattle.std.specs.List.{list_any}
 use Rattle.std.specs.Str.{bytes_eq}
@@ -19,23 +20,25 @@ use Rattle.olap_base.specs.Reaching.{category_reaches, category_reaches_is}
 use Rattle.olap_base.specs.Steps.{Steps, Steps.here, Steps.step, Steps-append, Steps-from_reaches, reaches_from_Steps}
 use Rattle.olap_base.proofs.AboveLemmas.{reaches_all}
 use Rattle.olap_base.proofs.ListLemmas.{Contains-from_filter, Contains-from_map, contains_head}
-use Rattle.olap_ast.specs.Formula.{Formula, Holds}
+use Rattle.olap_ast.specs.Formula.{Formula, Holds, IsNumbered}
 use Rattle.olap_ast.specs.Frozen.{Candidates, Frozen, IsFrozen, instance_of, is_present, name_in}
 use Rattle.olap_ast.specs.Schema.{Constraint, Schema}
 use Rattle.olap_ast.proofs.Shape.{either_true, list_any_is, same_is}
 use Rattle.olap_ast.specs.declared.three_values.Truth3.TheVariants.{No, Yes, Unknown}
 use Rattle.olap_eval.specs.Partial.{Agrees as Tells, Completes, value_at}
-use Rattle.olap_eval.specs.Shapes.{HasNameThere, ReachesThere}
+use Rattle.olap_eval.specs.Shapes.{HasNameThere, HasNumberThere, ReachesThere}
 use Rattle.olap_eval.proofs.PartialLemmas.{values_are_truths}
 use Rattle.olap_frozen.specs.Chosen.{IsChoice, IsMet, IsSound, Joins, place_of}
 use Rattle.olap_frozen.proofs.ChosenInstance as made
 use Rattle.olap_frozen.proofs.ChosenLemmas.{choice_of, place_chosen}
 use Rattle.olap_graph.specs.Lookups.{edge_at, edges_from}
+use Rattle.olap_numerals.specs.Comparing.{Op}
 use Rattle.olap_trail.specs.Decisions.{Decided, Decision, HoldsCycle, HoldsShortcut, present_edges, present_graph, status_of}
 use Rattle.olap_proof.specs.declared.forms.Form.{Form}
 use Rattle.olap_proof.specs.declared.forms.Form.TheVariants.{Long, Short}
-use Rattle.olap_proof.specs.Places.{Naming, Place, Way, edge_of_way, is_known, is_top, knowledge, leading, leading_graph, leads, name_of, possible_graph, reached, reaching, told_name, way_of}
+use Rattle.olap_proof.specs.Places.{Naming, Place, Way, edge_of_way, is_known, is_numbered, is_top, knowledge, leading, leading_graph, leads, name_of, possible_graph, reached, reaching, told_name, told_number, way_of}
 use Rattle.olap_proof.specs.Lines.{Closes, IsClash, IsDead, IsLoose, IsUnmet, IsUnmetAt, IsUnreached, Line, Line.Asked, Line.Clash, Line.Cycle, Line.Dead, Line.EdgeOrNot, Line.Loose, Line.NameOf, Line.Shortcut, Line.Unmet, Line.Unreached, Line.WayOrNot}
+use Rattle.olap_proof.proofs.NumberTests.{numbered_is}
 use Rattle.olap_proof.proofs.AgreeingLemmas as agreeing
 use Rattle.olap_proof.proofs.AgreeingLemmas.{Like, edge_from, edges_in, wider, wider_climb}
 
@@ -246,11 +249,34 @@ module _ (form : Form) (s : Schema) (q : Formula) (r : ℕ) (k : Candidates) (f 
       go (Some w) e = of_test w (agreeing.name_told s q r k f hier root one ds ns like.rest c w e) (bytes_eq w text) refl
           (is_known p c) refl
 
+  pub number_is : (c : ℕ) (op : Op) (n : ℤ)
+      → Tells (told_number p c (name_of k ns c) op n) (HasNumberThere inst present place c op n)
+  number_is c op n = go (name_of k ns c) refl
+    where
+      of_test : (w : List ℕ) → name c ≡ w → (a : Bool) → is_numbered w op n ≡ a → (b : Bool) → is_known p c ≡ b
+          → Tells (cond a (cond b Yes Unknown) No) (HasNumberThere inst present place c op n)
+      of_test w e true x true y =
+          let h = known_there c y in
+          let q = made.name_there s.graph r es ch name c h ∙ e in
+          (h, subst (λ t. IsNumbered t op n) (sym q) ((numbered_is w op n).0 x))
+      of_test w e true x false y = tt
+      of_test w e false x b y = λ h.
+          let q = made.name_there s.graph r es ch name c h.0 ∙ e in
+          let v = (numbered_is w op n).1 (subst (λ t. IsNumbered t op n) q h.1) in
+          let z : true ≡ false = sym v ∙ x in cc
+
+      go : (o : Option (List ℕ)) → name_of k ns c ≡ o
+          → Tells (told_number p c o op n) (HasNumberThere inst present place c op n)
+      go None e = tt
+      go (Some w) e = of_test w (agreeing.name_told s q r k f hier root one ds ns like.rest c w e)
+          (is_numbered w op n) refl (is_known p c) refl
+
   pub completes : Completes (knowledge form k p) inst present place
   completes = record {
     edges = agreeing.edge_is s q r k f hier root one ds ns like.rest;
     reaching = reached_is;
     names = name_is;
+    numbers = number_is;
   }
 
   known_false : (c : ℕ) (w : Formula) → present c ≡ true → value_at (knowledge form k p) c w ≡ No

@@ -71,7 +71,7 @@ within_more g k p (Way a b t) w l =
       edges = w.edges;
       ways = λ v m. elim (Contains-append_cases p.ways (y ∷ []) v m) [
         | inl h ↦ w.ways v h
-        | inr h ↦ subst (λ (z : WayHere). IsCategory g z.child × IsCategory g z.parent) (alone y v h) l
+        | inr h ↦ subst (λ (z : WayHere). IsCategory g z.child × IsCategory g z.parent) (alone y v h) (l.0, l.1)
       ];
       texts = w.texts;
       indexes = w.indexes;

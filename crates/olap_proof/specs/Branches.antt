@@ -16,7 +16,7 @@ use Rattle.olap_trail.specs.Decisions.{status_of}
 use Rattle.olap_proof.specs.declared.branches.Choice.{Choice}
 use Rattle.olap_proof.specs.declared.branches.Choice.TheVariants.{Edge, Name, Way}
 use Rattle.olap_proof.specs.Certificates.{Open, Open.At, start, with_edge, with_name, with_way}
-use Rattle.olap_proof.specs.Places.{Place}
+use Rattle.olap_proof.specs.Places.{Place, way_of}
 
 -- the place with one choice more
 abbrev pub chosen : Place → Choice → Place
@@ -56,7 +56,7 @@ IsNamed k (Way a b t) = Unit {0}
 abbrev pub IsLegal : Graph → Named → Place → Choice → Type 0
 IsLegal g k p (Edge e b) = (e.0 < length g.edges) × (status_of p.decided e.0 ≡ None)
 IsLegal g k p (Name c i) = IsDeclared g c.0 × (i ≤ length (slice_index_or k.texts c.0 []))
-IsLegal g k p (Way a b t) = IsCategory g a.0 × IsCategory g b.0
+IsLegal g k p (Way a b t) = IsCategory g a.0 × IsCategory g b.0 × (way_of p.ways a.0 b.0 ≡ None)
 
 -- and so does each of several
 abbrev pub AreLegal : Graph → Named → Place → List Choice → Type 0

@@ -63,7 +63,7 @@ with_name p c i = record p { namings = p.namings ++ (record { category = c; inde
 abbrev pub with_way : Place → ℕ → ℕ → Bool → Place
 with_way p a b t = record p { ways = p.ways ++ (record { child = a; parent = b; there = t }) ∷ [] }
 
--- the category's names: its constants, and the fresh name
+-- the places of the category's names: the first, and the others
 abbrev pub indexes_of : Candidates → ℕ → List ℕ
 indexes_of k c = range_with_len 0 (length (k.texts c) + 1)
 

@@ -6,7 +6,7 @@
 --     NamesAreDecidedOnce        nor a name
 --     TheRootIsNotLoose          nor calls the bottom category of a tree loose
 --     LinesAreSpelledExactly     nor has two spaces between words
-use Rattle.std.specs.Prelude.{[], ◌∷◌, List, ℕ, codes}
+use Rattle.std.specs.Prelude.{[], ◌∷◌, List, ℕ, codes, false}
 use Rattle.olap_ast.specs.Formula.{Formula}
 use Rattle.olap_ast.specs.Frozen.{Candidates}
 use Rattle.olap_ast.specs.Schema.{Schema}
@@ -20,6 +20,7 @@ abbrev pub chain : Schema
 chain = record {
   graph = record {
     names = codes "Store" ∷ codes "City" ∷ [];
+    numbers = false ∷ false ∷ [];
     edges = (record { child = 1; parent = 2 }) ∷ (record { child = 2; parent = 0 }) ∷ [];
   };
   constraints = [];

@@ -1,7 +1,7 @@
 -- What the place of the program stands for.
 use Rattle.std.specs.Prelude.{map}
 use Rattle.olap_proof.specs.declared.places.Place.TheInside as place
-use Rattle.olap_proof.specs.KeptParts.{naming_kept, way_kept}
+use Rattle.olap_proof.specs.KeptParts.{naming_kept}
 use Rattle.olap_proof.specs.Places.{Place}
 
 -- all decisions
@@ -9,5 +9,5 @@ abbrev pub place_kept : place.Inside → Place
 place_kept a = record {
   decided = a.trail;
   namings = map naming_kept a.namings.items;
-  ways = map way_kept a.ways.items;
+  ways = a.ways;
 }

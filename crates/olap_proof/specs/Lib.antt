@@ -9,6 +9,8 @@ pub mod Existing
 pub mod Doing
 pub mod Reading
 pub mod KeptParts
+pub mod KeptWays
+pub mod KeptTables
 pub mod Kept
 pub mod Walking
 pub mod Seen

@@ -4,9 +4,11 @@
 --     Place        a root, and decisions
 --     is_known     the category is known to have a member
 --     reached      whether one category's member reaches another's
---     knowledge    what is known of edges, of reaching and of names
-use Rattle.std.specs.Prelude.{◌&&◌, ◌||◌, ◌==◌, ◌++◌, ℕ, zero, suc, List, [], ◌∷◌, Bool, true, false, Option, Some, None, codes, filter, length, map, if◌then◌else◌}
+--     is_numbered  the text spells a number that compares so
+--     knowledge    what is known of edges, of reaching, of names and of comparisons
+use Rattle.std.specs.Prelude.{◌&&◌, ◌||◌, ◌==◌, ◌++◌, ℕ, zero, suc, ℤ, int_lt, not, List, [], ◌∷◌, Bool, true, false, Option, Some, None, codes, filter, length, map, if◌then◌else◌}
 use Rattle.std.specs.List.{range_with_len}
+use Rattle.std.specs.Ordering.{int_eq}
 use Rattle.std.specs.Str.{bytes_eq}
 use Rattle.olap_base.specs.Graph.{Edge, Graph}
 use Rattle.olap_base.specs.Reaching.{category_reaches}
@@ -16,6 +18,8 @@ use Rattle.olap_ast.specs.declared.three_values.Truth3.TheVariants.{No, Yes, Unk
 use Rattle.olap_eval.specs.Partial.{Knowledge}
 use Rattle.olap_graph.specs.Lookups.{edge_at, edge_between}
 use Rattle.olap_names.specs.Names.{name_at}
+use Rattle.olap_numerals.specs.Comparing.{Op, Op.AtMost, Op.Equal, Op.Less}
+use Rattle.olap_numerals.specs.Numerals.{number_of}
 use Rattle.olap_trail.specs.Decisions.{Decided, present_edges, status_of}
 use Rattle.olap_proof.specs.declared.forms.Form.{Form}
 use Rattle.olap_proof.specs.declared.forms.Form.TheVariants.{Long, Short}
@@ -128,6 +132,28 @@ abbrev pub told_name : Place → ℕ → Option (List ℕ) → List ℕ → Trut
 told_name p c None text = Unknown
 told_name p c (Some name) text = if bytes_eq name text then (if is_known p c then Yes else Unknown) else No
 
+-- ---- comparisons
+
+-- whether the comparison holds of the two
+abbrev pub compares : Op → ℤ → ℤ → Bool
+compares Equal a b = int_eq a b
+compares Less a b = int_lt a b
+compares AtMost a b = not (int_lt b a)
+
+-- whether there is a number, and it compares so
+abbrev pub passes : Option ℤ → Op → ℤ → Bool
+passes None op n = false
+passes (Some a) op n = compares op a n
+
+-- whether the text spells a number that compares so
+abbrev pub is_numbered : List ℕ → Op → ℤ → Bool
+is_numbered text op n = passes (number_of text) op n
+
+-- whether the category has a member whose number compares so, where its name is decided
+abbrev pub told_number : Place → ℕ → Option (List ℕ) → Op → ℤ → Truth3
+told_number p c None op n = Unknown
+told_number p c (Some name) op n = if is_numbered name op n then (if is_known p c then Yes else Unknown) else No
+
 -- ---- what is known
 
 abbrev pub knowledge : Form → Candidates → Place → Knowledge
@@ -135,4 +161,5 @@ knowledge f k p = record {
   edge = λ a b. told_between p.decided (edge_between p.decided.graph a b);
   reaches = reached f p;
   name = λ c text. told_name p c (name_of k p.namings c) text;
+  number = λ c op n. told_number p c (name_of k p.namings c) op n;
 }

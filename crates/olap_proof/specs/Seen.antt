@@ -1,9 +1,9 @@
 -- Which edges and ways the program has seen, of those that it goes through in their order.
 --     AreOfGraph       ways between categories of a graph
---     SeenWays         of ways, those that are there
+--     LeadsHere        of ways, those that are there
 --     SeenDecisions    of decisions on edges, those that say present
 --     SeenPossible     of the edges of a graph, those that weren't decided absent
---     TouchedByWays, TouchedByDecisions    the ends of these
+--     TouchedByDecisions    the ends of those that say present
 use Rattle.std.specs.Prelude.{ℕ, Contains, List, false, slice_index_or}
 use Rattle.std.specs.FinSet as set
 use Rattle.std.specs.Ordering.{nat_cmp}
@@ -11,18 +11,13 @@ use Rattle.olap_base.specs.Graph.{Graph, IsCategory}
 use Rattle.olap_graph.specs.Lookups.{edge_at}
 use Rattle.olap_trail.specs.Decisions.{Decided, status_of}
 use Rattle.olap_trail.specs.declared.decisions.Decision.{Decision}
-use Rattle.olap_proof.specs.declared.places.Way.{Way}
+use Rattle.olap_proof.specs.KeptWays.{leading_way}
 use Rattle.olap_proof.specs.Places.{is_possible, Way as WayHere}
 use Rattle.olap_proof.specs.Walking.{SeenUpTo, TouchedUpTo}
 
--- the way at a place of the list
-abbrev pub way_at : List Way → ℕ → Way
-way_at ways k = slice_index_or ways k (record { child = record { 0 = 0 }; parent = record { 0 = 0 }; there = false })
-
--- one of the first i ways, that is there, leads from c to d
-abbrev pub SeenWays : List Way → ℕ → ℕ → ℕ → Type 0
-SeenWays ways i c d =
-    SeenUpTo (λ k. (way_at ways k).there) (λ k. (way_at ways k).child.0) (λ k. (way_at ways k).parent.0) i c d
+-- a way that is there leads from c to d
+abbrev pub LeadsHere : List WayHere → ℕ → ℕ → Type 0
+LeadsHere ways c d = Contains ways (leading_way c d)
 
 -- the decision at a place of the list
 abbrev pub decision_at : List Decision → ℕ → Decision
@@ -41,11 +36,6 @@ SeenPossible t i c d = SeenUpTo (λ k. is_possible (status_of t k)) (λ k. (edge
 -- the ways lead from one category to another
 abbrev pub AreOfGraph : Graph → List WayHere → Type 0
 AreOfGraph g ways = (w : WayHere) → Contains ways w → IsCategory g w.child × IsCategory g w.parent
-
--- the number was in the set, or is an end of one of the first i ways, that is there
-abbrev pub TouchedByWays : set.FinSet nat_cmp → List Way → ℕ → ℕ → Type 0
-TouchedByWays old ways i x = TouchedUpTo old (λ k. (way_at ways k).there) (λ k. (way_at ways k).child.0)
-    (λ k. (way_at ways k).parent.0) i x
 
 -- the number was in the set, or is an end of the edge of one of the first i decisions, that says present
 abbrev pub TouchedByDecisions : set.FinSet nat_cmp → Graph → List Decision → ℕ → ℕ → Type 0

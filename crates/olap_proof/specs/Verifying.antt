@@ -1,22 +1,16 @@
 -- What a text is for a schema, a target and sources, whichever candidates are taken: they have the same names.
---     numbers_of          the numbers of sources
 --     IsWrongAt           a line is the first that is wrong
 --     IsCertificateFor    a text is a certificate
 --     IsFirstWrongFor     a line of a text is the first that is wrong
 --     VerdictsAreOne      a certificate has no first wrong line, and another text has one at most
-use Rattle.std.specs.Prelude.{◌≡◌, ◌+◌, ◌<◌, ◌^◌, ℕ, List, length, map}
+use Rattle.std.specs.Prelude.{◌≡◌, ◌+◌, ◌<◌, ◌^◌, ℕ, List, length}
 use Rattle.olap_base.specs.Graph.{IsHierarchy}
-use Rattle.olap_base.specs.declared.ids.CatId.{CatId}
 use Rattle.olap_ast.specs.Formula.{Formula}
 use Rattle.olap_ast.specs.Frozen.{AreCandidates, Candidates}
 use Rattle.olap_ast.specs.Schema.{Schema}
 use Rattle.olap_ast.specs.Summarizable.{not_by_one}
 use Rattle.olap_proof.specs.declared.forms.Form.{Form}
 use Rattle.olap_proof.specs.Certificates.{IsCertificateText, IsFirstWrong}
-
--- the numbers of sources
-abbrev pub numbers_of : List CatId → List ℕ
-numbers_of sources = map (λ c. c.0) sources
 
 -- the line is the first that is wrong, counted from 1 on
 abbrev pub IsWrongAt : Form → Schema → Formula → Candidates → List ℕ → ℕ → Type 0

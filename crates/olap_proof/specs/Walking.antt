@@ -1,9 +1,11 @@
 -- Sets of categories that grow by edges.
 --     IsAdded      a category was added, where another was in the set and an edge leads there
+--     IsAddedFrom  all were added to which another one leads that was in the set
 --     SeenUpTo     an edge that was seen
+--     SeenFrom     one from a category that was seen
 --     Grows        the set took in what edges lead to, each edge that was seen once
 --     IsWalk       the set of what a category reaches
---     IsTouched    both ends of an edge were added
+--     IsTouched, IsTouchedFrom    the ends of an edge, or of those from a category, were added
 use Rattle.std.specs.Prelude.{◌≡◌, ◌<◌, ◌⊎◌, ◌↔◌, ℕ, Bool, true, false}
 use Rattle.std.specs.FinSet as set
 use Rattle.std.specs.Ordering.{nat_cmp}
@@ -20,6 +22,18 @@ pub record IsAdded (old : set.FinSet nat_cmp) (joins : Bool) (c d : ℕ) (grew :
   pub only : (x : ℕ) → IsIn new x → IsIn old x ⊎ ((x ≡ d) × IsIn old c × (joins ≡ true))
   pub same : now ≡ false → (grew ≡ false) × (new ≡ old) × (joins ≡ true → IsIn old c → IsIn old d)
   pub more : now ≡ true → (grew ≡ true) ⊎ (IsIn new d × (IsIn old d → ⊥))
+
+-- all of a list were added, where c was in the set and some of them weren't; and whether the set grew, now or before
+pub record IsAddedFrom (old : set.FinSet nat_cmp) (c : ℕ) (to : set.FinSet nat_cmp) (grew : Bool)
+    (new : set.FinSet nat_cmp) (now : Bool) : Type 0 where
+  pub kept : (x : ℕ) → IsIn old x → IsIn new x
+  pub only : (x : ℕ) → IsIn new x → IsIn old x ⊎ (IsIn old c × IsIn to x)
+  pub same : now ≡ false → (grew ≡ false) × (new ≡ old) × (IsIn old c → (x : ℕ) → IsIn to x → IsIn old x)
+  pub more : now ≡ true → (grew ≡ true) ⊎ ((x : ℕ) × IsIn to x × IsIn new x × (IsIn old x → ⊥))
+
+-- an edge leads from c, which is one of the first i categories, to d
+abbrev pub SeenFrom : (ℕ → ℕ → Type 0) → ℕ → ℕ → ℕ → Type 0
+SeenFrom Leads i c d = (c < i) × Leads c d
 
 -- one of the edges that were seen, of those that are taken, leads from c to d
 abbrev pub SeenUpTo : (ℕ → Bool) → (ℕ → ℕ) → (ℕ → ℕ) → ℕ → ℕ → ℕ → Type 0
@@ -46,3 +60,12 @@ IsTouched old joins c d new = (x : ℕ) → IsIn new x ↔ (IsIn old x ⊎ ((joi
 abbrev pub TouchedUpTo : set.FinSet nat_cmp → (ℕ → Bool) → (ℕ → ℕ) → (ℕ → ℕ) → ℕ → ℕ → Type 0
 TouchedUpTo old takes child parent i x =
     IsIn old x ⊎ ((k : ℕ) × (k < i) × (takes k ≡ true) × ((child k ≡ x) ⊎ (parent k ≡ x)))
+
+-- a category and those to which edges lead from it were added, if they lead to some
+abbrev pub IsTouchedFrom : set.FinSet nat_cmp → ℕ → set.FinSet nat_cmp → set.FinSet nat_cmp → Type 0
+IsTouchedFrom old c to new = (x : ℕ) → IsIn new x ↔ (IsIn old x ⊎ ((d : ℕ) × IsIn to d × ((c ≡ x) ⊎ (d ≡ x))))
+
+-- the number was in the set, or is an end of an edge from one of the first i categories
+abbrev pub TouchedFrom : set.FinSet nat_cmp → (ℕ → ℕ → Type 0) → ℕ → ℕ → Type 0
+TouchedFrom old Leads i x =
+    IsIn old x ⊎ ((c d : ℕ) × (c < i) × Leads c d × ((c ≡ x) ⊎ (d ≡ x)))

@@ -40,6 +40,8 @@ pub(crate) fn take(
     requires legal { IsLegal graph.now candidates.now place.old choice }
     ensures { OnOk result (place.new ≡ chosen place.old choice) }
 {
+    // Called for its clause: there are few categories.
+    let _few = graph.categories();
     match choice {
         Choice::Edge(edge, present) => {
             place.decide(edge, present);
@@ -73,7 +75,7 @@ fn next(candidates: &Candidates, choice: Choice) -> Option<Choice>
     match choice {
         Choice::Edge(edge, false) => Some(Choice::Edge(edge, true)),
         Choice::Name(c, index) => {
-            if usize::from(index) < candidates.constants(c).len() {
+            if usize::from(index) < candidates.others(c).len() {
                 return Some(Choice::Name(c, index + 1));
             }
             None

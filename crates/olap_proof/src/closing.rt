@@ -1,8 +1,11 @@
 // Which line closes a place.
-ghost use Rattle.std.specs.Prelude.{◌≡◌, ◌<◌, ℕ, [], IfSome, IsNone, length};
+ghost use Rattle.std.specs.Prelude.{◌≡◌, ◌<◌, ◌↔◌, ℕ, [], IfSome, IsNone, IsTrue, length};
 ghost use Rattle.olap_base.specs.Graph.{IsCategory};
 ghost use Rattle.olap_proof.specs.ClosedHere.{ClosesHere, IsClosingHere, IsOpenHere};
 ghost use Rattle.olap_proof.specs.DoneHere.{schema_at};
+ghost use Rattle.olap_bits.specs.Sets.{members};
+ghost use Rattle.olap_proof.specs.Places.{possible_graph};
+ghost use Rattle.olap_proof.specs.Walking.{IsWalk};
 ghost use Rattle.olap_proof.specs.Lines.{IsAbout, Line as AnyLine, Line.Asked, Line.Cycle, Line.Dead, Line.Loose, Line.Shortcut, Line.Unmet, Line.Unreached};
 
 use crate::leaves::closes;
@@ -10,6 +13,7 @@ use crate::lines::Line;
 use crate::telling::Known;
 use olap_ast::{Constraint, Formula};
 use olap_base::{CatId, EdgeId};
+use olap_graph::Categories;
 
 /// A line of one word that closes the place.
 fn alone(known: &Known<'_>, constraints: &[Constraint], question: &Formula) -> Option<Line>
@@ -44,16 +48,36 @@ fn dead(known: &Known<'_>, constraints: &[Constraint], question: &Formula) -> Op
     None
 }
 
+/// Whether the root can't reach the edge's child, where this is what it can reach, and that closes the place.
+fn is_loose(
+    known: &Known<'_>,
+    constraints: &[Constraint],
+    question: &Formula,
+    reached: &Categories,
+    e: EdgeId,
+) -> bool
+    requires edge { e.0 < length known.now.graph.now.edges }
+    requires reached { IsWalk (possible_graph known.now.place.now.decided) known.now.place.now.decided.root
+        (members reached.now) }
+    ensures { IsTrue result ↔ ClosesHere known.now constraints.now question.now (Loose e.0) }
+{
+    let (child, _) = known.graph.ends(e);
+    if reached.has(child.0) {
+        return false;
+    }
+    closes(known, constraints, question, Line::LooseEdge(e))
+}
+
 /// A line of the long form that closes the place since the root can't reach an edge's child.
 fn loose(known: &Known<'_>, constraints: &[Constraint], question: &Formula) -> Option<Line>
     ensures some { IfSome result (IsClosingHere known.now constraints.now question.now) }
     ensures none { IsNone result → (e : ℕ) → e < length known.now.graph.now.edges
         → IsOpenHere known.now constraints.now question.now (Loose e) }
 {
+    let reached = known.from_root();
     'edges: for e in 0..known.graph.edges() {
-        let line = Line::LooseEdge(EdgeId(e));
-        if closes(known, constraints, question, line) {
-            return Some(line);
+        if is_loose(known, constraints, question, &reached, EdgeId(e)) {
+            return Some(Line::LooseEdge(EdgeId(e)));
         }
     }
     None

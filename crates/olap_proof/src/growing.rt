@@ -10,13 +10,14 @@ use crate::asking::Asked;
 use crate::cases::Case;
 use crate::lines::Line;
 use crate::splitting::{next_edge, next_name};
-use crate::writing::push_line;
+use crate::writing::push_bounded;
 use olap_base::Memory;
 
 /// Appends the lines of a tree over the place, where there is no frozen dimension with its root.
 ///
 /// The place is closed if some line closes it. Else it is split by an edge that isn't decided, and where each edge is
-/// by a name. It calls itself as deep as there are edges and names. `Memory`: out of memory.
+/// by a name. It calls itself as deep as there are edges and names. `Memory`: out of memory, or the text would be longer
+/// than a file may be.
 pub(crate) fn grow(
     case: &mut Case,
     asked: &Asked<'_>,
@@ -32,11 +33,11 @@ pub(crate) fn grow(
     ensures same { OnOk result (case.new ≡ case.old) }
 {
     if let Some(line) = case.closing(asked, form) {
-        push_line(out, asked.graph, asked.constraints, line)?;
+        push_bounded(out, asked.graph, asked.constraints, line)?;
         return Ok(());
     }
     if let Some(edge) = next_edge(case, asked, form) {
-        push_line(out, asked.graph, asked.constraints, Line::Edge(edge))?;
+        push_bounded(out, asked.graph, asked.constraints, Line::Edge(edge))?;
         case.decide(edge, false);
         grow(case, asked, form, out)?;
         case.undecide();
@@ -46,8 +47,8 @@ pub(crate) fn grow(
         return Ok(());
     }
     if let Some(c) = next_name(case, asked) {
-        push_line(out, asked.graph, asked.constraints, Line::Name(c))?;
-        let last = asked.candidates.constants(c).len() as u16;
+        push_bounded(out, asked.graph, asked.constraints, Line::Name(c))?;
+        let last = asked.candidates.others(c).len() as u16;
         'names: for index in 0..last + 1 {
             case.name(c, index)?;
             grow(case, asked, form, out)?;

@@ -4,10 +4,10 @@ ghost use Rattle.olap_base.specs.Graph.{IsCategory};
 ghost use Rattle.olap_base.specs.Limits.{most_categories};
 ghost use Rattle.olap_bits.specs.Sets.{members};
 ghost use Rattle.olap_proof.specs.Places.{is_known};
-ghost use Rattle.olap_proof.specs.Seen.{AreOfGraph, TouchedByDecisions, TouchedByWays, decision_at, way_at};
-ghost use Rattle.olap_proof.specs.Walking.{IsIn, IsTouched};
+ghost use Rattle.olap_proof.specs.Seen.{AreOfGraph, LeadsHere, TouchedByDecisions, decision_at};
+ghost use Rattle.olap_proof.specs.Walking.{IsIn, IsTouched, IsTouchedFrom, TouchedFrom};
 
-use crate::places::{Place, Way};
+use crate::places::Place;
 use olap_base::CatId;
 use olap_graph::{Categories, Graph};
 use olap_trail::Decision;
@@ -23,16 +23,23 @@ fn touch(set: &mut Categories, joins: bool, child: CatId, parent: CatId)
     }
 }
 
-/// Adds the ends of ways that are there.
-fn touch_ways(ways: &[Way], count: u16, set: &mut Categories)
-    requires few { count ≤ most_categories }
-    requires ways { (k : ℕ) → k < length ways.now
-        → ((way_at ways.now k).child.0 < count) × ((way_at ways.now k).parent.0 < count) }
-    ensures { (x : ℕ) → IsIn (members set.new) x ↔ TouchedByWays (members set.old) ways.now (length ways.now) x }
+/// Adds a category and those to which ways lead from it, if there are some.
+fn touch_from(set: &mut Categories, child: CatId, parents: &Categories)
+    requires { child.0 < most_categories }
+    ensures { IsTouchedFrom (members set.old) child.0 (members parents.now) (members set.new) }
 {
-    'ways: for i in 0..ways.len() {
-        let way = ways[i];
-        touch(set, way.there, way.child, way.parent);
+    if let Some(_) = parents.first() {
+        *set = set.with(child.0).union(*parents);
+    }
+}
+
+/// Adds the ends of ways that are there, between so many categories.
+fn touch_ways(place: &Place, count: u16, set: &mut Categories)
+    requires few { count ≤ most_categories }
+    ensures { (x : ℕ) → IsIn (members set.new) x ↔ TouchedFrom (members set.old) (LeadsHere place.now.ways) count x }
+{
+    'categories: for c in 0..count {
+        touch_from(set, CatId(c), &place.ways_from(CatId(c)));
     }
 }
 
@@ -61,9 +68,8 @@ pub(crate) fn known_at(graph: &Graph, place: &Place, root: CatId) -> Categories
 {
     let count = graph.categories();
     let decisions = place.decisions();
-    let ways = place.ways();
     let mut known = Categories::empty().with(root.0);
     touch_decisions(graph, decisions, &mut known);
-    touch_ways(ways, count, &mut known);
+    touch_ways(place, count, &mut known);
     known
 }

@@ -23,12 +23,12 @@ mod leaves;
 mod lines;
 mod places;
 mod plain;
-mod questions;
 mod splitting;
 mod stages;
 mod telling;
 mod verifying;
 mod walking;
+mod ways;
 mod writing;
 
 pub use existence::{certificates_exist_exactly_where_summarizable, full_places_close};

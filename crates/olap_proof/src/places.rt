@@ -1,15 +1,20 @@
 // The place in a tree at which the reading stands.
-ghost use Rattle.std.specs.Prelude.{◌≡◌, ◌-◌, ◌<◌, ◌↔◌, IfOk, IsTrue, None, OnErr, OnOk, length, map, take};
+ghost use Rattle.std.specs.Prelude.{◌≡◌, ◌-◌, ◌<◌, ◌↔◌, ℕ, Contains, IfOk, IsTrue, None, OnErr, OnOk, length, map, take};
 ghost use Rattle.std.specs.Option.{option_map};
 ghost use Rattle.olap_base.specs.Graph.{IsCategory};
+ghost use Rattle.olap_base.specs.Limits.{most_categories};
+ghost use Rattle.olap_bits.specs.Sets.{members};
 ghost use Rattle.olap_proof.specs.Certificates.{start, with_edge, with_name, with_way};
-ghost use Rattle.olap_proof.specs.KeptParts.{naming_kept, way_kept};
+ghost use Rattle.olap_proof.specs.KeptParts.{naming_kept};
+ghost use Rattle.olap_proof.specs.KeptWays.{leading_way};
 ghost use Rattle.olap_proof.specs.Places.{index_of, way_of};
+ghost use Rattle.olap_proof.specs.Walking.{IsIn};
 ghost use Rattle.olap_trail.specs.Decisions.{AreDecisions, HoldsCycle, HoldsShortcut, present_with, status_of};
 ghost use Rattle.olap_trail.specs.Trails.{decisions_of};
 
+use crate::ways::{Way, Ways};
 use olap_base::{CatId, EdgeId, Memory};
-use olap_graph::{Graph, WORDS};
+use olap_graph::{Categories, Graph, WORDS};
 use olap_trail::{Decision, Mark, Trail};
 use std::alloc::Global;
 use std::marker::Model;
@@ -21,20 +26,12 @@ pub(crate) struct Naming {
     pub(crate) index: u16,
 }
 
-/// Whether the child category has a member that reaches one of the parent category.
-#[derive(Clone, Copy, PartialEq, Eq, Debug)]
-pub(crate) struct Way {
-    pub(crate) child: CatId,
-    pub(crate) parent: CatId,
-    pub(crate) there: bool,
-}
-
 /// A root, with what was decided of edges, of names and of ways, each in the order in which it was decided.
 #[derive(Drop)]
 pub(crate) struct Place {
     trail: Trail<{ WORDS }>,
     namings: Vec<Naming>,
-    ways: Vec<Way>,
+    ways: Ways,
 }
 
 impl Model for Place {
@@ -61,20 +58,6 @@ fn index_in(namings: &[Naming], c: CatId) -> Option<u16>
     None
 }
 
-/// What was decided of the way, first of these.
-fn way_in(ways: &[Way], child: CatId, parent: CatId) -> Option<bool>
-    ensures { result ≡ way_of (map way_kept ways.now) child.0 parent.0 }
-{
-    let mut left = ways;
-    'ways: while let Some((way, others)) = left.split_first() {
-        if way.child.0 == child.0 && way.parent.0 == parent.0 {
-            return Some(way.there);
-        }
-        left = others;
-    }
-    None
-}
-
 impl Place {
     /// Nothing is decided. It takes the memory for a decision on each edge.
     pub(crate) fn new(alloc: Global, graph: &Graph, root: CatId) -> Result<Place, Memory>
@@ -86,7 +69,7 @@ impl Place {
         Ok(Place {
             trail: Trail::new(alloc, graph, root)?,
             namings: Vec::new(alloc),
-            ways: Vec::new(alloc),
+            ways: Ways::new(alloc)?,
         })
     }
 
@@ -106,11 +89,11 @@ impl Place {
         self.trail.decisions()
     }
 
-    /// The decisions on ways.
-    pub(crate) fn ways(&self) -> &[Way]
-        ensures { map way_kept result.now ≡ self.now.ways }
+    /// The categories to which a way was decided to be there. One look at a table.
+    pub(crate) fn ways_from(&self, child: CatId) -> Categories
+        ensures { (d : ℕ) → IsIn (members result) d ↔ Contains self.now.ways (leading_way child.0 d) }
     {
-        &self.ways
+        self.ways.from(child)
     }
 
     /// The index that was decided for the category's name. Cost: how many names are decided.
@@ -120,11 +103,11 @@ impl Place {
         index_in(&self.namings, c)
     }
 
-    /// What was decided of the way. Cost: how many ways are decided.
+    /// What was decided of the way. Two looks at tables.
     pub(crate) fn way(&self, child: CatId, parent: CatId) -> Option<bool>
         ensures { result ≡ way_of self.now.ways child.0 parent.0 }
     {
-        way_in(&self.ways, child, parent)
+        self.ways.status(child, parent)
     }
 
     /// Whether the present edges together with this one hold a cycle. Two looks at tables.
@@ -161,8 +144,11 @@ impl Place {
         Ok(())
     }
 
-    /// Decides a way. `Memory`: out of memory, and nothing is decided.
+    /// Decides a way that is undecided. `Memory`: out of memory, and nothing is decided.
     pub(crate) fn lead(&mut self, child: CatId, parent: CatId, there: bool) -> Result<(), Memory>
+        requires child { child.0 < most_categories }
+        requires parent { parent.0 < most_categories }
+        requires open { way_of self.old.ways child.0 parent.0 ≡ None }
         ensures ok { OnOk result (self.new ≡ with_way self.old child.0 parent.0 there) }
         ensures same { OnErr result (self.new ≡ self.old) }
     {
@@ -170,8 +156,7 @@ impl Place {
             child,
             parent,
             there,
-        })?;
-        Ok(())
+        })
     }
 
     /// Takes the last decision on an edge back, if there is one.
@@ -199,6 +184,6 @@ impl Place {
     pub(crate) fn unlead(&mut self)
         ensures { self.new ≡ record self.old { ways = take (length self.old.ways - 1) self.old.ways } }
     {
-        let _last = self.ways.pop();
+        self.ways.pop();
     }
 }

@@ -5,15 +5,16 @@ ghost use Rattle.olap_ast.specs.Frozen.{Frozen, IsFrozen};
 ghost use Rattle.olap_base.specs.Graph.{IsBottom, IsCategory};
 ghost use Rattle.olap_proof.specs.Asking.{IsAsked, names_in, question_in, schema_in};
 ghost use Rattle.olap_proof.specs.Certificates.{IsCertificateText};
-ghost use Rattle.olap_proof.specs.Verifying.{IsCertificateFor, numbers_of};
+ghost use Rattle.olap_proof.specs.Verifying.{IsCertificateFor};
+ghost use Rattle.olap_ast.specs.Trees.{numbers_of};
 ghost use Rattle.olap_schema.specs.Schemas.{schema_of};
 
 use crate::Form;
 use crate::asking::Asked;
 use crate::cases::Case;
 use crate::growing::grow;
-use crate::questions::not_by_one;
 use crate::writing::{push_bottom, push_head};
+use olap_ast::not_by_one;
 use olap_base::{CatId, Memory, Text};
 use olap_names::Candidates;
 use olap_schema::Schema;
@@ -21,7 +22,8 @@ use std::alloc::Global;
 
 /// A certificate, where no bottom category has a frozen dimension for the question.
 ///
-/// It may take as long as there are choices of edges and names, and be as long. `Memory`: out of memory.
+/// It may take as long as there are choices of edges and names, and be as long. `Memory`: out of memory, or it would be
+/// longer than a file may be.
 pub(crate) fn plain(alloc: Global, asked: &Asked<'_>, form: Form) -> Result<Vec<u8>, Memory>
     requires asked { IsAsked asked.now }
     requires none { (b : ℕ) → IsBottom asked.now.graph.now b → (f : Frozen)
@@ -44,7 +46,8 @@ pub(crate) fn plain(alloc: Global, asked: &Asked<'_>, form: Form) -> Result<Vec<
 
 /// A certificate of that form, where the target is summarizable from the sources: it is written with nothing learnt.
 ///
-/// It may take as long as there are choices of edges and names, and be as long. `Memory`: out of memory.
+/// It may take as long as there are choices of edges and names, and be as long. `Memory`: out of memory, or it would be
+/// longer than a file may be, so that nobody could hand it to `verify`.
 pub fn plain_certificate(
     alloc: Global,
     schema: &Schema,
@@ -60,7 +63,9 @@ pub fn plain_certificate(
     let graph = schema.graph();
     let constraints = schema.constraints();
     let question = not_by_one(alloc, target, sources)?;
-    let candidates = Candidates::of(alloc, graph.categories(), constraints, &question)?;
+    // Called for its clauses: the graph is a hierarchy.
+    let _count = graph.categories();
+    let candidates = Candidates::of(alloc, graph, constraints, &question)?;
     let asked = Asked {
         graph,
         constraints,

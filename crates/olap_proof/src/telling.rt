@@ -1,19 +1,22 @@
-// What is known at a place: of edges, of reaching and of names.
+// What is known at a place: of edges, of reaching, of names and of comparisons.
 ghost use Rattle.std.specs.Prelude.{◌≡◌, IsTrue};
+ghost use Rattle.olap_ast.specs.Trees.{op_of};
 ghost use Rattle.olap_base.specs.Graph.{IsCategory};
 ghost use Rattle.olap_base.specs.Reaching.{category_reaches};
 ghost use Rattle.olap_bits.specs.Sets.{members};
-ghost use Rattle.olap_proof.specs.Places.{is_known, is_top, leading_graph, leads, possible_graph, reached, told};
+ghost use Rattle.olap_proof.specs.Places.{is_known, is_numbered, is_top, leading_graph, leads, possible_graph, reached, told};
+ghost use Rattle.olap_proof.specs.Walking.{IsWalk};
 ghost use Rattle.olap_proof.specs.Within.{AreKnown, IsWithin, when_there};
 
 use crate::Form;
 use crate::places::Place;
 use crate::walking::{known_from, possible_from};
-use olap_ast::Truth3;
+use olap_ast::{Op, Truth3};
 use olap_base::{CatId, Text};
 use olap_eval::Partial;
 use olap_graph::{Categories, Graph};
 use olap_names::Candidates;
+use olap_numerals::number;
 
 /// A place, with the categories that are known to have a member.
 #[derive(Clone, Copy)]
@@ -50,6 +53,16 @@ fn is_top(form: Form, c: CatId) -> bool
     }
 }
 
+/// Whether the bytes spell a number that compares so.
+fn is_numbered(text: &[u8], op: Op, n: i64) -> bool
+    ensures { result ≡ is_numbered text.now (op_of op) n }
+{
+    match number(text) {
+        Some(a) => op.test(a, n),
+        None => false,
+    }
+}
+
 impl<'a> Known<'a> {
     /// Whether the category is known to have a member.
     pub(crate) fn has(&self, c: CatId) -> bool
@@ -82,6 +95,15 @@ impl<'a> Known<'a> {
         ensures { result ≡ category_reaches (possible_graph self.now.place.now.decided) c.0 d.0 }
     {
         possible_from(self.graph, self.place, c).has(d.0)
+    }
+
+    /// What the root reaches by edges that weren't decided absent.
+    pub(crate) fn from_root(&self) -> Categories
+        ensures { IsWalk (possible_graph self.now.place.now.decided) self.now.place.now.decided.root (members result) }
+    {
+        // Called for its clause: the graph is a hierarchy.
+        let _graph = self.graph.categories();
+        possible_from(self.graph, self.place, self.root)
     }
 
     /// The same of any numbers.
@@ -154,6 +176,19 @@ impl<'a> Partial for Known<'a> {
             Some(index) => {
                 let name = self.candidates.name(c, index);
                 self.when_there(c, name.bytes() == k.bytes())
+            }
+            None => Truth3::Unknown,
+        }
+    }
+
+    fn number(&self, c: CatId, op: Op, n: i64) -> Truth3 {
+        if c.0 == 0 {
+            return self.when_there(c, is_numbered(b"all".as_slice(), op, n));
+        }
+        match self.place.index(c) {
+            Some(index) => {
+                let name = self.candidates.name(c, index);
+                self.when_there(c, is_numbered(name.bytes(), op, n))
             }
             None => Truth3::Unknown,
         }

@@ -2,14 +2,15 @@
 ghost use Rattle.std.specs.Prelude.{◌≡◌, ◌≢◌, ◌↔◌, ℕ, All, AllPairs, Err, OnOk};
 ghost use Rattle.olap_ast.specs.Summarizable.{IsSummarizable};
 ghost use Rattle.olap_base.specs.Graph.{IsCategory};
-ghost use Rattle.olap_proof.specs.Verifying.{IsCertificateFor, IsFirstWrongFor, numbers_of};
+ghost use Rattle.olap_proof.specs.Verifying.{IsCertificateFor, IsFirstWrongFor};
+ghost use Rattle.olap_ast.specs.Trees.{numbers_of};
 ghost use Rattle.olap_proof.specs.declared.verifying.VerifyRefusal.TheVariants as refusal;
 ghost use Rattle.olap_schema.specs.Schemas.{schema_of};
 
 use crate::Form;
 use crate::asking::Asked;
 use crate::judging::first_wrong;
-use crate::questions::{are_distinct, not_by_one};
+use olap_ast::{are_distinct, not_by_one};
 use olap_base::{CatId, Memory};
 use olap_names::Candidates;
 use olap_schema::Schema;
@@ -74,7 +75,9 @@ pub fn verify(
     let graph = schema.graph();
     let constraints = schema.constraints();
     let question = not_by_one(alloc, target, sources)?;
-    let candidates = Candidates::of(alloc, graph.categories(), constraints, &question)?;
+    // Called for its clauses: the graph is a hierarchy.
+    let _count = graph.categories();
+    let candidates = Candidates::of(alloc, graph, constraints, &question)?;
     let asked = Asked {
         graph,
         constraints,

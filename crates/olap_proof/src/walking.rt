@@ -1,15 +1,15 @@
 // What is reached by edges that weren't decided absent, and by what is known to be there.
-ghost use Rattle.std.specs.Prelude.{◌≡◌, ◌≤◌, ◌<◌, ◌&&◌, ℕ, length, not, slice_index_or, true};
+ghost use Rattle.std.specs.Prelude.{◌≡◌, ◌<◌, ◌&&◌, ℕ, Contains, IfSome, IsNone, length, not, true};
 ghost use Rattle.std.specs.FinSet as sets;
 ghost use Rattle.olap_base.specs.Graph.{Graph as AnyGraph, HasEdge, category_count};
 ghost use Rattle.olap_base.specs.Limits.{most_categories};
 ghost use Rattle.olap_bits.specs.Sets.{members};
 ghost use Rattle.olap_graph.specs.Lookups.{edge_at};
-ghost use Rattle.olap_proof.specs.Places.{is_possible, leading_graph, possible_graph};
-ghost use Rattle.olap_proof.specs.Seen.{AreOfGraph, SeenDecisions, SeenPossible, SeenWays, decision_at, way_at};
-ghost use Rattle.olap_proof.specs.Walking.{Grows, IsAdded, IsWalk};
+ghost use Rattle.olap_proof.specs.Places.{Way as OneWay, is_possible, leading_graph, possible_graph};
+ghost use Rattle.olap_proof.specs.Seen.{AreOfGraph, LeadsHere, SeenDecisions, SeenPossible, decision_at};
+ghost use Rattle.olap_proof.specs.Walking.{Grows, IsAdded, IsAddedFrom, IsIn, IsWalk, SeenFrom};
 
-use crate::places::{Place, Way};
+use crate::places::Place;
 use olap_base::{CatId, EdgeId};
 use olap_graph::{Categories, Graph};
 use olap_trail::Decision;
@@ -33,18 +33,39 @@ fn add(set: &mut Categories, joins: bool, child: CatId, parent: CatId, grew: boo
     grew
 }
 
-/// Adds what ways that are there lead to. Whether the set grew.
-fn grow_by_ways(ways: &[Way], count: u16, set: &mut Categories) -> bool
-    requires few { count ≤ most_categories }
-    requires ways { (k : ℕ) → k < length ways.now → (way_at ways.now k).parent.0 < count }
-    ensures { (g : AnyGraph) → ((k : ℕ) → k < length ways.now → (way_at ways.now k).there ≡ true
-        → HasEdge g (way_at ways.now k).child.0 (way_at ways.now k).parent.0)
-        → Grows g count (SeenWays ways.now (length ways.now)) (members set.old) (members set.new) result }
+/// A category of the one set that isn't in the other.
+fn lacking(set: &Categories, from: &Categories) -> Option<u16>
+    ensures some { IfSome result (λ x. IsIn (members from.now) x × (IsIn (members set.now) x → ⊥)) }
+    ensures none { IsNone result → (x : ℕ) → IsIn (members from.now) x → IsIn (members set.now) x }
+{
+    from.minus(*set).first()
+}
+
+/// Adds the categories to which another one leads, where it is in the set. Whether the set grew, now or before.
+fn add_from(set: &mut Categories, child: CatId, parents: &Categories, grew: bool) -> bool
+    ensures { IsAddedFrom (members set.old) child.0 (members parents.now) grew (members set.new) result }
+{
+    if !set.has(child.0) {
+        return grew;
+    }
+    match lacking(set, parents) {
+        Some(_) => {
+            *set = set.union(*parents);
+            true
+        }
+        None => grew,
+    }
+}
+
+/// Adds what ways that are there, between so many categories, lead to. Whether the set grew.
+fn grow_by_ways(place: &Place, count: u16, set: &mut Categories) -> bool
+    requires { (w : OneWay) → Contains place.now.ways w → w.parent < count }
+    ensures { (g : AnyGraph) → ((c d : ℕ) → LeadsHere place.now.ways c d → HasEdge g c d)
+        → Grows g count (SeenFrom (LeadsHere place.now.ways) count) (members set.old) (members set.new) result }
 {
     let mut grew = false;
-    'ways: for i in 0..ways.len() {
-        let way = ways[i];
-        grew = add(set, way.there, way.child, way.parent, grew);
+    'categories: for c in 0..count {
+        grew = add_from(set, CatId(c), &place.ways_from(CatId(c)), grew);
     }
     grew
 }
@@ -121,9 +142,8 @@ fn grow_by_known(graph: &Graph, place: &Place, set: &mut Categories) -> bool
 {
     let count = graph.categories();
     let decisions = place.decisions();
-    let ways = place.ways();
     let by_decisions = grow_by_decisions(graph, decisions, set);
-    let by_ways = grow_by_ways(ways, count, set);
+    let by_ways = grow_by_ways(place, count, set);
     by_decisions | by_ways
 }
 

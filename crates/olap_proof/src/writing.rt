@@ -12,7 +12,7 @@ use crate::Form;
 use crate::lines::Line;
 use itoa::Buffer;
 use olap_ast::Constraint;
-use olap_base::{CatId, EdgeId};
+use olap_base::{CatId, EdgeId, MOST_FILE_BYTES, Memory};
 use olap_graph::Graph;
 use std::alloc::AllocError;
 
@@ -134,6 +134,23 @@ pub(crate) fn push_line(
 {
     push_words(out, graph, constraints, line)?;
     out.extend_from_slice(b"\n")
+}
+
+/// Appends the line, if the text is no longer than a file may be then. `Memory`: it would be, or there is no memory.
+pub(crate) fn push_bounded(
+    out: &mut Vec<u8>,
+    graph: &Graph,
+    constraints: &[Constraint],
+    line: Line,
+) -> Result<(), Memory>
+    requires { IsAbout (with_graph graph.now (map constraint_of constraints.now)) (said line) }
+    ensures { OnOk result (out.new.items ≡ out.old.items ++ (line_text graph.now (said line) ++ 10 ∷ [])) }
+{
+    push_line(out, graph, constraints, line)?;
+    if out.len() as u64 > MOST_FILE_BYTES {
+        return Err(Memory);
+    }
+    Ok(())
 }
 
 /// Appends a certificate's first line, ended by an LF.

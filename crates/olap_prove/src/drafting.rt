@@ -2,37 +2,19 @@
 use crate::searches::{Node, Search};
 use crate::steps::Words;
 use crate::tasks::Task;
-use olap_ast::{Constraint, gather};
-use olap_base::{CatId, List, Memory, Text};
+use olap_ast::{Constraint, Formula};
+use olap_base::{CatId, Memory};
 use olap_graph::Graph;
+use olap_names::Candidates;
 use olap_proof::{Form, push_bottom, push_head, push_known_line};
 use olap_schema::Schema;
 use std::alloc::Global;
 
 /// How often a decision may be tried below a root.
-const TRIES: u32 = 1 << 17;
+const TRIES: u32 = 1 << 20;
 
 /// How many lines a draft may have.
 const MOST_LINES: u32 = 1 << 22;
-
-/// The distinct constants of each category, in byte order.
-fn constants(
-    alloc: Global,
-    graph: &Graph,
-    constraints: &[Constraint],
-) -> Result<Vec<List<Text>>, Memory> {
-    let mut all = Vec::new(alloc);
-    'categories: for c in 0..graph.categories() {
-        let mut texts = Vec::new(alloc);
-        'constraints: for constraint in constraints {
-            gather(alloc, &constraint.formula, CatId(c), &mut texts)?;
-        }
-        texts.sort_unstable();
-        texts.dedup();
-        all.push(List::from_vec(texts))?;
-    }
-    Ok(all)
-}
 
 /// Appends the lines of a tree. Whether all of it was written.
 fn push_tree(
@@ -75,10 +57,12 @@ pub(crate) fn draft(
 ) -> Result<Option<Vec<u8>>, Memory> {
     let graph = schema.graph();
     let constraints = schema.constraints();
-    let constants = constants(alloc, graph, constraints)?;
+    // The question of summarizability has no constants.
+    let question = Formula::True;
+    let candidates = Candidates::of(alloc, graph, constraints, &question)?;
     let words = Words {
         graph,
-        constants: &constants,
+        candidates: &candidates,
     };
     let mut out = Vec::new(alloc);
     push_head(&mut out, form)?;

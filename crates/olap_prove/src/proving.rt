@@ -5,7 +5,7 @@ ghost use Rattle.olap_ast.specs.Summarizable.{IsSummarizable};
 ghost use Rattle.olap_proof.specs.Verifying.{IsCertificateFor};
 ghost use Rattle.olap_prove.specs.Proofs.{IsYes, Shows};
 ghost use Rattle.olap_schema.specs.Schemas.{schema_of};
-ghost use Rattle.olap_summ.specs.Counterexamples.{numbers_of};
+ghost use Rattle.olap_ast.specs.Trees.{numbers_of};
 ghost use Rattle.olap_summ.specs.declared.summarizing.SummRefusal.TheVariants as refusal;
 
 use crate::drafting::draft;

@@ -452,7 +452,7 @@ fn failed_way(task: &Task<'_>, failed: &[Decision]) -> bool {
 /// Marks the categories whose names the steps ask.
 fn want(steps: &[Step], wanted: &mut [bool]) {
     'steps: for i in 0..steps.len() {
-        if let Step::Name(c, _) = steps[i] {
+        if let Step::Name(c, _) | Step::Below(c, _) = steps[i] {
             let place = usize::from(c.0);
             if place < wanted.len() {
                 wanted[place] = true;

@@ -202,12 +202,12 @@ impl Shape {
         }
     }
 
-    /// Whether the category's name is the one at the index.
-    fn named(&self, c: CatId, index: usize) -> Truth3 {
+    /// Whether the category's name is one from this index on, before that one.
+    fn named(&self, c: CatId, from: usize, to: usize) -> Truth3 {
         match self.name(c) {
             None => Truth3::Unknown,
             Some(decided) => {
-                if decided != index {
+                if decided < from || decided >= to {
                     Truth3::No
                 } else if self.has(c) {
                     Truth3::Yes
@@ -226,7 +226,8 @@ impl Shape {
                 Step::Known(value) => value,
                 Step::Edge(e) => told(self.edge(e)),
                 Step::Reach(c, d) => self.reached(form, c, d),
-                Step::Name(c, index) => self.named(c, index),
+                Step::Name(c, index) => self.named(c, index, index.wrapping_add(1)),
+                Step::Below(c, count) => self.named(c, 0, count),
                 step => self.stack.connect(step),
             };
             self.stack.push(value)?;

@@ -1,7 +1,9 @@
 // Formulas as steps over a stack of values.
-use olap_ast::{Formula, OneCount, Terms, Truth3};
-use olap_base::{CatId, EdgeId, List, Memory, Text};
+use olap_ast::{Formula, OneCount, Op, Terms, Truth3};
+use olap_base::{CatId, EdgeId, Memory, Text};
 use olap_graph::Graph;
+use olap_names::Candidates;
+use olap_numerals::number;
 
 /// An atom's value is put on the stack, or a connective takes values off it and puts one there.
 #[derive(Clone, Copy, PartialEq, Eq, Debug)]
@@ -11,6 +13,8 @@ pub(crate) enum Step {
     Reach(CatId, CatId),
     /// The category's name is the one at this index.
     Name(CatId, usize),
+    /// The category's name stands before this index: so the lesser numbers do.
+    Below(CatId, usize),
     Not,
     And,
     Or,
@@ -87,22 +91,34 @@ fn both(step: Step, left: Truth3, right: Truth3) -> Truth3 {
     }
 }
 
-/// What formulas are made steps of: the graph, and for each category its constants in byte order.
+/// What formulas are made steps of: the graph, and the names of each category.
 #[derive(Clone, Copy)]
 pub(crate) struct Words<'a> {
     pub(crate) graph: &'a Graph,
-    pub(crate) constants: &'a [List<Text>],
+    pub(crate) candidates: &'a Candidates,
+}
+
+/// Whether the name is a numeral whose number compares so.
+fn is_so(name: &Text, op: Op, n: i64) -> bool {
+    match number(name.bytes()) {
+        Some(a) => op.test(a, n),
+        None => false,
+    }
 }
 
 impl<'a> Words<'a> {
-    /// The constants of a category.
-    pub(crate) fn constants(&self, c: CatId) -> &'a [Text] {
-        let place = usize::from(c.0);
-        if place < self.constants.len() {
-            self.constants[place].items()
+    /// The names of a category beside the first, in their order.
+    pub(crate) fn others(&self, c: CatId) -> &'a [Text] {
+        if c.0 < self.candidates.categories() {
+            self.candidates.others(c)
         } else {
             &[]
         }
+    }
+
+    /// Whether the number of the category's first name compares so.
+    fn first_is_so(&self, c: CatId, op: Op, n: i64) -> bool {
+        c.0 < self.candidates.categories() && is_so(self.candidates.first(c), op, n)
     }
 
     /// The test of a category's name.
@@ -110,13 +126,34 @@ impl<'a> Words<'a> {
         if c.0 == 0 && text.bytes() == b"all".as_slice() {
             return Step::Name(c, 0);
         }
-        let constants = self.constants(c);
-        'constants: for i in 0..constants.len() {
-            if constants[i].bytes() == text.bytes() {
+        let others = self.others(c);
+        'others: for i in 0..others.len() {
+            if others[i].bytes() == text.bytes() {
                 return Step::Name(c, i + 1);
             }
         }
         Step::Known(Truth3::No)
+    }
+
+    /// The test of a category's number. Its names ascend.
+    fn number(&self, c: CatId, op: Op, n: i64) -> Step {
+        let others = self.others(c);
+        let mut count = 0usize;
+        if self.first_is_so(c, op, n) {
+            if op == Op::Equal {
+                return Step::Name(c, 0);
+            }
+            count = 1;
+        }
+        'others: for i in 0..others.len() {
+            if is_so(&others[i], op, n) {
+                if op == Op::Equal {
+                    return Step::Name(c, i + 1);
+                }
+                count = i + 2;
+            }
+        }
+        Step::Below(c, count)
     }
 
     /// The test of an edge between two categories.
@@ -173,6 +210,9 @@ impl<'a> Words<'a> {
             }
             Formula::Equals(d, text) => {
                 self.push_two(Step::Reach(root, *d), self.name(*d, text), steps)
+            }
+            Formula::Compare(d, op, n) => {
+                self.push_two(Step::Reach(root, *d), self.number(*d, *op, *n), steps)
             }
             Formula::Not(g) => {
                 self.push(g, root, steps)?;

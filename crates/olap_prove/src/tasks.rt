@@ -135,11 +135,11 @@ impl<'a> Task<'a> {
         Ok(())
     }
 
-    /// The categories that have constants.
+    /// The categories that have more than one name.
     fn push_names(&mut self, words: &Words<'a>) -> Result<(), Memory> {
         let graph = self.graph;
         'categories: for c in 1..graph.categories() {
-            let count = words.constants(CatId(c)).len();
+            let count = words.others(CatId(c)).len();
             if count > 0 && is_below(graph, self.root, CatId(c)) {
                 self.choices.push(Choice {
                     variable: Variable::Name(CatId(c)),

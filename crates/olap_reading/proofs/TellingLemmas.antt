@@ -45,7 +45,7 @@ tellable s i v m (NoEdge x k) w =
 tellable s i v m (NoParent x) w = w.0
 tellable s i v m (SameCategory x) w = far_from i x w.0 w.1
 tellable s i v m (TwoAncestors x c) w =
-    (far_from i x w.0 w.2, subst (λ d. IsCategory s.graph d) w.4 (m w.0 (far_to i v x w.0 w.2)))
+    (far_from i x w.0 w.2, subst (λ d. IsCategory s.graph d) w.4 (m.categories w.0 (far_to i v x w.0 w.2)))
 tellable s i v m (Shortcut x k) w =
     let b = parent_below i x k w.1 in (below_is_member i x _ b, v.parents_are_members x _ b)
 tellable s i v m (Unmet k x) w = w.2.0

@@ -24,7 +24,8 @@ use Rattle.olap_frozen.specs.declared.founding.Found.{Found}
 use Rattle.olap_names.specs.Names.{candidates_of}
 use Rattle.olap_schema.specs.Lines.{is_control}
 use Rattle.olap_schema.specs.PrintingLaws.{AreTexts}
-use Rattle.olap_summ.specs.Counterexamples.{IsCounterexampleFound, numbers_of}
+use Rattle.olap_summ.specs.Counterexamples.{IsCounterexampleFound}
+use Rattle.olap_ast.specs.Trees.{numbers_of}
 use Rattle.olap_reasoning.specs.Certificates.{ShowsDifference, ShowsUnmet}
 use Rattle.olap_order.specs.Judged.{IsVerdict, Replies}
 use Rattle.olap_order.proofs.Replying.{done}

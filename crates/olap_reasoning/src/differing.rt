@@ -6,7 +6,8 @@ ghost use Rattle.olap_cex.specs.FrozenText.{frozen_text};
 ghost use Rattle.olap_frozen.specs.LeastFound.{frozen_of};
 ghost use Rattle.olap_names.specs.Names.{candidates_of};
 ghost use Rattle.olap_schema.specs.Schemas.{schema_of};
-ghost use Rattle.olap_summ.specs.Counterexamples.{IsCounterexampleFound, numbers_of};
+ghost use Rattle.olap_ast.specs.Trees.{numbers_of};
+ghost use Rattle.olap_summ.specs.Counterexamples.{IsCounterexampleFound};
 ghost use Rattle.olap_order.specs.Outputs.{line};
 
 use olap_base::{CatId, Memory, Text};

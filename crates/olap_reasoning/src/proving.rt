@@ -2,7 +2,7 @@
 ghost use Rattle.std.specs.Prelude.{◌≢◌, All, AllPairs};
 ghost use Rattle.olap_base.specs.Graph.{IsCategory};
 ghost use Rattle.olap_schema.specs.Schemas.{schema_of};
-ghost use Rattle.olap_summ.specs.Counterexamples.{numbers_of};
+ghost use Rattle.olap_ast.specs.Trees.{numbers_of};
 ghost use Rattle.olap_order.specs.Judged.{Replies};
 ghost use Rattle.olap_order.specs.Order.{Done};
 ghost use Rattle.olap_reasoning.specs.Questions.{ByProof, IsAnswer};

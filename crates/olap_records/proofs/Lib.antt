@@ -6,6 +6,4 @@ pub mod Step
 pub mod FaultLemmas
 pub mod Seeing
 pub mod ReadingBack
-pub mod Spelling
 pub mod Printed
-mod Digits

@@ -7,7 +7,7 @@ use Rattle.std.specs.Str.Parse.{IsNumeral, digits_value, signed_digits_value, wi
 use Rattle.std.proofs.lemmas.Bool.{ne_eqb}
 use Rattle.std.proofs.lemmas.Fmt.{decimal_is_IsNumeral_wide}
 use Rattle.std.proofs.lemmas.Str.Parse.{digit_at}
-use Rattle.olap_records.proofs.Spelling.{numeral-decides, signed_of}
+use Rattle.olap_numerals.proofs.Spelling.{numeral-decides, signed_of}
 
 -- digits begin with no sign
 no-sign : (ds : List ℕ) → IsNumeral 10 ds → ((slice_index ds 0 == 45) ≡ false) × ((slice_index ds 0 == 43) ≡ false)

@@ -5,4 +5,3 @@ pub mod FaultLaws
 pub mod ReaderInside
 pub mod Texts
 pub mod PrinterInside
-pub mod Numbers

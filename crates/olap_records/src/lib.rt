@@ -2,16 +2,14 @@
 //!
 //! A contract sees `Rows` as the record read last and the records still to come, and `Printer` as the
 //! text printed so far; no clause speaks of the CSV library. `first_fault` of `specs/Faults.antt` says
-//! for every reader of records which fault comes first. `value` is the number that a field spells.
+//! for every reader of records which fault comes first.
 #![tactic(auto)]
 
 mod laws;
-mod numbers;
 mod printing;
 mod reading;
 mod refused;
 
 pub use laws::{first_fault_is_first, no_fault_is_none, text_reads_back};
-pub use numbers::value;
 pub use printing::Printer;
 pub use reading::Rows;

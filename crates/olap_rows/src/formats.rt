@@ -6,13 +6,13 @@ use crate::texts::Piece::Text;
 use olap_run::Status;
 use std::test::Fail;
 
-/// A chain with a comment, and a constraint without brackets.
+/// A chain of the first version with a comment, and a constraint without brackets.
 const COMMENTED: &str =
     "# a chain\r\nschema 1\ncategory Store\ncategory City\nedge Store City\nedge City All\n\
 constraint Store: !Store_City | Store.City & Store.All -> true\n";
 
-/// The same in its canonical form.
-const BRACKETED: &str = "schema 1\ncategory Store\ncategory City\nedge Store City\nedge City All\n\
+/// The same in its canonical form, which is of the second version.
+const BRACKETED: &str = "schema 2\ncategory Store\ncategory City\nedge Store City\nedge City All\n\
 constraint Store: ((!Store_City | (Store.City & Store.All)) -> true)\n";
 
 const TABLE: Table = Table {

@@ -2,7 +2,7 @@
 use crate::libraries::Content;
 use crate::running::Output::{Any, Just};
 use crate::running::{Opening, Row, Table, WIDE, check_all};
-use crate::samples::{CHAIN, TWO_STORES};
+use crate::samples::{CHAIN, CHAIN_PRINTED, TWO_STORES};
 use crate::texts::Piece::{Text, Times};
 use olap_run::Status;
 use std::test::Fail;
@@ -11,7 +11,7 @@ use std::test::Fail;
 const UNENDED: &str = "schema 1\ncategory Store\ncategory City\nedge Store City\nedge City All";
 
 /// A schema of stores in cities and one constraint.
-const PLAIN: &str = "schema 1\ncategory Store\ncategory City\nedge Store City\nedge City All\n\
+const PLAIN: &str = "schema 2\ncategory Store\ncategory City\nedge Store City\nedge City All\n\
 constraint City: true\n";
 
 const SCHEMA: (&str, Content) = ("S", Content::Text(CHAIN));
@@ -80,7 +80,7 @@ const TABLE: Table = Table {
             words: &["format", "X"],
             files: &[("X", &[Text(UNENDED)])],
             status: Status::Yes,
-            output: Just(CHAIN),
+            output: Just(CHAIN_PRINTED),
         },
         Row {
             name: "a schema cut off after a line",

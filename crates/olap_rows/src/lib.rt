@@ -40,6 +40,10 @@ mod listings;
 #[cfg(test)]
 mod many;
 #[cfg(test)]
+mod many_categories;
+#[cfg(test)]
+mod numbers;
+#[cfg(test)]
 mod openings;
 #[cfg(test)]
 mod plans;

@@ -15,18 +15,35 @@ const TABLE: Table = Table {
     files: &[],
     rows: &[
         Row {
-            name: "63 categories",
+            name: "255 categories",
             words: &["format", "X"],
-            files: &[("X", &[Text("schema 1\n"), Numbered(0, 62, CATEGORY)])],
+            files: &[("X", &[Text("schema 1\n"), Numbered(0, 254, CATEGORY)])],
             status: Status::Yes,
             output: Any,
         },
         Row {
-            name: "64 categories",
+            name: "256 categories",
             words: &["format", "X"],
-            files: &[("X", &[Text("schema 1\n"), Numbered(0, 63, CATEGORY)])],
+            files: &[("X", &[Text("schema 1\n"), Numbered(0, 255, CATEGORY)])],
             status: Status::Refused,
-            output: Just("refused schema line 128 TooManyCategories\n"),
+            output: Just("refused schema line 512 TooManyCategories\n"),
+        },
+        Row {
+            name: "256 categories without an edge",
+            words: &["format", "X"],
+            files: &[(
+                "X",
+                &[Text("schema 1\n"), Numbered(0, 255, "category C#\n")],
+            )],
+            status: Status::Refused,
+            output: Just("refused schema line 257 TooManyCategories\n"),
+        },
+        Row {
+            name: "64 categories without an edge",
+            words: &["format", "X"],
+            files: &[("X", &[Text("schema 1\n"), Numbered(0, 63, "category C#\n")])],
+            status: Status::Refused,
+            output: Just("refused schema line 2 NoWayToAll\n"),
         },
         Row {
             name: "256 edges, 23 of them to All",

@@ -2,7 +2,7 @@
 use crate::hostile;
 use crate::libraries::Content;
 use crate::running::{Opening, check_openings};
-use crate::samples::{CHAIN, CITY_VIEW, TWO_STORES, ZERO_SUM};
+use crate::samples::{CHAIN, CHAIN_PRINTED, CITY_VIEW, TWO_STORES, ZERO_SUM};
 use olap_run::Status;
 use std::test::Fail;
 
@@ -25,7 +25,7 @@ const OPENINGS: &[Opening] = &[
         words: &["format", "S"],
         files: &[SCHEMA],
         status: Status::Yes,
-        output: CHAIN,
+        output: CHAIN_PRINTED,
     },
     Opening {
         words: &["satisfiable", "S", "Store"],

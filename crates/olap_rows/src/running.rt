@@ -17,6 +17,8 @@ pub(crate) type Files<'a> = &'a [(&'a str, &'a [Piece<'a>])];
 pub(crate) enum Output<'a> {
     /// These bytes.
     Just(&'a str),
+    /// The text of these pieces.
+    Made(&'a [Piece<'a>]),
     /// A canonical text that the row doesn't repeat.
     Any,
 }
@@ -169,8 +171,13 @@ pub(crate) fn check(
 ) -> Result<(), Fail> {
     let (status, written) = run(alloc, outside, row.words, row.files, files)?;
     assert_eq!(rt; status, row.status, "{}", row.name);
-    if let Output::Just(output) = row.output {
-        assert_eq!(rt; written.as_str(), output, "{}", row.name);
+    match row.output {
+        Output::Just(output) => assert_eq!(rt; written.as_str(), output, "{}", row.name),
+        Output::Made(pieces) => {
+            let output = joined(alloc, pieces)?;
+            assert_eq!(rt; written.as_str(), output.as_str(), "{}", row.name);
+        }
+        Output::Any => {}
     }
     Ok(())
 }

@@ -4,6 +4,10 @@
 pub(crate) const CHAIN: &str =
     "schema 1\ncategory Store\ncategory City\nedge Store City\nedge City All\n";
 
+/// The same as it is printed.
+pub(crate) const CHAIN_PRINTED: &str =
+    "schema 2\ncategory Store\ncategory City\nedge Store City\nedge City All\n";
+
 /// Two stores in one city.
 pub(crate) const TWO_STORES: &str =
     "id,category,name,parents\na,Store,a,c1\nb,Store,b,c1\nc1,City,c1,all\n";

@@ -1,7 +1,6 @@
--- The checks of a printed formula's atoms, and of the lengths of its names and constants.
---     none_is_long    no name and no constant is too long
+-- The checks of a printed formula's atoms.
 --     no_atom_fault   the atoms have no fault
-use Rattle.std.proofs.Common.{◌≡◌, ◌≢◌, ◌==◌, ℕ, suc, Bool, true, false, cond, List, [], ◌∷◌, ◌++◌, Option, Some, None, All, length, map, refl, arith, sym, codes, nat_lt}
+use Rattle.std.proofs.Common.{◌≡◌, ◌≢◌, ◌==◌, ◌||◌, ◌∙◌, ap, ℕ, ℤ, pos, negsuc, suc, Bool, true, false, cond, List, [], ◌∷◌, ◌++◌, Option, Some, None, All, length, map, refl, append_assoc, append-nil, arith, sym, codes, nat_lt}
 use Rattle.std.specs.Prelude.{AllPairs, is_some}
 use Rattle.std.specs.List.{list_all}
 use Rattle.std.specs.Str.{bytes_eq}
@@ -9,25 +8,30 @@ use Rattle.std.proofs.lemmas.Bool.{false_from_ne_true}
 use Rattle.std.proofs.lemmas.List.Elements.{All-head, All-tail}
 use Rattle.std.proofs.lemmas.Slice.Eq.{bytes_eq-Decides}
 use Rattle.olap_base.specs.Chains.{IsChain}
-use Rattle.olap_base.specs.Graph.{Graph, HasEdge, IsCategory, IsHierarchy}
+use Rattle.olap_base.specs.Graph.{Graph, HasEdge, IsCategory, IsHierarchy, is_number}
 use Rattle.olap_graph.specs.Lookups.{category_named, edge_between, joins, name_of_category}
 use Rattle.olap_graph.proofs.PlaceLemmas.{joins-Decides, missing}
 use Rattle.olap_ast.specs.Formula as Meaning
 use Rattle.olap_ast.specs.Formula.{Formula, Terms}
 use Rattle.olap_ast.specs.Valid.{AreFormulasAt, IsFormulaAt}
-use Rattle.olap_grammar.specs.Words.{pieces_of}
+use Rattle.olap_numerals.specs.Comparing.{Op}
+use Rattle.olap_numerals.specs.Numerals.{IsSmall, canonical}
+use Rattle.olap_grammar.specs.Grammar.{comparing}
+use Rattle.olap_grammar.specs.Words.{is_number_token, pieces_of}
 use Rattle.olap_grammar.specs.declared.tokens.Token.{Token}
 use Rattle.olap_grammar.specs.declared.tokens.Token.TheVariants as token
+use Rattle.olap_grammar.specs.declared.tokens.Mark.{Mark}
 use Rattle.olap_grammar.specs.declared.tokens.Mark.TheVariants as mark
 use Rattle.olap_grammar.specs.declared.tokens.Joint.{Joint}
 use Rattle.olap_grammar.specs.declared.tokens.Joint.TheVariants as joint
-use Rattle.olap_schema.specs.Atoms.{atom_fault, has_edge, is_connective, is_known, is_path, is_repeated, lacks_edge, named_fault, names_in, or_later, stands_in, token_fault, word_fault}
+use Rattle.olap_schema.specs.Atoms.{asks_number, atom_fault, compares_numbers, has_edge, is_known, is_no_atom, is_path, is_repeated, kind_fault, lacks_edge, named_fault, names_in, or_later, stands_in, word_fault}
 use Rattle.olap_schema.specs.Printing.{atom_word, compared_word}
 use Rattle.olap_schema.specs.declared.kinds.SchemaKind.{SchemaKind}
-use Rattle.olap_schema.proofs.BackWords.{name_whole, no_46, no_95, path_pieces, reach_pieces, reach_whole}
+use Rattle.olap_schema.proofs.BackWords.{compared_is, name_whole, no_46, no_95, path_pieces, reach_pieces, reach_whole}
 use Rattle.olap_schema.proofs.PrintCut.{AreCategories, steps_are}
 use Rattle.olap_schema.proofs.PrintNames.{named, names_differ}
-use Rattle.olap_schema.proofs.PrintTokens.{joined_tokens, spelt, spelt_list, spelt_rest}
+use Rattle.olap_schema.proofs.PrintNumerals.{numeral_is_number}
+use Rattle.olap_schema.proofs.PrintTokens.{joined_tokens, number_token, spelt, spelt_list, spelt_rest}
 
 same_bytes : (w : List ℕ) → bytes_eq w w ≡ true
 same_bytes w = (bytes_eq-Decides w w).1 refl
@@ -90,10 +94,10 @@ module _ (g : Graph) (h : IsHierarchy g) where
 
   -- ---- words
 
-  unless_connective : (root w : List ℕ) → named_fault g root (is_path w) (names_in w) ≡ None
+  unless_no_atom : (root w : List ℕ) → named_fault g root (is_path w) (names_in w) ≡ None
       → word_fault g root w ≡ None
   unfolding word_fault
-  unless_connective root w e = go (is_connective w)
+  unless_no_atom root w e = go (is_no_atom w)
     where
       go : (b : Bool) → cond b None (named_fault g root (is_path w) (names_in w)) ≡ None
       go true = refl
@@ -102,7 +106,7 @@ module _ (g : Graph) (h : IsHierarchy g) where
   path_fault : (r c : ℕ) (cs : List ℕ) → IsCategory g r → IsChain (HasEdge g) (r ∷ c ∷ cs)
       → AllPairs ◌≢◌ (r ∷ c ∷ cs) → word_fault g (name_of_category g r) (atom_word g r 95 (c ∷ cs)) ≡ None
   path_fault r c cs l k a =
-      unless_connective (name_of_category g r) (atom_word g r 95 (c ∷ cs))
+      unless_no_atom (name_of_category g r) (atom_word g r 95 (c ∷ cs))
       (go (atom_word g r 95 (c ∷ cs)) (path_pieces g h r (c ∷ cs) l v))
     where
       v : AreCategories g (c ∷ cs)
@@ -126,7 +130,7 @@ module _ (g : Graph) (h : IsHierarchy g) where
       → pieces_of 46 w ≡ map (name_of_category g) (r ∷ cs) → pieces_of 95 w ≡ w ∷ []
       → word_fault g (name_of_category g r) w ≡ None
   plain_fault r cs w l v p q =
-      unless_connective (name_of_category g r) w
+      unless_no_atom (name_of_category g r) w
       (rw (q, p, all_known (r ∷ cs) (l, v), same_bytes (name_of_category g r)) refl)
 
   reach_fault : (r : ℕ) (cs : List ℕ) → IsCategory g r → AreCategories g cs
@@ -145,114 +149,182 @@ module _ (g : Graph) (h : IsHierarchy g) where
           (name_whole g h 95 r (no_95 g h r l))
       go false = reach_fault r (d ∷ []) l (m, tt)
 
+-- ---- words that are no atoms
+
+last_or : (a b c d : Bool) → d ≡ true → a || b || c || d ≡ true
+last_or true b c d e = refl
+last_or false true c d e = refl
+last_or false false true d e = refl
+last_or false false false d e = e
+
+number_is_no_atom : (w : List ℕ) → is_number_token w ≡ true → is_no_atom w ≡ true
+unfolding is_no_atom
+number_is_no_atom w e =
+    last_or (bytes_eq w (codes "true")) (bytes_eq w (codes "false")) (bytes_eq w (codes "one")) (is_number_token w) e
+
+true_is_no_atom : is_no_atom (codes "true") ≡ true
+unfolding is_no_atom
+true_is_no_atom = refl
+
+false_is_no_atom : is_no_atom (codes "false") ≡ true
+unfolding is_no_atom
+false_is_no_atom = refl
+
+one_is_no_atom : is_no_atom (codes "one") ≡ true
+unfolding is_no_atom
+one_is_no_atom = refl
+
 -- ---- formulas
 
+-- what stands behind a comparison's word says that it compares numbers
+asks : (op : Op) (z : ℤ) (us : List Token) → asks_number (token.Mark (comparing op) ∷ number_token z ∷ us) ≡ Some true
+asks Op.Equal (pos n) us = refl
+asks Op.Equal (negsuc n) us = refl
+asks Op.Less z us = refl
+asks Op.AtMost z us = refl
+
 module _ (g : Graph) (root : List ℕ) where
-  faultless-append : (ts us : List Token) → atom_fault g root ts ≡ None → atom_fault g root us ≡ None
-      → atom_fault g root (ts ++ us) ≡ None
-  unfolding atom_fault
-  faultless-append [] us d e = e
-  faultless-append (t ∷ ts) us d e = go (token_fault g root t) d (λ q. faultless-append ts us q e)
-    where
-      go : (o : Option SchemaKind) → or_later o (atom_fault g root ts) ≡ None
-          → (atom_fault g root ts ≡ None → atom_fault g root (ts ++ us) ≡ None)
-          → or_later o (atom_fault g root (ts ++ us)) ≡ None
-      go None q rest = rest q
-      go (Some k) q rest = absurd (cc)
-
-  one_word : (w : List ℕ) (us : List Token) → word_fault g root w ≡ None → atom_fault g root us ≡ None
-      → atom_fault g root (token.Word w ∷ us) ≡ None
-  unfolding atom_fault
-  one_word w us d e = rw (d, e) refl
-
-  joined_faultless : (j : Joint) (l r : List Token) → atom_fault g root l ≡ None → atom_fault g root r ≡ None
-      → atom_fault g root (joined_tokens j l r) ≡ None
-  unfolding atom_fault
-  joined_faultless j l r d e =
-      faultless-append l (token.Mark (mark.Joint j) ∷ (r ++ token.Mark mark.Close ∷ [])) d
-      (faultless-append r (token.Mark mark.Close ∷ []) e refl)
+  -- no fault in these tokens, whatever stands behind them that compares nothing and has no fault
+  abbrev Faultless : List Token → Type 0
+  Faultless ts =
+      (us : List Token) → asks_number us ≡ None → atom_fault g root us ≡ None → atom_fault g root (ts ++ us) ≡ None
 
   none_at_end : atom_fault g root [] ≡ None
   unfolding atom_fault
   none_at_end = refl
 
-  not_faultless : (ts : List Token) → atom_fault g root ts ≡ None → atom_fault g root (token.Mark mark.Not ∷ ts) ≡ None
+  all_none : (a b c : Option SchemaKind) → a ≡ None → b ≡ None → c ≡ None → or_later (or_later a b) c ≡ None
+  all_none a b c d e f = rw (d, e, f) refl
+
+  word_on : (w : List ℕ) (us : List Token) → word_fault g root w ≡ None → kind_fault g w (asks_number us) ≡ None
+      → atom_fault g root us ≡ None → atom_fault g root (token.Word w ∷ us) ≡ None
   unfolding atom_fault
-  not_faultless ts d = d
+  word_on w us d k e = all_none (word_fault g root w) (kind_fault g w (asks_number us)) (atom_fault g root us) d k e
 
-  comma_faultless : (ts : List Token) → atom_fault g root ts ≡ None
-      → atom_fault g root (token.Mark mark.Comma ∷ ts) ≡ None
+  -- a word that isn't compared
+  one_word : (w : List ℕ) → word_fault g root w ≡ None → Faultless (token.Word w ∷ [])
+  one_word w d us n e = word_on w us d (ap (kind_fault g w) n) e
+
+  mark_on : (m : Mark) (us : List Token) → atom_fault g root us ≡ None → atom_fault g root (token.Mark m ∷ us) ≡ None
   unfolding atom_fault
-  comma_faultless ts d = d
+  mark_on m us e = e
 
-  equal_faultless : (w k : List ℕ) → word_fault g root w ≡ None
-      → atom_fault g root (token.Word w ∷ token.Mark mark.Equal ∷ token.Quoted k ∷ []) ≡ None
+  text_on : (k : List ℕ) (us : List Token) → atom_fault g root us ≡ None
+      → atom_fault g root (token.Quoted k ∷ us) ≡ None
   unfolding atom_fault
-  equal_faultless w k d = rw d refl
+  text_on k us e = e
 
-  constant_faultless : (w : List ℕ) → is_connective w ≡ true → atom_fault g root (token.Word w ∷ []) ≡ None
-  unfolding atom_fault word_fault
-  constant_faultless w e = rw e refl
+  signed_on : (w : List ℕ) (us : List Token) → atom_fault g root us ≡ None
+      → atom_fault g root (token.Signed w ∷ us) ≡ None
+  unfolding atom_fault
+  signed_on w us e = e
 
-  one_faultless : (ts : List Token) → atom_fault g root ts ≡ None
-      → atom_fault g root (token.Word (codes "one") ∷ token.Mark mark.Open ∷ (ts ++ token.Mark mark.Close ∷ [])) ≡ None
-  unfolding atom_fault word_fault is_connective
-  one_faultless ts d = faultless-append ts (token.Mark mark.Close ∷ []) d refl
+  no_atom : (w : List ℕ) → is_no_atom w ≡ true → word_fault g root w ≡ None
+  unfolding word_fault
+  no_atom w e = rw e refl
 
-true_connects : is_connective (codes "true") ≡ true
-unfolding is_connective
-true_connects = refl
+  number_on : (z : ℤ) → IsSmall z → Faultless (number_token z ∷ [])
+  number_on (pos n) small us q e =
+      one_word (canonical (pos n))
+      (no_atom (canonical (pos n)) (number_is_no_atom (canonical (pos n)) (numeral_is_number (pos n) small))) us q e
+  number_on (negsuc n) small us q e = signed_on (canonical (negsuc n)) us e
 
-false_connects : is_connective (codes "false") ≡ true
-unfolding is_connective
-false_connects = refl
+  equal_faultless : (w k : List ℕ) → word_fault g root w ≡ None → compares_numbers g w ≡ false
+      → Faultless (token.Word w ∷ token.Mark mark.Equal ∷ token.Quoted k ∷ [])
+  equal_faultless w k d n us q e =
+      let kind : kind_fault g w (Some false) ≡ None = rw n refl in
+      word_on w (token.Mark mark.Equal ∷ token.Quoted k ∷ us) d kind
+      (mark_on mark.Equal (token.Quoted k ∷ us) (text_on k us e))
+
+  compared_faultless : (w : List ℕ) (op : Op) (z : ℤ) → IsSmall z → word_fault g root w ≡ None
+      → compares_numbers g w ≡ true
+      → Faultless (token.Word w ∷ token.Mark (comparing op) ∷ number_token z ∷ [])
+  compared_faultless w op z small d n us q e =
+      let kind : kind_fault g w (Some true) ≡ None = rw n refl in
+      word_on w (token.Mark (comparing op) ∷ number_token z ∷ us) d (ap (kind_fault g w) (asks op z us) ∙ kind)
+      (mark_on (comparing op) (number_token z ∷ us) (number_on z small us q e))
+
+  joined_faultless : (j : Joint) (l r : List Token) → Faultless l → Faultless r → Faultless (joined_tokens j l r)
+  joined_faultless j l r p q us n e =
+      let right = q (token.Mark mark.Close ∷ us) refl (mark_on mark.Close us e) in
+      let left = p (token.Mark (mark.Joint j) ∷ (r ++ token.Mark mark.Close ∷ us)) refl
+      (mark_on (mark.Joint j) (r ++ token.Mark mark.Close ∷ us) right) in
+      simp append_assoc
+      (mark_on mark.Open (l ++ token.Mark (mark.Joint j) ∷ (r ++ token.Mark mark.Close ∷ us)) left)
+
+  not_faultless : (ts : List Token) → Faultless ts → Faultless (token.Mark mark.Not ∷ ts)
+  not_faultless ts p us n e = mark_on mark.Not (ts ++ us) (p us n e)
+
+  one_faultless : (ts : List Token) → Faultless ts
+      → Faultless (token.Word (codes "one") ∷ token.Mark mark.Open ∷ (ts ++ token.Mark mark.Close ∷ []))
+  one_faultless ts p us n e =
+      let inner = p (token.Mark mark.Close ∷ us) refl (mark_on mark.Close us e) in
+      simp append_assoc
+      (word_on (codes "one") (token.Mark mark.Open ∷ (ts ++ token.Mark mark.Close ∷ us))
+      (no_atom (codes "one") one_is_no_atom) refl (mark_on mark.Open (ts ++ token.Mark mark.Close ∷ us) inner))
+
+  -- the parts of a list: what follows one of them compares nothing
+  part_faultless : (ts us : List Token) → ((vs : List Token) → asks_number vs ≡ None → asks_number (us ++ vs) ≡ None)
+      → Faultless ts → Faultless us → Faultless (ts ++ us)
+  part_faultless ts us a p q vs n e = simp append_assoc (p (us ++ vs) (a vs n) (q vs n e))
+
+module _ (g : Graph) (r : ℕ) where
+  rest_asks : (fs : Terms) (vs : List Token) → asks_number vs ≡ None → asks_number (spelt_rest g r fs ++ vs) ≡ None
+  rest_asks Meaning.Terms.End vs n = n
+  rest_asks (Meaning.Terms.More f fs) vs n = refl
 
 module _ (g : Graph) (h : IsHierarchy g) (r : ℕ) (l : IsCategory g r) where
+  abbrev root : List ℕ
+  root = name_of_category g r
+
+  kind_is : (d : ℕ) (b : Bool) → IsCategory g d → is_number g d ≡ b
+      → compares_numbers g (compared_word g r d) ≡ b
+  kind_is d b m e = compared_is g h r d l m ∙ e
+
   mutual
-    -- the atoms of a printed formula have no fault
-    pub no_atom_fault : (f : Formula) → IsFormulaAt g r f → atom_fault g (name_of_category g r) (spelt g r f) ≡ None
-    no_atom_fault Meaning.Formula.Truth v = constant_faultless g (name_of_category g r) (codes "true") true_connects
-    no_atom_fault Meaning.Formula.Falsity v = constant_faultless g (name_of_category g r) (codes "false") false_connects
-    no_atom_fault (Meaning.Formula.Path []) v = absurd (v.0 refl)
-    no_atom_fault (Meaning.Formula.Path (c ∷ cs)) v =
-        one_word g (name_of_category g r) (atom_word g r 95 (c ∷ cs)) [] (path_fault g h r c cs l v.1 v.2)
-        (none_at_end g (name_of_category g r))
-    no_atom_fault (Meaning.Formula.Reach d) v =
-        one_word g (name_of_category g r) (atom_word g r 46 (d ∷ [])) [] (reach_fault g h r (d ∷ []) l (v, tt))
-        (none_at_end g (name_of_category g r))
-    no_atom_fault (Meaning.Formula.Via d e) v =
-        one_word g (name_of_category g r) (atom_word g r 46 (d ∷ e ∷ [])) []
-        (reach_fault g h r (d ∷ e ∷ []) l (v.0, (v.1, tt))) (none_at_end g (name_of_category g r))
-    no_atom_fault (Meaning.Formula.Equals d k) v =
-        equal_faultless g (name_of_category g r) (compared_word g r d) k (compared_fault g h r d l v.0)
-    no_atom_fault (Meaning.Formula.Not f) v = not_faultless g (name_of_category g r) (spelt g r f) (no_atom_fault f v)
-    no_atom_fault (Meaning.Formula.And f k) v =
-        joined_faultless g (name_of_category g r) joint.And (spelt g r f) (spelt g r k) (no_atom_fault f v.0)
-        (no_atom_fault k v.1)
-    no_atom_fault (Meaning.Formula.Or f k) v =
-        joined_faultless g (name_of_category g r) joint.Or (spelt g r f) (spelt g r k) (no_atom_fault f v.0)
-        (no_atom_fault k v.1)
-    no_atom_fault (Meaning.Formula.Implies f k) v =
-        joined_faultless g (name_of_category g r) joint.Implies (spelt g r f) (spelt g r k) (no_atom_fault f v.0)
-        (no_atom_fault k v.1)
-    no_atom_fault (Meaning.Formula.Iff f k) v =
-        joined_faultless g (name_of_category g r) joint.Iff (spelt g r f) (spelt g r k) (no_atom_fault f v.0)
-        (no_atom_fault k v.1)
-    no_atom_fault (Meaning.Formula.Xor f k) v =
-        joined_faultless g (name_of_category g r) joint.Xor (spelt g r f) (spelt g r k) (no_atom_fault f v.0)
-        (no_atom_fault k v.1)
-    no_atom_fault (Meaning.Formula.One fs) v =
-        one_faultless g (name_of_category g r) (spelt_list g r fs) (no_list_fault fs v)
+    faultless : (f : Formula) → IsFormulaAt g r f → Faultless g root (spelt g r f)
+    faultless Meaning.Formula.Truth v = one_word g root (codes "true") (no_atom g root (codes "true") true_is_no_atom)
+    faultless Meaning.Formula.Falsity v =
+        one_word g root (codes "false") (no_atom g root (codes "false") false_is_no_atom)
+    faultless (Meaning.Formula.Path []) v = absurd (v.0 refl)
+    faultless (Meaning.Formula.Path (c ∷ cs)) v =
+        one_word g root (atom_word g r 95 (c ∷ cs)) (path_fault g h r c cs l v.1 v.2)
+    faultless (Meaning.Formula.Reach d) v =
+        one_word g root (atom_word g r 46 (d ∷ [])) (reach_fault g h r (d ∷ []) l (v, tt))
+    faultless (Meaning.Formula.Via d e) v =
+        one_word g root (atom_word g r 46 (d ∷ e ∷ [])) (reach_fault g h r (d ∷ e ∷ []) l (v.0, (v.1, tt)))
+    faultless (Meaning.Formula.Equals d k) v =
+        equal_faultless g root (compared_word g r d) k (compared_fault g h r d l v.0) (kind_is d false v.0 v.1)
+    faultless (Meaning.Formula.Compare d op n) v =
+        compared_faultless g root (compared_word g r d) op n v.2 (compared_fault g h r d l v.0)
+        (kind_is d true v.0 v.1)
+    faultless (Meaning.Formula.Not f) v = not_faultless g root (spelt g r f) (faultless f v)
+    faultless (Meaning.Formula.And f k) v =
+        joined_faultless g root joint.And (spelt g r f) (spelt g r k) (faultless f v.0) (faultless k v.1)
+    faultless (Meaning.Formula.Or f k) v =
+        joined_faultless g root joint.Or (spelt g r f) (spelt g r k) (faultless f v.0) (faultless k v.1)
+    faultless (Meaning.Formula.Implies f k) v =
+        joined_faultless g root joint.Implies (spelt g r f) (spelt g r k) (faultless f v.0) (faultless k v.1)
+    faultless (Meaning.Formula.Iff f k) v =
+        joined_faultless g root joint.Iff (spelt g r f) (spelt g r k) (faultless f v.0) (faultless k v.1)
+    faultless (Meaning.Formula.Xor f k) v =
+        joined_faultless g root joint.Xor (spelt g r f) (spelt g r k) (faultless f v.0) (faultless k v.1)
+    faultless (Meaning.Formula.One fs) v = one_faultless g root (spelt_list g r fs) (list_faultless fs v)
 
-    no_list_fault : (fs : Terms) → AreFormulasAt g r fs → atom_fault g (name_of_category g r) (spelt_list g r fs) ≡ None
-    no_list_fault Meaning.Terms.End v = none_at_end g (name_of_category g r)
-    no_list_fault (Meaning.Terms.More f fs) v =
-        faultless-append g (name_of_category g r) (spelt g r f) (spelt_rest g r fs) (no_atom_fault f v.0)
-        (no_rest_fault fs v.1)
+    list_faultless : (fs : Terms) → AreFormulasAt g r fs → Faultless g root (spelt_list g r fs)
+    list_faultless Meaning.Terms.End v = λ us n e. e
+    list_faultless (Meaning.Terms.More f fs) v =
+        part_faultless g root (spelt g r f) (spelt_rest g r fs) (rest_asks g r fs) (faultless f v.0)
+        (rest_faultless fs v.1)
 
-    no_rest_fault : (fs : Terms) → AreFormulasAt g r fs → atom_fault g (name_of_category g r) (spelt_rest g r fs) ≡ None
-    no_rest_fault Meaning.Terms.End v = none_at_end g (name_of_category g r)
-    no_rest_fault (Meaning.Terms.More f fs) v =
-        comma_faultless g (name_of_category g r) (spelt g r f ++ spelt_rest g r fs)
-        (faultless-append g (name_of_category g r) (spelt g r f) (spelt_rest g r fs) (no_atom_fault f v.0)
-        (no_rest_fault fs v.1))
+    rest_faultless : (fs : Terms) → AreFormulasAt g r fs → Faultless g root (spelt_rest g r fs)
+    rest_faultless Meaning.Terms.End v us n e = e
+    rest_faultless (Meaning.Terms.More f fs) v us n e =
+        mark_on g root mark.Comma ((spelt g r f ++ spelt_rest g r fs) ++ us)
+        (part_faultless g root (spelt g r f) (spelt_rest g r fs) (rest_asks g r fs) (faultless f v.0)
+        (rest_faultless fs v.1) us n e)
+
+  -- the atoms of a printed formula have no fault
+  pub no_atom_fault : (f : Formula) → IsFormulaAt g r f → atom_fault g root (spelt g r f) ≡ None
+  no_atom_fault f v =
+      let e = faultless f v [] refl (none_at_end g root) in rw (append-nil (spelt g r f)) at e

@@ -2,7 +2,7 @@
 --     growing        what is known on the way
 --     add_category   a category's line adds it
 --     add_edge       an edge's line adds it
-use Rattle.std.proofs.Common.{◌≡◌, ◌≢◌, ◌==◌, ◌<◌, ◌≤◌, ◌+◌, ℕ, zero, suc, Bool, false, List, [], ◌∷◌, ◌++◌, Option, Some, None, length, get_or, refl, arith, ap, sym, ◌∙◌, codes, nat_lt, nat_le, inl, inr}
+use Rattle.std.proofs.Common.{◌≡◌, ◌≢◌, ◌==◌, ◌<◌, ◌≤◌, ◌+◌, ℕ, zero, suc, Bool, true, false, List, [], ◌∷◌, ◌++◌, Option, Some, None, length, get_or, refl, arith, ap, sym, ◌∙◌, codes, nat_lt, nat_le, not, ◌&&◌, inl, inr}
 use Rattle.std.specs.Prelude.{AllPairs, Contains, Ok}
 use Rattle.std.specs.Bool.{Decides}
 use Rattle.std.specs.List.{position_from}
@@ -11,26 +11,27 @@ use Rattle.std.proofs.lemmas.Bool.{eqb-true, false_from_ne_true}
 use Rattle.std.proofs.lemmas.List.Elements.{Contains-append_right}
 use Rattle.std.proofs.lemmas.Slice.Eq.{bytes_eq-Decides}
 use Rattle.olap_base.specs.Deciding.{contains_cases}
-use Rattle.olap_base.specs.Graph.{Edge}
+use Rattle.olap_base.specs.Graph.{Edge, Graph}
 use Rattle.olap_base.specs.Limits.{most_categories, most_edges, most_text_bytes}
 use Rattle.olap_graph.specs.Lookups.{category_named, edge_between, joins, name_of_category}
 use Rattle.olap_graph.proofs.PlaceLemmas.{found, joins-Decides}
 use Rattle.olap_ast.specs.Schema.{Schema}
 use Rattle.olap_ast.specs.Valid.{IsValidSchema}
-use Rattle.olap_schema.specs.Judging.{Above, category_read, edge_read}
-use Rattle.olap_schema.specs.declared.statements.Version.TheVariants as version
+use Rattle.olap_schema.specs.Judging.{Above, allows_numbers, category_read, edge_read}
+use Rattle.olap_grammar.specs.declared.tokens.Version.TheVariants as version
 use Rattle.olap_schema.proofs.BackLengths.{AreShort}
 use Rattle.olap_schema.proofs.PrintNames.{named}
 
 -- these categories and edges stand above
-abbrev pub growing : List (List ℕ) → List Edge → List ℕ → Above
-growing names edges lines = record {
-  version = Some version.One;
-  graph = record { names = names; edges = edges };
+abbrev pub growing : List (List ℕ) → List Bool → List Edge → List ℕ → Above
+growing names numbers edges lines = record {
+  version = Some version.Two;
+  graph = record { names = names; numbers = numbers; edges = edges };
   category_lines = lines;
   constraints = [];
   nodes = 0;
   pairs = [];
+  numbers = [];
 }
 
 -- ---- lists
@@ -77,9 +78,9 @@ not_placed t P tells (y ∷ ys) none = go (position_from t 0 (y ∷ ys)) refl
 -- ---- categories
 
 new_name : (done : List (List ℕ)) (name : List ℕ) (rest : List (List ℕ)) → AllPairs ◌≢◌ (done ++ name ∷ rest)
-    → name ≢ codes "All" → (edges : List Edge) →
-    category_named (record { names = done; edges = edges }) name ≡ None
-new_name done name rest a n edges =
+    → name ≢ codes "All" → (numbers : List Bool) (edges : List Edge) →
+    category_named (record { names = done; numbers = numbers; edges = edges }) name ≡ None
+new_name done name rest a n numbers edges =
     not_placed (bytes_eq name) (λ x. name ≡ x) (bytes_eq-Decides name) (codes "All" ∷ done)
     (λ x c e. elim (contains_cases x (codes "All") done c) [
       | inl q ↦ n (e ∙ sym q)
@@ -87,21 +88,26 @@ new_name done name rest a n edges =
     ])
 
 pub add_category : (s : Schema) → IsValidSchema s
-    → (n : ℕ) (done : List (List ℕ)) (name : List ℕ) (rest : List (List ℕ)) (lines : List ℕ) →
-    done ++ name ∷ rest ≡ s.graph.names
-    → category_read (growing done [] lines) n name ≡ Ok (growing (done ++ name ∷ []) [] (lines ++ n ∷ []))
-add_category s v n done name rest lines e =
+    → (n : ℕ) (done : List (List ℕ)) (name : List ℕ) (rest : List (List ℕ)) (kinds : List Bool) (number : Bool)
+    (lines : List ℕ) → done ++ name ∷ rest ≡ s.graph.names
+    → category_read (growing done kinds [] lines) n version.Two name number
+    ≡ Ok (growing (done ++ name ∷ []) (kinds ++ number ∷ []) [] (lines ++ n ∷ []))
+add_category s v n done name rest kinds number lines e =
     let there : Contains s.graph.names name = rw e at (stands done name rest) in
     let l = v.names_fit name there in
     let short : nat_lt most_text_bytes (length name) ≡ false = grind (arith) in
     let differ : AllPairs ◌≢◌ (done ++ name ∷ rest) = rw (← e) at v.hierarchy.names_differ in
-    let new = new_name done name rest differ (v.hierarchy.names name there).1 [] in
+    let new = new_name done name rest differ (v.hierarchy.names name there).1 kinds [] in
     let size = ap length e in
     let sizes = lengths done (name ∷ rest) in
     let few : nat_le most_categories (length done + 1) ≡ false =
     room (length done) (length rest) (length s.graph.names) v.categories_fit (sym size ∙ sizes) in
-    rw (short, new, few) refl
+    rw (every_kind number, short, new, few) refl
   where
+    every_kind : (b : Bool) → b && not (allows_numbers version.Two) ≡ false
+    every_kind true = refl
+    every_kind false = refl
+
     room : (a b n : ℕ) → n + 1 ≤ most_categories → n ≡ a + suc b → nat_le most_categories (a + 1) ≡ false
     room a b n l q = grind arith
 
@@ -109,24 +115,25 @@ add_category s v n done name rest lines e =
 
 pub add_edge : (s : Schema) → IsValidSchema s → AreShort s.graph
     → (done : List Edge) (edge : Edge) (rest : List Edge) (lines : List ℕ) → done ++ edge ∷ rest ≡ s.graph.edges →
-    edge_read (growing s.graph.names done lines) (name_of_category s.graph edge.child)
-    (name_of_category s.graph edge.parent) ≡ Ok (growing s.graph.names (done ++ edge ∷ []) lines)
+    edge_read (growing s.graph.names s.graph.numbers done lines) (name_of_category s.graph edge.child)
+    (name_of_category s.graph edge.parent) ≡ Ok (growing s.graph.names s.graph.numbers (done ++ edge ∷ []) lines)
 add_edge s v short done edge rest lines e =
+    let before : Graph = record { names = s.graph.names; numbers = s.graph.numbers; edges = done } in
     let there : Contains s.graph.edges edge = rw e at (stands done edge rest) in
     let ends = v.hierarchy.categories edge.child edge.parent there in
     let lc = short edge.child ends.0 in
     let lp = short edge.parent ends.1 in
     let sc : nat_lt most_text_bytes (length (name_of_category s.graph edge.child)) ≡ false = grind (arith) in
     let sp : nat_lt most_text_bytes (length (name_of_category s.graph edge.parent)) ≡ false = grind (arith) in
-    let nc : category_named (record { names = s.graph.names; edges = done })
-    (name_of_category s.graph edge.child) ≡ Some edge.child = named s.graph v.hierarchy edge.child ends.0 in
-    let np : category_named (record { names = s.graph.names; edges = done })
-    (name_of_category s.graph edge.parent) ≡ Some edge.parent = named s.graph v.hierarchy edge.parent ends.1 in
+    let nc : category_named before (name_of_category s.graph edge.child) ≡ Some edge.child =
+    named s.graph v.hierarchy edge.child ends.0 in
+    let np : category_named before (name_of_category s.graph edge.parent) ≡ Some edge.parent =
+    named s.graph v.hierarchy edge.parent ends.1 in
     let loop = false_from_ne_true (edge.child == edge.parent)
     (λ q. v.hierarchy.no_loop edge.child edge.parent there (eqb-true edge.child edge.parent q)) in
     let all = false_from_ne_true (edge.child == 0) (λ q. from_all edge there (eqb-true edge.child 0 q)) in
     let differ : AllPairs ◌≢◌ (done ++ edge ∷ rest) = rw (← e) at v.hierarchy.edges_differ in
-    let new : edge_between (record { names = s.graph.names; edges = done }) edge.child edge.parent ≡ None =
+    let new : edge_between before edge.child edge.parent ≡ None =
     not_placed (joins edge.child edge.parent) (λ x. x ≡ record { child = edge.child; parent = edge.parent })
     (joins-Decides edge.child edge.parent) done
     (λ x c q. not_before done edge rest differ (rw q at c)) in

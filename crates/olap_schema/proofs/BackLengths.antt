@@ -1,69 +1,62 @@
--- No name and no constant of a printed formula is too long.
-use Rattle.std.proofs.Common.{◌≡◌, ◌≢◌, ◌==◌, ◌||◌, ◌≤◌, ℕ, Bool, true, false, cond, List, [], ◌∷◌, ◌++◌, length, map, refl, arith, codes, nat_lt}
+-- No name and no text of a printed formula is too long.
+use Rattle.std.proofs.Common.{◌≡◌, ◌≢◌, ◌==◌, ◌&&◌, ◌≤◌, not, ℕ, ℤ, pos, negsuc, Bool, true, false, cond, List, [], ◌∷◌, length, map, refl, arith, codes, nat_lt}
 use Rattle.std.specs.List.{list_any}
 use Rattle.std.proofs.lemmas.Bool.{le-ltb}
 use Rattle.olap_base.specs.Graph.{Graph, IsCategory, IsHierarchy}
 use Rattle.olap_base.specs.Limits.{most_text_bytes}
 use Rattle.olap_graph.specs.Lookups.{name_of_category}
 use Rattle.olap_ast.specs.Formula as Meaning
-use Rattle.olap_ast.specs.Formula.{Formula, Terms}
-use Rattle.olap_ast.specs.Valid.{AreFormulasAt, IsFormulaAt}
-use Rattle.olap_grammar.specs.Words.{pieces_of}
+use Rattle.olap_ast.specs.Formula.{Formula}
+use Rattle.olap_ast.specs.Valid.{IsFormulaAt}
+use Rattle.olap_numerals.specs.Numerals.{IsSmall}
+use Rattle.olap_grammar.specs.Grammar.{comparing}
+use Rattle.olap_grammar.specs.Words.{is_number_token, pieces_of}
 use Rattle.olap_grammar.specs.declared.tokens.Token.{Token}
 use Rattle.olap_grammar.specs.declared.tokens.Token.TheVariants as token
 use Rattle.olap_grammar.specs.declared.tokens.Mark.{Mark}
 use Rattle.olap_grammar.specs.declared.tokens.Mark.TheVariants as mark
-use Rattle.olap_grammar.specs.declared.tokens.Joint.{Joint}
-use Rattle.olap_grammar.specs.declared.tokens.Joint.TheVariants as joint
 use Rattle.olap_schema.specs.Atoms.{names_in}
 use Rattle.olap_schema.specs.Printing.{atom_word, compared_word}
 use Rattle.olap_schema.specs.Tokens.{is_long, is_long_name}
+use Rattle.olap_schema.proofs.BackTests.{IsLeaf, none-cons, none_passes}
 use Rattle.olap_schema.proofs.BackWords.{name_whole, no_46, no_95, path_pieces, reach_pieces, reach_whole}
 use Rattle.olap_schema.proofs.PrintCut.{AreCategories, steps_are}
-use Rattle.olap_schema.proofs.PrintTokens.{joined_tokens, spelt, spelt_list, spelt_rest}
+use Rattle.olap_schema.proofs.PrintNumerals.{numeral_is_number}
+use Rattle.olap_schema.proofs.PrintTokens.{number_token, spelt}
 
 -- no name has too many bytes
 abbrev pub AreShort : Graph → Type 0
 AreShort g = (c : ℕ) → IsCategory g c → length (name_of_category g c) ≤ most_text_bytes
 
-pub none-append : {A : Type 0} (p : A → Bool) (xs ys : List A) → list_any p xs ≡ false → list_any p ys ≡ false
-    → list_any p (xs ++ ys) ≡ false
-none-append p [] ys d e = e
-none-append p (x ∷ xs) ys d e = go (p x) d (λ r. none-append p xs ys r e)
-  where
-    go : (b : Bool) → b || list_any p xs ≡ false → (list_any p xs ≡ false → list_any p (xs ++ ys) ≡ false)
-        → b || list_any p (xs ++ ys) ≡ false
-    go true r rest = absurd (cc)
-    go false r rest = rest r
+no_more : (b : Bool) → b && false ≡ false
+no_more true = refl
+no_more false = refl
 
 short_quoted : (k : List ℕ) → length k ≤ most_text_bytes → is_long (token.Quoted k) ≡ false
 unfolding is_long
 short_quoted k l = let e : nat_lt most_text_bytes (length k) ≡ false = grind (arith) in e
 
-one_short : (w : List ℕ) (ts : List Token) → list_any is_long_name (names_in w) ≡ false → list_any is_long ts ≡ false
-    → list_any is_long (token.Word w ∷ ts) ≡ false
+short_word : (w : List ℕ) → list_any is_long_name (names_in w) ≡ false → is_long (token.Word w) ≡ false
 unfolding is_long
-one_short w ts d e = rw d e
+short_word w d = rw d (no_more (not (is_number_token w)))
 
-equal_short : (w k : List ℕ) → list_any is_long_name (names_in w) ≡ false → length k ≤ most_text_bytes
-    → list_any is_long (token.Word w ∷ token.Mark mark.Equal ∷ token.Quoted k ∷ []) ≡ false
+short_mark : (m : Mark) → is_long (token.Mark m) ≡ false
 unfolding is_long
-equal_short w k d l = rw (d, short_quoted k l) refl
+short_mark m = refl
 
-mark_short : (m : Mark) (ts : List Token) → list_any is_long ts ≡ false → list_any is_long (token.Mark m ∷ ts) ≡ false
+short_number : (z : ℤ) → IsSmall z → is_long (number_token z) ≡ false
 unfolding is_long
-mark_short m ts e = e
+short_number (pos n) small = rw (numeral_is_number (pos n) small) refl
+short_number (negsuc n) small = refl
 
-closed_short : (ts : List Token) → list_any is_long ts ≡ false
-    → list_any is_long (ts ++ token.Mark mark.Close ∷ []) ≡ false
-closed_short ts e = none-append is_long ts (token.Mark mark.Close ∷ []) e (mark_short mark.Close [] refl)
+one_short : (w : List ℕ) → list_any is_long_name (names_in w) ≡ false → list_any is_long (token.Word w ∷ []) ≡ false
+one_short w d = none-cons is_long (token.Word w) [] (short_word w d) refl
 
-joined_short : (j : Joint) (l r : List Token) → list_any is_long l ≡ false → list_any is_long r ≡ false
-    → list_any is_long (joined_tokens j l r) ≡ false
-joined_short j l r d e =
-    mark_short mark.Open _
-    (none-append is_long l (token.Mark (mark.Joint j) ∷ (r ++ token.Mark mark.Close ∷ [])) d
-    (mark_short (mark.Joint j) _ (closed_short r e)))
+compared_short : (w : List ℕ) (m : Mark) (t : Token) → list_any is_long_name (names_in w) ≡ false
+    → is_long t ≡ false → list_any is_long (token.Word w ∷ token.Mark m ∷ t ∷ []) ≡ false
+compared_short w m t d e =
+    none-cons is_long (token.Word w) (token.Mark m ∷ t ∷ []) (short_word w d)
+    (none-cons is_long (token.Mark m) (t ∷ []) (short_mark m) (none-cons is_long t [] e refl))
 
 true_short : list_any is_long_name (names_in (codes "true")) ≡ false
 unfolding pieces_of
@@ -109,9 +102,9 @@ module _ (g : Graph) (h : IsHierarchy g) (short : AreShort g) where
   reach_short r cs l v =
       plain_short r cs (atom_word g r 46 cs) l v (reach_pieces g h r cs l v) (reach_whole g h r cs l v)
 
-  compared_short : (r d : ℕ) → IsCategory g r → IsCategory g d
+  compares_short : (r d : ℕ) → IsCategory g r → IsCategory g d
       → list_any is_long_name (names_in (compared_word g r d)) ≡ false
-  compared_short r d l m = go (d == r)
+  compares_short r d l m = go (d == r)
     where
       go : (b : Bool)
           → list_any is_long_name (names_in (cond b (name_of_category g r) (atom_word g r 46 (d ∷ [])))) ≡ false
@@ -121,44 +114,25 @@ module _ (g : Graph) (h : IsHierarchy g) (short : AreShort g) where
       go false = reach_short r (d ∷ []) l (m, tt)
 
 module _ (g : Graph) (h : IsHierarchy g) (short : AreShort g) (r : ℕ) (l : IsCategory g r) where
-  mutual
-    -- no name and no constant is too long
-    pub none_is_long : (f : Formula) → IsFormulaAt g r f → list_any is_long (spelt g r f) ≡ false
-    none_is_long Meaning.Formula.Truth v = one_short (codes "true") [] true_short refl
-    none_is_long Meaning.Formula.Falsity v = one_short (codes "false") [] false_short refl
-    none_is_long (Meaning.Formula.Path cs) v =
-        one_short (atom_word g r 95 cs) [] (path_short g h short r cs l (steps_are g h r cs v.1) v.0) refl
-    none_is_long (Meaning.Formula.Reach d) v =
-        one_short (atom_word g r 46 (d ∷ [])) [] (reach_short g h short r (d ∷ []) l (v, tt)) refl
-    none_is_long (Meaning.Formula.Via d e) v =
-        one_short (atom_word g r 46 (d ∷ e ∷ [])) [] (reach_short g h short r (d ∷ e ∷ []) l (v.0, (v.1, tt)))
-        refl
-    none_is_long (Meaning.Formula.Equals d k) v =
-        equal_short (compared_word g r d) k (compared_short g h short r d l v.0) v.1
-    none_is_long (Meaning.Formula.Not f) v = mark_short mark.Not (spelt g r f) (none_is_long f v)
-    none_is_long (Meaning.Formula.And f k) v =
-        joined_short joint.And (spelt g r f) (spelt g r k) (none_is_long f v.0) (none_is_long k v.1)
-    none_is_long (Meaning.Formula.Or f k) v =
-        joined_short joint.Or (spelt g r f) (spelt g r k) (none_is_long f v.0) (none_is_long k v.1)
-    none_is_long (Meaning.Formula.Implies f k) v =
-        joined_short joint.Implies (spelt g r f) (spelt g r k) (none_is_long f v.0) (none_is_long k v.1)
-    none_is_long (Meaning.Formula.Iff f k) v =
-        joined_short joint.Iff (spelt g r f) (spelt g r k) (none_is_long f v.0) (none_is_long k v.1)
-    none_is_long (Meaning.Formula.Xor f k) v =
-        joined_short joint.Xor (spelt g r f) (spelt g r k) (none_is_long f v.0) (none_is_long k v.1)
-    none_is_long (Meaning.Formula.One fs) v =
-        one_short (codes "one")
-        (token.Mark mark.Open ∷ (spelt_list g r fs ++ token.Mark mark.Close ∷ [])) name_one_short
-        (mark_short mark.Open (spelt_list g r fs ++ token.Mark mark.Close ∷ [])
-        (closed_short (spelt_list g r fs) (no_part_is_long fs v)))
+  leaf_short : (f : Formula) → IsFormulaAt g r f → IsLeaf f → list_any is_long (spelt g r f) ≡ false
+  leaf_short Meaning.Formula.Truth v k = one_short (codes "true") true_short
+  leaf_short Meaning.Formula.Falsity v k = one_short (codes "false") false_short
+  leaf_short (Meaning.Formula.Path cs) v k =
+      one_short (atom_word g r 95 cs) (path_short g h short r cs l (steps_are g h r cs v.1) v.0)
+  leaf_short (Meaning.Formula.Reach d) v k =
+      one_short (atom_word g r 46 (d ∷ [])) (reach_short g h short r (d ∷ []) l (v, tt))
+  leaf_short (Meaning.Formula.Via d e) v k =
+      one_short (atom_word g r 46 (d ∷ e ∷ [])) (reach_short g h short r (d ∷ e ∷ []) l (v.0, (v.1, tt)))
+  leaf_short (Meaning.Formula.Equals d text) v k =
+      compared_short (compared_word g r d) mark.Equal (token.Quoted text) (compares_short g h short r d l v.0)
+      (short_quoted text v.2)
+  leaf_short (Meaning.Formula.Compare d op n) v k =
+      compared_short (compared_word g r d) (comparing op) (number_token n) (compares_short g h short r d l v.0)
+      (short_number n v.2)
+  leaf_short f v k = absurd k
 
-    no_part_is_long : (fs : Terms) → AreFormulasAt g r fs → list_any is_long (spelt_list g r fs) ≡ false
-    no_part_is_long Meaning.Terms.End v = refl
-    no_part_is_long (Meaning.Terms.More f fs) v =
-        none-append is_long (spelt g r f) (spelt_rest g r fs) (none_is_long f v.0) (no_rest_is_long fs v.1)
-
-    no_rest_is_long : (fs : Terms) → AreFormulasAt g r fs → list_any is_long (spelt_rest g r fs) ≡ false
-    no_rest_is_long Meaning.Terms.End v = refl
-    no_rest_is_long (Meaning.Terms.More f fs) v =
-        mark_short mark.Comma (spelt g r f ++ spelt_rest g r fs)
-        (none-append is_long (spelt g r f) (spelt_rest g r fs) (none_is_long f v.0) (no_rest_is_long fs v.1))
+  -- no name and no text is too long
+  pub none_is_long : (f : Formula) → IsFormulaAt g r f → list_any is_long (spelt g r f) ≡ false
+  none_is_long f v =
+      none_passes g r is_long
+      (record { marks = short_mark; one = short_word (codes "one") name_one_short; leaves = leaf_short }) f v

@@ -11,12 +11,15 @@ use Rattle.olap_grammar.specs.CuttingMachine.{tokens_of}
 use Rattle.olap_grammar.specs.declared.tokens.Token.{Token}
 use Rattle.olap_grammar.specs.declared.tokens.Token.TheVariants as token
 use Rattle.olap_grammar.specs.declared.tokens.Mark.TheVariants as mark
+use Rattle.olap_grammar.specs.declared.tokens.Version.{Version}
+use Rattle.olap_grammar.specs.declared.tokens.Version.TheVariants as version
 use Rattle.olap_grammar.proofs.CutComplete.{cut_is_found}
 use Rattle.olap_schema.specs.Lines.{is_quiet}
-use Rattle.olap_schema.specs.Printing.{category_text, constraint_text, edge_text, formula_text, version_text}
+use Rattle.olap_schema.specs.Printing.{category_text, constraint_text, edge_text, formula_text, kind_text, version_text}
 use Rattle.olap_schema.specs.PrintingLaws.{AreTexts}
 use Rattle.olap_schema.proofs.BackBytes.{IsPlain, plain-append}
 use Rattle.olap_schema.proofs.BackPlain.{ascii_plain, formula_plain, name_plain}
+use Rattle.olap_schema.proofs.BackStatements.{kind_tokens}
 use Rattle.olap_schema.proofs.PrintCut.{cut_word, name_is_word, text_is_cut}
 use Rattle.olap_schema.proofs.PrintNames.{name_is}
 use Rattle.olap_schema.proofs.PrintTokens.{spelt}
@@ -31,60 +34,89 @@ word_bytes (b ∷ w) e = go (is_word_byte b) refl e (λ r. word_bytes w r)
     go false q r rest = absurd (cc)
 
 -- a keyword with a space behind it
-keyword : (b : ℕ) (w bs : List ℕ) (ts : List Token) → list_all is_word_byte (b ∷ w) ≡ true → IsCut bs ts
-    → IsCut ((b ∷ w) ++ 32 ∷ bs) (token.Word (b ∷ w) ∷ ts)
-keyword b w bs ts e d = word b w (word_bytes (b ∷ w) e) refl (blank d)
+keyword : (v : Version) (b : ℕ) (w bs : List ℕ) (ts : List Token) → list_all is_word_byte (b ∷ w) ≡ true → IsCut v bs ts
+    → IsCut v ((b ∷ w) ++ 32 ∷ bs) (token.Word (b ∷ w) ∷ ts)
+keyword v b w bs ts e d = word b w (word_bytes (b ∷ w) e) refl (blank d)
 
-last_name : (w : List ℕ) → IsCategoryName w → IsCut w (token.Word w ∷ [])
-last_name w n = rw (append-nil w) at (cut_word (name_is_word w n) tt end)
+last_word : (v : Version) (b : ℕ) (w : List ℕ) → list_all is_word_byte (b ∷ w) ≡ true
+    → IsCut v (b ∷ w) (token.Word (b ∷ w) ∷ [])
+last_word v b w e =
+    let cut : IsCut v ((b ∷ w) ++ []) (token.Word (b ∷ w) ∷ []) = word b w (word_bytes (b ∷ w) e) tt end in
+    rw (append-nil (b ∷ w)) at cut
+
+last_name : (v : Version) (w : List ℕ) → IsCategoryName w → IsCut v w (token.Word w ∷ [])
+last_name v w n =
+    let cut : IsCut v (w ++ []) (token.Word w ∷ []) = cut_word (name_is_word w n) tt end in rw (append-nil w) at cut
+
+-- a category's name, and what says its kind
+kind_cut : (name : List ℕ) (number : Bool) → IsCategoryName name
+    → IsCut version.Two (name ++ kind_text number) (token.Word name ∷ kind_tokens number)
+kind_cut name true n =
+    cut_word (name_is_word name n) refl (blank (last_word version.Two 110 (codes "umber") refl))
+kind_cut name false n = cut_word (name_is_word name n) tt end
 
 -- ---- tokens
 
-pub version_tokens : tokens_of version_text ≡ Some (token.Word (codes "schema") ∷ token.Word (codes "1") ∷ [])
+-- the version's line is cut by the first version
+pub version_tokens :
+    tokens_of version.One version_text ≡ Some (token.Word (codes "schema") ∷ token.Word (codes "2") ∷ [])
 version_tokens =
-    cut_is_found _ _ (keyword 115 (codes "chema") (codes "1") (token.Word (codes "1") ∷ []) refl
-    (word 49 [] (word_bytes (49 ∷ []) refl) tt end))
+    cut_is_found version.One _ _
+    (keyword version.One 115 (codes "chema") (codes "2") (token.Word (codes "2") ∷ []) refl
+    (last_word version.One 50 [] refl))
 
-pub category_tokens : (name : List ℕ) → IsCategoryName name
-    → tokens_of (category_text name) ≡ Some (token.Word (codes "category") ∷ token.Word name ∷ [])
-category_tokens name n =
-    cut_is_found _ _ (keyword 99 (codes "ategory") name (token.Word name ∷ []) refl (last_name name n))
+pub category_tokens : (name : List ℕ) (number : Bool) → IsCategoryName name
+    → tokens_of version.Two (category_text name number)
+    ≡ Some (token.Word (codes "category") ∷ token.Word name ∷ kind_tokens number)
+category_tokens name number n =
+    cut_is_found version.Two _ _
+    (keyword version.Two 99 (codes "ategory") (name ++ kind_text number) (token.Word name ∷ kind_tokens number) refl
+    (kind_cut name number n))
 
 module _ (g : Graph) (h : IsHierarchy g) where
   pub edge_tokens : (e : Edge) → IsCategory g e.child → IsCategory g e.parent →
-      tokens_of (edge_text g e) ≡ Some
+      tokens_of version.Two (edge_text g e) ≡ Some
       (token.Word (codes "edge") ∷ token.Word (name_of_category g e.child) ∷ token.Word
       (name_of_category g e.parent) ∷ [])
   edge_tokens e l m =
-      let parent = last_name (name_of_category g e.parent) (name_is g h e.parent m) in
-      let child : IsCut (name_of_category g e.child ++ 32 ∷ name_of_category g e.parent)
+      let parent = last_name version.Two (name_of_category g e.parent) (name_is g h e.parent m) in
+      let child : IsCut version.Two (name_of_category g e.child ++ 32 ∷ name_of_category g e.parent)
       (token.Word (name_of_category g e.child) ∷ token.Word (name_of_category g e.parent) ∷ []) =
       cut_word (name_is_word (name_of_category g e.child) (name_is g h e.child l)) refl (blank parent) in
-      cut_is_found _ _ (keyword 101 (codes "dge") (name_of_category g e.child ++ 32 ∷ name_of_category g e.parent)
+      cut_is_found version.Two _ _
+      (keyword version.Two 101 (codes "dge") (name_of_category g e.child ++ 32 ∷ name_of_category g e.parent)
       (token.Word (name_of_category g e.child) ∷ token.Word (name_of_category g e.parent) ∷ []) refl child)
 
   pub constraint_tokens : (c : Constraint) → IsCategory g c.root → IsFormulaAt g c.root c.formula →
-      tokens_of (constraint_text g c) ≡ Some
+      tokens_of version.Two (constraint_text g c) ≡ Some
       (token.Word (codes "constraint") ∷ token.Word (name_of_category g c.root) ∷ token.Mark mark.Colon ∷ spelt g c.root
       c.formula)
   constraint_tokens c l v =
       let name = name_of_category g c.root in
       let text = formula_text g c.root c.formula in
-      let cut : IsCut text (spelt g c.root c.formula) =
+      let cut : IsCut version.Two text (spelt g c.root c.formula) =
       rw (append-nil text, append-nil (spelt g c.root c.formula)) at
       (text_is_cut g h c.root l c.formula v [] [] tt end) in
-      let rest : IsCut (name ++ 58 ∷ 32 ∷ text) (token.Word name ∷ token.Mark mark.Colon ∷ spelt g c.root c.formula) =
-      cut_word (name_is_word name (name_is g h c.root l)) refl (marked mark.Colon (blank cut)) in
-      cut_is_found _ _ (keyword 99 (codes "onstraint") (name ++ 58 ∷ 32 ∷ text)
+      let rest : IsCut version.Two (name ++ 58 ∷ 32 ∷ text)
+      (token.Word name ∷ token.Mark mark.Colon ∷ spelt g c.root c.formula) =
+      cut_word (name_is_word name (name_is g h c.root l)) refl (marked mark.Colon tt tt (blank cut)) in
+      cut_is_found version.Two _ _
+      (keyword version.Two 99 (codes "onstraint") (name ++ 58 ∷ 32 ∷ text)
       (token.Word name ∷ token.Mark mark.Colon ∷ spelt g c.root c.formula) refl rest)
 
 -- ---- bytes
 
 pub version_plain : IsPlain version_text
-version_plain = ascii_plain (codes "schema 1") refl
+version_plain = ascii_plain (codes "schema 2") refl
 
-pub category_plain : (name : List ℕ) → IsCategoryName name → IsPlain (category_text name)
-category_plain name n = plain-append (codes "category ") name (ascii_plain (codes "category ") refl) (name_plain name n)
+kind_plain : (number : Bool) → IsPlain (kind_text number)
+kind_plain true = ascii_plain (codes " number") refl
+kind_plain false = ascii_plain [] refl
+
+pub category_plain : (name : List ℕ) (number : Bool) → IsCategoryName name → IsPlain (category_text name number)
+category_plain name number n =
+    plain-append (codes "category ") (name ++ kind_text number) (ascii_plain (codes "category ") refl)
+    (plain-append name (kind_text number) (name_plain name n) (kind_plain number))
 
 pub edge_plain : (g : Graph) → IsHierarchy g → (e : Edge) → IsCategory g e.child → IsCategory g e.parent
     → IsPlain (edge_text g e)
@@ -111,9 +143,9 @@ pub version_speaks : is_quiet version_text ≡ false
 unfolding is_quiet
 version_speaks = refl
 
-pub category_speaks : (name : List ℕ) → is_quiet (category_text name) ≡ false
+pub category_speaks : (name : List ℕ) (number : Bool) → is_quiet (category_text name number) ≡ false
 unfolding is_quiet
-category_speaks name = refl
+category_speaks name number = refl
 
 pub edge_speaks : (g : Graph) (e : Edge) → is_quiet (edge_text g e) ≡ false
 unfolding is_quiet

@@ -6,7 +6,7 @@ use Rattle.std.specs.Prelude.{Ok, slice_index}
 use Rattle.std.specs.List.{list_any}
 use Rattle.olap_grammar.specs.CuttingMachine.{tokens_of}
 use Rattle.olap_grammar.specs.declared.tokens.Token.{Token}
-use Rattle.olap_schema.specs.Judging.{Above, line_read, lines_on, tokens_read}
+use Rattle.olap_schema.specs.Judging.{Above, line_read, lines_on, tokens_read, version_at}
 use Rattle.olap_schema.specs.Lines.{chomped, in_front, is_control, is_quiet, lines_of}
 use Rattle.olap_schema.specs.Printing.{text_of_lines}
 use Rattle.olap_schema.proofs.BackBytes.{IsPlain, not_bad}
@@ -54,14 +54,14 @@ chomped_stays line p = rw (no_cr_at line (length line - 1) p.plain) refl
 
 -- a line that says something is read by its tokens
 pub line_says : (a : Above) (n : ℕ) (line : List ℕ) (ts : List Token) → IsPlain line → is_quiet line ≡ false
-    → tokens_of line ≡ Some ts →
+    → tokens_of (version_at a) line ≡ Some ts →
     line_read a n line ≡ tokens_read a n (Some ts)
 unfolding line_read
 line_says a n line ts p q e = rw (not_bad line p, q, e) refl
 
 -- the lines from such a line on
 pub goes_on : (a b : Above) (n : ℕ) (line : List ℕ) (ts : List Token) (lines : List (List ℕ)) → IsPlain line
-    → is_quiet line ≡ false → tokens_of line ≡ Some ts →
+    → is_quiet line ≡ false → tokens_of (version_at a) line ≡ Some ts →
     tokens_read a (n + 1) (Some ts) ≡ Ok b → lines_on (Ok a) n (line ∷ lines) ≡ lines_on (Ok b) (n + 1) lines
 goes_on a b n line ts lines p q e r =
     ap (λ l. lines_on (line_read a (n + 1) l) (n + 1) lines) (chomped_stays line p)

@@ -1,5 +1,5 @@
 -- Printed formulas and lines are plain: UTF-8 without control characters.
-use Rattle.std.proofs.Common.{◌≡◌, ◌==◌, ◌&&◌, ℕ, Bool, true, false, cond, List, [], ◌∷◌, ◌++◌, All, refl, arith, codes, nat_lt, nat_le, lit<}
+use Rattle.std.proofs.Common.{◌≡◌, ◌==◌, ◌&&◌, ℕ, ℤ, pos, negsuc, suc, decimal, Bool, true, false, cond, List, [], ◌∷◌, ◌++◌, All, refl, arith, codes, nat_lt, nat_le, lit<}
 use Rattle.std.specs.List.{list_all}
 use Rattle.std.proofs.lemmas.List.Elements.{All-head, All-tail, Contains-append_left, Contains-append_right}
 use Rattle.olap_base.specs.Graph.{Graph, IsCategory, IsCategoryName, IsHierarchy, IsLetterOrDigit}
@@ -7,7 +7,12 @@ use Rattle.olap_graph.specs.Lookups.{name_of_category}
 use Rattle.olap_ast.specs.Formula as Meaning
 use Rattle.olap_ast.specs.Formula.{Formula, Terms, equalities, equalities_of_terms}
 use Rattle.olap_ast.specs.Valid.{AreFormulasAt, IsFormulaAt}
-use Rattle.olap_grammar.specs.Cutting.{joint_bytes}
+use Rattle.std.specs.Char.{is_ascii_digit}
+use Rattle.std.specs.Str.{all_ascii_digits}
+use Rattle.olap_numerals.specs.Comparing.{Op}
+use Rattle.olap_numerals.specs.Numerals.{IsSmall, canonical}
+use Rattle.olap_grammar.specs.Cutting.{joint_bytes, mark_bytes}
+use Rattle.olap_grammar.specs.Grammar.{comparing}
 use Rattle.olap_grammar.specs.Quoting.{escaped, quoted}
 use Rattle.olap_grammar.specs.declared.tokens.Joint.{Joint}
 use Rattle.olap_grammar.specs.declared.tokens.Joint.TheVariants as joint
@@ -16,6 +21,7 @@ use Rattle.olap_schema.specs.PrintingLaws.{AreTexts}
 use Rattle.olap_schema.proofs.BackBytes.{IsPlain, escaped_plain, from_not_bad, plain-append, plain-cons, plain-nil}
 use Rattle.olap_schema.proofs.PrintCut.{AreCategories, steps_are}
 use Rattle.olap_schema.proofs.PrintNames.{letters, name_is}
+use Rattle.olap_schema.proofs.PrintNumerals.{both_true, digits_behind_dash, digits_in_decimal}
 
 -- a printable ASCII character
 abbrev pub is_printable : ℕ → Bool
@@ -57,6 +63,24 @@ byte b bs e p = go (nat_lt b 127) (nat_le 32 b) refl refl e
     go true true m n r = plain-cons b bs (grind arith) (grind arith) p
     go true false m n r = absurd (cc)
     go false v m n r = absurd (cc)
+
+op_plain : (op : Op) → IsPlain (mark_bytes (comparing op))
+op_plain Op.Equal = ascii_plain (codes "=") refl
+op_plain Op.Less = ascii_plain (codes "<") refl
+op_plain Op.AtMost = ascii_plain (codes "<=") refl
+
+digits_plain : (ds : List ℕ) → all_ascii_digits ds ≡ true → IsPlain ds
+digits_plain [] e = plain-nil
+digits_plain (b ∷ ds) e =
+    let d = both_true (is_ascii_digit b) (all_ascii_digits ds) e in
+    let t = d.0 in
+    plain-cons b ds (grind arith) (grind arith) (digits_plain ds d.1)
+
+-- a canonical numeral is plain
+numeral_plain : (z : ℤ) → IsSmall z → IsPlain (canonical z)
+numeral_plain (pos n) small = digits_plain (decimal n) (digits_in_decimal n small).digits
+numeral_plain (negsuc n) small =
+    byte 45 (decimal (suc n)) refl (digits_plain (decimal (suc n)) (digits_behind_dash n small).digits)
 
 quoted_plain : (k : List ℕ) → IsPlain k → IsPlain (quoted k)
 quoted_plain k p =
@@ -104,6 +128,14 @@ compared w k p q =
     plain-append w (32 ∷ 61 ∷ 32 ∷ quoted k) p
     (byte 32 (61 ∷ 32 ∷ quoted k) refl (byte 61 (32 ∷ quoted k) refl (byte 32 (quoted k) refl (quoted_plain k q))))
 
+numbered : (w : List ℕ) (op : Op) (z : ℤ) → IsPlain w → IsSmall z
+    → IsPlain (w ++ 32 ∷ (mark_bytes (comparing op) ++ 32 ∷ canonical z))
+numbered w op z p small =
+    plain-append w (32 ∷ (mark_bytes (comparing op) ++ 32 ∷ canonical z)) p
+    (byte 32 (mark_bytes (comparing op) ++ 32 ∷ canonical z) refl
+    (plain-append (mark_bytes (comparing op)) (32 ∷ canonical z) (op_plain op)
+    (byte 32 (canonical z) refl (numeral_plain z small))))
+
 module _ (g : Graph) (h : IsHierarchy g) (r : ℕ) (l : IsCategory g r) where
   both : (j : Joint) (f k : Formula) → IsPlain (formula_text g r f) → IsPlain (formula_text g r k)
       → IsPlain (joined_text j (formula_text g r f) (formula_text g r k))
@@ -120,6 +152,8 @@ module _ (g : Graph) (h : IsHierarchy g) (r : ℕ) (l : IsCategory g r) where
     formula_plain (Meaning.Formula.Equals d k) v t =
         compared (compared_word g r d) k (compared_plain g h r d l v.0)
         (from_not_bad k (t (record { category = d; text = k }) (0, lit< tt, refl)))
+    formula_plain (Meaning.Formula.Compare d op n) v t =
+        numbered (compared_word g r d) op n (compared_plain g h r d l v.0) v.2
     formula_plain (Meaning.Formula.Not f) v t = byte 33 (formula_text g r f) refl (formula_plain f v t)
     formula_plain (Meaning.Formula.And f k) v t =
         both joint.And f k (formula_plain f v.0 (left_texts (equalities f) (equalities k) t))

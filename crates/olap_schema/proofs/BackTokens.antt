@@ -1,101 +1,163 @@
 -- The checks of a printed formula's tokens that look at no graph.
 --     nodes_are       the tokens have as many nodes as the formula
 --     few_open        no more brackets are open than the formula is deep
---     none_is_long    no name and no constant is too long
-use Rattle.std.proofs.Common.{◌≡◌, ◌≤◌, ◌+◌, ℕ, true, false, cond, List, [], ◌∷◌, ◌++◌, max, refl, append_assoc, append-nil, arith, ap, ◌∙◌, codes, nat_lt}
-use Rattle.std.proofs.lemmas.List.Sums.{sum_by-append}
+use Rattle.std.proofs.Common.{◌≡◌, ◌≤◌, ◌+◌, ℕ, ℤ, pos, negsuc, true, false, List, [], ◌∷◌, ◌++◌, max, refl, append_assoc, append-nil, arith, ap, sym, ◌∙◌, codes, nat_lt, zero-add}
 use Rattle.olap_base.specs.Graph.{Graph}
 use Rattle.olap_ast.specs.Formula as Meaning
 use Rattle.olap_ast.specs.Formula.{Formula, Terms}
 use Rattle.olap_ast.specs.Valid.{depth_of, depth_of_terms, node_count, node_count_of_terms}
 use Rattle.olap_base.specs.Limits.{most_depth}
+use Rattle.olap_numerals.specs.Comparing.{Op}
 use Rattle.olap_grammar.specs.Brackets.{opens_over}
+use Rattle.olap_grammar.specs.Grammar.{comparing}
+use Rattle.olap_grammar.specs.Nodes.{compares, is_node, nodes_behind, nodes_of}
 use Rattle.olap_grammar.specs.declared.tokens.Token.{Token}
 use Rattle.olap_grammar.specs.declared.tokens.Token.TheVariants as token
 use Rattle.olap_grammar.specs.declared.tokens.Mark.TheVariants as mark
 use Rattle.olap_grammar.specs.declared.tokens.Joint.{Joint}
 use Rattle.olap_grammar.specs.declared.tokens.Joint.TheVariants as joint
-use Rattle.olap_schema.specs.Tokens.{is_node, token_nodes}
-use Rattle.olap_schema.proofs.PrintTokens.{joined_tokens, spelt, spelt_list, spelt_rest}
+use Rattle.olap_grammar.specs.declared.tokens.Version.TheVariants as version
+use Rattle.olap_schema.specs.Printing.{atom_word, compared_word}
+use Rattle.olap_schema.proofs.PrintTokens.{joined_tokens, number_token, spelt, spelt_list, spelt_rest}
 
 -- ---- nodes
 
-nodes-append : (ts us : List Token) → token_nodes (ts ++ us) ≡ token_nodes ts + token_nodes us
-nodes-append ts us = sum_by-append (λ t. cond (is_node t) 1 0) ts us
+-- these tokens have so many nodes, whatever stands behind them
+abbrev HasNodes : ℕ → List Token → Type 0
+HasNodes n ts = (us : List Token) → nodes_of version.Two (ts ++ us) ≡ n + nodes_of version.Two us
 
-other_token : (t : Token) (ts : List Token) → is_node t ≡ false → token_nodes (t ∷ ts) ≡ token_nodes ts
-other_token t ts e =
-    let one : token_nodes (t ∷ []) ≡ 0 = rw e refl in let s = nodes-append (t ∷ []) ts in omega (arith, one, s)
+other_token : (t : Token) (us : List Token) → is_node t ≡ false → compares version.Two t ≡ false
+    → nodes_of version.Two (t ∷ us) ≡ nodes_of version.Two us
+unfolding nodes_behind
+other_token t us e c = rw (e, c) (zero-add (nodes_of version.Two us))
 
-node_token : (t : Token) (ts : List Token) → is_node t ≡ true → token_nodes (t ∷ ts) ≡ 1 + token_nodes ts
-node_token t ts e =
-    let one : token_nodes (t ∷ []) ≡ 1 = rw e refl in let s = nodes-append (t ∷ []) ts in omega (arith, one, s)
+node_token : (t : Token) (us : List Token) → is_node t ≡ true → compares version.Two t ≡ false
+    → nodes_of version.Two (t ∷ us) ≡ 1 + nodes_of version.Two us
+unfolding nodes_behind
+node_token t us e c = rw (e, c) refl
 
-joined_nodes : (j : Joint) (l r : List Token) → token_nodes (joined_tokens j l r) ≡ 1 + token_nodes l + token_nodes r
-joined_nodes j l r =
-    let a = other_token (token.Mark mark.Open)
-    (l ++ token.Mark (mark.Joint j) ∷ (r ++ token.Mark mark.Close ∷ [])) refl in
-    let b = nodes-append l (token.Mark (mark.Joint j) ∷ (r ++ token.Mark mark.Close ∷ [])) in
-    let c = node_token (token.Mark (mark.Joint j)) (r ++ token.Mark mark.Close ∷ []) refl in
-    let d = nodes-append r (token.Mark mark.Close ∷ []) in
-    let e = other_token (token.Mark mark.Close) [] refl in
-    let z : token_nodes [] ≡ 0 = refl in
-    omega (arith, a, b, c, d, e, z)
+word_nodes : (w : List ℕ) → HasNodes 1 (token.Word w ∷ [])
+word_nodes w us = node_token (token.Word w) us refl refl
 
-both_nodes : (j : Joint) (l r : List Token) (m n : ℕ) → token_nodes l ≡ m → token_nodes r ≡ n
-    → token_nodes (joined_tokens j l r) ≡ 1 + m + n
-both_nodes j l r m n d e = let s = joined_nodes j l r in omega (arith, s, d, e)
+-- what stands right after a mark that compares is no node
+mark_nodes : (op : Op) (us : List Token)
+    → nodes_of version.Two (token.Mark (comparing op) ∷ us) ≡ nodes_behind version.Two true us
+unfolding nodes_behind
+mark_nodes Op.Equal us = zero-add (nodes_behind version.Two true us)
+mark_nodes Op.Less us = zero-add (nodes_behind version.Two true us)
+mark_nodes Op.AtMost us = zero-add (nodes_behind version.Two true us)
 
-bracketed_nodes : (ts : List Token)
-    → token_nodes (token.Mark mark.Open ∷ (ts ++ token.Mark mark.Close ∷ [])) ≡ token_nodes ts
-bracketed_nodes ts =
-    let a = other_token (token.Mark mark.Open) (ts ++ token.Mark mark.Close ∷ []) refl in
-    let b = nodes-append ts (token.Mark mark.Close ∷ []) in
-    let c = other_token (token.Mark mark.Close) [] refl in
-    let z : token_nodes [] ≡ 0 = refl in
-    omega (arith, a, b, c, z)
+text_nodes : (k : List ℕ) (us : List Token)
+    → nodes_behind version.Two true (token.Quoted k ∷ us) ≡ nodes_of version.Two us
+unfolding nodes_behind
+text_nodes k us = zero-add (nodes_of version.Two us)
 
-part_nodes : (ts us : List Token) (m n : ℕ) → token_nodes ts ≡ m → token_nodes us ≡ n → token_nodes (ts ++ us) ≡ m + n
-part_nodes ts us m n d e = rw (nodes-append ts us, d, e) refl
+number_nodes : (z : ℤ) (us : List Token) → nodes_behind version.Two true (number_token z ∷ us) ≡ nodes_of version.Two us
+unfolding nodes_behind
+number_nodes (pos n) us = zero-add (nodes_of version.Two us)
+number_nodes (negsuc n) us = zero-add (nodes_of version.Two us)
+
+equal_nodes : (w k : List ℕ) → HasNodes 1 (token.Word w ∷ token.Mark mark.Equal ∷ token.Quoted k ∷ [])
+equal_nodes w k us =
+    word_nodes w (token.Mark mark.Equal ∷ token.Quoted k ∷ us)
+    ∙ ap (λ n. 1 + n) (mark_nodes Op.Equal (token.Quoted k ∷ us) ∙ text_nodes k us)
+
+compared_nodes : (w : List ℕ) (op : Op) (z : ℤ)
+    → HasNodes 1 (token.Word w ∷ token.Mark (comparing op) ∷ number_token z ∷ [])
+compared_nodes w op z us =
+    word_nodes w (token.Mark (comparing op) ∷ number_token z ∷ us)
+    ∙ ap (λ n. 1 + n) (mark_nodes op (number_token z ∷ us) ∙ number_nodes z us)
+
+joined_nodes : (j : Joint) (m n : ℕ) (l r : List Token) → HasNodes m l → HasNodes n r
+    → HasNodes (1 + m + n) (joined_tokens j l r)
+joined_nodes j m n l r p q us =
+    let a = other_token (token.Mark mark.Open) (l ++ token.Mark (mark.Joint j) ∷ (r ++ token.Mark mark.Close ∷ us)) refl
+    refl in
+    let b = p (token.Mark (mark.Joint j) ∷ (r ++ token.Mark mark.Close ∷ us)) in
+    let c = node_token (token.Mark (mark.Joint j)) (r ++ token.Mark mark.Close ∷ us) refl refl in
+    let d = q (token.Mark mark.Close ∷ us) in
+    let e = other_token (token.Mark mark.Close) us refl refl in
+    let all : nodes_of version.Two
+    (token.Mark mark.Open ∷ (l ++ token.Mark (mark.Joint j) ∷ (r ++ token.Mark mark.Close ∷ us)))
+    ≡ 1 + m + n + nodes_of version.Two us =
+    omega (arith, a, b, c, d, e) in
+    simp append_assoc all
+
+not_nodes : (n : ℕ) (ts : List Token) → HasNodes n ts → HasNodes (1 + n) (token.Mark mark.Not ∷ ts)
+not_nodes n ts p us =
+    let a = node_token (token.Mark mark.Not) (ts ++ us) refl refl in
+    let b = p us in
+    omega (arith, a, b)
+
+listed_nodes : (n : ℕ) (ts : List Token) → HasNodes n ts
+    → HasNodes (1 + n) (token.Word (codes "one") ∷ token.Mark mark.Open ∷ (ts ++ token.Mark mark.Close ∷ []))
+listed_nodes n ts p us =
+    let a = word_nodes (codes "one") (token.Mark mark.Open ∷ (ts ++ token.Mark mark.Close ∷ us)) in
+    let b = other_token (token.Mark mark.Open) (ts ++ token.Mark mark.Close ∷ us) refl refl in
+    let c = p (token.Mark mark.Close ∷ us) in
+    let d = other_token (token.Mark mark.Close) us refl refl in
+    let all : nodes_of version.Two
+    (token.Word (codes "one") ∷ token.Mark mark.Open ∷ (ts ++ token.Mark mark.Close ∷ us))
+    ≡ 1 + n + nodes_of version.Two us =
+    omega (arith, a, b, c, d) in
+    simp append_assoc all
+
+part_nodes : (m n : ℕ) (ts us : List Token) → HasNodes m ts → HasNodes n us → HasNodes (m + n) (ts ++ us)
+part_nodes m n ts us p q vs =
+    let a = p (us ++ vs) in
+    let b = q vs in
+    let all : nodes_of version.Two (ts ++ (us ++ vs)) ≡ m + n + nodes_of version.Two vs = omega (arith, a, b) in
+    simp append_assoc all
+
+comma_nodes : (n : ℕ) (ts : List Token) → HasNodes n ts → HasNodes n (token.Mark mark.Comma ∷ ts)
+comma_nodes n ts p us = other_token (token.Mark mark.Comma) (ts ++ us) refl refl ∙ p us
+
+no_nodes : HasNodes 0 []
+no_nodes us = sym (zero-add (nodes_of version.Two us))
 
 module _ (g : Graph) (r : ℕ) where
   mutual
-    pub nodes_are : (f : Formula) → token_nodes (spelt g r f) ≡ node_count f
-    nodes_are Meaning.Formula.Truth = refl
-    nodes_are Meaning.Formula.Falsity = refl
-    nodes_are (Meaning.Formula.Path cs) = refl
-    nodes_are (Meaning.Formula.Reach d) = refl
-    nodes_are (Meaning.Formula.Via d e) = refl
-    nodes_are (Meaning.Formula.Equals d k) = refl
-    nodes_are (Meaning.Formula.Not f) = node_token (token.Mark mark.Not) (spelt g r f) refl
-        ∙ ap (λ n. 1 + n) (nodes_are f)
-    nodes_are (Meaning.Formula.And f h) =
-        both_nodes joint.And (spelt g r f) (spelt g r h) (node_count f) (node_count h) (nodes_are f) (nodes_are h)
-    nodes_are (Meaning.Formula.Or f h) =
-        both_nodes joint.Or (spelt g r f) (spelt g r h) (node_count f) (node_count h) (nodes_are f) (nodes_are h)
-    nodes_are (Meaning.Formula.Implies f h) =
-        both_nodes joint.Implies (spelt g r f) (spelt g r h) (node_count f) (node_count h) (nodes_are f) (nodes_are h)
-    nodes_are (Meaning.Formula.Iff f h) =
-        both_nodes joint.Iff (spelt g r f) (spelt g r h) (node_count f) (node_count h) (nodes_are f) (nodes_are h)
-    nodes_are (Meaning.Formula.Xor f h) =
-        both_nodes joint.Xor (spelt g r f) (spelt g r h) (node_count f) (node_count h) (nodes_are f) (nodes_are h)
-    nodes_are (Meaning.Formula.One fs) =
-        node_token (token.Word (codes "one"))
-        (token.Mark mark.Open ∷ (spelt_list g r fs ++ token.Mark mark.Close ∷ [])) refl
-        ∙ ap (λ n. 1 + n) (bracketed_nodes (spelt_list g r fs) ∙ list_nodes fs)
+    has_nodes : (f : Formula) → HasNodes (node_count f) (spelt g r f)
+    has_nodes Meaning.Formula.Truth = word_nodes (codes "true")
+    has_nodes Meaning.Formula.Falsity = word_nodes (codes "false")
+    has_nodes (Meaning.Formula.Path cs) = word_nodes (atom_word g r 95 cs)
+    has_nodes (Meaning.Formula.Reach d) = word_nodes (atom_word g r 46 (d ∷ []))
+    has_nodes (Meaning.Formula.Via d e) = word_nodes (atom_word g r 46 (d ∷ e ∷ []))
+    has_nodes (Meaning.Formula.Equals d k) = equal_nodes (compared_word g r d) k
+    has_nodes (Meaning.Formula.Compare d op n) = compared_nodes (compared_word g r d) op n
+    has_nodes (Meaning.Formula.Not f) = not_nodes (node_count f) (spelt g r f) (has_nodes f)
+    has_nodes (Meaning.Formula.And f h) =
+        joined_nodes joint.And (node_count f) (node_count h) (spelt g r f) (spelt g r h) (has_nodes f) (has_nodes h)
+    has_nodes (Meaning.Formula.Or f h) =
+        joined_nodes joint.Or (node_count f) (node_count h) (spelt g r f) (spelt g r h) (has_nodes f) (has_nodes h)
+    has_nodes (Meaning.Formula.Implies f h) =
+        joined_nodes joint.Implies (node_count f) (node_count h) (spelt g r f) (spelt g r h) (has_nodes f) (has_nodes h)
+    has_nodes (Meaning.Formula.Iff f h) =
+        joined_nodes joint.Iff (node_count f) (node_count h) (spelt g r f) (spelt g r h) (has_nodes f) (has_nodes h)
+    has_nodes (Meaning.Formula.Xor f h) =
+        joined_nodes joint.Xor (node_count f) (node_count h) (spelt g r f) (spelt g r h) (has_nodes f) (has_nodes h)
+    has_nodes (Meaning.Formula.One fs) = listed_nodes (node_count_of_terms fs) (spelt_list g r fs) (list_nodes fs)
 
-    list_nodes : (fs : Terms) → token_nodes (spelt_list g r fs) ≡ node_count_of_terms fs
-    list_nodes Meaning.Terms.End = refl
+    list_nodes : (fs : Terms) → HasNodes (node_count_of_terms fs) (spelt_list g r fs)
+    list_nodes Meaning.Terms.End = no_nodes
     list_nodes (Meaning.Terms.More f fs) =
-        part_nodes (spelt g r f) (spelt_rest g r fs) (node_count f) (node_count_of_terms fs) (nodes_are f)
+        part_nodes (node_count f) (node_count_of_terms fs) (spelt g r f) (spelt_rest g r fs) (has_nodes f)
         (rest_nodes fs)
 
-    rest_nodes : (fs : Terms) → token_nodes (spelt_rest g r fs) ≡ node_count_of_terms fs
-    rest_nodes Meaning.Terms.End = refl
+    rest_nodes : (fs : Terms) → HasNodes (node_count_of_terms fs) (spelt_rest g r fs)
+    rest_nodes Meaning.Terms.End = no_nodes
     rest_nodes (Meaning.Terms.More f fs) =
-        other_token (token.Mark mark.Comma) (spelt g r f ++ spelt_rest g r fs) refl
-        ∙ part_nodes (spelt g r f) (spelt_rest g r fs) (node_count f) (node_count_of_terms fs) (nodes_are f)
-        (rest_nodes fs)
+        comma_nodes (node_count f + node_count_of_terms fs) (spelt g r f ++ spelt_rest g r fs)
+        (part_nodes (node_count f) (node_count_of_terms fs) (spelt g r f) (spelt_rest g r fs) (has_nodes f)
+        (rest_nodes fs))
+
+  -- the tokens have as many nodes as the formula
+  pub nodes_are : (f : Formula) → nodes_of version.Two (spelt g r f) ≡ node_count f
+  unfolding nodes_behind
+  nodes_are f =
+      let e = has_nodes f [] in
+      let none : node_count f + 0 ≡ node_count f = omega arith in
+      (rw (append-nil (spelt g r f)) at e) ∙ none
 
 -- ---- brackets
 
@@ -109,9 +171,12 @@ shifted o c (token.Mark mark.Open ∷ ts) =
 shifted o c (token.Mark mark.Close ∷ ts) = shifted o (c + 1) ts
 shifted o c (token.Word w ∷ ts) = shifted o c ts
 shifted o c (token.Quoted k ∷ ts) = shifted o c ts
+shifted o c (token.Signed w ∷ ts) = shifted o c ts
 shifted o c (token.Mark mark.Comma ∷ ts) = shifted o c ts
 shifted o c (token.Mark mark.Colon ∷ ts) = shifted o c ts
 shifted o c (token.Mark mark.Equal ∷ ts) = shifted o c ts
+shifted o c (token.Mark mark.Less ∷ ts) = shifted o c ts
+shifted o c (token.Mark mark.AtMost ∷ ts) = shifted o c ts
 shifted o c (token.Mark mark.Not ∷ ts) = shifted o c ts
 shifted o c (token.Mark (mark.Joint j) ∷ ts) = shifted o c ts
 
@@ -151,6 +216,24 @@ equal_on : (w k : List ℕ) (o c : ℕ) (us : List Token)
 unfolding opens_over
 equal_on w k o c us = refl
 
+mark_on : (op : Op) (o c : ℕ) (us : List Token)
+    → opens_over o c (token.Mark (comparing op) ∷ us) ≡ opens_over o c us
+unfolding opens_over
+mark_on Op.Equal o c us = refl
+mark_on Op.Less o c us = refl
+mark_on Op.AtMost o c us = refl
+
+number_on : (z : ℤ) (o c : ℕ) (us : List Token) → opens_over o c (number_token z ∷ us) ≡ opens_over o c us
+unfolding opens_over
+number_on (pos n) o c us = refl
+number_on (negsuc n) o c us = refl
+
+compared_on : (w : List ℕ) (op : Op) (z : ℤ) (o c : ℕ) (us : List Token)
+    → opens_over o c (token.Word w ∷ token.Mark (comparing op) ∷ number_token z ∷ us) ≡ opens_over o c us
+compared_on w op z o c us =
+    word_on w o c (token.Mark (comparing op) ∷ number_token z ∷ us) ∙ mark_on op o c (number_token z ∷ us)
+    ∙ number_on z o c us
+
 not_on : (o c : ℕ) (us : List Token) → opens_over o c (token.Mark mark.Not ∷ us) ≡ opens_over o c us
 unfolding opens_over
 not_on o c us = refl
@@ -168,6 +251,7 @@ module _ (g : Graph) (r : ℕ) where
     balances (Meaning.Formula.Reach d) o c us b = word_on _ o c us
     balances (Meaning.Formula.Via d e) o c us b = word_on _ o c us
     balances (Meaning.Formula.Equals d k) o c us b = equal_on _ _ o c us
+    balances (Meaning.Formula.Compare d op n) o c us b = compared_on _ op n o c us
     balances (Meaning.Formula.Not f) o c us b = not_on o c (spelt g r f ++ us) ∙ balances f o c us (omega arith)
     balances (Meaning.Formula.And f h) o c us b =
         both_balance joint.And (depth_of f) (depth_of h) (spelt g r f) (spelt g r h) (balances f) (balances h) o c us b

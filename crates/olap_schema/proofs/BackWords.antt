@@ -1,7 +1,7 @@
 -- Printed words mean their atoms.
 --     pieces         the pieces of an atom's word are its names
 --     path_means     and so on: what a word says is the atom
-use Rattle.std.proofs.Common.{◌≡◌, ◌≢◌, ◌==◌, ℕ, Bool, true, false, cond, List, [], ◌∷◌, ◌++◌, Some, All, length, map, refl, append-nil, arith, ap, sym, ◌∙◌, codes, nat_lt, lit≤}
+use Rattle.std.proofs.Common.{◌≡◌, ◌≢◌, ◌==◌, ℕ, ℤ, Bool, true, false, cond, List, [], ◌∷◌, ◌++◌, Some, All, length, map, refl, append-nil, arith, ap, sym, ◌∙◌, codes, nat_lt, lit≤}
 use Rattle.std.specs.List.{list_all}
 use Rattle.std.specs.Str.{bytes_eq}
 use Rattle.std.proofs.lemmas.Bool.{eqb-true}
@@ -9,12 +9,18 @@ use Rattle.std.proofs.lemmas.List.Elements.{All-append, All-cons, All-weaker}
 use Rattle.std.proofs.lemmas.List.Splits.{slice_split_at, slice_split_none}
 use Rattle.std.proofs.lemmas.Slice.Eq.{bytes_eq-Decides}
 use Rattle.olap_base.specs.Reaching.{is_category_name}
-use Rattle.olap_base.specs.Graph.{Graph, IsCategory, IsHierarchy, IsLetterOrDigit}
-use Rattle.olap_graph.specs.Lookups.{name_of_category}
+use Rattle.olap_base.specs.Graph.{Graph, IsCategory, IsHierarchy, IsLetterOrDigit, is_number}
+use Rattle.olap_graph.specs.Lookups.{category_named, name_of_category}
 use Rattle.olap_ast.specs.Formula as Meaning
-use Rattle.olap_grammar.specs.Words.{equal_of, equality_of, id_of, pieces_of, plain_of}
+use Rattle.std.specs.Prelude.{◌-◌, slice_index_or}
+use Rattle.olap_numerals.specs.Comparing.{Op}
+use Rattle.olap_numerals.specs.Numerals.{IsSmall, canonical}
+use Rattle.olap_numerals.proofs.NumeralLemmas.{numbers_read_back}
+use Rattle.olap_grammar.specs.Words.{compared_of, comparison_of, equal_of, equality_of, id_of, pieces_of, plain_of}
+use Rattle.olap_schema.specs.Atoms.{compares_numbers, has_numbers}
 use Rattle.olap_schema.specs.Printing.{atom_word, compared_word, names_after}
 use Rattle.olap_schema.proofs.PrintCut.{AreCategories}
+use Rattle.olap_schema.proofs.PrintNumerals.{numeral_is_number}
 use Rattle.olap_schema.proofs.PrintNames.{is_name, letters, name_is, named, no_mark, no_underscore}
 
 same_byte : (c : ℕ) → (c == c) ≡ true
@@ -173,3 +179,30 @@ module _ (g : Graph) (h : IsHierarchy g) where
           (Meaning.Formula.Equals d k)
       go true e = let s : d ≡ r = eqb-true d r e in rw (name_whole 46 r (no_46 r l), is_name g h r l, id_is r l, s) refl
       go false e = rw (reach_pieces r (d ∷ []) l (m, tt), is_name g h r l, is_name g h d m, id_is d m) refl
+
+  pub compares_means : (r d : ℕ) (op : Op) (n : ℤ) → IsCategory g r → IsCategory g d → IsSmall n
+      → comparison_of g (compared_word g r d) op (canonical n) ≡ Some (Meaning.Formula.Compare d op n)
+  unfolding comparison_of
+  compares_means r d op n l m small = rw (numeral_is_number n small, numbers_read_back n small) (go (d == r) refl)
+    where
+      go : (b : Bool) → d == r ≡ b
+          → compared_of g op n (pieces_of 46 (cond b (name_of_category g r) (atom_word g r 46 (d ∷ [])))) ≡ Some
+          (Meaning.Formula.Compare d op n)
+      go true e = let s : d ≡ r = eqb-true d r e in rw (name_whole 46 r (no_46 r l), is_name g h r l, id_is r l, s) refl
+      go false e = rw (reach_pieces r (d ∷ []) l (m, tt), is_name g h r l, is_name g h d m, id_is d m) refl
+
+  -- the last of the names is that of a number category
+  abbrev last_has : List (List ℕ) → Bool
+  last_has names = has_numbers g (category_named g (slice_index_or names (length names - 1) []))
+
+  -- a comparison's word compares the names of its category
+  pub compared_is : (r d : ℕ) → IsCategory g r → IsCategory g d
+      → compares_numbers g (compared_word g r d) ≡ is_number g d
+  compared_is r d l m = go (d == r) refl
+    where
+      go : (b : Bool) → d == r ≡ b
+          → compares_numbers g (cond b (name_of_category g r) (atom_word g r 46 (d ∷ []))) ≡ is_number g d
+      go true e =
+          ap last_has (name_whole 46 r (no_46 r l)) ∙ ap (has_numbers g) (named g h r l)
+          ∙ ap (is_number g) (sym (eqb-true d r e))
+      go false e = ap last_has (reach_pieces r (d ∷ []) l (m, tt)) ∙ ap (has_numbers g) (named g h d m)

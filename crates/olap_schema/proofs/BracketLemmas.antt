@@ -64,9 +64,12 @@ found o c (token.Mark mark.Close ∷ ts) h =
     )
 found o c (token.Word w ∷ ts) h = passed o c (token.Word w) ts refl refl (found o c ts h)
 found o c (token.Quoted k ∷ ts) h = passed o c (token.Quoted k) ts refl refl (found o c ts h)
+found o c (token.Signed w ∷ ts) h = passed o c (token.Signed w) ts refl refl (found o c ts h)
 found o c (token.Mark mark.Comma ∷ ts) h = passed o c (token.Mark mark.Comma) ts refl refl (found o c ts h)
 found o c (token.Mark mark.Colon ∷ ts) h = passed o c (token.Mark mark.Colon) ts refl refl (found o c ts h)
 found o c (token.Mark mark.Equal ∷ ts) h = passed o c (token.Mark mark.Equal) ts refl refl (found o c ts h)
+found o c (token.Mark mark.Less ∷ ts) h = passed o c (token.Mark mark.Less) ts refl refl (found o c ts h)
+found o c (token.Mark mark.AtMost ∷ ts) h = passed o c (token.Mark mark.AtMost) ts refl refl (found o c ts h)
 found o c (token.Mark mark.Not ∷ ts) h = passed o c (token.Mark mark.Not) ts refl refl (found o c ts h)
 found o c (token.Mark (mark.Joint j) ∷ ts) h = passed o c (token.Mark (mark.Joint j)) ts refl refl (found o c ts h)
 
@@ -110,12 +113,17 @@ counted (suc k) o c (token.Mark mark.Close ∷ ts) l h =
     ))
 counted (suc k) o c (token.Word w ∷ ts) l h = counted k o c ts l (left k o c (token.Word w) ts refl refl h)
 counted (suc k) o c (token.Quoted x ∷ ts) l h = counted k o c ts l (left k o c (token.Quoted x) ts refl refl h)
+counted (suc k) o c (token.Signed w ∷ ts) l h = counted k o c ts l (left k o c (token.Signed w) ts refl refl h)
 counted (suc k) o c (token.Mark mark.Comma ∷ ts) l h =
     counted k o c ts l (left k o c (token.Mark mark.Comma) ts refl refl h)
 counted (suc k) o c (token.Mark mark.Colon ∷ ts) l h =
     counted k o c ts l (left k o c (token.Mark mark.Colon) ts refl refl h)
 counted (suc k) o c (token.Mark mark.Equal ∷ ts) l h =
     counted k o c ts l (left k o c (token.Mark mark.Equal) ts refl refl h)
+counted (suc k) o c (token.Mark mark.Less ∷ ts) l h =
+    counted k o c ts l (left k o c (token.Mark mark.Less) ts refl refl h)
+counted (suc k) o c (token.Mark mark.AtMost ∷ ts) l h =
+    counted k o c ts l (left k o c (token.Mark mark.AtMost) ts refl refl h)
 counted (suc k) o c (token.Mark mark.Not ∷ ts) l h =
     counted k o c ts l (left k o c (token.Mark mark.Not) ts refl refl h)
 counted (suc k) o c (token.Mark (mark.Joint j) ∷ ts) l h =

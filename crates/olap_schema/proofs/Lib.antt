@@ -1,5 +1,4 @@
 -- Lemmas.
-mod Counting
 pub mod PairCounting
 pub mod WithoutLemmas
 mod BracketLemmas
@@ -12,6 +11,7 @@ mod PrintLemmas
 mod StuckLemmas
 mod StepLemmas
 mod ValidNames
+mod NumberWords
 mod ValidAtoms
 mod ValidFormulas
 mod ValidTexts
@@ -19,16 +19,19 @@ mod ValidSteps
 mod ValidSchemas
 mod ValidQuestions
 mod PrintTokens
+mod PrintNumerals
 mod PrintNames
 mod PrintCut
 mod BackWords
 mod PrintFormula
 mod BackTokens
+mod BackTests
 mod BackAtoms
 mod BackBytes
 mod BackLines
 mod BackStatements
 mod BackLengths
+mod BackNumbers
 mod BackPlain
 mod BackGraph
 mod BackConstraints

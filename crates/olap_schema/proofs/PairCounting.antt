@@ -1,12 +1,15 @@
 -- There are no more distinct pairs where fewer atoms stand.
---     few_pairs    of atoms that all stand among others, no more than of those
+--     few_pairs      of atoms on names that all stand among others, no more than of those
+--     few_numbers    the same of atoms on numbers
 use Rattle.std.proofs.Common.{◌≡◌, ◌≤◌, Bool, true, false, cond, ◌||◌, List, [], ◌∷◌, ◌++◌, length, fold, refl, ap, sym, ◌∙◌}
 use Rattle.std.specs.Prelude.{Contains}
 use Rattle.std.specs.Cmp.{IsEquivalence, and_equiv, on_equiv}
 use Rattle.std.specs.Cmp.Lexicographic.{on_texts_equal}
 use Rattle.std.specs.List.{IsDistinct, list_any}
 use Rattle.std.proofs.lemmas.Bool.{eqb-true}
-use Rattle.std.proofs.lemmas.Cmp.{nat_eq_equiv}
+use Rattle.std.proofs.lemmas.Cmp.{int_eq_equiv, nat_eq_equiv}
+use Rattle.std.specs.Ordering.{int_eq}
+use Rattle.olap_numerals.proofs.OrderLemmas.{same_number}
 use Rattle.std.proofs.lemmas.List.Folds.{list_any-append}
 use Rattle.std.proofs.lemmas.Map.Keys.{IsDistinct-push}
 use Rattle.std.proofs.lemmas.Map.Made.{length-le_from_is_member}
@@ -15,12 +18,63 @@ use Rattle.std.proofs.lemmas.Map.Views.{Contains-from_any, list_any-from_Contain
 use Rattle.std.proofs.lemmas.Slice.Eq.{bytes_eq-Decides}
 use Rattle.std.specs.Str.{bytes_eq}
 use Rattle.olap_base.proofs.ListLemmas.{first_true, second_true}
-use Rattle.olap_ast.specs.Formula.{Equality}
-use Rattle.olap_ast.specs.Valid.{distinct_pairs, is_same_pair, with_pair}
+use Rattle.olap_ast.specs.Formula.{Comparison, Equality}
+use Rattle.olap_ast.specs.Valid.{distinct_numbers, distinct_pairs, is_same_number, is_same_pair, with_new}
 
-same_pairs : IsEquivalence is_same_pair
-same_pairs = and_equiv (on_equiv (λ (a : Equality). a.category) nat_eq_equiv)
-    (on_texts_equal (λ (a : Equality). a.text))
+-- ---- lists to which each new element is added once
+
+or_false : (b : Bool) → (b || false) ≡ b
+or_false true = refl
+or_false false = refl
+
+or_assoc : (a b c : Bool) → ((a || b) || c) ≡ (a || (b || c))
+or_assoc true b c = refl
+or_assoc false b c = refl
+
+module _ (A : Type 0) (same : A → A → Bool) (laws : IsEquivalence same) where
+  -- the element stands among these
+  abbrev has : List A → A → Bool
+  has xs q = list_any (same q) xs
+
+  distinct-with_new : (xs : List A) (a : A) → IsDistinct same xs → IsDistinct same (with_new same xs a)
+  distinct-with_new xs a d = go (has xs a) refl
+    where
+      go : (b : Bool) → has xs a ≡ b → IsDistinct same (cond b xs (xs ++ a ∷ []))
+      go true e = d
+      go false e = IsDistinct-push laws xs a d e
+
+  has-with_new : (xs : List A) (a q : A) → has (with_new same xs a) q ≡ (has xs q || same q a)
+  has-with_new xs a q = go (has xs a) (same q a) refl refl
+    where
+      go : (b c : Bool) → has xs a ≡ b → same q a ≡ c → has (cond b xs (xs ++ a ∷ [])) q ≡ (has xs q || c)
+      go true true e f =
+          let t : has xs q ≡ true = list_any_congr laws q a xs f ∙ e in
+          rw t refl
+      go true false e f = sym (or_false (has xs q))
+      go false c e f = list_any-append (same q) xs (a ∷ [])
+          ∙ ap (λ x. has xs q || x) (or_false (same q a) ∙ f)
+
+  distinct-fold : (atoms xs : List A) → IsDistinct same xs → IsDistinct same (fold (with_new same) xs atoms)
+  distinct-fold [] xs d = d
+  distinct-fold (a ∷ atoms) xs d = distinct-fold atoms (with_new same xs a) (distinct-with_new xs a d)
+
+  has-fold : (atoms xs : List A) (q : A) → has (fold (with_new same) xs atoms) q ≡ (has xs q || has atoms q)
+  has-fold [] xs q = sym (or_false (has xs q))
+  has-fold (a ∷ atoms) xs q =
+      has-fold atoms (with_new same xs a) q ∙ ap (λ b. b || has atoms q) (has-with_new xs a q)
+      ∙ or_assoc (has xs q) (same q a) (has atoms q)
+
+  few : ((a b : A) → same a b ≡ true → a ≡ b) → (atoms others : List A)
+      → ((a : A) → Contains atoms a → Contains others a)
+      → length (fold (with_new same) [] atoms) ≤ length (fold (with_new same) [] others)
+  unfolding IsDistinct
+  few is atoms others f =
+      length-le_from_is_member laws (fold (with_new same) [] atoms) (fold (with_new same) [] others)
+      (distinct-fold atoms [] tt)
+      (λ q h. has-fold others [] q ∙ list_any-from_Contains laws q others
+      (f q (Contains-from_any is q atoms (sym (has-fold atoms [] q) ∙ h))))
+
+-- ---- pairs
 
 same_is : (a b : Equality) → is_same_pair a b ≡ true → a ≡ b
 same_is a b e =
@@ -28,55 +82,21 @@ same_is a b e =
     let t = (bytes_eq-Decides a.text b.text).0 (second_true _ (bytes_eq a.text b.text) e) in
     λ i. record { category = c i; text = t i }
 
--- the pair stands among these
-abbrev has : List Equality → Equality → Bool
-has pairs q = list_any (is_same_pair q) pairs
-
-or_false : (b : Bool) → (b || false) ≡ b
-or_false true = refl
-or_false false = refl
-
-distinct-with_pair : (pairs : List Equality) (a : Equality) → IsDistinct is_same_pair pairs
-    → IsDistinct is_same_pair (with_pair pairs a)
-distinct-with_pair pairs a d = go (has pairs a) refl
-  where
-    go : (b : Bool) → has pairs a ≡ b → IsDistinct is_same_pair (cond b pairs (pairs ++ a ∷ []))
-    go true e = d
-    go false e = IsDistinct-push same_pairs pairs a d e
-
-has-with_pair : (pairs : List Equality) (a q : Equality)
-    → has (with_pair pairs a) q ≡ (has pairs q || is_same_pair q a)
-has-with_pair pairs a q = go (has pairs a) (is_same_pair q a) refl refl
-  where
-    go : (b c : Bool) → has pairs a ≡ b → is_same_pair q a ≡ c
-        → has (cond b pairs (pairs ++ a ∷ [])) q ≡ (has pairs q || c)
-    go true true e f =
-        let t : has pairs q ≡ true = list_any_congr same_pairs q a pairs f ∙ e in
-        rw t refl
-    go true false e f = sym (or_false (has pairs q))
-    go false c e f = list_any-append (is_same_pair q) pairs (a ∷ [])
-        ∙ ap (λ x. has pairs q || x) (or_false (is_same_pair q a) ∙ f)
-
-distinct-fold : (atoms pairs : List Equality) → IsDistinct is_same_pair pairs
-    → IsDistinct is_same_pair (fold with_pair pairs atoms)
-distinct-fold [] pairs d = d
-distinct-fold (a ∷ atoms) pairs d = distinct-fold atoms (with_pair pairs a) (distinct-with_pair pairs a d)
-
-has-fold : (atoms pairs : List Equality) (q : Equality)
-    → has (fold with_pair pairs atoms) q ≡ (has pairs q || has atoms q)
-has-fold [] pairs q = sym (or_false (has pairs q))
-has-fold (a ∷ atoms) pairs q =
-    has-fold atoms (with_pair pairs a) q ∙ ap (λ b. b || has atoms q) (has-with_pair pairs a q)
-    ∙ or_assoc (has pairs q) (is_same_pair q a) (has atoms q)
-  where
-    or_assoc : (a b c : Bool) → ((a || b) || c) ≡ (a || (b || c))
-    or_assoc true b c = refl
-    or_assoc false b c = refl
-
 pub few_pairs : (atoms others : List Equality) → ((a : Equality) → Contains atoms a → Contains others a)
     → length (distinct_pairs atoms) ≤ length (distinct_pairs others)
-unfolding IsDistinct
-few_pairs atoms others f =
-    length-le_from_is_member same_pairs (distinct_pairs atoms) (distinct_pairs others) (distinct-fold atoms [] tt)
-    (λ q h. has-fold others [] q ∙ list_any-from_Contains same_pairs q others
-    (f q (Contains-from_any same_is q atoms (sym (has-fold atoms [] q) ∙ h))))
+few_pairs = few Equality is_same_pair
+    (and_equiv (on_equiv (λ (a : Equality). a.category) nat_eq_equiv) (on_texts_equal (λ (a : Equality). a.text)))
+    same_is
+
+same_number_is : (a b : Comparison) → is_same_number a b ≡ true → a ≡ b
+same_number_is a b e =
+    let c = eqb-true a.category b.category (first_true _ (int_eq a.number b.number) e) in
+    let n = same_number a.number b.number (second_true _ (int_eq a.number b.number) e) in
+    λ i. record { category = c i; number = n i }
+
+pub few_numbers : (atoms others : List Comparison) → ((a : Comparison) → Contains atoms a → Contains others a)
+    → length (distinct_numbers atoms) ≤ length (distinct_numbers others)
+few_numbers = few Comparison is_same_number
+    (and_equiv (on_equiv (λ (a : Comparison). a.category) nat_eq_equiv)
+    (on_equiv (λ (a : Comparison). a.number) int_eq_equiv))
+    same_number_is

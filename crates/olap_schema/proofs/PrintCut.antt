@@ -1,6 +1,6 @@
 -- What is printed is cut into its tokens.
 --     text_is_cut    a formula's text is cut into the formula's tokens
-use Rattle.std.proofs.Common.{◌≡◌, ◌==◌, ◌||◌, ℕ, Bool, true, false, cond, List, [], ◌∷◌, ◌++◌, All, refl, append_assoc, append-nil, arith}
+use Rattle.std.proofs.Common.{◌≡◌, ◌==◌, ◌||◌, ℕ, ℤ, pos, negsuc, suc, Bool, true, false, cond, List, [], ◌∷◌, ◌++◌, All, refl, append_assoc, append-nil, arith, decimal}
 use Rattle.std.proofs.lemmas.List.Elements.{All-head, All-tail}
 use Rattle.olap_base.specs.Chains.{IsChain}
 use Rattle.olap_base.specs.Graph.{Graph, HasEdge, IsCategory, IsCategoryName, IsHierarchy, IsLetterOrDigit}
@@ -8,16 +8,22 @@ use Rattle.olap_graph.specs.Lookups.{name_of_category}
 use Rattle.olap_ast.specs.Formula as Meaning
 use Rattle.olap_ast.specs.Formula.{Formula, Terms}
 use Rattle.olap_ast.specs.Valid.{AreFormulasAt, IsFormulaAt}
-use Rattle.olap_grammar.specs.Cutting.{AreWordBytes, EndsWord, is_word_byte, joint_bytes, Spells, nothing, quote, backslash, other, IsCut, blank, word, quoted, marked}
+use Rattle.olap_numerals.specs.Comparing.{Op}
+use Rattle.olap_numerals.specs.Numerals.{IsSmall, canonical}
+use Rattle.olap_grammar.specs.Cutting.{AreWordBytes, EndsMark, EndsWord, IsMarkIn, is_word_byte, joint_bytes, mark_bytes, Spells, nothing, quote, backslash, other, IsCut, blank, word, quoted, signed, marked}
+use Rattle.olap_grammar.specs.Grammar.{comparing}
 use Rattle.olap_grammar.specs.Quoting.{escaped}
 use Rattle.olap_grammar.specs.declared.tokens.Token.{Token}
 use Rattle.olap_grammar.specs.declared.tokens.Token.TheVariants as token
 use Rattle.olap_grammar.specs.declared.tokens.Mark.TheVariants as mark
 use Rattle.olap_grammar.specs.declared.tokens.Joint.{Joint}
 use Rattle.olap_grammar.specs.declared.tokens.Joint.TheVariants as joint
+use Rattle.olap_grammar.specs.declared.tokens.Version.{Version}
+use Rattle.olap_grammar.specs.declared.tokens.Version.TheVariants as version
 use Rattle.olap_schema.specs.Printing.{atom_word, compared_word, formula_text, joined_text, list_text, names_after, rest_text}
 use Rattle.olap_schema.proofs.PrintNames.{letters, name_is}
-use Rattle.olap_schema.proofs.PrintTokens.{joined_tokens, spelt, spelt_list, spelt_rest}
+use Rattle.olap_schema.proofs.PrintNumerals.{AreDigits, digits_are_word, digits_behind_dash, digits_in_decimal, first_digit}
+use Rattle.olap_schema.proofs.PrintTokens.{joined_tokens, number_token, spelt, spelt_list, spelt_rest}
 
 -- ---- words
 
@@ -49,8 +55,8 @@ longer (b ∷ v) w n k = is_word b (v ++ w) (words_append (b ∷ v) w (letters_a
 pub name_is_word : (v : List ℕ) → IsCategoryName v → IsWord v
 name_is_word v n = rw (append-nil v) at (longer v [] n tt)
 
-pub cut_word : {w bs : List ℕ} {ts : List Token} → IsWord w → EndsWord bs → IsCut bs ts
-    → IsCut (w ++ bs) (token.Word w ∷ ts)
+pub cut_word : {v : Version} {w bs : List ℕ} {ts : List Token} → IsWord w → EndsWord bs → IsCut v bs ts
+    → IsCut v (w ++ bs) (token.Word w ∷ ts)
 cut_word (is_word b w h) n d = word b w h n d
 
 module _ (g : Graph) (h : IsHierarchy g) where
@@ -96,23 +102,61 @@ escaped_spells (b ∷ k) = go (b == 34) (b == 92) refl refl (escaped_spells k)
     go false true e f d = let same : b ≡ 92 = grind (arith) in rw same (backslash d)
     go false false e f d = other e f d
 
-cut_quoted : (k bs : List ℕ) (ts : List Token) → IsCut bs ts
-    → IsCut (32 ∷ 61 ∷ 32 ∷ 34 ∷ (escaped k ++ 34 ∷ bs)) (token.Mark mark.Equal ∷ token.Quoted k ∷ ts)
-cut_quoted k bs ts d = blank (marked mark.Equal (blank (quoted (escaped_spells k) d)))
+cut_quoted : (k bs : List ℕ) (ts : List Token) → IsCut version.Two bs ts
+    → IsCut version.Two (32 ∷ 61 ∷ 32 ∷ 34 ∷ (escaped k ++ 34 ∷ bs)) (token.Mark mark.Equal ∷ token.Quoted k ∷ ts)
+cut_quoted k bs ts d = blank (marked mark.Equal tt tt (blank (quoted (escaped_spells k) d)))
+
+-- ---- numbers
+
+digits_word : (ds : List ℕ) → AreDigits ds → IsWord ds
+digits_word [] h = let l = h.some in absurd (omega arith)
+digits_word (b ∷ ds) h = is_word b ds (digits_are_word (b ∷ ds) h.digits)
+
+cut_negative : (ds bs : List ℕ) (ts : List Token) → AreDigits ds → EndsWord bs → IsCut version.Two bs ts
+    → IsCut version.Two (45 ∷ (ds ++ bs)) (token.Signed (45 ∷ ds) ∷ ts)
+cut_negative [] bs ts h n d = let l = h.some in absurd (omega arith)
+cut_negative (b ∷ ds) bs ts h n d =
+    let f = first_digit b ds h in signed b ds refl f.0 (digits_are_word ds f.1) n d
+
+-- a canonical numeral is cut into its token
+cut_number : (z : ℤ) (bs : List ℕ) (ts : List Token) → IsSmall z → EndsWord bs → IsCut version.Two bs ts
+    → IsCut version.Two (canonical z ++ bs) (number_token z ∷ ts)
+cut_number (pos n) bs ts h e d = cut_word (digits_word (decimal n) (digits_in_decimal n h)) e d
+cut_number (negsuc n) bs ts h e d = cut_negative (decimal (suc n)) bs ts (digits_behind_dash n h) e d
+
+compares_in_two : (op : Op) → IsMarkIn (comparing op) version.Two
+compares_in_two Op.Equal = tt
+compares_in_two Op.Less = refl
+compares_in_two Op.AtMost = refl
+
+-- no longer mark goes on at a space
+ends_at_space : (op : Op) (bs : List ℕ) → EndsMark (comparing op) (32 ∷ bs)
+ends_at_space Op.Equal bs = tt
+ends_at_space Op.Less bs = (refl, λ e. absurd (cc))
+ends_at_space Op.AtMost bs = tt
+
+cut_compared : (op : Op) (z : ℤ) (bs : List ℕ) (ts : List Token) → IsSmall z → EndsWord bs → IsCut version.Two bs ts
+    → IsCut version.Two (32 ∷ (mark_bytes (comparing op) ++ 32 ∷ (canonical z ++ bs)))
+    (token.Mark (comparing op) ∷ number_token z ∷ ts)
+cut_compared op z bs ts h e d =
+    blank (marked (comparing op) (compares_in_two op) (ends_at_space op (canonical z ++ bs))
+    (blank (cut_number z bs ts h e d)))
 
 -- ---- formulas
 
 -- a text that, in front of anything that ends a word, is cut into these tokens
 abbrev pub Cuts : List ℕ → List Token → Type 0
-Cuts text ts = (bs : List ℕ) (us : List Token) → EndsWord bs → IsCut bs us → IsCut (text ++ bs) (ts ++ us)
+Cuts text ts =
+    (bs : List ℕ) (us : List Token) → EndsWord bs → IsCut version.Two bs us → IsCut version.Two (text ++ bs) (ts ++ us)
 
 joined_cut : (j : Joint) (x y : List ℕ) (l r : List Token) → Cuts x l → Cuts y r
     → Cuts (joined_text j x y) (joined_tokens j l r)
 joined_cut j x y l r c d bs us n e =
     let inner =
     c (32 ∷ (joint_bytes j ++ 32 ∷ (y ++ 41 ∷ bs))) (token.Mark (mark.Joint j) ∷ (r ++ token.Mark mark.Close ∷ us)) refl
-    (blank (marked (mark.Joint j) (blank (d (41 ∷ bs) (token.Mark mark.Close ∷ us) refl (marked mark.Close e))))) in
-    simp append_assoc (marked mark.Open inner)
+    (blank (marked (mark.Joint j) tt tt
+    (blank (d (41 ∷ bs) (token.Mark mark.Close ∷ us) refl (marked mark.Close tt tt e))))) in
+    simp append_assoc (marked mark.Open tt tt inner)
 
 rest_ends : (g : Graph) (r : ℕ) (fs : Terms) (bs : List ℕ) → EndsWord bs → EndsWord (rest_text g r fs ++ bs)
 rest_ends g r Meaning.Terms.End bs n = n
@@ -132,7 +176,9 @@ module _ (g : Graph) (h : IsHierarchy g) (r : ℕ) (l : IsCategory g r) where
         cut_word (atom_is_word g h r 46 refl (d ∷ c ∷ []) l (v.0, (v.1, tt))) n e
     text_is_cut (Meaning.Formula.Equals d k) v bs us n e =
         simp append_assoc (cut_word (compared_is_word g h r d l v.0) refl (cut_quoted k bs us e))
-    text_is_cut (Meaning.Formula.Not f) v bs us n e = marked mark.Not (text_is_cut f v bs us n e)
+    text_is_cut (Meaning.Formula.Compare d op z) v bs us n e =
+        simp append_assoc (cut_word (compared_is_word g h r d l v.0) refl (cut_compared op z bs us v.2 n e))
+    text_is_cut (Meaning.Formula.Not f) v bs us n e = marked mark.Not tt tt (text_is_cut f v bs us n e)
     text_is_cut (Meaning.Formula.And f k) v bs us n e =
         joined_cut joint.And (formula_text g r f) (formula_text g r k) (spelt g r f) (spelt g r k) (text_is_cut f v.0)
         (text_is_cut k v.1) bs us n e
@@ -150,7 +196,8 @@ module _ (g : Graph) (h : IsHierarchy g) (r : ℕ) (l : IsCategory g r) where
         (text_is_cut k v.1) bs us n e
     text_is_cut (Meaning.Formula.One fs) v bs us n e =
         simp append_assoc (word 111 (110 ∷ 101 ∷ []) (refl, (refl, (refl, tt))) refl
-        (marked mark.Open (list_is_cut fs v (41 ∷ bs) (token.Mark mark.Close ∷ us) refl (marked mark.Close e))))
+        (marked mark.Open tt tt
+        (list_is_cut fs v (41 ∷ bs) (token.Mark mark.Close ∷ us) refl (marked mark.Close tt tt e))))
 
     list_is_cut : (fs : Terms) → AreFormulasAt g r fs → Cuts (list_text g r fs) (spelt_list g r fs)
     list_is_cut Meaning.Terms.End v bs us n e = e
@@ -161,6 +208,6 @@ module _ (g : Graph) (h : IsHierarchy g) (r : ℕ) (l : IsCategory g r) where
     rest_is_cut : (fs : Terms) → AreFormulasAt g r fs → Cuts (rest_text g r fs) (spelt_rest g r fs)
     rest_is_cut Meaning.Terms.End v bs us n e = e
     rest_is_cut (Meaning.Terms.More f fs) v bs us n e =
-        simp append_assoc (marked mark.Comma
+        simp append_assoc (marked mark.Comma tt tt
         (blank (text_is_cut f v.0 (rest_text g r fs ++ bs) (spelt_rest g r fs ++ us) (rest_ends g r fs bs n)
         (rest_is_cut fs v.1 bs us n e))))

@@ -1,14 +1,21 @@
 -- The tokens that a printed formula is cut into.
-use Rattle.std.specs.Prelude.{ℕ, List, [], ◌∷◌, ◌++◌, codes}
+use Rattle.std.specs.Prelude.{ℕ, ℤ, pos, negsuc, List, [], ◌∷◌, ◌++◌, codes}
 use Rattle.olap_base.specs.Graph.{Graph}
 use Rattle.olap_ast.specs.Formula as Meaning
 use Rattle.olap_ast.specs.Formula.{Formula, Terms}
+use Rattle.olap_numerals.specs.Numerals.{canonical}
+use Rattle.olap_grammar.specs.Grammar.{comparing}
 use Rattle.olap_grammar.specs.declared.tokens.Token.{Token}
 use Rattle.olap_grammar.specs.declared.tokens.Token.TheVariants as token
 use Rattle.olap_grammar.specs.declared.tokens.Mark.TheVariants as mark
 use Rattle.olap_grammar.specs.declared.tokens.Joint.{Joint}
 use Rattle.olap_grammar.specs.declared.tokens.Joint.TheVariants as joint
 use Rattle.olap_schema.specs.Printing.{atom_word, compared_word}
+
+-- the token of a number's canonical numeral
+abbrev pub number_token : ℤ → Token
+number_token (pos n) = token.Word (canonical (pos n))
+number_token (negsuc n) = token.Signed (canonical (negsuc n))
 
 abbrev pub joined_tokens : Joint → List Token → List Token → List Token
 joined_tokens j left right =
@@ -24,6 +31,8 @@ abbrev mutual
   spelt g r (Meaning.Formula.Via d e) = token.Word (atom_word g r 46 (d ∷ e ∷ [])) ∷ []
   spelt g r (Meaning.Formula.Equals d k) =
       token.Word (compared_word g r d) ∷ token.Mark mark.Equal ∷ token.Quoted k ∷ []
+  spelt g r (Meaning.Formula.Compare d op n) =
+      token.Word (compared_word g r d) ∷ token.Mark (comparing op) ∷ number_token n ∷ []
   spelt g r (Meaning.Formula.Not f) = token.Mark mark.Not ∷ spelt g r f
   spelt g r (Meaning.Formula.And f h) = joined_tokens joint.And (spelt g r f) (spelt g r h)
   spelt g r (Meaning.Formula.Or f h) = joined_tokens joint.Or (spelt g r f) (spelt g r h)

@@ -1,23 +1,31 @@
 -- An atom that has no fault is one of the graph.
---     plain_is_valid    a word by itself
---     equal_is_valid    a word with a string
-use Rattle.std.proofs.Common.{◌≡◌, ◌≢◌, ◌<◌, ◌≤◌, ℕ, Bool, true, false, cond, List, [], ◌∷◌, Option, Some, None, length, get_or, map, refl, sym, ap, ◌∙◌, arith, subst}
-use Rattle.std.specs.Prelude.{◌==◌, ◌||◌, Contains, codes, slice_index_or, nat_lt}
+--     plain_is_valid       a word by itself
+--     equal_is_valid       a word with a string
+--     compared_is_valid    a word with a number
+use Rattle.std.proofs.Common.{◌≡◌, ◌≢◌, ◌<◌, ◌≤◌, ℕ, ℤ, pos, suc, Bool, true, false, cond, List, [], ◌∷◌, Option, Some, None, length, get_or, map, refl, sym, ap, ◌∙◌, arith, subst}
+use Rattle.std.specs.Prelude.{◌==◌, ◌-◌, ◌||◌, Contains, codes, slice_index_or, nat_lt, unwrap_or}
 use Rattle.std.specs.List.{list_all}
 use Rattle.std.specs.Str.{bytes_eq}
 use Rattle.std.proofs.lemmas.Bool.{eqb-true, ltb-true}
+use Rattle.std.proofs.lemmas.Int.{ints}
 use Rattle.std.proofs.lemmas.List.Elements.{Contains-get_or}
 use Rattle.olap_ast.specs.Formula as Meaning
 use Rattle.olap_ast.specs.Formula.{Formula}
 use Rattle.olap_ast.specs.Valid.{IsFormulaAt}
 use Rattle.olap_base.specs.Reaching.{is_category_name, is_category_name_is}
-use Rattle.olap_base.specs.Graph.{Graph, IsCategory, IsCategoryName, reserved}
+use Rattle.olap_base.specs.Graph.{Graph, IsCategory, IsCategoryName, is_number, reserved}
 use Rattle.olap_base.specs.Limits.{most_text_bytes}
 use Rattle.olap_graph.specs.Lookups.{category_named}
-use Rattle.olap_grammar.specs.Words.{equal_of, equality_of, id_of, path_of, pieces_of, plain_of, reach_of}
-use Rattle.olap_schema.specs.Atoms.{is_connective, is_known, is_path, is_repeated, lacks_edge, named_fault, names_in, word_fault}
+use Rattle.olap_numerals.specs.Comparing.{Op}
+use Rattle.olap_numerals.specs.Numerals.{IsSmall, number_of}
+use Rattle.olap_numerals.proofs.NumeralLemmas.{spelled_small}
+use Rattle.olap_grammar.specs.Words.{compared_of, comparison_in, comparison_of, equal_of, equality_of, id_of, is_number_token, path_of, pieces_of, plain_of, reach_of}
+use Rattle.olap_grammar.specs.declared.tokens.Version.{Version}
+use Rattle.olap_grammar.specs.declared.tokens.Version.TheVariants as version
+use Rattle.olap_schema.specs.Atoms.{compares_numbers, has_numbers, is_known, is_no_atom, is_path, is_repeated, kind_fault, lacks_edge, named_fault, names_in, word_fault}
 use Rattle.olap_schema.specs.declared.kinds.SchemaKind.{SchemaKind}
-use Rattle.olap_schema.proofs.ValidNames.{all_known, differ, first_holds, follows, id_is, known_category, not_false, one_piece, same_bytes}
+use Rattle.olap_schema.proofs.NumberWords.{no_number}
+use Rattle.olap_schema.proofs.ValidNames.{all_known, differ, first_holds, follows, id_is, known_category, known_is, not_false, one_piece, same_bytes}
 
 -- a test behind which there is a fault, or no formula, was not passed
 no_fault : (c : Bool) (k : SchemaKind) (o : Option SchemaKind) → cond c (Some k) o ≡ None → (c ≡ false) × (o ≡ None)
@@ -111,10 +119,19 @@ one_alone : (g : Graph) (f : Formula) → plain_of g (codes "one") ≡ Some f �
 unfolding plain_of pieces_of
 one_alone g f e = one_unreached g f e
 
+clash : (b : Bool) → b ≡ false → b ≡ true → ⊥
+clash b p q = absurd (let u : true ≡ false = sym q ∙ p in cc)
+
+-- a number by itself is no formula
+number_alone : (g : Graph) (w : List ℕ) (f : Formula) → is_number_token w ≡ true → (p : Bool)
+    → cond p (path_of g (pieces_of 95 w)) (reach_of g (pieces_of 46 w)) ≡ Some f → ⊥
+number_alone g w f n true d = clash (is_number_token w) (no_number 95 w (not_false _ (is_formula _ _ _ d).0)) n
+number_alone g w f n false d = clash (is_number_token w) (no_number 46 w (not_false _ (is_formula _ _ _ d).0)) n
+
 pub plain_is_valid : (g : Graph) (root : List ℕ) (c : ℕ) (w : List ℕ) (f : Formula) → category_named g root ≡ Some c
     → word_fault g root w ≡ None
     → plain_of g w ≡ Some f → IsFormulaAt g c f
-unfolding plain_of word_fault is_connective
+unfolding plain_of word_fault is_no_atom
 plain_is_valid g root c w f r h e = truth (bytes_eq w (codes "true")) h e
   where
     named : (p : Bool) → nat_lt 1 (length (pieces_of 95 w)) ≡ p
@@ -123,15 +140,24 @@ plain_is_valid g root c w f r h e = truth (bytes_eq w (codes "true")) h e
     named true q k d = path_is_valid g root c (pieces_of 95 w) f r (ltb-true 1 (length (pieces_of 95 w)) q) k d
     named false q k d = reach_is_valid g root c (pieces_of 46 w) f k d
 
-    one : (b : Bool) → bytes_eq w (codes "one") ≡ b → cond b None (named_fault g root (is_path w) (names_in w)) ≡ None
+    number : (b : Bool) → is_number_token w ≡ b
+        → cond b None (named_fault g root (is_path w) (names_in w)) ≡ None
+        → cond (nat_lt 1 (length (pieces_of 95 w))) (path_of g (pieces_of 95 w)) (reach_of g (pieces_of 46 w)) ≡ Some f
+        → IsFormulaAt g c f
+    number true q k d = absurd (number_alone g w f q (nat_lt 1 (length (pieces_of 95 w))) d)
+    number false q k d = named (nat_lt 1 (length (pieces_of 95 w))) refl k d
+
+    one : (b : Bool) → bytes_eq w (codes "one") ≡ b
+        → cond (b || is_number_token w) None (named_fault g root (is_path w) (names_in w)) ≡ None
         → cond (nat_lt 1 (length (pieces_of 95 w))) (path_of g (pieces_of 95 w))
         (reach_of g (pieces_of 46 w)) ≡ Some f → plain_of g w ≡ Some f
         → IsFormulaAt g c f
     one true q k d p = absurd (one_alone g f (subst (λ x. plain_of g x ≡ Some f) (same_bytes w (codes "one") q) p))
-    one false q k d p = named (nat_lt 1 (length (pieces_of 95 w))) refl k d
+    one false q k d p = number (is_number_token w) refl k d
 
     falsity : (b : Bool)
-        → cond (b || bytes_eq w (codes "one")) None (named_fault g root (is_path w) (names_in w)) ≡ None
+        → cond ((b || bytes_eq w (codes "one")) || is_number_token w) None
+        (named_fault g root (is_path w) (names_in w)) ≡ None
         → cond b (Some Meaning.Formula.Falsity)
         (cond (nat_lt 1 (length (pieces_of 95 w))) (path_of g (pieces_of 95 w))
         (reach_of g (pieces_of 46 w))) ≡ Some f
@@ -140,7 +166,7 @@ plain_is_valid g root c w f r h e = truth (bytes_eq w (codes "true")) h e
     falsity false k d p = one (bytes_eq w (codes "one")) refl k d p
 
     truth : (b : Bool)
-        → cond ((b || bytes_eq w (codes "false")) || bytes_eq w (codes "one")) None
+        → cond (((b || bytes_eq w (codes "false")) || bytes_eq w (codes "one")) || is_number_token w) None
         (named_fault g root (is_path w) (names_in w)) ≡ None
         → cond b (Some Meaning.Formula.Truth) (cond (bytes_eq w (codes "false")) (Some Meaning.Formula.Falsity)
         (cond (nat_lt 1 (length (pieces_of 95 w))) (path_of g (pieces_of 95 w))
@@ -171,26 +197,48 @@ no_reserved w r h one c = go (bytes_eq w r) refl
         absurd (not_reserved r (first_holds (is_category_name r) true alone).0 c)
     go false q = q
 
-not_connective : (w : List ℕ) → list_all is_category_name (pieces_of 46 w) ≡ true → is_connective w ≡ false
-unfolding is_connective pieces_of
-not_connective w h =
+not_no_atom : (w : List ℕ) → list_all is_category_name (pieces_of 46 w) ≡ true → is_no_atom w ≡ false
+unfolding is_no_atom pieces_of
+not_no_atom w h =
     let t : bytes_eq w (codes "true") ≡ false = no_reserved w (codes "true") h refl (0, omega arith, refl) in
     let f : bytes_eq w (codes "false") ≡ false = no_reserved w (codes "false") h refl (1, omega arith, refl) in
     let o : bytes_eq w (codes "one") ≡ false = no_reserved w (codes "one") h refl (2, omega arith, refl) in
-    ap (λ b. (b || bytes_eq w (codes "false")) || bytes_eq w (codes "one")) t
-    ∙ ap (λ b. b || bytes_eq w (codes "one")) f ∙ o
+    ap (λ b. ((b || bytes_eq w (codes "false")) || bytes_eq w (codes "one")) || is_number_token w) t
+    ∙ ap (λ b. (b || bytes_eq w (codes "one")) || is_number_token w) f
+    ∙ ap (λ b. b || is_number_token w) o ∙ no_number 46 w h
+
+-- where such a word has no fault, each of its names is known
+compared_known : (g : Graph) (root w : List ℕ) → word_fault g root w ≡ None
+    → list_all is_category_name (pieces_of 46 w) ≡ true → list_all (is_known g) (pieces_of 46 w) ≡ true
+unfolding word_fault
+compared_known g root w h names =
+    let looked_at : named_fault g root (is_path w) (names_in w) ≡ None = rw (not_no_atom w names) at h in
+    let apart : named_fault g root false (pieces_of 46 w) ≡ None = rw (one_piece w names) at looked_at in
+    names_known g root false (pieces_of 46 w) apart
+
+-- the kind of the category that a word compares: that of its last name
+last_kind : (g : Graph) (ns : List (List ℕ)) (k : ℕ) → list_all (is_known g) ns ≡ true → length ns ≡ suc k
+    → is_number g (id_of g (slice_index_or ns k []))
+    ≡ has_numbers g (category_named g (slice_index_or ns (length ns - 1) []))
+last_kind g ns k h l =
+    let known = all_known g ns h (get_or ns k []) (Contains-get_or ns k [] (omega (arith, l))) in
+    let last : length ns - 1 ≡ k = omega (arith, l) in
+    sym (ap (λ i. has_numbers g (category_named g (slice_index_or ns i []))) last
+    ∙ ap (has_numbers g) (known_is g (get_or ns k []) known))
 
 equality_is_valid : (g : Graph) (c : ℕ) (k : List ℕ) (ns : List (List ℕ)) (f : Formula)
-    → list_all (is_known g) ns ≡ true → length k ≤ most_text_bytes
+    → list_all (is_known g) ns ≡ true
+    → has_numbers g (category_named g (slice_index_or ns (length ns - 1) [])) ≡ false → length k ≤ most_text_bytes
     → equal_of g k ns ≡ Some f → IsFormulaAt g c f
-equality_is_valid g c k ns f known short e = one (length ns == 1) refl (is_formula _ _ _ e).1
+equality_is_valid g c k ns f known kind short e = one (length ns == 1) refl (is_formula _ _ _ e).1
   where
     two : (b : Bool) → length ns == 2 ≡ b
         → cond b (Some (Meaning.Formula.Equals (id_of g (slice_index_or ns 1 [])) k)) None ≡ Some f → IsFormulaAt g c f
     two true q d =
         let l = eqb-true (length ns) 2 q in
         let is : Meaning.Formula.Equals (id_of g (slice_index_or ns 1 [])) k ≡ f = cc in
-        subst (IsFormulaAt g c) is (name_known g ns 1 known (omega arith), short)
+        subst (IsFormulaAt g c) is
+        (name_known g ns 1 known (omega arith), last_kind g ns 1 known (omega arith) ∙ kind, short)
     two false q d = absurd (cc)
 
     one : (b : Bool) → length ns == 1 ≡ b → cond b (Some (Meaning.Formula.Equals (id_of g (slice_index_or ns 0 [])) k))
@@ -199,15 +247,68 @@ equality_is_valid g c k ns f known short e = one (length ns == 1) refl (is_formu
     one true q d =
         let l = eqb-true (length ns) 1 q in
         let is : Meaning.Formula.Equals (id_of g (slice_index_or ns 0 [])) k ≡ f = cc in
-        subst (IsFormulaAt g c) is (name_known g ns 0 known (omega arith), short)
+        subst (IsFormulaAt g c) is
+        (name_known g ns 0 known (omega arith), last_kind g ns 0 known (omega arith) ∙ kind, short)
     one false q d = two (length ns == 2) refl d
 
 pub equal_is_valid : (g : Graph) (root : List ℕ) (c : ℕ) (w k : List ℕ) (f : Formula) → word_fault g root w ≡ None
-    → length k ≤ most_text_bytes
+    → kind_fault g w (Some false) ≡ None → length k ≤ most_text_bytes
     → equality_of g w k ≡ Some f → IsFormulaAt g c f
-unfolding equality_of word_fault
-equal_is_valid g root c w k f h short e =
+unfolding equality_of
+equal_is_valid g root c w k f h kind short e =
     let names : list_all is_category_name (pieces_of 46 w) ≡ true = not_false _ (is_formula _ _ _ e).0 in
-    let looked_at : named_fault g root (is_path w) (names_in w) ≡ None = rw (not_connective w names) at h in
-    let apart : named_fault g root false (pieces_of 46 w) ≡ None = rw (one_piece w names) at looked_at in
-    equality_is_valid g c k (pieces_of 46 w) f (names_known g root false (pieces_of 46 w) apart) short e
+    equality_is_valid g c k (pieces_of 46 w) f (compared_known g root w h names) (no_fault _ _ _ kind).0 short e
+
+-- ---- a word with a number
+
+small_number : (o : Option ℤ) → ((z : ℤ) → o ≡ Some z → IsSmall z) → IsSmall (unwrap_or o (pos 0))
+small_number None h = (omega (arith, ints), omega (arith, ints))
+small_number (Some z) h = h z refl
+
+module _ (g : Graph) (c : ℕ) (op : Op) (n : ℤ) (ns : List (List ℕ)) (f : Formula)
+    (known : list_all (is_known g) ns ≡ true) (small : IsSmall n)
+    (kind : has_numbers g (category_named g (slice_index_or ns (length ns - 1) [])) ≡ true)
+  where
+    second_compared : (b : Bool) → length ns == 2 ≡ b
+        → cond b (Some (Meaning.Formula.Compare (id_of g (slice_index_or ns 1 [])) op n)) None ≡ Some f
+        → IsFormulaAt g c f
+    second_compared true q d =
+        let l = eqb-true (length ns) 2 q in
+        let is : Meaning.Formula.Compare (id_of g (slice_index_or ns 1 [])) op n ≡ f = cc in
+        subst (IsFormulaAt g c) is
+        (name_known g ns 1 known (omega arith), last_kind g ns 1 known (omega arith) ∙ kind, small)
+    second_compared false q d = absurd (cc)
+
+    first_compared : (b : Bool) → length ns == 1 ≡ b
+        → cond b (Some (Meaning.Formula.Compare (id_of g (slice_index_or ns 0 [])) op n))
+        (cond (length ns == 2) (Some (Meaning.Formula.Compare (id_of g (slice_index_or ns 1 [])) op n)) None) ≡ Some f
+        → IsFormulaAt g c f
+    first_compared true q d =
+        let l = eqb-true (length ns) 1 q in
+        let is : Meaning.Formula.Compare (id_of g (slice_index_or ns 0 [])) op n ≡ f = cc in
+        subst (IsFormulaAt g c) is
+        (name_known g ns 0 known (omega arith), last_kind g ns 0 known (omega arith) ∙ kind, small)
+    first_compared false q d = second_compared (length ns == 2) refl d
+
+-- a test that else is a fault was passed
+passes : (b : Bool) (k : SchemaKind) → cond b None (Some k) ≡ None → b ≡ true
+passes true k h = refl
+passes false k h = absurd (cc)
+
+pub compared_is_valid : (g : Graph) (root : List ℕ) (c : ℕ) (v : Version) (w : List ℕ) (op : Op) (digits : List ℕ)
+    (f : Formula) → word_fault g root w ≡ None → kind_fault g w (Some true) ≡ None
+    → comparison_in v g w op digits ≡ Some f → IsFormulaAt g c f
+unfolding comparison_of
+compared_is_valid g root c version.One w op digits f h kind e = absurd (cc)
+compared_is_valid g root c version.Two w op digits f h kind e = go (is_number_token digits) e
+  where
+    n : ℤ
+    n = unwrap_or (number_of digits) (pos 0)
+
+    go : (b : Bool) → cond b (compared_of g op n (pieces_of 46 w)) None ≡ Some f → IsFormulaAt g c f
+    go true d =
+        let t = is_formula _ _ _ d in
+        let known = compared_known g root w h (not_false _ t.0) in
+        first_compared g c op n (pieces_of 46 w) f known (small_number (number_of digits) (spelled_small digits))
+        (passes _ _ kind) (length (pieces_of 46 w) == 1) refl t.1
+    go false d = absurd (cc)

@@ -27,14 +27,15 @@ sound_kept : (a b : Above) → Step a b → IsSoundSoFar a → IsSoundSoFar b
 sound_kept a b (quiet e) p = subst IsSoundSoFar (sym e) p
 sound_kept a b (version v e) p =
     subst IsSoundSoFar (sym e) (record { unfinished = p.unfinished; limits = p.limits; constraints = p.constraints })
-sound_kept a b (category n name h s) p = category_kept a b n name h s p
+sound_kept a b (category n name number h s) p = category_kept a b n name number h s p
 sound_kept a b (edge child parent c d s) p = edge_kept a b child parent c d s p
-sound_kept a b (constraint name ts f root s) p = constraint_kept a b name ts f root s p
+sound_kept a b (constraint v name ts f root s) p = constraint_kept a b v name ts f root s p
 
 nothing_sound : IsSoundSoFar nothing_above
 nothing_sound = record {
   unfinished = record {
     names_differ = λ j k d h l. absurd (omega arith);
+    kinds_known = refl;
     names = λ name c. absurd (Contains-nil name c);
     categories = λ c d h. absurd (Contains-nil (record { child = c; parent = d }) h);
     edges_differ = λ j k d h l. absurd (omega arith);
@@ -48,6 +49,7 @@ nothing_sound = record {
     nodes_are = refl;
     few_nodes = omega arith;
     pairs_are = refl;
+    numbers_are = refl;
     few_pairs = omega arith;
   };
 }
@@ -75,6 +77,7 @@ whole_is_readable a p s h = go (first_stuck a.graph) refl h
     valid k = record {
       hierarchy = record {
         names_differ = p.unfinished.names_differ;
+        kinds_known = p.unfinished.kinds_known;
         names = p.unfinished.names;
         categories = p.unfinished.categories;
         edges_differ = p.unfinished.edges_differ;
@@ -90,7 +93,7 @@ whole_is_readable a p s h = go (first_stuck a.graph) refl h
       constraints_fit = p.constraints.few;
       nodes_fit = rw p.constraints.nodes_are p.constraints.few_nodes;
       depth_fits = λ c h. (p.constraints.each c h).depth;
-      constants_fit = rw p.constraints.pairs_are p.constraints.few_pairs;
+      constants_fit = rw (p.constraints.pairs_are, p.constraints.numbers_are) p.constraints.few_pairs;
     }
 
     texts : AreTexts (flat_map (λ c. equalities c.formula) a.constraints)

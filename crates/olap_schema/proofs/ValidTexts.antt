@@ -2,9 +2,9 @@
 --     AreFine            each string among the tokens is such a text
 --     line_is_fine       the tokens of such a line
 --     formula_is_fine    the constants of a formula of such tokens
-use Rattle.std.proofs.Common.{◌≡◌, ◌<◌, ◌≤◌, ℕ, zero, suc, Bool, true, false, not, cond, List, [], ◌∷◌, ◌++◌, Option, Some, None, length, get_or, drop, map, append_assoc, refl, sym, arith, subst, inl, inr}
+use Rattle.std.proofs.Common.{◌≡◌, ◌<◌, ◌≤◌, ℕ, ℤ, zero, suc, Bool, true, false, not, cond, List, [], ◌∷◌, ◌++◌, Option, Some, None, length, get_or, drop, map, append_assoc, refl, sym, arith, subst, inl, inr}
 use Rattle.std.specs.Prelude.{◌==◌, ◌||◌, ◌⊎◌, Contains, codes, flat_map, nat_lt, slice_index_or}
-use Rattle.std.specs.Char.{is_ascii_alphanumeric}
+use Rattle.std.specs.Char.{is_ascii_alphanumeric, is_ascii_digit}
 use Rattle.std.specs.Int.{is_in_range}
 use Rattle.std.specs.List.{list_all, list_any}
 use Rattle.std.specs.Str.{IsUtf8, bytes_eq}
@@ -20,16 +20,19 @@ use Rattle.olap_base.specs.Deciding.{contains_cases, contains_cons}
 use Rattle.olap_base.specs.Reaching.{is_category_name}
 use Rattle.olap_base.specs.Graph.{Graph}
 use Rattle.olap_base.proofs.ListLemmas.{Contains-nil, contains_head}
-use Rattle.olap_grammar.specs.Cutting.{AreWordBytes, IsCut, IsCut.end, IsCut.blank, IsCut.tab, IsCut.word, IsCut.quoted, IsCut.marked, Spells, Spells.nothing, Spells.quote, Spells.backslash, Spells.other, is_word_byte, joint_bytes, mark_bytes}
+use Rattle.olap_grammar.specs.Cutting.{AreWordBytes, IsCut, IsCut.end, IsCut.blank, IsCut.tab, IsCut.word, IsCut.quoted, IsCut.signed, IsCut.marked, Spells, Spells.nothing, Spells.quote, Spells.backslash, Spells.other, is_word_byte, joint_bytes, mark_bytes}
 use Rattle.olap_grammar.specs.CuttingMachine.{tokens_of}
-use Rattle.olap_grammar.specs.Grammar.{IsFormula, IsFormula.looser, IsFormula.joined, IsFormula.negated, IsFormula.bracketed, IsFormula.listed, IsFormula.plain, IsFormula.equal, IsItems, IsItems.last, IsItems.more, IsList, IsList.none, IsList.some, join}
-use Rattle.olap_grammar.specs.Words.{atoms_of, equal_of, equality_of, id_of, path_of, pieces_of, plain_of, reach_of}
+use Rattle.olap_grammar.specs.Grammar.{IsFormula, IsFormula.looser, IsFormula.joined, IsFormula.negated, IsFormula.bracketed, IsFormula.listed, IsFormula.plain, IsFormula.equal, IsFormula.compared, IsItems, IsItems.last, IsItems.more, IsList, IsList.none, IsList.some, join}
+use Rattle.olap_numerals.specs.Comparing.{Op}
+use Rattle.olap_grammar.specs.Words.{atoms_of, compared_of, comparison_in, comparison_of, equal_of, equality_of, id_of, is_number_token, path_of, pieces_of, plain_of, reach_of}
 use Rattle.olap_grammar.specs.declared.tokens.Joint.{Joint}
 use Rattle.olap_grammar.specs.declared.tokens.Joint.TheVariants as joint
 use Rattle.olap_grammar.specs.declared.tokens.Token.{Token}
 use Rattle.olap_grammar.specs.declared.tokens.Token.TheVariants as token
 use Rattle.olap_grammar.specs.declared.tokens.Mark.{Mark}
 use Rattle.olap_grammar.specs.declared.tokens.Mark.TheVariants as mark
+use Rattle.olap_grammar.specs.declared.tokens.Version.{Version}
+use Rattle.olap_grammar.specs.declared.tokens.Version.TheVariants as version
 use Rattle.olap_grammar.proofs.CutSound.{found_is_cut}
 use Rattle.olap_schema.specs.Lines.{is_bad, is_control}
 use Rattle.olap_schema.specs.PrintingLaws.{AreTexts}
@@ -135,6 +138,9 @@ either false c h = inr h
 in_range : (low high b : ℕ) → is_in_range low high b ≡ true → b ≤ high
 in_range low high b h = leb-true b high (first_holds _ _ h).1
 
+digit_byte : (b : ℕ) → is_ascii_digit b ≡ true → b < 128
+digit_byte b h = let l = in_range 48 57 b h in omega arith
+
 letter_or_digit : (b : ℕ) → is_ascii_alphanumeric b ≡ true → b < 128
 letter_or_digit b h = elim (either (is_in_range 48 57 b || is_in_range 65 90 b) (is_in_range 97 122 b) h) [
   | inl left ↦ elim (either (is_in_range 48 57 b) (is_in_range 65 90 b) left) [
@@ -170,11 +176,16 @@ mark_ascii mark.Close = (omega arith, tt)
 mark_ascii mark.Comma = (omega arith, tt)
 mark_ascii mark.Colon = (omega arith, tt)
 mark_ascii mark.Equal = (omega arith, tt)
+mark_ascii mark.Less = (omega arith, tt)
+mark_ascii mark.AtMost = (omega arith, (omega arith, tt))
 mark_ascii mark.Not = (omega arith, tt)
 mark_ascii (mark.Joint j) = joint_ascii j
 
 no_quote : (w : List ℕ) (k : List ℕ) → token.Word w ≡ token.Quoted k → ⊥
 no_quote w k e = absurd (cc)
+
+no_number : (w : List ℕ) (k : List ℕ) → token.Signed w ≡ token.Quoted k → ⊥
+no_number w k e = absurd (cc)
 
 no_string : (m : Mark) (k : List ℕ) → token.Mark m ≡ token.Quoted k → ⊥
 no_string m k e = absurd (cc)
@@ -182,7 +193,7 @@ no_string m k e = absurd (cc)
 same_string : (j k : List ℕ) → token.Quoted j ≡ token.Quoted k → j ≡ k
 same_string j k e = cc
 
-cut_is_fine : {line : List ℕ} {ts : List Token} → IsCut line ts → IsPlain line → AreFine ts
+cut_is_fine : {v : Version} {line : List ℕ} {ts : List Token} → IsCut v line ts → IsPlain line → AreFine ts
 cut_is_fine end p = tt
 cut_is_fine (blank {bs = bs} d) p = cut_is_fine d (past_ascii 32 bs (omega arith) p)
 cut_is_fine (tab {bs = bs} d) p = cut_is_fine d (past_ascii 9 bs (omega arith) p)
@@ -193,12 +204,16 @@ cut_is_fine (quoted {body = body} {k = k} {bs = bs} s d) p =
     let t = cut_plain body 34 bs (omega arith) inner in
     let text : IsPlain k = record { utf8 = spelt s [] t.0.utf8; plain = spelt_controls s t.0.plain } in
     (λ j q. subst IsPlain (same_string k j q) text, cut_is_fine d (past_ascii 34 bs (omega arith) t.1))
-cut_is_fine (marked m {bs = bs} d) p =
+cut_is_fine (signed b w {bs = bs} two digit h e d) p =
+    let ascii : AreAscii (45 ∷ b ∷ w) = (omega arith, (digit_byte b digit, word_ascii w h)) in
+    (λ k q. absurd (no_number (45 ∷ b ∷ w) k q), cut_is_fine d (past_all (45 ∷ b ∷ w) bs ascii p))
+cut_is_fine (marked m {bs = bs} known ends d) p =
     (λ k q. absurd (no_string m k q), cut_is_fine d (past_all (mark_bytes m) bs (mark_ascii m) p))
 
 -- the tokens of such a line
-pub line_is_fine : (line : List ℕ) (ts : List Token) → is_bad line ≡ false → tokens_of line ≡ Some ts → AreFine ts
-line_is_fine line ts h e = cut_is_fine (found_is_cut line ts e) (from_not_bad line h)
+pub line_is_fine : (v : Version) (line : List ℕ) (ts : List Token) → is_bad line ≡ false → tokens_of v line ≡ Some ts
+    → AreFine ts
+line_is_fine v line ts h e = cut_is_fine (found_is_cut v line ts e) (from_not_bad line h)
 
 -- ---- formulas
 
@@ -260,6 +275,21 @@ equality_texts : (g : Graph) (w k : List ℕ) → IsPlain k → Finds (equality_
 unfolding equality_of
 equality_texts g w k p = equal_texts g k (pieces_of 46 w) p
 
+compared_texts : (g : Graph) (op : Op) (n : ℤ) (parts : List (List ℕ)) → Finds (compared_of g op n parts)
+compared_texts g op n parts =
+    pick (not (list_all is_category_name parts)) _ _ nothing_found
+    (pick (length parts == 1) _ _
+    (one_found (Meaning.Formula.Compare (id_of g (slice_index_or parts 0 [])) op n) no_texts)
+    (pick (length parts == 2) _ _
+    (one_found (Meaning.Formula.Compare (id_of g (slice_index_or parts 1 [])) op n) no_texts) nothing_found))
+
+comparison_texts : (v : Version) (g : Graph) (w : List ℕ) (op : Op) (digits : List ℕ)
+    → Finds (comparison_in v g w op digits)
+unfolding comparison_of
+comparison_texts version.One g w op digits = nothing_found
+comparison_texts version.Two g w op digits =
+    pick (is_number_token digits) _ _ (compared_texts g op _ (pieces_of 46 w)) nothing_found
+
 both_texts : (xs ys : List Equality) → AreTexts xs → AreTexts ys → AreTexts (xs ++ ys)
 both_texts xs ys p q a c = elim (Contains-append_cases xs ys a c) [ inl d ↦ p a d | inr d ↦ q a d ]
 
@@ -271,10 +301,10 @@ join_texts joint.Xor f g p q = both_texts (equalities f) (equalities g) p q
 join_texts joint.Or f g p q = both_texts (equalities f) (equalities g) p q
 join_texts joint.And f g p q = both_texts (equalities f) (equalities g) p q
 
-module _ (g : Graph) where
+module _ (v : Version) (g : Graph) where
   mutual
     -- the constants of a formula of such tokens
-    pub formula_is_fine : {n : ℕ} {ts : List Token} {f : Formula} → IsFormula (atoms_of g) n ts f → AreFine ts
+    pub formula_is_fine : {n : ℕ} {ts : List Token} {f : Formula} → IsFormula (atoms_of v g) n ts f → AreFine ts
         → AreTexts (equalities f)
     formula_is_fine (looser d) h = formula_is_fine d h
     formula_is_fine (joined j {left = left} {right = right} {f = f} {g = k} d e) h =
@@ -285,13 +315,14 @@ module _ (g : Graph) where
     formula_is_fine (listed {ts = ts} d) h = list_is_fine d (parts_fine ts (token.Mark mark.Close ∷ []) h.1.1).0
     formula_is_fine (plain {w = w} {f = f} e) h = plain_texts g w f e
     formula_is_fine (equal {w = w} {k = k} {f = f} e) h = equality_texts g w k (h.1.1.0 k refl) f e
+    formula_is_fine (compared op t {w = w} {digits = digits} {f = f} p e) h = comparison_texts v g w op digits f e
 
-    list_is_fine : {ts : List Token} {fs : Terms} → IsList (atoms_of g) ts fs → AreFine ts
+    list_is_fine : {ts : List Token} {fs : Terms} → IsList (atoms_of v g) ts fs → AreFine ts
         → AreTexts (equalities_of_terms fs)
     list_is_fine none h = no_texts
     list_is_fine (some d) h = items_are_fine d h
 
-    items_are_fine : {ts : List Token} {fs : Terms} → IsItems (atoms_of g) ts fs → AreFine ts
+    items_are_fine : {ts : List Token} {fs : Terms} → IsItems (atoms_of v g) ts fs → AreFine ts
         → AreTexts (equalities_of_terms fs)
     items_are_fine (last {f = f} d) h = both_texts (equalities f) [] (formula_is_fine d h) no_texts
     items_are_fine (more {ts = ts} {us = us} {f = f} {fs = fs} d e) h =

@@ -3,7 +3,7 @@
 --     same_readable          the same, of the parts
 --     left_over              what is left, copied in two parts
 --     Contains-remove        what is left stood there
---     atoms_left             the atoms that are left stood there
+--     atoms_left, number_atoms_left    the atoms that are left stood there
 use Rattle.std.proofs.Common.{◌≡◌, ◌<◌, ◌≤◌, ◌+◌, ℕ, suc, List, ◌++◌, length, get_or, take, drop, inl, inr, map, ap, sym, subst, ◌∙◌, arith}
 use Rattle.std.specs.Prelude.{Contains, flat_map, remove, sum_by}
 use Rattle.std.proofs.lemmas.List.{drop-map, take-append-drop, take-map}
@@ -13,11 +13,11 @@ use Rattle.std.proofs.lemmas.List.Elements.{Contains-append_cases, Contains-appe
 use Rattle.std.proofs.lemmas.List.Sums.{sum_by-append, sum_by-drop_more, sum_by-take-drop}
 use Rattle.olap_base.specs.Graph.{Graph}
 use Rattle.olap_ast.specs.Findings.{without}
-use Rattle.olap_ast.specs.Formula.{Equality, Formula.Truth, equalities}
+use Rattle.olap_ast.specs.Formula.{Comparison, Equality, Formula.Truth, comparisons, equalities}
 use Rattle.olap_ast.specs.Schema.{Constraint, Schema}
 use Rattle.olap_ast.specs.Valid.{node_count}
 use Rattle.olap_schema.specs.PrintingLaws.{IsReadable}
-use Rattle.olap_schema.proofs.PairCounting.{few_pairs}
+use Rattle.olap_schema.proofs.PairCounting.{few_numbers, few_pairs}
 
 pub Contains-remove : {A : Type 0} (xs : List A) (k : ℕ) (x : A) → Contains (remove xs k) x → Contains xs x
 Contains-remove xs k x c = elim (Contains-append_cases (take k xs) (drop (suc k) xs) x c) [
@@ -46,6 +46,11 @@ pub atoms_left : (cs : List Constraint) (k : ℕ) (a : Equality)
     → Contains (flat_map (λ c. equalities c.formula) (remove cs k)) a
     → Contains (flat_map (λ c. equalities c.formula) cs) a
 atoms_left cs k a c = flat_left (λ c. equalities c.formula) cs k a c
+
+pub number_atoms_left : (cs : List Constraint) (k : ℕ) (a : Comparison)
+    → Contains (flat_map (λ c. comparisons c.formula) (remove cs k)) a
+    → Contains (flat_map (λ c. comparisons c.formula) cs) a
+number_atoms_left cs k a c = flat_left (λ c. comparisons c.formula) cs k a c
 
 fewer_nodes : {A : Type 0} (f : A → ℕ) (xs : List A) (k : ℕ) (d : A) → k < length xs
     → sum_by f (remove xs k) ≤ sum_by f xs
@@ -82,6 +87,9 @@ without_is_readable s k l r =
             let few = few_pairs
             (flat_map (λ c. equalities c.formula) (remove s.constraints k))
             (flat_map (λ c. equalities c.formula) s.constraints) (atoms_left s.constraints k) in
+            let few_too = few_numbers
+            (flat_map (λ c. comparisons c.formula) (remove s.constraints k))
+            (flat_map (λ c. comparisons c.formula) s.constraints) (number_atoms_left s.constraints k) in
             let fit = r.valid.constants_fit in
             omega arith;
       };

@@ -5,26 +5,27 @@
 --     question_read    the text of a question's formula, given a schema and a root
 -- Two functions that are cited are machines: `tokens_of` and `the_formula`. The laws `FoundAsCut` and `FoundAsFormula`
 -- of `olap_grammar` say that they are the relations `IsCut` and `IsFormula`.
-use Rattle.std.specs.Prelude.{◌==◌, ◌||◌, ◌+◌, ◌-◌, ℕ, not, List, [], ◌∷◌, ◌++◌, Option, Some, None, Result, Ok, Err, length, find, fold, is_some, nat_lt, nat_le, slice_index, if◌then◌else◌}
+use Rattle.std.specs.Prelude.{◌==◌, ◌||◌, ◌&&◌, ◌+◌, ◌-◌, ℕ, Bool, true, false, not, List, [], ◌∷◌, ◌++◌, Option, Some, None, Result, Ok, Err, length, find, fold, is_some, unwrap_or, nat_lt, nat_le, slice_index, if◌then◌else◌}
 use Rattle.std.specs.List.{list_any, range_with_len}
 use Rattle.olap_base.specs.Reaching.{category_reaches}
 use Rattle.olap_base.specs.Graph.{Graph}
 use Rattle.olap_base.specs.Naming.{Fault}
 use Rattle.olap_base.specs.Limits.{most_constants, most_constraints, most_nodes, most_text_bytes}
-use Rattle.olap_graph.specs.Building.{all_alone, category_refusal, edge_refusal, with_category, with_edge}
+use Rattle.olap_graph.specs.Building.{all_alone, category_refusal, edge_refusal, with_edge, with_kind}
 use Rattle.olap_graph.specs.Lookups.{category_named, name_of_category}
 use Rattle.olap_graph.specs.declared.refusals.CategoryRefusal.{CategoryRefusal}
 use Rattle.olap_graph.specs.declared.refusals.CategoryRefusal.TheVariants as of_category
 use Rattle.olap_graph.specs.declared.refusals.EdgeRefusal.{EdgeRefusal}
 use Rattle.olap_graph.specs.declared.refusals.EdgeRefusal.TheVariants as of_edge
-use Rattle.olap_ast.specs.Constants.{all_equalities}
-use Rattle.olap_ast.specs.Formula.{Equality, Formula, equalities}
+use Rattle.olap_ast.specs.Constants.{all_comparisons, all_equalities}
+use Rattle.olap_ast.specs.Formula.{Comparison, Equality, Formula, comparisons, equalities}
 use Rattle.olap_ast.specs.Schema.{Constraint, Schema}
-use Rattle.olap_ast.specs.Valid.{distinct_pairs, with_pair}
+use Rattle.olap_ast.specs.Valid.{pair_count, with_number, with_pair}
 use Rattle.olap_grammar.specs.Answering.{formula_answer}
 use Rattle.olap_grammar.specs.Brackets.{opens_over}
 use Rattle.olap_grammar.specs.CuttingMachine.{tokens_of}
 use Rattle.olap_grammar.specs.Machine.{the_formula}
+use Rattle.olap_grammar.specs.Nodes.{nodes_of}
 use Rattle.olap_grammar.specs.Words.{atoms_of}
 use Rattle.olap_grammar.specs.declared.refusals.FormRefusal.{FormRefusal}
 use Rattle.olap_grammar.specs.declared.refusals.FormRefusal.TheVariants as form
@@ -33,13 +34,14 @@ use Rattle.olap_schema.specs.Atoms.{atom_fault}
 use Rattle.olap_schema.specs.Lines.{chomped, is_bad, is_quiet, lines_of}
 use Rattle.olap_schema.specs.Statements as says
 use Rattle.olap_schema.specs.Statements.{Statement, statement_of}
-use Rattle.olap_schema.specs.Tokens.{is_long, token_nodes}
+use Rattle.olap_schema.specs.Tokens.{is_bad_number, is_long}
 use Rattle.olap_schema.specs.declared.kinds.SchemaKind.{SchemaKind}
 use Rattle.olap_schema.specs.declared.kinds.SchemaKind.TheVariants as kind
-use Rattle.olap_schema.specs.declared.statements.Version.{Version}
+use Rattle.olap_grammar.specs.declared.tokens.Version.{Version}
+use Rattle.olap_grammar.specs.declared.tokens.Version.TheVariants as version
 
 -- the version, once its line was read, the graph, the lines of its categories, the constraints, how many nodes they
--- have, and their distinct pairs of a category and a constant
+-- have, and their distinct pairs of a category and a constant, a text or a number
 pub record Above : Type 0 where
   pub version : Option Version
   pub graph : Graph
@@ -47,6 +49,11 @@ pub record Above : Type 0 where
   pub constraints : List Constraint
   pub nodes : ℕ
   pub pairs : List Equality
+  pub numbers : List Comparison
+
+-- the version by which a line is read: the first before the version is known
+abbrev pub version_at : Above → Version
+version_at a = unwrap_or a.version version.One
 
 -- ---- categories and edges
 
@@ -56,17 +63,23 @@ category_kind of_category.DuplicateCategory = kind.DuplicateCategory
 category_kind of_category.TooManyCategories = kind.TooManyCategories
 category_kind of_category.Memory = kind.TooManyCategories
 
--- the category is added, on the n-th line, or refused
-abbrev pub category_added : Above → ℕ → List ℕ → Option CategoryRefusal → Result Above SchemaKind
-category_added a n name (Some e) = Err (category_kind e)
-category_added a n name None =
-    Ok (record a { graph = with_category a.graph name; category_lines = a.category_lines ++ n ∷ [] })
+-- the category is added, on the n-th line, with texts or numbers as its names, or refused
+abbrev pub category_added : Above → ℕ → List ℕ → Bool → Option CategoryRefusal → Result Above SchemaKind
+category_added a n name number (Some e) = Err (category_kind e)
+category_added a n name number None =
+    Ok (record a { graph = with_kind number a.graph name; category_lines = a.category_lines ++ n ∷ [] })
+
+-- the members of a category may be named by numbers: not so in the first version
+abbrev pub allows_numbers : Version → Bool
+allows_numbers version.One = false
+allows_numbers version.Two = true
 
 -- a category's line
-abbrev pub category_read : Above → ℕ → List ℕ → Result Above SchemaKind
-category_read a n name =
-    if nat_lt most_text_bytes (length name) then Err kind.TextTooLong
-    else category_added a n name (category_refusal a.graph name)
+abbrev pub category_read : Above → ℕ → Version → List ℕ → Bool → Result Above SchemaKind
+category_read a n v name number =
+    if number && not (allows_numbers v) then Err kind.BadForm
+    else if nat_lt most_text_bytes (length name) then Err kind.TextTooLong
+    else category_added a n name number (category_refusal a.graph name)
 
 -- the fault that a refused edge is; `edge_refusal` never says `Memory`
 abbrev pub edge_kind : EdgeRefusal → SchemaKind
@@ -106,57 +119,61 @@ abbrev pub form_answer : Result Formula FormRefusal → Result Formula SchemaKin
 form_answer (Ok f) = Ok f
 form_answer (Err e) = Err (form_kind e)
 
--- the formula of the tokens, with so many nodes on the lines above
-unfoldable pub form_read : Graph → ℕ → List Token → Result Formula SchemaKind
-form_read g before ts =
-    if nat_lt most_nodes (before + token_nodes ts) then Err kind.TooManyNodes
+-- the formula of the tokens by the version, with so many nodes on the lines above
+unfoldable pub form_read : Version → Graph → ℕ → List Token → Result Formula SchemaKind
+form_read v g before ts =
+    if nat_lt most_nodes (before + nodes_of v ts) then Err kind.TooManyNodes
     else if opens_over 0 0 ts then Err kind.TooDeep
-    else form_answer (formula_answer (the_formula (atoms_of g) ts))
+    else form_answer (formula_answer (the_formula (atoms_of v g) ts))
 
 -- ---- constraints
 
 -- the constraint is added, with the pairs that there are then
-abbrev pub constraint_added : Above → ℕ → List Token → Formula → List Equality → Result Above SchemaKind
-constraint_added a root ts f pairs =
-    if nat_lt most_constants (length pairs) then Err kind.TooManyConstants
+abbrev pub constraint_added : Above → Version → ℕ → List Token → Formula → List Equality → List Comparison
+    → Result Above SchemaKind
+constraint_added a v root ts f pairs numbers =
+    if nat_lt most_constants (length pairs + length numbers) then Err kind.TooManyConstants
     else Ok (record a {
       constraints = a.constraints ++ record { root = root; formula = f } ∷ [];
-      nodes = a.nodes + token_nodes ts;
+      nodes = a.nodes + nodes_of v ts;
       pairs = pairs;
+      numbers = numbers;
     })
 
 -- after the check of the atoms
-abbrev pub atoms_read : Above → ℕ → List Token → Formula → Option SchemaKind → Result Above SchemaKind
-atoms_read a root ts f (Some k) = Err k
-atoms_read a root ts f None = constraint_added a root ts f (fold with_pair a.pairs (equalities f))
+abbrev pub atoms_read : Above → Version → ℕ → List Token → Formula → Option SchemaKind → Result Above SchemaKind
+atoms_read a v root ts f (Some k) = Err k
+atoms_read a v root ts f None =
+    constraint_added a v root ts f (fold with_pair a.pairs (equalities f)) (fold with_number a.numbers (comparisons f))
 
 -- after the look-up of the root
-abbrev pub root_read : Above → List ℕ → List Token → Formula → Option ℕ → Result Above SchemaKind
-root_read a name ts f None = Err kind.UnknownCategory
-root_read a name ts f (Some root) =
+abbrev pub root_read : Above → Version → List ℕ → List Token → Formula → Option ℕ → Result Above SchemaKind
+root_read a v name ts f None = Err kind.UnknownCategory
+root_read a v name ts f (Some root) =
     if root == 0 then Err kind.RootIsAll
     else if nat_le most_constraints (length a.constraints) then Err kind.TooManyConstraints
-    else atoms_read a root ts f (atom_fault a.graph name ts)
+    else atoms_read a v root ts f (atom_fault a.graph name ts)
 
 -- after the reading of the formula
-abbrev pub formed_read : Above → List ℕ → List Token → Result Formula SchemaKind → Result Above SchemaKind
-formed_read a name ts (Err k) = Err k
-formed_read a name ts (Ok f) =
+abbrev pub formed_read : Above → Version → List ℕ → List Token → Result Formula SchemaKind → Result Above SchemaKind
+formed_read a v name ts (Err k) = Err k
+formed_read a v name ts (Ok f) =
     if nat_lt most_text_bytes (length name) || list_any is_long ts then Err kind.TextTooLong
-    else root_read a name ts f (category_named a.graph name)
+    else if list_any is_bad_number ts then Err kind.BadNumber
+    else root_read a v name ts f (category_named a.graph name)
 
 -- a constraint's line
-abbrev pub constraint_read : Above → List ℕ → List Token → Result Above SchemaKind
-constraint_read a name ts = formed_read a name ts (form_read a.graph a.nodes ts)
+abbrev pub constraint_read : Above → Version → List ℕ → List Token → Result Above SchemaKind
+constraint_read a v name ts = formed_read a v name ts (form_read v a.graph a.nodes ts)
 
 -- ---- a line
 
 -- a line that says this, by the version of the text: before it is known, a line must say which it is
 abbrev pub statement_read : Above → ℕ → Option Version → Statement → Result Above SchemaKind
 statement_read a n None (says.Statement.Version v) = Ok (record a { version = Some v })
-statement_read a n (Some v) (says.Statement.Category name) = category_read a n name
+statement_read a n (Some v) (says.Statement.Category name number) = category_read a n v name number
 statement_read a n (Some v) (says.Statement.Edge child parent) = edge_read a child parent
-statement_read a n (Some v) (says.Statement.Constraint root ts) = constraint_read a root ts
+statement_read a n (Some v) (says.Statement.Constraint root ts) = constraint_read a v root ts
 statement_read a n v s = Err kind.BadForm
 
 -- a line that says something
@@ -169,7 +186,7 @@ unfoldable pub line_read : Above → ℕ → List ℕ → Result Above SchemaKin
 line_read a n line =
     if is_bad line then Err kind.BadByte
     else if is_quiet line then Ok a
-    else tokens_read a n (tokens_of line)
+    else tokens_read a n (tokens_of (version_at a) line)
 
 -- ---- a text
 
@@ -185,8 +202,15 @@ lines_on (Ok a) n (line ∷ lines) = lines_on (line_read a (n + 1) (chomped line
 
 -- before the first line
 abbrev pub nothing_above : Above
-nothing_above =
-    record { version = None; graph = all_alone; category_lines = []; constraints = []; nodes = 0; pairs = [] }
+nothing_above = record {
+  version = None;
+  graph = all_alone;
+  category_lines = [];
+  constraints = [];
+  nodes = 0;
+  pairs = [];
+  numbers = [];
+}
 
 -- the first declared category that doesn't reach `All`
 abbrev pub first_stuck : Graph → Option ℕ
@@ -213,20 +237,22 @@ schema_read text = text_ended (lines_on (Ok nothing_above) 0 (lines_of text))
 abbrev pub question_added : Schema → Formula → Option SchemaKind → Result Formula SchemaKind
 question_added s f (Some k) = Err k
 question_added s f None =
-    if nat_lt most_constants (length (distinct_pairs (all_equalities s f))) then Err kind.TooManyConstants else Ok f
+    if nat_lt most_constants (pair_count (all_equalities s f) (all_comparisons s f)) then Err kind.TooManyConstants
+    else Ok f
 
 -- after the reading of the formula
 abbrev pub question_formed : Schema → ℕ → List Token → Result Formula SchemaKind → Result Formula SchemaKind
 question_formed s root ts (Err k) = Err k
 question_formed s root ts (Ok f) =
     if list_any is_long ts then Err kind.TextTooLong
+    else if list_any is_bad_number ts then Err kind.BadNumber
     else question_added s f (atom_fault s.graph (name_of_category s.graph root) ts)
 
--- a question that has no bad byte
+-- a question that has no bad byte, by the second version, whatever the schema's was
 abbrev pub question_cut : Schema → ℕ → Option (List Token) → Result Formula SchemaKind
 question_cut s root None = Err kind.BadForm
-question_cut s root (Some ts) = question_formed s root ts (form_read s.graph 0 ts)
+question_cut s root (Some ts) = question_formed s root ts (form_read version.Two s.graph 0 ts)
 
 -- the formula that the text is, at the root, or its first fault
 unfoldable pub question_read : Schema → ℕ → List ℕ → Result Formula SchemaKind
-question_read s root text = if is_bad text then Err kind.BadByte else question_cut s root (tokens_of text)
+question_read s root text = if is_bad text then Err kind.BadByte else question_cut s root (tokens_of version.Two text)

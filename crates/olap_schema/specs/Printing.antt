@@ -1,13 +1,15 @@
 -- The canonical text of a schema.
 --     formula_text     a formula at a root
 --     schema_text      a schema
-use Rattle.std.specs.Prelude.{◌==◌, ◌++◌, ℕ, List, [], ◌∷◌, codes, map, if◌then◌else◌}
+use Rattle.std.specs.Prelude.{◌==◌, ◌++◌, ℕ, Bool, true, false, List, [], ◌∷◌, codes, map, if◌then◌else◌}
 use Rattle.olap_base.specs.Graph.{Edge, Graph}
 use Rattle.olap_graph.specs.Lookups.{name_of_category}
 use Rattle.olap_ast.specs.Formula as Meaning
 use Rattle.olap_ast.specs.Formula.{Formula, Terms}
 use Rattle.olap_ast.specs.Schema.{Constraint, Schema}
-use Rattle.olap_grammar.specs.Cutting.{joint_bytes}
+use Rattle.olap_numerals.specs.Numerals.{canonical}
+use Rattle.olap_grammar.specs.Cutting.{joint_bytes, mark_bytes}
+use Rattle.olap_grammar.specs.Grammar.{comparing}
 use Rattle.olap_grammar.specs.Quoting.{quoted}
 use Rattle.olap_grammar.specs.declared.tokens.Joint.{Joint}
 use Rattle.olap_grammar.specs.declared.tokens.Joint.TheVariants as joint
@@ -39,6 +41,8 @@ abbrev mutual
   formula_text g r (Meaning.Formula.Reach d) = atom_word g r 46 (d ∷ [])
   formula_text g r (Meaning.Formula.Via d e) = atom_word g r 46 (d ∷ e ∷ [])
   formula_text g r (Meaning.Formula.Equals d k) = compared_word g r d ++ 32 ∷ 61 ∷ 32 ∷ quoted k
+  formula_text g r (Meaning.Formula.Compare d op n) =
+      compared_word g r d ++ 32 ∷ (mark_bytes (comparing op) ++ 32 ∷ canonical n)
   formula_text g r (Meaning.Formula.Not f) = 33 ∷ formula_text g r f
   formula_text g r (Meaning.Formula.And f h) = joined_text joint.And (formula_text g r f) (formula_text g r h)
   formula_text g r (Meaning.Formula.Or f h) = joined_text joint.Or (formula_text g r f) (formula_text g r h)
@@ -60,10 +64,21 @@ abbrev mutual
 -- ---- lines, without their LF
 
 abbrev pub version_text : List ℕ
-version_text = codes "schema 1"
+version_text = codes "schema 2"
 
-abbrev pub category_text : List ℕ → List ℕ
-category_text name = codes "category " ++ name
+-- what stands behind the name of a category
+abbrev pub kind_text : Bool → List ℕ
+kind_text true = codes " number"
+kind_text false = []
+
+abbrev pub category_text : List ℕ → Bool → List ℕ
+category_text name number = codes "category " ++ (name ++ kind_text number)
+
+-- a line for each category
+unfoldable pub category_texts : List (List ℕ) → List Bool → List (List ℕ)
+category_texts [] numbers = []
+category_texts (name ∷ names) [] = category_text name false ∷ category_texts names []
+category_texts (name ∷ names) (number ∷ numbers) = category_text name number ∷ category_texts names numbers
 
 abbrev pub edge_text : Graph → Edge → List ℕ
 edge_text g e = codes "edge " ++ (name_of_category g e.child ++ 32 ∷ name_of_category g e.parent)
@@ -81,7 +96,7 @@ ended_line line = line ++ 10 ∷ []
 -- the lines of a schema
 abbrev pub schema_lines : Schema → List (List ℕ)
 schema_lines s =
-    version_text ∷ (map category_text s.graph.names ++ (map (edge_text s.graph) s.graph.edges
+    version_text ∷ (category_texts s.graph.names s.graph.numbers ++ (map (edge_text s.graph) s.graph.edges
     ++ map (constraint_text s.graph) s.constraints))
 
 -- the lines, each with its LF

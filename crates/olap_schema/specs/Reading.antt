@@ -6,14 +6,16 @@ use Rattle.olap_ast.specs.Trees.{constraint_of, formula_of}
 use Rattle.olap_ast.specs.declared.formulas.Formula.{Formula}
 use Rattle.olap_grammar.specs.Brackets.{opens_over}
 use Rattle.olap_grammar.specs.Tallying.{counted_nodes}
+use Rattle.olap_grammar.specs.Nodes.{nodes_of}
 use Rattle.olap_grammar.specs.declared.tallying.Tally.{Tally}
+use Rattle.olap_grammar.specs.declared.tokens.Version.{Version}
 use Rattle.olap_grammar.specs.declared.tokens.Token.{Token}
 use Rattle.olap_schema.specs.Judging.{Above}
 use Rattle.olap_schema.specs.Statements as says
-use Rattle.olap_schema.specs.Tokens.{token_nodes}
 use Rattle.olap_schema.specs.declared.kinds.FormulaRefusal.{FormulaRefusal}
 use Rattle.olap_schema.specs.declared.kinds.FormulaRefusal.TheVariants as refusal
 use Rattle.olap_schema.specs.declared.kinds.SchemaKind.{SchemaKind}
+use Rattle.olap_schema.specs.declared.pairing.NumberPair.{NumberPair}
 use Rattle.olap_schema.specs.declared.pairing.Pair.{Pair}
 use Rattle.olap_schema.specs.declared.reading.Reading.{Reading}
 use Rattle.olap_schema.specs.declared.statements.Statement.{Statement}
@@ -34,9 +36,13 @@ abbrev pub Finds : {A : Type 0} → Result A FormulaRefusal → Option SchemaKin
 Finds (Ok u) first = first ≡ None
 Finds (Err e) first = FindsFault e first
 
--- a pair of a category and a constant
+-- a pair of a category and a text
 abbrev pub pair_of : Pair → Meaning.Equality
 pair_of p = record { category = p.category.0; text = p.text }
+
+-- a pair of a category and a number
+abbrev pub number_pair_of : NumberPair → Meaning.Comparison
+number_pair_of p = record { category = p.category.0; number = p.number }
 
 -- what the reader knows
 abbrev pub above_of : Reading → Above
@@ -47,6 +53,7 @@ above_of r = record {
   constraints = map constraint_of r.constraints.items;
   nodes = r.nodes;
   pairs = map pair_of r.pairs.items;
+  numbers = map number_pair_of r.numbers.items;
 }
 
 -- the reader goes on to what it knows now, or the line has that fault
@@ -62,18 +69,18 @@ ReadsFormula (Err e) read = IsFault e read
 -- what the tokens of a line say
 abbrev pub said : Statement → says.Statement
 said (statement.Version v) = says.Statement.Version v
-said (statement.Category name) = says.Statement.Category name.now
+said (statement.Category name number) = says.Statement.Category name.now number
 said (statement.Edge child parent) = says.Statement.Edge child.now parent.now
 said (statement.Constraint root tokens) = says.Statement.Constraint root.now tokens.now
 said statement.Other = says.Statement.Other
 
 -- the name of a new category is a category name
 abbrev pub HasName : Statement → Type 0
-HasName (statement.Category name) = IsTrue (is_category_name name.now)
+HasName (statement.Category name number) = IsTrue (is_category_name name.now)
 HasName s = Unit {0}
 
 -- what was counted of these tokens and of so many nodes in front of them
-pub record IsTallyBehind (front : ℕ) (y : Tally) (ts : List Token) : Type 0 where
-  pub few : y.nodes ≤ front + token_nodes ts
-  pub nodes : y.nodes < counted_nodes → y.nodes ≡ front + token_nodes ts
+pub record IsTallyBehind (v : Version) (front : ℕ) (y : Tally) (ts : List Token) : Type 0 where
+  pub few : y.nodes ≤ front + nodes_of v ts
+  pub nodes : y.nodes < counted_nodes → y.nodes ≡ front + nodes_of v ts
   pub too_deep : y.too_deep ≡ opens_over 0 0 ts

@@ -2,7 +2,7 @@
 ghost use Rattle.olap_grammar.specs.Known.{graph_seen};
 ghost use Rattle.olap_grammar.specs.Words.{pieces_behind, pieces_of};
 ghost use Rattle.olap_graph.specs.Lookups.{category_named};
-ghost use Rattle.olap_schema.specs.Atoms.{atom_fault, has_edge, is_connective as is_connective_of, is_known as is_known_of, is_repeated as is_repeated_of, lacks_edge as lacks_edge_of, named_fault, stands_in as stands_in_of, token_fault, word_fault};
+ghost use Rattle.olap_schema.specs.Atoms.{asks_number as asks_number_of, atom_fault, compares_numbers as compares_numbers_of, has_edge, has_numbers as has_numbers_of, is_known as is_known_of, is_no_atom as is_no_atom_of, is_repeated as is_repeated_of, kind_fault, lacks_edge as lacks_edge_of, named_fault, stands_in as stands_in_of, token_fault, word_fault};
 ghost use Rattle.olap_schema.specs.Reading.{Finds};
 ghost use Rattle.std.specs.List.{list_all};
 ghost use Rattle.std.specs.Prelude.{◌≡◌, ◌<◌, IfOk, false, length, true};
@@ -10,15 +10,15 @@ ghost use Rattle.std.specs.Prelude.{◌≡◌, ◌<◌, IfOk, false, length, tru
 use crate::statements::is;
 use crate::{FormulaRefusal, SchemaKind};
 use olap_base::{Memory, Text};
-use olap_grammar::{Known, Token, first_piece, marks, pieces};
+use olap_grammar::{Known, Mark, Token, first_piece, is_number_token, marks, pieces};
 use std::alloc::Global;
 
-/// Whether the word is no atom but `true`, `false` or `one`.
-#[tactic(auto, unfolding(crate::specs::Atoms::is_connective))]
-fn is_connective(word: &[u8]) -> bool
-    ensures { result ≡ is_connective_of word.now }
+/// Whether the word is no atom: it is `true`, `false`, `one` or a number.
+#[tactic(auto, unfolding(crate::specs::Atoms::is_no_atom))]
+fn is_no_atom(word: &[u8]) -> bool
+    ensures { result ≡ is_no_atom_of word.now }
 {
-    is(word, b"true") || is(word, b"false") || is(word, b"one")
+    is(word, b"true") || is(word, b"false") || is(word, b"one") || is_number_token(word)
 }
 
 /// Whether the name is a category's.
@@ -152,7 +152,7 @@ fn check_path(alloc: Global, known: &Known, root: &[u8], path: &[u8]) -> Result<
 fn check_word(alloc: Global, known: &Known, root: &[u8], word: &[u8]) -> Result<(), FormulaRefusal>
     ensures { Finds result (word_fault (graph_seen known.now) root.now word.now) }
 {
-    if is_connective(word) {
+    if is_no_atom(word) {
         return Ok(());
     }
     if marks(b'_', word) > 0 {
@@ -162,17 +162,73 @@ fn check_word(alloc: Global, known: &Known, root: &[u8], word: &[u8]) -> Result<
     check_names(known, root, &parts)
 }
 
-/// The atom that a token is, if it is a word.
+/// Whether a word is compared with a number, or else with a string, if it is compared: the tokens behind it say.
+fn asks_number(behind: &[Token]) -> Option<bool>
+    ensures { result ≡ asks_number_of behind.now }
+{
+    match behind {
+        [Token::Mark(Mark::Equal), Token::Quoted(_), ..] => Some(false),
+        [Token::Mark(Mark::Equal), ..] => Some(true),
+        [Token::Mark(Mark::Less), ..] => Some(true),
+        [Token::Mark(Mark::AtMost), ..] => Some(true),
+        _ => None,
+    }
+}
+
+/// Whether the category of that name has members whose names are numbers.
+fn has_numbers(known: &Known, name: &[u8]) -> bool
+    ensures { result ≡ has_numbers_of (graph_seen known.now) (category_named (graph_seen known.now) name.now) }
+{
+    match known.category(name) {
+        Some(c) => known.is_number(c),
+        None => false,
+    }
+}
+
+/// Whether the word compares the names of a number category.
+fn compares_numbers(alloc: Global, known: &Known, word: &[u8]) -> Result<bool, Memory>
+    ensures { IfOk result (λ b. b ≡ compares_numbers_of (graph_seen known.now) word.now) }
+{
+    let names = pieces(alloc, b'.', word)?;
+    Ok(has_numbers(known, names[names.len() - 1].bytes()))
+}
+
+/// The kind of names that a word compares: a string is compared with a text category, and a number with a number
+/// category.
+fn check_kind(
+    alloc: Global,
+    known: &Known,
+    word: &[u8],
+    behind: &[Token],
+) -> Result<(), FormulaRefusal>
+    ensures { Finds result (kind_fault (graph_seen known.now) word.now (asks_number_of behind.now)) }
+{
+    match asks_number(behind) {
+        Some(number) => {
+            if compares_numbers(alloc, known, word)? != number {
+                return Err(FormulaRefusal::Fault(SchemaKind::WrongNames));
+            }
+            Ok(())
+        }
+        None => Ok(()),
+    }
+}
+
+/// The atom that a token is, if it is a word, with the tokens behind it.
 fn check_token(
     alloc: Global,
     known: &Known,
     root: &[u8],
     token: &Token,
+    behind: &[Token],
 ) -> Result<(), FormulaRefusal>
-    ensures { Finds result (token_fault (graph_seen known.now) root.now token.now) }
+    ensures { Finds result (token_fault (graph_seen known.now) root.now token.now behind.now) }
 {
     match token {
-        Token::Word(word) => check_word(alloc, known, root, word.bytes()),
+        Token::Word(word) => match check_word(alloc, known, root, word.bytes()) {
+            Ok(()) => check_kind(alloc, known, word.bytes(), behind),
+            Err(e) => Err(e),
+        },
         _ => Ok(()),
     }
 }
@@ -189,7 +245,7 @@ pub(crate) fn check_atoms(
 {
     let mut left = tokens;
     'tokens: while let Some((token, others)) = left.split_first() {
-        match check_token(alloc, known, root, token) {
+        match check_token(alloc, known, root, token, others) {
             Ok(()) => {}
             Err(e) => return Err(e),
         }

@@ -46,6 +46,10 @@ pub enum SchemaKind {
     TextTooLong,
     /// The category doesn't reach `All`.
     NoWayToAll,
+    /// A string is compared with a category whose names are numbers, or a number with another category.
+    WrongNames,
+    /// A number that is compared with is beyond the bounds of numerals, or has too many digits.
+    BadNumber,
 }
 
 impl SchemaKind {
@@ -75,6 +79,8 @@ impl SchemaKind {
             SchemaKind::TooManyConstants => "TooManyConstants",
             SchemaKind::TextTooLong => "TextTooLong",
             SchemaKind::NoWayToAll => "NoWayToAll",
+            SchemaKind::WrongNames => "WrongNames",
+            SchemaKind::BadNumber => "BadNumber",
         }
     }
 }

@@ -1,4 +1,4 @@
-//! Schema texts: reading a schema and a question's formula, and printing a schema.
+//! Schema texts of both versions: reading a schema and a question's formula, and printing a schema.
 //!
 //! A contract sees a `Schema` as the definitions' schema, and what `read_schema` gives as `schema_read` of the text:
 //! the schema, or the first fault with its line (`specs/Judging.antt`). Each schema is valid, so it is read back from

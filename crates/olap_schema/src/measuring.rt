@@ -2,18 +2,21 @@
 ghost use Rattle.olap_base.specs.Graph.{Graph};
 ghost use Rattle.olap_base.specs.Limits.{most_nodes};
 ghost use Rattle.olap_grammar.specs.Brackets.{most_tokens, opens_over};
+ghost use Rattle.olap_grammar.specs.Nodes.{nodes_of};
 ghost use Rattle.olap_grammar.specs.declared.tokens.Token.{Token as Tokens};
+ghost use Rattle.olap_grammar.specs.declared.tokens.Version.{Version as Versions};
 ghost use Rattle.olap_schema.specs.Judging.{form_read};
 ghost use Rattle.olap_schema.specs.Reading.{IsTallyBehind};
 ghost use Rattle.olap_grammar.specs.Words.{pieces_of};
 ghost use Rattle.olap_schema.specs.Atoms.{names_in};
-ghost use Rattle.olap_schema.specs.Tokens.{is_long as is_long_of, is_long_name, token_nodes};
+ghost use Rattle.olap_schema.specs.Tokens.{is_bad_number as is_bad_number_of, is_long as is_long_of, is_long_name, is_no_numeral as is_no_numeral_of};
 ghost use Rattle.std.specs.List.{list_any};
 ghost use Rattle.std.specs.Prelude.{◌≡◌, ◌≤◌, ◌<◌, List, Err, length};
 
 use crate::SchemaKind;
 use olap_base::{MOST_DEPTH, MOST_NODES, MOST_TEXT_BYTES};
-use olap_grammar::{Mark, Tally, Token, first_piece, marks};
+use olap_grammar::{Mark, Tally, Token, Version, first_piece, is_number_token, marks};
+use olap_numerals::number;
 
 /// How many tokens of a line are kept: as many as a formula may have, for each node two brackets at each depth and
 /// the three of a word with a string, and the three before it.
@@ -23,8 +26,8 @@ pub(crate) const MOST_TOKENS: usize = (2 * MOST_DEPTH as usize + 3) * MOST_NODES
 /// were counted in front of the formula.
 pub(crate) fn long_form_fault(before: u16, front: u16, tally: &Tally) -> SchemaKind
     requires { front ≤ 3 }
-    ensures { (g : Graph) (ts : List Tokens) → IsTallyBehind front tally.now ts → most_tokens most_nodes < length ts
-        → form_read g before ts ≡ Err result }
+    ensures { (v : Versions) (g : Graph) (ts : List Tokens) → IsTallyBehind v front tally.now ts
+        → most_tokens most_nodes < length ts → form_read v g before ts ≡ Err result }
 {
     if before as usize + tally.nodes as usize > MOST_NODES + front as usize {
         return SchemaKind::TooManyNodes;
@@ -35,13 +38,23 @@ pub(crate) fn long_form_fault(before: u16, front: u16, tally: &Tally) -> SchemaK
     SchemaKind::BadForm
 }
 
-/// How many nodes a formula of these tokens has.
-#[tactic(auto, using(crate::proofs::Counting::few_nodes))]
-pub(crate) fn nodes(tokens: &[Token]) -> usize
-    ensures count { result ≡ token_nodes tokens.now }
+/// How many nodes a formula of these tokens has: what stands right after a mark that compares is none.
+#[tactic(auto, unfolding(olap_grammar::specs::Nodes::nodes_behind))]
+pub(crate) fn nodes(version: Version, tokens: &[Token]) -> usize
+    ensures count { result ≡ nodes_of version tokens.now }
     ensures few { result ≤ length tokens.now }
 {
-    tokens.iter().filter(|t| t.is_node()).count()
+    let mut count = 0usize;
+    let mut is_compared = false;
+    let mut left = tokens;
+    'tokens: while let Some((token, others)) = left.split_first() {
+        if !is_compared && token.is_node() {
+            count += 1;
+        }
+        is_compared = token.compares(version);
+        left = others;
+    }
+    count
 }
 
 /// Whether more than `MOST_DEPTH` brackets are open at some place.
@@ -94,13 +107,13 @@ fn has_long_name(word: &[u8]) -> bool
     }
 }
 
-/// Whether a name in the token, or the string, has more than `MOST_TEXT_BYTES`.
+/// Whether a name in the token, if it is no number, or the string, has more than `MOST_TEXT_BYTES`.
 #[tactic(auto, unfolding(crate::specs::Tokens::is_long))]
 fn is_long(token: &Token) -> bool
     ensures { result ≡ is_long_of token.now }
 {
     match token {
-        Token::Word(word) => has_long_name(word.bytes()),
+        Token::Word(word) => !is_number_token(word.bytes()) && has_long_name(word.bytes()),
         Token::Quoted(text) => text.bytes().len() > MOST_TEXT_BYTES,
         _ => false,
     }
@@ -111,4 +124,30 @@ pub(crate) fn has_long_text(tokens: &[Token]) -> bool
     ensures { result ≡ list_any is_long_of tokens.now }
 {
     tokens.iter().any(|t| is_long(t))
+}
+
+/// Whether the bytes are a number, and no numeral.
+fn is_no_numeral(bytes: &[u8]) -> bool
+    ensures { result ≡ is_no_numeral_of bytes.now }
+{
+    is_number_token(bytes) && number(bytes).is_none()
+}
+
+/// Whether the token is a number, and no numeral.
+#[tactic(auto, unfolding(crate::specs::Tokens::is_bad_number))]
+fn is_bad_number(token: &Token) -> bool
+    ensures { result ≡ is_bad_number_of token.now }
+{
+    match token {
+        Token::Word(word) => is_no_numeral(word.bytes()),
+        Token::Signed(word) => is_no_numeral(word.bytes()),
+        _ => false,
+    }
+}
+
+/// Whether a number is beyond the bounds of numerals, or has too many digits.
+pub(crate) fn has_bad_number(tokens: &[Token]) -> bool
+    ensures { result ≡ list_any is_bad_number_of tokens.now }
+{
+    tokens.iter().any(|t| is_bad_number(t))
 }

@@ -1,16 +1,19 @@
 // Printing a schema.
-ghost use Rattle.olap_ast.specs.Trees.{constraint_of, formula_of, terms_of};
-ghost use Rattle.olap_base.specs.Graph.{Edge};
+ghost use Rattle.olap_ast.specs.Trees.{constraint_of, formula_of, op_of, terms_of};
+ghost use Rattle.olap_base.specs.Graph.{Edge, IsCategory, is_number};
 ghost use Rattle.olap_graph.specs.Lookups.{name_of_category};
-ghost use Rattle.olap_grammar.specs.Cutting.{joint_bytes};
-ghost use Rattle.olap_schema.specs.Printing.{atom_word, category_text, compared_word, constraint_text, edge_text, ended_line, formula_text, joined_text, list_text, names_after, rest_text, schema_text, text_of_lines};
+ghost use Rattle.olap_grammar.specs.Cutting.{joint_bytes, mark_bytes};
+ghost use Rattle.olap_grammar.specs.Grammar.{comparing};
+ghost use Rattle.olap_numerals.specs.Numerals.{canonical};
+ghost use Rattle.olap_schema.specs.Printing.{atom_word, category_text, category_texts, compared_word, constraint_text, edge_text, ended_line, formula_text, joined_text, kind_text, list_text, names_after, rest_text, schema_text, text_of_lines};
 ghost use Rattle.olap_schema.specs.Judging.{schema_read};
 ghost use Rattle.olap_schema.specs.PrintingLaws.{PrintedIsRead};
 ghost use Rattle.olap_schema.specs.Schemas.{schema_of};
 ghost use Rattle.std.specs.Prelude.{◌≡◌, ◌++◌, [], ◌∷◌, IfOk, Ok, OnOk, codes, map};
 
 use crate::Schema;
-use olap_ast::{Constraint, Formula, Terms};
+use itoa::Buffer;
+use olap_ast::{Constraint, Formula, Op, Terms};
 use olap_base::{CatId, EdgeId, Memory, Text};
 use olap_grammar::{Joint, push_quoted};
 use olap_graph::Graph;
@@ -74,6 +77,36 @@ fn push_compared(out: &mut Vec<u8>, graph: &Graph, root: CatId, d: CatId) -> Res
     }
 }
 
+/// The mark of a comparison.
+fn push_op(out: &mut Vec<u8>, op: Op) -> Result<(), AllocError>
+    ensures { OnOk result (out.new.items ≡ out.old.items ++ mark_bytes (comparing (op_of op))) }
+{
+    match op {
+        Op::Equal => out.extend_from_slice(b"="),
+        Op::Less => out.extend_from_slice(b"<"),
+        Op::AtMost => out.extend_from_slice(b"<="),
+    }
+}
+
+/// The canonical numeral of a number.
+fn push_numeral(out: &mut Vec<u8>, n: i64) -> Result<(), AllocError>
+    ensures { OnOk result (out.new.items ≡ out.old.items ++ canonical n) }
+{
+    let mut buffer = Buffer::new();
+    out.extend_from_slice(buffer.format(n).as_bytes())
+}
+
+/// The mark of a comparison and the number, with a space before each.
+fn push_number(out: &mut Vec<u8>, op: Op, n: i64) -> Result<(), AllocError>
+    ensures { let mark = mark_bytes (comparing (op_of op)) in
+        OnOk result (out.new.items ≡ out.old.items ++ 32 ∷ (mark ++ 32 ∷ canonical n)) }
+{
+    out.push(b' ')?;
+    push_op(out, op)?;
+    out.push(b' ')?;
+    push_numeral(out, n)
+}
+
 /// The connective, with a space on each side.
 fn push_joint(out: &mut Vec<u8>, joint: Joint) -> Result<(), AllocError>
     ensures { OnOk result (out.new.items ≡ out.old.items ++ joint_bytes joint) }
@@ -107,6 +140,10 @@ fn push_formula(
             push_compared(out, graph, root, *d)?;
             out.extend_from_slice(b" = ")?;
             push_quoted(out, text.bytes())
+        }
+        Formula::Compare(d, op, n) => {
+            push_compared(out, graph, root, *d)?;
+            push_number(out, *op, *n)
         }
         Formula::Not(f) => {
             out.extend_from_slice(b"!")?;
@@ -184,19 +221,33 @@ fn push_rest(out: &mut Vec<u8>, graph: &Graph, root: CatId, terms: &Terms) -> Re
     Ok(())
 }
 
+/// What stands behind the name of a category.
+fn push_kind(out: &mut Vec<u8>, number: bool) -> Result<(), AllocError>
+    ensures { OnOk result (out.new.items ≡ out.old.items ++ kind_text number) }
+{
+    if number {
+        out.extend_from_slice(b" number")
+    } else {
+        Ok(())
+    }
+}
+
 /// The line of a category.
 fn push_category(out: &mut Vec<u8>, graph: &Graph, c: CatId) -> Result<(), AllocError>
+    requires { IsCategory graph.now c.0 }
     ensures { OnOk result (out.new.items ≡ out.old.items ++ ended_line
-        (category_text (name_of_category graph.now c.0))) }
+        (category_text (name_of_category graph.now c.0) (is_number graph.now c.0))) }
 {
     out.extend_from_slice(b"category ")?;
     out.extend_from_slice(name(graph, c))?;
+    push_kind(out, graph.is_number(c))?;
     out.extend_from_slice(b"\n")
 }
 
 /// The lines of the declared categories.
 fn push_categories(out: &mut Vec<u8>, graph: &Graph) -> Result<(), AllocError>
-    ensures { OnOk result (out.new.items ≡ out.old.items ++ text_of_lines (map category_text graph.now.names)) }
+    ensures { let lines = category_texts graph.now.names graph.now.numbers in
+        OnOk result (out.new.items ≡ out.old.items ++ text_of_lines lines) }
 {
     let count = graph.categories();
     let mut done = 0;
@@ -290,14 +341,14 @@ pub(crate) fn push_schema(
     ensures { let text = schema_text (record { graph = graph.now; constraints = map constraint_of constraints.now }) in
         OnOk result (out.new.items ≡ out.old.items ++ text) }
 {
-    out.extend_from_slice(b"schema 1\n")?;
+    out.extend_from_slice(b"schema 2\n")?;
     push_categories(out, graph)?;
     push_edges(out, graph)?;
     push_constraints(out, graph, constraints)?;
     Ok(())
 }
 
-/// The canonical text of a schema: a line for the version, each category, each edge and each constraint, in
+/// The canonical text of a schema: a line for the second version, each category, each edge and each constraint, in
 /// declaration order, with one space between tokens. `Memory` where there is no room for it. Linear in the text.
 ///
 /// The schema is what its canonical text is read as.

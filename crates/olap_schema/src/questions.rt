@@ -1,43 +1,48 @@
 // Reading a question's formula.
-ghost use Rattle.olap_ast.specs.Constants.{all_equalities};
-ghost use Rattle.olap_ast.specs.Formula.{equalities};
+ghost use Rattle.olap_ast.specs.Constants.{all_comparisons, all_equalities};
+ghost use Rattle.olap_ast.specs.Formula.{comparisons, equalities};
 ghost use Rattle.olap_ast.specs.Trees.{constraint_of, formula_of};
-ghost use Rattle.olap_ast.specs.Valid.{IsQuestion, distinct_pairs, with_pair};
+ghost use Rattle.olap_ast.specs.Valid.{IsQuestion, pair_count, with_number, with_pair};
 ghost use Rattle.olap_base.specs.Graph.{IsDeclared};
 ghost use Rattle.olap_base.specs.Limits.{most_constants};
 ghost use Rattle.olap_graph.specs.Lookups.{name_of_category};
 ghost use Rattle.olap_schema.specs.Atoms.{atom_fault};
 ghost use Rattle.olap_schema.specs.declared.kinds.SchemaKind.TheVariants as kind;
 ghost use Rattle.olap_grammar.specs.CuttingMachine.{tokens_of};
+ghost use Rattle.olap_grammar.specs.declared.tokens.Version.TheVariants as version;
 ghost use Rattle.olap_schema.specs.Judging.{question_added, question_cut, question_read};
 ghost use Rattle.olap_schema.specs.PrintingLaws.{AreTexts};
-ghost use Rattle.olap_schema.specs.Reading.{Finds, ReadsFormula, pair_of};
+ghost use Rattle.olap_schema.specs.Reading.{Finds, ReadsFormula, number_pair_of, pair_of};
 ghost use Rattle.olap_schema.specs.Schemas.{schema_of};
-ghost use Rattle.std.specs.Prelude.{◌≡◌, IfOk, OnOk, Some, None, flat_map, fold, if◌then◌else◌, length, map, nat_lt};
+ghost use Rattle.std.specs.Prelude.{◌≡◌, IfOk, OnOk, Some, None, flat_map, fold, if◌then◌else◌, map, nat_lt};
 
 use crate::atoms::check_atoms;
 use crate::lines::is_bad;
-use crate::measuring::{MOST_TOKENS, has_long_text, long_form_fault};
-use crate::pairing::{Pair, add_pairs};
+use crate::measuring::{MOST_TOKENS, has_bad_number, has_long_text, long_form_fault};
+use crate::pairing::{NumberPair, Pair, add_pairs};
 use crate::reading::read_form;
 use crate::{FormulaRefusal, Schema, SchemaKind};
 use olap_ast::{Constraint, Formula};
 use olap_base::{CatId, MOST_CONSTANTS, Memory};
-use olap_grammar::{CutRefusal, Known, Token, first_tokens};
+use olap_grammar::{CutRefusal, Known, Token, Version, first_tokens};
 use std::alloc::Global;
 
 /// The pairs of all constraints.
 fn add_of_constraints(
     alloc: Global,
     pairs: &mut Vec<Pair>,
+    numbers: &mut Vec<NumberPair>,
     constraints: &[Constraint],
 ) -> Result<(), Memory>
-    ensures { let atoms = flat_map (λ c. equalities c.formula) (map constraint_of constraints.now) in
+    ensures texts { let atoms = flat_map (λ c. equalities c.formula) (map constraint_of constraints.now) in
         OnOk result (map pair_of pairs.new.items ≡ fold with_pair (map pair_of pairs.old.items) atoms) }
+    ensures numbers { let atoms = flat_map (λ c. comparisons c.formula) (map constraint_of constraints.now) in
+        OnOk result (map number_pair_of numbers.new.items
+        ≡ fold with_number (map number_pair_of numbers.old.items) atoms) }
 {
     let mut left = constraints;
     'constraints: while let Some((constraint, others)) = left.split_first() {
-        add_pairs(alloc, pairs, &constraint.formula)?;
+        add_pairs(alloc, pairs, numbers, &constraint.formula)?;
         left = others;
     }
     Ok(())
@@ -45,13 +50,15 @@ fn add_of_constraints(
 
 /// Whether there are too many pairs of a category and a constant in the schema and the formula.
 fn check_pairs(alloc: Global, schema: &Schema, f: &Formula) -> Result<(), FormulaRefusal>
-    ensures { let pairs = distinct_pairs (all_equalities (schema_of schema.now) (formula_of f.now)) in
-        Finds result (if nat_lt most_constants (length pairs) then Some kind.TooManyConstants else None) }
+    ensures { let s = schema_of schema.now in
+        let count = pair_count (all_equalities s (formula_of f.now)) (all_comparisons s (formula_of f.now)) in
+        Finds result (if nat_lt most_constants count then Some kind.TooManyConstants else None) }
 {
     let mut pairs = Vec::new(alloc);
-    add_of_constraints(alloc, &mut pairs, schema.constraints())?;
-    add_pairs(alloc, &mut pairs, f)?;
-    if pairs.len() > MOST_CONSTANTS {
+    let mut numbers = Vec::new(alloc);
+    add_of_constraints(alloc, &mut pairs, &mut numbers, schema.constraints())?;
+    add_pairs(alloc, &mut pairs, &mut numbers, f)?;
+    if pairs.len() + numbers.len() > MOST_CONSTANTS {
         return Err(FormulaRefusal::Fault(SchemaKind::TooManyConstants));
     }
     Ok(())
@@ -90,10 +97,14 @@ fn read_tokens(
     requires { IsDeclared (schema_of schema.now).graph root.0 }
     ensures { ReadsFormula result (question_cut (schema_of schema.now) root.0 (Some tokens.now)) }
 {
-    match read_form(alloc, &Known::Whole(schema.graph()), 0, tokens) {
+    let known = Known::Whole(schema.graph());
+    match read_form(alloc, &known, Version::Two, 0, tokens) {
         Ok(f) => {
             if has_long_text(tokens) {
                 return Err(FormulaRefusal::Fault(SchemaKind::TextTooLong));
+            }
+            if has_bad_number(tokens) {
+                return Err(FormulaRefusal::Fault(SchemaKind::BadNumber));
             }
             check_question(alloc, schema, root, tokens, f)
         }
@@ -109,9 +120,9 @@ fn read_question(
     text: &[u8],
 ) -> Result<Formula, FormulaRefusal>
     requires { IsDeclared (schema_of schema.now).graph root.0 }
-    ensures { ReadsFormula result (question_cut (schema_of schema.now) root.0 (tokens_of text.now)) }
+    ensures { ReadsFormula result (question_cut (schema_of schema.now) root.0 (tokens_of version.Two text.now)) }
 {
-    match first_tokens(alloc, text, MOST_TOKENS) {
+    match first_tokens(alloc, Version::Two, text, MOST_TOKENS) {
         Ok(found) => {
             if found.more {
                 return Err(FormulaRefusal::Fault(long_form_fault(0, 0, &found.tally)));
@@ -123,7 +134,8 @@ fn read_question(
     }
 }
 
-/// The formula that the text is, at a root of the schema's graph.
+/// The formula that the text is, at a root of the schema's graph. It is read by the second version, whatever the
+/// schema's was.
 ///
 /// A fault is the first check that fails. The text is one line: a LF or a CR is a `BadByte`. The limits on nodes and
 /// depth are those of one formula; the one on constants counts the schema's too. `Memory` where there is no room.

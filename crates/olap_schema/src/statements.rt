@@ -5,20 +5,14 @@ ghost use Rattle.olap_base.specs.Reaching.{is_category_name};
 ghost use Rattle.std.specs.Prelude.{◌≡◌};
 ghost use Rattle.std.specs.Str.{bytes_eq};
 
-use olap_grammar::{Mark, Token};
+use olap_grammar::{Mark, Token, Version};
 use olap_graph::category_name;
-
-/// The version of a schema text.
-#[derive(Clone, Copy, Debug, PartialEq, Eq)]
-pub(crate) enum Version {
-    One,
-}
 
 /// What the tokens of a line say.
 #[derive(Drop)]
 pub(crate) enum Statement<'a> {
     Version(Version),
-    Category(&'a [u8]),
+    Category { name: &'a [u8], number: bool },
     Edge(&'a [u8], &'a [u8]),
     Constraint(&'a [u8], &'a [Token]),
     Other,
@@ -49,18 +43,33 @@ pub(crate) fn statement_in(tokens: &[Token]) -> Statement<'_>
             if is(keyword.bytes(), b"schema") && is(name.bytes(), b"1") {
                 return Statement::Version(Version::One);
             }
+            if is(keyword.bytes(), b"schema") && is(name.bytes(), b"2") {
+                return Statement::Version(Version::Two);
+            }
             if is(keyword.bytes(), b"category") && is_name(name.bytes()) {
-                return Statement::Category(name.bytes());
+                return Statement::Category {
+                    name: name.bytes(),
+                    number: false,
+                };
             }
             Statement::Other
         }
         [
             Token::Word(keyword),
-            Token::Word(child),
-            Token::Word(parent),
+            Token::Word(first),
+            Token::Word(second),
         ] => {
-            if is(keyword.bytes(), b"edge") && is_name(child.bytes()) && is_name(parent.bytes()) {
-                return Statement::Edge(child.bytes(), parent.bytes());
+            if is(keyword.bytes(), b"edge") && is_name(first.bytes()) && is_name(second.bytes()) {
+                return Statement::Edge(first.bytes(), second.bytes());
+            }
+            if is(keyword.bytes(), b"category")
+                && is_name(first.bytes())
+                && is(second.bytes(), b"number")
+            {
+                return Statement::Category {
+                    name: first.bytes(),
+                    number: true,
+                };
             }
             Statement::Other
         }

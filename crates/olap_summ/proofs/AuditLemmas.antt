@@ -15,16 +15,16 @@ use Rattle.olap_base.specs.Graph.{Graph, HasEdge, IsCategory, IsHierarchy}
 use Rattle.olap_base.specs.Instance.{Instance, IsBelow, category_of}
 use Rattle.olap_base.specs.Limits.{most_constants}
 use Rattle.olap_base.proofs.ListLemmas.{AllPairs-from_Distinct, Contains-nil}
-use Rattle.olap_ast.specs.Constants.{all_equalities}
+use Rattle.olap_ast.specs.Constants.{all_comparisons, all_equalities}
 use Rattle.olap_ast.specs.Findings.{IsRedundant, IsUnused, without}
-use Rattle.olap_ast.specs.Formula.{Equality, Formula, Formula.Path, HasPath, equalities}
+use Rattle.olap_ast.specs.Formula.{Comparison, Equality, Formula, Formula.Path, HasPath, comparisons, equalities}
 use Rattle.olap_ast.specs.Questions.{IsImplied}
 use Rattle.olap_ast.specs.Schema.{Constraint, Meets, Schema}
 use Rattle.olap_ast.specs.Trees.{constraint_of, formula_of}
 use Rattle.olap_ast.specs.declared.formulas.Constraint.{Constraint as StoredConstraint}
-use Rattle.olap_ast.specs.Valid.{IsFormulaAt, IsValidSchema, distinct_pairs}
-use Rattle.olap_schema.proofs.PairCounting.{few_pairs}
-use Rattle.olap_schema.proofs.WithoutLemmas.{atoms_left}
+use Rattle.olap_ast.specs.Valid.{IsFormulaAt, IsValidSchema, pair_count}
+use Rattle.olap_schema.proofs.PairCounting.{few_numbers, few_pairs}
+use Rattle.olap_schema.proofs.WithoutLemmas.{atoms_left, number_atoms_left}
 use Rattle.olap_frozen.specs.declared.founding.Found.{Found}
 use Rattle.olap_dimsat.specs.OneFound.{IsOneFound}
 use Rattle.olap_summ.specs.Answers.{IsNowhere}
@@ -92,15 +92,32 @@ atoms_of (b ∷ bs) c a h m = elim (contains_cases c b bs h) [
       (atoms_of bs c a d m)
 ]
 
+number_atoms_of : (cs : List Constraint) (c : Constraint) (a : Comparison) → Contains cs c
+    → Contains (comparisons c.formula) a → Contains (flat_map (λ b. comparisons b.formula) cs) a
+number_atoms_of [] c a h m = absurd (Contains-nil c h)
+number_atoms_of (b ∷ bs) c a h m = elim (contains_cases c b bs h) [
+  | inl q ↦ Contains-append_left (comparisons b.formula) (flat_map (λ x. comparisons x.formula) bs) a
+      (subst (λ (x : Constraint). Contains (comparisons x.formula) a) (sym q) m)
+  | inr d ↦ Contains-append_right (comparisons b.formula) (flat_map (λ x. comparisons x.formula) bs) a
+      (number_atoms_of bs c a d m)
+]
+
 -- a constraint has no constants that the schema with it lacks
 pub few_asked : (s : Schema) (k : ℕ) (c : Constraint) → IsValidSchema s → Contains s.constraints c
-    → length (distinct_pairs (all_equalities (without s k) c.formula)) ≤ most_constants
+    → pair_count (all_equalities (without s k) c.formula) (all_comparisons (without s k) c.formula) ≤ most_constants
 few_asked s k c v h =
     let left = flat_map (λ (b : Constraint). equalities b.formula) (remove s.constraints k) in
     let few = few_pairs (left ++ equalities c.formula) (flat_map (λ b. equalities b.formula) s.constraints)
     (λ a m. elim (Contains-append_cases left (equalities c.formula) a m) [
       | inl t ↦ atoms_left s.constraints k a t
       | inr t ↦ atoms_of s.constraints c a h t
+    ]) in
+    let numbers_left = flat_map (λ (b : Constraint). comparisons b.formula) (remove s.constraints k) in
+    let few_too = few_numbers (numbers_left ++ comparisons c.formula)
+    (flat_map (λ b. comparisons b.formula) s.constraints)
+    (λ a m. elim (Contains-append_cases numbers_left (comparisons c.formula) a m) [
+      | inl t ↦ number_atoms_left s.constraints k a t
+      | inr t ↦ number_atoms_of s.constraints c a h t
     ]) in
     let fit = v.constants_fit in
     omega arith
@@ -128,9 +145,11 @@ module _ (s t : Schema) (k : ℕ) (stored : List StoredConstraint) (c : StoredCo
       subst (λ (x : Schema). IsFormulaAt x.graph c.root.0 (formula_of c.formula)) (sym same)
       (v.formulas (constraint_of c) among)
 
-  pub asked_few : length (distinct_pairs (all_equalities t (formula_of c.formula))) ≤ most_constants
+  pub asked_few : pair_count (all_equalities t (formula_of c.formula)) (all_comparisons t (formula_of c.formula))
+      ≤ most_constants
   asked_few =
-      subst (λ (x : Schema). length (distinct_pairs (all_equalities x (formula_of c.formula))) ≤ most_constants)
+      subst (λ (x : Schema). pair_count (all_equalities x (formula_of c.formula))
+      (all_comparisons x (formula_of c.formula)) ≤ most_constants)
       (sym same) (few_asked s k (constraint_of c) v among)
 
   pub asked_is : (P : Type 0) → P ↔ IsImplied t c.root.0 (formula_of c.formula) → P ↔ IsRedundant s k

@@ -1,14 +1,12 @@
 -- What the first bottom category with a frozen dimension says of summarizability.
-use Rattle.std.proofs.Common.{◌≡◌, ℕ, suc, ◌+◌, ◌<◌, List, [], ◌∷◌, length, get_or, drop, drop-cons, refl, ap, sym, subst, ◌∙◌, ◌⊎◌, inl, inr, Option, Some, None, arith}
-use Rattle.std.specs.Prelude.{All, IfSome, slice_index}
-use Rattle.std.proofs.lemmas.List.{get_or-map, length-map}
-use Rattle.olap_base.specs.declared.ids.CatId.{CatId}
-use Rattle.olap_base.specs.Graph.{Graph, IsBottom, IsCategory, IsHierarchy}
-use Rattle.olap_ast.specs.Formula.{Formula, Formula.Via, Terms.More, equalities, equalities_of_terms}
+use Rattle.std.proofs.Common.{◌≡◌, ℕ, ◌<◌, List, refl, ap, sym, subst, ◌∙◌, ◌⊎◌, inl, inr, Option, Some, None, arith}
+use Rattle.std.specs.Prelude.{IfSome}
+use Rattle.olap_base.specs.Graph.{IsBottom, IsHierarchy}
+use Rattle.olap_ast.specs.Formula.{Formula}
+use Rattle.olap_ast.specs.Constants.{HasKinds}
 use Rattle.olap_ast.specs.Frozen.{CandidatesExist}
 use Rattle.olap_ast.specs.Schema.{Schema}
-use Rattle.olap_ast.specs.Summarizable.{IsSummarizable, not_by_one, vias}
-use Rattle.olap_ast.specs.Valid.{AreFormulasAt, IsFormulaAt}
+use Rattle.olap_ast.specs.Summarizable.{IsSummarizable, not_by_one}
 use Rattle.olap_ast.proofs.SmallModel.{frozen_exactly}
 use Rattle.olap_ast.proofs.Summing.{summarizable_exactly}
 use Rattle.olap_dimsat.specs.OneFound.{IsOneFound}
@@ -16,48 +14,8 @@ use Rattle.olap_frozen.specs.declared.founding.Found.{Found}
 use Rattle.olap_frozen.specs.LeastFound.{IsLeastFound, frozen_of}
 use Rattle.olap_names.specs.Names.{candidates_of}
 use Rattle.olap_summ.specs.Answers.{IsNowhere}
-use Rattle.olap_summ.specs.Counterexamples.{IsCounterexampleFound, IsOneCounterexampleFound, numbers_of}
+use Rattle.olap_summ.specs.Counterexamples.{IsCounterexampleFound, IsOneCounterexampleFound}
 use Rattle.olap_summ.proofs.NowhereLemmas.{one_of}
-
--- ---- the question
-
-vias_at : (g : Graph) (b c : ℕ) (sources : List ℕ) → IsCategory g c → All (IsCategory g) sources
-    → AreFormulasAt g b (vias c sources)
-vias_at g b c [] t h = tt
-vias_at g b c (s ∷ ss) t h = ((h 0 s (omega arith), t), vias_at g b c ss t (λ i d l. h (suc i) d (omega arith)))
-
-pub question_at : (g : Graph) (b c : ℕ) (sources : List ℕ) → IsCategory g c → All (IsCategory g) sources
-    → IsFormulaAt g b (not_by_one c sources)
-question_at g b c sources t h = (t, vias_at g b c sources t h)
-
-vias_free : (c : ℕ) (sources : List ℕ) → equalities_of_terms (vias c sources) ≡ []
-vias_free c [] = refl
-vias_free c (s ∷ ss) = vias_free c ss
-
-pub question_free : (c : ℕ) (sources : List ℕ) → equalities (not_by_one c sources) ≡ []
-question_free c sources = vias_free c sources
-
-pub vias_more : (c : ℕ) (sources : List CatId) (k n : ℕ) (d : CatId) → k + 1 ≡ n → k < length sources
-    → vias c (drop k (numbers_of sources)) ≡ More (Via (get_or sources k d).0 c) (vias c (drop n (numbers_of sources)))
-vias_more c sources k n d e h =
-    ap (vias c) (drop-cons (numbers_of sources) k 0 (let l = length-map sources (λ (x : CatId). x.0) in omega arith))
-    ∙ ap (λ m. More (Via m c) (vias c (drop (suc k) (numbers_of sources))))
-    (get_or-map (λ (x : CatId). x.0) sources k d 0 h)
-    ∙ ap (λ m. More (Via (get_or sources k d).0 c) (vias c (drop m (numbers_of sources))))
-    (let z : suc k ≡ n = omega arith in z)
-
-pub number_at : (sources : List CatId) (i : ℕ) → i < length sources
-    → slice_index (numbers_of sources) i ≡ (get_or sources i (record { 0 = 0 })).0
-number_at sources i h = get_or-map (λ (x : CatId). x.0) sources i (record { 0 = 0 }) 0 h
-
--- ---- steps of loops
-
--- what holds below n, and at n, holds below n + 1
-pub until : (P : ℕ → Type 0) (n : ℕ) → ((d : ℕ) → d < n → P d) → P n → (d : ℕ) → d < n + 1 → P d
-until P n f p d h = elim (which d n h) [ inl l ↦ f d l | inr e ↦ subst P (sym e) p ]
-  where
-    which : (d n : ℕ) → d < n + 1 → (d < n) ⊎ (d ≡ n)
-    which d n h = grind arith
 
 -- ---- the answer
 
@@ -72,9 +30,10 @@ module _ (s : Schema) (c : ℕ) (sources : List ℕ) (hier : IsHierarchy s.graph
   q = not_by_one c sources
 
   -- where no bottom category has one
-  pub summarizable_is : CandidatesExist → ((b : ℕ) → IsBottom s.graph b → IsNowhere s q b) → IsSummarizable s c sources
-  summarizable_is e n =
-      let k = e s q in
+  pub summarizable_is : CandidatesExist → HasKinds s q → ((b : ℕ) → IsBottom s.graph b → IsNowhere s q b)
+      → IsSummarizable s c sources
+  summarizable_is e h n =
+      let k = e s q h in
       (summarizable_exactly s c sources k.0 hier k.1).1
       (λ b bottom h t. let m = (frozen_exactly s q b k.0 hier k.1).0 (h, t) in n b bottom m.0 m.1 m.2 m.3 m.4)
 

@@ -15,13 +15,13 @@ use Rattle.std.proofs.lemmas.List.Quantifiers.{all_pairs_push}
 use Rattle.std.proofs.Math.Seq.{map-set_same, take-append_seam}
 use Rattle.olap_base.specs.Graph.{IsBottom, category_count}
 use Rattle.olap_base.specs.Limits.{most_constants}
-use Rattle.olap_ast.specs.Constants.{all_equalities}
+use Rattle.olap_ast.specs.Constants.{all_comparisons, all_equalities}
 use Rattle.olap_ast.specs.Formula.{Formula}
 use Rattle.olap_ast.specs.Frozen.{CandidatesExist}
 use Rattle.olap_ast.specs.Questions.{NoneFrozen}
 use Rattle.olap_ast.specs.Schema.{Schema}
 use Rattle.olap_ast.specs.Summarizable.{IsSummarizable, not_by_one}
-use Rattle.olap_ast.specs.Valid.{IsFormulaAt, IsValidSchema, distinct_pairs}
+use Rattle.olap_ast.specs.Valid.{IsFormulaAt, IsValidSchema, pair_count}
 use Rattle.olap_dimsat.specs.declared.searching.Search.{Search}
 use Rattle.olap_dimsat.specs.Searches.{IsMadeWith, IsSizedFor, candidates_in, found_in, named_in, root_of}
 use Rattle.olap_frozen.specs.declared.founding.Found.{Found}
@@ -34,8 +34,9 @@ use Rattle.olap_summ.specs.Decisions.{AreQuestionsFor, HasSizesOf, IsAskedOf, Is
 use Rattle.olap_summ.specs.declared.deciding.Asked.{Asked}
 use Rattle.olap_summ.specs.declared.deciding.Decision.{Decision}
 use Rattle.olap_summ.specs.declared.questioning.Questions.{Questions}
-use Rattle.olap_summ.proofs.CounterexampleLemmas.{IsFirstFound, counterexample_is, question_at, question_free, summarizable_is, summarizable_isnt, until}
-use Rattle.olap_summ.proofs.NowhereLemmas.{no_more_constants, nowhere}
+use Rattle.olap_ast.proofs.SourceLemmas.{question_at, question_few, question_kinds, until}
+use Rattle.olap_summ.proofs.CounterexampleLemmas.{IsFirstFound, counterexample_is, summarizable_is, summarizable_isnt}
+use Rattle.olap_summ.proofs.NowhereLemmas.{nowhere}
 
 -- ---- roots and names
 
@@ -153,10 +154,8 @@ asked_at s q b is =
     (question_at s.graph b (target_of q) (sources_of q) is.target is.sources)
 
 pub asked_few : (s : Schema) (q : Questions) → IsValidSchema s → AreQuestionsFor s q
-    → length (distinct_pairs (all_equalities s (asked_by q))) ≤ most_constants
-asked_few s q v is =
-    subst (λ (f : Formula). length (distinct_pairs (all_equalities s f)) ≤ most_constants) (sym is.asked)
-    (no_more_constants s (not_by_one (target_of q) (sources_of q)) v (question_free (target_of q) (sources_of q)))
+    → pair_count (all_equalities s (asked_by q)) (all_comparisons s (asked_by q)) ≤ most_constants
+asked_few s q v is = question_few s (asked_by q) (target_of q) (sources_of q) is.asked v
 
 -- ---- searches that are asked
 
@@ -308,7 +307,7 @@ found_here s q old xs new k d f is t h none l u = record {
 pub answer_is_yes : (s : Schema) (q : Questions) (d : Decision) → IsValidSchema s → CandidatesExist → IsDecisionOf s q d
     → ((b : ℕ) → IsBottom s.graph b → IsNowhere s (asked_by q) b) → IsSummarizable s (target_of q) (sources_of q)
 answer_is_yes s q d v e is none =
-    summarizable_is s (target_of q) (sources_of q) v.hierarchy e
+    summarizable_is s (target_of q) (sources_of q) v.hierarchy e (question_kinds s (target_of q) (sources_of q) v)
     (subst (λ (f : Formula). (b : ℕ) → IsBottom s.graph b → IsNowhere s f b) is.questions.asked none)
 
 pub answer_is_no : (s : Schema) (q : Questions) (d : Decision) (found : Found) → IsValidSchema s → IsDecisionOf s q d

@@ -81,13 +81,3 @@ implied_is s r q o e = none_as o (IsNowhere s (Not q) r) (IsImplied s r q) e
     holds : (i : Instance) (x : ℕ) → Dec (Holds i x q) → (Holds i x (Not q) → ⊥) → Holds i x q
     holds i x (yes h) n = h
     holds i x (no h) n = absurd (n h)
-
--- a question without constants keeps the limit
-pub no_more_constants : (s : Schema) (q : Formula) → IsValidSchema s → equalities q ≡ []
-    → length (distinct_pairs (all_equalities s q)) ≤ most_constants
-no_more_constants s q v e =
-    subst (λ xs. length (distinct_pairs (flat_map (λ (c : Constraint). equalities c.formula) s.constraints ++ xs))
-    ≤ most_constants)
-    (sym e)
-    (subst (λ xs. length (distinct_pairs xs) ≤ most_constants)
-    (sym (append-nil (flat_map (λ (c : Constraint). equalities c.formula) s.constraints))) v.constants_fit)

@@ -1,9 +1,7 @@
 -- Counterexamples to summarizability, as they are found.
---     numbers_of                  the numbers of sources
 --     IsCounterexampleFound       it is the counterexample, and names are there for its indexes
 --     IsOneCounterexampleFound    it is one, and need not be the least
-use Rattle.std.specs.Prelude.{ℕ, List, map}
-use Rattle.olap_base.specs.declared.ids.CatId.{CatId}
+use Rattle.std.specs.Prelude.{ℕ, List}
 use Rattle.olap_ast.specs.Schema.{Schema}
 use Rattle.olap_ast.specs.Summarizable.{IsCounterexample, not_by_one}
 use Rattle.olap_base.specs.Graph.{IsBottom}
@@ -12,9 +10,6 @@ use Rattle.olap_frozen.specs.declared.founding.Found.{Found}
 use Rattle.olap_frozen.specs.LeastFound.{frozen_of}
 use Rattle.olap_frozen.specs.Leaves.{IsSized, IsZeroAtAll}
 use Rattle.olap_names.specs.Names.{candidates_of}
-
-abbrev pub numbers_of : List CatId → List ℕ
-numbers_of sources = map (λ c. c.0) sources
 
 -- it is the counterexample, with an entry for each edge and each category, and indexes of its names; `All` has 0
 pub record IsCounterexampleFound (s : Schema) (c : ℕ) (sources : List ℕ) (found : Found) : Type 0 where

@@ -12,14 +12,14 @@ use Rattle.olap_base.specs.Graph.{IsBottom, IsCategory, category_count}
 use Rattle.olap_ast.specs.Formula.{Formula}
 use Rattle.olap_ast.specs.Schema.{Schema}
 use Rattle.olap_ast.specs.Summarizable.{not_by_one}
-use Rattle.olap_ast.specs.Trees.{formula_of}
+use Rattle.olap_ast.specs.Trees.{formula_of, numbers_of}
 use Rattle.olap_ast.specs.Valid.{IsValidSchema}
 use Rattle.olap_dimsat.specs.Searches.{IsMadeWith, named_in, root_of}
 use Rattle.olap_frozen.specs.declared.founding.Found.{Found}
 use Rattle.olap_frozen.specs.declared.frozen.Frozen.{Frozen}
 use Rattle.olap_frozen.specs.LeastFound.{frozen_of}
 use Rattle.olap_names.specs.Names.{Named}
-use Rattle.olap_summ.specs.Counterexamples.{IsCounterexampleFound, numbers_of}
+use Rattle.olap_summ.specs.Counterexamples.{IsCounterexampleFound}
 use Rattle.olap_summ.specs.declared.deciding.Asked.{Asked}
 use Rattle.olap_summ.specs.declared.deciding.Decision.{Decision}
 use Rattle.olap_summ.specs.declared.questioning.Questions.{Questions}
@@ -55,7 +55,7 @@ roots_in d = roots_of d.searches.items
 
 -- the names of the first search of this category
 abbrev pub names_among : List Asked → ℕ → Named
-names_among [] r = record { fresh = []; texts = [] }
+names_among [] r = record { fresh = []; first = []; texts = [] }
 names_among (a ∷ rest) r = if a.root.0 == r then named_in a.search else names_among rest r
 
 -- the names that the category's search was made with

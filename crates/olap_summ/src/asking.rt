@@ -1,8 +1,8 @@
 // A frozen dimension for a question at a root: the least, or any.
 ghost use Rattle.std.specs.Prelude.{◌≤◌, ◌↔◌, IfOk, IfSome, IsNone, length};
-ghost use Rattle.olap_ast.specs.Constants.{all_equalities};
+ghost use Rattle.olap_ast.specs.Constants.{all_comparisons, all_equalities};
 ghost use Rattle.olap_ast.specs.Trees.{formula_of};
-ghost use Rattle.olap_ast.specs.Valid.{IsFormulaAt, distinct_pairs};
+ghost use Rattle.olap_ast.specs.Valid.{IsFormulaAt, pair_count};
 ghost use Rattle.olap_base.specs.Graph.{IsCategory};
 ghost use Rattle.olap_base.specs.Limits.{most_constants};
 ghost use Rattle.olap_dimsat.specs.OneFound.{IsOneFound};
@@ -27,8 +27,8 @@ pub(crate) fn least_found(
 ) -> Result<Option<Found>, Memory>
     requires root { IsCategory (schema_of schema.now).graph root.0 }
     requires question { IsFormulaAt (schema_of schema.now).graph root.0 (formula_of question.now) }
-    requires few { length (distinct_pairs (all_equalities (schema_of schema.now) (formula_of question.now)))
-        ≤ most_constants }
+    requires few { pair_count (all_equalities (schema_of schema.now) (formula_of question.now))
+        (all_comparisons (schema_of schema.now) (formula_of question.now)) ≤ most_constants }
     ensures none { IfOk result (λ o. IsNone o ↔ IsNowhere (schema_of schema.now) (formula_of question.now) root.0) }
     ensures some { IfOk result (λ o. IfSome o
         (IsLeastFound (schema_of schema.now) (formula_of question.now) root.0)) }
@@ -52,8 +52,8 @@ pub(crate) fn one_found(
 ) -> Result<Option<Found>, Memory>
     requires root { IsCategory (schema_of schema.now).graph root.0 }
     requires question { IsFormulaAt (schema_of schema.now).graph root.0 (formula_of question.now) }
-    requires few { length (distinct_pairs (all_equalities (schema_of schema.now) (formula_of question.now)))
-        ≤ most_constants }
+    requires few { pair_count (all_equalities (schema_of schema.now) (formula_of question.now))
+        (all_comparisons (schema_of schema.now) (formula_of question.now)) ≤ most_constants }
     ensures none { IfOk result (λ o. IsNone o ↔ IsNowhere (schema_of schema.now) (formula_of question.now) root.0) }
     ensures some { IfOk result (λ o. IfSome o
         (IsOneFound (schema_of schema.now) (formula_of question.now) root.0)) }

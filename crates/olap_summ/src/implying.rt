@@ -1,10 +1,10 @@
 // Which constraints hold in all legal instances.
 ghost use Rattle.std.specs.Prelude.{◌≡◌, ◌≤◌, ◌↔◌, IfOk, IfSome, IsNone, IsTrue, length};
-ghost use Rattle.olap_ast.specs.Constants.{all_equalities};
+ghost use Rattle.olap_ast.specs.Constants.{all_comparisons, all_equalities};
 ghost use Rattle.olap_ast.specs.Formula as Meaning;
 ghost use Rattle.olap_ast.specs.Questions.{IsImplied};
 ghost use Rattle.olap_ast.specs.Trees.{formula_of};
-ghost use Rattle.olap_ast.specs.Valid.{IsFormulaAt, distinct_pairs};
+ghost use Rattle.olap_ast.specs.Valid.{IsFormulaAt, pair_count};
 ghost use Rattle.olap_base.specs.Graph.{IsCategory};
 ghost use Rattle.olap_base.specs.Limits.{most_constants};
 ghost use Rattle.olap_frozen.specs.LeastFound.{IsLeastFound};
@@ -35,8 +35,8 @@ pub fn implies(
 ) -> Result<Option<Found>, Memory>
     requires root { IsCategory (schema_of schema.now).graph root.0 }
     requires formula { IsFormulaAt (schema_of schema.now).graph root.0 (formula_of f.now) }
-    requires few { length (distinct_pairs (all_equalities (schema_of schema.now) (formula_of f.now)))
-        ≤ most_constants }
+    requires few { pair_count (all_equalities (schema_of schema.now) (formula_of f.now))
+        (all_comparisons (schema_of schema.now) (formula_of f.now)) ≤ most_constants }
     ensures none { IfOk result (λ o. IsNone o ↔ IsImplied (schema_of schema.now) root.0 (formula_of f.now)) }
     ensures some { IfOk result (λ o. IfSome o
         (IsLeastFound (schema_of schema.now) (Meaning.Formula.Not (formula_of f.now)) root.0)) }
@@ -55,8 +55,8 @@ pub(crate) fn is_implied(
 ) -> Result<bool, Memory>
     requires root { IsCategory (schema_of schema.now).graph root.0 }
     requires formula { IsFormulaAt (schema_of schema.now).graph root.0 (formula_of f.now) }
-    requires few { length (distinct_pairs (all_equalities (schema_of schema.now) (formula_of f.now)))
-        ≤ most_constants }
+    requires few { pair_count (all_equalities (schema_of schema.now) (formula_of f.now))
+        (all_comparisons (schema_of schema.now) (formula_of f.now)) ≤ most_constants }
     ensures { IfOk result (λ b. IsTrue b ↔ IsImplied (schema_of schema.now) root.0 (formula_of f.now)) }
 {
     let negated = negation(alloc, f)?;

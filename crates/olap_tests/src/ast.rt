@@ -1,5 +1,5 @@
 // The calls that take memory, once each where there is enough.
-use olap_ast::{Formula, Terms, constants, copy};
+use olap_ast::{Formula, Op, Terms, constants, copy, numbers};
 use olap_base::{CatId, Text};
 use std::alloc::Global;
 use std::test::Fail;
@@ -15,6 +15,23 @@ fn sample(alloc: Global) -> Result<Formula, Fail> {
     let last = Terms::More(named(alloc, 2, b"b")?, Box::new(alloc, Terms::End)?);
     let middle = Terms::More(Box::new(alloc, both)?, Box::new(alloc, last)?);
     Ok(Formula::One(Terms::More(named(alloc, 2, b"b")?, Box::new(alloc, middle)?)))
+}
+
+// c.2 < 9 -> c.2 = -9 | c.3 <= 8
+fn comparisons(alloc: Global) -> Result<Formula, Fail> {
+    let less = Box::new(alloc, Formula::Compare(CatId(2), Op::Less, 9))?;
+    let equal = Box::new(alloc, Formula::Compare(CatId(2), Op::Equal, -9))?;
+    let other = Box::new(alloc, Formula::Compare(CatId(3), Op::AtMost, 8))?;
+    Ok(Formula::Implies(less, Box::new(alloc, Formula::Or(equal, other))?))
+}
+
+#[test]
+fn numbers_are_distinct_and_ascend(rt: HostRuntime) -> Result<(), Fail> {
+    let f = copy(rt.alloc(), &comparisons(rt.alloc())?).map_err(|_| "memory")?;
+    let found = numbers(rt.alloc(), &f, CatId(2)).map_err(|_| "memory")?;
+    assert_eq!(rt; found.items(), [-9, 9].as_slice());
+    assert!(rt; Op::Less.test(-9, 9) && !Op::Less.test(9, 9) && Op::AtMost.test(9, 9));
+    Ok(())
 }
 
 #[test]

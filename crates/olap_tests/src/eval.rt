@@ -1,5 +1,5 @@
 // A partial shape of which little is known, and the values of a few formulas by it.
-use olap_ast::{Formula, Terms, Truth3};
+use olap_ast::{Formula, Op, Terms, Truth3};
 use olap_base::{CatId, Text};
 use olap_eval::{Partial, holds3};
 use std::alloc::Global;
@@ -16,6 +16,7 @@ impl Partial for Without1 {
       edge = λ _ _. Unknown;
       reaches = λ _ d. if d == 1 then No else Unknown;
       name = λ _ _. Unknown;
+      number = λ _ _ _. Unknown;
     } };
 
     fn edge(&self, _: CatId, _: CatId) -> Truth3 {
@@ -31,6 +32,10 @@ impl Partial for Without1 {
     }
 
     fn name(&self, _: CatId, _: &Text) -> Truth3 {
+        Truth3::Unknown
+    }
+
+    fn number(&self, _: CatId, _: Op, _: i64) -> Truth3 {
         Truth3::Unknown
     }
 }
@@ -49,6 +54,8 @@ fn what_is_known_decides(rt: HostRuntime) -> Result<(), Fail> {
         (reach(1), Truth3::No),
         (reach(2), Truth3::Unknown),
         (Formula::Via(CatId(2), CatId(1)), Truth3::No),
+        (Formula::Compare(CatId(1), Op::Less, 9), Truth3::No),
+        (Formula::Compare(CatId(2), Op::Less, 9), Truth3::Unknown),
         (Formula::Not(Box::new(alloc, reach(1))?), Truth3::Yes),
         (one_of_true_and(alloc, reach(1))?, Truth3::Yes),
         (one_of_true_and(alloc, reach(2))?, Truth3::Unknown),

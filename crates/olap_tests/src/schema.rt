@@ -1,4 +1,4 @@
-// The calls that take memory, once each where there is enough, and one text for each of twelve kinds of fault.
+// The calls that take memory, once each where there is enough, and one text for each of fourteen kinds of fault.
 use olap_base::CatId;
 use olap_schema::{SchemaRefusal, print_schema, read_formula, read_schema};
 use std::alloc::Global;
@@ -12,7 +12,7 @@ edge City All
 constraint Store: Store.City = \"Oslo\" -> one(Store_City, !true)
 ";
 
-const PRINTED: &[u8] = b"schema 1
+const PRINTED: &[u8] = b"schema 2
 category Store
 category City
 edge Store City
@@ -32,7 +32,7 @@ fn judged(alloc: Global, text: &[u8]) -> (u64, u8) {
 #[test]
 fn texts_are_judged(rt: HostRuntime) {
     let alloc = rt.alloc();
-    let cases: [(&[u8], u64, u8); 16] = [
+    let cases: [(&[u8], u64, u8); 18] = [
         (LOCATIONS, 0, 0),
         (b"", 1, 2),
         (b"# only a comment\n\n", 1, 2),
@@ -61,6 +61,16 @@ fn texts_are_judged(rt: HostRuntime) {
         ),
         (b"schema 1\nconstraint All: true", 2, 11),
         (b"schema 1\n#\ncategory A\ncategory B\nedge B All", 3, 19),
+        (
+            b"schema 2\ncategory A\nedge A All\nconstraint A: A < 9",
+            4,
+            20,
+        ),
+        (
+            b"schema 2\ncategory A number\nedge A All\nconstraint A: A < 12345678901234567890",
+            4,
+            21,
+        ),
     ];
     for (text, line, kind) in cases {
         let (found_line, found_kind) = judged(alloc, text);
@@ -92,7 +102,7 @@ constraint Store: Store = \"b\"
 constraint Store: Store = \"c\"
 ";
 
-const WITHOUT_THE_SECOND: &[u8] = b"schema 1
+const WITHOUT_THE_SECOND: &[u8] = b"schema 2
 category Store
 edge Store All
 constraint Store: Store = \"a\"

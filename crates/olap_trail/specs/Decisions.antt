@@ -45,11 +45,15 @@ present_edges t = map (λ d. edge_at t.graph d.edge) (filter (λ d. d.present) t
 
 -- the graph with the edges alone that were decided present
 abbrev pub present_graph : Decided → Graph
-present_graph t = record { names = t.graph.names; edges = present_edges t }
+present_graph t = record { names = t.graph.names; numbers = t.graph.numbers; edges = present_edges t }
 
 -- the same with one edge more
 abbrev pub present_with : Decided → ℕ → Graph
-present_with t e = record { names = t.graph.names; edges = present_edges t ++ edge_at t.graph e ∷ [] }
+present_with t e = record {
+  names = t.graph.names;
+  numbers = t.graph.numbers;
+  edges = present_edges t ++ edge_at t.graph e ∷ [];
+}
 
 -- the root reaches the category by edges that were decided present
 abbrev pub IsPresent : Decided → ℕ → Type 0

@@ -6,6 +6,7 @@ use Rattle.olap_ast.specs.Frozen.{CandidatesExist}
 use Rattle.olap_ast.specs.Schema.{Schema}
 use Rattle.olap_ast.specs.Summarizable.{not_by_one}
 use Rattle.olap_ast.specs.Valid.{IsValidSchema}
+use Rattle.olap_ast.proofs.SourceLemmas.{question_kinds}
 use Rattle.olap_order.specs.Outputs.{line}
 use Rattle.olap_proof.specs.Verifying.{IsCertificateFor, IsFirstWrongFor, VerdictsAreOne}
 use Rattle.olap_proof.specs.declared.forms.Form.{Form}
@@ -19,13 +20,13 @@ module _ (exist : CandidatesExist) (one : VerdictsAreOne) where
   none_wrong : (f : Form) (s : Schema) (c : ℕ) (sources text : List ℕ) (at : ℕ) → IsValidSchema s
       → IsCertificateFor f s c sources text → IsFirstWrongFor f s c sources text at → ⊥
   none_wrong f s c sources text at v t w =
-      let k = exist s (not_by_one c sources) in
+      let k = exist s (not_by_one c sources) (question_kinds s c sources v) in
       (one f s (not_by_one c sources) k.0 text v.hierarchy (few s v)).0 at (w k.0 k.1) (t k.0 k.1)
 
   one_wrong : (f : Form) (s : Schema) (c : ℕ) (sources text : List ℕ) (at other : ℕ) → IsValidSchema s
       → IsFirstWrongFor f s c sources text at → IsFirstWrongFor f s c sources text other → at ≡ other
   one_wrong f s c sources text at other v w x =
-      let k = exist s (not_by_one c sources) in
+      let k = exist s (not_by_one c sources) (question_kinds s c sources v) in
       (one f s (not_by_one c sources) k.0 text v.hierarchy (few s v)).1 at other (w k.0 k.1) (x k.0 k.1)
 
   pub answers_are_one : AnswersAreOne

@@ -10,8 +10,8 @@ use Rattle.std.specs.Str.Parse.{IsNumeral, ParsesUnsigned, digits_value, without
 use Rattle.std.proofs.lemmas.Bool.Decides.{Decides-and, Decides-like, Decides-ltb}
 use Rattle.std.proofs.lemmas.Fmt.{IsAscii-from_digits}
 use Rattle.std.proofs.lemmas.Str.{IsUtf8-from_ascii}
-use Rattle.olap_records.specs.Numbers.{is_numeral}
-use Rattle.olap_records.proofs.Spelling.{numeral-decides, ok-where}
+use Rattle.olap_numerals.specs.Values.{is_numeral}
+use Rattle.olap_numerals.proofs.Spelling.{numeral-decides, ok-where}
 use Rattle.olap_view.specs.NumbersInside.{digits_of, is_wide}
 use mir.Syntax.{w128}
 

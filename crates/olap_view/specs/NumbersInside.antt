@@ -4,7 +4,7 @@
 --     wide_of     of 128 bits
 use Rattle.std.specs.Prelude.{◌^◌, ◌&&◌, Bool, ℕ, ℤ, pos, negsuc, List, Option, Some, None, if◌then◌else◌, nat_lt}
 use Rattle.std.specs.Str.Parse.{digits_value, signed_digits_value, without_leading_sign}
-use Rattle.olap_records.specs.Numbers.{is_numeral}
+use Rattle.olap_numerals.specs.Values.{is_numeral}
 
 -- decimal digits of a number of 64 bits
 abbrev pub digits_of : List ℕ → Option ℕ

@@ -16,7 +16,7 @@ use Rattle.olap_base.specs.Summaries.{Summary}
 use Rattle.olap_base.specs.Views.{Row, View, members_of, row_at}
 use Rattle.olap_graph.specs.Lookups.{category_named, name_of_category}
 use Rattle.olap_records.specs.Faults.{field, first_fault}
-use Rattle.olap_records.specs.Numbers.{value_of}
+use Rattle.olap_numerals.specs.Values.{value_of}
 use Rattle.olap_records.specs.Texts.{text_of_rows}
 use Rattle.olap_view.specs.StoredNumbers.{count_of, sum_of}
 use Rattle.olap_view.specs.ViewText as view

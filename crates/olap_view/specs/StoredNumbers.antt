@@ -5,7 +5,7 @@
 use Rattle.std.specs.Prelude.{◌&&◌, Bool, ℕ, ℤ, pos, negsuc, List, Option, Some, None, if◌then◌else◌, nat_le, nat_lt}
 use Rattle.std.specs.Str.Parse.{digits_value, signed_digits_value, without_leading_sign}
 use Rattle.olap_base.specs.Limits.{most_count, most_sum}
-use Rattle.olap_records.specs.Numbers.{is_numeral}
+use Rattle.olap_numerals.specs.Values.{is_numeral}
 
 -- a count: decimal digits of a number from 1 to the greatest count of a stored row
 abbrev pub count_of : List ℕ → Option ℕ

@@ -10,7 +10,8 @@ ghost use Rattle.olap_view.specs.StoredNumbers.{count_of, sum_of};
 
 use crate::Summary;
 use crate::fitting::{count_fits, sum_fits};
-use olap_records::{Rows, value};
+use olap_numerals::value;
+use olap_records::Rows;
 
 /// Whether a plus stands first.
 fn has_plus(field: &[u8]) -> bool

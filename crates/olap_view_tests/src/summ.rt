@@ -2,7 +2,7 @@
 ghost use Rattle.std.specs.Prelude.{All, IfOk};
 ghost use Rattle.olap_base.specs.Graph.{IsCategory};
 ghost use Rattle.olap_schema.specs.Schemas.{schema_of};
-ghost use Rattle.olap_summ.specs.Counterexamples.{numbers_of};
+ghost use Rattle.olap_ast.specs.Trees.{numbers_of};
 
 use crate::reading::LOCATION;
 use olap_base::{CatId, EdgeId};

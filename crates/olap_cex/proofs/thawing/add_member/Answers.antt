@@ -25,9 +25,12 @@ pub only_memory-requires : goal.only_memory-requires
 only_memory-requires c =
     let r = c.requires in
     let id = c.in_ok-id.ensures ∙ c.bytes.ensures ∙ c.name.ensures in
-    only_memory (named_refusal c.args.builder.now c.in_ok-id.id c.args.c.0) c.in-Err.refusal
-    (ap (λ b. named_refusal b c.in_ok-id.id c.args.c.0) r.before
-    ∙ ap (λ i. named_refusal (found_draft c.args.graph.now c.args.found.now (c.args.c.0 - 1) []) i c.args.c.0) id
+    let name = c.in_ok-name.ensures ∙ c.bytes-2.ensures ∙ c.name-2.ensures in
+    let old = found_draft c.args.graph.now c.args.found.now (c.args.c.0 - 1) [] in
+    only_memory (named_refusal c.args.builder.now c.in_ok-id.id c.args.c.0 c.in_ok-name.name) c.in-Err.refusal
+    (ap (λ b. named_refusal b c.in_ok-id.id c.args.c.0 c.in_ok-name.name) r.before
+    ∙ ap (λ i. named_refusal old i c.args.c.0 c.in_ok-name.name) id
+    ∙ ap (λ n. named_refusal old (name_of_category c.args.graph.now c.args.c.0) c.args.c.0 n) name
     ∙ accepted c.args.graph.now c.args.found.now r.found r.hierarchy c.args.c.0 r.declared r.category r.present
     r.limits)
     c.in-Err.ensures.err

@@ -2,7 +2,7 @@
 use Rattle.std.proofs.Common.{◌≡◌, ℕ, ◌<◌, [], length}
 use Rattle.std.specs.Prelude.{slice_index, slice_index_or}
 use Rattle.olap_cube.specs.Told.{tuples_in}
-use Rattle.olap_patterns.specs.Ways.{numbers_of}
+use Rattle.olap_ast.specs.Trees.{numbers_of}
 use Rattle.olap_cube_summ.proofs.questions.column.Given as goal
 
 abbrev pub invariant-sources : goal.invariant-sources

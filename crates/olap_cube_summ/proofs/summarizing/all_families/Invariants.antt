@@ -1,7 +1,7 @@
--- The families of the dimensions so far, whose graphs are hierarchies.
+-- The families of the dimensions so far, whose schemas are valid.
 use Rattle.std.proofs.Common.{◌≡◌, ℕ, ◌<◌, [], length}
 use Rattle.std.specs.Prelude.{slice_index_or}
-use Rattle.olap_base.specs.Graph.{IsHierarchy}
+use Rattle.olap_ast.specs.Valid.{IsValidSchema}
 use Rattle.olap_dimensions.specs.Dimensions.{no_schema, schemas_of}
 use Rattle.olap_cube_summ.specs.Patterns.{AreFamilies}
 use Rattle.olap_cube_summ.specs.Questions.{no_question}
@@ -12,5 +12,5 @@ invariant-dimensions l = record {
   count : length l.all.items ≡ l.i;
   each : (j : ℕ) → j < l.i → AreFamilies (slice_index_or (schemas_of l.cube) j no_schema)
       (slice_index_or l.questions j no_question) (slice_index_or l.all.items j []);
-  hierarchies : (j : ℕ) → j < l.i → IsHierarchy (slice_index_or (schemas_of l.cube) j no_schema).graph;
+  valid : (j : ℕ) → j < l.i → IsValidSchema (slice_index_or (schemas_of l.cube) j no_schema);
 }

@@ -11,7 +11,7 @@ use Rattle.olap_cube_summ.specs.Dimensions.{AreFamiliesOf, AreLeast, IsDimension
 use Rattle.olap_cube_summ.specs.Questions.{AreQuestionsOf}
 use Rattle.olap_cube_summ.proofs.AnswerLemmas.{dimensions, is_bad, is_counterexample}
 use Rattle.olap_cube_summ.proofs.DimensionLemmas.{of_length}
-use Rattle.olap_cube_summ.proofs.SettingLemmas.{all_ordered, are_questions_of, as_many, summarizable_is}
+use Rattle.olap_cube_summ.proofs.SettingLemmas.{all_ordered, are_questions_of, as_many, hierarchies, kinded, summarizable_is}
 use Rattle.olap_cube_summ.proofs.summarizing.counterexample.Goals as goal
 
 pub questions-requires-clause-target : goal.questions-requires-clause-target
@@ -46,7 +46,7 @@ returns-then-not-can_be_bad-clause-none c =
     let families = subst (λ w. AreFamiliesOf ss w fss) c.deref.ensures.value c.in_ok-families.ensures.families in
     let unions = subst (λ w. AreUnions w c.in_ok-sets.sets) c.deref-2.ensures.value c.in_ok-sets.ensures in (
       λ e. summarizable_is c.cube_summarizable_exactly_if_none_bad.ensures ss t ts qs fss asked of families
-          c.in_ok-families.ensures.hierarchies (length c.args.sources.now) count c.in_ok-sets.sets c.items.result.now
+          c.in_ok-families.ensures.valid (length c.args.sources.now) count c.in_ok-sets.sets c.items.result.now
           unions c.items.ensures c.all.result c.all.ensures.value c.can_be_bad.result c.can_be_bad.ensures
           c.if-not-can_be_bad.true,
       λ z. refl,
@@ -116,7 +116,8 @@ returns-clause-none c =
     (subst (λ w. AreLeast (length c.args.sources.now) (dimensions_of ss w c.items-3.result.now)
     (all_of (length c.args.sources.now)) c.in_ok-founds.founds) c.deref-4.ensures.value c.in_ok-founds.ensures)) in (
       λ e. absurd (let z : true ≡ false = e in cc),
-      λ z. absurd ((c.cube_summarizable_exactly_if_none_bad.ensures ss t ts c.in_ok-families.ensures.hierarchies).0 z _
+      λ z. absurd ((c.cube_summarizable_exactly_if_none_bad.ensures ss t ts (hierarchies ss c.in_ok-families.ensures.valid)
+          (kinded ss c.in_ok-families.ensures.valid)).0 z _
           (is_bad ss t ts qs fss asked of families c.in_ok-first.first first c.in_ok-founds.founds least)),
     )
 

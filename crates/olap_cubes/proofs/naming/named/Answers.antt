@@ -5,7 +5,7 @@ use Rattle.olap_base.specs.Graph.{Graph, IsCategory}
 use Rattle.olap_base.specs.declared.ids.CatId.{CatId}
 use Rattle.olap_dimensions.specs.Dimensions.{no_schema, schemas_of}
 use Rattle.olap_graph.specs.Lookups.{category_named}
-use Rattle.olap_order.specs.Words.{numbers_of}
+use Rattle.olap_ast.specs.Trees.{numbers_of}
 use Rattle.olap_cubes.proofs.NameLemmas.{named_more}
 use Rattle.olap_cubes.proofs.naming.named.Goals as goal
 

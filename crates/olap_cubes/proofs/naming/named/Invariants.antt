@@ -1,6 +1,6 @@
 -- So many names are known.
 use Rattle.olap_dimensions.specs.Dimensions.{schemas_of}
-use Rattle.olap_order.specs.Words.{numbers_of}
+use Rattle.olap_ast.specs.Trees.{numbers_of}
 use Rattle.olap_cubes.proofs.NameLemmas.{AreNamedTo}
 use Rattle.olap_cubes.proofs.naming.named.Given as goal
 

@@ -7,7 +7,8 @@ use Rattle.olap_cube.specs.declared.tuples.Tuple.{Tuple}
 use Rattle.olap_dimensions.specs.Dimensions.{schemas_of}
 use Rattle.olap_order.specs.Judged.{Replies}
 use Rattle.olap_order.specs.Order.{Done}
-use Rattle.olap_order.specs.Words.{numbers_of, texts}
+use Rattle.olap_ast.specs.Trees.{numbers_of}
+use Rattle.olap_order.specs.Words.{texts}
 use Rattle.olap_order.proofs.Stepping.{answered, ended, followed, unread}
 use Rattle.olap_cubes.specs.Questions.{ByCube, IsAnswer}
 use Rattle.olap_cubes.proofs.summarizing.cube.Goals as goal

@@ -15,29 +15,40 @@ pub encode-requires-clause-problem : goal.encode-requires-clause-problem
 encode-requires-clause-problem c =
     let s = with_graph c.args.graph.now (map constraint_of c.args.constraints.now) in
     let q = formula_of c.args.question.now in
-    let k : Candidates = record { fresh = c.fresh.result.now; texts = λ d. slice_index_or c.texts.result.now d [] } in
+    let k : Candidates = record {
+      first = λ d. slice_index_or c.firsts.result.now d c.fresh.result.now;
+      texts = λ d. slice_index_or c.texts.result.now d [];
+    } in
     (problem_for (record { schema = s; question = q; root = c.args.root.0; candidates = k }) c.requires.root
     c.requires.valid
     c.requires.question (subst (λ (x : Candidates). AreCandidates s q x)
-    (same_candidates c.fresh.result.now c.texts.result.now c.args.candidates.now c.fresh.ensures c.texts.ensures)
+    (same_candidates c.fresh.result.now c.firsts.result.now c.texts.result.now c.args.candidates.now c.fresh.ensures
+    c.firsts.ensures c.texts.ensures)
     c.requires.candidates)).0
 
 pub encode-requires-clause-spoken : goal.encode-requires-clause-spoken
 encode-requires-clause-spoken c =
     let s = with_graph c.args.graph.now (map constraint_of c.args.constraints.now) in
     let q = formula_of c.args.question.now in
-    let k : Candidates = record { fresh = c.fresh.result.now; texts = λ d. slice_index_or c.texts.result.now d [] } in
+    let k : Candidates = record {
+      first = λ d. slice_index_or c.firsts.result.now d c.fresh.result.now;
+      texts = λ d. slice_index_or c.texts.result.now d [];
+    } in
     (problem_for (record { schema = s; question = q; root = c.args.root.0; candidates = k }) c.requires.root
     c.requires.valid
     c.requires.question (subst (λ (x : Candidates). AreCandidates s q x)
-    (same_candidates c.fresh.result.now c.texts.result.now c.args.candidates.now c.fresh.ensures c.texts.ensures)
+    (same_candidates c.fresh.result.now c.firsts.result.now c.texts.result.now c.args.candidates.now c.fresh.ensures
+    c.firsts.ensures c.texts.ensures)
     c.requires.candidates)).1
 
 pub returns : goal.returns
 returns c =
     let s = with_graph c.args.graph.now (map constraint_of c.args.constraints.now) in
     let q = formula_of c.args.question.now in
-    let k : Candidates = record { fresh = c.fresh.result.now; texts = λ d. slice_index_or c.texts.result.now d [] } in
+    let k : Candidates = record {
+      first = λ d. slice_index_or c.firsts.result.now d c.fresh.result.now;
+      texts = λ d. slice_index_or c.texts.result.now d [];
+    } in
     let t : Task = record {
       graph = c.args.graph.now;
       constraints = map constraint_of c.args.constraints.now;
@@ -51,7 +62,8 @@ returns c =
       };
     } in
     let p = sym (same_problem s q c.args.root.0 (candidates_of c.args.candidates.now) k
-    (same_candidates c.fresh.result.now c.texts.result.now c.args.candidates.now c.fresh.ensures c.texts.ensures)) in
+    (same_candidates c.fresh.result.now c.firsts.result.now c.texts.result.now c.args.candidates.now c.fresh.ensures
+    c.firsts.ensures c.texts.ensures)) in
     let e = encoding_of c.in_ok-encoder.encoder in
     let laid = subst (λ (x : Problem). IsLaid x e.meanings e.starts)
     (c.in_ok-encoder.ensures.problem ∙ p) c.in_ok-encoder.ensures.sound.laid in

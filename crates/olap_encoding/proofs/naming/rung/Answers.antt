@@ -7,19 +7,19 @@ use Rattle.olap_encoding.proofs.naming.rung.Goals as goal
 
 pub name-l-requires-clause-place : goal.name-l-requires-clause-place
 name-l-requires-clause-place c =
-    constants_still c.variable.ensures.next.later c.args.c.0 c.args.j c.requires.place
+    constants_still c.rung_variable.ensures.next.later c.args.c.0 c.args.j c.requires.place
 
 pub clause-requires-clause-given : goal.clause-requires-clause-given
 clause-requires-clause-given c =
-    given_up (encoding_of c.variable.new.self) c.args.c.0 c.args.j c.args.below c.in_ok-upto.upto c.name-l.result
-    (says_still c.variable.ensures.next.later c.requires.below) c.in_ok-upto.ensures.says c.name-l.ensures
+    given_up (encoding_of c.rung_variable.new.e) c.args.c.0 c.args.j c.args.below c.in_ok-upto.upto c.name-l.result
+    (says_still c.rung_variable.ensures.next.later c.requires.below) c.in_ok-upto.ensures.says c.name-l.ensures
     c.negated-not_below.result c.negated-not_below.ensures
 
 pub clause-requires-2-clause-given : goal.clause-requires-2-clause-given
 clause-requires-2-clause-given c =
     let n = c.clause.ensures.next in
     given_reaches (encoding_of c.clause.new.self) c.args.c.0 c.args.j c.args.below c.in_ok-upto.upto c.name-l.result
-    (says_still (next_on c.variable.ensures.next n).later c.requires.below)
+    (says_still (next_on c.rung_variable.ensures.next n).later c.requires.below)
     (says_still n.later c.in_ok-upto.ensures.says) (says_still n.later c.name-l.ensures)
     c.negated-not_l.result c.negated-not_l.ensures
 
@@ -27,7 +27,7 @@ pub clause-requires-3-clause-given : goal.clause-requires-3-clause-given
 clause-requires-3-clause-given c =
     let n = next_on c.clause.ensures.next c.clause-2.ensures.next in
     given_above (encoding_of c.clause-2.new.self) c.args.c.0 c.args.j c.args.below c.in_ok-upto.upto c.name-l.result
-    (says_still (next_on c.variable.ensures.next n).later c.requires.below)
+    (says_still (next_on c.rung_variable.ensures.next n).later c.requires.below)
     (says_still n.later c.in_ok-upto.ensures.says) (says_still n.later c.name-l.ensures)
     c.negated-not_l.result c.negated-not_below.result c.negated-not_l.ensures c.negated-not_below.ensures
 
@@ -35,7 +35,7 @@ pub clause-requires-4-clause-given : goal.clause-requires-4-clause-given
 clause-requires-4-clause-given c =
     let n = next_on c.clause.ensures.next (next_on c.clause-2.ensures.next c.clause-3.ensures.next) in
     given_between (encoding_of c.clause-3.new.self) c.args.c.0 c.args.j c.args.below c.in_ok-upto.upto c.name-l.result
-    (says_still (next_on c.variable.ensures.next n).later c.requires.below)
+    (says_still (next_on c.rung_variable.ensures.next n).later c.requires.below)
     (says_still n.later c.in_ok-upto.ensures.says) (says_still n.later c.name-l.ensures)
     c.negated-not_upto.result c.negated-not_upto.ensures
 

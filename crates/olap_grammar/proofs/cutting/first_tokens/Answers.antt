@@ -14,15 +14,15 @@ begun most ts y e f = rw (e, f) refl
 
 pub returns-in-Ok-clause-found : goal.returns-in-Ok-clause-found
 returns-in-Ok-clause-found c =
-    found c.args.most c.args.line.now (kept_of c.cut.new.tokens)
+    found c.args.version c.args.most c.args.line.now (kept_of c.cut.new.tokens)
     (c.in-Ok.ensures c.args.most (begun c.args.most c.new.result.items _ c.new.ensures.items c.new-2.ensures))
 
 pub returns-in-Ok-clause-most : goal.returns-in-Ok-clause-most
 returns-in-Ok-clause-most c =
-    same-most c.args.most c.args.line.now (kept_of c.cut.new.tokens)
+    same-most c.args.version c.args.most c.args.line.now (kept_of c.cut.new.tokens)
     (c.in-Ok.ensures c.args.most (begun c.args.most c.new.result.items _ c.new.ensures.items c.new-2.ensures))
 
 pub returns-in-Err-clause-found : goal.returns-in-Err-clause-found
 returns-in-Err-clause-found c =
-    fails c.args.most c.args.line.now c.in-Err.e
+    fails c.args.version c.args.most c.args.line.now c.in-Err.e
     (c.in-Err.ensures c.args.most (begun c.args.most c.new.result.items _ c.new.ensures.items c.new-2.ensures))

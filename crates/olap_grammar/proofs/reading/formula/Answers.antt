@@ -1,21 +1,28 @@
-use Rattle.std.proofs.Common.{◌∙◌, sym}
-use Rattle.olap_grammar.specs.Known.{graph_seen}
+use Rattle.std.proofs.Common.{◌≡◌, ◌∙◌, sym, List}
+use Rattle.std.specs.Option.{option_map}
+use Rattle.olap_base.specs.Graph.{Graph}
+use Rattle.olap_grammar.specs.Clip.{clip, clipped}
+use Rattle.olap_grammar.specs.Machine.{formula_read, the_formula}
+use Rattle.olap_grammar.specs.Reader.{leaves_of}
 use Rattle.olap_grammar.specs.Words.{atoms_of}
+use Rattle.olap_grammar.specs.declared.tokens.Token.{Token}
+use Rattle.olap_grammar.specs.declared.tokens.Version.{Version}
 use Rattle.olap_grammar.proofs.Hom.{reads_clipped}
 use Rattle.olap_grammar.proofs.LeafLemmas.{atoms_are_leaves, not_deep, refused, too_deep}
 use Rattle.olap_grammar.proofs.reading.formula.Goals as goal
 
+-- the reader that builds no deeper tree reads along
+along : (v : Version) (g : Graph) (ts : List Token)
+    → formula_read clipped (leaves_of v g) ts ≡ option_map clip (the_formula (atoms_of v g) ts)
+along v g ts = reads_clipped (atoms_of v g) ts (atoms_are_leaves v g)
+
 pub returns-then-part : goal.returns-then-part
 returns-then-part c =
-    let along = reads_clipped (atoms_of (graph_seen c.args.known.now)) c.args.tokens.now (atoms_are_leaves _) in
-    too_deep _ c.in-Ok.part.depth _ (sym along ∙ c.in-Ok.ensures) c.if-part.true
+    too_deep _ c.in-Ok.part.depth _ (sym (along _ _ _) ∙ c.in-Ok.ensures) c.if-part.true
 
 pub returns-else-part : goal.returns-else-part
 returns-else-part c =
-    let along = reads_clipped (atoms_of (graph_seen c.args.known.now)) c.args.tokens.now (atoms_are_leaves _) in
-    not_deep _ c.in-Ok.part.depth _ (sym along ∙ c.in-Ok.ensures) c.if-part.false
+    not_deep _ c.in-Ok.part.depth _ (sym (along _ _ _) ∙ c.in-Ok.ensures) c.if-part.false
 
 pub returns-in-Err : goal.returns-in-Err
-returns-in-Err c =
-    refused _ _ c.in-Err.e
-    (reads_clipped (atoms_of (graph_seen c.args.known.now)) c.args.tokens.now (atoms_are_leaves _)) c.in-Err.ensures
+returns-in-Err c = refused _ _ c.in-Err.e (along _ _ _) c.in-Err.ensures

@@ -10,7 +10,7 @@ use Rattle.olap_grammar.proofs.reading.read_tokens.Given as goal
 
 abbrev pub invariant-tokens : goal.invariant-tokens
 invariant-tokens l =
-    let a = leaves_of (graph_seen l.known) in
+    let a = leaves_of l.version (graph_seen l.known) in
     fold (step clipped a) (Wants []) l.fn.tokens ≡ fold (step clipped a) (state_of l.state (frames l.stack)) l.left
 
 abbrev pub decreases-tokens : goal.decreases-tokens

@@ -5,7 +5,7 @@ use Rattle.olap_base.specs.Graph.{IsCategory}
 use Rattle.olap_nav.proofs.ChosenLemmas.{categories_all, chosen_all, chosen_differ}
 use Rattle.olap_nav.proofs.planning.pattern_against.Goals as goal
 use Rattle.olap_schema.specs.Schemas.{schema_of}
-use Rattle.olap_summ.specs.Counterexamples.{numbers_of}
+use Rattle.olap_ast.specs.Trees.{numbers_of}
 use Rattle.olap_view.specs.Seen.{views_of}
 
 pub counterexample-requires-clause-sources : goal.counterexample-requires-clause-sources

@@ -2,7 +2,7 @@ use Rattle.std.proofs.Common.{ap, subst, sym, ◌∙◌}
 use Rattle.std.specs.Prelude.{All}
 use Rattle.olap_base.specs.Graph.{IsCategory}
 use Rattle.olap_nav.proofs.ChosenLemmas.{categories_all, chosen_all}
-use Rattle.olap_summ.specs.Counterexamples.{numbers_of}
+use Rattle.olap_ast.specs.Trees.{numbers_of}
 use Rattle.olap_view.specs.Seen.{views_of}
 use Rattle.olap_nav.proofs.printing.print_plan.Goals as goal
 

@@ -1,7 +1,7 @@
 -- The names of the categories so far are appended.
 use Rattle.std.proofs.Common.{ℕ, ◌≡◌, ◌∷◌, ◌++◌, codes, flat_map, take}
 use Rattle.olap_graph.specs.Lookups.{name_of_category}
-use Rattle.olap_summ.specs.Counterexamples.{numbers_of}
+use Rattle.olap_ast.specs.Trees.{numbers_of}
 use Rattle.olap_nav.proofs.printing.print_sources.Given as goal
 
 abbrev pub invariant-sources : goal.invariant-sources

@@ -10,7 +10,8 @@ use Rattle.olap_order.specs.Judged.{Replies}
 use Rattle.olap_order.specs.Order.{Done}
 use Rattle.olap_order.specs.Steps.{another_word}
 use Rattle.olap_order.specs.Taken.{NoAnswer}
-use Rattle.olap_order.specs.Words.{numbers_of, texts}
+use Rattle.olap_order.specs.Words.{texts}
+use Rattle.olap_ast.specs.Trees.{numbers_of}
 use Rattle.olap_order.proofs.SourceLemmas.{ends_at, plain_ends, read_more, word_is}
 use Rattle.olap_order.proofs.naming.categories_at.Goals as goal
 

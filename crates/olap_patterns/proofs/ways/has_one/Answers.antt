@@ -1,6 +1,6 @@
 use Rattle.std.proofs.Common.{◌≡◌, ◌∙◌, ◌+◌, sym, subst, true, false, ap}
-use Rattle.olap_ast.specs.Trees.{formula_of}
-use Rattle.olap_patterns.specs.Ways.{IsAboutWays, numbers_of}
+use Rattle.olap_ast.specs.Trees.{formula_of, numbers_of}
+use Rattle.olap_patterns.specs.Ways.{IsAboutWays}
 use Rattle.olap_patterns.proofs.WayLemmas.{Below, pattern_added, pattern_passed}
 use Rattle.olap_patterns.proofs.ways.has_one.Goals as goal
 use Rattle.olap_patterns.proofs.ways.has_one.Goals.{then-has+in_ok-next+in_ok-formula, else-has}

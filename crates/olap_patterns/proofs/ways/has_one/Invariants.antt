@@ -1,6 +1,6 @@
 -- What the formula says of the patterns below this one.
-use Rattle.olap_ast.specs.Trees.{formula_of}
-use Rattle.olap_patterns.specs.Ways.{IsAboutWays, numbers_of}
+use Rattle.olap_ast.specs.Trees.{formula_of, numbers_of}
+use Rattle.olap_patterns.specs.Ways.{IsAboutWays}
 use Rattle.olap_patterns.proofs.WayLemmas.{Below}
 use Rattle.olap_patterns.proofs.ways.has_one.Given as goal
 

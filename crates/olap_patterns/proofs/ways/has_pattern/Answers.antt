@@ -4,8 +4,8 @@ use Rattle.std.proofs.lemmas.Grind.{common_steps}
 use Rattle.std.proofs.lemmas.List.{get_or-map, length-map}
 use Rattle.olap_base.specs.declared.ids.CatId.{CatId}
 use Rattle.olap_ast.specs.Formula.{Formula}
-use Rattle.olap_ast.specs.Trees.{formula_of}
-use Rattle.olap_patterns.specs.Ways.{HasWays, HasWaysTo, IsAboutWays, numbers_of, way_of}
+use Rattle.olap_ast.specs.Trees.{formula_of, numbers_of}
+use Rattle.olap_patterns.specs.Ways.{HasWays, HasWaysTo, IsAboutWays, way_of}
 use Rattle.olap_patterns.proofs.WayLemmas.{all_sources, way_added}
 use Rattle.olap_patterns.proofs.ways.has_pattern.Goals as goal
 

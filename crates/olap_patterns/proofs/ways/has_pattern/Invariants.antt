@@ -1,6 +1,6 @@
 -- What the formula says of the first sources.
-use Rattle.olap_ast.specs.Trees.{formula_of}
-use Rattle.olap_patterns.specs.Ways.{HasWaysTo, IsAboutWays, numbers_of}
+use Rattle.olap_ast.specs.Trees.{formula_of, numbers_of}
+use Rattle.olap_patterns.specs.Ways.{HasWaysTo, IsAboutWays}
 use Rattle.olap_patterns.proofs.ways.has_pattern.Given as goal
 
 abbrev pub invariant-sources : goal.invariant-sources

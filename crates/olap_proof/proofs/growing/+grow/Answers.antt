@@ -15,7 +15,7 @@ returns-in-Some-clause-tree t c =
     let a = c.args.asked.now in
     let h = c.in-Some.ensures.some in
     adds_leaf c.args.form (schema_in a) (question_in a) (names_in a) c.args.case.now (said c.in-Some.line)
-    c.args.out.now.items c.push_line.new.out.items h.0 h.1 c.in_ok-push_line.ensures
+    c.args.out.now.items c.push_bounded.new.out.items h.0 h.1 c.in_ok-push_bounded.ensures
 
 pub grow-requires : goal.grow-requires
 grow-requires t c =
@@ -54,8 +54,8 @@ returns-in-Some-next_edge-clause-tree t c =
     let second = c.decide-in-Some-next_edge.ensures ∙ ap (λ x. with_edge x e true) back in
     edge_written c.args.form (schema_in a) (question_in a) (names_in a) p c.decide.new.self
     c.decide-in-Some-next_edge.new.self e c.args.out.now.items
-    c.push_line-in-Some-next_edge.new.out.items c.grow.new.out.items c.grow-in-Some-next_edge.new.out.items
-    c.in-Some-next_edge.ensures.some c.in_ok-push_line-2.ensures first second c.in_ok-grow.ensures.tree
+    c.push_bounded-in-Some-next_edge.new.out.items c.grow.new.out.items c.grow-in-Some-next_edge.new.out.items
+    c.in-Some-next_edge.ensures.some c.in_ok-push_bounded-2.ensures first second c.in_ok-grow.ensures.tree
     c.in_ok-grow-2.ensures.tree
 
 pub grow-requires-in-names : goal.grow-requires-in-names
@@ -67,7 +67,7 @@ grow-requires-in-names t c =
     let new = c.in_ok-name.ensures ∙ ap (λ x. with_name x d.0 c.names.index) same in
     let unnamed = subst (λ x. IsUnnamed a x d) c.next_edge.ensures.same c.in-Some-next_name.ensures.some in
     let small : c.names.index ≤ length ((names_in a).texts d.0) =
-    omega (arith, ap length c.constants.ensures.list, c.names-test.true) in
+    omega (arith, ap length c.others.ensures.list, c.names-test.true) in
     let below = name_below (schema_in a) (question_in a) (names_in a) p c.name.new.self d.0
     c.names.index c.requires.place c.requires.none unnamed small new in (
       subst (λ n. left c.name.new.self < n) c.decreases below.less,
@@ -84,7 +84,7 @@ names-preserved t c =
     record {
       same = back ∙ c.names.invariant.same;
       written = name_written c.args.form (schema_in a) (question_in a) (names_in a) c.next_edge.new.case
-          c.name.new.self d.0 c.names.index c.push_line-in-Some-next_name.new.out.items
+          c.name.new.self d.0 c.names.index c.push_bounded-in-Some-next_name.new.out.items
           c.names.out.items c.grow-in-names.new.out.items c.names.invariant.written new c.in_ok-grow-3.ensures.tree;
     }
 
@@ -95,14 +95,14 @@ returns-after-names-clause-tree t c =
     let d = c.in-Some-next_name.c in
     let p = c.next_edge.new.case in
     let all : c.names.index ≡ length ((names_in a).texts d.0) + 1 =
-    omega (arith, ap length c.constants.ensures.list, c.names-test.false, c.names.auto.index-end) in
+    omega (arith, ap length c.others.ensures.list, c.names-test.false, c.names.auto.index-end) in
     subst (λ x. Adds c.args.form s (question_in a) (names_in a) (At x ∷ []) c.args.out.now.items c.names.out.items)
     c.next_edge.ensures.same
     (adds_names c.args.form s (question_in a) (names_in a) p d.0 c.args.out.now.items
-    c.push_line-in-Some-next_name.new.out.items c.names.out.items c.in-Some-next_name.ensures.some.0
-    c.in-Some-next_name.ensures.some.1 c.in_ok-push_line-3.ensures
+    c.push_bounded-in-Some-next_name.new.out.items c.names.out.items c.in-Some-next_name.ensures.some.0
+    c.in-Some-next_name.ensures.some.1 c.in_ok-push_bounded-3.ensures
     (subst (λ n. Adds c.args.form s (question_in a) (names_in a) (map (λ i. At (with_name p d.0 i)) (range_with_len 0 n))
-    c.push_line-in-Some-next_name.new.out.items c.names.out.items) all c.names.invariant.written))
+    c.push_bounded-in-Some-next_name.new.out.items c.names.out.items) all c.names.invariant.written))
 
 pub returns-in_default-next_name-clause-tree : goal.returns-in_default-next_name-clause-tree
 returns-in_default-next_name-clause-tree t c =

@@ -1,43 +1,31 @@
 use Rattle.std.proofs.Common.{◌≡◌, ◌∙◌, ◌<◌, ℕ, map, refl, subst, sym}
-use Rattle.std.specs.Prelude.{All, IfSome, IsNone, Option}
-use Rattle.olap_ast.specs.Formula.{Equality}
+use Rattle.std.specs.Prelude.{IfSome, IsNone, Option}
 use Rattle.olap_ast.specs.Schema.{Schema}
 use Rattle.olap_ast.specs.Summarizable.{IsSummarizable}
-use Rattle.olap_ast.specs.Trees.{constraint_of, formula_of}
+use Rattle.olap_ast.specs.Trees.{constraint_of, formula_of, numbers_of}
 use Rattle.olap_ast.specs.Valid.{IsValidSchema}
-use Rattle.olap_names.specs.Names.{atoms, candidates_of, with_graph}
+use Rattle.olap_names.specs.Names.{candidates_of, with_graph}
 use Rattle.olap_schema.specs.Schemas.{schema_of}
 use Rattle.olap_proof.specs.Certificates.{IsCertificateText}
-use Rattle.olap_proof.specs.Verifying.{IsCertificateFor, IsFirstWrongFor, IsWrongAt, numbers_of}
-use Rattle.olap_proof.proofs.QuestionLemmas.{certified_for, certified_summarizable, question_few, question_on, wrong_for}
+use Rattle.olap_proof.specs.Verifying.{IsCertificateFor, IsFirstWrongFor, IsWrongAt}
+use Rattle.olap_proof.proofs.QuestionLemmas.{certified_for, certified_summarizable, question_named, wrong_for}
 use Rattle.olap_proof.proofs.verifying.verify.Goals as goal
 
-pub of-requires-clause-categories : goal.of-requires-clause-categories
-of-requires-clause-categories c =
-    let g = c.graph-graph.result.now in
-    let cs = map constraint_of c.constraints-constraints.result.now in
-    let q = formula_of c.in_ok-question.question in
-    let same : with_graph g cs ≡ schema_of c.args.schema.now =
-    λ i. with_graph (c.graph-graph.ensures i) (c.constraints-constraints.ensures.list i) in
-    subst (λ n. All (λ (e : Equality). e.category < n) (atoms cs q)) (sym c.categories.ensures.count)
-    (question_on g cs q c.args.target.0 (numbers_of c.args.sources.now) c.in_ok-question.ensures
-    (subst (λ (s : Schema). IsValidSchema s) (sym same) c.constraints-constraints.ensures.valid))
-
-pub of-requires-clause-few : goal.of-requires-clause-few
-of-requires-clause-few c =
+pub of-requires : goal.of-requires
+of-requires c =
     let g = c.graph-graph.result.now in
     let cs = map constraint_of c.constraints-constraints.result.now in
     let same : with_graph g cs ≡ schema_of c.args.schema.now =
     λ i. with_graph (c.graph-graph.ensures i) (c.constraints-constraints.ensures.list i) in
-    question_few g cs (formula_of c.in_ok-question.question) c.args.target.0 (numbers_of c.args.sources.now)
-    c.in_ok-question.ensures
-    (subst (λ (s : Schema). IsValidSchema s) (sym same) c.constraints-constraints.ensures.valid)
+    question_named (schema_of c.args.schema.now) g cs (formula_of c.in_ok-question.question) c.args.target.0
+    (numbers_of c.args.sources.now) same c.in_ok-question.ensures c.constraints-constraints.ensures.valid
+    c.requires.target c.requires.sources
 
 pub first_wrong-requires-clause-asked : goal.first_wrong-requires-clause-asked
 first_wrong-requires-clause-asked c = record {
-  hierarchy = c.categories.ensures.hierarchy;
-  named = c.in_ok-candidates.ensures.count ∙ c.categories.ensures.count;
-  candidates = c.in_ok-candidates.ensures.candidates c.graph-graph.result.now;
+  hierarchy = c.categories-count.ensures.hierarchy;
+  named = c.in_ok-candidates.ensures.count;
+  candidates = c.in_ok-candidates.ensures.candidates;
 }
 
 pub returns-in-None-clause-ok : goal.returns-in-None-clause-ok
@@ -55,7 +43,7 @@ returns-in-None-clause-ok c =
     let accepted : IsCertificateText f (with_graph g cs) q k text =
     c.in_ok-first_wrong.ensures.none (subst (λ (o : Option ℕ). IsNone o) (sym c.in-None.is) refl) in
     subst (λ (s : Schema). IsCertificateFor f s t ss text) same
-    (certified_for f (with_graph g cs) q k t ss text c.in_ok-question.ensures (c.in_ok-candidates.ensures.candidates g)
+    (certified_for f (with_graph g cs) q k t ss text c.in_ok-question.ensures c.in_ok-candidates.ensures.candidates
     accepted)
 
 pub returns-in-None-clause-summarizable : goal.returns-in-None-clause-summarizable
@@ -74,7 +62,7 @@ returns-in-None-clause-summarizable c =
     c.in_ok-first_wrong.ensures.none (subst (λ (o : Option ℕ). IsNone o) (sym c.in-None.is) refl) in
     subst (λ (s : Schema). IsSummarizable s t ss) same
     (certified_summarizable f (with_graph g cs) q k t ss text c.in_ok-question.ensures
-    (c.in_ok-candidates.ensures.candidates g) c.categories.ensures.hierarchy accepted)
+    c.in_ok-candidates.ensures.candidates c.categories-count.ensures.hierarchy accepted)
 
 pub returns-clause-rejected : goal.returns-clause-rejected
 returns-clause-rejected c = λ line e.
@@ -93,5 +81,5 @@ returns-clause-rejected c = λ line e.
     c.in_ok-first_wrong.ensures.some in
     let number : c.in-Some.line ≡ line = cc in
     subst (λ (s : Schema). IsFirstWrongFor f s t ss text line) same
-    (wrong_for f (with_graph g cs) q k t ss text c.in_ok-question.ensures (c.in_ok-candidates.ensures.candidates g) line
+    (wrong_for f (with_graph g cs) q k t ss text c.in_ok-question.ensures c.in_ok-candidates.ensures.candidates line
     (subst (λ n. IsWrongAt f (with_graph g cs) q k text n) number wrong))

@@ -4,10 +4,11 @@ use Rattle.std.specs.Prelude.{◌||◌}
 use Rattle.olap_base.specs.Graph.{Graph, HasEdge, category_count}
 use Rattle.olap_bits.specs.Sets.{members}
 use Rattle.olap_graph.specs.Lookups.{edge_at}
+use Rattle.olap_proof.specs.KeptWays.{leading_way}
 use Rattle.olap_proof.specs.Places.{leading_graph}
-use Rattle.olap_proof.specs.Seen.{SeenDecisions, SeenWays, decision_at, way_at}
-use Rattle.olap_proof.specs.Walking.{Grows}
-use Rattle.olap_proof.proofs.SeenLemmas.{decisions_within, leading_seen, seen_present, seen_way, ways_within}
+use Rattle.olap_proof.specs.Seen.{LeadsHere, SeenDecisions, decision_at}
+use Rattle.olap_proof.specs.Walking.{Grows, SeenFrom}
+use Rattle.olap_proof.proofs.SeenLemmas.{decisions_within, leading_seen, seen_present, seen_way}
 use Rattle.olap_proof.proofs.WalkingLemmas.{grows_on, grows_then}
 use Rattle.olap_proof.proofs.walking.grow_by_known.Goals as goal
 
@@ -18,11 +19,9 @@ grow_by_decisions-by_decisions-requires c = λ k l.
     (decisions_within c.args.place.now.decided ds c.decisions-decisions.ensures.decisions
     c.decisions-decisions.ensures.list k l)
 
-pub grow_by_ways-by_ways-requires-clause-ways : goal.grow_by_ways-by_ways-requires-clause-ways
-grow_by_ways-by_ways-requires-clause-ways c = λ k l.
-    let ws = c.ways-ways.result.now in
-    subst (λ n. (way_at ws k).parent.0 < n) (sym c.categories-count.ensures.count)
-    (ways_within c.args.graph.now c.args.place.now.ways ws c.requires.ways c.ways-ways.ensures k l)
+pub grow_by_ways-by_ways-requires : goal.grow_by_ways-by_ways-requires
+grow_by_ways-by_ways-requires c = λ w h.
+    subst (λ n. w.parent < n) (sym c.categories-count.ensures.count) (c.requires.ways w h).1
 
 pub returns : goal.returns
 returns c =
@@ -31,9 +30,7 @@ returns c =
     let lead = leading_graph p in
     let n = category_count graph in
     let ds = c.decisions-decisions.result.now in
-    let ws = c.ways-ways.result.now in
     let listed = sym c.decisions-decisions.ensures.list in
-    let kept = sym c.ways-ways.ensures in
     let old = members c.args.set.now in
     let mid = members c.grow_by_decisions-by_decisions.new.set in
     let new = members c.grow_by_ways-by_ways.new.set in
@@ -43,11 +40,12 @@ returns c =
     let e = (decision_at ds k).edge.0 in
     subst (λ (g : Graph). HasEdge lead (edge_at g e).child (edge_at g e).parent) c.requires.graph
     (seen_present p ds listed k l h)) in
-    let second = subst (λ m. Grows lead m (SeenWays ws (length ws)) mid new b) c.categories-count.ensures.count
-    (c.grow_by_ways-by_ways.ensures lead (λ k l h. seen_way p ws kept k l h)) in
-    grows_on lead n (λ x y. SeenDecisions graph ds (length ds) x y ⊎ SeenWays ws (length ws) x y) (HasEdge lead) old new
-    (a || b) (grows_then lead n (SeenDecisions graph ds (length ds)) (SeenWays ws (length ws)) old mid new a b first second)
-    (λ x y e. elim (leading_seen p ds ws listed kept x y e) [
+    let second = subst (λ m. Grows lead m (SeenFrom (LeadsHere p.ways) m) mid new b) c.categories-count.ensures.count
+    (c.grow_by_ways-by_ways.ensures lead (seen_way p)) in
+    grows_on lead n (λ x y. SeenDecisions graph ds (length ds) x y ⊎ SeenFrom (LeadsHere p.ways) n x y) (HasEdge lead) old new
+    (a || b) (grows_then lead n (SeenDecisions graph ds (length ds)) (SeenFrom (LeadsHere p.ways) n) old mid new a b first
+    second)
+    (λ x y e. elim (leading_seen p ds listed x y e) [
       | inl s ↦ inl (subst (λ (g : Graph). SeenDecisions g ds (length ds) x y) c.requires.graph s)
-      | inr s ↦ inr s
+      | inr s ↦ inr ((c.requires.ways (leading_way x y) s).0, s)
     ])

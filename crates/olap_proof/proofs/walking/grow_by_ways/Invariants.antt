@@ -1,12 +1,11 @@
--- The set took in what the ways so far lead to.
-use Rattle.std.proofs.Common.{◌≡◌, ℕ, ◌<◌, length, true}
+-- The set took in what the ways from the categories so far lead to.
+use Rattle.std.proofs.Common.{ℕ}
 use Rattle.olap_base.specs.Graph.{Graph, HasEdge}
 use Rattle.olap_bits.specs.Sets.{members}
-use Rattle.olap_proof.specs.Seen.{SeenWays, way_at}
-use Rattle.olap_proof.specs.Walking.{Grows}
+use Rattle.olap_proof.specs.Seen.{LeadsHere}
+use Rattle.olap_proof.specs.Walking.{Grows, SeenFrom}
 use Rattle.olap_proof.proofs.walking.grow_by_ways.Given as goal
 
-abbrev pub invariant-ways : goal.invariant-ways
-invariant-ways l = (g : Graph) → ((k : ℕ) → k < length l.ways → (way_at l.ways k).there ≡ true
-    → HasEdge g (way_at l.ways k).child.0 (way_at l.ways k).parent.0)
-    → Grows g l.count (SeenWays l.ways l.i) (members l.initial.set) (members l.set) l.grew
+abbrev pub invariant-categories : goal.invariant-categories
+invariant-categories l = (g : Graph) → ((c d : ℕ) → LeadsHere l.place.ways c d → HasEdge g c d)
+    → Grows g l.count (SeenFrom (LeadsHere l.place.ways) l.c) (members l.initial.set) (members l.set) l.grew

@@ -2,7 +2,7 @@
 use Rattle.std.proofs.Common.{ℕ, List, subst, sym}
 use Rattle.olap_proof.specs.Verifying.{IsCertificateFor}
 use Rattle.olap_schema.specs.Schemas.{schema_of}
-use Rattle.olap_summ.specs.Counterexamples.{numbers_of}
+use Rattle.olap_ast.specs.Trees.{numbers_of}
 use Rattle.olap_prove.proofs.proving.certificate.Goals as goal
 
 pub returns-in-Some : goal.returns-in-Some

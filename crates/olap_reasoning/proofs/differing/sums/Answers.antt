@@ -8,7 +8,7 @@ use Rattle.olap_cex.specs.FoundFor.{IsFoundFor, found_instance, found_place}
 use Rattle.olap_frozen.specs.LeastFound.{frozen_of}
 use Rattle.olap_names.specs.Names.{candidates_of, with_graph}
 use Rattle.olap_schema.specs.Schemas.{schema_of}
-use Rattle.olap_summ.specs.Counterexamples.{numbers_of}
+use Rattle.olap_ast.specs.Trees.{numbers_of}
 use Rattle.olap_reasoning.proofs.CertificateLemmas.{found_for_difference, root_there, sources_are, target_reached}
 use Rattle.olap_reasoning.proofs.differing.sums.Goals as goal
 

@@ -4,7 +4,7 @@ use Rattle.olap_ast.specs.Summarizable.{IsSummarizable}
 use Rattle.olap_proof.specs.Verifying.{IsCertificateFor}
 use Rattle.olap_prove.specs.Proofs.{IsYes, Shows}
 use Rattle.olap_schema.specs.Schemas.{schema_of}
-use Rattle.olap_summ.specs.Counterexamples.{numbers_of}
+use Rattle.olap_ast.specs.Trees.{numbers_of}
 use Rattle.olap_reasoning.specs.Questions.{ByProof}
 use Rattle.olap_reasoning.proofs.CertificateLemmas.{certificate_shown, difference_shown}
 use Rattle.olap_reasoning.proofs.proving.proved.Goals as goal

@@ -1,7 +1,8 @@
 use Rattle.std.proofs.Common.{inr, subst, ◌∙◌}
 use Rattle.std.specs.Prelude.{IfSome}
 use Rattle.olap_schema.specs.Schemas.{schema_of}
-use Rattle.olap_summ.specs.Counterexamples.{IsCounterexampleFound, numbers_of}
+use Rattle.olap_summ.specs.Counterexamples.{IsCounterexampleFound}
+use Rattle.olap_ast.specs.Trees.{numbers_of}
 use Rattle.olap_reasoning.specs.Questions.{BySummarizable}
 use Rattle.olap_reasoning.proofs.CertificateLemmas.{difference_shown}
 use Rattle.olap_reasoning.proofs.summarizing.decided.Goals as goal

@@ -1,12 +1,12 @@
 -- The lines so far stand behind the earlier bytes.
-use Rattle.std.proofs.Common.{◌≡◌, ◌≤◌, ◌++◌, ◌-◌, drop, length, map}
-use Rattle.olap_schema.specs.Printing.{category_text, text_of_lines}
+use Rattle.std.proofs.Common.{◌≡◌, ◌≤◌, ◌++◌, ◌-◌, drop, length}
+use Rattle.olap_schema.specs.Printing.{category_texts, text_of_lines}
 use Rattle.olap_schema.proofs.printing.push_categories.Given as goal
 
 abbrev pub invariant-categories : goal.invariant-categories
 invariant-categories l = record {
-  written : l.out.items ++ text_of_lines (map category_text (drop l.done l.graph.names))
-      ≡ l.initial.out.items ++ text_of_lines (map category_text l.graph.names);
+  written : l.out.items ++ text_of_lines (category_texts (drop l.done l.graph.names) (drop l.done l.graph.numbers))
+      ≡ l.initial.out.items ++ text_of_lines (category_texts l.graph.names l.graph.numbers);
   within : l.done ≤ length l.graph.names;
 }
 

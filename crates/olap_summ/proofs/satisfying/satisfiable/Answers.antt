@@ -1,12 +1,13 @@
 use Rattle.std.proofs.Common.{refl}
 use Rattle.olap_ast.specs.Formula.{Formula.Truth}
 use Rattle.olap_schema.specs.Schemas.{schema_of}
-use Rattle.olap_summ.proofs.NowhereLemmas.{no_more_constants, unsatisfiable_is}
+use Rattle.olap_ast.proofs.SourceLemmas.{no_more_constants}
+use Rattle.olap_summ.proofs.NowhereLemmas.{unsatisfiable_is}
 use Rattle.olap_summ.proofs.satisfying.satisfiable.Goals as goal
 
 pub least_found-requires-clause-few : goal.least_found-requires-clause-few
 least_found-requires-clause-few c =
-    no_more_constants (schema_of c.args.schema.now) Truth c.constraints-valid.ensures.valid refl
+    no_more_constants (schema_of c.args.schema.now) Truth c.constraints-valid.ensures.valid refl refl
 
 pub returns-clause-none : goal.returns-clause-none
 returns-clause-none c =

@@ -7,7 +7,8 @@ use Rattle.olap_schema.specs.Schemas.{schema_of}
 use Rattle.olap_summ.specs.Answers.{IsNowhere}
 use Rattle.olap_summ.specs.Counterexamples.{IsOneCounterexampleFound}
 use Rattle.olap_summ.specs.Decisions.{asked_by, sources_of, target_of}
-use Rattle.olap_summ.proofs.CounterexampleLemmas.{not_summarizable, summarizable_is, until}
+use Rattle.olap_summ.proofs.CounterexampleLemmas.{not_summarizable, summarizable_is}
+use Rattle.olap_ast.proofs.SourceLemmas.{question_kinds, until}
 use Rattle.olap_summ.proofs.NowhereLemmas.{none_is, some_told}
 use Rattle.olap_summ.proofs.summarizing.shown.Goals as goal
 
@@ -35,6 +36,6 @@ returns-clause-none c =
     let past : category_count s.graph ≤ c.categories.b = omega arith in
     none_is Found (IsSummarizable s (target_of q) (sources_of q))
     (summarizable_is s (target_of q) (sources_of q) c.constraints-valid.ensures.valid.hierarchy
-    c.candidates_exist.ensures
+    c.candidates_exist.ensures (question_kinds s (target_of q) (sources_of q) c.constraints-valid.ensures.valid)
     (subst (λ (f : Formula). (b : ℕ) → IsBottom s.graph b → IsNowhere s f b) c.requires.asked
     (λ b bottom. c.categories.invariant b (let l = bottom.0.1 in omega (arith, l, past)) bottom)))

@@ -1,7 +1,7 @@
 use Rattle.std.proofs.Common.{◌∙◌, true≢false, subst, sym}
 use Rattle.olap_ast.specs.Summarizable.{IsSummarizable}
 use Rattle.olap_schema.specs.Schemas.{schema_of}
-use Rattle.olap_summ.specs.Counterexamples.{numbers_of}
+use Rattle.olap_ast.specs.Trees.{numbers_of}
 use Rattle.olap_summ.specs.Decisions.{target_of}
 use Rattle.olap_summ.proofs.DecisionLemmas.{shown_is_searched}
 use Rattle.olap_summ.proofs.summarizing.summarizable.Goals as goal

@@ -1,6 +1,6 @@
 use Rattle.std.proofs.Common.{◌≡◌, ◌∙◌}
 use Rattle.std.specs.Prelude.{Err}
-use Rattle.olap_order.specs.Words.{numbers_of}
+use Rattle.olap_ast.specs.Trees.{numbers_of}
 use Rattle.olap_proof.specs.declared.verifying.VerifyRefusal.TheVariants as refusal
 use Rattle.olap_schema.specs.Schemas.{schema_of}
 use Rattle.olap_verdicts.proofs.ReplyLemmas.{wrong_shown}

@@ -3,7 +3,7 @@ use Rattle.olap_base.specs.declared.ids.CatId.{CatId}
 use Rattle.olap_schema.specs.Schemas.{schema_of}
 use Rattle.olap_order.specs.Judged.{Replies}
 use Rattle.olap_order.specs.Order.{Done}
-use Rattle.olap_order.specs.Words.{numbers_of}
+use Rattle.olap_ast.specs.Trees.{numbers_of}
 use Rattle.olap_order.proofs.Stepping.{answered, ended, followed, unread}
 use Rattle.olap_verdicts.specs.Questions.{ByCertificate, IsAnswer}
 use Rattle.olap_verdicts.proofs.verifying.verify.Goals as goal

@@ -1,10 +1,10 @@
-use Rattle.std.proofs.Common.{sym, subst, length, map}
+use Rattle.std.proofs.Common.{sym, subst, map}
 use Rattle.std.specs.Prelude.{◌≤◌, IfOk}
 use Rattle.olap_base.specs.Limits.{most_constants}
-use Rattle.olap_ast.specs.Constants.{all_equalities}
+use Rattle.olap_ast.specs.Constants.{all_comparisons, all_equalities}
 use Rattle.olap_ast.specs.Schema.{Schema}
 use Rattle.olap_ast.specs.Trees.{constraint_of, formula_of}
-use Rattle.olap_ast.specs.Valid.{IsFormulaAt, IsValidSchema, distinct_pairs}
+use Rattle.olap_ast.specs.Valid.{IsFormulaAt, IsValidSchema, pair_count}
 use Rattle.olap_base.specs.Graph.{Graph, IsCategory}
 use Rattle.olap_schema.specs.Schemas.{schema_of}
 use Rattle.olap_dimsat.specs.Searches.{IsMadeWith}
@@ -29,7 +29,8 @@ over-requires-clause-question c =
 
 pub over-requires-clause-few : goal.over-requires-clause-few
 over-requires-clause-few c =
-    subst (λ (s : Schema). length (distinct_pairs (all_equalities s (formula_of c.args.question.now))) ≤ most_constants)
+    subst (λ (s : Schema). pair_count (all_equalities s (formula_of c.args.question.now))
+    (all_comparisons s (formula_of c.args.question.now)) ≤ most_constants)
     (sym (whole (schema_of c.args.schema.now) c.graph-graph.result.now
     (map constraint_of c.constraints-constraints.result.now)
     c.graph-graph.ensures c.constraints-constraints.ensures.list)) c.requires.few

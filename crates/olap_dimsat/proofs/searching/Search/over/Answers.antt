@@ -1,25 +1,20 @@
-use Rattle.std.proofs.Common.{◌<◌, map, ap, sym, subst}
-use Rattle.std.specs.Prelude.{All}
-use Rattle.olap_ast.specs.Formula.{Equality}
-use Rattle.olap_names.specs.Names.{atoms}
+use Rattle.std.proofs.Common.{map, ap}
+use Rattle.olap_names.proofs.NameableLemmas.{can_be_named}
 use Rattle.olap_ast.specs.Trees.{constraint_of, formula_of}
 use Rattle.olap_base.specs.declared.ids.CatId.{CatId}
 use Rattle.olap_trail.specs.Decisions.{Decided}
 use Rattle.olap_dimsat.specs.Tasks.{Task}
-use Rattle.olap_dimsat.proofs.AtomLemmas.{atoms_on}
 use Rattle.olap_dimsat.proofs.MadeLemmas.{ready_first}
 use Rattle.olap_dimsat.proofs.searching.Search.over.Goals as goal
 
 pub encode-requires-clause-candidates : goal.encode-requires-clause-candidates
-encode-requires-clause-candidates c = c.in_ok-candidates.ensures.candidates c.args.graph.now
+encode-requires-clause-candidates c = c.in_ok-candidates.ensures.candidates
 
-pub of-requires-clause-categories : goal.of-requires-clause-categories
-of-requires-clause-categories c =
+pub of-requires : goal.of-requires
+of-requires c =
     let a = c.args in
-    let cs = map constraint_of a.constraints.now in
-    let q = formula_of a.question.now in
-    subst (λ n. All (λ (e : Equality). e.category < n) (atoms cs q)) (sym c.categories.ensures.count)
-    (atoms_on a.graph.now cs a.root.0 q c.requires.valid c.requires.question)
+    can_be_named a.graph.now (map constraint_of a.constraints.now) a.root.0 (formula_of a.question.now)
+    c.requires.valid.formulas c.requires.question c.requires.few
 
 pub returns-clause-made : goal.returns-clause-made
 returns-clause-made c =

@@ -16,9 +16,10 @@ invariant_of-self-2 c =
     let child = c.args.child.0 in
     let parent = c.args.parent.0 in
     let old : Graph = built c.self.inside in
-    let grown : graph_of names c.push.new.self.items ≡ with_edge old child parent =
-    ap (graph_of names) c.in_ok-push.ensures.items
-    ∙ graph_of-edge names a.edges.items (record { child = c.args.child; parent = c.args.parent }) in
+    let kinds = a.numbers.items in
+    let grown : graph_of names kinds c.push.new.self.items ≡ with_edge old child parent =
+    ap (graph_of names kinds) c.in_ok-push.ensures.items
+    ∙ graph_of-edge names kinds a.edges.items (record { child = c.args.child; parent = c.args.parent }) in
     let few : length old.edges < most_edges = let l = length-map a.edges.items edge_of in omega arith in
     let none : edge_between old child parent ≡ None =
     nothing (λ e. e.0) c.edge.result (edge_between old child parent)

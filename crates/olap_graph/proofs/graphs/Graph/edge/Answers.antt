@@ -19,9 +19,10 @@ leading-requires c = λ k d h.
     let a = c.self.inside in
     let names = a.names.items in
     let ends = a.edges.items in
+    let kinds = c.self.inside.numbers.items in
     let x = c.args.child.0 in
     let out = c.items.result.now in
-    let e = headed_length names ends c.self.invariant.headed in
+    let e = headed_length names kinds ends c.self.invariant.headed in
     let inside = subst (λ n. x < n) (sym (e ∙ ap category_count c.self.view_is)) c.requires in
     let q = out_read (drawn ends)
     (length names) a.tables.out.items x c.from.result c.index.result.now out c.self.invariant.tables.out inside
@@ -35,11 +36,12 @@ returns-clause-place c =
     let a = c.self.inside in
     let names = a.names.items in
     let ends = a.edges.items in
+    let kinds = c.self.inside.numbers.items in
     let x = c.args.child.0 in
     let y = c.args.parent.0 in
     let out = c.items.result.now in
     let r = c.leading.result in
-    let e = headed_length names ends c.self.invariant.headed in
+    let e = headed_length names kinds ends c.self.invariant.headed in
     let inside = subst (λ n. x < n) (sym (e ∙ ap category_count c.self.view_is)) c.requires in
     let some =
     subst (λ (es : List Ends). IfSome r
@@ -48,7 +50,7 @@ returns-clause-place c =
     subst (λ (es : List Ends). IfNone r
     (Contains (parents_of (drawn es) out) y → ⊥)) c.deref.ensures.value c.leading.ensures.none in
     subst (λ (g : Graph). option_map (λ f. f.0) r ≡ edge_between g x y) c.self.view_is
-    (edge_found names ends (length names) x c.from.result y a.tables.out.items c.index.result.now out r
+    (edge_found names kinds ends (length names) x c.from.result y a.tables.out.items c.index.result.now out r
     c.self.invariant.tables.out c.self.invariant.hierarchy.edges_differ
     inside c.from.ensures c.index.ensures c.items.ensures some none)
 

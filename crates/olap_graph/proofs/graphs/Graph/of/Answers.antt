@@ -11,41 +11,44 @@ pub of-requires-clause-within : goal.of-requires-clause-within
 of-requires-clause-within c =
     let names = c.args.names.items in
     let ends = c.args.edges.items in
-    let size : c.len.result ≡ category_count (graph_of names ends) =
-    let h = headed_length names ends c.requires.headed in let l = c.len.ensures in let o = c.args.names.ok in
+    let kinds = c.args.numbers.items in
+    let size : c.len.result ≡ category_count (graph_of names kinds ends) =
+    let h = headed_length names kinds ends c.requires.headed in let l = c.len.ensures in let o = c.args.names.ok in
     omega arith in
     subst (λ (es : List Ends). LiesWithin (drawn es) c.len.result) (sym c.deref.ensures.value)
-    (lies_within names ends c.len.result size c.requires.unfinished.categories)
+    (lies_within names kinds ends c.len.result size c.requires.unfinished.categories)
 
 pub returns-in-Some-clause-err : goal.returns-in-Some-clause-err
 returns-in-Some-clause-err c =
     let names = c.args.names.items in
     let ends = c.args.edges.items in
-    let size : c.len.result ≡ category_count (graph_of names ends) =
-    let h = headed_length names ends c.requires.headed in let l = c.len.ensures in let o = c.args.names.ok in
+    let kinds = c.args.numbers.items in
+    let size : c.len.result ≡ category_count (graph_of names kinds ends) =
+    let h = headed_length names kinds ends c.requires.headed in let l = c.len.ensures in let o = c.args.names.ok in
     omega arith in
     let tables =
     subst (λ (es : List Ends). AreTables
     (drawn es) c.len.result c.in_ok-tables.tables) c.deref.ensures.value c.in_ok-tables.ensures in
-    first_without_way names ends c.len.result c.in_ok-tables.tables.reached.items c.in-Some.category tables.reached size
+    first_without_way names kinds ends c.len.result c.in_ok-tables.tables.reached.items c.in-Some.category tables.reached size
     (subst (λ rows. IsFirstWithout rows c.in-Some.category) c.deref-2.ensures.value c.in-Some.ensures.some)
 
 pub invariant_of-result : goal.invariant_of-result
 invariant_of-result c =
     let names = c.args.names.items in
     let ends = c.args.edges.items in
-    let h = headed_length names ends c.requires.headed in
-    let size : c.len.result ≡ category_count (graph_of names ends) = let l = c.len.ensures in
+    let kinds = c.args.numbers.items in
+    let h = headed_length names kinds ends c.requires.headed in
+    let size : c.len.result ≡ category_count (graph_of names kinds ends) = let l = c.len.ensures in
     let o = c.args.names.ok in omega arith in
     let tables =
     subst (λ (es : List Ends). AreTables
     (drawn es) c.len.result c.in_ok-tables.tables) c.deref.ensures.value c.in_ok-tables.ensures in
     let marked = subst HaveAll c.deref-2.ensures.value c.in_default.ensures.none in
-    let way = all_reach names ends c.len.result c.in_ok-tables.tables.reached.items tables.reached size marked in
+    let way = all_reach names kinds ends c.len.result c.in_ok-tables.tables.reached.items tables.reached size marked in
     record {
       headed = c.requires.headed;
       limits = c.requires.limits;
-      hierarchy = hierarchy (graph_of names ends) c.requires.unfinished way;
+      hierarchy = hierarchy (graph_of names kinds ends) c.requires.unfinished way;
       tables = subst (λ n. AreTables (drawn ends) n c.in_ok-tables.tables) (size ∙ sym h) tables;
     }
 
@@ -53,11 +56,12 @@ pub returns-clause-way : goal.returns-clause-way
 returns-clause-way c =
     let names = c.args.names.items in
     let ends = c.args.edges.items in
-    let size : c.len.result ≡ category_count (graph_of names ends) =
-    let h = headed_length names ends c.requires.headed in let l = c.len.ensures in let o = c.args.names.ok in
+    let kinds = c.args.numbers.items in
+    let size : c.len.result ≡ category_count (graph_of names kinds ends) =
+    let h = headed_length names kinds ends c.requires.headed in let l = c.len.ensures in let o = c.args.names.ok in
     omega arith in
     let tables =
     subst (λ (es : List Ends). AreTables
     (drawn es) c.len.result c.in_ok-tables.tables) c.deref.ensures.value c.in_ok-tables.ensures in
-    all_reach names ends c.len.result c.in_ok-tables.tables.reached.items tables.reached size
+    all_reach names kinds ends c.len.result c.in_ok-tables.tables.reached.items tables.reached size
     (subst HaveAll c.deref-2.ensures.value c.in_default.ensures.none)

@@ -10,9 +10,10 @@ returns-clause-edges c = λ k d h.
     let a = c.self.inside in
     let names = a.names.items in
     let ends = a.edges.items in
+    let kinds = c.self.inside.numbers.items in
     let x = c.args.c.0 in
     let out = c.items.result.now in
-    let e = headed_length names ends c.self.invariant.headed in
+    let e = headed_length names kinds ends c.self.invariant.headed in
     let inside = subst (λ n. x < n) (sym (e ∙ ap category_count c.self.view_is)) c.requires in
     let q = out_read (drawn ends)
     (length names) a.tables.out.items x c.from.result c.index.result.now out c.self.invariant.tables.out inside

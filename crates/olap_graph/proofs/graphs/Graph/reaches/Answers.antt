@@ -12,14 +12,15 @@ pub returns : goal.returns
 returns c =
     let names = c.self.inside.names.items in
     let ends = c.self.inside.edges.items in
+    let kinds = c.self.inside.numbers.items in
     let rows = c.self.inside.tables.reached.items in
     let x = c.args.c.0 in
     let y = c.args.d.0 in
-    let e = headed_length names ends c.self.invariant.headed in
+    let e = headed_length names kinds ends c.self.invariant.headed in
     let inside = subst (λ n. x < n) (sym (e ∙ ap category_count c.self.view_is)) c.requires.child in
     let within : c.from.result < length rows =
     let n = c.self.invariant.tables.reached.count in let f = c.from.ensures in omega (arith, inside) in
     let set = row_read rows c.from.result c.index.result.now within c.index.ensures ∙ ap (row rows) c.from.ensures in
     subst (λ (g : Graph). IsTrue c.has.result ↔ CategoryReaches g x y) c.self.view_is
-    (row_is names ends (length names) x y rows c.has.result c.self.invariant.tables.reached inside
+    (row_is names kinds ends (length names) x y rows c.has.result c.self.invariant.tables.reached inside
     (c.has.ensures ∙ ap (λ s. contains s y) set))

@@ -5,10 +5,10 @@ use Rattle.olap_plain.proofs.searching.Search.new.Goals as goal
 
 pub returns : goal.returns
 returns c =
-    let texts = c.in_ok-candidates.ensures.count ∙ c.categories.ensures.count in record {
+    let texts = c.in_ok-candidates.ensures.count in record {
       root_is = refl;
       root = c.requires.root;
-      candidates = c.in_ok-candidates.ensures.candidates c.args.graph.now;
+      candidates = c.in_ok-candidates.ensures.candidates;
       texts = texts;
       edges = ap length (c.in_ok-edges.ensures.items_if_clones_equal (λ y e. e)) ∙ length-replicate c.from.result false
           ∙ c.from.ensures ∙ c.edges.ensures.count;

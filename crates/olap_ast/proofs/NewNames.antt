@@ -1,0 +1,134 @@
+-- The new name of a member answers each atom of the constraints and of the question as its name does.
+use Rattle.std.proofs.Common.{◌≡◌, ◌∙◌, ◌↔◌, ℕ, ℤ, pos, List, Bool, true, false, cond, ◌||◌, Option, Some, None, refl, ap, sym, subst, inl, inr, arith}
+use Rattle.std.specs.Prelude.{◌==◌, ◌≢◌, IsSome, IsTrue, unwrap_or}
+use Rattle.std.proofs.lemmas.Bool.Decides.{nat_tests}
+use Rattle.olap_base.specs.Graph.{is_number}
+use Rattle.olap_numerals.specs.Comparing.{Op, Compares}
+use Rattle.olap_numerals.specs.Numerals.{canonical, number_of}
+use Rattle.olap_numerals.specs.Representatives.{IsNumberName, representative}
+use Rattle.olap_numerals.proofs.NumeralLemmas.{numbers_read_back, spelled_small}
+use Rattle.olap_numerals.proofs.RepresentativeLemmas.{representatives_answer_alike}
+use Rattle.olap_ast.specs.Formula.{Formula, IsNumbered}
+use Rattle.olap_ast.specs.Schema.{Schema}
+use Rattle.olap_ast.specs.Constants.{HasKinds, IsConstant, IsFreshName, IsNameOf, IsNumberConstant, is_constant, is_constant_is, new_name, new_numeral, numbers}
+
+-- a text that spells a number, and which
+pub spelled : (name : List ℕ) → IsSome (number_of name) → (a : ℤ) × (number_of name ≡ Some a)
+spelled name h = go (number_of name) refl h
+  where
+    go : (o : Option ℤ) → number_of name ≡ o → IsSome o → (a : ℤ) × (number_of name ≡ Some a)
+    go None e h = absurd (cc)
+    go (Some a) e h = (a, e)
+
+one_number : (a b : ℤ) → ◌≡◌ {A = Option ℤ} (Some a) (Some b) → a ≡ b
+one_number a b e = cc
+
+-- a numeral compares as its number does
+numbered_is : (name : List ℕ) (a n : ℤ) (op : Op) → number_of name ≡ Some a → IsNumbered name op n ↔ Compares op a n
+numbered_is name a n op e =
+    (λ t. subst (λ b. Compares op b n) (one_number t.0 a (sym t.1 ∙ e)) t.2, λ c. (a, e, c))
+
+module _ (s : Schema) (q : Formula) (fresh : List ℕ) (kinds : HasKinds s q) (free : (d : ℕ) → IsConstant s q d fresh
+    → ⊥) (d : ℕ) where
+  -- ---- a number category's member
+
+  new_number : ℤ → ℤ
+  new_number a = representative (numbers s q d) a
+
+  numeral_is : (name : List ℕ) (a : ℤ) → number_of name ≡ Some a → new_numeral s q d name ≡ canonical (new_number a)
+  unfolding new_number
+  numeral_is name a e = ap (λ o. canonical (representative (numbers s q d) (unwrap_or o (pos 0)))) e
+
+  stands : (name : List ℕ) (a : ℤ) → number_of name ≡ Some a → IsNumberName (numbers s q d) (new_number a)
+  unfolding new_number
+  stands name a e = (representatives_answer_alike (numbers s q d) a (λ n c. (kinds.numbers d n c).1)
+      (spelled_small name a e)).0
+
+  numeral_spells : (name : List ℕ) (a : ℤ) → number_of name ≡ Some a
+      → number_of (new_numeral s q d name) ≡ Some (new_number a)
+  numeral_spells name a e =
+      ap number_of (numeral_is name a e) ∙ numbers_read_back (new_number a) (stands name a e).0
+
+  numeral_answers : (name : List ℕ) (a : ℤ) → number_of name ≡ Some a → (op : Op) (n : ℤ)
+      → IsNumberConstant s q d n → IsNumbered (new_numeral s q d name) op n ↔ IsNumbered name op n
+  unfolding new_number
+  numeral_answers name a e op n c =
+      let x = numbered_is (new_numeral s q d name) (new_number a) n op (numeral_spells name a e) in
+      let y = numbered_is name a n op e in
+      let r = (representatives_answer_alike (numbers s q d) a (λ n c. (kinds.numbers d n c).1)
+      (spelled_small name a e)).1 op n c in
+      (λ t. y.1 (r.0 (x.0 t)), λ t. x.1 (r.1 (y.0 t)))
+
+  -- ---- the new name
+
+  pub new_text : (name text : List ℕ) → IsConstant s q d text →
+      (new_name s q fresh d name ≡ text) ↔ (name ≡ text)
+  new_text name text t = go (is_number s.graph d) (kinds.texts d text t) (d == 0) (is_constant s q d name)
+      (is_constant_is s q d name)
+    where
+      go : (m : Bool) → m ≡ false → (a b : Bool) → IsTrue b ↔ IsConstant s q d name
+          → (cond m (new_numeral s q d name) (cond (a || b) name fresh) ≡ text) ↔ (name ≡ text)
+      go true e a b t' = absurd (cc)
+      go false e true b t' = (λ e. e, λ e. e)
+      go false e false true t' = (λ e. e, λ e. e)
+      go false e false false t' = (
+        λ e. absurd (free d (subst (λ w. IsConstant s q d w) (sym e) t)),
+        λ e. absurd (let z : false ≡ true = t'.1 (subst (λ w. IsConstant s q d w) (sym e) t) in cc),
+      )
+
+  pub new_numbered : (name : List ℕ) (op : Op) (n : ℤ) → IsNumberConstant s q d n
+      → (IsTrue (is_number s.graph d) → IsSome (number_of name))
+      → IsNumbered (new_name s q fresh d name) op n ↔ IsNumbered name op n
+  new_numbered name op n c h = go (is_number s.graph d) (kinds.numbers d n c).0 h
+    where
+      go : (m : Bool) → m ≡ true → (IsTrue m → IsSome (number_of name))
+          → IsNumbered (cond m (new_numeral s q d name) (cond ((d == 0) || is_constant s q d name) name fresh)) op n
+          ↔ IsNumbered name op n
+      go false e h = absurd (cc)
+      go true e h = let t = spelled name (h refl) in numeral_answers name t.0 t.1 op n c
+
+  -- a number category's new name is a numeral
+  pub new_spells : (name : List ℕ) → IsTrue (is_number s.graph d) → IsSome (number_of name)
+      → IsSome (number_of (new_name s q fresh d name))
+  new_spells name m h = go (is_number s.graph d) m
+    where
+      go : (m : Bool) → IsTrue m
+          → IsSome (number_of (cond m (new_numeral s q d name) (cond ((d == 0) || is_constant s q d name) name fresh)))
+      go false e = absurd (cc)
+      go true e = let t = spelled name h in subst (λ o. IsSome o) (sym (numeral_spells name t.0 t.1)) refl
+
+  -- a declared category's new name is a name of its own
+  pub new_known : IsFreshName s q fresh → d ≢ 0 → (name : List ℕ)
+      → (IsTrue (is_number s.graph d) → IsSome (number_of name))
+      → IsNameOf (is_number s.graph d) s q d (new_name s q fresh d name)
+  new_known f z name h = go (is_number s.graph d) h (d == 0) (zero_is (d == 0) refl) (is_constant s q d name)
+      (is_constant_is s q d name)
+    where
+      zero_is : (a : Bool) → d == 0 ≡ a → a ≡ false
+      zero_is false e = refl
+      zero_is true e = absurd (z (same d e))
+        where
+          same : (d : ℕ) → d == 0 ≡ true → d ≡ 0
+          same d e = grind (arith, nat_tests)
+
+      go : (m : Bool) → (IsTrue m → IsSome (number_of name)) → (a : Bool) → a ≡ false → (b : Bool)
+          → IsTrue b ↔ IsConstant s q d name
+          → IsNameOf m s q d (cond m (new_numeral s q d name) (cond (a || b) name fresh))
+      go true h a e b t = let u = spelled name (h refl) in
+          (new_number u.0, stands name u.0 u.1, numeral_is name u.0 u.1)
+      go false h true e b t = absurd (cc)
+      go false h false e true t = inl (t.0 refl)
+      go false h false e false t = inr f
+
+  -- the name of `all` stays
+  pub new_all : d ≡ 0 → (name : List ℕ) → new_name s q fresh d name ≡ name
+  new_all z name = go (is_number s.graph d) (ap (is_number s.graph) z) (d == 0) (test d z)
+    where
+      test : (n : ℕ) → n ≡ 0 → (n == 0) ≡ true
+      test n e = grind (arith, nat_tests)
+
+      go : (m : Bool) → m ≡ false → (b : Bool) → b ≡ true
+          → cond m (new_numeral s q d name) (cond (b || is_constant s q d name) name fresh) ≡ name
+      go true e b t = absurd (cc)
+      go false e true t = refl
+      go false e false t = absurd (cc)

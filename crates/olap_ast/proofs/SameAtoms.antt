@@ -1,0 +1,86 @@
+-- Questions with the same atoms on names and numbers have the same names, and so share frozen dimensions where both are
+-- true.
+use Rattle.std.proofs.Common.{◌≡◌, ℕ, ℤ, suc, List, ◌++◌, Bool, true, false, sym, subst, inl, inr}
+use Rattle.std.specs.Prelude.{Contains, flat_map}
+use Rattle.olap_base.specs.Graph.{is_number}
+use Rattle.olap_numerals.specs.Representatives.{AreNumberNames, IsNumberName}
+use Rattle.olap_ast.specs.Constants.{AreInByteOrder, HasKinds, IsConstant, IsFreshName, IsNameOf, IsNumberConstant, fresh_candidate, numbers_on, texts_on}
+use Rattle.olap_ast.specs.Formula.{Comparison, Equality, Formula, Holds, comparisons, equalities}
+use Rattle.olap_ast.specs.Frozen.{AreCandidates, AreNamesOf, Candidates, Frozen, IsFrozen, thawed}
+use Rattle.olap_ast.specs.Schema.{Constraint, Schema}
+
+module _ (s : Schema) (p q : Formula) (same : equalities p ≡ equalities q)
+    (same_numbers : comparisons p ≡ comparisons q) where
+  -- what holds of the texts on a category for one question holds for the other
+  on_texts : (P : List (List ℕ) → Type 0) (d : ℕ)
+      → P (texts_on d (flat_map (λ (c : Constraint). equalities c.formula) s.constraints ++ equalities p))
+      → P (texts_on d (flat_map (λ (c : Constraint). equalities c.formula) s.constraints ++ equalities q))
+  on_texts P d h = subst (λ (l : List Equality). P
+      (texts_on d (flat_map (λ (c : Constraint). equalities c.formula) s.constraints ++ l))) same h
+
+  constant_back : (d : ℕ) (text : List ℕ) → IsConstant s q d text → IsConstant s p d text
+  constant_back d text c = subst (λ (l : List Equality). Contains
+      (texts_on d (flat_map (λ (c : Constraint). equalities c.formula) s.constraints ++ l)) text) (sym same) c
+
+  -- what holds of the numbers on a category for one question holds for the other
+  on_numbers : (P : List ℤ → Type 0) (d : ℕ)
+      → P (numbers_on d (flat_map (λ (c : Constraint). comparisons c.formula) s.constraints ++ comparisons p))
+      → P (numbers_on d (flat_map (λ (c : Constraint). comparisons c.formula) s.constraints ++ comparisons q))
+  on_numbers P d h = subst (λ (l : List Comparison). P
+      (numbers_on d (flat_map (λ (c : Constraint). comparisons c.formula) s.constraints ++ l))) same_numbers h
+
+  number_back : (d : ℕ) (n : ℤ) → IsNumberConstant s q d n → IsNumberConstant s p d n
+  number_back d n c = subst (λ (l : List Comparison). Contains
+      (numbers_on d (flat_map (λ (c : Constraint). comparisons c.formula) s.constraints ++ l)) n) (sym same_numbers) c
+
+  fresh_too : (name : List ℕ) → IsFreshName s p name → IsFreshName s q name
+  fresh_too name f = record {
+    underscores = f.underscores;
+    spelled = f.spelled;
+    free = λ d c. f.free d (constant_back d name c);
+    first = λ m l. let t = f.first m l in
+        (t.0, on_texts (λ ts. Contains ts (fresh_candidate m)) t.0 t.1);
+  }
+
+  pub kinds_too : HasKinds s p → HasKinds s q
+  kinds_too h = record {
+    texts = λ d text c. h.texts d text (constant_back d text c);
+    numbers = λ d n c. h.numbers d n (number_back d n c);
+  }
+
+  names_too : (kind : Bool) (d : ℕ) (first : List ℕ) (others : List (List ℕ)) → AreNamesOf kind s p d first others
+      → AreNamesOf kind s q d first others
+  names_too false d first others a =
+      (fresh_too first a.0, on_texts (λ ts. AreInByteOrder ts others) d a.1)
+  names_too true d first others a = on_numbers (λ ns. AreNumberNames ns first others) d a
+
+  pub candidates_too : (k : Candidates) → AreCandidates s p k → AreCandidates s q k
+  candidates_too k a = record {
+    kinds = kinds_too a.kinds;
+    names = λ c. names_too (is_number s.graph (suc c)) (suc c) (k.first (suc c)) (k.texts (suc c)) (a.names c);
+  }
+
+  name_too : (kind : Bool) (d : ℕ) (name : List ℕ) → IsNameOf kind s p d name → IsNameOf kind s q d name
+  name_too false d name n = elim n [
+    | inl c ↦ inl (on_texts (λ ts. Contains ts name) d c)
+    | inr f ↦ inr (fresh_too name f)
+  ]
+  name_too true d name n = (n.0, on_numbers (λ ns. IsNumberName ns n.0) d n.1, n.2)
+
+  pub frozen_too : (r : ℕ) (k : Candidates) (f : Frozen) (t : IsFrozen s p r k f)
+      → Holds (thawed s k r f) t.stands_for.root q → IsFrozen s q r k f
+  frozen_too r k f t h = record {
+    edge_count = t.edge_count;
+    name_count = t.name_count;
+    in_range = t.in_range;
+    absent = t.absent;
+    stands_for = record {
+      legal = t.stands_for.legal;
+      one_each = t.stands_for.one_each;
+      root = t.stands_for.root;
+      root_is = t.stands_for.root_is;
+      reached = t.stands_for.reached;
+      named = λ y m d. name_too _ _ _ (t.stands_for.named y m d);
+      true_at_root = h;
+    };
+  }

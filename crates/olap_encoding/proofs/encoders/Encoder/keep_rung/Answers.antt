@@ -1,0 +1,9 @@
+-- No clause and no meaning changes.
+use Rattle.olap_encoding.proofs.Growing.{next_same}
+use Rattle.olap_encoding.proofs.encoders.Encoder.keep_rung.Goals as goal
+
+pub returns-then-is_err : goal.returns-then-is_err
+returns-then-is_err c = record { next = next_same c.requires.sound }
+
+pub returns : goal.returns
+returns c = record { next = next_same c.requires.sound }

@@ -1,0 +1,23 @@
+-- The names of a valid schema and a question.
+--     can_be_named    where the constraints and the question are of the graph, and the constants few, they can be named
+--     valid_named     so they can where the schema and the question are valid
+use Rattle.std.proofs.Common.{ℕ, ◌<◌, ◌≤◌, List}
+use Rattle.olap_base.specs.Graph.{Graph, category_count}
+use Rattle.olap_base.specs.Limits.{most_constants}
+use Rattle.olap_ast.specs.Formula.{Equality, Formula}
+use Rattle.olap_ast.specs.Schema.{Constraint}
+use Rattle.olap_ast.specs.Valid.{IsFormulaAt, IsQuestion, IsValidSchema, pair_count}
+use Rattle.olap_ast.proofs.AtomLemmas.{AreOf, all_each, has_kinds}
+use Rattle.olap_names.specs.Names.{CanBeNamed, atoms, number_atoms, with_graph}
+
+pub can_be_named : (g : Graph) (cs : List Constraint) (r : ℕ) (q : Formula) → AreOf g cs → IsFormulaAt g r q
+    → pair_count (atoms cs q) (number_atoms cs q) ≤ most_constants → CanBeNamed g cs q
+can_be_named g cs r q f v few = record {
+  categories = all_each (λ (a : Equality). a.category < category_count g) (with_graph g cs) r q (λ d k h. h.0) f v;
+  kinds = has_kinds (with_graph g cs) r q f v;
+  few = few;
+}
+
+pub valid_named : (g : Graph) (cs : List Constraint) (r : ℕ) (q : Formula) → IsValidSchema (with_graph g cs)
+    → IsQuestion (with_graph g cs) r q → CanBeNamed g cs q
+valid_named g cs r q v t = can_be_named g cs r q v.formulas t.formula t.constants_fit

@@ -1,0 +1,44 @@
+use Rattle.std.proofs.Common.{◌≡◌, ◌∷◌, ◌∙◌, ◌<◌, ◌≤◌, ◌*◌, length, map, ap, sym, subst}
+use Rattle.std.specs.Prelude.{Contains}
+use Rattle.std.proofs.lemmas.Result.{IfOk-weaker}
+use Rattle.olap_ast.specs.Constants.{numbers_on}
+use Rattle.olap_ast.specs.Trees.{constraint_of, formula_of}
+use Rattle.olap_ast.specs.Valid.{distinct_numbers}
+use Rattle.olap_numerals.specs.Numerals.{canonical}
+use Rattle.olap_numerals.specs.Representatives.{AreNumberNames, AreRepresentatives, AreSmall}
+use Rattle.olap_names.specs.Names.{number_atoms}
+use Rattle.olap_names.proofs.NumberLemmas.{few_names, names_are, some_representative}
+use Rattle.olap_names.proofs.candidates.number_names.Goals as goal
+
+pub representatives-requires : goal.representatives-requires
+representatives-requires c = λ n h.
+    c.requires n (c.in_ok-constants.ensures.sound n (subst (λ l. Contains l n) c.deref.ensures.value h))
+
+pub spelled-requires : goal.spelled-requires
+spelled-requires c =
+    let small : AreSmall c.deref.result.now = λ n h.
+    c.requires n (c.in_ok-constants.ensures.sound n (subst (λ l. Contains l n) c.deref.ensures.value h)) in
+    subst (λ ns. 0 < length ns) (sym c.deref-2.ensures.value)
+    (some_representative c.deref.result.now c.in_ok-numbers.numbers.items small c.in_ok-numbers.ensures)
+
+pub returns-clause-names : goal.returns-clause-names
+returns-clause-names c =
+    let all = number_atoms (map constraint_of c.args.constraints.now) (formula_of c.args.question.now) in
+    let constants = c.in_ok-constants.constants.items in
+    let reps = c.in_ok-numbers.numbers.items in
+    let are = subst (λ l. AreRepresentatives l reps) c.deref.ensures.value c.in_ok-numbers.ensures in
+    IfOk-weaker c.spelled.result (λ p. p.0 ∷ p.1 ≡ map canonical c.deref-2.result.now)
+    (λ p. AreNumberNames (numbers_on c.args.c.0 all) p.0 p.1)
+    (λ p e. names_are c.args.c.0 all constants reps p.0 p.1 c.in_ok-constants.ensures are
+    (e ∙ ap (map canonical) c.deref-2.ensures.value)) c.spelled.ensures
+
+pub returns-clause-few : goal.returns-clause-few
+returns-clause-few c =
+    let all = number_atoms (map constraint_of c.args.constraints.now) (formula_of c.args.question.now) in
+    let constants = c.in_ok-constants.constants.items in
+    let reps = c.in_ok-numbers.numbers.items in
+    let are = subst (λ l. AreRepresentatives l reps) c.deref.ensures.value c.in_ok-numbers.ensures in
+    IfOk-weaker c.spelled.result (λ p. p.0 ∷ p.1 ≡ map canonical c.deref-2.result.now)
+    (λ p. length p.1 ≤ 2 * length (distinct_numbers all))
+    (λ p e. few_names c.args.c.0 all constants reps p.0 p.1 c.in_ok-constants.ensures are
+    (e ∙ ap (map canonical) c.deref-2.ensures.value)) c.spelled.ensures

@@ -1,0 +1,10 @@
+use Rattle.std.proofs.Common.{◌≡◌, take, map}
+use Rattle.std.specs.Prelude.{flat_map}
+use Rattle.olap_ast.specs.Constants.{numbers_on}
+use Rattle.olap_ast.specs.Formula.{comparisons}
+use Rattle.olap_ast.specs.Trees.{constraint_of}
+use Rattle.olap_names.proofs.candidates.numbers_of.Given as goal
+
+abbrev pub invariant-constraints : goal.invariant-constraints
+invariant-constraints l = l.numbers.items
+    ≡ numbers_on l.c.0 (flat_map (λ c. comparisons c.formula) (map constraint_of (take l.constraint-index l.constraints)))

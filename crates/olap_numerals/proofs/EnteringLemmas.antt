@@ -1,0 +1,148 @@
+-- What stands in a list after a number, and one more or one less, was entered.
+use Rattle.std.proofs.Common.{◌≡◌, ◌∙◌, ◌↔◌, ◌⊎◌, ◌++◌, ℤ, pos, negsuc, neg_ℤ, List, [], ◌∷◌, refl, sym, ap, subst, inl, inr, arith, ◌<ℤ◌, ◌≤ℤ◌, ◌+ℤ◌}
+use Rattle.std.specs.Prelude.{Contains, Some, None, fold}
+use Rattle.std.specs.Int.{int_min}
+use Rattle.std.proofs.lemmas.Int.{ints}
+use Rattle.std.proofs.lemmas.List.Elements.{Contains-append_left, Contains-append_right, Contains-append_cases}
+use Rattle.olap_base.specs.Deciding.{contains_cases}
+use Rattle.olap_base.proofs.ListLemmas.{contains_head, Contains-nil}
+use Rattle.olap_numerals.specs.Numerals.{IsSmall, most_number}
+use Rattle.olap_numerals.specs.Representatives.{AreSmall, IsLastNear, IsNumberName, IsUpTo, least}
+use Rattle.olap_numerals.proofs.RepresentativeLemmas.{both_ways, least_is, zero_small}
+
+up_to_self : (n : ℤ) → IsSmall n → IsUpTo (n ∷ []) n
+up_to_self n s = (s, inl (contains_head n []))
+
+up_to_next : (n : ℤ) → IsSmall (n +ℤ pos 1) → IsUpTo (n ∷ []) (n +ℤ pos 1)
+up_to_next n s = (s, inr (n, contains_head n [], refl))
+
+up_to_cases : (n a : ℤ) → IsUpTo (n ∷ []) a → (n ≡ a) ⊎ (a ≡ n +ℤ pos 1)
+up_to_cases n a (s, inl c) = elim (contains_cases a n [] c) [ inl e ↦ inl e | inr d ↦ absurd (Contains-nil a d) ]
+up_to_cases n a (s, inr (m, c, e)) = elim (contains_cases m n [] c) [
+  | inl q ↦ inr (e ∙ ap (λ z. z +ℤ pos 1) (sym q))
+  | inr d ↦ absurd (Contains-nil m d)
+]
+
+one_in : (xs : List ℤ) (n a : ℤ) → n ≡ a → Contains (xs ++ n ∷ []) a
+one_in xs n a e = subst (λ z. Contains (xs ++ n ∷ []) z) e (Contains-append_right xs (n ∷ []) n (contains_head n []))
+
+one_cases : (xs : List ℤ) (n a : ℤ) → Contains (xs ++ n ∷ []) a → Contains xs a ⊎ (n ≡ a)
+one_cases xs n a c = elim (Contains-append_cases xs (n ∷ []) a c) [
+  | inl d ↦ inl d
+  | inr d ↦ elim (contains_cases a n [] d) [ inl e ↦ inr e | inr k ↦ absurd (Contains-nil a k) ]
+]
+
+-- the greatest number has no next one within the bounds
+pub entered_one : (xs : List ℤ) (n : ℤ) → IsSmall n → pos most_number ≤ℤ n → (a : ℤ) →
+    Contains (xs ++ n ∷ []) a ↔ (Contains xs a ⊎ IsUpTo (n ∷ []) a)
+entered_one xs n s m a = (
+  λ c. elim (one_cases xs n a c) [ inl d ↦ inl d | inr e ↦ inr (subst (IsUpTo (n ∷ [])) e (up_to_self n s)) ],
+  λ h. elim h [
+    | inl d ↦ Contains-append_left xs (n ∷ []) a d
+    | inr u ↦ elim (up_to_cases n a u) [
+      | inl e ↦ one_in xs n a e
+      | inr e ↦ let t = u.0.1 in absurd (omega (arith, ints))
+    ]
+  ],
+)
+
+pub entered_two : (xs : List ℤ) (n : ℤ) → IsSmall n → n <ℤ pos most_number → (a : ℤ) →
+    Contains ((xs ++ n ∷ []) ++ (n +ℤ pos 1) ∷ []) a ↔ (Contains xs a ⊎ IsUpTo (n ∷ []) a)
+entered_two xs n s m a =
+    let t : IsSmall (n +ℤ pos 1) = (omega (arith, ints, s.0), omega (arith, ints, m)) in (
+      λ c. elim (one_cases (xs ++ n ∷ []) (n +ℤ pos 1) a c) [
+        | inl d ↦ elim (one_cases xs n a d) [ inl k ↦ inl k | inr e ↦ inr (subst (IsUpTo (n ∷ [])) e (up_to_self n s)) ]
+        | inr e ↦ inr (subst (IsUpTo (n ∷ [])) e (up_to_next n t))
+      ],
+      λ h. elim h [
+        | inl d ↦ Contains-append_left (xs ++ n ∷ []) ((n +ℤ pos 1) ∷ []) a (Contains-append_left xs (n ∷ []) a d)
+        | inr u ↦ elim (up_to_cases n a u) [
+          | inl e ↦ Contains-append_left (xs ++ n ∷ []) ((n +ℤ pos 1) ∷ []) a (one_in xs n a e)
+          | inr e ↦ one_in (xs ++ n ∷ []) (n +ℤ pos 1) a (sym e)
+        ]
+      ],
+    )
+
+pub entered_less : (xs : List ℤ) (n : ℤ) → IsSmall n → neg_ℤ (pos most_number) <ℤ n → (a : ℤ) →
+    Contains (xs ++ (n +ℤ negsuc 0) ∷ []) a ↔ (Contains xs a ⊎ IsLastNear (Some n) a)
+entered_less xs n s m a =
+    let t : IsSmall (n +ℤ negsuc 0) = (omega (arith, ints, m), omega (arith, ints, s.1)) in (
+      λ c. elim (one_cases xs (n +ℤ negsuc 0) a c) [ inl d ↦ inl d | inr e ↦ inr (subst IsSmall e t, sym e) ],
+      λ h. elim h [
+        | inl d ↦ Contains-append_left xs ((n +ℤ negsuc 0) ∷ []) a d
+        | inr u ↦ one_in xs (n +ℤ negsuc 0) a (sym u.1)
+      ],
+    )
+
+-- the least number has none before it within the bounds
+pub entered_none : (xs : List ℤ) (n : ℤ) → n ≤ℤ neg_ℤ (pos most_number) → (a : ℤ) →
+    Contains xs a ↔ (Contains xs a ⊎ IsLastNear (Some n) a)
+entered_none xs n m a = (
+  λ c. inl c,
+  λ h. elim h [ inl d ↦ d | inr u ↦ let t = u.0.0 in let e = u.1 in absurd (omega (arith, ints)) ],
+)
+
+pub entered_zero : (xs : List ℤ) (a : ℤ) → Contains (xs ++ pos 0 ∷ []) a ↔ (Contains xs a ⊎ IsLastNear None a)
+entered_zero xs a = (
+  λ c. elim (one_cases xs (pos 0) a c) [ inl d ↦ inl d | inr e ↦ inr (sym e) ],
+  λ h. elim h [ inl d ↦ Contains-append_left xs (pos 0 ∷ []) a d | inr e ↦ one_in xs (pos 0) a (sym e) ],
+)
+
+-- ---- over the constants
+
+pub least_small : (ns : List ℤ) → AreSmall ns → (n : ℤ) → least ns ≡ Some n → IsSmall n
+least_small [] h n e = absurd (cc)
+least_small (m ∷ ns) h n e = let t = least_is m ns in
+    let q : fold int_min m ns ≡ n = cc in subst IsSmall q (h (fold int_min m ns) t.is_one)
+
+pub up_to_nil : (a : ℤ) → IsUpTo [] a → ⊥
+up_to_nil a (s, inl c) = Contains-nil a c
+up_to_nil a (s, inr (m, c, e)) = Contains-nil m c
+
+pub up_to_push : (ns : List ℤ) (n a : ℤ) → (IsUpTo ns a ⊎ IsUpTo (n ∷ []) a) ↔ IsUpTo (ns ++ n ∷ []) a
+up_to_push ns n a = (
+  λ h. elim h [
+    | inl u ↦ (
+      u.0,
+      elim u.1 [
+        | inl c ↦ inl (Contains-append_left ns (n ∷ []) a c)
+        | inr t ↦ inr (t.0, Contains-append_left ns (n ∷ []) t.0 t.1, t.2)
+      ],
+    )
+    | inr u ↦ (
+      u.0,
+      elim u.1 [
+        | inl c ↦ inl (Contains-append_right ns (n ∷ []) a c)
+        | inr t ↦ inr (t.0, Contains-append_right ns (n ∷ []) t.0 t.1, t.2)
+      ],
+    )
+  ],
+  λ u. elim u.1 [
+    | inl c ↦ elim (Contains-append_cases ns (n ∷ []) a c) [ inl d ↦ inl (u.0, inl d) | inr d ↦ inr (u.0, inl d) ]
+    | inr t ↦ elim (Contains-append_cases ns (n ∷ []) t.0 t.1) [
+      | inl d ↦ inl (u.0, inr (t.0, d, t.2))
+      | inr d ↦ inr (u.0, inr (t.0, d, t.2))
+    ]
+  ],
+)
+
+name_from : (ns : List ℤ) (a : ℤ) → IsUpTo ns a ⊎ IsLastNear (least ns) a → IsNumberName ns a
+name_from ns a (inl (s, inl c)) = (s, inl c)
+name_from ns a (inl (s, inr t)) = (s, inr (inl t))
+name_from [] a (inr e) = (subst IsSmall (sym e) zero_small, inr (inr (inr (refl, e))))
+name_from (n ∷ ns) a (inr (s, e)) = (s, inr (inr (inl (fold int_min n ns, least_is n ns, e))))
+
+name_to : (ns : List ℤ) (a : ℤ) → IsNumberName ns a → IsUpTo ns a ⊎ IsLastNear (least ns) a
+name_to ns a (s, inl c) = inl (s, inl c)
+name_to ns a (s, inr (inl t)) = inl (s, inr t)
+name_to [] a (s, inr (inr (inl (m, l, e)))) = absurd (Contains-nil m l.is_one)
+name_to (n ∷ ns) a (s, inr (inr (inl (m, l, e)))) =
+    let t = least_is n ns in
+    let q : m ≡ fold int_min n ns =
+    both_ways m (fold int_min n ns) (l.least (fold int_min n ns) t.is_one) (t.least m l.is_one) in
+    inr (s, e ∙ ap (λ z. z +ℤ negsuc 0) q)
+name_to [] a (s, inr (inr (inr (q, e)))) = inr e
+name_to (n ∷ ns) a (s, inr (inr (inr (q, e)))) = absurd (cc)
+
+pub name_cases : (ns : List ℤ) (a : ℤ) → (IsUpTo ns a ⊎ IsLastNear (least ns) a) ↔ IsNumberName ns a
+name_cases ns a = (name_from ns a, name_to ns a)

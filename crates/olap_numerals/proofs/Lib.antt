@@ -1,0 +1,10 @@
+-- Lemmas.
+pub mod NumeralLemmas
+pub mod Spelling
+mod Digits
+pub mod FoundLemmas
+pub mod RepresentativeLemmas
+pub mod OrderLemmas
+pub mod EnteringLemmas
+pub mod NameLemmas
+mod Examples
