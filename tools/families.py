@@ -4,14 +4,16 @@ import random
 
 
 class Schema:
-    """Lines of a schema text."""
+    """Lines of a schema text; of the second version if some categories are of numbers."""
 
     def __init__(self):
-        self.categories, self.edges, self.constraints = [], [], []
+        self.categories, self.edges, self.constraints, self.numbered = [], [], [], set()
 
-    def category(self, name):
+    def category(self, name, is_number=False):
         if name not in self.categories:
             self.categories.append(name)
+        if is_number:
+            self.numbered.add(name)
         return name
 
     def edge(self, child, parent):
@@ -24,7 +26,8 @@ class Schema:
         self.constraints.append(f"constraint {root}: {formula}\n")
 
     def text(self):
-        lines = ["schema 1\n"] + [f"category {c}\n" for c in self.categories]
+        lines = [f"schema {2 if self.numbered else 1}\n"]
+        lines += [f"category {c}{' number' if c in self.numbered else ''}\n" for c in self.categories]
         lines += [f"edge {c} {p}\n" for c, p in self.edges] + self.constraints
         return "".join(lines)
 
@@ -120,6 +123,42 @@ def names_along_a_chain(length):
             s.constraint(f"C{i}", f'C{i} = "{name}" -> C{i}.C{i + 1} = "{name}"')
     s.constraint("C1", 'C1 = "a"')
     s.constraint(f"C{length}", f'!C{length} = "a"')
+    return s.text()
+
+
+def numbers_along_a_chain(length):
+    """A bound that runs along a chain of numbers, and is broken at its end."""
+    s = Schema()
+    for i in range(1, length + 1):
+        s.category(f"C{i}", is_number=True)
+    for i in range(1, length):
+        s.edge(f"C{i}", f"C{i + 1}")
+    s.edge(f"C{length}", "All")
+    for bound in "59":
+        for i in range(1, length):
+            s.constraint(f"C{i}", f"C{i} <= {bound} -> C{i}.C{i + 1} <= {bound}")
+    s.constraint("C1", "C1 < 6")
+    s.constraint(f"C{length}", f"!C{length} <= 5")
+    return s.text()
+
+
+def star(count):
+    """So many bottom categories right below the top."""
+    s = Schema()
+    for i in range(1, count + 1):
+        s.edge(f"B{i}", "All")
+    return s.text()
+
+
+def ring(bottoms, count):
+    """Bottom categories below the first of a ring, which one edge leaves."""
+    s = Schema()
+    for i in range(1, bottoms + 1):
+        s.edge(f"B{i}", "R1")
+    for i in range(1, count):
+        s.edge(f"R{i}", f"R{i + 1}")
+    s.edge(f"R{count}", "R1")
+    s.edge(f"R{count}", "All")
     return s.text()
 
 

@@ -1,4 +1,5 @@
-"""Small schemas and questions drawn at random, with every kind of formula, names, and now and then edges that lead in a circle."""
+"""Small schemas and questions drawn at random, with every kind of formula, names that are texts and in half of the schemas also
+numbers, and now and then edges that lead in a circle."""
 
 import random
 
@@ -9,7 +10,8 @@ MOST_SOURCES = 3
 
 def schema(chance: random.Random) -> Schema:
     drawn = Schema()
-    names = [drawn.category(f"C{number}") for number in range(chance.randrange(3, 8))]
+    share = chance.choice((0, 0.4))  # of categories of numbers
+    names = [drawn.category(f"C{number}", chance.random() < share) for number in range(chance.randrange(3, 8))]
     for place, child in enumerate(names):
         above = [*names[place + 1 :], "All"]
         for parent in chance.sample(above, min(len(above), chance.randrange(1, 4))):
@@ -36,10 +38,17 @@ def atom(chance: random.Random, drawn: Schema, root: str) -> str:
     parent = chance.choice([parent for child, parent in drawn.edges if child == root])
     further = [grandparent for child, grandparent in drawn.edges if child == parent and grandparent != root]
     above, other = (chance.choice([*drawn.categories, "All"]) for _ in range(2))
-    forms = [f"{root}_{parent}", f"{root}.{above}", f"{root}.{above}.{other}", f'{root} = "{chance.choice("ab")}"']
-    forms += [f'{root}.{above} = "{name}"' for name in ("a", "nk", "all", "é")] + ["true", "false"]
+    forms = [f"{root}_{parent}", f"{root}.{above}", f"{root}.{above}.{other}", f"{root} {compared(chance, drawn, root)}"]
+    forms += [f"{root}.{above} {compared(chance, drawn, above)}" for _ in range(4)] + ["true", "false"]
     forms += [f"{root}_{parent}_{grandparent}" for grandparent in further]
     return chance.choice(forms)
+
+
+def compared(chance: random.Random, drawn: Schema, category: str) -> str:
+    """A comparison with a name of the category."""
+    if category in drawn.numbered:
+        return f"{chance.choice(('=', '<', '<='))} {chance.choice((-1, 0, 1, 3, 10**18, '-007'))}"
+    return f'= "{chance.choice(("a", "b", "nk", "all", "é"))}"'
 
 
 def questions(chance: random.Random, categories: list[str], count: int) -> list[list[str]]:

@@ -1,7 +1,7 @@
 """Each folder of proofs/ belongs to a function of src/.
 
 The folder's path is the function's: the module, then the type of a method, with the trait's name after it if the
-method is a trait's, then the function. A folder `+NAME` belongs to functions that call each other: NAME is one of them,
+method is a trait's, then the function. The module of a method is its type's, wherever the method stands. A folder `+NAME` belongs to functions that call each other: NAME is one of them,
 or what `#[cycle(NAME)]` calls them.
 """
 
@@ -21,11 +21,19 @@ def cycles(crate):
                 yield f"{module}/{owner}/+{name}"
 
 
+def homes(crate):
+    """The modules of the crate's types."""
+    for file in sorted((sources.CRATES / crate / "src").rglob("*.rt")):
+        for name in re.findall(r"^(?:pub(?:\(crate\))? )?(?:struct|enum) (\w+)", file.read_text(), re.M):
+            yield name, sources.module_of(crate, file)
+
+
 def wanted(crate):
     """The paths that folders with proofs of this crate may have."""
-    paths = set(cycles(crate))
+    paths, modules = set(cycles(crate)), dict(homes(crate))
     for function in sources.functions(crate):
-        start = f"{function.module}/" if function.module else ""
+        module = modules.get(function.owner, function.module)
+        start = f"{module}/" if module else ""
         owner = f"{function.owner}{function.trait}/" if function.owner else ""
         paths.update({f"{start}{owner}{function.name}", f"{start}{owner}+{function.name}"})
     return paths

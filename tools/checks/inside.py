@@ -10,9 +10,6 @@ import sys
 from . import sources
 from .believed import law_of, modules
 
-# Modules that the readers of some commands believe though they are listed there: steps, of which certificates speak. The list moves
-# when the crate is changed for something else, since its text is part of all proofs.
-TOLD = {("olap_base", "Steps")}
 HEAD = re.compile(r"^-- The inside.*$", re.M)
 
 
@@ -34,5 +31,5 @@ def faults():
             crate, path = module
             is_law = name.endswith("_is") and name.removesuffix("_is") in modules()[module].declarations
             hidden = law_of(module, name) or is_law
-            if module not in TOLD and crate == index.relative_to(sources.CRATES).parts[0] and path in inside and not hidden:
+            if crate == index.relative_to(sources.CRATES).parts[0] and path in inside and not hidden:
                 yield index, f"{path} is listed as inside, and {name} in it is counted as believed"

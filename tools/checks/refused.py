@@ -1,7 +1,8 @@
 """Each line in the tables of docs/SCHEMA.md is refused, or taken, as it says.
 
 A row of the sections on refusals has a line, and what is said where that line stands after the text that is shown: the schema of
-section 1, and the instance and the facts of their sections. A row of section 2 has a constraint that examples/location takes.
+section 1, and the instance and the facts of their sections. A row on years stands after examples/written/years.txt. A row of section
+2 has a constraint that examples/location takes.
 """
 
 import re
@@ -15,6 +16,7 @@ DOCUMENT = sources.TOP / "docs" / "SCHEMA.md"
 FIRST = {"schema": "schema 1", "instance": "id,category,name,parents", "facts": "member,value"}
 WORDS = {"schema": ("format", "schema"), "instance": ("check", "schema", "instance"), "facts": ("rollup", "schema", "instance", "facts")}
 LOCATION = sources.TOP / "examples" / "location" / "schema.txt"
+YEARS = sources.TOP / "examples" / "written" / "years.txt"
 
 
 def texts(document):
@@ -56,7 +58,12 @@ def faults():
             said = said_of(Path(name), what, line, start)
             if said != f"refused {what} {wanted}":
                 yield DOCUMENT, f"of `{line}` the program says: {said}"
+        years = document.partition("\n### Years, weeks and sizes\n")[2].partition("\n## ")[0]
+        for line, wanted in re.findall(r"^\| `([^`]*)` \| `([^`]*)` \|.*\|$", years, re.M):
+            said = said_of(Path(name), "schema", line, {"schema": YEARS.read_text()})
+            if said != f"refused schema {wanted}":
+                yield DOCUMENT, f"of `{line}` the program says: {said}"
         for line in re.findall(r"^\|[^|]*\| `(constraint [^`]*)` \|$", document, re.M):
             said = said_of(Path(name), "schema", line, {"schema": LOCATION.read_text()})
-            if said != "schema 1":
+            if said != "schema 2":
                 yield DOCUMENT, f"of `{line}` the program says: {said}"

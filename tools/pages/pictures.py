@@ -111,8 +111,9 @@ def of_schema(schema: Schema, name: str, taken: Mapping[tuple[str, str], str] | 
                             f"{counted(len(schema.constraints), 'constraint')}")
     for category in schema.categories:
         is_bottom = category in schema.bottoms
-        lines, told = ((category, "facts stand here"), ": facts stand here") if is_bottom else ((category,), "")
-        picture.nodes[category] = Node(lines, f"category {category}{told}", "bottom" if is_bottom else "category")
+        notes = ["names are numbers"] * (category in schema.numbered) + ["facts stand here"] * is_bottom
+        told = "".join(f"{mark}{note}" for mark, note in zip((": ", ", "), notes))
+        picture.nodes[category] = Node((category, *notes), f"category {category}{told}", "bottom" if is_bottom else "category")
     for child, parent in schema.edges:
         kind = "up" if taken is None else taken.get((child, parent), "unknown")
         told = f": {TAKEN[kind].format(child=child)}" if kind in TAKEN else ""

@@ -25,11 +25,12 @@ class Constraint:
 
 @dataclass(frozen=True)
 class Schema:
-    """The declared categories, edges and constraints, each in declaration order."""
+    """The declared categories, edges and constraints, each in declaration order; and the categories whose names are numbers."""
 
     declared: tuple[str, ...]
     edges: tuple[tuple[str, str], ...]
     constraints: tuple[Constraint, ...]
+    numbered: frozenset[str] = frozenset()
 
     @property
     def categories(self) -> tuple[str, ...]:
@@ -89,11 +90,13 @@ class Counterexample:
 
 def schema_of(text: str) -> Schema:
     """The schema of a canonical text, as `format` prints it."""
-    declared, edges, constraints = [], [], []
+    declared, edges, constraints, numbered = [], [], [], set()
     for line in text.split("\n")[1:-1]:
         word, _, rest = line.partition(" ")
         if word == "category":
-            declared.append(rest)
+            name, _, kind = rest.partition(" ")
+            declared.append(name)
+            numbered |= {name} if kind == "number" else set()
         elif word == "edge":
             child, _, parent = rest.partition(" ")
             edges.append((child, parent))
@@ -102,7 +105,7 @@ def schema_of(text: str) -> Schema:
             constraints.append(Constraint(root, formula))
         else:
             raise Fault(f"this line of a canonical schema isn't known: {line}", 70)
-    return Schema(tuple(declared), tuple(edges), tuple(constraints))
+    return Schema(tuple(declared), tuple(edges), tuple(constraints), frozenset(numbered))
 
 
 def in_own_words(schema: Schema, text: str) -> Schema:
