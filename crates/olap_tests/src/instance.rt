@@ -102,6 +102,7 @@ fn add(
     requires name { IsTrue (is_utf8 name) }
     requires category { category.0 < builder.old.categories }
     ensures categories { builder.new.categories ≡ builder.old.categories }
+    ensures numbers { builder.new.numbers ≡ builder.old.numbers }
     ensures number { result.0 ≡ length builder.old.members }
     ensures count { length builder.new.members ≡ length builder.old.members + 1 }
 {
@@ -122,6 +123,7 @@ fn add_named(
     requires name { IsTrue (is_utf8 name) }
     requires category { category.0 < builder.old.categories }
     ensures categories { builder.new.categories ≡ builder.old.categories }
+    ensures numbers { builder.new.numbers ≡ builder.old.numbers }
     ensures number { result.0 ≡ length builder.old.members }
     ensures count { length builder.new.members ≡ length builder.old.members + 1 }
 {
