@@ -69,18 +69,17 @@ place-more all ps i d p found now m l ep e en em =
 -- the parents of one member more
 pub linked-more : (all : MemberId) (lists : List (Vec (Option MemberId) Global)) (i : ℕ)
     (d v : Vec (Option MemberId) Global)
-    (found now : List (Vec MemberId Global)) (w : Vec MemberId Global) → i < length lists → v ≡ get_or lists i d
-    → parents_in found ≡ map (places_of all.0) (parents_told (take i lists)) → now ≡ found ++ w ∷ []
-    → numbers_of w.items ≡ places_of all.0 (map number_of v.items)
+    (found now : List (List MemberId)) → i < length lists → v ≡ get_or lists i d
+    → parents_in found ≡ map (places_of all.0) (parents_told (take i lists))
+    → parents_in now ≡ parents_in found ++ places_of all.0 (map number_of v.items) ∷ []
     → parents_in now ≡ map (places_of all.0) (parents_told (take (i + 1) lists))
-linked-more all lists i d v found now w l ev e en ew =
+linked-more all lists i d v found now l ev e en =
     let more : take (i + 1) lists ≡ take i lists ++ v ∷ [] =
     take_more lists i d l ∙ ap (λ (x : Vec (Option MemberId) Global). take i lists ++ x ∷ []) (sym ev) in
-    ap parents_in en ∙ map-append (λ ps. numbers_of ps.items) found (w ∷ [])
+    en
     ∙ rw (
       more,
       map-append (λ ps. map number_of ps.items) (take i lists) (v ∷ []),
       map-append (places_of all.0) (parents_told (take i lists)) (map number_of v.items ∷ []),
       e,
-      ew,
     ) refl

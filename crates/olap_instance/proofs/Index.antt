@@ -1,50 +1,62 @@
 -- An index of a list: a look-up gives the place, and a new id goes last.
-use Rattle.std.proofs.Common.{◌≡◌, ◌+◌, ◌<◌, ◌∷◌, ◌++◌, ◌∙◌, ℕ, List, [], cond, get_or, map, length, Option, Some, refl, ap, sym, arith}
-use Rattle.std.specs.List.{position_from}
-use Rattle.std.specs.Map.{lookup}
+use Rattle.std.proofs.Common.{◌≡◌, ◌+◌, ◌<◌, ◌≤◌, ◌^◌, ◌∷◌, ◌++◌, ◌∙◌, ◌||◌, ℕ, List, [], Bool, true, false, cond, get_or, map, length, Option, None, Some, refl, ap, sym, arith}
+use Rattle.std.specs.List.{list_any, position, position_from}
 use Rattle.std.specs.Str.{bytes_eq}
-use Rattle.std.proofs.lemmas.List.{get_or-map, length-map, map-append}
+use Rattle.std.proofs.lemmas.Iterator.Adapters.{position_from-zero}
+use Rattle.std.proofs.lemmas.List.{get_or-map, length-append, length-map, map-append}
+use Rattle.indexmap.specs.IndexSet.{insert_key}
 use Rattle.olap_base.specs.Instance.{Instance, category_of, nobody}
+use Rattle.olap_base.specs.Naming.{place_of}
 use Rattle.olap_base.specs.declared.ids.CatId.{CatId}
 use Rattle.olap_instance.specs.Members.{member_of_head}
-use Rattle.olap_instance.specs.RosterInside.{numbered}
 use Rattle.olap_instance.specs.declared.rosters.Head.{Head}
 
 module _ {K : Type 0} (items : K → List ℕ) where
-  abbrev pub seen : K × ℕ → List ℕ × ℕ
-  seen e = (items e.0, e.1)
+  among-ids : (q : List ℕ) (keys : List K) (n : ℕ)
+      → position_from (λ k. bytes_eq q (items k)) n keys ≡ position_from (bytes_eq q) n (map items keys)
+  among-ids q [] n = refl
+  among-ids q (k ∷ keys) n = ap (λ (r : Option ℕ). cond (bytes_eq q (items k)) (Some n) r) (among-ids q keys (n + 1))
 
-  step : (q : List ℕ) (e : K × ℕ) (x : List ℕ) (n : ℕ) (a b : Option ℕ) → items e.0 ≡ x → e.1 ≡ n → a ≡ b
-      → cond (bytes_eq q (items e.0)) (Some e.1) a ≡ cond (bytes_eq q x) (Some n) b
-  step q e x n a b hx hn hr = rw (hx, hn, hr) refl
+  -- an id's place among the keys is its place among the ids
+  pub find-place : (q : List ℕ) (keys : List K) (ids : List (List ℕ)) → map items keys ≡ ids
+      → position (λ k. bytes_eq q (items k)) keys ≡ place_of q ids
+  find-place q keys ids e =
+      position_from-zero (λ k. bytes_eq q (items k)) keys ∙ among-ids q keys 0 ∙ ap (place_of q) e
 
-  pub find-place : (q : List ℕ) (es : List (K × ℕ)) (ids : List (List ℕ)) (n : ℕ) → map seen es ≡ numbered n ids
-      → lookup (λ k. bytes_eq q (items k)) es ≡ position_from (bytes_eq q) n ids
-  find-place q [] [] n h = refl
-  find-place q [] (x ∷ xs) n h = cc
-  find-place q (e ∷ es) [] n h = cc
-  find-place q (e ∷ es) (x ∷ xs) n h =
-      let front : seen e ≡ (x, n) = cc in
-      step q e x n _ _ (ap (λ (p : List ℕ × ℕ). p.0) front) (ap (λ (p : List ℕ × ℕ). p.1) front)
-      (find-place q es xs (n + 1) (cc))
+  none-among : (q : List ℕ) (keys : List K) (n : ℕ) → position_from (λ k. bytes_eq q (items k)) n keys ≡ None
+      → list_any (λ k. bytes_eq q (items k)) keys ≡ false
+  none-among q [] n e = refl
+  none-among q (k ∷ keys) n e = by (bytes_eq q (items k)) e (none-among q keys (n + 1))
+    where
+      by : (b : Bool) → cond b (Some n) (position_from (λ k. bytes_eq q (items k)) (n + 1) keys) ≡ None
+          → (position_from (λ k. bytes_eq q (items k)) (n + 1) keys ≡ None
+          → list_any (λ k. bytes_eq q (items k)) keys ≡ false)
+          → (b || list_any (λ k. bytes_eq q (items k)) keys) ≡ false
+      by true e again = cc e
+      by false e again = again e
 
-  numbered-push : (ids : List (List ℕ)) (id : List ℕ) (n : ℕ)
-      → numbered n (ids ++ id ∷ []) ≡ numbered n ids ++ (id, n + length ids) ∷ []
-  numbered-push [] id n = let e : n ≡ n + 0 = omega arith in ap (λ (k : ℕ). (id, k) ∷ []) e
-  numbered-push (x ∷ xs) id n =
-      let e : (n + 1) + length xs ≡ n + length (x ∷ xs) = omega arith in
-      ap (λ (t : List (List ℕ × ℕ)). (x, n) ∷ t) (numbered-push xs id (n + 1)
-      ∙ ap (λ (k : ℕ). numbered (n + 1) xs ++ (id, k) ∷ []) e)
+  -- no key is an id that has no place
+  pub key-absent : (q : List ℕ) (keys : List K) (ids : List (List ℕ)) → map items keys ≡ ids → place_of q ids ≡ None
+      → list_any (λ k. bytes_eq q (items k)) keys ≡ false
+  key-absent q keys ids e none = none-among q keys 0 (among-ids q keys 0 ∙ ap (place_of q) e ∙ none)
 
-  -- the key of a new id is put last, with the next place
-  pub push-place : (es new : List (K × ℕ)) (key : K) (place : ℕ) (ids now : List (List ℕ)) (id : List ℕ)
-      → map seen es ≡ numbered 0 ids
-      → new ≡ es ++ (key, place) ∷ [] → now ≡ ids ++ id ∷ [] → items key ≡ id → place ≡ length ids
-      → map seen new ≡ numbered 0 now
-  push-place es new key place ids now id h hn ht hk hp =
-      let e : length ids ≡ 0 + length ids = omega arith in
-      rw (hn, ht, map-append seen es ((key, place) ∷ []), h, hk, hp, numbered-push ids id 0)
-      (ap (λ (k : ℕ). numbered 0 ids ++ (id, k) ∷ []) e)
+  -- there are as many keys as heads
+  pub key-count : (keys : List K) (heads : List Head)
+      → map items keys ≡ map (λ m. m.id) (map member_of_head heads) → length keys ≡ length heads
+  key-count keys heads e =
+      sym (length-map keys items) ∙ ap length e ∙ length-map (map member_of_head heads) (λ m. m.id)
+      ∙ length-map heads member_of_head
+
+  -- a new key goes last
+  pub key-new : (keys : List K) (key : K) → list_any (λ k. bytes_eq (items key) (items k)) keys ≡ false
+      → insert_key (λ j k. bytes_eq (items j) (items k)) keys key ≡ keys ++ key ∷ []
+  key-new keys key e = rw e refl
+
+  -- and so does its id
+  pub key-last : (keys new : List K) (key : K) (ids now : List (List ℕ)) (id : List ℕ) → map items keys ≡ ids
+      → new ≡ keys ++ key ∷ [] → now ≡ ids ++ id ∷ [] → items key ≡ id → map items new ≡ now
+  key-last keys new key ids now id h hn ht hk =
+      rw (hn, ht, map-append items keys (key ∷ []), h, hk) refl
 
 -- ids of heads
 pub ids-push : (heads now : List Head) (h : Head) → now ≡ heads ++ h ∷ []
@@ -53,8 +65,13 @@ ids-push heads now h e =
     rw e (ap (map (λ m. m.id)) (map-append member_of_head heads (h ∷ []))
     ∙ map-append (λ m. m.id) (map member_of_head heads) (member_of_head h ∷ []))
 
-pub ids-count : (heads : List Head) → length (map (λ m. m.id) (map member_of_head heads)) ≡ length heads
-ids-count heads = length-map (map member_of_head heads) (λ m. m.id) ∙ length-map heads member_of_head
+-- one head more is few enough
+pub few-push : (heads now : List Head) (h : Head) → now ≡ heads ++ h ∷ [] → length (map member_of_head heads) < 2 ^ 32
+    → length now ≤ 2 ^ 32
+few-push heads now h e l =
+    let n = length-map heads member_of_head in
+    let m = length-append heads (h ∷ []) in
+    rw e (omega arith)
 
 -- ---- a column of categories
 

@@ -2,6 +2,7 @@
 pub mod Index
 pub mod MembersLemmas
 pub mod PlaceFacts
+pub mod ListsLemmas
 pub mod LookUps
 pub mod TextLemmas
 pub mod HeaderLemmas

@@ -1,9 +1,8 @@
 -- What is looked up in an instance, by what it keeps.
-use Rattle.std.proofs.Common.{◌≡◌, ◌<◌, ◌∙◌, ℕ, List, [], Option, Some, None, Vec, Global, length, map, get_or, sym, ap, arith}
+use Rattle.std.proofs.Common.{◌≡◌, ◌<◌, ◌∙◌, ℕ, List, [], Option, Some, None, length, map, get_or, sym, ap, arith}
 use Rattle.std.proofs.lemmas.List.{get_or-map, length-map}
 use Rattle.olap_base.specs.Instance.{Member, member_at, parents_of}
 use Rattle.olap_base.specs.Naming.{place_of}
-use Rattle.olap_base.specs.declared.ids.MemberId.{MemberId}
 use Rattle.olap_instance.specs.Passes.{numbers_of, parents_in}
 use Rattle.olap_instance.specs.InstanceInside.{IsSound, instance_of}
 use Rattle.olap_instance.specs.declared.instances.Instance.TheInside.{Inside}
@@ -12,7 +11,7 @@ use Rattle.olap_instance.proofs.MembersLemmas.{ids-with_parents, length-with_par
 
 module _ (a : Inside) (s : IsSound a) where
   abbrev rows : List (List ℕ)
-  rows = parents_in a.parents.items
+  rows = parents_in a.parents
 
   pub length-is : length (instance_of a) ≡ length a.roster
   length-is = length-with_parents a.roster rows s.as_many
@@ -20,9 +19,8 @@ module _ (a : Inside) (s : IsSound a) where
   pub in-roster : (x : ℕ) → x < length (instance_of a) → x < length a.roster
   in-roster x l = let e = length-is in omega arith
 
-  pub in-parents : (x : ℕ) → x < length (instance_of a) → x < length a.parents.items
-  in-parents x l = let h = in-roster x l in let e =
-      s.as_many ∙ length-map a.parents.items (λ ps. numbers_of ps.items) in omega arith
+  pub in-parents : (x : ℕ) → x < length (instance_of a) → x < length a.parents
+  in-parents x l = let h = in-roster x l in let e = s.as_many ∙ length-map a.parents numbers_of in omega arith
 
   pub member-is : (x : ℕ) → x < length (instance_of a)
       → member_at (instance_of a) x ≡ record (member_at a.roster x) { parents = get_or rows x [] }
@@ -45,8 +43,8 @@ module _ (a : Inside) (s : IsSound a) where
   unfound id e = sym e ∙ ap (place_of id) (sym ids-are)
 
   -- the parents at a place
-  pub parents-are : (x : ℕ) (d : Vec MemberId Global) → x < length (instance_of a)
-      → map (λ p. p.0) (get_or a.parents.items x d).items ≡ parents_of (instance_of a) x
-  parents-are x d l =
-      sym (get_or-map (λ ps. numbers_of ps.items) a.parents.items x d [] (in-parents x l))
+  pub parents-are : (x : ℕ) → x < length (instance_of a)
+      → map (λ p. p.0) (get_or a.parents x []) ≡ parents_of (instance_of a) x
+  parents-are x l =
+      sym (get_or-map numbers_of a.parents x [] [] (in-parents x l))
       ∙ sym (ap (λ (m : Member). m.parents) (member-is x l))

@@ -5,7 +5,7 @@ use Rattle.olap_instance.specs.Passes.{parents_in}
 use Rattle.olap_instance.specs.declared.instances.Instance.TheInside.{Inside}
 
 abbrev pub instance_of : Inside → Instance
-instance_of a = with_parents a.roster (parents_in a.parents.items)
+instance_of a = with_parents a.roster (parents_in a.parents)
 
 abbrev pub IsSound : Inside → Type 0
-IsSound a = AreSound a.roster (parents_in a.parents.items)
+IsSound a = AreSound a.roster (parents_in a.parents)

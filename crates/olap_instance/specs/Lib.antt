@@ -3,6 +3,7 @@ pub mod Hashing
 pub mod Members
 pub mod Made
 pub mod RosterInside
+pub mod ListsInside
 pub mod InstanceInside
 pub mod InstanceText
 pub mod Refusals

@@ -1,13 +1,13 @@
 -- What the two passes over the records of a text find.
-use Rattle.std.specs.Prelude.{◌≡◌, ◌<◌, ◌==◌, ℕ, List, [], length, map, Option, Some, None, Vec, slice_index}
+use Rattle.std.specs.Prelude.{◌≡◌, ◌<◌, ◌==◌, ◌++◌, ◌∷◌, ℕ, List, [], length, map, Option, Some, None, slice_index}
 use Rattle.std.specs.Borrow.{Bor}
-use Rattle.std.specs.Global.{Global}
 use Rattle.std.specs.List.{list_any, slice_split}
 use Rattle.olap_base.specs.Graph.{Graph}
 use Rattle.olap_base.specs.Instance.{Instance}
 use Rattle.olap_base.specs.declared.ids.MemberId.{MemberId}
 use Rattle.olap_records.specs.Faults.{first_fault}
-use Rattle.olap_instance.specs.InstanceText.{member_fault, member_read, parents_fault, parents_read, parent_read, pieces_fault}
+use Rattle.olap_instance.specs.declared.refusals.InstanceKind.{InstanceKind}
+use Rattle.olap_instance.specs.InstanceText.{member_fault, member_read, parents_fault, parents_read, parent_read, pieces_fault, pieces_of}
 
 -- the ids of members
 abbrev pub ids_in : Instance → List (List ℕ)
@@ -39,8 +39,27 @@ AreBelow stamps mark = (m : ℕ) → m < length stamps → slice_index stamps m 
 abbrev pub numbers_of : List MemberId → List ℕ
 numbers_of places = map (λ p. p.0) places
 
-abbrev pub parents_in : List (Vec MemberId Global) → List (List ℕ)
-parents_in parents = map (λ ps. numbers_of ps.items) parents
+-- the parents of each member, as numbers
+abbrev pub parents_in : List (List MemberId) → List (List ℕ)
+parents_in parents = map numbers_of parents
+
+-- no piece has a fault, and the members that the pieces name are one more member's parents
+abbrev pub AddsParents : List (List ℕ) → List (List ℕ) → List (List MemberId) → List (List MemberId) → Type 0
+AddsParents ids pieces old new =
+    (pieces_fault ids pieces ≡ None) × (parents_in new ≡ parents_in old ++ map (parent_read ids) pieces ∷ [])
+
+-- the first fault of a field of parents, whatever stands before it
+abbrev pub field_fault : List (List ℕ) → List (List ℕ) → List ℕ → Option InstanceKind
+field_fault ids before field = pieces_fault ids (pieces_of field)
+
+-- the parents that a field tells
+abbrev pub field_read : List (List ℕ) → List ℕ → List ℕ
+field_read ids field = map (parent_read ids) (pieces_of field)
+
+-- no field has a fault, and these are the parents that each tells
+abbrev pub FieldsPass : List (List ℕ) → List (List ℕ) → List (List ℕ) → Type 0
+FieldsPass ids fields parents =
+    (first_fault (field_fault ids) [] fields ≡ None) × (parents ≡ map (field_read ids) fields)
 
 -- no record has a fault in its parents, and these are the parents of each
 abbrev pub PassesSecond : List (List ℕ) → List (List (List ℕ)) → List (List ℕ) → Type 0

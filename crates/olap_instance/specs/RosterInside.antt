@@ -1,20 +1,15 @@
 -- What a roster keeps.
-use Rattle.std.specs.Prelude.{◌≡◌, ◌+◌, ◌∷◌, ℕ, List, [], map}
+use Rattle.std.specs.Prelude.{◌≡◌, ◌≤◌, ◌^◌, length, map}
 use Rattle.olap_base.specs.Instance.{Instance}
 use Rattle.olap_instance.specs.Members.{member_of_head}
 use Rattle.olap_instance.specs.declared.rosters.Roster.TheInside.{Inside}
 
--- each text with its place, counted from n on
-abbrev pub numbered : ℕ → List (List ℕ) → List (List ℕ × ℕ)
-numbered n [] = []
-numbered n (x ∷ xs) = (x, n) ∷ numbered (n + 1) xs
-
 abbrev pub members_of_roster : Inside → Instance
 members_of_roster a = map member_of_head a.heads.items
 
--- the index has each id with its place, in order
+-- the index has the ids, in order
 abbrev pub IsIndexed : Inside → Type 0
-IsIndexed a = map (λ e. (e.0.items, e.1)) a.index.entries ≡ numbered 0 (map (λ m. m.id) (members_of_roster a))
+IsIndexed a = map (λ k. k.items) a.index.keys ≡ map (λ m. m.id) (members_of_roster a)
 
 -- the categories of the heads, in order
 abbrev pub HasCategories : Inside → Type 0
@@ -24,3 +19,4 @@ HasCategories a = map (λ c. c.0) a.categories.items ≡ map (λ m. m.category) 
 pub record IsRoster (a : Inside) : Type 0 where
   pub indexed : IsIndexed a
   pub categories : HasCategories a
+  pub few : length a.heads.items ≤ 2 ^ 32

@@ -5,10 +5,11 @@ ghost use Rattle.olap_base.specs.Graph.{Graph, category_count};
 ghost use Rattle.olap_instance.specs.DraftInside.{number_of, parents_told};
 ghost use Rattle.olap_instance.specs.Drafts.{Draft, HasParent, IsMemberCause, has_numbers, instance_built, member_refusal, named_refusal, no_members, numbers_in, places_of, with_member, with_parent};
 ghost use Rattle.olap_instance.specs.Made.{IsMadeFor};
-ghost use Rattle.olap_instance.specs.Passes.{numbers_of, parents_in};
+ghost use Rattle.olap_instance.specs.Passes.{parents_in};
 ghost use Rattle.olap_instance.specs.declared.refusals.ParentRefusal.TheVariants as of_parent;
 
 use crate::hashing::KeyedHash;
+use crate::lists::Lists;
 use crate::rosters::{Head, Roster};
 use crate::texts::{is_bad, is_bad_number, is_long};
 use crate::{Instance, MemberRefusal, ParentRefusal};
@@ -48,34 +49,35 @@ fn is_among(parents: &[Option<MemberId>], parent: Option<MemberId>) -> bool
     parents.contains(&parent)
 }
 
-// The parents, where `all` is this member.
-fn linked(
-    alloc: Global,
+// Adds the parents of one more member, where `all` is this member.
+fn link(
+    lists: &mut Lists<MemberId>,
     parents: &[Option<MemberId>],
     all: MemberId,
-) -> Result<Vec<MemberId>, Memory>
-    ensures { IfOk result (λ v. numbers_of v.items ≡ places_of all.0 (map number_of parents.now)) }
+) -> Result<(), Memory>
+    ensures { OnOk result (parents_in lists.new
+        ≡ parents_in lists.old ++ places_of all.0 (map number_of parents.now) ∷ []) }
 {
-    let mut places = Vec::with_capacity(alloc, parents.len())?;
+    lists.begin()?;
     'parents: for parent in parents {
-        places.push(parent.unwrap_or(all))?;
+        lists.push(parent.unwrap_or(all))?;
     }
-    Ok(places)
+    Ok(())
 }
 
 // The parents of all members, and none for `all`.
-fn linked_all(
+fn linked(
     alloc: Global,
     parents: &[Vec<Option<MemberId>>],
     all: MemberId,
-) -> Result<Vec<Vec<MemberId>>, Memory>
-    ensures { IfOk result (λ v. parents_in v.items ≡ map (places_of all.0) (parents_told parents.now) ++ [] ∷ []) }
+) -> Result<Lists<MemberId>, Memory>
+    ensures { IfOk result (λ v. parents_in v ≡ map (places_of all.0) (parents_told parents.now) ++ [] ∷ []) }
 {
-    let mut lists = Vec::new(alloc);
+    let mut lists = Lists::with_room(alloc, parents.len())?;
     'lists: for list in parents {
-        lists.push(linked(alloc, list, all)?)?;
+        link(&mut lists, list, all)?;
     }
-    lists.push(Vec::new(alloc))?;
+    lists.begin()?;
     Ok(lists)
 }
 
@@ -244,7 +246,7 @@ impl InstanceBuilder {
             alloc,
         } = self;
         let all = MemberId(roster.len() as u32);
-        let lists = linked_all(alloc, &parents, all)?;
+        let lists = linked(alloc, &parents, all)?;
         roster.add_all()?;
         Ok(Instance::from_parts(roster, lists))
     }

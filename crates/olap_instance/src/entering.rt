@@ -6,11 +6,12 @@ ghost use Rattle.olap_base.specs.Limits.{most_members};
 ghost use Rattle.olap_base.specs.Naming.{place_of};
 ghost use Rattle.olap_graph.specs.Lookups.{category_named};
 ghost use Rattle.olap_records.specs.Faults.{first_fault};
-ghost use Rattle.olap_instance.specs.InstanceText.{category_number, id_field, is_no_text, member_fault, member_read};
+ghost use Rattle.olap_instance.specs.InstanceText.{category_number, id_field, is_no_text, member_fault, member_read, parents_field};
 ghost use Rattle.olap_instance.specs.Passes.{PassesFirst, ids_in};
 ghost use Rattle.olap_instance.specs.Refusals.{IsFaultCause, IsRecordCause};
 
 use crate::hashing::KeyedHash;
+use crate::lists::Lists;
 use crate::rosters::{Head, Roster};
 use crate::texts::{is_bad, is_bad_number, is_long, is_text};
 use crate::{InstanceKind, InstanceRefusal};
@@ -117,22 +118,33 @@ fn enter(
     }
 }
 
-/// The members of the records that are left, their parents aside. Their ids are looked up by that hash.
+// The field of parents of the record that was read last. What isn't there is empty.
+fn parents_of<'b>(rows: &'b Rows) -> &'b [u8]
+    ensures { result.now ≡ parents_field rows.now.row }
+{
+    if rows.len() > 3 { rows.field(3) } else { &[] }
+}
+
+/// The members of the records that are left, their parents aside, and the field of parents of each. Their ids are
+/// looked up by that hash.
 pub(crate) fn enter_all(
     alloc: Global,
     hash: KeyedHash,
     graph: &Graph,
     rows: &mut Rows,
-) -> Result<Roster, InstanceRefusal>
+) -> Result<(Roster, Lists<u8>), InstanceRefusal>
     ensures members { MatchResult result
-        (λ r. PassesFirst graph.now rows.old.left r)
+        (λ r. PassesFirst graph.now rows.old.left r.0)
         (λ e. IsFaultCause (first_fault (member_fault graph.now) [] rows.old.left) e) }
-    ensures few { IfOk result (λ r. length r < most_members) }
-    ensures others { IfOk result (λ r. place_of (codes "all") (ids_in r) ≡ None) }
+    ensures fields { IfOk result (λ r. r.1 ≡ map parents_field rows.old.left) }
+    ensures few { IfOk result (λ r. length r.0 < most_members) }
+    ensures others { IfOk result (λ r. place_of (codes "all") (ids_in r.0) ≡ None) }
 {
     let mut roster = Roster::new(alloc, hash);
+    let mut fields = Lists::with_room(alloc, 0)?;
     'rows: while rows.advance()? {
         enter(alloc, graph, &mut roster, rows)?;
+        fields.add(parents_of(rows))?;
     }
-    Ok(roster)
+    Ok((roster, fields))
 }

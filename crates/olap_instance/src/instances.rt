@@ -7,6 +7,7 @@ ghost use Rattle.olap_base.specs.Naming.{place_of};
 ghost use Rattle.olap_instance.specs.Members.{AllHasNoParents, AreSound, HasTexts, with_parents};
 ghost use Rattle.olap_instance.specs.Passes.{parents_in};
 
+use crate::lists::Lists;
 use crate::rosters::Roster;
 use olap_base::{CatId, MemberId, Text};
 use std::marker::Model;
@@ -16,7 +17,7 @@ use std::marker::Model;
 pub struct Instance {
     roster: Roster,
     // The parents of each member.
-    parents: Vec<Vec<MemberId>>,
+    parents: Lists<MemberId>,
 }
 
 impl Model for Instance {
@@ -33,9 +34,9 @@ impl Model for Instance {
 
 impl Instance {
     /// An instance of these members, each with its parents.
-    pub(crate) fn from_parts(roster: Roster, parents: Vec<Vec<MemberId>>) -> Instance
-        requires { AreSound roster (parents_in parents.items) }
-        ensures { result ≡ with_parents roster (parents_in parents.items) }
+    pub(crate) fn from_parts(roster: Roster, parents: Lists<MemberId>) -> Instance
+        requires { AreSound roster (parents_in parents) }
+        ensures { result ≡ with_parents roster (parents_in parents) }
     {
         Instance { roster, parents }
     }
@@ -81,7 +82,7 @@ impl Instance {
         ensures list { map (λ p. p.0) result.now ≡ parents_of self.now m.0 }
         ensures places { (y : ℕ) → IsBelow self.now m.0 y → y < length self.now }
     {
-        &self.parents[m.0 as usize]
+        self.parents.of(m.0 as usize)
     }
 
     /// The member of that id, if there is one.

@@ -11,6 +11,7 @@ mod hashing;
 mod instances;
 mod laws;
 mod linking;
+mod lists;
 mod printing;
 mod reading;
 mod refusals;

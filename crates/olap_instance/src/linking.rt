@@ -1,16 +1,16 @@
-// The second pass over a text: the parents of its members.
-ghost use Rattle.std.specs.Prelude.{◌≡◌, ◌<◌, ◌≤◌, ◌+◌, ◌^◌, [], ℕ, List, length, map, None, Some, OnOk, IfOk, MatchResult};
+// The second pass over the records of a text: the parents of its members.
+ghost use Rattle.std.specs.Prelude.{◌≡◌, ◌<◌, ◌+◌, [], ℕ, List, length, map, None, Some, OnOk, IfOk, MatchResult};
 ghost use Rattle.olap_base.specs.Naming.{place_of};
 ghost use Rattle.olap_records.specs.Faults.{first_fault};
 ghost use Rattle.olap_instance.specs.InstanceText.{parents_fault, parents_field, piece_fault, pieces_fault, pieces_of};
-ghost use Rattle.olap_instance.specs.Passes.{AreBelow, AreParents, AreStamped, PassesSecond, ids_in, numbers_of, parents_in};
+ghost use Rattle.olap_instance.specs.Passes.{AddsParents, AreBelow, AreStamped, FieldsPass, PassesSecond, field_fault, ids_in, parents_in};
 ghost use Rattle.olap_instance.specs.Refusals.{IsFaultCause, IsRecordCause};
 
+use crate::lists::Lists;
 use crate::rosters::Roster;
 use crate::texts::{all_pieces, first_piece};
 use crate::{InstanceKind, InstanceRefusal};
 use olap_base::MemberId;
-use olap_records::Rows;
 use std::alloc::Global;
 
 // The member that a piece names, where the mark stands at the members that the pieces before it name.
@@ -33,31 +33,30 @@ fn named(roster: &Roster, stamps: &[usize], mark: usize, piece: &[u8]) -> Result
     Ok(place)
 }
 
-// The members that a field names, as parents of the child. It is cut piece by piece, to its first fault.
+// The members that a field names, as parents of the next member. It is cut piece by piece, to its first fault.
 fn link(
-    alloc: Global,
     roster: &Roster,
     stamps: &mut [usize],
-    child: usize,
+    parents: &mut Lists<MemberId>,
     field: &[u8],
-) -> Result<Vec<MemberId>, InstanceRefusal>
+) -> Result<(), InstanceRefusal>
     requires as_many { length stamps.old ≡ length roster.now }
-    requires below { AreBelow stamps.old (child + 1) }
-    requires few { child < 2 ^ 63 }
+    requires below { AreBelow stamps.old (length parents.old + 1) }
     ensures parents { MatchResult result
-        (λ v. AreParents (ids_in roster.now) (pieces_of field.now) (numbers_of v.items))
-        (λ e. IsRecordCause (pieces_fault (ids_in roster.now) (pieces_of field.now)) child e) }
+        (λ _. AddsParents (ids_in roster.now) (pieces_of field.now) parents.old parents.new)
+        (λ e. IsRecordCause (pieces_fault (ids_in roster.now) (pieces_of field.now)) (length parents.old) e) }
     ensures as_many { length stamps.new ≡ length roster.now }
-    ensures below { OnOk result (AreBelow stamps.new (child + 2)) }
+    ensures below { OnOk result (AreBelow stamps.new (length parents.old + 2)) }
 {
-    let mut found = Vec::new(alloc);
+    let child = parents.len();
+    parents.begin()?;
     let mut left = all_pieces(field);
     'pieces: while let Some(text) = left {
         let (piece, others) = first_piece(text);
         match named(roster, stamps, child + 1, piece) {
             Ok(place) => {
                 stamps[place as usize] = child + 1;
-                found.push(MemberId(place))?;
+                parents.push(MemberId(place))?;
             }
             Err(kind) => {
                 return Err(InstanceRefusal::Fault {
@@ -68,47 +67,39 @@ fn link(
         }
         left = others;
     }
-    Ok(found)
+    Ok(())
 }
 
-// The field of parents of the record that was read last. What isn't there is empty.
-fn parents_of<'b>(rows: &'b Rows) -> &'b [u8]
-    ensures { result.now ≡ parents_field rows.now.row }
-{
-    if rows.len() > 3 { rows.field(3) } else { &[] }
-}
-
-// The parents of the records that are left.
-fn link_rows(
+// The parents that fields tell, each those of one member.
+fn link_fields(
     alloc: Global,
     roster: &Roster,
     stamps: &mut [usize],
-    rows: &mut Rows,
-) -> Result<Vec<Vec<MemberId>>, InstanceRefusal>
+    fields: &Lists<u8>,
+) -> Result<Lists<MemberId>, InstanceRefusal>
     requires as_many { length stamps.old ≡ length roster.now }
     requires below { AreBelow stamps.old 1 }
     ensures { MatchResult result
-        (λ v. PassesSecond (ids_in roster.now) rows.old.left (parents_in v.items))
-        (λ e. IsFaultCause (first_fault (parents_fault (ids_in roster.now)) [] rows.old.left) e) }
+        (λ v. FieldsPass (ids_in roster.now) fields.now (parents_in v))
+        (λ e. IsFaultCause (first_fault (field_fault (ids_in roster.now)) [] fields.now) e) }
 {
-    let mut parents = Vec::new(alloc);
-    'rows: while rows.advance()? {
-        let child = parents.len();
-        parents.push(link(alloc, roster, stamps, child, parents_of(rows))?)?;
+    let mut parents = Lists::with_room(alloc, roster.len())?;
+    'fields: for child in 0..fields.len() {
+        link(roster, stamps, &mut parents, fields.of(child))?;
     }
     Ok(parents)
 }
 
-/// The parents of the records that are left.
+/// The parents that the fields of records tell.
 pub(crate) fn link_all(
     alloc: Global,
     roster: &Roster,
-    rows: &mut Rows,
-) -> Result<Vec<Vec<MemberId>>, InstanceRefusal>
-    ensures { MatchResult result
-        (λ v. PassesSecond (ids_in roster.now) rows.old.left (parents_in v.items))
-        (λ e. IsFaultCause (first_fault (parents_fault (ids_in roster.now)) [] rows.old.left) e) }
+    fields: Lists<u8>,
+) -> Result<Lists<MemberId>, InstanceRefusal>
+    ensures { (rows : List (List (List ℕ))) → fields ≡ map parents_field rows → MatchResult result
+        (λ v. PassesSecond (ids_in roster.now) rows (parents_in v))
+        (λ e. IsFaultCause (first_fault (parents_fault (ids_in roster.now)) [] rows) e) }
 {
     let mut stamps = vec![in alloc; 0usize; roster.len()]?;
-    link_rows(alloc, roster, &mut stamps, rows)
+    link_fields(alloc, roster, &mut stamps, &fields)
 }

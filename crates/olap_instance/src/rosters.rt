@@ -5,7 +5,7 @@ ghost use Rattle.olap_base.specs.Naming.{place_of};
 ghost use Rattle.olap_instance.specs.Members.{all_member, member_of_head};
 
 use crate::hashing::KeyedHash;
-use indexmap::IndexMap;
+use indexmap::IndexSet;
 use olap_base::{CatId, Memory, Text};
 use std::alloc::Global;
 use std::marker::Model;
@@ -24,8 +24,8 @@ pub(crate) struct Roster {
     heads: Vec<Head>,
     // The category of each head, side by side: most passes over the members ask for nothing else.
     categories: Vec<CatId>,
-    // The place of each id.
-    index: IndexMap<Vec<u8>, u32, KeyedHash>,
+    // The id of each head, to be looked up: its place there is its place here.
+    index: IndexSet<Vec<u8>, KeyedHash>,
     alloc: Global,
 }
 
@@ -49,7 +49,7 @@ impl Roster {
         Roster {
             heads: Vec::new(alloc),
             categories: Vec::new(alloc),
-            index: IndexMap::with_hasher(alloc, hash),
+            index: IndexSet::with_hasher(alloc, hash),
             alloc,
         }
     }
@@ -80,7 +80,10 @@ impl Roster {
     pub(crate) fn find(&self, id: &[u8]) -> Option<u32>
         ensures { result ≡ place_of id.now (map (λ m. m.id) self.now) }
     {
-        self.index.get(id).copied()
+        match self.index.get_index_of(id) {
+            Some(place) => Some(place as u32),
+            None => None,
+        }
     }
 
     /// Adds a member whose id is not there.
@@ -91,10 +94,9 @@ impl Roster {
         ensures same { OnErr result (self.new ≡ self.old) }
     {
         let key = Vec::from_slice(self.alloc, head.id.bytes())?;
-        let place = self.heads.len();
         self.heads.reserve(1)?;
         self.categories.reserve(1)?;
-        self.index.insert(key, place as u32)?;
+        self.index.insert(key)?;
         self.categories.push(head.category)?;
         self.heads.push(head)?;
         Ok(())

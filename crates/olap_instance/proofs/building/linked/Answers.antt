@@ -1,9 +1,23 @@
-use Rattle.std.proofs.Common.{refl}
-use Rattle.olap_instance.proofs.Among.{place-more}
+use Rattle.std.proofs.Common.{◌∙◌, ◌++◌, ◌∷◌, [], ap, map, refl}
+use Rattle.std.proofs.lemmas.List.{take_all}
+use Rattle.olap_instance.specs.DraftInside.{number_of, parents_told}
+use Rattle.olap_instance.specs.Drafts.{places_of}
+use Rattle.olap_instance.specs.Passes.{parents_in}
+use Rattle.olap_instance.proofs.Among.{linked-more}
+use Rattle.olap_instance.proofs.LinkingLemmas.{parents-more}
 use Rattle.olap_instance.proofs.building.linked.Goals as goal
 
-pub parents-preserved : goal.parents-preserved
-parents-preserved c =
-    place-more c.args.all c.args.parents.now c.parents.parent-index _ _ c.parents.places.items
-    c.push.new.self.items c.unwrap_or.result
-    c.parents-test.true refl c.parents.invariant c.in_ok-push.ensures.items c.unwrap_or.ensures
+pub lists-preserved : goal.lists-preserved
+lists-preserved c =
+    let list = c.list-item.result in
+    let places = c.in_ok-link.ensures
+    ∙ ap (λ ps. parents_in c.lists.lists ++ places_of c.args.all.0 (map number_of ps) ∷ []) c.deref.ensures.value in
+    linked-more c.args.all c.args.parents.now c.lists.list-index list list c.lists.lists c.link.new.lists
+    c.lists-test.true c.list-item.is c.lists.invariant places
+
+pub returns : goal.returns
+returns c =
+    let whole = take_all c.lists.list-index c.args.parents.now c.lists-test.false in
+    parents-more c.lists.lists c.begin.new.self [] [] c.in_ok-begin.ensures refl
+    ∙ ap (λ ps. ps ++ [] ∷ [])
+    (c.lists.invariant ∙ ap (λ t. map (places_of c.args.all.0) (parents_told t)) whole)

@@ -1,0 +1,31 @@
+use Rattle.std.proofs.Common.{◌≡◌, ◌∙◌, ◌++◌, ◌∷◌, [], ap, length, arith}
+use Rattle.std.proofs.lemmas.List.{length-append}
+use Rattle.olap_instance.proofs.ListsLemmas.{ascending-begin, ascending-more, lists-begin, lists-more}
+use Rattle.olap_instance.proofs.lists.Lists.add.Goals as goal
+
+pub invariant_of-self-2 : goal.invariant_of-self-2
+invariant_of-self-2 g c =
+    let items = c.self.inside.items.items in
+    let starts = c.self.inside.starts.items in
+    let e : c.len-end.result ≡ length items = c.len-end.ensures ∙ c.self.inside.items.ok.0 in
+    let now = c.in_ok-push.ensures.items ∙ ap (λ n. c.reserve.new.self.items ++ n ∷ []) e
+    ∙ ap (λ ss. ss ++ length items ∷ []) c.reserve.ensures.items in
+    let more : c.extend_from_slice.new.self.items ≡ items ++ c.args.items.now =
+    c.in_ok-extend_from_slice.ensures.items in
+    let n = length-append items c.args.items.now in
+    rw (now, more)
+    (ascending-more (length items) _ (starts ++ length items ∷ []) (omega arith)
+    (ascending-begin (length items) starts c.self.invariant))
+
+pub returns : goal.returns
+returns g c =
+    let items = c.self.inside.items.items in
+    let starts = c.self.inside.starts.items in
+    let e : c.len-end.result ≡ length items = c.len-end.ensures ∙ c.self.inside.items.ok.0 in
+    let now = c.in_ok-push.ensures.items ∙ ap (λ n. c.reserve.new.self.items ++ n ∷ []) e
+    ∙ ap (λ ss. ss ++ length items ∷ []) c.reserve.ensures.items in
+    let more : c.extend_from_slice.new.self.items ≡ items ++ c.args.items.now =
+    c.in_ok-extend_from_slice.ensures.items in
+    rw (← c.self.view_is, now, more)
+    (lists-more items c.args.items.now (starts ++ length items ∷ []) _ []
+    (ascending-begin (length items) starts c.self.invariant) (lists-begin items starts))
