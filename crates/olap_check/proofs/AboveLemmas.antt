@@ -16,12 +16,14 @@ use Rattle.olap_check.specs.Reports.{member}
 use Rattle.olap_base.specs.Steps.{Steps-append, Steps-from_reaches, reaches_from_Steps}
 use Rattle.olap_base.specs.Reaching.{reaches_is}
 use Rattle.olap_check.specs.Rows.{none, IsBounded}
-use Rattle.olap_check.specs.Tables.{cell, IsTable}
+use Rattle.olap_check.specs.Laying.{cell}
+use Rattle.olap_check.specs.Tables.{IsTable}
 use Rattle.olap_check.proofs.TableLemmas.{reached_inside, cell_some}
 use Rattle.olap_ast.specs.Formula.{IsNumbered, ReachesNamed, ReachesNumbered}
 use Rattle.olap_numerals.specs.Comparing.{Op}
 use Rattle.olap_eval.specs.Shapes.{HasEdgeThere, HasNameThere, HasNumberThere, IsShape, ReachesThere}
 use Rattle.olap_check.specs.Above.{IsAbove, is_present}
+use Rattle.olap_check.specs.declared.tables.Table.{Table}
 
 -- a present category is one of the graph, and its place has a member
 present_parts : (n c k : ℕ) → (nat_lt c n && not (nat_eq k none)) ≡ true → (c < n) × (k ≢ none)
@@ -32,18 +34,18 @@ present_from : (n c k : ℕ) → c < n → k < none → (nat_lt c n && not (nat_
 present_from n c k h l = grind (arith, nat_tests)
 
 -- the row of a member is a shape
-pub above_shape : (i : Instance) (n x : ℕ) (cells : List ℕ) → IsAbove i n x cells
-    → IsShape i (is_present n cells x) (cell n cells x)
-above_shape i n x cells a = record {
-  members = λ c p. let t = present_parts n c (cell n cells x c) p in a.table.own x c a.inside t.0 t.1;
+pub above_shape : (i : Instance) (n x : ℕ) (table : Table) → IsAbove i n x table
+    → IsShape i (is_present i n table x) (cell i n table x)
+above_shape i n x table a = record {
+  members = λ c p. let t = present_parts n c (cell i n table x c) p in a.table.own x c a.inside t.0 t.1;
   closed = λ c y p r.
-      let t = present_parts n c (cell n cells x c) p in
-      let m = cell_some i n x c (cell n cells x c) cells a.table a.inside t.0 refl t.1 in
+      let t = present_parts n c (cell i n table x c) p in
+      let m = cell_some i n x c (cell i n table x c) table a.table a.inside t.0 refl t.1 in
       let all = Steps-append (Steps-from_reaches m.1) (Steps-from_reaches r) in
       let inside = reached_inside i a.bounded.places all a.inside in
       let e = (a.table.exact x y a.inside inside).1 ((reaches_is i x y).1 (reaches_from_Steps all)) in (
-        present_from n (category_of i y) (cell n cells x (category_of i y)) (a.bounded.categories y inside)
-            (few (cell n cells x (category_of i y)) y e inside),
+        present_from n (category_of i y) (cell i n table x (category_of i y)) (a.bounded.categories y inside)
+            (few (cell i n table x (category_of i y)) y e inside),
         e,
       );
 }
@@ -57,13 +59,13 @@ if_some_map None P Q f p = p
 if_some_map (Some y) P Q f p = f y p
 
 -- a member of the category that is reached stands in its place
-pub member_is : (i : Instance) (n x c : ℕ) (cells : List ℕ) → IsAbove i n x cells → (y : ℕ)
-    → IsMemberOf i c y × Reaches i x y → IsTrue (is_present n cells x c) × (cell n cells x c ≡ y) × (y < length i)
-member_is i n x c cells a y m =
+pub member_is : (i : Instance) (n x c : ℕ) (table : Table) → IsAbove i n x table → (y : ℕ)
+    → IsMemberOf i c y × Reaches i x y → IsTrue (is_present i n table x c) × (cell i n table x c ≡ y) × (y < length i)
+member_is i n x c table a y m =
     let e = (a.table.exact x y a.inside m.0.0).1 ((reaches_is i x y).1 m.1) in
-    let q : cell n cells x c ≡ y = ap (cell n cells x) (sym m.0.1) ∙ e in (
-      present_from n c (cell n cells x c) (subst (λ d. d < n) m.0.1 (a.bounded.categories y m.0.0))
-          (few (cell n cells x c) y q m.0.0),
+    let q : cell i n table x c ≡ y = ap (cell i n table x) (sym m.0.1) ∙ e in (
+      present_from n c (cell i n table x c) (subst (λ d. d < n) m.0.1 (a.bounded.categories y m.0.0))
+          (few (cell i n table x c) y q m.0.0),
       q,
       m.0.0,
     )
@@ -72,84 +74,84 @@ member_is i n x c cells a y m =
     few k y e h = let f = a.bounded.few in omega arith
 
 -- the place of a present category has a member that is reached
-pub present_member : (i : Instance) (n x c : ℕ) (cells : List ℕ) → IsAbove i n x cells → IsTrue (is_present n cells x c)
-    → IsMemberOf i c (cell n cells x c) × Reaches i x (cell n cells x c)
-present_member i n x c cells a p =
-    let t = present_parts n c (cell n cells x c) p in
-    cell_some i n x c (cell n cells x c) cells a.table a.inside t.0 refl t.1
+pub present_member : (i : Instance) (n x c : ℕ) (table : Table) → IsAbove i n x table → IsTrue (is_present i n table x c)
+    → IsMemberOf i c (cell i n table x c) × Reaches i x (cell i n table x c)
+present_member i n x c table a p =
+    let t = present_parts n c (cell i n table x c) p in
+    cell_some i n x c (cell i n table x c) table a.table a.inside t.0 refl t.1
 
 -- a present category has a member that is reached
-pub present_reaches : (i : Instance) (n x c : ℕ) (cells : List ℕ) → IsAbove i n x cells
-    → IsTrue (is_present n cells x c) → ReachesCategory i x c
-present_reaches i n x c cells a p =
-    let m = present_member i n x c cells a p in (cell n cells x c, m.0, m.1)
+pub present_reaches : (i : Instance) (n x c : ℕ) (table : Table) → IsAbove i n x table
+    → IsTrue (is_present i n table x c) → ReachesCategory i x c
+present_reaches i n x c table a p =
+    let m = present_member i n x c table a p in (cell i n table x c, m.0, m.1)
 
 -- what the ancestor of the first category answers for the second
-pub reach_there : (i : Instance) (n x c d y : ℕ) (cells : List ℕ) (o : Option ℕ) (r : Bool) → IsAbove i n x cells
-    → IsTrue (is_present n cells x c) → cell n cells x c ≡ y
+pub reach_there : (i : Instance) (n x c d y : ℕ) (table : Table) (o : Option ℕ) (r : Bool) → IsAbove i n x table
+    → IsTrue (is_present i n table x c) → cell i n table x c ≡ y
     → IfSome o (λ a. IsMemberOf i d a × Reaches i y a) → (IsNone o → ReachesCategory i y d → ⊥) → r ≡ is_some o
-    → IsTrue r ↔ ReachesThere i (is_present n cells x) (cell n cells x) c d
-reach_there i n x c d y cells None r a p e s f q = (
+    → IsTrue r ↔ ReachesThere i (is_present i n table x) (cell i n table x) c d
+reach_there i n x c d y table None r a p e s f q = (
   λ t. absurd (let z : false ≡ true = sym q ∙ t in cc),
   λ t. absurd
       (f refl (
-        cell n cells x d,
-        (above_shape i n x cells a).members d t.1,
-        subst (λ w. Reaches i w (cell n cells x d)) e t.2,
+        cell i n table x d,
+        (above_shape i n x table a).members d t.1,
+        subst (λ w. Reaches i w (cell i n table x d)) e t.2,
       )),
 )
-reach_there i n x c d y cells (Some b) r a p e s f q =
-    let m = (above_shape i n x cells a).closed c b p (subst (λ w. Reaches i w b) (sym e) s.1) in
-    let present : IsTrue (is_present n cells x d) = subst (λ k. IsTrue (is_present n cells x k)) s.0.1 m.0 in
-    let same : cell n cells x d ≡ b = ap (cell n cells x) (sym s.0.1) ∙ m.1 in (
+reach_there i n x c d y table (Some b) r a p e s f q =
+    let m = (above_shape i n x table a).closed c b p (subst (λ w. Reaches i w b) (sym e) s.1) in
+    let present : IsTrue (is_present i n table x d) = subst (λ k. IsTrue (is_present i n table x k)) s.0.1 m.0 in
+    let same : cell i n table x d ≡ b = ap (cell i n table x) (sym s.0.1) ∙ m.1 in (
       λ t. (
         p,
         present,
-        subst (λ w. Reaches i (cell n cells x c) w) (sym same)
+        subst (λ w. Reaches i (cell i n table x c) w) (sym same)
             (subst (λ w. Reaches i w b) (sym e) s.1),
       ),
       λ t. q,
     )
 
 -- a member has the place of its own category
-pub own_place : (i : Instance) (n x c : ℕ) (cells : List ℕ) → IsBounded i n → IsTable i n (length i) cells
-    → x < length i → category_of i x ≡ c → IsTrue (is_present n cells x c) × (cell n cells x c ≡ x) × (x < length i)
-own_place i n x c cells made table inside e =
-    member_is i n x c cells (record { inside = inside; bounded = made; table = table }) x ((inside, e), inl refl)
+pub own_place : (i : Instance) (n x c : ℕ) (table : Table) → IsBounded i n → IsTable i n (length i) table
+    → x < length i → category_of i x ≡ c → IsTrue (is_present i n table x c) × (cell i n table x c ≡ x) × (x < length i)
+own_place i n x c table made rows inside e =
+    member_is i n x c table (record { inside = inside; bounded = made; table = rows }) x ((inside, e), inl refl)
 
 -- ---- atoms by one row
 
-module _ (i : Instance) (n x : ℕ) (cells : List ℕ) (a : IsAbove i n x cells) where
+module _ (i : Instance) (n x : ℕ) (table : Table) (a : IsAbove i n x table) where
   -- what the row's member of one category reaches, x reaches by way of it
-  pub via_by_row : (d e : ℕ) → ReachesThere i (is_present n cells x) (cell n cells x) d e ↔ ReachesVia i x d e
+  pub via_by_row : (d e : ℕ) → ReachesThere i (is_present i n table x) (cell i n table x) d e ↔ ReachesVia i x d e
   via_by_row d e = (
     λ t.
-        let m = present_member i n x d cells a t.0 in
-        let k = present_member i n x e cells a t.1 in (cell n cells x d, m.0, m.1, (cell n cells x e, k.0, t.2)),
+        let m = present_member i n x d table a t.0 in
+        let k = present_member i n x e table a t.1 in (cell i n table x d, m.0, m.1, (cell i n table x e, k.0, t.2)),
     λ r.
         let on = Steps-append (Steps-from_reaches r.2) (Steps-from_reaches r.3.2) in
-        let m = member_is i n x d cells a r.0 (r.1, r.2) in
-        let k = member_is i n x e cells a r.3.0 (r.3.1, reaches_from_Steps on) in (
+        let m = member_is i n x d table a r.0 (r.1, r.2) in
+        let k = member_is i n x e table a r.3.0 (r.3.1, reaches_from_Steps on) in (
           m.0,
           k.0,
-          subst (λ v. Reaches i v (cell n cells x e)) (sym m.1) (subst (λ w. Reaches i r.0 w) (sym k.1) r.3.2),
+          subst (λ v. Reaches i v (cell i n table x e)) (sym m.1) (subst (λ w. Reaches i r.0 w) (sym k.1) r.3.2),
         ),
   )
 
   -- the name of the row's member of a category
   pub named_by_row : (d : ℕ) (text : List ℕ)
-      → HasNameThere i (is_present n cells x) (cell n cells x) d text ↔ ReachesNamed i x d text
+      → HasNameThere i (is_present i n table x) (cell i n table x) d text ↔ ReachesNamed i x d text
   named_by_row d text = (
-    λ t. let m = present_member i n x d cells a t.0 in (cell n cells x d, m.0, m.1, t.1),
-    λ r. let m = member_is i n x d cells a r.0 (r.1, r.2) in (m.0, ap (name_of i) m.1 ∙ r.3),
+    λ t. let m = present_member i n x d table a t.0 in (cell i n table x d, m.0, m.1, t.1),
+    λ r. let m = member_is i n x d table a r.0 (r.1, r.2) in (m.0, ap (name_of i) m.1 ∙ r.3),
   )
 
   -- the number of the row's member of a category
   pub numbered_by_row : (d : ℕ) (op : Op) (number : ℤ)
-      → HasNumberThere i (is_present n cells x) (cell n cells x) d op number ↔ ReachesNumbered i x d op number
+      → HasNumberThere i (is_present i n table x) (cell i n table x) d op number ↔ ReachesNumbered i x d op number
   numbered_by_row d op number = (
-    λ t. let m = present_member i n x d cells a t.0 in (cell n cells x d, m.0, m.1, t.1),
-    λ r. let m = member_is i n x d cells a r.0 (r.1, r.2) in
+    λ t. let m = present_member i n x d table a t.0 in (cell i n table x d, m.0, m.1, t.1),
+    λ r. let m = member_is i n x d table a r.0 (r.1, r.2) in
         (m.0, subst (λ y. IsNumbered (name_of i y) op number) (sym m.1) r.3),
   )
 
@@ -178,18 +180,18 @@ below_is i y z ms r e a = (
         (c.0, inside, ap member (sym at ∙ c.2))
 
 -- what the search among the parents answers
-pub edge_there : (i : Instance) (n x c d y z : ℕ) (cells : List ℕ) (ms : List MemberId) (r : Bool)
-    → IsTrue (is_present n cells x c) × (cell n cells x c ≡ y) × (y < length i)
-    → IsTrue (is_present n cells x d) × (cell n cells x d ≡ z) × (z < length i)
+pub edge_there : (i : Instance) (n x c d y z : ℕ) (table : Table) (ms : List MemberId) (r : Bool)
+    → IsTrue (is_present i n table x c) × (cell i n table x c ≡ y) × (y < length i)
+    → IsTrue (is_present i n table x d) × (cell i n table x d ≡ z) × (z < length i)
     → places ms ≡ parents_of i y → IsAnyAnswer (λ (m : MemberId) (b : Bool). eqb m.0 z ≡ b) ms r
-    → IsTrue r ↔ HasEdgeThere i (is_present n cells x) (cell n cells x) c d
-edge_there i n x c d y z cells ms r p q e a =
+    → IsTrue r ↔ HasEdgeThere i (is_present i n table x) (cell i n table x) c d
+edge_there i n x c d y z table ms r p q e a =
     let t = below_is i y z ms r e a in (
       λ b. (
         p.0,
         q.0,
-        subst (λ v. IsBelow i v (cell n cells x d)) (sym p.1)
+        subst (λ v. IsBelow i v (cell i n table x d)) (sym p.1)
             (subst (λ w. IsBelow i y w) (sym q.1) (t.0 b)),
       ),
-      λ h. t.1 (subst (λ v. IsBelow i v z) p.1 (subst (λ w. IsBelow i (cell n cells x c) w) q.1 h.2)),
+      λ h. t.1 (subst (λ v. IsBelow i v z) p.1 (subst (λ w. IsBelow i (cell i n table x c) w) q.1 h.2)),
     )

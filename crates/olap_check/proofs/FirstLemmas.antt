@@ -21,6 +21,7 @@ use Rattle.olap_check.specs.Passing.{IsStratified, IsFirstShortcut, HasNoShortcu
 use Rattle.olap_check.specs.Linking.{IsLinked, IsTableOf, IsFirstUnlinked, IsLinkedAt, IsFirstOrphan, IsOrphan}
 use Rattle.olap_check.proofs.TableLemmas.{row_is_whole}
 use Rattle.olap_check.proofs.SplitLemmas.{splits_of}
+use Rattle.olap_check.specs.declared.tables.Table.{Table}
 
 -- less or equal, where not greater
 not_less : (a b : ℕ) → (b < a → ⊥) → (a < b) ⊎ (a ≡ b)
@@ -102,10 +103,10 @@ module _ (i : Instance) (n : ℕ) (edges : List Bool) (bounded : IsBounded i n) 
   no3 l s x v = l x (v.0, v.1, v.2)
 
   -- where the table is whole, nothing violates the fourth law
-  no4 : (cells : List ℕ) → IsTable i n (length i) cells → (s : Schema) (x c : ℕ) → IsViolation s i (TwoAncestors x c)
+  no4 : (table : Table) → IsTable i n (length i) table → (s : Schema) (x c : ℕ) → IsViolation s i (TwoAncestors x c)
       → ⊥
-  no4 cells t s x c v = let h = far_is_member i x v.0 v.2 in
-      row_is_whole i n (length i) cells bounded t x h h (splits_of i x c v)
+  no4 table t s x c v = let h = far_is_member i x v.0 v.2 in
+      row_is_whole i n (length i) table bounded t x h h (splits_of i x c v)
 
   -- the third law in the words of the fifth
   pub strata_of : Law3 → IsStratified i
@@ -184,16 +185,16 @@ module _ (i : Instance) (n : ℕ) (edges : List Bool) (bounded : IsBounded i n) 
       least (Unmet j y) v = inl (omega arith)
 
   -- the first shortcut is, where four laws hold
-  pub first5 : Law1 → Law2 → Law3 → (cells : List ℕ) → IsTable i n (length i) cells → (x k : ℕ)
+  pub first5 : Law1 → Law2 → Law3 → (table : Table) → IsTable i n (length i) table → (x k : ℕ)
       → IsFirstShortcut i x k → (s : Schema) → IsTableOf s.graph n edges → IsFirstViolation s i (Shortcut x k)
-  first5 l1 l2 l3 cells r x k f s t =
+  first5 l1 l2 l3 table r x k f s t =
       record { is_one = (f.here.passed.0, f.here.inside, f.here.passed.1, f.here.passed.2); least = least }
     where
       least : (w : Violation) → IsViolation s i w → IsNotAfter (rank (Shortcut x k)) (rank w)
       least (NoEdge y j) v = absurd (no1 l1 s t y j v)
       least (NoParent y) v = absurd (no2 l2 s y v)
       least (SameCategory y) v = absurd (no3 l3 s y v)
-      least (TwoAncestors y d) v = absurd (no4 cells r s y d v)
+      least (TwoAncestors y d) v = absurd (no4 table r s y d v)
       least (Shortcut y j) v = same_law 5 x k y j
           (λ h. f.before y h j v.1 (v.0, v.2, v.3))
           (λ e h. f.here.before j h
@@ -202,16 +203,16 @@ module _ (i : Instance) (n : ℕ) (edges : List Bool) (bounded : IsBounded i n) 
       least (Unmet j y) v = inl (omega arith)
 
   -- where all five hold the instance is lawful
-  pub all_five : Law1 → Law2 → Law3 → (cells : List ℕ) → IsTable i n (length i) cells → HasNoShortcut i → (g : Graph)
+  pub all_five : Law1 → Law2 → Law3 → (table : Table) → IsTable i n (length i) table → HasNoShortcut i → (g : Graph)
       → IsTableOf g n edges → IsLawful g i
-  all_five l1 l2 l3 cells r l5 g t = record {
+  all_five l1 l2 l3 table r l5 g t = record {
     connectivity = links l1 g t;
     up_connectivity = λ x h m. some_parent (parents_of i x) (λ e. l2 x h (m, e));
     stratification = strata_of l3;
     partitioning = λ x y z f h e. elim (ℕ_discrete y z) [
       | yes q ↦ q
       | no d ↦ let m = far_is_member i x y f in
-          absurd (row_is_whole i n (length i) cells bounded r x m m
+          absurd (row_is_whole i n (length i) table bounded r x m m
           (record { one = y; other = z; reaches_one = inr f; reaches_other = inr h; same_category = e; apart = d }))
     ];
     shortcuts = λ x y z b c f. let e = get_or_default (parents_of i x) b.0 0 y b.1 ∙ b.2 in

@@ -1,10 +1,8 @@
 -- Rows that are joined, and the table that they make.
-use Rattle.std.proofs.Common.{◌≡◌, ◌≢◌, ℕ, zero, suc, ◌+◌, ◌*◌, ◌<◌, ◌≤◌, List, [], ◌∷◌, ◌++◌, Bool, true, false, length, get_or, set, take, refl, ap, sym, subst, ◌∙◌, inl, inr, arith, length-append, get_or-set_same, get_or-set_other}
+use Rattle.std.proofs.Common.{◌≡◌, ◌≢◌, ℕ, zero, suc, ◌+◌, ◌<◌, ◌≤◌, List, [], ◌∷◌, ◌++◌, Bool, true, false, length, get_or, set, take, refl, ap, sym, subst, ◌∙◌, inl, inr, arith, length-append, get_or-set_same, get_or-set_other}
 use Rattle.std.proofs.Math.ListN.{length-set}
-use Rattle.std.proofs.Math.Nat.{mul-le-mul_right}
 use Rattle.std.specs.Prelude.{Contains, replicate}
-use Rattle.std.proofs.lemmas.Bool.{cases_lt}
-use Rattle.std.proofs.lemmas.List.{length-replicate, length-take, get_or-replicate, ext_get_or}
+use Rattle.std.proofs.lemmas.List.{length-replicate, length-take, get_or-replicate}
 use Rattle.std.proofs.lemmas.List.Elements.{Contains-append_left, Contains-push_cases}
 use native.Mathlib.Decide.{ℕ_discrete}
 use Rattle.olap_base.specs.Instance.{Instance, IsBelow, Reaches, category_of, parents_of}
@@ -17,27 +15,63 @@ use Rattle.olap_graph.specs.Tables.{IsMarked}
 use Rattle.olap_check.specs.Joining.{AreJoined, AreMembers, AreRows, HasRow, IsEither, IsJoin, left}
 use Rattle.olap_check.specs.Rows.{none, IsBounded, IsIn, IsRise}
 use Rattle.olap_check.specs.Strata.{IsMarking}
-use Rattle.olap_check.specs.Tables.{cell, IsTable}
+use Rattle.olap_check.specs.Laying.{AreDistinct, IsLaid, cell}
+use Rattle.olap_check.specs.Slots.{no_slot, slot_of}
+use Rattle.olap_check.specs.Tables.{IsTable}
+use Rattle.olap_check.specs.declared.tables.Table.{Table}
 use Rattle.olap_check.proofs.RisingLemmas.{same_in, kept_in, from_in, own_set, take_within}
-use Rattle.olap_check.proofs.TableLemmas.{cell_inside}
 
 -- ---- one place
 
--- one place more is joined
-pub join_more : (one other row : List ℕ) (d y : ℕ) → d < length row
-    → ((k : ℕ) → k < d → IsEither (get_or one k 0) (get_or other k 0) (get_or row k 0))
-    → get_or row d 0 ≡ get_or one d 0 → IsEither (get_or row d 0) (get_or other d 0) y
-    → (k : ℕ) → k < d + 1 → IsEither (get_or one k 0) (get_or other k 0) (get_or (set row d y) k 0)
-join_more one other row d y room below same e k l = elim (ℕ_discrete k d) [
-  | yes q ↦
-      let stands = subst (λ w. IsEither (get_or row d 0) (get_or other d 0) w) (sym (get_or-set_same row d y 0 room)) e in
-      subst (λ m. IsEither (get_or one m 0) (get_or other m 0) (get_or (set row d y) m 0)) (sym q)
-      (subst (λ w. IsEither w (get_or other d 0) (get_or (set row d y) d 0)) same stands)
-  | no f ↦
-      let ne : k ≢ d = f in
-      subst (λ w. IsEither (get_or one k 0) (get_or other k 0) w) (sym (get_or-set_other row d k y 0 ne))
-      (below k (omega arith))
-]
+module _ (one cells row reached : List ℕ) (k y : ℕ) (distinct : AreDistinct reached) (h : k < length reached)
+    (room : get_or reached k 0 < length row)
+    (joined : (j : ℕ) → j < k
+    → IsEither (get_or one (get_or reached j 0) 0) (get_or cells j 0) (get_or row (get_or reached j 0) 0))
+    (others : (d : ℕ) → ((j : ℕ) → j < k → get_or reached j 0 ≢ d) → get_or row d 0 ≡ get_or one d 0) where
+  -- an earlier place is another one
+  apart : (j : ℕ) → j < k → get_or reached j 0 ≢ get_or reached k 0
+  apart j l q = let same : j ≡ k = distinct j k (omega (arith, l, h)) h q in absurd (omega (arith, l, same))
+
+  -- one place more is joined
+  pub join_more : IsEither (get_or row (get_or reached k 0) 0) (get_or cells k 0) y → (j : ℕ) → j < k + 1
+      → IsEither (get_or one (get_or reached j 0) 0) (get_or cells j 0)
+      (get_or (set row (get_or reached k 0) y) (get_or reached j 0) 0)
+  join_more e j l = elim (ℕ_discrete j k) [
+    | yes q ↦
+        let d = get_or reached k 0 in
+        let here = subst (λ w. IsEither (get_or row d 0) (get_or cells k 0) w) (sym (get_or-set_same row d y 0 room)) e in
+        subst (λ m. IsEither (get_or one (get_or reached m 0) 0) (get_or cells m 0)
+        (get_or (set row d y) (get_or reached m 0) 0)) (sym q)
+        (subst (λ w. IsEither w (get_or cells k 0) (get_or (set row d y) d 0)) (others d apart) here)
+    | no f ↦
+        let ne : j ≢ k = f in
+        let before : j < k = omega (arith, l) in
+        let kept = get_or-set_other row (get_or reached k 0) (get_or reached j 0) y 0 (apart j before) in
+        subst (λ w. IsEither (get_or one (get_or reached j 0) 0) (get_or cells j 0) w) (sym kept) (joined j before)
+  ]
+
+  -- and the others are as they were
+  pub join_others : (d : ℕ) → ((j : ℕ) → j < k + 1 → get_or reached j 0 ≢ d)
+      → get_or (set row (get_or reached k 0) y) d 0 ≡ get_or one d 0
+  join_others d ne =
+      get_or-set_other row (get_or reached k 0) d y 0 (λ q. ne k (omega arith) (sym q))
+      ∙ others d (λ j l. ne j (omega (arith, l)))
+
+-- one place more is written
+pub write_more : (cells row reached : List ℕ) (start k : ℕ) → start + k < length cells
+    → ((j : ℕ) → j < k → get_or cells (start + j) 0 ≡ get_or row (get_or reached j 0) 0) → (j : ℕ) → j < k + 1
+    → get_or (set cells (start + k) (get_or row (get_or reached k 0) 0)) (start + j) 0
+    ≡ get_or row (get_or reached j 0) 0
+write_more cells row reached start k room below j l =
+    let y = get_or row (get_or reached k 0) 0 in
+    elim (ℕ_discrete j k) [
+      | yes q ↦
+          subst (λ m. get_or (set cells (start + k) y) (start + m) 0 ≡ get_or row (get_or reached m 0) 0) (sym q)
+          (get_or-set_same cells (start + k) y 0 room)
+      | no f ↦
+          let ne : j ≢ k = f in
+          get_or-set_other cells (start + k) (start + j) y 0 (λ q. ne (omega (arith, q))) ∙ below j (omega (arith, l))
+    ]
 
 -- ---- a row for the first few parents
 
@@ -128,72 +162,55 @@ joined_rise {i} {n} {z} {row} bounded inside size v free =
 -- ---- rows in the table
 
 -- no row yet
-pub rows_start : {i : Instance} {n m : ℕ} {cells : List ℕ} → IsBounded i n → cells ≡ replicate m none
-    → m ≡ length i * n → AreRows i n cells
-rows_start {i} {n} {m} {cells} bounded e s = record {
-  size = ap length e ∙ length-replicate m none ∙ s;
-  each = λ x h p. absurd
-      (p (ap (λ l. cell n l x (category_of i x)) e
-      ∙ get_or-replicate m (x * n + category_of i x) none 0
-      (cell_inside n (length i) x (category_of i x) m h (bounded.categories x h) s)));
+pub rows_start : {i : Instance} {n : ℕ} {table : Table} → IsLaid i n table
+    → ((x d : ℕ) → x < length i → d < n → cell i n table x d ≡ none) → AreRows i n table
+rows_start {i} laid empty = record {
+  laid = laid;
+  each = λ x h p. absurd (p (empty x (category_of i x) h (laid.categories x h)));
 }
 
--- there is room for each member's row
-pub row_room : {n m x a w : ℕ} (cells : List ℕ) → length cells ≡ m * n → x < m → a ≡ x * n → w ≡ n → a + w ≤ length cells
-row_room {n} {m} {x} {a} {w} cells size h s t =
-    let k : (x + 1) * n ≤ m * n = mul-le-mul_right n (omega arith) in omega (arith, k, size, s, t)
+-- what is joined of a row in the table
+pub row_join : {i : Instance} {n p : ℕ} {table : Table} {row after : List ℕ} (r : HasRow i n p table) → length row ≡ n
+    → length after ≡ length row
+    → ((d : ℕ) → d < n → IsEither (get_or row d 0) (cell i n table p d) (get_or after d 0)) → IsJoin row r.row after
+row_join {n = n} {row = row} {after = after} r size same each = record {
+  same_length = same;
+  exact = λ d h.
+      let l : d < n = subst (λ w. d < w) size h in
+      subst (λ w. IsEither (get_or row d 0) w (get_or after d 0)) (r.stands d l) (each d l);
+}
 
--- the part of the cells that is the row of x
-pub row_part : {i : Instance} {n x a w : ℕ} {cells : List ℕ} (part : List ℕ) → HasRow i n x cells → a ≡ x * n → w ≡ n
-    → length part ≡ w → ((d : ℕ) → d < w → get_or part d 0 ≡ get_or cells (a + d) 0) → IsRise i n x part
-row_part {i} {n} {x} {a} {w} {cells} part r s t size each =
-    subst (λ l. IsRise i n x l) (ext_get_or 0 r.row part (r.rise.same_length ∙ sym (size ∙ t)) same) r.rise
-  where
-    same : (d : ℕ) → d < length r.row → get_or r.row d 0 ≡ get_or part d 0
-    same d l =
-        let inside : d < n = subst (λ m. d < m) r.rise.same_length l in
-        sym (r.stands d inside) ∙ ap (λ m. get_or cells (m + d) 0) (sym s)
-        ∙ sym (each d (subst (λ m. d < m) (sym t) inside))
+-- a member's row stands empty where it has no cell
+pub row_fits : {i : Instance} {n x : ℕ} {table : Table} {row : List ℕ} → IsLaid i n table → x < length i
+    → IsRise i n x row → (d : ℕ) → d < n → get_or row d 0 ≢ none
+    → slot_of n table.slots (category_of i x) d ≢ no_slot
+row_fits {i} {n} {x} {table} {row} laid h r d l ne =
+    let o = r.own.own d (subst (λ w. d < w) (sym r.same_length) l) ne in
+    let y = get_or row d 0 in
+    let stands : get_or row (category_of i y) 0 ≡ y = ap (λ w. get_or row w 0) o.1 in
+    subst (λ w. slot_of n table.slots (category_of i x) w ≢ no_slot) o.1
+    (laid.reached x y h ((r.exact y o.0).0 stands))
 
 -- one row more
-pub row_put : {i : Instance} {n z start : ℕ} {cells row after : List ℕ} → IsBounded i n → AreRows i n cells
-    → z < length i → IsRise i n z row → start ≡ z * n → length after ≡ length cells
-    → ((d : ℕ) → d < length row → get_or after (start + d) 0 ≡ get_or row d 0)
-    → ((k : ℕ) → k < start → get_or after k 0 ≡ get_or cells k 0)
-    → ((k : ℕ) → start + length row ≤ k → get_or after k 0 ≡ get_or cells k 0) → AreRows i n after
-row_put {i} {n} {z} {start} {cells} {row} {after} bounded rows inside rise s e written before behind = record {
-  size = e ∙ rows.size;
+pub row_put : {i : Instance} {n z : ℕ} {table after : Table} {row : List ℕ} → IsBounded i n → AreRows i n table
+    → IsRise i n z row → IsLaid i n after → ((d : ℕ) → d < n → cell i n after z d ≡ get_or row d 0)
+    → ((x d : ℕ) → x < length i → x ≢ z → d < n → cell i n after x d ≡ cell i n table x d) → AreRows i n after
+row_put {i} {n} {z} {table} {after} {row} bounded rows rise laid own others = record {
+  laid = laid;
   each = λ x h m. elim (ℕ_discrete x z) [
-    | yes q ↦ subst (λ w. HasRow i n w after) (sym q) new
+    | yes q ↦ subst (λ w. HasRow i n w after) (sym q) (record { row = row; rise = rise; stands = own })
     | no f ↦
         let ne : x ≢ z = f in
-        let old = rows.each x h (λ q. m (other x ne (category_of i x) (bounded.categories x h) ∙ q)) in
-        record { row = old.row; rise = old.rise; stands = λ d l. other x ne d l ∙ old.stands d l }
+        let old = rows.each x h (λ q. m (others x (category_of i x) h ne (bounded.categories x h) ∙ q)) in
+        record { row = old.row; rise = old.rise; stands = λ d l. others x d h ne l ∙ old.stands d l }
   ];
 }
-  where
-    new : HasRow i n z after
-    new = record {
-      row = row;
-      rise = rise;
-      stands = λ d l. ap (λ k. get_or after (k + d) 0) (sym s)
-          ∙ written d (subst (λ m. d < m) (sym rise.same_length) l);
-    }
-
-    other : (x : ℕ) → x ≢ z → (d : ℕ) → d < n → cell n after x d ≡ cell n cells x d
-    other x ne d l = elim (cases_lt x z) [
-      | inl lt ↦ before (x * n + d) (cell_inside n z x d start lt l s)
-      | inr le ↦
-          let m : (z + 1) * n ≤ x * n = mul-le-mul_right n (omega (arith, le, ne)) in
-          let t = rise.same_length in
-          behind (x * n + d) (omega (arith, m, s, t))
-    ]
 
 -- each member has its row
-pub rows_table : {i : Instance} {n : ℕ} {cells : List ℕ} → IsBounded i n → length cells ≡ length i * n
-    → ((x : ℕ) → x < length i → HasRow i n x cells) → IsTable i n (length i) cells
-rows_table {i} {n} {cells} bounded size rows = record {
-  size = size;
+pub rows_table : {i : Instance} {n : ℕ} {table : Table} → IsBounded i n → IsLaid i n table
+    → ((x : ℕ) → x < length i → HasRow i n x table) → IsTable i n (length i) table
+rows_table {i} {n} {table} bounded laid rows = record {
+  laid = laid;
   own = λ x d h l ne.
       let r = rows x h in
       let s = r.stands d l in

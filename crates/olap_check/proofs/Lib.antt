@@ -5,6 +5,8 @@ mod FrontierLemmas
 mod StrataLemmas
 mod SearchLemmas
 mod TableLemmas
+mod SlotLemmas
+mod LayingLemmas
 mod JoiningLemmas
 mod PassingLemmas
 mod LinkingLemmas

@@ -11,6 +11,7 @@ use Rattle.olap_check.specs.Rows.{IsBounded}
 use Rattle.olap_check.specs.Tables.{IsTable}
 use Rattle.olap_check.specs.Passing.{IsStratified, IsPassedBy, IsFirstPassed, HasNoneAt}
 use Rattle.olap_check.proofs.TableLemmas.{row_is_whole}
+use Rattle.olap_check.specs.declared.tables.Table.{Table}
 
 -- a member is not far below itself
 pub far_same : (i : Instance) (z y : ℕ) → IsStratified i → z ≡ y → IsTrue false ↔ IsFarBelow i z y
@@ -22,10 +23,10 @@ pub far_none : (i : Instance) (z y : ℕ) → y < length i → (ReachesCategory 
 far_none i z y h n = (λ t. absurd (cc), λ f. absurd (n (y, (h, refl), inr f)))
 
 -- a member is far below the one of the category that it reaches
-pub far_some : (i : Instance) (n z y a : ℕ) (cells : List ℕ) → IsBounded i n → IsTable i n (length i) cells
+pub far_some : (i : Instance) (n z y a : ℕ) (table : Table) → IsBounded i n → IsTable i n (length i) table
     → z < length i → z ≢ y
     → IsMemberOf i (category_of i y) a × Reaches i z a → IsTrue (nat_eq a y) ↔ IsFarBelow i z y
-far_some i n z y a cells made t h apart m = (to, from)
+far_some i n z y a table made t h apart m = (to, from)
   where
     to : IsTrue (nat_eq a y) → IsFarBelow i z y
     to e = let same : a ≡ y = eqb-true a y e in
@@ -35,7 +36,7 @@ far_some i n z y a cells made t h apart m = (to, from)
     from f = elim (ℕ_discrete a y) [
       | yes e ↦ eq-eqb a y e
       | no d ↦
-          absurd (row_is_whole i n (length i) cells made t z h h
+          absurd (row_is_whole i n (length i) table made t z h h
           (record {
             one = a;
             other = y;

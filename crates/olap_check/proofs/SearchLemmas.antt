@@ -153,7 +153,7 @@ first_found i c limit x y h f e q below =
 -- ---- a category that lies on no cycle
 
 -- edges lead along with the parents
-edges_along : (g : Graph) (i : Instance) → AreLinked g i → {x y : ℕ} → Steps (IsBelow i) x y
+pub edges_along : (g : Graph) (i : Instance) → AreLinked g i → {x y : ℕ} → Steps (IsBelow i) x y
     → Steps (HasEdge g) (category_of i x) (category_of i y)
 edges_along g i l here = here
 edges_along g i l (step {x = x} {y = z} r s) = step (l x z r) (edges_along g i l s)

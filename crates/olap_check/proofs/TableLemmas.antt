@@ -1,8 +1,5 @@
 -- The table of ancestors, row after row.
-use Rattle.std.proofs.Common.{◌≡◌, ◌≢◌, ℕ, ◌+◌, ◌*◌, ◌<◌, ◌≤◌, List, [], ◌++◌, length, get_or, ap, sym, subst, ◌∙◌, arith, length-append}
-use Rattle.std.proofs.Math.ListN.{get_or-append}
-use Rattle.std.proofs.Math.Nat.{mul-le-mul_right}
-use Rattle.std.proofs.lemmas.List.{get_or-append-add}
+use Rattle.std.proofs.Common.{◌≡◌, ◌≢◌, ℕ, ◌+◌, ◌<◌, ◌≤◌, List, length, get_or, ap, sym, subst, ◌∙◌, arith}
 use native.Mathlib.Decide.{ℕ_discrete}
 use Rattle.olap_base.specs.Limits.{most_members}
 use Rattle.olap_base.specs.Instance.{Instance, IsBelow, IsMemberOf, Reaches, ReachesCategory, category_of}
@@ -10,7 +7,9 @@ use Rattle.olap_base.specs.Steps.{Steps, Steps.here, Steps.step, Steps-from_reac
 use Rattle.olap_base.specs.Reaching.{reaches_is}
 use Rattle.olap_check.specs.Rows.{none, IsBounded, IsRise, Splits}
 use Rattle.olap_check.specs.Ancestors.{IsAncestor}
-use Rattle.olap_check.specs.Tables.{cell, IsTable, IsFirstSplit}
+use Rattle.olap_check.specs.Laying.{IsLaid, cell}
+use Rattle.olap_check.specs.Tables.{IsTable, IsFirstSplit}
+use Rattle.olap_check.specs.declared.tables.Table.{Table}
 
 -- what a member reaches is a member
 pub reached_inside : (i : Instance) → ((a b : ℕ) → IsBelow i a b → b < length i) → {x y : ℕ} → Steps (IsBelow i) x y
@@ -18,127 +17,105 @@ pub reached_inside : (i : Instance) → ((a b : ℕ) → IsBelow i a b → b < l
 reached_inside i places here h = h
 reached_inside i places (step {x = a} {y = b} r s) h = reached_inside i places s (places a b r)
 
--- a cell of an earlier row stands within the cells
-earlier : (n k x d : ℕ) → x < k → d < n → x * n + d < k * n
-earlier n k x d h l = let h' : x + 1 ≤ k = omega arith in let m : (x + 1) * n ≤ k * n =
-    mul-le-mul_right n h' in omega (arith, m)
-
--- a row more keeps the cells
-cell_before : (n k : ℕ) (cells row : List ℕ) (x d : ℕ) → length cells ≡ k * n → x < k → d < n
-    → cell n (cells ++ row) x d ≡ cell n cells x d
-cell_before n k cells row x d e h l =
-    get_or-append cells row 0 (x * n + d) (let t = earlier n k x d h l in omega (arith, t))
-
--- and adds its own
-cell_last : (n k : ℕ) (cells row : List ℕ) (d : ℕ) → length cells ≡ k * n → cell n (cells ++ row) k d ≡ get_or row d 0
-cell_last n k cells row d e = ap (λ m. get_or (cells ++ row) (m + d) 0) (sym e) ∙ get_or-append-add cells row d 0
-
 -- no rows
-pub table_start : (i : Instance) (n : ℕ) → IsTable i n 0 []
-table_start i n = record {
-  size = omega arith;
+pub table_start : (i : Instance) (n : ℕ) (table : Table) → IsLaid i n table → IsTable i n 0 table
+table_start i n table laid = record {
+  laid = laid;
   own = λ x d h. absurd (omega (arith, h));
   exact = λ x y h. absurd (omega (arith, h));
 }
 
 -- one row more
-pub table_step : (i : Instance) (n k : ℕ) (cells row : List ℕ) → IsBounded i n → IsTable i n k cells
-    → IsRise i n k row → IsTable i n (k + 1) (cells ++ row)
-table_step i n k cells row made t r = record {
-  size = let a = t.size in let b = r.same_length in omega (arith, length-append cells row);
+pub table_step : (i : Instance) (n k : ℕ) (table after : Table) (row : List ℕ) → IsBounded i n → k < length i
+    → IsTable i n k table → IsRise i n k row → IsLaid i n after
+    → ((d : ℕ) → d < n → cell i n after k d ≡ get_or row d 0)
+    → ((z d : ℕ) → z < length i → z ≢ k → d < n → cell i n after z d ≡ cell i n table z d)
+    → IsTable i n (k + 1) after
+table_step i n k table after row made room t r laid own others = record {
+  laid = laid;
   own = λ x d h l ne. elim (ℕ_discrete x k) [
     | yes e ↦
-        let v : cell n (cells ++ row) x d ≡ get_or row d 0 =
-        ap (λ m. cell n (cells ++ row) m d) e ∙ cell_last n k cells row d t.size in
+        let v : cell i n after x d ≡ get_or row d 0 = ap (λ m. cell i n after m d) e ∙ own d l in
         let inside : d < length row = let b = r.same_length in omega (arith, l) in
         let o = r.own.own d inside (λ q. ne (v ∙ q)) in
         (subst (λ y. y < length i) (sym v) o.0, ap (category_of i) v ∙ o.1)
     | no f ↦
         let f' : x ≢ k = f in
         let before : x < k = omega (arith, h) in
-        let v = cell_before n k cells row x d t.size before l in
+        let v = others x d (omega (arith, before, room)) f' l in
         let o = t.own x d before l (λ q. ne (v ∙ q)) in
         (subst (λ y. y < length i) (sym v) o.0, ap (category_of i) v ∙ o.1)
   ];
   exact = λ x y h l. elim (ℕ_discrete x k) [
     | yes e ↦
-        let v : cell n (cells ++ row) x (category_of i y) ≡ get_or row (category_of i y) 0 =
-        ap (λ m. cell n (cells ++ row) m (category_of i y)) e
-        ∙ cell_last n k cells row (category_of i y) t.size in (
+        let v : cell i n after x (category_of i y) ≡ get_or row (category_of i y) 0 =
+        ap (λ m. cell i n after m (category_of i y)) e ∙ own (category_of i y) (made.categories y l) in (
           λ q. (reaches_is i x y).1 (subst (λ m. Reaches i m y) (sym e) ((r.exact y l).0 (sym v ∙ q))),
           λ q. v ∙ (r.exact y l).1 (subst (λ m. Reaches i m y) e ((reaches_is i x y).0 q)),
         )
     | no f ↦
         let f' : x ≢ k = f in
         let before : x < k = omega (arith, h) in
-        let v = cell_before n k cells row x (category_of i y) t.size before (made.categories y l) in
+        let v = others x (category_of i y) (omega (arith, before, room)) f' (made.categories y l) in
         (λ q. (t.exact x y before l).0 (sym v ∙ q), λ q. v ∙ (t.exact x y before l).1 q)
   ];
 }
 
 -- a member with a row doesn't split
-pub row_is_whole : (i : Instance) (n k : ℕ) (cells : List ℕ) → IsBounded i n → IsTable i n k cells → (x : ℕ) → x < k
+pub row_is_whole : (i : Instance) (n k : ℕ) (table : Table) → IsBounded i n → IsTable i n k table → (x : ℕ) → x < k
     → x < length i → Splits i x → ⊥
-row_is_whole i n k cells made t x h inside s =
-    s.apart (sym (stands s.one s.reaches_one) ∙ ap (cell n cells x) s.same_category ∙ stands s.other s.reaches_other)
+row_is_whole i n k table made t x h inside s =
+    s.apart (sym (stands s.one s.reaches_one) ∙ ap (cell i n table x) s.same_category ∙ stands s.other s.reaches_other)
   where
-    stands : (y : ℕ) → Reaches i x y → cell n cells x (category_of i y) ≡ y
+    stands : (y : ℕ) → Reaches i x y → cell i n table x (category_of i y) ≡ y
     stands y p = (t.exact x y h (reached_inside i made.places (Steps-from_reaches p) inside)).1 ((reaches_is i x y).1 p)
 
 -- the first member without a row
-pub first_split : (i : Instance) (n x : ℕ) (cells : List ℕ) → IsBounded i n → IsTable i n x cells → x < length i
+pub first_split : (i : Instance) (n x : ℕ) (table : Table) → IsBounded i n → IsTable i n x table → x < length i
     → Splits i x → IsFirstSplit i n x
-first_split i n x cells made t inside s = record {
+first_split i n x table made t inside s = record {
   inside = inside;
   splits = s;
-  before = λ w h p. let l : w < length i = omega arith in row_is_whole i n x cells made t w h l p;
+  before = λ w h p. let l : w < length i = omega arith in row_is_whole i n x table made t w h l p;
 }
 
 -- ---- a look-up
 
--- the place that is read, of a row as long as there are categories
-pub cell_read : {n d m e : ℕ} (x : ℕ) (cells : List ℕ) → m ≡ n → e ≡ d → cell n cells x d ≡ get_or cells (x * m + e) 0
-cell_read x cells p q = λ i. get_or cells (x * sym p i + sym q i) 0
-
--- a place of the table
-pub cell_inside : (n k x d m : ℕ) → x < k → d < n → m ≡ k * n → x * n + d < m
-cell_inside n k x d m h l e = let t = earlier n k x d h l in omega (arith, t)
-
 -- a place with a member
-pub cell_some : (i : Instance) (n x d y : ℕ) (cells : List ℕ) → IsTable i n (length i) cells → x < length i → d < n
-    → cell n cells x d ≡ y → y ≢ none → IsMemberOf i d y × Reaches i x y
-cell_some i n x d y cells t h l e ne =
+pub cell_some : (i : Instance) (n x d y : ℕ) (table : Table) → IsTable i n (length i) table → x < length i → d < n
+    → cell i n table x d ≡ y → y ≢ none → IsMemberOf i d y × Reaches i x y
+cell_some i n x d y table t h l e ne =
     let o = t.own x d h l (λ q. ne (sym e ∙ q)) in
     let inside : y < length i = subst (λ z. z < length i) e o.0 in
     let c : category_of i y ≡ d = ap (category_of i) (sym e) ∙ o.1 in
-    ((inside, c), (reaches_is i x y).0 ((t.exact x y h inside).0 (ap (cell n cells x) c ∙ e)))
+    ((inside, c), (reaches_is i x y).0 ((t.exact x y h inside).0 (ap (cell i n table x) c ∙ e)))
 
 -- a place without
-pub cell_none : (i : Instance) (n x d y : ℕ) (cells : List ℕ) → length i ≤ most_members → IsTable i n (length i) cells
-    → x < length i → cell n cells x d ≡ y → y ≡ none → ReachesCategory i x d → ⊥
-cell_none i n x d y cells few t h e q r =
+pub cell_none : (i : Instance) (n x d y : ℕ) (table : Table) → length i ≤ most_members → IsTable i n (length i) table
+    → x < length i → cell i n table x d ≡ y → y ≡ none → ReachesCategory i x d → ⊥
+cell_none i n x d y table few t h e q r =
     let z = (t.exact x r.0 h r.1.0).1 ((reaches_is i x r.0).1 r.2) in
-    let same : r.0 ≡ none = sym z ∙ ap (cell n cells x) r.1.1 ∙ e ∙ q in
+    let same : r.0 ≡ none = sym z ∙ ap (cell i n table x) r.1.1 ∙ e ∙ q in
     far r.0 r.1.0 same
   where
     far : (y : ℕ) → y < length i → y ≡ none → ⊥
     far y l s = absurd (omega arith)
 
 -- x reaches one member of a category at most
-only_one : (i : Instance) (n x c y w : ℕ) (cells : List ℕ) → IsTable i n (length i) cells → x < length i
+only_one : (i : Instance) (n x c y w : ℕ) (table : Table) → IsTable i n (length i) table → x < length i
     → IsMemberOf i c y → Reaches i x y → IsMemberOf i c w → Reaches i x w → w ≡ y
-only_one i n x c y w cells t h y_is y_reached w_is w_reached =
+only_one i n x c y w table t h y_is y_reached w_is w_reached =
     let same : category_of i w ≡ category_of i y = w_is.1 ∙ sym y_is.1 in
-    sym ((t.exact x w h w_is.0).1 ((reaches_is i x w).1 w_reached)) ∙ ap (cell n cells x) same
+    sym ((t.exact x w h w_is.0).1 ((reaches_is i x w).1 w_reached)) ∙ ap (cell i n table x) same
     ∙ (t.exact x y h y_is.0).1 ((reaches_is i x y).1 y_reached)
 
 -- the member in its place is the ancestor
-pub ancestor_of : (i : Instance) (n x c y : ℕ) (cells : List ℕ) → IsTable i n (length i) cells → x < length i
+pub ancestor_of : (i : Instance) (n x c y : ℕ) (table : Table) → IsTable i n (length i) table → x < length i
     → IsMemberOf i c y × Reaches i x y → IsAncestor i x c y
-ancestor_of i n x c y cells t h m = record {
+ancestor_of i n x c y table t h m = record {
   is_member = m.0;
   reached = m.1;
-  only = λ w w_is r. only_one i n x c y w cells t h m.0 m.1 w_is r;
+  only = λ w w_is r. only_one i n x c y w table t h m.0 m.1 w_is r;
 }
 
 -- past the categories there is no member

@@ -12,23 +12,24 @@ use Rattle.olap_eval.proofs.ShapeLemmas.{IsFollowed, follow_done, follow_step, p
 use Rattle.olap_check.specs.Above.{IsAbove, is_present}
 use Rattle.olap_check.specs.Blocks.{AreMembersFrom, IsBlock, Selects}
 use Rattle.olap_check.specs.Seen.{IsKept, StepsVia}
-use Rattle.olap_check.specs.Tables.{cell}
+use Rattle.olap_check.specs.Laying.{cell}
 use Rattle.olap_check.proofs.AboveLemmas.{above_shape, member_is, own_place, present_member}
+use Rattle.olap_check.specs.declared.tables.Table.{Table}
 
 -- a member of the first category has one of the second as a parent, by the row of x
-module _ (i : Instance) (n x : ℕ) (cells : List ℕ) (a : IsAbove i n x cells) where
-  pub edge_by_row : (d e : ℕ) → HasEdgeThere i (is_present n cells x) (cell n cells x) d e ↔ StepsVia i x d e
+module _ (i : Instance) (n x : ℕ) (table : Table) (a : IsAbove i n x table) where
+  pub edge_by_row : (d e : ℕ) → HasEdgeThere i (is_present i n table x) (cell i n table x) d e ↔ StepsVia i x d e
   edge_by_row d e = (
     λ t.
-        let m = present_member i n x d cells a t.0 in
-        let k = present_member i n x e cells a t.1 in (cell n cells x d, m.0, m.1, (cell n cells x e, k.0, t.2)),
+        let m = present_member i n x d table a t.0 in
+        let k = present_member i n x e table a t.1 in (cell i n table x d, m.0, m.1, (cell i n table x e, k.0, t.2)),
     λ r.
         let on = Steps-append (Steps-from_reaches r.2) (step r.3.2 here) in
-        let m = member_is i n x d cells a r.0 (r.1, r.2) in
-        let k = member_is i n x e cells a r.3.0 (r.3.1, reaches_from_Steps on) in (
+        let m = member_is i n x d table a r.0 (r.1, r.2) in
+        let k = member_is i n x e table a r.3.0 (r.3.1, reaches_from_Steps on) in (
           m.0,
           k.0,
-          subst (λ v. IsBelow i v (cell n cells x e)) (sym m.1) (subst (λ w. IsBelow i r.0 w) (sym k.1) r.3.2),
+          subst (λ v. IsBelow i v (cell i n table x e)) (sym m.1) (subst (λ w. IsBelow i r.0 w) (sym k.1) r.3.2),
         ),
   )
 
@@ -90,28 +91,28 @@ pub on_path_done : {i : Instance} {present : ℕ → Bool} {place : ℕ → ℕ}
 on_path_done f e = (λ l. (follow_done (f.on l) e).0 refl, λ q. f.off q)
 
 -- at each of these places the path goes on, or is no longer there
-pub record IsAlong (i : Instance) (n start : ℕ) (cells : List ℕ) (places : FinSet nat_cmp) (path : List ℕ)
+pub record IsAlong (i : Instance) (n start : ℕ) (table : Table) (places : FinSet nat_cmp) (path : List ℕ)
     (truths : FinSet nat_cmp) (at : ℕ) (rest : List ℕ) : Type 0 where
   pub each : (k : ℕ) → contains places k ≡ true
-      → IsOnPath i (is_present n cells (start + k)) (cell n cells (start + k)) (HasPath i (start + k) path)
+      → IsOnPath i (is_present i n table (start + k)) (cell i n table (start + k)) (HasPath i (start + k) path)
       (contains truths k) at rest
 
-module _ (i : Instance) (n root start : ℕ) (cells : List ℕ) (places : FinSet nat_cmp)
-    (b : IsBlock i n cells root start places) where
+module _ (i : Instance) (n root start : ℕ) (table : Table) (places : FinSet nat_cmp)
+    (b : IsBlock i n table root start places) where
   -- the row of a place is a shape
-  above_at : (k : ℕ) → contains places k ≡ true → IsAbove i n (start + k) cells
+  above_at : (k : ℕ) → contains places k ≡ true → IsAbove i n (start + k) table
   above_at k h = let m = ((b.exact k).0 h).1 in
       record { inside = m.0; bounded = b.has_table.bounded; table = b.has_table.table }
 
-  shape_at : (k : ℕ) → contains places k ≡ true → IsShape i (is_present n cells (start + k)) (cell n cells (start + k))
-  shape_at k h = above_shape i n (start + k) cells (above_at k h)
+  shape_at : (k : ℕ) → contains places k ≡ true → IsShape i (is_present i n table (start + k)) (cell i n table (start + k))
+  shape_at k h = above_shape i n (start + k) table (above_at k h)
 
   -- before the first edge
-  pub along_start : (path : List ℕ) → IsAlong i n start cells places path places root path
+  pub along_start : (path : List ℕ) → IsAlong i n start table places path places root path
   along_start path = record {
     each = λ k h.
         let m = ((b.exact k).0 h).1 in
-        let own = own_place i n (start + k) root cells b.has_table.bounded b.has_table.table m.0 m.1 in
+        let own = own_place i n (start + k) root table b.has_table.bounded b.has_table.table m.0 m.1 in
         record {
           on = λ e. record {
             here = own.0;
@@ -124,20 +125,20 @@ module _ (i : Instance) (n root start : ℕ) (cells : List ℕ) (places : FinSet
 
   module _ {path : List ℕ} {truths : FinSet nat_cmp} {at : ℕ} where
     -- one edge more
-    pub along_more : {c : ℕ} {rest : List ℕ} → IsAlong i n start cells places path truths at (c ∷ rest)
+    pub along_more : {c : ℕ} {rest : List ℕ} → IsAlong i n start table places path truths at (c ∷ rest)
         → (set : FinSet nat_cmp) → Selects places (λ k. StepsVia i (start + k) at c) set → {next : FinSet nat_cmp}
-        → next ≡ intersection truths set → IsAlong i n start cells places path next c rest
+        → next ≡ intersection truths set → IsAlong i n start table places path next c rest
     along_more {c} {rest} f set s {next} e = record {
       each = λ k h.
-          let row = edge_by_row i n (start + k) cells (above_at k h) at c in
+          let row = edge_by_row i n (start + k) table (above_at k h) at c in
           let t = s k h in
           let in_both = ap (λ s. contains s k) e ∙ contains-intersection nat_cmp_total truths set k in
-          subst (λ left. IsOnPath i (is_present n cells (start + k)) (cell n cells (start + k))
+          subst (λ left. IsOnPath i (is_present i n table (start + k)) (cell i n table (start + k))
           (HasPath i (start + k) path) left c rest) (sym in_both)
           (on_path_more (shape_at k h) (f.each k h) (contains set k) (λ e. row.1 (t.0 e), λ q. t.1 (row.0 q)));
     }
 
     -- past the last
-    pub along_done : {rest : List ℕ} → IsAlong i n start cells places path truths at rest → rest ≡ []
+    pub along_done : {rest : List ℕ} → IsAlong i n start table places path truths at rest → rest ≡ []
         → Selects places (λ k. HasPath i (start + k) path) truths
     along_done f e k h = on_path_done (f.each k h) e

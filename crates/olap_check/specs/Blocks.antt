@@ -5,12 +5,13 @@
 --     AreMembersFrom     the places, of a block's width, that have members of a category
 --     IsBlock            these places of an instance, with its table
 --     IsFirstUnmetFrom   the first member, from a start on, at which a formula is false
-use Rattle.std.specs.Prelude.{◌≡◌, ℕ, ◌+◌, ◌<◌, ◌≤◌, ◌↔◌, List, true}
+use Rattle.std.specs.Prelude.{◌≡◌, ℕ, ◌+◌, ◌<◌, ◌≤◌, ◌↔◌, true}
 use Rattle.std.specs.FinSet.{FinSet, contains}
 use Rattle.std.specs.Ordering.{nat_cmp}
 use Rattle.olap_ast.specs.Formula.{Formula, Holds}
 use Rattle.olap_base.specs.Instance.{Instance, IsMemberOf}
 use Rattle.olap_check.specs.Tables.{HasTable}
+use Rattle.olap_check.specs.declared.tables.Table.{Table}
 
 -- how many places a block has: four words of bits
 abbrev pub width : ℕ
@@ -29,8 +30,8 @@ abbrev pub AreMembersFrom : Instance → ℕ → ℕ → FinSet nat_cmp → Type
 AreMembersFrom i c start places = Collects width (λ k. IsMemberOf i c (start + k)) places
 
 -- the table is that of the instance, and the places are those of the root's members
-pub record IsBlock (i : Instance) (n : ℕ) (cells : List ℕ) (root start : ℕ) (places : FinSet nat_cmp) : Type 0 where
-  pub has_table : HasTable i n cells
+pub record IsBlock (i : Instance) (n : ℕ) (t : Table) (root start : ℕ) (places : FinSet nat_cmp) : Type 0 where
+  pub has_table : HasTable i n t
   pub exact : AreMembersFrom i root start places
 
 -- x is the first member of the root, from the start on, at which the formula is false

@@ -9,8 +9,9 @@
 use Rattle.std.specs.Prelude.{◌≡◌, ◌≢◌, ℕ, ◌+◌, ◌*◌, ◌<◌, ◌⊎◌, ◌↔◌, Bool, List, length, slice_index, Contains}
 use Rattle.olap_base.specs.Instance.{Instance, Reaches, category_of}
 use Rattle.olap_graph.specs.Marking.{unmarked_count}
+use Rattle.olap_check.specs.Laying.{IsLaid, cell}
 use Rattle.olap_check.specs.Rows.{none, IsIn, IsRise, IsRow}
-use Rattle.olap_check.specs.Tables.{cell}
+use Rattle.olap_check.specs.declared.tables.Table.{Table}
 
 -- a member stands here exactly if it is one of the two
 abbrev pub IsEither : ℕ → ℕ → ℕ → Type 0
@@ -27,19 +28,19 @@ pub record AreJoined (i : Instance) (parents row : List ℕ) : Type 0 where
   pub exact : (y : ℕ) → y < length i → IsIn i row y ↔ ((p : ℕ) × Contains parents p × Reaches i p y)
 
 -- the row of x stands in the table
-pub record HasRow (i : Instance) (n x : ℕ) (cells : List ℕ) : Type 0 where
+pub record HasRow (i : Instance) (n x : ℕ) (t : Table) : Type 0 where
   pub row : List ℕ
   pub rise : IsRise i n x row
-  pub stands : (d : ℕ) → d < n → cell n cells x d ≡ slice_index row d
+  pub stands : (d : ℕ) → d < n → cell i n t x d ≡ slice_index row d
 
 -- a member stands in its own place
-abbrev pub IsPlaced : Instance → ℕ → List ℕ → ℕ → Type 0
-IsPlaced i n cells x = cell n cells x (category_of i x) ≢ none
+abbrev pub IsPlaced : Instance → ℕ → Table → ℕ → Type 0
+IsPlaced i n t x = cell i n t x (category_of i x) ≢ none
 
 -- the table has a row for each member, and those that stand in their own places have theirs
-pub record AreRows (i : Instance) (n : ℕ) (cells : List ℕ) : Type 0 where
-  pub size : length cells ≡ length i * n
-  pub each : (x : ℕ) → x < length i → IsPlaced i n cells x → HasRow i n x cells
+pub record AreRows (i : Instance) (n : ℕ) (t : Table) : Type 0 where
+  pub laid : IsLaid i n t
+  pub each : (x : ℕ) → x < length i → IsPlaced i n t x → HasRow i n x t
 
 -- ---- inside the walk
 

@@ -8,6 +8,8 @@ pub mod Ancestors
 pub mod Linking
 pub mod Strata
 pub mod Rows
+pub mod Slots
+pub mod Laying
 pub mod Tables
 pub mod Joining
 pub mod Passing

@@ -1,22 +1,20 @@
--- The table of ancestors: for each member and each category one place.
-use Rattle.std.specs.Prelude.{◌≡◌, ◌≢◌, ℕ, ◌+◌, ◌*◌, ◌<◌, ◌↔◌, List, length, slice_index, Bool, true}
+-- The table of ancestors: what each member reaches, by category.
+use Rattle.std.specs.Prelude.{◌≡◌, ◌≢◌, ℕ, ◌<◌, ◌↔◌, List, length, Bool, true}
 use Rattle.olap_base.specs.Instance.{Instance, IsFarBelow, category_of}
 use Rattle.olap_base.specs.Reaching.{reaches}
 use Rattle.olap_graph.specs.Tables.{IsMarked}
+use Rattle.olap_check.specs.Laying.{IsLaid, cell}
 use Rattle.olap_check.specs.Rows.{none, IsBounded, Splits}
 use Rattle.olap_check.specs.Strata.{IsSearch}
+use Rattle.olap_check.specs.declared.tables.Table.{Table}
 use Rattle.std.specs.Prelude.{Option, Some, None}
 
--- the place of member x and category d, with n categories
-abbrev pub cell : ℕ → List ℕ → ℕ → ℕ → ℕ
-cell n cells x d = slice_index cells (x * n + d)
-
--- the rows of the first k members
-pub record IsTable (i : Instance) (n k : ℕ) (cells : List ℕ) : Type 0 where
-  pub size : length cells ≡ k * n
-  pub own : (x d : ℕ) → x < k → d < n → cell n cells x d ≢ none
-      → (cell n cells x d < length i) × (category_of i (cell n cells x d) ≡ d)
-  pub exact : (x y : ℕ) → x < k → y < length i → (cell n cells x (category_of i y) ≡ y) ↔ (reaches i x y ≡ true)
+-- the first k members have their rows
+pub record IsTable (i : Instance) (n k : ℕ) (t : Table) : Type 0 where
+  pub laid : IsLaid i n t
+  pub own : (x d : ℕ) → x < k → d < n → cell i n t x d ≢ none
+      → (cell i n t x d < length i) × (category_of i (cell i n t x d) ≡ d)
+  pub exact : (x y : ℕ) → x < k → y < length i → (cell i n t x (category_of i y) ≡ y) ↔ (reaches i x y ≡ true)
 
 -- x reaches two members of one category, and no member before it does
 pub record IsFirstSplit (i : Instance) (n x : ℕ) : Type 0 where
@@ -64,6 +62,6 @@ pub record IsLeastSplit (i : Instance) (x c : ℕ) : Type 0 where
   pub before : (d : ℕ) → d < c → SplitsAt i x d → ⊥
 
 -- the table is that of the whole instance
-pub record HasTable (i : Instance) (n : ℕ) (cells : List ℕ) : Type 0 where
+pub record HasTable (i : Instance) (n : ℕ) (t : Table) : Type 0 where
   pub bounded : IsBounded i n
-  pub table : IsTable i n (length i) cells
+  pub table : IsTable i n (length i) t

@@ -2,11 +2,12 @@
 ghost use Rattle.std.specs.Prelude.{◌≡◌, ◌<◌, ◌↔◌, length, IsTrue, IfSome, IsNone};
 ghost use Rattle.olap_check.specs.Above.{IsAbove, is_present};
 ghost use Rattle.olap_check.specs.Seen.{GoesOn, IsSo};
-ghost use Rattle.olap_check.specs.Tables.{cell};
+ghost use Rattle.olap_check.specs.Laying.{cell};
 ghost use Rattle.olap_eval.specs.Shapes.{IsShape};
 
 use crate::asked::{Asked, Way};
 use crate::parting::ancestor;
+use crate::tables::Table;
 use olap_ast::Op;
 use olap_base::{CatId, MemberId, Text};
 use olap_eval::Shape;
@@ -17,23 +18,25 @@ use olap_numerals::number;
 #[derive(Clone, Copy)]
 pub(crate) struct Above<'a> {
     pub instance: &'a Instance,
-    pub cells: &'a [u32],
+    pub table: &'a Table,
     pub categories: u16,
     pub x: u32,
-    ghost sound: { IsAbove instance.now categories x cells.now },
-    ghost row_is_shape: { IsShape instance.now (is_present categories cells.now x) (cell categories cells.now x) },
+    ghost sound: { IsAbove instance.now categories x table.now },
+    ghost row_is_shape: { IsShape instance.now (is_present instance.now categories table.now x)
+        (cell instance.now categories table.now x) },
 }
 
 impl<'a> Above<'a> {
     // The member of the category, if x reaches one.
     fn member(&self, c: u16) -> Option<u32>
-        ensures some { let place = cell self.now.categories self.now.cells.now self.now.x in
-            let present = is_present self.now.categories self.now.cells.now self.now.x in
+        ensures some { let place = cell self.now.instance.now self.now.categories self.now.table.now self.now.x in
+            let present = is_present self.now.instance.now self.now.categories self.now.table.now self.now.x in
             IfSome result (λ y. IsTrue (present c) × (place c ≡ y) × (y < length self.now.instance.now)) }
-        ensures none { IsNone result → IsTrue (is_present self.now.categories self.now.cells.now self.now.x c) → ⊥ }
+        ensures none { let present = is_present self.now.instance.now self.now.categories self.now.table.now self.now.x in
+            IsNone result → IsTrue (present c) → ⊥ }
     {
         if c < self.categories {
-            ancestor(self.instance, self.cells, self.categories, self.x, c)
+            ancestor(self.instance, self.table, self.categories, self.x, c)
         } else {
             None
         }
@@ -63,13 +66,13 @@ impl<'a> Above<'a> {
 
 impl<'a> Shape for Above<'a> {
     ghost use Rattle.olap_check.specs.Above.{is_present};
-    ghost use Rattle.olap_check.specs.Tables.{cell};
+    ghost use Rattle.olap_check.specs.Laying.{cell};
 
     ghost instance = { λ s. s.instance.now };
 
-    ghost present = { λ s. is_present s.categories s.cells.now s.x };
+    ghost present = { λ s. is_present s.instance.now s.categories s.table.now s.x };
 
-    ghost place = { λ s. cell s.categories s.cells.now s.x };
+    ghost place = { λ s. cell s.instance.now s.categories s.table.now s.x };
 
     fn has_edge(&self, c: CatId, d: CatId) -> bool {
         let Some(y) = self.member(c.0) else {
@@ -88,7 +91,7 @@ impl<'a> Shape for Above<'a> {
         if self.member(d.0).is_none() {
             return false;
         }
-        ancestor(self.instance, self.cells, self.categories, y, d.0).is_some()
+        ancestor(self.instance, self.table, self.categories, y, d.0).is_some()
     }
 
     fn name_is(&self, c: CatId, k: &Text) -> bool {

@@ -12,6 +12,7 @@ use crate::above::Above;
 use crate::asked::{Asked, Way};
 use crate::places::{Places, WIDTH};
 use crate::seen::{Entry, Seen};
+use crate::tables::Table;
 use olap_ast::{Formula, Terms};
 use olap_base::{CatId, MemberId};
 use olap_instance::Instance;
@@ -23,12 +24,12 @@ use olap_instance::Instance;
 #[derive(Clone, Copy)]
 pub(crate) struct Block<'a> {
     pub instance: &'a Instance,
-    pub cells: &'a [u32],
+    pub table: &'a Table,
     pub categories: u16,
     pub root: CatId,
     pub start: u32,
     pub places: Places,
-    ghost sound: { IsBlock instance.now categories cells.now root.0 start (members places) },
+    ghost sound: { IsBlock instance.now categories table.now root.0 start (members places) },
 }
 
 /// Of some formulas: the places where none is true, and those where exactly one is.
@@ -71,7 +72,7 @@ impl<'a> Block<'a> {
     {
         let above = Above {
             instance: self.instance,
-            cells: self.cells,
+            table: self.table,
             categories: self.categories,
             x: self.start + u32::from(k),
         };

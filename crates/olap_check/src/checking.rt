@@ -46,14 +46,14 @@ fn check_parts(
     ensures err { IfErr result (IsRefused (parts_of graph.now constraints.now) instance) }
 {
     let categories = bound(graph, &instance);
-    let cells = match lawful(alloc, graph, &instance, categories)? {
-        Ok(cells) => cells,
+    let table = match lawful(alloc, graph, &instance, categories)? {
+        Ok(table) => table,
         Err(violation) => return Err(CheckRefusal::Broken(instance, violation)),
     };
-    let found = first_violated(alloc, &instance, &cells, categories, constraints)?;
+    let found = first_violated(alloc, &instance, &table, categories, constraints)?;
     if let Some((k, x)) = found {
         let violation = Violation::Constraint(k as u16 + 1, MemberId(x));
         return Err(CheckRefusal::Broken(instance, violation));
     }
-    Ok(Legal::of(instance, categories, cells))
+    Ok(Legal::of(instance, categories, table))
 }

@@ -1,82 +1,43 @@
 // The table of ancestors from the top down: a member's row is made of its parents' rows.
-ghost use Rattle.std.specs.Prelude.{◌≡◌, ◌<◌, ◌≤◌, ◌+◌, ◌⊎◌, ◌↔◌, length, ℕ, IfOk, IfSome, IsTrue, slice_index, vec_len};
-ghost use Rattle.olap_check.specs.Joining.{AreMembers, AreRows, HasRow, IsEither, IsJoin, left};
+ghost use Rattle.std.specs.Prelude.{◌≡◌, ◌<◌, ◌≤◌, length, IfOk, IfSome, IsTrue};
+ghost use Rattle.olap_base.specs.Graph.{category_count};
+ghost use Rattle.olap_base.specs.Limits.{most_categories};
+ghost use Rattle.olap_check.specs.Joining.{AreMembers, AreRows, HasRow, left};
 ghost use Rattle.olap_check.specs.Rows.{IsBounded, IsRise};
+ghost use Rattle.olap_check.specs.Strata.{AreLinked};
 ghost use Rattle.olap_check.specs.Tables.{IsTable};
 
 use crate::rising::NONE;
 use crate::strata::mark;
+use crate::tables::Table;
 use olap_base::{MemberId, Memory};
+use olap_graph::Graph;
 use olap_instance::Instance;
 use std::alloc::Global;
 
-/// What stands in one of two places. None where two members do.
-fn either(one: u32, other: u32) -> Option<u32>
-    ensures { IfSome result (IsEither one other) }
-{
-    if other == NONE {
-        return Some(one);
-    }
-    if one == NONE {
-        return Some(other);
-    }
-    if one == other { Some(one) } else { None }
-}
-
-/// Puts what stands in the other row into this one. False where a place would have two members.
-fn join(row: &mut [u32], other: &[u32]) -> bool
-    requires { length row.old ≡ length other.now }
-    ensures { IsTrue result → IsJoin row.old other.now row.new }
-{
-    'places: for d in 0..other.len() {
-        match either(row[d], other[d]) {
-            Some(y) => row[d] = y,
-            None => return false,
-        }
-    }
-    true
-}
-
-/// A part of the cells.
-fn part(cells: &[u32], start: usize, width: usize) -> &[u32]
-    requires { start + width ≤ length cells.now }
-    ensures len { length result.now ≡ width }
-    ensures each { (d : ℕ) → d < width → slice_index result.now d ≡ slice_index cells.now (start + d) }
-{
-    &cells[start..start + width]
-}
-
-/// The row of x, if x stands in its own place there.
-fn row_of<'a>(instance: &Instance, cells: &'a [u32], categories: u16, x: u32) -> Option<&'a [u32]>
+/// Whether x stands in its own place there. Then it has its row.
+fn is_placed(instance: &Instance, table: &Table, categories: u16, x: u32) -> bool
     requires x { x < length instance.now }
-    requires bounded { IsBounded instance.now categories }
-    requires rows { AreRows instance.now categories cells.now }
-    ensures has { IfSome result (λ row. HasRow instance.now categories x cells.now) }
-    ensures rise { IfSome result (λ row. IsRise instance.now categories x row.now) }
+    requires rows { AreRows instance.now categories table.now }
+    ensures { IsTrue result → HasRow instance.now categories x table.now }
 {
-    let width = usize::from(categories);
-    let start = x as usize * width;
-    let own = start + usize::from(instance.category(MemberId(x)).0);
-    if cells[own] == NONE {
-        return None;
-    }
-    Some(part(cells, start, width))
+    table.get(instance, categories, x, instance.category(MemberId(x)).0) != NONE
 }
 
 /// The row of z, from those of its parents. False where a parent has none yet, or two members of a category meet.
-fn rise_from(instance: &Instance, cells: &[u32], categories: u16, z: u32, row: &mut [u32]) -> bool
+fn rise_from(instance: &Instance, table: &Table, categories: u16, z: u32, row: &mut [u32]) -> bool
     requires z { z < length instance.now }
     requires bounded { IsBounded instance.now categories }
-    requires rows { AreRows instance.now categories cells.now }
+    requires rows { AreRows instance.now categories table.now }
     requires row { length row.old ≡ categories }
     ensures { IsTrue result → IsRise instance.now categories z row.new }
 {
     row.fill(NONE);
     'parents: for p in instance.parents(MemberId(z)) {
-        let Some(above) = row_of(instance, cells, categories, p.0) else {
+        if !is_placed(instance, table, categories, p.0) {
             return false;
-        };
-        if !join(row, above) {
+        }
+        if !table.join(instance, categories, p.0, row) {
             return false;
         }
     }
@@ -88,35 +49,24 @@ fn rise_from(instance: &Instance, cells: &[u32], categories: u16, z: u32, row: &
     true
 }
 
-/// Writes the row there.
-fn put(cells: &mut [u32], start: usize, row: &[u32])
-    requires { start + length row.now ≤ length cells.old }
-    ensures same_length { length cells.new ≡ length cells.old }
-    ensures here { (d : ℕ) → d < length row.now → slice_index cells.new (start + d) ≡ slice_index row.now d }
-    ensures before { (k : ℕ) → k < start → slice_index cells.new k ≡ slice_index cells.old k }
-    ensures after { (k : ℕ) → start + length row.now ≤ k → slice_index cells.new k ≡ slice_index cells.old k }
-{
-    cells[start..start + row.len()].copy_from_slice(row);
-}
-
 /// Gives z its row in the table. False where that can't be made yet, or at all.
 fn give_row(
     instance: &Instance,
-    cells: &mut [u32],
+    table: &mut Table,
     categories: u16,
     z: u32,
     row: &mut [u32],
 ) -> bool
     requires z { z < length instance.now }
     requires bounded { IsBounded instance.now categories }
-    requires rows { AreRows instance.now categories cells.old }
+    requires rows { AreRows instance.now categories table.old }
     requires row { length row.old ≡ categories }
-    ensures { IsTrue result → AreRows instance.now categories cells.new }
+    ensures { IsTrue result → AreRows instance.now categories table.new }
 {
-    if !rise_from(instance, cells, categories, z, row) {
+    if !rise_from(instance, table, categories, z, row) {
         return false;
     }
-    put(cells, z as usize * usize::from(categories), row);
+    table.put(instance, categories, z, row);
     true
 }
 
@@ -149,18 +99,18 @@ fn is_ready(
 /// Gives rows to the listed members, to each after those above it. False where one can't be made.
 fn climb(
     instance: &Instance,
-    cells: &mut [u32],
+    table: &mut Table,
     categories: u16,
     row: &mut [u32],
     seen: &mut Vec<bool>,
     list: &mut Vec<u32>,
 ) -> Result<bool, Memory>
     requires bounded { IsBounded instance.now categories }
-    requires rows { AreRows instance.now categories cells.old }
+    requires rows { AreRows instance.now categories table.old }
     requires row { length row.old ≡ categories }
     requires seen { length seen.old.items ≡ length instance.now }
     requires members { AreMembers instance.now list.old.items }
-    ensures rows { IfOk result (λ whole. IsTrue whole → AreRows instance.now categories cells.new) }
+    ensures rows { IfOk result (λ whole. IsTrue whole → AreRows instance.now categories table.new) }
     ensures seen { IfOk result (λ whole. IsTrue whole → length seen.new.items ≡ length instance.now) }
     ensures members { IfOk result (λ whole. IsTrue whole → AreMembers instance.now list.new.items) }
 {
@@ -168,7 +118,7 @@ fn climb(
         if !is_ready(instance, categories, z, seen, list)? {
             continue;
         }
-        if !give_row(instance, cells, categories, z, row) {
+        if !give_row(instance, table, categories, z, row) {
             return Ok(false);
         }
     }
@@ -176,32 +126,32 @@ fn climb(
 }
 
 /// Whether each member stands in its own place.
-fn is_whole(instance: &Instance, cells: &[u32], categories: u16) -> bool
+fn is_whole(instance: &Instance, table: &Table, categories: u16) -> bool
     requires bounded { IsBounded instance.now categories }
-    requires rows { AreRows instance.now categories cells.now }
-    ensures { IsTrue result → IsTable instance.now categories (length instance.now) cells.now }
+    requires rows { AreRows instance.now categories table.now }
+    ensures { IsTrue result → IsTable instance.now categories (length instance.now) table.now }
 {
     'members: for x in 0..instance.members() {
-        let Some(_row) = row_of(instance, cells, categories, x) else {
+        if !is_placed(instance, table, categories, x) {
             return false;
-        };
+        }
     }
     true
 }
 
-/// Makes the table in these cells, of which none has a member. False where rows can't be joined to it.
+/// Fills the table, in which nothing stands. False where rows can't be joined to it.
 fn fill(
     alloc: Global,
     instance: &Instance,
-    cells: &mut [u32],
+    table: &mut Table,
     categories: u16,
     row: &mut [u32],
 ) -> Result<bool, Memory>
     requires bounded { IsBounded instance.now categories }
-    requires rows { AreRows instance.now categories cells.old }
+    requires rows { AreRows instance.now categories table.old }
     requires row { length row.old ≡ categories }
     ensures { let count = length instance.now in
-        IfOk result (λ whole. IsTrue whole → IsTable instance.now categories count cells.new) }
+        IfOk result (λ whole. IsTrue whole → IsTable instance.now categories count table.new) }
 {
     let count = instance.members() as usize;
     let mut seen = vec![in alloc; false; count]?;
@@ -212,32 +162,34 @@ fn fill(
         }
         seen[x as usize] = true;
         list.push(x)?;
-        if !climb(instance, cells, categories, row, &mut seen, &mut list)? {
+        if !climb(instance, table, categories, row, &mut seen, &mut list)? {
             return Ok(false);
         }
     }
-    Ok(is_whole(instance, cells, categories))
+    Ok(is_whole(instance, table, categories))
 }
 
 /// The table, from the top down. None where rows can't be joined so: where members repeat a category, two of one
 /// category meet, or a parent is above another one.
 ///
-/// Cost: the members and their parents times the number of categories.
+/// Cost: the members times the number of categories, and for each parent of each the categories that it can reach.
 pub(crate) fn joined(
     alloc: Global,
+    graph: &Graph,
     instance: &Instance,
     categories: u16,
-) -> Result<Option<Vec<u32>>, Memory>
-    requires { IsBounded instance.now categories }
+) -> Result<Option<Table>, Memory>
+    requires count { categories ≡ category_count graph.now }
+    requires few { categories ≤ most_categories }
+    requires bounded { IsBounded instance.now categories }
+    requires linked { AreLinked graph.now instance.now }
     ensures { let count = length instance.now in
-        IfOk result (λ o. IfSome o (λ cells. IsTable instance.now categories count cells.items)) }
+        IfOk result (λ o. IfSome o (IsTable instance.now categories count)) }
 {
-    let count = instance.members() as usize;
-    let width = usize::from(categories);
-    let mut cells = vec![in alloc; NONE; count * width]?;
-    let mut row = vec![in alloc; NONE; width]?;
-    if fill(alloc, instance, &mut cells, categories, &mut row)? {
-        Ok(Some(cells))
+    let mut table = Table::new(alloc, graph, instance, categories)?;
+    let mut row = vec![in alloc; NONE; usize::from(categories)]?;
+    if fill(alloc, instance, &mut table, categories, &mut row)? {
+        Ok(Some(table))
     } else {
         Ok(None)
     }

@@ -14,6 +14,7 @@ use crate::linking::{edge_table, first_orphan, first_unlinked};
 use crate::parting::{split_category, table};
 use crate::passing::first_shortcut;
 use crate::strata::first_repeated;
+use crate::tables::Table;
 use olap_base::{CatId, MemberId, Memory};
 use olap_graph::Graph;
 use olap_instance::Instance;
@@ -46,13 +47,13 @@ pub(crate) fn lawful(
     graph: &Graph,
     instance: &Instance,
     categories: u16,
-) -> Result<Result<Vec<u32>, Violation>, Memory>
+) -> Result<Result<Table, Violation>, Memory>
     requires count { categories ≡ category_count graph.now }
     requires few { categories ≤ most_categories }
     requires bounded { IsBounded instance.now categories }
     ensures table { let count = length instance.now in
-        IfOk result (λ r. IfOk r (λ cells. IsTable instance.now categories count cells.items)) }
-    ensures lawful { IfOk result (λ r. IfOk r (λ cells. IsLawful graph.now instance.now)) }
+        IfOk result (λ r. IfOk r (IsTable instance.now categories count)) }
+    ensures lawful { IfOk result (λ r. IfOk r (λ _. IsLawful graph.now instance.now)) }
     ensures first { IfOk result (λ r. IfErr r (λ v. (constraints : List Constraint)
         → IsFirstReport (record { graph = graph.now; constraints = constraints }) instance.now v)) }
 {
@@ -67,16 +68,16 @@ pub(crate) fn lawful(
     if let Some(x) = first_repeated(alloc, graph, instance, categories)? {
         return Ok(Err(Violation::Stratification(MemberId(x))));
     }
-    let cells = match table(alloc, instance, categories)? {
-        Ok(cells) => cells,
+    let table = match table(alloc, graph, instance, categories)? {
+        Ok(table) => table,
         Err(x) => {
             let category = split_category(alloc, instance, categories, x)?;
             return Ok(Err(Violation::Partitioning(MemberId(x), CatId(category))));
         }
     };
-    if let Some((x, k)) = first_shortcut(instance, &cells, categories) {
+    if let Some((x, k)) = first_shortcut(instance, &table, categories) {
         let above = parent(instance, x, k);
         return Ok(Err(Violation::Shortcut(MemberId(x), above)));
     }
-    Ok(Ok(cells))
+    Ok(Ok(table))
 }

@@ -6,6 +6,7 @@ ghost use Rattle.olap_check.specs.Rows.{IsBounded};
 ghost use Rattle.olap_check.specs.Tables.{IsTable};
 
 use crate::parting::ancestor;
+use crate::tables::Table;
 use olap_base::{CatId, MemberId};
 use olap_instance::Instance;
 use std::marker::Model;
@@ -15,8 +16,7 @@ use std::marker::Model;
 pub struct Legal {
     instance: Instance,
     categories: u16,
-    // A row for each member, a place for each category.
-    cells: Vec<u32>,
+    table: Table,
 }
 
 impl Model for Legal {
@@ -28,20 +28,20 @@ impl Model for Legal {
 
     ghost view = { λ a. a.instance };
 
-    ghost invariant = { λ a. HasTable a.instance a.categories a.cells.items };
+    ghost invariant = { λ a. HasTable a.instance a.categories a.table };
 }
 
 impl Legal {
     /// A checked instance and its table.
-    pub(crate) fn of(instance: Instance, categories: u16, cells: Vec<u32>) -> Legal
+    pub(crate) fn of(instance: Instance, categories: u16, table: Table) -> Legal
         requires bounded { IsBounded instance categories }
-        requires table { IsTable instance categories (length instance) cells.items }
+        requires table { IsTable instance categories (length instance) table }
         ensures { result ≡ instance }
     {
         Legal {
             instance,
             categories,
-            cells,
+            table,
         }
     }
 
@@ -52,7 +52,14 @@ impl Legal {
         &self.instance
     }
 
-    /// The member of the category that x reaches, x itself for its own category. One look at a table.
+    /// The instance alone. The memory of the table is given back.
+    pub fn into_instance(self) -> Instance
+        ensures { result ≡ self }
+    {
+        self.instance
+    }
+
+    /// The member of the category that x reaches, x itself for its own category. A few looks at lists.
     pub fn ancestor(&self, x: MemberId, c: CatId) -> Option<MemberId>
         requires { x.0 < length self.now }
         ensures some { IfSome result (λ y. IsAncestor self.now x.0 c.0 y.0) }
@@ -61,7 +68,7 @@ impl Legal {
         if c.0 >= self.categories {
             return None;
         }
-        let found = ancestor(&self.instance, &self.cells, self.categories, x.0, c.0);
+        let found = ancestor(&self.instance, &self.table, self.categories, x.0, c.0);
         match found {
             Some(y) => Some(MemberId(y)),
             None => None,

@@ -20,7 +20,9 @@ mod passing;
 mod places;
 mod rising;
 mod seen;
+mod slots;
 mod strata;
+mod tables;
 mod violations;
 
 pub use checking::check;

@@ -12,6 +12,7 @@ ghost use Rattle.olap_check.specs.Tables.{IsTable};
 use crate::blocks::{Block, members_from};
 use crate::places::WIDTH;
 use crate::seen::Seen;
+use crate::tables::Table;
 use olap_ast::{Constraint, Formula};
 use olap_base::{CatId, Memory};
 use olap_instance::Instance;
@@ -20,14 +21,14 @@ use std::alloc::Global;
 /// The first member of the root at which the formula is false.
 fn first_unmet(
     instance: &Instance,
-    cells: &[u32],
+    table: &Table,
     categories: u16,
     root: CatId,
     formula: &Formula,
     seen: &mut Seen,
 ) -> Option<u32>
     requires bounded { IsBounded instance.now categories }
-    requires table { IsTable instance.now categories (length instance.now) cells.now }
+    requires table { IsTable instance.now categories (length instance.now) table.now }
     requires seen { IsSeen instance.now seen.old }
     ensures seen { IsSeen instance.now seen.new }
     ensures some { IfSome result (IsFirstUnmet instance.now root.0 (formula_of formula.now)) }
@@ -39,7 +40,7 @@ fn first_unmet(
         let start = step * WIDTH;
         let block = Block {
             instance,
-            cells,
+            table,
             categories,
             root,
             start,
@@ -59,12 +60,12 @@ fn first_unmet(
 pub(crate) fn first_violated(
     alloc: Global,
     instance: &Instance,
-    cells: &[u32],
+    table: &Table,
     categories: u16,
     constraints: &[Constraint],
 ) -> Result<Option<(usize, u32)>, Memory>
     requires bounded { IsBounded instance.now categories }
-    requires table { IsTable instance.now categories (length instance.now) cells.now }
+    requires table { IsTable instance.now categories (length instance.now) table.now }
     ensures some { let all = map constraint_of constraints.now in
         IfOk result (λ r. IfSome r (λ s. IsFirstViolated instance.now all s.0 s.1)) }
     ensures none { IfOk result (λ r. IsNone r → (c : TheConstraint) → Contains (map constraint_of constraints.now) c
@@ -74,7 +75,7 @@ pub(crate) fn first_violated(
     'constraints: for (k, constraint) in constraints.iter().enumerate() {
         let root = constraint.root;
         let formula = &constraint.formula;
-        if let Some(x) = first_unmet(instance, cells, categories, root, formula, &mut seen) {
+        if let Some(x) = first_unmet(instance, table, categories, root, formula, &mut seen) {
             return Ok(Some((k, x)));
         }
     }

@@ -1,77 +1,87 @@
 // The table of ancestors, and members that reach two members of one category.
 ghost use Rattle.std.specs.Prelude.{◌≡◌, ◌<◌, ◌≤◌, ◌↔◌, length, ℕ, IfOk, IfErr, IfSome, IsNone, IsTrue};
 ghost use Rattle.olap_base.specs.Instance.{IsMemberOf, Reaches, ReachesCategory};
-ghost use Rattle.olap_base.specs.Limits.{most_members};
+ghost use Rattle.olap_base.specs.Graph.{category_count};
+ghost use Rattle.olap_base.specs.Limits.{most_categories, most_members};
 ghost use Rattle.olap_check.specs.Rows.{IsBounded, Splits};
 ghost use Rattle.olap_check.specs.Passing.{IsStratified};
+ghost use Rattle.olap_check.specs.Strata.{AreLinked};
 ghost use Rattle.olap_check.specs.Tables.{HasTwo, IsFirstSplit, IsLeastSplit, IsTable, MarksAbove};
 
 use crate::joining::joined;
 use crate::rising::{NONE, rise};
 use crate::strata::mark;
+use crate::tables::Table;
 use olap_base::{MemberId, Memory};
+use olap_graph::Graph;
 use olap_instance::Instance;
 use std::alloc::Global;
 
 /// The table, by a walk upwards from each member; or the first member that reaches two members of one category.
 fn walked(
     alloc: Global,
+    graph: &Graph,
     instance: &Instance,
     categories: u16,
-) -> Result<Result<Vec<u32>, u32>, Memory>
-    requires { IsBounded instance.now categories }
+) -> Result<Result<Table, u32>, Memory>
+    requires count { categories ≡ category_count graph.now }
+    requires few { categories ≤ most_categories }
+    requires bounded { IsBounded instance.now categories }
+    requires linked { AreLinked graph.now instance.now }
     ensures ok { let count = length instance.now in
-        IfOk result (λ r. IfOk r (λ cells. IsTable instance.now categories count cells.items)) }
+        IfOk result (λ r. IfOk r (IsTable instance.now categories count)) }
     ensures err { IfOk result (λ r. IfErr r (IsFirstSplit instance.now categories)) }
 {
-    let members = instance.members();
-    let width = usize::from(categories);
-    let mut cells = Vec::with_capacity(alloc, members as usize * width)?;
-    let mut row = vec![in alloc; NONE; width]?;
+    let mut table = Table::new(alloc, graph, instance, categories)?;
+    let mut row = vec![in alloc; NONE; usize::from(categories)]?;
     let mut list = Vec::new(alloc);
-    'members: for x in 0..members {
+    'members: for x in 0..instance.members() {
         if !rise(instance, x, &mut row, &mut list)? {
             return Ok(Err(x));
         }
-        cells.extend_from_slice(&row)?;
+        table.put(instance, categories, x, &row);
     }
-    Ok(Ok(cells))
+    Ok(Ok(table))
 }
 
 /// For each member and each category the member of it that is reached; or the first member that reaches two members of
 /// one category. A row of the table for each member. Where rows can't be joined, walks find out why.
 pub(crate) fn table(
     alloc: Global,
+    graph: &Graph,
     instance: &Instance,
     categories: u16,
-) -> Result<Result<Vec<u32>, u32>, Memory>
-    requires { IsBounded instance.now categories }
+) -> Result<Result<Table, u32>, Memory>
+    requires count { categories ≡ category_count graph.now }
+    requires few { categories ≤ most_categories }
+    requires bounded { IsBounded instance.now categories }
+    requires linked { AreLinked graph.now instance.now }
     ensures ok { let count = length instance.now in
-        IfOk result (λ r. IfOk r (λ cells. IsTable instance.now categories count cells.items)) }
+        IfOk result (λ r. IfOk r (IsTable instance.now categories count)) }
     ensures err { IfOk result (λ r. IfErr r (IsFirstSplit instance.now categories)) }
 {
-    match joined(alloc, instance, categories)? {
-        Some(cells) => Ok(Ok(cells)),
-        None => walked(alloc, instance, categories),
+    match joined(alloc, graph, instance, categories)? {
+        Some(table) => Ok(Ok(table)),
+        None => walked(alloc, graph, instance, categories),
     }
 }
 
-/// The member of the category that x reaches. One look at the table.
+/// The member of the category that x reaches. Three looks at lists.
 pub(crate) fn ancestor(
     instance: &Instance,
-    cells: &[u32],
+    table: &Table,
     categories: u16,
     x: u32,
     category: u16,
 ) -> Option<u32>
     requires x { x < length instance.now }
     requires category { category < categories }
-    requires table { IsTable instance.now categories (length instance.now) cells.now }
+    requires table { IsTable instance.now categories (length instance.now) table.now }
     requires few { length instance.now ≤ most_members }
     ensures some { IfSome result (λ y. IsMemberOf instance.now category y × Reaches instance.now x y) }
     ensures none { IsNone result → ReachesCategory instance.now x category → ⊥ }
 {
-    let cell = cells[x as usize * usize::from(categories) + usize::from(category)];
+    let cell = table.get(instance, categories, x, category);
     if cell == NONE { None } else { Some(cell) }
 }
 

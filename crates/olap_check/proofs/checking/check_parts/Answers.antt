@@ -8,7 +8,7 @@ use Rattle.olap_check.proofs.checking.check_parts.Goals as goal
 pub returns-in-Some-clause-err : goal.returns-in-Some-clause-err
 returns-in-Some-clause-err c =
     let s = parts_of c.args.graph.now c.args.constraints.now in
-    let lawful = rw c.in-Ok.is at c.in_ok-cells.ensures.lawful in
+    let lawful = rw c.in-Ok.is at c.in_ok-table.ensures.lawful in
     let first = rw c.in-Some.is at c.in_ok-found.ensures.some in (
       refl,
       record {

@@ -5,7 +5,7 @@ use Rattle.olap_check.proofs.joining.climb.Given as goal
 
 abbrev pub invariant-listed : goal.invariant-listed
 invariant-listed l = record {
-  rows : AreRows l.instance l.categories l.cells;
+  rows : AreRows l.instance l.categories l.table;
   row : length l.row ≡ l.categories;
   seen : length l.seen.items ≡ length l.instance;
   listed : AreMembers l.instance l.list.items;

@@ -5,7 +5,7 @@ use Rattle.olap_check.proofs.joining.fill.Given as goal
 
 abbrev pub invariant-members : goal.invariant-members
 invariant-members l = record {
-  rows : AreRows l.instance l.categories l.cells;
+  rows : AreRows l.instance l.categories l.table;
   row : length l.row ≡ l.categories;
   seen : length l.seen.items ≡ length l.instance;
   listed : AreMembers l.instance l.list.items;

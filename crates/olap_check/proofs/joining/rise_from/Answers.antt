@@ -3,7 +3,7 @@ use Rattle.std.proofs.Common.{◌≡◌, get_or, set, replicate, subst, sym, ◌
 use Rattle.olap_base.specs.Instance.{parents_of}
 use Rattle.olap_check.specs.Joining.{AreJoined}
 use Rattle.olap_check.specs.Rows.{none, IsRise}
-use Rattle.olap_check.proofs.JoiningLemmas.{joined_none, joined_more, joined_rise}
+use Rattle.olap_check.proofs.JoiningLemmas.{joined_none, joined_more, joined_rise, row_join}
 use Rattle.olap_check.proofs.ParentLemmas.{parent_at, parent_member, take_read}
 use Rattle.olap_check.proofs.joining.rise_from.Goals as goal
 
@@ -14,15 +14,19 @@ parents-init c = record {
       (subst (λ k. c.fill.new.self ≡ replicate k none) c.requires.row (c.fill.ensures.after (λ y e. e)));
 }
 
-pub row_of-requires-clause-x : goal.row_of-requires-clause-x
-row_of-requires-clause-x c =
+pub is_placed-requires-clause-x : goal.is_placed-requires-clause-x
+is_placed-requires-clause-x c =
     let ids = c.parents-p-items in
     let i = c.args.instance.now in
     parent_member
     (parent_at i c.args.z ids.result.now c.parents.p-index ids.ensures.list ids.ensures.places c.parents-test.true)
 
-pub join-requires : goal.join-requires
-join-requires c = c.parents.invariant.size ∙ sym c.in-Some.ensures.rise.same_length
+pub join-requires-clause-x : goal.join-requires-clause-x
+join-requires-clause-x c =
+    let ids = c.parents-p-items in
+    let i = c.args.instance.now in
+    parent_member
+    (parent_at i c.args.z ids.result.now c.parents.p-index ids.ensures.list ids.ensures.places c.parents-test.true)
 
 pub parents-preserved : goal.parents-preserved
 parents-preserved c =
@@ -31,9 +35,10 @@ parents-preserved c =
     let n = c.args.categories in
     let at = parent_at i c.args.z ids.result.now c.parents.p-index ids.ensures.list ids.ensures.places
     c.parents-test.true in
-    let above = subst (λ y. IsRise i n y c.in-Some.above.now) at.is c.in-Some.ensures.rise in
-    let j = c.join.ensures c.if-not-join.false in
+    let has = c.is_placed.ensures c.if-not-is_placed.false in
+    let above = subst (λ y. IsRise i n y has.row) at.is has.rise in
     let v = c.parents.invariant in
+    let j = row_join has v.size c.join.ensures.length (c.join.ensures.each c.if-not-join.false) in
     record {
       size = j.same_length ∙ v.size;
       joined = joined_more (parents_of i c.args.z) c.parents.p-index c.requires.bounded at.inside v.size above j v.joined;

@@ -56,6 +56,13 @@ returns-in-Some-2-clause-first c = λ constraints.
       is_told = refl;
     }
 
+pub table-requires-clause-linked : goal.table-requires-clause-linked
+table-requires-clause-linked c =
+    let n = c.args.categories in
+    let edges = c.deref.result.now in
+    let t = subst (λ l. IsTableOf c.args.graph.now n l) (sym c.deref.ensures.value) c.in_ok-edges.ensures in
+    links c.args.instance.now n edges c.requires.bounded (c.in_default.ensures.none refl) c.args.graph.now t
+
 pub split_category-requires-clause-strata : goal.split_category-requires-clause-strata
 split_category-requires-clause-strata c =
     let strata = (rw c.in_default-2.is at c.in_ok-x.ensures.none) refl in
@@ -69,7 +76,7 @@ returns-in-Err-clause-first c = λ constraints.
     let t = subst (λ l. IsTableOf c.args.graph.now n l) (sym c.deref.ensures.value) c.in_ok-edges.ensures in
     let s : Schema = record { graph = c.args.graph.now; constraints = constraints } in
     let strata = (rw c.in_default-2.is at c.in_ok-x.ensures.none) refl in
-    let split = rw c.in-Err.is at c.in_ok-cells.ensures.err in
+    let split = rw c.in-Err.is at c.in_ok-table.ensures.err in
     let least = c.in_ok-category-in-Err.ensures in
     record {
       violation = _;
@@ -92,12 +99,12 @@ returns-in-Some-first_shortcut-clause-first c = λ constraints.
     let t = subst (λ l. IsTableOf c.args.graph.now n l) (sym c.deref.ensures.value) c.in_ok-edges.ensures in
     let s : Schema = record { graph = c.args.graph.now; constraints = constraints } in
     let strata = (rw c.in_default-2.is at c.in_ok-x.ensures.none) refl in
-    let table = rw c.in-Ok.is at c.in_ok-cells.ensures.ok in
+    let table = rw c.in-Ok.is at c.in_ok-table.ensures.ok in
     let first = c.in-Some-first_shortcut in
     record {
       violation = _;
       is_first = first5 i n edges c.requires.bounded (c.in_default.ensures.none refl)
-          (c.in_default-first_orphan.ensures.none refl) strata c.in-Ok.cells.items table first.x first.k
+          (c.in_default-first_orphan.ensures.none refl) strata c.in-Ok.table table first.x first.k
           first.ensures.some s t;
       is_told = ap (λ y. Shortcut (member first.x) (member y)) c.parent-above-in-Some-first_shortcut.ensures;
     }
@@ -109,6 +116,6 @@ returns-clause-lawful c =
     let edges = c.deref.result.now in
     let t = subst (λ l. IsTableOf c.args.graph.now n l) (sym c.deref.ensures.value) c.in_ok-edges.ensures in
     let strata = (rw c.in_default-2.is at c.in_ok-x.ensures.none) refl in
-    let table = rw c.in-Ok.is at c.in_ok-cells.ensures.ok in
+    let table = rw c.in-Ok.is at c.in_ok-table.ensures.ok in
     all_five i n edges c.requires.bounded (c.in_default.ensures.none refl) (c.in_default-first_orphan.ensures.none refl)
-    strata c.in-Ok.cells.items table (c.in_default-first_shortcut.ensures.none refl) c.args.graph.now t
+    strata c.in-Ok.table table (c.in_default-first_shortcut.ensures.none refl) c.args.graph.now t

@@ -6,6 +6,6 @@ use Rattle.olap_check.proofs.parting.walked.Given as goal
 
 abbrev pub invariant-members : goal.invariant-members
 invariant-members l = record {
-  table : IsTable l.instance l.categories l.x l.cells.items;
+  table : IsTable l.instance l.categories l.x l.table;
   row : vec_len l.row ≡ l.categories;
 }

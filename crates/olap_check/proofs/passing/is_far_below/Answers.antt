@@ -12,5 +12,5 @@ returns-in-Some c =
     let i = c.args.instance.now in
     let m = subst (λ d. IsMemberOf i d c.in-Some.a × Reaches i c.args.z c.in-Some.a) c.category.ensures
     c.in-Some.ensures.some in
-    far_some i c.args.categories c.args.z c.args.y c.in-Some.a c.args.cells.now c.requires.bounded c.requires.table
+    far_some i c.args.categories c.args.z c.args.y c.in-Some.a c.args.table.now c.requires.bounded c.requires.table
     c.requires.z c.if-z-y.false m

@@ -12,11 +12,11 @@ returns-in-Reaches c =
     let s = c.args.self.now in
     subst (λ l. IsTrue c.reaches.result ↔ GoesOn s.instance.now l c.args.c.0 c.args.d.0 s.x) (sym c.in-Reaches.is)
     (iff_trans c.reaches.ensures
-    (via_by_row s.instance.now s.categories s.x s.cells.now s.sound c.args.c.0 c.args.d.0))
+    (via_by_row s.instance.now s.categories s.x s.table.now s.sound c.args.c.0 c.args.d.0))
 
 pub returns-in-Steps : goal.returns-in-Steps
 returns-in-Steps c =
     let s = c.args.self.now in
     subst (λ l. IsTrue c.has_edge.result ↔ GoesOn s.instance.now l c.args.c.0 c.args.d.0 s.x) (sym c.in-Steps.is)
     (iff_trans c.has_edge.ensures
-    (edge_by_row s.instance.now s.categories s.x s.cells.now s.sound c.args.c.0 c.args.d.0))
+    (edge_by_row s.instance.now s.categories s.x s.table.now s.sound c.args.c.0 c.args.d.0))

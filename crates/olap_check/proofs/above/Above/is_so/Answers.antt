@@ -19,7 +19,7 @@ returns-in-Named c =
     let s = c.args.self.now in
     subst (λ a. IsTrue c.name_is.result ↔ IsSo s.instance.now a s.x) (sym c.in-Named.is)
     (iff_trans c.name_is.ensures
-    (named_by_row s.instance.now s.categories s.x s.cells.now s.sound c.in-Named.d.0 c.in-Named.text.now))
+    (named_by_row s.instance.now s.categories s.x s.table.now s.sound c.in-Named.d.0 c.in-Named.text.now))
 
 pub returns-in-Compares : goal.returns-in-Compares
 returns-in-Compares c =
@@ -27,5 +27,5 @@ returns-in-Compares c =
     let fits : SFits w64 c.in-Compares.n = search rules in
     subst (λ a. IsTrue c.number_is.result ↔ IsSo s.instance.now a s.x) (sym c.in-Compares.is)
     (iff_trans (rw (to_z-of_z w64 c.in-Compares.n fits) at c.number_is.ensures)
-    (numbered_by_row s.instance.now s.categories s.x s.cells.now s.sound c.in-Compares.d.0 (op_of c.in-Compares.op)
+    (numbered_by_row s.instance.now s.categories s.x s.table.now s.sound c.in-Compares.d.0 (op_of c.in-Compares.op)
     c.in-Compares.n))

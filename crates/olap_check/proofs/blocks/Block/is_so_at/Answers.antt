@@ -14,9 +14,9 @@ invariant_of-above c =
     let place = (b.sound.exact c.args.k).0 c.requires in
     let member = subst (λ k. IsMemberOf b.instance.now b.root.0 (b.start + k)) (sym c.from.ensures) place.1 in
     let t = b.sound.has_table in
-    let sound : IsAbove b.instance.now b.categories x b.cells.now =
+    let sound : IsAbove b.instance.now b.categories x b.table.now =
     record { inside = member.0; bounded = t.bounded; table = t.table } in
-    record { sound = sound; row_is_shape = above_shape b.instance.now b.categories x b.cells.now sound }
+    record { sound = sound; row_is_shape = above_shape b.instance.now b.categories x b.table.now sound }
 
 pub returns : goal.returns
 returns c =

@@ -11,5 +11,5 @@ returns-in-Some-clause-some c =
     let x = c.args.x.0 in
     let inside = subst (λ (i : Instance). x < length i) (sym c.self.view_is) c.requires in
     subst (λ (i : Instance). IsAncestor i x c.args.c.0 c.in-Some.y) c.self.view_is
-    (ancestor_of a.instance a.categories x c.args.c.0 c.in-Some.y a.cells.items c.self.invariant.table inside
+    (ancestor_of a.instance a.categories x c.args.c.0 c.in-Some.y a.table c.self.invariant.table inside
     c.in-Some.ensures.some)
