@@ -91,8 +91,9 @@ pub fn counterexample(
     })
 }
 
-// Appends a line of a sum.
-fn push_sum(
+/// Appends the line of a sum: the word, what is summed at, and the sum in decimal or `none`. `Memory`: want of memory; what was
+/// appended by then stays.
+pub fn push_sum(
     alloc: Global,
     out: &mut Vec<u8>,
     word: &[u8],

@@ -45,7 +45,7 @@ same_bit false true e = absurd (omega arith)
 same_bit false false e = refl
 
 -- equal codes have equal bits and equal indexes
-same_parts : (a b : List Bool) (m n : List ℕ) → length a ≡ length b → bits a ++ m ≡ bits b ++ n → (a ≡ b) × (m ≡ n)
+pub same_parts : (a b : List Bool) (m n : List ℕ) → length a ≡ length b → bits a ++ m ≡ bits b ++ n → (a ≡ b) × (m ≡ n)
 unfolding head_or tail_of
 same_parts [] [] m n h e = (refl, e)
 same_parts [] (y ∷ b) m n h e = absurd (omega arith)

@@ -2,6 +2,6 @@
 pub mod TupleLemmas
 pub mod CubeLemmas
 pub mod ChoiceLemmas
-mod DeterminedLemmas
+pub mod DeterminedLemmas
 mod SumLemmas
 mod OneDimensionLemmas

@@ -15,6 +15,7 @@ ghost use Rattle.olap_dimensions.specs.Found.{IsCubeCounterexampleFound, chosen_
 use crate::dimensions::push_dimensions;
 use crate::reaching::{count_ways, drawn_of_each};
 use olap_base::{CatId, Memory, Text};
+use olap_cex::push_sum;
 use olap_cube::Tuple;
 use olap_dimensions::{Cube, CubeFound};
 use olap_frozen::Found;
@@ -64,31 +65,6 @@ fn root_names(alloc: Global, cube: &Cube, founds: &[Found]) -> Result<Vec<u8>, M
     let roots = roots(alloc, founds)?;
     let names = names(alloc, cube, &roots)?;
     Ok(names)
-}
-
-// Appends a word, the names of categories, and a sum.
-fn push_sum(
-    alloc: Global,
-    out: &mut Vec<u8>,
-    word: &[u8],
-    names: &[u8],
-    sum: Option<u64>,
-) -> Result<(), Memory>
-    ensures { OnOk result (out.new.items ≡ out.old.items ++ sum_line word.now names.now (option_map pos sum)) }
-{
-    out.extend_from_slice(word)?;
-    out.push(b' ')?;
-    out.extend_from_slice(names)?;
-    out.push(b' ')?;
-    match sum {
-        Some(n) => {
-            let digits = format!(in alloc; "{n}")?;
-            out.extend_from_slice(digits.as_bytes())?;
-        }
-        None => out.extend_from_slice(b"none")?,
-    }
-    out.push(b'\n')?;
-    Ok(())
 }
 
 // The SUM of so many ones, if there are any.

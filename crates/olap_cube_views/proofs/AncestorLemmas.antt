@@ -11,7 +11,8 @@ use Rattle.olap_base.specs.declared.ids.MemberId.{MemberId}
 use Rattle.olap_check.specs.Ancestors.{IsAncestor}
 use Rattle.olap_cube.specs.Tuples.{IsTupleOf, TupleReaches}
 use Rattle.olap_view.specs.Columns.{Ascent}
-use Rattle.olap_cube_views.specs.CubeTallies.{AreMembers, IsTupleAncestor, ReachesNone, categories_in, instances_in, key_of}
+use Rattle.olap_cube_views.specs.CubeTallies.{AreMembers, IsTupleAncestor, ReachesNone, key_of}
+use Rattle.olap_cube_views.specs.Dimensions.{categories_in, instances_in}
 use Rattle.olap_cube.specs.Limits.{most_dimensions}
 use Rattle.olap_cube_views.specs.Seen.{members_of}
 use Rattle.olap_cube_views.proofs.KeyLemmas.{filled_more}

@@ -36,7 +36,8 @@ use Rattle.olap_view.specs.Tables.{when}
 use Rattle.olap_view.specs.declared.summaries.Summary as told
 use Rattle.olap_view.proofs.SummaryLemmas.{of_values_more, total_of_value_list, up_to_more}
 use Rattle.olap_view.proofs.ViewingLemmas.{filter_map_same}
-use Rattle.olap_cube_views.specs.CubeTallies.{AreMembers, CubeStandsFor, CubeTallied, Entry, IsCubeTally, IsKeyOf, IsTupleAncestor, ReachesNone, categories_in, entries_of, instances_in, is_key, key_cmp, key_of, row_of_entry, summary_at, tallied}
+use Rattle.olap_cube_views.specs.CubeTallies.{AreMembers, CubeStandsFor, CubeTallied, Entry, IsCubeTally, IsKeyOf, IsTupleAncestor, ReachesNone, entries_of, is_key, key_cmp, key_of, row_of_entry, summary_at, tallied}
+use Rattle.olap_cube_views.specs.Dimensions.{categories_in, instances_in}
 use Rattle.olap_cube.specs.Limits.{most_dimensions}
 use Rattle.olap_cube_views.specs.Seen.{cube_row_of, cube_rows_of, members_of}
 use Rattle.olap_cube_views.specs.declared.views.CubeRow as told_row

@@ -4,5 +4,6 @@ mod KeyLemmas
 mod AncestorLemmas
 mod OrderLemmas
 mod CubeTallyLemmas
+mod ReferenceLemmas
 mod CubeReadingLemmas
 mod CubePrintingLemmas

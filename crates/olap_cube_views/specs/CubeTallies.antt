@@ -20,6 +20,7 @@ use Rattle.olap_view.specs.Columns.{Ascent}
 use Rattle.olap_view.specs.Seen.{summary_of}
 use Rattle.olap_view.specs.declared.summaries.Summary as told
 use Rattle.olap_cube.specs.Limits.{most_dimensions}
+use Rattle.olap_cube_views.specs.Dimensions.{categories_in, instances_in}
 
 -- ---- the tuple that a fact reaches
 
@@ -38,13 +39,6 @@ abbrev pub AreMembers : List Instance → List ℕ → Type 0
 AreMembers [] [] = Unit {0}
 AreMembers (i ∷ is) (x ∷ xs) = IsMember i x × AreMembers is xs
 AreMembers _ _ = ⊥
-
--- the instances that columns lead up in, and the categories that they lead to
-abbrev pub instances_in : List Ascent → List Instance
-instances_in columns = map (λ a. a.instance) columns
-
-abbrev pub categories_in : List Ascent → List ℕ
-categories_in columns = map (λ a. a.category) columns
 
 -- ---- keys
 

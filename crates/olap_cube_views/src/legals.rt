@@ -1,8 +1,11 @@
 // The legal instances of a cube's dimensions.
-ghost use Rattle.std.specs.Prelude.{◌≡◌, ◌++◌, ◌∷◌, ◌<◌, ◌≤◌, [], IfErr, OnErr, OnOk, length, slice_index_or};
+ghost use Rattle.std.specs.Prelude.{◌≡◌, ◌++◌, ◌∷◌, ◌<◌, ◌≤◌, [], IfErr, IfOk, OnErr, OnOk, length, slice_index_or};
 ghost use Rattle.olap_cube.specs.Limits.{most_dimensions};
+ghost use Rattle.olap_cube_views.specs.Dimensions.{instances_of};
 
+use olap_base::Memory;
 use olap_check::Legal;
+use olap_instance::Instance;
 use std::alloc::Global;
 use std::marker::Model;
 
@@ -61,5 +64,17 @@ impl Legals {
         ensures { result.now ≡ slice_index_or self.now i [] }
     {
         &self.legals[i]
+    }
+
+    /// The instances, in order.
+    pub(crate) fn instances(&self, alloc: Global) -> Result<Vec<&Instance>, Memory>
+        ensures instances { IfOk result (λ v. instances_of v.items ≡ self.now) }
+        ensures few { IfOk result (λ v. length v.items ≤ most_dimensions) }
+    {
+        let mut instances = Vec::new(alloc);
+        'dimensions: for k in 0..self.len() {
+            instances.push(self.legal(k).instance())?;
+        }
+        Ok(instances)
     }
 }

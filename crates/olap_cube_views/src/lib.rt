@@ -1,8 +1,9 @@
 //! Facts of up to four dimensions at once, read from texts, and their views.
 //!
-//! A contract sees a `Legals` as the definition's list of instances, a `CubeFacts` as its list of facts and a `CubeView`
-//! as its record (`specs/Seen.antt`). `cube_direct` answers the definition's direct view, and `cube_roll_up` that of the
-//! facts that a text stands for. Nothing here knows how an instance is read or checked.
+//! A contract sees a `Legals` as the definition's list of instances, a `TargetColumns` as a list of instances with a
+//! category each, a `CubeFacts` as the definition's list of facts and a `CubeView` as its record (`specs/Seen.antt`).
+//! `cube_direct` answers the definition's direct view, and `cube_roll_up` that of the facts that a text stands for.
+//! Nothing here knows how an instance is read or checked.
 #![tactic(auto)]
 
 mod legals;
@@ -10,12 +11,14 @@ mod printing;
 mod reading;
 mod tables;
 mod tallies;
+mod target_columns;
 mod viewing;
 mod views;
 
 pub use legals::Legals;
-pub use printing::print_cube_view;
+pub use printing::{print_cube_view, print_rolled_up};
 pub use reading::read_cube_facts;
 pub use tables::{CubeFact, CubeFacts};
+pub use target_columns::TargetColumns;
 pub use viewing::{cube_direct, cube_roll_up};
 pub use views::{CubeRow, CubeView};

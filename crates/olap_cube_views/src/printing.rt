@@ -5,11 +5,13 @@ ghost use Rattle.olap_records.specs.Texts.{text_of_row};
 ghost use Rattle.olap_cube_views.specs.CubeTallies.{AreMembers};
 ghost use Rattle.olap_cube_views.specs.CubeViewText.{cube_view_text, fields_in, header, records_of_cube_view};
 ghost use Rattle.olap_cube.specs.Limits.{most_dimensions};
+ghost use Rattle.olap_cube_views.specs.Dimensions.{instances_in, instances_of};
 ghost use Rattle.olap_cube_views.specs.Seen.{cube_row_of, cube_view_of, members_of};
 
-use crate::{CubeRow, CubeView, Legals};
+use crate::{CubeRow, CubeView, Legals, TargetColumns};
 use itoa::Buffer;
 use olap_base::{Memory, Text};
+use olap_instance::Instance;
 use olap_records::Printer;
 use std::alloc::Global;
 
@@ -39,10 +41,16 @@ fn print_header(out: &mut Printer, dimensions: usize) -> Result<(), Memory>
 }
 
 /// Prints a row.
-fn print_row(alloc: Global, out: &mut Printer, legals: &Legals, row: &CubeRow) -> Result<(), Memory>
-    requires width { out.old.width ≡ length legals.now + 4 }
-    requires members { AreMembers legals.now (members_of row.now.members) }
-    ensures text { OnOk result (out.new.text ≡ out.old.text ++ text_of_row (fields_in legals.now (cube_row_of row.now))) }
+fn print_row(
+    alloc: Global,
+    out: &mut Printer,
+    instances: &[&Instance],
+    row: &CubeRow,
+) -> Result<(), Memory>
+    requires width { out.old.width ≡ length instances.now + 4 }
+    requires members { AreMembers (instances_of instances.now) (members_of row.now.members) }
+    ensures text { OnOk result (out.new.text
+        ≡ out.old.text ++ text_of_row (fields_in (instances_of instances.now) (cube_row_of row.now))) }
     ensures width { out.new.width ≡ out.old.width }
 {
     let mut count = Buffer::new();
@@ -50,9 +58,9 @@ fn print_row(alloc: Global, out: &mut Printer, legals: &Legals, row: &CubeRow) -
     let mut least = Buffer::new();
     let mut greatest = Buffer::new();
     let mut fields: Vec<&[u8]> = Vec::new(alloc);
-    'ids: for k in 0..legals.len() {
+    'ids: for k in 0..instances.len() {
         let member = row.members.items()[k];
-        fields.push(legals.legal(k).instance().id(member).bytes())?;
+        fields.push(instances[k].id(member).bytes())?;
     }
     fields.push(count.format(row.count).as_bytes())?;
     fields.push(sum.format(row.sum).as_bytes())?;
@@ -61,17 +69,29 @@ fn print_row(alloc: Global, out: &mut Printer, legals: &Legals, row: &CubeRow) -
     out.row(&fields)
 }
 
-/// The bytes of the text of a view.
-fn print(alloc: Global, legals: &Legals, view: &CubeView) -> Result<Vec<u8>, Memory>
-    requires { All (λ r. AreMembers legals.now (members_of r.members)) view.now.rows }
-    ensures { IfOk result (λ bytes. bytes.items ≡ cube_view_text legals.now (cube_view_of view.now)) }
+/// The bytes of the text of a view on these instances.
+fn print(alloc: Global, instances: &[&Instance], view: &CubeView) -> Result<Vec<u8>, Memory>
+    requires few { length instances.now ≤ most_dimensions }
+    requires at_members { All (λ r. AreMembers (instances_of instances.now) (members_of r.members)) view.now.rows }
+    ensures { IfOk result (λ bytes. bytes.items ≡ cube_view_text (instances_of instances.now) (cube_view_of view.now)) }
 {
-    let mut out = Printer::new(alloc, legals.len() + 4);
-    print_header(&mut out, legals.len())?;
+    let mut out = Printer::new(alloc, instances.len() + 4);
+    print_header(&mut out, instances.len())?;
     'rows: for row in view.rows.items() {
-        print_row(alloc, &mut out, legals, row)?;
+        print_row(alloc, &mut out, instances, row)?;
     }
     out.finish()
+}
+
+/// The text of a view on these instances.
+fn text(alloc: Global, instances: &[&Instance], view: &CubeView) -> Result<Text, Memory>
+    requires few { length instances.now ≤ most_dimensions }
+    requires at_members { All (λ r. AreMembers (instances_of instances.now) (members_of r.members)) view.now.rows }
+    ensures text { IfOk result (λ text. text ≡ cube_view_text (instances_of instances.now) (cube_view_of view.now)) }
+    ensures reads { IfOk result (λ text.
+        records_of text ≡ records_of_cube_view (instances_of instances.now) (cube_view_of view.now)) }
+{
+    Ok(Text::from_vec(print(alloc, instances, view)?))
 }
 
 /// The text of a view: the header `m1,..,mK,count,sum,least,greatest` for K dimensions, and a record for each row, with
@@ -83,5 +103,22 @@ pub fn print_cube_view(alloc: Global, legals: &Legals, view: &CubeView) -> Resul
     ensures text { IfOk result (λ text. text ≡ cube_view_text legals.now (cube_view_of view.now)) }
     ensures reads { IfOk result (λ text. records_of text ≡ records_of_cube_view legals.now (cube_view_of view.now)) }
 {
-    Ok(Text::from_vec(print(alloc, legals, view)?))
+    let instances = legals.instances(alloc)?;
+    text(alloc, &instances, view)
+}
+
+/// The text of a view that `cube_roll_up` made of these columns, as `print_cube_view` has it. `Memory`: want of memory.
+pub fn print_rolled_up(
+    alloc: Global,
+    columns: &TargetColumns,
+    view: &CubeView,
+) -> Result<Text, Memory>
+    requires at_members { All (λ r. AreMembers (instances_in columns.now) (members_of r.members)) view.now.rows }
+
+    ensures text { IfOk result (λ text. text ≡ cube_view_text (instances_in columns.now) (cube_view_of view.now)) }
+    ensures reads { IfOk result (λ text.
+        records_of text ≡ records_of_cube_view (instances_in columns.now) (cube_view_of view.now)) }
+{
+    let instances = columns.instances(alloc)?;
+    text(alloc, &instances, view)
 }

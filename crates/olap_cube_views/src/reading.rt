@@ -13,7 +13,7 @@ ghost use Rattle.olap_cube_views.specs.CubeFactText.{cube_fact_fault, cube_fact_
 ghost use Rattle.olap_cube_views.specs.CubeTallies.{AreMembers};
 ghost use Rattle.olap_cube_views.specs.CubeRefusals.{IsCubeRefusedBy, IsToldAt};
 ghost use Rattle.olap_cube.specs.Limits.{most_dimensions};
-ghost use Rattle.olap_cube_views.specs.Dimensions.{AreMadeFor, graphs_of};
+ghost use Rattle.olap_cube_views.specs.Dimensions.{AreMadeFor, graphs_of, instances_of};
 ghost use Rattle.olap_cube_views.specs.Seen.{cube_fact_of, cube_facts_of, members_of};
 
 use crate::{CubeFact, CubeFacts, Legals};
@@ -72,21 +72,22 @@ fn member(graph: &Graph, instance: &Instance, field: &[u8]) -> Result<MemberId, 
 fn members(
     alloc: Global,
     graphs: &[&Graph],
-    legals: &Legals,
+    instances: &[&Instance],
     rows: &Rows,
     at: u64,
 ) -> Result<Vec<MemberId>, FactRefusal>
-    requires made { AreMadeFor (graphs_of graphs.now) legals.now }
-    requires width { length rows.now.row ≡ length legals.now + 1 }
+    requires made { AreMadeFor (graphs_of graphs.now) (instances_of instances.now) }
+    requires width { length rows.now.row ≡ length instances.now + 1 }
     ensures read { MatchResult result
-        (λ v. (members_fault (graphs_of graphs.now) legals.now rows.now.row ≡ None)
-        × (members_of v.items ≡ members_read legals.now rows.now.row))
-        (IsToldAt at (members_fault (graphs_of graphs.now) legals.now rows.now.row)) }
-    ensures bottom { IfOk result (λ v. IsBottomTuple (graphs_of graphs.now) legals.now (members_of v.items)) }
+        (λ v. (members_fault (graphs_of graphs.now) (instances_of instances.now) rows.now.row ≡ None)
+        × (members_of v.items ≡ members_read (instances_of instances.now) rows.now.row))
+        (IsToldAt at (members_fault (graphs_of graphs.now) (instances_of instances.now) rows.now.row)) }
+    ensures bottom { IfOk result (λ v.
+        IsBottomTuple (graphs_of graphs.now) (instances_of instances.now) (members_of v.items)) }
 {
     let mut members = Vec::new(alloc);
-    'dimensions: for k in 0..legals.len() {
-        match member(graphs[k], legals.legal(k).instance(), rows.field(k)) {
+    'dimensions: for k in 0..instances.len() {
+        match member(graphs[k], instances[k], rows.field(k)) {
             Ok(member) => members.push(member)?,
             Err(kind) => return Err(FactRefusal::Fault { at, kind }),
         }
@@ -98,29 +99,31 @@ fn members(
 pub(crate) fn fact(
     alloc: Global,
     graphs: &[&Graph],
-    legals: &Legals,
+    instances: &[&Instance],
     rows: &Rows,
     before: u64,
 ) -> Result<CubeFact, FactRefusal>
-    requires made { AreMadeFor (graphs_of graphs.now) legals.now }
+    requires made { AreMadeFor (graphs_of graphs.now) (instances_of instances.now) }
     requires before { before ≤ most_listed_facts }
     ensures fact { (earlier : Items (Items (Items ℕ))) → length earlier ≡ before
         → MatchResult result
-        (λ f. (cube_fact_fault (graphs_of graphs.now) legals.now earlier rows.now.row ≡ None)
-        × (cube_fact_of f ≡ cube_fact_read legals.now rows.now.row))
-        (IsToldAt (before + 2) (cube_fact_fault (graphs_of graphs.now) legals.now earlier rows.now.row)) }
-    ensures bottom { IfOk result (λ f. IsBottomTuple (graphs_of graphs.now) legals.now (members_of f.members)) }
+        (λ f. (cube_fact_fault (graphs_of graphs.now) (instances_of instances.now) earlier rows.now.row ≡ None)
+        × (cube_fact_of f ≡ cube_fact_read (instances_of instances.now) rows.now.row))
+        (IsToldAt (before + 2)
+        (cube_fact_fault (graphs_of graphs.now) (instances_of instances.now) earlier rows.now.row)) }
+    ensures bottom { IfOk result (λ f.
+        IsBottomTuple (graphs_of graphs.now) (instances_of instances.now) (members_of f.members)) }
     ensures few { IfOk result (λ f. before < most_listed_facts) }
 {
     let at = before + 2;
-    let dimensions = legals.len();
+    let dimensions = instances.len();
     if rows.len() != dimensions + 1 {
         return Err(FactRefusal::Fault {
             at,
             kind: FactKind::FieldCount,
         });
     }
-    let members = members(alloc, graphs, legals, rows, at)?;
+    let members = members(alloc, graphs, instances, rows, at)?;
     let Some(value) = value(rows.field(dimensions)) else {
         return Err(FactRefusal::Fault {
             at,
@@ -143,24 +146,59 @@ pub(crate) fn fact(
 fn read_rows(
     alloc: Global,
     graphs: &[&Graph],
-    legals: &Legals,
+    instances: &[&Instance],
     rows: &mut Rows,
 ) -> Result<Vec<CubeFact>, FactRefusal>
-    requires made { AreMadeFor (graphs_of graphs.now) legals.now }
+    requires made { AreMadeFor (graphs_of graphs.now) (instances_of instances.now) }
     ensures facts { MatchResult result
-        (λ v. (first_fault (cube_fact_fault (graphs_of graphs.now) legals.now) [] rows.old.left ≡ None)
-        × (map cube_fact_of v.items ≡ map (cube_fact_read legals.now) rows.old.left))
-        (IsFaultCause (first_fault (cube_fact_fault (graphs_of graphs.now) legals.now) [] rows.old.left)) }
+        (λ v. (first_fault (cube_fact_fault (graphs_of graphs.now) (instances_of instances.now)) [] rows.old.left
+        ≡ None)
+        × (map cube_fact_of v.items ≡ map (cube_fact_read (instances_of instances.now)) rows.old.left))
+        (IsFaultCause
+        (first_fault (cube_fact_fault (graphs_of graphs.now) (instances_of instances.now)) [] rows.old.left)) }
     ensures table { IfOk result
-        (λ v. IsCubeFactTable (graphs_of graphs.now) legals.now (map cube_fact_of v.items)) }
+        (λ v. IsCubeFactTable (graphs_of graphs.now) (instances_of instances.now) (map cube_fact_of v.items)) }
     ensures few { IfOk result (λ v. length v.items ≤ most_listed_facts) }
 {
     let mut facts = Vec::new(alloc);
     'rows: while rows.advance()? {
-        let fact = fact(alloc, graphs, legals, rows, facts.len() as u64)?;
+        let fact = fact(alloc, graphs, instances, rows, facts.len() as u64)?;
         facts.push(fact)?;
     }
     Ok(facts)
+}
+
+/// The fact table that a text tells on these instances, or the text's first fault.
+fn read(
+    alloc: Global,
+    graphs: &[&Graph],
+    instances: &[&Instance],
+    text: &[u8],
+) -> Result<CubeFacts, FactRefusal>
+    requires few { length instances.now ≤ most_dimensions }
+    requires made { AreMadeFor (graphs_of graphs.now) (instances_of instances.now) }
+    ensures read { MatchResult result
+        (λ f. cube_facts_read (graphs_of graphs.now) (instances_of instances.now) (records_of text.now)
+        ≡ Ok (cube_facts_of f))
+        (λ e. IsCubeRefusedBy e
+        (cube_facts_read (graphs_of graphs.now) (instances_of instances.now) (records_of text.now))) }
+    ensures members { IfOk result
+        (λ f. All (λ q. AreMembers (instances_of instances.now) (members_of q.members)) f.rows) }
+    ensures few { IfOk result (λ f. length f.rows ≤ most_listed_facts) }
+    ensures table { IfOk result
+        (λ f. IsCubeFactTable (graphs_of graphs.now) (instances_of instances.now) (cube_facts_of f)) }
+{
+    let mut rows = Rows::new(alloc, text);
+    if !begins(&mut rows, instances.len())? {
+        return Err(FactRefusal::Fault {
+            at: 1,
+            kind: FactKind::BadHeader,
+        });
+    }
+    let facts = read_rows(alloc, graphs, instances, &mut rows)?;
+    Ok(CubeFacts {
+        rows: List::from_vec(facts),
+    })
 }
 
 /// The fact table that a text tells, or the text's first fault. The graphs are those of the dimensions, in order. Each
@@ -184,15 +222,6 @@ pub fn read_cube_facts(
     ensures few { IfOk result (λ f. length f.rows ≤ most_listed_facts) }
     ensures table { IfOk result (λ f. IsCubeFactTable (graphs_of graphs.now) legals.now (cube_facts_of f)) }
 {
-    let mut rows = Rows::new(alloc, text);
-    if !begins(&mut rows, legals.len())? {
-        return Err(FactRefusal::Fault {
-            at: 1,
-            kind: FactKind::BadHeader,
-        });
-    }
-    let facts = read_rows(alloc, graphs, legals, &mut rows)?;
-    Ok(CubeFacts {
-        rows: List::from_vec(facts),
-    })
+    let instances = legals.instances(alloc)?;
+    read(alloc, graphs, &instances, text)
 }

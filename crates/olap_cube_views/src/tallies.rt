@@ -7,8 +7,9 @@ ghost use Rattle.olap_base.specs.Summaries.{of_value, ◌⊕◌};
 ghost use Rattle.olap_cube.specs.CubeViews.{CubeFact as TheFact, cube_direct_rows};
 ghost use Rattle.olap_view.specs.Bounds.{IsUpTo};
 ghost use Rattle.olap_view.specs.Seen.{ids, summary_of};
-ghost use Rattle.olap_cube_views.specs.CubeTallies.{AreMembers, CubeStandsFor, IsTupleAncestor, ReachesNone, categories_in, entries_of, instances_in, is_key, key_cmp, key_of, row_of_entry, summary_at, tallied};
+ghost use Rattle.olap_cube_views.specs.CubeTallies.{AreMembers, CubeStandsFor, IsTupleAncestor, ReachesNone, entries_of, is_key, key_cmp, key_of, row_of_entry, summary_at, tallied};
 ghost use Rattle.olap_cube.specs.Limits.{most_dimensions};
+ghost use Rattle.olap_cube_views.specs.Dimensions.{categories_in, instances_in};
 ghost use Rattle.olap_cube_views.specs.Seen.{cube_fact_of, cube_row_of, cube_rows_of, fact_at, members_of};
 
 use crate::{CubeFact, CubeRow, Legals};
@@ -42,8 +43,8 @@ impl<'a> Model for CubeTally<'a> {
     ghost invariant = { λ a. IsCubeTally (tallied a.columns.items a.summaries.entries a.added) };
 }
 
-/// For each dimension the column of the target's category.
-fn columns<'a>(
+/// For each dimension the column of the target's category. It takes four bytes for each member of the instances.
+pub(crate) fn columns<'a>(
     alloc: Global,
     legals: &'a Legals,
     target: &[CatId],
@@ -163,22 +164,18 @@ fn rows(
 }
 
 impl<'a> CubeTally<'a> {
-    /// A tally to which no fact was added. It takes four bytes for each member of the instances.
-    pub(crate) fn new(
-        alloc: Global,
-        legals: &'a Legals,
-        target: &[CatId],
-    ) -> Result<CubeTally<'a>, Memory>
-        requires { length target.now ≡ length legals.now }
-        ensures instances { IfOk result (λ t. t.instances ≡ legals.now) }
-        ensures target { IfOk result (λ t. t.target ≡ ids target.now) }
-        ensures stands { IfOk result (λ t. CubeStandsFor t []) }
+    /// A tally over these columns, to which no fact was added.
+    pub(crate) fn new(alloc: Global, columns: Vec<Column<'a>>) -> CubeTally<'a>
+        requires few { length columns.items ≤ most_dimensions }
+        ensures instances { result.instances ≡ instances_in columns.entry.items }
+        ensures target { result.target ≡ categories_in columns.entry.items }
+        ensures stands { CubeStandsFor result [] }
     {
-        Ok(CubeTally {
-            columns: columns(alloc, legals, target)?,
+        CubeTally {
+            columns,
             summaries: BTreeMap::new(alloc),
             added: 0,
-        })
+        }
     }
 
     /// How many facts were added.

@@ -1,6 +1,7 @@
 // The direct view of a cube's target, from facts or from a text of them.
 ghost use Rattle.std.specs.Prelude.{◌≡◌, ◌≤◌, All, IfErr, IfOk, MatchResult, [], length, map};
 ghost use Rattle.olap_base.specs.Limits.{most_count, most_listed_facts};
+ghost use Rattle.olap_cube.specs.Limits.{most_dimensions};
 ghost use Rattle.olap_cube.specs.CubeViews.{CubeFact as TheFact, cube_direct_rows, cube_direct_view};
 ghost use Rattle.olap_facts.specs.Refusals.{IsFaultCause};
 ghost use Rattle.olap_records.specs.Faults.{first_fault};
@@ -10,15 +11,16 @@ ghost use Rattle.olap_cube_views.specs.CubeFactText.{cube_fact_fault, cube_fact_
 ghost use Rattle.olap_cube_views.specs.CubeRefusals.{IsCubeRefusedBy};
 ghost use Rattle.olap_cube_views.specs.CubeRollingUp.{IsCubeRolledUp};
 ghost use Rattle.olap_cube_views.specs.CubeTallies.{AreMembers, CubeStandsFor};
-ghost use Rattle.olap_cube_views.specs.Dimensions.{AreMadeFor, graphs_of};
+ghost use Rattle.olap_cube_views.specs.Dimensions.{AreMadeFor, categories_in, graphs_of, instances_in, instances_of};
 ghost use Rattle.olap_cube_views.specs.Seen.{cube_facts_of, cube_rows_of, cube_view_of, members_of};
 
 use crate::reading::{begins, fact};
-use crate::tallies::CubeTally;
-use crate::{CubeFacts, CubeRow, CubeView, Legals};
+use crate::tallies::{CubeTally, columns};
+use crate::{CubeFacts, CubeRow, CubeView, Legals, TargetColumns};
 use olap_base::{CatId, List, Memory};
 use olap_facts::{FactKind, FactRefusal};
 use olap_graph::Graph;
+use olap_instance::Instance;
 use olap_records::Rows;
 use std::alloc::Global;
 
@@ -55,7 +57,7 @@ pub fn cube_direct(
         (λ v. cube_view_of v ≡ cube_direct_view legals.now (cube_facts_of facts.now) (ids target.now)) }
     ensures members { IfOk result (λ v. All (λ r. AreMembers legals.now (members_of r.members)) v.rows) }
 {
-    let mut tally = CubeTally::new(alloc, legals, target)?;
+    let mut tally = CubeTally::new(alloc, columns(alloc, legals, target)?);
     'facts: for fact in facts.rows.items() {
         tally.add(fact)?;
     }
@@ -67,57 +69,85 @@ pub fn cube_direct(
 fn add_rows(
     alloc: Global,
     graphs: &[&Graph],
-    legals: &Legals,
+    instances: &[&Instance],
     rows: &mut Rows,
     tally: &mut CubeTally,
 ) -> Result<(), FactRefusal>
-    requires made { AreMadeFor (graphs_of graphs.now) legals.now }
-    requires instances { tally.old.instances ≡ legals.now }
+    requires made { AreMadeFor (graphs_of graphs.now) (instances_of instances.now) }
+    requires instances { tally.old.instances ≡ instances_of instances.now }
     requires start { CubeStandsFor tally.old [] }
     ensures facts { MatchResult result
-        (λ u. (first_fault (cube_fact_fault (graphs_of graphs.now) legals.now) [] rows.old.left ≡ None)
-        × CubeStandsFor tally.new (map (cube_fact_read legals.now) rows.old.left))
-        (IsFaultCause (first_fault (cube_fact_fault (graphs_of graphs.now) legals.now) [] rows.old.left)) }
-    ensures instances { tally.new.instances ≡ legals.now }
+        (λ u. (first_fault (cube_fact_fault (graphs_of graphs.now) (instances_of instances.now)) [] rows.old.left
+        ≡ None)
+        × CubeStandsFor tally.new (map (cube_fact_read (instances_of instances.now)) rows.old.left))
+        (IsFaultCause
+        (first_fault (cube_fact_fault (graphs_of graphs.now) (instances_of instances.now)) [] rows.old.left)) }
+    ensures instances { tally.new.instances ≡ instances_of instances.now }
     ensures target { tally.new.target ≡ tally.old.target }
 {
     'rows: while rows.advance()? {
-        let fact = fact(alloc, graphs, legals, rows, tally.added())?;
+        let fact = fact(alloc, graphs, instances, rows, tally.added())?;
         tally.add(&fact)?;
     }
     Ok(())
 }
 
-/// The direct view of a target from a text of facts, or the text's first fault, which is that of `read_cube_facts`. The
-/// graphs are those of the dimensions, in order.
-///
-/// Each fact is read once and added, and no list of facts is kept. `Memory`: want of memory.
-pub fn cube_roll_up(
+/// The direct view of a target from a text of facts, or the text's first fault. The tally, of this target, is empty.
+fn rolled_up(
     alloc: Global,
     graphs: &[&Graph],
-    legals: &Legals,
-    text: &[u8],
+    instances: &[&Instance],
     target: &[CatId],
+    mut tally: CubeTally,
+    text: &[u8],
 ) -> Result<CubeView, FactRefusal>
-    requires made { AreMadeFor (graphs_of graphs.now) legals.now }
-    requires target { length target.now ≡ length legals.now }
-
-    ensures view { IfOk result (λ v. IsCubeRolledUp (graphs_of graphs.now) legals.now (records_of text.now)
-        (ids target.now) (cube_view_of v)) }
-    ensures members { IfOk result (λ v. All (λ r. AreMembers legals.now (members_of r.members)) v.rows) }
-
-    ensures err { IfErr result (λ e.
-        IsCubeRefusedBy e (cube_facts_read (graphs_of graphs.now) legals.now (records_of text.now))) }
+    requires few { length instances.now ≤ most_dimensions }
+    requires made { AreMadeFor (graphs_of graphs.now) (instances_of instances.now) }
+    requires instances { tally.instances ≡ instances_of instances.now }
+    requires target { tally.target ≡ ids target.now }
+    requires start { CubeStandsFor tally [] }
+    ensures view { IfOk result (λ v. IsCubeRolledUp (graphs_of graphs.now) (instances_of instances.now)
+        (records_of text.now) (ids target.now) (cube_view_of v)) }
+    ensures members { IfOk result (λ v.
+        All (λ r. AreMembers (instances_of instances.now) (members_of r.members)) v.rows) }
+    ensures err { IfErr result (λ e. IsCubeRefusedBy e
+        (cube_facts_read (graphs_of graphs.now) (instances_of instances.now) (records_of text.now))) }
 {
     let mut rows = Rows::new(alloc, text);
-    if !begins(&mut rows, legals.len())? {
+    if !begins(&mut rows, instances.len())? {
         return Err(FactRefusal::Fault {
             at: 1,
             kind: FactKind::BadHeader,
         });
     }
-    let mut tally = CubeTally::new(alloc, legals, target)?;
-    add_rows(alloc, graphs, legals, &mut rows, &mut tally)?;
+    add_rows(alloc, graphs, instances, &mut rows, &mut tally)?;
     let rows = tally.rows(alloc)?;
     Ok(view(alloc, target, rows)?)
+}
+
+/// The direct view of the columns' categories from a text of facts, or the text's first fault, which is that of
+/// `read_cube_facts`. The graphs are those of the dimensions, in order.
+///
+/// Each fact is read once and added, and no list of facts is kept. It takes memory for each row. `Memory`: want of
+/// memory.
+pub fn cube_roll_up(
+    alloc: Global,
+    graphs: &[&Graph],
+    columns: &TargetColumns,
+    text: &[u8],
+) -> Result<CubeView, FactRefusal>
+    requires made { AreMadeFor (graphs_of graphs.now) (instances_in columns.now) }
+
+    ensures view { IfOk result (λ v. IsCubeRolledUp (graphs_of graphs.now) (instances_in columns.now)
+        (records_of text.now) (categories_in columns.now) (cube_view_of v)) }
+    ensures members { IfOk result (λ v.
+        All (λ r. AreMembers (instances_in columns.now) (members_of r.members)) v.rows) }
+
+    ensures err { IfErr result (λ e.
+        IsCubeRefusedBy e (cube_facts_read (graphs_of graphs.now) (instances_in columns.now) (records_of text.now))) }
+{
+    let instances = columns.instances(alloc)?;
+    let target = columns.target(alloc)?;
+    let tally = CubeTally::new(alloc, columns.lent(alloc)?);
+    rolled_up(alloc, graphs, &instances, &target, tally, text)
 }

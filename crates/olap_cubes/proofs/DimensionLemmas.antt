@@ -3,10 +3,11 @@
 --     schemas_end, legals_end     no file is left
 --     made_more, made_all         instances that were made for the graphs of so many dimensions
 --     file_is                     the bytes of a file's name
---     target_fits                 there are as many categories as instances
+--     target_fits                 there are as many categories as dimensions
+--     ids_more                    the numbers of one category more
 use Rattle.std.proofs.Common.{◌≡◌, ◌+◌, ◌<◌, ◌≤◌, ℕ, zero, suc, List, [], ◌∷◌, ◌++◌, length, get_or, drop, take, ap, refl, subst, sym, arith, ◌∙◌}
 use Rattle.std.specs.Prelude.{codes}
-use Rattle.std.proofs.lemmas.List.{drop_all, drop_more, get_or-map, length-map, take_all}
+use Rattle.std.proofs.lemmas.List.{drop_all, drop_more, get_or-map, length-map, map-append, take_all, take_more}
 use Rattle.std.specs.String.{string_bytes}
 use Rattle.std.specs.declared.string.String.{String}
 use Rattle.std.specs.declared.alloc.Global.{Global}
@@ -23,6 +24,7 @@ use Rattle.olap_order.specs.Steps.{schema_file}
 use Rattle.olap_ast.specs.Trees.{numbers_of}
 use Rattle.olap_order.specs.Words.{texts}
 use Rattle.olap_reading.specs.Steps.{legal_file}
+use Rattle.olap_view.specs.Seen.{ids}
 use Rattle.olap_cubes.specs.Steps.{legal_files, numbered, schema_files}
 
 -- the bytes of a file's name
@@ -87,12 +89,17 @@ made_all schemas k is h a =
     let few : length (graphs_of schemas) ≤ k = omega (arith, length-map schemas (λ (s : Schema). s.graph)) in
     subst (λ (gs : List Graph). AreMadeFor gs is) (take_all k (graphs_of schemas) few) a
 
--- a target has as many categories as there are instances
-pub target_fits : (schemas : List Schema) (target : List CatId) (is : List Instance)
-    → AreCategoriesOf schemas (numbers_of target) → AreMadeFor (graphs_of schemas) is → length target ≡ length is
-target_fits [] [] [] a m = refl
-target_fits [] [] (i ∷ is) a m = absurd m
-target_fits [] (c ∷ target) is a m = absurd a
-target_fits (s ∷ schemas) [] is a m = absurd a
-target_fits (s ∷ schemas) (c ∷ target) [] a m = absurd m
-target_fits (s ∷ schemas) (c ∷ target) (i ∷ is) a m = ap suc (target_fits schemas target is a.1 m.1)
+-- a target has as many categories as there are dimensions
+pub target_fits : (schemas : List Schema) (target : List CatId) → AreCategoriesOf schemas (numbers_of target)
+    → length target ≡ length schemas
+target_fits [] [] a = refl
+target_fits [] (c ∷ target) a = absurd a
+target_fits (s ∷ schemas) [] a = absurd a
+target_fits (s ∷ schemas) (c ∷ target) a = ap suc (target_fits schemas target a.1)
+
+-- the numbers of one category more
+pub ids_more : (target : List CatId) (k : ℕ) (c : CatId) → k < length target → c ≡ get_or target k c
+    → ids (take (k + 1) target) ≡ ids (take k target) ++ c.0 ∷ []
+ids_more target k c h e =
+    ap ids (take_more target k c h) ∙ map-append (λ (d : CatId). d.0) (take k target) (get_or target k c ∷ [])
+    ∙ ap (λ (d : CatId). ids (take k target) ++ d.0 ∷ []) (sym e)

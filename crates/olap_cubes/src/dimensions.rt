@@ -3,23 +3,25 @@ ghost use Rattle.std.specs.Prelude.{◌≡◌, ◌≤◌, [], IfOk, codes, lengt
 ghost use Rattle.std.specs.String.{string_bytes};
 ghost use Rattle.olap_cube.specs.CubeSummarizable.{graphs_of};
 ghost use Rattle.olap_cube.specs.Limits.{most_dimensions};
-ghost use Rattle.olap_cube_views.specs.Dimensions.{AreMadeFor};
+ghost use Rattle.olap_cube_views.specs.Dimensions.{AreMadeFor, categories_in, instances_in};
 ghost use Rattle.olap_dimensions.specs.Dimensions.{schemas_of};
 ghost use Rattle.olap_instance.specs.Made.{IsMadeFor};
 ghost use Rattle.olap_schema.specs.Schemas.{schema_of};
+ghost use Rattle.olap_view.specs.Seen.{ids};
 ghost use Rattle.olap_order.specs.Steps.{schema_file};
 ghost use Rattle.olap_order.specs.Taken.{FileStep};
 ghost use Rattle.olap_order.specs.Words.{texts};
 ghost use Rattle.olap_reading.specs.Steps.{legal_file};
 ghost use Rattle.olap_cubes.specs.Steps.{legal_files, numbered, schema_files};
 
-use olap_base::Library;
+use olap_base::{CatId, Library};
 use olap_check::Legal;
-use olap_cube_views::Legals;
+use olap_cube_views::TargetColumns;
 use olap_dimensions::Cube;
 use olap_order::{Stop, schema_in};
 use olap_reading::legal_in;
 use olap_schema::Schema;
+use olap_view::OwnedColumn;
 use std::alloc::{AllocError, Global};
 
 /// The label of the file of a dimension.
@@ -81,25 +83,52 @@ fn dimension_legal<L: Library>(
     legal_in(alloc, schema, label.as_str(), file, lib)
 }
 
-/// The legal instances in files, one of each dimension's schema.
-pub(crate) fn legals_in<L: Library>(
+/// The column of a category in the legal instance of a dimension. The instance's table of ancestors is given back.
+fn dimension_column<L: Library>(
+    alloc: Global,
+    dimension: usize,
+    schema: &Schema,
+    category: CatId,
+    file: &str,
+    lib: &mut L,
+) -> Result<OwnedColumn, Stop>
+    ensures step { FileStep L.Library lib.old lib.new
+        (legal_file (schema_of schema.now) (numbered (codes "instance") dimension) file.now) (λ a. a.instance) result }
+    ensures made { IfOk result (λ a. IsMadeFor (schema_of schema.now).graph a.instance) }
+    ensures category { IfOk result (λ a. a.category ≡ category.0) }
+{
+    let legal = dimension_legal(alloc, dimension, schema, file, lib)?;
+    match OwnedColumn::new(alloc, legal, category) {
+        Ok(column) => Ok(column),
+        Err(_) => Err(Stop::Memory),
+    }
+}
+
+/// The columns of the target's categories in the legal instances in files, one of each dimension's schema. Of no more
+/// than one instance there is a table of ancestors at a time.
+pub(crate) fn columns_in<L: Library>(
     alloc: Global,
     cube: &Cube,
+    target: &[CatId],
     files: &[String],
     lib: &mut L,
-) -> Result<Legals, Stop>
+) -> Result<TargetColumns, Stop>
     requires each { length files.now ≡ length (schemas_of cube.now) }
+    requires target { length target.now ≡ length (schemas_of cube.now) }
     ensures step { FileStep L.Library lib.old lib.new
-        (legal_files 1 [] (schemas_of cube.now) (texts files.now)) (λ is. is) result }
-    ensures made { IfOk result (λ is. AreMadeFor (graphs_of (schemas_of cube.now)) is) }
+        (legal_files 1 [] (schemas_of cube.now) (texts files.now)) instances_in result }
+    ensures made { IfOk result (λ columns. AreMadeFor (graphs_of (schemas_of cube.now)) (instances_in columns)) }
+    ensures categories { IfOk result (λ columns. categories_in columns ≡ ids target.now) }
 {
-    let mut legals = Legals::new(alloc);
+    let mut columns = TargetColumns::new(alloc);
     'files: for k in 0..cube.len() {
-        let legal = dimension_legal(alloc, k + 1, cube.schema(k), files[k].as_str(), lib)?;
-        match legals.push(legal) {
+        let schema = cube.schema(k);
+        let file = files[k].as_str();
+        let column = dimension_column(alloc, k + 1, schema, target[k], file, lib)?;
+        match columns.push(column) {
             Ok(()) => {}
             Err(_) => return Err(Stop::Memory),
         }
     }
-    Ok(legals)
+    Ok(columns)
 }

@@ -7,11 +7,10 @@ ghost use Rattle.olap_cube_views.specs.CubeRefusals.{IsCubeRefusedBy};
 ghost use Rattle.olap_cube_views.specs.CubeRollingUp.{IsCubeRolledUp};
 ghost use Rattle.olap_cube_views.specs.CubeTallies.{AreMembers};
 ghost use Rattle.olap_cube_views.specs.CubeViewText.{cube_view_text};
-ghost use Rattle.olap_cube_views.specs.Dimensions.{AreMadeFor, graphs_of as graphs_at};
+ghost use Rattle.olap_cube_views.specs.Dimensions.{AreMadeFor, categories_in, graphs_of as graphs_at, instances_in};
 ghost use Rattle.olap_cube_views.specs.Seen.{cube_view_of, members_of};
 ghost use Rattle.olap_dimensions.specs.Dimensions.{schemas_of};
 ghost use Rattle.olap_records.specs.Records.{records_of};
-ghost use Rattle.olap_view.specs.Seen.{ids};
 ghost use Rattle.olap_order.specs.Judged.{Judged};
 ghost use Rattle.olap_order.specs.Order.{Told, and_then};
 ghost use Rattle.olap_order.specs.Taken.{FileStep};
@@ -22,10 +21,10 @@ ghost use Rattle.olap_cubes.specs.Questions.{IsAnswer};
 ghost use Rattle.olap_cubes.specs.Seen.{AreDimensions};
 ghost use Rattle.olap_cubes.specs.Steps.{cube_facts_file};
 
-use crate::dimensions::{legals_in, schemas_in};
+use crate::dimensions::{columns_in, schemas_in};
 use crate::naming::tuple_at;
 use olap_base::{CatId, Library, Memory};
-use olap_cube_views::{CubeView, Legals, cube_roll_up, print_cube_view};
+use olap_cube_views::{CubeView, TargetColumns, cube_roll_up, print_rolled_up};
 use olap_dimensions::Cube;
 use olap_facts::FactRefusal;
 use olap_graph::Graph;
@@ -43,47 +42,44 @@ fn graphs(alloc: Global, cube: &Cube) -> Result<Vec<&Graph>, Memory>
     Ok(graphs)
 }
 
-/// The direct view of a target from the facts of a text, or the text's first fault.
+/// The direct view of the columns' categories from the facts of a text, or the text's first fault.
 fn rolled_up(
     alloc: Global,
     cube: &Cube,
-    legals: &Legals,
-    target: &[CatId],
+    columns: &TargetColumns,
     text: &[u8],
 ) -> Result<CubeView, FactRefusal>
-    requires made { AreMadeFor (graphs_of (schemas_of cube.now)) legals.now }
-    requires target { length target.now ≡ length legals.now }
-    ensures view { IfOk result (λ v. IsCubeRolledUp (graphs_of (schemas_of cube.now)) legals.now (records_of text.now)
-        (ids target.now) (cube_view_of v)) }
-    ensures members { IfOk result (λ v. All (λ r. AreMembers legals.now (members_of r.members)) v.rows) }
-    ensures err { IfErr result (λ e.
-        IsCubeRefusedBy e (cube_facts_read (graphs_of (schemas_of cube.now)) legals.now (records_of text.now))) }
+    requires made { AreMadeFor (graphs_of (schemas_of cube.now)) (instances_in columns.now) }
+    ensures view { IfOk result (λ v. IsCubeRolledUp (graphs_of (schemas_of cube.now)) (instances_in columns.now)
+        (records_of text.now) (categories_in columns.now) (cube_view_of v)) }
+    ensures members { IfOk result (λ v. All (λ r. AreMembers (instances_in columns.now) (members_of r.members)) v.rows) }
+    ensures err { IfErr result (λ e. IsCubeRefusedBy e
+        (cube_facts_read (graphs_of (schemas_of cube.now)) (instances_in columns.now) (records_of text.now))) }
 {
     let graphs = graphs(alloc, cube)?;
-    cube_roll_up(alloc, &graphs, legals, text, target)
+    cube_roll_up(alloc, &graphs, columns, text)
 }
 
-/// The direct view of a target from the facts in a file.
+/// The direct view of the columns' categories from the facts in a file.
 fn view_in<L: Library>(
     alloc: Global,
     cube: &Cube,
-    legals: &Legals,
-    target: &[CatId],
+    columns: &TargetColumns,
     file: &str,
     lib: &mut L,
 ) -> Result<CubeView, Stop>
-    requires made { AreMadeFor (graphs_of (schemas_of cube.now)) legals.now }
-    requires target { length target.now ≡ length legals.now }
+    requires made { AreMadeFor (graphs_of (schemas_of cube.now)) (instances_in columns.now) }
     ensures step { MatchResult result
-        (λ v. IsOfFacts L.Library lib.old lib.new (schemas_of cube.now) legals.now (ids target.now) file.now (cube_view_of v))
+        (λ v. IsOfFacts L.Library lib.old lib.new (schemas_of cube.now) (instances_in columns.now)
+        (categories_in columns.now) file.now (cube_view_of v))
         (λ stop. FileStep L.Library lib.old lib.new
-        (cube_facts_file (schemas_of cube.now) legals.now file.now) (λ facts. facts) (Err stop)) }
-    ensures members { IfOk result (λ v. All (λ r. AreMembers legals.now (members_of r.members)) v.rows) }
+        (cube_facts_file (schemas_of cube.now) (instances_in columns.now) file.now) (λ facts. facts) (Err stop)) }
+    ensures members { IfOk result (λ v. All (λ r. AreMembers (instances_in columns.now) (members_of r.members)) v.rows) }
 {
     let Some(text) = read_file(alloc, file, lib)? else {
         return Err(refuse_long(alloc, "facts"));
     };
-    match rolled_up(alloc, cube, legals, target, &text) {
+    match rolled_up(alloc, cube, columns, &text) {
         Ok(view) => Ok(view),
         Err(FactRefusal::Memory) => Err(Stop::Memory),
         Err(FactRefusal::Fault { at, kind }) => Err(refuse_part(
@@ -96,23 +92,22 @@ fn view_in<L: Library>(
     }
 }
 
-/// The text of the direct view of a target from the facts in a file.
+/// The text of the direct view of the columns' categories from the facts in a file.
 fn told<L: Library>(
     alloc: Global,
     cube: &Cube,
-    legals: &Legals,
-    target: &[CatId],
+    columns: &TargetColumns,
     file: &str,
     lib: &mut L,
 ) -> Result<Reply, Stop>
-    requires made { AreMadeFor (graphs_of (schemas_of cube.now)) legals.now }
-    requires target { length target.now ≡ length legals.now }
+    requires made { AreMadeFor (graphs_of (schemas_of cube.now)) (instances_in columns.now) }
     ensures judged { Judged IsAnswer L.Library lib.old lib.new
-        (and_then (cube_facts_file (schemas_of cube.now) legals.now file.now) (λ table.
-        Told Status.Yes (cube_view_text legals.now (cube_direct_view legals.now table (ids target.now))))) result }
+        (and_then (cube_facts_file (schemas_of cube.now) (instances_in columns.now) file.now) (λ table.
+        Told Status.Yes (cube_view_text (instances_in columns.now)
+        (cube_direct_view (instances_in columns.now) table (categories_in columns.now))))) result }
 {
-    let view = view_in(alloc, cube, legals, target, file, lib)?;
-    let text = print_cube_view(alloc, legals, &view)?;
+    let view = view_in(alloc, cube, columns, file, lib)?;
+    let text = print_rolled_up(alloc, columns, &view)?;
     Ok(yes(text.into_bytes()))
 }
 
@@ -133,6 +128,6 @@ pub(crate) fn cubeview<L: Library>(
     let at = 2 * schemas.len() as u64 + 4;
     let cube = schemas_in(alloc, schemas, lib)?;
     let target = tuple_at(alloc, at, &cube, target)?;
-    let legals = legals_in(alloc, &cube, instances, lib)?;
-    told(alloc, &cube, &legals, &target, facts, lib)
+    let columns = columns_in(alloc, &cube, &target, instances, lib)?;
+    told(alloc, &cube, &columns, facts, lib)
 }

@@ -16,3 +16,4 @@ mod running;
 
 pub use generating::generate;
 pub use laws::an_input_is_made;
+pub use running::LOCATION;

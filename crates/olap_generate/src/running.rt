@@ -20,8 +20,8 @@ use olap_view::{
 };
 use std::alloc::Global;
 
-/// The text of the schema.
-const LOCATION: &[u8] = b"schema 1
+/// The text of the schema of what is made: stores in cities that lie in a state, a province or right below a country.
+pub const LOCATION: &[u8] = b"schema 1
 category Store
 category City
 category State

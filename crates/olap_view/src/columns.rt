@@ -3,12 +3,14 @@ ghost use Rattle.std.specs.Prelude.{◌≡◌, ◌<◌, ◌≤◌, length, IfOk,
 ghost use Rattle.olap_base.specs.Instance.{ReachesCategory};
 ghost use Rattle.olap_base.specs.Limits.{most_members};
 ghost use Rattle.olap_check.specs.Ancestors.{IsAncestor};
-ghost use Rattle.olap_view.specs.Columns.{AreColumns, Tells, ascent};
+ghost use Rattle.olap_view.specs.Columns.{AreColumns, IsTold, Tells, ascent};
 ghost use Rattle.olap_view.specs.Seen.{ids};
 
 use olap_base::{CatId, MemberId, Memory};
 use olap_check::Legal;
+use olap_instance::Instance;
 use std::alloc::Global;
+use std::borrow::CowSlice;
 use std::marker::Model;
 
 // No member's place.
@@ -17,21 +19,23 @@ const NOBODY: u32 = 0xFFFF_FFFF;
 /// For one category the member that each member of a legal instance reaches.
 #[derive(Drop)]
 pub struct Column<'a> {
-    legal: &'a Legal,
+    instance: &'a Instance,
     category: CatId,
     // For each member the place of the one that it reaches, or `NOBODY`.
-    cells: Vec<u32>,
+    cells: CowSlice<'a, u32>,
 }
 
 impl<'a> Model for Column<'a> {
     ghost use Rattle.olap_view.specs.Columns.{Ascent, IsTold, ascent};
+    ghost use Rattle.std.specs.Cow.{cow_slice_items};
     ghost use Rattle.std.specs.Prelude.{length};
 
     ghost Value = { Ascent };
 
-    ghost view = { λ a. ascent a.legal.now a.category.0 };
+    ghost view = { λ a. ascent a.instance.now a.category.0 };
 
-    ghost invariant = { λ a. IsTold a.legal.now a.category.0 (length a.legal.now) a.cells.items };
+    ghost invariant = { λ a.
+        IsTold a.instance.now a.category.0 (length a.instance.now) (cow_slice_items a.cells) };
 }
 
 /// The place of the member of the category that x reaches, or `NOBODY`.
@@ -46,21 +50,29 @@ fn cell(legal: &Legal, category: CatId, x: MemberId) -> u32
     }
 }
 
+/// The cells of all members.
+fn cells(alloc: Global, legal: &Legal, category: CatId) -> Result<Vec<u32>, Memory>
+    ensures { IfOk result (λ v. IsTold legal.now category.0 (length legal.now) v.items) }
+{
+    let members = legal.instance().members();
+    let mut cells = Vec::with_capacity(alloc, members as usize)?;
+    'members: for x in 0..members {
+        cells.push(cell(legal, category, MemberId(x)))?;
+    }
+    Ok(cells)
+}
+
 impl<'a> Column<'a> {
     /// The column of a category. It takes one look at the table of ancestors, and four bytes, for each member. `Memory`:
     /// want of memory.
     pub fn new(alloc: Global, legal: &'a Legal, category: CatId) -> Result<Column<'a>, Memory>
         ensures { IfOk result (λ a. a ≡ ascent legal.now category.0) }
     {
-        let members = legal.instance().members();
-        let mut cells = Vec::with_capacity(alloc, members as usize)?;
-        'members: for x in 0..members {
-            cells.push(cell(legal, category, MemberId(x)))?;
-        }
+        let cells = cells(alloc, legal, category)?;
         Ok(Column {
-            legal,
+            instance: legal.instance(),
             category,
-            cells,
+            cells: CowSlice::Owned(cells),
         })
     }
 
@@ -70,11 +82,71 @@ impl<'a> Column<'a> {
         ensures some { IfSome result (λ y. IsAncestor self.now.instance x.0 self.now.category y.0) }
         ensures none { IsNone result → ReachesCategory self.now.instance x.0 self.now.category → ⊥ }
     {
-        let cell = self.cells[x.0 as usize];
+        let cell = self.cells.as_slice()[x.0 as usize];
         if cell == NOBODY {
             None
         } else {
             Some(MemberId(cell))
+        }
+    }
+}
+
+/// A legal instance that keeps the column of one category, and no table of ancestors.
+#[derive(Drop)]
+pub struct OwnedColumn {
+    instance: Instance,
+    category: CatId,
+    // As in a `Column`.
+    cells: Vec<u32>,
+}
+
+impl Model for OwnedColumn {
+    ghost use Rattle.olap_view.specs.Columns.{Ascent, IsTold, ascent};
+    ghost use Rattle.std.specs.Prelude.{length};
+
+    ghost Value = { Ascent };
+
+    ghost view = { λ a. ascent a.instance a.category.0 };
+
+    ghost invariant = { λ a. IsTold a.instance a.category.0 (length a.instance) a.cells.items };
+}
+
+impl OwnedColumn {
+    /// The column of a category. It takes one look at the table of ancestors, and four bytes, for each member, and gives
+    /// the table's memory back. `Memory`: want of memory; the instance is dropped.
+    pub fn new(alloc: Global, legal: Legal, category: CatId) -> Result<OwnedColumn, Memory>
+        ensures { IfOk result (λ a. a ≡ ascent legal category.0) }
+    {
+        let cells = cells(alloc, &legal, category)?;
+        Ok(OwnedColumn {
+            instance: legal.into_instance(),
+            category,
+            cells,
+        })
+    }
+
+    /// The instance.
+    pub fn instance(&self) -> &Instance
+        ensures { result.now ≡ self.now.instance }
+    {
+        &self.instance
+    }
+
+    /// The category.
+    pub fn category(&self) -> CatId
+        ensures { result.0 ≡ self.now.category }
+    {
+        self.category
+    }
+
+    /// The column, lent. Nothing is copied.
+    pub fn column(&self) -> Column<'_>
+        ensures { result ≡ self.now }
+    {
+        Column {
+            instance: &self.instance,
+            category: self.category,
+            cells: CowSlice::Borrowed(&self.cells),
         }
     }
 }

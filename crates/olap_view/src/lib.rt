@@ -22,7 +22,7 @@ mod tallies;
 mod viewing;
 mod views;
 
-pub use columns::Column;
+pub use columns::{Column, OwnedColumn};
 pub use kinds::{StoreKind, StoreRefusal};
 pub use laws::{direct_views_are_read_back, printed_numbers_are_read, printed_stores_are_read};
 pub use printing::print_view;

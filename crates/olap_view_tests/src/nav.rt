@@ -6,11 +6,10 @@ ghost use Rattle.olap_schema.specs.Schemas.{schema_of};
 ghost use Rattle.olap_view.specs.Seen.{views_of};
 ghost use Rattle.olap_view.specs.Stores.{Fits, IsStore};
 
-use crate::reading::{
-    LOCATION, MEMBERS, MERIDA, ONTARIO, TORONTO, YUCATAN, legal, read, stored, view,
-};
+use crate::reading::{MEMBERS, MERIDA, ONTARIO, TORONTO, YUCATAN, legal, read, stored, view};
 use olap_base::{CatId, List, Text};
 use olap_check::Legal;
+use olap_generate::LOCATION;
 use olap_instance::read_instance;
 use olap_nav::{PlanRefusal, answer, plan};
 use olap_schema::Schema;

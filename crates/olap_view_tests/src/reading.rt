@@ -21,31 +21,6 @@ pub(crate) const CHAIN: &str =
 pub(crate) const STORES: &str =
     "id,category,name,parents\na,Store,a,c1\nb,Store,b,c1\nc1,City,c1,all\n";
 
-pub(crate) const LOCATION: &[u8] = b"schema 1
-category Store
-category City
-category State
-category Province
-category Region
-category Country
-edge Store City
-edge City State
-edge City Province
-edge City Country
-edge State Region
-edge State Country
-edge Province Region
-edge Region Country
-edge Country All
-constraint City: City_Country <-> City = \"Washington\"
-constraint City: one(City_State, City_Province, City_Country)
-constraint City: City = \"Washington\" -> City.Country = \"USA\"
-constraint State: State.Country = \"USA\" | State.Country = \"Mexico\"
-constraint State: State_Region <-> State.Country = \"Mexico\"
-constraint State: State_Region ^ State_Country
-constraint Province: Province.Country = \"Canada\"
-";
-
 pub(crate) const MEMBERS: &[u8] = b"id,category,name,parents
 s1,Store,S1,w
 s2,Store,S2,to

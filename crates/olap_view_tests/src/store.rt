@@ -1,6 +1,7 @@
 // The text of stored views, read with its faults and printed again.
-use crate::reading::{LOCATION, MEMBERS, read};
+use crate::reading::{MEMBERS, read};
 use olap_base::Text;
+use olap_generate::LOCATION;
 use olap_instance::read_instance;
 use olap_view::{StoreKind, StoreRefusal, print_store, read_store};
 use std::alloc::Global;

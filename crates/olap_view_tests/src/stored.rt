@@ -3,9 +3,10 @@ ghost use Rattle.std.specs.Prelude.{◌<◌, ◌^◌, All, length};
 ghost use Rattle.olap_view.specs.Seen.{views_of};
 ghost use Rattle.olap_view.specs.Stores.{Fits, IsStore};
 
-use crate::reading::{LOCATION, MEMBERS, legal, read, stored};
+use crate::reading::{MEMBERS, legal, read, stored};
 use olap_base::{CatId, Text};
 use olap_check::Legal;
+use olap_generate::LOCATION;
 use olap_instance::read_instance;
 use olap_view::{Store, from_views, print_view};
 use std::alloc::Global;

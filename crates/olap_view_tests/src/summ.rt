@@ -4,9 +4,9 @@ ghost use Rattle.olap_base.specs.Graph.{IsCategory};
 ghost use Rattle.olap_schema.specs.Schemas.{schema_of};
 ghost use Rattle.olap_ast.specs.Trees.{numbers_of};
 
-use crate::reading::LOCATION;
 use olap_base::{CatId, EdgeId};
 use olap_frozen::Frozen;
+use olap_generate::LOCATION;
 use olap_schema::{Schema, read_schema};
 use olap_summ::{Decision, Finding, Questions, audit};
 use std::alloc::Global;

@@ -2,6 +2,7 @@
 use Rattle.std.proofs.Common.{◌++◌, ap, length, ◌∙◌}
 use Rattle.olap_records.specs.Texts.{text_of_row}
 use Rattle.olap_cube_views.specs.CubeViewText.{fields_in, header}
+use Rattle.olap_cube_views.specs.Dimensions.{instances_of}
 use Rattle.olap_cube_views.specs.Seen.{cube_row_of}
 use Rattle.olap_cube_views.specs.declared.views.CubeRow as told
 use Rattle.olap_cube_views.proofs.CubePrintingLemmas.{cube_view_more}
@@ -9,7 +10,7 @@ use Rattle.olap_cube_views.proofs.printing.print.Goals as goal
 
 pub rows-preserved : goal.rows-preserved
 rows-preserved c =
-    let is = c.args.legals.now in
+    let is = instances_of c.args.instances.now in
     let out = c.rows.out.text in
     record {
       text = cube_view_more (header (length is)) (fields_in is) c.items-row-items.result.now c.rows.row-index

@@ -7,9 +7,11 @@ use Rattle.olap_base.specs.Instance.{Instance, member_at}
 use Rattle.olap_base.specs.declared.ids.MemberId.{MemberId}
 use Rattle.olap_records.specs.Texts.{text_of_row}
 use Rattle.olap_cube_views.specs.CubeViewText.{ids_in}
+use Rattle.olap_cube_views.specs.Dimensions.{instances_of}
 use Rattle.olap_cube_views.specs.Seen.{members_of}
 use Rattle.olap_cube_views.proofs.AncestorLemmas.{members_length}
 use Rattle.olap_cube_views.proofs.CubePrintingLemmas.{four_more, four_same, ids_end, ids_more, is_inside, members_from}
+use Rattle.olap_cube_views.proofs.ReferenceLemmas.{pointed_at}
 use Rattle.olap_cube_views.proofs.printing.print_row.Goals as goal
 
 nobody : MemberId
@@ -17,7 +19,8 @@ nobody = record { 0 = 0 }
 
 pub bounds-items-k : goal.bounds-items-k
 bounds-items-k c =
-    let n = members_length c.args.legals.now (members_of c.args.row.now.members) c.requires.members in
+    let n = members_length (instances_of c.args.instances.now) (members_of c.args.row.now.members) c.requires.members in
+    let m = length-map c.args.instances.now (λ (i : Bor Instance). i.now) in
     let l = length-map c.args.row.now.members (λ (m : MemberId). m.0) in
     let e = ap length c.items.ensures in
     omega arith
@@ -25,33 +28,37 @@ bounds-items-k c =
 pub id-requires : goal.id-requires
 unfolding nobody
 id-requires c =
-    let is = c.args.legals.now in
+    let is = instances_of c.args.instances.now in
     let ms = c.args.row.now.members in
     let k = c.ids.k in
     let n = members_length is (members_of ms) c.requires.members in
+    let m = length-map c.args.instances.now (λ (i : Bor Instance). i.now) in
     let l = length-map ms (λ (m : MemberId). m.0) in
     let here : k < length is = omega arith in
     let there : k < length ms = omega arith in
-    subst (λ (xs : List MemberId). (get_or xs k nobody).0 < length c.instance.result.now) (sym c.items.ensures)
-    (subst (λ (i : Instance). (get_or ms k nobody).0 < length i) (sym (c.instance.ensures ∙ c.legal.ensures))
+    let at = pointed_at c.args.instances.now k c.index-instances-k.result [] (omega arith) c.index-instances-k.is in
+    subst (λ (xs : List MemberId). (get_or xs k nobody).0 < length c.index-instances-k.result.now) (sym c.items.ensures)
+    (subst (λ (i : Instance). (get_or ms k nobody).0 < length i) (sym at)
     (is_inside is (members_of ms) k _ c.ids.invariant (get_or is k []) (get_or ms k nobody).0 (drop_more is k [] here)
     (members_from ms k nobody there)))
 
 pub ids-preserved : goal.ids-preserved
 unfolding nobody
 ids-preserved c =
-    let is = c.args.legals.now in
+    let is = instances_of c.args.instances.now in
     let ms = c.args.row.now.members in
     let k = c.ids.k in
     let n = members_length is (members_of ms) c.requires.members in
+    let m = length-map c.args.instances.now (λ (i : Bor Instance). i.now) in
     let l = length-map ms (λ (m : MemberId). m.0) in
     let here : k < length is = omega arith in
     let there : k < length ms = omega arith in
+    let at = pointed_at c.args.instances.now k c.index-instances-k.result [] (omega arith) c.index-instances-k.is in
     let old = c.ids.fields.items in
     let y = (get_or ms k nobody).0 in
     let id = c.bytes.ensures ∙ c.id.ensures
-    ∙ ap (λ (xs : List MemberId). (member_at c.instance.result.now (get_or xs k nobody).0).id) c.items.ensures
-    ∙ ap (λ (i : Instance). (member_at i y).id) (c.instance.ensures ∙ c.legal.ensures) in
+    ∙ ap (λ (xs : List MemberId). (member_at c.index-instances-k.result.now (get_or xs k nobody).0).id) c.items.ensures
+    ∙ ap (λ (i : Instance). (member_at i y).id) at in
     ids_more is (members_of ms) k _ c.ids.invariant (get_or is k []) y (drop_more is k [] here)
     (members_from ms k nobody there) _
     (ap (map (λ (f : Bor (List ℕ)). f.now)) c.in_ok-push.ensures.items
@@ -60,9 +67,10 @@ ids-preserved c =
 
 pub returns-clause-text : goal.returns-clause-text
 returns-clause-text c =
-    let is = c.args.legals.now in
+    let is = instances_of c.args.instances.now in
     let ms = c.args.row.now.members in
     let old = c.ids.fields.items in
+    let m = length-map c.args.instances.now (λ (i : Bor Instance). i.now) in
     let ids = ids_end is (members_of ms) c.ids.k _ (omega arith) c.ids.invariant in
     let a = c.as_bytes.result in
     let b = c.as_bytes-2.result in

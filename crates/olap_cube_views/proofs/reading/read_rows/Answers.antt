@@ -6,7 +6,7 @@ use Rattle.olap_cube.specs.CubeViews.{CubeFact, IsCubeFactTable}
 use Rattle.olap_facts.proofs.TableLemmas.{same-length}
 use Rattle.olap_records.proofs.Seeing.{see-more}
 use Rattle.olap_cube_views.specs.CubeFactText.{cube_fact_fault, cube_fact_read}
-use Rattle.olap_cube_views.specs.Dimensions.{graphs_of}
+use Rattle.olap_cube_views.specs.Dimensions.{graphs_of, instances_of}
 use Rattle.olap_cube_views.specs.Seen.{cube_fact_of}
 use Rattle.olap_cube_views.proofs.CubeReadingLemmas.{cube_facts_more, cube_table_more, told_cause}
 use Rattle.olap_cube_views.proofs.reading.read_rows.Goals as goal
@@ -14,7 +14,7 @@ use Rattle.olap_cube_views.proofs.reading.read_rows.Goals as goal
 pub rows-preserved : goal.rows-preserved
 rows-preserved c =
     let gs = graphs_of c.args.graphs.now in
-    let is = c.args.legals.now in
+    let is = instances_of c.args.instances.now in
     let inv = c.rows.invariant in
     let seen = inv.seen in
     let row = c.advance.new.self.row in
@@ -39,7 +39,7 @@ rows-preserved c =
 pub returns-in_err-fact-clause-facts : goal.returns-in_err-fact-clause-facts
 returns-in_err-fact-clause-facts c =
     let gs = graphs_of c.args.graphs.now in
-    let is = c.args.legals.now in
+    let is = instances_of c.args.instances.now in
     let inv = c.rows.invariant in
     let seen = inv.seen in
     let left = rw c.if-branch.true at c.in_ok-advance.ensures in

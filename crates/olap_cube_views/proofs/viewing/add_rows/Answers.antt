@@ -6,7 +6,7 @@ use Rattle.olap_cube.specs.CubeViews.{CubeFact}
 use Rattle.olap_records.proofs.Seeing.{see-more}
 use Rattle.olap_cube_views.specs.CubeFactText.{cube_fact_fault, cube_fact_read}
 use Rattle.olap_cube_views.specs.CubeTallies.{AreMembers, CubeStandsFor}
-use Rattle.olap_cube_views.specs.Dimensions.{graphs_of}
+use Rattle.olap_cube_views.specs.Dimensions.{graphs_of, instances_of}
 use Rattle.olap_cube_views.specs.Seen.{members_of}
 use Rattle.olap_cube_views.proofs.CubeReadingLemmas.{bottom_members}
 use Rattle.olap_cube_views.proofs.viewing.add_rows.Goals as goal
@@ -14,13 +14,13 @@ use Rattle.olap_cube_views.proofs.viewing.add_rows.Goals as goal
 pub add-requires-clause-members : goal.add-requires-clause-members
 add-requires-clause-members c =
     subst (λ (is : List Instance). AreMembers is (members_of c.in_ok-fact.fact.members)) (sym c.rows.invariant.instances)
-    (bottom_members (graphs_of c.args.graphs.now) c.args.legals.now (members_of c.in_ok-fact.fact.members)
+    (bottom_members (graphs_of c.args.graphs.now) (instances_of c.args.instances.now) (members_of c.in_ok-fact.fact.members)
     c.in_ok-fact.ensures.bottom)
 
 pub rows-preserved : goal.rows-preserved
 rows-preserved c =
     let gs = graphs_of c.args.graphs.now in
-    let is = c.args.legals.now in
+    let is = instances_of c.args.instances.now in
     let inv = c.rows.invariant in
     let seen = inv.seen in
     let row = c.advance.new.self.row in

@@ -4,17 +4,17 @@ use Rattle.olap_base.specs.Limits.{most_listed_facts}
 use Rattle.olap_records.proofs.Seeing.{HasSeen}
 use Rattle.olap_cube_views.specs.CubeFactText.{cube_fact_fault, cube_fact_read}
 use Rattle.olap_cube_views.specs.CubeTallies.{CubeStandsFor}
-use Rattle.olap_cube_views.specs.Dimensions.{graphs_of}
+use Rattle.olap_cube_views.specs.Dimensions.{graphs_of, instances_of}
 use Rattle.olap_cube_views.proofs.viewing.add_rows.Given as goal
 
 abbrev pub invariant-rows : goal.invariant-rows
 invariant-rows l = record {
   seen : List (List (List ℕ));
-  has_seen : HasSeen (cube_fact_fault (graphs_of l.graphs) l.legals) l.fn.rows.left seen l.rows.left;
-  instances : l.tally.instances ≡ l.legals;
+  has_seen : HasSeen (cube_fact_fault (graphs_of l.graphs) (instances_of l.instances)) l.fn.rows.left seen l.rows.left;
+  instances : l.tally.instances ≡ instances_of l.instances;
   target : l.tally.target ≡ l.fn.tally.target;
   few : l.tally.added ≤ most_listed_facts;
-  stands : CubeStandsFor l.tally (map (cube_fact_read l.legals) seen);
+  stands : CubeStandsFor l.tally (map (cube_fact_read (instances_of l.instances)) seen);
 }
 
 abbrev pub decreases-rows : goal.decreases-rows

@@ -1,17 +1,20 @@
 -- So many instances are read, and legal.
 use Rattle.std.proofs.Common.{◌≡◌, ◌+◌, [], drop, length, take}
 use Rattle.olap_cube.specs.CubeSummarizable.{graphs_of}
-use Rattle.olap_cube_views.specs.Dimensions.{AreMadeFor}
+use Rattle.olap_cube_views.specs.Dimensions.{AreMadeFor, categories_in, instances_in}
 use Rattle.olap_dimensions.specs.Dimensions.{schemas_of}
 use Rattle.olap_order.specs.Words.{texts}
+use Rattle.olap_view.specs.Seen.{ids}
 use Rattle.olap_cubes.specs.Steps.{legal_files}
 use Rattle.olap_cubes.proofs.FilesLemmas.{AreReadTo}
-use Rattle.olap_cubes.proofs.dimensions.legals_in.Given as goal
+use Rattle.olap_cubes.proofs.dimensions.columns_in.Given as goal
 
 abbrev pub invariant-files : goal.invariant-files
 invariant-files g l = record {
   read : AreReadTo g.L.Library l.fn.lib (legal_files 1 [] (schemas_of l.cube) (texts l.files))
-      (λ k read. legal_files (k + 1) read (drop k (schemas_of l.cube)) (drop k (texts l.files))) l.k l.lib l.legals;
-  each : length l.legals ≡ l.k;
-  made : AreMadeFor (take l.k (graphs_of (schemas_of l.cube))) l.legals;
+      (λ k read. legal_files (k + 1) read (drop k (schemas_of l.cube)) (drop k (texts l.files))) l.k l.lib
+      (instances_in l.columns);
+  each : length l.columns ≡ l.k;
+  made : AreMadeFor (take l.k (graphs_of (schemas_of l.cube))) (instances_in l.columns);
+  categories : categories_in l.columns ≡ ids (take l.k l.target);
 }

@@ -2,7 +2,7 @@
 use Rattle.std.proofs.Common.{◌+◌, sym, subst}
 use Rattle.olap_view.specs.Columns.{IsTold}
 use Rattle.olap_view.proofs.ColumnLemmas.{told_more, told_start}
-use Rattle.olap_view.proofs.columns.Column.new.Goals as goal
+use Rattle.olap_view.proofs.columns.cells.Goals as goal
 
 pub members-init : goal.members-init
 members-init c = rw c.in_ok-cells.ensures.items (told_start c.args.legal.now c.args.category.0)
