@@ -1,10 +1,14 @@
 -- What an asker asks, and the state that it works in.
 use Rattle.std.specs.Prelude.{◌≡◌, ℕ, length, map}
 use Rattle.olap_base.specs.Graph.{category_count}
+use Rattle.olap_ast.specs.Formula.{Formula}
+use Rattle.olap_ast.specs.Schema.{Schema}
 use Rattle.olap_ast.specs.Trees.{constraint_of, formula_of}
+use Rattle.olap_names.specs.Names.{Named}
 use Rattle.olap_frozen.specs.declared.frozen.Frozen.{Frozen}
 use Rattle.olap_dimsat.specs.declared.asker.Asker.{Asker}
 use Rattle.olap_dimsat.specs.declared.asker.Leaf.{Leaf}
+use Rattle.olap_dimsat.specs.declared.layout.Layout.{Layout}
 use Rattle.olap_dimsat.specs.Tasks.{Task, IsTask}
 use Rattle.olap_dimsat.specs.Tracking.{IsOf}
 
@@ -16,6 +20,17 @@ task_of a = record {
   root = a.root.0;
   named = a.candidates.now;
   layout = a.layout.now;
+}
+
+-- a question at a root of a schema, with these names and variables
+abbrev pub task_at : Schema → Formula → ℕ → Named → Layout → Task
+task_at s q r named layout = record {
+  graph = s.graph;
+  constraints = s.constraints;
+  question = q;
+  root = r;
+  named = named;
+  layout = layout;
 }
 
 -- the value has the root, and an entry for each edge and each category

@@ -13,7 +13,7 @@ use Rattle.olap_frozen.specs.declared.frozen.Frozen.{Frozen}
 use Rattle.olap_names.specs.Names.{Named, candidates_of}
 use Rattle.olap_dimsat.specs.declared.searching.Search.{Search}
 use Rattle.olap_dimsat.specs.Tasks.{Task, IsTask}
-use Rattle.olap_dimsat.specs.Asking.{IsFor, IsSuited}
+use Rattle.olap_dimsat.specs.Asking.{IsFor, IsSuited, task_at}
 use Rattle.olap_dimsat.specs.Pinned.{IsReady}
 
 -- the root that is searched for
@@ -38,14 +38,7 @@ pub record IsSizedFor (search : Search) (f : Frozen) : Type 0 where
   pub names : length f.names ≡ length search.best.names
 
 abbrev pub task_in : Schema → Formula → Search → Task
-task_in s q search = record {
-  graph = s.graph;
-  constraints = s.constraints;
-  question = q;
-  root = search.root.0;
-  named = search.candidates;
-  layout = search.layout;
-}
+task_in s q search = task_at s q search.root.0 search.candidates search.layout
 
 -- the schema is valid, and the search is one for it and this question
 pub record IsMadeWith (s : Schema) (q : Formula) (search : Search) : Type 0 where

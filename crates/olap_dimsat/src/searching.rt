@@ -2,9 +2,9 @@
 ghost use Rattle.std.specs.Prelude.{◌≡◌, ◌<◌, ◌≤◌, All, Err, IfOk, IsTrue, false, length, map, slice_set};
 ghost use Rattle.olap_ast.specs.Constants.{all_comparisons, all_equalities};
 ghost use Rattle.olap_ast.specs.Questions.{NoneFrozen};
-ghost use Rattle.olap_ast.specs.Trees.{constraint_of, formula_of};
-ghost use Rattle.olap_ast.specs.Valid.{IsFormulaAt, IsValidSchema, pair_count};
-ghost use Rattle.olap_base.specs.Graph.{IsCategory, category_count};
+ghost use Rattle.olap_ast.specs.Trees.{formula_of};
+ghost use Rattle.olap_ast.specs.Valid.{IsFormulaAt, pair_count};
+ghost use Rattle.olap_base.specs.Graph.{IsCategory};
 ghost use Rattle.olap_base.specs.Limits.{most_constants};
 ghost use Rattle.olap_dimsat.specs.Listed.{AreAllFrozen, AreMoreThan};
 ghost use Rattle.olap_dimsat.specs.OneFound.{IsOneFound};
@@ -12,20 +12,18 @@ ghost use Rattle.olap_dimsat.specs.declared.searching.AllRefusal.TheVariants as 
 ghost use Rattle.olap_dimsat.specs.Searches.{IsMadeWith, IsSizedFor, candidates_in, found_in, named_in, root_of};
 ghost use Rattle.olap_frozen.specs.LeastFound.{HasNothing, IsLeastFound, frozen_of};
 ghost use Rattle.olap_frozen.specs.Leaves.{IsSized, IsZeroAtAll};
-ghost use Rattle.olap_names.specs.Names.{with_graph};
 ghost use Rattle.olap_schema.specs.Schemas.{schema_of};
 
-use crate::asker::{Asker, Decisions, Leaf};
-use crate::encoding::encode;
+use crate::asker::{Asker, Leaf, blank};
 use crate::existing::exists;
 use crate::layout::Layout;
 use crate::listing::list;
+use crate::posing::pose;
 use crate::settling::least;
-use olap_ast::{Constraint, Formula};
+use olap_ast::Formula;
 use olap_base::{CatId, List, Memory};
 use olap_clauses::Engine;
-use olap_frozen::{Frozen, Room};
-use olap_graph::Graph;
+use olap_frozen::Frozen;
 use olap_names::Candidates;
 use olap_schema::Schema;
 use std::alloc::Global;
@@ -62,19 +60,6 @@ impl From<Memory> for AllRefusal {
     }
 }
 
-// A value with nothing present.
-fn blank(alloc: Global, graph: &Graph, root: CatId) -> Result<Frozen, Memory>
-    ensures root { IfOk result (λ f. f.root ≡ root) }
-    ensures edges { IfOk result (λ f. length f.edges ≡ length graph.now.edges) }
-    ensures names { IfOk result (λ f. length f.names ≡ category_count graph.now) }
-{
-    Ok(Frozen {
-        root,
-        edges: List::from_vec(vec![in alloc; false; usize::from(graph.edges())]?),
-        names: List::from_vec(vec![in alloc; 0; usize::from(graph.categories())]?),
-    })
-}
-
 // Hands out what was found, with 0 as the index of `All`, and keeps what was brought in its place, at this root.
 fn hand_out(root: CatId, found: &mut Frozen, into: &mut Frozen)
     requires { 0 < length found.old.names }
@@ -90,61 +75,7 @@ fn hand_out(root: CatId, found: &mut Frozen, into: &mut Frozen)
     into.names.set(0, 0);
 }
 
-/// Literals of learned clauses that there is room for. With much less, whole families of schemas take for ever.
-const ROOM: u32 = 131_072;
-
-/// Learned clauses that there is room for.
-const CLAUSE_ROOM: u32 = ROOM / 8;
-
 impl Search {
-    // A search over this graph and these constraints.
-    fn over(
-        alloc: Global,
-        graph: &Graph,
-        constraints: &[Constraint],
-        root: CatId,
-        question: &Formula,
-    ) -> Result<Search, Memory>
-        requires root { IsCategory graph.now root.0 }
-        requires valid { IsValidSchema (with_graph graph.now (map constraint_of constraints.now)) }
-        requires question { IsFormulaAt graph.now root.0 (formula_of question.now) }
-        requires few { let schema = with_graph graph.now (map constraint_of constraints.now) in
-            pair_count (all_equalities schema (formula_of question.now))
-            (all_comparisons schema (formula_of question.now)) ≤ most_constants }
-        ensures made { IfOk result (IsMadeWith (with_graph graph.now (map constraint_of constraints.now))
-            (formula_of question.now)) }
-        ensures root { IfOk result (λ search. root_of search ≡ root.0) }
-    {
-        let candidates = Candidates::of(alloc, graph, constraints, question)?;
-        let encoded = encode(alloc, graph, constraints, question, root, &candidates)?;
-        let Ok(engine) = Engine::new(
-            alloc,
-            encoded.layout.variables,
-            encoded.pool,
-            ROOM,
-            CLAUSE_ROOM,
-        ) else {
-            return Err(Memory);
-        };
-        let decided = Decisions::new(alloc, graph, root)?;
-        let leaf = Leaf {
-            decided,
-            frozen: blank(alloc, graph, root)?,
-            room: Room::new(alloc, graph)?,
-            straight_down: true,
-        };
-        let best = blank(alloc, graph, root)?;
-        Ok(Search {
-            root,
-            candidates,
-            layout: encoded.layout,
-            engine,
-            leaf,
-            best,
-            alloc,
-        })
-    }
-
     /// A search for this root and question. It takes all memory that the search will use.
     pub fn new(
         alloc: Global,
@@ -161,7 +92,18 @@ impl Search {
     {
         let graph = schema.graph();
         let constraints = schema.constraints();
-        Search::over(alloc, graph, constraints, root, question)
+        let posed = pose(alloc, graph, constraints, root, question)?;
+        let leaf = Leaf::new(alloc, graph, root)?;
+        let best = blank(alloc, graph, root)?;
+        Ok(Search {
+            root,
+            candidates: posed.candidates,
+            layout: posed.layout,
+            engine: posed.engine,
+            leaf,
+            best,
+            alloc,
+        })
     }
 
     /// A value of the right sizes with nothing present.
@@ -179,44 +121,6 @@ impl Search {
         })
     }
 
-    // The least one, over this graph and these constraints.
-    fn first_over(
-        &mut self,
-        graph: &Graph,
-        constraints: &[Constraint],
-        question: &Formula,
-        into: &mut Frozen,
-    ) -> bool
-        requires made { IsMadeWith (with_graph graph.now (map constraint_of constraints.now))
-            (formula_of question.now) self.old }
-        requires sizes { IsSizedFor self.old into.old }
-        ensures some { IsTrue result → IsLeastFound (with_graph graph.now (map constraint_of constraints.now))
-            (formula_of question.now) (root_of self.old) (found_in self.old into.new) }
-        ensures none { result ≡ false → NoneFrozen (with_graph graph.now (map constraint_of constraints.now))
-            (formula_of question.now) (root_of self.old) (candidates_in self.old) }
-        ensures stays { result ≡ false → into.new ≡ into.old }
-        ensures candidates { named_in self.new ≡ named_in self.old }
-        ensures root { root_of self.new ≡ root_of self.old }
-        ensures made { IsMadeWith (with_graph graph.now (map constraint_of constraints.now))
-            (formula_of question.now) self.new }
-    {
-        let asker = Asker {
-            graph,
-            constraints,
-            question,
-            root: self.root,
-            candidates: &self.candidates,
-            layout: &self.layout,
-        };
-        let found = least(&mut self.engine, &asker, &mut self.leaf, &mut self.best);
-        self.engine.undo(0);
-        if !found {
-            return false;
-        }
-        hand_out(self.root, &mut self.best, into);
-        true
-    }
-
     /// The least frozen dimension whose root makes the question true. False where there is none; then `into` stays.
     ///
     /// It can't return out of memory.
@@ -232,46 +136,13 @@ impl Search {
         ensures root { root_of self.new ≡ root_of self.old }
         ensures made { IsMadeWith (schema_of schema.now) (formula_of question.now) self.new }
     {
-        let graph = schema.graph();
-        let constraints = schema.constraints();
-        self.first_over(graph, constraints, question, into)
-    }
-
-    // Any one, over this graph and these constraints.
-    fn any_over(
-        &mut self,
-        graph: &Graph,
-        constraints: &[Constraint],
-        question: &Formula,
-        into: &mut Frozen,
-    ) -> bool
-        requires made { IsMadeWith (with_graph graph.now (map constraint_of constraints.now))
-            (formula_of question.now) self.old }
-        requires sizes { IsSizedFor self.old into.old }
-        ensures some { IsTrue result → IsOneFound (with_graph graph.now (map constraint_of constraints.now))
-            (formula_of question.now) (root_of self.old) (found_in self.old into.new) }
-        ensures none { result ≡ false → NoneFrozen (with_graph graph.now (map constraint_of constraints.now))
-            (formula_of question.now) (root_of self.old) (candidates_in self.old) }
-        ensures stays { result ≡ false → into.new ≡ into.old }
-        ensures candidates { named_in self.new ≡ named_in self.old }
-        ensures root { root_of self.new ≡ root_of self.old }
-        ensures made { IsMadeWith (with_graph graph.now (map constraint_of constraints.now))
-            (formula_of question.now) self.new }
-    {
-        let asker = Asker {
-            graph,
-            constraints,
-            question,
-            root: self.root,
-            candidates: &self.candidates,
-            layout: &self.layout,
-        };
-        let found = exists(&mut self.engine, &asker, &mut self.leaf);
+        let asker = Asker::of(schema, question, self.root, &self.candidates, &self.layout);
+        let found = least(&mut self.engine, &asker, &mut self.leaf, &mut self.best);
         self.engine.undo(0);
         if !found {
             return false;
         }
-        hand_out(self.root, &mut self.leaf.frozen, into);
+        hand_out(self.root, &mut self.best, into);
         true
     }
 
@@ -291,54 +162,14 @@ impl Search {
         ensures root { root_of self.new ≡ root_of self.old }
         ensures made { IsMadeWith (schema_of schema.now) (formula_of question.now) self.new }
     {
-        let graph = schema.graph();
-        let constraints = schema.constraints();
-        self.any_over(graph, constraints, question, into)
-    }
-
-    // All of them, over this graph and these constraints.
-    fn all_over(
-        &mut self,
-        graph: &Graph,
-        constraints: &[Constraint],
-        question: &Formula,
-        limit: usize,
-    ) -> Result<List<Frozen>, AllRefusal>
-        requires made { IsMadeWith (with_graph graph.now (map constraint_of constraints.now))
-            (formula_of question.now) self.old }
-        ensures all { IfOk result (λ list. AreAllFrozen (with_graph graph.now (map constraint_of constraints.now))
-            (formula_of question.now) (root_of self.old) (candidates_in self.old) (map frozen_of list)) }
-        ensures few { IfOk result (λ list. length list ≤ limit) }
-        ensures roots { IfOk result (λ list. All (λ f. f.root.0 ≡ root_of self.old) list) }
-        ensures sized { IfOk result (λ list. All
-            (λ f. IsSized graph.now (named_in self.old) f.edges f.names) list) }
-        ensures zero { IfOk result (λ list. All (λ f. IsZeroAtAll f.names) list) }
-        ensures too_many { result ≡ Err refusal.TooMany
-            → AreMoreThan limit (with_graph graph.now (map constraint_of constraints.now))
-            (formula_of question.now) (root_of self.old) (candidates_in self.old) }
-        ensures candidates { named_in self.new ≡ named_in self.old }
-        ensures root { root_of self.new ≡ root_of self.old }
-        ensures made { IsMadeWith (with_graph graph.now (map constraint_of constraints.now))
-            (formula_of question.now) self.new }
-    {
-        let asker = Asker {
-            graph,
-            constraints,
-            question,
-            root: self.root,
-            candidates: &self.candidates,
-            layout: &self.layout,
-        };
-        let listed = list(
-            self.alloc,
-            &mut self.engine,
-            &asker,
-            &mut self.leaf,
-            &mut self.best,
-            limit,
-        );
+        let asker = Asker::of(schema, question, self.root, &self.candidates, &self.layout);
+        let found = exists(&mut self.engine, &asker, &mut self.leaf);
         self.engine.undo(0);
-        listed
+        if !found {
+            return false;
+        }
+        hand_out(self.root, &mut self.leaf.frozen, into);
+        true
     }
 
     /// All frozen dimensions whose root makes the question true, by their codes, where they are at most `limit`.
@@ -364,9 +195,17 @@ impl Search {
         ensures root { root_of self.new ≡ root_of self.old }
         ensures made { IsMadeWith (schema_of schema.now) (formula_of question.now) self.new }
     {
-        let graph = schema.graph();
-        let constraints = schema.constraints();
-        self.all_over(graph, constraints, question, limit)
+        let asker = Asker::of(schema, question, self.root, &self.candidates, &self.layout);
+        let listed = list(
+            self.alloc,
+            &mut self.engine,
+            &asker,
+            &mut self.leaf,
+            &mut self.best,
+            limit,
+        );
+        self.engine.undo(0);
+        listed
     }
 
     /// The candidates of the schema and the question that it was made with.

@@ -36,8 +36,8 @@ impl Decision {
     /// A decision of these questions on this schema. It takes all memory that the decision will use, and borrows
     /// nothing.
     ///
-    /// It makes one search for each bottom category, in declaration order, and all of them stand at once. Each reserves
-    /// about 2 MB to learn in, and what the clauses of the schema take; there are at most 63.
+    /// It makes one search for each bottom category, in declaration order, and all of them stand at once; there are at
+    /// most 255. Each reserves from 4 to 15 MB to learn in, by the clauses of the schema, and takes what these take.
     pub fn new(alloc: Global, schema: &Schema, questions: &Questions) -> Result<Decision, Memory>
         requires { AreQuestionsFor (schema_of schema.now) questions.now }
         ensures { IfOk result (IsDecisionOf (schema_of schema.now) questions.now) }

@@ -1,43 +1,58 @@
-use Rattle.std.proofs.Common.{sym, subst, map}
-use Rattle.std.specs.Prelude.{◌≤◌, IfOk}
+-- What the graph and the constraints stand for is the schema.
+use Rattle.std.proofs.Common.{refl, sym, subst, map}
+use Rattle.std.specs.Prelude.{◌≤◌}
+use Rattle.olap_base.specs.Graph.{Graph, IsCategory}
 use Rattle.olap_base.specs.Limits.{most_constants}
 use Rattle.olap_ast.specs.Constants.{all_comparisons, all_equalities}
 use Rattle.olap_ast.specs.Schema.{Schema}
 use Rattle.olap_ast.specs.Trees.{constraint_of, formula_of}
 use Rattle.olap_ast.specs.Valid.{IsFormulaAt, IsValidSchema, pair_count}
-use Rattle.olap_base.specs.Graph.{Graph, IsCategory}
 use Rattle.olap_schema.specs.Schemas.{schema_of}
-use Rattle.olap_dimsat.specs.Searches.{IsMadeWith}
-use Rattle.olap_dimsat.proofs.MadeLemmas.{whole}
+use Rattle.olap_dimsat.specs.Posed.{IsPosed}
+use Rattle.olap_dimsat.specs.Searches.{task_in}
+use Rattle.olap_dimsat.proofs.MadeLemmas.{blank_for, made_first, whole}
 use Rattle.olap_dimsat.proofs.searching.Search.new.Goals as goal
 
-pub over-requires-clause-root : goal.over-requires-clause-root
-over-requires-clause-root c =
+pub pose-requires-clause-root : goal.pose-requires-clause-root
+pose-requires-clause-root c =
     subst (λ (g : Graph). IsCategory g c.args.root.0) (sym c.graph-graph.ensures) c.requires.root
 
-pub over-requires-clause-valid : goal.over-requires-clause-valid
-over-requires-clause-valid c =
+pub pose-requires-clause-valid : goal.pose-requires-clause-valid
+pose-requires-clause-valid c =
     subst (λ (s : Schema). IsValidSchema s)
     (sym (whole (schema_of c.args.schema.now) c.graph-graph.result.now
     (map constraint_of c.constraints-constraints.result.now)
     c.graph-graph.ensures c.constraints-constraints.ensures.list)) c.constraints-constraints.ensures.valid
 
-pub over-requires-clause-question : goal.over-requires-clause-question
-over-requires-clause-question c =
+pub pose-requires-clause-question : goal.pose-requires-clause-question
+pose-requires-clause-question c =
     subst (λ (g : Graph). IsFormulaAt g c.args.root.0 (formula_of c.args.question.now)) (sym c.graph-graph.ensures)
     c.requires.question
 
-pub over-requires-clause-few : goal.over-requires-clause-few
-over-requires-clause-few c =
+pub pose-requires-clause-few : goal.pose-requires-clause-few
+pose-requires-clause-few c =
     subst (λ (s : Schema). pair_count (all_equalities s (formula_of c.args.question.now))
     (all_comparisons s (formula_of c.args.question.now)) ≤ most_constants)
     (sym (whole (schema_of c.args.schema.now) c.graph-graph.result.now
     (map constraint_of c.constraints-constraints.result.now)
     c.graph-graph.ensures c.constraints-constraints.ensures.list)) c.requires.few
 
+pub new-requires : goal.new-requires
+new-requires c =
+    subst (λ (g : Graph). IsCategory g c.args.root.0) (sym c.graph-graph.ensures) c.requires.root
+
 pub returns-clause-made : goal.returns-clause-made
 returns-clause-made c =
-    let w = whole (schema_of c.args.schema.now) c.graph-graph.result.now
-    (map constraint_of c.constraints-constraints.result.now)
+    let s = schema_of c.args.schema.now in
+    let q = formula_of c.args.question.now in
+    let g = c.graph-graph.result.now in
+    let w = whole s g (map constraint_of c.constraints-constraints.result.now)
     c.graph-graph.ensures c.constraints-constraints.ensures.list in
-    subst (λ (s : Schema). IfOk c.over.result (IsMadeWith s (formula_of c.args.question.now))) w c.over.ensures.made
+    let l = c.in_ok-leaf.ensures in
+    let b = c.in_ok-best.ensures in
+    made_first s q g _ c.graph-graph.ensures c.constraints-constraints.ensures.valid
+    (subst (λ (z : Schema). IsPosed z q c.args.root.0 c.in_ok-posed.posed) w c.in_ok-posed.ensures)
+    l.decided
+    (blank_for g _ c.in_ok-leaf.leaf.frozen c.args.root c.graph-graph.ensures refl l.root l.edges l.names)
+    l.room
+    (blank_for g _ c.in_ok-best.best c.args.root c.graph-graph.ensures refl b.root b.edges b.names)

@@ -1,0 +1,84 @@
+// A task in an engine: its names, where its variables are, and room to learn in.
+ghost use Rattle.std.specs.Prelude.{◌≡◌, ◌≤◌, ℕ, Bool, [], IfOk, map};
+ghost use Rattle.olap_ast.specs.Constants.{all_comparisons, all_equalities};
+ghost use Rattle.olap_ast.specs.Trees.{constraint_of, formula_of};
+ghost use Rattle.olap_ast.specs.Valid.{IsFormulaAt, IsValidSchema, pair_count};
+ghost use Rattle.olap_base.specs.Graph.{IsCategory};
+ghost use Rattle.olap_base.specs.Limits.{most_constants};
+ghost use Rattle.olap_clauses.specs.Engines.{admits, trail_of, variables_of};
+ghost use Rattle.olap_clauses.specs.Pools.{AreTrue};
+ghost use Rattle.olap_dimsat.specs.Posed.{IsPosed};
+ghost use Rattle.olap_names.specs.Names.{with_graph};
+
+use crate::encoding::encode;
+use crate::layout::Layout;
+use olap_ast::{Constraint, Formula};
+use olap_base::{CatId, Memory};
+use olap_clauses::{Engine, Pool};
+use olap_graph::Graph;
+use olap_names::Candidates;
+use std::alloc::Global;
+
+/// The names of a task, where its variables are, and an engine that has its clauses.
+#[derive(Drop)]
+pub struct Posed {
+    pub(crate) candidates: Candidates,
+    pub(crate) layout: Layout,
+    pub(crate) engine: Engine,
+}
+
+/// There is room for so many times as many literals of learned clauses as are given.
+const TIMES_GIVEN: u32 = 4;
+
+/// As if at least so many were given: small schemas may need as much to learn, and with less whole families of them take
+/// for ever.
+const LEAST_GIVEN: usize = 32_768;
+
+/// And as if at most so many were.
+const MOST_GIVEN: usize = 131_072;
+
+/// How many literals a learned clause has that the room for clauses is measured by.
+const LITERALS_A_CLAUSE: u32 = 8;
+
+// How many literals of learned clauses there is to be room for beside these clauses.
+fn room_for(pool: &Pool) -> u32 {
+    let given = pool.size().max(LEAST_GIVEN).min(MOST_GIVEN);
+    TIMES_GIVEN * given as u32
+}
+
+// The engine of these clauses, with room to learn in.
+fn engine_of(alloc: Global, variables: u32, pool: Pool) -> Result<Engine, Memory>
+    ensures empty { IfOk result (λ e. trail_of e ≡ []) }
+    ensures variables { IfOk result (λ e. variables_of e ≡ variables) }
+    ensures admits { IfOk result (λ e. (v : ℕ → Bool) → AreTrue v pool → admits v e) }
+{
+    let room = room_for(&pool);
+    Ok(Engine::new(alloc, variables, pool, room, room / LITERALS_A_CLAUSE)?)
+}
+
+/// Puts a question at a root of this graph with these constraints to an engine.
+pub(crate) fn pose(
+    alloc: Global,
+    graph: &Graph,
+    constraints: &[Constraint],
+    root: CatId,
+    question: &Formula,
+) -> Result<Posed, Memory>
+    requires root { IsCategory graph.now root.0 }
+    requires valid { IsValidSchema (with_graph graph.now (map constraint_of constraints.now)) }
+    requires question { IsFormulaAt graph.now root.0 (formula_of question.now) }
+    requires few { let schema = with_graph graph.now (map constraint_of constraints.now) in
+        pair_count (all_equalities schema (formula_of question.now))
+        (all_comparisons schema (formula_of question.now)) ≤ most_constants }
+    ensures { IfOk result (IsPosed (with_graph graph.now (map constraint_of constraints.now))
+        (formula_of question.now) root.0) }
+{
+    let candidates = Candidates::of(alloc, graph, constraints, question)?;
+    let encoded = encode(alloc, graph, constraints, question, root, &candidates)?;
+    let engine = engine_of(alloc, encoded.layout.variables, encoded.pool)?;
+    Ok(Posed {
+        candidates,
+        layout: encoded.layout,
+        engine,
+    })
+}
