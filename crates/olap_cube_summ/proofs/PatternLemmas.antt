@@ -1,5 +1,5 @@
 -- Masks that have the same sources, and the patterns of one frozen dimension.
-use Rattle.std.proofs.Common.{◌≡◌, ℕ, ◌<◌, ◌↔◌, List, [], ◌∷◌, ◌++◌, Bool, true, false, cond, length, map, refl, ap, sym, subst, ◌∙◌, arith}
+use Rattle.std.proofs.Common.{◌≡◌, ℕ, ◌<◌, ◌↔◌, List, [], ◌∷◌, Bool, length, sym, subst, ◌∙◌, arith}
 use Rattle.std.specs.Int.Bits.{bit_and}
 use Rattle.std.proofs.lemmas.List.{length-map}
 use Rattle.std.proofs.lemmas.Nat.Bits.{bit_at-lt, bit_at_and, bit_at_ones}
@@ -10,6 +10,7 @@ use Rattle.olap_ast.proofs.Determined.{same_thawed}
 use Rattle.olap_base.specs.Instance.{IsMemberOf}
 use Rattle.olap_base.specs.declared.ids.CatId.{CatId}
 use Rattle.olap_bits.specs.declared.sets.CatSet.{CatSet}
+use Rattle.olap_cube.proofs.DeterminedLemmas.{same_parts}
 use Rattle.olap_cube.specs.CubeSummarizable.{Chosen, IsChosen}
 use Rattle.olap_patterns.specs.Masks.{CanBeBad, Has, all_of}
 use Rattle.olap_patterns.specs.Ways.{HasWays}
@@ -64,34 +65,6 @@ same_patterns s q n e h a p r hp hr k l =
     (λ y. (hr x m k w).1 ((hp x m k w).0 y), λ y. (hp x m k w).1 ((hr x m k w).0 y))
 
 -- ---- one code
-
-abbrev bits : List Bool → List ℕ
-bits bs = map (λ b. cond b 1 0) bs
-
-head_or : {A : Type 0} → A → List A → A
-head_or d [] = d
-head_or d (x ∷ xs) = x
-
-tail_of : {A : Type 0} → List A → List A
-tail_of [] = []
-tail_of (x ∷ xs) = xs
-
-same_bit : (a b : Bool) → ◌≡◌ {A = ℕ} (cond a 1 0) (cond b 1 0) → a ≡ b
-same_bit true true e = refl
-same_bit true false e = absurd (omega arith)
-same_bit false true e = absurd (omega arith)
-same_bit false false e = refl
-
--- equal codes have equal bits and equal indexes
-same_parts : (a b : List Bool) (m n : List ℕ) → length a ≡ length b → bits a ++ m ≡ bits b ++ n → (a ≡ b) × (m ≡ n)
-unfolding head_or tail_of
-same_parts [] [] m n h e = (refl, e)
-same_parts [] (y ∷ b) m n h e = absurd (omega arith)
-same_parts (x ∷ a) [] m n h e = absurd (omega arith)
-same_parts (x ∷ a) (y ∷ b) m n h e =
-    let p = same_bit x y (ap (head_or 0) e) in
-    let r = same_parts a b m n (omega arith) (ap tail_of e) in
-    (λ i. p i ∷ r.0 i, r.1)
 
 -- choices of one code and one root have the same patterns
 pub pattern_too : (s : Schema) (q : Question) (x y : Chosen) → IsChosen s (target_in q) x → IsChosen s (target_in q) y
