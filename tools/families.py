@@ -150,6 +150,15 @@ def star(count):
     return s.text()
 
 
+def fan(count):
+    """So many bottom categories below one, which lies below the top."""
+    s = Schema()
+    for i in range(1, count + 1):
+        s.edge(f"B{i}", "H")
+    s.edge("H", "All")
+    return s.text()
+
+
 def ring(bottoms, count):
     """Bottom categories below the first of a ring, which one edge leaves."""
     s = Schema()
