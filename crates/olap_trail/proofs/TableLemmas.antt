@@ -88,23 +88,38 @@ bypassed_is es x z l r b beyond next m = (
 
 -- ---- what is read from the tables
 
-module _ {W : ℕ} {room : ℕ} {es : List Edge} {place : ℕ} {rows parents : List (CatSet W)} {cycles : List Bool}
-    (t : AreTables room es place rows parents cycles) where
+module _ {W : ℕ} {room set_room : ℕ} {es : List Edge} {place : ℕ} {rows parents : List (CatSet W)} {cycles : List Bool}
+    (t : AreTables room set_room es place rows parents cycles) where
   pub in_rows : (x : ℕ) → x < length parents → place + x < length rows
-  in_rows x h =
-      let e = stage_end (length es) (length cycles) (length parents) t.few in
-      let p = t.place in
-      let s = t.size in
-      omega (arith, h, e, p, s)
+  in_rows x h = let s = t.size in omega (arith, h, s)
 
   -- there is room for the sets of one edge more
-  pub next_fits : length es + 1 < length cycles → place + length parents + length parents ≤ length rows
+  pub next_fits : length es + 1 < length cycles → place + length parents + length parents ≤ set_room
   next_fits h =
       let e = stage_end (length es + 1) (length cycles) (length parents) h in
       let f : (length es + 1) * length parents ≡ length es * length parents + length parents = grind arith in
       let p = t.place in
-      let s = t.size in
+      let s = t.reserved_sets in
       omega (arith, e, f, p, s)
+
+  -- the same with empty sets behind
+  pub tables_filled : (new_set_room : ℕ) (new_rows : List (CatSet W)) → set_room ≤ new_set_room
+      → place + length parents ≤ length new_rows → ((i : ℕ) → row new_rows i ≡ row rows i)
+      → AreTables room new_set_room es place new_rows parents cycles
+  tables_filled new_set_room new_rows more_room enough same = record {
+    width = t.width;
+    wide = t.wide;
+    few = t.few;
+    reserved = t.reserved;
+    size = enough;
+    reserved_sets = let s = t.reserved_sets in omega (arith, s, more_room);
+    place = t.place;
+    within = t.within;
+    differ = t.differ;
+    rows = λ k h x i. subst (λ s. IsBeyond (take k es) x s) (sym (same (k * length parents + x))) (t.rows k h x i);
+    parents = t.parents;
+    cycles = t.cycles;
+  }
 
   pub beyond_top : (x : ℕ) → x < length parents → IsBeyond es x (row rows (place + x))
   beyond_top x h =
@@ -139,19 +154,20 @@ module _ {W : ℕ} {room : ℕ} {es : List Edge} {place : ℕ} {rows parents : L
 
   pub tables_push : (c p new_room new_place stage : ℕ) (new_rows : List (CatSet W)) (r : CatSet W) (closes : Bool)
       (through : FinSet nat_cmp) → c < length parents → p < length parents → length es + 1 < length cycles
-      → (Joins es c p → ⊥) → length cycles ≤ new_room + 1 → new_place ≡ place + length parents
-      → stage ≡ length es + 1
+      → (Joins es c p → ⊥) → length cycles ≤ new_room + 1 → place + length parents + length parents ≤ length rows
+      → new_place ≡ place + length parents → stage ≡ length es + 1
       → AreCopied rows new_rows place (length parents) c through (length parents) → IsAbove es p through
       → members r ≡ insert (row parents c) p → (IsTrue closes ↔ IsCyclic (more es c p))
-      → AreTables new_room (more es c p) new_place new_rows (set parents c r) (set cycles stage closes)
-  tables_push c p new_room new_place stage new_rows r closes through hc hp full new reserved at_end next copied above
-      own cyclic =
+      → AreTables new_room set_room (more es c p) new_place new_rows (set parents c r) (set cycles stage closes)
+  tables_push c p new_room new_place stage new_rows r closes through hc hp full new reserved fits at_end next copied
+      above own cyclic =
       record {
         width = t.width;
         wide = let w = t.wide in omega (arith, w, count);
         few = omega (arith, full, size, marks);
         reserved = omega (arith, reserved, marks);
-        size = copied.same_length ∙ t.size ∙ (λ i. sym marks i * sym count i);
+        size = let l = copied.same_length in omega (arith, fits, at_end, l, count);
+        reserved_sets = subst (λ n. n ≤ set_room) (λ i. sym marks i * sym count i) t.reserved_sets;
         place =
             let q = t.place in
             let e : (length es + 1) * length parents ≡ length es * length parents + length parents = grind arith in

@@ -35,27 +35,27 @@ no_climb es x y e (climb {z = z} j s) =
     Contains-nil (record { child = x; parent = z })
     (subst (λ fs. Joins fs x z) e j)
 
-pub tables_none : {W : ℕ} (room n stages : ℕ) (x : CatSet W) (rows parents : List (CatSet W)) (cycles : List Bool)
-    → IsOfWidth W → n ≤ 64 * W → members x ≡ empty → 0 < stages → stages ≤ room + 1
-    → rows ≡ replicate (stages * n) x → parents ≡ replicate n x → cycles ≡ replicate stages false
-    → AreTables room [] 0 rows parents cycles
-tables_none {W} room n stages x rows parents cycles width wide e some reserved of_rows of_parents of_cycles =
-    subst (λ rs. AreTables room [] 0 rs parents cycles) (sym of_rows)
-    (subst (λ ps. AreTables room [] 0 (replicate (stages * n) x) ps cycles) (sym of_parents)
-    (subst (λ cs. AreTables room [] 0 (replicate (stages * n) x) (replicate n x) cs) (sym of_cycles) (record {
+pub tables_none : {W : ℕ} (room set_room n stages : ℕ) (x : CatSet W) (rows parents : List (CatSet W))
+    (cycles : List Bool) → IsOfWidth W → n ≤ 64 * W → members x ≡ empty → 0 < stages → stages ≤ room + 1
+    → stages * n ≤ set_room → n ≤ length rows → ((i : ℕ) → row rows i ≡ empty) → parents ≡ replicate n x
+    → cycles ≡ replicate stages false → AreTables room set_room [] 0 rows parents cycles
+tables_none {W} room set_room n stages x rows parents cycles width wide e some reserved reserved_sets enough nothing
+    of_parents of_cycles =
+    subst (λ ps. AreTables room set_room [] 0 rows ps cycles) (sym of_parents)
+    (subst (λ cs. AreTables room set_room [] 0 rows (replicate n x) cs) (sym of_cycles) (record {
       width = width;
       wide = let l = length-replicate n x in omega (arith, l, wide);
       few = let l = length-replicate stages false in omega (arith, l, some);
       reserved = let l = length-replicate stages false in omega (arith, l, reserved);
-      size =
-          length-replicate (stages * n) x
-          ∙ (λ i. sym (length-replicate stages false) i * sym (length-replicate n x) i);
+      size = let l = length-replicate n x in omega (arith, l, enough);
+      reserved_sets = subst (λ m. m ≤ set_room)
+          (λ i. sym (length-replicate stages false) i * sym (length-replicate n x) i) reserved_sets;
       place = grind arith;
       within = λ c d j. absurd (Contains-nil (record { child = c; parent = d }) j);
       differ = λ i j d l h. absurd (omega (arith, h));
       rows = λ k h c i d. (
         λ m. absurd (not_in_empty d
-            (subst (λ s. IsIn s d) (row_none x e (stages * n) (k * length (replicate n x) + c)) m)),
+            (subst (λ s. IsIn s d) (nothing (k * length (replicate n x) + c)) m)),
         λ w. absurd (no_climb (take k []) c d (take_all k [] (omega arith)) w),
       );
       parents = λ c i d. (
@@ -66,7 +66,7 @@ tables_none {W} room n stages x rows parents cycles width wide e some reserved o
         λ m. let z : false ≡ true = sym (mark_none stages k) ∙ m in absurd (cc),
         λ w. absurd (no_climb (take k []) w.0 w.0 (take_all k [] (omega arith)) w.1),
       );
-    })))
+    }))
 
 -- ---- the last edge is taken back
 
@@ -87,8 +87,9 @@ module _ (es : List Edge) (c p : ℕ) where
     λ j. (n d).1 (joins_more es c p x d j),
   )
 
-module _ {W : ℕ} {room place : ℕ} (es : List Edge) (c p : ℕ) {rows parents : List (CatSet W)} {cycles : List Bool}
-    (t : AreTables room (more es c p) place rows parents cycles) where
+module _ {W : ℕ} {room set_room place : ℕ} (es : List Edge) (c p : ℕ) {rows parents : List (CatSet W)}
+    {cycles : List Bool}
+    (t : AreTables room set_room (more es c p) place rows parents cycles) where
   size : length (more es c p) ≡ length es + 1
   size = length_push es (record { child = c; parent = p })
 
@@ -113,13 +114,14 @@ module _ {W : ℕ} {room place : ℕ} (es : List Edge) (c p : ℕ) {rows parents
 
   pub tables_pop : (new_room new_place : ℕ) (r : CatSet W) → length cycles ≤ new_room + 1
       → new_place + length parents ≡ place → members r ≡ remove (row parents c) p
-      → AreTables new_room es new_place rows (set parents c r) cycles
+      → AreTables new_room set_room es new_place rows (set parents c r) cycles
   tables_pop new_room new_place r reserved back taken = record {
     width = t.width;
     wide = let w = t.wide in omega (arith, w, count);
     few = let f = t.few in omega (arith, f, size);
     reserved = reserved;
-    size = t.size ∙ (λ i. length cycles * sym count i);
+    size = let s = t.size in omega (arith, s, back, count);
+    reserved_sets = subst (λ n. n ≤ set_room) (λ i. length cycles * sym count i) t.reserved_sets;
     place =
         let q = t.place in
         let g : length (more es c p) * length parents ≡ (length es + 1) * length parents =

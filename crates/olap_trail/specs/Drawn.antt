@@ -17,14 +17,16 @@ drawing a = record {
   edges = map edge_of a.edges.items;
 }
 
--- after each number of edges what is beyond each category, and whether there is a cycle; and where edges lead
-pub record AreTables {W : ℕ} (room : ℕ) (es : List Edge) (top : ℕ) (sets nexts : List (CatSet W)) (marks : List Bool)
-    : Type 0 where
+-- after each number of edges what is beyond each category, and whether there is a cycle; and where edges lead. There is
+-- room for as many edges as there are marks but one, and for the sets of each number of them
+pub record AreTables {W : ℕ} (room set_room : ℕ) (es : List Edge) (top : ℕ) (sets nexts : List (CatSet W))
+    (marks : List Bool) : Type 0 where
   pub width : IsOfWidth W
   pub wide : length nexts ≤ 64 * W
   pub few : length es < length marks
   pub reserved : length marks ≤ room + 1
-  pub size : length sets ≡ length marks * length nexts
+  pub size : top + length nexts ≤ length sets
+  pub reserved_sets : length marks * length nexts ≤ set_room
   pub place : top ≡ length es * length nexts
   pub within : (c d : ℕ) → Joins es c d → (c < length nexts) × (d < length nexts)
   pub differ : AllPairs ◌≢◌ es
@@ -34,5 +36,5 @@ pub record AreTables {W : ℕ} (room : ℕ) (es : List Edge) (top : ℕ) (sets n
 
 -- what a drawing keeps
 abbrev pub IsDrawn : {W : ℕ} → drawn.Inside W → Type 0
-IsDrawn a = AreTables (vec_capacity a.edges) (map edge_of a.edges.items) a.place a.rows.items a.parents.items
-    a.cycles.items
+IsDrawn a = AreTables (vec_capacity a.edges) (vec_capacity a.rows) (map edge_of a.edges.items) a.place a.rows.items
+    a.parents.items a.cycles.items

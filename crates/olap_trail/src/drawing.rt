@@ -1,5 +1,5 @@
 // Edges that are drawn one after another, and what each category then leads to.
-ghost use Rattle.std.specs.Prelude.{◌≡◌, ◌↔◌, ◌⊎◌, ◌+◌, ◌-◌, ◌*◌, ◌<◌, ◌≤◌, ◌++◌, ◌∷◌, [], ℕ, length, take, true, Contains, IfOk, IsTrue};
+ghost use Rattle.std.specs.Prelude.{◌≡◌, ◌↔◌, ◌⊎◌, ◌+◌, ◌-◌, ◌*◌, ◌<◌, ◌≤◌, ◌++◌, ◌∷◌, [], ℕ, length, take, true, Contains, IfOk, IsTrue, vec_capacity};
 ghost use Rattle.olap_base.specs.Steps.{Climb};
 ghost use Rattle.olap_bits.specs.CatSet.{IsOfWidth};
 ghost use Rattle.olap_bits.specs.Sets.{members};
@@ -23,7 +23,8 @@ pub(crate) struct Ends {
 #[derive(Drop)]
 pub(crate) struct Drawn<const W: usize> {
     edges: Vec<Ends>,
-    /// For each number of edges a set for each category: where walks of one edge or more lead.
+    /// For each number of edges a set for each category: where walks of one edge or more lead. There is memory for all
+    /// numbers from the start; the sets of a number are written when as many edges are first drawn.
     rows: Vec<CatSet<W>>,
     /// Where the sets for all edges begin.
     place: usize,
@@ -63,6 +64,19 @@ fn meets<const W: usize>(left: &CatSet<W>, right: &CatSet<W>) -> bool
     left.meet(*right).first().is_some()
 }
 
+/// Adds empty sets until there are so many. There is room for them.
+fn fill<const W: usize>(rows: &mut Vec<CatSet<W>>, count: usize)
+    requires width { IsOfWidth W }
+    requires room { count ≤ vec_capacity rows.old }
+    ensures enough { count ≤ length rows.new.items }
+    ensures same { (i : ℕ) → row rows.new.items i ≡ row rows.old.items i }
+    ensures capacity { vec_capacity rows.old ≤ vec_capacity rows.new }
+{
+    'sets: while rows.len() < count {
+        rows.push(CatSet::empty()).unwrap();
+    }
+}
+
 /// Copies the sets of so many categories behind themselves, each grown.
 fn draw<const W: usize>(
     rows: &mut [CatSet<W>],
@@ -94,9 +108,11 @@ impl<const W: usize> Drawn<W> {
         let stages = usize::from(room) + 1;
         let count = usize::from(count);
         let nothing = CatSet::empty();
+        let mut rows = Vec::with_capacity(alloc, stages * count)?;
+        fill(&mut rows, count);
         Ok(Drawn {
             edges: Vec::with_capacity(alloc, usize::from(room))?,
-            rows: vec![in alloc; nothing; stages * count]?,
+            rows,
             place: 0,
             parents: vec![in alloc; nothing; count]?,
             cycles: vec![in alloc; false; stages]?,
@@ -174,6 +190,7 @@ impl<const W: usize> Drawn<W> {
         let closes = self.closes_cycle(ends);
         let through = self.above(ends.parent);
         let count = self.parents.len();
+        fill(&mut self.rows, self.place + count + count);
         draw(&mut self.rows, self.place, count, ends.child.0, &through);
         self.place += count;
         let child = usize::from(ends.child.0);

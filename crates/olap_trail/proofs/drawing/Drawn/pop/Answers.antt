@@ -17,8 +17,8 @@ index-requires g c =
     let ends = c.in-Some.ends in
     let es = map edge_of c.pop.new.self.items in
     let whole = ap (map edge_of) c.in-Some.ensures.items ∙ map_push edge_of c.pop.new.self.items ends in
-    let t = subst (λ (fs : List Edge). AreTables (vec_capacity a.edges) fs a.place a.rows.items a.parents.items
-    a.cycles.items) whole c.self.invariant in
+    let t = subst (λ (fs : List Edge). AreTables (vec_capacity a.edges) (vec_capacity a.rows) fs a.place a.rows.items
+    a.parents.items a.cycles.items) whole c.self.invariant in
     let w = last_within es ends.child.0 ends.parent.0 t in
     let e = c.from-child.ensures in
     let o = a.parents.ok in
@@ -30,8 +30,8 @@ without-requires g c =
     let ends = c.in-Some.ends in
     let es = map edge_of c.pop.new.self.items in
     let whole = ap (map edge_of) c.in-Some.ensures.items ∙ map_push edge_of c.pop.new.self.items ends in
-    let t = subst (λ (fs : List Edge). AreTables (vec_capacity a.edges) fs a.place a.rows.items a.parents.items
-    a.cycles.items) whole c.self.invariant in
+    let t = subst (λ (fs : List Edge). AreTables (vec_capacity a.edges) (vec_capacity a.rows) fs a.place a.rows.items
+    a.parents.items a.cycles.items) whole c.self.invariant in
     let w = last_within es ends.child.0 ends.parent.0 t in
     let l = t.wide in
     let width = t.width in
@@ -43,8 +43,8 @@ index_mut-requires g c =
     let ends = c.in-Some.ends in
     let es = map edge_of c.pop.new.self.items in
     let whole = ap (map edge_of) c.in-Some.ensures.items ∙ map_push edge_of c.pop.new.self.items ends in
-    let t = subst (λ (fs : List Edge). AreTables (vec_capacity a.edges) fs a.place a.rows.items a.parents.items
-    a.cycles.items) whole c.self.invariant in
+    let t = subst (λ (fs : List Edge). AreTables (vec_capacity a.edges) (vec_capacity a.rows) fs a.place a.rows.items
+    a.parents.items a.cycles.items) whole c.self.invariant in
     let w = last_within es ends.child.0 ends.parent.0 t in
     let e = c.from-child.ensures in
     let o = a.parents.ok in
@@ -60,8 +60,8 @@ invariant_of-self g c =
     let room = vec_capacity c.pop.new.self in
     let es = map edge_of c.pop.new.self.items in
     let whole = ap (map edge_of) c.in-Some.ensures.items ∙ map_push edge_of c.pop.new.self.items ends in
-    let t = subst (λ (fs : List Edge). AreTables (vec_capacity a.edges) fs a.place a.rows.items a.parents.items
-    a.cycles.items) whole c.self.invariant in
+    let t = subst (λ (fs : List Edge). AreTables (vec_capacity a.edges) (vec_capacity a.rows) fs a.place a.rows.items
+    a.parents.items a.cycles.items) whole c.self.invariant in
     let w = last_within es k ends.parent.0 t in
     let inside : i < length a.parents.items = let e = c.from-child.ensures in omega (arith, w.0, e) in
     let taken = c.without.ensures ∙ ap (λ s. remove s ends.parent.0)
@@ -69,8 +69,8 @@ invariant_of-self g c =
     ∙ ap (row a.parents.items) c.from-child.ensures) in
     let size : c.len.result ≡ length a.parents.items = let l = c.len.ensures in let o = a.parents.ok in
     omega (arith, l, o) in
-    subst (λ j. AreTables room es (a.place - c.len.result) a.rows.items (slice_set a.parents.items j r) a.cycles.items)
-    (sym c.from-child.ensures)
+    subst (λ j. AreTables room (vec_capacity a.rows) es (a.place - c.len.result) a.rows.items
+    (slice_set a.parents.items j r) a.cycles.items) (sym c.from-child.ensures)
     (tables_pop es k ends.parent.0 t room (a.place - c.len.result) r
     (let q = c.in-Some.ensures.capacity in let s = t.reserved in omega (arith, q, s))
     (place_back es k ends.parent.0 t c.len.result size) taken)

@@ -13,9 +13,19 @@ use Rattle.olap_trail.specs.Drawn.{AreTables}
 use Rattle.olap_trail.proofs.DecisionLemmas.{pushed}
 use Rattle.olap_graph.proofs.RowLemmas.{row_read}
 use Rattle.olap_trail.proofs.StageLemmas.{AreCopied}
-use Rattle.olap_trail.proofs.TableLemmas.{next_fits, tables_push}
+use Rattle.olap_trail.proofs.TableLemmas.{next_fits, tables_filled, tables_push}
 use Rattle.olap_trail.proofs.WalkLemmas.{more}
 use Rattle.olap_trail.proofs.drawing.Drawn.push.Goals as goal
+
+pub fill-requires : goal.fill-requires
+fill-requires g c =
+    let a = c.self.inside in
+    let width = c.self.invariant.width in
+    let n = c.len-count.ensures in
+    let o = a.parents.ok in
+    let full = subst (λ (v : Drawing). length v.edges + 1 < v.room) (sym c.self.view_is) c.requires.room in
+    let f = next_fits c.self.invariant full in
+    (search (rules, width), omega (arith, n, o, f))
 
 pub draw-requires : goal.draw-requires
 draw-requires g c =
@@ -24,10 +34,9 @@ draw-requires g c =
     let wide = c.self.invariant.wide in
     let n = c.len-count.ensures in
     let o = a.parents.ok in
-    let full = subst (λ (v : Drawing). length v.edges + 1 < v.room) (sym c.self.view_is) c.requires.room in
-    let f = next_fits c.self.invariant full in
+    let f = c.fill.ensures.enough in
     let l = ap length c.deref_mut.ensures.value in
-    (search (rules, width), (omega (arith, n, o, wide, width.1), omega (arith, n, o, f, l)))
+    (search (rules, width), (omega (arith, n, o, wide, width.1), omega (arith, f, l)))
 
 pub invariant_of-self : goal.invariant_of-self
 invariant_of-self g c =
@@ -39,6 +48,8 @@ invariant_of-self g c =
     let room = vec_capacity c.push.new.self in
     let n = length a.parents.items in
     let place = a.place + c.len-count.result in
+    let filled = c.fill.new.rows in
+    let set_room = vec_capacity filled in
     let rows = c.draw.new.rows in
     let through = members c.above-through.result in
     let size : c.len-count.result ≡ n = let l = c.len-count.ensures in let o = a.parents.ok in omega (arith, l, o) in
@@ -58,8 +69,11 @@ invariant_of-self g c =
     let stage : c.len.result ≡ length es + 1 =
     let l = c.len.ensures in let o = c.push.new.self.ok in let m = ap length grown in
     let q = length-map a.edges.items edge_of in omega (arith, l, o, m, q, length_push) in
-    let copied : AreCopied a.rows.items rows a.place n k through n =
-    subst (λ j. AreCopied a.rows.items rows a.place j k through j) size
+    let fits : a.place + n + n ≤ length filled.items = let f = c.fill.ensures.enough in omega (arith, f, size) in
+    let tables = tables_filled c.self.invariant set_room filled.items c.fill.ensures.capacity (omega (arith, fits))
+    c.fill.ensures.same in
+    let copied : AreCopied filled.items rows a.place n k through n =
+    subst (λ j. AreCopied filled.items rows a.place j k through j) size
     (subst (λ (old : List (CatSet g.row.W)). AreCopied old rows a.place c.len-count.result k through c.len-count.result)
     c.deref_mut.ensures.value
     (record { same_length = c.draw.ensures.count; kept = c.draw.ensures.kept; grown = c.draw.ensures.grown })) in
@@ -67,17 +81,16 @@ invariant_of-self g c =
     let own = c.with.ensures ∙ ap (λ s. insert s p)
     (row_read a.parents.items c.from-child.result c.index.result.now inside c.index.ensures
     ∙ ap (row a.parents.items) c.from-child.ensures) in
-    let written = take_at rows (drop (length rows) a.rows.items) a.rows.len
+    let written = take_at rows (drop (length rows) filled.items) filled.len
     (c.draw.ensures.count ∙ c.deref_mut.ensures.len) in
     let reserved : length a.cycles.items ≤ room + 1 =
     let r = c.self.invariant.reserved in let q = c.push.ensures.capacity in omega (arith, r, q) in
     let marks = slice_set a.cycles.items c.len.result c.closes_cycle-closes.result in
-    let left = take a.rows.len (rows ++ drop (length rows) a.rows.items) in
+    let left = take filled.len (rows ++ drop (length rows) filled.items) in
     let nexts = slice_set a.parents.items c.from-child.result c.with.result in
-    subst (λ (fs : List Edge). AreTables room fs place left nexts marks) (sym edges)
-    (subst (λ (rs : List (CatSet g.row.W)). AreTables room (more es k p) place rs nexts marks) (sym written)
-    (subst (λ j. AreTables room (more es k p) place rows (slice_set a.parents.items j c.with.result) marks)
+    subst (λ (fs : List Edge). AreTables room set_room fs place left nexts marks) (sym edges)
+    (subst (λ (rs : List (CatSet g.row.W)). AreTables room set_room (more es k p) place rs nexts marks) (sym written)
+    (subst (λ j. AreTables room set_room (more es k p) place rows (slice_set a.parents.items j c.with.result) marks)
     (sym c.from-child.ensures)
-    (tables_push c.self.invariant k p room place c.len.result rows c.with.result c.closes_cycle-closes.result through
-    child
-    parent full new reserved (ap (λ j. a.place + j) size) stage copied above own cyclic)))
+    (tables_push tables k p room place c.len.result rows c.with.result c.closes_cycle-closes.result through child parent
+    full new reserved fits (ap (λ j. a.place + j) size) stage copied above own cyclic)))
