@@ -32,7 +32,8 @@ module _ (i : Instance) (m : ℕ) where
   turned true x h = h
   turned false x h = not_false x h
 
-  some_of_or : (x y : Formula) → Holds i m (signed true (Or x y)) → Holds i m (signed true x) ⊎ Holds i m (signed true y)
+  some_of_or : (x y : Formula) → Holds i m (signed true (Or x y))
+      → Holds i m (signed true x) ⊎ Holds i m (signed true y)
   some_of_or x y h = h
 
   some_of_and : (x y : Formula) → Holds i m (signed false (And x y))
@@ -43,10 +44,8 @@ module _ (i : Instance) (m : ℕ) where
       → Holds i m (signed false x) ⊎ Holds i m (signed true y)
   some_of_implies x y h = elim (decide_holds i m x) [ yes a ↦ inr (h a) | no n ↦ inl n ]
 
-  all_of_and : (x y : Formula) → Holds i m (signed true (And x y)) → Holds i m (signed true x) × Holds i m (signed true y)
-  all_of_and x y h = h
-
-  all_of_or : (x y : Formula) → Holds i m (signed false (Or x y)) → Holds i m (signed false x) × Holds i m (signed false y)
+  all_of_or : (x y : Formula) → Holds i m (signed false (Or x y))
+      → Holds i m (signed false x) × Holds i m (signed false y)
   all_of_or x y h = (λ a. h (inl a), λ b. h (inr b))
 
   all_of_implies : (x y : Formula) → Holds i m (signed false (Implies x y))
@@ -92,8 +91,8 @@ pub counted : {x y : declared.Formula} → x ≡ y → node_count (formula_of x)
 counted q = ap (λ (z : declared.Formula). node_count (formula_of z)) q
 
 -- what the clauses of a part require
-pub required : (e : Encoding) (c : ℕ) (b : Bool) {x y : declared.Formula} → x ≡ y → IsSound e → c < categories_of e.problem
-    → IsSpoken e.problem (formula_of x) → IsTrueAt e c (signed b (formula_of x))
+pub required : (e : Encoding) (c : ℕ) (b : Bool) {x y : declared.Formula} → x ≡ y → IsSound e
+    → c < categories_of e.problem → IsSpoken e.problem (formula_of x) → IsTrueAt e c (signed b (formula_of x))
     → IsSound e × (c < categories_of e.problem × (IsSpoken e.problem (formula_of y)
     × IsTrueAt e c (signed b (formula_of y))))
 required e c b q t h s k = (t, (h, (spoken_as e.problem q s, true_as e c b b refl q k)))
