@@ -1,5 +1,5 @@
 // The lines of a certificate, written.
-ghost use Rattle.std.specs.Prelude.{◌≡◌, ◌<◌, ◌++◌, ◌∷◌, [], ◌↔◌, IfOk, IsTrue, OnOk, decimal, length, map};
+ghost use Rattle.std.specs.Prelude.{◌≡◌, ◌<◌, ◌++◌, ◌∷◌, [], ◌↔◌, IfOk, IsTrue, OnOk, decimal, false, length, map};
 ghost use Rattle.olap_ast.specs.Trees.{constraint_of};
 ghost use Rattle.olap_base.specs.Graph.{IsCategory};
 ghost use Rattle.olap_graph.specs.Lookups.{name_of_category};
@@ -102,8 +102,8 @@ fn is_about(graph: &Graph, constraints: &[Constraint], line: Line) -> bool
     }
 }
 
-/// Appends the line, ended by an LF, if what it names is in a schema with this graph and these constraints. Whether it
-/// is.
+/// Appends the line, ended by an LF, if what it names is in a schema with this graph and these constraints, else
+/// nothing. Whether it is.
 pub fn push_known_line(
     out: &mut Vec<u8>,
     graph: &Graph,
@@ -114,6 +114,7 @@ pub fn push_known_line(
         ↔ IsAbout (with_graph graph.now (map constraint_of constraints.now)) (said line)) }
     ensures line { IfOk result (λ told. IsTrue told
         → out.new.items ≡ out.old.items ++ (line_text graph.now (said line) ++ 10 ∷ [])) }
+    ensures refused { IfOk result (λ told. told ≡ false → out.new.items ≡ out.old.items) }
 {
     if !is_about(graph, constraints, line) {
         return Ok(false);
