@@ -13,6 +13,8 @@ mod clauses;
 #[cfg(test)]
 mod dimsat;
 #[cfg(test)]
+mod encoding;
+#[cfg(test)]
 mod eval;
 #[cfg(test)]
 mod facts;

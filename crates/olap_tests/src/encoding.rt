@@ -1,0 +1,118 @@
+// How many clauses there are of a schema and a root, where nothing is asked but that it has a member.
+ghost use Rattle.olap_base.specs.Graph.{IsCategory};
+ghost use Rattle.olap_schema.specs.Schemas.{schema_of};
+
+use olap_ast::Formula;
+use olap_base::{CatId, Memory};
+use olap_encoding::{Problem, encode};
+use olap_names::Candidates;
+use olap_schema::{Schema, read_schema};
+use std::alloc::Global;
+use std::test::Fail;
+
+const LOCATION: &[u8] = b"schema 1
+category Store
+category City
+category State
+category Province
+category Region
+category Country
+edge Store City
+edge City State
+edge City Province
+edge City Country
+edge State Region
+edge State Country
+edge Province Region
+edge Region Country
+edge Country All
+constraint City: City_Country <-> City = \"Washington\"
+constraint City: one(City_State, City_Province, City_Country)
+constraint City: City = \"Washington\" -> City.Country = \"USA\"
+constraint State: State.Country = \"USA\" | State.Country = \"Mexico\"
+constraint State: State_Region <-> State.Country = \"Mexico\"
+constraint State: State_Region ^ State_Country
+constraint Province: Province.Country = \"Canada\"
+";
+
+// For each category beside `All` how many clauses there are with it as the root, counted by hand.
+const COUNTS: [(&[u8], usize); 6] = [
+    (b"Store", 128),
+    (b"City", 120),
+    (b"State", 60),
+    (b"Province", 35),
+    (b"Region", 29),
+    (b"Country", 27),
+];
+
+// A ring above a category, declared upwards and downwards.
+const RINGS: [&[u8]; 2] = [
+    b"schema 1
+category Store
+category City
+category State
+category Country
+edge Store City
+edge City State
+edge State Country
+edge Country City
+edge Country All
+",
+    b"schema 1
+category Country
+category State
+category City
+category Store
+edge Store City
+edge City State
+edge State Country
+edge Country City
+edge Country All
+",
+];
+
+// How many clauses there are with this root.
+fn clauses_at(alloc: Global, schema: &Schema, root: CatId) -> Result<usize, Memory>
+    requires { IsCategory (schema_of schema.now).graph root.0 }
+{
+    let question = Formula::True;
+    let graph = schema.graph();
+    let constraints = schema.constraints();
+    let candidates = Candidates::of(alloc, graph, constraints, &question)?;
+    let problem = Problem {
+        graph,
+        constraints,
+        question: &question,
+        root,
+        fresh: candidates.fresh(),
+        firsts: candidates.firsts(),
+        constants: candidates.texts(),
+    };
+    let encoder = encode(alloc, &problem)?;
+    Ok(encoder.clauses().len())
+}
+
+// The same of a schema's text and a category's name.
+fn clauses_of(alloc: Global, text: &[u8], root: &[u8]) -> Result<usize, Fail> {
+    let schema = read_schema(alloc, text).map_err(|_| "no schema")?;
+    let root = schema.graph().category(root).ok_or("no such category")?;
+    let clauses = clauses_at(alloc, &schema, root).map_err(|_| "no clauses")?;
+    Ok(clauses)
+}
+
+#[test]
+fn clauses_of_locations(rt: HostRuntime) -> Result<(), Fail> {
+    for (root, count) in &COUNTS {
+        assert_eq!(rt; clauses_of(rt.alloc(), LOCATION, root)?, *count);
+    }
+    Ok(())
+}
+
+// Counted by hand. That no walk comes back is said of one edge, whichever way the categories were declared.
+#[test]
+fn clauses_of_rings(rt: HostRuntime) -> Result<(), Fail> {
+    for ring in &RINGS {
+        assert_eq!(rt; clauses_of(rt.alloc(), ring, b"Store")?, 38);
+    }
+    Ok(())
+}
