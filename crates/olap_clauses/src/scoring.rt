@@ -1,5 +1,6 @@
 // How much each variable had to do with conflicts of late. Nothing here is trusted.
 use crate::literals::Lit;
+use crate::ordering::Order;
 use std::alloc::{AllocError, Global};
 
 /// What is added to a score at first.
@@ -29,9 +30,9 @@ impl Scores {
     }
 
     /// Whether the judge is shown the scores, and whether they are followed before it is asked.
-    pub(crate) fn show(&mut self, shown: bool, free: bool) {
-        self.shown = shown;
-        self.free = free;
+    pub(crate) fn show(&mut self, order: Order) {
+        self.shown = order == Order::Shown;
+        self.free = order == Order::Free;
     }
 
     /// The scores, or none.
