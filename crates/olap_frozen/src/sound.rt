@@ -13,14 +13,13 @@ use olap_graph::{Categories, Graph, row_has};
 fn is_passed(graph: &Graph, edges: &[bool], rows: &[Categories], c: CatId, d: CatId) -> bool
     requires edges { length edges.now ≡ length graph.now.edges }
     requires rows { length rows.now ≡ category_count graph.now }
+    requires category { IsCategory graph.now c.0 }
     ensures { IsTrue result ↔ IsPassed graph.now edges.now rows.now (length graph.now.edges) c.0 d.0 }
 {
-    'edges: for e in 0..graph.edges() {
-        if edges[usize::from(e)] {
-            let (child, parent) = graph.ends(EdgeId(e));
-            if child == c && parent != d && row_has(rows, parent.0, d.0) {
-                return true;
-            }
+    'edges: for e in graph.parents(c) {
+        let (_, parent) = graph.ends(*e);
+        if edges[usize::from(e.0)] && parent != d && row_has(rows, parent.0, d.0) {
+            return true;
         }
     }
     false
@@ -58,7 +57,7 @@ fn tops(rows: &[Categories], root: CatId, count: u16) -> bool
 
 /// Whether the laws hold on the chosen edges.
 ///
-/// Cost: for each chosen edge the edges.
+/// Cost: for each chosen edge the edges out of its child.
 pub fn is_sound(graph: &Graph, root: CatId, edges: &[bool], rows: &[Categories]) -> bool
     requires edges { length edges.now ≡ length graph.now.edges }
     requires size { length rows.now ≡ category_count graph.now }

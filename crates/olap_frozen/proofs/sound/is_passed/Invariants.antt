@@ -1,5 +1,6 @@
-use Rattle.olap_frozen.specs.Rows.{IsPassed}
+-- None of the edges so far goes past.
+use Rattle.olap_frozen.proofs.PassedLemmas.{NonePast}
 use Rattle.olap_frozen.proofs.sound.is_passed.Given as goal
 
 abbrev pub invariant-edges : goal.invariant-edges
-invariant-edges l = IsPassed l.graph l.edges l.rows l.e l.c.0 l.d.0 → ⊥
+invariant-edges l = NonePast l.fn.graph l.fn.edges l.fn.rows l.e-items l.d.0 l.e-index
