@@ -7,11 +7,16 @@ use Rattle.olap_base.specs.Graph.{category_count}
 use Rattle.olap_ast.specs.Frozen.{Frozen, code}
 use Rattle.olap_ast.specs.Violation.{IsNotAfter}
 use Rattle.olap_clauses.specs.declared.engine.Engine.{Engine}
+use Rattle.olap_clauses.specs.declared.literals.Lit.{Lit}
 use Rattle.olap_clauses.specs.declared.trails.Step.{Step}
+use Rattle.olap_clauses.specs.declared.trails.Trail.{Trail}
+use Rattle.olap_clauses.specs.Engines.{admits}
+use Rattle.olap_clauses.specs.Standing.{Agrees}
+use Rattle.olap_clauses.specs.Trails.{steps_of}
 use Rattle.olap_dimsat.specs.Tasks.{IsTask, Task, IsOne, constant_count, name_variable}
 use Rattle.olap_dimsat.specs.Reads.{Reads, IsShaped, index_in}
-use Rattle.olap_dimsat.specs.Pinned.{AreShaped, IsLeast, IsLonger, IsPinned, IsPlace, IsProbed, IsReady, IsReplaced, IsSame, NoneAt, NoneLess, SayAt}
-use Rattle.olap_dimsat.proofs.Truths.{same_is, is_same, none_is_zero}
+use Rattle.olap_dimsat.specs.Pinned.{AreShaped, IsLeast, IsLonger, IsPinned, IsPlace, IsProbed, IsReady, IsReplaced, IsSame, IsSettled, NoneAt, NoneLess, SayAt, SaysAt}
+use Rattle.olap_dimsat.proofs.Truths.{holds_at, same_is, is_same, none_is_zero}
 use Rattle.olap_dimsat.proofs.ReadLemmas.{index_small}
 
 -- ---- codes
@@ -186,6 +191,28 @@ pinned_start t w steps e one = subst (λ ss. IsPinned t 0 w ss) (sym e) (record 
   shaped = λ k d h. absurd (omega arith);
   exactly = λ f v o r. (λ a q h. absurd (omega arith), λ s. tt);
 })
+
+-- ---- literals that are forced
+
+-- a name that is a constant
+pub says_name : (t : Task) (p c x : ℕ) (l : Lit)
+    → l ≡ record { variable = name_variable t.layout c (x - 1); positive = true } → p ≡ length t.graph.edges + c - 1
+    → c ≢ 0 → c < category_count t.graph → 0 < x → x ≤ constant_count t c → SaysAt t p x l
+says_name t p c x l e at n h positive most f v o r a =
+    let j = x - 1 in
+    let next : suc j ≡ x = omega arith in
+    let within : j < constant_count t c = omega arith in
+    ap (slice_index (code f)) at ∙ code_index t f c o n
+    ∙ same_is (index_in f c) (suc j) (sym (r.named c j h within) ∙ holds_at v l _ e a) ∙ next
+
+-- what is settled where more is forced: those that are as w before an earlier place agree
+pub none_less_settled : (t : Task) (from q : ℕ) (w : Frozen) (old : List Step) (after : Trail) (e : Engine)
+    → IsReady t e → IsPinned t from w old → from ≤ q
+    → ((v : ℕ → Bool) → admits v e → Agrees v old → Agrees v (steps_of after)) → IsSettled t after q w
+    → NoneLess t q w
+none_less_settled t from q w old after e ready i l follows settled f one s =
+    let v = ready f one in
+    settled f v.0 one v.1 (follows v.0 v.2 ((i.exactly f v.0 one v.1).1 (λ k h. s k (omega arith))))
 
 -- ---- the least
 

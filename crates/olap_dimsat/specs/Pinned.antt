@@ -2,15 +2,18 @@
 use Rattle.std.specs.Prelude.{◌≡◌, ◌↔◌, ◌+◌, ◌-◌, ℕ, ◌<◌, ◌≤◌, List, ◌++◌, Bool, All, Contains, length, slice_index}
 use Rattle.olap_ast.specs.Frozen.{Frozen, IsLeastFrozen, code}
 use Rattle.olap_names.specs.Names.{candidates_of}
+use Rattle.olap_clauses.specs.declared.literals.Lit.{Lit}
 use Rattle.olap_clauses.specs.declared.trails.Step.{Step}
+use Rattle.olap_clauses.specs.declared.trails.Trail.{Trail}
 use Rattle.olap_clauses.specs.declared.engine.Engine.{Engine}
+use Rattle.olap_clauses.specs.Literals.{Holds}
 use Rattle.olap_clauses.specs.Standing.{Agrees}
 use Rattle.olap_clauses.specs.Engines.{admits}
 use Rattle.olap_encoding.specs.Literals.{IsMet}
 use Rattle.olap_dimsat.specs.Tasks.{Task, IsOne, IsTask, constant_count, schema_of}
 use Rattle.olap_clauses.specs.declared.pools.Pool.{Pool}
 use Rattle.olap_clauses.specs.Pools.{AreTrue}
-use Rattle.olap_dimsat.specs.Reads.{Reads, IsShaped}
+use Rattle.olap_dimsat.specs.Reads.{OfAgreeing, Reads, IsShaped}
 
 -- the valuation meets each of these clauses of the encoder
 abbrev pub AreAllMet : (ℕ → Bool) → List (List ℕ) → Type 0
@@ -46,6 +49,14 @@ NoneLess t p w = (f : Frozen) → IsOne t f → IsSame p f w → slice_index (co
 abbrev pub SayAt : Task → ℕ → ℕ → List Step → List Step → Type 0
 SayAt t p x old new = (f : Frozen) (v : ℕ → Bool) → IsOne t f → Reads t f v
     → Agrees v new ↔ (Agrees v old × (slice_index (code f) p ≡ x))
+
+-- a frozen dimension of which the literal is true has x at the place p
+abbrev pub SaysAt : Task → ℕ → ℕ → Lit → Type 0
+SaysAt t p x l = (f : Frozen) (v : ℕ → Bool) → IsOne t f → Reads t f v → Holds v l → slice_index (code f) p ≡ x
+
+-- no frozen dimension that agrees with the trail has less at the place p than w
+abbrev pub IsSettled : Task → Trail → ℕ → Frozen → Type 0
+IsSettled t trail p w = OfAgreeing t trail (λ f. slice_index (code w) p ≤ slice_index (code f) p)
 
 -- none that agrees with the literals has x at the place p
 abbrev pub NoneAt : Task → ℕ → ℕ → List Step → Type 0

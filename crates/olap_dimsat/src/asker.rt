@@ -60,6 +60,8 @@ pub struct Leaf {
     pub(crate) room: Room,
     /// Whether nothing was undone in this search so far. A hint.
     pub(crate) straight_down: bool,
+    /// How many edges were decided when one first came present beside another from its child, if one did. A hint.
+    pub(crate) second: Option<u16>,
 }
 
 /// A value with nothing present.
@@ -94,6 +96,7 @@ impl Leaf {
             frozen: blank(alloc, graph, root)?,
             room: Room::new(alloc, graph)?,
             straight_down: true,
+            second: None,
         })
     }
 }

@@ -10,12 +10,12 @@ ghost use Rattle.olap_ast.specs.Frozen.{Frozen as TheFrozen, code};
 ghost use Rattle.olap_dimsat.specs.Tasks.{IsOne, IsTask, constant_count};
 ghost use Rattle.olap_dimsat.specs.Reads.{IsShaped};
 ghost use Rattle.olap_dimsat.specs.Asking.{IsFor, IsSuited, task_of};
-ghost use Rattle.olap_dimsat.specs.Pinned.{AreShaped, InRange, IsLeast, IsLonger, IsPinned, IsPlace, IsProbed, IsReady, IsReplaced, IsSame, NoneAt, NoneLess, SayAt};
+ghost use Rattle.olap_dimsat.specs.Pinned.{AreShaped, InRange, IsLeast, IsLonger, IsPinned, IsPlace, IsProbed, IsReady, IsReplaced, IsSame, IsSettled, NoneAt, NoneLess, SayAt, SaysAt};
 
 use crate::asker::{Asker, Leaf};
 use crate::existing::exists;
 use olap_base::{CatId, EdgeId};
-use olap_clauses::{Engine, Lit, Value};
+use olap_clauses::{Engine, Lit, Trail, Value};
 use olap_frozen::Frozen;
 use std::mem::swap;
 
@@ -204,6 +204,58 @@ pub(crate) fn keep(engine: &mut Engine, a: &Asker<'_>, best: &Frozen, p: u16)
     let _ = assume_at(engine, a, p, number);
 }
 
+// The literal that says that this number, and not 0, is at this place.
+fn literal_at(a: &Asker<'_>, p: u16, number: u16) -> Lit
+    requires task { IsTask (task_of a.now) }
+    requires place { IsPlace (task_of a.now) p }
+    requires number { InRange (task_of a.now) p number }
+    requires positive { 0 < number }
+    ensures says { SaysAt (task_of a.now) p number result }
+{
+    let edges = a.graph.edges();
+    // Called for its clauses: the graph has few categories.
+    let _few = a.graph.categories();
+    if p < edges {
+        a.layout.on(EdgeId(p))
+    } else {
+        a.layout.name(CatId(p - edges + 1), usize::from(number) - 1)
+    }
+}
+
+// Whether all that agree with the trail have what the best one has at this place, or that is 0.
+fn is_settled(a: &Asker<'_>, best: &Frozen, trail: &Trail, p: u16) -> bool
+    requires task { IsTask (task_of a.now) }
+    requires best { IsFor (task_of a.now) best.now }
+    requires one { IsOne (task_of a.now) (chosen_of best.now.edges best.now.names) }
+    requires place { IsPlace (task_of a.now) p }
+    ensures { result ≡ true → IsSettled (task_of a.now) trail.now p (chosen_of best.now.edges best.now.names) }
+{
+    let number = number_at(a, best, p);
+    number == 0 || matches!(trail.value(literal_at(a, p, number)), Value::Yes)
+}
+
+// From this place on, the first at which one that agrees before it may have less than the best one.
+fn first_open(engine: &mut Engine, a: &Asker<'_>, best: &Frozen, from: u16) -> u16
+    requires task { IsTask (task_of a.now) }
+    requires ready { IsReady (task_of a.now) engine.old }
+    requires best { IsFor (task_of a.now) best.now }
+    requires pinned { IsPinned (task_of a.now) from (chosen_of best.now.edges best.now.names) (trail_of engine.old) }
+    ensures least { (q : ℕ) → from ≤ q → q < result
+        → NoneLess (task_of a.now) q (chosen_of best.now.edges best.now.names) }
+    ensures trail { trail_of engine.new ≡ trail_of engine.old }
+    ensures variables { variables_of engine.new ≡ variables_of engine.old }
+    ensures ready { IsReady (task_of a.now) engine.new }
+{
+    let stood = engine.trail().len();
+    engine.force();
+    let mut p = from;
+    'places: while p < places(a) && is_settled(a, best, engine.trail(), p) {
+        p += 1;
+    }
+    engine.undo(stood);
+    p
+}
+
 // One place more.
 fn settle(engine: &mut Engine, a: &Asker<'_>, leaf: &mut Leaf, best: &mut Frozen, p: u16)
     requires place { IsPlace (task_of a.now) p }
@@ -225,6 +277,43 @@ fn settle(engine: &mut Engine, a: &Asker<'_>, leaf: &mut Leaf, best: &mut Frozen
         }
     }
     keep(engine, a, best, p);
+}
+
+// One place more, where it is known up to which place none has less. Up to which place it is known then.
+fn settle_next(
+    engine: &mut Engine,
+    a: &Asker<'_>,
+    leaf: &mut Leaf,
+    best: &mut Frozen,
+    p: u16,
+    known: u16,
+) -> u16
+    requires place { IsPlace (task_of a.now) p }
+    requires suited { IsSuited (task_of a.now) leaf.old (variables_of engine.old) }
+    requires ready { IsReady (task_of a.now) engine.old }
+    requires best { IsFor (task_of a.now) best.old }
+    requires pinned { IsPinned (task_of a.now) p (chosen_of best.old.edges best.old.names) (trail_of engine.old) }
+    requires known { (q : ℕ) → p ≤ q → q < known → NoneLess (task_of a.now) q (chosen_of best.old.edges best.old.names) }
+    ensures pinned { IsPinned (task_of a.now) (p + 1) (chosen_of best.new.edges best.new.names) (trail_of engine.new) }
+    ensures same { IsSame p (chosen_of best.new.edges best.new.names) (chosen_of best.old.edges best.old.names) }
+    ensures least { NoneLess (task_of a.now) p (chosen_of best.new.edges best.new.names) }
+    ensures known { (q : ℕ) → p < q → q < result
+        → NoneLess (task_of a.now) q (chosen_of best.new.edges best.new.names) }
+    ensures best { IsFor (task_of a.now) best.new }
+    ensures suited { IsSuited (task_of a.now) leaf.new (variables_of engine.new) }
+    ensures ready { IsReady (task_of a.now) engine.new }
+{
+    if p < known {
+        keep(engine, a, best, p);
+        return known;
+    }
+    let next = first_open(engine, a, best, p);
+    if p < next {
+        keep(engine, a, best, p);
+        return next;
+    }
+    settle(engine, a, leaf, best, p);
+    p
 }
 
 /// How many places codes have.
@@ -254,8 +343,9 @@ pub(crate) fn settle_from(
     ensures suited { IsSuited (task_of a.now) leaf.new (variables_of engine.new) }
     ensures ready { IsReady (task_of a.now) engine.new }
 {
+    let mut known = from;
     'places: for p in from..places(a) {
-        settle(engine, a, leaf, best, p);
+        known = settle_next(engine, a, leaf, best, p, known);
     }
 }
 

@@ -42,9 +42,31 @@ fn standing(a: &Asker<'_>, decided: &Decisions, trail: &Trail) -> u16
     count
 }
 
+// Whether another edge from its child was decided present.
+fn is_second(a: &Asker<'_>, decided: &Decisions, e: EdgeId) -> bool
+    requires task { IsTask (task_of a.now) }
+    requires of { IsOf (task_of a.now) decided.now }
+    requires edge { e.0 < length a.now.graph.now.edges }
+{
+    let (child, _) = a.graph.ends(e);
+    'edges: for other in a.graph.parents(child) {
+        if *other != e && decided.status(*other) == Some(true) {
+            return true;
+        }
+    }
+    false
+}
+
 // Decides an edge as the trail does. False: no frozen dimension agrees with the trail, since the edge closes a cycle or
-// makes a shortcut.
-fn add(a: &Asker<'_>, decided: &mut Decisions, trail: &Trail, e: EdgeId, present: bool) -> bool
+// makes a shortcut. Where no category has two edges out of it there is no shortcut.
+fn add(
+    a: &Asker<'_>,
+    decided: &mut Decisions,
+    second: &mut Option<u16>,
+    trail: &Trail,
+    e: EdgeId,
+    present: bool,
+) -> bool
     requires task { IsTask (task_of a.now) }
     requires of { IsOf (task_of a.now) decided.old }
     requires edge { e.0 < length a.now.graph.now.edges }
@@ -55,15 +77,29 @@ fn add(a: &Asker<'_>, decided: &mut Decisions, trail: &Trail, e: EdgeId, present
     ensures none { result ≡ false → NoneAgrees (task_of a.now) trail.now }
     ensures of { IsOf (task_of a.now) decided.new }
 {
-    if present && (decided.closes_cycle(e) || decided.makes_shortcut(e)) {
-        return false;
+    if present {
+        if decided.closes_cycle(e) {
+            return false;
+        }
+        if second.is_none() && is_second(a, decided, e) {
+            *second = Some(decided.mark().0);
+        }
+        if second.is_some() && decided.makes_shortcut(e) {
+            return false;
+        }
     }
     decided.decide(e, present);
     true
 }
 
 // Decides the edge as the trail does, if the trail does and the edge is open.
-fn follow_edge(a: &Asker<'_>, decided: &mut Decisions, trail: &Trail, e: EdgeId) -> bool
+fn follow_edge(
+    a: &Asker<'_>,
+    decided: &mut Decisions,
+    second: &mut Option<u16>,
+    trail: &Trail,
+    e: EdgeId,
+) -> bool
     requires task { IsTask (task_of a.now) }
     requires of { IsOf (task_of a.now) decided.old }
     requires edge { e.0 < length a.now.graph.now.edges }
@@ -76,14 +112,19 @@ fn follow_edge(a: &Asker<'_>, decided: &mut Decisions, trail: &Trail, e: EdgeId)
         return true;
     }
     match trail.value(a.layout.on(e)) {
-        Value::Yes => add(a, decided, trail, e, true),
-        Value::No => add(a, decided, trail, e, false),
+        Value::Yes => add(a, decided, second, trail, e, true),
+        Value::No => add(a, decided, second, trail, e, false),
         Value::Unknown => true,
     }
 }
 
 // Decides each open edge as the trail does. False: no frozen dimension agrees with the trail.
-fn follow_edges(a: &Asker<'_>, decided: &mut Decisions, trail: &Trail) -> bool
+fn follow_edges(
+    a: &Asker<'_>,
+    decided: &mut Decisions,
+    second: &mut Option<u16>,
+    trail: &Trail,
+) -> bool
     requires task { IsTask (task_of a.now) }
     requires of { IsOf (task_of a.now) decided.old }
     requires read { AreRead (task_of a.now) trail.now decided.old.decisions }
@@ -92,7 +133,7 @@ fn follow_edges(a: &Asker<'_>, decided: &mut Decisions, trail: &Trail) -> bool
     ensures of { IsOf (task_of a.now) decided.new }
 {
     'edges: for e in 0..a.graph.edges() {
-        if !follow_edge(a, decided, trail, EdgeId(e)) {
+        if !follow_edge(a, decided, second, trail, EdgeId(e)) {
             return false;
         }
     }
@@ -114,5 +155,10 @@ pub(crate) fn follow(a: &Asker<'_>, leaf: &mut Leaf, trail: &Trail) -> bool
         leaf.decided.undo(Mark(stands));
         leaf.straight_down = false;
     }
-    follow_edges(a, &mut leaf.decided, trail)
+    if let Some(count) = leaf.second {
+        if count >= stands {
+            leaf.second = None;
+        }
+    }
+    follow_edges(a, &mut leaf.decided, &mut leaf.second, trail)
 }

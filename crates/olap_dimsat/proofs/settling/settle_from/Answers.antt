@@ -5,16 +5,16 @@ use Rattle.olap_dimsat.specs.Pinned.{NoneLess}
 use Rattle.olap_dimsat.proofs.SettleLemmas.{at_or_below, none_less_still}
 use Rattle.olap_dimsat.proofs.settling.settle_from.Goals as goal
 
-pub settle-requires-clause-place : goal.settle-requires-clause-place
-settle-requires-clause-place c = (c.places-p-end.ensures c.places.p).0 c.places-test.true
+pub settle_next-known-requires-clause-place : goal.settle_next-known-requires-clause-place
+settle_next-known-requires-clause-place c = (c.places-p-end.ensures c.places.p).0 c.places-test.true
 
 pub places-preserved : goal.places-preserved
 places-preserved c =
     let t = task_of c.args.a.now in
     let i = c.places.invariant in
-    let s = c.settle.ensures in
+    let s = c.settle_next-known.ensures in
     let old = c.places.best in
-    let new = c.settle.new.best in
+    let new = c.settle_next-known.new.best in
     let w = chosen_of old.edges old.names in
     let y = chosen_of new.edges new.names in record {
       pinned = s.pinned;
@@ -23,6 +23,7 @@ places-preserved c =
         | inl l ↦ none_less_still t c.places.p q w y l s.same (i.least q f l)
         | inr e ↦ subst (λ m. NoneLess t m y) (sym e) s.least
       ];
+      known = λ q h l. s.known q (omega arith) l;
       best = s.best;
       suited = s.suited;
       ready = s.ready;

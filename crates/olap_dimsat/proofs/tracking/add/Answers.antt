@@ -3,7 +3,15 @@ use Rattle.olap_dimsat.specs.Asking.{task_of}
 use Rattle.olap_dimsat.specs.Reads.{EdgeReads}
 use Rattle.olap_dimsat.proofs.TrackingLemmas.{cycle_none, shortcut_none}
 use Rattle.olap_dimsat.proofs.tracking.add.Goals as goal
-use Rattle.olap_dimsat.proofs.tracking.add.Goals.{then-closes_cycle, else-closes_cycle}
+
+pub returns-then-closes_cycle-clause-none : goal.returns-then-closes_cycle-clause-none
+returns-then-closes_cycle-clause-none c = λ _.
+    let t = task_of c.args.a.now in
+    let e = c.args.e.0 in
+    let reads : EdgeReads t c.args.trail.now e true =
+    subst (λ (b : Bool). EdgeReads t c.args.trail.now e b) c.if-present.true c.requires.reads in
+    cycle_none t c.args.trail.now c.requires.task c.args.decided.now c.requires.of c.requires.read e reads
+    (c.closes_cycle.ensures.0 c.if-closes_cycle.true)
 
 pub returns-then-makes_shortcut-clause-none : goal.returns-then-makes_shortcut-clause-none
 returns-then-makes_shortcut-clause-none c = λ _.
@@ -11,10 +19,5 @@ returns-then-makes_shortcut-clause-none c = λ _.
     let e = c.args.e.0 in
     let reads : EdgeReads t c.args.trail.now e true =
     subst (λ (b : Bool). EdgeReads t c.args.trail.now e b) c.if-present.true c.requires.reads in
-    elim c.if-closes_cycle.branch [
-      | then-closes_cycle w ↦ cycle_none t c.args.trail.now c.requires.task c.args.decided.now c.requires.of
-          c.requires.read
-          e reads (c.closes_cycle.ensures.0 w.if-closes_cycle.true)
-      | else-closes_cycle w ↦ shortcut_none t c.args.trail.now c.requires.task c.args.decided.now c.requires.of
-          c.requires.read e reads (w.makes_shortcut.ensures.0 (sym w.value-is ∙ c.if-makes_shortcut.true))
-    ]
+    shortcut_none t c.args.trail.now c.requires.task c.args.decided.now c.requires.of c.requires.read e reads
+    (c.makes_shortcut.ensures.0 c.if-makes_shortcut.true)
