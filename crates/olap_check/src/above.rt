@@ -96,7 +96,7 @@ impl<'a> Shape for Above<'a> {
 
     fn name_is(&self, c: CatId, k: &Text) -> bool {
         match self.member(c.0) {
-            Some(y) => self.instance.name(MemberId(y)).bytes() == k.bytes(),
+            Some(y) => self.instance.name(MemberId(y)) == k.bytes(),
             None => false,
         }
     }
@@ -105,7 +105,7 @@ impl<'a> Shape for Above<'a> {
         let Some(y) = self.member(c.0) else {
             return false;
         };
-        match number(self.instance.name(MemberId(y)).bytes()) {
+        match number(self.instance.name(MemberId(y))) {
             Some(a) => op.test(a, n),
             None => false,
         }

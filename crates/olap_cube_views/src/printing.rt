@@ -60,7 +60,7 @@ fn print_row(
     let mut fields: Vec<&[u8]> = Vec::new(alloc);
     'ids: for k in 0..instances.len() {
         let member = row.members.items()[k];
-        fields.push(instances[k].id(member).bytes())?;
+        fields.push(instances[k].id(member))?;
     }
     fields.push(count.format(row.count).as_bytes())?;
     fields.push(sum.format(row.sum).as_bytes())?;

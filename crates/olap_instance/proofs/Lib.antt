@@ -1,5 +1,6 @@
 -- Lemmas of the crate.
 pub mod Index
+pub mod RosterLemmas
 pub mod MembersLemmas
 pub mod PlaceFacts
 pub mod ListsLemmas

@@ -8,7 +8,6 @@ use Rattle.std.specs.List.{list_any}
 use Rattle.std.specs.Str.{is_utf8}
 use Rattle.olap_base.specs.Instance.{Instance, IsInstance, IsMember, Member, member_at, parents_of}
 use Rattle.olap_base.specs.Limits.{most_members, most_text_bytes}
-use Rattle.olap_instance.specs.declared.rosters.Head.{Head}
 
 -- a member of that id, category and name, without parents
 abbrev pub childless : List ℕ → ℕ → List ℕ → Member
@@ -17,9 +16,6 @@ childless id category name = record { id = id; category = category; name = name;
 -- the member `all`
 abbrev pub all_member : Member
 all_member = childless (codes "all") 0 (codes "all")
-
-abbrev pub member_of_head : Head → Member
-member_of_head h = childless h.id h.category.0 h.name
 
 -- the members, each with the parents at its place
 abbrev pub with_parents : Instance → List (List ℕ) → Instance

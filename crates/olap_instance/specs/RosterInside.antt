@@ -1,22 +1,21 @@
 -- What a roster keeps.
-use Rattle.std.specs.Prelude.{◌≡◌, ◌≤◌, ◌^◌, length, map}
+use Rattle.std.specs.Prelude.{◌≡◌, ◌≤◌, ◌^◌, ◌∷◌, [], ℕ, List, length, map}
 use Rattle.olap_base.specs.Instance.{Instance}
-use Rattle.olap_instance.specs.Members.{member_of_head}
+use Rattle.olap_instance.specs.Members.{childless}
 use Rattle.olap_instance.specs.declared.rosters.Roster.TheInside.{Inside}
 
+-- members of these ids, categories and names, one of each, without parents
+abbrev pub members_from : List (List ℕ) → List ℕ → List (List ℕ) → Instance
+members_from [] categories names = []
+members_from (id ∷ ids) [] names = []
+members_from (id ∷ ids) (c ∷ categories) [] = []
+members_from (id ∷ ids) (c ∷ categories) (name ∷ names) = childless id c name ∷ members_from ids categories names
+
 abbrev pub members_of_roster : Inside → Instance
-members_of_roster a = map member_of_head a.heads.items
+members_of_roster a = members_from (map (λ k. k.items) a.ids.keys) (map (λ c. c.0) a.categories.items) a.names
 
--- the index has the ids, in order
-abbrev pub IsIndexed : Inside → Type 0
-IsIndexed a = map (λ k. k.items) a.index.keys ≡ map (λ m. m.id) (members_of_roster a)
-
--- the categories of the heads, in order
-abbrev pub HasCategories : Inside → Type 0
-HasCategories a = map (λ c. c.0) a.categories.items ≡ map (λ m. m.category) (members_of_roster a)
-
--- what a roster keeps
+-- what a roster keeps: as many categories and names as ids, and few
 pub record IsRoster (a : Inside) : Type 0 where
-  pub indexed : IsIndexed a
-  pub categories : HasCategories a
-  pub few : length a.heads.items ≤ 2 ^ 32
+  pub categories : length a.categories.items ≡ length a.ids.keys
+  pub names : length a.names ≡ length a.ids.keys
+  pub few : length a.ids.keys ≤ 2 ^ 32

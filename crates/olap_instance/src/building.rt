@@ -10,7 +10,7 @@ ghost use Rattle.olap_instance.specs.declared.refusals.ParentRefusal.TheVariants
 
 use crate::hashing::KeyedHash;
 use crate::lists::Lists;
-use crate::rosters::{Head, Roster};
+use crate::rosters::Roster;
 use crate::texts::{is_bad, is_bad_number, is_long};
 use crate::{Instance, MemberRefusal, ParentRefusal};
 use olap_base::{CatId, MOST_MEMBERS, MemberId, Memory, Text};
@@ -202,7 +202,7 @@ impl InstanceBuilder {
         }
         let member = MemberId(self.roster.len() as u32);
         self.parents.reserve(1)?;
-        self.roster.add(Head { id, category, name })?;
+        self.roster.add(id.bytes(), category, name.bytes())?;
         self.parents.push(Vec::new(self.alloc))?;
         Ok(member)
     }

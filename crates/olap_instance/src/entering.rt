@@ -12,10 +12,10 @@ ghost use Rattle.olap_instance.specs.Refusals.{IsFaultCause, IsRecordCause};
 
 use crate::hashing::KeyedHash;
 use crate::lists::Lists;
-use crate::rosters::{Head, Roster};
+use crate::rosters::Roster;
 use crate::texts::{is_bad, is_bad_number, is_long, is_text};
 use crate::{InstanceKind, InstanceRefusal};
-use olap_base::{CatId, MOST_MEMBERS, Text};
+use olap_base::{CatId, MOST_MEMBERS};
 use olap_graph::Graph;
 use olap_records::Rows;
 use std::alloc::Global;
@@ -84,12 +84,7 @@ fn checked(graph: &Graph, roster: &Roster, rows: &Rows) -> Result<u16, InstanceK
 }
 
 // Adds the member of the record that was read last.
-fn enter(
-    alloc: Global,
-    graph: &Graph,
-    roster: &mut Roster,
-    rows: &Rows,
-) -> Result<(), InstanceRefusal>
+fn enter(graph: &Graph, roster: &mut Roster, rows: &Rows) -> Result<(), InstanceRefusal>
     requires few { length roster.old < most_members }
     ensures member { (earlier : List (List (List ℕ))) → roster.old ≡ map (member_read graph.now) earlier
         → MatchResult result
@@ -102,13 +97,7 @@ fn enter(
 {
     match checked(graph, roster, rows) {
         Ok(category) => {
-            let id = Text::from_bytes(alloc, rows.field(0))?;
-            let name = Text::from_bytes(alloc, rows.field(2))?;
-            roster.add(Head {
-                id,
-                category: CatId(category),
-                name,
-            })?;
+            roster.add(rows.field(0), CatId(category), rows.field(2))?;
             Ok(())
         }
         Err(kind) => Err(InstanceRefusal::Fault {
@@ -141,9 +130,9 @@ pub(crate) fn enter_all(
     ensures others { IfOk result (λ r. place_of (codes "all") (ids_in r.0) ≡ None) }
 {
     let mut roster = Roster::new(alloc, hash);
-    let mut fields = Lists::with_room(alloc, 0)?;
+    let mut fields = Lists::new(alloc);
     'rows: while rows.advance()? {
-        enter(alloc, graph, &mut roster, rows)?;
+        enter(graph, &mut roster, rows)?;
         fields.add(parents_of(rows))?;
     }
     Ok((roster, fields))

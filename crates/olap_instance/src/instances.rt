@@ -9,7 +9,7 @@ ghost use Rattle.olap_instance.specs.Passes.{parents_in};
 
 use crate::lists::Lists;
 use crate::rosters::Roster;
-use olap_base::{CatId, MemberId, Text};
+use olap_base::{CatId, MemberId};
 use std::marker::Model;
 
 /// A dimension instance: the members in file order, `all` as the last.
@@ -61,19 +61,19 @@ impl Instance {
     }
 
     /// The id of a member.
-    pub fn id(&self, m: MemberId) -> &Text
+    pub fn id(&self, m: MemberId) -> &[u8]
         requires { m.0 < length self.now }
         ensures { result.now ≡ (member_at self.now m.0).id }
     {
-        &self.roster.head(m.0).id
+        self.roster.id(m.0)
     }
 
     /// The name of a member.
-    pub fn name(&self, m: MemberId) -> &Text
+    pub fn name(&self, m: MemberId) -> &[u8]
         requires { m.0 < length self.now }
         ensures { result.now ≡ name_of self.now m.0 }
     {
-        &self.roster.head(m.0).name
+        self.roster.name(m.0)
     }
 
     /// The parents of a member, in their order.

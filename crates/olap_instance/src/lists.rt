@@ -1,5 +1,5 @@
 // Lists that stand in one list, one behind the other.
-ghost use Rattle.std.specs.Prelude.{◌≡◌, ◌<◌, ◌≤◌, ◌+◌, ◌^◌, ◌∷◌, ◌++◌, [], List, length, slice_index, slice_index_or, OnOk, IfOk};
+ghost use Rattle.std.specs.Prelude.{◌≡◌, ◌<◌, ◌≤◌, ◌+◌, ◌^◌, ◌∷◌, ◌++◌, [], List, length, slice_index, slice_index_or, OnOk, OnErr, IfOk};
 
 use olap_base::Memory;
 use std::alloc::Global;
@@ -41,6 +41,16 @@ fn span(starts: &[usize], place: usize, end: usize) -> (usize, usize)
 }
 
 impl<T: Copy> Lists<T> {
+    /// No lists.
+    pub(crate) fn new(alloc: Global) -> Lists<T>
+        ensures { result ≡ [] }
+    {
+        Lists {
+            items: Vec::new(alloc),
+            starts: Vec::new(alloc),
+        }
+    }
+
     /// No lists, with room for so many.
     pub(crate) fn with_room(alloc: Global, lists: usize) -> Result<Lists<T>, Memory>
         ensures { IfOk result (λ lists. lists ≡ []) }
@@ -79,7 +89,8 @@ impl<T: Copy> Lists<T> {
 
     /// Adds a list of these items.
     pub(crate) fn add(&mut self, items: &[T]) -> Result<(), Memory>
-        ensures { OnOk result (self.new ≡ self.old ++ items.now ∷ []) }
+        ensures ok { OnOk result (self.new ≡ self.old ++ items.now ∷ []) }
+        ensures same { OnErr result (self.new ≡ self.old) }
     {
         let end = self.items.len();
         self.starts.reserve(1)?;

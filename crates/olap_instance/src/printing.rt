@@ -37,7 +37,7 @@ fn joined(alloc: Global, instance: &Instance, members: &[MemberId]) -> Result<Ve
 {
     let mut text = Vec::new(alloc);
     'members: for i in 0..members.len() {
-        add_piece(&mut text, i == 0, instance.id(members[i]).bytes())?;
+        add_piece(&mut text, i == 0, instance.id(members[i]))?;
     }
     Ok(text)
 }
@@ -59,12 +59,7 @@ fn print_member(
 {
     let parents = joined(alloc, instance, instance.parents(m))?;
     let category = graph.name(instance.category(m)).bytes();
-    out.row(&[
-        instance.id(m).bytes(),
-        category,
-        instance.name(m).bytes(),
-        &parents,
-    ])
+    out.row(&[instance.id(m), category, instance.name(m), &parents])
 }
 
 // The text of an instance.

@@ -1,31 +1,24 @@
 // The members of an instance without their parents, and an index of their ids.
 ghost use Rattle.std.specs.Prelude.{◌≡◌, ◌∷◌, ◌++◌, ◌<◌, ◌^◌, [], codes, length, map, None, OnOk, OnErr};
-ghost use Rattle.olap_base.specs.Instance.{category_of, member_at};
+ghost use Rattle.olap_base.specs.Instance.{category_of, member_at, name_of};
 ghost use Rattle.olap_base.specs.Naming.{place_of};
-ghost use Rattle.olap_instance.specs.Members.{all_member, member_of_head};
+ghost use Rattle.olap_instance.specs.Members.{all_member, childless};
 
 use crate::hashing::KeyedHash;
+use crate::lists::Lists;
 use indexmap::IndexSet;
-use olap_base::{CatId, Memory, Text};
+use olap_base::{CatId, Memory};
 use std::alloc::Global;
 use std::marker::Model;
-
-/// A member without its parents.
-#[derive(Drop)]
-pub(crate) struct Head {
-    pub(crate) id: Text,
-    pub(crate) category: CatId,
-    pub(crate) name: Text,
-}
 
 /// Members without their parents, in file order.
 #[derive(Drop)]
 pub(crate) struct Roster {
-    heads: Vec<Head>,
-    // The category of each head, side by side: most passes over the members ask for nothing else.
+    // The id of each member stands here alone. Its place is the member's.
+    ids: IndexSet<Vec<u8>, KeyedHash>,
+    // The category of each member, side by side: most passes over the members ask for nothing else.
     categories: Vec<CatId>,
-    // The id of each head, to be looked up: its place there is its place here.
-    index: IndexSet<Vec<u8>, KeyedHash>,
+    names: Lists<u8>,
     alloc: Global,
 }
 
@@ -47,9 +40,9 @@ impl Roster {
         ensures { result ≡ [] }
     {
         Roster {
-            heads: Vec::new(alloc),
+            ids: IndexSet::with_hasher(alloc, hash),
             categories: Vec::new(alloc),
-            index: IndexSet::with_hasher(alloc, hash),
+            names: Lists::new(alloc),
             alloc,
         }
     }
@@ -57,15 +50,15 @@ impl Roster {
     pub(crate) fn len(&self) -> usize
         ensures { result ≡ length self.now }
     {
-        self.heads.len()
+        self.categories.len()
     }
 
-    /// The member at a place.
-    pub(crate) fn head(&self, place: u32) -> &Head
+    /// The id of the member at a place.
+    pub(crate) fn id(&self, place: u32) -> &[u8]
         requires { place < length self.now }
-        ensures { member_of_head result.now ≡ member_at self.now place }
+        ensures { result.now ≡ (member_at self.now place).id }
     {
-        &self.heads[place as usize]
+        self.ids.as_slice()[place as usize].as_slice()
     }
 
     /// The category of the member at a place.
@@ -76,29 +69,38 @@ impl Roster {
         self.categories[place as usize]
     }
 
+    /// The name of the member at a place.
+    pub(crate) fn name(&self, place: u32) -> &[u8]
+        requires { place < length self.now }
+        ensures { result.now ≡ name_of self.now place }
+    {
+        self.names.of(place as usize)
+    }
+
     /// The place of the member of that id.
     pub(crate) fn find(&self, id: &[u8]) -> Option<u32>
         ensures { result ≡ place_of id.now (map (λ m. m.id) self.now) }
     {
-        match self.index.get_index_of(id) {
+        match self.ids.get_index_of(id) {
             Some(place) => Some(place as u32),
             None => None,
         }
     }
 
     /// Adds a member whose id is not there.
-    pub(crate) fn add(&mut self, head: Head) -> Result<(), Memory>
-        requires absent { place_of head.id (map (λ m. m.id) self.old) ≡ None }
+    pub(crate) fn add(&mut self, id: &[u8], category: CatId, name: &[u8]) -> Result<(), Memory>
+        requires absent { place_of id.now (map (λ m. m.id) self.old) ≡ None }
         requires room { length self.old < 2 ^ 32 }
-        ensures ok { OnOk result (self.new ≡ self.old ++ member_of_head head ∷ []) }
+        ensures ok { OnOk result (self.new ≡ self.old ++ childless id.now category.0 name.now ∷ []) }
         ensures same { OnErr result (self.new ≡ self.old) }
     {
-        let key = Vec::from_slice(self.alloc, head.id.bytes())?;
-        self.heads.reserve(1)?;
+        let key = Vec::from_slice(self.alloc, id)?;
+        // What follows the name takes no memory, so that a name without an id never stays.
+        self.ids.reserve(1)?;
         self.categories.reserve(1)?;
-        self.index.insert(key)?;
-        self.categories.push(head.category)?;
-        self.heads.push(head)?;
+        self.names.add(name)?;
+        self.ids.insert(key)?;
+        self.categories.push(category)?;
         Ok(())
     }
 
@@ -109,12 +111,6 @@ impl Roster {
         ensures ok { OnOk result (self.new ≡ self.old ++ all_member ∷ []) }
         ensures same { OnErr result (self.new ≡ self.old) }
     {
-        let id = Text::from_bytes(self.alloc, b"all")?;
-        let name = Text::from_bytes(self.alloc, b"all")?;
-        self.add(Head {
-            id,
-            category: CatId(0),
-            name,
-        })
+        self.add(b"all", CatId(0), b"all")
     }
 }

@@ -42,7 +42,7 @@ fn push_id(out: &mut Vec<u8>, instance: &Instance, x: MemberId) -> Result<(), Al
     requires { IsMember instance.now x.0 }
     ensures { OnOk result (out.new.items ≡ out.old.items ++ id_text instance.now x.0) }
 {
-    push_quoted(out, instance.id(x).bytes())
+    push_quoted(out, instance.id(x))
 }
 
 /// Appends two members' ids.

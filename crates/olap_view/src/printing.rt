@@ -47,7 +47,7 @@ fn print(alloc: Global, instance: &Instance, view: &View) -> Result<Vec<u8>, Mem
     let mut out = Printer::new(alloc, 5);
     out.row(&[b"member", b"count", b"sum", b"least", b"greatest"])?;
     'rows: for row in view.rows.items() {
-        print_row(&mut out, None, instance.id(row.member).bytes(), row)?;
+        print_row(&mut out, None, instance.id(row.member), row)?;
     }
     out.finish()
 }

@@ -37,7 +37,7 @@ fn print_stored(
 {
     out.row(&[name, b"", b"", b"", b"", b""])?;
     'rows: for row in view.rows.items() {
-        print_row(out, Some(name), instance.id(row.member).bytes(), row)?;
+        print_row(out, Some(name), instance.id(row.member), row)?;
     }
     Ok(())
 }

@@ -56,13 +56,13 @@ ids-preserved c =
     let at = pointed_at c.args.instances.now k c.index-instances-k.result [] (omega arith) c.index-instances-k.is in
     let old = c.ids.fields.items in
     let y = (get_or ms k nobody).0 in
-    let id = c.bytes.ensures ∙ c.id.ensures
+    let id = c.id.ensures
     ∙ ap (λ (xs : List MemberId). (member_at c.index-instances-k.result.now (get_or xs k nobody).0).id) c.items.ensures
     ∙ ap (λ (i : Instance). (member_at i y).id) at in
     ids_more is (members_of ms) k _ c.ids.invariant (get_or is k []) y (drop_more is k [] here)
     (members_from ms k nobody there) _
     (ap (map (λ (f : Bor (List ℕ)). f.now)) c.in_ok-push.ensures.items
-    ∙ map-append (λ (f : Bor (List ℕ)). f.now) old (c.bytes.result ∷ [])
+    ∙ map-append (λ (f : Bor (List ℕ)). f.now) old (c.id.result ∷ [])
     ∙ ap (λ (t : List ℕ). map (λ (f : Bor (List ℕ)). f.now) old ++ t ∷ []) id)
 
 pub returns-clause-text : goal.returns-clause-text

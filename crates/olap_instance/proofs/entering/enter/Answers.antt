@@ -7,15 +7,12 @@ returns-in_ok-add-in-Ok-clause-member c = λ earlier h.
     let g = c.args.graph.now in
     let a = c.in-Ok.ensures.member earlier (ids-entered g c.args.roster.now earlier h)
     (count-entered g c.args.roster.now earlier h) in
-    let id = c.in_ok-id-in-Ok.ensures ∙ c.field.ensures in
-    let name = c.in_ok-name-in-Ok.ensures ∙ c.field-in-Ok.ensures in
-    (a.0, c.in_ok-add-in-Ok.ensures.ok ∙ ap (λ m. c.args.roster.now ++ m ∷ []) (same-member _ _ _ _ _ _ id a.1 name))
+    (a.0, c.in_ok-add-in-Ok.ensures.ok ∙ ap (λ m. c.args.roster.now ++ m ∷ []) (same-member _ _ _ _ _ _ c.field.ensures a.1 c.field-in-Ok.ensures))
 
 pub returns-in_ok-add-in-Ok-clause-others : goal.returns-in_ok-add-in-Ok-clause-others
 returns-in_ok-add-in-Ok-clause-others c = λ h.
-    let id = c.in_ok-id-in-Ok.ensures ∙ c.field.ensures in
     absent-more (codes "all") c.args.roster.now c.add.new.self _ c.in_ok-add-in-Ok.ensures.ok
-    (rw id c.in-Ok.ensures.other) h
+    (rw c.field.ensures c.in-Ok.ensures.other) h
 
 pub returns-in-Err-clause-member : goal.returns-in-Err-clause-member
 returns-in-Err-clause-member c = λ earlier h.

@@ -21,7 +21,7 @@ rows-preserved c =
           inv.seen step good.0;
       members = good.1 ∙ (ap (λ t. t ++ member_read g row ∷ []) inv.members
           ∙ sym (map-append (member_read g) inv.before (row ∷ [])));
-      fields = c.in_ok-add.ensures
+      fields = c.in_ok-add.ensures.ok
           ∙ pushed c.rows.fields (map parents_field inv.before) c.parents_of.result.now (parents_field row) inv.fields
           c.parents_of.ensures
           ∙ sym (map-append parents_field inv.before (row ∷ []));

@@ -15,12 +15,10 @@ returns-clause-text c =
     let g = c.args.graph.now in
     let i = c.args.instance.now in
     let m = member_at i c.args.m.0 in
-    let id = c.bytes.ensures ∙ c.id.ensures in
     let category = c.bytes-category.ensures ∙ (c.name.ensures ∙ ap (name_of_category g) c.category.ensures) in
-    let name = c.bytes-2.ensures ∙ c.name-2.ensures in
     let parents =
     c.deref.ensures.value
     ∙ (c.in_ok-parents.ensures
     ∙ ap (join_with_byte 59) (parents-named i c.parents.result.now m c.parents.ensures.list)) in
-    let fields = same-fields g i m _ _ _ _ id category name parents in
+    let fields = same-fields g i m _ _ _ _ c.id.ensures category c.name-2.ensures parents in
     row-same c.row.result c.args.out.now.text c.row.new.self.text _ _ fields c.row.ensures.text

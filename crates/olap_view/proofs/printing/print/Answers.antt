@@ -9,6 +9,6 @@ rows-preserved c =
     record {
       text = view_more header (fields_in c.args.instance.now) c.items-row-items.result.now c.rows.row-index _
           c.rows.out.text c.print_row.new.out.text c.rows-test.true c.rows.invariant.text
-          (rw (c.bytes.ensures, c.id.ensures) at c.in_ok-print_row.ensures.text);
+          (rw c.id.ensures at c.in_ok-print_row.ensures.text);
       width = c.in_ok-print_row.ensures.width ∙ c.rows.invariant.width;
     }

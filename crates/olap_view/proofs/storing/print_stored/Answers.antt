@@ -11,6 +11,6 @@ rows-preserved c =
     record {
       text = stored-row c.args.out.now.text (beginning name) (λ r. name ∷ fields_in c.args.instance.now r)
           c.items-row-items.result.now c.rows.row-index _ c.rows.out.text c.print_row.new.out.text c.rows-test.true
-          c.rows.invariant.text (rw (c.bytes.ensures, c.id.ensures) at c.in_ok-print_row.ensures.text);
+          c.rows.invariant.text (rw c.id.ensures at c.in_ok-print_row.ensures.text);
       width = c.in_ok-print_row.ensures.width ∙ c.rows.invariant.width;
     }

@@ -13,7 +13,7 @@ add-requires-clause-absent c =
     ∙ ap (λ ks. slice_index_or ks c.args.category.0 false) c.deref.ensures.value) in
     let passes : named_refusal d c.args.id c.args.category.0 c.args.name ≡ None =
     rw (c.bytes.ensures, c.bytes-2.ensures) at (sym (c.refusal.ensures d refl kind) ∙ c.in_default.is) in
-    member-absent d c.args.id c.args.category.0 c.args.name c.self.invariant passes
+    rw c.bytes-3.ensures (member-absent d c.args.id c.args.category.0 c.args.name c.self.invariant passes)
 
 pub invariant_of-self-2 : goal.invariant_of-self-2
 invariant_of-self-2 c =
@@ -25,7 +25,7 @@ invariant_of-self-2 c =
     let pushed = c.in_ok-push.ensures.items ∙ ap (λ t. t ++ c.new.result ∷ []) c.reserve.ensures.items in
     let parents = told-none c.self.inside.parents.items c.push.new.self.items c.new.result pushed c.new.ensures.items in
     let now = with-new d c.args.id c.args.category.0 c.args.name c.add.new.self (parents_told c.push.new.self.items)
-    c.in_ok-add.ensures.ok parents in
+    (rw (c.bytes-3.ensures, c.bytes-4.ensures) at c.in_ok-add.ensures.ok) parents in
     let category = rw (← c.self.view_is) at c.requires.category in
     subst IsDraft (sym now)
     (draft-member d c.self.invariant c.args.id c.args.category.0 c.args.name passes category c.requires.id

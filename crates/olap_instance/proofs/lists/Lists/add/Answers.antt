@@ -17,8 +17,8 @@ invariant_of-self-2 g c =
     (ascending-more (length items) _ (starts ++ length items ∷ []) (omega arith)
     (ascending-begin (length items) starts c.self.invariant))
 
-pub returns : goal.returns
-returns g c =
+pub returns-clause-ok : goal.returns-clause-ok
+returns-clause-ok g c =
     let items = c.self.inside.items.items in
     let starts = c.self.inside.starts.items in
     let e : c.len-end.result ≡ length items = c.len-end.ensures ∙ c.self.inside.items.ok.0 in

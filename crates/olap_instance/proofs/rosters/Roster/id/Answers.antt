@@ -1,0 +1,26 @@
+use Rattle.std.proofs.Common.{◌<◌, ◌∙◌, [], ap, sym, get_or, length, arith}
+use Rattle.std.proofs.lemmas.List.{get_or-map}
+use Rattle.olap_base.specs.Instance.{Member}
+use Rattle.olap_instance.specs.RosterInside.{members_of_roster}
+use Rattle.olap_instance.proofs.RosterLemmas.{count-is, member-is}
+use Rattle.olap_instance.proofs.rosters.Roster.id.Goals as goal
+
+pub bounds-as_slice-place : goal.bounds-as_slice-place
+bounds-as_slice-place c =
+    let a = c.self.inside in
+    let l : c.args.place < length (members_of_roster a) = rw (← c.self.view_is) at c.requires in
+    let n = count-is a c.self.invariant in
+    rw c.as_slice.ensures.keys (omega arith)
+
+pub returns : goal.returns
+returns c =
+    let a = c.self.inside in
+    let x = c.args.place in
+    let key = c.index-as_slice-place in
+    let l : x < length (members_of_roster a) = rw (← c.self.view_is) at c.requires in
+    let n = count-is a c.self.invariant in
+    rw (← c.self.view_is)
+    (c.as_slice-2.ensures.value
+    ∙ ap (λ k. k.items) (key.is ∙ ap (λ ks. get_or ks x key.result) c.as_slice.ensures.keys)
+    ∙ sym (get_or-map (λ k. k.items) a.ids.keys x key.result [] (omega arith))
+    ∙ sym (ap (λ (m : Member). m.id) (member-is a c.self.invariant x l)))
