@@ -1,13 +1,16 @@
 -- What a roster has of its members: as many ids, categories and names, one of each.
 --     count-is      how many members there are
---     ids-are       the keys are the members' ids
+--     ids-are       the members' ids
 --     member-is     a member has what stands at its place
---     key-last      a new key goes last
---     kept-more     a key, a category and a name more keep what a roster keeps
+--     place-is      where an id is found is its member's place
+--     new-last      a new id goes last
+--     kept-more     an id, a category and a name more keep what a roster keeps
 --     members-more  and they are a member more
-use Rattle.std.proofs.Common.{◌≡◌, ◌<◌, ◌^◌, ◌∷◌, ◌++◌, ◌∙◌, ℕ, zero, suc, List, [], Vec, Global, None, get_or, map, length, refl, ap, sym, arith}
+use Rattle.std.proofs.Common.{◌≡◌, ◌<◌, ◌^◌, ◌∷◌, ◌++◌, ◌∙◌, ℕ, zero, suc, List, [], None, get_or, map, length, refl, ap, sym, arith}
 use Rattle.std.proofs.lemmas.List.{length-append, length-map, map-append}
+use Rattle.std.specs.List.{position}
 use Rattle.std.specs.Str.{bytes_eq}
+use Rattle.std.proofs.lemmas.Iterator.Adapters.{position_from-zero}
 use Rattle.indexmap.specs.IndexSet.{insert_key}
 use Rattle.olap_base.specs.Instance.{Instance, Member, member_at}
 use Rattle.olap_base.specs.Naming.{place_of}
@@ -15,7 +18,7 @@ use Rattle.olap_base.specs.declared.ids.CatId.{CatId}
 use Rattle.olap_instance.specs.Members.{childless}
 use Rattle.olap_instance.specs.RosterInside.{IsRoster, members_from, members_of_roster}
 use Rattle.olap_instance.specs.declared.rosters.Roster.TheInside.{Inside}
-use Rattle.olap_instance.proofs.Index.{key-absent, key-new}
+use Rattle.olap_instance.proofs.Index.{id-last}
 
 -- their ids are these
 pub ids-members_from : (ids : List (List ℕ)) (cs : List ℕ) (names : List (List ℕ)) → length cs ≡ length ids
@@ -65,65 +68,51 @@ members_from-push (i ∷ ids) (a ∷ cs) (m ∷ names) id k name c n =
 -- ---- a roster
 
 module _ (a : Inside) (r : IsRoster a) where
-  abbrev ids : List (List ℕ)
-  ids = map (λ k. k.items) a.ids.keys
-
   abbrev categories : List ℕ
   categories = map (λ c. c.0) a.categories.items
 
-  many : length ids ≡ length a.ids.keys
-  many = length-map a.ids.keys (λ k. k.items)
-
-  many-categories : length categories ≡ length ids
-  many-categories = length-map a.categories.items (λ c. c.0) ∙ r.categories ∙ sym many
-
-  many-names : length a.names ≡ length ids
-  many-names = r.names ∙ sym many
+  many : length categories ≡ length a.ids.keys
+  many = length-map a.categories.items (λ c. c.0) ∙ r.categories
 
   pub count-is : length (members_of_roster a) ≡ length a.ids.keys
-  count-is = length-members_from ids categories a.names many-categories many-names ∙ many
+  count-is = length-members_from a.ids.keys categories a.names many r.names
 
-  pub ids-are : map (λ k. k.items) a.ids.keys ≡ map (λ m. m.id) (members_of_roster a)
-  ids-are = sym (ids-members_from ids categories a.names many-categories many-names)
+  pub ids-are : map (λ m. m.id) (members_of_roster a) ≡ a.ids.keys
+  ids-are = ids-members_from a.ids.keys categories a.names many r.names
 
   pub member-is : (x : ℕ) → x < length (members_of_roster a)
       → member_at (members_of_roster a) x
-      ≡ childless (get_or ids x []) (get_or categories x 0) (get_or a.names x [])
+      ≡ childless (get_or a.ids.keys x []) (get_or categories x 0) (get_or a.names x [])
   member-is x l =
-      member_at-members_from ids categories a.names x many-categories many-names
-      (let n = count-is in let m = many in omega arith)
+      member_at-members_from a.ids.keys categories a.names x many r.names (let n = count-is in omega arith)
 
-  -- a key whose id has no place goes last
-  pub key-last : (key : Vec ℕ Global) (id : List ℕ) → key.items ≡ id
-      → place_of id (map (λ m. m.id) (members_of_roster a)) ≡ None
-      → insert_key (λ j k. bytes_eq j.items k.items) a.ids.keys key ≡ a.ids.keys ++ key ∷ []
-  key-last key id e none =
-      key-new (λ k. k.items) a.ids.keys key (key-absent (λ k. k.items) key.items a.ids.keys _ ids-are (rw e none))
+  -- the places of ids are those of the members
+  pub place-is : (id : List ℕ) → position (bytes_eq id) a.ids.keys ≡ place_of id (map (λ m. m.id) (members_of_roster a))
+  place-is id = position_from-zero (bytes_eq id) a.ids.keys ∙ ap (place_of id) (sym ids-are)
 
-  -- a key, a category and a name more
-  module _ (b : Inside) (key : Vec ℕ Global) (c : CatId) (name : List ℕ) (keys : b.ids.keys ≡ a.ids.keys ++ key ∷ [])
+  -- an id that has no place goes last
+  pub new-last : (key id : List ℕ) → key ≡ id → place_of id (map (λ m. m.id) (members_of_roster a)) ≡ None
+      → insert_key bytes_eq a.ids.keys key ≡ a.ids.keys ++ key ∷ []
+  new-last key id e none = id-last a.ids.keys key (rw e (rw ids-are at none))
+
+  -- an id, a category and a name more
+  module _ (b : Inside) (id : List ℕ) (c : CatId) (name : List ℕ) (ids : b.ids.keys ≡ a.ids.keys ++ id ∷ [])
       (column : b.categories.items ≡ a.categories.items ++ c ∷ []) (names : b.names ≡ a.names ++ name ∷ []) where
     pub kept-more : length (members_of_roster a) < 2 ^ 32 → IsRoster b
     kept-more l =
-        let k = length-append a.ids.keys (key ∷ []) in
+        let k = length-append a.ids.keys (id ∷ []) in
         let m = length-append a.categories.items (c ∷ []) in
         let n = length-append a.names (name ∷ []) in
         let e = r.categories in
         let f = r.names in
         let few = count-is in
         record {
-          categories = rw (keys, column) (omega arith);
-          names = rw (keys, names) (omega arith);
-          few = rw keys (omega arith);
+          categories = rw (ids, column) (omega arith);
+          names = rw (ids, names) (omega arith);
+          few = rw ids (omega arith);
         }
 
-    pub members-more : members_of_roster b ≡ members_of_roster a ++ childless key.items c.0 name ∷ []
+    pub members-more : members_of_roster b ≡ members_of_roster a ++ childless id c.0 name ∷ []
     members-more =
-        rw (
-          keys,
-          column,
-          names,
-          map-append (λ k. k.items) a.ids.keys (key ∷ []),
-          map-append (λ c. c.0) a.categories.items (c ∷ []),
-        )
-        (members_from-push ids categories a.names key.items c.0 name many-categories many-names)
+        rw (ids, column, names, map-append (λ c. c.0) a.categories.items (c ∷ []))
+        (members_from-push a.ids.keys categories a.names id c.0 name many r.names)

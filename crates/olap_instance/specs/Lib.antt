@@ -2,6 +2,7 @@
 pub mod Hashing
 pub mod Members
 pub mod Made
+pub mod IdsInside
 pub mod RosterInside
 pub mod ListsInside
 pub mod InstanceInside

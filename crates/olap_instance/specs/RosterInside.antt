@@ -12,7 +12,7 @@ members_from (id ∷ ids) (c ∷ categories) [] = []
 members_from (id ∷ ids) (c ∷ categories) (name ∷ names) = childless id c name ∷ members_from ids categories names
 
 abbrev pub members_of_roster : Inside → Instance
-members_of_roster a = members_from (map (λ k. k.items) a.ids.keys) (map (λ c. c.0) a.categories.items) a.names
+members_of_roster a = members_from a.ids.keys (map (λ c. c.0) a.categories.items) a.names
 
 -- what a roster keeps: as many categories and names as ids, and few
 pub record IsRoster (a : Inside) : Type 0 where

@@ -8,6 +8,7 @@
 mod building;
 mod entering;
 mod hashing;
+mod ids;
 mod instances;
 mod laws;
 mod linking;

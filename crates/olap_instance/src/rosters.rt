@@ -5,6 +5,7 @@ ghost use Rattle.olap_base.specs.Naming.{place_of};
 ghost use Rattle.olap_instance.specs.Members.{all_member, childless};
 
 use crate::hashing::KeyedHash;
+use crate::ids::{Id, Sought};
 use crate::lists::Lists;
 use indexmap::IndexSet;
 use olap_base::{CatId, Memory};
@@ -15,7 +16,7 @@ use std::marker::Model;
 #[derive(Drop)]
 pub(crate) struct Roster {
     // The id of each member stands here alone. Its place is the member's.
-    ids: IndexSet<Vec<u8>, KeyedHash>,
+    ids: IndexSet<Id, KeyedHash>,
     // The category of each member, side by side: most passes over the members ask for nothing else.
     categories: Vec<CatId>,
     names: Lists<u8>,
@@ -58,7 +59,7 @@ impl Roster {
         requires { place < length self.now }
         ensures { result.now ≡ (member_at self.now place).id }
     {
-        self.ids.as_slice()[place as usize].as_slice()
+        self.ids.as_slice()[place as usize].bytes()
     }
 
     /// The category of the member at a place.
@@ -81,7 +82,7 @@ impl Roster {
     pub(crate) fn find(&self, id: &[u8]) -> Option<u32>
         ensures { result ≡ place_of id.now (map (λ m. m.id) self.now) }
     {
-        match self.ids.get_index_of(id) {
+        match self.ids.get_index_of(Sought(id)) {
             Some(place) => Some(place as u32),
             None => None,
         }
@@ -94,7 +95,7 @@ impl Roster {
         ensures ok { OnOk result (self.new ≡ self.old ++ childless id.now category.0 name.now ∷ []) }
         ensures same { OnErr result (self.new ≡ self.old) }
     {
-        let key = Vec::from_slice(self.alloc, id)?;
+        let key = Id::from_bytes(self.alloc, id)?;
         // What follows the name takes no memory, so that a name without an id never stays.
         self.ids.reserve(1)?;
         self.categories.reserve(1)?;

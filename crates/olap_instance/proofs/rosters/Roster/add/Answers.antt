@@ -1,5 +1,5 @@
 use Rattle.std.proofs.Common.{◌++◌, ◌∷◌, ◌∙◌, [], ap}
-use Rattle.olap_instance.proofs.RosterLemmas.{kept-more, key-last, members-more}
+use Rattle.olap_instance.proofs.RosterLemmas.{kept-more, new-last, members-more}
 use Rattle.olap_instance.specs.declared.rosters.Roster.TheInside.{Inside}
 use Rattle.olap_instance.proofs.rosters.Roster.add.Goals as goal
 
@@ -7,7 +7,7 @@ pub invariant_of-self-2 : goal.invariant_of-self-2
 invariant_of-self-2 c =
     let a = c.self.inside in
     let key = c.in_ok-key.key in
-    let last = key-last a c.self.invariant key c.args.id.now c.in_ok-key.ensures.items
+    let last = new-last a c.self.invariant key c.args.id.now c.in_ok-key.ensures
     (rw (← c.self.view_is) at c.requires.absent) in
     let keys = rw c.reserve.ensures.keys at c.in_ok-insert.ensures.keys ∙ last in
     let column = c.in_ok-push.ensures.items ∙ ap (λ t. t ++ c.args.category ∷ []) c.reserve-2.ensures.items in
@@ -18,7 +18,7 @@ pub returns-clause-ok : goal.returns-clause-ok
 returns-clause-ok c =
     let a = c.self.inside in
     let key = c.in_ok-key.key in
-    let last = key-last a c.self.invariant key c.args.id.now c.in_ok-key.ensures.items
+    let last = new-last a c.self.invariant key c.args.id.now c.in_ok-key.ensures
     (rw (← c.self.view_is) at c.requires.absent) in
     let keys = rw c.reserve.ensures.keys at c.in_ok-insert.ensures.keys ∙ last in
     let column = c.in_ok-push.ensures.items ∙ ap (λ t. t ++ c.args.category ∷ []) c.reserve-2.ensures.items in
@@ -28,5 +28,5 @@ returns-clause-ok c =
       names = c.add.new.self;
       alloc = a.alloc;
     } in
-    rw (← c.self.view_is, ← c.in_ok-key.ensures.items)
+    rw (← c.self.view_is, ← c.in_ok-key.ensures)
     (members-more a c.self.invariant now key c.args.category c.args.name.now keys column c.in_ok-add.ensures.ok)

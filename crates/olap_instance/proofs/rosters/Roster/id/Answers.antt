@@ -1,5 +1,5 @@
 use Rattle.std.proofs.Common.{◌<◌, ◌∙◌, [], ap, sym, get_or, length, arith}
-use Rattle.std.proofs.lemmas.List.{get_or-map}
+use Rattle.std.proofs.lemmas.List.{get_or_default}
 use Rattle.olap_base.specs.Instance.{Member}
 use Rattle.olap_instance.specs.RosterInside.{members_of_roster}
 use Rattle.olap_instance.proofs.RosterLemmas.{count-is, member-is}
@@ -16,11 +16,10 @@ pub returns : goal.returns
 returns c =
     let a = c.self.inside in
     let x = c.args.place in
-    let key = c.index-as_slice-place in
+    let id = c.index-as_slice-place in
     let l : x < length (members_of_roster a) = rw (← c.self.view_is) at c.requires in
     let n = count-is a c.self.invariant in
     rw (← c.self.view_is)
-    (c.as_slice-2.ensures.value
-    ∙ ap (λ k. k.items) (key.is ∙ ap (λ ks. get_or ks x key.result) c.as_slice.ensures.keys)
-    ∙ sym (get_or-map (λ k. k.items) a.ids.keys x key.result [] (omega arith))
+    (c.bytes.ensures ∙ id.is ∙ ap (λ ids. get_or ids x id.result) c.as_slice.ensures.keys
+    ∙ get_or_default a.ids.keys x id.result [] (omega arith)
     ∙ sym (ap (λ (m : Member). m.id) (member-is a c.self.invariant x l)))
