@@ -2,6 +2,7 @@
 pub mod Index
 pub mod RosterLemmas
 pub mod MembersLemmas
+pub mod HashingLemmas
 pub mod PlaceFacts
 pub mod ListsLemmas
 pub mod LookUps

@@ -1,9 +1,10 @@
 -- How an id is hashed: its bytes, seven at a time, are the coefficients of a polynomial, and the hash is its value at a
--- point that is the key, modulo 2 ^ 61 - 1. Numbers that are equal modulo 2 ^ 61 - 1 stand for each other.
---     stepped     the value after one more coefficient
---     with_byte   a hasher after one byte
---     with_bytes  a hasher after bytes that are written at once
-use Rattle.std.specs.Prelude.{ℕ, ◌+◌, ◌*◌, ◌/◌, ◌%◌, ◌^◌, ◌==◌, List, length, if◌then◌else◌, nat_lt, bit_or}
+-- point that is the key, modulo 2 ^ 61 - 1. Numbers that are equal modulo 2 ^ 61 - 1 stand for each other. The last
+-- coefficient has the bytes that are left over, behind how many bytes there are.
+--     stepped      the value after one more coefficient
+--     value_after  the value after bytes
+--     with_bytes   a hasher after bytes that are written at once
+use Rattle.std.specs.Prelude.{ℕ, ◌+◌, ◌*◌, ◌/◌, ◌%◌, ◌^◌, ◌∷◌, List, [], length, bit_or}
 use Rattle.std.specs.Int.{w64, from_le_bytes}
 use Rattle.std.specs.List.{fold}
 use Rattle.olap_instance.specs.declared.hashing.IdHasher.{IdHasher}
@@ -22,29 +23,18 @@ stepped point value coefficient = multiplied (summed value coefficient) point
 
 -- a hasher that was given nothing, at eight times this point
 abbrev pub begun : ℕ → IdHasher
-begun point = record { point = point; value = 0; tail = 0; count = 0 }
+begun point = record { point = point; value = 0 }
 
--- the bytes since the last whole coefficient, and one more
-abbrev pub tail_with : IdHasher → ℕ → ℕ
-tail_with h byte = bit_or (h.tail * 2 ^ 8 % 2 ^ 64) byte
+-- a number with one more byte behind it
+abbrev pub with_byte : ℕ → ℕ → ℕ
+with_byte number byte = bit_or (number * 2 ^ 8 % 2 ^ 64) byte
 
--- a hasher after one byte: seven bytes are a coefficient
-unfoldable pub with_byte : IdHasher → ℕ → IdHasher
-with_byte h byte =
-    if nat_lt h.count 6
-    then record { point = h.point; value = h.value; tail = tail_with h byte; count = h.count + 1 }
-    else record { point = h.point; value = stepped h.point h.value (tail_with h byte); tail = 0; count = 0 }
+-- the value after these bytes, the last of so many
+unfoldable pub value_after : ℕ → ℕ → ℕ → List ℕ → ℕ
+value_after count point value (a ∷ b ∷ c ∷ d ∷ e ∷ f ∷ g ∷ rest) =
+    value_after count point (stepped point value (from_le_bytes w64 (a ∷ b ∷ c ∷ d ∷ e ∷ f ∷ g ∷ 0 ∷ []))) rest
+value_after count point value rest = stepped point value (fold with_byte count rest)
 
--- a hasher after a number of 64 bits, which is a coefficient
-abbrev pub with_number : IdHasher → ℕ → IdHasher
-with_number h number =
-    record { point = h.point; value = stepped h.point h.value number; tail = h.tail; count = h.count }
-
--- a hasher after these bytes: eight of them at once are a number
-unfoldable pub with_bytes : IdHasher → List ℕ → IdHasher
-with_bytes h bytes =
-    if length bytes == 8 then with_number h (from_le_bytes w64 bytes) else fold with_byte h bytes
-
--- the hash: what is left over is the last coefficient
-abbrev pub finished : IdHasher → ℕ
-finished h = stepped h.point h.value h.tail
+-- a hasher after these bytes
+abbrev pub with_bytes : IdHasher → List ℕ → IdHasher
+with_bytes h bytes = record { point = h.point; value = value_after (length bytes) h.point h.value bytes }

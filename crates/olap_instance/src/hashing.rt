@@ -1,5 +1,7 @@
 // How ids are hashed for their index: behind a key, so that ids that collide under one key don't under another.
-ghost use Rattle.std.specs.Prelude.{◌≡◌};
+ghost use Rattle.std.specs.Prelude.{◌≡◌, ◌≤◌, ◌∷◌, ◌++◌, [], length, take};
+ghost use Rattle.std.specs.Int.{w64, from_le_bytes};
+ghost use Rattle.std.specs.List.{fold};
 ghost use Rattle.olap_instance.specs.Hashing as hashing;
 
 use sha2::{Digest, Sha256};
@@ -12,16 +14,16 @@ const LOW: u64 = 0x2000_0000_0000_0000;
 
 const HALF: u128 = 0x1_0000_0000_0000_0000;
 
-/// The value at a point of a polynomial modulo 2 ^ 61 - 1. Its coefficients are the bytes written, seven at a time; a
-/// number of 64 bits, as a slice's length, is one by itself.
+// How many bytes are a coefficient.
+const STEP: usize = 7;
+
+/// The value at a point of a polynomial modulo 2 ^ 61 - 1. Bytes that are written at once are its coefficients, seven at
+/// a time; the last one has those that are left over, behind how many were written.
 #[derive(Clone, Copy)]
 pub(crate) struct IdHasher {
     // Eight times the point.
     point: u64,
     value: u64,
-    // The bytes since the last whole coefficient, and how many they are.
-    tail: u64,
-    count: u64,
 }
 
 // The value after one more coefficient.
@@ -34,55 +36,45 @@ fn stepped(point: u64, value: u64, coefficient: u64) -> u64
     low.wrapping_add((product / HALF) as u64)
 }
 
-impl IdHasher {
-    fn write_byte(&mut self, byte: u8)
-        ensures { self.new ≡ hashing.with_byte self.old byte }
-    {
-        let tail = self.tail << 8 | byte as u64;
-        if self.count < 6 {
-            self.tail = tail;
-            self.count += 1;
-        } else {
-            self.value = stepped(self.point, self.value, tail);
-            self.tail = 0;
-            self.count = 0;
-        }
-    }
+// The first seven bytes as a number, the lowest first.
+fn seven(bytes: &[u8]) -> u64
+    requires { 7 ≤ length bytes.now }
+    ensures { result ≡ from_le_bytes w64 (take 7 bytes.now ++ 0 ∷ []) }
+{
+    u64::from_le_bytes([
+        bytes[0], bytes[1], bytes[2], bytes[3], bytes[4], bytes[5], bytes[6], 0,
+    ])
+}
 
-    fn write_number(&mut self, number: u64)
-        ensures { self.new ≡ hashing.with_number self.old number }
-    {
-        self.value = stepped(self.point, self.value, number);
+// A number of bytes with these bytes behind it.
+fn with_rest(count: usize, rest: &[u8]) -> u64
+    ensures { result ≡ fold hashing.with_byte count rest.now }
+{
+    let mut number = count as u64;
+    'bytes: for byte in rest {
+        number = number << 8 | *byte as u64;
     }
+    number
 }
 
 impl Hasher for IdHasher {
     ghost write = { hashing.with_bytes };
 
-    ghost finish = { hashing.finished };
+    ghost finish = { λ h. h.value };
 
     fn finish(&self) -> u64 {
-        stepped(self.point, self.value, self.tail)
+        self.value
     }
 
+    #[inline]
     fn write(&mut self, bytes: &[u8]) {
-        if bytes.len() == 8 {
-            self.write_number(u64::from_le_bytes([
-                bytes[0], bytes[1], bytes[2], bytes[3], bytes[4], bytes[5], bytes[6], bytes[7],
-            ]));
-            return;
+        let mut value = self.value;
+        let mut rest = bytes;
+        'steps: while rest.len() >= STEP {
+            value = stepped(self.point, value, seven(rest));
+            rest = &rest[STEP..];
         }
-        'bytes: for i in 0..bytes.len() {
-            self.write_byte(bytes[i]);
-        }
-    }
-
-    fn write_u8(&mut self, byte: u8) {
-        self.write_byte(byte);
-    }
-
-    fn write_usize(&mut self, number: usize) {
-        self.write_number(number as u64);
+        self.value = stepped(self.point, value, with_rest(bytes.len(), rest));
     }
 }
 
@@ -101,8 +93,6 @@ impl BuildHasher for KeyedHash {
         IdHasher {
             point: self.point,
             value: 0,
-            tail: 0,
-            count: 0,
         }
     }
 }

@@ -1,29 +1,23 @@
-use Rattle.std.proofs.Common.{◌≡◌, ◌==◌, true, false, length, ap, sym, ◌∙◌, arith, get_or}
-use Rattle.std.proofs.lemmas.Bool.Decides.{nat_tests}
-use Rattle.std.proofs.Math.Seq.{take_all}
-use Rattle.std.specs.List.{fold}
-use Rattle.std.proofs.lemmas.List.Sums.{fold_more}
-use Rattle.olap_instance.specs.Hashing.{with_byte, with_bytes, with_number}
+use Rattle.std.proofs.Common.{◌≡◌, ◌<◌, ◌∙◌, ℕ, ap, length, sym, arith}
+use Rattle.olap_instance.specs.Hashing.{stepped, value_after}
+use Rattle.olap_instance.specs.declared.hashing.IdHasher.{IdHasher}
+use Rattle.olap_instance.proofs.HashingLemmas.{left-over, seven-more}
 use Rattle.olap_instance.proofs.hashing.IdHasherHasher.write.Goals as goal
 
-pub bytes-preserved : goal.bytes-preserved
-bytes-preserved c =
-    let bytes = c.args.bytes.now in
-    let i = c.bytes.i in
-    let more = fold_more with_byte c.args.self.now bytes i 0 (omega arith) in
-    (omega arith, c.write_byte.ensures ∙ ap (λ h. with_byte h (get_or bytes i 0)) c.bytes.invariant.1 ∙ sym more)
+pub steps-preserved : goal.steps-preserved
+steps-preserved c =
+    seven-more (length c.args.bytes.now) c.args.self.now.point c.steps.value c.steps.rest.now c.seven.result
+    c.stepped-value.result _ c.steps-test.true c.seven.ensures c.stepped-value.ensures c.steps.invariant
+
+abbrev with-value : ℕ → ℕ → IdHasher
+with-value point value = record { point = point; value = value }
 
 pub returns : goal.returns
-unfolding with_bytes
 returns c =
+    let h = c.args.self.now in
     let bytes = c.args.bytes.now in
-    let other = c.if-bytes-eq8.false in
-    let t : (length bytes == 8) ≡ false = grind (arith, nat_tests) in
-    rw t (c.bytes.invariant.1 ∙ ap (fold with_byte c.args.self.now) (take_all c.bytes.i bytes (omega arith)))
-
-pub returns-then-bytes-eq8 : goal.returns-then-bytes-eq8
-unfolding with_bytes
-returns-then-bytes-eq8 c =
-    let eight = c.if-bytes-eq8.true in
-    let t : (length c.args.bytes.now == 8) ≡ true = grind (arith, nat_tests) in
-    rw t (c.write_number.ensures ∙ ap (with_number c.args.self.now) c.from_le_bytes.ensures)
+    let few : length c.steps.rest.now < 7 = let n = c.steps-test.false in omega arith in
+    let value : c.stepped-self.result ≡ value_after (length bytes) h.point h.value bytes =
+    c.stepped-self.ensures ∙ ap (stepped h.point c.steps.value) c.with_rest.ensures
+    ∙ sym (left-over (length bytes) h.point c.steps.value c.steps.rest.now few) ∙ c.steps.invariant in
+    ap (with-value h.point) value
