@@ -22,6 +22,7 @@ OTHERS = {
         "256": "the room with which a pool is full",
         "4096": "the rounds of a search",
     },
+    "olap_facts": {"256": "the facts of a batch"},
     "olap_graph": {"64": "the bits of a word of a set"},
     "olap_patterns": {"256": "the masks over eight sources"},
     "olap_generate": {"64": "the stores for each group of cities"},

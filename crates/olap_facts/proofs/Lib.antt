@@ -3,3 +3,4 @@ pub mod HeaderLemmas
 pub mod BottomLemmas
 pub mod TableLemmas
 pub mod ReaderLemmas
+pub mod BatchLemmas

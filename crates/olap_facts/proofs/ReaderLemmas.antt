@@ -16,7 +16,7 @@ use Rattle.olap_facts.specs.declared.kinds.FactKind.TheVariants as kind
 
 -- a fault that is found stands behind the records before
 module _ {R K : Type 0} (fault : List R → R → Option K) where
-  found-behind : (before rs : List R) (p : ℕ × K) → first_fault fault before rs ≡ Some p → length before ≤ p.0
+  pub found-behind : (before rs : List R) (p : ℕ × K) → first_fault fault before rs ≡ Some p → length before ≤ p.0
   found-behind before [] p e = absurd (cc)
   found-behind before (r ∷ rs) p e = go (fault before r) e (found-behind (before ++ r ∷ []) rs p)
     where

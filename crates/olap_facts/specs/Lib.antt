@@ -4,4 +4,5 @@ pub mod FactText
 pub mod Refusals
 pub mod Kinds
 pub mod FactReading
+pub mod Batches
 pub mod Laws

@@ -1,9 +1,11 @@
-// A reader that hands out the facts of a text one at a time.
-ghost use Rattle.std.specs.Prelude.{◌≡◌, ◌+◌, ◌<◌, ◌≤◌, ◌^◌, Bool, ℕ, IfOk, IfSome, IsTrue, List as Items, MatchOption, MatchResult, OnErr, drop, length, true};
+// A reader that hands out the facts of a text one at a time, or in batches.
+ghost use Rattle.std.specs.Prelude.{◌≡◌, ◌+◌, ◌<◌, ◌≤◌, ◌^◌, [], All, Bool, ℕ, IfOk, IfSome, IsTrue, List as Items, MatchBool, MatchOption, MatchResult, OnErr, drop, length, map, true};
 ghost use Rattle.olap_base.specs.Graph.{IsBottom};
 ghost use Rattle.olap_base.specs.Instance.{category_of};
+ghost use Rattle.olap_base.specs.Views.{IsFactTable};
 ghost use Rattle.olap_instance.specs.Made.{IsMadeFor};
 ghost use Rattle.olap_records.specs.Records.{records_of};
+ghost use Rattle.olap_facts.specs.Batches.{HandsOutBatch, IsStoppedInBatch, more};
 ghost use Rattle.olap_facts.specs.FactReading.{HandsOut, IsAt, IsAtEnd, IsStopped, one_more, reading, stopped};
 ghost use Rattle.olap_facts.specs.FactText.{has_header};
 ghost use Rattle.olap_facts.specs.Seen.{fact_of};
@@ -17,7 +19,11 @@ use olap_records::Rows;
 use std::alloc::Global;
 use std::marker::Model;
 
-/// A reader of the facts of a text, which hands them out one at a time. It is live until there is no more.
+/// The most facts of a batch. While one is added, the memory of those behind it may be on its way.
+const FACTS_IN_A_BATCH: usize = 256;
+
+/// A reader of the facts of a text, which hands them out one at a time, or in batches. It is live until there is no
+/// more.
 #[derive(Drop)]
 pub struct FactReader<'a> {
     graph: &'a Graph,
@@ -94,6 +100,54 @@ fn next_of(
     }
 }
 
+/// Puts the facts of the next records into an empty batch, after so many facts of at most so many, and says whether
+/// there are any.
+fn fill(
+    graph: &Graph,
+    instance: &Instance,
+    rows: &mut Rows,
+    handed: u64,
+    most: u64,
+    batch: &mut Vec<Fact>,
+) -> Result<bool, FactRefusal>
+    requires made { IsMadeFor graph.now instance.now }
+    requires most { most < 2 ^ 63 }
+    requires few { handed ≤ most }
+    requires empty { batch.old.items ≡ [] }
+    ensures reads { (records : Items (Items (Items ℕ))) (live : Bool)
+        → IsAt (reading graph.now instance.now records most handed live) rows.old.left → MatchResult result
+        (λ some. MatchBool some
+        (HandsOutBatch (reading graph.now instance.now records most handed live) (map fact_of batch.new.items)
+        × IsAt (more (length batch.new.items) (reading graph.now instance.now records most handed live)) rows.new.left)
+        (IsAtEnd (reading graph.now instance.now records most handed live)))
+        (IsStoppedInBatch (reading graph.now instance.now records most handed live)) }
+    ensures table { IfOk result (λ some. IsFactTable graph.now instance.now (map fact_of batch.new.items)) }
+    ensures few { IfOk result (λ some. handed + length batch.new.items ≤ most) }
+{
+    if !starts(rows, handed)? {
+        return Err(FactRefusal::Fault {
+            at: 1,
+            kind: FactKind::BadHeader,
+        });
+    }
+    'facts: for n in 0..FACTS_IN_A_BATCH {
+        if !rows.advance()? {
+            return Ok(n > 0);
+        }
+        let before = handed + n as u64;
+        match fact(graph, instance, rows, before, most) {
+            Ok(fact) => batch.push(fact)?,
+            Err(kind) => {
+                return Err(FactRefusal::Fault {
+                    at: before + 2,
+                    kind,
+                });
+            }
+        }
+    }
+    Ok(true)
+}
+
 impl<'a> FactReader<'a> {
     /// A live reader of a text of at most so many facts, which has handed out none.
     pub fn new(
@@ -144,6 +198,47 @@ impl<'a> FactReader<'a> {
             Err(refusal) => {
                 self.live = false;
                 Err(refusal)
+            }
+        }
+    }
+    /// Puts the facts of the next records into the batch, in place of those in it, and says whether there are any: as
+    /// many as a batch may have, or as are left. After the last, and after a refusal, the reader isn't live.
+    pub fn read_batch(&mut self, batch: &mut Vec<Fact>) -> Result<bool, FactRefusal>
+        requires live { IsTrue self.old.live }
+        ensures reads { MatchResult result
+            (λ some. MatchBool some
+            (HandsOutBatch self.old (map fact_of batch.new.items)
+            × (self.new ≡ more (length batch.new.items) self.old))
+            (IsAtEnd self.old × (self.new ≡ stopped self.old)))
+            (λ e. IsStoppedInBatch self.old e × (self.new ≡ stopped self.old)) }
+        ensures table { IfOk result (λ some.
+            IsFactTable self.old.graph self.old.instance (map fact_of batch.new.items)) }
+        ensures members { IfOk result (λ some.
+            All (λ f. f.member.0 < length self.old.instance) batch.new.items) }
+        ensures few { IfOk result (λ some. self.old.handed + length batch.new.items ≤ self.old.most) }
+    {
+        let graph = self.graph;
+        let instance = self.instance;
+        batch.clear();
+        match fill(
+            graph,
+            instance,
+            &mut self.rows,
+            self.handed,
+            self.most,
+            batch,
+        ) {
+            Ok(true) => {
+                self.handed += batch.len() as u64;
+                Ok(true)
+            }
+            Ok(false) => {
+                self.live = false;
+                Ok(false)
+            }
+            Err(why) => {
+                self.live = false;
+                Err(why)
             }
         }
     }

@@ -1,0 +1,50 @@
+-- One record more, or none, or a full batch.
+use Rattle.std.proofs.Common.{◌+◌, ◌∷◌, ◌∙◌, [], List, length, length-append, map, ap, sym, subst, arith}
+use Rattle.std.proofs.lemmas.List.{map-append}
+use Rattle.olap_base.specs.Views.{Fact, IsFactTable}
+use Rattle.olap_facts.specs.Batches.{HasRead}
+use Rattle.olap_facts.specs.FactReading.{reading}
+use Rattle.olap_facts.specs.Seen.{fact_of}
+use Rattle.olap_facts.proofs.BatchLemmas.{batch-end, batch-full, read-more}
+use Rattle.olap_facts.proofs.TableLemmas.{table-more}
+use Rattle.olap_facts.proofs.readers.fill.Goals as goal
+
+pub facts-preserved : goal.facts-preserved
+facts-preserved c =
+    let g = c.args.graph.now in
+    let i = c.args.instance.now in
+    let inv = c.facts.invariant in
+    let n = c.facts.n in
+    let f = c.in-Ok.fact in
+    let old = c.facts.batch.items in
+    let rows = c.advance.new.self in
+    let left = rw c.if-not-branch-2.false at c.in_ok-advance.ensures in
+    let items = c.in_ok-push-in-Ok.ensures.items in
+    let facts = ap (map fact_of) items ∙ map-append fact_of old (f ∷ []) in
+    record {
+      size = omega (arith, ap length items, length-append old (f ∷ []), inv.size);
+      few = omega (arith, c.in-Ok.ensures.few);
+      table = subst (λ (fs : List Fact). IsFactTable g i fs) (sym facts)
+          (table-more g i (map fact_of old) (fact_of f) inv.table c.in-Ok.ensures.member c.in-Ok.ensures.bottom);
+      reads = λ records live a.
+          let r = reading g i records c.args.most c.args.handed live in
+          let h = inv.reads records live a in
+          let says = c.in-Ok.ensures.fact h.body.seen h.body.size in
+          subst (λ (fs : List Fact). HasRead r (n + 1) fs rows.left) (sym facts)
+          (read-more r n (map fact_of old) c.facts.rows.left rows.left rows.row h left (fact_of f) says.0 says.1);
+    }
+
+pub returns-then-not-branch-2-clause-reads : goal.returns-then-not-branch-2-clause-reads
+returns-then-not-branch-2-clause-reads c = λ records live a.
+    let r = reading c.args.graph.now c.args.instance.now records c.args.most c.args.handed live in
+    let inv = c.facts.invariant in
+    let end = rw c.if-not-branch-2.true at c.in_ok-advance.ensures in
+    batch-end r c.facts.n (map fact_of c.facts.batch.items) c.facts.rows.left (inv.reads records live a)
+    (length c.facts.batch.items) inv.size (omega (arith, c.facts-test.true)) end.0 c.advance.new.self.left end.1
+
+pub returns-clause-reads : goal.returns-clause-reads
+returns-clause-reads c = λ records live a.
+    let r = reading c.args.graph.now c.args.instance.now records c.args.most c.args.handed live in
+    let inv = c.facts.invariant in
+    batch-full r c.facts.n (map fact_of c.facts.batch.items) c.facts.rows.left (inv.reads records live a)
+    (length c.facts.batch.items) inv.size (omega (arith, c.facts-test.false, c.facts.auto.n-end))

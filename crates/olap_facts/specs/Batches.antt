@@ -1,0 +1,47 @@
+-- A reader that hands out the facts of a text in batches.
+--     facts_in_a_batch   how many facts a batch has, but for the last
+--     HandsOutBatch      it hands out the facts of the next records
+--     IsStoppedInBatch   the text's first fault stands at one of the next records
+use Rattle.std.specs.Prelude.{◌≡◌, ◌⊎◌, ⊤, ℕ, ◌+◌, ◌<◌, ◌≤◌, true, List, [], length, map, take, drop, Some, Err}
+use Rattle.olap_base.specs.Views.{Fact}
+use Rattle.olap_records.specs.Faults.{first_fault}
+use Rattle.olap_facts.specs.FactReading.{FactReading, HasBody, all_read, body_of}
+use Rattle.olap_facts.specs.FactText.{fact_fault_within, fact_read, has_header}
+use Rattle.olap_facts.specs.declared.kinds.FactKind.{FactKind}
+use Rattle.olap_facts.specs.declared.kinds.FactRefusal.{FactRefusal}
+use Rattle.olap_facts.specs.declared.kinds.FactRefusal.TheVariants as refusal
+
+abbrev pub facts_in_a_batch : ℕ
+facts_in_a_batch = 256
+
+-- the reader after so many facts more
+abbrev pub more : ℕ → FactReading → FactReading
+more n r = record r { handed = r.handed + n }
+
+-- the facts of so many records behind those handed out
+abbrev pub next_facts : ℕ → FactReading → List Fact
+next_facts n r = map (fact_read r.instance) (take n (drop r.handed (body_of r.records)))
+
+-- the first record is the header, there is a record behind those handed out, no fault stands at it, before it or at
+-- another of the batch, and these are the batch's facts
+pub record HandsOutBatch (r : FactReading) (batch : List Fact) : Type 0 where
+  pub header : has_header r.records ≡ true
+  pub there : r.handed < length (body_of r.records)
+  pub no_fault : (p : ℕ × FactKind) → first_fault (fact_fault_within r.most r.graph r.instance) []
+      (body_of r.records) ≡ Some p
+      → r.handed + length batch ≤ p.0
+  pub facts : batch ≡ next_facts facts_in_a_batch r
+
+-- the text's first fault is that of the header, before any fact, or of a record of the next batch; or memory ran out
+abbrev pub IsStoppedInBatch : FactReading → FactRefusal → Type 0
+IsStoppedInBatch r (refusal.Fault at kind) = (all_read r ≡ Err (record { at = at; kind = kind }))
+    × (((at ≡ 1) × (r.handed ≡ 0)) ⊎ ((n : ℕ) × (n < facts_in_a_batch) × (at ≡ r.handed + n + 2)))
+IsStoppedInBatch r refusal.Memory = ⊤
+
+-- ---- within
+
+-- so many facts were read since the reader stood here, and these records are left
+pub record HasRead (r : FactReading) (n : ℕ) (batch : List Fact) (left : List (List (List ℕ))) : Type 0 where
+  pub size : length batch ≡ n
+  pub facts : batch ≡ next_facts n r
+  pub body : HasBody (more n r) left
