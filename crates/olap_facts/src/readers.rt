@@ -49,6 +49,7 @@ impl<'a> Model for FactReader<'a> {
 }
 
 /// Reads the header before the first fact, and says whether it is there.
+#[inline(always)]
 fn starts(rows: &mut Rows, handed: u64) -> Result<bool, Memory>
     ensures first { IfOk result (λ b. handed ≡ 0 → b ≡ has_header rows.old.left) }
     ensures left { IfOk result (λ b. handed ≡ 0 → IsTrue b → rows.new.left ≡ drop 1 rows.old.left) }
@@ -62,6 +63,7 @@ fn starts(rows: &mut Rows, handed: u64) -> Result<bool, Memory>
 }
 
 /// The fact of the next record, if there is one, after so many facts of at most so many.
+#[inline(always)]
 fn next_of(
     graph: &Graph,
     instance: &Instance,

@@ -29,6 +29,7 @@ pub(crate) fn begins(rows: &mut Rows) -> Result<bool, Memory>
 }
 
 /// Whether a member is of a bottom category.
+#[inline(always)]
 pub fn is_at_bottom(graph: &Graph, instance: &Instance, m: MemberId) -> bool
     requires made { IsMadeFor graph.now instance.now }
     requires member { m.0 < length instance.now }
@@ -39,6 +40,7 @@ pub fn is_at_bottom(graph: &Graph, instance: &Instance, m: MemberId) -> bool
 }
 
 /// The fact of the record that was read last, after this many facts, of at most so many.
+#[inline(always)]
 pub(crate) fn fact(
     graph: &Graph,
     instance: &Instance,
