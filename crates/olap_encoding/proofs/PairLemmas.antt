@@ -1,0 +1,34 @@
+-- The pairs that have yet to be defined: one more, and one fewer.
+use Rattle.std.proofs.Common.{◌≡◌, ℕ, List, [], ◌∷◌, ◌++◌, refl, subst, ◌⊎◌, inl, inr}
+use Rattle.std.specs.Prelude.{Contains}
+use Rattle.std.proofs.lemmas.List.Elements.{Contains-push_cases}
+use Rattle.olap_encoding.specs.Encoding.{Encoding, IsPair, IsSound, IsLater, IsNext}
+use Rattle.olap_encoding.proofs.Growing.{grown_same, given_still}
+
+-- other pairs have yet to be defined
+other_pairs : (e : Encoding) (pairs : List (ℕ × ℕ)) → IsSound e
+    → ((x : ℕ × ℕ) → Contains pairs x → IsPair e x.0 x.1) → IsNext e (record e { todo = pairs })
+other_pairs e pairs t f =
+    let n : IsLater e (record e { todo = pairs }) = record { problem = refl; grown = grown_same e.meanings } in record {
+      sound = record {
+        problem = t.problem;
+        few = t.few;
+        ordered = t.ordered;
+        laid = t.laid;
+        given = λ clause g. given_still n (t.given clause g);
+        asked = f;
+      };
+      later = n;
+    }
+
+pub next_entered : (e : Encoding) (c d : ℕ) → IsSound e → IsPair e c d
+    → IsNext e (record e { todo = e.todo ++ (c, d) ∷ [] })
+next_entered e c d t p = other_pairs e (e.todo ++ (c, d) ∷ []) t (λ x g. pair x (Contains-push_cases e.todo (c, d) x g))
+  where
+    pair : (x : ℕ × ℕ) → Contains e.todo x ⊎ ((c, d) ≡ x) → IsPair e x.0 x.1
+    pair x (inl g) = t.asked x g
+    pair x (inr q) = subst (λ (y : ℕ × ℕ). IsPair e y.0 y.1) q p
+
+pub next_popped : (e : Encoding) (rest : List (ℕ × ℕ)) → IsSound e
+    → ((x : ℕ × ℕ) → Contains rest x → Contains e.todo x) → IsNext e (record e { todo = rest })
+next_popped e rest t f = other_pairs e rest t (λ x g. t.asked x (f x g))
