@@ -3,20 +3,19 @@ ghost use Rattle.std.specs.Prelude.{◌<◌, IfSome};
 ghost use Rattle.olap_clauses.specs.Pools.{clause_count};
 ghost use Rattle.olap_clauses.specs.Admits.{IsBroken, Extends};
 
-use crate::literals::{Lit, Value};
+use crate::literals::Lit;
 use crate::pools::Pool;
 use crate::standing::{Stand, stands};
 use crate::trails::{Reason, Trail};
-use crate::watching::Watches;
+use crate::watching::{Cursor, Watches};
 
 /// Whether a literal isn't known false, and is another than the one that the clause's other node
 /// watches.
 fn is_free(trail: &Trail, lit: Lit, other: Lit) -> bool {
-    !lit.is(other) && !trail.value(lit).is(Value::No)
+    !trail.is_false(lit) && !lit.is(other)
 }
 
-/// A free literal of the clause and its place: the first from this place on, or else the first of
-/// all.
+/// A free literal of the clause and its place: the first from this place on, or else the first before it.
 fn free_from(trail: &Trail, clause: &[Lit], from: usize, other: Lit) -> Option<(usize, Lit)> {
     for place in from..clause.len() {
         let lit = clause[place];
@@ -24,52 +23,57 @@ fn free_from(trail: &Trail, clause: &[Lit], from: usize, other: Lit) -> Option<(
             return Some((place, lit));
         }
     }
-    for (place, lit) in clause.iter().enumerate() {
-        if is_free(trail, *lit, other) {
-            return Some((place, *lit));
+    for place in 0..from.min(clause.len()) {
+        let lit = clause[place];
+        if is_free(trail, lit, other) {
+            return Some((place, lit));
         }
     }
     None
 }
 
 /// Lets the node watch a free literal of its clause, and answers whether there is one.
-fn moved(trail: &Trail, clause: &[Lit], watches: &mut Watches, node: usize, other: Lit) -> bool {
-    match free_from(trail, clause, watches.place(node), other) {
+fn moved(
+    trail: &Trail,
+    clause: &[Lit],
+    watches: &mut Watches,
+    at: &mut Cursor,
+    other: Lit,
+) -> bool {
+    match free_from(trail, clause, watches.place(at), other) {
         Some((place, lit)) => {
-            watches.watch_at(node, lit, place);
+            watches.turn(at, lit, place);
             true
         }
         None => false,
     }
 }
 
-/// Looks at one clause that watched a literal which is false now. Its number, if it is false.
+/// Looks at one clause that watches a literal which is false now, and goes on to the next of its list. Its number, if
+/// it is false.
 fn visit(
     trail: &mut Trail,
     pool: &Pool,
     watches: &mut Watches,
-    node: usize,
-    lit: Lit,
+    id: usize,
+    at: &mut Cursor,
 ) -> Option<usize>
     ensures extends { Extends pool.now trail.old trail.new }
     ensures broken { IfSome result (IsBroken pool.now trail.new) }
 {
-    let id = node / 2;
-    if id >= pool.len() {
-        return None;
-    }
-    let Some(other) = watches.other(node) else {
+    let Some(other) = watches.other(at) else {
+        watches.pass(at);
         return None;
     };
-    if trail.value(other).is(Value::Yes) {
-        watches.watch(node, lit);
+    if trail.is_true(other) || id >= pool.len() {
+        watches.pass(at);
         return None;
     }
     let clause = pool.clause(id);
-    if moved(trail, clause, watches, node, other) {
+    if moved(trail, clause, watches, at, other) {
         return None;
     }
-    watches.watch(node, lit);
+    watches.pass(at);
     match stands(trail, clause) {
         Stand::Broken => Some(id),
         Stand::Forces(forced) => {
@@ -85,18 +89,15 @@ fn walk(trail: &mut Trail, pool: &Pool, watches: &mut Watches, lit: Lit) -> Opti
     ensures extends { Extends pool.now trail.old trail.new }
     ensures broken { IfSome result (IsBroken pool.now trail.new) }
 {
-    let mut at = watches.take(lit);
+    let mut at = watches.first(lit);
     'nodes: for _ in 0..2 * pool.len() {
-        let Some(node) = at else {
+        let Some(id) = watches.clause(&at) else {
             return None;
         };
-        let next = watches.next(node);
-        let found = visit(trail, pool, watches, node, lit);
+        let found = visit(trail, pool, watches, id, &mut at);
         if found.is_some() {
-            watches.give_back(next, lit);
             return found;
         }
-        at = next;
     }
     None
 }
@@ -143,12 +144,11 @@ pub(crate) fn force_each_short(trail: &mut Trail, pool: &Pool, watches: &Watches
     ensures extends { Extends pool.now trail.old trail.new }
     ensures broken { IfSome result (IsBroken pool.now trail.new) }
 {
-    let mut at = watches.short();
+    let mut at = watches.first_short();
     'nodes: for _ in 0..pool.len() {
-        let Some(node) = at else {
+        let Some(id) = watches.clause(&at) else {
             return None;
         };
-        let id = node / 2;
         if id >= pool.len() {
             return None;
         }
@@ -156,7 +156,7 @@ pub(crate) fn force_each_short(trail: &mut Trail, pool: &Pool, watches: &Watches
         if found.is_some() {
             return found;
         }
-        at = watches.next(node);
+        watches.pass(&mut at);
     }
     None
 }
