@@ -203,6 +203,7 @@ impl<'a> FactReader<'a> {
             }
         }
     }
+
     /// Puts the facts of the next records into the batch, in place of those in it, and says whether there are any: as
     /// many as a batch may have, or as are left. After the last, and after a refusal, the reader isn't live.
     pub fn read_batch(&mut self, batch: &mut Vec<Fact>) -> Result<bool, FactRefusal>
