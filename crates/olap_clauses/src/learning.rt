@@ -11,8 +11,8 @@ use crate::scoring::Scores;
 use crate::trails::Trail;
 use crate::watching::Watches;
 
-/// So many literals at most has an old learned clause that is kept.
-const SHORT: usize = 5;
+/// A clause whose literals stood on so many levels of decisions is kept no longer than others.
+const MANY: u32 = 64;
 
 /// Whether the second clause says as much as the first: it is no longer, and has no other literals.
 fn says_as_much(clause: &[Lit], known: &[Lit]) -> bool {
@@ -20,6 +20,30 @@ fn says_as_much(clause: &[Lit], known: &[Lit]) -> bool {
         && known
             .iter()
             .all(|lit| clause.iter().any(|other| lit.is(*other)))
+}
+
+/// Whether a decision stands between the two places.
+fn has_decision(trail: &Trail, from: usize, to: usize) -> bool {
+    for place in from..to.min(trail.len()) {
+        if trail.step(place).is_decision() {
+            return true;
+        }
+    }
+    false
+}
+
+/// On how many levels of decisions the literals stand, which are in the order of the trail.
+fn levels_of(trail: &Trail, clause: &[Lit]) -> u32 {
+    let mut levels: u32 = 0;
+    let mut from = 0;
+    for lit in clause {
+        let to = trail.place(lit.variable).saturating_add(1);
+        if has_decision(trail, from, to) {
+            levels = levels.saturating_add(1);
+        }
+        from = to;
+    }
+    levels
 }
 
 /// Learns from a false clause, where it can, and answers the number of what it learned. That is its own, where it said
@@ -45,47 +69,48 @@ pub(crate) fn learn(
         return Some(id);
     }
     let new = pool.len();
-    if !pool.keep(work) {
+    if !pool.keep(work, levels_of(trail, work)) {
         return None;
     }
     watches.enter(new, work);
     Some(new)
 }
 
-/// How many clauses between the two places have at most so many literals.
-fn count_short(pool: &Pool, given: usize, newer: usize, most: usize) -> usize {
+/// How many clauses between the two places have literals on at most so many levels.
+fn count_worthy(pool: &Pool, given: usize, newest: usize, most: u32) -> usize {
     let mut count: usize = 0;
     for id in 0..pool.len() {
-        if given <= id && id < newer && pool.clause(id).len() <= most {
+        if given <= id && id < newest && pool.levels(id) <= most {
             count = count.saturating_add(1);
         }
     }
     count
 }
 
-/// How many literals a clause between the two places may have to be kept: fewer than `SHORT` if more than half of them
-/// are as short as that, since the pool would stay full.
-fn short_enough(pool: &Pool, given: usize, newer: usize) -> usize {
-    let half = newer.saturating_sub(given) / 2;
-    for spared in 0..SHORT {
-        let most = SHORT - spared;
-        if count_short(pool, given, newer, most) <= half {
+/// The most levels of the clauses between the two places of which no more than that are kept; one at least, since most
+/// that such a clause says stays needed.
+fn levels_enough(pool: &Pool, given: usize, newest: usize, wanted: usize) -> u32 {
+    for most in 1..MANY {
+        if count_worthy(pool, given, newest, most + 1) > wanted {
             return most;
         }
     }
-    0
+    MANY
 }
 
-/// Copies the clauses before the first place and from the second on, and the short ones between
-/// them.
+/// Copies the clauses before the first place, the later half of those from the second on, and about as many of the
+/// others: those whose literals stood on the fewest levels.
 pub(crate) fn copy_some(pool: &Pool, to: &mut Pool, given: usize, newer: usize)
     ensures { (v : ℕ → Bool) → AreTrue v pool.now → AreTrue v to.new }
 {
-    let most = short_enough(pool, given, newer);
+    let kept = pool.len().saturating_sub(newer) / 2;
+    let newest = pool.len() - kept;
+    let most = levels_enough(pool, given, newest, kept);
     to.clear();
     'clauses: for id in 0..pool.len() {
         let clause = pool.clause(id);
-        let wanted = id < given || id >= newer || clause.len() <= most;
-        to.keep_if(wanted, clause);
+        let levels = pool.levels(id);
+        let wanted = id < given || id >= newest || levels <= most;
+        to.keep_if(wanted, clause, levels);
     }
 }

@@ -49,7 +49,7 @@ fn shorten(trail: &Trail, clause: &[Lit], work: &mut Vec<Lit>)
 }
 
 /// Copies a clause without the literals that are known false, unless one is known true.
-fn copy_short(trail: &Trail, clause: &[Lit], to: &mut Pool, work: &mut Vec<Lit>)
+fn copy_short(trail: &Trail, clause: &[Lit], levels: u32, to: &mut Pool, work: &mut Vec<Lit>)
     requires { length (values_of trail.now) ≤ vec_capacity work.old }
     ensures right { (v : ℕ → Bool) → Agrees v (steps_of trail.now) → Satisfies v clause.now
         → AreTrue v to.old → AreTrue v to.new }
@@ -59,11 +59,11 @@ fn copy_short(trail: &Trail, clause: &[Lit], to: &mut Pool, work: &mut Vec<Lit>)
         return;
     }
     if clause.len() > trail.variables() {
-        to.keep_if(true, clause);
+        to.keep_if(true, clause, levels);
         return;
     }
     shorten(trail, clause, work);
-    to.keep_if(true, work);
+    to.keep_if(true, work, levels);
 }
 
 /// Adds each literal that stands as a clause.
@@ -72,7 +72,7 @@ fn copy_facts(trail: &Trail, to: &mut Pool)
 {
     'steps: for k in 0..trail.len() {
         let lit = trail.step(k).lit;
-        to.keep_if(true, &[lit]);
+        to.keep_if(true, &[lit], 0);
     }
 }
 
@@ -94,7 +94,7 @@ pub(crate) fn copy_all(
     copy_facts(trail, to);
     let mut count = to.len();
     'clauses: for id in 0..pool.len() {
-        copy_short(trail, pool.clause(id), to, work);
+        copy_short(trail, pool.clause(id), pool.levels(id), to, work);
         if id < given {
             count = to.len();
         }
