@@ -1,5 +1,5 @@
 // Tallies: facts are added one at a time, and give the direct views of some categories.
-ghost use Rattle.std.specs.Prelude.{◌≡◌, ◌≢◌, ◌+◌, ◌∷◌, ◌++◌, ◌<◌, ◌^◌, ℕ, All, AllPairs, Contains, IfOk, List as Items, [], length, map};
+ghost use Rattle.std.specs.Prelude.{◌≡◌, ◌≢◌, ◌+◌, ◌∷◌, ◌++◌, ◌<◌, ◌≤◌, ◌^◌, ℕ, All, AllPairs, Contains, IfOk, List as Items, [], length, map};
 ghost use Rattle.olap_base.specs.Limits.{most_count};
 ghost use Rattle.olap_base.specs.Views.{Fact as TheFact, direct_view};
 ghost use Rattle.olap_facts.specs.Seen.{fact_of};
@@ -66,6 +66,21 @@ impl<'a> Tally<'a> {
     {
         self.table.join(fact.member, Summary::of_value(fact.value));
         self.added += 1;
+    }
+
+    /// Adds facts, in their order, as `add` adds one.
+    pub fn add_all(&mut self, facts: &[Fact])
+        requires members { All (λ f. f.member.0 < length self.old.instance) facts.now }
+        requires room { self.old.added + length facts.now ≤ most_count }
+        ensures instance { self.new.instance ≡ self.old.instance }
+        ensures categories { self.new.categories ≡ self.old.categories }
+        ensures added { self.new.added ≡ self.old.added + length facts.now }
+        ensures stands { (before : Items TheFact) → StandsFor self.old before
+            → StandsFor self.new (before ++ map fact_of facts.now) }
+    {
+        'facts: for fact in facts {
+            self.add(fact);
+        }
     }
 
     /// The direct view of one of the categories.

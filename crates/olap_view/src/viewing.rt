@@ -31,9 +31,7 @@ pub fn direct(alloc: Global, legal: &Legal, facts: &Facts, c: CatId) -> Result<V
     ensures fits { IfOk result (λ v. Fits (view_of v)) }
 {
     let mut tally = Tally::new(alloc, legal, &[c])?;
-    'facts: for fact in facts.rows.items() {
-        tally.add(fact);
-    }
+    tally.add_all(facts.rows.items());
     tally.view(c)
 }
 
