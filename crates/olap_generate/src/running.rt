@@ -92,7 +92,7 @@ fn made_views(
     ensures members { IfOk result (λ v. All (λ w. All (λ r. r.member.0 < length legal.now) w.rows) v) }
 {
     let text = fact_text(alloc, input)?;
-    match roll_up(alloc, schema.graph(), legal, &text, &STORED) {
+    match roll_up(alloc, schema.graph(), legal, text, &STORED) {
         Ok(views) => Ok(views),
         Err(FactRefusal::Memory) => Err(Memory),
         Err(FactRefusal::Fault { .. }) => unreachable!(),

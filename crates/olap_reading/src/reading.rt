@@ -112,7 +112,7 @@ pub fn views_in<L: Library>(
     let Some(text) = read_file(alloc, file, lib)? else {
         return Err(refuse_long(alloc, "facts"));
     };
-    match roll_up(alloc, schema.graph(), legal, &text, categories) {
+    match roll_up(alloc, schema.graph(), legal, text, categories) {
         Ok(views) => Ok(views),
         Err(FactRefusal::Memory) => Err(Stop::Memory),
         Err(FactRefusal::Fault { at, kind }) => Err(refuse_part(

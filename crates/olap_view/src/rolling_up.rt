@@ -5,7 +5,7 @@ ghost use Rattle.olap_facts.specs.FactText.{facts_read_within};
 ghost use Rattle.olap_facts.specs.Refusals.{IsRefusedBy};
 ghost use Rattle.olap_instance.specs.Made.{IsMadeFor};
 ghost use Rattle.olap_records.specs.Records.{records_of};
-ghost use Rattle.olap_view.specs.RollingUp.{AreRolledUp};
+ghost use Rattle.olap_view.specs.RollingUp.{AreRolledUp, IsTallyOf};
 ghost use Rattle.olap_view.specs.Seen.{each_view_of, ids};
 ghost use Rattle.olap_view.specs.Stores.{Fits};
 
@@ -16,32 +16,53 @@ use olap_facts::{FactReader, FactRefusal};
 use olap_graph::Graph;
 use std::alloc::Global;
 
+/// What the facts of a text come to at each member of some categories. The text is gone when it returns.
+fn tally_of<'a>(
+    alloc: Global,
+    graph: &Graph,
+    legal: &'a Legal,
+    text: Vec<u8>,
+    categories: &[CatId],
+) -> Result<Tally<'a>, FactRefusal>
+    requires made { IsMadeFor graph.now legal.now }
+    requires differ { AllPairs ◌≢◌ (ids categories.now) }
+    ensures tally { IfOk result (λ t.
+        IsTallyOf graph.now legal.now (records_of text.items) (ids categories.now) t) }
+    ensures err { IfErr result (λ e.
+        IsRefusedBy e (facts_read_within most_facts graph.now legal.now (records_of text.items))) }
+{
+    let mut reader = FactReader::new(alloc, graph, legal.instance(), &text, MOST_FACTS);
+    let mut tally = Tally::new(alloc, legal, categories)?;
+    let mut batch = Vec::new(alloc);
+    'batches: while reader.read_batch(&mut batch)? {
+        tally.add_all(batch.as_slice());
+    }
+    Ok(tally)
+}
+
 /// The direct views of some categories, in their order, from a text of at most `MOST_FACTS` facts; or the text's first
 /// fault. The views may be stored.
 ///
-/// Each fact is read once and added to a tally, and no list of facts is kept. `Memory`: want of memory.
+/// The facts are read and added to a tally batch by batch, and no list of all facts is kept. The text is gone before
+/// the views are made. `Memory`: want of memory.
 pub fn roll_up(
     alloc: Global,
     graph: &Graph,
     legal: &Legal,
-    text: &[u8],
+    text: Vec<u8>,
     categories: &[CatId],
 ) -> Result<List<View>, FactRefusal>
     requires made { IsMadeFor graph.now legal.now }
     requires differ { AllPairs ◌≢◌ (ids categories.now) }
 
     ensures views { IfOk result (λ v.
-        AreRolledUp graph.now legal.now (records_of text.now) (ids categories.now) (each_view_of v)) }
+        AreRolledUp graph.now legal.now (records_of text.items) (ids categories.now) (each_view_of v)) }
     ensures members { IfOk result (λ v. All (λ w. All (λ r. r.member.0 < length legal.now) w.rows) v) }
     ensures fit { IfOk result (λ v. All Fits (each_view_of v)) }
 
     ensures err { IfErr result (λ e.
-        IsRefusedBy e (facts_read_within most_facts graph.now legal.now (records_of text.now))) }
+        IsRefusedBy e (facts_read_within most_facts graph.now legal.now (records_of text.items))) }
 {
-    let mut reader = FactReader::new(alloc, graph, legal.instance(), text, MOST_FACTS);
-    let mut tally = Tally::new(alloc, legal, categories)?;
-    'facts: while let Some(fact) = reader.next()? {
-        tally.add(&fact);
-    }
+    let tally = tally_of(alloc, graph, legal, text, categories)?;
     Ok(tally.into_views()?)
 }

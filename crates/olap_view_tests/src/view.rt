@@ -100,7 +100,7 @@ fn rolled_up_facts(rt: HostRuntime) {
     );
     let city = schema.graph().category(b"City").expect(&rt, "a category");
     let legal = legal(alloc, &rt, &schema, instance);
-    let facts: &[u8] = b"member,value\na,5\nb,-5\n";
+    let facts = Vec::from_slice(alloc, b"member,value\na,5\nb,-5\n").expect(&rt, "facts");
     let views = roll_up(alloc, schema.graph(), &legal, facts, &[city]).expect(&rt, "views");
     assert!(rt; views.items().len() == 1);
     for view in views.items() {

@@ -1,4 +1,4 @@
-use Rattle.std.proofs.Common.{subst, ◌∙◌}
+use Rattle.std.proofs.Common.{subst}
 use Rattle.olap_base.specs.Limits.{most_facts}
 use Rattle.olap_facts.specs.FactText.{facts_read_within}
 use Rattle.olap_facts.specs.Refusals.{IsRefusedBy}
@@ -12,16 +12,16 @@ pub returns-in-Ok-clause-views : goal.returns-in-Ok-clause-views
 returns-in-Ok-clause-views c =
     let input = c.args.input.now in
     views_made input.seed input.size input.few (schema_of c.args.schema.now) c.requires.schema_text c.args.legal.now
-    c.requires.member_text c.graph.result.now c.deref.result.now (each_view_of c.in-Ok.views) c.graph.ensures
-    (c.deref.ensures.value ∙ c.in_ok-text.ensures) c.in-Ok.ensures.views c.requires.legal
+    c.requires.member_text c.graph.result.now c.in_ok-text.text.items (each_view_of c.in-Ok.views) c.graph.ensures
+    c.in_ok-text.ensures c.in-Ok.ensures.views c.requires.legal
 
 pub unreachable-requires : goal.unreachable-requires
 unreachable-requires c =
     let input = c.args.input.now in
     let g = c.graph.result.now in
-    let text = c.deref.result.now in
+    let text = c.in_ok-text.text.items in
     facts_faultless input.seed input.size input.few (schema_of c.args.schema.now) c.requires.schema_text
     c.args.legal.now c.requires.member_text g text
-    c.graph.ensures (c.deref.ensures.value ∙ c.in_ok-text.ensures) _
+    c.graph.ensures c.in_ok-text.ensures _
     (subst (λ e. IsRefusedBy e (facts_read_within most_facts g c.args.legal.now (records_of text)))
     c.in-Err-Fault.field-0-is c.in-Err-Fault.ensures.err)

@@ -6,15 +6,15 @@ use Rattle.olap_facts.specs.FactReading.{body_of, reading}
 use Rattle.olap_view.specs.Seen.{ids}
 use Rattle.olap_view.specs.Tallies.{StandsFor}
 use Rattle.olap_view.proofs.RollingUpLemmas.{facts_so_far}
-use Rattle.olap_view.proofs.rolling_up.roll_up.Given as goal
+use Rattle.olap_view.proofs.rolling_up.tally_of.Given as goal
 
-abbrev pub invariant-facts : goal.invariant-facts
-invariant-facts l = record {
-  reader : l.reader ≡ reading l.graph l.legal (records_of l.text) most_facts l.reader.handed true;
+abbrev pub invariant-batches : goal.invariant-batches
+invariant-batches l = record {
+  reader : l.reader ≡ reading l.graph l.legal (records_of l.fn.text.items) most_facts l.reader.handed true;
   instance : l.tally.instance ≡ l.legal;
   categories : l.tally.categories ≡ ids l.categories;
-  stands : StandsFor l.tally (facts_so_far l.legal (records_of l.text) l.reader.handed);
+  stands : StandsFor l.tally (facts_so_far l.legal (records_of l.fn.text.items) l.reader.handed);
 }
 
-abbrev pub decreases-facts : goal.decreases-facts
-decreases-facts l = length (body_of l.reader.records) - l.reader.handed
+abbrev pub decreases-batches : goal.decreases-batches
+decreases-batches l = length (body_of l.reader.records) - l.reader.handed
