@@ -77,6 +77,7 @@ impl<'a> Column<'a> {
     }
 
     /// The member of the category that x reaches. One look at a list.
+    #[inline(always)]
     pub fn ancestor(&self, x: MemberId) -> Option<MemberId>
         requires { x.0 < length self.now.instance }
         ensures some { IfSome result (λ y. IsAncestor self.now.instance x.0 self.now.category y.0) }

@@ -22,6 +22,7 @@ pub struct Summary {
 
 impl Summary {
     /// What one value comes to.
+    #[inline(always)]
     pub fn of_value(value: i64) -> Summary
         ensures { summary_of result ≡ of_value value }
     {
@@ -34,6 +35,7 @@ impl Summary {
     }
 
     /// What two lots of values come to together.
+    #[inline(always)]
     pub fn joined(self, other: Summary) -> Summary
         requires this { IsUpTo (2 ^ 62) (2 ^ 120) (summary_of self) }
         requires that { IsUpTo (2 ^ 62) (2 ^ 120) (summary_of other) }
@@ -48,6 +50,7 @@ impl Summary {
     }
 
     /// The summary joined to what is there, if there is anything.
+    #[inline(always)]
     pub fn beside(self, there: Option<Summary>) -> Summary
         requires this { IsUpTo (2 ^ 62) (2 ^ 120) (summary_of self) }
         requires there { IfSome (option_map summary_of there) (IsUpTo (2 ^ 62) (2 ^ 120)) }

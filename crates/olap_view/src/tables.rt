@@ -110,6 +110,7 @@ impl Table {
     }
 
     /// Joins the summary to what stands at the member of the category that x reaches, if there is one.
+    #[inline(always)]
     fn join_in(&mut self, legal: &Legal, column: &Column, c: CatId, x: MemberId, summary: Summary)
         requires column { column.now ≡ ascent legal.now c.0 }
         requires member { x.0 < length legal.now }
@@ -126,6 +127,7 @@ impl Table {
     }
 
     /// Joins the summary to what stands at the members of the categories that x reaches.
+    #[inline(always)]
     pub(crate) fn join(&mut self, legal: &Legal, columns: &[Column], x: MemberId, summary: Summary)
         requires columns { AreColumns legal.now (categories_of self.old) columns.now }
         requires member { x.0 < length legal.now }
