@@ -32,10 +32,14 @@ pub fn legal_in<L: Library>(
     ensures legal { IfOk result (λ i. IsLegal (schema_of schema.now) i) }
     ensures made { IfOk result (λ i. IsMadeFor (schema_of schema.now).graph i) }
 {
-    let Some(text) = read_file(alloc, file, lib)? else {
-        return Err(refuse_long(alloc, label));
+    // The text is dropped before the check asks for memory.
+    let read = {
+        let Some(text) = read_file(alloc, file, lib)? else {
+            return Err(refuse_long(alloc, label));
+        };
+        read_instance(alloc, schema.graph(), &text)
     };
-    let members = match read_instance(alloc, schema.graph(), &text) {
+    let members = match read {
         Ok(members) => members,
         Err(InstanceRefusal::Memory) => return Err(Stop::Memory),
         Err(InstanceRefusal::Fault { at, kind }) => return Err(refuse_part(
