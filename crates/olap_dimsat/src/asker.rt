@@ -62,6 +62,8 @@ pub struct Leaf {
     pub(crate) straight_down: bool,
     /// How many edges were decided when one first came present beside another from its child, if one did. A hint.
     pub(crate) second: Option<u16>,
+    /// How many literals stood when the judge was last asked. A hint.
+    pub(crate) stood: usize,
 }
 
 /// A value with nothing present.
@@ -97,6 +99,7 @@ impl Leaf {
             room: Room::new(alloc, graph)?,
             straight_down: true,
             second: None,
+            stood: 0,
         })
     }
 }

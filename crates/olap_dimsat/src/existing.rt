@@ -29,5 +29,6 @@ pub(crate) fn exists(engine: &mut Engine, a: &Asker<'_>, leaf: &mut Leaf) -> boo
     ensures suited { IsSuited (task_of a.now) leaf.new (variables_of engine.new) }
 {
     leaf.straight_down = true;
+    leaf.stood = 0;
     engine.exists(a, leaf)
 }

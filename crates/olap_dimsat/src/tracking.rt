@@ -160,5 +160,9 @@ pub(crate) fn follow(a: &Asker<'_>, leaf: &mut Leaf, trail: &Trail) -> bool
             leaf.second = None;
         }
     }
+    if trail.len() < leaf.stood {
+        leaf.straight_down = false;
+    }
+    leaf.stood = trail.len();
     follow_edges(a, &mut leaf.decided, &mut leaf.second, trail)
 }
