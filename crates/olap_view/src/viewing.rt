@@ -31,7 +31,9 @@ pub fn direct(alloc: Global, legal: &Legal, facts: &Facts, c: CatId) -> Result<V
     ensures fits { IfOk result (λ v. Fits (view_of v)) }
 {
     let mut tally = Tally::new(alloc, legal, &[c])?;
-    tally.add_all(facts.rows.items());
+    'facts: for fact in facts.rows.items() {
+        tally.add(fact);
+    }
     tally.view(c)
 }
 

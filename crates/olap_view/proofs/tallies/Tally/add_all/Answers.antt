@@ -1,6 +1,6 @@
 -- One fact more.
 use Rattle.std.proofs.Common.{◌∷◌, ◌++◌, ◌∙◌, [], List, append_assoc, get_or, map, take, ap, sym, subst, pos, arith}
-use Rattle.std.proofs.lemmas.List.{append-nil, map-append, take_more}
+use Rattle.std.proofs.lemmas.List.{map-append, take_more}
 use Rattle.olap_base.specs.Views.{Fact}
 use Rattle.olap_facts.specs.Seen.{fact_of}
 use Rattle.olap_facts.specs.declared.tables.Fact as told
