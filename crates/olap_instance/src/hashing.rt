@@ -27,6 +27,7 @@ pub(crate) struct IdHasher {
 }
 
 // The value after one more coefficient.
+#[inline(always)]
 fn stepped(point: u64, value: u64, coefficient: u64) -> u64
     ensures { result ≡ hashing.stepped point value coefficient }
 {
@@ -37,6 +38,7 @@ fn stepped(point: u64, value: u64, coefficient: u64) -> u64
 }
 
 // The first seven bytes as a number, the lowest first.
+#[inline(always)]
 fn seven(bytes: &[u8]) -> u64
     requires { 7 ≤ length bytes.now }
     ensures { result ≡ from_le_bytes w64 (take 7 bytes.now ++ 0 ∷ []) }
@@ -47,6 +49,7 @@ fn seven(bytes: &[u8]) -> u64
 }
 
 // A number of bytes with these bytes behind it.
+#[inline(always)]
 fn with_rest(count: usize, rest: &[u8]) -> u64
     ensures { result ≡ fold hashing.with_byte count rest.now }
 {
@@ -62,11 +65,12 @@ impl Hasher for IdHasher {
 
     ghost finish = { λ h. h.value };
 
+    #[inline(always)]
     fn finish(&self) -> u64 {
         self.value
     }
 
-    #[inline]
+    #[inline(always)]
     fn write(&mut self, bytes: &[u8]) {
         let mut value = self.value;
         let mut rest = bytes;
@@ -89,6 +93,7 @@ impl BuildHasher for KeyedHash {
 
     ghost build_hasher = { λ h. hashing.begun h.point };
 
+    #[inline(always)]
     fn build_hasher(&self) -> IdHasher {
         IdHasher {
             point: self.point,

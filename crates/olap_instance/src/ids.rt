@@ -45,6 +45,7 @@ impl Short {
         }
     }
 
+    #[inline(always)]
     fn bytes(&self) -> &[u8]
         ensures { result.now ≡ self.now }
     {
@@ -89,6 +90,7 @@ impl Id {
     }
 
     /// Its bytes.
+    #[inline(always)]
     pub(crate) fn bytes(&self) -> &[u8]
         ensures { result.now ≡ self.now }
     {
@@ -104,6 +106,7 @@ impl PartialEq for Id {
 
     ghost laws = { partial_equiv_from_equiv nat_list_eq_equiv };
 
+    #[inline(always)]
     fn eq(&self, other: &Id) -> bool {
         self.bytes() == other.bytes()
     }
@@ -118,6 +121,7 @@ impl Hash for Id {
 
     ghost respects_eq = { λ x y h. ap (λ bytes. bytes ∷ []) ((bytes_decides x y).0 h) };
 
+    #[inline(always)]
     fn hash<H: Hasher>(&self, state: &mut H) {
         state.write(self.bytes());
     }
@@ -132,6 +136,7 @@ impl<'a> PartialEq for Sought<'a> {
 
     ghost laws = { Prim.search (comparing, rules) };
 
+    #[inline(always)]
     fn eq(&self, other: &Sought<'a>) -> bool {
         self.0 == other.0
     }
@@ -146,6 +151,7 @@ impl<'a> Hash for Sought<'a> {
 
     ghost respects_eq = { λ x y h. ap (λ bytes. bytes ∷ []) ((bytes_decides x.0.now y.0.now).0 h) };
 
+    #[inline(always)]
     fn hash<H: Hasher>(&self, state: &mut H) {
         state.write(self.0);
     }
@@ -158,6 +164,7 @@ impl<'a> Equivalent<Id> for Sought<'a> {
 
     ghost respects_eq = { λ q x y. nat_list_eq_equiv.congr q.0.now x y };
 
+    #[inline(always)]
     fn equivalent(&self, id: &Id) -> bool {
         self.0 == id.bytes()
     }

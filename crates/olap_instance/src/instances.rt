@@ -53,6 +53,7 @@ impl Instance {
     }
 
     /// The category of a member.
+    #[inline(always)]
     pub fn category(&self, m: MemberId) -> CatId
         requires { m.0 < length self.now }
         ensures { result.0 ≡ category_of self.now m.0 }
@@ -86,6 +87,7 @@ impl Instance {
     }
 
     /// The member of that id, if there is one.
+    #[inline(always)]
     pub fn find(&self, id: &[u8]) -> Option<MemberId>
         ensures place { option_map (λ m. m.0) result ≡ place_of id.now (map (λ m. m.id) self.now) }
         ensures inside { IfSome result (λ m. m.0 < length self.now) }

@@ -63,6 +63,7 @@ impl Roster {
     }
 
     /// The category of the member at a place.
+    #[inline(always)]
     pub(crate) fn category(&self, place: u32) -> CatId
         requires { place < length self.now }
         ensures { result.0 ≡ category_of self.now place }
@@ -79,6 +80,7 @@ impl Roster {
     }
 
     /// The place of the member of that id.
+    #[inline(always)]
     pub(crate) fn find(&self, id: &[u8]) -> Option<u32>
         ensures { result ≡ place_of id.now (map (λ m. m.id) self.now) }
     {

@@ -47,6 +47,7 @@ impl<'a> Rows<'a> {
         }
     }
 
+    #[inline(always)]
     fn next(&mut self) -> Result<bool, Refused>
         ensures { MatchResult result
             (λ found. MatchBool found
@@ -64,6 +65,7 @@ impl<'a> Rows<'a> {
     }
 
     /// Reads the next record, if there is one. After the last, and after a refusal, there is none.
+    #[inline(always)]
     pub fn advance(&mut self) -> Result<bool, Memory>
         ensures { MatchResult result
             (λ found. MatchBool found
@@ -76,6 +78,7 @@ impl<'a> Rows<'a> {
     }
 
     /// How many fields the record has that was read last.
+    #[inline(always)]
     pub fn len(&self) -> usize
         ensures { result ≡ length self.now.row }
     {
@@ -83,6 +86,7 @@ impl<'a> Rows<'a> {
     }
 
     /// A field of the record that was read last.
+    #[inline(always)]
     pub fn field(&self, i: usize) -> &[u8]
         requires { i < length self.now.row }
         ensures { result.now ≡ slice_index_or self.now.row i [] }
