@@ -73,6 +73,15 @@ def parities_of_a_graph(nodes, degree, seed):
     return s.text()
 
 
+def clause(chance, atoms):
+    """One of the atoms holds, or fails, as is drawn for each; with as few nodes as will do."""
+    wanted = [atom for atom in atoms if chance.random() < 0.5]
+    unwanted = " & ".join(atom for atom in atoms if atom not in wanted)
+    if not wanted:
+        return f"!({unwanted})"
+    return f"({unwanted} -> {' | '.join(wanted)})" if unwanted else f"({' | '.join(wanted)})"
+
+
 def random_clauses(edges, clauses, seed):
     """Clauses of three edges each, present or absent, drawn at random: three edges out of each parent of S count."""
     chance, s, width = random.Random(seed), Schema(), 3
@@ -87,8 +96,7 @@ def random_clauses(edges, clauses, seed):
         s.edge(name, "All")
     s.constraint("S", " & ".join(f"S_C{k}" for k in parents))
     counted = [f"S_C{k // width}_T{k % width}" for k in range(edges)]
-    drawn = [[("!" if chance.random() < 0.5 else "") + edge for edge in chance.sample(counted, 3)] for _ in range(clauses)]
-    texts = [f"({' | '.join(clause)})" for clause in drawn]
+    texts = [clause(chance, chance.sample(counted, 3)) for _ in range(clauses)]
     together = (len(texts) + 59) // 60
     for k in range(0, len(texts), together):
         s.constraint("S", " & ".join(texts[k : k + together]))
