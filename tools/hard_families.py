@@ -47,8 +47,9 @@ def pigeons_by_names(holes):
     for bird in birds:
         s.constraint(f"P{bird}", " | ".join(f'P{bird} = "{hole}"' for hole in range(holes)))
     for hole in range(holes):
-        pairs = [f'!(S.P{a} = "{hole}" & S.P{b} = "{hole}")' for a in birds for b in range(a)]
-        s.constraint("S", " & ".join(pairs))
+        has = [f'S.P{bird} = "{hole}"' for bird in birds]
+        alone = [f"!({has[bird]} & ({' | '.join(has[:bird])}))" for bird in birds[1:]]
+        s.constraint("S", " & ".join(alone))
     return s.text()
 
 
