@@ -12,7 +12,7 @@ from . import sources
 def said(crate):
     """The crates that the README says it stands on, if it says so."""
     text = (sources.CRATES / crate / "README.md").read_text()
-    found = re.search(r"\bStands on (.*?)(?:\.(?=\s)|;|\Z)", text, re.S)
+    found = re.search(r"\bStands\s+on\s+(.*?)(?:\.(?=\s)|;|\Z)", text, re.S)
     names = set(re.findall(r"`(\w+)`", found.group(1))) if found else set()
     return names or None
 

@@ -1,4 +1,4 @@
--- What an audit of a schema finds: categories, constraints and edges that say or do nothing.
+-- Findings of an audit: categories, constraints and edges that say or do nothing.
 --     IsFinding            one finding
 --     AreFindings          the whole list, in its order
 --     TheFindingsAreOne    there is one such list at most

@@ -1,4 +1,4 @@
--- What the program's formulas stand for.
+-- The definitions' formulas behind the program's.
 --     formula_of       the formula of a tree
 --     terms_of         the parts of a list of trees
 --     constraint_of    the constraint of a stored one

@@ -7,6 +7,7 @@ pub mod RollingLemmas
 pub mod ViewLemmas
 pub mod OneFactLemmas
 pub mod Reading
+mod FetchLemmas
 pub mod Writing
 pub mod Places
 pub mod FaultLemmas

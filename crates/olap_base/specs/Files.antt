@@ -1,4 +1,4 @@
--- What a library has, and what its calls do.
+-- Libraries: the files that one has, and what its calls do.
 --     Files         for each name its content, or that it has none
 --     Asks          what a library tells of the name that it was asked for
 --     Opens         the file of that name is open, from its first byte

@@ -1,4 +1,8 @@
 -- Tests that return true exactly if what they ask holds. How they decide is hidden.
+--     reaches             whether a member reaches another
+--     category_reaches    whether a category reaches another
+--     is_category_name    whether a text is a category name
+--     .._is               the law of each: what its answer says
 use Rattle.std.specs.Prelude.{ℕ, List, Bool, IsTrue, ◌↔◌}
 use Rattle.olap_base.specs.Graph.{Graph, CategoryReaches, IsCategoryName}
 use Rattle.olap_base.specs.Instance.{Instance, Reaches}

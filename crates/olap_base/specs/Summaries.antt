@@ -1,4 +1,4 @@
--- What values come to: how many they are, their sum, the least and the greatest of them.
+-- Summaries of values: their number, their sum, the least and the greatest of them.
 --     Summary     these four numbers
 --     of_value    the summary of one value
 --     joined      the summary of two lots of values together

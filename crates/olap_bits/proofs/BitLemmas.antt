@@ -21,6 +21,7 @@ or_of (suc zero) (suc zero) p q = refl
 or_of (suc zero) (suc (suc b)) p q = absurd (omega arith)
 or_of (suc (suc a)) b p q = absurd (omega arith)
 
+-- of two bits both are 1 exactly if the lesser is
 and_of : (a b : ℕ) → a < 2 → b < 2 → eqb (min a b) 1 ≡ (eqb a 1 && eqb b 1)
 and_of zero zero p q = refl
 and_of zero (suc zero) p q = refl
@@ -30,6 +31,7 @@ and_of (suc zero) (suc zero) p q = refl
 and_of (suc zero) (suc (suc b)) p q = absurd (omega arith)
 and_of (suc (suc a)) b p q = absurd (omega arith)
 
+-- a bit stays 1 exactly if the other is 0
 without_of : (a b : ℕ) → a < 2 → b < 2 → eqb (min a (1 - b)) 1 ≡ (eqb a 1 && not (eqb b 1))
 without_of zero zero p q = refl
 without_of zero (suc zero) p q = refl
@@ -58,6 +60,7 @@ is_one-without a b i within h =
 pub is_one-zero : (i : ℕ) → is_one 0 i ≡ false
 is_one-zero i = ap (λ n. eqb n 1) (bit_at-zero i)
 
+-- a bit has as many ones as it says
 ones_of : (a : ℕ) → a < 2 → count_ones a ≡ a
 unfolding ones ones_in
 ones_of zero p = refl

@@ -1,4 +1,4 @@
--- What a set of category numbers stands for, over plain words.
+-- Sets of category numbers, over plain words.
 --     IsOfWidth    how many words a set may have
 --     is_bit_one   whether a number's bit is 1
 --     numbers_of   the numbers whose bits are 1

@@ -22,9 +22,11 @@ use Rattle.olap_cex.proofs.DraftLemmas as draft
 
 -- ---- sums of ones
 
+-- no ones give no row, so there is no sum
 pub no_ones : (y n : ℕ) → n ≡ 0 → only_sum (cons_option (row_at y (ones n)) []) ≡ None
 no_ones y n e = ap (λ m. only_sum (cons_option (row_at y (ones m)) [])) e
 
+-- the sum of some ones is their number
 pub some_ones : (y n : ℕ) → n ≢ 0 → only_sum (cons_option (row_at y (ones n)) []) ≡ Some (pos n)
 some_ones y zero n = absurd (n refl)
 some_ones y (suc m) n = refl
@@ -43,6 +45,7 @@ module _ (g : Graph) (found : Found) (ok : IsFoundFor g found) (hier : IsHierarc
 
 -- ---- the text
 
+-- equal instances, facts, targets and sums have equal texts
 same_text : (text : Instance → List ℕ) (sums : ℕ → ℕ → Option ℤ → Option ℤ → List ℕ) (i j : Instance)
     (x y b c d : ℕ) (p q v w : Option ℤ) → i ≡ j → x ≡ y → category_of j y ≡ b → c ≡ d → p ≡ q → v ≡ w
     → text i ++ sums (category_of i x) c p v ≡ text j ++ sums b d q w
@@ -51,6 +54,7 @@ same_text text sums i j x y b c d p q v w a e k l m n =
     ∙ ap (λ z. text j ++ sums z c p v) (ap (category_of j) e ∙ k)
     ∙ ap (λ z. text j ++ sums b z p v) l ∙ ap (λ z. text j ++ sums b d z v) m ∙ ap (λ z. text j ++ sums b d q z) n
 
+-- the text of a counterexample that was found is that of the definitions
 pub cex_text_is : (g : Graph) (found : Found) (ok : IsFoundFor g found) (hier : IsHierarchy g) (c : ℕ)
     (sources : List ℕ) (cex : Cex) → IsCexFor g found c sources cex → (constraints : List Constraint)
     → cex_text g cex ≡ counterexample_text (with_graph g constraints) (candidates_of found.candidates)

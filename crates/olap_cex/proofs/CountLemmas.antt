@@ -21,18 +21,21 @@ use Rattle.olap_cex.proofs.DraftLemmas as draft
 
 -- ---- counting from the front
 
+-- one item more of which it holds
 pub holds_more : (P : ℕ → Type 0) (xs : List ℕ) (n y : ℕ) → HoldsTimes P xs n → P y
     → HoldsTimes P (xs ++ y ∷ []) (n + 1)
 holds_more P [] n y e h = inl (h, n, omega arith, e)
 holds_more P (x ∷ xs) n y (inl t) h = inl (t.0, t.1 + 1, omega (arith, t.2), holds_more P xs t.1 y t.3 h)
 holds_more P (x ∷ xs) n y (inr t) h = inr (t.0, holds_more P xs n y t.1 h)
 
+-- one item more of which it doesn't hold
 pub holds_same : (P : ℕ → Type 0) (xs : List ℕ) (n y : ℕ) → HoldsTimes P xs n → (P y → ⊥)
     → HoldsTimes P (xs ++ y ∷ []) n
 holds_same P [] n y e h = inr (h, e)
 holds_same P (x ∷ xs) n y (inl t) h = inl (t.0, t.1, t.2, holds_same P xs t.1 y t.3 h)
 holds_same P (x ∷ xs) n y (inr t) h = inr (t.0, holds_same P xs n y t.1 h)
 
+-- as often as of what is so of the same items
 pub holds_swap : (P Q : ℕ → Type 0) (xs : List ℕ) (n : ℕ) → ((x : ℕ) → Contains xs x → P x ↔ Q x)
     → HoldsTimes P xs n → HoldsTimes Q xs n
 holds_swap P Q [] n s e = e

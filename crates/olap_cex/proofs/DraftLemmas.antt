@@ -49,9 +49,11 @@ use Rattle.olap_cex.proofs.PresentLemmas.{nowhere, place_counts, present_more}
 
 -- ---- names
 
+-- so many underscores
 abbrev underscores : ℕ → List ℕ
 underscores n = replicate n 95
 
+-- each name that may be the fresh one is UTF-8
 pub fresh_is_utf8 : (n : ℕ) → IsTrue (is_utf8 (fresh_candidate n))
 fresh_is_utf8 n = is_utf8-from_IsUtf8 (fresh_candidate n)
     (IsUtf8-from_ascii (fresh_candidate n) (IsAscii-from_all (fresh_candidate n) all))
@@ -66,6 +68,7 @@ fresh_is_utf8 n = is_utf8-from_IsUtf8 (fresh_candidate n)
     all (suc zero) d l = omega arith
     all (suc (suc i)) d l = tail n i d (omega arith)
 
+-- a letter or a digit is no semicolon
 not_semicolon : (b : ℕ) → IsLetterOrDigit b → b == 59 ≡ false
 not_semicolon b (inl (inl h)) = let l = h.0 in grind (arith, nat_tests)
 not_semicolon b (inl (inr h)) = let l = h.0 in grind (arith, nat_tests)
@@ -82,20 +85,24 @@ name_is_good (b ∷ rest) h =
     all zero d l = not_semicolon b (inl h.0)
     all (suc i) d l = not_semicolon (get_or rest i d) (h.1 i d (omega arith))
 
+-- no category's name is `all`
 name_is_not_all : (name : List ℕ) → IsCategoryName name → name ≢ codes "all"
 name_is_not_all [] h e = absurd h
 name_is_not_all (b ∷ rest) h e = h.2 (subst (λ n. Contains reserved n) (sym e) (3, omega arith, refl))
 
+-- the id of a declared category's member is the category's name
 id_is_name : (g : Graph) (c : ℕ) → c ≢ 0 → name_of_category g c ≡ id_of g c
 id_is_name g zero n = absurd (n refl)
 id_is_name g (suc c) n = refl
 
+-- where no check fails, there is no refusal
 none_refused : {A : Type 0} (a b c d e f : Bool) (u v w x y z : A) → a ≡ false → b ≡ false → c ≡ false → d ≡ false
     → e ≡ false → f ≡ false
     → ◌≡◌ {A = Option A} (cond a (Some u)
     (cond b (Some v) (cond c (Some w) (cond d (Some x) (cond e (Some y) (cond f (Some z) None)))))) None
 none_refused a b c d e f u v w x y z p q r s t o = rw (p, q, r, s, t, o) refl
 
+-- a small number has a magnitude below 2^63
 small_mag : (z : ℤ) → IsSmall z → mag z < 2 ^ 63
 small_mag (pos n) h = let l : n ≤ most_number = omega (arith, ints, h.1) in omega arith
 small_mag (negsuc n) h = let l : n < most_number = omega (arith, ints, h.0) in omega arith

@@ -20,15 +20,18 @@ use Rattle.olap_cex.specs.CexText.{views_sum}
 use Rattle.olap_cex.specs.Laws.{CounterexampleSums, FrozenIsLegal, HasTwoSums, QuestionIsTrue, RootIsMember}
 use Rattle.olap_cex.proofs.CexLemmas.{no_ones, some_ones}
 
+-- the instance of a frozen dimension is legal
 pub frozen_is_legal : FrozenIsLegal
 frozen_is_legal s q r k f t = t.stands_for.legal
 
+-- the root's place is the place of the root's member
 pub root_is_member : RootIsMember
 root_is_member s q r k f hier root t =
     let ch = choice_of s.graph r f.edges hier root in
     made.member_is s.graph r (chosen s.graph.edges f.edges) ch (name_in k f) r
     (made.root_present s.graph r (chosen s.graph.edges f.edges) ch)
 
+-- the question is true at the root's member
 pub question_is_true : QuestionIsTrue
 question_is_true s q r k f hier root t =
     let ch = choice_of s.graph r f.edges hier root in
@@ -38,6 +41,7 @@ question_is_true s q r k f hier root t =
 
 -- ---- counting
 
+-- what can be decided of each item holds of so many
 counted : (P : ℕ → Type 0) → ((x : ℕ) → Dec (P x)) → (xs : List ℕ) → (n : ℕ) × HoldsTimes P xs n
 counted P d [] = (0, refl)
 counted P d (x ∷ xs) = let t = counted P d xs in elim (d x) [
@@ -107,5 +111,6 @@ module _ (s : Schema) (c : ℕ) (sources : List ℕ) (k : Candidates) (b : ℕ) 
     views = views;
   }
 
+-- one fact at the root of a counterexample has two sums that differ
 pub counterexample_sums : CounterexampleSums
 counterexample_sums s c sources k b f hier t = two_sums s c sources k b f hier t

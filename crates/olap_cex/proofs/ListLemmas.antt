@@ -8,12 +8,14 @@ use Rattle.olap_base.specs.Graph.{Edge}
 use Rattle.olap_base.proofs.ListLemmas.{Contains-nil, contains_head, Distinct}
 use Rattle.olap_ast.specs.Frozen.{chosen}
 
+-- nothing is left of a list where each item fails the test
 pub filter_none : {A : Type 0} (p : A → Bool) (xs : List A) → ((x : A) → Contains xs x → p x ≡ false)
     → filter p xs ≡ []
 filter_none p [] n = refl
 filter_none p (x ∷ xs) n =
     rw (n x (contains_head x xs)) (filter_none p xs (λ y c. n y (contains_cons y xs x c)))
 
+-- a test leaves no more items than there are
 pub length_filter : {A : Type 0} (p : A → Bool) (xs : List A) → length (filter p xs) ≤ length xs
 length_filter p [] = omega arith
 length_filter {A} p (x ∷ xs) = go (p x) (length_filter p xs)
@@ -38,6 +40,7 @@ map_same f g (x ∷ xs) s =
     ap (λ y. y ∷ map f xs) (s x (contains_head x xs))
     ∙ ap (λ t. g x ∷ t) (map_same f g xs (λ y c. s y (contains_cons y xs x c)))
 
+-- an item of the first of two lists has its place there
 pub place_in_front : (xs ys : List ℕ) (y : ℕ) → Contains xs y → place_in (xs ++ ys) y ≡ place_in xs y
 place_in_front [] ys y c = absurd (Contains-nil y c)
 place_in_front (x ∷ xs) ys y c = elim (eqb_tells x y) [
@@ -48,6 +51,7 @@ place_in_front (x ∷ xs) ys y c = elim (eqb_tells x y) [
   ]
 ]
 
+-- a new item's place is after all others
 pub place_behind : (xs : List ℕ) (y : ℕ) → (Contains xs y → ⊥) → place_in (xs ++ y ∷ []) y ≡ length xs
 place_behind [] y n = elim (eqb_tells y y) [ inl e ↦ rw e.0 refl | inr e ↦ absurd (e.1 refl) ]
 place_behind (x ∷ xs) y n = elim (eqb_tells x y) [
@@ -76,6 +80,7 @@ set_at_place {A} old new (x ∷ xs) c v d h same at = elim (eqb_tells x c) [
 
 -- ---- edges chosen one after another
 
+-- one edge more that is chosen
 pub chosen_more : (es : List Edge) (bits : List Bool) (k : ℕ) (z : Edge) → k < length es → get_or bits k false ≡ true
     → chosen (take (suc k) es) bits ≡ chosen (take k es) bits ++ get_or es k z ∷ []
 chosen_more [] bits k z h b = absurd (omega arith)
@@ -93,6 +98,7 @@ chosen_more (e ∷ es) (a ∷ bits) (suc k) z h b = go a (chosen_more es bits k 
     go true q = ap (λ t. e ∷ t) q
     go false q = q
 
+-- one edge more that isn't
 pub chosen_same : (es : List Edge) (bits : List Bool) (k : ℕ) → k < length es → get_or bits k false ≡ false
     → chosen (take (suc k) es) bits ≡ chosen (take k es) bits
 chosen_same [] bits k h b = absurd (omega arith)

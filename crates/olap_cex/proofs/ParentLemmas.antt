@@ -14,10 +14,12 @@ use Rattle.olap_cex.specs.Present.{first_present, place_or_all}
 use Rattle.olap_cex.proofs.DraftLemmas as draft
 use Rattle.olap_cex.proofs.ListLemmas.{chosen_same}
 
+-- what has a number is there
 no_number : (o : Option MemberId) (n : ℕ) → number_of o ≡ Some n → ((m : MemberId) → o ≡ Some m → ⊥) → ⊥
 no_number None n e h = cc
 no_number (Some m) n e h = h m refl
 
+-- what is so of the number is so of the place
 if_number : (o : Option MemberId) (n : ℕ) → ((m : ℕ) → number_of o ≡ Some m → m < n) → IfSome o (λ p. p.0 < n)
 if_number None n h = tt
 if_number (Some m) n h = h m.0 refl

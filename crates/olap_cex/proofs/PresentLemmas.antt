@@ -23,6 +23,7 @@ nowhere = record { child = 0; parent = 0 }
 abbrev pub has_end : ℕ → Edge → Bool
 has_end c e = (e.child == c) || (e.parent == c)
 
+-- the root is present
 pub root_present : (r : ℕ) (es : List Edge) (c : ℕ) → c ≡ r → is_present r es c ≡ true
 root_present r es c e = or_left (c == r) (list_any (has_end c) es) (is_same c r e)
 
@@ -51,6 +52,7 @@ no_end_absent r es bits c n none = go (is_present r (chosen es bits) c) refl
 
 -- ---- lists of them
 
+-- one number more
 range_push : (n : ℕ) → range_with_len 1 (n + 1) ≡ range_with_len 1 n ++ (n + 1) ∷ []
 range_push n =
     sym (map-id (range_with_len 1 (n + 1))) ∙ map-range_with_len_more (λ k. k) 1 n (n + 1) (omega arith)
@@ -114,6 +116,7 @@ none_more es bits c i d p n m e t = elim (either_true (d == c) (p == c) (sym (ap
 
 -- ---- how many there are
 
+-- one category more that is present
 pub count_more : (r : ℕ) (es : List Edge) (c old new : ℕ) → 1 ≤ c → is_present r es c ≡ true
     → old ≡ length (first_present r es (c - 1)) → new ≡ old + 1 → new ≡ length (first_present r es (c + 1 - 1))
 count_more r es c old new l p e n =
@@ -123,6 +126,7 @@ count_more r es c old new l p e n =
     let same = ap (λ k. length (first_present r es k)) step in
     omega arith
 
+-- one more that isn't
 pub count_same : (r : ℕ) (es : List Edge) (c old new : ℕ) → 1 ≤ c → is_present r es c ≡ false
     → old ≡ length (first_present r es (c - 1)) → new ≡ old → new ≡ length (first_present r es (c + 1 - 1))
 count_same r es c old new l p e n =
@@ -130,6 +134,7 @@ count_same r es c old new l p e n =
     n ∙ e ∙ ap (λ (xs : List ℕ). length xs) (sym (absent_more r es c l p))
     ∙ ap (λ k. length (first_present r es k)) (sym step)
 
+-- no more are present than there are
 pub count_few : (r : ℕ) (es : List Edge) (n : ℕ) → length (first_present r es n) ≤ n
 count_few r es n =
     let a = length_filter (is_present r es) (range_with_len 1 n) in

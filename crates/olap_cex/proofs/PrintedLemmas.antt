@@ -26,24 +26,29 @@ use Rattle.olap_cex.specs.PrintingLaws.{ConstantsAreUtf8, IsReadBack, PrintedFro
 use Rattle.olap_cex.proofs.DraftLemmas.{name_is_good, name_is_utf8}
 use Rattle.olap_cex.proofs.ListLemmas.{length_filter}
 
+-- an instance that a text may stand for is read back
 pub printed_instances : PrintedInstancesAreRead
 printed_instances g i hier read few =
     reads-back g i hier read.instance read.texts few read.top read.made read.names
 
 -- ---- ids
 
+-- `all` is ASCII
 ascii_all : IsAscii (codes "all")
 ascii_all zero = omega arith
 ascii_all (suc zero) = omega arith
 ascii_all (suc (suc zero)) = omega arith
 ascii_all (suc (suc (suc n))) = omega arith
 
+-- `all` is UTF-8
 all_utf8 : IsTrue (is_utf8 (codes "all"))
 all_utf8 = is_utf8-from_IsUtf8 (codes "all") (IsUtf8-from_ascii (codes "all") ascii_all)
 
+-- `all` is an id
 good_all : IsMemberId (codes "all")
 good_all = record { utf8 = all_utf8; short = omega arith; filled = λ e. absurd (omega arith); whole = refl }
 
+-- a number that fails the test for 0 isn't 0
 filled : (n : ℕ) → n == 0 ≡ false → n ≢ 0
 filled zero e z = absurd (cc)
 filled (suc n) e z = absurd (omega arith)
@@ -64,6 +69,7 @@ good_id g hier short (suc c) h =
       whole = good.1;
     }
 
+-- a list that contains nothing is empty
 empty : (xs : List ℕ) → ((x : ℕ) → Contains xs x → ⊥) → xs ≡ []
 empty [] n = refl
 empty (x ∷ xs) n = absurd (n x (contains_head x xs))
@@ -150,5 +156,6 @@ module _ (s : Schema) (q : Formula) (r : ℕ) (k : Candidates) (f : Frozen) (val
   frozen_read = printed_instances s.graph i valid.hierarchy
       (record { instance = t.stands_for.legal.is_instance; made = made; texts = texts; names = short; top = top }) few
 
+-- so is the instance of a frozen dimension with short names
 pub printed_frozen_dimensions : PrintedFrozenDimensionsAreRead
 printed_frozen_dimensions s q r k f valid utf8 t short = frozen_read s q r k f valid utf8 t short

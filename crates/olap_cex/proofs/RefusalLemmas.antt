@@ -1,9 +1,10 @@
--- Where the builder has no reason to refuse a member, it refuses for want of memory alone.
+-- Where the builder has no reason to refuse a member, it refuses only if out of memory.
 use Rattle.std.proofs.Common.{◌≡◌, Option, Some, None, refl, sym, ◌∙◌}
 use Rattle.olap_instance.specs.Drafts.{IsMemberCause}
 use Rattle.olap_instance.specs.declared.refusals.MemberRefusal.{MemberRefusal}
 use Rattle.olap_instance.specs.declared.refusals.MemberRefusal.TheVariants as of_member
 
+-- where no check fails, the refusal is `Memory`
 pub only_memory : (first : Option MemberRefusal) (e : MemberRefusal) → first ≡ None → IsMemberCause first e
     → e ≡ of_member.Memory
 only_memory first of_member.Memory n c = refl

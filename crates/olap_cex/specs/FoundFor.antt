@@ -28,9 +28,11 @@ pub record IsFoundFor (g : Graph) (found : Found) : Type 0 where
       (frozen_of found.frozen)
   pub utf8 : (c : ℕ) (text : List ℕ) → IsConstant (with_graph g constraints) question c text → IsTrue (is_utf8 text)
 
+-- its edges
 abbrev pub found_edges : Graph → Found → List Edge
 found_edges g found = chosen g.edges found.frozen.edges
 
+-- the name of its member of that category
 abbrev pub found_name : Found → ℕ → List ℕ
 found_name found c = name_in (candidates_of found.candidates) (frozen_of found.frozen) c
 

@@ -9,6 +9,7 @@ use Rattle.olap_base.specs.Graph.{Edge, Graph, category_count}
 use Rattle.olap_instance.specs.Drafts.{Draft, numbers_in}
 use Rattle.olap_instance.specs.Members.{childless}
 
+-- the present ones of the first n declared categories
 abbrev pub first_present : ℕ → List Edge → ℕ → List ℕ
 first_present root edges n = filter (is_present root edges) (range_with_len 1 n)
 

@@ -37,7 +37,7 @@ pub struct Cex {
     pub views: Option<u64>,
 }
 
-// The place of a category's member: how many present categories stand before it.
+/// The place of a category's member: how many present categories stand before it.
 fn place_of(graph: &Graph, found: &Found, c: CatId) -> MemberId
     requires found { IsFoundFor graph.now found.now }
     requires declared { IsDeclared graph.now c.0 }
@@ -60,7 +60,7 @@ fn place_of(graph: &Graph, found: &Found, c: CatId) -> MemberId
 /// The counterexample to the target's summarizability from the sources that a frozen dimension is: its instance with
 /// one fact of value 1 at its root.
 ///
-/// Cost: categories times edges, and categories times categories times categories. `Memory`: want of memory.
+/// Cost: categories times edges, and categories times categories times categories. `Memory`: out of memory.
 pub fn counterexample(
     alloc: Global,
     graph: &Graph,
@@ -91,8 +91,8 @@ pub fn counterexample(
     })
 }
 
-/// Appends the line of a sum: the word, what is summed at, and the sum in decimal or `none`. `Memory`: want of memory; what was
-/// appended by then stays.
+/// Appends the line of a sum: the word, what is summed at, and the sum in decimal or `none`. `Memory`: out of memory;
+/// what was appended by then stays.
 pub fn push_sum(
     alloc: Global,
     out: &mut Vec<u8>,
@@ -117,7 +117,7 @@ pub fn push_sum(
     Ok(())
 }
 
-/// The lines of a counterexample: its instance, the fact, and the two sums. `Memory`: want of memory.
+/// The lines of a counterexample: its instance, the fact, and the two sums. `Memory`: out of memory.
 pub fn print_cex(alloc: Global, graph: &Graph, cex: &Cex) -> Result<Text, Memory>
     requires made { IsMadeFor graph.now cex.now.instance }
     requires fact { IsMember cex.now.instance cex.now.fact.0 }

@@ -11,7 +11,7 @@ use olap_frozen::{Found, Room, close};
 use olap_graph::{Categories, Graph, row_has};
 use std::alloc::Global;
 
-// Whether the root reaches the source, and the source the target.
+/// Whether the root reaches the source, and the source the target.
 fn is_way(rows: &[Categories], root: CatId, source: CatId, target: CatId) -> bool
     requires root { root.0 < length rows.now }
     requires source { source.0 < length rows.now }
@@ -20,7 +20,7 @@ fn is_way(rows: &[Categories], root: CatId, source: CatId, target: CatId) -> boo
     row_has(rows, root.0, source.0) && row_has(rows, source.0, target.0)
 }
 
-// How many of the sources are ways from the root to the target.
+/// How many of the sources are ways from the root to the target.
 fn count_ways(rows: &[Categories], root: CatId, target: CatId, sources: &[CatId]) -> u64
     requires root { root.0 < length rows.now }
     requires sources { All (λ s. s.0 < length rows.now) sources.now }
@@ -35,7 +35,7 @@ fn count_ways(rows: &[Categories], root: CatId, target: CatId, sources: &[CatId]
     ways
 }
 
-// By how many of the sources the root's member reaches the target. The rows are filled.
+/// By how many of the sources the root's member reaches the target. The rows are filled.
 fn count_reaching(
     graph: &Graph,
     found: &Found,

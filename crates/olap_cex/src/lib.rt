@@ -1,7 +1,7 @@
 //! What is told of a frozen dimension: its line, the instance that it stands for, and the counterexample that it is.
 //!
 //! A contract sees a frozen dimension as the definitions do. `print_frozen` gives its line, `thaw` its instance, and
-//! `counterexample` what one fact at its root comes to in two views of a category.
+//! `counterexample` the sums of one fact at its root in two views of a category. How it was found isn't known here.
 #![tactic(auto)]
 
 mod counterexamples;

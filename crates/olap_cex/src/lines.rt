@@ -16,7 +16,7 @@ use olap_graph::Graph;
 use olap_names::Candidates;
 use std::alloc::Global;
 
-// Appends a digit for each edge, or `-` where there are none.
+/// Appends a digit for each edge, or `-` where there are none.
 fn push_bits(out: &mut Vec<u8>, edges: &[bool]) -> Result<(), Memory>
     ensures { OnOk result (out.new.items ≡ out.old.items ++ edge_bits edges.now) }
 {
@@ -30,7 +30,7 @@ fn push_bits(out: &mut Vec<u8>, edges: &[bool]) -> Result<(), Memory>
     Ok(())
 }
 
-// Appends a category's name and its member's.
+/// Appends a category's name and its member's.
 fn push_member(
     out: &mut Vec<u8>,
     graph: &Graph,
@@ -50,7 +50,7 @@ fn push_member(
     Ok(())
 }
 
-// Appends the names of the present categories and their members.
+/// Appends the names of the present categories and their members.
 fn push_members(
     out: &mut Vec<u8>,
     graph: &Graph,
@@ -72,7 +72,7 @@ fn push_members(
 
 /// The line of a frozen dimension: its edges, and the present categories with the names of their members.
 ///
-/// Cost: categories times edges. `Memory`: want of memory.
+/// Cost: categories times edges. `Memory`: out of memory.
 pub fn print_frozen(
     alloc: Global,
     graph: &Graph,

@@ -17,7 +17,7 @@ use olap_graph::Graph;
 use olap_instance::{Instance, InstanceBuilder, MemberRefusal, ParentRefusal};
 use std::alloc::Global;
 
-// A refusal for want of memory.
+/// A refusal: out of memory.
 fn only_memory(refusal: MemberRefusal) -> Memory
     requires { refusal ≡ of_member.Memory }
 {
@@ -27,7 +27,7 @@ fn only_memory(refusal: MemberRefusal) -> Memory
     }
 }
 
-// Adds the member of a present category behind those of the ones before it.
+/// Adds the member of a present category after those of the ones before it.
 fn add_member(
     alloc: Global,
     graph: &Graph,
@@ -54,7 +54,7 @@ fn add_member(
     }
 }
 
-// Adds the member of each present category, and says where each is.
+/// Adds the member of each present category, and says where each is.
 fn add_members(
     alloc: Global,
     graph: &Graph,
@@ -88,7 +88,7 @@ fn add_members(
     Ok(places)
 }
 
-// Adds a parent that the member doesn't have.
+/// Adds a parent that the member doesn't have.
 fn add_parent(
     builder: &mut InstanceBuilder,
     child: MemberId,
@@ -106,7 +106,7 @@ fn add_parent(
     }
 }
 
-// Adds the parents by the chosen edges.
+/// Adds the parents by the chosen edges.
 fn add_parents(
     graph: &Graph,
     found: &Found,
@@ -139,7 +139,7 @@ fn add_parents(
 /// The instance that a frozen dimension stands for: a member for each present category, with the category's name as
 /// its id, and a parent for each chosen edge.
 ///
-/// Cost: categories times edges. `Memory`: want of memory.
+/// Cost: categories times edges. `Memory`: out of memory.
 pub fn thaw(alloc: Global, graph: &Graph, found: &Found) -> Result<Instance, Memory>
     requires found { IsFoundFor graph.now found.now }
     ensures instance { IfOk result (λ instance. instance ≡ found_instance graph.now found.now) }

@@ -1,20 +1,21 @@
 -- Sets of places: what operations on them select, the places one by one, and the first that isn't selected.
-use Rattle.std.proofs.Common.{◌≡◌, ℕ, ◌+◌, ◌-◌, ◌<◌, ◌≤◌, ◌⊎◌, ◌↔◌, Bool, true, false, not, ◌&&◌, ◌||◌, refl, ap, sym, subst, ◌∙◌, inl, inr, arith}
+use Rattle.std.proofs.Common.{◌≡◌, ℕ, ◌+◌, ◌-◌, ◌<◌, ◌≤◌, ◌⊎◌, ◌↔◌, Bool, true, false, not, ◌&&◌, ◌||◌, List, get_or, length, refl, ap, sym, subst, ◌∙◌, inl, inr, arith}
 use Rattle.std.specs.Bool.{Decides}
-use Rattle.std.specs.Prelude.{IsNone, Option, is_some}
 use Rattle.std.specs.Cmp.{nat_cmp_total}
 use Rattle.std.specs.FinSet.{FinSet, empty, contains, insert, union, intersection, difference, contains-empty, contains-union, contains-intersection, contains-difference}
 use Rattle.std.specs.Ordering.{nat_cmp}
 use Rattle.std.proofs.lemmas.Bool.{and_parts, both_ways, cases_eq, not-true}
 use Rattle.std.proofs.lemmas.Bool.Decides.{Decides-and, Decides-at, Decides-eqb, Decides-like, Decides-not, Decides-or}
-use Rattle.olap_ast.specs.Formula.{ExactlyOneHolds, Formula, Holds, NoneHolds}
-use Rattle.olap_ast.specs.Trees.{formula_of, terms_of}
+use Rattle.olap_ast.specs.Formula.{ExactlyOneHolds, Formula, Holds, NoneHolds, Terms}
+use Rattle.olap_ast.specs.Trees.{formula_of}
 use Rattle.olap_ast.specs.declared.formulas.Formula.{Formula as Tree}
-use Rattle.olap_ast.specs.declared.formulas.Terms.{Terms as Trees}
 use Rattle.olap_base.specs.Instance.{Instance, IsMemberOf}
 use Rattle.olap_bits.specs.CatSet.{IsLeast}
 use Rattle.olap_bits.proofs.CatSetLemmas.{in_insert}
-use Rattle.olap_check.specs.Blocks.{AreMembersFrom, Collects, IsFirstUnmetFrom, Selects, width}
+use Rattle.olap_check.specs.Blocks.{Collects, IsBlock, IsFirstUnmetFrom, IsPart, Selects, width}
+use Rattle.olap_check.specs.Groups.{count_before}
+use Rattle.olap_check.specs.declared.tables.Table.{Table}
+use Rattle.olap_check.proofs.GroupLemmas.{count_below, same_nth}
 
 -- ---- two facts and their tests
 
@@ -76,87 +77,161 @@ in_one s t k =
     contains-union nat_cmp_total (difference s t) (difference t s) k
     ∙ (λ i. contains-difference nat_cmp_total s t k i || contains-difference nat_cmp_total t s k i)
 
-module _ (places : FinSet nat_cmp) where
-  -- all places
-  pub select_all : {P : ℕ → Type 0} → ((k : ℕ) → P k) → Selects places P places
-  select_all f k h = (λ _. f k, λ _. h)
-
+module _ (n : ℕ) where
   -- no place
-  pub select_none : {P : ℕ → Type 0} → ((k : ℕ) → P k → ⊥) → Selects places P empty
+  pub select_none : {P : ℕ → Type 0} → ((k : ℕ) → P k → ⊥) → Selects n P empty
   select_none f k h = (λ e. absurd (both_ways _ (contains-empty nat_cmp k) e), λ p. absurd (f k p))
 
-  module _ {P Q : ℕ → Type 0} (s t : FinSet nat_cmp) (f : Selects places P s) (g : Selects places Q t) where
-    pub select_and : Selects places (λ k. P k × Q k) (intersection s t)
+  module _ {P Q : ℕ → Type 0} (s t : FinSet nat_cmp) (f : Selects n P s) (g : Selects n Q t) where
+    pub select_and : Selects n (λ k. P k × Q k) (intersection s t)
     select_and k h =
         Decides-at _ _ (contains-intersection nat_cmp_total s t k) (Decides-and _ _ (f k h) (g k h))
 
-    pub select_or : Selects places (λ k. P k ⊎ Q k) (union s t)
+    pub select_or : Selects n (λ k. P k ⊎ Q k) (union s t)
     select_or k h = Decides-at _ _ (contains-union nat_cmp_total s t k) (Decides-or _ _ (f k h) (g k h))
 
-    pub select_alone : Selects places (λ k. P k × (Q k → ⊥)) (difference s t)
+    pub select_alone : Selects n (λ k. P k × (Q k → ⊥)) (difference s t)
     select_alone k h = Decides-at _ _ (contains-difference nat_cmp_total s t k) (alone _ _ (f k h) (g k h))
 
-  -- all places but these
-  left : (s : FinSet nat_cmp) (k : ℕ) → contains places k ≡ true
-      → contains (difference places s) k ≡ not (contains s k)
-  left s k h = contains-difference nat_cmp_total places s k ∙ ap (λ b. b && not (contains s k)) h
+    pub select_xor : Selects n (λ k. (P k × (Q k → ⊥)) ⊎ ((P k → ⊥) × Q k))
+        (union (difference s t) (difference t s))
+    select_xor k h = Decides-at _ _ (in_one s t k) (apart _ _ (f k h) (g k h))
 
-  pub select_not : {P : ℕ → Type 0} (s : FinSet nat_cmp) → Selects places P s
-      → Selects places (λ k. P k → ⊥) (difference places s)
+  -- of these places those at which it is so as well
+  pub select_narrowed : {P : ℕ → Type 0} (s t : FinSet nat_cmp) → Selects n P t → {r : FinSet nat_cmp}
+      → r ≡ intersection s t → Selects n (λ k. (contains s k ≡ true) × P k) r
+  select_narrowed {P} s t f e = subst (λ r. Selects n (λ k. (contains s k ≡ true) × P k) r) (sym e)
+      (select_and s t (λ k h. (λ q. q, λ q. q)) f)
+
+-- every place before n is in the set
+abbrev pub HasAll : ℕ → FinSet nat_cmp → Type 0
+HasAll n all = (k : ℕ) → k < n → contains all k ≡ true
+
+module _ (n : ℕ) (all : FinSet nat_cmp) (has : HasAll n all) where
+  pub select_all : {P : ℕ → Type 0} → ((k : ℕ) → P k) → Selects n P all
+  select_all f k h = (λ _. f k, λ _. has k h)
+
+  -- all places but these
+  left : (s : FinSet nat_cmp) (k : ℕ) → k < n → contains (difference all s) k ≡ not (contains s k)
+  left s k h = contains-difference nat_cmp_total all s k ∙ ap (λ b. b && not (contains s k)) (has k h)
+
+  pub select_not : {P : ℕ → Type 0} (s : FinSet nat_cmp) → Selects n P s → Selects n (λ k. P k → ⊥) (difference all s)
   select_not s f k h = Decides-at _ _ (left s k h) (Decides-not _ (f k h))
 
-  module _ {P Q : ℕ → Type 0} (s t : FinSet nat_cmp) (f : Selects places P s) (g : Selects places Q t) where
-    pub select_implies : Selects places (λ k. P k → Q k) (union (difference places s) t)
+  module _ {P Q : ℕ → Type 0} (s t : FinSet nat_cmp) (f : Selects n P s) (g : Selects n Q t) where
+    pub select_implies : Selects n (λ k. P k → Q k) (union (difference all s) t)
     select_implies k h =
         Decides-at _ _ (contains-union nat_cmp_total _ t k ∙ ap (λ b. b || contains t k) (left s k h))
         (implied _ _ (f k h) (g k h))
 
-    pub select_xor : Selects places (λ k. (P k × (Q k → ⊥)) ⊎ ((P k → ⊥) × Q k))
-        (union (difference s t) (difference t s))
-    select_xor k h = Decides-at _ _ (in_one s t k) (apart _ _ (f k h) (g k h))
-
-    pub select_iff : Selects places (λ k. P k ↔ Q k) (difference places (union (difference s t) (difference t s)))
+    pub select_iff : Selects n (λ k. P k ↔ Q k) (difference all (union (difference s t) (difference t s)))
     select_iff k h = Decides-at _ _ (left _ k h ∙ ap not (in_one s t k)) (alike _ _ (f k h) (g k h))
 
 -- ---- formulas and their parts
 
 -- a formula, of which this is the tree, is true at the member of a place
-abbrev pub TrueAt : Instance → ℕ → Tree → ℕ → Type 0
-TrueAt i start f k = Holds i (start + k) (formula_of f)
+abbrev pub TrueAt : Instance → List ℕ → Tree → ℕ → Type 0
+TrueAt i part f k = Holds i (get_or part k 0) (formula_of f)
 
 -- exactly one of the formulas is, or none
-abbrev pub OneTrueAt : Instance → ℕ → Trees → ℕ → Type 0
-OneTrueAt i start parts k = ExactlyOneHolds i (start + k) (terms_of parts)
+abbrev pub OneTrueAt : Instance → List ℕ → Terms → ℕ → Type 0
+OneTrueAt i part parts k = ExactlyOneHolds i (get_or part k 0) parts
 
-abbrev pub NoneTrueAt : Instance → ℕ → Trees → ℕ → Type 0
-NoneTrueAt i start parts k = NoneHolds i (start + k) (terms_of parts)
+abbrev pub NoneTrueAt : Instance → List ℕ → Terms → ℕ → Type 0
+NoneTrueAt i part parts k = NoneHolds i (get_or part k 0) parts
 
-module _ (places : FinSet nat_cmp) {P N : ℕ → Type 0} (here none : FinSet nat_cmp) (f : Selects places P here)
-    (g : Selects places N none) where
-  -- none of the others, and not this one
-  pub select_others : Selects places (λ k. (P k → ⊥) × N k) (difference none here)
-  select_others k h =
-      let d = select_alone places none here g f k h in (λ e. let t = d.0 e in (t.1, t.0), λ t. d.1 (t.1, t.0))
+-- at a place none of all parts is true, or exactly one, as the places say for those before and the list for those left
+pub record IsCounted (i : Instance) (part : List ℕ) (parts left : Terms) (none one : FinSet nat_cmp) : Type 0 where
+  pub none_so_far : (k : ℕ) → k < length part
+      → ((contains none k ≡ true) × NoneTrueAt i part left k) ↔ NoneTrueAt i part parts k
+  pub one_so_far : (k : ℕ) → k < length part
+      → (((contains one k ≡ true) × NoneTrueAt i part left k) ⊎ ((contains none k ≡ true) × OneTrueAt i part left k))
+      ↔ OneTrueAt i part parts k
 
-  -- this one and none of the others, or not this one and one of the others
-  pub select_one : {O : ℕ → Type 0} (one : FinSet nat_cmp) → Selects places O one
-      → Selects places (λ k. (P k × N k) ⊎ ((P k → ⊥) × O k)) (union (intersection here none) (difference one here))
-  select_one {O} one o = select_or places _ _ (select_and places here none f g) apart_from
-    where
-      apart_from : Selects places (λ k. (P k → ⊥) × O k) (difference one here)
-      apart_from k h =
-          let d = select_alone places one here o f k h in (λ e. let t = d.0 e in (t.1, t.0), λ t. d.1 (t.1, t.0))
+module _ (i : Instance) (part : List ℕ) (parts : Terms) where
+  -- before the first part
+  pub counted_none : (all : FinSet nat_cmp) → HasAll (length part) all → IsCounted i part parts parts all empty
+  counted_none all has = record {
+    none_so_far = λ k h. (λ t. t.1, λ n. (has k h, n));
+    one_so_far = λ k h. (
+      λ t. elim t [ inl u ↦ absurd (both_ways _ (contains-empty nat_cmp k) u.0) | inr u ↦ u.1 ],
+      λ o. inr (has k h, o),
+    );
+  }
+
+  -- after the last part
+  pub counted_all : (none one : FinSet nat_cmp) → IsCounted i part parts Terms.End none one
+      → Selects (length part) (NoneTrueAt i part parts) none × Selects (length part) (OneTrueAt i part parts) one
+  counted_all none one c = (
+    λ k h. (λ e. (c.none_so_far k h).0 (e, tt), λ n. ((c.none_so_far k h).1 n).0),
+    λ k h. (
+      λ e. (c.one_so_far k h).0 (inl (e, tt)),
+      λ o. elim ((c.one_so_far k h).1 o) [ inl t ↦ t.0 | inr t ↦ absurd t.1 ],
+    ),
+  )
+
+  -- one part more
+  module _ (f : Formula) (rest : Terms) (none one here : FinSet nat_cmp)
+      (c : IsCounted i part parts (Terms.More f rest) none one)
+      (s : Selects (length part) (λ k. Holds i (get_or part k 0) f) here) where
+    -- the part is true at the member of a place
+    abbrev Here : ℕ → Type 0
+    Here k = Holds i (get_or part k 0) f
+
+    -- what is in the set is in it
+    itself : (set : FinSet nat_cmp) → Selects (length part) (λ k. contains set k ≡ true) set
+    itself set k h = (λ e. e, λ e. e)
+
+    pub counted_more : {n o : FinSet nat_cmp} → n ≡ difference none here
+        → o ≡ union (difference one here) (intersection here none) → IsCounted i part parts rest n o
+    counted_more {o = o} e g =
+        subst (λ n. IsCounted i part parts rest n o) (sym e)
+        (subst (IsCounted i part parts rest (difference none here)) (sym g)
+        (record { none_so_far = none_is; one_so_far = one_is }))
+      where
+        left_over : Selects (length part) (λ k. (contains none k ≡ true) × (Here k → ⊥)) (difference none here)
+        left_over = select_alone (length part) none here (itself none) s
+
+        alone_now : Selects (length part)
+            (λ k. ((contains one k ≡ true) × (Here k → ⊥)) ⊎ (Here k × (contains none k ≡ true)))
+            (union (difference one here) (intersection here none))
+        alone_now = select_or (length part) _ _ (select_alone (length part) one here (itself one) s)
+            (select_and (length part) here none s (itself none))
+
+        none_is : (k : ℕ) → k < length part
+            → ((contains (difference none here) k ≡ true) × NoneTrueAt i part rest k) ↔ NoneTrueAt i part parts k
+        none_is k h = (
+          λ t. let l = (left_over k h).0 t.0 in (c.none_so_far k h).0 (l.0, (l.1, t.1)),
+          λ n. let t = (c.none_so_far k h).1 n in ((left_over k h).1 (t.0, t.1.0), t.1.1),
+        )
+
+        one_is : (k : ℕ) → k < length part
+            → (((contains (union (difference one here) (intersection here none)) k ≡ true) × NoneTrueAt i part rest k)
+            ⊎ ((contains (difference none here) k ≡ true) × OneTrueAt i part rest k)) ↔ OneTrueAt i part parts k
+        one_is k h = (
+          λ t. (c.one_so_far k h).0 (elim t [
+            | inl u ↦ elim ((alone_now k h).0 u.0) [ inl v ↦ inl (v.0, (v.1, u.1)) | inr v ↦ inr (v.1, inl (v.0, u.1)) ]
+            | inr u ↦ let l = (left_over k h).0 u.0 in inr (l.0, inr (l.1, u.1))
+          ]),
+          λ o. elim ((c.one_so_far k h).1 o) [
+            | inl t ↦ inl ((alone_now k h).1 (inl (t.0, t.1.0)), t.1.1)
+            | inr t ↦ elim t.1 [
+              | inl u ↦ inl ((alone_now k h).1 (inr (u.0, t.0)), u.1)
+              | inr u ↦ inr ((left_over k h).1 (t.0, u.0), u.1)
+            ]
+          ],
+        )
 
 -- what is selected, of an equal formula
-pub select_part : {A : Type 0} (places : FinSet nat_cmp) (P : A → ℕ → Type 0) {a b : A} (s : FinSet nat_cmp) → b ≡ a
-    → Selects places (P b) s → Selects places (P a) s
-select_part places P s e f = subst (λ z. Selects places (P z) s) e f
+pub select_part : {A : Type 0} (n : ℕ) (P : A → ℕ → Type 0) {a b : A} (s : FinSet nat_cmp) → b ≡ a
+    → Selects n (P b) s → Selects n (P a) s
+select_part n P s e f = subst (λ z. Selects n (P z) s) e f
 
 -- what is selected, of an equal formula and by an equal set
-pub select_whole : {A : Type 0} (places : FinSet nat_cmp) (P : A → ℕ → Type 0) {a b : A} (s : FinSet nat_cmp)
-    {t : FinSet nat_cmp} → a ≡ b → s ≡ t → Selects places (P b) t → Selects places (P a) s
-select_whole places P {b = b} s e q f =
-    select_part places P s (sym e) (subst (λ r. Selects places (P b) r) (sym q) f)
+pub select_whole : {A : Type 0} (n : ℕ) (P : A → ℕ → Type 0) {a b : A} (s : FinSet nat_cmp)
+    {t : FinSet nat_cmp} → a ≡ b → s ≡ t → Selects n (P b) t → Selects n (P a) s
+select_whole n P {b = b} s e q f =
+    select_part n P s (sym e) (subst (λ r. Selects n (P b) r) (sym q) f)
 
 -- ---- place by place
 
@@ -189,61 +264,70 @@ module _ (P : ℕ → Type 0) where
         from t = let h = t.0 in
             elim (cases_eq k n) [ inl e ↦ absurd (none (subst P e t.1)) | inr ne ↦ (omega arith, t.1) ]
 
--- of places before n those at which it is so are all collected
-pub select_collected : (places s : FinSet nat_cmp) {P : ℕ → Type 0} (n : ℕ)
-    → ((k : ℕ) → contains places k ≡ true → k < n) → Collects n (λ k. (contains places k ≡ true) × P k) s
-    → Selects places P s
-select_collected places s n before c k h = (λ e. ((c k).0 e).1.1, λ p. (c k).1 (before k h, (h, p)))
+-- of more places those at which it is so are collected
+pub select_collected : (n m : ℕ) (s : FinSet nat_cmp) {P : ℕ → Type 0} → n ≤ m → Collects m P s → Selects n P s
+select_collected n m s few c k h = (λ e. ((c k).0 e).1, λ p. (c k).1 (omega arith, p))
+
+-- all places of a block are in the set of all
+pub has_all : {i : Instance} {n root start : ℕ} {table : Table} {part : List ℕ} {all : FinSet nat_cmp}
+    → IsBlock i n table root start part all → HasAll (length part) all
+has_all b k h = (b.all_places k).1 (let few = b.is_part.few in omega (arith, few, h), tt)
 
 -- ---- the first member at which a formula is false
 
-module _ (i : Instance) (root start : ℕ) (places : FinSet nat_cmp) (exact : AreMembersFrom i root start places) where
+module _ (i : Instance) (root start : ℕ) (part : List ℕ) (is : IsPart i root start part) where
   -- a member of the root has its place
-  has_place : (x : ℕ) → start ≤ x → x < start + width → IsMemberOf i root x → contains places (x - start) ≡ true
-  has_place x l h m =
-      let e : x ≡ start + (x - start) = omega arith in
-      (exact (x - start)).1 (omega arith, subst (λ y. IsMemberOf i root y) e m)
+  place_of : (x : ℕ) → start ≤ count_before i root x → count_before i root x < start + width → IsMemberOf i root x
+      → (k : ℕ) × (k < length part) × (get_or part k 0 ≡ x) × (count_before i root x ≡ start + k)
+  place_of x l h m =
+      let k = count_before i root x - start in
+      let e : count_before i root x ≡ start + k = omega arith in
+      let inside = is.whole k x (omega arith) (m, e) in
+      (k, inside, same_nth i root (start + k) (get_or part k 0) x (is.each k inside) (m, e), e)
 
-  -- without places there is no member of the root
-  pub no_member : places ≡ empty → (x : ℕ) → start ≤ x → x < start + width → IsMemberOf i root x → ⊥
-  no_member e x l h m =
-      both_ways _ (contains-empty nat_cmp (x - start))
-      (subst (λ s. contains s (x - start) ≡ true) e (has_place x l h m))
-
-  module _ (f : Formula) (truths : FinSet nat_cmp) (t : Selects places (λ k. Holds i (start + k) f) truths) where
-    -- the formula is true where its place isn't left over
-    true_unless : (x : ℕ) → start ≤ x → x < start + width → IsMemberOf i root x
-        → (contains (difference places truths) (x - start) ≡ true → ⊥) → Holds i x f
-    true_unless x l h m n =
-        let e : start + (x - start) ≡ x = omega arith in
-        let place = has_place x l h m in
-        subst (λ y. Holds i y f) e
-        ((t (x - start) place).0
-        (known (contains truths (x - start)) (λ r. n (left places truths (x - start) place ∙ ap not r))))
+  module _ (f : Formula) (all truths : FinSet nat_cmp) (has : HasAll (length part) all)
+      (t : Selects (length part) (λ k. Holds i (get_or part k 0) f) truths) where
+    -- the formula is true where a place isn't left over
+    true_unless : (k : ℕ) → k < length part → (contains (difference all truths) k ≡ true → ⊥)
+        → Holds i (get_or part k 0) f
+    true_unless k h n =
+        (t k h).0 (known (contains truths k) (λ r. n (left (length part) all has truths k h ∙ ap not r)))
       where
         known : (b : Bool) → (b ≡ false → ⊥) → b ≡ true
         known true n = refl
         known false n = absurd (n refl)
 
     -- the first place that is left over
-    pub first_left : (k : ℕ) → IsLeast (difference places truths) k → IsFirstUnmetFrom i root f start (start + k)
-    first_left k least =
-        let both = and_parts (contains places k) (not (contains truths k))
-        (sym (contains-difference nat_cmp_total places truths k) ∙ least.is_one) in
-        let at = (exact k).0 both.0 in
+    pub first_left : (k : ℕ) → k < length part → IsLeast (difference all truths) k
+        → IsFirstUnmetFrom i root f start (get_or part k 0)
+    first_left k h least =
+        let both = and_parts (contains all k) (not (contains truths k))
+        (sym (contains-difference nat_cmp_total all truths k) ∙ least.is_one) in
+        let nth = is.each k h in
         record {
-          is_member = at.1;
-          unmet = λ h. both_ways _ (not-true _ both.1) ((t k both.0).1 h);
-          before = λ w l h m. let inside = at.0 in
-              true_unless w l (omega arith) m (λ e. let later = least.least (w - start) e in omega arith);
+          is_member = nth.0;
+          unmet = λ holds. both_ways _ (not-true _ both.1) ((t k h).1 holds);
+          before = λ w l b m.
+              let earlier = count_below i root w (get_or part k 0) m b in
+              let here = nth.1 in
+              let few = is.few in
+              let place = place_of w l (omega (arith, earlier, here, few, h)) m in
+              let inside = place.1 in
+              let there = place.3 in
+              subst (λ x. Holds i x f) place.2
+              (true_unless place.0 inside
+              (λ e. let later = least.least place.0 e in omega (arith, later, there, earlier, here)));
         }
 
-    -- where none is left over the formula is true at all
-    pub none_left : difference places truths ≡ empty → (x : ℕ) → start ≤ x → x < start + width → IsMemberOf i root x
-        → Holds i x f
-    none_left e x l h m = true_unless x l h m
-        (λ c. both_ways _ (contains-empty nat_cmp (x - start)) (subst (λ s. contains s (x - start) ≡ true) e c))
+    -- where none of the part is left over the formula is true at all of it
+    pub none_left : ((k : ℕ) → contains (difference all truths) k ≡ true → length part ≤ k) → (x : ℕ)
+        → start ≤ count_before i root x → count_before i root x < start + width → IsMemberOf i root x → Holds i x f
+    none_left past x l h m =
+        let place = place_of x l h m in
+        let inside = place.1 in
+        subst (λ y. Holds i y f) place.2
+        (true_unless place.0 inside (λ e. let late = past place.0 e in omega (arith, late, inside)))
 
--- an option that is found to have nothing
-pub is_none_of : {A : Type 0} (o : Option A) (r : Bool) → r ≡ true → is_some o ≡ not r → IsNone o
-is_none_of o r e q = q ∙ ap not e
+-- no place is in an empty set
+pub none_past : (s : FinSet nat_cmp) (n : ℕ) → s ≡ empty → (k : ℕ) → contains s k ≡ true → n ≤ k
+none_past s n e k c = absurd (both_ways _ (contains-empty nat_cmp k) (subst (λ r. contains r k ≡ true) e c))

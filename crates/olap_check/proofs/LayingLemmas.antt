@@ -1,7 +1,7 @@
 -- Where the cells of the table stand, and what is read and written there.
-use Rattle.std.proofs.Common.{◌≡◌, ◌≢◌, ℕ, ◌+◌, ◌*◌, ◌<◌, ◌≤◌, ◌⊎◌, List, [], ◌∷◌, ◌++◌, length, get_or, ap, sym, subst, ◌∙◌, inl, inr, arith, length-append, eq-eqb}
+use Rattle.std.proofs.Common.{◌≡◌, ◌≢◌, ℕ, ◌+◌, ◌<◌, ◌≤◌, ◌⊎◌, List, [], ◌∷◌, ◌++◌, length, get_or, ap, sym, subst, ◌∙◌, inl, inr, arith, length-append, eq-eqb}
 use Rattle.std.proofs.Math.ListN.{get_or-append}
-use Rattle.std.specs.Prelude.{replicate, ◌==◌}
+use Rattle.std.specs.Prelude.{replicate}
 use Rattle.std.proofs.lemmas.Bool.{cases_lt, cond-true, cond-false, ne_eqb}
 use Rattle.std.proofs.lemmas.List.{get_or-replicate, get_or_at, get_or_default}
 use native.Mathlib.Decide.{ℕ_discrete}
@@ -9,7 +9,7 @@ use Rattle.olap_base.specs.Graph.{Graph}
 use Rattle.olap_base.specs.Instance.{Instance, category_of}
 use Rattle.olap_base.specs.Steps.{Steps-from_reaches, reaches_from_Steps}
 use Rattle.olap_check.specs.Joining.{IsEither}
-use Rattle.olap_check.specs.Laying.{AreDistinct, AreStarts, IsLaid, cell, cell_in}
+use Rattle.olap_check.specs.Laying.{AreDistinct, AreStarts, IsLaid, cell}
 use Rattle.olap_check.specs.Rows.{none, IsBounded}
 use Rattle.olap_check.specs.Slots.{AreListed, IsOrdered, IsSlots, count_of, no_slot, order_of, slot_of}
 use Rattle.olap_check.specs.Strata.{AreLinked}

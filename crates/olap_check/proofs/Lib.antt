@@ -13,6 +13,7 @@ mod LinkingLemmas
 mod SplitLemmas
 mod FirstLemmas
 mod AboveLemmas
+mod GroupLemmas
 mod SeenLemmas
 mod WayLemmas
 mod BlockLemmas

@@ -1,34 +1,62 @@
 -- Constraints, one after another.
-use Rattle.std.proofs.Common.{◌≡◌, ℕ, ◌+◌, ◌*◌, ◌<◌, ◌≤◌, List, length, map, get_or, ap, sym, subst, ◌∙◌, arith, below_more, inl, inr}
+use Rattle.std.proofs.Common.{◌≡◌, ℕ, ◌+◌, ◌-◌, ◌*◌, ◌<◌, ◌≤◌, List, length, map, get_or, take, drop, min, ap, sym, subst, ◌∙◌, arith, below_more, inl, inr}
 use Rattle.std.specs.Prelude.{Contains}
-use Rattle.std.proofs.lemmas.List.{get_or-map, get_or_default, length-map}
+use Rattle.std.proofs.lemmas.List.{get_or-drop, get_or-map, get_or-take, get_or_default, length-drop, length-map, length-take-le}
 use Rattle.std.proofs.lemmas.Bool.{cases_lt}
 use Rattle.olap_ast.specs.Formula.{Formula, Holds}
 use Rattle.olap_ast.specs.Schema.{Constraint, Meets}
 use Rattle.olap_ast.specs.Trees.{constraint_of}
 use Rattle.olap_ast.specs.declared.formulas.Constraint.{Constraint as Stored}
 use Rattle.olap_base.specs.Instance.{Instance, IsMemberOf}
-use Rattle.olap_check.specs.Blocks.{IsFirstUnmetFrom, width}
+use Rattle.olap_check.specs.Blocks.{IsFirstUnmetFrom, IsPart, width}
+use Rattle.olap_check.specs.Groups.{IsGroup, IsNth, count_before}
+use Rattle.olap_check.proofs.GroupLemmas.{count_below}
 use Rattle.olap_check.specs.Meeting.{IsFirstUnmet, IsFirstViolated, constraint_at, no_constraint}
 
--- ---- one formula, step by step
+-- ---- one formula, block by block
+
+-- a part of the root's members is a block's
+pub part_of : (i : Instance) (root start end : ℕ) (group part : List ℕ) → IsGroup i root group
+    → start ≤ length group → end ≡ min (length group) (start + width) → part ≡ take (end - start) (drop start group)
+    → IsPart i root start part
+part_of i root start end group part g h e q = record {
+  few = omega (arith, size, e);
+  each = λ k l.
+      let inside : k < end - start = omega (arith, l, size) in
+      let read : get_or part k 0 ≡ get_or group (start + k) 0 =
+      ap (λ xs. get_or xs k 0) q ∙ get_or-take (end - start) (drop start group) k 0 inside
+      ∙ get_or-drop start group k 0 in
+      subst (λ x. IsNth i root (start + k) x) (sym read) (g.each (start + k) (omega (arith, inside, e)));
+  whole = λ k x l nth.
+      let below = count_below i root x (length i) nth.0 nth.0.0 in
+      let whole = g.whole in
+      let here = nth.1 in
+      omega (arith, below, whole, here, size, e, l);
+}
+  where
+    size : length part ≡ end - start
+    size = ap length q ∙ length-take-le (end - start) (drop start group) (omega (arith, e, h, length-drop start group))
 
 module _ (i : Instance) (root : ℕ) (f : Formula) (step : ℕ)
-    (before : (w : ℕ) → w < step * width → IsMemberOf i root w → Holds i w f) where
+    (before : (w : ℕ) → count_before i root w < step * width → IsMemberOf i root w → Holds i w f) where
   -- the first of all at which it is false
   pub first_of_all : (x : ℕ) → IsFirstUnmetFrom i root f (step * width) x → IsFirstUnmet i root f x
   first_of_all x u = record {
     is_member = u.is_member;
     unmet = u.unmet;
-    before = λ w h m. elim (cases_lt w (step * width)) [
+    before = λ w h m. elim (cases_lt (count_before i root w) (step * width)) [
       | inl l ↦ before w l m
       | inr l ↦ u.before w l h m
     ];
   }
 
   -- all of them are behind
-  pub true_at_all : length i < step * width → (w : ℕ) → IsMemberOf i root w → Holds i w f
-  true_at_all h w m = let inside = m.0 in before w (omega arith) m
+  pub true_at_all : (group : List ℕ) → IsGroup i root group → length group ≤ step * width → (w : ℕ)
+      → IsMemberOf i root w → Holds i w f
+  true_at_all group g h w m =
+      let below = count_below i root w (length i) m m.0 in
+      let whole = g.whole in
+      before w (omega (arith, below, whole, h)) m
 
 -- ---- all constraints
 

@@ -1,5 +1,5 @@
 -- What the table says of a member that is far below another.
-use Rattle.std.proofs.Common.{◌≡◌, ◌≢◌, ℕ, ◌+◌, ◌<◌, ◌≤◌, List, length, get_or, Bool, true, false, refl, ap, sym, subst, ◌∙◌, ◌↔◌, inl, inr, arith, eqb-true, eq-eqb, below_more}
+use Rattle.std.proofs.Common.{◌≡◌, ◌≢◌, ℕ, ◌+◌, ◌<◌, ◌≤◌, length, get_or, Bool, true, false, refl, ap, sym, subst, ◌∙◌, ◌↔◌, inl, inr, arith, eqb-true, eq-eqb, below_more}
 use Rattle.std.specs.Prelude.{Contains, IsTrue, nat_eq}
 use Rattle.std.proofs.lemmas.List.{get_or_default}
 use native.Mathlib.Decide.{ℕ_discrete}

@@ -14,6 +14,7 @@ pub mod Tables
 pub mod Joining
 pub mod Passing
 pub mod Above
-pub mod Seen
+pub mod Groups
 pub mod Blocks
+pub mod Seen
 pub mod Meeting

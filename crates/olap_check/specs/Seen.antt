@@ -16,6 +16,7 @@ use Rattle.olap_ast.specs.Trees.{op_of}
 use Rattle.olap_base.specs.Instance.{Instance, IsBelow, IsMemberOf, Reaches, ReachesVia}
 use Rattle.olap_bits.specs.Sets.{members}
 use Rattle.olap_check.specs.Blocks.{width}
+use Rattle.olap_check.specs.Groups.{IsNth}
 use Rattle.olap_check.specs.declared.asked.Asked.{Asked}
 use Rattle.olap_check.specs.declared.asked.Asked.TheVariants as asked
 use Rattle.olap_check.specs.declared.seen.Seen.{Seen}
@@ -50,10 +51,10 @@ IsSameAtom (asked.Compares c o m) (asked.GoesOn l e f) = ⊥
 IsSameAtom (asked.Compares c o m) (asked.Named e t) = ⊥
 IsSameAtom (asked.Compares c o m) (asked.Compares d p n) = (c.0 ≡ d.0) × (o ≡ p) × (m ≡ n)
 
--- of the root's members at the places of a block the set has exactly those at which P is so
+-- of the root's members from the start-th on, as many as a block has, the set has exactly those at which P is so
 abbrev pub IsKept : Instance → ℕ → ℕ → (ℕ → Type 0) → FinSet nat_cmp → Type 0
 IsKept i root start P set =
-    (k : ℕ) → k < width → IsMemberOf i root (start + k) → (contains set k ≡ true) ↔ P (start + k)
+    (k x : ℕ) → k < width → IsNth i root (start + k) x → (contains set k ≡ true) ↔ P x
 
 -- an entry that is there has the places of its block at which P is so
 abbrev pub IsRight : Instance → (ℕ → Type 0) → Option Entry → Type 0

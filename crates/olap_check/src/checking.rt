@@ -1,16 +1,22 @@
 // The check: the laws, and then the constraints.
-ghost use Rattle.std.specs.Prelude.{◌≡◌, ◌≤◌, length, IfOk, IfErr};
-ghost use Rattle.olap_ast.specs.Schema.{IsLegal};
-ghost use Rattle.olap_base.specs.Limits.{most_constraints};
-ghost use Rattle.olap_check.specs.Reports.{IsRefused, parts_of};
+ghost use Rattle.std.specs.Prelude.{◌≡◌, ◌≤◌, length, map, Contains, IfOk, IfErr};
+ghost use Rattle.olap_ast.specs.Schema.{Constraint as TheConstraint, IsLegal, Meets};
+ghost use Rattle.olap_ast.specs.Trees.{constraint_of};
+ghost use Rattle.olap_base.specs.Graph.{category_count};
+ghost use Rattle.olap_base.specs.Instance.{IsLawful};
+ghost use Rattle.olap_base.specs.Limits.{most_categories, most_constraints};
+ghost use Rattle.olap_check.specs.Reports.{IsFirstReport, IsRefused, parts_of};
+ghost use Rattle.olap_check.specs.Rows.{IsBounded};
+ghost use Rattle.olap_check.specs.Tables.{IsTable};
 ghost use Rattle.olap_schema.specs.Schemas.{schema_of};
 ghost use Rattle.olap_instance.specs.Made.{IsMadeFor};
 
 use crate::laws::{bound, lawful};
 use crate::meeting::first_violated;
+use crate::tables::Table;
 use crate::{CheckRefusal, Legal, Violation};
 use olap_ast::Constraint;
-use olap_base::MemberId;
+use olap_base::{MemberId, Memory};
 use olap_graph::Graph;
 use olap_instance::Instance;
 use olap_schema::Schema;
@@ -21,7 +27,7 @@ use std::alloc::Global;
 /// `Broken` exactly where it isn't legal, with the first violation: by law, and within a law in file order, as
 /// `IsFirstViolation` says. `Memory` where there is no room, and the instance is dropped. Cost: at most the members and
 /// their parents times the number of categories, the members times its square, and of each formula its distinct pairs
-/// of categories and names at the members of its root, and its nodes once for 256 members. A cycle, or a member with
+/// of categories and names at the members of its root, and its nodes once for 1,024 of them. A cycle, or a member with
 /// many parents, costs no more.
 pub fn check(alloc: Global, schema: &Schema, instance: Instance) -> Result<Legal, CheckRefusal>
     requires { IsMadeFor (schema_of schema.now).graph instance }
@@ -30,6 +36,34 @@ pub fn check(alloc: Global, schema: &Schema, instance: Instance) -> Result<Legal
     ensures err { IfErr result (IsRefused (schema_of schema.now) instance) }
 {
     check_parts(alloc, schema.graph(), schema.constraints(), instance)
+}
+
+/// The table of ancestors of an instance that keeps the laws and meets the constraints, or the first violation of another.
+fn judged(
+    alloc: Global,
+    graph: &Graph,
+    constraints: &[Constraint],
+    instance: &Instance,
+    categories: u16,
+) -> Result<Result<Table, Violation>, Memory>
+    requires count { categories ≡ category_count graph.now }
+    requires few { categories ≤ most_categories }
+    requires bounded { IsBounded instance.now categories }
+    requires constraints { length constraints.now ≤ most_constraints }
+    ensures table { IfOk result (λ r. IfOk r (IsTable instance.now categories (length instance.now))) }
+    ensures lawful { IfOk result (λ r. IfOk r (λ _. IsLawful graph.now instance.now)) }
+    ensures meets { IfOk result (λ r. IfOk r (λ _. (c : TheConstraint) → Contains (map constraint_of constraints.now) c
+        → Meets instance.now c)) }
+    ensures first { IfOk result (λ r. IfErr r (IsFirstReport (parts_of graph.now constraints.now) instance.now)) }
+{
+    let table = match lawful(alloc, graph, instance, categories)? {
+        Ok(table) => table,
+        Err(violation) => return Ok(Err(violation)),
+    };
+    match first_violated(alloc, instance, &table, categories, constraints)? {
+        Some((k, x)) => Ok(Err(Violation::Constraint(k as u16 + 1, MemberId(x)))),
+        None => Ok(Ok(table)),
+    }
 }
 
 /// `check` for a graph and constraints that stand in no `Schema`.
@@ -46,14 +80,8 @@ fn check_parts(
     ensures err { IfErr result (IsRefused (parts_of graph.now constraints.now) instance) }
 {
     let categories = bound(graph, &instance);
-    let table = match lawful(alloc, graph, &instance, categories)? {
-        Ok(table) => table,
-        Err(violation) => return Err(CheckRefusal::Broken(instance, violation)),
-    };
-    let found = first_violated(alloc, &instance, &table, categories, constraints)?;
-    if let Some((k, x)) = found {
-        let violation = Violation::Constraint(k as u16 + 1, MemberId(x));
-        return Err(CheckRefusal::Broken(instance, violation));
+    match judged(alloc, graph, constraints, &instance, categories)? {
+        Ok(table) => Ok(Legal::of(instance, categories, table)),
+        Err(violation) => Err(CheckRefusal::Broken(instance, violation)),
     }
-    Ok(Legal::of(instance, categories, table))
 }

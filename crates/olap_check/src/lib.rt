@@ -10,6 +10,7 @@ mod asked;
 mod blocks;
 mod checking;
 mod gathering;
+mod grouping;
 mod joining;
 mod laws;
 mod legality;

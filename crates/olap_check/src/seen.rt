@@ -11,11 +11,11 @@ use olap_ast::Constraint;
 use olap_base::{CatId, Memory};
 use std::alloc::Global;
 
-/// The places of one block, of which the root and the start are told.
+/// The places of one block, of which the root and the start among its members are told.
 #[derive(Clone, Copy)]
 pub(crate) struct Entry {
     pub root: CatId,
-    pub start: u32,
+    pub start: usize,
     pub places: Places,
 }
 
@@ -69,16 +69,16 @@ impl<'a> Seen<'a> {
     }
 
     /// The places of the block from `start` on, if they are remembered.
-    pub(crate) fn kept(&self, asked: Asked, root: CatId, start: u32) -> Option<Places>
+    pub(crate) fn kept(&self, asked: Asked, root: CatId, start: usize) -> Option<&Places>
         ensures { (i : TheInstance) → IsSeen i self.now
-            → IfSome result (λ set. IsKept i root.0 start (IsSo i asked.entry) (members set)) }
+            → IfSome result (λ set. IsKept i root.0 start (IsSo i asked.entry) (members set.now)) }
     {
         let k = self.place(asked)?;
         if k >= self.entries.len() {
             return None;
         }
-        match self.entries[k] {
-            Some(entry) if entry.root.0 == root.0 && entry.start == start => Some(entry.places),
+        match &self.entries[k] {
+            Some(entry) if entry.root.0 == root.0 && entry.start == start => Some(&entry.places),
             _ => None,
         }
     }

@@ -1,4 +1,4 @@
--- What a `Trail` keeps of its table of values. No public clause speaks of it.
+-- The table of values that a `Trail` keeps. No public clause speaks of it.
 --     IsInside        the literal is of one of so many variables
 --     shows           the trail has this variable with this sign
 --     unknown_count   how many variables are unknown

@@ -1,4 +1,4 @@
--- What one turn of the search did.
+-- One turn of the search, and what it did.
 --     NoneAgrees   no valuation that is meant and admitted agrees with what stands now
 --     TurnsSo      less is left, or nothing agrees, or the judge took what stands
 use Rattle.std.specs.Prelude.{ℕ, ◌<◌, ◌≤◌, Bool, List}

@@ -17,6 +17,7 @@ use Rattle.olap_cube.specs.Tuples.{TupleReaches, IsTupleOf, IsBottomTuple, AreLa
 use Rattle.olap_cube.specs.CubeSummarizable.{AreChosen, AreLegal, IsCubeSummarizable, Chosen, IsChosen, IsBadChoice, IsKinded, CubeSummarizableExactlyIfNoneBad, bottoms_of, graphs_of, instances_of}
 use Rattle.olap_cube.proofs.CubeLemmas.{cubes_agree_exactly}
 
+-- legal instances are lawful
 pub lawful_from_legal : (ss : List Schema) (is : List Instance) → AreLegal ss is → AreLawful (graphs_of ss) is
 lawful_from_legal [] [] l = tt
 lawful_from_legal [] (i ∷ is) l = absurd l
@@ -25,6 +26,7 @@ lawful_from_legal (s ∷ ss) (i ∷ is) l = (l.0.lawful, lawful_from_legal ss is
 
 -- ---- a choice stands for legal instances, with its roots at the bottom, and they reach the target
 
+-- the instances of a choice are legal
 pub chosen_legal : (ss : List Schema) (cs : List ℕ) (ps : List Chosen) → AreChosen ss cs ps
     → AreLegal ss (instances_of ss ps)
 chosen_legal [] [] [] a = tt
@@ -34,6 +36,7 @@ chosen_legal (s ∷ ss) [] ps a = absurd a
 chosen_legal (s ∷ ss) (c ∷ cs) [] a = absurd a
 chosen_legal (s ∷ ss) (c ∷ cs) (p ∷ ps) a = (a.0.is_one.stands_for.legal, chosen_legal ss cs ps a.1)
 
+-- its roots are a tuple of bottom members
 pub chosen_bottom : (ss : List Schema) (cs : List ℕ) (ps : List Chosen) → AreChosen ss cs ps → (roots : List ℕ)
     → IsTupleOf (instances_of ss ps) (bottoms_of ps) roots
     → IsBottomTuple (graphs_of ss) (instances_of ss ps) roots
@@ -50,6 +53,7 @@ chosen_bottom (s ∷ ss) (c ∷ cs) (p ∷ ps) a (x ∷ xs) m = (
   chosen_bottom ss cs ps a.1 xs m.1,
 )
 
+-- the root of a chosen frozen dimension reaches the target
 pub reaches_target : (s : Schema) (c : ℕ) (p : Chosen) → IsChosen s c p → (x : ℕ)
     → IsMemberOf (thawed s p.candidates p.bottom p.frozen) p.bottom x
     → ReachesCategory (thawed s p.candidates p.bottom p.frozen) x c
@@ -57,6 +61,7 @@ reaches_target s c p a x m = let f = a.is_one.stands_for in
     subst (λ y. ReachesCategory (thawed s p.candidates p.bottom p.frozen) y c)
     (f.one_each f.root x f.root_is.0 m.0 (f.root_is.1 ∙ sym m.1)) f.true_at_root
 
+-- so the roots of a choice reach a tuple of the target
 pub chosen_up : (ss : List Schema) (cs : List ℕ) (ps : List Chosen) → AreChosen ss cs ps → (roots : List ℕ)
     → IsTupleOf (instances_of ss ps) (bottoms_of ps) roots
     → (y : List ℕ) × IsTupleOf (instances_of ss ps) cs y × TupleReaches (instances_of ss ps) roots y
@@ -71,6 +76,7 @@ chosen_up (s ∷ ss) (c ∷ cs) (p ∷ ps) a (x ∷ xs) m =
     let r = reaches_target s c p a.0 x m.0 in let rest = chosen_up ss cs ps a.1 xs m.1 in
     (r.0 ∷ rest.0, (r.1, rest.1), (r.2, rest.2))
 
+-- where the target is summarizable they reach it by exactly one source
 by_one : (ss : List Schema) (cs : List ℕ) (sources : List (List ℕ)) (ps : List Chosen) → AreChosen ss cs ps
     → (roots : List ℕ) → IsTupleOf (instances_of ss ps) (bottoms_of ps) roots → IsCubeSummarizable ss cs sources
     → ExactlyOne (λ t. TupleReachesVia (instances_of ss ps) roots t cs) sources
@@ -82,6 +88,7 @@ by_one ss cs sources ps a roots m h =
 
 -- ---- what tuples of members reach, choices reach
 
+-- a choice whose roots reach the target by the same sources as a tuple of an instance
 record Alike (ss : List Schema) (cs : List ℕ) (is : List Instance) (x : List ℕ) : Type 0 where
   choice : List Chosen
   chosen : AreChosen ss cs choice
@@ -89,6 +96,7 @@ record Alike (ss : List Schema) (cs : List ℕ) (is : List Instance) (x : List �
   roots_are : IsTupleOf (instances_of ss choice) (bottoms_of choice) roots
   same : (t : List ℕ) → TupleReachesVia (instances_of ss choice) roots t cs ↔ TupleReachesVia is x t cs
 
+-- there is one, dimension by dimension, by the small-model theorem
 alike : CandidatesExist → (ss : List Schema) (cs : List ℕ) (is : List Instance) (x y : List ℕ)
     → All IsHierarchy (graphs_of ss) → All IsKinded ss → AreLegal ss is → IsBottomTuple (graphs_of ss) is x → IsTupleOf is cs y → TupleReaches is x y → Alike ss cs is x
 alike exist [] [] [] [] y a w l b m r = record {
@@ -131,15 +139,18 @@ alike exist (s ∷ ss) (c ∷ cs) (i ∷ is) (x ∷ xs) (y ∷ ys) a w l b m r =
 
 -- ---- whether exactly one source is by the way
 
+-- that none is so can be decided, where each can
 dec_none : {A : Type 0} (P : A → Type 0) → ((x : A) → Dec (P x)) → (xs : List A) → Dec (NoneOf P xs)
 dec_none P d [] = yes tt
 dec_none P d (x ∷ xs) = dec_and (dec_not (d x)) (dec_none P d xs)
 
+-- that exactly one is so can be decided, where each can
 pub dec_one : {A : Type 0} (P : A → Type 0) → ((x : A) → Dec (P x)) → (xs : List A) → Dec (ExactlyOne P xs)
 dec_one P d [] = no (λ o. o)
 dec_one P d (x ∷ xs) =
     dec_or (dec_and (d x) (dec_none P d xs)) (dec_and (dec_not (d x)) (dec_one P d xs))
 
+-- by way of a source: it can be decided, place by place
 pub dec_tuple_via : (is : List Instance) (xs ts cs : List ℕ) → Dec (TupleReachesVia is xs ts cs)
 dec_tuple_via [] [] [] [] = yes tt
 dec_tuple_via [] [] [] (c ∷ cs) = no (λ v. v)

@@ -27,6 +27,7 @@ tuples is = record {
   one = λ x. record { members = x; value = pos 1 };
 }
 
+-- tuples of members are points that roll up, as those of one instance do
 pub tuples_roll : (gs : List Graph) (is : List Instance) → AreLawful gs is → IsRolling (tuples is)
 tuples_roll gs is w = record {
   place_is = λ p s. refl;
@@ -63,6 +64,7 @@ through (g ∷ gs) (i ∷ is) w (c ∷ cs) (x ∷ xs) (y ∷ ys) m e (t ∷ ts) 
       both_true (reaches i b.0 y) (tuple_reaches is r.0 ys) b.3 r.3,
     )
 
+-- what reaches a tuple of the source, which reaches the target's, reaches the target by way of the source
 place_by_place : (is : List Instance) (c x y t z : List ℕ) → IsTupleOf is c y → IsTupleOf is t z
     → tuple_reaches is x z ≡ true → tuple_reaches is z y ≡ true → TupleReachesVia is x t c
 place_by_place [] [] [] [] [] [] m n e f = tt
@@ -87,6 +89,7 @@ place_by_place (i ∷ is) (c ∷ cs) (x ∷ xs) (y ∷ ys) (t ∷ ts) (z ∷ zs)
       (second_true (reaches i z y) (tuple_reaches is zs ys) f),
 )
 
+-- by way of a source: the same, of tuples as of points
 pub tuple_via_is_by : (gs : List Graph) (is : List Instance) → AreLawful gs is → (c x y : List ℕ) → IsTupleOf is c y
     → tuple_reaches is x y ≡ true → (t : List ℕ) → TupleReachesVia is x t c ↔ By (tuples is) x t y
 tuple_via_is_by gs is w c x y m e t = (
@@ -94,12 +97,14 @@ tuple_via_is_by gs is w c x y m e t = (
   λ b. place_by_place is c x y t b.0 m (tuples_of_is is t b.0 b.1) b.2 b.3,
 )
 
+-- the view from views, as that of points
 cube_merged_is : (is : List Instance) (c : List ℕ) (facts : List CubeFact) (sources : List (List ℕ))
     → cube_rows_from_views is c (cube_direct_views is facts sources)
     ≡ from_rows (tuples is) c (below (tuples is) sources facts)
 cube_merged_is is c facts sources =
     ap (from_rows (tuples is) c) (flat_map-map (λ (v : CubeView). v.rows) (cube_direct_view is facts) sources)
 
+-- the theorem, as that of points
 pub cubes_agree_exactly : CubesAgreeExactlyIfReachedByOne
 cubes_agree_exactly gs is c sources w = (to, from)
   where
@@ -118,6 +123,7 @@ cubes_agree_exactly gs is c sources w = (to, from)
         facts t
         ∙ sym (cube_merged_is is c facts sources)
 
+-- the theorem, as that of points
 pub one_cube_facts_views : OneCubeFactsViews
 one_cube_facts_views gs is w c x y m r sources n h =
     let e = (tuple_reaches_is is x y).1 r in let k = is_tuple_of is c y m in let roll = tuples_roll gs is w in (

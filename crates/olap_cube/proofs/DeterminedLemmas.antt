@@ -25,19 +25,23 @@ are_not_after_both (x ∷ xs) [] a b = absurd a
 are_not_after_both (x ∷ xs) (y ∷ ys) a b = let e = not_after_both x y a.0 b.0 in
     let rest = are_not_after_both xs ys (a.1 e) (b.1 (sym e)) in λ i. e i ∷ rest i
 
+-- the first of a list, or another
 head_or : {A : Type 0} → A → List A → A
 head_or d [] = d
 head_or d (x ∷ xs) = x
 
+-- what follows the first
 tail_of : {A : Type 0} → List A → List A
 tail_of [] = []
 tail_of (x ∷ xs) = xs
 
 -- ---- values by their codes
 
+-- the edges as a code
 abbrev bits : List Bool → List ℕ
 bits bs = map (λ b. cond b 1 0) bs
 
+-- equal bits, equal truth values
 same_bit : (a b : Bool) → ◌≡◌ {A = ℕ} (cond a 1 0) (cond b 1 0) → a ≡ b
 same_bit true true e = refl
 same_bit true false e = absurd (omega arith)
@@ -55,6 +59,7 @@ same_parts (x ∷ a) (y ∷ b) m n h e =
     let r = same_parts a b m n (omega arith) (ap tail_of e) in
     (λ i. p i ∷ r.0 i, r.1)
 
+-- two with one code are one frozen dimension, whichever candidates they have
 one_frozen : (s : Schema) (c : ℕ) (p q : Chosen) → IsChosen s c p → IsChosen s c q → p.bottom ≡ q.bottom
     → code p.frozen ≡ code q.frozen
     → AreOneFrozenDimension s p.candidates q.candidates p.bottom q.bottom p.frozen q.frozen
@@ -71,6 +76,7 @@ one_frozen s c p q a b r e =
       place = λ i. root_place s (r i) (f i);
     }
 
+-- two choices with the same bottom categories and codes are one
 one_choice : (ss : List Schema) (cs : List ℕ) (ps qs : List Chosen) → AreChosen ss cs ps → AreChosen ss cs qs
     → bottoms_of ps ≡ bottoms_of qs → codes_of ps ≡ codes_of qs → AreOneChoice ss ps qs
 unfolding head_or tail_of
@@ -86,6 +92,7 @@ one_choice (s ∷ ss) (c ∷ cs) (p ∷ ps) (q ∷ qs) a b r e = (
   one_choice ss cs ps qs a.1 b.1 (ap tail_of r) (ap tail_of e),
 )
 
+-- the theorem: two that come no later than each other have the same codes
 pub the_cube_counterexample_is_one : TheCubeCounterexampleIsOne
 the_cube_counterexample_is_one ss cs sources one other a b =
     let r : bottoms_of one ≡ bottoms_of other = not_after_both (bottoms_of one) (bottoms_of other)

@@ -38,6 +38,7 @@ module _ (i : Instance) (x c : ℕ) where
     λ t. elim t [ inl a ↦ inl ((a.0, tt), n.1 a.1) | inr a ↦ inr (λ v. a.0 v.0, r.1 a.1) ],
   )
 
+-- the theorem: lists of one are what stands in them
 pub cubes_of_one_dimension : CubesOfOneDimension
 cubes_of_one_dimension s c sources = (to, from)
   where
@@ -69,6 +70,7 @@ cubes_of_one_dimension s c sources = (to, from)
 
 -- ---- counterexamples
 
+-- of two numbers one is less, or they are equal
 order : (m n : ℕ) → (m < n) ⊎ ((m ≡ n) ⊎ (n < m))
 order m n = grind arith
 
@@ -192,5 +194,6 @@ module _ (s : Schema) (c : ℕ) (sources : List ℕ) where
           first_same : (m n : ℕ) → m ∷ [] ≡ n ∷ [] → m ≡ n
           first_same m n e = cc e
 
+-- the theorem, of counterexamples
 pub counterexamples_of_one_dimension : CounterexamplesOfOneDimension
 counterexamples_of_one_dimension s c sources p = (to s c sources p, from s c sources p)

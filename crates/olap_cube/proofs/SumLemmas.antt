@@ -17,6 +17,7 @@ use Rattle.olap_cube.proofs.ChoiceLemmas.{chosen_bottom, chosen_legal, chosen_up
 
 -- ---- counting
 
+-- how often something holds in a list, where it can be decided
 counted : {A : Type 0} (P : A → Type 0) → ((x : A) → Dec (P x)) → (xs : List A) → (n : ℕ) × HoldsTimes P xs n
 counted P d [] = (0, refl)
 counted P d (x ∷ xs) = let t = counted P d xs in elim (d x) [
@@ -24,20 +25,24 @@ counted P d (x ∷ xs) = let t = counted P d xs in elim (d x) [
   | no p ↦ (t.0, inr (p, t.1))
 ]
 
+-- what holds 0 times holds of none
 none_times : {A : Type 0} (P : A → Type 0) (xs : List A) (n : ℕ) → n ≡ 0 → HoldsTimes P xs n → NoneOf P xs
 none_times P [] n e h = tt
 none_times P (x ∷ xs) n e (inl t) = let z : suc t.1 ≡ 0 = sym t.2 ∙ e in absurd (cc)
 none_times P (x ∷ xs) n e (inr t) = (t.0, none_times P xs n e t.1)
 
+-- what holds once holds of exactly one
 one_time : {A : Type 0} (P : A → Type 0) (xs : List A) (n : ℕ) → n ≡ 1 → HoldsTimes P xs n → ExactlyOne P xs
 one_time P [] n e h = let z : 0 ≡ 1 = sym h ∙ e in absurd (omega arith)
 one_time P (x ∷ xs) n e (inl t) = let z : suc t.1 ≡ suc 0 = sym t.2 ∙ e in
     let m : t.1 ≡ 0 = cc in inl (t.0, none_times P xs t.1 m t.3)
 one_time P (x ∷ xs) n e (inr t) = inr (t.0, one_time P xs n e t.1)
 
+-- no ones have no SUM
 no_ones : (y : List ℕ) (n : ℕ) → n ≡ 0 → only_cube_sum (cons_option (cube_row_at y (ones n)) []) ≡ None
 no_ones y n e = subst (λ w. only_cube_sum (cons_option (cube_row_at y (ones w)) []) ≡ None) (sym e) refl
 
+-- n ones have the SUM n
 some_ones : (y : List ℕ) (n : ℕ) → n ≢ 0 → only_cube_sum (cons_option (cube_row_at y (ones n)) []) ≡ Some (pos n)
 some_ones y zero z = absurd (z refl)
 some_ones y (suc n) z = refl
@@ -81,5 +86,6 @@ module _ (schemas : List Schema) (c : List ℕ) (sources : List (List ℕ)) (cho
         | no z ↦ other (let q : Some (pos n) ≡ Some (pos 1) = sym (told ∙ some_ones y n z) ∙ e in cc)
       ]
 
+-- the theorem: not one source, so not the SUM 1
 pub bad_choices_have_two_sums : BadChoicesHaveTwoSums
 bad_choices_have_two_sums schemas c sources choice b = two_sums schemas c sources choice b

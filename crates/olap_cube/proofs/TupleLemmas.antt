@@ -13,6 +13,7 @@ use Rattle.olap_cube.specs.Tuples.{TupleReaches, tuple_reaches, IsTupleOf, AreLa
 
 -- ---- reaching
 
+-- the test says whether a tuple reaches another
 pub tuple_reaches_is : (is : List Instance) (xs ys : List ℕ) → IsTrue (tuple_reaches is xs ys) ↔ TupleReaches is xs ys
 tuple_reaches_is [] [] [] = (λ e. tt, λ t. refl)
 tuple_reaches_is [] [] (y ∷ ys) = (λ e. absurd (cc), λ t. absurd t)
@@ -27,6 +28,7 @@ tuple_reaches_is (i ∷ is) (x ∷ xs) (y ∷ ys) = let r = tuple_reaches_is is 
   λ t. both_true (reaches i x y) (tuple_reaches is xs ys) ((reaches_is i x y).1 t.0) (r.1 t.1),
 )
 
+-- what a tuple reaches reaches on
 pub tuple_onward : (is : List Instance) (xs ys zs : List ℕ) → tuple_reaches is xs ys ≡ true
     → tuple_reaches is ys zs ≡ true → tuple_reaches is xs zs ≡ true
 tuple_onward [] [] [] [] e f = refl
@@ -45,6 +47,7 @@ tuple_onward (i ∷ is) (x ∷ xs) (y ∷ ys) (z ∷ zs) e f =
 
 -- ---- the tuples of some categories
 
+-- what is in one of the lists is in all together
 Contains-flat_map : {A B : Type 0} (f : A → List B) (xs : List A) (x : A) (y : B) → Contains xs x → Contains (f x) y
     → Contains (flat_map f xs) y
 Contains-flat_map f [] x y c d = absurd (Contains-nil x c)
@@ -53,6 +56,7 @@ Contains-flat_map f (z ∷ zs) x y c d = elim (contains_cases x z zs c) [
   | inr h ↦ Contains-append_right (f z) (flat_map f zs) y (Contains-flat_map f zs x y h d)
 ]
 
+-- what is in all together is in one of the lists
 Contains-from_flat_map : {A B : Type 0} (f : A → List B) (xs : List A) (y : B) → Contains (flat_map f xs) y
     → (x : A) × Contains xs x × Contains (f x) y
 Contains-from_flat_map f [] y c = absurd (Contains-nil y c)
@@ -61,6 +65,7 @@ Contains-from_flat_map f (z ∷ zs) y c = elim (Contains-append_cases (f z) (fla
   | inr h ↦ let t = Contains-from_flat_map f zs y h in (t.0, contains_cons t.0 zs z t.1, t.2)
 ]
 
+-- each tuple of the list has members of these categories
 pub tuples_of_is : (is : List Instance) (cs ys : List ℕ) → Contains (tuples_of is cs) ys → IsTupleOf is cs ys
 tuples_of_is [] [] ys h = elim (contains_cases ys [] [] h) [
   | inl e ↦ subst (λ w. IsTupleOf [] [] w) e tt
@@ -73,6 +78,7 @@ tuples_of_is (i ∷ is) (c ∷ cs) ys h =
     let u = Contains-from_map (λ zs. t.0 ∷ zs) (tuples_of is cs) ys t.2 in
     subst (λ w. IsTupleOf (i ∷ is) (c ∷ cs) w) u.2 (members_of_is i c t.0 t.1, tuples_of_is is cs u.0 u.1)
 
+-- each such tuple is in the list
 pub is_tuple_of : (is : List Instance) (cs ys : List ℕ) → IsTupleOf is cs ys → Contains (tuples_of is cs) ys
 is_tuple_of [] [] [] t = (0, omega arith, refl)
 is_tuple_of [] [] (y ∷ ys) t = absurd t
@@ -83,6 +89,7 @@ is_tuple_of (i ∷ is) (c ∷ cs) (y ∷ ys) t =
     Contains-flat_map (λ z. map (λ zs. z ∷ zs) (tuples_of is cs)) (members_of i c) y (y ∷ ys)
     (is_member_of i c y t.0) (Contains-map (λ zs. y ∷ zs) (tuples_of is cs) ys (is_tuple_of is cs ys t.1))
 
+-- two lists that share nothing are distinct together
 Distinct-append : {A : Type 0} (xs ys : List A) → Distinct xs → Distinct ys
     → ((x : A) → Contains xs x → Contains ys x → ⊥) → Distinct (xs ++ ys)
 Distinct-append [] ys d e h = e
@@ -94,6 +101,7 @@ Distinct-append (x ∷ xs) ys d e h = (
   Distinct-append xs ys d.1 e (λ z a b. h z (contains_cons z xs x a) b),
 )
 
+-- so are many
 Distinct-flat_map : {A B : Type 0} (f : A → List B) (xs : List A) → Distinct xs → ((x : A) → Distinct (f x))
     → ((x y : A) (z : B) → Contains (f x) z → Contains (f y) z → x ≡ y) → Distinct (flat_map f xs)
 Distinct-flat_map f [] d e h = tt
@@ -102,14 +110,17 @@ Distinct-flat_map f (x ∷ xs) d e h =
     (λ z a b. let t = Contains-from_flat_map f xs z b in
     d.0 (subst (λ w. Contains xs w) (sym (h x t.0 z a t.2)) t.1))
 
+-- the first number of a list, or 0
 head_of : List ℕ → ℕ
 head_of [] = 0
 head_of (x ∷ xs) = x
 
+-- the numbers after the first
 tail_of : List ℕ → List ℕ
 tail_of [] = []
 tail_of (x ∷ xs) = xs
 
+-- no tuple stands twice
 pub Distinct-tuples_of : (is : List Instance) (cs : List ℕ) → Distinct (tuples_of is cs)
 unfolding head_of tail_of
 Distinct-tuples_of [] [] = (λ c. Contains-nil [] c, tt)
@@ -125,6 +136,7 @@ Distinct-tuples_of (i ∷ is) (c ∷ cs) =
 
 -- ---- of some categories at most one tuple is reached
 
+-- on lawful instances a tuple reaches one tuple of the categories at most
 pub tuple_once : (gs : List Graph) (is : List Instance) (cs xs ys zs : List ℕ) → AreLawful gs is
     → IsTupleOf is cs ys → IsTupleOf is cs zs → tuple_reaches is xs ys ≡ true → tuple_reaches is xs zs ≡ true → ys ≡ zs
 tuple_once [] [] [] xs [] [] w m n e f = refl

@@ -23,6 +23,7 @@ AreLegal [] [] = Unit {0}
 AreLegal (s ∷ ss) (i ∷ is) = IsLegal s i × AreLegal ss is
 AreLegal _ _ = ⊥
 
+-- the graph of each schema
 abbrev pub graphs_of : List Schema → List Graph
 graphs_of schemas = map (λ s. s.graph) schemas
 

@@ -16,8 +16,8 @@ pub fn one_cube_facts_views()
     ensures { OneCubeFactsViews }
 {}
 
-/// A target is summarizable exactly if no choice of a frozen dimension for each dimension, whose roots reach the target,
-/// reaches it by not exactly one source.
+/// A target is summarizable exactly if no choice of a frozen dimension for each dimension, whose roots reach the
+/// target, reaches it by not exactly one source.
 pub fn cube_summarizable_exactly_if_none_bad()
     ensures { CubeSummarizableExactlyIfNoneBad }
 {

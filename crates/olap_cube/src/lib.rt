@@ -1,8 +1,8 @@
 //! Facts at tuples of members, one of each dimension, and views of tuples of categories.
 //!
-//! The definitions (`specs/`) speak of lists of instances, one for each dimension, and take a tuple of members as a list.
-//! They know of no schema text and of no search.
-//! `Tuple` is a tuple of categories.
+//! The definitions (`specs/`) speak of lists of instances, one for each dimension, and take a tuple of members as a
+//! list; the functions are theorems over them. They know of no schema text and of no search. `Tuple`, a tuple of
+//! categories, is seen as the list of their numbers.
 #![tactic(auto)]
 
 mod laws;

@@ -24,12 +24,14 @@ use Rattle.olap_cube_cex.specs.Founds.{AreDrawn, AreFound, IsDrawn, IsFoundOf}
 
 -- ---- categories
 
+-- a tuple of categories has one of each dimension
 pub category_count : (ss : List Schema) (cs : List ℕ) → AreCategoriesOf ss cs → length cs ≡ length ss
 category_count [] [] a = refl
 category_count [] (c ∷ cs) a = absurd a
 category_count (s ∷ ss) [] a = absurd a
 category_count (s ∷ ss) (c ∷ cs) a = ap suc (category_count ss cs a.1)
 
+-- the category of one dimension is one of its schema
 pub category_at : (ss : List Schema) (cs : List ℕ) (i : ℕ) → AreCategoriesOf ss cs → i < length ss
     → IsCategory (get_or ss i no_schema).graph (get_or cs i 0)
 category_at [] cs i a l = absurd (omega arith)
@@ -62,12 +64,14 @@ founds_are (s ∷ ss) (c ∷ cs) [] a z = absurd a
 founds_are (s ∷ ss) (c ∷ cs) (f ∷ fs) a z =
     (record { target = c; chosen = a.0; sized = z.0 }, founds_are ss cs fs a.1 z.2)
 
+-- there is a frozen dimension of each dimension
 pub found_count : (ss : List Schema) (fs : List Found) → AreFound ss fs → length fs ≡ length ss
 found_count [] [] a = refl
 found_count [] (f ∷ fs) a = absurd a
 found_count (s ∷ ss) [] a = absurd a
 found_count (s ∷ ss) (f ∷ fs) a = ap suc (found_count ss fs a.1)
 
+-- that of one dimension is one of its schema
 found_at : (ss : List Schema) (fs : List Found) (i : ℕ) (d : Found) → AreFound ss fs → i < length ss
     → IsFoundOf (get_or ss i no_schema) (get_or fs i d)
 found_at [] fs i d a l = absurd (omega arith)
@@ -98,6 +102,7 @@ roots_there (s ∷ ss) (f ∷ fs) a = (a.0.chosen.bottom.0.1, roots_there ss fs 
 
 -- ---- what their categories reach
 
+-- there are rows of each dimension
 pub drawn_count : (ss : List Schema) (fs : List Found) (rooms : List Room) → AreDrawn ss fs rooms
     → (length fs ≡ length ss) × (length rooms ≡ length ss)
 drawn_count [] [] [] a = (refl, refl)
@@ -107,6 +112,7 @@ drawn_count (s ∷ ss) [] rs a = absurd a
 drawn_count (s ∷ ss) (f ∷ fs) [] a = absurd a
 drawn_count (s ∷ ss) (f ∷ fs) (r ∷ rs) a = let t = drawn_count ss fs rs a.1 in (ap suc t.0, ap suc t.1)
 
+-- those of one dimension are of its frozen dimension
 pub drawn_at : (ss : List Schema) (fs : List Found) (rooms : List Room) (i : ℕ) (d : Found) (e : Room)
     → AreDrawn ss fs rooms → i < length ss → IsDrawn (get_or ss i no_schema) (get_or fs i d) (get_or rooms i e)
 drawn_at [] fs rs i d e a l = absurd (omega arith)
@@ -115,6 +121,7 @@ drawn_at (s ∷ ss) (f ∷ fs) [] i d e a l = absurd a
 drawn_at (s ∷ ss) (f ∷ fs) (r ∷ rs) zero d e a l = a.0
 drawn_at (s ∷ ss) (f ∷ fs) (r ∷ rs) (suc i) d e a l = drawn_at ss fs rs i d e a.1 (omega arith)
 
+-- one dimension more at the end
 drawn_push : (ss : List Schema) (fs : List Found) (rooms : List Room) (s : Schema) (f : Found) (r : Room)
     → AreDrawn ss fs rooms → IsDrawn s f r → AreDrawn (ss ++ s ∷ []) (fs ++ f ∷ []) (rooms ++ r ∷ [])
 drawn_push [] [] [] s f r a d = (d, tt)
@@ -124,6 +131,7 @@ drawn_push (t ∷ ss) [] rs s f r a d = absurd a
 drawn_push (t ∷ ss) (h ∷ fs) [] s f r a d = absurd a
 drawn_push (t ∷ ss) (h ∷ fs) (q ∷ rs) s f r a d = (a.0, drawn_push ss fs rs s f r a.1 d)
 
+-- one dimension more
 pub drawn_more : (ss : List Schema) (fs : List Found) (rooms : List Room) (i : ℕ) (f : Found) (r : Room)
     → i < length ss → i < length fs → AreDrawn (take i ss) (take i fs) rooms
     → IsDrawn (get_or ss i no_schema) (get_or fs i f) r
@@ -134,12 +142,14 @@ drawn_more ss fs rooms i f r l m a d =
     (subst (λ ys. P (take i ss ++ get_or ss i no_schema ∷ []) ys) (sym (take_more fs i f m))
     (drawn_push (take i ss) (take i fs) rooms (get_or ss i no_schema) (get_or fs i f) r a d))
 
+-- after the last, all are drawn
 pub drawn_all : (ss : List Schema) (fs : List Found) (rooms : List Room) (i : ℕ) → length ss ≤ i → length fs ≤ i
     → AreDrawn (take i ss) (take i fs) rooms → AreDrawn ss fs rooms
 drawn_all ss fs rooms i l m a =
     subst (λ (xs : List Schema). AreDrawn xs fs rooms) (take_all i ss l)
     (subst (λ (ys : List Found). AreDrawn (take i ss) ys rooms) (take_all i fs m) a)
 
+-- all graphs are hierarchies
 pub hierarchies : (ss : List Schema) (fs : List Found) (rooms : List Room) → AreDrawn ss fs rooms
     → All IsHierarchy (graphs_of ss)
 hierarchies [] fs rs a k d l = absurd (omega arith)
@@ -150,6 +160,7 @@ hierarchies (s ∷ ss) (f ∷ fs) (r ∷ rs) a (suc k) d l = hierarchies ss fs r
 
 -- ---- the instance of a frozen dimension may be printed
 
+-- an implication is false only if its premise is true
 not_bad : (u b : Bool) → (not u || b) ≡ false → u ≡ true
 not_bad true b e = refl
 not_bad false b e = absurd (cc)
@@ -165,6 +176,7 @@ constant_is_utf8 s target texts c text h =
     (append-nil (flat_map (λ c. equalities c.formula) s.constraints)) f.0 in
     subst (λ w. IsTrue (is_utf8 w)) m.2 (not_bad (is_utf8 m.0.text) (list_any is_control m.0.text) (texts m.0 own))
 
+-- a frozen dimension of one dimension is one of its graph
 pub found_for : (s : Schema) (f : Found) → IsFoundOf s f
     → AreTexts (flat_map (λ c. equalities c.formula) s.constraints) → IsFoundFor s.graph f
 found_for s f t texts = record {

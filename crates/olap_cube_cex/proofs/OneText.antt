@@ -13,6 +13,7 @@ use Rattle.olap_instance.specs.Printing.{text_of_instance}
 use Rattle.olap_cube_cex.specs.CubeCexText.{cube_direct_sum, cube_sums_text, cube_views_sum, dimensions_text, number_line, roots_of}
 use Rattle.olap_cube_cex.specs.Laws.{OneChoiceHasOneText}
 
+-- frozen dimensions that can't be told apart have one line
 same_line : (g : Graph) (k h : Candidates) (r d : ℕ) (f w : Frozen) → r ≡ d → f ≡ w
     → ((c : ℕ) → name_in k f c ≡ name_in h w c) → frozen_text g k r f ≡ frozen_text g h d w
 same_line g k h r d f w q p n = λ i.
@@ -27,6 +28,7 @@ record IsTheSame (ss : List Schema) (ps qs : List Chosen) : Type 0 where
   roots : roots_of ss ps ≡ roots_of ss qs
   texts : (n : ℕ) → dimensions_text n ss ps ≡ dimensions_text n ss qs
 
+-- choices that can't be told apart have the same roots, instances and lines
 the_same : (ss : List Schema) (ps qs : List Chosen) → AreOneChoice ss ps qs → IsTheSame ss ps qs
 the_same [] [] [] a = record { bottoms = refl; instances = refl; roots = refl; texts = λ n. refl }
 the_same [] [] (q ∷ qs) a = absurd a
@@ -47,6 +49,7 @@ the_same (s ∷ ss) (p ∷ ps) (q ∷ qs) a =
       texts = λ n i. (number_line n ++ (line i ++ text_of_instance s.graph (instance i))) ++ rest.texts (n + 1) i;
     }
 
+-- so they have one text
 pub one_text : OneChoiceHasOneText
 one_text ss ps qs c sources a =
     let t = the_same ss ps qs a in

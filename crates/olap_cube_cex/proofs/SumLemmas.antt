@@ -46,9 +46,11 @@ only_roots (s ∷ ss) (c ∷ cs) (p ∷ ps) h a (x ∷ xs) m =
 
 -- ---- sums of ones
 
+-- no ones give no row, so there is no sum
 pub no_ones : (y : List ℕ) (n : ℕ) → n ≡ 0 → only_cube_sum (cons_option (cube_row_at y (ones n)) []) ≡ None
 no_ones y n e = ap (λ m. only_cube_sum (cons_option (cube_row_at y (ones m)) [])) e
 
+-- the sum of some ones is their number
 pub some_ones : (y : List ℕ) (n : ℕ) → n ≢ 0 → only_cube_sum (cons_option (cube_row_at y (ones n)) []) ≡ Some (pos n)
 some_ones y zero z = absurd (z refl)
 some_ones y (suc n) z = refl
@@ -59,6 +61,7 @@ pub record HasSums (is : List Instance) (x c : List ℕ) (sources : List (List �
   pub direct : cube_direct_sum is x c ≡ Some (pos 1)
   pub views : cube_views_sum is x c sources ≡ only_cube_sum (cons_option (cube_row_at row (ones n)) [])
 
+-- both sums of one fact, by the number of sources that are ways
 pub sums_are : (ss : List Schema) (c : List ℕ) (ps : List Chosen) → AreChosen ss c ps → (x : List ℕ)
     → IsTupleOf (instances_of ss ps) (bottoms_of ps) x → (sources : List (List ℕ)) (n : ℕ)
     → HoldsTimes (λ t. TupleReachesVia (instances_of ss ps) x t c) sources n
@@ -92,6 +95,7 @@ text_is ss cs sources fs rooms found drawn n ways views views_are =
 
 -- ---- the law
 
+-- those of a bad choice differ
 pub sums_differ : BadChoicesHaveTwoSums → CubeCounterexampleSumsDiffer
 sums_differ law ss c sources ps h b =
     law ss c sources ps (record {

@@ -13,6 +13,7 @@ use Rattle.olap_cube_cex.specs.CubeCexText.{dimension_text, dimensions_text, nam
 
 -- ---- dimensions
 
+-- the text of the first dimensions, and of one more
 dimensions_at : (n : ℕ) (ss : List Schema) (fs : List Found) (i : ℕ) (d : Found) → i < length ss → i < length fs
     → dimensions_text n (take (i + 1) ss) (map chosen_of (take (i + 1) fs))
     ≡ dimensions_text n (take i ss) (map chosen_of (take i fs))
@@ -33,6 +34,7 @@ dimensions_at n (s ∷ ss) (f ∷ fs) (suc i) d l m =
     (dimensions_text (n + 1) (take i ss) (map chosen_of (take i fs)))
     (dimension_text (suc i + n) (get_or ss i no_schema) (chosen_of (get_or fs i d))))
 
+-- one dimension more in what was printed
 pub dimensions_more : (ss : List Schema) (fs : List Found) (i : ℕ) (d : Found) (before old new : List ℕ)
     → i < length ss → i < length fs → old ≡ before ++ dimensions_text 1 (take i ss) (map chosen_of (take i fs))
     → new ≡ old ++ dimension_text (i + 1) (get_or ss i no_schema) (chosen_of (get_or fs i d))
@@ -43,6 +45,7 @@ dimensions_more ss fs i d before old new l m e p =
     ∙ append_assoc before (dimensions_text 1 (take i ss) (map chosen_of (take i fs))) here
     ∙ ap (λ t. before ++ t) (sym (dimensions_at 1 ss fs i d l m))
 
+-- after the last, it is the text of all
 pub dimensions_all : (ss : List Schema) (fs : List Found) (i : ℕ) → length ss ≤ i → length fs ≤ i
     → dimensions_text 1 (take i ss) (map chosen_of (take i fs)) ≡ dimensions_text 1 ss (map chosen_of fs)
 dimensions_all ss fs i l m =
@@ -51,6 +54,7 @@ dimensions_all ss fs i l m =
 
 -- ---- names
 
+-- there is a name for each dimension
 pub names_count : (ss : List Schema) (cs : List ℕ) → AreCategoriesOf ss cs
     → length (names_of (graphs_of ss) cs) ≡ length ss
 names_count [] [] a = refl
@@ -58,6 +62,7 @@ names_count [] (c ∷ cs) a = absurd a
 names_count (s ∷ ss) [] a = absurd a
 names_count (s ∷ ss) (c ∷ cs) a = ap suc (names_count ss cs a.1)
 
+-- the name of one dimension's category
 pub name_at : (ss : List Schema) (cs : List ℕ) (i : ℕ) → AreCategoriesOf ss cs → i < length ss
     → get_or (names_of (graphs_of ss) cs) i [] ≡ name_of_category (get_or ss i no_schema).graph (get_or cs i 0)
 name_at [] cs i a l = absurd (omega arith)

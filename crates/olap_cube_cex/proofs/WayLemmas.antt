@@ -95,6 +95,7 @@ pub record IsWayAt (ss : List Schema) (fs : List Found) (f : Found) (room : Room
   pub ways : (d : Found) → IsWay room.rows.items f.frozen.root.0 (get_or c i 0) (get_or t i 0)
       ↔ ReachesBy (get_or ss i no_schema) (get_or fs i d) (get_or t i 0) (get_or c i 0)
 
+-- by the rows of one dimension, whether its category of the source is a way
 pub way_at : (ss : List Schema) (fs : List Found) (rooms : List Room) (t c : List ℕ) (i : ℕ) (f : Found) (room : Room)
     → AreDrawn ss fs rooms → AreCategoriesOf ss t → i < length ss → f ≡ get_or fs i f → room ≡ get_or rooms i room
     → IsWayAt ss fs f room t c i
@@ -144,12 +145,14 @@ all_reach (s ∷ ss) (f ∷ fs) (t ∷ ts) (c ∷ cs) a b e h = (
 
 -- ---- counting from the front
 
+-- one item more of which it holds
 pub holds_more : {A : Type 0} (P : A → Type 0) (xs : List A) (n : ℕ) (y : A) → HoldsTimes P xs n → P y
     → HoldsTimes P (xs ++ y ∷ []) (n + 1)
 holds_more P [] n y e h = inl (h, n, omega arith, e)
 holds_more P (x ∷ xs) n y (inl t) h = inl (t.0, t.1 + 1, omega (arith, t.2), holds_more P xs t.1 y t.3 h)
 holds_more P (x ∷ xs) n y (inr t) h = inr (t.0, holds_more P xs n y t.1 h)
 
+-- one item more of which it doesn't hold
 pub holds_same : {A : Type 0} (P : A → Type 0) (xs : List A) (n : ℕ) (y : A) → HoldsTimes P xs n → (P y → ⊥)
     → HoldsTimes P (xs ++ y ∷ []) n
 holds_same P [] n y e h = inr (h, e)

@@ -18,7 +18,7 @@ pub record IsFoundOf (s : Schema) (f : Found) : Type 0 where
   pub chosen : IsChosen s target (chosen_of f)
   pub sized : IsSized s.graph f.candidates f.frozen.edges f.frozen.names
 
--- of each dimension
+-- so it is of each dimension
 abbrev pub AreFound : List Schema → List Found → Type 0
 AreFound [] [] = Unit {0}
 AreFound (s ∷ ss) (f ∷ fs) = IsFoundOf s f × AreFound ss fs
@@ -31,7 +31,7 @@ pub record IsDrawn (s : Schema) (f : Found) (room : Room) : Type 0 where
   pub count : length room.rows.items ≡ category_count s.graph
   pub rows : AreRows s.graph (chosen s.graph.edges f.frozen.edges) room.rows.items
 
--- of each dimension
+-- so it is of each dimension
 abbrev pub AreDrawn : List Schema → List Found → List Room → Type 0
 AreDrawn [] [] [] = Unit {0}
 AreDrawn (s ∷ ss) (f ∷ fs) (r ∷ rs) = IsDrawn s f r × AreDrawn ss fs rs

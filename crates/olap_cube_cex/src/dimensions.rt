@@ -16,7 +16,7 @@ use olap_instance::print_instance;
 use olap_schema::Schema;
 use std::alloc::Global;
 
-// Appends the line of a dimension's number.
+/// Appends the line of a dimension's number.
 fn push_number(alloc: Global, out: &mut Vec<u8>, number: usize) -> Result<(), Memory>
     ensures { OnOk result (out.new.items ≡ out.old.items ++ number_line number) }
 {
@@ -27,7 +27,7 @@ fn push_number(alloc: Global, out: &mut Vec<u8>, number: usize) -> Result<(), Me
     Ok(())
 }
 
-// The instance of a frozen dimension.
+/// The instance of a frozen dimension.
 fn instance_lines(alloc: Global, schema: &Schema, found: &Found) -> Result<Text, Memory>
     requires { IsFoundOf (schema_of schema.now) found.now }
     ensures { let s = schema_of schema.now in
@@ -42,7 +42,7 @@ fn instance_lines(alloc: Global, schema: &Schema, found: &Found) -> Result<Text,
     Ok(text)
 }
 
-// Appends the line of a dimension's number, the line of its frozen dimension, and its instance.
+/// Appends the line of a dimension's number, the line of its frozen dimension, and its instance.
 fn push_dimension(
     alloc: Global,
     out: &mut Vec<u8>,

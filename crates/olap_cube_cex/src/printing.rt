@@ -21,7 +21,7 @@ use olap_dimensions::{Cube, CubeFound};
 use olap_frozen::Found;
 use std::alloc::Global;
 
-// Appends a name, after a comma where it isn't the first.
+/// Appends a name, after a comma where it isn't the first.
 fn push_name(out: &mut Vec<u8>, is_first: bool, name: &[u8]) -> Result<(), Memory>
     ensures { OnOk result (out.new.items ≡ out.old.items ++ (if is_first then name.now else 44 ∷ name.now)) }
 {
@@ -34,7 +34,7 @@ fn push_name(out: &mut Vec<u8>, is_first: bool, name: &[u8]) -> Result<(), Memor
     Ok(())
 }
 
-// The categories' names, with commas between them.
+/// The categories' names, with commas between them.
 fn names(alloc: Global, cube: &Cube, categories: &[CatId]) -> Result<Vec<u8>, Memory>
     requires { AreCategoriesOf (schemas_of cube.now) (map (λ c. c.0) categories.now) }
     ensures { IfOk result (λ names. names.items
@@ -48,7 +48,7 @@ fn names(alloc: Global, cube: &Cube, categories: &[CatId]) -> Result<Vec<u8>, Me
     Ok(names)
 }
 
-// The categories of the roots.
+/// The categories of the roots.
 fn roots(alloc: Global, founds: &[Found]) -> Result<Vec<CatId>, Memory>
     ensures { IfOk result (λ roots. roots.items ≡ map (λ f. f.frozen.root) founds.now) }
 {
@@ -56,7 +56,7 @@ fn roots(alloc: Global, founds: &[Found]) -> Result<Vec<CatId>, Memory>
     Ok(roots)
 }
 
-// Their names.
+/// Their names.
 fn root_names(alloc: Global, cube: &Cube, founds: &[Found]) -> Result<Vec<u8>, Memory>
     requires { AreFound (schemas_of cube.now) founds.now }
     ensures { IfOk result (λ names. names.items
@@ -67,7 +67,7 @@ fn root_names(alloc: Global, cube: &Cube, founds: &[Found]) -> Result<Vec<u8>, M
     Ok(names)
 }
 
-// The SUM of so many ones, if there are any.
+/// The SUM of so many ones, if there are any.
 fn sum_of(ways: u64) -> Option<u64>
     ensures { (row : Items ℕ) → option_map pos result ≡ only_cube_sum (cons_option (cube_row_at row (ones ways)) []) }
 {
@@ -77,7 +77,7 @@ fn sum_of(ways: u64) -> Option<u64>
     Some(ways)
 }
 
-// Appends the lines of the fact and of its two sums at the target.
+/// Appends the lines of the fact and of its two sums at the target.
 fn push_sums(
     alloc: Global,
     out: &mut Vec<u8>,
@@ -95,7 +95,7 @@ fn push_sums(
     Ok(())
 }
 
-// The lines of a choice, with that SUM from the sources.
+/// The lines of a choice, with that SUM from the sources.
 fn lines(
     alloc: Global,
     cube: &Cube,

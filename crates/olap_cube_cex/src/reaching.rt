@@ -16,7 +16,7 @@ use olap_graph::{Categories, row_has};
 use olap_schema::Schema;
 use std::alloc::Global;
 
-// What each category reaches in a frozen dimension.
+/// What each category reaches in a frozen dimension.
 fn drawn(alloc: Global, schema: &Schema, found: &Found) -> Result<Room, Memory>
     requires { IsFoundOf (schema_of schema.now) found.now }
     ensures { IfOk result (IsDrawn (schema_of schema.now) found.now) }
@@ -44,7 +44,7 @@ pub(crate) fn drawn_of_each(
     Ok(rooms)
 }
 
-// Whether the root reaches the source, and the source the target.
+/// Whether the root reaches the source, and the source the target.
 fn is_way(rows: &[Categories], root: CatId, source: CatId, target: CatId) -> bool
     requires root { root.0 < length rows.now }
     requires source { source.0 < length rows.now }
@@ -53,7 +53,7 @@ fn is_way(rows: &[Categories], root: CatId, source: CatId, target: CatId) -> boo
     row_has(rows, root.0, source.0) && row_has(rows, source.0, target.0)
 }
 
-// Whether the root of the i-th dimension reaches the target by the source.
+/// Whether the root of the i-th dimension reaches the target by the source.
 fn reaches_at(
     cube: &Cube,
     founds: &[Found],
@@ -78,7 +78,7 @@ fn reaches_at(
     is_way(&room.rows, found.frozen.root, from[i], to[i])
 }
 
-// Whether the roots reach the target by the source, in every dimension.
+/// Whether the roots reach the target by the source, in every dimension.
 fn reach_by(cube: &Cube, founds: &[Found], rooms: &[Room], source: &Tuple, target: &Tuple) -> bool
     requires drawn { AreDrawn (schemas_of cube.now) founds.now rooms.now }
     requires source { AreCategoriesOf (schemas_of cube.now) (tuple_of source.now) }

@@ -8,6 +8,7 @@ use Rattle.olap_base.specs.Views.{ExactlyOne, NoneOf}
 
 -- ---- decisions
 
+-- whether two are equivalent can be decided
 pub dec_both : {A B : Type 0} → Dec A → Dec B → Dec (A ↔ B)
 dec_both (yes a) (yes b) = yes (λ x. b, λ y. a)
 dec_both (yes a) (no m) = no (λ e. m (e.0 a))
@@ -29,9 +30,11 @@ dec_below P d (suc n) = go (d n) (dec_below P d n)
     go (no f) h = no (λ g. f (g n (omega arith)))
     go (yes p) (no f) = no (λ g. f (λ k l. g k (omega arith)))
 
+-- whether a number is less can be decided
 pub dec_less : (m n : ℕ) → Dec (m < n)
 dec_less m n = dec_iff (λ l. omega arith) (λ l. omega arith) (dec_le (suc m) n)
 
+-- whether a test is true can be decided
 pub dec_true : (b : Bool) → Dec (b ≡ true)
 dec_true true = yes refl
 dec_true false = no (λ e. let z : false ≡ true = e in cc)
@@ -73,6 +76,7 @@ module _ {A : Type 0} (f g : A → Bool) (less : (x : A) → f x ≡ true → g 
 
 -- ---- exactly one
 
+-- none of the items, so none of their places
 none_over : {A : Type 0} (P : A → Type 0) (Q : ℕ → Type 0) (d : A) (ts : List A) (a : ℕ)
     → ((k : ℕ) → k < length ts → Q (a + k) → P (slice_index_or ts k d)) → NoneOf P ts
     → NoneOf Q (range_with_len a (length ts))
@@ -83,6 +87,7 @@ none_over P Q d (t ∷ ts) a h o = (
       (λ k l q. h (suc k) (omega arith) (subst Q (let z : a + 1 + k ≡ a + suc k = omega arith in z) q)) o.1,
 )
 
+-- none of the places, so none of the items
 none_back : {A : Type 0} (P : A → Type 0) (Q : ℕ → Type 0) (d : A) (ts : List A) (a : ℕ)
     → ((k : ℕ) → k < length ts → P (slice_index_or ts k d) → Q (a + k)) → NoneOf Q (range_with_len a (length ts))
     → NoneOf P ts

@@ -18,9 +18,11 @@ use Rattle.olap_cube_summ.specs.Questions.{sources_in, target_in}
 use Rattle.olap_cube_summ.proofs.BelowLemmas.{one_below}
 use Rattle.olap_cube_summ.proofs.PatternLemmas.{AreSame, bad_too, has_both, pattern_too, same_back, same_itself, same_met, same_patterns, width}
 
+-- the schema of each dimension
 abbrev pub schemas_in : List Dimension → List Schema
 schemas_in ds = map (λ d. d.schema) ds
 
+-- the target in each dimension
 abbrev pub targets_in : List Dimension → List ℕ
 targets_in ds = map (λ d. target_in d.question) ds
 
@@ -28,13 +30,16 @@ targets_in ds = map (λ d. target_in d.question) ds
 abbrev pub row_in : ℕ → List Dimension → List ℕ
 row_in k ds = map (λ d. slice_index (sources_in d.question) k) ds
 
+-- the bottom category of each dimension's family
 abbrev pub bottoms_in : List Dimension → List ℕ
 bottoms_in ds = map (λ d. d.family.bottom.0) ds
 
+-- the first of a list, or another
 first_of : {A : Type 0} → A → List A → A
 first_of d [] = d
 first_of d (x ∷ xs) = x
 
+-- what follows the first
 rest_of : {A : Type 0} → List A → List A
 rest_of [] = []
 rest_of (x ∷ xs) = xs

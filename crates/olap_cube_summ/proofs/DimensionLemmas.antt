@@ -17,6 +17,7 @@ use Rattle.olap_cube_summ.proofs.ChoiceLemmas.{schemas_in}
 
 -- ---- what the lists have in common
 
+-- dimensions have the schemas of which they were made
 pub schemas_are : (ss : List Schema) (qs : List Question) (fs : List Family) → length qs ≡ length ss
     → length fs ≡ length ss → schemas_in (dimensions_of ss qs fs) ≡ ss
 schemas_are [] qs fs a b = refl
@@ -24,6 +25,7 @@ schemas_are (s ∷ ss) [] fs a b = absurd (omega arith)
 schemas_are (s ∷ ss) (q ∷ qs) [] a b = absurd (omega arith)
 schemas_are (s ∷ ss) (q ∷ qs) (f ∷ fs) a b = let e = schemas_are ss qs fs (omega arith) (omega arith) in λ i. s ∷ e i
 
+-- and the questions
 pub questions_are : {A : Type 0} (g : Question → A) (ss : List Schema) (qs : List Question) (fs : List Family)
     → length qs ≡ length ss → length fs ≡ length ss
     → map (λ (d : Dimension). g d.question) (dimensions_of ss qs fs) ≡ map g qs
@@ -34,6 +36,7 @@ questions_are g (s ∷ ss) (q ∷ qs) [] a b = absurd (omega arith)
 questions_are g (s ∷ ss) (q ∷ qs) (f ∷ fs) a b =
     let e = questions_are g ss qs fs (omega arith) (omega arith) in λ i. g q ∷ e i
 
+-- and the families
 pub families_are : {A : Type 0} (g : Family → A) (ss : List Schema) (qs : List Question) (fs : List Family)
     → length qs ≡ length ss → length fs ≡ length ss
     → map (λ (d : Dimension). g d.family) (dimensions_of ss qs fs) ≡ map g fs
@@ -66,6 +69,7 @@ dimension_taken ss qs fs i s q f a b l x y z = at ss qs fs i a b l x y z
 
 -- ---- families of all dimensions
 
+-- there is a family for each dimension
 of_count : (fss : List (List Family)) (fs : List Family) → AreOf fss fs → length fs ≡ length fss
 of_count [] [] o = refl
 of_count [] (f ∷ fs) o = absurd o
@@ -100,6 +104,7 @@ are_dimensions n ss qs fss fs q c f o =
         (go ss qs fss fs (omega arith) (omega arith) o.1 (λ i l. q (suc i) (omega arith)) (λ i l. c (suc i) (omega arith))
         (λ i l. f (suc i) (omega arith)))
 
+-- the same, by the schemas
 pub of_length : (ss : List Schema) (qs : List Question) (fss : List (List Family)) (fs : List Family)
     → AreFamiliesOf ss qs fss → AreOf fss fs → length fs ≡ length ss
 of_length ss qs fss fs f o = of_count fss fs o ∙ f.count

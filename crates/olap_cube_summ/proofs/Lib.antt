@@ -1,6 +1,7 @@
 -- Lemmas.
 mod BelowLemmas
 mod SearchLemmas
+mod AskingLemmas
 mod PatternLemmas
 mod ChoiceLemmas
 mod DimensionLemmas

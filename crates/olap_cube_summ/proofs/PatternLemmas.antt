@@ -25,9 +25,11 @@ use Rattle.olap_cube_summ.proofs.BelowLemmas.{one_below}
 abbrev pub AreSame : ℕ → ℕ → ℕ → Type 0
 AreSame n m w = (k : ℕ) → k < n → Has m k ↔ Has w k
 
+-- a mask has the sources that it has
 pub same_itself : (n m : ℕ) → AreSame n m m
 same_itself n m k l = (λ h. h, λ h. h)
 
+-- what two masks share they share either way
 pub same_back : (n m w : ℕ) → AreSame n m w → AreSame n w m
 same_back n m w s k l = ((s k l).1, (s k l).0)
 
@@ -36,12 +38,14 @@ pub has_both : (m p k : ℕ) → Has (bit_and m p) k ↔ (Has m k × Has p k)
 has_both m p k = let e = bit_at_and m p k in let a = bit_at-lt m k in let b = bit_at-lt p k in
     (λ h. (omega arith, omega arith), λ t. let u = t.0 in let v = t.1 in omega arith)
 
+-- masks with the same sources, met with patterns with the same, have the same
 pub same_met : (n m w p r : ℕ) → AreSame n m w → AreSame n p r → AreSame n (bit_and m p) (bit_and w r)
 same_met n m w p r s t k l = (
   λ h. let u = (has_both m p k).0 h in (has_both w r k).1 ((s k l).0 u.0, (t k l).0 u.1),
   λ h. let u = (has_both w r k).0 h in (has_both m p k).1 ((s k l).1 u.0, (t k l).1 u.1),
 )
 
+-- a mask with the same sources can be bad too
 pub bad_too : (n : ℕ) (sets : List (CatSet 4)) (m w : ℕ) → AreSame n m w → CanBeBad n sets m → CanBeBad n sets w
 bad_too n [] m w s b = λ o. b (one_below (Has w) (Has m) n (same_back n m w s) o)
 bad_too n (t ∷ sets) m w s b =
@@ -53,6 +57,7 @@ has_all n k l = bit_at_ones n k l
 
 -- ---- patterns
 
+-- a question has as many sources by number
 pub width : (q : Question) (n : ℕ) → length q.sources ≡ n → length (sources_in q) ≡ n
 width q n e = length-map q.sources (λ (x : CatId). x.0) ∙ e
 

@@ -21,6 +21,7 @@ use Rattle.olap_cube_summ.specs.declared.questions.Question.{Question}
 use Rattle.olap_cube_summ.proofs.AnswerLemmas.{none_bad}
 use Rattle.olap_cube_summ.proofs.BelowLemmas.{below_suc}
 
+-- an item doesn't depend on what would stand where there is none
 same_item : {A : Type 0} (xs : List A) (k : ℕ) (d e : A) → k < length xs → get_or xs k d ≡ get_or xs k e
 same_item [] k d e l = absurd (omega arith)
 same_item (x ∷ xs) zero d e l = refl
@@ -35,6 +36,7 @@ as_many [] (c ∷ cs) a = absurd a
 as_many (s ∷ ss) [] a = absurd a
 as_many (s ∷ ss) (c ∷ cs) a = let e = as_many ss cs a.1 in omega arith
 
+-- the category of a tuple in a dimension is one of its schema
 category_at : (ss : List Schema) (cs : List ℕ) → AreCategoriesOf ss cs → (i : ℕ) → i < length ss
     → IsCategory (slice_index_or ss i no_schema).graph (slice_index cs i)
 category_at [] cs a i l = absurd (omega arith)
@@ -89,6 +91,7 @@ families_next ss qs i all next new s q l x y n made a before j m = elim (below_s
         (subst (λ w. AreFamilies w (slice_index_or qs i no_question) new) x
         (subst (λ w. AreFamilies s w new) (y ∙ same_item qs i q no_question l) a))
 
+-- one schema more that is valid
 pub valid_next : (ss : List Schema) (i : ℕ) (s : Schema) → s ≡ slice_index_or ss i no_schema → IsValidSchema s
     → ((j : ℕ) → j < i → IsValidSchema (slice_index_or ss j no_schema)) → (j : ℕ) → j < i + 1
     → IsValidSchema (slice_index_or ss j no_schema)
@@ -97,6 +100,7 @@ valid_next ss i s e v before j l = elim (below_suc j i (omega arith)) [
   | inr q ↦ subst (λ w. IsValidSchema (slice_index_or ss w no_schema)) (sym q) (subst IsValidSchema e v)
 ]
 
+-- after the last all are
 pub all_valid : (ss : List Schema) (i : ℕ) → length ss ≤ i
     → ((j : ℕ) → j < i → IsValidSchema (slice_index_or ss j no_schema)) → All IsValidSchema ss
 all_valid ss i n v k d l = subst IsValidSchema (same_item ss k no_schema d l) (v k (omega arith))
@@ -118,6 +122,7 @@ all_ordered ss qs fss f k d l = subst IsOrdered (same_item fss k [] d l) (f.each
 
 -- ---- where no choice is bad
 
+-- that all sources can be bad in no families is: the target is summarizable
 pub summarizable_is : CubeSummarizableExactlyIfNoneBad → (ss : List Schema) (c : List ℕ) (sources : List (List ℕ))
     (qs : List Question) (fss : List (List Family)) → AreQuestions c sources qs → AreQuestionsOf ss qs
     → AreFamiliesOf ss qs fss → All IsValidSchema ss → (n : ℕ) → length sources ≡ n

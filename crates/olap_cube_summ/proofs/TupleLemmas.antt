@@ -13,9 +13,11 @@ use Rattle.olap_cube_summ.specs.declared.questions.Question.{Question}
 
 -- ---- tuples
 
+-- a category by its number
 abbrev category_of_number : ℕ → CatId
 category_of_number n = record { 0 = n }
 
+-- categories are those of their numbers
 back : (xs : List CatId) → map category_of_number (map (λ c. c.0) xs) ≡ xs
 back [] = refl
 back (x ∷ xs) = ap (λ w. x ∷ w) (back xs)
@@ -24,6 +26,7 @@ back (x ∷ xs) = ap (λ w. x ∷ w) (back xs)
 pub same_by_numbers : (xs ys : List CatId) → map (λ (c : CatId). c.0) xs ≡ map (λ (c : CatId). c.0) ys → xs ≡ ys
 same_by_numbers xs ys e = sym (back xs) ∙ ap (map category_of_number) e ∙ back ys
 
+-- the test of two categories
 pub same_category : (a b : CatId) → Decides (eqb a.0 b.0) (a ≡ b)
 same_category a b = let d = Decides-eqb a.0 b.0 in (
   λ e. (let q = d.0 e in λ i. record { 0 = q i }),
@@ -43,6 +46,7 @@ kept_at P ts k t l e all = subst P (tuple_at ts k t l e)
 
 -- ---- questions
 
+-- an item doesn't depend on what would stand where there is none
 same_item : {A : Type 0} (xs : List A) (k : ℕ) (d e : A) → k < length xs → get_or xs k d ≡ get_or xs k e
 same_item [] k d e l = absurd (omega arith)
 same_item (x ∷ xs) zero d e l = refl

@@ -102,5 +102,6 @@ pub way_at : (sources items : List CatId) → items ≡ sources → (k : ℕ) (d
 way_at sources items e k d l b i x c told = subst (λ w. IsTrue b ↔ ReachesVia i x w c)
     (ap (λ (w : List CatId). (get_or w k d).0) e ∙ sym (get_or-map (λ (y : CatId). y.0) sources k d 0 l)) told
 
+-- what fits k bits fits one bit more
 pub more_room : (m k : ℕ) → m < 2 ^ k → m < 2 ^ (k + 1)
 more_room m k l = let p : 2 ^ k ≤ 2 ^ (k + 1) = pow_mono (let z : k ≤ k + 1 = omega arith in z) in omega arith

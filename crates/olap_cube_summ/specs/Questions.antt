@@ -1,4 +1,4 @@
--- What is asked of the dimensions of a cube.
+-- Questions about the dimensions of a cube.
 --     IsQuestionOf    a question has categories of a schema
 --     AreQuestionsOf  of each dimension one of its schema
 --     AreQuestions    together they ask for a target and sources
@@ -10,9 +10,11 @@ use Rattle.olap_dimensions.specs.Dimensions.{no_schema}
 use Rattle.olap_ast.specs.Trees.{numbers_of}
 use Rattle.olap_cube_summ.specs.declared.questions.Question.{Question}
 
+-- the target in one dimension
 abbrev pub target_in : Question → ℕ
 target_in q = q.target.0
 
+-- the sources in one dimension
 abbrev pub sources_in : Question → List ℕ
 sources_in q = numbers_of q.sources
 

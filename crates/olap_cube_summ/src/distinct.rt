@@ -1,4 +1,4 @@
-// Whether a source stands twice.
+// The test whether a source stands twice.
 ghost use Rattle.std.specs.Prelude.{◌≡◌, ◌≢◌, ◌<◌, ◌↔◌, [], ℕ, AllPairs, IsTrue, length, slice_index_or};
 ghost use Rattle.olap_cube.specs.Told.{tuple_of, tuples_in};
 

@@ -1,4 +1,4 @@
-// What is asked of each dimension.
+// Questions, one of each dimension.
 ghost use Rattle.std.specs.Prelude.{◌≡◌, ◌<◌, All, IfOk, length, slice_index};
 ghost use Rattle.olap_cube.specs.Told.{tuple_of, tuples_in};
 ghost use Rattle.olap_cube_summ.specs.Questions.{AreQuestions, IsColumn};

@@ -1,4 +1,4 @@
-// Which tuples of categories can be computed from others.
+// Tuples of categories that can be computed from others.
 ghost use Rattle.std.specs.Prelude.{◌≡◌, ◌≢◌, ◌<◌, ◌≤◌, ◌↔◌, All, AllPairs, Err, IfOk, IfSome, IsNone, length};
 ghost use Rattle.olap_ast.specs.Valid.{IsValidSchema};
 ghost use Rattle.olap_base.specs.Limits.{most_views};

@@ -33,6 +33,7 @@ tuple_members (i ∷ is) [] ys t = absurd t
 tuple_members (i ∷ is) (c ∷ cs) [] t = absurd t
 tuple_members (i ∷ is) (c ∷ cs) (y ∷ ys) t = (t.0.0, tuple_members is cs ys t.1)
 
+-- there is a member for each instance
 pub members_length : (is : List Instance) (xs : List ℕ) → AreMembers is xs → length xs ≡ length is
 members_length [] [] m = refl
 members_length [] (x ∷ xs) m = absurd m
@@ -75,7 +76,7 @@ module _ (columns : List Ascent) (members : List MemberId) where
   abbrev pub StandIn : List Ascent → List MemberId → Type 0
   StandIn ups ms = AreMembers (instances_in ups) (members_of ms)
 
-  -- the key has the members reached in the first k dimensions; what is reached in the others goes behind them
+  -- the key has the members reached in the first k dimensions; what is reached in the others goes after them
   pub record KeySoFar (k : ℕ) (key : List ℕ) : Type 0 where
     pub tuple : List ℕ
     pub size : length tuple ≡ k

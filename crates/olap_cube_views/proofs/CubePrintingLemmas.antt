@@ -1,6 +1,6 @@
 -- Printing a cube's view row by row, and reading its text back.
 --     ids_more, ids_end    the ids of a row's members, one more, and all of them
---     members_from         the members from one on; four_more, four_same: four items behind others
+--     members_from         the members from one on; four_more, four_same: four items after others
 --     cube_view_more       one row more
 --     cube_view_reads      the text reads back
 use Rattle.std.proofs.Common.{◌≡◌, ℕ, zero, suc, ◌+◌, ◌<◌, ◌≤◌, ◌++◌, ◌∷◌, ◌∙◌, List, [], length, map, take, drop, get_or, arith, refl, sym, ap, subst, append_assoc, append-nil, length-append}
@@ -21,7 +21,7 @@ use Rattle.olap_cube_views.specs.declared.views.CubeRow as told
 -- ---- the ids of a row's members
 
 module _ (is : List Instance) (ys : List ℕ) where
-  -- these are the first k ids; the others go behind them
+  -- these are the first k ids; the others go after them
   pub record IdsSoFar (k : ℕ) (ids : List (List ℕ)) : Type 0 where
     pub all : ids ++ ids_in (drop k is) (drop k ys) ≡ ids_in is ys
     pub inside : AreMembers (drop k is) (drop k ys)
@@ -90,7 +90,7 @@ cube_view_more top fields rows k d out new l eo en =
     ∙ sym (texts-push (top ∷ before) (fields (cube_row_of row)))
     ∙ ap (λ (t : List (List (List ℕ))). text_of_rows (top ∷ t)) (sym more)
 
--- each record has a field, where the first has and those behind it have
+-- each record has a field, where the first has and those after it have
 all-full : (top : List (List ℕ)) (rows : List (List (List ℕ))) → 0 < length top → All (λ r. 0 < length r) rows
     → All (λ r. 0 < length r) (top ∷ rows)
 all-full top rows h t zero d l = h
@@ -101,10 +101,12 @@ header-full : (k : ℕ) → 0 < length (header k)
 header-full zero = omega arith
 header-full (suc k) = omega arith
 
+-- no printed view begins with a byte order mark
 no-mark : (k : ℕ) (rows : List (List (List ℕ))) → get_or (text_of_rows (header k ∷ rows)) 0 0 ≡ 239 → ⊥
 no-mark zero rows e = absurd (omega arith)
 no-mark (suc k) rows e = absurd (omega arith)
 
+-- each record has a field
 fields-full : (is : List Instance) (r : CubeRow) → 0 < length (fields_in is r)
 fields-full is r = omega (arith, length-append (ids_in is r.members) (numbers_of r.summary))
 

@@ -35,12 +35,14 @@ use Rattle.olap_cube_views.specs.Dimensions.{AreMadeFor}
 use Rattle.olap_cube_views.specs.Seen.{cube_fact_of, members_of}
 use Rattle.olap_cube_views.specs.declared.tables.CubeFact as told
 
+-- there is a graph for each instance
 pub made_length : (gs : List Graph) (is : List Instance) → AreMadeFor gs is → length gs ≡ length is
 made_length [] [] m = refl
 made_length [] (i ∷ is) m = absurd m
 made_length (g ∷ gs) [] m = absurd m
 made_length (g ∷ gs) (i ∷ is) m = ap suc (made_length gs is m.1)
 
+-- a tuple of members of bottom categories is one of members
 pub bottom_members : (gs : List Graph) (is : List Instance) (xs : List ℕ) → IsBottomTuple gs is xs → AreMembers is xs
 bottom_members [] [] [] b = tt
 bottom_members [] [] (x ∷ xs) b = absurd b
@@ -52,7 +54,7 @@ bottom_members (g ∷ gs) (i ∷ is) (x ∷ xs) b = (b.0, bottom_members gs is x
 -- ---- the members of a record
 
 module _ (gs : List Graph) (is : List Instance) (row : List (List ℕ)) where
-  -- the first k fields have no fault and name these members; what the others say goes behind it
+  -- the first k fields have no fault and name these members; what the others say goes after it
   pub record MembersSoFar (k : ℕ) (xs : List ℕ) : Type 0 where
     pub faults : members_fault gs is row ≡ members_fault (drop k gs) (drop k is) (drop k row)
     pub read : members_read is row ≡ xs ++ members_read (drop k is) (drop k row)
@@ -135,6 +137,7 @@ cube_facts_more is seen r fs f e q =
     map-append cube_fact_of fs (f ∷ []) ∙ ap (λ (t : List CubeFact). t ++ cube_fact_of f ∷ []) e
     ∙ ap (λ (t : CubeFact). map (cube_fact_read is) seen ++ t ∷ []) q ∙ sym (map-append (cube_fact_read is) seen (r ∷ []))
 
+-- no facts are a fact table
 pub cube_table_none : (gs : List Graph) (is : List Instance) → IsCubeFactTable gs is []
 cube_table_none gs is f c = absurd (Contains-nil f c)
 

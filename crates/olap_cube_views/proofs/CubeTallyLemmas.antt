@@ -48,6 +48,7 @@ use Rattle.olap_cube_views.proofs.RowLemmas.{rows_are}
 
 -- ---- totals
 
+-- the values at a tuple, with one fact more
 values_push : (is : List Instance) (fs : List CubeFact) (f : CubeFact) (y : List ℕ)
     → cube_values_at is (fs ++ f ∷ []) y
     ≡ cube_values_at is fs y ++ cond (tuple_reaches is f.members y) (f.value ∷ []) []
@@ -62,6 +63,7 @@ values_push is fs f y =
     last true = refl
     last false = refl
 
+-- what they come to, with one fact more
 total_more : (is : List Instance) (fs : List CubeFact) (f : CubeFact) (y : List ℕ)
     → total_of_cube_facts is (fs ++ f ∷ []) y
     ≡ total_of_cube_facts is fs y ⊕ when (tuple_reaches is f.members y) (of_value f.value)
@@ -75,6 +77,7 @@ total_more is fs f y =
     go false = ap (λ vs. total (map of_value vs)) (append-nil (cube_values_at is fs y))
         ∙ sym (⊕_none (total_of_cube_facts is fs y))
 
+-- a test leaves no more items than there are
 filter_short : {A : Type 0} (p : A → Bool) (xs : List A) → length (filter p xs) ≤ length xs
 filter_short p [] = omega arith
 filter_short {A} p (x ∷ xs) = go (p x) (filter_short p xs)
@@ -84,6 +87,7 @@ filter_short {A} p (x ∷ xs) = go (p x) (filter_short p xs)
     go true h = omega arith
     go false h = omega arith
 
+-- what so many values come to, more may come to
 of_values : (o : Option Summary) (n k : ℕ) → n ≤ k → IfSome o (IsOfValues n) → IfSome o (IsOfValues k)
 of_values None n k h q = q
 of_values (Some s) n k h q = of_values_more n k s h q
@@ -104,14 +108,17 @@ total_is_of_values is facts y a =
 
 -- ---- keys
 
+-- an ordering that passes the test is `Equal`
 equal : (r : Ordering) → is_eq r ≡ true → r ≡ Equal
 equal Less e = absurd (cc)
 equal Equal e = refl
 equal Greater e = absurd (cc)
 
+-- a key is itself
 pub own_key : (p q : List ℕ) → p ≡ q → is_key p q ≡ true
 own_key p q e = ap is_eq (subst (λ w. key_cmp p w ≡ Equal) e (tied_itself nat_list_cmp_total p))
 
+-- keys that pass the test are one
 pub same_key : (p q : List ℕ) → is_key p q ≡ true → p ≡ q
 same_key p q e = exact_bytes p q (equal (key_cmp p q) e)
 
@@ -241,6 +248,7 @@ fact_apart columns entries f none n facts s = stands_apart (tallied columns entr
 
 -- ---- every tally
 
+-- a tally with one fact more is one
 pub tally_more : (t : CubeTallied) (q : IsCubeTally t) (f : CubeFact) (entries : List Entry) → t.added + 1 ≤ most_count
     → SFits w64 f.value → CubeStandsFor (with_entries t entries) (q.facts ++ f ∷ []) → IsCubeTally (with_entries t entries)
 tally_more t q f entries h v s = record {
@@ -255,6 +263,7 @@ pub stands_start : (is : List Instance) (c : List ℕ)
     → CubeStandsFor (record { instances = is; target = c; added = 0; entries = [] }) []
 stands_start is c = record { added = refl; at = λ y m. refl; keys = λ q w. absurd (cc) }
 
+-- a tally of no facts is one
 pub tally_start : (is : List Instance) (c : List ℕ) → length is ≤ most_dimensions
     → IsCubeTally (record { instances = is; target = c; added = 0; entries = [] })
 tally_start is c few = record {
@@ -334,5 +343,6 @@ told_members is c facts rows e k d l =
     subst (λ (r : CubeRow). AreMembers is r.members) (get_or-map cube_row_of rows k d (cube_row_of d) l)
     (at k (cube_row_of d) h)
 
+-- entries have the keys of what they stand for
 pub entry_keys : (entries : List (List ℕ × told.Summary)) → keys_of (entries_of entries) ≡ keys_of entries
 entry_keys entries = keys_of-map_values summary_of entries

@@ -10,6 +10,7 @@ use Rattle.std.specs.Cmp.Lexicographic.{lists_total, slice_cmp}
 use Rattle.std.specs.Ordering.{nat_cmp, ordering_then}
 use Rattle.olap_cube_views.specs.CubeTallies.{filled}
 
+-- a key has so many numbers
 pub length-filled : (n : ℕ) (ys : List ℕ) → length (filled n ys) ≡ n
 length-filled zero ys = refl
 length-filled (suc n) [] = ap suc (length-filled n [])

@@ -24,6 +24,7 @@ use Rattle.olap_cube_views.proofs.RowLemmas.{Ascends, ascends-append}
 
 -- ---- members
 
+-- the lesser number comes first
 less : (x y : ℕ) → x < y → nat_cmp x y ≡ Less
 less x y h = go (nat_cmp x y) refl (ranked x y (nat_cmp x y) refl)
   where
@@ -32,6 +33,7 @@ less x y h = go (nat_cmp x y) refl (ranked x y (nat_cmp x y) refl)
     go Equal e m = absurd (omega arith)
     go Greater e m = absurd (omega arith)
 
+-- numbers from one on ascend
 range-ascends : (a n : ℕ) → Ascends nat_cmp (range_with_len a n)
 range-ascends a zero = tt
 range-ascends a (suc n) = (
@@ -39,6 +41,7 @@ range-ascends a (suc n) = (
   range-ascends (a + 1) n,
 )
 
+-- so do those that pass a test
 filter-ascends : {T : Type 0} (R : T → T → Ordering) (p : T → Bool) (xs : List T) → Ascends R xs → Ascends R (filter p xs)
 filter-ascends R p [] a = tt
 filter-ascends {T} R p (x ∷ xs) a = go (p x) (filter-ascends R p xs a.1)
@@ -47,14 +50,17 @@ filter-ascends {T} R p (x ∷ xs) a = go (p x) (filter-ascends R p xs a.1)
     go true r = (λ u c. a.0 u (Contains-from_filter p xs u c).0, r)
     go false r = r
 
+-- the members of a category ascend
 members-ascend : (i : Instance) (c : ℕ) → Ascends nat_cmp (members_of i c)
 members-ascend i c = filter-ascends nat_cmp _ (range_with_len 0 (length i)) (range-ascends 0 (length i))
 
 -- ---- tuples
 
+-- tuples are compared number by number
 abbrev tuple_cmp : List ℕ → List ℕ → Ordering
 tuple_cmp = slice_cmp nat_cmp
 
+-- tuples with one first member ascend as the rest do
 with-ascends : (y : ℕ) (ts : List (List ℕ)) → Ascends tuple_cmp ts → Ascends tuple_cmp (map (λ ys. y ∷ ys) ts)
 with-ascends y [] a = tt
 with-ascends y (t ∷ ts) a = (
@@ -77,6 +83,7 @@ below y t ts (z ∷ zs) l u c =
       | inr k ↦ below y t ts zs (λ x d. l x (contains_cons x zs z d)) u k
     ]
 
+-- so do they over first members that ascend
 flat-ascends : (ts : List (List ℕ)) (zs : List ℕ) → Ascends tuple_cmp ts → Ascends nat_cmp zs
     → Ascends tuple_cmp (flat_map (λ z. map (λ ys. z ∷ ys) ts) zs)
 flat-ascends ts [] a b = tt
@@ -86,6 +93,7 @@ flat-ascends ts (z ∷ zs) a b =
     (λ x u c d. let f = Contains-from_map (λ ys. z ∷ ys) ts x c in
     subst (λ w. tuple_cmp w u ≡ Less) f.2 (below z f.0 ts zs b.0 u d))
 
+-- the tuples of some categories ascend
 tuples-ascend : (is : List Instance) (cs : List ℕ) → Ascends tuple_cmp (tuples_of is cs)
 tuples-ascend [] [] = (λ u c. absurd (Contains-nil u c), tt)
 tuples-ascend [] (c ∷ cs) = tt
@@ -94,6 +102,7 @@ tuples-ascend (i ∷ is) (c ∷ cs) = flat-ascends (tuples_of is cs) (members_of
 
 -- ---- keys
 
+-- what ascends by one order ascends by another that agrees with it
 ascends-as : {T : Type 0} (R Q : T → T → Ordering) (ts : List T)
     → ((t u : T) → Contains ts t → Contains ts u → R t u ≡ Less → Q t u ≡ Less) → Ascends R ts → Ascends Q ts
 ascends-as R Q [] f a = tt

@@ -1,5 +1,5 @@
 -- The entries of a map, in order, are the rows of the keys that it has.
---     Ascends       each is below those behind it
+--     Ascends       each is below those after it
 --     ascends-*     lists that do
 --     rows_are      the rows
 use Rattle.std.proofs.Common.{◌≡◌, List, [], ◌∷◌, ◌++◌, map, filter_map, Bool, true, false, Option, Some, None, option_map, refl, sym, ap, subst, ◌∙◌, inl, inr}
@@ -21,11 +21,12 @@ use Rattle.olap_base.specs.Deciding.{contains_cases, contains_cons}
 use Rattle.olap_base.proofs.ListLemmas.{Contains-nil, contains_head}
 use Rattle.olap_view.proofs.ViewingLemmas.{filter_map_same}
 
--- each is below those behind it
+-- each is below those after it
 abbrev pub Ascends : {T : Type 0} → (T → T → Ordering) → List T → Type 0
 Ascends R [] = Unit {0}
 Ascends {T} R (t ∷ ts) = ((u : T) → Contains ts u → R t u ≡ Less) × Ascends R ts
 
+-- two lists ascend together where each item of the first is below each of the second
 pub ascends-append : {T : Type 0} (R : T → T → Ordering) (xs ys : List T) → Ascends R xs → Ascends R ys
     → ((x y : T) → Contains xs x → Contains ys y → R x y ≡ Less) → Ascends R (xs ++ ys)
 ascends-append R [] ys a b h = b
@@ -37,6 +38,7 @@ ascends-append R (x ∷ xs) ys a b h = (
   ascends-append R xs ys a.1 b (λ y z c d. h y z (contains_cons y xs x c) d),
 )
 
+-- images ascend where the order is kept
 pub ascends-map : {S T : Type 0} (R : S → S → Ordering) (Q : T → T → Ordering) (f : S → T) (xs : List S)
     → ((x y : S) → R x y ≡ Less → Q (f x) (f y) ≡ Less)
     → ((xs : List S) (y : T) → Contains (map f xs) y → (x : S) × Contains xs x × (f x ≡ y))

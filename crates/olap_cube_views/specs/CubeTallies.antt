@@ -1,5 +1,5 @@
 -- A tally of a cube's facts: what the values come to, by tuples of the target's members.
---     Key              the members of a tuple, and zeros up to four numbers
+--     key_of           the key of a tuple: its members, and zeros up to four numbers
 --     IsTupleAncestor  the one tuple of the target that a tuple reaches
 --     CubeTallied      what a tally has counted
 --     CubeStandsFor    it stands for a fact table

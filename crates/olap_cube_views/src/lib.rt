@@ -3,7 +3,7 @@
 //! A contract sees a `Legals` as the definition's list of instances, a `TargetColumns` as a list of instances with a
 //! category each, a `CubeFacts` as the definition's list of facts and a `CubeView` as its record (`specs/Seen.antt`).
 //! `cube_direct` answers the definition's direct view, and `cube_roll_up` that of the facts that a text stands for.
-//! Nothing here knows how an instance is read or checked.
+//! Nothing here knows how an instance is read or checked, or when such a view may be taken from others.
 #![tactic(auto)]
 
 mod legals;

@@ -95,7 +95,7 @@ fn text(alloc: Global, instances: &[&Instance], view: &CubeView) -> Result<Text,
 }
 
 /// The text of a view: the header `m1,..,mK,count,sum,least,greatest` for K dimensions, and a record for each row, with
-/// the members' ids and the four numbers in decimal. Its records read back as the header and these fields. `Memory`: want
+/// the members' ids and the four numbers in decimal. Its records read back as the header and these fields. `Memory`: out
 /// of memory.
 pub fn print_cube_view(alloc: Global, legals: &Legals, view: &CubeView) -> Result<Text, Memory>
     requires at_members { All (λ r. AreMembers legals.now (members_of r.members)) view.now.rows }
@@ -107,7 +107,7 @@ pub fn print_cube_view(alloc: Global, legals: &Legals, view: &CubeView) -> Resul
     text(alloc, &instances, view)
 }
 
-/// The text of a view that `cube_roll_up` made of these columns, as `print_cube_view` has it. `Memory`: want of memory.
+/// The text of a view that `cube_roll_up` made of these columns, as `print_cube_view` has it. `Memory`: out of memory.
 pub fn print_rolled_up(
     alloc: Global,
     columns: &TargetColumns,

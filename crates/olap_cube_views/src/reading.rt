@@ -205,7 +205,7 @@ fn read(
 /// record takes a look-up of an id for each dimension.
 ///
 /// Of a record the first of these is its fault: `FieldCount`; for each member from left to right `UnknownMember`,
-/// `NotBottom`; `BadNumber`; `TooManyFacts` where it is one more than `MOST_LISTED_FACTS`. `Memory`: want of memory.
+/// `NotBottom`; `BadNumber`; `TooManyFacts` where it is one more than `MOST_LISTED_FACTS`. `Memory`: out of memory.
 pub fn read_cube_facts(
     alloc: Global,
     graphs: &[&Graph],

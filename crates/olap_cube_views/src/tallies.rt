@@ -20,8 +20,8 @@ use std::alloc::Global;
 use std::collections::BTreeMap;
 use std::marker::Model;
 
-// The members of a tuple, in order of the dimensions, and zeros behind them: of one target all have as many. Keys
-// ascend as tuples do in file order.
+/// The members of a tuple, in order of the dimensions, and zeros after them: of one target all have as many. Keys
+/// ascend as tuples do in file order.
 type Key = [u32; MOST_DIMENSIONS];
 
 /// What the values of the facts that were added come to, at each tuple of members of a target.
@@ -96,7 +96,7 @@ fn join(summaries: &mut BTreeMap<Key, Summary>, key: Key, summary: Summary) -> R
 }
 
 /// Joins a value to what stands at the tuple that these members reach, if they reach one: what stood for some facts
-/// stands for them and this one behind them.
+/// stands for them and this one after them.
 fn join_fact(
     columns: &[Column],
     summaries: &mut BTreeMap<Key, Summary>,
@@ -185,7 +185,7 @@ impl<'a> CubeTally<'a> {
         self.added
     }
 
-    /// Adds a fact: a tally that stood for some facts stands for them and this one behind them. It takes one look at
+    /// Adds a fact: a tally that stood for some facts stands for them and this one after them. It takes one look at
     /// a list for each dimension, and memory for a tuple that no fact has reached before.
     pub(crate) fn add(&mut self, fact: &CubeFact) -> Result<(), Memory>
         requires members { AreMembers self.old.instances (members_of fact.now.members) }

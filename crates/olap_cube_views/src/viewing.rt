@@ -42,7 +42,7 @@ fn view(alloc: Global, target: &[CatId], rows: Vec<CubeRow>) -> Result<CubeView,
 /// least and greatest of those facts' values.
 ///
 /// It takes four bytes for each member of the instances, and memory for each row; a fact takes a look at a list for each
-/// dimension and a look-up among the rows. `Memory`: want of memory.
+/// dimension and a look-up among the rows. `Memory`: out of memory.
 pub fn cube_direct(
     alloc: Global,
     legals: &Legals,

@@ -1,5 +1,5 @@
 -- One dimension after the other.
---     schemas_from, legals_from   the files from one of them on: the step of this one, and the files behind it
+--     schemas_from, legals_from   the files from one of them on: the step of this one, and the files after it
 --     schemas_end, legals_end     no file is left
 --     made_more, made_all         instances that were made for the graphs of so many dimensions
 --     file_is                     the bytes of a file's name
@@ -64,6 +64,7 @@ legals_end schemas files k read l =
 
 -- ---- instances that were made for graphs
 
+-- one instance more that was made for its graph
 made_next : (schemas : List Schema) (k : ℕ) (is : List Instance) (i : Instance) → k < length schemas
     → AreMadeFor (take k (graphs_of schemas)) is → IsMadeFor (get_or schemas k no_schema).graph i
     → AreMadeFor (take (suc k) (graphs_of schemas)) (is ++ i ∷ [])

@@ -1,4 +1,4 @@
--- Files that are read in a loop: a step and what comes behind it are a step.
+-- Files that are read in a loop: a step and what comes after it are a step.
 --     file_followed, file_ended   a step and the rest
 --     as_ended                    a step that ended, as the code hands it on
 --     no_memory                   a step that wants memory
@@ -46,7 +46,7 @@ module _ {T Q : Type 0} (next : T → Order Q) where
   comes_out_told_then (Some files) step x y e f = comes_out_then files step x y e f
 
 module _ {D T Q X Y : Type 0} {L : Library D} {old mid : D} {step : Order T} {meaning : X → T} {other : Y → Q} where
-  -- where a step goes on, the step behind it is that of both
+  -- where a step goes on, the step after it is that of both
   pub file_followed : {x : X} → FileStep L old mid step meaning (Ok x) → (next : T → Order Q) → {new : D}
       → (result : Result Y Stop) → FileStep L mid new (next (meaning x)) other result
       → FileStep L old new (and_then step next) other result
@@ -136,7 +136,7 @@ module _ {D T : Type 0} (L : Library D) (start : D) (order : Order (List T)) (be
       (subst (λ o. FileStep {T = List T} {X = List T} L now new o (λ x. x) (Err stop)) (sym e)
       (file_ended s (λ t. behind (k + 1) (read ++ t ∷ []))))
 
-  -- a file was taken, and then memory was wanted
+  -- a file was taken, and then memory ran out
   pub read_wants : {X : Type 0} (k : ℕ) (now new : D) (read : List T) (step : Order T) (meaning : X → T) (x : X)
       → AreReadTo k now read → FileStep L now new step meaning (Ok x)
       → FileStep {T = List T} {X = List T} L start new order (λ x. x) (Err stops.Memory)

@@ -20,6 +20,7 @@ one_before : (cs : List ℕ) (c : ℕ) (o : Option (List ℕ)) → option_map (�
 one_before cs c None = refl
 one_before cs c (Some rest) = ap Some (sym (append_assoc cs (c ∷ []) rest))
 
+-- one dimension more with a category of its schema
 categories_next : (schemas : List Schema) (k : ℕ) (cs : List ℕ) (c : ℕ) → k < length schemas
     → AreCategoriesOf (take k schemas) cs → IsCategory (get_or schemas k no_schema).graph c
     → AreCategoriesOf (take (suc k) schemas) (cs ++ c ∷ [])
@@ -38,7 +39,7 @@ module _ (schemas : List Schema) (names : List (List ℕ)) where
   pub named_none : AreNamedTo 0 []
   named_none = record { named = none_before (categories_named schemas names); categories = tt }
 
-  -- from one name on: the category of this one, and those of the names behind it
+  -- from one name on: the category of this one, and those of the names after it
   named_from : (k : ℕ) (cs : List ℕ) → k < length schemas → k < length names → AreNamedTo k cs → (o : Option ℕ)
       → category_named (get_or schemas k no_schema).graph (get_or names k []) ≡ o
       → categories_named schemas names ≡ option_map (λ rest. cs ++ rest) (option_and_then

@@ -1,6 +1,6 @@
 -- Tuples of categories that are read from words, one after the other.
 --     numbers_compared categories are compared as their numbers are
---     ended_plain      a step that reads nothing ends, and what comes behind it with it
+--     ended_plain      a step that reads nothing ends, and what comes after it with it
 --     AreNamedUpTo     the order of all the words is that of those that are left, behind the tuples that were read
 use Rattle.std.proofs.Common.{◌≡◌, ◌+◌, ◌<◌, ◌≤◌, ℕ, suc, List, [], ◌∷◌, ◌++◌, Result, Ok, Err, length, get_or, drop, true, false, ap, refl, subst, sym, arith, ◌∙◌}
 use Rattle.std.specs.Cmp.Lexicographic.{pointwise}
@@ -55,7 +55,7 @@ module _ (schemas : List Schema) (at : ℕ) (words : List (List ℕ)) where
     pub categories : All (AreCategoriesOf schemas) tuples
     pub differ : Distinct tuples
 
-  -- from one word on: the order of this word's tuple, and of the words behind it
+  -- from one word on: the order of this word's tuple, and of the words after it
   from_word : (k : ℕ) (tuples : List (List ℕ)) → k < length words → AreNamedUpTo k tuples
       → different_tuples schemas at [] words ≡ and_then (another_tuple schemas (at + k) tuples (get_or words k []))
       (λ c. different_tuples schemas (suc (at + k)) (tuples ++ c ∷ []) (drop (k + 1) words))

@@ -1,8 +1,9 @@
--- Definitions that contracts cite, in reading order: what is asked, the steps over several dimensions, and the commands'
--- orders.
+-- Definitions that contracts cite, in reading order: what is asked, the steps over several dimensions, and the
+-- commands' orders.
 pub mod Questions
 pub mod Steps
 pub mod Commands
 pub mod Laws
+-- The inside: the view of facts that aren't kept, and the commands of the code as orders.
 pub mod OfFacts
 pub mod Seen

@@ -1,5 +1,5 @@
--- What is asked of several dimensions, and what answers it. What a view of a cube tells is a function of what was read, so no
--- question is left of it.
+-- What is asked of several dimensions, and what answers it. The view of a cube is a function of what was read, so it
+-- leaves no question.
 --     Question               a command's question, with all that it needs
 --     ShowsCubeDifference    bytes tell the counterexample
 --     IsAnswer               a status and bytes answer the question
@@ -11,6 +11,7 @@ use Rattle.olap_order.specs.Outputs.{line}
 use Rattle.olap_order.specs.declared.status.Status.{Status}
 use Rattle.olap_order.specs.declared.status.Status.TheVariants.{Yes, No}
 
+-- a command's question, with all that it needs
 pub data Question : Type 0 where
   -- is the target summarizable from the sources in the cube of these schemas?
   ByCube : (schemas : List Schema) (target : List ℕ) (sources : List (List ℕ)) → Question

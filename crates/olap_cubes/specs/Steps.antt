@@ -1,5 +1,5 @@
--- The steps of a run over several dimensions: a schema and an instance of each, facts at tuples of members, and tuples of
--- categories. Dimensions are counted from 1.
+-- The steps of a run over several dimensions: a schema and an instance of each, facts at tuples of members, and tuples
+-- of categories. Dimensions are counted from 1.
 --     schema_files       the schemas of all dimensions
 --     legal_files        a legal instance of each
 --     cube_facts_file    facts at members of those
@@ -29,14 +29,14 @@ use Rattle.olap_reading.specs.Steps.{legal_file}
 abbrev pub numbered : List ℕ → ℕ → List ℕ
 numbered label dimension = label ++ (codes " " ++ decimal dimension)
 
--- the schemas in files, from this dimension on, behind those of the dimensions before it
+-- the schemas in files, from this dimension on, after those of the dimensions before it
 abbrev pub schema_files : ℕ → List Schema → List (List ℕ) → Order (List Schema)
 schema_files dimension earlier [] = Done earlier
 schema_files dimension earlier (file ∷ files) =
     and_then (schema_file (numbered (codes "schema") dimension) file) (λ s.
     schema_files (suc dimension) (earlier ++ s ∷ []) files)
 
--- the legal instances of these schemas in files, from this dimension on, behind those of the dimensions before it
+-- the legal instances of these schemas in files, from this dimension on, after those of the dimensions before it
 abbrev pub legal_files : ℕ → List Instance → List Schema → List (List ℕ) → Order (List Instance)
 legal_files dimension earlier (s ∷ schemas) (file ∷ files) =
     and_then (legal_file s (numbered (codes "instance") dimension) file) (λ i.

@@ -23,9 +23,11 @@ use Rattle.olap_delta.proofs.RowLemmas.{IsSmall}
 
 -- ---- a row
 
+-- different numbers fail the test
 test_false : (x y : ℕ) → (x ≡ y → ⊥) → (x == y) ≡ false
 test_false x y n = grind (arith, nat_tests)
 
+-- equal ones pass it
 test_true : (x y : ℕ) → x ≡ y → (x == y) ≡ true
 test_true x y e = grind (arith, nat_tests)
 
@@ -63,6 +65,7 @@ pub summary_in-rows : (i : Instance) (h : ℕ → Option Summary) (c y : ℕ) �
     → summary_in (rows_by h (members_of i c)) y ≡ h y
 summary_in-rows i h c y k = stands_at h y (members_of i c) (Distinct-members_of i c) k
 
+-- functions that agree at the members give the same rows
 pub rows_alike : (h k : ℕ → Option Summary) (ys : List ℕ) → ((y : ℕ) → Contains ys y → h y ≡ k y)
     → rows_by h ys ≡ rows_by k ys
 rows_alike h k [] f = refl
@@ -70,6 +73,7 @@ rows_alike h k (y ∷ ys) f =
     ap (λ o. cons_option (row_at y o) (rows_by h ys)) (f y (contains_head y ys))
     ∙ ap (cons_option (row_at y (k y))) (rows_alike h k ys (λ z c. f z (contains_cons z ys y c)))
 
+-- and the same view
 pub view_alike : (i : Instance) (h k : ℕ → Option Summary) (c : ℕ) → ((y : ℕ) → Contains (members_of i c) y → h y ≡ k y)
     → view_by i h c ≡ view_by i k c
 view_alike i h k c f = ap (λ rows. record { category = c; rows = rows }) (rows_alike h k (members_of i c) f)
@@ -80,6 +84,7 @@ view_alike i h k c f = ap (λ rows. record { category = c; rows = rows }) (rows_
 abbrev pub with_at : (ℕ → Option Summary) → ℕ → Summary → ℕ → Option Summary
 with_at h y s z = cond (z == y) (Some s) (h z)
 
+-- a view with another summary at y is that of the changed function
 view_with-is : (i : Instance) (h : ℕ → Option Summary) (c y : ℕ) (s : Summary)
     → view_with i (view_by i h c) y s ≡ view_by i (with_at h y s) c
 view_with-is i h c y s = view_alike i (λ z. cond (z == y) (Some s) (summary_in (rows_by h (members_of i c)) z))
@@ -131,6 +136,7 @@ module _ (step : Step) (i : Instance) (h : ℕ → Option Summary) (c : ℕ) (f 
 
 -- ---- a view of totals, and several
 
+-- what isn't true is false
 not_true : (b : Bool) → (b ≡ true → ⊥) → b ≡ false
 not_true true n = absurd (n refl)
 not_true false n = refl

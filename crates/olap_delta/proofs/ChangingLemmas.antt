@@ -31,11 +31,13 @@ pub record IsPut (y : ℕ) (s : Summary) (old new : Summarized) : Type 0 where
   pub at : (z : ℕ) → IsAmong old.instance old.categories z
       → stands_at new z ≡ cond (z == y) (Some s) (stands_at old z)
 
+-- a member of one of the categories is among the table's
 pub among : (t : Summarized) (c z : ℕ) → Contains t.categories c → Contains (members_of t.instance c) z
     → IsAmong t.instance t.categories z
 among t c z k m = let q = members_of_is t.instance c z m in
     record { member = q.0; category = subst (Contains t.categories) (sym q.1) k }
 
+-- different numbers fail the test
 pub test_false : (x y : ℕ) → x ≢ y → (x == y) ≡ false
 test_false x y n = grind (arith, nat_tests)
 
@@ -104,6 +106,7 @@ pub record IsSoFar (step : Step) (f : Fact) (k : ℕ) (old now : Summarized) : T
       ≡ behind (map (view_at now) (take k old.categories))
       (views_after step old.instance (map (view_at now) (drop k old.categories)) f)
 
+-- nothing before leaves the result as it is
 behind_none : (r : Result (List View) DeltaKind) → behind [] r ≡ r
 behind_none (Ok vs) = refl
 behind_none (Err k) = refl
@@ -126,9 +129,11 @@ one_more vs w (Err k) = refl
 either_below : (a b : ℕ) → (a < b) ⊎ (b ≤ a)
 either_below a b = grind arith
 
+-- of two different numbers one is less
 less_or : (a b : ℕ) → a ≢ b → (a < b) ⊎ (b < a)
 less_or a b n = elim (either_below a b) [ inl l ↦ inl l | inr g ↦ inr (omega arith) ]
 
+-- functions that agree on the items give the same list
 maps_alike : (h k : ℕ → View) (cs : List ℕ) → ((j d : ℕ) → j < length cs → h (get_or cs j d) ≡ k (get_or cs j d))
     → map h cs ≡ map k cs
 maps_alike h k [] f = refl
@@ -137,7 +142,7 @@ maps_alike h k (c ∷ cs) f = ap (λ v. v ∷ map h cs) (f 0 c (omega arith))
 
 module _ (step : Step) (f : Fact) (k : ℕ) (old now : Summarized) (so : IsSoFar step f k old now)
     (h : k < length old.categories) where
-  -- the k-th category, and those behind it
+  -- the k-th category, and those after it
   parted : drop k old.categories ≡ get_or old.categories k 0 ∷ drop (suc k) old.categories
   parted = drop-cons old.categories k 0 h
 
@@ -241,7 +246,7 @@ so_far_all step f k old now so h =
 
 -- ---- fact by fact
 
--- one fact behind the others
+-- one fact after the others
 pub fact_behind : (step : Step) (i : Instance) (r : Result (List View) (Fault DeltaKind)) (at : ℕ) (facts : List Fact)
     (f : Fact)
     → store_after step i r at (facts ++ f ∷ []) ≡ fact_after step i (at + length facts) f (store_after step i r at facts)

@@ -1,26 +1,26 @@
 -- Stored views that are changed fact by fact.
 --     HasTaken                      some facts were taken
 --     taken_none, taken_more        no fact, and one more
+--     are_taken_none, are_taken_more, taken_since    the same between two times
 --     taken_store, taken_refused, taken_sound, taken_order    what is handed out
 --     changed_by                    what comes of the facts of a text
-use Rattle.std.proofs.Common.{◌≡◌, ◌+◌, ◌∷◌, ◌++◌, [], ℕ, List, length, sym, ap, subst, ◌∙◌, arith, length-append}
-use Rattle.std.specs.Prelude.{All, IfErr, IfOk, Result, Ok, true}
+use Rattle.std.proofs.Common.{◌≡◌, ◌+◌, ◌∷◌, ◌++◌, [], ℕ, List, length, refl, sym, ap, subst, ◌∙◌, arith, length-append}
+use Rattle.std.specs.Prelude.{All, IfErr, IfOk, Result, Ok}
 use Rattle.std.proofs.lemmas.Result.{IfErr-weaker, IfOk-weaker, MatchResult-from_both}
 use Rattle.olap_base.specs.Graph.{Graph}
 use Rattle.olap_base.specs.Instance.{Instance}
-use Rattle.olap_base.specs.Limits.{most_listed_facts}
 use Rattle.olap_base.specs.Views.{Fact, View}
-use Rattle.olap_facts.specs.FactReading.{FactReading, IsAtEnd, reading}
+use Rattle.olap_facts.specs.FactText.{facts_read}
 use Rattle.olap_view.specs.Seen.{views_of}
 use Rattle.olap_view.specs.Stores.{IsInFileOrder, IsSoundStore}
 use Rattle.olap_view.specs.SummaryTables.{categories_in}
 use Rattle.olap_view.specs.declared.views.Store.{Store}
-use Rattle.olap_view.proofs.RollingUpLemmas.{ended, facts_so_far}
-use Rattle.olap_delta.specs.Changes.{fact_after, store_changed}
+use Rattle.olap_delta.specs.Changes.{fact_after, store_after, store_changed}
 use Rattle.olap_delta.specs.Changing.{Delta, step_of}
 use Rattle.olap_delta.specs.declared.changes.Change.{Change}
 use Rattle.olap_delta.specs.Kinds.{IsDeltaRefusedBy}
 use Rattle.olap_delta.specs.Reading.{IsChangedBy}
+use Rattle.olap_delta.specs.Taking.{AreTaken}
 use Rattle.olap_delta.specs.declared.kinds.DeltaRefusal.{DeltaRefusal}
 use Rattle.olap_delta.proofs.ChangingLemmas.{fact_behind}
 
@@ -56,6 +56,48 @@ pub taken_none : (by : Change) (i : Instance) (views : List View) (d : Delta) �
     → d.categories ≡ categories_in views → d.taken ≡ 0 → d.views ≡ Ok views → HasTaken by i views [] d
 taken_none by i views d s j c t v = record { change = s; instance = j; categories = c; taken = t; views = v }
 
+-- ---- between two times
+
+pub are_taken_none : (d : Delta) → AreTaken [] d d
+are_taken_none d = record { change = refl; instance = refl; categories = refl; taken = omega arith; views = refl }
+
+pub are_taken_more : (facts : List Fact) (f : Fact) (old d e : Delta) → AreTaken facts old d → e.change ≡ d.change
+    → e.instance ≡ d.instance → e.categories ≡ d.categories → e.taken ≡ d.taken + 1
+    → e.views ≡ fact_after (step_of d.change) d.instance (d.taken + 2) f d.views → AreTaken (facts ++ f ∷ []) old e
+are_taken_more facts f old d e h s j c t v = record {
+  change = s ∙ h.change;
+  instance = j ∙ h.instance;
+  categories = c ∙ h.categories;
+  taken = let a = h.taken in omega (arith, length-append {A = Fact});
+  views = v
+      ∙ ap (λ p. fact_after (step_of p) d.instance (d.taken + 2) f d.views) h.change
+      ∙ ap (λ k. fact_after (step_of old.change) k (d.taken + 2) f d.views) h.instance
+      ∙ ap (λ n. fact_after (step_of old.change) old.instance n f d.views) at
+      ∙ ap (fact_after (step_of old.change) old.instance ((old.taken + 2) + length facts) f) h.views
+      ∙ sym (fact_behind (step_of old.change) old.instance old.views (old.taken + 2) facts f);
+}
+  where
+    at : d.taken + 2 ≡ (old.taken + 2) + length facts
+    at = let a = h.taken in omega arith
+
+-- taken since no fact was
+pub taken_since : (by : Change) (i : Instance) (views : List View) (facts : List Fact) (old d : Delta)
+    → HasTaken by i views [] old → AreTaken facts old d → HasTaken by i views facts d
+taken_since by i views facts old d h a = record {
+  change = a.change ∙ h.change;
+  instance = a.instance ∙ h.instance;
+  categories = a.categories ∙ h.categories;
+  taken = let n = h.taken in let m = a.taken in omega arith;
+  views = a.views
+      ∙ ap (λ p. store_after (step_of p) old.instance old.views (old.taken + 2) facts) h.change
+      ∙ ap (λ j. store_after (step_of by) j old.views (old.taken + 2) facts) h.instance
+      ∙ ap (λ r. store_after (step_of by) i r (old.taken + 2) facts) h.views
+      ∙ ap (λ n. store_after (step_of by) i (Ok views) n facts) at;
+}
+  where
+    at : old.taken + 2 ≡ 2
+    at = let n = h.taken in omega arith
+
 -- ---- what is handed out
 
 module _ (by : Change) (i : Instance) (views : List View) (facts : List Fact) (d : Delta)
@@ -86,20 +128,15 @@ module _ (by : Change) (i : Instance) (views : List View) (facts : List Fact) (d
       (λ (s : Store). All (IsInFileOrder i) (views_of s))
       (λ s p. subst (λ (j : Instance). All (IsInFileOrder j) (views_of s)) h.instance p)
 
--- the facts of a reader at its end were taken
+-- all facts of a text were taken
 pub changed_by : (by : Change) (g : Graph) (i : Instance) (records : List (List (List ℕ))) (views : List View)
-    (old : FactReading) (d : Delta) (r : Result Store DeltaRefusal)
-    → old ≡ reading g i records most_listed_facts old.handed true → IsAtEnd old
-    → HasTaken by i views (facts_so_far i records old.handed) d → IfOk r (λ s. d.views ≡ Ok (views_of s))
-    → IfErr r (λ e. IsDeltaRefusedBy e d.views) → IsChangedBy (step_of by) g i records views r
-changed_by by g i records views old d r is end h ok err =
-    let q = reading g i records most_listed_facts old.handed true in
-    let e : IsAtEnd q = subst IsAtEnd is end in
-    let t : HasTaken by i views e.facts d = subst (λ (fs : List Fact). HasTaken by i views fs d) (sym (ended q e)) h in
-    record {
-      facts = e.facts;
-      read = e.read;
-      changed = MatchResult-from_both r (λ (s : Store). store_changed (step_of by) i views e.facts ≡ Ok (views_of s))
-          (λ (x : DeltaRefusal). IsDeltaRefusedBy x (store_changed (step_of by) i views e.facts))
-          (taken_store by i views e.facts d t r ok) (taken_refused by i views e.facts d t r err);
-    }
+    (facts : List Fact) (d : Delta) (r : Result Store DeltaRefusal) → facts_read g i records ≡ Ok facts
+    → HasTaken by i views facts d → IfOk r (λ s. d.views ≡ Ok (views_of s)) → IfErr r (λ e. IsDeltaRefusedBy e d.views)
+    → IsChangedBy (step_of by) g i records views r
+changed_by by g i records views facts d r read h ok err = record {
+  facts = facts;
+  read = read;
+  changed = MatchResult-from_both r (λ (s : Store). store_changed (step_of by) i views facts ≡ Ok (views_of s))
+      (λ (x : DeltaRefusal). IsDeltaRefusedBy x (store_changed (step_of by) i views facts))
+      (taken_store by i views facts d h r ok) (taken_refused by i views facts d h r err);
+}

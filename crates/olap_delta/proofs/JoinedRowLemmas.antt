@@ -43,6 +43,7 @@ admits_nothing by.Retract there = tt
 
 -- ---- one value first
 
+-- a lesser number fails the test
 differ : (a b : ℕ) → a < b → (a == b) ≡ false
 differ a b l = grind (arith, nat_tests)
 
@@ -58,6 +59,7 @@ comes s v l e = go (s.count == most_count) (is_sum (s.sum +ℤ v)) (differ s.cou
     go false true p q = refl
     go false false p q = absurd (cc)
 
+-- different whole numbers fail the test
 unlike : (x y : ℤ) → (x ≡ y → ⊥) → int_eq x y ≡ false
 unlike x y n = go (int_eq x y) refl
   where
@@ -65,6 +67,7 @@ unlike x y n = go (int_eq x y) refl
     go true e = absurd (n ((Decides-int_eq x y).0 e))
     go false e = refl
 
+-- neither is true
 neither : (a b : Bool) → a ≡ false → b ≡ false → (a || b) ≡ false
 neither false b p q = q
 neither true b p q = absurd (cc)
@@ -95,12 +98,15 @@ goes s v l g n e =
     go false false false false p q r t = absurd (cc)
     go false false false true p q r t = refl
 
+-- what is below the lesser of two is below both
 above_both : (x a b : ℤ) → x <ℤ int_min a b → (x <ℤ a) × (x <ℤ b)
 above_both x a b l = (grind (arith, ints), grind (arith, ints))
 
+-- what is above the greater of two is above both
 below_both : (x a b : ℤ) → int_max a b <ℤ x → (a <ℤ x) × (b <ℤ x)
 below_both x a b l = (grind (arith, ints), grind (arith, ints))
 
+-- the first of some values that may come
 first_new : (there : Option Summary) (v : ℤ) (lot : Option Summary) → SFits w64 v
     → AdmitsNew there (Some (of_value v) ⊕ lot) → IsFirst by.Append there v lot
 first_new None v None f a = record { after = of_value v; step = refl; is = refl; admits = tt; rest = refl }
@@ -130,6 +136,7 @@ first_new (Some s) v (Some t) f a =
       rest = ap Some (joined_assoc s (of_value v) t);
     }
 
+-- the first of some values that may go
 first_less : (there : Option Summary) (v : ℤ) (lot : Option Summary) → SFits w64 v
     → AdmitsLess there (Some (of_value v) ⊕ lot) → IsFirst by.Retract there v lot
 first_less None v None f a = absurd a
@@ -171,10 +178,12 @@ first_of by.Retract there v lot f a = first_less there v lot f a
 
 -- ---- some values, and then others
 
+-- two lots, one after the other, are as both together
 abbrev Together : Change → Option Summary → Option Summary → Option Summary → Type 0
 Together change there some more = (Admits change there (some ⊕ more))
     × (changed_by change (changed_by change there some) more ≡ changed_by change there (some ⊕ more))
 
+-- so it is of values that come
 new_together : (there some more : Option Summary) → AdmitsNew there some → AdmitsNew (there ⊕ some) more
     → Together by.Append there some more
 new_together None None more a b = (b, refl)
@@ -184,12 +193,15 @@ new_together (Some s) None more a b = (b, refl)
 new_together (Some s) (Some t) None a b = (a, refl)
 new_together (Some s) (Some t) (Some u) a b = let n = b.0 in ((omega arith, a.1), ap Some (joined_assoc s t u))
 
+-- what is below both is below the lesser
 least_of : (x a b : ℤ) → x <ℤ a → x <ℤ b → x <ℤ int_min a b
 least_of x a b l m = grind (arith, ints)
 
+-- what is above both is above the greater
 greatest_of : (x a b : ℤ) → a <ℤ x → b <ℤ x → int_max a b <ℤ x
 greatest_of x a b l m = grind (arith, ints)
 
+-- so it is of values that go
 less_together : (there some more : Option Summary) → AdmitsLess there some
     → AdmitsLess (changed_by by.Retract there some) more → Together by.Retract there some more
 less_together None None None a b = (tt, refl)

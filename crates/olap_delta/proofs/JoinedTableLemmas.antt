@@ -89,6 +89,7 @@ module _ (change : Change) (c x : ℕ) (s : Summary) (old : Summarized) where
 
 -- ---- lot by lot
 
+-- a member is among those of a table that kept its instance and categories
 still_among : (old new : Summarized) → new.instance ≡ old.instance → new.categories ≡ old.categories → (y : ℕ)
     → IsAmong old.instance old.categories y → IsAmong new.instance new.categories y
 still_among old new e g y m = subst (λ (i : Instance). IsAmong i new.categories y) (sym e)
@@ -170,6 +171,7 @@ so_far_start change lots old a = record {
   rest = λ y m n. refl;
 }
 
+-- what is below k + 1 is below k, or is k
 below_or : (j k : ℕ) → j < k + 1 → (j < k) ⊎ (j ≡ k)
 below_or j k h = grind arith
 

@@ -1,8 +1,7 @@
 -- What lots make of the views of a table.
 --     view_done, views_done     the views after one fact
 --     all_taken                 the views after facts of which none could be refused
---     joined_none, joined_one   one lot in one category
---     more_joined               some values, and then others, in one category
+--     views_alike               the same views where the summaries are the same
 use Rattle.std.proofs.Common.{◌≡◌, ℕ, ◌+◌, List, [], ◌∷◌, map, Bool, true, false, cond, refl, sym, ap, subst, ◌∙◌, Option, Some, None, w64, arith}
 use Rattle.std.specs.Prelude.{All, Contains, filter, ◌==◌, Result, Ok, Err}
 use mir.Val.{SFits}
@@ -28,10 +27,12 @@ use Rattle.olap_delta.proofs.PermutedLemmas.{added, fact_among}
 
 -- ---- one fact
 
+-- what isn't true is false
 pub not_true : (b : Bool) → (b ≡ true → ⊥) → b ≡ false
 not_true true n = absurd (n refl)
 not_true false n = refl
 
+-- equal numbers pass the test
 test_true : (x y : ℕ) → x ≡ y → (x == y) ≡ true
 test_true x y e = grind (arith, nat_tests)
 

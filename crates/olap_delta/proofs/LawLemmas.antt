@@ -24,6 +24,7 @@ use Rattle.olap_delta.proofs.StorableLemmas.{rows_stored}
 use Rattle.olap_delta.proofs.PermutedLemmas.{fact_among, fact_behind, facts_permuted}
 use Rattle.olap_delta.proofs.RowLemmas.{IsSmall, appended_total, retracted_total}
 
+-- a stored summary is small
 stored_small : (y : ℕ) (o : Option Summary) → IfSome o (IsStoredAt y) → IfSome o IsSmall
 stored_small y None q = tt
 stored_small y (Some s) q = record { few = q.few; least = q.least; greatest = q.greatest }
@@ -58,6 +59,7 @@ then step i views at f facts P k = go (views_after step i views f)
     go (Err j) h = subst (λ (r : Result (List View) (Fault DeltaKind)). MatchResult r P (λ fault. fault.kind ≡ k))
         (sym (faulty step i (record { at = at; kind = j }) (at + 1) facts)) h
 
+-- what follows of a value follows of a result
 weaker : {A B : Type 0} (r : Result A B) (P Q : A → Type 0) (R : B → Type 0) → ((a : A) → P a → Q a) → MatchResult r P R
     → MatchResult r Q R
 weaker (Ok a) P Q R f h = f a h
@@ -134,10 +136,12 @@ module _ (g : Graph) (i : Instance) (w : IsLawful g i) (cs : List ℕ) where
           (retracted_total (values_at i (left ++ withdrawn) y) f.value
           (subst (λ (o : Option Summary). IfSome o IsSmall) e h))
 
+-- appending to direct views
 pub append_gives : AppendGivesDirectViews
 append_gives g i cs facts new w fit values =
     append_all g i w cs new facts 2 (views_small i (total_of_facts i facts) cs fit) values
 
+-- retracting from direct views
 pub retract_gives : RetractGivesDirectViews
 retract_gives g i cs facts left withdrawn w fit p =
     let same : direct_views i facts cs ≡ direct_views i (left ++ withdrawn) cs =

@@ -9,5 +9,6 @@ mod StepLemmas
 mod DeltaLemmas
 mod JoinedRowLemmas
 mod LotLemmas
+mod TakingLemmas
 mod JoiningLemmas
 mod JoinedTableLemmas

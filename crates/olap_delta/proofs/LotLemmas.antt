@@ -60,13 +60,16 @@ module _ (i : Instance) (y : ℕ) where
 
 -- ---- a lot
 
+-- a lot of so many facts is one of more
 lot_more : (n k members : ℕ) → n ≤ k → (l : Lot) → IsLot n members l → IsLot k members l
 lot_more n k members h l q = let f = q.few in record { member = q.member; few = omega arith; values = q.values }
 
+-- either of two values of 64 bits is one
 either_fits : (b : Bool) (x y : ℤ) → SFits w64 x → SFits w64 y → SFits w64 (cond b x y)
 either_fits true x y p q = p
 either_fits false x y p q = q
 
+-- one value is a total of one
 value_alone : (v : ℤ) → SFits w64 v → IsOfValues 1 (of_value v)
 value_alone v f = record {
   some = omega arith;
@@ -75,6 +78,7 @@ value_alone v f = record {
   greatest = f;
 }
 
+-- one value more of 64 bits
 value_joined : (s : Summary) (v : ℤ) → SFits w64 v → IsOfValues s.count s
     → IsOfValues (s.count + 1) (joined s (of_value v))
 value_joined s v f q =
@@ -101,6 +105,7 @@ record IsTaken (f : Fact) (old new : Lots) : Type 0 where
   pub at : (i : Instance) (y : ℕ) → lots_at i new.lots.items y
       ≡ lots_at i old.lots.items y ⊕ when (reaches i f.member y) (of_value f.value)
 
+-- the lots with one fact more stand for the facts with it
 stand_more : (i : Instance) (facts : List Fact) (f : Fact) (old new : Lots) → IsTaken f old new
     → StandFor i facts old → StandFor i (facts ++ f ∷ []) new
 stand_more i facts f old new t s = record {

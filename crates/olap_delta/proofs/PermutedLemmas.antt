@@ -46,6 +46,7 @@ module _ {A : Type 0} (f : A → Option Summary) where
 abbrev pub added : Instance → ℕ → Fact → Option Summary
 added i y f = cond (reaches i f.member y) (Some (of_value f.value)) None
 
+-- the total at a member as a sum over all facts
 pub facts_total : (i : Instance) (facts : List Fact) (y : ℕ) → total_of_facts i facts y ≡ total_by (added i y) facts
 facts_total i facts y =
     total_is of_value (values_at i facts y)
@@ -58,7 +59,7 @@ module _ (i : Instance) (y : ℕ) where
   facts_permuted facts others p =
       facts_total i facts y ∙ total_permuted (added i y) facts others p ∙ sym (facts_total i others y)
 
-  -- a fact behind the others
+  -- a fact after the others
   pub fact_behind : (facts : List Fact) (f : Fact)
       → total_of_facts i (facts ++ f ∷ []) y ≡ total_of_facts i facts y ⊕ added i y f
   fact_behind facts f =

@@ -24,10 +24,12 @@ pub record IsSmall (s : Summary) : Type 0 where
   pub least : SFits w64 s.least
   pub greatest : SFits w64 s.greatest
 
+-- a sum within the bounds passes the test
 pub in_bounds : (z : ℤ) → neg_ℤ (pos most_sum) ≤ℤ z → z ≤ℤ pos most_sum → is_sum z ≡ true
 in_bounds (pos n) a b = let l : n ≤ most_sum = omega (arith, ints) in grind (arith, nat_tests)
 in_bounds (negsuc n) a b = let l : n < most_sum = omega (arith, ints) in grind (arith, nat_tests)
 
+-- what is there twice is the same
 pub some_same : {A : Type 0} (a b : A) → ◌≡◌ {A = Option A} (Some a) (Some b) → a ≡ b
 some_same a b e = cc
 
@@ -96,6 +98,7 @@ total_of vs s e q =
     (subst (λ (o : Option Summary). IfSome o (λ s. (neg_ℤ (pos (2 ^ 63)) ≤ℤ s.least) × (s.greatest ≤ℤ pos (2 ^ 63)))) (sym e) (low, high)))) in
     let a = t.0 in let b = t.1 in let c = t.2 in (omega (arith, ints), omega (arith, ints))
 
+-- the count of a summary, or another number
 abbrev count_or : ℕ → Option Summary → ℕ
 count_or d None = d
 count_or d (Some t) = t.count
@@ -114,10 +117,12 @@ two_at_least (v ∷ w ∷ vs) s e l =
 
 -- ---- one value more
 
+-- either of two values of 64 bits is one
 either : (b : Bool) (x y : ℤ) → SFits w64 x → SFits w64 y → SFits w64 (cond b x y)
 either true x y p q = p
 either false x y p q = q
 
+-- a small row with one value more is small
 pub joined_small : (s : Summary) (v : ℤ) → s.count < most_count → SFits w64 v → IsSmall s → IsSmall (joined s (of_value v))
 joined_small s v l f q = record {
   few = omega arith;
@@ -125,6 +130,7 @@ joined_small s v l f q = record {
   greatest = either (int_lt v s.greatest) s.greatest v q.greatest f;
 }
 
+-- what appending a value gives, or it is `Full`
 abbrev pub Appends : Option Summary → ℤ → Option Summary → Type 0
 Appends o v after = MatchResult (appended o v) (λ s. (Some s ≡ after) × IsSmall s) (λ k. k ≡ kind.Full)
 
@@ -154,16 +160,20 @@ appended_total vs v f = go (total (map of_value vs)) refl
 
 -- ---- one value less
 
+-- what retracting a value gives, or it is `Extreme`
 abbrev pub Retracts : Option Summary → ℤ → Option Summary → Type 0
 Retracts o v after = MatchResult (retracted o v) (λ s. (Some s ≡ after) × IsSmall s) (λ k. k ≡ kind.Extreme)
 
+-- equal whole numbers pass the test
 same_test : (x y : ℤ) → x ≡ y → int_eq x y ≡ true
 same_test x y e = (Decides-int_eq x y).1 e
 
+-- where neither holds, each fails
 not_either : (a b : Bool) → (a || b) ≡ false → (a ≡ false) × (b ≡ false)
 not_either false b e = (refl, e)
 not_either true b e = absurd (cc)
 
+-- a value is never outside the bounds of a total that has it
 outside : (v a b : ℤ) → (int_lt v (int_min v a) || int_lt (int_max v b) v) ≡ false
 outside v a b = grind (arith, ints)
 

@@ -31,10 +31,12 @@ small s q = let a = (q 0).few in let b = (q 0).sum_from in let c = (q 0).sum_to 
   sum_to = omega (arith, ints);
 }
 
+-- a sum that passes the test is within the bounds
 sum_bounds : (z : ℤ) → is_sum z ≡ true → (neg_ℤ (pos most_sum) ≤ℤ z) × (z ≤ℤ pos most_sum)
 sum_bounds (pos n) e = let l : n ≤ most_sum = grind (arith, nat_tests) in (omega (arith, ints), omega (arith, ints))
 sum_bounds (negsuc n) e = let l : n < most_sum = grind (arith, nat_tests) in (omega (arith, ints), omega (arith, ints))
 
+-- either of two values of 64 bits is one
 either : (b : Bool) (x y : ℤ) → SFits w64 x → SFits w64 y → SFits w64 (cond b x y)
 either true x y p q = p
 either false x y p q = q

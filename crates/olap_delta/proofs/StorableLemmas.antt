@@ -1,6 +1,7 @@
 -- What stands at rows that may be stored.
 --     rows_stored            at rows by member
---     sound                  views by member are a store of the instance
+--     table_storable         in a table whose views fit
+--     table_sound            the views of such a table are a store of the instance
 use Rattle.std.proofs.Common.{◌≡◌, ◌≢◌, ◌<◌, ℕ, List, [], ◌∷◌, length, get_or, refl, sym, ap, subst, ◌∙◌, inl, inr, Option, Some, None, IfSome, arith}
 use Rattle.std.specs.Prelude.{All, AllPairs, Contains}
 use Rattle.std.specs.List.{cons_option}
@@ -37,6 +38,7 @@ rows_stored h (x ∷ ys) a y k = go (λ a l. rows_stored h ys a y l) (h x) refl 
       | inr l ↦ later (All-tail IsStored (record { member = x; summary = s }) (rows_by h ys) a) l
     ]
 
+-- a summary that is stored at a row may be stored
 storable : (y : ℕ) (o : Option Summary) → IfSome o (IsStoredAt y) → IfSome o IsStorable
 storable y None q = tt
 storable y (Some s) q = λ z. record {
@@ -58,10 +60,12 @@ table_storable t views e a y m =
 
 -- ---- views that are read out
 
+-- its row is a stored one
 row_stored : (y : ℕ) (o : Option Summary) → IfSome o IsStorable → IfSome (row_at y o) IsStored
 row_stored y None q = tt
 row_stored y (Some s) q = q y
 
+-- its row stands at a member
 row_inside : (y n : ℕ) (o : Option Summary) → y < n → IfSome (row_at y o) (λ (r : Row). r.member < n)
 row_inside y n None h = tt
 row_inside y n (Some s) h = h
@@ -86,5 +90,6 @@ table_sound g t views e a s = record {
         let q = members_of_is t.instance c y m in
         row_stored y (stands_at t y) (a y (record { member = q.0; category = subst (Contains t.categories) (sym q.1) k })))
 
+-- the rows of a table stand in file order
 pub table_order : (t : Summarized) → All (IsInFileOrder t.instance) (views_at t)
 table_order t = each-in-order t.instance (stands_at t) t.categories

@@ -43,13 +43,14 @@ AdmitsNew there None = ⊤
 AdmitsNew None (Some t) = t.count ≤ most_count
 AdmitsNew (Some s) (Some t) = (s.count + t.count ≤ most_count) × HasRoom (most_count - s.count) s
 
--- all of them may go: they lie between the least and the greatest, and there are others
+-- they lie between the least and the greatest of a row, which has others too
 pub record AreWithin (s t : Summary) : Type 0 where
   pub least : s.least <ℤ t.least
   pub greatest : t.greatest <ℤ s.greatest
   pub count : t.count + 2 ≤ s.count
   pub room : HasRoom s.count s
 
+-- all of them may go: they are there, and none is the least or the greatest
 abbrev pub AdmitsLess : Option Summary → Option Summary → Type 0
 AdmitsLess there None = ⊤
 AdmitsLess None (Some t) = ⊥

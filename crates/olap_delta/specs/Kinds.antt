@@ -9,6 +9,7 @@ use Rattle.olap_delta.specs.declared.kinds.DeltaKind.TheVariants as kind
 use Rattle.olap_delta.specs.declared.kinds.DeltaRefusal.{DeltaRefusal}
 use Rattle.olap_delta.specs.declared.kinds.DeltaRefusal.TheVariants as refusal
 
+-- a fault's name, as it is printed
 abbrev pub name_of_kind : DeltaKind → List ℕ
 name_of_kind kind.Full = codes "Full"
 name_of_kind kind.Bound = codes "Bound"

@@ -9,3 +9,4 @@ pub mod Reading
 pub mod Changing
 pub mod Lots
 pub mod Joining
+pub mod Taking

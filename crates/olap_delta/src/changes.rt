@@ -56,7 +56,8 @@ fn without(row: Summary, value: i64) -> Summary
     }
 }
 
-/// The summary of a member's row after a value was withdrawn, or why it can't. The row keeps its least and its greatest.
+/// The summary of a member's row after a value was withdrawn, or why it can't be. The row keeps its least and its
+/// greatest.
 fn retract(there: Option<Summary>, value: i64) -> Result<Summary, DeltaKind>
     requires { IfSome (option_map summary_of there) IsStorable }
     ensures step { MatchResult result

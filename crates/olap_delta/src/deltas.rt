@@ -41,7 +41,7 @@ impl<'a> Model for Delta<'a> {
 }
 
 impl<'a> Delta<'a> {
-    /// The stored views before any fact. It takes the memory of a summary table. `Memory`: want of memory.
+    /// The stored views before any fact. It takes the memory of a summary table. `Memory`: out of memory.
     pub fn new(
         alloc: Global,
         change: Change,
@@ -88,7 +88,7 @@ impl<'a> Delta<'a> {
         self.taken += 1;
     }
 
-    /// The stored views after the facts, or the first fact that was refused. `Memory`: want of memory.
+    /// The stored views after the facts, or the first fact that was refused. `Memory`: out of memory.
     pub fn into_store(self) -> Result<Store, DeltaRefusal>
         ensures ok { IfOk result (λ s. self.entry.views ≡ Ok (views_of s)) }
         ensures sound { IfOk result (λ s. (g : TheGraph) (before : Items TheView)

@@ -23,7 +23,7 @@ use olap_check::Legal;
 use olap_view::{Store, Summary, SummaryTable};
 use std::alloc::Global;
 
-// The greatest magnitude of a value of 64 bits: 2^63.
+/// The greatest magnitude of a value of 64 bits: 2^63.
 const MOST_VALUE: i128 = 9_223_372_036_854_775_808;
 
 /// Whether the row's sum stays within `MOST_SUM`, whichever values of 64 bits come or go, up to so many.

@@ -30,7 +30,7 @@ pub(crate) struct Lots {
 }
 
 impl Lots {
-    /// No facts, of an instance of so many members. It takes four bytes for each. `Memory`: want of memory.
+    /// No facts, of an instance of so many members. It takes four bytes for each. `Memory`: out of memory.
     pub(crate) fn new(alloc: Global, members: u32) -> Result<Lots, Memory>
         ensures places { IfOk result (λ l. length l.places.items ≡ members) }
         ensures taken { IfOk result (λ l. l.taken ≡ 0) }

@@ -1,8 +1,12 @@
 // Stored views after the facts of a text came or were withdrawn.
-ghost use Rattle.std.specs.Prelude.{◌≡◌, All, IfErr, IfOk};
+ghost use Rattle.std.specs.Prelude.{◌≡◌, ◌≤◌, [], All, IfErr, IfOk, IsTrue, OnOk, length};
 ghost use Rattle.olap_base.specs.Graph.{Graph as TheGraph};
+ghost use Rattle.olap_base.specs.Limits.{most_count};
 ghost use Rattle.olap_delta.specs.Changing.{step_of};
+ghost use Rattle.olap_delta.specs.Lots.{AreLots, StandFor};
 ghost use Rattle.olap_delta.specs.Reading.{IsChangedBy};
+ghost use Rattle.olap_delta.specs.Taking.{AreAllTaken, AreLotsOf};
+ghost use Rattle.olap_facts.specs.FactReading.{all_read};
 ghost use Rattle.olap_facts.specs.FactText.{facts_read};
 ghost use Rattle.olap_facts.specs.Refusals.{IsRefusedBy};
 ghost use Rattle.olap_instance.specs.Made.{IsMadeFor};
@@ -20,7 +24,42 @@ use olap_graph::Graph;
 use olap_view::Store;
 use std::alloc::Global;
 
-/// The same by the facts one after another: the text is read once more.
+/// Takes a reader's facts one after another, or stops at its text's first fault.
+fn take_each(reader: &mut FactReader, delta: &mut Delta) -> Result<(), FactRefusal>
+    requires live { IsTrue reader.old.live }
+    requires first { reader.old.handed ≡ 0 }
+    requires few { reader.old.most ≤ most_count }
+    requires none { delta.old.taken ≡ 0 }
+    requires instance { delta.old.instance ≡ reader.old.instance }
+    ensures taken { OnOk result (AreAllTaken (all_read reader.old) delta.old delta.new) }
+    ensures err { IfErr result (λ e. IsRefusedBy e (all_read reader.old)) }
+{
+    'facts: while let Some(fact) = reader.next()? {
+        delta.take(&fact);
+    }
+    Ok(())
+}
+
+/// The same with the facts of a text of at most `MOST_LISTED_FACTS`.
+fn take_text(
+    alloc: Global,
+    graph: &Graph,
+    legal: &Legal,
+    text: &[u8],
+    delta: &mut Delta,
+) -> Result<(), FactRefusal>
+    requires made { IsMadeFor graph.now legal.now }
+    requires none { delta.old.taken ≡ 0 }
+    requires instance { delta.old.instance ≡ legal.now }
+    ensures taken { OnOk result (AreAllTaken (facts_read graph.now legal.now (records_of text.now))
+        delta.old delta.new) }
+    ensures err { IfErr result (λ e. IsRefusedBy e (facts_read graph.now legal.now (records_of text.now))) }
+{
+    let mut reader = FactReader::new(alloc, graph, legal.instance(), text, MOST_LISTED_FACTS);
+    take_each(&mut reader, delta)
+}
+
+/// The stored views by the facts one after another: the text is read once more.
 fn one_by_one(
     alloc: Global,
     change: Change,
@@ -42,19 +81,52 @@ fn one_by_one(
 
     ensures err { IfErr result (λ e. IsRefusedBy e (facts_read graph.now legal.now (records_of text.now))) }
 {
-    let mut reader = FactReader::new(alloc, graph, legal.instance(), text, MOST_LISTED_FACTS);
     let mut delta = Delta::new(alloc, change, legal, store)?;
-    'facts: while let Some(fact) = reader.next()? {
-        delta.take(&fact);
-    }
+    take_text(alloc, graph, legal, text, &mut delta)?;
     Ok(delta.into_store())
+}
+
+/// Joins a reader's facts by member, or stops at its text's first fault.
+fn join_each(reader: &mut FactReader, lots: &mut Lots) -> Result<(), FactRefusal>
+    requires live { IsTrue reader.old.live }
+    requires first { reader.old.handed ≡ 0 }
+    requires few { reader.old.most ≤ most_count }
+    requires places { length lots.old.places.items ≡ length reader.old.instance }
+    requires lots { AreLots lots.old }
+    requires none { StandFor reader.old.instance [] lots.old }
+    ensures lots { OnOk result (AreLotsOf (all_read reader.old) reader.old.instance lots.new) }
+    ensures err { IfErr result (λ e. IsRefusedBy e (all_read reader.old)) }
+{
+    'facts: while let Some(fact) = reader.next()? {
+        lots.take(&fact)?;
+    }
+    Ok(())
+}
+
+/// The same with the facts of a text of at most `MOST_LISTED_FACTS`.
+fn join_text(
+    alloc: Global,
+    graph: &Graph,
+    legal: &Legal,
+    text: &[u8],
+    lots: &mut Lots,
+) -> Result<(), FactRefusal>
+    requires made { IsMadeFor graph.now legal.now }
+    requires places { length lots.old.places.items ≡ length legal.now }
+    requires lots { AreLots lots.old }
+    requires none { StandFor legal.now [] lots.old }
+    ensures lots { OnOk result (AreLotsOf (facts_read graph.now legal.now (records_of text.now)) legal.now lots.new) }
+    ensures err { IfErr result (λ e. IsRefusedBy e (facts_read graph.now legal.now (records_of text.now))) }
+{
+    let mut reader = FactReader::new(alloc, graph, legal.instance(), text, MOST_LISTED_FACTS);
+    join_each(&mut reader, lots)
 }
 
 /// The stored views after the change by the facts of a text of at most `MOST_LISTED_FACTS`, or the first fact that is
 /// refused, as `append` and `retract` give them; or the text's first fault, which comes before any refusal of a fact.
 ///
 /// Each fact is read once and joined to those of its member, and no list of facts is kept. Where a fact might be
-/// refused, the text is read once more. `Memory`: want of memory.
+/// refused, the text is read once more. `Memory`: out of memory.
 pub fn change_by_text(
     alloc: Global,
     change: Change,
@@ -76,11 +148,8 @@ pub fn change_by_text(
 
     ensures err { IfErr result (λ e. IsRefusedBy e (facts_read graph.now legal.now (records_of text.now))) }
 {
-    let mut reader = FactReader::new(alloc, graph, legal.instance(), text, MOST_LISTED_FACTS);
     let mut lots = Lots::new(alloc, legal.instance().members())?;
-    'facts: while let Some(fact) = reader.next()? {
-        lots.take(&fact)?;
-    }
+    join_text(alloc, graph, legal, text, &mut lots)?;
     match joined(alloc, change, legal, store, lots)? {
         Some(store) => Ok(Ok(store)),
         None => one_by_one(alloc, change, graph, legal, store, text),

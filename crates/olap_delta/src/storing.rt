@@ -83,7 +83,7 @@ fn changed(
 /// It is refused at the first fact that finds its row's count at `MOST_COUNT` (`Full`), or takes its row's sum past
 /// `MOST_SUM` (`Bound`). It takes the memory of a summary table and of a summary for each member that has
 /// a fact, and one look at a list for each such member and view; for each fact and view, if one is refused. `Memory`:
-/// want of memory.
+/// out of memory.
 ///
 /// Views that are kept up to date from the change alone: Mumick, Quass, Mumick, SIGMOD 1997.
 pub fn append(
@@ -119,7 +119,7 @@ pub fn append(
 /// (`Outside`), a least or a greatest that is its value (`Extreme`), or a count of at most 2 (`Short`), or takes its
 /// row's sum past `MOST_SUM` (`Bound`). It takes the memory of a summary table and of a summary for each member
 /// that has a fact, and one look at a list for each such member and view; for each fact and view, if one is refused.
-/// `Memory`: want of memory.
+/// `Memory`: out of memory.
 pub fn retract(
     alloc: Global,
     legal: &Legal,

@@ -1,4 +1,4 @@
--- When frozen dimensions, as the program has them, are the counterexample to a cube's summarizability.
+-- Frozen dimensions, as the program has them, that are the counterexample to a cube's summarizability.
 --     chosen_of                   the definitions' choice
 --     IsCubeCounterexampleFound   they are the counterexample
 use Rattle.std.specs.Prelude.{◌≡◌, ℕ, List, [], ◌∷◌, map}

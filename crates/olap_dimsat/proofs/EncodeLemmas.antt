@@ -29,11 +29,13 @@ use Rattle.olap_dimsat.specs.Reads.{Reads, index_in}
 use Rattle.olap_dimsat.specs.Pinned.{AreAllMet, IsEncoded}
 use Rattle.olap_dimsat.proofs.Truths.{is_same, same_is}
 
+-- the encoder's problem of a task
 abbrev pub problem_in : Task → Problem
 problem_in t = record { schema = schema_of t; question = t.question; root = t.root; candidates = candidates_of t.named }
 
 -- ---- literals
 
+-- a true literal gives its variable the value of its sign
 pub literal_holds : (v : ℕ → Bool) (l : ℕ) → Is v l → v (l / 2) ≡ (l % 2 == 0)
 unfolding value
 literal_holds v l h = go (l % 2 == 0) (v (l / 2)) h
@@ -43,9 +45,11 @@ literal_holds v l h = go (l % 2 == 0) (v (l / 2)) h
     go false true h = absurd (let z : false ≡ true = h in cc)
     go false false h = refl
 
+-- a clause with one literal more stays true
 pub satisfies_more : (v : ℕ → Bool) (ls : List Lit) (l : Lit) → Satisfies v ls → Satisfies v (ls ++ l ∷ [])
 satisfies_more v ls l s = (s.0, Contains-append_left ls (l ∷ []) s.0 s.1, s.2)
 
+-- a clause whose last literal is true is true
 pub satisfies_last : (v : ℕ → Bool) (ls : List Lit) (l : Lit) → Holds v l → Satisfies v (ls ++ l ∷ [])
 satisfies_last v ls l h = (l, last ls l, h)
   where
@@ -55,6 +59,7 @@ satisfies_last v ls l h = (l, last ls l, h)
 
 -- ---- the problem that the encoder is handed
 
+-- a valid schema and a question of its graph are a problem
 pub problem_for : (p : Problem) → IsCategory p.schema.graph p.root → IsValidSchema p.schema
     → IsFormulaAt p.schema.graph p.root p.question → AreCandidates p.schema p.question p.candidates
     → IsProblem p × IsSpokenProblem p
@@ -67,6 +72,7 @@ problem_for p r v q k = (
   },
 )
 
+-- names that are equal are the same candidates
 pub same_candidates : (fresh : List ℕ) (first : List (List ℕ)) (texts : List (List (List ℕ))) (named : TheNames)
     → fresh ≡ named.fresh → first ≡ named.first → texts ≡ named.texts
     → candidates_of named ≡ record { first = λ d. slice_index_or first d fresh; texts = λ d. slice_index_or texts d [] }
@@ -75,11 +81,13 @@ same_candidates fresh first texts named f g t = λ i. record {
   texts = λ d. slice_index_or (sym t i) d [];
 }
 
+-- and make the same problem
 pub same_problem : (s : Schema) (q : Formula) (r : ℕ) (k l : Candidates) → k ≡ l
     → ◌≡◌ {A = Problem} (record { schema = s; question = q; root = r; candidates = k })
     (record { schema = s; question = q; root = r; candidates = l })
 same_problem s q r k l e = λ i. record { schema = s; question = q; root = r; candidates = e i }
 
+-- an item doesn't depend on what would stand where there is none
 pub other_default : {A : Type 0} (xs : List A) (k : ℕ) (d e : A) → k < length xs → get_or xs k d ≡ get_or xs k e
 other_default [] k d e h = absurd (omega arith)
 other_default (x ∷ xs) zero d e h = refl
@@ -87,21 +95,25 @@ other_default (x ∷ xs) (suc k) d e h = other_default xs k d e (omega arith)
 
 -- ---- what its valuations read
 
+-- two values are equal if each follows from the other
 pub same_truth : (a b : Bool) → (a ≡ true → b ≡ true) → (b ≡ true → a ≡ true) → a ≡ b
 same_truth a b f g = elim (cases_Bool a) [
   | inl y ↦ y ∙ sym (f y)
   | inr n ↦ n ∙ sym (false_from_ne_true b (λ y. let z : true ≡ false = sym (g y) ∙ n in cc))
 ]
 
+-- an index is the same by the words of both crates
 pub index_same : (f : Frozen) (c : ℕ) → index_of f c ≡ index_in f c
 index_same f zero = refl
 index_same f (suc c) = refl
 
+-- a variable has the value of its meaning
 at_meaning : (t : Task) (f : Frozen) (ms : List Meaning) (v : ℕ → Bool) (x : ℕ) (m : Meaning) → x < length ms
     → meaning_at ms x ≡ m
     → Fits (schema_of t) t.root f ms v → IsTrue (v x) ↔ Means (schema_of t) t.root f v m
 at_meaning t f ms v x m h e fits = subst (λ n. IsTrue (v x) ↔ Means (schema_of t) t.root f v n) e (fits.at x h)
 
+-- a valuation that fits meanings laid out so reads the frozen dimension
 pub reads : (t : Task) (f : Frozen) (ms : List Meaning) (v : ℕ → Bool)
     → IsLaidOut (problem_in t) ms t.layout.starts.items
     → t.layout.edges ≡ length t.graph.edges → Fits (schema_of t) t.root f ms v → Reads t f v
@@ -120,6 +132,7 @@ reads t f ms v laid edges fits = record {
       same_truth _ _ (λ y. is_same _ _ (sym (index_same f c) ∙ i.0 y)) (λ y. i.1 (index_same f c ∙ same_is _ _ y));
 }
 
+-- meanings laid out so lay the task out
 pub laid_for : (t : Task) (ms : List Meaning) → IsLaidOut (problem_in t) ms t.layout.starts.items → length ms ≤ 2 ^ 30
     → t.layout.edges ≡ length t.graph.edges → t.layout.variables ≡ length ms → IsLaid t
 laid_for t ms laid few edges variables = record {
@@ -130,6 +143,7 @@ laid_for t ms laid few edges variables = record {
   names = λ c j h b. let l = (laid.named c j h b).0 in omega arith;
 }
 
+-- the task is encoded in a pool with the encoder's clauses
 pub encoded : (t : Task) (e : Encoding) (pool : Pool) → IsHierarchy t.graph → IsCategory t.graph t.root
     → AreCandidates (schema_of t) t.question (candidates_of t.named) → length t.named.texts ≡ category_count t.graph
     → IsLaidOut (problem_in t) e.meanings t.layout.starts.items → length e.meanings ≤ 2 ^ 30

@@ -21,6 +21,7 @@ pub record Differ (xs ys : List ℕ) : Type 0 where
   pub same : (k : ℕ) → k < place → slice_index ys k ≡ slice_index xs k
   pub more : slice_index xs place < slice_index ys place
 
+-- two codes that differ do so first at some place
 first_place : (xs ys : List ℕ) → length xs ≡ length ys → IsNotAfter xs ys → (xs ≡ ys → ⊥) → Differ xs ys
 first_place [] [] e n d = absurd (d refl)
 first_place [] (y ∷ ys) e n d = absurd (omega arith)
@@ -44,6 +45,7 @@ first_place (x ∷ xs) (y ∷ ys) e (inr t) d =
     same q n s zero h = sym q
     same q n s (suc k) h = s k (omega arith)
 
+-- of two numbers one is less, or they are equal
 which : (x y : ℕ) → (x < y) ⊎ ((x ≡ y) ⊎ (y < x))
 which x y = grind arith
 
@@ -80,15 +82,19 @@ code_one t f h a b q =
     sym (code_name t f p c a refl) ∙ ap (λ c. slice_index c p) q ∙ code_name t h p c b refl) in
     λ i. record { edges = es i; names = ns i }
 
+-- codes of one task have one length
 pub same_length : (t : Task) (f h : Frozen) → IsOne t f → IsOne t h → length (code f) ≡ length (code h)
 same_length t f h a b = length-code t f a ∙ sym (length-code t h b)
 
+-- a frozen dimension that comes later differs first at some place
 differ : (t : Task) (w f : Frozen) → IsOne t w → IsOne t f → IsBefore w f → Differ (code w) (code f)
 differ t w f a b l = first_place (code w) (code f) (same_length t w f a b) l.0 (λ q. l.1 (code_one t w f a b q))
 
+-- a place is within the code
 place_inside : (t : Task) (w : Frozen) (p : ℕ) → IsOne t w → IsPlace t p → p < length (code w)
 place_inside t w p one h = let l = length-code t w one in omega arith
 
+-- what is within the code is a place
 inside_place : (t : Task) (w : Frozen) (p : ℕ) → IsOne t w → p < length (code w) → IsPlace t p
 inside_place t w p one h = let l = length-code t w one in omega arith
 
@@ -149,6 +155,7 @@ module _ (t : Task) (p : ℕ) (w x y : Frozen) (a : IsOne t w) (b : IsOne t y) (
         (λ q h s. no_less f one (differ t w f a one l) q (inside_place t y q b h) s);
   }
 
+-- where there is more at no place, nothing comes later
 pub none_after : (t : Task) (w : Frozen) → IsOne t w → ((q : ℕ) → IsPlace t q → NoneMore t q w) → NoneAfter t w
 none_after t w a none f one l =
     let d = differ t w f a one l in none d.place (inside_place t w d.place a d.inside) f one d.same d.more
@@ -174,6 +181,7 @@ in_range t f p one h = record { edge = edge; name = name }
         let s : suc c ≡ c + 1 = omega arith in
         subst (λ k. slice_index (code f) p ≤ constant_count t k) s (omega arith)
 
+-- a place with its greatest number can't have more
 pub none_full : (t : Task) (p n most : ℕ) (w : Frozen) → IsPlace t p → n ≡ slice_index (code w) p
     → ((x : ℕ) → InRange t p x → x ≤ most) → most ≤ n → NoneMore t p w
 none_full t p n most w h q top l f one s m =
@@ -183,6 +191,7 @@ none_full t p n most w h q top l f one s m =
 abbrev pub NoneBetween : Task → ℕ → ℕ → ℕ → List Step → Type 0
 NoneBetween t p n x steps = (k : ℕ) → n < k → k < x → NoneAt t p k steps
 
+-- nor can one whose greater numbers were all refuted
 pub none_more : (t : Task) (p n most : ℕ) (w : Frozen) (old : List Step) (e : Engine) → IsReady t e → IsPinned t p w old
     → IsPlace t p → n ≡ slice_index (code w) p → ((x : ℕ) → InRange t p x → x ≤ most) → NoneBetween t p n (most + 1) old
     → NoneMore t p w
@@ -191,6 +200,7 @@ none_more t p n most w old e ready i h q top none f one s m =
     let v = ready f one in
     none (slice_index (code f) p) (omega arith) (omega arith) f v.0 one v.1 ((i.exactly f v.0 one v.1).1 s) refl
 
+-- the least that has more at this place, with the places before as they are
 pub raised : (t : Task) (p n x : ℕ) (w y : Frozen) (old new : List Step) (e : Engine) → IsReady t e → IsPinned t p w old
     → n ≡ slice_index (code w) p → n < x → NoneBetween t p n x old → IsReplaced t p x w y new → IsRaised t p w y
 raised t p n x w y old new e ready i q l none r = record {

@@ -55,6 +55,7 @@ known_same No P Q t f g = λ q. t (g q)
 known_same Yes P Q t f g = f t
 known_same Unknown P Q t f g = tt
 
+-- what is known of two is known of both
 known_both : (x y : Truth3) (P Q : Type 0) → Tells x P → Tells y Q → Tells (both x y) (P × Q)
 known_both No No P Q a b = λ t. a t.0
 known_both No Yes P Q a b = λ t. a t.0
@@ -74,9 +75,11 @@ has_some [] c k h = absurd (omega arith)
 has_some (x ∷ xs) zero k h = omega arith
 has_some (x ∷ xs) (suc c) k h = let r = has_some xs c k h in omega arith
 
+-- what isn't below by the test isn't
 test_false : (c n : ℕ) → nat_lt c n ≡ false → c < n → ⊥
 test_false c n e h = grind (arith, nat_tests)
 
+-- what is below by the test is
 test_true : (c n : ℕ) → nat_lt c n ≡ true → c < n
 test_true c n e = grind (arith, nat_tests)
 
@@ -99,11 +102,13 @@ pub reach_test : (g : Graph) (c d : ℕ) (r b : Bool) → IsTrue r ↔ CategoryR
 reach_test g c d r b i e = let is = category_reaches_is g c d in
     same_truth (category_reaches g c d) r (λ y. i.1 (is.0 y)) (λ y. is.1 (i.0 y)) ∙ e
 
+-- what is known of a way, by what present edges and all edges lead to
 pub way_by : (t : Task) (d : Decided) (c e : ℕ) (b w : Bool) → category_reaches (present_graph d) c e ≡ b
     → category_reaches t.graph c e ≡ w → cond b Yes (cond w Unknown No) ≡ way t d c e
 way_by t d c e b w p q = sym (ap (λ x. cond x Yes (cond (category_reaches t.graph c e) Unknown No)) p
     ∙ ap (λ x. cond b Yes (cond x Unknown No)) q)
 
+-- the place that was found is one of the list
 pub place_inside : (text : List ℕ) (texts : List (List ℕ)) (o : Option ℕ) → o ≡ place_of text texts
     → IfSome o (λ j. j < length texts)
 place_inside text texts None e = tt

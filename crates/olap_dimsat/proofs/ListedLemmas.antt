@@ -16,6 +16,7 @@ use Rattle.olap_dimsat.proofs.FollowingLemmas.{code_one, same_length}
 
 -- ---- the order
 
+-- no later than what comes no later
 not_after_again : (xs ys zs : List ℕ) → IsNotAfter xs ys → IsNotAfter ys zs → IsNotAfter xs zs
 not_after_again [] ys zs a b = tt
 not_after_again (x ∷ xs) [] zs a b = absurd a
@@ -25,12 +26,14 @@ not_after_again (x ∷ xs) (y ∷ ys) (z ∷ zs) (inl l) (inr m) = let e = m.0 i
 not_after_again (x ∷ xs) (y ∷ ys) (z ∷ zs) (inr l) (inl m) = let e = l.0 in inl (omega arith)
 not_after_again (x ∷ xs) (y ∷ ys) (z ∷ zs) (inr l) (inr m) = inr (l.0 ∙ m.0, not_after_again xs ys zs l.1 m.1)
 
+-- two lists of which neither comes later are equal
 both_ways : (xs ys : List ℕ) → length xs ≡ length ys → IsNotAfter xs ys → IsNotAfter ys xs → xs ≡ ys
 both_ways xs ys e a b = elim (compare xs ys e) [
   | inl s ↦ absurd (not_both ys xs b s)
   | inr r ↦ elim r [ inl q ↦ q | inr s ↦ absurd (not_both xs ys a s) ]
 ]
 
+-- before what comes before
 before_again : (t : Task) (f w y : Frozen) → IsOne t f → IsOne t w → IsBefore f w → IsBefore w y → IsBefore f y
 before_again t f w y a b l m = (
   not_after_again (code f) (code w) (code y) l.0 m.0,
@@ -67,6 +70,7 @@ pub record IsAhead (t : Task) (list : List Frozen) (w : Frozen) : Type 0 where
 abbrev pub HasAll : Task → List Frozen → Type 0
 HasAll t list = (f : Frozen) → IsOne t f → Contains list f
 
+-- one more of which it holds
 all_push : (P : Frozen → Type 0) (xs : List Frozen) (y : Frozen) → All P xs → P y → All P (xs ++ y ∷ [])
 all_push P xs y a p = All-append P xs (y ∷ []) a last
   where
@@ -74,12 +78,15 @@ all_push P xs y a p = All-append P xs (y ∷ []) a last
     last zero d h = p
     last (suc k) d h = absurd (omega arith)
 
+-- what was pushed is in the list
 contains_last : (xs : List Frozen) (y : Frozen) → Contains (xs ++ y ∷ []) y
 contains_last xs y = Contains-append_right xs (y ∷ []) y (contains_head y [])
 
+-- the empty list is the front of all
 pub front_none : (t : Task) → IsFront t []
 front_none t = record { ordered = λ i j d a b. absurd (omega arith); sound = λ k d h. absurd (omega arith) }
 
+-- and with the one that comes next
 pub front_more : (t : Task) (list : List Frozen) (w : Frozen) → IsFront t list → IsAhead t list w
     → IsFront t (list ++ w ∷ [])
 front_more t list w f a = record {
@@ -87,6 +94,7 @@ front_more t list w f a = record {
   sound = all_push (IsOne t) list w f.sound a.one;
 }
 
+-- the least comes next after none
 pub ahead_first : (t : Task) (w : Frozen) → IsLeast t w → IsAhead t [] w
 ahead_first t w l = record {
   one = l.is_one;
@@ -105,6 +113,7 @@ left t list w a f one = elim (a.rest f one) [
   ]
 ]
 
+-- the next comes next after the one that was pushed
 pub ahead_more : (t : Task) (list : List Frozen) (w y : Frozen) → IsFront t list → IsAhead t list w → IsNext t w y
     → IsAhead t (list ++ w ∷ []) y
 ahead_more t list w y f a n = record {
@@ -114,13 +123,16 @@ ahead_more t list w y f a n = record {
   rest = λ h one. elim (left t list w a h one) [ inl c ↦ inl c | inr b ↦ inr (n.least h one b) ];
 }
 
+-- where none comes after the last, the list has all
 pub has_all : (t : Task) (list : List Frozen) (w : Frozen) → IsAhead t list w → NoneAfter t w
     → HasAll t (list ++ w ∷ [])
 has_all t list w a none f one = elim (left t list w a f one) [ inl c ↦ c | inr b ↦ absurd (none f one b) ]
 
+-- what holds of all holds of each
 at_element : (P : Frozen → Type 0) (xs : List Frozen) → All P xs → (f : Frozen) → Contains xs f → P f
 at_element P xs a f c = subst P c.2 (a c.0 f c.1)
 
+-- a front that has all is the list of all
 pub all_frozen : (t : Task) (list : List Frozen) → IsTask t → IsFront t list → HasAll t list
     → AreAllFrozen (schema_of t) t.question t.root (candidates_of t.named) list
 all_frozen t list k f h = record {
@@ -130,6 +142,7 @@ all_frozen t list k f h = record {
   complete = h;
 }
 
+-- a front with one ahead is of more than its length
 pub more_than : (t : Task) (list : List Frozen) (w : Frozen) (n : ℕ) → IsTask t → IsFront t list → IsAhead t list w
     → n ≤ length list → AreMoreThan n (schema_of t) t.question t.root (candidates_of t.named)
 more_than t list w n k f a h =

@@ -30,16 +30,20 @@ use Rattle.olap_dimsat.specs.Searches.{IsMadeWith, IsSizedFor, found_in, root_of
 use Rattle.olap_dimsat.specs.Asking.{IsFor, IsSuited}
 use Rattle.olap_dimsat.specs.Pinned.{AreShaped, IsEncoded, IsLeast, IsReady}
 
+-- the first none are none
 take_none : (ss : List Step) → take 0 ss ≡ []
 take_none [] = refl
 take_none (s ∷ ss) = refl
 
+-- an engine that was taken back to nothing has nothing
 pub undone : (e : Engine) (ss : List Step) → trail_of e ≡ take 0 ss → trail_of e ≡ []
 undone e ss q = q ∙ take_none ss
 
+-- the state is fit for an engine of as many variables
 pub suited_still : (t : Task) (leaf : Leaf) (m n : ℕ) → IsSuited t leaf m → n ≡ m → IsSuited t leaf n
 suited_still t leaf m n s q = subst (λ k. IsSuited t leaf k) (sym q) s
 
+-- an engine that admits what satisfies the pool admits all frozen dimensions
 pub ready_first : (t : Task) (pool : Pool) (e : Engine) → IsEncoded t pool
     → ((v : ℕ → Bool) → AreTrue v pool → admits v e) → IsReady t e
 ready_first t pool e i a f one = let w = i.each f one in (w.0, w.1, a w.0 w.2)
@@ -154,14 +158,17 @@ whole s g cs p q = λ i. record { graph = p i; constraints = q i }
 
 -- ---- what is handed out: `All` has the index 0
 
+-- the index of `All` doesn't count among those of declared categories
 declared_same : (names : List ℕ) → of_declared (set names 0 0) ≡ of_declared names
 declared_same [] = refl
 declared_same (x ∷ xs) = refl
 
+-- and can be set to 0
 pub all_zero : (names : List ℕ) → IsZeroAtAll (set names 0 0)
 all_zero [] = refl
 all_zero (x ∷ xs) = refl
 
+-- a declared category's index stands one place earlier without it
 at_declared : (names : List ℕ) (c : ℕ) → slice_index (of_declared names) c ≡ slice_index (set names 0 0) (suc c)
 at_declared [] c = refl
 at_declared (x ∷ xs) c = refl

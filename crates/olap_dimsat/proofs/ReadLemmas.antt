@@ -33,21 +33,26 @@ pub index_absent : (t : Task) (f : Frozen) (c : ℕ) → IsOne t f → c < categ
 index_absent t f zero one h p = refl
 index_absent t f (suc c) one h p = one.absent c (let n = one.name_count in omega arith) p
 
+-- the first name is no constant
 pub zero_not_suc : (i k : ℕ) → i ≡ 0 → (i == suc k) ≡ false
 zero_not_suc i k e = false_from_ne_true (i == suc k) (λ t. let q = same_is i (suc k) t in omega arith)
 
+-- a name that is no constant is the first one
 pub no_constant : (t : Task) (f : Frozen) (c n : ℕ) → IsOne t f → c < category_count t.graph → n ≡ constant_count t c
     → ((k : ℕ) → k < n → (index_in f c == suc k) ≡ false) → index_in f c ≡ 0
 no_constant t f c n one h e none = none_is_zero (index_in f c) n (let s = index_small t f c one h in omega arith) none
 
+-- a declared category's index stands one place earlier without that of `All`
 at_declared : (names : List ℕ) (c : ℕ) → slice_index (of_declared names) c ≡ slice_index names (suc c)
 at_declared [] c = refl
 at_declared (n ∷ ns) c = refl
 
+-- without `All` there is one entry less
 length-declared : (names : List ℕ) (n : ℕ) → length names ≡ n + 1 → length (of_declared names) ≡ n
 length-declared [] n e = absurd (omega arith)
 length-declared (x ∷ xs) n e = omega arith
 
+-- the index of a declared category is its entry
 pub index_of_choice : (edges : List Bool) (names : List ℕ) (c : ℕ) → c ≢ 0
     → index_in (chosen_of edges names) c ≡ slice_index names c
 index_of_choice edges names zero n = absurd (n refl)

@@ -21,21 +21,26 @@ use Rattle.olap_dimsat.proofs.ReadLemmas.{index_small}
 
 -- ---- codes
 
+-- a truth value as a number
 abbrev pub bit : Bool → ℕ
 bit b = cond b 1 0
 
+-- equal numbers, equal values
 pub same_bit : (x y : Bool) → bit x ≡ bit y → x ≡ y
 same_bit true true h = refl
 same_bit true false h = absurd (omega arith)
 same_bit false true h = absurd (omega arith)
 same_bit false false h = refl
 
+-- the edges as numbers
 abbrev bits : List Bool → List ℕ
 bits es = map (λ b. cond b 1 0) es
 
+-- as many as edges
 length-bits : (es : List Bool) → length (bits es) ≡ length es
 length-bits es = length-map es (λ b. cond b 1 0)
 
+-- the code has an edge's bit at its place
 pub code_edge : (t : Task) (f : Frozen) (e : ℕ) → IsOne t f → e < length t.graph.edges
     → slice_index (code f) e ≡ bit (slice_index_or f.edges e false)
 code_edge t f e one h =
@@ -44,6 +49,7 @@ code_edge t f e one h =
     get_or_append_left (bits f.edges) f.names 0 e (omega arith)
     ∙ get_or-map (λ b. cond b 1 0) f.edges e false 0 (omega arith)
 
+-- and behind the edges the index of each declared category
 pub code_name : (t : Task) (f : Frozen) (p c : ℕ) → IsOne t f → p ≡ length t.graph.edges + c
     → slice_index (code f) p ≡ slice_index f.names c
 code_name t f p c one e =
@@ -53,11 +59,13 @@ code_name t f p c one e =
     get_or-append_right (bits f.edges) f.names (length t.graph.edges) p 0 (l ∙ n) (omega arith)
     ∙ ap (λ i. slice_index f.names i) m
 
+-- the same, by the category
 pub code_index : (t : Task) (f : Frozen) (c : ℕ) → IsOne t f → c ≢ 0
     → slice_index (code f) (length t.graph.edges + c - 1) ≡ index_in f c
 code_index t f zero one n = absurd (n refl)
 code_index t f (suc c) one n = code_name t f (length t.graph.edges + suc c - 1) c one (omega arith)
 
+-- as many places as edges and declared categories
 pub length-code : (t : Task) (f : Frozen) → IsOne t f → length (code f) ≡ length t.graph.edges + length t.graph.names
 length-code t f one =
     let l : length (bits f.edges) ≡ length f.edges = length-bits f.edges in
@@ -71,9 +79,11 @@ length-code t f one =
 abbrev pub NamedSo : Task → (ℕ → Bool) → ℕ → ℕ → ℕ → Type 0
 NamedSo t v c i n = (k : ℕ) → k < n → v (name_variable t.layout c k) ≡ (suc k == i)
 
+-- a place below the next is earlier, or this one
 pub at_or_below : (q p : ℕ) → q < p + 1 → (q < p) ⊎ (q ≡ p)
 at_or_below q p h = grind arith
 
+-- one constant more of which the valuation says whether it is the name
 pub named_more : (t : Task) (v : ℕ → Bool) (c i n : ℕ) → NamedSo t v c i n
     → v (name_variable t.layout c n) ≡ (suc n == i)
     → NamedSo t v c i (n + 1)
@@ -82,40 +92,48 @@ named_more t v c i n s e k h = elim (at_or_below k n h) [
   | inr q ↦ subst (λ m. v (name_variable t.layout c m) ≡ (suc m == i)) (sym q) e
 ]
 
+-- the test of two numbers, either way
 eq_sym : (a b : ℕ) → (a == b) ≡ (b == a)
 eq_sym a b = elim (cases_Bool (a == b)) [
   | inl y ↦ y ∙ sym (is_same b a (sym (same_is a b y)))
   | inr n ↦ n ∙ sym (false_from_ne_true (b == a) (λ y. let z : true ≡ false = sym (is_same a b (sym (same_is b a y))) ∙ n in cc))
 ]
 
+-- one more than a number isn't 0
 suc_not_zero : (k : ℕ) → (suc k == 0) ≡ false
 suc_not_zero k = false_from_ne_true (suc k == 0) (λ y. let q = same_is (suc k) 0 y in omega arith)
 
+-- an index is known by which constants it is
 index_from : (i x n : ℕ) → i ≤ n → x ≤ n → ((k : ℕ) → k < n → (x == suc k) ≡ (suc k == i)) → x ≡ i
 index_from zero x n h l f = none_is_zero x n l (λ k b. f k b ∙ suc_not_zero k)
 index_from (suc i) x n h l f = same_is x (suc i) (f i (omega arith) ∙ is_same (suc i) (suc i) refl)
 
+-- so a valuation that says so of all constants has that index
 pub index_of_named : (t : Task) (f : Frozen) (v : ℕ → Bool) (c i : ℕ) → IsOne t f → Reads t f v
     → c < category_count t.graph
     → i ≤ constant_count t c → NamedSo t v c i (constant_count t c) → index_in f c ≡ i
 index_of_named t f v c i one r h l s = index_from i (index_in f c) (constant_count t c) l (index_small t f c one h)
     (λ k b. sym (r.named c k h b) ∙ s k b)
 
+-- and a valuation that reads the index says so of all
 pub named_of_index : (t : Task) (f : Frozen) (v : ℕ → Bool) (c i : ℕ) → Reads t f v → c < category_count t.graph
     → index_in f c ≡ i → NamedSo t v c i (constant_count t c)
 named_of_index t f v c i r h e k b = r.named c k h b ∙ eq_sym (index_in f c) (suc k) ∙ ap (λ x. suc k == x) e
 
 -- ---- pinned places
 
+-- one place more that is the same
 same_more : (p : ℕ) (f w : Frozen) → IsSame p f w → slice_index (code f) p ≡ slice_index (code w) p → IsSame (p + 1) f w
 same_more p f w s e q h = elim (at_or_below q p h) [
   | inl l ↦ s q l
   | inr z ↦ subst (λ m. slice_index (code f) m ≡ slice_index (code w) m) (sym z) e
 ]
 
+-- one place less
 same_less : (p : ℕ) (f w : Frozen) → IsSame (p + 1) f w → IsSame p f w
 same_less p f w s q h = s q (omega arith)
 
+-- with literals that say what stands at one place more, this is pinned too
 pub pinned_more : (t : Task) (p : ℕ) (w : Frozen) (old new : List Step) → IsPinned t p w old
     → SayAt t p (slice_index (code w) p) old new → AreShaped t new → IsPinned t (p + 1) w new
 pinned_more t p w old new i say shaped = record {
@@ -127,6 +145,7 @@ pinned_more t p w old new i say shaped = record {
   );
 }
 
+-- another one with the same beginning is pinned as well
 pub pinned_other : (t : Task) (p : ℕ) (w x : Frozen) (steps : List Step) → IsPinned t p w steps → IsOne t x
     → IsSame p x w → IsPinned t p x steps
 pinned_other t p w x steps i one same = record {
@@ -138,6 +157,7 @@ pinned_other t p w x steps i one same = record {
   );
 }
 
+-- a number that is none of the smaller ones is at least so great
 pub at_least : (x y : ℕ) → ((k : ℕ) → k < x → y ≡ k → ⊥) → x ≤ y
 at_least x y f = elim (which y x) [ inl l ↦ absurd (f y l refl) | inr h ↦ h ]
   where
@@ -151,6 +171,7 @@ low t p x w old e ready i none f one same =
     let v = ready f one in
     at_least x (slice_index (code f) p) (λ k h q. none k h f v.0 one v.1 ((i.exactly f v.0 one v.1).1 same) q)
 
+-- where all smaller numbers were refuted, none has less at this place
 pub none_less : (t : Task) (p x : ℕ) (w y : Frozen) (old : List Step) (e : Engine) → IsReady t e → IsPinned t p w old
     → ((k : ℕ) → k < x → NoneAt t p k old) → IsSame p y w → slice_index (code y) p ≡ x → NoneLess t p y
 none_less t p x w y old e ready i none same q f one s =
@@ -162,6 +183,7 @@ pub none_less_still : (t : Task) (p q : ℕ) (w y : Frozen) → q < p → IsSame
 none_less_still t p q w y l same less f one s =
     subst (λ n. n ≤ slice_index (code f) q) (sym (same q l)) (less f one (λ k h. s k h ∙ same k (omega arith)))
 
+-- a witness of a number at this place takes the place of the best
 pub replaced : (t : Task) (p x : ℕ) (w y : Frozen) (old new : List Step) (e : Engine) → IsReady t e → IsPinned t p w old
     → AreShaped t new → IsProbed t p x y old new → IsReplaced t p x w y new
 replaced t p x w y old new e ready i shaped b =
@@ -185,6 +207,7 @@ pub has_its_own : (t : Task) (p x : ℕ) (w : Frozen) (old : List Step) (e : Eng
 has_its_own t p x w old e ready i q none =
     let v = ready w i.one in none w v.0 i.one v.1 ((i.exactly w v.0 i.one v.1).1 (λ k h. refl)) (sym q)
 
+-- without literals no place is pinned
 pub pinned_start : (t : Task) (w : Frozen) (steps : List Step) → steps ≡ [] → IsOne t w → IsPinned t 0 w steps
 pinned_start t w steps e one = subst (λ ss. IsPinned t 0 w ss) (sym e) (record {
   one = one;
@@ -216,6 +239,7 @@ none_less_settled t from q w old after e ready i l follows settled f one s =
 
 -- ---- the least
 
+-- a code that is at no first difference greater comes no later
 pub not_after : (xs ys : List ℕ) → length xs ≡ length ys
     → ((q : ℕ) → q < length xs → ((k : ℕ) → k < q → slice_index ys k ≡ slice_index xs k)
     → slice_index xs q ≤ slice_index ys q)
@@ -235,6 +259,7 @@ not_after (x ∷ xs) (y ∷ ys) e f = elim (cases x y (f 0 (omega arith) (λ k h
     same q k s zero h = sym q
     same q k s (suc j) h = s j (omega arith)
 
+-- what is least at each place is the least
 pub least_of_places : (t : Task) (w : Frozen) → IsTask t → IsOne t w → ((p : ℕ) → IsPlace t p → NoneLess t p w)
     → IsLeast t w
 least_of_places t w k one less = record {
@@ -246,6 +271,7 @@ least_of_places t w k one less = record {
 
 -- ---- trails
 
+-- the first of a longer trail are the trail
 pub take_longer : (old new : List Step) → IsLonger old new → take (length old) new ≡ old
 take_longer old new l = ap (take (length old)) l.1 ∙ front old l.0
   where
@@ -257,12 +283,15 @@ take_longer old new l = ap (take (length old)) l.1 ∙ front old l.0
         take_none (t ∷ ts) = refl
     front (s ∷ ss) ts = ap (λ r. s ∷ r) (front ss ts)
 
+-- longer than what is longer
 pub longer_again : (a b c : List Step) → IsLonger a b → IsLonger b c → IsLonger a c
 longer_again a b c l m = (l.0 ++ m.0, m.1 ∙ ap (λ x. x ++ m.0) l.1 ∙ append_assoc a l.0 m.0)
 
+-- the same, under another name
 pub longer_same : (a b c : List Step) → IsLonger a b → c ≡ b → IsLonger a c
 longer_same a b c l e = (l.0, e ∙ l.1)
 
+-- one literal more of an edge or a name
 pub shaped_more : (t : Task) (old : List Step) (s : Step) → AreShaped t old → IsShaped t s.lit
     → AreShaped t (old ++ s ∷ [])
 shaped_more t old s shaped is k d h = elim (which k (length old)) [

@@ -30,13 +30,16 @@ use Rattle.olap_dimsat.specs.Tracking.{AreRead, IsOf}
 
 -- ---- decisions that come one by one
 
+-- what is turned to true is false
 pub not_is : (b : Bool) → not b ≡ true → false ≡ b
 not_is true p = absurd (let z : false ≡ true = p in cc)
 not_is false p = refl
 
+-- no decision, none to be right
 pub read_none : (t : Task) (trail : Trail) → AreRead t trail []
 read_none t trail = All-nil (λ (d : Decision). EdgeReads t trail d.edge d.present)
 
+-- one decision more that is so in each frozen dimension
 pub read_more : (t : Task) (trail : Trail) (ds : List Decision) (d : Decision) → AreRead t trail ds
     → EdgeReads t trail d.edge d.present → AreRead t trail (ds ++ d ∷ [])
 read_more t trail ds d a r = All-append (λ (d : Decision). EdgeReads t trail d.edge d.present) ds (d ∷ []) a
@@ -49,6 +52,7 @@ at_decision items ds k n z d e q h =
     let l : n < length items = let m = length-map items decision_of in let o = ap length e in omega arith in
     sym (get_or-map decision_of items n z d l) ∙ ap (λ xs. get_or xs n d) e ∙ ap (λ m. get_or ds m d) q
 
+-- a decision is on an edge of the graph
 pub edge_inside : (t : Task) (d : Decided) → IsOf t d → AreDecisions d → (items : List OneDecision)
     → decisions_of items ≡ d.decisions → (k n : ℕ) (z : OneDecision) → n ≡ k → k < length d.decisions
     → (get_or items n z).edge.0 < length t.graph.edges
@@ -75,9 +79,11 @@ pub wider : {R S : ℕ → ℕ → Type 0} → ((x y : ℕ) → R x y → S x y)
 wider f here = here
 wider f (step {x = c} {y = z} r s) = step (f c z r) (wider f s)
 
+-- a chain of one relation is one of a wider one
 wider_climb : {R S : ℕ → ℕ → Type 0} → ((x y : ℕ) → R x y → S x y) → {c d : ℕ} → Climb R c d → Climb S c d
 wider_climb f {c} (climb {z = z} r s) = climb (f c z r) (wider f s)
 
+-- a bit that is set has a place in the list
 bit_inside : (bits : List Bool) (e : ℕ) → get_or bits e false ≡ true → e < length bits
 bit_inside [] e b = absurd (let z : false ≡ true = b in cc)
 bit_inside (x ∷ bits) zero b = omega arith

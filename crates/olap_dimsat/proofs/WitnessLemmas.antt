@@ -28,6 +28,7 @@ suits_holds t edges names v l s (inr n) r =
     ∙ ap (λ i. i == suc n.place) (index_of_choice edges names n.category n.declared)
     ∙ s.named n.category n.place n.inside n.declared n.count n.is
 
+-- a choice that was taken agrees with the literals that stood before
 pub taken_agrees : (t : Task) (edges : List Bool) (names : List ℕ) (v : ℕ → Bool) (ss ts : List Step)
     → IsTaken t edges names (ss ++ ts) → AreShaped t ss → Reads t (chosen_of edges names) v → Agrees v ss
 taken_agrees t edges names v ss ts k shaped r = all_agree v ss (λ i d h.
@@ -35,6 +36,7 @@ taken_agrees t edges names v ss ts k shaped r = all_agree v ss (λ i d h.
     (subst (λ (s : Step). Suits t edges names s.lit) (get_or_append_left ss ts d i h)
     (k.suits i d (let l = length-append ss ts in omega arith))) (shaped i d h) r)
 
+-- an engine that admits what was meant still admits all frozen dimensions
 pub ready_still : (t : Task) (old new : Engine) → IsReady t old
     → ((v : ℕ → Bool) → IsMeant t v → admits v old → admits v new)
     → IsReady t new
@@ -48,6 +50,7 @@ same_value t f v w l (inr n) r s =
     ap v n.is ∙ r.named n.category n.place n.inside n.count ∙ sym (s.named n.category n.place n.inside n.count)
     ∙ sym (ap w n.is)
 
+-- two valuations of one frozen dimension agree with the same literals of edges and names
 pub same_agrees : (t : Task) (f : Frozen) (v w : ℕ → Bool) (ss : List Step) → AreShaped t ss → Reads t f v → Reads t f w
     → Agrees v ss → Agrees w ss
 same_agrees t f v w ss shaped r s a = all_agree w ss (λ k d h.

@@ -1,4 +1,4 @@
--- What an asker asks, and the state that it works in.
+-- The task of an asker, and the state that it works in.
 use Rattle.std.specs.Prelude.{◌≡◌, ℕ, length, map}
 use Rattle.olap_base.specs.Graph.{category_count}
 use Rattle.olap_ast.specs.Formula.{Formula}
@@ -12,6 +12,7 @@ use Rattle.olap_dimsat.specs.declared.layout.Layout.{Layout}
 use Rattle.olap_dimsat.specs.Tasks.{Task, IsTask}
 use Rattle.olap_dimsat.specs.Tracking.{IsOf}
 
+-- the task of an asker
 abbrev pub task_of : Asker → Task
 task_of a = record {
   graph = a.graph.now;

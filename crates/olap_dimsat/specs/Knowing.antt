@@ -1,4 +1,4 @@
--- What a trail tells of the frozen dimensions that agree with it.
+-- The knowledge that a trail gives of the frozen dimensions that agree with it.
 --     told           of a variable
 --     presence       of whether a category has a member
 --     knowledge      of edges, of reaching and of names
@@ -55,10 +55,11 @@ abbrev pub way : Task → Decided → ℕ → ℕ → Truth3
 way t d a b = if category_reaches (present_graph d) a b then Yes
     else if category_reaches t.graph a b then Unknown else No
 
+-- whether both hold, as far as it is known
 abbrev pub both : Truth3 → Truth3 → Truth3
 both x y = value_of_both ◌&&◌ x y
 
--- whether the category's name is its constant at this place; of other names nothing is known
+-- whether the category's name is the one at this place beside the first; of texts that are none nothing is known
 abbrev pub told_of_name : Task → Trail → ℕ → Option ℕ → Truth3
 told_of_name t trail c None = Unknown
 told_of_name t trail c (Some j) = told trail (name_variable t.layout c j)

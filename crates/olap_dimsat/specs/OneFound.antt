@@ -1,4 +1,4 @@
--- What is found where any frozen dimension serves.
+-- Frozen dimensions that were found where any serves.
 --     IsOneFound    it is a frozen dimension, and names are there for its indexes
 use Rattle.std.specs.Prelude.{◌≡◌, ℕ}
 use Rattle.olap_ast.specs.Formula.{Formula}

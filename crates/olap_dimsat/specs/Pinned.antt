@@ -1,4 +1,13 @@
--- How far the least frozen dimension is known.
+-- The least frozen dimension, as far as it is known.
+--     IsEncoded               a pool has the clauses of a task
+--     IsReady                 an engine admits all its frozen dimensions
+--     IsSame                  two codes begin alike
+--     IsPinned                the trail says what stands at the first places of a code
+--     NoneLess                at one place none with the same beginning has less
+--     SayAt, SaysAt           literals say what stands at a place
+--     IsSettled, NoneAt       what a trail leaves at a place
+--     IsPlace, InRange        places of codes, and the numbers that may stand there
+--     IsProbed, IsReplaced    another one, with a smaller number at a place
 use Rattle.std.specs.Prelude.{◌≡◌, ◌↔◌, ◌+◌, ◌-◌, ℕ, ◌<◌, ◌≤◌, List, ◌++◌, Bool, All, Contains, length, slice_index}
 use Rattle.olap_ast.specs.Frozen.{Frozen, IsLeastFrozen, code}
 use Rattle.olap_names.specs.Names.{candidates_of}
@@ -28,6 +37,7 @@ pub record IsEncoded (t : Task) (pool : Pool) : Type 0 where
 abbrev pub IsReady : Task → Engine → Type 0
 IsReady t e = (f : Frozen) → IsOne t f → (v : ℕ → Bool) × Reads t f v × admits v e
 
+-- each literal is one of an edge or a name
 abbrev pub AreShaped : Task → List Step → Type 0
 AreShaped t steps = All (λ s. IsShaped t s.lit) steps
 
@@ -67,6 +77,7 @@ NoneAt t p x old = (f : Frozen) (v : ℕ → Bool) → IsOne t f → Reads t f v
 abbrev pub IsLonger : List Step → List Step → Type 0
 IsLonger old new = (more : List Step) × (new ≡ old ++ more)
 
+-- it is the least frozen dimension of the task
 abbrev pub IsLeast : Task → Frozen → Type 0
 IsLeast t f = IsLeastFrozen (schema_of t) t.question t.root (candidates_of t.named) f
 

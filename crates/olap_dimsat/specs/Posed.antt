@@ -9,6 +9,7 @@ use Rattle.olap_dimsat.specs.Tasks.{Task, IsTask}
 use Rattle.olap_dimsat.specs.Asking.{task_at}
 use Rattle.olap_dimsat.specs.Pinned.{IsReady}
 
+-- the task that was put to an engine
 abbrev pub task_posed : Schema → Formula → ℕ → Posed → Task
 task_posed s q r p = task_at s q r p.candidates p.layout
 

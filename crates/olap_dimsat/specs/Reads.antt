@@ -49,7 +49,7 @@ EdgeReads t trail e b = OfAgreeing t trail (λ f. slice_index_or f.edges e false
 abbrev pub NameReads : Task → Trail → ℕ → ℕ → Type 0
 NameReads t trail c i = OfAgreeing t trail (λ f. index_in f c ≡ i)
 
--- whether the category's name is the constant at this place
+-- whether the category's name is the one at this place beside the first
 abbrev pub ConstantReads : Task → Trail → ℕ → ℕ → Bool → Type 0
 ConstantReads t trail c j b = OfAgreeing t trail (λ f. (index_in f c == suc j) ≡ b)
 
@@ -67,6 +67,7 @@ pub record Suits (t : Task) (edges : List Bool) (names : List ℕ) (l : Lit) : T
   pub named : (c j : ℕ) → c < category_count t.graph → c ≢ 0 → j < constant_count t c
       → l.variable ≡ name_variable t.layout c j → (slice_index names c == suc j) ≡ l.positive
 
+-- the variable is that of a declared category's name beside the first
 pub record IsNameVariable (t : Task) (x : ℕ) : Type 0 where
   pub category : ℕ
   pub place : ℕ
@@ -79,6 +80,7 @@ pub record IsNameVariable (t : Task) (x : ℕ) : Type 0 where
 abbrev pub IsShaped : Task → Lit → Type 0
 IsShaped t l = ((e : ℕ) × (e < length t.graph.edges) × (l.variable ≡ on_variable e)) ⊎ IsNameVariable t l.variable
 
+-- the choice agrees with each literal that is one of an edge or a name
 abbrev pub AllSuit : Task → List Bool → List ℕ → List Step → Type 0
 AllSuit t edges names steps = All (λ s. Suits t edges names s.lit) steps
 

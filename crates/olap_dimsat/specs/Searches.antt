@@ -1,4 +1,4 @@
--- What a search keeps.
+-- The inside of a search.
 --     IsMadeWith     the search is one for this schema and this question
 --     IsSizedFor     a value has the search's sizes
 --     found_in       a value with the search's names
@@ -37,6 +37,7 @@ pub record IsSizedFor (search : Search) (f : Frozen) : Type 0 where
   pub edges : length f.edges ≡ length search.best.edges
   pub names : length f.names ≡ length search.best.names
 
+-- the task of a search for this schema and question
 abbrev pub task_in : Schema → Formula → Search → Task
 task_in s q search = task_at s q search.root.0 search.candidates search.layout
 

@@ -1,4 +1,4 @@
--- What is asked of the search.
+-- Tasks: what is asked of the search.
 --     Task      a question at a root of a schema, the candidates for names, and where the variables are
 --     IsOne     a frozen dimension of the task
 --     IsLaid    each edge, category and name has a variable
@@ -18,19 +18,23 @@ pub record Task : Type 0 where
   pub named : Named
   pub layout : Layout
 
--- how many constants a category has
+-- how many names a category has beside the first: constants, or numerals
 abbrev pub constant_count : Task → ℕ → ℕ
 constant_count t c = length (slice_index_or t.named.texts c [])
 
+-- the variable of an edge
 abbrev pub on_variable : ℕ → ℕ
 on_variable e = 1 + e
 
+-- the variable of a category's presence
 abbrev pub present_variable : Layout → ℕ → ℕ
 present_variable l c = 1 + l.edges + c
 
+-- the variable that a category's name is the one at the place j beside the first
 abbrev pub name_variable : Layout → ℕ → ℕ → ℕ
 name_variable l c j = slice_index l.starts.items c + j
 
+-- the schema of a task
 abbrev pub schema_of : Task → Schema
 schema_of t = with_graph t.graph t.constraints
 
@@ -50,6 +54,7 @@ pub record IsLaid (t : Task) : Type 0 where
   pub names : (c j : ℕ) → c < category_count t.graph → j < constant_count t c
       → name_variable t.layout c j < t.layout.variables
 
+-- a question at a root of a hierarchy, with its candidates, laid out in variables
 pub record IsTask (t : Task) : Type 0 where
   pub hierarchy : IsHierarchy t.graph
   pub root : IsCategory t.graph t.root

@@ -1,4 +1,4 @@
-// What is asked, with all that an answer rests on.
+// The asker: what is asked, with all that an answer rests on.
 ghost use Rattle.std.specs.Prelude.{◌≡◌, [], IfOk, length};
 ghost use Rattle.olap_ast.specs.Trees.{formula_of};
 ghost use Rattle.olap_base.specs.Graph.{IsCategory, category_count};

@@ -1,4 +1,4 @@
-// Whether what a trail tells leaves no frozen dimension.
+// The test that a trail leaves no frozen dimension.
 ghost use Rattle.std.specs.Prelude.{◌≡◌, true};
 ghost use Rattle.olap_ast.specs.Trees.{constraint_of, formula_of};
 ghost use Rattle.olap_dimsat.specs.Asking.{task_of};

@@ -1,4 +1,4 @@
-// Whether some frozen dimension agrees with literals.
+// The question whether some frozen dimension agrees with literals.
 ghost use Rattle.std.specs.Prelude.{◌≡◌, ℕ, Bool, false, true};
 ghost use Rattle.olap_ast.specs.Frozen.{Frozen as TheFrozen};
 ghost use Rattle.olap_clauses.specs.Engines.{trail_of, variables_of};

@@ -1,4 +1,4 @@
-// Whether a choice of edges and names agrees with literals.
+// The test of a choice of edges and names against literals.
 ghost use Rattle.std.specs.Prelude.{◌≡◌, ◌≢◌, ◌==◌, ◌<◌, ℕ, Bool, false, suc, length, slice_index, slice_index_or, true};
 ghost use Rattle.olap_base.specs.Graph.{IsCategory, category_count};
 ghost use Rattle.olap_clauses.specs.Literals.{Holds};

@@ -1,4 +1,4 @@
-// What a trail tells of the frozen dimensions that agree with it: a partial shape.
+// The partial shape that a trail tells of the frozen dimensions that agree with it.
 ghost use Rattle.std.specs.Prelude.{◌≡◌, ◌<◌, IfSome, length};
 ghost use Rattle.olap_base.specs.Graph.{IsCategory, category_count};
 ghost use Rattle.olap_base.specs.Naming.{place_of};
@@ -73,7 +73,7 @@ impl<'a> Known<'a> {
         }
     }
 
-    // Whether the category's name is its constant at this place.
+    // Whether the category's name is the one at this place beside the first.
     fn named(&self, c: CatId, j: Option<usize>) -> Truth3
         requires category { IsCategory self.now.asker.now.graph.now c.0 }
         requires place { IfSome j (λ j. j < constant_count (task_of self.now.asker.now) c.0) }

@@ -1,4 +1,4 @@
-// Which edge or name is decided next. Any open one would do: the choice costs time alone.
+// The edge or name that is decided next. Any open one would do: the choice costs time alone.
 ghost use Rattle.std.specs.Prelude.{◌≡◌, ◌⊎◌, ◌<◌, IfSome, length};
 ghost use Rattle.olap_clauses.specs.Trails.{IsOpen, values_of};
 ghost use Rattle.olap_dimsat.specs.Tasks.{IsTask, constant_count};

@@ -30,8 +30,8 @@ pub struct Posed {
 /// There is room for so many times as many literals of learned clauses as are given.
 const TIMES_GIVEN: u32 = 4;
 
-/// As if at least so many were given: small schemas may need as much to learn, and with less whole families of them take
-/// for ever.
+/// As if at least so many were given: small schemas may need as much room to learn, and with less of it whole families
+/// of them don't end.
 const LEAST_GIVEN: usize = 32_768;
 
 /// And as if at most so many were.

@@ -1,4 +1,4 @@
-// What is read off a trail.
+// The choice of edges and names that is read off a trail.
 ghost use Rattle.std.specs.Prelude.{◌≡◌, ◌≢◌, ◌≤◌, ◌<◌, ℕ, IfErr, IfOk, IfSome, false, length, slice_index, slice_index_or};
 ghost use Rattle.olap_clauses.specs.Trails.{IsOpen, values_of};
 ghost use Rattle.olap_dimsat.specs.Tasks.{IsTask, constant_count};
@@ -48,7 +48,7 @@ fn read_edge(a: &Asker<'_>, trail: &Trail, e: EdgeId) -> Result<bool, Lit>
     }
 }
 
-// Whether the name of the category is the constant at this place. Else a literal to decide.
+// Whether the name of the category is the one at this place beside the first. Else a literal to decide.
 fn read_constant(a: &Asker<'_>, trail: &Trail, c: CatId, j: usize) -> Result<bool, Lit>
     requires task { IsTask (task_of a.now) }
     requires category { IsCategory a.now.graph.now c.0 }

@@ -22,9 +22,11 @@ given_implies e n a b q x y w = record {
       (where_true v a (b ∷ []) (λ k. met_first v b [] (w f v h k)));
 }
 
+-- at most j + 1 and not at most j is j + 1
 at_next : (i j : ℕ) → i ≤ j + 1 → (i ≤ j → ⊥) → i ≡ j + 1
 at_next i j h n = grind arith
 
+-- j + 1 isn't at most j
 not_both : (i j : ℕ) → i ≡ j + 1 → i ≤ j → ⊥
 not_both i j q h = omega arith
 
@@ -86,6 +88,7 @@ module _ (e : Encoding) (t : IsSound e) where
     met = λ f v h. met_first v l [] ((a.exactly f v h).1 (let i = index_in_range f v h c u in omega arith));
   }
 
+-- a category has as many names after a step
 pub count_still : {a b : Encoding} → IsNext a b → (c m n : ℕ) → m ≡ length (a.problem.candidates.texts c) → m ≤ n
     → length (b.problem.candidates.texts c) ≤ n
 count_still t c m n q h = subst (λ (p : Problem). length (p.candidates.texts c) ≤ n) (sym t.later.problem)

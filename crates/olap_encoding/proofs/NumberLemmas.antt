@@ -18,6 +18,7 @@ use Rattle.olap_encoding.proofs.GivenLemmas.{known_negated}
 use Rattle.olap_encoding.specs.Formulas.{AmongIs, AnyIs, IsLeading, Wants}
 use Rattle.olap_encoding.proofs.LiteralLemmas.{negated_is}
 
+-- the index is that of one of the first k constants, which compares as it should
 abbrev pub AmongAt : List (List ℕ) → ℕ → ℕ → Op → ℤ → Bool → Type 0
 AmongAt texts i k op n want = (j : ℕ) × (j < k) × (i ≡ suc j) × Wants op n want (get_or texts j [])
 
@@ -70,6 +71,7 @@ module _ (first : List ℕ) (texts : List (List ℕ)) (op : Op) (n : ℤ) where
         λ q. let l : i < m = r.0 (subst (λ w. IsNumbered w op n) (other i h) q) in omega arith,
       )
 
+-- the index tells how the name compares: as the first, or as one of these
 pub number_told : (first : List ℕ) (texts : List (List ℕ)) (i : ℕ) → i ≤ length texts → (op : Op) (n : ℤ) (b : Bool)
     → IsTrue b ↔ IsNumbered first op n → (P : Type 0) → P ↔ AmongAt texts i (length texts) op n (not b)
     → Turned b P ↔ IsNumbered (text_of_index first texts i) op n
@@ -79,6 +81,7 @@ number_told first texts i h op n false t P s =
     let r = from_others first texts op n i h (λ q. let z : false ≡ true = t.1 q in cc) in
     (λ p. r.0 (s.0 p), λ q. s.1 (r.1 q))
 
+-- a literal that is turned says the same of what is turned
 pub turned_is : (v : Valuation) (l : ℕ) (b : Bool) (Q : Type 0) → Turned b (Is v l) ↔ Q
     → Is v (cond b (negated l) l) ↔ Q
 turned_is v l true Q t = let m = negated_is v l in (λ i. t.0 (m.0 i), λ q. m.1 (t.1 q))
@@ -86,12 +89,15 @@ turned_is v l false Q t = t
 
 -- ---- one place more
 
+-- none of the first 0
 pub among_none : (texts : List (List ℕ)) (i : ℕ) (op : Op) (n : ℤ) (want : Bool) → AmongAt texts i 0 op n want → ⊥
 among_none texts i op n want t = let l = t.1 in absurd (omega arith)
 
+-- a place below the next is earlier, or this one
 newest : (j k : ℕ) → j < k + 1 → (j < k) ⊎ (j ≡ k)
 newest j k h = grind arith
 
+-- one constant more that doesn't compare so
 pub among_other : (texts : List (List ℕ)) (i k : ℕ) (op : Op) (n : ℤ) (want : Bool)
     → (Wants op n want (get_or texts k []) → ⊥)
     → AmongAt texts i k op n want ↔ AmongAt texts i (k + 1) op n want
@@ -103,6 +109,7 @@ among_other texts i k op n want f = (
   ],
 )
 
+-- one more that does
 pub among_more : (texts : List (List ℕ)) (i k : ℕ) (op : Op) (n : ℤ) (want : Bool)
     → Wants op n want (get_or texts k [])
     → (AmongAt texts i k op n want ⊎ (i ≡ k + 1)) ↔ AmongAt texts i (k + 1) op n want
@@ -142,6 +149,7 @@ module _ (names : List (List ℕ)) (op : Op) (n : ℤ) where
 
 -- ---- the tests of names
 
+-- the test of a name says whether it compares as it should
 pub wanted_is : (name : List ℕ) (op : Op) (n : ℤ) (r want : Bool) → IsTrue r ↔ IsNumbered name op n
     → IsTrue (beq r want) ↔ Wants op n want name
 wanted_is name op n true true t = (λ z. t.0 refl, λ p. refl)
@@ -185,6 +193,7 @@ module _ (e : Encoding) (d j : ℕ) (op : Op) (n : ℤ) (want : Bool) where
         );
   }
 
+-- a literal that is turned is known
 pub known_turned : (e : Encoding) (l k : ℕ) (b : Bool) → k ≡ cond b (negated l) l → IsKnown e l → IsKnown e k
 known_turned e l k true q h = known_negated e l k q h
 known_turned e l k false q h = subst (λ i. IsKnown e i) (sym q) h

@@ -21,6 +21,7 @@ other_pairs e pairs t f =
       later = n;
     }
 
+-- one pair more that has yet to be defined
 pub next_entered : (e : Encoding) (c d : ℕ) → IsSound e → IsPair e c d
     → IsNext e (record e { todo = e.todo ++ (c, d) ∷ [] })
 next_entered e c d t p = other_pairs e (e.todo ++ (c, d) ∷ []) t (λ x g. pair x (Contains-push_cases e.todo (c, d) x g))
@@ -29,6 +30,7 @@ next_entered e c d t p = other_pairs e (e.todo ++ (c, d) ∷ []) t (λ x g. pair
     pair x (inl g) = t.asked x g
     pair x (inr q) = subst (λ (y : ℕ × ℕ). IsPair e y.0 y.1) q p
 
+-- some fewer
 pub next_popped : (e : Encoding) (rest : List (ℕ × ℕ)) → IsSound e
     → ((x : ℕ × ℕ) → Contains rest x → Contains e.todo x) → IsNext e (record e { todo = rest })
 next_popped e rest t f = other_pairs e rest t (λ x g. t.asked x (f x g))

@@ -74,19 +74,23 @@ module _ {a b : Encoding} (n : IsLater a b) where
 
 -- ---- the same formula by two names
 
+-- the same of a formula and a sign under other names
 pub widened_as : {e : Encoding} {c : ℕ} {ks ls : List ℕ} (a b : Bool) {x y : declared.Formula} → a ≡ b → x ≡ y
     → IsWidened e c (signed a (formula_of x)) ks ls → IsWidened e c (signed b (formula_of y)) ks ls
 widened_as {e} {c} {ks} {ls} a b {x} {y} q p w = subst (λ z. IsWidened e c (signed z (formula_of y)) ks ls) q
     (subst (λ (z : declared.Formula). IsWidened e c (signed a (formula_of z)) ks ls) p w)
 
+-- the same
 pub true_as : (e : Encoding) (c : ℕ) (a b : Bool) {x y : declared.Formula} → a ≡ b → x ≡ y
     → IsTrueAt e c (signed a (formula_of x)) → IsTrueAt e c (signed b (formula_of y))
 true_as e c a b {x} {y} q p t = subst (λ z. IsTrueAt e c (signed z (formula_of y))) q
     (subst (λ (z : declared.Formula). IsTrueAt e c (signed a (formula_of z))) p t)
 
+-- the same
 pub spoken_as : (p : Problem) {x y : declared.Formula} → x ≡ y → IsSpoken p (formula_of x) → IsSpoken p (formula_of y)
 spoken_as p q s = subst (λ (z : declared.Formula). IsSpoken p (formula_of z)) q s
 
+-- equal formulas have as many nodes
 pub counted : {x y : declared.Formula} → x ≡ y → node_count (formula_of x) ≡ node_count (formula_of y)
 counted q = ap (λ (z : declared.Formula). node_count (formula_of z)) q
 
@@ -173,6 +177,7 @@ module _ (e : Encoding) (c : ℕ) where
 
 -- ---- a constraint, and the question
 
+-- a constraint is true at its root in each frozen dimension
 pub constraint_true : (e : Encoding) → IsSound e → (c : ℕ) (k : Constraint) → k.root ≡ c
     → Contains e.problem.schema.constraints k → IsTrueAt e c k.formula
 constraint_true e t c k r m = λ f v h u.
@@ -180,6 +185,7 @@ constraint_true e t c k r m = λ f v h u.
     (name_in e.problem.candidates f) c u in
     h.frozen.stands_for.legal.meets k m (member_in e.problem f c) (w.0, w.1 ∙ sym r)
 
+-- and the question at the root of all
 pub question_true : (e : Encoding) → IsSound e → IsTrueAt e e.problem.root e.problem.question
 question_true e t = λ f v h u.
     let s = h.frozen.stands_for in

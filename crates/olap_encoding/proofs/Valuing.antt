@@ -15,18 +15,22 @@ use Rattle.olap_ast.proofs.Shape.{same_is, is_same}
 
 -- ---- whether a meaning holds
 
+-- the test of exactly one of two
 differ_is : (a b : Bool) → IsTrue (cond a (not b) b) ↔ IsEither (IsTrue a) (IsTrue b)
 differ_is true true = (λ e i. cc, λ n. absurd (n (λ x. x, λ x. x)))
 differ_is true false = (λ e i. let z : false ≡ true = i.0 refl in cc, λ n. refl)
 differ_is false true = (λ e i. let z : false ≡ true = i.1 refl in cc, λ n. refl)
 differ_is false false = (λ e i. cc, λ n. absurd (n (λ x. x, λ x. x)))
 
+-- at most by the test is at most
 at_most : (a b : ℕ) → nat_le a b ≡ true → a ≤ b
 at_most a b e = grind (arith, nat_tests)
 
+-- and the other way
 is_at_most : (a b : ℕ) → a ≤ b → nat_le a b ≡ true
 is_at_most a b h = grind (arith, nat_tests)
 
+-- the test of a meaning says whether it holds
 truth_is : (s : Schema) (r : ℕ) (f : Frozen) (v : Valuation) (m : Meaning) → IsTrue (truth_of s r f v m)
     ↔ Means s r f v m
 truth_is s r f v Always = (λ e. tt, λ t. refl)
@@ -49,10 +53,12 @@ truth_is s r f v (Differ a b) = differ_is (value v a) (value v b)
 
 -- ---- valuations that agree below n
 
+-- a literal has one value where its variable has one
 value_alike : (v w : Valuation) (l : ℕ) → v (l / 2) ≡ w (l / 2) → value v l ≡ value w l
 unfolding value
 value_alike v w l e = ap (λ b. cond (l % 2 == 0) b (not b)) e
 
+-- a meaning holds alike where the variables that it speaks of have the same values
 means_alike : (s : Schema) (r : ℕ) (f : Frozen) (v w : Valuation) (n : ℕ) (m : Meaning) → IsBelow n m
     → ((y : ℕ) → y < n → v y ≡ w y) → Means s r f v m → Means s r f w m
 means_alike s r f v w n Always b e h = h

@@ -1,4 +1,4 @@
--- What the variables of the search stand for in a frozen dimension.
+-- Meanings of the search's variables in a frozen dimension.
 --     Means        what a meaning says of a frozen dimension
 --     Fits         the variables have the values of their meanings
 --     AreOrdered   each meaning speaks of literals of earlier variables
@@ -41,6 +41,7 @@ Means s r f v (Reaching c d) = IsReaching r (edges_of s f) c d
 Means s r f v (Both a b) = Is v a × Is v b
 Means s r f v (Differ a b) = IsEither (Is v a) (Is v b)
 
+-- the meaning of a variable
 abbrev pub meaning_at : List Meaning → ℕ → Meaning
 meaning_at ms x = slice_index_or ms x Always
 
@@ -65,6 +66,7 @@ pub record AreOrdered (ms : List Meaning) : Type 0 where
 
 -- ---- the valuation of a frozen dimension
 
+-- the graph of the chosen edges
 abbrev pub chosen_graph : List Edge → Graph
 chosen_graph es = record { names = []; numbers = []; edges = es }
 

@@ -9,7 +9,9 @@ use olap_base::{CatId, EdgeId};
 /// Where an edge leads: to a category that was declared before the child, or after it.
 #[derive(Clone, Copy)]
 pub enum Direction {
+    /// To one that was declared before the child.
     Earlier,
+    /// To one that was declared after it.
     Later,
 }
 

@@ -53,29 +53,20 @@ fn alternatives(
         literals.old.items literals.new.items) }
 {
     match (f, holds) {
-        (Formula::Not(g), _) => {
-            alternatives(e, c, g, !holds, literals)?;
-            Ok(())
-        }
+        (Formula::Not(g), _) => alternatives(e, c, g, !holds, literals),
         (Formula::Or(g, h), true) => {
             alternatives(e, c, g, true, literals)?;
-            alternatives(e, c, h, true, literals)?;
-            Ok(())
+            alternatives(e, c, h, true, literals)
         }
         (Formula::And(g, h), false) => {
             alternatives(e, c, g, false, literals)?;
-            alternatives(e, c, h, false, literals)?;
-            Ok(())
+            alternatives(e, c, h, false, literals)
         }
         (Formula::Implies(g, h), true) => {
             alternatives(e, c, g, false, literals)?;
-            alternatives(e, c, h, true, literals)?;
-            Ok(())
+            alternatives(e, c, h, true, literals)
         }
-        _ => {
-            push_literal(e, c, f, holds, literals)?;
-            Ok(())
-        }
+        _ => push_literal(e, c, f, holds, literals),
     }
 }
 

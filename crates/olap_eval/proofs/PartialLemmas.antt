@@ -13,24 +13,29 @@ use Rattle.olap_eval.proofs.ShapeLemmas.{named_is, numbered_is, nowhere, numbers
 
 -- ---- along a path
 
+-- whether both are true, as far as it is known
 abbrev and : Truth3 → Truth3 → Truth3
 and x y = value_of_both ◌&&◌ x y
 
+-- with what is true in front nothing changes
 and_yes : (x : Truth3) → and Yes x ≡ x
 and_yes No = refl
 and_yes Yes = refl
 and_yes Unknown = refl
 
+-- nor with what is true behind
 pub yes_and : (x : Truth3) → and x Yes ≡ x
 yes_and No = refl
 yes_and Yes = refl
 yes_and Unknown = refl
 
+-- with what is false in front it is false
 no_and : (x : Truth3) → and No x ≡ No
 no_and No = refl
 no_and Yes = refl
 no_and Unknown = refl
 
+-- it may be grouped either way
 and_and : (x y z : Truth3) → and (and x y) z ≡ and x (and y z)
 and_and No y z = ap (λ v. and v z) (no_and y) ∙ no_and z ∙ sym (no_and (and y z))
 and_and Yes y z = ap (λ v. and v z) (and_yes y) ∙ sym (and_yes (and y z))
@@ -48,6 +53,7 @@ and_and Unknown Unknown Unknown = refl
 pub along_start : (k : Knowledge) (c : ℕ) (cs : List ℕ) → and Yes (value_along k c cs) ≡ value_along k c cs
 along_start k c cs = and_yes (value_along k c cs)
 
+-- one edge more of a path: the value so far and that of the rest are the whole
 pub along_next : (k : Knowledge) (c d : ℕ) (v w whole : Truth3) (cs : List CatId) (j : ℕ) → j < length cs
     → d ≡ (get_or cs j nowhere).0 → w ≡ and v (k.edge c d)
     → and v (value_along k c (numbers (drop j cs))) ≡ whole
@@ -60,11 +66,13 @@ along_next k c d v w whole cs j h e q f =
 
 -- ---- what is known, and what is so
 
+-- a value agrees with whatever is equivalent
 agrees_iff : {A B : Type 0} (v : Truth3) → A ↔ B → Agrees v A → Agrees v B
 agrees_iff No i a = λ b. a (i.1 b)
 agrees_iff Yes i a = i.0 a
 agrees_iff Unknown i a = tt
 
+-- a value turned round agrees with the negation
 agrees_not : (P : Type 0) (x : Truth3) → Agrees x P → Agrees (value_of not x) (P → ⊥)
 agrees_not P No a = a
 agrees_not P Yes a = λ n. n a
@@ -129,6 +137,7 @@ module _ (P Q : Type 0) where
 
 -- ---- lists
 
+-- whether none of these is true, by how many are known to be and how many are unknown
 abbrev value_of_none : ℕ → ℕ → Truth3
 value_of_none zero zero = Yes
 value_of_none zero (suc u) = Unknown
@@ -162,6 +171,7 @@ module _ {P One None : Type 0} (y u : ℕ) (c : AreCounted One None y u) where
       first zero (suc u) = refl
       first (suc y) u = refl
 
+-- one part more of which nothing is known
 counted_unknown : {P One None : Type 0} (y u : ℕ) → AreCounted One None y u
     → AreCounted ((P × None) ⊎ ((P → ⊥) × One)) ((P → ⊥) × None) y (suc u)
 counted_unknown zero u c = record { exactly = tt; nothing = tt }
@@ -171,6 +181,7 @@ counted_unknown (suc (suc y)) u c = record {
   nothing = λ t. c.nothing t.1;
 }
 
+-- one part more, whatever is known of it
 counted_more : {P One None : Type 0} (x : Truth3) (xs : List Truth3) → Agrees x P
     → AreCounted One None (yes_count xs) (unknown_count xs)
     → AreCounted ((P × None) ⊎ ((P → ⊥) × One)) ((P → ⊥) × None) (yes_count (x ∷ xs)) (unknown_count (x ∷ xs))
@@ -234,5 +245,6 @@ module _ (k : Knowledge) (i : Instance) (present : ℕ → Bool) (place : ℕ �
       values_agree End = record { exactly = λ h. h; nothing = tt }
       values_agree (More f ts) = counted_more (value_at k r f) (values_of k r ts) (value_agrees f) (values_agree ts)
 
+-- the theorem, from what each connective keeps
 pub values_are_truths : ValuesAreTruths
 values_are_truths k i present place s c r p f = value_agrees k i present place s c r p f

@@ -79,17 +79,21 @@ module _ (i : Instance) (present : ℕ → Bool) (place : ℕ → ℕ) (s : IsSh
           let edge = subst (λ z. IsBelow i (place root) z) (sym a.1) k.0 in
           ((p, a.0, edge), (ys, subst (λ z. IsChain (IsBelow i) (z ∷ ys)) (sym a.1) k.1, others))
 
+-- a path of no edges is there
 pub path_none : (i : Instance) (x : ℕ) → HasPath i x []
 path_none i x = ([], tt, refl)
 
 -- ---- along a list of categories
 
+-- what stands past the end of a list of categories
 abbrev pub nowhere : CatId
 nowhere = record { 0 = 0 }
 
+-- the categories, as numbers
 abbrev pub numbers : List CatId → List ℕ
 numbers cs = map (λ (c : CatId). c.0) cs
 
+-- the categories from a place on: the one there, and the rest
 pub rest_is : (cs : List CatId) (k : ℕ) → k < length cs
     → numbers (drop k cs) ≡ (get_or cs k nowhere).0 ∷ numbers (drop (k + 1) cs)
 rest_is cs k h = ap numbers e
@@ -97,6 +101,7 @@ rest_is cs k h = ap numbers e
     e : drop k cs ≡ get_or cs k nowhere ∷ drop (k + 1) cs
     e = rw (add-one, drop-cons cs k nowhere) refl
 
+-- from the end on there are none
 pub rest_none : (cs : List CatId) (k : ℕ) → length cs ≤ k → numbers (drop k cs) ≡ []
 rest_none [] k h = go k
   where
@@ -132,22 +137,27 @@ module _ {i : Instance} {present : ℕ → Bool} {place : ℕ → ℕ} (s : IsSh
   pub follow_stop : (HasEdgeThere i present place at c → ⊥) → IsTrue false ↔ P
   follow_stop n = (λ t. absurd (cc), λ q. absurd (n (path_to i present place s at f.here c rest (f.to q)).0))
 
+-- where no category is left the path is there
 pub follow_done : {i : Instance} {present : ℕ → Bool} {place : ℕ → ℕ} {P : Type 0} {at : ℕ} {rest : List ℕ}
     → IsFollowed i present place P at rest → rest ≡ [] → IsTrue true ↔ P
 follow_done {i} {present} {place} {P} {at} f e =
     (λ t. f.from (subst (λ l. HasPath i (place at) l) (sym e) (path_none i (place at))), λ q. refl)
 
+-- a test that is false refutes what it tests
 pub refuted : {P : Type 0} (r : Bool) → r ≡ false → IsTrue r ↔ P → P → ⊥
 refuted r e d p = let z : false ≡ true = sym e ∙ d.1 p in cc
 
 -- ---- answers one after another
 
+-- one equivalence after another
 pub iff_trans : {A B C : Type 0} → A ↔ B → B ↔ C → A ↔ C
 iff_trans f g = (λ a. g.0 (f.0 a), λ c. f.1 (g.1 c))
 
+-- where the first test is true the second tells of both
 pub iff_both : {A B : Type 0} (r q : Bool) → r ≡ true → IsTrue r ↔ A → IsTrue q ↔ B → IsTrue q ↔ (A × B)
 iff_both r q e f g = (λ t. (f.0 e, g.0 t), λ p. g.1 p.1)
 
+-- where the first is false both can't be
 pub iff_not_first : {A B : Type 0} (r : Bool) → r ≡ false → IsTrue r ↔ A → IsTrue r ↔ (A × B)
 iff_not_first r e f = (λ t. absurd (let z : false ≡ true = sym e ∙ t in cc), λ p. f.1 p.0)
 

@@ -1,5 +1,5 @@
 -- Partial shapes: what is known of a shape, and of the truth of formulas.
---     Knowledge          what is known of each edge, of each reaching and of each name
+--     Knowledge          what is known of each edge, of each reaching, of each name and of each comparison
 --     value_at           what is known of a formula's truth at the member of a category
 --     Agrees             what is known to be so is so, and what is known not to be so isn't
 --     Completes          a shape has what is known

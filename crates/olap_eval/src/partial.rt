@@ -1,4 +1,4 @@
-// Partial shapes: what is known of edges, reaching and names, and a formula's value by it.
+// Partial shapes: what is known of edges, reaching, names and numbers, and a formula's value by it.
 ghost use Rattle.olap_ast.specs.ThreeValues.{IsCount};
 ghost use Rattle.olap_ast.specs.Trees.{formula_of, op_of, terms_of};
 ghost use Rattle.olap_ast.specs.declared.three_values.Truth3.{Truth3 as Value};

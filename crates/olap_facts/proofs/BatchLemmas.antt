@@ -1,5 +1,6 @@
 -- A reader of facts, batch by batch.
---     read-none              behind the header none is read
+--     stopped-in-batch       what stops a reader stops it in a batch
+--     read-none              after the header none is read
 --     read-more, read-fault  one record more
 --     batch-full, batch-end  the batch is full, or no record is left
 use Rattle.std.proofs.Common.{◌≡◌, ◌⊎◌, ℕ, ◌+◌, ◌<◌, ◌≤◌, List, [], ◌∷◌, ◌++◌, length, get_or, map, take, drop, Bool, true, false, Some, None, refl, ap, sym, subst, ◌∙◌, inl, inr, arith, length-append}
@@ -8,16 +9,23 @@ use Rattle.std.proofs.lemmas.Bool.Decides.{nat_tests}
 use Rattle.std.proofs.lemmas.List.{get_or-drop, length-drop, map-append, take_all, take_more}
 use Rattle.olap_base.specs.Views.{Fact}
 use Rattle.olap_facts.specs.Batches.{HandsOutBatch, HasRead, IsStoppedInBatch, facts_in_a_batch, more, next_facts}
-use Rattle.olap_facts.specs.FactReading.{FactReading, HasBody, IsAt, IsAtEnd, body_of}
+use Rattle.olap_facts.specs.FactReading.{FactReading, HasBody, IsAt, IsAtEnd, IsStopped, body_of}
 use Rattle.olap_facts.specs.FactText.{fact_fault_within, fact_read}
 use Rattle.olap_facts.specs.declared.kinds.FactKind.{FactKind}
+use Rattle.olap_facts.specs.declared.kinds.FactRefusal.{FactRefusal}
 use Rattle.olap_facts.specs.declared.kinds.FactRefusal.TheVariants as refusal
 use Rattle.olap_facts.proofs.ReaderLemmas.{found-behind, next-end, next-fact, next-fault}
 
 module _ (r : FactReading) where
-  -- the records behind those handed out
+  -- the records after those handed out
   abbrev behind : List (List (List ℕ))
   behind = drop r.handed (body_of r.records)
+
+  -- what stops a reader stops it in a batch
+  pub stopped-in-batch : (e : FactRefusal) → IsStopped r e → IsStoppedInBatch r e
+  stopped-in-batch (refusal.Fault at k) (all, inl first) = (all, inl first)
+  stopped-in-batch (refusal.Fault at k) (all, inr next) = (all, inr (0, omega arith, omega (arith, next)))
+  stopped-in-batch refusal.Memory h = tt
 
   pub read-none : (left : List (List (List ℕ))) → HasBody r left → HasRead r 0 [] left
   read-none left b =

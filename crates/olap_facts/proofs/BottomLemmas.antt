@@ -8,9 +8,11 @@ use Rattle.olap_base.specs.Graph.{Edge, Graph, HasEdge, IsBottom, category_count
 use Rattle.olap_base.proofs.ListLemmas.{Contains-nil, contains_head}
 use Rattle.olap_facts.specs.FactText.{is_bottom}
 
+-- the edge from d to c
 abbrev edge : ℕ → ℕ → Edge
 edge d c = record { child = d; parent = c }
 
+-- some edge leads to the category
 abbrev SomeEdge : ℕ → List Edge → Type 0
 SomeEdge c es = (d : ℕ) × Contains es (record { child = d; parent = c })
 
@@ -43,38 +45,46 @@ some_edge c (e ∷ es) =
       | inr h ↦ rest (d, h)
     ]
 
+-- all three are true
 abbrev AllTrue : Bool → Bool → Bool → Type 0
 AllTrue a b c = (a ≡ true) × (b ≡ true) × (c ≡ true)
 
+-- the conjunction of three is true only if each is
 all_true : (a b c : Bool) → a && b && c ≡ true → AllTrue a b c
 all_true true true true e = (refl, refl, refl)
 all_true true true false e = absurd (cc)
 all_true true false c e = absurd (cc)
 all_true false b c e = absurd (cc)
 
+-- it is true if each is
 from_all : (a b c : Bool) → a ≡ true → b ≡ true → c ≡ true → a && b && c ≡ true
 from_all true true true e f h = refl
 from_all true true false e f h = absurd (cc)
 from_all true false c e f h = absurd (cc)
 from_all false b c e f h = absurd (cc)
 
+-- what a negation is true of is not true
 not_true : (b : Bool) → not b ≡ true → b ≡ true → ⊥
 not_true true e f = cc
 not_true false e f = cc
 
+-- a negation is true of what isn't true
 from_not : (b : Bool) → (b ≡ true → ⊥) → not b ≡ true
 from_not true n = absurd (n refl)
 from_not false n = refl
 
+-- the test for a category other than `All`
 no_zero : (c : ℕ) → not (c == 0) ≡ true ↔ (c ≢ 0)
 no_zero c = (
   λ t z. not_true (c == 0) t (grind (arith, nat_tests)),
   λ n. from_not (c == 0) (λ t. n (grind (arith, nat_tests))),
 )
 
+-- the test for a category of the graph
 in_range : (c n : ℕ) → nat_lt c n ≡ true ↔ (c < n)
 in_range c n = (λ t. grind (arith, nat_tests), λ h. grind (arith, nat_tests))
 
+-- the test for a category that is no edge's parent
 no_edge : (g : Graph) (c : ℕ) → not (list_any (λ e. e.parent == c) g.edges) ≡ true ↔ ((d : ℕ) → HasEdge g d c → ⊥)
 no_edge g c = (
   λ t d k. not_true (list_any (λ e. e.parent == c) g.edges) t ((some_edge c g.edges).1 (d, k)),

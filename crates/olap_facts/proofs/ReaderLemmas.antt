@@ -1,5 +1,5 @@
 -- A reader of facts, record by record.
---     found-behind             a fault that is found stands behind the records before
+--     found-behind             a fault that is found stands after the records before
 --     body-of, no-header       after the header, and where it isn't there
 --     next-fact, next-fault    one record more
 --     next-end                 no record more
@@ -9,12 +9,13 @@ use Rattle.std.proofs.lemmas.List.{length-map}
 use Rattle.olap_base.specs.Views.{Fact}
 use Rattle.olap_records.specs.Faults.{first_fault, or_after}
 use Rattle.olap_records.proofs.Seeing.{HasSeen, see-all, see-fault, see-more}
-use Rattle.olap_facts.specs.FactReading.{FactReading, HandsOut, HasBody, IsAt, IsAtEnd, all_read, body_of, one_more}
+use Rattle.olap_facts.specs.FactReading.{FactReading, HandsOut, HasBody, IsAt, IsAtEnd, IsStopped, all_read, body_of, one_more}
 use Rattle.olap_facts.specs.FactText.{fact_fault_within, fact_read, has_header, or_read}
 use Rattle.olap_facts.specs.declared.kinds.FactKind.{FactKind}
 use Rattle.olap_facts.specs.declared.kinds.FactKind.TheVariants as kind
+use Rattle.olap_facts.specs.declared.kinds.FactRefusal.TheVariants as refusal
 
--- a fault that is found stands behind the records before
+-- a fault that is found stands after the records before
 module _ {R K : Type 0} (fault : List R → R → Option K) where
   pub found-behind : (before rs : List R) (p : ℕ × K) → first_fault fault before rs ≡ Some p → length before ≤ p.0
   found-behind before [] p e = absurd (cc)
@@ -29,6 +30,7 @@ module _ {R K : Type 0} (fault : List R → R → Option K) where
           place (Some q) = q.0
       go None e h = let l = h e in omega (arith, length-append before (r ∷ []))
 
+-- the item between two lists stands at the length of the first
 at-seam : {A : Type 0} (before after : List A) (r d : A) → get_or (before ++ r ∷ after) (length before) d ≡ r
 at-seam [] after r d = refl
 at-seam (x ∷ xs) after r d = at-seam xs after r d
@@ -43,37 +45,21 @@ module _ (r : FactReading) where
   seen-of left b = record { parts = b.parts; faults = b.faults }
 
   -- after the header
-  pub body-of : (old new : List (List (List ℕ))) (b : Bool) → IsAt r old → (r.handed ≡ 0 → b ≡ has_header old)
-      → (r.handed ≡ 0 → b ≡ true → new ≡ drop 1 old) → (0 < r.handed → new ≡ old) → b ≡ true → HasBody r new
-  body-of old new b a first left kept t = go (zero_or r.handed)
-    where
-      zero_or : (n : ℕ) → (n ≡ 0) ⊎ (0 < n)
-      zero_or n = grind arith
+  pub body-of : (old new : List (List (List ℕ))) → IsAt r old → r.handed ≡ 0 → has_header old ≡ true
+      → new ≡ drop 1 old → HasBody r new
+  body-of old new a z t left = let o = a.start z in
+      let n : new ≡ body_of r.records = left ∙ ap (drop 1) o in record {
+        header = sym (ap has_header o) ∙ t;
+        seen = [];
+        size = sym z;
+        parts = sym n;
+        faults = ap (first_fault (fact_fault_within r.most r.graph r.instance) []) (sym n);
+      }
 
-      go : (r.handed ≡ 0) ⊎ (0 < r.handed) → HasBody r new
-      go (inl z) = let o = a.start z in
-          let n : new ≡ body_of r.records = left z t ∙ ap (drop 1) o in record {
-            header = sym (ap has_header o) ∙ sym (first z) ∙ t;
-            seen = [];
-            size = sym z;
-            parts = sym n;
-            faults = ap (first_fault (fact_fault_within r.most r.graph r.instance) []) (sym n);
-          }
-      go (inr p) = subst (HasBody r) (sym (kept p)) (a.later p)
-
-  pub no-header : (old : List (List (List ℕ))) (b : Bool) → IsAt r old → (r.handed ≡ 0 → b ≡ has_header old)
-      → (0 < r.handed → b ≡ true) → b ≡ false
-      → (all_read r ≡ Err (record { at = 1; kind = kind.BadHeader })) × (r.handed ≡ 0)
-  no-header old b a first later f = go (zero_or r.handed)
-    where
-      zero_or : (n : ℕ) → (n ≡ 0) ⊎ (0 < n)
-      zero_or n = grind arith
-
-      go : (r.handed ≡ 0) ⊎ (0 < r.handed) → (all_read r ≡ Err (record { at = 1; kind = kind.BadHeader }))
-          × (r.handed ≡ 0)
-      go (inl z) = let h : has_header r.records ≡ false = sym (ap has_header (a.start z)) ∙ sym (first z) ∙ f in
-          (rw h refl, z)
-      go (inr p) = absurd (let q : true ≡ false = sym (later p) ∙ f in cc)
+  pub no-header : (old : List (List (List ℕ))) → IsAt r old → r.handed ≡ 0 → has_header old ≡ false
+      → IsStopped r (refusal.Fault 1 kind.BadHeader)
+  no-header old a z f =
+      let h : has_header r.records ≡ false = sym (ap has_header (a.start z)) ∙ f in (rw h refl, inl (refl, z))
 
   module _ (left after : List (List (List ℕ))) (row : List (List ℕ)) (b : HasBody r left) (e : left ≡ row ∷ after) where
     pub next-fact : (f : Fact) → fact_fault_within r.most r.graph r.instance b.seen row ≡ None

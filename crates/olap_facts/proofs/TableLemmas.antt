@@ -11,9 +11,11 @@ use Rattle.olap_facts.specs.FactText.{fact_read}
 use Rattle.olap_facts.specs.Seen.{fact_of}
 use Rattle.olap_facts.specs.declared.tables.Fact as told
 
+-- no facts are a fact table
 pub table-none : (g : Graph) (i : Instance) → IsFactTable g i []
 table-none g i f c = absurd (Contains-nil f c)
 
+-- one fact more at a member of a bottom category
 pub table-more : (g : Graph) (i : Instance) (fs : List Fact) (f : Fact) → IsFactTable g i fs → IsMember i f.member
     → IsBottom g (category_of i f.member) → IsFactTable g i (fs ++ f ∷ [])
 table-more g i fs f t m b q c = elim (Contains-push_cases fs f q c) [
@@ -21,11 +23,13 @@ table-more g i fs f t m b q c = elim (Contains-push_cases fs f q c) [
   | inr e ↦ subst (λ (p : Fact). IsMember i p.member × IsBottom g (category_of i p.member)) e (m, b)
 ]
 
+-- the facts of a fact table stand at members
 pub table-members : (g : Graph) (i : Instance) (fs : List told.Fact) → IsFactTable g i (map fact_of fs)
     → All (λ f. f.member.0 < length i) fs
 table-members g i fs t k d h = (t (fact_of (get_or fs k d))
     (Contains-map fact_of fs (get_or fs k d) (Contains-get_or fs k d h))).0
 
+-- lists with equal images have one length
 pub same-length : {A B C : Type 0} (f : A → C) (h : B → C) (xs : List A) (ys : List B) → map f xs ≡ map h ys
     → length xs ≡ length ys
 same-length f h xs ys e = sym (length-map xs f) ∙ ap length e ∙ length-map ys h

@@ -11,6 +11,7 @@ use Rattle.olap_facts.specs.declared.kinds.FactKind.{FactKind}
 use Rattle.olap_facts.specs.declared.kinds.FactRefusal.{FactRefusal}
 use Rattle.olap_facts.specs.declared.kinds.FactRefusal.TheVariants as refusal
 
+-- the most facts of a batch
 abbrev pub facts_in_a_batch : ℕ
 facts_in_a_batch = 256
 
@@ -18,11 +19,11 @@ facts_in_a_batch = 256
 abbrev pub more : ℕ → FactReading → FactReading
 more n r = record r { handed = r.handed + n }
 
--- the facts of so many records behind those handed out
+-- the facts of so many records after those handed out
 abbrev pub next_facts : ℕ → FactReading → List Fact
 next_facts n r = map (fact_read r.instance) (take n (drop r.handed (body_of r.records)))
 
--- the first record is the header, there is a record behind those handed out, no fault stands at it, before it or at
+-- the first record is the header, there is a record after those handed out, no fault stands at it, before it or at
 -- another of the batch, and these are the batch's facts
 pub record HandsOutBatch (r : FactReading) (batch : List Fact) : Type 0 where
   pub header : has_header r.records ≡ true

@@ -25,6 +25,7 @@ pub record FactReading : Type 0 where
   pub handed : ℕ
   pub live : Bool
 
+-- the reader of these parts
 abbrev pub reading : Graph → Instance → List (List (List ℕ)) → ℕ → ℕ → Bool → FactReading
 reading g i records most handed live =
     record { graph = g; instance = i; records = records; most = most; handed = handed; live = live }
@@ -37,14 +38,15 @@ all_read r = facts_read_within r.most r.graph r.instance r.records
 abbrev pub body_of : List (List (List ℕ)) → List (List (List ℕ))
 body_of records = drop 1 records
 
--- the reader after one fact more, and after the last
+-- the reader after one fact more
 abbrev pub one_more : FactReading → FactReading
 one_more r = record r { handed = r.handed + 1 }
 
+-- the reader after the last fact, or after a fault
 abbrev pub stopped : FactReading → FactReading
 stopped r = record r { live = false }
 
--- the first record is the header, there is a record behind those handed out, no fault stands at it or before it, and
+-- the first record is the header, there is a record after those handed out, no fault stands at it or before it, and
 -- f is its fact
 pub record HandsOut (r : FactReading) (f : Fact) : Type 0 where
   pub header : has_header r.records ≡ true
@@ -60,7 +62,7 @@ pub record IsAtEnd (r : FactReading) : Type 0 where
   pub read : all_read r ≡ Ok facts
   pub handed : length facts ≡ r.handed
 
--- the text's first fault is that of the header, before any fact, or of the record behind those handed out; or memory
+-- the text's first fault is that of the header, before any fact, or of the record after those handed out; or memory
 -- ran out
 abbrev pub IsStopped : FactReading → FactRefusal → Type 0
 IsStopped r (refusal.Fault at kind) =
@@ -83,6 +85,7 @@ pub record IsAt (r : FactReading) (left : List (List (List ℕ))) : Type 0 where
   pub start : r.handed ≡ 0 → left ≡ r.records
   pub later : 0 < r.handed → HasBody r left
 
+-- what is true of every reader: while it is live, these are the records that are left
 pub record IsReader (r : FactReading) (left : List (List (List ℕ))) : Type 0 where
   pub made : IsMadeFor r.graph r.instance
   pub most : r.most < 2 ^ 63

@@ -2,7 +2,7 @@
 //!
 //! A contract sees a `Facts` as the definition's list of facts (`facts_of` of `specs/Seen.antt`). What a
 //! text stands for, or where its first fault is, is the function `facts_read` of `specs/FactText.antt`. A
-//! `FactReader` hands out the same facts one at a time.
+//! `FactReader` hands out the same facts one at a time, or a batch at a time. Views aren't known here.
 #![tactic(auto)]
 
 mod kinds;

@@ -1,25 +1,23 @@
 // A reader that hands out the facts of a text one at a time, or in batches.
-ghost use Rattle.std.specs.Prelude.{◌≡◌, ◌+◌, ◌<◌, ◌≤◌, ◌^◌, [], All, Bool, ℕ, IfOk, IfSome, IsTrue, List as Items, MatchBool, MatchOption, MatchResult, OnErr, drop, length, map, true};
+ghost use Rattle.std.specs.Prelude.{◌≡◌, ◌+◌, ◌<◌, ◌≤◌, ◌^◌, [], All, Bool, ℕ, IfOk, IfSome, IsTrue, List as Items, MatchBool, MatchOption, MatchResult, OnErr, length, map, true};
 ghost use Rattle.olap_base.specs.Graph.{IsBottom};
 ghost use Rattle.olap_base.specs.Instance.{category_of};
 ghost use Rattle.olap_base.specs.Views.{IsFactTable};
 ghost use Rattle.olap_instance.specs.Made.{IsMadeFor};
 ghost use Rattle.olap_records.specs.Records.{records_of};
 ghost use Rattle.olap_facts.specs.Batches.{HandsOutBatch, IsStoppedInBatch, more};
-ghost use Rattle.olap_facts.specs.FactReading.{HandsOut, IsAt, IsAtEnd, IsStopped, one_more, reading, stopped};
-ghost use Rattle.olap_facts.specs.FactText.{has_header};
+ghost use Rattle.olap_facts.specs.FactReading.{FactReading, HandsOut, HasBody, IsAt, IsAtEnd, IsStopped, one_more, reading, stopped};
 ghost use Rattle.olap_facts.specs.Seen.{fact_of};
 
 use crate::reading::{begins, fact};
 use crate::{Fact, FactKind, FactRefusal};
-use olap_base::Memory;
 use olap_graph::Graph;
 use olap_instance::Instance;
 use olap_records::Rows;
 use std::alloc::Global;
 use std::marker::Model;
 
-/// The most facts of a batch. While one is added, the memory of those behind it may be on its way.
+/// The most facts of a batch. While one is added, the memory of those after it may be on its way.
 const FACTS_IN_A_BATCH: usize = 256;
 
 /// A reader of the facts of a text, which hands them out one at a time, or in batches. It is live until there is no
@@ -48,18 +46,22 @@ impl<'a> Model for FactReader<'a> {
         a.rows.left };
 }
 
-/// Reads the header before the first fact, and says whether it is there.
+/// Reads the header before the first fact.
 #[inline(always)]
-fn starts(rows: &mut Rows, handed: u64) -> Result<bool, Memory>
-    ensures first { IfOk result (λ b. handed ≡ 0 → b ≡ has_header rows.old.left) }
-    ensures left { IfOk result (λ b. handed ≡ 0 → IsTrue b → rows.new.left ≡ drop 1 rows.old.left) }
-    ensures later { IfOk result (λ b. 0 < handed → b ≡ true) }
-    ensures kept { IfOk result (λ b. 0 < handed → rows.new.left ≡ rows.old.left) }
+fn start(rows: &mut Rows, handed: u64) -> Result<(), FactRefusal>
+    ensures { (r : FactReading) → r.handed ≡ handed → IsAt r rows.old.left
+        → MatchResult result (λ _. HasBody r rows.new.left) (IsStopped r) }
 {
     if handed > 0 {
-        return Ok(true);
+        return Ok(());
     }
-    begins(rows)
+    if !begins(rows)? {
+        return Err(FactRefusal::Fault {
+            at: 1,
+            kind: FactKind::BadHeader,
+        });
+    }
+    Ok(())
 }
 
 /// The fact of the next record, if there is one, after so many facts of at most so many.
@@ -84,12 +86,7 @@ fn next_of(
     ensures bottom { IfOk result (λ o. IfSome o (λ f. IsBottom graph.now (category_of instance.now f.member.0))) }
     ensures few { IfOk result (λ o. IfSome o (λ f. handed < most)) }
 {
-    if !starts(rows, handed)? {
-        return Err(FactRefusal::Fault {
-            at: 1,
-            kind: FactKind::BadHeader,
-        });
-    }
+    start(rows, handed)?;
     if !rows.advance()? {
         return Ok(None);
     }
@@ -126,12 +123,7 @@ fn fill(
     ensures table { IfOk result (λ some. IsFactTable graph.now instance.now (map fact_of batch.new.items)) }
     ensures few { IfOk result (λ some. handed + length batch.new.items ≤ most) }
 {
-    if !starts(rows, handed)? {
-        return Err(FactRefusal::Fault {
-            at: 1,
-            kind: FactKind::BadHeader,
-        });
-    }
+    start(rows, handed)?;
     'facts: for n in 0..FACTS_IN_A_BATCH {
         if !rows.advance()? {
             return Ok(n > 0);

@@ -1,5 +1,5 @@
 // A fact table read from a text.
-ghost use Rattle.std.specs.Prelude.{◌≡◌, ◌<◌, ◌≤◌, ℕ, All, IfOk, IsTrue, List as Items, MatchResult, None, [], Ok, Some, drop, length, map};
+ghost use Rattle.std.specs.Prelude.{◌≡◌, ◌<◌, ◌≤◌, ◌∷◌, ℕ, All, IfOk, IsTrue, List as Items, MatchResult, None, [], Ok, Some, drop, length, map};
 ghost use Rattle.olap_base.specs.Graph.{IsBottom};
 ghost use Rattle.olap_base.specs.Instance.{category_of};
 ghost use Rattle.olap_base.specs.Limits.{most_listed_facts};
@@ -19,13 +19,20 @@ use olap_numerals::value;
 use olap_records::Rows;
 use std::alloc::Global;
 
+/// Whether the record that was read last is the header.
+fn is_header(rows: &Rows) -> bool
+    ensures { (others : Items (Items (Items ℕ))) → result ≡ has_header (rows.now.row ∷ others) }
+{
+    rows.is_row(&[b"member", b"value"])
+}
+
 /// Reads the first record, and says whether it is the header.
 pub(crate) fn begins(rows: &mut Rows) -> Result<bool, Memory>
     ensures header { IfOk result (λ b. b ≡ has_header rows.old.left) }
     ensures left { IfOk result (λ b. IsTrue b → rows.new.left ≡ drop 1 rows.old.left) }
 {
     let found = rows.advance()?;
-    Ok(found && rows.is_row(&[b"member", b"value"]))
+    Ok(found && is_header(rows))
 }
 
 /// Whether a member is of a bottom category.
@@ -106,6 +113,33 @@ fn read_rows(
     Ok(facts)
 }
 
+/// The fact table that the records tell, or their first fault.
+fn table_of(
+    alloc: Global,
+    graph: &Graph,
+    instance: &Instance,
+    rows: &mut Rows,
+) -> Result<Facts, FactRefusal>
+    requires made { IsMadeFor graph.now instance.now }
+    ensures read { MatchResult result
+        (λ f. facts_read graph.now instance.now rows.old.left ≡ Ok (facts_of f))
+        (λ e. IsRefusedBy e (facts_read graph.now instance.now rows.old.left)) }
+    ensures members { IfOk result (λ f. All (λ q. q.member.0 < length instance.now) f.rows) }
+    ensures few { IfOk result (λ f. length f.rows ≤ most_listed_facts) }
+    ensures table { IfOk result (λ f. IsFactTable graph.now instance.now (facts_of f)) }
+{
+    if !begins(rows)? {
+        return Err(FactRefusal::Fault {
+            at: 1,
+            kind: FactKind::BadHeader,
+        });
+    }
+    let facts = read_rows(alloc, graph, instance, rows)?;
+    Ok(Facts {
+        rows: List::from_vec(facts),
+    })
+}
+
 /// The fact table that a text tells, or the text's first fault. Each record takes one look-up of a
 /// member's id.
 pub fn read_facts(
@@ -125,14 +159,5 @@ pub fn read_facts(
     ensures table { IfOk result (λ f. IsFactTable graph.now instance.now (facts_of f)) }
 {
     let mut rows = Rows::new(alloc, text);
-    if !begins(&mut rows)? {
-        return Err(FactRefusal::Fault {
-            at: 1,
-            kind: FactKind::BadHeader,
-        });
-    }
-    let facts = read_rows(alloc, graph, instance, &mut rows)?;
-    Ok(Facts {
-        rows: List::from_vec(facts),
-    })
+    table_of(alloc, graph, instance, &mut rows)
 }

@@ -24,6 +24,7 @@ use Rattle.olap_ast.proofs.Shape.{list_any_is, same_is, is_same, either_true, Di
 use Rattle.olap_eval.specs.Shapes.{IsShape}
 use Rattle.olap_frozen.specs.Chosen.{AreNames, FrozenExactlyIfSound, IsChoice, IsMet, Joins, IsSound}
 
+-- a declared category has a number from 1 on
 above_zero : (c : ℕ) → c ≢ 0 → 1 ≤ c
 above_zero c n = omega arith
 
@@ -415,6 +416,7 @@ module _ (s : Schema) (q : Formula) (r : ℕ) (es : List Edge) (ch : IsChoice s.
         question = subst (λ x. Holds i x q) (sym o.1) f.true_at_root;
       }
 
+-- the theorem, by the laws one after another
 pub frozen_exactly_if_sound : FrozenExactlyIfSound
 frozen_exactly_if_sound s q r es name ch n = (
   λ f. (sound_of_frozen s q r es ch name f, met_of_frozen s q r es ch name f),

@@ -10,6 +10,7 @@ use Rattle.olap_graph.proofs.PlaceLemmas.{found, missing, joins-Decides}
 use Rattle.olap_frozen.specs.Chosen.{IsChoice, Joins}
 use Rattle.olap_frozen.specs.Rows.{JoinsBefore}
 
+-- chosen edges are edges of the list
 pub chosen_within : (es : List Edge) (bits : List Bool) (e : Edge) → Contains (chosen es bits) e → Contains es e
 chosen_within [] bits e c = c
 chosen_within (x ∷ es) [] e c = absurd (Contains-nil e c)
@@ -23,6 +24,7 @@ chosen_within (x ∷ es) (b ∷ bits) e c = go b c (chosen_within es bits e)
     ]
     go false c f = contains_cons e es x (f c)
 
+-- of distinct edges the chosen ones are distinct
 chosen_distinct : (es : List Edge) (bits : List Bool) → Distinct es → Distinct (chosen es bits)
 chosen_distinct [] bits d = tt
 chosen_distinct (x ∷ es) [] d = tt
@@ -66,9 +68,11 @@ place_chosen (x ∷ es) (a ∷ bits) e z (suc i) h b q = go a (place_chosen es b
     go true c = contains_cons e (chosen es bits) x c
     go false c = c
 
+-- what stands past the end of a list of edges
 pub nowhere : Edge
 nowhere = record { child = 0; parent = 0 }
 
+-- edges chosen by their bits join what those of the list do
 pub joins_before : (g : Graph) (bits : List Bool) (c d : ℕ)
     → JoinsBefore g bits (length g.edges) c d ↔ Joins (chosen g.edges bits) c d
 joins_before g bits c d = (
@@ -76,6 +80,7 @@ joins_before g bits c d = (
   λ h. chosen_place g.edges bits (record { child = c; parent = d }) (record { child = 0; parent = 0 }) h,
 )
 
+-- bits of a hierarchy are a choice at every root
 pub choice_of : (g : Graph) (r : ℕ) (bits : List Bool) → IsHierarchy g → IsCategory g r
     → IsChoice g r (chosen g.edges bits)
 choice_of g r bits hier root = record {
@@ -103,12 +108,14 @@ bit_joins g bits c d i hier e =
           ap (λ j. get_or bits j false) (sym same) ∙ t.2,
     )
 
+-- where the graph has no edge none is chosen
 pub no_edge_joins : (g : Graph) (bits : List Bool) (c d : ℕ) → edge_between g c d ≡ None
     → Joins (chosen g.edges bits) c d → ⊥
 no_edge_joins g bits c d e j =
     missing (joins c d) (λ x. x ≡ record { child = c; parent = d }) (joins-Decides c d) g.edges 0 e
     (record { child = c; parent = d }) (chosen_within g.edges bits (record { child = c; parent = d }) j) refl
 
+-- the place of an edge is one of the list
 pub edge_inside : (g : Graph) (c d i : ℕ) → edge_between g c d ≡ Some i → i < length g.edges
 edge_inside g c d i e =
     let f = found (joins c d) (λ x. x ≡ record { child = c; parent = d }) (joins-Decides c d) g.edges 0 i e in

@@ -31,9 +31,11 @@ use Rattle.olap_frozen.proofs.ChosenLemmas.{bit_joins, choice_of, no_edge_joins}
 use Rattle.olap_frozen.proofs.RowLemmas.{has_steps}
 use Rattle.olap_frozen.proofs.SoundLemmas.{present_is, present_of_steps}
 
+-- what isn't below isn't by the test
 pub lt_false : (c n : ℕ) → n ≤ c → nat_lt c n ≡ false
 lt_false c n h = grind (arith, nat_tests)
 
+-- the test of two texts, whatever they are called
 pub same_texts : (b : Bool) (x y u v : List ℕ) → b ≡ bytes_eq x y → x ≡ u → y ≡ v → (b ≡ true) ↔ (u ≡ v)
 same_texts b x y u v e p q = (
   λ t. sym p ∙ (bytes_eq-Decides x y).0 (sym e ∙ t) ∙ q,
@@ -42,14 +44,17 @@ same_texts b x y u v e p q = (
 
 -- ---- names
 
+-- a declared category's index stands one place earlier without that of `All`
 pub declared_at : (xs : List ℕ) (c : ℕ) → slice_index (of_declared xs) c ≡ slice_index xs (suc c)
 declared_at [] c = refl
 declared_at (x ∷ xs) c = refl
 
+-- without `All` there is one entry less
 declared_length : (xs : List ℕ) (n : ℕ) → length xs ≡ n + 1 → length (of_declared xs) ≡ n
 declared_length [] n e = absurd (omega arith)
 declared_length (x ∷ xs) n e = omega arith
 
+-- the name of an index is the name in the choice
 pub name_of_index : (k : Candidates) (bits : List Bool) (names : List ℕ) (c : ℕ)
     → name_at k c (slice_index names c) ≡ name_in k (chosen_of bits names) c
 name_of_index k bits names zero = refl
@@ -151,6 +156,7 @@ absent_there {A} b f g = (λ e. absurd (cc), λ a. absurd (no b f (g a)))
 
 -- ---- the name of an index
 
+-- the text of an index is one of the names
 at_index : (first : List ℕ) (others : List (List ℕ)) (i : ℕ) → i ≤ length others
     → Contains (first ∷ others) (text_of_index first others i)
 at_index first others zero h = contains_head first others

@@ -27,9 +27,11 @@ pub record GoesPast {W : ℕ} (g : Graph) (bits : List Bool) (rows : List (CatSe
 abbrev pub NonePast : {W : ℕ} → Graph → List Bool → List (CatSet W) → List EdgeId → ℕ → ℕ → Type 0
 NonePast g bits rows out d k = (j : ℕ) → j < k → GoesPast g bits rows d (get_or out j nowhere).0 → ⊥
 
+-- a place below the next is earlier, or this one
 newest : (j k : ℕ) → j < k + 1 → (j < k) ⊎ (j ≡ k)
 newest j k h = grind arith
 
+-- one edge more that doesn't go past the other
 pub none_more : {W : ℕ} (g : Graph) (bits : List Bool) (rows : List (CatSet W)) (out : List EdgeId) (d k : ℕ)
     → (GoesPast g bits rows d (get_or out k nowhere).0 → ⊥) → NonePast g bits rows out d k
     → NonePast g bits rows out d (k + 1)

@@ -16,9 +16,11 @@ use Rattle.olap_frozen.proofs.ChosenLemmas.{chosen_within, joins_before}
 
 -- ---- one edge more
 
+-- what earlier edges join is joined by one edge more
 joins_lift : (g : Graph) (bits : List Bool) (k a b : ℕ) → JoinsBefore g bits k a b → JoinsBefore g bits (k + 1) a b
 joins_lift g bits k a b t = (t.0, omega (arith, t.1), t.2, t.3)
 
+-- what one edge more joins was joined before, or is joined by this edge
 joins_cases : (g : Graph) (bits : List Bool) (k a b : ℕ) → JoinsBefore g bits (k + 1) a b
     → JoinsBefore g bits k a b ⊎ ((get_or bits k false ≡ true) × (edge_at g k ≡ record { child = a; parent = b }))
 joins_cases g bits k a b t = elim (newest t.0 k t.1) [
@@ -26,6 +28,7 @@ joins_cases g bits k a b t = elim (newest t.0 k t.1) [
   | inr e ↦ inr (ap (λ j. get_or bits j false) (sym e) ∙ t.2, ap (edge_at g) (sym e) ∙ t.3)
 ]
 
+-- without edges each set has its own category alone
 pub draw_none : {W : ℕ} (g : Graph) (bits : List Bool) (rows : List (CatSet W)) → AreOwn rows → AreDrawn g bits 0 rows
 draw_none g bits rows own a b h = (
   λ m. inl ((own a b h).0 m),
@@ -62,11 +65,13 @@ draw_more g bits k c d rows x bit edge h e drawn =
 
 -- ---- all chosen edges
 
+-- two tests are equal if each follows from the other
 same_tests : (a b : Bool) → (a ≡ true → b ≡ true) → (b ≡ true → a ≡ true) → a ≡ b
 same_tests true b f g = sym (f refl)
 same_tests false true f g = g refl
 same_tests false false f g = refl
 
+-- sets with all chosen edges, closed, are the rows of the choice
 pub closed_rows : {W : ℕ} (g : Graph) (bits : List Bool) (old new : List (CatSet W)) → IsHierarchy g
     → length old ≡ category_count g → AreDrawn g bits (length g.edges) old → IsClosure old new
     → AreRows g (chosen g.edges bits) new

@@ -27,6 +27,7 @@ present_of_steps g r es ch c s = elim (last_step s) [
 
 -- ---- the tests, as walks
 
+-- what the program tests of the chosen edges, as facts of walks
 pub record AreTests (r n : ℕ) (es : List Edge) : Type 0 where
   pub reached : (c d : ℕ) → Joins es c d → Steps (Joins es) r c
   pub open_walk : (c d : ℕ) → Joins es c d → Steps (Joins es) d c → ⊥
@@ -47,6 +48,7 @@ tops_more rows r c a e o t d h m = elim (newest d c h) [
     newest : (d c : ℕ) → d < c + 1 → (d < c) ⊎ (d ≡ c)
     newest d c h = grind arith
 
+-- a choice that passes the tests meets the laws
 pub sound_of_tests : (g : Graph) (r : ℕ) (es : List Edge) → IsChoice g r es → AreTests r (category_count g) es
     → IsSound r es
 sound_of_tests g r es ch t = record {
@@ -76,6 +78,7 @@ sound_of_tests g r es ch t = record {
     up : (c : ℕ) → c ≢ 0 → Steps (Joins es) c 0 → (d : ℕ) × Joins es c d
     up c n s = elim (Steps-cases s) [ inl e ↦ absurd (n e) | inr k ↦ first c 0 k ]
 
+-- a choice that meets the laws passes the tests
 pub tests_of_sound : (g : Graph) (r : ℕ) (es : List Edge) → IsChoice g r es → IsSound r es
     → AreTests r (category_count g) es
 tests_of_sound g r es ch s = record {

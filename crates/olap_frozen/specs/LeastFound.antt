@@ -1,4 +1,4 @@
--- What a frozen dimension that was found says.
+-- Frozen dimensions that were found, with their names.
 --     frozen_of       the definitions' value
 --     HasNothing      a value has nothing present
 --     IsLeastFound    it is the least one, and names are there for its indexes

@@ -47,12 +47,15 @@ pub record IsLeaf {W : ℕ} (g : Graph) (k : Named) (r : ℕ) (edges : List Bool
   pub rows : AreRows g (chosen g.edges edges) table
   pub reached : (c : ℕ) → set.contains (row table r) c ≡ is_present r (chosen g.edges edges) c
 
+-- the instance of a choice of edges and names
 abbrev pub leaf_instance : Graph → Named → ℕ → List Bool → List ℕ → Instance
 leaf_instance g k r edges names =
     instance_of g r (chosen g.edges edges) (name_in (candidates_of k) (chosen_of edges names))
 
+-- the root reaches the category by chosen edges, or is it
 abbrev pub leaf_present : Graph → ℕ → List Bool → ℕ → Bool
 leaf_present g r edges c = is_present r (chosen g.edges edges) c
 
+-- where the category's member stands in that instance
 abbrev pub leaf_place : Graph → ℕ → List Bool → ℕ → ℕ
 leaf_place g r edges c = place_of g r (chosen g.edges edges) c

@@ -1,4 +1,4 @@
-// Which categories reach which by chosen edges: a set for each category.
+// The sets of categories that each category reaches by chosen edges.
 ghost use Rattle.std.specs.Prelude.{◌≡◌, ◌≤◌, length};
 ghost use Rattle.olap_ast.specs.Frozen.{chosen};
 ghost use Rattle.olap_base.specs.Limits.{most_categories};

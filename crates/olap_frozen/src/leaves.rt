@@ -18,11 +18,17 @@ use olap_numerals::number;
 /// A sound choice of edges with its names.
 #[derive(Clone, Copy)]
 pub(crate) struct Leaf<'a> {
+    /// The graph whose edges are chosen.
     pub graph: &'a Graph,
+    /// The names that the indexes stand for.
     pub candidates: &'a Candidates,
+    /// The category of the least member.
     pub root: CatId,
+    /// For each edge whether it is chosen.
     pub edges: &'a [bool],
+    /// For each category the index of its name.
     pub names: &'a [u16],
+    /// What each category reaches by chosen edges.
     pub rows: &'a [Categories],
     ghost leaf: { IsLeaf graph.now candidates.now root.0 edges.now names.now rows.now },
     ghost is_shape: { IsShape (leaf_instance graph.now candidates.now root.0 edges.now names.now)

@@ -10,6 +10,7 @@ use Rattle.olap_generate.proofs.LocationText.{location_is_read}
 use Rattle.olap_generate.proofs.Made.{made, made_facts}
 use Rattle.olap_generate.proofs.Rows.{rows_stand}
 
+-- the made texts stand for the made schema, members and facts
 pub input_is_made : (seed size : ℕ) → size ≤ most_generated
     → IsMade seed size location_schema (made seed size) (made_facts seed size)
 input_is_made seed size few = record {

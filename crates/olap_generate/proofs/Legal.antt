@@ -18,6 +18,7 @@ use Rattle.olap_generate.proofs.Standing.{Standing, Standing.a_store, Standing.a
 
 -- ---- texts
 
+-- the two names differ
 usa_or_mexico : codes "USA" ≢ codes "Mexico"
 usa_or_mexico e = let q : ◌≡◌ {A = ℕ} 85 77 = ap (λ t. slice_index t 0) e in omega arith
 

@@ -14,6 +14,7 @@ use Rattle.olap_generate.specs.Location.{city, country, province, region, state,
 abbrev pub edge : ℕ → ℕ → Edge
 edge c d = record { child = c; parent = d }
 
+-- its graph
 abbrev pub location_graph : Graph
 location_graph = record {
   names = codes "Store" ∷ codes "City" ∷ codes "State" ∷ codes "Province" ∷ codes "Region" ∷ codes "Country" ∷ [];
@@ -37,12 +38,15 @@ no_numbers (suc (suc (suc (suc (suc (suc (suc c))))))) b = cc b
 abbrev pub washington : Formula
 washington = Equals city (codes "Washington")
 
+-- x lies in the USA
 abbrev pub in_usa : Formula
 in_usa = Equals country (codes "USA")
 
+-- x lies in Mexico
 abbrev pub in_mexico : Formula
 in_mexico = Equals country (codes "Mexico")
 
+-- x lies in Canada
 abbrev pub in_canada : Formula
 in_canada = Equals country (codes "Canada")
 
@@ -50,6 +54,7 @@ in_canada = Equals country (codes "Canada")
 abbrev pub lies_in : ℕ → Formula
 lies_in c = Path (c ∷ [])
 
+-- a constraint of that root and formula
 abbrev pub rule : ℕ → Formula → Constraint
 rule c f = record { root = c; formula = f }
 

@@ -25,9 +25,11 @@ not_reserved b bs h (suc (suc (suc (suc k))), l, e) = absurd (omega arith)
 abbrev is_small : ℕ → Bool
 is_small b = nat_le 97 b && nat_le b 122
 
+-- what the test takes is a letter or a digit
 small_is : (b : ℕ) → is_small b ≡ true → IsLetterOrDigit b
 small_is b e = grind arith
 
+-- so it is of several bytes
 all_small : (bs : List ℕ) → list_all is_small bs ≡ true → All IsLetterOrDigit bs
 all_small [] e = All-nil IsLetterOrDigit
 all_small (b ∷ bs) e =
@@ -41,21 +43,27 @@ named b bs l h e = (is_category_name_is (b ∷ bs)).1 (inl (l, h), all_small bs 
 pub store_is : is_category_name (codes "Store") ≡ true
 store_is = named 83 (codes "tore") (lit≤ tt) (lit≤ tt) refl
 
+-- `City` is a category name
 pub city_is : is_category_name (codes "City") ≡ true
 city_is = named 67 (codes "ity") (lit≤ tt) (lit≤ tt) refl
 
+-- `State` is one
 pub state_is : is_category_name (codes "State") ≡ true
 state_is = named 83 (codes "tate") (lit≤ tt) (lit≤ tt) refl
 
+-- `Province` is one
 pub province_is : is_category_name (codes "Province") ≡ true
 province_is = named 80 (codes "rovince") (lit≤ tt) (lit≤ tt) refl
 
+-- `Region` is one
 pub region_is : is_category_name (codes "Region") ≡ true
 region_is = named 82 (codes "egion") (lit≤ tt) (lit≤ tt) refl
 
+-- `Country` is one
 pub country_is : is_category_name (codes "Country") ≡ true
 country_is = named 67 (codes "ountry") (lit≤ tt) (lit≤ tt) refl
 
+-- `All` is one
 pub all_is : is_category_name (codes "All") ≡ true
 all_is = named 65 (codes "ll") (lit≤ tt) (lit≤ tt) refl
 
@@ -63,9 +71,11 @@ all_is = named 65 (codes "ll") (lit≤ tt) (lit≤ tt) refl
 abbrev IsDeclaredName : List ℕ → Type 0
 IsDeclaredName name = IsCategoryName name × (name ≢ codes "All")
 
+-- a category name that doesn't begin with an A is a declared one's
 declared : (name : List ℕ) → is_category_name name ≡ true → slice_index name 0 ≢ 65 → IsDeclaredName name
 declared name e n = ((is_category_name_is name).0 e, λ q. n (ap (λ t. slice_index t 0) q))
 
+-- each name of the graph is one
 declared_at : (k : ℕ) (d : List ℕ) → k < 6 → IsDeclaredName (slice_index_or location_graph.names k d)
 declared_at zero d l = declared (codes "Store") store_is (λ q. omega arith)
 declared_at (suc zero) d l = declared (codes "City") city_is (λ q. omega arith)
@@ -109,6 +119,7 @@ distinct_by {A} key xs e = go xs (distinct_numbers (map key xs) e)
 names_distinct : Distinct location_graph.names
 names_distinct = distinct_by (λ t. slice_index t 1 + slice_index t 2) location_graph.names refl
 
+-- no edge stands twice
 edges_distinct : Distinct location_graph.edges
 edges_distinct = distinct_by (λ (e : Edge). 10 * e.child + e.parent) location_graph.edges refl
 
@@ -119,6 +130,7 @@ way : (c : ℕ) (between : List ℕ) → IsChain (HasEdge location_graph) (c ∷
     → CategoryReaches location_graph c 0
 way c between k = inr (record { between = between; chain = k })
 
+-- each category reaches `All`
 ways : (c : ℕ) → c < 7 → CategoryReaches location_graph c 0
 ways zero l = inl refl
 ways (suc zero) l = way 1 (2 ∷ 6 ∷ []) ((0, omega arith, refl), ((3, omega arith, refl), ((8, omega arith, refl), tt)))

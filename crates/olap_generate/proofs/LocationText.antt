@@ -42,6 +42,7 @@ atoms =
 abbrev nodes : List ℕ
 nodes = 0 ∷ 3 ∷ 7 ∷ 10 ∷ 13 ∷ 16 ∷ 19 ∷ 20 ∷ []
 
+-- how many pairs of a category and a constant the first constraints have, for each number of them
 abbrev atom_counts : List ℕ
 atom_counts = 0 ∷ 1 ∷ 1 ∷ 2 ∷ 3 ∷ 3 ∷ 3 ∷ 4 ∷ []
 
@@ -81,7 +82,7 @@ abbrev Follow : ℕ → List (List ℕ) → Type 0
 Follow n [] = Unit {0}
 Follow n (line ∷ lines) = (line_read (above n) (n + 1) (chomped line) ≡ Ok (above (n + 1))) × Follow (n + 1) lines
 
--- what is read where these lines stand behind the first n
+-- what is read where these lines stand after the first n
 abbrev from : List (List ℕ) → ℕ → Read
 from rest n = lines_on (Ok (above n)) n rest
 
@@ -136,6 +137,7 @@ lines_say =
 reached : (c : ℕ) → c < 7 → category_reaches location_graph c 0 ≡ true
 reached c l = (category_reaches_is location_graph c 0).1 (location_is_hierarchy.reaches_all c l)
 
+-- each category has a way to `All`
 none_stuck : first_stuck location_graph ≡ None
 none_stuck = rw (
   reached 1 (lit< tt),

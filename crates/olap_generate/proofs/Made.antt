@@ -20,7 +20,7 @@ module _ (seed size : ℕ) where
   abbrev pub g : ℕ
   g = groups size
 
-  -- the places at which the groups begin, behind the stores
+  -- the places at which the groups begin, after the stores
   abbrev pub cities : ℕ
   cities = size
 

@@ -50,6 +50,7 @@ no_fault {T} {E} read x fault a b = absurd (let e : ◌≡◌ {A = Result T E} (
 pub schema_faultless : (fault : _) → schema_read location_text ≡ Err fault → ⊥
 schema_faultless fault e = no_fault (schema_read location_text) location_schema fault location_is_read e
 
+-- what the text is read as is the made schema
 pub schema_is : (s : Schema) → schema_read location_text ≡ Ok s → s ≡ location_schema
 schema_is s e = only_one (schema_read location_text) s location_schema e location_is_read
 

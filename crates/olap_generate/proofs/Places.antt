@@ -12,7 +12,7 @@ use Rattle.olap_generate.specs.Location as location
 use Rattle.olap_generate.specs.Members.{groups}
 use Rattle.olap_generate.proofs.Made.{below, canada, canadian_region_of, canadian_regions, cities, city_of, last_members, made, mexican_region_of, mexican_regions, mexican_state_of, mexican_states, mexico, province_of, provinces, state_of, states, store_of, top, usa}
 
--- ---- a group, and what stands behind it
+-- ---- a group, and what stands after it
 
 module _ (f : ℕ → Member) (a n : ℕ) (rest : Instance) where
   abbrev joined : Instance
@@ -25,7 +25,7 @@ module _ (f : ℕ → Member) (a n : ℕ) (rest : Instance) where
       get_or_append_left (map f (range_with_len a n)) rest nobody k (omega arith)
       ∙ get_or-map-range_with_len f a n k j nobody l e
 
-  -- the members behind it
+  -- the members after it
   behind_group : (k : ℕ) → member_at joined (n + k) ≡ member_at rest k
   behind_group k =
       let long = length-map-range_with_len f a n in
@@ -40,7 +40,7 @@ module _ (f : ℕ → Member) (a n : ℕ) (rest : Instance) where
 
 -- ---- the groups
 
--- eight lists one behind the other
+-- eight lists one after the other
 pub regroup : {A : Type 0} (a b c d e f g h : List A)
     → a ++ b ++ c ++ d ++ e ++ f ++ g ++ h ≡ a ++ (b ++ (c ++ (d ++ (e ++ (f ++ (g ++ h))))))
 regroup a b c d e f g h = simp append_assoc
@@ -95,7 +95,7 @@ module _ (seed size : ℕ) where
           → size + a ≡ size + 9 * g + 4
       sums p q r s t u = omega arith
 
-  -- what stands behind each group
+  -- what stands after each group
   behind_stores : (k x : ℕ) → size + k ≡ x → member_at (made seed size) x ≡ member_at from_cities k
   behind_stores k x e =
       ap (λ i. member_at i x) from_stores
@@ -206,7 +206,7 @@ module _ (seed size : ℕ) where
   abbrev EachFrom : ℕ → Type 0
   EachFrom s = (x : ℕ) → s ≤ x → x < size + 9 * groups size + 4 → Place seed size x
 
-  -- those of a group, and those behind it
+  -- those of a group, and those after it
   group_and_behind : (s n t : ℕ) → s + n ≡ t → ((k : ℕ) → k < n → Place seed size (s + k)) → EachFrom t → EachFrom s
   group_and_behind s n t e here behind x a b = elim (cut x t) [
     | inl l ↦ subst (Place seed size) (omega arith) (here (x - s) (omega arith))
@@ -216,7 +216,7 @@ module _ (seed size : ℕ) where
       cut : (y u : ℕ) → (y < u) ⊎ (u ≤ y)
       cut y u = grind arith
 
-  -- one place, and those behind it
+  -- one place, and those after it
   one_and_behind : (s t : ℕ) → s + 1 ≡ t → Place seed size s → EachFrom t → EachFrom s
   one_and_behind s t e here behind =
       group_and_behind s 1 t e (λ k l. subst (Place seed size) (omega arith) here) behind

@@ -19,6 +19,7 @@ by_city i l x y e m (step {y = z} b s) =
     (l.is_instance.parents_are_members x z b, store_city (category_of i z) from_store) in
     (z, in_city, reaches_from_Steps (step b here), (y, m, reaches_from_Steps s))
 
+-- the regions are summarizable from the cities
 pub cities_serve_regions : IsSummarizable location_schema region (city ∷ [])
 cities_serve_regions i l = (agree_exactly location_graph i region (city ∷ []) l.is_instance l.lawful).1
     (λ x m b r. inl (by_city i l x r.0 ((bottom_is_store (category_of i x)).0 b) r.1 (Steps-from_reaches r.2), tt))

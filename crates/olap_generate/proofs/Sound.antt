@@ -19,12 +19,15 @@ use Rattle.olap_generate.proofs.Places.{Place, Place.of_all, Place.of_canada, Pl
 
 -- ---- one parent
 
+-- the only parent of a list is it
 one_parent : (p y : ℕ) → Contains (p ∷ []) y → p ≡ y
 one_parent p y c = elim (contains_cases y p [] c) [ inl e ↦ e | inr n ↦ absurd (Contains-nil y n) ]
 
+-- one parent differs from all others
 one_differs : (p : ℕ) → AllPairs ◌≢◌ (p ∷ [])
 one_differs p i j d a b = absurd (omega arith)
 
+-- no parents differ
 none_differ : AllPairs {X = ℕ} ◌≢◌ []
 none_differ i j d a b = absurd (omega arith)
 

@@ -22,6 +22,7 @@ under i x p m n e q u = record {
 
 -- ---- cities
 
+-- no id of a city is `Washington`
 not_washington : (j : ℕ) → numbered (codes "c") j ≢ codes "Washington"
 not_washington j e = let q : ◌≡◌ {A = ℕ} 99 87 = ap (λ t. slice_index t 0) e in omega arith
 
@@ -29,15 +30,19 @@ not_washington j e = let q : ◌≡◌ {A = ℕ} 99 87 = ap (λ t. slice_index t
 four : (j : ℕ) → (j % 4 ≡ 0) ⊎ ((j % 4 ≡ 1) ⊎ ((j % 4 ≡ 2) ⊎ (j % 4 ≡ 3)))
 four j = grind arith
 
+-- equal numbers pass the test
 passes : (a b : ℕ) → a ≡ b → (a == b) ≡ true
 passes a b e = grind arith
 
+-- different ones don't
 fails : (a b : ℕ) → a ≢ b → (a == b) ≡ false
 fails a b n = grind arith
 
+-- the name of a city that isn't a fourth one
 other_name : (j : ℕ) → j % 4 ≢ 0 → city_name j ≢ codes "Washington"
 other_name j n = rw (fails (j % 4) 0 n) (not_washington j)
 
+-- the name of a fourth one
 first_name : (j : ℕ) → j % 4 ≡ 0 → city_name j ≡ codes "Washington"
 first_name j e = rw (passes (j % 4) 0 e) refl
 

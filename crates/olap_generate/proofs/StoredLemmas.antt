@@ -128,6 +128,7 @@ module _ (seed size : ℕ) (few : size ≤ most_generated) (s : Schema) (i : Ins
 
 -- ---- there are no more rows than members
 
+-- no more items than there were
 filter_map_short : {A B : Type 0} (h : A → Option B) (xs : List A) → length (filter_map h xs) ≤ length xs
 filter_map_short h [] = omega arith
 filter_map_short {A} {B} h (x ∷ xs) = go (h x) (filter_map_short h xs)

@@ -12,7 +12,7 @@ use Rattle.olap_records.proofs.ReadingBack.{texts-push}
 use Rattle.olap_instance.specs.InstanceText.{header}
 use Rattle.olap_generate.specs.Members.{canadian_region_row, city_row, country_rows, mexican_region_row, mexican_state_row, named_row, province_row, state_row, store_row}
 
--- the text of records behind others
+-- the text of records after others
 texts_append : (xs ys : List (List (List ℕ))) → text_of_rows (xs ++ ys) ≡ text_of_rows xs ++ text_of_rows ys
 texts_append [] ys = refl
 texts_append (x ∷ xs) ys = ap (λ (t : List ℕ). text_of_row x ++ t) (texts_append xs ys)
@@ -29,7 +29,7 @@ one_more start k = let e : k + 1 ≡ suc k = omega arith in ap (range_with_len s
         ap (λ (ns : List ℕ). start ∷ ns) (last (start + 1) k
         ∙ ap (λ (n : ℕ). range_with_len (start + 1) k ++ n ∷ []) e)
 
--- behind the records of k numbers from the start on comes that of the next number
+-- after the records of k numbers from the start on comes that of the next number
 pub rows_more : (row : ℕ → List (List ℕ)) (start k n : ℕ) → start + k ≡ n → (before old new : List ℕ)
     (next : List (List ℕ)) → next ≡ row n → old ≡ before ++ text_of_rows (map row (range_with_len start k))
     → new ≡ old ++ text_of_row next → new ≡ before ++ text_of_rows (map row (range_with_len start (k + 1)))
@@ -44,7 +44,7 @@ rows_more row start k n place before old new next is eo en =
     ∙ ap (λ (r : List (List ℕ)). text_of_rows (so_far ++ r ∷ [])) is
     ∙ ap text_of_rows (sym more))
 
--- behind the records so far come those of a group
+-- after the records so far come those of a group
 pub groups_more : (rows group : List (List (List ℕ))) (old new : List ℕ) → old ≡ text_of_rows rows
     → new ≡ old ++ text_of_rows group → new ≡ text_of_rows (rows ++ group)
 groups_more rows group old new eo en =

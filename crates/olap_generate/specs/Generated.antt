@@ -15,6 +15,7 @@ use Rattle.olap_generate.specs.Location.{city, province, region, state}
 abbrev pub stored_views : Instance → List Fact → List View
 stored_views members facts = direct_views members facts (state ∷ province ∷ city ∷ [])
 
+-- how many rows they have together
 abbrev pub row_count : List View → ℕ
 row_count views = sum_by (λ v. length v.rows) views
 

@@ -3,4 +3,5 @@ pub mod Location
 pub mod Members
 pub mod Inputs
 pub mod Generated
+-- The inside: what has been made at each stage.
 pub mod Stages

@@ -86,8 +86,8 @@ fn shown(
 /// the states, the provinces and the cities as a text, and answers for the regions from these. The lines tell how much
 /// there is of each.
 ///
-/// No text is at fault, the instance is legal, and there is a plan: nothing is refused but for want of memory. Linear
-/// in the number of stores. `Memory`: want of memory.
+/// No text is at fault, the instance is legal, and there is a plan: nothing is refused unless memory runs out. Linear
+/// in the number of stores. `Memory`: out of memory.
 pub fn generate(alloc: Global, seed: u64, size: u32) -> Result<Text, Memory>
     requires some { 1 ≤ size }
     requires few { size ≤ most_generated }

@@ -65,7 +65,7 @@ pub(crate) fn input_lines(
     Ok(format!(in alloc; "members {members}\nfacts {facts}\nstored {stored}\n")?)
 }
 
-/// The lines behind the plan's: the rows of its view, and what their counts and sums come to.
+/// The lines after the plan's: the rows of its view, and what their counts and sums come to.
 pub(crate) fn view_lines(alloc: Global, rows: &[Row]) -> Result<String, Memory>
     requires fit { All IsStored (rows_of rows.now) }
     requires few { length rows.now ≤ most_members }

@@ -1,4 +1,4 @@
-// The way of the made input: the readers, the check, and the stored views as a text.
+// The made input, step by step: the readers, the check, and the stored views as a text.
 ghost use Rattle.std.specs.Prelude.{◌≡◌, ◌<◌, All, IfOk, Ok, length};
 ghost use Rattle.olap_schema.specs.Judging.{schema_read};
 ghost use Rattle.olap_schema.specs.Schemas.{schema_of};

@@ -12,6 +12,7 @@ use Rattle.olap_grammar.specs.Grammar.{Atoms, level, left_level, right_level, jo
 use Rattle.olap_grammar.specs.Machine.{trees, Frame, Negation, Left, Bracket, Listing, Part, State, Wants, WantsPart, Named, Compared, Has, settled, list_closed, after, after_word, after_compared, has_atom, step, alone, ended, formula_read}
 use Rattle.olap_grammar.proofs.Levels.{row, apart}
 
+-- a fold over two lists, one after the other
 pub fold-append : {A B : Type 0} (f : B → A → B) (b : B) (xs ys : List A)
     → fold f b (xs ++ ys) ≡ fold f (fold f b xs) ys
 fold-append f b [] ys = refl
@@ -26,6 +27,7 @@ Admits n (Bracket ∷ s) = Unit {0}
 Admits n (Listing ∷ s) = Unit {0}
 Admits n (Part g ∷ s) = Unit {0}
 
+-- what may stand at one level may stand at a looser one's place
 pub admits_more : (m n : ℕ) (s : List (Frame Formula)) → m ≤ n → Admits m s → Admits n s
 admits_more m n [] l h = tt
 admits_more m n (Negation ∷ s) l h = omega arith
@@ -43,20 +45,25 @@ pub record Stands (a : Atoms Formula) (n : ℕ) (f : Formula) (s : List (Frame F
   pub comma : step trees a st (token.Mark mark.Comma) ≡ after trees f s (token.Mark mark.Comma)
   pub end : ended trees a st ≡ alone (settled trees 1 f s)
 
+-- a formula that was read stands
 stands_has : (a : Atoms Formula) (n : ℕ) (f : Formula) (s : List (Frame Formula)) → Stands a n f s (Has f s)
 stands_has a n f s = record { joint = λ j l. refl; close = refl; comma = refl; end = refl }
 
+-- at a looser level too
 stands_less : (a : Atoms Formula) (m n : ℕ) (f : Formula) (s : List (Frame Formula)) (st : State Formula) → m ≤ n
     → Stands a n f s st → Stands a m f s st
 stands_less a m n f s st l h =
     record { joint = λ j k. h.joint j (omega arith); close = h.close; comma = h.comma; end = h.end }
 
+-- at most, as the test has it
 le_true : (m n : ℕ) → m ≤ n → nat_le m n ≡ true
 le_true m n h = grind (arith)
 
+-- more, as the test has it
 lt_false : (m n : ℕ) → n < m → nat_le m n ≡ false
 lt_false m n h = grind (arith)
 
+-- where nothing of this level is open nothing is closed
 settled_stays : (j : Joint) (f : Formula) (s : List (Frame Formula)) → Admits (level j) s
     → settled trees (left_level j) f s ≡ (f, s)
 settled_stays j f [] h = refl
@@ -71,6 +78,7 @@ settled_joins : (n : ℕ) (j : Joint) (f g : Formula) (s : List (Frame Formula))
     → settled trees n g (Left j f ∷ s) ≡ settled trees n (join j f g) s
 settled_joins n j f g s h = rw (le_true n (level j) h) refl
 
+-- a formula behind a connective stands for both joined
 stands_joined : (a : Atoms Formula) (j : Joint) (f g : Formula) (s : List (Frame Formula)) (st : State Formula)
     → Stands a (right_level j) g (Left j f ∷ s) st → Stands a (level j) (join j f g) s st
 stands_joined a j f g s st h = record {
@@ -80,10 +88,12 @@ stands_joined a j f g s st h = record {
   end = h.end ∙ rw (settled_joins 1 j f g s (row j).some) refl;
 }
 
+-- and one behind a `!` for its negation
 stands_negated : (a : Atoms Formula) (f : Formula) (s : List (Frame Formula)) (st : State Formula)
     → Stands a 6 f (Negation ∷ s) st → Stands a 6 (Meaning.Formula.Not f) s st
 stands_negated a f s st h = record { joint = h.joint; close = h.close; comma = h.comma; end = h.end }
 
+-- a word that is an atom stands
 stands_named : (a : Atoms Formula) (n : ℕ) (w : List ℕ) (f : Formula) (s : List (Frame Formula)) → a.plain w ≡ Some f
     → Stands a n f s (Named w s)
 stands_named a n w f s e = record { joint = λ j l. rw e refl; close = rw e refl; comma = rw e refl; end = rw e refl }
@@ -95,12 +105,14 @@ names_op a w Op.Equal s = refl
 names_op a w Op.Less s = refl
 names_op a w Op.AtMost s = refl
 
+-- behind a comparison a word has the digits
 pub after_word_digits : (a : Atoms Formula) (w : List ℕ) (op : Op) (s : List (Frame Formula)) (v : List ℕ)
     → after_compared a w op s (token.Word v) ≡ has_atom (a.compare w op v) s
 after_word_digits a w Op.Equal s v = refl
 after_word_digits a w Op.Less s v = refl
 after_word_digits a w Op.AtMost s v = refl
 
+-- or a number with its sign
 pub after_signed_digits : (a : Atoms Formula) (w : List ℕ) (op : Op) (s : List (Frame Formula)) (v : List ℕ)
     → after_compared a w op s (token.Signed v) ≡ has_atom (a.compare w op v) s
 after_signed_digits a w Op.Equal s v = refl
@@ -139,6 +151,7 @@ IsOpenList (Bracket ∷ s) = ⊥
 IsOpenList (Listing ∷ s) = Unit {0}
 IsOpenList (Part g ∷ s) = Unit {0}
 
+-- a bracket closes the list with this part as the last
 closes_last : (a : Atoms Formula) (f : Formula) (s : List (Frame Formula)) → IsOpenList s
     → after trees f s (token.Mark mark.Close) ≡ list_closed trees (Meaning.Terms.More f Meaning.Terms.End) s
 closes_last a f [] h = absurd h
@@ -148,6 +161,7 @@ closes_last a f (Bracket ∷ s) h = absurd h
 closes_last a f (Listing ∷ s) h = refl
 closes_last a f (Part g ∷ s) h = refl
 
+-- a comma leaves the part open
 parts_one : (f : Formula) (s : List (Frame Formula)) → IsOpenList s
     → after trees f s (token.Mark mark.Comma) ≡ Wants (Part f ∷ s)
 parts_one f [] h = absurd h
@@ -157,6 +171,7 @@ parts_one f (Bracket ∷ s) h = absurd h
 parts_one f (Listing ∷ s) h = refl
 parts_one f (Part g ∷ s) h = refl
 
+-- in a list a part of any level may stand
 admits_any : (n : ℕ) (s : List (Frame Formula)) → IsOpenList s → Admits n s
 admits_any n [] h = absurd h
 admits_any n (Negation ∷ s) h = absurd h

@@ -12,22 +12,27 @@ use Rattle.olap_grammar.specs.declared.tokens.Joint.TheVariants as joint
 use Rattle.olap_grammar.specs.declared.tokens.Version.{Version}
 use Rattle.olap_grammar.specs.declared.tokens.Version.TheVariants as version
 
+-- a word goes on
 in_word : (v : Version) (ts : List Token) (w : List ℕ) (b : ℕ) → is_word_byte b ≡ true
     → cut_step v (InWord ts w) b ≡ InWord ts (w ++ b ∷ [])
 in_word v ts w b h = rw h refl
 
+-- and a number with its sign
 in_signed : (v : Version) (ts : List Token) (w : List ℕ) (b : ℕ) → is_word_byte b ≡ true
     → cut_step v (InSigned ts w) b ≡ InSigned ts (w ++ b ∷ [])
 in_signed v ts w b h = rw h refl
 
+-- a word begins
 begins_word : (v : Version) (ts : List Token) (b : ℕ) → is_word_byte b ≡ true
     → cut_step v (Between ts) b ≡ InWord ts (b ∷ [])
 begins_word v ts b h = rw h refl
 
+-- a string goes on with a byte that stands for itself
 in_quotes : (v : Version) (ts : List Token) (k : List ℕ) (b : ℕ) → b == 34 ≡ false → b == 92 ≡ false
     → cut_step v (InQuotes ts k) b ≡ InQuotes ts (k ++ b ∷ [])
 in_quotes v ts k b p q = rw (p, q) refl
 
+-- a word goes on over all its bytes
 word_goes_on : (v : Version) (ts : List Token) (w u bs : List ℕ) → AreWordBytes u
     → fold (cut_step v) (InWord ts w) (u ++ bs) ≡ fold (cut_step v) (InWord ts (w ++ u)) bs
 word_goes_on v ts w [] bs h = rw append-nil refl
@@ -35,12 +40,14 @@ word_goes_on v ts w (b ∷ u) bs h = let ih = word_goes_on v ts (w ++ b ∷ []) 
     let e : (w ++ b ∷ []) ++ u ≡ w ++ b ∷ u = simp append_assoc in
     ap (λ s. fold (cut_step v) s (u ++ bs)) (in_word v ts w b h.0) ∙ rw e at ih
 
+-- and ends before what is none of them
 word_ends : (v : Version) (ts : List Token) (w bs : List ℕ) → EndsWord bs
     → cut_ended v (fold (cut_step v) (InWord ts w) bs)
     ≡ cut_ended v (fold (cut_step v) (Between (ts ++ token.Word w ∷ [])) bs)
 word_ends v ts w [] h = refl
 word_ends v ts w (b ∷ bs) h = rw h refl
 
+-- the same of a number
 number_goes_on : (v : Version) (ts : List Token) (w u bs : List ℕ) → AreWordBytes u
     → fold (cut_step v) (InSigned ts w) (u ++ bs) ≡ fold (cut_step v) (InSigned ts (w ++ u)) bs
 number_goes_on v ts w [] bs h = rw append-nil refl
@@ -48,6 +55,7 @@ number_goes_on v ts w (b ∷ u) bs h = let ih = number_goes_on v ts (w ++ b ∷ 
     let e : (w ++ b ∷ []) ++ u ≡ w ++ b ∷ u = simp append_assoc in
     ap (λ s. fold (cut_step v) s (u ++ bs)) (in_signed v ts w b h.0) ∙ rw e at ih
 
+-- the same of a number
 number_ends : (v : Version) (ts : List Token) (w bs : List ℕ) → EndsWord bs
     → cut_ended v (fold (cut_step v) (InSigned ts w) bs)
     ≡ cut_ended v (fold (cut_step v) (Between (ts ++ token.Signed w ∷ [])) bs)
@@ -83,6 +91,7 @@ less_on ts (b ∷ bs) h = go (b == 45) refl
     go true e = let same : b ≡ 45 = grind (arith) in rw same (dash_on ts bs (h.1 e))
     go false e = rw (e, h.0) refl
 
+-- a string goes on up to its quote
 quotes_end : {body k : List ℕ} → Spells body k → (v : Version) (ts : List Token) (start bs : List ℕ)
     → fold (cut_step v) (InQuotes ts start) (body ++ 34 ∷ bs)
     ≡ fold (cut_step v) (Between (ts ++ token.Quoted (start ++ k) ∷ [])) bs
@@ -95,6 +104,7 @@ quotes_end (other {b = b} {bs = body} {k = k} p q d) v ts start bs = let e : (st
     simp append_assoc in ap (λ s. fold (cut_step v) s (body ++ 34 ∷ bs)) (in_quotes v ts start b p q)
     ∙ rw e at (quotes_end d v ts (start ++ b ∷ []) bs)
 
+-- so the line is cut into its tokens, whatever was cut before
 cut_on : {v : Version} {line : List ℕ} {ts : List Token} → IsCut v line ts → (done : List Token)
     → cut_ended v (fold (cut_step v) (Between done) line) ≡ Some (done ++ ts)
 cut_on end done = rw append-nil refl

@@ -31,6 +31,7 @@ pub record EndsRunAt (v : Version) (of : List ℕ → Token) (done : List Token)
     pub ends : EndsWord rest
     pub follows : Follows v (done ++ of (w ++ more) ∷ []) rest all
 
+-- the string ends with what it spells, and the rest is cut
 pub record EndsQuotesAt (v : Version) (done : List Token) (k bs : List ℕ) (all : List Token) : Type 0 where
   pub body : List ℕ
   pub text : List ℕ
@@ -52,6 +53,7 @@ Gives v (Less ts) bs all = Follows v ts (60 ∷ bs) all
 Gives v (LessDash ts) bs all = Follows v ts (60 ∷ 45 ∷ bs) all
 Gives v Stuck bs all = ⊥
 
+-- equal by the test is equal
 same_byte : (a b : ℕ) → a == b ≡ true → a ≡ b
 same_byte a b h = grind (arith)
 
@@ -61,6 +63,7 @@ choose : {A : Type 0} (P : A → Type 0) (Q : Type 0) (t : Bool) (x y : A) → (
 choose P Q true x y f g h = f refl h
 choose P Q false x y f g h = g refl h
 
+-- a mark in front of what follows it
 after_mark : (v : Version) (m : Mark) (done : List Token) (bs : List ℕ) (all : List Token) → IsMarkIn m v
     → EndsMark m bs → Follows v (done ++ token.Mark m ∷ []) bs all → Follows v done (mark_bytes m ++ bs) all
 after_mark v m done bs all in' ends h = record {
@@ -127,6 +130,7 @@ plain_mark v b m bs =
     (first_holds P (b == 124) (mark.Joint joint.Or) m _ (tt, tt)
     (first_holds P (b == 38) (mark.Joint joint.And) m _ (tt, tt) (λ h. absurd (cc))))))))))
 
+-- a byte that is a mark by itself
 mark_gives : (v : Version) (ts : List Token) (b : ℕ) (bs : List ℕ) (all : List Token) (found : Option Mark)
     → mark_of b ≡ found → Gives v (machine.marked ts found) bs all → Follows v ts (b ∷ bs) all
 mark_gives v ts b bs all None e h = absurd h
@@ -135,6 +139,7 @@ mark_gives v ts b bs all (Some m) e h =
     let plain = plain_mark v b m bs e in
     rw line at (after_mark v m ts bs all plain.0 plain.1 h)
 
+-- a byte where nothing was begun
 between_gives : (v : Version) (ts : List Token) (b : ℕ) (bs : List ℕ) (all : List Token) → Gives v (between ts b) bs all
     → Follows v ts (b ∷ bs) all
 between_gives v ts b bs all =
@@ -211,6 +216,7 @@ run_ends v of ts w b bs all n h = record {
   follows = rw append-nil h;
 }
 
+-- one byte more in front
 step_gives : (v : Version) (s : Cut) (b : ℕ) (bs : List ℕ) (all : List Token) → Gives v (cut_step v s b) bs all
     → Gives v s (b ∷ bs) all
 step_gives v (Between ts) b bs all h = between_gives v ts b bs all h
@@ -309,6 +315,7 @@ run_ended v of ts w all e = record {
   follows = record { later = []; whole = simp append-nil (sym e); cut = end };
 }
 
+-- a `<` at the end of the line
 less_ended : (v : Version) (ts all : List Token) (t : Bool) → has_numbers v ≡ t
     → (if t then Some (ts ++ token.Mark mark.Less ∷ []) else None) ≡ Some all → Follows v ts (60 ∷ []) all
 less_ended v ts all true e h = record {
@@ -318,6 +325,7 @@ less_ended v ts all true e h = record {
 }
 less_ended v ts all false e h = absurd cc
 
+-- the end of the line
 ended_gives : (v : Version) (s : Cut) (all : List Token) → cut_ended v s ≡ Some all → Gives v s [] all
 ended_gives v (Between ts) all h = record { later = []; whole = rw append-nil cc; cut = end }
 ended_gives v (InWord ts w) all h = run_ended v (λ w. token.Word w) ts w all cc
@@ -329,6 +337,7 @@ ended_gives v (Less ts) all h = less_ended v ts all (has_numbers v) refl h
 ended_gives v (LessDash ts) all h = absurd cc
 ended_gives v Stuck all h = absurd cc
 
+-- so what the machine finds is a cut
 run_gives : (v : Version) (s : Cut) (bs : List ℕ) (all : List Token)
     → cut_ended v (fold (cut_step v) s bs) ≡ Some all → Gives v s bs all
 run_gives v s [] all h = ended_gives v s all h

@@ -11,6 +11,7 @@ use Rattle.olap_grammar.specs.declared.refusals.CutRefusal.{CutRefusal}
 use Rattle.olap_grammar.specs.declared.refusals.CutRefusal.TheVariants as refusal
 use Rattle.olap_grammar.proofs.CutComplete.{cut_is_found}
 
+-- a machine that is stuck stays so
 stays_stuck : (v : Version) (bs : List ℕ) → fold (kept_step v) Stuck bs ≡ Stuck
 stays_stuck v [] = refl
 stays_stuck v (b ∷ bs) = stays_stuck v bs
@@ -25,6 +26,7 @@ cut_fails v refusal.BadForm old k next line bs i h most z =
     rw (j, h, stays_stuck v bs) refl
 cut_fails v refusal.Memory old k next line bs i h most z = tt
 
+-- a line has one cut, since the machine finds each
 pub one_cut : (v : Version) (line : List ℕ) (ts us : List Token) → IsCut v line ts → IsCut v line us → ts ≡ us
 one_cut v line ts us d e = let p : tokens_of v line ≡ Some ts =
     cut_is_found v line ts d in let q : tokens_of v line ≡ Some us = cut_is_found v line us e in cc

@@ -27,20 +27,24 @@ each room = 2 * room + 3
 abbrev each_part : ℕ → ℕ
 each_part room = 2 * room + 4
 
+-- with room for one bracket more each node has two tokens more
 more_room : (room n : ℕ) → each (suc room) * n ≡ each room * n + 2 * n
 more_room room n =
     let e : each (suc room) ≡ each room + 2 = omega arith in
     ap (λ x. x * n) e ∙ add-mul (each room) 2 n
 
+-- a part has its comma besides
 with_comma : (room n : ℕ) → each_part room * n ≡ each room * n + n
 with_comma room n =
     let e : each_part room ≡ each room + 1 = omega arith in
     let f = ap (λ x. x * n) e ∙ add-mul (each room) 1 n in
     omega (arith, f)
 
+-- one node more
 one_node : (x n : ℕ) → x * (1 + n) ≡ x + x * n
 one_node x n = let e = mul-add x 1 n in omega (arith, e)
 
+-- two formulas and the connective between them
 joined_fits : (room n m l k : ℕ) → l ≤ each room * n → k ≤ each room * m
     → l + (1 + k) ≤ each room * (n + (1 + m))
 joined_fits room n m l k h i =
@@ -48,12 +52,15 @@ joined_fits room n m l k h i =
     let f = one_node (each room) m in
     omega (arith, h, i, e, f)
 
+-- a formula and its `!`
 negated_fits : (room n l : ℕ) → l ≤ each room * n → 1 + l ≤ each room * (1 + n)
 negated_fits room n l h = let e = one_node (each room) n in omega (arith, h, e)
 
+-- a formula and two brackets
 bracketed_fits : (room n l : ℕ) → 1 ≤ n → l ≤ each room * n → 2 + l ≤ each (suc room) * n
 bracketed_fits room n l s h = let e = more_room room n in omega (arith, s, h, e)
 
+-- parts, their brackets and the word before them
 listed_fits : (room n l : ℕ) → l ≤ each_part room * n → 3 + l ≤ each (suc room) * (1 + n)
 listed_fits room n l h =
     let e = one_node (each (suc room)) n in
@@ -61,9 +68,11 @@ listed_fits room n l h =
     let g = with_comma room n in
     omega (arith, h, e, f, g)
 
+-- the last part has no comma
 last_fits : (room n l : ℕ) → l ≤ each room * n → l ≤ each_part room * n
 last_fits room n l h = let e = with_comma room n in omega (arith, h, e)
 
+-- a part, its comma, and the others
 more_fits : (room n m l k : ℕ) → 1 ≤ n → l ≤ each room * n → k ≤ each_part room * m
     → l + (1 + k) ≤ each_part room * (n + m)
 more_fits room n m l k s h i =
@@ -71,6 +80,7 @@ more_fits room n m l k s h i =
     let f = with_comma room n in
     omega (arith, s, h, i, e, f)
 
+-- the three tokens of an atom
 atom_fits : (room n : ℕ) → 1 ≤ n → 3 ≤ each room * n
 atom_fits room zero h = absurd (omega (arith, h))
 atom_fits room (suc n) h = let e = one_node (each room) n in omega (arith, e)
@@ -84,31 +94,37 @@ unfolding nodes_behind
 joint_node version.One j us = refl
 joint_node version.Two j us = refl
 
+-- a `!` is a node
 not_node : (v : Version) (us : List Token) → nodes_of v (token.Mark mark.Not ∷ us) ≡ 1 + nodes_of v us
 unfolding nodes_behind
 not_node version.One us = refl
 not_node version.Two us = refl
 
+-- and a word
 word_node : (v : Version) (w : List ℕ) (us : List Token) → nodes_of v (token.Word w ∷ us) ≡ 1 + nodes_of v us
 unfolding nodes_behind
 word_node version.One w us = refl
 word_node version.Two w us = refl
 
+-- an open bracket is none
 open_none : (v : Version) (us : List Token) → nodes_of v (token.Mark mark.Open ∷ us) ≡ nodes_of v us
 unfolding nodes_behind
 open_none version.One us = omega arith
 open_none version.Two us = omega arith
 
+-- nor a closed one
 close_none : (v : Version) (us : List Token) → nodes_of v (token.Mark mark.Close ∷ us) ≡ nodes_of v us
 unfolding nodes_behind
 close_none version.One us = omega arith
 close_none version.Two us = omega arith
 
+-- nor a comma
 comma_none : (v : Version) (us : List Token) → nodes_of v (token.Mark mark.Comma ∷ us) ≡ nodes_of v us
 unfolding nodes_behind
 comma_none version.One us = omega arith
 comma_none version.Two us = omega arith
 
+-- no tokens have none
 no_nodes : (v : Version) → nodes_of v [] ≡ 0
 unfolding nodes_behind
 no_nodes v = refl
@@ -122,10 +138,12 @@ three_add : (v : Version) (t u w : Token) → compares v w ≡ false → Adds v 
 unfolding nodes_behind
 three_add v t u w e us = rw e (omega arith)
 
+-- nothing is compared with what comes behind a string
 quoted_ends : (v : Version) (k : List ℕ) → compares v (token.Quoted k) ≡ false
 quoted_ends version.One k = refl
 quoted_ends version.Two k = refl
 
+-- nor behind a number
 number_ends : (v : Version) (t : Token) (digits : List ℕ) → digits_of t ≡ Some digits → compares v t ≡ false
 number_ends version.One (token.Word w) digits e = refl
 number_ends version.Two (token.Word w) digits e = refl
@@ -169,27 +187,32 @@ joint_passes : (o c : ℕ) (j : Joint) (rest : List Token) → opens_over o c (t
 unfolding opens_over
 joint_passes o c j rest h = h
 
+-- a comma opens nothing
 comma_passes : (o c : ℕ) (rest : List Token) → opens_over o c (token.Mark mark.Comma ∷ rest) ≡ false
     → opens_over o c rest ≡ false
 unfolding opens_over
 comma_passes o c rest h = h
 
+-- nor does a `!`
 not_passes : (o c : ℕ) (rest : List Token) → opens_over o c (token.Mark mark.Not ∷ rest) ≡ false
     → opens_over o c rest ≡ false
 unfolding opens_over
 not_passes o c rest h = h
 
+-- nor a word
 word_passes : (o c : ℕ) (w : List ℕ) (rest : List Token) → opens_over o c (token.Word w ∷ rest) ≡ false
     → opens_over o c rest ≡ false
 unfolding opens_over
 word_passes o c w rest h = h
 
+-- nor a word with a string
 equality_passes : (o c : ℕ) (w k : List ℕ) (rest : List Token)
     → opens_over o c (token.Word w ∷ token.Mark mark.Equal ∷ token.Quoted k ∷ rest) ≡ false
     → opens_over o c rest ≡ false
 unfolding opens_over
 equality_passes o c w k rest h = h
 
+-- nor one with a number
 number_passes : (o c : ℕ) (op : Op) (t : Token) (w digits : List ℕ) (rest : List Token) → digits_of t ≡ Some digits
     → opens_over o c (token.Word w ∷ token.Mark (comparing op) ∷ t ∷ rest) ≡ false → opens_over o c rest ≡ false
 unfolding opens_over
@@ -229,6 +252,7 @@ joined_adds v j left right p q us =
     let f = q us in
     omega (arith, e, a, b, c, d, f)
 
+-- nodes of two parts add up
 parted_adds : (v : Version) (ts us : List Token) → Adds v ts → Adds v us → Adds v (ts ++ token.Mark mark.Comma ∷ us)
 parted_adds v ts us p q vs =
     let e = ap (nodes_of v) (append_assoc ts (token.Mark mark.Comma ∷ us) vs) in
@@ -245,6 +269,7 @@ record InBrackets (v : Version) (ts : List Token) : Type 0 where
   all : length (ts ++ token.Mark mark.Close ∷ []) ≡ length ts + 1
   adds : Adds v (ts ++ token.Mark mark.Close ∷ [])
 
+-- and so do those in brackets
 in_brackets : (v : Version) (ts : List Token) → Adds v ts → InBrackets v ts
 in_brackets v ts p =
     let n = p (token.Mark mark.Close ∷ []) in
@@ -261,18 +286,22 @@ in_brackets v ts p =
           omega (arith, e, a, b, n, m, z);
     }
 
+-- behind an open bracket
 opened_adds : (v : Version) (ts : List Token) → Adds v ts → Adds v (token.Mark mark.Open ∷ ts)
 opened_adds v ts p us =
     let a = open_none v (ts ++ us) in let b = open_none v ts in let c = p us in omega (arith, a, b, c)
 
+-- behind a word
 worded_adds : (v : Version) (w : List ℕ) (ts : List Token) → Adds v ts → Adds v (token.Word w ∷ ts)
 worded_adds v w ts p us =
     let a = word_node v w (ts ++ us) in let b = word_node v w ts in let c = p us in omega (arith, a, b, c)
 
+-- behind a `!`
 negated_adds : (v : Version) (ts : List Token) → Adds v ts → Adds v (token.Mark mark.Not ∷ ts)
 negated_adds v ts p us =
     let a = not_node v (ts ++ us) in let b = not_node v ts in let c = p us in omega (arith, a, b, c)
 
+-- two formulas that fit, joined
 fit_joined : (v : Version) (room : ℕ) (left right rest : List Token) (j : Joint)
     → Fits v room left (token.Mark (mark.Joint j) ∷ (right ++ rest))
     → Fits v room right rest → Fits v room (left ++ token.Mark (mark.Joint j) ∷ right) rest
@@ -292,6 +321,7 @@ fit_joined v room left right rest j h i =
           (omega (arith, l, b));
     }
 
+-- one, negated
 fit_negated : (v : Version) (room : ℕ) (ts rest : List Token) → Fits v room ts rest
     → Fits v room (token.Mark mark.Not ∷ ts) rest
 fit_negated v room ts rest h =
@@ -310,6 +340,7 @@ as_many : (v : Version) (room less : ℕ) (us : List Token) (n : ℕ) → room �
 as_many v room less us n r e h =
     subst (λ x. length us ≤ each room * x) (sym e) (subst (λ q. length us ≤ each q * n) (sym r) h)
 
+-- one with room for a bracket less, in brackets
 fit_bracketed : (v : Version) (room less : ℕ) (ts rest : List Token) → room ≡ suc less → Goes room rest
     → Fits v less ts (token.Mark mark.Close ∷ rest)
     → Fits v room (token.Mark mark.Open ∷ (ts ++ token.Mark mark.Close ∷ [])) rest
@@ -330,6 +361,7 @@ fit_bracketed v room less ts rest r g h =
       few = as_many v room less us (nodes_of v ts) r same few;
     }
 
+-- parts, in brackets
 fit_listed : (v : Version) (room less : ℕ) (w : List ℕ) (ts rest : List Token) → room ≡ suc less → Goes room rest
     → PartsFit v less ts (token.Mark mark.Close ∷ rest)
     → Fits v room (token.Word w ∷ token.Mark mark.Open ∷ (ts ++ token.Mark mark.Close ∷ [])) rest
@@ -351,6 +383,7 @@ fit_listed v room less w ts rest r g h =
       few = as_many v room less (token.Word w ∷ vs) (1 + nodes_of v ts) r same all;
     }
 
+-- an atom
 fit_plain : (v : Version) (room : ℕ) (w : List ℕ) (rest : List Token) → Goes room rest
     → Fits v room (token.Word w ∷ []) rest
 fit_plain v room w rest g =
@@ -379,10 +412,12 @@ fit_compared v room w t u rest g e =
       few = atom_fits room (nodes_of v ts) one;
     }
 
+-- the last part
 fit_last : (v : Version) (room : ℕ) (ts rest : List Token) → Fits v room ts rest → PartsFit v room ts rest
 fit_last v room ts rest h =
     record { goes = h.goes; adds = h.adds; few = last_fits room (nodes_of v ts) (length ts) h.few }
 
+-- a part before others
 fit_more : (v : Version) (room : ℕ) (ts us rest : List Token) → Fits v room ts (token.Mark mark.Comma ∷ (us ++ rest))
     → PartsFit v room us rest
     → PartsFit v room (ts ++ token.Mark mark.Comma ∷ us) rest

@@ -16,6 +16,7 @@ use Rattle.olap_grammar.specs.declared.tokens.Joint.TheVariants as joint
 use Rattle.olap_grammar.specs.Machine.{the_formula, trees, Making, Frame, Negation, Left, Bracket, Listing, Part, State, Wants, WantsPart, Named, Compared, Has, Bad, settled, list_closed, closed, parted, after, begun, begun_part, is_one, after_atom, after_word, has_atom, after_compared, step, alone, ended, formula_read}
 use Rattle.olap_grammar.specs.Clip.{AreLeaves, clip, clip_terms, clipped, kept, kept_terms, leaves}
 
+-- what is put together in one way leads to what is in the other
 pub record Keeps {A B L M : Type 0} (m : Making A L) (n : Making B M) (h : A → B) (k : L → M) : Type 0 where
   pub negate : (f : A) → n.negate (h f) ≡ h (m.negate f)
   pub join : (j : Joint) (f g : A) → n.join j (h f) (h g) ≡ h (m.join j f g)
@@ -29,6 +30,7 @@ pub record KeepsAtoms {A B : Type 0} (a : Atoms A) (b : Atoms B) (h : A → B) :
   pub equal : (w t : List ℕ) → b.equal w t ≡ option_map h (a.equal w t)
   pub compare : (w : List ℕ) (op : Op) (t : List ℕ) → b.compare w op t ≡ option_map h (a.compare w op t)
 
+-- of what is open
 abbrev frame : {A B : Type 0} → (A → B) → Frame A → Frame B
 frame h Negation = Negation
 frame h (Left j f) = Left j (h f)
@@ -36,10 +38,12 @@ frame h Bracket = Bracket
 frame h Listing = Listing
 frame h (Part f) = Part (h f)
 
+-- of all that is open
 abbrev frames : {A B : Type 0} → (A → B) → List (Frame A) → List (Frame B)
 frames h [] = []
 frames h (x ∷ s) = frame h x ∷ frames h s
 
+-- of a state
 abbrev state : {A B : Type 0} → (A → B) → State A → State B
 state h (Wants s) = Wants (frames h s)
 state h (WantsPart s) = WantsPart (frames h s)
@@ -48,6 +52,7 @@ state h (Compared w op s) = Compared w op (frames h s)
 state h (Has f s) = Has (h f) (frames h s)
 state h Bad = Bad
 
+-- of a formula with what is open
 abbrev both : {A B : Type 0} → (A → B) → A × List (Frame A) → B × List (Frame B)
 both h (f, s) = (h f, frames h s)
 
@@ -238,6 +243,7 @@ module _ {A B L M : Type 0} (m : Making A L) (n : Making B M) (h : A → B) (k :
 
 -- ---- clipping
 
+-- two joined formulas are one level deeper than the deeper
 joins_depth : (j : Joint) (f g : Formula) → depth_of (join j f g) ≡ 1 + max (depth_of f) (depth_of g)
 joins_depth joint.Iff f g = refl
 joins_depth joint.Implies f g = refl
@@ -245,18 +251,23 @@ joins_depth joint.Xor f g = refl
 joins_depth joint.Or f g = refl
 joins_depth joint.And f g = refl
 
+-- a tree that is too deep isn't built
 deep : (d : ℕ) (f : Formula) → nat_le d most_depth ≡ false → kept d f ≡ (suc most_depth, Meaning.Formula.Truth)
 deep d f e = rw e refl
 
+-- nor are parts
 deep_terms : (d : ℕ) (fs : Terms) → nat_le d most_depth ≡ false → kept_terms d fs ≡ (suc most_depth, Meaning.Terms.End)
 deep_terms d fs e = rw e refl
 
+-- what is deeper is too deep too
 too_deep : (c d : ℕ) → c ≤ d → nat_le c most_depth ≡ false → nat_le d most_depth ≡ false
 too_deep c d l h = grind (arith)
 
+-- too deep, as the test has it
 over : (d : ℕ) → most_depth < d → nat_le d most_depth ≡ false
 over d h = grind (arith)
 
+-- a negation, as far as it is built
 negates : (f : Formula) → clipped.negate (clip f) ≡ clip (Meaning.Formula.Not f)
 negates f = go (nat_le (depth_of f) most_depth) refl
   where
@@ -266,6 +277,7 @@ negates f = go (nat_le (depth_of f) most_depth) refl
         rw e (sym
         (deep (1 + depth_of f) (Meaning.Formula.Not f) (too_deep (depth_of f) (1 + depth_of f) (omega arith) e)))
 
+-- a list
 ones : (fs : Terms) → clipped.one (clip_terms fs) ≡ clip (Meaning.Formula.One fs)
 ones fs = go (nat_le (depth_of_terms fs) most_depth) refl
   where
@@ -276,6 +288,7 @@ ones fs = go (nat_le (depth_of_terms fs) most_depth) refl
         rw e (sym (deep (1 + depth_of_terms fs) (Meaning.Formula.One fs)
         (too_deep (depth_of_terms fs) (1 + depth_of_terms fs) (omega arith) e)))
 
+-- two formulas with a connective
 joins : (j : Joint) (f g : Formula) → clipped.join j (clip f) (clip g) ≡ clip (join j f g)
 joins j f g = go (nat_le (depth_of f) most_depth) (nat_le (depth_of g) most_depth) refl refl
   where
@@ -299,6 +312,7 @@ joins j f g = go (nat_le (depth_of f) most_depth) (nat_le (depth_of g) most_dept
         (sym (deep (1 + max (depth_of f) (depth_of g)) (join j f g)
         (too_deep (depth_of f) (1 + max (depth_of f) (depth_of g)) (omega arith) e)))
 
+-- one part more
 mores : (f : Formula) (fs : Terms) → clipped.more (clip f) (clip_terms fs) ≡ clip_terms (Meaning.Terms.More f fs)
 mores f fs = go (nat_le (depth_of f) most_depth) (nat_le (depth_of_terms fs) most_depth) refl refl
   where
@@ -322,6 +336,7 @@ mores f fs = go (nat_le (depth_of f) most_depth) (nat_le (depth_of_terms fs) mos
         (sym (deep_terms (max (depth_of f) (depth_of_terms fs)) (Meaning.Terms.More f fs)
         (too_deep (depth_of f) (max (depth_of f) (depth_of_terms fs)) (omega arith) e)))
 
+-- so what is built keeps what is read
 clip_keeps : Keeps trees clipped clip clip_terms
 clip_keeps = record { negate = negates; join = joins; one = ones; end = refl; more = mores }
 
@@ -331,6 +346,7 @@ leaf : (o : Option Formula) → ((f : Formula) → o ≡ Some f → depth_of f �
 leaf None h = refl
 leaf (Some f) h = rw (h f refl) refl
 
+-- and atoms do
 leaves_keep : (a : Atoms Formula) → AreLeaves a → KeepsAtoms a (leaves a) clip
 leaves_keep a h = record {
   plain = λ w. leaf (a.plain w) (h.plain w);

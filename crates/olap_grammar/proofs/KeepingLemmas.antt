@@ -139,12 +139,14 @@ tally-of : (b : Bool) (x y : Kept) (m : Tally) → x.tally ≡ m → y.tally ≡
 tally-of true x y m e f = e
 tally-of false x y m e f = f
 
+-- what is counted doesn't depend on what is kept
 tally-on : (v : Version) (ts : List Token) (k : Kept) → (fold (keep v) k ts).tally ≡ fold (tallied v) k.tally ts
 tally-on v [] k = refl
 tally-on v (t ∷ ts) k =
     tally-on v ts (keep v k t)
     ∙ ap (λ y. fold (tallied v) y ts) (tally-of (nat_lt (length k.first) k.most) _ _ (tallied v k.tally t) refl refl)
 
+-- where there is room there are no more
 no-more : (b : Bool) (most n : ℕ) → n < most → (b ≡ true → most ≤ n) → b ≡ false
 no-more true most n l f = let h = f refl in absurd (omega (arith, l, h))
 no-more false most n l f = refl
@@ -157,6 +159,7 @@ record Keeps (k : Kept) (ts : List Token) : Type 0 where
   full : k.more ≡ true → k.most ≤ length k.first
   others : k.more ≡ true → 0 < length rest
 
+-- one token more
 begins-more : (v : Version) (k : Kept) (done : List Token) (t : Token) → Keeps k done
     → Keeps (keep v k t) (done ++ t ∷ [])
 begins-more v k done t h = go (nat_lt (length k.first) k.most) refl
@@ -184,12 +187,14 @@ begins-more v k done t h = go (nat_lt (length k.first) k.most) refl
       others = λ m. let l = length-append h.rest (t ∷ []) in omega (arith, l);
     }
 
+-- all tokens more
 begins-on : (v : Version) (ts done : List Token) (k : Kept) → Keeps k done → Keeps (fold (keep v) k ts) (done ++ ts)
 begins-on v [] done k h = subst (Keeps k) (sym (append-nil done)) h
 begins-on v (t ∷ ts) done k h =
     subst (Keeps (fold (keep v) (keep v k t) ts)) (append_assoc done (t ∷ []) ts)
     (begins-on v ts (done ++ t ∷ []) (keep v k t) (begins-more v k done t h))
 
+-- what is kept of tokens is a beginning of them
 pub begins : (v : Version) (most : ℕ) (ts : List Token) → Begins v (summary v most ts) ts
 begins v most ts =
     let k = begins-on v ts [] (nothing_kept most)
@@ -203,16 +208,19 @@ begins v most ts =
       tally = subst (λ y. IsTallyOf v y ts) (sym (tally-on v ts (nothing_kept most))) (tally_is v ts);
     }
 
+-- how many may be kept stays, in either case
 most-of : (b : Bool) (x y : Kept) (m : ℕ) → x.most ≡ m → y.most ≡ m → (cond b x y).most ≡ m
 most-of true x y m e f = e
 most-of false x y m e f = f
 
+-- and over all tokens
 most-on : (v : Version) (ts : List Token) (k : Kept) → (fold (keep v) k ts).most ≡ k.most
 most-on v [] k = refl
 most-on v (t ∷ ts) k = most-on v ts (keep v k t) ∙ most-of (nat_lt (length k.first) k.most) _ _ k.most refl refl
 
 -- ---- what a call's clause says
 
+-- so what is kept of a line begins its tokens
 pub found : (v : Version) (most : ℕ) (line : List ℕ) (k : Kept) → kept_tokens v most line ≡ Some k
     → BeginsFound v k (tokens_of v line)
 found v most line k e = go (tokens_of v line) (sym (kept-is v most line) ∙ e)
@@ -223,6 +231,7 @@ found v most line k e = go (tokens_of v line) (sym (kept-is v most line) ∙ e)
         let same : summary v most ts ≡ k = cc in
         (ts, refl, subst (λ j. Begins v j ts) same (begins v most ts))
 
+-- with as many as were allowed
 pub same-most : (v : Version) (most : ℕ) (line : List ℕ) (k : Kept) → kept_tokens v most line ≡ Some k → k.most ≡ most
 same-most v most line k e = go (tokens_of v line) (sym (kept-is v most line) ∙ e)
   where
@@ -232,6 +241,7 @@ same-most v most line k e = go (tokens_of v line) (sym (kept-is v most line) ∙
         let same : summary v most ts ≡ k = cc in
         ap (λ (j : Kept). j.most) (sym same) ∙ most-on v ts (nothing_kept most)
 
+-- and a line that can't be cut has none
 pub fails : (v : Version) (most : ℕ) (line : List ℕ) (e : CutRefusal) → FailsWith e (kept_tokens v most line)
     → FailsWith e (tokens_of v line)
 fails v most line refusal.BadForm h = go (tokens_of v line) (sym (kept-is v most line) ∙ h)

@@ -20,23 +20,29 @@ use Rattle.olap_grammar.specs.declared.refusals.FormRefusal.TheVariants as refus
 use Rattle.olap_grammar.specs.declared.tokens.Version.{Version}
 use Rattle.olap_grammar.specs.declared.tokens.Version.TheVariants as version
 
+-- the formula has depth 1, if there is one
 abbrev IsLeaf : Option Formula → Type 0
 IsLeaf o = (f : Formula) → o ≡ Some f → depth_of f ≡ 1
 
+-- there is none
 no_leaf : IsLeaf None
 no_leaf f e = absurd cc
 
+-- there is one of depth 1
 one_leaf : (g : Formula) → depth_of g ≡ 1 → IsLeaf (Some g)
 one_leaf g h f e = let s : g ≡ f = cc in rw s at h
 
+-- one of two of which each is so
 pick : (b : Bool) (x y : Option Formula) → IsLeaf x → IsLeaf y → IsLeaf (cond b x y)
 pick true x y p q = p
 pick false x y p q = q
 
+-- a path
 path_leaf : (g : Graph) (parts : List (List ℕ)) → IsLeaf (path_of g parts)
 path_leaf g parts = pick (not (list_all is_category_name parts)) None
     (Some (Meaning.Formula.Path (map (id_of g) (drop 1 parts)))) no_leaf (one_leaf _ refl)
 
+-- a reaching, or one by way of another
 reach_leaf : (g : Graph) (parts : List (List ℕ)) → IsLeaf (reach_of g parts)
 reach_leaf g parts =
     let second = id_of g (slice_index_or parts 1 []) in
@@ -45,6 +51,7 @@ reach_leaf g parts =
     (pick (length parts == 2) _ _ (one_leaf (Meaning.Formula.Reach second) refl)
     (pick (length parts == 3) _ _ (one_leaf (Meaning.Formula.Via second third) refl) no_leaf))
 
+-- an equality
 equal_leaf : (g : Graph) (k : List ℕ) (parts : List (List ℕ)) → IsLeaf (equal_of g k parts)
 equal_leaf g k parts =
     pick (not (list_all is_category_name parts)) _ _ no_leaf
@@ -52,6 +59,7 @@ equal_leaf g k parts =
     (pick (length parts == 2) _ _ (one_leaf (Meaning.Formula.Equals (id_of g (slice_index_or parts 1 [])) k) refl)
     no_leaf))
 
+-- a word by itself
 plain_leaf : (g : Graph) (w : List ℕ) → IsLeaf (plain_of g w)
 unfolding plain_of
 plain_leaf g w =
@@ -59,10 +67,12 @@ plain_leaf g w =
     (pick (bytes_eq w (codes "false")) _ _ (one_leaf Meaning.Formula.Falsity refl)
     (pick (nat_lt 1 (length (pieces_of 95 w))) _ _ (path_leaf g (pieces_of 95 w)) (reach_leaf g (pieces_of 46 w))))
 
+-- a word with a string
 equality_leaf : (g : Graph) (w k : List ℕ) → IsLeaf (equality_of g w k)
 unfolding equality_of
 equality_leaf g w k = equal_leaf g k (pieces_of 46 w)
 
+-- a comparison
 compared_leaf : (g : Graph) (op : Op) (n : ℤ) (parts : List (List ℕ)) → IsLeaf (compared_of g op n parts)
 compared_leaf g op n parts =
     pick (not (list_all is_category_name parts)) _ _ no_leaf
@@ -70,6 +80,7 @@ compared_leaf g op n parts =
     (pick (length parts == 2) _ _ (one_leaf (Meaning.Formula.Compare (id_of g (slice_index_or parts 1 [])) op n) refl)
     no_leaf))
 
+-- a word with a number
 comparison_leaf : (v : Version) (g : Graph) (w : List ℕ) (op : Op) (digits : List ℕ)
     → IsLeaf (comparison_in v g w op digits)
 unfolding comparison_of
@@ -77,6 +88,7 @@ comparison_leaf version.One g w op digits = no_leaf
 comparison_leaf version.Two g w op digits =
     pick (is_number_token digits) _ _ (compared_leaf g op _ (pieces_of 46 w)) no_leaf
 
+-- so all atoms are leaves
 pub atoms_are_leaves : (v : Version) (g : Graph) → AreLeaves (atoms_of v g)
 atoms_are_leaves v g = record {
   plain = λ w f e. plain_leaf g w f e;
@@ -86,12 +98,15 @@ atoms_are_leaves v g = record {
 
 -- ---- what was built
 
+-- what is built of a formula, by whether it is no deeper than it may be
 abbrev chosen : Bool → Formula → Built
 chosen b g = cond b (depth_of g, g) (suc most_depth, Meaning.Formula.Truth)
 
+-- and this is its depth and its tree
 built : (g : Formula) (b : Bool) (d : ℕ) (f : Formula) → Some (chosen b g) ≡ Some (d, f) → chosen b g ≡ (d, f)
 built g b d f p = cc
 
+-- a greater depth says that the formula is too deep
 pub too_deep : (o : Option Formula) (d : ℕ) (f : Formula) → option_map clip o ≡ Some (d, f) → most_depth < d
     → formula_answer o ≡ Err refusal.TooDeep
 too_deep None d f e h = absurd cc
@@ -105,6 +120,7 @@ too_deep (Some g) d f e h = go (nat_le (depth_of g) most_depth) refl e
         absurd (omega arith)
     go false q p = rw q refl
 
+-- another that it is what was built
 pub not_deep : (o : Option Formula) (d : ℕ) (f : Formula) → option_map clip o ≡ Some (d, f) → d ≤ most_depth
     → formula_answer o ≡ Ok f
 not_deep None d f e h = absurd cc
@@ -115,10 +131,12 @@ not_deep (Some g) d f e h = go (nat_le (depth_of g) most_depth) refl e
     go true q p = let s : g ≡ f = ap (λ (r : Built). r.1) (built g true d f p) in rw q (ap Ok s)
     go false q p = let s : suc most_depth ≡ d = ap (λ (r : Built). r.0) (built g false d f p) in absurd (omega arith)
 
+-- and nothing that there is none
 pub no_formula : (o : Option Formula) → option_map clip o ≡ None → formula_answer o ≡ Err refusal.BadForm
 no_formula None e = refl
 no_formula (Some f) e = absurd cc
 
+-- so a refusal is that of the tokens
 pub refused : (o : Option Formula) (read : Option Built) (e : FormRefusal) → read ≡ option_map clip o
     → Ends (Err e) read → IsRefusal e (formula_answer o)
 refused o read refusal.BadForm q h = no_formula o (sym q ∙ h)

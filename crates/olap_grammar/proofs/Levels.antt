@@ -4,6 +4,7 @@ use Rattle.olap_grammar.specs.declared.tokens.Joint.{Joint}
 use Rattle.olap_grammar.specs.declared.tokens.Joint.TheVariants as joint
 use Rattle.olap_grammar.specs.Grammar.{level, left_level, right_level}
 
+-- what the levels of a connective and of its sides satisfy
 pub record IsRow (j : Joint) : Type 0 where
   pub some : 1 ≤ level j
   pub most : level j ≤ 5
@@ -14,6 +15,7 @@ pub record IsRow (j : Joint) : Type 0 where
   pub right_most : right_level j ≤ 6
   pub sides : level j + 1 ≤ left_level j + right_level j
 
+-- each row of the table, one by one
 pub row : (j : Joint) → IsRow j
 row joint.Iff =
     record {

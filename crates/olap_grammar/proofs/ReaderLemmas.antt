@@ -12,11 +12,13 @@ use Rattle.olap_grammar.specs.declared.refusals.FormRefusal.TheVariants as refus
 use Rattle.olap_grammar.proofs.Complete.{formula_is_read}
 use Rattle.olap_grammar.proofs.Sound.{read_is_formula}
 
+-- a formula is found
 pub formula_is_found : (a : Atoms Meaning.Formula) (ts : List Token) (f : Meaning.Formula) → IsFormula a 1 ts f
     → the_formula a ts ≡ Some f
 unfolding the_formula
 formula_is_found a ts f d = formula_is_read a ts f d
 
+-- what is found is a formula
 pub found_is_formula : (a : Atoms Meaning.Formula) (ts : List Token) (f : Meaning.Formula) → the_formula a ts ≡ Some f
     → IsFormula a 1 ts f
 unfolding the_formula
@@ -30,6 +32,7 @@ one_tree a ts f g d e =
     let q : the_formula a ts ≡ Some g = formula_is_found a ts g e in
     cc
 
+-- a machine that failed stays so
 pub stays_bad : (a : Atoms Built) (ts : List Token) → fold (step clipped a) Bad ts ≡ Bad
 stays_bad a [] = refl
 stays_bad a (t ∷ ts) = stays_bad a ts

@@ -21,6 +21,7 @@ down zero n d = let e : zero + n ≡ n = omega arith in rw e at d
 down {a = a} {ts = ts} {f = f} (suc k) n d = let e : suc k + n ≡ suc (k + n) =
     omega arith in down k n (looser (rw e at d))
 
+-- a formula of a tighter level is one of a looser
 pub tighter : {a : Atoms Formula} {ts : List Token} {f : Formula} (m n : ℕ) → m ≤ n → IsFormula a n ts f
     → IsFormula a m ts f
 tighter m n l d = let e : n ≡ (n - m) + m = omega arith in down (n - m) m (rw e at d)
@@ -46,6 +47,7 @@ pub record Reached (a : Atoms Formula) (n : ℕ) (f : Formula) (s : List (Frame 
   pub formula : IsFormula a n own f
   pub opened : Opened a s earlier
 
+-- what the tokens so far say in a state of the machine
 abbrev pub Tells : Atoms Formula → State Formula → List Token → Type 0
 Tells a (Wants s) b = Opened a s b
 Tells a (WantsPart s) b = Opened a (Listing ∷ s) b
@@ -63,24 +65,30 @@ IsSettled n (Bracket ∷ s) = Unit {0}
 IsSettled n (Listing ∷ s) = Unit {0}
 IsSettled n (Part f ∷ s) = Unit {0}
 
+-- a formula that was reached at a tighter level was at a looser
 loosened : (a : Atoms Formula) (k n : ℕ) (f : Formula) (s : List (Frame Formula)) (b : List Token) → k ≤ n
     → Reached a n f s b → Reached a k f s b
 loosened a k n f s b l r =
     record { earlier = r.earlier; own = r.own; all = r.all; formula = tighter k n l r.formula; opened = r.opened }
 
+-- the same of what was closed: no more can be closed at that level
 abbrev pub IsReached : Atoms Formula → ℕ → Formula × List (Frame Formula) → List Token → Type 0
 IsReached a n (f, s) b = Reached a n f s b × IsSettled n s
 
+-- by the test one number is at most the other, or more
 le_or_above : (m n : ℕ) (b : Bool) → nat_le m n ≡ b → Type 0
 le_or_above m n true e = m ≤ n
 le_or_above m n false e = n < m
 
+-- at most, by the test
 true_le : (m n : ℕ) → nat_le m n ≡ true → m ≤ n
 true_le m n e = grind (arith)
 
+-- more, by the test
 false_lt : (m n : ℕ) → nat_le m n ≡ false → n < m
 false_lt m n e = grind (arith)
 
+-- anything open lets a negation stand
 admits_six : (s : List (Frame Formula)) → Admits 6 s
 admits_six [] = tt
 admits_six (Negation ∷ s) = lit≤ tt
@@ -89,6 +97,7 @@ admits_six (Bracket ∷ s) = tt
 admits_six (Listing ∷ s) = tt
 admits_six (Part f ∷ s) = tt
 
+-- what is closed at a level was reached at it
 settles : (a : Atoms Formula) (k n : ℕ) (f : Formula) (s : List (Frame Formula)) (b : List Token) → k ≤ n → k ≤ 6
     → Admits n s → Reached a n f s b → IsReached a k (settled trees k f s) b
 settles a k n f [] b l m h r = (loosened a k n f _ b l r, tt)
@@ -150,6 +159,7 @@ lets_stand joint.And joint.Xor h = absurd (omega arith)
 lets_stand joint.And joint.Or h = absurd (omega arith)
 lets_stand joint.And joint.And h = absurd (omega arith)
 
+-- what is left open lets the connective stand
 settled_admits : (j : Joint) (s : List (Frame Formula)) → IsSettled (left_level j) s → Admits (level j) s
 settled_admits j [] h = tt
 settled_admits j (Negation ∷ s) h = absurd h
@@ -160,6 +170,7 @@ settled_admits j (Part f ∷ s) h = tt
 
 -- ---- closing
 
+-- the end of a list
 list_tells : (a : Atoms Formula) (fs : Terms) (s : List (Frame Formula)) (b c us : List Token) → b ≡ c ++ us
     → IsItems a us fs → Opened a s c → Tells a (list_closed trees fs s) (b ++ token.Mark mark.Close ∷ [])
 list_tells a fs [] b c us e d o = tt
@@ -179,6 +190,7 @@ list_tells a fs (Part f ∷ s) b c us e d o =
     list_tells a (Meaning.Terms.More f fs) s b o.0 (o.1 ++ token.Mark mark.Comma ∷ us) (rw (e, o.2) (simp append_assoc))
     (more o.3 d) o.4
 
+-- a closed bracket
 closed_tells : (a : Atoms Formula) (r : Formula × List (Frame Formula)) (b : List Token) → IsReached a 1 r b
     → Tells a (closed trees r.0 r.1) (b ++ token.Mark mark.Close ∷ [])
 closed_tells a (f, []) b h = tt
@@ -199,6 +211,7 @@ closed_tells a (f, Listing ∷ s) b h =
 closed_tells a (f, Part g ∷ s) b h =
     list_tells a _ (Part g ∷ s) b (h.0).earlier (h.0).own (h.0).all (last (h.0).formula) (h.0).opened
 
+-- a comma
 parted_tells : (a : Atoms Formula) (r : Formula × List (Frame Formula)) (b : List Token) → IsReached a 1 r b
     → Tells a (parted r.0 r.1) (b ++ token.Mark mark.Comma ∷ [])
 parted_tells a (f, []) b h = tt
@@ -210,11 +223,13 @@ parted_tells a (f, Listing ∷ s) b h = let r = h.0 in
 parted_tells a (f, Part g ∷ s) b h = let r = h.0 in
     (r.earlier, r.own, rw r.all (simp append_assoc), r.formula, r.opened)
 
+-- a connective
 left_tells : (a : Atoms Formula) (j : Joint) (r : Formula × List (Frame Formula)) (b : List Token)
     → IsReached a (left_level j) r b → Opened a (Left j r.0 ∷ r.1) (b ++ token.Mark (mark.Joint j) ∷ [])
 left_tells a j (f, s) b h = let r = h.0 in
     (r.earlier, r.own, rw r.all (simp append_assoc), r.formula, settled_admits j s h.1, r.opened)
 
+-- any token behind a formula
 after_tells : (a : Atoms Formula) (f : Formula) (s : List (Frame Formula)) (t : Token) (b : List Token)
     → Reached a 7 f s b → Tells a (after trees f s t) (b ++ t ∷ [])
 after_tells a f s (token.Mark (mark.Joint j)) b r =
@@ -235,6 +250,7 @@ after_tells a f s (token.Mark mark.Less) b r = tt
 after_tells a f s (token.Mark mark.AtMost) b r = tt
 after_tells a f s (token.Mark mark.Not) b r = tt
 
+-- any where a formula is to come
 begun_tells : (a : Atoms Formula) (s : List (Frame Formula)) (t : Token) (b : List Token) → Opened a s b
     → Tells a (begun s t) (b ++ t ∷ [])
 begun_tells a s (token.Word w) b o = (b, refl, o)
@@ -250,6 +266,7 @@ begun_tells a s (token.Mark mark.Less) b o = tt
 begun_tells a s (token.Mark mark.AtMost) b o = tt
 begun_tells a s (token.Mark (mark.Joint j)) b o = tt
 
+-- any where a list begins
 part_tells : (a : Atoms Formula) (s : List (Frame Formula)) (t : Token) (b : List Token) → Opened a (Listing ∷ s) b
     → Tells a (begun_part trees s t) (b ++ t ∷ [])
 part_tells a s (token.Mark mark.Close) b o =
@@ -273,6 +290,7 @@ part_tells a s (token.Mark mark.Less) b o = tt
 part_tells a s (token.Mark mark.AtMost) b o = tt
 part_tells a s (token.Mark (mark.Joint j)) b o = tt
 
+-- any behind an atom
 atom_tells : (a : Atoms Formula) (w : List ℕ) (s : List (Frame Formula)) (t : Token) (b c : List Token)
     → b ≡ c ++ token.Word w ∷ [] → Opened a s c → (o : Option Formula) → a.plain w ≡ o
     → Tells a (after_atom trees o s t) (b ++ t ∷ [])
@@ -280,6 +298,7 @@ atom_tells a w s t b c e h None p = tt
 atom_tells a w s t b c e h (Some f) p =
     after_tells a f s t b (record { earlier = c; own = token.Word w ∷ []; all = e; formula = plain p; opened = h })
 
+-- any behind a word
 word_tells : (a : Atoms Formula) (w : List ℕ) (s : List (Frame Formula)) (t : Token) (b : List Token)
     → Tells a (Named w s) b → Tells a (after_word trees a w s t) (b ++ t ∷ [])
 word_tells a w s (token.Mark mark.Open) b h = go (is_one w) refl
@@ -301,6 +320,7 @@ word_tells a w s (token.Signed v) b h = atom_tells a w s (token.Signed v) b h.0 
 word_tells a w s (token.Mark mark.Colon) b h = atom_tells a w s (token.Mark mark.Colon) b h.0 h.1 h.2 (a.plain w) refl
 word_tells a w s (token.Mark mark.Not) b h = atom_tells a w s (token.Mark mark.Not) b h.0 h.1 h.2 (a.plain w) refl
 
+-- a string behind a word and `=`
 equal_tells : (a : Atoms Formula) (w k : List ℕ) (s : List (Frame Formula)) (b c : List Token)
     → b ≡ c ++ token.Word w ∷ token.Mark mark.Equal ∷ [] → Opened a s c → (o : Option Formula) → a.equal w k ≡ o
     → Tells a (has_atom o s) (b ++ token.Quoted k ∷ [])
@@ -315,6 +335,7 @@ equal_tells a w k s b c e h (Some f) p =
       opened = h;
     }
 
+-- a number behind a word and its mark
 number_tells : (a : Atoms Formula) (w : List ℕ) (op : Op) (t : Token) (v : List ℕ) (s : List (Frame Formula))
     (b c : List Token) → b ≡ c ++ token.Word w ∷ token.Mark (comparing op) ∷ [] → Opened a s c → digits_of t ≡ Some v
     → (o : Option Formula) → a.compare w op v ≡ o → Tells a (has_atom o s) (b ++ t ∷ [])
@@ -329,6 +350,7 @@ number_tells a w op t v s b c e h d (Some f) p =
       opened = h;
     }
 
+-- any token behind these
 compared_tells : (a : Atoms Formula) (w : List ℕ) (op : Op) (s : List (Frame Formula)) (t : Token) (b : List Token)
     → Tells a (Compared w op s) b → Tells a (after_compared a w op s t) (b ++ t ∷ [])
 compared_tells a w Op.Equal s (token.Quoted k) b h = equal_tells a w k s b h.0 h.1 h.2 (a.equal w k) refl
@@ -344,6 +366,7 @@ compared_tells a w Op.Equal s (token.Mark m) b h = tt
 compared_tells a w Op.Less s (token.Mark m) b h = tt
 compared_tells a w Op.AtMost s (token.Mark m) b h = tt
 
+-- one token more
 step_tells : (a : Atoms Formula) (st : State Formula) (t : Token) (b : List Token) → Tells a st b
     → Tells a (step trees a st t) (b ++ t ∷ [])
 step_tells a (Wants s) t b h = begun_tells a s t b h
@@ -353,12 +376,14 @@ step_tells a (Compared w op s) t b h = compared_tells a w op s t b h
 step_tells a (Has f s) t b h = after_tells a f s t b h
 step_tells a Bad t b h = tt
 
+-- all tokens
 run_tells : (a : Atoms Formula) (st : State Formula) (ts b : List Token) → Tells a st b
     → Tells a (fold (step trees a) st ts) (b ++ ts)
 run_tells a st [] b h = rw append-nil h
 run_tells a st (t ∷ ts) b h = let e : (b ++ t ∷ []) ++ ts ≡ b ++ t ∷ ts =
     simp append_assoc in rw e at (run_tells a (step trees a st t) ts (b ++ t ∷ []) (step_tells a st t b h))
 
+-- a formula with nothing open is what the tokens are
 alone_tells : (a : Atoms Formula) (r : Formula × List (Frame Formula)) (b : List Token) (f : Formula)
     → IsReached a 1 r b → alone r ≡ Some f → IsFormula a 1 b f
 alone_tells a (g, []) b f h e =
@@ -367,6 +392,7 @@ alone_tells a (g, []) b f h e =
     rw (same, all) at r.formula
 alone_tells a (g, x ∷ s) b f h e = absurd cc
 
+-- so what is found at the end is a formula
 ended_tells : (a : Atoms Formula) (st : State Formula) (b : List Token) (f : Formula) → Tells a st b
     → ended trees a st ≡ Some f → IsFormula a 1 b f
 ended_tells a (Has g s) b f h e = alone_tells a (settled trees 1 g s) b f

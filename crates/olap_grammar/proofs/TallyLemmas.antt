@@ -21,6 +21,7 @@ record Counts (n all : ℕ) : Type 0 where
   few : n ≤ all
   exact : n < counted_nodes → n ≡ all
 
+-- one node more, as far as nodes are counted
 one_more : (n all : ℕ) → Counts n all → Counts (counted n) (all + 1)
 one_more n all h = go (nat_lt n counted_nodes) refl
   where
@@ -38,6 +39,7 @@ one_more n all h = go (nat_lt n counted_nodes) refl
 abbrev with_node : Bool → Tally → Tally
 with_node b y = cond b (record y { nodes = counted y.nodes }) y
 
+-- a token that may be a node
 with_node_nodes : (b : Bool) (y : Tally) → (with_node b y).nodes ≡ cond b (counted y.nodes) y.nodes
 with_node_nodes true y = refl
 with_node_nodes false y = refl
@@ -63,15 +65,18 @@ nodes_tallied y (token.Mark mark.AtMost) = with_node_nodes (not y.is_compared &&
 nodes_tallied y (token.Mark mark.Not) = with_node_nodes (not y.is_compared && true) y
 nodes_tallied y (token.Mark (mark.Joint j)) = with_node_nodes (not y.is_compared && true) y
 
+-- and one that is none
 as_before : (n all : ℕ) → Counts n all → Counts n (all + 0)
 as_before n all h =
     let f = h.few in
     record { few = omega (arith, f); exact = λ m. let e = h.exact m in omega (arith, e) }
 
+-- either
 one_token : (b : Bool) (n all : ℕ) → Counts n all → Counts (cond b (counted n) n) (all + cond b 1 0)
 one_token true n all h = one_more n all h
 one_token false n all h = as_before n all h
 
+-- all tokens
 counts_on : (v : Version) (ts : List Token) (y : Tally) (before : ℕ) → Counts y.nodes before
     → Counts (fold (tallied v) y ts).nodes (before + nodes_behind v y.is_compared ts)
 unfolding nodes_behind
@@ -102,11 +107,13 @@ same_test o c = go (nat_lt most_depth (o + 1 - c)) (nat_lt (c + most_depth) (o +
         let m = ltb-true (c + most_depth) (o + 1) q in
         absurd (omega (arith, l, m))
 
+-- too many brackets once are too many for good
 once_too_deep : (d b : Bool) (x : Bool) → ((d || b) || x) ≡ (d || cond b true x)
 once_too_deep true b x = refl
 once_too_deep false true x = refl
 once_too_deep false false x = refl
 
+-- nothing more is so
 nothing_more : (d : Bool) → d ≡ (d || false)
 nothing_more true = refl
 nothing_more false = refl
@@ -129,6 +136,7 @@ deep_after v ts b y t d o c later e f g =
     (same_brackets (λ z. z.opened) b y refl ∙ f)
     (same_brackets (λ z. z.closed) b y refl ∙ g)
 
+-- whether there are too many, over all tokens
 deep_on : (v : Version) (ts : List Token) (d : Bool) (o c : ℕ) (y : Tally) → y.too_deep ≡ d → y.opened ≡ o
     → y.closed ≡ c → (fold (tallied v) y ts).too_deep ≡ (d || opens_over o c ts)
 unfolding opens_over
@@ -163,6 +171,7 @@ deep_on v (token.Mark (mark.Joint j) ∷ ts) d o c y e f g =
 
 -- ---- both
 
+-- so what was counted is so of the tokens
 pub tally_is : (v : Version) (ts : List Token) → IsTallyOf v (fold (tallied v) nothing_tallied ts) ts
 tally_is v ts =
     let n = counts_on v ts nothing_tallied 0 (record { few = omega arith; exact = λ m. refl }) in

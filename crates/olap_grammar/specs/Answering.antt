@@ -1,4 +1,4 @@
--- What the readers answer.
+-- The answers of the readers.
 --     formula_answer    the formula, or why there is none
 --     Answers           a reader gives that answer, or memory is short
 --     tokens_answer     the tokens of a line, or why there are none

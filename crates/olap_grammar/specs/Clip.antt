@@ -1,4 +1,9 @@
 -- A formula that is built only as far as it is no deeper than a formula may be, with its depth.
+--     kept         a tree that is built, if it is no deeper than a formula may be
+--     clip         a formula as far as it is built
+--     clipped      how the reader puts formulas together
+--     leaves       atoms, as the reader has them
+--     AreLeaves    each atom has depth 1
 use Rattle.std.specs.Prelude.{◌≡◌, ◌+◌, ℕ, suc, List, Some, cond, nat_le, max}
 use Rattle.std.specs.Option.{option_map}
 use Rattle.olap_numerals.specs.Comparing.{Op}
@@ -13,12 +18,15 @@ use Rattle.olap_grammar.specs.Machine.{Making}
 abbrev pub kept : ℕ → Formula → ℕ × Formula
 kept d f = cond (nat_le d most_depth) (d, f) (suc most_depth, Meaning.Formula.Truth)
 
+-- the same of the parts of a list
 abbrev pub kept_terms : ℕ → Terms → ℕ × Terms
 kept_terms d fs = cond (nat_le d most_depth) (d, fs) (suc most_depth, Meaning.Terms.End)
 
+-- a formula as far as it is built, with its depth
 abbrev pub clip : Formula → ℕ × Formula
 clip f = kept (depth_of f) f
 
+-- the same of the parts of a list
 abbrev pub clip_terms : Terms → ℕ × Terms
 clip_terms fs = kept_terms (depth_of_terms fs) fs
 

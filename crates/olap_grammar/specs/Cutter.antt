@@ -1,4 +1,8 @@
--- What the values of the cutter stand for.
+-- The values of the cutter, as states of the machine.
+--     kept_of, cut_of    what is kept, and the state of the cutter, as `Keeping` has them
+--     CutsTo             one step of the cutter goes on so, or can go no further
+--     FailsWith          a refusal is right where nothing was found
+--     CutEnds            the end of the line leaves what was found
 use Rattle.std.specs.Prelude.{◌≡◌, Result, Ok, Err, Option, Some, None}
 use Rattle.olap_grammar.specs.Keeping as keeping
 use Rattle.olap_grammar.specs.Keeping.{Kept}
@@ -8,6 +12,7 @@ use Rattle.olap_grammar.specs.declared.cutting.FirstTokens.{FirstTokens}
 use Rattle.olap_grammar.specs.declared.refusals.CutRefusal.{CutRefusal}
 use Rattle.olap_grammar.specs.declared.refusals.CutRefusal.TheVariants as refusal
 
+-- what the first tokens are, as what is kept
 abbrev pub kept_of : FirstTokens → Kept
 kept_of t = record { most = t.most; first = t.first.items; more = t.more; tally = t.tally }
 

@@ -1,4 +1,10 @@
--- Which tokens a line is cut into, by a version of the text.
+-- The tokens that a line is cut into, by a version of the text.
+--     is_word_byte          bytes of which words are made
+--     mark_bytes            how a mark is spelt
+--     has_numbers           the version that has numbers and comparisons
+--     EndsWord, EndsMark    where a word ends, and the longest mark
+--     Spells                what the bytes between two quotes stand for
+--     IsCut                 the tokens that a line is cut into
 use Rattle.std.specs.Prelude.{◌≡◌, ◌==◌, ◌||◌, ℕ, Bool, true, false, List, [], ◌∷◌, ◌++◌, codes}
 use Rattle.std.specs.Char.{is_ascii_alphanumeric, is_ascii_digit}
 use Rattle.olap_grammar.specs.declared.tokens.Token.{Token}
@@ -14,6 +20,7 @@ use Rattle.olap_grammar.specs.declared.tokens.Version.TheVariants as version
 abbrev pub is_word_byte : ℕ → Bool
 is_word_byte b = is_ascii_alphanumeric b || (b == 95) || (b == 46)
 
+-- all are bytes of words
 abbrev pub AreWordBytes : List ℕ → Type 0
 AreWordBytes [] = Unit {0}
 AreWordBytes (b ∷ bs) = (is_word_byte b ≡ true) × AreWordBytes bs
@@ -23,6 +30,7 @@ abbrev pub EndsWord : List ℕ → Type 0
 EndsWord [] = Unit {0}
 EndsWord (b ∷ bs) = is_word_byte b ≡ false
 
+-- how a connective of two formulas is spelt
 abbrev pub joint_bytes : Joint → List ℕ
 joint_bytes joint.Iff = codes "<->"
 joint_bytes joint.Implies = codes "->"

@@ -1,4 +1,9 @@
 -- Cutting a line from left to right, by a version of the text.
+--     Cut          the states of the machine
+--     mark_of      the mark that a byte is by itself
+--     cut_step     after one more byte
+--     cut_ended    at the end of the line
+--     tokens_of    the tokens of a line, if it can be cut
 use Rattle.std.specs.Prelude.{◌==◌, ◌&&◌, ℕ, Bool, true, false, List, [], ◌∷◌, ◌++◌, Option, Some, None, if◌then◌else◌}
 use Rattle.std.specs.List.{fold}
 use Rattle.std.specs.Char.{is_ascii_digit}

@@ -10,5 +10,6 @@ use Rattle.olap_grammar.specs.declared.stacking.Stack.{Stack}
 unfoldable pub frames_of : List Frame → List (machine.Frame Built)
 frames_of items = fold (λ s x. frame_of x ∷ s) [] items
 
+-- what is open on the stack, its top first
 unfoldable pub frames : Stack → List (machine.Frame Built)
 frames s = frames_of s.frames.items

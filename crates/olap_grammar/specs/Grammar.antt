@@ -1,4 +1,9 @@
--- Which lists of tokens are a formula, and of which tree.
+-- The grammar: which lists of tokens are a formula, and of which tree.
+--     level, left_level, right_level    how tightly a connective binds, and what may stand on its sides
+--     comparing, digits_of              how comparisons are written
+--     Atoms                             what words stand for
+--     IsFormula                         the tokens are a formula, with its tree
+--     IsList, IsItems                   the tokens are the parts of a list
 use Rattle.std.specs.Prelude.{◌≡◌, ℕ, suc, List, [], ◌∷◌, ◌++◌, Option, Some, None, codes}
 use Rattle.olap_numerals.specs.Comparing.{Op}
 use Rattle.olap_ast.specs.Formula as Meaning
@@ -10,7 +15,7 @@ use Rattle.olap_grammar.specs.declared.tokens.Mark.TheVariants as mark
 use Rattle.olap_grammar.specs.declared.tokens.Joint.{Joint}
 use Rattle.olap_grammar.specs.declared.tokens.Joint.TheVariants as joint
 
--- from the loosest to the tightest
+-- how tightly a connective binds, from the loosest, 1, to the tightest
 abbrev pub level : Joint → ℕ
 level joint.Iff = 1
 level joint.Implies = 2
@@ -28,6 +33,7 @@ abbrev pub right_level : Joint → ℕ
 right_level joint.Implies = 2
 right_level j = suc (level j)
 
+-- the formula of two with a connective between them
 abbrev pub join : Joint → Formula → Formula → Formula
 join joint.Iff f g = Meaning.Formula.Iff f g
 join joint.Implies f g = Meaning.Formula.Implies f g
@@ -78,6 +84,7 @@ mutual
     none : IsList a [] Meaning.Terms.End
     some : {ts : List Token} {fs : Terms} → IsItems a ts fs → IsList a ts fs
 
+  -- the tokens are one or more formulas with commas between them
   pub data IsItems (a : Atoms Formula) : List Token → Terms → Type 0 where
     last : {ts : List Token} {f : Formula} → IsFormula a 1 ts f → IsItems a ts (Meaning.Terms.More f Meaning.Terms.End)
     more : {ts us : List Token} {f : Formula} {fs : Terms} → IsFormula a 1 ts f → IsItems a us fs

@@ -36,6 +36,7 @@ keep v k t =
     record { most = k.most; first = k.first ++ t ∷ []; more = k.more; tally = tallied v k.tally t }
     else record { most = k.most; first = k.first; more = true; tally = tallied v k.tally t }
 
+-- no token yet, where so many may be kept
 abbrev pub nothing_kept : ℕ → Kept
 nothing_kept most = record { most = most; first = []; more = false; tally = nothing_tallied }
 

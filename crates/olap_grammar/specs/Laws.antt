@@ -1,4 +1,9 @@
--- What holds of all lines and tokens: the readers find what the grammar says, and formulas are short.
+-- The laws of lines and tokens: the readers find what the grammar says, and formulas are short.
+--     FoundAsCut        the cutter finds the tokens of the grammar
+--     FoundAsFormula    the reader finds the formula of the grammar
+--     IsOneCut          a line has one list of tokens at most
+--     IsOneTree         tokens have one formula at most
+--     HasFewTokens      a formula of few nodes and brackets has few tokens
 use Rattle.std.specs.Prelude.{◌≡◌, ◌≤◌, ◌↔◌, ℕ, List, Some, false, length}
 use Rattle.olap_ast.specs.Formula.{Formula}
 use Rattle.olap_grammar.specs.Brackets.{most_tokens, opens_over}

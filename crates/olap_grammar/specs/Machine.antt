@@ -1,4 +1,12 @@
 -- Reading from left to right with a stack of what is still open, for whatever is built.
+--     Making                                  how what is read is put together: as trees, or in another way
+--     Frame                                   what is open
+--     State                                   what was read last, and what is open
+--     settled, closed, list_closed, parted    what a mark, a bracket, the end of a list and a comma close
+--     step                                    after one more token
+--     ended                                   at the end of the tokens
+--     formula_read                            what the tokens are, put together in some way
+--     the_formula                             the formula that the tokens are, if they are one
 use Rattle.std.specs.Prelude.{ℕ, Bool, List, [], ◌∷◌, Option, Some, None, codes, cond, nat_le, nat_eq, option_and_then}
 use Rattle.std.specs.Cmp.Lexicographic.{pointwise}
 use Rattle.std.specs.List.{fold}
@@ -11,7 +19,7 @@ use Rattle.olap_grammar.specs.declared.tokens.Token.TheVariants as token
 use Rattle.olap_grammar.specs.declared.tokens.Mark.TheVariants as mark
 use Rattle.olap_grammar.specs.declared.tokens.Joint.{Joint}
 
--- what is open: a `!`, a formula with a mark after it, a bracket, a list, a part of a list with its comma
+-- how formulas (A) and the parts of a list (L) are put together
 pub record Making (A L : Type 0) : Type 0 where
   pub negate : A → A
   pub join : Joint → A → A → A
@@ -19,6 +27,7 @@ pub record Making (A L : Type 0) : Type 0 where
   pub end : L
   pub more : A → L → L
 
+-- what is open: a `!`, a formula with a mark after it, a bracket, a list, a part of a list with its comma
 pub data Frame (A : Type 0) : Type 0 where
   Negation : Frame A
   Left : Joint → A → Frame A
@@ -78,6 +87,7 @@ abbrev pub begun_part : {A L : Type 0} → Making A L → List (Frame A) → Tok
 begun_part m s (token.Mark mark.Close) = Has (m.one m.end) s
 begun_part m s t = begun (Listing ∷ s) t
 
+-- the word `one`, which begins a list
 abbrev pub is_one : List ℕ → Bool
 is_one w = pointwise nat_eq w (codes "one")
 
@@ -94,6 +104,7 @@ after_word m a w s (token.Mark mark.Less) = Compared w Op.Less s
 after_word m a w s (token.Mark mark.AtMost) = Compared w Op.AtMost s
 after_word m a w s t = after_atom m (a.plain w) s t
 
+-- a formula was read if the atom is one, and else the form is bad
 abbrev pub has_atom : {A : Type 0} → Option A → List (Frame A) → State A
 has_atom None s = Bad
 has_atom (Some f) s = Has f s
@@ -105,6 +116,7 @@ after_compared a w op s (token.Word digits) = has_atom (a.compare w op digits) s
 after_compared a w op s (token.Signed digits) = has_atom (a.compare w op digits) s
 after_compared a w op s t = Bad
 
+-- after one more token
 abbrev pub step : {A L : Type 0} → Making A L → Atoms A → State A → Token → State A
 step m a (Wants s) t = begun s t
 step m a (WantsPart s) t = begun_part m s t
@@ -113,10 +125,12 @@ step m a (Compared w op s) t = after_compared a w op s t
 step m a (Has f s) t = after m f s t
 step m a Bad t = Bad
 
+-- the formula, if nothing is open any more
 abbrev pub alone : {A : Type 0} → A × List (Frame A) → Option A
 alone (f, []) = Some f
 alone (f, b ∷ s) = None
 
+-- at the end of the tokens
 abbrev pub ended : {A L : Type 0} → Making A L → Atoms A → State A → Option A
 ended m a (Has f s) = alone (settled m 1 f s)
 ended m a (Named w s) = option_and_then (λ f. alone (settled m 1 f s)) (a.plain w)

@@ -1,4 +1,4 @@
--- Which tokens are nodes of a formula's tree.
+-- The tokens that are nodes of a formula's tree.
 --     is_node      the token is one, unless it is compared with
 --     nodes_of     how many nodes the tokens have
 use Rattle.std.specs.Prelude.{◌&&◌, ◌+◌, ℕ, Bool, true, false, not, List, [], ◌∷◌, if◌then◌else◌}

@@ -1,4 +1,4 @@
--- What formulas with their depth stand for.
+-- Formulas with their depth.
 use Rattle.std.specs.Prelude.{ℕ}
 use Rattle.olap_ast.specs.Formula as Meaning
 use Rattle.olap_ast.specs.Trees.{formula_of, terms_of}

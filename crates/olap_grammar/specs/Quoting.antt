@@ -1,4 +1,4 @@
--- How a text stands in a line as a string.
+-- Texts as strings of a line.
 --     escaped    with a `\` before each `"` and `\`
 --     quoted     in quotes
 use Rattle.std.specs.Prelude.{◌==◌, ◌||◌, ◌++◌, ℕ, List, [], ◌∷◌, if◌then◌else◌}

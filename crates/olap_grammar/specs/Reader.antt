@@ -1,4 +1,8 @@
--- What the values of the reader stand for.
+-- The values of the reader, as states of the machine.
+--     Built                 a depth and a formula
+--     frame_of, state_of    what the program has, as the machine has it
+--     GoesBack, GoesTo      one step goes on as the machine does, or the form is bad
+--     Ends                  the end of the tokens is that of the machine
 use Rattle.std.specs.Prelude.{◌≡◌, ℕ, List, Result, Ok, Err, Option, Some, None}
 use Rattle.olap_ast.specs.Formula.{Formula}
 use Rattle.olap_ast.specs.Trees.{op_of}
@@ -25,6 +29,7 @@ Built = ℕ × Formula
 abbrev pub leaves_of : Version → Graph → Atoms Built
 leaves_of v g = leaves (atoms_of v g)
 
+-- what is open, as the machine has it
 abbrev pub frame_of : Frame → machine.Frame Built
 frame_of frame.Negation = machine.Frame.Negation
 frame_of (frame.Left j p) = machine.Frame.Left j (part_of p)

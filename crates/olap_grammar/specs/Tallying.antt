@@ -1,4 +1,7 @@
--- What is counted of tokens, gone over from the left.
+-- The tally of tokens, gone over from the left.
+--     counted_nodes      how far nodes are counted
+--     nothing_tallied    of no token
+--     added, tallied     one token more
 use Rattle.std.specs.Prelude.{◌||◌, ◌&&◌, ◌+◌, ◌-◌, ℕ, false, not, nat_lt, if◌then◌else◌}
 use Rattle.olap_base.specs.Limits.{most_depth, most_nodes}
 use Rattle.olap_grammar.specs.Nodes.{compares, is_node}

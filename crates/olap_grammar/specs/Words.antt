@@ -1,4 +1,4 @@
--- What a word is in a formula, where the names of a graph are known.
+-- The meaning of words in a formula, where the names of a graph are known.
 --     id_of          the category of a name, or a number that no category has
 --     pieces_of      the parts of a word between marks
 --     pieces_behind  the parts behind the first mark

@@ -1,4 +1,4 @@
-// Where the names of categories are looked up.
+// Look-ups of the names of categories.
 ghost use Rattle.olap_base.specs.Graph.{HasEdge, IsCategory, is_number as is_number_of};
 ghost use Rattle.olap_graph.specs.Lookups.{category_named, edge_between};
 ghost use Rattle.olap_grammar.specs.Known.{graph_seen};

@@ -2,7 +2,8 @@
 //!
 //! `first_tokens` cuts a line, and `formula` reads tokens as a formula. What they find is the grammar's: a relation by
 //! cases between bytes and tokens (`specs/Cutting`), and one between tokens and a formula's tree (`specs/Grammar`);
-//! `laws` say so. Neither call itself: what is open stands on a list in memory, however deep a text is.
+//! `laws` say so. Neither calls itself: what is open stands on a list in memory, however deep a text is. Names are
+//! looked up in a graph; what a schema's text is isn't known here.
 #![tactic(auto)]
 
 mod closing;

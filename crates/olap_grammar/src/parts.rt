@@ -14,10 +14,29 @@ use std::alloc::Global;
 const TOO_DEEP: u8 = MOST_DEPTH as u8 + 1;
 
 /// A formula and its depth; where that is `TOO_DEEP`, the formula says nothing.
-#[derive(Drop)]
 pub(crate) struct Part {
     pub(crate) formula: Formula,
     pub(crate) depth: u8,
+}
+
+impl Part {
+    /// The formula without its depth.
+    pub(crate) fn into_formula(self) -> Formula
+        ensures { formula_of result ≡ formula_of self.formula }
+    {
+        let Part { formula, depth: _ } = self;
+        formula
+    }
+}
+
+impl Drop for Part {
+    // Not derived: each exit that drops a part calls this, in place of code for every kind of formula.
+    fn drop(self) {
+        let Part {
+            formula: _,
+            depth: _,
+        } = self;
+    }
 }
 
 /// The parts of a list and the greatest depth; where that is `TOO_DEEP`, the parts say nothing.
@@ -73,7 +92,7 @@ pub(crate) fn negated(alloc: Global, part: Part) -> Result<Part, Memory>
     ensures { IfOk result (λ p. part_of p ≡ clipped.negate (part_of part)) }
 {
     let depth = 1 + part.depth as u16;
-    Ok(kept(depth, Formula::Not(Box::new(alloc, part.formula)?)))
+    Ok(kept(depth, Formula::Not(Box::new(alloc, part.into_formula())?)))
 }
 
 /// The joint of two formulas.
@@ -96,7 +115,10 @@ pub(crate) fn joined(alloc: Global, joint: Joint, left: Part, right: Part) -> Re
     ensures { IfOk result (λ p. part_of p ≡ clipped.join joint (part_of left) (part_of right)) }
 {
     let depth = 1 + left.depth.max(right.depth) as u16;
-    Ok(kept(depth, join(alloc, joint, left.formula, right.formula)?))
+    Ok(kept(
+        depth,
+        join(alloc, joint, left.into_formula(), right.into_formula())?,
+    ))
 }
 
 /// The end of a list.
@@ -115,7 +137,7 @@ pub(crate) fn more(alloc: Global, part: Part, parts: Parts) -> Result<Parts, Mem
 {
     let depth = part.depth.max(parts.depth) as u16;
     let terms = Terms::More(
-        Box::new(alloc, part.formula)?,
+        Box::new(alloc, part.into_formula())?,
         Box::new(alloc, parts.terms)?,
     );
     Ok(kept_terms(depth, terms))

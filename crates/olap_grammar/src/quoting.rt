@@ -8,12 +8,11 @@ fn push_byte(out: &mut Vec<u8>, byte: u8) -> Result<(), AllocError>
     ensures { OnOk result (out.new.items ≡ out.old.items ++ escaped_byte byte) }
 {
     if byte == b'"' || byte == b'\\' {
-        out.push(b'\\')?;
-        out.push(byte)?;
+        out.extend_from_slice(&[b'\\', byte])
     } else {
         out.push(byte)?;
+        Ok(())
     }
-    Ok(())
 }
 
 #[tactic(auto, unfolding(crate::specs::Quoting::escaped))]

@@ -8,17 +8,19 @@ ghost use Rattle.olap_grammar.specs.Machine.{the_formula};
 ghost use Rattle.olap_grammar.specs.Parts.{part_of};
 ghost use Rattle.olap_grammar.specs.Reader.{Built, Ends, GoesTo, leaves_of, state_of};
 ghost use Rattle.olap_grammar.specs.Words.{atoms_of};
+ghost use Rattle.olap_grammar.specs.declared.tokens.Mark.TheVariants as the_mark;
+ghost use Rattle.olap_grammar.specs.declared.tokens.Token.TheVariants as the_token;
 ghost use Rattle.olap_ast.specs.Trees.{formula_of, op_of};
 ghost use Rattle.std.specs.Option.{option_map};
-ghost use Rattle.std.specs.Prelude.{List};
+ghost use Rattle.std.specs.Prelude.{◌≡◌, IfOk, List};
 
 use crate::closing::{close, left_level, settle};
 use crate::parts::{Part, leaf, no_parts, one};
 use crate::stacking::{Frame, Stack};
 use crate::words::{comparison, equality, is, plain_word};
-use crate::{FormRefusal, Known, Mark, Token, Version};
+use crate::{FormRefusal, Joint, Known, Mark, Token, Version};
 use olap_ast::{Formula, Op};
-use olap_base::{MOST_DEPTH, Text};
+use olap_base::{MOST_DEPTH, Memory, Text};
 use std::alloc::Global;
 
 /// What was read last: nothing of the formula that is to come, the start of a list, a word, a word with a mark that
@@ -32,23 +34,42 @@ enum State<'a> {
     Has(Part),
 }
 
-/// The part before a comma stays open.
-fn part_off<'a>(part: Part, stack: &mut Stack) -> Result<State<'a>, FormRefusal>
-    ensures { GoesTo result (frames stack.new) (machine.parted (part_of part) (frames stack.old)) }
+/// The formula before a connective stays open.
+fn left_off<'a>(
+    alloc: Global,
+    joint: Joint,
+    part: Part,
+    stack: &mut Stack,
+) -> Result<State<'a>, FormRefusal>
+    ensures { GoesTo result (frames stack.new)
+        (machine.after clipped (part_of part) (frames stack.old) (the_token.Mark (the_mark.Joint joint))) }
 {
-    match stack.pop() {
-        Some(Frame::Listing) => {
-            stack.push(Frame::Listing)?;
-            stack.push(Frame::Part(part))?;
-            Ok(State::Wants)
-        }
-        Some(Frame::Part(before)) => {
-            stack.push(Frame::Part(before))?;
-            stack.push(Frame::Part(part))?;
-            Ok(State::Wants)
-        }
-        _ => Err(FormRefusal::BadForm),
+    let left = settle(alloc, left_level(joint), part, stack)?;
+    stack.push(Frame::Left(joint, left))?;
+    Ok(State::Wants)
+}
+
+/// The part before a comma stays open.
+fn part_off<'a>(alloc: Global, part: Part, stack: &mut Stack) -> Result<State<'a>, FormRefusal>
+    ensures { GoesTo result (frames stack.new)
+        (machine.after clipped (part_of part) (frames stack.old) (the_token.Mark the_mark.Comma)) }
+{
+    let last = settle(alloc, 1, part, stack)?;
+    if !stack.takes_part() {
+        return Err(FormRefusal::BadForm);
     }
+    stack.push(Frame::Part(last))?;
+    Ok(State::Wants)
+}
+
+/// The bracket or the list that is open ends with the formula.
+fn close_after<'a>(alloc: Global, part: Part, stack: &mut Stack) -> Result<State<'a>, FormRefusal>
+    ensures { GoesTo result (frames stack.new)
+        (machine.after clipped (part_of part) (frames stack.old) (the_token.Mark the_mark.Close)) }
+{
+    let last = settle(alloc, 1, part, stack)?;
+    let whole = close(alloc, last, stack)?;
+    Ok(State::Has(whole))
 }
 
 /// After a formula.
@@ -61,20 +82,9 @@ fn after<'a>(
     ensures { GoesTo result (frames stack.new) (machine.after clipped (part_of part) (frames stack.old) token.now) }
 {
     match token {
-        Token::Mark(Mark::Joint(joint)) => {
-            let left = settle(alloc, left_level(*joint), part, stack)?;
-            stack.push(Frame::Left(*joint, left))?;
-            Ok(State::Wants)
-        }
-        Token::Mark(Mark::Close) => {
-            let last = settle(alloc, 1, part, stack)?;
-            let whole = close(alloc, last, stack)?;
-            Ok(State::Has(whole))
-        }
-        Token::Mark(Mark::Comma) => {
-            let last = settle(alloc, 1, part, stack)?;
-            part_off(last, stack)
-        }
+        Token::Mark(Mark::Joint(joint)) => left_off(alloc, *joint, part, stack),
+        Token::Mark(Mark::Close) => close_after(alloc, part, stack),
+        Token::Mark(Mark::Comma) => part_off(alloc, part, stack),
         _ => Err(FormRefusal::BadForm),
     }
 }
@@ -166,6 +176,30 @@ fn has_atom<'a>(atom: Option<Formula>) -> Result<State<'a>, FormRefusal>
     }
 }
 
+/// The atom of a word with a mark that compares and a token, if they are one.
+fn compared_atom(
+    alloc: Global,
+    known: &Known,
+    version: Version,
+    word: &Text,
+    op: Op,
+    token: &Token,
+) -> Result<Option<Formula>, Memory>
+    ensures { IfOk result (λ atom. (s : List (machine.Frame Built)) →
+        machine.has_atom (option_map (λ f. (1, formula_of f)) atom) s
+        ≡ machine.after_compared (leaves_of version (graph_seen known.now)) word.now (op_of op) s token.now) }
+{
+    match token {
+        Token::Quoted(text) => match op {
+            Op::Equal => equality(alloc, known, word, text),
+            _ => Ok(None),
+        },
+        Token::Word(digits) => comparison(alloc, known, version, word, op, digits),
+        Token::Signed(digits) => comparison(alloc, known, version, word, op, digits),
+        _ => Ok(None),
+    }
+}
+
 /// After a word with a mark that compares.
 fn after_compared<'a>(
     alloc: Global,
@@ -179,15 +213,8 @@ fn after_compared<'a>(
     ensures { GoesTo result (frames stack.new) (machine.after_compared (leaves_of version (graph_seen known.now))
         word.now (op_of op) (frames stack.old) token.now) }
 {
-    match token {
-        Token::Quoted(text) => match op {
-            Op::Equal => has_atom(equality(alloc, known, word, text)?),
-            _ => Err(FormRefusal::BadForm),
-        },
-        Token::Word(digits) => { has_atom(comparison(alloc, known, version, word, op, digits)?) }
-        Token::Signed(digits) => { has_atom(comparison(alloc, known, version, word, op, digits)?) }
-        _ => Err(FormRefusal::BadForm),
-    }
+    let atom = compared_atom(alloc, known, version, word, op, token)?;
+    has_atom(atom)
 }
 
 fn step<'a>(
@@ -215,9 +242,26 @@ fn alone(alloc: Global, part: Part, stack: &mut Stack) -> Result<Part, FormRefus
     ensures { Ends result (machine.alone (machine.settled clipped 1 (part_of part) (frames stack.old))) }
 {
     let whole = settle(alloc, 1, part, stack)?;
-    match stack.pop() {
-        None => Ok(whole),
-        Some(_) => Err(FormRefusal::BadForm),
+    if !stack.is_empty() {
+        return Err(FormRefusal::BadForm);
+    }
+    Ok(whole)
+}
+
+/// A word that nothing is open in front of.
+fn plain_alone(
+    alloc: Global,
+    known: &Known,
+    version: Version,
+    word: &Text,
+    stack: &mut Stack,
+) -> Result<Part, FormRefusal>
+    ensures { Ends result (machine.ended clipped (leaves_of version (graph_seen known.now))
+        (machine.State.Named word.now (frames stack.old))) }
+{
+    match plain_word(alloc, known, word)? {
+        Some(f) => alone(alloc, leaf(f), stack),
+        None => Err(FormRefusal::BadForm),
     }
 }
 
@@ -233,10 +277,7 @@ fn end(
 {
     match state {
         State::Has(part) => alone(alloc, part, stack),
-        State::Named(word) => match plain_word(alloc, known, word)? {
-            Some(f) => alone(alloc, leaf(f), stack),
-            None => Err(FormRefusal::BadForm),
-        },
+        State::Named(word) => plain_alone(alloc, known, version, word, stack),
         _ => Err(FormRefusal::BadForm),
     }
 }
@@ -279,7 +320,7 @@ pub fn formula(
             if part.depth > MOST_DEPTH as u8 {
                 return Err(FormRefusal::TooDeep);
             }
-            Ok(part.formula)
+            Ok(part.into_formula())
         }
         Err(e) => Err(e),
     }

@@ -1,6 +1,8 @@
-// What is still open.
-ghost use Rattle.std.specs.Prelude.{◌≡◌, [], ◌∷◌, OnOk, MatchOption};
-ghost use Rattle.olap_grammar.specs.Reader.{frame_of};
+// The stack of what is still open.
+ghost use Rattle.std.specs.Prelude.{◌≡◌, ◌==◌, [], ◌∷◌, List, OnOk, MatchOption, cond, length};
+ghost use Rattle.olap_grammar.specs.Machine as machine;
+ghost use Rattle.olap_grammar.specs.Machine.{parted};
+ghost use Rattle.olap_grammar.specs.Reader.{Built, frame_of};
 ghost use Rattle.olap_grammar.specs.Frames.{frames};
 
 use crate::Joint;
@@ -18,13 +20,24 @@ pub(crate) enum Frame {
     Part(Part),
 }
 
-/// What is still open, the last on top. Contracts see it as the list `open` from its top.
+impl Frame {
+    /// Whether a part of a list may follow.
+    fn takes_part(&self) -> bool
+        ensures { (f : Built) (s : List (machine.Frame Built)) → parted f (frame_of self.now ∷ s)
+            ≡ cond result (machine.State.Wants (machine.Frame.Part f ∷ frame_of self.now ∷ s)) machine.State.Bad }
+    {
+        matches!(self, Frame::Listing | Frame::Part(_))
+    }
+}
+
+/// What is still open, the last on top. Contracts see it as the list `frames`, from its top.
 #[derive(Drop)]
 pub(crate) struct Stack {
     frames: Vec<Frame>,
 }
 
 impl Stack {
+    /// Nothing is open.
     pub fn new(alloc: Global) -> Stack
         ensures { frames result ≡ [] }
     {
@@ -33,6 +46,25 @@ impl Stack {
         }
     }
 
+    /// Whether nothing is open.
+    pub fn is_empty(&self) -> bool
+        ensures { result ≡ (length (frames self.now) == 0) }
+    {
+        self.frames.is_empty()
+    }
+
+    /// Whether a list or a part of one is on top, so that a part may follow.
+    pub fn takes_part(&self) -> bool
+        ensures { (f : Built) → parted f (frames self.now)
+            ≡ cond result (machine.State.Wants (machine.Frame.Part f ∷ frames self.now)) machine.State.Bad }
+    {
+        match self.frames.last() {
+            Some(frame) => frame.takes_part(),
+            None => false,
+        }
+    }
+
+    /// One more is open.
     pub fn push(&mut self, frame: Frame) -> Result<(), Memory>
         ensures { OnOk result (frames self.new ≡ frame_of frame ∷ frames self.old) }
     {
@@ -40,6 +72,7 @@ impl Stack {
         Ok(())
     }
 
+    /// Takes the last off, if there is one.
     pub fn pop(&mut self) -> Option<Frame>
         ensures { MatchOption result ((frames self.old ≡ []) × (frames self.new ≡ []))
             (λ frame. frames self.old ≡ frame_of frame ∷ frames self.new) }

@@ -1,4 +1,4 @@
-// What is counted of the tokens of a line, kept or not.
+// The tally of a line's tokens, kept or not.
 ghost use Rattle.std.specs.Prelude.{◌≡◌, ◌+◌, OnOk, IfOk};
 ghost use Rattle.olap_grammar.specs.Tallying.{added, counted, nothing_tallied, tallied};
 

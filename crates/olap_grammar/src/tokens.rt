@@ -7,41 +7,60 @@ use olap_base::Text;
 /// A version of the schema text. The second has numbers, and comparisons with them.
 #[derive(Clone, Copy, Debug, PartialEq, Eq)]
 pub enum Version {
+    /// Texts alone.
     One,
+    /// Numbers too.
     Two,
 }
 
 /// A mark that joins two formulas.
 #[derive(Clone, Copy, Debug, PartialEq, Eq)]
 pub enum Joint {
+    /// `<->`
     Iff,
+    /// `->`
     Implies,
+    /// `^`
     Xor,
+    /// `|`
     Or,
+    /// `&`
     And,
 }
 
 /// A mark.
 #[derive(Clone, Copy, Debug, PartialEq, Eq)]
 pub enum Mark {
+    /// `(`
     Open,
+    /// `)`
     Close,
+    /// `,`
     Comma,
+    /// `:`
     Colon,
+    /// `=`
     Equal,
+    /// `<`
     Less,
+    /// `<=`
     AtMost,
+    /// `!`
     Not,
+    /// One that joins two formulas.
     Joint(Joint),
 }
 
 /// A token of a line.
 #[derive(Debug, Drop)]
 pub enum Token {
+    /// Letters, digits, `_` and `.`.
     Word(Text),
+    /// What a string stands for, its escapes resolved.
     Quoted(Text),
     /// A `-` before a digit, with the bytes of a word behind it.
     Signed(Text),
+    /// A mark.
     Mark(Mark),
 }
 

@@ -1,13 +1,15 @@
-// What a word is in a formula.
+// Words of formulas, and their parts.
+ghost use Rattle.olap_ast.specs.Formula as meaning;
 ghost use Rattle.olap_ast.specs.Trees.{formula_of, op_of};
 ghost use Rattle.olap_base.specs.Reaching.{is_category_name as is_name_of};
+ghost use Rattle.olap_numerals.specs.Comparing as comparing;
 ghost use Rattle.olap_numerals.specs.Numerals.{digits_in};
 ghost use Rattle.olap_grammar.specs.Known.{graph_seen};
 ghost use Rattle.olap_grammar.specs.Words.{compared_of, comparison_in, comparison_of, equal_of, equality_of, id_of, is_number_token as is_number_token_of, path_of, pieces_behind, pieces_of, plain_of, reach_of};
 ghost use Rattle.std.specs.Char.{is_ascii_digit};
 ghost use Rattle.std.specs.List.{list_all, position};
 ghost use Rattle.std.specs.Option.{option_map};
-ghost use Rattle.std.specs.Prelude.{◌≡◌, ◌==◌, ◌<◌, ◌+◌, ◌∷◌, IfOk, IfSome, None, Some, if◌then◌else◌, length, map, vec_len};
+ghost use Rattle.std.specs.Prelude.{◌≡◌, ◌==◌, ◌<◌, ◌+◌, ◌∷◌, ℕ, ℤ, IfOk, IfSome, List as Items, None, Some, if◌then◌else◌, length, map, vec_len};
 ghost use Rattle.std.specs.Str.{bytes_eq};
 
 use crate::{Known, Version};
@@ -152,6 +154,25 @@ fn reach(known: &Known, parts: &[Text]) -> Option<Formula>
     None
 }
 
+/// The category whose names or numbers a word of these parts speaks of, if it speaks of one.
+fn compared_category(known: &Known, parts: &[Text]) -> Option<CatId>
+    ensures names { (text : Items ℕ) →
+        option_map (λ c. meaning.Formula.Equals c.0 text) result ≡ equal_of (graph_seen known.now) text parts.now }
+    ensures numbers { (op : comparing.Op) (n : ℤ) →
+        option_map (λ c. meaning.Formula.Compare c.0 op n) result ≡ compared_of (graph_seen known.now) op n parts.now }
+{
+    if !are_names(parts) {
+        return None;
+    }
+    if parts.len() == 1 {
+        return Some(id(known, parts[0].bytes()));
+    }
+    if parts.len() == 2 {
+        return Some(id(known, parts[1].bytes()));
+    }
+    None
+}
+
 fn equal(
     alloc: Global,
     known: &Known,
@@ -160,17 +181,11 @@ fn equal(
 ) -> Result<Option<Formula>, Memory>
     ensures { IfOk result (λ f. option_map formula_of f ≡ equal_of (graph_seen known.now) text.now parts.now) }
 {
-    if !are_names(parts) {
+    let Some(category) = compared_category(known, parts) else {
         return Ok(None);
-    }
+    };
     let text = Text::from_bytes(alloc, text.bytes())?;
-    if parts.len() == 1 {
-        return Ok(Some(Formula::Equals(id(known, parts[0].bytes()), text)));
-    }
-    if parts.len() == 2 {
-        return Ok(Some(Formula::Equals(id(known, parts[1].bytes()), text)));
-    }
-    Ok(None)
+    Ok(Some(Formula::Equals(category, text)))
 }
 
 /// What a word is by itself.
@@ -244,19 +259,28 @@ pub fn is_number_token(text: &[u8]) -> bool
 fn compared(known: &Known, op: Op, n: i64, parts: &[Text]) -> Option<Formula>
     ensures { option_map formula_of result ≡ compared_of (graph_seen known.now) (op_of op) n parts.now }
 {
-    if !are_names(parts) {
-        return None;
+    match compared_category(known, parts) {
+        Some(category) => Some(Formula::Compare(category, op, n)),
+        None => None,
     }
-    if parts.len() == 1 {
-        return Some(Formula::Compare(id(known, parts[0].bytes()), op, n));
-    }
-    if parts.len() == 2 {
-        return Some(Formula::Compare(id(known, parts[1].bytes()), op, n));
-    }
-    None
 }
 
-/// What a word is with a number.
+/// What a word is with the number.
+fn with_value(
+    alloc: Global,
+    known: &Known,
+    word: &Text,
+    op: Op,
+    n: i64,
+) -> Result<Option<Formula>, Memory>
+    ensures { IfOk result (λ f. option_map formula_of f
+        ≡ compared_of (graph_seen known.now) (op_of op) n (pieces_of 46 word.now)) }
+{
+    let parts = pieces(alloc, b'.', word.bytes())?;
+    Ok(compared(known, op, n, &parts))
+}
+
+/// What a word is with a text that may be a number.
 #[tactic(auto, unfolding(crate::specs::Words::comparison_of))]
 fn with_number(
     alloc: Global,
@@ -271,9 +295,7 @@ fn with_number(
     if !is_number_token(digits.bytes()) || marks(b'.', word.bytes()) > 1 {
         return Ok(None);
     }
-    let n = number(digits.bytes()).unwrap_or(0);
-    let parts = pieces(alloc, b'.', word.bytes())?;
-    Ok(compared(known, op, n, &parts))
+    with_value(alloc, known, word, op, number(digits.bytes()).unwrap_or(0))
 }
 
 /// What a word is with a number, in the version.

@@ -1,6 +1,7 @@
 -- Lemmas.
 pub mod PlaceLemmas
 pub mod GrowthLemmas
+mod RefusalLemmas
 pub mod MarkLemmas
 mod TableLemmas
 pub mod RowLemmas

@@ -1,4 +1,4 @@
--- What the fields of a graph and of a builder stand for, and keep.
+-- The fields of a graph and of a builder: what they stand for, and keep.
 use Rattle.std.specs.Prelude.{length}
 use Rattle.olap_base.specs.Graph.{Graph, IsHierarchy}
 use Rattle.olap_graph.specs.Building.{IsWithinLimits, IsUnfinished}

@@ -1,4 +1,4 @@
--- What the look-ups of a graph give.
+-- Look-ups of a graph.
 --     names_of            the names of all categories
 --     name_of_category    the name of one
 --     category_named      the category of a name

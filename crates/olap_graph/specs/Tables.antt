@@ -1,4 +1,4 @@
--- What a finished graph keeps beside its lists, so that each look-up is quick.
+-- Tables that a finished graph keeps beside its lists, so that each look-up is quick.
 --     drawn          a graph with these edges, whatever its names
 --     IsMarked       the mark of a number is set
 --     AreOut         for each category the edges out of it

@@ -22,6 +22,7 @@ use Rattle.olap_instance.proofs.Completing.{complete-sound}
 use Rattle.olap_instance.proofs.DraftLemmas.{draft-complete, fresh-is}
 use Rattle.olap_instance.proofs.MembersLemmas.{length-with_parents, member_at-with_parents}
 
+-- a parent that is a member has a place
 pub number-inside : (p : Option MemberId) (n : ℕ) → IfSome p (λ m. m.0 < n) → IfSome (parent_number p) (λ y. y < n)
 number-inside None n h = h
 number-inside (Some m) n h = h

@@ -10,14 +10,17 @@ use Rattle.olap_base.specs.Graph.{Graph, IsCategory, IsCategoryName, IsHierarchy
 use Rattle.olap_graph.specs.Lookups.{category_named, name_of_category, names_of}
 use Rattle.olap_instance.proofs.PlaceFacts.{AreDistinct, place-of-id}
 
+-- letters are ASCII
 letter : (b : ℕ) → IsLetter b → b < 128
 letter b (inl h) = omega (arith, h.1)
 letter b (inr h) = omega (arith, h.1)
 
+-- and digits
 letter-or-digit : (b : ℕ) → IsLetterOrDigit b → b < 128
 letter-or-digit b (inl h) = letter b h
 letter-or-digit b (inr h) = omega (arith, h.1)
 
+-- so a category name is UTF-8
 name-utf8 : (name : List ℕ) → IsCategoryName name → IsUtf8 name
 name-utf8 [] h = absurd h
 name-utf8 (b ∷ rest) h = IsUtf8-from_ascii (b ∷ rest) (IsAscii-from_all (b ∷ rest) all)

@@ -20,27 +20,33 @@ use Rattle.olap_instance.proofs.PlaceFacts.{id-at-place, place-within}
 
 -- ---- checks
 
+-- where there is no fault the first check passes, and the others
 pub else-none : {K : Type 0} (b : Bool) (k : K) (o : Option K) → (if b then Some k else o) ≡ None
     → (b ≡ false) × (o ≡ None)
 else-none true k o e = cc e
 else-none false k o e = (refl, e)
 
+-- where not one of two is so, neither is
 pub neither : (a b : Bool) → (a || b) ≡ false → (a ≡ false) × (b ≡ false)
 neither true b e = cc e
 neither false b e = (refl, e)
 
+-- what isn't false is true
 pub isnt : (b : Bool) → not b ≡ false → b ≡ true
 isnt true e = refl
 isnt false e = cc e
 
+-- what isn't none is something
 pub there : {A : Type 0} (o : Option A) → is_none o ≡ false → (x : A) × (o ≡ Some x)
 there None e = cc e
 there (Some x) e = (x, refl)
 
+-- what isn't some is none
 pub missing : {A : Type 0} (o : Option A) → is_some o ≡ false → o ≡ None
 missing None e = refl
 missing (Some x) e = cc e
 
+-- where there is no kind of fault there is no fault
 pub no-second : {K : Type 0} (o : Option (ℕ × K)) → option_map (λ (p : ℕ × K). p.1) o ≡ None → o ≡ None
 no-second None e = refl
 no-second (Some p) e = cc e
@@ -56,6 +62,7 @@ pub record IsGood (g : Graph) (before : List (List (List ℕ))) (r : List (List 
   pub fresh : is_known before (id_field r) ≡ false
   pub room : nat_le most_members (length before + 1) ≡ false
 
+-- a record without a fault has good fields
 pub good : (g : Graph) (before : List (List (List ℕ))) (r : List (List ℕ)) → member_fault g before r ≡ None
     → IsGood g before r
 good g before r e =
@@ -95,12 +102,14 @@ pub kind-at : (g : Graph) (c : ℕ) → get_or (numbers_in g) c false ≡ is_num
 kind-at g zero = refl
 kind-at g (suc c) = refl
 
+-- an id that isn't known is neither `all` nor that of an earlier record
 pub fresh-parts : (before : List (List (List ℕ))) (id : List ℕ) → is_known before id ≡ false
     → (bytes_eq id (codes "all") ≡ false) × (place_of id (map id_field before) ≡ None)
 fresh-parts before id e =
     let n = neither (bytes_eq id (codes "all")) (is_some (place_of id (map id_field before))) e in
     (n.0, missing (place_of id (map id_field before)) n.1)
 
+-- of four tests that all pass the first and the third do
 pub four : (a b c d : Bool) → (not a || not b || not c || not d) ≡ false → (a ≡ true) × (c ≡ true)
 four false b c d e = cc e
 four true false c d e = cc e
@@ -120,6 +129,7 @@ absent-at x (y ∷ ys) n k e l s = by (bytes_eq x y) refl e k l s (absent-at x y
     by false f e zero l s again = let t = (bytes_eq-Decides x y).1 (sym s) in cc (t, f)
     by false f e (suc k) l s again = again k e (omega arith) s
 
+-- no more than the limit, by the test
 pub within : (n : ℕ) → nat_lt most_text_bytes n ≡ false → n ≤ most_text_bytes
 within n e = grind (arith)
 

@@ -42,11 +42,13 @@ past-end [] x l = refl
 past-end (y ∷ ys) zero l = absurd (omega arith)
 past-end (y ∷ ys) (suc x) l = past-end ys x (omega arith)
 
+-- a place is below a bound, or past it
 inside-or-past : (x n : ℕ) → (x < n) ⊎ (n ≤ x)
 inside-or-past x n = grind arith
 
 -- ---- one member more
 
+-- a member that isn't refused: what its id, its category and its name are
 record IsAccepted (d : Draft) (id : List ℕ) (category : ℕ) (name : List ℕ) : Type 0 where
   good : is_bad_id id ≡ false
   short : is_too_long id ≡ false
@@ -55,6 +57,7 @@ record IsAccepted (d : Draft) (id : List ℕ) (category : ℕ) (name : List ℕ)
   fresh : (bytes_eq id (codes "all") || is_some (place_of id (ids_in d.members))) ≡ false
   room : nat_le most_members (length d.members + 1) ≡ false
 
+-- what the refusal tells where there is none
 accepted : (d : Draft) (id : List ℕ) (category : ℕ) (name : List ℕ) → named_refusal d id category name ≡ None
     → IsAccepted d id category name
 accepted d id category name e =
@@ -66,6 +69,7 @@ accepted d id category name e =
     let g = else-none (nat_le most_members (length d.members + 1)) _ _ f.1 in
     record { good = a.0; short = b.0; declared = c.0; numeral = n.0; fresh = f.0; room = g.0 }
 
+-- what the test says isn't 0 isn't
 not-zero : (n : ℕ) → (n == 0) ≡ false → n ≢ 0
 not-zero n f e = cc (rw e at f)
 

@@ -11,22 +11,27 @@ use Rattle.olap_instance.specs.InstanceText.{id_field, member_read}
 use Rattle.olap_instance.specs.Members.{childless}
 use Rattle.olap_instance.specs.Passes.{ids_in}
 
+-- the ids of records are those of their members
 pub ids-read : (g : Graph) (rows : List (List (List ℕ))) → map id_field rows ≡ ids_in (map (member_read g) rows)
 ids-read g [] = refl
 ids-read g (r ∷ rows) = ap (λ (t : List (List ℕ)). id_field r ∷ t) (ids-read g rows)
 
+-- the same of the members so far
 pub ids-entered : (g : Graph) (ms : Instance) (rows : List (List (List ℕ))) → ms ≡ map (member_read g) rows
     → map id_field rows ≡ ids_in ms
 ids-entered g ms rows e = rw e (ids-read g rows)
 
+-- and there are as many
 pub count-entered : (g : Graph) (ms : Instance) (rows : List (List (List ℕ))) → ms ≡ map (member_read g) rows
     → length rows ≡ length ms
 count-entered g ms rows e = rw e (sym (length-map rows (member_read g)))
 
+-- equal fields, one member
 pub same-member : (id id2 : List ℕ) (c c2 : ℕ) (name name2 : List ℕ) → id ≡ id2 → c ≡ c2 → name ≡ name2
     → childless id c name ≡ childless id2 c2 name2
 same-member id id2 c c2 name name2 a b d = rw (a, b, d) refl
 
+-- an id that isn't among some, nor the new one, isn't among both
 absent-from : (x : List ℕ) (xs : List (List ℕ)) (y : List ℕ) (n : ℕ) → position_from (bytes_eq x) n xs ≡ None
     → bytes_eq x y ≡ false
     → position_from (bytes_eq x) n (xs ++ y ∷ []) ≡ None
@@ -39,10 +44,12 @@ absent-from x (z ∷ zs) y n h e = by (bytes_eq x z) h (λ t. absent-from x zs y
     by true h again = cc h
     by false h again = again h
 
+-- what can't be true is false
 not-so : (b : Bool) → (b ≡ true → ⊥) → b ≡ false
 not-so true h = absurd (h refl)
 not-so false h = refl
 
+-- two texts differ either way
 eq-back : (x y : List ℕ) → bytes_eq x y ≡ false → bytes_eq y x ≡ false
 eq-back x y e = not-so (bytes_eq y x) (λ t. let s : y ≡ x = (bytes_eq-Decides y x).0 t in
     let u = (bytes_eq-Decides x y).1 (sym s) in cc (u, e))

@@ -5,6 +5,7 @@ use Rattle.std.specs.Str.{bytes_eq}
 use Rattle.indexmap.specs.IndexSet.{insert_key}
 use Rattle.olap_base.specs.Naming.{place_of}
 
+-- an id without a place is none of these
 none-among : (q : List ℕ) (ids : List (List ℕ)) (n : ℕ) → position_from (bytes_eq q) n ids ≡ None
     → list_any (bytes_eq q) ids ≡ false
 none-among q [] n e = refl

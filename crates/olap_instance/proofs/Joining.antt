@@ -35,10 +35,12 @@ join-more ids i old new l eo en =
       | inr f ↦ rw f.0 (sym (join-next y ys (get_or ids i [])))
     ]
 
+-- where not one of two is so, neither is
 any-parts : (a b : Bool) → (a || b) ≡ false → (a ≡ false) × (b ≡ false)
 any-parts true b e = cc e
 any-parts false b e = (refl, e)
 
+-- where none is so, each isn't
 none-any : (f : ℕ → Bool) (xs : List ℕ) → list_any f xs ≡ false → All (λ x. f x ≡ false) xs
 none-any f [] e i d l = absurd (omega arith)
 none-any f (x ∷ xs) e zero d l = (any-parts (f x) (list_any f xs) e).0
@@ -48,6 +50,7 @@ none-any f (x ∷ xs) e (suc i) d l = none-any f xs (any-parts (f x) (list_any f
 abbrev pub IsPiece : List ℕ → Type 0
 IsPiece x = (length x ≢ 0) × (list_any (λ b. b == 59) x ≡ false)
 
+-- joined pieces are cut into the same pieces
 split-joined : (y : List ℕ) (ys : List (List ℕ)) → IsPiece y → All IsPiece ys
     → slice_split (λ b. b == 59) (join_with_byte 59 (y ∷ ys)) ≡ y ∷ ys
 split-joined y [] h t = slice_split_none (λ b. b == 59) y (none-any (λ b. b == 59) y h.1)
@@ -55,6 +58,7 @@ split-joined y (z ∷ zs) h t =
     slice_split_at (λ b. b == 59) y 59 (join_with_byte 59 (z ∷ zs)) (none-any (λ b. b == 59) y h.1) refl
     ∙ ap (λ (r : List (List ℕ)). y ∷ r) (split-joined z zs (t 0 [] (omega arith)) (λ i d l. t (suc i) d (omega arith)))
 
+-- and are no empty text
 some-byte : (y : List ℕ) (ys : List (List ℕ)) → IsPiece y → length (join_with_byte 59 (y ∷ ys)) ≢ 0
 some-byte y [] p = p.0
 some-byte y (z ∷ zs) p = λ e. let n = length-append y (59 ∷ join_with_byte 59 (z ∷ zs)) in omega arith
@@ -69,13 +73,16 @@ pieces-joined (y ∷ ys) h =
       | inr f ↦ rw f.0 (split-joined y ys first (λ i d l. h (suc i) d (omega arith)))
     ]
 
+-- a semicolon is ASCII
 small : All (λ b. b < 128) (59 ∷ [])
 small zero d l = omega arith
 small (suc i) d l = absurd (omega arith)
 
+-- and so UTF-8
 semicolon : IsUtf8 (59 ∷ [])
 semicolon = IsUtf8-from_ascii (59 ∷ []) (IsAscii-from_all (59 ∷ []) small)
 
+-- joined texts of UTF-8 are UTF-8
 pub utf8-joined : (xs : List (List ℕ)) → All IsUtf8 xs → IsUtf8 (join_with_byte 59 xs)
 utf8-joined [] h = IsUtf8-nil
 utf8-joined (y ∷ []) h = h 0 [] (omega arith)

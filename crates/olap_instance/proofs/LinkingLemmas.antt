@@ -63,6 +63,7 @@ module _ (ids all : List (List ℕ)) (n : ℕ) (field : List ℕ) (l : n < lengt
       )
   linked-fault parents refusal.Memory seen h c = tt
 
+-- after a field no stamp is as high as the next mark
 pub linked-below : (ids : List (List ℕ)) (field : List ℕ) (stamps : List ℕ) (old new : List (List MemberId))
     → AddsParents ids (pieces_of field) old new → AreBelow stamps (length old + 2) → AreBelow stamps (length new + 1)
 linked-below ids field stamps old new good b m l =
@@ -84,10 +85,12 @@ fields-pass ids all parents n e seen h =
 
 -- ---- records
 
+-- a fault behind so many records is the same under other names
 after-same : (n m : ℕ) (k : Option InstanceKind) (x y : Option (ℕ × InstanceKind)) → n ≡ m → x ≡ y
     → or_after n k x ≡ or_after m k y
 after-same n m k x y e f = rw (e, f) refl
 
+-- fields have the fault that their records have
 faults-same : (ids earlier : List (List ℕ)) (before rows : List (List (List ℕ))) → length earlier ≡ length before
     → first_fault (field_fault ids) earlier (map parents_field rows) ≡ first_fault (parents_fault ids) before rows
 faults-same ids earlier before [] e = refl
@@ -97,6 +100,7 @@ faults-same ids earlier before (r ∷ rows) e =
     after-same (length earlier) (length before) (pieces_fault ids (pieces_of (parents_field r))) _ _ e
     (faults-same ids (earlier ++ parents_field r ∷ []) (before ++ r ∷ []) rows (omega arith))
 
+-- and tell the parents that these tell
 reads-same : (ids : List (List ℕ)) (rows : List (List (List ℕ)))
     → map (field_read ids) (map parents_field rows) ≡ map (parents_read ids) rows
 reads-same ids [] = refl

@@ -17,6 +17,7 @@ end-same : (ss : List ℕ) (n : ℕ) → get_or (ss ++ n ∷ []) 0 n ≡ get_or 
 end-same [] n = refl
 end-same (s ∷ ss) n = refl
 
+-- the first list begins within the items
 first-within : (end s : ℕ) (ss : List ℕ) → AreAscending end (s ∷ ss) → s ≤ end
 first-within end s [] h = h.0
 first-within end s (t ∷ ts) h = let r = first-within end t ts h.1 in let f = h.0 in omega arith

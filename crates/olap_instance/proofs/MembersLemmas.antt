@@ -3,6 +3,7 @@ use Rattle.std.proofs.Common.{◌≡◌, ◌<◌, ◌∷◌, ℕ, zero, suc, Lis
 use Rattle.olap_base.specs.Instance.{Instance, member_at}
 use Rattle.olap_instance.specs.Members.{with_parents}
 
+-- members with parents are as many
 pub length-with_parents : (ms : Instance) (ps : List (List ℕ)) → length ms ≡ length ps
     → length (with_parents ms ps) ≡ length ms
 length-with_parents [] ps e = refl

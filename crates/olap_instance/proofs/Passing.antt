@@ -14,11 +14,13 @@ use Rattle.olap_instance.specs.Printing.{member_fields}
 
 -- ---- lists
 
+-- where each isn't, none is
 pub any-none : (f : List ℕ → Bool) (xs : List (List ℕ)) → ((j : ℕ) → j < length xs → f (get_or xs j []) ≡ false)
     → list_any f xs ≡ false
 any-none f [] h = refl
 any-none f (x ∷ xs) h = rw (h 0 (omega arith)) (any-none f xs (λ j l. h (suc j) (omega arith)))
 
+-- what is made of each member gives it back, so of all
 pub round : (f : List (List ℕ) → Member) (h : Member → List (List ℕ)) (ms : Instance)
     → ((j : ℕ) → j < length ms → f (h (member_at ms j)) ≡ member_at ms j) → map f (map h ms) ≡ ms
 round f h [] e = refl
@@ -28,13 +30,16 @@ round f h (m ∷ ms) e =
     cons : (x y : Member) (xs ys : Instance) → x ≡ y → xs ≡ ys → x ∷ xs ≡ y ∷ ys
     cons x y xs ys a b = rw (a, b) refl
 
+-- the records of members have their ids
 pub ids-kept : (g : Graph) (i ms : Instance) → map id_field (map (member_fields g i) ms) ≡ ids_in ms
 ids-kept g i [] = refl
 ids-kept g i (m ∷ ms) = ap (λ (t : List (List ℕ)). m.id ∷ t) (ids-kept g i ms)
 
+-- and none is empty
 pub rows-full : (g : Graph) (i ms : Instance) → All (λ r. 0 < length r) (map (member_fields g i) ms)
 rows-full g i ms = All-map (λ r. 0 < length r) (member_fields g i) ms (λ k d l. omega arith)
 
+-- nor with the header in front
 pub all-full : (top : List (List ℕ)) (rows : List (List (List ℕ))) → 0 < length top → All (λ r. 0 < length r) rows
     → All (λ r. 0 < length r) (top ∷ rows)
 all-full top rows h t zero d l = h
@@ -50,19 +55,24 @@ pub unrefused : (g : Graph) (before : List (List (List ℕ))) (r : List (List �
     → nat_le most_members (length before + 1) ≡ false → member_fault g before r ≡ None
 unrefused g before r a b c d e f n h k = rw (a, b, c, d, e, f, n, h, k) refl
 
+-- a length within the limit passes the test
 pub short : (n : ℕ) → n ≤ most_text_bytes → nat_lt most_text_bytes n ≡ false
 short n h = grind arith
 
+-- a number that isn't 0 passes the test
 pub differ-zero : (n : ℕ) → n ≢ 0 → (n == 0) ≡ false
 differ-zero n h = elim (eqb_tells n 0) [ inl t ↦ absurd (h t.1) | inr f ↦ f.0 ]
 
+-- what can't be true is false
 pub isnt : (b : Bool) → (b ≡ true → ⊥) → b ≡ false
 isnt true h = absurd (h refl)
 isnt false h = refl
 
+-- four tests that pass
 pub four-texts : (a b c d : Bool) → a ≡ true → b ≡ true → c ≡ true → d ≡ true
     → (not a || not b || not c || not d) ≡ false
 four-texts a b c d ea eb ec ed = rw (ea, eb, ec, ed) refl
 
+-- two tests of which neither finds anything
 pub two : (a b : Bool) → a ≡ false → b ≡ false → (a || b) ≡ false
 two a b ea eb = rw (ea, eb) refl

@@ -8,6 +8,7 @@ use Rattle.olap_base.specs.Naming.{place_of}
 use Rattle.olap_instance.specs.InstanceText.{parent_read}
 use Rattle.olap_instance.proofs.PlaceFacts.{id-at-place}
 
+-- two tests are equal if each follows from the other
 both : (a b : Bool) → (a ≡ true → b ≡ true) → (b ≡ true → a ≡ true) → a ≡ b
 both true b f g = sym (f refl)
 both false true f g = g refl
@@ -35,6 +36,7 @@ same-piece ids p q m n em en = both (bytes_eq p q) (m == n) there back
         let b = (id-at-place q ids n en).1 in
         (bytes_eq-Decides p q).1 (sym a ∙ ap (λ (i : ℕ). get_or ids i []) e ∙ b)
 
+-- either of two, under other names
 or-same : (a b c d : Bool) → a ≡ b → c ≡ d → (a || c) ≡ (b || d)
 or-same a b c d e h = rw (e, h) refl
 
@@ -51,6 +53,7 @@ any-same ids p m (q ∷ before) (n ∷ found) e h =
     or-same (bytes_eq p q) (m == n) (list_any (bytes_eq p) before) (list_any (λ n. m == n) found)
     (same-piece ids p q m n e one) (any-same ids p m before found e rest)
 
+-- any of a list with one item more
 pub any-push : {X : Type 0} (f : X → Bool) (xs : List X) (x : X) → list_any f (xs ++ x ∷ []) ≡ (list_any f xs || f x)
 any-push f [] x = or-false (f x)
   where

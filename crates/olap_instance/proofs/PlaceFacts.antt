@@ -7,10 +7,12 @@ use Rattle.std.proofs.lemmas.List.{length-map}
 use Rattle.olap_base.specs.Instance.{Instance}
 use Rattle.olap_base.specs.Naming.{place_of}
 
+-- what can't be true is false
 not-so : (b : Bool) → (b ≡ true → ⊥) → b ≡ false
 not-so true h = absurd (h refl)
 not-so false h = refl
 
+-- the place of an id that stands nowhere before
 pub first-at : (x : List ℕ) (ids : List (List ℕ)) (n m : ℕ) → m < length ids → get_or ids m [] ≡ x
     → ((j : ℕ) → j < m → get_or ids j [] ≢ x)
     → position_from (bytes_eq x) n ids ≡ Some (n + m)
@@ -24,6 +26,7 @@ first-at x (y ∷ ys) n (suc m) l e none =
     let k : (n + 1) + m ≡ n + suc m = omega arith in
     rw f (first-at x ys (n + 1) m (omega arith) e (λ j b. none (suc j) (omega arith)) ∙ ap (λ (i : ℕ). Some i) k)
 
+-- no id stands twice
 abbrev pub AreDistinct : List (List ℕ) → Type 0
 AreDistinct ids = (i j : ℕ) → i < length ids → j < length ids → get_or ids i [] ≡ get_or ids j [] → i ≡ j
 
@@ -47,6 +50,7 @@ found-from x (y ∷ ys) n i e = by (bytes_eq x y) refl e (found-from x ys (n + 1
     by true t e again = let s : n ≡ i = cc in (0, omega arith, omega arith, sym ((bytes_eq-Decides x y).0 t))
     by false t e again = let r = again e in (suc r.0, omega (arith, r.1), omega (arith, r.2), r.3)
 
+-- at the place that is found stands the id
 pub id-at-place : (x : List ℕ) (ids : List (List ℕ)) (i : ℕ) → place_of x ids ≡ Some i
     → (i < length ids) × (get_or ids i [] ≡ x)
 id-at-place x ids i e =

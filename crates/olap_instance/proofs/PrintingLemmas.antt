@@ -13,6 +13,7 @@ use Rattle.olap_records.specs.Texts.{text_of_row, text_of_rows}
 use Rattle.olap_records.proofs.ReadingBack.{texts-push}
 use Rattle.olap_instance.specs.Printing.{member_fields, parent_ids}
 
+-- the text grew by one member's record
 pub rows-more : (top : List (List ℕ)) (f : Member → List (List ℕ)) (ms : Instance) (k : ℕ) (out new : List ℕ)
     → k < length ms
     → out ≡ text_of_rows (top ∷ map f (take k ms)) → new ≡ out ++ text_of_row (f (member_at ms k))
@@ -30,6 +31,7 @@ ids-named : (i : Instance) (ms : List MemberId)
 ids-named i [] = refl
 ids-named i (m ∷ ms) = ap (λ (t : List (List ℕ)). (member_at i m.0).id ∷ t) (ids-named i ms)
 
+-- the ids of parents are those of their places
 pub parents-named : (i : Instance) (ms : List MemberId) (m : Member) → map (λ p. p.0) ms ≡ m.parents
     → map (λ m. (member_at i m.0).id) ms ≡ parent_ids i m
 parents-named i ms m e = ids-named i ms ∙ ap (map (λ p. (member_at i p).id)) e
@@ -42,6 +44,7 @@ inside-all n ms ps e h k d l =
     (subst (λ t. Contains t (get_or ms k d).0) e
     (Contains-map (λ m. m.0) ms (get_or ms k d) (Contains-get_or ms k d l)))
 
+-- a record of these fields is the member's
 pub same-fields : (g : Graph) (i : Instance) (m : Member) (id category name parents : List ℕ) → id ≡ m.id
     → category ≡ name_of_category g m.category
     → name ≡ m.name → parents ≡ join_with_byte 59 (parent_ids i m)

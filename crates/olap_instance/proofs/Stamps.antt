@@ -10,16 +10,20 @@ use Rattle.olap_instance.specs.InstanceText.{piece_fault}
 use Rattle.olap_instance.specs.declared.refusals.InstanceKind.TheVariants as kind
 use Rattle.olap_instance.proofs.PieceLemmas.{any-push, any-same}
 
+-- a number is equal to itself by the test
 same : (n : ℕ) → (n == n) ≡ true
 same n = elim (eqb_tells n n) [ inl t ↦ t.0 | inr f ↦ absurd (f.1 refl) ]
 
+-- others aren't
 differ : (m n : ℕ) → m ≢ n → (m == n) ≡ false
 differ m n d = elim (eqb_tells m n) [ inl t ↦ absurd (d t.1) | inr f ↦ f.0 ]
 
+-- what is so is so, whatever else
 or-true : (b : Bool) → (b || true) ≡ true
 or-true true = refl
 or-true false = refl
 
+-- what isn't so adds nothing
 or-false : (b : Bool) → (b || false) ≡ b
 or-false true = refl
 or-false false = refl
@@ -51,6 +55,7 @@ below-more stamps top mark place l h b m lm = elim (eqb_tells m place) [
       rw (get_or-set_other stamps place m mark 0 f.1) (b m k)
 ]
 
+-- below a mark is below a higher one
 pub below-higher : (stamps : List ℕ) (low high : ℕ) → low ≤ high → AreBelow stamps low → AreBelow stamps high
 below-higher stamps low high h b m l = let s = b m l in omega arith
 

@@ -26,6 +26,7 @@ pub record Draft : Type 0 where
   pub members : Instance
   pub parents : List (List (Option ℕ))
 
+-- the parents that the member has so far
 abbrev pub parents_so_far : Draft → ℕ → List (Option ℕ)
 parents_so_far d x = slice_index_or d.parents x []
 

@@ -1,4 +1,4 @@
--- What the records of a text of members stand for: an instance, or the text's first fault.
+-- The instance that the records of a text stand for, or the text's first fault.
 --     instance_read   the instance or the fault
 --     member_fault    what is wrong with a member, its parents aside
 --     parents_fault   what is wrong with a member's parents
@@ -18,18 +18,23 @@ use Rattle.olap_instance.specs.Members.{all_member, childless}
 use Rattle.olap_instance.specs.declared.refusals.InstanceKind.{InstanceKind}
 use Rattle.olap_instance.specs.declared.refusals.InstanceKind.TheVariants as kind
 
+-- the first record of a text
 abbrev pub header : List (List ℕ)
 header = codes "id" ∷ codes "category" ∷ codes "name" ∷ codes "parents" ∷ []
 
+-- a record's id
 abbrev pub id_field : List (List ℕ) → List ℕ
 id_field r = field r 0
 
+-- the name of a record's category
 abbrev pub category_field : List (List ℕ) → List ℕ
 category_field r = field r 1
 
+-- a record's name
 abbrev pub name_field : List (List ℕ) → List ℕ
 name_field r = field r 2
 
+-- a record's field of parents, which has their ids
 abbrev pub parents_field : List (List ℕ) → List ℕ
 parents_field r = field r 3
 
@@ -107,6 +112,7 @@ parents_fault ids before r = pieces_fault ids (pieces_of (parents_field r))
 abbrev pub parent_read : List (List ℕ) → List ℕ → ℕ
 parent_read ids p = unwrap_or (place_of p ids) 0
 
+-- the places of a record's parents
 abbrev pub parents_read : List (List ℕ) → List (List ℕ) → List ℕ
 parents_read ids r = map (parent_read ids) (pieces_of (parents_field r))
 

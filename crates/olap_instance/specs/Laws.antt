@@ -1,4 +1,4 @@
--- What holds of everything that a text may stand for.
+-- The law of texts: what one stands for is an instance.
 use Rattle.std.specs.Prelude.{◌≡◌, ℕ, List, Ok}
 use Rattle.olap_base.specs.Graph.{Graph}
 use Rattle.olap_base.specs.Instance.{Instance, IsInstance}
@@ -14,6 +14,7 @@ pub record IsReadFor (g : Graph) (i : Instance) : Type 0 where
   pub names : HasShortNames i
   pub top : AllHasNoParents i
 
+-- whatever records stand for an instance, it is one
 abbrev pub ReadIsInstance : Type 0
 ReadIsInstance = (g : Graph) (records : List (List (List ℕ))) (i : Instance) → instance_read g records ≡ Ok i
     → IsReadFor g i

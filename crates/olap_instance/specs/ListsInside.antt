@@ -1,4 +1,8 @@
--- What lists keep that stand in one list, one behind the other.
+-- The inside of lists that stand in one list, one behind the other.
+--     lists_from      the lists that begin at these places
+--     AreAscending    the places ascend
+--     lists_of        the lists that a `Lists` stands for
+--     AreInOrder      its invariant
 use Rattle.std.specs.Prelude.{ℕ, ◌≤◌, ◌∷◌, List, [], length, slice_index_or, slice_range}
 use Rattle.olap_instance.specs.declared.lists.Lists.TheInside.{Inside}
 
@@ -13,8 +17,10 @@ abbrev pub AreAscending : ℕ → List ℕ → Type 0
 AreAscending end [] = Unit {0}
 AreAscending end (start ∷ starts) = (start ≤ slice_index_or starts 0 end) × AreAscending end starts
 
+-- the lists that a `Lists` stands for
 abbrev pub lists_of : {T : Type 0} → Inside T → List (List T)
 lists_of a = lists_from a.items.items a.starts.items
 
+-- its invariant: the places where lists begin ascend
 abbrev pub AreInOrder : {T : Type 0} → Inside T → Type 0
 AreInOrder a = AreAscending (length a.items.items) a.starts.items

@@ -1,4 +1,4 @@
--- Whether an instance was made for a graph.
+-- Instances that were made for a graph.
 use Rattle.std.specs.Prelude.{ℕ}
 use Rattle.olap_numerals.specs.Named.{HasNumerals}
 use Rattle.olap_base.specs.Graph.{Graph, IsCategory}

@@ -1,4 +1,10 @@
--- What the two passes over the records of a text find.
+-- The two passes over the records of a text, and what they find.
+--     PassesFirst                what the pass over ids, categories and names finds
+--     PassesSecond               what the pass over parents finds
+--     AreParents, AddsParents    of one field: no fault, and its parents
+--     FieldsPass                 the same of all fields
+--     field_fault, field_read    a field's first fault, and the parents that it tells
+--     AreStamped, AreBelow       stamps that tell which parents a field has named
 use Rattle.std.specs.Prelude.{◌≡◌, ◌<◌, ◌==◌, ◌++◌, ◌∷◌, ℕ, List, [], length, map, Option, Some, None, slice_index}
 use Rattle.std.specs.Borrow.{Bor}
 use Rattle.std.specs.List.{list_any, slice_split}

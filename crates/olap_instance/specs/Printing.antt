@@ -1,4 +1,7 @@
 -- The text of an instance.
+--     member_fields       a member's record
+--     instance_rows       the header, and a record for each member but `all`
+--     text_of_instance    their text
 use Rattle.std.specs.Prelude.{◌-◌, ◌∷◌, ℕ, List, [], length, map, take}
 use Rattle.std.specs.List.{join_with_byte}
 use Rattle.olap_base.specs.Graph.{Graph}
@@ -23,5 +26,6 @@ others i = take (length i - 1) i
 abbrev pub instance_rows : Graph → Instance → List (List (List ℕ))
 instance_rows g i = header ∷ map (member_fields g i) (others i)
 
+-- the CSV text of an instance
 abbrev pub text_of_instance : Graph → Instance → List ℕ
 text_of_instance g i = text_of_rows (instance_rows g i)

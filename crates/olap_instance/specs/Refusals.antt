@@ -1,4 +1,4 @@
--- What the refusals of this crate say.
+-- Refusals, and the reasons behind them.
 use Rattle.std.specs.Prelude.{◌≡◌, ◌+◌, ⊤, ℕ, Option, Some, Result, Err}
 use Rattle.olap_base.specs.Instance.{Instance}
 use Rattle.olap_base.specs.Naming.{Fault}

@@ -1,4 +1,4 @@
--- What a roster keeps.
+-- The inside of a roster.
 use Rattle.std.specs.Prelude.{◌≡◌, ◌≤◌, ◌^◌, ◌∷◌, [], ℕ, List, length, map}
 use Rattle.olap_base.specs.Instance.{Instance}
 use Rattle.olap_instance.specs.Members.{childless}
@@ -11,6 +11,7 @@ members_from (id ∷ ids) [] names = []
 members_from (id ∷ ids) (c ∷ categories) [] = []
 members_from (id ∷ ids) (c ∷ categories) (name ∷ names) = childless id c name ∷ members_from ids categories names
 
+-- the members that a roster stands for, without parents
 abbrev pub members_of_roster : Inside → Instance
 members_of_roster a = members_from a.ids.keys (map (λ c. c.0) a.categories.items) a.names
 

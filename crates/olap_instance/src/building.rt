@@ -190,19 +190,29 @@ impl InstanceBuilder {
         ensures categories { self.new.categories ≡ self.old.categories }
         ensures numbers { self.new.numbers ≡ self.old.numbers }
     {
+        self.put(id.bytes(), category, name.bytes())
+    }
+
+    // Adds a member of that id and that name.
+    fn put(&mut self, id: &[u8], category: CatId, name: &[u8]) -> Result<MemberId, MemberRefusal>
+        requires id { IsTrue (is_utf8 id.now) }
+        requires name { IsTrue (is_utf8 name.now) }
+        requires category { category.0 < self.old.categories }
+        ensures ok { IfOk result (λ m. named_refusal self.old id.now category.0 name.now ≡ None) }
+        ensures number { IfOk result (λ m. m.0 ≡ length self.old.members) }
+        ensures added { OnOk result (self.new ≡ with_member self.old id.now category.0 name.now) }
+        ensures err { IfErr result (IsMemberCause (named_refusal self.old id.now category.0 name.now)) }
+        ensures same { OnErr result (self.new ≡ self.old) }
+        ensures categories { self.new.categories ≡ self.old.categories }
+        ensures numbers { self.new.numbers ≡ self.old.numbers }
+    {
         let is_number = has_kind(&self.numbers, category);
-        if let Some(refusal) = refusal(
-            &self.roster,
-            id.bytes(),
-            category,
-            is_number,
-            name.bytes(),
-        ) {
+        if let Some(refusal) = refusal(&self.roster, id, category, is_number, name) {
             return Err(refusal);
         }
         let member = MemberId(self.roster.len() as u32);
         self.parents.reserve(1)?;
-        self.roster.add(id.bytes(), category, name.bytes())?;
+        self.roster.add(id, category, name)?;
         self.parents.push(Vec::new(self.alloc))?;
         Ok(member)
     }

@@ -114,6 +114,29 @@ fn parents_of<'b>(rows: &'b Rows) -> &'b [u8]
     if rows.len() > 3 { rows.field(3) } else { &[] }
 }
 
+// Adds the members of the records that are left, and the field of parents of each.
+fn enter_rows(
+    graph: &Graph,
+    rows: &mut Rows,
+    roster: &mut Roster,
+    fields: &mut Lists<u8>,
+) -> Result<(), InstanceRefusal>
+    requires members { roster.old ≡ [] }
+    requires fields { fields.old ≡ [] }
+    ensures members { MatchResult result
+        (λ _. PassesFirst graph.now rows.old.left roster.new)
+        (λ e. IsFaultCause (first_fault (member_fault graph.now) [] rows.old.left) e) }
+    ensures fields { OnOk result (fields.new ≡ map parents_field rows.old.left) }
+    ensures few { OnOk result (length roster.new < most_members) }
+    ensures others { OnOk result (place_of (codes "all") (ids_in roster.new) ≡ None) }
+{
+    'rows: while rows.advance()? {
+        enter(graph, roster, rows)?;
+        fields.add(parents_of(rows))?;
+    }
+    Ok(())
+}
+
 /// The members of the records that are left, their parents aside, and the field of parents of each. Their ids are
 /// looked up by that hash.
 pub(crate) fn enter_all(
@@ -131,9 +154,6 @@ pub(crate) fn enter_all(
 {
     let mut roster = Roster::new(alloc, hash);
     let mut fields = Lists::new(alloc);
-    'rows: while rows.advance()? {
-        enter(graph, &mut roster, rows)?;
-        fields.add(parents_of(rows))?;
-    }
+    enter_rows(graph, rows, &mut roster, &mut fields)?;
     Ok((roster, fields))
 }

@@ -7,18 +7,20 @@ ghost use Rattle.olap_instance.specs.Hashing as hashing;
 use sha2::{Digest, Sha256};
 use std::hash::{BuildHasher, Hasher};
 
-// A point is kept eight times as large, so that the low half of a product with it ends where 61 bits of the product end.
+// A point is kept eight times as large, so that the low half of a product with it ends where 61 bits of the product
+// end.
 const SCALE: u64 = 8;
-// 2 ^ 61, and 2 ^ 64.
+// 2 ^ 61.
 const LOW: u64 = 0x2000_0000_0000_0000;
 
+// 2 ^ 64.
 const HALF: u128 = 0x1_0000_0000_0000_0000;
 
 // How many bytes are a coefficient.
 const STEP: usize = 7;
 
-/// The value at a point of a polynomial modulo 2 ^ 61 - 1. Bytes that are written at once are its coefficients, seven at
-/// a time; the last one has those that are left over, behind how many were written.
+/// The value at a point of a polynomial modulo 2 ^ 61 - 1. Bytes that are written at once are its coefficients, seven
+/// at a time; the last one has those that are left over, behind how many were written.
 #[derive(Clone, Copy)]
 pub(crate) struct IdHasher {
     // Eight times the point.

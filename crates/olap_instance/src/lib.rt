@@ -2,7 +2,7 @@
 //!
 //! A contract sees an `Instance` as the definition's list of members
 //! (`Rattle.olap_base.specs.Instance`). What a text stands for, or where its first fault is, is the
-//! function `instance_read` of `specs/InstanceText.antt`.
+//! function `instance_read` of `specs/InstanceText.antt`. Whether an instance is lawful or legal isn't known here.
 #![tactic(auto)]
 
 mod building;

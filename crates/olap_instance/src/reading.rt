@@ -29,6 +29,30 @@ fn begins(rows: &mut Rows) -> Result<bool, Memory>
     Ok(found && rows.is_row(&[b"id", b"category", b"name", b"parents"]))
 }
 
+// The members that records tell, their parents aside, and the field of parents of each, if the first record is the
+// header. Their ids are looked up by that hash.
+fn members_of(
+    alloc: Global,
+    hash: KeyedHash,
+    graph: &Graph,
+    rows: &mut Rows,
+) -> Result<(Roster, Lists<u8>), InstanceRefusal>
+    ensures members { MatchResult result
+        (λ r. (has_header rows.old.left ≡ true) × PassesFirst graph.now (drop 1 rows.old.left) r.0)
+        (λ e. IsRefusedBy e (instance_read graph.now rows.old.left)) }
+    ensures fields { IfOk result (λ r. r.1 ≡ map parents_field (drop 1 rows.old.left)) }
+    ensures few { IfOk result (λ r. length r.0 < most_members) }
+    ensures others { IfOk result (λ r. place_of (codes "all") (ids_in r.0) ≡ None) }
+{
+    if !begins(rows)? {
+        return Err(InstanceRefusal::Fault {
+            at: 1,
+            kind: InstanceKind::BadHeader,
+        });
+    }
+    enter_all(alloc, hash, graph, rows)
+}
+
 // The members that a text tells, their parents aside, and the field of parents of each.
 fn read_members(
     alloc: Global,
@@ -43,13 +67,7 @@ fn read_members(
     ensures others { IfOk result (λ r. place_of (codes "all") (ids_in r.0) ≡ None) }
 {
     let mut rows = Rows::new(alloc, text);
-    if !begins(&mut rows)? {
-        return Err(InstanceRefusal::Fault {
-            at: 1,
-            kind: InstanceKind::BadHeader,
-        });
-    }
-    enter_all(alloc, KeyedHash::by_text(text), graph, &mut rows)
+    members_of(alloc, KeyedHash::by_text(text), graph, &mut rows)
 }
 
 /// The instance that a text tells, or the text's first fault. Each record has passed the checks of its own fields

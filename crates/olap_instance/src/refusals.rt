@@ -1,4 +1,4 @@
-// What may be wrong with a text of members, and why a text, a member or a parent is refused.
+// Kinds of faults of a text of members, and refusals of a text, a member or a parent.
 ghost use Rattle.std.specs.Prelude.{◌≡◌};
 ghost use Rattle.olap_instance.specs.declared.refusals.InstanceRefusal.TheVariants as instance;
 ghost use Rattle.olap_instance.specs.declared.refusals.MemberRefusal.TheVariants as member;

@@ -1,4 +1,4 @@
-// Which texts an id and a name may be, and the pieces of a field of parents.
+// Ids and names, and the pieces of a field of parents.
 ghost use Rattle.std.specs.Prelude.{◌≡◌, ◌==◌, ◌<◌, ◌∷◌, IfSome, length};
 ghost use Rattle.std.specs.List.{list_any, position, slice_split};
 ghost use Rattle.std.specs.Str.{is_utf8};

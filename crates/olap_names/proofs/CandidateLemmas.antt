@@ -22,6 +22,7 @@ use Rattle.olap_names.proofs.Counting.{few_distinct, in_fold}
 
 -- ---- distinct pairs hold every atom
 
+-- pairs that the test takes for one are equal
 same_pair : (a b : Equality) → is_same_pair a b ≡ true → a ≡ b
 same_pair a b e =
     let c = eqb-true a.category b.category (first_true (a.category == b.category) (bytes_eq a.text b.text) e) in
@@ -31,6 +32,7 @@ same_pair a b e =
 
 -- ---- a category has no more constants than there are pairs
 
+-- texts in byte order are distinct
 text_distinct : (texts : List (List ℕ)) → AllPairs IsBefore texts → Distinct texts
 text_distinct texts o = Distinct-from_AllPairs texts (λ i j d below inside e.
     let b = o i j d below inside in
@@ -40,6 +42,7 @@ text_distinct texts o = Distinct-from_AllPairs texts (λ i j d below inside e.
     let r = tied_itself nat_list_cmp_total (get_or texts i d) in
     absurd (cc))
 
+-- a category has no more constants than there are distinct pairs
 pub few_constants : (d : ℕ) (es : List Equality) (texts : List (List ℕ)) → AreInByteOrder (texts_on d es) texts
     → length texts ≤ length (distinct_pairs es)
 few_constants d es texts o =
@@ -60,10 +63,12 @@ both_ok (Err e) P Q R f p q = p
 
 -- ---- the constants of each category
 
+-- each category so far has its constants in byte order
 pub record AreListed (all : List Equality) (n : ℕ) (texts : List (List (List ℕ))) : Type 0 where
   pub count : length texts ≡ n
   pub each : (d : ℕ) → d < n → AreInByteOrder (texts_on d all) (get_or texts d [])
 
+-- one category more
 pub listed_more : (all : List Equality) (n : ℕ) (texts new : List (List (List ℕ))) (x : List (List ℕ))
     → AreListed all n texts → AreInByteOrder (texts_on n all) x → new ≡ texts ++ x ∷ [] → AreListed all (n + 1) new
 listed_more all n texts new x l o e = record {
@@ -79,6 +84,7 @@ listed_more all n texts new x l o e = record {
     newest : (d n : ℕ) → d < n + 1 → (d < n) ⊎ (d ≡ n)
     newest d n h = grind arith
 
+-- a category is below a bound, or past it
 below_or_past : (d n : ℕ) → (d < n) ⊎ (n ≤ d)
 below_or_past d n = grind arith
 
@@ -91,6 +97,7 @@ no_constants d all none = record {
   complete = λ text c. absurd (none (record { category = d; text = text }) (atom_on_names d all text c) refl);
 }
 
+-- with all categories that atoms speak of, it is so of each
 pub listed_everywhere : (all : List Equality) (n : ℕ) (texts : List (List (List ℕ))) → All (λ a. a.category < n) all
     → AreListed all n texts → (d : ℕ) → AreInByteOrder (texts_on d all) (get_or texts d [])
 listed_everywhere all n texts w l d = elim (below_or_past d n) [
@@ -112,6 +119,7 @@ pub record AreNamed (s : Schema) (q : Formula) (n : ℕ) (first : List (List ℕ
         → AreNamesOf (is_number s.graph d) s q d (get_or first d z) (get_or texts d [])
     pub few : (d : ℕ) → d < n → length (get_or texts d []) ≤ most_others
 
+-- before the first category none has names
 pub none_named : (s : Schema) (q : Formula) → AreNamed s q 0 [] []
 none_named s q = record {
   first_count = refl;
@@ -120,6 +128,7 @@ none_named s q = record {
   few = λ d h. absurd (omega arith);
 }
 
+-- a category below the next is earlier, or this one
 newest : (d n : ℕ) → d < n + 1 → (d < n) ⊎ (d ≡ n)
 newest d n h = grind arith
 
@@ -177,6 +186,7 @@ few_named s q n first texts a d = elim (below_or_past d n) [
 no_number : (g : Graph) (c : ℕ) → IsHierarchy g → length g.names ≤ c → is_number g (suc c) ≡ false
 no_number g c h l = get_or_past g.numbers c false (let e = h.kinds_known in omega arith)
 
+-- names of all categories, with a fresh name, are candidates
 pub are_candidates : (g : Graph) (cs : List Constraint) (q : Formula) (k : Named) → IsHierarchy g
     → All (λ a. a.category < category_count g) (atoms cs q) → HasKinds (with_graph g cs) q
     → IsFreshName (with_graph g cs) q k.fresh → AreNamed (with_graph g cs) q (category_count g) k.first k.texts

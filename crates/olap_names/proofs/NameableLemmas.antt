@@ -10,6 +10,7 @@ use Rattle.olap_ast.specs.Valid.{IsFormulaAt, IsQuestion, IsValidSchema, pair_co
 use Rattle.olap_ast.proofs.AtomLemmas.{AreOf, all_each, has_kinds}
 use Rattle.olap_names.specs.Names.{CanBeNamed, atoms, number_atoms, with_graph}
 
+-- atoms of the graph, few of them, can be named
 pub can_be_named : (g : Graph) (cs : List Constraint) (r : ℕ) (q : Formula) → AreOf g cs → IsFormulaAt g r q
     → pair_count (atoms cs q) (number_atoms cs q) ≤ most_constants → CanBeNamed g cs q
 can_be_named g cs r q f v few = record {
@@ -18,6 +19,7 @@ can_be_named g cs r q f v few = record {
   few = few;
 }
 
+-- so those of a valid schema and a question can
 pub valid_named : (g : Graph) (cs : List Constraint) (r : ℕ) (q : Formula) → IsValidSchema (with_graph g cs)
     → IsQuestion (with_graph g cs) r q → CanBeNamed g cs q
 valid_named g cs r q v t = can_be_named g cs r q v.formulas t.formula t.constants_fit

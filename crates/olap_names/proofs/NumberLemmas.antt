@@ -25,18 +25,21 @@ use Rattle.olap_names.proofs.Counting.{few_distinct, in_fold}
 
 -- ---- a category has no more numbers than there are pairs
 
+-- pairs that the test takes for one are equal
 same_number_pair : (a b : Comparison) → is_same_number a b ≡ true → a ≡ b
 same_number_pair a b e =
     let c = eqb-true a.category b.category (first_true (a.category == b.category) (int_eq a.number b.number) e) in
     let t = same_number a.number b.number (second_true (a.category == b.category) (int_eq a.number b.number) e) in
     λ i. record { category = c i; number = t i }
 
+-- ascending numbers are distinct
 number_distinct : (ns : List ℤ) → AllPairs ◌<ℤ◌ ns → Distinct ns
 number_distinct ns o = Distinct-from_AllPairs ns (λ i j d below inside e.
     let b : get_or ns i d <ℤ get_or ns j d = o i j d below inside in
     let q : get_or ns i d ≡ get_or ns j d = e in
     absurd (omega (arith, ints)))
 
+-- a category has no more numbers than there are distinct pairs
 pub few_numbers : (d : ℕ) (es : List Comparison) (ns : List ℤ) → AreAscending (numbers_on d es) ns
     → length ns ≤ length (distinct_numbers es)
 few_numbers d es ns o =
@@ -51,26 +54,31 @@ few_numbers d es ns o =
 
 -- ---- the same constants
 
+-- two lists have the same numbers
 abbrev pub AreSame : List ℤ → List ℤ → Type 0
 AreSame ns ms = (a : ℤ) → Contains ns a ↔ Contains ms a
 
+-- and so the same least one
 least_too : (ns ms : List ℤ) → AreSame ns ms → (n : ℤ) → IsLeast ns n → IsLeast ms n
 least_too ns ms same n l = record {
   is_one = (same n).0 l.is_one;
   least = λ m c. l.least m ((same m).1 c);
 }
 
+-- one is empty if the other is
 none_too : (ns ms : List ℤ) → AreSame ns ms → ns ≡ [] → ms ≡ []
 none_too ns [] same e = refl
 none_too ns (m ∷ ms) same e =
     absurd (Contains-nil m (subst (λ l. Contains l m) e ((same m).1 (contains_head m ms))))
 
+-- the same numbers are near them
 near_too : (ns ms : List ℤ) → AreSame ns ms → (a : ℤ) → IsNear ns a → IsNear ms a
 near_too ns ms same a (inl c) = inl ((same a).0 c)
 near_too ns ms same a (inr (inl t)) = inr (inl (t.0, (same t.0).0 t.1, t.2))
 near_too ns ms same a (inr (inr (inl t))) = inr (inr (inl (t.0, least_too ns ms same t.0 t.1, t.2)))
 near_too ns ms same a (inr (inr (inr t))) = inr (inr (inr (none_too ns ms same t.0, t.1)))
 
+-- and so the same numbers stand for all
 pub representatives_too : (ns ms reps : List ℤ) → AreSame ns ms → AreRepresentatives ns reps
     → AreRepresentatives ms reps
 representatives_too ns ms reps same r = record {
@@ -81,9 +89,11 @@ representatives_too ns ms reps same r = record {
 
 -- ---- how many they are
 
+-- the numbers, those one more, and one below the least
 abbrev around : List ℤ → List ℤ
 around ns = (ns ++ map (λ n. n +ℤ pos 1) ns) ++ before_least (least ns) ∷ []
 
+-- a number or one more is among these
 up_around : (ns : List ℤ) (a : ℤ) → IsUpTo ns a → Contains (around ns) a
 up_around ns a u =
     Contains-append_left (ns ++ map (λ n. n +ℤ pos 1) ns) (before_least (least ns) ∷ []) a (go u.1)
@@ -93,10 +103,12 @@ up_around ns a u =
     go (inr t) = Contains-append_right ns (map (λ n. n +ℤ pos 1) ns) a
         (subst (λ w. Contains (map (λ n. n +ℤ pos 1) ns) w) (sym t.2) (Contains-map (λ n. n +ℤ pos 1) ns t.0 t.1))
 
+-- what stands below the least is one number
 last_is : (l : Option ℤ) (a : ℤ) → IsLastNear l a → a ≡ before_least l
 last_is None a e = e
 last_is (Some n) a e = e.1
 
+-- each number that names are made of is among these
 in_around : (ns : List ℤ) (a : ℤ) → IsNumberName ns a → Contains (around ns) a
 in_around ns a n = elim ((name_cases ns a).1 n) [
   | inl u ↦ up_around ns a u
@@ -104,6 +116,7 @@ in_around ns a n = elim ((name_cases ns a).1 n) [
       (Contains-push (ns ++ map (λ n. n +ℤ pos 1) ns) (before_least (least ns)))
 ]
 
+-- so there are no more than twice as many, and one
 pub few_representatives : (ns reps : List ℤ) → AreRepresentatives ns reps → length reps ≤ 2 * length ns + 1
 few_representatives ns reps r =
     let l = few_distinct reps (around ns) (number_distinct reps r.ascending) (λ a c. in_around ns a (r.sound a c)) in
@@ -112,6 +125,7 @@ few_representatives ns reps r =
     let g = length-map ns (λ n. n +ℤ pos 1) in
     omega (arith, l, e, f, g)
 
+-- and there is one at least
 pub some_representative : (ns reps : List ℤ) → AreSmall ns → AreRepresentatives ns reps → 0 < length reps
 some_representative ns reps small r =
     let c = r.complete (representative ns (pos 0)) (representatives_answer_alike ns (pos 0) small zero_small).0 in
@@ -120,6 +134,7 @@ some_representative ns reps small r =
 
 -- ---- numerals
 
+-- the first numeral and the others are the numerals of all
 pub spelled_is : (ns : List ℤ) (d : ℤ) → 0 < length ns
     → canonical (get_or ns 0 d) ∷ map canonical (drop 1 ns) ≡ map canonical ns
 spelled_is [] d h = absurd (omega arith)
@@ -138,6 +153,7 @@ names_are d all ns reps first others o r e =
       complete = t.complete;
     }
 
+-- so a category has no more further names than two for each distinct pair
 pub few_names : (d : ℕ) (all : List Comparison) (ns reps : List ℤ) (first : List ℕ) (others : List (List ℕ))
     → AreAscending (numbers_on d all) ns → AreRepresentatives ns reps → first ∷ others ≡ map canonical reps
     → length others ≤ 2 * length (distinct_numbers all)

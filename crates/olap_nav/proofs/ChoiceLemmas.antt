@@ -20,6 +20,7 @@ inside [] m h = absurd (let z : false ≡ true = h in cc)
 inside (b ∷ bits) zero h = omega arith
 inside (b ∷ bits) (suc m) h = let k = inside bits m h in omega arith
 
+-- marks within others are no more than these
 no_more : (new old : List Bool) → length new ≡ length old → IsWithin new old → marks new ≤ marks old
 no_more [] [] e w = omega arith
 no_more [] (y ∷ old) e w = omega arith

@@ -38,6 +38,7 @@ categories_all P (v ∷ views) a =
     All-cons P v.category (categories_of views) (a 0 v (omega arith))
     (categories_all P views (λ k d h. a (suc k) d (omega arith)))
 
+-- what is so of the categories of all views is so of those of the chosen ones
 pub chosen_all : (P : ℕ → Type 0) (k : ℕ) (views : List View) (mask : ℕ) → All P (categories_of views)
     → All P (categories_of (chosen_from k views mask))
 chosen_all P k [] mask a = a

@@ -17,11 +17,13 @@ use Rattle.olap_view.specs.Stores.{chosen_from}
 
 -- ---- exactly one is once
 
+-- what holds of no item holds 0 times
 never : (P : ℕ → Type 0) (xs : List ℕ) (n : ℕ) → NoneOf P xs → HoldsTimes P xs n → n ≡ 0
 never P [] n none h = h
 never P (x ∷ xs) n none (inl t) = absurd (none.0 t.0)
 never P (x ∷ xs) n none (inr t) = never P xs n none.1 t.1
 
+-- what holds of exactly one item holds once
 once : (P : ℕ → Type 0) (xs : List ℕ) (n : ℕ) → ExactlyOne P xs → HoldsTimes P xs n → n ≡ 1
 once P [] n one h = absurd one
 once P (x ∷ xs) n (inl one) (inl t) = t.2 ∙ ap suc (never P xs t.1 one.1 t.3)
@@ -59,6 +61,7 @@ module _ (i : Instance) (x c : ℕ) where
 
 -- ---- what serves meets every pattern in exactly one
 
+-- what serves has exactly one way in each pattern
 pub serves_by_one : (s : Schema) (views : List View) (c : ℕ) (ways : List Bool) (mask : ℕ) → IsPattern s views c ways
     → Serves s views c mask → ways_in ways mask ≡ 1
 serves_by_one s views c ways mask p serves =

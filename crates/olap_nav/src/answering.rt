@@ -20,7 +20,7 @@ use std::alloc::Global;
 /// The plan for the target, and the view of the target from the plan's views.
 ///
 /// Where the stored views are the direct views of one fact table on the instance, this is the target's direct view.
-/// `NotAnswerable`: exactly where there is no plan. `Memory`: want of memory.
+/// `NotAnswerable`: exactly where there is no plan. `Memory`: out of memory.
 pub fn answer(
     alloc: Global,
     schema: &Schema,

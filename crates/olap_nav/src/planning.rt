@@ -64,8 +64,8 @@ fn cheapest(store: &Store, may_serve: &[bool]) -> Option<Plan>
     best
 }
 
-/// A counterexample to summarizability from sources that differ. Which one doesn't matter: each refutes the mask that is
-/// asked, and what it refutes besides is never the plan.
+/// A counterexample to summarizability from sources that differ. Which one doesn't matter: each refutes the mask that
+/// is asked, and what it refutes besides is never the plan.
 fn counterexample(
     alloc: Global,
     schema: &Schema,
@@ -118,7 +118,7 @@ fn pattern_against(
 /// The plan: of all choices of stored views from whose categories the target is summarizable, no view at all among
 /// them, the one with the fewest rows, and among these the one with the smallest mask.
 ///
-/// `NotAnswerable`: exactly where there is no such choice. `Memory`: want of memory.
+/// `NotAnswerable`: exactly where there is no such choice. `Memory`: out of memory.
 ///
 /// Each question that is answered by no refutes all masks that its counterexample does, so few are asked.
 pub fn plan(

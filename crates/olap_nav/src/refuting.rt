@@ -62,6 +62,7 @@ pub(crate) fn pattern(
     ensures count { IfOk result (λ p. length p.items ≡ length store.now.views) }
     ensures room { length room.new.rows.items ≡ category_count (schema_of schema.now).graph }
 {
+    // Called for its clause: the schema is valid.
     let _valid = schema.constraints();
     let mut pattern = Vec::new(alloc);
     'views: for view in store.views.items() {

@@ -10,12 +10,15 @@ use Rattle.olap_numerals.specs.Numerals.{IsSmall, most_number}
 use Rattle.olap_numerals.specs.Representatives.{AreSmall, IsLastNear, IsNumberName, IsUpTo, least}
 use Rattle.olap_numerals.proofs.RepresentativeLemmas.{both_ways, least_is, zero_small}
 
+-- a constant stands for itself
 up_to_self : (n : ℤ) → IsSmall n → IsUpTo (n ∷ []) n
 up_to_self n s = (s, inl (contains_head n []))
 
+-- and the number after it for those up to the next constant
 up_to_next : (n : ℤ) → IsSmall (n +ℤ pos 1) → IsUpTo (n ∷ []) (n +ℤ pos 1)
 up_to_next n s = (s, inr (n, contains_head n [], refl))
 
+-- there are no others
 up_to_cases : (n a : ℤ) → IsUpTo (n ∷ []) a → (n ≡ a) ⊎ (a ≡ n +ℤ pos 1)
 up_to_cases n a (s, inl c) = elim (contains_cases a n [] c) [ inl e ↦ inl e | inr d ↦ absurd (Contains-nil a d) ]
 up_to_cases n a (s, inr (m, c, e)) = elim (contains_cases m n [] c) [
@@ -23,9 +26,11 @@ up_to_cases n a (s, inr (m, c, e)) = elim (contains_cases m n [] c) [
   | inr d ↦ absurd (Contains-nil m d)
 ]
 
+-- what was pushed is in the list
 one_in : (xs : List ℤ) (n a : ℤ) → n ≡ a → Contains (xs ++ n ∷ []) a
 one_in xs n a e = subst (λ z. Contains (xs ++ n ∷ []) z) e (Contains-append_right xs (n ∷ []) n (contains_head n []))
 
+-- what is in the list was there, or was pushed
 one_cases : (xs : List ℤ) (n a : ℤ) → Contains (xs ++ n ∷ []) a → Contains xs a ⊎ (n ≡ a)
 one_cases xs n a c = elim (Contains-append_cases xs (n ∷ []) a c) [
   | inl d ↦ inl d
@@ -46,6 +51,7 @@ entered_one xs n s m a = (
   ],
 )
 
+-- a constant and the number after it were entered
 pub entered_two : (xs : List ℤ) (n : ℤ) → IsSmall n → n <ℤ pos most_number → (a : ℤ) →
     Contains ((xs ++ n ∷ []) ++ (n +ℤ pos 1) ∷ []) a ↔ (Contains xs a ⊎ IsUpTo (n ∷ []) a)
 entered_two xs n s m a =
@@ -63,6 +69,7 @@ entered_two xs n s m a =
       ],
     )
 
+-- the number below the least was entered
 pub entered_less : (xs : List ℤ) (n : ℤ) → IsSmall n → neg_ℤ (pos most_number) <ℤ n → (a : ℤ) →
     Contains (xs ++ (n +ℤ negsuc 0) ∷ []) a ↔ (Contains xs a ⊎ IsLastNear (Some n) a)
 entered_less xs n s m a =
@@ -82,6 +89,7 @@ entered_none xs n m a = (
   λ h. elim h [ inl d ↦ d | inr u ↦ let t = u.0.0 in let e = u.1 in absurd (omega (arith, ints)) ],
 )
 
+-- 0 was entered, where there is no constant
 pub entered_zero : (xs : List ℤ) (a : ℤ) → Contains (xs ++ pos 0 ∷ []) a ↔ (Contains xs a ⊎ IsLastNear None a)
 entered_zero xs a = (
   λ c. elim (one_cases xs (pos 0) a c) [ inl d ↦ inl d | inr e ↦ inr (sym e) ],
@@ -90,15 +98,18 @@ entered_zero xs a = (
 
 -- ---- over the constants
 
+-- the least constant is within the bounds
 pub least_small : (ns : List ℤ) → AreSmall ns → (n : ℤ) → least ns ≡ Some n → IsSmall n
 least_small [] h n e = absurd (cc)
 least_small (m ∷ ns) h n e = let t = least_is m ns in
     let q : fold int_min m ns ≡ n = cc in subst IsSmall q (h (fold int_min m ns) t.is_one)
 
+-- no constants, no such numbers
 pub up_to_nil : (a : ℤ) → IsUpTo [] a → ⊥
 up_to_nil a (s, inl c) = Contains-nil a c
 up_to_nil a (s, inr (m, c, e)) = Contains-nil m c
 
+-- one constant more
 pub up_to_push : (ns : List ℤ) (n a : ℤ) → (IsUpTo ns a ⊎ IsUpTo (n ∷ []) a) ↔ IsUpTo (ns ++ n ∷ []) a
 up_to_push ns n a = (
   λ h. elim h [
@@ -126,12 +137,14 @@ up_to_push ns n a = (
   ],
 )
 
+-- what was entered names are made of
 name_from : (ns : List ℤ) (a : ℤ) → IsUpTo ns a ⊎ IsLastNear (least ns) a → IsNumberName ns a
 name_from ns a (inl (s, inl c)) = (s, inl c)
 name_from ns a (inl (s, inr t)) = (s, inr (inl t))
 name_from [] a (inr e) = (subst IsSmall (sym e) zero_small, inr (inr (inr (refl, e))))
 name_from (n ∷ ns) a (inr (s, e)) = (s, inr (inr (inl (fold int_min n ns, least_is n ns, e))))
 
+-- what names are made of was entered
 name_to : (ns : List ℤ) (a : ℤ) → IsNumberName ns a → IsUpTo ns a ⊎ IsLastNear (least ns) a
 name_to ns a (s, inl c) = inl (s, inl c)
 name_to ns a (s, inr (inl t)) = inl (s, inr t)
@@ -144,5 +157,6 @@ name_to (n ∷ ns) a (s, inr (inr (inl (m, l, e)))) =
 name_to [] a (s, inr (inr (inr (q, e)))) = inr e
 name_to (n ∷ ns) a (s, inr (inr (inr (q, e)))) = absurd (cc)
 
+-- both ways
 pub name_cases : (ns : List ℤ) (a : ℤ) → (IsUpTo ns a ⊎ IsLastNear (least ns) a) ↔ IsNumberName ns a
 name_cases ns a = (name_from ns a, name_to ns a)

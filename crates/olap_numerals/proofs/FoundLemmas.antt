@@ -8,6 +8,7 @@ use Rattle.olap_numerals.specs.Numerals.{are_digits, digits_in, is_small, most_d
 use Rattle.olap_numerals.specs.Spelling.{has_plus, small_of}
 use Rattle.olap_numerals.specs.Values.{is_i64, is_numeral, value_of}
 
+-- a number within the bounds fits 64 bits
 small_fits : (z : ℤ) → is_small z ≡ true → is_i64 z ≡ true
 small_fits (pos n) e = let l : n ≤ most_number = grind (arith, nat_tests) in let m : n < 2 ^ 63 = omega arith in
     grind (arith, nat_tests)
@@ -25,9 +26,11 @@ same_digits (b ∷ bs) h = go (b == 45) refl
     go true e = rw e (refl, refl)
     go false e = rw (e, h) (refl, refl)
 
+-- few digits are a numeral if they are digits
 few_digits : (ds : List ℕ) → length ds ≤ most_digits → are_digits ds ≡ is_numeral ds
 few_digits ds l = let b : nat_le (length ds) most_digits ≡ true = grind (arith, nat_tests) in rw b refl
 
+-- the narrower test alone decides
 chosen : (d s w : Bool) (z : ℤ) → is_small z ≡ s → (s ≡ true → w ≡ true)
     → ◌≡◌ {A = Option ℤ} (small_of (cond (d && w) (Some z) None)) (cond (d && s) (Some z) None)
 chosen true true true z e f = rw e refl
@@ -36,6 +39,7 @@ chosen true false true z e f = rw e refl
 chosen true false false z e f = refl
 chosen false s w z e f = refl
 
+-- few digits without a plus: the number of 64 bits, within the bounds
 pub found_is : (text : List ℕ) → has_plus text ≡ false → length (digits_in text) ≤ most_digits
     → small_of (value_of text) ≡ number_of text
 unfolding number_of
@@ -59,6 +63,7 @@ plus_none (b ∷ bs) h = subst (λ c. number_of (c ∷ bs) ≡ None) (sym (eqb-t
     go true false = refl
     go false d = refl
 
+-- too many digits are no numeral
 pub long_none : (text : List ℕ) → most_digits < length (digits_in text) → number_of text ≡ None
 unfolding number_of
 long_none text l = let b : nat_le (length (digits_in text)) most_digits ≡ false = grind (arith, nat_tests) in

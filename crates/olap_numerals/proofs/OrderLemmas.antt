@@ -8,9 +8,11 @@ use Rattle.std.specs.List.Sorted.{IsStrictlySortedBy}
 use Rattle.std.proofs.lemmas.List.Elements.{All-cons}
 use Rattle.std.proofs.lemmas.List.Kept.{AllPairs-cons}
 
+-- less by the comparison is less
 less_is : (x y : ℤ) → int_cmp x y ≡ Less → x <ℤ y
 less_is x y e = subst (λ r. MatchOrdering r (x <ℤ y) (x ≡ y) (y <ℤ x)) e (int_ranks x y)
 
+-- equal by the test is equal
 pub same_number : (x y : ℤ) → int_eq x y ≡ true → x ≡ y
 same_number x y e = go (int_cmp x y) (int_ranks x y) e
   where
@@ -19,6 +21,7 @@ same_number x y e = go (int_cmp x y) (int_ranks x y) e
     go Equal m h = m
     go Greater m h = absurd (cc)
 
+-- less than all of a list, item by item
 all_from : (x : ℤ) (ys : List ℤ) → AllByRecursion (λ y. int_cmp x y ≡ Less) ys → All (λ y. x <ℤ y) ys
 all_from x [] h = λ k d below. absurd (omega arith)
 all_from x (y ∷ ys) h = All-cons (λ y. x <ℤ y) y ys (less_is x y h.0) (all_from x ys h.1)

@@ -75,6 +75,7 @@ after_greatest (Some n) l = n +ℤ pos 1
 pub is_number_constant : List ℤ → ℤ → Bool
 is_number_constant ns a = is_yes (decide_contains ℤ_discrete ns a)
 
+-- it is true exactly if the number is one of them
 pub is_number_constant_is : (ns : List ℤ) (a : ℤ) → IsTrue (is_number_constant ns a) ↔ Contains ns a
 unfolding is_number_constant
 is_number_constant_is ns a = is_yes_is (decide_contains ℤ_discrete ns a)
@@ -86,6 +87,7 @@ representative ns a =
 
 -- ---- what holds of them
 
+-- all are within the bounds of numerals
 abbrev pub AreSmall : List ℤ → Type 0
 AreSmall ns = (n : ℤ) → Contains ns n → IsSmall n
 

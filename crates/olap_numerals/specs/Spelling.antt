@@ -1,4 +1,4 @@
--- How the number of a text is found: what std's parse gives, within the bounds of numerals.
+-- Spelling by std's parse, within the bounds of numerals.
 --     has_plus    a plus stands in front
 --     small_of    the number, if it is within the bounds
 use Rattle.std.specs.Prelude.{◌==◌, Bool, false, ℕ, ℤ, List, [], ◌∷◌, Option, Some, None, if◌then◌else◌}

@@ -7,6 +7,7 @@ ghost use Rattle.olap_numerals.specs.Values.{value_of};
 const FEW_DIGITS: usize = 18;
 
 /// What stands behind a sign, and whether that is a minus. Where there is no sign, all.
+#[inline(always)]
 fn unsigned(text: &[u8]) -> (&[u8], bool)
     ensures digits { result.0.now ≡ without_leading_sign text.now }
     ensures minus { result.1 ≡ starts_with_minus text.now }
@@ -24,6 +25,7 @@ fn unsigned(text: &[u8]) -> (&[u8], bool)
 }
 
 /// The number of a few digits, in one pass; nothing where none stands there, or another byte among them.
+#[inline(always)]
 fn number(digits: &[u8]) -> Option<u64>
     requires { length digits.now ≤ 18 }
     ensures numeral { IfSome result (λ n. IsNumeral 10 digits.now) }
@@ -46,6 +48,7 @@ fn number(digits: &[u8]) -> Option<u64>
 }
 
 /// The number that a text of a few digits spells. It says nothing of other texts.
+#[inline(always)]
 fn short_value(text: &[u8]) -> Option<i64>
     ensures { IfSome result (λ n. value_of text.now ≡ Some n) }
 {
@@ -67,8 +70,9 @@ fn long_value(text: &[u8]) -> Option<i64>
     }
 }
 
-/// The number of 64 bits that a text spells by a plus, a minus or neither, and decimal digits. One of a few digits takes one pass
-/// over its bytes.
+/// The number of 64 bits that a text spells by a plus, a minus or neither, and decimal digits. One of a few digits
+/// takes one pass over its bytes.
+#[inline(always)]
 pub fn value(text: &[u8]) -> Option<i64>
     ensures { result ≡ value_of text.now }
 {

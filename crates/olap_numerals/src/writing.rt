@@ -1,4 +1,4 @@
-// How numbers are written.
+// Canonical numerals.
 ghost use Rattle.std.specs.Prelude.{◌≡◌, IfOk, map};
 ghost use Rattle.olap_numerals.specs.Numerals.{canonical};
 

@@ -23,7 +23,7 @@ module _ {Q : Type 0} {answers : Q → Status → List ℕ → Type 0} where
     unread = λ e. absurd (cc);
   }
 
-  -- a refusal answers a question that it answers, or memory was wanted
+  -- a refusal answers a question that it answers, or memory ran out
   pub refusing : (q : Q) (why : List ℕ)
       → ((bytes : List ℕ) → bytes ≡ refusal why → answers q Refused bytes)
       → (stop : Stop) → IsRefusal why stop → Replies answers (Done q) (Err stop)

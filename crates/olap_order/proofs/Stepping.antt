@@ -14,6 +14,7 @@ use Rattle.olap_order.specs.declared.replies.Reply.{Reply}
 use Rattle.olap_order.specs.declared.replies.Stop.{Stop}
 use Rattle.olap_order.specs.declared.replies.Stop.TheVariants as stops
 
+-- what follows from what is so of a reply is so of it
 pub replied : (result : Result Reply Stop) {P R : Status → List ℕ → Type 0}
     → ((status : Status) (bytes : List ℕ) → P status bytes → R status bytes) → Replied result P → Replied result R
 replied (Ok reply) f p = f reply.status reply.bytes.items p
@@ -126,6 +127,7 @@ blamed (Some files) one other on (Some None) b = (b.0, on files refl b.0 b.1, b.
 blamed (Some files) one other on (Some (Some file)) (inl c) = inl (on files refl file c)
 blamed (Some files) one other on (Some (Some file)) (inr h) = inr (h.0, on files refl h.0 h.1, h.2)
 
+-- a file that comes after a step comes after it in both together, where contents are told
 comes_then_told : {T Q : Type 0} (next : T → Order Q) (told : Option Files) (step : Order T) (x : T)
     → ComesOutTold told step x → (files : Files) → told ≡ Some files → (file : List ℕ) → ComesTo files (next x) file
     → ComesTo files (and_then step next) file

@@ -1,6 +1,6 @@
 -- Orders by the words after a command's name. Fewer or more words than it takes are no command, and have no order.
 --     by_one, by_two, by_three, by_four   so many words
---     by_two_or_more                      two words, and any number behind them
+--     by_two_or_more                      two words, and any number after them
 use Rattle.std.specs.Prelude.{ℕ, List, [], ◌∷◌, Option, None, Some}
 use Rattle.olap_order.specs.Order.{Order}
 
@@ -24,7 +24,7 @@ abbrev pub by_four : {Q : Type 0} → (List ℕ → List ℕ → List ℕ → Li
 by_four order (a ∷ b ∷ c ∷ d ∷ []) = Some (order a b c d)
 by_four order words = None
 
--- by two, and those behind them
+-- by two, and those after them
 abbrev pub by_two_or_more : {Q : Type 0} → (List ℕ → List ℕ → List (List ℕ) → Order Q) → List (List ℕ)
     → Option (Order Q)
 by_two_or_more order (a ∷ b ∷ more) = Some (order a b more)

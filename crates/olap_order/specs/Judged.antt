@@ -1,11 +1,13 @@
 -- What a function that goes along an order answers, and when it gives up. `answers` says which status and bytes
 -- answer a question, and `L` is what a library tells of itself.
---     Gives      the outcome has this status and these bytes
---     IsBlamed   the order explains what a library was last asked for
---     ReadCause  a refusal of the library has its cause
---     Replied    of the status and the bytes of a result, if it has some
---     Judged     what a command answers, along its order
---     Replies    what a function answers that reads nothing
+--     Gives, GivesTold        the outcome has this status and these bytes
+--     IsBlamed, IsStuckTold   the order explains what a library was last asked for
+--     ReadCause               a refusal of the library has its cause
+--     IsVerdict               a status that a command may answer with
+--     Replied                 so it is of the status and the bytes of a result, if it has some
+--     IsLater                 the library after some calls
+--     Judged                  what a command answers, along its order
+--     Replies                 what a function answers that reads nothing
 use Rattle.std.specs.Prelude.{◌≡◌, ◌⊎◌, ◌≤◌, ℕ, false, List, Option, None, Some, MatchOption, ⊤, Result, Ok, Err, IsErrOf, IsTrue}
 use Rattle.olap_base.specs.Faults.{Rose}
 use Rattle.olap_base.specs.Files.{Files}
@@ -24,7 +26,7 @@ Gives answers files (Told told text) status bytes = (status ≡ told) × (bytes 
 Gives answers files (Read name next) status bytes =
     MatchOption (files name) ⊥ (λ text. Gives answers files (next text) status bytes)
 
--- so it is where the library tells its contents; of one that tells none, where the order reads no file
+-- the same of a library: of its files, where it tells them; where it tells none, if the order reads no file
 abbrev pub GivesTold : {Q : Type 0} → (Q → Status → List ℕ → Type 0) → Option Files → Order Q → Status → List ℕ
     → Type 0
 GivesTold answers None order status bytes = ReadsNoFile order → (files : Files) → Gives answers files order status bytes
@@ -50,7 +52,7 @@ pub record ReadCause {D Q : Type 0} (L : Library D) (old new : D) (order : Order
   pub place : IsBlamed (L.contents old) order (L.asked new)
   pub stuck : IsTrue (L.sure old) → IsStuckTold (L.contents old) order
 
--- the answers that a command may give; these are not of the words
+-- the answers that a command may give: all but `Usage`, which is of words that are none
 abbrev pub IsVerdict : Status → Type 0
 IsVerdict statuses.Yes = ⊤
 IsVerdict statuses.No = ⊤

@@ -4,7 +4,7 @@ use Rattle.olap_order.specs.Outputs.{refusal}
 use Rattle.olap_order.specs.declared.replies.Stop.{Stop}
 use Rattle.olap_order.specs.declared.replies.Stop.TheVariants as stops
 
--- it is the line of a refusal for this reason, or memory was wanted for that line
+-- it is the line of a refusal for this reason, or memory ran out for that line
 abbrev pub IsRefusal : List ℕ → Stop → Type 0
 IsRefusal why (stops.Refused bytes) = bytes.items ≡ refusal why
 IsRefusal why stops.Read = ⊥

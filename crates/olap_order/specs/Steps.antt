@@ -1,6 +1,9 @@
 -- The steps of an order that all commands share: what a run takes a word or a file for, or why it refuses it.
---     category_word, root_word, number_word, formula_word, another_word, different_words     by words
---     text_file, schema_file                                                                 by files
+--     category_word, root_word          the category that a word names; the same, and not `All`
+--     number_word, formula_word         the number that a word spells; the formula that it is
+--     another_word, different_words     categories that differ
+--     text_file, schema_file            what stands in a file
+--     fault_text, part_text             where a fault is, and its name
 use Rattle.std.specs.Prelude.{ℕ, zero, suc, List, [], ◌∷◌, ◌++◌, ◌==◌, length, nat_lt, codes, Option, Result, Ok, Err, if◌then◌else◌}
 use Rattle.std.specs.Fmt.{decimal}
 use Rattle.std.specs.List.{list_any}

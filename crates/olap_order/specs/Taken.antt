@@ -17,7 +17,7 @@ ComesOut files (Done x) y = x ≡ y
 ComesOut files (Told status bytes) y = ⊥
 ComesOut files (Read name next) y = MatchOption (files name) ⊥ (λ text. ComesOut files (next text) y)
 
--- so it is where the library tells its contents; else, if the step reads no file
+-- the same of a library: of its files, where it tells them; where it tells none, if the step reads no file
 abbrev pub ComesOutTold : {T : Type 0} → Option Files → Order T → T → Type 0
 ComesOutTold None step x = ReadsNoFile step → step ≡ Done x
 ComesOutTold (Some files) step x = ComesOut files step x

@@ -71,7 +71,7 @@ fn is_among(categories: &[CatId], category: CatId) -> bool
     categories.contains(&category)
 }
 
-/// The category that the word of this number names, behind these. The fault has this name where it is one of them.
+/// The category that the word of this number names, after these. The fault has this name where it is one of them.
 fn another_at(
     alloc: Global,
     at: u64,

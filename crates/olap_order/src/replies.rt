@@ -22,7 +22,7 @@ pub enum Stop {
     Refused(Vec<u8>),
     /// The library refused.
     Read,
-    /// Want of memory.
+    /// Out of memory.
     Memory,
 }
 

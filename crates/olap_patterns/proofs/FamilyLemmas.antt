@@ -22,6 +22,7 @@ wider : (n : ℕ) (s t : CatSet 4) → ((p : ℕ) → IsIn s p → IsIn t p) →
     → CanBeBad n (s ∷ rest) m → CanBeBad n (t ∷ rest) m
 wider n s t h rest m b = (b.0, h b.0 b.1, b.2)
 
+-- if sets are bad wherever others are, they are so behind the same sets
 under : (n : ℕ) (done a b : List (CatSet 4)) → ((m : ℕ) → CanBeBad n a m → CanBeBad n b m) → (m : ℕ)
     → CanBeBad n (done ++ a) m → CanBeBad n (done ++ b) m
 under n [] a b h m t = h m t
@@ -46,6 +47,7 @@ by_unions n (d ∷ ds) (s ∷ us) u [] a m b = absurd a
 by_unions n (d ∷ ds) (s ∷ us) u (x ∷ xs) a m b =
     (b.0, (u.0 b.0).1 (x, a.0, b.1), by_unions n ds us u.1 xs a.1 (bit_and m b.0) b.2)
 
+-- an item doesn't depend on what would stand where there is none
 same_item : {A : Type 0} (xs : List A) (k : ℕ) (d e : A) → k < length xs → get_or xs k d ≡ get_or xs k e
 same_item [] k d e l = absurd (omega arith)
 same_item (x ∷ xs) zero d e l = refl
@@ -200,6 +202,7 @@ first_by_order P families k x ordered l e none f c p = go (which c.0 k)
         let r = subst (λ (w : Family). w.bottom.0 < (get_or families c.0 f).bottom.0) at_k o in
         let s = subst (λ (w : Family). x.bottom.0 < w.bottom.0) c.2 r in omega arith
 
+-- one family more joins the patterns so far
 pub union_next : (families : List Family) (k : ℕ) (all next : CatSet 4) (x : Family) → k < length families
     → x ≡ get_or families k x → ((m : ℕ) → IsIn next m ↔ (IsIn all m ⊎ IsIn x.patterns m))
     → HasOf families k all → HasOf families (k + 1) next
@@ -215,6 +218,7 @@ union_next families k all next x l e u h p = (
   ]),
 )
 
+-- one dimension more has its union behind the others
 pub unions_next : (ds : List (List Family)) (k : ℕ) (ss : List (CatSet 4)) (d : List Family) (s : CatSet 4)
     → k < length ds → get_or ds k d ≡ d → AreUnions (take k ds) ss → IsUnion d s
     → AreUnions (take (suc k) ds) (ss ++ s ∷ [])
@@ -227,6 +231,7 @@ unions_next (x ∷ ds) (suc k) (t ∷ ss) d s l e u i =
 
 -- ---- what is left of the sets
 
+-- what is left after one item more
 drop_next : {A : Type 0} (xs : List A) (i : ℕ) (y : A) (ys : List A) → drop i xs ≡ y ∷ ys → drop (suc i) xs ≡ ys
 drop_next [] zero y ys e = absurd (cc)
 drop_next [] (suc i) y ys e = absurd (cc)
@@ -240,6 +245,7 @@ pub record SetsFrom (all : List (List Family)) (sets : List (CatSet 4)) (i : ℕ
   pub union : IsUnion d set
   pub rest : AreUnions (drop (i + 1) all) (drop (i + 1) sets)
 
+-- the sets from a dimension on: the union of its families, and the others
 pub sets_from : (all : List (List Family)) (sets : List (CatSet 4)) (i : ℕ) (d : List Family) → i < length all
     → get_or all i d ≡ d → AreUnions (drop i all) (drop i sets) → SetsFrom all sets i d
 sets_from all sets i d l e u = go (drop i sets) refl
@@ -262,6 +268,7 @@ sets_from all sets i d l e u = go (drop i sets) refl
 pub take_left : {A : Type 0} (xs : List A) (k : ℕ) → take (length xs - k) (drop k xs) ≡ drop k xs
 take_left xs k = ap (λ w. take w (drop k xs)) (sym (length-drop k xs)) ∙ take-length (drop k xs)
 
+-- where the sets can be bad, some family of this dimension keeps them so
 pub some_family : (n : ℕ) (all : List (List Family)) (sets : List (CatSet 4)) (i : ℕ) (d items : List Family)
     (done from to : List (CatSet 4)) → i < length all → get_or all i d ≡ d → items ≡ d
     → AreUnions (drop i all) (drop i sets) → from ≡ done → to ≡ drop (i + 1) sets

@@ -51,6 +51,7 @@ module _ (s t : CatSet 4) (n : ℕ) (within : n < 256) (e : members t ≡ set.in
     ],
   )
 
+-- nothing is in the empty set
 pub in_empty : (t : CatSet 4) → members t ≡ set.empty → (m : ℕ) → IsIn t m → ⊥
 in_empty t e m h = let q : false ≡ true = sym (set.contains-empty nat_cmp m) ∙ ap (λ w. set.contains w m) (sym e) ∙ h.1 in
     cc
@@ -82,22 +83,26 @@ in_union s t u e m = (
 
 -- ---- bad masks
 
+-- what holds 0 times holds of none
 none_times : {A : Type 0} (P : A → Type 0) (xs : List A) → HoldsTimes P xs 0 → NoneOf P xs
 none_times P [] h = tt
 none_times P (x ∷ xs) (inl t) = let z : 0 ≡ suc t.1 = t.2 in absurd (omega arith)
 none_times P (x ∷ xs) (inr t) = (t.0, none_times P xs t.1)
 
+-- what holds of none holds 0 times
 times_none : {A : Type 0} (P : A → Type 0) (xs : List A) (n : ℕ) → NoneOf P xs → HoldsTimes P xs n → n ≡ 0
 times_none P [] n o h = h
 times_none P (x ∷ xs) n o (inl t) = absurd (o.0 t.0)
 times_none P (x ∷ xs) n o (inr t) = times_none P xs n o.1 t.1
 
+-- what holds once holds of exactly one
 one_time : {A : Type 0} (P : A → Type 0) (xs : List A) → HoldsTimes P xs 1 → ExactlyOne P xs
 one_time P [] h = let z : 1 ≡ 0 = h in absurd (omega arith)
 one_time P (x ∷ xs) (inl t) = let z : 1 ≡ suc t.1 = t.2 in let m : t.1 ≡ 0 = omega arith in
     inl (t.0, none_times P xs (subst (λ w. HoldsTimes P xs w) m t.3))
 one_time P (x ∷ xs) (inr t) = inr (t.0, one_time P xs t.1)
 
+-- what holds of exactly one holds once
 time_one : {A : Type 0} (P : A → Type 0) (xs : List A) (n : ℕ) → ExactlyOne P xs → HoldsTimes P xs n → n ≡ 1
 time_one P [] n o h = absurd o
 time_one P (x ∷ xs) n (inl o) (inl t) =
@@ -110,6 +115,7 @@ time_one P (x ∷ xs) n (inr o) (inr t) = time_one P xs n o.1 t.1
 pub bad_by_count : (n m count : ℕ) → HoldsTimes (Has m) (range_with_len 0 n) count → count ≢ 1 → IsBad n m
 bad_by_count n m count h other o = other (time_one (Has m) (range_with_len 0 n) count o h)
 
+-- a mask in which one source was counted isn't bad
 pub good_by_count : (n m count : ℕ) → HoldsTimes (Has m) (range_with_len 0 n) count → count ≡ 1 → IsBad n m → ⊥
 good_by_count n m count h e bad = bad (one_time (Has m) (range_with_len 0 n)
     (subst (λ w. HoldsTimes (Has m) (range_with_len 0 n) w) e h))
@@ -119,12 +125,14 @@ pub counted_before : (m k count : ℕ) (rest : ℕ) → bit_at m k ≡ 1 → Hol
     → HoldsTimes (Has m) (range_with_len k (suc rest)) (suc count)
 counted_before m k count rest e h = inl (e, count, refl, h)
 
+-- a source without its bit changes no count
 pub not_counted_before : (m k count : ℕ) (rest : ℕ) → bit_at m k ≢ 1
     → HoldsTimes (Has m) (range_with_len (k + 1) rest) count → HoldsTimes (Has m) (range_with_len k (suc rest)) count
 not_counted_before m k count rest e h = inr (e, h)
 
 -- ---- what masks can become
 
+-- masks met with the patterns of a set: what can be bad with the set is what can be so after it
 pub next_set : (n : ℕ) (sets : List (CatSet 4)) (masks met next : CatSet 4)
     → ((m : ℕ) → IsIn met m ↔ ((s p : ℕ) × IsIn masks s × IsIn next p × (m ≡ bit_and s p)))
     → OneCanBeBad n sets met ↔ OneCanBeBad n (next ∷ sets) masks
@@ -137,6 +145,7 @@ next_set n sets masks met next h = (
   ),
 )
 
+-- before any set there is one mask alone
 pub first_mask : (n a : ℕ) (sets : List (CatSet 4)) (none one : CatSet 4) → a < 256
     → members none ≡ set.empty → members one ≡ set.insert (members none) a
     → OneCanBeBad n sets one ↔ CanBeBad n sets a
@@ -255,6 +264,7 @@ found_bad r n mask sets first last a b t =
     let c = subst (λ w. OneCanBeBad n w first ↔ OneCanBeBad n [] last) (append-nil sets) b in
     (λ h. a.0 (c.1 (t.0 h)), λ h. t.1 (c.0 (a.1 h)))
 
+-- what was found of the masks so far is the answer for a set between others
 pub found_bad_with : (r : Bool) (n a : ℕ) → a ≡ all_of n → (done rest : List (CatSet 4)) (first before set between last : CatSet 4)
     → OneCanBeBad n (done ++ set ∷ rest) first ↔ CanBeBad n (done ++ set ∷ rest) a
     → OneCanBeBad n (done ++ set ∷ rest) first ↔ OneCanBeBad n (set ∷ rest) before
@@ -292,6 +302,7 @@ abbrev pub ArePossible : (n mask : ℕ) (patterns : CatSet 4) (rest : List (CatS
 ArePossible n mask patterns rest p found = (q : ℕ)
     → IsIn found q ↔ ((q < p) × IsIn patterns q × CanBeBad n rest (bit_and mask q))
 
+-- a pattern with which the mask can become bad is put into the set
 pub possible_with : (n mask : ℕ) (patterns : CatSet 4) (rest : List (CatSet 4)) (p : ℕ) (found next : CatSet 4)
     → IsIn patterns p → CanBeBad n rest (bit_and mask p) → members next ≡ set.insert (members found) p
     → ArePossible n mask patterns rest p found → ArePossible n mask patterns rest (p + 1) next
@@ -307,6 +318,7 @@ possible_with n mask patterns rest p found next i b e a q = let w = in_with foun
   λ t. (w q).1 (elim (below_next q p t.0) [ inl l ↦ inr ((a q).1 (l, t.1, t.2)) | inr r ↦ inl r ]),
 )
 
+-- any other is left out
 pub possible_without : (n mask : ℕ) (patterns : CatSet 4) (rest : List (CatSet 4)) (p : ℕ) (found : CatSet 4)
     → (IsIn patterns p → CanBeBad n rest (bit_and mask p) → ⊥) → ArePossible n mask patterns rest p found
     → ArePossible n mask patterns rest (p + 1) found

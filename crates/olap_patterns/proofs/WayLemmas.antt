@@ -11,6 +11,7 @@ use Rattle.olap_patterns.specs.Masks.{Has, IsIn}
 use Rattle.olap_patterns.specs.Ways.{HasWays, HasWaysIn, HasWaysTo, IsAboutWays, IsInside, IsOutside, way_of}
 use Rattle.olap_patterns.proofs.MaskLemmas.{below_next}
 
+-- two empty lists together are empty
 nothing_joined : {A : Type 0} (xs ys : List A) → xs ≡ [] → ys ≡ [] → xs ++ ys ≡ []
 nothing_joined xs ys e f = (λ i. e i ++ f i)
 

@@ -14,9 +14,11 @@ AreOf [] [] = Unit {0}
 AreOf (d ∷ ds) (f ∷ fs) = Contains d f × AreOf ds fs
 AreOf _ _ = ⊥
 
+-- the set of patterns of each family
 abbrev pub patterns_of : List Family → List (CatSet 4)
 patterns_of families = map (λ f. f.patterns) families
 
+-- the bottom category of each family
 abbrev pub bottoms_of : List Family → List ℕ
 bottoms_of families = map (λ f. f.bottom.0) families
 
@@ -28,7 +30,8 @@ IsOrdered families = AllPairs (λ f h. f.bottom.0 < h.bottom.0) families
 abbrev pub AreBad : ℕ → List Family → Type 0
 AreBad n families = CanBeBad n (patterns_of families) (all_of n)
 
--- a family of each dimension, with which all sources can become bad, and none such comes before by its bottom categories
+-- a family of each dimension, with which all sources can become bad, and none such comes before by its bottom
+-- categories
 pub record AreFirst (n : ℕ) (dimensions : List (List Family)) (first : List Family) : Type 0 where
   pub are_of : AreOf dimensions first
   pub are_bad : AreBad n first

@@ -109,8 +109,8 @@ fn meet_all(masks: Patterns, sets: &[Patterns]) -> Patterns
     met
 }
 
-/// Whether the mask can become bad: whether there is a pattern in each set so that not exactly one of the mask's sources
-/// is in all of them.
+/// Whether the mask can become bad: whether there is a pattern in each set so that not exactly one of the mask's
+/// sources is in all of them.
 pub fn can_be_bad(mask: u16, sets: &[Patterns], sources: usize) -> bool
     requires few { sources ≤ most_views }
     requires mask { mask < 256 }

@@ -23,6 +23,7 @@ use Rattle.olap_plain.specs.Plain.{instance_of, member_of, fact_of, facts_of, ex
 use Rattle.olap_plain.specs.declared.viewing.PlainRow.{PlainRow}
 use Rattle.olap_plain.specs.declared.viewing.PlainMember.{PlainMember}
 
+-- the test of a member's list of parents
 pub below_is : (ms : List PlainMember) (x y : ℕ) (m : PlainMember) (ps : List ℕ) (r : Bool) → x < length ms
     → m ≡ get_or ms x m → ps ≡ m.parents.items → IsAnyAnswer (λ z b. eqb z y ≡ b) ps r
     → IsTrue r ↔ IsBelow (instance_of ms) x y
@@ -49,9 +50,11 @@ module _ (R : ℕ → ℕ → Type 0) (k x y : ℕ) where
   unfolding Through
   from_suc m e s = subst (λ n. Through R n x y) e s
 
+-- a test that is false refutes what it tests
 pub refuted : {P : Type 0} (r : Bool) → r ≡ false → IsTrue r ↔ P → P → ⊥
 refuted r e d p = let z : false ≡ true = sym e ∙ d.1 p in cc
 
+-- a chain through members of the instance is a chain
 pub reaches_by_through : (i : Instance) (n : ℕ) (x y : ℕ) (r : Bool) → n ≡ length i
     → IsTrue r ↔ Through (IsBelow i) n x y → IsTrue r ↔ Reaches i x y
 reaches_by_through i n x y r e d = (
@@ -66,10 +69,12 @@ reaches_by_through i n x y r e d = (
 abbrev value_row : ℕ → List ℤ → Option Row
 value_row y vs = row_at y (total (map of_value vs))
 
+-- a map over two lists
 map-append : {A B : Type 0} (f : A → B) (xs ys : List A) → map f (xs ++ ys) ≡ map f xs ++ map f ys
 map-append f [] ys = refl
 map-append f (x ∷ xs) ys = ap (λ t. f x ∷ t) (map-append f xs ys)
 
+-- one value more extends the row
 direct_row_push : (y : ℕ) (vs : List ℤ) (v : ℤ) → value_row y (vs ++ v ∷ []) ≡ Some (extended y (value_row y vs) v)
 direct_row_push y vs v =
     ap (row_at y) (ap total (map-append of_value vs (v ∷ [])) ∙ total_push (map of_value vs) (of_value v))
@@ -79,6 +84,7 @@ direct_row_push y vs v =
     go None = refl
     go (Some s) = refl
 
+-- one fact more has its value in the row if its member reaches it
 values_push : (i : Instance) (fs : List Fact) (f : Fact) (y : ℕ)
     → values_at i (fs ++ f ∷ []) y ≡ values_at i fs y ++ cond (reaches i f.member y) (f.value ∷ []) []
 values_push i fs f y = ap (map (λ (g : Fact). g.value)) (filter-append (λ g. reaches i g.member y) fs (f ∷ []))
@@ -95,6 +101,7 @@ abbrev pub row_after : ℕ → Bool → Option Row → ℤ → Option Row
 row_after y true o v = Some (extended y o v)
 row_after y false o v = o
 
+-- what one fact more changes in the row of a member
 pub row_step : (i : Instance) (facts : List PlainFact) (k y : ℕ) (d : PlainFact) → k < length facts
     → row_at y (total_of_facts i (facts_of (take (k + 1) facts)) y)
     ≡ row_after y (reaches i (get_or facts k d).member y) (row_at y (total_of_facts i (facts_of (take k facts)) y))
@@ -110,9 +117,11 @@ row_step i facts k y d h = ap (λ fs. row_at y (total_of_facts i (facts_of fs) y
     go true = direct_row_push y (values_at i (facts_of (take k facts)) y) (get_or facts k d).value
     go false = ap (value_row y) (append-nil (values_at i (facts_of (take k facts)) y))
 
+-- a test by its answer
 pub test_of : (i : Instance) (x y : ℕ) (r b : Bool) → IsTrue r ↔ Reaches i x y → r ≡ b → reaches i x y ≡ b
 test_of i x y r b d e = one_answer (reaches i x y) r (reaches_is i x y) d ∙ e
 
+-- one value more raises the count by one
 pub count_step : (y : ℕ) (o : Option PlainRow) (v : ℤ) (r : PlainRow) (n : ℕ)
     → IfSome o (λ q. (q.count ≤ n) × IsBounded q.sum q.count) → row_of r ≡ extended y (as_row o) v → r.count ≤ n + 1
 count_step y None v r n h e = let c : r.count ≡ 1 = ap (λ q. q.summary.count) e in omega arith
@@ -120,12 +129,14 @@ count_step y (Some q) v r n h e = let c : r.count ≡ q.count + 1 = ap (λ q. q.
 
 -- ---- one more member
 
+-- one number more at the end
 range_more : (a n : ℕ) → range_with_len a (suc n) ≡ range_with_len a n ++ (a + n) ∷ []
 range_more a zero = let e : a ≡ a + 0 = omega arith in ap (λ k. k ∷ []) e
 range_more a (suc n) =
     let e : (a + 1) + n ≡ a + suc n = omega arith in
     ap (λ t. a ∷ t) (range_more (a + 1) n ∙ ap (λ k. range_with_len (a + 1) n ++ k ∷ []) e)
 
+-- what is kept of two lists
 filter_map-append : {A B : Type 0} (h : A → Option B) (xs ys : List A)
     → filter_map h (xs ++ ys) ≡ filter_map h xs ++ filter_map h ys
 filter_map-append h [] ys = refl
@@ -142,6 +153,7 @@ rows_after rows false o = rows
 rows_after rows true None = rows
 rows_after rows true (Some r) = rows ++ r ∷ []
 
+-- what one member more changes in the rows
 pub rows_step : (h : ℕ → Option Row) (p : ℕ → Bool) (y : ℕ) (b : Bool) (o : Option Row) (rows : List Row)
     → rows ≡ filter_map h (filter p (range_with_len 0 y)) → p y ≡ b → o ≡ h y
     → rows_after rows b o ≡ filter_map h (filter p (range_with_len 0 (y + 1)))
@@ -160,16 +172,20 @@ rows_step h p y b o rows e t q =
     go true None t q = rw (t, ← q) (sym (append-nil rows))
     go true (Some r) t q = rw (t, ← q) refl
 
+-- the category of a plain member
 pub category_is : (ms : List PlainMember) (y : ℕ) (d : PlainMember) → y < length ms
     → category_of (instance_of ms) y ≡ (get_or ms y d).category
 category_is ms y d h = ap (λ k. k.category) (get_or-map member_of ms y d nobody h)
 
+-- a test of numbers that are equal
 pub passes : (a b c : ℕ) → a ≡ b → b ≡ c → (a == c) ≡ true
 passes a b c e f = grind (arith, nat_tests)
 
+-- a test of numbers that aren't
 pub fails : (a b c : ℕ) → a ≡ b → (b ≡ c → ⊥) → (a == c) ≡ false
 fails a b c e f = grind (arith, nat_tests)
 
+-- no plain row is no row
 pub none_of : (o : Option PlainRow) → ((r : PlainRow) → o ≡ Some r → ⊥) → as_row o ≡ None
 none_of None f = refl
 none_of (Some r) f = absurd (f r refl)

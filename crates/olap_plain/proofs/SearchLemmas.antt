@@ -23,6 +23,7 @@ use Rattle.olap_plain.specs.Searching.{AreFirstNames, NoneWith, code_of}
 
 -- ---- names
 
+-- an index is one of the category's names
 limit_small : (texts : List (List (List ℕ))) (marks : List Bool) (c : ℕ)
     → limit texts marks c ≤ length (get_or texts c [])
 limit_small texts marks zero = omega arith
@@ -32,14 +33,17 @@ limit_small texts marks (suc c) = go (get_or marks (suc c) false)
     go true = omega arith
     go false = omega arith
 
+-- an absent category has the index 0 alone
 limit_absent : (texts : List (List (List ℕ))) (marks : List Bool) (c : ℕ) → get_or marks c false ≡ false
     → limit texts marks c ≡ 0
 limit_absent texts marks zero e = refl
 limit_absent texts marks (suc c) e = ap (λ b. cond b (length (get_or texts (suc c) [])) 0) e
 
+-- a mark says whether the set has the number
 mark_at : (s : finite.FinSet nat_cmp) (n c : ℕ) → c < n → get_or (marks_of s n) c false ≡ finite.contains s c
 mark_at s n c h = get_or-map-range_with_len (finite.contains s) 0 n c c false h (omega arith)
 
+-- with 0 in front, names come no later without it
 zero_names : (xs ys : List ℕ) → slice_index xs 0 ≤ 0 → IsNotAfter xs (0 ∷ ys) → IsNotAfter (of_declared xs) ys
 zero_names [] ys z n = tt
 zero_names (x ∷ xs) ys z (inl l) = absurd (omega arith)
@@ -189,39 +193,48 @@ module _ {W : ℕ} (g : Graph) (cs : List Constraint) (q : Formula) (k : Named) 
 
 -- ---- edges as codes
 
+-- the code of an edge is 1 if it is chosen, else 0
 code_at : (bits : List Bool) (e : ℕ) → e < length bits → get_or (code_of bits) e 0 ≡ cond (get_or bits e false) 1 0
 code_at bits e h = get_or-map (λ b. cond b 1 0) bits e false 0 h
 
+-- a number for each edge
 length-code : (bits : List Bool) → length (code_of bits) ≡ length bits
 length-code bits = length-map bits (λ b. cond b 1 0)
 
+-- a bit is at most 1
 within_one : (b : Bool) → cond b 1 0 ≤ 1
 within_one true = omega arith
 within_one false = omega arith
 
+-- the code of edges is an assignment with the limit 1
 pub code_assigned : (bits : List Bool) → IsAssignment (λ c. 1) (length bits) (code_of bits)
 code_assigned bits = record {
   count = length-code bits;
   within = λ c h. let e = code_at bits c h in let w = within_one (get_or bits c false) in omega (arith, e, w);
 }
 
+-- a truth value as a number
 abbrev bit : Bool → ℕ
 bit b = cond b 1 0
 
+-- equal numbers, equal values
 same_bit : (x y : Bool) → bit x ≡ bit y → x ≡ y
 same_bit true true h = refl
 same_bit true false h = absurd (omega arith)
 same_bit false true h = absurd (omega arith)
 same_bit false false h = refl
 
+-- the first number of a list, or 0
 head_of : List ℕ → ℕ
 head_of [] = 0
 head_of (z ∷ zs) = z
 
+-- the numbers after the first
 tail_of : List ℕ → List ℕ
 tail_of [] = []
 tail_of (z ∷ zs) = zs
 
+-- edges with one code are the same
 pub code_injective : (xs ys : List Bool) → code_of xs ≡ code_of ys → xs ≡ ys
 unfolding head_of tail_of
 code_injective [] [] e = refl
@@ -232,11 +245,13 @@ code_injective (x ∷ xs) (y ∷ ys) e =
     let t = code_injective xs ys (ap tail_of e) in
     let b = same_bit x y h in cc
 
+-- an edge that isn't chosen may grow
 pub open_at : (bits : List Bool) (e : ℕ) → e < length bits → get_or bits e false ≡ false
     → slice_index (code_of bits) e < 1
 open_at bits e h f = let c = code_at bits e h in let z : bit (get_or bits e false) ≡ bit false = ap bit f in
     omega (arith, c, z)
 
+-- one that is chosen may not
 pub full_at : (bits : List Bool) (e : ℕ) → e < length bits → get_or bits e false ≡ true
     → slice_index (code_of bits) e < 1 → ⊥
 full_at bits e h f l =
@@ -332,23 +347,27 @@ module _ (s : Schema) (q : Formula) (r : ℕ) (k : Candidates) where
         ];
   }
 
+-- with each next choice fewer are left
 pub edges_fall : (old new : List Bool) → IsNext (λ c. 1) (length old) (code_of old) (code_of new)
     → left (λ c. 1) (code_of new) < left (λ c. 1) (code_of old)
 edges_fall old new x = left_falls (λ c. 1) (code_of old) (code_of new) (length-code old ∙ sym x.is_one.count)
     (λ c h. x.is_one.within c (let e = x.is_one.count in omega arith)) x.after
 
+-- the next choice has as many edges
 pub length_next : (old new : List Bool) → IsNext (λ c. 1) (length old) (code_of old) (code_of new)
     → length new ≡ length old
 length_next old new x = sym (length-code new) ∙ x.is_one.count
 
 -- ---- lists that are written over
 
+-- one entry more of a list that is copied
 pub put_more : {A : Type 0} (xs ys : List A) (i : ℕ) (x d : A) → length xs ≡ length ys → i < length ys
     → x ≡ get_or ys i d → take i xs ≡ take i ys → take (i + 1) (set xs i x) ≡ take (i + 1) ys
 put_more xs ys i x d l h e t =
     take_more_set xs i x (omega arith) ∙ ap (λ z. z ++ x ∷ []) t ∙ ap (λ z. take i ys ++ z ∷ []) e
     ∙ sym (take_more ys i d h)
 
+-- all entries: the copy is the list
 pub put_all : {A : Type 0} (xs ys : List A) (i : ℕ) → length xs ≡ length ys → length ys ≤ i → take i xs ≡ take i ys
     → xs ≡ ys
 put_all xs ys i l h t = sym (take_all i xs (omega arith)) ∙ t ∙ take_all i ys h

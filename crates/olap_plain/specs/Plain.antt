@@ -1,4 +1,9 @@
 -- The definitions' values behind the plain structs.
+--     member_of, instance_of     plain members
+--     fact_of, facts_of          plain facts
+--     row_of, rows_of, as_row    plain rows
+--     IsBounded                  a sum that fits
+--     extended                   a row with one more value
 use Rattle.std.specs.Prelude.{ℕ, ◌*◌, ◌^◌, List, map, ℤ, pos, neg_ℤ, ◌≤ℤ◌, Option, Some, None}
 use Rattle.olap_base.specs.Instance.{Instance, Member}
 use Rattle.olap_base.specs.Summaries.{joined, of_value}
@@ -7,27 +12,34 @@ use Rattle.olap_plain.specs.declared.viewing.PlainMember.{PlainMember}
 use Rattle.olap_plain.specs.declared.viewing.PlainFact.{PlainFact}
 use Rattle.olap_plain.specs.declared.viewing.PlainRow.{PlainRow}
 
+-- the member of a plain one
 abbrev pub member_of : PlainMember → Member
 member_of m = record { id = m.id.items; category = m.category; name = m.name.items; parents = m.parents.items }
 
+-- the instance of plain members
 abbrev pub instance_of : List PlainMember → Instance
 instance_of ms = map member_of ms
 
+-- the fact of a plain one
 abbrev pub fact_of : PlainFact → Fact
 fact_of f = record { member = f.member; value = f.value }
 
+-- the facts of plain ones
 abbrev pub facts_of : List PlainFact → List Fact
 facts_of fs = map fact_of fs
 
+-- the row of a plain one
 abbrev pub row_of : PlainRow → Row
 row_of r = record {
   member = r.member;
   summary = record { count = r.count; sum = r.sum; least = r.least; greatest = r.greatest };
 }
 
+-- the rows of plain ones
 abbrev pub rows_of : List PlainRow → List Row
 rows_of rs = map row_of rs
 
+-- the row of a plain one, if there is one
 abbrev pub as_row : Option PlainRow → Option Row
 as_row None = None
 as_row (Some r) = Some (row_of r)

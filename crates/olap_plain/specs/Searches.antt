@@ -1,4 +1,4 @@
--- What a search keeps.
+-- The inside of a search.
 use Rattle.std.specs.Prelude.{◌≡◌, ℕ, List, length}
 use Rattle.olap_ast.specs.Formula.{Formula}
 use Rattle.olap_ast.specs.Schema.{Constraint}

@@ -1,4 +1,4 @@
--- What a search through edges and names finds.
+-- The loops over edges and names, and what they have found.
 --     AreFirstNames    with these edges, the names are the first that give a frozen dimension
 --     NoneWith         no frozen dimension has these edges
 use Rattle.std.specs.Prelude.{◌≡◌, ℕ, List, Bool, map, if◌then◌else◌}

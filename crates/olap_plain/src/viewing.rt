@@ -10,26 +10,37 @@ use std::alloc::{AllocError, Global};
 /// A member: its category is 0 for `All`, and its parents are places in the list of members.
 #[derive(Drop)]
 pub struct PlainMember {
+    /// Its id.
     pub id: Vec<u8>,
+    /// Its category.
     pub category: u16,
+    /// Its name.
     pub name: Vec<u8>,
+    /// Its parents.
     pub parents: Vec<u32>,
 }
 
 /// A value at a member, which is a place in the list of members.
 #[derive(Clone, Copy)]
 pub struct PlainFact {
+    /// The member.
     pub member: u32,
+    /// The value.
     pub value: i64,
 }
 
 /// A row of a view: how many facts there are below a member, and their sum, least and greatest.
 #[derive(Clone, Copy)]
 pub struct PlainRow {
+    /// The member.
     pub member: u32,
+    /// How many facts there are below it.
     pub count: u64,
+    /// The sum of their values.
     pub sum: i128,
+    /// The least value.
     pub least: i64,
+    /// The greatest value.
     pub greatest: i64,
 }
 

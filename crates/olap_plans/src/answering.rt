@@ -20,7 +20,7 @@ use olap_nav::{PlanRefusal, print_plan};
 use olap_order::{Reply, Stop, category_at, refuse, schema_in, yes};
 use olap_reading::{legal_in, store_in};
 use olap_schema::Schema;
-use olap_view::{Store, View, print_view};
+use olap_view::{Store, View, print_view_behind};
 use std::alloc::Global;
 
 /// The line of a plan, and the view that it gives.
@@ -38,10 +38,8 @@ fn shown(
     ensures { IfOk result (λ text. text.items ≡ plan_text graph.now (sources_in (views_of store.now) mask)
         ++ view_text legal.now (view_of view.now)) }
 {
-    let mut text = print_plan(alloc, graph, store, mask)?.into_bytes();
-    let lines = print_view(alloc, legal.instance(), view)?;
-    text.extend_from_slice(lines.bytes())?;
-    Ok(text)
+    let line = print_plan(alloc, graph, store, mask)?;
+    print_view_behind(line.into_bytes(), legal.instance(), view)
 }
 
 /// The view of the target from the stored views, where there is a plan.

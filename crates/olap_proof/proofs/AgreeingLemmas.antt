@@ -64,6 +64,7 @@ pub wider : {R S : ℕ → ℕ → Type 0} → ((x y : ℕ) → R x y → S x y)
 wider f here = here
 wider f (step {x = c} {y = z} r s) = step (f c z r) (wider f s)
 
+-- a chain of one relation is one of a wider one
 pub wider_climb : {R S : ℕ → ℕ → Type 0} → ((x y : ℕ) → R x y → S x y) → {c d : ℕ} → Climb R c d → Climb S c d
 wider_climb f {c} (climb {z = z} r s) = climb (f c z r) (wider f s)
 
@@ -82,9 +83,11 @@ pub record Like (s : Schema) (k : Candidates) (f : Frozen) (ds : List Decision) 
       → (d.edge < length s.graph.edges) × (get_or f.edges d.edge false ≡ d.present)
   pub names : (n : Naming) → Contains ns n → name_in k f n.category ≡ name_at k n.category n.index
 
+-- the edges that a frozen dimension has
 abbrev pub edges_in : Schema → Frozen → List Edge
 edges_in s f = chosen s.graph.edges f.edges
 
+-- whether it has a member of the category
 abbrev pub is_there : Schema → ℕ → Frozen → ℕ → Bool
 is_there s r f c = is_present r (chosen s.graph.edges f.edges) c
 

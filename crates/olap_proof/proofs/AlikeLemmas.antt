@@ -37,6 +37,7 @@ alike s q k h a b = record { names = names; counts = λ c. ap length (same_texts
         let t = same_texts s q k h a b c in
         λ j. text_of_index (u j) (t j) i
 
+-- candidates are alike either way
 alike_back : (k h : Candidates) → Alike k h → Alike h k
 alike_back k h a = record { names = λ c i. sym (a.names c i); counts = λ c. sym (a.counts c) }
 
@@ -103,10 +104,12 @@ module _ (f : Form) (k h : Candidates) (a : Alike k h) where
 
 -- ---- texts
 
+-- a text is a certificate for both
 pub text_alike : (f : Form) (s : Schema) (q : Formula) (k h : Candidates) (text : List ℕ) → Alike k h
     → IsCertificateText f s q k text → IsCertificateText f s q h text
 text_alike f s q k h text a t = (t.0, t.1, runs_alike f k h a s q t.2)
 
+-- and has the same first wrong line
 pub wrong_alike : (f : Form) (s : Schema) (q : Formula) (k h : Candidates) (text : List ℕ) (count : ℕ) → Alike k h
     → IsFirstWrong f s q k text count → IsFirstWrong f s q h text count
 wrong_alike f s q k h text count a w = record {

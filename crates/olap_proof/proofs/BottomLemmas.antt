@@ -30,22 +30,26 @@ has_no_child g c = not (list_any (λ (e : Edge). e.parent == c) g.edges)
 abbrev pub first_bottoms : Graph → ℕ → List ℕ
 first_bottoms g n = filter (has_no_child g) (range_with_len 1 n)
 
+-- one number more at the end
 range_more : (n b : ℕ) → 1 + n ≡ b → range_with_len 1 (n + 1) ≡ range_with_len 1 n ++ b ∷ []
 range_more n b e =
     sym (map-id (range_with_len 1 (n + 1))) ∙ map-range_with_len_more (λ x. x) 1 n b e
     ∙ ap (λ xs. xs ++ b ∷ []) (map-id (range_with_len 1 n))
 
+-- one category more, by whether it has a child
 more_or_same : (g : Graph) (n b : ℕ) (t : Bool) → 1 + n ≡ b → has_no_child g b ≡ t
     → first_bottoms g (n + 1) ≡ first_bottoms g n ++ cond t (b ∷ []) []
 more_or_same g n b t e h =
     ap (filter (has_no_child g)) (range_more n b e) ∙ filter-append (has_no_child g) (range_with_len 1 n) (b ∷ [])
     ∙ ap (λ t. first_bottoms g n ++ cond t (b ∷ []) []) h
 
+-- one that is a bottom category comes behind the others
 pub bottoms_more : (g : Graph) (n b : ℕ) → 1 + n ≡ b → IsBottom g b
     → first_bottoms g (n + 1) ≡ first_bottoms g n ++ b ∷ []
 bottoms_more g n b e h = more_or_same g n b true e
     (Contains-from_filter (has_no_child g) (range_with_len 1 (length g.names)) b (bottom_listed g b h)).1
 
+-- another changes nothing
 pub bottoms_same : (g : Graph) (n b : ℕ) → 1 + n ≡ b → IsDeclared g b → (IsBottom g b → ⊥)
     → first_bottoms g (n + 1) ≡ first_bottoms g n
 bottoms_same g n b e d h =

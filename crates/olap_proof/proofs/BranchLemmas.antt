@@ -53,6 +53,7 @@ legal_more g k p (y ∷ ys) x h i = (h.0, legal_more g k (chosen p y) ys x h.1 i
 
 -- ---- where nothing is decided
 
+-- what comes first stays so below a choice
 first_chosen : (p : Place) (x : Choice) → first_of (chosen p x) ≡ first_of p
 first_chosen p (Edge e b) = refl
 first_chosen p (Name c i) = refl
@@ -72,6 +73,7 @@ pub record IsBack (g : Graph) (k : Named) (p r : Place) (xs : List Choice) (x : 
   pub legal : IsLegal g k r x
   pub there : r ≡ led (first_of p) xs
 
+-- a branch without its last choice
 branch_back : (g : Graph) (k : Named) (p r : Place) (xs : List Choice) (x : Choice)
     → IsBranch g k p (xs ++ x ∷ []) → r ≡ led (first_of p) xs → IsBack g k p r xs x
 branch_back g k p r xs x h e =

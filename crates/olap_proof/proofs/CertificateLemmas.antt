@@ -46,9 +46,11 @@ IsRefuted s q k (At p) = p.decided.graph ≡ s.graph → IsCategory s.graph p.de
 
 -- ---- one decision more
 
+-- any frozen dimension agrees with no decision
 pub like_none : (s : Schema) (k : Candidates) (f : Frozen) → Like s k f [] []
 like_none s k f = record { edges = λ d c. absurd (Contains-nil d c); names = λ n c. absurd (Contains-nil n c) }
 
+-- and with one more on an edge, which it has or hasn't so
 pub like_edge : (s : Schema) (k : Candidates) (f : Frozen) (ds : List Decision) (ns : List Naming) (e : ℕ) (b : Bool)
     → e < length s.graph.edges → get_or f.edges e false ≡ b → Like s k f ds ns
     → Like s k f (ds ++ (record { edge = e; present = b }) ∷ []) ns
@@ -66,6 +68,7 @@ like_edge s k f ds ns e b h i l =
       names = l.names;
     }
 
+-- and with one more on a name
 pub like_name : (s : Schema) (k : Candidates) (f : Frozen) (ds : List Decision) (ns : List Naming) (c i : ℕ)
     → name_in k f c ≡ name_at k c i → Like s k f ds ns
     → Like s k f ds (ns ++ (record { category = c; index = i }) ∷ [])
@@ -82,6 +85,7 @@ like_name s k f ds ns c i h l =
       ];
     }
 
+-- and with one more on a way
 pub like_way : (s : Schema) (k : Candidates) (f : Frozen) (r : ℕ) (ds : List Decision) (ns : List Naming) (ws : List Way)
     (a b : ℕ) (t : Bool) → IsSo s r f t a b → LikeToo s r k f ds ns ws
     → LikeToo s r k f ds ns (ws ++ (record { child = a; parent = b; there = t }) ∷ [])
@@ -214,6 +218,7 @@ bottom_listed g b h =
         absurd (h.1 w.0.child (subst (λ d. Contains g.edges (record { child = w.0.child; parent = d }))
         (same_is w.0.parent b w.2) w.1))
 
+-- the theorem: what is open at the start is refuted
 pub certificates_are_right : CertificatesAreRight
 certificates_are_right form s c sources k lines hier are run =
     (summarizable_exactly s c sources k hier are).1

@@ -45,10 +45,12 @@ dec_not (no n) = yes n
 dec_three : {A B C : Type 0} → Dec A → Dec B → Dec C → Dec (A × B × C)
 dec_three a b c = dec_iff (λ t. (t.0, t.1.0, t.1.1)) (λ t. (t.0, (t.1, t.2))) (dec_and a (dec_and b c))
 
+-- whether a test is true can be decided
 dec_true : (b : Bool) → Dec (IsTrue b)
 dec_true true = yes refl
 dec_true false = no (λ e. cc)
 
+-- and what was decided of an edge
 dec_status : (o : Option Bool) (b : Bool) → Dec (o ≡ Some b)
 dec_status None b = no (λ e. cc)
 dec_status (Some true) true = yes refl
@@ -56,6 +58,7 @@ dec_status (Some true) false = no (λ e. cc)
 dec_status (Some false) true = no (λ e. cc)
 dec_status (Some false) false = yes refl
 
+-- and whether a value is known to be false
 dec_false : (v : Truth3) → Dec (v ≡ No)
 dec_false No = yes refl
 dec_false Yes = no (λ e. cc)
@@ -96,6 +99,7 @@ dec_climb g c d = dec_iff to from (search (λ (e : Edge). (e.child ≡ c) × Cat
     from : Climb (HasEdge g) c d → (e : Edge) × Contains g.edges e × ((e.child ≡ c) × CategoryReaches g e.parent d)
     from (climb {z = z} h w) = (record { child = c; parent = z }, h, (refl, reaches_from_Steps w))
 
+-- whether a graph holds a cycle can be decided
 pub dec_cycle : (g : Graph) → Dec (HoldsCycle g)
 dec_cycle g = dec_iff (λ w. (w.0.child, w.2)) (λ h. from h.0 h.1)
     (search (λ (e : Edge). Climb (HasEdge g) e.child e.child) (λ (e : Edge). dec_climb g e.child e.child) g.edges)
@@ -111,6 +115,7 @@ Passes g e f = (f.child ≡ e.child) × Climb (HasEdge g) f.parent e.parent
 abbrev IsPassed : Graph → Edge → Type 0
 IsPassed g e = (f : Edge) × Contains g.edges f × Passes g e f
 
+-- and whether it holds a shortcut
 pub dec_shortcut : (g : Graph) → Dec (HoldsShortcut g)
 dec_shortcut g = dec_iff to from (search (IsPassed g) (λ (e : Edge). search (Passes g e)
     (λ (f : Edge). dec_and (ℕ_discrete f.child e.child) (dec_climb g f.parent e.parent)) g.edges) g.edges)
@@ -134,10 +139,12 @@ dec_shortcut g = dec_iff to from (search (IsPassed g) (λ (e : Edge). search (Pa
 
 -- ---- lines
 
+-- whether `dead` closes a place can be decided
 dec_dead : (g : Graph) (p : Place) (c : ℕ) → Dec (IsDead g p c)
 dec_dead g p c = dec_three (dec_not (ℕ_discrete c 0)) (dec_true (is_known p c))
     (dec_all (λ e. status_of p.decided e ≡ Some false) (λ e. dec_status (status_of p.decided e) false) (edges_from g c))
 
+-- and whether `loose` does
 dec_loose : (g : Graph) (p : Place) (e : ℕ) → Dec (IsLoose g p e)
 dec_loose g p e = dec_three (dec_not (ℕ_discrete (edge_at g e).child p.decided.root))
     (dec_status (status_of p.decided e) true)
@@ -252,6 +259,7 @@ module _ (m : Form) (s : Schema) (q : Formula) (k : Candidates) (hier : IsHierar
           (λ x h i. c (x, Contains-range (category_count s.graph) x h, i))
           (λ e h i. d (e, Contains-range (length s.graph.edges) e h, i))
 
+-- the theorem: each reason can be tried in turn
 pub full_places_close : FullPlacesClose
 full_places_close m s q k p hier are full =
     subst (λ (x : Place). IsFull s.graph k x → ((l : Line) × IsAbout s l × Closes m s q k x l)

@@ -41,17 +41,21 @@ by_store x y = value_of_both ◌&&◌ x (value_of not (value_of_one (value_of_bo
 abbrev unless : Place → ℕ → Truth3
 unless p b = cond (category_reaches (possible_graph p.decided) 1 b) Unknown No
 
+-- the store's edge leads to the city
 city_from_store : (ws : List Way) → category_reaches (leading_graph (linked true ws)) 1 2 ≡ true
 city_from_store ws = (category_reaches_is (leading_graph (linked true ws)) 1 2).1
     (reaches_from_Steps (step (0, omega arith, refl) here))
 
+-- so the city has a member
 city_known : reached Long (linked true []) 1 2 ≡ Yes
 city_known = ap (λ x. cond x Yes (unless (linked true []) 2)) (city_from_store [])
 
+-- as the root has
 store_known : reached Long (linked true []) 1 1 ≡ Yes
 store_known = ap (λ x. cond x Yes (unless (linked true []) 1))
     ((category_reaches_is (leading_graph (linked true [])) 1 1).1 (inl refl))
 
+-- in the short form too
 store_passed : reached Short passed 1 1 ≡ Yes
 store_passed = ap (λ x. cond x Yes (unless passed 1)) ((category_reaches_is (leading_graph passed) 1 1).1 (inl refl))
 
@@ -66,6 +70,7 @@ module _ (k : Candidates) where
   steps_close : Closes Short chain city_not_by_store k (linked true (way false)) (Clash 1 2)
   steps_close = (refl, inr (refl, city_from_store (way false)))
 
+-- the lines close each case, one after the other
 pub chain_is_certified : ChainIsCertified
 chain_is_certified k = more begins (more (roots {b = 1}) (more (edges {e = 0} (omega arith) refl)
     (more (closes (Dead 1) (omega arith) (
@@ -76,6 +81,7 @@ chain_is_certified k = more begins (more (roots {b = 1}) (more (edges {e = 0} (o
     ))
     (more (closes Asked tt (question_closes k)) none))))
 
+-- and so do those of the short form
 pub chain_is_shortly_certified : ChainIsShortlyCertified
 chain_is_shortly_certified k = more begins (more (roots {b = 1})
     (more (ways {a = 1} {b = 2} refl (omega arith) (omega arith) refl) (more (edges {e = 0} (omega arith) refl)

@@ -89,6 +89,7 @@ abbrev pub bit_of : Option Bool → Bool
 bit_of None = false
 bit_of (Some b) = b
 
+-- the edges that were decided present, as bits
 abbrev pub bits_of : Graph → List Decision → List Bool
 bits_of g ds = map (λ e. bit_of (status_in ds e)) (range_with_len 0 (length g.edges))
 
@@ -96,6 +97,7 @@ bits_of g ds = map (λ e. bit_of (status_in ds e)) (range_with_len 0 (length g.e
 abbrev pub edges_chosen : Graph → List Decision → List Edge
 edges_chosen g ds = chosen g.edges (bits_of g ds)
 
+-- the index that was decided, or that of the first name
 abbrev pub index_or : Option ℕ → ℕ
 index_or None = 0
 index_or (Some i) = i

@@ -30,12 +30,15 @@ use Rattle.olap_proof.specs.Places.{Way, way_of}
 abbrev is_on : Way → ℕ → ℕ → Bool
 is_on w a b = (w.child == a) && (w.parent == b)
 
+-- a decision is on the way if the test says so
 on_is : (c d a b : ℕ) → (c == a) && (d == b) ≡ true → (c ≡ a) × (d ≡ b)
 on_is c d a b h = (same_is c a (first_true (c == a) (d == b) h), same_is d b (second_true (c == a) (d == b) h))
 
+-- and the other way
 is_on_it : (c d a b : ℕ) → c ≡ a → d ≡ b → (c == a) && (d == b) ≡ true
 is_on_it c d a b e f = both_true (c == a) (d == b) (is_same c a e) (is_same d b f)
 
+-- it isn't, where the first category is another
 is_off : (c d a b : ℕ) → c ≢ a → (c == a) && (d == b) ≡ false
 is_off c d a b n = go ((c == a) && (d == b)) refl
   where
@@ -43,6 +46,7 @@ is_off c d a b n = go ((c == a) && (d == b)) refl
     go true e = absurd (n (on_is c d a b e).0)
     go false e = e
 
+-- the test reads alike from the other side
 back : (c d a b : ℕ) → (c == a) && (d == b) ≡ false → (a == c) && (b == d) ≡ false
 back c d a b h = go ((a == c) && (b == d)) refl
   where
@@ -57,10 +61,12 @@ abbrev first_said : Option Bool → Option Bool → Option Bool
 first_said None later = later
 first_said (Some t) later = Some t
 
+-- with nothing said later what was said stays
 first_none : (o : Option Bool) → first_said o None ≡ o
 first_none None = refl
 first_none (Some t) = refl
 
+-- what is said of a way by decisions is said by the first of them
 way_of-append : (ws vs : List Way) (a b : ℕ) → way_of (ws ++ vs) a b ≡ first_said (way_of ws a b) (way_of vs a b)
 way_of-append [] vs a b = refl
 way_of-append (w ∷ ws) vs a b = go (is_on w a b) (way_of-append ws vs a b)
@@ -81,9 +87,11 @@ none_first w ws a b h = go (is_on w a b) refl h
     go true e n = absurd (let z : Some w.there ≡ None = n in cc)
     go false e n = (e, n)
 
+-- a decision on another way says nothing of it
 passed : (w : Way) (ws : List Way) (a b : ℕ) → is_on w a b ≡ false → way_of (w ∷ ws) a b ≡ way_of ws a b
 passed w ws a b e = ap (λ t. if t then Some w.there else way_of ws a b) e
 
+-- one on it says what it is
 found : (w : Way) (ws : List Way) (a b : ℕ) → is_on w a b ≡ true → way_of (w ∷ ws) a b ≡ Some w.there
 found w ws a b e = ap (λ t. if t then Some w.there else way_of ws a b) e
 
@@ -135,9 +143,11 @@ way_once (v ∷ ws) w h m = elim (contains_cases w v ws m) [
         absurd (let z : None ≡ Some w.there = sym none ∙ rest in cc)
     go false e rest = passed v ws w.child w.parent e ∙ rest
 
+-- what an option has is one
 some_is : (s t : Bool) → Some s ≡ Some t → s ≡ t
 some_is s t h = cc
 
+-- a decision on the way from a to b
 abbrev decision : ℕ → ℕ → Bool → Way
 decision a b t = record { child = a; parent = b; there = t }
 
@@ -163,6 +173,7 @@ way_contained (w ∷ ws) a b t h = go (is_on w a b) refl h (way_contained ws a b
 
 -- ---- tables
 
+-- the test of a way, in the two orders of its parts
 flag : (k c d p : ℕ) → c ≡ k → eqb d p ≡ (k == c) && (p == d)
 flag k c d p same = same_truth (eqb d p) ((k == c) && (p == d))
     (λ h. is_on_it k p c d (sym same) (sym (same_is d p h))) (λ h. is_same d p (sym (on_is k p c d h).1))
@@ -212,6 +223,7 @@ said_there there absent new ws v said none t put c d =
         (ap (λ a. way_of ws a d) (sym same.0) ∙ ap (λ b. way_of ws v.child b) (sym same.1) ∙ none) ∙ ap Some t
     go false e x y h = first_none (way_of ws c d) ∙ h
 
+-- a way more that was decided absent
 said_absent : {W : ℕ} (there absent new : List (CatSet W)) (ws : List Way) (v : Way) → AreSaid there absent ws
     → way_of ws v.child v.parent ≡ None → v.there ≡ false → IsPut absent v.child v.parent new
     → AreSaid there new (ws ++ v ∷ [])
@@ -259,11 +271,13 @@ said_none there absent none less c d =
     ap (λ b. said_of b false) (sym (ap (λ s. contains s d) (none c) ∙ contains-empty nat_cmp d))
     ∙ ap (said_of (contains (row there c) d)) (sym (ap (λ s. contains s d) (less c) ∙ contains-empty nat_cmp d))
 
+-- a table of empty sets has empty sets
 row_none : {W : ℕ} (x : CatSet W) → members x ≡ empty → (m c : ℕ) → row (replicate m x) c ≡ empty
 row_none x e zero c = refl
 row_none x e (suc m) zero = e
 row_none x e (suc m) (suc c) = row_none x e m c
 
+-- and is the table of no decisions
 pub tables_none : {W : ℕ} (x : CatSet W) (there absent : List (CatSet W)) → members x ≡ empty
     → there ≡ replicate most_categories x → absent ≡ replicate most_categories x → AreTables there absent []
 tables_none x there absent e t u = record {
@@ -285,6 +299,7 @@ within_push ws v h c p w m = elim (Contains-push_cases ws v w m) [
   | inr e ↦ subst (λ (x : Way). (x.child < most_categories) × (x.parent < most_categories)) e (c, p)
 ]
 
+-- a decision more, that the way is there
 pub tables_there : {W : ℕ} (there absent new : List (CatSet W)) (ws : List Way) (v : Way) → AreTables there absent ws
     → v.child < most_categories → v.parent < most_categories → way_of ws v.child v.parent ≡ None → v.there ≡ true
     → length new ≡ length there → IsPut there v.child v.parent new → AreTables new absent (ws ++ v ∷ [])
@@ -296,6 +311,7 @@ tables_there there absent new ws v h c p none t size put = record {
   said = said_there there absent new ws v h.said none t put;
 }
 
+-- and that it isn't
 pub tables_absent : {W : ℕ} (there absent new : List (CatSet W)) (ws : List Way) (v : Way) → AreTables there absent ws
     → v.child < most_categories → v.parent < most_categories → way_of ws v.child v.parent ≡ None → v.there ≡ false
     → length new ≡ length absent → IsPut absent v.child v.parent new → AreTables there new (ws ++ v ∷ [])

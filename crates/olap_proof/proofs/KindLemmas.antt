@@ -10,12 +10,14 @@ use Rattle.olap_ast.specs.Formula.{Formula}
 use Rattle.olap_ast.specs.Frozen.{AreNamesOf, text_of_index}
 use Rattle.olap_ast.specs.Schema.{Schema}
 
+-- the text of an index is one of the names
 there : (first : List ℕ) (others : List (List ℕ)) (i : ℕ) → i ≤ length others
     → Contains (first ∷ others) (text_of_index first others i)
 there first others zero h = contains_head first others
 there first others (suc i) h = contains_cons (get_or others i first) others first
     (Contains-get_or others i first (omega arith))
 
+-- and so a name of the category's kind
 pub name_of_kind : (number : Bool) (s : Schema) (q : Formula) (d : ℕ) (first : List ℕ) (others : List (List ℕ)) (i : ℕ)
     → i ≤ length others → AreNamesOf number s q d first others → IsNameOf number s q d (text_of_index first others i)
 name_of_kind false s q d first others zero h a = inr a.0

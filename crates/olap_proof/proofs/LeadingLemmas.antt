@@ -30,6 +30,7 @@ use Rattle.olap_proof.proofs.StageLemmas.{bottom_runs, place_none, place_runs}
 
 -- ---- the line above a tree
 
+-- the word has no space
 no_space : Contains (codes "bottom") 32 → ⊥
 no_space c =
     let t = (list_any_is (λ b. b == 32) (codes "bottom")).1 (32, c, refl) in

@@ -44,6 +44,7 @@ unparted d bytes w v n e =
 
 -- ---- names
 
+-- letters and digits come after the mark
 small : (b d : ℕ) → d ≤ 47 → IsLetterOrDigit b → b ≡ d → ⊥
 small b d l h e = grind arith
 
@@ -55,6 +56,7 @@ plain (b ∷ rest) n d l c = elim (contains_cases d b rest c) [
   | inr m ↦ small (get_or rest m.0 d) d l (n.1 m.0 d m.1) m.2
 ]
 
+-- `All` has no byte so small
 plain_all : (d : ℕ) → d ≤ 47 → Contains (codes "All") d → ⊥
 plain_all d l c = elim (contains_cases d 65 (108 ∷ 108 ∷ []) c) [
   | inl same ↦ omega (arith, same)
@@ -67,6 +69,7 @@ plain_all d l c = elim (contains_cases d 65 (108 ∷ 108 ∷ []) c) [
   ]
 ]
 
+-- nor has any category's name
 pub name_plain : (g : Graph) → IsHierarchy g → (c : ℕ) → IsCategory g c → (d : ℕ) → d ≤ 47
     → Contains (name_of_category g c) d → ⊥
 name_plain g h zero i d l = plain_all d l
@@ -82,6 +85,7 @@ names_apart g h zero (suc d) b l e =
 names_apart g h (suc c) zero b l e = absurd (omega arith)
 names_apart g h (suc c) (suc d) b l e = h.names_differ c d [] (omega arith) (omega arith) e
 
+-- categories of one name are one
 pub names_differ : (g : Graph) → IsHierarchy g → (c d : ℕ) → IsCategory g c → IsCategory g d
     → name_of_category g c ≡ name_of_category g d → c ≡ d
 names_differ g h c d l m e = elim (ordered c d) [

@@ -10,6 +10,7 @@ use Rattle.olap_numerals.specs.Comparing.{Compares, Op, Op.AtMost, Op.Equal, Op.
 use Rattle.olap_numerals.specs.Numerals.{number_of}
 use Rattle.olap_proof.specs.Places.{compares, is_numbered, passes}
 
+-- of two numbers
 pub compares_is : (op : Op) (a b : ℤ) → (compares op a b ≡ true) ↔ Compares op a b
 compares_is Equal a b = Decides-int_eq a b
 compares_is Less a b = go (int_lt a b) refl
@@ -23,6 +24,7 @@ compares_is AtMost a b = go (int_lt b a) refl
     go true e = (λ t. absurd (let z : false ≡ true = t in cc), λ l. absurd (omega (arith, ints)))
     go false e = (λ t. omega (arith, ints), λ l. refl)
 
+-- of a text and a number
 pub numbered_is : (text : List ℕ) (op : Op) (n : ℤ) → (is_numbered text op n ≡ true) ↔ IsNumbered text op n
 numbered_is text op n = go (number_of text) refl
   where

@@ -23,6 +23,7 @@ data Args : Type 0 where
   Edged : (edge : ℕ) → Args
   Numbered : (place : ℕ) → Args
 
+-- what a line says behind its first word
 abbrev args_of : Line → Args
 args_of (EdgeOrNot e) = Edged e
 args_of (NameOf c) = Named c
@@ -44,6 +45,7 @@ rest_text g (Paired a b) = Some (way_words g a b)
 rest_text g (Edged e) = Some (edge_words g e)
 rest_text g (Numbered n) = Some (decimal (suc n))
 
+-- and how that is spelt
 rest_is : (g : Graph) (l : Line) → rest_text g (args_of l) ≡ rest_of g l
 rest_is g (EdgeOrNot e) = refl
 rest_is g (NameOf c) = refl
@@ -65,6 +67,7 @@ IsArg s (Paired a b) = IsCategory s.graph a × IsCategory s.graph b
 IsArg s (Edged e) = e < length s.graph.edges
 IsArg s (Numbered n) = n < length s.constraints
 
+-- a line about the schema says something of the schema
 about : (s : Schema) (l : Line) → IsAbout s l → IsArg s (args_of l)
 about s (EdgeOrNot e) a = a
 about s (NameOf c) a = a
@@ -86,6 +89,7 @@ sort_of (Paired a b) = 2
 sort_of (Edged e) = 1
 sort_of (Numbered n) = 3
 
+-- what sort of thing stands behind a word
 abbrev sort_behind : Word → ℕ
 sort_behind word.Edge = 1
 sort_behind word.Name = 1
@@ -98,6 +102,7 @@ sort_behind word.Steps = 2
 sort_behind word.Constraint = 3
 sort_behind word.Question = 0
 
+-- and it does
 sort_is : (l : Line) → sort_of (args_of l) ≡ sort_behind (first_of l)
 sort_is (EdgeOrNot e) = refl
 sort_is (NameOf c) = refl
@@ -113,6 +118,7 @@ sort_is Asked = refl
 
 -- ---- the line again
 
+-- the first number of what stands there
 abbrev first_arg : Args → ℕ
 first_arg Nothing = 0
 first_arg (Named c) = c
@@ -120,6 +126,7 @@ first_arg (Paired a b) = a
 first_arg (Edged e) = e
 first_arg (Numbered n) = n
 
+-- and the second
 abbrev second_arg : Args → ℕ
 second_arg Nothing = 0
 second_arg (Named c) = 0
@@ -127,6 +134,7 @@ second_arg (Paired a b) = b
 second_arg (Edged e) = 0
 second_arg (Numbered n) = 0
 
+-- the line that begins with `loose`
 abbrev loose_line : Args → Line
 loose_line Nothing = Asked
 loose_line (Named c) = Unreached c
@@ -134,6 +142,7 @@ loose_line (Paired a b) = Asked
 loose_line (Edged e) = Loose e
 loose_line (Numbered n) = Asked
 
+-- the line of a word and what stands behind it
 abbrev line_with : Word → Args → Line
 line_with word.Edge x = EdgeOrNot (first_arg x)
 line_with word.Name x = NameOf (first_arg x)
@@ -146,6 +155,7 @@ line_with word.Steps x = Clash (first_arg x) (second_arg x)
 line_with word.Constraint x = Unmet (first_arg x)
 line_with word.Question x = Asked
 
+-- each line is that of its word and what stands behind it
 again : (l : Line) → line_with (first_of l) (args_of l) ≡ l
 again (EdgeOrNot e) = refl
 again (NameOf c) = refl
@@ -197,9 +207,11 @@ edge_once g h e f l m q =
     ∙ ap (λ d. record { child = y.child; parent = d }) p.1 in
     edges_apart g h e f l m same
 
+-- what an option has is one
 some_is : {A : Type 0} (x y : A) → Some x ≡ Some y → x ≡ y
 some_is x y q = cc
 
+-- what is spelt alike is one
 args_once : (s : Schema) → IsHierarchy s.graph → length s.constraints < 2 ^ 64 → (x y : Args) → IsArg s x → IsArg s y
     → sort_of x ≡ sort_of y → rest_text s.graph x ≡ rest_text s.graph y → x ≡ y
 args_once s h few Nothing Nothing a b t q = refl

@@ -50,6 +50,7 @@ both_whole w v a b c = elim (Contains-append_cases w (32 ∷ v) 10 c) [
 
 -- ---- numbers
 
+-- digits have no LF
 digits_whole : (ds : List ℕ) → AllDigits 10 ds → IsWhole ds
 digits_whole [] a c = Contains-nil 10 c
 digits_whole (d ∷ ds) a c = elim (contains_cases 10 d ds c) [
@@ -60,6 +61,7 @@ digits_whole (d ∷ ds) a c = elim (contains_cases 10 d ds c) [
     none : (d : ℕ) → d ≡ 10 → digit_value d < 10 → ⊥
     none d e l = let r = digit_from_value d l in omega (arith, r.0, e)
 
+-- so numbers haven't
 number_whole : (n : ℕ) → n < 2 ^ 64 → IsWhole (decimal n)
 number_whole n l = digits_whole (decimal n) (decimal_is_IsNumeral n l).0.1
 
@@ -77,9 +79,11 @@ name_whole g h c = elim (within c (category_count g)) [
 
 -- ---- lines
 
+-- nor have names of two categories
 way_whole : (g : Graph) → IsHierarchy g → (a b : ℕ) → IsWhole (way_words g a b)
 way_whole g h a b = both_whole (name_of_category g a) (name_of_category g b) (name_whole g h a) (name_whole g h b)
 
+-- nor has a line about the schema
 pub line_whole : (s : Schema) → IsHierarchy s.graph → length s.constraints < 2 ^ 64 → (l : Line) → IsAbout s l
     → IsWhole (line_text s.graph l)
 line_whole s h few (EdgeOrNot e) a = both_whole (codes "edge") _ (computed (codes "edge") refl) (way_whole s.graph h _ _)
@@ -97,6 +101,7 @@ line_whole s h few (Unmet n) a =
     both_whole (codes "constraint") _ (computed (codes "constraint") refl) (number_whole (suc n) (omega (arith, a, few)))
 line_whole s h few Asked a = computed (codes "question") refl
 
+-- nor the first line of all
 head_whole : (f : Form) → IsWhole (head_text f)
 head_whole Long = computed (codes "certificate 1") refl
 head_whole Short = computed (codes "short certificate 1") refl

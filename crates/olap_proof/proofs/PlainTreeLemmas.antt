@@ -68,6 +68,7 @@ undecided_new (d ∷ ds) e h c = elim (contains_cases e d.edge (map (λ (d : Dec
     go true q = absurd (cc)
     go false q = q
 
+-- one decision more, on an edge that was undecided
 pub decisions_push : (g : Graph) (r : ℕ) (ds : List Decision) (e : ℕ) (b : Bool)
     → AreDecisions (record { graph = g; root = r; decisions = ds }) → e < length g.edges → status_in ds e ≡ None
     → AreDecisions (record { graph = g; root = r; decisions = ds ++ (record { edge = e; present = b }) ∷ [] })
@@ -274,6 +275,7 @@ module _ (t : Form) (s : Schema) (q : Formula) (k : Candidates) (hier : IsHierar
       let r = bottoms_end (bottoms_of s.graph) (listed_bottom s.graph) in
       (head_text t ∷ r.0, more begins r.1)
 
+-- the theorem: a plain tree for each bottom category
 pub certificates_exist_exactly_where_summarizable : CertificatesExistExactlyWhereSummarizable
 certificates_exist_exactly_where_summarizable t s c sources k hier are = (
   λ h. certificate_of_none t s (not_by_one c sources) k hier are ((summarizable_exactly s c sources k hier are).0 h),

@@ -48,6 +48,7 @@ joined_once w x (Some r) (Some t) n m e = let p = parted 32 w r x t n m e in (p.
 
 -- ---- first words
 
+-- no word has a space
 no_space : (w : Word) → list_any (λ b. b == 32) (word_text w) ≡ false
 no_space word.Edge = refl
 no_space word.Name = refl
@@ -72,9 +73,11 @@ word_by a b = cond (a == 101) word.Edge (cond (a == 110) word.Name (cond (a == 1
     (cond (a == 100) word.Dead (cond (a == 108) word.Loose (cond (a == 113) word.Question
     (cond (b == 121) word.Cycle (cond (b == 104) word.Shortcut (cond (b == 116) word.Steps word.Constraint))))))))
 
+-- the word of a line's first two bytes
 abbrev word_in : List ℕ → Word
 word_in bytes = word_by (get_or bytes 0 0) (get_or bytes 1 0)
 
+-- which tell each word
 word_again : (w : Word) → word_in (word_text w) ≡ w
 word_again word.Edge = refl
 word_again word.Name = refl

@@ -14,13 +14,16 @@ use Rattle.olap_proof.specs.Certificates.{IsCertificate, Open, Open.At, Open.Bot
 use Rattle.olap_proof.specs.Examples.{EdgesAreDecidedOnce, LinesAreSpelledExactly, NamesAreDecidedOnce, TheRootIsNotLoose, chain, city_not_by_store}
 use Rattle.olap_proof.proofs.StepLemmas.{AtStep, AtStep.by_edge, AtStep.by_name, AtStep.by_reason, AtStep.by_way, FirstStep, FirstStep.first, first_step, step_at, step_bottom, step_head}
 
+-- the n-th byte of a line
 abbrev byte : ℕ → List ℕ → ℕ
 byte n line = get_or line n 0
 
+-- what is open first
 abbrev first_open : List Open → Open
 first_open [] = Head
 first_open (o ∷ os) = o
 
+-- what is open behind it
 abbrev later_open : List Open → List Open
 later_open [] = []
 later_open (o ∷ os) = os
@@ -105,6 +108,7 @@ module _ (f : Form) (k : Candidates) where
   name_split p new (by_way a b e o i j u n) = absurd (let q : 110 ≡ 114 = ap (byte 0) e in omega arith)
   name_split p new (by_reason l e a h n) = absurd (no_reason 110 p l (inr refl) (sym (ap (byte 0) e)) h)
 
+-- a line decides no edge that was decided above
 pub edges_are_decided_once : EdgesAreDecidedOnce
 edges_are_decided_once f k others run =
     let line = codes "edge Store City" in
@@ -117,9 +121,11 @@ edges_are_decided_once f k others run =
     let two = went_on f k line others (with_edge p 0 false) (At (with_edge p 0 true) ∷ []) left in
     let undecided = (edge_split f k (with_edge p 0 false) two.0 two.1).0 in cc
 
+-- the first of some numbers is 0
 first_index : (n : ℕ) → range_with_len 0 (n + 1) ≡ 0 ∷ range_with_len 1 n
 first_index n = ap (range_with_len 0) (add-one n)
 
+-- nor a name
 pub names_are_decided_once : NamesAreDecidedOnce
 names_are_decided_once f k others run =
     let line = codes "name Store" in
@@ -133,6 +139,7 @@ names_are_decided_once f k others run =
     (map (λ i. At (with_name p 1 i)) (range_with_len 1 (length (k.texts 1))) ++ []) left in
     let undecided = (name_split f k (with_name p 1 0) two.0 two.1).0 in cc
 
+-- a line with other bytes does nothing
 pub lines_are_spelled_exactly : LinesAreSpelledExactly
 lines_are_spelled_exactly f k others run =
     let e = (begun f k (codes "bottom  Store") others (opened f k (codes "bottom  Store" ∷ others) run)).0 in
@@ -165,6 +172,7 @@ root_closes k p (Clash x y) r q a h = absurd (let z : 108 ≡ 115 = ap (byte 0) 
 root_closes k p (Unmet n) r q a h = absurd (let z : 108 ≡ 99 = ap (byte 0) q in omega arith)
 root_closes k p Asked r q a h = absurd (let z : 108 ≡ 113 = ap (byte 0) q in omega arith)
 
+-- `loose` doesn't close a place for its root
 root_loose : (k : Candidates) (p : Place) (new : List Open) → p.decided.root ≡ 1
     → AtStep Long chain city_not_by_store k (codes "loose Store City") p new → ⊥
 root_loose k p new r (by_edge i e l u n) = absurd (let q : 108 ≡ 101 = ap (byte 0) e in omega arith)
@@ -172,6 +180,7 @@ root_loose k p new r (by_name c e d u n) = absurd (let q : 108 ≡ 110 = ap (byt
 root_loose k p new r (by_way a b e o i j u n) = absurd (let q : 108 ≡ 114 = ap (byte 0) e in omega arith)
 root_loose k p new r (by_reason l e a h n) = root_closes k p l r e a h
 
+-- so such a text is no certificate
 pub the_root_is_not_loose : TheRootIsNotLoose
 the_root_is_not_loose k others run =
     let edge = codes "edge Store City" in

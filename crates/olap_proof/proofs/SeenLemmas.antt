@@ -20,9 +20,11 @@ use Rattle.olap_proof.proofs.KeptWayLemmas.{whole}
 
 -- ---- edges that weren't decided absent
 
+-- all edges by place
 abbrev places : Decided → List ℕ
 places t = range_with_len 0 (length t.graph.edges)
 
+-- an edge that may be present was seen
 pub possible_seen : (t : Decided) (c d : ℕ) → HasEdge (possible_graph t) c d
     → SeenPossible t (length t.graph.edges) c d
 possible_seen t c d h =
@@ -36,6 +38,7 @@ possible_seen t c d h =
       ap (λ (x : Edge). x.parent) m.2,
     )
 
+-- and one that was seen may be present
 pub seen_possible : (t : Decided) (k : ℕ) → k < length t.graph.edges → is_possible (status_of t k) ≡ true
     → HasEdge (possible_graph t) (edge_at t.graph k).child (edge_at t.graph k).parent
 seen_possible t k l h =

@@ -33,6 +33,7 @@ use Rattle.olap_proof.proofs.TallyLemmas.{false_from}
 
 -- ---- bottom categories
 
+-- the bottom categories from a number on, by whether it has a child
 bottoms_by : (g : Graph) (n : ℕ) (t : Bool) → n < category_count g → has_no_child g n ≡ t
     → bottoms_from g n ≡ cond t (n ∷ bottoms_from g (n + 1)) (bottoms_from g (n + 1))
 bottoms_by g n t l h =

@@ -30,6 +30,7 @@ pub data AtStep (f : Form) (s : Schema) (q : Formula) (k : Candidates) (line : L
   by_reason : (l : Line) → line ≡ line_text s.graph l → IsAbout s l → Closes f s q k p l → new ≡ []
       → AtStep f s q k line p new
 
+-- a place that stands for none
 abbrev nowhere : Schema → Place
 nowhere s = start s.graph 0
 
@@ -39,6 +40,7 @@ place_in s Head = nowhere s
 place_in s (Bottom b) = nowhere s
 place_in s (At p) = p
 
+-- the root of what is open
 abbrev root_in : Open → ℕ
 root_in Head = 0
 root_in (Bottom b) = b
@@ -90,6 +92,7 @@ pub data FirstStep (f : Form) (s : Schema) (q : Formula) (k : Candidates) (line 
   first : (o : Open) (new rest : List Open) → os ≡ o ∷ rest → Steps f s q k line o new
       → Runs f s q k lines (new ++ rest) end → FirstStep f s q k line lines os end
 
+-- what the first line does, and the others after it
 pub first_step : (f : Form) (s : Schema) (q : Formula) (k : Candidates) {all : List (List ℕ)} {os end : List Open}
     → Runs f s q k all os end → (line : List ℕ) (lines : List (List ℕ)) → all ≡ line ∷ lines
     → FirstStep f s q k line lines os end

@@ -20,20 +20,24 @@ use Rattle.olap_proof.specs.Places.{Place}
 
 -- ---- values that aren't unknown
 
+-- the value is `Yes` or `No`
 abbrev pub IsTold : Truth3 → Type 0
 IsTold No = Unit {0}
 IsTold Yes = Unit {0}
 IsTold Unknown = ⊥
 
+-- a truth value is told
 known_told : (b : Bool) → IsTold (known b)
 known_told true = tt
 known_told false = tt
 
+-- and so is what is made of a told one
 one_told : (f : Bool → Bool) (x : Truth3) → IsTold x → IsTold (value_of f x)
 one_told f No h = known_told (f false)
 one_told f Yes h = known_told (f true)
 one_told f Unknown h = absurd h
 
+-- and of two
 both_told : (f : Bool → Bool → Bool) (x y : Truth3) → IsTold x → IsTold y → IsTold (value_of_both f x y)
 both_told f No No h i = known_told (f false false)
 both_told f No Yes h i = known_told (f false true)
@@ -51,6 +55,7 @@ and_told No Unknown h f = tt
 and_told Yes y h f = both_told ◌&&◌ Yes y tt (f refl)
 and_told Unknown y h f = absurd h
 
+-- and of counts without an unknown
 counts_told : (y u : ℕ) → u ≡ 0 → IsTold (value_of_counts y u)
 counts_told zero zero e = tt
 counts_told (suc zero) zero e = tt

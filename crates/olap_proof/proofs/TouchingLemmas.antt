@@ -164,6 +164,7 @@ touched_from_first Leads s x = (
 
 -- ---- what is known
 
+-- an end of an edge that leads on has a member
 end_of : (p : Place) (c d x : ℕ) → HasEdge (leading_graph p) c d → (c ≡ x) ⊎ (d ≡ x) → is_known p x ≡ true
 end_of p c d x h end = later (x == p.decided.root)
     (list_any (λ (e : Edge). (e.child == x) || (e.parent == x)) (leading p))

@@ -103,6 +103,7 @@ module _ (m : Form) (s : Schema) (q : Formula) (k : Candidates) where
 
 -- ---- places
 
+-- a place with one edge more that is decided is one of the graph
 pub place_edge : (g : Graph) (k : Candidates) (p : Place) (e : ℕ) (b : Bool) → IsPlaceOf g k p → e < length g.edges
     → status_of p.decided e ≡ None → IsPlaceOf g k (with_edge p e b)
 place_edge g k p e b i h u = record {
@@ -113,6 +114,7 @@ place_edge g k p e b i h u = record {
   no_ways = i.no_ways;
 }
 
+-- and with one name more
 pub place_name : (g : Graph) (k : Candidates) (p : Place) (c i : ℕ) → IsPlaceOf g k p → IsCategory g c
     → i ≤ length (k.texts c) → IsPlaceOf g k (with_name p c i)
 place_name g k p c i a d h = record {
@@ -201,9 +203,11 @@ fewer_names p c i h u =
 abbrev pub left : Place → ℕ
 left p = open_edges p + open_names p
 
+-- a sum with a lesser part is less
 sum_less : (a b c d : ℕ) → a < c → b ≡ d → a + b < c + d
 sum_less a b c d h e = omega arith
 
+-- whichever part it is
 sum_less_right : (a b c d : ℕ) → a ≡ c → b < d → a + b < c + d
 sum_less_right a b c d e h = omega arith
 
@@ -213,6 +217,7 @@ pub record IsBelow (s : Schema) (q : Formula) (k : Candidates) (p x : Place) : T
   pub none : (f : Frozen) → IsFrozen s q x.decided.root k f → ⊥
   pub less : left x < left p
 
+-- below a place without a frozen dimension there is none, with one edge more decided
 pub edge_below : (s : Schema) (q : Formula) (k : Candidates) (p x : Place) (e : ℕ) (b : Bool) → IsPlaceOf s.graph k p
     → ((f : Frozen) → IsFrozen s q p.decided.root k f → ⊥)
     → (e < length s.graph.edges) × (status_of p.decided e ≡ None) → x ≡ with_edge p e b → IsBelow s q k p x
@@ -223,6 +228,7 @@ edge_below s q k p x e b i n u new = subst (λ y. IsBelow s q k p y) (sym new) (
       (fewer_edges p e b (subst (λ (g : Graph). e < length g.edges) (sym i.graph) u.0) u.1) refl;
 })
 
+-- and with one name more
 pub name_below : (s : Schema) (q : Formula) (k : Candidates) (p x : Place) (c j : ℕ) → IsPlaceOf s.graph k p
     → ((f : Frozen) → IsFrozen s q p.decided.root k f → ⊥)
     → IsDeclared s.graph c × (index_of p.namings c ≡ None) → j ≤ length (k.texts c) → x ≡ with_name p c j

@@ -155,6 +155,7 @@ module _ (f : Form) (s : Schema) (q : Formula) (k : Candidates) (hier : IsHierar
             let z = nothing_runs h.lines w.open_there h.run in
             early n w (sym (no_lines h.run z)) (ap (λ xs. ended xs ++ w.rest) (sym z) ∙ sym h.rest)
 
+-- the theorem: of two runs over one text neither can end where the other goes on
 pub verdicts_are_one : VerdictsAreOne
 verdicts_are_one f s q k text hier few = (
   λ line w t. none_wrong f s q k hier few text w.0 w.2 t,

@@ -24,9 +24,11 @@ use Rattle.olap_graph.proofs.RowLemmas.{has_union}
 use Rattle.olap_ast.proofs.Shape.{either_true, is_same, same_is}
 use Rattle.olap_proof.specs.Walking.{Grows, IsAdded, IsAddedFrom, IsIn, IsWalk, SeenFrom, SeenUpTo}
 
+-- nothing is both false and true
 pub false_true : (b : Bool) → b ≡ false → b ≡ true → ⊥
 false_true b p q = let z : false ≡ true = sym p ∙ q in cc
 
+-- what is turned to true is false
 pub not_true : (b : Bool) → not b ≡ true → b ≡ false
 not_true true h = sym h
 not_true false h = refl
@@ -72,6 +74,7 @@ grows_none g n Seen s none = record {
   more = λ t. absurd (let z : false ≡ true = t in cc);
 }
 
+-- where not one of two is so, neither is
 neither : (a b : Bool) → a || b ≡ false → (a ≡ false) × (b ≡ false)
 neither true b h = absurd (let z : true ≡ false = h in cc)
 neither false b h = (refl, h)
@@ -227,6 +230,7 @@ abbrev pub missing : FinSet nat_cmp → ℕ → ℕ
 missing s zero = 0
 missing s (suc n) = cond (contains s n) (missing s n) (suc (missing s n))
 
+-- a set that has all of another lacks no more
 missing_least : (old new : FinSet nat_cmp) → ((x : ℕ) → IsIn old x → IsIn new x) → (n : ℕ)
     → missing new n ≤ missing old n
 missing_least old new kept zero = omega arith

@@ -1,4 +1,4 @@
--- What bytes do on a branch of a tree.
+-- Lines, as bytes, on a branch of a tree.
 --     StepsAt      they do this at a place
 --     IsDone       a line does something at the place, as these bytes do
 --     Advances     they do nothing; or some of the tree is open still, or none

@@ -1,4 +1,4 @@
--- What a certificate is written for, as the program has it.
+-- The question that a certificate is written for, as the program has it.
 --     schema_in, question_in, names_in    the schema, the question, and the names that members may have
 --     IsAsked                             a hierarchy, with the names of the schema and the question
 --     IsClosing, IsOpenTo                 a line closes a place, or doesn't

@@ -1,4 +1,4 @@
--- What closes the program's place, of a schema with some constraints, for a question.
+-- Lines that close the program's place, of a schema with some constraints, for a question.
 --     ClosesHere       the line closes it
 --     IsOpenHere       it doesn't
 --     IsClosingHere    it is a line about the schema, and closes it

@@ -1,4 +1,4 @@
--- What a line does at a place, by what it says.
+-- Lines at a place, by what they say.
 --     Does           it decides what isn't decided, or closes the place
 --     leaves_open    what is open after it, of the place
 use Rattle.std.specs.Prelude.{◌≡◌, ◌≢◌, List, [], ◌∷◌, true, false, None, map}

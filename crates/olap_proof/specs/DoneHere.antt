@@ -1,4 +1,4 @@
--- What a line does at the program's place, of a schema with some constraints, for a question.
+-- Lines at the program's place, of a schema with some constraints, for a question.
 --     schema_at        the schema
 --     DoesHere         the line does something
 --     opened           what is open after it

@@ -1,4 +1,4 @@
--- What the place of the program stands for.
+-- The definitions' place behind the program's.
 use Rattle.std.specs.Prelude.{map}
 use Rattle.olap_proof.specs.declared.places.Place.TheInside as place
 use Rattle.olap_proof.specs.KeptParts.{naming_kept}

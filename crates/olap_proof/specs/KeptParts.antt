@@ -1,4 +1,4 @@
--- What one decision on a name of the program stands for.
+-- The definitions' decision on a name behind the program's.
 use Rattle.olap_proof.specs.declared.places.Naming.{Naming as OneNaming}
 use Rattle.olap_proof.specs.Places.{Naming}
 

@@ -1,4 +1,4 @@
--- What the tables of decisions on ways keep.
+-- The tables of decisions on ways, and what they keep.
 --     ways_kept    the decisions
 --     AreOnce      none is on a way that was decided before
 --     AreSaid      the tables say what was decided

@@ -1,4 +1,4 @@
--- What decisions on ways of the program stand for, and the tables beside them.
+-- The program's decisions on ways, and the tables beside them.
 --     way_kept       one decision
 --     leading_way    a way that is there
 --     said_of        what two marks say of a way

@@ -1,4 +1,4 @@
--- What is known of a frozen dimension of which some edges, names and ways are decided.
+-- Places: frozen dimensions of which some edges, names and ways are decided, and what is known of them.
 --     Naming       a decision on a category's name
 --     Way          a decision on whether a member of one category reaches one of another
 --     Place        a root, and decisions

@@ -1,4 +1,4 @@
--- Which edges and ways the program has seen, of those that it goes through in their order.
+-- The edges and ways that the program has seen, of those that it goes through in their order.
 --     AreOfGraph       ways between categories of a graph
 --     LeadsHere        of ways, those that are there
 --     SeenDecisions    of decisions on edges, those that say present

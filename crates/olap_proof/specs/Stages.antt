@@ -1,4 +1,4 @@
--- What is open where the reading of a text stands.
+-- Stages of reading: what is open.
 --     bottoms_from    the bottom categories from a number on
 --     open_at         what is open
 --     IsStage         a category is there, and a place is where its choices lead

@@ -1,4 +1,4 @@
--- What a text is for a schema, a target and sources, whichever candidates are taken: they have the same names.
+-- Verdicts on a text for a schema, a target and sources. Any candidates serve: they have the same names.
 --     IsWrongAt           a line is the first that is wrong
 --     IsCertificateFor    a text is a certificate
 --     IsFirstWrongFor     a line of a text is the first that is wrong

@@ -1,4 +1,4 @@
-// What a line of a text does on a branch of a tree.
+// Lines of a text on a branch of a tree.
 ghost use Rattle.std.specs.Prelude.{◌≡◌, ℕ, List, IfOk, IfSome, IsNone};
 ghost use Rattle.olap_proof.specs.Advancing.{Advances, IsDone, StepsAt};
 ghost use Rattle.olap_proof.specs.Branches.{IsBranch};

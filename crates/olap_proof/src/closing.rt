@@ -1,4 +1,4 @@
-// Which line closes a place.
+// The line that closes a place, if one does.
 ghost use Rattle.std.specs.Prelude.{◌≡◌, ◌<◌, ◌↔◌, ℕ, [], IfSome, IsNone, IsTrue, length};
 ghost use Rattle.olap_base.specs.Graph.{IsCategory};
 ghost use Rattle.olap_proof.specs.ClosedHere.{ClosesHere, IsClosingHere, IsOpenHere};

@@ -1,4 +1,4 @@
-// What a line does at a place.
+// Lines at a place.
 ghost use Rattle.std.specs.Prelude.{◌<◌, ◌^◌, ◌↔◌, List, IfSome, IsNone, IsTrue, length};
 ghost use Rattle.olap_proof.specs.Certificates.{Open};
 ghost use Rattle.olap_proof.specs.DoneHere.{DoesHere, StepsHere, opened, schema_at};

@@ -1,4 +1,4 @@
-// Whether the edges that were decided present hold a cycle or a shortcut.
+// Cycles and shortcuts of the edges that were decided present.
 ghost use Rattle.std.specs.Prelude.{◌≡◌, ◌<◌, ◌↔◌, ℕ, Contains, IfSome, IsNone, IsTrue, length, true};
 ghost use Rattle.olap_base.specs.Graph.{HasEdge};
 ghost use Rattle.olap_graph.specs.Lookups.{edge_at};

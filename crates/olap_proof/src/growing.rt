@@ -16,8 +16,8 @@ use olap_base::Memory;
 /// Appends the lines of a tree over the place, where there is no frozen dimension with its root.
 ///
 /// The place is closed if some line closes it. Else it is split by an edge that isn't decided, and where each edge is
-/// by a name. It calls itself as deep as there are edges and names. `Memory`: out of memory, or the text would be longer
-/// than a file may be.
+/// by a name. It calls itself as deep as there are edges and names. `Memory`: out of memory, or the text would be
+/// longer than a file may be.
 pub(crate) fn grow(
     case: &mut Case,
     asked: &Asked<'_>,

@@ -1,4 +1,4 @@
-// Whether a line closes a place.
+// Tests of the lines that close a place.
 ghost use Rattle.std.specs.Prelude.{◌≡◌, ◌↔◌, ◌<◌, All, IsTrue, Some, false, length, map};
 ghost use Rattle.olap_ast.specs.Trees.{constraint_of, formula_of};
 ghost use Rattle.olap_ast.specs.declared.three_values.Truth3.TheVariants as truth;

@@ -2,8 +2,8 @@
 //!
 //! A certificate splits what a counterexample could look like, case by case, and closes each case by a reason that is
 //! checked at sight (`specs/Certificates.antt`). It exists only where the target is summarizable, and each form has one
-//! wherever it is: the laws of `src/laws.rt` and `src/existence.rt`, over the definitions alone. `verify` accepts a text
-//! exactly if it is one (`specs/Verifying.antt`), and nothing here knows of a search.
+//! wherever it is: the laws of `src/laws.rt` and `src/existence.rt`, over the definitions alone. `verify` accepts a
+//! text exactly if it is one (`specs/Verifying.antt`), and nothing here knows of a search.
 #![tactic(auto)]
 
 mod advancing;

@@ -1,4 +1,4 @@
-// What a place is split by.
+// Splits of a place.
 ghost use Rattle.std.specs.Prelude.{◌≡◌, ◌≢◌, ◌<◌, ℕ, IfSome, IsNone, None, length};
 ghost use Rattle.olap_base.specs.Graph.{IsDeclared};
 ghost use Rattle.olap_proof.specs.Asking.{IsAsked, IsUndecided, IsUnnamed, names_in};

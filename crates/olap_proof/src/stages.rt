@@ -1,4 +1,4 @@
-// What is open where the reading of a text stands, and what a line does there.
+// Stages of reading: what is open, and what a line does there.
 ghost use Rattle.std.specs.Prelude.{◌≡◌, ◌≤◌, ◌+◌, ◌↔◌, ◌∷◌, [], IfOk, IfSome, IsNone, IsTrue, map};
 ghost use Rattle.olap_base.specs.Graph.{IsCategory};
 ghost use Rattle.olap_proof.specs.Asking.{IsAsked};

@@ -1,4 +1,4 @@
-// What is known at a place: of edges, of reaching, of names and of comparisons.
+// The knowledge at a place: of edges, of reaching, of names and of comparisons.
 ghost use Rattle.std.specs.Prelude.{◌≡◌, IsTrue};
 ghost use Rattle.olap_ast.specs.Trees.{op_of};
 ghost use Rattle.olap_base.specs.Graph.{IsCategory};

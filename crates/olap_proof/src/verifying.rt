@@ -1,4 +1,4 @@
-// Whether a text is a certificate.
+// The verifier of certificates.
 ghost use Rattle.std.specs.Prelude.{◌≡◌, ◌≢◌, ◌↔◌, ℕ, All, AllPairs, Err, OnOk};
 ghost use Rattle.olap_ast.specs.Summarizable.{IsSummarizable};
 ghost use Rattle.olap_base.specs.Graph.{IsCategory};
@@ -48,9 +48,9 @@ impl From<AllocError> for VerifyRefusal {
 /// sources. Nothing is searched: each line is checked where it stands, in one pass.
 ///
 /// `DuplicateSource`: exactly if a source stands twice. `Rejected`: the line is the first that is wrong after those
-/// above it. The target may be a source, and either may be `All`. Cost: for each line that splits or closes what is open
-/// a walk of the schema's edges, or a formula; the memory is that of the decisions above a place, whatever the text's
-/// length.
+/// above it. The target may be a source, and either may be `All`. Cost: for each line that splits or closes what is
+/// open a walk of the schema's edges, or a formula; the memory is that of the decisions above a place, whatever the
+/// text's length.
 pub fn verify(
     alloc: Global,
     schema: &Schema,

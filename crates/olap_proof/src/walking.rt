@@ -1,4 +1,4 @@
-// What is reached by edges that weren't decided absent, and by what is known to be there.
+// Categories that are reached by edges that weren't decided absent, and by what is known to be there.
 ghost use Rattle.std.specs.Prelude.{◌≡◌, ◌<◌, ◌&&◌, ℕ, Contains, IfSome, IsNone, length, not, true};
 ghost use Rattle.std.specs.FinSet as sets;
 ghost use Rattle.olap_base.specs.Graph.{Graph as AnyGraph, HasEdge, category_count};

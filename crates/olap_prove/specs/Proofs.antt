@@ -1,4 +1,4 @@
--- What a proof says.
+-- Proofs: a certificate, or the counterexample.
 --     IsYes    it says that the target is summarizable
 --     Shows    it is a certificate, or the counterexample
 use Rattle.std.specs.Prelude.{ℕ, List}

@@ -46,6 +46,56 @@ fn push_tree(
     Ok(false)
 }
 
+/// Appends the tree that the search finds, if it finds one. Whether all of it was written.
+fn push_refuted(
+    alloc: Global,
+    graph: &Graph,
+    constraints: &[Constraint],
+    search: &mut Search,
+    out: &mut Vec<u8>,
+) -> Result<bool, Memory> {
+    match search.run()? {
+        Some(refuted) => push_tree(alloc, graph, constraints, &search.nodes, refuted.tree, out),
+        None => Ok(false),
+    }
+}
+
+/// Appends what a search for the task finds. Whether it found something, and all of it was written.
+fn push_searched(
+    alloc: Global,
+    graph: &Graph,
+    constraints: &[Constraint],
+    task: &Task,
+    out: &mut Vec<u8>,
+) -> Result<bool, Memory> {
+    let mut search = Search::new(alloc, task, TRIES)?;
+    push_refuted(alloc, graph, constraints, &mut search, out)
+}
+
+/// Appends a tree for each bottom category. Whether all were found and written.
+fn push_trees(
+    alloc: Global,
+    words: &Words,
+    form: Form,
+    constraints: &[Constraint],
+    target: CatId,
+    sources: &[CatId],
+    out: &mut Vec<u8>,
+) -> Result<bool, Memory> {
+    let graph = words.graph;
+    'categories: for b in 1..graph.categories() {
+        let root = CatId(b);
+        if graph.is_bottom(root) {
+            push_bottom(out, graph, root)?;
+            let task = Task::new(alloc, words, form, constraints, root, target, sources)?;
+            if !push_searched(alloc, graph, constraints, &task, out)? {
+                return Ok(false);
+            }
+        }
+    }
+    Ok(true)
+}
+
 /// The text of what may be a certificate of that form, if a tree is found for each bottom category. `Memory`: out of
 /// memory.
 pub(crate) fn draft(
@@ -58,37 +108,13 @@ pub(crate) fn draft(
     let graph = schema.graph();
     let constraints = schema.constraints();
     // The question of summarizability has no constants.
-    let question = Formula::True;
-    let candidates = Candidates::of(alloc, graph, constraints, &question)?;
+    let candidates = Candidates::of(alloc, graph, constraints, &Formula::True)?;
     let words = Words {
         graph,
         candidates: &candidates,
     };
     let mut out = Vec::new(alloc);
     push_head(&mut out, form)?;
-    'categories: for b in 1..graph.categories() {
-        let root = CatId(b);
-        if graph.is_bottom(root) {
-            push_bottom(&mut out, graph, root)?;
-            let task = Task::new(alloc, &words, form, constraints, root, target, sources)?;
-            let mut search = Search::new(alloc, &task, TRIES)?;
-            let written = match search.run()? {
-                Some(refuted) => {
-                    push_tree(
-                        alloc,
-                        graph,
-                        constraints,
-                        &search.nodes,
-                        refuted.tree,
-                        &mut out,
-                    )?
-                },
-                None => false,
-            };
-            if !written {
-                return Ok(None);
-            }
-        }
-    }
-    Ok(Some(out))
+    let is_whole = push_trees(alloc, &words, form, constraints, target, sources, &mut out)?;
+    Ok(if is_whole { Some(out) } else { None })
 }

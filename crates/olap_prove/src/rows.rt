@@ -1,10 +1,10 @@
-// Which categories reach which, as a set for each.
+// The categories that each reaches, as a set for each.
 use olap_base::{CatId, Memory};
 use olap_graph::{Categories, WORDS};
 use std::alloc::Global;
 
-/// What present edges draw, what those and ways lead to, and what edges that weren't decided absent leave open, from each
-/// category; and the categories that are known to have a member.
+/// What present edges draw, what those and ways lead to, and what edges that weren't decided absent leave open, from
+/// each category; and the categories that are known to have a member.
 #[derive(Drop)]
 pub(crate) struct Rows {
     known: Categories,

@@ -1,4 +1,4 @@
-// What is known where some edges, names and ways are decided, in tables.
+// Shapes of which some edges, names and ways are decided, in tables.
 use crate::rows::Rows;
 use crate::steps::{Stack, Step};
 use crate::tasks::{Task, Variable, way_place};

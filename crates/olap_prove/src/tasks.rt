@@ -1,4 +1,4 @@
-// What a draft is made for: a root of a schema, formulas as steps, and what may be decided.
+// Tasks of a draft: a root of a schema, formulas as steps, and what may be decided.
 use crate::steps::{Step, Words};
 use olap_ast::Constraint;
 use olap_base::{CatId, EdgeId, MOST_CATEGORIES, Memory};

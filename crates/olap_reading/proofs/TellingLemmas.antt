@@ -26,18 +26,21 @@ steps_inside : (i : Instance) → IsInstance i → {x y : ℕ} → Steps (IsBelo
 steps_inside i v here h = h
 steps_inside i v (step {x} {y} r s) h = steps_inside i v s (v.parents_are_members x y r)
 
+-- what is far below another is a member
 far_from : (i : Instance) (x y : ℕ) → IsFarBelow i x y → IsMember i x
 far_from i x y f = go (Climb-from_leads f)
   where
     go : Climb (IsBelow i) x y → IsMember i x
     go (climb {z} r s) = below_is_member i x z r
 
+-- what another is far below is a member
 far_to : (i : Instance) → IsInstance i → (x y : ℕ) → IsFarBelow i x y → IsMember i y
 far_to i v x y f = go (Climb-from_leads f)
   where
     go : Climb (IsBelow i) x y → IsMember i y
     go (climb {z} r s) = steps_inside i v s (v.parents_are_members x z r)
 
+-- the members and the category of a violation are there
 pub tellable : (s : Schema) (i : Instance) → IsInstance i → IsMadeFor s.graph i → (w : Violation) → IsViolation s i w
     → IsTellable s.graph i (told i w)
 tellable s i v m (NoEdge x k) w =

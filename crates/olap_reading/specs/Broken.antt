@@ -17,7 +17,7 @@ pub record IsFirst (s : Schema) (i : Instance) (v : Violation) : Type 0 where
   pub is_told : v ≡ told i violation
   pub tellable : IsTellable s.graph i v
 
--- the same instance is handed back with its first violation, or memory was wanted
+-- the same instance is handed back with its first violation, or memory ran out
 abbrev pub IsBrokenBy : Schema → Instance → CheckRefusal → Type 0
 IsBrokenBy s i (Broken j v) = (j ≡ i) × IsFirst s i v
 IsBrokenBy s i Memory = Unit {0}

@@ -2,4 +2,5 @@
 pub mod Violations
 pub mod Steps
 pub mod OfFacts
+-- The inside: what a refused check says.
 pub mod Broken

@@ -33,6 +33,7 @@ pub(crate) fn check_laws(
         (λ _. first_violation (schema_of schema.now) members ≡ None)
         (λ e. IsBrokenBy (schema_of schema.now) members e) }
 {
+    // Called for its clause: what is counted is an instance.
     let _count = members.members();
     check(alloc, schema, members)
 }

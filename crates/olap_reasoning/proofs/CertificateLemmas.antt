@@ -116,6 +116,7 @@ certificate_shown f s c sources is reply status certificate = done (ByProof f s 
 
 -- ---- constants are UTF-8
 
+-- an implication is false only if its premise is true
 not_bad : (u b : Bool) → (not u || b) ≡ false → u ≡ true
 not_bad true b e = refl
 not_bad false b e = absurd (cc)
@@ -129,6 +130,7 @@ all_texts s q a b e h = elim (Contains-append_cases (flat_map (λ c. equalities 
       | inr y ↦ b e y
     ]
 
+-- where all texts that are compared are UTF-8, the constants are
 constant_is_utf8 : (s : Schema) (q : Formula) → AreTexts (all_equalities s q) → (c : ℕ) (text : List ℕ)
     → IsConstant s q c text → IsTrue (is_utf8 text)
 constant_is_utf8 s q a c text h =
@@ -142,11 +144,13 @@ no_atoms : (c : ℕ) (sources : List ℕ) → equalities_of_terms (vias c source
 no_atoms c [] = refl
 no_atoms c (s ∷ sources) = no_atoms c sources
 
+-- the question of summarizability compares no texts
 pub question_has_texts : (c : ℕ) (sources : List ℕ) → AreTexts (equalities (not_by_one c sources))
 question_has_texts c sources e h = absurd (Contains-nil e (subst (λ es. Contains es e) (no_atoms c sources) h))
 
 -- ---- what is found may be printed
 
+-- what the search found for a question is a frozen dimension of the graph
 pub found_for : (s : Schema) (q : Formula) (r : ℕ) (found : Found) → IsCategory s.graph r → IsLeastFound s q r found
     → AreTexts (all_equalities s q) → IsFoundFor s.graph found
 found_for s q r found category l texts = record {
@@ -160,6 +164,7 @@ found_for s q r found category l texts = record {
   utf8 = constant_is_utf8 s q texts;
 }
 
+-- so is a counterexample that was found
 pub found_for_difference : (s : Schema) (c : ℕ) (sources : List ℕ) (found : Found)
     → IsCounterexampleFound s c sources found
     → AreTexts (flat_map (λ c. equalities c.formula) s.constraints) → IsFoundFor s.graph found

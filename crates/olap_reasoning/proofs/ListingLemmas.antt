@@ -17,6 +17,7 @@ use Rattle.olap_order.proofs.Replying.{done}
 use Rattle.olap_reasoning.specs.Listings.{finding_text}
 use Rattle.olap_reasoning.specs.Questions.{ByAudit, ByFrozen, IsAnswer}
 
+-- the lines of all frozen dimensions answer `frozen`
 pub frozen_listed : (s : Schema) (c : ℕ) (k : Candidates) (all : List Frozen) → AreAllFrozen s Truth c k all
     → length all ≤ most_frozen → (reply : Reply) → reply.status ≡ Yes
     → reply.bytes.items ≡ flat_map (frozen_text s.graph k c) all ++ line (codes "count " ++ decimal (length all))
@@ -26,6 +27,7 @@ frozen_listed s c k all are few reply status text = done (ByFrozen s c) reply st
   record { candidates = k; frozen = all; all = are; few = few; text = text },
 ))
 
+-- the lines of all findings answer `audit`
 pub findings_listed : (s : Schema) (findings : List Finding) → AreFindings s findings → (reply : Reply)
     → reply.status ≡ Yes
     → reply.bytes.items ≡ flat_map (finding_text s.graph) findings ++ line

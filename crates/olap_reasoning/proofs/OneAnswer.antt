@@ -25,6 +25,7 @@ use Rattle.olap_reasoning.specs.Questions.{IsAnswer, Question, BySatisfiable, By
 
 -- ---- the line of a frozen dimension
 
+-- frozen dimensions that can't be told apart have one line
 same_line : (g : Graph) (k h : Candidates) (r d : ℕ) (f w : Frozen) → r ≡ d → f ≡ w
     → ((c : ℕ) → name_in k f c ≡ name_in h w c) → frozen_text g k r f ≡ frozen_text g h d w
 same_line g k h r d f w q p n = λ i.
@@ -34,16 +35,19 @@ same_line g k h r d f w q p n = λ i.
 
 -- ---- satisfiable, implies, summarizable
 
+-- a yes of `satisfiable` has one text
 one_member : (s : Schema) (c : ℕ) (xs ys : List ℕ) → ShowsMember s c xs → ShowsMember s c ys → xs ≡ ys
 one_member s c xs ys a b =
     let r = the_least_is_one s Truth c a.candidates b.candidates a.frozen b.frozen a.least b.least in
     let l = same_line s.graph a.candidates b.candidates c c a.frozen b.frozen refl r.0 r.1 in
     a.text ∙ ap (λ t. line (codes "yes") ++ t) l ∙ sym b.text
 
+-- it has none where the answer is no
 no_member : (s : Schema) (c : ℕ) (ys : List ℕ) → IsUnsatisfiable s c → ShowsMember s c ys → ⊥
 no_member s c ys u m = let z = m.least.is_one.stands_for in
     u (thawed s m.candidates c m.frozen) z.legal z.root z.root_is
 
+-- a no of `implies` has one text
 one_unmet : (s : Schema) (r : ℕ) (q : Formula) (xs ys : List ℕ) → ShowsUnmet s r q xs → ShowsUnmet s r q ys → xs ≡ ys
 one_unmet s r q xs ys a b =
     let o = the_least_is_one s (Not q) r a.candidates b.candidates a.frozen b.frozen a.least b.least in
@@ -51,10 +55,12 @@ one_unmet s r q xs ys a b =
     let t = o.2 in
     a.text ∙ (λ i. line (codes "no") ++ (l i ++ text_of_instance s.graph (t i))) ∙ sym b.text
 
+-- it has none where the answer is yes
 no_unmet : (s : Schema) (r : ℕ) (q : Formula) (ys : List ℕ) → IsImplied s r q → ShowsUnmet s r q ys → ⊥
 no_unmet s r q ys u m = let z = m.least.is_one.stands_for in
     z.true_at_root (u (thawed s m.candidates r m.frozen) z.legal z.root z.root_is)
 
+-- a no of `summarizable` has one text
 one_difference : (s : Schema) (c : ℕ) (sources xs ys : List ℕ) → ShowsDifference s c sources xs
     → ShowsDifference s c sources ys → xs ≡ ys
 one_difference s c sources xs ys a b =
@@ -66,12 +72,14 @@ one_difference s c sources xs ys a b =
     (direct_sum (t i) (root_place s (q i) (p i)) c) (views_sum (t i) (root_place s (q i) (p i)) c sources))))
     ∙ sym b.text
 
+-- it has none where the answer is yes
 no_difference : (s : Schema) (c : ℕ) (sources ys : List ℕ) → IsSummarizable s c sources → ShowsDifference s c sources ys
     → ⊥
 no_difference s c sources ys u m = not_both_answers s c sources m.candidates m.root m.frozen u m.counterexample
 
 -- ---- frozen, audit
 
+-- the list of all frozen dimensions has one text
 one_listing : (s : Schema) (c : ℕ) (xs ys : List ℕ) → ListsFrozen s c xs → ListsFrozen s c ys → xs ≡ ys
 one_listing s c xs ys a b =
     let k = a.candidates in let h = b.candidates in
@@ -82,6 +90,7 @@ one_listing s c xs ys a b =
     same_line s.graph k h c c f f refl refl (λ d. same_name s Truth k h a.all.candidates b.all.candidates f d) in
     a.text ∙ (λ i. flat_map (λ f. m f i) (p i) ++ line (codes "count " ++ decimal (length (p i)))) ∙ sym b.text
 
+-- there is none where they are too many
 no_listing : (s : Schema) (c : ℕ) (ys : List ℕ) → HasTooMany s c → ListsFrozen s c ys → ⊥
 no_listing s c ys m l =
     let h = m.0 in let t = m.1 in
@@ -89,6 +98,7 @@ no_listing s c ys m l =
     t.some l.all.complete t.differ t.sound in
     let many = t.many in let few = l.few in omega (arith, r, many, few)
 
+-- the findings have one text
 one_audit : (s : Schema) (xs ys : List ℕ) → ListsFindings s xs → ListsFindings s ys → xs ≡ ys
 one_audit s xs ys a b =
     let p = findings_are_one s a.findings b.findings a.are_findings b.are_findings in
@@ -97,6 +107,7 @@ one_audit s xs ys a b =
 
 -- ---- all questions
 
+-- one status and one text for each question, but for certificates
 one_answer : (q : Question) (s t : Status) (xs ys : List ℕ) → IsAnswer q s xs → IsAnswer q t ys
     → (s ≡ t) × ((xs ≡ ys) ⊎ AreCertificates q xs ys)
 one_answer (BySatisfiable z c) s t xs ys (inl a) (inl b) = (a.0 ∙ sym b.0, inl (a.2 ∙ sym b.2))
@@ -123,17 +134,21 @@ one_answer (ByFrozen z c) s t xs ys (inr a) (inl b) = absurd (no_listing z c ys 
 one_answer (ByFrozen z c) s t xs ys (inr a) (inr b) = (a.0 ∙ sym b.0, inl (a.2 ∙ sym b.2))
 one_answer (ByAudit z) s t xs ys a b = (a.0 ∙ sym b.0, inl (one_audit z xs ys a.1 b.1))
 
+-- so it is of all questions
 pub answers_are_one : AnswersAreOne
 answers_are_one = one_answer
 
 -- ---- the parts of an answer
 
+-- all frozen dimensions are one list
 pub all_frozen_are_one : AllFrozenAreOne
 all_frozen_are_one s q r k h xs ys a b = one_list s q r k h a.candidates b.candidates xs ys a.ordered b.ordered a.sound
     b.sound a.complete b.complete
 
+-- where there are too many, no list has all
 pub too_many_are_not_listed : TooManyAreNotListed
 too_many_are_not_listed = no_listing
 
+-- the findings are one list
 pub findings_are_one_list : FindingsAreOne
 findings_are_one_list = findings_are_one

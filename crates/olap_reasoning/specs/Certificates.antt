@@ -1,6 +1,6 @@
 -- What is told beside yes or no: frozen dimensions with their lines.
---     ShowsMember    a category can have a member
---     ShowsUnmet     a constraint isn't met by all legal instances
+--     ShowsMember       a category can have a member
+--     ShowsUnmet        a constraint isn't met by all legal instances
 --     ShowsDifference   a view isn't always that from the sources' views
 use Rattle.std.specs.Prelude.{◌≡◌, ℕ, List, ◌++◌, codes}
 use Rattle.olap_ast.specs.Formula.{Formula, Formula.Truth, Formula.Not}

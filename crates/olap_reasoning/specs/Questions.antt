@@ -15,6 +15,7 @@ use Rattle.olap_proof.specs.declared.forms.Form.{Form}
 use Rattle.olap_reasoning.specs.Certificates.{ShowsMember, ShowsUnmet, ShowsDifference}
 use Rattle.olap_reasoning.specs.Listings.{HasTooMany, ListsFindings, ListsFrozen}
 
+-- a command's question, with all that it needs
 pub data Question : Type 0 where
   -- can the category have a member in a legal instance?
   BySatisfiable : (schema : Schema) (category : ℕ) → Question

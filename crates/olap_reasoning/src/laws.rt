@@ -1,8 +1,8 @@
 // Theorems over the definitions. Each is the clause of a function that does nothing.
 ghost use Rattle.olap_reasoning.specs.Laws.{AllFrozenAreOne, AnswersAreOne, FindingsAreOne, TooManyAreNotListed};
 
-/// A question has one status at most, and one list of bytes, but that there may be many certificates. So "exactly if" of
-/// each answer is a theorem.
+/// A question has one status at most, and one list of bytes, but that there may be many certificates. So "exactly if"
+/// of each answer is a theorem.
 pub fn answers_are_one()
     ensures { AnswersAreOne }
 {}

@@ -80,8 +80,10 @@ fn answered(alloc: Global, schema: &Schema, root: CatId) -> Result<Reply, Stop>
             let text = listed(alloc, schema.graph(), &candidates, root, all.items())?;
             Ok(yes(text))
         }
-        Err(AllRefusal::TooMany) => Err(refuse(alloc, "frozen TooMany")),
-        Err(AllRefusal::Memory) => Err(Stop::Memory),
+        Err(refusal) => match refusal {
+            AllRefusal::TooMany => Err(refuse(alloc, "frozen TooMany")),
+            AllRefusal::Memory => Err(Stop::Memory),
+        },
     }
 }
 

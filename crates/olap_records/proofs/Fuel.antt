@@ -11,6 +11,7 @@ use Rattle.csv.specs.declared.parser.State.TheVariants as st
 abbrev Leaves : List ℕ → Read → Type 0
 Leaves xs q = (length q.2 < length xs) ⊎ ((q.1 ≡ st.StartRecord) × (q.2 ≡ []))
 
+-- what an option has is one
 the-some : {A : Type 0} (x y : A) → Some x ≡ Some y → x ≡ y
 the-some x y e = cc
 
@@ -40,6 +41,7 @@ unfolding records_from next_record
 none-at-end cfg zero = refl
 none-at-end cfg (suc n) = refl
 
+-- lists with one head are equal if what follows is
 the-cons : {A : Type 0} (x : A) (xs ys : List A) → xs ≡ ys → x ∷ xs ≡ x ∷ ys
 the-cons x xs ys e = cc
 

@@ -1,4 +1,4 @@
--- What a first fault is, place by place.
+-- The first fault, place by place.
 use Rattle.std.specs.Prelude.{◌≡◌, ◌<◌, ◌↔◌, ℕ, List, [], take, slice_get, Option, Some, None}
 use Rattle.olap_records.specs.Faults.{first_fault}
 
@@ -13,10 +13,12 @@ pub record IsFirstFault {R K : Type 0} (fault : List R → R → Option K) (rows
   pub fails : fault (take i rows) record_at ≡ Some k
   pub none_before : (j : ℕ) → j < i → Passes fault rows j
 
+-- what `first_fault` finds is the first fault, and a first fault is found
 abbrev pub FirstFaultIsFirst : Type 0 → Type 0 → Type 0
 FirstFaultIsFirst R K = (fault : List R → R → Option K) (rows : List R) (i : ℕ) (k : K)
     → (first_fault fault [] rows ≡ Some (i, k)) ↔ IsFirstFault fault rows i k
 
+-- it finds none exactly if every record passes
 abbrev pub NoFaultIsNone : Type 0 → Type 0 → Type 0
 NoFaultIsNone R K = (fault : List R → R → Option K) (rows : List R)
     → (first_fault fault [] rows ≡ None) ↔ ((j : ℕ) → Passes fault rows j)

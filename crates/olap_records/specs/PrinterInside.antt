@@ -1,4 +1,4 @@
--- What a printer keeps.
+-- The inside of a printer.
 use Rattle.std.specs.Prelude.{◌≡◌, ◌++◌, true, false, ℕ, List}
 use Rattle.csv.specs.Writing.{default_writer, fields_written, has_written, writer_pending, writer_setup, writer_under}
 use Rattle.olap_records.specs.Texts.{Printing}
@@ -8,6 +8,7 @@ use Rattle.olap_records.specs.declared.printing.Printer.TheInside.{Inside}
 abbrev pub text_so_far : Inside → List ℕ
 text_so_far a = (writer_under a.wtr).items ++ writer_pending a.wtr
 
+-- what a caller sees of a printer
 abbrev pub printing_of : Inside → Printing
 printing_of a = record { width = a.width; text = text_so_far a; live = a.live }
 

@@ -1,4 +1,4 @@
--- What a reader of records keeps.
+-- The inside of a reader of records.
 use Rattle.std.specs.Prelude.{◌≡◌, true, false, ℕ, List, [], Some, IsSome, if◌then◌else◌}
 use Rattle.std.specs.Borrow.{Bor}
 use Rattle.csv.specs.Reading.{Ready, default_config, has_failed, is_flexible, reader_config, reader_state, reader_trim, source_of}
@@ -8,6 +8,7 @@ use Rattle.csv.specs.declared.reader.Trim.TheVariants as trim
 use Rattle.olap_records.specs.Records.{Reading, records_left}
 use Rattle.olap_records.specs.declared.reading.Rows.TheInside.{Inside}
 
+-- what a caller sees of a reader; one that is done has no records left
 abbrev pub reading_of : Inside → Reading
 reading_of a =
     record {
@@ -21,5 +22,6 @@ Intact r = has_failed r ≡ false
     → (reader_config r ≡ default_config) × (reader_trim r ≡ trim.None) × (is_flexible r ≡ true) × Ready r
     × IsSome (source_of (λ s. Some s.now) r)
 
+-- the invariant of `Rows`: its reader is intact
 abbrev pub ReadsOn : Inside → Type 0
 ReadsOn a = Intact a.rdr

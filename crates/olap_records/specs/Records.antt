@@ -1,4 +1,8 @@
 -- The records of a CSV text, as csv reads them with no header row, where they may differ in length.
+--     records_of       the records of a text
+--     records_after    those from a state on, in the midst of a text
+--     records_left     the same, where there may be no bytes to read
+--     Reading          what a caller sees of a reader
 use Rattle.std.specs.Prelude.{◌+◌, ℕ, List, [], length, Option, Some, None}
 use Rattle.csv.specs.Reading.{default_config, records, records_from, strip_bom}
 use Rattle.csv.specs.declared.parser.State.{State}

@@ -2,7 +2,7 @@
 //!
 //! A contract sees `Rows` as the record read last and the records still to come, and `Printer` as the
 //! text printed so far; no clause speaks of the CSV library. `first_fault` of `specs/Faults.antt` says
-//! for every reader of records which fault comes first.
+//! for every reader of records which fault comes first. What a field means isn't known here.
 #![tactic(auto)]
 
 mod laws;

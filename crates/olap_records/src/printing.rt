@@ -37,8 +37,17 @@ impl Printer {
         ensures width { result.width ≡ width }
         ensures live { IsTrue result.live }
     {
+        Printer::behind(Vec::new(alloc), width)
+    }
+
+    /// A text that is there, for records of so many fields behind it.
+    pub fn behind(text: Vec<u8>, width: usize) -> Printer
+        ensures text { result.text ≡ text.items }
+        ensures width { result.width ≡ width }
+        ensures live { IsTrue result.live }
+    {
         Printer {
-            wtr: Writer::from_writer(Vec::new(alloc)),
+            wtr: Writer::from_writer(text),
             width,
             live: true,
         }

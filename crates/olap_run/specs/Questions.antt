@@ -9,6 +9,7 @@ use Rattle.olap_reasoning.specs.Questions as reasoning
 use Rattle.olap_totals.specs.Questions as totals
 use Rattle.olap_verdicts.specs.Questions as verdicts
 
+-- a question of one of the families
 pub data Question : Type 0 where
   -- about all legal instances of a schema
   OfReasoning : reasoning.Question → Question

@@ -58,7 +58,7 @@ pub fn olap<L: Library, K: Sink>(
         K.contents out.new ≡ K.contents out.old }
     ensures part { result ≡ Status.WriteFault → WritesPart (texts words.now) (L.contents lib.old)
         (K.contents out.old) (K.contents out.new) }
-    // Where all files are held, there is an answer, or want of memory, or a fault that is counted.
+    // Where all files are held, there is an answer, out of memory, or a fault that is counted.
     ensures complete { TellsAll (texts words.now) (L.contents lib.old) →
         (IsAnswered result × WritesOutcome (texts words.now) (L.contents lib.old) result
         (K.contents out.old) (K.contents out.new))

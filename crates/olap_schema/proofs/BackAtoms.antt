@@ -33,6 +33,7 @@ use Rattle.olap_schema.proofs.PrintNames.{named, names_differ}
 use Rattle.olap_schema.proofs.PrintNumerals.{numeral_is_number}
 use Rattle.olap_schema.proofs.PrintTokens.{joined_tokens, number_token, spelt, spelt_list, spelt_rest}
 
+-- a text is equal to itself
 same_bytes : (w : List ℕ) → bytes_eq w w ≡ true
 same_bytes w = (bytes_eq-Decides w w).1 refl
 
@@ -151,25 +152,30 @@ module _ (g : Graph) (h : IsHierarchy g) where
 
 -- ---- words that are no atoms
 
+-- the last of four that is so
 last_or : (a b c d : Bool) → d ≡ true → a || b || c || d ≡ true
 last_or true b c d e = refl
 last_or false true c d e = refl
 last_or false false true d e = refl
 last_or false false false d e = e
 
+-- a number is no atom
 number_is_no_atom : (w : List ℕ) → is_number_token w ≡ true → is_no_atom w ≡ true
 unfolding is_no_atom
 number_is_no_atom w e =
     last_or (bytes_eq w (codes "true")) (bytes_eq w (codes "false")) (bytes_eq w (codes "one")) (is_number_token w) e
 
+-- nor is `true`
 true_is_no_atom : is_no_atom (codes "true") ≡ true
 unfolding is_no_atom
 true_is_no_atom = refl
 
+-- nor `false`
 false_is_no_atom : is_no_atom (codes "false") ≡ true
 unfolding is_no_atom
 false_is_no_atom = refl
 
+-- nor `one`
 one_is_no_atom : is_no_atom (codes "one") ≡ true
 unfolding is_no_atom
 one_is_no_atom = refl

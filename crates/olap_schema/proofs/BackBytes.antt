@@ -16,9 +16,11 @@ pub record IsPlain (text : List ℕ) : Type 0 where
   pub utf8 : IsUtf8 text
   pub plain : list_any is_control text ≡ false
 
+-- plain text isn't refused
 pub not_bad : (text : List ℕ) → IsPlain text → is_bad text ≡ false
 not_bad text p = rw (is_utf8-from_IsUtf8 text p.utf8, p.plain) refl
 
+-- and what isn't refused is plain
 pub from_not_bad : (text : List ℕ) → is_bad text ≡ false → IsPlain text
 from_not_bad text e = go (is_utf8 text) (list_any is_control text) refl refl e
   where
@@ -27,6 +29,7 @@ from_not_bad text e = go (is_utf8 text) (list_any is_control text) refl refl e
     go true true p q r = absurd (cc)
     go false c p q r = absurd (cc)
 
+-- no control characters in two texts, none in both together
 any-append : (xs ys : List ℕ) → list_any is_control xs ≡ false → list_any is_control ys ≡ false
     → list_any is_control (xs ++ ys) ≡ false
 any-append [] ys p q = q
@@ -38,12 +41,15 @@ any-append (x ∷ xs) ys p q = go (is_control x) p (λ r. any-append xs ys r q)
     go true r rest = absurd (cc)
     go false r rest = rest r
 
+-- two plain texts are plain together
 pub plain-append : (xs ys : List ℕ) → IsPlain xs → IsPlain ys → IsPlain (xs ++ ys)
 plain-append xs ys p q = record { utf8 = IsUtf8-append xs ys p.utf8 q.utf8; plain = any-append xs ys p.plain q.plain }
 
+-- nothing is plain
 pub plain-nil : IsPlain []
 plain-nil = record { utf8 = IsUtf8-nil; plain = refl }
 
+-- a byte below 128 is ASCII
 ascii_one : (b : ℕ) → b < 128 → IsAscii (b ∷ [])
 ascii_one b l zero = l
 ascii_one b l (suc k) = omega arith
@@ -59,6 +65,7 @@ plain-cons b bs l m p =
 
 -- ---- strings
 
+-- a string is escaped part by part
 escaped-append : (xs ys : List ℕ) → escaped (xs ++ ys) ≡ escaped xs ++ escaped ys
 unfolding escaped
 escaped-append [] ys = refl
@@ -75,6 +82,7 @@ high_stay (b ∷ bs) a =
     let q : (b == 92) ≡ false = grind arith in
     rw (p, q) (ap (λ t. b ∷ t) (high_stay bs (All-tail (λ b. 128 ≤ b) b bs a)))
 
+-- other characters have no byte below 128
 high_encode : (c : ℕ) → nat_lt c 128 ≡ false → All (λ b. 128 ≤ b) (encode c)
 unfolding encode
 high_encode c e = rw e (go (nat_lt c 2048) (nat_lt c 65536))
@@ -93,11 +101,13 @@ high_encode c e = rw e (go (nat_lt c 2048) (nat_lt c 65536))
         ((240 + c / 262144) ∷ (128 + (c / 4096) % 64) ∷ (128 + (c / 64) % 64) ∷ (128 + c % 64) ∷ [])
         (omega arith, (omega arith, (omega arith, (omega arith, tt))))
 
+-- two bytes below 128 are ASCII
 ascii_two : (a b : ℕ) → a < 128 → b < 128 → IsAscii (a ∷ b ∷ [])
 ascii_two a b l m zero = l
 ascii_two a b l m (suc zero) = m
 ascii_two a b l m (suc (suc k)) = omega arith
 
+-- one character, escaped, is UTF-8
 one_utf8 : (c : ℕ) → scalar c ≡ true → IsUtf8 (escaped (encode c))
 unfolding escaped
 one_utf8 c s = go (nat_lt c 128) refl
@@ -111,6 +121,7 @@ one_utf8 c s = go (nat_lt c 128) refl
     go false e =
         let same = high_stay (encode c) (high_encode c e) in rw same (c ∷ [], (rw s refl, append-nil (encode c)))
 
+-- and so are several
 all_utf8 : (cs : List ℕ) → scalars cs ≡ true → IsUtf8 (escaped (encodes cs))
 unfolding escaped
 all_utf8 [] e = IsUtf8-nil
@@ -124,9 +135,11 @@ all_utf8 (c ∷ cs) e = go (scalar c) (scalars cs) refl refl e (λ r. all_utf8 c
     go true false a b r rest = absurd (cc)
     go false q a b r rest = absurd (cc)
 
+-- so a text of UTF-8 is so when it is escaped
 escaped_utf8 : (k : List ℕ) → IsUtf8 k → IsUtf8 (escaped k)
 escaped_utf8 k u = rw u.1.1 at (all_utf8 u.0 u.1.0)
 
+-- and one without control characters has none
 escaped_controls : (k : List ℕ) → list_any is_control k ≡ false → list_any is_control (escaped k) ≡ false
 unfolding escaped
 escaped_controls [] e = refl
@@ -139,5 +152,6 @@ escaped_controls (b ∷ k) e = go ((b == 34) || (b == 92)) (is_control b) refl e
     go true false q r rest = rw q (rest r)
     go false false q r rest = rw q (rest r)
 
+-- a plain text is plain when it is escaped
 pub escaped_plain : (k : List ℕ) → IsPlain k → IsPlain (escaped k)
 escaped_plain k p = record { utf8 = escaped_utf8 k p.utf8; plain = escaped_controls k p.plain }

@@ -48,9 +48,11 @@ ruled g done nodes pairs numbers lines = record {
 abbrev pub nodes_in : List Constraint → ℕ
 nodes_in cs = sum_by (λ c. node_count c.formula) cs
 
+-- the pairs so far, with those of some constraints
 abbrev pub pairs_with : List Equality → List Constraint → List Equality
 pairs_with pairs cs = fold with_pair pairs (flat_map (λ c. equalities c.formula) cs)
 
+-- the same of numbers
 abbrev pub numbers_with : List Comparison → List Constraint → List Comparison
 numbers_with numbers cs = fold with_number numbers (flat_map (λ c. comparisons c.formula) cs)
 
@@ -62,6 +64,7 @@ one_grows same pairs x = go (list_any (same x) pairs)
     go true = omega arith
     go false = let e = lengths pairs (x ∷ []) in omega arith
 
+-- there are never fewer
 grows : {A : Type 0} (same : A → A → Bool) (pairs xs : List A)
     → length pairs ≤ length (fold (with_new same) pairs xs)
 grows same pairs [] = omega arith
@@ -77,15 +80,18 @@ first_nodes c cs =
     go : (a b s : ℕ) → s ≡ (0 + a) + b → s ≡ a + b
     go a b s e = omega arith
 
+-- the first constraint's come first
 pub first_pairs : (pairs : List Equality) (c : Constraint) (cs : List Constraint)
     → pairs_with pairs (c ∷ cs) ≡ pairs_with (fold with_pair pairs (equalities c.formula)) cs
 first_pairs pairs c cs = fold-append with_pair pairs (equalities c.formula) (flat_map (λ x. equalities x.formula) cs)
 
+-- the same of numbers
 pub first_numbers : (numbers : List Comparison) (c : Constraint) (cs : List Constraint)
     → numbers_with numbers (c ∷ cs) ≡ numbers_with (fold with_number numbers (comparisons c.formula)) cs
 first_numbers numbers c cs =
     fold-append with_number numbers (comparisons c.formula) (flat_map (λ x. comparisons x.formula) cs)
 
+-- the tokens of a printed formula pass all checks of its form
 form_is : (g : Graph) (h : IsHierarchy g) (r : ℕ) (l : IsCategory g r) (f : Formula) → IsFormulaAt g r f
     → (before : ℕ) → before + node_count f ≤ most_nodes → depth_of f ≤ most_depth →
     form_read version.Two g before (spelt g r f) ≡ Ok f

@@ -36,15 +36,18 @@ growing names numbers edges lines = record {
 
 -- ---- lists
 
+-- the item behind some
 at_end : {A : Type 0} (xs : List A) (y : A) (ys : List A) (d : A) → get_or (xs ++ y ∷ ys) (length xs) d ≡ y
 at_end [] y ys d = refl
 at_end (x ∷ xs) y ys d = at_end xs y ys d
 
+-- an item of the first list
 at_left : {A : Type 0} (xs ys : List A) (k : ℕ) (d : A) → k < length xs → get_or (xs ++ ys) k d ≡ get_or xs k d
 at_left [] ys k d l = absurd (omega arith)
 at_left (x ∷ xs) ys zero d l = refl
 at_left (x ∷ xs) ys (suc k) d l = at_left xs ys k d (omega arith)
 
+-- two lists are as long as both
 pub lengths : {A : Type 0} (xs ys : List A) → length (xs ++ ys) ≡ length xs + length ys
 lengths [] ys = omega arith
 lengths (x ∷ xs) ys = let e = lengths xs ys in omega arith
@@ -55,9 +58,11 @@ not_before xs y ys a c =
     let l = lengths xs (y ∷ ys) in
     a c.0 (length xs) y c.1 (omega arith) (at_left xs (y ∷ ys) c.0 y c.1 ∙ c.2 ∙ sym (at_end xs y ys y))
 
+-- an item between others is in the list
 pub stands : {A : Type 0} (xs : List A) (y : A) (ys : List A) → Contains (xs ++ y ∷ ys) y
 stands xs y ys = Contains-append_right xs (y ∷ ys) y (0, omega arith, refl)
 
+-- an item doesn't depend on what would stand where there is none
 same_read : {A : Type 0} (zs : List A) (k : ℕ) (d e : A) → k < length zs → get_or zs k d ≡ get_or zs k e
 same_read [] k d e l = absurd (omega arith)
 same_read (z ∷ zs) zero d e l = refl
@@ -77,6 +82,7 @@ not_placed t P tells (y ∷ ys) none = go (position_from t 0 (y ∷ ys)) refl
 
 -- ---- categories
 
+-- a name that stands later stands for no category yet
 new_name : (done : List (List ℕ)) (name : List ℕ) (rest : List (List ℕ)) → AllPairs ◌≢◌ (done ++ name ∷ rest)
     → name ≢ codes "All" → (numbers : List Bool) (edges : List Edge) →
     category_named (record { names = done; numbers = numbers; edges = edges }) name ≡ None
@@ -87,6 +93,7 @@ new_name done name rest a n numbers edges =
       | inr d ↦ not_before done name rest a (rw e d)
     ])
 
+-- one category more is read
 pub add_category : (s : Schema) → IsValidSchema s
     → (n : ℕ) (done : List (List ℕ)) (name : List ℕ) (rest : List (List ℕ)) (kinds : List Bool) (number : Bool)
     (lines : List ℕ) → done ++ name ∷ rest ≡ s.graph.names
@@ -113,6 +120,7 @@ add_category s v n done name rest kinds number lines e =
 
 -- ---- edges
 
+-- one edge more is read
 pub add_edge : (s : Schema) → IsValidSchema s → AreShort s.graph
     → (done : List Edge) (edge : Edge) (rest : List Edge) (lines : List ℕ) → done ++ edge ∷ rest ≡ s.graph.edges →
     edge_read (growing s.graph.names s.graph.numbers done lines) (name_of_category s.graph edge.child)

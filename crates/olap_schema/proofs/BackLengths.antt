@@ -28,44 +28,54 @@ use Rattle.olap_schema.proofs.PrintTokens.{number_token, spelt}
 abbrev pub AreShort : Graph → Type 0
 AreShort g = (c : ℕ) → IsCategory g c → length (name_of_category g c) ≤ most_text_bytes
 
+-- two tests of which the second fails
 no_more : (b : Bool) → b && false ≡ false
 no_more true = refl
 no_more false = refl
 
+-- a string within the limit
 short_quoted : (k : List ℕ) → length k ≤ most_text_bytes → is_long (token.Quoted k) ≡ false
 unfolding is_long
 short_quoted k l = let e : nat_lt most_text_bytes (length k) ≡ false = grind (arith) in e
 
+-- a word with short names
 short_word : (w : List ℕ) → list_any is_long_name (names_in w) ≡ false → is_long (token.Word w) ≡ false
 unfolding is_long
 short_word w d = rw d (no_more (not (is_number_token w)))
 
+-- a mark
 short_mark : (m : Mark) → is_long (token.Mark m) ≡ false
 unfolding is_long
 short_mark m = refl
 
+-- a number within the bounds
 short_number : (z : ℤ) → IsSmall z → is_long (number_token z) ≡ false
 unfolding is_long
 short_number (pos n) small = rw (numeral_is_number (pos n) small) refl
 short_number (negsuc n) small = refl
 
+-- a word alone
 one_short : (w : List ℕ) → list_any is_long_name (names_in w) ≡ false → list_any is_long (token.Word w ∷ []) ≡ false
 one_short w d = none-cons is_long (token.Word w) [] (short_word w d) refl
 
+-- a word, a mark and what it is compared with
 compared_short : (w : List ℕ) (m : Mark) (t : Token) → list_any is_long_name (names_in w) ≡ false
     → is_long t ≡ false → list_any is_long (token.Word w ∷ token.Mark m ∷ t ∷ []) ≡ false
 compared_short w m t d e =
     none-cons is_long (token.Word w) (token.Mark m ∷ t ∷ []) (short_word w d)
     (none-cons is_long (token.Mark m) (t ∷ []) (short_mark m) (none-cons is_long t [] e refl))
 
+-- `true` is short
 true_short : list_any is_long_name (names_in (codes "true")) ≡ false
 unfolding pieces_of
 true_short = refl
 
+-- and `false`
 false_short : list_any is_long_name (names_in (codes "false")) ≡ false
 unfolding pieces_of
 false_short = refl
 
+-- and `one`
 name_one_short : list_any is_long_name (names_in (codes "one")) ≡ false
 unfolding pieces_of
 name_one_short = refl

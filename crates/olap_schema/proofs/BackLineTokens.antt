@@ -24,6 +24,7 @@ use Rattle.olap_schema.proofs.PrintCut.{cut_word, name_is_word, text_is_cut}
 use Rattle.olap_schema.proofs.PrintNames.{name_is}
 use Rattle.olap_schema.proofs.PrintTokens.{spelt}
 
+-- bytes of words, by the test
 word_bytes : (w : List ℕ) → list_all is_word_byte w ≡ true → AreWordBytes w
 word_bytes [] e = tt
 word_bytes (b ∷ w) e = go (is_word_byte b) refl e (λ r. word_bytes w r)
@@ -38,12 +39,14 @@ keyword : (v : Version) (b : ℕ) (w bs : List ℕ) (ts : List Token) → list_a
     → IsCut v ((b ∷ w) ++ 32 ∷ bs) (token.Word (b ∷ w) ∷ ts)
 keyword v b w bs ts e d = word b w (word_bytes (b ∷ w) e) refl (blank d)
 
+-- a word at the end of a line
 last_word : (v : Version) (b : ℕ) (w : List ℕ) → list_all is_word_byte (b ∷ w) ≡ true
     → IsCut v (b ∷ w) (token.Word (b ∷ w) ∷ [])
 last_word v b w e =
     let cut : IsCut v ((b ∷ w) ++ []) (token.Word (b ∷ w) ∷ []) = word b w (word_bytes (b ∷ w) e) tt end in
     rw (append-nil (b ∷ w)) at cut
 
+-- a category name there
 last_name : (v : Version) (w : List ℕ) → IsCategoryName w → IsCut v w (token.Word w ∷ [])
 last_name v w n =
     let cut : IsCut v (w ++ []) (token.Word w ∷ []) = cut_word (name_is_word w n) tt end in rw (append-nil w) at cut
@@ -65,6 +68,7 @@ version_tokens =
     (keyword version.One 115 (codes "chema") (codes "2") (token.Word (codes "2") ∷ []) refl
     (last_word version.One 50 [] refl))
 
+-- the tokens of a category's line
 pub category_tokens : (name : List ℕ) (number : Bool) → IsCategoryName name
     → tokens_of version.Two (category_text name number)
     ≡ Some (token.Word (codes "category") ∷ token.Word name ∷ kind_tokens number)
@@ -106,18 +110,22 @@ module _ (g : Graph) (h : IsHierarchy g) where
 
 -- ---- bytes
 
+-- the version line is plain
 pub version_plain : IsPlain version_text
 version_plain = ascii_plain (codes "schema 2") refl
 
+-- so is what stands behind a name
 kind_plain : (number : Bool) → IsPlain (kind_text number)
 kind_plain true = ascii_plain (codes " number") refl
 kind_plain false = ascii_plain [] refl
 
+-- a category's line
 pub category_plain : (name : List ℕ) (number : Bool) → IsCategoryName name → IsPlain (category_text name number)
 category_plain name number n =
     plain-append (codes "category ") (name ++ kind_text number) (ascii_plain (codes "category ") refl)
     (plain-append name (kind_text number) (name_plain name n) (kind_plain number))
 
+-- an edge's
 pub edge_plain : (g : Graph) → IsHierarchy g → (e : Edge) → IsCategory g e.child → IsCategory g e.parent
     → IsPlain (edge_text g e)
 edge_plain g h e l m =
@@ -128,6 +136,7 @@ edge_plain g h e l m =
     (plain-append (32 ∷ []) (name_of_category g e.parent) (ascii_plain (32 ∷ []) refl)
     (name_plain (name_of_category g e.parent) (name_is g h e.parent m))))
 
+-- and a constraint's, if its constants are plain
 pub constraint_plain : (g : Graph) → IsHierarchy g → (c : Constraint) → IsCategory g c.root
     → IsFormulaAt g c.root c.formula → AreTexts (equalities c.formula) → IsPlain (constraint_text g c)
 constraint_plain g h c l v t =
@@ -139,18 +148,22 @@ constraint_plain g h c l v t =
 
 -- ---- none is blank or a comment
 
+-- the version line is no comment and not blank
 pub version_speaks : is_quiet version_text ≡ false
 unfolding is_quiet
 version_speaks = refl
 
+-- nor is a category's
 pub category_speaks : (name : List ℕ) (number : Bool) → is_quiet (category_text name number) ≡ false
 unfolding is_quiet
 category_speaks name number = refl
 
+-- nor an edge's
 pub edge_speaks : (g : Graph) (e : Edge) → is_quiet (edge_text g e) ≡ false
 unfolding is_quiet
 edge_speaks g e = refl
 
+-- nor a constraint's
 pub constraint_speaks : (g : Graph) (c : Constraint) → is_quiet (constraint_text g c) ≡ false
 unfolding is_quiet
 constraint_speaks g c = refl

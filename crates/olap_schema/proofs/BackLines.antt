@@ -11,6 +11,7 @@ use Rattle.olap_schema.specs.Lines.{chomped, in_front, is_control, is_quiet, lin
 use Rattle.olap_schema.specs.Printing.{text_of_lines}
 use Rattle.olap_schema.proofs.BackBytes.{IsPlain, not_bad}
 
+-- a text without control characters, byte by byte
 no_control : (b : ℕ) (bs : List ℕ) → list_any is_control (b ∷ bs) ≡ false
     → (is_control b ≡ false) × (list_any is_control bs ≡ false)
 no_control b bs e = go (is_control b) refl e
@@ -20,12 +21,15 @@ no_control b bs e = go (is_control b) refl e
     go true q r = absurd (cc)
     go false q r = (q, r)
 
+-- has no LF
 no_lf : (b : ℕ) → is_control b ≡ false → (b == 10) ≡ false
 no_lf b e = grind arith
 
+-- nor CR
 no_cr : (b : ℕ) → is_control b ≡ false → (b == 13) ≡ false
 no_cr b e = grind arith
 
+-- so it is a line if an LF stands behind it
 one_line : (line rest : List ℕ) → list_any is_control line ≡ false → lines_of (line ++ 10 ∷ rest) ≡ line ∷ lines_of rest
 unfolding lines_of
 one_line [] rest e = refl
@@ -44,11 +48,13 @@ unfolding lines_of text_of_lines
 lines_are [] p = refl
 lines_are (line ∷ lines) p = one_line line (text_of_lines lines) p.0.plain ∙ ap (λ ls. line ∷ ls) (lines_are lines p.1)
 
+-- and has no CR at its end
 no_cr_at : (line : List ℕ) (k : ℕ) → list_any is_control line ≡ false → (slice_index line k == 13) ≡ false
 no_cr_at [] k e = refl
 no_cr_at (b ∷ line) zero e = no_cr b (no_control b line e).0
 no_cr_at (b ∷ line) (suc k) e = no_cr_at line k (no_control b line e).1
 
+-- so nothing is taken off it
 chomped_stays : (line : List ℕ) → IsPlain line → chomped line ≡ line
 chomped_stays line p = rw (no_cr_at line (length line - 1) p.plain) refl
 

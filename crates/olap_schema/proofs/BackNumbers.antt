@@ -23,14 +23,17 @@ use Rattle.olap_schema.proofs.PrintNames.{name_is}
 use Rattle.olap_schema.proofs.PrintNumerals.{no_number, numeral_is_number}
 use Rattle.olap_schema.proofs.PrintTokens.{number_token, spelt}
 
+-- `true` is no number
 true_no_number : is_number_token (codes "true") ≡ false
 unfolding is_number_token
 true_no_number = refl
 
+-- nor is `false`
 false_no_number : is_number_token (codes "false") ≡ false
 unfolding is_number_token
 false_no_number = refl
 
+-- nor `one`
 one_no_number : is_number_token (codes "one") ≡ false
 unfolding is_number_token
 one_no_number = refl
@@ -51,14 +54,17 @@ module _ (g : Graph) (h : IsHierarchy g) where
       go true = name_is_no_number r l
       go false = atom_is_no_number r 46 (d ∷ []) l
 
+-- a word that is no number is no bad one
 good_word : (w : List ℕ) → is_number_token w ≡ false → is_bad_number (token.Word w) ≡ false
 unfolding is_bad_number
 good_word w d = rw d refl
 
+-- nor is a mark
 good_mark : (m : Mark) → is_bad_number (token.Mark m) ≡ false
 unfolding is_bad_number
 good_mark m = refl
 
+-- nor a string
 good_text : (k : List ℕ) → is_bad_number (token.Quoted k) ≡ false
 unfolding is_bad_number
 good_text k = refl
@@ -67,14 +73,17 @@ good_text k = refl
 good_numeral : (z : ℤ) → IsSmall z → is_no_numeral (canonical z) ≡ false
 good_numeral z small = rw (numeral_is_number z small, numbers_read_back z small) refl
 
+-- a printed number is within the bounds
 good_number : (z : ℤ) → IsSmall z → is_bad_number (number_token z) ≡ false
 unfolding is_bad_number
 good_number (pos n) small = good_numeral (pos n) small
 good_number (negsuc n) small = good_numeral (negsuc n) small
 
+-- a word alone
 one_good : (w : List ℕ) → is_number_token w ≡ false → list_any is_bad_number (token.Word w ∷ []) ≡ false
 one_good w d = none-cons is_bad_number (token.Word w) [] (good_word w d) refl
 
+-- a word, a mark and what it is compared with
 compared_good : (w : List ℕ) (m : Mark) (t : Token) → is_number_token w ≡ false → is_bad_number t ≡ false
     → list_any is_bad_number (token.Word w ∷ token.Mark m ∷ t ∷ []) ≡ false
 compared_good w m t d e =

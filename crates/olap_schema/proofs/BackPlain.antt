@@ -38,6 +38,7 @@ ascii_plain (b ∷ bs) e = go (nat_lt b 127) (nat_le 32 b) refl refl e (λ r. as
     go true false m n r rest = absurd (cc)
     go false q m n r rest = absurd (cc)
 
+-- letters and digits are plain
 letters_plain : (w : List ℕ) → All IsLetterOrDigit w → IsPlain w
 letters_plain [] a = plain-nil
 letters_plain (b ∷ w) a =
@@ -48,6 +49,7 @@ letters_plain (b ∷ w) a =
 pub name_plain : (w : List ℕ) → IsCategoryName w → IsPlain w
 name_plain w n = letters_plain w (letters w n)
 
+-- a connective
 joint_plain : (j : Joint) → IsPlain (joint_bytes j)
 joint_plain joint.Iff = ascii_plain (codes "<->") refl
 joint_plain joint.Implies = ascii_plain (codes "->") refl
@@ -64,11 +66,13 @@ byte b bs e p = go (nat_lt b 127) (nat_le 32 b) refl refl e
     go true false m n r = absurd (cc)
     go false v m n r = absurd (cc)
 
+-- a comparison
 op_plain : (op : Op) → IsPlain (mark_bytes (comparing op))
 op_plain Op.Equal = ascii_plain (codes "=") refl
 op_plain Op.Less = ascii_plain (codes "<") refl
 op_plain Op.AtMost = ascii_plain (codes "<=") refl
 
+-- digits
 digits_plain : (ds : List ℕ) → all_ascii_digits ds ≡ true → IsPlain ds
 digits_plain [] e = plain-nil
 digits_plain (b ∷ ds) e =
@@ -82,11 +86,13 @@ numeral_plain (pos n) small = digits_plain (decimal n) (digits_in_decimal n smal
 numeral_plain (negsuc n) small =
     byte 45 (decimal (suc n)) refl (digits_plain (decimal (suc n)) (digits_behind_dash n small).digits)
 
+-- a plain text as a string
 quoted_plain : (k : List ℕ) → IsPlain k → IsPlain (quoted k)
 quoted_plain k p =
     byte 34 (escaped k ++ 34 ∷ []) refl
     (plain-append (escaped k) (34 ∷ []) (escaped_plain k p) (ascii_plain (34 ∷ []) refl))
 
+-- two plain texts joined by a connective
 joined_plain : (j : Joint) (x y : List ℕ) → IsPlain x → IsPlain y → IsPlain (joined_text j x y)
 joined_plain j x y p q =
     byte 40 (x ++ 32 ∷ (joint_bytes j ++ 32 ∷ (y ++ 41 ∷ []))) refl
@@ -117,17 +123,21 @@ module _ (g : Graph) (h : IsHierarchy g) where
       go true = name_plain (name_of_category g r) (name_is g h r l)
       go false = atom_plain r 46 (d ∷ []) refl l (k, tt)
 
+-- texts of two lists are those of the first
 pub left_texts : (xs ys : List Meaning.Equality) → AreTexts (xs ++ ys) → AreTexts xs
 left_texts xs ys t a c = t a (Contains-append_left xs ys a c)
 
+-- and of the second
 pub right_texts : (xs ys : List Meaning.Equality) → AreTexts (xs ++ ys) → AreTexts ys
 right_texts xs ys t a c = t a (Contains-append_right xs ys a c)
 
+-- a word and a string
 compared : (w k : List ℕ) → IsPlain w → IsPlain k → IsPlain (w ++ 32 ∷ 61 ∷ 32 ∷ quoted k)
 compared w k p q =
     plain-append w (32 ∷ 61 ∷ 32 ∷ quoted k) p
     (byte 32 (61 ∷ 32 ∷ quoted k) refl (byte 61 (32 ∷ quoted k) refl (byte 32 (quoted k) refl (quoted_plain k q))))
 
+-- a word and a number
 numbered : (w : List ℕ) (op : Op) (z : ℤ) → IsPlain w → IsSmall z
     → IsPlain (w ++ 32 ∷ (mark_bytes (comparing op) ++ 32 ∷ canonical z))
 numbered w op z p small =

@@ -26,16 +26,19 @@ use Rattle.olap_schema.proofs.PrintTokens.{joined_tokens, number_token, spelt, s
 abbrev HasNodes : ℕ → List Token → Type 0
 HasNodes n ts = (us : List Token) → nodes_of version.Two (ts ++ us) ≡ n + nodes_of version.Two us
 
+-- a token that is no node
 other_token : (t : Token) (us : List Token) → is_node t ≡ false → compares version.Two t ≡ false
     → nodes_of version.Two (t ∷ us) ≡ nodes_of version.Two us
 unfolding nodes_behind
 other_token t us e c = rw (e, c) (zero-add (nodes_of version.Two us))
 
+-- one that is
 node_token : (t : Token) (us : List Token) → is_node t ≡ true → compares version.Two t ≡ false
     → nodes_of version.Two (t ∷ us) ≡ 1 + nodes_of version.Two us
 unfolding nodes_behind
 node_token t us e c = rw (e, c) refl
 
+-- a word is one node
 word_nodes : (w : List ℕ) → HasNodes 1 (token.Word w ∷ [])
 word_nodes w us = node_token (token.Word w) us refl refl
 
@@ -47,27 +50,32 @@ mark_nodes Op.Equal us = zero-add (nodes_behind version.Two true us)
 mark_nodes Op.Less us = zero-add (nodes_behind version.Two true us)
 mark_nodes Op.AtMost us = zero-add (nodes_behind version.Two true us)
 
+-- a string that is compared with is none
 text_nodes : (k : List ℕ) (us : List Token)
     → nodes_behind version.Two true (token.Quoted k ∷ us) ≡ nodes_of version.Two us
 unfolding nodes_behind
 text_nodes k us = zero-add (nodes_of version.Two us)
 
+-- nor is a number
 number_nodes : (z : ℤ) (us : List Token) → nodes_behind version.Two true (number_token z ∷ us) ≡ nodes_of version.Two us
 unfolding nodes_behind
 number_nodes (pos n) us = zero-add (nodes_of version.Two us)
 number_nodes (negsuc n) us = zero-add (nodes_of version.Two us)
 
+-- so a word with a string is one
 equal_nodes : (w k : List ℕ) → HasNodes 1 (token.Word w ∷ token.Mark mark.Equal ∷ token.Quoted k ∷ [])
 equal_nodes w k us =
     word_nodes w (token.Mark mark.Equal ∷ token.Quoted k ∷ us)
     ∙ ap (λ n. 1 + n) (mark_nodes Op.Equal (token.Quoted k ∷ us) ∙ text_nodes k us)
 
+-- and a word with a number
 compared_nodes : (w : List ℕ) (op : Op) (z : ℤ)
     → HasNodes 1 (token.Word w ∷ token.Mark (comparing op) ∷ number_token z ∷ [])
 compared_nodes w op z us =
     word_nodes w (token.Mark (comparing op) ∷ number_token z ∷ us)
     ∙ ap (λ n. 1 + n) (mark_nodes op (number_token z ∷ us) ∙ number_nodes z us)
 
+-- two formulas and the connective
 joined_nodes : (j : Joint) (m n : ℕ) (l r : List Token) → HasNodes m l → HasNodes n r
     → HasNodes (1 + m + n) (joined_tokens j l r)
 joined_nodes j m n l r p q us =
@@ -83,12 +91,14 @@ joined_nodes j m n l r p q us =
     omega (arith, a, b, c, d, e) in
     simp append_assoc all
 
+-- a formula and its `!`
 not_nodes : (n : ℕ) (ts : List Token) → HasNodes n ts → HasNodes (1 + n) (token.Mark mark.Not ∷ ts)
 not_nodes n ts p us =
     let a = node_token (token.Mark mark.Not) (ts ++ us) refl refl in
     let b = p us in
     omega (arith, a, b)
 
+-- parts and the word before them
 listed_nodes : (n : ℕ) (ts : List Token) → HasNodes n ts
     → HasNodes (1 + n) (token.Word (codes "one") ∷ token.Mark mark.Open ∷ (ts ++ token.Mark mark.Close ∷ []))
 listed_nodes n ts p us =
@@ -102,6 +112,7 @@ listed_nodes n ts p us =
     omega (arith, a, b, c, d) in
     simp append_assoc all
 
+-- two parts
 part_nodes : (m n : ℕ) (ts us : List Token) → HasNodes m ts → HasNodes n us → HasNodes (m + n) (ts ++ us)
 part_nodes m n ts us p q vs =
     let a = p (us ++ vs) in
@@ -109,9 +120,11 @@ part_nodes m n ts us p q vs =
     let all : nodes_of version.Two (ts ++ (us ++ vs)) ≡ m + n + nodes_of version.Two vs = omega (arith, a, b) in
     simp append_assoc all
 
+-- a comma is none
 comma_nodes : (n : ℕ) (ts : List Token) → HasNodes n ts → HasNodes n (token.Mark mark.Comma ∷ ts)
 comma_nodes n ts p us = other_token (token.Mark mark.Comma) (ts ++ us) refl refl ∙ p us
 
+-- no tokens have none
 no_nodes : HasNodes 0 []
 no_nodes us = sym (zero-add (nodes_of version.Two us))
 
@@ -184,20 +197,24 @@ shifted o c (token.Mark (mark.Joint j) ∷ ts) = shifted o c ts
 abbrev pub Balances : ℕ → List Token → Type 0
 Balances d ts = (o c : ℕ) (us : List Token) → o + d ≤ c + most_depth → opens_over o c (ts ++ us) ≡ opens_over o c us
 
+-- one bracket more is open
 opened : (o c : ℕ) (ts : List Token) → o + 1 ≤ c + most_depth
     → opens_over o c (token.Mark mark.Open ∷ ts) ≡ opens_over (o + 1) c ts
 unfolding opens_over
 opened o c ts l = let n : nat_lt (c + most_depth) (o + 1) ≡ false = grind (arith) in rw n refl
 
+-- and closed again
 closed : (o c : ℕ) (us : List Token) → opens_over (o + 1) c (token.Mark mark.Close ∷ us) ≡ opens_over o c us
 unfolding opens_over
 closed o c us = shifted o c us
 
+-- a connective opens nothing
 joined_on : (j : Joint) (o c : ℕ) (us : List Token)
     → opens_over o c (token.Mark (mark.Joint j) ∷ us) ≡ opens_over o c us
 unfolding opens_over
 joined_on j o c us = refl
 
+-- two formulas in brackets, joined
 both_balance : (j : Joint) (d e : ℕ) (l r : List Token) → Balances d l → Balances e r
     → Balances (1 + max d e) (joined_tokens j l r)
 both_balance j d e l r p q o c us b =
@@ -207,15 +224,18 @@ both_balance j d e l r p q o c us b =
     (opened o c (l ++ token.Mark (mark.Joint j) ∷ (r ++ token.Mark mark.Close ∷ us)) (omega arith) ∙ left
     ∙ joined_on j (o + 1) c (r ++ token.Mark mark.Close ∷ us) ∙ right ∙ closed o c us)
 
+-- a word opens nothing
 word_on : (w : List ℕ) (o c : ℕ) (us : List Token) → opens_over o c (token.Word w ∷ us) ≡ opens_over o c us
 unfolding opens_over
 word_on w o c us = refl
 
+-- nor does a word with a string
 equal_on : (w k : List ℕ) (o c : ℕ) (us : List Token)
     → opens_over o c (token.Word w ∷ token.Mark mark.Equal ∷ token.Quoted k ∷ us) ≡ opens_over o c us
 unfolding opens_over
 equal_on w k o c us = refl
 
+-- nor a comparison
 mark_on : (op : Op) (o c : ℕ) (us : List Token)
     → opens_over o c (token.Mark (comparing op) ∷ us) ≡ opens_over o c us
 unfolding opens_over
@@ -223,21 +243,25 @@ mark_on Op.Equal o c us = refl
 mark_on Op.Less o c us = refl
 mark_on Op.AtMost o c us = refl
 
+-- nor a number
 number_on : (z : ℤ) (o c : ℕ) (us : List Token) → opens_over o c (number_token z ∷ us) ≡ opens_over o c us
 unfolding opens_over
 number_on (pos n) o c us = refl
 number_on (negsuc n) o c us = refl
 
+-- nor a word with a number
 compared_on : (w : List ℕ) (op : Op) (z : ℤ) (o c : ℕ) (us : List Token)
     → opens_over o c (token.Word w ∷ token.Mark (comparing op) ∷ number_token z ∷ us) ≡ opens_over o c us
 compared_on w op z o c us =
     word_on w o c (token.Mark (comparing op) ∷ number_token z ∷ us) ∙ mark_on op o c (number_token z ∷ us)
     ∙ number_on z o c us
 
+-- nor a `!`
 not_on : (o c : ℕ) (us : List Token) → opens_over o c (token.Mark mark.Not ∷ us) ≡ opens_over o c us
 unfolding opens_over
 not_on o c us = refl
 
+-- nor a comma
 comma_on : (o c : ℕ) (us : List Token) → opens_over o c (token.Mark mark.Comma ∷ us) ≡ opens_over o c us
 unfolding opens_over
 comma_on o c us = refl

@@ -23,6 +23,7 @@ use Rattle.olap_schema.proofs.PrintCut.{AreCategories}
 use Rattle.olap_schema.proofs.PrintNumerals.{numeral_is_number}
 use Rattle.olap_schema.proofs.PrintNames.{is_name, letters, name_is, named, no_mark, no_underscore}
 
+-- a byte is equal to itself
 same_byte : (c : ℕ) → (c == c) ≡ true
 same_byte c = grind arith
 
@@ -39,18 +40,22 @@ other_word m w v x y rest p q = go (bytes_eq w v) refl
         absurd (omega (arith, n))
     go false e = refl
 
+-- `true` has no `_`
 pub true_at_95 : pieces_of 95 (codes "true") ≡ codes "true" ∷ []
 unfolding pieces_of
 true_at_95 = refl
 
+-- nor has `false`
 pub false_at_95 : pieces_of 95 (codes "false") ≡ codes "false" ∷ []
 unfolding pieces_of
 false_at_95 = refl
 
+-- `true` has no `.`
 pub true_at_46 : pieces_of 46 (codes "true") ≡ codes "true" ∷ []
 unfolding pieces_of
 true_at_46 = refl
 
+-- nor has `false`
 pub false_at_46 : pieces_of 46 (codes "false") ≡ codes "false" ∷ []
 unfolding pieces_of
 false_at_46 = refl

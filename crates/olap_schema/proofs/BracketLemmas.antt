@@ -34,6 +34,7 @@ passed o c t ts p q f =
     let closes = not_counted is_close t (take f.0 ts) q in
     (suc f.0, omega (arith, opens, closes, f.1))
 
+-- where too many are open some beginning has too many
 found : (o c : ℕ) (ts : List Token) → opens_over o c ts ≡ true → OpensFrom o c ts
 unfolding opens_over
 found o c [] h = absurd (cc)
@@ -83,6 +84,7 @@ left : (k o c : ℕ) (t : Token) (ts : List Token) → is_open t ≡ false → i
 left k o c t ts p q h =
     omega (arith, not_counted is_open t (take k ts) p, not_counted is_close t (take k ts) q, h)
 
+-- where some beginning has too many, too many are open
 counted : (k o c : ℕ) (ts : List Token) → o ≤ c + most_depth → OpensAt k o c ts → opens_over o c ts ≡ true
 unfolding opens_over
 counted zero o c ts l h = absurd (omega (arith, l, h))

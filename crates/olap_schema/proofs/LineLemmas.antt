@@ -38,6 +38,7 @@ lines_last (b ∷ bs) h l = go (b == 10) l (λ k m. lines_last bs k m) bs refl
     go false k rest (c ∷ cs) e =
         ap (in_front b) (rest (let n : 0 < length bs = rw (← e) (omega arith) in n) (omega arith))
 
+-- an empty text has no lines
 pub no_lines : lines_of [] ≡ []
 unfolding lines_of
 no_lines = refl
@@ -49,10 +50,12 @@ cut_first text k e h =
     let first = lines_first text (omega arith) in
     rw (take_rest text (k + 1), add-one) (rw (← e) at first)
 
+-- the last line has no LF
 pub cut_last : (text : List ℕ) (k : ℕ) → k ≡ line_length text → 0 < length text → length text ≤ k
     → lines_of text ≡ text ∷ lines_of []
 cut_last text k e h l = lines_last text h (omega arith) ∙ ap (λ ls. text ∷ ls) (sym no_lines)
 
+-- what isn't UTF-8 isn't by the test
 pub not_utf8 : (bs : List ℕ) → (IsUtf8 bs → ⊥) → is_utf8 bs ≡ false
 not_utf8 bs h = go (is_utf8 bs) refl
   where

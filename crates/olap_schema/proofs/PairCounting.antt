@@ -23,10 +23,12 @@ use Rattle.olap_ast.specs.Valid.{distinct_numbers, distinct_pairs, is_same_numbe
 
 -- ---- lists to which each new element is added once
 
+-- what isn't so adds nothing
 or_false : (b : Bool) → (b || false) ≡ b
 or_false true = refl
 or_false false = refl
 
+-- three of which one is so, grouped either way
 or_assoc : (a b c : Bool) → ((a || b) || c) ≡ (a || (b || c))
 or_assoc true b c = refl
 or_assoc false b c = refl
@@ -76,24 +78,28 @@ module _ (A : Type 0) (same : A → A → Bool) (laws : IsEquivalence same) wher
 
 -- ---- pairs
 
+-- pairs that the test takes for one are equal
 same_is : (a b : Equality) → is_same_pair a b ≡ true → a ≡ b
 same_is a b e =
     let c = eqb-true a.category b.category (first_true _ (bytes_eq a.text b.text) e) in
     let t = (bytes_eq-Decides a.text b.text).0 (second_true _ (bytes_eq a.text b.text) e) in
     λ i. record { category = c i; text = t i }
 
+-- no more pairs than the other atoms have
 pub few_pairs : (atoms others : List Equality) → ((a : Equality) → Contains atoms a → Contains others a)
     → length (distinct_pairs atoms) ≤ length (distinct_pairs others)
 few_pairs = few Equality is_same_pair
     (and_equiv (on_equiv (λ (a : Equality). a.category) nat_eq_equiv) (on_texts_equal (λ (a : Equality). a.text)))
     same_is
 
+-- the same of numbers
 same_number_is : (a b : Comparison) → is_same_number a b ≡ true → a ≡ b
 same_number_is a b e =
     let c = eqb-true a.category b.category (first_true _ (int_eq a.number b.number) e) in
     let n = same_number a.number b.number (second_true _ (int_eq a.number b.number) e) in
     λ i. record { category = c i; number = n i }
 
+-- the same of numbers
 pub few_numbers : (atoms others : List Comparison) → ((a : Comparison) → Contains atoms a → Contains others a)
     → length (distinct_numbers atoms) ≤ length (distinct_numbers others)
 few_numbers = few Comparison is_same_number

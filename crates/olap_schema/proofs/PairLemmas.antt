@@ -28,29 +28,35 @@ module _ (P A : Type 0) (view : P → A) (same : A → A → Bool) where
 
 -- ---- the same, in the words of the code
 
+-- a pair of a category and a text
 abbrev pub atom : ℕ → List ℕ → Equality
 atom d text = record { category = d; text = text }
 
+-- a pair that was found stays the one that it is
 pub found_pair : (ps qs : List Pair) (d : ℕ) (t u : List ℕ) (r : Bool) → qs ≡ ps → u ≡ t →
     r ≡ list_any (λ p. is_same_pair (atom d u) (pair_of p)) qs → r ≡ true →
     map pair_of ps ≡ with_pair (map pair_of ps) (atom d t)
 found_pair ps qs d t u r e f h k = has_it Pair Equality pair_of is_same_pair ps (atom d t) (sym (rw (e, f) at h) ∙ k)
 
+-- one that wasn't is put behind the others
 pub new_pair : (ps qs vs : List Pair) (d : ℕ) (t u : List ℕ) (r : Bool) (p : Pair) → qs ≡ ps → u ≡ t →
     r ≡ list_any (λ p. is_same_pair (atom d u) (pair_of p)) qs → r ≡ false → pair_of p ≡ atom d t → vs ≡ ps ++ p ∷ [] →
     map pair_of vs ≡ with_pair (map pair_of ps) (atom d t)
 new_pair ps qs vs d t u r p e f h k l m =
     rw m (lacks_it Pair Equality pair_of is_same_pair ps p (atom d t) l (sym (rw (e, f) at h) ∙ k))
 
+-- a pair of a category and a number
 abbrev pub number_atom : ℕ → ℤ → Comparison
 number_atom d n = record { category = d; number = n }
 
+-- the same of numbers
 pub found_number : (ps qs : List NumberPair) (d : ℕ) (m n : ℤ) (r : Bool) → qs ≡ ps → m ≡ n →
     r ≡ list_any (λ p. is_same_number (number_atom d m) (number_pair_of p)) qs → r ≡ true →
     map number_pair_of ps ≡ with_number (map number_pair_of ps) (number_atom d n)
 found_number ps qs d m n r e f h k =
     has_it NumberPair Comparison number_pair_of is_same_number ps (number_atom d n) (sym (rw (e, f) at h) ∙ k)
 
+-- the same of numbers
 pub new_number : (ps qs vs : List NumberPair) (d : ℕ) (m n : ℤ) (r : Bool) (p : NumberPair) → qs ≡ ps → m ≡ n →
     r ≡ list_any (λ p. is_same_number (number_atom d m) (number_pair_of p)) qs → r ≡ false →
     number_pair_of p ≡ number_atom d n → vs ≡ ps ++ p ∷ [] →

@@ -36,25 +36,31 @@ AreCategories g (c ∷ cs) = IsCategory g c × AreCategories g cs
 pub data IsWord : List ℕ → Type 0 where
   is_word : (b : ℕ) (w : List ℕ) → AreWordBytes (b ∷ w) → IsWord (b ∷ w)
 
+-- letters and digits are bytes of words
 letter_is_word : (b : ℕ) → IsLetterOrDigit b → is_word_byte b ≡ true
 letter_is_word b h = grind arith
 
+-- so many of them are
 letters_are_word : (w : List ℕ) → All IsLetterOrDigit w → AreWordBytes w
 letters_are_word [] h = tt
 letters_are_word (b ∷ w) h =
     (letter_is_word b (All-head IsLetterOrDigit b w h), letters_are_word w (All-tail IsLetterOrDigit b w h))
 
+-- and two lists of them
 words_append : (v w : List ℕ) → AreWordBytes v → AreWordBytes w → AreWordBytes (v ++ w)
 words_append [] w h k = k
 words_append (b ∷ v) w h k = (h.0, words_append v w h.1 k)
 
+-- a name with more bytes is a word
 longer : (v w : List ℕ) → IsCategoryName v → AreWordBytes w → IsWord (v ++ w)
 longer [] w n k = absurd n
 longer (b ∷ v) w n k = is_word b (v ++ w) (words_append (b ∷ v) w (letters_are_word (b ∷ v) (letters (b ∷ v) n)) k)
 
+-- and so is a name alone
 pub name_is_word : (v : List ℕ) → IsCategoryName v → IsWord v
 name_is_word v n = rw (append-nil v) at (longer v [] n tt)
 
+-- a word in front of what ends it
 pub cut_word : {v : Version} {w bs : List ℕ} {ts : List Token} → IsWord w → EndsWord bs → IsCut v bs ts
     → IsCut v (w ++ bs) (token.Word w ∷ ts)
 cut_word (is_word b w h) n d = word b w h n d
@@ -91,6 +97,7 @@ module _ (g : Graph) (h : IsHierarchy g) where
 
 -- ---- strings
 
+-- an escaped text spells the text
 pub escaped_spells : (k : List ℕ) → Spells (escaped k) k
 unfolding escaped
 escaped_spells [] = nothing
@@ -102,16 +109,19 @@ escaped_spells (b ∷ k) = go (b == 34) (b == 92) refl refl (escaped_spells k)
     go false true e f d = let same : b ≡ 92 = grind (arith) in rw same (backslash d)
     go false false e f d = other e f d
 
+-- `=` and a string
 cut_quoted : (k bs : List ℕ) (ts : List Token) → IsCut version.Two bs ts
     → IsCut version.Two (32 ∷ 61 ∷ 32 ∷ 34 ∷ (escaped k ++ 34 ∷ bs)) (token.Mark mark.Equal ∷ token.Quoted k ∷ ts)
 cut_quoted k bs ts d = blank (marked mark.Equal tt tt (blank (quoted (escaped_spells k) d)))
 
 -- ---- numbers
 
+-- digits are a word
 digits_word : (ds : List ℕ) → AreDigits ds → IsWord ds
 digits_word [] h = let l = h.some in absurd (omega arith)
 digits_word (b ∷ ds) h = is_word b ds (digits_are_word (b ∷ ds) h.digits)
 
+-- a `-` with digits
 cut_negative : (ds bs : List ℕ) (ts : List Token) → AreDigits ds → EndsWord bs → IsCut version.Two bs ts
     → IsCut version.Two (45 ∷ (ds ++ bs)) (token.Signed (45 ∷ ds) ∷ ts)
 cut_negative [] bs ts h n d = let l = h.some in absurd (omega arith)
@@ -124,6 +134,7 @@ cut_number : (z : ℤ) (bs : List ℕ) (ts : List Token) → IsSmall z → EndsW
 cut_number (pos n) bs ts h e d = cut_word (digits_word (decimal n) (digits_in_decimal n h)) e d
 cut_number (negsuc n) bs ts h e d = cut_negative (decimal (suc n)) bs ts (digits_behind_dash n h) e d
 
+-- the second version has each comparison
 compares_in_two : (op : Op) → IsMarkIn (comparing op) version.Two
 compares_in_two Op.Equal = tt
 compares_in_two Op.Less = refl
@@ -135,6 +146,7 @@ ends_at_space Op.Equal bs = tt
 ends_at_space Op.Less bs = (refl, λ e. absurd (cc))
 ends_at_space Op.AtMost bs = tt
 
+-- a comparison and a number
 cut_compared : (op : Op) (z : ℤ) (bs : List ℕ) (ts : List Token) → IsSmall z → EndsWord bs → IsCut version.Two bs ts
     → IsCut version.Two (32 ∷ (mark_bytes (comparing op) ++ 32 ∷ (canonical z ++ bs)))
     (token.Mark (comparing op) ∷ number_token z ∷ ts)
@@ -149,6 +161,7 @@ abbrev pub Cuts : List ℕ → List Token → Type 0
 Cuts text ts =
     (bs : List ℕ) (us : List Token) → EndsWord bs → IsCut version.Two bs us → IsCut version.Two (text ++ bs) (ts ++ us)
 
+-- two texts joined by a connective
 joined_cut : (j : Joint) (x y : List ℕ) (l r : List Token) → Cuts x l → Cuts y r
     → Cuts (joined_text j x y) (joined_tokens j l r)
 joined_cut j x y l r c d bs us n e =
@@ -158,6 +171,7 @@ joined_cut j x y l r c d bs us n e =
     (blank (d (41 ∷ bs) (token.Mark mark.Close ∷ us) refl (marked mark.Close tt tt e))))) in
     simp append_assoc (marked mark.Open tt tt inner)
 
+-- what stands behind a part ends a word
 rest_ends : (g : Graph) (r : ℕ) (fs : Terms) (bs : List ℕ) → EndsWord bs → EndsWord (rest_text g r fs ++ bs)
 rest_ends g r Meaning.Terms.End bs n = n
 rest_ends g r (Meaning.Terms.More f fs) bs n = refl

@@ -19,6 +19,7 @@ use Rattle.olap_schema.proofs.PrintCut.{steps_are}
 use Rattle.olap_schema.proofs.PrintNumerals.{token_digits}
 use Rattle.olap_schema.proofs.PrintTokens.{joined_tokens, number_token, spelt, spelt_rest}
 
+-- two formulas in brackets, joined
 spelt_join : (a : Atoms Formula) (j : Joint) (l r : List Token) (f g : Formula) → IsFormula a 6 l f
     → IsFormula a 6 r g → IsFormula a 6 (joined_tokens j l r) (join j f g)
 spelt_join a j l r f g d e =
@@ -34,6 +35,7 @@ data IsRest (a : Atoms Formula) : List Token → Terms → Type 0 where
   over : IsRest a [] Meaning.Terms.End
   goes : {us : List Token} {fs : Terms} → IsItems a us fs → IsRest a (token.Mark mark.Comma ∷ us) fs
 
+-- a part and those behind it
 spelt_items : (a : Atoms Formula) (us vs : List Token) (f : Formula) (fs : Terms) → IsFormula a 6 us f
     → IsRest a vs fs → IsItems a (us ++ vs) (Meaning.Terms.More f fs)
 spelt_items a us vs f fs d e = go vs fs e
@@ -42,10 +44,12 @@ spelt_items a us vs f fs d e = go vs fs e
     go ts gs over = rw append-nil (last (tighter 1 6 (lit≤ tt) d))
     go ts gs (goes k) = more (tighter 1 6 (lit≤ tt) d) k
 
+-- `true` is the formula that is true
 true_means : (g : Graph) → plain_of g (codes "true") ≡ Some Meaning.Formula.Truth
 unfolding plain_of
 true_means g = refl
 
+-- and `false` the one that is false
 false_means : (g : Graph) → plain_of g (codes "false") ≡ Some Meaning.Formula.Falsity
 unfolding plain_of
 false_means g = refl

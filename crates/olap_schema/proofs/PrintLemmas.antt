@@ -5,6 +5,7 @@ use Rattle.olap_graph.specs.Lookups.{name_of_category}
 use Rattle.olap_ast.specs.Schema.{Schema}
 use Rattle.olap_schema.specs.Printing.{category_text, category_texts, constraint_text, edge_text, ended_line, schema_text, text_of_lines}
 
+-- past the end there is no line
 past_end : (xs : List (List ℕ)) (k : ℕ) → (k < length xs → ⊥) → slice_index_or xs k [] ≡ []
 past_end [] k n = refl
 past_end (x ∷ xs) zero n = absurd (n (omega arith))
@@ -21,6 +22,7 @@ unfolding text_of_lines
 text_of_lines-append [] ys = refl
 text_of_lines-append (x ∷ xs) ys = rw (text_of_lines-append xs ys) (simp append_assoc)
 
+-- the first of the lines that are left
 drop_first : {A : Type 0} (f : A → List ℕ) (xs : List A) (k : ℕ) (d : A) → k < length xs →
     text_of_lines (map f (drop k xs)) ≡ ended_line (f (slice_index_or xs k d)) ++ text_of_lines
     (map f (drop (k + 1) xs))
@@ -53,6 +55,7 @@ all_lines s old first second third last a b c d =
       text_of_lines-append (map (edge_text s.graph) s.graph.edges) _,
     ) (simp append_assoc)
 
+-- after the last nothing is left
 all_dropped : {A : Type 0} (xs : List A) (k : ℕ) → length xs ≤ k → drop k xs ≡ []
 all_dropped [] zero l = refl
 all_dropped [] (suc k) l = refl

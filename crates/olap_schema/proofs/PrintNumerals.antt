@@ -16,6 +16,7 @@ use Rattle.olap_grammar.specs.Grammar.{digits_of}
 use Rattle.olap_grammar.specs.Words.{is_number_token}
 use Rattle.olap_schema.proofs.PrintTokens.{number_token}
 
+-- the digits of a numeral, by the words of `olap_numerals`
 own : IsNumeralModel (λ ds. all_ascii_digits ds ≡ true) (digits_value 10)
 own = numerals_by_value _ (search rules)
 
@@ -24,6 +25,7 @@ pub record AreDigits (ds : List ℕ) : Type 0 where
   pub some : 0 < length ds
   pub digits : all_ascii_digits ds ≡ true
 
+-- the digits of a number within the bounds
 decimal_digits : (n : ℕ) → n ≤ most_number → AreDigits (decimal n)
 decimal_digits n l =
     let d = decimal_is_IsNumeral_wide n (omega arith) in record { some = d.0.0; digits = own.from (decimal n) d.0.1 }
@@ -38,6 +40,7 @@ digits_behind_dash n h = decimal_digits (suc n) (omega (arith, ints, h.0))
 
 -- ---- digits
 
+-- two tests that are true
 pub both_true : (p q : Bool) → p && q ≡ true → (p ≡ true) × (q ≡ true)
 both_true true true e = (refl, refl)
 both_true true false e = absurd (cc)
@@ -48,9 +51,11 @@ pub first_digit : (b : ℕ) (ds : List ℕ) → AreDigits (b ∷ ds)
     → (is_ascii_digit b ≡ true) × (all_ascii_digits ds ≡ true)
 first_digit b ds h = both_true (is_ascii_digit b) (all_ascii_digits ds) h.digits
 
+-- a digit is a byte of words
 digit_is_word : (b : ℕ) → is_ascii_digit b ≡ true → is_word_byte b ≡ true
 digit_is_word b h = grind arith
 
+-- and no `-`
 digit_no_dash : (b : ℕ) → is_ascii_digit b ≡ true → (b == 45) ≡ false
 digit_no_dash b h = grind arith
 
@@ -63,12 +68,14 @@ digits_are_word (b ∷ ds) e =
 
 -- ---- number tokens
 
+-- digits pass the tests of a number
 tested : (ds : List ℕ) → AreDigits ds → nat_lt 0 (length ds) && all_ascii_digits ds ≡ true
 tested ds h =
     let l = h.some in
     let some : nat_lt 0 (length ds) ≡ true = grind arith in
     rw (some, h.digits) refl
 
+-- and have no sign
 no_dash : (ds : List ℕ) → AreDigits ds → digits_in ds ≡ ds
 no_dash [] h = refl
 no_dash (b ∷ ds) h = let n = digit_no_dash b (first_digit b ds h).0 in rw n refl
@@ -84,12 +91,15 @@ pub token_digits : (z : ℤ) → digits_of (number_token z) ≡ Some (canonical 
 token_digits (pos n) = refl
 token_digits (negsuc n) = refl
 
+-- a letter is no `-`
 letter_no_dash : (b : ℕ) → IsLetter b → (b == 45) ≡ false
 letter_no_dash b h = grind arith
 
+-- nor a digit
 letter_no_digit : (b : ℕ) → IsLetter b → is_ascii_digit b ≡ false
 letter_no_digit b h = grind arith
 
+-- of three tests the second is false
 not_second : (p q r : Bool) → q ≡ false → p && (q && r) ≡ false
 not_second true q r e = rw e refl
 not_second false q r e = refl

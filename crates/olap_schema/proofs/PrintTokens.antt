@@ -17,6 +17,7 @@ abbrev pub number_token : ℤ → Token
 number_token (pos n) = token.Word (canonical (pos n))
 number_token (negsuc n) = token.Signed (canonical (negsuc n))
 
+-- two formulas in brackets with a connective between them
 abbrev pub joined_tokens : Joint → List Token → List Token → List Token
 joined_tokens j left right =
     token.Mark mark.Open ∷ (left ++ token.Mark (mark.Joint j) ∷ (right ++ token.Mark mark.Close ∷ []))

@@ -17,10 +17,12 @@ IsSaid ts (Edge child parent) = Unit {0}
 IsSaid ts (Constraint root us) = (w : List ℕ) × (ts ≡ token.Word w ∷ token.Word root ∷ token.Mark mark.Colon ∷ us)
 IsSaid ts Other = Unit {0}
 
+-- of two tests that are true the last
 last_true : (b c : Bool) → (b && c) ≡ true → c ≡ true
 last_true true c e = e
 last_true false c e = absurd (cc)
 
+-- and the first
 first_true : (b c : Bool) → (b && c) ≡ true → b ≡ true
 first_true true c e = refl
 first_true false c e = absurd (cc)

@@ -76,13 +76,16 @@ pub passed_on : {A K : Type 0} (c : Bool) (k : K) (r : Result A K) (b : A) → c
 passed_on true k r b h = absurd (cc)
 passed_on false k r b h = (refl, h)
 
+-- what came of a line is one
 pub ok_is : {A K : Type 0} (a b : A) → (let r : Result A K = Ok a in r) ≡ Ok b → b ≡ a
 ok_is a b h = cc
 
+-- where not one of two is so, the second isn't
 neither : (b c : Bool) → b || c ≡ false → c ≡ false
 neither true c h = absurd (cc)
 neither false c h = h
 
+-- a category's line adds the category
 category_step : (a b : Above) (n : ℕ) (v : TextVersion) (name : List ℕ) (number : Bool)
     → category_read a n v name number ≡ Ok b → AddsCategory a b n name number
 category_step a b n v name number h = go (category_refusal a.graph name) refl t.1
@@ -96,6 +99,7 @@ category_step a b n v name number h = go (category_refusal a.graph name) refl t.
     go None e k = record { short = t.0; free = e; new = ok_is _ _ k }
     go (Some r) e k = absurd (cc)
 
+-- an edge's line adds the edge
 edge_step : (a b : Above) (child parent : List ℕ) → edge_read a child parent ≡ Ok b
     → (c : ℕ) × (d : ℕ) × AddsEdge a b child parent c d
 edge_step a b child parent h =
@@ -114,6 +118,7 @@ edge_step a b child parent h =
     ends (Some c) None p q k = absurd (cc)
     ends (Some c) (Some d) p q k = (c, d, go c d p q (edge_refusal a.graph c d) refl k)
 
+-- a constraint's line adds the constraint
 constraint_step : (a b : Above) (v : TextVersion) (name : List ℕ) (ts : List Token) → AreFine ts
     → constraint_read a v name ts ≡ Ok b → (f : Formula) × (root : ℕ) × AddsConstraint a b v name ts f root
 constraint_step a b v name ts fine h = formed (form_read v a.graph a.nodes ts) refl h
@@ -164,6 +169,7 @@ formula_fine ts root us e fine =
     let said : IsSaid ts (Constraint root us) = subst (IsSaid ts) e (is_said ts) in
     drop_fine 3 (token.Word said.0 ∷ token.Word root ∷ token.Mark mark.Colon ∷ us) (subst AreFine said.1 fine)
 
+-- so what tokens say adds what they name
 statement_step : (a b : Above) (n : ℕ) (v : Option TextVersion) (s : Statement)
     → ((name : List ℕ) (number : Bool) → s ≡ Category name number → is_category_name name ≡ true)
     → ((root : List ℕ) (ts : List Token) → s ≡ Constraint root ts → AreFine ts)
@@ -182,6 +188,7 @@ statement_step a b n (Some v) (Constraint root ts) m fine h =
     let t = constraint_step a b v root ts (fine root ts refl) h in constraint v root ts t.0 t.1 t.2
 statement_step a b n (Some v) Other m fine h = absurd (cc)
 
+-- and so do the tokens of a line
 tokens_step : (a b : Above) (n : ℕ) (o : Option (List Token)) → ((ts : List Token) → o ≡ Some ts → AreFine ts)
     → tokens_read a n o ≡ Ok b → Step a b
 tokens_step a b n None fine h = absurd (cc)

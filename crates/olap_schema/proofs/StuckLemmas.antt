@@ -26,14 +26,17 @@ find_first p a (suc n) c l h e f =
         let no : (a ≡ c) → ⊥ = λ s. (let r : p a ≡ true = rw s e in cc) in
         rest (omega (arith, no))
 
+-- where none is so none is found
 find_none : (p : ℕ → Bool) (a n : ℕ) → ((d : ℕ) → a ≤ d → d < a + n → p d ≡ false) → find p (range_with_len a n) ≡ None
 find_none p a zero f = refl
 find_none p a (suc n) f = rw (f a (omega arith) (omega arith))
     (find_none p (a + 1) n (λ d k q. f d (omega arith) (omega arith)))
 
+-- a category that reaches `All` isn't stuck
 reached_test : (g : Graph) (c : ℕ) → CategoryReaches g c 0 → not (category_reaches g c 0) ≡ false
 reached_test g c h = let e = (category_reaches_is g c 0).1 h in rw e refl
 
+-- one that doesn't is
 stuck_test : (g : Graph) (c : ℕ) → (CategoryReaches g c 0 → ⊥) → not (category_reaches g c 0) ≡ true
 stuck_test g c h = go (category_reaches g c 0) refl
   where

@@ -32,6 +32,7 @@ no_fault : (c : Bool) (k : SchemaKind) (o : Option SchemaKind) → cond c (Some 
 no_fault true k o h = absurd (cc)
 no_fault false k o h = (refl, h)
 
+-- a word that is refused by no test is what it means
 is_formula : (c : Bool) (o : Option Formula) (f : Formula) → cond c None o ≡ Some f → (c ≡ false) × (o ≡ Some f)
 is_formula true o f h = absurd (cc)
 is_formula false o f h = (refl, h)
@@ -78,6 +79,7 @@ path_is_valid g root c (n ∷ m ∷ ms) f r l h e =
     some_names : map (id_of g) (m ∷ ms) ≢ []
     some_names q = let z = ap length q in omega (arith, z)
 
+-- a reaching
 reach_is_valid : (g : Graph) (root : List ℕ) (c : ℕ) (ns : List (List ℕ)) (f : Formula)
     → named_fault g root false ns ≡ None → reach_of g ns ≡ Some f
     → IsFormulaAt g c f
@@ -115,10 +117,12 @@ one_unreached g f e = none (is_formula _ _ _ e).1
     none : (let o : Option Formula = None in o) ≡ Some f → ⊥
     none q = absurd (cc)
 
+-- `one` by itself is no formula
 one_alone : (g : Graph) (f : Formula) → plain_of g (codes "one") ≡ Some f → ⊥
 unfolding plain_of pieces_of
 one_alone g f e = one_unreached g f e
 
+-- nothing is both
 clash : (b : Bool) → b ≡ false → b ≡ true → ⊥
 clash b p q = absurd (let u : true ≡ false = sym q ∙ p in cc)
 
@@ -128,6 +132,7 @@ number_alone : (g : Graph) (w : List ℕ) (f : Formula) → is_number_token w �
 number_alone g w f n true d = clash (is_number_token w) (no_number 95 w (not_false _ (is_formula _ _ _ d).0)) n
 number_alone g w f n false d = clash (is_number_token w) (no_number 46 w (not_false _ (is_formula _ _ _ d).0)) n
 
+-- a word by itself
 pub plain_is_valid : (g : Graph) (root : List ℕ) (c : ℕ) (w : List ℕ) (f : Formula) → category_named g root ≡ Some c
     → word_fault g root w ≡ None
     → plain_of g w ≡ Some f → IsFormulaAt g c f
@@ -197,6 +202,7 @@ no_reserved w r h one c = go (bytes_eq w r) refl
         absurd (not_reserved r (first_holds (is_category_name r) true alone).0 c)
     go false q = q
 
+-- a word of category names is an atom
 not_no_atom : (w : List ℕ) → list_all is_category_name (pieces_of 46 w) ≡ true → is_no_atom w ≡ false
 unfolding is_no_atom pieces_of
 not_no_atom w h =
@@ -226,6 +232,7 @@ last_kind g ns k h l =
     sym (ap (λ i. has_numbers g (category_named g (slice_index_or ns i []))) last
     ∙ ap (has_numbers g) (known_is g (get_or ns k []) known))
 
+-- an equality
 equality_is_valid : (g : Graph) (c : ℕ) (k : List ℕ) (ns : List (List ℕ)) (f : Formula)
     → list_all (is_known g) ns ≡ true
     → has_numbers g (category_named g (slice_index_or ns (length ns - 1) [])) ≡ false → length k ≤ most_text_bytes
@@ -251,6 +258,7 @@ equality_is_valid g c k ns f known kind short e = one (length ns == 1) refl (is_
         (name_known g ns 0 known (omega arith), last_kind g ns 0 known (omega arith) ∙ kind, short)
     one false q d = two (length ns == 2) refl d
 
+-- a word with a string
 pub equal_is_valid : (g : Graph) (root : List ℕ) (c : ℕ) (w k : List ℕ) (f : Formula) → word_fault g root w ≡ None
     → kind_fault g w (Some false) ≡ None → length k ≤ most_text_bytes
     → equality_of g w k ≡ Some f → IsFormulaAt g c f
@@ -261,6 +269,7 @@ equal_is_valid g root c w k f h kind short e =
 
 -- ---- a word with a number
 
+-- a number that was read is within the bounds, and so is 0
 small_number : (o : Option ℤ) → ((z : ℤ) → o ≡ Some z → IsSmall z) → IsSmall (unwrap_or o (pos 0))
 small_number None h = (omega (arith, ints), omega (arith, ints))
 small_number (Some z) h = h z refl
@@ -295,6 +304,7 @@ passes : (b : Bool) (k : SchemaKind) → cond b None (Some k) ≡ None → b ≡
 passes true k h = refl
 passes false k h = absurd (cc)
 
+-- a word with a number
 pub compared_is_valid : (g : Graph) (root : List ℕ) (c : ℕ) (v : Version) (w : List ℕ) (op : Op) (digits : List ℕ)
     (f : Formula) → word_fault g root w ≡ None → kind_fault g w (Some true) ≡ None
     → comparison_in v g w op digits ≡ Some f → IsFormulaAt g c f

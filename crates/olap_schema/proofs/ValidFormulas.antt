@@ -37,25 +37,30 @@ pub record AreFaultless (g : Graph) (root : List ℕ) (ts : List Token) : Type 0
   pub faultless : atom_fault g root ts ≡ None
   pub short : list_any is_long ts ≡ false
 
+-- no fault, neither the first nor a later one
 no_earlier : (o p : Option SchemaKind) → or_later o p ≡ None → (o ≡ None) × (p ≡ None)
 no_earlier None p h = (refl, h)
 no_earlier (Some k) p h = absurd (cc)
 
+-- the first token has none
 first_faultless : (g : Graph) (root : List ℕ) (t : Token) (ts : List Token) → AreFaultless g root (t ∷ ts)
     → (token_fault g root t ts ≡ None) × (is_long t ≡ false)
 unfolding atom_fault
 first_faultless g root t ts h = ((no_earlier _ _ h.faultless).0, (none_holds _ _ h.short).0)
 
+-- nor has a word there
 word_faultless : (g : Graph) (root w : List ℕ) (ts : List Token) → AreFaultless g root (token.Word w ∷ ts)
     → (word_fault g root w ≡ None) × (kind_fault g w (asks_number ts) ≡ None)
 word_faultless g root w ts h = no_earlier _ _ (first_faultless g root (token.Word w) ts h).0
 
+-- nor those behind it
 others_faultless : (g : Graph) (root : List ℕ) (t : Token) (ts : List Token) → AreFaultless g root (t ∷ ts)
     → AreFaultless g root ts
 unfolding atom_fault
 others_faultless g root t ts h =
     record { faultless = (no_earlier _ _ h.faultless).1; short = (none_holds _ _ h.short).1 }
 
+-- nor those behind several
 behind_faultless : (g : Graph) (root : List ℕ) (ts us : List Token) → AreFaultless g root (ts ++ us)
     → AreFaultless g root us
 behind_faultless g root [] us h = h
@@ -63,6 +68,7 @@ behind_faultless g root (t ∷ ts) us h = behind_faultless g root ts us (others_
 
 -- ---- atoms of the graph
 
+-- a string that isn't too long is within the limit
 short_constant : (k : List ℕ) → is_long (token.Quoted k) ≡ false → length k ≤ most_text_bytes
 unfolding is_long
 short_constant k h = ltb-false most_text_bytes (length k) h
@@ -77,6 +83,7 @@ number_asked Op.Equal (token.Signed w) digits us p = refl
 number_asked Op.Equal (token.Quoted k) digits us p = absurd (cc)
 number_asked Op.Equal (token.Mark m) digits us p = absurd (cc)
 
+-- two formulas of the graph, joined, are one
 join_is_valid : (g : Graph) (c : ℕ) (j : Joint) (f h : Formula) → IsFormulaAt g c f → IsFormulaAt g c h
     → IsFormulaAt g c (join j f h)
 join_is_valid g c joint.Iff f h p q = (p, q)
@@ -149,6 +156,7 @@ module _ (v : Version) (g : Graph) (root : List ℕ) (c : ℕ) (root_is : catego
 
 -- ---- nodes
 
+-- a formula has a depth from 1 on
 some_depth : (f : Formula) → 1 ≤ depth_of f
 some_depth Truth = omega arith
 some_depth Falsity = omega arith
@@ -183,6 +191,7 @@ leaf_nodes (Xor f g) h = absurd (let s = some_depth f in omega arith)
 leaf_nodes (One End) h = refl
 leaf_nodes (One (More f ts)) h = absurd (let s = some_depth f in omega arith)
 
+-- two joined formulas have one node more
 join_nodes : (j : Joint) (f g : Formula) → node_count (join j f g) ≡ 1 + node_count f + node_count g
 join_nodes joint.Iff f g = refl
 join_nodes joint.Implies f g = refl
@@ -190,6 +199,7 @@ join_nodes joint.Xor f g = refl
 join_nodes joint.Or f g = refl
 join_nodes joint.And f g = refl
 
+-- no tokens have none
 no_nodes : (v : Version) → nodes_behind v false [] ≡ 0
 unfolding nodes_behind
 no_nodes v = refl
@@ -200,31 +210,37 @@ node_at : (v : Version) (t : Token) (ts : List Token) → compares v t ≡ false
 unfolding nodes_behind
 node_at v t ts e = ap (λ b. cond (is_node t) 1 0 + nodes_behind v b ts) e
 
+-- a word is a node
 word_node : (v : Version) (w : List ℕ) (ts : List Token)
     → nodes_behind v false (token.Word w ∷ ts) ≡ 1 + nodes_behind v false ts
 word_node version.One w ts = node_at version.One (token.Word w) ts refl
 word_node version.Two w ts = node_at version.Two (token.Word w) ts refl
 
+-- and a `!`
 not_node : (v : Version) (ts : List Token)
     → nodes_behind v false (token.Mark mark.Not ∷ ts) ≡ 1 + nodes_behind v false ts
 not_node version.One ts = node_at version.One (token.Mark mark.Not) ts refl
 not_node version.Two ts = node_at version.Two (token.Mark mark.Not) ts refl
 
+-- and a connective
 joint_node : (v : Version) (j : Joint) (ts : List Token)
     → nodes_behind v false (token.Mark (mark.Joint j) ∷ ts) ≡ 1 + nodes_behind v false ts
 joint_node version.One j ts = node_at version.One (token.Mark (mark.Joint j)) ts refl
 joint_node version.Two j ts = node_at version.Two (token.Mark (mark.Joint j)) ts refl
 
+-- an open bracket is none
 open_node : (v : Version) (ts : List Token)
     → nodes_behind v false (token.Mark mark.Open ∷ ts) ≡ nodes_behind v false ts
 open_node version.One ts = omega (arith, node_at version.One (token.Mark mark.Open) ts refl)
 open_node version.Two ts = omega (arith, node_at version.Two (token.Mark mark.Open) ts refl)
 
+-- nor a closed one
 close_node : (v : Version) (ts : List Token)
     → nodes_behind v false (token.Mark mark.Close ∷ ts) ≡ nodes_behind v false ts
 close_node version.One ts = omega (arith, node_at version.One (token.Mark mark.Close) ts refl)
 close_node version.Two ts = omega (arith, node_at version.Two (token.Mark mark.Close) ts refl)
 
+-- nor a comma
 comma_node : (v : Version) (ts : List Token)
     → nodes_behind v false (token.Mark mark.Comma ∷ ts) ≡ nodes_behind v false ts
 comma_node version.One ts = omega (arith, node_at version.One (token.Mark mark.Comma) ts refl)
@@ -252,6 +268,7 @@ compared_nodes Op.AtMost (token.Signed b) w digits us p = refl
 compared_nodes op (token.Quoted k) w digits us p = absurd (cc)
 compared_nodes op (token.Mark m) w digits us p = absurd (cc)
 
+-- a word with a number is one
 comparison_nodes : (v : Version) (g : Graph) (op : Op) (t : Token) (w digits : List ℕ) (f : Formula) (us : List Token)
     → digits_of t ≡ Some digits → comparison_in v g w op digits ≡ Some f
     → nodes_behind v false (token.Word w ∷ token.Mark (comparing op) ∷ t ∷ us)
@@ -336,6 +353,7 @@ pub record IsWithin (g h : Graph) : Type 0 where
   pub kinds : (c : ℕ) → IsCategory g c → is_number h c ≡ is_number g c
   pub edges : (c d : ℕ) → HasEdge g c d → HasEdge h c d
 
+-- a chain of edges is one in a larger graph
 chain_within : (g h : Graph) → IsWithin g h → (cs : List ℕ) → IsChain (HasEdge g) cs → IsChain (HasEdge h) cs
 chain_within g h w [] t = tt
 chain_within g h w (c ∷ []) t = tt

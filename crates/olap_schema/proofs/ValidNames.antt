@@ -23,18 +23,22 @@ use Rattle.olap_schema.specs.Atoms.{has_edge, is_known, is_repeated, lacks_edge,
 
 -- ---- tests
 
+-- two tests that are true
 pub first_holds : (b c : Bool) → b && c ≡ true → (b ≡ true) × (c ≡ true)
 first_holds true c h = (refl, h)
 first_holds false c h = absurd (cc)
 
+-- two tests of which neither is
 pub none_holds : (b c : Bool) → b || c ≡ false → (b ≡ false) × (c ≡ false)
 none_holds true c h = absurd (cc)
 none_holds false c h = (refl, h)
 
+-- what isn't false is true
 pub not_false : (b : Bool) → not b ≡ false → b ≡ true
 not_false true h = refl
 not_false false h = absurd (cc)
 
+-- texts that the test takes for one are equal
 pub same_bytes : (x y : List ℕ) → bytes_eq x y ≡ true → x ≡ y
 same_bytes x y e = (bytes_eq-Decides x y).0 e
 
@@ -48,6 +52,7 @@ name_at g name d e =
     let same : r.0 ≡ d = omega (arith, r.1) in
     (omega (arith, r.1, r.2), λ x. subst (λ k. name ≡ get_or (names_of g) k x) same (r.3 x))
 
+-- the number of a category that has the name
 pub id_is : (g : Graph) (name : List ℕ) (d : ℕ) → category_named g name ≡ Some d → id_of g name ≡ d
 unfolding id_of
 id_is g name d e = ap (λ o. unwrap_or o 65535) e
@@ -60,6 +65,7 @@ known_is g name h = go (category_named g name) refl h
     go None e k = absurd (cc)
     go (Some d) e k = e ∙ ap (λ (i : ℕ). Some i) (sym (id_is g name d e))
 
+-- a known name is that of a category
 pub known_category : (g : Graph) (name : List ℕ) → is_known g name ≡ true → IsCategory g (id_of g name)
 known_category g name h = (name_at g name (id_of g name) (known_is g name h)).0
 
@@ -70,6 +76,7 @@ one_name g m n h k e =
     let b = (name_at g n (id_of g n) (known_is g n k)).1 [] in
     a ∙ ap (λ i. get_or (names_of g) i []) e ∙ sym b
 
+-- and so is each of several
 pub all_known : (g : Graph) (ns : List (List ℕ)) → list_all (is_known g) ns ≡ true → (n : List ℕ) → Contains ns n
     → is_known g n ≡ true
 all_known g [] h n c = absurd (Contains-nil n c)
@@ -80,6 +87,7 @@ all_known g (m ∷ ms) h n c = elim (contains_cases n m ms c) [
 
 -- ---- paths
 
+-- an edge that was found is one
 edge_is : (g : Graph) (c d : ℕ) → is_some (edge_between g c d) ≡ true → HasEdge g c d
 edge_is g c d h = go (edge_between g c d) refl h
   where
@@ -89,6 +97,7 @@ edge_is g c d h = go (edge_between g c d) refl h
         let r = found (joins c d) (λ x. x ≡ record { child = c; parent = d }) (joins-Decides c d) g.edges 0 i e in
         (r.0, r.2, r.3 (record { child = c; parent = d }))
 
+-- where a choice with true on one side is false
 unless : (c x : Bool) → cond c true x ≡ false → (c ≡ false) × (x ≡ false)
 unless true x h = absurd (cc)
 unless false x h = (refl, h)
@@ -106,6 +115,7 @@ follows g n (m ∷ ms) h k l =
     rw (known_is g n h, known_is g m u.0) at looked_up in
     (edge_is g (id_of g n) (id_of g m) joined, follows g m ms u.0 u.1 t.1)
 
+-- where none passes, each fails
 none_passes : {X : Type 0} (p : X → Bool) (xs : List X) (x : X) → list_any p xs ≡ false → Contains xs x → p x ≡ false
 none_passes p [] x h c = absurd (Contains-nil x c)
 none_passes p (y ∷ ys) x h c =
@@ -134,6 +144,7 @@ differ g ns h k =
 
 -- ---- pieces
 
+-- a byte that isn't `_` isn't by the test
 untested : (b : ℕ) → (b ≡ 95 → ⊥) → b == 95 ≡ false
 untested b n = go (b == 95) refl
   where
@@ -141,10 +152,12 @@ untested b n = go (b == 95) refl
     go true e = absurd (n (eqb-true b 95 e))
     go false e = e
 
+-- letters aren't
 no_letter : (b : ℕ) → IsLetter b → b == 95 ≡ false
 no_letter b (inl l) = untested b (λ q. omega (arith, l.1, q))
 no_letter b (inr l) = untested b (λ q. omega (arith, l.0, q))
 
+-- nor digits
 no_letter_or_digit : (b : ℕ) → IsLetterOrDigit b → b == 95 ≡ false
 no_letter_or_digit b (inl l) = no_letter b l
 no_letter_or_digit b (inr d) = untested b (λ q. omega (arith, d.1, q))
@@ -164,10 +177,12 @@ abbrev AreUnmarked : List (List ℕ) → Type 0
 AreUnmarked [] = Unit {0}
 AreUnmarked (part ∷ parts) = All (λ b. b == 95 ≡ false) part × AreUnmarked parts
 
+-- so category names have none
 unmarked_names : (parts : List (List ℕ)) → list_all is_category_name parts ≡ true → AreUnmarked parts
 unmarked_names [] h = tt
 unmarked_names (part ∷ parts) h = let t = first_holds _ _ h in (no_mark part t.0, unmarked_names parts t.1)
 
+-- nor has the first with a byte in front
 first_unmarked : (b : ℕ) (parts : List (List ℕ)) → AreUnmarked (onto_first b parts)
     → (b == 95 ≡ false) × AreUnmarked parts
 first_unmarked b [] h = (All-head (λ x. x == 95 ≡ false) b [] h.0, tt)

@@ -31,6 +31,7 @@ sound_kept a b (category n name number h s) p = category_kept a b n name number 
 sound_kept a b (edge child parent c d s) p = edge_kept a b child parent c d s p
 sound_kept a b (constraint v name ts f root s) p = constraint_kept a b v name ts f root s p
 
+-- before the first line all is sound
 nothing_sound : IsSoundSoFar nothing_above
 nothing_sound = record {
   unfinished = record {
@@ -56,6 +57,7 @@ nothing_sound = record {
 
 -- ---- the whole
 
+-- where nothing is found, each fails
 not_found : (p : ℕ → Bool) (xs : List ℕ) (x : ℕ) → find p xs ≡ None → Contains xs x → p x ≡ false
 not_found p [] x h c = absurd (Contains-nil x c)
 not_found p (y ∷ ys) x h c =
@@ -70,6 +72,7 @@ all_reach g h (suc c) l =
     let reached = not_found (λ d. not (category_reaches g d 0)) (range_with_len 1 (length g.names)) (suc c) h listed in
     (category_reaches_is g (suc c) 0).0 (not_false (category_reaches g (suc c) 0) reached)
 
+-- after the last, if each category reaches `All`, it is a readable schema
 whole_is_readable : (a : Above) → IsSoundSoFar a → GivesReadable (whole a (first_stuck a.graph))
 whole_is_readable a p s h = go (first_stuck a.graph) refl h
   where
@@ -103,6 +106,7 @@ whole_is_readable a p s h = go (first_stuck a.graph) refl h
     go None k q = subst IsReadable (sym (ok_is _ _ q)) (record { valid = valid k; texts = texts })
     go (Some c) k q = absurd (cc)
 
+-- whatever the lines came to
 ended_is_readable : (r : Read) → ((a : Above) → r ≡ Ok a → IsSoundSoFar a) → GivesReadable (text_ended r)
 ended_is_readable (Err e) p s h = absurd (cc)
 ended_is_readable (Ok a) p s h = go (is_some a.version) h
@@ -112,12 +116,14 @@ ended_is_readable (Ok a) p s h = go (is_some a.version) h
     go true q = whole_is_readable a (p a refl) s q
     go false q = absurd (cc)
 
+-- the theorem, line after line
 pub read_is_readable : ReadSchemasAreReadable
 unfolding schema_read
 read_is_readable text =
     ended_is_readable (lines_on (Ok nothing_above) 0 (lines_of text))
     (λ a e. all_steps IsSoundSoFar sound_kept nothing_above a 0 (lines_of text) e nothing_sound)
 
+-- and so it is valid
 pub read_is_valid : ReadSchemasAreValid
 read_is_valid text s e = (read_is_readable text s e).valid
 
@@ -136,6 +142,7 @@ rest_is_readable r a e v p =
     go true q k = k
     go false q k = absurd (cc)
 
+-- the same, for the reader's first state
 pub start_is_readable : (a : Above) (text : List ℕ) → a ≡ nothing_above
     → GivesReadable (text_ended (lines_on (Ok a) 0 (lines_of text)))
 unfolding schema_read

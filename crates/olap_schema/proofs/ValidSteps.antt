@@ -42,12 +42,15 @@ pub record IsSoundConstraint (g : Graph) (c : Constraint) : Type 0 where
   pub depth : depth_of c.formula ≤ most_depth
   pub texts : AreTexts (equalities c.formula)
 
+-- the nodes of constraints
 abbrev nodes_in : List Constraint → ℕ
 nodes_in cs = sum_by (λ c. node_count c.formula) cs
 
+-- their distinct pairs
 abbrev pairs_in : List Constraint → List Equality
 pairs_in cs = distinct_pairs (flat_map (λ c. equalities c.formula) cs)
 
+-- their distinct pairs with numbers
 abbrev numbers_in : List Constraint → List Comparison
 numbers_in cs = distinct_numbers (flat_map (λ c. comparisons c.formula) cs)
 
@@ -70,6 +73,7 @@ pub record IsSoundSoFar (a : Above) : Type 0 where
 
 -- ---- a larger graph
 
+-- a sound constraint is sound in a larger graph
 sound_within : (g h : Graph) (c : Constraint) → IsWithin g h → IsSoundConstraint g c → IsSoundConstraint h c
 sound_within g h c w s = record {
   declared = (s.declared.0, w.categories c.root s.declared.1);
@@ -78,6 +82,7 @@ sound_within g h c w s = record {
   texts = s.texts;
 }
 
+-- and so are all
 all_within : (g h : Graph) (cs : List Constraint) (nodes : ℕ) (pairs : List Equality) (numbers : List Comparison)
     → IsWithin g h → AreSound g cs nodes pairs numbers → AreSound h cs nodes pairs numbers
 all_within g h cs nodes pairs numbers w s = record {
@@ -97,6 +102,7 @@ same_kind number g name known zero h = refl
 same_kind number g name known (suc c) h =
     get_or_append_left g.numbers (number ∷ []) false c (omega (arith, known, h))
 
+-- a graph with one category more is larger
 within_category : (number : Bool) (g : Graph) (name : List ℕ) → length g.numbers ≡ length g.names
     → IsWithin g (with_kind number g name)
 within_category number g name known = record {
@@ -105,6 +111,7 @@ within_category number g name known = record {
   edges = λ c d h. h;
 }
 
+-- and one with one edge more
 within_edge : (g : Graph) (c d : ℕ) → IsWithin g (with_edge g c d)
 within_edge g c d = record {
   categories = λ x h. h;
@@ -125,16 +132,19 @@ pub not_refused : {E : Type 0} (c : Bool) (e : E) (o : Option E) → cond c (Som
 not_refused true e o h = absurd (cc)
 not_refused false e o h = (refl, h)
 
+-- what isn't some is none
 none_there : (o : Option ℕ) → is_some o ≡ false → o ≡ None
 none_there None h = refl
 none_there (Some i) h = absurd (cc)
 
+-- a category that isn't refused has a new name, and there is room
 free_name : (g : Graph) (name : List ℕ) → category_refusal g name ≡ None
     → (category_named g name ≡ None) × (category_count g < most_categories)
 free_name g name h =
     let t = not_refused _ _ _ h in
     (none_there (category_named g name) t.0, leb-false most_categories (category_count g) (not_refused _ _ _ t.1).0)
 
+-- one category more
 pub category_kept : (a b : Above) (n : ℕ) (name : List ℕ) (number : Bool) → is_category_name name ≡ true
     → AddsCategory a b n name number → IsSoundSoFar a → IsSoundSoFar b
 category_kept a b n name number h s p =
@@ -157,6 +167,7 @@ record IsFree (g : Graph) (c d : ℕ) : Type 0 where
   none : edge_between g c d ≡ None
   few : length g.edges < most_edges
 
+-- an edge that isn't refused is a new one, and there is room
 free_edge : (g : Graph) (c d : ℕ) → edge_refusal g c d ≡ None → IsFree g c d
 free_edge g c d h =
     let loop = not_refused _ _ _ h in
@@ -170,6 +181,7 @@ free_edge g c d h =
       few = leb-false most_edges (length g.edges) few.0;
     }
 
+-- one edge more
 pub edge_kept : (a b : Above) (child parent : List ℕ) (c d : ℕ) → AddsEdge a b child parent c d → IsSoundSoFar a
     → IsSoundSoFar b
 edge_kept a b child parent c d s p =
@@ -193,6 +205,7 @@ pub record IsFormed (v : Version) (g : Graph) (before : ℕ) (ts : List Token) (
   pub formed : IsFormula (atoms_of v g) 1 ts f
   pub depth : depth_of f ≤ most_depth
 
+-- a formula whose form has no fault, with its limits
 pub formed : (v : Version) (g : Graph) (before : ℕ) (ts : List Token) (f : Formula) → form_read v g before ts ≡ Ok f
     → IsFormed v g before ts f
 unfolding form_read
@@ -224,6 +237,7 @@ folded_on add atoms cs c =
     ∙ fold-append add [] (flat_map (λ k. atoms k.formula) cs) (flat_map (λ k. atoms k.formula) (c ∷ []))
     ∙ ap (fold add (fold add [] (flat_map (λ k. atoms k.formula) cs))) (append-nil (atoms c.formula))
 
+-- one constraint more, with its nodes, pairs and numbers
 one_more : (g : Graph) (cs : List Constraint) (nodes : ℕ) (pairs : List Equality) (numbers : List Comparison)
     (c : Constraint) (more : ℕ) → AreSound g cs nodes pairs numbers
     → IsSoundConstraint g c → length cs < most_constraints → node_count c.formula ≡ more → nodes + more ≤ most_nodes
@@ -252,6 +266,7 @@ one_more g cs nodes pairs numbers c more s sound few count few_nodes few_pairs =
   few_pairs = few_pairs;
 }
 
+-- so with it all is sound
 pub constraint_kept : (a b : Above) (v : Version) (name : List ℕ) (ts : List Token) (f : Formula) (root : ℕ)
     → AddsConstraint a b v name ts f root → IsSoundSoFar a → IsSoundSoFar b
 constraint_kept a b v name ts f root s p =

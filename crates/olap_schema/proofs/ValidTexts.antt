@@ -41,17 +41,20 @@ use Rattle.olap_schema.proofs.ValidNames.{first_holds, none_holds}
 
 -- ---- cutting a text at ASCII bytes
 
+-- behind an ASCII byte a plain text is plain
 past_ascii : (b : ℕ) (bs : List ℕ) → b < 128 → IsPlain (b ∷ bs) → IsPlain bs
 past_ascii b bs l p = record {
   utf8 = IsUtf8-drop (b ∷ bs) 1 p.utf8 (IsCharBoundary-after_ascii (b ∷ bs) 0 p.utf8 (omega arith) l);
   plain = (none_holds _ _ p.plain).1;
 }
 
+-- the byte between two texts
 at_seam : (xs : List ℕ) (b : ℕ) (ys : List ℕ)
     → (length xs < length (xs ++ b ∷ ys)) × (get_or (xs ++ b ∷ ys) (length xs) 0 ≡ b)
 at_seam [] b ys = (omega arith, refl)
 at_seam (x ∷ xs) b ys = let t = at_seam xs b ys in (omega (arith, t.0), t.1)
 
+-- a text of UTF-8 can be cut before an ASCII byte
 cut_utf8 : (xs : List ℕ) (b : ℕ) (ys : List ℕ) → b < 128 → IsUtf8 (xs ++ b ∷ ys) → IsUtf8 xs × IsUtf8 (b ∷ ys)
 cut_utf8 xs b ys l u =
     let t = at_seam xs b ys in
@@ -60,6 +63,7 @@ cut_utf8 xs b ys l u =
       subst IsUtf8 (drop_at xs (b ∷ ys) (length xs) refl) (IsUtf8-drop (xs ++ b ∷ ys) (length xs) u here),
     )
 
+-- no control characters in both, none in either
 no_control : (xs ys : List ℕ) → list_any is_control (xs ++ ys) ≡ false
     → (list_any is_control xs ≡ false) × (list_any is_control ys ≡ false)
 no_control [] ys h = (refl, h)
@@ -68,6 +72,7 @@ no_control (x ∷ xs) ys h =
     let u = no_control xs ys t.1 in
     (rw t.0 u.0, u.1)
 
+-- a plain text can be cut there
 cut_plain : (xs : List ℕ) (b : ℕ) (ys : List ℕ) → b < 128 → IsPlain (xs ++ b ∷ ys) → IsPlain xs × IsPlain (b ∷ ys)
 cut_plain xs b ys l p =
     let t = cut_utf8 xs b ys l p.utf8 in
@@ -82,6 +87,7 @@ without xs b ys l u =
 
 -- ---- strings
 
+-- what a string spells is UTF-8
 spelt : {bs k : List ℕ} → Spells bs k → (before : List ℕ) → IsUtf8 (before ++ bs) → IsUtf8 (before ++ k)
 spelt nothing before u = u
 spelt (quote {bs = bs} {k = k} s) before u =
@@ -96,6 +102,7 @@ spelt (other {b = b} {bs = bs} {k = k} p q s) before u =
     subst IsUtf8 (append_assoc before (b ∷ []) k)
     (spelt s (before ++ b ∷ []) (subst IsUtf8 (sym (append_assoc before (b ∷ []) bs)) u))
 
+-- and has no control characters
 spelt_controls : {bs k : List ℕ} → Spells bs k → list_any is_control bs ≡ false → list_any is_control k ≡ false
 spelt_controls nothing h = refl
 spelt_controls (quote {bs = bs} s) h = spelt_controls s h
@@ -114,33 +121,41 @@ abbrev pub AreFine : List Token → Type 0
 AreFine [] = Unit {0}
 AreFine (t ∷ ts) = IsFine t × AreFine ts
 
+-- fine tokens without the first
 pub drop_fine : (n : ℕ) (ts : List Token) → AreFine ts → AreFine (drop n ts)
 drop_fine zero ts h = h
 drop_fine (suc n) [] h = tt
 drop_fine (suc n) (t ∷ ts) h = drop_fine n ts h.1
 
+-- and in two parts
 parts_fine : (ts us : List Token) → AreFine (ts ++ us) → AreFine ts × AreFine us
 parts_fine [] us h = (tt, h)
 parts_fine (t ∷ ts) us h = let r = parts_fine ts us h.1 in ((h.0, r.0), r.1)
 
+-- all bytes are ASCII
 abbrev AreAscii : List ℕ → Type 0
 AreAscii [] = Unit {0}
 AreAscii (b ∷ bs) = (b < 128) × AreAscii bs
 
+-- behind ASCII bytes a plain text is plain
 past_all : (xs bs : List ℕ) → AreAscii xs → IsPlain (xs ++ bs) → IsPlain bs
 past_all [] bs a p = p
 past_all (x ∷ xs) bs a p = past_all xs bs a.1 (past_ascii x (xs ++ bs) a.0 p)
 
+-- one of two tests is true
 either : (b c : Bool) → b || c ≡ true → (b ≡ true) ⊎ (c ≡ true)
 either true c h = inl refl
 either false c h = inr h
 
+-- a byte of a range is at most its end
 in_range : (low high b : ℕ) → is_in_range low high b ≡ true → b ≤ high
 in_range low high b h = leb-true b high (first_holds _ _ h).1
 
+-- digits are ASCII
 digit_byte : (b : ℕ) → is_ascii_digit b ≡ true → b < 128
 digit_byte b h = let l = in_range 48 57 b h in omega arith
 
+-- and letters
 letter_or_digit : (b : ℕ) → is_ascii_alphanumeric b ≡ true → b < 128
 letter_or_digit b h = elim (either (is_in_range 48 57 b || is_in_range 65 90 b) (is_in_range 97 122 b) h) [
   | inl left ↦ elim (either (is_in_range 48 57 b) (is_in_range 65 90 b) left) [
@@ -150,6 +165,7 @@ letter_or_digit b h = elim (either (is_in_range 48 57 b || is_in_range 65 90 b) 
   | inr lower ↦ let l = in_range 97 122 b lower in omega arith
 ]
 
+-- and so all bytes of words
 word_byte : (b : ℕ) → is_word_byte b ≡ true → b < 128
 word_byte b h = elim (either (is_ascii_alphanumeric b || (b == 95)) (b == 46) h) [
   | inl left ↦ elim (either (is_ascii_alphanumeric b) (b == 95) left) [
@@ -159,10 +175,12 @@ word_byte b h = elim (either (is_ascii_alphanumeric b || (b == 95)) (b == 46) h)
   | inr dot ↦ let e = eqb-true b 46 dot in omega arith
 ]
 
+-- and words
 word_ascii : (w : List ℕ) → AreWordBytes w → AreAscii w
 word_ascii [] h = tt
 word_ascii (b ∷ w) h = (word_byte b h.0, word_ascii w h.1)
 
+-- a connective
 joint_ascii : (j : Joint) → AreAscii (joint_bytes j)
 joint_ascii joint.Iff = (omega arith, (omega arith, (omega arith, tt)))
 joint_ascii joint.Implies = (omega arith, (omega arith, tt))
@@ -170,6 +188,7 @@ joint_ascii joint.Xor = (omega arith, tt)
 joint_ascii joint.Or = (omega arith, tt)
 joint_ascii joint.And = (omega arith, tt)
 
+-- a mark
 mark_ascii : (m : Mark) → AreAscii (mark_bytes m)
 mark_ascii mark.Open = (omega arith, tt)
 mark_ascii mark.Close = (omega arith, tt)
@@ -181,18 +200,23 @@ mark_ascii mark.AtMost = (omega arith, (omega arith, tt))
 mark_ascii mark.Not = (omega arith, tt)
 mark_ascii (mark.Joint j) = joint_ascii j
 
+-- a word is no string
 no_quote : (w : List ℕ) (k : List ℕ) → token.Word w ≡ token.Quoted k → ⊥
 no_quote w k e = absurd (cc)
 
+-- nor is a number
 no_number : (w : List ℕ) (k : List ℕ) → token.Signed w ≡ token.Quoted k → ⊥
 no_number w k e = absurd (cc)
 
+-- nor a mark
 no_string : (m : Mark) (k : List ℕ) → token.Mark m ≡ token.Quoted k → ⊥
 no_string m k e = absurd (cc)
 
+-- strings that are equal have one text
 same_string : (j k : List ℕ) → token.Quoted j ≡ token.Quoted k → j ≡ k
 same_string j k e = cc
 
+-- so the tokens of a plain line are fine
 cut_is_fine : {v : Version} {line : List ℕ} {ts : List Token} → IsCut v line ts → IsPlain line → AreFine ts
 cut_is_fine end p = tt
 cut_is_fine (blank {bs = bs} d) p = cut_is_fine d (past_ascii 32 bs (omega arith) p)
@@ -221,24 +245,30 @@ line_is_fine v line ts h e = cut_is_fine (found_is_cut v line ts e) (from_not_ba
 abbrev Finds : Option Formula → Type 0
 Finds o = (f : Formula) → o ≡ Some f → AreTexts (equalities f)
 
+-- no constants, none that isn't plain
 no_texts : AreTexts []
 no_texts a c = absurd (Contains-nil a c)
 
+-- nothing was found
 nothing_found : Finds None
 nothing_found f e = absurd (cc)
 
+-- a formula with plain constants was
 one_found : (g : Formula) → AreTexts (equalities g) → Finds (Some g)
 one_found g h f e = let s : g ≡ f = cc in subst (λ x. AreTexts (equalities x)) s h
 
+-- one of two of which each is so
 pick : (b : Bool) (x y : Option Formula) → Finds x → Finds y → Finds (cond b x y)
 pick true x y p q = p
 pick false x y p q = q
 
+-- a path has no constants
 path_texts : (g : Graph) (parts : List (List ℕ)) → Finds (path_of g parts)
 path_texts g parts =
     pick (not (list_all is_category_name parts)) None
     (Some (Meaning.Formula.Path (map (id_of g) (drop 1 parts)))) nothing_found (one_found _ no_texts)
 
+-- nor has a reaching
 reach_texts : (g : Graph) (parts : List (List ℕ)) → Finds (reach_of g parts)
 reach_texts g parts =
     let second = id_of g (slice_index_or parts 1 []) in
@@ -247,6 +277,7 @@ reach_texts g parts =
     (pick (length parts == 2) _ _ (one_found (Meaning.Formula.Reach second) no_texts)
     (pick (length parts == 3) _ _ (one_found (Meaning.Formula.Via second third) no_texts) nothing_found))
 
+-- an equality has its string
 equal_texts : (g : Graph) (k : List ℕ) (parts : List (List ℕ)) → IsPlain k → Finds (equal_of g k parts)
 equal_texts g k parts p =
     pick (not (list_all is_category_name parts)) _ _ nothing_found
@@ -264,6 +295,7 @@ equal_texts g k parts p =
       | inr n ↦ absurd (Contains-nil a n)
     ]
 
+-- a word by itself has none
 plain_texts : (g : Graph) (w : List ℕ) → Finds (plain_of g w)
 unfolding plain_of
 plain_texts g w =
@@ -271,10 +303,12 @@ plain_texts g w =
     (pick (bytes_eq w (codes "false")) _ _ (one_found Meaning.Formula.Falsity no_texts)
     (pick (nat_lt 1 (length (pieces_of 95 w))) _ _ (path_texts g (pieces_of 95 w)) (reach_texts g (pieces_of 46 w))))
 
+-- a word with a string has it
 equality_texts : (g : Graph) (w k : List ℕ) → IsPlain k → Finds (equality_of g w k)
 unfolding equality_of
 equality_texts g w k p = equal_texts g k (pieces_of 46 w) p
 
+-- a comparison has none
 compared_texts : (g : Graph) (op : Op) (n : ℤ) (parts : List (List ℕ)) → Finds (compared_of g op n parts)
 compared_texts g op n parts =
     pick (not (list_all is_category_name parts)) _ _ nothing_found
@@ -283,6 +317,7 @@ compared_texts g op n parts =
     (pick (length parts == 2) _ _
     (one_found (Meaning.Formula.Compare (id_of g (slice_index_or parts 1 [])) op n) no_texts) nothing_found))
 
+-- nor has a word with a number
 comparison_texts : (v : Version) (g : Graph) (w : List ℕ) (op : Op) (digits : List ℕ)
     → Finds (comparison_in v g w op digits)
 unfolding comparison_of
@@ -290,9 +325,11 @@ comparison_texts version.One g w op digits = nothing_found
 comparison_texts version.Two g w op digits =
     pick (is_number_token digits) _ _ (compared_texts g op _ (pieces_of 46 w)) nothing_found
 
+-- constants of two formulas
 both_texts : (xs ys : List Equality) → AreTexts xs → AreTexts ys → AreTexts (xs ++ ys)
 both_texts xs ys p q a c = elim (Contains-append_cases xs ys a c) [ inl d ↦ p a d | inr d ↦ q a d ]
 
+-- and of both joined
 join_texts : (j : Joint) (f g : Formula) → AreTexts (equalities f) → AreTexts (equalities g)
     → AreTexts (equalities (join j f g))
 join_texts joint.Iff f g p q = both_texts (equalities f) (equalities g) p q

@@ -19,6 +19,7 @@ use Rattle.olap_ast.specs.Valid.{node_count}
 use Rattle.olap_schema.specs.PrintingLaws.{IsReadable}
 use Rattle.olap_schema.proofs.PairCounting.{few_numbers, few_pairs}
 
+-- what is left was there
 pub Contains-remove : {A : Type 0} (xs : List A) (k : ℕ) (x : A) → Contains (remove xs k) x → Contains xs x
 Contains-remove xs k x c = elim (Contains-append_cases (take k xs) (drop (suc k) xs) x c) [
   | inl h ↦ whole k (Contains-append_left (take k xs) (drop k xs) x h)
@@ -28,6 +29,7 @@ Contains-remove xs k x c = elim (Contains-append_cases (take k xs) (drop (suc k)
     whole : (n : ℕ) → Contains (take n xs ++ drop n xs) x → Contains xs x
     whole n d = subst (λ l. Contains l x) (take-append-drop n xs) d
 
+-- and what is made of it
 flat_left : {A B : Type 0} (f : A → List B) (xs : List A) (k : ℕ) (b : B)
     → Contains (flat_map f (remove xs k)) b → Contains (flat_map f xs) b
 flat_left f xs k b c =
@@ -42,16 +44,19 @@ flat_left f xs k b c =
         subst (λ l. Contains l b)
         (sym (flat_map-append f (take n xs) (drop n xs)) ∙ ap (flat_map f) (take-append-drop n xs)) d
 
+-- atoms that are left were there
 pub atoms_left : (cs : List Constraint) (k : ℕ) (a : Equality)
     → Contains (flat_map (λ c. equalities c.formula) (remove cs k)) a
     → Contains (flat_map (λ c. equalities c.formula) cs) a
 atoms_left cs k a c = flat_left (λ c. equalities c.formula) cs k a c
 
+-- and comparisons
 pub number_atoms_left : (cs : List Constraint) (k : ℕ) (a : Comparison)
     → Contains (flat_map (λ c. comparisons c.formula) (remove cs k)) a
     → Contains (flat_map (λ c. comparisons c.formula) cs) a
 number_atoms_left cs k a c = flat_left (λ c. comparisons c.formula) cs k a c
 
+-- there are no more nodes
 fewer_nodes : {A : Type 0} (f : A → ℕ) (xs : List A) (k : ℕ) (d : A) → k < length xs
     → sum_by f (remove xs k) ≤ sum_by f xs
 fewer_nodes f xs k d l =
@@ -62,6 +67,7 @@ fewer_nodes f xs k d l =
     (sum_by-drop_more f xs k d l) in
     omega arith
 
+-- the theorem: each condition of being readable is one of all constraints
 pub without_is_readable : (s : Schema) (k : ℕ) → k < length s.constraints → IsReadable s → IsReadable (without s k)
 without_is_readable s k l r =
     let left = Contains-remove s.constraints k in
@@ -96,6 +102,7 @@ without_is_readable s k l r =
       texts = λ a h. r.texts a (atoms_left s.constraints k a h);
     }
 
+-- the same, of a graph and a list under other names
 pub same_readable : (g h : Graph) (cs ds : List Constraint) (k : ℕ)
     → IsReadable (record { graph = g; constraints = cs })
     → h ≡ g → ds ≡ remove cs k → k < length cs → IsReadable (record { graph = h; constraints = ds })
@@ -104,6 +111,7 @@ same_readable g h cs ds k r e q l =
     (subst (λ x. IsReadable (record { graph = g; constraints = x })) (sym q)
     (without_is_readable (record { graph = g; constraints = cs }) k l r))
 
+-- the constraints before and behind the one are those that are left
 pub left_over : {A B : Type 0} (f : A → B) (xs : List A) (k n : ℕ) → n ≡ k + 1
     → map f (take k xs) ++ map f (drop n xs) ≡ remove (map f xs) k
 left_over f xs k n e =

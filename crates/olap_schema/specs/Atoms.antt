@@ -1,4 +1,10 @@
 -- The first fault of a formula's atoms, from left to right, where the names and edges of a graph are known.
+--     names_in, is_path    the names in a word, and how they are joined
+--     is_no_atom           a word that is no atom
+--     named_fault          the first check that the names of an atom fail
+--     kind_fault           a text where a number belongs, or a number where a text does
+--     token_fault          the first check that a token fails
+--     atom_fault           the first fault of a formula's atoms
 use Rattle.std.specs.Prelude.{◌||◌, ◌-◌, ℕ, Bool, true, false, not, List, [], ◌∷◌, Option, Some, None, codes, drop, is_some, length, nat_lt, slice_index_or, if◌then◌else◌}
 use Rattle.std.specs.List.{list_any, list_all}
 use Rattle.std.specs.Str.{bytes_eq}
@@ -15,6 +21,7 @@ use Rattle.olap_schema.specs.declared.kinds.SchemaKind.TheVariants as kind
 abbrev pub names_in : List ℕ → List (List ℕ)
 names_in w = if nat_lt 1 (length (pieces_of 95 w)) then pieces_of 95 w else pieces_of 46 w
 
+-- the word has names joined by `_`
 abbrev pub is_path : List ℕ → Bool
 is_path w = nat_lt 1 (length (pieces_of 95 w))
 
@@ -23,6 +30,7 @@ unfoldable pub is_no_atom : List ℕ → Bool
 is_no_atom w =
     bytes_eq w (codes "true") || bytes_eq w (codes "false") || bytes_eq w (codes "one") || is_number_token w
 
+-- a category has the name
 abbrev pub is_known : Graph → List ℕ → Bool
 is_known g name = is_some (category_named g name)
 
@@ -56,6 +64,7 @@ named_fault g root path ns =
     else if lacks_edge g root (drop 1 ns) then Some kind.NotAnEdge
     else None
 
+-- the first check that a word fails; what is no atom fails none
 unfoldable pub word_fault : Graph → List ℕ → List ℕ → Option SchemaKind
 word_fault g root w = if is_no_atom w then None else named_fault g root (is_path w) (names_in w)
 
@@ -83,6 +92,7 @@ kind_fault g w None = None
 kind_fault g w (Some true) = if compares_numbers g w then None else Some kind.WrongNames
 kind_fault g w (Some false) = if compares_numbers g w then Some kind.WrongNames else None
 
+-- the first fault if there is one, and else the later one
 abbrev pub or_later : Option SchemaKind → Option SchemaKind → Option SchemaKind
 or_later (Some k) later = Some k
 or_later None later = later

@@ -1,4 +1,4 @@
--- What a schema text stands for, or its first fault.
+-- The schema that a text stands for, or its first fault.
 --     Above            what the lines above a line say
 --     line_read        a line, given those above it
 --     schema_read      a text

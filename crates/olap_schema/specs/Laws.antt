@@ -1,4 +1,8 @@
--- What holds of every schema that is read, and of every formula of a question.
+-- The laws of schemas that are read, and of a question's formulas.
+--     ReadSchemasAreReadable    what is read can be printed and read back
+--     ReadSchemasAreValid       what is read is a valid schema
+--     ReadQuestionsAreValid     a question that is read is one of the schema
+--     OpenBracketsAreCounted    what the count of open brackets finds
 use Rattle.std.specs.Prelude.{◌≡◌, ◌↔◌, ◌<◌, ◌+◌, ℕ, true, List, Result, Ok, count_by, take}
 use Rattle.olap_base.specs.Graph.{IsDeclared}
 use Rattle.olap_base.specs.Limits.{most_depth}
@@ -12,10 +16,11 @@ use Rattle.olap_grammar.specs.declared.tokens.Token.{Token}
 use Rattle.olap_schema.specs.PrintingLaws.{AreTexts, IsReadable}
 use Rattle.olap_schema.specs.declared.kinds.SchemaKind.{SchemaKind}
 
--- a schema that is read is valid, and its constants can stand in a line
+-- if a schema was read, it is valid, and its constants can stand in a line
 abbrev pub GivesReadable : Result Schema (Fault SchemaKind) → Type 0
 GivesReadable read = (s : Schema) → read ≡ Ok s → IsReadable s
 
+-- each schema that is read is valid, and its constants can stand in a line
 abbrev pub ReadSchemasAreReadable : Type 0
 ReadSchemasAreReadable = (text : List ℕ) → GivesReadable (schema_read text)
 

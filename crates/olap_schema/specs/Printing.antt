@@ -63,6 +63,7 @@ abbrev mutual
 
 -- ---- lines, without their LF
 
+-- the version line
 abbrev pub version_text : List ℕ
 version_text = codes "schema 2"
 
@@ -71,6 +72,7 @@ abbrev pub kind_text : Bool → List ℕ
 kind_text true = codes " number"
 kind_text false = []
 
+-- the line of a category
 abbrev pub category_text : List ℕ → Bool → List ℕ
 category_text name number = codes "category " ++ (name ++ kind_text number)
 
@@ -80,9 +82,11 @@ category_texts [] numbers = []
 category_texts (name ∷ names) [] = category_text name false ∷ category_texts names []
 category_texts (name ∷ names) (number ∷ numbers) = category_text name number ∷ category_texts names numbers
 
+-- the line of an edge
 abbrev pub edge_text : Graph → Edge → List ℕ
 edge_text g e = codes "edge " ++ (name_of_category g e.child ++ 32 ∷ name_of_category g e.parent)
 
+-- the line of a constraint
 abbrev pub constraint_text : Graph → Constraint → List ℕ
 constraint_text g c =
     codes "constraint " ++ (name_of_category g c.root ++ 58 ∷ 32 ∷ formula_text g c.root c.formula)

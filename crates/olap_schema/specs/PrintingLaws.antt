@@ -1,4 +1,4 @@
--- What holds of printed schemas: they are read back.
+-- The law of printed schemas: they are read back.
 --     IsReadable       what a schema keeps that some text stands for
 --     PrintedIsRead    the canonical text stands for the schema
 use Rattle.std.specs.Prelude.{◌≡◌, List, Contains, false, flat_map, Ok}

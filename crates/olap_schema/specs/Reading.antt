@@ -1,4 +1,11 @@
--- What the values of the readers stand for.
+-- The values of the readers, as the definitions have them.
+--     IsFault, FindsFault, Finds    how the refusals of the code agree with the first fault
+--     above_of                      what the reader knows, as the definition has it
+--     Reads                         a line was read as the definition says
+--     ReadsFormula                  a formula was read as the definition says
+--     said                          what the tokens of a line say
+--     HasName                       a new category has a category name
+--     IsTallyBehind                 what was counted is so of the tokens
 use Rattle.std.specs.Prelude.{◌≡◌, ◌≤◌, ◌<◌, ◌+◌, ℕ, List, Result, Ok, Err, Option, Some, None, map, IsTrue}
 use Rattle.olap_base.specs.Reaching.{is_category_name}
 use Rattle.olap_ast.specs.Formula as Meaning

@@ -1,4 +1,4 @@
--- What a schema of the program stands for, and what reading one answers.
+-- The definitions' schema behind the program's, and the answers of reading one.
 --     schema_of      the definitions' schema
 --     IsRefusedBy    a text is refused for that reason
 use Rattle.std.specs.Prelude.{◌≡◌, Result, Ok, Err, map}

@@ -1,4 +1,4 @@
--- What the tokens of a line say.
+-- Statements: what the tokens of a line say.
 use Rattle.std.specs.Prelude.{◌&&◌, ℕ, Bool, true, false, List, [], ◌∷◌, codes, if◌then◌else◌}
 use Rattle.std.specs.Str.{bytes_eq}
 use Rattle.olap_base.specs.Reaching.{is_category_name}
@@ -8,8 +8,8 @@ use Rattle.olap_grammar.specs.declared.tokens.Mark.TheVariants as mark
 use Rattle.olap_grammar.specs.declared.tokens.Version as versions
 use Rattle.olap_grammar.specs.declared.tokens.Version.TheVariants as version
 
--- a line of the schema: the version, a category and whether its names are numbers, an edge, a constraint with the tokens
--- of its formula, or none of these
+-- a line of the schema: the version, a category and whether its names are numbers, an edge, a constraint with the
+-- tokens of its formula, or none of these
 pub data Statement : Type 0 where
   Version : versions.Version → Statement
   Category : (name : List ℕ) (number : Bool) → Statement

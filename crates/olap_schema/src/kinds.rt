@@ -1,4 +1,4 @@
-// What may be wrong with a schema text.
+// Kinds of faults of a schema text, and refusals.
 ghost use Rattle.std.specs.Prelude.{◌≡◌};
 ghost use Rattle.olap_schema.specs.declared.kinds.FormulaRefusal.TheVariants as refusal;
 

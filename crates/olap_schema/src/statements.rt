@@ -1,4 +1,4 @@
-// What the tokens of a line say.
+// Statements: the tokens of a line, by their first word.
 ghost use Rattle.olap_schema.specs.Reading.{HasName, said};
 ghost use Rattle.olap_schema.specs.Statements.{statement_of};
 ghost use Rattle.olap_base.specs.Reaching.{is_category_name};

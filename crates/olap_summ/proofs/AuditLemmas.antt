@@ -33,10 +33,12 @@ use Rattle.olap_summ.proofs.NowhereLemmas.{none_as}
 
 -- ---- edges
 
+-- a path of one edge is a parent
 one_step : (i : Instance) (x d : ℕ) → HasPath i x (d ∷ []) → (y : ℕ) × IsBelow i x y × (category_of i y ≡ d)
 one_step i x d ([], h, q) = absurd (cc)
 one_step i x d (y ∷ ys, h, q) = (y, h.0, cc)
 
+-- no member with that edge, as the audit asks it, is: the edge is unused
 pub unused_is : {A : Type 0} (s : Schema) (c d : ℕ) (o : Option A) → IsNone o ↔ IsNowhere s (Path (d ∷ [])) c
     → IsNone o ↔ IsUnused s (record { child = c; parent = d })
 unused_is s c d o e =
@@ -44,6 +46,7 @@ unused_is s c d o e =
     (λ n i l x y b p q. n i l x (below_is_member i x y b, p) (y ∷ [], (b, tt), ap (λ w. w ∷ []) q))
     (λ u i l x m h. let t = one_step i x d h in u i l x t.0 t.1 m.1 t.2)
 
+-- an edge as a formula at its child is one of the graph
 pub edge_at_child : (g : Graph) (c d : ℕ) → IsHierarchy g → HasEdge g c d → IsFormulaAt g c (Path (d ∷ []))
 edge_at_child g c d hier h = (
   λ e. absurd (cc),
@@ -57,10 +60,12 @@ edge_at_child g c d hier h = (
   ),
 )
 
+-- the path of one category that was pushed
 pub path_of : (path pushed start : List CatId) (d : CatId) → path ≡ pushed → pushed ≡ start ++ d ∷ [] → start ≡ []
     → map (λ (c : CatId). c.0) path ≡ d.0 ∷ []
 path_of path pushed start d e p q = ap (map (λ (c : CatId). c.0)) (e ∙ p ∙ ap (λ l. l ++ d ∷ []) q)
 
+-- what was found for any question is a witness of the schema
 pub witness_of : (s : Schema) (q : Formula) (r : ℕ) (o : Option Found) → IfSome o (IsOneFound s q r)
     → IfSome o (IsWitness s)
 witness_of s q r None l = tt
@@ -68,6 +73,7 @@ witness_of s q r (Some found) l = (q, subst (λ x. IsOneFound s q x found) (sym 
 
 -- ---- constraints
 
+-- implied by the schema without it is: the constraint is redundant
 pub redundant_is : (s : Schema) (k : ℕ) (c : Constraint) (P : Type 0) → slice_get s.constraints k ≡ Some c
     → P ↔ IsImplied (without s k) c.root c.formula → P ↔ IsRedundant s k
 redundant_is s k c P at e = (
@@ -78,6 +84,7 @@ redundant_is s k c P at e = (
     same : (d : Constraint) → slice_get s.constraints k ≡ Some d → d ≡ c
     same d q = let t : Some d ≡ Some c = sym q ∙ at in cc
 
+-- what stands at a place is in the list
 pub listed_at : {A : Type 0} (xs : List A) (k : ℕ) (x : A) → slice_get xs k ≡ Some x → Contains xs x
 listed_at xs k x e = (k, slice_get_within xs k x e, get_or_from_slice_get xs k x x e)
 
@@ -92,6 +99,7 @@ atoms_of (b ∷ bs) c a h m = elim (contains_cases c b bs h) [
       (atoms_of bs c a d m)
 ]
 
+-- the comparisons of a constraint are among those of all
 number_atoms_of : (cs : List Constraint) (c : Constraint) (a : Comparison) → Contains cs c
     → Contains (comparisons c.formula) a → Contains (flat_map (λ b. comparisons b.formula) cs) a
 number_atoms_of [] c a h m = absurd (Contains-nil c h)

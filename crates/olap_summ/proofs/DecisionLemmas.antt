@@ -89,6 +89,7 @@ pub record AreMadeBefore (s : Schema) (q : Formula) (n : ℕ) (xs : List Asked) 
   pub ordered : AllPairs ◌<◌ (roots_of xs)
   pub bottoms : (b : ℕ) → Contains (roots_of xs) b ↔ (IsBottom s.graph b × (b < n))
 
+-- before the first bottom category no search was made
 pub none_made : (s : Schema) (q : Formula) → AreMadeBefore s q 0 []
 none_made s q = record {
   asked = λ k d h. absurd (omega arith);
@@ -148,11 +149,13 @@ all_made s q n xs m e b = (
 
 -- ---- what is asked
 
+-- the question is a formula of the graph at each bottom category
 pub asked_at : (s : Schema) (q : Questions) (b : ℕ) → AreQuestionsFor s q → IsFormulaAt s.graph b (asked_by q)
 asked_at s q b is =
     subst (IsFormulaAt s.graph b) (sym is.asked)
     (question_at s.graph b (target_of q) (sources_of q) is.target is.sources)
 
+-- it has no constants of its own, so the schema's limit is kept
 pub asked_few : (s : Schema) (q : Questions) → IsValidSchema s → AreQuestionsFor s q
     → pair_count (all_equalities s (asked_by q)) (all_comparisons s (asked_by q)) ≤ most_constants
 asked_few s q v is = question_few s (asked_by q) (target_of q) (sources_of q) is.asked v
@@ -165,9 +168,11 @@ pub record AreThose (s : Schema) (q : Formula) (old new : List Asked) : Type 0 w
   pub roots : roots_of new ≡ roots_of old
   pub names : (r : ℕ) → names_among new r ≡ names_among old r
 
+-- searches of which none was asked are those that were made
 pub none_asked : (s : Schema) (q : Formula) (xs : List Asked) → All (IsAskedOf s q) xs → AreThose s q xs xs
 none_asked s q xs h = record { asked = h; roots = refl; names = λ r. refl }
 
+-- a search that was asked has the names that it had
 names_kept : (xs : List Asked) (k : ℕ) (a d : Asked) → a.root.0 ≡ (get_or xs k d).root.0
     → named_in a.search ≡ named_in (get_or xs k d).search → (r : ℕ)
     → names_among (slice_set xs k a) r ≡ names_among xs r
@@ -242,6 +247,7 @@ place_has_bottom : (s : Schema) (q : Questions) (d : Decision) (k : ℕ) → IsD
     → IsBottom s.graph (slice_index (roots_in d) k)
 place_has_bottom s q d k is h = (is.bottoms (slice_index (roots_in d) k)).0 (Contains-get_or (roots_in d) k 0 h)
 
+-- each bottom category has a search
 bottom_has_place : (s : Schema) (q : Questions) (d : Decision) (b : ℕ) → IsDecisionOf s q d → IsBottom s.graph b
     → (j : ℕ) × (j < length (roots_in d)) × (slice_index (roots_in d) j ≡ b)
 bottom_has_place s q d b is bottom =
@@ -256,6 +262,7 @@ all_asked s q d n is none e b bottom =
     let m = length-map d.searches.items (λ (a : Asked). a.root.0) in
     subst (IsNowhere s (asked_by q)) t.2 (none t.0 (let l : t.0 < length (roots_in d) = t.1 in omega (arith, l, m, e)))
 
+-- of two places one is earlier, or they are one
 order : (i j : ℕ) → (i < j) ⊎ ((i ≡ j) ⊎ (j < i))
 order i j = grind arith
 
@@ -304,18 +311,21 @@ found_here s q old xs new k d f is t h none l u = record {
 
 -- ---- the answer
 
+-- where no bottom category has a counterexample the target is summarizable
 pub answer_is_yes : (s : Schema) (q : Questions) (d : Decision) → IsValidSchema s → CandidatesExist → IsDecisionOf s q d
     → ((b : ℕ) → IsBottom s.graph b → IsNowhere s (asked_by q) b) → IsSummarizable s (target_of q) (sources_of q)
 answer_is_yes s q d v e is none =
     summarizable_is s (target_of q) (sources_of q) v.hierarchy e (question_kinds s (target_of q) (sources_of q) v)
     (subst (λ (f : Formula). (b : ℕ) → IsBottom s.graph b → IsNowhere s f b) is.questions.asked none)
 
+-- where one was found it isn't
 pub answer_is_no : (s : Schema) (q : Questions) (d : Decision) (found : Found) → IsValidSchema s → IsDecisionOf s q d
     → IsFirstFound s (asked_by q) found → IsSummarizable s (target_of q) (sources_of q) → ⊥
 answer_is_no s q d found v is f =
     summarizable_isnt s (target_of q) (sources_of q) v.hierarchy found
     (subst (λ (p : Formula). IsFirstFound s p found) is.questions.asked f)
 
+-- the first that was found is the counterexample
 pub shows_no : (s : Schema) (q : Questions) (d : Decision) (found : Found) → IsValidSchema s → IsDecisionOf s q d
     → IsFirstFound s (asked_by q) found → IsCounterexampleFound s (target_of q) (sources_of q) found
 shows_no s q d found v is f =

@@ -21,6 +21,7 @@ use Rattle.olap_summ.specs.declared.auditing.Finding.{Finding as Told}
 
 -- ---- kinds and places
 
+-- findings of one kind at one place are one
 same_finding : (f g : Finding) → kind_of f ≡ kind_of g → place_of f ≡ place_of g → f ≡ g
 same_finding (Unsatisfiable c) (Unsatisfiable d) k p = ap Unsatisfiable p
 same_finding (Unsatisfiable c) (Redundant n) k p = absurd (omega (arith, k))
@@ -32,6 +33,7 @@ same_finding (Unused e) (Unsatisfiable d) k p = absurd (omega (arith, k))
 same_finding (Unused e) (Redundant m) k p = absurd (omega (arith, k))
 same_finding (Unused e) (Unused x) k p = ap Unused p
 
+-- the rank of a finding is its kind and its place
 rank_is : (f : Finding) → finding_rank f ≡ kind_of f ∷ place_of f ∷ []
 rank_is (Unsatisfiable c) = refl
 rank_is (Redundant n) = refl
@@ -56,6 +58,7 @@ earlier f g b = (
 
 -- ---- one place on
 
+-- what comes before the next place comes before this one, or stands here
 which : (kind place n k p : ℕ) → n ≡ place + 1 → (k < kind) ⊎ ((k ≡ kind) × (p < n))
     → ((k < kind) ⊎ ((k ≡ kind) × (p < place))) ⊎ ((k ≡ kind) × (p ≡ place))
 which kind place n k p e (inl l) = inl (inl l)
@@ -67,11 +70,13 @@ which kind place n k p e (inr h) = elim (at n p place e h.1) [
     at : (n p place : ℕ) → n ≡ place + 1 → p < n → (p < place) ⊎ (p ≡ place)
     at n p place e l = grind arith
 
+-- what comes before this place comes before the next
 wider : (kind place n k p : ℕ) → n ≡ place + 1 → (k < kind) ⊎ ((k ≡ kind) × (p < place))
     → (k < kind) ⊎ ((k ≡ kind) × (p < n))
 wider kind place n k p e (inl l) = inl l
 wider kind place n k p e (inr h) = inr (h.0, let l = h.1 in omega arith)
 
+-- a finding at this place is put behind the others
 pub one_more : (s : Schema) (kind place n : ℕ) (list : List Finding) (f : Finding)
     → AreFindingsBefore s kind place list → kind_of f ≡ kind → place_of f ≡ place → n ≡ place + 1 → IsFinding s f
     → AreFindingsBefore s kind n (list ++ f ∷ [])
@@ -91,6 +96,7 @@ one_more s kind place n list f b k p e is = record {
   ];
 }
 
+-- where there is none at this place the list stays
 pub no_more : (s : Schema) (kind place n : ℕ) (list : List Finding) → AreFindingsBefore s kind place list
     → n ≡ place + 1 → ((f : Finding) → kind_of f ≡ kind → place_of f ≡ place → IsFinding s f → ⊥)
     → AreFindingsBefore s kind n list
@@ -123,12 +129,14 @@ none_added s kind place n old new b e none q =
     subst (λ l. AreFindingsBefore s kind n (map finding_of l)) (sym q)
     (no_more s kind place n (map finding_of old) b e none)
 
+-- a category that can have a member is no finding
 pub not_unsatisfiable : (s : Schema) (c : ℕ) → (IsUnsatisfiable s c → ⊥) → (f : Finding) → kind_of f ≡ 1
     → place_of f ≡ c → IsFinding s f → ⊥
 not_unsatisfiable s c n (Unsatisfiable d) k p is = n (subst (IsUnsatisfiable s) p is.1)
 not_unsatisfiable s c n (Redundant m) k p is = omega (arith, k)
 not_unsatisfiable s c n (Unused e) k p is = omega (arith, k)
 
+-- nor is a constraint that the others don't imply
 pub not_redundant : (s : Schema) (j : ℕ) → (IsRedundant s j → ⊥) → (f : Finding) → kind_of f ≡ 2
     → place_of f ≡ j + 1 → IsFinding s f → ⊥
 not_redundant s j n (Unsatisfiable d) k p is = omega (arith, k)
@@ -136,6 +144,7 @@ not_redundant s j n (Redundant zero) k p is = is
 not_redundant s j n (Redundant (suc m)) k p is = n (subst (IsRedundant s) (let q : m ≡ j = omega (arith, p) in q) is)
 not_redundant s j n (Unused e) k p is = omega (arith, k)
 
+-- nor is an edge that some legal instance uses
 pub not_unused : (s : Schema) (j : ℕ) → (IsUnused s (edge_at s.graph j) → ⊥) → (f : Finding) → kind_of f ≡ 3
     → place_of f ≡ j → IsFinding s f → ⊥
 not_unused s j n (Unsatisfiable d) k p is = omega (arith, k)
@@ -144,15 +153,18 @@ not_unused s j n (Unused x) k p is =
     let at = get_or_from_slice_get s.graph.edges x is.0 (record { child = 0; parent = 0 }) is.1 in
     n (subst (λ y. IsUnused s (edge_at s.graph y)) p (subst (IsUnused s) (sym at) is.2))
 
+-- a redundant constraint is a finding, counted from 1
 pub redundant_found : (s : Schema) (j n : ℕ) → n ≡ j + 1 → IsRedundant s j → IsFinding s (Redundant n)
 redundant_found s j n e r = subst (λ m. IsFinding s (Redundant m)) (let q : suc j ≡ n = omega (arith, e) in q) r
 
+-- an unused edge is a finding
 pub unused_found : (s : Schema) (j : ℕ) → j < length s.graph.edges → IsUnused s (edge_at s.graph j)
     → IsFinding s (Unused j)
 unused_found s j h u = (edge_at s.graph j, slice_get-get_or s.graph.edges j (record { child = 0; parent = 0 }) h, u)
 
 -- ---- the kinds
 
+-- after the last place of a kind come the places of the next
 next_kind : (s : Schema) (kind place next first : ℕ) (list : List Finding) → AreFindingsBefore s kind place list
     → next ≡ kind + 1 → ((f : Finding) → kind_of f ≡ kind → IsFinding s f → place_of f < place)
     → ((f : Finding) → kind_of f ≡ next → IsFinding s f → first ≤ place_of f)
@@ -174,6 +186,7 @@ next_kind s kind place next first list b e within from = record {
     back g is (inl l) = elim (split (kind_of g) l) [ inl h ↦ inl h | inr q ↦ inr (q, within g q is) ]
     back g is (inr h) = let l = h.1 in let m = from g h.0 is in absurd (omega (arith, l, m))
 
+-- before the first place there are no findings
 pub none_yet : (s : Schema) → AreFindingsBefore s 1 1 []
 none_yet s = record {
   ordered = λ i j d h l. absurd (omega arith);

@@ -1,5 +1,6 @@
 -- Lemmas.
 mod NowhereLemmas
+mod AskingLemmas
 mod CounterexampleLemmas
 mod DecisionLemmas
 mod AgreementLemmas

@@ -1,17 +1,13 @@
 -- What a search finds, or doesn't, in all legal instances.
-use Rattle.std.proofs.Common.{◌≡◌, ℕ, [], Bool, length, refl, sym, subst, ◌↔◌, ◌∙◌, true, false, Option, Some, None}
-use Rattle.std.specs.Prelude.{◌≤◌, ◌++◌, IfSome, IsNone, IsTrue, flat_map, is_some, not}
-use Rattle.std.proofs.lemmas.List.{append-nil}
+use Rattle.std.proofs.Common.{◌≡◌, ℕ, Bool, refl, sym, ◌↔◌, ◌∙◌, true, false, Option, Some, None}
+use Rattle.std.specs.Prelude.{IfSome, IsNone, IsTrue, is_some, not}
 use Rattle.olap_base.specs.Graph.{IsHierarchy}
 use Rattle.olap_base.specs.Instance.{Instance}
-use Rattle.olap_base.specs.Limits.{most_constants}
-use Rattle.olap_ast.specs.Constants.{all_equalities}
 use Rattle.olap_ast.specs.Findings.{IsUnsatisfiable}
-use Rattle.olap_ast.specs.Formula.{Formula, Formula.Truth, Formula.Not, Holds, equalities}
+use Rattle.olap_ast.specs.Formula.{Formula, Formula.Truth, Formula.Not, Holds}
 use Rattle.olap_ast.specs.Frozen.{AreCandidates, Candidates}
 use Rattle.olap_ast.specs.Questions.{IsImplied, NoneFrozen}
-use Rattle.olap_ast.specs.Schema.{Constraint, Schema}
-use Rattle.olap_ast.specs.Valid.{IsValidSchema, distinct_pairs}
+use Rattle.olap_ast.specs.Schema.{Schema}
 use Rattle.olap_ast.proofs.Decided.{decide_holds}
 use Rattle.olap_ast.proofs.SmallModel.{frozen_exactly}
 use Rattle.olap_names.specs.Names.{candidates_of}
@@ -43,13 +39,16 @@ one_of s q r found l = record {
   is_one = l.least.is_one;
 }
 
+-- none, where it is so
 pub none_is : (A P : Type 0) → P → IsNone {T = A} None ↔ P
 none_is A P p = (λ e. p, λ q. refl)
 
+-- what holds anyway holds of what was found
 pub some_of : {A : Type 0} (o : Option A) (P : Type 0) → P → IfSome o (λ _. P)
 some_of None P p = tt
 some_of (Some a) P p = p
 
+-- some, where it isn't so
 pub some_is : {A : Type 0} (a : A) (P : Type 0) → (P → ⊥) → IsNone (Some a) ↔ P
 some_is a P n = (λ e. absurd (let z : true ≡ false = e in cc), λ p. absurd (n p))
 
@@ -68,11 +67,13 @@ none_told o false P e n = (λ h. absurd (cc), λ p. absurd (let t : true ≡ fal
 pub none_as : {A : Type 0} (o : Option A) (P Q : Type 0) → IsNone o ↔ P → (P → Q) → (Q → P) → IsNone o ↔ Q
 none_as o P Q e f g = (λ n. f (e.0 n), λ q. e.1 (g q))
 
+-- that no member is anywhere is: the category can't have one
 pub unsatisfiable_is : {A : Type 0} (s : Schema) (c : ℕ) (o : Option A) → IsNone o ↔ IsNowhere s Truth c
     → IsNone o ↔ IsUnsatisfiable s c
 unsatisfiable_is s c o e = none_as o (IsNowhere s Truth c) (IsUnsatisfiable s c) e
     (λ n i l x m. n i l x m tt) (λ u i l x m t. u i l x m)
 
+-- that the negation is true nowhere is: the constraint is implied
 pub implied_is : {A : Type 0} (s : Schema) (r : ℕ) (q : Formula) (o : Option A) → IsNone o ↔ IsNowhere s (Not q) r
     → IsNone o ↔ IsImplied s r q
 implied_is s r q o e = none_as o (IsNowhere s (Not q) r) (IsImplied s r q) e

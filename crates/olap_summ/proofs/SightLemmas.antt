@@ -66,9 +66,11 @@ module _ (s : Schema) (found : Found) (hier : IsHierarchy s.graph) (root : IsCat
 
 -- ---- marks
 
+-- the mark at that place is set
 abbrev Has : List Bool → ℕ → Type 0
 Has marks k = slice_index_or marks k false ≡ true
 
+-- a mark that is set was set before, or is the new one
 mark_cases : (marks : List Bool) (i k : ℕ) → Has (slice_set marks i true) k → (k ≡ i) ⊎ Has marks k
 mark_cases marks i k h = elim (ℕ_discrete k i) [
   | yes e ↦ inl e

@@ -1,4 +1,4 @@
--- What the questions come to.
+-- The one question behind all: a formula that is true nowhere.
 --     IsNowhere    a formula is true at no member of a category in any legal instance
 use Rattle.std.specs.Prelude.{ℕ}
 use Rattle.olap_base.specs.Instance.{Instance, IsMemberOf}

@@ -1,4 +1,4 @@
--- What the findings of an audit stand for.
+-- The definitions' findings behind the program's.
 --     finding_of           the definitions' finding
 --     AreFindingsBefore    the list so far has exactly the findings before a kind and place
 use Rattle.std.specs.Prelude.{◌≡◌, ◌<◌, ◌⊎◌, ℕ, List, AllPairs, Contains}

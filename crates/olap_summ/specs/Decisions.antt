@@ -46,6 +46,7 @@ pub record AreQuestionsFor (s : Schema) (q : Questions) : Type 0 where
 
 -- ---- decisions
 
+-- the root of each search
 abbrev pub roots_of : List Asked → List ℕ
 roots_of asked = map (λ a. a.root.0) asked
 

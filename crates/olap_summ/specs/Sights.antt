@@ -1,4 +1,4 @@
--- What some legal instances were seen to have.
+-- Sights: what some legal instances were seen to have.
 --     IsSeen           each mark is a fact of some legal instance
 --     AreAllSettled    a declared category without a mark can't have a member
 --     IsWitness        a frozen dimension was found, for some question
@@ -13,10 +13,11 @@ use Rattle.olap_frozen.specs.declared.founding.Found.{Found}
 use Rattle.olap_graph.specs.Lookups.{edge_at}
 use Rattle.olap_summ.specs.declared.seeing.Seen.{Seen}
 
--- the category is marked, and the edge
+-- the category is marked
 abbrev pub HasCategory : Seen → ℕ → Type 0
 HasCategory seen c = slice_index_or seen.categories.items c false ≡ true
 
+-- the edge is marked
 abbrev pub HasUse : Seen → ℕ → Type 0
 HasUse seen k = slice_index_or seen.edges.items k false ≡ true
 

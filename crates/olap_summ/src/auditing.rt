@@ -1,4 +1,4 @@
-// What a schema says or does for nothing.
+// Audits: what a schema says or does for nothing.
 ghost use Rattle.std.specs.Prelude.{◌≡◌, ◌≤◌, ◌<◌, ◌↔◌, Contains, IfOk, IfSome, IsNone, IsTrue, false, length, map, slice_index_or, true, OnOk};
 ghost use Rattle.olap_ast.specs.Findings.{AreFindings, IsRedundant, IsUnsatisfiable, IsUnused};
 ghost use Rattle.olap_base.specs.Graph.{Edge, IsCategory};

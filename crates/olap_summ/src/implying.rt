@@ -1,4 +1,4 @@
-// Which constraints hold in all legal instances.
+// Constraints that hold in all legal instances.
 ghost use Rattle.std.specs.Prelude.{◌≡◌, ◌≤◌, ◌↔◌, IfOk, IfSome, IsNone, IsTrue, length};
 ghost use Rattle.olap_ast.specs.Constants.{all_comparisons, all_equalities};
 ghost use Rattle.olap_ast.specs.Formula as Meaning;

@@ -1,4 +1,4 @@
-// What the contracts come to together.
+// The law of a decision: it shows the same at each call.
 ghost use Rattle.olap_summ.specs.Decisions.{DecisionsAgree};
 
 use olap_ast::the_counterexample_is_one;

@@ -1,9 +1,10 @@
 //! Satisfiability, implication and summarizability of a schema, and its audit, over all of its legal instances, of any
 //! size.
 //!
-//! Each question is one about frozen dimensions with a root, and a `Found` is the least that settles it, with its names.
-//! `None` says of `implies` and `summarizable` that the answer is yes for all legal instances, and of `satisfiable` that
-//! no legal instance has a member; `audit` returns its findings, and a `Decision` a truth value.
+//! Each question is one about frozen dimensions with a root, and a `Found` is one that settles it, with its names: the
+//! least, but of `any_counterexample`. `None` says of `implies` and of both calls on summarizability that the answer is
+//! yes for all legal instances, and of `satisfiable` that no legal instance has a member; `audit` returns its findings,
+//! and a `Decision` a truth value. What is printed isn't known here.
 #![tactic(auto)]
 
 mod asking;

@@ -1,4 +1,4 @@
-// Which categories can have a member.
+// Categories that can have a member.
 ghost use Rattle.std.specs.Prelude.{◌↔◌, IfOk, IfSome, IsNone};
 ghost use Rattle.olap_ast.specs.Findings.{IsUnsatisfiable};
 ghost use Rattle.olap_ast.specs.Formula as Meaning;

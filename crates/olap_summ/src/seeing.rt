@@ -1,4 +1,4 @@
-// What some legal instance was seen to have.
+// Sights: what some legal instance was seen to have.
 ghost use Rattle.std.specs.Prelude.{◌≡◌, ◌<◌, IfOk, IsTrue, false, length, slice_index_or, true};
 ghost use Rattle.olap_base.specs.Graph.{IsCategory};
 ghost use Rattle.olap_schema.specs.Schemas.{schema_of};

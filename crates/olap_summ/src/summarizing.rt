@@ -1,4 +1,4 @@
-// Which views can be computed from others.
+// Views that can be computed from others.
 ghost use Rattle.std.specs.Prelude.{◌≡◌, ◌≢◌, ◌↔◌, All, AllPairs, Err, IfOk, IfSome, IsNone};
 ghost use Rattle.olap_ast.specs.Summarizable.{IsSummarizable};
 ghost use Rattle.olap_base.specs.Graph.{IsBottom, IsCategory};

@@ -48,16 +48,15 @@ fn first_violations(rt: HostRuntime) {
     }
 }
 
-// Three hundred stores below one city: some of them named y, the others x.
-fn three_hundred(alloc: Global, named: &[u32]) -> Result<String, Fail> {
+// Eleven hundred stores below one city, which stands first: some of them named y, the others x.
+fn eleven_hundred(alloc: Global, named: &[u32]) -> Result<String, Fail> {
     let mut text = String::new(alloc);
-    text.push_str("id,category,name,parents\n")?;
-    for k in 0..300u32 {
+    text.push_str("id,category,name,parents\nc,City,c,all\n")?;
+    for k in 1..1101u32 {
         let name = if named.contains(&k) { "y" } else { "x" };
         let line = format!(in alloc; "s{k},Store,{name},c\n")?;
         text.push_str(&line)?;
     }
-    text.push_str("c,City,c,all\n")?;
     Ok(text)
 }
 
@@ -67,13 +66,13 @@ fn the_first_of_many_members_is_told(rt: HostRuntime) -> Result<(), Fail> {
     let mut schema = String::new(alloc);
     schema.push_str(CHAIN)?;
     schema.push_str("constraint Store: one(Store.City, Store = \"y\")\n")?;
-    let cases: [(&[u32], u32); 3] = [(&[256], 256), (&[258, 299], 258), (&[3, 257], 3)];
+    let cases: [(&[u32], u32); 3] = [(&[1025], 1025), (&[1027, 1100], 1027), (&[3, 1026], 3)];
     for (named, first) in cases {
-        let stores = three_hundred(alloc, named)?;
+        let stores = eleven_hundred(alloc, named)?;
         let broken = checked(&rt, alloc, &schema, &stores).err();
         assert_eq!(rt; broken, Some(Violation::Constraint(1, MemberId(first))));
     }
-    let stores = three_hundred(alloc, &[])?;
+    let stores = eleven_hundred(alloc, &[])?;
     assert!(rt; checked(&rt, alloc, &schema, &stores).is_ok());
     Ok(())
 }

@@ -251,7 +251,7 @@ fn assumptions_are_followed(rt: HostRuntime) {
     }
 }
 
-// Six pigeons in five holes, of which the first 30 variables speak, and a hundred variables behind them of which each
+// Six pigeons in five holes, of which the first 30 variables speak, and a hundred variables after them of which each
 // must be true.
 fn pigeons_and_facts(rt: &impl Abort, alloc: Global) -> Vec<Vec<Lit>> {
     let mut clauses = pigeons(rt, alloc, 6, 5);

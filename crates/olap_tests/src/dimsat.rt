@@ -47,49 +47,78 @@ fn search_at(alloc: Global, schema: &Schema, c: CatId) -> Result<Search, Memory>
     Ok(search)
 }
 
+// All stores of a schema.
+fn all_in(alloc: Global, schema: &Schema, limit: usize) -> Result<List<Frozen>, AllRefusal> {
+    let Some(store) = schema.graph().category(b"Store") else {
+        return Err(AllRefusal::Memory);
+    };
+    let mut search = search_at(alloc, schema, store)?;
+    search.all(schema, &Formula::True, limit)
+}
+
 // All stores of a schema's text.
 fn all_stores(alloc: Global, text: &[u8], limit: usize) -> Result<List<Frozen>, AllRefusal> {
     let schema = read_schema(alloc, text).map_err(|_| AllRefusal::Memory)?;
-    let Some(store) = schema.graph().category(b"Store") else {
-        return Err(AllRefusal::Memory);
-    };
-    let mut search = search_at(alloc, &schema, store)?;
-    search.all(&schema, &Formula::True, limit)
+    all_in(alloc, &schema, limit)
 }
 
-// The least store of a schema's text, where all were asked for before.
-fn least_store(alloc: Global, text: &[u8], limit: usize) -> Result<Frozen, AllRefusal> {
-    let schema = read_schema(alloc, text).map_err(|_| AllRefusal::Memory)?;
-    let Some(store) = schema.graph().category(b"Store") else {
-        return Err(AllRefusal::Memory);
-    };
-    let mut search = search_at(alloc, &schema, store)?;
-    let _ = search.all(&schema, &Formula::True, limit);
+// The least that the search finds, where all were asked for before.
+fn least_of(search: &mut Search, schema: &Schema, limit: usize) -> Result<Frozen, AllRefusal>
+    requires { IsMadeWith (schema_of schema.now) Meaning.Formula.Truth search.old }
+{
+    let _ = search.all(schema, &Formula::True, limit);
     let mut least = search.blank()?;
-    if search.first(&schema, &Formula::True, &mut least) {
+    if search.first(schema, &Formula::True, &mut least) {
         Ok(least)
     } else {
         Err(AllRefusal::Memory)
     }
 }
 
-// Any store of a schema's text, if there is one, and the least one, which is asked for afterwards.
-fn any_and_least(alloc: Global, text: &[u8]) -> Result<Option<(Frozen, Frozen)>, AllRefusal> {
-    let schema = read_schema(alloc, text).map_err(|_| AllRefusal::Memory)?;
+// The least store of a schema, where all were asked for before.
+fn least_in(alloc: Global, schema: &Schema, limit: usize) -> Result<Frozen, AllRefusal> {
     let Some(store) = schema.graph().category(b"Store") else {
         return Err(AllRefusal::Memory);
     };
-    let mut search = search_at(alloc, &schema, store)?;
+    let mut search = search_at(alloc, schema, store)?;
+    least_of(&mut search, schema, limit)
+}
+
+// The least store of a schema's text, where all were asked for before.
+fn least_store(alloc: Global, text: &[u8], limit: usize) -> Result<Frozen, AllRefusal> {
+    let schema = read_schema(alloc, text).map_err(|_| AllRefusal::Memory)?;
+    least_in(alloc, &schema, limit)
+}
+
+// What the search finds, if anything, and the least, which is asked for afterwards.
+fn both_of(search: &mut Search, schema: &Schema) -> Result<Option<(Frozen, Frozen)>, AllRefusal>
+    requires { IsMadeWith (schema_of schema.now) Meaning.Formula.Truth search.old }
+{
     let mut one = search.blank()?;
     let mut least = search.blank()?;
-    if !search.any(&schema, &Formula::True, &mut one) {
+    if !search.any(schema, &Formula::True, &mut one) {
         return Ok(None);
     }
-    if search.first(&schema, &Formula::True, &mut least) {
+    if search.first(schema, &Formula::True, &mut least) {
         Ok(Some((one, least)))
     } else {
         Err(AllRefusal::Memory)
     }
+}
+
+// Any store of a schema, if there is one, and the least one.
+fn both_in(alloc: Global, schema: &Schema) -> Result<Option<(Frozen, Frozen)>, AllRefusal> {
+    let Some(store) = schema.graph().category(b"Store") else {
+        return Err(AllRefusal::Memory);
+    };
+    let mut search = search_at(alloc, schema, store)?;
+    both_of(&mut search, schema)
+}
+
+// Any store of a schema's text, if there is one, and the least one, which is asked for afterwards.
+fn any_and_least(alloc: Global, text: &[u8]) -> Result<Option<(Frozen, Frozen)>, AllRefusal> {
+    let schema = read_schema(alloc, text).map_err(|_| AllRefusal::Memory)?;
+    both_in(alloc, &schema)
 }
 
 // Whether exactly these edges are present, and each name is the fresh one.

@@ -10,30 +10,17 @@ use olap_schema::{Schema, read_schema};
 use std::alloc::Global;
 use std::test::Fail;
 
-const LOCATION: &[u8] = b"schema 1
-category Store
-category City
-category State
-category Province
-category Region
-category Country
-edge Store City
-edge City State
-edge City Province
-edge City Country
-edge State Region
-edge State Country
-edge Province Region
-edge Region Country
-edge Country All
-constraint City: City_Country <-> City = \"Washington\"
-constraint City: one(City_State, City_Province, City_Country)
-constraint City: City = \"Washington\" -> City.Country = \"USA\"
-constraint State: State.Country = \"USA\" | State.Country = \"Mexico\"
-constraint State: State_Region <-> State.Country = \"Mexico\"
-constraint State: State_Region ^ State_Country
-constraint Province: Province.Country = \"Canada\"
-";
+// The schema of `examples/location`, whose clauses are counted below. A line has what belongs together.
+const LOCATION: &[u8] = b"schema 1\n\
+category Store\ncategory City\ncategory State\ncategory Province\ncategory Region\ncategory Country\n\
+edge Store City\nedge City State\nedge City Province\nedge City Country\nedge State Region\n\
+edge State Country\nedge Province Region\nedge Region Country\nedge Country All\n\
+constraint City: City_Country <-> City = \"Washington\"\n\
+constraint City: one(City_State, City_Province, City_Country)\n\
+constraint City: City = \"Washington\" -> City.Country = \"USA\"\n\
+constraint State: State.Country = \"USA\" | State.Country = \"Mexico\"\n\
+constraint State: State_Region <-> State.Country = \"Mexico\"\nconstraint State: State_Region ^ State_Country\n\
+constraint Province: Province.Country = \"Canada\"\n";
 
 // For each category beside `All` how many clauses there are with it as the root, counted by hand.
 const COUNTS: [(&[u8], usize); 6] = [

@@ -7,7 +7,7 @@ use olap_instance::read_instance;
 use std::alloc::Global;
 use std::process::Abort;
 
-// What reading gives: the number of facts, or the record and its fault; nothing for want of memory.
+// What reading gives: the number of facts, or the record and its fault; nothing if out of memory.
 fn outcome(alloc: Global, rt: &impl Abort, text: &[u8]) -> Option<Result<usize, (u64, FactKind)>> {
     let graph = cities(rt, alloc);
     let instance = read_instance(alloc, &graph, STORES.as_bytes()).expect(rt, "an instance");
@@ -39,7 +39,7 @@ fn texts(rt: HostRuntime) {
 }
 
 // What a reader gives that may hand out so many facts: how many it handed out before it ended, and the record and its
-// fault where it was refused; nothing for want of memory, or past nine facts.
+// fault where it was refused; nothing if out of memory, or past nine facts.
 fn handed_out(
     alloc: Global,
     rt: &impl Abort,

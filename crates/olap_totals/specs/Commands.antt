@@ -68,7 +68,7 @@ change_order step schema instance store facts =
 abbrev pub is_few : List (List ℕ) → Bool
 is_few categories = nat_lt 0 (length categories) && nat_le (length categories) most_views
 
--- so it is of a few categories
+-- by a schema, an instance, facts and a few categories
 abbrev pub store_by : List (List ℕ) → Option (Order Question)
 store_by (schema ∷ instance ∷ facts ∷ categories) =
     if is_few categories then Some (store_order schema instance facts categories) else None

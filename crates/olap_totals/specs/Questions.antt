@@ -1,5 +1,5 @@
--- What is asked of an instance and its facts, and what answers it: no question so far, since what each command tells is a
--- function of what was read.
+-- What is asked of an instance and its facts, and what answers it: no question so far, since what each command tells
+-- is a function of what was read.
 use Rattle.std.specs.Prelude.{ℕ, List}
 use Rattle.olap_order.specs.declared.status.Status.{Status}
 

@@ -14,7 +14,7 @@ use Rattle.olap_base.specs.Steps.{Climb}
 use Rattle.olap_bits.specs.Sets.{members}
 use Rattle.olap_bits.specs.declared.sets.CatSet.{CatSet}
 use Rattle.olap_graph.specs.Rows.{row}
-use Rattle.olap_trail.specs.Drawing.{AreBeyond, IsAbove, IsBeyond, IsBypassed, IsCyclic, IsGrown, IsIn, IsNext, Joins}
+use Rattle.olap_trail.specs.Drawing.{AreBeyond, Drawing, IsAbove, IsBeyond, IsBypassed, IsCyclic, IsGrown, IsIn, IsNext, Joins}
 use Rattle.olap_trail.specs.Drawn.{AreTables}
 use Rattle.olap_graph.proofs.RowLemmas.{has_insert, row_other, row_read, row_same}
 use Rattle.olap_trail.proofs.StageLemmas.{AreCopied, stage_end}
@@ -238,3 +238,12 @@ module _ {W : ℕ} {room set_room : ℕ} {es : List Edge} {place : ℕ} {rows pa
             (beyond_more es c p x (row rows (place + x)) through (row new_rows (place + length parents + x))
             (beyond_top x i) above (copied.grown x i)))
       ]
+
+-- what is below a number is below an equal one
+pub still_below : {j k m n : ℕ} → j ≡ k → n ≡ m → k < m → j < n
+still_below e f h = omega arith
+
+-- the same categories and room, with these edges
+pub drawn_more : (v w : Drawing) (es : List Edge) → v.count ≡ w.count → v.room ≡ w.room → v.edges ≡ es
+    → v ≡ record w { edges = es }
+drawn_more v w es a b e = λ i. record { count = a i; room = b i; edges = e i }

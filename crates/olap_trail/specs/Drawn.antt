@@ -1,4 +1,4 @@
--- What the fields of a drawing stand for, and keep.
+-- The fields of a drawing: what they stand for, and keep.
 --     drawing      what it stands for
 --     AreTables    what lists of sets and marks say of a list of edges
 use Rattle.std.specs.Prelude.{◌≡◌, ◌≢◌, ℕ, ◌+◌, ◌*◌, ◌<◌, ◌≤◌, ◌↔◌, List, AllPairs, Bool, true, false, length, map, take, slice_index_or, vec_capacity}

@@ -1,4 +1,4 @@
--- What the fields of a trail stand for, and keep.
+-- The fields of a trail: what they stand for, and keep.
 use Rattle.std.specs.Prelude.{◌≡◌, ℕ, ◌+◌, ◌≤◌, None, length, slice_index_or, vec_capacity}
 use Rattle.olap_base.specs.Graph.{IsHierarchy, category_count}
 use Rattle.olap_base.specs.Limits.{most_categories, most_edges}

@@ -1,4 +1,4 @@
--- What the program's decisions stand for.
+-- The definitions' decisions behind the program's.
 use Rattle.std.specs.Prelude.{List, map}
 use Rattle.olap_trail.specs.Decisions.{Decision}
 use Rattle.olap_trail.specs.declared.decisions.Decision.{Decision as OneDecision}

@@ -1,15 +1,17 @@
 -- The order in which each command about a certificate judges its files and words.
---     verify_order    of `verify` and `verify-short`
---     order_named     of the command of that name, by the words after it
+--     verify_order        of `verify` and `verify-short`
+--     verify_order_for    what is left of it behind the schema
+--     order_named         of the command of that name, by the words after it
 use Rattle.std.specs.Prelude.{ℕ, List, [], ◌∷◌, codes, if◌then◌else◌, Option, None, Some}
 use Rattle.std.specs.Str.{bytes_eq}
+use Rattle.olap_ast.specs.Schema.{Schema}
 use Rattle.olap_order.specs.Order.{Order, Done, and_then}
 use Rattle.olap_order.specs.Steps.{category_word, different_words, schema_file, text_file}
 use Rattle.olap_proof.specs.declared.forms.Form.{Form}
 use Rattle.olap_proof.specs.declared.forms.Form.TheVariants.{Long, Short}
 use Rattle.olap_verdicts.specs.Questions.{Question, ByCertificate}
 
--- by three words, and those behind them
+-- by three words, and those after them
 abbrev pub by_three_or_more : {Q : Type 0} → (List ℕ → List ℕ → List ℕ → List (List ℕ) → Order Q) → List (List ℕ)
     → Option (Order Q)
 by_three_or_more order (a ∷ b ∷ c ∷ more) = Some (order a b c more)
@@ -23,6 +25,14 @@ verify_order form schema certificate target sources =
     and_then (different_words (codes "DuplicateSource") s.graph 5 [] sources) (λ cs.
     and_then (text_file (codes "certificate") certificate) (λ text.
     Done (ByCertificate form s c cs text)))))
+
+-- the same behind the schema
+abbrev pub verify_order_for : Form → Schema → (certificate target : List ℕ) (sources : List (List ℕ)) → Order Question
+verify_order_for form s certificate target sources =
+    and_then (category_word s.graph 4 target) (λ c.
+    and_then (different_words (codes "DuplicateSource") s.graph 5 [] sources) (λ cs.
+    and_then (text_file (codes "certificate") certificate) (λ text.
+    Done (ByCertificate form s c cs text))))
 
 -- of the command of that name
 abbrev pub order_named : List ℕ → List (List ℕ) → Option (Order Question)

@@ -2,4 +2,5 @@
 pub mod Questions
 pub mod Commands
 pub mod Laws
+-- The inside: the commands of the code as orders.
 pub mod Seen

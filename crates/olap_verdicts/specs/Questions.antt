@@ -11,6 +11,7 @@ use Rattle.olap_order.specs.declared.status.Status.TheVariants.{Yes, No}
 use Rattle.olap_proof.specs.Verifying.{IsCertificateFor, IsFirstWrongFor}
 use Rattle.olap_proof.specs.declared.forms.Form.{Form}
 
+-- a command's question, with all that it needs
 pub data Question : Type 0 where
   -- is the text a certificate of that form for the schema, the target and the sources?
   ByCertificate : (form : Form) (schema : Schema) (target : ℕ) (sources : List ℕ) (text : List ℕ) → Question

@@ -1,7 +1,7 @@
 //! The commands `verify` and `verify-short`: whether a text is a certificate.
 //!
-//! Their order (`specs/Commands.antt`) reads the schema, takes the words, and then reads the certificate. What answers the
-//! question that is left stands in `specs/Questions.antt`. Nothing here searches.
+//! Their order (`specs/Commands.antt`) reads the schema, takes the words, and then reads the certificate. What answers
+//! the question that is left stands in `specs/Questions.antt`. Nothing here searches.
 #![tactic(auto)]
 
 mod judging;

@@ -9,7 +9,7 @@ ghost use Rattle.olap_order.specs.Taken.{FileStep};
 ghost use Rattle.olap_order.specs.Words.{texts};
 ghost use Rattle.olap_ast.specs.Trees.{numbers_of};
 ghost use Rattle.olap_schema.specs.Schemas.{schema_of};
-ghost use Rattle.olap_verdicts.specs.Commands.{verify_order};
+ghost use Rattle.olap_verdicts.specs.Commands.{verify_order, verify_order_for};
 ghost use Rattle.olap_verdicts.specs.Questions.{ByCertificate, IsAnswer};
 
 use olap_base::{CatId, Library};
@@ -64,6 +64,26 @@ fn told(
     }
 }
 
+/// Whether the text in a file is a certificate for the schema, the target and the sources.
+fn verify_for<L: Library>(
+    alloc: Global,
+    form: Form,
+    schema: &Schema,
+    certificate: &str,
+    target: &str,
+    sources: &[String],
+    lib: &mut L,
+) -> Result<Reply, Stop>
+    requires few { length sources.now < 2 ^ 63 }
+    ensures judged { Judged IsAnswer L.Library lib.old lib.new
+        (verify_order_for form (schema_of schema.now) certificate.now target.now (texts sources.now)) result }
+{
+    let target = category_at(alloc, 4, schema, target)?;
+    let sources = categories_at(alloc, 5, "DuplicateSource", schema, sources)?;
+    let text = text_in(alloc, "certificate", certificate, lib)?;
+    told(alloc, schema, form, target, &sources, &text)
+}
+
 /// Whether the text in a file is a certificate for the schema in another, the target and the sources.
 pub(crate) fn verify<L: Library>(
     alloc: Global,
@@ -79,8 +99,5 @@ pub(crate) fn verify<L: Library>(
         (verify_order form schema.now certificate.now target.now (texts sources.now)) result }
 {
     let schema = schema_in(alloc, "schema", schema, lib)?;
-    let target = category_at(alloc, 4, &schema, target)?;
-    let sources = categories_at(alloc, 5, "DuplicateSource", &schema, sources)?;
-    let text = text_in(alloc, "certificate", certificate, lib)?;
-    told(alloc, &schema, form, target, &sources, &text)
+    verify_for(alloc, form, &schema, certificate, target, sources, lib)
 }

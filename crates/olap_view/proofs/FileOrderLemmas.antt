@@ -17,6 +17,7 @@ use Rattle.olap_base.specs.Summaries.{Summary}
 use Rattle.olap_base.specs.Views.{Row, View, members_of, row_at}
 use Rattle.olap_base.proofs.ListLemmas.{Contains-from_filter, Contains-from_range_at, contains_head}
 use Rattle.olap_view.specs.Stores.{IsInFileOrder, IsStore, row_in, summary_in}
+pub use Rattle.olap_view.specs.Tables.{view_by}
 use Rattle.olap_view.proofs.ViewingLemmas.{filter_map_same, member_is}
 
 -- the rows of these members, where there are any
@@ -68,10 +69,6 @@ rows-ascend h (y ∷ ys) a = go (h y) (rows-ascend h ys (λ j k d l w. a (suc j)
         AllPairs-cons ◌<◌ y (map (λ (r : Row). r.member) (rows_by h ys))
         (All-map (λ z. y < z) (λ (r : Row). r.member) (rows_by h ys)
         (all-rows (λ (r : Row). y < r.member) h ys (λ z k. later z (h z) (All-contains (λ w. y < w) ys z above k)))) e
-
--- the view of c with a row or none for each member
-abbrev pub view_by : Instance → (ℕ → Option Summary) → ℕ → View
-view_by i h c = record { category = c; rows = rows_by h (members_of i c) }
 
 in-order : (i : Instance) (h : ℕ → Option Summary) (c : ℕ) → IsInFileOrder i (view_by i h c)
 in-order i h c = record {

@@ -1,5 +1,6 @@
 -- What a record of a text of stored views says, check by check.
 --     too-many, may-begin         a record that begins a view
+--     none-there                  no row of the member was read
 --     no-view, row-twice, row-is  a row's record
 use Rattle.std.proofs.Common.{◌≡◌, ◌↔◌, ◌<◌, ◌≤◌, ◌==◌, ◌∙◌, ℕ, Bool, true, false, not, List, length, Option, Some, None, IsTrue, is_some, is_none, unwrap_or, if◌then◌else◌, nat_le, refl, sym, ap, subst, arith}
 use Rattle.std.specs.Prelude.{Contains}
@@ -12,11 +13,11 @@ use Rattle.olap_base.specs.Limits.{most_views}
 use Rattle.olap_base.specs.Summaries.{Summary}
 use Rattle.olap_base.proofs.ListLemmas.{list_any_is}
 use Rattle.olap_view.specs.StoreReading.{IsRowFor, IsStoredAt, Record, Tells}
+use Rattle.olap_view.specs.StoredRows.{begun_in, stored_at}
 use Rattle.olap_view.specs.StoreText.{beginning_fault, begun, category_number, is_beginning, is_row_of, member_named, member_number, row_fault, summary_read}
-use Rattle.olap_view.specs.Tables.{categories_of, summary_at}
 use Rattle.olap_view.specs.declared.kinds.StoreKind.{StoreKind}
 use Rattle.olap_view.specs.declared.kinds.StoreKind.TheVariants as kind
-use Rattle.olap_view.specs.declared.tables.Table.{Table}
+use Rattle.olap_view.specs.declared.stored_rows.StoredRows.{StoredRows}
 
 -- the test for c among categories tells whether they contain it
 among-is : (cs : List ℕ) (c : ℕ) → IsTrue (list_any (λ d. d == c) cs) ↔ Contains cs c
@@ -51,6 +52,10 @@ module _ (g : Graph) (earlier : List Record) (cs : List ℕ) (c : ℕ) (b : Bool
 
 -- ---- a row
 
+pub none-there : {A : Type 0} (o : Option A) → is_some o ≡ false → o ≡ None
+none-there None e = refl
+none-there (Some x) e = absurd (cc)
+
 -- the checks of a row by what they find: a view above, no member, its category, no numbers, a row above
 abbrev pub checks : Bool → Bool → Bool → Bool → Bool → Option StoreKind
 checks view no_member same no_numbers row =
@@ -65,11 +70,11 @@ pub last-check : (a n k s f : Bool) → a ≡ true → n ≡ false → k ≡ tru
     → checks a n k s f ≡ (if f then Some kind.DuplicateRow else None)
 last-check a n k s f ea en ek es = rw (ea, en, ek, es) refl
 
-module _ (g : Graph) (i : Instance) (earlier : List Record) (r : Record) (t : Table) (h : Tells g i earlier t) (c : ℕ)
-    (named : c ≡ category_number g r) (b : Bool) (above : IsTrue b ↔ Contains (categories_of t) c) where
+module _ (g : Graph) (i : Instance) (earlier : List Record) (r : Record) (t : StoredRows) (h : Tells g i earlier t) (c : ℕ)
+    (named : c ≡ category_number g r) (b : Bool) (above : IsTrue b ↔ Contains (begun_in t) c) where
   begins-above : list_any (λ d. d == category_number g r) (begun g earlier) ≡ b
   begins-above = ap (λ x. list_any (λ d. d == x) (begun g earlier)) (sym named)
-      ∙ ap (list_any (λ d. d == c)) (sym h.categories) ∙ among (categories_of t) c b above
+      ∙ ap (list_any (λ d. d == c)) (sym h.categories) ∙ among (begun_in t) c b above
 
   pub no-view : b ≡ false → row_fault g i earlier r ≡ Some kind.NoView
   no-view e = let a = begins-above ∙ e in rw a refl
@@ -92,10 +97,10 @@ module _ (g : Graph) (i : Instance) (earlier : List Record) (r : Record) (t : Ta
         ∙ ap (λ x. if list_any (is_row_of i x) earlier then Some kind.DuplicateRow else None) (sym number)
         ∙ ap (λ x. if x then Some kind.DuplicateRow else None) q
 
-    pub row-twice : is_some (summary_at t m) ≡ true → row_fault g i earlier r ≡ Some kind.DuplicateRow
+    pub row-twice : is_some (stored_at t m) ≡ true → row_fault g i earlier r ≡ Some kind.DuplicateRow
     row-twice q = told true (sym (h.there m inside) ∙ q)
 
-    pub row-is : is_beginning r ≡ false → IsStoredAt m s → is_some (summary_at t m) ≡ false
+    pub row-is : is_beginning r ≡ false → IsStoredAt m s → is_some (stored_at t m) ≡ false
         → (row_fault g i earlier r ≡ None) × IsRowFor i earlier r m s
     row-is n stored q =
         let f : list_any (is_row_of i m) earlier ≡ false = sym (h.there m inside) ∙ q in (

@@ -12,6 +12,7 @@ mod TallyLemmas
 mod MergingLemmas
 pub mod RollingUpLemmas
 mod StoredNumbersLemmas
+mod StoredRowsLemmas
 mod StoreReadingLemmas
 mod JudgingLemmas
 mod StoreTextLemmas

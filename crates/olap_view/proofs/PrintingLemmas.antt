@@ -1,5 +1,5 @@
 -- Printing a view row by row, and reading its text back.
-use Rattle.std.proofs.Common.{◌≡◌, ◌+◌, ◌<◌, ◌++◌, ◌∷◌, ◌∙◌, ℕ, List, [], length, map, take, get_or, suc, zero, arith, sym, ap}
+use Rattle.std.proofs.Common.{◌≡◌, ◌+◌, ◌<◌, ◌++◌, ◌∷◌, ◌∙◌, ℕ, List, [], length, map, take, get_or, suc, zero, append_assoc, arith, sym, ap}
 use Rattle.std.specs.Prelude.{All}
 use Rattle.std.proofs.lemmas.List.Elements.{All-map}
 use Rattle.std.proofs.lemmas.List.{map-append, take_more}
@@ -12,13 +12,13 @@ use Rattle.olap_view.specs.Seen.{row_of, rows_of}
 use Rattle.olap_view.specs.ViewText.{fields_in, header, records_of_view, view_text}
 use Rattle.olap_view.specs.declared.views.Row as told
 
--- one row more
-pub view_more : (top : List (List ℕ)) (fields : Row → List (List ℕ)) (rows : List told.Row) (k : ℕ) (d : told.Row)
-    (out new : List ℕ) → k < length rows
-    → out ≡ text_of_rows (top ∷ map fields (rows_of (take k rows)))
+-- one row more behind what was there
+pub view_more : (first : List ℕ) (top : List (List ℕ)) (fields : Row → List (List ℕ)) (rows : List told.Row) (k : ℕ)
+    (d : told.Row) (out new : List ℕ) → k < length rows
+    → out ≡ first ++ text_of_rows (top ∷ map fields (rows_of (take k rows)))
     → new ≡ out ++ text_of_row (fields (row_of (get_or rows k d)))
-    → new ≡ text_of_rows (top ∷ map fields (rows_of (take (k + 1) rows)))
-view_more top fields rows k d out new l eo en =
+    → new ≡ first ++ text_of_rows (top ∷ map fields (rows_of (take (k + 1) rows)))
+view_more first top fields rows k d out new l eo en =
     let row = get_or rows k d in
     let before = map fields (rows_of (take k rows)) in
     let more : map fields (rows_of (take (k + 1) rows)) ≡ before ++ fields (row_of row) ∷ [] =
@@ -26,8 +26,9 @@ view_more top fields rows k d out new l eo en =
     ∙ ap (map fields) (map-append row_of (take k rows) (row ∷ []))
     ∙ map-append fields (rows_of (take k rows)) (row_of row ∷ []) in
     en ∙ ap (λ (t : List ℕ). t ++ text_of_row (fields (row_of row))) eo
-    ∙ sym (texts-push (top ∷ before) (fields (row_of row)))
-    ∙ ap (λ (t : List (List (List ℕ))). text_of_rows (top ∷ t)) (sym more)
+    ∙ append_assoc first (text_of_rows (top ∷ before)) (text_of_row (fields (row_of row)))
+    ∙ ap (λ (t : List ℕ). first ++ t) (sym (texts-push (top ∷ before) (fields (row_of row)))
+    ∙ ap (λ (t : List (List (List ℕ))). text_of_rows (top ∷ t)) (sym more))
 
 -- each record has a field, where the first has and those behind it have
 all-full : (top : List (List ℕ)) (rows : List (List (List ℕ))) → 0 < length top → All (λ r. 0 < length r) rows

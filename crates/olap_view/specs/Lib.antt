@@ -13,6 +13,7 @@ pub mod Tallies
 pub mod RollingUp
 -- The inside: what a table of summaries holds, and the numbers of the machine.
 pub mod NumbersInside
+pub mod StoredRows
 pub mod StoreReading
 pub mod Bounds
 pub mod Columns

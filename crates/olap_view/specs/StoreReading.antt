@@ -1,14 +1,13 @@
 -- A text of stored views, while it is read.
 --     Record            a record: its fields
 --     said_of           what the records so far say of a member
---     HasOwnPlaces      each member's summary stands at the member's own number
---     Tells             a table holds what the records so far say
+--     Tells             rows are those that the records so far tell
 --     IsBeginning       a record without a fault begins a view
 --     IsRowFor          a record without a fault is a row
 --     Says              what a record without a fault says
---     IsInside          a row's member is one of the members
+--     IsNew             a row's member is one of the members, and has no row
 --     IsStoreFaultOf    the refusal tells the first fault of the records after the header
-use Rattle.std.specs.Prelude.{◌≡◌, ◌≢◌, ◌==◌, ◌+◌, ◌<◌, ◌≤◌, ⊤, true, false, ℕ, List, length, count_by, find, All, AllPairs, IfSome, Option, Some, is_some}
+use Rattle.std.specs.Prelude.{◌≡◌, ◌≢◌, ◌==◌, ◌+◌, ◌<◌, ◌≤◌, ⊤, true, false, ℕ, List, length, find, All, AllPairs, IfSome, Option, Some, None, is_some}
 use Rattle.std.specs.List.{list_any}
 use Rattle.std.specs.Option.{option_and_then}
 use Rattle.olap_base.specs.Graph.{Graph, IsCategory}
@@ -17,14 +16,14 @@ use Rattle.olap_base.specs.Limits.{most_views}
 use Rattle.olap_base.specs.Summaries.{Summary}
 use Rattle.olap_view.specs.Seen.{summary_of}
 use Rattle.olap_view.specs.StoreText.{begun, category_number, is_beginning, is_row_of, member_number, summary_read}
+use Rattle.olap_view.specs.StoredRows.{IsPlaced, begun_in, stored_at}
 use Rattle.olap_view.specs.Stores.{IsStored}
-use Rattle.olap_view.specs.Tables.{categories_of, place_in, summary_at}
 use Rattle.olap_view.specs.declared.judging.Entry.{Entry}
 use Rattle.olap_view.specs.declared.judging.Entry.TheVariants as entry
 use Rattle.olap_view.specs.declared.kinds.StoreKind.{StoreKind}
 use Rattle.olap_view.specs.declared.kinds.StoreRefusal.{StoreRefusal}
 use Rattle.olap_view.specs.declared.kinds.StoreRefusal.TheVariants as refusal
-use Rattle.olap_view.specs.declared.tables.Table.{Table}
+use Rattle.olap_view.specs.declared.stored_rows.StoredRows.{StoredRows}
 
 -- a record: its fields
 abbrev pub Record : Type 0
@@ -38,24 +37,19 @@ said_of i rows y = option_and_then summary_read (find (is_row_of i y) rows)
 abbrev pub IsStoredAt : ℕ → Summary → Type 0
 IsStoredAt y s = IsStored (record { member = y; summary = s })
 
--- each place has a summary or none, and each number is its own place
-pub record HasOwnPlaces (t : Table) : Type 0 where
-  pub size : length t.places.items ≡ length t.summaries.items
-  pub own : (y : ℕ) → y < length t.summaries.items → place_in t y ≡ y
-
--- the table holds what these records say: its categories are those of the views that they begin, and at each member
--- stands the summary in the member's row, if there is one
-pub record Tells (g : Graph) (i : Instance) (rows : List Record) (t : Table) : Type 0 where
-  pub categories : categories_of t ≡ begun g rows
+-- the categories are those of the views that these records begin, and each member has the summary in its row, if there
+-- is one
+pub record Tells (g : Graph) (i : Instance) (rows : List Record) (t : StoredRows) : Type 0 where
+  pub categories : begun_in t ≡ begun g rows
   pub differ : AllPairs ◌≢◌ (begun g rows)
   pub few : length (begun g rows) ≤ most_views
   pub known : All (IsCategory g) (begun g rows)
-  pub places : HasOwnPlaces t
-  pub members : length t.summaries.items ≡ length i
-  pub at : (y : ℕ) → IsMember i y → summary_at t y ≡ said_of i rows y
-  pub there : (y : ℕ) → IsMember i y → is_some (summary_at t y) ≡ list_any (is_row_of i y) rows
-  pub stored : (y : ℕ) → IsMember i y → IfSome (summary_at t y) (IsStoredAt y)
-  pub size : length rows ≡ length (begun g rows) + count_by is_some t.summaries.items
+  pub members : length t.places.items ≡ length i
+  pub placed : IsPlaced t
+  pub at : (y : ℕ) → IsMember i y → stored_at t y ≡ said_of i rows y
+  pub there : (y : ℕ) → IsMember i y → is_some (stored_at t y) ≡ list_any (is_row_of i y) rows
+  pub stored : (y : ℕ) → IsMember i y → IfSome (stored_at t y) (IsStoredAt y)
+  pub size : length rows ≡ length (begun g rows) + length t.summaries.items
 
 -- after these records the record begins a view of c
 pub record IsBeginning (g : Graph) (rows : List Record) (r : Record) (c : ℕ) : Type 0 where
@@ -79,10 +73,10 @@ abbrev pub Says : Graph → Instance → List Record → Record → Entry → Ty
 Says g i rows r (entry.Beginning c) = IsBeginning g rows r c.0
 Says g i rows r (entry.Row m s) = IsRowFor i rows r m.0 (summary_of s)
 
--- a row's member is one of the first n
-abbrev pub IsInside : ℕ → Entry → Type 0
-IsInside n (entry.Beginning c) = ⊤
-IsInside n (entry.Row m s) = m.0 < n
+-- a row's member is one of the members, and has no row so far
+abbrev pub IsNew : StoredRows → Entry → Type 0
+IsNew t (entry.Beginning c) = ⊤
+IsNew t (entry.Row m s) = (m.0 < length t.places.items) × (stored_at t m.0 ≡ None)
 
 -- the refusal tells the first fault of the records after the header, or that memory ran out
 abbrev pub IsStoreFaultOf : Option (ℕ × StoreKind) → StoreRefusal → Type 0

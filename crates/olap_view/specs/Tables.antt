@@ -6,7 +6,8 @@
 --     JoinedSoFar    what joining it in some leaves
 --     AreJoined      what joining it in each leaves
 --     PlacesSoFar    places for the members so far
---     view_in        the view of a category
+--     view_by        the view of a category with a summary or none at each member
+--     view_in        that of a table
 use Rattle.std.specs.Prelude.{◌≡◌, ◌==◌, ◌&&◌, ℕ, ◌<◌, ◌≤◌, ◌^◌, Bool, List, length, slice_index, slice_index_or, filter_map, Option, Some, None, IfSome, Contains, if◌then◌else◌}
 use Rattle.std.specs.List.{list_any}
 use Rattle.std.specs.Option.{option_map}
@@ -74,9 +75,13 @@ pub record AreJoined (i : Instance) (x : ℕ) (s : Summary) (before after : Tabl
   pub at : (y : ℕ) → IsAmong i (categories_of before) y
       → summary_at after y ≡ summary_at before y ⊕ when (reaches i x y) s
 
--- the view of c with these summaries
+-- the view of c with a summary or none at each member
+abbrev pub view_by : Instance → (ℕ → Option Summary) → ℕ → View
+view_by i at c = record { category = c; rows = filter_map (λ y. row_at y (at y)) (members_of i c) }
+
+-- the view of c with the table's summaries
 abbrev pub view_in : Instance → Table → ℕ → View
-view_in i t c = record { category = c; rows = filter_map (λ y. row_at y (summary_at t y)) (members_of i c) }
+view_in i t c = view_by i (summary_at t) c
 
 -- each of the first n members that is of the categories has one of the first k places
 pub record PlacesSoFar (i : Instance) (categories : List ℕ) (n k : ℕ) (places : List ℕ) : Type 0 where

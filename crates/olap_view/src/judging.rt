@@ -1,15 +1,17 @@
 // What a record of a text of stored views says, or what is wrong with it.
-ghost use Rattle.std.specs.Prelude.{◌≡◌, ◌==◌, ◌∷◌, ◌++◌, ◌<◌, [], ℕ, List as Items, MatchResult, None, OnOk, Some, false, length};
+ghost use Rattle.std.specs.Prelude.{◌≡◌, ◌==◌, ◌∷◌, ◌++◌, ◌<◌, [], ℕ, IfOk, List as Items, MatchResult, None, OnOk, Some, false, length};
 ghost use Rattle.std.specs.List.{list_any};
 ghost use Rattle.olap_base.specs.Graph.{Graph as TheGraph};
 ghost use Rattle.olap_base.specs.Instance.{Instance as TheInstance, category_of};
 ghost use Rattle.olap_base.specs.Limits.{most_views};
 ghost use Rattle.olap_view.specs.Seen.{ids, summary_of};
-ghost use Rattle.olap_view.specs.StoreReading.{HasOwnPlaces, IsInside, IsRowFor, Record, Says, Tells};
+ghost use Rattle.olap_view.specs.StoreReading.{IsNew, IsRowFor, Record, Says, Tells};
+ghost use Rattle.olap_view.specs.StoredRows.{IsPlaced, stored_at};
 ghost use Rattle.olap_view.specs.StoreText.{beginning_fault, begun, category_number, is_beginning as begins, row_fault, store_fault};
 
 use crate::numbers::summary;
-use crate::tables::{Table, is_among};
+use crate::stored_rows::StoredRows;
+use crate::tables::is_among;
 use crate::{StoreKind, Summary};
 use olap_base::{CatId, MOST_VIEWS, MemberId, Memory};
 use olap_graph::Graph;
@@ -65,13 +67,14 @@ fn is_of(instance: &Instance, m: MemberId, c: CatId) -> bool
 fn row(
     instance: &Instance,
     rows: &Rows,
-    table: &Table,
+    table: &StoredRows,
     c: CatId,
 ) -> Result<(MemberId, Summary), StoreKind>
     requires width { length rows.now.row ≡ 6 }
-    requires places { HasOwnPlaces table.now }
-    requires members { length table.now.summaries.items ≡ length instance.now }
-    ensures { (g : TheGraph) (earlier : Items Record) → Tells g instance.now earlier table.now
+    requires members { length table.now.places.items ≡ length instance.now }
+    ensures new { IfOk result
+        (λ p. (p.0.0 < length table.now.places.items) × (stored_at table.now p.0.0 ≡ None)) }
+    ensures judged { (g : TheGraph) (earlier : Items Record) → Tells g instance.now earlier table.now
         → c.0 ≡ category_number g rows.now.row → begins rows.now.row ≡ false → MatchResult result
         (λ p. (row_fault g instance.now earlier rows.now.row ≡ None)
         × IsRowFor instance.now earlier rows.now.row p.0.0 (summary_of p.1))
@@ -100,11 +103,11 @@ pub(crate) fn judge(
     graph: &Graph,
     instance: &Instance,
     rows: &Rows,
-    table: &Table,
+    table: &StoredRows,
 ) -> Result<Entry, StoreKind>
-    requires places { HasOwnPlaces table.now }
-    requires members { length table.now.summaries.items ≡ length instance.now }
-    ensures { (earlier : Items Record) → Tells graph.now instance.now earlier table.now → MatchResult result
+    requires { length table.now.places.items ≡ length instance.now }
+    ensures new { IfOk result (IsNew table.now) }
+    ensures judged { (earlier : Items Record) → Tells graph.now instance.now earlier table.now → MatchResult result
         (λ e. (store_fault graph.now instance.now earlier rows.now.row ≡ None)
         × Says graph.now instance.now earlier rows.now.row e)
         (λ k. store_fault graph.now instance.now earlier rows.now.row ≡ Some k) }
@@ -124,15 +127,15 @@ pub(crate) fn judge(
 }
 
 /// Enters what a record says into the table.
-pub(crate) fn enter(table: &mut Table, entry: Entry) -> Result<(), Memory>
-    requires places { HasOwnPlaces table.old }
-    requires inside { IsInside (length table.old.summaries.items) entry }
+pub(crate) fn enter(table: &mut StoredRows, entry: Entry) -> Result<(), Memory>
+    requires placed { IsPlaced table.old }
+    requires new { IsNew table.old entry }
     ensures { OnOk result ((g : TheGraph) (i : TheInstance) (earlier : Items Record) (r : Record)
         → Tells g i earlier table.old → Says g i earlier r entry → Tells g i (earlier ++ r ∷ []) table.new) }
 {
     match entry {
         Entry::Beginning(c) => table.begin(c)?,
-        Entry::Row(member, summary) => table.put(member, summary),
+        Entry::Row(member, summary) => table.put(member, summary)?,
     }
     Ok(())
 }

@@ -39,12 +39,12 @@ pub(crate) fn print_row(
     }
 }
 
-/// The bytes of the text of a view.
-fn print(alloc: Global, instance: &Instance, view: &View) -> Result<Vec<u8>, Memory>
-    requires { All (λ r. r.member.0 < length instance.now) view.now.rows }
-    ensures { IfOk result (λ bytes. bytes.items ≡ view_text instance.now (view_of view.now)) }
+/// The text of a view behind a text that is there, which isn't copied. `Memory`: out of memory.
+pub fn print_view_behind(text: Vec<u8>, instance: &Instance, view: &View) -> Result<Vec<u8>, Memory>
+    requires at_members { All (λ r. r.member.0 < length instance.now) view.now.rows }
+    ensures { IfOk result (λ bytes. bytes.items ≡ text.items ++ view_text instance.now (view_of view.now)) }
 {
-    let mut out = Printer::new(alloc, 5);
+    let mut out = Printer::behind(text, 5);
     out.row(&[b"member", b"count", b"sum", b"least", b"greatest"])?;
     'rows: for row in view.rows.items() {
         print_row(&mut out, None, instance.id(row.member), row)?;
@@ -53,12 +53,13 @@ fn print(alloc: Global, instance: &Instance, view: &View) -> Result<Vec<u8>, Mem
 }
 
 /// The text of a view: a header, and a record for each row, with the member's id and the four numbers in
-/// decimal. Its records read back as the header and these fields. `Memory`: want of memory.
+/// decimal. Its records read back as the header and these fields. `Memory`: out of memory.
 pub fn print_view(alloc: Global, instance: &Instance, view: &View) -> Result<Text, Memory>
     requires at_members { All (λ r. r.member.0 < length instance.now) view.now.rows }
 
     ensures text { IfOk result (λ text. text ≡ view_text instance.now (view_of view.now)) }
     ensures reads { IfOk result (λ text. records_of text ≡ records_of_view instance.now (view_of view.now)) }
 {
-    Ok(Text::from_vec(print(alloc, instance, view)?))
+    let bytes = print_view_behind(Vec::new(alloc), instance, view)?;
+    Ok(Text::from_vec(bytes))
 }

@@ -1,8 +1,7 @@
 // The text of stored views: reading and printing it.
-ghost use Rattle.std.specs.Prelude.{◌≡◌, ◌<◌, ◌≤◌, ◌++◌, [], All, IfOk, IsTrue, MatchResult, None, Ok, OnOk, drop, length};
+ghost use Rattle.std.specs.Prelude.{◌≡◌, ◌<◌, ◌++◌, [], All, IfOk, IsTrue, MatchResult, None, Ok, OnOk, drop, length};
 ghost use Rattle.olap_base.specs.Graph.{IsCategory, IsHierarchy};
 ghost use Rattle.olap_base.specs.Instance.{IsInstance};
-ghost use Rattle.olap_base.specs.Limits.{most_members};
 ghost use Rattle.olap_records.specs.Faults.{first_fault};
 ghost use Rattle.olap_records.specs.Records.{records_of};
 ghost use Rattle.olap_records.specs.Texts.{text_of_rows};
@@ -14,7 +13,7 @@ ghost use Rattle.olap_view.specs.Stores.{IsInFileOrder, IsSoundStore};
 
 use crate::judging::{enter, judge};
 use crate::printing::print_row;
-use crate::tables::Table;
+use crate::stored_rows::StoredRows;
 use crate::{Store, StoreKind, StoreRefusal, View};
 use olap_base::{List, Memory, Text};
 use olap_graph::Graph;
@@ -121,15 +120,14 @@ fn begins(rows: &mut Rows) -> Result<bool, Memory>
     )
 }
 
-/// Enters what the records say that are left into a table with nothing in it.
+/// Enters what the records say that are left where no row is.
 fn read_rows(
     graph: &Graph,
     instance: &Instance,
     rows: &mut Rows,
-    table: &mut Table,
+    table: &mut StoredRows,
 ) -> Result<(), StoreRefusal>
-    requires told { Tells graph.now instance.now [] table.old }
-    requires few { length instance.now ≤ most_members }
+    requires { Tells graph.now instance.now [] table.old }
     ensures { MatchResult result
         (λ _. (first_fault (store_fault graph.now instance.now) [] rows.old.left ≡ None)
         × Tells graph.now instance.now rows.old.left table.new)
@@ -160,7 +158,7 @@ fn read_views(
     ensures sound { IfOk result (λ v. IsSoundStore graph.now instance.now (each_view_of v)) }
     ensures order { IfOk result (λ v. All (IsInFileOrder instance.now) (each_view_of v)) }
 {
-    let mut table = Table::open(alloc, instance)?;
+    let mut table = StoredRows::new(alloc, instance)?;
     read_rows(graph, instance, rows, &mut table)?;
     Ok(table.views(alloc, instance)?)
 }
@@ -168,8 +166,8 @@ fn read_views(
 /// The stored views that a text tells, or the text's first fault. The rows of each view stand in the order of their
 /// members, whatever their order in the text.
 ///
-/// Linear in the text: each record takes a look-up of a category's name and one of a member's id. It takes memory for
-/// each member of the instance. `Memory`: want of memory.
+/// Linear in the text: each record takes a look-up of a category's name and one of a member's id. It takes four bytes
+/// for each member of the instance, and memory for each row. `Memory`: want of memory.
 pub fn read_store(
     alloc: Global,
     graph: &Graph,

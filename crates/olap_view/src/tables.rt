@@ -1,12 +1,11 @@
 // What values come to at each member of some categories.
-ghost use Rattle.std.specs.Prelude.{◌≡◌, ◌<◌, ◌≤◌, ◌^◌, ◌↔◌, ◌∷◌, ◌++◌, [], ℕ, All, AllPairs, ◌≢◌, Contains, IfOk, IfSome, IsTrue, None, OnOk, Some, is_some, length, map, replicate, set};
+ghost use Rattle.std.specs.Prelude.{◌≡◌, ◌<◌, ◌≤◌, ◌^◌, ◌↔◌, ℕ, All, AllPairs, ◌≢◌, Contains, IfOk, IfSome, IsTrue, None, Some, length, map, set};
 ghost use Rattle.std.specs.Option.{option_map};
 ghost use Rattle.olap_base.specs.Limits.{most_members};
 ghost use Rattle.olap_base.specs.Views.{row_at};
 ghost use Rattle.olap_view.specs.Bounds.{IsUpTo};
 ghost use Rattle.olap_view.specs.Columns.{AreColumns, ascent};
 ghost use Rattle.olap_view.specs.Seen.{each_view_of, ids, row_of, rows_of, summary_of, view_of};
-ghost use Rattle.olap_view.specs.StoreReading.{HasOwnPlaces};
 ghost use Rattle.olap_view.specs.Tables.{AreJoined, AreJoinedIn, HasPlaces, HasRoom, categories_of, place_in, summary_at, view_in};
 
 use crate::columns::Column;
@@ -67,35 +66,6 @@ impl Table {
         })
     }
 
-    /// A table for no category, with nothing in it, where each member's place is the member's own number.
-    pub(crate) fn open(alloc: Global, instance: &Instance) -> Result<Table, Memory>
-        ensures categories { IfOk result (λ t. categories_of t ≡ []) }
-        ensures places { IfOk result HasOwnPlaces }
-        ensures empty { IfOk result (λ t. t.summaries.items ≡ replicate (length instance.now) None) }
-        ensures few { IfOk result (λ t. length instance.now ≤ most_members) }
-    {
-        let members = instance.members();
-        let mut places = vec![in alloc; 0u32; members as usize]?;
-        'places: for y in 0..members {
-            places[y as usize] = y;
-        }
-        Ok(Table {
-            categories: Vec::new(alloc),
-            places,
-            summaries: vec![in alloc; None; members as usize]?,
-        })
-    }
-
-    /// Adds a category behind the others.
-    pub(crate) fn begin(&mut self, c: CatId) -> Result<(), Memory>
-        ensures categories { OnOk result (categories_of self.new ≡ categories_of self.old ++ c.0 ∷ []) }
-        ensures places { self.new.places ≡ self.old.places }
-        ensures summaries { self.new.summaries ≡ self.old.summaries }
-    {
-        self.categories.push(c)?;
-        Ok(())
-    }
-
     /// Puts a summary at a member, whatever stands there.
     pub(crate) fn put(&mut self, y: MemberId, summary: Summary)
         requires member { y.0 < length self.old.places.items }
@@ -152,15 +122,6 @@ impl Table {
         self.summaries[self.places[y.0 as usize] as usize]
     }
 
-    /// Whether the member has a summary.
-    pub(crate) fn has(&self, y: MemberId) -> bool
-        requires own { HasOwnPlaces self.now }
-        requires member { y.0 < length self.now.summaries.items }
-        ensures { result ≡ is_some (summary_at self.now y.0) }
-    {
-        self.at(y).is_some()
-    }
-
     /// The view of one of the categories: a row for each member that has a summary, in file order.
     pub(crate) fn view(&self, alloc: Global, instance: &Instance, c: CatId) -> Result<View, Memory>
         requires among { Contains (categories_of self.now) c.0 }
@@ -200,7 +161,7 @@ impl Table {
 }
 
 /// The row of a member, if it has a summary.
-fn row(member: MemberId, summary: Option<Summary>) -> Option<Row>
+pub(crate) fn row(member: MemberId, summary: Option<Summary>) -> Option<Row>
     ensures row { option_map row_of result ≡ row_at member.0 (option_map summary_of summary) }
     ensures member { IfSome result (λ r. r.member.0 ≡ member.0) }
 {

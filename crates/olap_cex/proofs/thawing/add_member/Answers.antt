@@ -1,4 +1,4 @@
--- A new member is never refused but for want of memory, and the draft gets it.
+-- A new member is refused only if out of memory, and the draft gets it.
 use Rattle.std.proofs.Common.{◌-◌, [], sym, ◌∙◌, ap, subst}
 use Rattle.std.specs.Prelude.{IsTrue}
 use Rattle.std.specs.Str.{is_utf8}

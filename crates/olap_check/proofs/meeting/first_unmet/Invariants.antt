@@ -4,10 +4,12 @@ use Rattle.olap_ast.specs.Formula.{Holds}
 use Rattle.olap_base.specs.Instance.{IsMemberOf}
 use Rattle.olap_ast.specs.Trees.{formula_of}
 use Rattle.olap_check.specs.Blocks.{width}
+use Rattle.olap_check.specs.Groups.{count_before}
 use Rattle.olap_check.specs.Seen.{IsSeen}
 use Rattle.olap_check.proofs.meeting.first_unmet.Given as goal
 
 abbrev pub invariant-steps : goal.invariant-steps
 invariant-steps l =
     IsSeen l.instance l.seen
-    × ((w : ℕ) → w < l.step * width → IsMemberOf l.instance l.root.0 w → Holds l.instance w (formula_of l.formula))
+    × ((w : ℕ) → count_before l.instance l.root.0 w < l.step * width → IsMemberOf l.instance l.root.0 w
+    → Holds l.instance w (formula_of l.formula))

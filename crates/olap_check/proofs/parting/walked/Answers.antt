@@ -1,5 +1,5 @@
 -- A row more, or the first member without one.
-use Rattle.std.proofs.Common.{◌≡◌, ◌<◌, ◌+◌, length, get_or, ap, sym, subst, ◌∙◌, arith}
+use Rattle.std.proofs.Common.{◌<◌, length, sym, subst, ◌∙◌, arith}
 use Rattle.olap_check.specs.Rows.{IsRise}
 use Rattle.olap_check.proofs.JoiningLemmas.{row_fits}
 use Rattle.olap_check.proofs.TableLemmas.{table_start, table_step, first_split}

@@ -1,5 +1,5 @@
 -- A category is reached, and has a slot, or has none.
-use Rattle.std.proofs.Common.{◌+◌, ◌<◌, ℕ, length, set, arith, refl, subst, sym, ◌∙◌, true≢false, get_or-set_other}
+use Rattle.std.proofs.Common.{◌+◌, set, arith, refl, subst, sym, ◌∙◌, true≢false, get_or-set_other}
 use Rattle.olap_base.specs.Graph.{CategoryReaches}
 use Rattle.olap_check.specs.Slots.{IsListing}
 use Rattle.olap_check.proofs.SlotLemmas.{listing_more, listing_none, listing_skip}

@@ -1,5 +1,5 @@
 -- A place more, with what stands there in either.
-use Rattle.std.proofs.Common.{◌≡◌, ◌≢◌, ◌+◌, ◌<◌, ◌≤◌, ℕ, length, get_or, set, subst, sym, ◌∙◌, arith}
+use Rattle.std.proofs.Common.{◌≡◌, ◌≢◌, ◌+◌, ◌<◌, ℕ, get_or, set, subst, sym, arith}
 use Rattle.olap_check.specs.Joining.{IsEither}
 use Rattle.olap_check.proofs.JoiningLemmas.{join_more, join_others}
 use Rattle.olap_check.proofs.tables.join.Goals as goal

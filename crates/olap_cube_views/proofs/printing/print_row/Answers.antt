@@ -1,4 +1,4 @@
--- The ids of the row's members, and its numbers behind them.
+-- The ids of the row's members, and its numbers after them.
 use Rattle.std.proofs.Common.{◌≡◌, ◌<◌, ◌∷◌, ◌++◌, [], Bor, List, ℕ, length, map, get_or, sym, ap, subst, ◌∙◌, arith, rules}
 use Rattle.std.specs.Prelude.{OnOk, decimal}
 use Rattle.std.specs.Fmt.{signed_decimal}

@@ -25,3 +25,7 @@ returns-clause-says c =
     tell_compared e o.next.sound c.args.c.0 c.in_ok-o.o c.in_ok-a.a c.in_ok-b.b c.args.d.0 (op_of c.args.op) c.args.n
     c.requires.speaks.1 o.says (says_still (next_on b.next o.next).later a.says)
     (says_still o.next.later (rw (to_z-of_z w64 c.args.n c.ranges.n) at b.says))
+
+pub returns-clause-next : goal.returns-clause-next
+returns-clause-next c =
+    next_on c.in_ok-a.ensures.next (next_on c.in_ok-b.ensures.next c.in_ok-o.ensures.next)

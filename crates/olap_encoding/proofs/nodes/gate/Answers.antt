@@ -31,3 +31,8 @@ pub returns-clause-says : goal.returns-clause-says
 returns-clause-says c =
     says_still (next_on c.clause.ensures.next (next_on c.clause-2.ensures.next
     (next_on c.clause-3.ensures.next c.keep_gate.ensures.next))).later c.in_ok-o.ensures.says
+
+pub returns-clause-next : goal.returns-clause-next
+returns-clause-next c =
+    next_on c.variable.ensures.next (next_on c.clause.ensures.next (next_on c.clause-2.ensures.next
+    (next_on c.clause-3.ensures.next c.keep_gate.ensures.next)))

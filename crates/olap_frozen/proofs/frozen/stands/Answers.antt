@@ -26,3 +26,45 @@ returns-then-not-are_absent_zero c = (
       let b = c.are_absent_zero.ensures.1 s in
       let g = c.if-not-are_absent_zero.true in let z : true ≡ false = sym b ∙ g in cc),
 )
+
+pub close-requires-clause-edges : goal.close-requires-clause-edges
+close-requires-clause-edges c = c.requires.sized.edge_count
+
+pub is_sound-requires-clause-edges : goal.is_sound-requires-clause-edges
+is_sound-requires-clause-edges c = c.requires.sized.edge_count
+
+pub is_sound-requires-clause-rows : goal.is_sound-requires-clause-rows
+is_sound-requires-clause-rows c = c.close.ensures.rows
+
+pub are_absent_zero-requires-clause-edges : goal.are_absent_zero-requires-clause-edges
+are_absent_zero-requires-clause-edges c = c.requires.sized.edge_count
+
+pub are_absent_zero-requires-clause-names : goal.are_absent_zero-requires-clause-names
+are_absent_zero-requires-clause-names c = c.requires.sized.name_count
+
+pub are_absent_zero-requires-clause-rows : goal.are_absent_zero-requires-clause-rows
+are_absent_zero-requires-clause-rows c = c.close.ensures.rows
+
+pub are_absent_zero-requires-clause-sound : goal.are_absent_zero-requires-clause-sound
+are_absent_zero-requires-clause-sound c = c.is_sound.ensures.0 c.if-not-is_sound.false
+
+pub named-requires-clause-sized : goal.named-requires-clause-sized
+named-requires-clause-sized c = c.requires.sized
+
+pub named-requires-clause-candidates : goal.named-requires-clause-candidates
+named-requires-clause-candidates c = c.requires.candidates
+
+pub named-requires-clause-rows : goal.named-requires-clause-rows
+named-requires-clause-rows c = c.close.ensures.rows
+
+pub named-requires-clause-sound : goal.named-requires-clause-sound
+named-requires-clause-sound c = c.is_sound.ensures.0 c.if-not-is_sound.false
+
+pub named-requires-clause-absent : goal.named-requires-clause-absent
+named-requires-clause-absent c = c.are_absent_zero.ensures.0 c.if-not-are_absent_zero.false
+
+pub named-requires-clause-hierarchy : goal.named-requires-clause-hierarchy
+named-requires-clause-hierarchy c = c.close.ensures.hierarchy
+
+pub returns : goal.returns
+returns c = c.named.ensures

@@ -22,7 +22,7 @@ returns-then-part c =
 
 pub returns-else-part : goal.returns-else-part
 returns-else-part c =
-    not_deep _ c.in-Ok.part.depth _ (sym (along _ _ _) ∙ c.in-Ok.ensures) c.if-part.false
+    rw c.into_formula.ensures (not_deep _ c.in-Ok.part.depth _ (sym (along _ _ _) ∙ c.in-Ok.ensures) c.if-part.false)
 
 pub returns-in-Err : goal.returns-in-Err
 returns-in-Err c = refused _ _ c.in-Err.e (along _ _ _) c.in-Err.ensures

@@ -40,3 +40,20 @@ returns c = subst (AreFirst c.args.sources c.args.dimensions.now) (sym c.from_ve
     (are_first c.args.sources c.args.dimensions.now c.requires.ordered c.dimensions.i c.dimensions.done.items
     (drop c.dimensions.i c.args.sets.now) c.dimensions.first.items c.dimensions-test.false c.dimensions.invariant.unions
     c.dimensions.invariant.bad c.dimensions.invariant.greedy)
+
+pub dimensions-init : goal.dimensions-init
+dimensions-init c =
+    let n = c.args.sources in let all = c.args.dimensions.now in record {
+      greedy = λ xs g. subst (λ w. GreedyOf n all [] (w ++ xs)) (sym c.new-first.ensures.items)
+          (subst (λ w. GreedyOf n all w xs) c.new-done.ensures.items g);
+      unions = c.requires.sets;
+      bad = subst (λ w. CanBeBad n (w ++ c.args.sets.now) (all_of n)) (sym c.new-done.ensures.items) c.requires.bad;
+    }
+
+pub first_family-family-requires-clause-few : goal.first_family-family-requires-clause-few
+first_family-family-requires-clause-few c = c.requires.few
+
+pub first_family-family-requires-clause-ordered : goal.first_family-family-requires-clause-ordered
+first_family-family-requires-clause-ordered c =
+    subst IsOrdered (sym c.items.ensures) (subst IsOrdered (sym c.index-dimensions-i.is)
+    (c.requires.ordered c.dimensions.i c.index-dimensions-i.result c.dimensions-test.true))

@@ -1,12 +1,12 @@
 -- The candidates are those of the search, and what is listed is all that it found.
-use Rattle.std.proofs.Common.{◌≤◌, ◌++◌, List, length, map, codes, decimal, ap, sym, subst, ◌∙◌}
+use Rattle.std.proofs.Common.{◌≤◌, ◌++◌, List, length, map, codes, decimal, Err, ap, inr, refl, sym, subst, ◌∙◌}
 use Rattle.std.specs.Prelude.{All, flat_map}
 use Rattle.std.proofs.lemmas.List.{length-map}
 use Rattle.olap_ast.specs.Formula.{Formula.Truth}
 use Rattle.olap_base.specs.Graph.{Graph}
 use Rattle.olap_base.specs.Limits.{most_frozen}
 use Rattle.olap_cex.specs.FrozenText.{frozen_text}
-use Rattle.olap_dimsat.specs.Listed.{AreAllFrozen}
+use Rattle.olap_dimsat.specs.Listed.{AreAllFrozen, AreMoreThan}
 use Rattle.olap_dimsat.specs.Searches.{candidates_in}
 use Rattle.olap_frozen.specs.LeastFound.{frozen_of}
 use Rattle.olap_frozen.specs.Leaves.{IsSized}
@@ -14,6 +14,8 @@ use Rattle.olap_frozen.specs.declared.frozen.Frozen.{Frozen}
 use Rattle.olap_names.specs.Names.{Named, candidates_of}
 use Rattle.olap_schema.specs.Schemas.{schema_of}
 use Rattle.olap_order.specs.Outputs.{line}
+use Rattle.olap_order.proofs.Replying.{refusing}
+use Rattle.olap_reasoning.specs.Questions.{ByFrozen}
 use Rattle.olap_reasoning.proofs.ListingLemmas.{frozen_listed}
 use Rattle.olap_reasoning.proofs.listing.answered.Goals as goal
 
@@ -48,4 +50,15 @@ returns-in-Ok c =
           (map frozen_of (c.items.ensures i))
           ++ line (codes "count " ++ decimal (length (c.items.ensures i))))
           ∙ counted);
+    }
+
+pub returns-in-TooMany : goal.returns-in-TooMany
+returns-in-TooMany c =
+    let s = schema_of c.args.schema.now in
+    let k = candidates_in c.in_ok-search.search in
+    let many = subst (λ q. AreMoreThan most_frozen s Truth q k) c.in_ok-search.ensures.root
+    (c.in-Err.ensures.too_many (ap Err c.in-TooMany.is)) in
+    record {
+      replies = refusing (ByFrozen s c.args.root.0) (codes "frozen TooMany")
+          (λ bytes is. inr (refl, (k, many), is)) c.refuse.result c.refuse.ensures.refused;
     }

@@ -1,11 +1,13 @@
 -- The printed text reads back.
-use Rattle.std.proofs.Common.{◌∙◌, ap}
+use Rattle.std.proofs.Common.{◌∙◌, ◌++◌, ℕ, List, ap}
 use Rattle.olap_records.specs.Records.{records_of}
 use Rattle.olap_view.specs.Seen.{view_of}
+use Rattle.olap_view.specs.ViewText.{view_text}
 use Rattle.olap_view.proofs.PrintingLemmas.{view-reads}
 use Rattle.olap_view.proofs.printing.print_view.Goals as goal
 
 pub returns-clause-reads : goal.returns-clause-reads
 returns-clause-reads c =
-    ap records_of (c.from_vec.ensures ∙ c.in_ok-print.ensures)
+    let text = view_text c.args.instance.now (view_of c.args.view.now) in
+    ap records_of (c.from_vec.ensures ∙ c.in_ok-bytes.ensures ∙ ap (λ (t : List ℕ). t ++ text) c.new.ensures.items)
     ∙ view-reads c.args.instance.now (view_of c.args.view.now)

@@ -12,7 +12,7 @@ rows-preserved c =
     let seen = inv.seen in
     let row = c.advance.new.self.row in
     let left = rw c.if-branch.true at c.in_ok-advance.ensures in
-    let says = c.in-Ok.ensures seen inv.told in
+    let says = c.in-Ok.ensures.judged seen inv.told in
     record {
       seen = seen ++ row ∷ [];
       has_seen = see-more (store_fault g i) c.args.rows.now.left seen c.rows.rows.left c.advance.new.self.left row

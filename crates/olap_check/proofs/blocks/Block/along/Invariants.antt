@@ -10,5 +10,5 @@ abbrev pub invariant-path : goal.invariant-path
 invariant-path l =
     let b = l.self in
     IsSeen b.instance.now l.seen
-    × IsAlong b.instance.now b.categories b.start b.table.now (members b.places) (numbers l.categories)
+    × IsAlong b.instance.now b.categories b.table.now b.part.now (numbers l.categories)
     (members l.truths) l.at.0 (numbers (drop l.c-index l.categories))

@@ -1,33 +1,37 @@
 -- The first of the places that are left over.
-use Rattle.std.proofs.Common.{◌+◌, refl, subst, sym, ◌∙◌}
+use Rattle.std.proofs.Common.{length, refl, subst, sym, arith, ◌∙◌}
+use Rattle.std.specs.FinSet.{difference}
 use Rattle.olap_ast.specs.Trees.{formula_of}
 use Rattle.olap_bits.specs.CatSet.{IsLeast}
 use Rattle.olap_bits.specs.Sets.{members}
-use Rattle.olap_check.specs.Blocks.{IsFirstUnmetFrom}
-use Rattle.olap_check.proofs.BlockLemmas.{first_left, is_none_of, no_member, none_left}
+use Rattle.olap_check.proofs.BlockLemmas.{first_left, has_all, none_left, none_past}
 use Rattle.olap_check.proofs.blocks.Block.first_unmet.Goals as goal
 
-pub returns-then-is_none-clause-none : goal.returns-then-is_none-clause-none
-returns-then-is_none-clause-none c = λ e x l h m.
+pub returns-in_err-first-clause-none : goal.returns-in_err-first-clause-none
+returns-in_err-first-clause-none c = λ e x l h m.
     let b = c.args.self.now in
-    let none = is_none_of c.first.result c.is_none.result c.if-is_none.true c.is_none.ensures in
-    absurd (no_member b.instance.now b.root.0 b.start (members b.places) b.sound.exact (c.first.ensures.none.0 none) x
-    l h m)
-
-pub returns-in-Some-clause-some : goal.returns-in-Some-clause-some
-returns-in-Some-clause-some c =
-    let b = c.args.self.now in
-    let f = formula_of c.args.f.now in
+    let all = members b.all in
     let truths = members c.holding.result in
-    let least = subst (λ s. IsLeast s c.in-Some.k) c.minus-unmet.ensures c.in-Some.ensures.least in
-    subst (λ k. IsFirstUnmetFrom b.instance.now b.root.0 f b.start (b.start + k)) (sym c.from.ensures)
-    (first_left b.instance.now b.root.0 b.start (members b.places) b.sound.exact f truths c.holding.ensures.places
-    c.in-Some.k least)
+    let none = sym c.minus-unmet.ensures ∙ c.in_err-first.ensures.none.0 refl in
+    none_left b.instance.now b.root.0 b.start b.part.now b.sound.is_part (formula_of c.args.f.now) all truths
+    (has_all b.sound) c.holding.ensures.places (none_past (difference all truths) (length b.part.now) none) x l h m
 
-pub returns-in-None-clause-none : goal.returns-in-None-clause-none
-returns-in-None-clause-none c = λ e x l h m.
+pub returns-then-k-self-clause-some : goal.returns-then-k-self-clause-some
+returns-then-k-self-clause-some c =
     let b = c.args.self.now in
-    let f = formula_of c.args.f.now in
-    let none = sym c.minus-unmet.ensures ∙ c.in-None.ensures.none.0 refl in
-    none_left b.instance.now b.root.0 b.start (members b.places) b.sound.exact f (members c.holding.result)
-    c.holding.ensures.places none x l h m
+    let all = members b.all in
+    let truths = members c.holding.result in
+    let unmet = subst (λ s. IsLeast s c.in_ok-first.field-0) c.minus-unmet.ensures c.in_ok-first.ensures.least in
+    let least = subst (λ k. IsLeast (difference all truths) k) (sym c.from-k.ensures) unmet in
+    first_left b.instance.now b.root.0 b.start b.part.now b.sound.is_part (formula_of c.args.f.now) all truths
+    (has_all b.sound) c.holding.ensures.places c.from-k.result c.if-k-self.true least
+
+pub returns-else-k-self-clause-none : goal.returns-else-k-self-clause-none
+returns-else-k-self-clause-none c = λ e x l h m.
+    let b = c.args.self.now in
+    let all = members b.all in
+    let truths = members c.holding.result in
+    let unmet = subst (λ s. IsLeast s c.in_ok-first.field-0) c.minus-unmet.ensures c.in_ok-first.ensures.least in
+    none_left b.instance.now b.root.0 b.start b.part.now b.sound.is_part (formula_of c.args.f.now) all truths
+    (has_all b.sound) c.holding.ensures.places
+    (λ k i. let later = unmet.least k i in omega (arith, later, c.from-k.ensures, c.if-k-self.false)) x l h m

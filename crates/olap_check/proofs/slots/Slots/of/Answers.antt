@@ -1,5 +1,5 @@
 -- The slots of one category more.
-use Rattle.std.proofs.Common.{◌≡◌, ◌+◌, ◌*◌, ◌<◌, ◌≤◌, ◌++◌, ◌∷◌, [], ℕ, List, drop, length, get_or, replicate, ap, subst, sym, ◌∙◌, arith}
+use Rattle.std.proofs.Common.{◌≡◌, ◌*◌, ◌<◌, ◌≤◌, drop, length, get_or, ap, subst, sym, ◌∙◌}
 use Rattle.std.proofs.lemmas.List.{length-replicate, take_at}
 use Rattle.olap_check.proofs.SlotLemmas.{row_within, slots_more, slots_none}
 use Rattle.olap_check.proofs.slots.Slots.of.Goals as goal

@@ -1,7 +1,7 @@
 -- The row is joined at the slots, and nothing stands elsewhere.
 use Rattle.std.proofs.Common.{◌≡◌, ◌+◌, ◌<◌, ℕ, length, get_or, ap, ◌∙◌}
 use Rattle.olap_check.specs.Slots.{count_of, order_of}
-use Rattle.olap_check.proofs.LayingLemmas.{reached_distinct, reached_within, row_joined, start_read}
+use Rattle.olap_check.proofs.LayingLemmas.{row_joined, start_read}
 use Rattle.olap_check.proofs.tables.Table.join.Goals as goal
 
 pub returns-clause-each : goal.returns-clause-each

@@ -1,11 +1,13 @@
-use Rattle.std.proofs.Common.{◌≡◌, ◌++◌, ◌∷◌, [], ◌<◌, None, subst, sym, ap, ◌∙◌, arith}
+use Rattle.std.proofs.Common.{◌≡◌, ◌++◌, ◌∷◌, [], ◌<◌, None, false, true, refl, subst, sym, ap, ◌∙◌, arith}
 use Rattle.olap_base.specs.Graph.{Graph, category_count}
 use Rattle.olap_base.specs.Limits.{most_categories}
 use Rattle.olap_graph.specs.Lookups.{category_named}
 use Rattle.olap_graph.specs.Building.{IsWithinLimits, IsUnfinished, with_kind}
 use Rattle.olap_graph.specs.Listing.{IsHeaded, graph_of}
 use Rattle.olap_graph.specs.Inside.{built}
+use Rattle.olap_graph.specs.declared.refusals.CategoryRefusal.TheVariants.{Memory}
 use Rattle.olap_graph.proofs.GrowthLemmas.{limits-with_category, unfinished-with_category, graph_of-category, headed_push, headed_length, nothing}
+use Rattle.olap_graph.proofs.RefusalLemmas.{at_refusal, category_reason_is, found, has_cause, has_room, no_value}
 use Rattle.olap_graph.proofs.building.GraphBuilder.add_kind.Goals as goal
 
 pub invariant_of-self-2 : goal.invariant_of-self-2
@@ -38,4 +40,72 @@ invariant_of-self-2 c =
       unfinished =
           subst IsUnfinished (sym grown)
           (unfinished-with_category number old name c.self.invariant.unfinished c.requires.name none);
+    }
+
+pub returns-then-is_some : goal.returns-then-is_some
+returns-then-is_some c =
+    let place = c.category.ensures.place ∙ ap (category_named c.args.self.now) c.bytes.ensures in
+    record {
+      ok = tt;
+      number = tt;
+      added = tt;
+      err = category_reason_is c.args.self.now c.args.name true _
+          (found (λ k. k.0) c.category.result place c.if-is_some.ensures) refl;
+      same = refl;
+    }
+
+pub returns-in_err-reserve : goal.returns-in_err-reserve
+returns-in_err-reserve c =
+    let a = c.self.inside in
+    let r = c.from_residual.result in
+    let refused = c.from_residual.ensures in
+    record {
+      ok = no_value r _ refused.0;
+      number = no_value r _ refused.0;
+      added = no_value r _ refused.0;
+      err = has_cause r _ Memory tt refused.1;
+      same = at_refusal r
+          (ap (λ ks. graph_of a.names.items ks a.edges.items) c.reserve.ensures.items ∙ c.self.view_is);
+    }
+
+pub returns-in_err-push : goal.returns-in_err-push
+returns-in_err-push c =
+    let a = c.self.inside in
+    let r = c.from_residual-in_err-push.result in
+    let refused = c.from_residual-in_err-push.ensures in
+    record {
+      ok = no_value r _ refused.0;
+      number = no_value r _ refused.0;
+      added = no_value r _ refused.0;
+      err = has_cause r _ Memory tt refused.1;
+      same = at_refusal r
+          (ap (λ ns. graph_of ns c.reserve.new.self.items a.edges.items) c.in_err-push.ensures.items
+          ∙ ap (λ ks. graph_of a.names.items ks a.edges.items) c.reserve.ensures.items ∙ c.self.view_is);
+    }
+
+pub returns : goal.returns
+returns c =
+    let a = c.self.inside in
+    let names = a.names.items in
+    let ends = a.edges.items in
+    let kinds = a.numbers.items in
+    let name = c.args.name in
+    let number = c.args.number in
+    let place = c.category.ensures.place ∙ ap (category_named c.args.self.now) c.bytes.ensures in
+    let size = c.len.ensures ∙ a.names.ok.0 ∙ headed_length names kinds ends c.self.invariant.headed in
+    let count = size ∙ ap category_count c.self.view_is in
+    let few : c.len.result < most_categories = omega arith in
+    record {
+      ok = category_reason_is c.args.self.now name false false
+          (found (λ k. k.0) c.category.result place c.if-is_some.ensures)
+          (has_room most_categories c.len.result _ few count);
+      number = c.len-2.ensures ∙ sym c.len.ensures ∙ count;
+      added =
+          ap (λ ns. graph_of ns c.push-2.new.self.items ends) c.in_ok-push.ensures.items
+          ∙ ap (λ ks. graph_of (names ++ name ∷ []) ks ends)
+          (c.in_ok-push-2.ensures.items ∙ ap (λ t. t ++ number ∷ []) c.reserve.ensures.items)
+          ∙ graph_of-category number names kinds ends name c.self.invariant.headed
+          ∙ ap (λ (g : Graph). with_kind number g name) c.self.view_is;
+      err = tt;
+      same = tt;
     }

@@ -3,6 +3,7 @@ use Rattle.std.proofs.Common.{◌≡◌, ◌↔◌, ◌+◌, ◌<◌, ◌≤◌,
 use Rattle.std.specs.FinSet.{insert}
 use Rattle.std.specs.Prelude.{vec_capacity}
 use Rattle.std.specs.Result.{is_ok}
+use Rattle.std.proofs.Math.ListN.{length-set}
 use Rattle.std.proofs.lemmas.List.{length-map, length_push, map_push, take_at}
 use Rattle.olap_base.specs.Graph.{Edge}
 use Rattle.olap_bits.specs.Sets.{members}
@@ -13,7 +14,7 @@ use Rattle.olap_trail.specs.Drawn.{AreTables}
 use Rattle.olap_trail.proofs.DecisionLemmas.{pushed}
 use Rattle.olap_graph.proofs.RowLemmas.{row_read}
 use Rattle.olap_trail.proofs.StageLemmas.{AreCopied}
-use Rattle.olap_trail.proofs.TableLemmas.{next_fits, tables_filled, tables_push}
+use Rattle.olap_trail.proofs.TableLemmas.{drawn_more, next_fits, still_below, tables_filled, tables_push}
 use Rattle.olap_trail.proofs.WalkLemmas.{more}
 use Rattle.olap_trail.proofs.drawing.Drawn.push.Goals as goal
 
@@ -94,3 +95,52 @@ invariant_of-self g c =
     (sym c.from-child.ensures)
     (tables_push tables k p room place c.len.result rows c.with.result c.closes_cycle-closes.result through child parent
     full new reserved fits (ap (λ j. a.place + j) size) stage copied above own cyclic)))
+
+pub index-requires : goal.index-requires
+index-requires g c =
+    still_below c.from-child.ensures c.self.inside.parents.ok.0
+    (subst (λ (v : Drawing). c.args.ends.child.0 < v.count) (sym c.self.view_is) c.requires.child)
+
+pub index_mut-requires : goal.index_mut-requires
+index_mut-requires g c =
+    still_below c.from-child.ensures c.self.inside.parents.ok.0
+    (subst (λ (v : Drawing). c.args.ends.child.0 < v.count) (sym c.self.view_is) c.requires.child)
+
+pub with-requires : goal.with-requires
+with-requires g c =
+    let width = c.self.invariant.width in
+    let wide = c.self.invariant.wide in
+    let parent = subst (λ (v : Drawing). c.args.ends.parent.0 < v.count) (sym c.self.view_is) c.requires.parent in
+    (search (rules, width), omega (arith, parent, wide))
+
+pub unwrap-requires : goal.unwrap-requires
+unwrap-requires g c =
+    let a = c.self.inside in
+    let full = subst (λ (v : Drawing). length v.edges + 1 < v.room) (sym c.self.view_is) c.requires.room in
+    let m = length-map a.edges.items edge_of in
+    let r = c.self.invariant.reserved in
+    let o = a.edges.ok in
+    c.push.ensures.succeeds (omega (arith, full, m, r, o))
+
+pub index_mut-requires-2 : goal.index_mut-requires-2
+index_mut-requires-2 g c =
+    let a = c.self.inside in
+    let full = subst (λ (v : Drawing). length v.edges + 1 < v.room) (sym c.self.view_is) c.requires.room in
+    let grown = pushed (is_ok c.push.result) c.push.new.self.items (a.edges.items ++ c.args.ends ∷ []) a.edges.items
+    (ap is_ok c.unwrap.ensures) c.push.ensures.items in
+    let long = ap length grown ∙ length_push a.edges.items c.args.ends in
+    let m = length-map a.edges.items edge_of in
+    still_below (c.len.ensures ∙ c.push.new.self.ok.0 ∙ long ∙ ap (λ n. n + 1) (sym m)) a.cycles.ok.0 full
+
+pub returns : goal.returns
+returns g c =
+    let a = c.self.inside in
+    let ends = c.args.ends in
+    let grown = pushed (is_ok c.push.result) c.push.new.self.items (a.edges.items ++ ends ∷ []) a.edges.items
+    (ap is_ok c.unwrap.ensures) c.push.ensures.items in
+    let edges = ap (map edge_of) grown ∙ map_push edge_of a.edges.items ends in
+    let count = length-set a.parents.items c.from-child.result c.with.result in
+    let room = length-set a.cycles.items c.len.result c.closes_cycle-closes.result in
+    drawn_more _ c.args.self.now _ (count ∙ ap (λ (v : Drawing). v.count) c.self.view_is)
+    (room ∙ ap (λ (v : Drawing). v.room) c.self.view_is)
+    (edges ∙ ap (λ (v : Drawing). v.edges ++ edge_of ends ∷ []) c.self.view_is)

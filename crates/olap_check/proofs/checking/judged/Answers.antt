@@ -1,0 +1,17 @@
+-- The first constraint that isn't met, of a lawful instance.
+use Rattle.std.proofs.Common.{ap, add-one}
+use Rattle.olap_check.specs.Reports.{member, parts_of}
+use Rattle.olap_check.specs.declared.violations.Violation.TheVariants.{Constraint}
+use Rattle.olap_check.proofs.FirstLemmas.{first6}
+use Rattle.olap_check.proofs.checking.judged.Goals as goal
+
+pub returns-in-Some-clause-first : goal.returns-in-Some-clause-first
+returns-in-Some-clause-first c =
+    let s = parts_of c.args.graph.now c.args.constraints.now in
+    let lawful = rw c.in-Ok.is at c.in_ok-table.ensures.lawful in
+    let first = rw c.in-Some.is at c.in_ok-k.ensures.some in
+    record {
+      violation = _;
+      is_first = first6 s c.args.instance.now lawful c.in-Some.k c.in-Some.x first;
+      is_told = ap (λ k. Constraint k (member c.in-Some.x)) (add-one c.in-Some.k);
+    }

@@ -1,0 +1,61 @@
+-- What the parts of a formula require, and how many nodes they have.
+use Rattle.std.proofs.Common.{◌≡◌, ℕ, ◌<◌, List, Result, Ok, Err, ap, subst, arith}
+use Rattle.std.specs.Prelude.{IfOk}
+use Rattle.olap_ast.specs.Formula as Meaning
+use Rattle.olap_ast.specs.Formula.{Formula.Truth, Formula.Falsity, Formula.Path, Formula.Reach, Formula.Via, Formula.Equals, Formula.Compare, Formula.Not, Formula.And, Formula.Or, Formula.Implies, Formula.Iff, Formula.Xor, Formula.One}
+use Rattle.olap_ast.specs.Trees.{formula_of, terms_of}
+use Rattle.olap_ast.specs.Valid.{node_count, node_count_of_terms}
+use Rattle.olap_ast.specs.declared.formulas.Formula.{Formula}
+use Rattle.olap_ast.specs.declared.formulas.Terms.{Terms}
+use Rattle.olap_encoding.specs.Encoding.{Problem, Encoding, IsSound, AreKnown, categories_of}
+use Rattle.olap_encoding.specs.Formulas.{IsSpoken, AreSpoken}
+use Rattle.olap_encoding.proofs.SplittingLemmas.{spoken_as}
+
+-- what follows from both of two facts of a result
+pub both_ok : {A E : Type 0} (r : Result A E) (P Q R : A → Type 0) → ((a : A) → P a → Q a → R a) → IfOk r P
+    → IfOk r Q → IfOk r R
+both_ok (Ok a) P Q R f p q = f a p q
+both_ok (Err e) P Q R f p q = p
+
+-- a formula has a node
+pub has_node : (x : Meaning.Formula) → 0 < node_count x
+has_node Truth = omega arith
+has_node Falsity = omega arith
+has_node (Path cs) = omega arith
+has_node (Reach d) = omega arith
+has_node (Via d k) = omega arith
+has_node (Equals d text) = omega arith
+has_node (Compare d op n) = omega arith
+has_node (Not x) = omega arith
+has_node (And x y) = omega arith
+has_node (Or x y) = omega arith
+has_node (Implies x y) = omega arith
+has_node (Iff x y) = omega arith
+has_node (Xor x y) = omega arith
+has_node (One xs) = omega arith
+
+-- ---- the same parts by two names
+
+pub counted_terms : {x y : Terms} → x ≡ y → node_count_of_terms (terms_of x) ≡ node_count_of_terms (terms_of y)
+counted_terms q = ap (λ (z : Terms). node_count_of_terms (terms_of z)) q
+
+pub terms_spoken_as : (p : Problem) {x y : Terms} → x ≡ y → AreSpoken p (terms_of x) → AreSpoken p (terms_of y)
+terms_spoken_as p q s = subst (λ (z : Terms). AreSpoken p (terms_of z)) q s
+
+module _ (e : Encoding) (c : ℕ) (t : IsSound e) (h : c < categories_of e.problem) where
+  -- what a part requires
+  pub part_spoken : {g x : Formula} → g ≡ x → IsSpoken e.problem (formula_of g)
+      → IsSound e × (c < categories_of e.problem × IsSpoken e.problem (formula_of x))
+  part_spoken q s = (t, (h, spoken_as e.problem q s))
+
+  -- what two parts require
+  pub parts_spoken : {g k x y : Formula} → g ≡ x → k ≡ y
+      → IsSpoken e.problem (formula_of g) × IsSpoken e.problem (formula_of k)
+      → IsSound e × (c < categories_of e.problem × (IsSpoken e.problem (formula_of x)
+      × IsSpoken e.problem (formula_of y)))
+  parts_spoken q r s = (t, (h, (spoken_as e.problem q s.0, spoken_as e.problem r s.1)))
+
+  -- what a part requires beside the literals so far
+  pub part_widened : (ls : List ℕ) → AreKnown e ls → {g x : Formula} → g ≡ x → IsSpoken e.problem (formula_of g)
+      → IsSound e × (c < categories_of e.problem × (IsSpoken e.problem (formula_of x) × AreKnown e ls))
+  part_widened ls k q s = (t, (h, (spoken_as e.problem q s, k)))
