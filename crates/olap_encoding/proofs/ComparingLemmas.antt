@@ -6,9 +6,10 @@ use Rattle.std.specs.Prelude.{IsTrue}
 use Rattle.olap_ast.specs.Formula.{IsNumbered}
 use Rattle.olap_ast.specs.Frozen.{Candidates}
 use Rattle.olap_numerals.specs.Comparing.{Op}
+use Rattle.olap_clauses.specs.declared.literals.Lit.{Lit}
+use Rattle.olap_clauses.specs.Literals.{Holds, negation}
 use Rattle.olap_encoding.specs.Encoding.{Encoding, IsSound, Says, UpToIs, categories_of}
 use Rattle.olap_encoding.specs.Formulas.{AmongIs, IsLeading, NumberIs}
-use Rattle.olap_encoding.specs.Literals.{Is, negated}
 use Rattle.olap_encoding.specs.Meanings.{index_of}
 use Rattle.olap_encoding.proofs.LadderLemmas.{index_in_range}
 use Rattle.olap_encoding.proofs.NumberLemmas.{known_turned, number_leading, number_told, turned_is}
@@ -17,7 +18,7 @@ module _ (e : Encoding) (t : IsSound e) (d : ℕ) (op : Op) (n : ℤ) (u : d < c
   abbrev k : Candidates
   k = e.problem.candidates
 
-  pub number_by_rung : (l m : ℕ) → IsNumbered (k.first d) op n → IsLeading (k.texts d) op n (length (k.texts d)) m
+  pub number_by_rung : (l : Lit) (m : ℕ) → IsNumbered (k.first d) op n → IsLeading (k.texts d) op n (length (k.texts d)) m
       → Says e l (UpToIs d m) → Says e l (NumberIs d op n)
   number_by_rung l m p a s = record {
     known = s.known;
@@ -27,14 +28,14 @@ module _ (e : Encoding) (t : IsSound e) (d : ℕ) (op : Op) (n : ℤ) (u : d < c
         (λ i. r.0 (x.0 i), λ q. x.1 (r.1 q));
   }
 
-  pub number_by_names : (b : Bool) (some l : ℕ) → IsTrue b ↔ IsNumbered (k.first d) op n
-      → Says e some (AmongIs d (length (k.texts d)) op n (not b)) → l ≡ cond b (negated some) some
+  pub number_by_names : (b : Bool) (some l : Lit) → IsTrue b ↔ IsNumbered (k.first d) op n
+      → Says e some (AmongIs d (length (k.texts d)) op n (not b)) → l ≡ cond b (negation some) some
       → Says e l (NumberIs d op n)
   number_by_names b some l first s q = record {
     known = known_turned e some l b q s.known;
     exactly = λ f v h.
         let w = number_told (k.first d) (k.texts d) (index_of f d) (index_in_range e t f v h d u) op n b first
-        (Is v some) (s.exactly f v h) in
-        subst (λ i. Is v i ↔ NumberIs d op n e.problem f v) (sym q)
+        (Holds v some) (s.exactly f v h) in
+        subst (λ i. Holds v i ↔ NumberIs d op n e.problem f v) (sym q)
         (turned_is v some b (NumberIs d op n e.problem f v) w);
   }

@@ -11,7 +11,9 @@ use Rattle.olap_numerals.specs.Comparing.{Op}
 use Rattle.olap_ast.specs.Formula.{IsNumbered}
 use Rattle.olap_ast.specs.Frozen.{text_of_index}
 use Rattle.olap_ast.proofs.Decided.{dec_number}
-use Rattle.olap_encoding.specs.Literals.{Valuation, Is, negated}
+use Rattle.olap_clauses.specs.declared.literals.Lit.{Lit}
+use Rattle.olap_clauses.specs.Literals.{Holds, negation}
+use Rattle.olap_encoding.specs.Literals.{Valuation, never}
 use Rattle.olap_encoding.specs.Meanings.{index_of}
 use Rattle.olap_encoding.specs.Encoding.{Encoding, IsKnown, NameIs, Says}
 use Rattle.olap_encoding.proofs.GivenLemmas.{known_negated}
@@ -82,8 +84,8 @@ number_told first texts i h op n false t P s =
     (λ p. r.0 (s.0 p), λ q. s.1 (r.1 q))
 
 -- a literal that is turned says the same of what is turned
-pub turned_is : (v : Valuation) (l : ℕ) (b : Bool) (Q : Type 0) → Turned b (Is v l) ↔ Q
-    → Is v (cond b (negated l) l) ↔ Q
+pub turned_is : (v : Valuation) (l : Lit) (b : Bool) (Q : Type 0) → Turned b (Holds v l) ↔ Q
+    → Holds v (cond b (negation l) l) ↔ Q
 turned_is v l true Q t = let m = negated_is v l in (λ i. t.0 (m.0 i), λ q. m.1 (t.1 q))
 turned_is v l false Q t = t
 
@@ -160,7 +162,7 @@ wanted_is name op n false false t = (λ z p. let y : false ≡ true = t.1 p in c
 -- ---- what the literals say
 
 module _ (e : Encoding) (d j : ℕ) (op : Op) (n : ℤ) (want : Bool) where
-  pub says_none : Says e 1 (λ p f v. ⊥) → Says e 1 (AmongIs d 0 op n want)
+  pub says_none : Says e never (λ p f v. ⊥) → Says e never (AmongIs d 0 op n want)
   says_none x = record {
     known = x.known;
     exactly = λ f v h. (
@@ -169,7 +171,7 @@ module _ (e : Encoding) (d j : ℕ) (op : Op) (n : ℤ) (want : Bool) where
     );
   }
 
-  pub says_other : (l : ℕ) → Says e l (AmongIs d j op n want)
+  pub says_other : (l : Lit) → Says e l (AmongIs d j op n want)
       → (Wants op n want (get_or (e.problem.candidates.texts d) j []) → ⊥) → Says e l (AmongIs d (j + 1) op n want)
   says_other l x w = record {
     known = x.known;
@@ -179,7 +181,7 @@ module _ (e : Encoding) (d j : ℕ) (op : Op) (n : ℤ) (want : Bool) where
         (λ k. t.0 (y.0 k), λ a. y.1 (t.1 a));
   }
 
-  pub says_more : (l b o : ℕ) → Says e l (AmongIs d j op n want) → Says e b (NameIs d (j + 1)) → Says e o (AnyIs l b)
+  pub says_more : (l b o : Lit) → Says e l (AmongIs d j op n want) → Says e b (NameIs d (j + 1)) → Says e o (AnyIs l b)
       → Wants op n want (get_or (e.problem.candidates.texts d) j []) → Says e o (AmongIs d (j + 1) op n want)
   says_more l b o x y z w = record {
     known = z.known;
@@ -194,6 +196,6 @@ module _ (e : Encoding) (d j : ℕ) (op : Op) (n : ℤ) (want : Bool) where
   }
 
 -- a literal that is turned is known
-pub known_turned : (e : Encoding) (l k : ℕ) (b : Bool) → k ≡ cond b (negated l) l → IsKnown e l → IsKnown e k
+pub known_turned : (e : Encoding) (l k : Lit) (b : Bool) → k ≡ cond b (negation l) l → IsKnown e l → IsKnown e k
 known_turned e l k true q h = known_negated e l k q h
 known_turned e l k false q h = subst (λ i. IsKnown e i) (sym q) h

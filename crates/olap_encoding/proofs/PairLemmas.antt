@@ -3,7 +3,7 @@ use Rattle.std.proofs.Common.{◌≡◌, ℕ, List, [], ◌∷◌, ◌++◌, ref
 use Rattle.std.specs.Prelude.{Contains}
 use Rattle.std.proofs.lemmas.List.Elements.{Contains-push_cases}
 use Rattle.olap_encoding.specs.Encoding.{Encoding, IsPair, IsSound, IsLater, IsNext}
-use Rattle.olap_encoding.proofs.Growing.{grown_same, given_still}
+use Rattle.olap_encoding.proofs.Growing.{grown_same, stands_before}
 
 -- other pairs have yet to be defined
 other_pairs : (e : Encoding) (pairs : List (ℕ × ℕ)) → IsSound e
@@ -15,7 +15,7 @@ other_pairs e pairs t f =
         few = t.few;
         ordered = t.ordered;
         laid = t.laid;
-        given = λ clause g. given_still n (t.given clause g);
+        given = λ f v h. t.given f v (stands_before n h);
         asked = f;
       };
       later = n;

@@ -7,7 +7,7 @@ use Rattle.olap_ast.specs.Trees.{formula_of, terms_of}
 use Rattle.olap_ast.specs.Valid.{node_count, node_count_of_terms}
 use Rattle.olap_ast.specs.declared.formulas.Formula.{Formula}
 use Rattle.olap_ast.specs.declared.formulas.Terms.{Terms}
-use Rattle.olap_encoding.specs.Encoding.{Problem, Encoding, IsSound, AreKnown, categories_of}
+use Rattle.olap_encoding.specs.Encoding.{Problem, Encoding, IsSound, categories_of}
 use Rattle.olap_encoding.specs.Formulas.{IsSpoken, AreSpoken}
 use Rattle.olap_encoding.proofs.SplittingLemmas.{spoken_as}
 
@@ -54,8 +54,3 @@ module _ (e : Encoding) (c : ℕ) (t : IsSound e) (h : c < categories_of e.probl
       → IsSound e × (c < categories_of e.problem × (IsSpoken e.problem (formula_of x)
       × IsSpoken e.problem (formula_of y)))
   parts_spoken q r s = (t, (h, (spoken_as e.problem q s.0, spoken_as e.problem r s.1)))
-
-  -- what a part requires beside the literals so far
-  pub part_widened : (ls : List ℕ) → AreKnown e ls → {g x : Formula} → g ≡ x → IsSpoken e.problem (formula_of g)
-      → IsSound e × (c < categories_of e.problem × (IsSpoken e.problem (formula_of x) × AreKnown e ls))
-  part_widened ls k q s = (t, (h, (spoken_as e.problem q s, k)))

@@ -3,79 +3,75 @@ use Rattle.std.proofs.Common.{◌≡◌, ℕ, ◌<◌, List, [], ◌∷◌, ◌+
 use Rattle.std.specs.Prelude.{Contains, not}
 use Rattle.std.proofs.lemmas.List.Elements.{Contains-append_left, Contains-push}
 use Rattle.olap_base.specs.Instance.{Instance}
-use Rattle.olap_ast.specs.Formula.{Formula, Formula.Not, Formula.And, Formula.Or, Formula.Implies, Holds}
+use Rattle.olap_ast.specs.Formula.{Formula, Formula.Not, Formula.And, Formula.Or, Formula.Implies, Holds as HoldsAt}
 use Rattle.olap_ast.specs.Schema.{Constraint}
 use Rattle.olap_ast.specs.Trees.{formula_of}
 use Rattle.olap_ast.specs.Valid.{node_count}
 use Rattle.olap_ast.specs.declared.formulas.Formula as declared
 use Rattle.olap_ast.specs.Frozen.{name_in}
 use Rattle.olap_ast.proofs.Decided.{decide_holds}
+use Rattle.olap_clauses.specs.declared.literals.Lit.{Lit}
+use Rattle.olap_clauses.specs.Literals.{Holds, negation}
 use Rattle.olap_encoding.specs.Choices.{IsPresent}
-use Rattle.olap_encoding.specs.Literals.{negated, Is}
 use Rattle.olap_encoding.specs.Meanings.{edges_of}
-use Rattle.olap_encoding.specs.Encoding.{Problem, Encoding, categories_of, Says, AreKnown, IsSound, IsLater, IsGiven, PresentIs}
+use Rattle.olap_encoding.specs.Encoding.{Problem, Encoding, categories_of, Says, IsSound, IsLater, IsGiven, PresentIs}
 use Rattle.olap_encoding.specs.Formulas.{instance_in, member_in, TellsAt, IsTrueAt, IsWidened, IsSpoken, signed}
 use Rattle.olap_encoding.proofs.LiteralLemmas.{negated_is, value_cases}
 use Rattle.olap_encoding.proofs.ChosenEdges.{present_member, place_is}
-use Rattle.olap_encoding.proofs.Growing.{stands_before, known_still}
-use Rattle.olap_encoding.proofs.GivenLemmas.{known_pushed}
+use Rattle.olap_encoding.proofs.Growing.{stands_before}
 use Rattle.olap_encoding.proofs.TellingLemmas.{choice}
 
 -- ---- at one member
 
 module _ (i : Instance) (m : ℕ) where
   -- what isn't false is true
-  not_false : (x : Formula) → ((Holds i m x → ⊥) → ⊥) → Holds i m x
+  not_false : (x : Formula) → ((HoldsAt i m x → ⊥) → ⊥) → HoldsAt i m x
   not_false x n = elim (decide_holds i m x) [ yes h ↦ h | no k ↦ absurd (n k) ]
 
-  turned : (b : Bool) (x : Formula) → Holds i m (signed b (Not x)) → Holds i m (signed (not b) x)
+  turned : (b : Bool) (x : Formula) → HoldsAt i m (signed b (Not x)) → HoldsAt i m (signed (not b) x)
   turned true x h = h
   turned false x h = not_false x h
 
-  some_of_or : (x y : Formula) → Holds i m (signed true (Or x y))
-      → Holds i m (signed true x) ⊎ Holds i m (signed true y)
+  some_of_or : (x y : Formula) → HoldsAt i m (signed true (Or x y))
+      → HoldsAt i m (signed true x) ⊎ HoldsAt i m (signed true y)
   some_of_or x y h = h
 
-  some_of_and : (x y : Formula) → Holds i m (signed false (And x y))
-      → Holds i m (signed false x) ⊎ Holds i m (signed false y)
+  some_of_and : (x y : Formula) → HoldsAt i m (signed false (And x y))
+      → HoldsAt i m (signed false x) ⊎ HoldsAt i m (signed false y)
   some_of_and x y h = elim (decide_holds i m x) [ yes a ↦ inr (λ b. h (a, b)) | no n ↦ inl n ]
 
-  some_of_implies : (x y : Formula) → Holds i m (signed true (Implies x y))
-      → Holds i m (signed false x) ⊎ Holds i m (signed true y)
+  some_of_implies : (x y : Formula) → HoldsAt i m (signed true (Implies x y))
+      → HoldsAt i m (signed false x) ⊎ HoldsAt i m (signed true y)
   some_of_implies x y h = elim (decide_holds i m x) [ yes a ↦ inr (h a) | no n ↦ inl n ]
 
-  all_of_or : (x y : Formula) → Holds i m (signed false (Or x y))
-      → Holds i m (signed false x) × Holds i m (signed false y)
+  all_of_or : (x y : Formula) → HoldsAt i m (signed false (Or x y))
+      → HoldsAt i m (signed false x) × HoldsAt i m (signed false y)
   all_of_or x y h = (λ a. h (inl a), λ b. h (inr b))
 
-  all_of_implies : (x y : Formula) → Holds i m (signed false (Implies x y))
-      → Holds i m (signed true x) × Holds i m (signed false y)
+  all_of_implies : (x y : Formula) → HoldsAt i m (signed false (Implies x y))
+      → HoldsAt i m (signed true x) × HoldsAt i m (signed false y)
   all_of_implies x y h = (not_false x (λ n. h (λ a. absurd (n a))), λ b. h (λ a. b))
 
 -- ---- in a later encoding
 
 module _ {a b : Encoding} (n : IsLater a b) where
-  pub all_known_still : (ls : List ℕ) → AreKnown a ls → AreKnown b ls
-  all_known_still ls k l h = known_still n l (k l h)
-
   pub true_still : (c : ℕ) (x : Formula) → IsTrueAt a c x → IsTrueAt b c x
-  true_still c x t = λ f v h p. subst (λ k. Holds (instance_in k f) (member_in k f c) x) (sym n.problem)
+  true_still c x t = λ f v h p. subst (λ k. HoldsAt (instance_in k f) (member_in k f c) x) (sym n.problem)
       (t f v (stands_before n h) (subst (λ k. IsPresent k.root (edges_of k.schema f) c) n.problem p))
 
-  pub widened_still : {c : ℕ} {x : Formula} {before after : List ℕ} → IsWidened a c x before after
+  pub widened_still : {c : ℕ} {x : Formula} {before after : List Lit} → IsWidened a c x before after
       → IsWidened b c x before after
   widened_still {c} {x} w = record {
-    known = λ l k. known_still n l (w.known l k);
     kept = w.kept;
     met = λ f v h p q. w.met f v (stands_before n h)
         (subst (λ k. IsPresent k.root (edges_of k.schema f) c) n.problem p)
-        (subst (λ k. Holds (instance_in k f) (member_in k f c) x) n.problem q);
+        (subst (λ k. HoldsAt (instance_in k f) (member_in k f c) x) n.problem q);
   }
 
 -- ---- the same formula by two names
 
 -- the same of a formula and a sign under other names
-pub widened_as : {e : Encoding} {c : ℕ} {ks ls : List ℕ} (a b : Bool) {x y : declared.Formula} → a ≡ b → x ≡ y
+pub widened_as : {e : Encoding} {c : ℕ} {ks ls : List Lit} (a b : Bool) {x y : declared.Formula} → a ≡ b → x ≡ y
     → IsWidened e c (signed a (formula_of x)) ks ls → IsWidened e c (signed b (formula_of y)) ks ls
 widened_as {e} {c} {ks} {ls} a b {x} {y} q p w = subst (λ z. IsWidened e c (signed z (formula_of y)) ks ls) q
     (subst (λ (z : declared.Formula). IsWidened e c (signed a (formula_of z)) ks ls) p w)
@@ -104,26 +100,23 @@ required e c b q t h s k = (t, (h, (spoken_as e.problem q s, true_as e c b b ref
 -- ---- alternatives
 
 module _ (e : Encoding) (c : ℕ) where
-  pub widened_by : (l : ℕ) (x : Formula) (ls : List ℕ) → AreKnown e ls → TellsAt e c l x
+  pub widened_by : (l : Lit) (x : Formula) (ls : List Lit) → TellsAt e c l x
       → IsWidened e c x ls (ls ++ l ∷ [])
-  widened_by l x ls k t = record {
-    known = known_pushed e ls l k t.known;
+  widened_by l x ls t = record {
     kept = λ m h. Contains-append_left ls (l ∷ []) m h;
     met = λ f v h p q. (l, Contains-push ls l, (t.exactly f v h p).1 q);
   }
 
-  pub widened_turned : (b : Bool) (x : Formula) {before after : List ℕ} → IsWidened e c (signed (not b) x) before after
+  pub widened_turned : (b : Bool) (x : Formula) {before after : List Lit} → IsWidened e c (signed (not b) x) before after
       → IsWidened e c (signed b (Not x)) before after
   widened_turned b x w = record {
-    known = w.known;
     kept = w.kept;
     met = λ f v h p q. w.met f v h p (turned (instance_in e.problem f) (member_in e.problem f c) b x q);
   }
 
-  widened_twice : (x y z : Formula) {before mid after : List ℕ} → IsWidened e c x before mid → IsWidened e c y mid after
-      → ((i : Instance) (m : ℕ) → Holds i m z → Holds i m x ⊎ Holds i m y) → IsWidened e c z before after
+  widened_twice : (x y z : Formula) {before mid after : List Lit} → IsWidened e c x before mid → IsWidened e c y mid after
+      → ((i : Instance) (m : ℕ) → HoldsAt i m z → HoldsAt i m x ⊎ HoldsAt i m y) → IsWidened e c z before after
   widened_twice x y z u w some = record {
-    known = w.known;
     kept = λ l h. w.kept l (u.kept l h);
     met = λ f v h p q. elim (some (instance_in e.problem f) (member_in e.problem f c) q) [
       | inl a ↦ let s = u.met f v h p a in (s.0, w.kept s.0 s.1, s.2)
@@ -131,7 +124,7 @@ module _ (e : Encoding) (c : ℕ) where
     ];
   }
 
-  module _ (x y : Formula) {before mid after : List ℕ} where
+  module _ (x y : Formula) {before mid after : List Lit} where
     pub widened_or : IsWidened e c x before mid → IsWidened e c y mid after → IsWidened e c (Or x y) before after
     widened_or u w = widened_twice x y (Or x y) u w (λ i m. some_of_or i m x y)
 
@@ -165,13 +158,12 @@ module _ (e : Encoding) (c : ℕ) where
     )
 
   -- the clause that is widened from the guard
-  pub given_widened : (n p : ℕ) (x : Formula) {before after : List ℕ} → n ≡ negated p → Says e p (PresentIs c)
+  pub given_widened : (n p : Lit) (x : Formula) {before after : List Lit} → n ≡ negation p → Says e p (PresentIs c)
       → Contains before n → IsTrueAt e c x → IsWidened e c x before after → IsGiven e after
   given_widened n p x {before} {after} q a h t w = record {
-    known = w.known;
     met = λ f v s. elim (value_cases v p) [
       | yes y ↦ let k = (a.exactly f v s).0 y in w.met f v s k (t f v s k)
-      | no m ↦ (n, w.kept n h, subst (λ l. Is v l) (sym q) ((negated_is v p).1 m))
+      | no m ↦ (n, w.kept n h, subst (λ l. Holds v l) (sym q) ((negated_is v p).1 m))
     ];
   }
 
@@ -195,4 +187,4 @@ question_true e t = λ f v h u.
     sym (place_is e.problem.schema.graph e.problem.root es (choice e t e.problem.root f v h)
     (name_in e.problem.candidates f) s.root s.root_is.0)
     ∙ ap (member_in e.problem f) s.root_is.1 in
-    subst (λ y. Holds i y e.problem.question) q s.true_at_root
+    subst (λ y. HoldsAt i y e.problem.question) q s.true_at_root

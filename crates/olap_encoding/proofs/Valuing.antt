@@ -1,5 +1,5 @@
 -- The valuation of a frozen dimension gives each variable the value of its meaning.
-use Rattle.std.proofs.Common.{◌≡◌, ℕ, zero, suc, ◌<◌, ◌≤◌, ◌/◌, ◌%◌, List, length, Bool, true, false, cond, refl, ap, sym, subst, ◌∙◌, ◌↔◌, ◌⊎◌, inl, inr, arith}
+use Rattle.std.proofs.Common.{◌≡◌, ℕ, zero, suc, ◌<◌, ◌≤◌, List, length, Bool, true, false, cond, refl, ap, sym, subst, ◌∙◌, ◌↔◌, ◌⊎◌, inl, inr, arith}
 use Rattle.std.specs.Prelude.{◌==◌, IsTrue, nat_le, not}
 use Rattle.std.proofs.lemmas.Bool.Decides.{nat_tests}
 use Rattle.olap_base.specs.Steps.{Steps-from_reaches, reaches_from_Steps}
@@ -11,6 +11,7 @@ use Rattle.olap_encoding.specs.Literals.{Valuation, value}
 use Rattle.olap_encoding.specs.Meanings.{edges_of, index_of, Means, IsEither, meaning_at, Fits, IsBelow, AreOrdered, chosen_graph, truth_of, valuation}
 use Rattle.olap_encoding.specs.declared.meanings.Meaning.{Meaning}
 use Rattle.olap_encoding.specs.declared.meanings.Meaning.TheVariants.{Always, On, Named, UpTo, Present, Reaching, Both, Differ}
+use Rattle.olap_encoding.proofs.LiteralLemmas.{value_is}
 use Rattle.olap_ast.proofs.Shape.{same_is, is_same}
 
 -- ---- whether a meaning holds
@@ -45,18 +46,21 @@ truth_is s r f v (Reaching c d) =
       λ h. (first_true a b h, Steps-from_reaches (t.0 (second_true a b h))),
       λ h. both_true a b h.0 (t.1 (reaches_from_Steps h.1)),
     )
-truth_is s r f v (Both a b) = (
-  λ h. (first_true (value v a) (value v b) h, second_true (value v a) (value v b) h),
-  λ h. both_true (value v a) (value v b) h.0 h.1,
-)
-truth_is s r f v (Differ a b) = differ_is (value v a) (value v b)
+truth_is s r f v (Both a b) =
+    let p = value_is v a in
+    let q = value_is v b in (
+      λ h. (p.0 (first_true (value v a) (value v b) h), q.0 (second_true (value v a) (value v b) h)),
+      λ h. both_true (value v a) (value v b) (p.1 h.0) (q.1 h.1),
+    )
+truth_is s r f v (Differ a b) =
+    let p = value_is v a in
+    let q = value_is v b in
+    let d = differ_is (value v a) (value v b) in (
+      λ h i. d.0 h (λ x. q.1 (i.0 (p.0 x)), λ y. p.1 (i.1 (q.0 y))),
+      λ n. d.1 (λ i. n (λ x. q.0 (i.0 (p.1 x)), λ y. p.0 (i.1 (q.1 y)))),
+    )
 
 -- ---- valuations that agree below n
-
--- a literal has one value where its variable has one
-value_alike : (v w : Valuation) (l : ℕ) → v (l / 2) ≡ w (l / 2) → value v l ≡ value w l
-unfolding value
-value_alike v w l e = ap (λ b. cond (l % 2 == 0) b (not b)) e
 
 -- a meaning holds alike where the variables that it speaks of have the same values
 means_alike : (s : Schema) (r : ℕ) (f : Frozen) (v w : Valuation) (n : ℕ) (m : Meaning) → IsBelow n m
@@ -68,12 +72,12 @@ means_alike s r f v w n (UpTo c k) b e h = h
 means_alike s r f v w n (Present c) b e h = h
 means_alike s r f v w n (Reaching c d) b e h = h
 means_alike s r f v w n (Both x y) b e h = (
-  sym (value_alike v w x (e (x / 2) b.0)) ∙ h.0,
-  sym (value_alike v w y (e (y / 2) b.1)) ∙ h.1,
+  sym (e x.variable b.0) ∙ h.0,
+  sym (e y.variable b.1) ∙ h.1,
 )
 means_alike s r f v w n (Differ x y) b e h =
-    let p = value_alike v w x (e (x / 2) b.0) in
-    let q = value_alike v w y (e (y / 2) b.1) in
+    let p = e x.variable b.0 in
+    let q = e y.variable b.1 in
     λ i. h (λ a. q ∙ i.0 (sym p ∙ a), λ a. p ∙ i.1 (sym q ∙ a))
 
 -- ---- one variable after the other

@@ -3,13 +3,14 @@
 --     Fits         the variables have the values of their meanings
 --     AreOrdered   each meaning speaks of literals of earlier variables
 --     valuation    the one valuation, by recursion
-use Rattle.std.specs.Prelude.{◌≡◌, ℕ, zero, suc, ◌<◌, ◌≤◌, ◌/◌, List, [], Bool, true, false, not, IsTrue, ◌↔◌, ◌==◌, nat_le, ◌&&◌, if◌then◌else◌, length, slice_index, slice_index_or}
+use Rattle.std.specs.Prelude.{◌≡◌, ℕ, zero, suc, ◌<◌, ◌≤◌, List, [], Bool, true, false, not, IsTrue, ◌↔◌, ◌==◌, nat_le, ◌&&◌, if◌then◌else◌, length, slice_index, slice_index_or}
 use Rattle.olap_base.specs.Graph.{Edge, Graph}
 use Rattle.olap_base.specs.Reaching.{category_reaches}
 use Rattle.olap_ast.specs.Schema.{Schema}
 use Rattle.olap_ast.specs.Frozen.{Frozen, chosen, is_present}
+use Rattle.olap_clauses.specs.Literals.{Holds}
 use Rattle.olap_encoding.specs.Choices.{IsPresent, IsReaching}
-use Rattle.olap_encoding.specs.Literals.{Valuation, value, Is}
+use Rattle.olap_encoding.specs.Literals.{Valuation, value}
 use Rattle.olap_encoding.specs.declared.meanings.Meaning.{Meaning}
 use Rattle.olap_encoding.specs.declared.meanings.Meaning.TheVariants.{Always, On, Named, UpTo, Present, Reaching, Both, Differ}
 
@@ -38,8 +39,8 @@ Means s r f v (Named c k) = index_of f c ≡ k
 Means s r f v (UpTo c k) = index_of f c ≤ k
 Means s r f v (Present c) = IsPresent r (edges_of s f) c
 Means s r f v (Reaching c d) = IsReaching r (edges_of s f) c d
-Means s r f v (Both a b) = Is v a × Is v b
-Means s r f v (Differ a b) = IsEither (Is v a) (Is v b)
+Means s r f v (Both a b) = Holds v a × Holds v b
+Means s r f v (Differ a b) = IsEither (Holds v a) (Holds v b)
 
 -- the meaning of a variable
 abbrev pub meaning_at : List Meaning → ℕ → Meaning
@@ -57,8 +58,8 @@ IsBelow n (Named c k) = Unit {0}
 IsBelow n (UpTo c k) = Unit {0}
 IsBelow n (Present c) = Unit {0}
 IsBelow n (Reaching c d) = Unit {0}
-IsBelow n (Both a b) = (a / 2 < n) × (b / 2 < n)
-IsBelow n (Differ a b) = (a / 2 < n) × (b / 2 < n)
+IsBelow n (Both a b) = (a.variable < n) × (b.variable < n)
+IsBelow n (Differ a b) = (a.variable < n) × (b.variable < n)
 
 -- each meaning speaks of earlier variables only
 pub record AreOrdered (ms : List Meaning) : Type 0 where

@@ -2,14 +2,15 @@
 ghost use Rattle.std.specs.Prelude.{Contains, IfOk, true};
 ghost use Rattle.olap_base.specs.Graph.{IsCategory};
 ghost use Rattle.olap_ast.specs.Trees.{formula_of, constraint_of};
-ghost use Rattle.olap_encoding.specs.Encoding.{IsSound, IsNext, AreKnown};
+ghost use Rattle.olap_encoding.specs.Encoding.{IsSound, IsNext};
 ghost use Rattle.olap_encoding.specs.EncoderInside.{encoding_of};
 ghost use Rattle.olap_encoding.specs.Formulas.{IsSpoken, IsTrueAt, IsWidened, signed};
 
-use crate::encoders::{Encoder, negated};
+use crate::encoders::Encoder;
 use crate::formulas::literal;
 use olap_ast::{Constraint, Formula};
 use olap_base::{CatId, Memory};
+use olap_clauses::Lit;
 
 // One literal more: that of the formula, or of its negation.
 fn push_literal(
@@ -17,12 +18,11 @@ fn push_literal(
     c: CatId,
     f: &Formula,
     holds: bool,
-    literals: &mut Vec<u32>,
+    literals: &mut Vec<Lit>,
 ) -> Result<(), Memory>
     requires sound { IsSound (encoding_of e.old) }
     requires category { IsCategory e.old.problem.graph.now c.0 }
     requires speaks { IsSpoken (encoding_of e.old).problem (formula_of f.now) }
-    requires known { AreKnown (encoding_of e.old) literals.old.items }
     ensures next { IfOk result (λ _. IsNext (encoding_of e.old) (encoding_of e.new)) }
     ensures widened { IfOk result (λ _. IsWidened (encoding_of e.new) c.0 (signed holds (formula_of f.now))
         literals.old.items literals.new.items) }
@@ -31,7 +31,7 @@ fn push_literal(
     if holds {
         literals.push(l)?;
     } else {
-        literals.push(negated(l))?;
+        literals.push(l.negated())?;
     }
     Ok(())
 }
@@ -42,12 +42,11 @@ fn alternatives(
     c: CatId,
     f: &Formula,
     holds: bool,
-    literals: &mut Vec<u32>,
+    literals: &mut Vec<Lit>,
 ) -> Result<(), Memory>
     requires sound { IsSound (encoding_of e.old) }
     requires category { IsCategory e.old.problem.graph.now c.0 }
     requires speaks { IsSpoken (encoding_of e.old).problem (formula_of f.now) }
-    requires known { AreKnown (encoding_of e.old) literals.old.items }
     ensures next { IfOk result (λ _. IsNext (encoding_of e.old) (encoding_of e.new)) }
     ensures widened { IfOk result (λ _. IsWidened (encoding_of e.new) c.0 (signed holds (formula_of f.now))
         literals.old.items literals.new.items) }
@@ -79,7 +78,7 @@ fn one_clause(e: &mut Encoder, c: CatId, f: &Formula, holds: bool) -> Result<(),
     ensures next { IfOk result (λ _. IsNext (encoding_of e.old) (encoding_of e.new)) }
 {
     let p = e.present(c);
-    let not_p = negated(p);
+    let not_p = p.negated();
     let mut literals = Vec::new(e.alloc);
     literals.push(not_p)?;
     alternatives(e, c, f, holds, &mut literals)?;

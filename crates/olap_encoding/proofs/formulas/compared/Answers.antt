@@ -8,10 +8,10 @@ use Rattle.olap_encoding.proofs.OutLemmas.{category_still}
 use Rattle.olap_encoding.proofs.TellingLemmas.{tell_compared, tell_unreached}
 use Rattle.olap_encoding.proofs.formulas.compared.Goals as goal
 
-pub returns-then-a-eq-NO-clause-says : goal.returns-then-a-eq-NO-clause-says
-returns-then-a-eq-NO-clause-says c =
+pub returns-then-is-clause-says : goal.returns-then-is-clause-says
+returns-then-is-clause-says c =
     tell_unreached (encoding_of c.reach.new.self) c.in_ok-a.ensures.next.sound c.args.c.0 c.in_ok-a.a c.args.d.0
-    (op_of c.args.op) c.args.n c.if-a-eq-NO.true c.in_ok-a.ensures.says
+    (op_of c.args.op) c.args.n (c.is.ensures c.if-is.true) c.in_ok-a.ensures.says
 
 pub comparing-requires-clause-category : goal.comparing-requires-clause-category
 comparing-requires-clause-category c = category_still c.in_ok-a.ensures.next.later c.args.d.0 c.requires.speaks.0

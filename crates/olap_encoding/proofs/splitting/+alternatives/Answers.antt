@@ -10,7 +10,7 @@ use Rattle.olap_encoding.specs.Formulas.{IsWidened, signed}
 use Rattle.olap_encoding.proofs.Growing.{next_on}
 use Rattle.olap_encoding.proofs.OutLemmas.{category_still}
 use Rattle.olap_encoding.proofs.TellingLemmas.{spoken_still}
-use Rattle.olap_encoding.proofs.PartLemmas.{both_ok, part_widened}
+use Rattle.olap_encoding.proofs.PartLemmas.{both_ok, part_spoken}
 use Rattle.olap_encoding.proofs.SplittingLemmas.{counted, spoken_as, widened_still, widened_as, widened_turned, widened_or, widened_and, widened_implies}
 use Rattle.olap_encoding.proofs.splitting.+alternatives.Goals as goal
 
@@ -21,7 +21,7 @@ alternatives-requires t c =
     let n : node_count (formula_of c.args.f.now) ≡ 1 + node_count (formula_of c.in-Not-default.g.value) =
     counted c.in-Not-default.is-0 in (
       omega (arith, c.decreases, n, counted q),
-      part_widened e c.args.c.0 c.requires.sound c.requires.category c.args.literals.now.items c.requires.known q
+      part_spoken e c.args.c.0 c.requires.sound c.requires.category q
           (spoken_as e.problem c.in-Not-default.is-0 c.requires.speaks),
     )
 
@@ -32,7 +32,7 @@ alternatives-requires-in-Or-true t c =
     let n : node_count (formula_of c.args.f.now) ≡ 1 + node_count (formula_of c.in-Or-true.g.value)
     + node_count (formula_of c.in-Or-true.h.value) = counted c.in-Or-true.is-0 in (
       omega (arith, c.decreases, n, counted q),
-      part_widened e c.args.c.0 c.requires.sound c.requires.category c.args.literals.now.items c.requires.known q
+      part_spoken e c.args.c.0 c.requires.sound c.requires.category q
           (spoken_as e.problem c.in-Or-true.is-0 c.requires.speaks).0,
     )
 
@@ -45,8 +45,7 @@ alternatives-requires-in-Or-true-2 t c =
     + node_count (formula_of c.in-Or-true.h.value) = counted c.in-Or-true.is-0 in
     let s = (spoken_as (encoding_of c.args.e.now).problem c.in-Or-true.is-0 c.requires.speaks).1 in (
       omega (arith, c.decreases, n, counted q),
-      part_widened e c.args.c.0 u.next.sound (category_still u.next.later c.args.c.0 c.requires.category)
-          c.alternatives-in-Or-true.new.literals.items u.widened.known q
+      part_spoken e c.args.c.0 u.next.sound (category_still u.next.later c.args.c.0 c.requires.category) q
           (spoken_still u.next.later (formula_of c.in-Or-true.h.value) s),
     )
 
@@ -57,7 +56,7 @@ alternatives-requires-in-And-false t c =
     let n : node_count (formula_of c.args.f.now) ≡ 1 + node_count (formula_of c.in-And-false.g.value)
     + node_count (formula_of c.in-And-false.h.value) = counted c.in-And-false.is-0 in (
       omega (arith, c.decreases, n, counted q),
-      part_widened e c.args.c.0 c.requires.sound c.requires.category c.args.literals.now.items c.requires.known q
+      part_spoken e c.args.c.0 c.requires.sound c.requires.category q
           (spoken_as e.problem c.in-And-false.is-0 c.requires.speaks).0,
     )
 
@@ -70,8 +69,7 @@ alternatives-requires-in-And-false-2 t c =
     + node_count (formula_of c.in-And-false.h.value) = counted c.in-And-false.is-0 in
     let s = (spoken_as (encoding_of c.args.e.now).problem c.in-And-false.is-0 c.requires.speaks).1 in (
       omega (arith, c.decreases, n, counted q),
-      part_widened e c.args.c.0 u.next.sound (category_still u.next.later c.args.c.0 c.requires.category)
-          c.alternatives-in-And-false.new.literals.items u.widened.known q
+      part_spoken e c.args.c.0 u.next.sound (category_still u.next.later c.args.c.0 c.requires.category) q
           (spoken_still u.next.later (formula_of c.in-And-false.h.value) s),
     )
 
@@ -82,7 +80,7 @@ alternatives-requires-in-Implies-true t c =
     let n : node_count (formula_of c.args.f.now) ≡ 1 + node_count (formula_of c.in-Implies-true.g.value)
     + node_count (formula_of c.in-Implies-true.h.value) = counted c.in-Implies-true.is-0 in (
       omega (arith, c.decreases, n, counted q),
-      part_widened e c.args.c.0 c.requires.sound c.requires.category c.args.literals.now.items c.requires.known q
+      part_spoken e c.args.c.0 c.requires.sound c.requires.category q
           (spoken_as e.problem c.in-Implies-true.is-0 c.requires.speaks).0,
     )
 
@@ -95,8 +93,7 @@ alternatives-requires-in-Implies-true-2 t c =
     + node_count (formula_of c.in-Implies-true.h.value) = counted c.in-Implies-true.is-0 in
     let s = (spoken_as (encoding_of c.args.e.now).problem c.in-Implies-true.is-0 c.requires.speaks).1 in (
       omega (arith, c.decreases, n, counted q),
-      part_widened e c.args.c.0 u.next.sound (category_still u.next.later c.args.c.0 c.requires.category)
-          c.alternatives-in-Implies-true.new.literals.items u.widened.known q
+      part_spoken e c.args.c.0 u.next.sound (category_still u.next.later c.args.c.0 c.requires.category) q
           (spoken_still u.next.later (formula_of c.in-Implies-true.h.value) s),
     )
 

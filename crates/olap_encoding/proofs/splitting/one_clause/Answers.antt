@@ -1,24 +1,14 @@
 -- The clause begins with the negation of the category's presence.
-use Rattle.std.proofs.Common.{[], ◌∷◌, ◌++◌, sym, subst, ◌∙◌, ap}
+use Rattle.std.proofs.Common.{sym, subst}
 use Rattle.std.specs.Prelude.{Contains}
 use Rattle.std.proofs.lemmas.List.Elements.{Contains-push}
 use Rattle.olap_ast.specs.Trees.{formula_of}
 use Rattle.olap_encoding.specs.EncoderInside.{encoding_of}
-use Rattle.olap_encoding.specs.Encoding.{AreKnown, IsGiven}
+use Rattle.olap_encoding.specs.Encoding.{IsGiven}
 use Rattle.olap_encoding.specs.Formulas.{signed}
 use Rattle.olap_encoding.proofs.Growing.{says_still}
-use Rattle.olap_encoding.proofs.GivenLemmas.{known_negated, known_none, known_pushed}
 use Rattle.olap_encoding.proofs.SplittingLemmas.{true_still, given_widened}
 use Rattle.olap_encoding.proofs.splitting.one_clause.Goals as goal
-
-pub alternatives-requires-clause-known : goal.alternatives-requires-clause-known
-alternatives-requires-clause-known c =
-    let e = encoding_of c.args.e.now in
-    let n = c.negated-not_p.result in
-    subst (λ ls. AreKnown e ls)
-    (sym (c.in_ok-push.ensures.items ∙ ap (λ ls. ls ++ n ∷ []) c.new-literals.ensures.items))
-    (known_pushed e [] n (known_none e)
-    (known_negated e c.present-p.result n c.negated-not_p.ensures c.present-p.ensures.known))
 
 pub clause-requires-clause-given : goal.clause-requires-clause-given
 clause-requires-clause-given c =

@@ -5,7 +5,7 @@ use Rattle.olap_ast.specs.Trees.{formula_of}
 use Rattle.olap_encoding.specs.EncoderInside.{encoding_of}
 use Rattle.olap_encoding.specs.Formulas.{IsWidened, signed}
 use Rattle.olap_encoding.proofs.TellingLemmas.{tell_not}
-use Rattle.olap_encoding.proofs.SplittingLemmas.{all_known_still, widened_by}
+use Rattle.olap_encoding.proofs.SplittingLemmas.{widened_by}
 use Rattle.olap_encoding.proofs.splitting.push_literal.Goals as goal
 
 pub returns-in_ok-push-clause-widened : goal.returns-in_ok-push-clause-widened
@@ -16,7 +16,7 @@ returns-in_ok-push-clause-widened c =
     let ls = c.args.literals.now.items in
     subst (λ b. IsWidened e c.args.c.0 (signed b x) ls c.push.new.self.items) (sym c.if-holds.true)
     (subst (λ ms. IsWidened e c.args.c.0 x ls ms) (sym c.in_ok-push.ensures.items)
-    (widened_by e c.args.c.0 c.in_ok-l.l x ls (all_known_still s.next.later ls c.requires.known) s.says))
+    (widened_by e c.args.c.0 c.in_ok-l.l x ls s.says))
 
 pub returns-in_ok-push-2-clause-widened : goal.returns-in_ok-push-2-clause-widened
 returns-in_ok-push-2-clause-widened c =
@@ -26,5 +26,5 @@ returns-in_ok-push-2-clause-widened c =
     let ls = c.args.literals.now.items in
     subst (λ b. IsWidened e c.args.c.0 (signed b x) ls c.push-else-holds.new.self.items) (sym c.if-holds.false)
     (subst (λ ms. IsWidened e c.args.c.0 (Not x) ls ms) (sym c.in_ok-push-2.ensures.items)
-    (widened_by e c.args.c.0 c.negated.result (Not x) ls (all_known_still s.next.later ls c.requires.known)
+    (widened_by e c.args.c.0 c.negated.result (Not x) ls
     (tell_not e s.next.sound c.args.c.0 c.in_ok-l.l c.negated.result x c.negated.ensures s.says)))
