@@ -1,21 +1,16 @@
--- The clauses of a task, read from the encoder's.
-use Rattle.std.proofs.Common.{◌≡◌, ℕ, zero, suc, ◌+◌, ◌<◌, ◌≤◌, ◌/◌, ◌%◌, List, [], ◌∷◌, ◌++◌, length, get_or, Bool, true, false, cond, refl, ap, sym, subst, ◌∙◌, inl, inr, ◌^◌, arith}
-use Rattle.std.specs.Prelude.{◌↔◌, ◌==◌, IsTrue, Contains, not, slice_index, slice_index_or}
-use Rattle.std.proofs.lemmas.List.Elements.{Contains-append_left}
+-- The clauses of a task are the encoder's.
+use Rattle.std.proofs.Common.{◌≡◌, ℕ, zero, suc, ◌≤◌, ◌<◌, List, [], length, Bool, true, false, refl, sym, subst, ◌∙◌, inl, inr, ◌^◌, arith}
+use Rattle.std.specs.Prelude.{◌↔◌, IsTrue, slice_index_or}
 use Rattle.std.proofs.lemmas.Bool.{cases_Bool, false_from_ne_true}
 use Rattle.olap_base.specs.Graph.{IsCategory, IsHierarchy, category_count}
-use Rattle.olap_base.proofs.ListLemmas.{contains_head}
-use Rattle.olap_base.specs.Deciding.{contains_cons}
 use Rattle.olap_ast.specs.Formula.{Formula}
 use Rattle.olap_ast.specs.Schema.{Schema}
 use Rattle.olap_ast.specs.Frozen.{AreCandidates, Candidates, Frozen}
 use Rattle.olap_ast.specs.Valid.{IsFormulaAt, IsValidSchema}
 use Rattle.olap_ast.proofs.ConstantLemmas.{constant_in_constraint, constant_in_question}
-use Rattle.olap_clauses.specs.declared.literals.Lit.{Lit}
 use Rattle.olap_clauses.specs.declared.pools.Pool.{Pool}
-use Rattle.olap_clauses.specs.Literals.{Holds, Satisfies}
 use Rattle.olap_clauses.specs.Pools.{AreTrue}
-use Rattle.olap_encoding.specs.Literals.{Is, value}
+use Rattle.olap_encoding.specs.Layouts.{on_variable, present_variable, name_variable}
 use Rattle.olap_encoding.specs.Meanings.{Fits, Means, index_of, meaning_at}
 use Rattle.olap_encoding.specs.declared.meanings.Meaning.{Meaning}
 use Rattle.olap_encoding.specs.declared.meanings.Meaning.TheVariants.{Named, On, Present}
@@ -26,36 +21,12 @@ use Rattle.olap_encoding.proofs.SpokenLemmas.{spoken}
 use Rattle.olap_names.specs.Names.{Named as TheNames, candidates_of}
 use Rattle.olap_dimsat.specs.Tasks.{IsLaid, Task, schema_of}
 use Rattle.olap_dimsat.specs.Reads.{Reads, index_in}
-use Rattle.olap_dimsat.specs.Pinned.{AreAllMet, IsEncoded}
+use Rattle.olap_dimsat.specs.Pinned.{IsEncoded}
 use Rattle.olap_dimsat.proofs.Truths.{is_same, same_is}
 
 -- the encoder's problem of a task
 abbrev pub problem_in : Task → Problem
 problem_in t = record { schema = schema_of t; question = t.question; root = t.root; candidates = candidates_of t.named }
-
--- ---- literals
-
--- a true literal gives its variable the value of its sign
-pub literal_holds : (v : ℕ → Bool) (l : ℕ) → Is v l → v (l / 2) ≡ (l % 2 == 0)
-unfolding value
-literal_holds v l h = go (l % 2 == 0) (v (l / 2)) h
-  where
-    go : (p b : Bool) → cond p b (not b) ≡ true → b ≡ p
-    go true b h = h
-    go false true h = absurd (let z : false ≡ true = h in cc)
-    go false false h = refl
-
--- a clause with one literal more stays true
-pub satisfies_more : (v : ℕ → Bool) (ls : List Lit) (l : Lit) → Satisfies v ls → Satisfies v (ls ++ l ∷ [])
-satisfies_more v ls l s = (s.0, Contains-append_left ls (l ∷ []) s.0 s.1, s.2)
-
--- a clause whose last literal is true is true
-pub satisfies_last : (v : ℕ → Bool) (ls : List Lit) (l : Lit) → Holds v l → Satisfies v (ls ++ l ∷ [])
-satisfies_last v ls l h = (l, last ls l, h)
-  where
-    last : (xs : List Lit) (x : Lit) → Contains (xs ++ x ∷ []) x
-    last [] x = contains_head x []
-    last (y ∷ xs) x = contains_cons x (xs ++ x ∷ []) y (last xs x)
 
 -- ---- the problem that the encoder is handed
 
@@ -87,12 +58,6 @@ pub same_problem : (s : Schema) (q : Formula) (r : ℕ) (k l : Candidates) → k
     (record { schema = s; question = q; root = r; candidates = l })
 same_problem s q r k l e = λ i. record { schema = s; question = q; root = r; candidates = e i }
 
--- an item doesn't depend on what would stand where there is none
-pub other_default : {A : Type 0} (xs : List A) (k : ℕ) (d e : A) → k < length xs → get_or xs k d ≡ get_or xs k e
-other_default [] k d e h = absurd (omega arith)
-other_default (x ∷ xs) zero d e h = refl
-other_default (x ∷ xs) (suc k) d e h = other_default xs k d e (omega arith)
-
 -- ---- what its valuations read
 
 -- two values are equal if each follows from the other
@@ -114,53 +79,49 @@ at_meaning : (t : Task) (f : Frozen) (ms : List Meaning) (v : ℕ → Bool) (x :
 at_meaning t f ms v x m h e fits = subst (λ n. IsTrue (v x) ↔ Means (schema_of t) t.root f v n) e (fits.at x h)
 
 -- a valuation that fits meanings laid out so reads the frozen dimension
-pub reads : (t : Task) (f : Frozen) (ms : List Meaning) (v : ℕ → Bool)
-    → IsLaidOut (problem_in t) ms t.layout.starts.items
-    → t.layout.edges ≡ length t.graph.edges → Fits (schema_of t) t.root f ms v → Reads t f v
-reads t f ms v laid edges fits = record {
+reads : (t : Task) (f : Frozen) (ms : List Meaning) (v : ℕ → Bool) → IsLaidOut (problem_in t) ms t.layout
+    → Fits (schema_of t) t.root f ms v → Reads t f v
+reads t f ms v laid fits = record {
   on = λ e h.
-      let i = at_meaning t f ms v (1 + e) (On e) (let r = laid.room in omega arith) (laid.on e h) fits in
+      let i = at_meaning t f ms v (on_variable e) (On e) (let r = laid.room in omega arith) (laid.on e h) fits in
       same_truth _ _ i.0 i.1;
   present = λ c h.
-      let n : 1 + t.layout.edges + c ≡ 1 + length t.graph.edges + c = omega arith in
-      let i = at_meaning t f ms v (1 + length t.graph.edges + c) (Present c) (let r = laid.room in omega arith)
-      (laid.present c h) fits in
-      ap v n ∙ same_truth _ _ i.0 i.1;
+      let i = at_meaning t f ms v (present_variable t.layout c) (Present c)
+      (let r = laid.room in let q = laid.edges in omega arith) (laid.present c h) fits in
+      same_truth _ _ i.0 i.1;
   named = λ c j h b.
       let l = laid.named c j h b in
-      let i = at_meaning t f ms v (slice_index t.layout.starts.items c + j) (Named c (suc j)) l.0 l.1 fits in
+      let i = at_meaning t f ms v (name_variable t.layout c j) (Named c (suc j)) l.0 l.1 fits in
       same_truth _ _ (λ y. is_same _ _ (sym (index_same f c) ∙ i.0 y)) (λ y. i.1 (index_same f c ∙ same_is _ _ y));
 }
 
 -- meanings laid out so lay the task out
-pub laid_for : (t : Task) (ms : List Meaning) → IsLaidOut (problem_in t) ms t.layout.starts.items → length ms ≤ 2 ^ 30
-    → t.layout.edges ≡ length t.graph.edges → t.layout.variables ≡ length ms → IsLaid t
-laid_for t ms laid few edges variables = record {
-  edges = edges;
+laid_for : (t : Task) (ms : List Meaning) → IsLaidOut (problem_in t) ms t.layout → length ms ≤ 2 ^ 30
+    → t.layout.variables ≡ length ms → IsLaid t
+laid_for t ms laid few variables = record {
+  edges = laid.edges;
   starts = laid.starts;
   first = (let r = laid.room in omega arith);
   small = omega arith;
   names = λ c j h b. let l = (laid.named c j h b).0 in omega arith;
 }
 
--- the task is encoded in a pool with the encoder's clauses
+-- the task is encoded in the encoder's pool
 pub encoded : (t : Task) (e : Encoding) (pool : Pool) → IsHierarchy t.graph → IsCategory t.graph t.root
     → AreCandidates (schema_of t) t.question (candidates_of t.named) → length t.named.texts ≡ category_count t.graph
-    → IsLaidOut (problem_in t) e.meanings t.layout.starts.items → length e.meanings ≤ 2 ^ 30
-    → t.layout.edges ≡ length t.graph.edges
-    → t.layout.variables ≡ length e.meanings → ((f : Frozen) → AreMetBy (problem_in t) e f)
-    → ((v : ℕ → Bool) → AreAllMet v e.clauses → AreTrue v pool) → IsEncoded t pool
-encoded t e pool hierarchy root k texts laid few edges variables met true_in = record {
+    → IsLaidOut (problem_in t) e.meanings t.layout → length e.meanings ≤ 2 ^ 30
+    → t.layout.variables ≡ length e.meanings → ((f : Frozen) → AreMetBy (problem_in t) e f) → pool ≡ e.pool
+    → IsEncoded t pool
+encoded t e pool hierarchy root k texts laid few variables met same = record {
   task = record {
     hierarchy = hierarchy;
     root = root;
     candidates = k;
     texts = texts;
-    laid = laid_for t e.meanings laid few edges variables;
+    laid = laid_for t e.meanings laid few variables;
   };
-  each = λ f one. let m = met f one in (
-    valuation_in (problem_in t) e f,
-    reads t f e.meanings (valuation_in (problem_in t) e f) laid edges m.0,
-    true_in (valuation_in (problem_in t) e f) (λ clause c. m.1 clause c),
-  );
+  each = λ f one.
+      let v = valuation_in (problem_in t) e f in
+      let m = met f one in
+      (v, reads t f e.meanings v laid m.0, subst (λ p. AreTrue v p) (sym same) m.1);
 }

@@ -38,7 +38,8 @@ use Rattle.olap_graph.specs.Lookups.{edge_between, joins}
 use Rattle.olap_graph.proofs.PlaceLemmas.{found, joins-Decides}
 use Rattle.olap_trail.specs.Decisions.{Decided, present_graph}
 use Rattle.olap_names.specs.Names.{candidates_of}
-use Rattle.olap_dimsat.specs.Tasks.{IsOne, IsTask, Task, name_variable, on_variable, present_variable, schema_of}
+use Rattle.olap_encoding.specs.Layouts.{on_variable, present_variable, name_variable}
+use Rattle.olap_dimsat.specs.Tasks.{IsOne, IsTask, Task, schema_of}
 use Rattle.olap_dimsat.specs.Reads.{NoneAgrees, Reads, index_in}
 use Rattle.olap_dimsat.specs.Tracking.{IsTracked}
 use Rattle.olap_dimsat.specs.Knowing.{HasMember, HoldsAt, IsBroken, IsFalseAt, both, knowledge, naming, presence, told, told_of_edge, told_of_name, truth_of, way}

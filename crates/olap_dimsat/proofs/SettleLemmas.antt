@@ -13,7 +13,8 @@ use Rattle.olap_clauses.specs.declared.trails.Trail.{Trail}
 use Rattle.olap_clauses.specs.Engines.{admits}
 use Rattle.olap_clauses.specs.Standing.{Agrees}
 use Rattle.olap_clauses.specs.Trails.{steps_of}
-use Rattle.olap_dimsat.specs.Tasks.{IsTask, Task, IsOne, constant_count, name_variable}
+use Rattle.olap_encoding.specs.Layouts.{name_variable}
+use Rattle.olap_dimsat.specs.Tasks.{IsTask, Task, IsOne, constant_count}
 use Rattle.olap_dimsat.specs.Reads.{Reads, IsShaped, index_in}
 use Rattle.olap_dimsat.specs.Pinned.{AreShaped, IsLeast, IsLonger, IsPinned, IsPlace, IsProbed, IsReady, IsReplaced, IsSame, IsSettled, NoneAt, NoneLess, SayAt, SaysAt}
 use Rattle.olap_dimsat.proofs.Truths.{holds_at, same_is, is_same, none_is_zero}

@@ -8,7 +8,7 @@ use Rattle.olap_names.specs.Names.{Named}
 use Rattle.olap_frozen.specs.declared.frozen.Frozen.{Frozen}
 use Rattle.olap_dimsat.specs.declared.asker.Asker.{Asker}
 use Rattle.olap_dimsat.specs.declared.asker.Leaf.{Leaf}
-use Rattle.olap_dimsat.specs.declared.layout.Layout.{Layout}
+use Rattle.olap_encoding.specs.declared.layout.Layout.{Layout}
 use Rattle.olap_dimsat.specs.Tasks.{Task, IsTask}
 use Rattle.olap_dimsat.specs.Tracking.{IsOf}
 

@@ -25,7 +25,8 @@ use Rattle.olap_frozen.specs.Chosen as choices
 use Rattle.olap_graph.specs.Lookups.{edge_between}
 use Rattle.olap_trail.specs.Decisions.{Decided, present_graph}
 use Rattle.olap_names.specs.Names.{candidates_of}
-use Rattle.olap_dimsat.specs.Tasks.{Task, schema_of, on_variable, present_variable, name_variable}
+use Rattle.olap_encoding.specs.Layouts.{on_variable, present_variable, name_variable}
+use Rattle.olap_dimsat.specs.Tasks.{Task, schema_of}
 use Rattle.olap_dimsat.specs.Reads.{OfAgreeing}
 
 -- ---- what is known

@@ -8,7 +8,7 @@
 --     IsSettled, NoneAt       what a trail leaves at a place
 --     IsPlace, InRange        places of codes, and the numbers that may stand there
 --     IsProbed, IsReplaced    another one, with a smaller number at a place
-use Rattle.std.specs.Prelude.{◌≡◌, ◌↔◌, ◌+◌, ◌-◌, ℕ, ◌<◌, ◌≤◌, List, ◌++◌, Bool, All, Contains, length, slice_index}
+use Rattle.std.specs.Prelude.{◌≡◌, ◌↔◌, ◌+◌, ◌-◌, ℕ, ◌<◌, ◌≤◌, List, ◌++◌, Bool, All, length, slice_index}
 use Rattle.olap_ast.specs.Frozen.{Frozen, IsLeastFrozen, code}
 use Rattle.olap_names.specs.Names.{candidates_of}
 use Rattle.olap_clauses.specs.declared.literals.Lit.{Lit}
@@ -18,15 +18,10 @@ use Rattle.olap_clauses.specs.declared.engine.Engine.{Engine}
 use Rattle.olap_clauses.specs.Literals.{Holds}
 use Rattle.olap_clauses.specs.Standing.{Agrees}
 use Rattle.olap_clauses.specs.Engines.{admits}
-use Rattle.olap_encoding.specs.Literals.{IsMet}
 use Rattle.olap_dimsat.specs.Tasks.{Task, IsOne, IsTask, constant_count, schema_of}
 use Rattle.olap_clauses.specs.declared.pools.Pool.{Pool}
 use Rattle.olap_clauses.specs.Pools.{AreTrue}
 use Rattle.olap_dimsat.specs.Reads.{OfAgreeing, Reads, IsShaped}
-
--- the valuation meets each of these clauses of the encoder
-abbrev pub AreAllMet : (ℕ → Bool) → List (List ℕ) → Type 0
-AreAllMet v clauses = (clause : List ℕ) → Contains clauses clause → IsMet v clause
 
 -- the task is laid out, and each frozen dimension of it has a valuation that makes the clauses true
 pub record IsEncoded (t : Task) (pool : Pool) : Type 0 where

@@ -16,7 +16,8 @@ use Rattle.olap_clauses.specs.declared.trails.Trail.{Trail}
 use Rattle.olap_clauses.specs.Standing.{Agrees}
 use Rattle.olap_clauses.specs.Trails.{steps_of}
 use Rattle.olap_frozen.specs.Leaves.{IsSized, chosen_of}
-use Rattle.olap_dimsat.specs.Tasks.{Task, IsOne, constant_count, on_variable, present_variable, name_variable}
+use Rattle.olap_encoding.specs.Layouts.{on_variable, present_variable, name_variable}
+use Rattle.olap_dimsat.specs.Tasks.{Task, IsOne, constant_count}
 
 -- the index of a category's name; `All` has none
 abbrev pub index_in : Frozen → ℕ → ℕ

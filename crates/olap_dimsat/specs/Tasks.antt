@@ -2,13 +2,14 @@
 --     Task      a question at a root of a schema, the candidates for names, and where the variables are
 --     IsOne     a frozen dimension of the task
 --     IsLaid    each edge, category and name has a variable
-use Rattle.std.specs.Prelude.{◌≡◌, ℕ, ◌+◌, ◌^◌, ◌<◌, ◌≤◌, List, [], length, slice_index, slice_index_or}
+use Rattle.std.specs.Prelude.{◌≡◌, ℕ, ◌+◌, ◌^◌, ◌<◌, ◌≤◌, List, [], length, slice_index_or}
 use Rattle.olap_base.specs.Graph.{Graph, IsCategory, IsHierarchy, category_count}
 use Rattle.olap_ast.specs.Formula.{Formula}
 use Rattle.olap_ast.specs.Schema.{Constraint, Schema}
 use Rattle.olap_ast.specs.Frozen.{AreCandidates, Frozen, IsFrozen}
 use Rattle.olap_names.specs.Names.{Named, candidates_of, with_graph}
-use Rattle.olap_dimsat.specs.declared.layout.Layout.{Layout}
+use Rattle.olap_encoding.specs.Layouts.{name_variable}
+use Rattle.olap_encoding.specs.declared.layout.Layout.{Layout}
 
 pub record Task : Type 0 where
   pub graph : Graph
@@ -21,18 +22,6 @@ pub record Task : Type 0 where
 -- how many names a category has beside the first: constants, or numerals
 abbrev pub constant_count : Task → ℕ → ℕ
 constant_count t c = length (slice_index_or t.named.texts c [])
-
--- the variable of an edge
-abbrev pub on_variable : ℕ → ℕ
-on_variable e = 1 + e
-
--- the variable of a category's presence
-abbrev pub present_variable : Layout → ℕ → ℕ
-present_variable l c = 1 + l.edges + c
-
--- the variable that a category's name is the one at the place j beside the first
-abbrev pub name_variable : Layout → ℕ → ℕ → ℕ
-name_variable l c j = slice_index l.starts.items c + j
 
 -- the schema of a task
 abbrev pub schema_of : Task → Schema

@@ -5,9 +5,9 @@ ghost use Rattle.olap_base.specs.Graph.{IsCategory, category_count};
 ghost use Rattle.olap_dimsat.specs.Asking.{task_at, task_of};
 ghost use Rattle.olap_schema.specs.Schemas.{schema_of};
 
-use crate::layout::Layout;
 use olap_ast::{Constraint, Formula};
 use olap_base::{CatId, List, Memory};
+use olap_encoding::Layout;
 use olap_frozen::{Frozen, Room};
 use olap_graph::{Graph, WORDS};
 use olap_names::Candidates;

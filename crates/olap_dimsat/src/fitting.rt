@@ -5,7 +5,8 @@ ghost use Rattle.olap_clauses.specs.Literals.{Holds};
 ghost use Rattle.olap_clauses.specs.Standing.{Agrees};
 ghost use Rattle.olap_clauses.specs.Trails.{steps_of};
 ghost use Rattle.olap_frozen.specs.Leaves.{chosen_of};
-ghost use Rattle.olap_dimsat.specs.Tasks.{AreNamesBefore, IsTask, constant_count, name_variable, on_variable};
+ghost use Rattle.olap_encoding.specs.Layouts.{on_variable, name_variable};
+ghost use Rattle.olap_dimsat.specs.Tasks.{AreNamesBefore, IsTask, constant_count};
 ghost use Rattle.olap_dimsat.specs.Reads.{AllSuit, Reads, Suits};
 ghost use Rattle.olap_dimsat.specs.Asking.{IsFor, task_of};
 

@@ -11,10 +11,10 @@ ghost use Rattle.olap_dimsat.specs.Posed.{IsPosed};
 ghost use Rattle.olap_names.specs.Names.{with_graph};
 
 use crate::encoding::encode;
-use crate::layout::Layout;
 use olap_ast::{Constraint, Formula};
 use olap_base::{CatId, Memory};
 use olap_clauses::{Engine, Pool};
+use olap_encoding::Layout;
 use olap_graph::Graph;
 use olap_names::Candidates;
 use std::alloc::Global;

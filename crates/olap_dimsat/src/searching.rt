@@ -16,13 +16,13 @@ ghost use Rattle.olap_schema.specs.Schemas.{schema_of};
 
 use crate::asker::{Asker, Leaf, blank};
 use crate::existing::exists;
-use crate::layout::Layout;
 use crate::listing::list;
 use crate::posing::pose;
 use crate::settling::least;
 use olap_ast::Formula;
 use olap_base::{CatId, List, Memory};
 use olap_clauses::Engine;
+use olap_encoding::Layout;
 use olap_frozen::Frozen;
 use olap_names::Candidates;
 use olap_schema::Schema;

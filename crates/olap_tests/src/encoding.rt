@@ -76,7 +76,7 @@ fn clauses_at(alloc: Global, schema: &Schema, root: CatId) -> Result<usize, Memo
         constants: candidates.texts(),
     };
     let encoder = encode(alloc, &problem)?;
-    Ok(encoder.clauses().len())
+    Ok(encoder.into_parts().pool.len())
 }
 
 // The same of a schema's text and a category's name.

@@ -1,4 +1,4 @@
-use Rattle.std.proofs.Common.{ℕ, List, [], map, sym, subst, ◌∙◌}
+use Rattle.std.proofs.Common.{[], map, sym, subst, ◌∙◌}
 use Rattle.std.specs.Prelude.{slice_index_or}
 use Rattle.olap_ast.specs.Frozen.{AreCandidates, Candidates}
 use Rattle.olap_ast.specs.Trees.{constraint_of, formula_of}
@@ -7,7 +7,6 @@ use Rattle.olap_encoding.specs.Encoding.{IsLaid, Problem}
 use Rattle.olap_encoding.specs.EncoderInside.{encoding_of}
 use Rattle.olap_encoding.specs.Meeting.{AreMetBy}
 use Rattle.olap_dimsat.specs.Tasks.{Task}
-use Rattle.olap_dimsat.specs.Pinned.{AreAllMet}
 use Rattle.olap_dimsat.proofs.EncodeLemmas.{encoded, problem_for, problem_in, same_candidates, same_problem}
 use Rattle.olap_dimsat.proofs.encoding.encode.Goals as goal
 
@@ -55,21 +54,15 @@ returns c =
       question = q;
       root = c.args.root.0;
       named = c.args.candidates.now;
-      layout = record {
-        edges = c.edges-edges.result;
-        starts = c.in_ok-starts.starts;
-        variables = c.variables-variables.result;
-      };
+      layout = c.into_parts.result.layout;
     } in
     let p = sym (same_problem s q c.args.root.0 (candidates_of c.args.candidates.now) k
     (same_candidates c.fresh.result.now c.firsts.result.now c.texts.result.now c.args.candidates.now c.fresh.ensures
     c.firsts.ensures c.texts.ensures)) in
     let e = encoding_of c.in_ok-encoder.encoder in
-    let laid = subst (λ (x : Problem). IsLaid x e.meanings e.starts)
-    (c.in_ok-encoder.ensures.problem ∙ p) c.in_ok-encoder.ensures.sound.laid in
-    encoded t e c.in_ok-pool.pool c.requires.valid.hierarchy c.requires.root c.requires.candidates c.requires.texts
-    (subst (λ (xs : List ℕ). IsLaid (problem_in t) e.meanings xs)
-    (sym (c.in_ok-starts.ensures.items ∙ c.starts.ensures)) laid)
-    c.in_ok-encoder.ensures.sound.few c.edges-edges.ensures.count c.variables-variables.ensures
-    (λ f. subst (λ (x : Problem). AreMetBy x e f) p (c.in_ok-encoder.ensures.met f))
-    (λ v m. c.in_ok-pool.ensures v (subst (λ (xs : List (List ℕ)). AreAllMet v xs) (sym c.clauses.ensures) m))
+    let parts = c.into_parts.ensures in
+    encoded t e c.into_parts.result.pool c.requires.valid.hierarchy c.requires.root c.requires.candidates
+    c.requires.texts
+    (subst (λ (x : Problem). IsLaid x e.meanings t.layout) (c.in_ok-encoder.ensures.problem ∙ p) parts.laid)
+    c.in_ok-encoder.ensures.sound.few parts.variables
+    (λ f. subst (λ (x : Problem). AreMetBy x e f) p (c.in_ok-encoder.ensures.met f)) parts.pool

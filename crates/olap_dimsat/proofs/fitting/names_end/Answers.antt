@@ -1,6 +1,7 @@
 use Rattle.std.proofs.Common.{◌<◌, ◌≤◌, inl, inr, sym, subst, arith}
 use Rattle.olap_dimsat.specs.Asking.{task_of}
-use Rattle.olap_dimsat.specs.Tasks.{constant_count, name_variable}
+use Rattle.olap_encoding.specs.Layouts.{name_variable}
+use Rattle.olap_dimsat.specs.Tasks.{constant_count}
 use Rattle.olap_dimsat.proofs.SettleLemmas.{at_or_below}
 use Rattle.olap_dimsat.proofs.fitting.names_end.Goals as goal
 use Rattle.olap_dimsat.proofs.fitting.names_end.Goals.{then-own-end, else-own-end}

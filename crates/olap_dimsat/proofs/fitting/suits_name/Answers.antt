@@ -3,7 +3,8 @@ use Rattle.std.specs.Prelude.{◌==◌, slice_index}
 use Rattle.std.proofs.lemmas.Grind.{get_or_default_zero}
 use Rattle.olap_frozen.specs.Leaves.{chosen_of}
 use Rattle.olap_dimsat.specs.Asking.{task_of}
-use Rattle.olap_dimsat.specs.Tasks.{constant_count, name_variable}
+use Rattle.olap_encoding.specs.Layouts.{name_variable}
+use Rattle.olap_dimsat.specs.Tasks.{constant_count}
 use Rattle.olap_dimsat.specs.Reads.{index_in}
 use Rattle.olap_dimsat.proofs.Truths.{beq_false}
 use Rattle.olap_dimsat.proofs.ReadLemmas.{index_of_choice}
