@@ -7,7 +7,7 @@ use Rattle.olap_encoding.specs.Encoding.{IsLaid, Problem}
 use Rattle.olap_encoding.specs.EncoderInside.{encoding_of}
 use Rattle.olap_encoding.specs.Meeting.{AreMetBy}
 use Rattle.olap_dimsat.specs.Tasks.{Task}
-use Rattle.olap_dimsat.proofs.EncodeLemmas.{encoded, problem_for, problem_in, same_candidates, same_problem}
+use Rattle.olap_dimsat.proofs.EncodeLemmas.{encoded, problem_for, same_candidates, same_problem}
 use Rattle.olap_dimsat.proofs.encoding.encode.Goals as goal
 
 pub encode-requires-clause-problem : goal.encode-requires-clause-problem

@@ -1,4 +1,4 @@
-use Rattle.std.proofs.Common.{Bool, true, sym, subst, ◌∙◌}
+use Rattle.std.proofs.Common.{Bool, true, subst}
 use Rattle.olap_dimsat.specs.Asking.{task_of}
 use Rattle.olap_dimsat.specs.Reads.{EdgeReads}
 use Rattle.olap_dimsat.proofs.TrackingLemmas.{cycle_none, shortcut_none}

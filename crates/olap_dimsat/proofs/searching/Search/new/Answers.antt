@@ -9,7 +9,6 @@ use Rattle.olap_ast.specs.Trees.{constraint_of, formula_of}
 use Rattle.olap_ast.specs.Valid.{IsFormulaAt, IsValidSchema, pair_count}
 use Rattle.olap_schema.specs.Schemas.{schema_of}
 use Rattle.olap_dimsat.specs.Posed.{IsPosed}
-use Rattle.olap_dimsat.specs.Searches.{task_in}
 use Rattle.olap_dimsat.proofs.MadeLemmas.{blank_for, made_first, whole}
 use Rattle.olap_dimsat.proofs.searching.Search.new.Goals as goal
 
