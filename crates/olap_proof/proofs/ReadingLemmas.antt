@@ -3,10 +3,11 @@
 --     line_joined     a line is that
 --     joined_once     in one way only
 --     words_differ    two words have different bytes
+--     all_words       what holds of each word that is tried holds of each word
 --     word_unread     bytes whose first word is none are no line
 --     line_read       bytes are the line of their first word and what stands behind it
-use Rattle.std.proofs.Common.{◌≡◌, ℕ, ◌++◌, List, ◌∷◌, get_or, true, false, cond, Option, Some, None, refl, ap, sym, ◌∙◌, Bor}
-use Rattle.std.specs.Prelude.{Contains, IfSome, IsNone, ◌==◌}
+use Rattle.std.proofs.Common.{◌≡◌, ℕ, ◌<◌, ◌++◌, List, [], ◌∷◌, arith, get_or, length, true, false, cond, Option, Some, None, refl, ap, sym, ◌∙◌, Bor}
+use Rattle.std.specs.Prelude.{Contains, IfSome, IsNone, ◌==◌, ◌≢◌}
 use Rattle.std.specs.Option.{option_map}
 use Rattle.std.specs.List.{list_any}
 use Rattle.olap_base.specs.Graph.{Graph}
@@ -16,7 +17,7 @@ use Rattle.olap_proof.specs.declared.lines.Word.{Word}
 use Rattle.olap_proof.specs.declared.lines.Word.TheVariants as word
 use Rattle.olap_proof.specs.Lines.{Line, Line.Asked, Line.Clash, Line.Cycle, Line.Dead, Line.EdgeOrNot, Line.Loose, Line.NameOf, Line.Shortcut, Line.Unmet, Line.Unreached, Line.WayOrNot, line_text, words}
 use Rattle.olap_proof.specs.declared.lines.Line as program
-use Rattle.olap_proof.specs.Reading.{IsLineOf, IsReading, first_of, rest_of, said, word_text}
+use Rattle.olap_proof.specs.Reading.{IsLineOf, IsReading, first_of, rest_of, said, word_at, word_text}
 use Rattle.olap_proof.proofs.LineLemmas.{parted, unparted}
 
 -- a word with what stands behind it
@@ -93,6 +94,25 @@ word_again word.Question = refl
 -- two words have different bytes
 pub words_differ : (w x : Word) → word_text w ≡ word_text x → w ≡ x
 words_differ w x e = sym (word_again w) ∙ ap word_in e ∙ word_again x
+
+-- the words, as the program lists them
+abbrev all : List Word
+all = word.Edge ∷ word.Name ∷ word.Reach ∷ word.Dead ∷ word.Cycle ∷ word.Shortcut ∷ word.Loose ∷ word.Steps
+    ∷ word.Constraint ∷ word.Question ∷ []
+
+-- what holds of each word of the list holds of each word
+pub all_words : (bytes : List ℕ) → ((k : ℕ) → k < length all → word_text (word_at all k) ≢ bytes) → (w : Word)
+    → word_text w ≢ bytes
+all_words bytes h word.Edge = h 0 (omega arith)
+all_words bytes h word.Name = h 1 (omega arith)
+all_words bytes h word.Reach = h 2 (omega arith)
+all_words bytes h word.Dead = h 3 (omega arith)
+all_words bytes h word.Cycle = h 4 (omega arith)
+all_words bytes h word.Shortcut = h 5 (omega arith)
+all_words bytes h word.Loose = h 6 (omega arith)
+all_words bytes h word.Steps = h 7 (omega arith)
+all_words bytes h word.Constraint = h 8 (omega arith)
+all_words bytes h word.Question = h 9 (omega arith)
 
 -- ---- lines
 

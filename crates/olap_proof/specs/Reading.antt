@@ -3,7 +3,7 @@
 --     first_of     the word that a line begins with
 --     rest_of      what stands behind it
 --     IsLineOf     bytes are this line, or no line at all
-use Rattle.std.specs.Prelude.{◌≡◌, ◌≢◌, ℕ, suc, List, Option, Some, None, codes}
+use Rattle.std.specs.Prelude.{◌≡◌, ◌≢◌, ℕ, suc, List, Option, Some, None, codes, slice_index_or}
 use Rattle.std.specs.Fmt.{decimal}
 use Rattle.olap_base.specs.Graph.{Graph}
 use Rattle.olap_ast.specs.Schema.{Schema}
@@ -40,6 +40,10 @@ word_text word.Loose = codes "loose"
 word_text word.Steps = codes "steps"
 word_text word.Constraint = codes "constraint"
 word_text word.Question = codes "question"
+
+-- the word at a place of the list
+abbrev pub word_at : List Word → ℕ → Word
+word_at words k = slice_index_or words k word.Edge
 
 -- the word that a line begins with
 abbrev pub first_of : Line → Word

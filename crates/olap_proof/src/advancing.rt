@@ -16,7 +16,7 @@ use crate::telling::Known;
 use olap_base::{CatId, Memory};
 
 /// What a line does on a branch.
-#[derive(Clone, Copy, PartialEq, Eq, Debug)]
+#[derive(Clone, Copy)]
 pub(crate) enum Effect {
     /// Nothing.
     Nothing,

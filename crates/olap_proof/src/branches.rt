@@ -19,7 +19,7 @@ use olap_graph::Graph;
 use olap_names::Candidates;
 
 /// One of the cases of a line that splits a place.
-#[derive(Clone, Copy, PartialEq, Eq, Debug)]
+#[derive(Clone, Copy)]
 pub(crate) enum Choice {
     /// The edge is absent, or present.
     Edge(EdgeId, bool),

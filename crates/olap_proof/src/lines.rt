@@ -6,7 +6,7 @@ ghost use Rattle.olap_graph.specs.Lookups.{name_of_category};
 ghost use Rattle.olap_names.specs.Names.{with_graph};
 ghost use Rattle.olap_proof.specs.Lines.{edge_words, way_words};
 ghost use Rattle.olap_ast.specs.Schema.{Schema};
-ghost use Rattle.olap_proof.specs.Reading.{IsLineOf, IsReading, word_text};
+ghost use Rattle.olap_proof.specs.Reading.{IsLineOf, IsReading, word_at, word_text};
 ghost use Rattle.olap_proof.specs.declared.lines.Word.{Word as AnyWord};
 ghost use Rattle.olap_proof.specs.declared.lines.Word.TheVariants as declared;
 
@@ -44,7 +44,7 @@ pub enum Line {
 }
 
 /// The word that a line begins with.
-#[derive(Clone, Copy, PartialEq, Eq, Debug)]
+#[derive(Clone, Copy)]
 pub(crate) enum Word {
     Edge,
     Name,
@@ -56,6 +56,40 @@ pub(crate) enum Word {
     Steps,
     Constraint,
     Question,
+}
+
+/// All of them.
+const WORDS: [Word; 10] = [
+    Word::Edge,
+    Word::Name,
+    Word::Reach,
+    Word::Dead,
+    Word::Cycle,
+    Word::Shortcut,
+    Word::Loose,
+    Word::Steps,
+    Word::Constraint,
+    Word::Question,
+];
+
+impl Word {
+    /// As it is spelled.
+    fn text(self) -> &'static str
+        ensures { result.now ≡ word_text self }
+    {
+        match self {
+            Word::Edge => "edge",
+            Word::Name => "name",
+            Word::Reach => "reach",
+            Word::Dead => "dead",
+            Word::Cycle => "cycle",
+            Word::Shortcut => "shortcut",
+            Word::Loose => "loose",
+            Word::Steps => "steps",
+            Word::Constraint => "constraint",
+            Word::Question => "question",
+        }
+    }
 }
 
 /// What stands before the first such byte, and what stands behind it, if there is one.
@@ -72,24 +106,25 @@ pub(crate) fn cut(bytes: &[u8], mark: u8) -> (&[u8], Option<&[u8]>)
     (bytes, None)
 }
 
+/// The first of the words whose bytes these are.
+fn word_in(words: &[Word], bytes: &[u8]) -> Option<Word>
+    ensures some { IfSome result (λ w. word_text w ≡ bytes.now) }
+    ensures none { IsNone result → (k : ℕ) → k < length words.now → word_text (word_at words.now k) ≢ bytes.now }
+{
+    'words: for i in 0..words.len() {
+        if words[i].text().as_bytes() == bytes {
+            return Some(words[i]);
+        }
+    }
+    None
+}
+
 /// The word that these bytes are.
 fn word_of(bytes: &[u8]) -> Option<Word>
     ensures some { IfSome result (λ w. word_text w ≡ bytes.now) }
     ensures none { IsNone result → (w : AnyWord) → word_text w ≢ bytes.now }
 {
-    match bytes {
-        b"edge" => Some(Word::Edge),
-        b"name" => Some(Word::Name),
-        b"reach" => Some(Word::Reach),
-        b"dead" => Some(Word::Dead),
-        b"cycle" => Some(Word::Cycle),
-        b"shortcut" => Some(Word::Shortcut),
-        b"loose" => Some(Word::Loose),
-        b"steps" => Some(Word::Steps),
-        b"constraint" => Some(Word::Constraint),
-        b"question" => Some(Word::Question),
-        _ => None,
-    }
+    word_in(&WORDS, bytes)
 }
 
 /// The category of that name.

@@ -14,7 +14,7 @@ use std::alloc::Global;
 use std::marker::Model;
 
 /// Whether the child category has a member that reaches one of the parent category.
-#[derive(Clone, Copy, PartialEq, Eq, Debug)]
+#[derive(Clone, Copy)]
 pub(crate) struct Way {
     pub(crate) child: CatId,
     pub(crate) parent: CatId,
