@@ -2,15 +2,16 @@
 --     first_bottoms           those among the first n that are declared
 --     bottoms_more            one more
 --     bottoms_same            or none
+--     next_written, next_same    so with their trees
 --     certified               all of them
-use Rattle.std.proofs.Common.{◌≡◌, ℕ, ◌+◌, List, [], ◌∷◌, ◌++◌, length, map, Bool, true, false, cond, ap, sym, subst, ◌∙◌, arith}
+use Rattle.std.proofs.Common.{◌≡◌, ℕ, ◌+◌, ◌-◌, ◌<◌, ◌≤◌, List, [], ◌∷◌, ◌++◌, length, map, Bool, true, false, cond, ap, sym, subst, ◌∙◌, arith}
 use Rattle.std.specs.Prelude.{◌==◌, filter, not}
 use Rattle.std.specs.List.{list_any, range_with_len}
 use Rattle.std.proofs.lemmas.List.{append-nil, map-append, map-id}
 use Rattle.std.proofs.lemmas.List.Elements.{filter-append}
 use Rattle.std.proofs.lemmas.List.FromFn.{map-range_with_len_more}
 use Rattle.olap_base.proofs.ListLemmas.{Contains-filter, Contains-from_filter, Contains-range_at}
-use Rattle.olap_base.specs.Graph.{Edge, Graph, IsBottom, IsDeclared}
+use Rattle.olap_base.specs.Graph.{Edge, Graph, IsBottom, IsDeclared, category_count}
 use Rattle.olap_ast.specs.Formula.{Formula}
 use Rattle.olap_ast.specs.Frozen.{Candidates}
 use Rattle.olap_ast.specs.Schema.{Schema}
@@ -60,27 +61,37 @@ bottoms_same g n b e d h =
 
 module _ (m : Form) (s : Schema) (q : Formula) (k : Candidates) where
   -- one bottom category's tree more
-  pub bottom_written : (n b : ℕ) (a c d : List ℕ) → 1 + n ≡ b → IsBottom s.graph b
-      → Adds m s q k (map Bottom (first_bottoms s.graph n)) a c → Adds m s q k (Bottom b ∷ []) c d
-      → Adds m s q k (map Bottom (first_bottoms s.graph (n + 1))) a d
-  bottom_written n b a c d e h f i =
-      subst (λ os. Adds m s q k os a d)
-      (sym (ap (map Bottom) (bottoms_more s.graph n b e h) ∙ map-append Bottom (first_bottoms s.graph n) (b ∷ [])))
-      (adds_more m s q k (map Bottom (first_bottoms s.graph n)) (Bottom b ∷ []) a c d f i)
+  pub next_written : (b : ℕ) (a c d : List ℕ) → 1 ≤ b → IsBottom s.graph b
+      → Adds m s q k (map Bottom (first_bottoms s.graph (b - 1))) a c → Adds m s q k (Bottom b ∷ []) c d
+      → Adds m s q k (map Bottom (first_bottoms s.graph (b + 1 - 1))) a d
+  next_written b a c d l h f i =
+      let before : 1 + (b - 1) ≡ b = omega (arith, l) in
+      let next : b - 1 + 1 ≡ b + 1 - 1 = omega (arith, l) in
+      let bottoms = first_bottoms s.graph (b - 1) in
+      let listed = ap (map Bottom) (bottoms_more s.graph (b - 1) b before h) ∙ map-append Bottom bottoms (b ∷ []) in
+      subst (λ n. Adds m s q k (map Bottom (first_bottoms s.graph n)) a d) next
+      (subst (λ os. Adds m s q k os a d) (sym listed)
+      (adds_more m s q k (map Bottom bottoms) (Bottom b ∷ []) a c d f i))
 
   -- or none
-  pub none_written : (n b : ℕ) (a c : List ℕ) → 1 + n ≡ b → IsDeclared s.graph b → (IsBottom s.graph b → ⊥)
-      → Adds m s q k (map Bottom (first_bottoms s.graph n)) a c
-      → Adds m s q k (map Bottom (first_bottoms s.graph (n + 1))) a c
-  none_written n b a c e d h f =
-      subst (λ os. Adds m s q k os a c) (sym (ap (map Bottom) (bottoms_same s.graph n b e d h))) f
+  pub next_same : (b : ℕ) (a c : List ℕ) → 1 ≤ b → b < category_count s.graph → (IsBottom s.graph b → ⊥)
+      → Adds m s q k (map Bottom (first_bottoms s.graph (b - 1))) a c
+      → Adds m s q k (map Bottom (first_bottoms s.graph (b + 1 - 1))) a c
+  next_same b a c l d h f =
+      let before : 1 + (b - 1) ≡ b = omega (arith, l) in
+      let next : b - 1 + 1 ≡ b + 1 - 1 = omega (arith, l) in
+      let declared : IsDeclared s.graph b = ((λ z. absurd (omega (arith, l, z))), d) in
+      subst (λ n. Adds m s q k (map Bottom (first_bottoms s.graph n)) a c) next
+      (subst (λ os. Adds m s q k os a c)
+      (sym (ap (map Bottom) (bottoms_same s.graph (b - 1) b before declared h))) f)
 
   -- all are a certificate, below its first line
-  pub certified : (a c : List ℕ) → a ≡ head_text m ++ 10 ∷ []
-      → Adds m s q k (map Bottom (first_bottoms s.graph (length s.graph.names))) a c → IsCertificateText m s q k c
-  certified a c e f = (
-    head_text m ∷ f.0,
-    f.1 ∙ ap (λ x. x ++ ended f.0) e,
-    more begins (subst (λ ls. Runs m s q k ls (map Bottom (bottoms_of s.graph) ++ []) []) (append-nil f.0)
-        (f.2 [] [] [] none)),
-  )
+  pub certified : (n : ℕ) (a c : List ℕ) → n ≡ length s.graph.names → a ≡ head_text m ++ 10 ∷ []
+      → Adds m s q k (map Bottom (first_bottoms s.graph n)) a c → IsCertificateText m s q k c
+  certified n a c all e g =
+      let f = subst (λ i. Adds m s q k (map Bottom (first_bottoms s.graph i)) a c) all g in (
+        head_text m ∷ f.0,
+        f.1 ∙ ap (λ x. x ++ ended f.0) e,
+        more begins (subst (λ ls. Runs m s q k ls (map Bottom (bottoms_of s.graph) ++ []) []) (append-nil f.0)
+            (f.2 [] [] [] none)),
+      )

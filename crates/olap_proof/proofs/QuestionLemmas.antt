@@ -1,32 +1,41 @@
 -- The question of summarizability, and the names that it and a schema speak of.
---     question_named    they can be named
---     certified_for     a certificate is one for all candidates
---     wrong_for         and so is the first wrong line
---     certified_summarizable    so the target is summarizable
+--     schema_whole       a schema of its parts
+--     question_named     they can be named
+--     accepted, shown    a certificate is one for all candidates, so the target is summarizable
+--     rejected           and so is the first wrong line
+--     written            and so is a text that is written
+--     none_frozen        where the target is summarizable there is no frozen dimension
 use Rattle.std.proofs.Common.{◌≡◌, ℕ, List, subst, sym}
-use Rattle.std.specs.Prelude.{All}
-use Rattle.olap_base.specs.Graph.{Graph, IsCategory, IsHierarchy}
+use Rattle.std.specs.Prelude.{All, Err, IfOk, Ok, OnOk, Result}
+use Rattle.olap_base.specs.Graph.{Graph, IsBottom, IsCategory, IsHierarchy}
 use Rattle.olap_ast.specs.Formula.{Formula}
-use Rattle.olap_ast.specs.Frozen.{AreCandidates, Candidates}
+use Rattle.olap_ast.specs.Frozen.{AreCandidates, Candidates, Frozen, IsFrozen}
 use Rattle.olap_ast.specs.Schema.{Constraint, Schema}
 use Rattle.olap_ast.specs.Summarizable.{IsSummarizable, not_by_one}
 use Rattle.olap_ast.specs.Valid.{IsFormulaAt, IsValidSchema}
 use Rattle.olap_ast.proofs.SourceLemmas.{question_at, question_few}
+use Rattle.olap_ast.proofs.Summing.{summarizable_exactly}
 use Rattle.olap_names.specs.Names.{CanBeNamed, with_graph}
 use Rattle.olap_names.proofs.NameableLemmas.{can_be_named}
 use Rattle.olap_proof.specs.declared.forms.Form.{Form}
 use Rattle.olap_proof.specs.Certificates.{IsCertificateText, IsFirstWrong}
-use Rattle.olap_proof.specs.Verifying.{IsCertificateFor, IsFirstWrongFor, IsWrongAt}
+use Rattle.olap_proof.specs.Trees.{HasNoFrozen}
+use Rattle.olap_proof.specs.Verifying.{IsCertificateFor, IsFirstWrongFor, IsNamedCertificate, IsNamedWrong, IsWrongAt}
 use Rattle.olap_proof.proofs.AlikeLemmas.{alike, text_alike, wrong_alike}
 use Rattle.olap_proof.proofs.CertificateLemmas.{certificates_are_right}
 
 -- ---- names
 
+-- the schema of its parts
+pub schema_whole : (s : Schema) {g : Graph} {cs : List Constraint} → g ≡ s.graph → cs ≡ s.constraints
+    → with_graph g cs ≡ s
+schema_whole s p q = λ i. record { graph = p i; constraints = q i }
+
 -- the constraints and the question can be named
-pub question_named : (s : Schema) (g : Graph) (cs : List Constraint) (q : Formula) (c : ℕ) (sources : List ℕ)
+pub question_named : {s : Schema} {g : Graph} {cs : List Constraint} {q : Formula} (c : ℕ) (sources : List ℕ)
     → with_graph g cs ≡ s → q ≡ not_by_one c sources → IsValidSchema s → IsCategory s.graph c
     → All (IsCategory s.graph) sources → CanBeNamed g cs q
-question_named s g cs q c sources same e v t h =
+question_named {s} {g} {cs} {q} c sources same e v t h =
     let w = subst (λ (x : Schema). IsValidSchema x) (sym same) v in
     can_be_named g cs 0 q w.formulas (subst (λ (x : Formula). IsFormulaAt g 0 x) (sym e)
     (question_at g 0 c sources (subst (λ (x : Schema). IsCategory x.graph c) (sym same) t)
@@ -41,13 +50,13 @@ module _ (f : Form) (s : Schema) (q : Formula) (k : Candidates) (c : ℕ) (sourc
   same_question = subst (λ (x : Formula). AreCandidates s x k) e are
 
   -- a certificate is one for all candidates
-  pub certified_for : IsCertificateText f s q k text → IsCertificateFor f s c sources text
+  certified_for : IsCertificateText f s q k text → IsCertificateFor f s c sources text
   certified_for t h b =
       text_alike f s (not_by_one c sources) k h text (alike s (not_by_one c sources) k h same_question b)
       (subst (λ (x : Formula). IsCertificateText f s x k text) e t)
 
   -- and so is the first wrong line
-  pub wrong_for : (line : ℕ) → IsWrongAt f s q k text line → IsFirstWrongFor f s c sources text line
+  wrong_for : (line : ℕ) → IsWrongAt f s q k text line → IsFirstWrongFor f s c sources text line
   wrong_for line w h b = (
     w.0,
     w.1,
@@ -56,7 +65,59 @@ module _ (f : Form) (s : Schema) (q : Formula) (k : Candidates) (c : ℕ) (sourc
   )
 
   -- so the target is summarizable
-  pub certified_summarizable : IsHierarchy s.graph → IsCertificateText f s q k text → IsSummarizable s c sources
+  certified_summarizable : IsHierarchy s.graph → IsCertificateText f s q k text → IsSummarizable s c sources
   certified_summarizable hier t =
       let u = subst (λ (x : Formula). IsCertificateText f s x k text) e t in
       certificates_are_right f s c sources k u.0 hier same_question u.2
+
+-- ---- the schema of the parts
+
+module _ (f : Form) (c : ℕ) (sources text : List ℕ) {part s : Schema} {q : Formula} (same : part ≡ s)
+    (e : q ≡ not_by_one c sources) where
+  -- a certificate of some candidates is one for all
+  pub accepted : {A E : Type 0} (r : Result A E) → OnOk r (IsNamedCertificate f part q text)
+      → OnOk r (IsCertificateFor f s c sources text)
+  accepted (Ok a) h = subst (λ (x : Schema). IsCertificateFor f x c sources text) same
+      (certified_for f part q h.names c sources text e h.candidates h.certificate)
+  accepted (Err a) h = h
+
+  -- so the target is summarizable
+  pub shown : {A E : Type 0} (r : Result A E) → OnOk r (IsNamedCertificate f part q text)
+      → OnOk r (IsSummarizable s c sources)
+  shown (Ok a) h = subst (λ (x : Schema). IsSummarizable x c sources) same
+      (certified_summarizable f part q h.names c sources text e h.candidates h.hierarchy h.certificate)
+  shown (Err a) h = h
+
+  -- and the first wrong line is one for all
+  pub rejected : {line : ℕ} → IsNamedWrong f part q text line → IsFirstWrongFor f s c sources text line
+  rejected {line} h = subst (λ (x : Schema). IsFirstWrongFor f x c sources text line) same
+      (wrong_for f part q h.names c sources text e h.candidates line h.wrong)
+
+module _ (f : Form) (c : ℕ) (sources : List ℕ) {part s : Schema} {q : Formula} (same : part ≡ s)
+    (e : q ≡ not_by_one c sources) where
+  -- a text that is one is one for all
+  pub written : {E : Type 0} (r : Result (List ℕ) E) → IfOk r (IsNamedCertificate f part q)
+      → IfOk r (IsCertificateFor f s c sources)
+  written (Ok text) h = subst (λ (x : Schema). IsCertificateFor f x c sources text) same
+      (certified_for f part q h.names c sources text e h.candidates h.certificate)
+  written (Err x) h = h
+
+-- where the target is summarizable, no bottom category has a frozen dimension for the question
+pub none_frozen : (c : ℕ) (sources : List ℕ) {part s : Schema} {q : Formula} → part ≡ s → q ≡ not_by_one c sources
+    → IsSummarizable s c sources → HasNoFrozen part q
+none_frozen c sources {part} {s} {q} same e told hier k are =
+    subst (λ (x : Formula). (b : ℕ) → IsBottom part.graph b → (v : Frozen) → IsFrozen part x b k v → ⊥) (sym e)
+    ((summarizable_exactly part c sources k hier (subst (λ (x : Formula). AreCandidates part x k) e are)).0
+    (subst (λ (x : Schema). IsSummarizable x c sources) (sym same) told))
+
+-- a certificate is one of the candidates that it was written with
+pub named : {E : Type 0} (f : Form) (s : Schema) (q : Formula) (k : Candidates) → IsHierarchy s.graph
+    → AreCandidates s q k → (r : Result (List ℕ) E) → IfOk r (IsCertificateText f s q k)
+    → IfOk r (IsNamedCertificate f s q)
+named f s q k hier are (Ok text) h = record {
+  names = k;
+  hierarchy = hier;
+  candidates = are;
+  certificate = h;
+}
+named f s q k hier are (Err x) h = h

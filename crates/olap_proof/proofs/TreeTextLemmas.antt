@@ -4,12 +4,12 @@
 --     adds_edge               an edge's line, with the trees below it
 --     adds_names              a category's line, with those below it
 --     open_edges, open_names  how much is left to decide
---     adds_bottom             a bottom category's line, with the tree below it
+--     adds_below              a bottom category's line, with the tree below it
 --     edge_below, name_below  a place with one decision more
 --     place_edge, place_name  a place with one decision more
 --     place_within            its decisions are about what is in the schema
 use Rattle.std.proofs.Common.{◌≡◌, ℕ, ◌+◌, ◌<◌, ◌≤◌, List, [], ◌∷◌, ◌++◌, length, map, Bool, true, false, None, inl, inr, refl, ap, sym, subst, ◌∙◌, arith}
-use Rattle.std.specs.Prelude.{◌≢◌, All, Contains, is_none}
+use Rattle.std.specs.Prelude.{◌≢◌, All, Contains, Err, Ok, OnOk, Result, is_none}
 use Rattle.std.proofs.lemmas.List.FromFn.{map-range_with_len_more}
 use Rattle.std.proofs.lemmas.List.{append_assoc, append-nil}
 use Rattle.std.proofs.lemmas.List.Concat.{flat_map-append}
@@ -141,8 +141,8 @@ place_within g k p t i = record {
 }
 
 -- where nothing is left to decide and no line closes, there is a frozen dimension
-pub none_left : (m : Form) (s : Schema) (q : Formula) (k : Candidates) (p : Place) → IsHierarchy s.graph → AreCandidates s q k
-    → IsPlaceOf s.graph k p → ((f : Frozen) → IsFrozen s q p.decided.root k f → ⊥)
+pub none_left : (m : Form) (s : Schema) (q : Formula) (k : Candidates) (p : Place) → IsHierarchy s.graph
+    → AreCandidates s q k → IsPlaceOf s.graph k p → ((f : Frozen) → IsFrozen s q p.decided.root k f → ⊥)
     → ((l : Line) → IsAbout s l → Closes m s q k p l → ⊥)
     → ((e : ℕ) → e < length s.graph.edges → status_of p.decided e ≢ None)
     → ((c : ℕ) → IsDeclared s.graph c → index_of p.namings c ≢ None) → ⊥
@@ -263,12 +263,13 @@ name_written m s q k p x c j a b d i e f =
 -- ---- bottom categories
 
 -- a bottom category's line, with its tree
-pub adds_bottom : (m : Form) (s : Schema) (q : Formula) (k : Candidates) (b : ℕ) (x : Place) (a c d : List ℕ)
-    → c ≡ a ++ (bottom_text s.graph b ++ 10 ∷ []) → x ≡ start s.graph b → Adds m s q k (At x ∷ []) c d
-    → Adds m s q k (Bottom b ∷ []) a d
-adds_bottom m s q k b x a c d w e f =
+pub adds_below : {A E : Type 0} (m : Form) (s : Schema) (q : Formula) (k : Candidates) (b : ℕ) (x : Place)
+    (a c d : List ℕ) → c ≡ a ++ (bottom_text s.graph b ++ 10 ∷ []) → x ≡ start s.graph b → (r : Result A E)
+    → OnOk r (Adds m s q k (At x ∷ []) c d) → OnOk r (Adds m s q k (Bottom b ∷ []) a d)
+adds_below m s q k b x a c d w e (Ok u) f =
     let h = subst (λ y. Adds m s q k (At y ∷ []) c d) e f in (
       bottom_text s.graph b ∷ h.0,
       in_front m s q k (bottom_text s.graph b) h.0 a c d w h.1,
       λ after rest end r. more roots (h.2 after rest end r),
     )
+adds_below m s q k b x a c d w e (Err u) f = f

@@ -2,11 +2,12 @@
 --     IsPlaceOf    a place of this schema, at which no way is decided
 --     Close        the lines close these, and leave what else is open
 --     Adds         bytes are appended: such lines, each ended by an LF
+--     HasNoFrozen  no bottom category has a frozen dimension
 use Rattle.std.specs.Prelude.{◌≡◌, ◌≤◌, ◌++◌, ℕ, Contains, List, [], length}
 use Rattle.olap_ast.specs.Formula.{Formula}
-use Rattle.olap_ast.specs.Frozen.{Candidates}
+use Rattle.olap_ast.specs.Frozen.{AreCandidates, Candidates, Frozen, IsFrozen}
 use Rattle.olap_ast.specs.Schema.{Schema}
-use Rattle.olap_base.specs.Graph.{Graph, IsCategory}
+use Rattle.olap_base.specs.Graph.{Graph, IsBottom, IsCategory, IsHierarchy}
 use Rattle.olap_trail.specs.Decisions.{AreDecisions}
 use Rattle.olap_proof.specs.declared.forms.Form.{Form}
 use Rattle.olap_proof.specs.Certificates.{Open, Runs, ended}
@@ -28,3 +29,8 @@ Close f s q k os lines = (after : List (List ℕ)) (rest end : List Open) → Ru
 -- lines that close these are appended, each ended by an LF
 abbrev pub Adds : Form → Schema → Formula → Candidates → List Open → List ℕ → List ℕ → Type 0
 Adds f s q k os old new = (lines : List (List ℕ)) × (new ≡ old ++ ended lines) × Close f s q k os lines
+
+-- no bottom category has a frozen dimension for the question
+abbrev pub HasNoFrozen : Schema → Formula → Type 0
+HasNoFrozen s q = IsHierarchy s.graph → (k : Candidates) → AreCandidates s q k → (b : ℕ) → IsBottom s.graph b
+    → (f : Frozen) → IsFrozen s q b k f → ⊥

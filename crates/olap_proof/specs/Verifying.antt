@@ -2,6 +2,7 @@
 --     IsWrongAt           a line is the first that is wrong
 --     IsCertificateFor    a text is a certificate
 --     IsFirstWrongFor     a line of a text is the first that is wrong
+--     IsNamedCertificate, IsNamedWrong    of some candidates
 --     VerdictsAreOne      a certificate has no first wrong line, and another text has one at most
 use Rattle.std.specs.Prelude.{◌≡◌, ◌+◌, ◌<◌, ◌^◌, ℕ, List, length}
 use Rattle.olap_base.specs.Graph.{IsHierarchy}
@@ -25,6 +26,19 @@ IsCertificateFor f s c sources text = (k : Candidates) → AreCandidates s (not_
 abbrev pub IsFirstWrongFor : Form → Schema → ℕ → List ℕ → List ℕ → ℕ → Type 0
 IsFirstWrongFor f s c sources text line = (k : Candidates) → AreCandidates s (not_by_one c sources) k
     → IsWrongAt f s (not_by_one c sources) k text line
+
+-- the text is a certificate, of some candidates
+pub record IsNamedCertificate (f : Form) (s : Schema) (q : Formula) (text : List ℕ) : Type 0 where
+  pub names : Candidates
+  pub hierarchy : IsHierarchy s.graph
+  pub candidates : AreCandidates s q names
+  pub certificate : IsCertificateText f s q names text
+
+-- the line is the first that is wrong, of some candidates
+pub record IsNamedWrong (f : Form) (s : Schema) (q : Formula) (text : List ℕ) (line : ℕ) : Type 0 where
+  pub names : Candidates
+  pub candidates : AreCandidates s q names
+  pub wrong : IsWrongAt f s q names text line
 
 -- a certificate has no first wrong line
 abbrev pub NoneIsWrong : Form → Schema → Formula → Candidates → List ℕ → Type 0

@@ -1,17 +1,20 @@
 // The verifier of certificates.
-ghost use Rattle.std.specs.Prelude.{◌≡◌, ◌≢◌, ◌↔◌, ℕ, All, AllPairs, Err, OnOk};
+ghost use Rattle.std.specs.Prelude.{◌≡◌, ◌≢◌, ◌≤◌, ◌↔◌, ℕ, All, AllPairs, Err, OnOk, length, map};
 ghost use Rattle.olap_ast.specs.Summarizable.{IsSummarizable};
 ghost use Rattle.olap_base.specs.Graph.{IsCategory};
-ghost use Rattle.olap_proof.specs.Verifying.{IsCertificateFor, IsFirstWrongFor};
-ghost use Rattle.olap_ast.specs.Trees.{numbers_of};
+ghost use Rattle.olap_base.specs.Limits.{most_constraints};
+ghost use Rattle.olap_names.specs.Names.{CanBeNamed, with_graph};
+ghost use Rattle.olap_proof.specs.Verifying.{IsCertificateFor, IsFirstWrongFor, IsNamedCertificate, IsNamedWrong};
+ghost use Rattle.olap_ast.specs.Trees.{constraint_of, formula_of, numbers_of};
 ghost use Rattle.olap_proof.specs.declared.verifying.VerifyRefusal.TheVariants as refusal;
 ghost use Rattle.olap_schema.specs.Schemas.{schema_of};
 
 use crate::Form;
 use crate::asking::Asked;
 use crate::judging::first_wrong;
-use olap_ast::{are_distinct, not_by_one};
+use olap_ast::{Constraint, Formula, are_distinct, not_by_one};
 use olap_base::{CatId, Memory};
+use olap_graph::Graph;
 use olap_names::Candidates;
 use olap_schema::Schema;
 use std::alloc::{AllocError, Global};
@@ -44,6 +47,39 @@ impl From<AllocError> for VerifyRefusal {
     }
 }
 
+/// Accepts exactly the certificates of that form for this question, of a schema with this graph and these constraints.
+fn judged(
+    alloc: Global,
+    graph: &Graph,
+    constraints: &[Constraint],
+    question: &Formula,
+    form: Form,
+    text: &[u8],
+) -> Result<(), VerifyRefusal>
+    requires named { CanBeNamed graph.now (map constraint_of constraints.now) (formula_of question.now) }
+    requires few { length constraints.now ≤ most_constraints }
+    ensures duplicate { result ≢ Err refusal.DuplicateSource }
+    ensures ok { OnOk result (IsNamedCertificate form (with_graph graph.now (map constraint_of constraints.now))
+        (formula_of question.now) text.now) }
+    ensures rejected { (line : ℕ) → result ≡ Err (refusal.Rejected line)
+        → IsNamedWrong form (with_graph graph.now (map constraint_of constraints.now)) (formula_of question.now)
+        text.now line }
+{
+    // Called for its clauses: the graph is a hierarchy.
+    let _count = graph.categories();
+    let candidates = Candidates::of(alloc, graph, constraints, question)?;
+    let asked = Asked {
+        graph,
+        constraints,
+        question,
+        candidates: &candidates,
+    };
+    match first_wrong(alloc, &asked, form, text)? {
+        None => Ok(()),
+        Some(line) => Err(VerifyRefusal::Rejected { line }),
+    }
+}
+
 /// Accepts the text exactly if it is a certificate of that form, which says why the target is summarizable from the
 /// sources. Nothing is searched: each line is checked where it stands, in one pass.
 ///
@@ -72,20 +108,13 @@ pub fn verify(
     if !are_distinct(sources) {
         return Err(VerifyRefusal::DuplicateSource);
     }
-    let graph = schema.graph();
-    let constraints = schema.constraints();
     let question = not_by_one(alloc, target, sources)?;
-    // Called for its clauses: the graph is a hierarchy.
-    let _count = graph.categories();
-    let candidates = Candidates::of(alloc, graph, constraints, &question)?;
-    let asked = Asked {
-        graph,
-        constraints,
-        question: &question,
-        candidates: &candidates,
-    };
-    match first_wrong(alloc, &asked, form, text)? {
-        None => Ok(()),
-        Some(line) => Err(VerifyRefusal::Rejected { line }),
-    }
+    judged(
+        alloc,
+        schema.graph(),
+        schema.constraints(),
+        &question,
+        form,
+        text,
+    )
 }

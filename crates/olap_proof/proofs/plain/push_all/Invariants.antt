@@ -4,7 +4,7 @@ use Rattle.olap_proof.specs.Asking.{names_in, question_in, schema_in}
 use Rattle.olap_proof.specs.Certificates.{Open.Bottom}
 use Rattle.olap_proof.specs.Trees.{Adds}
 use Rattle.olap_proof.proofs.BottomLemmas.{first_bottoms}
-use Rattle.olap_proof.proofs.plain.plain.Given as goal
+use Rattle.olap_proof.proofs.plain.push_all.Given as goal
 
 abbrev pub invariant-categories : goal.invariant-categories
 invariant-categories l = Adds l.form (schema_in l.asked) (question_in l.asked) (names_in l.asked)

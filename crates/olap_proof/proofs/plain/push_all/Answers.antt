@@ -1,0 +1,44 @@
+use Rattle.std.proofs.Common.{◌≡◌, ◌+◌, ◌-◌, ◌<◌, ◌≤◌, ◌++◌, ◌∷◌, ◌∙◌, [], List, ℕ, arith, ap, false, length, map, subst, sym, true}
+use Rattle.olap_base.specs.Graph.{category_count}
+use Rattle.olap_proof.specs.Asking.{names_in, question_in, schema_in}
+use Rattle.olap_proof.specs.Certificates.{Open.Bottom, head_text}
+use Rattle.olap_proof.specs.Trees.{Adds}
+use Rattle.olap_proof.proofs.BottomLemmas.{certified, first_bottoms, next_same, next_written}
+use Rattle.olap_proof.proofs.plain.push_all.Goals as goal
+use Rattle.olap_proof.proofs.plain.push_all.Goals.{then-is_bottom+in_ok-push_tree, else-is_bottom}
+
+pub push_tree-requires-clause-none : goal.push_tree-requires-clause-none
+push_tree-requires-clause-none c = c.requires.none c.categories.b (c.is_bottom.ensures.0 c.if-is_bottom.true)
+
+pub categories-preserved : goal.categories-preserved
+categories-preserved c =
+    let a = c.args.asked.now in
+    let b = c.categories.b in
+    let low : 1 ≤ b = omega (arith, c.categories.auto.b) in
+    let from = c.push_head.new.out.items in
+    let there = c.categories.out.items in
+    let small : b < category_count a.graph.now =
+    omega (arith, c.categories-test.true, c.categories-b-end.ensures.count) in
+    let so : List ℕ → Type 0 = λ new. Adds c.args.form (schema_in a) (question_in a) (names_in a)
+        (map Bottom (first_bottoms a.graph.now (b + 1 - 1))) from new in
+    elim c.if-is_bottom.branch [
+      | then-is_bottom+in_ok-push_tree w ↦
+          subst (λ o. so o.items) (sym w.out-is)
+          (next_written c.args.form (schema_in a) (question_in a) (names_in a) b from there w.push_tree.new.out.items
+          low (c.is_bottom.ensures.0 w.if-is_bottom.true) c.categories.invariant w.in_ok-push_tree.ensures)
+      | else-is_bottom w ↦
+          subst (λ o. so o.items) (sym w.out-is)
+          (next_same c.args.form (schema_in a) (question_in a) (names_in a) b from there low small
+          (λ h. let z : true ≡ false = sym (c.is_bottom.ensures.1 h) ∙ w.if-is_bottom.false in cc)
+          c.categories.invariant)
+    ]
+
+pub returns : goal.returns
+returns c =
+    let a = c.args.asked.now in
+    let test = c.categories-test.false in
+    let all : c.categories.b - 1 ≡ length a.graph.now.names =
+    omega (arith, c.categories.auto.b, c.categories.auto.b-end, test, c.categories-b-end.ensures.count) in
+    let head = c.in_ok-push_head.ensures ∙ ap (λ xs. xs ++ (head_text c.args.form ++ 10 ∷ [])) c.requires.empty in
+    certified c.args.form (schema_in a) (question_in a) (names_in a) (c.categories.b - 1) c.push_head.new.out.items
+    c.categories.out.items all head c.categories.invariant
