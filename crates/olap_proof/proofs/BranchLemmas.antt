@@ -10,14 +10,18 @@
 --     left_back        what is open without a last choice that has no case after it
 --     left_next        and with the case after it
 --     left_first       the cases of a split, the first of which was chosen
-use Rattle.std.proofs.Common.{◌≡◌, ◌-◌, ◌++◌, List, [], ◌∷◌, length, take, refl, ap, sym, subst, ◌∙◌, arith}
+--     IsSplit, branch_split    so it is where that choice was put behind the others
+--     IsStillOpen      after a place there is open what was open after another one
+--     open_back        so it is without a last choice that has no case after it
+--     open_next        and with the case after it the tree goes on
+use Rattle.std.proofs.Common.{◌≡◌, ◌-◌, ◌++◌, List, [], ◌∷◌, length, take, true, refl, ap, sym, subst, ◌∙◌, arith}
 use Rattle.std.proofs.lemmas.List.{length-append}
 use Rattle.std.proofs.Math.Seq.{take-append_seam}
 use Rattle.olap_base.specs.Graph.{Graph, IsCategory, category_count}
 use Rattle.olap_names.specs.Names.{Named}
 use Rattle.olap_proof.specs.declared.branches.Choice.{Choice}
 use Rattle.olap_proof.specs.declared.branches.Choice.TheVariants.{Edge, Name, Way}
-use Rattle.olap_proof.specs.Branches.{AreLegal, IsBranch, IsLegal, IsNamed, chosen, first_of, led, left_open, siblings}
+use Rattle.olap_proof.specs.Branches.{AreLegal, GoesOn, IsBranch, IsLegal, IsNamed, chosen, first_of, led, left_open, siblings}
 use Rattle.olap_proof.specs.Certificates.{Open, Open.At}
 use Rattle.olap_proof.specs.Places.{Place}
 
@@ -93,9 +97,9 @@ branch_back g k p r xs x h e =
     }
 
 -- where the last choice was taken back
-pub back_there : (g : Graph) (k : Named) (p r : Place) (all xs : List Choice) (x : Choice) → IsBranch g k p all
+pub back_there : {g : Graph} {k : Named} {p r : Place} {all xs : List Choice} {x : Choice} → IsBranch g k p all
     → all ≡ xs ++ x ∷ [] → ((y : Place) → p ≡ chosen y x → r ≡ y) → IsBack g k p r xs x
-back_there g k p r all xs x h same back =
+back_there {g} {k} {p} {r} {all} {xs} {x} h same back =
     let b : IsBranch g k p (xs ++ x ∷ []) = subst (λ (ys : List Choice). IsBranch g k p ys) same h in
     branch_back g k p r xs x b (back (led (first_of p) xs) (b.led_there ∙ led_last (first_of p) xs x))
 
@@ -161,3 +165,58 @@ left_first g k p t xs x h then u acc =
     ∙ ap (λ (z : Place). siblings k z x ++ left_open k (first_of p) xs acc) (sym h.led_there) in
     ap (λ (z : Place). At z ∷ (siblings k p x ++ left_open k (first_of p) xs acc)) (sym u)
     ∙ ap (λ zs. At t ∷ zs) (sym new)
+
+-- a branch with one choice more, the first of these cases
+pub record IsSplit (g : Graph) (k : Named) (p t : Place) (xs ys : List Choice) (cases : List Open) : Type 0 where
+  pub branch : IsBranch g k t ys
+  pub first : first_of t ≡ first_of p
+  pub left : (acc : List Open)
+      → cases ++ left_open k (first_of p) xs acc ≡ At t ∷ left_open k (first_of t) ys acc
+
+-- so it is where the choice was put behind the others
+pub branch_split : {g : Graph} {k : Named} {p t : Place} {xs ys : List Choice} (x : Choice) {cases : List Open}
+    → IsBranch g k p xs → IsLegal g k p x → t ≡ chosen p x → ys ≡ xs ++ x ∷ []
+    → cases ≡ At (chosen p x) ∷ siblings k p x → IsSplit g k p t xs ys cases
+branch_split {g} {k} {p} {t} {xs} {ys} x {cases} h legal e pushed all =
+    let more = branch_more g k p t xs x h legal e in
+    record {
+      branch = subst (λ (zs : List Choice). IsBranch g k t zs) (sym pushed) more.0;
+      first = more.1;
+      left = λ acc. ap (λ (zs : List Open). zs ++ left_open k (first_of p) xs acc) all
+          ∙ left_first g k p t xs x h more.1 e acc
+          ∙ ap (λ (zs : List Choice). At t ∷ left_open k (first_of t) zs acc) (sym pushed);
+    }
+
+-- ---- from one branch to another
+
+-- after the one place there is open, of the tree, what was open after the other
+pub record IsStillOpen (g : Graph) (k : Named) (q : Place) (ys : List Choice) (p : Place) (xs : List Choice) : Type 0
+  where
+  pub branch : IsBranch g k p xs
+  pub first : first_of p ≡ first_of q
+  pub left : (acc : List Open) → left_open k (first_of q) ys acc ≡ left_open k (first_of p) xs acc
+
+module _ {g : Graph} {k : Named} {q p r : Place} {ys all xs : List Choice} {x : Choice} where
+  -- so it is without a last choice that has no case after it
+  pub open_back : IsStillOpen g k q ys p all → all ≡ xs ++ x ∷ [] → IsBack g k p r xs x
+      → siblings k (led (first_of p) xs) x ≡ [] → IsStillOpen g k q ys r xs
+  open_back h same back none = record {
+    branch = back.branch;
+    first = back.first ∙ h.first;
+    left = λ acc. h.left acc ∙ ap (λ (zs : List Choice). left_open k (first_of p) zs acc) same
+        ∙ left_back k p r xs x back.first none acc;
+  }
+
+  -- and with the case after it in its place the tree goes on
+  pub open_next : {t : Place} {others : List Choice} (y : Choice) → IsStillOpen g k q ys p all
+      → all ≡ xs ++ x ∷ [] → IsBack g k p r xs x → IsLegal g k r y
+      → siblings k r x ≡ At (chosen r y) ∷ siblings k r y → t ≡ chosen r y
+      → others ≡ xs ++ y ∷ [] → GoesOn g k q ys t others true
+  open_next {t} {others} y h same back legal some e pushed =
+      let more = branch_more g k r t xs y back.branch legal e in (
+        subst (λ (zs : List Choice). IsBranch g k t zs) (sym pushed) more.0,
+        more.1 ∙ back.first ∙ h.first,
+        λ acc. h.left acc ∙ ap (λ (zs : List Choice). left_open k (first_of p) zs acc) same
+            ∙ left_next k p r t xs x y back.first more.1 back.there e some acc
+            ∙ ap (λ (zs : List Choice). At t ∷ left_open k (first_of t) zs acc) (sym pushed),
+      )

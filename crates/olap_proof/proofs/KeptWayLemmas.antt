@@ -2,14 +2,15 @@
 --     whole                          a decision by its parts
 --     row_put, row_out               a set with a category more, and with one less
 --     tables_none                    the tables with no decision
---     tables_there, tables_absent    with one more
---     tables_last, tables_pop        and with one less
+--     there_written, absent_written    with one more
+--     tables_last                    the last decision
+--     tables_pop, tables_written     the tables with one less
 --     leads_is                       the ways that are there
-use Rattle.std.proofs.Common.{◌≡◌, ◌≢◌, ℕ, zero, suc, ◌<◌, ◌⊎◌, ◌↔◌, ◌++◌, List, [], ◌∷◌, Bool, true, false, Option, None, Some, length, replicate, set, eqb, refl, ap, sym, subst, ◌∙◌, inl, inr}
+use Rattle.std.proofs.Common.{◌≡◌, ◌≢◌, ℕ, zero, suc, ◌<◌, ◌⊎◌, ◌↔◌, ◌++◌, List, [], ◌∷◌, Bool, true, false, Option, None, Some, arith, drop, length, map, replicate, take, set, eqb, refl, ap, sym, subst, ◌∙◌, inl, inr}
 use Rattle.std.specs.Prelude.{◌==◌, ◌&&◌, ◌||◌, Contains, if◌then◌else◌, not}
 use Rattle.std.specs.FinSet.{FinSet, contains, contains-empty, empty, insert, remove}
 use Rattle.std.specs.Ordering.{nat_cmp}
-use Rattle.std.proofs.lemmas.List.{length-replicate}
+use Rattle.std.proofs.lemmas.List.{length-replicate, map_push, take_at}
 use Rattle.std.proofs.lemmas.List.Elements.{Contains-append_left, Contains-push, Contains-push_cases}
 use Rattle.olap_base.specs.Limits.{most_categories}
 use Rattle.olap_base.specs.Deciding.{contains_cases, contains_cons}
@@ -21,7 +22,8 @@ use Rattle.olap_bits.proofs.CatSetLemmas.{in_insert, in_remove}
 use Rattle.olap_graph.specs.Rows.{row}
 use Rattle.olap_graph.proofs.RowLemmas.{row_other, row_same, same_or_not}
 use Rattle.olap_proof.specs.KeptTables.{AreOnce, AreSaid, AreTables}
-use Rattle.olap_proof.specs.KeptWays.{IsPut, IsTakenOut, leading_way, said_of}
+use Rattle.olap_proof.specs.declared.ways.Way.{Way as OneWay}
+use Rattle.olap_proof.specs.KeptWays.{IsPut, IsTakenOut, leading_way, said_of, way_kept}
 use Rattle.olap_proof.specs.Places.{Way, way_of}
 
 -- ---- decisions
@@ -300,7 +302,7 @@ within_push ws v h c p w m = elim (Contains-push_cases ws v w m) [
 ]
 
 -- a decision more, that the way is there
-pub tables_there : {W : ℕ} (there absent new : List (CatSet W)) (ws : List Way) (v : Way) → AreTables there absent ws
+tables_there : {W : ℕ} (there absent new : List (CatSet W)) (ws : List Way) (v : Way) → AreTables there absent ws
     → v.child < most_categories → v.parent < most_categories → way_of ws v.child v.parent ≡ None → v.there ≡ true
     → length new ≡ length there → IsPut there v.child v.parent new → AreTables new absent (ws ++ v ∷ [])
 tables_there there absent new ws v h c p none t size put = record {
@@ -312,7 +314,7 @@ tables_there there absent new ws v h c p none t size put = record {
 }
 
 -- and that it isn't
-pub tables_absent : {W : ℕ} (there absent new : List (CatSet W)) (ws : List Way) (v : Way) → AreTables there absent ws
+tables_absent : {W : ℕ} (there absent new : List (CatSet W)) (ws : List Way) (v : Way) → AreTables there absent ws
     → v.child < most_categories → v.parent < most_categories → way_of ws v.child v.parent ≡ None → v.there ≡ false
     → length new ≡ length absent → IsPut absent v.child v.parent new → AreTables there new (ws ++ v ∷ [])
 tables_absent there absent new ws v h c p none t size put = record {
@@ -323,13 +325,62 @@ tables_absent there absent new ws v h c p none t size put = record {
   said = said_absent there absent new ws v h.said none t put;
 }
 
+-- so it is where the table is written in its place
+pub there_written : {W : ℕ} (list : List OneWay) (w : OneWay) {there absent old : List (CatSet W)}
+    (new : List (CatSet W)) {m : ℕ} {all : List OneWay} → AreTables there absent (map way_kept list)
+    → all ≡ list ++ w ∷ [] → w.child.0 < most_categories → w.parent.0 < most_categories
+    → way_of (map way_kept list) w.child.0 w.parent.0 ≡ None → w.there ≡ true → old ≡ there → length old ≡ m
+    → length new ≡ length old → IsPut old w.child.0 w.parent.0 new
+    → AreTables (take m (new ++ drop (length new) there)) absent (map way_kept all)
+there_written {W} list w {there} {absent} {old} new {m} {all} h e c p none t f s size put =
+    let v = way_kept w in
+    subst (λ (ws : List Way). AreTables (take m (new ++ drop (length new) there)) absent ws)
+    (sym (ap (map way_kept) e ∙ map_push way_kept list w))
+    (subst (λ rows. AreTables rows absent (map way_kept list ++ v ∷ []))
+    (sym (take_at new (drop (length new) there) m (size ∙ s)))
+    (tables_there there absent new (map way_kept list) v h c p none t (size ∙ ap length f)
+    (subst (λ rows. IsPut rows v.child v.parent new) f put)))
+
+-- and where it isn't
+pub absent_written : {W : ℕ} (list : List OneWay) (w : OneWay) {there absent old : List (CatSet W)}
+    (new : List (CatSet W)) {m : ℕ} {all : List OneWay} → AreTables there absent (map way_kept list)
+    → all ≡ list ++ w ∷ [] → w.child.0 < most_categories → w.parent.0 < most_categories
+    → way_of (map way_kept list) w.child.0 w.parent.0 ≡ None → w.there ≡ false → old ≡ absent → length old ≡ m
+    → length new ≡ length old → IsPut old w.child.0 w.parent.0 new
+    → AreTables there (take m (new ++ drop (length new) absent)) (map way_kept all)
+absent_written {W} list w {there} {absent} {old} new {m} {all} h e c p none t f s size put =
+    let v = way_kept w in
+    subst (λ (ws : List Way). AreTables there (take m (new ++ drop (length new) absent)) ws)
+    (sym (ap (map way_kept) e ∙ map_push way_kept list w))
+    (subst (λ rows. AreTables there rows (map way_kept list ++ v ∷ []))
+    (sym (take_at new (drop (length new) absent) m (size ∙ s)))
+    (tables_absent there absent new (map way_kept list) v h c p none t (size ∙ ap length f)
+    (subst (λ rows. IsPut rows v.child v.parent new) f put)))
+
+-- the tables of decisions the last of which is this one
+pub record AreTablesOf {W : ℕ} (there absent : List (CatSet W)) (rest : List OneWay) (w : OneWay) : Type 0 where
+  pub tables : AreTables there absent (map way_kept rest ++ way_kept w ∷ [])
+  pub child : w.child.0 < length there
+  pub child_absent : w.child.0 < length absent
+  pub parent : w.parent.0 < most_categories
+
 -- the last decision is on categories that the tables have
-pub tables_last : {W : ℕ} (there absent : List (CatSet W)) (ws : List Way) (v : Way)
-    → AreTables there absent (ws ++ v ∷ []) → (v.child < most_categories) × (v.parent < most_categories)
-tables_last there absent ws v h = h.within v (Contains-push ws v)
+pub tables_last : {W : ℕ} {there absent : List (CatSet W)} {list rest : List OneWay} {w : OneWay}
+    → AreTables there absent (map way_kept list) → list ≡ rest ++ w ∷ [] → AreTablesOf there absent rest w
+tables_last {W} {there} {absent} {list} {rest} {w} h e =
+    let whole = ap (map way_kept) e ∙ map_push way_kept rest w in
+    let t : AreTables there absent (map way_kept rest ++ way_kept w ∷ []) =
+    subst (λ (xs : List Way). AreTables there absent xs) whole h in
+    let last = t.within (way_kept w) (Contains-push (map way_kept rest) (way_kept w)) in
+    record {
+      tables = t;
+      child = omega (arith, last.0, t.there_size);
+      child_absent = omega (arith, last.0, t.absent_size);
+      parent = last.1;
+    }
 
 -- one decision less
-pub tables_pop : {W : ℕ} (there absent new less : List (CatSet W)) (ws : List Way) (v : Way)
+tables_pop : {W : ℕ} (there absent new less : List (CatSet W)) (ws : List Way) (v : Way)
     → AreTables there absent (ws ++ v ∷ []) → length new ≡ length there → length less ≡ length absent
     → IsTakenOut there v.child v.parent new → IsTakenOut absent v.child v.parent less → AreTables new less ws
 tables_pop there absent new less ws v h size less_size out gone =
@@ -341,6 +392,25 @@ tables_pop there absent new less ws v h size less_size out gone =
       within = λ w m. h.within w (Contains-append_left ws (v ∷ []) w m);
       said = said_pop there absent new less ws v h.said before.1 out gone;
     }
+
+-- and so it is where each table is written in its place
+pub tables_written : {W : ℕ} {there absent old older : List (CatSet W)} (new less : List (CatSet W)) {m n : ℕ}
+    {rest : List OneWay} {w : OneWay} → AreTablesOf there absent rest w → old ≡ there → older ≡ absent
+    → length old ≡ m → length older ≡ n
+    → length new ≡ length old → length less ≡ length older → IsTakenOut old w.child.0 w.parent.0 new
+    → IsTakenOut older w.child.0 w.parent.0 less
+    → AreTables (take m (new ++ drop (length new) there)) (take n (less ++ drop (length less) absent))
+    (map way_kept rest)
+tables_written {W} {there} {absent} {old} {older} new less {m} {n} {rest} {w} h e f s z size less_size out gone =
+    let v = way_kept w in
+    let ws = map way_kept rest in
+    let written = take_at new (drop (length new) there) m (size ∙ s) in
+    let cut = take_at less (drop (length less) absent) n (less_size ∙ z) in
+    subst (λ rows. AreTables rows (take n (less ++ drop (length less) absent)) ws) (sym written)
+    (subst (λ rows. AreTables new rows ws) (sym cut)
+    (tables_pop there absent new less ws v h.tables (size ∙ ap length e) (less_size ∙ ap length f)
+    (subst (λ rows. IsTakenOut rows v.child v.parent new) e out)
+    (subst (λ rows. IsTakenOut rows v.child v.parent less) f gone)))
 
 -- the ways that are there
 pub leads_is : {W : ℕ} (there absent : List (CatSet W)) (ws : List Way) → AreOnce ws → AreSaid there absent ws

@@ -29,3 +29,31 @@ returns-in-Constraint c =
       λ t. u.0 (subst (λ (y : Constraint). IsUnmet s.form k p y) (sym same) (c.is_unmet.ensures.0 t)),
       λ h. c.is_unmet.ensures.1 (subst (λ (y : Constraint). IsUnmet s.form k p y) same (u.1 h)),
     )
+
+pub returns-in-Dead : goal.returns-in-Dead
+returns-in-Dead c =
+    let s = c.args.known.now in
+    let here = with_graph s.graph.now (map constraint_of c.args.constraints.now) in
+    subst (λ (l : Line). IsTrue c.is_dead.result ↔ Closes s.form here (formula_of c.args.question.now)
+    (candidates_of s.candidates.now) s.place.now (said l)) (sym c.in-Dead.is) c.is_dead.ensures
+
+pub returns-in-Cycle : goal.returns-in-Cycle
+returns-in-Cycle c =
+    let s = c.args.known.now in
+    let here = with_graph s.graph.now (map constraint_of c.args.constraints.now) in
+    subst (λ (l : Line). IsTrue c.is_cyclic.result ↔ Closes s.form here (formula_of c.args.question.now)
+    (candidates_of s.candidates.now) s.place.now (said l)) (sym c.in-Cycle.is) c.is_cyclic.ensures
+
+pub returns-in-Shortcut : goal.returns-in-Shortcut
+returns-in-Shortcut c =
+    let s = c.args.known.now in
+    let here = with_graph s.graph.now (map constraint_of c.args.constraints.now) in
+    subst (λ (l : Line). IsTrue c.is_shortened.result ↔ Closes s.form here (formula_of c.args.question.now)
+    (candidates_of s.candidates.now) s.place.now (said l)) (sym c.in-Shortcut.is) c.is_shortened.ensures
+
+pub returns-in-Question : goal.returns-in-Question
+returns-in-Question c =
+    let s = c.args.known.now in
+    let here = with_graph s.graph.now (map constraint_of c.args.constraints.now) in
+    subst (λ (l : Line). IsTrue c.is_asked.result ↔ Closes s.form here (formula_of c.args.question.now)
+    (candidates_of s.candidates.now) s.place.now (said l)) (sym c.in-Question.is) c.is_asked.ensures

@@ -13,10 +13,12 @@ pub returns : goal.returns
 returns c = λ d.
     let a = c.self.inside in
     let k = c.args.child.0 in
-    let is = leads_is a.there.items a.absent.items (map way_kept a.list.items) c.self.invariant.once c.self.invariant.said k d in
+    let kept = c.self.invariant in
+    let is = leads_is a.there.items a.absent.items (map way_kept a.list.items) kept.once kept.said k d in
     let same : members c.row_of.result ≡ row a.there.items k =
     c.row_of.ensures ∙ ap (λ rows. row rows k) c.deref.ensures.value in (
-      λ h. subst (λ (ws : List Way). Contains ws (leading_way k d)) c.self.view_is (is.0 (subst (λ s. IsIn s d) same h)),
+      λ h. subst (λ (ws : List Way). Contains ws (leading_way k d)) c.self.view_is
+          (is.0 (subst (λ s. IsIn s d) same h)),
       λ m. subst (λ s. IsIn s d) (sym same)
           (is.1 (subst (λ (ws : List Way). Contains ws (leading_way k d)) (sym c.self.view_is) m)),
     )
