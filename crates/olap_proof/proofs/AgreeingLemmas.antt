@@ -139,7 +139,8 @@ module _ (s : Schema) (q : Formula) (r : ℕ) (k : Candidates) (f : Frozen) (hie
   met = made.met_of_frozen s q r es ch name one.stands_for
 
   -- the bit of an edge that was decided
-  pub status_bit : (e : ℕ) (b : Bool) → status_of t e ≡ Some b → (e < length s.graph.edges) × (get_or f.edges e false ≡ b)
+  pub status_bit : (e : ℕ) (b : Bool) → status_of t e ≡ Some b
+      → (e < length s.graph.edges) × (get_or f.edges e false ≡ b)
   status_bit e b h =
       let d = status_some ds e b h in
       let l = like.edges d.0 d.1 in (

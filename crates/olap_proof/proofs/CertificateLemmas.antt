@@ -60,7 +60,8 @@ like_edge s k f ds ns e b h i l =
       edges = λ d c. elim (Contains-append_cases ds (x ∷ []) d c) [
         | inl a ↦ l.edges d a
         | inr a ↦ elim (contains_cases d x [] a) [
-          | inl r ↦ subst (λ (w : Decision). (w.edge < length s.graph.edges) × (get_or f.edges w.edge false ≡ w.present))
+          | inl r ↦
+              subst (λ (w : Decision). (w.edge < length s.graph.edges) × (get_or f.edges w.edge false ≡ w.present))
               r (h, i)
           | inr z ↦ absurd (Contains-nil d z)
         ]
@@ -86,8 +87,8 @@ like_name s k f ds ns c i h l =
     }
 
 -- and with one more on a way
-pub like_way : (s : Schema) (k : Candidates) (f : Frozen) (r : ℕ) (ds : List Decision) (ns : List Naming) (ws : List Way)
-    (a b : ℕ) (t : Bool) → IsSo s r f t a b → LikeToo s r k f ds ns ws
+pub like_way : (s : Schema) (k : Candidates) (f : Frozen) (r : ℕ) (ds : List Decision) (ns : List Naming)
+    (ws : List Way) (a b : ℕ) (t : Bool) → IsSo s r f t a b → LikeToo s r k f ds ns ws
     → LikeToo s r k f ds ns (ws ++ (record { child = a; parent = b; there = t }) ∷ [])
 like_way s k f r ds ns ws a b t h l =
     let x : Way = record { child = a; parent = b; there = t } in
@@ -131,7 +132,8 @@ module _ (form : Form) (s : Schema) (q : Formula) (k : Candidates) (hier : IsHie
   edge_split p e h absent there g r f one l = go (get_or f.edges e false) refl
     where
       pushed : (b : Bool) → get_or f.edges e false ≡ b
-          → LikeToo s p.decided.root k f (p.decided.decisions ++ (record { edge = e; present = b }) ∷ []) p.namings p.ways
+          → LikeToo s p.decided.root k f (p.decided.decisions ++ (record { edge = e; present = b }) ∷ []) p.namings
+          p.ways
       pushed b i = record {
         rest = like_edge s k f p.decided.decisions p.namings e b h i l.rest;
         ways = l.ways;

@@ -32,7 +32,8 @@ use Rattle.std.proofs.lemmas.Bool.{ne_eqb}
 use Rattle.olap_base.specs.Reaching.{category_reaches, category_reaches_is}
 use Rattle.olap_proof.specs.Lines.{Closes, IsAbout, IsDead, IsLoose, IsUnmet, IsUnmetAt, Line, Line.Asked, Line.Cycle, Line.Dead, Line.Loose, Line.Shortcut, Line.Unmet, Line.Unreached}
 use Rattle.olap_proof.specs.Places.{Naming, Place, is_known, knowledge, leading_graph, possible_graph, reached}
-use Rattle.olap_proof.proofs.FullPlaceLemmas.{child_known, frozen_there, joins_possible, leading_joins, reaches_all, sound, value_of_place}
+use Rattle.olap_proof.proofs.ChosenEdgeLemmas.{child_known, joins_possible, leading_joins, reaches_all, sound}
+use Rattle.olap_proof.proofs.FullPlaceLemmas.{frozen_there, value_of_place}
 
 -- ---- decisions
 
@@ -121,14 +122,18 @@ dec_shortcut g = dec_iff to from (search (IsPassed g) (λ (e : Edge). search (Pa
     (λ (f : Edge). dec_and (ℕ_discrete f.child e.child) (dec_climb g f.parent e.parent)) g.edges) g.edges)
   where
     to : (e : Edge) × Contains g.edges e × IsPassed g e → HoldsShortcut g
-    to w = record {
-      child = w.0.child;
-      parent = w.0.parent;
-      through = w.2.0.parent;
-      edge = w.1;
-      first = subst (λ x. HasEdge g x w.2.0.parent) w.2.2.0 w.2.1;
-      rest = w.2.2.1;
-    }
+    to w =
+        let passes = w.2 in
+        let step = passes.0 in
+        let leads = passes.2 in
+        record {
+          child = w.0.child;
+          parent = w.0.parent;
+          through = step.parent;
+          edge = w.1;
+          first = subst (λ x. HasEdge g x step.parent) leads.0 passes.1;
+          rest = leads.1;
+        }
 
     from : HoldsShortcut g → (e : Edge) × Contains g.edges e × IsPassed g e
     from h = (
@@ -168,15 +173,16 @@ some_unmet m k p (c ∷ cs) = go (dec_and (dec_true (is_known p c.root))
     go (no a) (no b) = no (λ w. neither a b w.0 w.1)
 
 -- a constraint that is unmet is one of them
-unmet_inside : (m : Form) (k : Candidates) (p : Place) (cs : List Constraint) (n : ℕ) → IsUnmetAt m cs n k p → n < length cs
+unmet_inside : (m : Form) (k : Candidates) (p : Place) (cs : List Constraint) (n : ℕ) → IsUnmetAt m cs n k p
+    → n < length cs
 unmet_inside m k p [] n h = absurd h
 unmet_inside m k p (c ∷ cs) zero h = omega arith
 unmet_inside m k p (c ∷ cs) (suc n) h = let i = unmet_inside m k p cs n h in omega arith
 
 -- ---- where nothing is left to decide
 
-module _ (m : Form) (s : Schema) (q : Formula) (k : Candidates) (hier : IsHierarchy s.graph) (are : AreCandidates s q k) (r : ℕ)
-    (ds : List Decision) (ns : List Naming)
+module _ (m : Form) (s : Schema) (q : Formula) (k : Candidates) (hier : IsHierarchy s.graph)
+    (are : AreCandidates s q k) (r : ℕ) (ds : List Decision) (ns : List Naming)
     (full : IsFull s.graph k (record {
       decided = record { graph = s.graph; root = r; decisions = ds };
       namings = ns;

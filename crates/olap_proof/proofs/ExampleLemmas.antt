@@ -91,4 +91,5 @@ chain_is_shortly_certified k = more begins (more (roots {b = 1})
       All-cons (λ e. status_of (linked false []).decided e ≡ Some false) 0 [] refl
           (All-nil (λ e. status_of (linked false []).decided e ≡ Some false)),
     ))
-    (more (closes (Clash 1 2) (omega arith, omega arith) (steps_close k)) (more (closes Asked tt (question_closes_shortly k)) none))))))
+    (more (closes (Clash 1 2) (omega arith, omega arith) (steps_close k))
+    (more (closes Asked tt (question_closes_shortly k)) none))))))

@@ -57,17 +57,20 @@ branch_start g k p b e i t = subst (λ (x : Place). IsBranch g k x []) (sym e)
 -- the line opens the tree
 pub begun : (f : Form) (a : Asked) (root : CatId) (line : List ℕ) (b : Branch) → IsAsked a
     → IsCategory a.graph.now root.0 → line ≡ bottom_text a.graph.now root.0 → b.root ≡ root
-    → b.place ≡ start a.graph.now root.0 → b.choices.items ≡ [] → StepsTo f a (stage.Bottom root) line (Some (stage.Tree b))
+    → b.place ≡ start a.graph.now root.0 → b.choices.items ≡ []
+    → StepsTo f a (stage.Bottom root) line (Some (stage.Tree b))
 begun f a root line b asked i e same p none =
     let g = a.graph.now in
     let k = a.candidates.now in
     let rest = map Bottom (bottoms_from g (root.0 + 1)) in
-    let others : rest ≡ left_open k (first_of b.place) b.choices.items (map Bottom (bottoms_from g (b.root.0 + 1))) =
+    let later = map Bottom (bottoms_from g (b.root.0 + 1)) in
+    let others : rest ≡ left_open k (first_of b.place) b.choices.items later =
     ap (λ (n : CatId). map Bottom (bottoms_from g (n.0 + 1))) (sym same)
-    ∙ ap (λ (xs : List Choice). left_open k (first_of b.place) xs (map Bottom (bottoms_from g (b.root.0 + 1)))) (sym none)
+    ∙ ap (λ (xs : List Choice). left_open k (first_of b.place) xs later) (sym none)
     in (
       (
-        subst (λ (xs : List Choice). IsBranch g k b.place xs) (sym none) (branch_start g k b.place root.0 p i asked.named),
+        subst (λ (xs : List Choice). IsBranch g k b.place xs) (sym none)
+            (branch_start g k b.place root.0 p i asked.named),
         ap (λ (x : Place). x.decided.root) p ∙ ap (λ (n : CatId). n.0) (sym same),
       ),
       subst (λ (os : List Open). RunsFor f a (line ∷ []) (open_at a (stage.Bottom root)) (At b.place ∷ os)) others
@@ -78,7 +81,9 @@ begun f a root line b asked i e same p none =
 
 module _ (f : Form) (a : Asked) (b : Branch) (line : List ℕ) where
   abbrev others : List Open
-  others = left_open a.candidates.now (first_of b.place) b.choices.items (map Bottom (bottoms_from a.graph.now (b.root.0 + 1)))
+  others =
+      left_open a.candidates.now (first_of b.place) b.choices.items
+      (map Bottom (bottoms_from a.graph.now (b.root.0 + 1)))
 
   -- the line does nothing
   pub at_nothing : (c : Branch) → Advances f a b.place b.choices.items line c.place c.choices.items Nothing
@@ -86,8 +91,8 @@ module _ (f : Form) (a : Asked) (b : Branch) (line : List ℕ) where
   at_nothing c h = place_none f (schema_in a) (question_in a) (names_in a) line b.place others h
 
   -- some of the tree is open
-  pub at_still : (c : Branch) → Advances f a b.place b.choices.items line c.place c.choices.items Still → c.root ≡ b.root
-      → IsStage a (stage.Tree b) → StepsTo f a (stage.Tree b) line (Some (stage.Tree c))
+  pub at_still : (c : Branch) → Advances f a b.place b.choices.items line c.place c.choices.items Still
+      → c.root ≡ b.root → IsStage a (stage.Tree b) → StepsTo f a (stage.Tree b) line (Some (stage.Tree c))
   at_still c h same there =
       let g = a.graph.now in
       let k = a.candidates.now in

@@ -86,7 +86,8 @@ way_whole g h a b = both_whole (name_of_category g a) (name_of_category g b) (na
 -- nor has a line about the schema
 pub line_whole : (s : Schema) → IsHierarchy s.graph → length s.constraints < 2 ^ 64 → (l : Line) → IsAbout s l
     → IsWhole (line_text s.graph l)
-line_whole s h few (EdgeOrNot e) a = both_whole (codes "edge") _ (computed (codes "edge") refl) (way_whole s.graph h _ _)
+line_whole s h few (EdgeOrNot e) a =
+    both_whole (codes "edge") _ (computed (codes "edge") refl) (way_whole s.graph h _ _)
 line_whole s h few (NameOf c) a = both_whole (codes "name") _ (computed (codes "name") refl) (name_whole s.graph h c)
 line_whole s h few (WayOrNot x y) a =
     both_whole (codes "reach") _ (computed (codes "reach") refl) (way_whole s.graph h x y)
@@ -94,11 +95,13 @@ line_whole s h few (Dead c) a = both_whole (codes "dead") _ (computed (codes "de
 line_whole s h few Cycle a = computed (codes "cycle") refl
 line_whole s h few Shortcut a = computed (codes "shortcut") refl
 line_whole s h few (Loose e) a = both_whole (codes "loose") _ (computed (codes "loose") refl) (way_whole s.graph h _ _)
-line_whole s h few (Unreached c) a = both_whole (codes "loose") _ (computed (codes "loose") refl) (name_whole s.graph h c)
+line_whole s h few (Unreached c) a =
+    both_whole (codes "loose") _ (computed (codes "loose") refl) (name_whole s.graph h c)
 line_whole s h few (Clash x y) a =
     both_whole (codes "steps") _ (computed (codes "steps") refl) (way_whole s.graph h x y)
 line_whole s h few (Unmet n) a =
-    both_whole (codes "constraint") _ (computed (codes "constraint") refl) (number_whole (suc n) (omega (arith, a, few)))
+    both_whole (codes "constraint") _ (computed (codes "constraint") refl)
+    (number_whole (suc n) (omega (arith, a, few)))
 line_whole s h few Asked a = computed (codes "question") refl
 
 -- nor the first line of all

@@ -140,8 +140,9 @@ module _ (m : Form) (s : Schema) (q : Formula) (k : Candidates) where
 
 -- ---- what is left to decide, in order
 
-module _ (t : Form) (s : Schema) (q : Formula) (k : Candidates) (hier : IsHierarchy s.graph) (are : AreCandidates s q k) (r : ℕ)
-    (root : IsCategory s.graph r) (nothing : (f : Frozen) → IsFrozen s q r k f → ⊥) where
+module _ (t : Form) (s : Schema) (q : Formula) (k : Candidates) (hier : IsHierarchy s.graph)
+    (are : AreCandidates s q k) (r : ℕ) (root : IsCategory s.graph r)
+    (nothing : (f : Frozen) → IsFrozen s q r k f → ⊥) where
   abbrev at : List Decision → List Naming → Place
   at ds ns = record { decided = record { graph = s.graph; root = r; decisions = ds }; namings = ns; ways = [] }
 

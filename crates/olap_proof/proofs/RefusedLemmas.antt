@@ -133,7 +133,8 @@ names_are_decided_once f k others run =
     (opened f k (codes "bottom Store" ∷ line ∷ line ∷ others) run)).1 in
     let p = start chain.graph 1 in
     let one = went_on f k line (line ∷ others) p [] tree in
-    let split = (name_split f k p one.0 one.1).1 ∙ ap (map (λ i. At (with_name p 1 i))) (first_index (length (k.texts 1))) in
+    let split =
+    (name_split f k p one.0 one.1).1 ∙ ap (map (λ i. At (with_name p 1 i))) (first_index (length (k.texts 1))) in
     let left = subst (λ os. Runs f chain city_not_by_store k (line ∷ others) (os ++ []) []) split one.2 in
     let two = went_on f k line others (with_name p 1 0)
     (map (λ i. At (with_name p 1 i)) (range_with_len 1 (length (k.texts 1))) ++ []) left in
@@ -156,8 +157,9 @@ dead_closes k p new (by_way a b e o i j u n) = absurd (let q : 100 ≡ 114 = ap 
 dead_closes k p new (by_reason l e a h n) = n
 
 -- Store is the root
-root_closes : (k : Candidates) (p : Place) (l : Line) → p.decided.root ≡ 1 → codes "loose Store City" ≡ line_text chain.graph l
-    → IsAbout chain l → Closes Long chain city_not_by_store k p l → ⊥
+root_closes : (k : Candidates) (p : Place) (l : Line) → p.decided.root ≡ 1
+    → codes "loose Store City" ≡ line_text chain.graph l → IsAbout chain l
+    → Closes Long chain city_not_by_store k p l → ⊥
 root_closes k p (EdgeOrNot e) r q a h = h
 root_closes k p (NameOf c) r q a h = h
 root_closes k p (WayOrNot x y) r q a h = h
@@ -194,7 +196,8 @@ the_root_is_not_loose k others run =
     let left = subst (λ os. Runs Long chain city_not_by_store k (dead ∷ loose ∷ others) (os ++ []) []) split one.2 in
     let two = went_on Long k dead (loose ∷ others) (with_edge p 0 false) (At (with_edge p 0 true) ∷ []) left in
     let closed = dead_closes k (with_edge p 0 false) two.0 two.1 in
-    let last = subst (λ os. Runs Long chain city_not_by_store k (loose ∷ others) (os ++ At (with_edge p 0 true) ∷ []) [])
+    let last =
+    subst (λ os. Runs Long chain city_not_by_store k (loose ∷ others) (os ++ At (with_edge p 0 true) ∷ []) [])
     closed two.2 in
     let three = went_on Long k loose others (with_edge p 0 true) [] last in
     root_loose k (with_edge p 0 true) three.0 refl three.1

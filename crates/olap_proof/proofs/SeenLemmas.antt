@@ -51,7 +51,8 @@ seen_possible t k l h =
 pub present_seen : (t : Decided) (ds : List OneDecision) (c d : ℕ) → t.decisions ≡ decisions_of ds
     → Contains (present_edges t) (record { child = c; parent = d }) → SeenDecisions t.graph ds (length ds) c d
 present_seen t ds c d e h =
-    let m = Contains-from_map (λ (x : Decision). edge_at t.graph x.edge) (filter (λ (x : Decision). x.present) t.decisions)
+    let m =
+    Contains-from_map (λ (x : Decision). edge_at t.graph x.edge) (filter (λ (x : Decision). x.present) t.decisions)
     (record { child = c; parent = d }) h in
     let u = Contains-from_filter (λ (x : Decision). x.present) t.decisions m.0 m.1 in
     let w = Contains-from_map decision_of ds m.0 (subst (λ xs. Contains xs m.0) e u.0) in
@@ -72,7 +73,8 @@ pub way_seen : (ways : List Way) (c d : ℕ)
 way_seen ways c d h =
     let m = Contains-from_map edge_of_way (filter (λ (x : Way). x.there) ways) (record { child = c; parent = d }) h in
     let u = Contains-from_filter (λ (x : Way). x.there) ways m.0 m.1 in
-    subst (λ x. Contains ways x) (whole m.0 c d true (ap (λ (x : Edge). x.child) m.2) (ap (λ (x : Edge). x.parent) m.2) u.1)
+    subst (λ x. Contains ways x)
+    (whole m.0 c d true (ap (λ (x : Edge). x.child) m.2) (ap (λ (x : Edge). x.parent) m.2) u.1)
     u.0
 
 -- so each step was seen

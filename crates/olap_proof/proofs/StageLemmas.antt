@@ -177,7 +177,8 @@ module _ (f : Form) (a : Asked) where
     too_early = λ z. absurd (not_empty line others (sym e ∙ z));
     stuck = λ l more left i run.
         let p = parted 10 l more line others
-        (first_whole f (schema_in a) (question_in a) (names_in a) h few l (open_at a from) left run) whole (sym i ∙ e) in
+        (first_whole f (schema_in a) (question_in a) (names_in a) h few l (open_at a from) left run) whole
+        (sym i ∙ e) in
         nothing left (subst (λ x. RunsFor f a (x ∷ []) (open_at a from) left) p.0 run);
   }
 

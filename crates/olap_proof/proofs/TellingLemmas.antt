@@ -42,7 +42,8 @@ leading_within g k p h w e c = elim (Contains-append_cases (present_edges p.deci
           let u = (Contains-from_filter (λ (d : Decision). d.present) p.decided.decisions m.0 m.1).0 in
           let inside : m.0.edge < length g.edges =
           subst (λ (d : Decision). d.edge < length g.edges) u.2 (w.edges u.0 m.0 u.1) in
-          let ends = h.categories (edge_at g m.0.edge).child (edge_at g m.0.edge).parent (edge_there g m.0.edge inside) in
+          let ends =
+          h.categories (edge_at g m.0.edge).child (edge_at g m.0.edge).parent (edge_there g m.0.edge inside) in
           let same : edge_at g m.0.edge ≡ e = ap (λ (x : Graph). edge_at x m.0.edge) (sym w.graph) ∙ m.2 in
           subst (λ (x : Edge). IsCategory g x.child × IsCategory g x.parent) same ends
       | inr a ↦

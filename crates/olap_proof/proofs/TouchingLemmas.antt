@@ -183,7 +183,8 @@ end_of p c d x h end = later (x == p.decided.root)
 
 -- what was touched is what is known
 pub known_is : (p : Place) (ds : List OneDecision) (n : ℕ) → p.decided.decisions ≡ decisions_of ds
-    → ((c d : ℕ) → LeadsHere p.ways c d → c < n) → (first mid new : FinSet nat_cmp) → first ≡ insert empty p.decided.root
+    → ((c d : ℕ) → LeadsHere p.ways c d → c < n) → (first mid new : FinSet nat_cmp)
+    → first ≡ insert empty p.decided.root
     → ((x : ℕ) → IsIn mid x ↔ TouchedByDecisions first p.decided.graph ds (length ds) x)
     → ((x : ℕ) → IsIn new x ↔ TouchedFrom mid (LeadsHere p.ways) n x)
     → (x : ℕ) → IsIn new x ↔ (is_known p x ≡ true)
@@ -219,5 +220,6 @@ known_is p ds n listed within first mid new begun byDecisions byWays x = (
     found w = elim (leading_seen p ds listed w.0.child w.0.parent w.1) [
       | inl s ↦ (byWays x).1 (inl ((byDecisions x).1
           (inr (s.0, s.1, s.2, moved s.3 s.4 (ends w.0.child w.0.parent w.2)))))
-      | inr s ↦ (byWays x).1 (inr (w.0.child, w.0.parent, within w.0.child w.0.parent s, s, ends w.0.child w.0.parent w.2))
+      | inr s ↦
+          (byWays x).1 (inr (w.0.child, w.0.parent, within w.0.child w.0.parent s, s, ends w.0.child w.0.parent w.2))
     ]

@@ -23,8 +23,8 @@ use Rattle.olap_proof.proofs.StepLemmas.{FirstStep, FirstStep.first, first_step,
 module _ (f : Form) (s : Schema) (q : Formula) (k : Candidates) (hier : IsHierarchy s.graph)
     (few : length s.constraints < 2 ^ 64) where
   -- a line does one thing
-  steps_once : (line : List ℕ) (o : Open) (new other : List Open) → Steps f s q k line o new → Steps f s q k line o other
-      → new ≡ other
+  steps_once : (line : List ℕ) (o : Open) (new other : List Open) → Steps f s q k line o new
+      → Steps f s q k line o other → new ≡ other
   steps_once line Head new other a b = (step_head f s q k a refl).1 ∙ sym (step_head f s q k b refl).1
   steps_once line (Bottom r) new other a b = (step_bottom f s q k a r refl).1 ∙ sym (step_bottom f s q k b r refl).1
   steps_once line (At p) new other a b =
@@ -88,7 +88,8 @@ module _ (f : Form) (s : Schema) (q : Formula) (k : Candidates) (hier : IsHierar
         rest = sym e;
         counted = omega arith;
       })
-  one_behind (more {line = x} {lines = xs} {o = o} {new = new} {rest = rest} {end = a} step run) (y ∷ ys) b other r t e =
+  one_behind (more {line = x} {lines = xs} {o = o} {new = new} {rest = rest} {end = a} step run) (y ∷ ys) b other r t
+      e =
       go (λ z i. one_behind run ys b z r t i) (first_step f s q k other y ys refl)
     where
       go : (Runs f s q k ys (new ++ rest) b → ended xs ++ r ≡ ended ys ++ t → OneBehind xs ys a b r t)
@@ -103,7 +104,8 @@ module _ (f : Form) (s : Schema) (q : Formula) (k : Candidates) (hier : IsHierar
           let same : later ≡ new =
           steps_once x o later new (subst (λ l. Steps f s q k l o later) (sym cut.0) wo) step in
           let zo : Runs f s q k ys (new ++ rest) b =
-          subst (λ os. Runs f s q k ys (os ++ rest) b) same (subst (λ os. Runs f s q k ys (later ++ os) b) same_rest z) in
+          subst (λ os. Runs f s q k ys (os ++ rest) b) same
+          (subst (λ os. Runs f s q k ys (later ++ os) b) same_rest z) in
           longer x y xs ys a b r t (behind zo cut.1)
 
   -- ---- the verdict

@@ -83,7 +83,8 @@ neither false b h = (refl, h)
 pub grows_by : (g : Graph) (n : ℕ) (takes : ℕ → Bool) (child parent : ℕ → ℕ) (i : ℕ) (old mid new : FinSet nat_cmp)
     (grew now : Bool) → Grows g n (SeenUpTo takes child parent i) old mid grew
     → (takes i ≡ true → HasEdge g (child i) (parent i)) → parent i < n
-    → IsAdded mid (takes i) (child i) (parent i) grew new now → Grows g n (SeenUpTo takes child parent (i + 1)) old new now
+    → IsAdded mid (takes i) (child i) (parent i) grew new now
+    → Grows g n (SeenUpTo takes child parent (i + 1)) old new now
 grows_by g n takes child parent i old mid new grew now h edge small one = record {
   kept = λ x m. one.kept x (h.kept x m);
   sound = λ a all x m. elim (one.only x m) [
@@ -162,8 +163,8 @@ none_left old to less l e x m = go (contains old x) refl
         false_true (contains to x && not (contains old x)) nothing both)
 
 -- and after one category more
-pub grows_from : (g : Graph) (n : ℕ) (Leads : ℕ → ℕ → Type 0) (i : ℕ) (old mid new to : FinSet nat_cmp) (grew now : Bool)
-    → Grows g n (SeenFrom Leads i) old mid grew → ((d : ℕ) → IsIn to d ↔ Leads i d)
+pub grows_from : (g : Graph) (n : ℕ) (Leads : ℕ → ℕ → Type 0) (i : ℕ) (old mid new to : FinSet nat_cmp)
+    (grew now : Bool) → Grows g n (SeenFrom Leads i) old mid grew → ((d : ℕ) → IsIn to d ↔ Leads i d)
     → ((d : ℕ) → Leads i d → HasEdge g i d × (d < n)) → IsAddedFrom mid i to grew new now
     → Grows g n (SeenFrom Leads (i + 1)) old new now
 grows_from g n Leads i old mid new to grew now h set_is edge one = record {
@@ -242,7 +243,8 @@ missing_least old new kept (suc n) =
     go true k b l = subst (λ c. cond c (missing new n) (suc (missing new n)) ≤ missing old n) (sym (k refl)) l
     go false k b l = at (contains new n) l
       where
-        at : (c : Bool) → missing new n ≤ missing old n → cond c (missing new n) (suc (missing new n)) ≤ suc (missing old n)
+        at : (c : Bool) → missing new n ≤ missing old n
+            → cond c (missing new n) (suc (missing new n)) ≤ suc (missing old n)
         at true m = omega arith
         at false m = omega arith
 
@@ -252,8 +254,9 @@ pub missing_less : (old new : FinSet nat_cmp) → ((x : ℕ) → IsIn old x → 
 missing_less old new kept zero x l i not = absurd (omega arith)
 missing_less old new kept (suc n) x l i not =
     elim (last x n l) [
-      | inl e ↦ here (contains new n) (subst (λ y. IsIn new y) e i) (contains old n) (λ h. not (subst (λ y. IsIn old y) (sym e) h))
-          (missing_least old new kept n)
+      | inl e ↦
+          here (contains new n) (subst (λ y. IsIn new y) e i) (contains old n)
+          (λ h. not (subst (λ y. IsIn old y) (sym e) h)) (missing_least old new kept n)
       | inr b ↦ below (contains old n) (kept n) (contains new n) refl (missing_less old new kept n x b i not)
     ]
   where
@@ -294,8 +297,10 @@ pub record IsOnWay (g : Graph) (a : ℕ) (s : FinSet nat_cmp) (grows : Bool) : T
 -- so it is at first
 pub way_begins : (g : Graph) (a : ℕ) (s : FinSet nat_cmp) → s ≡ insert empty a → IsOnWay g a s true
 way_begins g a s e = record {
-  from = subst (λ z. IsIn z a) (sym e) (in_insert empty a a ∙ ap (λ b. b || contains {R = nat_cmp} empty a) (is_same a a refl));
-  reached = λ x i. elim (either_true (eqb x a) (contains {R = nat_cmp} empty x) (sym (in_insert empty a x) ∙ subst (λ z. IsIn z x) e i)) [
+  from = subst (λ z. IsIn z a) (sym e)
+      (in_insert empty a a ∙ ap (λ b. b || contains {R = nat_cmp} empty a) (is_same a a refl));
+  reached = λ x i. elim (either_true (eqb x a) (contains {R = nat_cmp} empty x)
+      (sym (in_insert empty a x) ∙ subst (λ z. IsIn z x) e i)) [
     | inl h ↦ inl (sym (same_is x a h))
     | inr h ↦ absurd (false_true (contains {R = nat_cmp} empty x) (contains-empty nat_cmp x) h)
   ];
@@ -313,7 +318,8 @@ way_goes_on g n Seen a old new grew h k all = record {
 }
 
 -- then it has all that is reached
-pub walk_done : (g : Graph) (a : ℕ) (s : FinSet nat_cmp) (grows : Bool) → grows ≡ false → IsOnWay g a s grows → IsWalk g a s
+pub walk_done : (g : Graph) (a : ℕ) (s : FinSet nat_cmp) (grows : Bool) → grows ≡ false → IsOnWay g a s grows
+    → IsWalk g a s
 walk_done g a s grows f h = λ x. (h.reached x, λ r. closed_walk g s (h.closed f) (Steps-from_reaches r) h.from)
 
 -- and less is missing

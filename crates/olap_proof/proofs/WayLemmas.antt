@@ -246,7 +246,8 @@ module _ (form : Form) (s : Schema) (q : Formula) (r : ℕ) (k : Candidates) (f 
       go : (o : Option (List ℕ)) → name_of k ns c ≡ o
           → Tells (told_name p c o text) (HasNameThere inst present place c text)
       go None e = tt
-      go (Some w) e = of_test w (agreeing.name_told s q r k f hier root one ds ns like.rest c w e) (bytes_eq w text) refl
+      go (Some w) e =
+          of_test w (agreeing.name_told s q r k f hier root one ds ns like.rest c w e) (bytes_eq w text) refl
           (is_known p c) refl
 
   pub number_is : (c : ℕ) (op : Op) (n : ℤ)
@@ -282,7 +283,8 @@ module _ (form : Form) (s : Schema) (q : Formula) (r : ℕ) (k : Candidates) (f 
   known_false : (c : ℕ) (w : Formula) → present c ≡ true → value_at (knowledge form k p) c w ≡ No
       → Holds inst (place c) w → ⊥
   known_false c w h e = subst (λ x. Tells x (Holds inst (place c) w)) e
-      (values_are_truths (knowledge form k p) inst present place (made.chosen_shape s.graph r es ch name) completes c h w)
+      (values_are_truths (knowledge form k p) inst present place (made.chosen_shape s.graph r es ch name) completes
+      c h w)
 
   -- ---- where a line closes
 
@@ -330,7 +332,8 @@ module _ (form : Form) (s : Schema) (q : Formula) (r : ℕ) (k : Candidates) (f 
 
   -- a way that is there has a first step
   steps_none : (a b : ℕ) → a ≢ b
-      → All (λ e. (status_of t e ≡ Some false) ⊎ (reached form p (edge_at s.graph e).parent b ≡ No)) (edges_from s.graph a)
+      → All (λ e. (status_of t e ≡ Some false) ⊎ (reached form p (edge_at s.graph e).parent b ≡ No))
+      (edges_from s.graph a)
       → Leads s r f a b → ⊥
   steps_none a b n all l = go l.1 refl refl
     where
@@ -340,7 +343,8 @@ module _ (form : Form) (s : Schema) (q : Formula) (r : ℕ) (k : Candidates) (f 
           let i = edge_from s f a z (subst (λ m. Joins es m z) u j) in
           let m = i.1 in
           let rest' : Steps (Joins es) z b = subst (λ m. Steps (Joins es) z m) w rest in
-          let reason = subst (λ e. (status_of t e ≡ Some false) ⊎ (reached form p (edge_at s.graph e).parent b ≡ No)) m.2
+          let reason =
+          subst (λ e. (status_of t e ≡ Some false) ⊎ (reached form p (edge_at s.graph e).parent b ≡ No)) m.2
           (all m.0 i.0 m.1) in
           elim reason [
             | inl h ↦ status_absent i.0 h i.2

@@ -28,5 +28,7 @@ returns-else-does-clause-none c = λ n.
     let p = c.args.known.now in
     does_once p.form (schema_at p c.args.constraints.now) (formula_of c.args.question.now)
     (candidates_of p.candidates.now) p.place.now c.args.bytes.now (said c.in_ok-line.line)
-    c.categories-graph.ensures.hierarchy (subst (λ n. n < 2 ^ 64) (sym (length-map c.args.constraints.now constraint_of)) c.counted-few.ensures) c.in_ok-line.ensures.0 c.in_ok-line.ensures.1
+    c.categories-graph.ensures.hierarchy
+    (subst (λ n. n < 2 ^ 64) (sym (length-map c.args.constraints.now constraint_of)) c.counted-few.ensures)
+    c.in_ok-line.ensures.0 c.in_ok-line.ensures.1
     (λ d. let z : true ≡ false = sym (c.does.ensures.1 d) ∙ c.if-does.false in cc)

@@ -9,4 +9,6 @@ returns-in-Some c =
     (λ t. same.0 (c.makes_shortcut.ensures.0 t), λ h. c.makes_shortcut.ensures.1 (same.1 h))
 
 pub returns-in-None : goal.returns-in-None
-returns-in-None c = (λ t. cc, λ h. absurd (no_shortcut (present_graph c.args.place.now.decided) (c.in-None.ensures.none refl) h))
+returns-in-None c =
+    let none = no_shortcut (present_graph c.args.place.now.decided) (c.in-None.ensures.none refl) in
+    (λ t. cc, λ h. absurd (none h))

@@ -101,8 +101,9 @@ returns-after-names-clause-tree t c =
     (adds_names c.args.form s (question_in a) (names_in a) p d.0 c.args.out.now.items
     c.push_bounded-in-Some-next_name.new.out.items c.names.out.items c.in-Some-next_name.ensures.some.0
     c.in-Some-next_name.ensures.some.1 c.in_ok-push_bounded-3.ensures
-    (subst (λ n. Adds c.args.form s (question_in a) (names_in a) (map (λ i. At (with_name p d.0 i)) (range_with_len 0 n))
-    c.push_bounded-in-Some-next_name.new.out.items c.names.out.items) all c.names.invariant.written))
+    (subst (λ n. Adds c.args.form s (question_in a) (names_in a)
+    (map (λ i. At (with_name p d.0 i)) (range_with_len 0 n)) c.push_bounded-in-Some-next_name.new.out.items
+    c.names.out.items) all c.names.invariant.written))
 
 pub returns-in_default-next_name-clause-tree : goal.returns-in_default-next_name-clause-tree
 returns-in_default-next_name-clause-tree t c =

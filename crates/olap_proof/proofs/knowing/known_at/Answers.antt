@@ -24,8 +24,8 @@ returns c =
     let first = members c.with-known.result in
     let mid = members c.touch_decisions.new.set in
     known_is p ds c.categories-count.result (sym c.decisions-decisions.ensures.list)
-    (λ a b h. subst (λ n. a < n) (sym c.categories-count.ensures.count) (c.requires.ways (leading_way a b) h).0) first mid
-    (members c.touch_ways.new.set)
+    (λ a b h. subst (λ n. a < n) (sym c.categories-count.ensures.count) (c.requires.ways (leading_way a b) h).0)
+    first mid (members c.touch_ways.new.set)
     (c.with-known.ensures ∙ ap (λ s. insert s c.args.root.0) c.empty.ensures ∙ ap (insert empty) (sym c.requires.root))
     (subst (λ (g : Graph). (x : ℕ) → IsIn mid x ↔ TouchedByDecisions first g ds (length ds) x) (sym c.requires.graph)
     c.touch_decisions.ensures)

@@ -13,4 +13,5 @@ returns-in-Some c =
 
 pub returns-in_default : goal.returns-in_default
 returns-in_default c =
-    touched_from_none (members c.args.set.now) (members c.args.parents.now) c.args.child.0 (c.in_default.ensures.none.0 refl)
+    touched_from_none (members c.args.set.now) (members c.args.parents.now) c.args.child.0
+    (c.in_default.ensures.none.0 refl)

@@ -6,7 +6,8 @@ pub returns-then-is_bottom-clause-some : goal.returns-then-is_bottom-clause-some
 returns-then-is_bottom-clause-some c =
     c.categories.invariant
     ∙ bottoms_here c.args.graph.now c.categories.c
-    (omega (arith, c.categories-test.true, c.categories-c-end.ensures.count)) (c.is_bottom.ensures.0 c.if-is_bottom.true)
+    (omega (arith, c.categories-test.true, c.categories-c-end.ensures.count))
+    (c.is_bottom.ensures.0 c.if-is_bottom.true)
 
 pub categories-preserved : goal.categories-preserved
 categories-preserved c =

@@ -42,9 +42,10 @@ returns c =
     (seen_present p ds listed k l h)) in
     let second = subst (λ m. Grows lead m (SeenFrom (LeadsHere p.ways) m) mid new b) c.categories-count.ensures.count
     (c.grow_by_ways-by_ways.ensures lead (seen_way p)) in
-    grows_on lead n (λ x y. SeenDecisions graph ds (length ds) x y ⊎ SeenFrom (LeadsHere p.ways) n x y) (HasEdge lead) old new
-    (a || b) (grows_then lead n (SeenDecisions graph ds (length ds)) (SeenFrom (LeadsHere p.ways) n) old mid new a b first
-    second)
+    grows_on lead n (λ x y. SeenDecisions graph ds (length ds) x y ⊎ SeenFrom (LeadsHere p.ways) n x y)
+    (HasEdge lead) old new (a || b)
+    (grows_then lead n (SeenDecisions graph ds (length ds)) (SeenFrom (LeadsHere p.ways) n) old mid new a b
+    first second)
     (λ x y e. elim (leading_seen p ds listed x y e) [
       | inl s ↦ inl (subst (λ (g : Graph). SeenDecisions g ds (length ds) x y) c.requires.graph s)
       | inr s ↦ inr ((c.requires.ways (leading_way x y) s).0, s)

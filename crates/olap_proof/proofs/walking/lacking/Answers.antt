@@ -14,7 +14,8 @@ returns-clause-some c = go c.first.result c.first.ensures.least
     go : (o : Option ℕ) → IfSome o (IsLeast (members c.minus.result))
         → IfSome o (λ x. IsIn (members c.args.from.now) x × (IsIn (members c.args.set.now) x → ⊥))
     go None h = h
-    go (Some x) h = one_left (members c.args.set.now) (members c.args.from.now) (members c.minus.result) x c.minus.ensures
+    go (Some x) h =
+        one_left (members c.args.set.now) (members c.args.from.now) (members c.minus.result) x c.minus.ensures
         h.is_one
 
 pub returns-clause-none : goal.returns-clause-none

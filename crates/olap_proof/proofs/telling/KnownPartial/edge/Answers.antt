@@ -8,9 +8,9 @@ use Rattle.olap_proof.proofs.telling.KnownPartial.edge.Goals as goal
 pub returns-then-c-categories : goal.returns-then-c-categories
 returns-then-c-categories c =
     let s = c.args.self.now in
-    ap (told_between s.place.now.decided) (sym (no_edge_out s.graph.now s.place.now.decided c.categories.ensures.hierarchy
-    s.within.graph c.args.c.0 c.args.d.0
-    (λ l. omega (arith, l, c.categories.ensures.count, c.if-c-categories.true))))
+    ap (told_between s.place.now.decided)
+    (sym (no_edge_out s.graph.now s.place.now.decided c.categories.ensures.hierarchy s.within.graph c.args.c.0
+    c.args.d.0 (λ l. omega (arith, l, c.categories.ensures.count, c.if-c-categories.true))))
 
 pub status-requires : goal.status-requires
 status-requires c =
