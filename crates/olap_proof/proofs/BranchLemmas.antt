@@ -192,9 +192,9 @@ branch_split {g} {k} {p} {t} {xs} {ys} x {cases} h legal e pushed all =
 -- after the one place there is open, of the tree, what was open after the other
 pub record IsStillOpen (g : Graph) (k : Named) (q : Place) (ys : List Choice) (p : Place) (xs : List Choice) : Type 0
   where
-  pub branch : IsBranch g k p xs
-  pub first : first_of p ≡ first_of q
-  pub left : (acc : List Open) → left_open k (first_of q) ys acc ≡ left_open k (first_of p) xs acc
+    pub branch : IsBranch g k p xs
+    pub first : first_of p ≡ first_of q
+    pub left : (acc : List Open) → left_open k (first_of q) ys acc ≡ left_open k (first_of p) xs acc
 
 module _ {g : Graph} {k : Named} {q p r : Place} {ys all xs : List Choice} {x : Choice} where
   -- so it is without a last choice that has no case after it

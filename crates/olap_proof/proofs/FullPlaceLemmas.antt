@@ -2,47 +2,41 @@
 --     value_of_place     the edges and the names that were decided, as a value
 --     truth_at           a formula that isn't known to be false is true
 --     frozen_there       what was decided is a frozen dimension, if no line on formulas closes either
-use Rattle.std.proofs.Common.{◌≡◌, ℕ, ℤ, zero, suc, ◌<◌, ◌≤◌, List, [], ◌∷◌, length, map, get_or, Bool, true, false, cond, Option, Some, None, refl, ap, sym, subst, ◌∙◌, ◌⊎◌, inl, inr, arith}
-use Rattle.std.specs.Prelude.{All, Contains, ◌==◌, ◌&&◌, ◌||◌, ◌≢◌, codes, filter}
-use Rattle.std.specs.List.{list_any, range_with_len}
+use Rattle.std.proofs.Common.{◌≡◌, ℕ, ℤ, zero, suc, ◌<◌, ◌≤◌, List, [], length, map, get_or, Bool, true, false, cond, Option, Some, None, refl, ap, sym, subst, ◌∙◌, inl, inr, arith}
+use Rattle.std.specs.Prelude.{◌&&◌, ◌||◌, ◌≢◌, codes}
+use Rattle.std.specs.List.{range_with_len}
 use Rattle.std.specs.Str.{bytes_eq}
-use Rattle.std.proofs.lemmas.Bool.{ne_eqb}
 use Rattle.std.proofs.lemmas.List.{length-map}
-use Rattle.std.proofs.lemmas.List.Elements.{All-contains, All-cons, All-nil, Contains-append_cases, Contains-append_left, Contains-get_or}
 use Rattle.std.proofs.lemmas.List.FromFn.{get_or-map-range_with_len, length-range_with_len}
 use Rattle.std.proofs.lemmas.Slice.Eq.{bytes_eq-Decides}
-use native.Mathlib.Decide.{ℕ_discrete}
-use Rattle.olap_base.specs.Deciding.{contains_cases, contains_cons, decide_category_reaches}
-use Rattle.olap_base.specs.Graph.{CategoryReaches, Edge, Graph, HasEdge, IsCategory, IsHierarchy, category_count, is_number}
+use Rattle.olap_base.specs.Graph.{Edge, Graph, HasEdge, IsHierarchy, category_count, is_number}
 use Rattle.olap_base.specs.Instance.{Instance}
 use Rattle.olap_base.specs.Reaching.{category_reaches, category_reaches_is}
-use Rattle.olap_base.specs.Steps.{Climb, Climb.climb, Steps, Steps.here, Steps.step, Steps-append, Steps-from_reaches, reaches_from_Steps}
-use Rattle.olap_base.proofs.ListLemmas.{Contains-filter, Contains-from_filter, Contains-from_map, Contains-from_range, Contains-map, Contains-nil, Contains-range, Distinct, Distinct-from_AllPairs, contains_head}
+use Rattle.olap_base.specs.Steps.{Steps, Steps-from_reaches, reaches_from_Steps}
 use Rattle.olap_ast.specs.Constants.{IsNameOf}
 use Rattle.olap_proof.proofs.KindLemmas.{name_of_kind}
 use Rattle.olap_ast.specs.Formula.{Formula, Holds, IsNumbered}
-use Rattle.olap_ast.specs.Frozen.{AreCandidates, Candidates, Frozen, IsFrozen, chosen, instance_of, is_present, name_in, text_of_index}
+use Rattle.olap_ast.specs.Frozen.{AreCandidates, Candidates, Frozen, IsFrozen, instance_of, is_present, name_in, text_of_index}
 use Rattle.olap_ast.specs.Schema.{Schema}
-use Rattle.olap_ast.proofs.Shape.{either_true, is_same, left_true, list_any_is, right_true, same_is}
+use Rattle.olap_ast.proofs.Shape.{either_true, right_true, same_is}
 use Rattle.olap_ast.specs.declared.three_values.Truth3.TheVariants.{No, Yes, Unknown}
 use Rattle.olap_eval.specs.Partial.{Agrees as Tells, Completes, value_at}
 use Rattle.olap_eval.specs.Shapes.{HasEdgeThere, HasNameThere, HasNumberThere, ReachesThere}
 use Rattle.olap_eval.proofs.PartialLemmas.{values_are_truths}
 use Rattle.olap_frozen.specs.Chosen.{AreNames, IsChoice, IsMet, IsSound, Joins, place_of}
 use Rattle.olap_frozen.proofs.ChosenInstance as made
-use Rattle.olap_frozen.proofs.ChosenLemmas.{bit_joins, choice_of, chosen_place, edge_inside, no_edge_joins, place_chosen}
-use Rattle.olap_graph.specs.Lookups.{edge_at, edge_between, edges_from}
+use Rattle.olap_frozen.proofs.ChosenLemmas.{bit_joins, edge_inside, no_edge_joins}
+use Rattle.olap_graph.specs.Lookups.{edge_between}
 use Rattle.olap_names.specs.Names.{name_at}
 use Rattle.olap_numerals.specs.Comparing.{Op}
-use Rattle.olap_trail.specs.Decisions.{Decided, Decision, HoldsCycle, HoldsShortcut, present_edges, present_graph, status_in, status_of}
+use Rattle.olap_trail.specs.Decisions.{Decided, Decision, status_in}
 use Rattle.olap_proof.specs.declared.forms.Form.{Form}
 use Rattle.olap_proof.specs.declared.forms.Form.TheVariants.{Long, Short}
 use Rattle.olap_proof.specs.FullPlaces.{IsFull}
-use Rattle.olap_proof.specs.Lines.{IsDead, IsLoose, IsUnmetAt}
-use Rattle.olap_proof.specs.Places.{Naming, Place, index_of, indexed, is_known, is_numbered, is_possible, is_top, knowledge, leading, leading_graph, name_of, possible_graph, reached, told, told_between, told_name, told_number}
-use Rattle.olap_proof.proofs.AgreeingLemmas.{status_some, walk_present, wider, wider_climb}
+use Rattle.olap_proof.specs.Lines.{IsUnmetAt}
+use Rattle.olap_proof.specs.Places.{Naming, Place, index_of, indexed, is_known, is_numbered, is_top, knowledge, leading, leading_graph, name_of, possible_graph, reached, told, told_between, told_name, told_number}
+use Rattle.olap_proof.proofs.AgreeingLemmas.{walk_present, wider}
 use Rattle.olap_proof.proofs.NumberTests.{numbered_is}
-use Rattle.olap_proof.proofs.TallyLemmas.{false_from, tally, tally_more}
 use Rattle.olap_proof.proofs.ToldLemmas.{IsTold, formula_told, truth_told, unmet_listed}
 use Rattle.olap_proof.proofs.ChosenEdgeLemmas as laws
 use Rattle.olap_proof.proofs.ChosenEdgeLemmas.{bit_of, bits_of, edges_chosen}

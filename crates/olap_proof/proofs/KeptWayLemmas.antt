@@ -6,9 +6,9 @@
 --     tables_last                    the last decision
 --     tables_pop, tables_written     the tables with one less
 --     leads_is                       the ways that are there
-use Rattle.std.proofs.Common.{◌≡◌, ◌≢◌, ℕ, zero, suc, ◌<◌, ◌⊎◌, ◌↔◌, ◌++◌, List, [], ◌∷◌, Bool, true, false, Option, None, Some, arith, drop, length, map, replicate, take, set, eqb, refl, ap, sym, subst, ◌∙◌, inl, inr}
+use Rattle.std.proofs.Common.{◌≡◌, ◌≢◌, ℕ, zero, suc, ◌<◌, ◌↔◌, ◌++◌, List, [], ◌∷◌, Bool, true, false, Option, None, Some, arith, drop, length, map, replicate, take, set, eqb, refl, ap, sym, subst, ◌∙◌, inl, inr}
 use Rattle.std.specs.Prelude.{◌==◌, ◌&&◌, ◌||◌, Contains, if◌then◌else◌, not}
-use Rattle.std.specs.FinSet.{FinSet, contains, contains-empty, empty, insert, remove}
+use Rattle.std.specs.FinSet.{contains, contains-empty, empty, insert, remove}
 use Rattle.std.specs.Ordering.{nat_cmp}
 use Rattle.std.proofs.lemmas.List.{length-replicate, map_push, take_at}
 use Rattle.std.proofs.lemmas.List.Elements.{Contains-append_left, Contains-push, Contains-push_cases}

@@ -4,7 +4,7 @@
 --     touched_some, touched_from_none    what adding all that a category leads to does, and it
 --     touched_more                  one category more
 --     known_is                      what was touched is what is known
-use Rattle.std.proofs.Common.{◌≡◌, ℕ, ◌+◌, ◌<◌, ◌⊎◌, ◌↔◌, List, length, map, Bool, true, false, eqb, refl, ap, sym, subst, ◌∙◌, inl, inr, arith}
+use Rattle.std.proofs.Common.{◌≡◌, ℕ, ◌+◌, ◌<◌, ◌⊎◌, ◌↔◌, List, length, Bool, true, false, eqb, refl, ap, sym, subst, ◌∙◌, inl, inr, arith}
 use Rattle.std.specs.Prelude.{◌||◌, ◌==◌, Contains}
 use Rattle.std.specs.FinSet.{FinSet, contains, contains-empty, empty, insert, union}
 use Rattle.std.specs.List.{list_any}

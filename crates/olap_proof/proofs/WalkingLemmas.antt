@@ -301,9 +301,9 @@ way_begins g a s e = record {
       (in_insert empty a a ∙ ap (λ b. b || contains {R = nat_cmp} empty a) (is_same a a refl));
   reached = λ x i. elim (either_true (eqb x a) (contains {R = nat_cmp} empty x)
       (sym (in_insert empty a x) ∙ subst (λ z. IsIn z x) e i)) [
-    | inl h ↦ inl (sym (same_is x a h))
-    | inr h ↦ absurd (false_true (contains {R = nat_cmp} empty x) (contains-empty nat_cmp x) h)
-  ];
+        | inl h ↦ inl (sym (same_is x a h))
+        | inr h ↦ absurd (false_true (contains {R = nat_cmp} empty x) (contains-empty nat_cmp x) h)
+      ];
   closed = λ f. absurd (let z : true ≡ false = f in cc);
 }
 

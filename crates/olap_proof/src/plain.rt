@@ -117,11 +117,5 @@ pub fn plain_certificate(
     ensures { IfOk result (IsCertificateFor form (schema_of schema.now) target.0 (numbers_of sources.now)) }
 {
     let question = not_by_one(alloc, target, sources)?;
-    plain_by_names(
-        alloc,
-        schema.graph(),
-        schema.constraints(),
-        &question,
-        form,
-    )
+    plain_by_names(alloc, schema.graph(), schema.constraints(), &question, form)
 }

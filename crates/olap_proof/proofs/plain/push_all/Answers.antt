@@ -20,7 +20,7 @@ categories-preserved c =
     let small : b < category_count a.graph.now =
     omega (arith, c.categories-test.true, c.categories-b-end.ensures.count) in
     let so : List ℕ → Type 0 = λ new. Adds c.args.form (schema_in a) (question_in a) (names_in a)
-        (map Bottom (first_bottoms a.graph.now (b + 1 - 1))) from new in
+    (map Bottom (first_bottoms a.graph.now (b + 1 - 1))) from new in
     elim c.if-is_bottom.branch [
       | then-is_bottom+in_ok-push_tree w ↦
           subst (λ o. so o.items) (sym w.out-is)

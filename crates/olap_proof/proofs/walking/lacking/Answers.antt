@@ -1,7 +1,5 @@
 -- The least number of what is left without the set.
 use Rattle.std.proofs.Common.{Option, None, Some, ℕ, IfSome}
-use Rattle.std.specs.FinSet.{FinSet, difference}
-use Rattle.std.specs.Ordering.{nat_cmp}
 use Rattle.olap_bits.specs.CatSet.{IsLeast}
 use Rattle.olap_bits.specs.Sets.{members}
 use Rattle.olap_proof.specs.Walking.{IsIn}
