@@ -10,7 +10,8 @@ use olap_base::{CatId, Memory};
 use olap_dimsat::Search;
 use olap_frozen::Frozen;
 use olap_plain::Search as PlainSearch;
-use olap_schema::{Schema, read_formula, read_schema};
+use olap_schema::Schema;
+use olap_schema_text::{read_formula, read_schema};
 use std::alloc::Global;
 use std::test::Fail;
 

@@ -18,8 +18,8 @@ use Rattle.olap_dimensions.specs.Dimensions.{AreCategoriesOf, no_schema}
 use Rattle.olap_dimensions.specs.Found.{AreSized, chosen_of}
 use Rattle.olap_frozen.specs.declared.founding.Found.{Found}
 use Rattle.olap_frozen.specs.declared.frozen.Room.{Room}
-use Rattle.olap_schema.specs.Lines.{is_control}
-use Rattle.olap_schema.specs.PrintingLaws.{AreTexts}
+use Rattle.olap_schema.specs.Readable.{is_control}
+use Rattle.olap_schema.specs.Readable.{AreTexts}
 use Rattle.olap_cube_cex.specs.Founds.{AreDrawn, AreFound, IsDrawn, IsFoundOf}
 
 -- ---- categories

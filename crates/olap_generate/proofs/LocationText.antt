@@ -12,11 +12,11 @@ use Rattle.olap_grammar.specs.CuttingMachine.{tokens_of}
 use Rattle.olap_grammar.specs.Machine.{the_formula}
 use Rattle.olap_grammar.specs.Nodes.{nodes_behind}
 use Rattle.olap_grammar.specs.Words.{equality_of, id_of, is_number_token, pieces_of, plain_of}
-use Rattle.olap_schema.specs.Atoms.{atom_fault, is_no_atom, is_repeated, lacks_edge, stands_in, word_fault}
-use Rattle.olap_schema.specs.Judging.{Above, first_stuck, form_read, line_read, lines_on, nothing_above, Read, schema_read, statement_read, text_ended, whole}
-use Rattle.olap_schema.specs.Lines.{chomped, is_quiet, lines_of}
-use Rattle.olap_schema.specs.Statements.{statement_of}
-use Rattle.olap_schema.specs.Tokens.{is_bad_number, is_long}
+use Rattle.olap_schema_text.specs.Atoms.{atom_fault, is_no_atom, is_repeated, lacks_edge, stands_in, word_fault}
+use Rattle.olap_schema_text.specs.Judging.{Above, first_stuck, form_read, line_read, lines_on, nothing_above, Read, schema_read, statement_read, text_ended, whole}
+use Rattle.olap_schema_text.specs.Lines.{chomped, is_quiet, lines_of}
+use Rattle.olap_schema_text.specs.Statements.{statement_of}
+use Rattle.olap_schema_text.specs.Tokens.{is_bad_number, is_long}
 use Rattle.olap_grammar.specs.declared.tokens.Token.TheVariants as token
 use Rattle.olap_generate.specs.Location.{city, country, location_lines, location_text}
 use Rattle.olap_generate.proofs.Location.{location_graph, location_schema}

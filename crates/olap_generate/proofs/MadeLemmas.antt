@@ -25,7 +25,7 @@ use Rattle.olap_instance.specs.InstanceText.{instance_read}
 use Rattle.olap_instance.specs.Made.{IsMadeFor}
 use Rattle.olap_records.specs.Records.{records_of}
 use Rattle.olap_records.specs.Texts.{text_of_rows}
-use Rattle.olap_schema.specs.Judging.{schema_read}
+use Rattle.olap_schema_text.specs.Judging.{schema_read}
 use Rattle.olap_view.specs.RollingUp.{AreRolledUp}
 use Rattle.olap_generate.specs.Location.{city, location_text, province, state}
 use Rattle.olap_generate.specs.Members.{fact_rows, member_rows, value}

@@ -7,7 +7,7 @@ use Rattle.olap_base.specs.Limits.{most_facts, most_generated}
 use Rattle.olap_base.specs.Views.{Fact}
 use Rattle.olap_facts.specs.FactText.{facts_read_within}
 use Rattle.olap_instance.specs.InstanceText.{instance_read}
-use Rattle.olap_schema.specs.Judging.{schema_read}
+use Rattle.olap_schema_text.specs.Judging.{schema_read}
 use Rattle.olap_generate.specs.Location.{location_text}
 use Rattle.olap_generate.specs.Members.{fact_rows, member_rows}
 

@@ -7,7 +7,7 @@ use Rattle.olap_base.specs.Instance.{Instance}
 use Rattle.olap_base.specs.Views.{Fact, View}
 use Rattle.olap_instance.specs.InstanceText.{instance_read}
 use Rattle.olap_instance.specs.Made.{IsMadeFor}
-use Rattle.olap_schema.specs.Judging.{schema_read}
+use Rattle.olap_schema_text.specs.Judging.{schema_read}
 use Rattle.olap_generate.specs.Generated.{stored_views}
 use Rattle.olap_generate.specs.Inputs.{IsMade}
 use Rattle.olap_generate.specs.Location.{location_text}

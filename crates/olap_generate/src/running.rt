@@ -1,6 +1,6 @@
 // The made input, step by step: the readers, the check, and the stored views as a text.
 ghost use Rattle.std.specs.Prelude.{◌≡◌, ◌<◌, All, IfOk, Ok, length};
-ghost use Rattle.olap_schema.specs.Judging.{schema_read};
+ghost use Rattle.olap_schema_text.specs.Judging.{schema_read};
 ghost use Rattle.olap_schema.specs.Schemas.{schema_of};
 ghost use Rattle.olap_view.specs.Seen.{each_view_of, views_of};
 ghost use Rattle.olap_view.specs.Stores.{IsSoundStore};
@@ -14,7 +14,8 @@ use olap_base::{CatId, List, Memory};
 use olap_check::{CheckRefusal, Legal, check};
 use olap_facts::FactRefusal;
 use olap_instance::{InstanceRefusal, read_instance};
-use olap_schema::{Schema, SchemaRefusal, read_schema};
+use olap_schema::Schema;
+use olap_schema_text::{SchemaRefusal, read_schema};
 use olap_view::{
     Store, StoreRefusal, View, direct_views_are_read_back, print_store, read_store, roll_up,
 };

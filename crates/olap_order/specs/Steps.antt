@@ -13,9 +13,9 @@ use Rattle.olap_base.specs.Naming.{Fault}
 use Rattle.olap_ast.specs.Formula.{Formula}
 use Rattle.olap_ast.specs.Schema.{Schema}
 use Rattle.olap_graph.specs.Lookups.{category_named}
-use Rattle.olap_schema.specs.Judging.{question_read, schema_read}
-use Rattle.olap_schema.specs.declared.kinds.SchemaKind.{SchemaKind}
-use Rattle.olap_schema.specs.Kinds.{name_of_kind as schema_kind}
+use Rattle.olap_schema_text.specs.Judging.{question_read, schema_read}
+use Rattle.olap_schema_text.specs.declared.kinds.SchemaKind.{SchemaKind}
+use Rattle.olap_schema_text.specs.Kinds.{name_of_kind as schema_kind}
 use Rattle.olap_order.specs.Order.{Order, Done, Read, and_then, ok_or, refused}
 
 -- what has that number, and the name of its fault

@@ -6,7 +6,7 @@ ghost use Rattle.olap_ast.specs.Formula.{equalities};
 ghost use Rattle.olap_ast.specs.Trees.{formula_of, numbers_of};
 ghost use Rattle.olap_ast.specs.Valid.{IsQuestion};
 ghost use Rattle.olap_base.specs.Graph.{IsCategory, IsDeclared};
-ghost use Rattle.olap_schema.specs.PrintingLaws.{AreTexts};
+ghost use Rattle.olap_schema.specs.Readable.{AreTexts};
 ghost use Rattle.olap_schema.specs.Schemas.{schema_of};
 ghost use Rattle.olap_order.specs.Steps.{another_word, category_word, different_words, formula_word, root_word};
 ghost use Rattle.olap_order.specs.Taken.{PlainStep};
@@ -15,7 +15,8 @@ ghost use Rattle.olap_order.specs.Words.{texts};
 use crate::replies::{Stop, refuse_at};
 use olap_ast::Formula;
 use olap_base::CatId;
-use olap_schema::{FormulaRefusal, Schema, read_formula};
+use olap_schema::Schema;
+use olap_schema_text::{FormulaRefusal, read_formula};
 use std::alloc::Global;
 
 /// The category that the word of this number names.

@@ -11,7 +11,8 @@ ghost use Rattle.olap_order.specs.declared.replies.Stop.TheVariants as stops;
 
 use crate::replies::{Stop, refuse_long, refuse_part};
 use olap_base::{FetchError, Library, MOST_FILE_BYTES, fetch};
-use olap_schema::{Schema, SchemaRefusal, read_schema};
+use olap_schema::Schema;
+use olap_schema_text::{SchemaRefusal, read_schema};
 use std::alloc::Global;
 
 /// A file of the library; none where it is too long.

@@ -13,7 +13,7 @@ use Rattle.olap_instance.specs.InstanceText.{instance_read}
 use Rattle.olap_nav.specs.Plans.{IsPlan, IsNoDearer, sources_in}
 use Rattle.olap_nav.specs.PlanText.{plan_text}
 use Rattle.olap_nav.proofs.ChosenLemmas.{chosen_direct}
-use Rattle.olap_schema.specs.Judging.{schema_read}
+use Rattle.olap_schema_text.specs.Judging.{schema_read}
 use Rattle.olap_view.specs.Stores.{chosen}
 use Rattle.olap_view.specs.ViewText.{view_text}
 use Rattle.olap_order.specs.declared.status.Status.{Status}

@@ -22,8 +22,8 @@ use Rattle.olap_cex.specs.Laws.{QuestionIsTrue, RootIsMember}
 use Rattle.olap_frozen.specs.LeastFound.{IsLeastFound, frozen_of}
 use Rattle.olap_frozen.specs.declared.founding.Found.{Found}
 use Rattle.olap_names.specs.Names.{candidates_of}
-use Rattle.olap_schema.specs.Lines.{is_control}
-use Rattle.olap_schema.specs.PrintingLaws.{AreTexts}
+use Rattle.olap_schema.specs.Readable.{is_control}
+use Rattle.olap_schema.specs.Readable.{AreTexts}
 use Rattle.olap_summ.specs.Counterexamples.{IsCounterexampleFound}
 use Rattle.olap_ast.specs.Trees.{numbers_of}
 use Rattle.olap_reasoning.specs.Certificates.{ShowsDifference, ShowsUnmet}

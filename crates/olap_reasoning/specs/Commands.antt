@@ -4,7 +4,7 @@
 use Rattle.std.specs.Prelude.{ℕ, List, [], codes, if◌then◌else◌, Option, None}
 use Rattle.std.specs.Str.{bytes_eq}
 use Rattle.olap_ast.specs.Schema.{Schema}
-use Rattle.olap_schema.specs.Printing.{schema_text}
+use Rattle.olap_schema_text.specs.Printing.{schema_text}
 use Rattle.olap_order.specs.Arguments.{by_one, by_three, by_two, by_two_or_more}
 use Rattle.olap_order.specs.Order.{Order, Done, Told, and_then}
 use Rattle.olap_order.specs.Steps.{category_word, different_words, formula_word, root_word, schema_file}

@@ -1,5 +1,5 @@
 // The command `format`: the canonical text of a schema.
-ghost use Rattle.olap_schema.specs.Printing.{schema_text};
+ghost use Rattle.olap_schema_text.specs.Printing.{schema_text};
 ghost use Rattle.olap_schema.specs.Schemas.{schema_of};
 ghost use Rattle.olap_reasoning.specs.Commands.{format_order};
 ghost use Rattle.olap_order.specs.Judged.{Judged, Replies};
@@ -8,7 +8,8 @@ ghost use Rattle.olap_reasoning.specs.Questions.{IsAnswer};
 
 use olap_base::Library;
 use olap_order::{Reply, Status, Stop, schema_in, yes};
-use olap_schema::{Schema, print_schema};
+use olap_schema::Schema;
+use olap_schema_text::print_schema;
 use std::alloc::Global;
 
 /// The canonical text.

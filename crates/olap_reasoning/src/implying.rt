@@ -9,7 +9,7 @@ ghost use Rattle.olap_cex.specs.FrozenText.{frozen_text};
 ghost use Rattle.olap_frozen.specs.LeastFound.{frozen_of};
 ghost use Rattle.olap_instance.specs.Printing.{text_of_instance};
 ghost use Rattle.olap_names.specs.Names.{candidates_of};
-ghost use Rattle.olap_schema.specs.PrintingLaws.{AreTexts};
+ghost use Rattle.olap_schema.specs.Readable.{AreTexts};
 ghost use Rattle.olap_schema.specs.Schemas.{schema_of};
 ghost use Rattle.olap_reasoning.specs.Commands.{implies_order};
 ghost use Rattle.olap_order.specs.Judged.{Judged, Replies};

@@ -16,7 +16,7 @@ use Rattle.olap_ast.specs.Findings.{without}
 use Rattle.olap_ast.specs.Formula.{Comparison, Equality, Formula.Truth, comparisons, equalities}
 use Rattle.olap_ast.specs.Schema.{Constraint, Schema}
 use Rattle.olap_ast.specs.Valid.{node_count}
-use Rattle.olap_schema.specs.PrintingLaws.{IsReadable}
+use Rattle.olap_schema.specs.Readable.{IsReadable}
 use Rattle.olap_schema.proofs.PairCounting.{few_numbers, few_pairs}
 
 -- what is left was there

@@ -1,28 +1,10 @@
-//! Schema texts of both versions: reading a schema and a question's formula, and printing a schema.
+//! Schemas: a graph of categories and the constraints.
 //!
-//! A contract sees a `Schema` as the definitions' schema, and what `read_schema` gives as `schema_read` of the text:
-//! the schema, or the first fault with its line (`specs/Judging.antt`). Each schema is valid, so it is read back from
-//! what `print_schema` prints. Nothing here knows of instances.
+//! A contract sees a `Schema` as the definitions' schema (`specs/Schemas.antt`). Each is valid, and its constants are
+//! UTF-8 without control characters (`specs/Readable.antt`). Nothing here knows of texts.
 #![tactic(auto)]
 
-mod atoms;
 mod copying;
-mod kinds;
-mod laws;
-mod lines;
-mod measuring;
-mod pairing;
-mod printing;
-mod questions;
-mod reading;
 mod schemas;
-mod statements;
 
-pub use kinds::{FormulaRefusal, SchemaKind, SchemaRefusal};
-pub use laws::{
-    open_brackets_are_counted, read_questions_are_valid, read_schemas_are_readable,
-    read_schemas_are_valid,
-};
-pub use printing::{print_schema, printed_schemas_are_read};
-pub use questions::read_formula;
-pub use schemas::{Schema, read_schema};
+pub use schemas::Schema;

@@ -9,7 +9,8 @@ use olap_ast::Formula;
 use olap_base::{CatId, List, Memory};
 use olap_dimsat::{AllRefusal, Search};
 use olap_frozen::Frozen;
-use olap_schema::{Schema, read_schema};
+use olap_schema::Schema;
+use olap_schema_text::read_schema;
 use std::alloc::Global;
 use std::test::Fail;
 

@@ -6,7 +6,8 @@ use olap_ast::Formula;
 use olap_base::{CatId, Memory};
 use olap_encoding::{Problem, encode};
 use olap_names::Candidates;
-use olap_schema::{Schema, read_schema};
+use olap_schema::Schema;
+use olap_schema_text::read_schema;
 use std::alloc::Global;
 use std::test::Fail;
 

@@ -1,7 +1,8 @@
 // What the texts of several modules are read as, and graphs that are built.
 use olap_base::Text;
 use olap_graph::{Graph, GraphBuilder, category_name};
-use olap_schema::{Schema, read_schema};
+use olap_schema::Schema;
+use olap_schema_text::read_schema;
 use std::alloc::Global;
 use std::process::Abort;
 

@@ -1,6 +1,6 @@
 // The calls that take memory, once each where there is enough, and one text for each of fourteen kinds of fault.
 use olap_base::CatId;
-use olap_schema::{SchemaRefusal, print_schema, read_formula, read_schema};
+use olap_schema_text::{SchemaRefusal, print_schema, read_formula, read_schema};
 use std::alloc::Global;
 use std::test::Fail;
 

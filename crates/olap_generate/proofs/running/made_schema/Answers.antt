@@ -1,5 +1,5 @@
 use Rattle.std.proofs.Common.{subst}
-use Rattle.olap_schema.specs.Judging.{schema_read}
+use Rattle.olap_schema_text.specs.Judging.{schema_read}
 use Rattle.olap_schema.specs.Schemas.{IsRefusedBy}
 use Rattle.olap_generate.specs.Location.{location_text}
 use Rattle.olap_generate.proofs.MadeLemmas.{schema_faultless}

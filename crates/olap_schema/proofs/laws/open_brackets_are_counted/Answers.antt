@@ -1,5 +1,0 @@
-use Rattle.olap_schema.proofs.BracketLemmas.{brackets_counted}
-use Rattle.olap_schema.proofs.laws.open_brackets_are_counted.Goals as goal
-
-pub returns : goal.returns
-returns c = brackets_counted

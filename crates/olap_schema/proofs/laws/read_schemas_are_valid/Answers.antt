@@ -1,5 +1,0 @@
-use Rattle.olap_schema.proofs.ValidSchemas.{read_is_valid}
-use Rattle.olap_schema.proofs.laws.read_schemas_are_valid.Goals as goal
-
-pub returns : goal.returns
-returns c = read_is_valid

@@ -1,9 +1,0 @@
-use Rattle.std.proofs.Common.{◌∙◌, ap, not}
-use Rattle.olap_schema.specs.Reading.{above_of}
-use Rattle.olap_schema.proofs.ValidSchemas.{rest_is_readable}
-use Rattle.olap_schema.proofs.schemas.read_from.Goals as goal
-
-pub finish-requires : goal.finish-requires
-finish-requires c =
-    rest_is_readable _ (above_of c.read_lines.new.reading) c.in-Ok.ensures
-    (c.is_none.ensures ∙ ap not c.if-is_none.false) c.requires

@@ -1,6 +1,0 @@
-use Rattle.olap_schema.specs.Reading.{above_of}
-use Rattle.olap_schema.proofs.ValidSchemas.{start_is_readable}
-use Rattle.olap_schema.proofs.schemas.read_schema.Goals as goal
-
-pub read_from-requires : goal.read_from-requires
-read_from-requires c = start_is_readable (above_of c.in-Ok.started) c.args.text.now c.in-Ok.ensures

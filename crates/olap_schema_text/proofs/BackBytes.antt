@@ -1,0 +1,157 @@
+-- The bytes of printed lines: UTF-8 without control characters.
+--     IsPlain          a text of such bytes
+--     formula_is_plain  and so on: what is printed is one
+use Rattle.std.proofs.Common.{◌≡◌, ◌==◌, ◌||◌, ◌&&◌, not, ◌<◌, ◌≤◌, ◌+◌, ◌/◌, ◌%◌, ℕ, zero, suc, Bool, true, false, cond, List, [], ◌∷◌, ◌++◌, All, refl, append_assoc, append-nil, arith, ap, sym, ◌∙◌, nat_lt, lit<}
+use Rattle.std.specs.List.{list_any}
+use Rattle.std.specs.Str.{IsAscii, IsUtf8, is_utf8}
+use Rattle.std.proofs.lemmas.List.Elements.{All-from_recursion, All-head, All-tail}
+use Rattle.std.proofs.lemmas.Str.{IsUtf8-append, IsUtf8-from_ascii, IsUtf8-from_is_utf8, IsUtf8-nil, is_utf8-from_IsUtf8}
+use Rattle.std.proofs.lemmas.Str.{encode_ascii}
+use lib.Utf8.{encode, encodes, scalar, scalars}
+use Rattle.olap_grammar.specs.Quoting.{escaped, escaped_byte}
+use Rattle.olap_schema.specs.Readable.{is_bad, is_control}
+
+-- UTF-8 without control characters
+pub record IsPlain (text : List ℕ) : Type 0 where
+  pub utf8 : IsUtf8 text
+  pub plain : list_any is_control text ≡ false
+
+-- plain text isn't refused
+pub not_bad : (text : List ℕ) → IsPlain text → is_bad text ≡ false
+not_bad text p = rw (is_utf8-from_IsUtf8 text p.utf8, p.plain) refl
+
+-- and what isn't refused is plain
+pub from_not_bad : (text : List ℕ) → is_bad text ≡ false → IsPlain text
+from_not_bad text e = go (is_utf8 text) (list_any is_control text) refl refl e
+  where
+    go : (b c : Bool) → is_utf8 text ≡ b → list_any is_control text ≡ c → not b || c ≡ false → IsPlain text
+    go true false p q r = record { utf8 = IsUtf8-from_is_utf8 text p; plain = q }
+    go true true p q r = absurd (cc)
+    go false c p q r = absurd (cc)
+
+-- no control characters in two texts, none in both together
+any-append : (xs ys : List ℕ) → list_any is_control xs ≡ false → list_any is_control ys ≡ false
+    → list_any is_control (xs ++ ys) ≡ false
+any-append [] ys p q = q
+any-append (x ∷ xs) ys p q = go (is_control x) p (λ r. any-append xs ys r q)
+  where
+    go : (b : Bool) → b || list_any is_control xs ≡ false
+        → (list_any is_control xs ≡ false → list_any is_control (xs ++ ys) ≡ false)
+        → b || list_any is_control (xs ++ ys) ≡ false
+    go true r rest = absurd (cc)
+    go false r rest = rest r
+
+-- two plain texts are plain together
+pub plain-append : (xs ys : List ℕ) → IsPlain xs → IsPlain ys → IsPlain (xs ++ ys)
+plain-append xs ys p q = record { utf8 = IsUtf8-append xs ys p.utf8 q.utf8; plain = any-append xs ys p.plain q.plain }
+
+-- nothing is plain
+pub plain-nil : IsPlain []
+plain-nil = record { utf8 = IsUtf8-nil; plain = refl }
+
+-- a byte below 128 is ASCII
+ascii_one : (b : ℕ) → b < 128 → IsAscii (b ∷ [])
+ascii_one b l zero = l
+ascii_one b l (suc k) = omega arith
+
+-- a printable ASCII character in front
+pub plain-cons : (b : ℕ) (bs : List ℕ) → b < 127 → 32 ≤ b → IsPlain bs → IsPlain (b ∷ bs)
+plain-cons b bs l m p =
+    plain-append (b ∷ []) bs
+    (record { utf8 = IsUtf8-from_ascii (b ∷ []) (ascii_one b (omega arith)); plain = rw control refl }) p
+  where
+    control : is_control b ≡ false
+    control = grind arith
+
+-- ---- strings
+
+-- a string is escaped part by part
+escaped-append : (xs ys : List ℕ) → escaped (xs ++ ys) ≡ escaped xs ++ escaped ys
+unfolding escaped
+escaped-append [] ys = refl
+escaped-append (x ∷ xs) ys =
+    ap (λ t. escaped_byte x ++ t) (escaped-append xs ys) ∙ sym (append_assoc (escaped_byte x) (escaped xs) (escaped ys))
+
+-- bytes that aren't ASCII stay
+high_stay : (bs : List ℕ) → All (λ b. 128 ≤ b) bs → escaped bs ≡ bs
+unfolding escaped
+high_stay [] a = refl
+high_stay (b ∷ bs) a =
+    let l = All-head (λ b. 128 ≤ b) b bs a in
+    let p : (b == 34) ≡ false = grind arith in
+    let q : (b == 92) ≡ false = grind arith in
+    rw (p, q) (ap (λ t. b ∷ t) (high_stay bs (All-tail (λ b. 128 ≤ b) b bs a)))
+
+-- other characters have no byte below 128
+high_encode : (c : ℕ) → nat_lt c 128 ≡ false → All (λ b. 128 ≤ b) (encode c)
+unfolding encode
+high_encode c e = rw e (go (nat_lt c 2048) (nat_lt c 65536))
+  where
+    go : (p q : Bool)
+        → All (λ b. 128 ≤ b) (cond p ((192 + c / 64) ∷ (128 + c % 64) ∷ [])
+        (cond q ((224 + c / 4096) ∷ (128 + (c / 64) % 64) ∷ (128 + c % 64) ∷ [])
+        ((240 + c / 262144) ∷ (128 + (c / 4096) % 64) ∷ (128 + (c / 64) % 64) ∷ (128 + c % 64) ∷ [])))
+    go true q =
+        All-from_recursion (λ b. 128 ≤ b) ((192 + c / 64) ∷ (128 + c % 64) ∷ []) (omega arith, (omega arith, tt))
+    go false true =
+        All-from_recursion (λ b. 128 ≤ b) ((224 + c / 4096) ∷ (128 + (c / 64) % 64) ∷ (128 + c % 64) ∷ [])
+        (omega arith, (omega arith, (omega arith, tt)))
+    go false false =
+        All-from_recursion (λ b. 128 ≤ b)
+        ((240 + c / 262144) ∷ (128 + (c / 4096) % 64) ∷ (128 + (c / 64) % 64) ∷ (128 + c % 64) ∷ [])
+        (omega arith, (omega arith, (omega arith, (omega arith, tt))))
+
+-- two bytes below 128 are ASCII
+ascii_two : (a b : ℕ) → a < 128 → b < 128 → IsAscii (a ∷ b ∷ [])
+ascii_two a b l m zero = l
+ascii_two a b l m (suc zero) = m
+ascii_two a b l m (suc (suc k)) = omega arith
+
+-- one character, escaped, is UTF-8
+one_utf8 : (c : ℕ) → scalar c ≡ true → IsUtf8 (escaped (encode c))
+unfolding escaped
+one_utf8 c s = go (nat_lt c 128) refl
+  where
+    byte : (p : Bool) → c < 128 → IsUtf8 (cond p (92 ∷ c ∷ []) (c ∷ []) ++ [])
+    byte true l = IsUtf8-from_ascii (92 ∷ c ∷ []) (ascii_two 92 c (lit< tt) l)
+    byte false l = IsUtf8-from_ascii (c ∷ []) (ascii_one c l)
+
+    go : (b : Bool) → nat_lt c 128 ≡ b → IsUtf8 (escaped (encode c))
+    go true e = let l : c < 128 = grind (arith) in rw (encode_ascii c l) (byte ((c == 34) || (c == 92)) l)
+    go false e =
+        let same = high_stay (encode c) (high_encode c e) in rw same (c ∷ [], (rw s refl, append-nil (encode c)))
+
+-- and so are several
+all_utf8 : (cs : List ℕ) → scalars cs ≡ true → IsUtf8 (escaped (encodes cs))
+unfolding escaped
+all_utf8 [] e = IsUtf8-nil
+all_utf8 (c ∷ cs) e = go (scalar c) (scalars cs) refl refl e (λ r. all_utf8 cs r)
+  where
+    go : (p q : Bool) → scalar c ≡ p → scalars cs ≡ q → p && q ≡ true
+        → (scalars cs ≡ true → IsUtf8 (escaped (encodes cs))) → IsUtf8 (escaped (encode c ++ encodes cs))
+    go true true a b r rest =
+        rw (escaped-append (encode c) (encodes cs))
+        (IsUtf8-append (escaped (encode c)) (escaped (encodes cs)) (one_utf8 c a) (rest b))
+    go true false a b r rest = absurd (cc)
+    go false q a b r rest = absurd (cc)
+
+-- so a text of UTF-8 is so when it is escaped
+escaped_utf8 : (k : List ℕ) → IsUtf8 k → IsUtf8 (escaped k)
+escaped_utf8 k u = rw u.1.1 at (all_utf8 u.0 u.1.0)
+
+-- and one without control characters has none
+escaped_controls : (k : List ℕ) → list_any is_control k ≡ false → list_any is_control (escaped k) ≡ false
+unfolding escaped
+escaped_controls [] e = refl
+escaped_controls (b ∷ k) e = go ((b == 34) || (b == 92)) (is_control b) refl e (λ r. escaped_controls k r)
+  where
+    go : (p c : Bool) → is_control b ≡ c → c || list_any is_control k ≡ false
+        → (list_any is_control k ≡ false → list_any is_control (escaped k) ≡ false)
+        → list_any is_control (cond p (92 ∷ b ∷ []) (b ∷ []) ++ escaped k) ≡ false
+    go p true q r rest = absurd (cc)
+    go true false q r rest = rw q (rest r)
+    go false false q r rest = rw q (rest r)
+
+-- a plain text is plain when it is escaped
+pub escaped_plain : (k : List ℕ) → IsPlain k → IsPlain (escaped k)
+escaped_plain k p = record { utf8 = escaped_utf8 k p.utf8; plain = escaped_controls k p.plain }

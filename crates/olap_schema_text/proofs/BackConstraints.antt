@@ -1,0 +1,166 @@
+-- A printed constraint's line is read as the constraint.
+--     ruled             what is known on the way
+--     add_constraint    a constraint's line adds it
+use Rattle.std.proofs.Common.{◌≡◌, ◌==◌, ◌≤◌, ◌+◌, ℕ, suc, Bool, true, false, cond, List, [], ◌∷◌, ◌++◌, Some, None, length, refl, arith, ap, sym, ◌∙◌, nat_lt, nat_le}
+use Rattle.std.specs.Prelude.{Contains, Ok, flat_map, fold, sum_by}
+use Rattle.std.specs.List.{list_any}
+use Rattle.std.proofs.lemmas.Bool.{eqb-true, false_from_ne_true}
+use Rattle.std.proofs.lemmas.List.Sums.{fold-append, sum_by-append}
+use Rattle.olap_base.specs.Graph.{Graph, IsCategory, IsHierarchy}
+use Rattle.olap_base.specs.Limits.{most_constants, most_constraints, most_depth, most_nodes, most_text_bytes}
+use Rattle.olap_graph.specs.Lookups.{category_named, name_of_category}
+use Rattle.olap_ast.specs.Formula.{Comparison, Equality, Formula, comparisons, equalities}
+use Rattle.olap_ast.specs.Schema.{Constraint, Schema}
+use Rattle.olap_ast.specs.Valid.{IsFormulaAt, IsValidSchema, depth_of, is_same_number, is_same_pair, node_count, with_new, with_number, with_pair}
+use Rattle.olap_grammar.specs.Brackets.{opens_over}
+use Rattle.olap_grammar.specs.Machine.{the_formula}
+use Rattle.olap_grammar.specs.Words.{atoms_of}
+use Rattle.olap_grammar.proofs.ReaderLemmas.{formula_is_found}
+use Rattle.olap_grammar.proofs.Sound.{tighter}
+use Rattle.olap_schema_text.specs.Atoms.{atom_fault}
+use Rattle.olap_schema_text.specs.Judging.{Above, constraint_read, form_read}
+use Rattle.olap_grammar.specs.declared.tokens.Version.TheVariants as version
+use Rattle.olap_grammar.specs.Nodes.{nodes_of}
+use Rattle.olap_schema_text.specs.Tokens.{is_bad_number, is_long}
+use Rattle.olap_schema_text.proofs.BackAtoms.{no_atom_fault}
+use Rattle.olap_schema_text.proofs.BackGraph.{lengths, stands}
+use Rattle.olap_schema_text.proofs.BackLengths.{AreShort, none_is_long}
+use Rattle.olap_schema_text.proofs.BackNumbers.{none_is_bad}
+use Rattle.olap_schema_text.proofs.BackTokens.{few_open, nodes_are}
+use Rattle.olap_schema_text.proofs.PrintFormula.{spelt_is_formula}
+use Rattle.olap_schema_text.proofs.PrintNames.{named}
+use Rattle.olap_schema_text.proofs.PrintTokens.{spelt}
+use Rattle.std.proofs.Common.{lit≤}
+
+-- the graph and these constraints stand above
+abbrev pub ruled : Graph → List Constraint → ℕ → List Equality → List Comparison → List ℕ → Above
+ruled g done nodes pairs numbers lines = record {
+  version = Some version.Two;
+  graph = g;
+  category_lines = lines;
+  constraints = done;
+  nodes = nodes;
+  pairs = pairs;
+  numbers = numbers;
+}
+
+-- the nodes of the constraints, and their pairs
+abbrev pub nodes_in : List Constraint → ℕ
+nodes_in cs = sum_by (λ c. node_count c.formula) cs
+
+-- the pairs so far, with those of some constraints
+abbrev pub pairs_with : List Equality → List Constraint → List Equality
+pairs_with pairs cs = fold with_pair pairs (flat_map (λ c. equalities c.formula) cs)
+
+-- the same of numbers
+abbrev pub numbers_with : List Comparison → List Constraint → List Comparison
+numbers_with numbers cs = fold with_number numbers (flat_map (λ c. comparisons c.formula) cs)
+
+-- pairs are only added
+one_grows : {A : Type 0} (same : A → A → Bool) (pairs : List A) (x : A) → length pairs ≤ length (with_new same pairs x)
+one_grows same pairs x = go (list_any (same x) pairs)
+  where
+    go : (b : Bool) → length pairs ≤ length (cond b pairs (pairs ++ x ∷ []))
+    go true = omega arith
+    go false = let e = lengths pairs (x ∷ []) in omega arith
+
+-- there are never fewer
+grows : {A : Type 0} (same : A → A → Bool) (pairs xs : List A)
+    → length pairs ≤ length (fold (with_new same) pairs xs)
+grows same pairs [] = omega arith
+grows same pairs (x ∷ xs) =
+    let a = one_grows same pairs x in let b = grows same (with_new same pairs x) xs in omega (arith, a, b)
+
+-- the first constraint's nodes and pairs come before those of the others
+pub first_nodes : (c : Constraint) (cs : List Constraint) → nodes_in (c ∷ cs) ≡ node_count c.formula + nodes_in cs
+first_nodes c cs =
+    let e = sum_by-append (λ x. node_count x.formula) (c ∷ []) cs in
+    go (node_count c.formula) (nodes_in cs) (nodes_in (c ∷ cs)) e
+  where
+    go : (a b s : ℕ) → s ≡ (0 + a) + b → s ≡ a + b
+    go a b s e = omega arith
+
+-- the first constraint's come first
+pub first_pairs : (pairs : List Equality) (c : Constraint) (cs : List Constraint)
+    → pairs_with pairs (c ∷ cs) ≡ pairs_with (fold with_pair pairs (equalities c.formula)) cs
+first_pairs pairs c cs = fold-append with_pair pairs (equalities c.formula) (flat_map (λ x. equalities x.formula) cs)
+
+-- the same of numbers
+pub first_numbers : (numbers : List Comparison) (c : Constraint) (cs : List Constraint)
+    → numbers_with numbers (c ∷ cs) ≡ numbers_with (fold with_number numbers (comparisons c.formula)) cs
+first_numbers numbers c cs =
+    fold-append with_number numbers (comparisons c.formula) (flat_map (λ x. comparisons x.formula) cs)
+
+-- the tokens of a printed formula pass all checks of its form
+form_is : (g : Graph) (h : IsHierarchy g) (r : ℕ) (l : IsCategory g r) (f : Formula) → IsFormulaAt g r f
+    → (before : ℕ) → before + node_count f ≤ most_nodes → depth_of f ≤ most_depth →
+    form_read version.Two g before (spelt g r f) ≡ Ok f
+unfolding form_read
+form_is g h r l f v before few deep =
+    let nodes = nodes_are g r f in
+    let n : nat_lt most_nodes (before + nodes_of version.Two (spelt g r f)) ≡ false =
+    within before (nodes_of version.Two (spelt g r f)) (node_count f) nodes few in
+    let o : opens_over 0 0 (spelt g r f) ≡ false = few_open g r f deep in
+    let read : the_formula (atoms_of version.Two g) (spelt g r f) ≡ Some f =
+    formula_is_found (atoms_of version.Two g) (spelt g r f) f (tighter 1 6 (lit≤ tt) (spelt_is_formula g h r l f v)) in
+    let d : nat_le (depth_of f) most_depth ≡ true = grind (arith) in
+    rw (n, o, read, d) refl
+  where
+    within : (a b c : ℕ) → b ≡ c → a + c ≤ most_nodes → nat_lt most_nodes (a + b) ≡ false
+    within a b c e l = grind arith
+
+-- a constraint's line adds it
+pub add_constraint : (s : Schema) → IsValidSchema s → AreShort s.graph
+    → (done : List Constraint) (c : Constraint) (rest : List Constraint) (nodes : ℕ) (pairs : List Equality)
+    (numbers : List Comparison) (lines : List ℕ) →
+    done ++ c ∷ rest ≡ s.constraints → nodes + nodes_in (c ∷ rest) ≤ most_nodes
+    → length (pairs_with pairs (c ∷ rest)) + length (numbers_with numbers (c ∷ rest)) ≤ most_constants →
+    constraint_read (ruled s.graph done nodes pairs numbers lines) version.Two (name_of_category s.graph c.root)
+    (spelt s.graph c.root c.formula)
+    ≡ Ok (ruled s.graph (done ++ c ∷ []) (nodes + nodes_of version.Two (spelt s.graph c.root c.formula))
+    (fold with_pair pairs (equalities c.formula)) (fold with_number numbers (comparisons c.formula)) lines)
+add_constraint s v short done c rest nodes pairs numbers lines e few_nodes few_pairs =
+    let there : Contains s.constraints c = rw e at (stands done c rest) in
+    let declared = v.roots c there in
+    let at_root = v.formulas c there in
+    let ts = spelt s.graph c.root c.formula in
+    let sum = first_nodes c rest in
+    let fit : nodes + node_count c.formula ≤ most_nodes = omega (arith, sum, few_nodes) in
+    let form : form_read version.Two s.graph nodes ts ≡ Ok c.formula =
+    form_is s.graph v.hierarchy c.root declared.1 c.formula at_root nodes fit (v.depth_fits c there) in
+    let ln = short c.root declared.1 in
+    let sn : nat_lt most_text_bytes (length (name_of_category s.graph c.root)) ≡ false = grind (arith) in
+    let sl : list_any is_long ts ≡ false =
+    none_is_long s.graph v.hierarchy short c.root declared.1 c.formula at_root in
+    let good : list_any is_bad_number ts ≡ false =
+    none_is_bad s.graph v.hierarchy c.root declared.1 c.formula at_root in
+    let n : category_named s.graph (name_of_category s.graph c.root) ≡ Some c.root =
+    named s.graph v.hierarchy c.root declared.1 in
+    let z = false_from_ne_true (c.root == 0) (λ q. declared.0 (eqb-true c.root 0 q)) in
+    let size = ap length e in
+    let sizes = lengths done (c ∷ rest) in
+    let few : nat_le most_constraints (length done) ≡ false =
+    room (length done) (length rest) (length s.constraints) v.constraints_fit (sym size ∙ sizes) in
+    let fault : atom_fault s.graph (name_of_category s.graph c.root) ts ≡ None =
+    no_atom_fault s.graph v.hierarchy c.root declared.1 c.formula at_root in
+    let p = fits c rest pairs numbers few_pairs in
+    rw (form, sn, sl, good, n, z, few, fault, p) refl
+  where
+    room : (a b n : ℕ) → n ≤ most_constraints → n ≡ a + suc b → nat_le most_constraints a ≡ false
+    room a b n l q = grind arith
+
+    below : (a b m n p q : ℕ) → a ≤ m → b ≤ n → p ≡ m → q ≡ n → p + q ≤ most_constants
+        → nat_lt most_constants (a + b) ≡ false
+    below a b m n p q l k d e f = grind arith
+
+    -- the constants so far are no more than those of the whole schema
+    fits : (c : Constraint) (rest : List Constraint) (pairs : List Equality) (numbers : List Comparison)
+        → length (pairs_with pairs (c ∷ rest)) + length (numbers_with numbers (c ∷ rest)) ≤ most_constants
+        → nat_lt most_constants (length (fold with_pair pairs (equalities c.formula))
+        + length (fold with_number numbers (comparisons c.formula))) ≡ false
+    fits c rest pairs numbers few =
+        below _ _ _ _ _ _
+        (grows is_same_pair (fold with_pair pairs (equalities c.formula)) (flat_map (λ x. equalities x.formula) rest))
+        (grows is_same_number (fold with_number numbers (comparisons c.formula))
+        (flat_map (λ x. comparisons x.formula) rest))
+        (ap length (first_pairs pairs c rest)) (ap length (first_numbers numbers c rest)) few

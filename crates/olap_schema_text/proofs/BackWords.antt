@@ -1,0 +1,213 @@
+-- Printed words mean their atoms.
+--     pieces         the pieces of an atom's word are its names
+--     path_means     and so on: what a word says is the atom
+use Rattle.std.proofs.Common.{◌≡◌, ◌≢◌, ◌==◌, ℕ, ℤ, Bool, true, false, cond, List, [], ◌∷◌, ◌++◌, Some, All, length, map, refl, append-nil, arith, ap, sym, ◌∙◌, codes, nat_lt, lit≤}
+use Rattle.std.specs.List.{list_all}
+use Rattle.std.specs.Str.{bytes_eq}
+use Rattle.std.proofs.lemmas.Bool.{eqb-true}
+use Rattle.std.proofs.lemmas.List.Elements.{All-append, All-cons, All-weaker}
+use Rattle.std.proofs.lemmas.List.Splits.{slice_split_at, slice_split_none}
+use Rattle.std.proofs.lemmas.Slice.Eq.{bytes_eq-Decides}
+use Rattle.olap_base.specs.Reaching.{is_category_name}
+use Rattle.olap_base.specs.Graph.{Graph, IsCategory, IsHierarchy, IsLetterOrDigit, is_number}
+use Rattle.olap_graph.specs.Lookups.{category_named, name_of_category}
+use Rattle.olap_ast.specs.Formula as Meaning
+use Rattle.std.specs.Prelude.{◌-◌, slice_index_or}
+use Rattle.olap_numerals.specs.Comparing.{Op}
+use Rattle.olap_numerals.specs.Numerals.{IsSmall, canonical}
+use Rattle.olap_numerals.proofs.NumeralLemmas.{numbers_read_back}
+use Rattle.olap_grammar.specs.Words.{compared_of, comparison_of, equal_of, equality_of, id_of, pieces_of, plain_of}
+use Rattle.olap_schema_text.specs.Atoms.{compares_numbers, has_numbers}
+use Rattle.olap_schema_text.specs.Printing.{atom_word, compared_word, names_after}
+use Rattle.olap_schema_text.proofs.PrintCut.{AreCategories}
+use Rattle.olap_schema_text.proofs.PrintNumerals.{numeral_is_number}
+use Rattle.olap_schema_text.proofs.PrintNames.{is_name, letters, name_is, named, no_mark, no_underscore}
+
+-- a byte is equal to itself
+same_byte : (c : ℕ) → (c == c) ≡ true
+same_byte c = grind arith
+
+-- a word in two pieces isn't a word in one
+pub other_word : (m : ℕ) (w v x y : List ℕ) (rest : List (List ℕ)) → pieces_of m w ≡ x ∷ y ∷ rest
+    → pieces_of m v ≡ v ∷ [] → bytes_eq w v ≡ false
+other_word m w v x y rest p q = go (bytes_eq w v) refl
+  where
+    go : (b : Bool) → bytes_eq w v ≡ b → b ≡ false
+    go true e =
+        let s : w ≡ v = (bytes_eq-Decides w v).0 e in
+        let two : x ∷ y ∷ rest ≡ v ∷ [] = sym p ∙ ap (pieces_of m) s ∙ q in
+        let n : ◌≡◌ {A = ℕ} (length (x ∷ y ∷ rest)) 1 = ap length two in
+        absurd (omega (arith, n))
+    go false e = refl
+
+-- `true` has no `_`
+pub true_at_95 : pieces_of 95 (codes "true") ≡ codes "true" ∷ []
+unfolding pieces_of
+true_at_95 = refl
+
+-- nor has `false`
+pub false_at_95 : pieces_of 95 (codes "false") ≡ codes "false" ∷ []
+unfolding pieces_of
+false_at_95 = refl
+
+-- `true` has no `.`
+pub true_at_46 : pieces_of 46 (codes "true") ≡ codes "true" ∷ []
+unfolding pieces_of
+true_at_46 = refl
+
+-- nor has `false`
+pub false_at_46 : pieces_of 46 (codes "false") ≡ codes "false" ∷ []
+unfolding pieces_of
+false_at_46 = refl
+
+module _ (g : Graph) (h : IsHierarchy g) where
+  -- a name has no `_` and no `.`
+  pub no_95 : (c : ℕ) → IsCategory g c → All (λ b. (b == 95) ≡ false) (name_of_category g c)
+  no_95 c l =
+      All-weaker IsLetterOrDigit (λ b. (b == 95) ≡ false) no_underscore (name_of_category g c)
+      (letters (name_of_category g c) (name_is g h c l))
+
+  pub no_46 : (c : ℕ) → IsCategory g c → All (λ b. (b == 46) ≡ false) (name_of_category g c)
+  no_46 c l =
+      All-weaker IsLetterOrDigit (λ b. (b == 46) ≡ false) (no_mark 46 (lit≤ tt)) (name_of_category g c)
+      (letters (name_of_category g c) (name_is g h c l))
+
+  pieces_after : (m : ℕ) → ((c : ℕ) → IsCategory g c → All (λ b. (b == m) ≡ false) (name_of_category g c))
+      → (x : List ℕ) (cs : List ℕ)
+      → All (λ b. (b == m) ≡ false) x → AreCategories g cs
+      → pieces_of m (x ++ names_after g m cs) ≡ x ∷ map (name_of_category g) cs
+  unfolding pieces_of names_after
+  pieces_after m k x [] a v = rw (append-nil x) (slice_split_none (λ b. b == m) x a)
+  pieces_after m k x (c ∷ cs) a v =
+      slice_split_at (λ b. b == m) x m (name_of_category g c ++ names_after g m cs) a (same_byte m)
+      ∙ ap (λ ps. x ∷ ps) (pieces_after m k (name_of_category g c) cs (k c v.0) v.1)
+
+  -- the pieces at `_` and at `.` of the words of atoms
+  pub path_pieces : (r : ℕ) (cs : List ℕ) → IsCategory g r → AreCategories g cs
+      → pieces_of 95 (atom_word g r 95 cs) ≡ name_of_category g r ∷ map (name_of_category g) cs
+  path_pieces r cs l v = pieces_after 95 no_95 (name_of_category g r) cs (no_95 r l) v
+
+  pub reach_pieces : (r : ℕ) (cs : List ℕ) → IsCategory g r → AreCategories g cs
+      → pieces_of 46 (atom_word g r 46 cs) ≡ name_of_category g r ∷ map (name_of_category g) cs
+  reach_pieces r cs l v = pieces_after 46 no_46 (name_of_category g r) cs (no_46 r l) v
+
+  after_no_95 : (cs : List ℕ) → AreCategories g cs → All (λ b. (b == 95) ≡ false) (names_after g 46 cs)
+  unfolding names_after
+  after_no_95 [] v = λ k d b. absurd (omega (arith, b))
+  after_no_95 (c ∷ cs) v = All-cons (λ b. (b == 95) ≡ false) 46 (name_of_category g c ++ names_after g 46 cs) refl
+      (All-append (λ b. (b == 95) ≡ false) (name_of_category g c) (names_after g 46 cs) (no_95 c v.0)
+      (after_no_95 cs v.1))
+
+  -- a word with `.` is one piece at `_`
+  pub reach_whole : (r : ℕ) (cs : List ℕ) → IsCategory g r → AreCategories g cs
+      → pieces_of 95 (atom_word g r 46 cs) ≡ atom_word g r 46 cs ∷ []
+  unfolding pieces_of
+  reach_whole r cs l v = slice_split_none (λ b. b == 95) (atom_word g r 46 cs)
+      (All-append (λ b. (b == 95) ≡ false) (name_of_category g r) (names_after g 46 cs) (no_95 r l) (after_no_95 cs v))
+
+  pub name_whole : (m : ℕ) (r : ℕ) → All (λ b. (b == m) ≡ false) (name_of_category g r)
+      → pieces_of m (name_of_category g r) ≡ name_of_category g r ∷ []
+  unfolding pieces_of
+  name_whole m r a = slice_split_none (λ b. b == m) (name_of_category g r) a
+
+  -- names are known, and each is that of its category
+  pub all_names : (cs : List ℕ) → AreCategories g cs → list_all is_category_name (map (name_of_category g) cs) ≡ true
+  all_names [] v = refl
+  all_names (c ∷ cs) v = rw (is_name g h c v.0) (all_names cs v.1)
+
+  pub id_is : (c : ℕ) → IsCategory g c → id_of g (name_of_category g c) ≡ c
+  unfolding id_of
+  id_is c l = rw (named g h c l) refl
+
+  ids_are : (cs : List ℕ) → AreCategories g cs → map (id_of g) (map (name_of_category g) cs) ≡ cs
+  ids_are [] v = refl
+  ids_are (c ∷ cs) v = rw (id_is c v.0, ids_are cs v.1) refl
+
+  -- ---- atoms
+
+  pub path_means : (r : ℕ) (cs : List ℕ) → IsCategory g r → AreCategories g cs → cs ≢ []
+      → plain_of g (atom_word g r 95 cs) ≡ Some (Meaning.Formula.Path cs)
+  unfolding plain_of
+  path_means r [] l v n = absurd (n refl)
+  path_means r (c ∷ cs) l v n = go (atom_word g r 95 (c ∷ cs)) (path_pieces r (c ∷ cs) l v)
+    where
+      go : (w : List ℕ) → pieces_of 95 w ≡ name_of_category g r ∷ map (name_of_category g) (c ∷ cs)
+          → plain_of g w ≡ Some (Meaning.Formula.Path (c ∷ cs))
+      go w p =
+          let t = other_word 95 w (codes "true") _ _ _ p true_at_95 in
+          let f = other_word 95 w (codes "false") _ _ _ p false_at_95 in
+          let two : nat_lt 1 (length (name_of_category g r ∷ map (name_of_category g) (c ∷ cs))) ≡ true =
+          grind (arith) in
+          let all : list_all is_category_name (name_of_category g r ∷ map (name_of_category g) (c ∷ cs)) ≡ true =
+          all_names (r ∷ c ∷ cs) (l, v) in
+          rw (t, f, p, two, all) (ap (λ ids. Some (Meaning.Formula.Path ids)) (ids_are (c ∷ cs) v))
+
+  pub reach_means : (r d : ℕ) → IsCategory g r → IsCategory g d
+      → plain_of g (atom_word g r 46 (d ∷ [])) ≡ Some (Meaning.Formula.Reach d)
+  unfolding plain_of
+  reach_means r d l k =
+      go (atom_word g r 46 (d ∷ [])) (reach_pieces r (d ∷ []) l (k, tt)) (reach_whole r (d ∷ []) l (k, tt))
+    where
+      go : (w : List ℕ) → pieces_of 46 w ≡ name_of_category g r ∷ name_of_category g d ∷ []
+          → pieces_of 95 w ≡ w ∷ [] → plain_of g w ≡ Some (Meaning.Formula.Reach d)
+      go w p q =
+          let t = other_word 46 w (codes "true") _ _ _ p true_at_46 in
+          let f = other_word 46 w (codes "false") _ _ _ p false_at_46 in
+          let all : list_all is_category_name (name_of_category g r ∷ name_of_category g d ∷ []) ≡ true =
+          all_names (r ∷ d ∷ []) (l, (k, tt)) in
+          rw (t, f, q, p, all, id_is d k) refl
+
+  pub via_means : (r d e : ℕ) → IsCategory g r → IsCategory g d → IsCategory g e
+      → plain_of g (atom_word g r 46 (d ∷ e ∷ [])) ≡ Some (Meaning.Formula.Via d e)
+  unfolding plain_of
+  via_means r d e l k m =
+      go (atom_word g r 46 (d ∷ e ∷ [])) (reach_pieces r (d ∷ e ∷ []) l (k, (m, tt)))
+      (reach_whole r (d ∷ e ∷ []) l (k, (m, tt)))
+    where
+      go : (w : List ℕ) → pieces_of 46 w ≡ name_of_category g r ∷ name_of_category g d ∷ name_of_category g e ∷ []
+          → pieces_of 95 w ≡ w ∷ [] → plain_of g w ≡ Some (Meaning.Formula.Via d e)
+      go w p q =
+          let t = other_word 46 w (codes "true") _ _ _ p true_at_46 in
+          let f = other_word 46 w (codes "false") _ _ _ p false_at_46 in
+          let all : list_all is_category_name
+          (name_of_category g r ∷ name_of_category g d ∷ name_of_category g e ∷ []) ≡ true =
+          all_names (r ∷ d ∷ e ∷ []) (l, (k, (m, tt))) in
+          rw (t, f, q, p, all, id_is d k, id_is e m) refl
+
+  pub equals_means : (r d : ℕ) (k : List ℕ) → IsCategory g r → IsCategory g d
+      → equality_of g (compared_word g r d) k ≡ Some (Meaning.Formula.Equals d k)
+  unfolding equality_of
+  equals_means r d k l m = go (d == r) refl
+    where
+      go : (b : Bool) → d == r ≡ b
+          → equal_of g k (pieces_of 46 (cond b (name_of_category g r) (atom_word g r 46 (d ∷ [])))) ≡ Some
+          (Meaning.Formula.Equals d k)
+      go true e = let s : d ≡ r = eqb-true d r e in rw (name_whole 46 r (no_46 r l), is_name g h r l, id_is r l, s) refl
+      go false e = rw (reach_pieces r (d ∷ []) l (m, tt), is_name g h r l, is_name g h d m, id_is d m) refl
+
+  pub compares_means : (r d : ℕ) (op : Op) (n : ℤ) → IsCategory g r → IsCategory g d → IsSmall n
+      → comparison_of g (compared_word g r d) op (canonical n) ≡ Some (Meaning.Formula.Compare d op n)
+  unfolding comparison_of
+  compares_means r d op n l m small = rw (numeral_is_number n small, numbers_read_back n small) (go (d == r) refl)
+    where
+      go : (b : Bool) → d == r ≡ b
+          → compared_of g op n (pieces_of 46 (cond b (name_of_category g r) (atom_word g r 46 (d ∷ [])))) ≡ Some
+          (Meaning.Formula.Compare d op n)
+      go true e = let s : d ≡ r = eqb-true d r e in rw (name_whole 46 r (no_46 r l), is_name g h r l, id_is r l, s) refl
+      go false e = rw (reach_pieces r (d ∷ []) l (m, tt), is_name g h r l, is_name g h d m, id_is d m) refl
+
+  -- the last of the names is that of a number category
+  abbrev last_has : List (List ℕ) → Bool
+  last_has names = has_numbers g (category_named g (slice_index_or names (length names - 1) []))
+
+  -- a comparison's word compares the names of its category
+  pub compared_is : (r d : ℕ) → IsCategory g r → IsCategory g d
+      → compares_numbers g (compared_word g r d) ≡ is_number g d
+  compared_is r d l m = go (d == r) refl
+    where
+      go : (b : Bool) → d == r ≡ b
+          → compares_numbers g (cond b (name_of_category g r) (atom_word g r 46 (d ∷ []))) ≡ is_number g d
+      go true e =
+          ap last_has (name_whole 46 r (no_46 r l)) ∙ ap (has_numbers g) (named g h r l)
+          ∙ ap (is_number g) (sym (eqb-true d r e))
+      go false e = ap last_has (reach_pieces r (d ∷ []) l (m, tt)) ∙ ap (has_numbers g) (named g h d m)

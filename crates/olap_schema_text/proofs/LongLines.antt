@@ -1,0 +1,211 @@
+-- Tokens that are more than a formula may have, of which only the first are kept: why they are refused.
+--     many_nodes, too_deep, bad_form    the fault of the formula, by what was counted
+--     unversioned, no_constraint, no_formula    the fault of the line
+--     no_question    the fault of the question
+use Rattle.std.proofs.Common.{◌≡◌, ◌≤◌, ◌<◌, ◌+◌, ◌++◌, ◌∷◌, ◌∙◌, true, false, cond, ℕ, suc, List, length, nat_lt, Option, None, Some, Err, refl, sym, ap, subst, arith}
+use Rattle.std.specs.Borrow.{Bor}
+use Rattle.std.specs.Prelude.{is_some, unwrap_or}
+use Rattle.std.proofs.lemmas.Bool.{le-ltb, lt-ltb}
+use Rattle.std.proofs.lemmas.List.{length-append}
+use Rattle.olap_ast.specs.Formula.{Formula}
+use Rattle.olap_ast.specs.Schema.{Schema}
+use Rattle.olap_base.specs.Graph.{Graph}
+use Rattle.olap_base.specs.Limits.{most_nodes}
+use Rattle.olap_grammar.specs.Brackets.{most_tokens, opens_over}
+use Rattle.olap_grammar.specs.Keeping.{Begins, BeginsFound, IsTallyOf, Kept}
+use Rattle.olap_grammar.specs.Machine.{the_formula}
+use Rattle.olap_grammar.specs.Nodes.{nodes_behind, nodes_of}
+use Rattle.olap_grammar.specs.Words.{atoms_of}
+use Rattle.olap_grammar.specs.declared.tallying.Tally.{Tally}
+use Rattle.olap_grammar.specs.declared.tokens.Token.{Token}
+use Rattle.olap_grammar.specs.declared.tokens.Token.TheVariants as token
+use Rattle.olap_grammar.specs.declared.tokens.Mark.TheVariants as mark
+use Rattle.olap_grammar.specs.declared.tokens.Version.{Version}
+use Rattle.olap_grammar.specs.declared.tokens.Version.TheVariants as version
+use Rattle.olap_grammar.proofs.FewTokens.{few_tokens}
+use Rattle.olap_grammar.proofs.ReaderLemmas.{found_is_formula}
+use Rattle.olap_schema_text.specs.Judging.{Above, form_read, question_cut, statement_read, tokens_read, version_at}
+use Rattle.olap_schema_text.specs.Reading.{IsTallyBehind, said}
+use Rattle.olap_schema_text.specs.Statements as says
+use Rattle.olap_schema_text.specs.Statements.{Statement, statement_of}
+use Rattle.olap_schema_text.specs.declared.kinds.SchemaKind.{SchemaKind}
+use Rattle.olap_schema_text.specs.declared.kinds.SchemaKind.TheVariants as kind
+use Rattle.olap_schema_text.specs.declared.statements.Statement.{Statement as Said}
+use Rattle.olap_schema_text.specs.declared.statements.Statement.TheVariants as statement
+use Rattle.olap_schema_text.proofs.StatementLemmas.{IsSaid, is_said, long_says, longer}
+
+-- ---- constraints
+
+-- a constraint is two words, a colon, and its formula
+abbrev Fronts : List Token → List ℕ → List Token → Type 0
+Fronts ts root us = (w : List ℕ) × (ts ≡ token.Word w ∷ token.Word root ∷ token.Mark mark.Colon ∷ us)
+
+-- a constraint has two nodes before its formula
+nodes_fronted : (v : Version) (w root : List ℕ) (us : List Token)
+    → nodes_of v (token.Word w ∷ token.Word root ∷ token.Mark mark.Colon ∷ us) ≡ 1 + (1 + (0 + nodes_of v us))
+unfolding nodes_behind
+nodes_fronted version.One w root us = refl
+nodes_fronted version.Two w root us = refl
+
+-- what was counted of a constraint's line was counted of its formula, behind two nodes
+tally_behind : (v : Version) (y : Tally) (ts : List Token) (root : List ℕ) (us : List Token) → Fronts ts root us
+    → IsTallyOf v y ts → IsTallyBehind v 2 y us
+unfolding opens_over
+tally_behind v y ts root us f h =
+    let g : IsTallyOf v y (token.Word f.0 ∷ token.Word root ∷ token.Mark mark.Colon ∷ us) =
+    subst (IsTallyOf v y) f.1 h in
+    let few = g.few in
+    let count = nodes_fronted v f.0 root us in
+    record {
+      few = omega (arith, few, count);
+      nodes = λ l. let e = g.nodes l in omega (arith, e, count);
+      too_deep = g.too_deep;
+    }
+
+-- ---- formulas
+
+module _ (v : Version) (g : Graph) (before front : ℕ) (y : Tally) (ts : List Token)
+    (behind : IsTallyBehind v front y ts)
+  where
+    nodes_too_many : front ≤ 3 → most_nodes + front < before + y.nodes → most_nodes < before + nodes_of v ts
+    nodes_too_many f l = let few = behind.few in omega (arith, f, l, few)
+
+    pub many_nodes : front ≤ 3 → most_nodes + front < before + y.nodes → form_read v g before ts ≡ Err kind.TooManyNodes
+    unfolding form_read
+    many_nodes f l =
+        let t : nat_lt most_nodes (before + nodes_of v ts) ≡ true =
+        lt-ltb most_nodes (before + nodes_of v ts) (nodes_too_many f l) in
+        rw t refl
+
+    few_nodes : front ≤ 3 → before + y.nodes ≤ most_nodes + front → before + nodes_of v ts ≤ most_nodes
+    few_nodes f l = let e = behind.nodes (omega (arith, f, l)) in omega (arith, f, l, e)
+
+    few_test : front ≤ 3 → before + y.nodes ≤ most_nodes + front
+        → nat_lt most_nodes (before + nodes_of v ts) ≡ false
+    few_test f l = le-ltb most_nodes (before + nodes_of v ts) (few_nodes f l)
+
+    pub too_deep : front ≤ 3 → before + y.nodes ≤ most_nodes + front → y.too_deep ≡ true
+        → form_read v g before ts ≡ Err kind.TooDeep
+    unfolding form_read
+    too_deep f l d = rw (few_test f l, sym behind.too_deep ∙ d) refl
+
+    none_formed : before + nodes_of v ts ≤ most_nodes → opens_over 0 0 ts ≡ false → most_tokens most_nodes < length ts
+        → the_formula (atoms_of v g) ts ≡ None
+    none_formed l d long = go (the_formula (atoms_of v g) ts) refl
+      where
+        go : (o : Option Formula) → the_formula (atoms_of v g) ts ≡ o → o ≡ None
+        go None e = refl
+        go (Some f) e =
+            let few = few_tokens v (atoms_of v g) ts f (found_is_formula (atoms_of v g) ts f e) d in
+            absurd (omega (arith, l, few, long))
+
+    pub bad_form : front ≤ 3 → before + y.nodes ≤ most_nodes + front → y.too_deep ≡ false
+        → most_tokens most_nodes < length ts → form_read v g before ts ≡ Err kind.BadForm
+    unfolding form_read
+    bad_form f l d long =
+        let shallow : opens_over 0 0 ts ≡ false = sym behind.too_deep ∙ d in
+        rw (few_test f l, shallow, none_formed (few_nodes f l) shallow long) refl
+
+-- ---- the line
+
+module _ (a : Above) (n : ℕ) (k : Kept) (o : Option (List Token)) (found : BeginsFound (version_at a) k o)
+    (more : k.more ≡ true) (room : most_tokens most_nodes + 3 ≤ k.most)
+  where
+    abbrev ts : List Token
+    ts = found.0
+
+    abbrev begins : Begins (version_at a) k ts
+    begins = found.2
+
+    kept : 4 ≤ length k.first
+    kept = let f = begins.full more in omega (arith, f, room)
+
+    long : most_tokens most_nodes + 3 < length ts
+    long =
+        let e : length ts ≡ length (k.first ++ begins.rest) = ap length begins.parts in
+        let f = length-append k.first begins.rest in
+        let g = begins.full more in
+        let h = begins.others more in
+        omega (arith, e, f, g, h, room)
+
+    four : 4 ≤ length ts
+    four = let l = long in omega (arith, l)
+
+    -- the line says what the tokens that are kept do
+    says_as_kept : statement_of ts ≡ longer (statement_of k.first) begins.rest
+    says_as_kept = ap statement_of begins.parts ∙ long_says k.first begins.rest kept
+
+    pub unversioned : is_some a.version ≡ false → tokens_read a n o ≡ Err kind.BadForm
+    unversioned e = rw (found.1, says_as_kept) (go a.version (statement_of k.first) e)
+      where
+        go : (v : Option Version) (s : Statement) → is_some v ≡ false
+            → statement_read a n v (longer s begins.rest) ≡ Err kind.BadForm
+        go (Some v) s p = absurd (cc)
+        go None (says.Statement.Version u) p = refl
+        go None (says.Statement.Category name number) p = refl
+        go None (says.Statement.Edge child parent) p = refl
+        go None (says.Statement.Constraint root us) p = refl
+        go None says.Statement.Other p = refl
+
+    -- the tokens that are kept say anything but a constraint
+    pub no_constraint : (s : Said) → said s ≡ statement_of k.first
+        → ((root : Bor (List ℕ)) (us : Bor (List Token)) → s ≡ statement.Constraint root us → ⊥)
+        → tokens_read a n o ≡ Err kind.BadForm
+    no_constraint s e f = rw (found.1, says_as_kept, ← e) (go s a.version f)
+      where
+        go : (t : Said) (v : Option Version)
+            → ((root : Bor (List ℕ)) (us : Bor (List Token)) → t ≡ statement.Constraint root us → ⊥)
+            → statement_read a n v (longer (said t) begins.rest) ≡ Err kind.BadForm
+        go (statement.Version u) None p = refl
+        go (statement.Version u) (Some v) p = refl
+        go (statement.Category name number) None p = refl
+        go (statement.Category name number) (Some v) p = refl
+        go (statement.Edge child parent) None p = refl
+        go (statement.Edge child parent) (Some v) p = refl
+        go (statement.Constraint root us) v p = absurd (p root us refl)
+        go statement.Other None p = refl
+        go statement.Other (Some v) p = refl
+
+    -- the fault of the formula is the line's
+    pub no_formula : (e : SchemaKind) (root : List ℕ) (us : List Token) → is_some a.version ≡ true
+        → says.Statement.Constraint root us ≡ statement_of k.first
+        → ((vs : List Token) → IsTallyBehind (version_at a) 2 k.tally vs → most_tokens most_nodes < length vs
+        → form_read (version_at a) a.graph a.nodes vs ≡ Err e) → tokens_read a n o ≡ Err e
+    no_formula e root us v c h =
+        let whole : List Token = us ++ begins.rest in
+        let is : statement_of ts ≡ says.Statement.Constraint root whole = says_as_kept ∙ rw (← c) refl in
+        let front : Fronts ts root whole = subst (IsSaid ts) is (is_said ts) in
+        let same : length ts ≡ suc (suc (suc (length whole))) = ap length front.1 in
+        let l = long in
+        let behind = tally_behind (version_at a) k.tally ts root whole front begins.tally in
+        let read = h whole behind (omega (arith, same, l)) in
+        rw (found.1, is) (go a.version v read)
+      where
+        go : (w : Option Version) → is_some w ≡ true
+            → form_read (unwrap_or w version.One) a.graph a.nodes (us ++ begins.rest) ≡ Err e
+            → statement_read a n w (says.Statement.Constraint root (us ++ begins.rest)) ≡ Err e
+        go None p q = absurd (cc)
+        go (Some w) p q = rw q refl
+
+-- ---- a question
+
+-- what was counted of tokens was counted of them behind nothing
+nothing_in_front : (v : Version) (y : Tally) (ts : List Token) → IsTallyOf v y ts → IsTallyBehind v 0 y ts
+nothing_in_front v y ts h =
+    let few = h.few in
+    record { few = omega (arith, few); nodes = λ l. let e = h.nodes l in omega (arith, e); too_deep = h.too_deep }
+
+-- the fault of the formula is the question's
+pub no_question : (s : Schema) (root : ℕ) (k : Kept) (o : Option (List Token)) (e : SchemaKind)
+    → BeginsFound version.Two k o
+    → k.more ≡ true → most_tokens most_nodes ≤ k.most
+    → ((ts : List Token) → IsTallyBehind version.Two 0 k.tally ts → most_tokens most_nodes < length ts
+    → form_read version.Two s.graph 0 ts ≡ Err e) → question_cut s root o ≡ Err e
+no_question s root k o e found more room h =
+    let b = found.2 in
+    let p : length found.0 ≡ length (k.first ++ b.rest) = ap length b.parts in
+    let q = length-append k.first b.rest in
+    let r = b.full more in
+    let t = b.others more in
+    let behind = nothing_in_front version.Two k.tally found.0 b.tally in
+    rw (found.1, h found.0 behind (omega (arith, p, q, r, t, room))) refl

@@ -1,0 +1,226 @@
+-- What a line that has no fault does to what the lines above it say.
+--     Step        the ways in which a line goes on
+--     stepped     a line without a fault goes on in one of them
+--     all_steps   what each line keeps, all lines keep
+use Rattle.std.proofs.Common.{◌≡◌, ◌+◌, ℕ, Bool, true, false, cond, List, [], ◌∷◌, ◌++◌, Option, Some, None, length, fold, refl, sym, subst}
+use Rattle.std.specs.Prelude.{◌==◌, ◌||◌, ◌&&◌, Result, Ok, Err, not, nat_lt, nat_le}
+use Rattle.std.specs.List.{list_any}
+use Rattle.olap_ast.specs.Formula.{Formula, comparisons, equalities}
+use Rattle.olap_ast.specs.Valid.{with_number, with_pair}
+use Rattle.olap_base.specs.Reaching.{is_category_name}
+use Rattle.olap_base.specs.Limits.{most_constants, most_constraints, most_text_bytes}
+use Rattle.olap_graph.specs.Building.{category_refusal, edge_refusal, with_edge, with_kind}
+use Rattle.olap_graph.specs.Lookups.{category_named}
+use Rattle.olap_graph.specs.declared.refusals.CategoryRefusal.{CategoryRefusal}
+use Rattle.olap_graph.specs.declared.refusals.EdgeRefusal.{EdgeRefusal}
+use Rattle.olap_grammar.specs.CuttingMachine.{tokens_of}
+use Rattle.olap_grammar.specs.Nodes.{nodes_of}
+use Rattle.olap_grammar.specs.declared.tokens.Token.{Token}
+use Rattle.olap_grammar.specs.declared.tokens.Token.TheVariants as token
+use Rattle.olap_grammar.specs.declared.tokens.Mark.TheVariants as mark
+use Rattle.olap_schema_text.specs.Atoms.{atom_fault}
+use Rattle.olap_schema_text.specs.Judging.{Above, allows_numbers, atoms_read, category_added, category_read, constraint_read, edge_added, edge_read, ends_read, form_read, formed_read, line_read, lines_on, root_read, statement_read, tokens_read, version_at}
+use Rattle.olap_schema.specs.Readable.{is_bad}
+use Rattle.olap_schema_text.specs.Lines.{chomped, is_quiet}
+use Rattle.olap_schema_text.specs.Statements.{Statement, Statement.Version, Statement.Category, Statement.Edge, Statement.Constraint, Statement.Other, statement_of}
+use Rattle.olap_schema_text.specs.Tokens.{is_bad_number, is_long}
+use Rattle.olap_schema_text.specs.declared.kinds.SchemaKind.{SchemaKind}
+use Rattle.olap_grammar.specs.declared.tokens.Version.{Version as TextVersion}
+use Rattle.olap_schema_text.proofs.StatementLemmas.{IsSaid, is_said}
+use Rattle.olap_schema_text.proofs.ValidTexts.{AreFine, drop_fine, line_is_fine}
+
+-- a category of this name, of numbers or not, is added
+pub record AddsCategory (a b : Above) (n : ℕ) (name : List ℕ) (number : Bool) : Type 0 where
+  pub short : nat_lt most_text_bytes (length name) ≡ false
+  pub free : category_refusal a.graph name ≡ None
+  pub new : b ≡ record a { graph = with_kind number a.graph name; category_lines = a.category_lines ++ n ∷ [] }
+
+-- an edge between these categories is added
+pub record AddsEdge (a b : Above) (child parent : List ℕ) (c d : ℕ) : Type 0 where
+  pub child_is : category_named a.graph child ≡ Some c
+  pub parent_is : category_named a.graph parent ≡ Some d
+  pub free : edge_refusal a.graph c d ≡ None
+  pub new : b ≡ record a { graph = with_edge a.graph c d }
+
+-- a constraint of these tokens at this root is added
+pub record AddsConstraint (a b : Above) (v : TextVersion) (name : List ℕ) (ts : List Token) (f : Formula) (root : ℕ)
+    : Type 0 where
+  pub formed : form_read v a.graph a.nodes ts ≡ Ok f
+  pub short : list_any is_long ts ≡ false
+  pub root_is : category_named a.graph name ≡ Some root
+  pub below_all : root == 0 ≡ false
+  pub few : nat_le most_constraints (length a.constraints) ≡ false
+  pub faultless : atom_fault a.graph name ts ≡ None
+  pub fine : AreFine ts
+  pub few_pairs : nat_lt most_constants (length (fold with_pair a.pairs (equalities f))
+      + length (fold with_number a.numbers (comparisons f))) ≡ false
+  pub new : b ≡ record a {
+    constraints = a.constraints ++ record { root = root; formula = f } ∷ [];
+    nodes = a.nodes + nodes_of v ts;
+    pairs = fold with_pair a.pairs (equalities f);
+    numbers = fold with_number a.numbers (comparisons f);
+  }
+
+-- the ways in which a line goes on
+pub data Step (a b : Above) : Type 0 where
+  quiet : b ≡ a → Step a b
+  version : (v : TextVersion) → b ≡ record a { version = Some v } → Step a b
+  category : (n : ℕ) (name : List ℕ) (number : Bool) → is_category_name name ≡ true → AddsCategory a b n name number
+      → Step a b
+  edge : (child parent : List ℕ) (c d : ℕ) → AddsEdge a b child parent c d → Step a b
+  constraint : (v : TextVersion) (name : List ℕ) (ts : List Token) (f : Formula) (root : ℕ)
+      → AddsConstraint a b v name ts f root → Step a b
+
+-- a test behind which there is a fault was not passed
+pub passed_on : {A K : Type 0} (c : Bool) (k : K) (r : Result A K) (b : A) → cond c (Err k) r ≡ Ok b
+    → (c ≡ false) × (r ≡ Ok b)
+passed_on true k r b h = absurd (cc)
+passed_on false k r b h = (refl, h)
+
+-- what came of a line is one
+pub ok_is : {A K : Type 0} (a b : A) → (let r : Result A K = Ok a in r) ≡ Ok b → b ≡ a
+ok_is a b h = cc
+
+-- where not one of two is so, the second isn't
+neither : (b c : Bool) → b || c ≡ false → c ≡ false
+neither true c h = absurd (cc)
+neither false c h = h
+
+-- a category's line adds the category
+category_step : (a b : Above) (n : ℕ) (v : TextVersion) (name : List ℕ) (number : Bool)
+    → category_read a n v name number ≡ Ok b → AddsCategory a b n name number
+category_step a b n v name number h = go (category_refusal a.graph name) refl t.1
+  where
+    t : (nat_lt most_text_bytes (length name) ≡ false)
+        × (category_added a n name number (category_refusal a.graph name) ≡ Ok b)
+    t = passed_on _ _ _ _ (passed_on (number && not (allows_numbers v)) _ _ _ h).1
+
+    go : (o : Option CategoryRefusal) → category_refusal a.graph name ≡ o → category_added a n name number o ≡ Ok b
+        → AddsCategory a b n name number
+    go None e k = record { short = t.0; free = e; new = ok_is _ _ k }
+    go (Some r) e k = absurd (cc)
+
+-- an edge's line adds the edge
+edge_step : (a b : Above) (child parent : List ℕ) → edge_read a child parent ≡ Ok b
+    → (c : ℕ) × (d : ℕ) × AddsEdge a b child parent c d
+edge_step a b child parent h =
+    ends (category_named a.graph child) (category_named a.graph parent) refl refl (passed_on _ _ _ _ h).1
+  where
+    go : (c d : ℕ) → category_named a.graph child ≡ Some c → category_named a.graph parent ≡ Some d
+        → (o : Option EdgeRefusal)
+        → edge_refusal a.graph c d ≡ o → edge_added a c d o ≡ Ok b → AddsEdge a b child parent c d
+    go c d p q None e k = record { child_is = p; parent_is = q; free = e; new = ok_is _ _ k }
+    go c d p q (Some r) e k = absurd (cc)
+
+    ends : (o r : Option ℕ) → category_named a.graph child ≡ o → category_named a.graph parent ≡ r
+        → ends_read a o r ≡ Ok b
+        → (c : ℕ) × (d : ℕ) × AddsEdge a b child parent c d
+    ends None r p q k = absurd (cc)
+    ends (Some c) None p q k = absurd (cc)
+    ends (Some c) (Some d) p q k = (c, d, go c d p q (edge_refusal a.graph c d) refl k)
+
+-- a constraint's line adds the constraint
+constraint_step : (a b : Above) (v : TextVersion) (name : List ℕ) (ts : List Token) → AreFine ts
+    → constraint_read a v name ts ≡ Ok b → (f : Formula) × (root : ℕ) × AddsConstraint a b v name ts f root
+constraint_step a b v name ts fine h = formed (form_read v a.graph a.nodes ts) refl h
+  where
+    faults : (f : Formula) (root : ℕ) → form_read v a.graph a.nodes ts ≡ Ok f → list_any is_long ts ≡ false
+        → category_named a.graph name ≡ Some root
+        → root == 0 ≡ false → nat_le most_constraints (length a.constraints) ≡ false → (o : Option SchemaKind)
+        → atom_fault a.graph name ts ≡ o
+        → atoms_read a v root ts f o ≡ Ok b → AddsConstraint a b v name ts f root
+    faults f root e l r z n (Some k) q g = absurd (cc)
+    faults f root e l r z n None q g =
+        let t = passed_on _ _ _ _ g in
+        record {
+          formed = e;
+          short = l;
+          root_is = r;
+          below_all = z;
+          few = n;
+          faultless = q;
+          fine = fine;
+          few_pairs = t.0;
+          new = ok_is _ _ t.1;
+        }
+
+    rooted : (f : Formula) → form_read v a.graph a.nodes ts ≡ Ok f → list_any is_long ts ≡ false → (o : Option ℕ)
+        → category_named a.graph name ≡ o
+        → root_read a v name ts f o ≡ Ok b → (root : ℕ) × AddsConstraint a b v name ts f root
+    rooted f e l None r g = absurd (cc)
+    rooted f e l (Some root) r g =
+        let t = passed_on _ _ _ _ g in let u = passed_on _ _ _ _ t.1 in
+        (root, faults f root e l r t.0 u.0 (atom_fault a.graph name ts) refl u.1)
+
+    formed : (r : Result Formula SchemaKind) → form_read v a.graph a.nodes ts ≡ r → formed_read a v name ts r ≡ Ok b
+        → (f : Formula) × (root : ℕ) × AddsConstraint a b v name ts f root
+    formed (Err k) e g = absurd (cc)
+    formed (Ok f) e g =
+        let t = passed_on _ _ _ _ g in
+        let u = passed_on (list_any is_bad_number ts) _ _ _ t.1 in
+        let r =
+        rooted f e (neither (nat_lt most_text_bytes (length name)) (list_any is_long ts) t.0)
+        (category_named a.graph name) refl u.1 in
+        (f, r.0, r.1)
+
+-- the tokens of a constraint's formula are tokens of the line
+formula_fine : (ts : List Token) (root : List ℕ) (us : List Token) → statement_of ts ≡ Constraint root us → AreFine ts
+    → AreFine us
+formula_fine ts root us e fine =
+    let said : IsSaid ts (Constraint root us) = subst (IsSaid ts) e (is_said ts) in
+    drop_fine 3 (token.Word said.0 ∷ token.Word root ∷ token.Mark mark.Colon ∷ us) (subst AreFine said.1 fine)
+
+-- so what tokens say adds what they name
+statement_step : (a b : Above) (n : ℕ) (v : Option TextVersion) (s : Statement)
+    → ((name : List ℕ) (number : Bool) → s ≡ Category name number → is_category_name name ≡ true)
+    → ((root : List ℕ) (ts : List Token) → s ≡ Constraint root ts → AreFine ts)
+    → statement_read a n v s ≡ Ok b → Step a b
+statement_step a b n None (Version u) m fine h = version u (ok_is _ _ h)
+statement_step a b n None (Category name number) m fine h = absurd (cc)
+statement_step a b n None (Edge child parent) m fine h = absurd (cc)
+statement_step a b n None (Constraint root ts) m fine h = absurd (cc)
+statement_step a b n None Other m fine h = absurd (cc)
+statement_step a b n (Some v) (Version u) m fine h = absurd (cc)
+statement_step a b n (Some v) (Category name number) m fine h =
+    category n name number (m name number refl) (category_step a b n v name number h)
+statement_step a b n (Some v) (Edge child parent) m fine h =
+    let t = edge_step a b child parent h in edge child parent t.0 t.1 t.2
+statement_step a b n (Some v) (Constraint root ts) m fine h =
+    let t = constraint_step a b v root ts (fine root ts refl) h in constraint v root ts t.0 t.1 t.2
+statement_step a b n (Some v) Other m fine h = absurd (cc)
+
+-- and so do the tokens of a line
+tokens_step : (a b : Above) (n : ℕ) (o : Option (List Token)) → ((ts : List Token) → o ≡ Some ts → AreFine ts)
+    → tokens_read a n o ≡ Ok b → Step a b
+tokens_step a b n None fine h = absurd (cc)
+tokens_step a b n (Some ts) fine h =
+    statement_step a b n a.version (statement_of ts) (λ name number e. subst (IsSaid ts) e (is_said ts))
+    (λ root us e. formula_fine ts root us e (fine ts refl)) h
+
+-- a line without a fault goes on in one of the ways
+pub stepped : (a b : Above) (n : ℕ) (line : List ℕ) → line_read a n line ≡ Ok b → Step a b
+unfolding line_read
+stepped a b n line h = go (is_quiet line) t.1
+  where
+    t : (is_bad line ≡ false)
+        × (cond (is_quiet line) (Ok a) (tokens_read a n (tokens_of (version_at a) line)) ≡ Ok b)
+    t = passed_on _ _ _ _ h
+
+    go : (c : Bool) → cond c (Ok a) (tokens_read a n (tokens_of (version_at a) line)) ≡ Ok b → Step a b
+    go true h = quiet (ok_is _ _ h)
+    go false h =
+        tokens_step a b n (tokens_of (version_at a) line) (λ ts e. line_is_fine (version_at a) line ts t.0 e) h
+
+-- what each line keeps, all lines keep
+pub all_steps : (P : Above → Type 0) → ((a b : Above) → Step a b → P a → P b)
+    → (a b : Above) (n : ℕ) (lines : List (List ℕ))
+    → lines_on (Ok a) n lines ≡ Ok b → P a → P b
+all_steps P keeps a b n [] h p = subst P (sym (ok_is _ _ h)) p
+all_steps P keeps a b n (line ∷ lines) h p =
+    go (line_read a (n + 1) (chomped line)) refl h
+    (λ c e k. all_steps P keeps c b (n + 1) lines k (keeps a c (stepped a c _ _ e) p))
+  where
+    go : (r : Result Above SchemaKind) → line_read a (n + 1) (chomped line) ≡ r → lines_on r (n + 1) lines ≡ Ok b
+        → ((c : Above) → line_read a (n + 1) (chomped line) ≡ Ok c → lines_on (Ok c) (n + 1) lines ≡ Ok b → P b) → P b
+    go (Err k) e q rest = absurd (cc)
+    go (Ok c) e q rest = rest c e q

@@ -1,0 +1,293 @@
+-- A line without a fault keeps what holds of what the lines above it say.
+--     IsSoundSoFar       what holds of what they say
+--     category_kept      a category keeps it
+--     edge_kept          an edge does
+--     constraint_kept    a constraint does
+use Rattle.std.proofs.Common.{◌≡◌, ◌≢◌, ◌+◌, ◌<◌, ◌≤◌, ℕ, zero, suc, Bool, true, false, cond, List, [], ◌∷◌, ◌++◌, Option, Some, None, Ok, Err, length, fold, is_some, append-nil, refl, sym, ap, ◌∙◌, arith, subst, inl, inr}
+use Rattle.std.specs.Prelude.{Contains, flat_map, nat_le, nat_lt, slice_index_or, sum_by}
+use Rattle.std.proofs.lemmas.Bool.{eqb-false, leb-false, leb-true, ltb-false}
+use Rattle.std.proofs.lemmas.List.{get_or_append_left, length_push}
+use Rattle.std.proofs.lemmas.List.Concat.{flat_map-append}
+use Rattle.std.proofs.lemmas.List.Elements.{Contains-append_left, Contains-push_cases}
+use Rattle.std.proofs.lemmas.List.Sums.{fold-append, sum_by-append, sum_by-cons}
+use Rattle.olap_ast.specs.Formula.{Comparison, Equality, Formula, comparisons, equalities}
+use Rattle.olap_ast.specs.Schema.{Constraint}
+use Rattle.olap_ast.specs.Valid.{IsFormulaAt, depth_of, distinct_numbers, distinct_pairs, node_count, with_number, with_pair}
+use Rattle.olap_base.specs.Reaching.{is_category_name, is_category_name_is}
+use Rattle.olap_base.specs.Graph.{Graph, IsCategory, IsDeclared, category_count, is_number}
+use Rattle.olap_base.specs.Limits.{most_categories, most_constants, most_constraints, most_depth, most_edges, most_nodes, most_text_bytes}
+use Rattle.olap_graph.specs.Building.{IsUnfinished, IsWithinLimits, category_refusal, edge_refusal, with_edge, with_kind}
+use Rattle.olap_graph.specs.Lookups.{category_named, edge_between}
+use Rattle.olap_graph.proofs.GrowthLemmas.{limits-with_category, limits-with_edge, unfinished-with_category, unfinished-with_edge}
+use Rattle.olap_grammar.specs.Answering.{formula_answer}
+use Rattle.olap_grammar.specs.Grammar.{IsFormula}
+use Rattle.olap_grammar.specs.Machine.{the_formula}
+use Rattle.olap_grammar.specs.Nodes.{nodes_of}
+use Rattle.olap_grammar.specs.Words.{atoms_of}
+use Rattle.olap_grammar.specs.declared.refusals.FormRefusal.TheVariants as form
+use Rattle.olap_grammar.specs.declared.tokens.Token.{Token}
+use Rattle.olap_grammar.specs.declared.tokens.Version.{Version}
+use Rattle.olap_grammar.proofs.ReaderLemmas.{found_is_formula}
+use Rattle.olap_schema_text.specs.Judging.{Above, form_answer, form_read}
+use Rattle.olap_schema.specs.Readable.{AreTexts}
+use Rattle.olap_schema_text.proofs.StepLemmas.{AddsCategory, AddsConstraint, AddsEdge, ok_is, passed_on}
+use Rattle.olap_schema_text.proofs.ValidFormulas.{IsWithin, formula_is_valid, formula_nodes, grown_is_valid}
+use Rattle.olap_schema_text.proofs.ValidTexts.{formula_is_fine}
+use Rattle.olap_schema_text.proofs.ValidNames.{name_at}
+
+-- what holds of one constraint
+pub record IsSoundConstraint (g : Graph) (c : Constraint) : Type 0 where
+  pub declared : IsDeclared g c.root
+  pub formula : IsFormulaAt g c.root c.formula
+  pub depth : depth_of c.formula ≤ most_depth
+  pub texts : AreTexts (equalities c.formula)
+
+-- the nodes of constraints
+abbrev nodes_in : List Constraint → ℕ
+nodes_in cs = sum_by (λ c. node_count c.formula) cs
+
+-- their distinct pairs
+abbrev pairs_in : List Constraint → List Equality
+pairs_in cs = distinct_pairs (flat_map (λ c. equalities c.formula) cs)
+
+-- their distinct pairs with numbers
+abbrev numbers_in : List Constraint → List Comparison
+numbers_in cs = distinct_numbers (flat_map (λ c. comparisons c.formula) cs)
+
+-- what holds of the constraints so far
+pub record AreSound (g : Graph) (cs : List Constraint) (nodes : ℕ) (pairs : List Equality) (numbers : List Comparison)
+    : Type 0 where
+  pub each : (c : Constraint) → Contains cs c → IsSoundConstraint g c
+  pub few : length cs ≤ most_constraints
+  pub nodes_are : nodes_in cs ≡ nodes
+  pub few_nodes : nodes ≤ most_nodes
+  pub pairs_are : pairs_in cs ≡ pairs
+  pub numbers_are : numbers_in cs ≡ numbers
+  pub few_pairs : length pairs + length numbers ≤ most_constants
+
+-- what holds of what the lines so far say
+pub record IsSoundSoFar (a : Above) : Type 0 where
+  pub unfinished : IsUnfinished a.graph
+  pub limits : IsWithinLimits a.graph
+  pub constraints : AreSound a.graph a.constraints a.nodes a.pairs a.numbers
+
+-- ---- a larger graph
+
+-- a sound constraint is sound in a larger graph
+sound_within : (g h : Graph) (c : Constraint) → IsWithin g h → IsSoundConstraint g c → IsSoundConstraint h c
+sound_within g h c w s = record {
+  declared = (s.declared.0, w.categories c.root s.declared.1);
+  formula = grown_is_valid g h w c.root c.formula s.formula;
+  depth = s.depth;
+  texts = s.texts;
+}
+
+-- and so are all
+all_within : (g h : Graph) (cs : List Constraint) (nodes : ℕ) (pairs : List Equality) (numbers : List Comparison)
+    → IsWithin g h → AreSound g cs nodes pairs numbers → AreSound h cs nodes pairs numbers
+all_within g h cs nodes pairs numbers w s = record {
+  each = λ c k. sound_within g h c w (s.each c k);
+  few = s.few;
+  nodes_are = s.nodes_are;
+  few_nodes = s.few_nodes;
+  pairs_are = s.pairs_are;
+  numbers_are = s.numbers_are;
+  few_pairs = s.few_pairs;
+}
+
+-- the kinds of the categories so far stay
+same_kind : (number : Bool) (g : Graph) (name : List ℕ) → length g.numbers ≡ length g.names → (c : ℕ)
+    → IsCategory g c → is_number (with_kind number g name) c ≡ is_number g c
+same_kind number g name known zero h = refl
+same_kind number g name known (suc c) h =
+    get_or_append_left g.numbers (number ∷ []) false c (omega (arith, known, h))
+
+-- a graph with one category more is larger
+within_category : (number : Bool) (g : Graph) (name : List ℕ) → length g.numbers ≡ length g.names
+    → IsWithin g (with_kind number g name)
+within_category number g name known = record {
+  categories = λ c h. let l = length_push g.names name in omega arith;
+  kinds = same_kind number g name known;
+  edges = λ c d h. h;
+}
+
+-- and one with one edge more
+within_edge : (g : Graph) (c d : ℕ) → IsWithin g (with_edge g c d)
+within_edge g c d = record {
+  categories = λ x h. h;
+  kinds = kept;
+  edges =
+      λ x y h. Contains-append_left g.edges (record { child = c; parent = d } ∷ [])
+      (record { child = x; parent = y }) h;
+}
+  where
+    kept : (x : ℕ) → IsCategory g x → is_number (with_edge g c d) x ≡ is_number g x
+    kept zero h = refl
+    kept (suc x) h = refl
+
+-- ---- a category
+
+-- a test behind which there is a refusal was not passed
+pub not_refused : {E : Type 0} (c : Bool) (e : E) (o : Option E) → cond c (Some e) o ≡ None → (c ≡ false) × (o ≡ None)
+not_refused true e o h = absurd (cc)
+not_refused false e o h = (refl, h)
+
+-- what isn't some is none
+none_there : (o : Option ℕ) → is_some o ≡ false → o ≡ None
+none_there None h = refl
+none_there (Some i) h = absurd (cc)
+
+-- a category that isn't refused has a new name, and there is room
+free_name : (g : Graph) (name : List ℕ) → category_refusal g name ≡ None
+    → (category_named g name ≡ None) × (category_count g < most_categories)
+free_name g name h =
+    let t = not_refused _ _ _ h in
+    (none_there (category_named g name) t.0, leb-false most_categories (category_count g) (not_refused _ _ _ t.1).0)
+
+-- one category more
+pub category_kept : (a b : Above) (n : ℕ) (name : List ℕ) (number : Bool) → is_category_name name ≡ true
+    → AddsCategory a b n name number → IsSoundSoFar a → IsSoundSoFar b
+category_kept a b n name number h s p =
+    let free = free_name a.graph name s.free in
+    subst IsSoundSoFar (sym s.new) (record {
+      unfinished = unfinished-with_category number a.graph name p.unfinished ((is_category_name_is name).0 h) free.0;
+      limits =
+          limits-with_category number a.graph name p.limits free.1 (ltb-false most_text_bytes (length name) s.short);
+      constraints =
+          all_within a.graph (with_kind number a.graph name) a.constraints a.nodes a.pairs a.numbers
+          (within_category number a.graph name p.unfinished.kinds_known) p.constraints;
+    })
+
+-- ---- an edge
+
+-- what an edge that is not refused is
+record IsFree (g : Graph) (c d : ℕ) : Type 0 where
+  loop : c ≢ d
+  from_all : c ≢ 0
+  none : edge_between g c d ≡ None
+  few : length g.edges < most_edges
+
+-- an edge that isn't refused is a new one, and there is room
+free_edge : (g : Graph) (c d : ℕ) → edge_refusal g c d ≡ None → IsFree g c d
+free_edge g c d h =
+    let loop = not_refused _ _ _ h in
+    let from_all = not_refused _ _ _ loop.1 in
+    let none = not_refused _ _ _ from_all.1 in
+    let few = not_refused _ _ _ none.1 in
+    record {
+      loop = eqb-false c d loop.0;
+      from_all = eqb-false c 0 from_all.0;
+      none = none_there (edge_between g c d) none.0;
+      few = leb-false most_edges (length g.edges) few.0;
+    }
+
+-- one edge more
+pub edge_kept : (a b : Above) (child parent : List ℕ) (c d : ℕ) → AddsEdge a b child parent c d → IsSoundSoFar a
+    → IsSoundSoFar b
+edge_kept a b child parent c d s p =
+    let free = free_edge a.graph c d s.free in
+    subst IsSoundSoFar (sym s.new) (record {
+      unfinished =
+          unfinished-with_edge a.graph c d p.unfinished (name_at a.graph child c s.child_is).0
+          (name_at a.graph parent d s.parent_is).0
+          free.loop free.from_all free.none;
+      limits = limits-with_edge a.graph c d p.limits free.few;
+      constraints =
+          all_within a.graph (with_edge a.graph c d) a.constraints a.nodes a.pairs a.numbers
+          (within_edge a.graph c d) p.constraints;
+    })
+
+-- ---- a constraint
+
+-- what a formula that was read is
+pub record IsFormed (v : Version) (g : Graph) (before : ℕ) (ts : List Token) (f : Formula) : Type 0 where
+  pub few : before + nodes_of v ts ≤ most_nodes
+  pub formed : IsFormula (atoms_of v g) 1 ts f
+  pub depth : depth_of f ≤ most_depth
+
+-- a formula whose form has no fault, with its limits
+pub formed : (v : Version) (g : Graph) (before : ℕ) (ts : List Token) (f : Formula) → form_read v g before ts ≡ Ok f
+    → IsFormed v g before ts f
+unfolding form_read
+formed v g before ts f h =
+    let many = passed_on _ _ _ _ h in
+    let deep = passed_on _ _ _ _ many.1 in
+    let t = found (the_formula (atoms_of v g) ts) refl deep.1 in
+    record { few = ltb-false most_nodes (before + nodes_of v ts) many.0; formed = t.0; depth = t.1 }
+  where
+    shallow : (k : Formula) → the_formula (atoms_of v g) ts ≡ Some k → (b : Bool) → nat_le (depth_of k) most_depth ≡ b
+        → form_answer (cond b (Ok k) (Err form.TooDeep)) ≡ Ok f → IsFormula (atoms_of v g) 1 ts f
+        × (depth_of f ≤ most_depth)
+    shallow k e true d q =
+        subst (λ x. IsFormula (atoms_of v g) 1 ts x × (depth_of x ≤ most_depth)) (sym (ok_is _ _ q))
+        (found_is_formula (atoms_of v g) ts k e, leb-true (depth_of k) most_depth d)
+    shallow k e false d q = absurd (cc)
+
+    found : (o : Option Formula) → the_formula (atoms_of v g) ts ≡ o → form_answer (formula_answer o) ≡ Ok f
+        → IsFormula (atoms_of v g) 1 ts f × (depth_of f ≤ most_depth)
+    found None e q = absurd (cc)
+    found (Some k) e q = shallow k e (nat_le (depth_of k) most_depth) refl q
+
+-- what is folded over the atoms of one constraint more
+folded_on : {A : Type 0} (add : List A → A → List A) (atoms : Formula → List A) (cs : List Constraint) (c : Constraint)
+    → fold add [] (flat_map (λ k. atoms k.formula) (cs ++ c ∷ []))
+    ≡ fold add (fold add [] (flat_map (λ k. atoms k.formula) cs)) (atoms c.formula)
+folded_on add atoms cs c =
+    ap (fold add []) (flat_map-append (λ k. atoms k.formula) cs (c ∷ []))
+    ∙ fold-append add [] (flat_map (λ k. atoms k.formula) cs) (flat_map (λ k. atoms k.formula) (c ∷ []))
+    ∙ ap (fold add (fold add [] (flat_map (λ k. atoms k.formula) cs))) (append-nil (atoms c.formula))
+
+-- one constraint more, with its nodes, pairs and numbers
+one_more : (g : Graph) (cs : List Constraint) (nodes : ℕ) (pairs : List Equality) (numbers : List Comparison)
+    (c : Constraint) (more : ℕ) → AreSound g cs nodes pairs numbers
+    → IsSoundConstraint g c → length cs < most_constraints → node_count c.formula ≡ more → nodes + more ≤ most_nodes
+    → length (fold with_pair pairs (equalities c.formula)) + length (fold with_number numbers (comparisons c.formula))
+    ≤ most_constants
+    → AreSound g (cs ++ c ∷ []) (nodes + more) (fold with_pair pairs (equalities c.formula))
+    (fold with_number numbers (comparisons c.formula))
+one_more g cs nodes pairs numbers c more s sound few count few_nodes few_pairs = record {
+  each =
+      λ k h. elim (Contains-push_cases cs c k h) [ inl d ↦ s.each k d | inr e ↦ subst (IsSoundConstraint g) e sound ];
+  few = omega (arith, length_push cs c);
+  nodes_are =
+      omega (
+        arith,
+        s.nodes_are,
+        sum_by-append (λ k. node_count k.formula) cs (c ∷ []),
+        sum_by-cons (λ k. node_count k.formula) c [],
+      );
+  few_nodes = few_nodes;
+  pairs_are =
+      folded_on with_pair equalities cs c
+      ∙ ap (λ before. fold with_pair before (equalities c.formula)) s.pairs_are;
+  numbers_are =
+      folded_on with_number comparisons cs c
+      ∙ ap (λ before. fold with_number before (comparisons c.formula)) s.numbers_are;
+  few_pairs = few_pairs;
+}
+
+-- so with it all is sound
+pub constraint_kept : (a b : Above) (v : Version) (name : List ℕ) (ts : List Token) (f : Formula) (root : ℕ)
+    → AddsConstraint a b v name ts f root → IsSoundSoFar a → IsSoundSoFar b
+constraint_kept a b v name ts f root s p =
+    let read = formed v a.graph a.nodes ts f s.formed in
+    let sound : IsSoundConstraint a.graph (record { root = root; formula = f }) = record {
+      declared = (eqb-false root 0 s.below_all, (name_at a.graph name root s.root_is).0);
+      formula =
+          formula_is_valid v a.graph name root s.root_is read.formed
+          (record { faultless = s.faultless; short = s.short });
+      depth = read.depth;
+      texts = formula_is_fine v a.graph read.formed s.fine;
+    } in
+    subst IsSoundSoFar (sym s.new) (record {
+      unfinished = p.unfinished;
+      limits = p.limits;
+      constraints =
+          one_more a.graph a.constraints a.nodes a.pairs a.numbers (record { root = root; formula = f })
+          (nodes_of v ts) p.constraints sound
+          (leb-false most_constraints (length a.constraints) s.few)
+          (formula_nodes v a.graph read.formed) read.few
+          (ltb-false most_constants
+          (length (fold with_pair a.pairs (equalities f)) + length (fold with_number a.numbers (comparisons f)))
+          s.few_pairs);
+    })

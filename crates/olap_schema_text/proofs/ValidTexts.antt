@@ -1,0 +1,376 @@
+-- The constants of a line that is UTF-8 without control characters are so too.
+--     AreFine            each string among the tokens is such a text
+--     line_is_fine       the tokens of such a line
+--     formula_is_fine    the constants of a formula of such tokens
+use Rattle.std.proofs.Common.{◌≡◌, ◌<◌, ◌≤◌, ℕ, ℤ, zero, suc, Bool, true, false, not, cond, List, [], ◌∷◌, ◌++◌, Option, Some, None, length, get_or, drop, map, append_assoc, refl, sym, arith, subst, inl, inr}
+use Rattle.std.specs.Prelude.{◌==◌, ◌||◌, ◌⊎◌, Contains, codes, flat_map, nat_lt, slice_index_or}
+use Rattle.std.specs.Char.{is_ascii_alphanumeric, is_ascii_digit}
+use Rattle.std.specs.Int.{is_in_range}
+use Rattle.std.specs.List.{list_all, list_any}
+use Rattle.std.specs.Str.{IsUtf8, bytes_eq}
+use Rattle.std.proofs.lemmas.Bool.{eqb-true, leb-true}
+use Rattle.std.proofs.lemmas.List.{drop_at, take_at}
+use Rattle.std.proofs.lemmas.List.Concat.{flat_map-cons}
+use Rattle.std.proofs.lemmas.List.Elements.{Contains-append_cases}
+use Rattle.std.proofs.lemmas.Str.{IsCharBoundary-after_ascii, IsCharBoundary-before_ascii, IsUtf8-append, IsUtf8-drop, IsUtf8-take}
+use Rattle.olap_ast.specs.Formula as Meaning
+use Rattle.olap_ast.specs.Formula.{Equality, Formula, Terms, equalities, equalities_of_terms}
+use Rattle.olap_ast.specs.Schema.{Constraint}
+use Rattle.olap_base.specs.Deciding.{contains_cases, contains_cons}
+use Rattle.olap_base.specs.Reaching.{is_category_name}
+use Rattle.olap_base.specs.Graph.{Graph}
+use Rattle.olap_base.proofs.ListLemmas.{Contains-nil, contains_head}
+use Rattle.olap_grammar.specs.Cutting.{AreWordBytes, IsCut, IsCut.end, IsCut.blank, IsCut.tab, IsCut.word, IsCut.quoted, IsCut.signed, IsCut.marked, Spells, Spells.nothing, Spells.quote, Spells.backslash, Spells.other, is_word_byte, joint_bytes, mark_bytes}
+use Rattle.olap_grammar.specs.CuttingMachine.{tokens_of}
+use Rattle.olap_grammar.specs.Grammar.{IsFormula, IsFormula.looser, IsFormula.joined, IsFormula.negated, IsFormula.bracketed, IsFormula.listed, IsFormula.plain, IsFormula.equal, IsFormula.compared, IsItems, IsItems.last, IsItems.more, IsList, IsList.none, IsList.some, join}
+use Rattle.olap_numerals.specs.Comparing.{Op}
+use Rattle.olap_grammar.specs.Words.{atoms_of, compared_of, comparison_in, comparison_of, equal_of, equality_of, id_of, is_number_token, path_of, pieces_of, plain_of, reach_of}
+use Rattle.olap_grammar.specs.declared.tokens.Joint.{Joint}
+use Rattle.olap_grammar.specs.declared.tokens.Joint.TheVariants as joint
+use Rattle.olap_grammar.specs.declared.tokens.Token.{Token}
+use Rattle.olap_grammar.specs.declared.tokens.Token.TheVariants as token
+use Rattle.olap_grammar.specs.declared.tokens.Mark.{Mark}
+use Rattle.olap_grammar.specs.declared.tokens.Mark.TheVariants as mark
+use Rattle.olap_grammar.specs.declared.tokens.Version.{Version}
+use Rattle.olap_grammar.specs.declared.tokens.Version.TheVariants as version
+use Rattle.olap_grammar.proofs.CutSound.{found_is_cut}
+use Rattle.olap_schema.specs.Readable.{is_bad, is_control}
+use Rattle.olap_schema.specs.Readable.{AreTexts}
+use Rattle.olap_schema_text.proofs.BackBytes.{IsPlain, from_not_bad, not_bad}
+use Rattle.olap_schema_text.proofs.ValidNames.{first_holds, none_holds}
+
+-- ---- cutting a text at ASCII bytes
+
+-- behind an ASCII byte a plain text is plain
+past_ascii : (b : ℕ) (bs : List ℕ) → b < 128 → IsPlain (b ∷ bs) → IsPlain bs
+past_ascii b bs l p = record {
+  utf8 = IsUtf8-drop (b ∷ bs) 1 p.utf8 (IsCharBoundary-after_ascii (b ∷ bs) 0 p.utf8 (omega arith) l);
+  plain = (none_holds _ _ p.plain).1;
+}
+
+-- the byte between two texts
+at_seam : (xs : List ℕ) (b : ℕ) (ys : List ℕ)
+    → (length xs < length (xs ++ b ∷ ys)) × (get_or (xs ++ b ∷ ys) (length xs) 0 ≡ b)
+at_seam [] b ys = (omega arith, refl)
+at_seam (x ∷ xs) b ys = let t = at_seam xs b ys in (omega (arith, t.0), t.1)
+
+-- a text of UTF-8 can be cut before an ASCII byte
+cut_utf8 : (xs : List ℕ) (b : ℕ) (ys : List ℕ) → b < 128 → IsUtf8 (xs ++ b ∷ ys) → IsUtf8 xs × IsUtf8 (b ∷ ys)
+cut_utf8 xs b ys l u =
+    let t = at_seam xs b ys in
+    let here = IsCharBoundary-before_ascii (xs ++ b ∷ ys) (length xs) t.0 (omega (arith, t.1)) in (
+      subst IsUtf8 (take_at xs (b ∷ ys) (length xs) refl) (IsUtf8-take (xs ++ b ∷ ys) (length xs) u here),
+      subst IsUtf8 (drop_at xs (b ∷ ys) (length xs) refl) (IsUtf8-drop (xs ++ b ∷ ys) (length xs) u here),
+    )
+
+-- no control characters in both, none in either
+no_control : (xs ys : List ℕ) → list_any is_control (xs ++ ys) ≡ false
+    → (list_any is_control xs ≡ false) × (list_any is_control ys ≡ false)
+no_control [] ys h = (refl, h)
+no_control (x ∷ xs) ys h =
+    let t = none_holds (is_control x) (list_any is_control (xs ++ ys)) h in
+    let u = no_control xs ys t.1 in
+    (rw t.0 u.0, u.1)
+
+-- a plain text can be cut there
+cut_plain : (xs : List ℕ) (b : ℕ) (ys : List ℕ) → b < 128 → IsPlain (xs ++ b ∷ ys) → IsPlain xs × IsPlain (b ∷ ys)
+cut_plain xs b ys l p =
+    let t = cut_utf8 xs b ys l p.utf8 in
+    let u = no_control xs (b ∷ ys) p.plain in
+    (record { utf8 = t.0; plain = u.0 }, record { utf8 = t.1; plain = u.1 })
+
+-- a text without one of its ASCII bytes
+without : (xs : List ℕ) (b : ℕ) (ys : List ℕ) → b < 128 → IsUtf8 (xs ++ b ∷ ys) → IsUtf8 (xs ++ ys)
+without xs b ys l u =
+    let t = cut_utf8 xs b ys l u in
+    IsUtf8-append xs ys t.0 (IsUtf8-drop (b ∷ ys) 1 t.1 (IsCharBoundary-after_ascii (b ∷ ys) 0 t.1 (omega arith) l))
+
+-- ---- strings
+
+-- what a string spells is UTF-8
+spelt : {bs k : List ℕ} → Spells bs k → (before : List ℕ) → IsUtf8 (before ++ bs) → IsUtf8 (before ++ k)
+spelt nothing before u = u
+spelt (quote {bs = bs} {k = k} s) before u =
+    let rest : IsUtf8 (before ++ 34 ∷ bs) = without before 92 (34 ∷ bs) (omega arith) u in
+    subst IsUtf8 (append_assoc before (34 ∷ []) k)
+    (spelt s (before ++ 34 ∷ []) (subst IsUtf8 (sym (append_assoc before (34 ∷ []) bs)) rest))
+spelt (backslash {bs = bs} {k = k} s) before u =
+    let rest : IsUtf8 (before ++ 92 ∷ bs) = without before 92 (92 ∷ bs) (omega arith) u in
+    subst IsUtf8 (append_assoc before (92 ∷ []) k)
+    (spelt s (before ++ 92 ∷ []) (subst IsUtf8 (sym (append_assoc before (92 ∷ []) bs)) rest))
+spelt (other {b = b} {bs = bs} {k = k} p q s) before u =
+    subst IsUtf8 (append_assoc before (b ∷ []) k)
+    (spelt s (before ++ b ∷ []) (subst IsUtf8 (sym (append_assoc before (b ∷ []) bs)) u))
+
+-- and has no control characters
+spelt_controls : {bs k : List ℕ} → Spells bs k → list_any is_control bs ≡ false → list_any is_control k ≡ false
+spelt_controls nothing h = refl
+spelt_controls (quote {bs = bs} s) h = spelt_controls s h
+spelt_controls (backslash {bs = bs} s) h = spelt_controls s h
+spelt_controls (other {b = b} {bs = bs} {k = k} p q s) h = let t =
+    none_holds (is_control b) (list_any is_control bs) h in rw t.0 (spelt_controls s t.1)
+
+-- ---- tokens
+
+-- a string is such a text
+abbrev pub IsFine : Token → Type 0
+IsFine t = (k : List ℕ) → t ≡ token.Quoted k → IsPlain k
+
+-- each string among the tokens is such a text
+abbrev pub AreFine : List Token → Type 0
+AreFine [] = Unit {0}
+AreFine (t ∷ ts) = IsFine t × AreFine ts
+
+-- fine tokens without the first
+pub drop_fine : (n : ℕ) (ts : List Token) → AreFine ts → AreFine (drop n ts)
+drop_fine zero ts h = h
+drop_fine (suc n) [] h = tt
+drop_fine (suc n) (t ∷ ts) h = drop_fine n ts h.1
+
+-- and in two parts
+parts_fine : (ts us : List Token) → AreFine (ts ++ us) → AreFine ts × AreFine us
+parts_fine [] us h = (tt, h)
+parts_fine (t ∷ ts) us h = let r = parts_fine ts us h.1 in ((h.0, r.0), r.1)
+
+-- all bytes are ASCII
+abbrev AreAscii : List ℕ → Type 0
+AreAscii [] = Unit {0}
+AreAscii (b ∷ bs) = (b < 128) × AreAscii bs
+
+-- behind ASCII bytes a plain text is plain
+past_all : (xs bs : List ℕ) → AreAscii xs → IsPlain (xs ++ bs) → IsPlain bs
+past_all [] bs a p = p
+past_all (x ∷ xs) bs a p = past_all xs bs a.1 (past_ascii x (xs ++ bs) a.0 p)
+
+-- one of two tests is true
+either : (b c : Bool) → b || c ≡ true → (b ≡ true) ⊎ (c ≡ true)
+either true c h = inl refl
+either false c h = inr h
+
+-- a byte of a range is at most its end
+in_range : (low high b : ℕ) → is_in_range low high b ≡ true → b ≤ high
+in_range low high b h = leb-true b high (first_holds _ _ h).1
+
+-- digits are ASCII
+digit_byte : (b : ℕ) → is_ascii_digit b ≡ true → b < 128
+digit_byte b h = let l = in_range 48 57 b h in omega arith
+
+-- and letters
+letter_or_digit : (b : ℕ) → is_ascii_alphanumeric b ≡ true → b < 128
+letter_or_digit b h = elim (either (is_in_range 48 57 b || is_in_range 65 90 b) (is_in_range 97 122 b) h) [
+  | inl left ↦ elim (either (is_in_range 48 57 b) (is_in_range 65 90 b) left) [
+    | inl digit ↦ let l = in_range 48 57 b digit in omega arith
+    | inr upper ↦ let l = in_range 65 90 b upper in omega arith
+  ]
+  | inr lower ↦ let l = in_range 97 122 b lower in omega arith
+]
+
+-- and so all bytes of words
+word_byte : (b : ℕ) → is_word_byte b ≡ true → b < 128
+word_byte b h = elim (either (is_ascii_alphanumeric b || (b == 95)) (b == 46) h) [
+  | inl left ↦ elim (either (is_ascii_alphanumeric b) (b == 95) left) [
+    | inl letter ↦ letter_or_digit b letter
+    | inr low ↦ let e = eqb-true b 95 low in omega arith
+  ]
+  | inr dot ↦ let e = eqb-true b 46 dot in omega arith
+]
+
+-- and words
+word_ascii : (w : List ℕ) → AreWordBytes w → AreAscii w
+word_ascii [] h = tt
+word_ascii (b ∷ w) h = (word_byte b h.0, word_ascii w h.1)
+
+-- a connective
+joint_ascii : (j : Joint) → AreAscii (joint_bytes j)
+joint_ascii joint.Iff = (omega arith, (omega arith, (omega arith, tt)))
+joint_ascii joint.Implies = (omega arith, (omega arith, tt))
+joint_ascii joint.Xor = (omega arith, tt)
+joint_ascii joint.Or = (omega arith, tt)
+joint_ascii joint.And = (omega arith, tt)
+
+-- a mark
+mark_ascii : (m : Mark) → AreAscii (mark_bytes m)
+mark_ascii mark.Open = (omega arith, tt)
+mark_ascii mark.Close = (omega arith, tt)
+mark_ascii mark.Comma = (omega arith, tt)
+mark_ascii mark.Colon = (omega arith, tt)
+mark_ascii mark.Equal = (omega arith, tt)
+mark_ascii mark.Less = (omega arith, tt)
+mark_ascii mark.AtMost = (omega arith, (omega arith, tt))
+mark_ascii mark.Not = (omega arith, tt)
+mark_ascii (mark.Joint j) = joint_ascii j
+
+-- a word is no string
+no_quote : (w : List ℕ) (k : List ℕ) → token.Word w ≡ token.Quoted k → ⊥
+no_quote w k e = absurd (cc)
+
+-- nor is a number
+no_number : (w : List ℕ) (k : List ℕ) → token.Signed w ≡ token.Quoted k → ⊥
+no_number w k e = absurd (cc)
+
+-- nor a mark
+no_string : (m : Mark) (k : List ℕ) → token.Mark m ≡ token.Quoted k → ⊥
+no_string m k e = absurd (cc)
+
+-- strings that are equal have one text
+same_string : (j k : List ℕ) → token.Quoted j ≡ token.Quoted k → j ≡ k
+same_string j k e = cc
+
+-- so the tokens of a plain line are fine
+cut_is_fine : {v : Version} {line : List ℕ} {ts : List Token} → IsCut v line ts → IsPlain line → AreFine ts
+cut_is_fine end p = tt
+cut_is_fine (blank {bs = bs} d) p = cut_is_fine d (past_ascii 32 bs (omega arith) p)
+cut_is_fine (tab {bs = bs} d) p = cut_is_fine d (past_ascii 9 bs (omega arith) p)
+cut_is_fine (word b w {bs = bs} h e d) p =
+    (λ k q. absurd (no_quote (b ∷ w) k q), cut_is_fine d (past_all (b ∷ w) bs (word_ascii (b ∷ w) h) p))
+cut_is_fine (quoted {body = body} {k = k} {bs = bs} s d) p =
+    let inner = past_ascii 34 (body ++ 34 ∷ bs) (omega arith) p in
+    let t = cut_plain body 34 bs (omega arith) inner in
+    let text : IsPlain k = record { utf8 = spelt s [] t.0.utf8; plain = spelt_controls s t.0.plain } in
+    (λ j q. subst IsPlain (same_string k j q) text, cut_is_fine d (past_ascii 34 bs (omega arith) t.1))
+cut_is_fine (signed b w {bs = bs} two digit h e d) p =
+    let ascii : AreAscii (45 ∷ b ∷ w) = (omega arith, (digit_byte b digit, word_ascii w h)) in
+    (λ k q. absurd (no_number (45 ∷ b ∷ w) k q), cut_is_fine d (past_all (45 ∷ b ∷ w) bs ascii p))
+cut_is_fine (marked m {bs = bs} known ends d) p =
+    (λ k q. absurd (no_string m k q), cut_is_fine d (past_all (mark_bytes m) bs (mark_ascii m) p))
+
+-- the tokens of such a line
+pub line_is_fine : (v : Version) (line : List ℕ) (ts : List Token) → is_bad line ≡ false → tokens_of v line ≡ Some ts
+    → AreFine ts
+line_is_fine v line ts h e = cut_is_fine (found_is_cut v line ts e) (from_not_bad line h)
+
+-- ---- formulas
+
+-- what is found is so
+abbrev Finds : Option Formula → Type 0
+Finds o = (f : Formula) → o ≡ Some f → AreTexts (equalities f)
+
+-- no constants, none that isn't plain
+no_texts : AreTexts []
+no_texts a c = absurd (Contains-nil a c)
+
+-- nothing was found
+nothing_found : Finds None
+nothing_found f e = absurd (cc)
+
+-- a formula with plain constants was
+one_found : (g : Formula) → AreTexts (equalities g) → Finds (Some g)
+one_found g h f e = let s : g ≡ f = cc in subst (λ x. AreTexts (equalities x)) s h
+
+-- one of two of which each is so
+pick : (b : Bool) (x y : Option Formula) → Finds x → Finds y → Finds (cond b x y)
+pick true x y p q = p
+pick false x y p q = q
+
+-- a path has no constants
+path_texts : (g : Graph) (parts : List (List ℕ)) → Finds (path_of g parts)
+path_texts g parts =
+    pick (not (list_all is_category_name parts)) None
+    (Some (Meaning.Formula.Path (map (id_of g) (drop 1 parts)))) nothing_found (one_found _ no_texts)
+
+-- nor has a reaching
+reach_texts : (g : Graph) (parts : List (List ℕ)) → Finds (reach_of g parts)
+reach_texts g parts =
+    let second = id_of g (slice_index_or parts 1 []) in
+    let third = id_of g (slice_index_or parts 2 []) in
+    pick (not (list_all is_category_name parts)) _ _ nothing_found
+    (pick (length parts == 2) _ _ (one_found (Meaning.Formula.Reach second) no_texts)
+    (pick (length parts == 3) _ _ (one_found (Meaning.Formula.Via second third) no_texts) nothing_found))
+
+-- an equality has its string
+equal_texts : (g : Graph) (k : List ℕ) (parts : List (List ℕ)) → IsPlain k → Finds (equal_of g k parts)
+equal_texts g k parts p =
+    pick (not (list_all is_category_name parts)) _ _ nothing_found
+    (pick (length parts == 1) _ _
+    (one_found (Meaning.Formula.Equals (id_of g (slice_index_or parts 0 [])) k)
+    (one (id_of g (slice_index_or parts 0 []))))
+    (pick (length parts == 2) _ _
+    (one_found (Meaning.Formula.Equals (id_of g (slice_index_or parts 1 [])) k)
+    (one (id_of g (slice_index_or parts 1 []))))
+    nothing_found))
+  where
+    one : (d : ℕ) → AreTexts ((record { category = d; text = k }) ∷ [])
+    one d a c = elim (contains_cases a (record { category = d; text = k }) [] c) [
+      | inl e ↦ subst (λ (x : Equality). is_bad x.text ≡ false) e (not_bad k p)
+      | inr n ↦ absurd (Contains-nil a n)
+    ]
+
+-- a word by itself has none
+plain_texts : (g : Graph) (w : List ℕ) → Finds (plain_of g w)
+unfolding plain_of
+plain_texts g w =
+    pick (bytes_eq w (codes "true")) _ _ (one_found Meaning.Formula.Truth no_texts)
+    (pick (bytes_eq w (codes "false")) _ _ (one_found Meaning.Formula.Falsity no_texts)
+    (pick (nat_lt 1 (length (pieces_of 95 w))) _ _ (path_texts g (pieces_of 95 w)) (reach_texts g (pieces_of 46 w))))
+
+-- a word with a string has it
+equality_texts : (g : Graph) (w k : List ℕ) → IsPlain k → Finds (equality_of g w k)
+unfolding equality_of
+equality_texts g w k p = equal_texts g k (pieces_of 46 w) p
+
+-- a comparison has none
+compared_texts : (g : Graph) (op : Op) (n : ℤ) (parts : List (List ℕ)) → Finds (compared_of g op n parts)
+compared_texts g op n parts =
+    pick (not (list_all is_category_name parts)) _ _ nothing_found
+    (pick (length parts == 1) _ _
+    (one_found (Meaning.Formula.Compare (id_of g (slice_index_or parts 0 [])) op n) no_texts)
+    (pick (length parts == 2) _ _
+    (one_found (Meaning.Formula.Compare (id_of g (slice_index_or parts 1 [])) op n) no_texts) nothing_found))
+
+-- nor has a word with a number
+comparison_texts : (v : Version) (g : Graph) (w : List ℕ) (op : Op) (digits : List ℕ)
+    → Finds (comparison_in v g w op digits)
+unfolding comparison_of
+comparison_texts version.One g w op digits = nothing_found
+comparison_texts version.Two g w op digits =
+    pick (is_number_token digits) _ _ (compared_texts g op _ (pieces_of 46 w)) nothing_found
+
+-- constants of two formulas
+both_texts : (xs ys : List Equality) → AreTexts xs → AreTexts ys → AreTexts (xs ++ ys)
+both_texts xs ys p q a c = elim (Contains-append_cases xs ys a c) [ inl d ↦ p a d | inr d ↦ q a d ]
+
+-- and of both joined
+join_texts : (j : Joint) (f g : Formula) → AreTexts (equalities f) → AreTexts (equalities g)
+    → AreTexts (equalities (join j f g))
+join_texts joint.Iff f g p q = both_texts (equalities f) (equalities g) p q
+join_texts joint.Implies f g p q = both_texts (equalities f) (equalities g) p q
+join_texts joint.Xor f g p q = both_texts (equalities f) (equalities g) p q
+join_texts joint.Or f g p q = both_texts (equalities f) (equalities g) p q
+join_texts joint.And f g p q = both_texts (equalities f) (equalities g) p q
+
+module _ (v : Version) (g : Graph) where
+  mutual
+    -- the constants of a formula of such tokens
+    pub formula_is_fine : {n : ℕ} {ts : List Token} {f : Formula} → IsFormula (atoms_of v g) n ts f → AreFine ts
+        → AreTexts (equalities f)
+    formula_is_fine (looser d) h = formula_is_fine d h
+    formula_is_fine (joined j {left = left} {right = right} {f = f} {g = k} d e) h =
+        let t = parts_fine left (token.Mark (mark.Joint j) ∷ right) h in
+        join_texts j f k (formula_is_fine d t.0) (formula_is_fine e t.1.1)
+    formula_is_fine (negated {ts = ts} d) h = formula_is_fine d h.1
+    formula_is_fine (bracketed {ts = ts} d) h = formula_is_fine d (parts_fine ts (token.Mark mark.Close ∷ []) h.1).0
+    formula_is_fine (listed {ts = ts} d) h = list_is_fine d (parts_fine ts (token.Mark mark.Close ∷ []) h.1.1).0
+    formula_is_fine (plain {w = w} {f = f} e) h = plain_texts g w f e
+    formula_is_fine (equal {w = w} {k = k} {f = f} e) h = equality_texts g w k (h.1.1.0 k refl) f e
+    formula_is_fine (compared op t {w = w} {digits = digits} {f = f} p e) h = comparison_texts v g w op digits f e
+
+    list_is_fine : {ts : List Token} {fs : Terms} → IsList (atoms_of v g) ts fs → AreFine ts
+        → AreTexts (equalities_of_terms fs)
+    list_is_fine none h = no_texts
+    list_is_fine (some d) h = items_are_fine d h
+
+    items_are_fine : {ts : List Token} {fs : Terms} → IsItems (atoms_of v g) ts fs → AreFine ts
+        → AreTexts (equalities_of_terms fs)
+    items_are_fine (last {f = f} d) h = both_texts (equalities f) [] (formula_is_fine d h) no_texts
+    items_are_fine (more {ts = ts} {us = us} {f = f} {fs = fs} d e) h =
+        let t = parts_fine ts (token.Mark mark.Comma ∷ us) h in
+        both_texts (equalities f) (equalities_of_terms fs) (formula_is_fine d t.0) (items_are_fine e t.1.1)
+
+-- where it is so of each constraint, it is so of all their constants
+pub all_texts : (cs : List Constraint) → ((c : Constraint) → Contains cs c → AreTexts (equalities c.formula))
+    → AreTexts (flat_map (λ c. equalities c.formula) cs)
+all_texts [] h = no_texts
+all_texts (c ∷ cs) h =
+    subst AreTexts (sym (flat_map-cons (λ (k : Constraint). equalities k.formula) c cs))
+    (both_texts (equalities c.formula) (flat_map (λ k. equalities k.formula) cs) (h c (contains_head c cs))
+    (all_texts cs (λ k d. h k (contains_cons k cs c d))))

@@ -1,0 +1,17 @@
+-- What the lines so far say goes on with the lines that are left.
+use Rattle.std.proofs.Common.{◌≡◌, ◌≤◌, ◌+◌, Ok, length}
+use Rattle.olap_schema_text.specs.Judging.{lines_on}
+use Rattle.olap_schema_text.specs.Lines.{lines_of}
+use Rattle.olap_schema_text.specs.Reading.{above_of}
+use Rattle.olap_schema_text.proofs.texts.read_lines.Given as goal
+
+abbrev pub invariant-lines : goal.invariant-lines
+invariant-lines l = record {
+  read :
+      lines_on (Ok (above_of l.fn.reading)) 0 (lines_of l.fn.text)
+      ≡ lines_on (Ok (above_of l.reading)) l.n (lines_of l.left);
+  few : l.n + length l.left ≤ length l.fn.text;
+}
+
+abbrev pub decreases-lines : goal.decreases-lines
+decreases-lines l = length l.left

@@ -1,0 +1,259 @@
+-- The schema that a text stands for, or its first fault.
+--     Above            what the lines above a line say
+--     line_read        a line, given those above it
+--     schema_read      a text
+--     question_read    the text of a question's formula, given a schema and a root
+-- Two functions that are cited are machines: `tokens_of` and `the_formula`. The laws `FoundAsCut` and `FoundAsFormula`
+-- of `olap_grammar` say that they are the relations `IsCut` and `IsFormula`.
+use Rattle.std.specs.Prelude.{◌==◌, ◌||◌, ◌&&◌, ◌+◌, ◌-◌, ℕ, Bool, true, false, not, List, [], ◌∷◌, ◌++◌, Option, Some, None, Result, Ok, Err, length, find, fold, is_some, unwrap_or, nat_lt, nat_le, slice_index, if◌then◌else◌}
+use Rattle.std.specs.List.{list_any, range_with_len}
+use Rattle.olap_base.specs.Reaching.{category_reaches}
+use Rattle.olap_base.specs.Graph.{Graph}
+use Rattle.olap_base.specs.Naming.{Fault}
+use Rattle.olap_base.specs.Limits.{most_constants, most_constraints, most_nodes, most_text_bytes}
+use Rattle.olap_graph.specs.Building.{all_alone, category_refusal, edge_refusal, with_edge, with_kind}
+use Rattle.olap_graph.specs.Lookups.{category_named, name_of_category}
+use Rattle.olap_graph.specs.declared.refusals.CategoryRefusal.{CategoryRefusal}
+use Rattle.olap_graph.specs.declared.refusals.CategoryRefusal.TheVariants as of_category
+use Rattle.olap_graph.specs.declared.refusals.EdgeRefusal.{EdgeRefusal}
+use Rattle.olap_graph.specs.declared.refusals.EdgeRefusal.TheVariants as of_edge
+use Rattle.olap_ast.specs.Constants.{all_comparisons, all_equalities}
+use Rattle.olap_ast.specs.Formula.{Comparison, Equality, Formula, comparisons, equalities}
+use Rattle.olap_ast.specs.Schema.{Constraint, Schema}
+use Rattle.olap_ast.specs.Valid.{pair_count, with_number, with_pair}
+use Rattle.olap_grammar.specs.Answering.{formula_answer}
+use Rattle.olap_grammar.specs.Brackets.{opens_over}
+use Rattle.olap_grammar.specs.CuttingMachine.{tokens_of}
+use Rattle.olap_grammar.specs.Machine.{the_formula}
+use Rattle.olap_grammar.specs.Nodes.{nodes_of}
+use Rattle.olap_grammar.specs.Words.{atoms_of}
+use Rattle.olap_grammar.specs.declared.refusals.FormRefusal.{FormRefusal}
+use Rattle.olap_grammar.specs.declared.refusals.FormRefusal.TheVariants as form
+use Rattle.olap_grammar.specs.declared.tokens.Token.{Token}
+use Rattle.olap_schema_text.specs.Atoms.{atom_fault}
+use Rattle.olap_schema.specs.Readable.{is_bad}
+use Rattle.olap_schema_text.specs.Lines.{chomped, is_quiet, lines_of}
+use Rattle.olap_schema_text.specs.Statements as says
+use Rattle.olap_schema_text.specs.Statements.{Statement, statement_of}
+use Rattle.olap_schema_text.specs.Tokens.{is_bad_number, is_long}
+use Rattle.olap_schema_text.specs.declared.kinds.SchemaKind.{SchemaKind}
+use Rattle.olap_schema_text.specs.declared.kinds.SchemaKind.TheVariants as kind
+use Rattle.olap_grammar.specs.declared.tokens.Version.{Version}
+use Rattle.olap_grammar.specs.declared.tokens.Version.TheVariants as version
+
+-- the version, once its line was read, the graph, the lines of its categories, the constraints, how many nodes they
+-- have, and their distinct pairs of a category and a constant, a text or a number
+pub record Above : Type 0 where
+  pub version : Option Version
+  pub graph : Graph
+  pub category_lines : List ℕ
+  pub constraints : List Constraint
+  pub nodes : ℕ
+  pub pairs : List Equality
+  pub numbers : List Comparison
+
+-- the version by which a line is read: the first before the version is known
+abbrev pub version_at : Above → Version
+version_at a = unwrap_or a.version version.One
+
+-- ---- categories and edges
+
+-- the fault that a refused category is; `category_refusal` never says `Memory`
+abbrev pub category_kind : CategoryRefusal → SchemaKind
+category_kind of_category.DuplicateCategory = kind.DuplicateCategory
+category_kind of_category.TooManyCategories = kind.TooManyCategories
+category_kind of_category.Memory = kind.TooManyCategories
+
+-- the category is added, on the n-th line, with texts or numbers as its names, or refused
+abbrev pub category_added : Above → ℕ → List ℕ → Bool → Option CategoryRefusal → Result Above SchemaKind
+category_added a n name number (Some e) = Err (category_kind e)
+category_added a n name number None =
+    Ok (record a { graph = with_kind number a.graph name; category_lines = a.category_lines ++ n ∷ [] })
+
+-- the members of a category may be named by numbers: not so in the first version
+abbrev pub allows_numbers : Version → Bool
+allows_numbers version.One = false
+allows_numbers version.Two = true
+
+-- a category's line
+abbrev pub category_read : Above → ℕ → Version → List ℕ → Bool → Result Above SchemaKind
+category_read a n v name number =
+    if number && not (allows_numbers v) then Err kind.BadForm
+    else if nat_lt most_text_bytes (length name) then Err kind.TextTooLong
+    else category_added a n name number (category_refusal a.graph name)
+
+-- the fault that a refused edge is; `edge_refusal` never says `Memory`
+abbrev pub edge_kind : EdgeRefusal → SchemaKind
+edge_kind of_edge.SelfEdge = kind.SelfEdge
+edge_kind of_edge.EdgeFromAll = kind.EdgeFromAll
+edge_kind of_edge.DuplicateEdge = kind.DuplicateEdge
+edge_kind of_edge.TooManyEdges = kind.TooManyEdges
+edge_kind of_edge.Memory = kind.TooManyEdges
+
+-- the edge is added, or refused
+abbrev pub edge_added : Above → ℕ → ℕ → Option EdgeRefusal → Result Above SchemaKind
+edge_added a c d (Some e) = Err (edge_kind e)
+edge_added a c d None = Ok (record a { graph = with_edge a.graph c d })
+
+-- an edge between the categories of these names, if there are some
+abbrev pub ends_read : Above → Option ℕ → Option ℕ → Result Above SchemaKind
+ends_read a None d = Err kind.UnknownCategory
+ends_read a (Some c) None = Err kind.UnknownCategory
+ends_read a (Some c) (Some d) = edge_added a c d (edge_refusal a.graph c d)
+
+-- an edge's line
+abbrev pub edge_read : Above → List ℕ → List ℕ → Result Above SchemaKind
+edge_read a child parent =
+    if nat_lt most_text_bytes (length child) || nat_lt most_text_bytes (length parent) then Err kind.TextTooLong
+    else ends_read a (category_named a.graph child) (category_named a.graph parent)
+
+-- ---- formulas
+
+-- the fault of tokens that are no formula; `formula_answer` never says `Memory`
+abbrev pub form_kind : FormRefusal → SchemaKind
+form_kind form.BadForm = kind.BadForm
+form_kind form.TooDeep = kind.TooDeep
+form_kind form.Memory = kind.TooDeep
+
+-- the formula, or its fault
+abbrev pub form_answer : Result Formula FormRefusal → Result Formula SchemaKind
+form_answer (Ok f) = Ok f
+form_answer (Err e) = Err (form_kind e)
+
+-- the formula of the tokens by the version, with so many nodes on the lines above
+unfoldable pub form_read : Version → Graph → ℕ → List Token → Result Formula SchemaKind
+form_read v g before ts =
+    if nat_lt most_nodes (before + nodes_of v ts) then Err kind.TooManyNodes
+    else if opens_over 0 0 ts then Err kind.TooDeep
+    else form_answer (formula_answer (the_formula (atoms_of v g) ts))
+
+-- ---- constraints
+
+-- the constraint is added, with the pairs that there are then
+abbrev pub constraint_added : Above → Version → ℕ → List Token → Formula → List Equality → List Comparison
+    → Result Above SchemaKind
+constraint_added a v root ts f pairs numbers =
+    if nat_lt most_constants (length pairs + length numbers) then Err kind.TooManyConstants
+    else Ok (record a {
+      constraints = a.constraints ++ record { root = root; formula = f } ∷ [];
+      nodes = a.nodes + nodes_of v ts;
+      pairs = pairs;
+      numbers = numbers;
+    })
+
+-- after the check of the atoms
+abbrev pub atoms_read : Above → Version → ℕ → List Token → Formula → Option SchemaKind → Result Above SchemaKind
+atoms_read a v root ts f (Some k) = Err k
+atoms_read a v root ts f None =
+    constraint_added a v root ts f (fold with_pair a.pairs (equalities f)) (fold with_number a.numbers (comparisons f))
+
+-- after the look-up of the root
+abbrev pub root_read : Above → Version → List ℕ → List Token → Formula → Option ℕ → Result Above SchemaKind
+root_read a v name ts f None = Err kind.UnknownCategory
+root_read a v name ts f (Some root) =
+    if root == 0 then Err kind.RootIsAll
+    else if nat_le most_constraints (length a.constraints) then Err kind.TooManyConstraints
+    else atoms_read a v root ts f (atom_fault a.graph name ts)
+
+-- after the reading of the formula
+abbrev pub formed_read : Above → Version → List ℕ → List Token → Result Formula SchemaKind → Result Above SchemaKind
+formed_read a v name ts (Err k) = Err k
+formed_read a v name ts (Ok f) =
+    if nat_lt most_text_bytes (length name) || list_any is_long ts then Err kind.TextTooLong
+    else if list_any is_bad_number ts then Err kind.BadNumber
+    else root_read a v name ts f (category_named a.graph name)
+
+-- a constraint's line
+abbrev pub constraint_read : Above → Version → List ℕ → List Token → Result Above SchemaKind
+constraint_read a v name ts = formed_read a v name ts (form_read v a.graph a.nodes ts)
+
+-- ---- a line
+
+-- a line that says this, by the version of the text: before it is known, a line must say which it is
+abbrev pub statement_read : Above → ℕ → Option Version → Statement → Result Above SchemaKind
+statement_read a n None (says.Statement.Version v) = Ok (record a { version = Some v })
+statement_read a n (Some v) (says.Statement.Category name number) = category_read a n v name number
+statement_read a n (Some v) (says.Statement.Edge child parent) = edge_read a child parent
+statement_read a n (Some v) (says.Statement.Constraint root ts) = constraint_read a v root ts
+statement_read a n v s = Err kind.BadForm
+
+-- a line that says something
+abbrev pub tokens_read : Above → ℕ → Option (List Token) → Result Above SchemaKind
+tokens_read a n None = Err kind.BadForm
+tokens_read a n (Some ts) = statement_read a n a.version (statement_of ts)
+
+-- the n-th line, without its CR
+unfoldable pub line_read : Above → ℕ → List ℕ → Result Above SchemaKind
+line_read a n line =
+    if is_bad line then Err kind.BadByte
+    else if is_quiet line then Ok a
+    else tokens_read a n (tokens_of (version_at a) line)
+
+-- ---- a text
+
+-- the first line with a fault, or what all lines say
+abbrev pub Read : Type 0
+Read = Result Above (Fault SchemaKind)
+
+-- the lines after the n-th, where those up to it give this
+abbrev pub lines_on : Result Above SchemaKind → ℕ → List (List ℕ) → Read
+lines_on (Err k) n lines = Err (record { at = n; kind = k })
+lines_on (Ok a) n [] = Ok a
+lines_on (Ok a) n (line ∷ lines) = lines_on (line_read a (n + 1) (chomped line)) (n + 1) lines
+
+-- before the first line
+abbrev pub nothing_above : Above
+nothing_above = record {
+  version = None;
+  graph = all_alone;
+  category_lines = [];
+  constraints = [];
+  nodes = 0;
+  pairs = [];
+  numbers = [];
+}
+
+-- the first declared category that doesn't reach `All`
+abbrev pub first_stuck : Graph → Option ℕ
+first_stuck g = find (λ c. not (category_reaches g c 0)) (range_with_len 1 (length g.names))
+
+-- the schema of all lines, where each category reaches `All`
+abbrev pub whole : Above → Option ℕ → Result Schema (Fault SchemaKind)
+whole a (Some c) = Err (record { at = slice_index a.category_lines (c - 1); kind = kind.NoWayToAll })
+whole a None = Ok (record { graph = a.graph; constraints = a.constraints })
+
+-- the schema of a text, where some line is the version
+abbrev pub text_ended : Read → Result Schema (Fault SchemaKind)
+text_ended (Err fault) = Err fault
+text_ended (Ok a) =
+    if is_some a.version then whole a (first_stuck a.graph) else Err (record { at = 1; kind = kind.BadForm })
+
+-- the schema that the text stands for, or its first fault
+unfoldable pub schema_read : List ℕ → Result Schema (Fault SchemaKind)
+schema_read text = text_ended (lines_on (Ok nothing_above) 0 (lines_of text))
+
+-- ---- a question's formula
+
+-- after the check of the atoms
+abbrev pub question_added : Schema → Formula → Option SchemaKind → Result Formula SchemaKind
+question_added s f (Some k) = Err k
+question_added s f None =
+    if nat_lt most_constants (pair_count (all_equalities s f) (all_comparisons s f)) then Err kind.TooManyConstants
+    else Ok f
+
+-- after the reading of the formula
+abbrev pub question_formed : Schema → ℕ → List Token → Result Formula SchemaKind → Result Formula SchemaKind
+question_formed s root ts (Err k) = Err k
+question_formed s root ts (Ok f) =
+    if list_any is_long ts then Err kind.TextTooLong
+    else if list_any is_bad_number ts then Err kind.BadNumber
+    else question_added s f (atom_fault s.graph (name_of_category s.graph root) ts)
+
+-- a question that has no bad byte, by the second version, whatever the schema's was
+abbrev pub question_cut : Schema → ℕ → Option (List Token) → Result Formula SchemaKind
+question_cut s root None = Err kind.BadForm
+question_cut s root (Some ts) = question_formed s root ts (form_read version.Two s.graph 0 ts)
+
+-- the formula that the text is, at the root, or its first fault
+unfoldable pub question_read : Schema → ℕ → List ℕ → Result Formula SchemaKind
+question_read s root text = if is_bad text then Err kind.BadByte else question_cut s root (tokens_of version.Two text)

@@ -1,0 +1,15 @@
+-- Definitions that contracts cite.
+
+-- What a reader of the claims believes: what a text says, its first fault, what is printed, and what holds of both.
+pub mod Lines
+pub mod Statements
+pub mod Tokens
+pub mod Atoms
+pub mod Judging
+pub mod Kinds
+pub mod Printing
+pub mod PrintingLaws
+pub mod Laws
+pub mod Refusals
+-- The inside: what the readers' values stand for.
+pub mod Reading

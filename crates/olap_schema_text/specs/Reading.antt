@@ -1,0 +1,93 @@
+-- The values of the readers, as the definitions have them.
+--     IsFault, FindsFault, Finds    how the refusals of the code agree with the first fault
+--     above_of                      what the reader knows, as the definition has it
+--     Reads                         a line was read as the definition says
+--     ReadsFormula                  a formula was read as the definition says
+--     said                          what the tokens of a line say
+--     HasName                       a new category has a category name
+--     IsTallyBehind                 what was counted is so of the tokens
+use Rattle.std.specs.Prelude.{◌≡◌, ◌≤◌, ◌<◌, ◌+◌, ℕ, List, Result, Ok, Err, Option, Some, None, map, IsTrue}
+use Rattle.olap_base.specs.Reaching.{is_category_name}
+use Rattle.olap_ast.specs.Formula as Meaning
+use Rattle.olap_ast.specs.Trees.{constraint_of, formula_of}
+use Rattle.olap_ast.specs.declared.formulas.Formula.{Formula}
+use Rattle.olap_grammar.specs.Brackets.{opens_over}
+use Rattle.olap_grammar.specs.Tallying.{counted_nodes}
+use Rattle.olap_grammar.specs.Nodes.{nodes_of}
+use Rattle.olap_grammar.specs.declared.tallying.Tally.{Tally}
+use Rattle.olap_grammar.specs.declared.tokens.Version.{Version}
+use Rattle.olap_grammar.specs.declared.tokens.Token.{Token}
+use Rattle.olap_schema_text.specs.Judging.{Above}
+use Rattle.olap_schema_text.specs.Statements as says
+use Rattle.olap_schema_text.specs.declared.kinds.FormulaRefusal.{FormulaRefusal}
+use Rattle.olap_schema_text.specs.declared.kinds.FormulaRefusal.TheVariants as refusal
+use Rattle.olap_schema_text.specs.declared.kinds.SchemaKind.{SchemaKind}
+use Rattle.olap_schema_text.specs.declared.pairing.NumberPair.{NumberPair}
+use Rattle.olap_schema_text.specs.declared.pairing.Pair.{Pair}
+use Rattle.olap_schema_text.specs.declared.reading.Reading.{Reading}
+use Rattle.olap_schema_text.specs.declared.statements.Statement.{Statement}
+use Rattle.olap_schema_text.specs.declared.statements.Statement.TheVariants as statement
+
+-- out of memory, or that fault
+abbrev pub IsFault : {A : Type 0} → FormulaRefusal → Result A SchemaKind → Type 0
+IsFault (refusal.Fault k) read = read ≡ Err k
+IsFault refusal.Memory read = Unit {0}
+
+-- out of memory, or the first fault
+abbrev pub FindsFault : FormulaRefusal → Option SchemaKind → Type 0
+FindsFault (refusal.Fault k) first = first ≡ Some k
+FindsFault refusal.Memory first = Unit {0}
+
+-- no fault, or out of memory, or that fault
+abbrev pub Finds : {A : Type 0} → Result A FormulaRefusal → Option SchemaKind → Type 0
+Finds (Ok u) first = first ≡ None
+Finds (Err e) first = FindsFault e first
+
+-- a pair of a category and a text
+abbrev pub pair_of : Pair → Meaning.Equality
+pair_of p = record { category = p.category.0; text = p.text }
+
+-- a pair of a category and a number
+abbrev pub number_pair_of : NumberPair → Meaning.Comparison
+number_pair_of p = record { category = p.category.0; number = p.number }
+
+-- what the reader knows
+abbrev pub above_of : Reading → Above
+above_of r = record {
+  version = r.version;
+  graph = r.builder;
+  category_lines = r.category_lines.items;
+  constraints = map constraint_of r.constraints.items;
+  nodes = r.nodes;
+  pairs = map pair_of r.pairs.items;
+  numbers = map number_pair_of r.numbers.items;
+}
+
+-- the reader goes on to what it knows now, or the line has that fault
+abbrev pub Reads : {A : Type 0} → Result A FormulaRefusal → Above → Result Above SchemaKind → Type 0
+Reads (Ok u) new read = read ≡ Ok new
+Reads (Err e) new read = IsFault e read
+
+-- the formula was read, or there is that fault
+abbrev pub ReadsFormula : Result Formula FormulaRefusal → Result Meaning.Formula SchemaKind → Type 0
+ReadsFormula (Ok f) read = read ≡ Ok (formula_of f)
+ReadsFormula (Err e) read = IsFault e read
+
+-- what the tokens of a line say
+abbrev pub said : Statement → says.Statement
+said (statement.Version v) = says.Statement.Version v
+said (statement.Category name number) = says.Statement.Category name.now number
+said (statement.Edge child parent) = says.Statement.Edge child.now parent.now
+said (statement.Constraint root tokens) = says.Statement.Constraint root.now tokens.now
+said statement.Other = says.Statement.Other
+
+-- the name of a new category is a category name
+abbrev pub HasName : Statement → Type 0
+HasName (statement.Category name number) = IsTrue (is_category_name name.now)
+HasName s = Unit {0}
+
+-- what was counted of these tokens and of so many nodes in front of them
+pub record IsTallyBehind (v : Version) (front : ℕ) (y : Tally) (ts : List Token) : Type 0 where
+  pub few : y.nodes ≤ front + nodes_of v ts
+  pub nodes : y.nodes < counted_nodes → y.nodes ≡ front + nodes_of v ts
+  pub too_deep : y.too_deep ≡ opens_over 0 0 ts

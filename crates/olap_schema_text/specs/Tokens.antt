@@ -1,0 +1,33 @@
+-- The checks of a formula's tokens that look at no graph. That too many brackets are open is one more: `opens_over` of
+-- `olap_grammar`.
+--     is_long_name    a name is too long
+--     is_long         a name or a string is too long
+--     is_bad_number   a number is beyond the bounds of numerals, or has too many digits
+use Rattle.std.specs.Prelude.{◌&&◌, ℕ, Bool, false, not, List, length, nat_lt, is_some}
+use Rattle.std.specs.List.{list_any}
+use Rattle.olap_base.specs.Limits.{most_text_bytes}
+use Rattle.olap_numerals.specs.Numerals.{number_of}
+use Rattle.olap_grammar.specs.Words.{is_number_token}
+use Rattle.olap_grammar.specs.declared.tokens.Token.{Token}
+use Rattle.olap_grammar.specs.declared.tokens.Token.TheVariants as token
+use Rattle.olap_schema_text.specs.Atoms.{names_in}
+
+-- a name has too many bytes
+abbrev pub is_long_name : List ℕ → Bool
+is_long_name name = nat_lt most_text_bytes (length name)
+
+-- a name in the word, if it is no number, or the string, has too many bytes
+unfoldable pub is_long : Token → Bool
+is_long (token.Word w) = not (is_number_token w) && list_any is_long_name (names_in w)
+is_long (token.Quoted k) = nat_lt most_text_bytes (length k)
+is_long t = false
+
+-- the bytes are a number token and no numeral
+abbrev pub is_no_numeral : List ℕ → Bool
+is_no_numeral w = is_number_token w && not (is_some (number_of w))
+
+-- the token is a number, and no numeral
+unfoldable pub is_bad_number : Token → Bool
+is_bad_number (token.Word w) = is_no_numeral w
+is_bad_number (token.Signed w) = is_no_numeral w
+is_bad_number t = false

@@ -1,0 +1,368 @@
+// Printing a schema.
+ghost use Rattle.olap_ast.specs.Trees.{constraint_of, formula_of, op_of, terms_of};
+ghost use Rattle.olap_base.specs.Graph.{Edge, IsCategory, is_number};
+ghost use Rattle.olap_graph.specs.Lookups.{name_of_category};
+ghost use Rattle.olap_grammar.specs.Cutting.{joint_bytes, mark_bytes};
+ghost use Rattle.olap_grammar.specs.Grammar.{comparing};
+ghost use Rattle.olap_numerals.specs.Numerals.{canonical};
+ghost use Rattle.olap_schema_text.specs.Printing.{atom_word, category_text, category_texts, compared_word, constraint_text, edge_text, ended_line, formula_text, joined_text, kind_text, list_text, names_after, rest_text, schema_text, text_of_lines};
+ghost use Rattle.olap_schema_text.specs.Judging.{schema_read};
+ghost use Rattle.olap_schema_text.specs.PrintingLaws.{PrintedIsRead};
+ghost use Rattle.olap_schema.specs.Schemas.{schema_of};
+ghost use Rattle.std.specs.Prelude.{◌≡◌, ◌++◌, [], ◌∷◌, IfOk, Ok, OnOk, codes, map};
+
+use itoa::Buffer;
+use olap_ast::{Constraint, Formula, Op, Terms};
+use olap_base::{CatId, EdgeId, Memory, Text};
+use olap_grammar::{Joint, push_quoted};
+use olap_graph::Graph;
+use olap_schema::Schema;
+use std::alloc::{AllocError, Global};
+
+/// The name of a category, or no bytes where it is none of the graph.
+#[tactic(auto, using(crate::proofs::PrintLemmas::no_name))]
+fn name(graph: &Graph, c: CatId) -> &[u8]
+    ensures { result.now ≡ name_of_category graph.now c.0 }
+{
+    if c.0 < graph.categories() {
+        graph.name(c).bytes()
+    } else {
+        &[]
+    }
+}
+
+/// The names of the categories, with the mark in front of each.
+#[tactic(auto, unfolding(crate::specs::Printing::names_after))]
+fn push_names(
+    out: &mut Vec<u8>,
+    graph: &Graph,
+    mark: u8,
+    categories: &[CatId],
+) -> Result<(), AllocError>
+    ensures { let names = names_after graph.now mark (map (λ c. c.0) categories.now) in
+        OnOk result (out.new.items ≡ out.old.items ++ names) }
+{
+    let mut left = categories;
+    'categories: while let Some((c, others)) = left.split_first() {
+        out.push(mark)?;
+        out.extend_from_slice(name(graph, *c))?;
+        left = others;
+    }
+    Ok(())
+}
+
+/// The root's name and what stands after it.
+fn push_atom(
+    out: &mut Vec<u8>,
+    graph: &Graph,
+    root: CatId,
+    mark: u8,
+    categories: &[CatId],
+) -> Result<(), AllocError>
+    ensures { let word = atom_word graph.now root.0 mark (map (λ c. c.0) categories.now) in
+        OnOk result (out.new.items ≡ out.old.items ++ word) }
+{
+    out.extend_from_slice(name(graph, root))?;
+    push_names(out, graph, mark, categories)
+}
+
+/// What is compared with a constant: the root by its name alone, another category after a dot.
+fn push_compared(out: &mut Vec<u8>, graph: &Graph, root: CatId, d: CatId) -> Result<(), AllocError>
+    ensures { OnOk result (out.new.items ≡ out.old.items ++ compared_word graph.now root.0 d.0) }
+{
+    if d.0 == root.0 {
+        out.extend_from_slice(name(graph, root))
+    } else {
+        push_atom(out, graph, root, b'.', &[d])
+    }
+}
+
+/// The mark of a comparison.
+fn push_op(out: &mut Vec<u8>, op: Op) -> Result<(), AllocError>
+    ensures { OnOk result (out.new.items ≡ out.old.items ++ mark_bytes (comparing (op_of op))) }
+{
+    match op {
+        Op::Equal => out.extend_from_slice(b"="),
+        Op::Less => out.extend_from_slice(b"<"),
+        Op::AtMost => out.extend_from_slice(b"<="),
+    }
+}
+
+/// The canonical numeral of a number.
+fn push_numeral(out: &mut Vec<u8>, n: i64) -> Result<(), AllocError>
+    ensures { OnOk result (out.new.items ≡ out.old.items ++ canonical n) }
+{
+    let mut buffer = Buffer::new();
+    out.extend_from_slice(buffer.format(n).as_bytes())
+}
+
+/// The mark of a comparison and the number, with a space before each.
+fn push_number(out: &mut Vec<u8>, op: Op, n: i64) -> Result<(), AllocError>
+    ensures { let mark = mark_bytes (comparing (op_of op)) in
+        OnOk result (out.new.items ≡ out.old.items ++ 32 ∷ (mark ++ 32 ∷ canonical n)) }
+{
+    out.push(b' ')?;
+    push_op(out, op)?;
+    out.push(b' ')?;
+    push_numeral(out, n)
+}
+
+/// The connective, with a space on each side.
+fn push_joint(out: &mut Vec<u8>, joint: Joint) -> Result<(), AllocError>
+    ensures { OnOk result (out.new.items ≡ out.old.items ++ joint_bytes joint) }
+{
+    match joint {
+        Joint::Iff => out.extend_from_slice(b"<->"),
+        Joint::Implies => out.extend_from_slice(b"->"),
+        Joint::Xor => out.extend_from_slice(b"^"),
+        Joint::Or => out.extend_from_slice(b"|"),
+        Joint::And => out.extend_from_slice(b"&"),
+    }
+}
+
+/// Appends a formula. It calls itself as deep as the formula is.
+#[cycle(push_formula)]
+fn push_formula(
+    out: &mut Vec<u8>,
+    graph: &Graph,
+    root: CatId,
+    f: &Formula,
+) -> Result<(), AllocError>
+    ensures { OnOk result (out.new.items ≡ out.old.items ++ formula_text graph.now root.0 (formula_of f.now)) }
+{
+    match f {
+        Formula::True => out.extend_from_slice(b"true"),
+        Formula::False => out.extend_from_slice(b"false"),
+        Formula::Path(categories) => push_atom(out, graph, root, b'_', categories.items()),
+        Formula::Reach(d) => push_atom(out, graph, root, b'.', &[*d]),
+        Formula::Via(d, e) => push_atom(out, graph, root, b'.', &[*d, *e]),
+        Formula::Equals(d, text) => {
+            push_compared(out, graph, root, *d)?;
+            out.extend_from_slice(b" = ")?;
+            push_quoted(out, text.bytes())
+        }
+        Formula::Compare(d, op, n) => {
+            push_compared(out, graph, root, *d)?;
+            push_number(out, *op, *n)
+        }
+        Formula::Not(f) => {
+            out.extend_from_slice(b"!")?;
+            push_formula(out, graph, root, f)
+        }
+        Formula::And(f, g) => push_joined(out, graph, root, Joint::And, f, g),
+        Formula::Or(f, g) => push_joined(out, graph, root, Joint::Or, f, g),
+        Formula::Implies(f, g) => push_joined(out, graph, root, Joint::Implies, f, g),
+        Formula::Iff(f, g) => push_joined(out, graph, root, Joint::Iff, f, g),
+        Formula::Xor(f, g) => push_joined(out, graph, root, Joint::Xor, f, g),
+        Formula::One(terms) => push_one(out, graph, root, terms),
+    }
+}
+
+/// Two formulas with a connective between them, in brackets.
+#[cycle(push_formula)]
+fn push_joined(
+    out: &mut Vec<u8>,
+    graph: &Graph,
+    root: CatId,
+    joint: Joint,
+    f: &Formula,
+    g: &Formula,
+) -> Result<(), AllocError>
+    ensures { let left = formula_text graph.now root.0 (formula_of f.now) in
+        let right = formula_text graph.now root.0 (formula_of g.now) in
+        OnOk result (out.new.items ≡ out.old.items ++ joined_text joint left right) }
+{
+    out.extend_from_slice(b"(")?;
+    push_formula(out, graph, root, f)?;
+    out.extend_from_slice(b" ")?;
+    push_joint(out, joint)?;
+    out.extend_from_slice(b" ")?;
+    push_formula(out, graph, root, g)?;
+    out.extend_from_slice(b")")
+}
+
+/// `one` and its parts in brackets.
+#[cycle(push_formula)]
+fn push_one(out: &mut Vec<u8>, graph: &Graph, root: CatId, terms: &Terms) -> Result<(), AllocError>
+    ensures { let list = list_text graph.now root.0 (terms_of terms.now) in
+        OnOk result (out.new.items ≡ out.old.items ++ 111 ∷ 110 ∷ 101 ∷ 40 ∷ (list ++ 41 ∷ [])) }
+{
+    out.extend_from_slice(b"one(")?;
+    push_list(out, graph, root, terms)?;
+    out.push(b')')?;
+    Ok(())
+}
+
+/// The parts of a list.
+#[cycle(push_formula)]
+fn push_list(out: &mut Vec<u8>, graph: &Graph, root: CatId, terms: &Terms) -> Result<(), AllocError>
+    ensures { OnOk result (out.new.items ≡ out.old.items ++ list_text graph.now root.0 (terms_of terms.now)) }
+{
+    match terms {
+        Terms::End => Ok(()),
+        Terms::More(f, rest) => {
+            push_formula(out, graph, root, f)?;
+            push_rest(out, graph, root, rest)
+        }
+    }
+}
+
+/// The parts after the first, a comma in front of each.
+#[cycle(push_formula)]
+fn push_rest(out: &mut Vec<u8>, graph: &Graph, root: CatId, terms: &Terms) -> Result<(), AllocError>
+    ensures { OnOk result (out.new.items ≡ out.old.items ++ rest_text graph.now root.0 (terms_of terms.now)) }
+{
+    let mut left = terms;
+    'parts: while let Terms::More(f, rest) = left {
+        out.extend_from_slice(b", ")?;
+        push_formula(out, graph, root, f)?;
+        left = rest;
+    }
+    Ok(())
+}
+
+/// What stands behind the name of a category.
+fn push_kind(out: &mut Vec<u8>, number: bool) -> Result<(), AllocError>
+    ensures { OnOk result (out.new.items ≡ out.old.items ++ kind_text number) }
+{
+    if number {
+        out.extend_from_slice(b" number")
+    } else {
+        Ok(())
+    }
+}
+
+/// The line of a category.
+fn push_category(out: &mut Vec<u8>, graph: &Graph, c: CatId) -> Result<(), AllocError>
+    requires { IsCategory graph.now c.0 }
+    ensures { OnOk result (out.new.items ≡ out.old.items ++ ended_line
+        (category_text (name_of_category graph.now c.0) (is_number graph.now c.0))) }
+{
+    out.extend_from_slice(b"category ")?;
+    out.extend_from_slice(name(graph, c))?;
+    push_kind(out, graph.is_number(c))?;
+    out.extend_from_slice(b"\n")
+}
+
+/// The lines of the declared categories.
+fn push_categories(out: &mut Vec<u8>, graph: &Graph) -> Result<(), AllocError>
+    ensures { let lines = category_texts graph.now.names graph.now.numbers in
+        OnOk result (out.new.items ≡ out.old.items ++ text_of_lines lines) }
+{
+    let count = graph.categories();
+    let mut done = 0;
+    'categories: while done + 1 < count {
+        push_category(out, graph, CatId(done + 1))?;
+        done += 1;
+    }
+    Ok(())
+}
+
+/// The line of an edge.
+fn push_edge(
+    out: &mut Vec<u8>,
+    graph: &Graph,
+    child: CatId,
+    parent: CatId,
+) -> Result<(), AllocError>
+    ensures { let edge : Edge = record { child = child.0; parent = parent.0 } in
+        OnOk result (out.new.items ≡ out.old.items ++ ended_line (edge_text graph.now edge)) }
+{
+    out.extend_from_slice(b"edge ")?;
+    out.extend_from_slice(name(graph, child))?;
+    out.extend_from_slice(b" ")?;
+    out.extend_from_slice(name(graph, parent))?;
+    out.extend_from_slice(b"\n")
+}
+
+/// The lines of the edges.
+fn push_edges(out: &mut Vec<u8>, graph: &Graph) -> Result<(), AllocError>
+    ensures { OnOk result (out.new.items ≡ out.old.items ++ text_of_lines (map (edge_text graph.now) graph.now.edges)) }
+{
+    let count = graph.edges();
+    let mut done = 0;
+    'edges: while done < count {
+        let (child, parent) = graph.ends(EdgeId(done));
+        push_edge(out, graph, child, parent)?;
+        done += 1;
+    }
+    Ok(())
+}
+
+/// What stands in front of a constraint's formula.
+fn push_root(out: &mut Vec<u8>, graph: &Graph, root: CatId) -> Result<(), AllocError>
+    ensures { let head = codes "constraint " ++ (name_of_category graph.now root.0 ++ 58 ∷ 32 ∷ []) in
+        OnOk result (out.new.items ≡ out.old.items ++ head) }
+{
+    out.extend_from_slice(b"constraint ")?;
+    out.extend_from_slice(name(graph, root))?;
+    out.extend_from_slice(b": ")?;
+    Ok(())
+}
+
+/// The line of a constraint.
+fn push_constraint(
+    out: &mut Vec<u8>,
+    graph: &Graph,
+    constraint: &Constraint,
+) -> Result<(), AllocError>
+    ensures { let line = constraint_text graph.now (constraint_of constraint.now) in
+        OnOk result (out.new.items ≡ out.old.items ++ ended_line line) }
+{
+    push_root(out, graph, constraint.root)?;
+    push_formula(out, graph, constraint.root, &constraint.formula)?;
+    out.extend_from_slice(b"\n")
+}
+
+/// The lines of the constraints.
+#[tactic(auto, unfolding(crate::specs::Printing::text_of_lines))]
+fn push_constraints(
+    out: &mut Vec<u8>,
+    graph: &Graph,
+    constraints: &[Constraint],
+) -> Result<(), AllocError>
+    ensures { let lines = map (constraint_text graph.now) (map constraint_of constraints.now) in
+        OnOk result (out.new.items ≡ out.old.items ++ text_of_lines lines) }
+{
+    let mut left = constraints;
+    'constraints: while let Some((constraint, others)) = left.split_first() {
+        push_constraint(out, graph, constraint)?;
+        left = others;
+    }
+    Ok(())
+}
+
+/// Appends the canonical text of a graph with constraints.
+pub(crate) fn push_schema(
+    out: &mut Vec<u8>,
+    graph: &Graph,
+    constraints: &[Constraint],
+) -> Result<(), AllocError>
+    ensures { let text = schema_text (record { graph = graph.now; constraints = map constraint_of constraints.now }) in
+        OnOk result (out.new.items ≡ out.old.items ++ text) }
+{
+    out.extend_from_slice(b"schema 2\n")?;
+    push_categories(out, graph)?;
+    push_edges(out, graph)?;
+    push_constraints(out, graph, constraints)?;
+    Ok(())
+}
+
+/// The canonical text of a schema: a line for the second version, each category, each edge and each constraint, in
+/// declaration order, with one space between tokens. `Memory` where there is no room for it. Linear in the text.
+///
+/// The schema is what its canonical text is read as.
+pub fn print_schema(alloc: Global, schema: &Schema) -> Result<Text, Memory>
+    ensures text { IfOk result (λ t. t ≡ schema_text (schema_of schema.now)) }
+    ensures reads { IfOk result (λ t. schema_read t ≡ Ok (schema_of schema.now)) }
+{
+    let mut out = Vec::new(alloc);
+    push_schema(&mut out, schema.graph(), schema.constraints())?;
+    let text = Text::from_bytes(alloc, &out)?;
+    Ok(text)
+}
+
+/// The canonical text of a valid schema whose constants are text stands for that schema.
+pub fn printed_schemas_are_read()
+    ensures { PrintedIsRead }
+{}

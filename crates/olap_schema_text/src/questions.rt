@@ -1,0 +1,162 @@
+// Reading a question's formula.
+ghost use Rattle.olap_ast.specs.Constants.{all_comparisons, all_equalities};
+ghost use Rattle.olap_ast.specs.Formula.{comparisons, equalities};
+ghost use Rattle.olap_ast.specs.Trees.{constraint_of, formula_of};
+ghost use Rattle.olap_ast.specs.Valid.{IsQuestion, pair_count, with_number, with_pair};
+ghost use Rattle.olap_base.specs.Graph.{IsDeclared};
+ghost use Rattle.olap_base.specs.Limits.{most_constants};
+ghost use Rattle.olap_graph.specs.Lookups.{name_of_category};
+ghost use Rattle.olap_schema_text.specs.Atoms.{atom_fault};
+ghost use Rattle.olap_schema_text.specs.declared.kinds.SchemaKind.TheVariants as kind;
+ghost use Rattle.olap_grammar.specs.CuttingMachine.{tokens_of};
+ghost use Rattle.olap_grammar.specs.declared.tokens.Version.TheVariants as version;
+ghost use Rattle.olap_schema_text.specs.Judging.{question_added, question_cut, question_read};
+ghost use Rattle.olap_schema.specs.Readable.{AreTexts};
+ghost use Rattle.olap_schema_text.specs.Reading.{Finds, ReadsFormula, number_pair_of, pair_of};
+ghost use Rattle.olap_schema.specs.Schemas.{schema_of};
+ghost use Rattle.std.specs.Prelude.{◌≡◌, IfOk, OnOk, Some, None, flat_map, fold, if◌then◌else◌, map, nat_lt};
+
+use crate::atoms::check_atoms;
+use crate::lines::is_bad;
+use crate::measuring::{MOST_TOKENS, has_bad_number, has_long_text, long_form_fault};
+use crate::pairing::{NumberPair, Pair, add_pairs};
+use crate::reading::read_form;
+use crate::{FormulaRefusal, SchemaKind};
+use olap_ast::{Constraint, Formula};
+use olap_base::{CatId, MOST_CONSTANTS, Memory};
+use olap_grammar::{CutRefusal, Known, Token, Version, first_tokens};
+use olap_schema::Schema;
+use std::alloc::Global;
+
+/// The pairs of all constraints.
+fn add_of_constraints(
+    alloc: Global,
+    pairs: &mut Vec<Pair>,
+    numbers: &mut Vec<NumberPair>,
+    constraints: &[Constraint],
+) -> Result<(), Memory>
+    ensures texts { let atoms = flat_map (λ c. equalities c.formula) (map constraint_of constraints.now) in
+        OnOk result (map pair_of pairs.new.items ≡ fold with_pair (map pair_of pairs.old.items) atoms) }
+    ensures numbers { let atoms = flat_map (λ c. comparisons c.formula) (map constraint_of constraints.now) in
+        OnOk result (map number_pair_of numbers.new.items
+        ≡ fold with_number (map number_pair_of numbers.old.items) atoms) }
+{
+    let mut left = constraints;
+    'constraints: while let Some((constraint, others)) = left.split_first() {
+        add_pairs(alloc, pairs, numbers, &constraint.formula)?;
+        left = others;
+    }
+    Ok(())
+}
+
+/// Whether there are too many pairs of a category and a constant in the schema and the formula.
+fn check_pairs(alloc: Global, schema: &Schema, f: &Formula) -> Result<(), FormulaRefusal>
+    ensures { let s = schema_of schema.now in
+        let count = pair_count (all_equalities s (formula_of f.now)) (all_comparisons s (formula_of f.now)) in
+        Finds result (if nat_lt most_constants count then Some kind.TooManyConstants else None) }
+{
+    let mut pairs = Vec::new(alloc);
+    let mut numbers = Vec::new(alloc);
+    add_of_constraints(alloc, &mut pairs, &mut numbers, schema.constraints())?;
+    add_pairs(alloc, &mut pairs, &mut numbers, f)?;
+    if pairs.len() + numbers.len() > MOST_CONSTANTS {
+        return Err(FormulaRefusal::Fault(SchemaKind::TooManyConstants));
+    }
+    Ok(())
+}
+
+/// What is left to check of a formula that was read: its atoms, and the limit of pairs.
+fn check_question(
+    alloc: Global,
+    schema: &Schema,
+    root: CatId,
+    tokens: &[Token],
+    f: Formula,
+) -> Result<Formula, FormulaRefusal>
+    requires { IsDeclared (schema_of schema.now).graph root.0 }
+    ensures { let s = schema_of schema.now in
+        let first = atom_fault s.graph (name_of_category s.graph root.0) tokens.now in
+        ReadsFormula result (question_added s (formula_of f) first) }
+{
+    let name = schema.graph().name(root);
+    match check_atoms(alloc, &Known::Whole(schema.graph()), name.bytes(), tokens) {
+        Ok(()) => match check_pairs(alloc, schema, &f) {
+            Ok(()) => Ok(f),
+            Err(e) => Err(e),
+        },
+        Err(e) => Err(e),
+    }
+}
+
+/// The formula of the tokens.
+fn read_tokens(
+    alloc: Global,
+    schema: &Schema,
+    root: CatId,
+    tokens: &[Token],
+) -> Result<Formula, FormulaRefusal>
+    requires { IsDeclared (schema_of schema.now).graph root.0 }
+    ensures { ReadsFormula result (question_cut (schema_of schema.now) root.0 (Some tokens.now)) }
+{
+    let known = Known::Whole(schema.graph());
+    match read_form(alloc, &known, Version::Two, 0, tokens) {
+        Ok(f) => {
+            if has_long_text(tokens) {
+                return Err(FormulaRefusal::Fault(SchemaKind::TextTooLong));
+            }
+            if has_bad_number(tokens) {
+                return Err(FormulaRefusal::Fault(SchemaKind::BadNumber));
+            }
+            check_question(alloc, schema, root, tokens, f)
+        }
+        Err(e) => Err(e),
+    }
+}
+
+/// The formula of a text without a bad byte.
+fn read_question(
+    alloc: Global,
+    schema: &Schema,
+    root: CatId,
+    text: &[u8],
+) -> Result<Formula, FormulaRefusal>
+    requires { IsDeclared (schema_of schema.now).graph root.0 }
+    ensures { ReadsFormula result (question_cut (schema_of schema.now) root.0 (tokens_of version.Two text.now)) }
+{
+    match first_tokens(alloc, Version::Two, text, MOST_TOKENS) {
+        Ok(found) => {
+            if found.more {
+                return Err(FormulaRefusal::Fault(long_form_fault(0, 0, &found.tally)));
+            }
+            read_tokens(alloc, schema, root, &found.first)
+        }
+        Err(CutRefusal::BadForm) => Err(FormulaRefusal::Fault(SchemaKind::BadForm)),
+        Err(CutRefusal::Memory) => Err(FormulaRefusal::Memory),
+    }
+}
+
+/// The formula that the text is, at a root of the schema's graph. It is read by the second version, whatever the
+/// schema's was.
+///
+/// A fault is the first check that fails. The text is one line: a LF or a CR is a `BadByte`. The limits on nodes and
+/// depth are those of one formula; the one on constants counts the schema's too. `Memory` where there is no room.
+/// What is given may be handed on: it is a formula of the schema at that root.
+#[tactic(auto, unfolding(crate::specs::Judging::question_read))]
+pub fn read_formula(
+    alloc: Global,
+    schema: &Schema,
+    root: CatId,
+    text: &[u8],
+) -> Result<Formula, FormulaRefusal>
+    requires { IsDeclared (schema_of schema.now).graph root.0 }
+    ensures read { ReadsFormula result (question_read (schema_of schema.now) root.0 text.now) }
+    ensures question { IfOk result (λ f. IsQuestion (schema_of schema.now) root.0 (formula_of f)) }
+    ensures texts { IfOk result (λ f. AreTexts (equalities (formula_of f))) }
+{
+    // Called for its clauses: the schema is valid, and its constants are text.
+    let _constraints = schema.constraints();
+    if is_bad(text) {
+        return Err(FormulaRefusal::Fault(SchemaKind::BadByte));
+    }
+    read_question(alloc, schema, root, text)
+}

@@ -1,0 +1,359 @@
+// Reading a schema, line by line.
+ghost use Rattle.olap_ast.specs.Trees.{formula_of};
+ghost use Rattle.olap_base.specs.Reaching.{is_category_name};
+ghost use Rattle.olap_base.specs.Graph.{IsCategory, IsCategoryName};
+ghost use Rattle.olap_base.specs.Limits.{most_nodes, most_text_bytes};
+ghost use Rattle.olap_graph.specs.Building.{IsCategoryCause, category_refusal, edge_refusal, with_kind};
+ghost use Rattle.olap_grammar.specs.Known.{graph_seen};
+ghost use Rattle.olap_graph.specs.Lookups.{category_named};
+ghost use Rattle.olap_schema_text.specs.Judging.{allows_numbers, category_read, constraint_added, constraint_read, edge_added, edge_read, formed_read, form_read, line_read, nothing_above, root_read, tokens_read, version_at};
+ghost use Rattle.olap_schema_text.specs.Reading.{Reads, ReadsFormula, above_of, said};
+ghost use Rattle.olap_ast.specs.Formula.{comparisons, equalities};
+ghost use Rattle.olap_ast.specs.Valid.{with_number, with_pair};
+ghost use Rattle.olap_grammar.specs.Brackets.{most_tokens};
+ghost use Rattle.olap_grammar.specs.Cutter.{kept_of};
+ghost use Rattle.olap_grammar.specs.declared.tokens.Token.{Token as Tokens};
+ghost use Rattle.olap_grammar.specs.CuttingMachine.{tokens_of};
+ghost use Rattle.olap_grammar.specs.Keeping.{BeginsFound};
+ghost use Rattle.olap_grammar.specs.Nodes.{nodes_of};
+ghost use Rattle.std.specs.Prelude.{◌≡◌, ◌≤◌, ◌+◌, ℕ, List, Option, Err, None, Some, IfErr, IfOk, IsTrue, fold, length, true};
+
+use crate::atoms::check_atoms;
+use crate::lines::{is_bad, is_quiet};
+use crate::measuring::{
+    MOST_TOKENS, has_bad_number, has_long_text, long_form_fault, nodes, opens_too_deep,
+};
+use crate::pairing::{NumberPair, Pair, add_pairs};
+use crate::statements::{Statement, statement_in};
+use crate::{FormulaRefusal, SchemaKind};
+use olap_ast::{Constraint, Formula};
+use olap_base::{
+    CatId, MOST_CONSTANTS, MOST_CONSTRAINTS, MOST_NODES, MOST_TEXT_BYTES, Memory, Text,
+};
+use olap_grammar::{
+    CutRefusal, FirstTokens, FormRefusal, Known, Token, Version, first_tokens, formula,
+};
+use olap_graph::{CategoryRefusal, EdgeRefusal, GraphBuilder};
+use std::alloc::Global;
+
+/// What the lines so far say.
+#[derive(Drop)]
+pub(crate) struct Reading {
+    pub(crate) version: Option<Version>,
+    pub(crate) builder: GraphBuilder,
+    pub(crate) category_lines: Vec<u64>,
+    pub(crate) constraints: Vec<Constraint>,
+    pub(crate) nodes: u16,
+    pub(crate) pairs: Vec<Pair>,
+    pub(crate) numbers: Vec<NumberPair>,
+}
+
+/// Before the first line.
+pub(crate) fn begin(alloc: Global) -> Result<Reading, Memory>
+    ensures { IfOk result (λ reading. above_of reading ≡ nothing_above) }
+{
+    Ok(Reading {
+        version: None,
+        builder: GraphBuilder::new(alloc)?,
+        category_lines: Vec::new(alloc),
+        constraints: Vec::new(alloc),
+        nodes: 0,
+        pairs: Vec::new(alloc),
+        numbers: Vec::new(alloc),
+    })
+}
+
+/// Whether the members of a category may be named by numbers.
+fn has_numbers(version: Version) -> bool
+    ensures { result ≡ allows_numbers version }
+{
+    match version {
+        Version::One => false,
+        Version::Two => true,
+    }
+}
+
+/// Adds a category, whose members' names are texts or numbers.
+fn add_category(
+    builder: &mut GraphBuilder,
+    name: Text,
+    number: bool,
+) -> Result<CatId, CategoryRefusal>
+    requires name { IsCategoryName name }
+    requires short { length name ≤ most_text_bytes }
+    ensures ok { IfOk result (λ c. category_refusal builder.old name ≡ None) }
+    ensures added { IfOk result (λ _. builder.new ≡ with_kind number builder.old name) }
+    ensures err { IfErr result (IsCategoryCause (category_refusal builder.old name)) }
+{
+    if number {
+        builder.add_number_category(name)
+    } else {
+        builder.add_category(name)
+    }
+}
+
+/// A category's line. The first version has no numbers.
+fn read_category(
+    alloc: Global,
+    reading: &mut Reading,
+    n: u64,
+    version: Version,
+    name: &[u8],
+    number: bool,
+) -> Result<(), FormulaRefusal>
+    requires { IsTrue (is_category_name name.now) }
+    ensures { Reads result (above_of reading.new) (category_read (above_of reading.old) n version name.now number) }
+{
+    if number && !has_numbers(version) {
+        return Err(FormulaRefusal::Fault(SchemaKind::BadForm));
+    }
+    if name.len() > MOST_TEXT_BYTES {
+        return Err(FormulaRefusal::Fault(SchemaKind::TextTooLong));
+    }
+    let name = Text::from_bytes(alloc, name)?;
+    match add_category(&mut reading.builder, name, number) {
+        Ok(_) => {
+            reading.category_lines.push(n)?;
+            Ok(())
+        }
+        Err(CategoryRefusal::DuplicateCategory) => Err(FormulaRefusal::Fault(
+            SchemaKind::DuplicateCategory,
+        )),
+        Err(CategoryRefusal::TooManyCategories) => Err(FormulaRefusal::Fault(
+            SchemaKind::TooManyCategories,
+        )),
+        Err(CategoryRefusal::Memory) => Err(FormulaRefusal::Memory),
+    }
+}
+
+/// An edge between two categories.
+fn add_edge(reading: &mut Reading, c: CatId, d: CatId) -> Result<(), FormulaRefusal>
+    requires child { IsCategory (above_of reading.old).graph c.0 }
+    requires parent { IsCategory (above_of reading.old).graph d.0 }
+    ensures { Reads result (above_of reading.new)
+        (edge_added (above_of reading.old) c.0 d.0 (edge_refusal (above_of reading.old).graph c.0 d.0)) }
+{
+    match reading.builder.add_edge(c, d) {
+        Ok(_) => Ok(()),
+        Err(EdgeRefusal::SelfEdge) => Err(FormulaRefusal::Fault(SchemaKind::SelfEdge)),
+        Err(EdgeRefusal::EdgeFromAll) => Err(FormulaRefusal::Fault(SchemaKind::EdgeFromAll)),
+        Err(EdgeRefusal::DuplicateEdge) => Err(FormulaRefusal::Fault(SchemaKind::DuplicateEdge)),
+        Err(EdgeRefusal::TooManyEdges) => Err(FormulaRefusal::Fault(SchemaKind::TooManyEdges)),
+        Err(EdgeRefusal::Memory) => Err(FormulaRefusal::Memory),
+    }
+}
+
+/// An edge's line.
+fn read_edge(reading: &mut Reading, child: &[u8], parent: &[u8]) -> Result<(), FormulaRefusal>
+    ensures { Reads result (above_of reading.new) (edge_read (above_of reading.old) child.now parent.now) }
+{
+    if child.len() > MOST_TEXT_BYTES || parent.len() > MOST_TEXT_BYTES {
+        return Err(FormulaRefusal::Fault(SchemaKind::TextTooLong));
+    }
+    match reading.builder.category(child) {
+        Some(c) => match reading.builder.category(parent) {
+            Some(d) => add_edge(reading, c, d),
+            None => Err(FormulaRefusal::Fault(SchemaKind::UnknownCategory)),
+        },
+        None => Err(FormulaRefusal::Fault(SchemaKind::UnknownCategory)),
+    }
+}
+
+/// The formula of the tokens by the version, with so many nodes on the lines above.
+#[tactic(auto, unfolding(crate::specs::Judging::form_read))]
+pub(crate) fn read_form(
+    alloc: Global,
+    known: &Known,
+    version: Version,
+    before: u16,
+    tokens: &[Token],
+) -> Result<Formula, FormulaRefusal>
+    ensures read { ReadsFormula result (form_read version (graph_seen known.now) before tokens.now) }
+    ensures few { IfOk result (λ f. before + nodes_of version tokens.now ≤ most_nodes) }
+{
+    if before as usize + nodes(version, tokens) > MOST_NODES {
+        return Err(FormulaRefusal::Fault(SchemaKind::TooManyNodes));
+    }
+    if opens_too_deep(tokens) {
+        return Err(FormulaRefusal::Fault(SchemaKind::TooDeep));
+    }
+    match formula(alloc, known, version, tokens) {
+        Ok(f) => Ok(f),
+        Err(FormRefusal::BadForm) => Err(FormulaRefusal::Fault(SchemaKind::BadForm)),
+        Err(FormRefusal::TooDeep) => Err(FormulaRefusal::Fault(SchemaKind::TooDeep)),
+        Err(FormRefusal::Memory) => Err(FormulaRefusal::Memory),
+    }
+}
+
+/// Adds a constraint whose formula has no fault but, it may be, too many constants.
+fn add_constraint(
+    alloc: Global,
+    reading: &mut Reading,
+    version: Version,
+    root: CatId,
+    tokens: &[Token],
+    f: Formula,
+) -> Result<(), FormulaRefusal>
+    requires { (above_of reading.old).nodes + nodes_of version tokens.now ≤ most_nodes }
+    ensures { let old = above_of reading.old in
+        let pairs = fold with_pair old.pairs (equalities (formula_of f)) in
+        let numbers = fold with_number old.numbers (comparisons (formula_of f)) in
+        Reads result (above_of reading.new)
+        (constraint_added old version root.0 tokens.now (formula_of f) pairs numbers) }
+{
+    add_pairs(alloc, &mut reading.pairs, &mut reading.numbers, &f)?;
+    if reading.pairs.len() + reading.numbers.len() > MOST_CONSTANTS {
+        return Err(FormulaRefusal::Fault(SchemaKind::TooManyConstants));
+    }
+    reading.constraints.push(Constraint { root, formula: f })?;
+    let more = nodes(version, tokens) as u16;
+    reading.nodes += more;
+    Ok(())
+}
+
+/// The root, and then the atoms.
+fn read_rooted(
+    alloc: Global,
+    reading: &mut Reading,
+    version: Version,
+    name: &[u8],
+    tokens: &[Token],
+    f: Formula,
+) -> Result<(), FormulaRefusal>
+    requires { (above_of reading.old).nodes + nodes_of version tokens.now ≤ most_nodes }
+    ensures { let old = above_of reading.old in
+        let root = category_named old.graph name.now in
+        Reads result (above_of reading.new) (root_read old version name.now tokens.now (formula_of f) root) }
+{
+    match reading.builder.category(name) {
+        Some(root) => {
+            if root == CatId(0) {
+                return Err(FormulaRefusal::Fault(SchemaKind::RootIsAll));
+            }
+            if reading.constraints.len() >= MOST_CONSTRAINTS {
+                return Err(FormulaRefusal::Fault(SchemaKind::TooManyConstraints));
+            }
+            match check_atoms(alloc, &Known::Growing(&reading.builder), name, tokens) {
+                Ok(()) => add_constraint(alloc, reading, version, root, tokens, f),
+                Err(e) => Err(e),
+            }
+        }
+        None => Err(FormulaRefusal::Fault(SchemaKind::UnknownCategory)),
+    }
+}
+
+/// A constraint's line.
+fn read_constraint(
+    alloc: Global,
+    reading: &mut Reading,
+    version: Version,
+    name: &[u8],
+    tokens: &[Token],
+) -> Result<(), FormulaRefusal>
+    ensures { Reads result (above_of reading.new)
+        (constraint_read (above_of reading.old) version name.now tokens.now) }
+{
+    match read_form(
+        alloc,
+        &Known::Growing(&reading.builder),
+        version,
+        reading.nodes,
+        tokens,
+    ) {
+        Ok(f) => {
+            if name.len() > MOST_TEXT_BYTES || has_long_text(tokens) {
+                return Err(FormulaRefusal::Fault(SchemaKind::TextTooLong));
+            }
+            if has_bad_number(tokens) {
+                return Err(FormulaRefusal::Fault(SchemaKind::BadNumber));
+            }
+            read_rooted(alloc, reading, version, name, tokens, f)
+        }
+        Err(e) => Err(e),
+    }
+}
+
+/// A line that says something, by the version of the text: before it is known, a line must say which it is.
+fn read_statement(
+    alloc: Global,
+    reading: &mut Reading,
+    n: u64,
+    tokens: &[Token],
+) -> Result<(), FormulaRefusal>
+    ensures { Reads result (above_of reading.new)
+        (tokens_read (above_of reading.old) n (Some tokens.now)) }
+{
+    match (reading.version, statement_in(tokens)) {
+        (None, Statement::Version(version)) => {
+            reading.version = Some(version);
+            Ok(())
+        }
+        (Some(version), Statement::Category { name, number }) => {
+            read_category(alloc, reading, n, version, name, number)
+        }
+        (Some(_), Statement::Edge(child, parent)) => read_edge(reading, child, parent),
+        (Some(version), Statement::Constraint(root, formula)) => {
+            read_constraint(alloc, reading, version, root, formula)
+        }
+        _ => Err(FormulaRefusal::Fault(SchemaKind::BadForm)),
+    }
+}
+
+/// Why a line of which not all tokens are kept is refused.
+fn long_line_fault(reading: &Reading, found: &FirstTokens) -> SchemaKind
+    requires more { found.now.more ≡ true }
+    requires room { most_tokens most_nodes + 3 ≤ found.now.most }
+    ensures { (n : ℕ) (ts : Option (List Tokens))
+        → BeginsFound (version_at (above_of reading.now)) (kept_of found.now) ts
+        → tokens_read (above_of reading.now) n ts ≡ Err result }
+{
+    if reading.version.is_none() {
+        return SchemaKind::BadForm;
+    }
+    match statement_in(&found.first) {
+        Statement::Constraint(_, _) => long_form_fault(reading.nodes, 2, &found.tally),
+        _ => SchemaKind::BadForm,
+    }
+}
+
+/// A line that says something. Before the version is known, it is cut by the first.
+fn read_saying(
+    alloc: Global,
+    reading: &mut Reading,
+    n: u64,
+    line: &[u8],
+) -> Result<(), FormulaRefusal>
+    ensures { let old = above_of reading.old in
+        Reads result (above_of reading.new) (tokens_read old n (tokens_of (version_at old) line.now)) }
+{
+    let version = reading.version.unwrap_or(Version::One);
+    match first_tokens(alloc, version, line, MOST_TOKENS) {
+        Ok(found) => {
+            if found.more {
+                return Err(FormulaRefusal::Fault(long_line_fault(reading, &found)));
+            }
+            read_statement(alloc, reading, n, &found.first)
+        }
+        Err(CutRefusal::BadForm) => Err(FormulaRefusal::Fault(SchemaKind::BadForm)),
+        Err(CutRefusal::Memory) => Err(FormulaRefusal::Memory),
+    }
+}
+
+/// The n-th line, without its CR.
+#[tactic(auto, unfolding(crate::specs::Judging::line_read))]
+pub(crate) fn read_line(
+    alloc: Global,
+    reading: &mut Reading,
+    n: u64,
+    line: &[u8],
+) -> Result<(), FormulaRefusal>
+    ensures { Reads result (above_of reading.new) (line_read (above_of reading.old) n line.now) }
+{
+    if is_bad(line) {
+        return Err(FormulaRefusal::Fault(SchemaKind::BadByte));
+    }
+    if is_quiet(line) {
+        return Ok(());
+    }
+    read_saying(alloc, reading, n, line)
+}
