@@ -14,7 +14,7 @@ use Rattle.olap_bits.specs.CatSet.{IsLeast}
 use Rattle.olap_bits.proofs.CatSetLemmas.{in_insert}
 use Rattle.olap_check.specs.Blocks.{Collects, IsBlock, IsFirstUnmetFrom, IsPart, Selects, width}
 use Rattle.olap_check.specs.Groups.{count_before}
-use Rattle.olap_check.specs.declared.tables.Table.{Table}
+use Rattle.olap_legal.specs.declared.tables.Table.{Table}
 use Rattle.olap_check.proofs.GroupLemmas.{count_below, same_nth}
 
 -- ---- two facts and their tests

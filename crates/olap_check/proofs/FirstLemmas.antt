@@ -14,14 +14,15 @@ use Rattle.olap_base.specs.Steps.{Climb, Climb.climb, Climb-from_leads}
 use Rattle.olap_base.specs.Deciding.{below_is_member}
 use Rattle.olap_ast.specs.Schema.{Schema}
 use Rattle.olap_ast.specs.Violation.{Violation, Violation.NoEdge, Violation.NoParent, Violation.SameCategory, Violation.TwoAncestors, Violation.Shortcut, Violation.Unmet, IsViolation, rank, IsNotAfter, IsFirstViolation}
-use Rattle.olap_check.specs.Rows.{IsBounded}
-use Rattle.olap_check.specs.Strata.{AreLinked, Repeats, IsFirstRepeat}
-use Rattle.olap_check.specs.Tables.{IsTable, IsFirstSplit, IsLeastSplit, SplitsAt}
+use Rattle.olap_legal.specs.Rows.{IsBounded, AreLinked}
+use Rattle.olap_check.specs.Strata.{Repeats, IsFirstRepeat}
+use Rattle.olap_legal.specs.Tables.{IsTable, IsFirstSplit}
+use Rattle.olap_check.specs.Splitting.{IsLeastSplit, SplitsAt}
 use Rattle.olap_check.specs.Passing.{IsStratified, IsFirstShortcut, HasNoShortcut}
 use Rattle.olap_check.specs.Linking.{IsLinked, IsTableOf, IsFirstUnlinked, IsLinkedAt, IsFirstOrphan, IsOrphan}
-use Rattle.olap_check.proofs.TableLemmas.{row_is_whole}
+use Rattle.olap_legal.proofs.TableLemmas.{row_is_whole}
 use Rattle.olap_check.proofs.SplitLemmas.{splits_of}
-use Rattle.olap_check.specs.declared.tables.Table.{Table}
+use Rattle.olap_legal.specs.declared.tables.Table.{Table}
 
 -- less or equal, where not greater
 not_less : (a b : ℕ) → (b < a → ⊥) → (a < b) ⊎ (a ≡ b)

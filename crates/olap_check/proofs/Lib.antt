@@ -1,13 +1,5 @@
 -- Lemmas.
-mod ParentLemmas
-mod RisingLemmas
-mod FrontierLemmas
-mod StrataLemmas
 mod SearchLemmas
-mod TableLemmas
-mod SlotLemmas
-mod LayingLemmas
-mod JoiningLemmas
 mod PassingLemmas
 mod LinkingLemmas
 mod SplitLemmas

@@ -7,12 +7,13 @@ use native.Mathlib.Decide.{ℕ_discrete}
 use Rattle.olap_base.specs.Graph.{Graph, HasEdge, CategoryReaches}
 use Rattle.olap_base.specs.Instance.{Instance, IsBelow, IsFarBelow, category_of, parents_of}
 use Rattle.olap_graph.specs.Tables.{IsMarked}
-use Rattle.olap_check.proofs.ParentLemmas.{taken}
+use Rattle.olap_legal.proofs.ParentLemmas.{taken}
 use Rattle.olap_base.specs.Steps.{Steps, Steps.here, Steps.step, Climb, Climb.climb, Steps-append, Climb-from_leads, leads_from_Climb, Steps-climb, reaches_from_Steps}
 use Rattle.olap_base.proofs.ListLemmas.{Contains-nil}
-use Rattle.olap_check.specs.Rows.{IsBounded}
+use Rattle.olap_legal.specs.Rows.{IsBounded, AreLinked}
 use Rattle.olap_base.specs.Deciding.{below_is_member}
-use Rattle.olap_check.specs.Strata.{AreLinked, IsOnCycle, Repeats, HasNoneAbove, IsFirstIn, IsFirstOf, IsFirstRepeat, IsPassed, IsClosed, IsMarking, Hits, IsSearch, RepeatGives}
+use Rattle.olap_check.specs.Strata.{IsOnCycle, Repeats, HasNoneAbove, IsFirstIn, IsFirstOf, IsFirstRepeat, IsClosed, IsSearch, RepeatGives}
+use Rattle.olap_legal.specs.Marks.{IsPassed, IsMarking, Hits}
 
 module _ {i : Instance} {c : ℕ} (x : ℕ) (inside : (a b : ℕ) → IsBelow i a b → b < length i) where
   -- the parents of x, over marks that are closed
@@ -151,12 +152,6 @@ first_found i c limit x y h f e q below =
     record { within = omega arith; found = λ l. (y, f, q ∙ sym e); before = below }
 
 -- ---- a category that lies on no cycle
-
--- edges lead along with the parents
-pub edges_along : (g : Graph) (i : Instance) → AreLinked g i → {x y : ℕ} → Steps (IsBelow i) x y
-    → Steps (HasEdge g) (category_of i x) (category_of i y)
-edges_along g i l here = here
-edges_along g i l (step {x = x} {y = z} r s) = step (l x z r) (edges_along g i l s)
 
 -- no member of it is far below another
 pub off_cycle : (g : Graph) (i : Instance) (c x : ℕ) → AreLinked g i → (IsOnCycle g c → ⊥) → category_of i x ≡ c

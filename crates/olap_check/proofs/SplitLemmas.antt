@@ -5,25 +5,15 @@ use Rattle.olap_base.specs.Instance.{Instance, IsBelow, Reaches, category_of, pa
 use Rattle.olap_base.specs.Steps.{Steps, Steps.here, Steps.step, Climb, Climb.climb, Climb-from_leads, leads_from_Climb, Steps-climb, Steps-from_reaches}
 use Rattle.olap_base.proofs.ListLemmas.{Contains-nil}
 use Rattle.olap_graph.specs.Tables.{IsMarked}
-use Rattle.olap_check.specs.Rows.{IsBounded, Splits}
-use Rattle.olap_check.specs.Strata.{IsClosed, Hits, IsMarking, MarkGives}
-use Rattle.olap_check.specs.Tables.{MarksAbove, HasTwo, IsFoundAmong, IsClimbing, SplitsAt}
+use Rattle.olap_legal.specs.Rows.{IsBounded, Splits}
+use Rattle.olap_check.specs.Strata.{IsClosed}
+use Rattle.olap_legal.specs.Marks.{Hits, IsMarking, MarkGives}
+use Rattle.olap_check.specs.Splitting.{MarksAbove, HasTwo, IsFoundAmong, IsClimbing, SplitsAt}
 use Rattle.olap_check.specs.Passing.{IsStratified}
-use Rattle.olap_check.proofs.TableLemmas.{reached_inside}
+use Rattle.olap_legal.proofs.TableLemmas.{reached_inside}
 use Rattle.std.proofs.lemmas.Bool.{cases_Bool}
-use Rattle.olap_check.proofs.ParentLemmas.{taken}
+use Rattle.olap_legal.proofs.ParentLemmas.{taken}
 use Rattle.olap_check.proofs.SearchLemmas.{search_start, search_next}
-
--- no member is of the category n, so each marking is whole
-pub whole_marking : {i : Instance} {n : ℕ} {b : Bool} {before after : List Bool} {old new : List ℕ} (z : ℕ)
-    → IsBounded i n → MarkGives b i n (parents_of i z) before after old new
-    → IsMarking i n (parents_of i z) before after old new
-whole_marking {i} {n} {b} z bounded m = elim (cases_Bool b) [ inl e ↦ m.marked e | inr e ↦ absurd (none (m.hit e)) ]
-  where
-    none : Hits i n (parents_of i z) → ⊥
-    none h =
-        let c = bounded.categories h.hit (bounded.places z h.hit h.is_parent) in
-        let e = h.category in omega (arith, c, e)
 
 -- the parents of x are marked
 pub climbing_start : {i : Instance} {n : ℕ} {marks after : List Bool} {old new : List ℕ} (x : ℕ) → IsBounded i n

@@ -12,9 +12,9 @@ use Rattle.olap_check.specs.Blocks.{IsBlock, IsPart, Selects}
 use Rattle.olap_check.proofs.BlockLemmas.{has_all}
 use Rattle.olap_check.proofs.GroupLemmas.{same_nth}
 use Rattle.olap_check.specs.Seen.{IsKept, StepsVia}
-use Rattle.olap_check.specs.Laying.{cell}
+use Rattle.olap_legal.specs.Laying.{cell}
 use Rattle.olap_check.proofs.AboveLemmas.{above_shape, member_is, own_place, present_member}
-use Rattle.olap_check.specs.declared.tables.Table.{Table}
+use Rattle.olap_legal.specs.declared.tables.Table.{Table}
 
 -- a member of the first category has one of the second as a parent, by the row of x
 module _ (i : Instance) (n x : ℕ) (table : Table) (a : IsAbove i n x table) where

@@ -3,10 +3,10 @@
 --     is_present   x reaches a member of the category
 use Rattle.std.specs.Prelude.{ℕ, ◌<◌, ◌&&◌, not, Bool, nat_eq, nat_lt, length}
 use Rattle.olap_base.specs.Instance.{Instance}
-use Rattle.olap_check.specs.Laying.{cell}
-use Rattle.olap_check.specs.Rows.{none, IsBounded}
-use Rattle.olap_check.specs.Tables.{IsTable}
-use Rattle.olap_check.specs.declared.tables.Table.{Table}
+use Rattle.olap_legal.specs.Laying.{cell}
+use Rattle.olap_legal.specs.Rows.{none, IsBounded}
+use Rattle.olap_legal.specs.Tables.{IsTable}
+use Rattle.olap_legal.specs.declared.tables.Table.{Table}
 
 -- the table is that of the instance, and x is a member
 pub record IsAbove (i : Instance) (n x : ℕ) (t : Table) : Type 0 where

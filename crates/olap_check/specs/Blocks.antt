@@ -11,8 +11,8 @@ use Rattle.std.specs.Ordering.{nat_cmp}
 use Rattle.olap_ast.specs.Formula.{Formula, Holds}
 use Rattle.olap_base.specs.Instance.{Instance, IsMemberOf}
 use Rattle.olap_check.specs.Groups.{IsNth, count_before}
-use Rattle.olap_check.specs.Tables.{HasTable}
-use Rattle.olap_check.specs.declared.tables.Table.{Table}
+use Rattle.olap_legal.specs.Tables.{HasTable}
+use Rattle.olap_legal.specs.declared.tables.Table.{Table}
 
 -- how many places a block has: sixteen words of bits
 abbrev pub width : ℕ

@@ -3,15 +3,10 @@
 -- What a reader of the claims believes.
 pub mod FirstViolation
 pub mod Reports
-pub mod Ancestors
--- The inside: the tables, marks and walks by which each law is judged.
+-- The inside: the tables, marks and searches by which each law and each constraint is judged.
 pub mod Linking
 pub mod Strata
-pub mod Rows
-pub mod Slots
-pub mod Laying
-pub mod Tables
-pub mod Joining
+pub mod Splitting
 pub mod Passing
 pub mod Above
 pub mod Groups

@@ -2,16 +2,15 @@
 ghost use Rattle.std.specs.Prelude.{◌≡◌, ◌<◌, ◌↔◌, length, IsTrue, IfSome, IsNone};
 ghost use Rattle.olap_check.specs.Above.{IsAbove, is_present};
 ghost use Rattle.olap_check.specs.Seen.{GoesOn, IsSo};
-ghost use Rattle.olap_check.specs.Laying.{cell};
+ghost use Rattle.olap_legal.specs.Laying.{cell};
 ghost use Rattle.olap_eval.specs.Shapes.{IsShape};
 
 use crate::asked::{Asked, Way};
-use crate::parting::ancestor;
-use crate::tables::Table;
 use olap_ast::Op;
 use olap_base::{CatId, MemberId, Text};
 use olap_eval::Shape;
 use olap_instance::Instance;
+use olap_legal::{Table, ancestor};
 use olap_numerals::number;
 
 /// What x reaches, read from the table of ancestors.
@@ -66,7 +65,7 @@ impl<'a> Above<'a> {
 
 impl<'a> Shape for Above<'a> {
     ghost use Rattle.olap_check.specs.Above.{is_present};
-    ghost use Rattle.olap_check.specs.Laying.{cell};
+    ghost use Rattle.olap_legal.specs.Laying.{cell};
 
     ghost instance = { λ s. s.instance.now };
 

@@ -13,10 +13,10 @@ use crate::above::Above;
 use crate::asked::{Asked, Way};
 use crate::places::Places;
 use crate::seen::{Entry, Seen};
-use crate::tables::Table;
 use olap_ast::{Formula, Terms};
 use olap_base::CatId;
 use olap_instance::Instance;
+use olap_legal::Table;
 
 /// A part of the root's members: `WIDTH` in file order from the `start`-th on, or as many as there are.
 ///

@@ -6,19 +6,19 @@ ghost use Rattle.olap_base.specs.Graph.{category_count};
 ghost use Rattle.olap_base.specs.Instance.{IsLawful};
 ghost use Rattle.olap_base.specs.Limits.{most_categories, most_constraints};
 ghost use Rattle.olap_check.specs.Reports.{IsFirstReport, IsRefused, parts_of};
-ghost use Rattle.olap_check.specs.Rows.{IsBounded};
-ghost use Rattle.olap_check.specs.Tables.{IsTable};
+ghost use Rattle.olap_legal.specs.Rows.{IsBounded};
+ghost use Rattle.olap_legal.specs.Tables.{IsTable};
 ghost use Rattle.olap_schema.specs.Schemas.{schema_of};
 ghost use Rattle.olap_instance.specs.Made.{IsMadeFor};
 
 use crate::laws::{bound, lawful};
 use crate::meeting::first_violated;
-use crate::tables::Table;
-use crate::{CheckRefusal, Legal, Violation};
+use crate::{CheckRefusal, Violation};
 use olap_ast::Constraint;
 use olap_base::{MemberId, Memory};
 use olap_graph::Graph;
 use olap_instance::Instance;
+use olap_legal::{Legal, Table};
 use olap_schema::Schema;
 use std::alloc::Global;
 
@@ -81,7 +81,7 @@ fn check_parts(
 {
     let categories = bound(graph, &instance);
     match judged(alloc, graph, constraints, &instance, categories)? {
-        Ok(table) => Ok(Legal::of(instance, categories, table)),
+        Ok(table) => Ok(Legal::new(instance, categories, table)),
         Err(violation) => Err(CheckRefusal::Broken(instance, violation)),
     }
 }

@@ -5,19 +5,19 @@ ghost use Rattle.olap_base.specs.Graph.{category_count};
 ghost use Rattle.olap_base.specs.Limits.{most_categories};
 ghost use Rattle.olap_base.specs.Instance.{IsLawful, parents_of};
 ghost use Rattle.olap_check.specs.Reports.{IsFirstReport};
-ghost use Rattle.olap_check.specs.Rows.{IsBounded};
-ghost use Rattle.olap_check.specs.Tables.{IsTable};
+ghost use Rattle.olap_legal.specs.Rows.{IsBounded};
+ghost use Rattle.olap_legal.specs.Tables.{IsTable};
 ghost use Rattle.olap_instance.specs.Made.{IsMadeFor};
 
 use crate::Violation;
 use crate::linking::{edge_table, first_orphan, first_unlinked};
-use crate::parting::{split_category, table};
+use crate::parting::split_category;
 use crate::passing::first_shortcut;
 use crate::strata::first_repeated;
-use crate::tables::Table;
 use olap_base::{CatId, MemberId, Memory};
 use olap_graph::Graph;
 use olap_instance::Instance;
+use olap_legal::{Table, ancestor_table};
 use std::alloc::Global;
 
 /// How many categories there are. Its contract says that the instance lies within that number.
@@ -68,7 +68,7 @@ pub(crate) fn lawful(
     if let Some(x) = first_repeated(alloc, graph, instance, categories)? {
         return Ok(Err(Violation::Stratification(MemberId(x))));
     }
-    let table = match table(alloc, graph, instance, categories)? {
+    let table = match ancestor_table(alloc, graph, instance, categories)? {
         Ok(table) => table,
         Err(x) => {
             let category = split_category(alloc, instance, categories, x)?;

@@ -1,6 +1,6 @@
 // Parents whose categories no edge links, and members with no parent.
 ghost use Rattle.std.specs.Prelude.{◌≡◌, ◌<◌, ◌≤◌, ◌*◌, length, ℕ, IfOk, IfSome, IsNone, IsTrue, ◌↔◌};
-ghost use Rattle.olap_check.specs.Rows.{IsBounded};
+ghost use Rattle.olap_legal.specs.Rows.{IsBounded};
 ghost use Rattle.olap_check.specs.Linking.{IsLinked, IsFirstUnlinkedOf, IsFirstUnlinked, IsLinkedAt, IsFirstOrphan, IsOrphan, IsTableOf};
 ghost use Rattle.olap_base.specs.Limits.{most_categories};
 ghost use Rattle.olap_base.specs.Graph.{category_count};

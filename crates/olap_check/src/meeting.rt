@@ -6,18 +6,18 @@ ghost use Rattle.olap_ast.specs.Trees.{constraint_of, formula_of};
 ghost use Rattle.olap_base.specs.Instance.{IsMemberOf};
 ghost use Rattle.olap_check.specs.Groups.{IsGroup};
 ghost use Rattle.olap_check.specs.Meeting.{IsFirstUnmet, IsFirstViolated};
-ghost use Rattle.olap_check.specs.Rows.{IsBounded};
+ghost use Rattle.olap_legal.specs.Rows.{IsBounded};
 ghost use Rattle.olap_check.specs.Seen.{IsSeen};
-ghost use Rattle.olap_check.specs.Tables.{IsTable};
+ghost use Rattle.olap_legal.specs.Tables.{IsTable};
 
 use crate::blocks::Block;
 use crate::grouping::Groups;
 use crate::places::{WIDTH, all_places};
 use crate::seen::Seen;
-use crate::tables::Table;
 use olap_ast::{Constraint, Formula};
 use olap_base::{CatId, Memory};
 use olap_instance::Instance;
+use olap_legal::Table;
 use std::alloc::Global;
 
 /// The first member of the root at which the formula is false. The root's members are told.

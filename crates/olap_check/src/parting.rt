@@ -1,89 +1,13 @@
-// The table of ancestors, and members that reach two members of one category.
-ghost use Rattle.std.specs.Prelude.{◌≡◌, ◌<◌, ◌≤◌, ◌↔◌, length, ℕ, IfOk, IfErr, IfSome, IsNone, IsTrue};
-ghost use Rattle.olap_base.specs.Instance.{IsMemberOf, Reaches, ReachesCategory};
-ghost use Rattle.olap_base.specs.Graph.{category_count};
-ghost use Rattle.olap_base.specs.Limits.{most_categories, most_members};
-ghost use Rattle.olap_check.specs.Rows.{IsBounded, Splits};
+// Members that are far below two members of one category.
+ghost use Rattle.std.specs.Prelude.{◌≡◌, ◌<◌, ◌↔◌, length, IfOk, IsTrue};
 ghost use Rattle.olap_check.specs.Passing.{IsStratified};
-ghost use Rattle.olap_check.specs.Strata.{AreLinked};
-ghost use Rattle.olap_check.specs.Tables.{HasTwo, IsFirstSplit, IsLeastSplit, IsTable, MarksAbove};
+ghost use Rattle.olap_check.specs.Splitting.{HasTwo, IsLeastSplit, MarksAbove};
+ghost use Rattle.olap_legal.specs.Rows.{IsBounded, Splits};
 
-use crate::joining::joined;
-use crate::rising::{NONE, rise};
-use crate::strata::mark;
-use crate::tables::Table;
 use olap_base::{MemberId, Memory};
-use olap_graph::Graph;
 use olap_instance::Instance;
+use olap_legal::mark;
 use std::alloc::Global;
-
-/// The table, by a walk upwards from each member; or the first member that reaches two members of one category.
-fn walked(
-    alloc: Global,
-    graph: &Graph,
-    instance: &Instance,
-    categories: u16,
-) -> Result<Result<Table, u32>, Memory>
-    requires count { categories ≡ category_count graph.now }
-    requires few { categories ≤ most_categories }
-    requires bounded { IsBounded instance.now categories }
-    requires linked { AreLinked graph.now instance.now }
-    ensures ok { let count = length instance.now in
-        IfOk result (λ r. IfOk r (IsTable instance.now categories count)) }
-    ensures err { IfOk result (λ r. IfErr r (IsFirstSplit instance.now categories)) }
-{
-    let mut table = Table::new(alloc, graph, instance, categories)?;
-    let mut row = vec![in alloc; NONE; usize::from(categories)]?;
-    let mut list = Vec::new(alloc);
-    'members: for x in 0..instance.members() {
-        if !rise(instance, x, &mut row, &mut list)? {
-            return Ok(Err(x));
-        }
-        table.put(instance, categories, x, &row);
-    }
-    Ok(Ok(table))
-}
-
-/// For each member and each category the member of it that is reached; or the first member that reaches two members of
-/// one category. A row of the table for each member. Where rows can't be joined, walks find out why.
-pub(crate) fn table(
-    alloc: Global,
-    graph: &Graph,
-    instance: &Instance,
-    categories: u16,
-) -> Result<Result<Table, u32>, Memory>
-    requires count { categories ≡ category_count graph.now }
-    requires few { categories ≤ most_categories }
-    requires bounded { IsBounded instance.now categories }
-    requires linked { AreLinked graph.now instance.now }
-    ensures ok { let count = length instance.now in
-        IfOk result (λ r. IfOk r (IsTable instance.now categories count)) }
-    ensures err { IfOk result (λ r. IfErr r (IsFirstSplit instance.now categories)) }
-{
-    match joined(alloc, graph, instance, categories)? {
-        Some(table) => Ok(Ok(table)),
-        None => walked(alloc, graph, instance, categories),
-    }
-}
-
-/// The member of the category that x reaches. Three looks at lists.
-pub(crate) fn ancestor(
-    instance: &Instance,
-    table: &Table,
-    categories: u16,
-    x: u32,
-    category: u16,
-) -> Option<u32>
-    requires x { x < length instance.now }
-    requires category { category < categories }
-    requires table { IsTable instance.now categories (length instance.now) table.now }
-    requires few { length instance.now ≤ most_members }
-    ensures some { IfSome result (λ y. IsMemberOf instance.now category y × Reaches instance.now x y) }
-    ensures none { IsNone result → ReachesCategory instance.now x category → ⊥ }
-{
-    let cell = table.get(instance, categories, x, category);
-    if cell == NONE { None } else { Some(cell) }
-}
 
 /// Marks the members that x is far below. No member has the number of categories as its category, so no parent stops
 /// the marking.

@@ -1,14 +1,13 @@
 // Parents that another parent of the same child is far below.
 ghost use Rattle.std.specs.Prelude.{◌<◌, ◌↔◌, length, ℕ, IsTrue, IfSome, IsNone};
 ghost use Rattle.olap_base.specs.Instance.{IsFarBelow};
-ghost use Rattle.olap_check.specs.Rows.{IsBounded};
-ghost use Rattle.olap_check.specs.Tables.{IsTable};
+ghost use Rattle.olap_legal.specs.Rows.{IsBounded};
+ghost use Rattle.olap_legal.specs.Tables.{IsTable};
 ghost use Rattle.olap_check.specs.Passing.{HasNoneAt, HasNoShortcut, IsFirstPassed, IsFirstShortcut, IsPassedBy, IsStratified};
 
-use crate::parting::ancestor;
-use crate::tables::Table;
 use olap_base::MemberId;
 use olap_instance::Instance;
+use olap_legal::{Table, ancestor};
 
 /// Whether z is far below y.
 fn is_far_below(instance: &Instance, table: &Table, categories: u16, z: u32, y: u32) -> bool

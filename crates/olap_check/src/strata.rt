@@ -1,40 +1,15 @@
 // Members that are far below a member of their own category.
-ghost use Rattle.std.specs.Prelude.{◌≡◌, ◌<◌, ◌≤◌, ◌↔◌, length, ℕ, IfOk, IfSome, IsNone, IsTrue, vec_len};
+ghost use Rattle.std.specs.Prelude.{◌≡◌, ◌<◌, ◌≤◌, ◌↔◌, length, ℕ, IfOk, IfSome, IsNone, IsTrue};
 ghost use Rattle.olap_base.specs.Graph.{IsCategory, category_count};
-ghost use Rattle.olap_base.specs.Instance.{parents_of, IsBelow};
-ghost use Rattle.olap_check.specs.Rows.{IsBounded};
-ghost use Rattle.olap_check.specs.Strata.{AreLinked, IsClosed, IsFirstIn, IsFirstRepeat, IsOnCycle, LeadsBack, MarkGives, RepeatGives, Repeats};
+ghost use Rattle.olap_base.specs.Instance.{IsBelow};
+ghost use Rattle.olap_legal.specs.Rows.{AreLinked, IsBounded};
+ghost use Rattle.olap_check.specs.Strata.{IsClosed, IsFirstIn, IsFirstRepeat, IsOnCycle, LeadsBack, RepeatGives, Repeats};
 
 use olap_base::{CatId, MemberId, Memory};
 use olap_graph::Graph;
 use olap_instance::Instance;
+use olap_legal::mark;
 use std::alloc::Global;
-
-/// Marks the parents of z and lists those that are new. False where one is of the category.
-pub(crate) fn mark(
-    instance: &Instance,
-    category: u16,
-    z: u32,
-    seen: &mut Vec<bool>,
-    list: &mut Vec<u32>,
-) -> Result<bool, Memory>
-    requires z { z < length instance.now }
-    requires seen { vec_len seen.old ≡ length instance.now }
-    ensures { let parents = parents_of instance.now z in
-        IfOk result (λ b. MarkGives b instance.now category parents
-        seen.old.items seen.new.items list.old.items list.new.items) }
-{
-    'parents: for p in instance.parents(MemberId(z)) {
-        if instance.category(*p).0 == category {
-            return Ok(false);
-        }
-        if !seen[p.0 as usize] {
-            seen[p.0 as usize] = true;
-            list.push(p.0)?;
-        }
-    }
-    Ok(true)
-}
 
 /// Whether a member of the category is above x, where what is marked has none above it. What it marks has none above
 /// it either, unless it finds one: so the searches from all members of a category share their marks.

@@ -56,8 +56,8 @@ returns-in-Some-2-clause-first c = λ constraints.
       is_told = refl;
     }
 
-pub table-requires-clause-linked : goal.table-requires-clause-linked
-table-requires-clause-linked c =
+pub ancestor_table-requires-clause-linked : goal.ancestor_table-requires-clause-linked
+ancestor_table-requires-clause-linked c =
     let n = c.args.categories in
     let edges = c.deref.result.now in
     let t = subst (λ l. IsTableOf c.args.graph.now n l) (sym c.deref.ensures.value) c.in_ok-edges.ensures in

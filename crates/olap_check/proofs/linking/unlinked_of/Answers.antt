@@ -1,5 +1,5 @@
 -- A parent is linked, or is the first that isn't.
-use Rattle.olap_check.proofs.ParentLemmas.{all_read, parent_at, parent_member}
+use Rattle.olap_legal.proofs.ParentLemmas.{all_read, parent_at, parent_member}
 use Rattle.olap_check.proofs.LinkingLemmas.{linked_more, first_unlinked_of, linked_at}
 use Rattle.olap_check.proofs.linking.unlinked_of.Goals as goal
 

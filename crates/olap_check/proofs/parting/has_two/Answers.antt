@@ -1,6 +1,6 @@
 -- A marked member is the first or the second.
 use Rattle.std.proofs.Common.{◌≡◌, ◌+◌, ◌≤◌, ℕ, true, false, Option, length, sym, subst, ◌∙◌, arith}
-use Rattle.olap_check.specs.Tables.{IsFoundAmong}
+use Rattle.olap_check.specs.Splitting.{IsFoundAmong}
 use Rattle.olap_check.proofs.SplitLemmas.{found_more, found_first, found_none}
 use Rattle.olap_check.proofs.parting.has_two.Goals as goal
 use Rattle.olap_check.proofs.parting.has_two.Goals.{then-seen-y+then-category+else-is_some, else-seen-y, else-seen-y-via-then-seen-y+else-category, else-seen-y-via-else-seen-y}

@@ -1,5 +1,5 @@
 -- The one marked member of the category so far, or none.
-use Rattle.olap_check.specs.Tables.{IsFoundAmong}
+use Rattle.olap_check.specs.Splitting.{IsFoundAmong}
 use Rattle.olap_check.proofs.parting.has_two.Given as goal
 
 abbrev pub invariant-members : goal.invariant-members

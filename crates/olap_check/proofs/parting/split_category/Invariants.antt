@@ -1,6 +1,6 @@
 -- In no category so far are two members above x.
 use Rattle.std.proofs.Common.{ℕ, ◌<◌}
-use Rattle.olap_check.specs.Tables.{SplitsAt}
+use Rattle.olap_check.specs.Splitting.{SplitsAt}
 use Rattle.olap_check.proofs.parting.split_category.Given as goal
 
 abbrev pub invariant-categories : goal.invariant-categories

@@ -1,6 +1,6 @@
 -- A parent is far below y, or none is.
 use Rattle.std.proofs.Common.{refl}
-use Rattle.olap_check.proofs.ParentLemmas.{all_read, parent_at, parent_member}
+use Rattle.olap_legal.proofs.ParentLemmas.{all_read, parent_at, parent_member}
 use Rattle.olap_check.proofs.PassingLemmas.{none_below_more, none_passed, passed_by, refuted}
 use Rattle.olap_check.proofs.passing.is_passed.Goals as goal
 

@@ -1,5 +1,5 @@
 -- A parent is the first that is passed, or none is.
-use Rattle.olap_check.proofs.ParentLemmas.{all_read, parent_at, parent_member}
+use Rattle.olap_legal.proofs.ParentLemmas.{all_read, parent_at, parent_member}
 use Rattle.olap_check.proofs.PassingLemmas.{first_passed, passed_more, none_at, refuted}
 use Rattle.olap_check.proofs.passing.shortcut_of.Goals as goal
 

@@ -1,7 +1,0 @@
--- The members so far have their rows.
-use Rattle.std.proofs.Common.{ℕ, ◌<◌}
-use Rattle.olap_check.specs.Joining.{HasRow}
-use Rattle.olap_check.proofs.joining.is_whole.Given as goal
-
-abbrev pub invariant-members : goal.invariant-members
-invariant-members l = (y : ℕ) → y < l.x → HasRow l.instance l.categories y l.table

@@ -1,0 +1,48 @@
+-- A row more, or the first member without one.
+use Rattle.std.proofs.Common.{◌<◌, length, sym, subst, ◌∙◌, arith}
+use Rattle.olap_legal.specs.Rows.{IsRise}
+use Rattle.olap_legal.proofs.JoiningLemmas.{row_fits}
+use Rattle.olap_legal.proofs.TableLemmas.{table_start, table_step, first_split}
+use Rattle.olap_legal.proofs.ancestors.table_by_walks.Goals as goal
+
+pub members-init : goal.members-init
+members-init c = record {
+  table = table_start c.args.instance.now c.args.categories _ c.in_ok-table.ensures.laid;
+  row = c.in_ok-row.ensures.len ∙ c.from.ensures;
+}
+
+pub put-requires-clause-fits : goal.put-requires-clause-fits
+put-requires-clause-fits c =
+    let i = c.args.instance.now in
+    let n = c.args.categories in
+    let x = c.members.x in
+    let v = c.members.invariant in
+    let count = c.members-x-end.ensures.count in
+    let inside : x < length i = omega (arith, count, c.members-test.true) in
+    let rise = subst (λ k. IsRise i k x c.rise.new.row.items) v.row (c.in_ok-rise.ensures.whole c.if-not-branch.false) in
+    row_fits v.table.laid inside (subst (λ l. IsRise i n x l) (sym c.deref.ensures.value) rise)
+
+pub members-preserved : goal.members-preserved
+members-preserved c =
+    let i = c.args.instance.now in
+    let n = c.args.categories in
+    let x = c.members.x in
+    let v = c.members.invariant in
+    let count = c.members-x-end.ensures.count in
+    let inside : x < length i = omega (arith, count, c.members-test.true) in
+    let rise = subst (λ k. IsRise i k x c.rise.new.row.items) v.row (c.in_ok-rise.ensures.whole c.if-not-branch.false) in
+    let row = subst (λ l. IsRise i n x l) (sym c.deref.ensures.value) rise in
+    let put = c.put.ensures in
+    record {
+      table = table_step i n x c.members.table c.put.new.self c.deref.result.now c.requires.bounded inside v.table row
+          put.laid put.here put.others;
+      row = let s = rise.same_length in let o = c.rise.new.row.ok in omega arith;
+    }
+
+pub returns-then-not-branch-clause-err : goal.returns-then-not-branch-clause-err
+returns-then-not-branch-clause-err c =
+    let s = c.in_ok-rise.ensures.split c.if-not-branch.true in
+    let count = c.members-x-end.ensures.count in
+    let inside : c.members.x < length c.args.instance.now = omega (arith, count, c.members-test.true) in
+    first_split c.args.instance.now c.args.categories c.members.x c.members.table c.requires.bounded
+    c.members.invariant.table inside s

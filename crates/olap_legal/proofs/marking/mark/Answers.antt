@@ -1,0 +1,73 @@
+-- A parent is of the category, marked already, or marked now.
+use Rattle.std.proofs.Common.{◌≡◌, length, ap, sym, ◌∙◌, arith}
+use Rattle.olap_legal.proofs.ParentLemmas.{parent_at, parent_member}
+use Rattle.olap_legal.proofs.MarkingLemmas.{marking_as, marking_none, marking_pushed, marking_skipped, mark_inside, marked_all, hit_one, parent_hits}
+use Rattle.olap_legal.proofs.marking.mark.Goals as goal
+use Rattle.olap_legal.proofs.marking.mark.Goals.{then-not-index+in_ok-push, else-not-index}
+
+pub parents-init : goal.parents-init
+parents-init c = marking_none c.args.instance.now c.args.category c.args.seen.now.items c.args.list.now.items
+
+pub category-requires : goal.category-requires
+category-requires c =
+    let ids = c.parents-p-items in
+    let i = c.args.instance.now in
+    parent_member
+    (parent_at i c.args.z ids.result.now c.parents.p-index ids.ensures.list ids.ensures.places c.parents-test.true)
+
+pub index-requires : goal.index-requires
+index-requires c =
+    let ids = c.parents-p-items in
+    let i = c.args.instance.now in
+    let at = parent_at i c.args.z ids.result.now c.parents.p-index ids.ensures.list ids.ensures.places
+    c.parents-test.true in
+    let o = c.args.seen.now.ok in
+    let size : length c.args.seen.now.items ≡ length i = omega (arith, c.requires.seen) in
+    let now = c.parents.seen.ok in
+    omega (arith, mark_inside at c.parents.invariant size)
+
+pub index_mut-requires : goal.index_mut-requires
+index_mut-requires c =
+    let ids = c.parents-p-items in
+    let i = c.args.instance.now in
+    let at = parent_at i c.args.z ids.result.now c.parents.p-index ids.ensures.list ids.ensures.places
+    c.parents-test.true in
+    let o = c.args.seen.now.ok in
+    let size : length c.args.seen.now.items ≡ length i = omega (arith, c.requires.seen) in
+    let now = c.parents.seen.ok in
+    omega (arith, mark_inside at c.parents.invariant size)
+
+pub returns-then-category : goal.returns-then-category
+returns-then-category c =
+    let ids = c.parents-p-items in
+    let i = c.args.instance.now in
+    let at = parent_at i c.args.z ids.result.now c.parents.p-index ids.ensures.list ids.ensures.places
+    c.parents-test.true in
+    hit_one (parent_hits c.args.category at (sym c.category.ensures ∙ c.if-category.true))
+
+pub parents-preserved : goal.parents-preserved
+parents-preserved c =
+    let ids = c.parents-p-items in
+    let i = c.args.instance.now in
+    let at = parent_at i c.args.z ids.result.now c.parents.p-index ids.ensures.list ids.ensures.places
+    c.parents-test.true in
+    let o = c.args.seen.now.ok in
+    let size : length c.args.seen.now.items ≡ length i = omega (arith, c.requires.seen) in
+    let v = c.parents.invariant in
+    let category = c.category.result.0 in
+    let r = c.index.result.now in
+    elim c.if-not-index.branch [
+      | then-not-index+in_ok-push w ↦
+          marking_as (ap (λ x. x.items) w.seen-is) (ap (λ x. x.items) w.list-is ∙ w.in_ok-push.ensures.items)
+          (marking_pushed at v size category c.category.ensures c.if-category.false r c.index.ensures
+          w.if-not-index.true)
+      | else-not-index w ↦
+          marking_as (ap (λ x. x.items) w.seen-is) (ap (λ x. x.items) w.list-is)
+          (marking_skipped at v size category c.category.ensures c.if-category.false r c.index.ensures
+          w.if-not-index.false)
+    ]
+
+pub returns : goal.returns
+returns c =
+    let ids = c.parents-p-items in
+    marked_all c.args.z ids.result.now ids.ensures.list c.parents-test.false c.parents.invariant
