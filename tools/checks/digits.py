@@ -18,7 +18,7 @@ OTHERS = {
         "4_294_967_295": "the place of no member",
     },
     "olap_clauses": {
-        "64": "what is added to a score, and the rounds after which the number of conflicts begins anew",
+        "64": "what is added to a score, and the levels from which on clauses are worth the same",
         "256": "the room with which a pool is full",
         "4096": "the rounds of a search",
     },

@@ -19,7 +19,7 @@ fn says_as_much(clause: &[Lit], known: &[Lit]) -> bool {
     known.len() <= clause.len()
         && known
             .iter()
-            .all(|lit| clause.iter().any(|other| lit.is(*other)))
+            .all(|lit| clause.iter().any(|other| lit == other))
 }
 
 /// Whether a decision stands between the two places.

@@ -13,17 +13,17 @@ pub(crate) enum Order {
 }
 
 /// Of so many rounds the first three try each order.
-const TURNS: u64 = 8;
+const TURNS: u64 = 24;
 
 /// Whether the round tries an order, whatever that did so far.
 fn is_trial(round: u64) -> bool {
     round % TURNS < 3
 }
 
-/// How many conflicts a round has: 200 in the first, and more in later ones, up to every 64th; a quarter where it tries
+/// How many conflicts a round has: 200 in the first, and more in later ones, up to every 32nd; a quarter where it tries
 /// an order.
 pub(crate) fn budget_of(round: u64) -> u64 {
-    let part = 50 * (1 + round % 64);
+    let part = 50 * (1 + round % 32);
     if is_trial(round) {
         part.max(200)
     } else {

@@ -15,7 +15,7 @@ fn best(trail: &Trail, scores: &[u32]) -> Option<Lit> {
         if *score > top {
             let positive = trail.last_sign(variable);
             let lit = Lit { variable, positive };
-            if trail.value(lit).is(Value::Unknown) {
+            if trail.value(lit) == Value::Unknown {
                 best = Some(lit);
                 top = *score;
             }
@@ -30,7 +30,7 @@ pub(crate) fn pick(trail: &Trail, scores: &[u32]) -> Option<Lit>
     ensures { IfSome result (λ lit. IsOpen trail.now lit) }
 {
     let lit = best(trail, scores)?;
-    if (lit.variable as usize) < trail.variables() && trail.value(lit).is(Value::Unknown) {
+    if (lit.variable as usize) < trail.variables() && trail.value(lit) == Value::Unknown {
         Some(lit)
     } else {
         None

@@ -12,7 +12,7 @@ use crate::watching::{Cursor, Watches};
 /// Whether a literal isn't known false, and is another than the one that the clause's other node
 /// watches.
 fn is_free(trail: &Trail, lit: Lit, other: Lit) -> bool {
-    !trail.is_false(lit) && !lit.is(other)
+    !trail.is_false(lit) && lit != other
 }
 
 /// A free literal of the clause and its place: the first from this place on, or else the first before it.

@@ -59,7 +59,7 @@ fn false_from(trail: &Trail, lit: Lit) -> Option<usize>
     ensures bound { IfSome result (λ n. n ≤ length (steps_of trail.now)) }
 {
     let place = trail.place(lit.variable);
-    if place < trail.len() && trail.step(place).lit.is(lit.negated()) {
+    if place < trail.len() && trail.step(place).lit == lit.negated() {
         Some(place + 1)
     } else {
         None
@@ -73,7 +73,7 @@ fn later(trail: &Trail, lit: Lit, but: Lit, from: usize) -> Option<usize>
     ensures later { IfSome result (λ n. from ≤ n) }
     ensures bound { IfSome result (λ n. n ≤ length (steps_of trail.now)) }
 {
-    if lit.is(but) {
+    if lit == but {
         return Some(from);
     }
     let n = false_from(trail, lit)?;

@@ -13,7 +13,7 @@ use crate::trails::Trail;
 /// Whether one of the literals is known true. Nothing is said of it.
 fn is_true(trail: &Trail, clause: &[Lit]) -> bool {
     for lit in clause {
-        if trail.value(*lit).is(Value::Yes) {
+        if trail.value(*lit) == Value::Yes {
             return true;
         }
     }
@@ -43,7 +43,7 @@ fn shorten(trail: &Trail, clause: &[Lit], work: &mut Vec<Lit>)
     work.clear();
     'lits: for k in 0..clause.len() {
         let lit = clause[k];
-        let out = trail.value(lit).is(Value::No);
+        let out = trail.value(lit) == Value::No;
         write_unless(out, lit, work);
     }
 }

@@ -1,5 +1,5 @@
 -- One literal more, and all of them.
-use Rattle.std.proofs.Common.{◌≡◌, Bool, true, false, refl, arith}
+use Rattle.std.proofs.Common.{◌≡◌, Bool, true, false, refl, arith, rules}
 use Rattle.std.specs.Prelude.{Contains}
 use Rattle.olap_clauses.specs.Trails.{steps_of}
 use Rattle.olap_clauses.proofs.StandsLemmas.{lit_at}
@@ -15,9 +15,9 @@ lits-preserved c =
       kept =
           kept_more (steps_of c.args.trail.now) clause k c.lits.work.items new c.write_unless.ensures.kept
           c.lits.invariant.kept
-          (λ v a h. let P : Bool → Type 0 = λ t. c.is-out.result ≡ t → Contains new (lit_at clause k) in
-          (elim c.is-out.result as P [
-            | true ↦ λ e. absurd (c.value.ensures.no (c.is-out.ensures e) v a h)
+          (λ v a h. let P : Bool → Type 0 = λ t. c.eq-out.result ≡ t → Contains new (lit_at clause k) in
+          (elim c.eq-out.result as P [
+            | true ↦ λ e. absurd (c.value.ensures.no (search (rules, e, c.eq-out.ensures)) v a h)
             | false ↦ λ e. c.write_unless.ensures.written e
           ]) refl);
       count = let h = c.write_unless.ensures.count in let i = c.lits.invariant.count in omega arith;
