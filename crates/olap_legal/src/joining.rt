@@ -6,8 +6,8 @@ ghost use Rattle.olap_legal.specs.Joining.{AreMembers, AreRows, HasRow, left};
 ghost use Rattle.olap_legal.specs.Rows.{IsBounded, IsRise, AreLinked};
 ghost use Rattle.olap_legal.specs.Tables.{IsTable};
 
-use crate::rising::NONE;
 use crate::marking::mark;
+use crate::rising::NONE;
 use crate::tables::Table;
 use olap_base::{MemberId, Memory};
 use olap_graph::Graph;
