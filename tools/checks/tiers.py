@@ -71,7 +71,7 @@ def tiers(claim, subject):
     subject's sentences are about.
     """
     about = set(believed(subject))
-    schema = set(believed([(("olap_schema", "Judging"), name) for name in ("schema_read", "question_read")]))
+    schema = set(believed([(("olap_schema_text", "Judging"), name) for name in ("schema_read", "question_read")]))
     all_of = {command: believed(claim, cut_to(command, *place)) for command, place in commands()}
     shared = set.intersection(*(set(lines) for lines in all_of.values()))
     for command, lines in all_of.items():

@@ -42,11 +42,7 @@ fn finish(alloc: Global, reading: Reading) -> Result<Schema, SchemaRefusal>
         MatchResult result (λ s. read ≡ Ok (schema_of s)) (λ e. IsRefusedBy e read) }
 {
     match reading.builder.finish() {
-        Ok(graph) => Ok(Schema::new(
-            alloc,
-            graph,
-            List::from_vec(reading.constraints),
-        )),
+        Ok(graph) => Ok(Schema::new(alloc, graph, List::from_vec(reading.constraints))),
         Err(GraphRefusal::NoWayToAll(c)) => {
             let line = line_of(&reading.category_lines, c.0);
             Err(SchemaRefusal::Fault {
