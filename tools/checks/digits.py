@@ -12,11 +12,6 @@ LIMITS = sources.CRATES / "olap_base" / "specs" / "Limits.antt"
 # Other numbers that are equal to a limit, by crate, with what they are.
 OTHERS = {
     "olap_bits": {"64": "the bits of a word of a set"},
-    "olap_check": {
-        "256": "the places of a block of members",
-        "4294967295": "the place of no member",
-        "4_294_967_295": "the place of no member",
-    },
     "olap_clauses": {
         "64": "what is added to a score, and the levels from which on clauses are worth the same",
         "256": "the room with which a pool is full",
@@ -24,6 +19,11 @@ OTHERS = {
     },
     "olap_facts": {"256": "the facts of a batch"},
     "olap_graph": {"64": "the bits of a word of a set"},
+    "olap_legal": {
+        "256": "the most cells of a row",
+        "4294967295": "the place of no member",
+        "4_294_967_295": "the place of no member",
+    },
     "olap_patterns": {"256": "the masks over eight sources"},
     "olap_generate": {"64": "the stores for each group of cities"},
     "olap_prove": {"256": "the share of the greatest score at which scores begin anew"},

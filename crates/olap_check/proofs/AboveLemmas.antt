@@ -74,8 +74,8 @@ member_is i n x c table a y m =
     few k y e h = let f = a.bounded.few in omega arith
 
 -- the place of a present category has a member that is reached
-pub present_member : (i : Instance) (n x c : ℕ) (table : Table) → IsAbove i n x table → IsTrue (is_present i n table x c)
-    → IsMemberOf i c (cell i n table x c) × Reaches i x (cell i n table x c)
+pub present_member : (i : Instance) (n x c : ℕ) (table : Table) → IsAbove i n x table
+    → IsTrue (is_present i n table x c) → IsMemberOf i c (cell i n table x c) × Reaches i x (cell i n table x c)
 present_member i n x c table a p =
     let t = present_parts n c (cell i n table x c) p in
     cell_some i n x c (cell i n table x c) table a.table a.inside t.0 refl t.1

@@ -7,7 +7,7 @@ use native.Mathlib.Decide.{ℕ_discrete}
 use Rattle.olap_base.specs.Graph.{Graph, HasEdge, CategoryReaches}
 use Rattle.olap_base.specs.Instance.{Instance, IsBelow, IsFarBelow, category_of, parents_of}
 use Rattle.olap_graph.specs.Tables.{IsMarked}
-use Rattle.olap_legal.proofs.ParentLemmas.{taken}
+use Rattle.olap_legal.proofs.ParentLemmas.{edges_along, taken}
 use Rattle.olap_base.specs.Steps.{Steps, Steps.here, Steps.step, Climb, Climb.climb, Steps-append, Climb-from_leads, leads_from_Climb, Steps-climb, reaches_from_Steps}
 use Rattle.olap_base.proofs.ListLemmas.{Contains-nil}
 use Rattle.olap_legal.specs.Rows.{IsBounded, AreLinked}

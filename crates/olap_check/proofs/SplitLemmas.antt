@@ -7,11 +7,10 @@ use Rattle.olap_base.proofs.ListLemmas.{Contains-nil}
 use Rattle.olap_graph.specs.Tables.{IsMarked}
 use Rattle.olap_legal.specs.Rows.{IsBounded, Splits}
 use Rattle.olap_check.specs.Strata.{IsClosed}
-use Rattle.olap_legal.specs.Marks.{Hits, IsMarking, MarkGives}
+use Rattle.olap_legal.specs.Marks.{IsMarking}
 use Rattle.olap_check.specs.Splitting.{MarksAbove, HasTwo, IsFoundAmong, IsClimbing, SplitsAt}
 use Rattle.olap_check.specs.Passing.{IsStratified}
 use Rattle.olap_legal.proofs.TableLemmas.{reached_inside}
-use Rattle.std.proofs.lemmas.Bool.{cases_Bool}
 use Rattle.olap_legal.proofs.ParentLemmas.{taken}
 use Rattle.olap_check.proofs.SearchLemmas.{search_start, search_next}
 

@@ -31,8 +31,8 @@ impl<'a> Above<'a> {
         ensures some { let place = cell self.now.instance.now self.now.categories self.now.table.now self.now.x in
             let present = is_present self.now.instance.now self.now.categories self.now.table.now self.now.x in
             IfSome result (λ y. IsTrue (present c) × (place c ≡ y) × (y < length self.now.instance.now)) }
-        ensures none { let present = is_present self.now.instance.now self.now.categories self.now.table.now self.now.x in
-            IsNone result → IsTrue (present c) → ⊥ }
+        ensures none { IsNone result
+            → IsTrue (is_present self.now.instance.now self.now.categories self.now.table.now self.now.x c) → ⊥ }
     {
         if c < self.categories {
             ancestor(self.instance, self.table, self.categories, self.x, c)

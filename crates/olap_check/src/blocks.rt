@@ -156,8 +156,8 @@ impl<'a> Block<'a> {
 
     /// The places at which the formula is true.
     ///
-    /// It asks each name, each number, and each way from one category to another, once for the block. It calls itself as
-    /// deep as the formula is.
+    /// It asks each name, each number, and each way from one category to another, once for the block. It calls itself
+    /// as deep as the formula is.
     #[cycle(holding)]
     fn holding(&self, f: &Formula, seen: &mut Seen) -> Places
         requires { IsSeen self.now.instance.now seen.old }

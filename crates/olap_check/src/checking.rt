@@ -38,7 +38,8 @@ pub fn check(alloc: Global, schema: &Schema, instance: Instance) -> Result<Legal
     check_parts(alloc, schema.graph(), schema.constraints(), instance)
 }
 
-/// The table of ancestors of an instance that keeps the laws and meets the constraints, or the first violation of another.
+/// The table of ancestors of an instance that keeps the laws and meets the constraints, or the first violation of
+/// another.
 fn judged(
     alloc: Global,
     graph: &Graph,

@@ -21,9 +21,9 @@ pub(crate) struct Entry {
 
 /// The atoms of some constraints, each once, and for each the places of the block of which it was asked last.
 ///
-/// An entry tells its block, so nothing needs to be forgotten where the next block begins. A name is searched for, since
-/// the atoms are in order; `rows` tells where a pair of categories stands. No clause rests on either: what is found is
-/// compared.
+/// An entry tells its block, so nothing needs to be forgotten where the next block begins. A name is searched for,
+/// since the atoms are in order; `rows` tells where a pair of categories stands. No clause rests on either: what is
+/// found is compared.
 #[derive(Drop)]
 pub(crate) struct Seen<'a> {
     pub atoms: Vec<Asked<'a>>,

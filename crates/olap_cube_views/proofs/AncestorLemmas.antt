@@ -8,7 +8,7 @@ use Rattle.std.proofs.Math.ListN.{set}
 use Rattle.std.proofs.lemmas.List.{drop_all, length-map}
 use Rattle.olap_base.specs.Instance.{Instance, ReachesCategory}
 use Rattle.olap_base.specs.declared.ids.MemberId.{MemberId}
-use Rattle.olap_check.specs.Ancestors.{IsAncestor}
+use Rattle.olap_legal.specs.Ancestors.{IsAncestor}
 use Rattle.olap_cube.specs.Tuples.{IsTupleOf, TupleReaches}
 use Rattle.olap_view.specs.Columns.{Ascent}
 use Rattle.olap_cube_views.specs.CubeTallies.{AreMembers, IsTupleAncestor, ReachesNone, key_of}

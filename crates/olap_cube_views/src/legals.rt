@@ -4,8 +4,8 @@ ghost use Rattle.olap_cube.specs.Limits.{most_dimensions};
 ghost use Rattle.olap_cube_views.specs.Dimensions.{instances_of};
 
 use olap_base::Memory;
-use olap_check::Legal;
 use olap_instance::Instance;
+use olap_legal::Legal;
 use std::alloc::Global;
 use std::marker::Model;
 

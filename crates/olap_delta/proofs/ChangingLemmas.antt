@@ -15,7 +15,7 @@ use Rattle.olap_base.specs.Reaching.{reaches_is}
 use Rattle.olap_base.specs.Summaries.{Summary}
 use Rattle.olap_base.specs.Views.{Fact, View, members_of}
 use Rattle.olap_base.proofs.ViewLemmas.{is_member_of, members_of_is}
-use Rattle.olap_check.specs.Ancestors.{IsAncestor}
+use Rattle.olap_legal.specs.Ancestors.{IsAncestor}
 use Rattle.olap_view.specs.SummaryTables.{Summarized, stands_at, view_at, views_at}
 use Rattle.olap_view.specs.Tables.{IsAmong}
 use Rattle.olap_view.proofs.FileOrderLemmas.{view_by}

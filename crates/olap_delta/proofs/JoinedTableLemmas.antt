@@ -14,7 +14,7 @@ use Rattle.olap_base.specs.Reaching.{reaches, reaches_is}
 use Rattle.olap_base.specs.Summaries.{Summary, ◌⊕◌}
 use Rattle.olap_base.specs.Views.{Fact, total_of_facts}
 use Rattle.olap_base.proofs.ViewLemmas.{eqb_is, members_of_is}
-use Rattle.olap_check.specs.Ancestors.{IsAncestor}
+use Rattle.olap_legal.specs.Ancestors.{IsAncestor}
 use Rattle.olap_view.specs.Seen.{summary_of}
 use Rattle.olap_view.specs.SummaryTables.{Summarized, stands_at, view_at, views_at}
 use Rattle.olap_view.specs.Tables.{IsAmong, when}

@@ -13,8 +13,8 @@ ghost use Rattle.olap_view.specs.SummaryTables.{categories_in};
 
 use crate::{Change, DeltaKind, DeltaRefusal};
 use olap_base::Memory;
-use olap_check::Legal;
 use olap_facts::Fact;
+use olap_legal::Legal;
 use olap_view::{Store, SummaryTable};
 use std::alloc::Global;
 use std::marker::Model;

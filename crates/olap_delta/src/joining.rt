@@ -19,7 +19,7 @@ ghost use Rattle.olap_base.specs.Reaching.{reaches};
 use crate::Change;
 use crate::lots::{Lot, Lots};
 use olap_base::{MOST_COUNT, MOST_SUM, Memory};
-use olap_check::Legal;
+use olap_legal::Legal;
 use olap_view::{Store, Summary, SummaryTable};
 use std::alloc::Global;
 

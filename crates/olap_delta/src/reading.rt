@@ -18,9 +18,9 @@ use crate::joining::joined;
 use crate::lots::Lots;
 use crate::{Change, Delta, DeltaRefusal};
 use olap_base::MOST_LISTED_FACTS;
-use olap_check::Legal;
 use olap_facts::{FactReader, FactRefusal};
 use olap_graph::Graph;
+use olap_legal::Legal;
 use olap_view::Store;
 use std::alloc::Global;
 

@@ -12,8 +12,8 @@ ghost use Rattle.olap_view.specs.Stores.{Fits, IsInFileOrder, IsSoundStore, IsSt
 use crate::joining::joined;
 use crate::lots::Lots;
 use crate::{Change, Delta, DeltaRefusal};
-use olap_check::Legal;
 use olap_facts::Facts;
+use olap_legal::Legal;
 use olap_view::Store;
 use std::alloc::Global;
 

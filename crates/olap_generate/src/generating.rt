@@ -17,7 +17,7 @@ use crate::inputs::Input;
 use crate::lines::{input_lines, view_lines};
 use crate::running::{made_members, made_schema, made_store};
 use olap_base::{CatId, Memory, Text};
-use olap_check::Legal;
+use olap_legal::Legal;
 use olap_nav::{Plan, PlanRefusal, print_plan};
 use olap_schema::Schema;
 use olap_view::{Store, View};

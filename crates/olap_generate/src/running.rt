@@ -11,9 +11,10 @@ use crate::facts::fact_text;
 use crate::inputs::Input;
 use crate::members::member_text;
 use olap_base::{CatId, List, Memory};
-use olap_check::{CheckRefusal, Legal, check};
+use olap_check::{CheckRefusal, check};
 use olap_facts::FactRefusal;
 use olap_instance::{InstanceRefusal, read_instance};
+use olap_legal::Legal;
 use olap_schema::Schema;
 use olap_schema_text::{SchemaRefusal, read_schema};
 use olap_view::{

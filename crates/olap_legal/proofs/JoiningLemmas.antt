@@ -39,7 +39,8 @@ module _ (one cells row reached : List ℕ) (k y : ℕ) (distinct : AreDistinct 
   join_more e j l = elim (ℕ_discrete j k) [
     | yes q ↦
         let d = get_or reached k 0 in
-        let here = subst (λ w. IsEither (get_or row d 0) (get_or cells k 0) w) (sym (get_or-set_same row d y 0 room)) e in
+        let stands = get_or-set_same row d y 0 room in
+        let here = subst (λ w. IsEither (get_or row d 0) (get_or cells k 0) w) (sym stands) e in
         subst (λ m. IsEither (get_or one (get_or reached m 0) 0) (get_or cells m 0)
         (get_or (set row d y) (get_or reached m 0) 0)) (sym q)
         (subst (λ w. IsEither w (get_or cells k 0) (get_or (set row d y) d 0)) (others d apart) here)
@@ -244,8 +245,8 @@ pub listed_none : {i : Instance} {list : List ℕ} → list ≡ [] → AreMember
 listed_none e = record { each = λ y c. absurd (Contains-nil y (subst (λ l. Contains l y) e c)) }
 
 -- one more
-pub listed_push : {i : Instance} {list after : List ℕ} (x : ℕ) → x < length i → AreMembers i list → after ≡ list ++ x ∷ []
-    → AreMembers i after
+pub listed_push : {i : Instance} {list after : List ℕ} (x : ℕ) → x < length i → AreMembers i list
+    → after ≡ list ++ x ∷ [] → AreMembers i after
 listed_push {i} {list} x h v e = record {
   each = λ y c. elim (Contains-push_cases list x y (subst (λ l. Contains l y) e c)) [
     | inl b ↦ v.each y b

@@ -135,7 +135,8 @@ module _ {i : Instance} {n x : ℕ} (t : Table) (v : IsLaid i n t) (h : x < leng
       ∙ sym (cell_present d there)
 
   -- of cells that are all empty each is
-  pub cell_empty : (m d : ℕ) → t.cells.items ≡ replicate m none → length t.cells.items ≡ m → d < n → cell i n t x d ≡ none
+  pub cell_empty : (m d : ℕ) → t.cells.items ≡ replicate m none → length t.cells.items ≡ m → d < n
+      → cell i n t x d ≡ none
   cell_empty m d e size l =
       let slot = slot_of n t.slots (category_of i x) d in
       elim (ℕ_discrete slot no_slot) [
@@ -149,7 +150,8 @@ module _ {i : Instance} {n x : ℕ} (t : Table) (v : IsLaid i n t) (h : x < leng
 
   -- no category stands in two slots
   pub reached_distinct : (reached : List ℕ) → length reached ≡ count_of t.slots (category_of i x)
-      → ((k : ℕ) → k < length reached → get_or reached k 0 ≡ order_of n t.slots (category_of i x) k) → AreDistinct reached
+      → ((k : ℕ) → k < length reached → get_or reached k 0 ≡ order_of n t.slots (category_of i x) k)
+      → AreDistinct reached
   reached_distinct reached size each j k a b e =
       let p = row_ordered.placed j (subst (λ w. j < w) size a) in
       let q = row_ordered.placed k (subst (λ w. k < w) size b) in
@@ -202,7 +204,8 @@ module _ {i : Instance} {n x : ℕ} (t : Table) (v : IsLaid i n t) (h : x < leng
         let slot = slot_of n t.slots (category_of i x) d in
         elim (ℕ_discrete slot no_slot) [
           | yes q ↦
-              either_none (get_or row d 0) (get_or after d 0) (cell i n t x d) (others d (slot_out d q)) (cell_absent d q)
+              let kept = others d (slot_out d q) in
+              either_none (get_or row d 0) (get_or after d 0) (cell i n t x d) kept (cell_absent d q)
           | no f ↦
               let s = slot_in d l f in
               let stands : get_or cells slot 0 ≡ cell i n t x d = read slot s.0 ∙ sym (cell_present d f) in
@@ -239,7 +242,8 @@ laid_same {i} {n} t after v s b e = record {
   starts = subst (λ w. AreStarts i w (length i) after.starts.items (length after.cells.items)) (sym s)
       (subst (λ l. AreStarts i t.slots (length i) l (length after.cells.items)) (sym b)
       (subst (λ k. AreStarts i t.slots (length i) t.starts.items k) (sym e) v.starts));
-  reached = λ x y h r. subst (λ w. slot_of n w (category_of i x) (category_of i y) ≢ no_slot) (sym s) (v.reached x y h r);
+  reached = λ x y h r.
+      subst (λ w. slot_of n w (category_of i x) (category_of i y) ≢ no_slot) (sym s) (v.reached x y h r);
 }
 
 -- and the other rows have what they had

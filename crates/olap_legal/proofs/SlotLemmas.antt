@@ -71,7 +71,8 @@ module _ {g : Graph} {c n d count base : ℕ} {slots order : List ℕ} (v : IsLi
         listed = λ e l ne. elim (ℕ_discrete e d) [
           | yes q ↦
               let new : (count < count + 1) × (get_or next (base + count) 0 ≡ d) = (omega arith, order_here) in
-              subst (λ w. (get_or after (base + w) 0 < count + 1) × (get_or next (base + get_or after (base + w) 0) 0 ≡ w))
+              subst
+              (λ w. (get_or after (base + w) 0 < count + 1) × (get_or next (base + get_or after (base + w) 0) 0 ≡ w))
               (sym q) (subst (λ s. (s < count + 1) × (get_or next (base + s) 0 ≡ d)) (sym slot_here) new)
           | no f ↦
               let apart : e ≢ d = f in
@@ -95,10 +96,9 @@ module _ {g : Graph} {c n d count base : ℕ} {slots order : List ℕ} (v : IsLi
               let s = order_other k apart in
               let p = v.placed k (omega (arith, l)) in
               let below = p.0 in
-              let old : (get_or order (base + k) 0 < d + 1) × (get_or after (base + get_or order (base + k) 0) 0 ≡ k) = (
-                omega (arith, below),
-                slot_other (get_or order (base + k) 0) (omega (arith, below)) ∙ p.1,
-              ) in
+              let o = get_or order (base + k) 0 in
+              let old : (o < d + 1) × (get_or after (base + o) 0 ≡ k) =
+              (omega (arith, below), slot_other o (omega (arith, below)) ∙ p.1) in
               subst (λ o. (o < d + 1) × (get_or after (base + o) 0 ≡ k)) (sym s) old
         ];
         reached = λ e l r. elim (ℕ_discrete e d) [
@@ -178,8 +178,8 @@ module _ {g : Graph} {n c count base : ℕ} {slots order counts after next : Lis
       | no f ↦
           let apart : b ≢ c = f in
           let before : b < c = omega (arith, l) in
-          let old = ordered_same n (get_or counts b 0) (place n slots b) (place n order b) (place n after b) (place n next b)
-          (v.ordered b before) (λ d m. slot_kept b d before m)
+          let old = ordered_same n (get_or counts b 0) (place n slots b) (place n order b) (place n after b)
+          (place n next b) (v.ordered b before) (λ d m. slot_kept b d before m)
           (λ d m. order_kept (b * n + d) (subst (λ k. b * n + d < k) (sym at) (earlier n c b d before m))) in
           let kept = get_or-append counts (count ∷ []) 0 b (let s = v.counts_size in omega (arith, before, s)) in
           subst (λ k. IsOrdered n k (place n after b) (place n next b)) (sym kept) old

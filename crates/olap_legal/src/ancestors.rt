@@ -43,6 +43,10 @@ fn table_by_walks(
 
 /// For each member and each category the member of it that is reached; or the first member that reaches two members of
 /// one category. A row of the table for each member. Where rows can't be joined, walks find out why.
+///
+/// Cost: the members times the number of categories, its square, and for each parent of each member the categories
+/// that it can reach; where rows can't be joined, for each member also the parents of what it reaches. `Memory` where
+/// there is no room.
 pub fn ancestor_table(
     alloc: Global,
     graph: &Graph,

@@ -1,4 +1,4 @@
-// Instances that are checked, with their ancestors.
+// Legal instances, with the table of their ancestors.
 ghost use Rattle.std.specs.Prelude.{◌≡◌, ◌<◌, length, IfSome, IsNone};
 ghost use Rattle.olap_base.specs.Instance.{ReachesCategory};
 ghost use Rattle.olap_legal.specs.Ancestors.{IsAncestor};
@@ -11,7 +11,7 @@ use olap_base::{CatId, MemberId};
 use olap_instance::Instance;
 use std::marker::Model;
 
-/// A legal instance, with the table of its ancestors. Only a check makes one.
+/// A legal instance, with the table of its ancestors. That it is legal, the check says that made it.
 #[derive(Drop)]
 pub struct Legal {
     instance: Instance,
@@ -32,7 +32,7 @@ impl Model for Legal {
 }
 
 impl Legal {
-    /// A checked instance and its table.
+    /// The instance with its table.
     pub fn new(instance: Instance, categories: u16, table: Table) -> Legal
         requires bounded { IsBounded instance categories }
         requires table { IsTable instance categories (length instance) table }

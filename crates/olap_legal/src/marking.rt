@@ -6,7 +6,8 @@ ghost use Rattle.olap_legal.specs.Marks.{MarkGives};
 use olap_base::{MemberId, Memory};
 use olap_instance::Instance;
 
-/// Marks the parents of z and lists those that are new. False where one is of the category.
+/// Marks the parents of z and lists those that are new. False where one is of the category; a category that no member
+/// has stops nothing. `Memory` where the list has no room.
 pub fn mark(
     instance: &Instance,
     category: u16,

@@ -12,7 +12,7 @@ ghost use Rattle.olap_view.specs.Stores.{IsSoundStore, chosen};
 use crate::choice::{Plan, PlanRefusal};
 use crate::planning::plan;
 use olap_base::CatId;
-use olap_check::Legal;
+use olap_legal::Legal;
 use olap_schema::Schema;
 use olap_view::{Store, View, from_views};
 use std::alloc::Global;

@@ -14,8 +14,8 @@ ghost use Rattle.olap_order.specs.Order.{Done};
 ghost use Rattle.olap_plans.specs.Questions.{ByPlan, IsAnswer};
 
 use olap_base::{CatId, Library, Memory};
-use olap_check::Legal;
 use olap_graph::Graph;
+use olap_legal::Legal;
 use olap_nav::{PlanRefusal, print_plan};
 use olap_order::{Reply, Stop, category_at, refuse, schema_in, yes};
 use olap_reading::{legal_in, store_in};

@@ -12,10 +12,11 @@ ghost use Rattle.olap_order.specs.Refusals.{IsRefusal};
 ghost use Rattle.olap_reading.specs.Violations.{IsTellable, id_text, pair_text, violation_text};
 
 use olap_base::MemberId;
-use olap_check::{CheckRefusal, Legal, Violation, check};
+use olap_check::{CheckRefusal, Violation, check};
 use olap_grammar::push_quoted;
 use olap_graph::Graph;
 use olap_instance::Instance;
+use olap_legal::Legal;
 use olap_order::Stop;
 use olap_schema::Schema;
 use std::alloc::{AllocError, Global};

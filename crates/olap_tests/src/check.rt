@@ -1,8 +1,9 @@
 // Where there is memory, an instance is checked: a legal one, and two that aren't.
 use crate::reading::{CHAIN, STORES, read};
 use olap_base::{CatId, MemberId};
-use olap_check::{CheckRefusal, Legal, Violation, check};
+use olap_check::{CheckRefusal, Violation, check};
 use olap_instance::read_instance;
+use olap_legal::Legal;
 use std::alloc::Global;
 use std::process::Abort;
 use std::test::Fail;

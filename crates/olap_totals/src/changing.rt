@@ -14,9 +14,9 @@ ghost use Rattle.olap_totals.specs.Commands.{change_order, changed_text};
 ghost use Rattle.olap_totals.specs.Questions.{IsAnswer};
 
 use olap_base::Library;
-use olap_check::Legal;
 use olap_delta::{Change, DeltaRefusal, change_by_text};
 use olap_facts::FactRefusal;
+use olap_legal::Legal;
 use olap_order::{Reply, Status, Stop, read_file, refuse_long, refuse_part, schema_in, yes};
 use olap_reading::{legal_in, store_in};
 use olap_schema::Schema;

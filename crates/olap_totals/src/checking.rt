@@ -7,7 +7,7 @@ ghost use Rattle.olap_order.specs.Outputs.{line};
 ghost use Rattle.olap_totals.specs.Questions.{IsAnswer};
 
 use olap_base::Library;
-use olap_check::Legal;
+use olap_legal::Legal;
 use olap_order::{Reply, Status, Stop, schema_in, yes};
 use olap_reading::legal_in;
 use std::alloc::Global;

@@ -11,7 +11,7 @@ ghost use Rattle.olap_totals.specs.Commands.{rollup_order};
 ghost use Rattle.olap_totals.specs.Questions.{IsAnswer};
 
 use olap_base::{CatId, Library};
-use olap_check::Legal;
+use olap_legal::Legal;
 use olap_order::{Reply, Status, Stop, category_at, schema_in, yes};
 use olap_reading::{legal_in, views_in};
 use olap_schema::Schema;

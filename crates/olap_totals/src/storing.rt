@@ -14,7 +14,7 @@ ghost use Rattle.olap_reading.specs.Steps.{facts_file};
 ghost use Rattle.olap_order.specs.Words.{texts};
 
 use olap_base::{CatId, Library};
-use olap_check::Legal;
+use olap_legal::Legal;
 use olap_order::{Reply, Status, Stop, categories_at, schema_in, yes};
 use olap_reading::{legal_in, views_in};
 use olap_schema::Schema;

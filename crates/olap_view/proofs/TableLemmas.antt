@@ -19,7 +19,7 @@ use Rattle.olap_base.proofs.ListLemmas.{Contains-map, list_any_is}
 use Rattle.olap_base.specs.declared.ids.CatId.{CatId}
 use Rattle.olap_base.proofs.TotalLemmas.{⊕_none}
 use Rattle.olap_base.proofs.ViewLemmas.{eqb_is}
-use Rattle.olap_check.specs.Ancestors.{IsAncestor}
+use Rattle.olap_legal.specs.Ancestors.{IsAncestor}
 use Rattle.olap_view.specs.Seen.{ids, summary_of}
 use Rattle.olap_view.specs.Tables.{AreJoined, AreJoinedIn, HasPlaces, IsAmong, JoinedSoFar, PlacesSoFar, categories_of, place_in, summary_at, when}
 use Rattle.olap_view.specs.declared.summaries.Summary as told

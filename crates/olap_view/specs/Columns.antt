@@ -4,7 +4,7 @@
 --     AreColumns   a column for each category
 use Rattle.std.specs.Prelude.{◌≡◌, ◌≢◌, ℕ, ◌<◌, List, length, slice_index, slice_index_or}
 use Rattle.olap_base.specs.Instance.{Instance, ReachesCategory}
-use Rattle.olap_check.specs.Ancestors.{IsAncestor}
+use Rattle.olap_legal.specs.Ancestors.{IsAncestor}
 
 -- the way up from the members of an instance to a category
 pub record Ascent : Type 0 where

@@ -2,13 +2,13 @@
 ghost use Rattle.std.specs.Prelude.{◌≡◌, ◌<◌, ◌≤◌, length, IfOk, IfSome, IsNone};
 ghost use Rattle.olap_base.specs.Instance.{ReachesCategory};
 ghost use Rattle.olap_base.specs.Limits.{most_members};
-ghost use Rattle.olap_check.specs.Ancestors.{IsAncestor};
+ghost use Rattle.olap_legal.specs.Ancestors.{IsAncestor};
 ghost use Rattle.olap_view.specs.Columns.{AreColumns, IsTold, Tells, ascent};
 ghost use Rattle.olap_view.specs.Seen.{ids};
 
 use olap_base::{CatId, MemberId, Memory};
-use olap_check::Legal;
 use olap_instance::Instance;
+use olap_legal::Legal;
 use std::alloc::Global;
 use std::borrow::CowSlice;
 use std::marker::Model;

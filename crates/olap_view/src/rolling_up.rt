@@ -11,9 +11,9 @@ ghost use Rattle.olap_view.specs.Stores.{Fits};
 
 use crate::{Tally, View};
 use olap_base::{CatId, List, MOST_FACTS};
-use olap_check::Legal;
 use olap_facts::{FactReader, FactRefusal};
 use olap_graph::Graph;
+use olap_legal::Legal;
 use std::alloc::Global;
 
 /// What the facts of a text come to at each member of some categories. The text is gone when it returns.

@@ -4,7 +4,7 @@ ghost use Rattle.std.specs.Option.{option_map, option_or};
 ghost use Rattle.olap_base.specs.Instance.{ReachesCategory};
 ghost use Rattle.olap_base.specs.Reaching.{reaches};
 ghost use Rattle.olap_base.specs.Summaries.{◌⊕◌};
-ghost use Rattle.olap_check.specs.Ancestors.{IsAncestor};
+ghost use Rattle.olap_legal.specs.Ancestors.{IsAncestor};
 ghost use Rattle.olap_view.specs.Bounds.{IsUpTo};
 ghost use Rattle.olap_view.specs.Seen.{each_view_of, ids, rows_of, summary_of, view_of, views_of};
 ghost use Rattle.olap_view.specs.Stores.{IsInFileOrder, summary_in};
@@ -15,7 +15,7 @@ use crate::columns::{Column, columns};
 use crate::tables::Table;
 use crate::{Store, Summary, View};
 use olap_base::{CatId, List, MemberId, Memory};
-use olap_check::Legal;
+use olap_legal::Legal;
 use std::alloc::Global;
 use std::marker::Model;
 

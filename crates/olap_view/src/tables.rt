@@ -11,8 +11,8 @@ ghost use Rattle.olap_view.specs.Tables.{AreJoined, AreJoinedIn, HasPlaces, HasR
 use crate::columns::Column;
 use crate::{Row, Summary, View};
 use olap_base::{CatId, List, MemberId, Memory};
-use olap_check::Legal;
 use olap_instance::Instance;
+use olap_legal::Legal;
 use std::alloc::Global;
 
 /// What some values come to at each member of some categories, where there are any.

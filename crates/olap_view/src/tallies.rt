@@ -9,8 +9,8 @@ ghost use Rattle.olap_view.specs.Tallies.{StandsFor};
 
 use crate::{Summary, SummaryTable, View};
 use olap_base::{CatId, List, Memory};
-use olap_check::Legal;
 use olap_facts::Fact;
+use olap_legal::Legal;
 use std::alloc::Global;
 use std::marker::Model;
 

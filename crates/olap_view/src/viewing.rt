@@ -14,8 +14,8 @@ use crate::columns::{Column, columns};
 use crate::tables::Table;
 use crate::{Row, Store, Tally, View};
 use olap_base::{CatId, Memory};
-use olap_check::Legal;
 use olap_facts::Facts;
+use olap_legal::Legal;
 use std::alloc::Global;
 
 /// The direct view of c: a row for each member of c that some fact's member reaches, in file order, with

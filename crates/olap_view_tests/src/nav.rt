@@ -8,9 +8,9 @@ ghost use Rattle.olap_view.specs.Stores.{Fits, IsStore};
 
 use crate::reading::{MEMBERS, MERIDA, ONTARIO, TORONTO, YUCATAN, legal, read, stored, view};
 use olap_base::{CatId, List, Text};
-use olap_check::Legal;
 use olap_generate::LOCATION;
 use olap_instance::read_instance;
+use olap_legal::Legal;
 use olap_nav::{PlanRefusal, answer, plan};
 use olap_schema::Schema;
 use olap_view::{Store, print_view};

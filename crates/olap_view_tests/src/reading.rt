@@ -8,8 +8,9 @@ ghost use Rattle.olap_view.specs.Seen.{views_of};
 ghost use Rattle.olap_view.specs.Stores.{Fits, IsStore};
 
 use olap_base::{CatId, List, MemberId};
-use olap_check::{Legal, check};
+use olap_check::check;
 use olap_instance::Instance;
+use olap_legal::Legal;
 use olap_schema::Schema;
 use olap_schema_text::read_schema;
 use olap_view::{Row, Store, View};

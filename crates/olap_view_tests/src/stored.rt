@@ -5,9 +5,9 @@ ghost use Rattle.olap_view.specs.Stores.{Fits, IsStore};
 
 use crate::reading::{MEMBERS, legal, read, stored};
 use olap_base::{CatId, Text};
-use olap_check::Legal;
 use olap_generate::LOCATION;
 use olap_instance::read_instance;
+use olap_legal::Legal;
 use olap_view::{Store, from_views, print_view};
 use std::alloc::Global;
 use std::process::Abort;

@@ -19,7 +19,8 @@ put-requires-clause-fits c =
     let v = c.members.invariant in
     let count = c.members-x-end.ensures.count in
     let inside : x < length i = omega (arith, count, c.members-test.true) in
-    let rise = subst (λ k. IsRise i k x c.rise.new.row.items) v.row (c.in_ok-rise.ensures.whole c.if-not-branch.false) in
+    let whole = c.in_ok-rise.ensures.whole c.if-not-branch.false in
+    let rise = subst (λ k. IsRise i k x c.rise.new.row.items) v.row whole in
     row_fits v.table.laid inside (subst (λ l. IsRise i n x l) (sym c.deref.ensures.value) rise)
 
 pub members-preserved : goal.members-preserved
@@ -30,7 +31,8 @@ members-preserved c =
     let v = c.members.invariant in
     let count = c.members-x-end.ensures.count in
     let inside : x < length i = omega (arith, count, c.members-test.true) in
-    let rise = subst (λ k. IsRise i k x c.rise.new.row.items) v.row (c.in_ok-rise.ensures.whole c.if-not-branch.false) in
+    let whole = c.in_ok-rise.ensures.whole c.if-not-branch.false in
+    let rise = subst (λ k. IsRise i k x c.rise.new.row.items) v.row whole in
     let row = subst (λ l. IsRise i n x l) (sym c.deref.ensures.value) rise in
     let put = c.put.ensures in
     record {

@@ -41,7 +41,8 @@ parents-preserved c =
     let j = row_join has v.size c.join.ensures.length (c.join.ensures.each c.if-not-join.false) in
     record {
       size = j.same_length ∙ v.size;
-      joined = joined_more (parents_of i c.args.z) c.parents.p-index c.requires.bounded at.inside v.size above j v.joined;
+      joined = joined_more (parents_of i c.args.z) c.parents.p-index c.requires.bounded at.inside v.size above j
+          v.joined;
     }
 
 pub bounds-row-own : goal.bounds-row-own

@@ -107,11 +107,11 @@ holding-returns-in-Xor-clause-places t c =
 pub counted-parts-init : goal.counted-parts-init
 counted-parts-init t c =
     let b = c.args.self.now in
-    let none = counted_none b.instance.now b.part.now (terms_of c.args.parts.now) (members b.all) (has_all b.sound) in (
+    let terms = terms_of c.args.parts.now in
+    let none = counted_none b.instance.now b.part.now terms (members b.all) (has_all b.sound) in (
       omega arith,
       c.requires,
-      subst (IsCounted b.instance.now b.part.now (terms_of c.args.parts.now) (terms_of c.args.parts.now) (members b.all))
-          (sym c.empty.ensures) none,
+      subst (IsCounted b.instance.now b.part.now terms terms (members b.all)) (sym c.empty.ensures) none,
     )
 
 pub counted-parts-preserved : goal.counted-parts-preserved

@@ -4,7 +4,7 @@ use Rattle.std.specs.Option.{option_map}
 use Rattle.std.proofs.lemmas.List.{get_or_default}
 use Rattle.olap_base.specs.Summaries.{◌⊕◌}
 use Rattle.olap_base.specs.Instance.{ReachesCategory}
-use Rattle.olap_check.specs.Ancestors.{IsAncestor}
+use Rattle.olap_legal.specs.Ancestors.{IsAncestor}
 use Rattle.olap_view.specs.Columns.{Ascent}
 use Rattle.olap_view.specs.Seen.{summary_of}
 use Rattle.olap_view.specs.Tables.{IsAmong, categories_of, place_in}
