@@ -18,7 +18,8 @@ module _ (e : Encoding) (t : IsSound e) (d : ℕ) (op : Op) (n : ℤ) (u : d < c
   abbrev k : Candidates
   k = e.problem.candidates
 
-  pub number_by_rung : (l : Lit) (m : ℕ) → IsNumbered (k.first d) op n → IsLeading (k.texts d) op n (length (k.texts d)) m
+  pub number_by_rung : (l : Lit) (m : ℕ) → IsNumbered (k.first d) op n
+      → IsLeading (k.texts d) op n (length (k.texts d)) m
       → Says e l (UpToIs d m) → Says e l (NumberIs d op n)
   number_by_rung l m p a s = record {
     known = s.known;

@@ -107,14 +107,16 @@ module _ (e : Encoding) (c : ℕ) where
     met = λ f v h p q. (l, Contains-push ls l, (t.exactly f v h p).1 q);
   }
 
-  pub widened_turned : (b : Bool) (x : Formula) {before after : List Lit} → IsWidened e c (signed (not b) x) before after
+  pub widened_turned : (b : Bool) (x : Formula) {before after : List Lit}
+      → IsWidened e c (signed (not b) x) before after
       → IsWidened e c (signed b (Not x)) before after
   widened_turned b x w = record {
     kept = w.kept;
     met = λ f v h p q. w.met f v h p (turned (instance_in e.problem f) (member_in e.problem f c) b x q);
   }
 
-  widened_twice : (x y z : Formula) {before mid after : List Lit} → IsWidened e c x before mid → IsWidened e c y mid after
+  widened_twice : (x y z : Formula) {before mid after : List Lit} → IsWidened e c x before mid
+      → IsWidened e c y mid after
       → ((i : Instance) (m : ℕ) → HoldsAt i m z → HoldsAt i m x ⊎ HoldsAt i m y) → IsWidened e c z before after
   widened_twice x y z u w some = record {
     kept = λ l h. w.kept l (u.kept l h);

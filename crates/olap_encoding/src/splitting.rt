@@ -69,8 +69,14 @@ fn alternatives(
     }
 }
 
-// One clause: the category is absent, or one of the alternatives is true.
-fn one_clause(e: &mut Encoder, c: CatId, f: &Formula, holds: bool) -> Result<(), Memory>
+// The clause that the category is absent, or one of the alternatives true, in a list for its literals.
+fn alternatives_clause(
+    e: &mut Encoder,
+    c: CatId,
+    f: &Formula,
+    holds: bool,
+    literals: &mut Vec<Lit>,
+) -> Result<(), Memory>
     requires sound { IsSound (encoding_of e.old) }
     requires category { IsCategory e.old.problem.graph.now c.0 }
     requires speaks { IsSpoken (encoding_of e.old).problem (formula_of f.now) }
@@ -79,11 +85,21 @@ fn one_clause(e: &mut Encoder, c: CatId, f: &Formula, holds: bool) -> Result<(),
 {
     let p = e.present(c);
     let not_p = p.negated();
-    let mut literals = Vec::new(e.alloc);
     literals.push(not_p)?;
-    alternatives(e, c, f, holds, &mut literals)?;
-    e.clause(&literals)?;
-    Ok(())
+    alternatives(e, c, f, holds, literals)?;
+    e.clause(literals)
+}
+
+// The same, with a list of its own.
+fn one_clause(e: &mut Encoder, c: CatId, f: &Formula, holds: bool) -> Result<(), Memory>
+    requires sound { IsSound (encoding_of e.old) }
+    requires category { IsCategory e.old.problem.graph.now c.0 }
+    requires speaks { IsSpoken (encoding_of e.old).problem (formula_of f.now) }
+    requires so { IsTrueAt (encoding_of e.old) c.0 (signed holds (formula_of f.now)) }
+    ensures next { IfOk result (λ _. IsNext (encoding_of e.old) (encoding_of e.new)) }
+{
+    let mut literals = Vec::new(e.alloc);
+    alternatives_clause(e, c, f, holds, &mut literals)
 }
 
 // The clauses of a formula that is true at a category wherever this is present, or of one that never is.
@@ -95,29 +111,20 @@ fn require(e: &mut Encoder, c: CatId, f: &Formula, holds: bool) -> Result<(), Me
     ensures next { IfOk result (λ _. IsNext (encoding_of e.old) (encoding_of e.new)) }
 {
     match (f, holds) {
-        (Formula::Not(g), _) => {
-            require(e, c, g, !holds)?;
-            Ok(())
-        }
+        (Formula::Not(g), _) => require(e, c, g, !holds),
         (Formula::And(g, h), true) => {
             require(e, c, g, true)?;
-            require(e, c, h, true)?;
-            Ok(())
+            require(e, c, h, true)
         }
         (Formula::Or(g, h), false) => {
             require(e, c, g, false)?;
-            require(e, c, h, false)?;
-            Ok(())
+            require(e, c, h, false)
         }
         (Formula::Implies(g, h), false) => {
             require(e, c, g, true)?;
-            require(e, c, h, false)?;
-            Ok(())
+            require(e, c, h, false)
         }
-        _ => {
-            one_clause(e, c, f, holds)?;
-            Ok(())
-        }
+        _ => one_clause(e, c, f, holds),
     }
 }
 
@@ -132,8 +139,7 @@ pub fn constraint(e: &mut Encoder, k: &Constraint) -> Result<(), Memory>
     if !e.problem.graph.reaches(e.problem.root, k.root) {
         return Ok(());
     }
-    require(e, k.root, &k.formula, true)?;
-    Ok(())
+    require(e, k.root, &k.formula, true)
 }
 
 /// The clauses of the question.
@@ -143,6 +149,5 @@ pub fn question(e: &mut Encoder) -> Result<(), Memory>
     ensures next { IfOk result (λ _. IsNext (encoding_of e.old) (encoding_of e.new)) }
 {
     let p = e.problem();
-    require(e, p.root, p.question, true)?;
-    Ok(())
+    require(e, p.root, p.question, true)
 }

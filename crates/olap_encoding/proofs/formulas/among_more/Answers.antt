@@ -1,12 +1,12 @@
 -- One name more.
-use Rattle.std.proofs.Common.{◌≡◌, [], true, false, get_or, sym, subst, ◌∙◌}
-use Rattle.std.proofs.Common.{w64}
+use Rattle.std.proofs.Common.{◌≡◌, [], true, false, get_or, sym, subst, ◌+◌, ◌∙◌, w64}
 use Rattle.std.proofs.lemmas.Int.{to_z-of_z}
 use Rattle.olap_ast.specs.Trees.{op_of}
 use Rattle.olap_encoding.specs.EncoderInside.{encoding_of}
-use Rattle.olap_encoding.specs.Encoding.{Problem}
-use Rattle.olap_encoding.specs.Formulas.{Wants}
+use Rattle.olap_encoding.specs.Encoding.{Problem, IsNext, Says}
+use Rattle.olap_encoding.specs.Formulas.{AmongIs, AnyIs, Wants}
 use Rattle.olap_encoding.proofs.Growing.{says_still}
+use Rattle.olap_encoding.proofs.PartLemmas.{both_ok}
 use Rattle.olap_encoding.proofs.NumberLemmas.{says_more, says_other}
 use Rattle.olap_encoding.proofs.formulas.among_more.Goals as goal
 
@@ -19,10 +19,17 @@ returns-then-not-is_wanted-clause-says c =
 
 pub returns-clause-says : goal.returns-clause-says
 returns-clause-says c =
-    let o = c.in_ok-o.ensures in
-    says_more (encoding_of c.any.new.e) c.args.d.0 c.args.j (op_of c.args.op) c.args.n c.args.want c.args.l
-    c.name-b.result c.in_ok-o.o (says_still o.next.later c.requires.says) (says_still o.next.later c.name-b.ensures)
-    o.says
-    (subst (λ (p : Problem). Wants (op_of c.args.op) c.args.n c.args.want (get_or (p.candidates.texts c.args.d.0)
-    c.args.j [])) (sym o.next.later.problem)
-    ((rw (to_z-of_z w64 c.args.n c.ranges.n) at c.is_wanted.ensures).0 c.if-not-is_wanted.false))
+    let e = encoding_of c.any.new.e in
+    let d = c.args.d.0 in
+    let j = c.args.j in
+    let op = op_of c.args.op in
+    let m = c.args.n in
+    let want = c.args.want in
+    let b = c.name-b.result in
+    both_ok c.any.result (λ _. IsNext (encoding_of c.args.e.now) e) (λ o. Says e o (AnyIs c.args.l b))
+    (λ o. Says e o (AmongIs d (j + 1) op m want))
+    (λ o n s. says_more e d j op m want c.args.l b o (says_still n.later c.requires.says)
+    (says_still n.later c.name-b.ensures) s
+    (subst (λ (p : Problem). Wants op m want (get_or (p.candidates.texts d) j [])) (sym n.later.problem)
+    ((rw (to_z-of_z w64 m c.ranges.n) at c.is_wanted.ensures).0 c.if-not-is_wanted.false)))
+    c.any.ensures.next c.any.ensures.says

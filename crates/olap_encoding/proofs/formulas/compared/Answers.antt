@@ -1,10 +1,14 @@
 -- Reached, and with a name that compares so.
 use Rattle.std.proofs.Common.{w64}
 use Rattle.std.proofs.lemmas.Int.{to_z-of_z}
+use Rattle.olap_ast.specs.Formula.{Formula.Compare}
 use Rattle.olap_ast.specs.Trees.{op_of}
 use Rattle.olap_encoding.specs.EncoderInside.{encoding_of}
-use Rattle.olap_encoding.proofs.Growing.{says_still, next_on}
+use Rattle.olap_encoding.specs.Encoding.{IsNext, Says, BothAre}
+use Rattle.olap_encoding.specs.Formulas.{TellsAt}
+use Rattle.olap_encoding.proofs.Growing.{says_still, next_on, next_after}
 use Rattle.olap_encoding.proofs.OutLemmas.{category_still}
+use Rattle.olap_encoding.proofs.PartLemmas.{both_ok}
 use Rattle.olap_encoding.proofs.TellingLemmas.{tell_compared, tell_unreached}
 use Rattle.olap_encoding.proofs.formulas.compared.Goals as goal
 
@@ -19,13 +23,19 @@ comparing-requires-clause-category c = category_still c.in_ok-a.ensures.next.lat
 pub returns-clause-says : goal.returns-clause-says
 returns-clause-says c =
     let e = encoding_of c.both.new.e in
-    let a = c.in_ok-a.ensures in
-    let b = c.in_ok-b.ensures in
-    let o = c.in_ok-o.ensures in
-    tell_compared e o.next.sound c.args.c.0 c.in_ok-o.o c.in_ok-a.a c.in_ok-b.b c.args.d.0 (op_of c.args.op) c.args.n
-    c.requires.speaks.1 o.says (says_still (next_on b.next o.next).later a.says)
-    (says_still o.next.later (rw (to_z-of_z w64 c.args.n c.ranges.n) at b.says))
+    let a = c.in_ok-a in
+    let b = c.in_ok-b in
+    let d = c.args.d.0 in
+    let op = op_of c.args.op in
+    let m = c.args.n in
+    both_ok c.both.result (λ _. IsNext (encoding_of c.comparing.new.e) e) (λ l. Says e l (BothAre a.a b.b))
+    (λ l. TellsAt e c.args.c.0 l (Compare d op m))
+    (λ l n s. tell_compared e n.sound c.args.c.0 l a.a b.b d op m c.requires.speaks.1 s
+    (says_still (next_on b.ensures.next n).later a.ensures.says)
+    (says_still n.later (rw (to_z-of_z w64 m c.ranges.n) at b.ensures.says)))
+    c.both.ensures.next c.both.ensures.says
 
 pub returns-clause-next : goal.returns-clause-next
 returns-clause-next c =
-    next_on c.in_ok-a.ensures.next (next_on c.in_ok-b.ensures.next c.in_ok-o.ensures.next)
+    next_after (encoding_of c.both.new.e) c.both.result
+    (next_on c.in_ok-a.ensures.next c.in_ok-b.ensures.next) c.both.ensures.next

@@ -1,17 +1,25 @@
 -- Both walks.
+use Rattle.olap_ast.specs.Formula.{Formula.Via}
 use Rattle.olap_encoding.specs.EncoderInside.{encoding_of}
-use Rattle.olap_encoding.proofs.Growing.{says_still, next_on}
+use Rattle.olap_encoding.specs.Encoding.{IsNext, Says, BothAre}
+use Rattle.olap_encoding.specs.Formulas.{TellsAt}
+use Rattle.olap_encoding.proofs.Growing.{says_still, next_on, next_after}
+use Rattle.olap_encoding.proofs.PartLemmas.{both_ok}
 use Rattle.olap_encoding.proofs.TellingLemmas.{tell_via}
 use Rattle.olap_encoding.proofs.formulas.via.Goals as goal
 
 pub returns-clause-next : goal.returns-clause-next
 returns-clause-next c =
-    next_on c.in_ok-a.ensures.next (next_on c.in_ok-b.ensures.next c.in_ok-o.ensures.next)
+    next_after (encoding_of c.both.new.e) c.both.result
+    (next_on c.in_ok-a.ensures.next c.in_ok-b.ensures.next) c.both.ensures.next
 
 pub returns-clause-says : goal.returns-clause-says
 returns-clause-says c =
-    let a = c.in_ok-a.ensures in
-    let b = c.in_ok-b.ensures in
-    let o = c.in_ok-o.ensures in
-    tell_via (encoding_of c.both.new.e) o.next.sound c.args.c.0 c.in_ok-o.o c.in_ok-a.a c.in_ok-b.b c.args.d.0
-    c.args.k.0 o.says (says_still (next_on b.next o.next).later a.says) (says_still o.next.later b.says)
+    let e = encoding_of c.both.new.e in
+    let a = c.in_ok-a in
+    let b = c.in_ok-b in
+    both_ok c.both.result (λ _. IsNext (encoding_of c.reach-2.new.self) e) (λ l. Says e l (BothAre a.a b.b))
+    (λ l. TellsAt e c.args.c.0 l (Via c.args.d.0 c.args.k.0))
+    (λ l n s. tell_via e n.sound c.args.c.0 l a.a b.b c.args.d.0 c.args.k.0 s
+    (says_still (next_on b.ensures.next n).later a.ensures.says) (says_still n.later b.ensures.says))
+    c.both.ensures.next c.both.ensures.says

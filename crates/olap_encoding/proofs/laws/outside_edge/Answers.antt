@@ -2,6 +2,7 @@
 use Rattle.olap_encoding.specs.EncoderInside.{encoding_of}
 use Rattle.olap_encoding.specs.Encoding.{edge_at}
 use Rattle.olap_encoding.proofs.GivenLemmas.{given_outside_edge}
+use Rattle.olap_encoding.proofs.Growing.{next_last}
 use Rattle.olap_encoding.proofs.laws.outside_edge.Goals as goal
 
 pub clause-requires-clause-given : goal.clause-requires-clause-given
@@ -10,3 +11,6 @@ clause-requires-clause-given c =
     let edge = edge_at e.problem c.args.id.0 in
     given_outside_edge e c.requires.sound c.negated-not_l.result c.on-l.result edge.child edge.parent
     c.negated-not_l.ensures c.on-l.ensures c.requires.outside
+
+pub returns : goal.returns
+returns c = record { next = next_last c.clause.result c.clause.ensures.next }

@@ -162,7 +162,8 @@ pub returns-in_ok-alternatives-in-Implies-true-clause-next :
     goal.returns-in_ok-alternatives-in-Implies-true-clause-next
 returns-in_ok-alternatives-in-Implies-true-clause-next t c =
     let e = encoding_of c.alternatives-in-Implies-true-2.new.e in
-    IfOk-weaker c.alternatives-in-Implies-true-2.result (λ _. IsNext (encoding_of c.alternatives-in-Implies-true.new.e) e)
+    IfOk-weaker c.alternatives-in-Implies-true-2.result
+    (λ _. IsNext (encoding_of c.alternatives-in-Implies-true.new.e) e)
     (λ _. IsNext (encoding_of c.args.e.now) e)
     (λ _ n. next_on c.in_ok-alternatives-in-Implies-true.ensures.next n) c.alternatives-in-Implies-true-2.ensures.next
 

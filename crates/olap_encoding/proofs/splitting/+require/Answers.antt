@@ -5,6 +5,7 @@ use Rattle.olap_ast.specs.Trees.{formula_of}
 use Rattle.olap_ast.specs.Valid.{node_count}
 use Rattle.olap_encoding.specs.EncoderInside.{encoding_of}
 use Rattle.olap_encoding.specs.Formulas.{signed}
+use Rattle.olap_encoding.proofs.Growing.{next_after}
 use Rattle.olap_encoding.proofs.OutLemmas.{category_still}
 use Rattle.olap_encoding.proofs.TellingLemmas.{spoken_still}
 use Rattle.olap_encoding.proofs.SplittingLemmas.{required, counted, spoken_as, true_still, true_as, true_turned, true_and, true_or, true_implies}
@@ -125,3 +126,24 @@ require-requires-in-Implies-false-2 t c =
           (true_still n.later c.args.c.0 (signed false (formula_of h))
           (true_implies e c.args.c.0 (formula_of g) (formula_of h) so).1),
     )
+
+pub returns-in_ok-require-in-And-true : goal.returns-in_ok-require-in-And-true
+returns-in_ok-require-in-And-true t c = record {
+  next = next_after (encoding_of c.require-in-And-true-2.new.e) c.require-in-And-true-2.result
+      c.in_ok-require-in-And-true.ensures.next
+      c.require-in-And-true-2.ensures.next;
+}
+
+pub returns-in_ok-require-in-Or-false : goal.returns-in_ok-require-in-Or-false
+returns-in_ok-require-in-Or-false t c = record {
+  next = next_after (encoding_of c.require-in-Or-false-2.new.e) c.require-in-Or-false-2.result
+      c.in_ok-require-in-Or-false.ensures.next
+      c.require-in-Or-false-2.ensures.next;
+}
+
+pub returns-in_ok-require-in-Implies-false : goal.returns-in_ok-require-in-Implies-false
+returns-in_ok-require-in-Implies-false t c = record {
+  next = next_after (encoding_of c.require-in-Implies-false-2.new.e) c.require-in-Implies-false-2.result
+      c.in_ok-require-in-Implies-false.ensures.next
+      c.require-in-Implies-false-2.ensures.next;
+}

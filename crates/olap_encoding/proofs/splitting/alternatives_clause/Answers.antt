@@ -6,9 +6,9 @@ use Rattle.olap_ast.specs.Trees.{formula_of}
 use Rattle.olap_encoding.specs.EncoderInside.{encoding_of}
 use Rattle.olap_encoding.specs.Encoding.{IsGiven}
 use Rattle.olap_encoding.specs.Formulas.{signed}
-use Rattle.olap_encoding.proofs.Growing.{says_still}
+use Rattle.olap_encoding.proofs.Growing.{says_still, next_on, next_last}
 use Rattle.olap_encoding.proofs.SplittingLemmas.{true_still, given_widened}
-use Rattle.olap_encoding.proofs.splitting.one_clause.Goals as goal
+use Rattle.olap_encoding.proofs.splitting.alternatives_clause.Goals as goal
 
 pub clause-requires-clause-given : goal.clause-requires-clause-given
 clause-requires-clause-given c =
@@ -19,5 +19,10 @@ clause-requires-clause-given c =
     subst (λ ls. IsGiven e ls) (sym c.deref.ensures.value)
     (given_widened e c.args.c.0 n c.present-p.result x c.negated-not_p.ensures
     (says_still s.next.later c.present-p.ensures)
-    (subst (λ ls. Contains ls n) (sym c.in_ok-push.ensures.items) (Contains-push c.new-literals.result.items n))
+    (subst (λ ls. Contains ls n) (sym c.in_ok-push.ensures.items) (Contains-push c.args.literals.now.items n))
     (true_still s.next.later c.args.c.0 x c.requires.so) s.widened)
+
+pub returns : goal.returns
+returns c = record {
+  next = next_last c.clause.result (next_on c.in_ok-alternatives.ensures.next c.clause.ensures.next);
+}
