@@ -16,7 +16,7 @@ use Rattle.olap_ast.specs.Findings.{AreFindings, Finding, Finding.Unsatisfiable,
 use Rattle.olap_ast.specs.Schema.{Schema}
 use Rattle.olap_ast.specs.Violation.{IsNotAfter}
 use Rattle.olap_graph.specs.Lookups.{edge_at}
-use Rattle.olap_summ.specs.Audits.{AreFindingsBefore, IsBefore, finding_of, kind_of, place_of}
+use Rattle.olap_summ.specs.Audits.{AreFindingsBefore, IsBefore, finding_of, kind_of, place_of, redundant, unsatisfiable, unused}
 use Rattle.olap_summ.specs.declared.auditing.Finding.{Finding as Told}
 
 -- ---- kinds and places
@@ -187,7 +187,7 @@ next_kind s kind place next first list b e within from = record {
     back g is (inr h) = let l = h.1 in let m = from g h.0 is in absurd (omega (arith, l, m))
 
 -- before the first place there are no findings
-pub none_yet : (s : Schema) → AreFindingsBefore s 1 1 []
+pub none_yet : (s : Schema) → AreFindingsBefore s unsatisfiable 1 []
 none_yet s = record {
   ordered = λ i j d h l. absurd (omega arith);
   sound = λ f c. absurd (Contains-nil f c);
@@ -204,8 +204,9 @@ none_yet s = record {
     none (Unused e) is (inr h) = let q = h.0 in omega (arith, q)
 
 -- behind the categories come the constraints, counted from 1
-pub to_constraints : (s : Schema) (list : List Finding) → AreFindingsBefore s 1 (category_count s.graph) list
-    → AreFindingsBefore s 2 1 list
+pub to_constraints : (s : Schema) (list : List Finding)
+    → AreFindingsBefore s unsatisfiable (category_count s.graph) list
+    → AreFindingsBefore s redundant 1 list
 to_constraints s list b = next_kind s 1 (category_count s.graph) 2 1 list b refl within from
   where
     within : (f : Finding) → kind_of f ≡ 1 → IsFinding s f → place_of f < category_count s.graph
@@ -220,8 +221,9 @@ to_constraints s list b = next_kind s 1 (category_count s.graph) 2 1 list b refl
     from (Unused e) k is = absurd (omega (arith, k))
 
 -- behind the constraints come the edges
-pub to_edges : (s : Schema) (n : ℕ) (list : List Finding) → n ≡ length s.constraints + 1 → AreFindingsBefore s 2 n list
-    → AreFindingsBefore s 3 0 list
+pub to_edges : (s : Schema) (n : ℕ) (list : List Finding) → n ≡ length s.constraints + 1
+    → AreFindingsBefore s redundant n list
+    → AreFindingsBefore s unused 0 list
 to_edges s n list e b = next_kind s 2 n 3 0 list b refl within (λ f k is. omega arith)
   where
     within : (f : Finding) → kind_of f ≡ 2 → IsFinding s f → place_of f < n
@@ -231,7 +233,7 @@ to_edges s n list e b = next_kind s 2 n 3 0 list b refl within (λ f k is. omega
     within (Unused x) k is = absurd (omega (arith, k))
 
 -- behind the edges there is nothing
-pub all_found : (s : Schema) (n : ℕ) (list : List Finding) → n ≡ length s.graph.edges → AreFindingsBefore s 3 n list
+pub all_found : (s : Schema) (n : ℕ) (list : List Finding) → n ≡ length s.graph.edges → AreFindingsBefore s unused n list
     → AreFindings s list
 all_found s n list e b = record {
   ordered = b.ordered;

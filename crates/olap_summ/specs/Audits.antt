@@ -1,6 +1,7 @@
 -- The definitions' findings behind the program's.
---     finding_of           the definitions' finding
---     AreFindingsBefore    the list so far has exactly the findings before a kind and place
+--     finding_of                          the definitions' finding
+--     unsatisfiable, redundant, unused    the kinds of findings
+--     AreFindingsBefore                   the list so far has exactly the findings before a kind and place
 use Rattle.std.specs.Prelude.{◌≡◌, ◌<◌, ◌⊎◌, ℕ, List, AllPairs, Contains}
 use Rattle.olap_ast.specs.Findings as meaning
 use Rattle.olap_ast.specs.Schema.{Schema}
@@ -15,11 +16,21 @@ finding_of (found.Unused e) = meaning.Finding.Unused e.0
 
 -- ---- the list so far
 
--- the finding's kind, in the order in which an audit tells them
+-- the kinds of findings, numbered in the order in which an audit tells them
+abbrev pub unsatisfiable : ℕ
+unsatisfiable = 1
+
+abbrev pub redundant : ℕ
+redundant = 2
+
+abbrev pub unused : ℕ
+unused = 3
+
+-- the finding's kind
 abbrev pub kind_of : meaning.Finding → ℕ
-kind_of (meaning.Finding.Unsatisfiable c) = 1
-kind_of (meaning.Finding.Redundant n) = 2
-kind_of (meaning.Finding.Unused k) = 3
+kind_of (meaning.Finding.Unsatisfiable c) = unsatisfiable
+kind_of (meaning.Finding.Redundant n) = redundant
+kind_of (meaning.Finding.Unused k) = unused
 
 -- the category, the constraint's number or the edge
 abbrev pub place_of : meaning.Finding → ℕ

@@ -4,7 +4,7 @@ ghost use Rattle.olap_ast.specs.Findings.{AreFindings, IsRedundant, IsUnsatisfia
 ghost use Rattle.olap_base.specs.Graph.{Edge, IsCategory};
 ghost use Rattle.olap_graph.specs.Lookups.{edge_at};
 ghost use Rattle.olap_schema.specs.Schemas.{schema_of};
-ghost use Rattle.olap_summ.specs.Audits.{AreFindingsBefore, finding_of};
+ghost use Rattle.olap_summ.specs.Audits.{AreFindingsBefore, finding_of, redundant, unsatisfiable, unused};
 ghost use Rattle.olap_summ.specs.Sights.{AreAllSettled, IsSeen, IsWitness, Keeps};
 
 use crate::asking::one_found;
@@ -74,10 +74,11 @@ fn add_unsatisfiable(
     findings: &mut Vec<Finding>,
 ) -> Result<(), Memory>
     requires seen { IsSeen (schema_of schema.now) seen.old }
-    requires before { AreFindingsBefore (schema_of schema.now) 1 1 (map finding_of findings.old.items) }
+    requires before { AreFindingsBefore (schema_of schema.now) unsatisfiable 1 (map finding_of findings.old.items) }
     ensures seen { OnOk result (IsSeen (schema_of schema.now) seen.new) }
     ensures settled { OnOk result (AreAllSettled (schema_of schema.now) seen.new) }
-    ensures added { OnOk result (AreFindingsBefore (schema_of schema.now) 2 1 (map finding_of findings.new.items)) }
+    ensures added { OnOk result
+        (AreFindingsBefore (schema_of schema.now) redundant 1 (map finding_of findings.new.items)) }
 {
     'categories: for c in 1..schema.graph().categories() {
         if !can_have_member(alloc, schema, CatId(c), seen)? {
@@ -100,8 +101,8 @@ fn is_redundant(alloc: Global, schema: &Schema, k: usize) -> Result<bool, Memory
 
 // Adds the constraints that follow from the others.
 fn add_redundant(alloc: Global, schema: &Schema, findings: &mut Vec<Finding>) -> Result<(), Memory>
-    requires before { AreFindingsBefore (schema_of schema.now) 2 1 (map finding_of findings.old.items) }
-    ensures added { OnOk result (AreFindingsBefore (schema_of schema.now) 3 0 (map finding_of findings.new.items)) }
+    requires before { AreFindingsBefore (schema_of schema.now) redundant 1 (map finding_of findings.old.items) }
+    ensures added { OnOk result (AreFindingsBefore (schema_of schema.now) unused 0 (map finding_of findings.new.items)) }
 {
     'constraints: for k in 0..schema.constraints().len() {
         if is_redundant(alloc, schema, k)? {
@@ -171,7 +172,7 @@ fn add_unused(
 ) -> Result<(), Memory>
     requires seen { IsSeen (schema_of schema.now) seen.old }
     requires settled { AreAllSettled (schema_of schema.now) seen.old }
-    requires before { AreFindingsBefore (schema_of schema.now) 3 0 (map finding_of findings.old.items) }
+    requires before { AreFindingsBefore (schema_of schema.now) unused 0 (map finding_of findings.old.items) }
     ensures added { OnOk result (AreFindings (schema_of schema.now) (map finding_of findings.new.items)) }
 {
     'edges: for e in 0..schema.graph().edges() {

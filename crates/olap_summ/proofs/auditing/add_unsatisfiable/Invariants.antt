@@ -1,7 +1,7 @@
 -- The findings among the categories before are there, and each of these categories is known.
 use Rattle.std.proofs.Common.{map}
 use Rattle.olap_schema.specs.Schemas.{schema_of}
-use Rattle.olap_summ.specs.Audits.{AreFindingsBefore, finding_of}
+use Rattle.olap_summ.specs.Audits.{AreFindingsBefore, finding_of, unsatisfiable}
 use Rattle.olap_summ.specs.Sights.{AreSettled, IsSeen}
 use Rattle.olap_summ.proofs.auditing.add_unsatisfiable.Given as goal
 
@@ -9,5 +9,5 @@ abbrev pub invariant-categories : goal.invariant-categories
 invariant-categories l = record {
   seen : IsSeen (schema_of l.schema) l.seen;
   settled : AreSettled (schema_of l.schema) l.c l.seen;
-  found : AreFindingsBefore (schema_of l.schema) 1 l.c (map finding_of l.findings.items);
+  found : AreFindingsBefore (schema_of l.schema) unsatisfiable l.c (map finding_of l.findings.items);
 }

@@ -1,7 +1,7 @@
 -- The findings among the edges before are there.
 use Rattle.std.proofs.Common.{map}
 use Rattle.olap_schema.specs.Schemas.{schema_of}
-use Rattle.olap_summ.specs.Audits.{AreFindingsBefore, finding_of}
+use Rattle.olap_summ.specs.Audits.{AreFindingsBefore, finding_of, unused}
 use Rattle.olap_summ.specs.Sights.{AreAllSettled, IsSeen}
 use Rattle.olap_summ.proofs.auditing.add_unused.Given as goal
 
@@ -9,5 +9,5 @@ abbrev pub invariant-edges : goal.invariant-edges
 invariant-edges l = record {
   seen : IsSeen (schema_of l.schema) l.seen;
   settled : AreAllSettled (schema_of l.schema) l.seen;
-  found : AreFindingsBefore (schema_of l.schema) 3 l.e (map finding_of l.findings.items);
+  found : AreFindingsBefore (schema_of l.schema) unused l.e (map finding_of l.findings.items);
 }
