@@ -233,7 +233,8 @@ to_edges s n list e b = next_kind s 2 n 3 0 list b refl within (λ f k is. omega
     within (Unused x) k is = absurd (omega (arith, k))
 
 -- behind the edges there is nothing
-pub all_found : (s : Schema) (n : ℕ) (list : List Finding) → n ≡ length s.graph.edges → AreFindingsBefore s unused n list
+pub all_found : (s : Schema) (n : ℕ) (list : List Finding) → n ≡ length s.graph.edges
+    → AreFindingsBefore s unused n list
     → AreFindings s list
 all_found s n list e b = record {
   ordered = b.ordered;

@@ -102,7 +102,8 @@ fn is_redundant(alloc: Global, schema: &Schema, k: usize) -> Result<bool, Memory
 // Adds the constraints that follow from the others.
 fn add_redundant(alloc: Global, schema: &Schema, findings: &mut Vec<Finding>) -> Result<(), Memory>
     requires before { AreFindingsBefore (schema_of schema.now) redundant 1 (map finding_of findings.old.items) }
-    ensures added { OnOk result (AreFindingsBefore (schema_of schema.now) unused 0 (map finding_of findings.new.items)) }
+    ensures added { OnOk result
+        (AreFindingsBefore (schema_of schema.now) unused 0 (map finding_of findings.new.items)) }
 {
     'constraints: for k in 0..schema.constraints().len() {
         if is_redundant(alloc, schema, k)? {
