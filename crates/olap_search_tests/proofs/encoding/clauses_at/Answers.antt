@@ -11,7 +11,7 @@ use Rattle.olap_encoding.proofs.SpokenLemmas.{spoken}
 use Rattle.olap_names.specs.Names.{with_graph}
 use Rattle.olap_names.proofs.NameableLemmas.{can_be_named}
 use Rattle.olap_schema.specs.Schemas.{schema_of}
-use Rattle.olap_tests.proofs.encoding.clauses_at.Goals as goal
+use Rattle.olap_search_tests.proofs.encoding.clauses_at.Goals as goal
 
 -- the parts of a valid schema are one
 valid_parts : (s : Schema) (g : Graph) (cs : List Constraint) → g ≡ s.graph → cs ≡ s.constraints → IsValidSchema s

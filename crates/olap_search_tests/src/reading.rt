@@ -1,0 +1,12 @@
+// What the texts of several modules are read as.
+use olap_schema::{Schema, read_schema};
+use std::alloc::Global;
+use std::process::Abort;
+
+// The schema of a text.
+pub(crate) fn read(rt: &impl Abort, alloc: Global, text: &[u8]) -> Schema {
+    match read_schema(alloc, text) {
+        Ok(schema) => schema,
+        Err(_) => panic!(rt; "a schema"),
+    }
+}
