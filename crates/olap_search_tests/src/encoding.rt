@@ -1,5 +1,8 @@
 // How many clauses there are of a schema and a root, where nothing is asked but that it has a member.
 ghost use Rattle.olap_base.specs.Graph.{IsCategory};
+ghost use Rattle.olap_encoding.specs.Encoding.{IsProblem};
+ghost use Rattle.olap_encoding.specs.Formulas.{IsSpokenProblem};
+ghost use Rattle.olap_encoding.specs.Problems.{problem_of};
 ghost use Rattle.olap_schema.specs.Schemas.{schema_of};
 
 use crate::reading::read;
@@ -59,6 +62,15 @@ edge Country All
 ",
 ];
 
+// How many clauses the problem has.
+fn clause_count(rt: &impl Abort, alloc: Global, problem: &Problem) -> usize
+    requires problem { IsProblem (problem_of problem.now) }
+    requires spoken { IsSpokenProblem (problem_of problem.now) }
+{
+    let encoder = encode(alloc, problem).expect(rt, "memory");
+    encoder.into_parts().pool.len()
+}
+
 // How many clauses there are with this root.
 fn clauses_at(rt: &impl Abort, alloc: Global, schema: &Schema, root: CatId) -> usize
     requires { IsCategory (schema_of schema.now).graph root.0 }
@@ -76,8 +88,7 @@ fn clauses_at(rt: &impl Abort, alloc: Global, schema: &Schema, root: CatId) -> u
         firsts: candidates.firsts(),
         constants: candidates.texts(),
     };
-    let encoder = encode(alloc, &problem).expect(rt, "memory");
-    encoder.into_parts().pool.len()
+    clause_count(rt, alloc, &problem)
 }
 
 // The same of a schema's text and a category's name.

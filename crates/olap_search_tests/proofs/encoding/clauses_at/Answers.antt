@@ -26,8 +26,8 @@ of-requires c =
     let v = valid_parts (schema_of c.args.schema.now) g cs c.graph-graph.ensures t.list t.valid in
     can_be_named g cs c.args.root.0 Truth v.formulas tt (no_more_constants (with_graph g cs) Truth v refl refl)
 
-pub encode-requires-clause-spoken : goal.encode-requires-clause-spoken
-encode-requires-clause-spoken c =
+pub clause_count-requires-clause-spoken : goal.clause_count-requires-clause-spoken
+clause_count-requires-clause-spoken c =
     let g = c.graph-graph.result.now in
     let cs = map constraint_of c.constraints-constraints.result.now in
     let t = c.constraints-constraints.ensures in
