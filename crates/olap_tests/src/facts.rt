@@ -74,7 +74,7 @@ fn are_read(rt: &impl Abort, alloc: Global, graph: &Graph, instance: &Instance)
 fn handed_out(reader: &mut FactReader) -> Option<HandedOut>
     requires live { reader.old.live ≡ true }
 {
-    'count: for count in 0u64..10 {
+    'facts: for count in 0u64..10 {
         match reader.next() {
             Ok(Some(_)) => {}
             Ok(None) => return Some((count, None)),
