@@ -19,7 +19,7 @@ valid_parts : (s : Schema) (g : Graph) (cs : List Constraint) → g ≡ s.graph 
 valid_parts s g cs p q v = subst (λ t. IsValidSchema t) (λ i. record { graph = sym p i; constraints = sym q i }) v
 
 pub of-requires : goal.of-requires
-of-requires c =
+of-requires given c =
     let g = c.graph-graph.result.now in
     let cs = map constraint_of c.constraints-constraints.result.now in
     let t = c.constraints-constraints.ensures in
@@ -27,7 +27,7 @@ of-requires c =
     can_be_named g cs c.args.root.0 Truth v.formulas tt (no_more_constants (with_graph g cs) Truth v refl refl)
 
 pub clause_count-requires-clause-spoken : goal.clause_count-requires-clause-spoken
-clause_count-requires-clause-spoken c =
+clause_count-requires-clause-spoken given c =
     let g = c.graph-graph.result.now in
     let cs = map constraint_of c.constraints-constraints.result.now in
     let t = c.constraints-constraints.ensures in
