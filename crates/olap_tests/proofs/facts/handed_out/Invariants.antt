@@ -3,4 +3,4 @@ use Rattle.std.proofs.Common.{◌≡◌, true}
 use Rattle.olap_tests.proofs.facts.handed_out.Given as goal
 
 abbrev pub invariant-facts : goal.invariant-facts
-invariant-facts g l = l.reader.live ≡ true
+invariant-facts l = l.reader.live ≡ true
