@@ -4,7 +4,6 @@ use crate::running::{Files, NARROW, Outside, Pace, Row, check};
 use crate::samples::{CHAIN, CITY_VIEW, TWO_STORES, ZERO_SUM};
 use crate::texts::Piece::Text;
 use olap_run::Status;
-use std::test::Fail;
 
 const HELD: Files = &[
     ("S", &[Text(CHAIN)]),
@@ -190,9 +189,8 @@ const FAILING: &[(Outside, Row)] = &[
 ];
 
 #[test]
-fn faults_of_words_and_of_the_outside(rt: HostRuntime) -> Result<(), Fail> {
+fn faults_of_words_and_of_the_outside(rt: HostRuntime) {
     for (outside, row) in FAILING {
-        check(&rt, rt.alloc(), *outside, row, HELD)?;
+        check(&rt, rt.alloc(), *outside, row, HELD);
     }
-    Ok(())
 }

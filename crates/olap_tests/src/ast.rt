@@ -1,47 +1,57 @@
 // The calls that take memory, once each where there is enough.
-use olap_ast::{Formula, Op, Terms, constants, copy, numbers};
+use crate::reading::read;
+use olap_ast::{Constraint, Formula, Op, constants, copy, numbers};
 use olap_base::{CatId, Text};
 use std::alloc::Global;
-use std::test::Fail;
+use std::process::Abort;
 
-fn named(alloc: Global, category: u16, text: &[u8]) -> Result<Box<Formula>, Fail> {
-    let text = Text::from_bytes(alloc, text).map_err(|_| "memory")?;
-    Ok(Box::new(alloc, Formula::Equals(CatId(category), text))?)
+// A constraint with constants of the category 2 and one more, and numbers of the category 4 and one more.
+const SCHEMA: &[u8] = b"schema 2\n\
+category Store\ncategory City\ncategory State\ncategory Size number\ncategory Rank number\n\
+edge Store City\nedge City State\nedge State All\nedge Store Size\nedge Store Rank\nedge Size All\nedge Rank All\n\
+constraint Store: one(Store.City = \"b\", Store.City = \"a\" & Store.State = \"z\", Store.City = \"b\") & \
+(Store.Size < 9 -> Store.Size = -9 | Store.Rank <= 8)\n";
+
+fn are(texts: &[Text], wanted: &[&[u8]]) -> bool {
+    for (text, bytes) in texts.iter().zip(wanted) {
+        if text.bytes() != *bytes {
+            return false;
+        }
+    }
+    texts.len() == wanted.len()
 }
 
-// one(c.2 = "b", c.2 = "a" & c.3 = "z", c.2 = "b")
-fn sample(alloc: Global) -> Result<Formula, Fail> {
-    let both = Formula::And(named(alloc, 2, b"a")?, named(alloc, 3, b"z")?);
-    let last = Terms::More(named(alloc, 2, b"b")?, Box::new(alloc, Terms::End)?);
-    let middle = Terms::More(Box::new(alloc, both)?, Box::new(alloc, last)?);
-    Ok(Formula::One(Terms::More(named(alloc, 2, b"b")?, Box::new(alloc, middle)?)))
+fn has_constants(rt: &impl Abort, alloc: Global, f: &Formula, wanted: &[&[u8]]) -> bool {
+    let found = constants(alloc, f, CatId(2)).expect(rt, "memory");
+    are(found.items(), wanted)
 }
 
-// c.2 < 9 -> c.2 = -9 | c.3 <= 8
-fn comparisons(alloc: Global) -> Result<Formula, Fail> {
-    let less = Box::new(alloc, Formula::Compare(CatId(2), Op::Less, 9))?;
-    let equal = Box::new(alloc, Formula::Compare(CatId(2), Op::Equal, -9))?;
-    let other = Box::new(alloc, Formula::Compare(CatId(3), Op::AtMost, 8))?;
-    Ok(Formula::Implies(less, Box::new(alloc, Formula::Or(equal, other))?))
+fn has_numbers(rt: &impl Abort, alloc: Global, f: &Formula, wanted: &[i64]) -> bool {
+    let found = numbers(alloc, f, CatId(4)).expect(rt, "memory");
+    found.items() == wanted
+}
+
+// Its constants are distinct and ordered, and so are its numbers.
+fn is_listed(rt: &impl Abort, alloc: Global, f: &Formula) {
+    assert!(rt; has_constants(rt, alloc, f, &[b"a", b"b"]));
+    assert!(rt; has_numbers(rt, alloc, f, &[-9, 9]));
+}
+
+fn is_copied_and_listed(rt: &impl Abort, alloc: Global, constraints: &[Constraint]) {
+    let constraint = constraints.first().expect(rt, "a constraint");
+    let copied = copy(alloc, &constraint.formula).expect(rt, "memory");
+    is_listed(rt, alloc, &copied);
 }
 
 #[test]
-fn numbers_are_distinct_and_ascend(rt: HostRuntime) -> Result<(), Fail> {
-    let f = copy(rt.alloc(), &comparisons(rt.alloc())?).map_err(|_| "memory")?;
-    let found = numbers(rt.alloc(), &f, CatId(2)).map_err(|_| "memory")?;
-    assert_eq!(rt; found.items(), [-9, 9].as_slice());
-    assert!(rt; Op::Less.test(-9, 9) && !Op::Less.test(9, 9) && Op::AtMost.test(9, 9));
-    Ok(())
+fn a_formula_is_copied_and_listed(rt: HostRuntime) {
+    let schema = read(&rt, rt.alloc(), SCHEMA);
+    is_copied_and_listed(&rt, rt.alloc(), schema.constraints());
 }
 
 #[test]
-fn constants_are_distinct_and_ordered(rt: HostRuntime) -> Result<(), Fail> {
-    let f = sample(rt.alloc())?;
-    let copied = copy(rt.alloc(), &f).map_err(|_| "memory")?;
-    let texts = constants(rt.alloc(), &copied, CatId(2)).map_err(|_| "memory")?;
-    let texts = texts.items();
-    assert_eq!(rt; texts.len(), 2);
-    assert!(rt; texts[0].bytes() == b"a".as_slice());
-    assert!(rt; texts[1].bytes() == b"b".as_slice());
-    Ok(())
+fn numbers_are_compared(rt: HostRuntime) {
+    assert!(rt; Op::Less.test(-9, 9));
+    assert!(rt; !Op::Less.test(9, 9));
+    assert!(rt; Op::AtMost.test(9, 9));
 }

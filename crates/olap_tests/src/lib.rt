@@ -1,4 +1,4 @@
-//! Public calls of the crates below, on small inputs and with memory to spare.
+//! Public calls of the crates that read texts and check instances, on small inputs and with memory to spare.
 //!
 //! A module is named after the crate that it calls. Nothing is proved here of a crate beyond that the tests keep what
 //! its calls require; what is proved of it stands in the crate.
@@ -9,26 +9,14 @@ mod ast;
 #[cfg(test)]
 mod check;
 #[cfg(test)]
-mod clauses;
-#[cfg(test)]
-mod dimsat;
-#[cfg(test)]
-mod encoding;
-#[cfg(test)]
-mod eval;
-#[cfg(test)]
 mod facts;
 #[cfg(test)]
 mod graph;
 #[cfg(test)]
 mod instance;
 #[cfg(test)]
-mod plain;
-#[cfg(test)]
 mod reading;
 #[cfg(test)]
 mod records;
 #[cfg(test)]
 mod schema;
-#[cfg(test)]
-mod trail;

@@ -1,7 +1,7 @@
 // What the texts of several modules are read as: schemas, legal instances and stored views.
-ghost use Rattle.std.specs.Prelude.{◌≡◌, ◌<◌, ◌≤◌, All, length};
+ghost use Rattle.std.specs.Prelude.{◌≡◌, ◌<◌, All, length};
 ghost use Rattle.olap_ast.specs.Schema.{IsLegal};
-ghost use Rattle.olap_base.specs.Graph.{IsCategory, category_count};
+ghost use Rattle.olap_base.specs.Graph.{IsCategory};
 ghost use Rattle.olap_instance.specs.Made.{IsMadeFor};
 ghost use Rattle.olap_schema.specs.Schemas.{schema_of};
 ghost use Rattle.olap_view.specs.Seen.{views_of};
@@ -9,7 +9,7 @@ ghost use Rattle.olap_view.specs.Stores.{Fits, IsStore};
 
 use olap_base::{CatId, List, MemberId};
 use olap_check::check;
-use olap_instance::Instance;
+use olap_instance::{Instance, read_instance};
 use olap_legal::Legal;
 use olap_schema::Schema;
 use olap_schema_text::read_schema;
@@ -91,6 +91,13 @@ pub(crate) fn read(alloc: Global, rt: &impl Abort, text: &[u8]) -> Schema {
     }
 }
 
+// The instance of a text.
+pub(crate) fn instance_of(alloc: Global, rt: &impl Abort, schema: &Schema, text: &[u8]) -> Instance
+    ensures { IsMadeFor (schema_of schema.now).graph result }
+{
+    read_instance(alloc, schema.graph(), text).expect(rt, "an instance")
+}
+
 // The instance, if it is legal.
 pub(crate) fn legal(alloc: Global, rt: &impl Abort, schema: &Schema, instance: Instance) -> Legal
     requires { IsMadeFor (schema_of schema.now).graph instance }
@@ -114,16 +121,16 @@ pub(crate) fn view(category: u16, rows: Vec<Row>) -> View
     }
 }
 
-// The stored views of the states, the provinces and the cities.
+// The stored views of the states, the provinces and the cities, of an instance of the locations.
 pub(crate) fn stored(alloc: Global, rt: &impl Abort, schema: &Schema, instance: &Instance) -> Store
-    requires members { 18 ≤ length instance.now }
-    requires seven { category_count (schema_of schema.now).graph ≡ 7 }
     ensures store { IsStore (views_of result) }
     ensures fit { All Fits (views_of result) }
     ensures categories { All (λ v. IsCategory (schema_of schema.now).graph v.category) (views_of result) }
     ensures three { length result.views ≡ 3 }
     ensures at_members { All (λ v. All (λ r. r.member < length instance.now) v.rows) (views_of result) }
 {
+    assert!(rt; schema.graph().categories() == 7);
+    assert!(rt; instance.members() == 18);
     let states = vec![in alloc; YUCATAN].expect(rt, "memory");
     let provinces = vec![in alloc; ONTARIO].expect(rt, "memory");
     let cities = vec![in alloc; WASHINGTON, TORONTO, MERIDA].expect(rt, "memory");

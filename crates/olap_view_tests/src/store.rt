@@ -1,8 +1,8 @@
 // The text of stored views, read with its faults and printed again.
-use crate::reading::{MEMBERS, read};
-use olap_base::Text;
+use crate::reading::{MEMBERS, instance_of, read};
 use olap_generate::LOCATION;
-use olap_instance::read_instance;
+use olap_graph::Graph;
+use olap_instance::Instance;
 use olap_view::{StoreKind, StoreRefusal, print_store, read_store};
 use std::alloc::Global;
 use std::process::Abort;
@@ -40,27 +40,91 @@ edge H I
 edge I All
 ";
 
-// The text that is printed of the stored views that a text tells.
-fn printed_again(alloc: Global, rt: &impl Abort, text: &[u8]) -> Text {
-    let schema = read(alloc, rt, LOCATION);
-    let instance = read_instance(alloc, schema.graph(), MEMBERS).expect(rt, "an instance");
-    match read_store(alloc, schema.graph(), &instance, text) {
-        Ok(store) => print_store(alloc, schema.graph(), &instance, &store).expect(rt, "a text"),
-        Err(_) => panic!(rt; "stored views"),
-    }
+// The same in another order, with other numerals.
+const TURNED: &[u8] = b"category,member,count,sum,least,greatest
+State,,,,,
+Province,,,,,
+City,,,,,
+City,mx,1,+7,007,7
+City,to,3,3,-5,5
+Province,on,03,3,-5,5
+City,w,1,10,10,10
+State,yu,1,7,7,7";
+
+const HEADER: &[u8] = b"category,member,count,sum,least,greatest\n";
+
+// Texts, and what is printed of them.
+const PRINTED: [(&[u8], &[u8]); 3] = [(STORED, STORED), (TURNED, STORED), (HEADER, HEADER)];
+
+// A row of the greatest sum.
+const GREATEST: &[u8] = b"City,au,4294967295,39614081257132168796771975168,1,1\n";
+
+const WITH_THE_GREATEST: &[u8] = b"category,member,count,sum,least,greatest
+State,,,,,
+State,yu,1,7,7,7
+Province,,,,,
+Province,on,3,3,-5,5
+City,,,,,
+City,w,1,10,10,10
+City,to,3,3,-5,5
+City,au,4294967295,39614081257132168796771975168,1,1
+City,mx,1,7,7,7
+";
+
+// Records behind the nine, with their faults.
+const FAULTS: [(&[u8], StoreKind); 13] = [
+    (b"City,,,,,\n", StoreKind::DuplicateView),
+    (b"Region,east,1,1,1,1\n", StoreKind::NoView),
+    (b"City,tx,1,1,1,1\n", StoreKind::WrongCategory),
+    (b"City,zz,1,1,1,1\n", StoreKind::UnknownMember),
+    (b"City,au,0,0,0,0\n", StoreKind::BadNumber),
+    (b"City,w,1,1,1,1\n", StoreKind::DuplicateRow),
+    (b"Town,,,,,\n", StoreKind::UnknownCategory),
+    (b"City,au\n", StoreKind::FieldCount),
+    (b"City,au,+1,1,1,1\n", StoreKind::BadNumber),
+    (b"City,au,4294967296,1,1,1\n", StoreKind::BadNumber),
+    (
+        b"City,au,1,39614081257132168796771975169,1,1\n",
+        StoreKind::BadNumber,
+    ),
+    (b"City,au,,,,1\n", StoreKind::BadNumber),
+    (b"City,w,1,1,1,x\n", StoreKind::BadNumber),
+];
+
+const NINE_VIEWS: &[u8] = b"category,member,count,sum,least,greatest
+A,,,,,
+B,,,,,
+C,,,,,
+D,,,,,
+E,,,,,
+F,,,,,
+G,,,,,
+H,,,,,
+I,,,,,
+";
+
+// Whether this is printed of the stored views that a text tells.
+fn is_printed_as(
+    alloc: Global,
+    rt: &impl Abort,
+    graph: &Graph,
+    instance: &Instance,
+    text: &[u8],
+    wanted: &[u8],
+) -> bool {
+    let store = read_store(alloc, graph, instance, text).expect(rt, "stored views");
+    let printed = print_store(alloc, graph, instance, &store).expect(rt, "a text");
+    printed.bytes() == wanted
 }
 
 // The record and its fault, where the text has one.
 fn fault(
     alloc: Global,
-    rt: &impl Abort,
-    lines: &[u8],
-    members: &[u8],
+    graph: &Graph,
+    instance: &Instance,
     text: &[u8],
 ) -> Option<(u64, StoreKind)> {
-    let schema = read(alloc, rt, lines);
-    let instance = read_instance(alloc, schema.graph(), members).expect(rt, "an instance");
-    match read_store(alloc, schema.graph(), &instance, text) {
+    match read_store(alloc, graph, instance, text) {
         Err(StoreRefusal::Fault { at, kind }) => Some((at, kind)),
         _ => None,
     }
@@ -73,89 +137,72 @@ fn with(alloc: Global, rt: &impl Abort, record: &[u8]) -> Vec<u8> {
     text
 }
 
-#[test]
-fn stores_are_read_and_printed(rt: HostRuntime) {
-    let turned: &[u8] = b"category,member,count,sum,least,greatest
-State,,,,,
-Province,,,,,
-City,,,,,
-City,mx,1,+7,007,7
-City,to,3,3,-5,5
-Province,on,03,3,-5,5
-City,w,1,10,10,10
-State,yu,1,7,7,7";
-    let header: &[u8] = b"category,member,count,sum,least,greatest\n";
-    let cases: [(&[u8], &[u8]); 3] = [(STORED, STORED), (turned, STORED), (header, header)];
-    for (text, wanted) in cases {
-        let printed = printed_again(rt.alloc(), &rt, text);
-        assert!(rt; printed.bytes() == wanted);
+// Whether this is printed of the nine records and one more.
+fn is_printed_with(
+    alloc: Global,
+    rt: &impl Abort,
+    graph: &Graph,
+    instance: &Instance,
+    record: &[u8],
+    wanted: &[u8],
+) -> bool {
+    let text = with(alloc, rt, record);
+    is_printed_as(alloc, rt, graph, instance, &text, wanted)
+}
+
+fn are_printed(alloc: Global, rt: &impl Abort, graph: &Graph, instance: &Instance) {
+    for (text, wanted) in &PRINTED {
+        assert!(rt; is_printed_as(alloc, rt, graph, instance, text, wanted));
+    }
+    assert!(rt; is_printed_with(alloc, rt, graph, instance, GREATEST, WITH_THE_GREATEST));
+}
+
+// The fault where this record stands behind the nine.
+fn fault_with(
+    alloc: Global,
+    rt: &impl Abort,
+    graph: &Graph,
+    instance: &Instance,
+    record: &[u8],
+) -> Option<(u64, StoreKind)> {
+    let text = with(alloc, rt, record);
+    fault(alloc, graph, instance, &text)
+}
+
+fn are_faults(alloc: Global, rt: &impl Abort, graph: &Graph, instance: &Instance) {
+    for (record, kind) in &FAULTS {
+        assert!(rt; fault_with(alloc, rt, graph, instance, record) == Some((10, *kind)));
     }
 }
 
 #[test]
-fn the_greatest_sum(rt: HostRuntime) {
-    let alloc = rt.alloc();
-    let row: &[u8] = b"City,au,4294967295,39614081257132168796771975168,1,1\n";
-    let text = with(alloc, &rt, row);
-    let printed = printed_again(alloc, &rt, text.as_slice());
-    let wanted: &[u8] = b"category,member,count,sum,least,greatest
-State,,,,,
-State,yu,1,7,7,7
-Province,,,,,
-Province,on,3,3,-5,5
-City,,,,,
-City,w,1,10,10,10
-City,to,3,3,-5,5
-City,au,4294967295,39614081257132168796771975168,1,1
-City,mx,1,7,7,7
-";
-    assert!(rt; printed.bytes() == wanted);
+fn stores_are_read_and_printed_and_their_faults(rt: HostRuntime) {
+    let schema = read(rt.alloc(), &rt, LOCATION);
+    let instance = instance_of(rt.alloc(), &rt, &schema, MEMBERS);
+    are_printed(rt.alloc(), &rt, schema.graph(), &instance);
+    are_faults(rt.alloc(), &rt, schema.graph(), &instance);
 }
 
-#[test]
-fn faults(rt: HostRuntime) {
-    let alloc = rt.alloc();
-    let cases: [(&[u8], StoreKind); 13] = [
-        (b"City,,,,,\n", StoreKind::DuplicateView),
-        (b"Region,east,1,1,1,1\n", StoreKind::NoView),
-        (b"City,tx,1,1,1,1\n", StoreKind::WrongCategory),
-        (b"City,zz,1,1,1,1\n", StoreKind::UnknownMember),
-        (b"City,au,0,0,0,0\n", StoreKind::BadNumber),
-        (b"City,w,1,1,1,1\n", StoreKind::DuplicateRow),
-        (b"Town,,,,,\n", StoreKind::UnknownCategory),
-        (b"City,au\n", StoreKind::FieldCount),
-        (b"City,au,+1,1,1,1\n", StoreKind::BadNumber),
-        (b"City,au,4294967296,1,1,1\n", StoreKind::BadNumber),
-        (
-            b"City,au,1,39614081257132168796771975169,1,1\n",
-            StoreKind::BadNumber,
-        ),
-        (b"City,au,,,,1\n", StoreKind::BadNumber),
-        (b"City,w,1,1,1,x\n", StoreKind::BadNumber),
-    ];
-    for (record, kind) in cases {
-        let text = with(alloc, &rt, record);
-        assert!(rt; fault(alloc, &rt, LOCATION, MEMBERS, text.as_slice()) == Some((10, kind)));
+// Texts over nine categories, with their faults.
+const OTHER_FAULTS: [(&[u8], u64, StoreKind); 3] = [
+    (NINE_VIEWS, 10, StoreKind::TooManyViews),
+    (b"", 1, StoreKind::BadHeader),
+    (
+        b"member,count,sum,least,greatest\n",
+        1,
+        StoreKind::BadHeader,
+    ),
+];
+
+fn are_other_faults(alloc: Global, rt: &impl Abort, graph: &Graph, instance: &Instance) {
+    for (text, at, kind) in &OTHER_FAULTS {
+        assert!(rt; fault(alloc, graph, instance, text) == Some((*at, *kind)));
     }
 }
 
 #[test]
 fn faults_of_other_texts(rt: HostRuntime) {
-    let alloc = rt.alloc();
-    let members: &[u8] = b"id,category,name,parents\n";
-    let nine: &[u8] = b"category,member,count,sum,least,greatest
-A,,,,,
-B,,,,,
-C,,,,,
-D,,,,,
-E,,,,,
-F,,,,,
-G,,,,,
-H,,,,,
-I,,,,,
-";
-    assert!(rt; fault(alloc, &rt, NINE, members, nine) == Some((10, StoreKind::TooManyViews)));
-    assert!(rt; fault(alloc, &rt, NINE, members, b"") == Some((1, StoreKind::BadHeader)));
-    let other: &[u8] = b"member,count,sum,least,greatest\n";
-    assert!(rt; fault(alloc, &rt, NINE, members, other) == Some((1, StoreKind::BadHeader)));
+    let schema = read(rt.alloc(), &rt, NINE);
+    let instance = instance_of(rt.alloc(), &rt, &schema, b"id,category,name,parents\n");
+    are_other_faults(rt.alloc(), &rt, schema.graph(), &instance);
 }

@@ -2,5 +2,5 @@
 use Rattle.std.proofs.Common.{◌≡◌, true}
 use Rattle.olap_tests.proofs.facts.handed_out.Given as goal
 
-abbrev pub invariant-loop-count : goal.invariant-loop-count
-invariant-loop-count g l = l.reader.live ≡ true
+abbrev pub invariant-facts : goal.invariant-facts
+invariant-facts l = l.reader.live ≡ true

@@ -1,6 +1,6 @@
 -- The trail stays one of the graph.
 use Rattle.std.proofs.Common.{◌≡◌}
-use Rattle.olap_tests.proofs.trail.what_decisions_say.Given as goal
+use Rattle.olap_search_tests.proofs.trail.take_steps.Given as goal
 
 abbrev pub invariant-steps : goal.invariant-steps
 invariant-steps g l = l.trail.graph ≡ l.initial.trail.graph

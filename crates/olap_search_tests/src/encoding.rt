@@ -1,15 +1,18 @@
 // How many clauses there are of a schema and a root, where nothing is asked but that it has a member.
 ghost use Rattle.olap_base.specs.Graph.{IsCategory};
+ghost use Rattle.olap_encoding.specs.Encoding.{IsProblem};
+ghost use Rattle.olap_encoding.specs.Formulas.{IsSpokenProblem};
+ghost use Rattle.olap_encoding.specs.Problems.{problem_of};
 ghost use Rattle.olap_schema.specs.Schemas.{schema_of};
 
+use crate::reading::read;
 use olap_ast::Formula;
-use olap_base::{CatId, Memory};
+use olap_base::CatId;
 use olap_encoding::{Problem, encode};
 use olap_names::Candidates;
 use olap_schema::Schema;
-use olap_schema_text::read_schema;
 use std::alloc::Global;
-use std::test::Fail;
+use std::process::Abort;
 
 // The schema of `examples/location`, whose clauses are counted below. A line has what belongs together.
 const LOCATION: &[u8] = b"schema 1\n\
@@ -59,14 +62,23 @@ edge Country All
 ",
 ];
 
+// How many clauses the problem has.
+fn clause_count(rt: &impl Abort, alloc: Global, problem: &Problem) -> usize
+    requires problem { IsProblem (problem_of problem.now) }
+    requires spoken { IsSpokenProblem (problem_of problem.now) }
+{
+    let encoder = encode(alloc, problem).expect(rt, "memory");
+    encoder.into_parts().pool.len()
+}
+
 // How many clauses there are with this root.
-fn clauses_at(alloc: Global, schema: &Schema, root: CatId) -> Result<usize, Memory>
+fn clauses_at(rt: &impl Abort, alloc: Global, schema: &Schema, root: CatId) -> usize
     requires { IsCategory (schema_of schema.now).graph root.0 }
 {
     let question = Formula::True;
     let graph = schema.graph();
     let constraints = schema.constraints();
-    let candidates = Candidates::of(alloc, graph, constraints, &question)?;
+    let candidates = Candidates::of(alloc, graph, constraints, &question).expect(rt, "memory");
     let problem = Problem {
         graph,
         constraints,
@@ -76,31 +88,27 @@ fn clauses_at(alloc: Global, schema: &Schema, root: CatId) -> Result<usize, Memo
         firsts: candidates.firsts(),
         constants: candidates.texts(),
     };
-    let encoder = encode(alloc, &problem)?;
-    Ok(encoder.into_parts().pool.len())
+    clause_count(rt, alloc, &problem)
 }
 
 // The same of a schema's text and a category's name.
-fn clauses_of(alloc: Global, text: &[u8], root: &[u8]) -> Result<usize, Fail> {
-    let schema = read_schema(alloc, text).map_err(|_| "no schema")?;
-    let root = schema.graph().category(root).ok_or("no such category")?;
-    let clauses = clauses_at(alloc, &schema, root).map_err(|_| "no clauses")?;
-    Ok(clauses)
+fn clauses_of(rt: &impl Abort, alloc: Global, text: &[u8], root: &[u8]) -> usize {
+    let schema = read(rt, alloc, text);
+    let root = schema.graph().category(root).expect(rt, "a category");
+    clauses_at(rt, alloc, &schema, root)
 }
 
 #[test]
-fn clauses_of_locations(rt: HostRuntime) -> Result<(), Fail> {
+fn clauses_of_locations(rt: HostRuntime) {
     for (root, count) in &COUNTS {
-        assert_eq!(rt; clauses_of(rt.alloc(), LOCATION, root)?, *count);
+        assert!(rt; clauses_of(&rt, rt.alloc(), LOCATION, root) == *count);
     }
-    Ok(())
 }
 
 // Counted by hand. That no walk comes back is said of one edge, whichever way the categories were declared.
 #[test]
-fn clauses_of_rings(rt: HostRuntime) -> Result<(), Fail> {
+fn clauses_of_rings(rt: HostRuntime) {
     for ring in &RINGS {
-        assert_eq!(rt; clauses_of(rt.alloc(), ring, b"Store")?, 38);
+        assert!(rt; clauses_of(&rt, rt.alloc(), ring, b"Store") == 38);
     }
-    Ok(())
 }

@@ -11,7 +11,7 @@ use Rattle.olap_encoding.proofs.SpokenLemmas.{spoken}
 use Rattle.olap_names.specs.Names.{with_graph}
 use Rattle.olap_names.proofs.NameableLemmas.{can_be_named}
 use Rattle.olap_schema.specs.Schemas.{schema_of}
-use Rattle.olap_tests.proofs.encoding.clauses_at.Goals as goal
+use Rattle.olap_search_tests.proofs.encoding.clauses_at.Goals as goal
 
 -- the parts of a valid schema are one
 valid_parts : (s : Schema) (g : Graph) (cs : List Constraint) → g ≡ s.graph → cs ≡ s.constraints → IsValidSchema s
@@ -19,15 +19,15 @@ valid_parts : (s : Schema) (g : Graph) (cs : List Constraint) → g ≡ s.graph 
 valid_parts s g cs p q v = subst (λ t. IsValidSchema t) (λ i. record { graph = sym p i; constraints = sym q i }) v
 
 pub of-requires : goal.of-requires
-of-requires c =
+of-requires given c =
     let g = c.graph-graph.result.now in
     let cs = map constraint_of c.constraints-constraints.result.now in
     let t = c.constraints-constraints.ensures in
     let v = valid_parts (schema_of c.args.schema.now) g cs c.graph-graph.ensures t.list t.valid in
     can_be_named g cs c.args.root.0 Truth v.formulas tt (no_more_constants (with_graph g cs) Truth v refl refl)
 
-pub encode-requires-clause-spoken : goal.encode-requires-clause-spoken
-encode-requires-clause-spoken c =
+pub clause_count-requires-clause-spoken : goal.clause_count-requires-clause-spoken
+clause_count-requires-clause-spoken given c =
     let g = c.graph-graph.result.now in
     let cs = map constraint_of c.constraints-constraints.result.now in
     let t = c.constraints-constraints.ensures in
