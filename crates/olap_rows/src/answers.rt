@@ -5,6 +5,7 @@ use crate::texts::Piece::Text;
 use olap_run::Status;
 use std::alloc::Global;
 use std::process::Abort;
+use std::test::Fail;
 
 const TARGETS: [&str; 7] = [
     "Store", "City", "State", "Province", "Region", "Country", "All",
@@ -40,46 +41,41 @@ const PAIRS: [(&str, &str); 21] = [
     ("Country", "All"),
 ];
 
-/// The answer that isn't refused is a line of its plan and this roll-up.
-fn agrees(rt: &impl Abort, target: &str, answer: &str, rollup: &str) {
-    let (_, view) = answer.split_once("\n").expect(rt, "a plan");
-    assert_eq!(rt; view, rollup, "{target}");
-}
-
-/// What is told where a target has no plan.
-fn is_refused(rt: &impl Abort, status: Status, answer: &str) -> bool {
-    assert!(rt; status != Status::Refused || answer == "refused answer NotAnswerable\n");
-    status == Status::Refused
-}
-
 /// The answer for a target, behind the line of its plan, is the roll-up; or there is no plan.
-fn answers(rt: &impl Abort, alloc: Global, store: &str, target: &str) {
+fn agrees(rt: &impl Abort, alloc: Global, store: &str, target: &str) -> Result<(), Fail> {
     let own: Files = &[("V", &[Text(store)])];
-    let words = ["answer", "S", "I", "V", target];
-    let (status, answer) = run(rt, alloc, WIDE, &words, own, SOLD);
-    if !is_refused(rt, status, &answer) {
-        let words = ["rollup", "S", "I", "F", target];
-        let (_, rollup) = run(rt, alloc, WIDE, &words, SOLD, &[]);
-        agrees(rt, target, &answer, &rollup);
+    let (status, answer) = run(alloc, WIDE, &["answer", "S", "I", "V", target], own, SOLD)?;
+    if status == Status::Refused {
+        assert_eq!(rt; answer.as_str(), "refused answer NotAnswerable\n");
+        return Ok(());
     }
-}
-
-fn answers_each(rt: &impl Abort, alloc: Global, store: &str) {
-    for target in &TARGETS {
-        answers(rt, alloc, store, target);
-    }
+    let (_, rollup) = run(alloc, WIDE, &["rollup", "S", "I", "F", target], SOLD, &[])?;
+    let Some((_, view)) = answer.as_str().split_once("\n") else {
+        return Err("an answer without a plan".into());
+    };
+    assert_eq!(rt; view, rollup.as_str(), "{target}");
+    Ok(())
 }
 
 /// The two views answer each target as the facts do.
-fn answer(rt: &impl Abort, alloc: Global, first: &str, second: &str) {
-    let words = ["store", "S", "I", "F", first, second];
-    let (_, store) = run(rt, alloc, WIDE, &words, SOLD, &[]);
-    answers_each(rt, alloc, &store);
+fn answers(rt: &impl Abort, alloc: Global, first: &str, second: &str) -> Result<(), Fail> {
+    let (_, store) = run(
+        alloc,
+        WIDE,
+        &["store", "S", "I", "F", first, second],
+        SOLD,
+        &[],
+    )?;
+    for target in TARGETS {
+        agrees(rt, alloc, store.as_str(), target)?;
+    }
+    Ok(())
 }
 
 #[test]
-fn each_two_views_answer_as_the_facts_do(rt: HostRuntime) {
-    for (first, second) in &PAIRS {
-        answer(&rt, rt.alloc(), first, second);
+fn each_two_views_answer_as_the_facts_do(rt: HostRuntime) -> Result<(), Fail> {
+    for (first, second) in PAIRS {
+        answers(&rt, rt.alloc(), first, second)?;
     }
+    Ok(())
 }

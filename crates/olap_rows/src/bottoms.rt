@@ -3,6 +3,7 @@ use crate::running::Output::Just;
 use crate::running::{Row, Table, WIDE, check_all};
 use crate::texts::Piece::Text;
 use olap_run::Status;
+use std::test::Fail;
 
 /// Three bottom categories below one.
 const THREE: &str = "schema 1\n\
@@ -73,6 +74,6 @@ const TABLE: Table = Table {
 };
 
 #[test]
-fn of_three_and_four_bottoms(rt: HostRuntime) {
-    check_all(&rt, rt.alloc(), WIDE, &TABLE);
+fn of_three_and_four_bottoms(rt: HostRuntime) -> Result<(), Fail> {
+    check_all(&rt, rt.alloc(), WIDE, &TABLE)
 }

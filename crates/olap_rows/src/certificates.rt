@@ -4,6 +4,7 @@ use crate::running::{Row, Table, WIDE, check_all};
 use crate::samples::CHAIN;
 use crate::texts::Piece::Text;
 use olap_run::Status;
+use std::test::Fail;
 
 /// City's totals are those of the stores.
 const ACCEPTED: &str = "certificate 1\nbottom Store\nedge Store City\ndead Store\nquestion\n";
@@ -77,6 +78,6 @@ const TABLE: Table = Table {
 };
 
 #[test]
-fn verdicts_over_a_chain(rt: HostRuntime) {
-    check_all(&rt, rt.alloc(), WIDE, &TABLE);
+fn verdicts_over_a_chain(rt: HostRuntime) -> Result<(), Fail> {
+    check_all(&rt, rt.alloc(), WIDE, &TABLE)
 }

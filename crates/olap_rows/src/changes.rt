@@ -4,6 +4,7 @@ use crate::running::{NARROW, Row, Table, check_all};
 use crate::samples::{LOCATION, PLACES, STORED};
 use crate::texts::Piece::{Changed, Text};
 use olap_run::Status;
+use std::test::Fail;
 
 /// The stored views after the first sale in Austin.
 const AUSTIN_CAME: &str = "category,member,count,sum,least,greatest\n\
@@ -119,6 +120,6 @@ const TABLE: Table = Table {
 };
 
 #[test]
-fn facts_that_come_and_go(rt: HostRuntime) {
-    check_all(&rt, rt.alloc(), NARROW, &TABLE);
+fn facts_that_come_and_go(rt: HostRuntime) -> Result<(), Fail> {
+    check_all(&rt, rt.alloc(), NARROW, &TABLE)
 }

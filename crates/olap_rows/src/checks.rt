@@ -4,6 +4,7 @@ use crate::running::{NARROW, Row, Table, check_all};
 use crate::samples::{CYCLE, LOCATION, PLACES};
 use crate::texts::Piece::{Changed, Text};
 use olap_run::Status;
+use std::test::Fail;
 
 const TABLE: Table = Table {
     files: &[("S", &[Text(LOCATION)]), ("I", &[Text(PLACES)])],
@@ -94,6 +95,6 @@ const TABLE: Table = Table {
 };
 
 #[test]
-fn legal_instances_and_violations(rt: HostRuntime) {
-    check_all(&rt, rt.alloc(), NARROW, &TABLE);
+fn legal_instances_and_violations(rt: HostRuntime) -> Result<(), Fail> {
+    check_all(&rt, rt.alloc(), NARROW, &TABLE)
 }

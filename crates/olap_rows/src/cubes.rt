@@ -4,6 +4,7 @@ use crate::running::{Row, Table, WIDE, check_all};
 use crate::samples::{CHAIN, LOCATION, TWO_STORES};
 use crate::texts::Piece::Text;
 use olap_run::Status;
+use std::test::Fail;
 
 /// A store in Washington is in no state and in no province.
 const LOST: &str = "no\n\
@@ -122,6 +123,6 @@ const TABLE: Table = Table {
 };
 
 #[test]
-fn cubes_of_stores(rt: HostRuntime) {
-    check_all(&rt, rt.alloc(), WIDE, &TABLE);
+fn cubes_of_stores(rt: HostRuntime) -> Result<(), Fail> {
+    check_all(&rt, rt.alloc(), WIDE, &TABLE)
 }

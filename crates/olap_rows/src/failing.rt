@@ -1,12 +1,12 @@
 // Whichever call of the library or of the sink fails, nothing wrong is written.
-use crate::running::Output::Just;
-use crate::running::{Files, NARROW, Outside, READ_CHUNK, Row, WRITE_CHUNK, check, run};
+use crate::running::{Files, NARROW, Outside, READ_CHUNK, WRITE_CHUNK, run};
 use crate::samples::{LOCATION, PLACES, SALES, STORED};
 use crate::searches::TEN_LAYERS;
 use crate::texts::Piece::Text;
 use olap_run::Status;
 use std::alloc::Global;
 use std::process::Abort;
+use std::test::Fail;
 
 /// Command lines over these files, with their outputs.
 const HELD: Files = &[
@@ -56,77 +56,70 @@ fn calls_for(texts: &[&str]) -> u64 {
     calls
 }
 
-/// The status and the output of a command line over these files.
-fn is_told(
+/// Each call of the library for these files fails in turn: nothing is written. One call more never comes.
+fn over_failing_reads(
     rt: &impl Abort,
     alloc: Global,
-    outside: Outside,
     line: &[&str],
-    status: Status,
+    texts: &[&str],
     wanted: &str,
-) -> bool {
-    let (told, output) = run(rt, alloc, outside, line, HELD, &[]);
-    told == status && output.as_str() == wanted
-}
-
-/// Each call of the library for these files fails in turn: nothing is written. One call more never comes.
-fn over_failing_reads(rt: &impl Abort, alloc: Global, line: &[&str], texts: &[&str], wanted: &str) {
+) -> Result<(), Fail> {
     let calls = calls_for(texts);
     for call in 1..=calls {
-        assert!(rt; is_told(rt, alloc, failing_read(call), line, Status::ReadFault, ""));
+        let (status, output) = run(alloc, failing_read(call), line, HELD, &[])?;
+        assert_eq!(rt; status, Status::ReadFault);
+        assert_eq!(rt; output.as_str(), "");
     }
     let beyond = failing_read(calls.saturating_add(1));
-    assert!(rt; is_told(rt, alloc, beyond, line, Status::Yes, wanted));
-}
-
-/// The length of what is written where one call of the sink fails: a beginning of what is wanted.
-fn written_before(rt: &impl Abort, alloc: Global, call: u64, line: &[&str], wanted: &str) -> usize {
-    let (status, output) = run(rt, alloc, failing_write(call), line, HELD, &[]);
-    is_beginning(rt, status, &output, wanted);
-    output.len()
-}
-
-fn is_beginning(rt: &impl Abort, status: Status, output: &str, wanted: &str) {
-    assert_eq!(rt; status, Status::WriteFault);
-    assert!(rt; wanted.starts_with(output));
+    let (status, output) = run(alloc, beyond, line, HELD, &[])?;
+    assert_eq!(rt; status, Status::Yes);
+    assert_eq!(rt; output.as_str(), wanted);
+    Ok(())
 }
 
 /// Each call of the sink fails in turn: the pieces before it are written. One call more never comes.
-fn over_failing_writes(rt: &impl Abort, alloc: Global, line: &[&str], wanted: &str) {
+fn over_failing_writes(
+    rt: &impl Abort,
+    alloc: Global,
+    line: &[&str],
+    wanted: &str,
+) -> Result<(), Fail> {
     let calls = wanted.len().div_ceil(WRITE_CHUNK) as u64;
     let mut written = 0usize;
     for call in 1..=calls {
-        assert_eq!(rt; written_before(rt, alloc, call, line, wanted), written);
+        let (status, output) = run(alloc, failing_write(call), line, HELD, &[])?;
+        assert_eq!(rt; status, Status::WriteFault);
+        assert!(rt; wanted.starts_with(output.as_str()));
+        assert_eq!(rt; output.len(), written);
         written = written.saturating_add(WRITE_CHUNK);
     }
     let beyond = failing_write(calls.saturating_add(1));
-    assert!(rt; is_told(rt, alloc, beyond, line, Status::Yes, wanted));
+    let (status, output) = run(alloc, beyond, line, HELD, &[])?;
+    assert_eq!(rt; status, Status::Yes);
+    assert_eq!(rt; output.as_str(), wanted);
+    Ok(())
 }
 
 #[test]
-fn each_read_may_fail(rt: HostRuntime) {
+fn each_read_may_fail(rt: HostRuntime) -> Result<(), Fail> {
     let texts = [LOCATION, PLACES, STORED];
-    over_failing_reads(&rt, rt.alloc(), &ANSWER, &texts, ANSWERED);
+    over_failing_reads(&rt, rt.alloc(), &ANSWER, &texts, ANSWERED)?;
     let texts = [LOCATION, PLACES, SALES];
-    over_failing_reads(&rt, rt.alloc(), &ROLLUP, &texts, ROLLED_UP);
+    over_failing_reads(&rt, rt.alloc(), &ROLLUP, &texts, ROLLED_UP)
 }
 
 #[test]
-fn each_write_may_fail(rt: HostRuntime) {
-    over_failing_writes(&rt, rt.alloc(), &ANSWER, ANSWERED);
-    over_failing_writes(&rt, rt.alloc(), &ROLLUP, ROLLED_UP);
+fn each_write_may_fail(rt: HostRuntime) -> Result<(), Fail> {
+    over_failing_writes(&rt, rt.alloc(), &ANSWER, ANSWERED)?;
+    over_failing_writes(&rt, rt.alloc(), &ROLLUP, ROLLED_UP)
 }
 
 /// A question of a schema whose third read fails.
-const QUESTION: Row = Row {
-    name: "a question over a read that fails",
-    words: &["satisfiable", "S", "L0"],
-    files: &[],
-    status: Status::ReadFault,
-    output: Just(""),
-};
-
 #[test]
-fn a_question_over_a_read_that_fails(rt: HostRuntime) {
-    check(&rt, rt.alloc(), failing_read(3), &QUESTION, TEN_LAYERS);
+fn a_question_over_a_read_that_fails(rt: HostRuntime) -> Result<(), Fail> {
+    let words = ["satisfiable", "S", "L0"];
+    let (status, output) = run(rt.alloc(), failing_read(3), &words, TEN_LAYERS, &[])?;
+    assert_eq!(rt; status, Status::ReadFault);
+    assert_eq!(rt; output.as_str(), "");
+    Ok(())
 }

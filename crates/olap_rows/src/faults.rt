@@ -4,6 +4,7 @@ use crate::running::{Files, NARROW, Outside, Pace, Row, check};
 use crate::samples::{CHAIN, CITY_VIEW, TWO_STORES, ZERO_SUM};
 use crate::texts::Piece::Text;
 use olap_run::Status;
+use std::test::Fail;
 
 const HELD: Files = &[
     ("S", &[Text(CHAIN)]),
@@ -189,8 +190,9 @@ const FAILING: &[(Outside, Row)] = &[
 ];
 
 #[test]
-fn faults_of_words_and_of_the_outside(rt: HostRuntime) {
+fn faults_of_words_and_of_the_outside(rt: HostRuntime) -> Result<(), Fail> {
     for (outside, row) in FAILING {
-        check(&rt, rt.alloc(), *outside, row, HELD);
+        check(&rt, rt.alloc(), *outside, row, HELD)?;
     }
+    Ok(())
 }

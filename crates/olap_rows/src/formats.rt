@@ -4,6 +4,7 @@ use crate::running::{NARROW, Row, Table, check_all};
 use crate::samples::{CYCLE, LOCATION};
 use crate::texts::Piece::Text;
 use olap_run::Status;
+use std::test::Fail;
 
 /// A chain of the first version with a comment, and a constraint without brackets.
 const COMMENTED: &str =
@@ -93,6 +94,6 @@ const TABLE: Table = Table {
 };
 
 #[test]
-fn canonical_text_and_faults(rt: HostRuntime) {
-    check_all(&rt, rt.alloc(), NARROW, &TABLE);
+fn canonical_text_and_faults(rt: HostRuntime) -> Result<(), Fail> {
+    check_all(&rt, rt.alloc(), NARROW, &TABLE)
 }

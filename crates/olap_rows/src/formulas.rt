@@ -5,8 +5,7 @@ use crate::samples::{CHAIN, CYCLE, LOCATION};
 use crate::texts::Piece::{Numbered, Text, Times};
 use crate::texts::{Piece, joined};
 use olap_run::Status;
-use std::alloc::Global;
-use std::process::Abort;
+use std::test::Fail;
 
 /// Formulas that are too large, with what is told of each.
 const TOO_LARGE: &[(&[Piece], &str)] = &[
@@ -84,22 +83,19 @@ const TABLE: Table = Table {
     ],
 };
 
-/// Whether the formula of these pieces is refused so.
-fn is_refused(rt: &impl Abort, alloc: Global, pieces: &[Piece], output: &str) -> bool {
-    let formula = joined(rt, alloc, pieces);
-    let words = ["implies", "S", "City", formula.as_str()];
-    let (status, written) = run(rt, alloc, WIDE, &words, &[("S", &[Text(CHAIN)])], &[]);
-    status == Status::Refused && written.as_str() == output
-}
-
 #[test]
-fn formulas_that_are_too_large(rt: HostRuntime) {
+fn formulas_that_are_too_large(rt: HostRuntime) -> Result<(), Fail> {
     for (pieces, output) in TOO_LARGE {
-        assert!(rt; is_refused(&rt, rt.alloc(), pieces, output), "{output}");
+        let formula = joined(rt.alloc(), pieces)?;
+        let words = ["implies", "S", "City", formula.as_str()];
+        let (status, written) = run(rt.alloc(), WIDE, &words, &[("S", &[Text(CHAIN)])], &[])?;
+        assert_eq!(rt; status, Status::Refused, "{output}");
+        assert_eq!(rt; written.as_str(), *output);
     }
+    Ok(())
 }
 
 #[test]
-fn faults_of_form_and_names(rt: HostRuntime) {
-    check_all(&rt, rt.alloc(), WIDE, &TABLE);
+fn faults_of_form_and_names(rt: HostRuntime) -> Result<(), Fail> {
+    check_all(&rt, rt.alloc(), WIDE, &TABLE)
 }

@@ -2,6 +2,7 @@
 use crate::running::Output::Just;
 use crate::running::{Row, Table, WIDE, check_all};
 use olap_run::Status;
+use std::test::Fail;
 
 // 3 stores: s1 in c2 with -458, s2 in c3 with -421, s3 in c0 with -384. One state, one province and three cities have
 // a row; the regions m0 and n0 have -458 and -421. 1000 stores: each value from -500 to 499 once, and half of the stores
@@ -231,6 +232,6 @@ const TABLE: Table = Table {
 };
 
 #[test]
-fn inputs_are_made(rt: HostRuntime) {
-    check_all(&rt, rt.alloc(), WIDE, &TABLE);
+fn inputs_are_made(rt: HostRuntime) -> Result<(), Fail> {
+    check_all(&rt, rt.alloc(), WIDE, &TABLE)
 }

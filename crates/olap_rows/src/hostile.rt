@@ -5,6 +5,7 @@ use crate::running::{Opening, Row, Table, WIDE, check_all};
 use crate::samples::{CHAIN, CHAIN_PRINTED, TWO_STORES};
 use crate::texts::Piece::{Text, Times};
 use olap_run::Status;
+use std::test::Fail;
 
 /// A schema of stores in cities whose last line isn't ended.
 const UNENDED: &str = "schema 1\ncategory Store\ncategory City\nedge Store City\nedge City All";
@@ -206,6 +207,6 @@ const TABLE: Table = Table {
 };
 
 #[test]
-fn schemas_of_bad_faith(rt: HostRuntime) {
-    check_all(&rt, rt.alloc(), WIDE, &TABLE);
+fn schemas_of_bad_faith(rt: HostRuntime) -> Result<(), Fail> {
+    check_all(&rt, rt.alloc(), WIDE, &TABLE)
 }

@@ -3,6 +3,7 @@ use crate::running::Output::{Any, Just};
 use crate::running::{Row, Table, WIDE, check_all};
 use crate::texts::Piece::{Numbered, Text, Times};
 use olap_run::Status;
+use std::test::Fail;
 
 /// A category that reaches `All`, and then a constraint on it up to its formula.
 const START: &str = "schema 1\ncategory A\nedge A All\nconstraint A: ";
@@ -303,6 +304,6 @@ const TABLE: Table = Table {
 };
 
 #[test]
-fn limits_of_schemas(rt: HostRuntime) {
-    check_all(&rt, rt.alloc(), WIDE, &TABLE);
+fn limits_of_schemas(rt: HostRuntime) -> Result<(), Fail> {
+    check_all(&rt, rt.alloc(), WIDE, &TABLE)
 }

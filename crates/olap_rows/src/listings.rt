@@ -2,11 +2,9 @@
 use crate::running::Output::Just;
 use crate::running::{Row, Table, WIDE, check_all, run};
 use crate::samples::{CHAIN, CYCLE, LOCATION};
-use crate::texts::Piece;
 use crate::texts::Piece::{Numbered, Text, Times};
 use olap_run::Status;
-use std::alloc::Global;
-use std::process::Abort;
+use std::test::Fail;
 
 /// The four ways from a store to a country.
 const STORES: &str = "frozen 100100001 Store=\"nk\" City=\"Washington\" Country=\"USA\"\n\
@@ -143,40 +141,33 @@ const TABLE: Table = Table {
     ],
 };
 
-/// How long the list is that is written of this schema, where it ends so.
-fn length(rt: &impl Abort, alloc: Global, schema: &[Piece], end: &str) -> Option<usize> {
-    let words = ["frozen", "S", "S"];
-    let (status, output) = run(rt, alloc, WIDE, &words, &[("S", schema)], &[]);
-    (status == Status::Yes && output.as_str().ends_with(end)).then_some(output.len())
-}
-
-const ROOT: Piece = Text("schema 1\ncategory S\n");
-
-const PARENTS: Piece = Numbered(1, 12, PARENT);
-
-/// Twelve parents.
-const TWELVE: &[Piece] = &[ROOT, PARENTS];
-
-/// The same, of which one is forced.
-const ONE_FORCED: &[Piece] = &[
-    ROOT,
-    PARENTS,
-    Text(FORCED),
-    Text("constraint S: S = \""),
-    Times(255, "k"),
-    Text("\"\n"),
-];
-
 // Each set of the parents but the empty one; and with one parent forced each set of the others, in more than a million
 // bytes: each of these lines has 301 bytes beside those of the twelve parents, which are 8 or 9 for each that is there,
 // and each is there in half of the lines. The count has 11.
 #[test]
-fn as_many_as_are_listed(rt: HostRuntime) {
-    assert!(rt; length(&rt, rt.alloc(), TWELVE, "\ncount 4095\n").is_some());
-    assert!(rt; length(&rt, rt.alloc(), ONE_FORCED, "\ncount 4096\n") == Some(1_435_659));
+fn as_many_as_are_listed(rt: HostRuntime) -> Result<(), Fail> {
+    let words = ["frozen", "S", "S"];
+    let parents = [Text("schema 1\ncategory S\n"), Numbered(1, 12, PARENT)];
+    let (status, output) = run(rt.alloc(), WIDE, &words, &[("S", &parents)], &[])?;
+    assert_eq!(rt; status, Status::Yes);
+    assert!(rt; output.as_str().ends_with("\ncount 4095\n"));
+    let name = [Text("constraint S: S = \""), Times(255, "k"), Text("\"\n")];
+    let forced = [
+        parents[0],
+        parents[1],
+        Text(FORCED),
+        name[0],
+        name[1],
+        name[2],
+    ];
+    let (status, output) = run(rt.alloc(), WIDE, &words, &[("S", &forced)], &[])?;
+    assert_eq!(rt; status, Status::Yes);
+    assert!(rt; output.as_str().ends_with("\ncount 4096\n"));
+    assert_eq!(rt; output.len(), 1_435_659);
+    Ok(())
 }
 
 #[test]
-fn of_small_schemas(rt: HostRuntime) {
-    check_all(&rt, rt.alloc(), WIDE, &TABLE);
+fn of_small_schemas(rt: HostRuntime) -> Result<(), Fail> {
+    check_all(&rt, rt.alloc(), WIDE, &TABLE)
 }

@@ -4,6 +4,7 @@ use crate::running::{Row, Table, WIDE, check_all};
 use crate::samples::{CHAIN, TWO_STORES};
 use crate::texts::Piece::{Numbered, Text, Times};
 use olap_run::Status;
+use std::test::Fail;
 
 const MEMBERS: Table = Table {
     files: &[("S", &[Text(CHAIN)])],
@@ -86,11 +87,11 @@ const FACTS: Table = Table {
 };
 
 #[test]
-fn limits_of_instances(rt: HostRuntime) {
-    check_all(&rt, rt.alloc(), WIDE, &MEMBERS);
+fn limits_of_instances(rt: HostRuntime) -> Result<(), Fail> {
+    check_all(&rt, rt.alloc(), WIDE, &MEMBERS)
 }
 
 #[test]
-fn limits_of_facts(rt: HostRuntime) {
-    check_all(&rt, rt.alloc(), WIDE, &FACTS);
+fn limits_of_facts(rt: HostRuntime) -> Result<(), Fail> {
+    check_all(&rt, rt.alloc(), WIDE, &FACTS)
 }

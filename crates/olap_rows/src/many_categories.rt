@@ -4,6 +4,7 @@ use crate::running::{Row, Table, WIDE, check_all};
 use crate::texts::Piece;
 use crate::texts::Piece::{Numbered, Text, Times};
 use olap_run::Status;
+use std::test::Fail;
 
 /// A chain of 255 categories up to `All`.
 const CHAIN: &[Piece] = &[
@@ -79,6 +80,6 @@ const TABLE: Table = Table {
 };
 
 #[test]
-fn chains_of_255_categories(rt: HostRuntime) {
-    check_all(&rt, rt.alloc(), WIDE, &TABLE);
+fn chains_of_255_categories(rt: HostRuntime) -> Result<(), Fail> {
+    check_all(&rt, rt.alloc(), WIDE, &TABLE)
 }

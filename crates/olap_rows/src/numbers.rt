@@ -4,6 +4,7 @@ use crate::running::{NARROW, Row, Table, WIDE, check_all};
 use crate::samples::CHAIN;
 use crate::texts::Piece::{Changed, Text};
 use olap_run::Status;
+use std::test::Fail;
 
 /// Shops of a size below 10 or of 20, where no size is 9 or less. So a shop's size is 20.
 const SIZES: &str = "schema 2\n\
@@ -335,16 +336,16 @@ const INSTANCES: Table = Table {
 };
 
 #[test]
-fn questions_about_numbers(rt: HostRuntime) {
-    check_all(&rt, rt.alloc(), WIDE, &QUESTIONS);
+fn questions_about_numbers(rt: HostRuntime) -> Result<(), Fail> {
+    check_all(&rt, rt.alloc(), WIDE, &QUESTIONS)
 }
 
 #[test]
-fn schemas_with_numbers(rt: HostRuntime) {
-    check_all(&rt, rt.alloc(), NARROW, &TEXTS);
+fn schemas_with_numbers(rt: HostRuntime) -> Result<(), Fail> {
+    check_all(&rt, rt.alloc(), NARROW, &TEXTS)
 }
 
 #[test]
-fn instances_with_numbers(rt: HostRuntime) {
-    check_all(&rt, rt.alloc(), NARROW, &INSTANCES);
+fn instances_with_numbers(rt: HostRuntime) -> Result<(), Fail> {
+    check_all(&rt, rt.alloc(), NARROW, &INSTANCES)
 }

@@ -4,6 +4,7 @@ use crate::libraries::Content;
 use crate::running::{Opening, check_openings};
 use crate::samples::{CHAIN, CHAIN_PRINTED, CITY_VIEW, TWO_STORES, ZERO_SUM};
 use olap_run::Status;
+use std::test::Fail;
 
 /// The view of the city, stored.
 const CITY_STORED: &str = "category,member,count,sum,least,greatest\nCity,,,,,\nCity,c1,3,0,-5,5\n";
@@ -83,11 +84,11 @@ const OPENINGS: &[Opening] = &[
 ];
 
 #[test]
-fn each_file_is_opened_once(rt: HostRuntime) {
-    check_openings(&rt, rt.alloc(), OPENINGS);
+fn each_file_is_opened_once(rt: HostRuntime) -> Result<(), Fail> {
+    check_openings(&rt, rt.alloc(), OPENINGS)
 }
 
 #[test]
-fn files_without_an_end(rt: HostRuntime) {
-    check_openings(&rt, rt.alloc(), hostile::OPENINGS);
+fn files_without_an_end(rt: HostRuntime) -> Result<(), Fail> {
+    check_openings(&rt, rt.alloc(), hostile::OPENINGS)
 }

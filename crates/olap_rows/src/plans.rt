@@ -5,6 +5,7 @@ use crate::texts::Piece::{Numbered, Text};
 use olap_run::Status;
 use std::alloc::Global;
 use std::process::Abort;
+use std::test::Fail;
 
 /// How many views there are, with the answer.
 const PLANS: &[(u32, &str)] = &[
@@ -30,24 +31,25 @@ const PLANS: &[(u32, &str)] = &[
     ),
 ];
 
-/// Whether the answer over these files is as wanted.
-fn is_answered(
+/// The answer over these files is as wanted.
+fn answered(
     rt: &impl Abort,
     alloc: Global,
     [schema, instance, store]: [&[Piece]; 3],
     output: &str,
-) -> bool {
+) -> Result<(), Fail> {
     let files = [("S", schema), ("I", instance), ("V", store)];
-    let words = ["answer", "S", "I", "V", "T"];
-    let (status, answer) = run(rt, alloc, WIDE, &words, &files, &[]);
-    status == Status::Yes && answer.as_str() == output
+    let (status, answer) = run(alloc, WIDE, &["answer", "S", "I", "V", "T"], &files, &[])?;
+    assert_eq!(rt; status, Status::Yes, "{output}");
+    assert_eq!(rt; answer.as_str(), output);
+    Ok(())
 }
 
 // Parents P1, P2, .. of a category B, so many, of which each member of B has one; and T above them. A member t of T, a
 // member of each parent, and one of B below it. The views of the parents, where the fact at the i-th member of B has the
 // value i.
 #[test]
-fn plans_of_many_views(rt: HostRuntime) {
+fn plans_of_many_views(rt: HostRuntime) -> Result<(), Fail> {
     for (count, output) in PLANS {
         let schema = [
             Text("schema 1\ncategory B\ncategory T\nedge T All\n"),
@@ -64,7 +66,7 @@ fn plans_of_many_views(rt: HostRuntime) {
             Text("category,member,count,sum,least,greatest\n"),
             Numbered(1, *count, "P#,,,,,\nP#,p#,1,#,#,#\n"),
         ];
-        let files: [&[Piece]; 3] = [&schema, &instance, &store];
-        assert!(rt; is_answered(&rt, rt.alloc(), files, output), "{output}");
+        answered(&rt, rt.alloc(), [&schema, &instance, &store], output)?;
     }
+    Ok(())
 }

@@ -5,7 +5,7 @@ use crate::samples::{CHAIN, LOCATION};
 use crate::texts::Piece::Text;
 use olap_run::Status;
 use std::alloc::Global;
-use std::process::Abort;
+use std::test::Fail;
 
 /// Two categories without a bottom category.
 const LOOP: &str = "schema 1\ncategory A\ncategory B\nedge A B\nedge B A\nedge A All\n";
@@ -69,29 +69,39 @@ const TABLE: Table = Table {
 };
 
 #[test]
-fn proofs_of_cities(rt: HostRuntime) {
-    check_all(&rt, rt.alloc(), WIDE, &TABLE);
+fn proofs_of_cities(rt: HostRuntime) -> Result<(), Fail> {
+    check_all(&rt, rt.alloc(), WIDE, &TABLE)
 }
 
 /// The locations' schema.
 const LOCATIONS: Files = &[("S", &[Text(LOCATION)])];
 
-/// Whether `verify` accepts a text about countries from cities.
-fn is_accepted(rt: &impl Abort, alloc: Global, certificate: &str) -> bool {
+/// What `verify` says of a text about countries from cities.
+fn verdict(alloc: Global, certificate: &str) -> Result<(Status, String), Fail> {
     let own: Files = &[("P", &[Text(certificate)])];
-    let words = ["verify", "S", "P", "Country", "City"];
-    let (status, verdict) = run(rt, alloc, WIDE, &words, own, LOCATIONS);
-    status == Status::Yes && verdict.as_str() == "accepted\n"
+    run(
+        alloc,
+        WIDE,
+        &["verify", "S", "P", "Country", "City"],
+        own,
+        LOCATIONS,
+    )
 }
 
 /// What is written of countries from cities is accepted.
-fn is_proved(rt: &impl Abort, alloc: Global) -> bool {
-    let words = ["prove", "S", "Country", "City"];
-    let (status, certificate) = run(rt, alloc, WIDE, &words, LOCATIONS, &[]);
-    status == Status::Yes && is_accepted(rt, alloc, &certificate)
-}
-
 #[test]
-fn a_proof_is_accepted(rt: HostRuntime) {
-    assert!(rt; is_proved(&rt, rt.alloc()));
+fn a_proof_is_accepted(rt: HostRuntime) -> Result<(), Fail> {
+    let alloc = rt.alloc();
+    let (status, certificate) = run(
+        alloc,
+        WIDE,
+        &["prove", "S", "Country", "City"],
+        LOCATIONS,
+        &[],
+    )?;
+    assert_eq!(rt; status, Status::Yes);
+    let (status, verdict) = verdict(alloc, certificate.as_str())?;
+    assert_eq!(rt; status, Status::Yes);
+    assert_eq!(rt; verdict.as_str(), "accepted\n");
+    Ok(())
 }

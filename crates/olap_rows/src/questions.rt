@@ -4,6 +4,7 @@ use crate::running::{Row, Table, WIDE, check_all};
 use crate::samples::{CHAIN, CYCLE, LOCATION};
 use crate::texts::Piece::{Named, Text};
 use olap_run::Status;
+use std::test::Fail;
 
 /// Two categories that reach each other, and no bottom.
 const LOOP: &str = "schema 1\ncategory A\ncategory B\nedge A B\nedge B A\nedge A All\n";
@@ -232,11 +233,11 @@ const OVER_OTHERS: Table = Table {
 };
 
 #[test]
-fn of_locations(rt: HostRuntime) {
-    check_all(&rt, rt.alloc(), WIDE, &OVER_LOCATIONS);
+fn of_locations(rt: HostRuntime) -> Result<(), Fail> {
+    check_all(&rt, rt.alloc(), WIDE, &OVER_LOCATIONS)
 }
 
 #[test]
-fn of_cycles_and_chains(rt: HostRuntime) {
-    check_all(&rt, rt.alloc(), WIDE, &OVER_OTHERS);
+fn of_cycles_and_chains(rt: HostRuntime) -> Result<(), Fail> {
+    check_all(&rt, rt.alloc(), WIDE, &OVER_OTHERS)
 }

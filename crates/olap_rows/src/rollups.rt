@@ -4,6 +4,7 @@ use crate::running::{NARROW, Row, Table, check_all};
 use crate::samples::{CHAIN, CITY_VIEW, LOCATION, PLACES, SALES, TWO_STORES, ZERO_SUM};
 use crate::texts::Piece::Text;
 use olap_run::Status;
+use std::test::Fail;
 
 /// A store in a city whose id has a comma.
 const QUOTED: &str = "id,category,name,parents\ns,Store,s,\"a,b\"\n\"a,b\",City,x,all\n";
@@ -223,11 +224,11 @@ const OVER_LOCATIONS: Table = Table {
 };
 
 #[test]
-fn views_and_faults_over_a_chain(rt: HostRuntime) {
-    check_all(&rt, rt.alloc(), NARROW, &OVER_A_CHAIN);
+fn views_and_faults_over_a_chain(rt: HostRuntime) -> Result<(), Fail> {
+    check_all(&rt, rt.alloc(), NARROW, &OVER_A_CHAIN)
 }
 
 #[test]
-fn views_and_faults_over_locations(rt: HostRuntime) {
-    check_all(&rt, rt.alloc(), NARROW, &OVER_LOCATIONS);
+fn views_and_faults_over_locations(rt: HostRuntime) -> Result<(), Fail> {
+    check_all(&rt, rt.alloc(), NARROW, &OVER_LOCATIONS)
 }

@@ -3,10 +3,11 @@ ghost use Rattle.std.specs.Prelude.{◌<◌};
 
 use crate::libraries::{Content, Once};
 use crate::texts::{Piece, joined};
-use olap_base::{Library, List, MemLibrary, MemSink, SureLibrary, SureSink, Text};
+use olap_base::{List, MemLibrary, MemSink, SureLibrary, SureSink, Text};
 use olap_run::{Status, olap, olap_surely};
 use std::alloc::Global;
 use std::process::Abort;
+use std::test::Fail;
 
 /// Files by name.
 pub(crate) type Files<'a> = &'a [(&'a str, &'a [Piece<'a>])];
@@ -105,116 +106,93 @@ pub(crate) const NARROW: Outside = Outside {
 };
 
 /// The words of a command line.
-fn typed(rt: &impl Abort, alloc: Global, words: &[&str]) -> Vec<String> {
+fn typed(alloc: Global, words: &[&str]) -> Result<Vec<String>, Fail> {
     let mut all = Vec::new(alloc);
     for word in words {
-        let word = String::from_str(alloc, word).expect(rt, "memory");
-        all.push(word).expect(rt, "memory");
+        all.push(String::from_str(alloc, word)?)?;
     }
-    all
-}
-
-/// A file of these pieces, held in memory.
-fn file(rt: &impl Abort, alloc: Global, name: &str, pieces: &[Piece]) -> (Text, Text) {
-    let content = joined(rt, alloc, pieces);
-    (
-        Text::from_bytes(alloc, name.as_bytes()).expect(rt, "memory"),
-        Text::from_bytes(alloc, content.as_bytes()).expect(rt, "memory"),
-    )
+    Ok(all)
 }
 
 /// Adds the files, held in memory.
-fn hold(rt: &impl Abort, alloc: Global, files: Files, all: &mut Vec<(Text, Text)>) {
+fn hold(alloc: Global, files: Files, all: &mut Vec<(Text, Text)>) -> Result<(), Fail> {
     for (name, pieces) in files {
-        all.push(file(rt, alloc, name, pieces)).expect(rt, "memory");
+        let name = Text::from_bytes(alloc, name.as_bytes())?;
+        let content = joined(alloc, pieces)?;
+        all.push((name, Text::from_bytes(alloc, content.as_bytes())?))?;
     }
+    Ok(())
 }
 
 /// The files of a row and those of its table.
-fn held(rt: &impl Abort, alloc: Global, own: Files, shared: Files) -> List<(Text, Text)> {
+fn held(alloc: Global, own: Files, shared: Files) -> Result<List<(Text, Text)>, Fail> {
     let mut all = Vec::new(alloc);
-    hold(rt, alloc, own, &mut all);
-    hold(rt, alloc, shared, &mut all);
-    List::from_vec(all)
+    hold(alloc, own, &mut all)?;
+    hold(alloc, shared, &mut all)?;
+    Ok(List::from_vec(all))
 }
 
 /// A list of the one number, or of none.
-fn listed(rt: &impl Abort, alloc: Global, call: Option<u64>) -> List<u64> {
+fn listed(alloc: Global, call: Option<u64>) -> Result<List<u64>, Fail> {
     let mut calls = Vec::new(alloc);
     if let Some(call) = call {
-        calls.push(call).expect(rt, "memory");
+        calls.push(call)?;
     }
-    List::from_vec(calls)
-}
-
-/// The sink of an outside.
-fn sink_of(rt: &impl Abort, alloc: Global, outside: Outside) -> MemSink {
-    let fails = listed(rt, alloc, outside.failing_write);
-    MemSink::new(alloc, outside.room, outside.pace.writes(), fails).expect(rt, "memory")
-}
-
-/// The status of a command line over this library and this sink.
-fn status_of<L: Library>(
-    rt: &impl Abort,
-    alloc: Global,
-    words: &[&str],
-    library: &mut L,
-    sink: &mut MemSink,
-) -> Status {
-    let words = typed(rt, alloc, words);
-    olap(alloc, &words, library, sink)
-}
-
-/// What was written into the sink, which is a text.
-fn written(rt: &impl Abort, alloc: Global, sink: &MemSink) -> String {
-    let output = str::from_utf8(sink.contents()).ok().expect(rt, "a text");
-    String::from_str(alloc, output).expect(rt, "memory")
+    Ok(List::from_vec(calls))
 }
 
 /// The status and the output of a command line over files of its own, and over others.
 pub(crate) fn run(
-    rt: &impl Abort,
     alloc: Global,
     outside: Outside,
     words: &[&str],
     own: Files,
     shared: Files,
-) -> (Status, String) {
-    let fails = listed(rt, alloc, outside.failing_read);
-    let files = held(rt, alloc, own, shared);
-    let mut library = MemLibrary::new(files, outside.pace.reads(), fails);
-    let mut sink = sink_of(rt, alloc, outside);
-    let status = status_of(rt, alloc, words, &mut library, &mut sink);
-    (status, written(rt, alloc, &sink))
-}
-
-/// The output is the text of the pieces.
-fn is_made(rt: &impl Abort, alloc: Global, name: &str, written: &str, pieces: &[Piece]) {
-    let output = joined(rt, alloc, pieces);
-    assert_eq!(rt; written, output.as_str(), "{name}");
-}
-
-/// The status and the output are those of the row.
-fn compare(rt: &impl Abort, alloc: Global, row: &Row, status: Status, written: &str) {
-    assert_eq!(rt; status, row.status, "{}", row.name);
-    match row.output {
-        Output::Just(output) => assert_eq!(rt; written, output, "{}", row.name),
-        Output::Made(pieces) => is_made(rt, alloc, row.name, written, pieces),
-        Output::Any => {}
-    }
+) -> Result<(Status, String), Fail> {
+    let fails = listed(alloc, outside.failing_read)?;
+    let mut library = MemLibrary::new(held(alloc, own, shared)?, outside.pace.reads(), fails);
+    let fails = listed(alloc, outside.failing_write)?;
+    let mut sink = MemSink::new(alloc, outside.room, outside.pace.writes(), fails)?;
+    let words = typed(alloc, words)?;
+    let status = olap(alloc, &words, &mut library, &mut sink);
+    let Ok(output) = str::from_utf8(sink.contents()) else {
+        return Err("an output that is no text".into());
+    };
+    Ok((status, String::from_str(alloc, output)?))
 }
 
 /// Runs a row of a table over these files, and compares the status and the output.
-pub(crate) fn check(rt: &impl Abort, alloc: Global, outside: Outside, row: &Row, files: Files) {
-    let (status, written) = run(rt, alloc, outside, row.words, row.files, files);
-    compare(rt, alloc, row, status, written.as_str());
+pub(crate) fn check(
+    rt: &impl Abort,
+    alloc: Global,
+    outside: Outside,
+    row: &Row,
+    files: Files,
+) -> Result<(), Fail> {
+    let (status, written) = run(alloc, outside, row.words, row.files, files)?;
+    assert_eq!(rt; status, row.status, "{}", row.name);
+    match row.output {
+        Output::Just(output) => assert_eq!(rt; written.as_str(), output, "{}", row.name),
+        Output::Made(pieces) => {
+            let output = joined(alloc, pieces)?;
+            assert_eq!(rt; written.as_str(), output.as_str(), "{}", row.name);
+        }
+        Output::Any => {}
+    }
+    Ok(())
 }
 
 /// Runs each row of a table, and compares the status and the output.
-pub(crate) fn check_all(rt: &impl Abort, alloc: Global, outside: Outside, table: &Table) {
+pub(crate) fn check_all(
+    rt: &impl Abort,
+    alloc: Global,
+    outside: Outside,
+    table: &Table,
+) -> Result<(), Fail> {
     for row in table.rows {
-        check(rt, alloc, outside, row, table.files);
+        check(rt, alloc, outside, row, table.files)?;
     }
+    Ok(())
 }
 
 /// A command line over files of which each can be opened once, with the status and the output that it must have.
@@ -226,38 +204,31 @@ pub(crate) struct Opening<'a> {
     pub(crate) output: &'a str,
 }
 
-/// The status and the output are those of the row, and each file was opened.
-fn compare_opening(rt: &impl Abort, row: &Opening, status: Status, library: &Once, output: &[u8]) {
-    assert_eq!(rt; status, row.status, "{}", row.output);
-    assert_eq!(rt; output, row.output.as_bytes());
-    assert!(rt; library.is_used_up(), "{}", row.output);
-}
-
 /// Runs the command line, and compares the status and the output: the run opens all files, in their order, and asks
 /// for nothing else.
-fn check_opening(rt: &impl Abort, alloc: Global, row: &Opening) {
+fn check_opening(rt: &impl Abort, alloc: Global, row: &Opening) -> Result<(), Fail> {
     let mut library = Once::new(row.files);
-    let mut sink = MemSink::new(alloc, 1000, 4096, listed(rt, alloc, None)).expect(rt, "memory");
-    let status = status_of(rt, alloc, row.words, &mut library, &mut sink);
-    compare_opening(rt, row, status, &library, sink.contents());
+    let mut sink = MemSink::new(alloc, 1000, 4096, listed(alloc, None)?)?;
+    let words = typed(alloc, row.words)?;
+    let status = olap(alloc, &words, &mut library, &mut sink);
+    assert_eq!(rt; status, row.status, "{}", row.output);
+    assert_eq!(rt; sink.contents(), row.output.as_bytes());
+    assert!(rt; library.is_used_up(), "{}", row.output);
+    Ok(())
 }
 
 /// Each of the command lines opens its files so.
-pub(crate) fn check_openings(rt: &impl Abort, alloc: Global, rows: &[Opening]) {
+pub(crate) fn check_openings(rt: &impl Abort, alloc: Global, rows: &[Opening]) -> Result<(), Fail> {
     for row in rows {
-        check_opening(rt, alloc, row);
+        check_opening(rt, alloc, row)?;
     }
+    Ok(())
 }
 
 /// The status of a command line over files of which none is missing, and a sink that takes all.
-pub(crate) fn status_surely(
-    rt: &impl Abort,
-    alloc: Global,
-    words: &[&str],
-    files: Files,
-) -> Status {
-    let mut library = SureLibrary::new(held(rt, alloc, files, &[]), READ_CHUNK);
+pub(crate) fn status_surely(alloc: Global, words: &[&str], files: Files) -> Result<Status, Fail> {
+    let mut library = SureLibrary::new(held(alloc, files, &[])?, READ_CHUNK);
     let mut sink = SureSink::new();
-    let words = typed(rt, alloc, words);
-    olap_surely(alloc, &words, &mut library, &mut sink)
+    let words = typed(alloc, words)?;
+    Ok(olap_surely(alloc, &words, &mut library, &mut sink))
 }

@@ -3,6 +3,7 @@ use crate::running::Output::Just;
 use crate::running::{Files, Row, Table, WIDE, check_all};
 use crate::texts::Piece::{Numbered, Text};
 use olap_run::Status;
+use std::test::Fail;
 
 /// Ten layers of two ways each, whose last has no way upwards.
 pub(crate) const TEN_LAYERS: Files = &[(
@@ -97,6 +98,6 @@ const TABLE: Table = Table {
 };
 
 #[test]
-fn of_many_choices(rt: HostRuntime) {
-    check_all(&rt, rt.alloc(), WIDE, &TABLE);
+fn of_many_choices(rt: HostRuntime) -> Result<(), Fail> {
+    check_all(&rt, rt.alloc(), WIDE, &TABLE)
 }

@@ -4,6 +4,7 @@ use crate::running::{Row, Table, WIDE, check_all};
 use crate::samples::{LOCATION, PLACES, SALES, STORED};
 use crate::texts::Piece::Text;
 use olap_run::Status;
+use std::test::Fail;
 
 /// The view of the cities.
 const CITIES: &str = "category,member,count,sum,least,greatest\n\
@@ -161,6 +162,6 @@ const TABLE: Table = Table {
 };
 
 #[test]
-fn views_are_stored_and_answered(rt: HostRuntime) {
-    check_all(&rt, rt.alloc(), WIDE, &TABLE);
+fn views_are_stored_and_answered(rt: HostRuntime) -> Result<(), Fail> {
+    check_all(&rt, rt.alloc(), WIDE, &TABLE)
 }

@@ -3,6 +3,7 @@ use crate::running::{Files, status_surely};
 use crate::samples::{CHAIN, TWO_STORES};
 use crate::texts::Piece::Text;
 use olap_run::Status;
+use std::test::Fail;
 
 const HELD: Files = &[
     ("S", &[Text(CHAIN)]),
@@ -23,8 +24,9 @@ const ROWS: &[(&[&str], Status)] = &[
 ];
 
 #[test]
-fn answers_without_a_fault(rt: HostRuntime) {
+fn answers_without_a_fault(rt: HostRuntime) -> Result<(), Fail> {
     for (words, wanted) in ROWS {
-        assert_eq!(rt; status_surely(&rt, rt.alloc(), words, HELD), *wanted);
+        assert_eq!(rt; status_surely(rt.alloc(), words, HELD)?, *wanted);
     }
+    Ok(())
 }

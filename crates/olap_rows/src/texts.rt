@@ -1,6 +1,6 @@
 // Texts that are made of pieces.
 use std::alloc::Global;
-use std::process::Abort;
+use std::test::Fail;
 
 /// A piece of a text.
 #[derive(Clone, Copy)]
@@ -18,60 +18,70 @@ pub(crate) enum Piece<'a> {
 }
 
 /// Adds the pattern, with what stands for `#` and for `@`.
-fn fill(rt: &impl Abort, text: &mut String, pattern: &str, this: &str, next: &str) {
+fn fill(text: &mut String, pattern: &str, this: &str, next: &str) -> Result<(), Fail> {
     for sign in pattern.chars() {
         match sign {
-            '#' => text.push_str(this).expect(rt, "memory"),
-            '@' => text.push_str(next).expect(rt, "memory"),
-            _ => text.push(sign).expect(rt, "memory"),
+            '#' => text.push_str(this)?,
+            '@' => text.push_str(next)?,
+            _ => text.push(sign)?,
         }
     }
+    Ok(())
 }
 
-/// Adds the pattern for the number.
-fn number(rt: &impl Abort, alloc: Global, text: &mut String, number: u32, pattern: &str) {
-    let next = number.saturating_add(1);
-    let this = format!(in alloc; "{number}").expect(rt, "memory");
-    let next = format!(in alloc; "{next}").expect(rt, "memory");
-    fill(rt, text, pattern, &this, &next);
+/// Adds the pattern for each of the numbers.
+fn number(
+    alloc: Global,
+    text: &mut String,
+    first: u32,
+    last: u32,
+    pattern: &str,
+) -> Result<(), Fail> {
+    for number in first..=last {
+        let next = number.saturating_add(1);
+        let this = format!(in alloc; "{number}")?;
+        let next = format!(in alloc; "{next}")?;
+        fill(text, pattern, &this, &next)?;
+    }
+    Ok(())
 }
 
 /// Adds the text with the first place of the old words changed.
-fn change(rt: &impl Abort, text: &mut String, whole: &str, old: &str, new: &str) {
-    let (before, after) = whole.split_once(old).expect(rt, "such words");
-    text.push_str(before).expect(rt, "memory");
-    text.push_str(new).expect(rt, "memory");
-    text.push_str(after).expect(rt, "memory");
+fn change(text: &mut String, whole: &str, old: &str, new: &str) -> Result<(), Fail> {
+    let Some((before, after)) = whole.split_once(old) else {
+        return Err("no such words".into());
+    };
+    text.push_str(before)?;
+    text.push_str(new)?;
+    text.push_str(after)?;
+    Ok(())
 }
 
 /// Adds a piece.
-fn add(rt: &impl Abort, alloc: Global, text: &mut String, piece: &Piece) {
+fn add(alloc: Global, text: &mut String, piece: &Piece) -> Result<(), Fail> {
     match piece {
-        Piece::Text(part) => text.push_str(part).expect(rt, "memory"),
+        Piece::Text(part) => text.push_str(part)?,
         Piece::Times(times, part) => {
             for _ in 0..*times {
-                text.push_str(part).expect(rt, "memory");
+                text.push_str(part)?;
             }
         }
-        Piece::Numbered(first, last, pattern) => {
-            for this in *first..=*last {
-                number(rt, alloc, text, this, pattern);
-            }
-        }
+        Piece::Numbered(first, last, pattern) => number(alloc, text, *first, *last, pattern)?,
         Piece::Named(names, pattern) => {
             for name in *names {
-                fill(rt, text, pattern, name, "");
+                fill(text, pattern, name, "")?;
             }
         }
-        Piece::Changed(whole, old, new) => change(rt, text, whole, old, new),
+        Piece::Changed(whole, old, new) => change(text, whole, old, new)?,
     }
+    Ok(())
 }
 
 /// The text of these pieces.
-pub(crate) fn joined(rt: &impl Abort, alloc: Global, pieces: &[Piece]) -> String {
+pub(crate) fn joined(alloc: Global, pieces: &[Piece]) -> Result<String, Fail> {
     let mut text = String::new(alloc);
     for piece in pieces {
-        add(rt, alloc, &mut text, piece);
+        add(alloc, &mut text, piece)?;
     }
-    text
+    Ok(text)
 }
