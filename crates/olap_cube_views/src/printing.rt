@@ -73,7 +73,8 @@ fn print_row(
 fn print(alloc: Global, instances: &[&Instance], view: &CubeView) -> Result<Vec<u8>, Memory>
     requires few { length instances.now ≤ most_dimensions }
     requires at_members { All (λ r. AreMembers (instances_of instances.now) (members_of r.members)) view.now.rows }
-    ensures { IfOk result (λ bytes. bytes.items ≡ cube_view_text (instances_of instances.now) (cube_view_of view.now)) }
+    ensures { IfOk result
+        (λ bytes. bytes.items ≡ cube_view_text (instances_of instances.now) (cube_view_of view.now)) }
 {
     let mut out = Printer::new(alloc, instances.len() + 4);
     print_header(&mut out, instances.len())?;
@@ -87,7 +88,8 @@ fn print(alloc: Global, instances: &[&Instance], view: &CubeView) -> Result<Vec<
 fn text(alloc: Global, instances: &[&Instance], view: &CubeView) -> Result<Text, Memory>
     requires few { length instances.now ≤ most_dimensions }
     requires at_members { All (λ r. AreMembers (instances_of instances.now) (members_of r.members)) view.now.rows }
-    ensures text { IfOk result (λ text. text ≡ cube_view_text (instances_of instances.now) (cube_view_of view.now)) }
+    ensures text { IfOk result
+        (λ text. text ≡ cube_view_text (instances_of instances.now) (cube_view_of view.now)) }
     ensures reads { IfOk result (λ text.
         records_of text ≡ records_of_cube_view (instances_of instances.now) (cube_view_of view.now)) }
 {
@@ -95,13 +97,14 @@ fn text(alloc: Global, instances: &[&Instance], view: &CubeView) -> Result<Text,
 }
 
 /// The text of a view: the header `m1,..,mK,count,sum,least,greatest` for K dimensions, and a record for each row, with
-/// the members' ids and the four numbers in decimal. Its records read back as the header and these fields. `Memory`: out
-/// of memory.
+/// the members' ids and the four numbers in decimal. Its records read back as the header and these fields. `Memory`:
+/// out of memory.
 pub fn print_cube_view(alloc: Global, legals: &Legals, view: &CubeView) -> Result<Text, Memory>
     requires at_members { All (λ r. AreMembers legals.now (members_of r.members)) view.now.rows }
 
     ensures text { IfOk result (λ text. text ≡ cube_view_text legals.now (cube_view_of view.now)) }
-    ensures reads { IfOk result (λ text. records_of text ≡ records_of_cube_view legals.now (cube_view_of view.now)) }
+    ensures reads { IfOk result
+        (λ text. records_of text ≡ records_of_cube_view legals.now (cube_view_of view.now)) }
 {
     let instances = legals.instances(alloc)?;
     text(alloc, &instances, view)
@@ -115,7 +118,8 @@ pub fn print_rolled_up(
 ) -> Result<Text, Memory>
     requires at_members { All (λ r. AreMembers (instances_in columns.now) (members_of r.members)) view.now.rows }
 
-    ensures text { IfOk result (λ text. text ≡ cube_view_text (instances_in columns.now) (cube_view_of view.now)) }
+    ensures text { IfOk result
+        (λ text. text ≡ cube_view_text (instances_in columns.now) (cube_view_of view.now)) }
     ensures reads { IfOk result (λ text.
         records_of text ≡ records_of_cube_view (instances_in columns.now) (cube_view_of view.now)) }
 {

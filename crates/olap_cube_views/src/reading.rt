@@ -218,9 +218,11 @@ pub fn read_cube_facts(
         (λ f. cube_facts_read (graphs_of graphs.now) legals.now (records_of text.now) ≡ Ok (cube_facts_of f))
         (λ e. IsCubeRefusedBy e (cube_facts_read (graphs_of graphs.now) legals.now (records_of text.now))) }
 
-    ensures members { IfOk result (λ f. All (λ q. AreMembers legals.now (members_of q.members)) f.rows) }
+    ensures members { IfOk result
+        (λ f. All (λ q. AreMembers legals.now (members_of q.members)) f.rows) }
     ensures few { IfOk result (λ f. length f.rows ≤ most_listed_facts) }
-    ensures table { IfOk result (λ f. IsCubeFactTable (graphs_of graphs.now) legals.now (cube_facts_of f)) }
+    ensures table { IfOk result
+        (λ f. IsCubeFactTable (graphs_of graphs.now) legals.now (cube_facts_of f)) }
 {
     let instances = legals.instances(alloc)?;
     read(alloc, graphs, &instances, text)

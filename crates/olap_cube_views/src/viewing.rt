@@ -41,8 +41,8 @@ fn view(alloc: Global, target: &[CatId], rows: Vec<CubeRow>) -> Result<CubeView,
 /// members reach, in file order of the first dimension's members, then of the second's, and so on, with the count, sum,
 /// least and greatest of those facts' values.
 ///
-/// It takes four bytes for each member of the instances, and memory for each row; a fact takes a look at a list for each
-/// dimension and a look-up among the rows. `Memory`: out of memory.
+/// It takes four bytes for each member of the instances, and memory for each row; a fact takes a look at a list for
+/// each dimension and a look-up among the rows. `Memory`: out of memory.
 pub fn cube_direct(
     alloc: Global,
     legals: &Legals,
@@ -55,7 +55,8 @@ pub fn cube_direct(
 
     ensures view { IfOk result
         (λ v. cube_view_of v ≡ cube_direct_view legals.now (cube_facts_of facts.now) (ids target.now)) }
-    ensures members { IfOk result (λ v. All (λ r. AreMembers legals.now (members_of r.members)) v.rows) }
+    ensures members { IfOk result
+        (λ v. All (λ r. AreMembers legals.now (members_of r.members)) v.rows) }
 {
     let mut tally = CubeTally::new(alloc, columns(alloc, legals, target)?);
     'facts: for fact in facts.rows.items() {
@@ -128,7 +129,7 @@ fn rolled_up(
 /// The direct view of the columns' categories from a text of facts, or the text's first fault, which is that of
 /// `read_cube_facts`. The graphs are those of the dimensions, in order.
 ///
-/// Each fact is read once and added, and no list of facts is kept. It takes memory for each row. `Memory`: want of
+/// Each fact is read once and added, and no list of facts is kept. It takes memory for each row. `Memory`: out of
 /// memory.
 pub fn cube_roll_up(
     alloc: Global,
