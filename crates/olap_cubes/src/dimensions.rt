@@ -117,7 +117,8 @@ pub(crate) fn columns_in<L: Library>(
     requires target { length target.now ≡ length (schemas_of cube.now) }
     ensures step { FileStep L.Library lib.old lib.new
         (legal_files 1 [] (schemas_of cube.now) (texts files.now)) instances_in result }
-    ensures made { IfOk result (λ columns. AreMadeFor (graphs_of (schemas_of cube.now)) (instances_in columns)) }
+    ensures made { IfOk result
+        (λ columns. AreMadeFor (graphs_of (schemas_of cube.now)) (instances_in columns)) }
     ensures categories { IfOk result (λ columns. categories_in columns ≡ ids target.now) }
 {
     let mut columns = TargetColumns::new(alloc);

@@ -50,9 +50,10 @@ fn rolled_up(
     text: &[u8],
 ) -> Result<CubeView, FactRefusal>
     requires made { AreMadeFor (graphs_of (schemas_of cube.now)) (instances_in columns.now) }
-    ensures view { IfOk result (λ v. IsCubeRolledUp (graphs_of (schemas_of cube.now)) (instances_in columns.now)
-        (records_of text.now) (categories_in columns.now) (cube_view_of v)) }
-    ensures members { IfOk result (λ v. All (λ r. AreMembers (instances_in columns.now) (members_of r.members)) v.rows) }
+    ensures view { IfOk result (λ v. IsCubeRolledUp (graphs_of (schemas_of cube.now))
+        (instances_in columns.now) (records_of text.now) (categories_in columns.now) (cube_view_of v)) }
+    ensures members { IfOk result
+        (λ v. All (λ r. AreMembers (instances_in columns.now) (members_of r.members)) v.rows) }
     ensures err { IfErr result (λ e. IsCubeRefusedBy e
         (cube_facts_read (graphs_of (schemas_of cube.now)) (instances_in columns.now) (records_of text.now))) }
 {
@@ -74,7 +75,8 @@ fn view_in<L: Library>(
         (categories_in columns.now) file.now (cube_view_of v))
         (λ stop. FileStep L.Library lib.old lib.new
         (cube_facts_file (schemas_of cube.now) (instances_in columns.now) file.now) (λ facts. facts) (Err stop)) }
-    ensures members { IfOk result (λ v. All (λ r. AreMembers (instances_in columns.now) (members_of r.members)) v.rows) }
+    ensures members { IfOk result
+        (λ v. All (λ r. AreMembers (instances_in columns.now) (members_of r.members)) v.rows) }
 {
     let Some(text) = read_file(alloc, file, lib)? else {
         return Err(refuse_long(alloc, "facts"));
