@@ -50,7 +50,8 @@ fn print_row(
     requires width { out.old.width ≡ length instances.now + 4 }
     requires members { AreMembers (instances_of instances.now) (members_of row.now.members) }
     ensures text { OnOk result (out.new.text
-        ≡ out.old.text ++ text_of_row (fields_in (instances_of instances.now) (cube_row_of row.now))) }
+        ≡ out.old.text
+        ++ text_of_row (fields_in (instances_of instances.now) (cube_row_of row.now))) }
     ensures width { out.new.width ≡ out.old.width }
 {
     let mut count = Buffer::new();
@@ -72,7 +73,8 @@ fn print_row(
 /// The bytes of the text of a view on these instances.
 fn print(alloc: Global, instances: &[&Instance], view: &CubeView) -> Result<Vec<u8>, Memory>
     requires few { length instances.now ≤ most_dimensions }
-    requires at_members { All (λ r. AreMembers (instances_of instances.now) (members_of r.members)) view.now.rows }
+    requires at_members { All (λ r.
+        AreMembers (instances_of instances.now) (members_of r.members)) view.now.rows }
     ensures { IfOk result
         (λ bytes. bytes.items ≡ cube_view_text (instances_of instances.now) (cube_view_of view.now)) }
 {
@@ -87,7 +89,8 @@ fn print(alloc: Global, instances: &[&Instance], view: &CubeView) -> Result<Vec<
 /// The text of a view on these instances.
 fn text(alloc: Global, instances: &[&Instance], view: &CubeView) -> Result<Text, Memory>
     requires few { length instances.now ≤ most_dimensions }
-    requires at_members { All (λ r. AreMembers (instances_of instances.now) (members_of r.members)) view.now.rows }
+    requires at_members { All (λ r.
+        AreMembers (instances_of instances.now) (members_of r.members)) view.now.rows }
     ensures text { IfOk result
         (λ text. text ≡ cube_view_text (instances_of instances.now) (cube_view_of view.now)) }
     ensures reads { IfOk result (λ text.
@@ -116,7 +119,8 @@ pub fn print_rolled_up(
     columns: &TargetColumns,
     view: &CubeView,
 ) -> Result<Text, Memory>
-    requires at_members { All (λ r. AreMembers (instances_in columns.now) (members_of r.members)) view.now.rows }
+    requires at_members { All (λ r.
+        AreMembers (instances_in columns.now) (members_of r.members)) view.now.rows }
 
     ensures text { IfOk result
         (λ text. text ≡ cube_view_text (instances_in columns.now) (cube_view_of view.now)) }

@@ -66,8 +66,8 @@ fn key(columns: &[Column], members: &[MemberId]) -> Option<Key>
     requires few { length columns.now ≤ most_dimensions }
     requires members { AreMembers (instances_in columns.now) (members_of members.now) }
     ensures some { IfSome result (λ q. (y : Items ℕ)
-        × IsTupleAncestor (instances_in columns.now) (members_of members.now) (categories_in columns.now) y
-        × (q ≡ key_of y)) }
+        × IsTupleAncestor (instances_in columns.now) (members_of members.now)
+        (categories_in columns.now) y × (q ≡ key_of y)) }
     ensures none { IsNone result
         → ReachesNone (instances_in columns.now) (members_of members.now) (categories_in columns.now) }
 {
@@ -87,7 +87,8 @@ fn join(summaries: &mut BTreeMap<Key, Summary>, key: Key, summary: Summary) -> R
     requires there { IfSome (option_map summary_of (get key_cmp summaries.old key))
         (IsUpTo (2 ^ 62) (2 ^ 120)) }
     ensures ok { OnOk result ((q : Items ℕ) → option_map summary_of (get key_cmp summaries.new q)
-        ≡ (if is_key key q then option_map summary_of (get key_cmp summaries.old key) ⊕ Some (summary_of summary)
+        ≡ (if is_key key q
+        then option_map summary_of (get key_cmp summaries.old key) ⊕ Some (summary_of summary)
         else option_map summary_of (get key_cmp summaries.old q))) }
     ensures err { OnErr result (IsUnchanged summaries.old summaries.new) }
 {
@@ -110,7 +111,8 @@ fn join_fact(
         → IfSome (summary_at (entries_of summaries.old.entries) q) (IsUpTo (2 ^ 62) (2 ^ 120)) }
     ensures stands { OnOk result ((n : ℕ) (facts : Items TheFact)
         → CubeStandsFor (tallied columns.now summaries.old.entries n) facts
-        → CubeStandsFor (tallied columns.now summaries.new.entries (n + 1)) (facts ++ fact_at members.now value ∷ [])) }
+        → CubeStandsFor (tallied columns.now summaries.new.entries (n + 1))
+        (facts ++ fact_at members.now value ∷ [])) }
     ensures err { OnErr result (IsUnchanged summaries.old summaries.new) }
 {
     match key(columns, members) {

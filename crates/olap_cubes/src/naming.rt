@@ -20,7 +20,8 @@ use std::alloc::Global;
 fn named(alloc: Global, cube: &Cube, names: &[Text]) -> Result<Option<Vec<CatId>>, Memory>
     requires one_each { length names.now ≡ length (schemas_of cube.now) }
     ensures named { IfOk result (λ found.
-        option_map (λ cs. numbers_of cs.items) found ≡ categories_named (schemas_of cube.now) names.now) }
+        option_map (λ cs. numbers_of cs.items) found
+        ≡ categories_named (schemas_of cube.now) names.now) }
     ensures categories { IfOk result (λ found.
         IfSome found (λ cs. AreCategoriesOf (schemas_of cube.now) (numbers_of cs.items))) }
 {
