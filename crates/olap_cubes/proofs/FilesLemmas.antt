@@ -1,7 +1,7 @@
 -- Files that are read in a loop: a step and what comes after it are a step.
 --     file_followed, file_ended   a step and the rest
 --     as_ended                    a step that ended, as the code hands it on
---     no_memory                   a step that wants memory
+--     no_memory                   a step that runs out of memory
 --     AreReadTo                   what is read of the files that are left is read of all
 use Rattle.std.proofs.Common.{◌≡◌, ◌+◌, ℕ, List, [], ◌∷◌, ◌++◌, Option, None, Some, Result, Ok, Err, MatchOption, ap, subst, sym, refl, arith, ◌∙◌}
 use Rattle.std.specs.Result.{IsErrAnd}
@@ -83,7 +83,7 @@ module _ {D T X : Type 0} {L : Library D} {old new : D} {step : Order T} {meanin
   as_ended (Ok x) stop is s = absurd is
   as_ended (Err e) stop is s = subst (λ e. FileStep L old new step meaning (Err e)) (sym is) s
 
-  -- a step that wants memory, whatever it is
+  -- a step that runs out of memory, whatever it is
   pub no_memory : IsLater L old new → L.contents new ≡ L.contents old
       → FileStep L old new step meaning (Err stops.Memory)
   no_memory later same = record {

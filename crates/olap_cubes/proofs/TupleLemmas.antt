@@ -1,7 +1,7 @@
 -- Tuples of categories that are read from words, one after the other.
 --     numbers_compared categories are compared as their numbers are
 --     ended_plain      a step that reads nothing ends, and what comes after it with it
---     AreNamedUpTo     the order of all the words is that of those that are left, behind the tuples that were read
+--     AreNamedUpTo     the order of all the words is that of those that are left, after the tuples that were read
 use Rattle.std.proofs.Common.{◌≡◌, ◌+◌, ◌<◌, ◌≤◌, ℕ, suc, List, [], ◌∷◌, ◌++◌, Result, Ok, Err, length, get_or, drop, true, false, ap, refl, subst, sym, arith, ◌∙◌}
 use Rattle.std.specs.Cmp.Lexicographic.{pointwise}
 use Rattle.std.specs.List.{list_any}
