@@ -17,6 +17,7 @@ use Rattle.olap_cube.specs.Limits.{most_dimensions}
 use Rattle.olap_cube_views.specs.Seen.{members_of}
 use Rattle.olap_cube_views.proofs.KeyLemmas.{filled_more}
 
+-- a tuple has a member for each instance
 pub tuple_length : (is : List Instance) (cs ys : List ℕ) → IsTupleOf is cs ys → length ys ≡ length is
 tuple_length [] [] [] t = refl
 tuple_length [] [] (y ∷ ys) t = absurd t
@@ -25,6 +26,7 @@ tuple_length (i ∷ is) [] ys t = absurd t
 tuple_length (i ∷ is) (c ∷ cs) [] t = absurd t
 tuple_length (i ∷ is) (c ∷ cs) (y ∷ ys) t = ap suc (tuple_length is cs ys t.1)
 
+-- each member of a tuple is one of its instance
 pub tuple_members : (is : List Instance) (cs ys : List ℕ) → IsTupleOf is cs ys → AreMembers is ys
 tuple_members [] [] [] t = tt
 tuple_members [] [] (y ∷ ys) t = absurd t
@@ -43,6 +45,7 @@ members_length (i ∷ is) (x ∷ xs) m = ap suc (members_length is xs m.1)
 -- ---- one dimension more
 
 module _ (i : Instance) (x c : ℕ) (is : List Instance) (xs cs : List ℕ) where
+  -- one dimension more, in which one member is reached
   pub tuple_more : (y : ℕ) (ys : List ℕ) → IsAncestor i x c y → IsTupleAncestor is xs cs ys
       → IsTupleAncestor (i ∷ is) (x ∷ xs) (c ∷ cs) (y ∷ ys)
   tuple_more y ys a t = record {
@@ -55,10 +58,12 @@ module _ (i : Instance) (x c : ℕ) (is : List Instance) (xs cs : List ℕ) wher
       only [] m r = absurd m
       only (z ∷ zs) m r = let e = a.only z m.0 r.0 in let f = t.only zs m.1 r.1 in λ k. e k ∷ f k
 
+  -- one dimension more, in which nothing is reached
   pub none_here : (ReachesCategory i x c → ⊥) → ReachesNone (i ∷ is) (x ∷ xs) (c ∷ cs)
   none_here n [] m r = absurd m
   none_here n (z ∷ zs) m r = n (z, m.0, r.0)
 
+  -- one dimension more, where nothing is reached in the others
   pub none_on : ReachesNone is xs cs → ReachesNone (i ∷ is) (x ∷ xs) (c ∷ cs)
   none_on n [] m r = absurd m
   none_on n (z ∷ zs) m r = n zs m.1 r.1
@@ -70,9 +75,11 @@ module _ (columns : List Ascent) (members : List MemberId) where
   abbrev pub IsReached : List Ascent → List MemberId → List ℕ → Type 0
   IsReached ups ms y = IsTupleAncestor (instances_in ups) (members_of ms) (categories_in ups) y
 
+  -- the members reach no tuple
   abbrev pub NoneIsReached : List Ascent → List MemberId → Type 0
   NoneIsReached ups ms = ReachesNone (instances_in ups) (members_of ms) (categories_in ups)
 
+  -- there is a member for each column, of its instance
   abbrev pub StandIn : List Ascent → List MemberId → Type 0
   StandIn ups ms = AreMembers (instances_in ups) (members_of ms)
 
@@ -86,6 +93,7 @@ module _ (columns : List Ascent) (members : List MemberId) where
     pub none : NoneIsReached (drop k columns) (drop k members) → NoneIsReached columns members
     pub inside : StandIn (drop k columns) (drop k members)
 
+  -- the key of no dimension
   pub key_start : (key : List ℕ) → key ≡ key_of [] → StandIn columns members → KeySoFar 0 key
   key_start key e s = record {
     tuple = [];
@@ -96,34 +104,41 @@ module _ (columns : List Ascent) (members : List MemberId) where
     inside = s;
   }
 
+  -- there are as many members as columns
   pub as_many : StandIn columns members → length members ≡ length columns
   as_many s = sym (length-map members (λ m. m.0)) ∙ members_length (instances_in columns) (members_of members) s
       ∙ length-map columns (λ a. a.instance)
 
   module _ (k : ℕ) (key : List ℕ) (h : KeySoFar k key) (a : Ascent) (m : MemberId)
       (dc : drop k columns ≡ a ∷ drop (k + 1) columns) (dm : drop k members ≡ m ∷ drop (k + 1) members) where
+    -- the next member stands in its instance, and the others in theirs
     both : StandIn (a ∷ drop (k + 1) columns) (m ∷ drop (k + 1) members)
-    both = subst (λ ups. StandIn ups (m ∷ drop (k + 1) members)) dc (subst (λ ms. StandIn (drop k columns) ms) dm h.inside)
+    both = subst (λ ups. StandIn ups (m ∷ drop (k + 1) members)) dc
+        (subst (λ ms. StandIn (drop k columns) ms) dm h.inside)
 
+    -- the next member stands in its instance
     pub stands_here : m.0 < length a.instance
     stands_here = both.0
 
+    -- what is true of the next and those after it is true of those from k on
     back : (P : List Ascent → List MemberId → Type 0) → P (a ∷ drop (k + 1) columns) (m ∷ drop (k + 1) members)
         → P (drop k columns) (drop k members)
     back P p = subst (λ ms. P (drop k columns) ms) (sym dm)
         (subst (λ ups. P ups (m ∷ drop (k + 1) members)) (sym dc) p)
 
-    pub key_more : (y : ℕ) (new : List ℕ) → k < most_dimensions → IsAncestor a.instance m.0 a.category y → new ≡ set key k y
-        → KeySoFar (k + 1) new
+    -- the key with the member reached in the next dimension
+    pub key_more : (y : ℕ) (new : List ℕ) → k < most_dimensions → IsAncestor a.instance m.0 a.category y
+        → new ≡ set key k y → KeySoFar (k + 1) new
     key_more y new few r e = record {
       tuple = h.tuple ++ y ∷ [];
       size = let n = h.size in length_more h.tuple y ∙ ap (λ j. j + 1) n;
       is = let n = h.size in let l : length h.tuple < most_dimensions = omega arith in
-          e ∙ ap (λ t. set t k y) h.is ∙ ap (λ j. set (key_of h.tuple) j y) (sym n) ∙ filled_more most_dimensions h.tuple y l;
+          e ∙ ap (λ t. set t k y) h.is ∙ ap (λ j. set (key_of h.tuple) j y) (sym n)
+          ∙ filled_more most_dimensions h.tuple y l;
       some = λ ys t. subst (λ zs. IsReached columns members zs) (sym (append_assoc h.tuple (y ∷ []) ys))
           (h.some (y ∷ ys) (back (λ ups ms. IsReached ups ms (y ∷ ys))
-          (tuple_more a.instance m.0 a.category (instances_in (drop (k + 1) columns)) (members_of (drop (k + 1) members))
-          (categories_in (drop (k + 1) columns)) y ys r t)));
+          (tuple_more a.instance m.0 a.category (instances_in (drop (k + 1) columns))
+          (members_of (drop (k + 1) members)) (categories_in (drop (k + 1) columns)) y ys r t)));
       none = λ n. h.none (back NoneIsReached
           (none_on a.instance m.0 a.category (instances_in (drop (k + 1) columns)) (members_of (drop (k + 1) members))
           (categories_in (drop (k + 1) columns)) n));
@@ -134,16 +149,19 @@ module _ (columns : List Ascent) (members : List MemberId) where
         length_more [] y = refl
         length_more (z ∷ ys) y = let e = length_more ys y in omega arith
 
+    -- where nothing is reached in the next dimension, no tuple is
     pub none_reached : (ReachesCategory a.instance m.0 a.category → ⊥) → NoneIsReached columns members
     none_reached n = h.none (back NoneIsReached
         (none_here a.instance m.0 a.category (instances_in (drop (k + 1) columns)) (members_of (drop (k + 1) members))
         (categories_in (drop (k + 1) columns)) n))
 
+  -- after the last dimension the key is that of the one tuple reached
   pub key_end : (k : ℕ) (key : List ℕ) → StandIn columns members → length columns ≤ k → KeySoFar k key
       → (y : List ℕ) × IsReached columns members y × (key ≡ key_of y)
   key_end k key s l h = (
     h.tuple ++ [],
-    h.some [] (subst (λ ms. IsReached (drop k columns) ms []) (sym (drop_all k members (let n = as_many s in omega arith)))
+    h.some [] (subst (λ ms. IsReached (drop k columns) ms [])
+        (sym (drop_all k members (let n = as_many s in omega arith)))
         (subst (λ ups. IsReached ups [] []) (sym (drop_all k columns l)) nothing)),
     h.is ∙ ap key_of (sym (append-nil h.tuple)),
   )

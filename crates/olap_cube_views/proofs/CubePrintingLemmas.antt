@@ -27,17 +27,21 @@ module _ (is : List Instance) (ys : List ℕ) where
     pub inside : AreMembers (drop k is) (drop k ys)
     pub size : length ids ≡ k
 
+  -- no id yet
   pub ids_start : AreMembers is ys → IdsSoFar 0 []
   ids_start m = record { all = refl; inside = m; size = refl }
 
   module _ (k : ℕ) (ids : List (List ℕ)) (h : IdsSoFar k ids) (i : Instance) (y : ℕ)
       (di : drop k is ≡ i ∷ drop (k + 1) is) (dy : drop k ys ≡ y ∷ drop (k + 1) ys) where
+    -- the next member stands in its instance, and the others in theirs
     both : AreMembers (i ∷ drop (k + 1) is) (y ∷ drop (k + 1) ys)
     both = subst (λ t. AreMembers t (y ∷ drop (k + 1) ys)) di (subst (λ t. AreMembers (drop k is) t) dy h.inside)
 
+    -- the next member stands in its instance
     pub is_inside : IsMember i y
     is_inside = both.0
 
+    -- one id more
     pub ids_more : (new : List (List ℕ)) → new ≡ ids ++ (member_at i y).id ∷ [] → IdsSoFar (k + 1) new
     ids_more new e = record {
       all = ap (λ t. t ++ ids_in (drop (k + 1) is) (drop (k + 1) ys)) e
@@ -48,6 +52,7 @@ module _ (is : List Instance) (ys : List ℕ) where
       size = let n = h.size in omega (arith, ap length e, length-append ids ((member_at i y).id ∷ []));
     }
 
+  -- the ids of all members
   pub ids_end : (k : ℕ) (ids : List (List ℕ)) → length is ≤ k → IdsSoFar k ids → ids ≡ ids_in is ys
   ids_end k ids l h = sym (append-nil ids)
       ∙ ap (λ t. ids ++ ids_in t (drop k ys)) (sym (drop_all k is l)) ∙ h.all
@@ -67,6 +72,7 @@ pub four_more : {A B : Type 0} (f : A → B) (xs : List A) (a b c d : A)
 four_more f [] a b c d = refl
 four_more f (x ∷ xs) a b c d = ap (λ t. f x ∷ t) (four_more f xs a b c d)
 
+-- four items after others, each the same as another
 pub four_same : (xs : List (List ℕ)) (a b c d p q r s : List ℕ) → a ≡ p → b ≡ q → c ≡ r → d ≡ s
     → xs ++ (a ∷ b ∷ c ∷ d ∷ []) ≡ xs ++ (p ∷ q ∷ r ∷ s ∷ [])
 four_same xs a b c d p q r s e f g h = λ i. xs ++ (e i ∷ f i ∷ g i ∷ h i ∷ [])

@@ -61,24 +61,29 @@ module _ (gs : List Graph) (is : List Instance) (row : List (List ℕ)) where
     pub bottom : (ys : List ℕ) → IsBottomTuple (drop k gs) (drop k is) ys → IsBottomTuple gs is (xs ++ ys)
     pub made : AreMadeFor (drop k gs) (drop k is)
 
+  -- no field yet
   pub members_start : AreMadeFor gs is → MembersSoFar 0 []
   members_start m = record { faults = refl; read = refl; bottom = λ ys b. b; made = m }
 
   module _ (k : ℕ) (xs : List ℕ) (h : MembersSoFar k xs) (g : Graph) (i : Instance) (f : List ℕ)
       (dg : drop k gs ≡ g ∷ drop (k + 1) gs) (di : drop k is ≡ i ∷ drop (k + 1) is)
       (dr : drop k row ≡ f ∷ drop (k + 1) row) where
+    -- the next instance was made for its graph, and the others for theirs
     made_next : AreMadeFor (g ∷ drop (k + 1) gs) (i ∷ drop (k + 1) is)
     made_next = subst (λ t. AreMadeFor t (i ∷ drop (k + 1) is)) dg (subst (λ t. AreMadeFor (drop k gs) t) di h.made)
 
+    -- the next instance was made for its graph
     pub made_here : IsMadeFor g i
     made_here = made_next.0
 
+    -- the first fault is the next field's, if it has one, else that of those after it
     faults_here : members_fault gs is row
         ≡ option_or (member_fault g i f) (members_fault (drop (k + 1) gs) (drop (k + 1) is) (drop (k + 1) row))
     faults_here = h.faults ∙ ap (λ t. members_fault t (drop k is) (drop k row)) dg
         ∙ ap (λ t. members_fault (g ∷ drop (k + 1) gs) t (drop k row)) di
         ∙ ap (λ t. members_fault (g ∷ drop (k + 1) gs) (i ∷ drop (k + 1) is) t) dr
 
+    -- one field more, which names a member of a bottom category
     pub members_more : (x : ℕ) → member_fault g i f ≡ None → x ≡ member_number i f → IsMember i x
         → IsBottom g (category_of i x) → MembersSoFar (k + 1) (xs ++ x ∷ [])
     members_more x none same inside bottom = record {
@@ -94,10 +99,12 @@ module _ (gs : List Graph) (is : List Instance) (row : List (List ℕ)) where
       made = made_next.1;
     }
 
+    -- the next field has a fault, and it is the first
     pub members_stop : (kind : FactKind) → member_fault g i f ≡ Some kind → members_fault gs is row ≡ Some kind
     members_stop kind e = faults_here
         ∙ ap (λ o. option_or o (members_fault (drop (k + 1) gs) (drop (k + 1) is) (drop (k + 1) row))) e
 
+  -- no field has a fault, and they name a tuple of members of bottom categories
   pub members_end : (k : ℕ) (xs : List ℕ) → AreMadeFor gs is → length is ≤ k → MembersSoFar k xs
       → (members_fault gs is row ≡ None) × (xs ≡ members_read is row) × IsBottomTuple gs is xs
   members_end k xs m l h =
@@ -106,18 +113,21 @@ module _ (gs : List Graph) (is : List Instance) (row : List (List ℕ)) where
       let no_gs = drop_all k gs (omega arith) in (
         h.faults ∙ ap (λ t. members_fault t (drop k is) (drop k row)) no_gs,
         sym (h.read ∙ ap (λ t. xs ++ members_read t (drop k row)) no_is ∙ append-nil xs),
-        subst (IsBottomTuple gs is) (append-nil xs) (h.bottom [] (subst (λ t. IsBottomTuple t (drop k is) []) (sym no_gs)
+        subst (IsBottomTuple gs is) (append-nil xs) (h.bottom []
+            (subst (λ t. IsBottomTuple t (drop k is) []) (sym no_gs)
             (subst (λ t. IsBottomTuple [] t []) (sym no_is) tt))),
       )
 
 -- ---- records
 
+-- whether the first record is the header
 pub header_is : (row top : List (List ℕ)) (b : Bool) → IsTrue b ↔ (row ≡ top) → b ≡ pointwise bytes_eq row top
 header_is row top b h =
     let d : IsTrue (pointwise bytes_eq row top) ↔ (row ≡ top) =
     slice_eq-Decides bytes_eq-Decides row top (pointwise bytes_eq row top) refl in
     one_answer b (pointwise bytes_eq row top) h d
 
+-- a record's fault is the text's first, where no record before it has one
 pub told_cause : (fault : List (List (List ℕ)) → List (List ℕ) → Option FactKind)
     (all seen left after : List (List (List ℕ))) (row : List (List ℕ)) (n : ℕ) (e : FactRefusal)
     → HasSeen fault all seen left → left ≡ row ∷ after → length seen ≡ n → IsToldAt (n + 2) (fault seen row) e
@@ -135,12 +145,14 @@ pub cube_facts_more : (is : List Instance) (seen : List (List (List ℕ))) (r : 
     → map cube_fact_of (fs ++ f ∷ []) ≡ map (cube_fact_read is) (seen ++ r ∷ [])
 cube_facts_more is seen r fs f e q =
     map-append cube_fact_of fs (f ∷ []) ∙ ap (λ (t : List CubeFact). t ++ cube_fact_of f ∷ []) e
-    ∙ ap (λ (t : CubeFact). map (cube_fact_read is) seen ++ t ∷ []) q ∙ sym (map-append (cube_fact_read is) seen (r ∷ []))
+    ∙ ap (λ (t : CubeFact). map (cube_fact_read is) seen ++ t ∷ []) q
+    ∙ sym (map-append (cube_fact_read is) seen (r ∷ []))
 
 -- no facts are a fact table
 pub cube_table_none : (gs : List Graph) (is : List Instance) → IsCubeFactTable gs is []
 cube_table_none gs is f c = absurd (Contains-nil f c)
 
+-- a fact table with one fact more
 pub cube_table_more : (gs : List Graph) (is : List Instance) (fs : List CubeFact) (f : CubeFact)
     → IsCubeFactTable gs is fs → IsBottomTuple gs is f.members → IsCubeFactTable gs is (fs ++ f ∷ [])
 cube_table_more gs is fs f t b q c = elim (Contains-push_cases fs f q c) [
@@ -148,6 +160,7 @@ cube_table_more gs is fs f t b q c = elim (Contains-push_cases fs f q c) [
   | inr e ↦ subst (λ (p : CubeFact). IsBottomTuple gs is p.members) e b
 ]
 
+-- each fact of a fact table stands at members
 pub cube_table_members : (gs : List Graph) (is : List Instance) (fs : List told.CubeFact)
     → IsCubeFactTable gs is (map cube_fact_of fs) → All (λ f. AreMembers is (members_of f.members)) fs
 cube_table_members gs is fs t k d h = bottom_members gs is (members_of (get_or fs k d).members)

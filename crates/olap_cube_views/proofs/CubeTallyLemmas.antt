@@ -103,7 +103,8 @@ total_is_of_values is facts y a =
   where
     short : length (cube_values_at is facts y) ≤ length facts
     short =
-        let e = length-map (filter (λ (f : CubeFact). tuple_reaches is f.members y) facts) (λ (f : CubeFact). f.value) in
+        let e = length-map (filter (λ (f : CubeFact). tuple_reaches is f.members y) facts)
+        (λ (f : CubeFact). f.value) in
         let l = filter_short (λ (f : CubeFact). tuple_reaches is f.members y) facts in omega arith
 
 -- ---- keys
@@ -146,9 +147,11 @@ abbrev pub with_entries : CubeTallied → List Entry → CubeTallied
 with_entries t entries = record { instances = t.instances; target = t.target; added = t.added + 1; entries = entries }
 
 module _ (t : CubeTallied) (facts : List CubeFact) (f : CubeFact) (s : CubeStandsFor t facts) where
+  -- one fact more is added
   one_more : t.added + 1 ≡ length (facts ++ f ∷ [])
   one_more = let a = s.added in omega (arith, length-append {A = CubeFact})
 
+  -- a fact that reaches no tuple of the target
   pub stands_apart : ReachesNone t.instances f.members t.target
       → CubeStandsFor (with_entries t t.entries) (facts ++ f ∷ [])
   stands_apart n = record {
@@ -166,7 +169,8 @@ module _ (t : CubeTallied) (facts : List CubeFact) (f : CubeFact) (s : CubeStand
           go false e = refl
 
       same : (y : List ℕ) (b : Bool) → b ≡ false
-          → total_of_cube_facts t.instances facts y ⊕ when b (of_value f.value) ≡ total_of_cube_facts t.instances facts y
+          → total_of_cube_facts t.instances facts y ⊕ when b (of_value f.value)
+          ≡ total_of_cube_facts t.instances facts y
       same y true e = absurd (cc)
       same y false e = ⊕_none (total_of_cube_facts t.instances facts y)
 
@@ -174,12 +178,14 @@ module _ (t : CubeTallied) (facts : List CubeFact) (f : CubeFact) (s : CubeStand
       (k : p ≡ key_of y) (few : length t.instances ≤ most_dimensions)
       (at : (q : List ℕ) → summary_at entries q
       ≡ (if is_key p q then summary_at t.entries p ⊕ Some (of_value f.value) else summary_at t.entries q)) where
+    -- a tuple that has the key is the one that the fact reaches
     here : (z : List ℕ) → IsTupleOf t.instances t.target z → is_key p (key_of z) ≡ true → z ≡ y
     here z m e =
         let a = tuple_length t.instances t.target y r.is_tuple in
         let b = tuple_length t.instances t.target z m in
         filled_same most_dimensions z y (b ∙ sym a) (omega arith) (sym (same_key p (key_of z) e) ∙ k)
 
+    -- what stands at a tuple's key is what the facts and this one come to there
     at_tuple : (z : List ℕ) → IsTupleOf t.instances t.target z
         → summary_at entries (key_of z) ≡ total_of_cube_facts t.instances (facts ++ f ∷ []) z
     at_tuple z m = go (tuple_reaches t.instances f.members z) refl
@@ -211,6 +217,7 @@ module _ (t : CubeTallied) (facts : List CubeFact) (f : CubeFact) (s : CubeStand
                 absurd (cc (reached, e))
             not_here false h = refl
 
+    -- each key at which something stands is a tuple's
     at_key : (q : List ℕ) → IsSome (summary_at entries q) → IsKeyOf t.instances t.target q
     at_key q w = go (is_key p q) refl
       where
@@ -219,6 +226,7 @@ module _ (t : CubeTallied) (facts : List CubeFact) (f : CubeFact) (s : CubeStand
         go false e = s.keys q (subst IsSome (at q
             ∙ ap (λ b. if b then summary_at t.entries p ⊕ Some (of_value f.value) else summary_at t.entries q) e) w)
 
+    -- a fact that reaches a tuple, with its value joined at the tuple's key
     pub stands_joined : CubeStandsFor (with_entries t entries) (facts ++ f ∷ [])
     stands_joined = record { added = one_more; at = at_tuple; keys = at_key }
 
@@ -250,7 +258,8 @@ fact_apart columns entries f none n facts s = stands_apart (tallied columns entr
 
 -- a tally with one fact more is one
 pub tally_more : (t : CubeTallied) (q : IsCubeTally t) (f : CubeFact) (entries : List Entry) → t.added + 1 ≤ most_count
-    → SFits w64 f.value → CubeStandsFor (with_entries t entries) (q.facts ++ f ∷ []) → IsCubeTally (with_entries t entries)
+    → SFits w64 f.value → CubeStandsFor (with_entries t entries) (q.facts ++ f ∷ [])
+    → IsCubeTally (with_entries t entries)
 tally_more t q f entries h v s = record {
   dimensions = q.dimensions;
   few = h;
@@ -259,6 +268,7 @@ tally_more t q f entries h v s = record {
   stands = s;
 }
 
+-- no fact
 pub stands_start : (is : List Instance) (c : List ℕ)
     → CubeStandsFor (record { instances = is; target = c; added = 0; entries = [] }) []
 stands_start is c = record { added = refl; at = λ y m. refl; keys = λ q w. absurd (cc) }
@@ -274,7 +284,9 @@ tally_start is c few = record {
   stands = stands_start is c;
 }
 
-pub room : (t : CubeTallied) → IsCubeTally t → (q : List ℕ) → IfSome (summary_at t.entries q) (IsUpTo (2 ^ 62) (2 ^ 120))
+-- what stands at a key has room for one value more
+pub room : (t : CubeTallied) → IsCubeTally t → (q : List ℕ)
+    → IfSome (summary_at t.entries q) (IsUpTo (2 ^ 62) (2 ^ 120))
 room t k q = go (summary_at t.entries q) refl
   where
     small : (o : Option Summary) → IfSome o (IsOfValues (length k.facts)) → IfSome o (IsUpTo (2 ^ 62) (2 ^ 120))
@@ -293,6 +305,7 @@ room t k q = go (summary_at t.entries q) refl
 
 -- ---- rows
 
+-- the entries, in order, are the rows of the direct view
 pub direct_rows_are : (t : CubeTallied) (facts : List CubeFact) → length t.instances ≤ most_dimensions
     → CubeStandsFor t facts → IsStrictlySortedBy key_cmp (keys_of t.entries)
     → map (row_of_entry (length t.instances)) t.entries ≡ cube_direct_rows t.instances t.target facts
@@ -331,6 +344,7 @@ rows_members is h (y ∷ ys) f =
     cons (Some s) m a = All-cons (λ (r : CubeRow). AreMembers is r.members) (record { members = y; summary = s })
         (filter_map (λ y. cube_row_at y (h y)) ys) m a
 
+-- each row of a direct view, as the code has it, stands at members
 pub told_members : (is : List Instance) (c : List ℕ) (facts : List CubeFact) (rows : List told_row.CubeRow)
     → cube_rows_of rows ≡ cube_direct_rows is c facts → All (λ r. AreMembers is (members_of r.members)) rows
 told_members is c facts rows e k d l =

@@ -42,7 +42,8 @@ range-ascends a (suc n) = (
 )
 
 -- so do those that pass a test
-filter-ascends : {T : Type 0} (R : T → T → Ordering) (p : T → Bool) (xs : List T) → Ascends R xs → Ascends R (filter p xs)
+filter-ascends : {T : Type 0} (R : T → T → Ordering) (p : T → Bool) (xs : List T) → Ascends R xs
+    → Ascends R (filter p xs)
 filter-ascends R p [] a = tt
 filter-ascends {T} R p (x ∷ xs) a = go (p x) (filter-ascends R p xs a.1)
   where
@@ -98,7 +99,8 @@ tuples-ascend : (is : List Instance) (cs : List ℕ) → Ascends tuple_cmp (tupl
 tuples-ascend [] [] = (λ u c. absurd (Contains-nil u c), tt)
 tuples-ascend [] (c ∷ cs) = tt
 tuples-ascend (i ∷ is) [] = tt
-tuples-ascend (i ∷ is) (c ∷ cs) = flat-ascends (tuples_of is cs) (members_of i c) (tuples-ascend is cs) (members-ascend i c)
+tuples-ascend (i ∷ is) (c ∷ cs) =
+    flat-ascends (tuples_of is cs) (members_of i c) (tuples-ascend is cs) (members-ascend i c)
 
 -- ---- keys
 
@@ -111,6 +113,7 @@ ascends-as R Q (t ∷ ts) f a = (
   ascends-as R Q ts (λ x y c d. f x y (contains_cons x ts t c) (contains_cons y ts t d)) a.1,
 )
 
+-- the keys of the tuples of some categories ascend
 pub keys-ascend : (is : List Instance) (cs : List ℕ) → length is ≤ most_dimensions
     → Ascends (λ t u. key_cmp (key_of t) (key_of u)) (tuples_of is cs)
 keys-ascend is cs few = ascends-as tuple_cmp (λ t u. key_cmp (key_of t) (key_of u)) (tuples_of is cs)

@@ -55,6 +55,7 @@ module _ {T K X B : Type 0} (R : K → K → Ordering) (o : IsTotalOrder R) (exa
   abbrev pub found : List (K × X) → K → Option X
   found es q = lookup (is_at (R q)) es
 
+  -- the row of an item, if something stands at its key
   abbrev pub row_found : List (K × X) → T → Option B
   row_found es t = option_map (row t) (found es (key t))
 
@@ -62,30 +63,37 @@ module _ {T K X B : Type 0} (R : K → K → Ordering) (o : IsTotalOrder R) (exa
   abbrev pub AreKeys : List T → List (K × X) → Type 0
   AreKeys ts es = (q : K) → IsSome (found es q) → (t : T) × Contains ts t × (key t ≡ q)
 
+  -- what is none isn't some
   some_not : {A : Type 0} (p : Option A) → p ≡ None → IsSome p → ⊥
   some_not None e s = cc
   some_not (Some x) e s = cc
 
+  -- a key isn't below itself
   less_not : (p q : K) → p ≡ q → R p q ≡ Less → ⊥
   less_not p q e l =
       let t : R p q ≡ Equal = subst (λ w. R p w ≡ Equal) e (tied_itself o p) in
       absurd (cc)
 
+  -- of no entries there are no rows
   none-found : (ts : List T) → filter_map (row_found []) ts ≡ []
   none-found [] = refl
   none-found (t ∷ ts) = none-found ts
 
+  -- at the first entry's key stands what that entry has
   at_head : (q : K) (e : K × X) (es : List (K × X)) → R q e.0 ≡ Equal → found (e ∷ es) q ≡ Some e.1
   at_head q e es h = lookup_head (is_at (R q)) e es (ap is_eq h)
 
+  -- after the first entry nothing stands at its key
   past : (q : K) (e : K × X) (es : List (K × X)) → IsStrictlySortedBy R (keys_of (e ∷ es)) → R q e.0 ≡ Equal
       → found es q ≡ None
   past q e es s h = lookup-none (is_at (R q)) es
       (none_past_head (eq_by_cmp_equiv o) q e es (IsDistinct-from_sorted R (keys_of (e ∷ es)) s) (ap is_eq h))
 
+  -- at another key than the first entry's stands what the entries after it have there
   not_head : (q : K) (e : K × X) (es : List (K × X)) → is_eq (R q e.0) ≡ false → found (e ∷ es) q ≡ found es q
   not_head q e es h = lookup_tail (is_at (R q)) e es h
 
+  -- at a key below the first entry's stands nothing
   below : (q : K) (e : K × X) (es : List (K × X)) → IsStrictlySortedBy R (keys_of (e ∷ es)) → R q e.0 ≡ Less
       → found (e ∷ es) q ≡ None
   below q e es s h = lookup-none (is_at (R q)) (e ∷ es) (none_below_head o q e es s h)
@@ -118,6 +126,7 @@ module _ {T K X B : Type 0} (R : K → K → Ordering) (o : IsTotalOrder R) (exa
   abbrev pub AreRead : List T → Type 0
   AreRead ts = (t : T) → Contains ts t → (x : X) → read (key t, x) ≡ row t x
 
+  -- the entries, in order, are the rows of the items at whose keys something stands
   pub rows_are : (ts : List T) (es : List (K × X)) → AreRead ts → Ascends (λ t u. R (key t) (key u)) ts
       → IsStrictlySortedBy R (keys_of es) → AreKeys ts es → map read es ≡ filter_map (row_found es) ts
   rows_are [] [] f a s k = refl
@@ -162,7 +171,8 @@ module _ {T K X B : Type 0} (R : K → K → Ordering) (o : IsTotalOrder R) (exa
           let u = k e.0 head in
           absurd (elim (contains_cases u.0 t ts u.1) [
             | inl m ↦
-                let p : R (key t) e.0 ≡ Equal = subst (λ w. R (key t) w ≡ Equal) (ap key m ∙ u.2) (tied_itself o (key t)) in
+                let p : R (key t) e.0 ≡ Equal =
+                subst (λ w. R (key t) w ≡ Equal) (ap key m ∙ u.2) (tied_itself o (key t)) in
                 cc
             | inr c ↦
                 let p : R (key t) e.0 ≡ Less = subst (λ w. R (key t) w ≡ Less) u.2 (a.0 u.0 c) in

@@ -50,7 +50,8 @@ fn print_row(
     requires width { out.old.width ≡ length instances.now + 4 }
     requires members { AreMembers (instances_of instances.now) (members_of row.now.members) }
     ensures text { OnOk result (out.new.text
-        ≡ out.old.text ++ text_of_row (fields_in (instances_of instances.now) (cube_row_of row.now))) }
+        ≡ out.old.text
+        ++ text_of_row (fields_in (instances_of instances.now) (cube_row_of row.now))) }
     ensures width { out.new.width ≡ out.old.width }
 {
     let mut count = Buffer::new();
@@ -72,8 +73,10 @@ fn print_row(
 /// The bytes of the text of a view on these instances.
 fn print(alloc: Global, instances: &[&Instance], view: &CubeView) -> Result<Vec<u8>, Memory>
     requires few { length instances.now ≤ most_dimensions }
-    requires at_members { All (λ r. AreMembers (instances_of instances.now) (members_of r.members)) view.now.rows }
-    ensures { IfOk result (λ bytes. bytes.items ≡ cube_view_text (instances_of instances.now) (cube_view_of view.now)) }
+    requires at_members { All (λ r.
+        AreMembers (instances_of instances.now) (members_of r.members)) view.now.rows }
+    ensures { IfOk result
+        (λ bytes. bytes.items ≡ cube_view_text (instances_of instances.now) (cube_view_of view.now)) }
 {
     let mut out = Printer::new(alloc, instances.len() + 4);
     print_header(&mut out, instances.len())?;
@@ -86,8 +89,10 @@ fn print(alloc: Global, instances: &[&Instance], view: &CubeView) -> Result<Vec<
 /// The text of a view on these instances.
 fn text(alloc: Global, instances: &[&Instance], view: &CubeView) -> Result<Text, Memory>
     requires few { length instances.now ≤ most_dimensions }
-    requires at_members { All (λ r. AreMembers (instances_of instances.now) (members_of r.members)) view.now.rows }
-    ensures text { IfOk result (λ text. text ≡ cube_view_text (instances_of instances.now) (cube_view_of view.now)) }
+    requires at_members { All (λ r.
+        AreMembers (instances_of instances.now) (members_of r.members)) view.now.rows }
+    ensures text { IfOk result
+        (λ text. text ≡ cube_view_text (instances_of instances.now) (cube_view_of view.now)) }
     ensures reads { IfOk result (λ text.
         records_of text ≡ records_of_cube_view (instances_of instances.now) (cube_view_of view.now)) }
 {
@@ -95,13 +100,14 @@ fn text(alloc: Global, instances: &[&Instance], view: &CubeView) -> Result<Text,
 }
 
 /// The text of a view: the header `m1,..,mK,count,sum,least,greatest` for K dimensions, and a record for each row, with
-/// the members' ids and the four numbers in decimal. Its records read back as the header and these fields. `Memory`: out
-/// of memory.
+/// the members' ids and the four numbers in decimal. Its records read back as the header and these fields. `Memory`:
+/// out of memory.
 pub fn print_cube_view(alloc: Global, legals: &Legals, view: &CubeView) -> Result<Text, Memory>
     requires at_members { All (λ r. AreMembers legals.now (members_of r.members)) view.now.rows }
 
     ensures text { IfOk result (λ text. text ≡ cube_view_text legals.now (cube_view_of view.now)) }
-    ensures reads { IfOk result (λ text. records_of text ≡ records_of_cube_view legals.now (cube_view_of view.now)) }
+    ensures reads { IfOk result
+        (λ text. records_of text ≡ records_of_cube_view legals.now (cube_view_of view.now)) }
 {
     let instances = legals.instances(alloc)?;
     text(alloc, &instances, view)
@@ -113,9 +119,11 @@ pub fn print_rolled_up(
     columns: &TargetColumns,
     view: &CubeView,
 ) -> Result<Text, Memory>
-    requires at_members { All (λ r. AreMembers (instances_in columns.now) (members_of r.members)) view.now.rows }
+    requires at_members { All (λ r.
+        AreMembers (instances_in columns.now) (members_of r.members)) view.now.rows }
 
-    ensures text { IfOk result (λ text. text ≡ cube_view_text (instances_in columns.now) (cube_view_of view.now)) }
+    ensures text { IfOk result
+        (λ text. text ≡ cube_view_text (instances_in columns.now) (cube_view_of view.now)) }
     ensures reads { IfOk result (λ text.
         records_of text ≡ records_of_cube_view (instances_in columns.now) (cube_view_of view.now)) }
 {

@@ -53,7 +53,8 @@ fn is_header(rows: &Rows, dimensions: usize) -> bool
 fn member(graph: &Graph, instance: &Instance, field: &[u8]) -> Result<MemberId, FactKind>
     requires made { IsMadeFor graph.now instance.now }
     ensures member { MatchResult result
-        (λ m. (member_fault graph.now instance.now field.now ≡ None) × (m.0 ≡ member_number instance.now field.now))
+        (λ m. (member_fault graph.now instance.now field.now ≡ None)
+        × (m.0 ≡ member_number instance.now field.now))
         (λ k. member_fault graph.now instance.now field.now ≡ Some k) }
     ensures inside { IfOk result (λ m. m.0 < length instance.now) }
     ensures bottom { IfOk result (λ m. IsBottom graph.now (category_of instance.now m.0)) }
@@ -81,7 +82,8 @@ fn members(
     ensures read { MatchResult result
         (λ v. (members_fault (graphs_of graphs.now) (instances_of instances.now) rows.now.row ≡ None)
         × (members_of v.items ≡ members_read (instances_of instances.now) rows.now.row))
-        (IsToldAt at (members_fault (graphs_of graphs.now) (instances_of instances.now) rows.now.row)) }
+        (IsToldAt at
+        (members_fault (graphs_of graphs.now) (instances_of instances.now) rows.now.row)) }
     ensures bottom { IfOk result (λ v.
         IsBottomTuple (graphs_of graphs.now) (instances_of instances.now) (members_of v.items)) }
 {
@@ -107,7 +109,8 @@ pub(crate) fn fact(
     requires before { before ≤ most_listed_facts }
     ensures fact { (earlier : Items (Items (Items ℕ))) → length earlier ≡ before
         → MatchResult result
-        (λ f. (cube_fact_fault (graphs_of graphs.now) (instances_of instances.now) earlier rows.now.row ≡ None)
+        (λ f. (cube_fact_fault (graphs_of graphs.now) (instances_of instances.now) earlier rows.now.row
+        ≡ None)
         × (cube_fact_of f ≡ cube_fact_read (instances_of instances.now) rows.now.row))
         (IsToldAt (before + 2)
         (cube_fact_fault (graphs_of graphs.now) (instances_of instances.now) earlier rows.now.row)) }
@@ -151,13 +154,14 @@ fn read_rows(
 ) -> Result<Vec<CubeFact>, FactRefusal>
     requires made { AreMadeFor (graphs_of graphs.now) (instances_of instances.now) }
     ensures facts { MatchResult result
-        (λ v. (first_fault (cube_fact_fault (graphs_of graphs.now) (instances_of instances.now)) [] rows.old.left
-        ≡ None)
+        (λ v. (first_fault (cube_fact_fault (graphs_of graphs.now) (instances_of instances.now))
+        [] rows.old.left ≡ None)
         × (map cube_fact_of v.items ≡ map (cube_fact_read (instances_of instances.now)) rows.old.left))
-        (IsFaultCause
-        (first_fault (cube_fact_fault (graphs_of graphs.now) (instances_of instances.now)) [] rows.old.left)) }
+        (IsFaultCause (first_fault
+        (cube_fact_fault (graphs_of graphs.now) (instances_of instances.now)) [] rows.old.left)) }
     ensures table { IfOk result
-        (λ v. IsCubeFactTable (graphs_of graphs.now) (instances_of instances.now) (map cube_fact_of v.items)) }
+        (λ v. IsCubeFactTable (graphs_of graphs.now) (instances_of instances.now)
+        (map cube_fact_of v.items)) }
     ensures few { IfOk result (λ v. length v.items ≤ most_listed_facts) }
 {
     let mut facts = Vec::new(alloc);
@@ -178,8 +182,8 @@ fn read(
     requires few { length instances.now ≤ most_dimensions }
     requires made { AreMadeFor (graphs_of graphs.now) (instances_of instances.now) }
     ensures read { MatchResult result
-        (λ f. cube_facts_read (graphs_of graphs.now) (instances_of instances.now) (records_of text.now)
-        ≡ Ok (cube_facts_of f))
+        (λ f. cube_facts_read (graphs_of graphs.now) (instances_of instances.now)
+        (records_of text.now) ≡ Ok (cube_facts_of f))
         (λ e. IsCubeRefusedBy e
         (cube_facts_read (graphs_of graphs.now) (instances_of instances.now) (records_of text.now))) }
     ensures members { IfOk result
@@ -215,12 +219,16 @@ pub fn read_cube_facts(
     requires made { AreMadeFor (graphs_of graphs.now) legals.now }
 
     ensures read { MatchResult result
-        (λ f. cube_facts_read (graphs_of graphs.now) legals.now (records_of text.now) ≡ Ok (cube_facts_of f))
-        (λ e. IsCubeRefusedBy e (cube_facts_read (graphs_of graphs.now) legals.now (records_of text.now))) }
+        (λ f. cube_facts_read (graphs_of graphs.now) legals.now (records_of text.now)
+        ≡ Ok (cube_facts_of f))
+        (λ e. IsCubeRefusedBy e
+        (cube_facts_read (graphs_of graphs.now) legals.now (records_of text.now))) }
 
-    ensures members { IfOk result (λ f. All (λ q. AreMembers legals.now (members_of q.members)) f.rows) }
+    ensures members { IfOk result
+        (λ f. All (λ q. AreMembers legals.now (members_of q.members)) f.rows) }
     ensures few { IfOk result (λ f. length f.rows ≤ most_listed_facts) }
-    ensures table { IfOk result (λ f. IsCubeFactTable (graphs_of graphs.now) legals.now (cube_facts_of f)) }
+    ensures table { IfOk result
+        (λ f. IsCubeFactTable (graphs_of graphs.now) legals.now (cube_facts_of f)) }
 {
     let instances = legals.instances(alloc)?;
     read(alloc, graphs, &instances, text)

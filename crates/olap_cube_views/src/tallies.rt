@@ -66,8 +66,8 @@ fn key(columns: &[Column], members: &[MemberId]) -> Option<Key>
     requires few { length columns.now ≤ most_dimensions }
     requires members { AreMembers (instances_in columns.now) (members_of members.now) }
     ensures some { IfSome result (λ q. (y : Items ℕ)
-        × IsTupleAncestor (instances_in columns.now) (members_of members.now) (categories_in columns.now) y
-        × (q ≡ key_of y)) }
+        × IsTupleAncestor (instances_in columns.now) (members_of members.now)
+        (categories_in columns.now) y × (q ≡ key_of y)) }
     ensures none { IsNone result
         → ReachesNone (instances_in columns.now) (members_of members.now) (categories_in columns.now) }
 {
@@ -84,9 +84,11 @@ fn key(columns: &[Column], members: &[MemberId]) -> Option<Key>
 /// Joins a summary to what stands at a key.
 fn join(summaries: &mut BTreeMap<Key, Summary>, key: Key, summary: Summary) -> Result<(), Memory>
     requires this { IsUpTo (2 ^ 62) (2 ^ 120) (summary_of summary) }
-    requires there { IfSome (option_map summary_of (get key_cmp summaries.old key)) (IsUpTo (2 ^ 62) (2 ^ 120)) }
+    requires there { IfSome (option_map summary_of (get key_cmp summaries.old key))
+        (IsUpTo (2 ^ 62) (2 ^ 120)) }
     ensures ok { OnOk result ((q : Items ℕ) → option_map summary_of (get key_cmp summaries.new q)
-        ≡ (if is_key key q then option_map summary_of (get key_cmp summaries.old key) ⊕ Some (summary_of summary)
+        ≡ (if is_key key q
+        then option_map summary_of (get key_cmp summaries.old key) ⊕ Some (summary_of summary)
         else option_map summary_of (get key_cmp summaries.old q))) }
     ensures err { OnErr result (IsUnchanged summaries.old summaries.new) }
 {
@@ -105,10 +107,12 @@ fn join_fact(
 ) -> Result<(), Memory>
     requires few { length columns.now ≤ most_dimensions }
     requires members { AreMembers (instances_in columns.now) (members_of members.now) }
-    requires room { (q : Items ℕ) → IfSome (summary_at (entries_of summaries.old.entries) q) (IsUpTo (2 ^ 62) (2 ^ 120)) }
+    requires room { (q : Items ℕ)
+        → IfSome (summary_at (entries_of summaries.old.entries) q) (IsUpTo (2 ^ 62) (2 ^ 120)) }
     ensures stands { OnOk result ((n : ℕ) (facts : Items TheFact)
         → CubeStandsFor (tallied columns.now summaries.old.entries n) facts
-        → CubeStandsFor (tallied columns.now summaries.new.entries (n + 1)) (facts ++ fact_at members.now value ∷ [])) }
+        → CubeStandsFor (tallied columns.now summaries.new.entries (n + 1))
+        (facts ++ fact_at members.now value ∷ [])) }
     ensures err { OnErr result (IsUnchanged summaries.old summaries.new) }
 {
     match key(columns, members) {
@@ -132,7 +136,8 @@ fn members(alloc: Global, key: &Key, dimensions: usize) -> Result<Vec<MemberId>,
 /// The row of a key's tuple.
 fn row(alloc: Global, key: &Key, dimensions: usize, summary: &Summary) -> Result<CubeRow, Memory>
     requires { dimensions ≤ most_dimensions }
-    ensures { IfOk result (λ r. cube_row_of r ≡ row_of_entry dimensions (key.now, summary_of summary.now)) }
+    ensures { IfOk result
+        (λ r. cube_row_of r ≡ row_of_entry dimensions (key.now, summary_of summary.now)) }
 {
     let members = members(alloc, key, dimensions)?;
     Ok(CubeRow {
@@ -206,7 +211,8 @@ impl<'a> CubeTally<'a> {
     pub(crate) fn rows(&self, alloc: Global) -> Result<Vec<CubeRow>, Memory>
         ensures rows { IfOk result (λ v. (facts : Items TheFact) → CubeStandsFor self.now facts
             → cube_rows_of v.items ≡ cube_direct_rows self.now.instances self.now.target facts) }
-        ensures members { IfOk result (λ v. All (λ r. AreMembers self.now.instances (members_of r.members)) v.items) }
+        ensures members { IfOk result
+            (λ v. All (λ r. AreMembers self.now.instances (members_of r.members)) v.items) }
     {
         rows(alloc, &self.summaries, self.columns.len())
     }

@@ -41,8 +41,8 @@ fn view(alloc: Global, target: &[CatId], rows: Vec<CubeRow>) -> Result<CubeView,
 /// members reach, in file order of the first dimension's members, then of the second's, and so on, with the count, sum,
 /// least and greatest of those facts' values.
 ///
-/// It takes four bytes for each member of the instances, and memory for each row; a fact takes a look at a list for each
-/// dimension and a look-up among the rows. `Memory`: out of memory.
+/// It takes four bytes for each member of the instances, and memory for each row; a fact takes a look at a list for
+/// each dimension and a look-up among the rows. `Memory`: out of memory.
 pub fn cube_direct(
     alloc: Global,
     legals: &Legals,
@@ -54,8 +54,10 @@ pub fn cube_direct(
     requires few { length facts.now.rows ≤ most_count }
 
     ensures view { IfOk result
-        (λ v. cube_view_of v ≡ cube_direct_view legals.now (cube_facts_of facts.now) (ids target.now)) }
-    ensures members { IfOk result (λ v. All (λ r. AreMembers legals.now (members_of r.members)) v.rows) }
+        (λ v. cube_view_of v
+        ≡ cube_direct_view legals.now (cube_facts_of facts.now) (ids target.now)) }
+    ensures members { IfOk result
+        (λ v. All (λ r. AreMembers legals.now (members_of r.members)) v.rows) }
 {
     let mut tally = CubeTally::new(alloc, columns(alloc, legals, target)?);
     'facts: for fact in facts.rows.items() {
@@ -77,11 +79,11 @@ fn add_rows(
     requires instances { tally.old.instances ≡ instances_of instances.now }
     requires start { CubeStandsFor tally.old [] }
     ensures facts { MatchResult result
-        (λ u. (first_fault (cube_fact_fault (graphs_of graphs.now) (instances_of instances.now)) [] rows.old.left
-        ≡ None)
+        (λ u. (first_fault (cube_fact_fault (graphs_of graphs.now) (instances_of instances.now))
+        [] rows.old.left ≡ None)
         × CubeStandsFor tally.new (map (cube_fact_read (instances_of instances.now)) rows.old.left))
-        (IsFaultCause
-        (first_fault (cube_fact_fault (graphs_of graphs.now) (instances_of instances.now)) [] rows.old.left)) }
+        (IsFaultCause (first_fault
+        (cube_fact_fault (graphs_of graphs.now) (instances_of instances.now)) [] rows.old.left)) }
     ensures instances { tally.new.instances ≡ instances_of instances.now }
     ensures target { tally.new.target ≡ tally.old.target }
 {
@@ -106,8 +108,8 @@ fn rolled_up(
     requires instances { tally.instances ≡ instances_of instances.now }
     requires target { tally.target ≡ ids target.now }
     requires start { CubeStandsFor tally [] }
-    ensures view { IfOk result (λ v. IsCubeRolledUp (graphs_of graphs.now) (instances_of instances.now)
-        (records_of text.now) (ids target.now) (cube_view_of v)) }
+    ensures view { IfOk result (λ v. IsCubeRolledUp (graphs_of graphs.now)
+        (instances_of instances.now) (records_of text.now) (ids target.now) (cube_view_of v)) }
     ensures members { IfOk result (λ v.
         All (λ r. AreMembers (instances_of instances.now) (members_of r.members)) v.rows) }
     ensures err { IfErr result (λ e. IsCubeRefusedBy e
@@ -128,7 +130,7 @@ fn rolled_up(
 /// The direct view of the columns' categories from a text of facts, or the text's first fault, which is that of
 /// `read_cube_facts`. The graphs are those of the dimensions, in order.
 ///
-/// Each fact is read once and added, and no list of facts is kept. It takes memory for each row. `Memory`: want of
+/// Each fact is read once and added, and no list of facts is kept. It takes memory for each row. `Memory`: out of
 /// memory.
 pub fn cube_roll_up(
     alloc: Global,
@@ -138,13 +140,15 @@ pub fn cube_roll_up(
 ) -> Result<CubeView, FactRefusal>
     requires made { AreMadeFor (graphs_of graphs.now) (instances_in columns.now) }
 
-    ensures view { IfOk result (λ v. IsCubeRolledUp (graphs_of graphs.now) (instances_in columns.now)
-        (records_of text.now) (categories_in columns.now) (cube_view_of v)) }
+    ensures view { IfOk result (λ v. IsCubeRolledUp (graphs_of graphs.now)
+        (instances_in columns.now) (records_of text.now) (categories_in columns.now)
+        (cube_view_of v)) }
     ensures members { IfOk result (λ v.
         All (λ r. AreMembers (instances_in columns.now) (members_of r.members)) v.rows) }
 
     ensures err { IfErr result (λ e.
-        IsCubeRefusedBy e (cube_facts_read (graphs_of graphs.now) (instances_in columns.now) (records_of text.now))) }
+        IsCubeRefusedBy e
+        (cube_facts_read (graphs_of graphs.now) (instances_in columns.now) (records_of text.now))) }
 {
     let instances = columns.instances(alloc)?;
     let target = columns.target(alloc)?;

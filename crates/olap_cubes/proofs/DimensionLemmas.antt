@@ -32,6 +32,7 @@ pub file_is : (files : List (String Global)) (k : ℕ) (file : String Global) �
     → file ≡ get_or files k file → string_bytes file ≡ get_or (texts files) k []
 file_is files k file h e = ap string_bytes e ∙ sym (get_or-map string_bytes files k file [] h)
 
+-- the schemas from a file on: this one, and those of the files after it
 pub schemas_from : (files : List (List ℕ)) (k : ℕ) (read : List Schema) → k < length files
     → schema_files (k + 1) read (drop k files)
     ≡ and_then (schema_file (numbered (codes "schema") (k + 1)) (get_or files k []))
@@ -42,10 +43,12 @@ schemas_from files k read h =
     ∙ ap (λ n. and_then (schema_file (numbered (codes "schema") (k + 1)) (get_or files k []))
     (λ s. schema_files n (read ++ s ∷ []) (drop (k + 1) files))) next
 
+-- no schema is left
 pub schemas_end : (files : List (List ℕ)) (k : ℕ) (read : List Schema) → length files ≤ k
     → schema_files (k + 1) read (drop k files) ≡ Done read
 schemas_end files k read h = ap (schema_files (k + 1) read) (drop_all k files h)
 
+-- the instances from a file on: this one, and those of the files after it
 pub legals_from : (schemas : List Schema) (files : List (List ℕ)) (k : ℕ) (read : List Instance) → k < length schemas
     → k < length files → legal_files (k + 1) read (drop k schemas) (drop k files)
     ≡ and_then (legal_file (get_or schemas k no_schema) (numbered (codes "instance") (k + 1)) (get_or files k []))
@@ -54,9 +57,11 @@ legals_from schemas files k read l h =
     let next : suc (k + 1) ≡ k + 1 + 1 = omega arith in
     ap (λ ss. legal_files (k + 1) read ss (drop k files)) (drop_more schemas k no_schema l)
     ∙ ap (legal_files (k + 1) read (get_or schemas k no_schema ∷ drop (k + 1) schemas)) (drop_more files k [] h)
-    ∙ ap (λ n. and_then (legal_file (get_or schemas k no_schema) (numbered (codes "instance") (k + 1)) (get_or files k []))
+    ∙ ap (λ n. and_then
+    (legal_file (get_or schemas k no_schema) (numbered (codes "instance") (k + 1)) (get_or files k []))
     (λ i. legal_files n (read ++ i ∷ []) (drop (k + 1) schemas) (drop (k + 1) files))) next
 
+-- no instance is left
 pub legals_end : (schemas : List Schema) (files : List (List ℕ)) (k : ℕ) (read : List Instance) → length schemas ≤ k
     → legal_files (k + 1) read (drop k schemas) (drop k files) ≡ Done read
 legals_end schemas files k read l =

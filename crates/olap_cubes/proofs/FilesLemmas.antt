@@ -1,7 +1,7 @@
 -- Files that are read in a loop: a step and what comes after it are a step.
 --     file_followed, file_ended   a step and the rest
 --     as_ended                    a step that ended, as the code hands it on
---     no_memory                   a step that wants memory
+--     no_memory                   a step that runs out of memory
 --     AreReadTo                   what is read of the files that are left is read of all
 use Rattle.std.proofs.Common.{◌≡◌, ◌+◌, ℕ, List, [], ◌∷◌, ◌++◌, Option, None, Some, Result, Ok, Err, MatchOption, ap, subst, sym, refl, arith, ◌∙◌}
 use Rattle.std.specs.Result.{IsErrAnd}
@@ -23,6 +23,7 @@ same_state : {D : Type 0} {L : Library D} {old : D} → IsLater L old old
 same_state = record { faults = omega arith; sure = refl }
 
 module _ {T Q : Type 0} (next : T → Order Q) where
+  -- what a step comes to, and then what the step after it comes to
   comes_out_then : (files : Files) (step : Order T) (x : T) (y : Q) → ComesOut files step x → ComesOut files (next x) y
       → ComesOut files (and_then step next) y
   comes_out_then files (Done z) x y e f = subst (λ w. ComesOut files (next w) y) (sym e) f
@@ -37,6 +38,7 @@ module _ {T Q : Type 0} (next : T → Order Q) where
       go None f e = absurd e
       go (Some text) f e = f text e
 
+  -- the same where the files may be unknown
   comes_out_told_then : (files : Option Files) (step : Order T) (x : T) (y : Q) → ComesOutTold files step x
       → ComesOutTold files (next x) y → ComesOutTold files (and_then step next) y
   comes_out_told_then None step x y e f = λ none.
@@ -81,8 +83,9 @@ module _ {D T X : Type 0} {L : Library D} {old new : D} {step : Order T} {meanin
   as_ended (Ok x) stop is s = absurd is
   as_ended (Err e) stop is s = subst (λ e. FileStep L old new step meaning (Err e)) (sym is) s
 
-  -- a step that wants memory, whatever it is
-  pub no_memory : IsLater L old new → L.contents new ≡ L.contents old → FileStep L old new step meaning (Err stops.Memory)
+  -- a step that runs out of memory, whatever it is
+  pub no_memory : IsLater L old new → L.contents new ≡ L.contents old
+      → FileStep L old new step meaning (Err stops.Memory)
   no_memory later same = record {
     comes_out = tt;
     ends = record { right = tt; verdict = tt; read = λ is. absurd (cc); later = later };
@@ -102,13 +105,16 @@ module _ {D T X : Type 0} {L : Library D} {old new : D} {step : Order T} {meanin
 
 -- ---- one file after the other: `behind` is what comes when so many are read, and what they came to
 
-module _ {D T : Type 0} (L : Library D) (start : D) (order : Order (List T)) (behind : ℕ → List T → Order (List T)) where
+module _ {D T : Type 0} (L : Library D) (start : D) (order : Order (List T))
+    (behind : ℕ → List T → Order (List T)) where
+  -- what is read of the files that are left is read of all
   pub record AreReadTo (k : ℕ) (now : D) (read : List T) : Type 0 where
     pub rest : (new : D) (result : Result (List T) Stop) → FileStep L now new (behind k read) (λ x. x) result
         → FileStep L start new order (λ x. x) result
     pub same : L.contents now ≡ L.contents start
     pub later : IsLater L start now
 
+  -- no file is read yet
   pub read_none : order ≡ behind 0 [] → AreReadTo 0 start []
   read_none e = record {
     rest = λ new result s. subst (λ o. FileStep L start new o (λ x. x) result) (sym e) s;
@@ -116,6 +122,7 @@ module _ {D T : Type 0} (L : Library D) (start : D) (order : Order (List T)) (be
     later = same_state;
   }
 
+  -- one file more
   pub read_more : {X : Type 0} (k : ℕ) (now new : D) (read all : List T) (step : Order T) (meaning : X → T) (x : X)
       → AreReadTo k now read
       → behind k read ≡ and_then step (λ t. behind (k + 1) (read ++ t ∷ []))
@@ -131,7 +138,8 @@ module _ {D T : Type 0} (L : Library D) (start : D) (order : Order (List T)) (be
   pub read_ends : {X : Type 0} (k : ℕ) (now new : D) (read : List T) (step : Order T) (meaning : X → T) (stop : Stop)
       → AreReadTo k now read
       → behind k read ≡ and_then step (λ t. behind (k + 1) (read ++ t ∷ []))
-      → FileStep L now new step meaning (Err stop) → FileStep {T = List T} {X = List T} L start new order (λ x. x) (Err stop)
+      → FileStep L now new step meaning (Err stop)
+      → FileStep {T = List T} {X = List T} L start new order (λ x. x) (Err stop)
   read_ends k now new read step meaning stop r e s = r.rest new (Err stop)
       (subst (λ o. FileStep {T = List T} {X = List T} L now new o (λ x. x) (Err stop)) (sym e)
       (file_ended s (λ t. behind (k + 1) (read ++ t ∷ []))))

@@ -15,7 +15,8 @@ none_before None = refl
 none_before (Some rest) = refl
 
 -- one number is put in front, and then others
-one_before : (cs : List ℕ) (c : ℕ) (o : Option (List ℕ)) → option_map (λ rest. cs ++ rest) (option_map (λ rest. c ∷ rest) o)
+one_before : (cs : List ℕ) (c : ℕ) (o : Option (List ℕ))
+    → option_map (λ rest. cs ++ rest) (option_map (λ rest. c ∷ rest) o)
     ≡ option_map (λ rest. (cs ++ c ∷ []) ++ rest) o
 one_before cs c None = refl
 one_before cs c (Some rest) = ap Some (sym (append_assoc cs (c ∷ []) rest))
@@ -31,11 +32,13 @@ categories_next (s ∷ schemas) (suc k) [] c h a i = absurd a
 categories_next (s ∷ schemas) (suc k) (d ∷ cs) c h a i = (a.0, categories_next schemas k cs c (omega arith) a.1 i)
 
 module _ (schemas : List Schema) (names : List (List ℕ)) where
+  -- what the names that are left say, after these categories, is what all names say
   pub record AreNamedTo (k : ℕ) (cs : List ℕ) : Type 0 where
     pub named : categories_named schemas names
         ≡ option_map (λ rest. cs ++ rest) (categories_named (drop k schemas) (drop k names))
     pub categories : AreCategoriesOf (take k schemas) cs
 
+  -- no name is looked up yet
   pub named_none : AreNamedTo 0 []
   named_none = record { named = none_before (categories_named schemas names); categories = tt }
 
@@ -46,12 +49,14 @@ module _ (schemas : List Schema) (names : List (List ℕ)) where
       (λ c. option_map (λ rest. c ∷ rest) (categories_named (drop (k + 1) schemas) (drop (k + 1) names))) o)
   named_from k cs l h r o e =
       r.named
-      ∙ ap (λ ss. option_map (λ rest. cs ++ rest) (categories_named ss (drop k names))) (drop_more schemas k no_schema l)
+      ∙ ap (λ ss. option_map (λ rest. cs ++ rest) (categories_named ss (drop k names)))
+      (drop_more schemas k no_schema l)
       ∙ ap (λ ns. option_map (λ rest. cs ++ rest)
       (categories_named (get_or schemas k no_schema ∷ drop (k + 1) schemas) ns)) (drop_more names k [] h)
       ∙ ap (λ p. option_map (λ rest. cs ++ rest) (option_and_then
       (λ c. option_map (λ rest. c ∷ rest) (categories_named (drop (k + 1) schemas) (drop (k + 1) names))) p)) e
 
+  -- one name more, which is known
   pub named_more : (k : ℕ) (cs all : List ℕ) (c : ℕ) → k < length schemas → k < length names → AreNamedTo k cs
       → category_named (get_or schemas k no_schema).graph (get_or names k []) ≡ Some c
       → IsCategory (get_or schemas k no_schema).graph c → all ≡ cs ++ c ∷ [] → AreNamedTo (k + 1) all
@@ -81,6 +86,7 @@ module _ (schemas : List Schema) (names : List (List ℕ)) where
       last [] = ap Some (append-nil cs)
       last (s ∷ ss) = ap Some (append-nil cs)
 
+  -- all are categories of their schemas
   pub categories_all : (k : ℕ) (cs : List ℕ) → length schemas ≤ k → AreNamedTo k cs → AreCategoriesOf schemas cs
   categories_all k cs h r =
       subst (λ (ss : List Schema). AreCategoriesOf ss cs) (take_all k schemas h) r.categories

@@ -19,6 +19,7 @@ module _ (one : TheCubeCounterexampleIsOne) (text : OneChoiceHasOneText) (sums :
       let agree = summarizable (instances_of schemas choice) h.legal (one_cube_fact roots) h.facts in
       h.views (sym (ap only_cube_sum agree) ∙ h.direct)
 
+  -- a question about a cube has one status and one text at most
   pub answers_are_one : AnswersAreOne
   answers_are_one (ByCube schemas c sources) x y b d (inl p) (inl q) = (p.0 ∙ sym q.0, p.2 ∙ sym q.2)
   answers_are_one (ByCube schemas c sources) x y b d (inl p) (inr q) =

@@ -1,7 +1,7 @@
 -- Tuples of categories that are read from words, one after the other.
 --     numbers_compared categories are compared as their numbers are
 --     ended_plain      a step that reads nothing ends, and what comes after it with it
---     AreNamedUpTo     the order of all the words is that of those that are left, behind the tuples that were read
+--     AreNamedUpTo     the order of all the words is that of those that are left, after the tuples that were read
 use Rattle.std.proofs.Common.{◌≡◌, ◌+◌, ◌<◌, ◌≤◌, ℕ, suc, List, [], ◌∷◌, ◌++◌, Result, Ok, Err, length, get_or, drop, true, false, ap, refl, subst, sym, arith, ◌∙◌}
 use Rattle.std.specs.Cmp.Lexicographic.{pointwise}
 use Rattle.std.specs.List.{list_any}
@@ -23,6 +23,7 @@ use Rattle.olap_order.specs.declared.replies.Stop.{Stop}
 use Rattle.olap_order.proofs.Stepping.{ends_both}
 use Rattle.olap_cubes.specs.Steps.{another_tuple, different_tuples}
 
+-- categories are compared as their numbers are
 pub numbers_compared : (xs ys : List CatId) → pointwise (λ (a b : CatId). nat_eq a.0 b.0) xs ys
     ≡ pointwise nat_eq (numbers_of xs) (numbers_of ys)
 numbers_compared [] [] = refl
@@ -49,6 +50,7 @@ not_among tuples c e h =
     absurd (let q : true ≡ false = sym found ∙ e in cc)
 
 module _ (schemas : List Schema) (at : ℕ) (words : List (List ℕ)) where
+  -- the order of all the words is that of those that are left, after the tuples that were read
   pub record AreNamedUpTo (k : ℕ) (tuples : List (List ℕ)) : Type 0 where
     pub order : different_tuples schemas at [] words ≡ different_tuples schemas (at + k) tuples (drop k words)
     pub each : length tuples ≡ k
@@ -62,6 +64,7 @@ module _ (schemas : List Schema) (at : ℕ) (words : List (List ℕ)) where
   from_word k tuples h r = r.order
       ∙ ap (λ ws. different_tuples schemas (at + k) tuples ws) (drop_more words k [] h)
 
+  -- no word is read yet
   pub no_word : AreNamedUpTo 0 []
   no_word = record {
     order = let e : at ≡ at + 0 = omega arith in ap (λ n. different_tuples schemas n [] words) e;
@@ -70,6 +73,7 @@ module _ (schemas : List Schema) (at : ℕ) (words : List (List ℕ)) where
     differ = tt;
   }
 
+  -- one word more, whose tuple is none of those before it
   pub word_more : (k : ℕ) (tuples all : List (List ℕ)) (c : List ℕ) → k < length words → AreNamedUpTo k tuples
       → another_tuple schemas (at + k) tuples (get_or words k []) ≡ Done c
       → AreCategoriesOf schemas c → list_any (λ d. pointwise nat_eq d c) tuples ≡ false → all ≡ tuples ++ c ∷ []

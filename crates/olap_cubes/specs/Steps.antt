@@ -47,7 +47,8 @@ legal_files dimension earlier schemas files = Done earlier
 abbrev pub cube_facts_file : List Schema → List Instance → List ℕ → Order (List CubeFact)
 cube_facts_file schemas is file =
     and_then (text_file (codes "facts") file) (λ text.
-    meaning_or_fault (codes "facts") (codes "record") fact_kind (cube_facts_read (graphs_of schemas) is (records_of text)))
+    meaning_or_fault (codes "facts") (codes "record") fact_kind
+    (cube_facts_read (graphs_of schemas) is (records_of text)))
 
 -- ---- words
 

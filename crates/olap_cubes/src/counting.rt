@@ -21,7 +21,7 @@ fn dimensions_said(word: &str) -> Option<usize>
 }
 
 /// How many dimensions the first word says that there are, and the words after it.
-pub(crate) fn counted(words: &[String]) -> Option<(usize, &[String])>
+pub(crate) fn count_and_rest(words: &[String]) -> Option<(usize, &[String])>
     ensures order { (order : ℕ → Items (Items ℕ) → Maybe (Order Question)) → MatchOption result
         (by_dimensions order (texts words.now) ≡ None)
         (λ p. by_dimensions order (texts words.now) ≡ order p.0 (texts p.1.now)) }

@@ -76,7 +76,8 @@ fn dimension_legal<L: Library>(
     lib: &mut L,
 ) -> Result<Legal, Stop>
     ensures step { FileStep L.Library lib.old lib.new
-        (legal_file (schema_of schema.now) (numbered (codes "instance") dimension) file.now) (λ i. i) result }
+        (legal_file (schema_of schema.now) (numbered (codes "instance") dimension) file.now)
+        (λ i. i) result }
     ensures made { IfOk result (λ i. IsMadeFor (schema_of schema.now).graph i) }
 {
     let label = label_of(alloc, "instance", dimension)?;
@@ -93,7 +94,8 @@ fn dimension_column<L: Library>(
     lib: &mut L,
 ) -> Result<OwnedColumn, Stop>
     ensures step { FileStep L.Library lib.old lib.new
-        (legal_file (schema_of schema.now) (numbered (codes "instance") dimension) file.now) (λ a. a.instance) result }
+        (legal_file (schema_of schema.now) (numbered (codes "instance") dimension) file.now)
+        (λ a. a.instance) result }
     ensures made { IfOk result (λ a. IsMadeFor (schema_of schema.now).graph a.instance) }
     ensures category { IfOk result (λ a. a.category ≡ category.0) }
 {
@@ -117,7 +119,8 @@ pub(crate) fn columns_in<L: Library>(
     requires target { length target.now ≡ length (schemas_of cube.now) }
     ensures step { FileStep L.Library lib.old lib.new
         (legal_files 1 [] (schemas_of cube.now) (texts files.now)) instances_in result }
-    ensures made { IfOk result (λ columns. AreMadeFor (graphs_of (schemas_of cube.now)) (instances_in columns)) }
+    ensures made { IfOk result
+        (λ columns. AreMadeFor (graphs_of (schemas_of cube.now)) (instances_in columns)) }
     ensures categories { IfOk result (λ columns. categories_in columns ≡ ids target.now) }
 {
     let mut columns = TargetColumns::new(alloc);

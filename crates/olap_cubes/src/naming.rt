@@ -20,8 +20,10 @@ use std::alloc::Global;
 fn named(alloc: Global, cube: &Cube, names: &[Text]) -> Result<Option<Vec<CatId>>, Memory>
     requires one_each { length names.now ≡ length (schemas_of cube.now) }
     ensures named { IfOk result (λ found.
-        option_map (λ cs. numbers_of cs.items) found ≡ categories_named (schemas_of cube.now) names.now) }
-    ensures categories { IfOk result (λ found. IfSome found (λ cs. AreCategoriesOf (schemas_of cube.now) (numbers_of cs.items))) }
+        option_map (λ cs. numbers_of cs.items) found
+        ≡ categories_named (schemas_of cube.now) names.now) }
+    ensures categories { IfOk result (λ found.
+        IfSome found (λ cs. AreCategoriesOf (schemas_of cube.now) (numbers_of cs.items))) }
 {
     let mut categories = Vec::new(alloc);
     'names: for k in 0..names.len() {
@@ -35,8 +37,10 @@ fn named(alloc: Global, cube: &Cube, names: &[Text]) -> Result<Option<Vec<CatId>
 
 /// The categories, one of each dimension, whose names the word of this number joins by commas.
 pub(crate) fn tuple_at(alloc: Global, at: u64, cube: &Cube, word: &str) -> Result<Vec<CatId>, Stop>
-    ensures step { PlainStep (tuple_word (schemas_of cube.now) at word.now) (λ cs. numbers_of cs.items) result }
-    ensures categories { IfOk result (λ cs. AreCategoriesOf (schemas_of cube.now) (numbers_of cs.items)) }
+    ensures step { PlainStep (tuple_word (schemas_of cube.now) at word.now)
+        (λ cs. numbers_of cs.items) result }
+    ensures categories { IfOk result
+        (λ cs. AreCategoriesOf (schemas_of cube.now) (numbers_of cs.items)) }
 {
     let names = pieces(alloc, b',', word.as_bytes())?;
     if names.len() != cube.len() {
@@ -57,7 +61,8 @@ fn is_same(tuple: &Tuple, categories: &[CatId]) -> bool
 
 /// Whether these categories are one of the tuples.
 fn is_among(tuples: &[Tuple], categories: &[CatId]) -> bool
-    ensures { result ≡ list_any (λ d. pointwise nat_eq d (numbers_of categories.now)) (tuples_in tuples.now) }
+    ensures { result
+        ≡ list_any (λ d. pointwise nat_eq d (numbers_of categories.now)) (tuples_in tuples.now) }
 {
     for tuple in tuples {
         if is_same(tuple, categories) {
@@ -75,9 +80,11 @@ fn another_at(
     earlier: &[Tuple],
     word: &str,
 ) -> Result<Tuple, Stop>
-    ensures step { PlainStep (another_tuple (schemas_of cube.now) at (tuples_in earlier.now) word.now) tuple_of result }
+    ensures step { PlainStep
+        (another_tuple (schemas_of cube.now) at (tuples_in earlier.now) word.now) tuple_of result }
     ensures categories { IfOk result (λ t. AreCategoriesOf (schemas_of cube.now) (tuple_of t)) }
-    ensures new { IfOk result (λ t. list_any (λ d. pointwise nat_eq d (tuple_of t)) (tuples_in earlier.now) ≡ false) }
+    ensures new { IfOk result
+        (λ t. list_any (λ d. pointwise nat_eq d (tuple_of t)) (tuples_in earlier.now) ≡ false) }
 {
     let categories = tuple_at(alloc, at, cube, word)?;
     if is_among(earlier, &categories) {
@@ -99,7 +106,8 @@ pub(crate) fn tuples_at(
     ensures step { PlainStep (different_tuples (schemas_of cube.now) at [] (texts words.now))
         (λ tuples. tuples_in tuples.items) result }
     ensures each { IfOk result (λ tuples. length (tuples_in tuples.items) ≡ length words.now) }
-    ensures categories { IfOk result (λ tuples. All (AreCategoriesOf (schemas_of cube.now)) (tuples_in tuples.items)) }
+    ensures categories { IfOk result
+        (λ tuples. All (AreCategoriesOf (schemas_of cube.now)) (tuples_in tuples.items)) }
     ensures differ { IfOk result (λ tuples. AllPairs ◌≢◌ (tuples_in tuples.items)) }
 {
     let mut tuples = Vec::new(alloc);

@@ -33,9 +33,10 @@ fn difference(
 ) -> Result<Vec<u8>, Memory>
     requires target { AreCategoriesOf (schemas_of cube.now) (tuple_of target.now) }
     requires sources { All (AreCategoriesOf (schemas_of cube.now)) (tuples_in sources.now) }
-    requires found { IsCubeCounterexampleFound (schemas_of cube.now) (tuple_of target.now) (tuples_in sources.now)
-        found.now.founds }
-    ensures text { IfOk result (λ text. text.items ≡ line (codes "no") ++ cube_counterexample_text (schemas_of cube.now)
+    requires found { IsCubeCounterexampleFound (schemas_of cube.now) (tuple_of target.now)
+        (tuples_in sources.now) found.now.founds }
+    ensures text { IfOk result (λ text. text.items
+        ≡ line (codes "no") ++ cube_counterexample_text (schemas_of cube.now)
         (map chosen_of found.now.founds) (tuple_of target.now) (tuples_in sources.now)) }
 {
     let mut text = Vec::from_slice(alloc, b"no\n")?;

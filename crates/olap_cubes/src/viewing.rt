@@ -50,11 +50,14 @@ fn rolled_up(
     text: &[u8],
 ) -> Result<CubeView, FactRefusal>
     requires made { AreMadeFor (graphs_of (schemas_of cube.now)) (instances_in columns.now) }
-    ensures view { IfOk result (λ v. IsCubeRolledUp (graphs_of (schemas_of cube.now)) (instances_in columns.now)
-        (records_of text.now) (categories_in columns.now) (cube_view_of v)) }
-    ensures members { IfOk result (λ v. All (λ r. AreMembers (instances_in columns.now) (members_of r.members)) v.rows) }
+    ensures view { IfOk result (λ v. IsCubeRolledUp (graphs_of (schemas_of cube.now))
+        (instances_in columns.now) (records_of text.now) (categories_in columns.now)
+        (cube_view_of v)) }
+    ensures members { IfOk result
+        (λ v. All (λ r. AreMembers (instances_in columns.now) (members_of r.members)) v.rows) }
     ensures err { IfErr result (λ e. IsCubeRefusedBy e
-        (cube_facts_read (graphs_of (schemas_of cube.now)) (instances_in columns.now) (records_of text.now))) }
+        (cube_facts_read (graphs_of (schemas_of cube.now)) (instances_in columns.now)
+        (records_of text.now))) }
 {
     let graphs = graphs(alloc, cube)?;
     cube_roll_up(alloc, &graphs, columns, text)
@@ -73,8 +76,10 @@ fn view_in<L: Library>(
         (λ v. IsOfFacts L.Library lib.old lib.new (schemas_of cube.now) (instances_in columns.now)
         (categories_in columns.now) file.now (cube_view_of v))
         (λ stop. FileStep L.Library lib.old lib.new
-        (cube_facts_file (schemas_of cube.now) (instances_in columns.now) file.now) (λ facts. facts) (Err stop)) }
-    ensures members { IfOk result (λ v. All (λ r. AreMembers (instances_in columns.now) (members_of r.members)) v.rows) }
+        (cube_facts_file (schemas_of cube.now) (instances_in columns.now) file.now)
+        (λ facts. facts) (Err stop)) }
+    ensures members { IfOk result
+        (λ v. All (λ r. AreMembers (instances_in columns.now) (members_of r.members)) v.rows) }
 {
     let Some(text) = read_file(alloc, file, lib)? else {
         return Err(refuse_long(alloc, "facts"));
@@ -102,8 +107,8 @@ fn told<L: Library>(
 ) -> Result<Reply, Stop>
     requires made { AreMadeFor (graphs_of (schemas_of cube.now)) (instances_in columns.now) }
     ensures judged { Judged IsAnswer L.Library lib.old lib.new
-        (and_then (cube_facts_file (schemas_of cube.now) (instances_in columns.now) file.now) (λ table.
-        Told Status.Yes (cube_view_text (instances_in columns.now)
+        (and_then (cube_facts_file (schemas_of cube.now) (instances_in columns.now) file.now)
+        (λ table. Told Status.Yes (cube_view_text (instances_in columns.now)
         (cube_direct_view (instances_in columns.now) table (categories_in columns.now))))) result }
 {
     let view = view_in(alloc, cube, columns, file, lib)?;

@@ -5,7 +5,7 @@ ghost use Rattle.olap_order.specs.Words.{texts};
 ghost use Rattle.olap_cubes.specs.Commands.{by_target, cube_by, cube_order, cubeview_by, cubeview_order, order_named};
 ghost use Rattle.olap_cubes.specs.Seen.{AreDimensions, HasFiles, seen};
 
-use crate::counting::counted;
+use crate::counting::count_and_rest;
 use olap_base::MOST_VIEWS;
 
 /// A command with its words.
@@ -63,7 +63,8 @@ fn cubeview(dimensions: usize, words: &[String]) -> Option<Command<'_>>
 /// The words after the schemas of `cube`.
 fn after_schemas<'a>(schemas: &'a [String], words: &'a [String]) -> Option<Command<'a>>
     requires few { AreDimensions (length schemas.now) }
-    ensures order { option_map seen result ≡ by_target (cube_order (texts schemas.now)) (texts words.now) }
+    ensures order { option_map seen result
+        ≡ by_target (cube_order (texts schemas.now)) (texts words.now) }
     ensures files { IfSome result HasFiles }
 {
     match words {
@@ -93,11 +94,11 @@ pub(crate) fn parse<'a>(name: &str, words: &'a [String]) -> Option<Command<'a>>
 {
     match name {
         "cube" => {
-            let (dimensions, words) = counted(words)?;
+            let (dimensions, words) = count_and_rest(words)?;
             cube(dimensions, words)
         }
         "cubeview" => {
-            let (dimensions, words) = counted(words)?;
+            let (dimensions, words) = count_and_rest(words)?;
             cubeview(dimensions, words)
         }
         _ => None,

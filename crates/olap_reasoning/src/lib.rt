@@ -1,8 +1,8 @@
 //! The commands that ask about all legal instances of a schema, and that print it.
 //!
 //! A command is an order (`specs/Commands.antt`) that ends in a question (`specs/Questions.antt`). Which status and
-//! bytes answer it is the relation `IsAnswer`. `judge` is the one call: the reply to a command's name and words. Nothing
-//! here knows of facts and views.
+//! bytes answer it is the relation `IsAnswer`. `judge` is the one call: the reply to a command's name and words.
+//! Nothing here knows of facts and views.
 #![tactic(auto)]
 
 mod auditing;

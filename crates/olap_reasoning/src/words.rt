@@ -93,7 +93,8 @@ fn implies(words: &[String]) -> Option<Command<'_>>
 
 /// The words after `summarizable`, `prove` and `prove-short`.
 fn summarizable(wanted: Wanted, words: &[String]) -> Option<Command<'_>>
-    ensures { option_map seen result ≡ by_two_or_more (sources_order (question_of wanted)) (texts words.now) }
+    ensures { option_map seen result
+        ≡ by_two_or_more (sources_order (question_of wanted)) (texts words.now) }
 {
     match words {
         [schema, target, sources @ ..] => Some(Command::Summarizable {

@@ -92,7 +92,7 @@ fn store(words: &[String]) -> Option<Command<'_>>
 }
 
 /// The words after `append` or `retract`.
-fn changed(change: Change, words: &[String]) -> Option<Command<'_>>
+fn change_command(change: Change, words: &[String]) -> Option<Command<'_>>
     ensures { option_map seen result ≡ by_four (change_order (step_of change)) (texts words.now) }
 {
     match words {
@@ -115,8 +115,8 @@ pub(crate) fn parse<'a>(name: &str, words: &'a [String]) -> Option<Command<'a>>
         "rollup" => rollup(words),
         "check" => check(words),
         "store" => store(words),
-        "append" => changed(Change::Append, words),
-        "retract" => changed(Change::Retract, words),
+        "append" => change_command(Change::Append, words),
+        "retract" => change_command(Change::Retract, words),
         _ => None,
     }
 }

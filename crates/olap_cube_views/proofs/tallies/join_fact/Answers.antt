@@ -20,7 +20,8 @@ returns-in-Some-clause-stands c =
     let reached = c.in-Some.ensures.some in
     let fits : SFits w64 c.args.value = search rules in
     fact_joined c.join.result columns c.args.summaries.now.entries c.join.new.summaries.entries
-    (fact_at c.args.members.now c.args.value) reached.0 c.in-Some.key (summary_of c.of_value.result) c.requires.few reached.1 reached.2
+    (fact_at c.args.members.now c.args.value) reached.0 c.in-Some.key (summary_of c.of_value.result)
+    c.requires.few reached.1 reached.2
     (c.of_value.ensures ∙ ap of_value (to_z-of_z w64 c.args.value fits)) c.join.ensures.ok
 
 pub returns-in-None-clause-stands : goal.returns-in-None-clause-stands

@@ -13,9 +13,10 @@ use Rattle.olap_cube_views.proofs.viewing.add_rows.Goals as goal
 
 pub add-requires-clause-members : goal.add-requires-clause-members
 add-requires-clause-members c =
-    subst (λ (is : List Instance). AreMembers is (members_of c.in_ok-fact.fact.members)) (sym c.rows.invariant.instances)
-    (bottom_members (graphs_of c.args.graphs.now) (instances_of c.args.instances.now) (members_of c.in_ok-fact.fact.members)
-    c.in_ok-fact.ensures.bottom)
+    subst (λ (is : List Instance). AreMembers is (members_of c.in_ok-fact.fact.members))
+    (sym c.rows.invariant.instances)
+    (bottom_members (graphs_of c.args.graphs.now) (instances_of c.args.instances.now)
+    (members_of c.in_ok-fact.fact.members) c.in_ok-fact.ensures.bottom)
 
 pub rows-preserved : goal.rows-preserved
 rows-preserved c =
@@ -36,7 +37,8 @@ rows-preserved c =
           inv.has_seen left says.0;
       instances = c.add.ensures.instances ∙ inv.instances;
       target = c.add.ensures.target ∙ inv.target;
-      few = let a = c.in_ok-add.ensures.added in let b = c.in_ok-fact.ensures.few in let e = c.added.ensures in omega arith;
+      few = let a = c.in_ok-add.ensures.added in let b = c.in_ok-fact.ensures.few in
+          let e = c.added.ensures in omega arith;
       stands = subst (CubeStandsFor c.add.new.self)
           (ap (λ (g : CubeFact). map (cube_fact_read is) seen ++ g ∷ []) says.1
           ∙ sym (map-append (cube_fact_read is) seen (row ∷ [])))

@@ -26,8 +26,9 @@ returns-in_err-schema-clause-step g c =
     ∙ file_is c.args.files.now k c.index-files-k.result c.files-test.true c.index-files-k.is in
     let here : k < length files = omega (arith, length-map c.args.files.now string_bytes) in
     as_ended c.from_residual.result stop c.from_residual.ensures.1 (ended_so
-    (read_ends g.L.Library c.args.lib.now (schema_files 1 [] files) (behind files) k c.files.lib c.dimension_schema.new.lib
-    (schemas_of c.files.cube) (schema_file (numbered (codes "schema") (k + 1)) (get_or files k [])) schema_of stop
+    (read_ends g.L.Library c.args.lib.now (schema_files 1 [] files) (behind files) k c.files.lib
+    c.dimension_schema.new.lib (schemas_of c.files.cube)
+    (schema_file (numbered (codes "schema") (k + 1)) (get_or files k [])) schema_of stop
     c.files.invariant.read (schemas_from files k (schemas_of c.files.cube) here)
     (subst (λ w. FileStep g.L.Library c.files.lib c.dimension_schema.new.lib
     (schema_file (numbered (codes "schema") (k + 1)) w) schema_of (Err stop)) file c.in_err-schema.ensures.step)))
@@ -47,8 +48,10 @@ files-preserved g c =
           (schema_file (numbered (codes "schema") (k + 1)) (get_or files k [])) schema_of schema c.files.invariant.read
           (schemas_from files k (schemas_of c.files.cube) here)
           (subst (λ w. FileStep g.L.Library c.files.lib c.dimension_schema.new.lib
-          (schema_file (numbered (codes "schema") (k + 1)) w) schema_of (Ok schema)) file c.in_ok-schema.ensures.step) more;
-      each = ap length more ∙ length_push (schemas_of c.files.cube) (schema_of schema) ∙ ap (λ n. n + 1) c.files.invariant.each;
+          (schema_file (numbered (codes "schema") (k + 1)) w) schema_of (Ok schema)) file
+          c.in_ok-schema.ensures.step) more;
+      each = ap length more ∙ length_push (schemas_of c.files.cube) (schema_of schema)
+          ∙ ap (λ n. n + 1) c.files.invariant.each;
     }
 
 pub returns-clause-step : goal.returns-clause-step

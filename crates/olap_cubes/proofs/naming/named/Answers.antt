@@ -21,8 +21,8 @@ names-preserved c =
     let known : category_named (get_or schemas k no_schema).graph (get_or names k []) ≡ Some c.in-Some.category.0 =
     sym (ap (category_named (get_or schemas k no_schema).graph) name)
     ∙ sym (ap (λ (g : Graph). category_named g c.bytes.result.now) graph) ∙ sym c.in-Some.ensures.place in
-    named_more schemas names k (numbers_of c.names.categories.items) (numbers_of c.push.new.self.items) c.in-Some.category.0
-    (omega (arith, c.requires.one_each)) c.names-test.true c.names.invariant known
+    named_more schemas names k (numbers_of c.names.categories.items) (numbers_of c.push.new.self.items)
+    c.in-Some.category.0 (omega (arith, c.requires.one_each)) c.names-test.true c.names.invariant known
     (subst (λ (g : Graph). IsCategory g c.in-Some.category.0) graph c.in-Some.ensures.category)
     (ap numbers_of c.in_ok-push-in-Some.ensures.items
     ∙ map-append (λ (s : CatId). s.0) c.names.categories.items (c.in-Some.category ∷ []))

@@ -29,7 +29,8 @@ returns-in_err-tuple-clause-step c =
     ended_plain c.from_residual.result stop c.from_residual.ensures.1
     (word_ends schemas c.args.at words k (tuples_in c.words.tuples.items) stop here c.words.invariant
     (subst (λ w. Replies NoAnswer (another_tuple schemas at (tuples_in c.words.tuples.items) w) (Err stop)) word
-    (subst (λ (xs : List Tuple). Replies NoAnswer (another_tuple schemas at (tuples_in xs) c.as_str.result.now) (Err stop))
+    (subst (λ (xs : List Tuple).
+    Replies NoAnswer (another_tuple schemas at (tuples_in xs) c.as_str.result.now) (Err stop))
     c.deref.ensures.value c.in_err-tuple.ensures.step.ends)))
 
 pub words-preserved : goal.words-preserved

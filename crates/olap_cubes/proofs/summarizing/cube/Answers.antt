@@ -18,15 +18,18 @@ returns-in_err-cube g c = record { judged = ended c.in_err-cube.ensures.step _ c
 
 pub returns-in_err-categories : goal.returns-in_err-categories
 returns-in_err-categories g c =
-    let count : length c.args.schemas.now ≡ length (texts c.args.schemas.now) = sym (length-map c.args.schemas.now string_bytes) in
+    let count : length c.args.schemas.now ≡ length (texts c.args.schemas.now) =
+    sym (length-map c.args.schemas.now string_bytes) in
     record {
       judged = followed c.in_ok-cube.ensures.step _
-          (ended (unread _ (rw count at c.in_err-categories.ensures.step)) _ c.from_residual-in_err-categories.ensures.1);
+          (ended (unread _ (rw count at c.in_err-categories.ensures.step)) _
+          c.from_residual-in_err-categories.ensures.1);
     }
 
 pub returns-in_err-sources : goal.returns-in_err-sources
 returns-in_err-sources g c =
-    let count : length c.args.schemas.now ≡ length (texts c.args.schemas.now) = sym (length-map c.args.schemas.now string_bytes) in
+    let count : length c.args.schemas.now ≡ length (texts c.args.schemas.now) =
+    sym (length-map c.args.schemas.now string_bytes) in
     let next : length c.args.schemas.now + 3 + 1 ≡ length (texts c.args.schemas.now) + 4 = omega (arith, count) in
     record {
       judged = followed c.in_ok-cube.ensures.step _ (followed (unread _ (rw count at c.in_ok-categories.ensures.step)) _
@@ -35,7 +38,8 @@ returns-in_err-sources g c =
 
 pub returns : goal.returns
 returns g c =
-    let count : length c.args.schemas.now ≡ length (texts c.args.schemas.now) = sym (length-map c.args.schemas.now string_bytes) in
+    let count : length c.args.schemas.now ≡ length (texts c.args.schemas.now) =
+    sym (length-map c.args.schemas.now string_bytes) in
     let next : length c.args.schemas.now + 3 + 1 ≡ length (texts c.args.schemas.now) + 4 = omega (arith, count) in
     record {
       judged = followed c.in_ok-cube.ensures.step _ (followed (unread _ (rw count at c.in_ok-categories.ensures.step)) _
@@ -44,5 +48,6 @@ returns g c =
           (subst (λ (xs : List CatId). Replies IsAnswer (Done (ByCube (schemas_of c.in_ok-cube.cube) (numbers_of xs)
           (tuples_in c.in_ok-sources.sources.items))) c.told.result) c.from_vec.ensures
           (subst (λ (ys : List Tuple). Replies IsAnswer (Done (ByCube (schemas_of c.in_ok-cube.cube)
-          (numbers_of c.from_vec.result) (tuples_in ys))) c.told.result) c.deref.ensures.value c.told.ensures.replies)))));
+          (numbers_of c.from_vec.result) (tuples_in ys))) c.told.result) c.deref.ensures.value
+          c.told.ensures.replies)))));
     }

@@ -22,7 +22,8 @@ returns-in_err-cube g c = record { judged = ended c.in_err-cube.ensures.step _ c
 
 pub returns-in_err-target : goal.returns-in_err-target
 returns-in_err-target g c =
-    let count : length c.args.schemas.now ≡ length (texts c.args.schemas.now) = sym (length-map c.args.schemas.now string_bytes) in
+    let count : length c.args.schemas.now ≡ length (texts c.args.schemas.now) =
+    sym (length-map c.args.schemas.now string_bytes) in
     record {
       judged = followed c.in_ok-cube.ensures.step _
           (ended (unread _ (rw count at c.in_err-target.ensures.step)) _ c.from_residual-in_err-target.ensures.1);
@@ -30,7 +31,8 @@ returns-in_err-target g c =
 
 pub returns-in_err-columns : goal.returns-in_err-columns
 returns-in_err-columns g c =
-    let count : length c.args.schemas.now ≡ length (texts c.args.schemas.now) = sym (length-map c.args.schemas.now string_bytes) in
+    let count : length c.args.schemas.now ≡ length (texts c.args.schemas.now) =
+    sym (length-map c.args.schemas.now string_bytes) in
     record {
       judged = followed c.in_ok-cube.ensures.step _ (followed (unread _ (rw count at c.in_ok-target.ensures.step)) _
           (ended c.in_err-columns.ensures.step _ c.from_residual-in_err-columns.ensures.1));
@@ -43,7 +45,8 @@ columns_in-requires-clause-target g c =
 
 pub returns : goal.returns
 returns g c =
-    let count : length c.args.schemas.now ≡ length (texts c.args.schemas.now) = sym (length-map c.args.schemas.now string_bytes) in
+    let count : length c.args.schemas.now ≡ length (texts c.args.schemas.now) =
+    sym (length-map c.args.schemas.now string_bytes) in
     let is = instances_in c.in_ok-columns.columns in
     let target = c.in_ok-columns.ensures.categories ∙ ap ids c.deref.ensures.value in
     record {

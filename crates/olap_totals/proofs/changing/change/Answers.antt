@@ -27,12 +27,14 @@ pub returns-in_err-changed : goal.returns-in_err-changed
 returns-in_err-changed g c = record {
   judged = followed c.in_ok-schema.ensures.step _ (followed c.in_ok-legal.ensures.step _
       (followed c.in_ok-store.ensures.step _ (followed c.in_ok-text.ensures.step _
-      (ended (unread _ (rw c.deref.ensures.value at c.in_err-changed.ensures.step)) _ c.from_residual-in_err-changed.ensures.1))));
+      (ended (unread _ (rw c.deref.ensures.value at c.in_err-changed.ensures.step)) _
+      c.from_residual-in_err-changed.ensures.1))));
 }
 
 pub returns : goal.returns
 returns g c = record {
   judged = followed c.in_ok-schema.ensures.step _ (followed c.in_ok-legal.ensures.step _
       (followed c.in_ok-store.ensures.step _ (followed c.in_ok-text.ensures.step _
-      (followed (unread _ (rw c.deref.ensures.value at c.in_ok-changed.ensures.step)) _ (answered c.told.result c.told.ensures.replies)))));
+      (followed (unread _ (rw c.deref.ensures.value at c.in_ok-changed.ensures.step)) _
+      (answered c.told.result c.told.ensures.replies)))));
 }

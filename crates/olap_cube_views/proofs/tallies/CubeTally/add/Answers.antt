@@ -41,7 +41,8 @@ invariant_of-self-2 c =
     (entries_of new) few fits
     (given_back c.deref.result.now a.columns.items c.items-members.result.now c.args.fact.now.members
     _ c.args.fact.now.value a.summaries.entries new a.added c.self.invariant.facts c.deref.ensures.value
-    c.items-members.ensures (to_z-of_z w64 c.args.fact.now.value fits) c.in_ok-join_fact.ensures.stands c.self.invariant.stands)
+    c.items-members.ensures (to_z-of_z w64 c.args.fact.now.value fits) c.in_ok-join_fact.ensures.stands
+    c.self.invariant.stands)
 
 pub returns-clause-stands : goal.returns-clause-stands
 returns-clause-stands c = λ facts s.

@@ -11,7 +11,8 @@ use Rattle.olap_cube_views.specs.Seen.{cube_rows_of, members_of}
 use Rattle.olap_cube_views.proofs.CubeTallyLemmas.{direct_rows_are, entry_keys, told_members}
 use Rattle.olap_cube_views.proofs.tallies.CubeTally.rows.Goals as goal
 
-two : {A E : Type 0} (r : Result A E) (P Q R : A → Type 0) → ((a : A) → P a → Q a → R a) → IfOk r P → IfOk r Q → IfOk r R
+two : {A E : Type 0} (r : Result A E) (P Q R : A → Type 0) → ((a : A) → P a → Q a → R a)
+    → IfOk r P → IfOk r Q → IfOk r R
 two (Ok a) P Q R f p q = f a p q
 two (Err e) P Q R f p q = p
 
