@@ -205,7 +205,8 @@ module _ (step : Step) (f : Fact) (k : ℕ) (old now : Summarized) (so : IsSoFar
       same : (j : ℕ) → j < length old.categories → j ≢ k
           → view_at now (get_or old.categories j 0) ≡ view_at new (get_or old.categories j 0)
       same j l n = sym (others (get_or old.categories j 0)
-          (subst (λ (cs : List ℕ). Contains cs (get_or old.categories j 0)) (sym so.categories) (Contains-get_or old.categories j 0 l))
+          (subst (λ (cs : List ℕ). Contains cs (get_or old.categories j 0)) (sym so.categories)
+          (Contains-get_or old.categories j 0 l))
           (subst (λ (cs : List ℕ). get_or old.categories j 0 ≢ get_or cs k 0) (sym so.categories) (apart j l n)))
         where
           apart : (j : ℕ) → j < length old.categories → j ≢ k → get_or old.categories j 0 ≢ get_or old.categories k 0
@@ -239,7 +240,8 @@ pub so_far_all : (step : Step) (f : Fact) (k : ℕ) (old now : Summarized) → I
     → length old.categories ≤ k → views_after step old.instance (views_at old) f ≡ Ok (views_at now)
 so_far_all step f k old now so h =
     so.views
-    ∙ ap (λ cs. behind (map (view_at now) (take k old.categories)) (views_after step old.instance (map (view_at now) cs) f))
+    ∙ ap (λ cs. behind (map (view_at now) (take k old.categories))
+    (views_after step old.instance (map (view_at now) cs) f))
     (drop_all k old.categories h)
     ∙ ap Ok (append-nil (map (view_at now) (take k old.categories)))
     ∙ ap (λ cs. Ok (map (view_at now) cs)) (take_all k old.categories h ∙ sym so.categories)
@@ -249,7 +251,8 @@ so_far_all step f k old now so h =
 -- one fact after the others
 pub fact_behind : (step : Step) (i : Instance) (r : Result (List View) (Fault DeltaKind)) (at : ℕ) (facts : List Fact)
     (f : Fact)
-    → store_after step i r at (facts ++ f ∷ []) ≡ fact_after step i (at + length facts) f (store_after step i r at facts)
+    → store_after step i r at (facts ++ f ∷ [])
+    ≡ fact_after step i (at + length facts) f (store_after step i r at facts)
 fact_behind step i r at [] f = let e : at ≡ at + 0 = omega arith in ap (λ n. fact_after step i n f r) e
 fact_behind step i r at (g ∷ facts) f =
     let e : (at + 1) + length facts ≡ at + suc (length facts) = omega arith in
