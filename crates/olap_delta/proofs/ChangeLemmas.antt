@@ -32,6 +32,7 @@ test_true : (x y : ℕ) → x ≡ y → (x == y) ≡ true
 test_true x y e = grind (arith, nat_tests)
 
 module _ (h : ℕ → Option Summary) (y : ℕ) where
+  -- the row of another member is passed over
   past : (x : ℕ) → (x ≡ y → ⊥) → (rows : List Row)
       → summary_in (cons_option (row_at x (h x)) rows) y ≡ summary_in rows y
   past x n rows = go (h x)
@@ -41,12 +42,14 @@ module _ (h : ℕ → Option Summary) (y : ℕ) where
       go (Some s) = ap (λ b. option_map (λ (r : Row). r.summary)
           (cond b (Some (record { member = x; summary = s })) (find (λ r. r.member == y) rows))) (test_false x y n)
 
+  -- no row stands at what isn't among the members
   nothing_at : (xs : List ℕ) → (Contains xs y → ⊥) → summary_in (rows_by h xs) y ≡ None
   nothing_at [] n = refl
   nothing_at (x ∷ xs) n =
       past x (λ e. n (subst (λ z. Contains (x ∷ xs) z) e (contains_head x xs))) (rows_by h xs)
       ∙ nothing_at xs (λ c. n (contains_cons y xs x c))
 
+  -- at a member stands what the function gives
   stands_at : (xs : List ℕ) → Distinct xs → Contains xs y → summary_in (rows_by h xs) y ≡ h y
   stands_at [] d c = absurd (Contains-nil y c)
   stands_at (x ∷ xs) d c = elim (contains_cases y x xs c) [
@@ -156,6 +159,7 @@ module _ (step : Step) (kind : DeltaKind) (g : Graph) (i : Instance) (w : IsLawf
     (elsewhere : (y : ℕ) → reaches i f.member y ≡ false → before y ≡ after y)
     (there : (y : ℕ) → reaches i f.member y ≡ true → IfSome (before y) IsSmall
     → Makes step kind (before y) f.value (after y)) where
+  -- a view of what was before becomes that of what is after, or the step fails in that way
   view_step : (c : ℕ) → AreSmall i c before → MatchResult (view_after step i (view_by i before c) f)
       (λ v. (v ≡ view_by i after c) × AreSmall i c after) (λ k. k ≡ kind)
   view_step c small = go (filter (λ y. reaches i f.member y) (members_of i c)) refl
@@ -207,6 +211,7 @@ module _ (step : Step) (kind : DeltaKind) (g : Graph) (i : Instance) (w : IsLawf
                   (h.0 ∙ ap after (sym (eqb_is z y t))) h.1
               still z k false t = subst (λ (o : Option Summary). IfSome o IsSmall) (each z k false t) (small z k)
 
+  -- so do several views
   pub views_step : (cs : List ℕ) → ((c : ℕ) → Contains cs c → AreSmall i c before)
       → MatchResult (views_after step i (map (view_by i before) cs) f)
       (λ vs. (vs ≡ map (view_by i after) cs) × ((c : ℕ) → Contains cs c → AreSmall i c after)) (λ k. k ≡ kind)

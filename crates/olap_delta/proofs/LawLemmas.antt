@@ -67,6 +67,7 @@ weaker (Ok a) P Q R f h = f a h
 weaker (Err b) P Q R f h = h
 
 module _ (g : Graph) (i : Instance) (w : IsLawful g i) (cs : List ℕ) where
+  -- appending new facts to the direct views of some gives those of both, or is `Full`
   append_all : (new facts : List Fact) (at : ℕ) → ((c : ℕ) → Contains cs c → AreSmall i c (total_of_facts i facts))
       → All (λ f. SFits w64 f.value) new
       → MatchResult (store_after appended i (Ok (direct_views i facts cs)) at new)
@@ -104,6 +105,7 @@ module _ (g : Graph) (i : Instance) (w : IsLawful g i) (cs : List ℕ) where
           (sym (fact_behind i y facts f ∙ ap (λ b. total_of_facts i facts y ⊕ cond b (Some (of_value f.value)) None) r))
           (appended_total (values_at i facts y) f.value (All-head (λ (f : Fact). SFits w64 f.value) f new fit) h)
 
+  -- retracting facts from the direct views of them and others gives those of the others, or is `Extreme`
   retract_all : (withdrawn left : List Fact) (at : ℕ)
       → ((c : ℕ) → Contains cs c → AreSmall i c (total_of_facts i (left ++ withdrawn)))
       → MatchResult (store_after retracted i (Ok (direct_views i (left ++ withdrawn) cs)) at withdrawn)

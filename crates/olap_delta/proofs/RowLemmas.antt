@@ -138,6 +138,7 @@ joined_small s v l f q = record {
 abbrev pub Appends : Option Summary → ℤ → Option Summary → Type 0
 Appends o v after = MatchResult (appended o v) (λ s. (Some s ≡ after) × IsSmall s) (λ k. k ≡ kind.Full)
 
+-- appending a value to the total of some gives the total with it, or is `Full`
 pub appended_total : (vs : List ℤ) (v : ℤ) → SFits w64 v → IfSome (total (map of_value vs)) IsSmall
     → Appends (total (map of_value vs)) v (total (map of_value vs) ⊕ Some (of_value v))
 appended_total vs v f = go (total (map of_value vs)) refl
@@ -207,6 +208,7 @@ between v a b e f =
             order : (b v : ℤ) → int_lt b v ≡ false → (v ≡ b → ⊥) → v <ℤ b
             order b v e m = grind (arith, ints)
 
+-- retracting a value from a total that has it gives the total of the others, or is `Extreme`
 pub retracted_total : (vs : List ℤ) (v : ℤ) → IfSome (Some (of_value v) ⊕ total (map of_value vs)) IsSmall
     → Retracts (Some (of_value v) ⊕ total (map of_value vs)) v (total (map of_value vs))
 retracted_total vs v = go (total (map of_value vs)) refl
