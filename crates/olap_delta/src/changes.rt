@@ -112,8 +112,8 @@ impl Change {
             (fact_of fact.now) ≡ Ok (view_at table.new c))
             (λ e. view_after (step_of self) table.old.instance (view_at table.old c)
             (fact_of fact.now) ≡ Err e) }
-        ensures others { (c : ℕ) → Contains table.old.categories c → c ≢ slice_index table.old.categories k
-            → view_at table.new c ≡ view_at table.old c }
+        ensures others { (c : ℕ) → Contains table.old.categories c
+            → c ≢ slice_index table.old.categories k → view_at table.new c ≡ view_at table.old c }
     {
         if let Some(y) = table.ancestor(k, fact.member) {
             let summary = self.of_row(table.at(y), fact.value)?;

@@ -117,7 +117,8 @@ impl Change {
         ensures once { IsTrue result
             → IsOnce table.old.instance (slice_index table.old.categories k) lot.member.0 }
         ensures joined { IsTrue result → IsJoinedIn self (slice_index table.old.categories k)
-            (λ y. when (reaches table.old.instance lot.member.0 y) (summary_of lot.summary)) table.old table.new }
+            (λ y. when (reaches table.old.instance lot.member.0 y) (summary_of lot.summary))
+            table.old table.new }
     {
         if let Some(y) = table.ancestor(k, lot.member) {
             let Some(summary) = self.of_lot(table.at(y), lot.summary) else {
@@ -137,7 +138,8 @@ impl Change {
         ensures categories { table.new.categories ≡ table.old.categories }
         ensures storable { AreStorable table.new }
         ensures once { IsTrue result
-            → All (λ l. IsOnce table.old.instance (slice_index table.old.categories k) l.member.0) lots.now }
+            → All (λ l. IsOnce table.old.instance (slice_index table.old.categories k) l.member.0)
+            lots.now }
         ensures joined { IsTrue result → IsJoinedIn self (slice_index table.old.categories k)
             (lots_at table.old.instance lots.now) table.old table.new }
     {
