@@ -32,6 +32,7 @@ test_true : (x y : ℕ) → x ≡ y → (x == y) ≡ true
 test_true x y e = grind (arith, nat_tests)
 
 module _ (h : ℕ → Option Summary) (y : ℕ) where
+  -- the row of another member is passed over
   past : (x : ℕ) → (x ≡ y → ⊥) → (rows : List Row)
       → summary_in (cons_option (row_at x (h x)) rows) y ≡ summary_in rows y
   past x n rows = go (h x)
@@ -41,12 +42,14 @@ module _ (h : ℕ → Option Summary) (y : ℕ) where
       go (Some s) = ap (λ b. option_map (λ (r : Row). r.summary)
           (cond b (Some (record { member = x; summary = s })) (find (λ r. r.member == y) rows))) (test_false x y n)
 
+  -- no row stands at what isn't among the members
   nothing_at : (xs : List ℕ) → (Contains xs y → ⊥) → summary_in (rows_by h xs) y ≡ None
   nothing_at [] n = refl
   nothing_at (x ∷ xs) n =
       past x (λ e. n (subst (λ z. Contains (x ∷ xs) z) e (contains_head x xs))) (rows_by h xs)
       ∙ nothing_at xs (λ c. n (contains_cons y xs x c))
 
+  -- at a member stands what the function gives
   stands_at : (xs : List ℕ) → Distinct xs → Contains xs y → summary_in (rows_by h xs) y ≡ h y
   stands_at [] d c = absurd (Contains-nil y c)
   stands_at (x ∷ xs) d c = elim (contains_cases y x xs c) [
@@ -57,7 +60,8 @@ module _ (h : ℕ → Option Summary) (y : ℕ) where
       here : (o : Option Summary) → h x ≡ o → x ≡ y → summary_in (cons_option (row_at x o) (rows_by h xs)) y ≡ h y
       here None e q = nothing_at xs (λ k. d.0 (subst (λ z. Contains xs z) (sym q) k)) ∙ sym e ∙ ap h q
       here (Some s) e q = ap (λ b. option_map (λ (r : Row). r.summary)
-          (cond b (Some (record { member = x; summary = s })) (find (λ r. r.member == y) (rows_by h xs)))) (test_true x y q)
+          (cond b (Some (record { member = x; summary = s })) (find (λ r. r.member == y) (rows_by h xs))))
+          (test_true x y q)
           ∙ sym e ∙ ap h q
 
 -- the row that the view has at a member
@@ -153,16 +157,22 @@ Makes step kind before v after = MatchResult (step before v) (λ s. (Some s ≡ 
 module _ (step : Step) (kind : DeltaKind) (g : Graph) (i : Instance) (w : IsLawful g i)
     (before after : ℕ → Option Summary) (f : Fact)
     (elsewhere : (y : ℕ) → reaches i f.member y ≡ false → before y ≡ after y)
-    (there : (y : ℕ) → reaches i f.member y ≡ true → IfSome (before y) IsSmall → Makes step kind (before y) f.value (after y)) where
+    (there : (y : ℕ) → reaches i f.member y ≡ true → IfSome (before y) IsSmall
+    → Makes step kind (before y) f.value (after y)) where
+  -- a view of what was before becomes that of what is after, or the step fails in that way
   view_step : (c : ℕ) → AreSmall i c before → MatchResult (view_after step i (view_by i before c) f)
       (λ v. (v ≡ view_by i after c) × AreSmall i c after) (λ k. k ≡ kind)
   view_step c small = go (filter (λ y. reaches i f.member y) (members_of i c)) refl
     where
       go : (ys : List ℕ) → filter (λ y. reaches i f.member y) (members_of i c) ≡ ys
-          → MatchResult (view_after step i (view_by i before c) f) (λ v. (v ≡ view_by i after c) × AreSmall i c after) (λ k. k ≡ kind)
-      go [] e = subst (λ (r : Result View DeltaKind). MatchResult r (λ v. (v ≡ view_by i after c) × AreSmall i c after) (λ k. k ≡ kind))
-          (sym (view_unreached step i before c f none))
-          (view_alike i before after c same, λ y k. subst (λ (o : Option Summary). IfSome o IsSmall) (same y k) (small y k))
+          → MatchResult (view_after step i (view_by i before c) f)
+          (λ v. (v ≡ view_by i after c) × AreSmall i c after) (λ k. k ≡ kind)
+      go [] e = subst (λ (r : Result View DeltaKind). MatchResult r
+          (λ v. (v ≡ view_by i after c) × AreSmall i c after) (λ k. k ≡ kind))
+          (sym (view_unreached step i before c f none)) (
+            view_alike i before after c same,
+            λ y k. subst (λ (o : Option Summary). IfSome o IsSmall) (same y k) (small y k),
+          )
         where
           none : (y : ℕ) → Contains (members_of i c) y → reaches i f.member y ≡ true → ⊥
           none y k r = Contains-nil y (subst (λ xs. Contains xs y) e
@@ -170,8 +180,10 @@ module _ (step : Step) (kind : DeltaKind) (g : Graph) (i : Instance) (w : IsLawf
 
           same : (y : ℕ) → Contains (members_of i c) y → before y ≡ after y
           same y k = elsewhere y (not_true (reaches i f.member y) (none y k))
-      go (y ∷ ys) e = subst (λ (r : Result View DeltaKind). MatchResult r (λ v. (v ≡ view_by i after c) × AreSmall i c after) (λ k. k ≡ kind))
-          (sym (view_reached step i before c f y at.0 at.1 only)) (then (step (before y) f.value) (there y at.1 (small y at.0)))
+      go (y ∷ ys) e = subst (λ (r : Result View DeltaKind). MatchResult r
+          (λ v. (v ≡ view_by i after c) × AreSmall i c after) (λ k. k ≡ kind))
+          (sym (view_reached step i before c f y at.0 at.1 only))
+          (then (step (before y) f.value) (there y at.1 (small y at.0)))
         where
           at : Contains (members_of i c) y × (reaches i f.member y ≡ true)
           at = Contains-from_filter (λ y. reaches i f.member y) (members_of i c) y
@@ -188,15 +200,18 @@ module _ (step : Step) (kind : DeltaKind) (g : Graph) (i : Instance) (w : IsLawf
             λ z k. still z k (z == y) refl,
           )
             where
-              each : (z : ℕ) → Contains (members_of i c) z → (b : Bool) → (z == y) ≡ b → cond b (Some s) (before z) ≡ after z
+              each : (z : ℕ) → Contains (members_of i c) z → (b : Bool) → (z == y) ≡ b
+                  → cond b (Some s) (before z) ≡ after z
               each z k true t = h.0 ∙ ap after (sym (eqb_is z y t))
               each z k false t = elsewhere z (not_true (reaches i f.member z) (λ r.
                   let u = test_true z y (only z k r) in let x : true ≡ false = sym u ∙ t in absurd (cc)))
 
               still : (z : ℕ) → Contains (members_of i c) z → (b : Bool) → (z == y) ≡ b → IfSome (after z) IsSmall
-              still z k true t = subst (λ (o : Option Summary). IfSome o IsSmall) (h.0 ∙ ap after (sym (eqb_is z y t))) h.1
+              still z k true t = subst (λ (o : Option Summary). IfSome o IsSmall)
+                  (h.0 ∙ ap after (sym (eqb_is z y t))) h.1
               still z k false t = subst (λ (o : Option Summary). IfSome o IsSmall) (each z k false t) (small z k)
 
+  -- so do several views
   pub views_step : (cs : List ℕ) → ((c : ℕ) → Contains cs c → AreSmall i c before)
       → MatchResult (views_after step i (map (view_by i before) cs) f)
       (λ vs. (vs ≡ map (view_by i after) cs) × ((c : ℕ) → Contains cs c → AreSmall i c after)) (λ k. k ≡ kind)
@@ -207,12 +222,14 @@ module _ (step : Step) (kind : DeltaKind) (g : Graph) (i : Instance) (w : IsLawf
     where
       go : (a : Result View DeltaKind) (b : Result (List View) DeltaKind)
           → MatchResult a (λ v. (v ≡ view_by i after c) × AreSmall i c after) (λ k. k ≡ kind)
-          → MatchResult b (λ vs. (vs ≡ map (view_by i after) cs) × ((d : ℕ) → Contains cs d → AreSmall i d after)) (λ k. k ≡ kind)
+          → MatchResult b
+          (λ vs. (vs ≡ map (view_by i after) cs) × ((d : ℕ) → Contains cs d → AreSmall i d after)) (λ k. k ≡ kind)
           → MatchResult {T = List View} {E = DeltaKind} (elim a [
             | Ok v ↦ elim b [ Ok ws ↦ Ok (v ∷ ws) | Err k ↦ Err k ]
             | Err k ↦ Err k
           ])
-          (λ vs. (vs ≡ map (view_by i after) (c ∷ cs)) × ((d : ℕ) → Contains (c ∷ cs) d → AreSmall i d after)) (λ k. k ≡ kind)
+          (λ vs. (vs ≡ map (view_by i after) (c ∷ cs)) × ((d : ℕ) → Contains (c ∷ cs) d → AreSmall i d after))
+          (λ k. k ≡ kind)
       go (Err k) b p q = p
       go (Ok v) (Err k) p q = q
       go (Ok v) (Ok ws) p q = (

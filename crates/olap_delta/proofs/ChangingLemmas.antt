@@ -42,6 +42,7 @@ pub test_false : (x y : ℕ) → x ≢ y → (x == y) ≡ false
 test_false x y n = grind (arith, nat_tests)
 
 module _ (y : ℕ) (s : Summary) (old new : Summarized) (p : IsPut y s old new) where
+  -- a view is as before, but for the summary at y
   view_of_put : (c : ℕ) → Contains old.categories c
       → view_at new c ≡ view_by old.instance (with_at (stands_at old) y s) c
   view_of_put c k = ap (λ j. view_by j (stands_at new) c) p.instance
@@ -55,6 +56,7 @@ module _ (y : ℕ) (s : Summary) (old new : Summarized) (p : IsPut y s old new) 
       ap (λ b. cond b (Some s) (stands_at old z))
       (test_false z y (λ e. n (ap (category_of old.instance) (sym e) ∙ q.1))))
 
+  -- what stands in the table may be stored, where the new summary may
   pub put_storable : IsStorable s → AreStorable old → AreStorable new
   put_storable q a z m = subst (λ (o : Option Summary). IfSome o IsStorable) (sym (p.at z m2)) (go (z == y))
     where
@@ -111,6 +113,7 @@ behind_none : (r : Result (List View) DeltaKind) → behind [] r ≡ r
 behind_none (Ok vs) = refl
 behind_none (Err k) = refl
 
+-- no category is changed yet
 pub so_far_first : (step : Step) (f : Fact) (t : Summarized) → AreStorable t → IsSoFar step f 0 t t
 so_far_first step f t a = record {
   instance = refl;
@@ -146,6 +149,7 @@ module _ (step : Step) (f : Fact) (k : ℕ) (old now : Summarized) (so : IsSoFar
   parted : drop k old.categories ≡ get_or old.categories k 0 ∷ drop (suc k) old.categories
   parted = drop-cons old.categories k 0 h
 
+  -- the first k views, and then the k-th and those after it; or its fault
   then : (r : Result View DeltaKind) → view_after step old.instance (view_at now (get_or old.categories k 0)) f ≡ r
       → views_after step old.instance (views_at old) f
       ≡ behind (map (view_at now) (take k old.categories)) (elim r [
@@ -205,7 +209,8 @@ module _ (step : Step) (f : Fact) (k : ℕ) (old now : Summarized) (so : IsSoFar
       same : (j : ℕ) → j < length old.categories → j ≢ k
           → view_at now (get_or old.categories j 0) ≡ view_at new (get_or old.categories j 0)
       same j l n = sym (others (get_or old.categories j 0)
-          (subst (λ (cs : List ℕ). Contains cs (get_or old.categories j 0)) (sym so.categories) (Contains-get_or old.categories j 0 l))
+          (subst (λ (cs : List ℕ). Contains cs (get_or old.categories j 0)) (sym so.categories)
+          (Contains-get_or old.categories j 0 l))
           (subst (λ (cs : List ℕ). get_or old.categories j 0 ≢ get_or cs k 0) (sym so.categories) (apart j l n)))
         where
           apart : (j : ℕ) → j < length old.categories → j ≢ k → get_or old.categories j 0 ≢ get_or old.categories k 0
@@ -235,11 +240,13 @@ module _ (step : Step) (f : Fact) (k : ℕ) (old now : Summarized) (so : IsSoFar
           subst (λ z. view_at now z ≡ view_at new z) (sym at) (same (suc k + j) (omega arith) (omega arith)))
           ∙ ap (λ n. map (view_at new) (drop n old.categories)) more
 
+-- all categories are changed, so all views are
 pub so_far_all : (step : Step) (f : Fact) (k : ℕ) (old now : Summarized) → IsSoFar step f k old now
     → length old.categories ≤ k → views_after step old.instance (views_at old) f ≡ Ok (views_at now)
 so_far_all step f k old now so h =
     so.views
-    ∙ ap (λ cs. behind (map (view_at now) (take k old.categories)) (views_after step old.instance (map (view_at now) cs) f))
+    ∙ ap (λ cs. behind (map (view_at now) (take k old.categories))
+    (views_after step old.instance (map (view_at now) cs) f))
     (drop_all k old.categories h)
     ∙ ap Ok (append-nil (map (view_at now) (take k old.categories)))
     ∙ ap (λ cs. Ok (map (view_at now) cs)) (take_all k old.categories h ∙ sym so.categories)
@@ -249,7 +256,8 @@ so_far_all step f k old now so h =
 -- one fact after the others
 pub fact_behind : (step : Step) (i : Instance) (r : Result (List View) (Fault DeltaKind)) (at : ℕ) (facts : List Fact)
     (f : Fact)
-    → store_after step i r at (facts ++ f ∷ []) ≡ fact_after step i (at + length facts) f (store_after step i r at facts)
+    → store_after step i r at (facts ++ f ∷ [])
+    ≡ fact_after step i (at + length facts) f (store_after step i r at facts)
 fact_behind step i r at [] f = let e : at ≡ at + 0 = omega arith in ap (λ n. fact_after step i n f r) e
 fact_behind step i r at (g ∷ facts) f =
     let e : (at + 1) + length facts ≡ at + suc (length facts) = omega arith in
@@ -265,6 +273,7 @@ taken_ok step i at f before after e =
       | Err k ↦ Err (record { at = at; kind = k })
     ]) e)
 
+-- a fault of the views is that of the fact
 pub taken_err : (step : Step) (i : Instance) (at : ℕ) (f : Fact) (before : List View) (k : DeltaKind)
     → views_after step i before f ≡ Err k
     → Err (record { at = at; kind = k }) ≡ fact_after step i at f (Ok before)

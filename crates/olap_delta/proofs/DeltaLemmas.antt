@@ -32,6 +32,7 @@ pub record HasTaken (by : Change) (i : Instance) (stored : List View) (facts : L
   pub taken : d.taken ≡ length facts
   pub views : d.views ≡ store_changed (step_of by) i stored facts
 
+-- one fact more was taken
 pub taken_more : (by : Change) (i : Instance) (views : List View) (facts : List Fact) (f : Fact) (d e : Delta)
     → HasTaken by i views facts d → e.change ≡ d.change → e.instance ≡ d.instance → e.categories ≡ d.categories
     → e.taken ≡ d.taken + 1 → e.views ≡ fact_after (step_of d.change) d.instance (d.taken + 2) f d.views
@@ -52,15 +53,18 @@ taken_more by i views facts f d e h s j c t v = record {
     at : d.taken + 2 ≡ 2 + length facts
     at = let a = h.taken in omega arith
 
+-- no fact was taken yet
 pub taken_none : (by : Change) (i : Instance) (views : List View) (d : Delta) → d.change ≡ by → d.instance ≡ i
     → d.categories ≡ categories_in views → d.taken ≡ 0 → d.views ≡ Ok views → HasTaken by i views [] d
 taken_none by i views d s j c t v = record { change = s; instance = j; categories = c; taken = t; views = v }
 
 -- ---- between two times
 
+-- none between a time and itself
 pub are_taken_none : (d : Delta) → AreTaken [] d d
 are_taken_none d = record { change = refl; instance = refl; categories = refl; taken = omega arith; views = refl }
 
+-- one more since the first time
 pub are_taken_more : (facts : List Fact) (f : Fact) (old d e : Delta) → AreTaken facts old d → e.change ≡ d.change
     → e.instance ≡ d.instance → e.categories ≡ d.categories → e.taken ≡ d.taken + 1
     → e.views ≡ fact_after (step_of d.change) d.instance (d.taken + 2) f d.views → AreTaken (facts ++ f ∷ []) old e
@@ -102,17 +106,20 @@ taken_since by i views facts old d h a = record {
 
 module _ (by : Change) (i : Instance) (views : List View) (facts : List Fact) (d : Delta)
     (h : HasTaken by i views facts d) (r : Result Store DeltaRefusal) where
+  -- a store that is handed out is what all facts make of the views
   pub taken_store : IfOk r (λ s. d.views ≡ Ok (views_of s))
       → IfOk r (λ s. store_changed (step_of by) i views facts ≡ Ok (views_of s))
   taken_store = IfOk-weaker r (λ (s : Store). d.views ≡ Ok (views_of s))
       (λ (s : Store). store_changed (step_of by) i views facts ≡ Ok (views_of s)) (λ s e. sym h.views ∙ e)
 
+  -- a refusal is that of the first fact that can't be taken
   pub taken_refused : IfErr r (λ e. IsDeltaRefusedBy e d.views)
       → IfErr r (λ e. IsDeltaRefusedBy e (store_changed (step_of by) i views facts))
   taken_refused = IfErr-weaker r (λ (e : DeltaRefusal). IsDeltaRefusedBy e d.views)
       (λ (e : DeltaRefusal). IsDeltaRefusedBy e (store_changed (step_of by) i views facts))
       (λ e p. subst (IsDeltaRefusedBy e) h.views p)
 
+  -- the store that is handed out is sound, where the one before was
   pub taken_sound : IfOk r (λ s. (g : Graph) (before : List View) → d.categories ≡ categories_in before
       → IsSoundStore g d.instance before → IsSoundStore g d.instance (views_of s))
       → IfOk r (λ s. (g : Graph) → IsSoundStore g i views → IsSoundStore g i (views_of s))
@@ -122,6 +129,7 @@ module _ (by : Change) (i : Instance) (views : List View) (facts : List Fact) (d
       (λ s p g q. subst (λ (j : Instance). IsSoundStore g j (views_of s)) h.instance
       (p g views h.categories (subst (λ (j : Instance). IsSoundStore g j views) (sym h.instance) q)))
 
+  -- its rows stand in file order
   pub taken_order : IfOk r (λ s. All (IsInFileOrder d.instance) (views_of s))
       → IfOk r (λ s. All (IsInFileOrder i) (views_of s))
   taken_order = IfOk-weaker r (λ (s : Store). All (IsInFileOrder d.instance) (views_of s))

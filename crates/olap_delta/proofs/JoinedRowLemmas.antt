@@ -32,11 +32,13 @@ pub record IsFirst (change : Change) (there : Option Summary) (v : ℤ) (lot : O
 
 -- ---- no value
 
+-- without a value the row stays
 pub nothing_more : (change : Change) (there : Option Summary) → changed_by change there None ≡ there
 nothing_more by.Append there = ⊕_none there
 nothing_more by.Retract None = refl
 nothing_more by.Retract (Some s) = refl
 
+-- and nothing can be refused
 pub admits_nothing : (change : Change) (there : Option Summary) → Admits change there None
 admits_nothing by.Append there = tt
 admits_nothing by.Retract there = tt
@@ -171,6 +173,7 @@ first_less (Some s) v (Some t) f a =
           λ i. Some (record { count = count i; sum = sum i; least = s.least; greatest = s.greatest });
     }
 
+-- the first of some values that may come or go
 pub first_of : (change : Change) (there : Option Summary) (v : ℤ) (lot : Option Summary) → SFits w64 v
     → Admits change there (Some (of_value v) ⊕ lot) → IsFirst change there v lot
 first_of by.Append there v lot f a = first_new there v lot f a
@@ -222,6 +225,7 @@ less_together (Some s) (Some t) (Some u) a b =
           λ i. Some (record { count = count i; sum = sum i; least = s.least; greatest = s.greatest })),
     )
 
+-- so it is of values that come or go
 pub together : (change : Change) (there some more : Option Summary) → Admits change there some
     → Admits change (changed_by change there some) more → Together change there some more
 together by.Append there some more a b = new_together there some more a b

@@ -34,15 +34,18 @@ use Rattle.olap_delta.proofs.LotLemmas.{lots_at-append, members_in}
 -- ---- one lot in one category
 
 module _ (i : Instance) (c x : ℕ) where
+  -- what has one ancestor in c reaches one member of c at most
   pub once_some : (y : ℕ) → IsAncestor i x c y → IsOnce i c x
   once_some y a = λ v w k l r s.
       a.only v (members_of_is i c v k) ((reaches_is i x v).0 r)
       ∙ sym (a.only w (members_of_is i c w l) ((reaches_is i x w).0 s))
 
+  -- so does what reaches none
   pub once_none : (ReachesCategory i x c → ⊥) → IsOnce i c x
   once_none n = λ v w k l r s. absurd (n (v, members_of_is i c v k, (reaches_is i x v).0 r))
 
 module _ (change : Change) (c x : ℕ) (s : Summary) (old : Summarized) where
+  -- a row that a lot doesn't reach stays
   unreached : (y : ℕ) (after : Option Summary) → reaches old.instance x y ≡ false → after ≡ stands_at old y
       → IsJoined change (stands_at old y) (when (reaches old.instance x y) s) after
   unreached y after r e = subst (λ b. IsJoined change (stands_at old y) (when b s) after) (sym r)
@@ -51,6 +54,7 @@ module _ (change : Change) (c x : ℕ) (s : Summary) (old : Summarized) where
         is = e ∙ sym (nothing_more change (stands_at old y));
       })
 
+  -- a lot that reaches no member of c leaves the table as it is
   pub joined_none : (ReachesCategory old.instance x c → ⊥)
       → IsJoinedIn change c (λ y. when (reaches old.instance x y) s) old old
   joined_none n = record {
@@ -59,6 +63,7 @@ module _ (change : Change) (c x : ℕ) (s : Summary) (old : Summarized) where
     others = λ y m e. refl;
   }
 
+  -- a lot that reaches y changes the row of y, and no other
   pub joined_some : (y : ℕ) → IsAncestor old.instance x c y → (t : Summary) (new : Summarized) → IsPut y t old new
       → IsJoined change (stands_at old y) (Some s) (Some t)
       → IsJoinedIn change c (λ z. when (reaches old.instance x z) s) old new
@@ -96,6 +101,7 @@ still_among old new e g y m = subst (λ (i : Instance). IsAmong i new.categories
     (subst (λ (cs : List ℕ). IsAmong old.instance cs y) (sym g) m)
 
 module _ (change : Change) (c : ℕ) (old between : Summarized) where
+  -- before the first lot nothing came
   pub joined_start : IsJoinedIn change c (λ y. None) old old
   joined_start = record {
     at = λ y m e. record {
@@ -121,6 +127,7 @@ module _ (change : Change) (c : ℕ) (old between : Summarized) where
         ∙ p.others y m n;
   }
 
+  -- the same values at each member do the same
   alike : (some others : ℕ → Option Summary) (new : Summarized) → ((y : ℕ) → some y ≡ others y)
       → IsJoinedIn change c some old new → IsJoinedIn change c others old new
   alike some others new e p = record {
@@ -128,6 +135,7 @@ module _ (change : Change) (c : ℕ) (old between : Summarized) where
     others = p.others;
   }
 
+  -- one lot more
   pub joined_next : (lots : List Lot) (k : ℕ) (l : Lot) (new : Summarized) → k < length lots → l ≡ get_or lots k l
       → between.instance ≡ old.instance → between.categories ≡ old.categories
       → IsJoinedIn change c (lots_at old.instance (take k lots)) old between
@@ -160,6 +168,7 @@ pub record IsSoFar (change : Change) (lots : List Lot) (k : ℕ) (old now : Summ
   pub rest : (y : ℕ) → IsAmong old.instance old.categories y
       → ((j : ℕ) → j < k → category_of old.instance y ≢ get_or old.categories j 0) → stands_at now y ≡ stands_at old y
 
+-- no category is done yet
 pub so_far_start : (change : Change) (lots : List Lot) (old : Summarized) → AreStorable old
     → IsSoFar change lots 0 old old
 so_far_start change lots old a = record {
@@ -182,6 +191,7 @@ record IsHere (change : Change) (lots : List Lot) (k : ℕ) (old now new : Summa
   pub others : (y : ℕ) → IsAmong old.instance old.categories y
       → category_of old.instance y ≢ get_or old.categories k 0 → stands_at new y ≡ stands_at now y
 
+-- one category more
 pub so_far_next : (change : Change) (lots : List Lot) (k : ℕ) (old now new : Summarized) → IsSoFar change lots k old now
     → k < length old.categories → AllPairs ◌≢◌ old.categories → new.instance ≡ now.instance
     → new.categories ≡ now.categories → AreStorable new
@@ -232,6 +242,7 @@ so_far_next change lots k old now new so h differ e g a once p = record {
         back y q = sym (ap (λ (i : Instance). category_of i y) so.instance) ∙ q
             ∙ ap (λ (cs : List ℕ). get_or cs k 0) so.categories
 
+-- all categories are done, so all rows are
 pub so_far_all : (change : Change) (lots : List Lot) (k : ℕ) (old now : Summarized) → IsSoFar change lots k old now
     → length old.categories ≤ k → AreJoined change lots old now
 so_far_all change lots k old now so h = record {
@@ -246,6 +257,7 @@ so_far_all change lots k old now so h = record {
 
 -- ---- the facts
 
+-- what the lots make of the views is what their facts make of them
 pub table_changed : (change : Change) (facts : List Fact) (g : Lots) (old new : Summarized)
     → new.instance ≡ old.instance → new.categories ≡ old.categories → StandFor old.instance facts g
     → AreJoined change g.lots.items old new

@@ -45,6 +45,7 @@ pub record IsStep (step : Step) (before after : Option Summary) (f : Fact) : Typ
 -- where it does so at each member that the fact's member reaches, and nothing changes elsewhere
 module _ (step : Step) (i : Instance) (before after : ℕ → Option Summary) (f : Fact)
     (elsewhere : (y : ℕ) → reaches i f.member y ≡ false → before y ≡ after y) where
+  -- a view of what was before becomes that of what is after
   pub view_done : (c : ℕ) → IsOnce i c f.member
       → ((y : ℕ) → Contains (members_of i c) y → reaches i f.member y ≡ true → IsStep step (before y) (after y) f)
       → view_after step i (view_by i before c) f ≡ Ok (view_by i after c)
@@ -75,6 +76,7 @@ module _ (step : Step) (i : Instance) (before after : ℕ → Option Summary) (f
           each z k false t = elsewhere z (not_true (reaches i f.member z) (λ r.
               let u = test_true z y (once z y k at.0 r at.1) in let x : true ≡ false = sym u ∙ t in absurd (cc)))
 
+  -- so do several views
   pub views_done : (cs : List ℕ) → ((c : ℕ) → Contains cs c → IsOnce i c f.member)
       → ((c : ℕ) → Contains cs c → (y : ℕ) → Contains (members_of i c) y → reaches i f.member y ≡ true
       → IsStep step (before y) (after y) f)
@@ -166,6 +168,7 @@ module _ (change : Change) (i : Instance) (cs : List ℕ) where
             ∙ sym (ap (changed_by change (h y))
             (first y ∙ ap (λ b. cond b (Some (of_value f.value)) None ⊕ total_of_facts i facts y) r))
 
+  -- functions that agree at the members give the same views
   pub views_alike : (h k : ℕ → Option Summary) (ds : List ℕ)
       → ((c : ℕ) → Contains ds c → (y : ℕ) → Contains (members_of i c) y → h y ≡ k y)
       → map (view_by i h) ds ≡ map (view_by i k) ds
@@ -173,6 +176,7 @@ module _ (change : Change) (i : Instance) (cs : List ℕ) where
   views_alike h k (c ∷ ds) e = ap (λ v. v ∷ map (view_by i h) ds) (view_alike i h k c (e c (contains_head c ds)))
       ∙ ap (λ vs. view_by i k c ∷ vs) (views_alike h k ds (λ d m. e d (contains_cons d ds c m)))
 
+  -- facts of which none could be refused, taken in order, are as all of them at once
   pub all_taken : (facts : List Fact) (at : ℕ) (h : ℕ → Option Summary) → AreAdmitted h facts
       → store_after (step_of change) i (Ok (map (view_by i h) cs)) at facts
       ≡ Ok (map (view_by i (λ y. changed_by change (h y) (total_of_facts i facts y))) cs)

@@ -50,7 +50,8 @@ then : (step : Step) (i : Instance) (views : List View) (at : ℕ) (f : Fact) (f
 then step i views at f facts P k = go (views_after step i views f)
   where
     go : (r : Result (List View) DeltaKind)
-        → MatchResult r (λ views. MatchResult (store_after step i (Ok views) (at + 1) facts) P (λ fault. fault.kind ≡ k)) (λ j. j ≡ k)
+        → MatchResult r
+        (λ views. MatchResult (store_after step i (Ok views) (at + 1) facts) P (λ fault. fault.kind ≡ k)) (λ j. j ≡ k)
         → MatchResult (store_after step i (elim r [
           | Ok changed ↦ Ok changed
           | Err j ↦ Err (record { at = at; kind = j })
@@ -66,19 +67,21 @@ weaker (Ok a) P Q R f h = f a h
 weaker (Err b) P Q R f h = h
 
 module _ (g : Graph) (i : Instance) (w : IsLawful g i) (cs : List ℕ) where
+  -- appending new facts to the direct views of some gives those of both, or is `Full`
   append_all : (new facts : List Fact) (at : ℕ) → ((c : ℕ) → Contains cs c → AreSmall i c (total_of_facts i facts))
       → All (λ f. SFits w64 f.value) new
       → MatchResult (store_after appended i (Ok (direct_views i facts cs)) at new)
       (λ views. views ≡ direct_views i (facts ++ new) cs) (λ fault. fault.kind ≡ kind.Full)
   append_all [] facts at small fit = ap (λ l. direct_views i l cs) (sym (append-nil facts))
   append_all (f ∷ new) facts at small fit =
-      then appended i (direct_views i facts cs) at f new (λ views. views ≡ direct_views i (facts ++ f ∷ new) cs) kind.Full
+      then appended i (direct_views i facts cs) at f new
+      (λ views. views ≡ direct_views i (facts ++ f ∷ new) cs) kind.Full
       (weaker (views_after appended i (direct_views i facts cs) f)
       (λ vs. (vs ≡ map (view_by i after) cs) × ((c : ℕ) → Contains cs c → AreSmall i c after))
-      (λ views. MatchResult (store_after appended i (Ok views) (at + 1) new) (λ views. views ≡ direct_views i (facts ++ f ∷ new) cs)
-      (λ fault. fault.kind ≡ kind.Full)) (λ k. k ≡ kind.Full)
-      (λ vs p. subst (λ l. MatchResult (store_after appended i (Ok vs) (at + 1) new) (λ views. views ≡ direct_views i l cs)
-      (λ fault. fault.kind ≡ kind.Full)) (append_assoc facts (f ∷ []) new)
+      (λ views. MatchResult (store_after appended i (Ok views) (at + 1) new)
+      (λ views. views ≡ direct_views i (facts ++ f ∷ new) cs) (λ fault. fault.kind ≡ kind.Full)) (λ k. k ≡ kind.Full)
+      (λ vs p. subst (λ l. MatchResult (store_after appended i (Ok vs) (at + 1) new)
+      (λ views. views ≡ direct_views i l cs) (λ fault. fault.kind ≡ kind.Full)) (append_assoc facts (f ∷ []) new)
       (subst (λ ws. MatchResult (store_after appended i (Ok ws) (at + 1) new)
       (λ views. views ≡ direct_views i ((facts ++ f ∷ []) ++ new) cs) (λ fault. fault.kind ≡ kind.Full)) (sym p.0)
       (append_all new (facts ++ f ∷ []) (at + 1) p.1 (All-tail (λ (f : Fact). SFits w64 f.value) f new fit))))
@@ -90,7 +93,8 @@ module _ (g : Graph) (i : Instance) (w : IsLawful g i) (cs : List ℕ) where
       after : ℕ → Option Summary
       after = total_of_facts i (facts ++ f ∷ [])
 
-      elsewhere : (y : ℕ) → reaches i f.member y ≡ false → total_of_facts i facts y ≡ total_of_facts i (facts ++ f ∷ []) y
+      elsewhere : (y : ℕ) → reaches i f.member y ≡ false
+          → total_of_facts i facts y ≡ total_of_facts i (facts ++ f ∷ []) y
       elsewhere y r = sym (fact_behind i y facts f
           ∙ ap (λ b. total_of_facts i facts y ⊕ cond b (Some (of_value f.value)) None) r
           ∙ ⊕_none (total_of_facts i facts y))
@@ -101,24 +105,25 @@ module _ (g : Graph) (i : Instance) (w : IsLawful g i) (cs : List ℕ) where
           (sym (fact_behind i y facts f ∙ ap (λ b. total_of_facts i facts y ⊕ cond b (Some (of_value f.value)) None) r))
           (appended_total (values_at i facts y) f.value (All-head (λ (f : Fact). SFits w64 f.value) f new fit) h)
 
+  -- retracting facts from the direct views of them and others gives those of the others, or is `Extreme`
   retract_all : (withdrawn left : List Fact) (at : ℕ)
       → ((c : ℕ) → Contains cs c → AreSmall i c (total_of_facts i (left ++ withdrawn)))
       → MatchResult (store_after retracted i (Ok (direct_views i (left ++ withdrawn) cs)) at withdrawn)
       (λ views. views ≡ direct_views i left cs) (λ fault. fault.kind ≡ kind.Extreme)
   retract_all [] left at small = ap (λ l. direct_views i l cs) (append-nil left)
   retract_all (f ∷ withdrawn) left at small =
-      then retracted i (direct_views i (left ++ f ∷ withdrawn) cs) at f withdrawn (λ views. views ≡ direct_views i left cs)
-      kind.Extreme
+      then retracted i (direct_views i (left ++ f ∷ withdrawn) cs) at f withdrawn
+      (λ views. views ≡ direct_views i left cs) kind.Extreme
       (weaker (views_after retracted i (direct_views i (left ++ f ∷ withdrawn) cs) f)
       (λ vs. (vs ≡ direct_views i (left ++ withdrawn) cs)
       × ((c : ℕ) → Contains cs c → AreSmall i c (total_of_facts i (left ++ withdrawn))))
-      (λ views. MatchResult (store_after retracted i (Ok views) (at + 1) withdrawn) (λ views. views ≡ direct_views i left cs)
-      (λ fault. fault.kind ≡ kind.Extreme)) (λ k. k ≡ kind.Extreme)
+      (λ views. MatchResult (store_after retracted i (Ok views) (at + 1) withdrawn)
+      (λ views. views ≡ direct_views i left cs) (λ fault. fault.kind ≡ kind.Extreme)) (λ k. k ≡ kind.Extreme)
       (λ vs p. subst (λ ws. MatchResult (store_after retracted i (Ok ws) (at + 1) withdrawn)
       (λ views. views ≡ direct_views i left cs) (λ fault. fault.kind ≡ kind.Extreme)) (sym p.0)
       (retract_all withdrawn left (at + 1) p.1))
-      (views_step retracted kind.Extreme g i w (total_of_facts i (left ++ f ∷ withdrawn)) (total_of_facts i (left ++ withdrawn)) f
-      elsewhere there cs small))
+      (views_step retracted kind.Extreme g i w (total_of_facts i (left ++ f ∷ withdrawn))
+      (total_of_facts i (left ++ withdrawn)) f elsewhere there cs small))
     where
       elsewhere : (y : ℕ) → reaches i f.member y ≡ false
           → total_of_facts i (left ++ f ∷ withdrawn) y ≡ total_of_facts i (left ++ withdrawn) y
@@ -129,7 +134,8 @@ module _ (g : Graph) (i : Instance) (w : IsLawful g i) (cs : List ℕ) where
           → Makes retracted kind.Extreme (total_of_facts i (left ++ f ∷ withdrawn) y) f.value
           (total_of_facts i (left ++ withdrawn) y)
       there y r h =
-          let e : total_of_facts i (left ++ f ∷ withdrawn) y ≡ Some (of_value f.value) ⊕ total_of_facts i (left ++ withdrawn) y =
+          let e : total_of_facts i (left ++ f ∷ withdrawn) y
+          ≡ Some (of_value f.value) ⊕ total_of_facts i (left ++ withdrawn) y =
           fact_among i y left f withdrawn
           ∙ ap (λ b. cond b (Some (of_value f.value)) None ⊕ total_of_facts i (left ++ withdrawn) y) r in
           subst (λ o. Makes retracted kind.Extreme o f.value (total_of_facts i (left ++ withdrawn) y)) (sym e)
@@ -146,8 +152,8 @@ pub retract_gives : RetractGivesDirectViews
 retract_gives g i cs facts left withdrawn w fit p =
     let same : direct_views i facts cs ≡ direct_views i (left ++ withdrawn) cs =
     reordered cs in
-    subst (λ views. MatchResult (store_after retracted i (Ok views) 2 withdrawn) (λ views. views ≡ direct_views i left cs)
-    (λ fault. fault.kind ≡ kind.Extreme)) (sym same)
+    subst (λ views. MatchResult (store_after retracted i (Ok views) 2 withdrawn)
+    (λ views. views ≡ direct_views i left cs) (λ fault. fault.kind ≡ kind.Extreme)) (sym same)
     (retract_all g i w cs withdrawn left 2 (views_small i (total_of_facts i (left ++ withdrawn)) cs
     (subst (All Fits) same fit)))
   where

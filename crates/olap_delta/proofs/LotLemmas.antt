@@ -27,6 +27,7 @@ use Rattle.olap_delta.proofs.PermutedLemmas.{fact_behind}
 -- ---- what lots come to at a member
 
 module _ (i : Instance) (y : ℕ) where
+  -- one lot more
   pub lots_at-append : (lots : List Lot) (l : Lot)
       → lots_at i (lots ++ l ∷ []) y ≡ lots_at i lots y ⊕ when (reaches i l.member.0 y) (summary_of l.summary)
   lots_at-append [] l = ⊕_none (when (reaches i l.member.0 y) (summary_of l.summary))
@@ -43,6 +44,7 @@ module _ (i : Instance) (y : ℕ) where
       ∙ sym (⊕_assoc (Some s) others (Some t))
   first_grown false s t others = sym (⊕_none others)
 
+  -- values are joined to the k-th lot
   lots_at-set : (lots : List Lot) (k : ℕ) (l d : Lot) (s : Summary) → k < length lots
       → (get_or lots k d).member.0 ≡ l.member.0
       → summary_of l.summary ≡ joined (summary_of (get_or lots k d).summary) s
@@ -132,6 +134,7 @@ pub record IsGrown (f : Fact) (k : ℕ) (l d : Lot) (old new : Lots) : Type 0 wh
   pub taken : new.taken ≡ old.taken + 1
 
 module _ (f : Fact) (k : ℕ) (l d : Lot) (old new : Lots) (g : IsGrown f k l d old new) where
+  -- the lots are still lots
   grown_lots : AreLots old → AreLots new
   grown_lots a = record {
     few = let n = ap length g.lots in let m = length-set old.lots.items k l in let b = a.few in let t = g.taken in
@@ -158,6 +161,7 @@ module _ (f : Fact) (k : ℕ) (l d : Lot) (old new : Lots) (g : IsGrown f k l d 
             (value_joined (summary_of (get_or old.lots.items k d).summary) f.value g.value there.values);
       }
 
+  -- the fact was taken
   grown_taken : IsTaken f old new
   grown_taken = record {
     taken = g.taken;
@@ -175,6 +179,7 @@ module _ (f : Fact) (k : ℕ) (l d : Lot) (old new : Lots) (g : IsGrown f k l d 
       same = ap (map (λ (m : Lot). m.member.0)) g.lots
           ∙ map-set_same (λ (m : Lot). m.member.0) old.lots.items k l d (g.member ∙ sym g.own)
 
+  -- so one fact more is among the lots
   pub grown : AreLots old → AreMore f old new
   grown a = record {
     places = g.places;
@@ -194,6 +199,7 @@ pub record IsBegun (f : Fact) (l : Lot) (old new : Lots) : Type 0 where
   pub taken : new.taken ≡ old.taken + 1
 
 module _ (f : Fact) (l : Lot) (old new : Lots) (g : IsBegun f l old new) where
+  -- the lots with a new one are lots
   begun_lots : AreLots old → AreLots new
   begun_lots a = record {
     few = let n = ap length g.lots in let b = a.few in let t = g.taken in omega (arith, length-append {A = Lot});
@@ -215,6 +221,7 @@ module _ (f : Fact) (l : Lot) (old new : Lots) (g : IsBegun f l old new) where
         values = subst (λ (s : Summary). IsOfValues s.count s) (sym g.summary) (value_alone f.value g.value);
       }
 
+  -- the fact was taken
   begun_taken : IsTaken f old new
   begun_taken = record {
     taken = g.taken;
@@ -234,6 +241,7 @@ module _ (f : Fact) (l : Lot) (old new : Lots) (g : IsBegun f l old new) where
       same = ap (map (λ (m : Lot). m.member.0)) g.lots
           ∙ map-append (λ (m : Lot). m.member.0) old.lots.items (l ∷ [])
 
+  -- so one fact more is among the lots
   pub begun : AreLots old → AreMore f old new
   begun a = record {
     places = g.places;

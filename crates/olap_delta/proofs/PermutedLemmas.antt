@@ -26,6 +26,7 @@ module _ {A : Type 0} (f : A → Option Summary) where
       ∙ ap (λ t. f y ⊕ t) (traded x ys j d (omega arith))
       ∙ passed (f y) (f x) (total_by f ys)
 
+  -- two items that change places leave the total as it is
   swapped : (xs : List A) (j k : ℕ) (d : A) → j < length xs → k < length xs
       → total_by f (set (set xs j (get_or xs k d)) k (get_or xs j d)) ≡ total_by f xs
   swapped [] j k d h l = absurd (omega arith)
@@ -34,6 +35,7 @@ module _ {A : Type 0} (f : A → Option Summary) where
   swapped (x ∷ xs) (suc j) zero d h l = traded x xs j d (omega arith)
   swapped (x ∷ xs) (suc j) (suc k) d h l = ap (λ t. f x ⊕ t) (swapped xs j k d (omega arith) (omega arith))
 
+  -- a total doesn't depend on the order
   pub total_permuted : (xs ys : List A) → IsPermutation xs ys → total_by f xs ≡ total_by f ys
   total_permuted xs ys p = IsPermutation-keeps xs (λ l. total_by f xs ≡ total_by f l) refl (λ l j k h m e.
       e ∙ step l j k h m) ys p
@@ -54,6 +56,7 @@ facts_total i facts y =
     ∙ total-filter (λ (f : Fact). Some (of_value f.value)) (λ f. reaches i f.member y) facts
 
 module _ (i : Instance) (y : ℕ) where
+  -- so it is of the facts at a member
   pub facts_permuted : (facts others : List Fact) → IsPermutation facts others
       → total_of_facts i facts y ≡ total_of_facts i others y
   facts_permuted facts others p =

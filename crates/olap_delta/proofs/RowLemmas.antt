@@ -67,7 +67,8 @@ total_within : (vs : List ℤ) → All (λ v. (neg_ℤ (pos (2 ^ 63)) ≤ℤ v) 
     → IfSome (total (map of_value vs)) (IsOf vs)
 total_within [] a = tt
 total_within (v ∷ vs) a =
-    go (total (map of_value vs)) refl (total_within vs (All-tail (λ v. (neg_ℤ (pos (2 ^ 63)) ≤ℤ v) × (v ≤ℤ pos (2 ^ 63))) v vs a))
+    go (total (map of_value vs)) refl
+    (total_within vs (All-tail (λ v. (neg_ℤ (pos (2 ^ 63)) ≤ℤ v) × (v ≤ℤ pos (2 ^ 63))) v vs a))
   where
     first : (neg_ℤ (pos (2 ^ 63)) ≤ℤ v) × (v ≤ℤ pos (2 ^ 63))
     first = All-head (λ v. (neg_ℤ (pos (2 ^ 63)) ≤ℤ v) × (v ≤ℤ pos (2 ^ 63))) v vs a
@@ -80,7 +81,8 @@ total_within (v ∷ vs) a =
         never None q = cc
         never (Some s) q = cc
 
-    go : (o : Option Summary) → total (map of_value vs) ≡ o → IfSome o (IsOf vs) → IfSome (Some (of_value v) ⊕ o) (IsOf (v ∷ vs))
+    go : (o : Option Summary) → total (map of_value vs) ≡ o → IfSome o (IsOf vs)
+        → IfSome (Some (of_value v) ⊕ o) (IsOf (v ∷ vs))
     go None e h = let n = ap length (alone vs e) in let a = first.0 in let b = first.1 in
         (omega arith, omega (arith, ints), omega (arith, ints))
     go (Some s) e h = let a = first.0 in let b = first.1 in let c = h.0 in let d = h.1 in let f = h.2 in
@@ -95,7 +97,8 @@ total_of vs s e q =
     let high : s.greatest ≤ℤ pos (2 ^ 63) = omega (arith, ints) in
     let t : IsOf vs s = subst (λ (o : Option Summary). IfSome o (IsOf vs)) e
     (total_within vs (within (neg_ℤ (pos (2 ^ 63))) (pos (2 ^ 63)) vs
-    (subst (λ (o : Option Summary). IfSome o (λ s. (neg_ℤ (pos (2 ^ 63)) ≤ℤ s.least) × (s.greatest ≤ℤ pos (2 ^ 63)))) (sym e) (low, high)))) in
+    (subst (λ (o : Option Summary). IfSome o (λ s. (neg_ℤ (pos (2 ^ 63)) ≤ℤ s.least) × (s.greatest ≤ℤ pos (2 ^ 63))))
+    (sym e) (low, high)))) in
     let a = t.0 in let b = t.1 in let c = t.2 in (omega (arith, ints), omega (arith, ints))
 
 -- the count of a summary, or another number
@@ -123,7 +126,8 @@ either true x y p q = p
 either false x y p q = q
 
 -- a small row with one value more is small
-pub joined_small : (s : Summary) (v : ℤ) → s.count < most_count → SFits w64 v → IsSmall s → IsSmall (joined s (of_value v))
+pub joined_small : (s : Summary) (v : ℤ) → s.count < most_count → SFits w64 v → IsSmall s
+    → IsSmall (joined s (of_value v))
 joined_small s v l f q = record {
   few = omega arith;
   least = either (int_lt v s.least) v s.least f q.least;
@@ -134,12 +138,14 @@ joined_small s v l f q = record {
 abbrev pub Appends : Option Summary → ℤ → Option Summary → Type 0
 Appends o v after = MatchResult (appended o v) (λ s. (Some s ≡ after) × IsSmall s) (λ k. k ≡ kind.Full)
 
+-- appending a value to the total of some gives the total with it, or is `Full`
 pub appended_total : (vs : List ℤ) (v : ℤ) → SFits w64 v → IfSome (total (map of_value vs)) IsSmall
     → Appends (total (map of_value vs)) v (total (map of_value vs) ⊕ Some (of_value v))
 appended_total vs v f = go (total (map of_value vs)) refl
   where
     test : (s : Summary) (full fits : Bool) → (full ≡ false → (fits ≡ true) × IsSmall (joined s (of_value v)))
-        → MatchResult {T = Summary} {E = DeltaKind} (cond full (Err kind.Full) (cond (not fits) (Err kind.Bound) (Ok (joined s (of_value v)))))
+        → MatchResult {T = Summary} {E = DeltaKind}
+        (cond full (Err kind.Full) (cond (not fits) (Err kind.Bound) (Ok (joined s (of_value v)))))
         (λ t. (Some t ≡ Some (joined s (of_value v))) × IsSmall t) (λ k. k ≡ kind.Full)
     test s true fits h = refl
     test s false true h = (refl, (h refl).1)
@@ -202,13 +208,15 @@ between v a b e f =
             order : (b v : ℤ) → int_lt b v ≡ false → (v ≡ b → ⊥) → v <ℤ b
             order b v e m = grind (arith, ints)
 
+-- retracting a value from a total that has it gives the total of the others, or is `Extreme`
 pub retracted_total : (vs : List ℤ) (v : ℤ) → IfSome (Some (of_value v) ⊕ total (map of_value vs)) IsSmall
     → Retracts (Some (of_value v) ⊕ total (map of_value vs)) v (total (map of_value vs))
 retracted_total vs v = go (total (map of_value vs)) refl
   where
     test : (out extreme short fits : Bool) (t : Summary) (after : Option Summary) → out ≡ false
         → (extreme ≡ false → (short ≡ false) × (fits ≡ true) × (Some t ≡ after) × IsSmall t)
-        → MatchResult {T = Summary} {E = DeltaKind} (cond out (Err kind.Outside) (cond extreme (Err kind.Extreme) (cond short (Err kind.Short)
+        → MatchResult {T = Summary} {E = DeltaKind}
+        (cond out (Err kind.Outside) (cond extreme (Err kind.Extreme) (cond short (Err kind.Short)
         (cond (not fits) (Err kind.Bound) (Ok t))))) (λ t. (Some t ≡ after) × IsSmall t) (λ k. k ≡ kind.Extreme)
     test true extreme short fits t after e h = absurd (cc)
     test false true short fits t after e h = refl
@@ -216,13 +224,20 @@ retracted_total vs v = go (total (map of_value vs)) refl
     test false false false true t after e h = ((h refl).2, (h refl).3)
     test false false false false t after e h = let q = (h refl).1 in absurd (cc)
 
-    go : (o : Option Summary) → total (map of_value vs) ≡ o → IfSome (Some (of_value v) ⊕ o) IsSmall → Retracts (Some (of_value v) ⊕ o) v o
+    go : (o : Option Summary) → total (map of_value vs) ≡ o → IfSome (Some (of_value v) ⊕ o) IsSmall
+        → Retracts (Some (of_value v) ⊕ o) v o
     go None e h = test (int_lt v v || int_lt v v) (int_eq v v || int_eq v v) (nat_le 1 2) (is_sum (v -ℤ v))
         (record { count = 1 - 1; sum = v -ℤ v; least = v; greatest = v }) None (grind (arith, ints))
         (λ t. let a = not_either (int_eq v v) (int_eq v v) t in let b = same_test v v refl in absurd (cc))
     go (Some s) e h = test (int_lt v (int_min v s.least) || int_lt (int_max v s.greatest) v)
-        (int_eq v (int_min v s.least) || int_eq v (int_max v s.greatest)) (nat_le (1 + s.count) 2) (is_sum ((v +ℤ s.sum) -ℤ v))
-        (record { count = (1 + s.count) - 1; sum = (v +ℤ s.sum) -ℤ v; least = int_min v s.least; greatest = int_max v s.greatest })
+        (int_eq v (int_min v s.least) || int_eq v (int_max v s.greatest))
+        (nat_le (1 + s.count) 2) (is_sum ((v +ℤ s.sum) -ℤ v))
+        (record {
+          count = (1 + s.count) - 1;
+          sum = (v +ℤ s.sum) -ℤ v;
+          least = int_min v s.least;
+          greatest = int_max v s.greatest;
+        })
         (Some s) (outside v s.least s.greatest) (λ t.
         let a = not_either (int_eq v (int_min v s.least)) (int_eq v (int_max v s.greatest)) t in
         let b = between v s.least s.greatest a.0 a.1 in
@@ -239,9 +254,18 @@ retracted_total vs v = go (total (map of_value vs)) refl
         let from = range.0 in let to = range.1 in
         let count : (1 + s.count) - 1 ≡ s.count = omega arith in
         let sum : (v +ℤ s.sum) -ℤ v ≡ s.sum = omega (arith, ints) in
-        let same : record { count = (1 + s.count) - 1; sum = (v +ℤ s.sum) -ℤ v; least = int_min v s.least; greatest = int_max v s.greatest } ≡ s =
-        λ i. record { count = count i; sum = sum i; least = b.2 i; greatest = b.3 i } in
-        (long s.count two, ap is_sum sum ∙ in_bounds s.sum (omega (arith, ints)) (omega (arith, ints)), ap Some same, subst IsSmall (sym same) small))
+        let same : record {
+          count = (1 + s.count) - 1;
+          sum = (v +ℤ s.sum) -ℤ v;
+          least = int_min v s.least;
+          greatest = int_max v s.greatest;
+        } ≡ s =
+        λ i. record { count = count i; sum = sum i; least = b.2 i; greatest = b.3 i } in (
+          long s.count two,
+          ap is_sum sum ∙ in_bounds s.sum (omega (arith, ints)) (omega (arith, ints)),
+          ap Some same,
+          subst IsSmall (sym same) small,
+        ))
       where
         long : (n : ℕ) → 2 ≤ n → nat_le (1 + n) 2 ≡ false
         long n h = grind (arith, nat_tests)

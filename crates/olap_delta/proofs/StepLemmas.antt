@@ -20,10 +20,12 @@ use Rattle.olap_delta.specs.Changes.{without}
 use Rattle.olap_delta.specs.Changing.{IsStorable}
 use Rattle.olap_delta.specs.Joining.{HasRoom, less}
 
+-- the row that is there may be stored, as what stands there may
 pub kept : (there : Option told.Summary) (row : told.Summary) → there ≡ Some row
     → IfSome (option_map summary_of there) IsStorable → IsStorable (summary_of row)
 kept there row e h = subst (λ (o : Option told.Summary). IfSome (option_map summary_of o) IsStorable) e h
 
+-- what may be stored is so small that no sum with it wraps
 pub small : (s : Summary) → IsStorable s → IsUpTo (2 ^ 62) (2 ^ 120) s
 small s q = let a = (q 0).few in let b = (q 0).sum_from in let c = (q 0).sum_to in record {
   count = omega arith;
@@ -41,6 +43,7 @@ either : (b : Bool) (x y : ℤ) → SFits w64 x → SFits w64 y → SFits w64 (c
 either true x y p q = p
 either false x y p q = q
 
+-- a row that isn't full may be stored with one value more, where its sum is within the bounds
 pub joined_storable : (s : Summary) (v : ℤ) → s.count ≢ most_count → SFits w64 v → is_sum (s.sum +ℤ v) ≡ true
     → IsStorable s → IsStorable (joined s (of_value v))
 joined_storable s v n f e q = λ y. let few = (q y).few in let b = sum_bounds (s.sum +ℤ v) e in record {
@@ -52,6 +55,7 @@ joined_storable s v n f e q = λ y. let few = (q y).few in let b = sum_bounds (s
   greatest = either (int_lt v s.greatest) s.greatest v (q y).greatest f;
 }
 
+-- so may a row of three values or more, without one of them
 pub without_storable : (s : Summary) (v : ℤ) → 3 ≤ s.count → is_sum (s.sum -ℤ v) ≡ true → IsStorable s
     → IsStorable (without s v)
 without_storable s v h e q = λ y. let few = (q y).few in let b = sum_bounds (s.sum -ℤ v) e in record {
@@ -65,6 +69,7 @@ without_storable s v h e q = λ y. let few = (q y).few in let b = sum_bounds (s.
 
 -- ---- a lot of values
 
+-- no sum with a lot wraps
 pub lot_small : (s : Summary) → IsOfValues s.count s → s.count ≤ most_count → IsUpTo (2 ^ 62) (2 ^ 120) s
 lot_small s q h = let a = q.up_to.sum_from in let b = q.up_to.sum_to in record {
   count = omega arith;
@@ -72,6 +77,7 @@ lot_small s q h = let a = q.up_to.sum_from in let b = q.up_to.sum_to in record {
   sum_to = omega (arith, ints);
 }
 
+-- a lot alone may be stored
 pub lot_storable : (s : Summary) → IsOfValues s.count s → s.count ≤ most_count → IsStorable s
 lot_storable s q h = λ y. let a = q.up_to.sum_from in let b = q.up_to.sum_to in record {
   some = q.some;
@@ -82,6 +88,7 @@ lot_storable s q h = λ y. let a = q.up_to.sum_from in let b = q.up_to.sum_to in
   greatest = q.greatest;
 }
 
+-- so may a row with a lot for which it has room
 pub lot_joined_storable : (s t : Summary) → IsStorable s → IsOfValues t.count t → s.count + t.count ≤ most_count
     → HasRoom (most_count - s.count) s → IsStorable (joined s t)
 lot_joined_storable s t p q h r = λ y.
@@ -96,6 +103,7 @@ lot_joined_storable s t p q h r = λ y.
       greatest = either (int_lt t.greatest s.greatest) s.greatest t.greatest (p y).greatest q.greatest;
     }
 
+-- so may a row without a lot, of which two values are left at least
 pub lot_less_storable : (s t : Summary) → IsStorable s → IsOfValues t.count t → t.count + 2 ≤ s.count
     → HasRoom s.count s → IsStorable (less s t)
 lot_less_storable s t p q h r = λ y.

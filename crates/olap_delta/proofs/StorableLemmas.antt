@@ -77,18 +77,22 @@ table_sound g t views e a s = record {
   store = store-of t.instance (stands_at t) t.categories
       (let f = s.store.few in let n = length-map views (λ (v : View). v.category) in let m = ap length e in omega arith)
       (subst (AllPairs ◌≢◌) (sym e) s.store.categories);
-  fit = All-map Fits (view_at t) t.categories (λ k d l. fits (get_or t.categories k d) (Contains-get_or t.categories k d l));
+  fit = All-map Fits (view_at t) t.categories
+      (λ k d l. fits (get_or t.categories k d) (Contains-get_or t.categories k d l));
   categories = All-map (λ (v : View). IsCategory g v.category) (view_at t) t.categories
       (subst (All (IsCategory g)) (sym e) (All-map (IsCategory g) (λ (v : View). v.category) views s.categories));
   at_members = All-map (λ (v : View). All (λ r. r.member < length t.instance) v.rows) (view_at t) t.categories
-      (λ k d l. all-rows (λ (r : Row). r.member < length t.instance) (stands_at t) (members_of t.instance (get_or t.categories k d))
-      (λ y m. row_inside y (length t.instance) (stands_at t y) (members_of_is t.instance (get_or t.categories k d) y m).0));
+      (λ k d l. all-rows (λ (r : Row). r.member < length t.instance) (stands_at t)
+      (members_of t.instance (get_or t.categories k d))
+      (λ y m. row_inside y (length t.instance) (stands_at t y)
+      (members_of_is t.instance (get_or t.categories k d) y m).0));
 }
   where
     fits : (c : ℕ) → Contains t.categories c → Fits (view_at t c)
     fits c k = all-rows IsStored (stands_at t) (members_of t.instance c) (λ y m.
         let q = members_of_is t.instance c y m in
-        row_stored y (stands_at t y) (a y (record { member = q.0; category = subst (Contains t.categories) (sym q.1) k })))
+        row_stored y (stands_at t y)
+        (a y (record { member = q.0; category = subst (Contains t.categories) (sym q.1) k })))
 
 -- the rows of a table stand in file order
 pub table_order : (t : Summarized) → All (IsInFileOrder t.instance) (views_at t)

@@ -22,12 +22,14 @@ pub record IsLive (first now : FactReading) : Type 0 where
   pub is : now ≡ reading first.graph first.instance first.records first.most now.handed true
   pub few : now.handed ≤ first.most
 
+-- a live reader that has handed out nothing
 pub live_first : (first : FactReading) → first.live ≡ true → first.handed ≡ 0 → IsLive first first
 live_first first l z = record {
   is = ap (λ b. reading first.graph first.instance first.records first.most first.handed b) l;
   few = omega arith;
 }
 
+-- a reader that handed out one fact more is live still
 pub live_more : (first old new : FactReading) → IsLive first old → new ≡ one_more old → old.handed < old.most
     → IsLive first new
 live_more first old new h e l = record {
@@ -36,15 +38,18 @@ live_more first old new h e l = record {
       let m : old.most ≡ first.most = ap (λ (r : FactReading). r.most) h.is in omega arith;
 }
 
+-- that fact is the last that was handed out
 pub handed_more : (first old new : FactReading) (f : Fact) → IsLive first old → new ≡ one_more old → HandsOut old f
     → handed_out first new ≡ handed_out first old ++ f ∷ []
 handed_more first old new f h e out =
     facts_more first.graph first.instance first.records first.most old h.is new f e out
 
 module _ (first old : FactReading) (h : IsLive first old) (end : IsAtEnd old) where
+  -- the reader at the end of its text
   abbrev last : FactReading
   last = reading first.graph first.instance first.records first.most old.handed true
 
+  -- what was handed out up to the end are all facts, and they were taken
   pub all_taken : (before now : Delta) → AreTaken (handed_out first old) before now
       → AreAllTaken (all_read first) before now
   all_taken before now t =
@@ -55,6 +60,7 @@ module _ (first old : FactReading) (h : IsLive first old) (end : IsAtEnd old) wh
         taken = subst (λ (fs : List Fact). AreTaken fs before now) (sym (ended last e)) t;
       }
 
+  -- so they were joined by member
   pub lots_of_all : (g : Lots) → first.most ≤ most_count → length g.places.items ≡ length first.instance → AreLots g
       → StandFor first.instance (handed_out first old) g → AreLotsOf (all_read first) first.instance g
   lots_of_all g most places lots stand =

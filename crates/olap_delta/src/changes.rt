@@ -108,11 +108,12 @@ impl Change {
         ensures categories { table.new.categories ≡ table.old.categories }
         ensures storable { AreStorable table.new }
         ensures view { let c = slice_index table.old.categories k in MatchResult result
-            (λ _. view_after (step_of self) table.old.instance (view_at table.old c) (fact_of fact.now)
-            ≡ Ok (view_at table.new c))
-            (λ e. view_after (step_of self) table.old.instance (view_at table.old c) (fact_of fact.now) ≡ Err e) }
-        ensures others { (c : ℕ) → Contains table.old.categories c → c ≢ slice_index table.old.categories k
-            → view_at table.new c ≡ view_at table.old c }
+            (λ _. view_after (step_of self) table.old.instance (view_at table.old c)
+            (fact_of fact.now) ≡ Ok (view_at table.new c))
+            (λ e. view_after (step_of self) table.old.instance (view_at table.old c)
+            (fact_of fact.now) ≡ Err e) }
+        ensures others { (c : ℕ) → Contains table.old.categories c
+            → c ≢ slice_index table.old.categories k → view_at table.new c ≡ view_at table.old c }
     {
         if let Some(y) = table.ancestor(k, fact.member) {
             let summary = self.of_row(table.at(y), fact.value)?;
@@ -129,9 +130,10 @@ impl Change {
         ensures categories { table.new.categories ≡ table.old.categories }
         ensures storable { AreStorable table.new }
         ensures views { MatchResult result
-            (λ _. views_after (step_of self) table.old.instance (views_at table.old) (fact_of fact.now)
-            ≡ Ok (views_at table.new))
-            (λ e. views_after (step_of self) table.old.instance (views_at table.old) (fact_of fact.now) ≡ Err e) }
+            (λ _. views_after (step_of self) table.old.instance (views_at table.old)
+            (fact_of fact.now) ≡ Ok (views_at table.new))
+            (λ e. views_after (step_of self) table.old.instance (views_at table.old)
+            (fact_of fact.now) ≡ Err e) }
     {
         'categories: for k in 0..table.categories().len() {
             self.view(table, k, fact)?;

@@ -75,8 +75,8 @@ impl<'a> Delta<'a> {
         ensures categories { self.new.categories ≡ self.old.categories }
         ensures taken { self.new.taken ≡ self.old.taken + 1 }
         ensures views { self.new.views
-            ≡ fact_after (step_of self.old.change) self.old.instance (self.old.taken + 2) (fact_of fact.now)
-            self.old.views }
+            ≡ fact_after (step_of self.old.change) self.old.instance (self.old.taken + 2)
+            (fact_of fact.now) self.old.views }
     {
         if self.refused.is_none() {
             let at = self.taken + 2;
@@ -92,7 +92,8 @@ impl<'a> Delta<'a> {
     pub fn into_store(self) -> Result<Store, DeltaRefusal>
         ensures ok { IfOk result (λ s. self.entry.views ≡ Ok (views_of s)) }
         ensures sound { IfOk result (λ s. (g : TheGraph) (before : Items TheView)
-            → self.entry.categories ≡ categories_in before → IsSoundStore g self.entry.instance before
+            → self.entry.categories ≡ categories_in before
+            → IsSoundStore g self.entry.instance before
             → IsSoundStore g self.entry.instance (views_of s)) }
         ensures order { IfOk result (λ s. All (IsInFileOrder self.entry.instance) (views_of s)) }
         ensures err { IfErr result (λ e. IsDeltaRefusedBy e self.entry.views) }

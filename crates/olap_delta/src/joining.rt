@@ -40,8 +40,8 @@ fn append(there: Option<Summary>, lot: Summary) -> Option<Summary>
     requires there { IfSome (option_map summary_of there) IsStorable }
     requires values { IsOfValues lot.count (summary_of lot) }
     requires few { lot.count ≤ most_count }
-    ensures joined { IfSome result (λ s. IsJoined by.Append (option_map summary_of there) (Some (summary_of lot))
-        (Some (summary_of s))) }
+    ensures joined { IfSome result (λ s. IsJoined by.Append (option_map summary_of there)
+        (Some (summary_of lot)) (Some (summary_of s))) }
     ensures storable { IfSome result (λ s. IsStorable (summary_of s)) }
 {
     let Some(row) = there else {
@@ -73,8 +73,8 @@ fn retract(there: Option<Summary>, lot: Summary) -> Option<Summary>
     requires there { IfSome (option_map summary_of there) IsStorable }
     requires values { IsOfValues lot.count (summary_of lot) }
     requires few { lot.count ≤ most_count }
-    ensures joined { IfSome result (λ s. IsJoined by.Retract (option_map summary_of there) (Some (summary_of lot))
-        (Some (summary_of s))) }
+    ensures joined { IfSome result (λ s. IsJoined by.Retract (option_map summary_of there)
+        (Some (summary_of lot)) (Some (summary_of s))) }
     ensures storable { IfSome result (λ s. IsStorable (summary_of s)) }
 {
     let Some(row) = there else {
@@ -95,8 +95,8 @@ impl Change {
         requires there { IfSome (option_map summary_of there) IsStorable }
         requires values { IsOfValues lot.count (summary_of lot) }
         requires few { lot.count ≤ most_count }
-        ensures joined { IfSome result (λ s. IsJoined self (option_map summary_of there) (Some (summary_of lot))
-            (Some (summary_of s))) }
+        ensures joined { IfSome result (λ s. IsJoined self (option_map summary_of there)
+            (Some (summary_of lot)) (Some (summary_of s))) }
         ensures storable { IfSome result (λ s. IsStorable (summary_of s)) }
     {
         match self {
@@ -114,9 +114,11 @@ impl Change {
         ensures instance { table.new.instance ≡ table.old.instance }
         ensures categories { table.new.categories ≡ table.old.categories }
         ensures storable { AreStorable table.new }
-        ensures once { IsTrue result → IsOnce table.old.instance (slice_index table.old.categories k) lot.member.0 }
+        ensures once { IsTrue result
+            → IsOnce table.old.instance (slice_index table.old.categories k) lot.member.0 }
         ensures joined { IsTrue result → IsJoinedIn self (slice_index table.old.categories k)
-            (λ y. when (reaches table.old.instance lot.member.0 y) (summary_of lot.summary)) table.old table.new }
+            (λ y. when (reaches table.old.instance lot.member.0 y) (summary_of lot.summary))
+            table.old table.new }
     {
         if let Some(y) = table.ancestor(k, lot.member) {
             let Some(summary) = self.of_lot(table.at(y), lot.summary) else {
@@ -136,7 +138,8 @@ impl Change {
         ensures categories { table.new.categories ≡ table.old.categories }
         ensures storable { AreStorable table.new }
         ensures once { IsTrue result
-            → All (λ l. IsOnce table.old.instance (slice_index table.old.categories k) l.member.0) lots.now }
+            → All (λ l. IsOnce table.old.instance (slice_index table.old.categories k) l.member.0)
+            lots.now }
         ensures joined { IsTrue result → IsJoinedIn self (slice_index table.old.categories k)
             (lots_at table.old.instance lots.now) table.old table.new }
     {
@@ -182,9 +185,11 @@ fn table_after<'a>(
     requires size { length lots.places.items ≡ length legal.now }
     requires few { lots.taken ≤ most_count }
     ensures instance { IfOk result (λ o. IfSome o (λ t. t.instance ≡ legal.now)) }
-    ensures categories { IfOk result (λ o. IfSome o (λ t. t.categories ≡ categories_in (views_of store.now))) }
+    ensures categories { IfOk result (λ o.
+        IfSome o (λ t. t.categories ≡ categories_in (views_of store.now))) }
     ensures storable { IfOk result (λ o. IfSome o AreStorable) }
-    ensures views { IfOk result (λ o. IfSome o (λ t. (facts : Items TheFact) → StandFor legal.now facts lots
+    ensures views { IfOk result (λ o. IfSome o (λ t. (facts : Items TheFact)
+        → StandFor legal.now facts lots
         → store_changed (step_of change) legal.now (views_of store.now) facts ≡ Ok (views_at t))) }
 {
     let mut table = SummaryTable::of(alloc, legal, store)?;
@@ -209,10 +214,11 @@ pub(crate) fn joined(
     requires lots { AreLots lots }
     requires size { length lots.places.items ≡ length legal.now }
     requires few { lots.taken ≤ most_count }
-    ensures views { IfOk result (λ o. IfSome o (λ s. (facts : Items TheFact) → StandFor legal.now facts lots
+    ensures views { IfOk result (λ o. IfSome o (λ s. (facts : Items TheFact)
+        → StandFor legal.now facts lots
         → store_changed (step_of change) legal.now (views_of store.now) facts ≡ Ok (views_of s))) }
-    ensures sound { IfOk result (λ o. IfSome o (λ s. (g : TheGraph) → IsSoundStore g legal.now (views_of store.now)
-        → IsSoundStore g legal.now (views_of s))) }
+    ensures sound { IfOk result (λ o. IfSome o (λ s. (g : TheGraph)
+        → IsSoundStore g legal.now (views_of store.now) → IsSoundStore g legal.now (views_of s))) }
     ensures order { IfOk result (λ o. IfSome o (λ s. All (IsInFileOrder legal.now) (views_of s))) }
 {
     match table_after(alloc, change, legal, store, lots)? {

@@ -62,7 +62,8 @@ impl Lots {
     /// Joins a fact's value to the lot at this place, which is its member's.
     fn join(&mut self, place: usize, fact: &Fact)
         requires inside { place < length self.old.lots.items }
-        requires own { (d : TheLot) → (slice_index_or self.old.lots.items place d).member.0 ≡ fact.now.member.0 }
+        requires own { (d : TheLot)
+            → (slice_index_or self.old.lots.items place d).member.0 ≡ fact.now.member.0 }
         requires room { self.old.taken < most_count }
         requires lots { AreLots self.old }
         ensures { AreMore (fact_of fact.now) self.old self.new }

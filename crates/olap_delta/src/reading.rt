@@ -53,7 +53,8 @@ fn take_text(
     requires instance { delta.old.instance ≡ legal.now }
     ensures taken { OnOk result (AreAllTaken (facts_read graph.now legal.now (records_of text.now))
         delta.old delta.new) }
-    ensures err { IfErr result (λ e. IsRefusedBy e (facts_read graph.now legal.now (records_of text.now))) }
+    ensures err { IfErr result
+        (λ e. IsRefusedBy e (facts_read graph.now legal.now (records_of text.now))) }
 {
     let mut reader = FactReader::new(alloc, graph, legal.instance(), text, MOST_LISTED_FACTS);
     take_each(&mut reader, delta)
@@ -73,13 +74,14 @@ fn one_by_one(
     requires fit { All Fits (views_of store.now) }
     requires order { All (IsInFileOrder legal.now) (views_of store.now) }
 
-    ensures changed { IfOk result (λ r. IsChangedBy (step_of change) graph.now legal.now (records_of text.now)
-        (views_of store.now) r) }
-    ensures sound { IfOk result (λ r. IfOk r (λ s. (g : TheGraph) → IsSoundStore g legal.now (views_of store.now)
-        → IsSoundStore g legal.now (views_of s))) }
+    ensures changed { IfOk result (λ r. IsChangedBy (step_of change) graph.now legal.now
+        (records_of text.now) (views_of store.now) r) }
+    ensures sound { IfOk result (λ r. IfOk r (λ s. (g : TheGraph)
+        → IsSoundStore g legal.now (views_of store.now) → IsSoundStore g legal.now (views_of s))) }
     ensures order { IfOk result (λ r. IfOk r (λ s. All (IsInFileOrder legal.now) (views_of s))) }
 
-    ensures err { IfErr result (λ e. IsRefusedBy e (facts_read graph.now legal.now (records_of text.now))) }
+    ensures err { IfErr result
+        (λ e. IsRefusedBy e (facts_read graph.now legal.now (records_of text.now))) }
 {
     let mut delta = Delta::new(alloc, change, legal, store)?;
     take_text(alloc, graph, legal, text, &mut delta)?;
@@ -115,8 +117,10 @@ fn join_text(
     requires places { length lots.old.places.items ≡ length legal.now }
     requires lots { AreLots lots.old }
     requires none { StandFor legal.now [] lots.old }
-    ensures lots { OnOk result (AreLotsOf (facts_read graph.now legal.now (records_of text.now)) legal.now lots.new) }
-    ensures err { IfErr result (λ e. IsRefusedBy e (facts_read graph.now legal.now (records_of text.now))) }
+    ensures lots { OnOk result
+        (AreLotsOf (facts_read graph.now legal.now (records_of text.now)) legal.now lots.new) }
+    ensures err { IfErr result
+        (λ e. IsRefusedBy e (facts_read graph.now legal.now (records_of text.now))) }
 {
     let mut reader = FactReader::new(alloc, graph, legal.instance(), text, MOST_LISTED_FACTS);
     join_each(&mut reader, lots)
@@ -140,13 +144,14 @@ pub fn change_by_text(
     requires fit { All Fits (views_of store.now) }
     requires order { All (IsInFileOrder legal.now) (views_of store.now) }
 
-    ensures changed { IfOk result (λ r. IsChangedBy (step_of change) graph.now legal.now (records_of text.now)
-        (views_of store.now) r) }
-    ensures sound { IfOk result (λ r. IfOk r (λ s. (g : TheGraph) → IsSoundStore g legal.now (views_of store.now)
-        → IsSoundStore g legal.now (views_of s))) }
+    ensures changed { IfOk result (λ r. IsChangedBy (step_of change) graph.now legal.now
+        (records_of text.now) (views_of store.now) r) }
+    ensures sound { IfOk result (λ r. IfOk r (λ s. (g : TheGraph)
+        → IsSoundStore g legal.now (views_of store.now) → IsSoundStore g legal.now (views_of s))) }
     ensures order { IfOk result (λ r. IfOk r (λ s. All (IsInFileOrder legal.now) (views_of s))) }
 
-    ensures err { IfErr result (λ e. IsRefusedBy e (facts_read graph.now legal.now (records_of text.now))) }
+    ensures err { IfErr result
+        (λ e. IsRefusedBy e (facts_read graph.now legal.now (records_of text.now))) }
 {
     let mut lots = Lots::new(alloc, legal.instance().members())?;
     join_text(alloc, graph, legal, text, &mut lots)?;

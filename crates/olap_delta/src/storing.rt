@@ -31,7 +31,8 @@ fn one_by_one(
     requires at_members { All (λ f. f.member.0 < length legal.now) facts.now.rows }
     requires few { length facts.now.rows ≤ most_count }
     ensures ok { IfOk result (λ s.
-        store_changed (step_of change) legal.now (views_of store.now) (facts_of facts.now) ≡ Ok (views_of s)) }
+        store_changed (step_of change) legal.now (views_of store.now) (facts_of facts.now)
+        ≡ Ok (views_of s)) }
     ensures sound { IfOk result (λ s. (g : TheGraph) → IsSoundStore g legal.now (views_of store.now)
         → IsSoundStore g legal.now (views_of s)) }
     ensures order { IfOk result (λ s. All (IsInFileOrder legal.now) (views_of s)) }
@@ -59,7 +60,8 @@ fn changed(
     requires at_members { All (λ f. f.member.0 < length legal.now) facts.now.rows }
     requires few { length facts.now.rows ≤ most_count }
     ensures ok { IfOk result (λ s.
-        store_changed (step_of change) legal.now (views_of store.now) (facts_of facts.now) ≡ Ok (views_of s)) }
+        store_changed (step_of change) legal.now (views_of store.now) (facts_of facts.now)
+        ≡ Ok (views_of s)) }
     ensures sound { IfOk result (λ s. (g : TheGraph) → IsSoundStore g legal.now (views_of store.now)
         → IsSoundStore g legal.now (views_of s)) }
     ensures order { IfOk result (λ s. All (IsInFileOrder legal.now) (views_of s)) }
@@ -99,7 +101,8 @@ pub fn append(
     requires few { length facts.now.rows ≤ most_count }
 
     ensures ok { IfOk result (λ s.
-        store_changed appended legal.now (views_of store.now) (facts_of facts.now) ≡ Ok (views_of s)) }
+        store_changed appended legal.now (views_of store.now) (facts_of facts.now)
+        ≡ Ok (views_of s)) }
     ensures sound { IfOk result (λ s. (g : TheGraph) → IsSoundStore g legal.now (views_of store.now)
         → IsSoundStore g legal.now (views_of s)) }
     ensures order { IfOk result (λ s. All (IsInFileOrder legal.now) (views_of s)) }
@@ -133,7 +136,8 @@ pub fn retract(
     requires few { length facts.now.rows ≤ most_count }
 
     ensures ok { IfOk result (λ s.
-        store_changed retracted legal.now (views_of store.now) (facts_of facts.now) ≡ Ok (views_of s)) }
+        store_changed retracted legal.now (views_of store.now) (facts_of facts.now)
+        ≡ Ok (views_of s)) }
     ensures sound { IfOk result (λ s. (g : TheGraph) → IsSoundStore g legal.now (views_of store.now)
         → IsSoundStore g legal.now (views_of s)) }
     ensures order { IfOk result (λ s. All (IsInFileOrder legal.now) (views_of s)) }

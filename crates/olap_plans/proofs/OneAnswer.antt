@@ -23,15 +23,18 @@ use Rattle.olap_plans.specs.Shown.{ShowsPlan}
 
 -- ---- plans
 
+-- of two masks of which neither is dearer, each is the other
 least_mask : (views : List View) (m n : ℕ) → IsNoDearer views m n → IsNoDearer views n m → m ≡ n
 least_mask views m n (inl a) (inl b) = absurd (omega arith)
 least_mask views m n (inl a) (inr b) = let e = b.0 in absurd (omega arith)
 least_mask views m n (inr a) (inl b) = let e = a.0 in absurd (omega arith)
 least_mask views m n (inr a) (inr b) = let x = a.1 in let y = b.1 in omega arith
 
+-- a target has one plan at most
 one_mask : (s : Schema) (views : List View) (c m n : ℕ) → IsPlan s views c m → IsPlan s views c n → m ≡ n
 one_mask s views c m n a b = least_mask views m n (a.cheapest n b.serves) (b.cheapest m a.serves)
 
+-- so one text shows it
 one_plan : (s : Schema) (i : Instance) (views : List View) (c : ℕ) (xs ys : List ℕ) → ShowsPlan s i views c xs
     → ShowsPlan s i views c ys → xs ≡ ys
 one_plan s i views c xs ys a b =
@@ -41,14 +44,17 @@ one_plan s i views c xs ys a b =
 
 -- ---- made inputs
 
+-- the value of a result, or another where it has none
 taken : {A B : Type 0} → Result A B → A → A
 taken (Ok x) d = x
 taken (Err e) d = d
 
+-- a result has one value
 same_ok : {A B : Type 0} (x y : A) (r : Result A B) → r ≡ Ok x → r ≡ Ok y → x ≡ y
 unfolding taken
 same_ok x y r a b = ap (λ t. taken t x) (sym a ∙ b)
 
+-- one text shows what comes of a seed and a size
 one_made : (seed size : ℕ) (xs ys : List ℕ) → ShowsGenerated seed size xs → ShowsGenerated seed size ys → xs ≡ ys
 one_made seed size xs ys a b =
     let p : a.schema ≡ b.schema = same_ok a.schema b.schema (schema_read location_text) a.made.schema_text
@@ -71,6 +77,7 @@ one_made seed size xs ys a b =
 
 -- ---- all questions
 
+-- a question has one status and one list of bytes at most
 one_answer : (q : Question) (s t : Status) (xs ys : List ℕ) → IsAnswer q s xs → IsAnswer q t ys
     → (s ≡ t) × (xs ≡ ys)
 one_answer (ByPlan z i views c) s t xs ys (inl a) (inl b) = (a.0 ∙ sym b.0, one_plan z i views c xs ys a.1 b.1)
@@ -79,9 +86,11 @@ one_answer (ByPlan z i views c) s t xs ys (inr a) (inl b) = absurd (a.1 b.1.mask
 one_answer (ByPlan z i views c) s t xs ys (inr a) (inr b) = (a.0 ∙ sym b.0, a.2 ∙ sym b.2)
 one_answer (ByGenerated seed size) s t xs ys a b = (a.0 ∙ sym b.0, one_made seed size xs ys a.1 b.1)
 
+-- so the law of answers holds
 pub answers_are_one : AnswersAreOne
 answers_are_one = one_answer
 
+-- so the law of plans holds
 pub plan_is_one : PlanIsOne
 plan_is_one = one_mask
 

@@ -19,4 +19,5 @@ generated_is_no_usage (Some q) (Some n) bytes e = absurd (cc)
 -- the order of a command isn't the usage
 pub seen_is_no_usage : (command : Command) → IsNoUsage (seen command)
 seen_is_no_usage (code.Answer schema instance store target) bytes e = absurd (cc)
-seen_is_no_usage (code.Generate seed size) bytes e = generated_is_no_usage (number_of seed.now) (size_of size.now) bytes e
+seen_is_no_usage (code.Generate seed size) bytes e =
+    generated_is_no_usage (number_of seed.now) (size_of size.now) bytes e

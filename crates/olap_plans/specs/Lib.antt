@@ -1,7 +1,10 @@
 -- Definitions that contracts cite, in reading order: what is asked, what answers it, and the commands' orders.
+
+-- What a reader of the claims believes.
 pub mod Shown
 pub mod Questions
 pub mod Numbers
 pub mod Commands
 pub mod Laws
+-- The inside: the commands of the code as orders.
 pub mod Seen

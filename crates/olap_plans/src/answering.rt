@@ -24,7 +24,7 @@ use olap_view::{Store, View, print_view_behind};
 use std::alloc::Global;
 
 /// The line of a plan, and the view that it gives.
-fn shown(
+fn answer_text(
     alloc: Global,
     graph: &Graph,
     legal: &Legal,
@@ -58,7 +58,7 @@ fn answered(
 {
     match olap_nav::answer(alloc, schema, legal, store, target) {
         Ok((plan, view)) => {
-            let text = shown(alloc, schema.graph(), legal, store, plan.mask, &view)?;
+            let text = answer_text(alloc, schema.graph(), legal, store, plan.mask, &view)?;
             Ok(yes(text))
         }
         Err(PlanRefusal::NotAnswerable) => Err(refuse(alloc, "answer NotAnswerable")),

@@ -28,8 +28,8 @@ fn run<L: Library>(alloc: Global, command: Command, lib: &mut L) -> Result<Reply
     }
 }
 
-/// The reply of the command of that name with these words after it; none, and no file is opened, where it is no command of
-/// this family.
+/// The reply of the command of that name with these words after it; none, and no file is opened, if this family has no
+/// such command.
 pub fn judge<L: Library>(
     alloc: Global,
     name: &str,

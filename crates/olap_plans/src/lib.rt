@@ -1,8 +1,9 @@
 //! The commands that plan from which stored views a total is taken.
 //!
-//! A command is an order (`specs/Commands.antt`) that ends in a question (`specs/Questions.antt`). Which status and bytes
-//! answer it is the relation `IsAnswer`. `judge` is the one call: the reply to a command's name and words. They stand on
-//! the views and on the search, and so apart from both families.
+//! A command is an order (`specs/Commands.antt`) that ends in a question (`specs/Questions.antt`). Which status and
+//! bytes answer it is the relation `IsAnswer`. `judge` is the one call: the reply to a command's name and words.
+//!
+//! The commands stand on the views and on the search, and so apart from the families of both.
 #![tactic(auto)]
 
 mod answering;

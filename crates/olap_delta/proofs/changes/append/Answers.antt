@@ -18,7 +18,8 @@ returns-clause-storable c =
     let fits : SFits w64 c.args.value = c.ranges.value in
     let e : summary_of c.joined-joined.result ≡ joined (summary_of c.in-Some.row) (of_value c.args.value) =
     c.joined-joined.ensures
-    ∙ ap (joined (summary_of c.in-Some.row)) (c.of_value-alone.ensures ∙ ap of_value (to_z-of_z w64 c.args.value fits)) in
+    ∙ ap (joined (summary_of c.in-Some.row))
+    (c.of_value-alone.ensures ∙ ap of_value (to_z-of_z w64 c.args.value fits)) in
     subst IsStorable (sym e) (joined_storable (summary_of c.in-Some.row) c.args.value c.if-row-eq-MOST_COUNT.false fits
     (ap (λ (s : Summary). is_sum s.sum) (sym e) ∙ sym c.sum_fits.ensures ∙ c.if-not-sum_fits.false)
     (kept c.args.there c.in-Some.row c.in-Some.is c.requires))

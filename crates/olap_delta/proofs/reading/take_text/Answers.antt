@@ -17,13 +17,15 @@ pub returns-clause-taken : goal.returns-clause-taken
 returns-clause-taken c =
     let g = c.args.graph.now in
     let records = records_of c.args.text.now in
-    let is = c.new-reader.ensures ∙ ap (λ (j : Instance). reading g j records most_listed_facts 0 true) c.instance.ensures in
-    subst (λ (r : FactReading). OnOk c.take_each.result (AreAllTaken (all_read r) c.args.delta.now c.take_each.new.delta))
-    is c.take_each.ensures.taken
+    let is = c.new-reader.ensures
+    ∙ ap (λ (j : Instance). reading g j records most_listed_facts 0 true) c.instance.ensures in
+    subst (λ (r : FactReading). OnOk c.take_each.result
+    (AreAllTaken (all_read r) c.args.delta.now c.take_each.new.delta)) is c.take_each.ensures.taken
 
 pub returns-clause-err : goal.returns-clause-err
 returns-clause-err c =
     let g = c.args.graph.now in
     let records = records_of c.args.text.now in
-    let is = c.new-reader.ensures ∙ ap (λ (j : Instance). reading g j records most_listed_facts 0 true) c.instance.ensures in
+    let is = c.new-reader.ensures
+    ∙ ap (λ (j : Instance). reading g j records most_listed_facts 0 true) c.instance.ensures in
     subst (λ (r : FactReading). IfErr c.take_each.result (λ e. IsRefusedBy e (all_read r))) is c.take_each.ensures.err

@@ -1,3 +1,4 @@
+-- A step that fails ends the order; else the plan's view answers.
 use Rattle.olap_order.proofs.Stepping.{answered, ended, followed, unread}
 use Rattle.olap_plans.proofs.answering.answer.Goals as goal
 

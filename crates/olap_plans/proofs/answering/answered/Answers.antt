@@ -1,3 +1,4 @@
+-- There is no plan.
 use Rattle.std.proofs.Common.{Err, ap, codes, inr, refl}
 use Rattle.olap_schema.specs.Schemas.{schema_of}
 use Rattle.olap_view.specs.Seen.{views_of}

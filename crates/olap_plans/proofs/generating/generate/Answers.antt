@@ -1,3 +1,4 @@
+-- A word that is no number ends the order; else what is made answers.
 use Rattle.olap_order.proofs.Stepping.{ended_unread, followed_unread}
 use Rattle.olap_plans.proofs.generating.generate.Goals as goal
 

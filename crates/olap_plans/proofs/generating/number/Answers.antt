@@ -1,3 +1,4 @@
+-- A short word with no plus first is parsed as the number that it spells.
 use Rattle.std.proofs.Common.{◌≡◌, ◌==◌, ◌∙◌, true, false, arith, length, nat_le, slice_index, sym}
 use Rattle.std.proofs.lemmas.Bool.Decides.{nat_tests}
 use Rattle.olap_plans.proofs.NumberLemmas.{number-parses}

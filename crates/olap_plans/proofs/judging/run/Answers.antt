@@ -1,3 +1,4 @@
+-- What comes of `generate`, which opens no file.
 use Rattle.std.proofs.Common.{sym, subst}
 use Rattle.olap_order.specs.Judged.{Judged}
 use Rattle.olap_order.proofs.Stepping.{answered}

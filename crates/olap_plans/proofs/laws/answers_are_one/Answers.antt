@@ -1,3 +1,4 @@
+-- The law of answers.
 use Rattle.olap_plans.proofs.OneAnswer.{answers_are_one}
 use Rattle.olap_plans.proofs.laws.answers_are_one.Goals as goal
 
