@@ -1,5 +1,5 @@
 -- Reached, and with a name that compares so.
-use Rattle.std.proofs.Common.{w64}
+use Rattle.std.proofs.Common.{rules, w64}
 use Rattle.std.proofs.lemmas.Int.{to_z-of_z}
 use Rattle.olap_ast.specs.Formula.{Formula.Compare}
 use Rattle.olap_ast.specs.Trees.{op_of}
@@ -12,10 +12,10 @@ use Rattle.olap_encoding.proofs.PartLemmas.{both_ok}
 use Rattle.olap_encoding.proofs.TellingLemmas.{tell_compared, tell_unreached}
 use Rattle.olap_encoding.proofs.formulas.compared.Goals as goal
 
-pub returns-then-is-clause-says : goal.returns-then-is-clause-says
-returns-then-is-clause-says c =
+pub returns-then-eq-clause-says : goal.returns-then-eq-clause-says
+returns-then-eq-clause-says c =
     tell_unreached (encoding_of c.reach.new.self) c.in_ok-a.ensures.next.sound c.args.c.0 c.in_ok-a.a c.args.d.0
-    (op_of c.args.op) c.args.n (c.is.ensures c.if-is.true) c.in_ok-a.ensures.says
+    (op_of c.args.op) c.args.n (search (rules, c.if-eq.ensures)) c.in_ok-a.ensures.says
 
 pub comparing-requires-clause-category : goal.comparing-requires-clause-category
 comparing-requires-clause-category c = category_still c.in_ok-a.ensures.next.later c.args.d.0 c.requires.speaks.0
