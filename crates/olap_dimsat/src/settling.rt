@@ -293,7 +293,8 @@ fn settle_next(
     requires ready { IsReady (task_of a.now) engine.old }
     requires best { IsFor (task_of a.now) best.old }
     requires pinned { IsPinned (task_of a.now) p (chosen_of best.old.edges best.old.names) (trail_of engine.old) }
-    requires known { (q : ℕ) → p ≤ q → q < known → NoneLess (task_of a.now) q (chosen_of best.old.edges best.old.names) }
+    requires known { (q : ℕ) → p ≤ q → q < known
+        → NoneLess (task_of a.now) q (chosen_of best.old.edges best.old.names) }
     ensures pinned { IsPinned (task_of a.now) (p + 1) (chosen_of best.new.edges best.new.names) (trail_of engine.new) }
     ensures same { IsSame p (chosen_of best.new.edges best.new.names) (chosen_of best.old.edges best.old.names) }
     ensures least { NoneLess (task_of a.now) p (chosen_of best.new.edges best.new.names) }
