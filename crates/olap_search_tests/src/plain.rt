@@ -52,6 +52,7 @@ fn first_of(
     category: u16,
 ) -> (usize, Option<(u32, u64, i128, i64, i64)>) {
     let members = members(rt, alloc);
+    assert!(rt; members.len() == 4);
     let rows = direct(alloc, &members, &FACTS, category).expect(rt, "memory");
     (rows.len(), rows.first().map(told))
 }

@@ -1,6 +1,6 @@
 use Rattle.std.proofs.Common.{subst}
 use Rattle.olap_schema_text.specs.Judging.{schema_read}
-use Rattle.olap_schema.specs.Schemas.{IsRefusedBy}
+use Rattle.olap_schema_text.specs.Refusals.{IsRefusedBy}
 use Rattle.olap_generate.specs.Location.{location_text}
 use Rattle.olap_generate.proofs.MadeLemmas.{schema_faultless}
 use Rattle.olap_generate.proofs.running.made_schema.Goals as goal
