@@ -24,7 +24,7 @@ fn says_as_much(clause: &[Lit], known: &[Lit]) -> bool {
 
 /// Whether a decision stands between the two places.
 fn has_decision(trail: &Trail, from: usize, to: usize) -> bool {
-    for place in from..to.min(trail.len()) {
+    'places: for place in from..to.min(trail.len()) {
         if trail.step(place).is_decision() {
             return true;
         }
@@ -36,7 +36,7 @@ fn has_decision(trail: &Trail, from: usize, to: usize) -> bool {
 fn levels_of(trail: &Trail, clause: &[Lit]) -> u32 {
     let mut levels: u32 = 0;
     let mut from = 0;
-    for lit in clause {
+    'lits: for lit in clause {
         let to = trail.place(lit.variable).saturating_add(1);
         if has_decision(trail, from, to) {
             levels = levels.saturating_add(1);
@@ -79,7 +79,7 @@ pub(crate) fn learn(
 /// How many clauses between the two places have literals on at most so many levels.
 fn count_worthy(pool: &Pool, given: usize, newest: usize, most: u32) -> usize {
     let mut count: usize = 0;
-    for id in 0..pool.len() {
+    'clauses: for id in 0..pool.len() {
         if given <= id && id < newest && pool.levels(id) <= most {
             count = count.saturating_add(1);
         }
@@ -90,7 +90,7 @@ fn count_worthy(pool: &Pool, given: usize, newest: usize, most: u32) -> usize {
 /// The most levels of the clauses between the two places of which no more than that are kept; one at least, since most
 /// that such a clause says stays needed.
 fn levels_enough(pool: &Pool, given: usize, newest: usize, wanted: usize) -> u32 {
-    for most in 1..MANY {
+    'levels: for most in 1..MANY {
         if count_worthy(pool, given, newest, most + 1) > wanted {
             return most;
         }

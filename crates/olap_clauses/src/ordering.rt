@@ -65,7 +65,7 @@ impl Orders {
     /// The order by which the shortest clauses were learned.
     fn best(&self) -> Order {
         let mut best = Order::Judge;
-        for order in [Order::Shown, Order::Free] {
+        'orders: for order in [Order::Shown, Order::Free] {
             if self.took(order).literals_each() < self.took(best).literals_each() {
                 best = order;
             }

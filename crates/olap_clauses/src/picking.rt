@@ -11,7 +11,7 @@ fn best(trail: &Trail, scores: &[u32]) -> Option<Lit> {
     let mut best = None;
     let mut top = 0;
     let mut variable: u32 = 0;
-    for score in scores {
+    'scores: for score in scores {
         if *score > top {
             let positive = trail.last_sign(variable);
             let lit = Lit { variable, positive };

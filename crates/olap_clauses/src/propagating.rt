@@ -9,23 +9,17 @@ use crate::standing::{Stand, stands};
 use crate::trails::{Reason, Trail};
 use crate::watching::{Cursor, Watches};
 
-/// Whether a literal isn't known false, and is another than the one that the clause's other node
-/// watches.
-fn is_free(trail: &Trail, lit: Lit, other: Lit) -> bool {
-    !trail.is_false(lit) && lit != other
-}
-
-/// A free literal of the clause and its place: the first from this place on, or else the first before it.
-fn free_from(trail: &Trail, clause: &[Lit], from: usize, other: Lit) -> Option<(usize, Lit)> {
-    for place in from..clause.len() {
+/// A literal of the clause that isn't known false, and that its other node doesn't watch, and its place: the first behind
+/// this place, and round to it. Truths are by code.
+fn free_after(truths: &[bool], clause: &[Lit], at: usize, other: Lit) -> Option<(usize, Lit)> {
+    let last = clause.len().saturating_sub(1);
+    let mut place = at;
+    'lits: for _ in 0..clause.len() {
+        place = if place < last { place + 1 } else { 0 };
         let lit = clause[place];
-        if is_free(trail, lit, other) {
-            return Some((place, lit));
-        }
-    }
-    for place in 0..from.min(clause.len()) {
-        let lit = clause[place];
-        if is_free(trail, lit, other) {
+        let negation = lit.negated().code();
+        let is_false = negation < truths.len() && truths[negation];
+        if !is_false && lit != other {
             return Some((place, lit));
         }
     }
@@ -40,7 +34,7 @@ fn moved(
     at: &mut Cursor,
     other: Lit,
 ) -> bool {
-    match free_from(trail, clause, watches.place(at), other) {
+    match free_after(trail.truths(), clause, watches.place(at), other) {
         Some((place, lit)) => {
             watches.turn(at, lit, place);
             true
@@ -49,23 +43,20 @@ fn moved(
     }
 }
 
-/// Looks at one clause that watches a literal which is false now, and goes on to the next of its list. Its number, if
-/// it is false.
+/// Looks at one clause that watches a literal which is false now and another one that isn't true, and goes on to the next
+/// of its list. Its number, if it is false.
 fn visit(
     trail: &mut Trail,
     pool: &Pool,
     watches: &mut Watches,
     id: usize,
+    other: Lit,
     at: &mut Cursor,
 ) -> Option<usize>
     ensures extends { Extends pool.now trail.old trail.new }
     ensures broken { IfSome result (IsBroken pool.now trail.new) }
 {
-    let Some(other) = watches.other(at) else {
-        watches.pass(at);
-        return None;
-    };
-    if trail.is_true(other) || id >= pool.len() {
+    if id >= pool.len() {
         watches.pass(at);
         return None;
     }
@@ -91,10 +82,10 @@ fn walk(trail: &mut Trail, pool: &Pool, watches: &mut Watches, lit: Lit) -> Opti
 {
     let mut at = watches.first(lit);
     'nodes: for _ in 0..2 * pool.len() {
-        let Some(id) = watches.clause(&at) else {
+        let Some((id, other)) = watches.pass_true(trail.truths(), &mut at) else {
             return None;
         };
-        let found = visit(trail, pool, watches, id, &mut at);
+        let found = visit(trail, pool, watches, id, other, &mut at);
         if found.is_some() {
             return found;
         }

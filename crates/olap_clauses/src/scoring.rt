@@ -49,7 +49,7 @@ impl Scores {
     pub(crate) fn age(&mut self) {
         self.bump = self.bump.saturating_add(self.bump / 8);
         if self.bump > MOST {
-            for score in self.scores.iter_mut() {
+            'scores: for score in self.scores.iter_mut() {
                 *score >>= 16;
             }
             self.bump >>= 16;
@@ -67,7 +67,7 @@ impl Scores {
 
     /// Raises the scores of a clause's variables.
     pub(crate) fn raise_all(&mut self, clause: &[Lit]) {
-        for lit in clause {
+        'lits: for lit in clause {
             self.raise(lit.variable as usize);
         }
     }

@@ -12,7 +12,7 @@ use crate::trails::Trail;
 
 /// Whether one of the literals is known true. Nothing is said of it.
 fn is_true(trail: &Trail, clause: &[Lit]) -> bool {
-    for lit in clause {
+    'lits: for lit in clause {
         if trail.value(*lit) == Value::Yes {
             return true;
         }
