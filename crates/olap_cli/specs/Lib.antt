@@ -1,4 +1,3 @@
 -- Definitions that contracts cite.
 
 pub mod Statuses
-pub mod Calls

@@ -4,11 +4,7 @@
 ghost use Rattle.std.specs.Prelude.{◌≡◌, ◌≢◌};
 ghost use Rattle.olap_cli.specs.Statuses.{exit_status};
 
-mod adapters;
-#[cfg(test)]
-mod tests;
-
-use adapters::{FileLibrary, StdoutSink};
+use olap_files::{FileLibrary, StdoutSink};
 use olap_run::{Status, olap};
 use std::alloc::Global;
 use std::env;

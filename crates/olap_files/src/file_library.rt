@@ -1,12 +1,12 @@
-// The real files and standard output, as a library and a sink. They tell no content and no name, so what a real
-// file holds is nothing that a proof knows.
-ghost use Rattle.std.specs.Prelude.{◌≡◌, ◌==◌, None, false, is_some};
-ghost use Rattle.olap_cli.specs.Calls.{refused_calls, refused_writes};
+// The files of the system, as a library. It tells no content and no name, so what a real file holds is nothing that a
+// proof knows.
+ghost use Rattle.std.specs.Prelude.{◌≡◌, None, false, is_some};
+ghost use Rattle.olap_files.specs.Calls.{refused_calls};
 
-use olap_base::{Failed, Library, OpenError, Sink};
+use olap_base::{Failed, Library, OpenError};
+use std::fs;
 use std::fs::Files;
 use std::io::{ErrorKind, Read};
-use std::{fs, io};
 
 /// The files of the system. A name that isn't there is `Missing`; whatever else goes wrong is `Failed`, as opening a
 /// file that may not be read, or reading a directory.
@@ -81,39 +81,5 @@ impl<'a, R: Files> Library for FileLibrary<'a, R> {
         }
         self.faults = self.faults.saturating_add(1);
         Err(Failed)
-    }
-}
-
-/// Standard output. That it takes nothing of a piece is a fault.
-#[derive(Drop)]
-pub struct StdoutSink<'a, P: Print> {
-    to: &'a P,
-    faults: u64,
-}
-
-impl<'a, P: Print> StdoutSink<'a, P> {
-    /// Nothing is written, and no call was refused.
-    pub fn new(to: &'a P) -> StdoutSink<'a, P>
-        ensures quiet { refused_writes result ≡ 0 }
-    {
-        StdoutSink { to, faults: 0 }
-    }
-}
-
-impl<'a, P: Print> Sink for StdoutSink<'a, P> {
-    ghost contents = { λ _. None };
-
-    ghost faults = { λ s. s.faults };
-
-    ghost takes = { λ _ more. more == 0 };
-
-    fn write(&mut self, piece: &[u8]) -> Result<usize, Failed> {
-        match self.to.write_some(piece) {
-            Ok(count) if count > 0 => Ok(count),
-            _ => {
-                self.faults = self.faults.saturating_add(1);
-                Err(Failed)
-            }
-        }
     }
 }

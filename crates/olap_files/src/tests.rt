@@ -1,5 +1,5 @@
 // The library of real files reads what was written to a file, and refuses a name that isn't there.
-use crate::adapters::FileLibrary;
+use crate::FileLibrary;
 use olap_base::{FetchError, fetch};
 use std::fs;
 use std::test::Fail;

@@ -1,0 +1,13 @@
+//! The real files and standard output, as the library and the sink of `olap_base`.
+//!
+//! Both meet their traits and count the calls that were refused. They tell no content and no name: nothing is proved of
+//! what a real file holds or of what is shown.
+#![tactic(auto)]
+
+mod file_library;
+mod stdout_sink;
+#[cfg(test)]
+mod tests;
+
+pub use file_library::FileLibrary;
+pub use stdout_sink::StdoutSink;
