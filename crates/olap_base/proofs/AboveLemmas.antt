@@ -34,6 +34,7 @@ module _ (g : Graph) (i : Instance) (w : IsLawful g i) where
     ]
   ]
 
+  -- nothing stands above itself
   no_cycle : (x : ℕ) → Climb (IsBelow i) x x → ⊥
   no_cycle x c = w.stratification x x (leads_from_Climb c) refl
 
@@ -44,7 +45,7 @@ abbrev tally : (ℕ → Bool) → List ℕ → ℕ
 tally p [] = 0
 tally p (x ∷ xs) = cond (p x) (suc (tally p xs)) (tally p xs)
 
--- a test that passes wherever another does, and once more, counts more
+-- a test that passes wherever another does counts no less
 tally-le : (p q : ℕ → Bool) (xs : List ℕ) → ((y : ℕ) → p y ≡ true → q y ≡ true) → tally p xs ≤ tally q xs
 tally-le p q [] h = omega arith
 tally-le p q (x ∷ xs) h = go (p x) (q x) (h x) (tally-le p q xs h)
@@ -56,6 +57,7 @@ tally-le p q (x ∷ xs) h = go (p x) (q x) (h x) (tally-le p q xs h)
     go false true h l = omega arith
     go false false h l = omega arith
 
+-- and more, where a number in the list passes only the second
 tally-lt : (p q : ℕ → Bool) (xs : List ℕ) → ((y : ℕ) → p y ≡ true → q y ≡ true) → (z : ℕ) → Contains xs z
     → p z ≡ false → q z ≡ true → tally p xs < tally q xs
 tally-lt p q [] h z c a b = absurd (omega (arith, c.1))
@@ -81,13 +83,16 @@ tally-lt p q (x ∷ xs) h z c a b = elim (contains_cases z x xs c) [
 reached_count : Instance → ℕ → ℕ
 reached_count i x = tally (reaches i x) (range_with_len 0 (length i))
 
+-- what isn't true is false
 false_of : (b : Bool) → (b ≡ true → ⊥) → b ≡ false
 false_of true h = absurd (h refl)
 false_of false h = refl
 
+-- what the test finds is some steps away
 pub steps_of : (i : Instance) (x y : ℕ) → reaches i x y ≡ true → Steps (IsBelow i) x y
 steps_of i x y e = Steps-from_reaches ((reaches_is i x y).0 e)
 
+-- what is some steps away is found by the test
 pub reaches_of : (i : Instance) (x y : ℕ) → Steps (IsBelow i) x y → reaches i x y ≡ true
 reaches_of i x y s = (reaches_is i x y).1 (reaches_from_Steps s)
 
@@ -101,6 +106,7 @@ parent_reaches_fewer g i w x y b = tally-lt (reaches i y) (reaches i x) (range_w
     (false_of (reaches i y x) (λ e. no_cycle g i w x (climb b (steps_of i y x e))))
     (reaches_of i x x here)
 
+-- by induction on how many it reaches, a member has steps to the last one
 climbs_to_all : (g : Graph) (i : Instance) → IsInstance i → IsLawful g i → (n x : ℕ) → reached_count i x < n
     → x < length i → (a : ℕ) × (suc a ≡ length i) × Steps (IsBelow i) x a
 climbs_to_all g i v w zero x l h = absurd (omega arith)
@@ -112,23 +118,27 @@ climbs_to_all g i v w (suc n) x l h = elim (ℕ_discrete (category_of i x) 0) [
       (u.0, u.1, step t.1 u.2)
 ]
 
+-- each member has steps to the last one, which is `all`
 pub reaches_all : (g : Graph) (i : Instance) → IsInstance i → IsLawful g i → (x : ℕ) → x < length i
     → (a : ℕ) × (suc a ≡ length i) × Steps (IsBelow i) x a
 reaches_all g i v w x h = climbs_to_all g i v w (suc (reached_count i x)) x (omega arith) h
 
 -- ---- the members above x
 
+-- what is listed above x is a member some steps away
 pub members_above_is : (i : Instance) (x y : ℕ) → Contains (members_above i x) y
     → (y < length i) × Steps (IsBelow i) x y
 members_above_is i x y c =
     let t = Contains-from_filter (reaches i x) (range_with_len 0 (length i)) y c in
     (Contains-from_range (length i) y t.0, steps_of i x y t.1)
 
+-- a member some steps away is listed above x
 pub is_above : (i : Instance) (x y : ℕ) → y < length i → Steps (IsBelow i) x y → Contains (members_above i x) y
 is_above i x y h s =
     Contains-filter (reaches i x) (range_with_len 0 (length i)) y (reaches_of i x y s)
     (Contains-range (length i) y h)
 
+-- the numbers from 0 on rise
 range_increases : (n : ℕ) → IsStrictlyIncreasing (range_with_len 0 n)
 range_increases n k h = let l : k + 1 < n = simp length-range_with_len at h in
     let a : get_or (range_with_len 0 n) k 0 ≡ 0 + k = get_or-range_with_len 0 n k 0 (omega arith) in
@@ -142,6 +152,7 @@ place_in_injective xs y z c d e = sym (place_in_is xs y c).1 ∙ ap (λ k. get_o
 
 -- x's member in the part above
 module _ (i : Instance) (x : ℕ) (v : IsInstance i) where
+  -- a member of the part is that of the whole, its parents told by their places in the part
   at_above : (k : ℕ) → k < length (members_above i x)
       → member_at (above i x) k
       ≡ record
@@ -153,18 +164,22 @@ module _ (i : Instance) (x : ℕ) (v : IsInstance i) where
       get_or-map (λ y. record (member_at i y) { parents = map (place_in (members_above i x)) (parents_of i y) })
       (members_above i x) k 0 nobody h
 
+  -- the part has as many members as are listed
   length_above : length (above i x) ≡ length (members_above i x)
   length_above =
       length-map (members_above i x)
       (λ y. record (member_at i y) { parents = map (place_in (members_above i x)) (parents_of i y) })
 
+  -- each member of the part is one of those listed
   listed : (k : ℕ) → k < length (above i x) → Contains (members_above i x) (get_or (members_above i x) k 0)
   listed k h = Contains-get_or (members_above i x) k 0 (rw (← length_above) h)
 
+  -- a parent of one that is listed is listed
   closed : (y z : ℕ) → Contains (members_above i x) y → IsBelow i y z → Contains (members_above i x) z
   closed y z c b =
       is_above i x z (v.parents_are_members y z b) (Steps-append (members_above_is i x y c).1 (step b here))
 
+  -- its parents are the places of those it has in the whole
   parents_above : (k : ℕ) → k < length (above i x)
       → parents_of (above i x) k
       ≡ map (place_in (members_above i x)) (parents_of i (get_or (members_above i x) k 0))
@@ -185,6 +200,7 @@ module _ (i : Instance) (x : ℕ) (v : IsInstance i) where
             (sym u.1 ∙ ap (λ m. get_or (members_above i x) m 0) t.2) t.1,
       )
 
+  -- a parent in the whole has a place in the part
   to_above : (k y : ℕ) → k < length (above i x) → IsBelow i (get_or (members_above i x) k 0) y
       → (l : ℕ) × IsBelow (above i x) k l × (get_or (members_above i x) l 0 ≡ y)
   to_above k y h b =
@@ -197,6 +213,7 @@ module _ (i : Instance) (x : ℕ) (v : IsInstance i) where
         u.1,
       )
 
+  -- the members of the part stand in the order of the whole
   increasing_above : (k l : ℕ) → k < l → l < length (above i x)
       → get_or (members_above i x) k 0 < get_or (members_above i x) l 0
   increasing_above k l a h =
@@ -204,14 +221,17 @@ module _ (i : Instance) (x : ℕ) (v : IsInstance i) where
       (IsStrictlyIncreasing-filter (reaches i x) (range_with_len 0 (length i))
       (range_increases (length i))) k l 0 a (rw (← length_above) h)
 
+  -- an id in the part is that in the whole
   pub id_above : (k : ℕ) → k < length (above i x)
       → (member_at (above i x) k).id ≡ (member_at i (get_or (members_above i x) k 0)).id
   id_above k h = ap (λ m. m.id) (at_above k (rw (← length_above) h))
 
+  -- a name in the part is that in the whole
   pub name_above : (k : ℕ) → k < length (above i x) →
       name_of (above i x) k ≡ name_of i (get_or (members_above i x) k 0)
   name_above k h = ap (λ m. m.name) (at_above k (rw (← length_above) h))
 
+  -- the members above x are a part of the instance
   pub above_is_part : IsPart i (above i x) (λ k. get_or (members_above i x) k 0)
   above_is_part = record {
     member = λ k h. (members_above_is i x (get_or (members_above i x) k 0) (listed k h)).0;
@@ -222,6 +242,7 @@ module _ (i : Instance) (x : ℕ) (v : IsInstance i) where
     injective = increasing_injective (length (above i x)) (λ k. get_or (members_above i x) k 0) increasing_above;
   }
 
+  -- no parent stands twice in the part
   parents_differ_above : (k : ℕ) → AllPairs ◌≢◌ (parents_of (above i x) k)
   parents_differ_above k a b d l h q =
       let in' = has_parent (above i x) k b h in
@@ -262,6 +283,7 @@ module _ (i : Instance) (x : ℕ) (v : IsInstance i) where
       inside here q = q
       inside (step {x = a} {y = m} r s) q = inside s (from_below a m r).0
 
+  -- the part is an instance
   pub above_instance : (g : Graph) → IsLawful g i → x < length i → IsInstance (above i x)
   above_instance g w h =
       let e = λ (m : ℕ). get_or (members_above i x) m 0 in
@@ -291,9 +313,11 @@ module _ (i : Instance) (x : ℕ) (v : IsInstance i) where
         ]
       ]
 
+  -- the part of a lawful instance is lawful
   pub above_lawful : (g : Graph) → IsLawful g i → IsLawful g (above i x)
   above_lawful g w = part_lawful i (above i x) (λ m. get_or (members_above i x) m 0) above_is_part g w
 
+  -- in the part of a lawful instance each category has at most one member
   pub one_member_each : (g : Graph) → IsLawful g i → HasOneMemberEach (above i x)
   one_member_each g w k l hk hl q =
       let e = λ (m : ℕ). get_or (members_above i x) m 0 in

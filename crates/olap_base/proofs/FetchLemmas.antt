@@ -12,6 +12,7 @@ code fetched.Failed = 1
 code fetched.TooLong = 2
 code fetched.Memory = 3
 
+-- a refusal's number is its own
 same : (a : fetched.the_data) → eqb (code a) (code a) ≡ true
 same fetched.Missing = refl
 same fetched.Failed = refl
@@ -37,16 +38,20 @@ neither a b h = elim h [ inl x ↦ a x | inr y ↦ b y ]
 pub not_missing : opened.Failed ≡ opened.Missing → ⊥
 not_missing h = cc
 
+-- what isn't true is false
 pub unsure : (b : Bool) → (b ≡ true → ⊥) → b ≡ false
 unsure true h = absurd (h refl)
 unsure false h = refl
 
+-- what falls at neither of two steps is no less after them
 pub later_on : {a b c : ℕ} → a ≤ b → b ≤ c → a ≤ c
 later_on h k = omega arith
 
+-- what didn't fall and then rose has risen
 pub rose_after : (a b c : ℕ) → a ≤ b → Rose b c → Rose a c
 rose_after a b c h k = omega arith
 
+-- where nothing was taken, no limit is passed
 pub none_taken : {taken limit : ℕ} {P : Type 0} → taken ≡ 0 → limit < taken → P
 none_taken e l = absurd (omega arith)
 
@@ -54,6 +59,7 @@ none_taken e l = absurd (omega arith)
 pub not_over : {taken : ℕ} (long room limit : ℕ) {P : Type 0} → taken ≡ long → long + room ≡ limit → limit < taken → P
 not_over long room limit e f l = absurd (omega arith)
 
+-- the bytes so far and the room that is left are within the limit
 pub short_enough : (long room limit : ℕ) → long + room ≡ limit → long ≤ limit
 short_enough long room limit e = omega arith
 

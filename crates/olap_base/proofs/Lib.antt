@@ -3,6 +3,7 @@ pub mod ListLemmas
 pub mod Part
 pub mod AboveLemmas
 pub mod TotalLemmas
+pub mod RollingTotals
 pub mod RollingLemmas
 pub mod ViewLemmas
 pub mod OneFactLemmas

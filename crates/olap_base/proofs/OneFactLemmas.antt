@@ -3,9 +3,11 @@ use Rattle.std.proofs.Common.{◌∙◌}
 use Rattle.olap_base.specs.Instance.{ReachesVia}
 use Rattle.olap_base.specs.Reaching.{reaches_is}
 use Rattle.olap_base.specs.OneFact.{OneFactsViews, one_fact}
-use Rattle.olap_base.proofs.RollingLemmas.{By, direct_of_one, merged_of_one, times_same}
+use Rattle.olap_base.proofs.RollingTotals.{By}
+use Rattle.olap_base.proofs.RollingLemmas.{direct_of_one, merged_of_one, times_same}
 use Rattle.olap_base.proofs.ViewLemmas.{is_member_of, members, members_roll, merged_is, via_is_by}
 
+-- the direct view has 1 at the member, the view from the sources has the number of sources
 pub one_facts_views : OneFactsViews
 one_facts_views g i w c x y m r sources n h =
     let e = (reaches_is i x y).1 r in let k = is_member_of i c y m in let roll = members_roll g i w in (

@@ -7,19 +7,23 @@ use Rattle.std.specs.List.{after_first, before_first, onto_first, position, posi
 use Rattle.std.proofs.lemmas.Bool.{le-ltb, ltb-false, ltb-true}
 use Rattle.std.proofs.lemmas.List.Splits.{slice_split_first}
 
+-- nothing left counts 0, a text counts its length and one more
 abbrev pub size_left : Option (Bor (List ℕ)) → ℕ
 size_left None = 0
 size_left (Some text) = length text.now + 1
 
 module _ (p : ℕ → Bool) where
+  -- a place is given only where the test is true, and is that place
   found-at : (b : Bool) (k i : ℕ) → cond b (Some k) None ≡ Some i → (b ≡ true) × (k ≡ i)
   found-at true k i e = (refl, cc)
   found-at false k i e = cc
 
+  -- no place is given only where the test is false
   not-found : (b : Bool) (k : ℕ) → cond b (Some k) None ≡ None → b ≡ false
   not-found true k e = cc
   not-found false k e = refl
 
+  -- by the first byte and the rest: a text in which no mark stands is one piece
   whole-step : (x : ℕ) (xs : List ℕ) (b : Bool) → p x ≡ b
       → nat_lt (position_or_len p (x ∷ xs)) (length (x ∷ xs)) ≡ false
       → (nat_lt (position_or_len p xs) (length xs) ≡ false → slice_split p xs ≡ xs ∷ [])
@@ -31,13 +35,16 @@ module _ (p : ℕ → Bool) where
       let one : slice_split p (x ∷ xs) ≡ onto_first x (slice_split p xs) = rw h refl in
       one ∙ ap (onto_first x) (rest below)
 
+  -- where the first mark isn't before the end, the text is one piece
   whole-split : (xs : List ℕ) → nat_lt (position_or_len p xs) (length xs) ≡ false → slice_split p xs ≡ xs ∷ []
   whole-split [] e = refl
   whole-split (x ∷ xs) e = whole-step x xs (p x) refl e (whole-split xs)
 
+  -- a text without a mark is one piece
   pub split-none : (xs : List ℕ) → position p xs ≡ None → slice_split p xs ≡ xs ∷ []
   split-none xs e = whole-split xs (not-found _ _ e)
 
+  -- the first piece ends at the first mark, which stands before the end, and the others stand after it
   pub split-some : (xs : List ℕ) (i : ℕ) → position p xs ≡ Some i
       → (slice_split p xs ≡ take i xs ∷ slice_split p (drop (i + 1) xs)) × (i < length xs)
   split-some xs i e =

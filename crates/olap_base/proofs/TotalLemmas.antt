@@ -12,18 +12,23 @@ use Rattle.olap_base.proofs.ListLemmas.{contains_head}
 use Rattle.std.proofs.lemmas.Int.{ints}
 use Rattle.std.proofs.Math.Nat.{add_comm}
 
+-- the lesser of two, in either order
 pub int_min_comm : (x y : ℤ) → int_min x y ≡ int_min y x
 int_min_comm x y = grind (arith, ints)
 
+-- the greater of two, in either order
 pub int_max_comm : (x y : ℤ) → int_max x y ≡ int_max y x
 int_max_comm x y = grind (arith, ints)
 
+-- the least of three
 pub int_min_assoc : (x y z : ℤ) → int_min (int_min x y) z ≡ int_min x (int_min y z)
 int_min_assoc x y z = grind (arith, ints)
 
+-- the greatest of three
 pub int_max_assoc : (x y z : ℤ) → int_max (int_max x y) z ≡ int_max x (int_max y z)
 int_max_assoc x y z = grind (arith, ints)
 
+-- two summaries join in either order
 pub joined_comm : (a b : Summary) → joined a b ≡ joined b a
 joined_comm a b =
     λ i. record {
@@ -33,6 +38,7 @@ joined_comm a b =
       greatest = int_max_comm a.greatest b.greatest i;
     }
 
+-- three summaries join from either side
 pub joined_assoc : (a b c : Summary) → joined (joined a b) c ≡ joined a (joined b c)
 joined_assoc a b c =
     λ i. record {
@@ -44,15 +50,18 @@ joined_assoc a b c =
 
 -- ---- where there may be none
 
+-- nothing after a summary leaves it as it is
 pub ⊕_none : (a : Option Summary) → a ⊕ None ≡ a
 ⊕_none None = refl
 ⊕_none (Some a) = refl
 
+-- in either order
 pub ⊕_comm : (a b : Option Summary) → a ⊕ b ≡ b ⊕ a
 ⊕_comm None b = sym (⊕_none b)
 ⊕_comm (Some a) None = refl
 ⊕_comm (Some a) (Some b) = ap Some (joined_comm a b)
 
+-- from either side
 pub ⊕_assoc : (a b c : Option Summary) → (a ⊕ b) ⊕ c ≡ a ⊕ (b ⊕ c)
 ⊕_assoc None b c = refl
 ⊕_assoc (Some a) None c = refl
@@ -61,36 +70,43 @@ pub ⊕_assoc : (a b c : Option Summary) → (a ⊕ b) ⊕ c ≡ a ⊕ (b ⊕ c)
 
 -- ---- totals over a list, where each item has a summary or none
 
+-- what the items have, joined
 abbrev pub total_by : {A : Type 0} → (A → Option Summary) → List A → Option Summary
 total_by f [] = None
 total_by f (x ∷ xs) = f x ⊕ total_by f xs
 
+-- items with the same summaries have the same total
 pub total_same : {A : Type 0} (f g : A → Option Summary) (xs : List A) → ((x : A) → Contains xs x → f x ≡ g x)
     → total_by f xs ≡ total_by g xs
 total_same f g [] h = refl
 total_same f g (x ∷ xs) h = cc (h x (contains_head x xs), total_same f g xs (λ y c. h y (contains_cons y xs x c)))
 
+-- items without a summary have none
 pub total_nothing : {A : Type 0} (xs : List A) → total_by {A = A} (λ x. None) xs ≡ None
 total_nothing [] = refl
 total_nothing (x ∷ xs) = total_nothing xs
 
+-- the total of two lists, one after the other
 pub total-append : {A : Type 0} (f : A → Option Summary) (xs ys : List A) →
     total_by f (xs ++ ys) ≡ total_by f xs ⊕ total_by f ys
 total-append f [] ys = refl
 total-append f (x ∷ xs) ys =
     ap (λ t. f x ⊕ t) (total-append f xs ys) ∙ sym (⊕_assoc (f x) (total_by f xs) (total_by f ys))
 
+-- the total of images
 pub total-map : {A B : Type 0} (f : B → Option Summary) (g : A → B) (xs : List A)
     → total_by f (map g xs) ≡ total_by (λ x. f (g x)) xs
 total-map f g [] = refl
 total-map f g (x ∷ xs) = ap (λ t. f (g x) ⊕ t) (total-map f g xs)
 
+-- the total of lists is one of totals
 pub total-flat_map : {A B : Type 0} (f : B → Option Summary) (g : A → List B) (xs : List A)
     → total_by f (flat_map g xs) ≡ total_by (λ x. total_by f (g x)) xs
 total-flat_map f g [] = refl
 total-flat_map f g (x ∷ xs) =
     total-append f (g x) (flat_map g xs) ∙ ap (λ t. total_by f (g x) ⊕ t) (total-flat_map f g xs)
 
+-- what doesn't pass adds nothing
 pub total-filter : {A : Type 0} (f : A → Option Summary) (p : A → Bool) (xs : List A)
     → total_by f (filter p xs) ≡ total_by (λ x. cond (p x) (f x) None) xs
 total-filter f p [] = refl
@@ -106,6 +122,7 @@ abbrev pub of_some : {A : Type 0} → (A → Option Summary) → Option A → Op
 of_some f None = None
 of_some f (Some x) = f x
 
+-- what has no result adds nothing
 pub total-filter_map : {A B : Type 0} (f : B → Option Summary) (h : A → Option B) (xs : List A)
     → total_by f (filter_map h xs) ≡ total_by (λ x. of_some f (h x)) xs
 total-filter_map f h [] = refl
@@ -115,11 +132,13 @@ total-filter_map {A} {B} f h (x ∷ xs) = go (h x) ∙ ap (λ t. of_some f (h x)
     go None = refl
     go (Some y) = refl
 
+-- four joined, with the middle two exchanged
 swapped : (a b c d : Option Summary) → (a ⊕ b) ⊕ (c ⊕ d) ≡ (a ⊕ c) ⊕ (b ⊕ d)
 swapped a b c d =
     ⊕_assoc a b (c ⊕ d) ∙ ap (λ t. a ⊕ t) (sym (⊕_assoc b c d) ∙ ap (λ t. t ⊕ d) (⊕_comm b c) ∙ ⊕_assoc c b d)
     ∙ sym (⊕_assoc a c (b ⊕ d))
 
+-- the total of two summaries an item is two totals
 pub total_both : {A : Type 0} (f g : A → Option Summary) (xs : List A)
     → total_by (λ x. f x ⊕ g x) xs ≡ total_by f xs ⊕ total_by g xs
 total_both f g [] = refl
@@ -133,6 +152,7 @@ total_swap {A} {B} m [] ys = sym (total_nothing ys)
 total_swap m (x ∷ xs) ys =
     ap (λ t. total_by (m x) ys ⊕ t) (total_swap m xs ys) ∙ sym (total_both (m x) (λ y. total_by (λ z. m z y) xs) ys)
 
+-- under one test, the total or the items
 pub total_when : {A : Type 0} (b : Bool) (f : A → Option Summary) (xs : List A)
     → cond b (total_by f xs) None ≡ total_by (λ x. cond b (f x) None) xs
 total_when true f xs = refl
@@ -150,11 +170,13 @@ total_push (t ∷ ss) s = ap (λ u. Some t ⊕ u) (total_push ss s) ∙ sym (⊕
 
 -- ---- totals column by column
 
+-- in a fold by what joins from either side, the first may be joined at the end
 fold_moves : (f : ℤ → ℤ → ℤ) → ((a b c : ℤ) → f (f a b) c ≡ f a (f b c)) → (a b : ℤ) (xs : List ℤ)
     → f a (fold f b xs) ≡ fold f (f a b) xs
 fold_moves f assoc a b [] = refl
 fold_moves f assoc a b (x ∷ xs) = fold_moves f assoc a (f b x) xs ∙ ap (λ t. fold f t xs) (sym (assoc a b x))
 
+-- a total of values has their number, sum, least and greatest, column by column
 pub totals_of_values : TotalsOfValues
 totals_of_values v [] = refl
 totals_of_values v (w ∷ ws) = ap (λ t. Some (of_value v) ⊕ t) (totals_of_values w ws)
@@ -165,6 +187,7 @@ totals_of_values v (w ∷ ws) = ap (λ t. Some (of_value v) ⊕ t) (totals_of_va
       greatest = fold_moves int_max int_max_assoc v w ws i;
     }))
 
+-- and so has a total of summaries
 pub totals_of_summaries : TotalsOfSummaries
 totals_of_summaries s [] = let e : s.count ≡ 0 + s.count = omega arith in ap (λ n. Some (record s { count = n })) e
 totals_of_summaries s (t ∷ ts) = ap (λ u. Some s ⊕ u) (totals_of_summaries t ts)

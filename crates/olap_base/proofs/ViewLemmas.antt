@@ -13,24 +13,30 @@ use Rattle.olap_base.specs.Reaching.{reaches, reaches_is}
 use Rattle.olap_base.specs.Views.{Fact, Row, View, members_of, direct_view, direct_views, rows_from_views, ViewsAgree, ReachedByOne, AgreeExactlyIfReachedByOne}
 use Rattle.olap_base.proofs.ListLemmas.{Contains-filter, Contains-from_filter, Contains-range, Contains-from_range, Distinct, Distinct-range, Distinct-filter}
 use Rattle.olap_base.proofs.AboveLemmas.{reached_once, steps_of, reaches_of}
-use Rattle.olap_base.proofs.RollingLemmas.{Rolling, IsRolling, By, below, from_rows, rolling_agree, one_same}
+use Rattle.olap_base.proofs.RollingTotals.{Rolling, IsRolling, By, below, from_rows}
+use Rattle.olap_base.proofs.RollingLemmas.{rolling_agree, one_same}
 
+-- numbers that pass the test are equal
 pub eqb_is : (a b : ℕ) → a == b ≡ true → a ≡ b
 eqb_is a b e = grind (arith, nat_tests)
 
+-- equal ones pass it
 is_eqb : (a b : ℕ) → a ≡ b → a == b ≡ true
 is_eqb a b e = grind (arith, nat_tests)
 
+-- what is listed for a category is a member of it
 pub members_of_is : (i : Instance) (c y : ℕ) → Contains (members_of i c) y → IsMemberOf i c y
 members_of_is i c y h =
     let t = Contains-from_filter (λ z. category_of i z == c) (range_with_len 0 (length i)) y h in
     (Contains-from_range (length i) y t.0, eqb_is (category_of i y) c t.1)
 
+-- a member of a category is listed for it
 pub is_member_of : (i : Instance) (c y : ℕ) → IsMemberOf i c y → Contains (members_of i c) y
 is_member_of i c y m =
     Contains-filter (λ z. category_of i z == c) (range_with_len 0 (length i)) y (is_eqb (category_of i y) c m.1)
     (Contains-range (length i) y m.0)
 
+-- no member is listed twice
 pub Distinct-members_of : (i : Instance) (c : ℕ) → Distinct (members_of i c)
 Distinct-members_of i c =
     Distinct-filter (λ z. category_of i z == c) (range_with_len 0 (length i)) (Distinct-range 0 (length i))
@@ -48,15 +54,18 @@ members i = record {
   one = λ x. record { member = x; value = pos 1 };
 }
 
+-- of a category, x reaches one member at most
 pub members_once : (g : Graph) (i : Instance) → IsLawful g i → (c x y z : ℕ) → Contains (members_of i c) y
     → Contains (members_of i c) z → reaches i x y ≡ true → reaches i x z ≡ true → y ≡ z
 members_once g i w c x y z k l e f =
     reached_once g i w x y z (steps_of i x y e) (steps_of i x z f)
     ((members_of_is i c y k).1 ∙ sym (members_of_is i c z l).1)
 
+-- what is reached from what x reaches, x reaches
 pub members_onward : (i : Instance) (x y z : ℕ) → reaches i x y ≡ true → reaches i y z ≡ true → reaches i x z ≡ true
 members_onward i x y z e f = reaches_of i x z (Steps-append (steps_of i x y e) (steps_of i y z f))
 
+-- members are points that roll up
 pub members_roll : (g : Graph) (i : Instance) → IsLawful g i → IsRolling (members i)
 members_roll g i w = record {
   place_is = λ p s. refl;
@@ -94,6 +103,7 @@ pub merged_is : (i : Instance) (c : ℕ) (facts : List Fact) (sources : List ℕ
 merged_is i c facts sources =
     ap (from_rows (members i) c) (flat_map-map (λ (v : View). v.rows) (direct_view i facts) sources)
 
+-- the two views agree exactly if each member is reached by one source
 pub agree_exactly : AgreeExactlyIfReachedByOne
 agree_exactly g i c sources v w = (to, from)
   where

@@ -8,7 +8,8 @@ use Rattle.olap_base.specs.Graph.{Graph}
 use Rattle.olap_base.specs.Instance.{Instance}
 use Rattle.olap_base.specs.Reaching.{reaches, reaches_is}
 use Rattle.olap_base.proofs.ListLemmas.{both_true, first_true, second_true}
-use Rattle.olap_base.proofs.RollingLemmas.{Rolling, IsRolling, By, below, from_rows, rolling_agree, one_same, times_same, direct_of_one, merged_of_one}
+use Rattle.olap_base.proofs.RollingTotals.{Rolling, IsRolling, By, below, from_rows}
+use Rattle.olap_base.proofs.RollingLemmas.{rolling_agree, one_same, times_same, direct_of_one, merged_of_one}
 use Rattle.olap_base.proofs.ViewLemmas.{members_of_is, via_is_by}
 use Rattle.olap_cube.specs.Tuples.{tuple_reaches, IsTupleOf, IsBottomTuple, AreLawful, TupleReachesVia, tuples_of}
 use Rattle.olap_cube.specs.CubeViews.{CubeFact, CubeRow, CubeView, cube_direct_view, cube_direct_views, cube_rows_from_views, CubeViewsAgree, CubeReachedByOne, CubesAgreeExactlyIfReachedByOne, OneCubeFactsViews, one_cube_fact}
