@@ -97,6 +97,7 @@ mutual
 abbrev pub AreOf : Graph → List Constraint → Type 0
 AreOf g cs = (c : Constraint) → Contains cs c → IsFormulaAt g c.root c.formula
 
+-- what holds of atoms on names holds of those of all constraints
 constraints_each : (P : Equality → Type 0) (g : Graph) → OfNames g P → (cs : List Constraint) → AreOf g cs
     → All P (flat_map (λ c. equalities c.formula) cs)
 constraints_each P g of [] f = All-nil P
@@ -105,6 +106,7 @@ constraints_each P g of (c ∷ cs) f =
     (each_equality P g of c.root c.formula (f c (contains_head c cs)))
     (constraints_each P g of cs (λ d h. f d (contains_cons d cs c h)))
 
+-- what holds of atoms on numbers holds of those of all constraints
 constraints_numbers : (P : Comparison → Type 0) (g : Graph) → OfNumbers g P → (cs : List Constraint) → AreOf g cs
     → All P (flat_map (λ c. comparisons c.formula) cs)
 constraints_numbers P g of [] f = All-nil P
@@ -113,12 +115,14 @@ constraints_numbers P g of (c ∷ cs) f =
     (each_comparison P g of c.root c.formula (f c (contains_head c cs)))
     (constraints_numbers P g of cs (λ d h. f d (contains_cons d cs c h)))
 
+-- and of those of the question
 pub all_each : (P : Equality → Type 0) (s : Schema) (r : ℕ) (q : Formula) → OfNames s.graph P
     → AreOf s.graph s.constraints → IsFormulaAt s.graph r q → All P (all_equalities s q)
 all_each P s r q of f v =
     All-append P (flat_map (λ (c : Constraint). equalities c.formula) s.constraints) (equalities q)
     (constraints_each P s.graph of s.constraints f) (each_equality P s.graph of r q v)
 
+-- and of those of the question, on numbers
 pub all_numbers : (P : Comparison → Type 0) (s : Schema) (r : ℕ) (q : Formula) → OfNumbers s.graph P
     → AreOf s.graph s.constraints → IsFormulaAt s.graph r q → All P (all_comparisons s q)
 all_numbers P s r q of f v =
@@ -127,6 +131,7 @@ all_numbers P s r q of f v =
 
 -- ---- constants are constants of atoms
 
+-- a text that is asked for on a category is that of an atom on it
 pub atom_on_names : (d : ℕ) (es : List Equality) (text : List ℕ) → Contains (texts_on d es) text
     → Contains es (record { category = d; text = text })
 atom_on_names d es text c =
@@ -139,6 +144,7 @@ atom_on_names d es text c =
     same : (a : Equality) → a.category ≡ d → a.text ≡ text → a ≡ record { category = d; text = text }
     same a e q = λ i. record { category = e i; text = q i }
 
+-- and so is a number
 pub atom_on_numbers : (d : ℕ) (es : List Comparison) (n : ℤ) → Contains (numbers_on d es) n
     → Contains es (record { category = d; number = n })
 atom_on_numbers d es n c =

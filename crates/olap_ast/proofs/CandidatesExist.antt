@@ -22,12 +22,15 @@ use Rattle.olap_ast.proofs.TextLemmas.{same_text}
 
 -- ---- the fresh name
 
+-- the texts that the constraints and the question ask for
 abbrev texts : Schema → Formula → List (List ℕ)
 texts s q = map (λ (a : Equality). a.text) (all_equalities s q)
 
+-- a category passes the test with itself
 eqb_same : (d : ℕ) → (d == d) ≡ true
 eqb_same d = grind (arith, nat_tests)
 
+-- a constant is one of the texts
 known : (s : Schema) (q : Formula) (d : ℕ) (t : List ℕ) → IsConstant s q d t → Contains (texts s q) t
 known s q d t c =
     let m = Contains-from_map (λ (a : Equality). a.text)
@@ -35,6 +38,7 @@ known s q d t c =
     let f = Contains-from_filter (λ (a : Equality). a.category == d) (all_equalities s q) m.0 m.1 in
     subst (λ w. Contains (texts s q) w) m.2 (Contains-map (λ (a : Equality). a.text) (all_equalities s q) m.0 f.0)
 
+-- and each text is a constant of some category
 at : (s : Schema) (q : Formula) (t : List ℕ) → Contains (texts s q) t → (d : ℕ) × IsConstant s q d t
 at s q t c =
     let m = Contains-from_map (λ (a : Equality). a.text) (all_equalities s q) t c in (
@@ -46,10 +50,12 @@ at s q t c =
           (eqb_same m.0.category) m.1)),
     )
 
+-- how long the texts are together
 abbrev size : List (List ℕ) → ℕ
 size [] = 0
 size (t ∷ ts) = length t + size ts
 
+-- no text is longer than all together
 short : (ts : List (List ℕ)) (t : List ℕ) → Contains ts t → length t ≤ size ts
 short [] t c = absurd (Contains-nil t c)
 short (u ∷ ts) t c = elim (contains_cases t u ts c) [
@@ -57,22 +63,27 @@ short (u ∷ ts) t c = elim (contains_cases t u ts c) [
   | inr h ↦ let l = short ts t h in omega arith
 ]
 
+-- the candidate with n underscores has n + 2 bytes
 long : (n : ℕ) → length (fresh_candidate n) ≡ 2 + n
 long n = let a = length-append (codes "nk") (replicate n 95) in let b =
     length-replicate {A = ℕ} n 95 in omega (arith, a, b)
 
+-- so the candidate with as many underscores as the texts are long is none of them
 unknown : (s : Schema) (q : Formula) → Contains (texts s q) (fresh_candidate (size (texts s q))) → ⊥
 unknown s q c = let l = short (texts s q) (fresh_candidate (size (texts s q))) c in
     let m = long (size (texts s q)) in omega arith
 
+-- a number with the property, and none below it has it
 record IsLeastOf (P : ℕ → Type 0) : Type 0 where
   n : ℕ
   has : P n
   none : (m : ℕ) → m < n → P m → ⊥
 
+-- below j + 1 is j, or below j
 split : (m j : ℕ) → m < suc j → (m ≡ j) ⊎ (m < j)
 split m j h = grind arith
 
+-- from j upward, where none below j has the property, and one that is so far above has it
 up : (P : ℕ → Type 0) → ((n : ℕ) → Dec (P n)) → (left j : ℕ) → P (j + left) → ((m : ℕ) → m < j → P m → ⊥) →
     IsLeastOf P
 up P d zero j p none = record { n = j; has = let e : j + 0 ≡ j = omega arith in subst P e p; none = none }
@@ -82,16 +93,19 @@ up P d (suc left) j p none = elim (d j) [
       (λ m l h. elim (split m j l) [ inl e ↦ n (subst P e h) | inr k ↦ none m k h ])
 ]
 
+-- whether that candidate is no text
 dec_free : (s : Schema) (q : Formula) (n : ℕ) → Dec (Contains (texts s q) (fresh_candidate n) → ⊥)
 dec_free s q n = elim (decide_contains (List-discrete ℕ_discrete) (texts s q) (fresh_candidate n)) [
   | yes c ↦ no (λ f. f c)
   | no m ↦ yes m
 ]
 
+-- what can be decided and can't fail holds
 stable : {P : Type 0} → Dec P → ((P → ⊥) → ⊥) → P
 stable (yes p) f = p
 stable (no n) f = absurd (f n)
 
+-- there is a fresh name
 fresh_exists : (s : Schema) (q : Formula) → (name : List ℕ) × IsFreshName s q name
 fresh_exists s q =
     let t = up (λ n. Contains (texts s q) (fresh_candidate n) → ⊥) (dec_free s q) (size (texts s q)) 0
@@ -108,6 +122,7 @@ fresh_exists s q =
       },
     )
 
+-- and it is one
 pub fresh_is_one : (s : Schema) (q : Formula) (a b : List ℕ) → IsFreshName s q a → IsFreshName s q b → a ≡ b
 fresh_is_one s q a b f g = go (order f.underscores g.underscores)
   where
@@ -124,26 +139,32 @@ fresh_is_one s q a b f g = go (order f.underscores g.underscores)
 
 -- ---- the constants in byte order
 
+-- x comes before each of the texts
 abbrev Below : List ℕ → List (List ℕ) → Type 0
 Below x [] = Unit {0}
 Below x (y ∷ ys) = IsBefore x y × Below x ys
 
+-- each text comes before all later ones
 abbrev Ascending : List (List ℕ) → Type 0
 Ascending [] = Unit {0}
 Ascending (x ∷ xs) = Below x xs × Ascending xs
 
+-- by places
 below_all : (x : List ℕ) (ys : List (List ℕ)) → Below x ys → All (IsBefore x) ys
 below_all x [] h = λ k d l. absurd (omega arith)
 below_all x (y ∷ ys) h = All-cons (IsBefore x) y ys h.0 (below_all x ys h.1)
 
+-- by places
 ascending : (xs : List (List ℕ)) → Ascending xs → AllPairs IsBefore xs
 ascending [] h = λ i j d l m. absurd (omega arith)
 ascending (x ∷ xs) h = AllPairs-cons IsBefore x xs (below_all x xs h.0) (ascending xs h.1)
 
+-- what comes before y comes before all that y comes before
 below_trans : (x y : List ℕ) (zs : List (List ℕ)) → IsBefore x y → Below y zs → Below x zs
 below_trans x y [] b h = tt
 below_trans x y (z ∷ zs) b h = (nat_list_cmp_total.trans x y z b h.0, below_trans x y zs b h.1)
 
+-- the texts with x among them, in byte order
 record Inserted (x : List ℕ) (ys : List (List ℕ)) : Type 0 where
   out : List (List ℕ)
   up : Ascending out
@@ -151,9 +172,11 @@ record Inserted (x : List ℕ) (ys : List (List ℕ)) : Type 0 where
   complete : (w : List ℕ) → (x ≡ w) ⊎ Contains ys w → Contains out w
   after : (u : List ℕ) → IsBefore u x → Below u ys → Below u out
 
+-- what is equal to the first is in the list
 head_is : (x w : List ℕ) (ys : List (List ℕ)) → x ≡ w → Contains (x ∷ ys) w
 head_is x w ys e = subst (λ v. Contains (x ∷ ys) v) e (contains_head x ys)
 
+-- where the texts are in byte order x can be put among them
 insert : (x : List ℕ) (ys : List (List ℕ)) → Ascending ys → Inserted x ys
 insert x [] a = record {
   out = x ∷ [];
@@ -201,12 +224,14 @@ insert x (y ∷ ys) a = go (slice_cmp nat_cmp x y) refl (insert x ys a.1)
       after = λ u b l. (l.0, r.after u b l.1);
     }
 
+-- the texts in byte order, each once
 record Ordered (xs : List (List ℕ)) : Type 0 where
   out : List (List ℕ)
   up : Ascending out
   sound : (w : List ℕ) → Contains out w → Contains xs w
   complete : (w : List ℕ) → Contains xs w → Contains out w
 
+-- every list can be so ordered
 sorted : (xs : List (List ℕ)) → Ordered xs
 sorted [] = record { out = []; up = tt; sound = λ w c. c; complete = λ w c. c }
 sorted (x ∷ xs) =
@@ -218,6 +243,7 @@ sorted (x ∷ xs) =
           λ w c. t.complete w (elim (contains_cases w x xs c) [ inl e ↦ inl e | inr d ↦ inr (r.complete w d) ]);
     }
 
+-- so there is a list of the texts in byte order
 in_order_exist : (xs : List (List ℕ)) → (ts : List (List ℕ)) × AreInByteOrder xs ts
 in_order_exist xs = let r = sorted xs in
     (r.out, record { ordered = ascending r.out r.up; sound = r.sound; complete = r.complete })
@@ -232,11 +258,13 @@ names_exist s q h d = go (is_number s.graph d) (λ n c. (h.numbers d n c).1)
     go false small = let f = fresh_exists s q in let t = in_order_exist (constants s q d) in (f.0, t.0, (f.1, t.1))
     go true small = number_names_exist (numbers s q d) small
 
+-- there are candidates
 pub candidates_exist : CandidatesExist
 candidates_exist s q h = (
   record { first = λ d. (names_exist s q h d).0; texts = λ d. (names_exist s q h d).1 },
   record { kinds = h; names = λ c. (names_exist s q h (suc c)).2 },
 )
 
+-- there is one fresh name
 pub fresh_names_exist : FreshNamesExist
 fresh_names_exist s q = let t = fresh_exists s q in (t.0, t.1, λ other f. fresh_is_one s q other t.0 f t.1)

@@ -9,6 +9,7 @@ use Rattle.olap_ast.specs.Formula.{Formula, Equality, Comparison, equalities, co
 use Rattle.olap_ast.specs.Schema.{Schema, Constraint}
 use Rattle.olap_ast.specs.Constants.{all_equalities, all_comparisons, IsConstant, IsNumberConstant}
 
+-- what is in the list of one is in the list of all
 Contains-flat_map : {A B : Type 0} (f : A → List B) (xs : List A) (x : A) (y : B) → Contains xs x →
     Contains (f x) y → Contains (flat_map f xs) y
 Contains-flat_map f [] x y c d = absurd (Contains-nil x c)
@@ -17,9 +18,11 @@ Contains-flat_map f (z ∷ zs) x y c d = elim (contains_cases x z zs c) [
   | inr h ↦ Contains-append_right (f z) (flat_map f zs) y (Contains-flat_map f zs x y h d)
 ]
 
+-- a category passes the test with itself
 eqb_same : (d : ℕ) → (d == d) ≡ true
 eqb_same d = grind (arith, nat_tests)
 
+-- the text of an atom on names is a constant
 constant_of : (s : Schema) (q : Formula) (d : ℕ) (text : List ℕ) →
     Contains (all_equalities s q) (record { category = d; text = text }) → IsConstant s q d text
 constant_of s q d text c = Contains-map (λ (a : Equality). a.text)
@@ -27,6 +30,7 @@ constant_of s q d text c = Contains-map (λ (a : Equality). a.text)
     (Contains-filter (λ a. a.category == d) (all_equalities s q) (record { category = d; text = text })
     (eqb_same d) c)
 
+-- where the atom stands in a constraint
 pub constant_in_constraint : (s : Schema) (q : Formula) (c : Constraint) → Contains s.constraints c →
     (d : ℕ) (text : List ℕ) → Contains (equalities c.formula) (record { category = d; text = text }) →
     IsConstant s q d text
@@ -36,6 +40,7 @@ constant_in_constraint s q c h d text a =
     (Contains-flat_map (λ (b : Constraint). equalities b.formula) s.constraints c
     (record { category = d; text = text }) h a))
 
+-- where it stands in the question
 pub constant_in_question : (s : Schema) (q : Formula) (d : ℕ) (text : List ℕ) →
     Contains (equalities q) (record { category = d; text = text }) → IsConstant s q d text
 constant_in_question s q d text a = constant_of s q d text
@@ -44,6 +49,7 @@ constant_in_question s q d text a = constant_of s q d text
 
 -- ---- numbers
 
+-- the number of an atom on numbers is a constant
 number_of_atoms : (s : Schema) (q : Formula) (d : ℕ) (n : ℤ) →
     Contains (all_comparisons s q) (record { category = d; number = n }) → IsNumberConstant s q d n
 number_of_atoms s q d n c = Contains-map (λ (a : Comparison). a.number)
@@ -51,6 +57,7 @@ number_of_atoms s q d n c = Contains-map (λ (a : Comparison). a.number)
     (Contains-filter (λ a. a.category == d) (all_comparisons s q) (record { category = d; number = n })
     (eqb_same d) c)
 
+-- where the atom stands in a constraint
 pub number_in_constraint : (s : Schema) (q : Formula) (c : Constraint) → Contains s.constraints c →
     (d : ℕ) (n : ℤ) → Contains (comparisons c.formula) (record { category = d; number = n }) →
     IsNumberConstant s q d n
@@ -61,6 +68,7 @@ number_in_constraint s q c h d n a =
     (Contains-flat_map (λ (b : Constraint). comparisons b.formula) s.constraints c
     (record { category = d; number = n }) h a))
 
+-- where it stands in the question
 pub number_in_question : (s : Schema) (q : Formula) (d : ℕ) (n : ℤ) →
     Contains (comparisons q) (record { category = d; number = n }) → IsNumberConstant s q d n
 number_in_question s q d n a = number_of_atoms s q d n

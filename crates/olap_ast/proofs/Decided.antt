@@ -13,15 +13,18 @@ use Rattle.olap_base.specs.Deciding.{dec_or, dec_and, dec_iff, decide_reaches, c
 use Rattle.olap_base.proofs.ListLemmas.{contains_head, Contains-nil, Contains-range, Contains-from_range}
 use Rattle.olap_ast.specs.Formula.{Formula, Terms, Formula.Truth, Formula.Falsity, Formula.Path, Formula.Reach, Formula.Via, Formula.Equals, Formula.Compare, Formula.Not, Formula.And, Formula.Or, Formula.Implies, Formula.Iff, Formula.Xor, Formula.One, Terms.End, Terms.More, Holds, ExactlyOneHolds, NoneHolds, HasPath, IsNumbered, ReachesNamed, ReachesNumbered}
 
+-- whether A fails
 pub dec_not : {A : Type 0} → Dec A → Dec (A → ⊥)
 dec_not (yes a) = no (λ f. f a)
 dec_not (no n) = yes n
 
+-- whether A implies B
 dec_implies : {A B : Type 0} → Dec A → Dec B → Dec (A → B)
 dec_implies (no n) d = yes (λ a. absurd (n a))
 dec_implies (yes a) (yes b) = yes (λ c. b)
 dec_implies (yes a) (no m) = no (λ f. m (f a))
 
+-- whether P holds of one in the list
 pub dec_some : {A : Type 0} (P : A → Type 0) → ((x : A) → Dec (P x)) → (xs : List A) →
     Dec ((x : A) × Contains xs x × P x)
 dec_some P d [] = no (λ t. Contains-nil t.0 t.1)
@@ -42,24 +45,29 @@ dec_member i d P e = dec_iff (λ t. (t.0, (Contains-from_range (length i) t.0 t.
     (dec_some (λ y. (category_of i y ≡ d) × P y) (λ y. dec_and (ℕ_discrete (category_of i y) d) (e y))
     (range_with_len 0 (length i)))
 
+-- whether x reaches the category
 dec_reach : (i : Instance) (x d : ℕ) → Dec (ReachesCategory i x d)
 dec_reach i x d = dec_member i d (λ y. Reaches i x y) (λ y. decide_reaches i x y)
 
+-- whether x reaches e by way of d
 pub dec_via : (i : Instance) (x d e : ℕ) → Dec (ReachesVia i x d e)
 dec_via i x d e = dec_iff (λ t. (t.0, t.1, t.2.0, t.2.1)) (λ t. (t.0, t.1, (t.2, t.3)))
     (dec_member i d (λ y. Reaches i x y × ReachesCategory i y e)
     (λ y. dec_and (decide_reaches i x y) (dec_reach i y e)))
 
+-- whether x reaches a member of that name
 dec_named : (i : Instance) (x d : ℕ) (text : List ℕ) → Dec (ReachesNamed i x d text)
 dec_named i x d text = dec_iff (λ t. (t.0, t.1, t.2.0, t.2.1)) (λ t. (t.0, t.1, (t.2, t.3)))
     (dec_member i d (λ y. Reaches i x y × (name_of i y ≡ text))
     (λ y. dec_and (decide_reaches i x y) (List-discrete ℕ_discrete (name_of i y) text)))
 
+-- whether a compares so with b
 dec_compares : (op : Op) (a b : ℤ) → Dec (Compares op a b)
 dec_compares Equal a b = ℤ_discrete a b
 dec_compares Less a b = by_lt_z a b (λ l. yes l) (λ g. no (λ l. omega (arith, ints)))
 dec_compares AtMost a b = by_lt_z b a (λ l. no (λ g. omega (arith, ints))) (λ g. yes g)
 
+-- whether the name is a numeral that compares so with n
 pub dec_number : (name : List ℕ) (op : Op) (n : ℤ) → Dec (IsNumbered name op n)
 dec_number name op n = go (number_of name) refl
   where
@@ -71,16 +79,19 @@ dec_number name op n = go (number_of name) refl
     go (Some a) e = dec_iff (λ c. (a, e, c)) (λ t. subst (λ b. Compares op b n) (other t.0 a (sym t.1 ∙ e)) t.2)
         (dec_compares op a n)
 
+-- whether x reaches a member of which that is so
 dec_numbered : (i : Instance) (x d : ℕ) (op : Op) (n : ℤ) → Dec (ReachesNumbered i x d op n)
 dec_numbered i x d op n = dec_iff (λ t. (t.0, t.1, t.2.0, t.2.1)) (λ t. (t.0, t.1, (t.2, t.3)))
     (dec_member i d (λ y. Reaches i x y × IsNumbered (name_of i y) op n)
     (λ y. dec_and (decide_reaches i x y) (dec_number (name_of i y) op n)))
 
+-- a path begins with an edge to its second category
 path_from : (i : Instance) (x c : ℕ) (cs : List ℕ) → HasPath i x (c ∷ cs) →
     (y : ℕ) × Contains (parents_of i x) y × ((category_of i y ≡ c) × HasPath i y cs)
 path_from i x c cs ([], h, q) = absurd (cc)
 path_from i x c cs (y ∷ ys, h, q) = (y, h.0, (cc, (ys, h.1, cc)))
 
+-- whether a path of these categories begins at x
 dec_path : (i : Instance) (cs : List ℕ) (x : ℕ) → Dec (HasPath i x cs)
 dec_path i [] x = yes ([], tt, refl)
 dec_path i (c ∷ cs) x = dec_iff (λ t. (t.0 ∷ t.2.1.0, (t.1, t.2.1.1), cc (t.2.0, t.2.1.2))) (path_from i x c cs)
@@ -88,6 +99,7 @@ dec_path i (c ∷ cs) x = dec_iff (λ t. (t.0 ∷ t.2.1.0, (t.1, t.2.1.1), cc (t
     (λ y. dec_and (ℕ_discrete (category_of i y) c) (dec_path i cs y)) (parents_of i x))
 
 mutual
+  -- whether a formula holds at x
   pub decide_holds : (i : Instance) (x : ℕ) (f : Formula) → Dec (Holds i x f)
   decide_holds i x Truth = yes tt
   decide_holds i x Falsity = no (λ h. h)
@@ -106,11 +118,13 @@ mutual
       (dec_and (dec_not (decide_holds i x f)) (decide_holds i x g))
   decide_holds i x (One ts) = decide_one i x ts
 
+  -- whether exactly one of the terms does
   decide_one : (i : Instance) (x : ℕ) (ts : Terms) → Dec (ExactlyOneHolds i x ts)
   decide_one i x End = no (λ h. h)
   decide_one i x (More f ts) = dec_or (dec_and (decide_holds i x f) (decide_none i x ts))
       (dec_and (dec_not (decide_holds i x f)) (decide_one i x ts))
 
+  -- whether none does
   decide_none : (i : Instance) (x : ℕ) (ts : Terms) → Dec (NoneHolds i x ts)
   decide_none i x End = yes tt
   decide_none i x (More f ts) = dec_and (dec_not (decide_holds i x f)) (decide_none i x ts)

@@ -33,6 +33,7 @@ abbrev less_or : Ordering → Type 0
 less_or Less = Unit {0}
 less_or o = ⊥
 
+-- of two texts only one comes before the other
 apart_texts : Apart IsBefore
 apart_texts x y l m =
     let e : slice_cmp nat_cmp x y ≡ ordering_reverse (slice_cmp nat_cmp y x) = nat_list_cmp_total.antisymm x y in
@@ -70,6 +71,7 @@ front : List (List ℕ) → List ℕ
 front [] = []
 front (x ∷ xs) = x
 
+-- what follows it
 rest : List (List ℕ) → List (List ℕ)
 rest [] = []
 rest (x ∷ xs) = xs
@@ -141,6 +143,7 @@ the_least_is_one_law s q r k h f g x y =
 
 -- ---- findings
 
+-- of two findings only one comes before the other
 apart_findings : Apart IsEarlier
 apart_findings f g a b = a.1 (same_rank f g (not_after_both (finding_rank f) (finding_rank g) a.0 b.0))
   where
@@ -169,6 +172,7 @@ findings_are_one s xs ys a b = same_list IsEarlier apart_findings xs ys a.ordere
 abbrev Before : ℕ → Frozen → Frozen → Type 0
 Before n f h = IsNotAfter (code f) (code h) × (f ≢ h) × (length f.edges ≡ n) × (length h.edges ≡ n)
 
+-- so it is of two frozen dimensions
 apart_frozen : (n : ℕ) → Apart (Before n)
 apart_frozen n f h a b = a.1 (code_is_one f h (a.2 ∙ sym a.3) a.0 b.0)
 

@@ -54,6 +54,7 @@ pub record IsFirst (P : List ℕ → Type 0) (xs : List ℕ) : Type 0 where
   pub has : P xs
   pub least : (ys : List ℕ) → P ys → IsNotAfter xs ys
 
+-- the first list with the property, or none has it
 abbrev pub FirstOrNone : (List ℕ → Type 0) → Type 0
 FirstOrNone P = ((xs : List ℕ) × IsFirst P xs) ⊎ ((xs : List ℕ) → P xs → ⊥)
 
@@ -61,10 +62,12 @@ FirstOrNone P = ((xs : List ℕ) × IsFirst P xs) ⊎ ((xs : List ℕ) → P xs 
 abbrev Begins : (List ℕ → Type 0) → ℕ → Type 0
 Begins P x = (xs : List ℕ) × P (x ∷ xs)
 
+-- whether some list with the property begins with x
 decide_begins : (P : List ℕ → Type 0) (x : ℕ) → FirstOrNone (λ xs. P (x ∷ xs)) → Dec (Begins P x)
 decide_begins P x (inl t) = yes (t.0, t.1.has)
 decide_begins P x (inr f) = no (λ t. f t.0 t.1)
 
+-- at most y is below y, or y
 below_or_same : (x y : ℕ) → x ≤ y → (x < y) ⊎ (x ≡ y)
 below_or_same x y l = grind arith
 

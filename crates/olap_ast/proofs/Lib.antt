@@ -3,23 +3,24 @@ pub mod Decided
 pub mod Unviolated
 pub mod Least
 pub mod Violated
-pub mod Truth
+mod Truth
 pub mod ConstantLemmas
 pub mod AtomLemmas
 pub mod SameAtoms
-pub mod CandidatesExist
-pub mod NewNames
-pub mod Renaming
+mod CandidatesExist
+mod NewNames
+mod Renaming
 pub mod Shape
+mod ShapeInstance
 pub mod SmallModel
 pub mod Summing
 pub mod Examples
 mod SummarizableExample
 pub mod TextLemmas
-pub mod Uniqueness
-pub mod OrderedLists
+mod Uniqueness
+mod OrderedLists
 pub mod Determined
 mod QuestionLemmas
 pub mod SourceLemmas
 mod ListingLemmas
-pub mod ThreeValueLemmas
+mod ThreeValueLemmas

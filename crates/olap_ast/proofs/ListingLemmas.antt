@@ -5,6 +5,7 @@ use Rattle.olap_ast.specs.Listing.{parts_before}
 use Rattle.olap_ast.specs.Trees.{formula_of}
 use Rattle.olap_ast.specs.declared.formulas.Formula.{Formula}
 
+-- the parts and one more before some terms are the parts before that one and the terms
 pub parts_before-push : (fs : List Formula) (f : Formula) (terms : Meaning.Terms) →
     parts_before (map formula_of (fs ++ f ∷ [])) terms
     ≡ parts_before (map formula_of fs) (Meaning.Terms.More (formula_of f) terms)

@@ -20,6 +20,7 @@ spelled name h = go (number_of name) refl h
     go None e h = absurd (cc)
     go (Some a) e h = (a, e)
 
+-- a numeral spells one number
 one_number : (a b : ℤ) → ◌≡◌ {A = Option ℤ} (Some a) (Some b) → a ≡ b
 one_number a b e = cc
 
@@ -32,23 +33,28 @@ module _ (s : Schema) (q : Formula) (fresh : List ℕ) (kinds : HasKinds s q) (f
     → ⊥) (d : ℕ) where
   -- ---- a number category's member
 
+  -- the number whose numeral is the new name
   new_number : ℤ → ℤ
   new_number a = representative (numbers s q d) a
 
+  -- the new name is its numeral
   numeral_is : (name : List ℕ) (a : ℤ) → number_of name ≡ Some a → new_numeral s q d name ≡ canonical (new_number a)
   unfolding new_number
   numeral_is name a e = ap (λ o. canonical (representative (numbers s q d) (unwrap_or o (pos 0)))) e
 
+  -- and the number stands for the old one
   stands : (name : List ℕ) (a : ℤ) → number_of name ≡ Some a → IsNumberName (numbers s q d) (new_number a)
   unfolding new_number
   stands name a e = (representatives_answer_alike (numbers s q d) a (λ n c. (kinds.numbers d n c).1)
       (spelled_small name a e)).0
 
+  -- the new name spells the new number
   numeral_spells : (name : List ℕ) (a : ℤ) → number_of name ≡ Some a
       → number_of (new_numeral s q d name) ≡ Some (new_number a)
   numeral_spells name a e =
       ap number_of (numeral_is name a e) ∙ numbers_read_back (new_number a) (stands name a e).0
 
+  -- and answers each comparison that is asked for as the old one does
   numeral_answers : (name : List ℕ) (a : ℤ) → number_of name ≡ Some a → (op : Op) (n : ℤ)
       → IsNumberConstant s q d n → IsNumbered (new_numeral s q d name) op n ↔ IsNumbered name op n
   unfolding new_number
@@ -61,6 +67,7 @@ module _ (s : Schema) (q : Formula) (fresh : List ℕ) (kinds : HasKinds s q) (f
 
   -- ---- the new name
 
+  -- the new name answers each text that is asked for as the name does
   pub new_text : (name text : List ℕ) → IsConstant s q d text →
       (new_name s q fresh d name ≡ text) ↔ (name ≡ text)
   new_text name text t = go (is_number s.graph d) (kinds.texts d text t) (d == 0) (is_constant s q d name)
@@ -76,6 +83,7 @@ module _ (s : Schema) (q : Formula) (fresh : List ℕ) (kinds : HasKinds s q) (f
         λ e. absurd (let z : false ≡ true = t'.1 (subst (λ w. IsConstant s q d w) (sym e) t) in cc),
       )
 
+  -- and each comparison that is asked for
   pub new_numbered : (name : List ℕ) (op : Op) (n : ℤ) → IsNumberConstant s q d n
       → (IsTrue (is_number s.graph d) → IsSome (number_of name))
       → IsNumbered (new_name s q fresh d name) op n ↔ IsNumbered name op n

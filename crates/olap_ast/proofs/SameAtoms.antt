@@ -18,6 +18,7 @@ module _ (s : Schema) (p q : Formula) (same : equalities p ≡ equalities q)
   on_texts P d h = subst (λ (l : List Equality). P
       (texts_on d (flat_map (λ (c : Constraint). equalities c.formula) s.constraints ++ l))) same h
 
+  -- a constant of one question is one of the other
   constant_back : (d : ℕ) (text : List ℕ) → IsConstant s q d text → IsConstant s p d text
   constant_back d text c = subst (λ (l : List Equality). Contains
       (texts_on d (flat_map (λ (c : Constraint). equalities c.formula) s.constraints ++ l)) text) (sym same) c
@@ -29,10 +30,12 @@ module _ (s : Schema) (p q : Formula) (same : equalities p ≡ equalities q)
   on_numbers P d h = subst (λ (l : List Comparison). P
       (numbers_on d (flat_map (λ (c : Constraint). comparisons c.formula) s.constraints ++ l))) same_numbers h
 
+  -- so is a number
   number_back : (d : ℕ) (n : ℤ) → IsNumberConstant s q d n → IsNumberConstant s p d n
   number_back d n c = subst (λ (l : List Comparison). Contains
       (numbers_on d (flat_map (λ (c : Constraint). comparisons c.formula) s.constraints ++ l)) n) (sym same_numbers) c
 
+  -- a fresh name for one is fresh for the other
   fresh_too : (name : List ℕ) → IsFreshName s p name → IsFreshName s q name
   fresh_too name f = record {
     underscores = f.underscores;
@@ -42,24 +45,28 @@ module _ (s : Schema) (p q : Formula) (same : equalities p ≡ equalities q)
         (t.0, on_texts (λ ts. Contains ts (fresh_candidate m)) t.0 t.1);
   }
 
+  -- the kinds are those of the other
   pub kinds_too : HasKinds s p → HasKinds s q
   kinds_too h = record {
     texts = λ d text c. h.texts d text (constant_back d text c);
     numbers = λ d n c. h.numbers d n (number_back d n c);
   }
 
+  -- a category's names are those of the other
   names_too : (kind : Bool) (d : ℕ) (first : List ℕ) (others : List (List ℕ)) → AreNamesOf kind s p d first others
       → AreNamesOf kind s q d first others
   names_too false d first others a =
       (fresh_too first a.0, on_texts (λ ts. AreInByteOrder ts others) d a.1)
   names_too true d first others a = on_numbers (λ ns. AreNumberNames ns first others) d a
 
+  -- candidates for one are candidates for the other
   pub candidates_too : (k : Candidates) → AreCandidates s p k → AreCandidates s q k
   candidates_too k a = record {
     kinds = kinds_too a.kinds;
     names = λ c. names_too (is_number s.graph (suc c)) (suc c) (k.first (suc c)) (k.texts (suc c)) (a.names c);
   }
 
+  -- a member's name for one is one for the other
   name_too : (kind : Bool) (d : ℕ) (name : List ℕ) → IsNameOf kind s p d name → IsNameOf kind s q d name
   name_too false d name n = elim n [
     | inl c ↦ inl (on_texts (λ ts. Contains ts name) d c)
@@ -67,6 +74,7 @@ module _ (s : Schema) (p q : Formula) (same : equalities p ≡ equalities q)
   ]
   name_too true d name n = (n.0, on_numbers (λ ns. IsNumberName ns n.0) d n.1, n.2)
 
+  -- a frozen dimension for one is one for the other, where its root meets that
   pub frozen_too : (r : ℕ) (k : Candidates) (f : Frozen) (t : IsFrozen s p r k f)
       → Holds (thawed s k r f) t.stands_for.root q → IsFrozen s q r k f
   frozen_too r k f t h = record {

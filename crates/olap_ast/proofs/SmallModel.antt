@@ -21,10 +21,12 @@ use Rattle.olap_ast.proofs.Truth.{AsksOnly, same, NamesAgree, NumbersAgree}
 use Rattle.olap_ast.proofs.ConstantLemmas.{constant_in_constraint, constant_in_question, number_in_constraint, number_in_question}
 use Rattle.olap_ast.proofs.CandidatesExist.{fresh_is_one, fresh_names_exist}
 use Rattle.olap_ast.proofs.NewNames.{new_all, new_known, new_numbered, new_spells, new_text}
-use Rattle.olap_ast.proofs.Shape.{seen, seen_edges, member_above, shape_categories, shape, whole, shape_is_part, shape_instance, shape_lawful, shape_one_each, shape_root, shape_root_is, shape_reached, name_shape, listed, category_shape, declared}
+use Rattle.olap_ast.proofs.Shape.{seen, seen_edges, member_above, declared}
+use Rattle.olap_ast.proofs.ShapeInstance.{shape_categories, shape, whole, shape_is_part, shape_instance, shape_lawful, shape_one_each, shape_root, shape_root_is, shape_reached, name_shape, listed, category_shape}
 
 -- ---- edges and names as bits and indexes
 
+-- the edges whose bits are a test's are those that pass it
 chosen_by : (t : Edge → Bool) (es : List Edge) → chosen es (map t es) ≡ filter t es
 chosen_by t [] = refl
 chosen_by t (e ∷ es) = ap (λ l. cond (t e) (e ∷ l) l) (chosen_by t es)
@@ -40,10 +42,12 @@ text_at : (first : List ℕ) (texts : List (List ℕ)) (n : ℕ) (name : List �
 text_at first texts zero name h = refl
 text_at first texts (suc n) name h = get_or_default texts n first name (omega arith)
 
+-- the number is in range, and the index of the name if that is among the names
 record IsIndex (first : List ℕ) (texts : List (List ℕ)) (name : List ℕ) (n : ℕ) : Type 0 where
   in_range : n ≤ length texts
   named : Contains (first ∷ texts) name → text_of_index first texts n ≡ name
 
+-- the place of the text is such a number
 index_of_is : (first : List ℕ) (texts : List (List ℕ)) (name : List ℕ) →
     IsIndex first texts name (index_of first texts name)
 unfolding index_of
@@ -71,29 +75,37 @@ module _ (s : Schema) (q : Formula) (k : Candidates) (hier : IsHierarchy s.graph
   wanted : ℕ → List ℕ → List ℕ
   wanted c name = new_name s q fresh (suc c) name
 
+  -- the place of that name among the category's names
   place : ℕ → List ℕ → ℕ
   place c name = index_of (k.first (suc c)) (k.texts (suc c)) (wanted c name)
 
+  -- that place where the category is in the shape, else 0
   index : ℕ → ℕ
   index c = cond (is_present (category_of i x) (seen_edges s.graph i x) (suc c))
       (place c (name_of i (member_above i x (suc c)))) 0
 
+  -- the edges that are used above x, and the indexes of the new names
   abbrev frozen : Frozen
   frozen =
       record { edges = map (seen i x) s.graph.edges; names = map index (range_with_len 0 (length s.graph.names)) }
 
+  -- the name that a category has there
   abbrev name : ℕ → List ℕ
   name c = name_in k frozen c
 
+  -- a declared category's index
   names_at : (c : ℕ) → c < length s.graph.names → slice_index frozen.names c ≡ index c
   names_at c h = get_or-map-range_with_len index 0 (length s.graph.names) c c 0 h (omega arith)
 
+  -- the shape above x, with these names
   abbrev small : Instance
   small = shape s.graph i hier legal.is_instance legal.lawful x hx name
 
+  -- which member of the instance one of the shape is
   abbrev of_small : ℕ → ℕ
   of_small m = whole s.graph i hier legal.is_instance legal.lawful x hx name m
 
+  -- it is the instance of the frozen dimension
   thawed_is : thawed s k (category_of i x) frozen ≡ small
   thawed_is = ap (λ es. instance_of s.graph (category_of i x) es name) (chosen_by (seen i x) s.graph.edges)
 
@@ -112,6 +124,7 @@ module _ (s : Schema) (q : Formula) (k : Candidates) (hier : IsHierarchy s.graph
       yes_index true e = refl
       yes_index false e = absurd (cc)
 
+  -- a member of a number category has a numeral for its name
   numeral_at : (y : ℕ) → y < length i → IsTrue (is_number s.graph (category_of i y)) → IsSome (number_of (name_of i y))
   numeral_at y h = legal.numerals y h
 
@@ -131,9 +144,11 @@ module _ (s : Schema) (q : Formula) (k : Candidates) (hier : IsHierarchy s.graph
       (new_known s q fresh ok.kinds is_fresh.free (suc c) is_fresh (λ z. absurd (omega arith)) (name_of i y)
       (λ b. numeral_at y l (subst (λ d. IsTrue (is_number s.graph d)) (sym f) b))))
 
+  -- the shape is a part of the instance
   the_part : IsPart i small of_small
   the_part = shape_is_part s.graph i hier legal.is_instance legal.lawful x hx name
 
+  -- a member of the shape has the new name of its member
   the_name : (m : ℕ) → m < length small
       → name_of small m ≡ new_name s q fresh (category_of small m) (name_of i (of_small m))
   the_name m h =
@@ -144,16 +159,19 @@ module _ (s : Schema) (q : Formula) (k : Candidates) (hier : IsHierarchy s.graph
       (sym (the_part.category m h) ∙ c) (the_part.member m h)
       ∙ ap (λ d. new_name s q fresh d (name_of i (of_small m))) (sym c)
 
+  -- which has a numeral for its name where its category is one of numbers
   small_numeral : (m : ℕ) → m < length small → IsTrue (is_number s.graph (category_of small m))
       → IsSome (number_of (name_of i (of_small m)))
   small_numeral m h b = numeral_at (of_small m) (the_part.member m h)
       (subst (λ c. IsTrue (is_number s.graph c)) (the_part.category m h) b)
 
+  -- the names answer alike where texts are asked for
   names_agree : NamesAgree i small of_small (IsConstant s q)
   names_agree m text h t =
       let u = new_text s q fresh ok.kinds is_fresh.free (category_of small m) (name_of i (of_small m)) text t in
       (λ z. u.0 (sym (the_name m h) ∙ z), λ z. the_name m h ∙ u.1 z)
 
+  -- and where numbers are
   numbers_agree : NumbersAgree i small of_small (IsNumberConstant s q)
   numbers_agree m op n h t =
       let u = new_numbered s q fresh ok.kinds is_fresh.free (category_of small m) (name_of i (of_small m)) op n t
@@ -162,11 +180,14 @@ module _ (s : Schema) (q : Formula) (k : Candidates) (hier : IsHierarchy s.graph
         λ z. subst (λ w. IsNumbered w op n) (sym (the_name m h)) (u.1 z),
       )
 
+  -- so formulas that ask only for these have the same truths
   same_truth : (m : ℕ) → m < length small → (f : Formula) →
-      AsksOnly (IsConstant s q) (IsNumberConstant s q) (equalities f) (comparisons f) → Holds small m f ↔ Holds i (of_small m) f
+      AsksOnly (IsConstant s q) (IsNumberConstant s q) (equalities f) (comparisons f)
+      → Holds small m f ↔ Holds i (of_small m) f
   same_truth = same i small of_small (shape_is_part s.graph i hier legal.is_instance legal.lawful x hx name)
       (IsConstant s q) (IsNumberConstant s q) names_agree numbers_agree
 
+  -- where x meets the question, the shape is frozen for it
   small_is_frozen : Holds i x q → IsFrozenInstance s q (category_of i x) small
   small_is_frozen t =
       let p = shape_is_part s.graph i hier legal.is_instance legal.lawful x hx name in
@@ -179,7 +200,8 @@ module _ (s : Schema) (q : Formula) (k : Candidates) (hier : IsHierarchy s.graph
               (new_spells s q fresh ok.kinds is_fresh.free (category_of small m) (name_of i (of_small m)) b
               (small_numeral m h b));
           lawful = shape_lawful s.graph i hier legal.is_instance legal.lawful x hx name;
-          meets = λ c d m h. (same_truth m h.0 c.formula (constant_in_constraint s q c d, number_in_constraint s q c d)).1
+          meets = λ c d m h. (same_truth m h.0 c.formula
+              (constant_in_constraint s q c d, number_in_constraint s q c d)).1
               (legal.meets c d (of_small m) (p.member m h.0, sym (p.category m h.0) ∙ h.1));
         };
         one_each = shape_one_each s.graph i hier legal.is_instance legal.lawful x hx name;
@@ -190,9 +212,11 @@ module _ (s : Schema) (q : Formula) (k : Candidates) (hier : IsHierarchy s.graph
             (sym (the_name m h))
             (new_known s q fresh ok.kinds is_fresh.free (category_of small m) is_fresh n (name_of i (of_small m))
             (small_numeral m h));
-        true_at_root = (same_truth a r.0 q (constant_in_question s q, number_in_question s q)).1 (subst (λ y. Holds i y q) (sym r.2) t);
+        true_at_root = (same_truth a r.0 q (constant_in_question s q, number_in_question s q)).1
+            (subst (λ y. Holds i y q) (sym r.2) t);
       }
 
+  -- and the bits and indexes are a frozen dimension
   frozen_is : Holds i x q → IsFrozen s q (category_of i x) k frozen
   unfolding index place wanted
   frozen_is t = record {
@@ -209,7 +233,8 @@ module _ (s : Schema) (q : Formula) (k : Candidates) (hier : IsHierarchy s.graph
     stands_for = subst (λ j. IsFrozenInstance s q (category_of i x) j) (sym thawed_is) (small_is_frozen t);
   }
     where
-      bound : (c : ℕ) (b : Bool) → IsIndex (k.first (suc c)) (k.texts (suc c)) (wanted c (name_of i (member_above i x (suc c))))
+      bound : (c : ℕ) (b : Bool) →
+          IsIndex (k.first (suc c)) (k.texts (suc c)) (wanted c (name_of i (member_above i x (suc c))))
           (place c (name_of i (member_above i x (suc c)))) →
           cond b (place c (name_of i (member_above i x (suc c)))) 0 ≤ length (k.texts (suc c))
       bound c true t = t.in_range
@@ -237,6 +262,7 @@ module _ (s : Schema) (q : Formula) (k : Candidates) (hier : IsHierarchy s.graph
         λ z. subst (λ n. Holds small n h) (sym e) (u.1 (subst (λ y. Holds i y h) (sym r.2) z)),
       )
 
+  -- the same of the frozen dimension's instance
   truths_thawed : (h : Formula) → equalities h ≡ [] → comparisons h ≡ [] → (m : ℕ) →
       IsMemberOf (thawed s k (category_of i x) frozen) (category_of i x) m →
       Holds (thawed s k (category_of i x) frozen) m h ↔ Holds i x h
@@ -248,7 +274,8 @@ module _ (s : Schema) (q : Formula) (k : Candidates) (hier : IsHierarchy s.graph
 pub frozen_alike : (s : Schema) (q : Formula) (k : Candidates) → IsHierarchy s.graph → AreCandidates s q k
     → (i : Instance) → IsLegal s i → (x : ℕ) → x < length i → Holds i x q
     → (f : Frozen) × IsFrozen s q (category_of i x) k f
-    × ((h : Formula) → equalities h ≡ [] → comparisons h ≡ [] → (m : ℕ) → IsMemberOf (thawed s k (category_of i x) f) (category_of i x) m
+    × ((h : Formula) → equalities h ≡ [] → comparisons h ≡ [] → (m : ℕ)
+    → IsMemberOf (thawed s k (category_of i x) f) (category_of i x) m
     → Holds (thawed s k (category_of i x) f) m h ↔ Holds i x h)
 frozen_alike s q k hier ok i l x hx t = let z = fresh_names_exist s q in (
   frozen s q k hier ok z.0 z.1 i l x hx,
@@ -256,6 +283,7 @@ frozen_alike s q k hier ok i l x hx t = let z = fresh_names_exist s q in (
   truths_thawed s q k hier ok z.0 z.1 i l x hx,
 )
 
+-- there is a frozen dimension exactly if some legal instance has a member that meets the question
 pub frozen_exactly : FrozenExactlyIfSomeInstance
 frozen_exactly s q r k hier ok = (
   λ f. let t = f.1.stands_for in (thawed s k r f.0, t.legal, t.root, t.root_is, t.true_at_root),

@@ -23,6 +23,7 @@ use Rattle.olap_ast.specs.Trees.{numbers_of}
 use Rattle.olap_ast.proofs.AtomLemmas.{has_kinds}
 use Rattle.olap_ast.proofs.SameAtoms.{kinds_too}
 
+-- one source more
 pub vias_more : (c : ℕ) (sources : List CatId) (k n : ℕ) (d : CatId) → k + 1 ≡ n → k < length sources
     → vias c (drop k (numbers_of sources)) ≡ More (Via (get_or sources k d).0 c) (vias c (drop n (numbers_of sources)))
 vias_more c sources k n d e h =
@@ -32,6 +33,7 @@ vias_more c sources k n d e h =
     ∙ ap (λ m. More (Via (get_or sources k d).0 c) (vias c (drop m (numbers_of sources))))
     (let z : suc k ≡ n = omega arith in z)
 
+-- the number of a source
 pub number_at : (sources : List CatId) (i : ℕ) → i < length sources
     → slice_index (numbers_of sources) i ≡ (get_or sources i (record { 0 = 0 })).0
 number_at sources i h = get_or-map (λ (x : CatId). x.0) sources i (record { 0 = 0 }) 0 h
@@ -43,22 +45,27 @@ until P n f p d h = elim (which d n h) [ inl l ↦ f d l | inr e ↦ subst P (sy
     which : (d n : ℕ) → d < n + 1 → (d < n) ⊎ (d ≡ n)
     which d n h = grind arith
 
+-- the terms of the sources have no atom on names
 vias_free : (c : ℕ) (sources : List ℕ) → equalities_of_terms (vias c sources) ≡ []
 vias_free c [] = refl
 vias_free c (s ∷ ss) = vias_free c ss
 
+-- and none on numbers
 vias_numberless : (c : ℕ) (sources : List ℕ) → comparisons_of_terms (vias c sources) ≡ []
 vias_numberless c [] = refl
 vias_numberless c (s ∷ ss) = vias_numberless c ss
 
+-- so the question of summarizability has none on names
 pub question_free : (c : ℕ) (sources : List ℕ) → equalities (not_by_one c sources) ≡ []
 question_free c sources = vias_free c sources
 
+-- and none on numbers
 pub question_numberless : (c : ℕ) (sources : List ℕ) → comparisons (not_by_one c sources) ≡ []
 question_numberless c sources = vias_numberless c sources
 
 -- ---- the question, as one of a schema
 
+-- the terms are of the graph where the target and the sources are
 vias_at : (g : Graph) (b c : ℕ) (sources : List ℕ) → IsCategory g c → All (IsCategory g) sources
     → AreFormulasAt g b (vias c sources)
 vias_at g b c [] t h = tt
@@ -87,7 +94,8 @@ no_more_constants s q v e f =
 pub question_few : (s : Schema) (q : Formula) (c : ℕ) (sources : List ℕ) → q ≡ not_by_one c sources → IsValidSchema s
     → pair_count (all_equalities s q) (all_comparisons s q) ≤ most_constants
 question_few s q c sources e v =
-    no_more_constants s q v (ap equalities e ∙ question_free c sources) (ap comparisons e ∙ question_numberless c sources)
+    no_more_constants s q v (ap equalities e ∙ question_free c sources)
+    (ap comparisons e ∙ question_numberless c sources)
 
 -- the question asks no texts and no numbers, so it is of the kinds of a valid schema
 pub question_kinds : (s : Schema) (c : ℕ) (sources : List ℕ) → IsValidSchema s → HasKinds s (not_by_one c sources)

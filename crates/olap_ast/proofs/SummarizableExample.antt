@@ -15,6 +15,7 @@ use Rattle.olap_ast.specs.Example.{OneStoreIsCounterexample, StoresAreSummarizab
 use Rattle.olap_ast.proofs.SmallModel.{frozen_exactly}
 use Rattle.olap_ast.proofs.Examples.{alone, one_store_is_legal}
 
+-- the stores' category is a bottom one
 bottom : IsBottom stores.graph 1
 bottom = (
   ((λ e. absurd (omega arith)), omega arith),
@@ -23,6 +24,7 @@ bottom = (
       absurd (let q : ◌≡◌ {A = ℕ} 0 1 = ap (λ (k : Edge). k.parent) e in omega arith),
 )
 
+-- the store reaches `All`
 up : ReachesCategory one_store 0 0
 up = (1, (omega arith, refl), inr (record { between = []; chain = (contains_head 1 [], tt) }))
 
@@ -58,11 +60,13 @@ not_from_both h = let l = one_store_is_legal.1 in
     go (inl t) = t.1.0 by_all
     go (inr t) = t.0 by_store
 
+-- summarizable from the stores' view, and neither from no view nor from both
 pub stores_are_summarizable : StoresAreSummarizable
 stores_are_summarizable = (from_store, not_from_none, not_from_both)
 
 -- ---- the counterexample to no source
 
+-- the question: not by exactly one of no sources
 abbrev asked : Formula
 asked = not_by_one 0 []
 
@@ -101,6 +105,7 @@ only k ok f z = go f.edges f.names z.edge_count z.name_count z.stands_for.legal 
     go (b ∷ []) [] p q l r = absurd (omega arith)
     go (b ∷ []) (n ∷ m ∷ ns) p q l r = absurd (omega arith)
 
+-- the store below `all` is the least counterexample
 pub one_store_is_counterexample : OneStoreIsCounterexample
 one_store_is_counterexample k ok = record {
   bottom = bottom;

@@ -16,12 +16,14 @@ use Rattle.std.proofs.lemmas.List.Kept.{AllPairs-cons}
 use Rattle.std.proofs.Common.{[], ◌∷◌, arith}
 use Rattle.olap_ast.specs.Formula.{Comparison, Equality}
 
+-- the texts on a category, of two lists of atoms
 pub texts_on-append : (d : ℕ) (xs ys : List Equality) → texts_on d (xs ++ ys) ≡ texts_on d xs ++ texts_on d ys
 texts_on-append d xs ys =
     let on : Equality → Bool = λ a. a.category == d in
     ap (map (λ (a : Equality). a.text)) (filter-append on xs ys)
     ∙ map-append (λ (a : Equality). a.text) (filter on xs) (filter on ys)
 
+-- and the numbers
 pub numbers_on-append : (d : ℕ) (xs ys : List Comparison)
     → numbers_on d (xs ++ ys) ≡ numbers_on d xs ++ numbers_on d ys
 numbers_on-append d xs ys =
@@ -39,6 +41,7 @@ same_text (x ∷ xs) (y ∷ ys) h =
     let rest : xs ≡ ys = same_text xs ys (second_true (nat_eq x y) (pointwise nat_eq xs ys) h) in
     cc
 
+-- what holds of the first and of the rest holds of all
 all_from : (P : List ℕ → Type 0) (xs : List (List ℕ)) → AllByRecursion P xs → All P xs
 all_from P [] h = λ k d below. absurd (omega arith)
 all_from P (x ∷ xs) h = All-cons P x xs h.0 (all_from P xs h.1)

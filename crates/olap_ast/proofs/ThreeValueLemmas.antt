@@ -4,6 +4,7 @@ use Rattle.olap_ast.specs.ThreeValues.{Always, AlwaysBoth, AlwaysOne, IsAgreed, 
 use Rattle.olap_ast.specs.declared.three_values.Truth3.{Truth3}
 use Rattle.olap_ast.specs.declared.three_values.Truth3.TheVariants.{No, Yes, Unknown}
 
+-- a known truth is what all agree on
 known_agreed : (c : Bool) → IsAgreed (λ b. c ≡ b) (known c)
 known_agreed false = record {
   yes = (λ e. absurd (cc), λ e. absurd (cc));
@@ -37,6 +38,7 @@ common_no Unknown v = (λ e. absurd (cc), λ t. absurd (let e = t.0 in cc))
 -- ---- connectives
 
 module _ (Given : Bool → Bool → Type 0) (f : Bool → Truth3) (each : (p : Bool) → IsAgreed (Given p) (f p)) where
+  -- what holds given p holds given what is equal to p
   at : (b p q : Bool) → q ≡ p → Given p b → Given q b
   at b p q e g = subst (λ c. Given c b) (sym e) g
 
@@ -67,9 +69,11 @@ module _ (Given : Bool → Bool → Type 0) (f : Bool → Truth3) (each : (p : B
       any b g h false = g
       any b g h true = h
 
+-- a connective of one value
 value_agreed : (f : Bool → Bool) (x : Truth3) → IsAgreed (Always f x) (value_of f x)
 value_agreed f x = over_agreed (λ p b. f p ≡ b) (λ p. known (f p)) (λ p. known_agreed (f p)) x
 
+-- a connective of two values
 both_agreed : (f : Bool → Bool → Bool) (x y : Truth3) → IsAgreed (AlwaysBoth f x y) (value_of_both f x y)
 both_agreed f x y = record {
   yes = (λ e p q m n. inner.yes.0 e p m q n, λ g. inner.yes.1 (λ p m q n. g p q m n));
@@ -92,15 +96,18 @@ abbrev value_of_none : List Truth3 → Truth3
 value_of_none [] = Yes
 value_of_none (x ∷ xs) = over x (λ b. if b then No else value_of_none xs)
 
+-- whether exactly one is
 abbrev value_by_parts : List Truth3 → Truth3
 value_by_parts [] = No
 value_by_parts (x ∷ xs) = over x (λ b. if b then value_of_none xs else value_by_parts xs)
 
+-- whatever the values turn out to be, the answer to whether none is true is b
 abbrev AlwaysNone : List Truth3 → Bool → Type 0
 AlwaysNone xs b = (bs : List Bool) → MayAllBe xs bs → none bs ≡ b
 
 module _ (test : List Bool → Bool) (x : Truth3) (xs : List Truth3) (v : Truth3)
     (a : IsAgreed (λ b. (p : Bool) → MayBe x p → (bs : List Bool) → MayAllBe xs bs → test (p ∷ bs) ≡ b) v) where
+  -- from the first value and the rest to the list
   to : (b : Bool) → ((p : Bool) → MayBe x p → (bs : List Bool) → MayAllBe xs bs → test (p ∷ bs) ≡ b) → (cs : List Bool)
       → MayAllBe (x ∷ xs) cs → test cs ≡ b
   to b h [] m = absurd m
@@ -113,6 +120,7 @@ module _ (test : List Bool → Bool) (x : Truth3) (xs : List Truth3) (v : Truth3
     no = (λ e. to false (a.no.0 e), λ g. a.no.1 (λ p m bs n. g (p ∷ bs) (m, n)));
   }
 
+-- of the empty list
 empty_agreed : (test : List Bool → Bool) (c : Bool) → test [] ≡ c
     → IsAgreed (λ b. (bs : List Bool) → MayAllBe [] bs → test bs ≡ b) (known c)
 empty_agreed test c e =
@@ -145,6 +153,7 @@ some_agreed xs = record {
     may (Yes ∷ xs) = (refl, may xs)
     may (Unknown ∷ xs) = (tt, may xs)
 
+-- whether none is true
 none_agreed : (xs : List Truth3) → IsAgreed (AlwaysNone xs) (value_of_none xs)
 none_agreed [] = empty_agreed none true refl
 none_agreed (x ∷ xs) = cons_agreed none x xs _ (over_agreed
@@ -156,6 +165,7 @@ none_agreed (x ∷ xs) = cons_agreed none x xs _ (over_agreed
     each a false = a
     each a true = some_agreed xs
 
+-- whether exactly one is
 parts_agreed : (xs : List Truth3) → IsAgreed (AlwaysOne xs) (value_by_parts xs)
 parts_agreed [] = empty_agreed exactly_one false refl
 parts_agreed (x ∷ xs) = cons_agreed exactly_one x xs _ (over_agreed
@@ -170,11 +180,13 @@ parts_agreed (x ∷ xs) = cons_agreed exactly_one x xs _ (over_agreed
 
 -- ---- by the two numbers
 
+-- whether none is true, by the numbers of Yes and of Unknown
 abbrev none_of_counts : ℕ → ℕ → Truth3
 none_of_counts zero zero = Yes
 none_of_counts zero (suc u) = Unknown
 none_of_counts (suc y) u = No
 
+-- the two numbers tell whether none is true
 none_counted : (xs : List Truth3) → value_of_none xs ≡ none_of_counts (yes_count xs) (unknown_count xs)
 none_counted [] = refl
 none_counted (No ∷ xs) = none_counted xs
@@ -186,6 +198,7 @@ none_counted (Unknown ∷ xs) = ap (λ v. common v No) (none_counted xs) ∙ las
     last zero (suc u) = refl
     last (suc y) u = refl
 
+-- and whether exactly one is
 parts_counted : (xs : List Truth3) → value_by_parts xs ≡ value_of_one xs
 parts_counted [] = refl
 parts_counted (No ∷ xs) = parts_counted xs
@@ -206,6 +219,7 @@ parts_counted (Unknown ∷ xs) =
     last (suc zero) (suc u) = refl
     last (suc (suc y)) u = refl
 
+-- what is computed is what all agree on
 pub values_agree : ValuesAgree
 values_agree = record {
   one = value_agreed;
@@ -215,12 +229,14 @@ values_agree = record {
 
 -- ---- the two numbers of a list
 
+-- one more value, in the number of Yes
 yes_push : (xs : List Truth3) (t : Truth3) → yes_count (xs ++ t ∷ []) ≡ yes_count xs + yes_count (t ∷ [])
 yes_push [] t = sym (zero-add _)
 yes_push (No ∷ xs) t = yes_push xs t
 yes_push (Yes ∷ xs) t = let e = yes_push xs t in omega arith
 yes_push (Unknown ∷ xs) t = yes_push xs t
 
+-- and in the number of Unknown
 unknown_push : (xs : List Truth3) (t : Truth3)
     → unknown_count (xs ++ t ∷ []) ≡ unknown_count xs + unknown_count (t ∷ [])
 unknown_push [] t = sym (zero-add _)
@@ -235,6 +251,7 @@ count_no xs t y u e c = subst (λ v. IsCount (xs ++ v ∷ []) y u) (sym e) (reco
   of_unknown = let a = unknown_push xs No in let b = c.of_unknown in omega arith;
 })
 
+-- one more Yes
 pub count_yes : (xs : List Truth3) (t : Truth3) (y u z : ℕ) → t ≡ Yes → z ≡ min (y + 1) (2 ^ 32 - 1) → IsCount xs y u
     → IsCount (xs ++ t ∷ []) z u
 count_yes xs t y u z e q c = subst (λ v. IsCount (xs ++ v ∷ []) z u) (sym e) (record {
@@ -242,6 +259,7 @@ count_yes xs t y u z e q c = subst (λ v. IsCount (xs ++ v ∷ []) z u) (sym e) 
   of_unknown = let a = unknown_push xs Yes in let b = c.of_unknown in omega arith;
 })
 
+-- one more Unknown
 pub count_unknown : (xs : List Truth3) (t : Truth3) (y u z : ℕ) → t ≡ Unknown → z ≡ min (u + 1) (2 ^ 32 - 1)
     → IsCount xs y u → IsCount (xs ++ t ∷ []) y z
 count_unknown xs t y u z e q c = subst (λ v. IsCount (xs ++ v ∷ []) y z) (sym e) (record {

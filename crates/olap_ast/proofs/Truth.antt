@@ -33,29 +33,36 @@ AsksOnly Q N texts numbers =
 
 module _ (i j : Instance) (e : ℕ → ℕ) (p : IsPart i j e) (Q : ℕ → List ℕ → Type 0) (N : ℕ → ℤ → Type 0)
     (names : NamesAgree i j e Q) (numbers : NumbersAgree i j e N) where
+  -- what is reached in the part is reached in the whole
   down : {k l : ℕ} → Reaches j k l → Reaches i (e k) (e l)
   down r = reaches_from_Steps (part_steps i j e p (Steps-from_reaches r))
 
+  -- what a member of the part reaches is in the part
   inside : {k l : ℕ} → k < length j → Reaches j k l → l < length j
   inside h r = part_inside i j e p h (Steps-from_reaches r)
 
+  -- what it reaches in the whole it reaches in the part
   lift : (k y : ℕ) → k < length j → Reaches i (e k) y → (l : ℕ) × (l < length j) × Reaches j k l × (e l ≡ y)
   lift k y h r = let t = part_lift i j e p (Steps-from_reaches r) k h refl in
       (t.0, part_inside i j e p h t.1, reaches_from_Steps t.1, t.2)
 
   -- ---- atoms
 
+  -- a category that is reached in the part is reached in the whole
   reach_down : (k d : ℕ) → k < length j → ReachesCategory j k d → ReachesCategory i (e k) d
   reach_down k d h (l, m, r) = (e l, (p.member l m.0, sym (p.category l m.0) ∙ m.1), down r)
 
+  -- and the other way round
   reach_up : (k d : ℕ) → k < length j → ReachesCategory i (e k) d → ReachesCategory j k d
   reach_up k d h (y, m, r) = let t = lift k y h r in
       (t.0, (t.1, p.category t.0 t.1 ∙ ap (category_of i) t.3 ∙ m.1), t.2)
 
+  -- so is one by way of another
   via_down : (k d c : ℕ) → k < length j → ReachesVia j k d c → ReachesVia i (e k) d c
   via_down k d c h (l, m, r, q) =
       (e l, (p.member l m.0, sym (p.category l m.0) ∙ m.1), down r, reach_down l c m.0 q)
 
+  -- and the other way round
   via_up : (k d c : ℕ) → k < length j → ReachesVia i (e k) d c → ReachesVia j k d c
   via_up k d c h (y, m, r, q) = let t = lift k y h r in (
     t.0,
@@ -64,6 +71,7 @@ module _ (i j : Instance) (e : ℕ → ℕ) (p : IsPart i j e) (Q : ℕ → List
     reach_up t.0 c t.1 (subst (λ z. ReachesCategory i z c) (sym t.3) q),
   )
 
+  -- so is a member with a name that is asked for
   named_down : (k d : ℕ) (text : List ℕ) → k < length j → Q d text → ReachesNamed j k d text →
       ReachesNamed i (e k) d text
   named_down k d text h u (l, m, r, q) = (
@@ -73,12 +81,14 @@ module _ (i j : Instance) (e : ℕ → ℕ) (p : IsPart i j e) (Q : ℕ → List
     (names l text m.0 (subst (λ c. Q c text) (sym m.1) u)).0 q,
   )
 
+  -- and the other way round
   named_up : (k d : ℕ) (text : List ℕ) → k < length j → Q d text → ReachesNamed i (e k) d text →
       ReachesNamed j k d text
   named_up k d text h u (y, m, r, q) = let t = lift k y h r in let c =
       p.category t.0 t.1 ∙ ap (category_of i) t.3 ∙ m.1 in
       (t.0, (t.1, c), t.2, (names t.0 text t.1 (subst (λ d. Q d text) (sym c) u)).1 (ap (name_of i) t.3 ∙ q))
 
+  -- so is a member with a number that compares as is asked
   numbered_down : (k d : ℕ) (op : Op) (n : ℤ) → k < length j → N d n → ReachesNumbered j k d op n →
       ReachesNumbered i (e k) d op n
   numbered_down k d op n h u (l, m, r, q) = (
@@ -88,6 +98,7 @@ module _ (i j : Instance) (e : ℕ → ℕ) (p : IsPart i j e) (Q : ℕ → List
     (numbers l op n m.0 (subst (λ c. N c n) (sym m.1) u)).0 q,
   )
 
+  -- and the other way round
   numbered_up : (k d : ℕ) (op : Op) (n : ℤ) → k < length j → N d n → ReachesNumbered i (e k) d op n →
       ReachesNumbered j k d op n
   numbered_up k d op n h u (y, m, r, q) = let t = lift k y h r in let c =
@@ -99,12 +110,14 @@ module _ (i j : Instance) (e : ℕ → ℕ) (p : IsPart i j e) (Q : ℕ → List
             (subst (λ z. IsNumbered (name_of i z) op n) (sym t.3) q),
       )
 
+  -- a chain in the part is one in the whole, of the same categories
   chain_down : (k : ℕ) (ls : List ℕ) → IsChain (IsBelow j) (k ∷ ls) →
       IsChain (IsBelow i) (e k ∷ map e ls) × (map (category_of i) (map e ls) ≡ map (category_of j) ls)
   chain_down k [] c = (tt, refl)
   chain_down k (l ∷ ls) c = let t = chain_down l ls c.1 in
       ((p.below k l c.0, t.0), cc (p.category l (p.inside k l c.0), t.1))
 
+  -- a chain in the whole that begins in the part is one in the part
   chain_up : (k : ℕ) → k < length j → (x : ℕ) → e k ≡ x → (ys : List ℕ) → IsChain (IsBelow i) (x ∷ ys) →
       (ls : List ℕ) × IsChain (IsBelow j) (k ∷ ls) × (map (category_of j) ls ≡ map (category_of i) ys)
   chain_up k h x q [] c = ([], tt, refl)
@@ -113,23 +126,28 @@ module _ (i j : Instance) (e : ℕ → ℕ) (p : IsPart i j e) (Q : ℕ → List
       let u = chain_up t.0 (p.inside k t.0 t.1) y t.2 ys c.1 in
       (t.0 ∷ u.0, (t.1, u.1), cc (p.category t.0 (p.inside k t.0 t.1), ap (category_of i) t.2, u.2))
 
+  -- a path in the part is one in the whole
   path_down : (k : ℕ) (cs : List ℕ) → HasPath j k cs → HasPath i (e k) cs
   path_down k cs (ls, c, q) = let t = chain_down k ls c in (map e ls, t.0, t.1 ∙ q)
 
+  -- and the other way round
   path_up : (k : ℕ) (cs : List ℕ) → k < length j → HasPath i (e k) cs → HasPath j k cs
   path_up k cs h (ys, c, q) = let t = chain_up k h (e k) refl ys c in (t.0, t.1, t.2 ∙ q)
 
   -- ---- formulas
 
+  -- the texts are of Q, the numbers of N
   abbrev Within : List Equality → List Comparison → Type 0
   Within texts numbers = AsksOnly Q N texts numbers
 
+  -- those of the first of two parts
   left : (xs ys : List Equality) (ns ms : List Comparison) → Within (xs ++ ys) (ns ++ ms) → Within xs ns
   left xs ys ns ms w = (
     λ d text c. w.0 d text (Contains-append_left xs ys (record { category = d; text = text }) c),
     λ d n c. w.1 d n (Contains-append_left ns ms (record { category = d; number = n }) c),
   )
 
+  -- and of the second
   right : (xs ys : List Equality) (ns ms : List Comparison) → Within (xs ++ ys) (ns ++ ms) → Within ys ms
   right xs ys ns ms w = (
     λ d text c. w.0 d text (Contains-append_right xs ys (record { category = d; text = text }) c),
@@ -137,7 +155,9 @@ module _ (i j : Instance) (e : ℕ → ℕ) (p : IsPart i j e) (Q : ℕ → List
   )
 
   mutual
-    pub same : (k : ℕ) → k < length j → (f : Formula) → Within (equalities f) (comparisons f) → Holds j k f ↔ Holds i (e k) f
+    -- a formula has one truth in both
+    pub same : (k : ℕ) → k < length j → (f : Formula) → Within (equalities f) (comparisons f)
+        → Holds j k f ↔ Holds i (e k) f
     same k h Truth w = (λ t. t, λ t. t)
     same k h Falsity w = (λ t. t, λ t. t)
     same k h (Path cs) w = (path_down k cs, path_up k cs h)
@@ -148,59 +168,75 @@ module _ (i j : Instance) (e : ℕ → ℕ) (p : IsPart i j e) (Q : ℕ → List
     same k h (Compare d op n) w = let u = w.1 d n (contains_head (record { category = d; number = n }) []) in
         (numbered_down k d op n h u, numbered_up k d op n h u)
     same k h (Not f) w = let s = same k h f w in (λ n a. n (s.1 a), λ n a. n (s.0 a))
-    same k h (And f g) w = let s = same k h f (left (equalities f) (equalities g) (comparisons f) (comparisons g) w) in let t =
-        same k h g (right (equalities f) (equalities g) (comparisons f) (comparisons g) w) in (λ a. (s.0 a.0, t.0 a.1), λ a. (s.1 a.0, t.1 a.1))
-    same k h (Or f g) w = let s = same k h f (left (equalities f) (equalities g) (comparisons f) (comparisons g) w) in let t =
-        same k h g (right (equalities f) (equalities g) (comparisons f) (comparisons g) w) in (
+    same k h (And f g) w =
+        let s = same k h f (left (equalities f) (equalities g) (comparisons f) (comparisons g) w) in
+        let t = same k h g (right (equalities f) (equalities g) (comparisons f) (comparisons g) w) in
+        (λ a. (s.0 a.0, t.0 a.1), λ a. (s.1 a.0, t.1 a.1))
+    same k h (Or f g) w =
+        let s = same k h f (left (equalities f) (equalities g) (comparisons f) (comparisons g) w) in
+        let t = same k h g (right (equalities f) (equalities g) (comparisons f) (comparisons g) w) in (
           λ a. elim a [ inl b ↦ inl (s.0 b) | inr b ↦ inr (t.0 b) ],
           λ a. elim a [ inl b ↦ inl (s.1 b) | inr b ↦ inr (t.1 b) ],
         )
-    same k h (Implies f g) w = let s = same k h f (left (equalities f) (equalities g) (comparisons f) (comparisons g) w) in let t =
-        same k h g (right (equalities f) (equalities g) (comparisons f) (comparisons g) w) in (λ a b. t.0 (a (s.1 b)), λ a b. t.1 (a (s.0 b)))
-    same k h (Iff f g) w = let s = same k h f (left (equalities f) (equalities g) (comparisons f) (comparisons g) w) in let t =
-        same k h g (right (equalities f) (equalities g) (comparisons f) (comparisons g) w) in (
+    same k h (Implies f g) w =
+        let s = same k h f (left (equalities f) (equalities g) (comparisons f) (comparisons g) w) in
+        let t = same k h g (right (equalities f) (equalities g) (comparisons f) (comparisons g) w) in
+        (λ a b. t.0 (a (s.1 b)), λ a b. t.1 (a (s.0 b)))
+    same k h (Iff f g) w =
+        let s = same k h f (left (equalities f) (equalities g) (comparisons f) (comparisons g) w) in
+        let t = same k h g (right (equalities f) (equalities g) (comparisons f) (comparisons g) w) in (
           λ a. (λ b. t.0 (a.0 (s.1 b)), λ b. s.0 (a.1 (t.1 b))),
           λ a.
               (λ b. t.1 (a.0 (s.0 b)), λ b. s.1 (a.1 (t.0 b))),
         )
-    same k h (Xor f g) w = let s = same k h f (left (equalities f) (equalities g) (comparisons f) (comparisons g) w) in let t =
-        same k h g (right (equalities f) (equalities g) (comparisons f) (comparisons g) w) in (
+    same k h (Xor f g) w =
+        let s = same k h f (left (equalities f) (equalities g) (comparisons f) (comparisons g) w) in
+        let t = same k h g (right (equalities f) (equalities g) (comparisons f) (comparisons g) w) in (
           λ a. elim a [ inl b ↦ inl (s.0 b.0, λ c. b.1 (t.1 c)) | inr b ↦ inr (λ c. b.0 (s.1 c), t.0 b.1) ],
           λ a. elim a [ inl b ↦ inl (s.1 b.0, λ c. b.1 (t.0 c)) | inr b ↦ inr (λ c. b.0 (s.0 c), t.1 b.1) ],
         )
     same k h (One ts) w = same_one k h ts w
 
+    -- exactly one of the terms holds in both
     same_one : (k : ℕ) → k < length j → (ts : Terms) → Within (equalities_of_terms ts) (comparisons_of_terms ts) →
         ExactlyOneHolds j k ts ↔ ExactlyOneHolds i (e k) ts
     same_one k h End w = (λ t. t, λ t. t)
     same_one k h (More f ts) w =
         let s = same k h f (left (equalities f) (equalities_of_terms ts) (comparisons f) (comparisons_of_terms ts) w) in
-        let n = same_none k h ts (right (equalities f) (equalities_of_terms ts) (comparisons f) (comparisons_of_terms ts) w) in
-        let t = same_one k h ts (right (equalities f) (equalities_of_terms ts) (comparisons f) (comparisons_of_terms ts) w) in (
+        let n = same_none k h ts
+        (right (equalities f) (equalities_of_terms ts) (comparisons f) (comparisons_of_terms ts) w) in
+        let t = same_one k h ts
+        (right (equalities f) (equalities_of_terms ts) (comparisons f) (comparisons_of_terms ts) w) in (
           λ a. elim a [ inl b ↦ inl (s.0 b.0, n.0 b.1) | inr b ↦ inr (λ c. b.0 (s.1 c), t.0 b.1) ],
           λ a. elim a [ inl b ↦ inl (s.1 b.0, n.1 b.1) | inr b ↦ inr (λ c. b.0 (s.0 c), t.1 b.1) ],
         )
 
+    -- none of the terms holds in both
     same_none : (k : ℕ) → k < length j → (ts : Terms) → Within (equalities_of_terms ts) (comparisons_of_terms ts) →
         NoneHolds j k ts ↔ NoneHolds i (e k) ts
     same_none k h End w = (λ t. t, λ t. t)
     same_none k h (More f ts) w =
         let s = same k h f (left (equalities f) (equalities_of_terms ts) (comparisons f) (comparisons_of_terms ts) w) in
-        let n = same_none k h ts (right (equalities f) (equalities_of_terms ts) (comparisons f) (comparisons_of_terms ts) w) in
+        let n = same_none k h ts
+        (right (equalities f) (equalities_of_terms ts) (comparisons f) (comparisons_of_terms ts) w) in
         (λ a. (λ c. a.0 (s.1 c), n.0 a.1), λ a. (λ c. a.0 (s.0 c), n.1 a.1))
 
 -- ---- above one member
 
+-- all texts
 abbrev Any_text : ℕ → List ℕ → Type 0
 Any_text d text = Unit {0}
 
+-- all numbers
 abbrev Any_number : ℕ → ℤ → Type 0
 Any_number d n = Unit {0}
 
+-- above one member the names are those of the whole
 names_above : (i : Instance) (x : ℕ) (v : IsInstance i) →
     NamesAgree i (above i x) (λ k. get_or (members_above i x) k 0) Any_text
 names_above i x v k text h u = (λ q. sym (name_above i x v k h) ∙ q, λ q. name_above i x v k h ∙ q)
 
+-- and so are the numbers
 numbers_above : (i : Instance) (x : ℕ) (v : IsInstance i) →
     NumbersAgree i (above i x) (λ k. get_or (members_above i x) k 0) Any_number
 numbers_above i x v k op n h u = (
@@ -208,6 +244,7 @@ numbers_above i x v k op n h u = (
   λ q. subst (λ t. IsNumbered t op n) (sym (name_above i x v k h)) q,
 )
 
+-- what is above a member of a legal instance is legal, and has the same truths
 pub above_is_legal_lem : AboveIsLegal
 above_is_legal_lem s i x v h =
     let e = λ (m : ℕ). get_or (members_above i x) m 0 in
@@ -217,10 +254,12 @@ above_is_legal_lem s i x v h =
       legal = record {
         is_instance = above_instance i x v.is_instance s.graph v.lawful h;
         numerals = λ m k a. let b = subst (λ c. IsTrue (is_number s.graph c)) (p.category m k) a in
-            subst (λ t. IsSome (number_of t)) (sym (name_above i x v.is_instance m k)) (v.numerals (e m) (p.member m k) b);
+            subst (λ t. IsSome (number_of t)) (sym (name_above i x v.is_instance m k))
+            (v.numerals (e m) (p.member m k) b);
         lawful = above_lawful i x v.is_instance s.graph v.lawful;
         meets = λ c d k m. (same i (above i x) e p Any_text Any_number (names_above i x v.is_instance)
-            (numbers_above i x v.is_instance) k m.0 c.formula (λ a b r. tt, λ a b r. tt)).1 (v.meets c d (e k) (p.member k m.0, sym (p.category k m.0) ∙ m.1));
+            (numbers_above i x v.is_instance) k m.0 c.formula (λ a b r. tt, λ a b r. tt)).1
+            (v.meets c d (e k) (p.member k m.0, sym (p.category k m.0) ∙ m.1));
       };
       one_each = one_member_each i x v.is_instance s.graph v.lawful;
       same_truth = λ f. let u = same i (above i x) e p Any_text Any_number (names_above i x v.is_instance)

@@ -11,10 +11,12 @@ use Rattle.olap_ast.specs.Schema.{Constraint, IsLegal}
 use Rattle.olap_ast.specs.Violation.{Violation, Violation.NoEdge, Violation.NoParent, Violation.SameCategory, Violation.TwoAncestors, Violation.Shortcut, Violation.Unmet, IsViolation, LegalExactlyIfNoViolation}
 use Rattle.olap_ast.proofs.Decided.{decide_holds}
 
+-- what can be decided and can't fail holds
 stable : {P : Type 0} → Dec P → ((P → ⊥) → ⊥) → P
 stable (yes p) f = p
 stable (no n) f = absurd (f n)
 
+-- whether two edges are the same
 pub edge_discrete : Discrete Edge
 edge_discrete e f = go (ℕ_discrete e.child f.child) (ℕ_discrete e.parent f.parent)
   where
@@ -23,6 +25,7 @@ edge_discrete e f = go (ℕ_discrete e.child f.child) (ℕ_discrete e.parent f.p
     go (no n) d = no (λ r. n (ap (λ x. x.child) r))
     go (yes p) (no n) = no (λ r. n (ap (λ x. x.parent) r))
 
+-- a list that isn't empty has a member
 some_parent : (xs : List ℕ) → (xs ≡ [] → ⊥) → (y : ℕ) × Contains xs y
 some_parent [] n = absurd (n refl)
 some_parent (x ∷ xs) n = (x, contains_head x xs)
@@ -34,11 +37,13 @@ placed [] k c h e = absurd (omega arith)
 placed (d ∷ ds) zero c h e = ap Some e
 placed (d ∷ ds) (suc k) c h e = placed ds k c (omega arith) e
 
+-- a constraint that stands at a place is in the list
 found : (cs : List Constraint) (k : ℕ) (c : Constraint) → slice_get cs k ≡ Some c → Contains cs c
 found [] k c e = absurd (cc)
 found (d ∷ ds) zero c e = (0, omega arith, cc)
 found (d ∷ ds) (suc k) c e = let t = found ds k c e in (suc t.0, omega (arith, t.1), t.2)
 
+-- an instance is legal exactly if nothing is violated
 pub legal_exactly : LegalExactlyIfNoViolation
 legal_exactly s i v numerals = (to, from)
   where

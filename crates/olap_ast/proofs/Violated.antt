@@ -20,6 +20,7 @@ above_each : List ℕ → ℕ
 above_each [] = 0
 above_each (x ∷ xs) = suc x + above_each xs
 
+-- each number in the list is below that
 below_above_each : (xs : List ℕ) (x : ℕ) → Contains xs x → x < above_each xs
 unfolding above_each
 below_above_each [] x c = absurd (omega (arith, c.1))
@@ -28,6 +29,7 @@ below_above_each (y ∷ xs) x c = elim (contains_cases x y xs c) [
   | inr h ↦ let l = below_above_each xs x h in omega arith
 ]
 
+-- and how many there are isn't above it
 count_above_each : (xs : List ℕ) → length xs < suc (above_each xs)
 unfolding above_each
 count_above_each [] = omega arith
@@ -44,21 +46,25 @@ unfolding above_all
 members_below [] = omega arith
 members_below (m ∷ i) = let l = members_below i in omega arith
 
+-- so is each member
 member_below : (i : Instance) (x : ℕ) → IsMember i x → x < above_all i
 member_below i x h = let l = members_below i in omega arith
 
+-- each category
 category_below : (i : Instance) (x : ℕ) → category_of i x < above_all i
 unfolding above_all
 category_below [] x = omega arith
 category_below (m ∷ i) zero = let l = members_below i in omega arith
 category_below (m ∷ i) (suc x) = let l = category_below i x in omega arith
 
+-- each count of parents
 parents_below : (i : Instance) (x : ℕ) → length (parents_of i x) < above_all i
 unfolding above_all
 parents_below [] x = omega arith
 parents_below (m ∷ i) zero = let l = members_below i in let c = count_above_each m.parents in omega arith
 parents_below (m ∷ i) (suc x) = let l = parents_below i x in omega arith
 
+-- and each parent
 parent_below : (i : Instance) (x y : ℕ) → IsBelow i x y → y < above_all i
 unfolding above_all
 parent_below [] x y c = absurd (omega (arith, c.1))
@@ -104,9 +110,11 @@ decide_far_below i x y = dec_iff (λ t. leads_from_Climb (climb t.1 (Steps-from_
 
 -- ---- whether one is a violation
 
+-- whether y is a parent of x
 decide_below : (i : Instance) (x y : ℕ) → Dec (IsBelow i x y)
 decide_below i x y = decide_contains ℕ_discrete (parents_of i x) y
 
+-- whether x has a parent at the place
 decide_place : (i : Instance) (x k : ℕ) → Dec (k < length (parents_of i x))
 decide_place i x k = dec_lt k (length (parents_of i x))
 
@@ -183,9 +191,11 @@ unfolding above_ranks
 fits s i n a b l (inl h) m = (omega arith, (omega arith, (omega arith, tt)))
 fits s i n a b l (inr h) m = (omega arith, (omega arith, (omega arith, tt)))
 
+-- and 0 is below it
 some_below : (i : Instance) → 0 < above_all i
 some_below i = let l = members_below i in omega arith
 
+-- so are a member with a parent at a place, and the place
 parent_place_below : (i : Instance) (x k : ℕ) → k < length (parents_of i x) → (x < above_all i) × (k < above_all i)
 parent_place_below i x k h = let l = parents_below i x in
     (member_below i x (with_parent i x k h), omega arith)
