@@ -21,6 +21,7 @@ edge_between-at g c d k differ h e =
     (record { child = 0; parent = 0 }) h e
     (λ j b q. differ j k (record { child = 0; parent = 0 }) b h (q ∙ sym e)) ∙ ap (λ (i : ℕ). Some i) (zero-add k)
 
+-- and none is found that isn't there
 edge_between-none : (g : Graph) (c d : ℕ) → (HasEdge g c d → ⊥) → edge_between g c d ≡ None
 edge_between-none g c d none = go (edge_between g c d) refl
   where
@@ -42,8 +43,8 @@ leading_is g c d out (Some e) differ q some none =
     sym (edge_between-at g c d e.0 differ t.0 same)
 
 -- the same, where the edges were read from the table
-pub edge_found : (names : List (List ℕ)) (kinds : List Bool) (ends : List Ends) (n c i d : ℕ) (table : List (List EdgeId))
-    (row out : List EdgeId) (r : Option EdgeId)
+pub edge_found : (names : List (List ℕ)) (kinds : List Bool) (ends : List Ends) (n c i d : ℕ)
+    (table : List (List EdgeId)) (row out : List EdgeId) (r : Option EdgeId)
     → AreOut (drawn ends) n table → AllPairs ◌≢◌ (map edge_of ends) → c < n → i ≡ c → row ≡ get_or table i row
     → out ≡ row
     → IfSome r (λ e. Contains out e × ((edge_at (drawn ends) e.0).parent ≡ d))
@@ -53,9 +54,10 @@ edge_found names kinds ends n c i d table row out r a differ h e q o some none =
     leading_is (drawn ends) c d out r differ (out_read (drawn ends) n table c i row out a h e q o) some none
 
 -- the ends that are read from the list are categories
-pub ends_are : (names : List (List ℕ)) (kinds : List Bool) (ends : List Ends) (k i : ℕ) (x : Ends) → IsHierarchy (graph_of names kinds ends)
-    → k < length (map edge_of ends) → i ≡ k
-    → x ≡ get_or ends i x → IsCategory (graph_of names kinds ends) x.child.0 × IsCategory (graph_of names kinds ends) x.parent.0
+pub ends_are : (names : List (List ℕ)) (kinds : List Bool) (ends : List Ends) (k i : ℕ) (x : Ends)
+    → IsHierarchy (graph_of names kinds ends) → k < length (map edge_of ends) → i ≡ k
+    → x ≡ get_or ends i x
+    → IsCategory (graph_of names kinds ends) x.child.0 × IsCategory (graph_of names kinds ends) x.parent.0
 ends_are names kinds ends k i x v h e q =
     let l : k < length ends = let n = length-map ends edge_of in omega arith in
     let read : get_or (map edge_of ends) k (edge_of x) ≡ edge_of x =

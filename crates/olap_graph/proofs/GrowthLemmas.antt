@@ -23,8 +23,9 @@ differ_push xs x a new =
 
 -- ---- one more category
 
-pub limits-with_category : (number : Bool) (g : Graph) (name : List ℕ) → IsWithinLimits g → category_count g < most_categories
-    → length name ≤ most_text_bytes → IsWithinLimits (with_kind number g name)
+-- a graph within its limits that has room for a category is within them afterwards
+pub limits-with_category : (number : Bool) (g : Graph) (name : List ℕ) → IsWithinLimits g
+    → category_count g < most_categories → length name ≤ most_text_bytes → IsWithinLimits (with_kind number g name)
 limits-with_category number g name w few short = record {
   few = omega (arith, length_push g.names name);
   few_edges = w.few_edges;
@@ -35,6 +36,7 @@ limits-with_category number g name w few short = record {
       ];
 }
 
+-- a new name, spelled as names are, keeps the promises
 pub unfinished-with_category : (number : Bool) (g : Graph) (name : List ℕ) → IsUnfinished g → IsCategoryName name
     → category_named g name ≡ None → IsUnfinished (with_kind number g name)
 unfinished-with_category number g name u n none = record {
@@ -60,6 +62,7 @@ unfinished-with_category number g name u n none = record {
 
 -- ---- one more edge
 
+-- a graph within its limits that has room for an edge is within them afterwards
 pub limits-with_edge : (g : Graph) (c d : ℕ) → IsWithinLimits g → length g.edges < most_edges
     → IsWithinLimits (with_edge g c d)
 limits-with_edge g c d w few = record {
@@ -68,6 +71,7 @@ limits-with_edge g c d w few = record {
   short_names = w.short_names;
 }
 
+-- a new edge between two categories, not from `All`, keeps the promises
 pub unfinished-with_edge : (g : Graph) (c d : ℕ) → IsUnfinished g → IsCategory g c → IsCategory g d → c ≢ d → c ≢ 0
     → edge_between g c d ≡ None → IsUnfinished (with_edge g c d)
 unfinished-with_edge g c d u hc hd loop from_all none = record {
@@ -102,19 +106,24 @@ pub drop-headed : (names : List (List ℕ)) (name : List ℕ) → IsHeaded names
 drop-headed [] name h = absurd (cc)
 drop-headed (x ∷ names) name h = refl
 
+-- `All` stays the first of the names
 pub headed_push : (names : List (List ℕ)) (name : List ℕ) → IsHeaded names → IsHeaded (names ++ name ∷ [])
 headed_push names name h = ap (λ ns. ns ++ name ∷ []) h ∙ ap (λ ns. codes "All" ∷ ns) (sym (drop-headed names name h))
 
+-- the lists with one name more are the graph with one category more
 pub graph_of-category : (number : Bool) (names : List (List ℕ)) (kinds : List Bool) (ends : List Ends)
     (name : List ℕ) → IsHeaded names
     → graph_of (names ++ name ∷ []) (kinds ++ number ∷ []) ends ≡ with_kind number (graph_of names kinds ends) name
 graph_of-category number names kinds ends name h =
-    ap (λ ns. let g : Graph = record { names = ns; numbers = kinds ++ number ∷ []; edges = map edge_of ends } in g) (drop-headed names name h)
+    ap (λ ns. let g : Graph = record { names = ns; numbers = kinds ++ number ∷ []; edges = map edge_of ends } in g)
+    (drop-headed names name h)
 
+-- the list with one pair of ends more is the graph with one edge more
 pub graph_of-edge : (names : List (List ℕ)) (kinds : List Bool) (ends : List Ends) (e : Ends)
     → graph_of names kinds (ends ++ e ∷ []) ≡ with_edge (graph_of names kinds ends) e.child.0 e.parent.0
 graph_of-edge names kinds ends e =
-    ap (λ es. let g : Graph = record { names = drop 1 names; numbers = kinds; edges = es } in g) (map_push edge_of ends e)
+    ap (λ es. let g : Graph = record { names = drop 1 names; numbers = kinds; edges = es } in g)
+    (map_push edge_of ends e)
 
 -- there are as many names as categories
 pub headed_length : (names : List (List ℕ)) (kinds : List Bool) (ends : List Ends) → IsHeaded names

@@ -65,6 +65,7 @@ module _ {X : Type 0} (t : X → Bool) (P : X → Type 0) (tells : (x : X) → D
       go true e rest = absurd (e refl)
       go false e rest = let z : (n + 1) + k ≡ n + suc k = omega arith in rest ∙ ap (λ (i : ℕ). Some i) z
 
+  -- where a place is found, something in the list has the property
   some_is_found : (xs : List X) (n : ℕ) → is_some (position_from t n xs) ≡ true → (x : X) × Contains xs x × P x
   some_is_found [] n e = absurd (cc)
   some_is_found (x ∷ xs) n e = go (position_from t n (x ∷ xs)) refl e
@@ -74,6 +75,7 @@ module _ {X : Type 0} (t : X → Bool) (P : X → Type 0) (tells : (x : X) → D
       go (Some i) q h =
           let r = found (x ∷ xs) n i q in (get_or (x ∷ xs) r.0 x, Contains-get_or (x ∷ xs) r.0 x r.2, r.3 x)
 
+  -- and where something has it, a place is found
   found_is_some : (xs : List X) (n : ℕ) (x : X) → Contains xs x → P x → is_some (position_from t n xs) ≡ true
   found_is_some xs n x c p = go (position_from t n xs) refl
     where

@@ -26,19 +26,23 @@ found f (Some x) e h = h ∙ ap is_some e
 pub is_full : (most n k : ℕ) → most ≤ n → n ≡ k → true ≡ nat_le most k
 is_full most n k h e = grind (arith, nat_tests)
 
+-- or isn't
 pub has_room : (most n k : ℕ) → n < most → n ≡ k → false ≡ nat_le most k
 has_room most n k h e = grind (arith, nat_tests)
 
+-- the first reason to refuse a category, by the tests
 abbrev pub category_reason : Bool → Bool → Option CategoryRefusal
 category_reason taken full =
     if taken then Some of_category.DuplicateCategory
     else if full then Some of_category.TooManyCategories
     else None
 
+-- it is the refusal
 pub category_reason_is : (g : Graph) (name : List ℕ) (taken full : Bool) → taken ≡ is_some (category_named g name)
     → full ≡ nat_le most_categories (category_count g) → category_refusal g name ≡ category_reason taken full
 category_reason_is g name taken full t f = rw (t, f) refl
 
+-- the first reason to refuse an edge, by the tests
 abbrev pub edge_reason : Bool → Bool → Bool → Bool → Option EdgeRefusal
 edge_reason loop from_all taken full =
     if loop then Some of_edge.SelfEdge
@@ -47,6 +51,7 @@ edge_reason loop from_all taken full =
     else if full then Some of_edge.TooManyEdges
     else None
 
+-- it is the refusal
 pub edge_reason_is : (g : Graph) (c d : ℕ) (loop from_all taken full : Bool) → loop ≡ (c == d) → from_all ≡ (c == 0)
     → taken ≡ is_some (edge_between g c d) → full ≡ nat_le most_edges (length g.edges)
     → edge_refusal g c d ≡ edge_reason loop from_all taken full

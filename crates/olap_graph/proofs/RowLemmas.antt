@@ -21,30 +21,38 @@ use Rattle.olap_graph.proofs.TableLemmas.{edge_at-drawn, has_edge_at, nowhere, p
 
 -- ---- one set
 
+-- below c + 1 is below c, or c
 pub newest : (a c : ℕ) → a < c + 1 → (a ≢ c) × (a < c) ⊎ (a ≡ c)
 newest a c h = grind arith
 
+-- two numbers are equal, or they aren't
 pub same_or_not : (a c : ℕ) → (a ≡ c) ⊎ (a ≢ c)
 same_or_not a c = grind arith
 
 module _ {W : ℕ} (rows : List (CatSet W)) where
+  -- there is a set for each place
   inside : (c : ℕ) → c < length rows → c < length (map members rows)
   inside c h = let e = length-map rows members in omega (arith, e)
 
+  -- what was set is read
   pub row_same : (c : ℕ) (x : CatSet W) → c < length rows → row (set rows c x) c ≡ members x
   row_same c x h = ap (λ l. get_or l c empty) (map-set members rows c x)
       ∙ get_or-set_same (map members rows) c (members x) empty (inside c h)
 
+  -- and the other sets stay
   pub row_other : (c d : ℕ) (x : CatSet W) → d ≢ c → row (set rows c x) d ≡ row rows d
   row_other c d x n = ap (λ l. get_or l d empty) (map-set members rows c x)
       ∙ get_or-set_other (map members rows) c d (members x) empty n
 
+  -- a set's members, read at its place
   pub row_at : (c : ℕ) (x : CatSet W) → c < length rows → members (get_or rows c x) ≡ row rows c
   row_at c x h = sym (get_or-map members rows c x empty h)
 
+  -- the same for a set that was read
   pub row_read : (c : ℕ) (x : CatSet W) → c < length rows → x ≡ get_or rows c x → members x ≡ row rows c
   row_read c x h e = ap members e ∙ row_at c x h
 
+-- in a set with k are k and what was in it
 pub has_insert : (s : FinSet nat_cmp) (k q : ℕ) → (contains (insert s k) q ≡ true) ↔ ((k ≡ q) ⊎ (contains s q ≡ true))
 has_insert s k q = (
   λ e. elim (or_cases (eqb q k) (contains s q) (sym (in_insert s k q) ∙ e)) [
@@ -57,6 +65,7 @@ has_insert s k q = (
   ],
 )
 
+-- in a union is what is in one of the two
 pub has_union : (s t : FinSet nat_cmp) (q : ℕ)
     → (contains (union s t) q ≡ true) ↔ ((contains s q ≡ true) ⊎ (contains t q ≡ true))
 has_union s t q = (
@@ -67,6 +76,7 @@ has_union s t q = (
   ],
 )
 
+-- equal sets have the same
 pub has_at : (s t : FinSet nat_cmp) (q : ℕ) (P : Type 0) → s ≡ t → (contains t q ≡ true) ↔ P → (contains s q ≡ true) ↔ P
 has_at s t q P e i = (λ h. i.0 (ap (λ u. contains u q) (sym e) ∙ h), λ p. ap (λ u. contains u q) e ∙ i.1 p)
 
@@ -94,6 +104,7 @@ has_inside rows c d m = elim (below_or_past c (length rows)) [
 
 -- ---- each set alone
 
+-- one more set has its own number alone
 pub own_more : {W : ℕ} (rows : List (CatSet W)) (c : ℕ) (x e : CatSet W) → members x ≡ insert (members e) c
     → members e ≡ empty → c < length rows → ((a d : ℕ) → a < c → Has rows a d ↔ (a ≡ d))
     → (a d : ℕ) → a < c + 1 → Has (set rows c x) a d ↔ (a ≡ d)
@@ -156,15 +167,18 @@ joined_more J K c d rows x more h e joined a b l =
       )
     ]
 
+-- edges with the same ends are one
 pub same_edge : {a c b d : ℕ} → c ≡ a → d ≡ b
     → ◌≡◌ {A = Edge} (record { child = c; parent = d }) (record { child = a; parent = b })
 same_edge p q = λ i. record { child = p i; parent = q i }
 
 -- ---- one edge more
 
+-- what the first k edges join the first k + 1 join
 joins_lift : (g : Graph) (k a b : ℕ) → JoinsBefore g k a b → JoinsBefore g (k + 1) a b
 joins_lift g k a b t = (t.0, omega (arith, t.1), t.2)
 
+-- what the first k + 1 edges join the first k do, or the last
 joins_cases : (g : Graph) (k a b : ℕ) → JoinsBefore g (k + 1) a b
     → JoinsBefore g k a b ⊎ (edge_at g k ≡ record { child = a; parent = b })
 joins_cases g k a b t = elim (newest t.0 k t.1) [
@@ -183,6 +197,7 @@ ends_within ends n k within h =
       subst (λ c. c < n) (ap (λ (x : Edge). x.parent) e) t.1,
     )
 
+-- so the edge at k adds its two ends
 one_more : (g : Graph) (k c d : ℕ) → edge_at g k ≡ record { child = c; parent = d } → (a b : ℕ)
     → JoinsBefore g (k + 1) a b ↔ (JoinsBefore g k a b ⊎ ((c ≡ a) × (d ≡ b)))
 one_more g k c d edge a b = (
@@ -196,12 +211,14 @@ one_more g k c d edge a b = (
   ],
 )
 
+-- sets that have their own numbers alone are drawn by no edges
 pub draw_none : {W : ℕ} (g : Graph) (rows : List (CatSet W)) → AreOwn rows → AreDrawn g 0 rows
 draw_none g rows own a b h = (
   λ m. inl ((own a b h).0 m),
   λ o. elim o [ inl e ↦ (own a b h).1 e | inr t ↦ absurd (omega (arith, t.1)) ],
 )
 
+-- with the edge's parent put into its child's set, one edge more is drawn
 pub draw_more : {W : ℕ} (g : Graph) (k c d : ℕ) (rows : List (CatSet W)) (x : CatSet W)
     → edge_at g k ≡ record { child = c; parent = d } → c < length rows → members x ≡ insert (row rows c) d
     → AreDrawn g k rows → AreDrawn g (k + 1) (set rows c x)
@@ -229,11 +246,13 @@ edges_joined ends rows a =
 
 -- ---- one category more to go through
 
+-- the sets before c have passed through k, the others are as before
 pub record IsPassing {W : ℕ} (old new : List (CatSet W)) (k c : ℕ) : Type 0 where
   pub count : length new ≡ length old
   pub done : (a d : ℕ) → a < c → Has new a d ↔ Passes old k a d
   pub left : (a : ℕ) → c ≤ a → row new a ≡ row old a
 
+-- where k isn't in c's set, that stays
 pub pass_skip : {W : ℕ} (old new : List (CatSet W)) (k c : ℕ) → contains (row new c) k ≡ false
     → IsPassing old new k c → IsPassing old new k (c + 1)
 pass_skip old new k c n p = record {
@@ -251,6 +270,7 @@ pass_skip old new k c n p = record {
   left = λ a h. p.left a (omega arith);
 }
 
+-- where it is, k's set is put into it
 pub pass_more : {W : ℕ} (old new : List (CatSet W)) (k c : ℕ) (x : CatSet W) → contains (row new c) k ≡ true
     → c < length new → members x ≡ union (row new c) (row old k) → IsPassing old new k c
     → IsPassing old (set new c x) k (c + 1)
@@ -280,6 +300,7 @@ pub record IsThrough {W : ℕ} (R : ℕ → ℕ → Type 0) (n k : ℕ) (rows : 
   pub count : length rows ≡ n
   pub each : (c d : ℕ) → c < n → Has rows c d ↔ Through R k c d
 
+-- by way of no category, steps lead where the sets say
 pub through_start : {W : ℕ} (rows : List (CatSet W)) → ((c : ℕ) → c < length rows → Has rows c c)
     → IsThrough (Has rows) (length rows) 0 rows
 unfolding Through
@@ -291,6 +312,7 @@ through_start rows own = record {
   );
 }
 
+-- when all have passed through k, one category more
 pub through_more : {W : ℕ} (R : ℕ → ℕ → Type 0) (n k : ℕ) (old new : List (CatSet W)) → k < n → IsThrough R n k old
     → length new ≡ length old → ((c d : ℕ) → c < length old → Has new c d ↔ Passes old k c d)
     → IsThrough R n (k + 1) new
@@ -312,6 +334,7 @@ through_more R n k old new l f same p =
       );
     })
 
+-- by way of all categories, the sets are closed
 pub through_end : {W : ℕ} (old new : List (CatSet W)) (k : ℕ) → k ≡ length old
     → IsThrough (Has old) (length old) k new → IsClosure old new
 through_end old new k e f = record {
@@ -325,6 +348,7 @@ through_end old new k e f = record {
 
 -- ---- what the closure of what is joined has
 
+-- steps along the sets are steps along what is joined
 joined_steps : {W : ℕ} (J : ℕ → ℕ → Type 0) (rows : List (CatSet W)) → AreJoined J rows → {c d : ℕ}
     → Steps (Has rows) c d → Steps J c d
 joined_steps J rows joined here = here
@@ -335,12 +359,14 @@ joined_steps J rows joined (step {x = x} {y = y} {z = z} m s) =
       | inr j ↦ step j rest
     ]
 
+-- and the other way round
 steps_joined : {W : ℕ} (J : ℕ → ℕ → Type 0) (rows : List (CatSet W)) → AreJoined J rows
     → ((c d : ℕ) → J c d → c < length rows) → {c d : ℕ} → Steps J c d → Steps (Has rows) c d
 steps_joined J rows joined within here = here
 steps_joined J rows joined within (step {x = x} {y = y} j s) =
     step ((joined x y (within x y j)).1 (inr j)) (steps_joined J rows joined within s)
 
+-- so the closure has what steps lead to
 pub closure_joined : {W : ℕ} (J : ℕ → ℕ → Type 0) (old new : List (CatSet W)) → AreJoined J old
     → ((c d : ℕ) → J c d → c < length old) → IsClosure old new → (c d : ℕ) → c < length old
     → Has new c d ↔ Steps J c d
@@ -349,6 +375,7 @@ closure_joined J old new joined within f c d h = (
   λ s. (f.each c d h).1 (steps_joined J old joined within s),
 )
 
+-- and that of the drawn edges has what categories reach
 pub reached_by_closure : {W : ℕ} (ends : List Ends) (n : ℕ) (old new : List (CatSet W)) → LiesWithin (drawn ends) n
     → length old ≡ n → AreDrawn (drawn ends) (length ends) old → IsClosure old new → AreReached (drawn ends) n new
 reached_by_closure ends n old new within size a f = record {

@@ -21,9 +21,11 @@ use Rattle.olap_graph.specs.Rows.{AreReached, row}
 use Rattle.olap_graph.specs.Tables.{drawn, IsMarked, LiesWithin, AreOut, AreBottoms, IsFirstWithout, HaveAll}
 use Rattle.olap_graph.specs.declared.listing.Ends.{Ends}
 
+-- what is read where there are no ends
 abbrev pub nowhere : Ends
 nowhere = record { child = record { 0 = 0 }; parent = record { 0 = 0 } }
 
+-- what is read where there is no edge
 abbrev pub no_edge : EdgeId
 no_edge = record { 0 = 0 }
 
@@ -48,11 +50,13 @@ place_of_edge g c d h = (
 
 -- ---- the edges out of a category
 
+-- one number more at the end
 range_push : (n : ℕ) → range_with_len 0 (n + 1) ≡ range_with_len 0 n ++ n ∷ []
 range_push n =
     sym (map-id (range_with_len 0 (n + 1))) ∙ map-range_with_len_more (λ k. k) 0 n n (omega arith)
     ∙ ap (λ ks. ks ++ n ∷ []) (map-id (range_with_len 0 n))
 
+-- one number more, if it passes
 filter_push : (p : ℕ → Bool) (n : ℕ)
     → filter p (range_with_len 0 (n + 1)) ≡ filter p (range_with_len 0 n) ++ filter p (n ∷ [])
 filter_push p n = ap (filter p) (range_push n) ∙ filter-append p (range_with_len 0 n) (n ∷ [])
@@ -112,6 +116,7 @@ out_is g z out e q c =
     let f = Contains-from_filter test (range_with_len 0 (length g.edges)) e.0 m in
     (Contains-from_range (length g.edges) e.0 f.0, (Decides-eqb (edge_at g e.0).child z).0 f.1)
 
+-- each of them is the number of an edge
 pub out_within : (g : Graph) (z : ℕ) (out : List EdgeId) → map (λ e. e.0) out ≡ edges_from g z
     → (k : ℕ) (d : EdgeId) → k < length out
     → (get_or out k d).0 < length g.edges
@@ -155,6 +160,7 @@ pub parent_read : (ends : List Ends) (out : List EdgeId) (k r p : ℕ) → k < l
 parent_read ends out k r p h w e q =
     parent_at ends out k no_edge h (w k no_edge h) ∙ ap (λ i. (get_or ends i nowhere).parent.0) (sym e) ∙ sym q
 
+-- so what holds of all the parents holds of that
 pub parent_within : (ends : List Ends) (out : List EdgeId) (k r p m : ℕ) → k < length out
     → All (λ e. e.0 < length ends) out → r ≡ (get_or out k no_edge).0
     → p ≡ (get_or ends r nowhere).parent.0 → All (λ x. x < m) (parents_of (drawn ends) out) → p < m
@@ -227,7 +233,9 @@ bottom_is names kinds ends n c marks r b q h e =
 
 -- ---- what is reached
 
-pub row_is : {W : ℕ} (names : List (List ℕ)) (kinds : List Bool) (ends : List Ends) (n c d : ℕ) (rows : List (CatSet W)) (r : Bool)
+-- what is read from a category's set
+pub row_is : {W : ℕ} (names : List (List ℕ)) (kinds : List Bool) (ends : List Ends) (n c d : ℕ)
+    (rows : List (CatSet W)) (r : Bool)
     → AreReached (drawn ends) n rows → c < n → r ≡ contains (row rows c) d
     → IsTrue r ↔ CategoryReaches (graph_of names kinds ends) c d
 row_is names kinds ends n c d rows r a h q =
@@ -235,13 +243,15 @@ row_is names kinds ends n c d rows r a h q =
     (λ m. t.0 (sym q ∙ m), λ u. q ∙ t.1 u)
 
 -- the ends of the edges are categories
-pub lies_within : (names : List (List ℕ)) (kinds : List Bool) (ends : List Ends) (n : ℕ) → n ≡ category_count (graph_of names kinds ends)
+pub lies_within : (names : List (List ℕ)) (kinds : List Bool) (ends : List Ends) (n : ℕ)
+    → n ≡ category_count (graph_of names kinds ends)
     → ((c d : ℕ) → HasEdge (graph_of names kinds ends) c d → IsCategory (graph_of names kinds ends) c × IsCategory
     (graph_of names kinds ends) d) → LiesWithin (drawn ends) n
 lies_within names kinds ends n q f c d h = let t = f c d h in (omega (arith, t.0), omega (arith, t.1))
 
 -- the first set without `All` is that of the first category without a way
-pub first_without_way : {W : ℕ} (names : List (List ℕ)) (kinds : List Bool) (ends : List Ends) (n : ℕ) (rows : List (CatSet W)) (c : CatId)
+pub first_without_way : {W : ℕ} (names : List (List ℕ)) (kinds : List Bool) (ends : List Ends) (n : ℕ)
+    (rows : List (CatSet W)) (c : CatId)
     → AreReached (drawn ends) n rows → n ≡ category_count (graph_of names kinds ends) → IsFirstWithout rows c
     → IsFirstWithoutWay (graph_of names kinds ends) c.0
 first_without_way names kinds ends n rows c a q f =

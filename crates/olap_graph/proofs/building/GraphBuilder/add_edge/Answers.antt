@@ -77,7 +77,8 @@ pub returns-then-len-ge-MOST_EDGES : goal.returns-then-len-ge-MOST_EDGES
 returns-then-len-ge-MOST_EDGES c =
     let a = c.self.inside in
     let taken = found (λ e. e.0) c.edge.result c.edge.ensures.place c.if-is_some.ensures in
-    let count = edges_counted a.names.items a.numbers.items a.edges.items c.len.result (c.len.ensures ∙ a.edges.ok.0) c.self.view_is in
+    let count = edges_counted a.names.items a.numbers.items a.edges.items c.len.result
+    (c.len.ensures ∙ a.edges.ok.0) c.self.view_is in
     record {
       ok = tt;
       number = tt;
@@ -108,7 +109,8 @@ returns c =
     let child = c.args.child.0 in
     let parent = c.args.parent.0 in
     let taken = found (λ e. e.0) c.edge.result c.edge.ensures.place c.if-is_some.ensures in
-    let count = edges_counted a.names.items a.numbers.items a.edges.items c.len.result (c.len.ensures ∙ a.edges.ok.0) c.self.view_is in
+    let count = edges_counted a.names.items a.numbers.items a.edges.items c.len.result
+    (c.len.ensures ∙ a.edges.ok.0) c.self.view_is in
     let one : Ends = record { child = c.args.child; parent = c.args.parent } in
     record {
       ok = edge_reason_is now child parent false false false false c.if-eq.ensures c.if-eq-2.ensures taken

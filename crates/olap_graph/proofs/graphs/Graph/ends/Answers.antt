@@ -10,8 +10,8 @@ returns-clause-child c =
     let k = c.args.e.0 in
     let inside = subst (λ (g : Graph). k < length g.edges) (sym c.self.view_is) c.requires in
     subst (λ (g : Graph). IsCategory g x.child.0) c.self.view_is
-    (ends_are a.names.items a.numbers.items a.edges.items k c.from.result x c.self.invariant.hierarchy inside c.from.ensures
-    c.index-ends.ensures).0
+    (ends_are a.names.items a.numbers.items a.edges.items k c.from.result x c.self.invariant.hierarchy inside
+    c.from.ensures c.index-ends.ensures).0
 
 pub returns-clause-parent : goal.returns-clause-parent
 returns-clause-parent c =
@@ -20,5 +20,5 @@ returns-clause-parent c =
     let k = c.args.e.0 in
     let inside = subst (λ (g : Graph). k < length g.edges) (sym c.self.view_is) c.requires in
     subst (λ (g : Graph). IsCategory g x.parent.0) c.self.view_is
-    (ends_are a.names.items a.numbers.items a.edges.items k c.from.result x c.self.invariant.hierarchy inside c.from.ensures
-    c.index-ends.ensures).1
+    (ends_are a.names.items a.numbers.items a.edges.items k c.from.result x c.self.invariant.hierarchy inside
+    c.from.ensures c.index-ends.ensures).1

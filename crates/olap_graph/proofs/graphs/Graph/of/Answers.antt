@@ -29,7 +29,8 @@ returns-in-Some-clause-err c =
     let tables =
     subst (λ (es : List Ends). AreTables
     (drawn es) c.len.result c.in_ok-tables.tables) c.deref.ensures.value c.in_ok-tables.ensures in
-    first_without_way names kinds ends c.len.result c.in_ok-tables.tables.reached.items c.in-Some.category tables.reached size
+    first_without_way names kinds ends c.len.result c.in_ok-tables.tables.reached.items c.in-Some.category
+    tables.reached size
     (subst (λ rows. IsFirstWithout rows c.in-Some.category) c.deref-2.ensures.value c.in-Some.ensures.some)
 
 pub invariant_of-result : goal.invariant_of-result
