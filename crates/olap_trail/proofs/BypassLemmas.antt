@@ -9,6 +9,7 @@ use Rattle.olap_trail.specs.Drawing.{HoldsBypass, IsBypassed, Joins, edge_of}
 use Rattle.olap_trail.specs.declared.drawing.Ends.{Ends}
 use Rattle.olap_trail.proofs.WalkLemmas.{joins_cases, joins_new, more}
 
+-- below c + 1 is below c, or c
 newest : (a c : ℕ) → a < c + 1 → (a < c) ⊎ (a ≡ c)
 newest a c h = grind arith
 
@@ -24,6 +25,7 @@ abbrev pub NoneBypassed : List Ends → List Edge → ℕ → Type 0
 NoneBypassed items es k =
     (i : ℕ) (d : Ends) → i < k → IsBypassed es (get_or items i d).child.0 (get_or items i d).parent.0 → ⊥
 
+-- nor is the next, where its test fails
 pub none_more : (items : List Ends) (es : List Edge) (k : ℕ) (d : Ends) (b : Bool) → b ≡ false → k < length items
     → IsTrue b ↔ IsBypassed es (get_or items k d).child.0 (get_or items k d).parent.0
     → NoneBypassed items es k → NoneBypassed items es (k + 1)

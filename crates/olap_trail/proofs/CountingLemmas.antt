@@ -10,6 +10,7 @@ use Rattle.olap_graph.specs.Lookups.{edge_at}
 use Rattle.olap_trail.specs.Decisions.{AreDecisions, Decided, Decision, present_edges}
 use Rattle.olap_trail.proofs.DecisionLemmas.{edges_of}
 
+-- each edge is decided once at most
 pub few_decisions : (t : Decided) → AreDecisions t → length t.decisions ≤ length t.graph.edges
 few_decisions t a =
     let xs = edges_of t.decisions in
@@ -27,6 +28,7 @@ few_decisions t a =
         let f = eqb-true q w.0 w.2 in
         omega (arith, l, e, f)
 
+-- no more pass than there are
 filter_few : (p : Decision → Bool) (ds : List Decision) → length (filter p ds) ≤ length ds
 filter_few p [] = omega arith
 filter_few p (d ∷ ds) = go (p d) (filter p ds) (filter_few p ds)
@@ -35,6 +37,7 @@ filter_few p (d ∷ ds) = go (p d) (filter p ds) (filter_few p ds)
     go true es h = omega (arith, h)
     go false es h = omega (arith, h)
 
+-- and the present edges are some of those decided
 pub few_present : (t : Decided) → length (present_edges t) ≤ length t.decisions
 few_present t =
     let n = length-map (filter (λ (d : Decision). d.present) t.decisions) (λ (d : Decision). edge_at t.graph d.edge) in

@@ -18,10 +18,12 @@ use Rattle.olap_trail.specs.Drawing.{HoldsBypass, Joins}
 
 -- ---- what was decided of an edge
 
+-- where nothing is found, the first isn't it and nothing is found in the rest
 found : (b : Bool) (p : Bool) (o : Option Bool) → cond b (Some p) o ≡ None → (b ≡ false) × (o ≡ None)
 found true p o h = absurd (cc)
 found false p o h = (refl, h)
 
+-- the new decision tells its edge
 pub status_new : (ds : List Decision) (d : Decision) → status_in ds d.edge ≡ None
     → status_in (ds ++ d ∷ []) d.edge ≡ Some d.present
 status_new [] d h = ap (λ b. cond b (Some d.present) None) (eq-eqb d.edge d.edge refl)
@@ -29,6 +31,7 @@ status_new (f ∷ ds) d h =
     let t = found (f.edge == d.edge) f.present (status_in ds d.edge) h in
     ap (λ b. cond b (Some f.present) (status_in (ds ++ d ∷ []) d.edge)) t.0 ∙ status_new ds d t.1
 
+-- and no other edge
 pub status_other : (ds : List Decision) (d : Decision) (x : ℕ) → x ≢ d.edge
     → status_in (ds ++ d ∷ []) x ≡ status_in ds x
 status_other [] d x n = ap (λ b. cond b (Some d.present) None) (ne_eqb d.edge x (λ e. n (sym e)))
@@ -38,6 +41,7 @@ status_other (f ∷ ds) d x n = ap (λ o. cond (f.edge == x) (Some f.present) o)
 abbrev pub edges_of : List Decision → List ℕ
 edges_of ds = map (λ d. d.edge) ds
 
+-- nothing was decided of an edge that isn't among them
 pub status_none : (ds : List Decision) (x : ℕ) → (Contains (edges_of ds) x → ⊥) → status_in ds x ≡ None
 status_none [] x n = refl
 status_none (f ∷ ds) x n =
@@ -45,6 +49,7 @@ status_none (f ∷ ds) x n =
     (ne_eqb f.edge x (λ e. n (0, omega arith, e)))
     ∙ status_none ds x (λ c. n (contains_cons x (edges_of ds) f.edge c))
 
+-- and an edge of which nothing was decided isn't among them
 pub none_status : (ds : List Decision) (x : ℕ) → status_in ds x ≡ None → Contains (edges_of ds) x → ⊥
 none_status [] x h c = Contains-nil x c
 none_status (f ∷ ds) x h c =
@@ -57,12 +62,15 @@ none_status (f ∷ ds) x h c =
 -- ---- decisions
 
 module _ (g : Graph) (root : ℕ) (ds : List Decision) (d : Decision) where
+  -- the decisions before the last one
   abbrev pub front : Decided
   front = record { graph = g; root = root; decisions = ds }
 
+  -- and with it
   abbrev pub whole : Decided
   whole = record { graph = g; root = root; decisions = ds ++ d ∷ [] }
 
+  -- a decision on an edge that is undecided may be added
   pub decisions_push : AreDecisions front → d.edge < length g.edges → status_in ds d.edge ≡ None → AreDecisions whole
   decisions_push a h undecided = record {
     root = a.root;
@@ -84,12 +92,14 @@ module _ (g : Graph) (root : ℕ) (ds : List Decision) (d : Decision) where
       (get_or-append (edges_of ds) (d.edge ∷ []) d.edge c.0 c.1 ∙ c.2
       ∙ sym (get_or-append_seam (edges_of ds) d.edge [] d.edge))
 
+  -- the last decision is on an edge of the graph
   pub last_edge : AreDecisions whole → d.edge < length g.edges
   last_edge a =
       let n = length_push ds d in
       subst (λ (e : Decision). e.edge < length g.edges) (get_or-append_seam ds d [] d)
       (a.edges (length ds) d (omega (arith, n)))
 
+  -- the last decision may be taken away
   pub decisions_pop : AreDecisions whole → AreDecisions front
   decisions_pop a = record {
     root = a.root;
@@ -107,10 +117,12 @@ module _ (g : Graph) (root : ℕ) (ds : List Decision) (d : Decision) where
 
   -- ---- the edges that are decided present
 
+  -- a decision's edge, where it is present
   one : (b : Bool) → map (λ (e : Decision). edge_at g e.edge) (cond b (d ∷ []) []) ≡ cond b (edge_at g d.edge ∷ []) []
   one true = refl
   one false = refl
 
+  -- an edge that is decided present is added to those
   pub present_push : d.present ≡ true → present_edges whole ≡ present_edges front ++ edge_at g d.edge ∷ []
   present_push e =
       ap (map (λ (x : Decision). edge_at g x.edge)) (filter-append (λ (x : Decision). x.present) ds (d ∷ []))
@@ -118,6 +130,7 @@ module _ (g : Graph) (root : ℕ) (ds : List Decision) (d : Decision) where
       (filter (λ (x : Decision). x.present) (d ∷ []))
       ∙ ap (λ es. present_edges front ++ es) (one d.present ∙ ap (λ b. cond b (edge_at g d.edge ∷ []) []) e)
 
+  -- one that is decided absent isn't
   pub present_skip : d.present ≡ false → present_edges whole ≡ present_edges front
   present_skip e =
       ap (map (λ (x : Decision). edge_at g x.edge))
@@ -155,12 +168,14 @@ module _ (g : Graph) (root : ℕ) (ds : List Decision) (d : Decision) where
 
 -- ---- what the edges say
 
+-- to reach is to be, or to climb to
 pub reaches_is : (es : List Edge) (c d : ℕ) → ((c ≡ d) ⊎ Climb (Joins es) c d) ↔ IsOrLeads (Joins es) c d
 reaches_is es c d = (
   λ o. elim o [ inl e ↦ inl e | inr w ↦ inr (leads_from_Climb w) ],
   λ o. elim o [ inl e ↦ inl e | inr l ↦ inr (Climb-from_leads l) ],
 )
 
+-- a bypass among the graph's edges is a shortcut in it
 pub shortcut_is : (g : Graph) → HoldsBypass g.edges ↔ HoldsShortcut g
 shortcut_is g = (
   λ b. record {
@@ -176,9 +191,11 @@ shortcut_is g = (
 
 -- ---- the table of what was decided
 
+-- two numbers are equal, or they aren't
 same_or_not : (a b : ℕ) → (a ≡ b) ⊎ (a ≢ b)
 same_or_not a b = grind arith
 
+-- the table with the new decision
 pub statuses_push : (ss : List (Option Bool)) (ds : List Decision) (d : Decision) (i : ℕ) → i ≡ d.edge → i < length ss
     → status_in ds d.edge ≡ None → ((e : ℕ) → get_or ss e None ≡ status_in ds e)
     → (e : ℕ) → get_or (set ss i (Some d.present)) e None ≡ status_in (ds ++ d ∷ []) e
@@ -190,6 +207,7 @@ statuses_push ss ds d i q h undecided f e = elim (same_or_not e i) [
       get_or-set_other ss i e (Some d.present) None n ∙ f e ∙ sym (status_other ds d e (λ k. n (k ∙ sym q)))
 ]
 
+-- the table without the last one
 pub statuses_pop : (ss : List (Option Bool)) (ds : List Decision) (d : Decision) (i : ℕ) → i ≡ d.edge → i < length ss
     → (Contains (edges_of ds) d.edge → ⊥) → ((e : ℕ) → get_or ss e None ≡ status_in (ds ++ d ∷ []) e)
     → (e : ℕ) → get_or (set ss i None) e None ≡ status_in ds e
@@ -202,5 +220,6 @@ statuses_pop ss ds d i q h new f e = elim (same_or_not e i) [
 
 -- ---- a push that succeeded
 
+-- where there was room, the list is the longer one
 pub pushed : {X : Type 0} (ok : Bool) (xs a b : List X) → ok ≡ true → xs ≡ cond ok a b → xs ≡ a
 pushed ok xs a b h e = e ∙ ap (λ t. cond t a b) h

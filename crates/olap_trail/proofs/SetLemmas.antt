@@ -11,9 +11,11 @@ use Rattle.olap_bits.proofs.CatSetLemmas.{in_remove}
 use Rattle.olap_graph.proofs.RowLemmas.{has_union}
 use Rattle.olap_trail.specs.Drawing.{IsGrown, IsIn}
 
+-- nothing is in the empty set
 pub not_in_empty : (q : ℕ) → IsIn empty q → ⊥
 not_in_empty q e = let u : false ≡ true = sym (contains-empty nat_cmp q) ∙ e in cc
 
+-- in a set without k is what was in it, but k
 pub in_without : (s : FinSet nat_cmp) (k q : ℕ) → IsIn (remove s k) q ↔ ((k ≢ q) × IsIn s q)
 in_without s k q = (
   λ e. (
@@ -26,12 +28,14 @@ in_without s k q = (
   λ t. let u = ne_eqb q k (λ h. t.0 (sym h)) in in_remove s k q ∙ and_from _ _ (ap not u) t.1,
 )
 
+-- in the common part is what is in both
 pub in_meet : (s t : FinSet nat_cmp) (q : ℕ) → IsIn (intersection s t) q ↔ (IsIn s q × IsIn t q)
 in_meet s t q = (
   λ e. let h = sym (contains-intersection nat_cmp_total s t q) ∙ e in (first_true _ _ h, second_true _ _ h),
   λ o. contains-intersection nat_cmp_total s t q ∙ and_from _ _ o.0 o.1,
 )
 
+-- where x leads to the new edge's child, its set grows by what is above the parent
 pub grown_union : (old through new : FinSet nat_cmp) (x c : ℕ) → new ≡ union old through → (x ≡ c) ⊎ IsIn old c
     → IsGrown old x c through new
 grown_union old through new x c e leads d =

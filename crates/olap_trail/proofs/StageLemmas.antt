@@ -10,6 +10,7 @@ use Rattle.olap_graph.specs.Rows.{row}
 use Rattle.olap_trail.specs.Drawing.{IsGrown}
 use Rattle.olap_graph.proofs.RowLemmas.{row_other, row_same}
 
+-- below c + 1 is below c, or c
 newest : (a c : ℕ) → a < c + 1 → (a ≢ c) × (a < c) ⊎ (a ≡ c)
 newest a c h = grind arith
 
@@ -20,6 +21,7 @@ pub record AreCopied {W : ℕ} (old new : List (CatSet W)) (place count c : ℕ)
   pub kept : (i : ℕ) → i < place + count → row new i ≡ row old i
   pub grown : (x : ℕ) → x < k → IsGrown (row old (place + x)) x c through (row new (place + count + x))
 
+-- one set more is copied and grown
 pub copied_more : {W : ℕ} (old new : List (CatSet W)) (place count c k i : ℕ) (through : FinSet nat_cmp) (r : CatSet W)
     → AreCopied old new place count c through k → k < count → place + count + count ≤ length old
     → i ≡ place + count + k → IsGrown (row new (place + k)) k c through (members r)

@@ -22,6 +22,7 @@ use Rattle.olap_trail.proofs.WalkLemmas.{climb_grown, cyclic_more, grows, joins_
 
 -- ---- sets
 
+-- what is beyond a category, and the category itself, is above it
 pub above_is : (es : List Edge) (c : ℕ) (s t : FinSet nat_cmp) → IsBeyond es c s → t ≡ insert s c → IsAbove es c t
 above_is es c s t b e d = subst (λ u. IsIn u d ↔ ((c ≡ d) ⊎ Climb (Joins es) c d)) (sym e) (
   λ m. elim ((has_insert s c d).0 m) [ inl q ↦ inl q | inr i ↦ inr ((b d).0 i) ],
@@ -74,6 +75,7 @@ closes_is es c p old b none o r = (
   ],
 )
 
+-- where there was one, there is one
 pub closed_is : (es : List Edge) (c p : ℕ) (old : Bool) → old ≡ true → IsTrue old ↔ IsCyclic es
     → IsTrue old ↔ IsCyclic (more es c p)
 closed_is es c p old one o = (λ t. (cyclic_more es c p).1 (inl (o.0 t)), λ w. one)
@@ -90,6 +92,7 @@ bypassed_is es x z l r b beyond next m = (
 
 module _ {W : ℕ} {room set_room : ℕ} {es : List Edge} {place : ℕ} {rows parents : List (CatSet W)} {cycles : List Bool}
     (t : AreTables room set_room es place rows parents cycles) where
+  -- each category has a set in the table
   pub in_rows : (x : ℕ) → x < length parents → place + x < length rows
   in_rows x h = let s = t.size in omega (arith, h, s)
 
@@ -121,24 +124,28 @@ module _ {W : ℕ} {room set_room : ℕ} {es : List Edge} {place : ℕ} {rows pa
     cycles = t.cycles;
   }
 
+  -- the last sets tell what is beyond each category
   pub beyond_top : (x : ℕ) → x < length parents → IsBeyond es x (row rows (place + x))
   beyond_top x h =
       subst (λ k. IsBeyond es x (row rows (k + x))) (sym t.place)
       (subst (λ fs. IsBeyond fs x (row rows (length es * length parents + x))) (take-length es)
       (t.rows (length es) (omega arith) x h))
 
+  -- the same for a set that was read
   pub beyond_read : (x i : ℕ) (r : CatSet W) → x < length parents → i ≡ place + x → r ≡ get_or rows i r
       → IsBeyond es x (members r)
   beyond_read x i r h e q =
       let l : i < length rows = let k = in_rows x h in omega (arith, k, e) in
       subst (λ s. IsBeyond es x s) (sym (row_read rows i r l q ∙ ap (row rows) e)) (beyond_top x h)
 
+  -- a set that was read tells where edges lead from a category
   pub next_read : (x i : ℕ) (r : CatSet W) → x < length parents → i ≡ x → r ≡ get_or parents i r
       → IsNext es x (members r)
   next_read x i r h e q =
       subst (λ s. IsNext es x s) (sym (row_read parents i r (omega (arith, h, e)) q ∙ ap (row parents) e))
       (t.parents x h)
 
+  -- a mark that was read tells whether there is a cycle
   pub cycle_read : (i : ℕ) (b : Bool) → i ≡ length es → b ≡ get_or cycles i b → IsTrue b ↔ IsCyclic es
   cycle_read i b e q =
       let l : i < length cycles = let f = t.few in omega (arith, f, e) in
@@ -149,9 +156,11 @@ module _ {W : ℕ} {room set_room : ℕ} {es : List Edge} {place : ℕ} {rows pa
 
   -- ---- one edge more
 
+  -- at most n + 1 is at most n, or n + 1
   upto : (k n : ℕ) → k ≤ n + 1 → (k ≤ n) ⊎ (k ≡ n + 1)
   upto k n h = grind arith
 
+  -- the tables with one edge more
   pub tables_push : (c p new_room new_place stage : ℕ) (new_rows : List (CatSet W)) (r : CatSet W) (closes : Bool)
       (through : FinSet nat_cmp) → c < length parents → p < length parents → length es + 1 < length cycles
       → (Joins es c p → ⊥) → length cycles ≤ new_room + 1 → place + length parents + length parents ≤ length rows

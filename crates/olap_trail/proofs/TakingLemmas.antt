@@ -20,21 +20,25 @@ use Rattle.olap_trail.proofs.WalkLemmas.{joins_cases, joins_more, joins_new, mor
 
 -- ---- no edges
 
+-- of empty sets each is empty
 row_none : {W : ℕ} (x : CatSet W) → members x ≡ empty → (m i : ℕ) → row (replicate m x) i ≡ empty
 row_none x e zero i = refl
 row_none x e (suc m) zero = e
 row_none x e (suc m) (suc i) = row_none x e m i
 
+-- of false marks each is false
 mark_none : (m i : ℕ) → get_or (replicate m false) i false ≡ false
 mark_none zero i = refl
 mark_none (suc m) zero = refl
 mark_none (suc m) (suc i) = mark_none m i
 
+-- without edges there is no walk
 no_climb : (es : List Edge) (x y : ℕ) → es ≡ [] → Climb (Joins es) x y → ⊥
 no_climb es x y e (climb {z = z} j s) =
     Contains-nil (record { child = x; parent = z })
     (subst (λ fs. Joins fs x z) e j)
 
+-- the tables of no edges
 pub tables_none : {W : ℕ} (room set_room n stages : ℕ) (x : CatSet W) (rows parents : List (CatSet W))
     (cycles : List Bool) → IsOfWidth W → n ≤ 64 * W → members x ≡ empty → 0 < stages → stages ≤ room + 1
     → stages * n ≤ set_room → n ≤ length rows → ((i : ℕ) → row rows i ≡ empty) → parents ≡ replicate n x
@@ -90,6 +94,7 @@ module _ (es : List Edge) (c p : ℕ) where
 module _ {W : ℕ} {room set_room place : ℕ} (es : List Edge) (c p : ℕ) {rows parents : List (CatSet W)}
     {cycles : List Bool}
     (t : AreTables room set_room (more es c p) place rows parents cycles) where
+  -- there is one edge more
   size : length (more es c p) ≡ length es + 1
   size = length_push es (record { child = c; parent = p })
 
@@ -100,6 +105,7 @@ module _ {W : ℕ} {room set_room place : ℕ} (es : List Edge) (c p : ℕ) {row
       t.differ j.0 (length es) e j.1 (omega (arith, size))
       (get_or-append es (e ∷ []) e j.0 j.1 ∙ j.2 ∙ sym (get_or-append_seam es e [] e))
 
+  -- the ends of the last edge are categories
   pub last_within : (c < length parents) × (p < length parents)
   last_within = t.within c p (joins_new es c p)
 
@@ -112,6 +118,7 @@ module _ {W : ℕ} {room set_room place : ℕ} (es : List Edge) (c p : ℕ) {row
       let e : (length es + 1) * length parents ≡ length es * length parents + length parents = grind arith in
       omega (arith, q, g, e, h)
 
+  -- the tables without the last edge
   pub tables_pop : (new_room new_place : ℕ) (r : CatSet W) → length cycles ≤ new_room + 1
       → new_place + length parents ≡ place → members r ≡ remove (row parents c) p
       → AreTables new_room set_room es new_place rows (set parents c r) cycles

@@ -10,6 +10,7 @@ pub then_climb : {R : ℕ → ℕ → Type 0} {x y z : ℕ} → Climb R x z → 
 then_climb {R} {x} c (inl e) = subst (λ w. Climb R x w) e c
 then_climb c (inr d) = Climb-append c (Climb-steps d)
 
+-- a walk or none is some steps
 pub or_steps : {R : ℕ → ℕ → Type 0} {x y : ℕ} → (x ≡ y) ⊎ Climb R x y → Steps R x y
 or_steps {R} {x} (inl e) = subst (λ w. Steps R x w) e here
 or_steps (inr c) = Climb-steps c
@@ -23,13 +24,16 @@ module _ (es : List Edge) (c p : ℕ) where
   abbrev pub Grows : ℕ → ℕ → Type 0
   Grows x y = Climb (Joins es) x y ⊎ (((x ≡ c) ⊎ Climb (Joins es) x c) × ((p ≡ y) ⊎ Climb (Joins es) p y))
 
+  -- an edge of the list is one of the longer list
   pub joins_more : (x y : ℕ) → Joins es x y → Joins more x y
   joins_more x y h =
       Contains-append_left es ((record { child = c; parent = p }) ∷ []) (record { child = x; parent = y }) h
 
+  -- so is the new edge
   pub joins_new : Joins more c p
   joins_new = Contains-push es (record { child = c; parent = p })
 
+  -- an edge of the longer list is one of the list, or the new one
   pub joins_cases : (x y : ℕ) → Joins more x y → Joins es x y ⊎ ((x ≡ c) × (p ≡ y))
   joins_cases x y h = elim (Contains-push_cases es (record { child = c; parent = p })
       (record { child = x; parent = y }) h) [
@@ -37,10 +41,12 @@ module _ (es : List Edge) (c p : ℕ) where
         | inr e ↦ inr (ap (λ (z : Edge). z.child) (sym e), ap (λ (z : Edge). z.parent) e)
       ]
 
+  -- steps along the list are steps along the longer one
   steps_more : {x y : ℕ} → Steps (Joins es) x y → Steps (Joins more) x y
   steps_more here = here
   steps_more (step {x = x} {y = y} j s) = step (joins_more x y j) (steps_more s)
 
+  -- and so is a walk
   pub climb_more : {x y : ℕ} → Climb (Joins es) x y → Climb (Joins more) x y
   climb_more {x} (climb {z = z} j s) = climb (joins_more x z j) (steps_more s)
 
@@ -63,6 +69,7 @@ module _ (es : List Edge) (c p : ℕ) where
     ]
   ]
 
+  -- an edge and then steps
   grows_steps : {x z y : ℕ} → Joins more x z → Steps (Joins more) z y → Grows x y
   grows_steps {x} {z} j here = first x z z j (inl refl)
   grows_steps {x} {z} {y} j (step k s) = first x z y j (inr (grows_steps k s))
@@ -71,6 +78,7 @@ module _ (es : List Edge) (c p : ℕ) where
   pub grows : {x y : ℕ} → Climb (Joins more) x y → Grows x y
   grows (climb j s) = grows_steps j s
 
+  -- and the other way round
   pub climb_grown : {x y : ℕ} → Grows x y → Climb (Joins more) x y
   climb_grown (inl w) = climb_more w
   climb_grown {x} {y} (inr w) = Steps-climb (or_steps (lift w.0)) (climb joins_new (or_steps (lift w.1)))
