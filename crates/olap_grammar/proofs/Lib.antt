@@ -3,6 +3,7 @@ pub mod Levels
 mod Complete
 pub mod Sound
 mod Hom
+mod TokenLemmas
 pub mod FewTokens
 pub mod CutComplete
 pub mod CutSound

@@ -1,0 +1,156 @@
+-- Nodes and open brackets, token by token.
+--     Adds    behind these tokens nodes are counted as by themselves
+--     Goes    behind some tokens so many more brackets may be opened
+use Rattle.std.proofs.Common.{◌≡◌, ◌+◌, ◌++◌, ◌∷◌, ℕ, zero, suc, Bool, true, false, cond, List, [], nat_lt, Some, refl, arith}
+use Rattle.std.proofs.lemmas.Bool.{ltb-false}
+use Rattle.olap_numerals.specs.Comparing.{Op}
+use Rattle.olap_base.specs.Limits.{most_depth}
+use Rattle.olap_grammar.specs.Brackets.{opens_over}
+use Rattle.olap_grammar.specs.Grammar.{comparing, digits_of}
+use Rattle.olap_grammar.specs.Nodes.{compares, nodes_behind, nodes_of}
+use Rattle.olap_grammar.specs.declared.tokens.Joint.{Joint}
+use Rattle.olap_grammar.specs.declared.tokens.Token.{Token}
+use Rattle.olap_grammar.specs.declared.tokens.Token.TheVariants as token
+use Rattle.olap_grammar.specs.declared.tokens.Mark.TheVariants as mark
+use Rattle.olap_grammar.specs.declared.tokens.Version.{Version}
+use Rattle.olap_grammar.specs.declared.tokens.Version.TheVariants as version
+
+-- ---- nodes
+
+-- none of these marks compares, so what stands behind is counted by itself
+pub joint_node : (v : Version) (j : Joint) (us : List Token) → nodes_of v (token.Mark (mark.Joint j) ∷ us)
+    ≡ 1 + nodes_of v us
+unfolding nodes_behind
+joint_node version.One j us = refl
+joint_node version.Two j us = refl
+
+-- a `!` is a node
+pub not_node : (v : Version) (us : List Token) → nodes_of v (token.Mark mark.Not ∷ us) ≡ 1 + nodes_of v us
+unfolding nodes_behind
+not_node version.One us = refl
+not_node version.Two us = refl
+
+-- and a word
+pub word_node : (v : Version) (w : List ℕ) (us : List Token) → nodes_of v (token.Word w ∷ us) ≡ 1 + nodes_of v us
+unfolding nodes_behind
+word_node version.One w us = refl
+word_node version.Two w us = refl
+
+-- an open bracket is none
+pub open_none : (v : Version) (us : List Token) → nodes_of v (token.Mark mark.Open ∷ us) ≡ nodes_of v us
+unfolding nodes_behind
+open_none version.One us = omega arith
+open_none version.Two us = omega arith
+
+-- nor a closed one
+pub close_none : (v : Version) (us : List Token) → nodes_of v (token.Mark mark.Close ∷ us) ≡ nodes_of v us
+unfolding nodes_behind
+close_none version.One us = omega arith
+close_none version.Two us = omega arith
+
+-- nor a comma
+pub comma_none : (v : Version) (us : List Token) → nodes_of v (token.Mark mark.Comma ∷ us) ≡ nodes_of v us
+unfolding nodes_behind
+comma_none version.One us = omega arith
+comma_none version.Two us = omega arith
+
+-- no tokens have none
+pub no_nodes : (v : Version) → nodes_of v [] ≡ 0
+unfolding nodes_behind
+no_nodes v = refl
+
+-- behind these tokens nodes are counted as by themselves
+abbrev pub Adds : Version → List Token → Type 0
+Adds v ts = (us : List Token) → nodes_of v (ts ++ us) ≡ nodes_of v ts + nodes_of v us
+
+-- what stands behind three tokens is counted by itself where the last doesn't compare
+pub three_add : (v : Version) (t u w : Token) → compares v w ≡ false → Adds v (t ∷ u ∷ w ∷ [])
+unfolding nodes_behind
+three_add v t u w e us = rw e (omega arith)
+
+-- nothing is compared with what comes behind a string
+pub quoted_ends : (v : Version) (k : List ℕ) → compares v (token.Quoted k) ≡ false
+quoted_ends version.One k = refl
+quoted_ends version.Two k = refl
+
+-- nor behind a number
+pub number_ends : (v : Version) (t : Token) (digits : List ℕ) → digits_of t ≡ Some digits → compares v t ≡ false
+number_ends version.One (token.Word w) digits e = refl
+number_ends version.Two (token.Word w) digits e = refl
+number_ends version.One (token.Signed w) digits e = refl
+number_ends version.Two (token.Signed w) digits e = refl
+number_ends v (token.Quoted k) digits e = absurd cc
+number_ends v (token.Mark m) digits e = absurd cc
+
+-- ---- brackets
+
+-- behind some tokens as many more may be opened, and with the rest too many are never open
+pub record Goes (room : ℕ) (rest : List Token) : Type 0 where
+  pub opened : ℕ
+  pub closed : ℕ
+  pub left : opened + room ≡ closed + most_depth
+  pub on : opens_over opened closed rest ≡ false
+
+-- behind a `(` there is less room
+pub opens : (room o c : ℕ) (rest : List Token) → o + room ≡ c + most_depth
+    → opens_over o c (token.Mark mark.Open ∷ rest) ≡ false
+    → (less : ℕ) × (room ≡ suc less) × (o + 1 + less ≡ c + most_depth) × (opens_over (o + 1) c rest ≡ false)
+unfolding opens_over
+opens room o c rest e h = go room (nat_lt (c + most_depth) (o + 1)) refl e h
+  where
+    go : (r : ℕ) (b : Bool) → nat_lt (c + most_depth) (o + 1) ≡ b → o + r ≡ c + most_depth
+        → cond b true (opens_over (o + 1) c rest) ≡ false
+        → (less : ℕ) × (r ≡ suc less) × (o + 1 + less ≡ c + most_depth) × (opens_over (o + 1) c rest ≡ false)
+    go r true p f g = absurd (cc)
+    go zero false p f g = let l = ltb-false (c + most_depth) (o + 1) p in absurd (omega (arith, l, f))
+    go (suc less) false p f g = (less, refl, omega (arith, f), g)
+
+-- behind a `)` there is more room
+pub closes : (room less o c : ℕ) (rest : List Token) → room ≡ suc less → o + less ≡ c + most_depth
+    → opens_over o c (token.Mark mark.Close ∷ rest) ≡ false → Goes room rest
+unfolding opens_over
+closes room less o c rest r e h = record { opened = o; closed = c + 1; left = omega (arith, r, e); on = h }
+
+-- other tokens change nothing
+pub joint_passes : (o c : ℕ) (j : Joint) (rest : List Token) → opens_over o c (token.Mark (mark.Joint j) ∷ rest) ≡ false
+    → opens_over o c rest ≡ false
+unfolding opens_over
+joint_passes o c j rest h = h
+
+-- a comma opens nothing
+pub comma_passes : (o c : ℕ) (rest : List Token) → opens_over o c (token.Mark mark.Comma ∷ rest) ≡ false
+    → opens_over o c rest ≡ false
+unfolding opens_over
+comma_passes o c rest h = h
+
+-- nor does a `!`
+pub not_passes : (o c : ℕ) (rest : List Token) → opens_over o c (token.Mark mark.Not ∷ rest) ≡ false
+    → opens_over o c rest ≡ false
+unfolding opens_over
+not_passes o c rest h = h
+
+-- nor a word
+pub word_passes : (o c : ℕ) (w : List ℕ) (rest : List Token) → opens_over o c (token.Word w ∷ rest) ≡ false
+    → opens_over o c rest ≡ false
+unfolding opens_over
+word_passes o c w rest h = h
+
+-- nor a word with a string
+pub equality_passes : (o c : ℕ) (w k : List ℕ) (rest : List Token)
+    → opens_over o c (token.Word w ∷ token.Mark mark.Equal ∷ token.Quoted k ∷ rest) ≡ false
+    → opens_over o c rest ≡ false
+unfolding opens_over
+equality_passes o c w k rest h = h
+
+-- nor one with a number
+pub number_passes : (o c : ℕ) (op : Op) (t : Token) (w digits : List ℕ) (rest : List Token) → digits_of t ≡ Some digits
+    → opens_over o c (token.Word w ∷ token.Mark (comparing op) ∷ t ∷ rest) ≡ false → opens_over o c rest ≡ false
+unfolding opens_over
+number_passes o c Op.Equal (token.Word u) w digits rest e h = h
+number_passes o c Op.Equal (token.Signed u) w digits rest e h = h
+number_passes o c Op.Less (token.Word u) w digits rest e h = h
+number_passes o c Op.Less (token.Signed u) w digits rest e h = h
+number_passes o c Op.AtMost (token.Word u) w digits rest e h = h
+number_passes o c Op.AtMost (token.Signed u) w digits rest e h = h
+number_passes o c op (token.Quoted k) w digits rest e h = absurd cc
+number_passes o c op (token.Mark m) w digits rest e h = absurd cc
