@@ -85,7 +85,7 @@ dec_numbered i x d op n = dec_iff (λ t. (t.0, t.1, t.2.0, t.2.1)) (λ t. (t.0, 
     (dec_member i d (λ y. Reaches i x y × IsNumbered (name_of i y) op n)
     (λ y. dec_and (decide_reaches i x y) (dec_number (name_of i y) op n)))
 
--- a path begins with an edge to its second category
+-- a path goes by a parent of its first category, and on from there
 path_from : (i : Instance) (x c : ℕ) (cs : List ℕ) → HasPath i x (c ∷ cs) →
     (y : ℕ) × Contains (parents_of i x) y × ((category_of i y ≡ c) × HasPath i y cs)
 path_from i x c cs ([], h, q) = absurd (cc)

@@ -42,7 +42,7 @@ module _ (s : Schema) (q : Formula) (fresh : List ℕ) (kinds : HasKinds s q) (f
   unfolding new_number
   numeral_is name a e = ap (λ o. canonical (representative (numbers s q d) (unwrap_or o (pos 0)))) e
 
-  -- and the number stands for the old one
+  -- and that number is one of those that names are made of
   stands : (name : List ℕ) (a : ℤ) → number_of name ≡ Some a → IsNumberName (numbers s q d) (new_number a)
   unfolding new_number
   stands name a e = (representatives_answer_alike (numbers s q d) a (λ n c. (kinds.numbers d n c).1)

@@ -66,7 +66,7 @@ pub seen : Instance → ℕ → Edge → Bool
 seen i x e = list_any (λ y. (category_of i y == e.child) && list_any (λ z. category_of i z == e.parent)
     (parents_of i y)) (members_above i x)
 
--- the two members of which the edge is seen
+-- the two members between which the edge is seen
 pub record Seen (i : Instance) (x : ℕ) (e : Edge) : Type 0 where
   pub child : ℕ
   pub parent : ℕ
@@ -161,7 +161,7 @@ last_step {R} (step {x = x} {y = z} {z = y} r s) = elim (last_step s) [
   | inr t ↦ inr (t.0, step r t.1, t.2)
 ]
 
--- one more that isn't in a list without repeats
+-- a list without repeats stays so with one more that isn't in it
 pub Distinct-push : {A : Type 0} (xs : List A) (y : A) → Distinct xs → (Contains xs y → ⊥) → Distinct (xs ++ y ∷ [])
 Distinct-push [] y d n = (Contains-nil y, tt)
 Distinct-push (x ∷ xs) y d n = (
