@@ -3,6 +3,7 @@ mod NowhereLemmas
 mod AskingLemmas
 mod CounterexampleLemmas
 mod DecisionLemmas
+mod DecideLemmas
 mod AgreementLemmas
 mod SightLemmas
 mod FindingLemmas

@@ -1,155 +1,101 @@
-use Rattle.std.proofs.Common.{◌<◌, ◌≤◌, ◌∙◌, ap, true≢false, get_or, length, refl, sym, subst, arith}
-use Rattle.std.proofs.lemmas.List.{length-set}
+use Rattle.std.proofs.Common.{List, ◌≤◌, ◌∙◌, ap, true≢false, get_or, length, refl, sym, subst, arith}
 use Rattle.olap_schema.specs.Schemas.{schema_of}
-use Rattle.olap_summ.specs.Decisions.{HasSizesOf, asked_by}
-use Rattle.olap_summ.proofs.DecisionLemmas.{all_asked, answer_is_no, answer_is_yes, decision_kept, found_here, none_more, one_asked, shows_no, sized_for, those_back}
+use Rattle.olap_summ.specs.Decisions.{HasSizesOf, IsAskedOf, asked_by}
+use Rattle.olap_summ.specs.declared.deciding.Asked.{Asked}
+use Rattle.olap_summ.proofs.DecideLemmas.{IsKept, IsShown, IsTurn, kept, put_back, turn, with_searches}
+use Rattle.olap_summ.proofs.DecisionLemmas.{all_asked, answer_is_yes, sized_for}
 use Rattle.olap_summ.proofs.deciding.Decision.decide.Goals as goal
+use Rattle.olap_summ.proofs.deciding.Decision.decide.Goals.{After-asked-item, After-first, At-searches, Then-first}
+
+-- the next search is one for the schema and its question
+asked : (c : After-asked-item) → IsAskedOf (schema_of c.args.schema.now) (asked_by c.args.questions.now)
+    (get_or c.searches.asked-items c.searches.asked-index c.asked-item.result)
+asked c = c.searches.invariant.those.asked c.searches.asked-index c.asked-item.result (omega arith)
 
 pub first-requires-clause-made : goal.first-requires-clause-made
-first-requires-clause-made c =
-    let k = c.searches.asked-index in
-    let within : k < length c.searches.asked-items = omega arith in
-    (c.searches.invariant.those.asked k c.asked-item.result within).made
+first-requires-clause-made c = (asked (goal.at.first-requires-clause-made c).After-asked-item).made
 
 pub first-requires-clause-sizes : goal.first-requires-clause-sizes
 first-requires-clause-sizes c =
-    let s = schema_of c.args.schema.now in
-    let q = c.args.questions.now in
-    let old = c.args.self.now in
-    let xs = c.searches.asked-items in
-    let k = c.searches.asked-index in
-    let a = c.asked-item.result in
-    let within : k < length xs = omega arith in
-    sized_for s q old (get_or xs k a) c.searches.into c.requires.made (c.searches.invariant.those.asked k a within)
-    (subst (HasSizesOf old) (sym c.searches.invariant.stays) c.requires.sizes)
+    sized_for (schema_of c.args.schema.now) c.args.questions.now c.args.self.now _ c.searches.into c.requires.made
+    (asked (goal.at.first-requires-clause-sizes c).After-asked-item)
+    (subst (HasSizesOf c.args.self.now) (sym c.searches.invariant.stays) c.requires.sizes)
+
+-- the searches as it comes back
+abbrev after : After-first → List Asked
+after c = put_back c.searches.asked-items c.searches.asked-index c.asked-item.result c.first.new.self
+
+-- it stands in its place again
+back : (c : After-first) → IsTurn (schema_of c.args.schema.now) c.args.questions.now c.args.self.now
+    c.searches.asked-index (get_or c.searches.asked-items c.searches.asked-index c.asked-item.result).search (after c)
+back c =
+    turn (schema_of c.args.schema.now) c.args.questions.now c.args.self.now c.searches.asked-items
+    c.searches.asked-index c.asked-item.result c.first.new.self c.requires.made c.searches.invariant.those
+    c.searches.invariant.none (omega arith) (c.searches.auto.asked-items ∙ c.deref_mut-asked-items.ensures.len)
+    c.first.ensures.made c.first.ensures.root c.first.ensures.candidates
 
 pub searches-preserved : goal.searches-preserved
 searches-preserved c =
-    let s = schema_of c.args.schema.now in
-    let q = c.args.questions.now in
-    let old = c.args.self.now in
-    let xs = c.searches.asked-items in
-    let k = c.searches.asked-index in
-    let a = c.asked-item.result in
-    let within : k < length xs = omega arith in
+    let b = back (goal.at.searches-preserved c).After-first in
     record {
-      those = one_asked s (asked_by q) old.searches.items xs k a c.first.new.self c.searches.invariant.those within
-          c.first.ensures.made c.first.ensures.root c.first.ensures.candidates;
-      none = none_more s (asked_by q) old.searches.items xs k a c.searches.invariant.those within
-          (c.first.ensures.none c.if-first.false) c.searches.invariant.none;
+      those = b.those;
+      none = b.none (c.first.ensures.none c.if-first.false);
       stays = c.first.ensures.stays c.if-first.false ∙ c.searches.invariant.stays;
     }
 
+-- it found something, and the decision shows that
+found : (c : Then-first) → IsShown (schema_of c.args.schema.now) c.args.questions.now c.args.self.now
+    (with_searches c.args.self.now (after (goal.at.Then-first c).After-first)) c.first.new.into
+found c = (back (goal.at.Then-first c).After-first).some c.first.new.into (c.first.ensures.some c.if-first.true)
+
 pub returns-then-first-clause-no : goal.returns-then-first-clause-no
-returns-then-first-clause-no c =
-    let s = schema_of c.args.schema.now in
-    let q = c.args.questions.now in
-    let old = c.args.self.now in
-    let xs = c.searches.asked-items in
-    let k = c.searches.asked-index in
-    let a = c.asked-item.result in
-    let within : k < length xs = omega arith in
-    let those = those_back s (asked_by q) old.searches.items _ old.searches.len
-    (length-set xs k _ ∙ c.searches.auto.asked-items ∙ c.deref_mut-asked-items.ensures.len)
-    (one_asked s (asked_by q) old.searches.items xs k a c.first.new.self c.searches.invariant.those within
-    c.first.ensures.made c.first.ensures.root c.first.ensures.candidates) in
-    let first = found_here s q old xs _ k a c.first.new.into c.requires.made c.searches.invariant.those within
-    c.searches.invariant.none (c.first.ensures.some c.if-first.true) those in (
-      λ e. absurd (true≢false e),
-      λ z. absurd (answer_is_no s q old _ c.constraints-valid.ensures.valid c.requires.made first z),
-    )
+returns-then-first-clause-no c = (
+  λ e. absurd (true≢false e),
+  λ z. absurd ((found (goal.at.returns-then-first-clause-no c).Then-first).isnt z),
+)
 
 pub returns-then-first-clause-yes : goal.returns-then-first-clause-yes
-returns-then-first-clause-yes c =
-    let s = schema_of c.args.schema.now in
-    let q = c.args.questions.now in
-    let old = c.args.self.now in
-    let xs = c.searches.asked-items in
-    let k = c.searches.asked-index in
-    let a = c.asked-item.result in
-    let within : k < length xs = omega arith in
-    let those = those_back s (asked_by q) old.searches.items _ old.searches.len
-    (length-set xs k _ ∙ c.searches.auto.asked-items ∙ c.deref_mut-asked-items.ensures.len)
-    (one_asked s (asked_by q) old.searches.items xs k a c.first.new.self c.searches.invariant.those within
-    c.first.ensures.made c.first.ensures.root c.first.ensures.candidates) in
-    let first = found_here s q old xs _ k a c.first.new.into c.requires.made c.searches.invariant.those within
-    c.searches.invariant.none (c.first.ensures.some c.if-first.true) those in
-    λ t. shows_no s q old _ c.constraints-valid.ensures.valid c.requires.made first
+returns-then-first-clause-yes c = λ t. (found (goal.at.returns-then-first-clause-yes c).Then-first).counterexample
 
 pub returns-then-first-clause-sizes : goal.returns-then-first-clause-sizes
-returns-then-first-clause-sizes c =
-    let is = c.requires.made in
-    let least = c.first.ensures.some c.if-first.true in
-    record { edges = least.sized.edge_count ∙ sym is.edges; names = least.sized.name_count ∙ sym is.categories }
+returns-then-first-clause-sizes c = (found (goal.at.returns-then-first-clause-sizes c).Then-first).sizes
 
 pub returns-then-first-clause-made : goal.returns-then-first-clause-made
-returns-then-first-clause-made c =
-    let s = schema_of c.args.schema.now in
-    let q = c.args.questions.now in
-    let old = c.args.self.now in
-    let xs = c.searches.asked-items in
-    let k = c.searches.asked-index in
-    let a = c.asked-item.result in
-    let within : k < length xs = omega arith in
-    let those = those_back s (asked_by q) old.searches.items _ old.searches.len
-    (length-set xs k _ ∙ c.searches.auto.asked-items ∙ c.deref_mut-asked-items.ensures.len)
-    (one_asked s (asked_by q) old.searches.items xs k a c.first.new.self c.searches.invariant.those within
-    c.first.ensures.made c.first.ensures.root c.first.ensures.candidates) in
-    decision_kept s q old _ c.requires.made those refl refl
+returns-then-first-clause-made c = (found (goal.at.returns-then-first-clause-made c).Then-first).kept.made
 
 pub returns-then-first-clause-candidates : goal.returns-then-first-clause-candidates
 returns-then-first-clause-candidates c =
-    let s = schema_of c.args.schema.now in
-    let q = c.args.questions.now in
-    let old = c.args.self.now in
-    let xs = c.searches.asked-items in
-    let k = c.searches.asked-index in
-    let a = c.asked-item.result in
-    let within : k < length xs = omega arith in
-    let those = those_back s (asked_by q) old.searches.items _ old.searches.len
-    (length-set xs k _ ∙ c.searches.auto.asked-items ∙ c.deref_mut-asked-items.ensures.len)
-    (one_asked s (asked_by q) old.searches.items xs k a c.first.new.self c.searches.invariant.those within
-    c.first.ensures.made c.first.ensures.root c.first.ensures.candidates) in
-    those.names
+    (found (goal.at.returns-then-first-clause-candidates c).Then-first).kept.candidates
+
+-- the decision with the searches that were asked so far
+so_far : (c : At-searches) → IsKept (schema_of c.args.schema.now) c.args.questions.now c.args.self.now
+    (with_searches c.args.self.now c.searches.asked-items)
+so_far c =
+    kept (schema_of c.args.schema.now) c.args.questions.now c.args.self.now c.searches.asked-items c.requires.made
+    c.searches.invariant.those (c.searches.auto.asked-items ∙ c.deref_mut-asked-items.ensures.len)
 
 pub returns-clause-no : goal.returns-clause-no
 returns-clause-no c =
     let s = schema_of c.args.schema.now in
     let q = c.args.questions.now in
-    let old = c.args.self.now in
-    let xs = c.searches.asked-items in
+    let d = c.args.self.now in
     let same = ap length c.deref_mut-asked-items.ensures.value in
-    let many : length old.searches.items ≤ c.searches.asked-index = omega arith in (
-      λ e. answer_is_yes s q old c.constraints-valid.ensures.valid c.candidates_exist.ensures c.requires.made
-          (all_asked s q old c.searches.asked-index c.requires.made c.searches.invariant.none many),
+    let many : length d.searches.items ≤ c.searches.asked-index = omega arith in (
+      λ e. answer_is_yes s q d c.constraints-valid.ensures.valid c.candidates_exist.ensures c.requires.made
+          (all_asked s q d c.searches.asked-index c.requires.made c.searches.invariant.none many),
       λ z. refl,
     )
 
 pub returns-clause-yes : goal.returns-clause-yes
-returns-clause-yes c =
-    λ t. absurd (true≢false (sym t))
+returns-clause-yes c = λ t. absurd (true≢false (sym t))
 
 pub returns-clause-sizes : goal.returns-clause-sizes
 returns-clause-sizes c =
-    let sizes = subst (HasSizesOf c.args.self.now) (sym c.searches.invariant.stays) c.requires.sizes in
-    record { edges = sizes.edges; names = sizes.names }
+    (so_far (goal.at.returns-clause-sizes c).At-searches).sizes c.searches.into
+    (subst (HasSizesOf c.args.self.now) (sym c.searches.invariant.stays) c.requires.sizes)
 
 pub returns-clause-made : goal.returns-clause-made
-returns-clause-made c =
-    let s = schema_of c.args.schema.now in
-    let q = c.args.questions.now in
-    let old = c.args.self.now in
-    let xs = c.searches.asked-items in
-    let those = those_back s (asked_by q) old.searches.items xs old.searches.len
-    (c.searches.auto.asked-items ∙ c.deref_mut-asked-items.ensures.len) c.searches.invariant.those in
-    decision_kept s q old _ c.requires.made those refl refl
+returns-clause-made c = (so_far (goal.at.returns-clause-made c).At-searches).made
 
 pub returns-clause-candidates : goal.returns-clause-candidates
-returns-clause-candidates c =
-    let s = schema_of c.args.schema.now in
-    let q = c.args.questions.now in
-    let old = c.args.self.now in
-    let xs = c.searches.asked-items in
-    let those = those_back s (asked_by q) old.searches.items xs old.searches.len
-    (c.searches.auto.asked-items ∙ c.deref_mut-asked-items.ensures.len) c.searches.invariant.those in
-    those.names
+returns-clause-candidates c = (so_far (goal.at.returns-clause-candidates c).At-searches).candidates
