@@ -1,29 +1,21 @@
-use Rattle.std.proofs.Common.{subst, ◌∙◌}
-use Rattle.std.specs.Prelude.{IfOk, IfSome}
+use Rattle.std.proofs.Common.{◌∙◌}
 use Rattle.olap_ast.specs.Trees.{formula_of}
 use Rattle.olap_frozen.specs.LeastFound.{IsLeastFound}
-use Rattle.olap_dimsat.specs.Searches.{found_in}
 use Rattle.olap_schema.specs.Schemas.{schema_of}
 use Rattle.olap_summ.proofs.AskingLemmas.{least_is_one, none_named, some_named}
 use Rattle.olap_summ.proofs.asking.least_found.Goals as goal
 
 pub returns-clause-some : goal.returns-clause-some
 returns-clause-some c =
-    let s = schema_of c.args.schema.now in
-    let q = formula_of c.args.question.now in
-    let search = c.in_ok-search.search in
-    some_named c.first_in-frozen.result c.named.result search.candidates c.into_candidates-candidates.result
-    (IsLeastFound s q c.args.root.0) (c.into_candidates-candidates.ensures ∙ c.first_in-frozen.ensures.candidates)
-    (subst (λ r. IfOk c.first_in-frozen.result (λ o. IfSome o (λ f. IsLeastFound s q r (found_in search f))))
-    c.in_ok-search.ensures.root c.first_in-frozen.ensures.some)
-    c.named.ensures.some c.named.ensures.candidates
+    some_named (IsLeastFound (schema_of c.args.schema.now) (formula_of c.args.question.now)) c.in_ok-search.search
+    c.args.root.0 c.into_candidates-candidates.result c.first_in-frozen.result c.named.result
+    c.in_ok-search.ensures.root (c.into_candidates-candidates.ensures ∙ c.first_in-frozen.ensures.candidates)
+    c.first_in-frozen.ensures.some c.named.ensures.some c.named.ensures.candidates
 
 pub returns-clause-none : goal.returns-clause-none
 returns-clause-none c =
     let s = schema_of c.args.schema.now in
     let q = formula_of c.args.question.now in
-    let search = c.in_ok-search.search in
-    let made = c.in_ok-search.ensures.made in
-    none_named s q search.root.0 c.args.root.0 c.in_ok-search.ensures.root search.candidates made.valid.hierarchy
-    made.task.candidates c.first_in-frozen.result c.first_in-frozen.ensures.none c.named.result c.named.ensures.none
+    none_named s q c.in_ok-search.search c.args.root.0 c.first_in-frozen.result c.named.result
+    c.in_ok-search.ensures.made c.in_ok-search.ensures.root c.first_in-frozen.ensures.none c.named.ensures.none
     (least_is_one s q c.args.root.0 c.named.result (returns-clause-some c))
