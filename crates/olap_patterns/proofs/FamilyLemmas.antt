@@ -111,7 +111,8 @@ module _ (n : ℕ) where
   ends_of [] o m (x ∷ xs) a b = absurd a
   ends_of (d ∷ ds) o m [] a b = absurd a
   ends_of (d ∷ ds) o m (x ∷ xs) a b =
-      ((All-head IsOrdered d ds o, a.0), ends_of ds (All-tail IsOrdered d ds o) (left m x) xs a.1 (subst IsBadBy (sym (next_is m x.patterns (patterns_of xs))) b))
+      let rest = subst IsBadBy (sym (next_is m x.patterns (patterns_of xs))) b in
+      ((All-head IsOrdered d ds o, a.0), ends_of ds (All-tail IsOrdered d ds o) (left m x) xs a.1 rest)
 
   of_ends : (ds : List (List Family)) (m : List (CatSet 4)) (xs : List Family)
       → Ends In bottom after left IsBadBy ds m xs → AreOf ds xs × IsBadBy (m ++ patterns_of xs)
@@ -133,8 +134,8 @@ module _ (n : ℕ) where
 
   -- one dimension more
   pub greedy_next : (all : List (List Family)) (i : ℕ) (done : List (CatSet 4)) (first : List Family) (d : List Family)
-      (us : List (CatSet 4)) (x : Family) → i < length all → get_or all i d ≡ d → IsOrdered d → AreUnions (drop (i + 1) all) us
-      → Contains d x
+      (us : List (CatSet 4)) (x : Family) → i < length all → get_or all i d ≡ d → IsOrdered d
+      → AreUnions (drop (i + 1) all) us → Contains d x
       → ((y : Family) → Contains d y → CanBeBad n (done ++ y.patterns ∷ us) (all_of n) → x.bottom.0 ≤ y.bottom.0)
       → ((xs : List Family) → GreedyOf (drop i all) done xs → GreedyOf all [] (first ++ xs))
       → (xs : List Family) → GreedyOf (drop (i + 1) all) (done ++ x.patterns ∷ []) xs
@@ -154,14 +155,15 @@ module _ (n : ℕ) where
           (λ m v. (v.0, v.1, by_unions n (drop (i + 1) all) us u end.0 t.0 (bit_and m v.0) v.2)) (all_of n) b) in
           omega arith
 
-  pub are_first : (all : List (List Family)) → All IsOrdered all → (i : ℕ) (done us : List (CatSet 4)) (first : List Family) → length all ≤ i
-      → AreUnions (drop i all) us → CanBeBad n (done ++ us) (all_of n)
+  -- after the last dimension these are the first families
+  pub are_first : (all : List (List Family)) → All IsOrdered all → (i : ℕ) (done us : List (CatSet 4))
+      (first : List Family) → length all ≤ i → AreUnions (drop i all) us → CanBeBad n (done ++ us) (all_of n)
       → ((xs : List Family) → GreedyOf (drop i all) done xs → GreedyOf all [] (first ++ xs)) → AreFirst n all first
   are_first all o i done us first l u b h =
       let none = nothing_left all i l in
       let over = no_sets us (subst (λ ds. AreUnions ds us) none u) in
-      let g = subst (GreedyOf all []) (nothing_is first)
-      (h [] (subst (λ ds. GreedyOf ds done []) (sym none) (subst IsBadBy (ap (λ w. done ++ w) over ∙ nothing_is done) b))) in
+      let bad = subst IsBadBy (ap (λ w. done ++ w) over ∙ nothing_is done) b in
+      let g = subst (GreedyOf all []) (nothing_is first) (h [] (subst (λ ds. GreedyOf ds done []) (sym none) bad)) in
       let e = of_ends all [] first (greedy_ends In bottom after left IsBadBy all [] first g) in record {
         are_of = e.0;
         are_bad = e.1;
@@ -182,8 +184,8 @@ module _ (n : ℕ) where
 -- ---- steps of loops
 
 -- of ordered families none from this place on has a bottom category before this one's
-pub first_by_order : (P : Family → Type 0) (families : List Family) (k : ℕ) (x : Family) → IsOrdered families → k < length families
-    → x ≡ get_or families k x
+pub first_by_order : (P : Family → Type 0) (families : List Family) (k : ℕ) (x : Family) → IsOrdered families
+    → k < length families → x ≡ get_or families k x
     → ((j : ℕ) (f : Family) → j < k → get_or families j f ≡ f → P f → ⊥)
     → (f : Family) → Contains families f → P f → x.bottom.0 ≤ f.bottom.0
 first_by_order P families k x ordered l e none f c p = go (which c.0 k)

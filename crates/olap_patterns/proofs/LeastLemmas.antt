@@ -1,4 +1,5 @@
--- The least of what is chosen, dimension by dimension: in each the least of those with which the rest can still end badly.
+-- The least of what is chosen, dimension by dimension: in each the least of those with which the rest can still end
+-- badly.
 use Rattle.std.proofs.Common.{◌≡◌, List, [], ◌∷◌, ◌⊎◌, sym, subst, inl, inr}
 
 -- D is a dimension, X what can be chosen in it, ordered by a key, M what is left by the choices so far

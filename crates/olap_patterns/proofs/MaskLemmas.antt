@@ -53,7 +53,8 @@ module _ (s t : CatSet 4) (n : ℕ) (within : n < 256) (e : members t ≡ set.in
 
 -- nothing is in the empty set
 pub in_empty : (t : CatSet 4) → members t ≡ set.empty → (m : ℕ) → IsIn t m → ⊥
-in_empty t e m h = let q : false ≡ true = sym (set.contains-empty nat_cmp m) ∙ ap (λ w. set.contains w m) (sym e) ∙ h.1 in
+in_empty t e m h =
+    let q : false ≡ true = sym (set.contains-empty nat_cmp m) ∙ ap (λ w. set.contains w m) (sym e) ∙ h.1 in
     cc
 
 -- what two sets have together
@@ -121,7 +122,8 @@ good_by_count n m count h e bad = bad (one_time (Has m) (range_with_len 0 n)
     (subst (λ w. HoldsTimes (Has m) (range_with_len 0 n) w) e h))
 
 -- one source before those that are counted
-pub counted_before : (m k count : ℕ) (rest : ℕ) → bit_at m k ≡ 1 → HoldsTimes (Has m) (range_with_len (k + 1) rest) count
+pub counted_before : (m k count : ℕ) (rest : ℕ) → bit_at m k ≡ 1
+    → HoldsTimes (Has m) (range_with_len (k + 1) rest) count
     → HoldsTimes (Has m) (range_with_len k (suc rest)) (suc count)
 counted_before m k count rest e h = inl (e, count, refl, h)
 
@@ -265,7 +267,8 @@ found_bad r n mask sets first last a b t =
     (λ h. a.0 (c.1 (t.0 h)), λ h. t.1 (c.0 (a.1 h)))
 
 -- what was found of the masks so far is the answer for a set between others
-pub found_bad_with : (r : Bool) (n a : ℕ) → a ≡ all_of n → (done rest : List (CatSet 4)) (first before set between last : CatSet 4)
+pub found_bad_with : (r : Bool) (n a : ℕ) → a ≡ all_of n → (done rest : List (CatSet 4))
+    (first before set between last : CatSet 4)
     → OneCanBeBad n (done ++ set ∷ rest) first ↔ CanBeBad n (done ++ set ∷ rest) a
     → OneCanBeBad n (done ++ set ∷ rest) first ↔ OneCanBeBad n (set ∷ rest) before
     → ((m : ℕ) → IsIn between m ↔ ((s p : ℕ) × IsIn before s × IsIn set p × (m ≡ bit_and s p)))

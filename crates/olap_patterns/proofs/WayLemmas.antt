@@ -72,7 +72,8 @@ module _ (c : ℕ) (column : List ℕ) where
       (ap (λ v. way_of c v (eqb (bit_at p k) 1)) (sym e) ∙ sym w) (next_way p k l f (eqb (bit_at p k) 1) refl a))
 
   pub all_sources : (p k : ℕ) → k ≡ length column → (f : Formula)
-      → IsAboutWays c column (λ i x. HasWaysTo k i x c column p) f → IsAboutWays c column (λ i x. HasWays i x c column p) f
+      → IsAboutWays c column (λ i x. HasWaysTo k i x c column p) f
+      → IsAboutWays c column (λ i x. HasWays i x c column p) f
   all_sources p k e f a = subst (λ n. IsAboutWays c column (λ i x. HasWaysTo n i x c column p) f) e a
 
   module _ (patterns : CatSet 4) where

@@ -5,6 +5,7 @@ use Rattle.olap_patterns.proofs.families.first_family.Goals as goal
 
 pub returns-then-all_can_be_bad-clause-first : goal.returns-then-all_can_be_bad-clause-first
 returns-then-all_can_be_bad-clause-first c =
-    first_by_order (λ f. CanBeBad c.args.sources (c.args.done.now ++ f.patterns ∷ c.args.rest.now) (all_of c.args.sources))
+    let n = c.args.sources in
+    first_by_order (λ f. CanBeBad n (c.args.done.now ++ f.patterns ∷ c.args.rest.now) (all_of n))
     c.args.families.now c.families.k c.index-families-k.result c.requires.ordered c.families-test.true
     c.index-families-k.is c.families.invariant.none

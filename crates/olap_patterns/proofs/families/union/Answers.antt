@@ -8,7 +8,10 @@ use Rattle.olap_patterns.proofs.families.union.Goals as goal
 
 pub families-init : goal.families-init
 families-init c = record {
-  has = λ p. (λ h. absurd (in_empty c.empty-all.result c.empty-all.ensures p h), λ t. absurd (let l = t.2 in omega arith));
+  has = λ p. (
+    λ h. absurd (in_empty c.empty-all.result c.empty-all.ensures p h),
+    λ t. absurd (let l = t.2 in omega arith),
+  );
 }
 
 pub families-preserved : goal.families-preserved
