@@ -70,8 +70,9 @@ pub last-check : (a n k s f : Bool) → a ≡ true → n ≡ false → k ≡ tru
     → checks a n k s f ≡ (if f then Some kind.DuplicateRow else None)
 last-check a n k s f ea en ek es = rw (ea, en, ek, es) refl
 
-module _ (g : Graph) (i : Instance) (earlier : List Record) (r : Record) (t : StoredRows) (h : Tells g i earlier t) (c : ℕ)
-    (named : c ≡ category_number g r) (b : Bool) (above : IsTrue b ↔ Contains (begun_in t) c) where
+module _ (g : Graph) (i : Instance) (earlier : List Record) (r : Record) (t : StoredRows)
+    (h : Tells g i earlier t) (c : ℕ) (named : c ≡ category_number g r) (b : Bool)
+    (above : IsTrue b ↔ Contains (begun_in t) c) where
   begins-above : list_any (λ d. d == category_number g r) (begun g earlier) ≡ b
   begins-above = ap (λ x. list_any (λ d. d == x) (begun g earlier)) (sym named)
       ∙ ap (list_any (λ d. d == c)) (sym h.categories) ∙ among (begun_in t) c b above

@@ -31,7 +31,8 @@ module _ (g : Graph) (i : Instance) (rows : List Record) (t : StoredRows) (h : T
     where
       each : (cs : List ℕ) → map (view_by i (stored_at t)) cs ≡ map (view_read i rows) cs
       each [] = refl
-      each (c ∷ cs) = ap (λ v. v ∷ map (view_by i (stored_at t)) cs) (view-told c) ∙ ap (λ vs. view_read i rows c ∷ vs) (each cs)
+      each (c ∷ cs) = ap (λ v. v ∷ map (view_by i (stored_at t)) cs) (view-told c)
+          ∙ ap (λ vs. view_read i rows c ∷ vs) (each cs)
 
   stored-in : (c : ℕ) → Fits (view_by i (stored_at t) c)
   stored-in c = all-rows IsStored (stored_at t) (members_of i c)

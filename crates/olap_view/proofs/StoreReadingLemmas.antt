@@ -79,7 +79,8 @@ none-same c (x ∷ xs) (suc k) d e h q = none-same c xs k d (go (x == c) e) (ome
 
 -- ---- one record more
 
-module _ (g : Graph) (i : Instance) (rows : List Record) (r : Record) (old new : StoredRows) (t : Tells g i rows old) where
+module _ (g : Graph) (i : Instance) (rows : List Record) (r : Record) (old new : StoredRows)
+    (t : Tells g i rows old) where
   -- which begins a view
   pub tells-view : (c : ℕ) → begun_in new ≡ begun_in old ++ c ∷ [] → new.places ≡ old.places
       → new.summaries ≡ old.summaries → IsBeginning g rows r c → Tells g i (rows ++ r ∷ []) new

@@ -64,7 +64,8 @@ put_at i t u y s p a f g z m =
     inside : place_in t y < length t.summaries.items
     inside = p.inside y a
 
-    seen : summary_at u z ≡ option_map summary_of (get_or (set t.summaries.items (place_in t y) (Some s)) (place_in t z) None)
+    seen : summary_at u z
+        ≡ option_map summary_of (get_or (set t.summaries.items (place_in t y) (Some s)) (place_in t z) None)
     seen = ap (λ q. option_map summary_of (get_or u.summaries.items (get_or q.items z 0) None)) f
         ∙ ap (λ l. option_map summary_of (get_or l (place_in t z) None)) g
 
@@ -78,7 +79,8 @@ put_at i t u y s p a f g z m =
     at : Dec (z ≡ y)
         → option_map summary_of (get_or (set t.summaries.items (place_in t y) (Some s)) (place_in t z) None)
         ≡ cond (z == y) (Some (summary_of s)) (summary_at t z)
-    at (yes e) = ap (λ w. option_map summary_of (get_or (set t.summaries.items (place_in t y) (Some s)) (place_in t w) None)) e
+    at (yes e) =
+        ap (λ w. option_map summary_of (get_or (set t.summaries.items (place_in t y) (Some s)) (place_in t w) None)) e
         ∙ ap (option_map summary_of) here
         ∙ sym (ap (λ b. cond b (Some (summary_of s)) (summary_at t z)) (test_true z y e))
     at (no n) = ap (option_map summary_of) (there (place_in t z) (λ q. n (p.apart z y m a q)))
@@ -120,7 +122,8 @@ pub filled_more : (rows : List Row) (r : Row) (y : ℕ) (base before after : Opt
 filled_more rows r y base before after n e f = f ∙ go (ℕ_discrete y r.member)
   where
     behind : (b : Bool) → (r.member == y) ≡ b
-        → summary_in (rows ++ r ∷ []) y ≡ option_map (λ (q : Row). q.summary) (option_or (find (λ q. q.member == y) rows) (cond b (Some r) None))
+        → summary_in (rows ++ r ∷ []) y
+        ≡ option_map (λ (q : Row). q.summary) (option_or (find (λ q. q.member == y) rows) (cond b (Some r) None))
     behind b t = ap (option_map (λ (q : Row). q.summary)) (find-append (λ (q : Row). q.member == y) rows (r ∷ [])
         ∙ ap (λ t. option_or (find (λ q. q.member == y) rows) (cond t (Some r) None)) t)
 
@@ -132,7 +135,8 @@ filled_more rows r y base before after n e f = f ∙ go (ℕ_discrete y r.member
     or_nothing None = refl
     or_nothing (Some x) = refl
 
-    go : Dec (y ≡ r.member) → cond (y == r.member) (Some r.summary) before ≡ option_or (summary_in (rows ++ r ∷ []) y) base
+    go : Dec (y ≡ r.member)
+        → cond (y == r.member) (Some r.summary) before ≡ option_or (summary_in (rows ++ r ∷ []) y) base
     go (yes q) =
         let none : find (λ q. q.member == y) rows ≡ None =
         nothing (find (λ q. q.member == y) rows) (subst (λ z. summary_in rows z ≡ None) (sym q) n) in
@@ -185,8 +189,9 @@ among_view i views t e f j d l y m = record {
       (Contains-map (λ (v : View). v.category) views (get_or views j d) (Contains-get_or views j d l))));
 }
 
-pub filled_first : (i : Instance) (views : List View) (t : Summarized) → t.instance ≡ i → t.categories ≡ categories_in views
-    → ((y : ℕ) → IsAmong t.instance t.categories y → stands_at t y ≡ None) → IsFilled i views 0 t
+pub filled_first : (i : Instance) (views : List View) (t : Summarized) → t.instance ≡ i
+    → t.categories ≡ categories_in views → ((y : ℕ) → IsAmong t.instance t.categories y → stands_at t y ≡ None)
+    → IsFilled i views 0 t
 filled_first i views t e f none = record {
   instance = e;
   categories = f;
@@ -234,10 +239,13 @@ filled_next i views k t u differ order h v here p e f at = record {
 
     apart : (j : ℕ) (d : View) → j ≢ k → j < length views → (get_or views j d).category ≢ v.category
     apart j d n q w = elim (order_of j k n) [
-      | inl l ↦ differ j k 0 l (in_map k h) (category_is j d q ∙ w ∙ ap (λ (x : View). x.category) here ∙ sym (category_is k v h))
-      | inr l ↦ differ k j 0 l (in_map j q) (category_is k v h ∙ ap (λ (x : View). x.category) (sym here) ∙ sym w ∙ sym (category_is j d q))
+      | inl l ↦ differ j k 0 l (in_map k h) same
+      | inr l ↦ differ k j 0 l (in_map j q) (sym same)
     ]
       where
+        same : get_or (categories_in views) j 0 ≡ get_or (categories_in views) k 0
+        same = category_is j d q ∙ w ∙ ap (λ (x : View). x.category) here ∙ sym (category_is k v h)
+
         order_of : (a b : ℕ) → a ≢ b → (a < b) ⊎ (b < a)
         order_of a b n = elim (lt_or a b) [ inl l ↦ inl l | inr g ↦ inr (omega arith) ]
           where
@@ -259,7 +267,10 @@ filled_next i views k t u differ order h v here p e f at = record {
 view_back : (i : Instance) (t : Summarized) (v : View) → t.instance ≡ i → IsInFileOrder i v
     → ((y : ℕ) → IsMemberOf i v.category y → stands_at t y ≡ summary_in v.rows y) → view_at t v.category ≡ v
 view_back i t v e o s =
-    ap (λ j. record { category = v.category; rows = filter_map (λ y. row_at y (stands_at t y)) (members_of j v.category) }) e
+    ap (λ j. record {
+      category = v.category;
+      rows = filter_map (λ y. row_at y (stands_at t y)) (members_of j v.category);
+    }) e
     ∙ ap (λ rows. record { category = v.category; rows = rows })
     (rows_same i v.category (λ y. row_at y (stands_at t y)) (λ y. row_at y (summary_in v.rows y))
     (λ y m. ap (row_at y) (s y m)) ∙ rows-back i v o)
