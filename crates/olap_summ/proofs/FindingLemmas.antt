@@ -112,22 +112,26 @@ no_more s kind place n list b e none = record {
 -- ---- in the words of the code
 
 -- a finding is added
-pub added : (s : Schema) (kind place n : ℕ) (old new : List Told) (x : Told)
-    → AreFindingsBefore s kind place (map finding_of old) → kind_of (finding_of x) ≡ kind
-    → place_of (finding_of x) ≡ place → n ≡ place + 1 → IsFinding s (finding_of x) → new ≡ old ++ x ∷ []
-    → AreFindingsBefore s kind n (map finding_of new)
-added s kind place n old new x b k p e is q =
-    subst (λ l. AreFindingsBefore s kind n l) (sym (ap (map finding_of) q ∙ map-append finding_of old (x ∷ [])))
-    (one_more s kind place n (map finding_of old) (finding_of x) b k p e is)
+pub added : (s : Schema) (old new : List Told) (x : Told)
+    → AreFindingsBefore s (kind_of (finding_of x)) (place_of (finding_of x)) (map finding_of old)
+    → IsFinding s (finding_of x) → new ≡ old ++ x ∷ []
+    → AreFindingsBefore s (kind_of (finding_of x)) (place_of (finding_of x) + 1) (map finding_of new)
+added s old new x b is q =
+    subst (AreFindingsBefore s (kind_of f) (place_of f + 1))
+    (sym (ap (map finding_of) q ∙ map-append finding_of old (x ∷ [])))
+    (one_more s (kind_of f) (place_of f) (place_of f + 1) (map finding_of old) f b refl refl refl is)
+  where
+    f : Finding
+    f = finding_of x
 
 -- and none is
-pub none_added : (s : Schema) (kind place n : ℕ) (old new : List Told)
-    → AreFindingsBefore s kind place (map finding_of old) → n ≡ place + 1
+pub none_added : (s : Schema) (kind place : ℕ) {old new : List Told}
+    → AreFindingsBefore s kind place (map finding_of old)
     → ((f : Finding) → kind_of f ≡ kind → place_of f ≡ place → IsFinding s f → ⊥) → new ≡ old
-    → AreFindingsBefore s kind n (map finding_of new)
-none_added s kind place n old new b e none q =
-    subst (λ l. AreFindingsBefore s kind n (map finding_of l)) (sym q)
-    (no_more s kind place n (map finding_of old) b e none)
+    → AreFindingsBefore s kind (place + 1) (map finding_of new)
+none_added s kind place {old = old} b none q =
+    subst (λ l. AreFindingsBefore s kind (place + 1) (map finding_of l)) (sym q)
+    (no_more s kind place (place + 1) (map finding_of old) b refl none)
 
 -- a category that can have a member is no finding
 pub not_unsatisfiable : (s : Schema) (c : ℕ) → (IsUnsatisfiable s c → ⊥) → (f : Finding) → kind_of f ≡ 1

@@ -1,7 +1,6 @@
 -- What a frozen dimension that was found shows of categories and edges.
 --     seen_chosen                    the marks stay facts where those of a chosen edge are added
---     settled_still, settled_more    the categories that are settled stay so, and one more is
---     unmarked_is                    what an answer says of a category without a mark
+--     settled_next                   the categories that are settled stay so, and one more is
 use Rattle.std.proofs.Common.{◌≡◌, ℕ, ◌+◌, ◌<◌, List, Bool, true, false, length, get_or, refl, ap, sym, subst, ◌∙◌, ◌⊎◌, inl, inr, arith}
 use Rattle.std.specs.Prelude.{slice_set, slice_index_or}
 use Rattle.std.proofs.lemmas.List.{get_or-set_other, length-set}
@@ -120,7 +119,7 @@ seen_chosen s found hier root w old new e c d h b at marked used is =
 -- ---- what is settled
 
 -- a mark more settles no less
-pub settled_still : (s : Schema) (n : ℕ) (old new : Seen) → Keeps old new → AreSettled s n old → AreSettled s n new
+settled_still : (s : Schema) (n : ℕ) (old new : Seen) → Keeps old new → AreSettled s n old → AreSettled s n new
 settled_still s n old new k a c above below h = a c above below (go (get_or old.categories.items c false) refl)
   where
     go : (b : Bool) → get_or old.categories.items c false ≡ b → get_or old.categories.items c false ≡ false
@@ -128,7 +127,7 @@ settled_still s n old new k a c above below h = a c above below (go (get_or old.
     go true e = absurd (let t : true ≡ false = sym (k.categories c e) ∙ h in cc)
 
 -- and so does a category that can't have a member
-pub settled_more : (s : Schema) (n m : ℕ) (seen : Seen) → m ≡ n + 1 → AreSettled s n seen
+settled_more : (s : Schema) (n m : ℕ) (seen : Seen) → m ≡ n + 1 → AreSettled s n seen
     → (slice_index_or seen.categories.items n false ≡ false → IsUnsatisfiable s n) → AreSettled s m seen
 settled_more s n m seen e a last c above below h = elim (which c n m below e) [
   | inl l ↦ a c above l h
@@ -140,7 +139,13 @@ settled_more s n m seen e a last c above below h = elim (which c n m below e) [
     which c n m l e = grind arith
 
 -- what the answer says of a category without a mark
-pub unmarked_is : (s : Schema) (c : ℕ) (seen : Seen) (b : Bool) → (b ≡ false → IsUnsatisfiable s c)
+unmarked_is : (s : Schema) (c : ℕ) (seen : Seen) (b : Bool) → (b ≡ false → IsUnsatisfiable s c)
     → (b ≡ true → HasCategory seen c) → slice_index_or seen.categories.items c false ≡ false → IsUnsatisfiable s c
 unmarked_is s c seen false if_no if_yes h = if_no refl
 unmarked_is s c seen true if_no if_yes h = absurd (let t : true ≡ false = sym (if_yes refl) ∙ h in cc)
+
+-- what was settled stays so, and one category more is, by the answer
+pub settled_next : (s : Schema) (n : ℕ) (old new : Seen) (b : Bool) → Keeps old new → AreSettled s n old
+    → (b ≡ false → IsUnsatisfiable s n) → (b ≡ true → HasCategory new n) → AreSettled s (n + 1) new
+settled_next s n old new b k a if_no if_yes =
+    settled_more s n (n + 1) new refl (settled_still s n old new k a) (unmarked_is s n new b if_no if_yes)

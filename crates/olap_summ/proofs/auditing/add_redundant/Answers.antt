@@ -1,8 +1,8 @@
-use Rattle.std.proofs.Common.{◌≡◌, ◌+◌, true, false, refl, ap, sym, ◌∙◌, length, map, arith}
+use Rattle.std.proofs.Common.{◌+◌, true≢false, refl, ap, sym, ◌∙◌, length, map, arith}
 use Rattle.std.proofs.lemmas.List.{length-map}
 use Rattle.olap_ast.specs.Trees.{constraint_of}
 use Rattle.olap_schema.specs.Schemas.{schema_of}
-use Rattle.olap_summ.specs.Audits.{finding_of}
+use Rattle.olap_summ.specs.Audits.{finding_of, redundant}
 use Rattle.olap_summ.specs.declared.auditing.Finding.TheVariants as found
 use Rattle.olap_summ.proofs.FindingLemmas.{added, none_added, not_redundant, redundant_found, to_edges}
 use Rattle.olap_summ.proofs.auditing.add_redundant.Goals as goal
@@ -12,17 +12,14 @@ pub constraints-preserved : goal.constraints-preserved
 constraints-preserved c =
     let s = schema_of c.args.schema.now in
     let k = c.constraints.k in
-    let old = c.constraints.findings.items in
-    let new = c.if-branch.findings.items in
     elim c.if-branch.branch [
       | then-branch+in_ok-push w ↦
-          added s 2 (k + 1) (k + 1 + 1) old new (found.Redundant (k + 1)) c.constraints.invariant refl refl refl
+          added s _ _ (found.Redundant (k + 1)) c.constraints.invariant
           (redundant_found s k (k + 1) refl (c.in_ok-is_redundant.ensures.0 w.if-branch.true))
           (ap (λ v. v.items) w.findings-is ∙ w.in_ok-push.ensures.items)
       | else-branch w ↦
-          none_added s 2 (k + 1) (k + 1 + 1) old new c.constraints.invariant refl
-          (not_redundant s k (λ r.
-          let t : false ≡ true = sym w.if-branch.false ∙ c.in_ok-is_redundant.ensures.1 r in absurd (cc)))
+          none_added s redundant (k + 1) c.constraints.invariant
+          (not_redundant s k (λ r. absurd (true≢false (sym (c.in_ok-is_redundant.ensures.1 r) ∙ w.if-branch.false))))
           (ap (λ v. v.items) w.findings-is)
     ]
 

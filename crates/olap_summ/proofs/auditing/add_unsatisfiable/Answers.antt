@@ -1,9 +1,10 @@
-use Rattle.std.proofs.Common.{◌≢◌, ◌<◌, ◌+◌, refl, ap, subst, ◌∙◌, arith}
+use Rattle.std.proofs.Common.{◌≢◌, ◌<◌, ap, subst, ◌∙◌, arith}
 use Rattle.olap_base.specs.Graph.{category_count}
 use Rattle.olap_schema.specs.Schemas.{schema_of}
+use Rattle.olap_summ.specs.Audits.{unsatisfiable}
 use Rattle.olap_summ.specs.declared.auditing.Finding.TheVariants as found
 use Rattle.olap_summ.proofs.FindingLemmas.{added, none_added, not_unsatisfiable}
-use Rattle.olap_summ.proofs.SightLemmas.{settled_more, settled_still, unmarked_is}
+use Rattle.olap_summ.proofs.SightLemmas.{settled_next}
 use Rattle.olap_summ.proofs.auditing.add_unsatisfiable.Goals as goal
 use Rattle.olap_summ.proofs.auditing.add_unsatisfiable.Goals.{then-not-branch+in_ok-push, else-not-branch}
 
@@ -11,26 +12,22 @@ pub categories-preserved : goal.categories-preserved
 categories-preserved c =
     let s = schema_of c.args.schema.now in
     let n = c.categories.c in
-    let old = c.categories.findings.items in
-    let new = c.if-not-branch.findings.items in
-    let seen = c.can_have_member.new.seen in
     let before = c.categories.invariant in
     let told = c.in_ok-can_have_member.ensures in
     let same = c.categories-c-end.ensures.count ∙ ap category_count c.graph.ensures in
-    let within = subst (λ m. n < m) same c.categories-test.true in
     let above = c.categories.auto.c in
     let declared : n ≢ 0 = λ e. omega (arith, above, e) in
     record {
       seen = told.seen;
-      settled = settled_more s n (n + 1) seen refl (settled_still s n c.categories.seen seen told.kept before.settled)
-          (unmarked_is s n seen c.in_ok-can_have_member.field-0 told.no told.yes);
+      settled = settled_next s n c.categories.seen c.can_have_member.new.seen c.in_ok-can_have_member.field-0
+          told.kept before.settled told.no told.yes;
       found = elim c.if-not-branch.branch [
         | then-not-branch+in_ok-push w ↦
-            added s 1 n (n + 1) old new (found.Unsatisfiable (record { 0 = n })) before.found refl refl refl
-            ((declared, within), told.no w.if-not-branch.true)
+            added s _ _ (found.Unsatisfiable (record { 0 = n })) before.found
+            ((declared, subst (λ m. n < m) same c.categories-test.true), told.no w.if-not-branch.true)
             (ap (λ v. v.items) w.findings-is ∙ w.in_ok-push.ensures.items)
         | else-not-branch w ↦
-            none_added s 1 n (n + 1) old new before.found refl
+            none_added s unsatisfiable n before.found
             (not_unsatisfiable s n (told.seen.categories n (told.yes w.if-not-branch.false)))
             (ap (λ v. v.items) w.findings-is)
       ];
