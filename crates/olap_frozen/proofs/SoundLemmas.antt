@@ -101,8 +101,8 @@ tests_of_sound g r es ch s = record {
 
 -- ---- the tests, as the program makes them
 
-module _ {W : ℕ} (g : Graph) (r : ℕ) (bits : List Bool) (rows : List (CatSet W)) (hier : IsHierarchy g) (root : IsCategory g r)
-    (a : AreRows g (chosen g.edges bits) rows) where
+module _ {W : ℕ} (g : Graph) (r : ℕ) (bits : List Bool) (rows : List (CatSet W)) (hier : IsHierarchy g)
+    (root : IsCategory g r) (a : AreRows g (chosen g.edges bits) rows) where
   abbrev es : List Edge
   es = chosen g.edges bits
 

@@ -12,13 +12,14 @@ use Rattle.olap_frozen.proofs.sound.is_passed.Goals.{else-edges-from-via-then-ed
 pub returns-then-row_has : goal.returns-then-row_has
 returns-then-row_has c =
     let parent = ap (λ (e : Edge). e.parent) c.ends.ensures.edge in (
-      λ e. passed_by c.args.graph.now c.args.edges.now c.args.rows.now c.parents-e-items.result.now c.args.c.0 c.args.d.0
-          c.edges.e-index c.parents-e-items.ensures.list c.edges-test.true (record {
+      λ e. passed_by c.args.graph.now c.args.edges.now c.args.rows.now c.parents-e-items.result.now c.args.c.0
+          c.args.d.0 c.edges.e-index c.parents-e-items.ensures.list c.edges-test.true (record {
             chosen = ap (λ n. get_or c.args.edges.now n false) (sym c.from.ensures) ∙ c.if-edges-from.true;
             other = λ s.
                 let same = is_same c.ends.result.1.0 c.args.d.0 (sym parent ∙ s) in
                 let z : true ≡ false = sym c.if-ne.true ∙ c.ne.ensures ∙ ap not same in cc;
-            reaches = ap (λ z. set.contains (row c.args.rows.now z) c.args.d.0) parent ∙ sym c.row_has.ensures ∙ c.if-row_has.true;
+            reaches = ap (λ z. set.contains (row c.args.rows.now z) c.args.d.0) parent
+                ∙ sym c.row_has.ensures ∙ c.if-row_has.true;
           }),
       λ p. cc,
     )

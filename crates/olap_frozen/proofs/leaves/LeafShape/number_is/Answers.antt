@@ -18,7 +18,8 @@ returns-in-Some c =
     number_there s.graph.now s.candidates.now s.root.0 s.edges.now s.names.now s.rows.now c.has.ensures.hierarchy
     s.leaf c.args.c.0 (op_of c.args.op) c.args.n c.test.result (sym c.has.ensures.present ∙ c.if-not-has.false)
     (numbered text (op_of c.args.op) c.args.n c.in-Some.a c.test.result
-    (ap number_of (sym same) ∙ sym c.in-Some.ensures) (rw (to_z-of_z w64 c.in-Some.a fits, to_z-of_z w64 c.args.n c.ranges.n) at c.test.ensures))
+    (ap number_of (sym same) ∙ sym c.in-Some.ensures)
+    (rw (to_z-of_z w64 c.in-Some.a fits, to_z-of_z w64 c.args.n c.ranges.n) at c.test.ensures))
 
 pub returns-in-None : goal.returns-in-None
 returns-in-None c =
