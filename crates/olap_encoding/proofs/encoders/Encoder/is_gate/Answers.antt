@@ -11,5 +11,6 @@ returns-then-eq c =
     λ h. (
       n,
       gate_says (encoding_of c.args.self.now) c.args.x c.in-Both.c c.in-Both.d c.args.a c.args.b
-          c.index.result.now n c.index.ensures c.in-Both.is (search (rules, c.if-eq.ensures)) (search (rules, h, c.eq-then-eq.ensures)),
+          c.index.result.now n c.index.ensures c.in-Both.is (search (rules, c.if-eq.ensures))
+          (search (rules, h, c.eq-then-eq.ensures)),
     )
