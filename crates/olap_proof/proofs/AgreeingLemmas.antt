@@ -29,7 +29,7 @@ use Rattle.olap_frozen.proofs.ChosenLemmas.{bit_joins, choice_of, chosen_place, 
 use Rattle.olap_graph.specs.Lookups.{edge_at, edge_between, edges_from}
 use Rattle.olap_names.specs.Names.{name_at}
 use Rattle.olap_trail.specs.Decisions.{Decided, Decision, HoldsCycle, HoldsShortcut, present_edges, present_graph, status_in, status_of}
-use Rattle.olap_proof.specs.Places.{Naming, index_of, indexed, is_possible, name_of, possible_graph, told, told_between}
+use Rattle.olap_proof.specs.Places.{Naming, decided_name, index_of, is_possible, name_of, possible_graph, truth_of, truth_of_edge}
 
 -- ---- what was decided
 
@@ -185,11 +185,11 @@ module _ (s : Schema) (q : Formula) (r : ℕ) (k : Candidates) (f : Frozen) (hie
 
   -- ---- what is known is so
 
-  pub edge_is : (c d : ℕ) → Tells (told_between t (edge_between s.graph c d)) (HasEdgeThere inst present place c d)
+  pub edge_is : (c d : ℕ) → Tells (truth_of_edge t (edge_between s.graph c d)) (HasEdgeThere inst present place c d)
   edge_is c d = go (edge_between s.graph c d) refl
     where
       of_status : (i : ℕ) → edge_between s.graph c d ≡ Some i → (o : Option Bool) → status_of t i ≡ o
-          → Tells (told o) (HasEdgeThere inst present place c d)
+          → Tells (truth_of o) (HasEdgeThere inst present place c d)
       of_status i e None h = tt
       of_status i e (Some true) h =
           let j = (bit_joins s.graph f.edges c d i hier e).0 (status_bit i true h).1 in (
@@ -203,7 +203,7 @@ module _ (s : Schema) (q : Formula) (r : ℕ) (k : Candidates) (f : Frozen) (hie
           let z : true ≡ false = sym b ∙ (status_bit i false h).1 in cc
 
       go : (o : Option ℕ) → edge_between s.graph c d ≡ o
-          → Tells (told_between t o) (HasEdgeThere inst present place c d)
+          → Tells (truth_of_edge t o) (HasEdgeThere inst present place c d)
       go None e = λ h. no_edge_joins s.graph f.edges c d e
           ((made.below_joins s.graph r es ch name c d h.0 h.1).0 h.2)
       go (Some i) e = of_status i e (status_of t i) refl
@@ -212,7 +212,7 @@ module _ (s : Schema) (q : Formula) (r : ℕ) (k : Candidates) (f : Frozen) (hie
   name_told zero w h = cc
   name_told (suc c) w h = go (index_of ns (suc c)) refl h
     where
-      go : (o : Option ℕ) → index_of ns (suc c) ≡ o → indexed k (suc c) o ≡ Some w → name (suc c) ≡ w
+      go : (o : Option ℕ) → index_of ns (suc c) ≡ o → decided_name k (suc c) o ≡ Some w → name (suc c) ≡ w
       go None e h = absurd (cc)
       go (Some i) e h =
           let n = index_some ns (suc c) i e in

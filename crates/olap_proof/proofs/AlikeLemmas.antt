@@ -17,7 +17,7 @@ use Rattle.olap_eval.specs.Partial.{value_at}
 use Rattle.olap_graph.specs.Lookups.{edge_between}
 use Rattle.olap_names.specs.Names.{name_at}
 use Rattle.olap_proof.specs.declared.forms.Form.{Form}
-use Rattle.olap_proof.specs.Places.{Naming, Place, index_of, indexed, knowledge, name_of, reached, told_between, told_name, told_number}
+use Rattle.olap_proof.specs.Places.{Naming, Place, decided_name, index_of, knowledge, name_of, truth_of_edge, truth_of_name, truth_of_number, truth_of_reach}
 use Rattle.olap_proof.specs.Lines.{Closes, IsUnmetAt, Line, Line.Asked, Line.Clash, Line.Cycle, Line.Dead, Line.EdgeOrNot, Line.Loose, Line.NameOf, Line.Shortcut, Line.Unmet, Line.Unreached, Line.WayOrNot, line_text}
 use Rattle.olap_proof.specs.Certificates.{IsCertificateText, IsFirstWrong, Open, Open.At, Runs, Runs.more, Runs.none, Steps, Steps.begins, Steps.closes, Steps.edges, Steps.names, Steps.roots, Steps.ways, with_name}
 
@@ -44,21 +44,21 @@ alike_back k h a = record { names = λ c i. sym (a.names c i); counts = λ c. sy
 -- ---- what is known
 
 module _ (f : Form) (k h : Candidates) (a : Alike k h) where
-  indexed_alike : (c : ℕ) (o : Option ℕ) → indexed k c o ≡ indexed h c o
-  indexed_alike c None = refl
-  indexed_alike c (Some i) = ap (λ (t : List ℕ). Some t) (a.names c i)
+  decided_name_alike : (c : ℕ) (o : Option ℕ) → decided_name k c o ≡ decided_name h c o
+  decided_name_alike c None = refl
+  decided_name_alike c (Some i) = ap (λ (t : List ℕ). Some t) (a.names c i)
 
   name_alike : (ns : List Naming) (c : ℕ) → name_of k ns c ≡ name_of h ns c
   name_alike ns zero = refl
-  name_alike ns (suc c) = indexed_alike (suc c) (index_of ns (suc c))
+  name_alike ns (suc c) = decided_name_alike (suc c) (index_of ns (suc c))
 
   -- the same is known
   pub known_alike : (p : Place) → knowledge f k p ≡ knowledge f h p
   known_alike p = λ j. record {
-    edge = λ x y. told_between p.decided (edge_between p.decided.graph x y);
-    reaches = reached f p;
-    name = λ c text. told_name p c (name_alike p.namings c j) text;
-    number = λ c op n. told_number p c (name_alike p.namings c j) op n;
+    edge = λ x y. truth_of_edge p.decided (edge_between p.decided.graph x y);
+    reaches = truth_of_reach f p;
+    name = λ c text. truth_of_name p c (name_alike p.namings c j) text;
+    number = λ c op n. truth_of_number p c (name_alike p.namings c j) op n;
   }
 
   unmet_alike : (p : Place) (cs : List Constraint) (n : ℕ) → IsUnmetAt f cs n k p → IsUnmetAt f cs n h p

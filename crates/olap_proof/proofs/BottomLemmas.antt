@@ -16,7 +16,7 @@ use Rattle.olap_ast.specs.Formula.{Formula}
 use Rattle.olap_ast.specs.Frozen.{Candidates}
 use Rattle.olap_ast.specs.Schema.{Schema}
 use Rattle.olap_proof.specs.declared.forms.Form.{Form}
-use Rattle.olap_proof.specs.Certificates.{IsCertificateText, Open.Bottom, Runs, Runs.more, Runs.none, Steps.begins, bottoms_of, ended, head_text}
+use Rattle.olap_proof.specs.Certificates.{IsCertificateText, Open.Bottom, Runs, Runs.more, Runs.none, Steps.begins, bottoms_of, head_text, lines_text}
 use Rattle.olap_proof.specs.Trees.{Adds}
 use Rattle.olap_proof.proofs.CertificateLemmas.{bottom_listed}
 use Rattle.olap_proof.proofs.PlainTreeLemmas.{listed_bottom}
@@ -91,7 +91,7 @@ module _ (m : Form) (s : Schema) (q : Formula) (k : Candidates) where
   certified n a c all e g =
       let f = subst (λ i. Adds m s q k (map Bottom (first_bottoms s.graph i)) a c) all g in (
         head_text m ∷ f.0,
-        f.1 ∙ ap (λ x. x ++ ended f.0) e,
+        f.1 ∙ ap (λ x. x ++ lines_text f.0) e,
         more begins (subst (λ ls. Runs m s q k ls (map Bottom (bottoms_of s.graph) ++ []) []) (append-nil f.0)
             (f.2 [] [] [] none)),
       )

@@ -26,7 +26,7 @@ use Rattle.olap_graph.specs.Lookups.{edge_at, edges_from}
 use Rattle.olap_trail.specs.Decisions.{Decided, Decision, HoldsCycle, HoldsShortcut, present_edges, present_graph, status_in, status_of}
 use Rattle.olap_proof.specs.FullPlaces.{IsFull}
 use Rattle.olap_proof.specs.Lines.{IsDead, IsLoose}
-use Rattle.olap_proof.specs.Places.{Naming, Place, is_known, is_possible, leading, possible_graph}
+use Rattle.olap_proof.specs.Places.{Naming, Place, is_known, is_possible, leading_edges, possible_graph}
 use Rattle.olap_proof.proofs.AgreeingLemmas.{status_some, walk_present, wider, wider_climb}
 use Rattle.olap_proof.proofs.TallyLemmas.{false_from, tally, tally_more}
 
@@ -176,21 +176,21 @@ module _ (s : Schema) (k : Candidates) (hier : IsHierarchy s.graph) (r : ℕ) (d
   possible_joins x y c =
       taken_joins (record { child = x; parent = y }) (possible_taken (record { child = x; parent = y }) c)
 
-  pub joins_leading : (x y : ℕ) → Joins es x y → Joins (leading p) x y
+  pub joins_leading : (x y : ℕ) → Joins es x y → Joins (leading_edges p) x y
   joins_leading x y j =
       Contains-append_left (present_edges t) [] (record { child = x; parent = y }) (joins_present x y j)
 
-  pub leading_joins : (x y : ℕ) → Joins (leading p) x y → Joins es x y
+  pub leading_joins : (x y : ℕ) → Joins (leading_edges p) x y → Joins es x y
   leading_joins x y c = elim (Contains-append_cases (present_edges t) [] (record { child = x; parent = y }) c) [
     | inl a ↦ present_joins x y a
     | inr z ↦ absurd (Contains-nil (record { child = x; parent = y }) z)
   ]
 
   pub known_present : (c : ℕ) → is_known p c ≡ true → present c ≡ true
-  known_present c h = present_kept r c (leading p) es leading_joins h
+  known_present c h = present_kept r c (leading_edges p) es leading_joins h
 
   pub present_known : (c : ℕ) → present c ≡ true → is_known p c ≡ true
-  present_known c h = present_kept r c es (leading p) joins_leading h
+  present_known c h = present_kept r c es (leading_edges p) joins_leading h
 
   -- the child of an edge that was decided present is known
   pub child_known : (e : ℕ) → e < length s.graph.edges → status_in ds e ≡ Some true

@@ -31,7 +31,7 @@ use Rattle.olap_proof.proofs.AgreeingLemmas.{wider}
 use Rattle.std.proofs.lemmas.Bool.{ne_eqb}
 use Rattle.olap_base.specs.Reaching.{category_reaches, category_reaches_is}
 use Rattle.olap_proof.specs.Lines.{Closes, IsAbout, IsDead, IsLoose, IsUnmet, IsUnmetAt, Line, Line.Asked, Line.Cycle, Line.Dead, Line.Loose, Line.Shortcut, Line.Unmet, Line.Unreached}
-use Rattle.olap_proof.specs.Places.{Naming, Place, is_known, knowledge, leading_graph, possible_graph, reached}
+use Rattle.olap_proof.specs.Places.{Naming, Place, is_known, knowledge, leading_graph, possible_graph, truth_of_reach}
 use Rattle.olap_proof.proofs.ChosenEdgeLemmas.{child_known, joins_possible, leading_joins, reaches_all, sound}
 use Rattle.olap_proof.proofs.FullPlaceLemmas.{frozen_there, value_of_place}
 
@@ -215,7 +215,7 @@ module _ (m : Form) (s : Schema) (q : Formula) (k : Candidates) (hier : IsHierar
       )
     where
       -- what the root can't reach by possible edges isn't reached
-      cut_off : (c : ℕ) → c ≢ 0 → (CategoryReaches (possible_graph p.decided) r c → ⊥) → reached Short p r c ≡ No
+      cut_off : (c : ℕ) → c ≢ 0 → (CategoryReaches (possible_graph p.decided) r c → ⊥) → truth_of_reach Short p r c ≡ No
       cut_off c n u =
           go (is_known p r) (c == 0) (ne_eqb c 0 n) (category_reaches (leading_graph p) r c) refl
           (category_reaches (possible_graph p.decided) r c) refl

@@ -12,7 +12,7 @@ use Rattle.olap_ast.specs.declared.three_values.Truth3.{Truth3}
 use Rattle.olap_ast.specs.declared.three_values.Truth3.TheVariants.{No, Yes, Unknown}
 use Rattle.olap_trail.specs.Decisions.{status_of}
 use Rattle.olap_proof.specs.declared.forms.Form.TheVariants.{Long, Short}
-use Rattle.olap_proof.specs.Places.{Place, Way, leading_graph, possible_graph, reached}
+use Rattle.olap_proof.specs.Places.{Place, Way, leading_graph, possible_graph, truth_of_reach}
 use Rattle.olap_proof.specs.Lines.{Closes, Line.Asked, Line.Clash, Line.Dead}
 use Rattle.olap_proof.specs.Certificates.{Runs.more, Runs.none, Steps.begins, Steps.closes, Steps.edges, Steps.roots, Steps.ways}
 use Rattle.olap_proof.specs.Examples.{ChainIsCertified, ChainIsShortlyCertified, chain, city_not_by_store}
@@ -47,21 +47,21 @@ city_from_store ws = (category_reaches_is (leading_graph (linked true ws)) 1 2).
     (reaches_from_Steps (step (0, omega arith, refl) here))
 
 -- so the city has a member
-city_known : reached Long (linked true []) 1 2 ≡ Yes
+city_known : truth_of_reach Long (linked true []) 1 2 ≡ Yes
 city_known = ap (λ x. cond x Yes (unless (linked true []) 2)) (city_from_store [])
 
 -- as the root has
-store_known : reached Long (linked true []) 1 1 ≡ Yes
+store_known : truth_of_reach Long (linked true []) 1 1 ≡ Yes
 store_known = ap (λ x. cond x Yes (unless (linked true []) 1))
     ((category_reaches_is (leading_graph (linked true [])) 1 1).1 (inl refl))
 
 -- in the short form too
-store_passed : reached Short passed 1 1 ≡ Yes
+store_passed : truth_of_reach Short passed 1 1 ≡ Yes
 store_passed = ap (λ x. cond x Yes (unless passed 1)) ((category_reaches_is (leading_graph passed) 1 1).1 (inl refl))
 
 module _ (k : Candidates) where
   question_closes : Closes Long chain city_not_by_store k (linked true []) Asked
-  question_closes = ap (λ x. by_store x (reached Long (linked true []) 1 1)) city_known
+  question_closes = ap (λ x. by_store x (truth_of_reach Long (linked true []) 1 1)) city_known
       ∙ ap (λ y. by_store Yes y) store_known
 
   question_closes_shortly : Closes Short chain city_not_by_store k passed Asked

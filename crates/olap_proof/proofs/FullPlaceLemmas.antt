@@ -34,7 +34,7 @@ use Rattle.olap_proof.specs.declared.forms.Form.{Form}
 use Rattle.olap_proof.specs.declared.forms.Form.TheVariants.{Long, Short}
 use Rattle.olap_proof.specs.FullPlaces.{IsFull}
 use Rattle.olap_proof.specs.Lines.{IsUnmetAt}
-use Rattle.olap_proof.specs.Places.{Naming, Place, index_of, indexed, is_known, is_numbered, is_top, knowledge, leading, leading_graph, name_of, possible_graph, reached, told, told_between, told_name, told_number}
+use Rattle.olap_proof.specs.Places.{Naming, Place, decided_name, index_of, is_known, is_numbered, is_top, knowledge, leading_edges, leading_graph, name_of, possible_graph, truth_of, truth_of_edge, truth_of_name, truth_of_number, truth_of_reach}
 use Rattle.olap_proof.proofs.AgreeingLemmas.{walk_present, wider}
 use Rattle.olap_proof.proofs.NumberTests.{numbered_is}
 use Rattle.olap_proof.proofs.ToldLemmas.{IsTold, formula_told, truth_told, unmet_listed}
@@ -99,10 +99,10 @@ module _ (s : Schema) (k : Candidates) (hier : IsHierarchy s.graph) (r : ℕ) (d
   possible_joins : (x y : ℕ) → HasEdge (possible_graph t) x y → Joins es x y
   possible_joins x y h = laws.possible_joins s k hier r ds ns full x y h
 
-  joins_leading : (x y : ℕ) → Joins es x y → Joins (leading p) x y
+  joins_leading : (x y : ℕ) → Joins es x y → Joins (leading_edges p) x y
   joins_leading x y j = laws.joins_leading s k hier r ds ns full x y j
 
-  leading_joins : (x y : ℕ) → Joins (leading p) x y → Joins es x y
+  leading_joins : (x y : ℕ) → Joins (leading_edges p) x y → Joins es x y
   leading_joins x y j = laws.leading_joins s k hier r ds ns full x y j
 
   known_present : (c : ℕ) → is_known p c ≡ true → present c ≡ true
@@ -139,7 +139,8 @@ module _ (s : Schema) (k : Candidates) (hier : IsHierarchy s.graph) (r : ℕ) (d
   name_decided zero h = (codes "all", refl, refl)
   name_decided (suc c) h =
       let i = index_at c h in
-      (name_at k (suc c) i.0, ap (indexed k (suc c)) i.1, ap (text_of_index (k.first (suc c)) (k.texts (suc c))) i.2)
+      let text = text_of_index (k.first (suc c)) (k.texts (suc c)) in
+      (name_at k (suc c) i.0, ap (decided_name k (suc c)) i.1, ap text i.2)
 
   are_names : (q : Formula) → AreCandidates s q k → AreNames s q r es name
   are_names q are = record { all = refl; known = known }
@@ -161,12 +162,12 @@ module _ (s : Schema) (k : Candidates) (hier : IsHierarchy s.graph) (r : ℕ) (d
   abbrev pub place : ℕ → ℕ
   place = place_of s.graph r es
 
-  edge_is : (c d : ℕ) → Tells (told_between t (edge_between s.graph c d)) (HasEdgeThere inst present place c d)
-      × IsTold (told_between t (edge_between s.graph c d))
+  edge_is : (c d : ℕ) → Tells (truth_of_edge t (edge_between s.graph c d)) (HasEdgeThere inst present place c d)
+      × IsTold (truth_of_edge t (edge_between s.graph c d))
   edge_is c d = go (edge_between s.graph c d) refl
     where
       of_bit : (i : ℕ) → edge_between s.graph c d ≡ Some i → (b : Bool) → get_or (bits_of s.graph ds) i false ≡ b
-          → Tells (told (Some b)) (HasEdgeThere inst present place c d) × IsTold (told (Some b))
+          → Tells (truth_of (Some b)) (HasEdgeThere inst present place c d) × IsTold (truth_of (Some b))
       of_bit i e true q =
           let j = (bit_joins s.graph (bits_of s.graph ds) c d i hier e).0 q in (
             (
@@ -185,7 +186,7 @@ module _ (s : Schema) (k : Candidates) (hier : IsHierarchy s.graph) (r : ℕ) (d
       )
 
       go : (o : Option ℕ) → edge_between s.graph c d ≡ o
-          → Tells (told_between t o) (HasEdgeThere inst present place c d) × IsTold (told_between t o)
+          → Tells (truth_of_edge t o) (HasEdgeThere inst present place c d) × IsTold (truth_of_edge t o)
       go None e = (
         λ h. no_edge_joins s.graph (bits_of s.graph ds) c d e
             ((made.below_joins s.graph r es ch name c d h.0 h.1).0 h.2),
@@ -194,11 +195,11 @@ module _ (s : Schema) (k : Candidates) (hier : IsHierarchy s.graph) (r : ℕ) (d
       go (Some i) e =
           let h = edge_inside s.graph c d i e in
           let q = status_full i h in
-          subst (λ o. Tells (told o) (HasEdgeThere inst present place c d) × IsTold (told o)) (sym q.1)
+          subst (λ o. Tells (truth_of o) (HasEdgeThere inst present place c d) × IsTold (truth_of o)) (sym q.1)
           (of_bit i e q.0 (bit_at i h ∙ ap bit_of q.1))
 
   name_is : (c : ℕ) (text : List ℕ)
-      → Tells (told_name p c (name_of k ns c) text) (HasNameThere inst present place c text)
+      → Tells (truth_of_name p c (name_of k ns c) text) (HasNameThere inst present place c text)
   name_is c text = go (name_of k ns c) refl
     where
       same : (w : List ℕ) → name_of k ns c ≡ Some w → present c ≡ true → name c ≡ w
@@ -217,14 +218,15 @@ module _ (s : Schema) (k : Candidates) (hier : IsHierarchy s.graph) (r : ℕ) (d
           let z : true ≡ false = sym v ∙ x in cc
 
       go : (o : Option (List ℕ)) → name_of k ns c ≡ o
-          → Tells (told_name p c o text) (HasNameThere inst present place c text)
+          → Tells (truth_of_name p c o text) (HasNameThere inst present place c text)
       go None q = tt
       go (Some w) q = of_test w q (bytes_eq w text) refl (is_known p c) refl
 
-  name_told : (c : ℕ) (text : List ℕ) → present c ≡ true → IsTold (told_name p c (name_of k ns c) text)
+  name_told : (c : ℕ) (text : List ℕ) → present c ≡ true → IsTold (truth_of_name p c (name_of k ns c) text)
   name_told c text h =
       let n = name_decided c h in
-      subst (λ o. IsTold (told_name p c o text)) (sym n.1) (go (bytes_eq n.0 text) (is_known p c) (present_known c h))
+      subst (λ o. IsTold (truth_of_name p c o text)) (sym n.1)
+      (go (bytes_eq n.0 text) (is_known p c) (present_known c h))
     where
       go : (a b : Bool) → b ≡ true → IsTold (cond a (cond b Yes Unknown) No)
       go true true y = tt
@@ -232,7 +234,7 @@ module _ (s : Schema) (k : Candidates) (hier : IsHierarchy s.graph) (r : ℕ) (d
       go false b y = tt
 
   number_is : (c : ℕ) (op : Op) (n : ℤ)
-      → Tells (told_number p c (name_of k ns c) op n) (HasNumberThere inst present place c op n)
+      → Tells (truth_of_number p c (name_of k ns c) op n) (HasNumberThere inst present place c op n)
   number_is c op n = go (name_of k ns c) refl
     where
       same : (w : List ℕ) → name_of k ns c ≡ Some w → present c ≡ true → name c ≡ w
@@ -252,14 +254,14 @@ module _ (s : Schema) (k : Candidates) (hier : IsHierarchy s.graph) (r : ℕ) (d
           let z : true ≡ false = sym v ∙ x in cc
 
       go : (o : Option (List ℕ)) → name_of k ns c ≡ o
-          → Tells (told_number p c o op n) (HasNumberThere inst present place c op n)
+          → Tells (truth_of_number p c o op n) (HasNumberThere inst present place c op n)
       go None q = tt
       go (Some w) q = of_test w q (is_numbered w op n) refl (is_known p c) refl
 
-  number_told : (c : ℕ) (op : Op) (n : ℤ) → present c ≡ true → IsTold (told_number p c (name_of k ns c) op n)
+  number_told : (c : ℕ) (op : Op) (n : ℤ) → present c ≡ true → IsTold (truth_of_number p c (name_of k ns c) op n)
   number_told c op n h =
       let d = name_decided c h in
-      subst (λ o. IsTold (told_number p c o op n)) (sym d.1)
+      subst (λ o. IsTold (truth_of_number p c o op n)) (sym d.1)
       (go (is_numbered d.0 op n) (is_known p c) (present_known c h))
     where
       go : (a b : Bool) → b ≡ true → IsTold (cond a (cond b Yes Unknown) No)
@@ -276,7 +278,7 @@ module _ (s : Schema) (k : Candidates) (hier : IsHierarchy s.graph) (r : ℕ) (d
       | inr a ↦ wider leading_joins (Steps-from_reaches ((category_reaches_is (leading_graph p) c e).0 a))
     ]
 
-    reach_is : (c e : ℕ) → Tells (reached m p c e) (ReachesThere inst present place c e)
+    reach_is : (c e : ℕ) → Tells (truth_of_reach m p c e) (ReachesThere inst present place c e)
     reach_is c e = go (is_known p c) refl (is_top m e || category_reaches (leading_graph p) c e) refl
         (category_reaches (possible_graph t) c e) refl
       where
@@ -300,7 +302,7 @@ module _ (s : Schema) (k : Candidates) (hier : IsHierarchy s.graph) (r : ℕ) (d
         go false x b y true z = tt
         go false x b y false z = unreached z
 
-    reach_told : (c e : ℕ) → present c ≡ true → IsTold (reached m p c e)
+    reach_told : (c e : ℕ) → present c ≡ true → IsTold (truth_of_reach m p c e)
     reach_told c e h = go (is_known p c) (present_known c h)
         (is_top m e || category_reaches (leading_graph p) c e) refl
         (category_reaches (possible_graph t) c e) refl
@@ -316,7 +318,7 @@ module _ (s : Schema) (k : Candidates) (hier : IsHierarchy s.graph) (r : ℕ) (d
             let z : true ≡ false =
             sym (right_true (is_top m e) (category_reaches (leading_graph p) c e) u) ∙ y in absurd (cc)
 
-    reach_there : (c e : ℕ) → reached m p c e ≡ Yes → present e ≡ true
+    reach_there : (c e : ℕ) → truth_of_reach m p c e ≡ Yes → present e ≡ true
     reach_there c e q =
         let h : ReachesThere inst present place c e =
         subst (λ v. Tells v (ReachesThere inst present place c e)) q (reach_is c e) in h.1

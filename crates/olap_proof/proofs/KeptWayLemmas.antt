@@ -23,7 +23,7 @@ use Rattle.olap_graph.specs.Rows.{row}
 use Rattle.olap_graph.proofs.RowLemmas.{row_other, row_same, same_or_not}
 use Rattle.olap_proof.specs.KeptTables.{AreOnce, AreSaid, AreTables}
 use Rattle.olap_proof.specs.declared.ways.Way.{Way as OneWay}
-use Rattle.olap_proof.specs.KeptWays.{IsPut, IsTakenOut, leading_way, said_of, way_kept}
+use Rattle.olap_proof.specs.KeptWays.{IsPut, IsTakenOut, leading_way, status_of_marks, way_kept}
 use Rattle.olap_proof.specs.Places.{Way, way_of}
 
 -- ---- decisions
@@ -215,10 +215,10 @@ said_there : {W : ℕ} (there absent new : List (CatSet W)) (ws : List Way) (v :
 said_there there absent new ws v said none t put c d =
     way_of-append ws (v ∷ []) c d
     ∙ go (is_on v c d) refl (contains (row there c) d) (contains (row absent c) d) (said c d)
-    ∙ ap (λ b. said_of b (contains (row absent c) d)) (sym (put c d))
+    ∙ ap (λ b. status_of_marks b (contains (row absent c) d)) (sym (put c d))
   where
-    go : (b : Bool) → is_on v c d ≡ b → (x y : Bool) → way_of ws c d ≡ said_of x y
-        → first_said (way_of ws c d) (if b then Some v.there else None) ≡ said_of (b || x) y
+    go : (b : Bool) → is_on v c d ≡ b → (x y : Bool) → way_of ws c d ≡ status_of_marks x y
+        → first_said (way_of ws c d) (if b then Some v.there else None) ≡ status_of_marks (b || x) y
     go true e x y h =
         let same = on_is v.child v.parent c d e in
         ap (λ o. first_said o (Some v.there))
@@ -232,20 +232,20 @@ said_absent : {W : ℕ} (there absent new : List (CatSet W)) (ws : List Way) (v 
 said_absent there absent new ws v said none t put c d =
     way_of-append ws (v ∷ []) c d
     ∙ go (is_on v c d) refl (contains (row there c) d) (contains (row absent c) d) (said c d)
-    ∙ ap (said_of (contains (row there c) d)) (sym (put c d))
+    ∙ ap (status_of_marks (contains (row there c) d)) (sym (put c d))
   where
-    unsaid : (x y : Bool) → None ≡ said_of x y → x ≡ false
+    unsaid : (x y : Bool) → None ≡ status_of_marks x y → x ≡ false
     unsaid true y h = absurd (let z : None ≡ Some true = h in cc)
     unsaid false y h = refl
 
-    go : (b : Bool) → is_on v c d ≡ b → (x y : Bool) → way_of ws c d ≡ said_of x y
-        → first_said (way_of ws c d) (if b then Some v.there else None) ≡ said_of x (b || y)
+    go : (b : Bool) → is_on v c d ≡ b → (x y : Bool) → way_of ws c d ≡ status_of_marks x y
+        → first_said (way_of ws c d) (if b then Some v.there else None) ≡ status_of_marks x (b || y)
     go true e x y h =
         let same = on_is v.child v.parent c d e in
         let open_there : way_of ws c d ≡ None =
         ap (λ a. way_of ws a d) (sym same.0) ∙ ap (λ b. way_of ws v.child b) (sym same.1) ∙ none in
         ap (λ o. first_said o (Some v.there)) open_there ∙ ap Some t
-        ∙ ap (λ b. said_of b true) (sym (unsaid x y (sym open_there ∙ h)))
+        ∙ ap (λ b. status_of_marks b true) (sym (unsaid x y (sym open_there ∙ h)))
     go false e x y h = first_none (way_of ws c d) ∙ h
 
 -- and with one less
@@ -255,12 +255,12 @@ said_pop : {W : ℕ} (there absent new less : List (CatSet W)) (ws : List Way) (
 said_pop there absent new less ws v said none out gone c d =
     go (is_on v c d) refl (contains (row there c) d) (contains (row absent c) d)
     (sym (way_of-append ws (v ∷ []) c d) ∙ said c d)
-    ∙ ap (λ b. said_of b (not (is_on v c d) && contains (row absent c) d)) (sym (out c d))
-    ∙ ap (said_of (contains (row new c) d)) (sym (gone c d))
+    ∙ ap (λ b. status_of_marks b (not (is_on v c d) && contains (row absent c) d)) (sym (out c d))
+    ∙ ap (status_of_marks (contains (row new c) d)) (sym (gone c d))
   where
     go : (b : Bool) → is_on v c d ≡ b → (x y : Bool)
-        → first_said (way_of ws c d) (if b then Some v.there else None) ≡ said_of x y
-        → way_of ws c d ≡ said_of (not b && x) (not b && y)
+        → first_said (way_of ws c d) (if b then Some v.there else None) ≡ status_of_marks x y
+        → way_of ws c d ≡ status_of_marks (not b && x) (not b && y)
     go true e x y h =
         let same = on_is v.child v.parent c d e in
         ap (λ a. way_of ws a d) (sym same.0) ∙ ap (λ b. way_of ws v.child b) (sym same.1) ∙ none
@@ -270,8 +270,8 @@ said_pop there absent new less ws v said none out gone c d =
 said_none : {W : ℕ} (there absent : List (CatSet W)) → ((c : ℕ) → row there c ≡ empty)
     → ((c : ℕ) → row absent c ≡ empty) → AreSaid there absent []
 said_none there absent none less c d =
-    ap (λ b. said_of b false) (sym (ap (λ s. contains s d) (none c) ∙ contains-empty nat_cmp d))
-    ∙ ap (said_of (contains (row there c) d)) (sym (ap (λ s. contains s d) (less c) ∙ contains-empty nat_cmp d))
+    ap (λ b. status_of_marks b false) (sym (ap (λ s. contains s d) (none c) ∙ contains-empty nat_cmp d))
+    ∙ ap (status_of_marks (contains (row there c) d)) (sym (ap (λ s. contains s d) (less c) ∙ contains-empty nat_cmp d))
 
 -- a table of empty sets has empty sets
 row_none : {W : ℕ} (x : CatSet W) → members x ≡ empty → (m c : ℕ) → row (replicate m x) c ≡ empty
@@ -416,12 +416,12 @@ tables_written {W} {there} {absent} {old} {older} new less {m} {n} {rest} {w} h 
 pub leads_is : {W : ℕ} (there absent : List (CatSet W)) (ws : List Way) → AreOnce ws → AreSaid there absent ws
     → (c d : ℕ) → (contains (row there c) d ≡ true) ↔ Contains ws (leading_way c d)
 leads_is there absent ws once said c d = (
-  λ h. way_contained ws c d true (said c d ∙ ap (λ b. said_of b (contains (row absent c) d)) h),
+  λ h. way_contained ws c d true (said c d ∙ ap (λ b. status_of_marks b (contains (row absent c) d)) h),
   λ m. there_is (contains (row there c) d) (contains (row absent c) d)
       (sym (said c d) ∙ way_once ws (leading_way c d) once m),
 )
   where
-    there_is : (x y : Bool) → said_of x y ≡ Some true → x ≡ true
+    there_is : (x y : Bool) → status_of_marks x y ≡ Some true → x ≡ true
     there_is true y h = refl
     there_is false true h = absurd (let z : Some false ≡ Some true = h in cc)
     there_is false false h = absurd (let z : None ≡ Some true = h in cc)

@@ -17,7 +17,7 @@ use Rattle.olap_proof.specs.declared.lines.Word.{Word}
 use Rattle.olap_proof.specs.declared.lines.Word.TheVariants as word
 use Rattle.olap_proof.specs.Lines.{Line, Line.Asked, Line.Clash, Line.Cycle, Line.Dead, Line.EdgeOrNot, Line.Loose, Line.NameOf, Line.Shortcut, Line.Unmet, Line.Unreached, Line.WayOrNot, line_text, words}
 use Rattle.olap_proof.specs.declared.lines.Line as program
-use Rattle.olap_proof.specs.Reading.{IsLineOf, IsReading, first_of, rest_of, said, word_at, word_text}
+use Rattle.olap_proof.specs.Reading.{IsLineOf, IsReading, first_of, meaning, rest_of, word_at, word_text}
 use Rattle.olap_proof.proofs.LineLemmas.{parted, unparted}
 
 -- a word with what stands behind it
@@ -144,6 +144,6 @@ line_read s bytes first rest w None n j e h = λ l a q.
     h l a (words_differ (first_of l) w (p.0 ∙ sym e)) p.1
 line_read s bytes first rest w (Some l) n j e h = (
   h.0,
-  sym (line_joined s.graph (said l)) ∙ ap (λ x. joined (word_text x) (rest_of s.graph (said l))) h.1
+  sym (line_joined s.graph (meaning l)) ∙ ap (λ x. joined (word_text x) (rest_of s.graph (meaning l))) h.1
       ∙ ap (λ t. joined (word_text w) t) h.2 ∙ ap (λ x. joined x rest) e ∙ j,
 )

@@ -21,9 +21,9 @@ use Rattle.olap_proof.specs.declared.asking.Asked.{Asked}
 use Rattle.olap_proof.specs.declared.forms.Form.{Form}
 use Rattle.olap_proof.specs.declared.stages.Stage.{Stage}
 use Rattle.olap_proof.specs.Asking.{names_in, question_in, schema_in}
-use Rattle.olap_proof.specs.Certificates.{IsFirstWrong, Open, Open.At, Open.Bottom, Open.Head, Runs, Runs.more, Runs.none, Steps, Steps.begins, Steps.roots, bottom_text, bottoms_of, ended, head_text, start}
+use Rattle.olap_proof.specs.Certificates.{IsFirstWrong, Open, Open.At, Open.Bottom, Open.Head, Runs, Runs.more, Runs.none, Steps, Steps.begins, Steps.roots, bottom_text, bottoms_of, head_text, lines_text, start}
 use Rattle.olap_proof.specs.Places.{Place}
-use Rattle.olap_proof.specs.Stages.{IsStage, Reached, RunsFor, StepsTo, bottoms_from, has_no_child, open_at}
+use Rattle.olap_proof.specs.Stages.{IsReached, IsStage, RunsFor, StepsTo, bottoms_from, has_no_child, open_at}
 use Rattle.olap_proof.proofs.CertificateLemmas.{bottom_listed}
 use Rattle.olap_proof.proofs.LineLemmas.{parted}
 use Rattle.olap_proof.proofs.PlainLineLemmas.{step_whole}
@@ -136,23 +136,23 @@ module _ (f : Form) (s : Schema) (q : Formula) (k : Candidates) where
 
 -- so many lines led to what is open there; they are no more than the bytes that were read
 pub record IsRead (f : Form) (a : Asked) (text rest : List ℕ) (count : ℕ) (there : Stage) : Type 0 where
-  pub reached : Reached f a text rest count (open_at a there)
+  pub reached : IsReached f a text rest count (open_at a there)
   pub stage : IsStage a there
   pub few : count + length rest ≤ length text
 
 module _ (f : Form) (a : Asked) where
-  pub reached_start : (text : List ℕ) → Reached f a text text 0 (Head ∷ [])
+  pub reached_start : (text : List ℕ) → IsReached f a text text 0 (Head ∷ [])
   reached_start text = record { lines = []; parts = refl; counted = refl; run = none }
 
   pub reached_more : (text rest line others : List ℕ) (count : ℕ) (os end : List Open)
-      → Reached f a text rest count os → rest ≡ line ++ 10 ∷ others → RunsFor f a (line ∷ []) os end
-      → Reached f a text others (count + 1) end
+      → IsReached f a text rest count os → rest ≡ line ++ 10 ∷ others → RunsFor f a (line ∷ []) os end
+      → IsReached f a text others (count + 1) end
   reached_more text rest line others count os end r e run = record {
     lines = r.lines ++ line ∷ [];
-    parts = r.parts ∙ ap (λ x. ended r.lines ++ x) e
-        ∙ ap (λ x. ended r.lines ++ x) (sym (append_assoc line (10 ∷ []) others))
-        ∙ ap (λ x. ended r.lines ++ (x ++ others)) (sym (append-nil (line ++ 10 ∷ [])))
-        ∙ sym (append_assoc (ended r.lines) (ended (line ∷ [])) others)
+    parts = r.parts ∙ ap (λ x. lines_text r.lines ++ x) e
+        ∙ ap (λ x. lines_text r.lines ++ x) (sym (append_assoc line (10 ∷ []) others))
+        ∙ ap (λ x. lines_text r.lines ++ (x ++ others)) (sym (append-nil (line ++ 10 ∷ [])))
+        ∙ sym (append_assoc (lines_text r.lines) (lines_text (line ∷ [])) others)
         ∙ ap (λ x. x ++ others) (sym (flat_map-append (λ (l : List ℕ). l ++ 10 ∷ []) r.lines (line ∷ [])));
     counted = length-append r.lines (line ∷ []) ∙ ap (λ n. n + 1) r.counted;
     run = runs_append f (schema_in a) (question_in a) (names_in a) r.run run;
@@ -164,7 +164,7 @@ module _ (f : Form) (a : Asked) where
 
   -- the line that was cut does nothing there
   pub wrong_here : (text rest line others : List ℕ) (count : ℕ) (from : Stage) → IsHierarchy a.graph.now
-      → length (schema_in a).constraints < 2 ^ 64 → Reached f a text rest count (open_at a from)
+      → length (schema_in a).constraints < 2 ^ 64 → IsReached f a text rest count (open_at a from)
       → rest ≡ line ++ 10 ∷ others → (Contains line 10 → ⊥) → StepsTo f a from line None
       → IsFirstWrong f (schema_in a) (question_in a) (names_in a) text count
   wrong_here text rest line others count from h few r e whole nothing = record {
@@ -183,7 +183,7 @@ module _ (f : Form) (a : Asked) where
   }
 
   -- no line is left, and the text is not at its end, or something is open
-  pub wrong_end : (text rest : List ℕ) (count : ℕ) (from : Stage) → Reached f a text rest count (open_at a from)
+  pub wrong_end : (text rest : List ℕ) (count : ℕ) (from : Stage) → IsReached f a text rest count (open_at a from)
       → (Contains rest 10 → ⊥) → (rest ≡ [] → open_at a from ≢ [])
       → IsFirstWrong f (schema_in a) (question_in a) (names_in a) text count
   wrong_end text rest count from r whole early = record {

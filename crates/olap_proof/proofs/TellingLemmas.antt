@@ -18,7 +18,7 @@ use Rattle.olap_ast.proofs.Shape.{either_true, is_same, same_is}
 use Rattle.olap_graph.specs.Lookups.{edge_at, edge_between}
 use Rattle.olap_names.specs.Names.{Named}
 use Rattle.olap_trail.specs.Decisions.{Decided, Decision, present_edges}
-use Rattle.olap_proof.specs.Places.{Place, Way, edge_of_way, index_of, is_known, leading, possible_graph}
+use Rattle.olap_proof.specs.Places.{Place, Way, edge_of_way, index_of, is_known, leading_edges, possible_graph}
 use Rattle.olap_proof.specs.Walking.{IsWalk}
 use Rattle.olap_proof.specs.Within.{IsWithin}
 use Rattle.olap_base.specs.declared.ids.EdgeId.{EdgeId}
@@ -33,7 +33,7 @@ walk_test g a s b h = same_truth (contains s b) (category_reaches g a b)
 
 -- the ends of an edge or a way that is known to be there are categories
 leading_within : (g : Graph) (k : Named) (p : Place) → IsHierarchy g → IsWithin g k p → (e : Edge)
-    → Contains (leading p) e → IsCategory g e.child × IsCategory g e.parent
+    → Contains (leading_edges p) e → IsCategory g e.child × IsCategory g e.parent
 leading_within g k p h w e c = elim (Contains-append_cases (present_edges p.decided)
     (map edge_of_way (filter (λ (x : Way). x.there) p.ways)) e c) [
       | inl a ↦
@@ -56,10 +56,10 @@ leading_within g k p h w e c = elim (Contains-append_cases (present_edges p.deci
 pub known_category : (g : Graph) (k : Named) (p : Place) → IsHierarchy g → IsWithin g k p → (c : ℕ)
     → is_known p c ≡ true → IsCategory g c
 known_category g k p h w c t = elim (either_true (c == p.decided.root)
-    (list_any (λ (e : Edge). (e.child == c) || (e.parent == c)) (leading p)) t) [
+    (list_any (λ (e : Edge). (e.child == c) || (e.parent == c)) (leading_edges p)) t) [
       | inl a ↦ subst (λ x. IsCategory g x) (sym (same_is c p.decided.root a)) w.root
       | inr a ↦
-          let f = (list_any_is (λ (e : Edge). (e.child == c) || (e.parent == c)) (leading p)).0 a in
+          let f = (list_any_is (λ (e : Edge). (e.child == c) || (e.parent == c)) (leading_edges p)).0 a in
           let ends = leading_within g k p h w f.0 f.1 in
           elim (either_true (f.0.child == c) (f.0.parent == c) f.2) [
             | inl b ↦ subst (λ x. IsCategory g x) (same_is f.0.child c b) ends.0

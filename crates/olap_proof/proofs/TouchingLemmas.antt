@@ -17,7 +17,7 @@ use Rattle.olap_graph.specs.Lookups.{edge_at}
 use Rattle.olap_graph.proofs.RowLemmas.{has_union}
 use Rattle.olap_trail.specs.Trails.{decisions_of}
 use Rattle.olap_trail.specs.declared.decisions.Decision.{Decision as OneDecision}
-use Rattle.olap_proof.specs.Places.{Place, is_known, leading, leading_graph}
+use Rattle.olap_proof.specs.Places.{Place, is_known, leading_edges, leading_graph}
 use Rattle.olap_proof.specs.Seen.{LeadsHere, TouchedByDecisions, decision_at}
 use Rattle.olap_proof.specs.Walking.{IsIn, IsTouched, IsTouchedFrom, TouchedFrom, TouchedUpTo}
 use Rattle.olap_proof.proofs.SeenLemmas.{leading_seen, seen_present, seen_way}
@@ -167,8 +167,8 @@ touched_from_first Leads s x = (
 -- an end of an edge that leads on has a member
 end_of : (p : Place) (c d x : ℕ) → HasEdge (leading_graph p) c d → (c ≡ x) ⊎ (d ≡ x) → is_known p x ≡ true
 end_of p c d x h end = later (x == p.decided.root)
-    (list_any (λ (e : Edge). (e.child == x) || (e.parent == x)) (leading p))
-    ((list_any_is (λ (e : Edge). (e.child == x) || (e.parent == x)) (leading p)).1 (
+    (list_any (λ (e : Edge). (e.child == x) || (e.parent == x)) (leading_edges p))
+    ((list_any_is (λ (e : Edge). (e.child == x) || (e.parent == x)) (leading_edges p)).1 (
       record { child = c; parent = d },
       h,
       elim end [
@@ -193,7 +193,7 @@ known_is p ds n listed within first mid new begun byDecisions byWays x = (
     | inl a ↦ elim ((byDecisions x).0 a) [
       | inl b ↦ elim ((put_in empty p.decided.root x).0 (subst (λ s. IsIn s x) begun b)) [
         | inl c ↦ absurd (false_true (contains {R = nat_cmp} empty x) (contains-empty nat_cmp x) c)
-        | inr c ↦ ap (λ t. t || list_any (λ (e : Edge). (e.child == x) || (e.parent == x)) (leading p))
+        | inr c ↦ ap (λ t. t || list_any (λ (e : Edge). (e.child == x) || (e.parent == x)) (leading_edges p))
             (is_same x p.decided.root (sym c))
       ]
       | inr b ↦ end_of p (edge_at p.decided.graph (decision_at ds b.0).edge.0).child
@@ -202,10 +202,10 @@ known_is p ds n listed within first mid new begun byDecisions byWays x = (
     | inr a ↦ end_of p a.0 a.1 x (seen_way p a.0 a.1 a.3) a.4
   ],
   λ h. elim (either_true (x == p.decided.root)
-      (list_any (λ (e : Edge). (e.child == x) || (e.parent == x)) (leading p)) h) [
+      (list_any (λ (e : Edge). (e.child == x) || (e.parent == x)) (leading_edges p)) h) [
         | inl a ↦ (byWays x).1 (inl ((byDecisions x).1 (inl (subst (λ s. IsIn s x) (sym begun)
             ((put_in empty p.decided.root x).1 (inr (sym (same_is x p.decided.root a))))))))
-        | inr a ↦ found ((list_any_is (λ (e : Edge). (e.child == x) || (e.parent == x)) (leading p)).0 a)
+        | inr a ↦ found ((list_any_is (λ (e : Edge). (e.child == x) || (e.parent == x)) (leading_edges p)).0 a)
       ],
 )
   where
@@ -216,7 +216,7 @@ known_is p ds n listed within first mid new begun byDecisions byWays x = (
     moved p q (inl e) = inl (p ∙ e)
     moved p q (inr e) = inr (q ∙ e)
 
-    found : (e : Edge) × Contains (leading p) e × ((e.child == x) || (e.parent == x) ≡ true) → IsIn new x
+    found : (e : Edge) × Contains (leading_edges p) e × ((e.child == x) || (e.parent == x) ≡ true) → IsIn new x
     found w = elim (leading_seen p ds listed w.0.child w.0.parent w.1) [
       | inl s ↦ (byWays x).1 (inl ((byDecisions x).1
           (inr (s.0, s.1, s.2, moved s.3 s.4 (ends w.0.child w.0.parent w.2)))))

@@ -24,7 +24,7 @@ use Rattle.olap_base.proofs.ListLemmas.{Contains-nil, Contains-range}
 use Rattle.olap_names.specs.Names.{Named, candidates_of}
 use Rattle.olap_trail.specs.Decisions.{Decision, status_of}
 use Rattle.olap_proof.specs.declared.forms.Form.{Form}
-use Rattle.olap_proof.specs.Certificates.{Open, Open.At, Open.Bottom, Runs, Runs.more, Steps.closes, Steps.edges, Steps.names, Steps.roots, bottom_text, ended, indexes_of, start, with_edge, with_name}
+use Rattle.olap_proof.specs.Certificates.{Open, Open.At, Open.Bottom, Runs, Runs.more, Steps.closes, Steps.edges, Steps.names, Steps.roots, bottom_text, indexes_of, lines_text, start, with_edge, with_name}
 use Rattle.olap_proof.specs.Lines.{Closes, IsAbout, Line, Line.EdgeOrNot, Line.NameOf, line_text}
 use Rattle.olap_proof.specs.Places.{Naming, Place, index_of}
 use Rattle.olap_proof.specs.Trees.{Adds, Close, IsPlaceOf}
@@ -64,15 +64,15 @@ module _ (m : Form) (s : Schema) (q : Formula) (k : Candidates) where
       → Adds m s q k (os ++ us) a c
   adds_more os us a b c f g = (
     f.0 ++ g.0,
-    g.1 ∙ ap (λ x. x ++ ended g.0) f.1 ∙ append_assoc a (ended f.0) (ended g.0)
+    g.1 ∙ ap (λ x. x ++ lines_text g.0) f.1 ∙ append_assoc a (lines_text f.0) (lines_text g.0)
         ∙ ap (λ x. a ++ x) (sym (flat_map-append (λ (line : List ℕ). line ++ 10 ∷ []) f.0 g.0)),
     close_more os us f.0 g.0 f.2 g.2,
   )
 
   -- a line in front
   in_front : (line : List ℕ) (ls : List (List ℕ)) (a b c : List ℕ) → b ≡ a ++ (line ++ 10 ∷ [])
-      → c ≡ b ++ ended ls → c ≡ a ++ ended (line ∷ ls)
-  in_front line ls a b c e f = f ∙ ap (λ x. x ++ ended ls) e ∙ append_assoc a (line ++ 10 ∷ []) (ended ls)
+      → c ≡ b ++ lines_text ls → c ≡ a ++ lines_text (line ∷ ls)
+  in_front line ls a b c e f = f ∙ ap (λ x. x ++ lines_text ls) e ∙ append_assoc a (line ++ 10 ∷ []) (lines_text ls)
 
   pub adds_leaf : (p : Place) (l : Line) (a b : List ℕ) → IsAbout s l → Closes m s q k p l
       → b ≡ a ++ (line_text s.graph l ++ 10 ∷ []) → Adds m s q k (At p ∷ []) a b

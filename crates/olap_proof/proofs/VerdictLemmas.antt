@@ -10,7 +10,7 @@ use Rattle.olap_ast.specs.Formula.{Formula}
 use Rattle.olap_ast.specs.Frozen.{Candidates}
 use Rattle.olap_ast.specs.Schema.{Schema}
 use Rattle.olap_proof.specs.declared.forms.Form.{Form}
-use Rattle.olap_proof.specs.Certificates.{IsCertificateText, IsFirstWrong, Open, Open.At, Open.Bottom, Open.Head, Runs, Runs.more, Runs.none, Steps, ended}
+use Rattle.olap_proof.specs.Certificates.{IsCertificateText, IsFirstWrong, Open, Open.At, Open.Bottom, Open.Head, Runs, Runs.more, Runs.none, Steps, lines_text}
 use Rattle.olap_proof.specs.Doing.{leaves_open}
 use Rattle.olap_proof.specs.Lines.{Line}
 use Rattle.olap_proof.specs.Verifying.{VerdictsAreOne}
@@ -61,7 +61,7 @@ module _ (f : Form) (s : Schema) (q : Formula) (k : Candidates) (hier : IsHierar
   pub record Behind (xs ys : List (List ℕ)) (a b : List Open) (r t : List ℕ) : Type 0 where
     pub lines : List (List ℕ)
     pub run : Runs f s q k lines a b
-    pub rest : r ≡ ended lines ++ t
+    pub rest : r ≡ lines_text lines ++ t
     pub counted : length ys ≡ length xs + length lines
 
   abbrev OneBehind : List (List ℕ) → List (List ℕ) → List Open → List Open → List ℕ → List ℕ → Type 0
@@ -74,12 +74,13 @@ module _ (f : Form) (s : Schema) (q : Formula) (k : Candidates) (hier : IsHierar
   longer x y xs ys a b r t (inr h) =
       inr (record { lines = h.lines; run = h.run; rest = h.rest; counted = let n = h.counted in omega (arith, n) })
 
-  ended_more : (x : List ℕ) (xs : List (List ℕ)) (r : List ℕ) → ended (x ∷ xs) ++ r ≡ x ++ 10 ∷ (ended xs ++ r)
-  ended_more x xs r =
-      append_assoc (x ++ 10 ∷ []) (ended xs) r ∙ append_assoc x (10 ∷ []) (ended xs ++ r)
+  lines_text_more : (x : List ℕ) (xs : List (List ℕ)) (r : List ℕ)
+      → lines_text (x ∷ xs) ++ r ≡ x ++ 10 ∷ (lines_text xs ++ r)
+  lines_text_more x xs r =
+      append_assoc (x ++ 10 ∷ []) (lines_text xs) r ∙ append_assoc x (10 ∷ []) (lines_text xs ++ r)
 
   one_behind : {xs : List (List ℕ)} {os a : List Open} → Runs f s q k xs os a → (ys : List (List ℕ)) (b : List Open)
-      → Runs f s q k ys os b → (r t : List ℕ) → ended xs ++ r ≡ ended ys ++ t → OneBehind xs ys a b r t
+      → Runs f s q k ys os b → (r t : List ℕ) → lines_text xs ++ r ≡ lines_text ys ++ t → OneBehind xs ys a b r t
   one_behind none ys b run r t e = inl (record { lines = ys; run = run; rest = e; counted = omega arith })
   one_behind (more {line = x} {lines = xs} {o = o} {new = new} {rest = rest} {end = a} step run) [] b other r t e =
       inr (record {
@@ -92,15 +93,15 @@ module _ (f : Form) (s : Schema) (q : Formula) (k : Candidates) (hier : IsHierar
       e =
       go (λ z i. one_behind run ys b z r t i) (first_step f s q k other y ys refl)
     where
-      go : (Runs f s q k ys (new ++ rest) b → ended xs ++ r ≡ ended ys ++ t → OneBehind xs ys a b r t)
+      go : (Runs f s q k ys (new ++ rest) b → lines_text xs ++ r ≡ lines_text ys ++ t → OneBehind xs ys a b r t)
           → FirstStep f s q k y ys (o ∷ rest) b → OneBehind (x ∷ xs) (y ∷ ys) a b r t
       go behind (first u later others i w z) =
           let there : u ≡ o = cc in
           let same_rest : others ≡ rest = cc in
           let wo : Steps f s q k y o later = subst (λ v. Steps f s q k y v later) there w in
-          let cut = parted 10 x (ended xs ++ r) y (ended ys ++ t)
+          let cut = parted 10 x (lines_text xs ++ r) y (lines_text ys ++ t)
           (step_whole f s q k hier few x o new step) (step_whole f s q k hier few y o later wo)
-          (sym (ended_more x xs r) ∙ e ∙ ended_more y ys t) in
+          (sym (lines_text_more x xs r) ∙ e ∙ lines_text_more y ys t) in
           let same : later ≡ new =
           steps_once x o later new (subst (λ l. Steps f s q k l o later) (sym cut.0) wo) step in
           let zo : Runs f s q k ys (new ++ rest) b =
@@ -116,11 +117,11 @@ module _ (f : Form) (s : Schema) (q : Formula) (k : Candidates) (hier : IsHierar
         → (h : Behind w.lines ys w.open_there b w.rest t) → h.lines ≡ []
     none_behind n w ys b t h = go h.lines h.run h.rest
       where
-        go : (zs : List (List ℕ)) → Runs f s q k zs w.open_there b → w.rest ≡ ended zs ++ t → zs ≡ []
+        go : (zs : List (List ℕ)) → Runs f s q k zs w.open_there b → w.rest ≡ lines_text zs ++ t → zs ≡ []
         go [] run e = refl
         go (z ∷ zs) run e =
             let one = first_runs z zs w.open_there b run in
-            absurd (w.stuck z (ended zs ++ t) one.0 (e ∙ ended_more z zs t) one.1)
+            absurd (w.stuck z (lines_text zs ++ t) one.0 (e ∙ lines_text_more z zs t) one.1)
 
     nothing_counted : (zs : List (List ℕ)) → zs ≡ [] → length zs ≡ 0
     nothing_counted zs e = ap (λ (xs : List (List ℕ)). length xs) e
@@ -147,15 +148,15 @@ module _ (f : Form) (s : Schema) (q : Formula) (k : Candidates) (hier : IsHierar
 
     none_wrong : (n : ℕ) → IsFirstWrong f s q k text n → IsCertificateText f s q k text → ⊥
     none_wrong n w t =
-        go (one_behind w.run t.0 [] t.2 w.rest [] (sym w.parts ∙ t.1 ∙ sym (append-nil (ended t.0))))
+        go (one_behind w.run t.0 [] t.2 w.rest [] (sym w.parts ∙ t.1 ∙ sym (append-nil (lines_text t.0))))
       where
         go : OneBehind w.lines t.0 w.open_there [] w.rest [] → ⊥
         go (inl h) =
             let z = none_behind n w t.0 [] [] h in
-            early n w (no_lines h.run z) (h.rest ∙ append-nil (ended h.lines) ∙ ap (λ xs. ended xs) z)
+            early n w (no_lines h.run z) (h.rest ∙ append-nil (lines_text h.lines) ∙ ap (λ xs. lines_text xs) z)
         go (inr h) =
             let z = nothing_runs h.lines w.open_there h.run in
-            early n w (sym (no_lines h.run z)) (ap (λ xs. ended xs ++ w.rest) (sym z) ∙ sym h.rest)
+            early n w (sym (no_lines h.run z)) (ap (λ xs. lines_text xs ++ w.rest) (sym z) ∙ sym h.rest)
 
 -- the theorem: of two runs over one text neither can end where the other goes on
 pub verdicts_are_one : VerdictsAreOne

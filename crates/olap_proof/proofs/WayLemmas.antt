@@ -36,7 +36,7 @@ use Rattle.olap_numerals.specs.Comparing.{Op}
 use Rattle.olap_trail.specs.Decisions.{Decided, Decision, HoldsCycle, HoldsShortcut, present_edges, present_graph, status_of}
 use Rattle.olap_proof.specs.declared.forms.Form.{Form}
 use Rattle.olap_proof.specs.declared.forms.Form.TheVariants.{Long, Short}
-use Rattle.olap_proof.specs.Places.{Naming, Place, Way, edge_of_way, is_known, is_numbered, is_top, knowledge, leading, leading_graph, leads, name_of, possible_graph, reached, reaching, told_name, told_number, way_of}
+use Rattle.olap_proof.specs.Places.{Naming, Place, Way, edge_of_way, is_known, is_numbered, is_top, knowledge, leading_edges, leading_graph, leads, name_of, possible_graph, truth_of_name, truth_of_number, truth_of_reach, truth_of_way, way_of}
 use Rattle.olap_proof.specs.Lines.{Closes, IsClash, IsDead, IsLoose, IsUnmet, IsUnmetAt, IsUnreached, Line, Line.Asked, Line.Clash, Line.Cycle, Line.Dead, Line.EdgeOrNot, Line.Loose, Line.NameOf, Line.Shortcut, Line.Unmet, Line.Unreached, Line.WayOrNot}
 use Rattle.olap_proof.proofs.NumberTests.{numbered_is}
 use Rattle.olap_proof.proofs.AgreeingLemmas as agreeing
@@ -142,7 +142,7 @@ module _ (form : Form) (s : Schema) (q : Formula) (r : ℕ) (k : Candidates) (f 
       j (subst (λ x. Leads s r f w.0.child x) (sym w.3) (subst (λ x. Leads s r f x b) (sym w.2) l))
 
   -- present edges and ways that are there lead on, from members
-  leading_on : (x : Edge) → Contains (leading p) x → Leads s r f x.child x.parent
+  leading_on : (x : Edge) → Contains (leading_edges p) x → Leads s r f x.child x.parent
   leading_on x c = elim (Contains-append_cases (present_edges t)
       (map edge_of_way (filter (λ (w : Way). w.there) ws)) x c) [
         | inl h ↦
@@ -159,10 +159,10 @@ module _ (form : Form) (s : Schema) (q : Formula) (r : ℕ) (k : Candidates) (f 
 
   known_there : (c : ℕ) → is_known p c ≡ true → present c ≡ true
   known_there c h = elim (either_true (c == r)
-      (list_any (λ (e : Edge). (e.child == c) || (e.parent == c)) (leading p)) h) [
+      (list_any (λ (e : Edge). (e.child == c) || (e.parent == c)) (leading_edges p)) h) [
         | inl a ↦ subst (λ x. present x ≡ true) (sym (same_is c r a)) (made.root_present s.graph r es ch)
         | inr a ↦
-            let w = (list_any_is (λ (e : Edge). (e.child == c) || (e.parent == c)) (leading p)).0 a in
+            let w = (list_any_is (λ (e : Edge). (e.child == c) || (e.parent == c)) (leading_edges p)).0 a in
             let j = leading_on w.0 w.1 in
             elim (either_true (w.0.child == c) (w.0.parent == c) w.2) [
               | inl b ↦ subst (λ x. present x ≡ true) (same_is w.0.child c b) j.0
@@ -211,7 +211,7 @@ module _ (form : Form) (s : Schema) (q : Formula) (r : ℕ) (k : Candidates) (f 
   leads_from : (c e : ℕ) → ReachesThere inst present place c e → Leads s r f c e
   leads_from c e h = (h.0, (made.reaches_walk s.graph r es ch name c e h.0 h.1).0 h.2)
 
-  pub reached_is : (c e : ℕ) → Tells (reached form p c e) (ReachesThere inst present place c e)
+  pub reached_is : (c e : ℕ) → Tells (truth_of_reach form p c e) (ReachesThere inst present place c e)
   reached_is c e = go (way_of ws c e) refl
     where
       free : (a : Bool) → leads form p c e ≡ a → (w : Bool) → category_reaches (possible_graph t) c e ≡ w
@@ -224,13 +224,13 @@ module _ (form : Form) (s : Schema) (q : Formula) (r : ℕ) (k : Candidates) (f 
           let z : true ≡ false = sym v ∙ x in cc
 
       go : (o : Option Bool) → way_of ws c e ≡ o
-          → Tells (reaching form p c e o) (ReachesThere inst present place c e)
+          → Tells (truth_of_way form p c e o) (ReachesThere inst present place c e)
       go (Some true) h = there_from c e (way_there c e h)
       go (Some false) h = λ w. way_absent c e h (leads_from c e w)
       go None h = free (leads form p c e) refl (category_reaches (possible_graph t) c e) refl
 
   pub name_is : (c : ℕ) (text : List ℕ)
-      → Tells (told_name p c (name_of k ns c) text) (HasNameThere inst present place c text)
+      → Tells (truth_of_name p c (name_of k ns c) text) (HasNameThere inst present place c text)
   name_is c text = go (name_of k ns c) refl
     where
       of_test : (w : List ℕ) → name c ≡ w → (a : Bool) → bytes_eq w text ≡ a → (b : Bool) → is_known p c ≡ b
@@ -244,14 +244,14 @@ module _ (form : Form) (s : Schema) (q : Formula) (r : ℕ) (k : Candidates) (f 
           let z : true ≡ false = sym v ∙ x in cc
 
       go : (o : Option (List ℕ)) → name_of k ns c ≡ o
-          → Tells (told_name p c o text) (HasNameThere inst present place c text)
+          → Tells (truth_of_name p c o text) (HasNameThere inst present place c text)
       go None e = tt
       go (Some w) e =
           of_test w (agreeing.name_told s q r k f hier root one ds ns like.rest c w e) (bytes_eq w text) refl
           (is_known p c) refl
 
   pub number_is : (c : ℕ) (op : Op) (n : ℤ)
-      → Tells (told_number p c (name_of k ns c) op n) (HasNumberThere inst present place c op n)
+      → Tells (truth_of_number p c (name_of k ns c) op n) (HasNumberThere inst present place c op n)
   number_is c op n = go (name_of k ns c) refl
     where
       of_test : (w : List ℕ) → name c ≡ w → (a : Bool) → is_numbered w op n ≡ a → (b : Bool) → is_known p c ≡ b
@@ -267,7 +267,7 @@ module _ (form : Form) (s : Schema) (q : Formula) (r : ℕ) (k : Candidates) (f 
           let z : true ≡ false = sym v ∙ x in cc
 
       go : (o : Option (List ℕ)) → name_of k ns c ≡ o
-          → Tells (told_number p c o op n) (HasNumberThere inst present place c op n)
+          → Tells (truth_of_number p c o op n) (HasNumberThere inst present place c op n)
       go None e = tt
       go (Some w) e = of_test w (agreeing.name_told s q r k f hier root one ds ns like.rest c w e)
           (is_numbered w op n) refl (is_known p c) refl
@@ -300,7 +300,7 @@ module _ (form : Form) (s : Schema) (q : Formula) (r : ℕ) (k : Candidates) (f 
   shortcut_none : HoldsShortcut (present_graph t) → ⊥
   shortcut_none h = agreeing.shortcut_none s q r k f hier root one ds ns like.rest h
 
-  told_no : (c e : ℕ) → reached form p c e ≡ No → ReachesThere inst present place c e → ⊥
+  told_no : (c e : ℕ) → truth_of_reach form p c e ≡ No → ReachesThere inst present place c e → ⊥
   told_no c e n = subst (λ x. Tells x (ReachesThere inst present place c e)) n (reached_is c e)
 
   loose_none : (e : ℕ) → IsLoose s.graph p e → ⊥
@@ -332,7 +332,7 @@ module _ (form : Form) (s : Schema) (q : Formula) (r : ℕ) (k : Candidates) (f 
 
   -- a way that is there has a first step
   steps_none : (a b : ℕ) → a ≢ b
-      → All (λ e. (status_of t e ≡ Some false) ⊎ (reached form p (edge_at s.graph e).parent b ≡ No))
+      → All (λ e. (status_of t e ≡ Some false) ⊎ (truth_of_reach form p (edge_at s.graph e).parent b ≡ No))
       (edges_from s.graph a)
       → Leads s r f a b → ⊥
   steps_none a b n all l = go l.1 refl refl
@@ -344,11 +344,11 @@ module _ (form : Form) (s : Schema) (q : Formula) (r : ℕ) (k : Candidates) (f 
           let m = i.1 in
           let rest' : Steps (Joins es) z b = subst (λ m. Steps (Joins es) z m) w rest in
           let reason =
-          subst (λ e. (status_of t e ≡ Some false) ⊎ (reached form p (edge_at s.graph e).parent b ≡ No)) m.2
+          subst (λ e. (status_of t e ≡ Some false) ⊎ (truth_of_reach form p (edge_at s.graph e).parent b ≡ No)) m.2
           (all m.0 i.0 m.1) in
           elim reason [
             | inl h ↦ status_absent i.0 h i.2
-            | inr h ↦ told_no z b (subst (λ v. reached form p v b ≡ No) i.3 h)
+            | inr h ↦ told_no z b (subst (λ v. truth_of_reach form p v b ≡ No) i.3 h)
                 (there_from z b (parent_present c z j, rest'))
           ]
 

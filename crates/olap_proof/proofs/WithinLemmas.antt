@@ -12,7 +12,7 @@ use Rattle.olap_names.specs.Names.{Named}
 use Rattle.olap_trail.specs.Decisions.{Decision}
 use Rattle.olap_proof.specs.declared.branches.Choice.{Choice}
 use Rattle.olap_proof.specs.declared.branches.Choice.TheVariants.{Edge, Name, Way}
-use Rattle.olap_proof.specs.Branches.{AreLegal, IsBranch, IsLegal, chosen, first_of, led}
+use Rattle.olap_proof.specs.Branches.{AreLegal, IsBranch, IsLegal, first_of, with_choice, with_choices}
 use Rattle.olap_proof.specs.Certificates.{start}
 use Rattle.olap_proof.specs.Places.{Naming, Place, Way as WayHere}
 use Rattle.olap_proof.specs.Within.{IsWithin}
@@ -39,7 +39,7 @@ within_start g k b i t = record {
 
 -- one legal choice more
 pub within_more : (g : Graph) (k : Named) (p : Place) (x : Choice) → IsWithin g k p → IsLegal g k p x
-    → IsWithin g k (chosen p x)
+    → IsWithin g k (with_choice p x)
 within_more g k p (Edge e b) w l = record {
   graph = w.graph;
   root = w.root;
@@ -78,10 +78,10 @@ within_more g k p (Way a b t) w l =
     }
 
 -- several
-within_led : (g : Graph) (k : Named) (p : Place) (xs : List Choice) → IsWithin g k p → AreLegal g k p xs
-    → IsWithin g k (led p xs)
-within_led g k p [] w l = w
-within_led g k p (x ∷ xs) w l = within_led g k (chosen p x) xs (within_more g k p x w l.0) l.1
+within_choices : (g : Graph) (k : Named) (p : Place) (xs : List Choice) → IsWithin g k p → AreLegal g k p xs
+    → IsWithin g k (with_choices p xs)
+within_choices g k p [] w l = w
+within_choices g k p (x ∷ xs) w l = within_choices g k (with_choice p x) xs (within_more g k p x w l.0) l.1
 
 -- so it is along a branch
 pub branch_within : (g : Graph) (k : Named) (p : Place) (xs : List Choice) → IsBranch g k p xs → IsWithin g k p
@@ -90,4 +90,4 @@ branch_within g k p xs h =
     subst (λ (j : Graph). IsWithin g k (start j p.decided.root)) (sym h.graph)
     (within_start g k p.decided.root
     (h.root) h.texts) in
-    subst (λ (y : Place). IsWithin g k y) (sym h.led_there) (within_led g k (first_of p) xs first h.legal)
+    subst (λ (y : Place). IsWithin g k y) (sym h.led_there) (within_choices g k (first_of p) xs first h.legal)

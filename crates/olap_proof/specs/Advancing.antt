@@ -15,7 +15,7 @@ use Rattle.olap_proof.specs.Certificates.{Open, Open.At, Steps}
 use Rattle.olap_proof.specs.Doing.{Does, leaves_open}
 use Rattle.olap_proof.specs.Lines.{IsAbout}
 use Rattle.olap_proof.specs.Places.{Place}
-use Rattle.olap_proof.specs.Reading.{said}
+use Rattle.olap_proof.specs.Reading.{meaning}
 
 -- they do this at a place
 abbrev pub StepsAt : Form → Asked → Place → List ℕ → List Open → Type 0
@@ -24,15 +24,15 @@ StepsAt f a p bytes new =
 
 -- this line is about the schema, and does something at the place, as these bytes do
 pub record IsDone (f : Form) (a : Asked) (p : Place) (bytes : List ℕ) (l : program.Line) : Type 0 where
-  pub about : IsAbout (schema_in a) (said l)
-  pub does : Does f (schema_in a) (question_in a) (names_in a) p (said l)
-  pub step : StepsAt f a p bytes (leaves_open (names_in a) p (said l))
+  pub about : IsAbout (schema_in a) (meaning l)
+  pub does : Does f (schema_in a) (question_in a) (names_in a) p (meaning l)
+  pub step : StepsAt f a p bytes (leaves_open (names_in a) p (meaning l))
 
 -- they do nothing; or some of the tree is open still, or none
 abbrev pub Advances : Form → Asked → Place → List Choice → List ℕ → Place → List Choice → Effect → Type 0
 Advances f a p xs bytes r ys Nothing = (new : List Open) → StepsAt f a p bytes new → ⊥
 Advances f a p xs bytes r ys Still = IsBranch a.graph.now a.candidates.now r ys × (first_of r ≡ first_of p)
-    × ((acc : List Open) → (new : List Open) × StepsAt f a p bytes new × (new ++ left_open a.candidates.now (first_of p) xs acc
-    ≡ At r ∷ left_open a.candidates.now (first_of r) ys acc))
+    × ((acc : List Open) → (new : List Open) × StepsAt f a p bytes new
+    × (new ++ left_open a.candidates.now (first_of p) xs acc ≡ At r ∷ left_open a.candidates.now (first_of r) ys acc))
 Advances f a p xs bytes r ys Closed = (acc : List Open)
     → (new : List Open) × StepsAt f a p bytes new × (new ++ left_open a.candidates.now (first_of p) xs acc ≡ acc)

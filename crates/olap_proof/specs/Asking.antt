@@ -18,7 +18,7 @@ use Rattle.olap_proof.specs.declared.forms.Form.{Form}
 use Rattle.olap_proof.specs.declared.lines.Line as program
 use Rattle.olap_proof.specs.Lines.{Closes, IsAbout, Line}
 use Rattle.olap_proof.specs.Places.{Place, index_of}
-use Rattle.olap_proof.specs.Reading.{said}
+use Rattle.olap_proof.specs.Reading.{meaning}
 
 -- the schema
 abbrev pub schema_in : Asked → Schema
@@ -35,7 +35,7 @@ names_in a = candidates_of a.candidates.now
 -- it is a line about this schema, and closes the place
 abbrev pub IsClosing : Form → Asked → Place → program.Line → Type 0
 IsClosing f a p l =
-    IsAbout (schema_in a) (said l) × Closes f (schema_in a) (question_in a) (names_in a) p (said l)
+    IsAbout (schema_in a) (meaning l) × Closes f (schema_in a) (question_in a) (names_in a) p (meaning l)
 
 -- the line doesn't close the place
 abbrev pub IsOpenTo : Form → Asked → Place → Line → Type 0

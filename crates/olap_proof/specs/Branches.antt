@@ -1,6 +1,6 @@
 -- The branch of a tree that leads to a place: the choices, one of the cases of each line that split a place.
---     chosen        the place with one choice more
---     led           with several, outermost first
+--     with_choice   the place with one choice more
+--     with_choices  with several, outermost first
 --     siblings      the cases that are open after one
 --     left_open     what is open, of the tree, after the place that the choices lead to
 --     IsNamed       its category has names
@@ -19,15 +19,15 @@ use Rattle.olap_proof.specs.Certificates.{Open, Open.At, start, with_edge, with_
 use Rattle.olap_proof.specs.Places.{Place, way_of}
 
 -- the place with one choice more
-abbrev pub chosen : Place → Choice → Place
-chosen p (Edge e b) = with_edge p e.0 b
-chosen p (Name c i) = with_name p c.0 i
-chosen p (Way a b t) = with_way p a.0 b.0 t
+abbrev pub with_choice : Place → Choice → Place
+with_choice p (Edge e b) = with_edge p e.0 b
+with_choice p (Name c i) = with_name p c.0 i
+with_choice p (Way a b t) = with_way p a.0 b.0 t
 
 -- with several, outermost first
-abbrev pub led : Place → List Choice → Place
-led p [] = p
-led p (x ∷ xs) = led (chosen p x) xs
+abbrev pub with_choices : Place → List Choice → Place
+with_choices p [] = p
+with_choices p (x ∷ xs) = with_choices (with_choice p x) xs
 
 -- the other case, if this is the first one
 abbrev pub unless : Bool → Open → List Open
@@ -44,7 +44,7 @@ siblings k p (Way a b t) = unless t (At (with_way p a.0 b.0 true))
 -- what is open, of the tree, after the place that the choices lead to
 abbrev pub left_open : Named → Place → List Choice → List Open → List Open
 left_open k p [] acc = acc
-left_open k p (x ∷ xs) acc = left_open k (chosen p x) xs (siblings k p x ++ acc)
+left_open k p (x ∷ xs) acc = left_open k (with_choice p x) xs (siblings k p x ++ acc)
 
 -- the category is one of those that have names
 abbrev pub IsNamed : Named → Choice → Type 0
@@ -61,7 +61,7 @@ IsLegal g k p (Way a b t) = IsCategory g a.0 × IsCategory g b.0 × (way_of p.wa
 -- and so does each of several
 abbrev pub AreLegal : Graph → Named → Place → List Choice → Type 0
 AreLegal g k p [] = Unit {0}
-AreLegal g k p (x ∷ xs) = IsLegal g k p x × AreLegal g k (chosen p x) xs
+AreLegal g k p (x ∷ xs) = IsLegal g k p x × AreLegal g k (with_choice p x) xs
 
 -- where nothing is decided
 abbrev pub first_of : Place → Place
@@ -72,7 +72,7 @@ pub record IsBranch (g : Graph) (k : Named) (p : Place) (xs : List Choice) : Typ
   pub graph : p.decided.graph ≡ g
   pub root : IsCategory g p.decided.root
   pub texts : length k.texts ≡ category_count g
-  pub led_there : p ≡ led (first_of p) xs
+  pub led_there : p ≡ with_choices (first_of p) xs
   pub legal : AreLegal g k (first_of p) xs
 
 -- what was open, of the tree, after the place is what is open from another place on; or nothing was

@@ -96,24 +96,25 @@ IsCertificate f s q k lines = Runs f s q k lines (Head ∷ []) []
 -- ---- texts
 
 -- lines, each ended by an LF
-abbrev pub ended : List (List ℕ) → List ℕ
-ended lines = flat_map (λ line. line ++ 10 ∷ []) lines
+abbrev pub lines_text : List (List ℕ) → List ℕ
+lines_text lines = flat_map (λ line. line ++ 10 ∷ []) lines
 
 -- the text is a certificate's lines, each ended by an LF
 abbrev pub IsCertificateText : Form → Schema → Formula → Candidates → List ℕ → Type 0
-IsCertificateText f s q k text = (lines : List (List ℕ)) × (text ≡ ended lines) × IsCertificate f s q k lines
+IsCertificateText f s q k text = (lines : List (List ℕ)) × (text ≡ lines_text lines) × IsCertificate f s q k lines
 
 -- so many lines run; then the text ends while something is open, or what stands there is no line that does something
-pub record IsFirstWrong (f : Form) (s : Schema) (q : Formula) (k : Candidates) (text : List ℕ) (count : ℕ) : Type 0 where
-  pub lines : List (List ℕ)
-  pub rest : List ℕ
-  pub open_there : List Open
-  pub parts : text ≡ ended lines ++ rest
-  pub counted : length lines ≡ count
-  pub run : Runs f s q k lines (Head ∷ []) open_there
-  pub too_early : rest ≡ [] → open_there ≢ []
-  pub stuck : (line more : List ℕ) (left : List Open) → rest ≡ line ++ 10 ∷ more
-      → Runs f s q k (line ∷ []) open_there left → ⊥
+pub record IsFirstWrong (f : Form) (s : Schema) (q : Formula) (k : Candidates) (text : List ℕ) (count : ℕ) : Type 0
+  where
+    pub lines : List (List ℕ)
+    pub rest : List ℕ
+    pub open_there : List Open
+    pub parts : text ≡ lines_text lines ++ rest
+    pub counted : length lines ≡ count
+    pub run : Runs f s q k lines (Head ∷ []) open_there
+    pub too_early : rest ≡ [] → open_there ≢ []
+    pub stuck : (line more : List ℕ) (left : List Open) → rest ≡ line ++ 10 ∷ more
+        → Runs f s q k (line ∷ []) open_there left → ⊥
 
 -- a certificate, of either form, exists only where the target is summarizable
 abbrev pub CertificatesAreRight : Type 0

@@ -11,7 +11,7 @@ use Rattle.olap_proof.specs.declared.lines.Line as program
 use Rattle.olap_proof.specs.declared.telling.Known.{Known}
 use Rattle.olap_proof.specs.DoneHere.{schema_at}
 use Rattle.olap_proof.specs.Lines.{Closes, IsAbout, Line}
-use Rattle.olap_proof.specs.Reading.{said}
+use Rattle.olap_proof.specs.Reading.{meaning}
 
 -- the line closes it
 abbrev pub ClosesHere : Known → List Constraint → Formula → Line → Type 0
@@ -23,4 +23,4 @@ IsOpenHere p cs q l = ClosesHere p cs q l → ⊥
 
 -- it is a line about the schema, and closes it
 abbrev pub IsClosingHere : Known → List Constraint → Formula → program.Line → Type 0
-IsClosingHere p cs q l = IsAbout (schema_at p cs) (said l) × ClosesHere p cs q (said l)
+IsClosingHere p cs q l = IsAbout (schema_at p cs) (meaning l) × ClosesHere p cs q (meaning l)

@@ -1,8 +1,8 @@
 -- Lines at the program's place, of a schema with some constraints, for a question.
---     schema_at        the schema
---     DoesHere         the line does something
---     opened           what is open after it
---     StepsHere        bytes do this
+--     schema_at   the schema
+--     DoesHere    the line does something
+--     open_after  what is open after it
+--     StepsHere   bytes do this
 use Rattle.std.specs.Prelude.{ℕ, List, map}
 use Rattle.olap_ast.specs.Schema.{Schema}
 use Rattle.olap_ast.specs.Trees.{constraint_of, formula_of}
@@ -13,7 +13,7 @@ use Rattle.olap_proof.specs.declared.lines.Line as program
 use Rattle.olap_proof.specs.declared.telling.Known.{Known}
 use Rattle.olap_proof.specs.Certificates.{Open, Open.At, Steps}
 use Rattle.olap_proof.specs.Doing.{Does, leaves_open}
-use Rattle.olap_proof.specs.Reading.{said}
+use Rattle.olap_proof.specs.Reading.{meaning}
 
 -- the schema
 abbrev pub schema_at : Known → List Constraint → Schema
@@ -22,11 +22,11 @@ schema_at p cs = with_graph p.graph.now (map constraint_of cs)
 -- the line does something
 abbrev pub DoesHere : Known → List Constraint → Formula → program.Line → Type 0
 DoesHere p cs q l =
-    Does p.form (schema_at p cs) (formula_of q) (candidates_of p.candidates.now) p.place.now (said l)
+    Does p.form (schema_at p cs) (formula_of q) (candidates_of p.candidates.now) p.place.now (meaning l)
 
 -- what is open after it
-abbrev pub opened : Known → program.Line → List Open
-opened p l = leaves_open (candidates_of p.candidates.now) p.place.now (said l)
+abbrev pub open_after : Known → program.Line → List Open
+open_after p l = leaves_open (candidates_of p.candidates.now) p.place.now (meaning l)
 
 -- bytes do this
 abbrev pub StepsHere : Known → List Constraint → Formula → List ℕ → List Open → Type 0

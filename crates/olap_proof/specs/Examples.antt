@@ -33,7 +33,8 @@ city_not_by_store = not_by_one 2 (1 ∷ [])
 -- five lines are a certificate for City from Store
 abbrev pub ChainIsCertified : Type 0
 ChainIsCertified = (k : Candidates) → IsCertificate Long chain city_not_by_store k
-    (codes "certificate 1" ∷ codes "bottom Store" ∷ codes "edge Store City" ∷ codes "dead Store" ∷ codes "question" ∷ [])
+    (codes "certificate 1" ∷ codes "bottom Store"
+    ∷ codes "edge Store City" ∷ codes "dead Store" ∷ codes "question" ∷ [])
 
 -- seven lines of the short form are one too
 abbrev pub ChainIsShortlyCertified : Type 0

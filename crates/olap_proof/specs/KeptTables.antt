@@ -10,7 +10,7 @@ use Rattle.olap_base.specs.Limits.{most_categories}
 use Rattle.olap_bits.specs.declared.sets.CatSet.{CatSet}
 use Rattle.olap_graph.specs.Rows.{row}
 use Rattle.olap_proof.specs.declared.ways.Ways.TheInside as ways
-use Rattle.olap_proof.specs.KeptWays.{said_of, way_kept}
+use Rattle.olap_proof.specs.KeptWays.{status_of_marks, way_kept}
 use Rattle.olap_proof.specs.Places.{Way, way_of}
 
 -- the decisions
@@ -24,7 +24,8 @@ AreOnce (w ∷ ws) = (way_of ws w.child w.parent ≡ None) × AreOnce ws
 
 -- the tables say what was decided
 abbrev pub AreSaid : {W : ℕ} → List (CatSet W) → List (CatSet W) → List Way → Type 0
-AreSaid there absent ws = (c d : ℕ) → way_of ws c d ≡ said_of (set.contains (row there c) d) (set.contains (row absent c) d)
+AreSaid there absent ws = (c d : ℕ) → way_of ws c d
+    ≡ status_of_marks (set.contains (row there c) d) (set.contains (row absent c) d)
 
 -- tables of all categories say what was decided, of each way once
 pub record AreTables {W : ℕ} (there absent : List (CatSet W)) (ws : List Way) : Type 0 where

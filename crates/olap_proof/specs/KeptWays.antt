@@ -1,9 +1,9 @@
 -- The program's decisions on ways, and the tables beside them.
---     way_kept       one decision
---     leading_way    a way that is there
---     said_of        what two marks say of a way
---     IsPut          a category was put into the set of another one
---     IsTakenOut     one was taken out
+--     way_kept         one decision
+--     leading_way      a way that is there
+--     status_of_marks  what two marks say of a way
+--     IsPut            a category was put into the set of another one
+--     IsTakenOut       one was taken out
 use Rattle.std.specs.Prelude.{◌≡◌, ◌==◌, ◌&&◌, ◌||◌, ℕ, List, Bool, true, false, Option, None, Some, not}
 use Rattle.std.specs.FinSet as set
 use Rattle.olap_bits.specs.declared.sets.CatSet.{CatSet}
@@ -20,10 +20,10 @@ abbrev pub leading_way : ℕ → ℕ → Way
 leading_way c d = record { child = c; parent = d; there = true }
 
 -- what two marks say of a way
-abbrev pub said_of : Bool → Bool → Option Bool
-said_of true absent = Some true
-said_of false true = Some false
-said_of false false = None
+abbrev pub status_of_marks : Bool → Bool → Option Bool
+status_of_marks true absent = Some true
+status_of_marks false true = Some false
+status_of_marks false false = None
 
 -- d was put into the set of c
 abbrev pub IsPut : {W : ℕ} → List (CatSet W) → ℕ → ℕ → List (CatSet W) → Type 0

@@ -15,7 +15,7 @@ use Rattle.olap_graph.specs.Lookups.{edge_at, edges_from, name_of_category}
 use Rattle.olap_trail.specs.Decisions.{HoldsCycle, HoldsShortcut, present_graph, status_of}
 use Rattle.olap_proof.specs.declared.forms.Form.{Form}
 use Rattle.olap_proof.specs.declared.forms.Form.TheVariants.{Long, Short}
-use Rattle.olap_proof.specs.Places.{Place, is_known, knowledge, leads, possible_graph, reached, way_of}
+use Rattle.olap_proof.specs.Places.{Place, is_known, knowledge, leads, possible_graph, truth_of_reach, way_of}
 
 -- the first three split what is open; the others close it
 pub data Line : Type 0 where
@@ -86,11 +86,11 @@ IsLoose g p e = ((edge_at g e).child ≢ p.decided.root) × (status_of p.decided
 
 -- c has a member, and the root's, another one, doesn't reach it
 abbrev pub IsUnreached : Form → Place → ℕ → Type 0
-IsUnreached f p c = (c ≢ p.decided.root) × IsTrue (is_known p c) × (reached f p p.decided.root c ≡ No)
+IsUnreached f p c = (c ≢ p.decided.root) × IsTrue (is_known p c) × (truth_of_reach f p p.decided.root c ≡ No)
 
 -- the edge is absent, or what it leads to doesn't reach b
 abbrev pub IsNoStep : Form → Graph → Place → ℕ → ℕ → Type 0
-IsNoStep f g p b e = (status_of p.decided e ≡ Some false) ⊎ (reached f p (edge_at g e).parent b ≡ No)
+IsNoStep f g p b e = (status_of p.decided e ≡ Some false) ⊎ (truth_of_reach f p (edge_at g e).parent b ≡ No)
 
 -- it was decided that the way is there, and no first step of it can be; or that it isn't, and it is known to be
 abbrev pub IsClash : Form → Graph → Place → ℕ → ℕ → Type 0

@@ -1,11 +1,11 @@
 -- Places: frozen dimensions of which some edges, names and ways are decided, and what is known of them.
---     Naming       a decision on a category's name
---     Way          a decision on whether a member of one category reaches one of another
---     Place        a root, and decisions
---     is_known     the category is known to have a member
---     reached      whether one category's member reaches another's
---     is_numbered  the text spells a number that compares so
---     knowledge    what is known of edges, of reaching, of names and of comparisons
+--     Naming          a decision on a category's name
+--     Way             a decision on whether a member of one category reaches one of another
+--     Place           a root, and decisions
+--     is_known        the category is known to have a member
+--     truth_of_reach  whether one category's member reaches another's
+--     is_numbered     the text spells a number that compares so
+--     knowledge       what is known of edges, of reaching, of names and of comparisons
 use Rattle.std.specs.Prelude.{◌&&◌, ◌||◌, ◌==◌, ◌++◌, ℕ, zero, suc, ℤ, int_lt, not, List, [], ◌∷◌, Bool, true, false, Option, Some, None, codes, filter, length, map, if◌then◌else◌}
 use Rattle.std.specs.List.{range_with_len}
 use Rattle.std.specs.Ordering.{int_eq}
@@ -60,12 +60,12 @@ abbrev pub edge_of_way : Way → Edge
 edge_of_way w = record { child = w.child; parent = w.parent }
 
 -- the edges that were decided present, and the ways that were decided to be there
-abbrev pub leading : Place → List Edge
-leading p = present_edges p.decided ++ map edge_of_way (filter (λ w. w.there) p.ways)
+abbrev pub leading_edges : Place → List Edge
+leading_edges p = present_edges p.decided ++ map edge_of_way (filter (λ w. w.there) p.ways)
 
 -- the root has a member, and so have the ends of those edges and ways
 abbrev pub is_known : Place → ℕ → Bool
-is_known p c = is_present p.decided.root (leading p) c
+is_known p c = is_present p.decided.root (leading_edges p) c
 
 -- ---- what reaches what
 
@@ -83,7 +83,7 @@ possible_graph d = record d.graph {
 
 -- the graph of the edges and ways that are known to be there
 abbrev pub leading_graph : Place → Graph
-leading_graph p = record p.decided.graph { edges = leading p }
+leading_graph p = record p.decided.graph { edges = leading_edges p }
 
 -- in the short form each member is known to reach `all`
 abbrev pub is_top : Form → ℕ → Bool
@@ -95,42 +95,42 @@ abbrev pub leads : Form → Place → ℕ → ℕ → Bool
 leads f p a b = is_known p a && (is_top f b || category_reaches (leading_graph p) a b)
 
 -- what a decision says
-abbrev pub told : Option Bool → Truth3
-told None = Unknown
-told (Some false) = No
-told (Some true) = Yes
+abbrev pub truth_of : Option Bool → Truth3
+truth_of None = Unknown
+truth_of (Some false) = No
+truth_of (Some true) = Yes
 
 -- what was decided; else Yes where it leads there, and No where no walk of edges that aren't absent does
-abbrev pub reaching : Form → Place → ℕ → ℕ → Option Bool → Truth3
-reaching f p a b (Some there) = told (Some there)
-reaching f p a b None = if leads f p a b then Yes
+abbrev pub truth_of_way : Form → Place → ℕ → ℕ → Option Bool → Truth3
+truth_of_way f p a b (Some there) = truth_of (Some there)
+truth_of_way f p a b None = if leads f p a b then Yes
     else (if category_reaches (possible_graph p.decided) a b then Unknown else No)
 
 -- whether a has a member that reaches one of b
-abbrev pub reached : Form → Place → ℕ → ℕ → Truth3
-reached f p a b = reaching f p a b (way_of p.ways a b)
+abbrev pub truth_of_reach : Form → Place → ℕ → ℕ → Truth3
+truth_of_reach f p a b = truth_of_way f p a b (way_of p.ways a b)
 
 -- ---- edges and names
 
 -- whether the edge between two categories is present, if there is one
-abbrev pub told_between : Decided → Option ℕ → Truth3
-told_between d None = No
-told_between d (Some e) = told (status_of d e)
+abbrev pub truth_of_edge : Decided → Option ℕ → Truth3
+truth_of_edge d None = No
+truth_of_edge d (Some e) = truth_of (status_of d e)
 
 -- the name at this index, if one was decided
-abbrev pub indexed : Candidates → ℕ → Option ℕ → Option (List ℕ)
-indexed k c None = None
-indexed k c (Some i) = Some (name_at k c i)
+abbrev pub decided_name : Candidates → ℕ → Option ℕ → Option (List ℕ)
+decided_name k c None = None
+decided_name k c (Some i) = Some (name_at k c i)
 
 -- the name that was decided; that of `All` always is
 abbrev pub name_of : Candidates → List Naming → ℕ → Option (List ℕ)
 name_of k ns zero = Some (codes "all")
-name_of k ns (suc c) = indexed k (suc c) (index_of ns (suc c))
+name_of k ns (suc c) = decided_name k (suc c) (index_of ns (suc c))
 
 -- whether the category has a member with this name, where its name is decided
-abbrev pub told_name : Place → ℕ → Option (List ℕ) → List ℕ → Truth3
-told_name p c None text = Unknown
-told_name p c (Some name) text = if bytes_eq name text then (if is_known p c then Yes else Unknown) else No
+abbrev pub truth_of_name : Place → ℕ → Option (List ℕ) → List ℕ → Truth3
+truth_of_name p c None text = Unknown
+truth_of_name p c (Some name) text = if bytes_eq name text then (if is_known p c then Yes else Unknown) else No
 
 -- ---- comparisons
 
@@ -150,16 +150,16 @@ abbrev pub is_numbered : List ℕ → Op → ℤ → Bool
 is_numbered text op n = passes (number_of text) op n
 
 -- whether the category has a member whose number compares so, where its name is decided
-abbrev pub told_number : Place → ℕ → Option (List ℕ) → Op → ℤ → Truth3
-told_number p c None op n = Unknown
-told_number p c (Some name) op n = if is_numbered name op n then (if is_known p c then Yes else Unknown) else No
+abbrev pub truth_of_number : Place → ℕ → Option (List ℕ) → Op → ℤ → Truth3
+truth_of_number p c None op n = Unknown
+truth_of_number p c (Some name) op n = if is_numbered name op n then (if is_known p c then Yes else Unknown) else No
 
 -- ---- what is known
 
 abbrev pub knowledge : Form → Candidates → Place → Knowledge
 knowledge f k p = record {
-  edge = λ a b. told_between p.decided (edge_between p.decided.graph a b);
-  reaches = reached f p;
-  name = λ c text. told_name p c (name_of k p.namings c) text;
-  number = λ c op n. told_number p c (name_of k p.namings c) op n;
+  edge = λ a b. truth_of_edge p.decided (edge_between p.decided.graph a b);
+  reaches = truth_of_reach f p;
+  name = λ c text. truth_of_name p c (name_of k p.namings c) text;
+  number = λ c op n. truth_of_number p c (name_of k p.namings c) op n;
 }

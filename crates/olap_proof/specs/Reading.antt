@@ -1,8 +1,8 @@
 -- The lines of trees as the program has them, and what reading one answers.
---     said         the definitions' line
---     first_of     the word that a line begins with
---     rest_of      what stands behind it
---     IsLineOf     bytes are this line, or no line at all
+--     meaning   the definitions' line
+--     first_of  the word that a line begins with
+--     rest_of   what stands behind it
+--     IsLineOf  bytes are this line, or no line at all
 use Rattle.std.specs.Prelude.{◌≡◌, ◌≢◌, ℕ, suc, List, Option, Some, None, codes, slice_index_or}
 use Rattle.std.specs.Fmt.{decimal}
 use Rattle.olap_base.specs.Graph.{Graph}
@@ -15,18 +15,18 @@ use Rattle.olap_proof.specs.declared.lines.Word.TheVariants as word
 use Rattle.olap_proof.specs.Lines.{IsAbout, Line, Line.Asked, Line.Clash, Line.Cycle, Line.Dead, Line.EdgeOrNot, Line.Loose, Line.NameOf, Line.Shortcut, Line.Unmet, Line.Unreached, Line.WayOrNot, edge_words, line_text, way_words}
 
 -- the definitions' line
-abbrev pub said : program.Line → Line
-said (variant.Edge e) = EdgeOrNot e.0
-said (variant.Name c) = NameOf c.0
-said (variant.Reach a b) = WayOrNot a.0 b.0
-said (variant.Dead c) = Dead c.0
-said variant.Cycle = Cycle
-said variant.Shortcut = Shortcut
-said (variant.LooseEdge e) = Loose e.0
-said (variant.LooseCategory c) = Unreached c.0
-said (variant.Steps a b) = Clash a.0 b.0
-said (variant.Constraint n) = Unmet n
-said variant.Question = Asked
+abbrev pub meaning : program.Line → Line
+meaning (variant.Edge e) = EdgeOrNot e.0
+meaning (variant.Name c) = NameOf c.0
+meaning (variant.Reach a b) = WayOrNot a.0 b.0
+meaning (variant.Dead c) = Dead c.0
+meaning variant.Cycle = Cycle
+meaning variant.Shortcut = Shortcut
+meaning (variant.LooseEdge e) = Loose e.0
+meaning (variant.LooseCategory c) = Unreached c.0
+meaning (variant.Steps a b) = Clash a.0 b.0
+meaning (variant.Constraint n) = Unmet n
+meaning variant.Question = Asked
 
 -- the bytes of a first word
 abbrev pub word_text : Word → List ℕ
@@ -76,9 +76,9 @@ rest_of g Asked = None
 -- a first word with what stands behind it is this line, or no line at all
 abbrev pub IsReading : Schema → Word → Option (List ℕ) → Option program.Line → Type 0
 IsReading s w rest None = (l : Line) → IsAbout s l → first_of l ≡ w → rest_of s.graph l ≡ rest → ⊥
-IsReading s w rest (Some l) = IsAbout s (said l) × (first_of (said l) ≡ w) × (rest_of s.graph (said l) ≡ rest)
+IsReading s w rest (Some l) = IsAbout s (meaning l) × (first_of (meaning l) ≡ w) × (rest_of s.graph (meaning l) ≡ rest)
 
 -- the bytes are this line, or no line at all
 abbrev pub IsLineOf : Schema → List ℕ → Option program.Line → Type 0
 IsLineOf s bytes None = (l : Line) → IsAbout s l → line_text s.graph l ≢ bytes
-IsLineOf s bytes (Some l) = IsAbout s (said l) × (line_text s.graph (said l) ≡ bytes)
+IsLineOf s bytes (Some l) = IsAbout s (meaning l) × (line_text s.graph (meaning l) ≡ bytes)

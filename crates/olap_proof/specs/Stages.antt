@@ -1,9 +1,9 @@
 -- Stages of reading: what is open.
---     bottoms_from    the bottom categories from a number on
---     open_at         what is open
---     IsStage         a category is there, and a place is where its choices lead
---     StepsTo         a line does this there, or nothing
---     Reached         some lines of a text led there
+--     bottoms_from  the bottom categories from a number on
+--     open_at       what is open
+--     IsStage       a category is there, and a place is where its choices lead
+--     StepsTo       a line does this there, or nothing
+--     IsReached     some lines of a text led there
 use Rattle.std.specs.Prelude.{◌≡◌, ◌-◌, ◌+◌, ◌++◌, ◌==◌, ℕ, List, [], ◌∷◌, Bool, Option, Some, None, filter, length, map, not}
 use Rattle.std.specs.List.{list_any, range_with_len}
 use Rattle.olap_base.specs.Graph.{Edge, Graph, IsCategory, category_count}
@@ -13,7 +13,7 @@ use Rattle.olap_proof.specs.declared.stages.Stage.{Stage}
 use Rattle.olap_proof.specs.declared.stages.Stage.TheVariants as stage
 use Rattle.olap_proof.specs.Asking.{names_in, question_in, schema_in}
 use Rattle.olap_proof.specs.Branches.{IsBranch, first_of, left_open}
-use Rattle.olap_proof.specs.Certificates.{Open, Open.At, Open.Bottom, Open.Head, Runs, ended}
+use Rattle.olap_proof.specs.Certificates.{Open, Open.At, Open.Bottom, Open.Head, Runs, lines_text}
 
 -- no edge leads to it
 abbrev pub has_no_child : Graph → ℕ → Bool
@@ -49,8 +49,8 @@ StepsTo f a from line None = (left : List Open) → RunsFor f a (line ∷ []) (o
 StepsTo f a from line (Some to) = IsStage a to × RunsFor f a (line ∷ []) (open_at a from) (open_at a to)
 
 -- so many lines, each ended by an LF, led there; this is left of the text
-pub record Reached (f : Form) (a : Asked) (text rest : List ℕ) (count : ℕ) (os : List Open) : Type 0 where
+pub record IsReached (f : Form) (a : Asked) (text rest : List ℕ) (count : ℕ) (os : List Open) : Type 0 where
   pub lines : List (List ℕ)
-  pub parts : text ≡ ended lines ++ rest
+  pub parts : text ≡ lines_text lines ++ rest
   pub counted : length lines ≡ count
   pub run : RunsFor f a lines (Head ∷ []) os

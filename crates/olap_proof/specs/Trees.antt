@@ -10,7 +10,7 @@ use Rattle.olap_ast.specs.Schema.{Schema}
 use Rattle.olap_base.specs.Graph.{Graph, IsBottom, IsCategory, IsHierarchy}
 use Rattle.olap_trail.specs.Decisions.{AreDecisions}
 use Rattle.olap_proof.specs.declared.forms.Form.{Form}
-use Rattle.olap_proof.specs.Certificates.{Open, Runs, ended}
+use Rattle.olap_proof.specs.Certificates.{Open, Runs, lines_text}
 use Rattle.olap_proof.specs.Places.{Naming, Place}
 
 -- no edge is decided twice, the names that are decided have indexes, and no way is decided
@@ -28,7 +28,7 @@ Close f s q k os lines = (after : List (List ℕ)) (rest end : List Open) → Ru
 
 -- lines that close these are appended, each ended by an LF
 abbrev pub Adds : Form → Schema → Formula → Candidates → List Open → List ℕ → List ℕ → Type 0
-Adds f s q k os old new = (lines : List (List ℕ)) × (new ≡ old ++ ended lines) × Close f s q k os lines
+Adds f s q k os old new = (lines : List (List ℕ)) × (new ≡ old ++ lines_text lines) × Close f s q k os lines
 
 -- no bottom category has a frozen dimension for the question
 abbrev pub HasNoFrozen : Schema → Formula → Type 0

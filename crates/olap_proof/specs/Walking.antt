@@ -16,8 +16,8 @@ abbrev pub IsIn : set.FinSet nat_cmp → ℕ → Type 0
 IsIn s x = set.contains s x ≡ true
 
 -- d was added, where an edge joins c and d, c was in the set, and d wasn't; and whether the set grew, now or before
-pub record IsAdded (old : set.FinSet nat_cmp) (joins : Bool) (c d : ℕ) (grew : Bool) (new : set.FinSet nat_cmp) (now : Bool)
-    : Type 0 where
+pub record IsAdded (old : set.FinSet nat_cmp) (joins : Bool) (c d : ℕ) (grew : Bool) (new : set.FinSet nat_cmp)
+    (now : Bool) : Type 0 where
   pub kept : (x : ℕ) → IsIn old x → IsIn new x
   pub only : (x : ℕ) → IsIn new x → IsIn old x ⊎ ((x ≡ d) × IsIn old c × (joins ≡ true))
   pub same : now ≡ false → (grew ≡ false) × (new ≡ old) × (joins ≡ true → IsIn old c → IsIn old d)

@@ -8,7 +8,7 @@ ghost use Rattle.olap_proof.specs.Within.{IsWithin};
 use crate::Form;
 use crate::asking::Asked;
 use crate::branches::{Choice, first_case, go_on, take};
-use crate::doing::done;
+use crate::doing::effective_line;
 use crate::knowing::known_at;
 use crate::lines::Line;
 use crate::places::Place;
@@ -41,7 +41,7 @@ fn line_at(asked: &Asked<'_>, form: Form, root: CatId, place: &Place, bytes: &[u
         root,
         known: known_at(asked.graph, place, root),
     };
-    done(&known, asked.constraints, asked.question, bytes)
+    effective_line(&known, asked.constraints, asked.question, bytes)
 }
 
 /// Does what the line says. `Memory`: out of memory.

@@ -1,7 +1,7 @@
 // The branch of a tree on which the reading stands: the choices that lead to its place.
 ghost use Rattle.std.specs.Prelude.{◌≡◌, ◌∷◌, [], IfOk, IfSome, IsNone, OnOk};
 ghost use Rattle.olap_base.specs.Graph.{Graph as AnyGraph};
-ghost use Rattle.olap_proof.specs.Branches.{GoesOn, IsBranch, IsLegal, IsNamed, chosen, siblings};
+ghost use Rattle.olap_proof.specs.Branches.{GoesOn, IsBranch, IsLegal, IsNamed, siblings, with_choice};
 ghost use Rattle.olap_proof.specs.Certificates.{Open.At};
 ghost use Rattle.olap_ast.specs.Formula.{Formula as AnyFormula};
 ghost use Rattle.olap_ast.specs.Schema.{Schema};
@@ -9,7 +9,7 @@ ghost use Rattle.olap_names.specs.Names.{Named, candidates_of};
 ghost use Rattle.olap_proof.specs.Doing.{Does, leaves_open};
 ghost use Rattle.olap_proof.specs.Lines.{IsAbout};
 ghost use Rattle.olap_proof.specs.Places.{Place as Decisions};
-ghost use Rattle.olap_proof.specs.Reading.{said};
+ghost use Rattle.olap_proof.specs.Reading.{meaning};
 ghost use Rattle.olap_proof.specs.declared.forms.Form.{Form as AnyForm};
 
 use crate::lines::Line;
@@ -38,7 +38,7 @@ pub(crate) fn take(
 ) -> Result<(), Memory>
     requires graph { place.old.decided.graph ≡ graph.now }
     requires legal { IsLegal graph.now candidates.now place.old choice }
-    ensures { OnOk result (place.new ≡ chosen place.old choice) }
+    ensures { OnOk result (place.new ≡ with_choice place.old choice) }
 {
     // Called for its clause: there are few categories.
     let _few = graph.categories();
@@ -54,7 +54,7 @@ pub(crate) fn take(
 
 /// Takes a choice back.
 fn take_back(place: &mut Place, choice: Choice)
-    ensures { (p : Decisions) → place.old ≡ chosen p choice → place.new ≡ p }
+    ensures { (p : Decisions) → place.old ≡ with_choice p choice → place.new ≡ p }
 {
     match choice {
         Choice::Edge(_, _) => place.undecide(),
@@ -67,7 +67,7 @@ fn take_back(place: &mut Place, choice: Choice)
 fn next(candidates: &Candidates, choice: Choice) -> Option<Choice>
     requires { IsNamed candidates.now choice }
     ensures some { IfSome result (λ x. (p : Decisions)
-        → siblings candidates.now p choice ≡ At (chosen p x) ∷ siblings candidates.now p x) }
+        → siblings candidates.now p choice ≡ At (with_choice p x) ∷ siblings candidates.now p x) }
     ensures legal { IfSome result (λ x. (g : AnyGraph) (p : Decisions) → IsLegal g candidates.now p choice
         → IsLegal g candidates.now p x) }
     ensures none { IsNone result → (p : Decisions) → siblings candidates.now p choice ≡ [] }
@@ -88,10 +88,10 @@ fn next(candidates: &Candidates, choice: Choice) -> Option<Choice>
 /// The first of the cases into which a line splits a place, if it does.
 pub(crate) fn first_case(line: Line) -> Option<Choice>
     ensures some { IfSome result (λ x. (k : Named) (p : Decisions)
-        → leaves_open (candidates_of k) p (said line) ≡ At (chosen p x) ∷ siblings k p x) }
+        → leaves_open (candidates_of k) p (meaning line) ≡ At (with_choice p x) ∷ siblings k p x) }
     ensures legal { IfSome result (λ x. (f : AnyForm) (s : Schema) (q : AnyFormula) (k : Named) (p : Decisions)
-        → IsAbout s (said line) → Does f s q (candidates_of k) p (said line) → IsLegal s.graph k p x) }
-    ensures none { IsNone result → (k : Named) (p : Decisions) → leaves_open (candidates_of k) p (said line) ≡ [] }
+        → IsAbout s (meaning line) → Does f s q (candidates_of k) p (meaning line) → IsLegal s.graph k p x) }
+    ensures none { IsNone result → (k : Named) (p : Decisions) → leaves_open (candidates_of k) p (meaning line) ≡ [] }
 {
     match line {
         Line::Edge(e) => Some(Choice::Edge(e, false)),

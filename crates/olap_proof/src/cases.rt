@@ -10,7 +10,7 @@ ghost use Rattle.olap_trail.specs.Decisions.{status_of};
 
 use crate::Form;
 use crate::asking::Asked;
-use crate::closing::closing;
+use crate::closing::closing_line;
 use crate::knowing::known_at;
 use crate::lines::Line;
 use crate::places::Place;
@@ -74,7 +74,7 @@ impl Case {
     }
 
     /// A line of the form that closes the place, if one does.
-    pub(crate) fn closing(&self, asked: &Asked<'_>, form: Form) -> Option<Line>
+    pub(crate) fn closing_line(&self, asked: &Asked<'_>, form: Form) -> Option<Line>
         requires asked { IsAsked asked.now }
         requires place { IsPlaceOf asked.now.graph.now (names_in asked.now) self.now }
         ensures some { IfSome result (IsClosing form asked.now self.now) }
@@ -89,7 +89,7 @@ impl Case {
             root: self.root,
             known: known_at(asked.graph, &self.place, self.root),
         };
-        closing(&known, asked.constraints, asked.question)
+        closing_line(&known, asked.constraints, asked.question)
     }
 
     /// One decision more, on an edge.

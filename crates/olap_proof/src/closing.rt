@@ -34,7 +34,7 @@ fn alone(known: &Known<'_>, constraints: &[Constraint], question: &Formula) -> O
 }
 
 /// A line that closes the place since a category has no parent there.
-fn dead(known: &Known<'_>, constraints: &[Constraint], question: &Formula) -> Option<Line>
+fn dead_line(known: &Known<'_>, constraints: &[Constraint], question: &Formula) -> Option<Line>
     ensures some { IfSome result (IsClosingHere known.now constraints.now question.now) }
     ensures none { IsNone result → (c : ℕ) → IsCategory known.now.graph.now c
         → IsOpenHere known.now constraints.now question.now (Dead c) }
@@ -69,7 +69,7 @@ fn is_loose(
 }
 
 /// A line of the long form that closes the place since the root can't reach an edge's child.
-fn loose(known: &Known<'_>, constraints: &[Constraint], question: &Formula) -> Option<Line>
+fn loose_line(known: &Known<'_>, constraints: &[Constraint], question: &Formula) -> Option<Line>
     ensures some { IfSome result (IsClosingHere known.now constraints.now question.now) }
     ensures none { IsNone result → (e : ℕ) → e < length known.now.graph.now.edges
         → IsOpenHere known.now constraints.now question.now (Loose e) }
@@ -84,7 +84,7 @@ fn loose(known: &Known<'_>, constraints: &[Constraint], question: &Formula) -> O
 }
 
 /// A line of the short form that closes the place since the root doesn't reach a category.
-fn unreached(known: &Known<'_>, constraints: &[Constraint], question: &Formula) -> Option<Line>
+fn unreached_line(known: &Known<'_>, constraints: &[Constraint], question: &Formula) -> Option<Line>
     ensures some { IfSome result (IsClosingHere known.now constraints.now question.now) }
     ensures none { IsNone result → (c : ℕ) → IsCategory known.now.graph.now c
         → IsOpenHere known.now constraints.now question.now (Unreached c) }
@@ -99,7 +99,7 @@ fn unreached(known: &Known<'_>, constraints: &[Constraint], question: &Formula) 
 }
 
 /// A line that closes the place since a constraint is false there.
-fn unmet(known: &Known<'_>, constraints: &[Constraint], question: &Formula) -> Option<Line>
+fn unmet_line(known: &Known<'_>, constraints: &[Constraint], question: &Formula) -> Option<Line>
     ensures some { IfSome result (IsClosingHere known.now constraints.now question.now) }
     ensures none { IsNone result → (n : ℕ) → n < length constraints.now
         → IsOpenHere known.now constraints.now question.now (Unmet n) }
@@ -114,7 +114,7 @@ fn unmet(known: &Known<'_>, constraints: &[Constraint], question: &Formula) -> O
 }
 
 /// A line that closes the place, at which no way is decided, if one does.
-pub(crate) fn closing(
+pub(crate) fn closing_line(
     known: &Known<'_>,
     constraints: &[Constraint],
     question: &Formula,
@@ -128,17 +128,17 @@ pub(crate) fn closing(
     if by_one.is_some() {
         return by_one;
     }
-    let by_category = dead(known, constraints, question);
+    let by_category = dead_line(known, constraints, question);
     if by_category.is_some() {
         return by_category;
     }
-    let by_edge = loose(known, constraints, question);
+    let by_edge = loose_line(known, constraints, question);
     if by_edge.is_some() {
         return by_edge;
     }
-    let by_root = unreached(known, constraints, question);
+    let by_root = unreached_line(known, constraints, question);
     if by_root.is_some() {
         return by_root;
     }
-    unmet(known, constraints, question)
+    unmet_line(known, constraints, question)
 }

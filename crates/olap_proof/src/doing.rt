@@ -1,9 +1,9 @@
 // Lines at a place.
 ghost use Rattle.std.specs.Prelude.{◌<◌, ◌^◌, ◌↔◌, List, IfSome, IsNone, IsTrue, length};
 ghost use Rattle.olap_proof.specs.Certificates.{Open};
-ghost use Rattle.olap_proof.specs.DoneHere.{DoesHere, StepsHere, opened, schema_at};
+ghost use Rattle.olap_proof.specs.DoneHere.{DoesHere, StepsHere, open_after, schema_at};
 ghost use Rattle.olap_proof.specs.Lines.{IsAbout};
-ghost use Rattle.olap_proof.specs.Reading.{said};
+ghost use Rattle.olap_proof.specs.Reading.{meaning};
 
 use crate::Form;
 use crate::leaves::closes;
@@ -13,7 +13,7 @@ use olap_ast::{Constraint, Formula};
 
 /// Whether the line does something at the place: it decides what isn't decided, or closes it.
 fn does(known: &Known<'_>, constraints: &[Constraint], question: &Formula, line: Line) -> bool
-    requires { IsAbout (schema_at known.now constraints.now) (said line) }
+    requires { IsAbout (schema_at known.now constraints.now) (meaning line) }
     ensures { IsTrue result ↔ DoesHere known.now constraints.now question.now line }
 {
     match line {
@@ -30,29 +30,29 @@ fn does(known: &Known<'_>, constraints: &[Constraint], question: &Formula, line:
 }
 
 /// How many there are: the number fits 64 bits.
-fn counted(constraints: &[Constraint]) -> usize
+fn count_of(constraints: &[Constraint]) -> usize
     ensures { length constraints.now < 2 ^ 64 }
 {
     constraints.len()
 }
 
 /// The line that the bytes are, if it does something at the place.
-pub(crate) fn done(
+pub(crate) fn effective_line(
     known: &Known<'_>,
     constraints: &[Constraint],
     question: &Formula,
     bytes: &[u8],
 ) -> Option<Line>
-    ensures about { IfSome result (λ l. IsAbout (schema_at known.now constraints.now) (said l)) }
+    ensures about { IfSome result (λ l. IsAbout (schema_at known.now constraints.now) (meaning l)) }
     ensures does { IfSome result (DoesHere known.now constraints.now question.now) }
     ensures step { IfSome result (λ l.
-        StepsHere known.now constraints.now question.now bytes.now (opened known.now l)) }
+        StepsHere known.now constraints.now question.now bytes.now (open_after known.now l)) }
     ensures none { IsNone result → (new : List Open)
         → StepsHere known.now constraints.now question.now bytes.now new → ⊥ }
 {
     // Called for their clauses: the graph is a hierarchy, and there are few constraints.
     let _graph = known.graph.categories();
-    let _few = counted(constraints);
+    let _few = count_of(constraints);
     let line = line_of(known.graph, constraints, bytes)?;
     if does(known, constraints, question, line) {
         Some(line)

@@ -12,7 +12,8 @@ use olap_trail::Decision;
 /// The place of the first decision that says present.
 fn first_present(decisions: &[Decision]) -> Option<usize>
     ensures some { IfSome result (λ k. (k < length decisions.now) × ((decision_at decisions.now k).present ≡ true)) }
-    ensures none { IsNone result → (k : ℕ) → k < length decisions.now → (decision_at decisions.now k).present ≡ true → ⊥ }
+    ensures none { IsNone result → (k : ℕ) → k < length decisions.now
+        → (decision_at decisions.now k).present ≡ true → ⊥ }
 {
     'decisions: for i in 0..decisions.len() {
         if decisions[i].present {

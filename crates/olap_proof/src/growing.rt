@@ -32,7 +32,7 @@ pub(crate) fn grow(
         (At case.old ∷ []) out.old.items out.new.items) }
     ensures same { OnOk result (case.new ≡ case.old) }
 {
-    if let Some(line) = case.closing(asked, form) {
+    if let Some(line) = case.closing_line(asked, form) {
         push_bounded(out, asked.graph, asked.constraints, line)?;
         return Ok(());
     }

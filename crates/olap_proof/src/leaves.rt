@@ -8,7 +8,7 @@ ghost use Rattle.olap_graph.specs.Lookups.{edge_at, edges_from};
 ghost use Rattle.olap_names.specs.Names.{candidates_of, with_graph};
 ghost use Rattle.olap_proof.specs.Lines.{Closes, IsAbout, IsClash, IsDead, IsLoose, IsNoStep, IsUnmet, IsUnreached};
 ghost use Rattle.olap_proof.specs.Places.{knowledge, possible_graph};
-ghost use Rattle.olap_proof.specs.Reading.{said};
+ghost use Rattle.olap_proof.specs.Reading.{meaning};
 ghost use Rattle.olap_trail.specs.Decisions.{status_of};
 
 use crate::Form;
@@ -71,7 +71,7 @@ fn is_no_step(known: &Known<'_>, e: EdgeId, to: CatId) -> bool
     requires { e.0 < length known.now.graph.now.edges }
     ensures { IsTrue result ↔ IsNoStep known.now.form known.now.graph.now known.now.place.now to.0 e.0 }
 {
-    is_absent(known, e) || known.reached(parent(known, e), to) == Truth3::No
+    is_absent(known, e) || known.truth_of_reach(parent(known, e), to) == Truth3::No
 }
 
 /// Whether no edge out of the one category is a step to the other.
@@ -122,7 +122,7 @@ fn is_loose(known: &Known<'_>, e: EdgeId) -> bool
 fn is_unreached(known: &Known<'_>, c: CatId) -> bool
     ensures { IsTrue result ↔ IsUnreached known.now.form known.now.place.now c.0 }
 {
-    c.0 != known.root.0 && known.has(c) && known.reached(known.root, c) == Truth3::No
+    c.0 != known.root.0 && known.has(c) && known.truth_of_reach(known.root, c) == Truth3::No
 }
 
 /// Whether the constraint is known to be unmet.
@@ -148,9 +148,9 @@ pub(crate) fn closes(
     question: &Formula,
     line: Line,
 ) -> bool
-    requires { IsAbout (with_graph known.now.graph.now (map constraint_of constraints.now)) (said line) }
+    requires { IsAbout (with_graph known.now.graph.now (map constraint_of constraints.now)) (meaning line) }
     ensures { IsTrue result ↔ Closes known.now.form (with_graph known.now.graph.now (map constraint_of constraints.now))
-        (formula_of question.now) (candidates_of known.now.candidates.now) known.now.place.now (said line) }
+        (formula_of question.now) (candidates_of known.now.candidates.now) known.now.place.now (meaning line) }
 {
     match line {
         Line::Edge(_) | Line::Name(_) | Line::Reach(_, _) => false,

@@ -234,7 +234,8 @@ fn alone(word: Word) -> Option<Line>
 
 /// The line that says where an edge or a category is loose.
 fn loose(graph: &Graph, constraints: &[Constraint], rest: &[u8]) -> Option<Line>
-    ensures { IsReading (with_graph graph.now (map constraint_of constraints.now)) declared.Loose (Some rest.now) result }
+    ensures { IsReading (with_graph graph.now (map constraint_of constraints.now)) declared.Loose (Some rest.now)
+        result }
 {
     match (category(graph, rest), edge(graph, rest)) {
         (Some(c), _) => Some(Line::LooseCategory(c)),
@@ -244,7 +245,12 @@ fn loose(graph: &Graph, constraints: &[Constraint], rest: &[u8]) -> Option<Line>
 }
 
 /// The line of a word with others behind it.
-fn argued(graph: &Graph, constraints: &[Constraint], word: Word, rest: &[u8]) -> Option<Line>
+fn line_with_rest(
+    graph: &Graph,
+    constraints: &[Constraint],
+    word: Word,
+    rest: &[u8],
+) -> Option<Line>
     ensures { IsReading (with_graph graph.now (map constraint_of constraints.now)) word (Some rest.now) result }
 {
     match word {
@@ -271,7 +277,7 @@ pub(crate) fn line_of(graph: &Graph, constraints: &[Constraint], bytes: &[u8]) -
 {
     let (first, rest) = cut(bytes, b' ');
     match (word_of(first), rest) {
-        (Some(word), Some(rest)) => argued(graph, constraints, word, rest),
+        (Some(word), Some(rest)) => line_with_rest(graph, constraints, word, rest),
         (Some(word), None) => alone(word),
         (None, _) => None,
     }

@@ -25,13 +25,13 @@ fn closes_at_once(
     ensures { case.new ≡ case.old }
 {
     case.decide(edge, present);
-    let is_closed = case.closing(asked, form).is_some();
+    let is_closed = case.closing_line(asked, form).is_some();
     case.undecide();
     is_closed
 }
 
 /// The first undecided edge one of whose values closes at once.
-fn forced(case: &mut Case, asked: &Asked<'_>, form: Form) -> Option<EdgeId>
+fn forced_edge(case: &mut Case, asked: &Asked<'_>, form: Form) -> Option<EdgeId>
     requires asked { IsAsked asked.now }
     requires place { IsPlaceOf asked.now.graph.now (names_in asked.now) case.old }
     ensures open { IfSome result (IsUndecided asked.now case.old) }
@@ -51,7 +51,7 @@ fn forced(case: &mut Case, asked: &Asked<'_>, form: Form) -> Option<EdgeId>
 }
 
 /// The first undecided edge whose child is known to have a member.
-fn above_known(case: &Case, asked: &Asked<'_>) -> Option<EdgeId>
+fn edge_above_known(case: &Case, asked: &Asked<'_>) -> Option<EdgeId>
     requires asked { IsAsked asked.now }
     requires place { IsPlaceOf asked.now.graph.now (names_in asked.now) case.now }
     ensures { IfSome result (IsUndecided asked.now case.now) }
@@ -67,7 +67,7 @@ fn above_known(case: &Case, asked: &Asked<'_>) -> Option<EdgeId>
 }
 
 /// The first undecided edge.
-fn undecided(case: &Case, asked: &Asked<'_>) -> Option<EdgeId>
+fn undecided_edge(case: &Case, asked: &Asked<'_>) -> Option<EdgeId>
     requires asked { IsAsked asked.now }
     requires place { IsPlaceOf asked.now.graph.now (names_in asked.now) case.now }
     ensures some { IfSome result (IsUndecided asked.now case.now) }
@@ -93,15 +93,15 @@ pub(crate) fn next_edge(case: &mut Case, asked: &Asked<'_>, form: Form) -> Optio
         → status_of case.old.decided e ≢ None }
     ensures same { case.new ≡ case.old }
 {
-    let by_looking = forced(case, asked, form);
+    let by_looking = forced_edge(case, asked, form);
     if by_looking.is_some() {
         return by_looking;
     }
-    let by_child = above_known(case, asked);
+    let by_child = edge_above_known(case, asked);
     if by_child.is_some() {
         return by_child;
     }
-    undecided(case, asked)
+    undecided_edge(case, asked)
 }
 
 /// The first declared category whose name isn't decided.

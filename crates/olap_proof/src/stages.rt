@@ -74,7 +74,7 @@ fn bottom_from(graph: &Graph, first: u16) -> Option<CatId>
 }
 
 /// What is open where all bottom categories before this number are done.
-fn opened_from(asked: &Asked<'_>, first: u16) -> Stage
+fn stage_from(asked: &Asked<'_>, first: u16) -> Stage
     requires { 1 ≤ first }
     ensures stage { IsStage asked.now result }
     ensures open { open_at asked.now result ≡ map Bottom (bottoms_from asked.now.graph.now first) }
@@ -132,7 +132,7 @@ fn go_on_in(
     match effect {
         Effect::Nothing => Ok(None),
         Effect::Still => Ok(Some(Stage::Tree(branch))),
-        Effect::Closed => Ok(Some(opened_from(asked, root.0 + 1))),
+        Effect::Closed => Ok(Some(stage_from(asked, root.0 + 1))),
     }
 }
 
@@ -151,7 +151,7 @@ pub(crate) fn step(
     match stage {
         Stage::Head => {
             if is_head(form, line) {
-                return Ok(Some(opened_from(asked, 1)));
+                return Ok(Some(stage_from(asked, 1)));
             }
             Ok(None)
         }

@@ -4,7 +4,7 @@ ghost use Rattle.olap_ast.specs.Trees.{op_of};
 ghost use Rattle.olap_base.specs.Graph.{IsCategory};
 ghost use Rattle.olap_base.specs.Reaching.{category_reaches};
 ghost use Rattle.olap_bits.specs.Sets.{members};
-ghost use Rattle.olap_proof.specs.Places.{is_known, is_numbered, is_top, leading_graph, leads, possible_graph, reached, told};
+ghost use Rattle.olap_proof.specs.Places.{is_known, is_numbered, is_top, leading_graph, leads, possible_graph, truth_of, truth_of_reach};
 ghost use Rattle.olap_proof.specs.Walking.{IsWalk};
 ghost use Rattle.olap_proof.specs.Within.{AreKnown, IsWithin, when_there};
 
@@ -33,8 +33,8 @@ pub(crate) struct Known<'a> {
 }
 
 /// What a decision says.
-fn told(status: Option<bool>) -> Truth3
-    ensures { result ≡ told status }
+fn truth_of(status: Option<bool>) -> Truth3
+    ensures { result ≡ truth_of status }
 {
     match status {
         Some(true) => Truth3::Yes,
@@ -117,11 +117,11 @@ impl<'a> Known<'a> {
     }
 
     /// Whether the one category has a member that reaches one of the other.
-    pub(crate) fn reached(&self, c: CatId, d: CatId) -> Truth3
-        ensures { result ≡ reached self.now.form self.now.place.now c.0 d.0 }
+    pub(crate) fn truth_of_reach(&self, c: CatId, d: CatId) -> Truth3
+        ensures { result ≡ truth_of_reach self.now.form self.now.place.now c.0 d.0 }
     {
         match self.place.way(c, d) {
-            Some(there) => told(Some(there)),
+            Some(there) => truth_of(Some(there)),
             None => {
                 if self.leads(c, d) {
                     return Truth3::Yes;
@@ -159,13 +159,13 @@ impl<'a> Partial for Known<'a> {
             return Truth3::No;
         }
         match self.graph.edge(c, d) {
-            Some(e) => told(self.place.status(e)),
+            Some(e) => truth_of(self.place.status(e)),
             None => Truth3::No,
         }
     }
 
     fn reaches(&self, c: CatId, d: CatId) -> Truth3 {
-        self.reached(c, d)
+        self.truth_of_reach(c, d)
     }
 
     fn name(&self, c: CatId, k: &Text) -> Truth3 {

@@ -48,7 +48,7 @@ impl From<AllocError> for VerifyRefusal {
 }
 
 /// Accepts exactly the certificates of that form for this question, of a schema with this graph and these constraints.
-fn judged(
+fn judge(
     alloc: Global,
     graph: &Graph,
     constraints: &[Constraint],
@@ -109,7 +109,7 @@ pub fn verify(
         return Err(VerifyRefusal::DuplicateSource);
     }
     let question = not_by_one(alloc, target, sources)?;
-    judged(
+    judge(
         alloc,
         schema.graph(),
         schema.constraints(),

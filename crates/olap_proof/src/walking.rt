@@ -34,7 +34,7 @@ fn add(set: &mut Categories, joins: bool, child: CatId, parent: CatId, grew: boo
 }
 
 /// A category of the one set that isn't in the other.
-fn lacking(set: &Categories, from: &Categories) -> Option<u16>
+fn lacking_category(set: &Categories, from: &Categories) -> Option<u16>
     ensures some { IfSome result (λ x. IsIn (members from.now) x × (IsIn (members set.now) x → ⊥)) }
     ensures none { IsNone result → (x : ℕ) → IsIn (members from.now) x → IsIn (members set.now) x }
 {
@@ -48,7 +48,7 @@ fn add_from(set: &mut Categories, child: CatId, parents: &Categories, grew: bool
     if !set.has(child.0) {
         return grew;
     }
-    match lacking(set, parents) {
+    match lacking_category(set, parents) {
         Some(_) => {
             *set = set.union(*parents);
             true

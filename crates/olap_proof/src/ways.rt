@@ -4,7 +4,7 @@ ghost use Rattle.std.specs.FinSet as set;
 ghost use Rattle.olap_base.specs.Limits.{most_categories};
 ghost use Rattle.olap_bits.specs.Sets.{members};
 ghost use Rattle.olap_graph.specs.Rows.{row};
-ghost use Rattle.olap_proof.specs.KeptWays.{IsPut, IsTakenOut, leading_way, said_of, way_kept};
+ghost use Rattle.olap_proof.specs.KeptWays.{IsPut, IsTakenOut, leading_way, status_of_marks, way_kept};
 ghost use Rattle.olap_proof.specs.Places.{way_of};
 ghost use Rattle.olap_proof.specs.Walking.{IsIn};
 
@@ -56,8 +56,8 @@ fn row_of(rows: &[Categories], c: CatId) -> Categories
 }
 
 /// What two marks say.
-fn said(there: bool, absent: bool) -> Option<bool>
-    ensures { result ≡ said_of there absent }
+fn status_of_marks(there: bool, absent: bool) -> Option<bool>
+    ensures { result ≡ status_of_marks there absent }
 {
     if there {
         Some(true)
@@ -109,7 +109,7 @@ impl Ways {
     {
         let there = row_of(&self.there, child).has(parent.0);
         let absent = row_of(&self.absent, child).has(parent.0);
-        said(there, absent)
+        status_of_marks(there, absent)
     }
 
     /// The categories to which a way was decided to be there. One look at a table.

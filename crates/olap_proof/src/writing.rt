@@ -6,7 +6,7 @@ ghost use Rattle.olap_graph.specs.Lookups.{name_of_category};
 ghost use Rattle.olap_names.specs.Names.{with_graph};
 ghost use Rattle.olap_proof.specs.Certificates.{bottom_text, head_text};
 ghost use Rattle.olap_proof.specs.Lines.{IsAbout, edge_words, line_text, way_words, words};
-ghost use Rattle.olap_proof.specs.Reading.{said};
+ghost use Rattle.olap_proof.specs.Reading.{meaning};
 
 use crate::Form;
 use crate::lines::Line;
@@ -69,8 +69,8 @@ fn push_words(
     constraints: &[Constraint],
     line: Line,
 ) -> Result<(), AllocError>
-    requires { IsAbout (with_graph graph.now (map constraint_of constraints.now)) (said line) }
-    ensures { OnOk result (out.new.items ≡ out.old.items ++ line_text graph.now (said line)) }
+    requires { IsAbout (with_graph graph.now (map constraint_of constraints.now)) (meaning line) }
+    ensures { OnOk result (out.new.items ≡ out.old.items ++ line_text graph.now (meaning line)) }
 {
     match line {
         Line::Edge(e) => push_edge(out, graph, b"edge", e),
@@ -89,7 +89,7 @@ fn push_words(
 
 /// Whether what the line names is in a schema with this graph and these constraints.
 fn is_about(graph: &Graph, constraints: &[Constraint], line: Line) -> bool
-    ensures { IsTrue result ↔ IsAbout (with_graph graph.now (map constraint_of constraints.now)) (said line) }
+    ensures { IsTrue result ↔ IsAbout (with_graph graph.now (map constraint_of constraints.now)) (meaning line) }
 {
     match line {
         Line::Edge(e) | Line::LooseEdge(e) => e.0 < graph.edges(),
@@ -111,9 +111,9 @@ pub fn push_known_line(
     line: Line,
 ) -> Result<bool, AllocError>
     ensures about { IfOk result (λ told. IsTrue told
-        ↔ IsAbout (with_graph graph.now (map constraint_of constraints.now)) (said line)) }
+        ↔ IsAbout (with_graph graph.now (map constraint_of constraints.now)) (meaning line)) }
     ensures line { IfOk result (λ told. IsTrue told
-        → out.new.items ≡ out.old.items ++ (line_text graph.now (said line) ++ 10 ∷ [])) }
+        → out.new.items ≡ out.old.items ++ (line_text graph.now (meaning line) ++ 10 ∷ [])) }
     ensures refused { IfOk result (λ told. told ≡ false → out.new.items ≡ out.old.items) }
 {
     if !is_about(graph, constraints, line) {
@@ -130,8 +130,8 @@ pub(crate) fn push_line(
     constraints: &[Constraint],
     line: Line,
 ) -> Result<(), AllocError>
-    requires { IsAbout (with_graph graph.now (map constraint_of constraints.now)) (said line) }
-    ensures { OnOk result (out.new.items ≡ out.old.items ++ (line_text graph.now (said line) ++ 10 ∷ [])) }
+    requires { IsAbout (with_graph graph.now (map constraint_of constraints.now)) (meaning line) }
+    ensures { OnOk result (out.new.items ≡ out.old.items ++ (line_text graph.now (meaning line) ++ 10 ∷ [])) }
 {
     push_words(out, graph, constraints, line)?;
     out.extend_from_slice(b"\n")
@@ -144,8 +144,8 @@ pub(crate) fn push_bounded(
     constraints: &[Constraint],
     line: Line,
 ) -> Result<(), Memory>
-    requires { IsAbout (with_graph graph.now (map constraint_of constraints.now)) (said line) }
-    ensures { OnOk result (out.new.items ≡ out.old.items ++ (line_text graph.now (said line) ++ 10 ∷ [])) }
+    requires { IsAbout (with_graph graph.now (map constraint_of constraints.now)) (meaning line) }
+    ensures { OnOk result (out.new.items ≡ out.old.items ++ (line_text graph.now (meaning line) ++ 10 ∷ [])) }
 {
     push_line(out, graph, constraints, line)?;
     if out.len() as u64 > MOST_FILE_BYTES {

@@ -1,6 +1,6 @@
 use Rattle.olap_proof.specs.Asking.{names_in, question_in, schema_in}
 use Rattle.olap_proof.specs.Doing.{leaves_open}
-use Rattle.olap_proof.specs.Reading.{said}
+use Rattle.olap_proof.specs.Reading.{meaning}
 use Rattle.olap_proof.proofs.BranchLemmas.{branch_split}
 use Rattle.olap_proof.proofs.advancing.follow.Goals as goal
 
@@ -9,7 +9,7 @@ returns-in-Some c = λ bytes d.
     let a = c.args.asked.now in
     let k = a.candidates.now in
     let p = c.args.place.now in
-    let cases = leaves_open (names_in a) p (said c.args.line) in
+    let cases = leaves_open (names_in a) p (meaning c.args.line) in
     let legal = c.in-Some.ensures.legal c.args.form (schema_in a) (question_in a) k p d.about d.does in
     let split = branch_split c.in-Some.first c.requires.branch legal c.in_ok-take.ensures c.in_ok-push.ensures.items
     (c.in-Some.ensures.some k p) in

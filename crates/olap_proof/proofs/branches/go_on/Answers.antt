@@ -1,5 +1,5 @@
 use Rattle.std.proofs.Common.{refl}
-use Rattle.olap_proof.specs.Branches.{first_of, led}
+use Rattle.olap_proof.specs.Branches.{first_of, with_choices}
 use Rattle.olap_proof.proofs.BranchLemmas.{back_there, legal_named, open_back, open_next}
 use Rattle.olap_proof.proofs.branches.go_on.Goals as goal
 
@@ -29,4 +29,4 @@ pub choices-preserved : goal.choices-preserved
 choices-preserved c =
     let back = back_there c.choices.invariant.branch c.in-Some.ensures.items c.take_back.ensures in
     open_back c.choices.invariant c.in-Some.ensures.items back
-    (c.in_default-next.ensures.none refl (led (first_of c.choices.place) c.pop.new.self.items))
+    (c.in_default-next.ensures.none refl (with_choices (first_of c.choices.place) c.pop.new.self.items))

@@ -5,7 +5,7 @@ use Rattle.olap_proof.specs.Asking.{IsUnnamed, names_in, question_in, schema_in}
 use Rattle.olap_proof.specs.Certificates.{Open.At, with_edge, with_name}
 use Rattle.olap_base.specs.Graph.{IsDeclared}
 use Rattle.olap_proof.specs.Places.{Place, index_of}
-use Rattle.olap_proof.specs.Reading.{said}
+use Rattle.olap_proof.specs.Reading.{meaning}
 use Rattle.olap_proof.specs.Trees.{Adds}
 use Rattle.olap_proof.proofs.TreeTextLemmas.{adds_leaf, adds_names, edge_below, edge_written, left, name_below, name_written, none_left}
 use Rattle.olap_proof.proofs.growing.+grow.Goals as goal
@@ -14,7 +14,7 @@ pub returns-in-Some-clause-tree : goal.returns-in-Some-clause-tree
 returns-in-Some-clause-tree t c =
     let a = c.args.asked.now in
     let h = c.in-Some.ensures.some in
-    adds_leaf c.args.form (schema_in a) (question_in a) (names_in a) c.args.case.now (said c.in-Some.line)
+    adds_leaf c.args.form (schema_in a) (question_in a) (names_in a) c.args.case.now (meaning c.in-Some.line)
     c.args.out.now.items c.push_bounded.new.out.items h.0 h.1 c.in_ok-push_bounded.ensures
 
 pub grow-requires : goal.grow-requires

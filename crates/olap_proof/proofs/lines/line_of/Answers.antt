@@ -13,8 +13,8 @@ returns-in-Some-Some c =
     let w = c.cut.result.0.now in
     let P : Option (Bor (List ℕ)) → Type 0 = λ o. IfSome o (λ r. c.args.bytes.now ≡ w ++ 32 ∷ r.now) in
     line_read (with_graph c.args.graph.now (map constraint_of c.args.constraints.now)) c.args.bytes.now w
-    (Some c.in-Some-Some.rest.now) c.in-Some-Some.word c.argued.result c.cut.ensures.first
-    (sym (subst P c.in-Some-Some.is-1 c.cut.ensures.some)) c.in-Some-Some.ensures.some c.argued.ensures
+    (Some c.in-Some-Some.rest.now) c.in-Some-Some.word c.line_with_rest.result c.cut.ensures.first
+    (sym (subst P c.in-Some-Some.is-1 c.cut.ensures.some)) c.in-Some-Some.ensures.some c.line_with_rest.ensures
 
 pub returns-in-Some-None : goal.returns-in-Some-None
 returns-in-Some-None c =

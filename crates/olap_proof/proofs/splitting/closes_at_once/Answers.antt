@@ -5,8 +5,8 @@ use Rattle.olap_proof.specs.Trees.{IsPlaceOf}
 use Rattle.olap_proof.proofs.TreeTextLemmas.{place_edge}
 use Rattle.olap_proof.proofs.splitting.closes_at_once.Goals as goal
 
-pub closing-requires : goal.closing-requires
-closing-requires c =
+pub closing_line-requires : goal.closing_line-requires
+closing_line-requires c =
     let a = c.args.asked.now in
     record {
       asked = c.requires.asked;

@@ -31,6 +31,6 @@ returns-in-Closed c =
     let b = c.args.branch in
     let x = c.args.line.now in
     let r : Branch = record { root = b.root; place = c.advance.new.place; choices = c.advance.new.choices } in
-    at_closed c.args.form a b x r c.opened_from.result
+    at_closed c.args.form a b x r c.stage_from.result
     (subst (λ (e : Effect). Advances c.args.form a b.place b.choices.items x r.place r.choices.items e) c.in-Closed.is
-    c.in_ok-effect.ensures) c.opened_from.ensures.stage c.opened_from.ensures.open
+    c.in_ok-effect.ensures) c.stage_from.ensures.stage c.stage_from.ensures.open

@@ -11,10 +11,10 @@ returns-then-is_head c =
     let a = c.args.asked.now in
     let f = c.args.form in
     let x = c.args.line.now in
-    let next = c.opened_from.result in (
-      c.opened_from.ensures.stage,
+    let next = c.stage_from.result in (
+      c.stage_from.ensures.stage,
       subst (λ (y : Stage). RunsFor f a (x ∷ []) (open_at a y) (open_at a next)) (sym c.in-Head.is)
-          (subst (λ (os : List Open). RunsFor f a (x ∷ []) (Head ∷ []) os) (sym c.opened_from.ensures.open)
+          (subst (λ (os : List Open). RunsFor f a (x ∷ []) (Head ∷ []) os) (sym c.stage_from.ensures.open)
           (head_runs f (schema_in a) (question_in a) (names_in a) x (c.is_head.ensures.0 c.if-is_head.true))),
     )
 

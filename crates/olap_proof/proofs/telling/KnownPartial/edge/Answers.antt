@@ -1,6 +1,6 @@
 use Rattle.std.proofs.Common.{◌<◌, Some, length, ap, subst, sym, arith}
 use Rattle.olap_base.specs.Graph.{Graph}
-use Rattle.olap_proof.specs.Places.{told_between}
+use Rattle.olap_proof.specs.Places.{truth_of_edge}
 use Rattle.olap_proof.proofs.LineLemmas.{edge_is}
 use Rattle.olap_proof.proofs.TellingLemmas.{no_edge_out}
 use Rattle.olap_proof.proofs.telling.KnownPartial.edge.Goals as goal
@@ -8,7 +8,7 @@ use Rattle.olap_proof.proofs.telling.KnownPartial.edge.Goals as goal
 pub returns-then-c-categories : goal.returns-then-c-categories
 returns-then-c-categories c =
     let s = c.args.self.now in
-    ap (told_between s.place.now.decided)
+    ap (truth_of_edge s.place.now.decided)
     (sym (no_edge_out s.graph.now s.place.now.decided c.categories.ensures.hierarchy s.within.graph c.args.c.0
     c.args.d.0 (λ l. omega (arith, l, c.categories.ensures.count, c.if-c-categories.true))))
 

@@ -4,7 +4,7 @@ use Rattle.olap_bits.specs.CatSet.{IsLeast}
 use Rattle.olap_bits.specs.Sets.{members}
 use Rattle.olap_proof.specs.Walking.{IsIn}
 use Rattle.olap_proof.proofs.WalkingLemmas.{none_left, one_left}
-use Rattle.olap_proof.proofs.walking.lacking.Goals as goal
+use Rattle.olap_proof.proofs.walking.lacking_category.Goals as goal
 
 pub returns-clause-some : goal.returns-clause-some
 returns-clause-some c = go c.first.result c.first.ensures.least

@@ -3,7 +3,7 @@ use Rattle.std.specs.Prelude.{IfSome, IsNone, Option}
 use Rattle.olap_ast.specs.Trees.{constraint_of, formula_of}
 use Rattle.olap_names.specs.Names.{candidates_of, with_graph}
 use Rattle.olap_proof.specs.Verifying.{IsWrongAt}
-use Rattle.olap_proof.proofs.verifying.judged.Goals as goal
+use Rattle.olap_proof.proofs.verifying.judge.Goals as goal
 
 pub first_wrong-requires-clause-asked : goal.first_wrong-requires-clause-asked
 first_wrong-requires-clause-asked c = record {
