@@ -5,7 +5,6 @@
 --     names_differ         two categories have different names
 --     pair_..              two names with a space between them
 --     edge_..              the edge between two categories
---     line_words           a line is its first word, with the rest behind it
 use Rattle.std.proofs.Common.{◌≡◌, ◌⊎◌, ℕ, zero, suc, ◌<◌, ◌≤◌, ◌++◌, List, [], ◌∷◌, length, get_or, Option, Some, None, refl, ap, sym, subst, ◌∙◌, ◌↔◌, inl, inr, codes, arith}
 use Rattle.std.specs.Prelude.{Contains, IfSome, IsNone, IsSome}
 use Rattle.std.specs.Option.{option_map}

@@ -1,5 +1,5 @@
 -- No line that does something has an LF in it.
---     spelled         a text without some bytes
+--     IsWhole         a text without an LF
 --     name_whole      no category's name has one
 --     line_whole      no line of a tree has one
 --     step_whole      nor has one that does something, wherever it stands
