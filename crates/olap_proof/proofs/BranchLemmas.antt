@@ -1,11 +1,11 @@
 -- Branches of a tree, by their last choice.
 --     take_last        a list without what was put behind it
---     with_choices_last         the choices lead where the last leads, from where the others do
+--     with_choices_last    the choices lead where the last leads, from where the others do
 --     left_last        what is open after them is what is open after the last, and after the others
 --     legal_last       they are legal, and so is the last
 --     legal_more       and one more, if it is
 --     back_there       a branch without its last choice
---     legal_named      what is decided legally has names, if it is a name
+--     last_named       what was decided last has names, if it is a name
 --     branch_more      with one more
 --     left_back        what is open without a last choice that has no case after it
 --     left_next        and with the case after it
@@ -33,7 +33,8 @@ take_last xs y =
     ap (λ k. take k (xs ++ y ∷ [])) m ∙ take-append_seam xs (y ∷ [])
 
 -- the choices lead where the last leads, from where the others do
-pub with_choices_last : (p : Place) (xs : List Choice) (x : Choice) → with_choices p (xs ++ x ∷ []) ≡ with_choice (with_choices p xs) x
+pub with_choices_last : (p : Place) (xs : List Choice) (x : Choice)
+    → with_choices p (xs ++ x ∷ []) ≡ with_choice (with_choices p xs) x
 with_choices_last p [] x = refl
 with_choices_last p (y ∷ ys) x = with_choices_last (with_choice p y) ys x
 
@@ -104,11 +105,17 @@ back_there {g} {k} {p} {r} {all} {xs} {x} h same back =
     branch_back g k p r xs x b (back (with_choices (first_of p) xs) (b.led_there ∙ with_choices_last (first_of p) xs x))
 
 -- what is decided legally has names, if it is a name
-pub legal_named : (g : Graph) (k : Named) (p : Place) (x : Choice) → length k.texts ≡ category_count g
+legal_named : (g : Graph) (k : Named) (p : Place) (x : Choice) → length k.texts ≡ category_count g
     → IsLegal g k p x → IsNamed k x
 legal_named g k p (Edge e b) t l = tt
 legal_named g k p (Name c i) t l = let n = l.0.1 in omega (arith, t, n)
 legal_named g k p (Way a b w) t l = tt
+
+-- so what was taken back last has names, if it is a name
+pub last_named : {g : Graph} {k : Named} {p r : Place} {all : List Choice} (xs : List Choice) (x : Choice)
+    → IsBranch g k p all → all ≡ xs ++ x ∷ [] → ((y : Place) → p ≡ with_choice y x → r ≡ y) → IsNamed k x
+last_named {g} {k} {p} {r} {all} xs x h same taken =
+    let back = back_there h same taken in legal_named g k r x back.branch.texts back.legal
 
 -- with one choice more
 pub branch_more : (g : Graph) (k : Named) (p r : Place) (xs : List Choice) (x : Choice) → IsBranch g k p xs
@@ -196,24 +203,28 @@ pub record IsStillOpen (g : Graph) (k : Named) (q : Place) (ys : List Choice) (p
     pub first : first_of p ≡ first_of q
     pub left : (acc : List Open) → left_open k (first_of q) ys acc ≡ left_open k (first_of p) xs acc
 
-module _ {g : Graph} {k : Named} {q p r : Place} {ys all xs : List Choice} {x : Choice} where
+module _ {g : Graph} {k : Named} {q p r : Place} {ys all : List Choice} (xs : List Choice) (x : Choice) where
   -- so it is without a last choice that has no case after it
-  pub open_back : IsStillOpen g k q ys p all → all ≡ xs ++ x ∷ [] → IsBack g k p r xs x
-      → siblings k (with_choices (first_of p) xs) x ≡ [] → IsStillOpen g k q ys r xs
-  open_back h same back none = record {
-    branch = back.branch;
-    first = back.first ∙ h.first;
-    left = λ acc. h.left acc ∙ ap (λ (zs : List Choice). left_open k (first_of p) zs acc) same
-        ∙ left_back k p r xs x back.first none acc;
-  }
+  pub open_back : IsStillOpen g k q ys p all → all ≡ xs ++ x ∷ [] → ((y : Place) → p ≡ with_choice y x → r ≡ y)
+      → ((o : Place) → siblings k o x ≡ []) → IsStillOpen g k q ys r xs
+  open_back h same taken none =
+      let back = back_there h.branch same taken in
+      record {
+        branch = back.branch;
+        first = back.first ∙ h.first;
+        left = λ acc. h.left acc ∙ ap (λ (zs : List Choice). left_open k (first_of p) zs acc) same
+            ∙ left_back k p r xs x back.first (none (with_choices (first_of p) xs)) acc;
+      }
 
   -- and with the case after it in its place the tree goes on
   pub open_next : {t : Place} {others : List Choice} (y : Choice) → IsStillOpen g k q ys p all
-      → all ≡ xs ++ x ∷ [] → IsBack g k p r xs x → IsLegal g k r y
+      → all ≡ xs ++ x ∷ [] → ((o : Place) → p ≡ with_choice o x → r ≡ o)
+      → ((o : Place) → IsLegal g k o x → IsLegal g k o y)
       → siblings k r x ≡ At (with_choice r y) ∷ siblings k r y → t ≡ with_choice r y
       → others ≡ xs ++ y ∷ [] → GoesOn g k q ys t others true
-  open_next {t} {others} y h same back legal some e pushed =
-      let more = branch_more g k r t xs y back.branch legal e in (
+  open_next {t} {others} y h same taken legal some e pushed =
+      let back = back_there h.branch same taken in
+      let more = branch_more g k r t xs y back.branch (legal r back.legal) e in (
         subst (λ (zs : List Choice). IsBranch g k t zs) (sym pushed) more.0,
         more.1 ∙ back.first ∙ h.first,
         λ acc. h.left acc ∙ ap (λ (zs : List Choice). left_open k (first_of p) zs acc) same

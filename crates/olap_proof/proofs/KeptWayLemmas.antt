@@ -395,20 +395,24 @@ tables_pop there absent new less ws v h size less_size out gone =
 
 -- and so it is where each table is written in its place
 pub tables_written : {W : ℕ} {there absent old older : List (CatSet W)} (new less : List (CatSet W)) {m n : ℕ}
-    {rest : List OneWay} {w : OneWay} → AreTablesOf there absent rest w → old ≡ there → older ≡ absent
+    {list : List OneWay} (rest : List OneWay) (w : OneWay) → AreTables there absent (map way_kept list)
+    → list ≡ rest ++ w ∷ []
+    → old ≡ there → older ≡ absent
     → length old ≡ m → length older ≡ n
     → length new ≡ length old → length less ≡ length older → IsTakenOut old w.child.0 w.parent.0 new
     → IsTakenOut older w.child.0 w.parent.0 less
     → AreTables (take m (new ++ drop (length new) there)) (take n (less ++ drop (length less) absent))
     (map way_kept rest)
-tables_written {W} {there} {absent} {old} {older} new less {m} {n} {rest} {w} h e f s z size less_size out gone =
+tables_written {W} {there} {absent} {old} {older} new less {m} {n} {list} rest w h last e f s z size less_size
+    out gone =
+    let t = tables_last h last in
     let v = way_kept w in
     let ws = map way_kept rest in
     let written = take_at new (drop (length new) there) m (size ∙ s) in
     let cut = take_at less (drop (length less) absent) n (less_size ∙ z) in
     subst (λ rows. AreTables rows (take n (less ++ drop (length less) absent)) ws) (sym written)
     (subst (λ rows. AreTables new rows ws) (sym cut)
-    (tables_pop there absent new less ws v h.tables (size ∙ ap length e) (less_size ∙ ap length f)
+    (tables_pop there absent new less ws v t.tables (size ∙ ap length e) (less_size ∙ ap length f)
     (subst (λ rows. IsTakenOut rows v.child v.parent new) e out)
     (subst (λ rows. IsTakenOut rows v.child v.parent less) f gone)))
 

@@ -27,15 +27,16 @@ use Rattle.olap_proof.proofs.CertificateLemmas.{certificates_are_right}
 -- ---- names
 
 -- the schema of its parts
-pub schema_whole : (s : Schema) {g : Graph} {cs : List Constraint} → g ≡ s.graph → cs ≡ s.constraints
+schema_whole : (s : Schema) {g : Graph} {cs : List Constraint} → g ≡ s.graph → cs ≡ s.constraints
     → with_graph g cs ≡ s
 schema_whole s p q = λ i. record { graph = p i; constraints = q i }
 
 -- the constraints and the question can be named
-pub question_named : {s : Schema} {g : Graph} {cs : List Constraint} {q : Formula} (c : ℕ) (sources : List ℕ)
-    → with_graph g cs ≡ s → q ≡ not_by_one c sources → IsValidSchema s → IsCategory s.graph c
+pub question_named : (s : Schema) {g : Graph} {cs : List Constraint} {q : Formula} (c : ℕ) (sources : List ℕ)
+    → g ≡ s.graph → cs ≡ s.constraints → q ≡ not_by_one c sources → IsValidSchema s → IsCategory s.graph c
     → All (IsCategory s.graph) sources → CanBeNamed g cs q
-question_named {s} {g} {cs} {q} c sources same e v t h =
+question_named s {g} {cs} {q} c sources graph constraints e v t h =
+    let same = schema_whole s graph constraints in
     let w = subst (λ (x : Schema). IsValidSchema x) (sym same) v in
     can_be_named g cs 0 q w.formulas (subst (λ (x : Formula). IsFormulaAt g 0 x) (sym e)
     (question_at g 0 c sources (subst (λ (x : Schema). IsCategory x.graph c) (sym same) t)
@@ -72,40 +73,47 @@ module _ (f : Form) (s : Schema) (q : Formula) (k : Candidates) (c : ℕ) (sourc
 
 -- ---- the schema of the parts
 
-module _ (f : Form) (c : ℕ) (sources text : List ℕ) {part s : Schema} {q : Formula} (same : part ≡ s)
-    (e : q ≡ not_by_one c sources) where
+module _ (f : Form) (s : Schema) (c : ℕ) (sources : List ℕ) {g : Graph} {cs : List Constraint} {q : Formula}
+    (graph : g ≡ s.graph) (constraints : cs ≡ s.constraints) (e : q ≡ not_by_one c sources) where
+  same : with_graph g cs ≡ s
+  same = schema_whole s graph constraints
+
   -- a certificate of some candidates is one for all
-  pub accepted : {A E : Type 0} (r : Result A E) → OnOk r (IsNamedCertificate f part q text)
+  pub accepted : {A E : Type 0} (text : List ℕ) (r : Result A E)
+      → OnOk r (IsNamedCertificate f (with_graph g cs) q text)
       → OnOk r (IsCertificateFor f s c sources text)
-  accepted (Ok a) h = subst (λ (x : Schema). IsCertificateFor f x c sources text) same
-      (certified_for f part q h.names c sources text e h.candidates h.certificate)
-  accepted (Err a) h = h
+  accepted text (Ok a) h = subst (λ (x : Schema). IsCertificateFor f x c sources text) same
+      (certified_for f (with_graph g cs) q h.names c sources text e h.candidates h.certificate)
+  accepted text (Err a) h = h
 
   -- so the target is summarizable
-  pub shown : {A E : Type 0} (r : Result A E) → OnOk r (IsNamedCertificate f part q text)
+  pub shown : {A E : Type 0} (text : List ℕ) (r : Result A E)
+      → OnOk r (IsNamedCertificate f (with_graph g cs) q text)
       → OnOk r (IsSummarizable s c sources)
-  shown (Ok a) h = subst (λ (x : Schema). IsSummarizable x c sources) same
-      (certified_summarizable f part q h.names c sources text e h.candidates h.hierarchy h.certificate)
-  shown (Err a) h = h
+  shown text (Ok a) h = subst (λ (x : Schema). IsSummarizable x c sources) same
+      (certified_summarizable f (with_graph g cs) q h.names c sources text e h.candidates h.hierarchy h.certificate)
+  shown text (Err a) h = h
 
   -- and the first wrong line is one for all
-  pub rejected : {line : ℕ} → IsNamedWrong f part q text line → IsFirstWrongFor f s c sources text line
-  rejected {line} h = subst (λ (x : Schema). IsFirstWrongFor f x c sources text line) same
-      (wrong_for f part q h.names c sources text e h.candidates line h.wrong)
+  pub rejected : (text : List ℕ) {line : ℕ} → IsNamedWrong f (with_graph g cs) q text line
+      → IsFirstWrongFor f s c sources text line
+  rejected text {line} h = subst (λ (x : Schema). IsFirstWrongFor f x c sources text line) same
+      (wrong_for f (with_graph g cs) q h.names c sources text e h.candidates line h.wrong)
 
-module _ (f : Form) (c : ℕ) (sources : List ℕ) {part s : Schema} {q : Formula} (same : part ≡ s)
-    (e : q ≡ not_by_one c sources) where
   -- a text that is one is one for all
-  pub written : {E : Type 0} (r : Result (List ℕ) E) → IfOk r (IsNamedCertificate f part q)
+  pub written : {E : Type 0} (r : Result (List ℕ) E) → IfOk r (IsNamedCertificate f (with_graph g cs) q)
       → IfOk r (IsCertificateFor f s c sources)
   written (Ok text) h = subst (λ (x : Schema). IsCertificateFor f x c sources text) same
-      (certified_for f part q h.names c sources text e h.candidates h.certificate)
+      (certified_for f (with_graph g cs) q h.names c sources text e h.candidates h.certificate)
   written (Err x) h = h
 
 -- where the target is summarizable, no bottom category has a frozen dimension for the question
-pub none_frozen : (c : ℕ) (sources : List ℕ) {part s : Schema} {q : Formula} → part ≡ s → q ≡ not_by_one c sources
-    → IsSummarizable s c sources → HasNoFrozen part q
-none_frozen c sources {part} {s} {q} same e told hier k are =
+pub none_frozen : (s : Schema) (c : ℕ) (sources : List ℕ) {g : Graph} {cs : List Constraint} {q : Formula}
+    → g ≡ s.graph → cs ≡ s.constraints → q ≡ not_by_one c sources → IsSummarizable s c sources
+    → HasNoFrozen (with_graph g cs) q
+none_frozen s c sources {g} {cs} {q} graph constraints e told hier k are =
+    let part = with_graph g cs in
+    let same = schema_whole s graph constraints in
     subst (λ (x : Formula). (b : ℕ) → IsBottom part.graph b → (v : Frozen) → IsFrozen part x b k v → ⊥) (sym e)
     ((summarizable_exactly part c sources k hier (subst (λ (x : Formula). AreCandidates part x k) e are)).0
     (subst (λ (x : Schema). IsSummarizable x c sources) (sym same) told))

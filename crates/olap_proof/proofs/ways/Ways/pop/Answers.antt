@@ -15,7 +15,6 @@ take_out-requires-in-Some c =
 
 pub invariant_of-self : goal.invariant_of-self
 invariant_of-self c =
-    let t = tables_last c.self.invariant c.in-Some.ensures.items in
-    tables_written c.take_out.new.rows c.take_out-in-Some.new.rows t c.deref_mut.ensures.value
-    c.deref_mut-in-Some.ensures.value c.deref_mut.ensures.len c.deref_mut-in-Some.ensures.len
+    tables_written c.take_out.new.rows c.take_out-in-Some.new.rows _ _ c.self.invariant c.in-Some.ensures.items
+    c.deref_mut.ensures.value c.deref_mut-in-Some.ensures.value c.deref_mut.ensures.len c.deref_mut-in-Some.ensures.len
     c.take_out.ensures.count c.take_out-in-Some.ensures.count c.take_out.ensures.out c.take_out-in-Some.ensures.out
