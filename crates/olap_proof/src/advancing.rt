@@ -7,7 +7,7 @@ ghost use Rattle.olap_proof.specs.Within.{IsWithin};
 
 use crate::Form;
 use crate::asking::Asked;
-use crate::branches::{Choice, first_case, go_on, take};
+use crate::branches::{Choice, choose, first_case, go_on};
 use crate::doing::effective_line;
 use crate::knowing::known_at;
 use crate::lines::Line;
@@ -58,8 +58,7 @@ fn follow(
         → Advances form asked.now place.old choices.old.items bytes place.new choices.new.items done) }
 {
     if let Some(first) = first_case(line) {
-        take(asked.graph, asked.candidates, place, first)?;
-        choices.push(first)?;
+        choose(asked.graph, asked.candidates, place, choices, first)?;
         return Ok(Effect::Still);
     }
     if go_on(asked.graph, asked.candidates, place, choices)? {

@@ -1,5 +1,5 @@
 // The branch of a tree on which the reading stands: the choices that lead to its place.
-ghost use Rattle.std.specs.Prelude.{◌≡◌, ◌∷◌, [], IfOk, IfSome, IsNone, OnOk};
+ghost use Rattle.std.specs.Prelude.{◌≡◌, ◌++◌, ◌∷◌, [], IfOk, IfSome, IsNone, OnOk};
 ghost use Rattle.olap_base.specs.Graph.{Graph as AnyGraph};
 ghost use Rattle.olap_proof.specs.Branches.{GoesOn, IsBranch, IsLegal, IsNamed, siblings, with_choice};
 ghost use Rattle.olap_proof.specs.Certificates.{Open.At};
@@ -30,7 +30,7 @@ pub(crate) enum Choice {
 }
 
 /// Decides what was chosen. `Memory`: out of memory.
-pub(crate) fn take(
+fn take(
     graph: &Graph,
     candidates: &Candidates,
     place: &mut Place,
@@ -50,6 +50,24 @@ pub(crate) fn take(
         Choice::Name(c, index) => place.name(c, index),
         Choice::Way(child, parent, there) => place.lead(child, parent, there),
     }
+}
+
+/// Decides what was chosen, and puts it behind the choices. `Memory`: out of memory.
+pub(crate) fn choose(
+    graph: &Graph,
+    candidates: &Candidates,
+    place: &mut Place,
+    choices: &mut Vec<Choice>,
+    choice: Choice,
+) -> Result<(), Memory>
+    requires graph { place.old.decided.graph ≡ graph.now }
+    requires legal { IsLegal graph.now candidates.now place.old choice }
+    ensures place { OnOk result (place.new ≡ with_choice place.old choice) }
+    ensures choices { OnOk result (choices.new.items ≡ choices.old.items ++ choice ∷ []) }
+{
+    take(graph, candidates, place, choice)?;
+    choices.push(choice)?;
+    Ok(())
 }
 
 /// Takes a choice back.
@@ -115,8 +133,7 @@ pub(crate) fn go_on(
     'choices: while let Some(choice) = choices.pop() {
         take_back(place, choice);
         if let Some(later) = next(candidates, choice) {
-            take(graph, candidates, place, later)?;
-            choices.push(later)?;
+            choose(graph, candidates, place, choices, later)?;
             return Ok(true);
         }
     }

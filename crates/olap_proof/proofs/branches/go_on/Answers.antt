@@ -7,8 +7,8 @@ next-requires c =
     last_named c.pop.new.self.items c.in-Some.choice c.choices.invariant.branch c.in-Some.ensures.items
     c.take_back.ensures
 
-pub take-requires : goal.take-requires
-take-requires c =
+pub choose-requires : goal.choose-requires
+choose-requires c =
     let back = back_there c.choices.invariant.branch c.in-Some.ensures.items c.take_back.ensures in
     record {
       graph = back.branch.graph;
@@ -19,7 +19,7 @@ pub returns-in-Some-next : goal.returns-in-Some-next
 returns-in-Some-next c =
     open_next c.pop.new.self.items c.in-Some.choice c.in-Some-next.later c.choices.invariant c.in-Some.ensures.items
     c.take_back.ensures (c.in-Some-next.ensures.legal c.args.graph.now)
-    (c.in-Some-next.ensures.some c.take_back.new.place) c.in_ok-take.ensures c.in_ok-push.ensures.items
+    (c.in-Some-next.ensures.some c.take_back.new.place) c.in_ok-choose.ensures.place c.in_ok-choose.ensures.choices
 
 pub choices-preserved : goal.choices-preserved
 choices-preserved c =
