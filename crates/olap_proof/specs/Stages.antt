@@ -2,13 +2,17 @@
 --     bottoms_from  the bottom categories from a number on
 --     open_at       what is open
 --     IsStage       a category is there, and a place is where its choices lead
+--     IsStageAfter  what is open then, where a line has this effect in a tree
 --     StepsTo       a line does this there, or nothing
 --     IsReached     some lines of a text led there
 use Rattle.std.specs.Prelude.{◌≡◌, ◌-◌, ◌+◌, ◌++◌, ◌==◌, ℕ, List, [], ◌∷◌, Bool, Option, Some, None, filter, length, map, not}
 use Rattle.std.specs.List.{list_any, range_with_len}
 use Rattle.olap_base.specs.Graph.{Edge, Graph, IsCategory, category_count}
+use Rattle.olap_proof.specs.declared.advancing.Effect.{Effect}
+use Rattle.olap_proof.specs.declared.advancing.Effect.TheVariants as effect
 use Rattle.olap_proof.specs.declared.asking.Asked.{Asked}
 use Rattle.olap_proof.specs.declared.forms.Form.{Form}
+use Rattle.olap_proof.specs.declared.stages.Branch.{Branch}
 use Rattle.olap_proof.specs.declared.stages.Stage.{Stage}
 use Rattle.olap_proof.specs.declared.stages.Stage.TheVariants as stage
 use Rattle.olap_proof.specs.Asking.{names_in, question_in, schema_in}
@@ -38,6 +42,13 @@ IsStage a (stage.Bottom root) = IsCategory a.graph.now root.0
 IsStage a (stage.Tree b) =
     IsBranch a.graph.now a.candidates.now b.place b.choices.items × (b.place.decided.root ≡ b.root.0)
 IsStage a stage.Done = Unit {0}
+
+-- nothing, the place in the tree, or the first bottom category after this one that isn't begun
+abbrev pub IsStageAfter : Asked → Branch → Effect → Option Stage → Type 0
+IsStageAfter a b effect.Nothing next = next ≡ None
+IsStageAfter a b effect.Still next = next ≡ Some (stage.Tree b)
+IsStageAfter a b effect.Closed next = (to : Stage) × (next ≡ Some to) × IsStage a to
+    × (open_at a to ≡ map Bottom (bottoms_from a.graph.now (b.root.0 + 1)))
 
 -- the lines do this, one after another
 abbrev pub RunsFor : Form → Asked → List (List ℕ) → List Open → List Open → Type 0

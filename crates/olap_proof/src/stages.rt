@@ -3,7 +3,7 @@ ghost use Rattle.std.specs.Prelude.{◌≡◌, ◌≤◌, ◌+◌, ◌↔◌, �
 ghost use Rattle.olap_base.specs.Graph.{IsCategory};
 ghost use Rattle.olap_proof.specs.Asking.{IsAsked};
 ghost use Rattle.olap_proof.specs.Certificates.{Open.Bottom, bottom_text, head_text};
-ghost use Rattle.olap_proof.specs.Stages.{IsStage, StepsTo, bottoms_from, open_at};
+ghost use Rattle.olap_proof.specs.Stages.{IsStage, IsStageAfter, StepsTo, bottoms_from, open_at};
 ghost use Rattle.olap_proof.specs.declared.stages.Stage.TheVariants as stage;
 
 use crate::Form;
@@ -108,6 +108,20 @@ fn begin(
     })))
 }
 
+/// What is open after a line that had this effect on the branch.
+fn stage_after(asked: &Asked<'_>, branch: Branch, effect: Effect) -> Option<Stage>
+    requires { IsCategory asked.now.graph.now branch.root.0 }
+    ensures { IsStageAfter asked.now branch effect result }
+{
+    // Called for its clause: there are few categories.
+    let _few = asked.graph.categories();
+    match effect {
+        Effect::Nothing => None,
+        Effect::Still => Some(Stage::Tree(branch)),
+        Effect::Closed => Some(stage_from(asked, branch.root.0 + 1)),
+    }
+}
+
 /// What the line does in a tree. `Memory`: out of memory.
 fn go_on_in(
     asked: &Asked<'_>,
@@ -129,11 +143,7 @@ fn go_on_in(
         &mut branch.choices,
         line,
     )?;
-    match effect {
-        Effect::Nothing => Ok(None),
-        Effect::Still => Ok(Some(Stage::Tree(branch))),
-        Effect::Closed => Ok(Some(stage_from(asked, root.0 + 1))),
-    }
+    Ok(stage_after(asked, branch, effect))
 }
 
 /// What is open after the line, if it does something. `Memory`: out of memory.
