@@ -1,12 +1,29 @@
--- A command isn't what is answered by the usage.
+-- Words of a command line as commands.
+use Rattle.std.proofs.Common.{◌≡◌, ℕ, ◌<◌, ◌≤◌, length, List, [], ◌∷◌, get_or, Some, arith}
+use Rattle.std.specs.String.{string_bytes}
+use Rattle.std.specs.declared.string.String.{String}
+use Rattle.std.specs.declared.alloc.Global.{Global}
+use Rattle.olap_order.specs.Arguments.{by_four}
 use Rattle.olap_order.specs.Families.{IsNoUsage}
+use Rattle.olap_order.specs.Order.{Order}
+use Rattle.olap_order.specs.Words.{texts}
 use Rattle.olap_totals.specs.Seen.{seen}
 use Rattle.olap_totals.specs.declared.words.Command.{Command}
-use Rattle.olap_totals.specs.declared.words.Command.TheVariants as code
 
 -- the order of a command isn't the usage
 pub seen_is_no_usage : (command : Command) → IsNoUsage (seen command)
-seen_is_no_usage (code.Rollup schema instance facts category) bytes e = absurd (cc)
-seen_is_no_usage (code.Check schema instance) bytes e = absurd (cc)
-seen_is_no_usage (code.Store schema instance facts categories) bytes e = absurd (cc)
-seen_is_no_usage (code.Change change schema instance store facts) bytes e = absurd (cc)
+seen_is_no_usage command bytes e = absurd (cc)
+
+-- an order by four words is that of each word in its place
+pub by_four_places : {Q : Type 0} (order : List ℕ → List ℕ → List ℕ → List ℕ → Order Q) (words : List (String Global))
+    (a b c d : String Global) (p q r s : List ℕ) → 4 ≤ length words → length words < 5
+    → a ≡ get_or words 0 a → b ≡ get_or words 1 b → c ≡ get_or words 2 c → d ≡ get_or words 3 d
+    → p ≡ string_bytes a → q ≡ string_bytes b → r ≡ string_bytes c → s ≡ string_bytes d
+    → Some (order p q r s) ≡ by_four order (texts words)
+by_four_places order [] a b c d p q r s least most = absurd (omega (arith, least))
+by_four_places order (x ∷ []) a b c d p q r s least most = absurd (omega (arith, least))
+by_four_places order (x ∷ y ∷ []) a b c d p q r s least most = absurd (omega (arith, least))
+by_four_places order (x ∷ y ∷ z ∷ []) a b c d p q r s least most = absurd (omega (arith, least))
+by_four_places order (x ∷ y ∷ z ∷ w ∷ []) a b c d p q r s least most =
+    λ at0 at1 at2 at3 is0 is1 is2 is3. cc
+by_four_places order (x ∷ y ∷ z ∷ w ∷ v ∷ more) a b c d p q r s least most = absurd (omega (arith, most))

@@ -1,5 +1,6 @@
 -- Definitions that contracts cite, in reading order: what is asked, and the commands' orders.
 pub mod Questions
 pub mod Commands
--- The inside: the commands of the code as orders.
+-- The inside: what is left of an order once its schema is read, and the commands of the code as orders.
+pub mod Under
 pub mod Seen

@@ -1,17 +1,26 @@
 -- The commands of the code, as the orders of the words that they hold.
-use Rattle.olap_order.specs.Order.{Order}
+--     seen_under    the order of what is asked under a schema
+--     seen          the order of a command
+use Rattle.std.specs.Prelude.{codes}
+use Rattle.olap_ast.specs.Schema.{Schema}
+use Rattle.olap_order.specs.Order.{Order, and_then}
+use Rattle.olap_order.specs.Steps.{schema_file}
 use Rattle.olap_order.specs.Words.{texts}
 use Rattle.olap_delta.specs.Changing.{step_of}
-use Rattle.olap_totals.specs.Commands.{change_order, check_order, rollup_order, store_order}
+use Rattle.olap_totals.specs.Under.{change_under, check_under, rollup_under, store_under}
 use Rattle.olap_totals.specs.Questions.{Question}
+use Rattle.olap_totals.specs.declared.words.Asked.{Asked}
+use Rattle.olap_totals.specs.declared.words.Asked.TheVariants as code
 use Rattle.olap_totals.specs.declared.words.Command.{Command}
-use Rattle.olap_totals.specs.declared.words.Command.TheVariants as code
+
+-- the order of what is asked under a schema
+abbrev pub seen_under : Schema → Asked → Order Question
+seen_under s (code.Rollup instance facts category) = rollup_under s instance.now facts.now category.now
+seen_under s (code.Check instance) = check_under s instance.now
+seen_under s (code.Store instance facts categories) = store_under s instance.now facts.now (texts categories.now)
+seen_under s (code.Change change instance store facts) =
+    change_under (step_of change) s instance.now store.now facts.now
 
 -- the order of a command
 abbrev pub seen : Command → Order Question
-seen (code.Rollup schema instance facts category) = rollup_order schema.now instance.now facts.now category.now
-seen (code.Check schema instance) = check_order schema.now instance.now
-seen (code.Store schema instance facts categories) =
-    store_order schema.now instance.now facts.now (texts categories.now)
-seen (code.Change change schema instance store facts) =
-    change_order (step_of change) schema.now instance.now store.now facts.now
+seen command = and_then (schema_file (codes "schema") command.schema.now) (λ s. seen_under s command.asked)

@@ -10,14 +10,15 @@ ghost use Rattle.olap_order.specs.Judged.{Judged, Replies};
 ghost use Rattle.olap_order.specs.Order.{Told};
 ghost use Rattle.olap_order.specs.Steps.{text_file};
 ghost use Rattle.olap_order.specs.Taken.{FileStep, PlainStep};
-ghost use Rattle.olap_totals.specs.Commands.{change_order, changed_text};
+ghost use Rattle.olap_totals.specs.Commands.{changed_text};
+ghost use Rattle.olap_totals.specs.Under.{change_by, change_of, change_told, change_under};
 ghost use Rattle.olap_totals.specs.Questions.{IsAnswer};
 
 use olap_base::Library;
 use olap_delta::{Change, DeltaRefusal, change_by_text};
 use olap_facts::FactRefusal;
 use olap_legal::Legal;
-use olap_order::{Reply, Status, Stop, read_file, refuse_long, refuse_part, schema_in, yes};
+use olap_order::{Reply, Status, Stop, read_file, refuse_long, refuse_part, yes};
 use olap_reading::{legal_in, store_in};
 use olap_schema::Schema;
 use olap_view::{Store, print_store};
@@ -81,23 +82,76 @@ fn told(alloc: Global, schema: &Schema, legal: &Legal, store: &Store) -> Result<
     Ok(yes(text.into_bytes()))
 }
 
-/// The stored views in a file after the change by the facts in another, from a schema and an instance.
+/// The text of stored views after the change by the facts of a text.
+fn told_after(
+    alloc: Global,
+    change: Change,
+    schema: &Schema,
+    legal: &Legal,
+    store: &Store,
+    facts: &[u8],
+) -> Result<Reply, Stop>
+    requires made { IsMadeFor (schema_of schema.now).graph legal.now }
+    requires sound { IsSoundStore (schema_of schema.now).graph legal.now (views_of store.now) }
+    requires order { All (IsInFileOrder legal.now) (views_of store.now) }
+    ensures replies { Replies IsAnswer (change_told (step_of change) (schema_of schema.now) legal.now
+        (views_of store.now) facts.now) result }
+{
+    let changed = changed_by(alloc, change, schema, legal, store, facts)?;
+    told(alloc, schema, legal, &changed)
+}
+
+/// Stored views after the change by the facts in a file.
+fn by_facts<L: Library>(
+    alloc: Global,
+    change: Change,
+    schema: &Schema,
+    legal: &Legal,
+    store: &Store,
+    facts: &str,
+    lib: &mut L,
+) -> Result<Reply, Stop>
+    requires made { IsMadeFor (schema_of schema.now).graph legal.now }
+    requires sound { IsSoundStore (schema_of schema.now).graph legal.now (views_of store.now) }
+    requires order { All (IsInFileOrder legal.now) (views_of store.now) }
+    ensures judged { Judged IsAnswer L.Library lib.old lib.new (change_by (step_of change)
+        (schema_of schema.now) legal.now (views_of store.now) facts.now) result }
+{
+    let text = facts_in(alloc, facts, lib)?;
+    told_after(alloc, change, schema, legal, store, &text)
+}
+
+/// The stored views of a legal instance in a file after the change by the facts in another.
+fn of_store<L: Library>(
+    alloc: Global,
+    change: Change,
+    schema: &Schema,
+    legal: &Legal,
+    store: &str,
+    facts: &str,
+    lib: &mut L,
+) -> Result<Reply, Stop>
+    requires { IsMadeFor (schema_of schema.now).graph legal.now }
+    ensures judged { Judged IsAnswer L.Library lib.old lib.new (change_of (step_of change)
+        (schema_of schema.now) legal.now store.now facts.now) result }
+{
+    let store = store_in(alloc, schema, legal, "store", store, lib)?;
+    by_facts(alloc, change, schema, legal, &store, facts, lib)
+}
+
+/// The stored views in a file after the change by the facts in another, from an instance for a schema.
 pub(crate) fn change<L: Library>(
     alloc: Global,
     change: Change,
-    schema: &str,
+    schema: &Schema,
     instance: &str,
     store: &str,
     facts: &str,
     lib: &mut L,
 ) -> Result<Reply, Stop>
-    ensures judged { Judged IsAnswer L.Library lib.old lib.new
-        (change_order (step_of change) schema.now instance.now store.now facts.now) result }
+    ensures judged { Judged IsAnswer L.Library lib.old lib.new (change_under (step_of change)
+        (schema_of schema.now) instance.now store.now facts.now) result }
 {
-    let schema = schema_in(alloc, "schema", schema, lib)?;
-    let legal = legal_in(alloc, &schema, "instance", instance, lib)?;
-    let store = store_in(alloc, &schema, &legal, "store", store, lib)?;
-    let text = facts_in(alloc, facts, lib)?;
-    let changed = changed_by(alloc, change, &schema, &legal, &store, &text)?;
-    told(alloc, &schema, &legal, &changed)
+    let legal = legal_in(alloc, schema, "instance", instance, lib)?;
+    of_store(alloc, change, schema, &legal, store, facts, lib)
 }

@@ -1,6 +1,7 @@
 // The command `check`: whether an instance is legal.
 ghost use Rattle.std.specs.Prelude.{◌++◌, ◌-◌, codes, decimal, length};
-ghost use Rattle.olap_totals.specs.Commands.{check_order};
+ghost use Rattle.olap_schema.specs.Schemas.{schema_of};
+ghost use Rattle.olap_totals.specs.Under.{check_under};
 ghost use Rattle.olap_order.specs.Judged.{Judged, Replies};
 ghost use Rattle.olap_order.specs.Order.{Told};
 ghost use Rattle.olap_order.specs.Outputs.{line};
@@ -8,8 +9,9 @@ ghost use Rattle.olap_totals.specs.Questions.{IsAnswer};
 
 use olap_base::Library;
 use olap_legal::Legal;
-use olap_order::{Reply, Status, Stop, schema_in, yes};
+use olap_order::{Reply, Status, Stop, yes};
 use olap_reading::legal_in;
+use olap_schema::Schema;
 use std::alloc::Global;
 
 /// How many members beside `all` a legal instance has.
@@ -22,17 +24,16 @@ fn counted(alloc: Global, legal: &Legal) -> Result<Reply, Stop>
     Ok(yes(text.into_bytes()))
 }
 
-/// Whether the instance in a file is legal for the schema in another.
+/// Whether the instance in a file is legal for a schema.
 pub(crate) fn check<L: Library>(
     alloc: Global,
-    schema: &str,
+    schema: &Schema,
     instance: &str,
     lib: &mut L,
 ) -> Result<Reply, Stop>
     ensures judged { Judged IsAnswer L.Library lib.old lib.new
-        (check_order schema.now instance.now) result }
+        (check_under (schema_of schema.now) instance.now) result }
 {
-    let schema = schema_in(alloc, "schema", schema, lib)?;
-    let legal = legal_in(alloc, &schema, "instance", instance, lib)?;
+    let legal = legal_in(alloc, schema, "instance", instance, lib)?;
     counted(alloc, &legal)
 }

@@ -7,12 +7,12 @@ ghost use Rattle.olap_view.specs.ViewText.{view_text};
 ghost use Rattle.olap_order.specs.Judged.{Judged};
 ghost use Rattle.olap_order.specs.Order.{Told, and_then};
 ghost use Rattle.olap_reading.specs.Steps.{facts_file};
-ghost use Rattle.olap_totals.specs.Commands.{rollup_order};
+ghost use Rattle.olap_totals.specs.Under.{rollup_under};
 ghost use Rattle.olap_totals.specs.Questions.{IsAnswer};
 
 use olap_base::{CatId, Library};
 use olap_legal::Legal;
-use olap_order::{Reply, Status, Stop, category_at, schema_in, yes};
+use olap_order::{Reply, Status, Stop, category_at, yes};
 use olap_reading::{legal_in, views_in};
 use olap_schema::Schema;
 use olap_view::print_view;
@@ -37,20 +37,19 @@ fn view_in<L: Library>(
     Ok(yes(text.into_bytes()))
 }
 
-/// The direct view of a category, from a schema, an instance and facts.
+/// The direct view of a category of a schema, from an instance and facts.
 pub(crate) fn rollup<L: Library>(
     alloc: Global,
-    schema: &str,
+    schema: &Schema,
     instance: &str,
     facts: &str,
     category: &str,
     lib: &mut L,
 ) -> Result<Reply, Stop>
     ensures judged { Judged IsAnswer L.Library lib.old lib.new
-        (rollup_order schema.now instance.now facts.now category.now) result }
+        (rollup_under (schema_of schema.now) instance.now facts.now category.now) result }
 {
-    let schema = schema_in(alloc, "schema", schema, lib)?;
-    let category = category_at(alloc, 5, &schema, category)?;
-    let legal = legal_in(alloc, &schema, "instance", instance, lib)?;
-    view_in(alloc, &schema, &legal, category, facts, lib)
+    let category = category_at(alloc, 5, schema, category)?;
+    let legal = legal_in(alloc, schema, "instance", instance, lib)?;
+    view_in(alloc, schema, &legal, category, facts, lib)
 }

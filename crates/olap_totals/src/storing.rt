@@ -6,7 +6,7 @@ ghost use Rattle.olap_instance.specs.Made.{IsMadeFor};
 ghost use Rattle.olap_view.specs.StoreText.{store_text};
 ghost use Rattle.olap_schema.specs.Schemas.{schema_of};
 ghost use Rattle.olap_view.specs.Seen.{ids};
-ghost use Rattle.olap_totals.specs.Commands.{store_order};
+ghost use Rattle.olap_totals.specs.Under.{store_of, store_under};
 ghost use Rattle.olap_order.specs.Judged.{Judged};
 ghost use Rattle.olap_order.specs.Order.{Told, and_then};
 ghost use Rattle.olap_totals.specs.Questions.{IsAnswer};
@@ -15,7 +15,7 @@ ghost use Rattle.olap_order.specs.Words.{texts};
 
 use olap_base::{CatId, Library};
 use olap_legal::Legal;
-use olap_order::{Reply, Status, Stop, categories_at, schema_in, yes};
+use olap_order::{Reply, Status, Stop, categories_at, yes};
 use olap_reading::{legal_in, views_in};
 use olap_schema::Schema;
 use olap_view::{Store, print_store};
@@ -43,10 +43,28 @@ fn stored<L: Library>(
     Ok(yes(text.into_bytes()))
 }
 
-/// The direct views of some categories, from a schema, an instance and facts.
+/// The direct views of some categories, from an instance and facts.
+fn of_instance<L: Library>(
+    alloc: Global,
+    schema: &Schema,
+    categories: &[CatId],
+    instance: &str,
+    facts: &str,
+    lib: &mut L,
+) -> Result<Reply, Stop>
+    requires categories { All (IsCategory (schema_of schema.now).graph) (ids categories.now) }
+    requires differ { AllPairs ◌≢◌ (ids categories.now) }
+    ensures judged { Judged IsAnswer L.Library lib.old lib.new
+        (store_of (schema_of schema.now) instance.now facts.now (ids categories.now)) result }
+{
+    let legal = legal_in(alloc, schema, "instance", instance, lib)?;
+    stored(alloc, schema, &legal, categories, facts, lib)
+}
+
+/// The direct views of some categories of a schema, from an instance and facts.
 pub(crate) fn store<L: Library>(
     alloc: Global,
-    schema: &str,
+    schema: &Schema,
     instance: &str,
     facts: &str,
     categories: &[String],
@@ -54,10 +72,8 @@ pub(crate) fn store<L: Library>(
 ) -> Result<Reply, Stop>
     requires few { length categories.now < 2 ^ 63 }
     ensures judged { Judged IsAnswer L.Library lib.old lib.new
-        (store_order schema.now instance.now facts.now (texts categories.now)) result }
+        (store_under (schema_of schema.now) instance.now facts.now (texts categories.now)) result }
 {
-    let schema = schema_in(alloc, "schema", schema, lib)?;
-    let categories = categories_at(alloc, 5, "DuplicateView", &schema, categories)?;
-    let legal = legal_in(alloc, &schema, "instance", instance, lib)?;
-    stored(alloc, &schema, &legal, &categories, facts, lib)
+    let categories = categories_at(alloc, 5, "DuplicateView", schema, categories)?;
+    of_instance(alloc, schema, &categories, instance, facts, lib)
 }

@@ -9,24 +9,28 @@ ghost use Rattle.olap_totals.specs.Seen.{seen};
 use olap_base::MOST_VIEWS;
 use olap_delta::Change;
 
-/// A command with its words.
+/// A command with its words: the file of a schema, and what is asked under it.
 #[derive(Clone, Copy)]
-pub(crate) enum Command<'a> {
+pub(crate) struct Command<'a> {
+    pub(crate) schema: &'a str,
+    pub(crate) asked: Asked<'a>,
+}
+
+/// What a command asks under a schema.
+#[derive(Clone, Copy)]
+pub(crate) enum Asked<'a> {
     /// The direct view of a category.
     Rollup {
-        schema: &'a str,
         instance: &'a str,
         facts: &'a str,
         category: &'a str,
     },
     /// Whether an instance is legal.
     Check {
-        schema: &'a str,
         instance: &'a str,
     },
     /// The direct views of some categories, to be stored.
     Store {
-        schema: &'a str,
         instance: &'a str,
         facts: &'a str,
         categories: &'a [String],
@@ -34,7 +38,6 @@ pub(crate) enum Command<'a> {
     /// Stored views after facts came or were withdrawn.
     Change {
         change: Change,
-        schema: &'a str,
         instance: &'a str,
         store: &'a str,
         facts: &'a str,
@@ -46,11 +49,13 @@ fn rollup(words: &[String]) -> Option<Command<'_>>
     ensures { option_map seen result ≡ by_four rollup_order (texts words.now) }
 {
     match words {
-        [schema, instance, facts, category] => Some(Command::Rollup {
+        [schema, instance, facts, category] => Some(Command {
             schema: schema.as_str(),
-            instance: instance.as_str(),
-            facts: facts.as_str(),
-            category: category.as_str(),
+            asked: Asked::Rollup {
+                instance: instance.as_str(),
+                facts: facts.as_str(),
+                category: category.as_str(),
+            },
         }),
         _ => None,
     }
@@ -61,9 +66,11 @@ fn check(words: &[String]) -> Option<Command<'_>>
     ensures { option_map seen result ≡ by_two check_order (texts words.now) }
 {
     match words {
-        [schema, instance] => Some(Command::Check {
+        [schema, instance] => Some(Command {
             schema: schema.as_str(),
-            instance: instance.as_str(),
+            asked: Asked::Check {
+                instance: instance.as_str(),
+            },
         }),
         _ => None,
     }
@@ -81,11 +88,13 @@ fn store(words: &[String]) -> Option<Command<'_>>
     ensures { option_map seen result ≡ store_by (texts words.now) }
 {
     match words {
-        [schema, instance, facts, categories @ ..] if are_few(categories) => Some(Command::Store {
+        [schema, instance, facts, categories @ ..] if are_few(categories) => Some(Command {
             schema: schema.as_str(),
-            instance: instance.as_str(),
-            facts: facts.as_str(),
-            categories,
+            asked: Asked::Store {
+                instance: instance.as_str(),
+                facts: facts.as_str(),
+                categories,
+            },
         }),
         _ => None,
     }
@@ -96,12 +105,14 @@ fn change_command(change: Change, words: &[String]) -> Option<Command<'_>>
     ensures { option_map seen result ≡ by_four (change_order (step_of change)) (texts words.now) }
 {
     match words {
-        [schema, instance, store, facts] => Some(Command::Change {
-            change,
+        [schema, instance, store, facts] => Some(Command {
             schema: schema.as_str(),
-            instance: instance.as_str(),
-            store: store.as_str(),
-            facts: facts.as_str(),
+            asked: Asked::Change {
+                change,
+                instance: instance.as_str(),
+                store: store.as_str(),
+                facts: facts.as_str(),
+            },
         }),
         _ => None,
     }

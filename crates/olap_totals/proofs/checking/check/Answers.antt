@@ -1,17 +1,10 @@
 use Rattle.olap_order.proofs.Stepping.{answered, ended, followed}
 use Rattle.olap_totals.proofs.checking.check.Goals as goal
 
-pub returns-in_err-schema : goal.returns-in_err-schema
-returns-in_err-schema g c = record { judged = ended c.in_err-schema.ensures.step _ c.from_residual.ensures.1 }
-
 pub returns-in_err-legal : goal.returns-in_err-legal
-returns-in_err-legal g c = record {
-  judged = followed c.in_ok-schema.ensures.step _
-      (ended c.in_err-legal.ensures.step _ c.from_residual-in_err-legal.ensures.1);
-}
+returns-in_err-legal g c = record { judged = ended c.in_err-legal.ensures.step _ c.from_residual.ensures.1 }
 
 pub returns : goal.returns
 returns g c = record {
-  judged = followed c.in_ok-schema.ensures.step _
-      (followed c.in_ok-legal.ensures.step _ (answered c.counted.result c.counted.ensures.replies));
+  judged = followed c.in_ok-legal.ensures.step _ (answered c.counted.result c.counted.ensures.replies);
 }

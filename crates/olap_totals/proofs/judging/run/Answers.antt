@@ -1,11 +1,8 @@
-use Rattle.std.proofs.Common.{sym, subst}
-use Rattle.olap_order.specs.Judged.{Judged}
-use Rattle.olap_totals.specs.Questions.{IsAnswer}
-use Rattle.olap_totals.specs.Seen.{seen}
+use Rattle.olap_order.proofs.Stepping.{ended, followed}
 use Rattle.olap_totals.proofs.judging.run.Goals as goal
 
-pub returns-in-Store : goal.returns-in-Store
-returns-in-Store g c = record {
-  judged = subst (λ m. Judged IsAnswer g.L.Library c.args.lib.now c.store.new.lib (seen m) c.store.result)
-      (sym c.in-Store.is) c.store.ensures.judged;
-}
+pub returns-in_err-schema : goal.returns-in_err-schema
+returns-in_err-schema g c = record { judged = ended c.in_err-schema.ensures.step _ c.from_residual.ensures.1 }
+
+pub returns : goal.returns
+returns g c = record { judged = followed c.in_ok-schema.ensures.step _ c.reply.ensures.judged }

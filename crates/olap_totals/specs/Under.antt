@@ -1,0 +1,67 @@
+-- What is left of each order once its schema is read, its instance too, or still more.
+--     rollup_under, check_under, store_under, change_under   under a schema
+--     store_of       of an instance, after the categories
+--     change_of      of a legal instance
+--     change_by      of its stored views
+--     change_told    of the text of the facts
+use Rattle.std.specs.Prelude.{ℕ, List, [], ◌++◌, ◌-◌, codes, length}
+use Rattle.std.specs.Fmt.{decimal}
+use Rattle.olap_base.specs.Instance.{Instance}
+use Rattle.olap_base.specs.Views.{View, direct_view, direct_views}
+use Rattle.olap_ast.specs.Schema.{Schema}
+use Rattle.olap_delta.specs.Changes.{Step}
+use Rattle.olap_view.specs.StoreText.{store_text}
+use Rattle.olap_view.specs.ViewText.{view_text}
+use Rattle.olap_order.specs.Order.{Order, Told, and_then}
+use Rattle.olap_order.specs.Outputs.{line}
+use Rattle.olap_order.specs.Steps.{category_word, different_words, text_file}
+use Rattle.olap_reading.specs.Steps.{facts_file, legal_file, store_file}
+use Rattle.olap_order.specs.declared.status.Status.TheVariants.{Yes}
+use Rattle.olap_totals.specs.Commands.{changed_text}
+use Rattle.olap_totals.specs.Questions.{Question}
+
+-- the category, the instance and its laws, and then the facts
+abbrev pub rollup_under : Schema → (instance facts category : List ℕ) → Order Question
+rollup_under s instance facts category =
+    and_then (category_word s.graph 5 category) (λ c.
+    and_then (legal_file s (codes "instance") instance) (λ i.
+    and_then (facts_file s i (codes "facts") facts) (λ table.
+    Told Yes (view_text i (direct_view i table c)))))
+
+-- the instance and its laws
+abbrev pub check_under : Schema → (instance : List ℕ) → Order Question
+check_under s instance =
+    and_then (legal_file s (codes "instance") instance) (λ i.
+    Told Yes (line (codes "legal " ++ decimal (length i - 1))))
+
+-- the instance and its laws, and then the facts
+abbrev pub store_of : Schema → (instance facts : List ℕ) (categories : List ℕ) → Order Question
+store_of s instance facts cs =
+    and_then (legal_file s (codes "instance") instance) (λ i.
+    and_then (facts_file s i (codes "facts") facts) (λ table.
+    Told Yes (store_text s.graph i (direct_views i table cs))))
+
+-- the categories from left to right, and then what is left of the order
+abbrev pub store_under : Schema → (instance facts : List ℕ) (categories : List (List ℕ)) → Order Question
+store_under s instance facts categories =
+    and_then (different_words (codes "DuplicateView") s.graph 5 [] categories) (λ cs. store_of s instance facts cs)
+
+-- each fact of the text at the views
+abbrev pub change_told : Step → Schema → Instance → List View → (text : List ℕ) → Order Question
+change_told step s i views text =
+    and_then (changed_text step s i views text) (λ changed. Told Yes (store_text s.graph i changed))
+
+-- the facts, and then what is left
+abbrev pub change_by : Step → Schema → Instance → List View → (facts : List ℕ) → Order Question
+change_by step s i views facts =
+    and_then (text_file (codes "facts") facts) (λ text. change_told step s i views text)
+
+-- the stored views, and then what is left
+abbrev pub change_of : Step → Schema → Instance → (store facts : List ℕ) → Order Question
+change_of step s i store facts =
+    and_then (store_file s i (codes "store") store) (λ views. change_by step s i views facts)
+
+-- the instance and its laws, and then what is left
+abbrev pub change_under : Step → Schema → (instance store facts : List ℕ) → Order Question
+change_under step s instance store facts =
+    and_then (legal_file s (codes "instance") instance) (λ i. change_of step s i store facts)
