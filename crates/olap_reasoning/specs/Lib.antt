@@ -4,5 +4,6 @@ pub mod Listings
 pub mod Questions
 pub mod Commands
 pub mod Laws
--- The inside: the commands of the code as orders.
+-- The inside: what is left of an order once its schema is read, and the commands of the code as orders.
+pub mod Under
 pub mod Seen

@@ -1,14 +1,19 @@
 -- The commands of the code, as the orders of the words that they hold.
 --     question_of    what is asked of a target and its sources
+--     seen_under     the order of what is asked of a schema
 --     seen           the order of a command
-use Rattle.std.specs.Prelude.{ℕ, List}
+use Rattle.std.specs.Prelude.{ℕ, List, codes}
 use Rattle.olap_ast.specs.Schema.{Schema}
-use Rattle.olap_order.specs.Order.{Order}
+use Rattle.olap_schema_text.specs.Printing.{schema_text}
+use Rattle.olap_order.specs.Order.{Order, Done, Told, and_then}
+use Rattle.olap_order.specs.Steps.{schema_file}
 use Rattle.olap_order.specs.Words.{texts}
-use Rattle.olap_reasoning.specs.Commands.{audit_order, format_order, frozen_order, implies_order, satisfiable_order, sources_order}
-use Rattle.olap_reasoning.specs.Questions.{Question, BySummarizable, ByProof}
+use Rattle.olap_order.specs.declared.status.Status.TheVariants.{Yes}
+use Rattle.olap_reasoning.specs.Under.{frozen_under, implies_under, satisfiable_under, sources_under}
+use Rattle.olap_reasoning.specs.Questions.{Question, ByAudit, BySummarizable, ByProof}
+use Rattle.olap_reasoning.specs.declared.words.Asked.{Asked}
+use Rattle.olap_reasoning.specs.declared.words.Asked.TheVariants as code
 use Rattle.olap_reasoning.specs.declared.words.Command.{Command}
-use Rattle.olap_reasoning.specs.declared.words.Command.TheVariants as code
 use Rattle.olap_reasoning.specs.declared.words.Wanted.{Wanted}
 use Rattle.olap_reasoning.specs.declared.words.Wanted.TheVariants as wanted
 
@@ -17,12 +22,16 @@ abbrev pub question_of : Wanted → Schema → ℕ → List ℕ → Question
 question_of wanted.Answer = BySummarizable
 question_of (wanted.Certificate form) = ByProof form
 
+-- the order of what is asked of a schema
+abbrev pub seen_under : Schema → Asked → Order Question
+seen_under s code.Format = Told Yes (schema_text s)
+seen_under s (code.Satisfiable category) = satisfiable_under s category.now
+seen_under s (code.Implies root formula) = implies_under s root.now formula.now
+seen_under s (code.Summarizable what target sources) =
+    sources_under (question_of what) s target.now (texts sources.now)
+seen_under s (code.Frozen category) = frozen_under s category.now
+seen_under s code.Audit = Done (ByAudit s)
+
 -- the order of a command
 abbrev pub seen : Command → Order Question
-seen (code.Format schema) = format_order schema.now
-seen (code.Satisfiable schema category) = satisfiable_order schema.now category.now
-seen (code.Implies schema root formula) = implies_order schema.now root.now formula.now
-seen (code.Summarizable what schema target sources) =
-    sources_order (question_of what) schema.now target.now (texts sources.now)
-seen (code.Frozen schema category) = frozen_order schema.now category.now
-seen (code.Audit schema) = audit_order schema.now
+seen command = and_then (schema_file (codes "schema") command.schema.now) (λ s. seen_under s command.asked)

@@ -4,16 +4,15 @@ ghost use Rattle.olap_ast.specs.Findings.{Finding.Redundant, Finding.Unsatisfiab
 ghost use Rattle.olap_base.specs.Graph.{IsCategory};
 ghost use Rattle.olap_schema.specs.Schemas.{schema_of};
 ghost use Rattle.olap_summ.specs.Audits.{finding_of};
-ghost use Rattle.olap_reasoning.specs.Commands.{audit_order};
-ghost use Rattle.olap_order.specs.Judged.{Judged, Replies};
+ghost use Rattle.olap_order.specs.Judged.{Replies};
 ghost use Rattle.olap_reasoning.specs.Listings.{finding_text};
 ghost use Rattle.olap_order.specs.Order.{Done};
 ghost use Rattle.olap_order.specs.Outputs.{line};
 ghost use Rattle.olap_reasoning.specs.Questions.{ByAudit, IsAnswer};
 
-use olap_base::{CatId, EdgeId, Library, Memory};
+use olap_base::{CatId, EdgeId, Memory};
 use olap_graph::Graph;
-use olap_order::{Reply, Stop, schema_in, yes};
+use olap_order::{Reply, Stop, yes};
 use olap_schema::Schema;
 use olap_summ::Finding;
 use std::alloc::Global;
@@ -89,18 +88,10 @@ fn listed(alloc: Global, schema: &Schema, findings: &[Finding]) -> Result<Vec<u8
 }
 
 /// What a schema says or does for nothing.
-fn answered(alloc: Global, schema: &Schema) -> Result<Reply, Stop>
+pub(crate) fn audit(alloc: Global, schema: &Schema) -> Result<Reply, Stop>
     ensures replies { Replies IsAnswer (Done (ByAudit (schema_of schema.now))) result }
 {
     let findings = olap_summ::audit(alloc, schema)?;
     let text = listed(alloc, schema, findings.items())?;
     Ok(yes(text))
-}
-
-/// What the schema in a file says or does for nothing.
-pub(crate) fn audit<L: Library>(alloc: Global, schema: &str, lib: &mut L) -> Result<Reply, Stop>
-    ensures judged { Judged IsAnswer L.Library lib.old lib.new (audit_order schema.now) result }
-{
-    let schema = schema_in(alloc, "schema", schema, lib)?;
-    answered(alloc, &schema)
 }

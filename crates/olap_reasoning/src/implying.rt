@@ -11,18 +11,18 @@ ghost use Rattle.olap_instance.specs.Printing.{text_of_instance};
 ghost use Rattle.olap_names.specs.Names.{candidates_of};
 ghost use Rattle.olap_schema.specs.Readable.{AreTexts};
 ghost use Rattle.olap_schema.specs.Schemas.{schema_of};
-ghost use Rattle.olap_reasoning.specs.Commands.{implies_order};
-ghost use Rattle.olap_order.specs.Judged.{Judged, Replies};
+ghost use Rattle.olap_reasoning.specs.Under.{implies_under};
+ghost use Rattle.olap_order.specs.Judged.{Replies};
 ghost use Rattle.olap_order.specs.Order.{Done};
 ghost use Rattle.olap_order.specs.Outputs.{line};
 ghost use Rattle.olap_reasoning.specs.Questions.{ByImplied, IsAnswer};
 
 use olap_ast::Formula;
-use olap_base::{CatId, Library, Memory};
+use olap_base::{CatId, Memory};
 use olap_cex::{print_frozen, thaw};
 use olap_frozen::Found;
 use olap_instance::print_instance;
-use olap_order::{Reply, Stop, formula_at, no, root_at, schema_in, yes};
+use olap_order::{Reply, Stop, formula_at, no, root_at, yes};
 use olap_schema::Schema;
 use std::alloc::Global;
 
@@ -58,19 +58,17 @@ fn answered(alloc: Global, schema: &Schema, root: CatId, formula: &Formula) -> R
     }
 }
 
-/// Whether all instances that are legal for the schema in a file meet a constraint.
-pub(crate) fn implies<L: Library>(
+/// Whether all instances that are legal for a schema meet a constraint.
+pub(crate) fn implies(
     alloc: Global,
-    schema: &str,
+    schema: &Schema,
     root: &str,
     formula: &str,
-    lib: &mut L,
 ) -> Result<Reply, Stop>
-    ensures judged { Judged IsAnswer L.Library lib.old lib.new
-        (implies_order schema.now root.now formula.now) result }
+    ensures replies { Replies IsAnswer
+        (implies_under (schema_of schema.now) root.now formula.now) result }
 {
-    let schema = schema_in(alloc, "schema", schema, lib)?;
-    let root = root_at(alloc, 3, &schema, root)?;
-    let formula = formula_at(alloc, 4, &schema, root, formula)?;
-    answered(alloc, &schema, root, &formula)
+    let root = root_at(alloc, 3, schema, root)?;
+    let formula = formula_at(alloc, 4, schema, root, formula)?;
+    answered(alloc, schema, root, &formula)
 }

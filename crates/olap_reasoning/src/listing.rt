@@ -6,20 +6,20 @@ ghost use Rattle.olap_frozen.specs.LeastFound.{frozen_of};
 ghost use Rattle.olap_frozen.specs.Leaves.{IsSized};
 ghost use Rattle.olap_names.specs.Names.{candidates_of};
 ghost use Rattle.olap_schema.specs.Schemas.{schema_of};
-ghost use Rattle.olap_reasoning.specs.Commands.{frozen_order};
-ghost use Rattle.olap_order.specs.Judged.{Judged, Replies};
+ghost use Rattle.olap_reasoning.specs.Under.{frozen_under};
+ghost use Rattle.olap_order.specs.Judged.{Replies};
 ghost use Rattle.olap_order.specs.Order.{Done};
 ghost use Rattle.olap_order.specs.Outputs.{line};
 ghost use Rattle.olap_reasoning.specs.Questions.{ByFrozen, IsAnswer};
 
 use olap_ast::Formula;
-use olap_base::{CatId, Library, MOST_FROZEN, Memory};
+use olap_base::{CatId, MOST_FROZEN, Memory};
 use olap_cex::print_frozen;
 use olap_dimsat::{AllRefusal, Search};
 use olap_frozen::Frozen;
 use olap_graph::Graph;
 use olap_names::Candidates;
-use olap_order::{Reply, Stop, category_at, refuse, schema_in, yes};
+use olap_order::{Reply, Stop, category_at, refuse, yes};
 use olap_schema::Schema;
 use std::alloc::Global;
 
@@ -87,17 +87,10 @@ fn answered(alloc: Global, schema: &Schema, root: CatId) -> Result<Reply, Stop>
     }
 }
 
-/// All frozen dimensions with a root, of the schema in a file.
-pub(crate) fn frozen<L: Library>(
-    alloc: Global,
-    schema: &str,
-    category: &str,
-    lib: &mut L,
-) -> Result<Reply, Stop>
-    ensures judged { Judged IsAnswer L.Library lib.old lib.new
-        (frozen_order schema.now category.now) result }
+/// All frozen dimensions with a root, of a schema.
+pub(crate) fn frozen(alloc: Global, schema: &Schema, category: &str) -> Result<Reply, Stop>
+    ensures replies { Replies IsAnswer (frozen_under (schema_of schema.now) category.now) result }
 {
-    let schema = schema_in(alloc, "schema", schema, lib)?;
-    let category = category_at(alloc, 3, &schema, category)?;
-    answered(alloc, &schema, category)
+    let category = category_at(alloc, 3, schema, category)?;
+    answered(alloc, schema, category)
 }

@@ -6,16 +6,16 @@ ghost use Rattle.olap_frozen.specs.LeastFound.{frozen_of};
 ghost use Rattle.olap_frozen.specs.Leaves.{IsSized};
 ghost use Rattle.olap_names.specs.Names.{candidates_of};
 ghost use Rattle.olap_schema.specs.Schemas.{schema_of};
-ghost use Rattle.olap_reasoning.specs.Commands.{satisfiable_order};
-ghost use Rattle.olap_order.specs.Judged.{Judged, Replies};
+ghost use Rattle.olap_reasoning.specs.Under.{satisfiable_under};
+ghost use Rattle.olap_order.specs.Judged.{Replies};
 ghost use Rattle.olap_order.specs.Order.{Done};
 ghost use Rattle.olap_order.specs.Outputs.{line};
 ghost use Rattle.olap_reasoning.specs.Questions.{BySatisfiable, IsAnswer};
 
-use olap_base::{CatId, Library, Memory};
+use olap_base::{CatId, Memory};
 use olap_cex::print_frozen;
 use olap_frozen::Found;
-use olap_order::{Reply, Stop, category_at, no, schema_in, yes};
+use olap_order::{Reply, Stop, category_at, no, yes};
 use olap_schema::Schema;
 use std::alloc::Global;
 
@@ -45,17 +45,11 @@ fn answered(alloc: Global, schema: &Schema, category: CatId) -> Result<Reply, St
     }
 }
 
-/// Whether a category can have a member in an instance that is legal for the schema in a file.
-pub(crate) fn satisfiable<L: Library>(
-    alloc: Global,
-    schema: &str,
-    category: &str,
-    lib: &mut L,
-) -> Result<Reply, Stop>
-    ensures judged { Judged IsAnswer L.Library lib.old lib.new
-        (satisfiable_order schema.now category.now) result }
+/// Whether a category can have a member in an instance that is legal for a schema.
+pub(crate) fn satisfiable(alloc: Global, schema: &Schema, category: &str) -> Result<Reply, Stop>
+    ensures replies { Replies IsAnswer
+        (satisfiable_under (schema_of schema.now) category.now) result }
 {
-    let schema = schema_in(alloc, "schema", schema, lib)?;
-    let category = category_at(alloc, 3, &schema, category)?;
-    answered(alloc, &schema, category)
+    let category = category_at(alloc, 3, schema, category)?;
+    answered(alloc, schema, category)
 }

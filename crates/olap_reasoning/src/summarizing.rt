@@ -3,8 +3,8 @@ ghost use Rattle.std.specs.Prelude.{◌≢◌, All, AllPairs, length, ◌<◌, �
 ghost use Rattle.olap_base.specs.Graph.{IsCategory};
 ghost use Rattle.olap_schema.specs.Schemas.{schema_of};
 ghost use Rattle.olap_ast.specs.Trees.{numbers_of};
-ghost use Rattle.olap_reasoning.specs.Commands.{sources_order};
-ghost use Rattle.olap_order.specs.Judged.{Judged, Replies};
+ghost use Rattle.olap_reasoning.specs.Under.{sources_under};
+ghost use Rattle.olap_order.specs.Judged.{Replies};
 ghost use Rattle.olap_order.specs.Order.{Done};
 ghost use Rattle.olap_reasoning.specs.Questions.{BySummarizable, IsAnswer};
 ghost use Rattle.olap_reasoning.specs.Seen.{question_of};
@@ -13,8 +13,8 @@ ghost use Rattle.olap_order.specs.Words.{texts};
 use crate::differing::shown;
 use crate::proving::proved;
 use crate::words::Wanted;
-use olap_base::{CatId, Library};
-use olap_order::{Reply, Stop, categories_at, category_at, no, schema_in, yes};
+use olap_base::CatId;
+use olap_order::{Reply, Stop, categories_at, category_at, no, yes};
 use olap_schema::Schema;
 use olap_summ::SummRefusal;
 use std::alloc::Global;
@@ -55,22 +55,20 @@ fn answered(
     }
 }
 
-/// Whether the target's view is always that from the sources' views, in all instances that are legal for the schema
-/// in a file, or why.
-pub(crate) fn summarizable<L: Library>(
+/// Whether the target's view is always that from the sources' views, in all instances that are legal for a schema, or
+/// why.
+pub(crate) fn summarizable(
     alloc: Global,
     wanted: Wanted,
-    schema: &str,
+    schema: &Schema,
     target: &str,
     sources: &[String],
-    lib: &mut L,
 ) -> Result<Reply, Stop>
     requires few { length sources.now < 2 ^ 63 }
-    ensures judged { Judged IsAnswer L.Library lib.old lib.new
-        (sources_order (question_of wanted) schema.now target.now (texts sources.now)) result }
+    ensures replies { Replies IsAnswer (sources_under (question_of wanted) (schema_of schema.now)
+        target.now (texts sources.now)) result }
 {
-    let schema = schema_in(alloc, "schema", schema, lib)?;
-    let target = category_at(alloc, 3, &schema, target)?;
-    let sources = categories_at(alloc, 4, "DuplicateSource", &schema, sources)?;
-    answered(alloc, wanted, &schema, target, &sources)
+    let target = category_at(alloc, 3, schema, target)?;
+    let sources = categories_at(alloc, 4, "DuplicateSource", schema, sources)?;
+    answered(alloc, wanted, schema, target, &sources)
 }

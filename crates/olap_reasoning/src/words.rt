@@ -16,40 +16,39 @@ pub(crate) enum Wanted {
     Certificate(Form),
 }
 
-/// A command with its words.
+/// A command with its words: the file of a schema, and what is asked of it.
 #[derive(Clone, Copy)]
-pub(crate) enum Command<'a> {
-    /// The canonical text of a schema.
-    Format {
-        schema: &'a str,
-    },
+pub(crate) struct Command<'a> {
+    pub(crate) schema: &'a str,
+    pub(crate) asked: Asked<'a>,
+}
+
+/// What a command asks of a schema.
+#[derive(Clone, Copy)]
+pub(crate) enum Asked<'a> {
+    /// Its canonical text.
+    Format,
     /// Whether a category can have a member.
     Satisfiable {
-        schema: &'a str,
         category: &'a str,
     },
     /// Whether all legal instances meet a constraint.
     Implies {
-        schema: &'a str,
         root: &'a str,
         formula: &'a str,
     },
     /// Whether a view is always that from others, or why.
     Summarizable {
         wanted: Wanted,
-        schema: &'a str,
         target: &'a str,
         sources: &'a [String],
     },
     /// All frozen dimensions with a root.
     Frozen {
-        schema: &'a str,
         category: &'a str,
     },
-    /// What a schema says or does for nothing.
-    Audit {
-        schema: &'a str,
-    },
+    /// What it says or does for nothing.
+    Audit,
 }
 
 /// The words after `format`.
@@ -57,8 +56,9 @@ fn format(words: &[String]) -> Option<Command<'_>>
     ensures { option_map seen result ≡ by_one format_order (texts words.now) }
 {
     match words {
-        [schema] => Some(Command::Format {
+        [schema] => Some(Command {
             schema: schema.as_str(),
+            asked: Asked::Format,
         }),
         _ => None,
     }
@@ -69,9 +69,11 @@ fn satisfiable(words: &[String]) -> Option<Command<'_>>
     ensures { option_map seen result ≡ by_two satisfiable_order (texts words.now) }
 {
     match words {
-        [schema, category] => Some(Command::Satisfiable {
+        [schema, category] => Some(Command {
             schema: schema.as_str(),
-            category: category.as_str(),
+            asked: Asked::Satisfiable {
+                category: category.as_str(),
+            },
         }),
         _ => None,
     }
@@ -82,10 +84,12 @@ fn implies(words: &[String]) -> Option<Command<'_>>
     ensures { option_map seen result ≡ by_three implies_order (texts words.now) }
 {
     match words {
-        [schema, root, formula] => Some(Command::Implies {
+        [schema, root, formula] => Some(Command {
             schema: schema.as_str(),
-            root: root.as_str(),
-            formula: formula.as_str(),
+            asked: Asked::Implies {
+                root: root.as_str(),
+                formula: formula.as_str(),
+            },
         }),
         _ => None,
     }
@@ -97,11 +101,13 @@ fn summarizable(wanted: Wanted, words: &[String]) -> Option<Command<'_>>
         ≡ by_two_or_more (sources_order (question_of wanted)) (texts words.now) }
 {
     match words {
-        [schema, target, sources @ ..] => Some(Command::Summarizable {
-            wanted,
+        [schema, target, sources @ ..] => Some(Command {
             schema: schema.as_str(),
-            target: target.as_str(),
-            sources,
+            asked: Asked::Summarizable {
+                wanted,
+                target: target.as_str(),
+                sources,
+            },
         }),
         _ => None,
     }
@@ -112,9 +118,11 @@ fn frozen(words: &[String]) -> Option<Command<'_>>
     ensures { option_map seen result ≡ by_two frozen_order (texts words.now) }
 {
     match words {
-        [schema, category] => Some(Command::Frozen {
+        [schema, category] => Some(Command {
             schema: schema.as_str(),
-            category: category.as_str(),
+            asked: Asked::Frozen {
+                category: category.as_str(),
+            },
         }),
         _ => None,
     }
@@ -125,8 +133,9 @@ fn audit(words: &[String]) -> Option<Command<'_>>
     ensures { option_map seen result ≡ by_one audit_order (texts words.now) }
 {
     match words {
-        [schema] => Some(Command::Audit {
+        [schema] => Some(Command {
             schema: schema.as_str(),
+            asked: Asked::Audit,
         }),
         _ => None,
     }

@@ -6,30 +6,24 @@ use Rattle.olap_order.specs.Judged.{Replies}
 use Rattle.olap_order.specs.Order.{Done}
 use Rattle.olap_reasoning.specs.Questions.{IsAnswer}
 use Rattle.olap_reasoning.specs.Seen.{question_of}
-use Rattle.olap_order.proofs.Stepping.{answered, ended, followed, unread}
+use Rattle.olap_order.proofs.Stepping.{ended_unread, followed_unread}
 use Rattle.olap_reasoning.proofs.summarizing.summarizable.Goals as goal
 
-pub returns-in_err-schema : goal.returns-in_err-schema
-returns-in_err-schema g c = record { judged = ended c.in_err-schema.ensures.step _ c.from_residual.ensures.1 }
-
 pub returns-in_err-target : goal.returns-in_err-target
-returns-in_err-target g c = record {
-  judged = followed c.in_ok-schema.ensures.step _
-      (ended (unread _ c.in_err-target.ensures.step) _ c.from_residual-in_err-target.ensures.1);
+returns-in_err-target c = record {
+  replies = ended_unread c.in_err-target.ensures.step _ _ c.from_residual.ensures.1;
 }
 
 pub returns-in_err-sources : goal.returns-in_err-sources
-returns-in_err-sources g c = record {
-  judged = followed c.in_ok-schema.ensures.step _ (followed (unread _ c.in_ok-target.ensures.step) _
-      (ended (unread _ c.in_err-sources.ensures.step) _ c.from_residual-in_err-sources.ensures.1));
+returns-in_err-sources c = record {
+  replies = followed_unread c.in_ok-target.ensures.step _
+      (ended_unread c.in_err-sources.ensures.step _ _ c.from_residual-in_err-sources.ensures.1);
 }
 
 pub returns : goal.returns
-returns g c = record {
-  judged = followed c.in_ok-schema.ensures.step _ (followed (unread _ c.in_ok-target.ensures.step) _
-      (followed (unread _ c.in_ok-sources.ensures.step) _
-      (answered c.answered.result
+returns c = record {
+  replies = followed_unread c.in_ok-target.ensures.step _ (followed_unread c.in_ok-sources.ensures.step _
       (subst (λ (xs : List CatId). Replies IsAnswer
-      (Done (question_of c.args.wanted (schema_of c.in_ok-schema.schema) c.in_ok-target.target.0 (numbers_of xs)))
-      c.answered.result) c.deref.ensures.value c.answered.ensures.replies))));
+      (Done (question_of c.args.wanted (schema_of c.args.schema.now) c.in_ok-target.target.0 (numbers_of xs)))
+      c.answered.result) c.deref.ensures.value c.answered.ensures.replies));
 }
