@@ -10,6 +10,7 @@ ghost use Rattle.olap_ast.specs.Trees.{numbers_of};
 ghost use Rattle.olap_summ.specs.Counterexamples.{IsCounterexampleFound};
 ghost use Rattle.olap_order.specs.Outputs.{line};
 
+use crate::denying::no_lines;
 use olap_base::{CatId, Memory, Text};
 use olap_cex::{counterexample, print_cex, print_frozen, question_is_true, root_is_member};
 use olap_frozen::Found;
@@ -64,8 +65,5 @@ pub(crate) fn shown(
 {
     let line = print_frozen(alloc, schema.graph(), &found.frozen, &found.candidates)?;
     let lines = sums(alloc, schema, found, target, sources)?;
-    let mut text = Vec::from_slice(alloc, b"no\n")?;
-    text.extend_from_slice(line.bytes())?;
-    text.extend_from_slice(lines.bytes())?;
-    Ok(text)
+    no_lines(alloc, &line, &lines)
 }

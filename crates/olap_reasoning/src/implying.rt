@@ -17,14 +17,26 @@ ghost use Rattle.olap_order.specs.Order.{Done};
 ghost use Rattle.olap_order.specs.Outputs.{line};
 ghost use Rattle.olap_reasoning.specs.Questions.{ByImplied, IsAnswer};
 
+use crate::denying::no_lines;
 use olap_ast::Formula;
-use olap_base::{CatId, Memory};
+use olap_base::{CatId, Memory, Text};
 use olap_cex::{print_frozen, thaw};
 use olap_frozen::Found;
+use olap_graph::Graph;
 use olap_instance::print_instance;
 use olap_order::{Reply, Stop, formula_at, no, root_at, yes};
 use olap_schema::Schema;
 use std::alloc::Global;
+
+/// The text of the instance of a frozen dimension.
+fn instance_text(alloc: Global, graph: &Graph, found: &Found) -> Result<Text, Memory>
+    requires { IsFoundFor graph.now found.now }
+    ensures { IfOk result (λ text. text ≡ text_of_instance graph.now
+        (found_instance graph.now found.now)) }
+{
+    let instance = thaw(alloc, graph, found)?;
+    print_instance(alloc, graph, &instance)
+}
 
 /// `no`, the line of a frozen dimension, and its instance.
 fn shown(alloc: Global, schema: &Schema, found: &Found) -> Result<Vec<u8>, Memory>
@@ -35,12 +47,8 @@ fn shown(alloc: Global, schema: &Schema, found: &Found) -> Result<Vec<u8>, Memor
         (frozen_of found.now.frozen) ++ text_of_instance g (found_instance g found.now))) }
 {
     let line = print_frozen(alloc, schema.graph(), &found.frozen, &found.candidates)?;
-    let instance = thaw(alloc, schema.graph(), found)?;
-    let lines = print_instance(alloc, schema.graph(), &instance)?;
-    let mut text = Vec::from_slice(alloc, b"no\n")?;
-    text.extend_from_slice(line.bytes())?;
-    text.extend_from_slice(lines.bytes())?;
-    Ok(text)
+    let lines = instance_text(alloc, schema.graph(), found)?;
+    no_lines(alloc, &line, &lines)
 }
 
 /// Whether all legal instances meet the constraint, with what shows that they don't.

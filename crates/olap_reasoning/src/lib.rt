@@ -6,6 +6,7 @@
 #![tactic(auto)]
 
 mod auditing;
+mod denying;
 mod differing;
 mod formatting;
 mod implying;

@@ -1,7 +1,10 @@
 // The command `frozen`: all frozen dimensions with a root.
-ghost use Rattle.std.specs.Prelude.{◌≡◌, ◌++◌, codes, decimal, All, IfOk, OnOk, flat_map, length, map};
+ghost use Rattle.std.specs.Prelude.{◌≡◌, ◌≤◌, ◌++◌, codes, decimal, All, Err, IfOk, OnOk, flat_map, length, map};
+ghost use Rattle.olap_ast.specs.Formula.{Formula.Truth};
 ghost use Rattle.olap_base.specs.Graph.{IsCategory};
+ghost use Rattle.olap_base.specs.Limits.{most_frozen};
 ghost use Rattle.olap_cex.specs.FrozenText.{frozen_text};
+ghost use Rattle.olap_dimsat.specs.Listed.{AreAllFrozen, AreMoreThan};
 ghost use Rattle.olap_frozen.specs.LeastFound.{frozen_of};
 ghost use Rattle.olap_frozen.specs.Leaves.{IsSized};
 ghost use Rattle.olap_names.specs.Names.{candidates_of};
@@ -13,7 +16,7 @@ ghost use Rattle.olap_order.specs.Outputs.{line};
 ghost use Rattle.olap_reasoning.specs.Questions.{ByFrozen, IsAnswer};
 
 use olap_ast::Formula;
-use olap_base::{CatId, MOST_FROZEN, Memory};
+use olap_base::{CatId, List, MOST_FROZEN, Memory};
 use olap_cex::print_frozen;
 use olap_dimsat::{AllRefusal, Search};
 use olap_frozen::Frozen;
@@ -65,6 +68,36 @@ fn listed(
     Ok(text)
 }
 
+/// The lines of these frozen dimensions, or that there are too many.
+fn told(
+    alloc: Global,
+    schema: &Schema,
+    candidates: &Candidates,
+    root: CatId,
+    all: Result<List<Frozen>, AllRefusal>,
+) -> Result<Reply, Stop>
+    requires all { IfOk all (λ list. AreAllFrozen (schema_of schema.now) Truth root.0
+        (candidates_of candidates.now) (map frozen_of list)) }
+    requires few { IfOk all (λ list. length list ≤ most_frozen) }
+    requires roots { IfOk all (λ list. All (λ f. f.root.0 ≡ root.0) list) }
+    requires sized { IfOk all (λ list.
+        All (λ f. IsSized (schema_of schema.now).graph candidates.now f.edges f.names) list) }
+    requires too_many { all ≡ Err AllRefusal.TooMany
+        → AreMoreThan most_frozen (schema_of schema.now) Truth root.0 (candidates_of candidates.now) }
+    ensures replies { Replies IsAnswer (Done (ByFrozen (schema_of schema.now) root.0)) result }
+{
+    match all {
+        Ok(all) => {
+            let text = listed(alloc, schema.graph(), candidates, root, all.items())?;
+            Ok(yes(text))
+        }
+        Err(refusal) => match refusal {
+            AllRefusal::TooMany => Err(refuse(alloc, "frozen TooMany")),
+            AllRefusal::Memory => Err(Stop::Memory),
+        },
+    }
+}
+
 /// All frozen dimensions with a root, where they aren't too many.
 fn answered(alloc: Global, schema: &Schema, root: CatId) -> Result<Reply, Stop>
     requires { IsCategory (schema_of schema.now).graph root.0 }
@@ -75,16 +108,7 @@ fn answered(alloc: Global, schema: &Schema, root: CatId) -> Result<Reply, Stop>
     let mut search = Search::new(alloc, schema, root, &Formula::True)?;
     let all = search.all(schema, &Formula::True, MOST_FROZEN);
     let candidates = search.into_candidates();
-    match all {
-        Ok(all) => {
-            let text = listed(alloc, schema.graph(), &candidates, root, all.items())?;
-            Ok(yes(text))
-        }
-        Err(refusal) => match refusal {
-            AllRefusal::TooMany => Err(refuse(alloc, "frozen TooMany")),
-            AllRefusal::Memory => Err(Stop::Memory),
-        },
-    }
+    told(alloc, schema, &candidates, root, all)
 }
 
 /// All frozen dimensions with a root, of a schema.

@@ -1,64 +1,42 @@
--- The candidates are those of the search, and what is listed is all that it found.
-use Rattle.std.proofs.Common.{◌≤◌, ◌++◌, List, length, map, codes, decimal, Err, ap, inr, refl, sym, subst, ◌∙◌}
-use Rattle.std.specs.Prelude.{All, flat_map}
-use Rattle.std.proofs.lemmas.List.{length-map}
+-- The candidates are those of the search, and its root is the root.
+use Rattle.std.proofs.Common.{◌≡◌, map, Err, sym, subst, ◌∙◌}
+use Rattle.std.specs.Prelude.{All, IfOk}
 use Rattle.olap_ast.specs.Formula.{Formula.Truth}
-use Rattle.olap_base.specs.Graph.{Graph}
 use Rattle.olap_base.specs.Limits.{most_frozen}
-use Rattle.olap_cex.specs.FrozenText.{frozen_text}
 use Rattle.olap_dimsat.specs.Listed.{AreAllFrozen, AreMoreThan}
 use Rattle.olap_dimsat.specs.Searches.{candidates_in}
+use Rattle.olap_dimsat.specs.declared.searching.AllRefusal.TheVariants as refusal
 use Rattle.olap_frozen.specs.LeastFound.{frozen_of}
 use Rattle.olap_frozen.specs.Leaves.{IsSized}
-use Rattle.olap_frozen.specs.declared.frozen.Frozen.{Frozen}
 use Rattle.olap_names.specs.Names.{Named, candidates_of}
 use Rattle.olap_schema.specs.Schemas.{schema_of}
-use Rattle.olap_order.specs.Outputs.{line}
-use Rattle.olap_order.proofs.Replying.{refusing}
-use Rattle.olap_reasoning.specs.Questions.{ByFrozen}
-use Rattle.olap_reasoning.proofs.ListingLemmas.{frozen_listed}
 use Rattle.olap_reasoning.proofs.listing.answered.Goals as goal
 
-pub listed-requires-clause-sized : goal.listed-requires-clause-sized
-listed-requires-clause-sized c =
+pub told-requires-clause-all : goal.told-requires-clause-all
+told-requires-clause-all c =
     let s = schema_of c.args.schema.now in
-    let names = c.into_candidates-candidates.ensures ∙ c.all-all.ensures.candidates in
-    subst (λ (fs : List Frozen). All
-    (λ f. IsSized c.graph.result.now c.into_candidates-candidates.result f.edges f.names) fs)
-    (sym c.items.ensures)
-    (subst (λ (g : Graph). All (λ f. IsSized g c.into_candidates-candidates.result f.edges f.names) c.in-Ok.all)
-    (sym c.graph.ensures)
-    (subst (λ (k : Named). All (λ f. IsSized s.graph k f.edges f.names) c.in-Ok.all) (sym names) c.in-Ok.ensures.sized))
+    let o = c.all-all.result in
+    subst (λ (k : Named). IfOk o (λ fs. AreAllFrozen s Truth c.args.root.0 (candidates_of k) (map frozen_of fs)))
+    (sym (c.into_candidates-candidates.ensures ∙ c.all-all.ensures.candidates))
+    (subst (λ q. IfOk o (λ fs. AreAllFrozen s Truth q (candidates_in c.in_ok-search.search) (map frozen_of fs)))
+    c.in_ok-search.ensures.root c.all-all.ensures.all)
 
-pub returns-in-Ok : goal.returns-in-Ok
-returns-in-Ok c =
-    let s = schema_of c.args.schema.now in
-    let r = c.args.root.0 in
-    let k = candidates_in c.in_ok-search.search in
-    let found = c.in-Ok.all in
-    let names = c.into_candidates-candidates.ensures ∙ c.all-all.ensures.candidates in
-    let all = subst (λ q. AreAllFrozen s Truth q k (map frozen_of found)) c.in_ok-search.ensures.root
-    c.in-Ok.ensures.all in
-    let few = subst (λ n. n ≤ most_frozen) (sym (length-map found frozen_of)) c.in-Ok.ensures.few in
-    let counted = ap (λ n. flat_map (frozen_text s.graph k r) (map frozen_of found) ++ line
-    (codes "count " ++ decimal n))
-    (sym (length-map found frozen_of)) in
-    record {
-      replies = frozen_listed s r k (map frozen_of found) all few c.yes.result c.yes.ensures.status
-          (c.yes.ensures.bytes ∙ c.in_ok-text-in-Ok.ensures
-          ∙ (λ i. flat_map (frozen_text (c.graph.ensures i) (candidates_of (names i)) r)
-          (map frozen_of (c.items.ensures i))
-          ++ line (codes "count " ++ decimal (length (c.items.ensures i))))
-          ∙ counted);
-    }
+pub told-requires-clause-roots : goal.told-requires-clause-roots
+told-requires-clause-roots c =
+    subst (λ q. IfOk c.all-all.result (λ fs. All (λ f. f.root.0 ≡ q) fs)) c.in_ok-search.ensures.root
+    c.all-all.ensures.roots
 
-pub returns-in-TooMany : goal.returns-in-TooMany
-returns-in-TooMany c =
+pub told-requires-clause-sized : goal.told-requires-clause-sized
+told-requires-clause-sized c =
     let s = schema_of c.args.schema.now in
-    let k = candidates_in c.in_ok-search.search in
-    let many = subst (λ q. AreMoreThan most_frozen s Truth q k) c.in_ok-search.ensures.root
-    (c.in-Err.ensures.too_many (ap Err c.in-TooMany.is)) in
-    record {
-      replies = refusing (ByFrozen s c.args.root.0) (codes "frozen TooMany")
-          (λ bytes is. inr (refl, (k, many), is)) c.refuse.result c.refuse.ensures.refused;
-    }
+    subst (λ (k : Named). IfOk c.all-all.result (λ fs. All (λ f. IsSized s.graph k f.edges f.names) fs))
+    (sym (c.into_candidates-candidates.ensures ∙ c.all-all.ensures.candidates)) c.all-all.ensures.sized
+
+pub told-requires-clause-too_many : goal.told-requires-clause-too_many
+told-requires-clause-too_many c =
+    let s = schema_of c.args.schema.now in
+    subst (λ (k : Named). c.all-all.result ≡ Err refusal.TooMany
+    → AreMoreThan most_frozen s Truth c.args.root.0 (candidates_of k))
+    (sym (c.into_candidates-candidates.ensures ∙ c.all-all.ensures.candidates))
+    (subst (λ q. c.all-all.result ≡ Err refusal.TooMany → AreMoreThan most_frozen s Truth q
+    (candidates_in c.in_ok-search.search)) c.in_ok-search.ensures.root c.all-all.ensures.too_many)
