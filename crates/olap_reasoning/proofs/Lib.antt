@@ -3,4 +3,5 @@ mod CertificateLemmas
 mod ListingLemmas
 mod LineLemmas
 mod OneAnswer
+mod ReplyLemmas
 mod WordLemmas

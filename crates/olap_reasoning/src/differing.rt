@@ -1,5 +1,5 @@
 // What shows that a view isn't always that from others.
-ghost use Rattle.std.specs.Prelude.{◌≡◌, ◌++◌, All, codes, IfOk};
+ghost use Rattle.std.specs.Prelude.{◌≡◌, ◌++◌, All, codes, IfErr, IfOk};
 ghost use Rattle.olap_base.specs.Graph.{IsCategory};
 ghost use Rattle.olap_cex.specs.CexText.{counterexample_text};
 ghost use Rattle.olap_cex.specs.FrozenText.{frozen_text};
@@ -14,6 +14,7 @@ use crate::denying::no_lines;
 use olap_base::{CatId, Memory, Text};
 use olap_cex::{counterexample, print_cex, print_frozen, question_is_true, root_is_member};
 use olap_frozen::Found;
+use olap_order::{Reply, Status, Stop, no};
 use olap_schema::Schema;
 use std::alloc::Global;
 
@@ -51,19 +52,22 @@ pub(crate) fn shown(
     found: &Found,
     target: CatId,
     sources: &[CatId],
-) -> Result<Vec<u8>, Memory>
+) -> Result<Reply, Stop>
     requires target { IsCategory (schema_of schema.now).graph target.0 }
     requires sources { All (IsCategory (schema_of schema.now).graph) (numbers_of sources.now) }
     requires found { IsCounterexampleFound (schema_of schema.now) target.0 (numbers_of sources.now)
         found.now }
-    ensures { let s = schema_of schema.now in
+    ensures status { IfOk result (λ r. r.status ≡ Status.No) }
+    ensures text { let s = schema_of schema.now in
         let k = candidates_of found.now.candidates in
         let f = frozen_of found.now.frozen in
-        IfOk result (λ text. text.items ≡ line (codes "no")
+        IfOk result (λ r. r.bytes.items ≡ line (codes "no")
         ++ (frozen_text s.graph k found.now.frozen.root.0 f
         ++ counterexample_text s k found.now.frozen.root.0 f target.0 (numbers_of sources.now))) }
+    ensures memory { IfErr result (λ stop. stop ≡ Stop.Memory) }
 {
     let line = print_frozen(alloc, schema.graph(), &found.frozen, &found.candidates)?;
     let lines = sums(alloc, schema, found, target, sources)?;
-    no_lines(alloc, &line, &lines)
+    let text = no_lines(alloc, &line, &lines)?;
+    Ok(no(text))
 }

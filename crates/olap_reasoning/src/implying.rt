@@ -1,5 +1,5 @@
 // The command `implies`: whether all legal instances meet a constraint.
-ghost use Rattle.std.specs.Prelude.{◌≡◌, ◌++◌, codes, IfOk};
+ghost use Rattle.std.specs.Prelude.{◌≡◌, ◌++◌, codes, IfErr, IfOk};
 ghost use Rattle.olap_ast.specs.Formula.{equalities};
 ghost use Rattle.olap_ast.specs.Frozen.{thawed};
 ghost use Rattle.olap_ast.specs.Trees.{formula_of};
@@ -24,7 +24,7 @@ use olap_cex::{print_frozen, thaw};
 use olap_frozen::Found;
 use olap_graph::Graph;
 use olap_instance::print_instance;
-use olap_order::{Reply, Stop, formula_at, no, root_at, yes};
+use olap_order::{Reply, Status, Stop, formula_at, no, root_at, yes};
 use olap_schema::Schema;
 use std::alloc::Global;
 
@@ -39,16 +39,19 @@ fn instance_text(alloc: Global, graph: &Graph, found: &Found) -> Result<Text, Me
 }
 
 /// `no`, the line of a frozen dimension, and its instance.
-fn shown(alloc: Global, schema: &Schema, found: &Found) -> Result<Vec<u8>, Memory>
+fn shown(alloc: Global, schema: &Schema, found: &Found) -> Result<Reply, Stop>
     requires { IsFoundFor (schema_of schema.now).graph found.now }
-    ensures { let g = (schema_of schema.now).graph in
-        IfOk result (λ text. text.items ≡ line (codes "no")
+    ensures status { IfOk result (λ r. r.status ≡ Status.No) }
+    ensures text { let g = (schema_of schema.now).graph in
+        IfOk result (λ r. r.bytes.items ≡ line (codes "no")
         ++ (frozen_text g (candidates_of found.now.candidates) found.now.frozen.root.0
         (frozen_of found.now.frozen) ++ text_of_instance g (found_instance g found.now))) }
+    ensures memory { IfErr result (λ stop. stop ≡ Stop.Memory) }
 {
     let line = print_frozen(alloc, schema.graph(), &found.frozen, &found.candidates)?;
     let lines = instance_text(alloc, schema.graph(), found)?;
-    no_lines(alloc, &line, &lines)
+    let text = no_lines(alloc, &line, &lines)?;
+    Ok(no(text))
 }
 
 /// Whether all legal instances meet the constraint, with what shows that they don't.
@@ -62,7 +65,7 @@ fn answered(alloc: Global, schema: &Schema, root: CatId, formula: &Formula) -> R
     let _constraints = schema.constraints();
     match olap_summ::implies(alloc, schema, root, formula)? {
         None => Ok(yes(Vec::from_slice(alloc, b"yes\n")?)),
-        Some(found) => Ok(no(shown(alloc, schema, &found)?)),
+        Some(found) => shown(alloc, schema, &found),
     }
 }
 

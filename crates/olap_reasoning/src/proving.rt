@@ -9,7 +9,7 @@ ghost use Rattle.olap_reasoning.specs.Questions.{ByProof, IsAnswer};
 
 use crate::differing::shown;
 use olap_base::CatId;
-use olap_order::{Reply, Stop, no, yes};
+use olap_order::{Reply, Stop, yes};
 use olap_proof::Form;
 use olap_prove::{Proof, prove};
 use olap_schema::Schema;
@@ -32,7 +32,7 @@ pub(crate) fn proved(
 {
     match prove(alloc, schema, form, target, sources) {
         Ok(Proof::Yes(text)) => Ok(yes(text.into_bytes())),
-        Ok(Proof::No(found)) => Ok(no(shown(alloc, schema, &found, target, sources)?)),
+        Ok(Proof::No(found)) => shown(alloc, schema, &found, target, sources),
         Err(SummRefusal::DuplicateSource) => unreachable!(),
         Err(SummRefusal::Memory) => Err(Stop::Memory),
     }

@@ -1,5 +1,5 @@
 // The command `satisfiable`: whether a category can have a member.
-ghost use Rattle.std.specs.Prelude.{◌≡◌, ◌++◌, codes, IfOk};
+ghost use Rattle.std.specs.Prelude.{◌≡◌, ◌++◌, codes, IfErr, IfOk};
 ghost use Rattle.olap_base.specs.Graph.{IsCategory};
 ghost use Rattle.olap_cex.specs.FrozenText.{frozen_text};
 ghost use Rattle.olap_frozen.specs.LeastFound.{frozen_of};
@@ -12,25 +12,27 @@ ghost use Rattle.olap_order.specs.Order.{Done};
 ghost use Rattle.olap_order.specs.Outputs.{line};
 ghost use Rattle.olap_reasoning.specs.Questions.{BySatisfiable, IsAnswer};
 
-use olap_base::{CatId, Memory};
+use olap_base::CatId;
 use olap_cex::print_frozen;
 use olap_frozen::Found;
-use olap_order::{Reply, Stop, category_at, no, yes};
+use olap_order::{Reply, Status, Stop, category_at, no, yes};
 use olap_schema::Schema;
 use std::alloc::Global;
 
 /// `yes`, and the line of a frozen dimension.
-fn shown(alloc: Global, schema: &Schema, found: &Found) -> Result<Vec<u8>, Memory>
+fn shown(alloc: Global, schema: &Schema, found: &Found) -> Result<Reply, Stop>
     requires { IsSized (schema_of schema.now).graph found.now.candidates found.now.frozen.edges
         found.now.frozen.names }
-    ensures { IfOk result (λ text. text.items ≡ line (codes "yes")
+    ensures status { IfOk result (λ r. r.status ≡ Status.Yes) }
+    ensures text { IfOk result (λ r. r.bytes.items ≡ line (codes "yes")
         ++ frozen_text (schema_of schema.now).graph (candidates_of found.now.candidates)
         found.now.frozen.root.0 (frozen_of found.now.frozen)) }
+    ensures memory { IfErr result (λ stop. stop ≡ Stop.Memory) }
 {
     let line = print_frozen(alloc, schema.graph(), &found.frozen, &found.candidates)?;
     let mut text = Vec::from_slice(alloc, b"yes\n")?;
     text.extend_from_slice(line.bytes())?;
-    Ok(text)
+    Ok(yes(text))
 }
 
 /// Whether a category can have a member, with what shows it.
@@ -41,7 +43,7 @@ fn answered(alloc: Global, schema: &Schema, category: CatId) -> Result<Reply, St
 {
     match olap_summ::satisfiable(alloc, schema, category)? {
         None => Ok(no(Vec::from_slice(alloc, b"no\n")?)),
-        Some(found) => Ok(yes(shown(alloc, schema, &found)?)),
+        Some(found) => shown(alloc, schema, &found),
     }
 }
 

@@ -29,7 +29,7 @@ fn decided(alloc: Global, schema: &Schema, target: CatId, sources: &[CatId]) -> 
 {
     match olap_summ::summarizable(alloc, schema, target, sources) {
         Ok(None) => Ok(yes(Vec::from_slice(alloc, b"yes\n")?)),
-        Ok(Some(found)) => Ok(no(shown(alloc, schema, &found, target, sources)?)),
+        Ok(Some(found)) => shown(alloc, schema, &found, target, sources),
         Err(SummRefusal::DuplicateSource) => unreachable!(),
         Err(SummRefusal::Memory) => Err(Stop::Memory),
     }

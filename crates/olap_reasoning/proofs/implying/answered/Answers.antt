@@ -1,10 +1,11 @@
-use Rattle.std.proofs.Common.{subst, ◌∙◌}
+use Rattle.std.proofs.Common.{subst}
 use Rattle.std.specs.Prelude.{IfSome}
 use Rattle.olap_ast.specs.Formula.{Formula.Not}
 use Rattle.olap_ast.specs.Trees.{formula_of}
 use Rattle.olap_frozen.specs.LeastFound.{IsLeastFound}
 use Rattle.olap_schema.specs.Schemas.{schema_of}
 use Rattle.olap_reasoning.proofs.CertificateLemmas.{all_texts, found_for, unmet_shown}
+use Rattle.olap_reasoning.proofs.ReplyLemmas.{replies_or_memory}
 use Rattle.olap_reasoning.proofs.implying.answered.Goals as goal
 
 pub shown-requires : goal.shown-requires
@@ -16,13 +17,13 @@ shown-requires c =
     found_for s (Not q) c.args.root.0 c.in-Some.found c.requires.question.declared.1 least
     (all_texts s (Not q) c.constraints-constraints.ensures.texts c.requires.texts)
 
-pub returns-in_ok-shown-in-Some : goal.returns-in_ok-shown-in-Some
-returns-in_ok-shown-in-Some c =
+pub returns-in-Some : goal.returns-in-Some
+returns-in-Some c =
     let s = schema_of c.args.schema.now in
     let q = formula_of c.args.formula.now in
     let least = subst (λ o. IfSome o (IsLeastFound s (Not q) c.args.root.0)) c.in-Some.is
     c.in_ok-implies.ensures.some in
     record {
-      replies = unmet_shown s c.args.root.0 q c.in-Some.found least c.no.result c.no.ensures.status
-          (c.no.ensures.bytes ∙ c.in_ok-shown-in-Some.ensures);
+      replies = replies_or_memory c.shown.result c.shown.ensures.status c.shown.ensures.text c.shown.ensures.memory
+          (unmet_shown s c.args.root.0 q c.in-Some.found least);
     }

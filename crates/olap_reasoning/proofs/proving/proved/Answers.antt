@@ -7,6 +7,7 @@ use Rattle.olap_schema.specs.Schemas.{schema_of}
 use Rattle.olap_ast.specs.Trees.{numbers_of}
 use Rattle.olap_reasoning.specs.Questions.{ByProof}
 use Rattle.olap_reasoning.proofs.CertificateLemmas.{certificate_shown, difference_shown}
+use Rattle.olap_reasoning.proofs.ReplyLemmas.{replies_or_memory}
 use Rattle.olap_reasoning.proofs.proving.proved.Goals as goal
 
 pub returns-in-Ok-Yes : goal.returns-in-Ok-Yes
@@ -22,14 +23,14 @@ returns-in-Ok-Yes c =
           (subst (IsCertificateFor f s target sources) (sym (c.yes.ensures.bytes ∙ c.into_bytes.ensures)) shows);
     }
 
-pub returns-in_ok-shown-in-Ok-No : goal.returns-in_ok-shown-in-Ok-No
-returns-in_ok-shown-in-Ok-No c =
+pub returns-in-Ok-No : goal.returns-in-Ok-No
+returns-in-Ok-No c =
     let s = schema_of c.args.schema.now in
     let target = c.args.target.0 in
     let sources = numbers_of c.args.sources.now in
     let found = subst (Shows c.args.form s target sources) c.in-Ok-No.field-0-is c.in-Ok-No.ensures.proof in
     record {
-      replies = difference_shown (ByProof c.args.form s target sources) s target sources c.in-Ok-No.found found
-          (λ status bytes is shows. inr (is, shows)) c.no.result c.no.ensures.status
-          (c.no.ensures.bytes ∙ c.in_ok-shown-in-Ok-No.ensures);
+      replies = replies_or_memory c.shown.result c.shown.ensures.status c.shown.ensures.text c.shown.ensures.memory
+          (difference_shown (ByProof c.args.form s target sources) s target sources c.in-Ok-No.found found
+          (λ status bytes is shows. inr (is, shows)));
     }

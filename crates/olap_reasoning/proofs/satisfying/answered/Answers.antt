@@ -1,17 +1,18 @@
-use Rattle.std.proofs.Common.{subst, ◌∙◌}
+use Rattle.std.proofs.Common.{subst}
 use Rattle.std.specs.Prelude.{IfSome}
 use Rattle.olap_ast.specs.Formula.{Formula.Truth}
 use Rattle.olap_frozen.specs.LeastFound.{IsLeastFound}
 use Rattle.olap_schema.specs.Schemas.{schema_of}
 use Rattle.olap_reasoning.proofs.CertificateLemmas.{member_shown}
+use Rattle.olap_reasoning.proofs.ReplyLemmas.{replies_or_memory}
 use Rattle.olap_reasoning.proofs.satisfying.answered.Goals as goal
 
-pub returns-in_ok-shown-in-Some : goal.returns-in_ok-shown-in-Some
-returns-in_ok-shown-in-Some c =
+pub returns-in-Some : goal.returns-in-Some
+returns-in-Some c =
     let s = schema_of c.args.schema.now in
     let least = subst (λ o. IfSome o (IsLeastFound s Truth c.args.category.0)) c.in-Some.is
     c.in_ok-satisfiable.ensures.some in
     record {
-      replies = member_shown s c.args.category.0 c.in-Some.found least c.yes.result c.yes.ensures.status
-          (c.yes.ensures.bytes ∙ c.in_ok-shown-in-Some.ensures);
+      replies = replies_or_memory c.shown.result c.shown.ensures.status c.shown.ensures.text c.shown.ensures.memory
+          (member_shown s c.args.category.0 c.in-Some.found least);
     }

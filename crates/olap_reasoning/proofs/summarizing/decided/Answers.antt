@@ -1,20 +1,21 @@
-use Rattle.std.proofs.Common.{inr, subst, ◌∙◌}
+use Rattle.std.proofs.Common.{inr, subst}
 use Rattle.std.specs.Prelude.{IfSome}
 use Rattle.olap_schema.specs.Schemas.{schema_of}
 use Rattle.olap_summ.specs.Counterexamples.{IsCounterexampleFound}
 use Rattle.olap_ast.specs.Trees.{numbers_of}
 use Rattle.olap_reasoning.specs.Questions.{BySummarizable}
 use Rattle.olap_reasoning.proofs.CertificateLemmas.{difference_shown}
+use Rattle.olap_reasoning.proofs.ReplyLemmas.{replies_or_memory}
 use Rattle.olap_reasoning.proofs.summarizing.decided.Goals as goal
 
-pub returns-in_ok-shown-in-Ok-Some : goal.returns-in_ok-shown-in-Ok-Some
-returns-in_ok-shown-in-Ok-Some c =
+pub returns-in-Ok-Some : goal.returns-in-Ok-Some
+returns-in-Ok-Some c =
     let s = schema_of c.args.schema.now in
     let sources = numbers_of c.args.sources.now in
     let f = subst (λ o. IfSome o (IsCounterexampleFound s c.args.target.0 sources)) c.in-Ok-Some.field-0-is
     c.in-Ok-Some.ensures.some in
     record {
-      replies = difference_shown (BySummarizable s c.args.target.0 sources) s c.args.target.0 sources
-          c.in-Ok-Some.found f (λ status bytes is shows. inr (is, shows)) c.no.result c.no.ensures.status
-          (c.no.ensures.bytes ∙ c.in_ok-shown-in-Ok-Some.ensures);
+      replies = replies_or_memory c.shown.result c.shown.ensures.status c.shown.ensures.text c.shown.ensures.memory
+          (difference_shown (BySummarizable s c.args.target.0 sources) s c.args.target.0 sources
+          c.in-Ok-Some.found f (λ status bytes is shows. inr (is, shows)));
     }
