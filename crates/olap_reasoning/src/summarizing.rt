@@ -14,7 +14,7 @@ use crate::differing::shown;
 use crate::proving::proved;
 use crate::words::Wanted;
 use olap_base::CatId;
-use olap_order::{Reply, Stop, categories_at, category_at, no, yes};
+use olap_order::{Reply, Stop, categories_at, category_at, yes};
 use olap_schema::Schema;
 use olap_summ::SummRefusal;
 use std::alloc::Global;
