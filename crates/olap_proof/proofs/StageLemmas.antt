@@ -5,9 +5,10 @@
 --     done_none                                  and where nothing is
 --     IsRead                                     lines led there
 --     reached_start, reached_more                lines one after another
---     wrong_here, wrong_end                      the first wrong line
+--     wrong_here, wrong_end, wrong_after         the first wrong line
+--     right_end                                  a text at whose end nothing is open is a certificate
 use Rattle.std.proofs.Common.{◌≡◌, ℕ, suc, ◌+◌, ◌-◌, ◌<◌, ◌≤◌, ◌^◌, ◌++◌, List, [], ◌∷◌, length, map, Bool, true, false, cond, refl, ap, sym, subst, ◌∙◌, arith}
-use Rattle.std.specs.Prelude.{◌≢◌, Contains, None, filter}
+use Rattle.std.specs.Prelude.{◌≢◌, Contains, IfSome, None, Option, Some, filter}
 use Rattle.std.specs.List.{range_with_len}
 use Rattle.std.proofs.lemmas.List.{append_assoc, append-nil, length-append}
 use Rattle.std.proofs.lemmas.List.Concat.{flat_map-append}
@@ -21,9 +22,10 @@ use Rattle.olap_proof.specs.declared.asking.Asked.{Asked}
 use Rattle.olap_proof.specs.declared.forms.Form.{Form}
 use Rattle.olap_proof.specs.declared.stages.Stage.{Stage}
 use Rattle.olap_proof.specs.Asking.{names_in, question_in, schema_in}
-use Rattle.olap_proof.specs.Certificates.{IsFirstWrong, Open, Open.At, Open.Bottom, Open.Head, Runs, Runs.more, Runs.none, Steps, Steps.begins, Steps.roots, bottom_text, bottoms_of, head_text, lines_text, start}
+use Rattle.olap_proof.specs.Certificates.{IsCertificateText, IsFirstWrong, Open, Open.At, Open.Bottom, Open.Head, Runs, Runs.more, Runs.none, Steps, Steps.begins, Steps.roots, bottom_text, bottoms_of, head_text, lines_text, start}
 use Rattle.olap_proof.specs.Places.{Place}
 use Rattle.olap_proof.specs.Stages.{IsReached, IsStage, RunsFor, StepsTo, bottoms_from, has_no_child, open_at}
+use Rattle.olap_proof.specs.Verifying.{IsWrongAt}
 use Rattle.olap_proof.proofs.CertificateLemmas.{bottom_listed}
 use Rattle.olap_proof.proofs.LineLemmas.{parted}
 use Rattle.olap_proof.proofs.PlainLineLemmas.{step_whole}
@@ -183,7 +185,7 @@ module _ (f : Form) (a : Asked) where
   }
 
   -- no line is left, and the text is not at its end, or something is open
-  pub wrong_end : (text rest : List ℕ) (count : ℕ) (from : Stage) → IsReached f a text rest count (open_at a from)
+  wrong_end : (text rest : List ℕ) (count : ℕ) (from : Stage) → IsReached f a text rest count (open_at a from)
       → (Contains rest 10 → ⊥) → (rest ≡ [] → open_at a from ≢ [])
       → IsFirstWrong f (schema_in a) (question_in a) (names_in a) text count
   wrong_end text rest count from r whole early = record {
@@ -197,3 +199,21 @@ module _ (f : Form) (a : Asked) where
     stuck = λ l more left i run. whole (subst (λ x. Contains x 10) (sym i)
         (Contains-append_right l (10 ∷ more) 10 (contains_head 10 more)));
   }
+
+  -- so the line after the last is wrong, where that is said
+  pub wrong_after : (text rest : List ℕ) (count : ℕ) (from : Stage) (o : Option ℕ)
+      → IsReached f a text rest count (open_at a from) → (Contains rest 10 → ⊥)
+      → IfSome o (λ line. (line ≡ count + 1) × ((rest ≡ []) × (open_at a from ≡ []) → ⊥))
+      → IfSome o (IsWrongAt f (schema_in a) (question_in a) (names_in a) text)
+  wrong_after text rest count from None r whole h = tt
+  wrong_after text rest count from (Some line) r whole h =
+      (count, h.0, wrong_end text rest count from r whole (λ e o. h.1 (e, o)))
+
+  -- the text is at its end, and nothing is open
+  pub right_end : (text rest : List ℕ) (count : ℕ) (from : Stage) → IsReached f a text rest count (open_at a from)
+      → rest ≡ [] → open_at a from ≡ [] → IsCertificateText f (schema_in a) (question_in a) (names_in a) text
+  right_end text rest count from r end closed = (
+    r.lines,
+    r.parts ∙ ap (λ x. lines_text r.lines ++ x) end ∙ append-nil (lines_text r.lines),
+    subst (λ (os : List Open). RunsFor f a r.lines (Head ∷ []) os) closed r.run,
+  )

@@ -1,5 +1,5 @@
 // A text, judged line by line.
-ghost use Rattle.std.specs.Prelude.{◌≡◌, ◌++◌, ◌∷◌, ◌↔◌, ◌<◌, ◌^◌, [], Contains, IfOk, IfSome, IsNone, IsTrue, length};
+ghost use Rattle.std.specs.Prelude.{◌≡◌, ◌++◌, ◌∷◌, ◌↔◌, ◌<◌, ◌+◌, ◌^◌, [], Contains, IfOk, IfSome, IsNone, IsTrue, length};
 ghost use Rattle.olap_proof.specs.Asking.{IsAsked, names_in, question_in, schema_in};
 ghost use Rattle.olap_proof.specs.Certificates.{IsCertificateText};
 ghost use Rattle.olap_proof.specs.Stages.{open_at};
@@ -42,6 +42,19 @@ fn is_over(rest: &[u8], stage: &Stage) -> bool
     rest.is_empty() && is_done(stage)
 }
 
+/// The line at which the text ends too early, if it does: the one after so many.
+fn early_end(rest: &[u8], stage: &Stage, count: u64) -> Option<u64>
+    requires { count + 1 < 2 ^ 64 }
+    ensures none { (a : AnyAsked) → IsNone result → (rest.now ≡ []) × (open_at a stage.now ≡ []) }
+    ensures some { (a : AnyAsked) → IfSome result (λ line. (line ≡ count + 1)
+        × ((rest.now ≡ []) × (open_at a stage.now ≡ []) → ⊥)) }
+{
+    if is_over(rest, stage) {
+        return None;
+    }
+    Some(count + 1)
+}
+
 /// The number of the first line that is wrong, from 1 on, if one is; where the text ends too early, the one after its
 /// last. One pass over the text. `Memory`: out of memory.
 pub(crate) fn first_wrong(
@@ -68,8 +81,5 @@ pub(crate) fn first_wrong(
         rest = others;
         count += 1;
     }
-    if is_over(rest, &stage) {
-        return Ok(None);
-    }
-    Ok(Some(count + 1))
+    Ok(early_end(rest, &stage, count))
 }

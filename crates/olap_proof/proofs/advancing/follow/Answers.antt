@@ -11,6 +11,6 @@ returns-in-Some c = λ bytes d.
     let p = c.args.place.now in
     let cases = leaves_open (names_in a) p (meaning c.args.line) in
     let legal = c.in-Some.ensures.legal c.args.form (schema_in a) (question_in a) k p d.about d.does in
-    let split = branch_split c.in-Some.first c.requires.branch legal c.in_ok-choose.ensures.place c.in_ok-choose.ensures.choices
-    (c.in-Some.ensures.some k p) in
+    let split = branch_split c.in-Some.first c.requires.branch legal c.in_ok-choose.ensures.place
+    c.in_ok-choose.ensures.choices (c.in-Some.ensures.some k p) in
     (split.branch, split.first, λ acc. (cases, d.step, split.left acc))

@@ -3,7 +3,7 @@ use Rattle.std.specs.Prelude.{IsNone, Option}
 use Rattle.std.proofs.lemmas.List.{length-append}
 use Rattle.olap_proof.specs.Stages.{StepsTo, open_at}
 use Rattle.olap_proof.specs.declared.stages.Stage.{Stage}
-use Rattle.olap_proof.proofs.StageLemmas.{reached_more, reached_start, wrong_end, wrong_here}
+use Rattle.olap_proof.proofs.StageLemmas.{reached_more, reached_start, right_end, wrong_after, wrong_here}
 use Rattle.olap_proof.proofs.judging.first_wrong.Goals as goal
 
 pub lines-init : goal.lines-init
@@ -42,13 +42,17 @@ lines-preserved c =
       few = omega (arith, count, c.lines.invariant.few);
     }
 
+pub returns-clause-none : goal.returns-clause-none
+returns-clause-none c = λ none.
+    let a = c.args.asked.now in
+    let over = c.early_end.ensures.none a none in
+    right_end c.args.form a c.args.text.now c.lines.rest.now c.lines.count c.lines.stage c.lines.invariant.reached
+    over.0 over.1
+
 pub returns-clause-some : goal.returns-clause-some
 returns-clause-some c =
     let a = c.args.asked.now in
     let whole = c.next_line.ensures.none
-    (subst (λ (o : Option (Bor (List ℕ) × Bor (List ℕ))). IsNone o) (sym c.in_default.is) refl) in (
-      c.lines.count,
-      refl,
-      wrong_end c.args.form a c.args.text.now c.lines.rest.now c.lines.count c.lines.stage c.lines.invariant.reached
-          whole (λ e o. let z = (c.is_over.ensures a).1 (e, o) in let n = c.if-is_over.false in cc),
-    )
+    (subst (λ (o : Option (Bor (List ℕ) × Bor (List ℕ))). IsNone o) (sym c.in_default.is) refl) in
+    wrong_after c.args.form a c.args.text.now c.lines.rest.now c.lines.count c.lines.stage c.early_end.result
+    c.lines.invariant.reached whole (c.early_end.ensures.some a)
