@@ -14,7 +14,6 @@ OTHERS = {
     "olap_bits": {"64": "the bits of a word of a set"},
     "olap_clauses": {
         "64": "what is added to a score, and the levels from which on clauses are worth the same",
-        "256": "the room with which a pool is full",
         "4096": "the rounds of a search",
     },
     "olap_facts": {"256": "the facts of a batch"},
@@ -24,6 +23,7 @@ OTHERS = {
         "4294967295": "the place of no member",
         "4_294_967_295": "the place of no member",
     },
+    "olap_pool": {"256": "the room with which a pool is full"},
     "olap_patterns": {"256": "the masks over eight sources"},
     "olap_generate": {"64": "the stores for each group of cities"},
     "olap_prove": {"256": "the share of the greatest score at which scores begin anew"},

@@ -5,9 +5,9 @@
 use Rattle.std.proofs.Common.{◌≡◌, ℕ, suc, zero, ◌+◌, ◌<◌, ◌≤◌, Bool, List, [], ◌∷◌, length, slice_index_or, refl, sym, ◌∙◌, subst, arith, below_more}
 use Rattle.std.specs.Prelude.{Contains}
 use Rattle.std.proofs.lemmas.List.{get_or_default}
-use Rattle.olap_clauses.specs.declared.literals.Lit.{Lit}
+use Rattle.olap_pool.specs.declared.literals.Lit.{Lit}
 use Rattle.olap_clauses.specs.declared.trails.Step.{Step}
-use Rattle.olap_clauses.specs.Literals.{Holds, Satisfies}
+use Rattle.olap_pool.specs.Literals.{Holds, Satisfies}
 use Rattle.olap_clauses.specs.Standing.{Agrees}
 use Rattle.olap_clauses.proofs.StandsLemmas.{lit_at, no_lit}
 

@@ -3,8 +3,8 @@
 --     shows           the trail has this variable with this sign
 --     unknown_count   how many variables are unknown
 use Rattle.std.specs.Prelude.{ℕ, suc, ◌<◌, Bool, true, false, ◌&&◌, ◌||◌, ◌==◌, not, List, [], ◌∷◌}
-use Rattle.olap_clauses.specs.declared.literals.Value.{Value}
-use Rattle.olap_clauses.specs.declared.literals.Value.TheVariants.{Unknown, Yes, No}
+use Rattle.olap_clauses.specs.declared.values.Value.{Value}
+use Rattle.olap_clauses.specs.declared.values.Value.TheVariants.{Unknown, Yes, No}
 use Rattle.olap_clauses.specs.declared.trails.Step.{Step}
 
 -- the literal is of one of so many variables

@@ -1,15 +1,14 @@
 // What is learned from a false clause, and which clauses are kept.
 ghost use Rattle.std.specs.Prelude.{ℕ, ◌<◌, ◌≤◌, Bool, length, vec_capacity};
 ghost use Rattle.olap_clauses.specs.Trails.{values_of};
-ghost use Rattle.olap_clauses.specs.Pools.{AreTrue, clause_count};
+ghost use Rattle.olap_pool.specs.Pools.{AreTrue, clause_count};
 ghost use Rattle.olap_clauses.specs.Admits.{Admits};
 
 use crate::analysing::analyse;
-use crate::literals::Lit;
-use crate::pools::Pool;
 use crate::scoring::Scores;
 use crate::trails::Trail;
 use crate::watching::Watches;
+use olap_pool::{Lit, Pool};
 
 /// A clause whose literals stood on so many levels of decisions is kept no longer than others.
 const MANY: u32 = 64;

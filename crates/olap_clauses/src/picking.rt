@@ -2,8 +2,9 @@
 ghost use Rattle.std.specs.Prelude.{IfSome};
 ghost use Rattle.olap_clauses.specs.Trails.{IsOpen};
 
-use crate::literals::{Lit, Value};
 use crate::trails::Trail;
+use crate::values::Value;
+use olap_pool::Lit;
 
 /// The unknown variable of highest score, with the sign that it had last, if one has a score at
 /// all. Nothing is said of it.

@@ -1,13 +1,12 @@
 // What the clauses force: a clause is looked at when a literal that it watches becomes false.
 ghost use Rattle.std.specs.Prelude.{◌<◌, IfSome};
-ghost use Rattle.olap_clauses.specs.Pools.{clause_count};
+ghost use Rattle.olap_pool.specs.Pools.{clause_count};
 ghost use Rattle.olap_clauses.specs.Admits.{IsBroken, Extends};
 
-use crate::literals::Lit;
-use crate::pools::Pool;
 use crate::standing::{Stand, stands};
 use crate::trails::{Reason, Trail};
 use crate::watching::{Cursor, Watches};
+use olap_pool::{Lit, Pool};
 
 /// A literal of the clause that isn't known false, and that its other node doesn't watch, and its place: the first behind
 /// this place, and round to it. Truths are by code.

@@ -6,10 +6,9 @@ ghost use Rattle.olap_clauses.specs.Retreats.{IsBack, IsOff, BeginsDecided, IsFa
 ghost use Rattle.olap_clauses.specs.Admits.{Admits};
 ghost use Rattle.olap_clauses.specs.Ranks.{left};
 
-use crate::literals::Lit;
-use crate::pools::Pool;
 use crate::standing::{Stand, stands};
 use crate::trails::{Reason, Trail};
+use olap_pool::{Lit, Pool};
 
 /// Takes literals off to below the last decision, and answers that. Nothing before the floor is
 /// touched.

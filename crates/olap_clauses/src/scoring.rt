@@ -1,6 +1,6 @@
 // How much each variable had to do with conflicts of late. Nothing here is trusted.
-use crate::literals::Lit;
 use crate::ordering::Order;
+use olap_pool::Lit;
 use std::alloc::{AllocError, Global};
 
 /// What is added to a score at first.

@@ -1,14 +1,14 @@
 // Clauses without what is known with no decision.
 ghost use Rattle.std.specs.Prelude.{◌≡◌, ℕ, ◌+◌, Contains, ◌<◌, ◌≤◌, Bool, false, length, vec_len, vec_capacity};
-ghost use Rattle.olap_clauses.specs.declared.literals.Lit.{Lit};
-ghost use Rattle.olap_clauses.specs.Literals.{Satisfies};
+ghost use Rattle.olap_pool.specs.declared.literals.Lit.{Lit};
+ghost use Rattle.olap_pool.specs.Literals.{Satisfies};
 ghost use Rattle.olap_clauses.specs.Standing.{Agrees};
 ghost use Rattle.olap_clauses.specs.Trails.{steps_of, values_of};
-ghost use Rattle.olap_clauses.specs.Pools.{AreTrue};
+ghost use Rattle.olap_pool.specs.Pools.{AreTrue};
 
-use crate::literals::{Lit, Value};
-use crate::pools::Pool;
 use crate::trails::Trail;
+use crate::values::Value;
+use olap_pool::{Lit, Pool};
 
 /// Whether one of the literals is known true. Nothing is said of it.
 fn is_true(trail: &Trail, clause: &[Lit]) -> bool {

@@ -8,8 +8,8 @@ use Rattle.olap_ast.specs.Schema.{Schema}
 use Rattle.olap_ast.specs.Frozen.{AreCandidates, Candidates, Frozen}
 use Rattle.olap_ast.specs.Valid.{IsFormulaAt, IsValidSchema}
 use Rattle.olap_ast.proofs.ConstantLemmas.{constant_in_constraint, constant_in_question}
-use Rattle.olap_clauses.specs.declared.pools.Pool.{Pool}
-use Rattle.olap_clauses.specs.Pools.{AreTrue}
+use Rattle.olap_pool.specs.declared.pools.Pool.{Pool}
+use Rattle.olap_pool.specs.Pools.{AreTrue}
 use Rattle.olap_encoding.specs.Layouts.{on_variable, present_variable, name_variable}
 use Rattle.olap_encoding.specs.Meanings.{Fits, Means, index_of, meaning_at}
 use Rattle.olap_encoding.specs.declared.meanings.Meaning.{Meaning}

@@ -20,9 +20,9 @@ use Rattle.olap_ast.specs.Frozen.{Frozen, chosen, instance_of, is_present, name_
 use Rattle.olap_ast.specs.Schema.{Constraint}
 use Rattle.olap_ast.specs.declared.three_values.Truth3.{Truth3}
 use Rattle.olap_ast.specs.declared.three_values.Truth3.TheVariants.{No, Yes, Unknown}
-use Rattle.olap_clauses.specs.declared.literals.Lit.{Lit}
-use Rattle.olap_clauses.specs.declared.literals.Value.{Value}
-use Rattle.olap_clauses.specs.declared.literals.Value.TheVariants.{Unknown as Untold, Yes as Stands, No as Fails}
+use Rattle.olap_pool.specs.declared.literals.Lit.{Lit}
+use Rattle.olap_clauses.specs.declared.values.Value.{Value}
+use Rattle.olap_clauses.specs.declared.values.Value.TheVariants.{Unknown as Untold, Yes as Stands, No as Fails}
 use Rattle.olap_clauses.specs.declared.trails.Trail.{Trail}
 use Rattle.olap_clauses.specs.Standing.{Agrees, value_of}
 use Rattle.olap_clauses.specs.Trails.{steps_of, values_of}

@@ -7,10 +7,10 @@ use Rattle.olap_ast.specs.Frozen.{Frozen}
 use Rattle.olap_ast.specs.Schema.{Constraint, Schema}
 use Rattle.olap_base.specs.Graph.{Graph, category_count}
 use Rattle.olap_clauses.specs.declared.engine.Engine.{Engine}
-use Rattle.olap_clauses.specs.declared.pools.Pool.{Pool}
+use Rattle.olap_pool.specs.declared.pools.Pool.{Pool}
 use Rattle.olap_clauses.specs.declared.trails.Step.{Step}
 use Rattle.olap_clauses.specs.Engines.{admits, trail_of, variables_of}
-use Rattle.olap_clauses.specs.Pools.{AreTrue}
+use Rattle.olap_pool.specs.Pools.{AreTrue}
 use Rattle.olap_clauses.specs.Standing.{Agrees}
 use Rattle.olap_dimsat.specs.declared.asker.Leaf.{Leaf}
 use Rattle.olap_base.specs.declared.ids.CatId.{CatId}

@@ -7,7 +7,7 @@ use Rattle.olap_base.specs.Graph.{category_count}
 use Rattle.olap_ast.specs.Frozen.{Frozen, code}
 use Rattle.olap_ast.specs.Violation.{IsNotAfter}
 use Rattle.olap_clauses.specs.declared.engine.Engine.{Engine}
-use Rattle.olap_clauses.specs.declared.literals.Lit.{Lit}
+use Rattle.olap_pool.specs.declared.literals.Lit.{Lit}
 use Rattle.olap_clauses.specs.declared.trails.Step.{Step}
 use Rattle.olap_clauses.specs.declared.trails.Trail.{Trail}
 use Rattle.olap_clauses.specs.Engines.{admits}

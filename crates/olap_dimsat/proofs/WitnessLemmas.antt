@@ -5,9 +5,9 @@ use Rattle.std.proofs.Common.{suc}
 use Rattle.std.proofs.lemmas.List.{length-append, get_or_append_left}
 use Rattle.olap_ast.specs.Frozen.{Frozen}
 use Rattle.olap_clauses.specs.declared.engine.Engine.{Engine}
-use Rattle.olap_clauses.specs.declared.literals.Lit.{Lit}
+use Rattle.olap_pool.specs.declared.literals.Lit.{Lit}
 use Rattle.olap_clauses.specs.declared.trails.Step.{Step}
-use Rattle.olap_clauses.specs.Literals.{Holds}
+use Rattle.olap_pool.specs.Literals.{Holds}
 use Rattle.olap_clauses.specs.Standing.{Agrees}
 use Rattle.olap_clauses.specs.Engines.{admits}
 use Rattle.olap_frozen.specs.Leaves.{chosen_of}

@@ -15,8 +15,8 @@ use Rattle.olap_ast.specs.Schema.{Constraint}
 use Rattle.olap_ast.specs.ThreeValues.{value_of_both}
 use Rattle.olap_ast.specs.declared.three_values.Truth3.{Truth3}
 use Rattle.olap_ast.specs.declared.three_values.Truth3.TheVariants.{No, Yes, Unknown}
-use Rattle.olap_clauses.specs.declared.literals.Value.{Value}
-use Rattle.olap_clauses.specs.declared.literals.Value.TheVariants.{Unknown as Untold, Yes as Stands, No as Fails}
+use Rattle.olap_clauses.specs.declared.values.Value.{Value}
+use Rattle.olap_clauses.specs.declared.values.Value.TheVariants.{Unknown as Untold, Yes as Stands, No as Fails}
 use Rattle.olap_clauses.specs.declared.trails.Trail.{Trail}
 use Rattle.olap_clauses.specs.Standing.{value_of}
 use Rattle.olap_clauses.specs.Trails.{values_of}

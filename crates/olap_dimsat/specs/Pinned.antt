@@ -11,16 +11,16 @@
 use Rattle.std.specs.Prelude.{◌≡◌, ◌↔◌, ◌+◌, ◌-◌, ℕ, ◌<◌, ◌≤◌, List, ◌++◌, Bool, All, length, slice_index}
 use Rattle.olap_ast.specs.Frozen.{Frozen, IsLeastFrozen, code}
 use Rattle.olap_names.specs.Names.{candidates_of}
-use Rattle.olap_clauses.specs.declared.literals.Lit.{Lit}
+use Rattle.olap_pool.specs.declared.literals.Lit.{Lit}
 use Rattle.olap_clauses.specs.declared.trails.Step.{Step}
 use Rattle.olap_clauses.specs.declared.trails.Trail.{Trail}
 use Rattle.olap_clauses.specs.declared.engine.Engine.{Engine}
-use Rattle.olap_clauses.specs.Literals.{Holds}
+use Rattle.olap_pool.specs.Literals.{Holds}
 use Rattle.olap_clauses.specs.Standing.{Agrees}
 use Rattle.olap_clauses.specs.Engines.{admits}
 use Rattle.olap_dimsat.specs.Tasks.{Task, IsOne, IsTask, constant_count, schema_of}
-use Rattle.olap_clauses.specs.declared.pools.Pool.{Pool}
-use Rattle.olap_clauses.specs.Pools.{AreTrue}
+use Rattle.olap_pool.specs.declared.pools.Pool.{Pool}
+use Rattle.olap_pool.specs.Pools.{AreTrue}
 use Rattle.olap_dimsat.specs.Reads.{OfAgreeing, Reads, IsShaped}
 
 -- the task is laid out, and each frozen dimension of it has a valuation that makes the clauses true

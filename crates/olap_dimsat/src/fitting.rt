@@ -1,7 +1,7 @@
 // The test of a choice of edges and names against literals.
 ghost use Rattle.std.specs.Prelude.{◌≡◌, ◌≢◌, ◌==◌, ◌<◌, ℕ, Bool, false, suc, length, slice_index, slice_index_or, true};
 ghost use Rattle.olap_base.specs.Graph.{IsCategory, category_count};
-ghost use Rattle.olap_clauses.specs.Literals.{Holds};
+ghost use Rattle.olap_pool.specs.Literals.{Holds};
 ghost use Rattle.olap_clauses.specs.Standing.{Agrees};
 ghost use Rattle.olap_clauses.specs.Trails.{steps_of};
 ghost use Rattle.olap_frozen.specs.Leaves.{chosen_of};
@@ -12,8 +12,9 @@ ghost use Rattle.olap_dimsat.specs.Asking.{IsFor, task_of};
 
 use crate::asker::Asker;
 use olap_base::CatId;
-use olap_clauses::{Lit, Trail};
+use olap_clauses::Trail;
 use olap_frozen::Frozen;
+use olap_pool::Lit;
 
 // Whether the choice agrees with the literal, if this is one of an edge.
 fn suits_edge(a: &Asker<'_>, frozen: &Frozen, lit: Lit) -> bool

@@ -7,8 +7,9 @@ ghost use Rattle.olap_base.specs.Graph.{IsCategory};
 
 use crate::asker::Asker;
 use olap_base::{CatId, EdgeId};
-use olap_clauses::{Lit, Trail, Value};
+use olap_clauses::{Trail, Value};
 use olap_graph::Categories;
+use olap_pool::Lit;
 
 // The negation of an edge, if it is open and its child is known present.
 fn open_at(a: &Asker<'_>, trail: &Trail, e: EdgeId) -> Option<Lit>

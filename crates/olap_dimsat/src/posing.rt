@@ -6,17 +6,18 @@ ghost use Rattle.olap_ast.specs.Valid.{IsFormulaAt, IsValidSchema, pair_count};
 ghost use Rattle.olap_base.specs.Graph.{IsCategory};
 ghost use Rattle.olap_base.specs.Limits.{most_constants};
 ghost use Rattle.olap_clauses.specs.Engines.{admits, trail_of, variables_of};
-ghost use Rattle.olap_clauses.specs.Pools.{AreTrue};
+ghost use Rattle.olap_pool.specs.Pools.{AreTrue};
 ghost use Rattle.olap_dimsat.specs.Posed.{IsPosed};
 ghost use Rattle.olap_names.specs.Names.{with_graph};
 
 use crate::encoding::encode;
 use olap_ast::{Constraint, Formula};
 use olap_base::{CatId, Memory};
-use olap_clauses::{Engine, Pool};
+use olap_clauses::Engine;
 use olap_encoding::Layout;
 use olap_graph::Graph;
 use olap_names::Candidates;
+use olap_pool::Pool;
 use std::alloc::Global;
 
 /// The names of a task, where its variables are, and an engine that has its clauses.

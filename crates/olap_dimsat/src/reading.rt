@@ -8,8 +8,9 @@ ghost use Rattle.olap_base.specs.Graph.{IsCategory, category_count};
 
 use crate::asker::Asker;
 use olap_base::{CatId, EdgeId, List};
-use olap_clauses::{Lit, Trail, Value};
+use olap_clauses::{Trail, Value};
 use olap_frozen::Frozen;
+use olap_pool::Lit;
 
 // Whether the trail leaves no more to this edge than to be absent, since its child is. Else a literal to decide.
 fn absent(a: &Asker<'_>, trail: &Trail, c: CatId, free: Lit) -> Result<(), Lit>

@@ -2,7 +2,7 @@
 ghost use Rattle.std.specs.Prelude.{◌≡◌, ◌≢◌, ◌↔◌, ◌+◌, ◌-◌, ◌<◌, ◌≤◌, ◌==◌, ℕ, suc, Bool, false, true, [], length, slice_index, slice_index_or, if◌then◌else◌};
 ghost use Rattle.olap_base.specs.Graph.{IsCategory};
 ghost use Rattle.olap_clauses.specs.Engines.{admits, trail_of, variables_of};
-ghost use Rattle.olap_clauses.specs.Literals.{Holds};
+ghost use Rattle.olap_pool.specs.Literals.{Holds};
 ghost use Rattle.olap_clauses.specs.Standing.{Agrees};
 ghost use Rattle.olap_clauses.specs.Trails.{IsOpen};
 ghost use Rattle.olap_frozen.specs.Leaves.{chosen_of};
@@ -15,8 +15,9 @@ ghost use Rattle.olap_dimsat.specs.Pinned.{AreShaped, InRange, IsLeast, IsLonger
 use crate::asker::{Asker, Leaf};
 use crate::existing::exists;
 use olap_base::{CatId, EdgeId};
-use olap_clauses::{Engine, Lit, Trail, Value};
+use olap_clauses::{Engine, Trail, Value};
 use olap_frozen::Frozen;
+use olap_pool::Lit;
 use std::mem::swap;
 
 // Decides the literal, if it is open. False: nothing that agrees with the trail makes it true.

@@ -6,8 +6,8 @@ use Rattle.std.specs.Prelude.{IsTrue}
 use Rattle.olap_ast.specs.Formula.{IsNumbered}
 use Rattle.olap_ast.specs.Frozen.{Candidates}
 use Rattle.olap_numerals.specs.Comparing.{Op}
-use Rattle.olap_clauses.specs.declared.literals.Lit.{Lit}
-use Rattle.olap_clauses.specs.Literals.{Holds, negation}
+use Rattle.olap_pool.specs.declared.literals.Lit.{Lit}
+use Rattle.olap_pool.specs.Literals.{Holds, negation}
 use Rattle.olap_encoding.specs.Encoding.{Encoding, IsSound, Says, UpToIs, categories_of}
 use Rattle.olap_encoding.specs.Formulas.{AmongIs, IsLeading, NumberIs}
 use Rattle.olap_encoding.specs.Meanings.{index_of}

@@ -1,8 +1,8 @@
 -- Two formulas that are joined, by each connective.
 use Rattle.std.proofs.Common.{◌≡◌, Result, sym, subst}
 use Rattle.std.specs.Prelude.{IfOk}
-use Rattle.olap_clauses.specs.declared.literals.Lit.{Lit}
-use Rattle.olap_clauses.specs.Literals.{negation}
+use Rattle.olap_pool.specs.declared.literals.Lit.{Lit}
+use Rattle.olap_pool.specs.Literals.{negation}
 use Rattle.olap_encoding.specs.Encoding.{Encoding, IsNext, Says, BothAre, EitherIs}
 use Rattle.olap_encoding.specs.Formulas.{AnyIs, TellsAt}
 use Rattle.olap_encoding.specs.Joining.{Joins, joined}

@@ -1,8 +1,8 @@
 -- The ladder of a category's names: rung j says that the index is at most j.
 use Rattle.std.proofs.Common.{◌≡◌, ℕ, zero, suc, ◌+◌, ◌<◌, ◌≤◌, [], ◌∷◌, length, refl, sym, subst, arith}
 use Rattle.olap_ast.specs.Frozen.{Frozen}
-use Rattle.olap_clauses.specs.declared.literals.Lit.{Lit}
-use Rattle.olap_clauses.specs.Literals.{Holds, Satisfies, negation}
+use Rattle.olap_pool.specs.declared.literals.Lit.{Lit}
+use Rattle.olap_pool.specs.Literals.{Holds, Satisfies, negation}
 use Rattle.olap_encoding.specs.Literals.{Valuation}
 use Rattle.olap_encoding.specs.Meanings.{index_of}
 use Rattle.olap_encoding.specs.Encoding.{Problem, Encoding, Stands, IsSound, IsNext, IsGiven, Says, PresentIs, NameIs, UpToIs, categories_of}

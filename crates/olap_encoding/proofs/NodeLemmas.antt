@@ -2,8 +2,8 @@
 use Rattle.std.proofs.Common.{◌≡◌, ℕ, ◌<◌, [], ◌∷◌, length, get_or, ap, sym, subst, ◌∙◌}
 use Rattle.std.proofs.lemmas.List.{get_or_default}
 use Rattle.olap_ast.specs.Frozen.{Frozen}
-use Rattle.olap_clauses.specs.declared.literals.Lit.{Lit}
-use Rattle.olap_clauses.specs.Literals.{Holds, Satisfies, negation}
+use Rattle.olap_pool.specs.declared.literals.Lit.{Lit}
+use Rattle.olap_pool.specs.Literals.{Holds, Satisfies, negation}
 use Rattle.olap_encoding.specs.Literals.{Valuation, plain, always, never}
 use Rattle.olap_encoding.specs.Encoding.{Encoding, Stands, IsKnown, Says, IsGiven, IsSound, MeaningIs, BothAre, EitherIs}
 use Rattle.olap_encoding.specs.declared.meanings.Meaning.{Meaning}

@@ -11,8 +11,8 @@ use Rattle.olap_numerals.specs.Comparing.{Op}
 use Rattle.olap_ast.specs.Formula.{IsNumbered}
 use Rattle.olap_ast.specs.Frozen.{text_of_index}
 use Rattle.olap_ast.proofs.Decided.{dec_number}
-use Rattle.olap_clauses.specs.declared.literals.Lit.{Lit}
-use Rattle.olap_clauses.specs.Literals.{Holds, negation}
+use Rattle.olap_pool.specs.declared.literals.Lit.{Lit}
+use Rattle.olap_pool.specs.Literals.{Holds, negation}
 use Rattle.olap_encoding.specs.Literals.{Valuation, never}
 use Rattle.olap_encoding.specs.Meanings.{index_of}
 use Rattle.olap_encoding.specs.Encoding.{Encoding, IsKnown, NameIs, Says}

@@ -10,8 +10,8 @@ use Rattle.olap_ast.specs.Valid.{node_count}
 use Rattle.olap_ast.specs.declared.formulas.Formula as declared
 use Rattle.olap_ast.specs.Frozen.{name_in}
 use Rattle.olap_ast.proofs.Decided.{decide_holds}
-use Rattle.olap_clauses.specs.declared.literals.Lit.{Lit}
-use Rattle.olap_clauses.specs.Literals.{Holds, negation}
+use Rattle.olap_pool.specs.declared.literals.Lit.{Lit}
+use Rattle.olap_pool.specs.Literals.{Holds, negation}
 use Rattle.olap_encoding.specs.Choices.{IsPresent}
 use Rattle.olap_encoding.specs.Meanings.{edges_of}
 use Rattle.olap_encoding.specs.Encoding.{Problem, Encoding, categories_of, Says, IsSound, IsLater, IsGiven, PresentIs}

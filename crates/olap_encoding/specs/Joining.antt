@@ -3,7 +3,7 @@
 --     Joins     a literal tells it, where two literals tell the two
 use Rattle.std.specs.Prelude.{ℕ}
 use Rattle.olap_ast.specs.Formula.{Formula, Formula.And, Formula.Or, Formula.Implies, Formula.Iff, Formula.Xor}
-use Rattle.olap_clauses.specs.declared.literals.Lit.{Lit}
+use Rattle.olap_pool.specs.declared.literals.Lit.{Lit}
 use Rattle.olap_encoding.specs.Encoding.{Encoding}
 use Rattle.olap_encoding.specs.Formulas.{TellsAt}
 use Rattle.olap_encoding.specs.declared.formulas.Connective.{Connective}

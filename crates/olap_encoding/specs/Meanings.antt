@@ -8,7 +8,7 @@ use Rattle.olap_base.specs.Graph.{Edge, Graph}
 use Rattle.olap_base.specs.Reaching.{category_reaches}
 use Rattle.olap_ast.specs.Schema.{Schema}
 use Rattle.olap_ast.specs.Frozen.{Frozen, chosen, is_present}
-use Rattle.olap_clauses.specs.Literals.{Holds}
+use Rattle.olap_pool.specs.Literals.{Holds}
 use Rattle.olap_encoding.specs.Choices.{IsPresent, IsReaching}
 use Rattle.olap_encoding.specs.Literals.{Valuation, value}
 use Rattle.olap_encoding.specs.declared.meanings.Meaning.{Meaning}

@@ -2,7 +2,7 @@
 --     pool_of          its clauses
 --     variable_count   how many variables it has
 use Rattle.std.specs.Prelude.{ℕ, length}
-use Rattle.olap_clauses.specs.declared.pools.Pool.{Pool}
+use Rattle.olap_pool.specs.declared.pools.Pool.{Pool}
 use Rattle.olap_encoding.specs.declared.encoders.Encoder.{Encoder}
 
 -- the clauses

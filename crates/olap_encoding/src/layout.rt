@@ -4,7 +4,7 @@ ghost use Rattle.olap_encoding.specs.Literals.{plain};
 
 use crate::literals::plain;
 use olap_base::{CatId, EdgeId};
-use olap_clauses::Lit;
+use olap_pool::Lit;
 
 /// Where the variables of edges, of categories and of names are, and how many there are in all.
 #[derive(Debug, Drop)]

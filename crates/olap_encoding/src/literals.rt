@@ -2,7 +2,7 @@
 ghost use Rattle.std.specs.Prelude.{◌≡◌};
 ghost use Rattle.olap_encoding.specs.Literals.{plain};
 
-use olap_clauses::Lit;
+use olap_pool::Lit;
 
 /// The literal that is always true.
 pub const YES: Lit = Lit {

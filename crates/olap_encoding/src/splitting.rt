@@ -10,7 +10,7 @@ use crate::encoders::Encoder;
 use crate::formulas::literal;
 use olap_ast::{Constraint, Formula};
 use olap_base::{CatId, Memory};
-use olap_clauses::Lit;
+use olap_pool::Lit;
 
 // One literal more: that of the formula, or of its negation.
 fn push_literal(

@@ -2,7 +2,8 @@
 ghost use Rattle.std.specs.Prelude.{◌≡◌, true};
 ghost use Rattle.olap_clauses.specs.Trails.{IsOpen};
 
-use olap_clauses::{Effort, Engine, Judge, Lit, Pool, Trail, Value, Verdict};
+use olap_clauses::{Effort, Engine, Judge, Trail, Value, Verdict};
+use olap_pool::{Lit, Pool};
 use std::alloc::Global;
 use std::process::Abort;
 

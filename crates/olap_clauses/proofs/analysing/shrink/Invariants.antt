@@ -2,7 +2,7 @@
 use Rattle.std.proofs.Common.{ℕ, ◌≤◌, Bool, length}
 use Rattle.olap_clauses.specs.Standing.{Forced}
 use Rattle.olap_clauses.specs.Trails.{steps_of, values_of}
-use Rattle.olap_clauses.specs.Pools.{AreTrue}
+use Rattle.olap_pool.specs.Pools.{AreTrue}
 use Rattle.olap_clauses.specs.Marks.{AgreesMarked}
 use Rattle.olap_clauses.proofs.analysing.shrink.Given as goal
 

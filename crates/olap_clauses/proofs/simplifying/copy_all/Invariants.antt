@@ -3,7 +3,7 @@ use Rattle.std.proofs.Common.{◌≤◌, ℕ, Bool}
 use Rattle.std.specs.Prelude.{vec_capacity}
 use Rattle.olap_clauses.specs.Standing.{Agrees}
 use Rattle.olap_clauses.specs.Trails.{steps_of}
-use Rattle.olap_clauses.specs.Pools.{AreTrue}
+use Rattle.olap_pool.specs.Pools.{AreTrue}
 use Rattle.olap_clauses.proofs.simplifying.copy_all.Given as goal
 
 abbrev pub invariant-clauses : goal.invariant-clauses

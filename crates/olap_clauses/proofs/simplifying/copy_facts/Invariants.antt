@@ -2,7 +2,7 @@
 use Rattle.std.proofs.Common.{ℕ, Bool}
 use Rattle.olap_clauses.specs.Standing.{Agrees}
 use Rattle.olap_clauses.specs.Trails.{steps_of}
-use Rattle.olap_clauses.specs.Pools.{AreTrue}
+use Rattle.olap_pool.specs.Pools.{AreTrue}
 use Rattle.olap_clauses.proofs.simplifying.copy_facts.Given as goal
 
 abbrev pub invariant-steps : goal.invariant-steps

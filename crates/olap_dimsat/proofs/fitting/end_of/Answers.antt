@@ -1,5 +1,5 @@
 use Rattle.std.proofs.Common.{◌-◌, ◌<◌, ap, arith}
-use Rattle.olap_clauses.specs.declared.literals.Lit.{Lit}
+use Rattle.olap_pool.specs.declared.literals.Lit.{Lit}
 use Rattle.olap_dimsat.specs.Asking.{task_of}
 use Rattle.olap_dimsat.specs.Tasks.{constant_count}
 use Rattle.olap_dimsat.proofs.fitting.end_of.Goals as goal

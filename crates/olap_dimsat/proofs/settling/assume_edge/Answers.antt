@@ -1,5 +1,5 @@
 use Rattle.std.proofs.Common.{ap, sym, ◌∙◌}
-use Rattle.olap_clauses.specs.declared.literals.Lit.{Lit}
+use Rattle.olap_pool.specs.declared.literals.Lit.{Lit}
 use Rattle.olap_dimsat.specs.Asking.{task_of}
 use Rattle.olap_dimsat.proofs.SettleLemmas.{bit, code_edge, same_bit}
 use Rattle.olap_dimsat.proofs.settling.assume_edge.Goals as goal

@@ -1,0 +1,3 @@
+-- Lemmas.
+pub mod ResultLemmas
+mod PoolLemmas

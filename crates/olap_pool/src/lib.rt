@@ -1,0 +1,11 @@
+//! Literals, and pools of clauses, one after the other.
+//!
+//! A pool stands for the valuations that make each of its clauses true (`AreTrue`, `specs/Pools.antt`). Clauses come by
+//! `Pool::add`, which can be refused for want of memory; `keep` adds in room that was reserved, and takes none.
+#![tactic(auto)]
+
+mod literals;
+mod pools;
+
+pub use literals::Lit;
+pub use pools::Pool;
