@@ -6,5 +6,6 @@ pub mod Questions
 pub mod Numbers
 pub mod Commands
 pub mod Laws
--- The inside: the commands of the code as orders.
+-- The inside: what is left of an order under a schema, and the commands of the code as orders.
+pub mod Under
 pub mod Seen

@@ -2,6 +2,7 @@
 ghost use Rattle.std.specs.Prelude.{◌≡◌, ◌++◌, ◌<◌, All, IfOk, length};
 ghost use Rattle.olap_ast.specs.Schema.{IsLegal};
 ghost use Rattle.olap_base.specs.Graph.{IsCategory};
+ghost use Rattle.olap_instance.specs.Made.{IsMadeFor};
 ghost use Rattle.olap_nav.specs.PlanText.{plan_text};
 ghost use Rattle.olap_nav.specs.Plans.{sources_in};
 ghost use Rattle.olap_schema.specs.Schemas.{schema_of};
@@ -12,6 +13,7 @@ ghost use Rattle.olap_plans.specs.Commands.{answer_order};
 ghost use Rattle.olap_order.specs.Judged.{Judged, Replies};
 ghost use Rattle.olap_order.specs.Order.{Done};
 ghost use Rattle.olap_plans.specs.Questions.{ByPlan, IsAnswer};
+ghost use Rattle.olap_plans.specs.Under.{answer_of, answer_under};
 
 use olap_base::{CatId, Library, Memory};
 use olap_graph::Graph;
@@ -66,6 +68,42 @@ fn answered(
     }
 }
 
+/// The view of the target from the stored views in a file.
+fn of_store<L: Library>(
+    alloc: Global,
+    schema: &Schema,
+    legal: &Legal,
+    store: &str,
+    target: CatId,
+    lib: &mut L,
+) -> Result<Reply, Stop>
+    requires target { IsCategory (schema_of schema.now).graph target.0 }
+    requires legal { IsLegal (schema_of schema.now) legal.now }
+    requires made { IsMadeFor (schema_of schema.now).graph legal.now }
+    ensures judged { Judged IsAnswer L.Library lib.old lib.new
+        (answer_of (schema_of schema.now) legal.now store.now target.0) result }
+{
+    let store = store_in(alloc, schema, legal, "store", store, lib)?;
+    answered(alloc, schema, legal, &store, target)
+}
+
+/// A view from stored views under a schema, from an instance and a store.
+fn answer_under_schema<L: Library>(
+    alloc: Global,
+    schema: &Schema,
+    instance: &str,
+    store: &str,
+    target: &str,
+    lib: &mut L,
+) -> Result<Reply, Stop>
+    ensures judged { Judged IsAnswer L.Library lib.old lib.new
+        (answer_under (schema_of schema.now) instance.now store.now target.now) result }
+{
+    let target = category_at(alloc, 5, schema, target)?;
+    let legal = legal_in(alloc, schema, "instance", instance, lib)?;
+    of_store(alloc, schema, &legal, store, target, lib)
+}
+
 /// A view from stored views, from a schema, an instance and a store.
 pub(crate) fn answer<L: Library>(
     alloc: Global,
@@ -79,8 +117,5 @@ pub(crate) fn answer<L: Library>(
         (answer_order schema.now instance.now store.now target.now) result }
 {
     let schema = schema_in(alloc, "schema", schema, lib)?;
-    let target = category_at(alloc, 5, &schema, target)?;
-    let legal = legal_in(alloc, &schema, "instance", instance, lib)?;
-    let store = store_in(alloc, &schema, &legal, "store", store, lib)?;
-    answered(alloc, &schema, &legal, &store, target)
+    answer_under_schema(alloc, &schema, instance, store, target, lib)
 }
