@@ -4,6 +4,8 @@ pub mod Questions
 pub mod Steps
 pub mod Commands
 pub mod Laws
--- The inside: the view of facts that aren't kept, and the commands of the code as orders.
+-- The inside: the view of facts that aren't kept, what is left of an order under its schemas, and the commands of the
+-- code as orders.
 pub mod OfFacts
+pub mod Under
 pub mod Seen

@@ -1,5 +1,5 @@
 // The command `cube`: whether a target is summarizable from sources, each a category of each dimension.
-ghost use Rattle.std.specs.Prelude.{◌≡◌, ◌≢◌, ◌++◌, ◌<◌, ◌≤◌, All, AllPairs, IfOk, codes, length, map};
+ghost use Rattle.std.specs.Prelude.{◌≡◌, ◌≢◌, ◌+◌, ◌++◌, ◌<◌, ◌^◌, ◌≤◌, All, AllPairs, IfOk, codes, length, map};
 ghost use Rattle.olap_base.specs.Limits.{most_views};
 ghost use Rattle.olap_cube.specs.Told.{tuple_of, tuples_in};
 ghost use Rattle.olap_cube_cex.specs.CubeCexText.{cube_counterexample_text};
@@ -12,6 +12,7 @@ ghost use Rattle.olap_order.specs.Words.{texts};
 ghost use Rattle.olap_cubes.specs.Commands.{cube_order};
 ghost use Rattle.olap_cubes.specs.Questions.{ByCube, IsAnswer};
 ghost use Rattle.olap_cubes.specs.Seen.{AreDimensions};
+ghost use Rattle.olap_cubes.specs.Under.{cube_from, cube_under};
 
 use crate::dimensions::schemas_in;
 use crate::naming::{tuple_at, tuples_at};
@@ -63,6 +64,46 @@ fn told(alloc: Global, cube: &Cube, target: &Tuple, sources: &[Tuple]) -> Result
     }
 }
 
+/// Whether the target is summarizable from the sources that the words from this number on name.
+fn of_target(
+    alloc: Global,
+    at: u64,
+    cube: &Cube,
+    target: &Tuple,
+    sources: &[String],
+) -> Result<Reply, Stop>
+    requires some { 0 < length (schemas_of cube.now) }
+    requires target { AreCategoriesOf (schemas_of cube.now) (tuple_of target.now) }
+    requires few { length sources.now ≤ most_views }
+    requires counted { at + length sources.now < 2 ^ 64 }
+    ensures replies { Replies IsAnswer
+        (cube_from (schemas_of cube.now) at (tuple_of target.now) (texts sources.now)) result }
+{
+    let sources = tuples_at(alloc, at, cube, sources)?;
+    told(alloc, cube, target, &sources)
+}
+
+/// Whether the target that the word of this number names is summarizable from the sources that the words behind it name.
+fn of_cube(
+    alloc: Global,
+    at: u64,
+    cube: &Cube,
+    target: &str,
+    sources: &[String],
+) -> Result<Reply, Stop>
+    requires some { 0 < length (schemas_of cube.now) }
+    requires few { length sources.now ≤ most_views }
+    requires counted { at + 1 + length sources.now < 2 ^ 64 }
+    ensures replies { Replies IsAnswer
+        (cube_under (schemas_of cube.now) at target.now (texts sources.now)) result }
+{
+    let categories = tuple_at(alloc, at, cube, target)?;
+    let target = Tuple {
+        categories: List::from_vec(categories),
+    };
+    of_target(alloc, at + 1, cube, &target, sources)
+}
+
 /// Whether a target is summarizable from sources in the cube of the schemas in files.
 pub(crate) fn cube<L: Library>(
     alloc: Global,
@@ -78,10 +119,5 @@ pub(crate) fn cube<L: Library>(
 {
     let at = schemas.len() as u64 + 3;
     let cube = schemas_in(alloc, schemas, lib)?;
-    let categories = tuple_at(alloc, at, &cube, target)?;
-    let target = Tuple {
-        categories: List::from_vec(categories),
-    };
-    let sources = tuples_at(alloc, at + 1, &cube, sources)?;
-    told(alloc, &cube, &target, &sources)
+    of_cube(alloc, at, &cube, target, sources)
 }

@@ -20,6 +20,8 @@ ghost use Rattle.olap_cubes.specs.OfFacts.{IsOfFacts};
 ghost use Rattle.olap_cubes.specs.Questions.{IsAnswer};
 ghost use Rattle.olap_cubes.specs.Seen.{AreDimensions};
 ghost use Rattle.olap_cubes.specs.Steps.{cube_facts_file};
+ghost use Rattle.olap_cubes.specs.Under.{cubeview_from, cubeview_under};
+ghost use Rattle.olap_view.specs.Seen.{ids};
 
 use crate::dimensions::{columns_in, schemas_in};
 use crate::naming::tuple_at;
@@ -116,6 +118,42 @@ fn told<L: Library>(
     Ok(yes(text.into_bytes()))
 }
 
+/// The direct view of the target's categories, from an instance of each dimension and facts.
+fn of_target<L: Library>(
+    alloc: Global,
+    cube: &Cube,
+    target: &[CatId],
+    instances: &[String],
+    facts: &str,
+    lib: &mut L,
+) -> Result<Reply, Stop>
+    requires each { length instances.now ≡ length (schemas_of cube.now) }
+    requires target { length target.now ≡ length (schemas_of cube.now) }
+    ensures judged { Judged IsAnswer L.Library lib.old lib.new
+        (cubeview_from (schemas_of cube.now) (ids target.now) (texts instances.now) facts.now) result }
+{
+    let columns = columns_in(alloc, cube, target, instances, lib)?;
+    told(alloc, cube, &columns, facts, lib)
+}
+
+/// The direct view of the target that the word of this number names, from an instance of each dimension and facts.
+fn of_cube<L: Library>(
+    alloc: Global,
+    at: u64,
+    cube: &Cube,
+    instances: &[String],
+    facts: &str,
+    target: &str,
+    lib: &mut L,
+) -> Result<Reply, Stop>
+    requires { length instances.now ≡ length (schemas_of cube.now) }
+    ensures judged { Judged IsAnswer L.Library lib.old lib.new
+        (cubeview_under (schemas_of cube.now) at (texts instances.now) facts.now target.now) result }
+{
+    let target = tuple_at(alloc, at, cube, target)?;
+    of_target(alloc, cube, &target, instances, facts, lib)
+}
+
 /// The direct view of a target, from a schema and an instance of each dimension and facts.
 pub(crate) fn cubeview<L: Library>(
     alloc: Global,
@@ -132,7 +170,5 @@ pub(crate) fn cubeview<L: Library>(
 {
     let at = 2 * schemas.len() as u64 + 4;
     let cube = schemas_in(alloc, schemas, lib)?;
-    let target = tuple_at(alloc, at, &cube, target)?;
-    let columns = columns_in(alloc, &cube, &target, instances, lib)?;
-    told(alloc, &cube, &columns, facts, lib)
+    of_cube(alloc, at, &cube, instances, facts, target, lib)
 }
