@@ -1,5 +1,5 @@
 // A draft of a certificate, by a search of which nothing is promised.
-use crate::searches::{Node, Search};
+use crate::searches::{Node, Refuted, Search};
 use crate::steps::Words;
 use crate::tasks::Task;
 use olap_ast::{Constraint, Formula};
@@ -27,6 +27,17 @@ fn push_tree(
 ) -> Result<bool, Memory> {
     let mut left = Vec::new(alloc);
     left.push(tree)?;
+    push_left(graph, constraints, nodes, &mut left, out)
+}
+
+/// Appends the lines of the trees that are left, the last one first. Whether all of them were written.
+fn push_left(
+    graph: &Graph,
+    constraints: &[Constraint],
+    nodes: &[Node],
+    left: &mut Vec<usize>,
+    out: &mut Vec<u8>,
+) -> Result<bool, Memory> {
     'lines: for _ in 0..MOST_LINES {
         let place = match left.pop() {
             Some(place) => place,
@@ -52,11 +63,13 @@ fn push_refuted(
     graph: &Graph,
     constraints: &[Constraint],
     search: &mut Search,
+    found: &mut Refuted,
     out: &mut Vec<u8>,
 ) -> Result<bool, Memory> {
-    match search.run()? {
-        Some(refuted) => push_tree(alloc, graph, constraints, &search.nodes, refuted.tree, out),
-        None => Ok(false),
+    if search.run(found)? {
+        push_tree(alloc, graph, constraints, &search.nodes, found.tree, out)
+    } else {
+        Ok(false)
     }
 }
 
@@ -69,7 +82,23 @@ fn push_searched(
     out: &mut Vec<u8>,
 ) -> Result<bool, Memory> {
     let mut search = Search::new(alloc, task, TRIES)?;
-    push_refuted(alloc, graph, constraints, &mut search, out)
+    let mut found = Refuted::new(alloc);
+    push_refuted(alloc, graph, constraints, &mut search, &mut found, out)
+}
+
+/// Appends the tree of a bottom category. Whether one was found and written.
+fn push_below(
+    alloc: Global,
+    words: &Words,
+    form: Form,
+    constraints: &[Constraint],
+    root: CatId,
+    target: CatId,
+    sources: &[CatId],
+    out: &mut Vec<u8>,
+) -> Result<bool, Memory> {
+    let task = Task::new(alloc, words, form, constraints, root, target, sources)?;
+    push_searched(alloc, words.graph, constraints, &task, out)
 }
 
 /// Appends a tree for each bottom category. Whether all were found and written.
@@ -87,13 +116,40 @@ fn push_trees(
         let root = CatId(b);
         if graph.is_bottom(root) {
             push_bottom(out, graph, root)?;
-            let task = Task::new(alloc, words, form, constraints, root, target, sources)?;
-            if !push_searched(alloc, graph, constraints, &task, out)? {
+            if !push_below(alloc, words, form, constraints, root, target, sources, out)? {
                 return Ok(false);
             }
         }
     }
     Ok(true)
+}
+
+/// The text of a draft, if a tree is found for each bottom category.
+fn draft_by(
+    alloc: Global,
+    words: &Words,
+    form: Form,
+    constraints: &[Constraint],
+    target: CatId,
+    sources: &[CatId],
+) -> Result<Option<Vec<u8>>, Memory> {
+    let mut out = Vec::new(alloc);
+    let is_whole = push_draft(alloc, words, form, constraints, target, sources, &mut out)?;
+    Ok(if is_whole { Some(out) } else { None })
+}
+
+/// Appends a draft. Whether all trees were found and written.
+fn push_draft(
+    alloc: Global,
+    words: &Words,
+    form: Form,
+    constraints: &[Constraint],
+    target: CatId,
+    sources: &[CatId],
+    out: &mut Vec<u8>,
+) -> Result<bool, Memory> {
+    push_head(out, form)?;
+    push_trees(alloc, words, form, constraints, target, sources, out)
 }
 
 /// The text of what may be a certificate of that form, if a tree is found for each bottom category. `Memory`: out of
@@ -113,8 +169,5 @@ pub(crate) fn draft(
         graph,
         candidates: &candidates,
     };
-    let mut out = Vec::new(alloc);
-    push_head(&mut out, form)?;
-    let is_whole = push_trees(alloc, &words, form, constraints, target, sources, &mut out)?;
-    Ok(if is_whole { Some(out) } else { None })
+    draft_by(alloc, &words, form, constraints, target, sources)
 }

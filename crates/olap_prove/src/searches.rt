@@ -7,6 +7,7 @@ use olap_ast::Truth3;
 use olap_base::Memory;
 use olap_proof::Line;
 use std::alloc::Global;
+use std::mem::swap;
 
 /// Activities are halved from here on.
 const MOST_ACTIVITY: u64 = 1 << 40;
@@ -70,24 +71,34 @@ fn raised(activity: u64, step: u64) -> u64 {
     }
 }
 
+impl Refuted {
+    /// None yet.
+    pub(crate) fn new(alloc: Global) -> Refuted {
+        Refuted {
+            reason: Vec::new(alloc),
+            tree: 0,
+        }
+    }
+}
+
 impl<'a> Search<'a> {
     /// A search with so many tries.
     pub(crate) fn new(alloc: Global, task: &'a Task<'a>, tries: u32) -> Result<Search<'a>, Memory> {
         Ok(Search {
             task,
+            activities: vec![in alloc; 0; task.choices.len()]?,
             shape: Shape::new(alloc, task.graph, task.root)?,
             nodes: Vec::new(alloc),
-            activities: vec![in alloc; 0; task.choices.len()]?,
             step: 1,
             left: tries,
             alloc,
         })
     }
 
-    /// A tree below the root, if one is found.
-    pub(crate) fn run(&mut self) -> Result<Option<Refuted>, Memory> {
+    /// Looks for a tree below the root. Whether one was found.
+    pub(crate) fn run(&mut self, found: &mut Refuted) -> Result<bool, Memory> {
         self.shape.refresh(self.task);
-        self.refute(self.task.choices.len())
+        self.refute(self.task.choices.len(), found)
     }
 
     /// One node more, by its place.
@@ -97,13 +108,19 @@ impl<'a> Search<'a> {
         Ok(place)
     }
 
+    /// One node more with these cases, by its place.
+    fn add_cases(&mut self, line: Line, cases: &[usize]) -> Result<usize, Memory> {
+        let mut kept = Vec::new(self.alloc);
+        kept.extend_from_slice(cases)?;
+        self.add(line, kept)
+    }
+
     // ---- reasons
 
-    /// The variables whose decisions the line needs: the latest are left out first, several at a time.
-    fn reason(&mut self, line: Line) -> Result<Vec<usize>, Memory> {
+    /// Adds the variables whose decisions the line needs: the latest are left out first, several at a time.
+    fn push_reason(&mut self, line: Line, needed: &mut Vec<usize>) -> Result<(), Memory> {
         let task = self.task;
         let count = self.shape.trail.len();
-        let mut needed = Vec::new(self.alloc);
         let mut end = count;
         let mut size = count / 2;
         'parts: for _ in 0..MOST_PARTS {
@@ -134,7 +151,7 @@ impl<'a> Search<'a> {
         }
         self.shape.set_between(task, 0, count, true);
         self.shape.refresh(task);
-        Ok(needed)
+        Ok(())
     }
 
     /// The variable of a decision.
@@ -151,23 +168,38 @@ impl<'a> Search<'a> {
         Ok(!self.shape.closing(self.alloc, self.task, 1)?.is_empty())
     }
 
-    /// The tree of one line that closes, if some do: of a few the one that needs the fewest decisions.
-    fn leaf(&mut self) -> Result<Option<Refuted>, Memory> {
+    /// The variables whose decisions the line needs take the place of others, if they are fewer. Whether they are.
+    fn shorten(&mut self, line: Line, least: usize, best: &mut Vec<usize>) -> Result<bool, Memory> {
+        let mut reason = Vec::new(self.alloc);
+        self.push_reason(line, &mut reason)?;
+        let is_less = reason.len() < least;
+        if is_less {
+            swap(best, &mut reason);
+        }
+        Ok(is_less)
+    }
+
+    /// Looks for a tree of one line that closes. Whether there is one.
+    fn leaf(&mut self, found: &mut Refuted) -> Result<bool, Memory> {
         let lines = self.shape.closing(self.alloc, self.task, 4)?;
+        self.leaf_of(&lines, found)
+    }
+
+    /// The tree of one of these lines: of that which needs the fewest decisions. Whether there is one.
+    fn leaf_of(&mut self, lines: &[Line], found: &mut Refuted) -> Result<bool, Memory> {
         let mut best = None;
         let mut least = usize::MAX;
         'lines: for i in 0..lines.len() {
-            let reason = self.reason(lines[i])?;
-            if reason.len() < least {
-                least = reason.len();
-                best = Some((lines[i], reason));
+            if self.shorten(lines[i], least, &mut found.reason)? {
+                least = found.reason.len();
+                best = Some(lines[i]);
             }
         }
         match best {
-            None => Ok(None),
-            Some((line, reason)) => {
-                let tree = self.add(line, Vec::new(self.alloc))?;
-                Ok(Some(Refuted { reason, tree }))
+            None => Ok(false),
+            Some(line) => {
+                found.tree = self.add(line, Vec::new(self.alloc))?;
+                Ok(true)
             }
         }
     }
@@ -278,17 +310,23 @@ impl<'a> Search<'a> {
 
     /// For each category, whether a constraint that is open asks its name.
     fn wanted_names(&mut self) -> Result<Vec<bool>, Memory> {
+        let mut wanted = vec![in self.alloc; false; usize::from(self.task.graph.categories())]?;
+        self.want_names(&mut wanted)?;
+        Ok(wanted)
+    }
+
+    /// Marks the categories whose names constraints ask that are open.
+    fn want_names(&mut self, wanted: &mut [bool]) -> Result<(), Memory> {
         let task = self.task;
-        let mut wanted = vec![in self.alloc; false; usize::from(task.graph.categories())]?;
         'constraints: for n in 0..task.constraints() {
             if self.shape.has(task.constraint_root(n)) {
                 let steps = task.constraint(n);
                 if self.shape.value(task.form, steps)? == Truth3::Unknown {
-                    want(steps, &mut wanted);
+                    want(steps, wanted);
                 }
             }
         }
-        Ok(wanted)
+        Ok(())
     }
 
     /// Whether a variable may be split by, and whether it then stands above what is known.
@@ -323,14 +361,19 @@ impl<'a> Search<'a> {
         }
     }
 
-    /// The variable to split by: the most active, of these one above what is known, of these the first.
+    /// The variable to split by.
     fn pick(&mut self) -> Result<Option<usize>, Memory> {
         let wanted = self.wanted_names()?;
+        Ok(self.most_active(&wanted))
+    }
+
+    /// The most active variable, of these one above what is known, of these the first.
+    fn most_active(&self, wanted: &[bool]) -> Option<usize> {
         let mut best = None;
         let mut most = 0;
         let mut is_above = false;
         'choices: for place in 0..self.activities.len() {
-            if let Some(above) = self.rank(self.task.variable(place), &wanted) {
+            if let Some(above) = self.rank(self.task.variable(place), wanted) {
                 let activity = self.activities[place];
                 let is_better = activity > most || activity == most && above && !is_above;
                 if best.is_none() || is_better {
@@ -340,104 +383,173 @@ impl<'a> Search<'a> {
                 }
             }
         }
-        Ok(best)
+        best
     }
 
-    /// A tree that splits by a variable, or that of a case which doesn't need it.
+    /// Looks for a tree that splits by a variable, or that of a case which doesn't need it. Whether one was found.
     #[cycle(refuting)]
-    fn split(&mut self, depth: usize) -> Result<Option<Refuted>, Memory> {
-        let task = self.task;
+    fn split(&mut self, depth: usize, found: &mut Refuted) -> Result<bool, Memory> {
         if depth == 0 || self.left == 0 {
-            return Ok(None);
+            return Ok(false);
         }
-        let place = match self.pick()? {
-            Some(place) => place,
-            None => return Ok(None),
-        };
-        let mut reason = Vec::new(self.alloc);
+        match self.pick()? {
+            Some(place) => self.split_by(place, depth - 1, found),
+            None => Ok(false),
+        }
+    }
+
+    /// Looks for a tree that splits by this variable, or that of a case which doesn't need it. Whether one was found.
+    #[cycle(refuting)]
+    fn split_by(
+        &mut self,
+        place: usize,
+        depth: usize,
+        found: &mut Refuted,
+    ) -> Result<bool, Memory> {
         let mut cases = Vec::new(self.alloc);
-        'values: for value in 0..task.values(place) {
-            let length = self.shape.trail.len();
+        let mut reason = Vec::new(self.alloc);
+        self.refute_cases(place, depth, &mut cases, &mut reason, found)
+    }
+
+    /// Looks for a tree for each value of a variable, or one that doesn't need it. Whether the one or the other was
+    /// found.
+    #[cycle(refuting)]
+    fn refute_cases(
+        &mut self,
+        place: usize,
+        depth: usize,
+        cases: &mut Vec<usize>,
+        reason: &mut Vec<usize>,
+        found: &mut Refuted,
+    ) -> Result<bool, Memory> {
+        'values: for value in 0..self.task.values(place) {
             let decision = Decision {
                 variable: place,
                 value,
             };
-            self.shape.decide(task, decision)?;
-            let refuted = self.refute(depth - 1)?;
-            self.shape.back_to(task, length);
-            match refuted {
-                None => return Ok(None),
-                Some(refuted) => {
-                    if !has(&refuted.reason, place) {
-                        return Ok(Some(refuted));
-                    }
-                    join(&mut reason, &refuted.reason, place)?;
-                    cases.push(refuted.tree)?;
-                }
+            if !self.refute_case(decision, depth, found)? {
+                return Ok(false);
             }
+            if !has(&found.reason, place) {
+                return Ok(true);
+            }
+            join(reason, &found.reason, place)?;
+            cases.push(found.tree)?;
         }
-        let tree = self.add(task.line(place), cases)?;
-        Ok(Some(Refuted { reason, tree }))
+        swap(&mut found.reason, reason);
+        found.tree = self.add_cases(self.task.line(place), cases)?;
+        Ok(true)
     }
 
-    /// A tree for what is decided, if one is found. It calls itself at most as deep as there are variables.
+    /// Looks for a tree for what is decided and one decision more, which is taken back. Whether one was found.
     #[cycle(refuting)]
-    fn refute(&mut self, depth: usize) -> Result<Option<Refuted>, Memory> {
-        let start = self.shape.trail.len();
-        let mut failed = Vec::new(self.alloc);
-        let refuted = if self.force(&mut failed)? {
-            self.leaf()?
-        } else {
-            self.split(depth)?
-        };
-        match refuted {
-            None => Ok(None),
-            Some(refuted) => {
-                self.raise(&refuted.reason);
-                self.unforce(start, &failed, refuted)
-            }
-        }
+    fn refute_case(
+        &mut self,
+        decision: Decision,
+        depth: usize,
+        found: &mut Refuted,
+    ) -> Result<bool, Memory> {
+        let task = self.task;
+        let length = self.shape.trail.len();
+        self.shape.decide(task, decision)?;
+        let is_found = self.refute(depth, found)?;
+        self.shape.back_to(task, length);
+        Ok(is_found)
     }
 
-    /// The tree with a split for each forced decision that it needs.
+    /// Looks for a tree for what is decided. Whether one was found. It calls itself at most as deep as there are
+    /// variables.
+    #[cycle(refuting)]
+    fn refute(&mut self, depth: usize, found: &mut Refuted) -> Result<bool, Memory> {
+        let mut failed = Vec::new(self.alloc);
+        self.refute_forced(depth, &mut failed, found)
+    }
+
+    /// Looks for a tree for what is decided and what that forces. Whether one was found.
+    #[cycle(refuting)]
+    fn refute_forced(
+        &mut self,
+        depth: usize,
+        failed: &mut Vec<Decision>,
+        found: &mut Refuted,
+    ) -> Result<bool, Memory> {
+        let start = self.shape.trail.len();
+        let is_found = if self.force(failed)? {
+            self.leaf(found)?
+        } else {
+            self.split(depth, found)?
+        };
+        if !is_found {
+            return Ok(false);
+        }
+        self.raise(&found.reason);
+        self.unforce(start, failed, found)
+    }
+
+    /// The tree becomes one with a split for each forced decision that it needs. Whether each was found.
     fn unforce(
         &mut self,
         start: usize,
         failed: &[Decision],
-        refuted: Refuted,
-    ) -> Result<Option<Refuted>, Memory> {
-        let mut tree = refuted.tree;
-        let mut reason = refuted.reason;
+        found: &mut Refuted,
+    ) -> Result<bool, Memory> {
         let count = failed.len();
         'failed: for i in 0..count {
             let k = count - 1 - i;
             let decision = failed[k];
-            if has(&reason, decision.variable) {
+            if has(&found.reason, decision.variable) {
                 self.shape.back_to(self.task, start.wrapping_add(k));
-                self.shape.decide(self.task, decision)?;
-                match self.leaf()? {
-                    None => return Ok(None),
-                    Some(leaf) => {
-                        self.raise(&leaf.reason);
-                        let mut cases = Vec::new(self.alloc);
-                        if decision.value == 0 {
-                            cases.push(leaf.tree)?;
-                            cases.push(tree)?;
-                        } else {
-                            cases.push(tree)?;
-                            cases.push(leaf.tree)?;
-                        }
-                        let mut both = Vec::new(self.alloc);
-                        join(&mut both, &reason, decision.variable)?;
-                        join(&mut both, &leaf.reason, decision.variable)?;
-                        reason = both;
-                        tree = self.add(self.task.line(decision.variable), cases)?;
-                    }
+                if !self.unforce_one(decision, found)? {
+                    return Ok(false);
                 }
             }
         }
         self.shape.back_to(self.task, start);
-        Ok(Some(Refuted { reason, tree }))
+        Ok(true)
+    }
+
+    /// The tree becomes one that splits by the variable of a decision that failed. Whether a line closes after that
+    /// decision.
+    fn unforce_one(&mut self, decision: Decision, found: &mut Refuted) -> Result<bool, Memory> {
+        let mut leaf = Refuted::new(self.alloc);
+        self.split_leaf(decision, &mut leaf, found)
+    }
+
+    /// The tree becomes one that splits by the variable of a decision that failed, of which this leaf is the one case.
+    /// Whether a line closes after that decision.
+    fn split_leaf(
+        &mut self,
+        decision: Decision,
+        leaf: &mut Refuted,
+        found: &mut Refuted,
+    ) -> Result<bool, Memory> {
+        self.shape.decide(self.task, decision)?;
+        if !self.leaf(leaf)? {
+            return Ok(false);
+        }
+        self.raise(&leaf.reason);
+        self.join_reasons(decision.variable, &leaf.reason, found)?;
+        let line = self.task.line(decision.variable);
+        found.tree = if decision.value == 0 {
+            self.add_cases(line, &[leaf.tree, found.tree])?
+        } else {
+            self.add_cases(line, &[found.tree, leaf.tree])?
+        };
+        Ok(true)
+    }
+
+    /// The reason becomes both reasons together, but for one variable.
+    fn join_reasons(
+        &self,
+        variable: usize,
+        more: &[usize],
+        found: &mut Refuted,
+    ) -> Result<(), Memory> {
+        let mut both = Vec::new(self.alloc);
+        join(&mut both, &found.reason, variable)?;
+        join(&mut both, more, variable)?;
+        swap(&mut found.reason, &mut both);
+        Ok(())
     }
 }
 

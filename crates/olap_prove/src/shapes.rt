@@ -8,8 +8,11 @@ use olap_graph::Graph;
 use olap_proof::{Form, Line};
 use std::alloc::Global;
 
+/// The lines that are tried first.
+const FIRST: [Line; 3] = [Line::Question, Line::Cycle, Line::Shortcut];
+
 /// A decision: a variable, by its place among the task's, and its value.
-#[derive(Clone, Copy, PartialEq, Eq, Debug)]
+#[derive(Clone, Copy)]
 pub(crate) struct Decision {
     pub(crate) variable: usize,
     pub(crate) value: usize,
@@ -356,8 +359,21 @@ impl Shape {
 
     /// Whether the line closes.
     pub(crate) fn closes(&mut self, task: &Task<'_>, line: Line) -> Result<bool, Memory> {
-        let graph = task.graph;
         let closed = match line {
+            Line::Constraint(n) => {
+                self.has(task.constraint_root(n))
+                    && self.value(task.form, task.constraint(n))? == Truth3::No
+            }
+            Line::Question => self.value(task.form, task.question())? == Truth3::No,
+            _ => self.closes_by_law(task, line),
+        };
+        Ok(closed)
+    }
+
+    /// Whether the line closes, if no formula is asked.
+    fn closes_by_law(&self, task: &Task<'_>, line: Line) -> bool {
+        let graph = task.graph;
+        match line {
             Line::Dead(c) => c.0 != 0 && self.has(c) && self.has_no_step(task, c, None),
             Line::Cycle => self.some_edge(graph, line),
             Line::Shortcut => self.some_edge(graph, line),
@@ -371,14 +387,8 @@ impl Shape {
                 Some(there) => self.clashes(task, c, d, there),
                 None => false,
             },
-            Line::Constraint(n) => {
-                self.has(task.constraint_root(n))
-                    && self.value(task.form, task.constraint(n))? == Truth3::No
-            }
-            Line::Question => self.value(task.form, task.question())? == Truth3::No,
-            Line::Edge(_) | Line::Name(_) | Line::Reach(_, _) => false,
-        };
-        Ok(closed)
+            _ => false,
+        }
     }
 
     /// Whether some edge is on a cycle, or bypassed, as the line says.
@@ -408,6 +418,21 @@ impl Shape {
             lines.push(line)?;
         }
         Ok(lines.len() >= most)
+    }
+
+    /// Adds lines that close, of those of which there is one each. Whether there are enough.
+    fn offer_first(
+        &mut self,
+        task: &Task<'_>,
+        most: usize,
+        lines: &mut Vec<Line>,
+    ) -> Result<bool, Memory> {
+        'first: for i in 0..FIRST.len() {
+            if self.offer(task, FIRST[i], most, lines)? {
+                return Ok(true);
+            }
+        }
+        Ok(false)
     }
 
     /// Adds lines about edges and categories that close. Whether there are enough.
@@ -476,15 +501,24 @@ impl Shape {
         most: usize,
     ) -> Result<Vec<Line>, Memory> {
         let mut lines = Vec::new(alloc);
-        let is_enough = self.offer(task, Line::Question, most, &mut lines)?
-            || self.offer(task, Line::Cycle, most, &mut lines)?
-            || self.offer(task, Line::Shortcut, most, &mut lines)?
-            || self.offer_laws(task, most, &mut lines)?
-            || task.form == Form::Short && self.offer_ways(task, most, &mut lines)?;
-        if !is_enough {
-            self.offer_constraints(task, most, &mut lines)?;
-        }
+        self.offer_all(task, most, &mut lines)?;
         Ok(lines)
+    }
+
+    /// Adds lines that close, until there are enough.
+    fn offer_all(
+        &mut self,
+        task: &Task<'_>,
+        most: usize,
+        lines: &mut Vec<Line>,
+    ) -> Result<(), Memory> {
+        let is_enough = self.offer_first(task, most, lines)?
+            || self.offer_laws(task, most, lines)?
+            || task.form == Form::Short && self.offer_ways(task, most, lines)?;
+        if !is_enough {
+            self.offer_constraints(task, most, lines)?;
+        }
+        Ok(())
     }
 }
 

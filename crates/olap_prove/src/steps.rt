@@ -6,7 +6,7 @@ use olap_names::Candidates;
 use olap_numerals::number;
 
 /// An atom's value is put on the stack, or a connective takes values off it and puts one there.
-#[derive(Clone, Copy, PartialEq, Eq, Debug)]
+#[derive(Clone, Copy)]
 pub(crate) enum Step {
     Known(Truth3),
     Edge(EdgeId),
@@ -177,8 +177,7 @@ impl<'a> Words<'a> {
         let mut at = root;
         steps.push(Step::Known(Truth3::Yes))?;
         'path: for c in categories {
-            steps.push(self.edge(at, *c))?;
-            steps.push(Step::And)?;
+            steps.extend_from_slice(&[self.edge(at, *c), Step::And])?;
             at = *c;
         }
         Ok(())
@@ -186,9 +185,7 @@ impl<'a> Words<'a> {
 
     /// Steps of two atoms, both of which are asked.
     fn push_two(&self, first: Step, second: Step, steps: &mut Vec<Step>) -> Result<(), Memory> {
-        steps.push(first)?;
-        steps.push(second)?;
-        steps.push(Step::And)?;
+        steps.extend_from_slice(&[first, second, Step::And])?;
         Ok(())
     }
 
@@ -201,19 +198,6 @@ impl<'a> Words<'a> {
         steps: &mut Vec<Step>,
     ) -> Result<(), Memory> {
         match f {
-            Formula::True => put(steps, Step::Known(Truth3::Yes)),
-            Formula::False => put(steps, Step::Known(Truth3::No)),
-            Formula::Path(categories) => self.push_path(categories.items(), root, steps),
-            Formula::Reach(d) => put(steps, Step::Reach(root, *d)),
-            Formula::Via(d, e) => {
-                self.push_two(Step::Reach(root, *d), Step::Reach(*d, *e), steps)
-            }
-            Formula::Equals(d, text) => {
-                self.push_two(Step::Reach(root, *d), self.name(*d, text), steps)
-            }
-            Formula::Compare(d, op, n) => {
-                self.push_two(Step::Reach(root, *d), self.number(*d, *op, *n), steps)
-            }
             Formula::Not(g) => {
                 self.push(g, root, steps)?;
                 put(steps, Step::Not)
@@ -227,6 +211,26 @@ impl<'a> Words<'a> {
                 let count = self.push_terms(terms, root, steps)?;
                 put(steps, Step::One(count))
             }
+            _ => self.push_atom(f, root, steps),
+        }
+    }
+
+    /// Steps of a formula without parts at a member of the root.
+    fn push_atom(&self, f: &Formula, root: CatId, steps: &mut Vec<Step>) -> Result<(), Memory> {
+        match f {
+            Formula::True => put(steps, Step::Known(Truth3::Yes)),
+            Formula::Path(categories) => self.push_path(categories.items(), root, steps),
+            Formula::Reach(d) => put(steps, Step::Reach(root, *d)),
+            Formula::Via(d, e) => {
+                self.push_two(Step::Reach(root, *d), Step::Reach(*d, *e), steps)
+            }
+            Formula::Equals(d, text) => {
+                self.push_two(Step::Reach(root, *d), self.name(*d, text), steps)
+            }
+            Formula::Compare(d, op, n) => {
+                self.push_two(Step::Reach(root, *d), self.number(*d, *op, *n), steps)
+            }
+            _ => put(steps, Step::Known(Truth3::No)),
         }
     }
 

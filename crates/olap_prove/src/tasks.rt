@@ -7,7 +7,7 @@ use olap_proof::{Form, Line};
 use std::alloc::Global;
 
 /// What may be decided.
-#[derive(Clone, Copy, PartialEq, Eq, Debug)]
+#[derive(Clone, Copy)]
 pub(crate) enum Variable {
     Edge(EdgeId),
     Name(CatId),
@@ -15,7 +15,7 @@ pub(crate) enum Variable {
 }
 
 /// A variable, with how many values it has. Whether some formula asks it, if it is a way.
-#[derive(Clone, Copy, PartialEq, Eq, Debug)]
+#[derive(Clone, Copy)]
 pub(crate) struct Choice {
     pub(crate) variable: Variable,
     pub(crate) values: usize,
@@ -54,42 +54,35 @@ fn is_below(graph: &Graph, c: CatId, d: CatId) -> bool {
     }
 }
 
-/// The steps of the question whether a member of the target is reached, and not by exactly one source.
-fn question(
-    alloc: Global,
+/// Adds the steps of the question whether a member of the target is reached, and not by exactly one source.
+fn push_question(
     root: CatId,
     target: CatId,
     sources: &[CatId],
-) -> Result<Vec<Step>, Memory> {
-    let mut steps = Vec::new(alloc);
+    steps: &mut Vec<Step>,
+) -> Result<(), Memory> {
     steps.push(Step::Reach(root, target))?;
     'sources: for source in sources {
-        steps.push(Step::Reach(root, *source))?;
-        steps.push(Step::Reach(*source, target))?;
-        steps.push(Step::And)?;
+        let by_source = [
+            Step::Reach(root, *source),
+            Step::Reach(*source, target),
+            Step::And,
+        ];
+        steps.extend_from_slice(&by_source)?;
     }
-    steps.push(Step::One(sources.len()))?;
-    steps.push(Step::Not)?;
-    steps.push(Step::And)?;
-    Ok(steps)
+    let not_by_one = [Step::One(sources.len()), Step::Not, Step::And];
+    steps.extend_from_slice(&not_by_one)?;
+    Ok(())
 }
 
-/// The constraints as steps.
-fn as_steps(
-    alloc: Global,
-    words: &Words<'_>,
-    constraints: &[Constraint],
-) -> Result<Vec<Posed>, Memory> {
-    let mut all = Vec::new(alloc);
-    'constraints: for constraint in constraints {
-        let mut steps = Vec::new(alloc);
-        words.push(&constraint.formula, constraint.root, &mut steps)?;
-        all.push(Posed {
-            root: constraint.root,
-            steps,
-        })?;
-    }
-    Ok(all)
+/// The constraint as steps.
+fn as_steps(alloc: Global, words: &Words<'_>, constraint: &Constraint) -> Result<Posed, Memory> {
+    let mut steps = Vec::new(alloc);
+    words.push(&constraint.formula, constraint.root, &mut steps)?;
+    Ok(Posed {
+        root: constraint.root,
+        steps,
+    })
 }
 
 impl<'a> Task<'a> {
@@ -107,16 +100,32 @@ impl<'a> Task<'a> {
             graph: words.graph,
             form,
             root,
-            constraints: as_steps(alloc, words, constraints)?,
-            question: question(alloc, root, target, sources)?,
+            constraints: Vec::new(alloc),
+            question: Vec::new(alloc),
             choices: Vec::new(alloc),
         };
-        if form == Form::Short {
-            task.push_ways(alloc)?;
-        }
-        task.push_edges()?;
-        task.push_names(words)?;
+        task.pose(alloc, words, constraints, target, sources)?;
         Ok(task)
+    }
+
+    /// Adds the formulas, and then what may be decided.
+    fn pose(
+        &mut self,
+        alloc: Global,
+        words: &Words<'a>,
+        constraints: &[Constraint],
+        target: CatId,
+        sources: &[CatId],
+    ) -> Result<(), Memory> {
+        'constraints: for constraint in constraints {
+            self.constraints.push(as_steps(alloc, words, constraint)?)?;
+        }
+        push_question(self.root, target, sources, &mut self.question)?;
+        if self.form == Form::Short {
+            self.push_ways(alloc)?;
+        }
+        self.push_edges()?;
+        self.push_names(words)
     }
 
     /// The edges that the root may reach.
@@ -156,11 +165,16 @@ impl<'a> Task<'a> {
         let count = usize::from(self.graph.categories());
         let mut seen = vec![in alloc; false; count * MOST_CATEGORIES]?;
         let mut todo = Vec::new(alloc);
-        'constraints: for posed in &self.constraints {
-            todo.push((posed.root, posed.root))?;
-            push_asked(&posed.steps, &mut todo)?;
-        }
-        push_asked(&self.question, &mut todo)?;
+        self.push_ways_from(&mut seen, &mut todo)
+    }
+
+    /// The ways that formulas ask, and those that these rest on, but for what was seen.
+    fn push_ways_from(
+        &mut self,
+        seen: &mut [bool],
+        todo: &mut Vec<(CatId, CatId)>,
+    ) -> Result<(), Memory> {
+        self.push_all_asked(todo)?;
         let asked = todo.len();
         'ways: for i in 0..MOST_CATEGORIES * MOST_CATEGORIES * MOST_CATEGORIES {
             if i >= todo.len() {
@@ -168,22 +182,31 @@ impl<'a> Task<'a> {
             }
             let (c, d) = todo[i];
             let place = way_place(c, d);
-            let is_new = place < seen.len() && !seen[place];
-            if is_new
-                && d.0 != 0
-                && is_below(self.graph, c, d)
-                && is_below(self.graph, self.root, c)
-            {
+            if place < seen.len() && !seen[place] && self.is_way(c, d) {
                 seen[place] = true;
                 self.choices.push(Choice {
                     variable: Variable::Way(c, d),
                     values: 2,
                     is_asked: i < asked,
                 })?;
-                push_steps(self.graph, c, d, &mut todo)?;
+                push_steps(self.graph, c, d, todo)?;
             }
         }
         Ok(())
+    }
+
+    /// The ways that formulas ask.
+    fn push_all_asked(&self, todo: &mut Vec<(CatId, CatId)>) -> Result<(), Memory> {
+        'constraints: for posed in &self.constraints {
+            todo.push((posed.root, posed.root))?;
+            push_asked(&posed.steps, todo)?;
+        }
+        push_asked(&self.question, todo)
+    }
+
+    /// Whether the root may reach the one category, and that the other.
+    fn is_way(&self, c: CatId, d: CatId) -> bool {
+        d.0 != 0 && is_below(self.graph, c, d) && is_below(self.graph, self.root, c)
     }
 
     /// The variable at a place.
