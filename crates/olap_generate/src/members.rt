@@ -1,6 +1,6 @@
 // The text of the members.
 ghost use Rattle.std.specs.List.{range_with_len};
-ghost use Rattle.std.specs.Prelude.{◌≡◌, ◌==◌, ◌++◌, ◌%◌, IfOk, OnOk, codes, if◌then◌else◌, map, string_bytes};
+ghost use Rattle.std.specs.Prelude.{◌≡◌, ◌==◌, ◌++◌, ◌%◌, IfOk, OnOk, [], codes, if◌then◌else◌, map, string_bytes};
 ghost use Rattle.olap_records.specs.Texts.{text_of_row, text_of_rows};
 ghost use Rattle.olap_generate.specs.Members.{city_parent, city_row, country_rows, member_rows, named_row, numbered, row, store_row};
 
@@ -131,20 +131,30 @@ fn add_countries(out: &mut Printer) -> Result<(), Memory>
     add(out, "mex", "Country", "Mexico", "all")
 }
 
+/// Adds the header and all members.
+fn add_members(alloc: Global, out: &mut Printer, input: &Input) -> Result<(), Memory>
+    requires width { out.old.width ≡ 4 }
+    requires empty { out.old.text ≡ [] }
+    ensures { OnOk result (out.new.text ≡ text_of_rows (member_rows input.now.seed input.now.size)) }
+{
+    let groups = input.groups();
+    add(out, "id", "category", "name", "parents")?;
+    add_stores(alloc, out, input)?;
+    add_cities(alloc, out, 4 * groups)?;
+    add_below(alloc, out, groups, "a", "State", "usa")?;
+    add_beside(alloc, out, groups, "b", "State", "m")?;
+    add_beside(alloc, out, groups, "p", "Province", "n")?;
+    add_below(alloc, out, groups, "m", "Region", "mex")?;
+    add_below(alloc, out, groups, "n", "Region", "can")?;
+    add_countries(out)?;
+    Ok(())
+}
+
 /// The text of the members.
 pub(crate) fn member_text(alloc: Global, input: &Input) -> Result<Vec<u8>, Memory>
     ensures { IfOk result (λ text. text.items ≡ text_of_rows (member_rows input.now.seed input.now.size)) }
 {
-    let groups = input.groups();
     let mut out = Printer::new(alloc, 4);
-    add(&mut out, "id", "category", "name", "parents")?;
-    add_stores(alloc, &mut out, input)?;
-    add_cities(alloc, &mut out, 4 * groups)?;
-    add_below(alloc, &mut out, groups, "a", "State", "usa")?;
-    add_beside(alloc, &mut out, groups, "b", "State", "m")?;
-    add_beside(alloc, &mut out, groups, "p", "Province", "n")?;
-    add_below(alloc, &mut out, groups, "m", "Region", "mex")?;
-    add_below(alloc, &mut out, groups, "n", "Region", "can")?;
-    add_countries(&mut out)?;
+    add_members(alloc, &mut out, input)?;
     out.finish()
 }

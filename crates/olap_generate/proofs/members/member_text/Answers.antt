@@ -1,18 +1,11 @@
-use Rattle.std.proofs.Common.{ℕ, ◌≡◌, ap, ◌∙◌}
+use Rattle.std.proofs.Common.{◌≡◌, ◌∙◌}
 use Rattle.std.proofs.lemmas.Result.{IfOk-weaker}
 use Rattle.olap_records.specs.Texts.{text_of_rows}
 use Rattle.olap_generate.specs.Members.{member_rows}
-use Rattle.olap_generate.proofs.TextLemmas.{all_groups, rows_of_groups}
 use Rattle.olap_generate.proofs.members.member_text.Goals as goal
 
 pub returns : goal.returns
 returns c =
-    let seed = c.args.input.now.seed in
-    let size = c.args.input.now.size in
-    let all = all_groups seed size c.groups-groups.result _ _ _ _ _ _ _ _ _ _ c.new-out.ensures.text
-    c.in_ok-add.ensures.text c.in_ok-add_stores.ensures.text c.in_ok-add_cities.ensures.text
-    c.in_ok-add_below.ensures.text c.in_ok-add_beside.ensures.text c.in_ok-add_beside-2.ensures.text
-    c.in_ok-add_below-2.ensures.text c.in_ok-add_below-3.ensures.text c.in_ok-add_countries.ensures.text
-    ∙ ap (λ (g : ℕ). text_of_rows (rows_of_groups seed size g)) c.groups-groups.ensures.value in
-    IfOk-weaker c.finish.result (λ text. text.items ≡ c.add_countries.new.out.text)
-    (λ text. text.items ≡ text_of_rows (member_rows seed size)) (λ text e. e ∙ all) c.finish.ensures.text
+    IfOk-weaker c.finish.result (λ text. text.items ≡ c.add_members.new.out.text)
+    (λ text. text.items ≡ text_of_rows (member_rows c.args.input.now.seed c.args.input.now.size))
+    (λ text e. e ∙ c.in_ok-add_members.ensures) c.finish.ensures.text
