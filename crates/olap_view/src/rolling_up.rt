@@ -1,6 +1,7 @@
 // The views of a text of facts.
-ghost use Rattle.std.specs.Prelude.{◌≡◌, ◌≢◌, ◌<◌, All, AllPairs, IfErr, IfOk, length};
+ghost use Rattle.std.specs.Prelude.{◌≡◌, ◌≢◌, ◌<◌, [], All, AllPairs, IfErr, IfOk, OnOk, length, true};
 ghost use Rattle.olap_base.specs.Limits.{most_facts};
+ghost use Rattle.olap_facts.specs.FactReading.{all_read, reading};
 ghost use Rattle.olap_facts.specs.FactText.{facts_read_within};
 ghost use Rattle.olap_facts.specs.Refusals.{IsRefusedBy};
 ghost use Rattle.olap_instance.specs.Made.{IsMadeFor};
@@ -8,6 +9,7 @@ ghost use Rattle.olap_records.specs.Records.{records_of};
 ghost use Rattle.olap_view.specs.RollingUp.{AreRolledUp, IsTallyOf};
 ghost use Rattle.olap_view.specs.Seen.{each_view_of, ids};
 ghost use Rattle.olap_view.specs.Stores.{Fits};
+ghost use Rattle.olap_view.specs.Tallies.{StandsFor};
 
 use crate::{Tally, View};
 use olap_base::{CatId, List, MOST_FACTS};
@@ -15,6 +17,46 @@ use olap_facts::{FactReader, FactRefusal};
 use olap_graph::Graph;
 use olap_legal::Legal;
 use std::alloc::Global;
+
+/// Adds the facts that a new reader hands out, batch by batch, to a tally that stands for none.
+fn add_batches(
+    alloc: Global,
+    reader: &mut FactReader,
+    tally: &mut Tally,
+) -> Result<(), FactRefusal>
+    requires fresh { let r = reader.old in r ≡ reading r.graph r.instance r.records most_facts 0 true }
+    requires instance { tally.old.instance ≡ reader.old.instance }
+    requires none { StandsFor tally.old [] }
+    ensures tally { let r = reader.old in
+        OnOk result (IsTallyOf r.graph r.instance r.records tally.old.categories tally.new) }
+    ensures err { IfErr result (λ e. IsRefusedBy e (all_read reader.old)) }
+{
+    let mut batch = Vec::new(alloc);
+    'batches: while reader.read_batch(&mut batch)? {
+        tally.add_all(batch.as_slice());
+    }
+    Ok(())
+}
+
+/// Adds the facts of a text to a tally that stands for none.
+fn add_text(
+    alloc: Global,
+    graph: &Graph,
+    legal: &Legal,
+    text: &[u8],
+    tally: &mut Tally,
+) -> Result<(), FactRefusal>
+    requires made { IsMadeFor graph.now legal.now }
+    requires instance { tally.old.instance ≡ legal.now }
+    requires none { StandsFor tally.old [] }
+    ensures tally { OnOk result
+        (IsTallyOf graph.now legal.now (records_of text.now) tally.old.categories tally.new) }
+    ensures err { IfErr result (λ e.
+        IsRefusedBy e (facts_read_within most_facts graph.now legal.now (records_of text.now))) }
+{
+    let mut reader = FactReader::new(alloc, graph, legal.instance(), text, MOST_FACTS);
+    add_batches(alloc, &mut reader, tally)
+}
 
 /// What the facts of a text come to at each member of some categories. The text is gone when it returns.
 fn tally_of<'a>(
@@ -31,12 +73,8 @@ fn tally_of<'a>(
     ensures err { IfErr result (λ e.
         IsRefusedBy e (facts_read_within most_facts graph.now legal.now (records_of text.items))) }
 {
-    let mut reader = FactReader::new(alloc, graph, legal.instance(), &text, MOST_FACTS);
     let mut tally = Tally::new(alloc, legal, categories)?;
-    let mut batch = Vec::new(alloc);
-    'batches: while reader.read_batch(&mut batch)? {
-        tally.add_all(batch.as_slice());
-    }
+    add_text(alloc, graph, legal, &text, &mut tally)?;
     Ok(tally)
 }
 

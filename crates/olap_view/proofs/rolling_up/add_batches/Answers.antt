@@ -8,17 +8,15 @@ use Rattle.olap_base.specs.Views.{Fact}
 use Rattle.olap_facts.specs.FactReading.{FactReading}
 use Rattle.olap_facts.specs.Seen.{fact_of}
 use Rattle.olap_facts.specs.declared.tables.Fact as told
-use Rattle.olap_records.specs.Records.{records_of}
-use Rattle.olap_view.specs.Seen.{ids}
 use Rattle.olap_view.specs.Tallies.{StandsFor}
 use Rattle.olap_view.proofs.RollingUpLemmas.{facts_behind, facts_so_far, few_so_far, fewer_left, reader_behind, tally_of}
-use Rattle.olap_view.proofs.rolling_up.tally_of.Goals as goal
+use Rattle.olap_view.proofs.rolling_up.add_batches.Goals as goal
 
 pub batches-preserved : goal.batches-preserved
 batches-preserved c =
-    let g = c.args.graph.now in
-    let i = c.args.legal.now in
-    let records = records_of c.args.text.items in
+    let g = c.args.reader.now.graph in
+    let i = c.args.reader.now.instance in
+    let records = c.args.reader.now.records in
     let old = c.batches.reader in
     let new = c.read_batch.new.self in
     let items = c.read_batch.new.batch.items in
@@ -51,14 +49,14 @@ add_all-requires-clause-room c =
     let few = c.in_ok-read_batch.ensures.few in
     let most : c.batches.reader.most ≡ most_facts = ap (λ (r : FactReading). r.most) inv.reader in
     let added = inv.stands.added in
-    let short = few_so_far c.args.legal.now (records_of c.args.text.items) c.batches.reader.handed in
+    let short = few_so_far c.args.reader.now.instance c.args.reader.now.records c.batches.reader.handed in
     omega arith
 
 pub batches-smaller : goal.batches-smaller
 batches-smaller c =
     let items = c.read_batch.new.batch.items in
     let handed = rw c.if-branch.true at c.in_ok-read_batch.ensures.reads in
-    fewer_left c.args.graph.now c.args.legal.now (records_of c.args.text.items) most_facts c.batches.reader
+    fewer_left c.args.reader.now.graph c.args.reader.now.instance c.args.reader.now.records most_facts c.batches.reader
     c.batches.invariant.reader c.read_batch.new.self (map fact_of items) (length items) (sym (length-map items fact_of))
     handed.1 handed.0
 
@@ -66,5 +64,5 @@ pub returns-clause-tally : goal.returns-clause-tally
 returns-clause-tally c =
     let inv = c.batches.invariant in
     let end = rw c.if-branch.false at c.in_ok-read_batch.ensures.reads in
-    tally_of c.args.graph.now c.args.legal.now (records_of c.args.text.items) (ids c.args.categories.now)
+    tally_of c.args.reader.now.graph c.args.reader.now.instance c.args.reader.now.records c.args.tally.now.categories
     c.batches.reader c.batches.tally inv.reader end.0 inv.instance inv.categories inv.stands
