@@ -163,6 +163,30 @@ fn read_views(
     Ok(table.views(alloc, instance)?)
 }
 
+/// The stored views that the records tell that are left, or their first fault.
+fn read_left(
+    alloc: Global,
+    graph: &Graph,
+    instance: &Instance,
+    rows: &mut Rows,
+) -> Result<Store, StoreRefusal>
+    ensures read { MatchResult result
+        (λ store. store_read graph.now instance.now rows.old.left ≡ Ok (views_of store))
+        (λ e. IsStoreRefusedBy e (store_read graph.now instance.now rows.old.left)) }
+    ensures sound { IfOk result (λ store. IsSoundStore graph.now instance.now (views_of store)) }
+    ensures order { IfOk result (λ store. All (IsInFileOrder instance.now) (views_of store)) }
+{
+    if !begins(rows)? {
+        return Err(StoreRefusal::Fault {
+            at: 1,
+            kind: StoreKind::BadHeader,
+        });
+    }
+    Ok(Store {
+        views: read_views(alloc, graph, instance, rows)?,
+    })
+}
+
 /// The stored views that a text tells, or the text's first fault. The rows of each view stand in the order of their
 /// members, whatever their order in the text.
 ///
@@ -182,13 +206,5 @@ pub fn read_store(
     ensures order { IfOk result (λ store. All (IsInFileOrder instance.now) (views_of store)) }
 {
     let mut rows = Rows::new(alloc, text);
-    if !begins(&mut rows)? {
-        return Err(StoreRefusal::Fault {
-            at: 1,
-            kind: StoreKind::BadHeader,
-        });
-    }
-    Ok(Store {
-        views: read_views(alloc, graph, instance, &mut rows)?,
-    })
+    read_left(alloc, graph, instance, &mut rows)
 }
