@@ -172,6 +172,38 @@ fn read_rows(
     Ok(facts)
 }
 
+/// The fact table that the records tell that are left, or their first fault.
+fn read_left(
+    alloc: Global,
+    graphs: &[&Graph],
+    instances: &[&Instance],
+    rows: &mut Rows,
+) -> Result<CubeFacts, FactRefusal>
+    requires few { length instances.now ≤ most_dimensions }
+    requires made { AreMadeFor (graphs_of graphs.now) (instances_of instances.now) }
+    ensures read { MatchResult result
+        (λ f. cube_facts_read (graphs_of graphs.now) (instances_of instances.now)
+        rows.old.left ≡ Ok (cube_facts_of f))
+        (λ e. IsCubeRefusedBy e
+        (cube_facts_read (graphs_of graphs.now) (instances_of instances.now) rows.old.left)) }
+    ensures members { IfOk result
+        (λ f. All (λ q. AreMembers (instances_of instances.now) (members_of q.members)) f.rows) }
+    ensures few { IfOk result (λ f. length f.rows ≤ most_listed_facts) }
+    ensures table { IfOk result
+        (λ f. IsCubeFactTable (graphs_of graphs.now) (instances_of instances.now) (cube_facts_of f)) }
+{
+    if !begins(rows, instances.len())? {
+        return Err(FactRefusal::Fault {
+            at: 1,
+            kind: FactKind::BadHeader,
+        });
+    }
+    let facts = read_rows(alloc, graphs, instances, rows)?;
+    Ok(CubeFacts {
+        rows: List::from_vec(facts),
+    })
+}
+
 /// The fact table that a text tells on these instances, or the text's first fault.
 fn read(
     alloc: Global,
@@ -193,16 +225,7 @@ fn read(
         (λ f. IsCubeFactTable (graphs_of graphs.now) (instances_of instances.now) (cube_facts_of f)) }
 {
     let mut rows = Rows::new(alloc, text);
-    if !begins(&mut rows, instances.len())? {
-        return Err(FactRefusal::Fault {
-            at: 1,
-            kind: FactKind::BadHeader,
-        });
-    }
-    let facts = read_rows(alloc, graphs, instances, &mut rows)?;
-    Ok(CubeFacts {
-        rows: List::from_vec(facts),
-    })
+    read_left(alloc, graphs, instances, &mut rows)
 }
 
 /// The fact table that a text tells, or the text's first fault. The graphs are those of the dimensions, in order. Each

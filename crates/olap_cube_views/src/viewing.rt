@@ -37,6 +37,29 @@ fn view(alloc: Global, target: &[CatId], rows: Vec<CubeRow>) -> Result<CubeView,
     })
 }
 
+/// The direct view of a target from facts. The tally, of this target, is empty.
+fn direct(
+    alloc: Global,
+    facts: &CubeFacts,
+    target: &[CatId],
+    tally: &mut CubeTally,
+) -> Result<CubeView, Memory>
+    requires target { tally.old.target ≡ ids target.now }
+    requires start { CubeStandsFor tally.old [] }
+    requires at_members { All (λ f. AreMembers tally.old.instances (members_of f.members)) facts.now.rows }
+    requires few { length facts.now.rows ≤ most_count }
+    ensures view { IfOk result (λ v. cube_view_of v
+        ≡ cube_direct_view tally.old.instances (cube_facts_of facts.now) (ids target.now)) }
+    ensures members { IfOk result
+        (λ v. All (λ r. AreMembers tally.old.instances (members_of r.members)) v.rows) }
+{
+    'facts: for fact in facts.rows.items() {
+        tally.add(fact)?;
+    }
+    let rows = tally.rows(alloc)?;
+    view(alloc, target, rows)
+}
+
 /// The direct view of a target, a category of each dimension: a row for each tuple of their members that some fact's
 /// members reach, in file order of the first dimension's members, then of the second's, and so on, with the count, sum,
 /// least and greatest of those facts' values.
@@ -60,11 +83,7 @@ pub fn cube_direct(
         (λ v. All (λ r. AreMembers legals.now (members_of r.members)) v.rows) }
 {
     let mut tally = CubeTally::new(alloc, columns(alloc, legals, target)?);
-    'facts: for fact in facts.rows.items() {
-        tally.add(fact)?;
-    }
-    let rows = tally.rows(alloc)?;
-    view(alloc, target, rows)
+    direct(alloc, facts, target, &mut tally)
 }
 
 /// Adds the facts of the records that are left.
@@ -94,20 +113,53 @@ fn add_rows(
     Ok(())
 }
 
+/// The direct view of a target from the facts of the records that are left, or their first fault. The tally, of this
+/// target, is empty.
+fn rolled_up_left(
+    alloc: Global,
+    graphs: &[&Graph],
+    instances: &[&Instance],
+    target: &[CatId],
+    tally: &mut CubeTally,
+    rows: &mut Rows,
+) -> Result<CubeView, FactRefusal>
+    requires few { length instances.now ≤ most_dimensions }
+    requires made { AreMadeFor (graphs_of graphs.now) (instances_of instances.now) }
+    requires instances { tally.old.instances ≡ instances_of instances.now }
+    requires target { tally.old.target ≡ ids target.now }
+    requires start { CubeStandsFor tally.old [] }
+    ensures view { IfOk result (λ v. IsCubeRolledUp (graphs_of graphs.now)
+        (instances_of instances.now) rows.old.left (ids target.now) (cube_view_of v)) }
+    ensures members { IfOk result (λ v.
+        All (λ r. AreMembers (instances_of instances.now) (members_of r.members)) v.rows) }
+    ensures err { IfErr result (λ e. IsCubeRefusedBy e
+        (cube_facts_read (graphs_of graphs.now) (instances_of instances.now) rows.old.left)) }
+{
+    if !begins(rows, instances.len())? {
+        return Err(FactRefusal::Fault {
+            at: 1,
+            kind: FactKind::BadHeader,
+        });
+    }
+    add_rows(alloc, graphs, instances, rows, tally)?;
+    let rows = tally.rows(alloc)?;
+    Ok(view(alloc, target, rows)?)
+}
+
 /// The direct view of a target from a text of facts, or the text's first fault. The tally, of this target, is empty.
 fn rolled_up(
     alloc: Global,
     graphs: &[&Graph],
     instances: &[&Instance],
     target: &[CatId],
-    mut tally: CubeTally,
+    tally: &mut CubeTally,
     text: &[u8],
 ) -> Result<CubeView, FactRefusal>
     requires few { length instances.now ≤ most_dimensions }
     requires made { AreMadeFor (graphs_of graphs.now) (instances_of instances.now) }
-    requires instances { tally.instances ≡ instances_of instances.now }
-    requires target { tally.target ≡ ids target.now }
-    requires start { CubeStandsFor tally [] }
+    requires instances { tally.old.instances ≡ instances_of instances.now }
+    requires target { tally.old.target ≡ ids target.now }
+    requires start { CubeStandsFor tally.old [] }
     ensures view { IfOk result (λ v. IsCubeRolledUp (graphs_of graphs.now)
         (instances_of instances.now) (records_of text.now) (ids target.now) (cube_view_of v)) }
     ensures members { IfOk result (λ v.
@@ -116,15 +168,7 @@ fn rolled_up(
         (cube_facts_read (graphs_of graphs.now) (instances_of instances.now) (records_of text.now))) }
 {
     let mut rows = Rows::new(alloc, text);
-    if !begins(&mut rows, instances.len())? {
-        return Err(FactRefusal::Fault {
-            at: 1,
-            kind: FactKind::BadHeader,
-        });
-    }
-    add_rows(alloc, graphs, instances, &mut rows, &mut tally)?;
-    let rows = tally.rows(alloc)?;
-    Ok(view(alloc, target, rows)?)
+    rolled_up_left(alloc, graphs, instances, target, tally, &mut rows)
 }
 
 /// The direct view of the columns' categories from a text of facts, or the text's first fault, which is that of
@@ -152,6 +196,6 @@ pub fn cube_roll_up(
 {
     let instances = columns.instances(alloc)?;
     let target = columns.target(alloc)?;
-    let tally = CubeTally::new(alloc, columns.lent(alloc)?);
-    rolled_up(alloc, graphs, &instances, &target, tally, text)
+    let mut tally = CubeTally::new(alloc, columns.lent(alloc)?);
+    rolled_up(alloc, graphs, &instances, &target, &mut tally, text)
 }

@@ -6,7 +6,7 @@ use Rattle.olap_cube_views.specs.Dimensions.{graphs_of, instances_of}
 use Rattle.olap_cube_views.specs.Seen.{members_of}
 use Rattle.olap_cube_views.specs.declared.tables.CubeFact as told
 use Rattle.olap_cube_views.proofs.CubeReadingLemmas.{cube_table_members}
-use Rattle.olap_cube_views.proofs.reading.read.Goals as goal
+use Rattle.olap_cube_views.proofs.reading.read_left.Goals as goal
 
 pub returns-clause-members : goal.returns-clause-members
 returns-clause-members c =
