@@ -1,5 +1,5 @@
 -- The view of all facts of the records.
-use Rattle.std.proofs.Common.{◌≡◌, Bor, List, ℕ, length, map, ap, sym, ◌∙◌}
+use Rattle.std.proofs.Common.{◌≡◌, Bor, List, ℕ, map, ap, sym, ◌∙◌}
 use Rattle.std.proofs.lemmas.List.{length-map}
 use Rattle.olap_base.specs.Instance.{Instance}
 use Rattle.olap_cube.specs.CubeViews.{cube_direct_rows, cube_direct_view}
