@@ -2,7 +2,9 @@
 ghost use Rattle.olap_schema_text.specs.Reading.{HasName, said};
 ghost use Rattle.olap_schema_text.specs.Statements.{statement_of};
 ghost use Rattle.olap_base.specs.Reaching.{is_category_name};
-ghost use Rattle.std.specs.Prelude.{◌≡◌};
+ghost use Rattle.olap_grammar.specs.declared.tokens.Token.TheVariants as token;
+ghost use Rattle.olap_grammar.specs.declared.tokens.Mark.TheVariants as mark;
+ghost use Rattle.std.specs.Prelude.{◌≡◌, ◌∷◌, []};
 ghost use Rattle.std.specs.Str.{bytes_eq};
 
 use olap_grammar::{Mark, Token, Version};
@@ -32,6 +34,59 @@ fn is_name(word: &[u8]) -> bool
     category_name(word)
 }
 
+/// What two words say.
+#[tactic(auto, unfolding(crate::specs::Statements::statement_of))]
+fn two_words<'a>(keyword: &[u8], name: &'a [u8]) -> Statement<'a>
+    ensures says { said result ≡ statement_of (token.Word keyword.now ∷ token.Word name.now ∷ []) }
+    ensures name { HasName result }
+{
+    if is(keyword, b"schema") && is(name, b"1") {
+        return Statement::Version(Version::One);
+    }
+    if is(keyword, b"schema") && is(name, b"2") {
+        return Statement::Version(Version::Two);
+    }
+    if is(keyword, b"category") && is_name(name) {
+        return Statement::Category {
+            name,
+            number: false,
+        };
+    }
+    Statement::Other
+}
+
+/// What three words say.
+#[tactic(auto, unfolding(crate::specs::Statements::statement_of))]
+fn three_words<'a>(keyword: &[u8], first: &'a [u8], second: &'a [u8]) -> Statement<'a>
+    ensures says { said result
+        ≡ statement_of (token.Word keyword.now ∷ token.Word first.now ∷ token.Word second.now ∷ []) }
+    ensures name { HasName result }
+{
+    if is(keyword, b"edge") && is_name(first) && is_name(second) {
+        return Statement::Edge(first, second);
+    }
+    if is(keyword, b"category") && is_name(first) && is(second, b"number") {
+        return Statement::Category {
+            name: first,
+            number: true,
+        };
+    }
+    Statement::Other
+}
+
+/// What two words, a colon and the tokens behind it say.
+#[tactic(auto, unfolding(crate::specs::Statements::statement_of))]
+fn with_colon<'a>(keyword: &[u8], root: &'a [u8], formula: &'a [Token]) -> Statement<'a>
+    ensures says { said result
+        ≡ statement_of (token.Word keyword.now ∷ token.Word root.now ∷ token.Mark mark.Colon ∷ formula.now) }
+    ensures name { HasName result }
+{
+    if is(keyword, b"constraint") && is_name(root) {
+        return Statement::Constraint(root, formula);
+    }
+    Statement::Other
+}
+
 /// What the tokens of a line say.
 #[tactic(auto, unfolding(crate::specs::Statements::statement_of))]
 pub(crate) fn statement_in(tokens: &[Token]) -> Statement<'_>
@@ -39,51 +94,18 @@ pub(crate) fn statement_in(tokens: &[Token]) -> Statement<'_>
     ensures name { HasName result }
 {
     match tokens {
-        [Token::Word(keyword), Token::Word(name)] => {
-            if is(keyword.bytes(), b"schema") && is(name.bytes(), b"1") {
-                return Statement::Version(Version::One);
-            }
-            if is(keyword.bytes(), b"schema") && is(name.bytes(), b"2") {
-                return Statement::Version(Version::Two);
-            }
-            if is(keyword.bytes(), b"category") && is_name(name.bytes()) {
-                return Statement::Category {
-                    name: name.bytes(),
-                    number: false,
-                };
-            }
-            Statement::Other
-        }
+        [Token::Word(keyword), Token::Word(name)] => two_words(keyword.bytes(), name.bytes()),
         [
             Token::Word(keyword),
             Token::Word(first),
             Token::Word(second),
-        ] => {
-            if is(keyword.bytes(), b"edge") && is_name(first.bytes()) && is_name(second.bytes()) {
-                return Statement::Edge(first.bytes(), second.bytes());
-            }
-            if is(keyword.bytes(), b"category")
-                && is_name(first.bytes())
-                && is(second.bytes(), b"number")
-            {
-                return Statement::Category {
-                    name: first.bytes(),
-                    number: true,
-                };
-            }
-            Statement::Other
-        }
+        ] => three_words(keyword.bytes(), first.bytes(), second.bytes()),
         [
             Token::Word(keyword),
             Token::Word(root),
             Token::Mark(Mark::Colon),
             formula @ ..,
-        ] => {
-            if is(keyword.bytes(), b"constraint") && is_name(root.bytes()) {
-                return Statement::Constraint(root.bytes(), formula);
-            }
-            Statement::Other
-        }
+        ] => with_colon(keyword.bytes(), root.bytes(), formula),
         _ => Statement::Other,
     }
 }
