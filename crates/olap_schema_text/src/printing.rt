@@ -4,6 +4,7 @@ ghost use Rattle.olap_base.specs.Graph.{Edge, IsCategory, is_number};
 ghost use Rattle.olap_graph.specs.Lookups.{name_of_category};
 ghost use Rattle.olap_grammar.specs.Cutting.{joint_bytes, mark_bytes};
 ghost use Rattle.olap_grammar.specs.Grammar.{comparing};
+ghost use Rattle.olap_grammar.specs.Quoting.{quoted};
 ghost use Rattle.olap_numerals.specs.Numerals.{canonical};
 ghost use Rattle.olap_schema_text.specs.Printing.{atom_word, category_text, category_texts, compared_word, constraint_text, edge_text, ended_line, formula_text, joined_text, kind_text, list_text, names_after, rest_text, schema_text, text_of_lines};
 ghost use Rattle.olap_schema_text.specs.Judging.{schema_read};
@@ -107,16 +108,49 @@ fn push_number(out: &mut Vec<u8>, op: Op, n: i64) -> Result<(), AllocError>
     push_numeral(out, n)
 }
 
+/// What is compared, and a text.
+fn push_equality(
+    out: &mut Vec<u8>,
+    graph: &Graph,
+    root: CatId,
+    d: CatId,
+    text: &Text,
+) -> Result<(), AllocError>
+    ensures { let compared = compared_word graph.now root.0 d.0 in
+        OnOk result (out.new.items ≡ out.old.items ++ (compared ++ 32 ∷ 61 ∷ 32 ∷ quoted text.now)) }
+{
+    push_compared(out, graph, root, d)?;
+    out.extend_from_slice(b" = ")?;
+    push_quoted(out, text.bytes())
+}
+
+/// What is compared, how, and a number.
+fn push_comparison(
+    out: &mut Vec<u8>,
+    graph: &Graph,
+    root: CatId,
+    d: CatId,
+    op: Op,
+    n: i64,
+) -> Result<(), AllocError>
+    ensures { let mark = mark_bytes (comparing (op_of op)) in
+        let compared = compared_word graph.now root.0 d.0 in
+        OnOk result (out.new.items ≡ out.old.items ++ (compared ++ 32 ∷ (mark ++ 32 ∷ canonical n))) }
+{
+    push_compared(out, graph, root, d)?;
+    push_number(out, op, n)
+}
+
 /// The connective, with a space on each side.
 fn push_joint(out: &mut Vec<u8>, joint: Joint) -> Result<(), AllocError>
-    ensures { OnOk result (out.new.items ≡ out.old.items ++ joint_bytes joint) }
+    ensures { OnOk result (out.new.items ≡ out.old.items ++ 32 ∷ (joint_bytes joint ++ 32 ∷ [])) }
 {
     match joint {
-        Joint::Iff => out.extend_from_slice(b"<->"),
-        Joint::Implies => out.extend_from_slice(b"->"),
-        Joint::Xor => out.extend_from_slice(b"^"),
-        Joint::Or => out.extend_from_slice(b"|"),
-        Joint::And => out.extend_from_slice(b"&"),
+        Joint::Iff => out.extend_from_slice(b" <-> "),
+        Joint::Implies => out.extend_from_slice(b" -> "),
+        Joint::Xor => out.extend_from_slice(b" ^ "),
+        Joint::Or => out.extend_from_slice(b" | "),
+        Joint::And => out.extend_from_slice(b" & "),
     }
 }
 
@@ -136,15 +170,8 @@ fn push_formula(
         Formula::Path(categories) => push_atom(out, graph, root, b'_', categories.items()),
         Formula::Reach(d) => push_atom(out, graph, root, b'.', &[*d]),
         Formula::Via(d, e) => push_atom(out, graph, root, b'.', &[*d, *e]),
-        Formula::Equals(d, text) => {
-            push_compared(out, graph, root, *d)?;
-            out.extend_from_slice(b" = ")?;
-            push_quoted(out, text.bytes())
-        }
-        Formula::Compare(d, op, n) => {
-            push_compared(out, graph, root, *d)?;
-            push_number(out, *op, *n)
-        }
+        Formula::Equals(d, text) => push_equality(out, graph, root, *d, text),
+        Formula::Compare(d, op, n) => push_comparison(out, graph, root, *d, *op, *n),
         Formula::Not(f) => {
             out.extend_from_slice(b"!")?;
             push_formula(out, graph, root, f)
@@ -174,9 +201,7 @@ fn push_joined(
 {
     out.extend_from_slice(b"(")?;
     push_formula(out, graph, root, f)?;
-    out.extend_from_slice(b" ")?;
     push_joint(out, joint)?;
-    out.extend_from_slice(b" ")?;
     push_formula(out, graph, root, g)?;
     out.extend_from_slice(b")")
 }
