@@ -5,7 +5,7 @@ ghost use Rattle.olap_graph.specs.Lookups.{category_named};
 ghost use Rattle.olap_schema_text.specs.Atoms.{asks_number as asks_number_of, atom_fault, compares_numbers as compares_numbers_of, has_edge, has_numbers as has_numbers_of, is_known as is_known_of, is_no_atom as is_no_atom_of, is_repeated as is_repeated_of, kind_fault, lacks_edge as lacks_edge_of, named_fault, stands_in as stands_in_of, token_fault, word_fault};
 ghost use Rattle.olap_schema_text.specs.Reading.{Finds};
 ghost use Rattle.std.specs.List.{list_all};
-ghost use Rattle.std.specs.Prelude.{◌≡◌, ◌<◌, IfOk, false, length, true};
+ghost use Rattle.std.specs.Prelude.{◌≡◌, ◌<◌, IfOk, drop, false, length, true};
 
 use crate::statements::is;
 use crate::{FormulaRefusal, SchemaKind};
@@ -125,6 +125,14 @@ fn check_names(known: &Known, root: &[u8], parts: &[Text]) -> Result<(), Formula
     Ok(())
 }
 
+/// Whether an edge is missing between one name of a path and the next.
+fn is_path_broken(alloc: Global, known: &Known, root: &[u8], path: &[u8]) -> Result<bool, Memory>
+    ensures { IfOk result (λ b. b ≡ lacks_edge_of (graph_seen known.now) root.now (drop 1 (pieces_of 95 path.now))) }
+{
+    let names = pieces(alloc, b'_', path)?;
+    Ok(lacks_edge(known, root, &names[1..]))
+}
+
 /// The names of a path, the root first: known, from this root, each once and linked. They are listed only once they are
 /// known to be few.
 fn check_path(alloc: Global, known: &Known, root: &[u8], path: &[u8]) -> Result<(), FormulaRefusal>
@@ -140,8 +148,7 @@ fn check_path(alloc: Global, known: &Known, root: &[u8], path: &[u8]) -> Result<
     if is_path_repeated(alloc, path)? {
         return Err(FormulaRefusal::Fault(SchemaKind::RepeatedCategory));
     }
-    let names = pieces(alloc, b'_', path)?;
-    if lacks_edge(known, root, &names[1..]) {
+    if is_path_broken(alloc, known, root, path)? {
         return Err(FormulaRefusal::Fault(SchemaKind::NotAnEdge));
     }
     Ok(())

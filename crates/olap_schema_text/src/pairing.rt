@@ -2,13 +2,16 @@
 ghost use Rattle.olap_ast.specs.Formula.{Comparison, Equality, comparisons, comparisons_of_terms, equalities, equalities_of_terms};
 ghost use Rattle.olap_ast.specs.Trees.{formula_of, terms_of};
 ghost use Rattle.olap_ast.specs.Valid.{is_same_number as is_same_number_of, is_same_pair, with_number, with_pair};
-ghost use Rattle.olap_schema_text.specs.Reading.{number_pair_of, pair_of};
+ghost use Rattle.olap_schema_text.specs.Reading.{Finds, number_pair_of, pair_of};
+ghost use Rattle.olap_base.specs.Limits.{most_constants};
+ghost use Rattle.olap_schema_text.specs.declared.kinds.SchemaKind.TheVariants as kind;
 ghost use Rattle.std.specs.List.{list_any};
-ghost use Rattle.std.specs.Prelude.{◌≡◌, [], ◌∷◌, ◌++◌, OnOk, fold, map};
+ghost use Rattle.std.specs.Prelude.{◌≡◌, [], ◌∷◌, ◌++◌, ◌+◌, None, OnOk, Some, fold, if◌then◌else◌, length, map, nat_lt};
 
 use crate::statements::is;
+use crate::{FormulaRefusal, SchemaKind};
 use olap_ast::{Formula, Terms};
-use olap_base::{CatId, Memory, Text};
+use olap_base::{CatId, MOST_CONSTANTS, Memory, Text};
 use std::alloc::Global;
 
 /// A pair of a category and a text.
@@ -150,6 +153,28 @@ fn add_of_terms(
     'parts: while let Terms::More(f, rest) = left {
         add_pairs(alloc, pairs, numbers, f)?;
         left = rest;
+    }
+    Ok(())
+}
+
+/// Adds the pairs of a formula that are new, if there are then not too many.
+pub(crate) fn add_few_pairs(
+    alloc: Global,
+    pairs: &mut Vec<Pair>,
+    numbers: &mut Vec<NumberPair>,
+    f: &Formula,
+) -> Result<(), FormulaRefusal>
+    ensures few { let count = length (fold with_pair (map pair_of pairs.old.items) (equalities (formula_of f.now)))
+        + length (fold with_number (map number_pair_of numbers.old.items) (comparisons (formula_of f.now))) in
+        Finds result (if nat_lt most_constants count then Some kind.TooManyConstants else None) }
+    ensures texts { OnOk result (map pair_of pairs.new.items ≡ fold with_pair (map pair_of pairs.old.items)
+        (equalities (formula_of f.now))) }
+    ensures numbers { OnOk result (map number_pair_of numbers.new.items
+        ≡ fold with_number (map number_pair_of numbers.old.items) (comparisons (formula_of f.now))) }
+{
+    add_pairs(alloc, pairs, numbers, f)?;
+    if pairs.len() + numbers.len() > MOST_CONSTANTS {
+        return Err(FormulaRefusal::Fault(SchemaKind::TooManyConstants));
     }
     Ok(())
 }

@@ -4,27 +4,29 @@ ghost use Rattle.olap_ast.specs.Formula.{comparisons, equalities};
 ghost use Rattle.olap_ast.specs.Trees.{constraint_of, formula_of};
 ghost use Rattle.olap_ast.specs.Valid.{IsQuestion, pair_count, with_number, with_pair};
 ghost use Rattle.olap_base.specs.Graph.{IsDeclared};
-ghost use Rattle.olap_base.specs.Limits.{most_constants};
-ghost use Rattle.olap_graph.specs.Lookups.{name_of_category};
-ghost use Rattle.olap_schema_text.specs.Atoms.{atom_fault};
+ghost use Rattle.olap_base.specs.Limits.{most_constants, most_nodes};
 ghost use Rattle.olap_schema_text.specs.declared.kinds.SchemaKind.TheVariants as kind;
+ghost use Rattle.olap_grammar.specs.Brackets.{most_tokens};
+ghost use Rattle.olap_grammar.specs.Cutter.{kept_of};
 ghost use Rattle.olap_grammar.specs.CuttingMachine.{tokens_of};
+ghost use Rattle.olap_grammar.specs.Keeping.{BeginsFound};
+ghost use Rattle.olap_grammar.specs.declared.tokens.Token.{Token as Tokens};
 ghost use Rattle.olap_grammar.specs.declared.tokens.Version.TheVariants as version;
-ghost use Rattle.olap_schema_text.specs.Judging.{question_added, question_cut, question_read};
+ghost use Rattle.olap_schema_text.specs.Judging.{question_cut, question_formed, question_read};
 ghost use Rattle.olap_schema.specs.Readable.{AreTexts};
-ghost use Rattle.olap_schema_text.specs.Reading.{Finds, ReadsFormula, number_pair_of, pair_of};
+ghost use Rattle.olap_schema_text.specs.Reading.{Finds, IsFault, ReadsFormula, number_pair_of, pair_of};
 ghost use Rattle.olap_schema.specs.Schemas.{schema_of};
-ghost use Rattle.std.specs.Prelude.{◌≡◌, IfOk, OnOk, Some, None, flat_map, fold, if◌then◌else◌, map, nat_lt};
+ghost use Rattle.std.specs.Prelude.{◌≡◌, ◌≤◌, [], List, Option, IfOk, MatchResult, Ok, OnOk, Some, None, flat_map, fold, if◌then◌else◌, map, nat_lt};
 
 use crate::atoms::check_atoms;
 use crate::lines::is_bad;
 use crate::measuring::{MOST_TOKENS, has_bad_number, has_long_text, long_form_fault};
-use crate::pairing::{NumberPair, Pair, add_pairs};
+use crate::pairing::{NumberPair, Pair, add_few_pairs, add_pairs};
 use crate::reading::read_form;
 use crate::{FormulaRefusal, SchemaKind};
 use olap_ast::{Constraint, Formula};
-use olap_base::{CatId, MOST_CONSTANTS, Memory};
-use olap_grammar::{CutRefusal, Known, Token, Version, first_tokens};
+use olap_base::{CatId, Memory};
+use olap_grammar::{CutRefusal, FirstTokens, Known, Token, Version, first_tokens};
 use olap_schema::Schema;
 use std::alloc::Global;
 
@@ -49,6 +51,24 @@ fn add_of_constraints(
     Ok(())
 }
 
+/// Adds all pairs of a schema and a formula, if they are not too many.
+fn add_all_pairs(
+    alloc: Global,
+    pairs: &mut Vec<Pair>,
+    numbers: &mut Vec<NumberPair>,
+    schema: &Schema,
+    f: &Formula,
+) -> Result<(), FormulaRefusal>
+    requires pairs { pairs.old.items ≡ [] }
+    requires numbers { numbers.old.items ≡ [] }
+    ensures { let s = schema_of schema.now in
+        let count = pair_count (all_equalities s (formula_of f.now)) (all_comparisons s (formula_of f.now)) in
+        Finds result (if nat_lt most_constants count then Some kind.TooManyConstants else None) }
+{
+    add_of_constraints(alloc, pairs, numbers, schema.constraints())?;
+    add_few_pairs(alloc, pairs, numbers, f)
+}
+
 /// Whether there are too many pairs of a category and a constant in the schema and the formula.
 fn check_pairs(alloc: Global, schema: &Schema, f: &Formula) -> Result<(), FormulaRefusal>
     ensures { let s = schema_of schema.now in
@@ -57,33 +77,30 @@ fn check_pairs(alloc: Global, schema: &Schema, f: &Formula) -> Result<(), Formul
 {
     let mut pairs = Vec::new(alloc);
     let mut numbers = Vec::new(alloc);
-    add_of_constraints(alloc, &mut pairs, &mut numbers, schema.constraints())?;
-    add_pairs(alloc, &mut pairs, &mut numbers, f)?;
-    if pairs.len() + numbers.len() > MOST_CONSTANTS {
-        return Err(FormulaRefusal::Fault(SchemaKind::TooManyConstants));
-    }
-    Ok(())
+    add_all_pairs(alloc, &mut pairs, &mut numbers, schema, f)
 }
 
-/// What is left to check of a formula that was read: its atoms, and the limit of pairs.
+/// What is left to check of a formula that was read: its names and numbers, its atoms, and the limit of pairs.
 fn check_question(
     alloc: Global,
     schema: &Schema,
     root: CatId,
     tokens: &[Token],
-    f: Formula,
-) -> Result<Formula, FormulaRefusal>
+    f: &Formula,
+) -> Result<(), FormulaRefusal>
     requires { IsDeclared (schema_of schema.now).graph root.0 }
-    ensures { let s = schema_of schema.now in
-        let first = atom_fault s.graph (name_of_category s.graph root.0) tokens.now in
-        ReadsFormula result (question_added s (formula_of f) first) }
+    ensures { let read = question_formed (schema_of schema.now) root.0 tokens.now (Ok (formula_of f.now)) in
+        MatchResult result (λ _. read ≡ Ok (formula_of f.now)) (λ e. IsFault e read) }
 {
+    if has_long_text(tokens) {
+        return Err(FormulaRefusal::Fault(SchemaKind::TextTooLong));
+    }
+    if has_bad_number(tokens) {
+        return Err(FormulaRefusal::Fault(SchemaKind::BadNumber));
+    }
     let name = schema.graph().name(root);
     match check_atoms(alloc, &Known::Whole(schema.graph()), name.bytes(), tokens) {
-        Ok(()) => match check_pairs(alloc, schema, &f) {
-            Ok(()) => Ok(f),
-            Err(e) => Err(e),
-        },
+        Ok(()) => check_pairs(alloc, schema, f),
         Err(e) => Err(e),
     }
 }
@@ -98,19 +115,33 @@ fn read_tokens(
     requires { IsDeclared (schema_of schema.now).graph root.0 }
     ensures { ReadsFormula result (question_cut (schema_of schema.now) root.0 (Some tokens.now)) }
 {
-    let known = Known::Whole(schema.graph());
-    match read_form(alloc, &known, Version::Two, 0, tokens) {
-        Ok(f) => {
-            if has_long_text(tokens) {
-                return Err(FormulaRefusal::Fault(SchemaKind::TextTooLong));
-            }
-            if has_bad_number(tokens) {
-                return Err(FormulaRefusal::Fault(SchemaKind::BadNumber));
-            }
-            check_question(alloc, schema, root, tokens, f)
-        }
-        Err(e) => Err(e),
+    let f = read_form(
+        alloc,
+        &Known::Whole(schema.graph()),
+        Version::Two,
+        0,
+        tokens,
+    )?;
+    check_question(alloc, schema, root, tokens, &f)?;
+    Ok(f)
+}
+
+/// The formula of the first tokens of a text.
+fn read_found(
+    alloc: Global,
+    schema: &Schema,
+    root: CatId,
+    found: &FirstTokens,
+) -> Result<Formula, FormulaRefusal>
+    requires declared { IsDeclared (schema_of schema.now).graph root.0 }
+    requires room { most_tokens most_nodes ≤ found.now.most }
+    ensures { (ts : Option (List Tokens)) → BeginsFound version.Two (kept_of found.now) ts
+        → ReadsFormula result (question_cut (schema_of schema.now) root.0 ts) }
+{
+    if found.more {
+        return Err(FormulaRefusal::Fault(long_form_fault(0, 0, &found.tally)));
     }
+    read_tokens(alloc, schema, root, &found.first)
 }
 
 /// The formula of a text without a bad byte.
@@ -124,12 +155,7 @@ fn read_question(
     ensures { ReadsFormula result (question_cut (schema_of schema.now) root.0 (tokens_of version.Two text.now)) }
 {
     match first_tokens(alloc, Version::Two, text, MOST_TOKENS) {
-        Ok(found) => {
-            if found.more {
-                return Err(FormulaRefusal::Fault(long_form_fault(0, 0, &found.tally)));
-            }
-            read_tokens(alloc, schema, root, &found.first)
-        }
+        Ok(found) => read_found(alloc, schema, root, &found),
         Err(CutRefusal::BadForm) => Err(FormulaRefusal::Fault(SchemaKind::BadForm)),
         Err(CutRefusal::Memory) => Err(FormulaRefusal::Memory),
     }

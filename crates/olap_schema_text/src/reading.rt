@@ -6,30 +6,29 @@ ghost use Rattle.olap_base.specs.Limits.{most_nodes, most_text_bytes};
 ghost use Rattle.olap_graph.specs.Building.{IsCategoryCause, category_refusal, edge_refusal, with_kind};
 ghost use Rattle.olap_grammar.specs.Known.{graph_seen};
 ghost use Rattle.olap_graph.specs.Lookups.{category_named};
-ghost use Rattle.olap_schema_text.specs.Judging.{allows_numbers, category_read, constraint_added, constraint_read, edge_added, edge_read, formed_read, form_read, line_read, nothing_above, root_read, tokens_read, version_at};
-ghost use Rattle.olap_schema_text.specs.Reading.{Reads, ReadsFormula, above_of, said};
-ghost use Rattle.olap_ast.specs.Formula.{comparisons, equalities};
-ghost use Rattle.olap_ast.specs.Valid.{with_number, with_pair};
+ghost use Rattle.olap_schema_text.specs.Judging.{allows_numbers, atoms_read, category_read, constraint_read, edge_added, edge_read, formed_read, form_read, line_read, nothing_above, root_read, tokens_read, version_at};
+ghost use Rattle.olap_schema_text.specs.Reading.{IsFault, Reads, ReadsFormula, above_of, said};
+ghost use Rattle.olap_ast.specs.Formula.{Formula as Meaning};
+ghost use Rattle.olap_ast.specs.Schema.{Constraint as Entry};
 ghost use Rattle.olap_grammar.specs.Brackets.{most_tokens};
 ghost use Rattle.olap_grammar.specs.Cutter.{kept_of};
 ghost use Rattle.olap_grammar.specs.declared.tokens.Token.{Token as Tokens};
+ghost use Rattle.olap_grammar.specs.declared.tokens.Version.{Version as Versions};
 ghost use Rattle.olap_grammar.specs.CuttingMachine.{tokens_of};
 ghost use Rattle.olap_grammar.specs.Keeping.{BeginsFound};
 ghost use Rattle.olap_grammar.specs.Nodes.{nodes_of};
-ghost use Rattle.std.specs.Prelude.{◌≡◌, ◌≤◌, ◌+◌, ℕ, List, Option, Err, None, Some, IfErr, IfOk, IsTrue, fold, length, true};
+ghost use Rattle.std.specs.Prelude.{◌≡◌, ◌≤◌, ◌+◌, ◌++◌, ◌∷◌, [], ℕ, List, Option, Err, None, Ok, Some, IfErr, IfOk, IsTrue, MatchResult, OnOk, length, true};
 
 use crate::atoms::check_atoms;
 use crate::lines::{is_bad, is_quiet};
 use crate::measuring::{
     MOST_TOKENS, has_bad_number, has_long_text, long_form_fault, nodes, opens_too_deep,
 };
-use crate::pairing::{NumberPair, Pair, add_pairs};
+use crate::pairing::{NumberPair, Pair, add_few_pairs};
 use crate::statements::{Statement, statement_in};
 use crate::{FormulaRefusal, SchemaKind};
 use olap_ast::{Constraint, Formula};
-use olap_base::{
-    CatId, MOST_CONSTANTS, MOST_CONSTRAINTS, MOST_NODES, MOST_TEXT_BYTES, Memory, Text,
-};
+use olap_base::{CatId, MOST_CONSTRAINTS, MOST_NODES, MOST_TEXT_BYTES, Memory, Text};
 use olap_grammar::{
     CutRefusal, FirstTokens, FormRefusal, Known, Token, Version, first_tokens, formula,
 };
@@ -185,6 +184,19 @@ pub(crate) fn read_form(
     }
 }
 
+/// Puts a constraint of so many nodes behind the others.
+fn push_constraint(reading: &mut Reading, root: CatId, nodes: u16, f: Formula) -> Result<(), Memory>
+    requires { (above_of reading.old).nodes + nodes ≤ most_nodes }
+    ensures { let old = above_of reading.old in
+        let added : Entry = record { root = root.0; formula = formula_of f } in
+        OnOk result (above_of reading.new
+        ≡ record old { constraints = old.constraints ++ added ∷ []; nodes = old.nodes + nodes }) }
+{
+    reading.constraints.push(Constraint { root, formula: f })?;
+    reading.nodes += nodes;
+    Ok(())
+}
+
 /// Adds a constraint whose formula has no fault but, it may be, too many constants.
 fn add_constraint(
     alloc: Global,
@@ -195,24 +207,63 @@ fn add_constraint(
     f: Formula,
 ) -> Result<(), FormulaRefusal>
     requires { (above_of reading.old).nodes + nodes_of version tokens.now ≤ most_nodes }
-    ensures { let old = above_of reading.old in
-        let pairs = fold with_pair old.pairs (equalities (formula_of f)) in
-        let numbers = fold with_number old.numbers (comparisons (formula_of f)) in
-        Reads result (above_of reading.new)
-        (constraint_added old version root.0 tokens.now (formula_of f) pairs numbers) }
+    ensures { Reads result (above_of reading.new)
+        (atoms_read (above_of reading.old) version root.0 tokens.now (formula_of f) None) }
 {
-    add_pairs(alloc, &mut reading.pairs, &mut reading.numbers, &f)?;
-    if reading.pairs.len() + reading.numbers.len() > MOST_CONSTANTS {
-        return Err(FormulaRefusal::Fault(SchemaKind::TooManyConstants));
-    }
-    reading.constraints.push(Constraint { root, formula: f })?;
-    let more = nodes(version, tokens) as u16;
-    reading.nodes += more;
+    add_few_pairs(alloc, &mut reading.pairs, &mut reading.numbers, &f)?;
+    push_constraint(reading, root, nodes(version, tokens) as u16, f)?;
     Ok(())
 }
 
-/// The root, and then the atoms.
-fn read_rooted(
+/// The root, if it and the atoms have no fault.
+fn root_of(
+    alloc: Global,
+    reading: &Reading,
+    name: &[u8],
+    tokens: &[Token],
+) -> Result<CatId, FormulaRefusal>
+    ensures { let above = above_of reading.now in
+        let found = category_named above.graph name.now in
+        (v : Versions) (f : Meaning) → MatchResult result
+        (λ root. root_read above v name.now tokens.now f found ≡ atoms_read above v root.0 tokens.now f None)
+        (λ e. IsFault e (root_read above v name.now tokens.now f found)) }
+{
+    let Some(root) = reading.builder.category(name) else {
+        return Err(FormulaRefusal::Fault(SchemaKind::UnknownCategory));
+    };
+    if root == CatId(0) {
+        return Err(FormulaRefusal::Fault(SchemaKind::RootIsAll));
+    }
+    if reading.constraints.len() >= MOST_CONSTRAINTS {
+        return Err(FormulaRefusal::Fault(SchemaKind::TooManyConstraints));
+    }
+    check_atoms(alloc, &Known::Growing(&reading.builder), name, tokens)?;
+    Ok(root)
+}
+
+/// The root of a constraint whose tokens are a formula, if they have no fault but, it may be, too many constants.
+fn checked_root(
+    alloc: Global,
+    reading: &Reading,
+    name: &[u8],
+    tokens: &[Token],
+) -> Result<CatId, FormulaRefusal>
+    ensures { let above = above_of reading.now in
+        (v : Versions) (f : Meaning) → MatchResult result
+        (λ root. formed_read above v name.now tokens.now (Ok f) ≡ atoms_read above v root.0 tokens.now f None)
+        (λ e. IsFault e (formed_read above v name.now tokens.now (Ok f))) }
+{
+    if name.len() > MOST_TEXT_BYTES || has_long_text(tokens) {
+        return Err(FormulaRefusal::Fault(SchemaKind::TextTooLong));
+    }
+    if has_bad_number(tokens) {
+        return Err(FormulaRefusal::Fault(SchemaKind::BadNumber));
+    }
+    root_of(alloc, reading, name, tokens)
+}
+
+/// A constraint's line, after the reading of its formula.
+fn read_formed(
     alloc: Global,
     reading: &mut Reading,
     version: Version,
@@ -221,24 +272,12 @@ fn read_rooted(
     f: Formula,
 ) -> Result<(), FormulaRefusal>
     requires { (above_of reading.old).nodes + nodes_of version tokens.now ≤ most_nodes }
-    ensures { let old = above_of reading.old in
-        let root = category_named old.graph name.now in
-        Reads result (above_of reading.new) (root_read old version name.now tokens.now (formula_of f) root) }
+    ensures { Reads result (above_of reading.new)
+        (formed_read (above_of reading.old) version name.now tokens.now (Ok (formula_of f))) }
 {
-    match reading.builder.category(name) {
-        Some(root) => {
-            if root == CatId(0) {
-                return Err(FormulaRefusal::Fault(SchemaKind::RootIsAll));
-            }
-            if reading.constraints.len() >= MOST_CONSTRAINTS {
-                return Err(FormulaRefusal::Fault(SchemaKind::TooManyConstraints));
-            }
-            match check_atoms(alloc, &Known::Growing(&reading.builder), name, tokens) {
-                Ok(()) => add_constraint(alloc, reading, version, root, tokens, f),
-                Err(e) => Err(e),
-            }
-        }
-        None => Err(FormulaRefusal::Fault(SchemaKind::UnknownCategory)),
+    match checked_root(alloc, reading, name, tokens) {
+        Ok(root) => add_constraint(alloc, reading, version, root, tokens, f),
+        Err(e) => Err(e),
     }
 }
 
@@ -260,15 +299,7 @@ fn read_constraint(
         reading.nodes,
         tokens,
     ) {
-        Ok(f) => {
-            if name.len() > MOST_TEXT_BYTES || has_long_text(tokens) {
-                return Err(FormulaRefusal::Fault(SchemaKind::TextTooLong));
-            }
-            if has_bad_number(tokens) {
-                return Err(FormulaRefusal::Fault(SchemaKind::BadNumber));
-            }
-            read_rooted(alloc, reading, version, name, tokens, f)
-        }
+        Ok(f) => read_formed(alloc, reading, version, name, tokens, f),
         Err(e) => Err(e),
     }
 }
@@ -316,6 +347,24 @@ fn long_line_fault(reading: &Reading, found: &FirstTokens) -> SchemaKind
     }
 }
 
+/// A line that says something, by its first tokens.
+fn read_found(
+    alloc: Global,
+    reading: &mut Reading,
+    n: u64,
+    found: &FirstTokens,
+) -> Result<(), FormulaRefusal>
+    requires room { most_tokens most_nodes + 3 ≤ found.now.most }
+    ensures { let old = above_of reading.old in
+        (ts : Option (List Tokens)) → BeginsFound (version_at old) (kept_of found.now) ts
+        → Reads result (above_of reading.new) (tokens_read old n ts) }
+{
+    if found.more {
+        return Err(FormulaRefusal::Fault(long_line_fault(reading, found)));
+    }
+    read_statement(alloc, reading, n, &found.first)
+}
+
 /// A line that says something. Before the version is known, it is cut by the first.
 fn read_saying(
     alloc: Global,
@@ -328,12 +377,7 @@ fn read_saying(
 {
     let version = reading.version.unwrap_or(Version::One);
     match first_tokens(alloc, version, line, MOST_TOKENS) {
-        Ok(found) => {
-            if found.more {
-                return Err(FormulaRefusal::Fault(long_line_fault(reading, &found)));
-            }
-            read_statement(alloc, reading, n, &found.first)
-        }
+        Ok(found) => read_found(alloc, reading, n, &found),
         Err(CutRefusal::BadForm) => Err(FormulaRefusal::Fault(SchemaKind::BadForm)),
         Err(CutRefusal::Memory) => Err(FormulaRefusal::Memory),
     }
