@@ -5,7 +5,7 @@ ghost use Rattle.olap_graph.specs.Lookups.{category_named};
 ghost use Rattle.olap_schema_text.specs.Atoms.{asks_number as asks_number_of, atom_fault, compares_numbers as compares_numbers_of, has_edge, has_numbers as has_numbers_of, is_known as is_known_of, is_no_atom as is_no_atom_of, is_repeated as is_repeated_of, kind_fault, lacks_edge as lacks_edge_of, named_fault, stands_in as stands_in_of, token_fault, word_fault};
 ghost use Rattle.olap_schema_text.specs.Reading.{Finds};
 ghost use Rattle.std.specs.List.{list_all};
-ghost use Rattle.std.specs.Prelude.{◌≡◌, ◌<◌, IfOk, drop, false, length, true};
+ghost use Rattle.std.specs.Prelude.{◌≡◌, ◌<◌, [], IfOk, drop, false, length, true};
 
 use crate::statements::is;
 use crate::{FormulaRefusal, SchemaKind};
@@ -61,22 +61,30 @@ fn is_path_known(known: &Known, path: Option<&[u8]>) -> bool
     true
 }
 
-/// Whether a name comes twice in a path. The names before the first that does are kept: of known names no more than
-/// there are categories.
-fn is_path_repeated(alloc: Global, path: &[u8]) -> Result<bool, Memory>
+/// Whether a name comes twice in a path, where none stands before it. The names before the first that does are kept.
+fn repeats(alloc: Global, before: &mut Vec<Text>, path: &[u8]) -> Result<bool, Memory>
+    requires { before.old.items ≡ [] }
     ensures { IfOk result (λ b. b ≡ is_repeated_of (pieces_of 95 path.now)) }
 {
-    let mut before = Vec::new(alloc);
     let mut left = Some(path);
     'names: while let Some(text) = left {
         let (name, others) = first_piece(b'_', text);
-        if stands_in(&before, name) {
+        if stands_in(before, name) {
             return Ok(true);
         }
         before.push(Text::from_bytes(alloc, name)?)?;
         left = others;
     }
     Ok(false)
+}
+
+/// Whether a name comes twice in a path. The names before the first that does are kept: of known names no more than
+/// there are categories.
+fn is_path_repeated(alloc: Global, path: &[u8]) -> Result<bool, Memory>
+    ensures { IfOk result (λ b. b ≡ is_repeated_of (pieces_of 95 path.now)) }
+{
+    let mut before = Vec::new(alloc);
+    repeats(alloc, &mut before, path)
 }
 
 /// Whether an edge leads from one to the other.

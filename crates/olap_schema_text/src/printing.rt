@@ -257,14 +257,21 @@ fn push_kind(out: &mut Vec<u8>, number: bool) -> Result<(), AllocError>
     }
 }
 
+/// A word with the space behind it, and a name.
+fn push_named(out: &mut Vec<u8>, word: &[u8], name: &[u8]) -> Result<(), AllocError>
+    ensures { OnOk result (out.new.items ≡ out.old.items ++ (word.now ++ name.now)) }
+{
+    out.extend_from_slice(word)?;
+    out.extend_from_slice(name)
+}
+
 /// The line of a category.
 fn push_category(out: &mut Vec<u8>, graph: &Graph, c: CatId) -> Result<(), AllocError>
     requires { IsCategory graph.now c.0 }
     ensures { OnOk result (out.new.items ≡ out.old.items ++ ended_line
         (category_text (name_of_category graph.now c.0) (is_number graph.now c.0))) }
 {
-    out.extend_from_slice(b"category ")?;
-    out.extend_from_slice(name(graph, c))?;
+    push_named(out, b"category ", name(graph, c))?;
     push_kind(out, graph.is_number(c))?;
     out.extend_from_slice(b"\n")
 }
@@ -293,10 +300,8 @@ fn push_edge(
     ensures { let edge : Edge = record { child = child.0; parent = parent.0 } in
         OnOk result (out.new.items ≡ out.old.items ++ ended_line (edge_text graph.now edge)) }
 {
-    out.extend_from_slice(b"edge ")?;
-    out.extend_from_slice(name(graph, child))?;
-    out.extend_from_slice(b" ")?;
-    out.extend_from_slice(name(graph, parent))?;
+    push_named(out, b"edge ", name(graph, child))?;
+    push_named(out, b" ", name(graph, parent))?;
     out.extend_from_slice(b"\n")
 }
 

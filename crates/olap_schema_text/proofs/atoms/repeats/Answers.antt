@@ -3,11 +3,11 @@ use Rattle.std.proofs.Common.{◌≡◌, ◌++◌, ◌∷◌, ◌∙◌, [], Lis
 use Rattle.olap_grammar.specs.Words.{pieces_behind, pieces_of}
 use Rattle.olap_schema_text.specs.Atoms.{is_repeated, stands_in}
 use Rattle.olap_schema_text.proofs.RepeatLemmas.{again, none_twice, once}
-use Rattle.olap_schema_text.proofs.atoms.is_path_repeated.Goals as goal
+use Rattle.olap_schema_text.proofs.atoms.repeats.Goals as goal
 
 pub names-init : goal.names-init
 names-init c =
-    let e = c.new-before.ensures.items in
+    let e = c.requires in
     record {
       seen = ap (λ (t : List (List ℕ)). is_repeated (t ++ pieces_of 95 c.args.path.now)) (sym e);
       once = ap is_repeated e ∙ none_twice;

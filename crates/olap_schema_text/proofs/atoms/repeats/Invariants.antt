@@ -3,7 +3,7 @@ use Rattle.std.proofs.Common.{◌≡◌, ◌++◌, false}
 use Rattle.olap_grammar.specs.Words.{pieces_behind, pieces_of}
 use Rattle.olap_base.proofs.PiecesLeft.{size_left}
 use Rattle.olap_schema_text.specs.Atoms.{is_repeated}
-use Rattle.olap_schema_text.proofs.atoms.is_path_repeated.Given as goal
+use Rattle.olap_schema_text.proofs.atoms.repeats.Given as goal
 
 abbrev pub invariant-names : goal.invariant-names
 invariant-names l = record {
