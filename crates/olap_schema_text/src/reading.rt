@@ -74,16 +74,20 @@ fn has_numbers(version: Version) -> bool
 
 /// Adds a category, whose members' names are texts or numbers.
 fn add_category(
+    alloc: Global,
     builder: &mut GraphBuilder,
-    name: Text,
+    name: &[u8],
     number: bool,
 ) -> Result<CatId, CategoryRefusal>
-    requires name { IsCategoryName name }
-    requires short { length name ≤ most_text_bytes }
-    ensures ok { IfOk result (λ c. category_refusal builder.old name ≡ None) }
-    ensures added { IfOk result (λ _. builder.new ≡ with_kind number builder.old name) }
-    ensures err { IfErr result (IsCategoryCause (category_refusal builder.old name)) }
+    requires name { IsCategoryName name.now }
+    requires short { length name.now ≤ most_text_bytes }
+    ensures ok { IfOk result (λ c. category_refusal builder.old name.now ≡ None) }
+    ensures added { IfOk result (λ _. builder.new ≡ with_kind number builder.old name.now) }
+    ensures err { IfErr result (IsCategoryCause (category_refusal builder.old name.now)) }
 {
+    let Ok(name) = Text::from_bytes(alloc, name) else {
+        return Err(CategoryRefusal::Memory);
+    };
     if number {
         builder.add_number_category(name)
     } else {
@@ -109,8 +113,7 @@ fn read_category(
     if name.len() > MOST_TEXT_BYTES {
         return Err(FormulaRefusal::Fault(SchemaKind::TextTooLong));
     }
-    let name = Text::from_bytes(alloc, name)?;
-    match add_category(&mut reading.builder, name, number) {
+    match add_category(alloc, &mut reading.builder, name, number) {
         Ok(_) => {
             reading.category_lines.push(n)?;
             Ok(())
