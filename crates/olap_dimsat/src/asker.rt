@@ -3,6 +3,7 @@ ghost use Rattle.std.specs.Prelude.{◌≡◌, [], IfOk, length};
 ghost use Rattle.olap_ast.specs.Trees.{formula_of};
 ghost use Rattle.olap_base.specs.Graph.{IsCategory, category_count};
 ghost use Rattle.olap_dimsat.specs.Asking.{task_at, task_of};
+ghost use Rattle.olap_frozen.specs.LeastFound.{HasNothing};
 ghost use Rattle.olap_schema.specs.Schemas.{schema_of};
 
 use olap_ast::{Constraint, Formula};
@@ -66,17 +67,37 @@ pub struct Leaf {
     pub(crate) stood: usize,
 }
 
+/// A value with this root, so many edges and names, and nothing present.
+pub(crate) fn nothing(
+    alloc: Global,
+    root: CatId,
+    edges: usize,
+    names: usize,
+) -> Result<Frozen, Memory>
+    ensures root { IfOk result (λ f. f.root ≡ root) }
+    ensures edges { IfOk result (λ f. length f.edges ≡ edges) }
+    ensures names { IfOk result (λ f. length f.names ≡ names) }
+    ensures nothing { IfOk result HasNothing }
+{
+    Ok(Frozen {
+        root,
+        edges: List::from_vec(vec![in alloc; false; edges]?),
+        names: List::from_vec(vec![in alloc; 0; names]?),
+    })
+}
+
 /// A value with nothing present.
 pub(crate) fn blank(alloc: Global, graph: &Graph, root: CatId) -> Result<Frozen, Memory>
     ensures root { IfOk result (λ f. f.root ≡ root) }
     ensures edges { IfOk result (λ f. length f.edges ≡ length graph.now.edges) }
     ensures names { IfOk result (λ f. length f.names ≡ category_count graph.now) }
 {
-    Ok(Frozen {
+    nothing(
+        alloc,
         root,
-        edges: List::from_vec(vec![in alloc; false; usize::from(graph.edges())]?),
-        names: List::from_vec(vec![in alloc; 0; usize::from(graph.categories())]?),
-    })
+        usize::from(graph.edges()),
+        usize::from(graph.categories()),
+    )
 }
 
 impl Leaf {
@@ -92,11 +113,13 @@ impl Leaf {
     {
         // Called for its clauses: there are few categories.
         let _few = graph.categories();
+        let frozen = blank(alloc, graph, root)?;
+        let room = Room::new(alloc, graph)?;
         let decided = Decisions::new(alloc, graph, root)?;
         Ok(Leaf {
             decided,
-            frozen: blank(alloc, graph, root)?,
-            room: Room::new(alloc, graph)?,
+            frozen,
+            room,
             straight_down: true,
             second: None,
             stood: 0,

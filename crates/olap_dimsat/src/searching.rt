@@ -14,7 +14,7 @@ ghost use Rattle.olap_frozen.specs.LeastFound.{HasNothing, IsLeastFound, frozen_
 ghost use Rattle.olap_frozen.specs.Leaves.{IsSized, IsZeroAtAll};
 ghost use Rattle.olap_schema.specs.Schemas.{schema_of};
 
-use crate::asker::{Asker, Leaf, blank};
+use crate::asker::{Asker, Leaf, blank, nothing};
 use crate::existing::exists;
 use crate::listing::list;
 use crate::posing::pose;
@@ -92,9 +92,9 @@ impl Search {
     {
         let graph = schema.graph();
         let constraints = schema.constraints();
-        let posed = pose(alloc, graph, constraints, root, question)?;
-        let leaf = Leaf::new(alloc, graph, root)?;
         let best = blank(alloc, graph, root)?;
+        let leaf = Leaf::new(alloc, graph, root)?;
+        let posed = pose(alloc, graph, constraints, root, question)?;
         Ok(Search {
             root,
             candidates: posed.candidates,
@@ -114,11 +114,7 @@ impl Search {
     {
         let edges = self.best.edges.items().len();
         let names = self.best.names.items().len();
-        Ok(Frozen {
-            root: self.root,
-            edges: List::from_vec(vec![in self.alloc; false; edges]?),
-            names: List::from_vec(vec![in self.alloc; 0; names]?),
-        })
+        nothing(self.alloc, self.root, edges, names)
     }
 
     /// The least frozen dimension whose root makes the question true. False where there is none; then `into` stays.
