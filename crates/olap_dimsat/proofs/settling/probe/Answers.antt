@@ -1,4 +1,10 @@
+use Rattle.std.proofs.Common.{List, refl, sym, subst}
+use Rattle.olap_clauses.specs.declared.trails.Step.{Step}
+use Rattle.olap_clauses.specs.Engines.{trail_of}
+use Rattle.olap_clauses.specs.Standing.{Agrees}
 use Rattle.olap_dimsat.specs.Asking.{task_of}
+use Rattle.olap_dimsat.specs.Pinned.{AreShaped, SayAt}
+use Rattle.olap_dimsat.proofs.SettleLemmas.{longer_same}
 use Rattle.olap_dimsat.proofs.WitnessLemmas.{ready_still}
 use Rattle.olap_dimsat.proofs.settling.probe.Goals as goal
 
@@ -11,3 +17,28 @@ pub exists-requires-clause-ready : goal.exists-requires-clause-ready
 exists-requires-clause-ready c =
     ready_still (task_of c.args.a.now) c.args.engine.now c.assume_at.new.engine c.requires.ready
     (λ v m a. c.assume_at.ensures.admits v a)
+
+pub returns-clause-yes : goal.returns-clause-yes
+returns-clause-yes c = λ e.
+    let t = task_of c.args.a.now in
+    let old = trail_of c.args.engine.now in
+    let x = c.exists.ensures in record {
+      say = subst (λ (ss : List Step). SayAt t c.args.p c.args.x old ss) (sym x.trail)
+          (c.if-not-assume_at.ensures.yes refl);
+      one = x.one e;
+      agrees = λ v r. subst (λ (ss : List Step). Agrees v ss) (sym x.trail) (x.agrees e v r);
+    }
+
+pub returns-clause-no : goal.returns-clause-no
+returns-clause-no c = λ e f v one r a q.
+    c.exists.ensures.none e f v one r ((c.if-not-assume_at.ensures.yes refl f v one r).1 (a, q))
+
+pub returns-clause-longer : goal.returns-clause-longer
+returns-clause-longer c =
+    longer_same (trail_of c.args.engine.now) (trail_of c.assume_at.new.engine) (trail_of c.exists.new.engine)
+    c.assume_at.ensures.longer c.exists.ensures.trail
+
+pub returns-clause-shaped : goal.returns-clause-shaped
+returns-clause-shaped c =
+    subst (λ (ss : List Step). AreShaped (task_of c.args.a.now) ss) (sym c.exists.ensures.trail)
+    c.assume_at.ensures.shaped

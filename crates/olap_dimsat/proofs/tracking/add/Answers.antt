@@ -1,7 +1,9 @@
-use Rattle.std.proofs.Common.{Bool, true, subst}
+use Rattle.std.proofs.Common.{Bool, true, sym, subst}
+use Rattle.olap_trail.specs.Decisions.{Decided}
 use Rattle.olap_dimsat.specs.Asking.{task_of}
 use Rattle.olap_dimsat.specs.Reads.{EdgeReads}
-use Rattle.olap_dimsat.proofs.TrackingLemmas.{cycle_none, shortcut_none}
+use Rattle.olap_dimsat.specs.Tracking.{AreRead}
+use Rattle.olap_dimsat.proofs.TrackingLemmas.{cycle_none, read_more, shortcut_none}
 use Rattle.olap_dimsat.proofs.tracking.add.Goals as goal
 
 pub returns-then-closes_cycle-clause-none : goal.returns-then-closes_cycle-clause-none
@@ -21,3 +23,11 @@ returns-then-makes_shortcut-clause-none c = λ _.
     subst (λ (b : Bool). EdgeReads t c.args.trail.now e b) c.if-present.true c.requires.reads in
     shortcut_none t c.args.trail.now c.requires.task c.args.decided.now c.requires.of c.requires.read e reads
     (c.makes_shortcut.ensures.0 c.if-makes_shortcut.true)
+
+pub returns-clause-read : goal.returns-clause-read
+returns-clause-read c =
+    let t = task_of c.args.a.now in
+    let d = c.args.decided.now in
+    subst (λ (x : Decided). AreRead t c.args.trail.now x.decisions) (sym c.decide.ensures)
+    (read_more t c.args.trail.now d.decisions (record { edge = c.args.e.0; present = c.args.present }) c.requires.read
+    c.requires.reads)
