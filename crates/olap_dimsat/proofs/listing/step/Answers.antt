@@ -1,7 +1,9 @@
 use Rattle.std.proofs.Common.{refl, arith}
+use Rattle.olap_clauses.specs.Engines.{variables_of}
 use Rattle.olap_frozen.specs.Leaves.{chosen_of}
 use Rattle.olap_dimsat.specs.Asking.{task_of}
 use Rattle.olap_dimsat.proofs.FollowingLemmas.{next_of, none_full}
+use Rattle.olap_dimsat.proofs.MadeLemmas.{suited_still}
 use Rattle.olap_dimsat.proofs.listing.step.Goals as goal
 
 pub returns-then-number-most-clause-none : goal.returns-then-number-most-clause-none
@@ -10,6 +12,37 @@ returns-then-number-most-clause-none c = λ e.
     none_full (task_of c.args.a.now) c.args.p c.number_at-number.result c.most_at-most.result
     (chosen_of old.edges old.names) c.requires.place c.number_at-number.ensures.number c.most_at-most.ensures.most
     (let h = c.if-number-most.true in omega arith)
+
+pub agree-requires : goal.agree-requires
+agree-requires c = record {
+  task = c.requires.suited.task;
+  place = c.requires.place;
+  ready = c.requires.ready;
+  best = c.requires.best;
+  one = c.requires.one;
+  variables = c.requires.suited.variables;
+}
+
+pub raise-requires : goal.raise-requires
+raise-requires c = record {
+  place = c.requires.place;
+  number = c.number_at-number.ensures.number;
+  in_range = c.most_at-most.ensures.in_range;
+  most = c.most_at-most.ensures.most;
+  suited = suited_still (task_of c.args.a.now) c.args.leaf.now (variables_of c.args.engine.now)
+      (variables_of c.agree.new.engine) c.requires.suited c.agree.ensures.variables;
+  ready = c.agree.ensures.ready;
+  best = c.requires.best;
+  pinned = c.agree.ensures.pinned;
+}
+
+pub settle_from-requires : goal.settle_from-requires
+settle_from-requires c = record {
+  suited = c.raise.ensures.suited;
+  ready = c.raise.ensures.ready;
+  best = c.raise.ensures.best;
+  pinned = c.if-not-raise.ensures.pinned refl;
+}
 
 pub returns-clause-some : goal.returns-clause-some
 returns-clause-some c = λ e.
