@@ -1,13 +1,49 @@
 use Rattle.std.proofs.Common.{List, refl, sym, subst, ◌∙◌, inl, inr, arith}
 use Rattle.olap_clauses.specs.declared.trails.Step.{Step}
-use Rattle.olap_clauses.specs.Engines.{trail_of}
+use Rattle.olap_clauses.specs.Engines.{trail_of, variables_of}
 use Rattle.olap_clauses.specs.Standing.{Agrees}
 use Rattle.olap_frozen.specs.declared.frozen.Frozen.{Frozen}
 use Rattle.olap_frozen.specs.Leaves.{chosen_of}
-use Rattle.olap_dimsat.specs.Asking.{task_of}
-use Rattle.olap_dimsat.specs.Pinned.{IsReplaced, NoneLess}
+use Rattle.olap_dimsat.specs.Asking.{IsFor, task_of}
+use Rattle.olap_dimsat.specs.Pinned.{IsPinned, IsReplaced, IsSame, NoneLess}
+use Rattle.olap_dimsat.proofs.MadeLemmas.{suited_still}
 use Rattle.olap_dimsat.proofs.SettleLemmas.{at_or_below, none_less}
 use Rattle.olap_dimsat.proofs.settling.settle.Goals as goal
+
+pub replace-requires : goal.replace-requires
+replace-requires c =
+    let t = task_of c.args.a.now in
+    let old = c.args.best.now in
+    let i = c.numbers.invariant in
+    let n = c.number_at-number.ensures.in_range in
+    let b = c.numbers-test.true in record {
+      place = c.requires.place;
+      number = record {
+        edge = λ h. let m = n.edge h in omega arith;
+        name = λ h. let m = n.name h in omega arith;
+      };
+      suited = i.suited;
+      ready = i.ready;
+      best = subst (λ (f : Frozen). IsFor t f) (sym i.best) c.requires.best;
+      pinned = subst (λ (f : Frozen). IsPinned t c.args.p (chosen_of f.edges f.names) (trail_of c.numbers.engine))
+          (sym i.best) (subst (λ (ss : List Step). IsPinned t c.args.p (chosen_of old.edges old.names) ss)
+          (sym i.trail) c.requires.pinned);
+    }
+
+pub keep-requires : goal.keep-requires
+keep-requires c =
+    let t = task_of c.args.a.now in
+    let old = c.args.best.now in
+    let i = c.numbers.invariant in record {
+      task = c.requires.suited.task;
+      place = c.requires.place;
+      ready = i.ready;
+      best = subst (λ (f : Frozen). IsFor t f) (sym i.best) c.requires.best;
+      pinned = subst (λ (f : Frozen). IsPinned t c.args.p (chosen_of f.edges f.names) (trail_of c.numbers.engine))
+          (sym i.best) (subst (λ (ss : List Step). IsPinned t c.args.p (chosen_of old.edges old.names) ss)
+          (sym i.trail) c.requires.pinned);
+      variables = i.suited.variables;
+    }
 
 pub numbers-preserved : goal.numbers-preserved
 numbers-preserved c =
@@ -44,3 +80,21 @@ returns-clause-least c =
     (none_less t c.args.p c.number_at-number.result w w (trail_of c.args.engine.now) c.args.engine.now c.requires.ready
     c.requires.pinned (λ k h. i.none k (let b = c.numbers-test.false in omega arith)) (λ k h. refl)
     (sym c.number_at-number.ensures.number))
+
+pub returns-then-replace-clause-same : goal.returns-then-replace-clause-same
+returns-then-replace-clause-same c =
+    let new = c.replace.new.best in
+    subst (λ (f : Frozen). IsSame c.args.p (chosen_of new.edges new.names) (chosen_of f.edges f.names))
+    c.numbers.invariant.best (c.if-replace.ensures.yes refl).same
+
+pub returns-clause-same : goal.returns-clause-same
+returns-clause-same c =
+    let old = c.args.best.now in
+    subst (λ (f : Frozen). IsSame c.args.p (chosen_of f.edges f.names) (chosen_of old.edges old.names))
+    (sym c.numbers.invariant.best) (λ k h. refl)
+
+pub returns-clause-suited : goal.returns-clause-suited
+returns-clause-suited c =
+    let i = c.numbers.invariant in
+    suited_still (task_of c.args.a.now) c.numbers.leaf (variables_of c.numbers.engine) (variables_of c.keep.new.engine)
+    i.suited c.keep.ensures.variables
