@@ -4,11 +4,27 @@ use Rattle.olap_clauses.specs.Engines.{trail_of}
 use Rattle.olap_clauses.specs.Standing.{Agrees}
 use Rattle.olap_frozen.specs.declared.frozen.Frozen.{Frozen}
 use Rattle.olap_frozen.specs.Leaves.{chosen_of}
-use Rattle.olap_dimsat.specs.Asking.{task_of}
-use Rattle.olap_dimsat.specs.Pinned.{IsReplaced}
+use Rattle.olap_dimsat.specs.Asking.{IsFor, task_of}
+use Rattle.olap_dimsat.specs.Pinned.{IsPinned, IsReplaced}
 use Rattle.olap_dimsat.proofs.SettleLemmas.{at_or_below}
 use Rattle.olap_dimsat.proofs.FollowingLemmas.{none_more, raised}
 use Rattle.olap_dimsat.proofs.listing.raise.Goals as goal
+
+pub replace-requires : goal.replace-requires
+replace-requires c =
+    let t = task_of c.args.a.now in
+    let old = c.args.best.now in
+    let i = c.numbers.invariant in
+    let b = c.numbers-test.true in record {
+      place = c.requires.place;
+      number = c.requires.in_range (c.numbers.x + 1) (omega arith);
+      suited = i.suited;
+      ready = i.ready;
+      best = subst (λ (f : Frozen). IsFor t f) (sym i.best) c.requires.best;
+      pinned = subst (λ (f : Frozen). IsPinned t c.args.p (chosen_of f.edges f.names) (trail_of c.numbers.engine))
+          (sym i.best) (subst (λ (ss : List Step). IsPinned t c.args.p (chosen_of old.edges old.names) ss)
+          (sym i.trail) c.requires.pinned);
+    }
 
 pub numbers-preserved : goal.numbers-preserved
 numbers-preserved c =
