@@ -18,6 +18,32 @@ returns-then-len-limit-clause-too_many c = λ e.
     (let l = length-map c.listed.list.items frozen_of in
     let h = c.if-len-limit.true in let n = c.len.ensures in omega arith)
 
+pub least-more-requires : goal.least-more-requires
+least-more-requires c = record {
+  suited = c.requires.suited;
+  ready = c.requires.ready;
+  best = c.requires.best;
+  empty = c.requires.empty;
+}
+
+pub add-requires : goal.add-requires
+add-requires c =
+    let i = c.listed.invariant in record {
+      task = c.requires.suited.task;
+      best = i.best;
+      one = (i.ahead c.listed-test.true).one;
+      handed = i.handed;
+    }
+
+pub next-more-requires : goal.next-more-requires
+next-more-requires c =
+    let i = c.listed.invariant in record {
+      suited = i.suited;
+      ready = i.ready;
+      best = i.best;
+      one = (i.ahead c.listed-test.true).one;
+    }
+
 pub listed-preserved : goal.listed-preserved
 listed-preserved c =
     let t = task_of c.args.a.now in
