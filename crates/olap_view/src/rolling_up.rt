@@ -19,11 +19,7 @@ use olap_legal::Legal;
 use std::alloc::Global;
 
 /// Adds the facts that a new reader hands out, batch by batch, to a tally that stands for none.
-fn add_batches(
-    alloc: Global,
-    reader: &mut FactReader,
-    tally: &mut Tally,
-) -> Result<(), FactRefusal>
+fn add_batches(alloc: Global, reader: &mut FactReader, tally: &mut Tally) -> Result<(), FactRefusal>
     requires fresh { let r = reader.old in r ≡ reading r.graph r.instance r.records most_facts 0 true }
     requires instance { tally.old.instance ≡ reader.old.instance }
     requires none { StandsFor tally.old [] }
