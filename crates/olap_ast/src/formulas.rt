@@ -6,7 +6,7 @@ ghost use Rattle.olap_ast.specs.Trees.{op_of};
 use olap_base::{CatId, List, Text};
 
 /// How two numbers are compared.
-#[derive(Clone, Copy, Debug, PartialEq, Eq, PartialOrd, Ord)]
+#[derive(Clone, Copy, PartialEq, Eq, PartialOrd, Ord)]
 pub enum Op {
     /// They are equal.
     Equal,
@@ -30,7 +30,7 @@ impl Op {
 }
 
 /// A formula about one member of its root. An atom doesn't name the root.
-#[derive(Debug, Drop)]
+#[derive(Drop)]
 #[cycle(formula)]
 pub enum Formula {
     /// Always.
@@ -64,7 +64,6 @@ pub enum Formula {
 }
 
 /// The parts of `one(..)`, in order.
-#[derive(Debug)]
 #[cycle(formula)]
 pub enum Terms {
     /// No more parts.
@@ -87,7 +86,7 @@ impl Drop for Terms {
 }
 
 /// What each member of the root has to meet.
-#[derive(Debug, Drop)]
+#[derive(Drop)]
 pub struct Constraint {
     /// The category that it speaks of. In a schema it isn't `All`.
     pub root: CatId,

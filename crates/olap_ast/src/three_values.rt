@@ -3,7 +3,7 @@ ghost use Rattle.std.specs.Prelude.{◌&&◌, ◌||◌, ◌≡◌, ◌∷◌, �
 ghost use Rattle.olap_ast.specs.ThreeValues.{IsCount, ValuesAgree, iff, implies, value_of, value_of_both, value_of_counts, value_of_one, xor};
 
 /// What is known of a truth.
-#[derive(Clone, Copy, Debug, PartialEq, Eq)]
+#[derive(Clone, Copy, PartialEq, Eq)]
 pub enum Truth3 {
     /// It is false.
     No,
@@ -81,7 +81,7 @@ impl Truth3 {
 }
 
 /// How many of the values so far are true, and how many are unknown. A number stands still at its last value.
-#[derive(Clone, Copy, Debug, PartialEq, Eq)]
+#[derive(Clone, Copy, PartialEq, Eq)]
 pub struct OneCount {
     /// How many are true.
     pub yes: u32,

@@ -3,7 +3,7 @@ ghost use Rattle.olap_bits.specs.CatSet.{IsOfWidth};
 ghost use Rattle.std.specs.Prelude.{◌≤◌, ℕ, length};
 
 /// A set of numbers below `64 * W`, one bit a number.
-#[derive(Clone, Copy, Debug)]
+#[derive(Clone, Copy)]
 pub struct CatSet<const W: usize> {
     words: [u64; W],
     ghost few_words: { IsOfWidth W },

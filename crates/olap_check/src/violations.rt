@@ -5,7 +5,7 @@ use olap_base::{CatId, MemberId, Memory};
 use olap_instance::Instance;
 
 /// How a law or a constraint is violated. Laws are judged in the order of the variants.
-#[derive(Clone, Copy, Debug, PartialEq, Eq)]
+#[derive(Clone, Copy, PartialEq, Eq)]
 pub enum Violation {
     /// No edge leads from the child's category to the parent's.
     Connectivity(MemberId, MemberId),

@@ -2,7 +2,7 @@
 use crate::engine::Effort;
 
 /// Whose order the decisions of a round are taken in.
-#[derive(Clone, Copy, Debug, PartialEq, Eq)]
+#[derive(Clone, Copy, PartialEq, Eq)]
 pub(crate) enum Order {
     /// The judge's own.
     Judge,
@@ -32,7 +32,7 @@ pub(crate) fn budget_of(round: u64) -> u64 {
 }
 
 /// What the rounds of each order took, late ones counting more.
-#[derive(Clone, Copy, Debug)]
+#[derive(Clone, Copy)]
 pub(crate) struct Orders {
     judge: Effort,
     shown: Effort,

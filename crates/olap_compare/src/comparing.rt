@@ -16,7 +16,7 @@ use std::alloc::Global;
 use std::test::Fail;
 
 /// What two searches came to.
-#[derive(Clone, Copy, PartialEq, Eq, Debug)]
+#[derive(Clone, Copy, PartialEq, Eq)]
 enum Comparison {
     BothNone,
     BothAlike,

@@ -2,7 +2,7 @@
 use olap_base::{CatId, List};
 
 /// A category of each dimension, in the dimensions' order.
-#[derive(Debug, Drop)]
+#[derive(Drop)]
 pub struct Tuple {
     /// The categories.
     pub categories: List<CatId>,

@@ -9,7 +9,7 @@ use olap_cube::Tuple;
 use std::alloc::Global;
 
 /// What is asked of a dimension: by way of which sources its roots reach the target.
-#[derive(Debug, Drop)]
+#[derive(Drop)]
 pub(crate) struct Question {
     pub(crate) target: CatId,
     pub(crate) sources: List<CatId>,

@@ -2,7 +2,7 @@
 use olap_base::{List, MemberId};
 
 /// A value at members, one of each dimension.
-#[derive(Debug, Drop)]
+#[derive(Drop)]
 pub struct CubeFact {
     /// The members that it stands at, in order of the dimensions.
     pub members: List<MemberId>,
@@ -11,7 +11,7 @@ pub struct CubeFact {
 }
 
 /// A fact table: facts in the order of their records.
-#[derive(Debug, Drop)]
+#[derive(Drop)]
 pub struct CubeFacts {
     /// The facts.
     pub rows: List<CubeFact>,

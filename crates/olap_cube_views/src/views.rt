@@ -2,7 +2,7 @@
 use olap_base::{CatId, List, MemberId};
 
 /// Members, one of each dimension, with what the values of the facts below them come to.
-#[derive(Debug, Drop)]
+#[derive(Drop)]
 pub struct CubeRow {
     /// The members, in order of the dimensions.
     pub members: List<MemberId>,
@@ -17,7 +17,7 @@ pub struct CubeRow {
 }
 
 /// The rows of a target, by its members in file order, those of the first dimension first.
-#[derive(Debug, Drop)]
+#[derive(Drop)]
 pub struct CubeView {
     /// The target: a category of each dimension.
     pub target: List<CatId>,

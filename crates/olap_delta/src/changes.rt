@@ -13,7 +13,7 @@ use olap_facts::Fact;
 use olap_view::{Summary, SummaryTable};
 
 /// How stored views change.
-#[derive(Clone, Copy, Debug, PartialEq, Eq)]
+#[derive(Clone, Copy, PartialEq, Eq)]
 pub enum Change {
     /// Facts come.
     Append,

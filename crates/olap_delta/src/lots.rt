@@ -12,7 +12,7 @@ use olap_view::Summary;
 use std::alloc::Global;
 
 /// A member, and what the values of its facts come to.
-#[derive(Clone, Copy, Debug)]
+#[derive(Clone, Copy)]
 pub(crate) struct Lot {
     pub(crate) member: MemberId,
     pub(crate) summary: Summary,

@@ -9,7 +9,7 @@ use std::alloc::Global;
 use std::marker::Model;
 
 /// The schemas of up to four dimensions, in order.
-#[derive(Debug, Drop)]
+#[derive(Drop)]
 pub struct Cube {
     schemas: Vec<Schema>,
 }

@@ -42,7 +42,7 @@ pub struct Search {
 }
 
 /// Why there is no list of all frozen dimensions.
-#[derive(Clone, Copy, PartialEq, Eq, Debug)]
+#[derive(Clone, Copy, PartialEq, Eq)]
 pub enum AllRefusal {
     /// There are more than the list may have.
     TooMany,

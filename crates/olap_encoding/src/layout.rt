@@ -7,7 +7,7 @@ use olap_base::{CatId, EdgeId};
 use olap_pool::Lit;
 
 /// Where the variables of edges, of categories and of names are, and how many there are in all.
-#[derive(Debug, Drop)]
+#[derive(Drop)]
 pub struct Layout {
     /// How many edges there are: the variables of categories come after theirs.
     pub edges: u16,

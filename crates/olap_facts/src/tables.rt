@@ -2,7 +2,7 @@
 use olap_base::{List, MemberId};
 
 /// A value at a member.
-#[derive(Clone, Copy, Debug, PartialEq, Eq)]
+#[derive(Clone, Copy, PartialEq, Eq)]
 pub struct Fact {
     /// The member that it stands at.
     pub member: MemberId,
@@ -11,7 +11,7 @@ pub struct Fact {
 }
 
 /// A fact table: facts in the order of their records.
-#[derive(Debug, Drop)]
+#[derive(Drop)]
 pub struct Facts {
     /// The facts.
     pub rows: List<Fact>,

@@ -3,7 +3,7 @@ use crate::frozen::Frozen;
 use olap_names::Candidates;
 
 /// A frozen dimension, and the names that its indexes stand for.
-#[derive(Debug, Drop)]
+#[derive(Drop)]
 pub struct Found {
     /// The root, the edges and the name indexes.
     pub frozen: Frozen,

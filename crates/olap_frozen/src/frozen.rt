@@ -19,7 +19,7 @@ use std::alloc::Global;
 
 /// A choice of edges and names: for each edge whether it is present, and for each category the index of its name, 0
 /// for `All` and for absent ones.
-#[derive(Debug, Drop)]
+#[derive(Drop)]
 pub struct Frozen {
     /// The category of the least member.
     pub root: CatId,
@@ -30,7 +30,7 @@ pub struct Frozen {
 }
 
 /// Room for the test: a row of bits for each category.
-#[derive(Debug, Drop)]
+#[derive(Drop)]
 pub struct Room {
     /// What each category reaches.
     pub rows: Vec<Categories>,

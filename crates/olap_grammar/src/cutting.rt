@@ -14,7 +14,7 @@ use olap_base::{Memory, Text};
 use std::alloc::Global;
 
 /// The tokens of a line from the first on, as many as may be kept.
-#[derive(Debug, Drop)]
+#[derive(Drop)]
 pub struct FirstTokens {
     /// The tokens that are kept.
     pub first: Vec<Token>,

@@ -9,7 +9,7 @@ use olap_base::{MOST_DEPTH, MOST_NODES, Memory};
 const COUNTED_NODES: u16 = MOST_NODES as u16 + 4;
 
 /// What is counted of tokens.
-#[derive(Clone, Copy, Debug)]
+#[derive(Clone, Copy)]
 pub struct Tally {
     /// The nodes, or as many of them as are counted.
     pub nodes: u16,

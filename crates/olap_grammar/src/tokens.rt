@@ -5,7 +5,7 @@ ghost use Rattle.std.specs.Prelude.{◌≡◌};
 use olap_base::Text;
 
 /// A version of the schema text. The second has numbers, and comparisons with them.
-#[derive(Clone, Copy, Debug, PartialEq, Eq)]
+#[derive(Clone, Copy, PartialEq, Eq)]
 pub enum Version {
     /// Texts alone.
     One,
@@ -14,7 +14,7 @@ pub enum Version {
 }
 
 /// A mark that joins two formulas.
-#[derive(Clone, Copy, Debug, PartialEq, Eq)]
+#[derive(Clone, Copy, PartialEq, Eq)]
 pub enum Joint {
     /// `<->`
     Iff,
@@ -29,7 +29,7 @@ pub enum Joint {
 }
 
 /// A mark.
-#[derive(Clone, Copy, Debug, PartialEq, Eq)]
+#[derive(Clone, Copy, PartialEq, Eq)]
 pub enum Mark {
     /// `(`
     Open,
@@ -52,7 +52,7 @@ pub enum Mark {
 }
 
 /// A token of a line.
-#[derive(Debug, Drop)]
+#[derive(Drop)]
 pub enum Token {
     /// Letters, digits, `_` and `.`.
     Word(Text),

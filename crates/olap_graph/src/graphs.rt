@@ -17,7 +17,7 @@ use std::alloc::Global;
 use std::marker::Model;
 
 /// A category graph: each category reaches `All` by a walk of edges.
-#[derive(Debug, Drop)]
+#[derive(Drop)]
 pub struct Graph {
     names: Vec<Text>,
     numbers: Vec<bool>,

@@ -10,7 +10,7 @@ use olap_base::{EdgeId, List, Memory};
 use std::alloc::Global;
 
 /// For each category the edges out of it and what it reaches, and which categories are bottom ones.
-#[derive(Debug, Drop)]
+#[derive(Drop)]
 pub(crate) struct Tables {
     pub(crate) out: Vec<List<EdgeId>>,
     pub(crate) reached: Vec<Categories>,

@@ -17,7 +17,7 @@ use std::alloc::Global;
 use std::marker::Model;
 
 /// For each category its first name, and its other names in their order.
-#[derive(Debug, Drop)]
+#[derive(Drop)]
 pub struct Candidates {
     texts: Vec<List<Text>>,
     first: Vec<Text>,

@@ -5,7 +5,7 @@ ghost use Rattle.olap_nav.specs.declared.choice.PlanRefusal.TheVariants as refus
 use olap_base::Memory;
 
 /// Which stored views a view is computed from.
-#[derive(Clone, Copy, PartialEq, Eq, Debug)]
+#[derive(Clone, Copy, PartialEq, Eq)]
 pub struct Plan {
     /// A bit for each stored view, the lowest for the first.
     pub mask: u16,
@@ -14,7 +14,7 @@ pub struct Plan {
 }
 
 /// Why there is no plan.
-#[derive(Clone, Copy, PartialEq, Eq, Debug)]
+#[derive(Clone, Copy, PartialEq, Eq)]
 pub enum PlanRefusal {
     /// From no stored views, not even from none, is the target summarizable.
     NotAnswerable,

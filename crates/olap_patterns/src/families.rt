@@ -10,7 +10,7 @@ use olap_base::{CatId, List, Memory};
 use std::alloc::Global;
 
 /// A bottom category, and the patterns that its frozen dimensions have.
-#[derive(Clone, Copy, Debug)]
+#[derive(Clone, Copy)]
 pub struct Family {
     /// The category.
     pub bottom: CatId,

@@ -173,7 +173,7 @@ fn least(
 }
 
 /// Room for a search, made for a graph, constraints, a root and a question.
-#[derive(Debug, Drop)]
+#[derive(Drop)]
 pub struct Search {
     root: CatId,
     candidates: Candidates,

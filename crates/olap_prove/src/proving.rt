@@ -17,7 +17,7 @@ use olap_summ::{SummRefusal, summarizable};
 use std::alloc::Global;
 
 /// Why the target is summarizable from the sources, or why it isn't.
-#[derive(Debug, Drop)]
+#[derive(Drop)]
 pub enum Proof {
     /// It is: the text of a certificate.
     Yes(Text),

@@ -16,7 +16,7 @@ use std::alloc::Global;
 use std::marker::Model;
 
 /// A schema: a graph of categories and the constraints.
-#[derive(Debug, Drop)]
+#[derive(Drop)]
 pub struct Schema {
     graph: Graph,
     constraints: List<Constraint>,

@@ -17,7 +17,7 @@ use olap_schema::Schema;
 use std::alloc::Global;
 
 /// What an audit finds.
-#[derive(Clone, Copy, PartialEq, Eq, Debug)]
+#[derive(Clone, Copy, PartialEq, Eq)]
 pub enum Finding {
     /// No legal instance has a member in the category.
     Unsatisfiable(CatId),

@@ -13,7 +13,7 @@ use olap_schema::Schema;
 use std::alloc::Global;
 
 /// Whether a target is summarizable from sources: the question, as it is asked of each bottom category.
-#[derive(Debug, Drop)]
+#[derive(Drop)]
 pub struct Questions {
     target: CatId,
     sources: List<CatId>,

@@ -8,7 +8,7 @@ ghost use Rattle.olap_view.specs.Seen.{columns_of, summary_of};
 use crate::Row;
 
 /// What some values come to.
-#[derive(Clone, Copy, Debug, PartialEq, Eq)]
+#[derive(Clone, Copy, PartialEq, Eq)]
 pub struct Summary {
     /// How many they are.
     pub count: u64,

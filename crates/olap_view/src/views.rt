@@ -2,7 +2,7 @@
 use olap_base::{CatId, List, MemberId};
 
 /// A member with what the values of the facts below it come to.
-#[derive(Clone, Copy, Debug, PartialEq, Eq)]
+#[derive(Clone, Copy, PartialEq, Eq)]
 pub struct Row {
     /// The member.
     pub member: MemberId,
@@ -17,7 +17,7 @@ pub struct Row {
 }
 
 /// A category's rows, by member.
-#[derive(Debug, Drop)]
+#[derive(Drop)]
 pub struct View {
     /// The category.
     pub category: CatId,
@@ -26,7 +26,7 @@ pub struct View {
 }
 
 /// Views that are stored: at most eight, of different categories.
-#[derive(Debug, Drop)]
+#[derive(Drop)]
 pub struct Store {
     /// The views.
     pub views: List<View>,
