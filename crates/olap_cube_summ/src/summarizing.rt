@@ -21,7 +21,7 @@ use olap_patterns::{Family, all, can_be_bad, first_families, unions};
 use std::alloc::{AllocError, Global};
 
 /// Why a question on a cube has no answer.
-#[derive(Clone, Copy, PartialEq, Eq)]
+#[derive(Clone, Copy, PartialEq, Eq, Debug)]
 pub enum CubeRefusal {
     /// A source stands twice.
     DuplicateSource,

@@ -2,7 +2,7 @@
 use olap_base::Memory;
 
 /// Why a fact can't be appended to stored views, or retracted from them: the first that holds.
-#[derive(Clone, Copy, PartialEq, Eq)]
+#[derive(Clone, Copy, Debug, PartialEq, Eq)]
 pub enum DeltaKind {
     /// Appended: the row's count is `MOST_COUNT`.
     Full,
@@ -38,7 +38,7 @@ impl DeltaKind {
 }
 
 /// Why stored views weren't changed.
-#[derive(Clone, Copy, PartialEq, Eq)]
+#[derive(Clone, Copy, Debug, PartialEq, Eq)]
 pub enum DeltaRefusal {
     /// The first fact that is refused, by the number of its record, and why; a header is record 1.
     Fault { at: u64, kind: DeltaKind },

@@ -42,7 +42,7 @@ pub struct Search {
 }
 
 /// Why there is no list of all frozen dimensions.
-#[derive(Clone, Copy, PartialEq, Eq)]
+#[derive(Clone, Copy, PartialEq, Eq, Debug)]
 pub enum AllRefusal {
     /// There are more than the list may have.
     TooMany,

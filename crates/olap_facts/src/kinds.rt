@@ -6,7 +6,7 @@ use olap_base::Memory;
 use std::alloc::AllocFailed;
 
 /// A fault of a text of facts.
-#[derive(Clone, Copy, PartialEq, Eq)]
+#[derive(Clone, Copy, Debug, PartialEq, Eq)]
 pub enum FactKind {
     /// There is no first record, or it isn't `member,value`.
     BadHeader,
@@ -42,7 +42,7 @@ impl FactKind {
 }
 
 /// Why a text of facts was refused, or no fact of it was handed out.
-#[derive(Clone, Copy, PartialEq, Eq)]
+#[derive(Clone, Copy, Debug, PartialEq, Eq)]
 pub enum FactRefusal {
     /// The first fault, with the number of its record, from 1; the header is record 1.
     Fault { at: u64, kind: FactKind },

@@ -7,7 +7,7 @@ use olap_base::Memory;
 use std::alloc::AllocFailed;
 
 /// Why there is no formula.
-#[derive(Clone, Copy, PartialEq, Eq)]
+#[derive(Clone, Copy, Debug, PartialEq, Eq)]
 pub enum FormRefusal {
     /// The tokens are no formula.
     BadForm,
@@ -26,7 +26,7 @@ impl From<Memory> for FormRefusal {
 }
 
 /// Why there are no tokens.
-#[derive(Clone, Copy, PartialEq, Eq)]
+#[derive(Clone, Copy, Debug, PartialEq, Eq)]
 pub enum CutRefusal {
     /// The line can't be cut into tokens.
     BadForm,

@@ -3,7 +3,7 @@ use olap_base::CatId;
 use std::alloc::{AllocError, AllocFailed};
 
 /// Why a category wasn't added, in the order in which it is tested.
-#[derive(Clone, Copy, PartialEq, Eq)]
+#[derive(Clone, Copy, Debug, PartialEq, Eq)]
 pub enum CategoryRefusal {
     /// The name is declared, or is `All`.
     DuplicateCategory,
@@ -14,7 +14,7 @@ pub enum CategoryRefusal {
 }
 
 /// Why an edge wasn't added, in the order in which it is tested.
-#[derive(Clone, Copy, PartialEq, Eq)]
+#[derive(Clone, Copy, Debug, PartialEq, Eq)]
 pub enum EdgeRefusal {
     /// Its ends are one category.
     SelfEdge,
@@ -29,7 +29,7 @@ pub enum EdgeRefusal {
 }
 
 /// Why a graph wasn't finished.
-#[derive(Clone, Copy, PartialEq, Eq)]
+#[derive(Clone, Copy, Debug, PartialEq, Eq)]
 pub enum GraphRefusal {
     /// The first declared category from which no walk of edges leads to `All`.
     NoWayToAll(CatId),

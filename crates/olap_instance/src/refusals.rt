@@ -8,7 +8,7 @@ use olap_base::Memory;
 use std::alloc::{AllocError, AllocFailed};
 
 /// A fault of a text of members.
-#[derive(Clone, Copy, PartialEq, Eq)]
+#[derive(Clone, Copy, Debug, PartialEq, Eq)]
 pub enum InstanceKind {
     /// There is no first record, or it isn't `id,category,name,parents`.
     BadHeader,
@@ -62,7 +62,7 @@ impl InstanceKind {
 }
 
 /// Why a text of members was refused.
-#[derive(Clone, Copy, PartialEq, Eq)]
+#[derive(Clone, Copy, Debug, PartialEq, Eq)]
 pub enum InstanceRefusal {
     /// The first fault, with the number of its record, from 1; the header is record 1.
     Fault { at: u64, kind: InstanceKind },
@@ -95,7 +95,7 @@ impl<T: Drop> From<AllocFailed<T>> for InstanceRefusal {
 }
 
 /// Why a member wasn't added, in the order in which it is tested.
-#[derive(Clone, Copy, PartialEq, Eq)]
+#[derive(Clone, Copy, Debug, PartialEq, Eq)]
 pub enum MemberRefusal {
     /// The id is empty or holds a semicolon.
     BadId,
@@ -138,7 +138,7 @@ impl<T: Drop> From<AllocFailed<T>> for MemberRefusal {
 }
 
 /// Why a parent wasn't added, in the order in which it is tested.
-#[derive(Clone, Copy, PartialEq, Eq)]
+#[derive(Clone, Copy, Debug, PartialEq, Eq)]
 pub enum ParentRefusal {
     /// The child has that parent.
     DuplicateParent,

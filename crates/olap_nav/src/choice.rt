@@ -14,7 +14,7 @@ pub struct Plan {
 }
 
 /// Why there is no plan.
-#[derive(Clone, Copy, PartialEq, Eq)]
+#[derive(Clone, Copy, PartialEq, Eq, Debug)]
 pub enum PlanRefusal {
     /// From no stored views, not even from none, is the target summarizable.
     NotAnswerable,

@@ -20,7 +20,7 @@ use olap_schema::Schema;
 use std::alloc::{AllocError, Global};
 
 /// Why a text isn't accepted, in the order in which it is tested.
-#[derive(Clone, Copy, PartialEq, Eq)]
+#[derive(Clone, Copy, PartialEq, Eq, Debug)]
 pub enum VerifyRefusal {
     /// A source stands twice.
     DuplicateSource,

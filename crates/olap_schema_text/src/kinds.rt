@@ -6,7 +6,7 @@ use olap_base::Memory;
 use std::alloc::AllocFailed;
 
 /// What is wrong with a line of a schema, or with a question's formula.
-#[derive(Clone, Copy, PartialEq, Eq)]
+#[derive(Clone, Copy, Debug, PartialEq, Eq)]
 pub enum SchemaKind {
     /// The line isn't UTF-8, or has a control character.
     BadByte = 1,
@@ -86,7 +86,7 @@ impl SchemaKind {
 }
 
 /// Why a line, or a formula, is refused.
-#[derive(Clone, Copy, PartialEq, Eq)]
+#[derive(Clone, Copy, Debug, PartialEq, Eq)]
 pub enum FormulaRefusal {
     /// What is wrong with it.
     Fault(SchemaKind),
@@ -111,7 +111,7 @@ impl<T: Drop> From<AllocFailed<T>> for FormulaRefusal {
 }
 
 /// Why a schema text is refused.
-#[derive(Clone, Copy, PartialEq, Eq)]
+#[derive(Clone, Copy, Debug, PartialEq, Eq)]
 pub enum SchemaRefusal {
     /// The first line with a fault, counted from 1, and what is wrong with it.
     Fault { line: u64, kind: SchemaKind },

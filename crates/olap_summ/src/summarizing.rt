@@ -18,7 +18,7 @@ use olap_schema::Schema;
 use std::alloc::{AllocError, Global};
 
 /// Why a question on summarizability has no answer.
-#[derive(Clone, Copy, PartialEq, Eq)]
+#[derive(Clone, Copy, PartialEq, Eq, Debug)]
 pub enum SummRefusal {
     /// A source stands twice.
     DuplicateSource,

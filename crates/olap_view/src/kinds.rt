@@ -2,7 +2,7 @@
 use olap_base::Memory;
 
 /// A fault of a text of stored views.
-#[derive(Clone, Copy, PartialEq, Eq)]
+#[derive(Clone, Copy, Debug, PartialEq, Eq)]
 pub enum StoreKind {
     /// There is no first record, or it isn't `category,member,count,sum,least,greatest`.
     BadHeader,
@@ -50,7 +50,7 @@ impl StoreKind {
 }
 
 /// Why a text of stored views was refused.
-#[derive(Clone, Copy, PartialEq, Eq)]
+#[derive(Clone, Copy, Debug, PartialEq, Eq)]
 pub enum StoreRefusal {
     /// The first fault, with the number of its record, from 1; the header is record 1.
     Fault { at: u64, kind: StoreKind },
