@@ -6,7 +6,7 @@ use olap_ast::Op;
 use olap_base::{CatId, Text};
 
 /// How it goes on from a member that is reached.
-#[derive(Clone, Copy, PartialEq, Eq)]
+#[derive(Clone, Copy)]
 pub(crate) enum Way {
     /// To a member that it reaches.
     Reaches,

@@ -2,7 +2,7 @@
 use crate::engine::Effort;
 
 /// Whose order the decisions of a round are taken in.
-#[derive(Clone, Copy, PartialEq, Eq)]
+#[derive(Clone, Copy)]
 pub(crate) enum Order {
     /// The judge's own.
     Judge,

@@ -16,7 +16,7 @@ use std::alloc::Global;
 use std::test::Fail;
 
 /// What two searches came to.
-#[derive(Clone, Copy, PartialEq, Eq)]
+#[derive(Clone, Copy)]
 enum Comparison {
     BothNone,
     BothAlike,

@@ -14,7 +14,7 @@ pub enum Version {
 }
 
 /// A mark that joins two formulas.
-#[derive(Clone, Copy, PartialEq, Eq)]
+#[derive(Clone, Copy)]
 pub enum Joint {
     /// `<->`
     Iff,
@@ -29,7 +29,7 @@ pub enum Joint {
 }
 
 /// A mark.
-#[derive(Clone, Copy, PartialEq, Eq)]
+#[derive(Clone, Copy)]
 pub enum Mark {
     /// `(`
     Open,

@@ -13,7 +13,7 @@ use olap_base::{CatId, EdgeId, Memory, Text};
 use std::alloc::Global;
 
 /// The ends of an edge.
-#[derive(Clone, Copy, PartialEq, Eq)]
+#[derive(Clone, Copy)]
 pub(crate) struct Ends {
     pub(crate) child: CatId,
     pub(crate) parent: CatId,

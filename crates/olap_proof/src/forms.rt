@@ -1,7 +1,7 @@
 // The two forms of certificate.
 
 /// What a certificate's lines may say. The first line names the form.
-#[derive(Clone, Copy, PartialEq, Eq)]
+#[derive(Clone, Copy)]
 pub enum Form {
     /// Edges and names are decided, and nothing else.
     Long,

@@ -17,7 +17,7 @@ use olap_graph::Graph;
 use std::str;
 
 /// A line of a tree: the first three split what is open, the others close it.
-#[derive(Clone, Copy, PartialEq, Eq)]
+#[derive(Clone, Copy)]
 pub enum Line {
     /// `edge C D`.
     Edge(EdgeId),

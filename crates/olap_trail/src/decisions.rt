@@ -2,7 +2,7 @@
 use olap_base::EdgeId;
 
 /// What was decided of an edge.
-#[derive(Clone, Copy, PartialEq, Eq)]
+#[derive(Clone, Copy)]
 pub struct Decision {
     /// The edge.
     pub edge: EdgeId,
@@ -11,5 +11,5 @@ pub struct Decision {
 }
 
 /// A number of decisions: those that were made first.
-#[derive(Clone, Copy, PartialEq, Eq)]
+#[derive(Clone, Copy)]
 pub struct Mark(pub u16);
