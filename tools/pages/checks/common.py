@@ -12,6 +12,8 @@ from functools import cache
 from html.parser import HTMLParser
 from pathlib import Path
 
+import debian
+
 from ..program import TOP, find
 
 TOOLS, EXAMPLES = TOP / "tools", TOP / "examples"
@@ -23,11 +25,9 @@ IN_TIME = ("--seconds", "120")  # for a report whose questions are all to be ans
 
 
 def is_there(tool: str, package: str) -> bool:
-    """Is the tool there? It is installed if it isn't and the user is root."""
-    environment = {**os.environ, "DEBIAN_FRONTEND": "noninteractive"}
-    for words in (["install", "-y", package], ["update"], ["install", "-y", package]):
-        if shutil.which(tool) is None and os.geteuid() == 0 and shutil.which("apt-get"):
-            subprocess.run(["apt-get", *words], env=environment, capture_output=True, check=False)
+    """Is the tool there? It is installed if it isn't and that can be done."""
+    if shutil.which(tool) is None:
+        debian.install(package)
     return shutil.which(tool) is not None
 
 
