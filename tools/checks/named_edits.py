@@ -1,4 +1,5 @@
 """The must-fail edits that a crate's README names are those that it has, and a row of docs/PROVED.md names edits of its call.
+Each edit can be applied: the texts that it replaces stand once in its file.
 
 A README names its edits in backticks, in the paragraph or the point that speaks of refused edits. An edit that a row names
 changes code that the row's call runs, or what makes the value that the call is a method of: the function that it edits is
@@ -16,7 +17,7 @@ NAME = re.compile(r"`([a-z0-9]+(?:_[a-z0-9]+)+)`")
 
 def readme_faults(crate):
     """Edits that the README names and that aren't there, and edits that it doesn't name."""
-    there, file = sources.edits(crate), sources.CRATES / crate / "README.md"
+    there, file = set(sources.edits(crate)), sources.CRATES / crate / "README.md"
     named = {name for part in PART.findall(file.read_text()) for name in NAME.findall(part)}
     for name in sorted(named - there):
         yield file, f"no such edit: {name}"
@@ -24,10 +25,22 @@ def readme_faults(crate):
         yield file, f"it doesn't name the edit {name}"
 
 
+def text_faults(crate):
+    """Texts that an edit replaces and that don't stand once in its file."""
+    for edit, file in sources.edits(crate).items():
+        words = dict.fromkeys(("file", "old"), "")
+        for line in file.read_text().splitlines():
+            key, _, words_after = line.partition(": ")
+            if key in words:
+                words[key] = words_after
+            if key == "old" and (sources.CRATES / crate / words["file"]).read_text().count(words_after) != 1:
+                yield file, f"this doesn't stand once in {words['file']}: {words_after}"
+
+
 @cache
 def edited(crate, edit):
     """The names of the functions that an edit changes: of each text that it replaces the function that holds it."""
-    lines = (sources.CRATES / crate / "must-fail" / f"{edit}.edit").read_text().splitlines()
+    lines = sources.edits(crate)[edit].read_text().splitlines()
     file = sources.CRATES / crate / next(line.removeprefix("file: ") for line in lines if line.startswith("file: "))
     olds = [line.removeprefix("old: ") for line in lines if line.startswith("old: ")]
     inside = [f for f in sources.functions(crate) if f.file == file]
@@ -104,5 +117,6 @@ def row_faults(calls, names):
 def faults():
     for crate in sources.crate_names():
         yield from readme_faults(crate)
+        yield from text_faults(crate)
     for _, calls, _, _, _, edits in register.rows(register.REGISTER.read_text()):
         yield from row_faults(register.NAMES.findall(calls), register.NAMES.findall(edits))

@@ -117,5 +117,7 @@ def definitions():
     return names
 
 
+@cache
 def edits(crate):
-    return {file.stem for file in (CRATES / crate / "must-fail").glob("*.edit")}
+    """The must-fail edits of a crate by their names: those that the gate tries, and those of more-edits."""
+    return {file.stem: file for folder in ("must-fail", "more-edits") for file in (CRATES / crate / folder).glob("*.edit")}
