@@ -4,6 +4,7 @@
 --     so_far_start, so_far_step, joined_all  joining in all
 --     places_kept                          what is as large has the same places
 --     ids_more, ids_taken, id_in, id_fresh   categories one by one
+--     views_more                           their views
 use Rattle.std.proofs.Common.{◌≡◌, ◌≢◌, ℕ, ◌+◌, ◌<◌, List, [], ◌∷◌, ◌++◌, length, get_or, set, take, map, Bool, true, false, ◌&&◌, ◌||◌, refl, ap, sym, subst, ◌∙◌, arith, Option, Some, None, get_or-set_same, get_or-set_other}
 use Rattle.std.specs.Prelude.{◌==◌, Contains, AllPairs}
 use Rattle.std.specs.List.{list_any}
@@ -20,10 +21,12 @@ use Rattle.olap_base.specs.declared.ids.CatId.{CatId}
 use Rattle.olap_base.proofs.TotalLemmas.{⊕_none}
 use Rattle.olap_base.proofs.ViewLemmas.{eqb_is}
 use Rattle.olap_legal.specs.Ancestors.{IsAncestor}
-use Rattle.olap_view.specs.Seen.{ids, summary_of}
+use Rattle.olap_base.specs.Views.{View}
+use Rattle.olap_view.specs.Seen.{each_view_of, ids, summary_of, view_of}
 use Rattle.olap_view.specs.Tables.{AreJoined, AreJoinedIn, HasPlaces, IsAmong, JoinedSoFar, PlacesSoFar, categories_of, place_in, summary_at, when}
 use Rattle.olap_view.specs.declared.summaries.Summary as told
 use Rattle.olap_view.specs.declared.tables.Table.{Table}
+use Rattle.olap_view.specs.declared.views.View as told_view
 
 -- ---- places
 
@@ -302,3 +305,12 @@ module _ (cs : List CatId) (k : ℕ) (c : CatId) (h : k < length cs) (e : c ≡ 
   id_fresh a m = not_before (ids cs) k a (simp length-map h)
       (subst (λ (l : List ℕ). Contains l (get_or (ids cs) k 0)) (sym (take-map (λ (d : CatId). d.0) k cs))
       (subst (λ (d : ℕ). Contains (ids (take k cs)) d) (sym id_at) m))
+
+-- the view of one category more
+pub views_more : (h : ℕ → View) (views : List told_view.View) (v : told_view.View) (cs : List CatId) (k : ℕ) (c : CatId)
+    → k < length cs → c ≡ get_or cs k c → each_view_of views ≡ map h (ids (take k cs)) → view_of v ≡ h c.0
+    → each_view_of (views ++ v ∷ []) ≡ map h (ids (take (k + 1) cs))
+views_more h views v cs k c l e o s =
+    map-append view_of views (v ∷ []) ∙ ap (λ (t : List View). t ++ view_of v ∷ []) o
+    ∙ ap (λ (w : View). map h (ids (take k cs)) ++ w ∷ []) s
+    ∙ sym (map-append h (ids (take k cs)) (c.0 ∷ [])) ∙ ap (map h) (sym (ids_more cs k c l e))

@@ -1,5 +1,6 @@
 -- For which fact tables a tally stands.
 --     stands_start, stands_more    no fact, and one fact more
+--     among                        the members of the same categories
 --     tally_start, tally_more      what is true of every tally
 --     tally_room                   no sum wraps
 --     view_is, view_stored         the view of a category
@@ -58,7 +59,8 @@ pub record IsAdded (f : Fact) (t u : Summarized) : Type 0 where
   pub at : (y : ℕ) → IsAmong t.instance t.categories y
       → stands_at u y ≡ stands_at t y ⊕ when (reaches t.instance f.member y) (of_value f.value)
 
-among : (t u : Summarized) → u.instance ≡ t.instance → u.categories ≡ t.categories → (y : ℕ)
+-- a member of the categories of a table that has those of another is one of the other's
+pub among : (t u : Summarized) → u.instance ≡ t.instance → u.categories ≡ t.categories → (y : ℕ)
     → IsAmong u.instance u.categories y → IsAmong t.instance t.categories y
 among t u e g y m = subst (λ (i : Instance). IsAmong i t.categories y) e
     (subst (λ (cs : List ℕ). IsAmong u.instance cs y) g m)

@@ -8,20 +8,20 @@ use Rattle.olap_base.specs.Instance.{Instance}
 use Rattle.olap_base.specs.Summaries.{Summary, total}
 use Rattle.olap_base.specs.Views.{Row}
 use Rattle.olap_view.specs.Stores.{IsStored}
-use Rattle.olap_view.specs.Tables.{IsAmong, categories_of, summary_at}
-use Rattle.olap_view.specs.declared.tables.Table.{Table}
+use Rattle.olap_view.specs.SummaryTables.{Summarized, stands_at}
+use Rattle.olap_view.specs.Tables.{IsAmong}
 
 -- the total of the rows at members that reach y
 abbrev pub total_of_rows : Instance → List Row → ℕ → Option Summary
 total_of_rows i rows y = total (map (λ r. r.summary) (filter (λ r. reaches i r.member y) rows))
 
 -- at each member of the table's categories stands the total of the rows that reach it
-pub record AreMerged (i : Instance) (rows : List Row) (t : Table) : Type 0 where
-  pub at : (y : ℕ) → IsAmong i (categories_of t) y → summary_at t y ≡ total_of_rows i rows y
+pub record AreMerged (rows : List Row) (t : Summarized) : Type 0 where
+  pub at : (y : ℕ) → IsAmong t.instance t.categories y → stands_at t y ≡ total_of_rows t.instance rows y
 
 -- some stored rows stand there, and at most n
-pub record HoldsRows (i : Instance) (n : ℕ) (t : Table) : Type 0 where
+pub record HoldsRows (n : ℕ) (t : Summarized) : Type 0 where
   pub rows : List Row
   pub few : length rows ≤ n
   pub stored : All IsStored rows
-  pub merged : AreMerged i rows t
+  pub merged : AreMerged rows t

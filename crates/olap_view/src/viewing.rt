@@ -1,18 +1,14 @@
 // The view of a category, from facts or from stored views.
 ghost use Rattle.std.specs.Int.{bit_at};
-ghost use Rattle.std.specs.Prelude.{◌≡◌, ◌≢◌, ◌==◌, ◌++◌, ◌<◌, ◌≤◌, ◌*◌, ◌^◌, ℕ, All, AllPairs, IfOk, List as Items, length};
+ghost use Rattle.std.specs.Prelude.{◌≡◌, ◌==◌, ◌++◌, ◌<◌, ◌≤◌, ◌*◌, ◌^◌, All, IfOk, List as Items, length};
 ghost use Rattle.olap_base.specs.Limits.{most_count, most_members};
 ghost use Rattle.olap_base.specs.Views.{Row as TheRow, direct_view, rows_from_views};
 ghost use Rattle.olap_facts.specs.Seen.{facts_of};
-ghost use Rattle.olap_view.specs.Columns.{AreColumns};
 ghost use Rattle.olap_view.specs.Merging.{AreMerged, HoldsRows};
 ghost use Rattle.olap_view.specs.Seen.{rows_of, view_of, views_of};
 ghost use Rattle.olap_view.specs.Stores.{Fits, IsStore, IsStored, chosen};
-ghost use Rattle.olap_view.specs.Tables.{HasPlaces, categories_of};
 
-use crate::columns::{Column, columns};
-use crate::tables::Table;
-use crate::{Row, Store, Tally, View};
+use crate::{Row, Store, SummaryTable, Tally, View};
 use olap_base::{CatId, Memory};
 use olap_facts::Facts;
 use olap_legal::Legal;
@@ -31,9 +27,7 @@ pub fn direct(alloc: Global, legal: &Legal, facts: &Facts, c: CatId) -> Result<V
     ensures fits { IfOk result (λ v. Fits (view_of v)) }
 {
     let mut tally = Tally::new(alloc, legal, &[c])?;
-    'facts: for fact in facts.rows.items() {
-        tally.add(fact);
-    }
+    tally.add_all(facts.rows.items());
     tally.view(c)
 }
 
@@ -46,22 +40,18 @@ fn has_bit(mask: u16, k: usize) -> bool
 }
 
 /// Joins each row to what stands at the members that its member reaches. So many rows may have been joined before.
-fn join_rows(table: &mut Table, legal: &Legal, columns: &[Column], rows: &[Row])
-    requires columns { AreColumns legal.now (categories_of table.old) columns.now }
-    requires at_members { All (λ r. r.member.0 < length legal.now) rows.now }
+fn join_rows(table: &mut SummaryTable, rows: &[Row])
+    requires at_members { All (λ r. r.member.0 < length table.old.instance) rows.now }
     requires stored { All IsStored (rows_of rows.now) }
     requires short { length rows.now ≤ most_members }
-    requires differ { AllPairs ◌≢◌ (categories_of table.old) }
-    requires places { HasPlaces legal.now table.old }
-    requires few { HoldsRows legal.now (7 * most_members) table.old }
+    requires few { HoldsRows (7 * most_members) table.old }
+    ensures instance { table.new.instance ≡ table.old.instance }
     ensures categories { table.new.categories ≡ table.old.categories }
-    ensures places { table.new.places ≡ table.old.places }
-    ensures same_length { length table.new.summaries.items ≡ length table.old.summaries.items }
-    ensures merged { (earlier : Items TheRow) → AreMerged legal.now earlier table.old
-        → AreMerged legal.now (earlier ++ rows_of rows.now) table.new }
+    ensures merged { (earlier : Items TheRow) → AreMerged earlier table.old
+        → AreMerged (earlier ++ rows_of rows.now) table.new }
 {
     'rows: for row in rows {
-        table.join(legal, columns, row.member, row.summary());
+        table.join(row.member, row.summary());
     }
 }
 
@@ -86,13 +76,13 @@ pub fn from_views(
         ≡ record { category = c.0; rows = rows_from_views legal.now c.0 (chosen (views_of store.now) mask) }) }
     ensures members { IfOk result (λ v. All (λ r. r.member.0 < length legal.now) v.rows) }
 {
-    let instance = legal.instance();
-    let columns = columns(alloc, legal, &[c])?;
-    let mut table = Table::new(alloc, instance, &[c])?;
+    // How many members there may be bounds how many rows a view has.
+    legal.instance().members();
+    let mut table = SummaryTable::new(alloc, legal, &[c])?;
     'views: for (k, view) in store.views.items().iter().enumerate() {
         if has_bit(mask, k) {
-            join_rows(&mut table, legal, &columns, view.rows.items());
+            join_rows(&mut table, view.rows.items());
         }
     }
-    table.view(alloc, instance, c)
+    table.view(c)
 }

@@ -1,25 +1,51 @@
--- One fact more.
-use Rattle.std.proofs.Common.{◌+◌, ◌∷◌, [], get_or, map, take, ap, sym, subst, ◌∙◌, pos}
-use Rattle.std.proofs.lemmas.List.{map-append, take_more}
-use Rattle.olap_facts.specs.Seen.{fact_of}
-use Rattle.olap_facts.specs.declared.tables.Fact as told
+-- The tally stands for the facts.
+use Rattle.std.proofs.Common.{◌≡◌, ◌<◌, ℕ, [], List, length, map, ap, sym, subst, ◌∙◌, arith}
+use Rattle.std.specs.Prelude.{All, Contains, IfOk}
+use Rattle.olap_base.specs.Instance.{Instance}
+use Rattle.olap_base.specs.Views.{Fact, direct_view}
+use Rattle.olap_base.proofs.ListLemmas.{contains_head}
+use Rattle.olap_facts.specs.Seen.{fact_of, facts_of}
+use Rattle.olap_facts.specs.declared.tables.Fact as told_fact
+use Rattle.olap_view.specs.Seen.{view_of}
 use Rattle.olap_view.specs.Tallies.{StandsFor}
+use Rattle.olap_view.specs.declared.views.View as told
+use Rattle.olap_view.proofs.ViewingLemmas.{if_ok_more}
 use Rattle.olap_view.proofs.viewing.direct.Goals as goal
 
-nothing : told.Fact
-nothing = record { member = record { 0 = 0 }; value = pos 0 }
+pub add_all-requires-clause-members : goal.add_all-requires-clause-members
+add_all-requires-clause-members c =
+    subst (λ (i : Instance). All (λ f. f.member.0 < length i) c.items.result.now) (sym c.in_ok-tally.ensures.instance)
+    (subst (λ (l : List told_fact.Fact). All (λ f. f.member.0 < length c.args.legal.now) l) (sym c.items.ensures)
+    c.requires.at_members)
 
-pub facts-preserved : goal.facts-preserved
-unfolding nothing
-facts-preserved c =
-    let xs = c.items-fact-items.result.now in
-    let k = c.facts.fact-index in
-    let inv = c.facts.invariant in
-    let more = ap (map fact_of) (take_more xs k nothing c.facts-test.true)
-    ∙ map-append fact_of (take k xs) (get_or xs k nothing ∷ []) in
-    record {
-      instance = c.add.ensures.instance ∙ inv.instance;
-      categories = c.add.ensures.categories ∙ inv.categories;
-      added = c.add.ensures.added ∙ ap (λ n. n + 1) inv.added;
-      stands = subst (StandsFor c.add.new.self) (sym more) (c.add.ensures.stands (map fact_of (take k xs)) inv.stands);
-    }
+pub add_all-requires-clause-room : goal.add_all-requires-clause-room
+add_all-requires-clause-room c =
+    let a = c.in_ok-tally.ensures.stands.added in let l = ap length c.items.ensures in let f = c.requires.few in
+    omega arith
+
+pub view-requires : goal.view-requires
+view-requires c = record {
+  among = subst (λ (l : List ℕ). Contains l c.args.c.0)
+      (sym (c.add_all.ensures.categories ∙ c.in_ok-tally.ensures.categories)) (contains_head c.args.c.0 []);
+}
+
+pub returns-clause-view : goal.returns-clause-view
+returns-clause-view c =
+    let i = c.args.legal.now in
+    let t = c.add_all.new.self in
+    let d = c.args.c.0 in
+    let facts = facts_of c.args.facts.now in
+    let stands : StandsFor t facts =
+    subst (λ (l : List told_fact.Fact). StandsFor t (map fact_of l)) c.items.ensures
+    (c.add_all.ensures.stands [] c.in_ok-tally.ensures.stands) in
+    if_ok_more c.view.result
+    (λ (v : told.View). (fs : List Fact) → StandsFor t fs → view_of v ≡ direct_view t.instance fs d)
+    (λ (v : told.View). view_of v ≡ direct_view i facts d)
+    (λ v e. e facts stands
+    ∙ ap (λ (j : Instance). direct_view j facts d) (c.add_all.ensures.instance ∙ c.in_ok-tally.ensures.instance))
+    c.view.ensures.view
+
+pub returns-clause-members : goal.returns-clause-members
+returns-clause-members c =
+    subst (λ (i : Instance). IfOk c.view.result (λ v. All (λ r. r.member.0 < length i) v.rows))
+    (c.add_all.ensures.instance ∙ c.in_ok-tally.ensures.instance) c.view.ensures.members

@@ -10,14 +10,12 @@ use Rattle.olap_base.proofs.ListLemmas.{contains_head}
 use Rattle.olap_view.specs.Merging.{AreMerged, total_of_rows}
 use Rattle.olap_view.specs.Seen.{each_view_of, ids, row_of, rows_of, view_of, views_of}
 use Rattle.olap_view.specs.Stores.{Fits, IsStored, chosen}
-use Rattle.olap_view.specs.Tables.{HasPlaces, categories_of, summary_at, view_in}
+use Rattle.olap_view.specs.SummaryTables.{stands_at, view_at}
 use Rattle.olap_view.specs.declared.views.Row as row
 use Rattle.olap_view.specs.declared.views.View as told
 use Rattle.olap_view.proofs.SeenLemmas.{each_row, each_view}
 use Rattle.olap_view.proofs.StoresLemmas.{few_rows, rows_chosen, rows_chosen_more, rows_chosen_same}
-use Rattle.olap_view.proofs.TableLemmas.{places_kept}
 use Rattle.olap_view.proofs.ViewingLemmas.{if_ok_more, rows_same}
-use Rattle.olap_view.specs.Columns.{AreColumns, Ascent}
 use Rattle.olap_view.proofs.viewing.from_views.Goals as goal
 use Rattle.olap_view.proofs.viewing.from_views.Goals.{then-has_bit, else-has_bit}
 
@@ -44,14 +42,6 @@ short i views k v rows h e differ inside few q =
     let n : length rows ≡ length v.rows = ap length q in
     omega arith
 
-pub join_rows-requires-clause-columns : goal.join_rows-requires-clause-columns
-join_rows-requires-clause-columns c =
-    let i = c.args.legal.now in
-    let t = c.views.table in
-    subst (λ (l : List Ascent). AreColumns i (categories_of t) l) (sym c.deref.ensures.value)
-    (subst (λ (cs : List ℕ). AreColumns i cs c.in_ok-columns.columns.items) (sym c.views.invariant.categories)
-    c.in_ok-columns.ensures)
-
 pub join_rows-requires-clause-at_members : goal.join_rows-requires-clause-at_members
 join_rows-requires-clause-at_members c = λ k d h.
     let n = length c.args.legal.now in
@@ -61,8 +51,9 @@ join_rows-requires-clause-at_members c = λ k d h.
     let at = each_view (λ w. All (λ r. r.member < n) w.rows) views c.views.k v
     (inside views c.items-view-items.result.now c.views.k v same c.views-test.true)
     (here views c.items-view-items.result.now c.views.k v same c.view-item.is) c.requires.at_members in
-    subst (λ (l : List row.Row). (get_or l k d).member.0 < n) (sym c.items.ensures)
-    (each_row (λ r. r.member < n) v.rows k d (subst (λ (l : List row.Row). k < length l) c.items.ensures h) at)
+    subst (λ (i : Instance). (get_or c.items.result.now k d).member.0 < length i) (sym c.views.invariant.instance)
+    (subst (λ (l : List row.Row). (get_or l k d).member.0 < n) (sym c.items.ensures)
+    (each_row (λ r. r.member < n) v.rows k d (subst (λ (l : List row.Row). k < length l) c.items.ensures h) at))
 
 pub join_rows-requires-clause-stored : goal.join_rows-requires-clause-stored
 join_rows-requires-clause-stored c =
@@ -82,7 +73,7 @@ join_rows-requires-clause-short c =
     short c.args.legal.now views c.views.k v c.items.result.now
     (inside views c.items-view-items.result.now c.views.k v same c.views-test.true)
     (here views c.items-view-items.result.now c.views.k v same c.view-item.is) c.requires.store.members
-    c.requires.at_members (rw c.instance-instance.ensures at c.in_ok-table.ensures.few) c.items.ensures
+    c.requires.at_members (rw c.instance.ensures at c.members.ensures.few) c.items.ensures
 
 pub views-preserved : goal.views-preserved
 views-preserved c =
@@ -107,14 +98,13 @@ views-preserved c =
           let stored : All IsStored (rows_of v.rows) = each_view Fits views k v h e c.requires.fit in
           let size : length v.rows ≤ most_members =
           short i views k v v.rows h e c.requires.store.members c.requires.at_members
-          (rw c.instance-instance.ensures at c.in_ok-table.ensures.few) refl in
+          (rw c.instance.ensures at c.members.ensures.few) refl in
           record {
-            categories = ap categories_of w.table-is ∙ ap (λ l. ids l.items) j.categories ∙ inv.categories;
-            places = subst (HasPlaces i) (sym w.table-is)
-                (places_kept i c.views.table u j.categories j.places j.same_length inv.places);
-            merged = subst (AreMerged i next) (sym w.table-is)
-                (subst (λ (l : List Row). AreMerged i l u) (sym more)
-                (subst (λ (l : List row.Row). AreMerged i (rows ++ rows_of l) u) w.items.ensures
+            instance = ap (λ t. t.instance) w.table-is ∙ j.instance ∙ inv.instance;
+            categories = ap (λ t. t.categories) w.table-is ∙ j.categories ∙ inv.categories;
+            merged = subst (AreMerged next) (sym w.table-is)
+                (subst (λ (l : List Row). AreMerged l u) (sym more)
+                (subst (λ (l : List row.Row). AreMerged (rows ++ rows_of l) u) w.items.ensures
                 (j.merged rows inv.merged)));
             few = subst (λ (l : List Row). length l ≤ (k + 1) * most_members) (sym more)
                 (let a = length-append rows (rows_of v.rows) in let b = length-map v.rows row_of in omega arith);
@@ -124,10 +114,10 @@ views-preserved c =
           let kept : next ≡ rows =
           rows_chosen_same views k v mask h e (sym c.has_bit.ensures ∙ w.if-has_bit.false) in
           record {
-            categories = ap categories_of w.table-is ∙ inv.categories;
-            places = subst (HasPlaces i) (sym w.table-is) inv.places;
-            merged = subst (AreMerged i next) (sym w.table-is)
-                (subst (λ (l : List Row). AreMerged i l c.views.table) (sym kept) inv.merged);
+            instance = ap (λ t. t.instance) w.table-is ∙ inv.instance;
+            categories = ap (λ t. t.categories) w.table-is ∙ inv.categories;
+            merged = subst (AreMerged next) (sym w.table-is)
+                (subst (λ (l : List Row). AreMerged l c.views.table) (sym kept) inv.merged);
             few = subst (λ (l : List Row). length l ≤ (k + 1) * most_members) (sym kept) (omega arith);
             stored = subst (All IsStored) (sym kept) inv.stored;
           }
@@ -142,17 +132,17 @@ returns-clause-view c =
     let inv = c.views.invariant in
     let all : take c.views.k views ≡ views = ended views c.items-view-items.result.now c.views.k
     c.items-view-items.ensures c.views-test.false in
-    let merged : AreMerged i (rows_chosen (views_of c.args.store.now) c.args.mask) t =
-    subst (λ (l : List told.View). AreMerged i (rows_chosen (each_view_of l) c.args.mask) t) all inv.merged in
-    let among : Contains (categories_of t) d =
+    let rows = rows_chosen (views_of c.args.store.now) c.args.mask in
+    let merged : AreMerged rows t =
+    subst (λ (l : List told.View). AreMerged (rows_chosen (each_view_of l) c.args.mask) t) all inv.merged in
+    let among : Contains t.categories d =
     subst (λ (l : List ℕ). Contains l d) (sym inv.categories) (contains_head d []) in
-    if_ok_more c.view.result (λ (v : told.View). view_of v ≡ view_in c.instance-instance.result.now t d)
+    if_ok_more c.view.result (λ (v : told.View). view_of v ≡ view_at t d)
     (λ (v : told.View). view_of v
     ≡ record { category = d; rows = rows_from_views i d (chosen (views_of c.args.store.now) c.args.mask) })
-    (λ v e. e ∙ ap (λ (x : Instance). view_in x t d) c.instance-instance.ensures
-    ∙ ap (λ (r : List Row). record { category = d; rows = r })
-    (rows_same i d (λ y. row_at y (summary_at t y))
-    (λ y. row_at y (total_of_rows i (rows_chosen (views_of c.args.store.now) c.args.mask) y))
+    (λ v e. e ∙ ap (λ (r : List Row). record { category = d; rows = r })
+    (rows_same t.instance d (λ y. row_at y (stands_at t y)) (λ y. row_at y (total_of_rows t.instance rows y))
     (λ y m. ap (row_at y) (merged.at y
-    (record { member = m.0; category = subst (Contains (categories_of t)) (sym m.1) among })))))
+    (record { member = m.0; category = subst (Contains t.categories) (sym m.1) among })))
+    ∙ ap (λ (j : Instance). rows_from_views j d (chosen (views_of c.args.store.now) c.args.mask)) inv.instance))
     c.view.ensures.view

@@ -5,15 +5,14 @@ use Rattle.olap_base.specs.Limits.{most_members}
 use Rattle.olap_view.specs.Merging.{AreMerged}
 use Rattle.olap_view.specs.Seen.{each_view_of}
 use Rattle.olap_view.specs.Stores.{IsStored}
-use Rattle.olap_view.specs.Tables.{HasPlaces, categories_of}
 use Rattle.olap_view.proofs.StoresLemmas.{rows_chosen}
 use Rattle.olap_view.proofs.viewing.from_views.Given as goal
 
 abbrev pub invariant-views : goal.invariant-views
 invariant-views l = record {
-  categories : categories_of l.table ≡ l.c.0 ∷ [];
-  places : HasPlaces l.legal l.table;
-  merged : AreMerged l.legal (rows_chosen (each_view_of (take l.k l.store.views)) l.mask) l.table;
+  instance : l.table.instance ≡ l.legal;
+  categories : l.table.categories ≡ l.c.0 ∷ [];
+  merged : AreMerged (rows_chosen (each_view_of (take l.k l.store.views)) l.mask) l.table;
   few : length (rows_chosen (each_view_of (take l.k l.store.views)) l.mask) ≤ l.k * most_members;
   stored : All IsStored (rows_chosen (each_view_of (take l.k l.store.views)) l.mask);
 }

@@ -1,30 +1,32 @@
 -- One row more.
-use Rattle.std.proofs.Common.{◌≤◌, ◌^◌, ◌++◌, ◌∷◌, [], List, length, get_or, take, ap, sym, subst, ◌∙◌, arith, pos, append_assoc, length-append}
+use Rattle.std.proofs.Common.{◌≤◌, ◌<◌, ◌^◌, ◌++◌, ◌∷◌, [], List, length, get_or, take, ap, sym, subst, ◌∙◌, arith, pos, append_assoc, length-append}
 use Rattle.std.specs.Prelude.{All}
 use Rattle.std.proofs.lemmas.List.Elements.{All-append, All-take}
-use Rattle.olap_base.specs.Summaries.{Summary}
+use Rattle.olap_base.specs.Instance.{Instance}
+use Rattle.olap_base.specs.Reaching.{reaches}
+use Rattle.olap_base.specs.Summaries.{◌⊕◌}
 use Rattle.olap_base.specs.Views.{Row}
 use Rattle.olap_view.specs.Bounds.{IsUpTo}
 use Rattle.olap_view.specs.Merging.{AreMerged}
 use Rattle.olap_view.specs.Seen.{row_of, rows_of}
 use Rattle.olap_view.specs.Stores.{IsStored}
-use Rattle.olap_view.specs.Tables.{AreJoined}
+use Rattle.olap_view.specs.SummaryTables.{stands_at}
+use Rattle.olap_view.specs.Tables.{when}
 use Rattle.olap_view.specs.declared.views.Row as told
 use Rattle.olap_view.proofs.MergingLemmas.{holds_room, merged_more, stored_small}
 use Rattle.olap_view.proofs.SeenLemmas.{each_row, rows_more_is, rows_of_taken, rows_taken}
-use Rattle.std.proofs.Common.{Global, Vec}
-use Rattle.olap_base.specs.declared.ids.CatId.{CatId}
-use Rattle.olap_view.specs.Columns.{AreColumns}
-use Rattle.olap_view.specs.Seen.{ids}
 use Rattle.olap_view.proofs.viewing.join_rows.Goals as goal
 
 nothing : told.Row
 nothing = record { member = record { 0 = 0 }; count = 0; sum = pos 0; least = pos 0; greatest = pos 0 }
 
-pub join-requires-clause-columns : goal.join-requires-clause-columns
-join-requires-clause-columns c =
-    subst (λ (v : Vec CatId Global). AreColumns c.args.legal.now (ids v.items) c.args.columns.now)
-    (sym c.rows.invariant.categories) c.requires.columns
+pub join-requires-clause-member : goal.join-requires-clause-member
+unfolding nothing
+join-requires-clause-member c =
+    let rows = c.args.rows.now in
+    let k = c.rows.row-index in
+    subst (λ (i : Instance). (get_or rows k nothing).member.0 < length i) (sym c.rows.invariant.instance)
+    (c.requires.at_members k nothing c.rows-test.true)
 
 pub join-requires-clause-this : goal.join-requires-clause-this
 unfolding nothing
@@ -43,7 +45,7 @@ join-requires-clause-room c =
     let few : length (q.rows ++ rows_of (take k rows)) ≤ 2097152 =
     let l = rows_taken rows k in let s = c.requires.short in let f = q.few in
     omega (arith, length-append q.rows (rows_of (take k rows))) in
-    holds_room c.args.legal.now (q.rows ++ rows_of (take k rows)) c.rows.table few
+    holds_room (q.rows ++ rows_of (take k rows)) c.rows.table few
     (All-append IsStored q.rows (rows_of (take k rows)) q.stored
     (subst (All IsStored) (rows_of_taken rows k) (All-take IsStored k (rows_of rows) c.requires.stored)))
     (c.rows.invariant.merged q.rows q.merged)
@@ -51,23 +53,23 @@ join-requires-clause-room c =
 pub rows-preserved : goal.rows-preserved
 unfolding nothing
 rows-preserved c =
-    let i = c.args.legal.now in
     let rows = c.args.rows.now in
     let k = c.rows.row-index in
     let r = row_of (get_or rows k nothing) in
     let inv = c.rows.invariant in
     let t = c.rows.table in
     let u = c.join.new.self in
-    let j : AreJoined i r.member r.summary t u =
-    subst (λ (s : Summary). AreJoined i r.member s t u) c.summary.ensures c.join.ensures in
+    let j = c.join.ensures in
     record {
-      categories = j.same_categories ∙ inv.categories;
-      places = j.same_places ∙ inv.places;
-      same_length = j.same_length ∙ inv.same_length;
+      instance = j.instance ∙ inv.instance;
+      categories = j.categories ∙ inv.categories;
       merged = λ earlier m.
           let old = rows_of (take k rows) in
-          subst (λ (l : List Row). AreMerged i l u)
+          subst (λ (l : List Row). AreMerged l u)
           (append_assoc earlier old (r ∷ [])
           ∙ ap (λ (l : List Row). earlier ++ l) (sym (rows_more_is rows k nothing c.rows-test.true)))
-          (merged_more i (earlier ++ old) r t u j (inv.merged earlier m));
+          (merged_more (earlier ++ old) r t u j.instance j.categories
+          (λ y h. j.at y h
+          ∙ ap (λ s. stands_at t y ⊕ when (reaches t.instance r.member y) s) c.summary.ensures)
+          (inv.merged earlier m));
     }
