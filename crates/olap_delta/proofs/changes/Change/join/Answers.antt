@@ -3,6 +3,7 @@ use Rattle.std.proofs.Common.{Option, Some, get_or, refl, subst}
 use Rattle.olap_base.specs.Summaries.{Summary}
 use Rattle.olap_view.specs.Seen.{summary_of}
 use Rattle.olap_delta.specs.Joining.{IsJoined}
+use Rattle.olap_delta.proofs.ChangingLemmas.{put_storable}
 use Rattle.olap_delta.proofs.JoinedTableLemmas.{joined_none, joined_some, once_none, once_some}
 use Rattle.olap_delta.proofs.changes.Change.join.Goals as goal
 
@@ -22,6 +23,14 @@ returns-in-Some-of_lot-clause-joined c = λ t.
     })
     (subst (λ (o : Option Summary). IsJoined c.args.self o (Some (summary_of c.args.lot.summary))
     (Some (summary_of c.in-Some-of_lot.summary))) c.at.ensures c.in-Some-of_lot.ensures.joined)
+
+pub returns-in-Some-of_lot-clause-storable : goal.returns-in-Some-of_lot-clause-storable
+returns-in-Some-of_lot-clause-storable c =
+    put_storable c.in-Some.y.0 (summary_of c.in-Some-of_lot.summary) c.args.table.now c.put.new.self (record {
+      instance = c.put.ensures.instance;
+      categories = c.put.ensures.categories;
+      at = c.put.ensures.at;
+    }) c.in-Some-of_lot.ensures.storable c.requires.storable
 
 pub returns-in_default-clause-once : goal.returns-in_default-clause-once
 returns-in_default-clause-once c = λ t.
