@@ -1,6 +1,6 @@
 -- One fact more.
-use Rattle.std.proofs.Common.{◌≡◌, ◌+◌, ◌∷◌, ◌++◌, [], List, get_or, map, pos, take, ap, sym, subst, ◌∙◌}
-use Rattle.std.proofs.lemmas.List.{map-append, take_more}
+use Rattle.std.proofs.Common.{◌≡◌, ◌+◌, ◌<◌, ◌∷◌, ◌++◌, [], List, length, length-take, get_or, map, pos, take, ap, sym, subst, ◌∙◌, arith}
+use Rattle.std.proofs.lemmas.List.{length-map, length-take-le, map-append, take_more}
 use Rattle.olap_base.specs.Views.{Fact}
 use Rattle.olap_facts.specs.Seen.{fact_of}
 use Rattle.olap_facts.specs.declared.tables.Fact as told
@@ -10,6 +10,40 @@ use Rattle.olap_delta.proofs.storing.changed.Goals as goal
 -- what facts have past their end
 nobody : told.Fact
 nobody = record { member = record { 0 = 0 }; value = pos 0 }
+
+pub take-requires-clause-member : goal.take-requires-clause-member
+unfolding nobody
+take-requires-clause-member c =
+    let read = c.items-fact-items.result.now in
+    let k = c.facts.fact-index in
+    let rows = ap length c.items-fact-items.ensures in
+    let t = c.facts-test.true in
+    let at : (get_or c.args.facts.now.rows k nobody).member.0 < length c.args.legal.now =
+    c.requires.at_members k nobody (omega arith) in
+    let same : (get_or read k nobody).member.0 ≡ (get_or c.args.facts.now.rows k nobody).member.0 =
+    ap (λ (l : List told.Fact). (get_or l k nobody).member.0) c.items-fact-items.ensures in
+    let e = c.facts.invariant.places in omega arith
+
+pub take-requires-clause-room : goal.take-requires-clause-room
+take-requires-clause-room c =
+    let read = c.items-fact-items.result.now in
+    let k = c.facts.fact-index in
+    let rows = ap length c.items-fact-items.ensures in
+    let t = c.facts-test.true in
+    let few = c.requires.few in
+    let taken = c.facts.invariant.stand.taken in
+    let a = length-map (take k read) fact_of in
+    let b : length (take k read) ≡ k = length-take-le k read (omega arith) in omega arith
+
+pub joined-requires-clause-few : goal.joined-requires-clause-few
+joined-requires-clause-few c =
+    let read = c.items-fact-items.result.now in
+    let k = c.facts.fact-index in
+    let rows = ap length c.items-fact-items.ensures in
+    let few = c.requires.few in
+    let taken = c.facts.invariant.stand.taken in
+    let a = length-map (take k read) fact_of in
+    let b = length-take k read in omega arith
 
 pub facts-preserved : goal.facts-preserved
 unfolding nobody
