@@ -1,8 +1,8 @@
 -- One view more, whose bit is in the mask or isn't.
 use Rattle.std.proofs.Common.{◌≡◌, ◌≢◌, ◌<◌, ◌≤◌, ◌+◌, ◌*◌, ◌++◌, [], ℕ, List, length, get_or, map, take, ap, sym, subst, ◌∙◌, refl, arith, length-append}
-use Rattle.std.specs.Prelude.{All, AllPairs, Contains}
+use Rattle.std.specs.Prelude.{All, AllPairs, Contains, IfOk}
 use Rattle.std.proofs.lemmas.List.{length-map, take_all}
-use Rattle.std.proofs.lemmas.List.Elements.{All-append}
+use Rattle.std.proofs.lemmas.List.Elements.{All-append, All-nil}
 use Rattle.olap_base.specs.Instance.{Instance}
 use Rattle.olap_base.specs.Limits.{most_members}
 use Rattle.olap_base.specs.Views.{Row, row_at, rows_from_views}
@@ -14,6 +14,7 @@ use Rattle.olap_view.specs.SummaryTables.{stands_at, view_at}
 use Rattle.olap_view.specs.declared.views.Row as row
 use Rattle.olap_view.specs.declared.views.View as told
 use Rattle.olap_view.proofs.SeenLemmas.{each_row, each_view}
+use Rattle.olap_view.proofs.MergingLemmas.{merged_start}
 use Rattle.olap_view.proofs.StoresLemmas.{few_rows, rows_chosen, rows_chosen_more, rows_chosen_same}
 use Rattle.olap_view.proofs.ViewingLemmas.{if_ok_more, rows_same}
 use Rattle.olap_view.proofs.viewing.from_views.Goals as goal
@@ -41,6 +42,27 @@ short i views k v rows h e differ inside few q =
     let l : length (rows_of v.rows) ≡ length v.rows = length-map v.rows row_of in
     let n : length rows ≡ length v.rows = ap length q in
     omega arith
+
+pub views-init : goal.views-init
+views-init c = record {
+  instance = c.in_ok-table.ensures.instance;
+  categories = c.in_ok-table.ensures.categories;
+  merged = merged_start c.in_ok-table.table c.in_ok-table.ensures.empty;
+  few = omega arith;
+  stored = All-nil IsStored;
+}
+
+pub join_rows-requires-clause-few : goal.join_rows-requires-clause-few
+join_rows-requires-clause-few c =
+    let views = c.args.store.now.views in
+    let inv = c.views.invariant in
+    record {
+      rows = rows_chosen (each_view_of (take c.views.k views)) c.args.mask;
+      few = let n = length-map views view_of in let f = c.requires.store.few in let t = c.views-test.true in
+          let s = ap length c.items-view-items.ensures in let q = inv.few in omega arith;
+      stored = inv.stored;
+      merged = inv.merged;
+    }
 
 pub join_rows-requires-clause-at_members : goal.join_rows-requires-clause-at_members
 join_rows-requires-clause-at_members c = λ k d h.
@@ -122,6 +144,17 @@ views-preserved c =
             stored = subst (All IsStored) (sym kept) inv.stored;
           }
     ]
+
+pub view-requires : goal.view-requires
+view-requires c = record {
+  among = subst (λ (l : List ℕ). Contains l c.args.c.0) (sym c.views.invariant.categories)
+      (contains_head c.args.c.0 []);
+}
+
+pub returns-clause-members : goal.returns-clause-members
+returns-clause-members c =
+    subst (λ (i : Instance). IfOk c.view.result (λ v. All (λ r. r.member.0 < length i) v.rows))
+    c.views.invariant.instance c.view.ensures.members
 
 pub returns-clause-view : goal.returns-clause-view
 returns-clause-view c =
