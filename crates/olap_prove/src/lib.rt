@@ -6,6 +6,8 @@
 //! it was found.
 #![tactic(auto)]
 
+mod activities;
+mod decided;
 mod drafting;
 mod proving;
 mod rows;
@@ -13,5 +15,6 @@ mod searches;
 mod shapes;
 mod steps;
 mod tasks;
+mod trees;
 
 pub use proving::{Proof, prove};

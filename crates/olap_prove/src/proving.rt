@@ -9,6 +9,7 @@ ghost use Rattle.olap_ast.specs.Trees.{numbers_of};
 ghost use Rattle.olap_summ.specs.declared.summarizing.SummRefusal.TheVariants as refusal;
 
 use crate::drafting::draft;
+use crate::trees::NoTree;
 use olap_base::{CatId, Memory, Text};
 use olap_frozen::Found;
 use olap_proof::{Form, VerifyRefusal, plain_certificate, verify};
@@ -38,9 +39,10 @@ fn accepted_draft(
     ensures { IfOk result (λ o. IfSome o (λ text.
         IsCertificateFor form (schema_of schema.now) target.0 (numbers_of sources.now) text.items)) }
 {
-    let text = match draft(alloc, schema, form, target, sources)? {
-        Some(text) => text,
-        None => return Ok(None),
+    let text = match draft(alloc, schema, form, target, sources) {
+        Ok(text) => text,
+        Err(NoTree::Memory) => return Err(Memory),
+        Err(NoTree::GivenUp) => return Ok(None),
     };
     match verify(alloc, schema, form, target, sources, &text) {
         Ok(()) => Ok(Some(text)),

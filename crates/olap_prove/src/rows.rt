@@ -14,7 +14,7 @@ pub(crate) struct Rows {
 }
 
 /// The set with one category more.
-fn with(set: Categories, c: CatId) -> Categories {
+pub(crate) fn with(set: Categories, c: CatId) -> Categories {
     if usize::from(c.0) < 64 * WORDS {
         set.with(c.0)
     } else {

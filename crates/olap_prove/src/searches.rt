@@ -1,55 +1,41 @@
 // The search for a short tree: what closes at once is decided first, and a split that no reason below it needs is
 // left out. Nothing is promised of what it finds.
-use crate::shapes::{Decision, Shape};
+use crate::activities::Activities;
+use crate::decided::Decision;
+use crate::rows::with;
+use crate::shapes::Shape;
 use crate::steps::Step;
 use crate::tasks::{Task, Variable};
+use crate::trees::{NoTree, Trees};
 use olap_ast::Truth3;
 use olap_base::Memory;
+use olap_graph::Categories;
 use olap_proof::Line;
 use std::alloc::Global;
 use std::mem::swap;
 
-/// Activities are halved from here on.
-const MOST_ACTIVITY: u64 = 1 << 40;
+/// How many lines that close are looked at for a leaf.
+const MOST_LEAVES: u32 = 4;
 
 /// How often some decisions may be left out for a reason.
 const MOST_PARTS: usize = 1 << 16;
 
-/// A line with the trees of its cases.
-#[derive(Drop)]
-pub(crate) struct Node {
-    pub(crate) line: Line,
-    pub(crate) cases: Vec<usize>,
-}
-
-/// A tree, by its place among the nodes, and the variables whose decisions it needs.
-#[derive(Drop)]
-pub(crate) struct Refuted {
-    reason: Vec<usize>,
-    pub(crate) tree: usize,
-}
-
-/// A search below one root.
+/// A search below one root. A reason is the variables whose decisions a tree needs.
 #[derive(Drop)]
 pub(crate) struct Search<'a> {
     task: &'a Task<'a>,
     shape: Shape,
-    pub(crate) nodes: Vec<Node>,
-    activities: Vec<u64>,
-    step: u64,
+    pub(crate) trees: Trees,
+    activities: Activities,
+    /// The reason of the tree that was found last.
+    reason: Vec<usize>,
+    /// The reason of a line that may be a leaf.
+    needed: Vec<usize>,
+    /// The reason of a tree to which a leaf is added.
+    above: Vec<usize>,
     /// How often a decision may still be tried.
     left: u32,
     alloc: Global,
-}
-
-/// Adds the variables of one reason to another, but for one.
-fn join(reason: &mut Vec<usize>, more: &[usize], except: usize) -> Result<(), Memory> {
-    'variables: for i in 0..more.len() {
-        if more[i] != except && !has(reason, more[i]) {
-            reason.push(more[i])?;
-        }
-    }
-    Ok(())
 }
 
 /// Whether the reason has the variable.
@@ -62,23 +48,49 @@ fn has(reason: &[usize], variable: usize) -> bool {
     false
 }
 
-/// The activity with a step more.
-fn raised(activity: u64, step: u64) -> u64 {
-    if activity < MOST_ACTIVITY && step < MOST_ACTIVITY {
-        activity + step
-    } else {
-        MOST_ACTIVITY
+/// Adds the variables of one reason to another, but for one.
+fn join(reason: &mut Vec<usize>, more: &[usize], except: usize) -> Result<(), Memory> {
+    'variables: for i in 0..more.len() {
+        if more[i] != except && !has(reason, more[i]) {
+            reason.push(more[i])?;
+        }
+    }
+    Ok(())
+}
+
+/// The cases of a split that were found yet, and the reason of all of them together.
+#[derive(Drop)]
+struct Cases {
+    trees: Vec<usize>,
+    reason: Vec<usize>,
+}
+
+impl Cases {
+    /// None.
+    fn new(alloc: Global) -> Cases {
+        Cases {
+            trees: Vec::new(alloc),
+            reason: Vec::new(alloc),
+        }
+    }
+
+    /// One case more of a split by the variable.
+    fn add(&mut self, tree: usize, reason: &[usize], variable: usize) -> Result<(), Memory> {
+        join(&mut self.reason, reason, variable)?;
+        self.trees.push(tree)?;
+        Ok(())
     }
 }
 
-impl Refuted {
-    /// None yet.
-    pub(crate) fn new(alloc: Global) -> Refuted {
-        Refuted {
-            reason: Vec::new(alloc),
-            tree: 0,
+/// The categories whose names the steps ask.
+fn named_in(steps: &[Step]) -> Categories {
+    let mut named = Categories::empty();
+    'steps: for i in 0..steps.len() {
+        if let Step::Name(c, _) | Step::Below(c, _) = steps[i] {
+            named = with(named, c);
         }
     }
+    named
 }
 
 impl<'a> Search<'a> {
@@ -86,43 +98,32 @@ impl<'a> Search<'a> {
     pub(crate) fn new(alloc: Global, task: &'a Task<'a>, tries: u32) -> Result<Search<'a>, Memory> {
         Ok(Search {
             task,
-            activities: vec![in alloc; 0; task.choices.len()]?,
-            shape: Shape::new(alloc, task.graph, task.root)?,
-            nodes: Vec::new(alloc),
-            step: 1,
+            activities: Activities::new(alloc, task.choices.len())?,
+            shape: Shape::new(alloc, task)?,
+            trees: Trees::new(alloc),
+            reason: Vec::new(alloc),
+            needed: Vec::new(alloc),
+            above: Vec::new(alloc),
             left: tries,
             alloc,
         })
     }
 
-    /// Looks for a tree below the root. Whether one was found.
-    pub(crate) fn run(&mut self, found: &mut Refuted) -> Result<bool, Memory> {
+    /// A tree below the root.
+    pub(crate) fn run(&mut self) -> Result<usize, NoTree> {
         self.shape.refresh(self.task);
-        self.refute(self.task.choices.len(), found)
+        self.refute(self.task.choices.len())
     }
 
-    /// One node more, by its place.
-    fn add(&mut self, line: Line, cases: Vec<usize>) -> Result<usize, Memory> {
-        let place = self.nodes.len();
-        self.nodes.push(Node { line, cases })?;
-        Ok(place)
-    }
+    // ---- leaves
 
-    /// One node more with these cases, by its place.
-    fn add_cases(&mut self, line: Line, cases: &[usize]) -> Result<usize, Memory> {
-        let mut kept = Vec::new(self.alloc);
-        kept.extend_from_slice(cases)?;
-        self.add(line, kept)
-    }
-
-    // ---- reasons
-
-    /// Adds the variables whose decisions the line needs: the latest are left out first, several at a time.
-    fn push_reason(&mut self, line: Line, needed: &mut Vec<usize>) -> Result<(), Memory> {
+    /// Finds the variables whose decisions the line needs: the latest are left out first, several at a time.
+    fn find_needed(&mut self, line: Line) -> Result<(), Memory> {
         let task = self.task;
-        let count = self.shape.trail.len();
+        let count = self.shape.decided.count();
         let mut end = count;
         let mut size = count / 2;
+        self.needed.clear();
         'parts: for _ in 0..MOST_PARTS {
             if end == 0 {
                 break;
@@ -133,206 +134,144 @@ impl<'a> Search<'a> {
             if size == 0 {
                 size = 1;
             }
-            self.shape.set_between(task, end - size, end, false);
+            self.shape.decided.set_between(task, end - size, end, false);
             self.shape.refresh(task);
-            if self.shape.closes(task, line)? {
+            if self.shape.closes(task, line) {
                 end -= size;
                 size = size.wrapping_add(size);
             } else {
-                self.shape.set_between(task, end - size, end, true);
+                self.shape.decided.set_between(task, end - size, end, true);
                 if size == 1 {
                     end -= 1;
-                    needed.push(self.variable_at(end))?;
+                    self.needed.push(self.shape.decided.decision(end).variable)?;
                     size = 4;
                 } else {
                     size /= 2;
                 }
             }
         }
-        self.shape.set_between(task, 0, count, true);
+        self.shape.decided.set_between(task, 0, count, true);
         self.shape.refresh(task);
         Ok(())
     }
 
-    /// The variable of a decision.
-    fn variable_at(&self, place: usize) -> usize {
-        if place < self.shape.trail.len() {
-            self.shape.trail[place].variable
-        } else {
-            0
-        }
-    }
-
-    /// Whether some line closes.
-    fn is_closed(&mut self) -> Result<bool, Memory> {
-        Ok(!self.shape.closing(self.alloc, self.task, 1)?.is_empty())
-    }
-
-    /// The variables whose decisions the line needs take the place of others, if they are fewer. Whether they are.
-    fn shorten(&mut self, line: Line, least: usize, best: &mut Vec<usize>) -> Result<bool, Memory> {
-        let mut reason = Vec::new(self.alloc);
-        self.push_reason(line, &mut reason)?;
-        let is_less = reason.len() < least;
-        if is_less {
-            swap(best, &mut reason);
-        }
-        Ok(is_less)
-    }
-
-    /// Looks for a tree of one line that closes. Whether there is one.
-    fn leaf(&mut self, found: &mut Refuted) -> Result<bool, Memory> {
-        let lines = self.shape.closing(self.alloc, self.task, 4)?;
-        self.leaf_of(&lines, found)
-    }
-
-    /// The tree of one of these lines: of that which needs the fewest decisions. Whether there is one.
-    fn leaf_of(&mut self, lines: &[Line], found: &mut Refuted) -> Result<bool, Memory> {
+    /// The tree of one line that closes: of a few the one that needs the fewest decisions.
+    fn leaf(&mut self) -> Result<usize, NoTree> {
         let mut best = None;
-        let mut least = usize::MAX;
-        'lines: for i in 0..lines.len() {
-            if self.shorten(lines[i], least, &mut found.reason)? {
-                least = found.reason.len();
-                best = Some(lines[i]);
+        let mut from = 0;
+        'leaves: for _ in 0..MOST_LEAVES {
+            let (place, line) = match self.shape.closing(self.task, from) {
+                Some(closing) => closing,
+                None => break,
+            };
+            self.find_needed(line)?;
+            if best.is_none() || self.needed.len() < self.reason.len() {
+                swap(&mut self.reason, &mut self.needed);
+                best = Some(line);
             }
+            from = place.wrapping_add(1);
         }
         match best {
-            None => Ok(false),
-            Some(line) => {
-                found.tree = self.add(line, Vec::new(self.alloc))?;
-                Ok(true)
-            }
-        }
-    }
-
-    /// The variables of a reason become more active.
-    fn raise(&mut self, reason: &[usize]) {
-        'variables: for i in 0..reason.len() {
-            if reason[i] < self.activities.len() {
-                self.activities[reason[i]] = raised(self.activities[reason[i]], self.step);
-            }
-        }
-        self.step = raised(self.step, self.step / 16);
-        self.step = raised(self.step, 1);
-        if self.step >= MOST_ACTIVITY / 256 {
-            self.step = 1;
-            'activities: for i in 0..self.activities.len() {
-                self.activities[i] >>= 30;
-            }
+            Some(line) => Ok(self.trees.add(line, &[])?),
+            None => Err(NoTree::GivenUp),
         }
     }
 
     // ---- what closes at once
 
-    /// Whether some line closes once the variable has the value.
-    fn closes_at_once(&mut self, place: usize, value: usize) -> Result<bool, Memory> {
-        let task = self.task;
-        if place >= task.choices.len() {
-            return Ok(false);
-        }
-        let choice = task.choices[place];
-        if !choice.is_asked {
-            if let Variable::Way(c, d) = choice.variable {
-                return Ok(self.shape.clashes(task, c, d, value == 1));
-            }
-        }
+    /// Whether some line closes after the decision. It is tried, unless there were too many tries.
+    fn closes_after(&mut self, decision: Decision) -> bool {
         if self.left == 0 {
-            return Ok(false);
+            return false;
         }
         self.left -= 1;
-        let length = self.shape.trail.len();
-        let decision = Decision {
-            variable: place,
-            value,
-        };
+        let task = self.task;
+        let length = self.shape.decided.count();
         self.shape.keep();
-        self.shape.decide(task, decision)?;
-        let is_closed = self.is_closed()?;
+        self.shape.decide(task, decision);
+        let is_closed = self.shape.is_closed(task);
         self.shape.undo(task, length);
-        Ok(is_closed)
+        is_closed
+    }
+
+    /// Whether some line closes once the variable has the value.
+    fn closes_at_once(&mut self, variable: usize, value: usize) -> bool {
+        match self.task.unasked_way(variable) {
+            Some((c, d)) => self.shape.clashes(self.task, c, d, value == 1),
+            None => self.closes_after(Decision { variable, value }),
+        }
     }
 
     /// The decision on a variable that closes at once, if it has two values and isn't decided.
-    fn failing(&mut self, place: usize) -> Result<Option<Decision>, Memory> {
-        let variable = self.task.variable(place);
-        if self.task.values(place) != 2 || self.shape.is_decided(variable) {
-            return Ok(None);
+    fn failing(&mut self, variable: usize) -> Option<Decision> {
+        let task = self.task;
+        if task.values(variable) != 2 || self.shape.decided.has(task.variable(variable)) {
+            return None;
         }
         'values: for value in 0..2usize {
-            if self.closes_at_once(place, value)? {
-                return Ok(Some(Decision {
-                    variable: place,
-                    value,
-                }));
+            if self.closes_at_once(variable, value) {
+                return Some(Decision { variable, value });
             }
         }
-        Ok(None)
+        None
     }
 
     /// Decides what can't be decided otherwise, in one round over the variables. Whether it decided anything.
-    fn force_once(&mut self, failed: &mut Vec<Decision>) -> Result<bool, Memory> {
+    fn force_once(&mut self) -> bool {
         let task = self.task;
         let mut more = false;
+        let mut is_after_way = false;
         'choices: for place in 0..task.choices.len() {
-            let is_way = matches!(task.variable(place), Variable::Way(_, _));
-            if more && !is_way && failed_way(task, failed) {
-                return Ok(true);
+            let is_way = task.is_way(place);
+            if is_after_way && !is_way {
+                return true;
             }
-            if let Some(decision) = self.failing(place)? {
-                failed.push(decision)?;
-                let other = Decision {
-                    variable: place,
-                    value: if decision.value == 0 { 1 } else { 0 },
-                };
-                self.shape.decide(task, other)?;
+            if let Some(decision) = self.failing(place) {
+                self.shape.decide(task, decision.other());
                 more = true;
-                if self.is_closed()? {
-                    return Ok(true);
+                is_after_way = is_way;
+                if self.shape.is_closed(task) {
+                    return true;
                 }
             }
         }
-        Ok(more)
+        more
     }
 
     /// Decides what can't be decided otherwise, until some line closes or nothing more is forced. Whether one closes.
-    fn force(&mut self, failed: &mut Vec<Decision>) -> Result<bool, Memory> {
+    fn force(&mut self) -> bool {
         'rounds: for _ in 0..self.task.choices.len() {
-            if self.is_closed()? {
-                return Ok(true);
+            if self.shape.is_closed(self.task) {
+                return true;
             }
-            if !self.force_once(failed)? {
-                return Ok(false);
+            if !self.force_once() {
+                return false;
             }
         }
-        self.is_closed()
+        self.shape.is_closed(self.task)
     }
 
     // ---- splits
 
-    /// For each category, whether a constraint that is open asks its name.
-    fn wanted_names(&mut self) -> Result<Vec<bool>, Memory> {
-        let mut wanted = vec![in self.alloc; false; usize::from(self.task.graph.categories())]?;
-        self.want_names(&mut wanted)?;
-        Ok(wanted)
-    }
-
-    /// Marks the categories whose names constraints ask that are open.
-    fn want_names(&mut self, wanted: &mut [bool]) -> Result<(), Memory> {
+    /// The categories whose names constraints ask that are open.
+    fn wanted_names(&mut self) -> Categories {
         let task = self.task;
+        let mut wanted = Categories::empty();
         'constraints: for n in 0..task.constraints() {
             if self.shape.has(task.constraint_root(n)) {
                 let steps = task.constraint(n);
-                if self.shape.value(task.form, steps)? == Truth3::Unknown {
-                    want(steps, wanted);
+                if self.shape.value(task.form, steps) == Truth3::Unknown {
+                    wanted = wanted.union(named_in(steps));
                 }
             }
         }
-        Ok(())
+        wanted
     }
 
     /// Whether a variable may be split by, and whether it then stands above what is known.
-    fn rank(&self, variable: Variable, wanted: &[bool]) -> Option<bool> {
+    fn rank(&self, variable: Variable, wanted: &Categories) -> Option<bool> {
         let task = self.task;
-        if self.shape.is_decided(variable) {
+        if self.shape.decided.has(variable) {
             return None;
         }
         match variable {
@@ -344,8 +283,7 @@ impl<'a> Search<'a> {
                 Some(self.shape.has(child))
             }
             Variable::Name(c) => {
-                let place = usize::from(c.0);
-                if place < wanted.len() && wanted[place] {
+                if wanted.has(c.0) {
                     Some(self.shape.has(c))
                 } else {
                     None
@@ -361,20 +299,15 @@ impl<'a> Search<'a> {
         }
     }
 
-    /// The variable to split by.
-    fn pick(&mut self) -> Result<Option<usize>, Memory> {
-        let wanted = self.wanted_names()?;
-        Ok(self.most_active(&wanted))
-    }
-
-    /// The most active variable, of these one above what is known, of these the first.
-    fn most_active(&self, wanted: &[bool]) -> Option<usize> {
+    /// The variable to split by: the most active, of these one above what is known, of these the first.
+    fn pick(&mut self) -> Option<usize> {
+        let wanted = self.wanted_names();
         let mut best = None;
         let mut most = 0;
         let mut is_above = false;
-        'choices: for place in 0..self.activities.len() {
-            if let Some(above) = self.rank(self.task.variable(place), wanted) {
-                let activity = self.activities[place];
+        'choices: for place in 0..self.task.choices.len() {
+            if let Some(above) = self.rank(self.task.variable(place), &wanted) {
+                let activity = self.activities.of(place);
                 let is_better = activity > most || activity == most && above && !is_above;
                 if best.is_none() || is_better {
                     best = Some(place);
@@ -386,189 +319,87 @@ impl<'a> Search<'a> {
         best
     }
 
-    /// Looks for a tree that splits by a variable, or that of a case which doesn't need it. Whether one was found.
+    /// A tree that splits by a variable, or that of a case which doesn't need it.
     #[cycle(refuting)]
-    fn split(&mut self, depth: usize, found: &mut Refuted) -> Result<bool, Memory> {
+    fn split(&mut self, depth: usize) -> Result<usize, NoTree> {
         if depth == 0 || self.left == 0 {
-            return Ok(false);
+            return Err(NoTree::GivenUp);
         }
-        match self.pick()? {
-            Some(place) => self.split_by(place, depth - 1, found),
-            None => Ok(false),
+        match self.pick() {
+            Some(variable) => {
+                let mut cases = Cases::new(self.alloc);
+                self.refute_cases(variable, depth - 1, &mut cases)
+            }
+            None => Err(NoTree::GivenUp),
         }
     }
 
-    /// Looks for a tree that splits by this variable, or that of a case which doesn't need it. Whether one was found.
-    #[cycle(refuting)]
-    fn split_by(
-        &mut self,
-        place: usize,
-        depth: usize,
-        found: &mut Refuted,
-    ) -> Result<bool, Memory> {
-        let mut cases = Vec::new(self.alloc);
-        let mut reason = Vec::new(self.alloc);
-        self.refute_cases(place, depth, &mut cases, &mut reason, found)
-    }
-
-    /// Looks for a tree for each value of a variable, or one that doesn't need it. Whether the one or the other was
-    /// found.
+    /// A tree that splits by this variable, with a tree for each value, or the first of these that doesn't need it.
     #[cycle(refuting)]
     fn refute_cases(
         &mut self,
-        place: usize,
+        variable: usize,
         depth: usize,
-        cases: &mut Vec<usize>,
-        reason: &mut Vec<usize>,
-        found: &mut Refuted,
-    ) -> Result<bool, Memory> {
-        'values: for value in 0..self.task.values(place) {
-            let decision = Decision {
-                variable: place,
-                value,
-            };
-            if !self.refute_case(decision, depth, found)? {
-                return Ok(false);
-            }
-            if !has(&found.reason, place) {
-                return Ok(true);
-            }
-            join(reason, &found.reason, place)?;
-            cases.push(found.tree)?;
-        }
-        swap(&mut found.reason, reason);
-        found.tree = self.add_cases(self.task.line(place), cases)?;
-        Ok(true)
-    }
-
-    /// Looks for a tree for what is decided and one decision more, which is taken back. Whether one was found.
-    #[cycle(refuting)]
-    fn refute_case(
-        &mut self,
-        decision: Decision,
-        depth: usize,
-        found: &mut Refuted,
-    ) -> Result<bool, Memory> {
+        cases: &mut Cases,
+    ) -> Result<usize, NoTree> {
         let task = self.task;
-        let length = self.shape.trail.len();
-        self.shape.decide(task, decision)?;
-        let is_found = self.refute(depth, found)?;
-        self.shape.back_to(task, length);
-        Ok(is_found)
-    }
-
-    /// Looks for a tree for what is decided. Whether one was found. It calls itself at most as deep as there are
-    /// variables.
-    #[cycle(refuting)]
-    fn refute(&mut self, depth: usize, found: &mut Refuted) -> Result<bool, Memory> {
-        let mut failed = Vec::new(self.alloc);
-        self.refute_forced(depth, &mut failed, found)
-    }
-
-    /// Looks for a tree for what is decided and what that forces. Whether one was found.
-    #[cycle(refuting)]
-    fn refute_forced(
-        &mut self,
-        depth: usize,
-        failed: &mut Vec<Decision>,
-        found: &mut Refuted,
-    ) -> Result<bool, Memory> {
-        let start = self.shape.trail.len();
-        let is_found = if self.force(failed)? {
-            self.leaf(found)?
-        } else {
-            self.split(depth, found)?
-        };
-        if !is_found {
-            return Ok(false);
+        let length = self.shape.decided.count();
+        'values: for value in 0..task.values(variable) {
+            self.shape.decide(task, Decision { variable, value });
+            let tree = self.refute(depth)?;
+            self.shape.back_to(task, length);
+            if !has(&self.reason, variable) {
+                return Ok(tree);
+            }
+            cases.add(tree, &self.reason, variable)?;
         }
-        self.raise(&found.reason);
-        self.unforce(start, failed, found)
+        swap(&mut self.reason, &mut cases.reason);
+        Ok(self.trees.add(task.line(variable), &cases.trees)?)
     }
 
-    /// The tree becomes one with a split for each forced decision that it needs. Whether each was found.
-    fn unforce(
-        &mut self,
-        start: usize,
-        failed: &[Decision],
-        found: &mut Refuted,
-    ) -> Result<bool, Memory> {
-        let count = failed.len();
-        'failed: for i in 0..count {
-            let k = count - 1 - i;
-            let decision = failed[k];
-            if has(&found.reason, decision.variable) {
-                self.shape.back_to(self.task, start.wrapping_add(k));
-                if !self.unforce_one(decision, found)? {
-                    return Ok(false);
-                }
+    /// A tree for what is decided. It calls itself at most as deep as there are variables.
+    #[cycle(refuting)]
+    fn refute(&mut self, depth: usize) -> Result<usize, NoTree> {
+        let start = self.shape.decided.count();
+        let tree = if self.force() {
+            self.leaf()?
+        } else {
+            self.split(depth)?
+        };
+        self.activities.raise(&self.reason);
+        self.unforce(start, tree)
+    }
+
+    /// The tree with a split for each decision that was forced and that it needs, the last first. They are taken back.
+    fn unforce(&mut self, start: usize, tree: usize) -> Result<usize, NoTree> {
+        let mut tree = tree;
+        'forced: for place in (start..self.shape.decided.count()).rev() {
+            let forced = self.shape.decided.decision(place);
+            if has(&self.reason, forced.variable) {
+                self.shape.back_to(self.task, place);
+                tree = self.split_off(forced.other(), tree)?;
             }
         }
         self.shape.back_to(self.task, start);
-        Ok(true)
+        Ok(tree)
     }
 
-    /// The tree becomes one that splits by the variable of a decision that failed. Whether a line closes after that
-    /// decision.
-    fn unforce_one(&mut self, decision: Decision, found: &mut Refuted) -> Result<bool, Memory> {
-        let mut leaf = Refuted::new(self.alloc);
-        self.split_leaf(decision, &mut leaf, found)
-    }
-
-    /// The tree becomes one that splits by the variable of a decision that failed, of which this leaf is the one case.
-    /// Whether a line closes after that decision.
-    fn split_leaf(
-        &mut self,
-        decision: Decision,
-        leaf: &mut Refuted,
-        found: &mut Refuted,
-    ) -> Result<bool, Memory> {
-        self.shape.decide(self.task, decision)?;
-        if !self.leaf(leaf)? {
-            return Ok(false);
-        }
-        self.raise(&leaf.reason);
-        self.join_reasons(decision.variable, &leaf.reason, found)?;
-        let line = self.task.line(decision.variable);
-        found.tree = if decision.value == 0 {
-            self.add_cases(line, &[leaf.tree, found.tree])?
+    /// The tree that splits by the variable of a decision: a leaf closes after that decision, and this tree otherwise.
+    fn split_off(&mut self, decision: Decision, tree: usize) -> Result<usize, NoTree> {
+        let variable = decision.variable;
+        swap(&mut self.reason, &mut self.above);
+        self.shape.decide(self.task, decision);
+        let leaf = self.leaf()?;
+        self.activities.raise(&self.reason);
+        self.needed.clear();
+        join(&mut self.needed, &self.above, variable)?;
+        join(&mut self.needed, &self.reason, variable)?;
+        swap(&mut self.reason, &mut self.needed);
+        let cases = if decision.value == 0 {
+            [leaf, tree]
         } else {
-            self.add_cases(line, &[found.tree, leaf.tree])?
+            [tree, leaf]
         };
-        Ok(true)
-    }
-
-    /// The reason becomes both reasons together, but for one variable.
-    fn join_reasons(
-        &self,
-        variable: usize,
-        more: &[usize],
-        found: &mut Refuted,
-    ) -> Result<(), Memory> {
-        let mut both = Vec::new(self.alloc);
-        join(&mut both, &found.reason, variable)?;
-        join(&mut both, more, variable)?;
-        swap(&mut found.reason, &mut both);
-        Ok(())
-    }
-}
-
-/// Whether the last decision that failed is one on a way.
-fn failed_way(task: &Task<'_>, failed: &[Decision]) -> bool {
-    match failed.last() {
-        Some(decision) => matches!(task.variable(decision.variable), Variable::Way(_, _)),
-        None => false,
-    }
-}
-
-/// Marks the categories whose names the steps ask.
-fn want(steps: &[Step], wanted: &mut [bool]) {
-    'steps: for i in 0..steps.len() {
-        if let Step::Name(c, _) | Step::Below(c, _) = steps[i] {
-            let place = usize::from(c.0);
-            if place < wanted.len() {
-                wanted[place] = true;
-            }
-        }
+        Ok(self.trees.add(self.task.line(variable), &cases)?)
     }
 }

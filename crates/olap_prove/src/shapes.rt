@@ -1,140 +1,40 @@
 // Shapes of which some edges, names and ways are decided, in tables.
+use crate::decided::{Decided, Decision};
 use crate::rows::Rows;
 use crate::steps::{Stack, Step};
-use crate::tasks::{Task, Variable, way_place};
+use crate::tasks::{Task, Variable};
 use olap_ast::Truth3;
-use olap_base::{CatId, EdgeId, MOST_CATEGORIES, Memory};
+use olap_base::{CatId, EdgeId, Memory};
 use olap_graph::Graph;
 use olap_proof::{Form, Line};
 use std::alloc::Global;
 
-/// The lines that are tried first.
-const FIRST: [Line; 3] = [Line::Question, Line::Cycle, Line::Shortcut];
-
-/// A decision: a variable, by its place among the task's, and its value.
-#[derive(Clone, Copy)]
-pub(crate) struct Decision {
-    pub(crate) variable: usize,
-    pub(crate) value: usize,
-}
-
-/// The decisions, in their order, and what they say.
+/// What is decided, and what is then known.
 #[derive(Drop)]
 pub(crate) struct Shape {
     root: CatId,
-    pub(crate) trail: Vec<Decision>,
-    edges: Vec<Option<bool>>,
-    names: Vec<Option<usize>>,
-    ways: Vec<Option<bool>>,
+    pub(crate) decided: Decided,
     rows: Rows,
     kept: Rows,
     stack: Stack,
 }
 
 impl Shape {
-    /// Nothing is decided.
-    pub(crate) fn new(alloc: Global, graph: &Graph, root: CatId) -> Result<Shape, Memory> {
-        let categories = usize::from(graph.categories());
+    /// Nothing is decided. There is room for all decisions of the task, and for the values of its formulas.
+    pub(crate) fn new(alloc: Global, task: &Task<'_>) -> Result<Shape, Memory> {
+        let categories = usize::from(task.graph.categories());
         Ok(Shape {
-            root,
-            trail: Vec::new(alloc),
-            edges: vec![in alloc; None; usize::from(graph.edges())]?,
-            names: vec![in alloc; None; categories]?,
-            ways: vec![in alloc; None; categories * MOST_CATEGORIES]?,
+            root: task.root,
+            stack: Stack::new(alloc, task.most_steps())?,
             rows: Rows::new(alloc, categories)?,
             kept: Rows::new(alloc, categories)?,
-            stack: Stack::new(Vec::new(alloc)),
+            decided: Decided::new(alloc, task)?,
         })
     }
 
-    // ---- what is decided
-
-    /// What was decided of the edge.
-    fn edge(&self, e: EdgeId) -> Option<bool> {
-        let place = usize::from(e.0);
-        if place < self.edges.len() {
-            self.edges[place]
-        } else {
-            None
-        }
-    }
-
-    /// The index that was decided for the category's name. `All` has one.
-    fn name(&self, c: CatId) -> Option<usize> {
-        if c.0 == 0 {
-            return Some(0);
-        }
-        let place = usize::from(c.0);
-        if place < self.names.len() {
-            self.names[place]
-        } else {
-            None
-        }
-    }
-
-    /// What was decided of the way.
-    fn way(&self, c: CatId, d: CatId) -> Option<bool> {
-        let place = way_place(c, d);
-        if place < self.ways.len() {
-            self.ways[place]
-        } else {
-            None
-        }
-    }
-
-    /// The variable of the decision at a place of the trail.
+    /// The variable of the decision at a place.
     fn variable(&self, task: &Task<'_>, place: usize) -> Variable {
-        if place < self.trail.len() {
-            task.variable(self.trail[place].variable)
-        } else {
-            Variable::Name(CatId(0))
-        }
-    }
-
-    /// Whether the variable has a value.
-    pub(crate) fn is_decided(&self, variable: Variable) -> bool {
-        match variable {
-            Variable::Edge(e) => self.edge(e).is_some(),
-            Variable::Name(c) => self.name(c).is_some(),
-            Variable::Way(c, d) => self.way(c, d).is_some(),
-        }
-    }
-
-    /// Gives the variable a value, or takes it away.
-    fn set(&mut self, variable: Variable, value: Option<usize>) {
-        let truth = match value {
-            Some(value) => Some(value == 1),
-            None => None,
-        };
-        match variable {
-            Variable::Edge(e) => {
-                if usize::from(e.0) < self.edges.len() {
-                    self.edges[usize::from(e.0)] = truth;
-                }
-            }
-            Variable::Name(c) => {
-                if usize::from(c.0) < self.names.len() {
-                    self.names[usize::from(c.0)] = value;
-                }
-            }
-            Variable::Way(c, d) => {
-                let place = way_place(c, d);
-                if place < self.ways.len() {
-                    self.ways[place] = truth;
-                }
-            }
-        }
-    }
-
-    /// The values of some decisions, given or taken away: those from one place of the trail up to another.
-    pub(crate) fn set_between(&mut self, task: &Task<'_>, from: usize, to: usize, given: bool) {
-        'decisions: for i in from..to {
-            if i < self.trail.len() {
-                let decision = self.trail[i];
-                let value = if given { Some(decision.value) } else { None };
-                self.set(task.variable(decision.variable), value);
-            }
-        }
+        task.variable(self.decided.decision(place).variable)
     }
 
     // ---- what is known
@@ -145,7 +45,7 @@ impl Shape {
         self.rows.begin(self.root);
         self.open_edges(graph);
         'edges: for e in 0..graph.edges() {
-            if self.edge(EdgeId(e)) == Some(true) {
+            if self.decided.edge(EdgeId(e)) == Some(true) {
                 let (child, parent) = graph.ends(EdgeId(e));
                 self.rows.draw(child, parent);
             }
@@ -157,9 +57,9 @@ impl Shape {
 
     /// Adds the ways that were decided to be there.
     fn refresh_ways(&mut self, task: &Task<'_>) {
-        'decisions: for i in 0..self.trail.len() {
+        'decisions: for i in 0..self.decided.count() {
             if let Variable::Way(c, d) = self.variable(task, i) {
-                if self.way(c, d) == Some(true) {
+                if self.decided.way(c, d) == Some(true) {
                     self.rows.lead(c, d);
                 }
             }
@@ -170,7 +70,7 @@ impl Shape {
     fn open_edges(&mut self, graph: &Graph) {
         self.rows.begin_open();
         'edges: for e in 0..graph.edges() {
-            if self.edge(EdgeId(e)) != Some(false) {
+            if self.decided.edge(EdgeId(e)) != Some(false) {
                 let (child, parent) = graph.ends(EdgeId(e));
                 self.rows.open(child, parent);
             }
@@ -190,7 +90,7 @@ impl Shape {
 
     /// Whether the one category has a member that reaches one of the other.
     pub(crate) fn reached(&self, form: Form, c: CatId, d: CatId) -> Truth3 {
-        match self.way(c, d) {
+        match self.decided.way(c, d) {
             Some(true) => Truth3::Yes,
             Some(false) => Truth3::No,
             None => {
@@ -207,7 +107,7 @@ impl Shape {
 
     /// Whether the category's name is one from this index on, before that one.
     fn named(&self, c: CatId, from: usize, to: usize) -> Truth3 {
-        match self.name(c) {
+        match self.decided.name(c) {
             None => Truth3::Unknown,
             Some(decided) => {
                 if decided < from || decided >= to {
@@ -222,30 +122,28 @@ impl Shape {
     }
 
     /// The value of a formula's steps.
-    pub(crate) fn value(&mut self, form: Form, steps: &[Step]) -> Result<Truth3, Memory> {
+    pub(crate) fn value(&mut self, form: Form, steps: &[Step]) -> Truth3 {
         self.stack.clear();
         'steps: for i in 0..steps.len() {
             let value = match steps[i] {
                 Step::Known(value) => value,
-                Step::Edge(e) => told(self.edge(e)),
+                Step::Edge(e) => told(self.decided.edge(e)),
                 Step::Reach(c, d) => self.reached(form, c, d),
                 Step::Name(c, index) => self.named(c, index, index.wrapping_add(1)),
                 Step::Below(c, count) => self.named(c, 0, count),
                 step => self.stack.connect(step),
             };
-            self.stack.push(value)?;
+            self.stack.push(value);
         }
-        Ok(self.stack.pop())
+        self.stack.pop()
     }
 
     // ---- decisions
 
     /// One decision more.
-    pub(crate) fn decide(&mut self, task: &Task<'_>, decision: Decision) -> Result<(), Memory> {
-        self.trail.push(decision)?;
-        let variable = task.variable(decision.variable);
-        self.set(variable, Some(decision.value));
-        match variable {
+    pub(crate) fn decide(&mut self, task: &Task<'_>, decision: Decision) {
+        self.decided.push(task, decision);
+        match task.variable(decision.variable) {
             Variable::Edge(e) => {
                 if decision.value == 0 {
                     self.open_edges(task.graph);
@@ -261,20 +159,12 @@ impl Shape {
                 }
             }
         }
-        Ok(())
     }
 
     /// Takes the decisions from a place of the trail on back. What is known is read off anew.
     pub(crate) fn back_to(&mut self, task: &Task<'_>, length: usize) {
-        self.take_back(task, length);
+        self.decided.truncate(task, length);
         self.refresh(task);
-    }
-
-    /// Takes the decisions from a place of the trail on back.
-    fn take_back(&mut self, task: &Task<'_>, length: usize) {
-        let count = self.trail.len();
-        self.set_between(task, length, count, false);
-        self.trail.truncate(length);
     }
 
     /// Keeps what is known, for `undo`.
@@ -284,7 +174,7 @@ impl Shape {
 
     /// Takes the last decision back, since which `keep` kept what was known.
     pub(crate) fn undo(&mut self, task: &Task<'_>, length: usize) {
-        self.take_back(task, length);
+        self.decided.truncate(task, length);
         self.rows.copy(&self.kept);
     }
 
@@ -297,7 +187,7 @@ impl Shape {
         }
         let edges = task.graph.parents(c);
         'edges: for i in 0..edges.len() {
-            if self.edge(edges[i]) != Some(false) {
+            if self.decided.edge(edges[i]) != Some(false) {
                 match to {
                     None => return false,
                     Some(d) => {
@@ -314,7 +204,7 @@ impl Shape {
 
     /// Whether a present edge is one of a cycle.
     fn is_on_cycle(&self, graph: &Graph, e: EdgeId) -> bool {
-        if e.0 >= graph.edges() || self.edge(e) != Some(true) {
+        if e.0 >= graph.edges() || self.decided.edge(e) != Some(true) {
             return false;
         }
         let (child, parent) = graph.ends(e);
@@ -323,13 +213,13 @@ impl Shape {
 
     /// Whether present edges lead round a present edge.
     fn is_bypassed(&self, graph: &Graph, e: EdgeId) -> bool {
-        if e.0 >= graph.edges() || self.edge(e) != Some(true) {
+        if e.0 >= graph.edges() || self.decided.edge(e) != Some(true) {
             return false;
         }
         let (child, parent) = graph.ends(e);
         let others = graph.parents(child);
         'others: for i in 0..others.len() {
-            if others[i].0 != e.0 && self.edge(others[i]) == Some(true) {
+            if others[i].0 != e.0 && self.decided.edge(others[i]) == Some(true) {
                 let (_, through) = graph.ends(others[i]);
                 if self.rows.draws(through, parent) {
                     return true;
@@ -350,7 +240,7 @@ impl Shape {
 
     /// Whether the edge is present, and the root can't reach its child.
     fn is_loose(&self, graph: &Graph, e: EdgeId) -> bool {
-        if e.0 >= graph.edges() || self.edge(e) != Some(true) {
+        if e.0 >= graph.edges() || self.decided.edge(e) != Some(true) {
             return false;
         }
         let (child, _) = graph.ends(e);
@@ -358,16 +248,15 @@ impl Shape {
     }
 
     /// Whether the line closes.
-    pub(crate) fn closes(&mut self, task: &Task<'_>, line: Line) -> Result<bool, Memory> {
-        let closed = match line {
+    pub(crate) fn closes(&mut self, task: &Task<'_>, line: Line) -> bool {
+        match line {
             Line::Constraint(n) => {
                 self.has(task.constraint_root(n))
-                    && self.value(task.form, task.constraint(n))? == Truth3::No
+                    && self.value(task.form, task.constraint(n)) == Truth3::No
             }
-            Line::Question => self.value(task.form, task.question())? == Truth3::No,
+            Line::Question => self.value(task.form, task.question()) == Truth3::No,
             _ => self.closes_by_law(task, line),
-        };
-        Ok(closed)
+        }
     }
 
     /// Whether the line closes, if no formula is asked.
@@ -375,15 +264,14 @@ impl Shape {
         let graph = task.graph;
         match line {
             Line::Dead(c) => c.0 != 0 && self.has(c) && self.has_no_step(task, c, None),
-            Line::Cycle => self.some_edge(graph, line),
-            Line::Shortcut => self.some_edge(graph, line),
+            Line::Cycle | Line::Shortcut => self.some_edge(graph, line),
             Line::LooseEdge(e) => self.is_loose(graph, e),
             Line::LooseCategory(c) => {
                 c.0 != self.root.0
                     && self.has(c)
                     && self.reached(task.form, self.root, c) == Truth3::No
             }
-            Line::Steps(c, d) => match self.way(c, d) {
+            Line::Steps(c, d) => match self.decided.way(c, d) {
                 Some(there) => self.clashes(task, c, d, there),
                 None => false,
             },
@@ -406,119 +294,44 @@ impl Shape {
         false
     }
 
-    /// Adds the line to those that close, if it does. Whether there are enough.
-    fn offer(
-        &mut self,
-        task: &Task<'_>,
-        line: Line,
-        most: usize,
-        lines: &mut Vec<Line>,
-    ) -> Result<bool, Memory> {
-        if self.closes(task, line)? {
-            lines.push(line)?;
-        }
-        Ok(lines.len() >= most)
+    /// How many lines are tried.
+    fn tries(&self, task: &Task<'_>) -> usize {
+        let laws = task.laws.len();
+        let ways = laws.wrapping_add(self.decided.count());
+        ways.wrapping_add(task.constraints())
     }
 
-    /// Adds lines that close, of those of which there is one each. Whether there are enough.
-    fn offer_first(
-        &mut self,
-        task: &Task<'_>,
-        most: usize,
-        lines: &mut Vec<Line>,
-    ) -> Result<bool, Memory> {
-        'first: for i in 0..FIRST.len() {
-            if self.offer(task, FIRST[i], most, lines)? {
-                return Ok(true);
-            }
+    /// The line that is tried at a place, if there is one: laws, then ways that were decided, then constraints.
+    fn tried(&self, task: &Task<'_>, place: usize) -> Option<Line> {
+        let laws = task.laws.len();
+        let count = self.decided.count();
+        if place < laws {
+            return Some(task.laws[place]);
         }
-        Ok(false)
+        if place - laws >= count {
+            return Some(Line::Constraint(place - laws - count));
+        }
+        match self.variable(task, place - laws) {
+            Variable::Way(c, d) => Some(Line::Steps(c, d)),
+            _ => None,
+        }
     }
 
-    /// Adds lines about edges and categories that close. Whether there are enough.
-    fn offer_laws(
-        &mut self,
-        task: &Task<'_>,
-        most: usize,
-        lines: &mut Vec<Line>,
-    ) -> Result<bool, Memory> {
-        let is_short = task.form == Form::Short;
-        'categories: for c in 0..task.graph.categories() {
-            if self.offer(task, Line::Dead(CatId(c)), most, lines)? {
-                return Ok(true);
-            }
-            if is_short && self.offer(task, Line::LooseCategory(CatId(c)), most, lines)? {
-                return Ok(true);
-            }
-        }
-        if !is_short {
-            'edges: for e in 0..task.graph.edges() {
-                if self.offer(task, Line::LooseEdge(EdgeId(e)), most, lines)? {
-                    return Ok(true);
+    /// The place of the first line from one on that closes, and the line.
+    pub(crate) fn closing(&mut self, task: &Task<'_>, from: usize) -> Option<(usize, Line)> {
+        'lines: for place in from..self.tries(task) {
+            if let Some(line) = self.tried(task, place) {
+                if self.closes(task, line) {
+                    return Some((place, line));
                 }
             }
         }
-        Ok(false)
+        None
     }
 
-    /// Adds lines about ways that close. Whether there are enough.
-    fn offer_ways(
-        &mut self,
-        task: &Task<'_>,
-        most: usize,
-        lines: &mut Vec<Line>,
-    ) -> Result<bool, Memory> {
-        'decisions: for i in 0..self.trail.len() {
-            if let Variable::Way(c, d) = self.variable(task, i) {
-                if self.offer(task, Line::Steps(c, d), most, lines)? {
-                    return Ok(true);
-                }
-            }
-        }
-        Ok(false)
-    }
-
-    /// Adds constraints that close.
-    fn offer_constraints(
-        &mut self,
-        task: &Task<'_>,
-        most: usize,
-        lines: &mut Vec<Line>,
-    ) -> Result<(), Memory> {
-        'constraints: for n in 0..task.constraints() {
-            if self.offer(task, Line::Constraint(n), most, lines)? {
-                return Ok(());
-            }
-        }
-        Ok(())
-    }
-
-    /// Lines that close, at most so many.
-    pub(crate) fn closing(
-        &mut self,
-        alloc: Global,
-        task: &Task<'_>,
-        most: usize,
-    ) -> Result<Vec<Line>, Memory> {
-        let mut lines = Vec::new(alloc);
-        self.offer_all(task, most, &mut lines)?;
-        Ok(lines)
-    }
-
-    /// Adds lines that close, until there are enough.
-    fn offer_all(
-        &mut self,
-        task: &Task<'_>,
-        most: usize,
-        lines: &mut Vec<Line>,
-    ) -> Result<(), Memory> {
-        let is_enough = self.offer_first(task, most, lines)?
-            || self.offer_laws(task, most, lines)?
-            || task.form == Form::Short && self.offer_ways(task, most, lines)?;
-        if !is_enough {
-            self.offer_constraints(task, most, lines)?;
-        }
-        Ok(())
+    /// Whether some line closes.
+    pub(crate) fn is_closed(&mut self, task: &Task<'_>) -> bool {
+        self.closing(task, 0).is_some()
     }
 }
 

@@ -4,6 +4,7 @@ use olap_base::{CatId, EdgeId, Memory, Text};
 use olap_graph::Graph;
 use olap_names::Candidates;
 use olap_numerals::number;
+use std::alloc::Global;
 
 /// An atom's value is put on the stack, or a connective takes values off it and puts one there.
 #[derive(Clone, Copy)]
@@ -32,9 +33,11 @@ pub(crate) struct Stack {
 }
 
 impl Stack {
-    /// An empty stack over these values' memory.
-    pub(crate) fn new(values: Vec<Truth3>) -> Stack {
-        Stack { values }
+    /// An empty stack, with room for so many values.
+    pub(crate) fn new(alloc: Global, room: usize) -> Result<Stack, Memory> {
+        Ok(Stack {
+            values: Vec::with_capacity(alloc, room)?,
+        })
     }
 
     /// Without values.
@@ -43,9 +46,9 @@ impl Stack {
     }
 
     /// One value more.
-    pub(crate) fn push(&mut self, value: Truth3) -> Result<(), Memory> {
-        self.values.push(value)?;
-        Ok(())
+    pub(crate) fn push(&mut self, value: Truth3) {
+        // There is room for it, so it isn't refused.
+        let _pushed = self.values.push(value);
     }
 
     /// The last value, which is taken off.

@@ -27,11 +27,22 @@ pub(crate) fn way_place(c: CatId, d: CatId) -> usize {
     usize::from(c.0) * MOST_CATEGORIES + usize::from(d.0)
 }
 
-/// A formula that holds at each member of its root.
-#[derive(Drop)]
+/// What a draft is asked for: a certificate of this form that the target is summarizable from the sources.
+#[derive(Clone, Copy)]
+pub(crate) struct Asked<'a> {
+    pub(crate) words: Words<'a>,
+    pub(crate) constraints: &'a [Constraint],
+    pub(crate) form: Form,
+    pub(crate) target: CatId,
+    pub(crate) sources: &'a [CatId],
+}
+
+/// A formula that holds at each member of its root, and where its steps stand.
+#[derive(Clone, Copy)]
 struct Posed {
     root: CatId,
-    steps: Vec<Step>,
+    first: usize,
+    end: usize,
 }
 
 /// A root, formulas, and the variables that matter below it.
@@ -40,8 +51,12 @@ pub(crate) struct Task<'a> {
     pub(crate) graph: &'a Graph,
     pub(crate) form: Form,
     pub(crate) root: CatId,
+    /// The steps of the constraints, one after another, and those of the question.
+    steps: Vec<Step>,
     constraints: Vec<Posed>,
-    question: Vec<Step>,
+    question: Posed,
+    /// The lines that are tried first, in their order.
+    pub(crate) laws: Vec<Line>,
     pub(crate) choices: Vec<Choice>,
 }
 
@@ -75,57 +90,84 @@ fn push_question(
     Ok(())
 }
 
-/// The constraint as steps.
-fn as_steps(alloc: Global, words: &Words<'_>, constraint: &Constraint) -> Result<Posed, Memory> {
-    let mut steps = Vec::new(alloc);
-    words.push(&constraint.formula, constraint.root, &mut steps)?;
-    Ok(Posed {
-        root: constraint.root,
-        steps,
-    })
+/// The steps from one place up to another.
+fn between(steps: &[Step], first: usize, end: usize) -> &[Step] {
+    if first <= end && end <= steps.len() {
+        &steps[first..end]
+    } else {
+        &[]
+    }
 }
 
 impl<'a> Task<'a> {
     /// The task of a bottom category.
-    pub(crate) fn new(
-        alloc: Global,
-        words: &Words<'a>,
-        form: Form,
-        constraints: &[Constraint],
-        root: CatId,
-        target: CatId,
-        sources: &[CatId],
-    ) -> Result<Task<'a>, Memory> {
+    pub(crate) fn new(alloc: Global, asked: &Asked<'a>, root: CatId) -> Result<Task<'a>, Memory> {
         let mut task = Task {
-            graph: words.graph,
-            form,
+            graph: asked.words.graph,
+            form: asked.form,
             root,
+            steps: Vec::new(alloc),
             constraints: Vec::new(alloc),
-            question: Vec::new(alloc),
+            question: Posed {
+                root,
+                first: 0,
+                end: 0,
+            },
+            laws: Vec::new(alloc),
             choices: Vec::new(alloc),
         };
-        task.pose(alloc, words, constraints, target, sources)?;
+        task.pose(alloc, asked)?;
         Ok(task)
     }
 
-    /// Adds the formulas, and then what may be decided.
-    fn pose(
-        &mut self,
-        alloc: Global,
-        words: &Words<'a>,
-        constraints: &[Constraint],
-        target: CatId,
-        sources: &[CatId],
-    ) -> Result<(), Memory> {
-        'constraints: for constraint in constraints {
-            self.constraints.push(as_steps(alloc, words, constraint)?)?;
+    /// Adds the formulas, and then the lines that are tried first and what may be decided.
+    fn pose(&mut self, alloc: Global, asked: &Asked<'a>) -> Result<(), Memory> {
+        'constraints: for constraint in asked.constraints {
+            self.push_constraint(&asked.words, constraint)?;
         }
-        push_question(self.root, target, sources, &mut self.question)?;
+        self.question.first = self.steps.len();
+        push_question(self.root, asked.target, asked.sources, &mut self.steps)?;
+        self.question.end = self.steps.len();
+        self.push_laws()?;
         if self.form == Form::Short {
             self.push_ways(alloc)?;
         }
         self.push_edges()?;
-        self.push_names(words)
+        self.push_names(&asked.words)
+    }
+
+    /// Adds a constraint.
+    fn push_constraint(
+        &mut self,
+        words: &Words<'a>,
+        constraint: &Constraint,
+    ) -> Result<(), Memory> {
+        let root = constraint.root;
+        let first = self.steps.len();
+        words.push(&constraint.formula, root, &mut self.steps)?;
+        let end = self.steps.len();
+        self.constraints.push(Posed { root, first, end })?;
+        Ok(())
+    }
+
+    /// Adds the lines that are tried first.
+    fn push_laws(&mut self) -> Result<(), Memory> {
+        let graph = self.graph;
+        let is_short = self.form == Form::Short;
+        let alone = [Line::Question, Line::Cycle, Line::Shortcut];
+        self.laws.extend_from_slice(&alone)?;
+        'categories: for c in 0..graph.categories() {
+            self.laws.push(Line::Dead(CatId(c)))?;
+            if is_short {
+                self.laws.push(Line::LooseCategory(CatId(c)))?;
+            }
+        }
+        if !is_short {
+            'edges: for e in 0..graph.edges() {
+                self.laws.push(Line::LooseEdge(EdgeId(e)))?;
+            }
+        }
+        Ok(())
     }
 
     /// The edges that the root may reach.
@@ -182,7 +224,7 @@ impl<'a> Task<'a> {
             }
             let (c, d) = todo[i];
             let place = way_place(c, d);
-            if place < seen.len() && !seen[place] && self.is_way(c, d) {
+            if place < seen.len() && !seen[place] && self.may_lead(c, d) {
                 seen[place] = true;
                 self.choices.push(Choice {
                     variable: Variable::Way(c, d),
@@ -197,15 +239,16 @@ impl<'a> Task<'a> {
 
     /// The ways that formulas ask.
     fn push_all_asked(&self, todo: &mut Vec<(CatId, CatId)>) -> Result<(), Memory> {
-        'constraints: for posed in &self.constraints {
-            todo.push((posed.root, posed.root))?;
-            push_asked(&posed.steps, todo)?;
+        'constraints: for n in 0..self.constraints.len() {
+            let root = self.constraints[n].root;
+            todo.push((root, root))?;
+            push_asked(self.constraint(n), todo)?;
         }
-        push_asked(&self.question, todo)
+        push_asked(self.question(), todo)
     }
 
     /// Whether the root may reach the one category, and that the other.
-    fn is_way(&self, c: CatId, d: CatId) -> bool {
+    fn may_lead(&self, c: CatId, d: CatId) -> bool {
         d.0 != 0 && is_below(self.graph, c, d) && is_below(self.graph, self.root, c)
     }
 
@@ -216,6 +259,21 @@ impl<'a> Task<'a> {
         } else {
             Variable::Name(CatId(0))
         }
+    }
+
+    /// The way at a place, if no formula asks it.
+    pub(crate) fn unasked_way(&self, place: usize) -> Option<(CatId, CatId)> {
+        if place < self.choices.len() && !self.choices[place].is_asked {
+            if let Variable::Way(c, d) = self.choices[place].variable {
+                return Some((c, d));
+            }
+        }
+        None
+    }
+
+    /// Whether the variable at a place is a way.
+    pub(crate) fn is_way(&self, place: usize) -> bool {
+        matches!(self.variable(place), Variable::Way(_, _))
     }
 
     /// The line that splits by the variable at a place.
@@ -253,7 +311,8 @@ impl<'a> Task<'a> {
     /// The steps of a constraint.
     pub(crate) fn constraint(&self, n: usize) -> &[Step] {
         if n < self.constraints.len() {
-            &self.constraints[n].steps
+            let posed = self.constraints[n];
+            between(&self.steps, posed.first, posed.end)
         } else {
             &[]
         }
@@ -261,7 +320,12 @@ impl<'a> Task<'a> {
 
     /// The steps of the question.
     pub(crate) fn question(&self) -> &[Step] {
-        &self.question
+        between(&self.steps, self.question.first, self.question.end)
+    }
+
+    /// No formula has more steps.
+    pub(crate) fn most_steps(&self) -> usize {
+        self.steps.len()
     }
 }
 

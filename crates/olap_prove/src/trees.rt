@@ -1,0 +1,105 @@
+// Trees of lines, and why there may be none.
+use olap_ast::Constraint;
+use olap_base::Memory;
+use olap_graph::Graph;
+use olap_proof::{Line, push_known_line};
+use std::alloc::{AllocError, Global};
+
+/// How many lines of a tree are written.
+const MOST_LINES: u32 = 1 << 22;
+
+/// Why there is no tree.
+#[derive(Clone, Copy)]
+pub(crate) enum NoTree {
+    /// Out of memory.
+    Memory,
+    /// None was found with so many tries, or it has too many lines.
+    GivenUp,
+}
+
+impl From<Memory> for NoTree {
+    fn from(_: Memory) -> Self {
+        NoTree::Memory
+    }
+}
+
+impl From<AllocError> for NoTree {
+    fn from(_: AllocError) -> Self {
+        NoTree::Memory
+    }
+}
+
+/// A line, and where the trees of its cases are listed.
+#[derive(Clone, Copy)]
+struct Node {
+    line: Line,
+    first: usize,
+    end: usize,
+}
+
+/// Trees, by the places of their nodes. The trees of a node's cases were added before it.
+#[derive(Drop)]
+pub(crate) struct Trees {
+    nodes: Vec<Node>,
+    /// The trees of each node's cases, one node after another.
+    cases: Vec<usize>,
+    /// The trees that are to be written yet, the next one last.
+    left: Vec<usize>,
+}
+
+impl Trees {
+    /// None yet.
+    pub(crate) fn new(alloc: Global) -> Trees {
+        Trees {
+            nodes: Vec::new(alloc),
+            cases: Vec::new(alloc),
+            left: Vec::new(alloc),
+        }
+    }
+
+    /// One tree more, of a line and the trees of its cases.
+    pub(crate) fn add(&mut self, line: Line, cases: &[usize]) -> Result<usize, Memory> {
+        let place = self.nodes.len();
+        let first = self.cases.len();
+        self.cases.extend_from_slice(cases)?;
+        let end = self.cases.len();
+        self.nodes.push(Node { line, first, end })?;
+        Ok(place)
+    }
+
+    /// The trees of a node's cases are to be written next, in their order.
+    fn leave(&mut self, node: Node) -> Result<(), Memory> {
+        'cases: for place in (node.first..node.end).rev() {
+            if place < self.cases.len() {
+                self.left.push(self.cases[place])?;
+            }
+        }
+        Ok(())
+    }
+
+    /// Appends the lines of a tree.
+    pub(crate) fn push_lines(
+        &mut self,
+        graph: &Graph,
+        constraints: &[Constraint],
+        tree: usize,
+        out: &mut Vec<u8>,
+    ) -> Result<(), NoTree> {
+        let mut next = tree;
+        'lines: for _ in 0..MOST_LINES {
+            if next >= self.nodes.len() {
+                break;
+            }
+            let node = self.nodes[next];
+            if !push_known_line(out, graph, constraints, node.line)? {
+                break;
+            }
+            self.leave(node)?;
+            match self.left.pop() {
+                Some(place) => next = place,
+                None => return Ok(()),
+            }
+        }
+        Err(NoTree::GivenUp)
+    }
+}
