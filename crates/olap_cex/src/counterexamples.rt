@@ -80,8 +80,8 @@ pub fn counterexample(
         ≡ counterexample_text (with_graph graph.now constraints) (candidates_of found.now.candidates)
         found.now.frozen.root.0 (frozen_of found.now.frozen) target.0 (map (λ s. s.0) sources.now)) }
 {
-    let instance = thaw(alloc, graph, found)?;
     let ways = count_sources(alloc, graph, found, target, sources)?;
+    let instance = thaw(alloc, graph, found)?;
     Ok(Cex {
         instance,
         fact: place_of(graph, found, found.frozen.root),
