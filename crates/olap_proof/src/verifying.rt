@@ -1,10 +1,12 @@
 // The verifier of certificates.
-ghost use Rattle.std.specs.Prelude.{◌≡◌, ◌≢◌, ◌≤◌, ◌↔◌, ℕ, All, AllPairs, Err, OnOk, length, map};
+ghost use Rattle.std.specs.Prelude.{◌≡◌, ◌≢◌, ◌≤◌, ◌<◌, ◌^◌, ◌↔◌, ℕ, All, AllPairs, Err, OnOk, length, map};
 ghost use Rattle.olap_ast.specs.Summarizable.{IsSummarizable};
 ghost use Rattle.olap_base.specs.Graph.{IsCategory};
 ghost use Rattle.olap_base.specs.Limits.{most_constraints};
 ghost use Rattle.olap_names.specs.Names.{CanBeNamed, with_graph};
-ghost use Rattle.olap_proof.specs.Verifying.{IsCertificateFor, IsFirstWrongFor, IsNamedCertificate, IsNamedWrong};
+ghost use Rattle.olap_proof.specs.Asking.{IsAsked, names_in, question_in, schema_in};
+ghost use Rattle.olap_proof.specs.Certificates.{IsCertificateText};
+ghost use Rattle.olap_proof.specs.Verifying.{IsCertificateFor, IsFirstWrongFor, IsNamedCertificate, IsNamedWrong, IsWrongAt};
 ghost use Rattle.olap_ast.specs.Trees.{constraint_of, formula_of, numbers_of};
 ghost use Rattle.olap_proof.specs.declared.verifying.VerifyRefusal.TheVariants as refusal;
 ghost use Rattle.olap_schema.specs.Schemas.{schema_of};
@@ -47,6 +49,27 @@ impl From<AllocError> for VerifyRefusal {
     }
 }
 
+/// Accepts exactly the certificates of that form for what is asked.
+fn judge_asked(
+    alloc: Global,
+    asked: &Asked<'_>,
+    form: Form,
+    text: &[u8],
+) -> Result<(), VerifyRefusal>
+    requires asked { IsAsked asked.now }
+    requires few { length (schema_in asked.now).constraints < 2 ^ 64 }
+    ensures duplicate { result ≢ Err refusal.DuplicateSource }
+    ensures ok { OnOk result
+        (IsCertificateText form (schema_in asked.now) (question_in asked.now) (names_in asked.now) text.now) }
+    ensures rejected { (line : ℕ) → result ≡ Err (refusal.Rejected line)
+        → IsWrongAt form (schema_in asked.now) (question_in asked.now) (names_in asked.now) text.now line }
+{
+    match first_wrong(alloc, asked, form, text)? {
+        None => Ok(()),
+        Some(line) => Err(VerifyRefusal::Rejected { line }),
+    }
+}
+
 /// Accepts exactly the certificates of that form for this question, of a schema with this graph and these constraints.
 fn judge(
     alloc: Global,
@@ -74,10 +97,7 @@ fn judge(
         question,
         candidates: &candidates,
     };
-    match first_wrong(alloc, &asked, form, text)? {
-        None => Ok(()),
-        Some(line) => Err(VerifyRefusal::Rejected { line }),
-    }
+    judge_asked(alloc, &asked, form, text)
 }
 
 /// Accepts the text exactly if it is a certificate of that form, which says why the target is summarizable from the
