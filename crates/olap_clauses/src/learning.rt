@@ -1,5 +1,5 @@
 // What is learned from a false clause, and which clauses are kept.
-ghost use Rattle.std.specs.Prelude.{ℕ, ◌<◌, ◌≤◌, Bool, length, vec_capacity};
+ghost use Rattle.std.specs.Prelude.{ℕ, ◌<◌, ◌≤◌, Bool, length, vec_capacity, IfOk};
 ghost use Rattle.olap_clauses.specs.Trails.{values_of};
 ghost use Rattle.olap_pool.specs.Pools.{AreTrue, clause_count};
 ghost use Rattle.olap_clauses.specs.Admits.{Admits};
@@ -9,9 +9,42 @@ use crate::scoring::Scores;
 use crate::trails::Trail;
 use crate::watching::Watches;
 use olap_pool::{Lit, Pool};
+use std::alloc::{AllocError, Global};
 
 /// A clause whose literals stood on so many levels of decisions is kept no longer than others.
 const MANY: u32 = 64;
+
+/// What a search writes into.
+#[derive(Drop)]
+pub(crate) struct Notes {
+    pub(crate) watches: Watches,
+    /// Which variables are marked.
+    seen: Vec<bool>,
+    /// The clause that is being written.
+    pub(crate) work: Vec<Lit>,
+    pub(crate) scores: Scores,
+}
+
+impl Notes {
+    /// For so many variables, the clauses of the pool, and so many more.
+    pub(crate) fn new(
+        alloc: Global,
+        variables: u32,
+        pool: &Pool,
+        more: u32,
+    ) -> Result<Notes, AllocError>
+        ensures room { IfOk result (λ notes. variables ≤ vec_capacity notes.work) }
+    {
+        let mut notes = Notes {
+            watches: Watches::new(alloc, variables, pool.len(), more)?,
+            seen: vec![in alloc; false; variables as usize]?,
+            work: Vec::with_capacity(alloc, variables as usize)?,
+            scores: Scores::new(alloc, variables)?,
+        };
+        notes.watches.enter_all(pool);
+        Ok(notes)
+    }
+}
 
 /// Whether the second clause says as much as the first: it is no longer, and has no other literals.
 fn says_as_much(clause: &[Lit], known: &[Lit]) -> bool {
@@ -47,31 +80,31 @@ fn levels_of(trail: &Trail, clause: &[Lit]) -> u32 {
 
 /// Learns from a false clause, where it can, and answers the number of what it learned. That is its own, where it said
 /// as much already, as where decisions alone made it false: else the room would fill with copies.
-pub(crate) fn learn(
-    trail: &Trail,
-    pool: &mut Pool,
-    watches: &mut Watches,
-    id: usize,
-    seen: &mut [bool],
-    work: &mut Vec<Lit>,
-    scores: &mut Scores,
-) -> Option<usize>
+pub(crate) fn learn(trail: &Trail, pool: &mut Pool, notes: &mut Notes, id: usize) -> Option<usize>
     requires id { id < clause_count pool.old }
-    requires room { length (values_of trail.now) ≤ vec_capacity work.old }
+    requires room { length (values_of trail.now) ≤ vec_capacity notes.old.work }
     ensures kept { (v : ℕ → Bool) → Admits v pool.old trail.now → Admits v pool.new trail.now }
-    ensures room { vec_capacity work.old ≤ vec_capacity work.new }
+    ensures room { vec_capacity notes.old.work ≤ vec_capacity notes.new.work }
 {
-    if !analyse(trail, pool, id, seen, work, scores) {
+    let right = analyse(
+        trail,
+        pool,
+        id,
+        &mut notes.seen,
+        &mut notes.work,
+        &mut notes.scores,
+    );
+    if !right {
         return None;
     }
-    if says_as_much(work, pool.clause(id)) {
+    if says_as_much(&notes.work, pool.clause(id)) {
         return Some(id);
     }
     let new = pool.len();
-    if !pool.keep(work, levels_of(trail, work)) {
+    if !pool.keep(&notes.work, levels_of(trail, &notes.work)) {
         return None;
     }
-    watches.enter(new, work);
+    notes.watches.enter(new, &notes.work);
     Some(new)
 }
 

@@ -1,23 +1,47 @@
 -- A round that ends, and one more.
-use Rattle.std.proofs.Common.{ℕ, List, refl, sym, ◌∙◌, subst}
+use Rattle.std.proofs.Common.{ℕ, List, ◌++◌, refl, sym, ◌∙◌, subst}
 use Rattle.olap_clauses.specs.declared.trails.Step.{Step}
 use Rattle.olap_clauses.specs.Standing.{AgreesDecisions}
 use Rattle.olap_clauses.proofs.engine.Engine.exists.Goals as goal
 
-pub returns-in-Found-clause-admits : goal.returns-in-Found-clause-admits
-returns-in-Found-clause-admits g c = λ v m a.
-    c.search.ensures.admits v m (c.simplify.ensures.admits v (c.make_room.ensures.admits v (c.rounds.invariant.admits v m a)))
-
-pub returns-in-Nothing-clause-nothing : goal.returns-in-Nothing-clause-nothing
-returns-in-Nothing-clause-nothing g c = λ _ v m a d.
+pub returns-in-Found : goal.returns-in-Found
+returns-in-Found g c =
     let i = c.rounds.invariant in
-    let trail = c.simplify.ensures.trail ∙ c.make_room.ensures.trail ∙ i.trail in
-    c.in-Nothing.ensures.nothing refl v m (c.simplify.ensures.admits v (c.make_room.ensures.admits v (i.admits v m a)))
-    (subst (λ (ss : List Step). AgreesDecisions v ss) (sym trail) d)
+    let r = c.make_room.ensures in
+    let p = c.simplify.ensures in
+    let s = c.search.ensures in
+    let trail = p.trail ∙ r.trail ∙ i.trail in
+    let variables = p.variables ∙ r.variables ∙ i.variables in
+    let more = c.in-Found.ensures.found refl in
+    let took = λ (ss : List Step). g.J.Judge.Took c.args.judge.now c.search.new.state (ss ++ more.0) in
+    let suits = λ (n : ℕ). g.J.Judge.Suits c.args.judge.now c.search.new.state n in
+    record {
+      found = λ _. (more.0, subst took trail more.1);
+      nothing = λ e. absurd (cc);
+      trail = s.trail ∙ trail;
+      variables = s.variables ∙ variables;
+      admits = λ v m a. s.admits v m (p.admits v (r.admits v (i.admits v m a)));
+      suits = subst suits variables s.suits;
+    }
 
-pub returns-in-Nothing-clause-admits : goal.returns-in-Nothing-clause-admits
-returns-in-Nothing-clause-admits g c = λ v m a.
-    c.search.ensures.admits v m (c.simplify.ensures.admits v (c.make_room.ensures.admits v (c.rounds.invariant.admits v m a)))
+pub returns-in-Nothing : goal.returns-in-Nothing
+returns-in-Nothing g c =
+    let i = c.rounds.invariant in
+    let r = c.make_room.ensures in
+    let p = c.simplify.ensures in
+    let s = c.search.ensures in
+    let trail = p.trail ∙ r.trail ∙ i.trail in
+    let variables = p.variables ∙ r.variables ∙ i.variables in
+    let suits = λ (n : ℕ). g.J.Judge.Suits c.args.judge.now c.search.new.state n in
+    record {
+      found = λ e. absurd (cc);
+      nothing = λ _ v m a d. c.in-Nothing.ensures.nothing refl v m (p.admits v (r.admits v (i.admits v m a)))
+          (subst (λ (ss : List Step). AgreesDecisions v ss) (sym trail) d);
+      trail = s.trail ∙ trail;
+      variables = s.variables ∙ variables;
+      admits = λ v m a. s.admits v m (p.admits v (r.admits v (i.admits v m a)));
+      suits = subst suits variables s.suits;
+    }
 
 pub rounds-preserved : goal.rounds-preserved
 rounds-preserved g c =

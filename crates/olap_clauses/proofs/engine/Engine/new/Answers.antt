@@ -6,5 +6,5 @@ use Rattle.olap_clauses.proofs.engine.Engine.new.Goals as goal
 pub returns-clause-admits : goal.returns-clause-admits
 returns-clause-admits c = λ v t. c.simplify.ensures.admits v (record {
   clauses = c.in_ok-reserve.ensures.kept v t;
-  forced = subst (λ ss. Forced v ss) (sym c.in_ok-new.ensures.empty) tt;
+  forced = subst (λ ss. Forced v ss) (sym c.in_ok-trail.ensures.empty) tt;
 })
