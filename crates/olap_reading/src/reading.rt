@@ -5,20 +5,47 @@ ghost use Rattle.olap_instance.specs.Made.{IsMadeFor};
 ghost use Rattle.olap_schema.specs.Schemas.{schema_of};
 ghost use Rattle.olap_view.specs.Seen.{each_view_of, ids, views_of};
 ghost use Rattle.olap_view.specs.Stores.{IsInFileOrder, IsSoundStore};
-ghost use Rattle.olap_order.specs.Taken.{FileStep};
+ghost use Rattle.olap_check.specs.FirstViolation.{first_violation};
+ghost use Rattle.olap_order.specs.Taken.{FileStep, PlainStep};
 ghost use Rattle.olap_reading.specs.OfFacts.{AreOfFacts};
-ghost use Rattle.olap_reading.specs.Steps.{facts_file, legal_file, store_file};
+ghost use Rattle.olap_reading.specs.Steps.{facts_file, legal_file, legal_or_violation, store_file};
 
 use crate::telling::{check_laws, refuse_violation};
 use olap_base::{CatId, Library, List};
 use olap_check::CheckRefusal;
 use olap_facts::FactRefusal;
-use olap_instance::{InstanceRefusal, read_instance};
+use olap_instance::{Instance, InstanceRefusal, read_instance};
 use olap_legal::Legal;
 use olap_order::{Stop, read_file, refuse_long, refuse_part};
 use olap_schema::Schema;
 use olap_view::{Store, StoreRefusal, View, read_store, roll_up};
 use std::alloc::Global;
+
+/// The instance, where it is legal; else the refusal that tells its first violation.
+fn legal_or_refused(
+    alloc: Global,
+    schema: &Schema,
+    label: &str,
+    members: Instance,
+) -> Result<Legal, Stop>
+    requires { IsMadeFor (schema_of schema.now).graph members }
+    ensures step { PlainStep (legal_or_violation label.now (schema_of schema.now) members
+        (first_violation (schema_of schema.now) members)) (λ i. i) result }
+    ensures same { IfOk result (λ i. i ≡ members) }
+    ensures legal { IfOk result (λ i. IsLegal (schema_of schema.now) i) }
+{
+    match check_laws(alloc, schema, members) {
+        Ok(legal) => Ok(legal),
+        Err(CheckRefusal::Memory) => Err(Stop::Memory),
+        Err(CheckRefusal::Broken(broken, violation)) => Err(refuse_violation(
+            alloc,
+            label,
+            schema.graph(),
+            &broken,
+            violation,
+        )),
+    }
+}
 
 /// The legal instance in a file.
 pub fn legal_in<L: Library>(
@@ -40,26 +67,15 @@ pub fn legal_in<L: Library>(
         };
         read_instance(alloc, schema.graph(), &text)
     };
-    let members = match read {
-        Ok(members) => members,
-        Err(InstanceRefusal::Memory) => return Err(Stop::Memory),
-        Err(InstanceRefusal::Fault { at, kind }) => return Err(refuse_part(
+    match read {
+        Ok(members) => legal_or_refused(alloc, schema, label, members),
+        Err(InstanceRefusal::Memory) => Err(Stop::Memory),
+        Err(InstanceRefusal::Fault { at, kind }) => Err(refuse_part(
             alloc,
             label,
             "record",
             at,
             kind.name(),
-        )),
-    };
-    match check_laws(alloc, schema, members) {
-        Ok(legal) => Ok(legal),
-        Err(CheckRefusal::Memory) => Err(Stop::Memory),
-        Err(CheckRefusal::Broken(broken, violation)) => Err(refuse_violation(
-            alloc,
-            label,
-            schema.graph(),
-            &broken,
-            violation,
         )),
     }
 }
