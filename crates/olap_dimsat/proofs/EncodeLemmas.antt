@@ -1,11 +1,9 @@
 -- The clauses of a task are the encoder's.
 use Rattle.std.proofs.Common.{◌≡◌, ℕ, zero, suc, ◌≤◌, ◌<◌, List, [], length, Bool, true, false, refl, sym, subst, ◌∙◌, inl, inr, ◌^◌, arith}
-use Rattle.std.specs.Prelude.{◌↔◌, IsTrue, slice_index_or}
+use Rattle.std.specs.Prelude.{◌↔◌, IsTrue}
 use Rattle.std.proofs.lemmas.Bool.{cases_Bool, false_from_ne_true}
 use Rattle.olap_base.specs.Graph.{IsCategory, IsHierarchy, category_count}
-use Rattle.olap_ast.specs.Formula.{Formula}
-use Rattle.olap_ast.specs.Schema.{Schema}
-use Rattle.olap_ast.specs.Frozen.{AreCandidates, Candidates, Frozen}
+use Rattle.olap_ast.specs.Frozen.{AreCandidates, Frozen}
 use Rattle.olap_ast.specs.Valid.{IsFormulaAt, IsValidSchema}
 use Rattle.olap_ast.proofs.ConstantLemmas.{constant_in_constraint, constant_in_question}
 use Rattle.olap_pool.specs.declared.pools.Pool.{Pool}
@@ -14,49 +12,37 @@ use Rattle.olap_encoding.specs.Layouts.{on_variable, present_variable, name_vari
 use Rattle.olap_encoding.specs.Meanings.{Fits, Means, index_of, meaning_at}
 use Rattle.olap_encoding.specs.declared.meanings.Meaning.{Meaning}
 use Rattle.olap_encoding.specs.declared.meanings.Meaning.TheVariants.{Named, On, Present}
-use Rattle.olap_encoding.specs.Encoding.{Encoding, IsLaid as IsLaidOut, IsProblem, Problem}
-use Rattle.olap_encoding.specs.Formulas.{IsSpokenProblem}
+use Rattle.olap_encoding.specs.Encoding.{Encoding, IsLaid as IsLaidOut}
+use Rattle.olap_encoding.specs.Formulas.{IsSpokenQuestion}
 use Rattle.olap_encoding.specs.Meeting.{AreMetBy, valuation_in}
 use Rattle.olap_encoding.proofs.SpokenLemmas.{spoken}
-use Rattle.olap_names.specs.Names.{Named as TheNames, candidates_of}
+use Rattle.olap_names.specs.Names.{candidates_of}
+use Rattle.olap_names.specs.Questions.{IsQuestion, Question}
 use Rattle.olap_dimsat.specs.Tasks.{IsLaid, Task, schema_of}
 use Rattle.olap_dimsat.specs.Reads.{Reads, index_in}
 use Rattle.olap_dimsat.specs.Pinned.{IsEncoded}
 use Rattle.olap_dimsat.proofs.Truths.{is_same, same_is}
 
--- the encoder's problem of a task
-abbrev pub problem_in : Task → Problem
-problem_in t = record { schema = schema_of t; question = t.question; root = t.root; candidates = candidates_of t.named }
+-- the encoder's question of a task
+abbrev pub question_in : Task → Question
+question_in t = record { schema = schema_of t; formula = t.question; root = t.root; candidates = t.named }
 
--- ---- the problem that the encoder is handed
+-- ---- the question that the encoder is handed
 
--- a valid schema and a question of its graph are a problem
-pub problem_for : (p : Problem) → IsCategory p.schema.graph p.root → IsValidSchema p.schema
-    → IsFormulaAt p.schema.graph p.root p.question → AreCandidates p.schema p.question p.candidates
-    → IsProblem p × IsSpokenProblem p
-problem_for p r v q k = (
-  record { hierarchy = v.hierarchy; root = r; candidates = k },
-  record {
-    roots = λ c h. (v.roots c h).1;
-    constraints = λ c h. spoken p c.root c.formula (v.formulas c h) (constant_in_constraint p.schema p.question c h);
-    question = spoken p p.root p.question q (constant_in_question p.schema p.question);
-  },
-)
+-- a formula of the graph of a valid schema, with its candidates, is a question
+pub question_for : (q : Question) → IsCategory q.schema.graph q.root → IsValidSchema q.schema
+    → AreCandidates q.schema q.formula (candidates_of q.candidates)
+    → length q.candidates.texts ≡ category_count q.schema.graph → IsQuestion q
+question_for q r v k n = record { hierarchy = v.hierarchy; root = r; candidates = k; texts = n }
 
--- names that are equal are the same candidates
-pub same_candidates : (fresh : List ℕ) (first : List (List ℕ)) (texts : List (List (List ℕ))) (named : TheNames)
-    → fresh ≡ named.fresh → first ≡ named.first → texts ≡ named.texts
-    → candidates_of named ≡ record { first = λ d. slice_index_or first d fresh; texts = λ d. slice_index_or texts d [] }
-same_candidates fresh first texts named f g t = λ i. record {
-  first = λ d. slice_index_or (sym g i) d (sym f i);
-  texts = λ d. slice_index_or (sym t i) d [];
+-- and it can be encoded
+pub spoken_for : (q : Question) → IsValidSchema q.schema → IsFormulaAt q.schema.graph q.root q.formula
+    → IsSpokenQuestion q
+spoken_for q v f = record {
+  roots = λ c h. (v.roots c h).1;
+  constraints = λ c h. spoken q c.root c.formula (v.formulas c h) (constant_in_constraint q.schema q.formula c h);
+  question = spoken q q.root q.formula f (constant_in_question q.schema q.formula);
 }
-
--- and make the same problem
-pub same_problem : (s : Schema) (q : Formula) (r : ℕ) (k l : Candidates) → k ≡ l
-    → ◌≡◌ {A = Problem} (record { schema = s; question = q; root = r; candidates = k })
-    (record { schema = s; question = q; root = r; candidates = l })
-same_problem s q r k l e = λ i. record { schema = s; question = q; root = r; candidates = e i }
 
 -- ---- what its valuations read
 
@@ -79,7 +65,7 @@ at_meaning : (t : Task) (f : Frozen) (ms : List Meaning) (v : ℕ → Bool) (x :
 at_meaning t f ms v x m h e fits = subst (λ n. IsTrue (v x) ↔ Means (schema_of t) t.root f v n) e (fits.at x h)
 
 -- a valuation that fits meanings laid out so reads the frozen dimension
-reads : (t : Task) (f : Frozen) (ms : List Meaning) (v : ℕ → Bool) → IsLaidOut (problem_in t) ms t.layout
+reads : (t : Task) (f : Frozen) (ms : List Meaning) (v : ℕ → Bool) → IsLaidOut (question_in t) ms t.layout
     → Fits (schema_of t) t.root f ms v → Reads t f v
 reads t f ms v laid fits = record {
   on = λ e h.
@@ -96,7 +82,7 @@ reads t f ms v laid fits = record {
 }
 
 -- meanings laid out so lay the task out
-laid_for : (t : Task) (ms : List Meaning) → IsLaidOut (problem_in t) ms t.layout → length ms ≤ 2 ^ 30
+laid_for : (t : Task) (ms : List Meaning) → IsLaidOut (question_in t) ms t.layout → length ms ≤ 2 ^ 30
     → t.layout.variables ≡ length ms → IsLaid t
 laid_for t ms laid few variables = record {
   edges = laid.edges;
@@ -109,8 +95,8 @@ laid_for t ms laid few variables = record {
 -- the task is encoded in the encoder's pool
 pub encoded : (t : Task) (e : Encoding) (pool : Pool) → IsHierarchy t.graph → IsCategory t.graph t.root
     → AreCandidates (schema_of t) t.question (candidates_of t.named) → length t.named.texts ≡ category_count t.graph
-    → IsLaidOut (problem_in t) e.meanings t.layout → length e.meanings ≤ 2 ^ 30
-    → t.layout.variables ≡ length e.meanings → ((f : Frozen) → AreMetBy (problem_in t) e f) → pool ≡ e.pool
+    → IsLaidOut (question_in t) e.meanings t.layout → length e.meanings ≤ 2 ^ 30
+    → t.layout.variables ≡ length e.meanings → ((f : Frozen) → AreMetBy (question_in t) e f) → pool ≡ e.pool
     → IsEncoded t pool
 encoded t e pool hierarchy root k texts laid few variables met same = record {
   task = record {
@@ -121,7 +107,7 @@ encoded t e pool hierarchy root k texts laid few variables met same = record {
     laid = laid_for t e.meanings laid few variables;
   };
   each = λ f one.
-      let v = valuation_in (problem_in t) e f in
+      let v = valuation_in (question_in t) e f in
       let m = met f one in
       (v, reads t f e.meanings v laid m.0, subst (λ p. AreTrue v p) (sym same) m.1);
 }

@@ -9,9 +9,9 @@ ghost use Rattle.olap_dimsat.specs.Pinned.{IsEncoded};
 
 use olap_ast::{Constraint, Formula};
 use olap_base::{CatId, Memory};
-use olap_encoding::{Encoded, Problem, encode as write_clauses};
+use olap_encoding::{Encoded, encode as write_clauses};
 use olap_graph::Graph;
-use olap_names::Candidates;
+use olap_names::{Candidates, Question};
 use std::alloc::Global;
 
 /// Where the variables of a task are, and its clauses.
@@ -38,15 +38,13 @@ pub(crate) fn encode(
       layout = e.layout;
     }) e.pool) }
 {
-    let problem = Problem {
+    let asked = Question {
         graph,
         constraints,
-        question,
+        formula: question,
         root,
-        fresh: candidates.fresh(),
-        firsts: candidates.firsts(),
-        constants: candidates.texts(),
+        candidates,
     };
-    let encoder = write_clauses(alloc, &problem)?;
+    let encoder = write_clauses(alloc, &asked)?;
     Ok(encoder.into_parts())
 }

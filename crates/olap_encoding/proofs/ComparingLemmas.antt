@@ -8,15 +8,16 @@ use Rattle.olap_ast.specs.Frozen.{Candidates}
 use Rattle.olap_numerals.specs.Comparing.{Op}
 use Rattle.olap_pool.specs.declared.literals.Lit.{Lit}
 use Rattle.olap_pool.specs.Literals.{Holds, negation}
+use Rattle.olap_names.specs.Names.{candidates_of}
 use Rattle.olap_encoding.specs.Encoding.{Encoding, IsSound, Says, UpToIs, categories_of}
 use Rattle.olap_encoding.specs.Formulas.{AmongIs, IsLeading, NumberIs}
 use Rattle.olap_encoding.specs.Meanings.{index_of}
 use Rattle.olap_encoding.proofs.LadderLemmas.{index_in_range}
 use Rattle.olap_encoding.proofs.NumberLemmas.{known_turned, number_leading, number_told, turned_is}
 
-module _ (e : Encoding) (t : IsSound e) (d : ℕ) (op : Op) (n : ℤ) (u : d < categories_of e.problem) where
+module _ (e : Encoding) (t : IsSound e) (d : ℕ) (op : Op) (n : ℤ) (u : d < categories_of e.question) where
   abbrev k : Candidates
-  k = e.problem.candidates
+  k = candidates_of e.question.candidates
 
   pub number_by_rung : (l : Lit) (m : ℕ) → IsNumbered (k.first d) op n
       → IsLeading (k.texts d) op n (length (k.texts d)) m
@@ -37,6 +38,6 @@ module _ (e : Encoding) (t : IsSound e) (d : ℕ) (op : Op) (n : ℤ) (u : d < c
     exactly = λ f v h.
         let w = number_told (k.first d) (k.texts d) (index_of f d) (index_in_range e t f v h d u) op n b first
         (Holds v some) (s.exactly f v h) in
-        subst (λ i. Holds v i ↔ NumberIs d op n e.problem f v) (sym q)
-        (turned_is v some b (NumberIs d op n e.problem f v) w);
+        subst (λ i. Holds v i ↔ NumberIs d op n e.question f v) (sym q)
+        (turned_is v some b (NumberIs d op n e.question f v) w);
   }

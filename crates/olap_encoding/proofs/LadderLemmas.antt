@@ -3,9 +3,11 @@ use Rattle.std.proofs.Common.{◌≡◌, ℕ, zero, suc, ◌+◌, ◌<◌, ◌�
 use Rattle.olap_ast.specs.Frozen.{Frozen}
 use Rattle.olap_pool.specs.declared.literals.Lit.{Lit}
 use Rattle.olap_pool.specs.Literals.{Holds, Satisfies, negation}
+use Rattle.olap_names.specs.Names.{candidates_of, others_of}
+use Rattle.olap_names.specs.Questions.{Question}
 use Rattle.olap_encoding.specs.Literals.{Valuation}
 use Rattle.olap_encoding.specs.Meanings.{index_of}
-use Rattle.olap_encoding.specs.Encoding.{Problem, Encoding, Stands, IsSound, IsNext, IsGiven, Says, PresentIs, NameIs, UpToIs, categories_of}
+use Rattle.olap_encoding.specs.Encoding.{Encoding, Stands, IsSound, IsNext, IsGiven, Says, PresentIs, NameIs, UpToIs, categories_of}
 use Rattle.olap_encoding.proofs.LiteralLemmas.{met_first, where_true, where_false, negated_is}
 use Rattle.olap_encoding.proofs.ClauseLemmas.{named_present}
 
@@ -57,35 +59,36 @@ module _ (e : Encoding) (c j : ℕ) (x u l : Lit) (a : Says e x (UpToIs c j)) (b
 -- ---- the ends
 
 module _ (e : Encoding) (t : IsSound e) where
-  unnamed : (f : Frozen) (v : Valuation) → Stands e f v → (c : ℕ) (p : Lit) → c < categories_of e.problem
+  unnamed : (f : Frozen) (v : Valuation) → Stands e f v → (c : ℕ) (p : Lit) → c < categories_of e.question
       → Says e p (PresentIs c) → (Holds v p → ⊥) → (i : ℕ) → index_of f c ≡ i → index_of f c ≤ 0
   unnamed f v h c p u a n zero q = omega arith
   unnamed f v h c p u a n (suc i) q = absurd (n ((a.exactly f v h).1
-      (named_present e.problem.schema e.problem.question e.problem.root e.problem.candidates t.problem.hierarchy
-      t.problem.root f h.frozen c i u q)))
+      (named_present e.question.schema e.question.formula e.question.root (candidates_of e.question.candidates)
+      t.question.hierarchy t.question.root f h.frozen c i u q)))
 
   -- an absent category has no name from a constant
-  pub given_lowest : (p l : Lit) (c : ℕ) → c < categories_of e.problem → Says e p (PresentIs c) → Says e l (UpToIs c 0)
+  pub given_lowest : (p l : Lit) (c : ℕ) → c < categories_of e.question → Says e p (PresentIs c) → Says e l (UpToIs c 0)
       → IsGiven e (p ∷ l ∷ [])
   given_lowest p l c u a b = record {
     met = λ f v h. where_false v p (l ∷ [])
         (λ n. met_first v l [] ((b.exactly f v h).1 (unnamed f v h c p u a n (index_of f c) refl)));
   }
 
-  pub index_in_range : (f : Frozen) (v : Valuation) → Stands e f v → (c : ℕ) → c < categories_of e.problem
-      → index_of f c ≤ length (e.problem.candidates.texts c)
+  pub index_in_range : (f : Frozen) (v : Valuation) → Stands e f v → (c : ℕ) → c < categories_of e.question
+      → index_of f c ≤ length (others_of e.question.candidates c)
   index_in_range f v h zero u = omega arith
   index_in_range f v h (suc c) u = h.frozen.in_range c (let z = h.frozen.name_count in omega arith)
 
   -- the index is at most the count of the constants
-  pub given_highest : (l : Lit) (c n : ℕ) → c < categories_of e.problem → length (e.problem.candidates.texts c) ≤ n
+  pub given_highest : (l : Lit) (c n : ℕ) → c < categories_of e.question
+      → length (others_of e.question.candidates c) ≤ n
       → Says e l (UpToIs c n) → IsGiven e (l ∷ [])
   given_highest l c n u m a = record {
     met = λ f v h. met_first v l [] ((a.exactly f v h).1 (let i = index_in_range f v h c u in omega arith));
   }
 
 -- a category has as many names after a step
-pub count_still : {a b : Encoding} → IsNext a b → (c m n : ℕ) → m ≡ length (a.problem.candidates.texts c) → m ≤ n
-    → length (b.problem.candidates.texts c) ≤ n
-count_still t c m n q h = subst (λ (p : Problem). length (p.candidates.texts c) ≤ n) (sym t.later.problem)
+pub count_still : {a b : Encoding} → IsNext a b → (c m n : ℕ) → m ≡ length (others_of a.question.candidates c) → m ≤ n
+    → length (others_of b.question.candidates c) ≤ n
+count_still t c m n q h = subst (λ (p : Question). length (others_of p.candidates c) ≤ n) (sym t.later.question)
     (subst (λ k. k ≤ n) q h)

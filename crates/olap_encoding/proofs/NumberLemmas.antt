@@ -13,6 +13,7 @@ use Rattle.olap_ast.specs.Frozen.{text_of_index}
 use Rattle.olap_ast.proofs.Decided.{dec_number}
 use Rattle.olap_pool.specs.declared.literals.Lit.{Lit}
 use Rattle.olap_pool.specs.Literals.{Holds, negation}
+use Rattle.olap_names.specs.Names.{others_of}
 use Rattle.olap_encoding.specs.Literals.{Valuation, never}
 use Rattle.olap_encoding.specs.Meanings.{index_of}
 use Rattle.olap_encoding.specs.Encoding.{Encoding, IsKnown, NameIs, Says}
@@ -167,26 +168,26 @@ module _ (e : Encoding) (d j : ℕ) (op : Op) (n : ℤ) (want : Bool) where
     known = x.known;
     exactly = λ f v h. (
       λ k. absurd ((x.exactly f v h).0 k),
-      λ a. absurd (among_none (e.problem.candidates.texts d) (index_of f d) op n want a),
+      λ a. absurd (among_none (others_of e.question.candidates d) (index_of f d) op n want a),
     );
   }
 
   pub says_other : (l : Lit) → Says e l (AmongIs d j op n want)
-      → (Wants op n want (get_or (e.problem.candidates.texts d) j []) → ⊥) → Says e l (AmongIs d (j + 1) op n want)
+      → (Wants op n want (get_or (others_of e.question.candidates d) j []) → ⊥) → Says e l (AmongIs d (j + 1) op n want)
   says_other l x w = record {
     known = x.known;
     exactly = λ f v h.
-        let t = among_other (e.problem.candidates.texts d) (index_of f d) j op n want w in
+        let t = among_other (others_of e.question.candidates d) (index_of f d) j op n want w in
         let y = x.exactly f v h in
         (λ k. t.0 (y.0 k), λ a. y.1 (t.1 a));
   }
 
   pub says_more : (l b o : Lit) → Says e l (AmongIs d j op n want) → Says e b (NameIs d (j + 1)) → Says e o (AnyIs l b)
-      → Wants op n want (get_or (e.problem.candidates.texts d) j []) → Says e o (AmongIs d (j + 1) op n want)
+      → Wants op n want (get_or (others_of e.question.candidates d) j []) → Says e o (AmongIs d (j + 1) op n want)
   says_more l b o x y z w = record {
     known = z.known;
     exactly = λ f v h.
-        let t = among_more (e.problem.candidates.texts d) (index_of f d) j op n want w in
+        let t = among_more (others_of e.question.candidates d) (index_of f d) j op n want w in
         let a = x.exactly f v h in
         let c = y.exactly f v h in
         let u = z.exactly f v h in (

@@ -9,9 +9,10 @@ use Rattle.olap_encoding.proofs.Growing.{grown_same, stands_before}
 other_pairs : (e : Encoding) (pairs : List (ℕ × ℕ)) → IsSound e
     → ((x : ℕ × ℕ) → Contains pairs x → IsPair e x.0 x.1) → IsNext e (record e { todo = pairs })
 other_pairs e pairs t f =
-    let n : IsLater e (record e { todo = pairs }) = record { problem = refl; grown = grown_same e.meanings } in record {
+    let n : IsLater e (record e { todo = pairs }) =
+    record { question = refl; grown = grown_same e.meanings } in record {
       sound = record {
-        problem = t.problem;
+        question = t.question;
         few = t.few;
         ordered = t.ordered;
         laid = t.laid;

@@ -7,7 +7,8 @@ use Rattle.olap_ast.specs.Trees.{formula_of, terms_of}
 use Rattle.olap_ast.specs.Valid.{node_count, node_count_of_terms}
 use Rattle.olap_ast.specs.declared.formulas.Formula.{Formula}
 use Rattle.olap_ast.specs.declared.formulas.Terms.{Terms}
-use Rattle.olap_encoding.specs.Encoding.{Problem, Encoding, IsSound, categories_of}
+use Rattle.olap_names.specs.Questions.{Question}
+use Rattle.olap_encoding.specs.Encoding.{Encoding, IsSound, categories_of}
 use Rattle.olap_encoding.specs.Formulas.{IsSpoken, AreSpoken}
 use Rattle.olap_encoding.proofs.SplittingLemmas.{spoken_as}
 
@@ -39,18 +40,18 @@ has_node (One xs) = omega arith
 pub counted_terms : {x y : Terms} → x ≡ y → node_count_of_terms (terms_of x) ≡ node_count_of_terms (terms_of y)
 counted_terms q = ap (λ (z : Terms). node_count_of_terms (terms_of z)) q
 
-pub terms_spoken_as : (p : Problem) {x y : Terms} → x ≡ y → AreSpoken p (terms_of x) → AreSpoken p (terms_of y)
+pub terms_spoken_as : (p : Question) {x y : Terms} → x ≡ y → AreSpoken p (terms_of x) → AreSpoken p (terms_of y)
 terms_spoken_as p q s = subst (λ (z : Terms). AreSpoken p (terms_of z)) q s
 
-module _ (e : Encoding) (c : ℕ) (t : IsSound e) (h : c < categories_of e.problem) where
+module _ (e : Encoding) (c : ℕ) (t : IsSound e) (h : c < categories_of e.question) where
   -- what a part requires
-  pub part_spoken : {g x : Formula} → g ≡ x → IsSpoken e.problem (formula_of g)
-      → IsSound e × (c < categories_of e.problem × IsSpoken e.problem (formula_of x))
-  part_spoken q s = (t, (h, spoken_as e.problem q s))
+  pub part_spoken : {g x : Formula} → g ≡ x → IsSpoken e.question (formula_of g)
+      → IsSound e × (c < categories_of e.question × IsSpoken e.question (formula_of x))
+  part_spoken q s = (t, (h, spoken_as e.question q s))
 
   -- what two parts require
   pub parts_spoken : {g k x y : Formula} → g ≡ x → k ≡ y
-      → IsSpoken e.problem (formula_of g) × IsSpoken e.problem (formula_of k)
-      → IsSound e × (c < categories_of e.problem × (IsSpoken e.problem (formula_of x)
-      × IsSpoken e.problem (formula_of y)))
-  parts_spoken q r s = (t, (h, (spoken_as e.problem q s.0, spoken_as e.problem r s.1)))
+      → IsSpoken e.question (formula_of g) × IsSpoken e.question (formula_of k)
+      → IsSound e × (c < categories_of e.question × (IsSpoken e.question (formula_of x)
+      × IsSpoken e.question (formula_of y)))
+  parts_spoken q r s = (t, (h, (spoken_as e.question q s.0, spoken_as e.question r s.1)))

@@ -12,9 +12,11 @@ use Rattle.olap_ast.specs.Frozen.{name_in}
 use Rattle.olap_ast.proofs.Decided.{decide_holds}
 use Rattle.olap_pool.specs.declared.literals.Lit.{Lit}
 use Rattle.olap_pool.specs.Literals.{Holds, negation}
+use Rattle.olap_names.specs.Names.{candidates_of}
+use Rattle.olap_names.specs.Questions.{Question}
 use Rattle.olap_encoding.specs.Choices.{IsPresent}
 use Rattle.olap_encoding.specs.Meanings.{edges_of}
-use Rattle.olap_encoding.specs.Encoding.{Problem, Encoding, categories_of, Says, IsSound, IsLater, IsGiven, PresentIs}
+use Rattle.olap_encoding.specs.Encoding.{Encoding, categories_of, Says, IsSound, IsLater, IsGiven, PresentIs}
 use Rattle.olap_encoding.specs.Formulas.{instance_in, member_in, TellsAt, IsTrueAt, IsWidened, IsSpoken, signed}
 use Rattle.olap_encoding.proofs.LiteralLemmas.{negated_is, value_cases}
 use Rattle.olap_encoding.proofs.ChosenEdges.{present_member, place_is}
@@ -56,16 +58,16 @@ module _ (i : Instance) (m : ℕ) where
 
 module _ {a b : Encoding} (n : IsLater a b) where
   pub true_still : (c : ℕ) (x : Formula) → IsTrueAt a c x → IsTrueAt b c x
-  true_still c x t = λ f v h p. subst (λ k. HoldsAt (instance_in k f) (member_in k f c) x) (sym n.problem)
-      (t f v (stands_before n h) (subst (λ k. IsPresent k.root (edges_of k.schema f) c) n.problem p))
+  true_still c x t = λ f v h p. subst (λ k. HoldsAt (instance_in k f) (member_in k f c) x) (sym n.question)
+      (t f v (stands_before n h) (subst (λ k. IsPresent k.root (edges_of k.schema f) c) n.question p))
 
   pub widened_still : {c : ℕ} {x : Formula} {before after : List Lit} → IsWidened a c x before after
       → IsWidened b c x before after
   widened_still {c} {x} w = record {
     kept = w.kept;
     met = λ f v h p q. w.met f v (stands_before n h)
-        (subst (λ k. IsPresent k.root (edges_of k.schema f) c) n.problem p)
-        (subst (λ k. HoldsAt (instance_in k f) (member_in k f c) x) n.problem q);
+        (subst (λ k. IsPresent k.root (edges_of k.schema f) c) n.question p)
+        (subst (λ k. HoldsAt (instance_in k f) (member_in k f c) x) n.question q);
   }
 
 -- ---- the same formula by two names
@@ -83,7 +85,7 @@ true_as e c a b {x} {y} q p t = subst (λ z. IsTrueAt e c (signed z (formula_of 
     (subst (λ (z : declared.Formula). IsTrueAt e c (signed a (formula_of z))) p t)
 
 -- the same
-pub spoken_as : (p : Problem) {x y : declared.Formula} → x ≡ y → IsSpoken p (formula_of x) → IsSpoken p (formula_of y)
+pub spoken_as : (p : Question) {x y : declared.Formula} → x ≡ y → IsSpoken p (formula_of x) → IsSpoken p (formula_of y)
 spoken_as p q s = subst (λ (z : declared.Formula). IsSpoken p (formula_of z)) q s
 
 -- equal formulas have as many nodes
@@ -92,10 +94,10 @@ counted q = ap (λ (z : declared.Formula). node_count (formula_of z)) q
 
 -- what the clauses of a part require
 pub required : (e : Encoding) (c : ℕ) (b : Bool) {x y : declared.Formula} → x ≡ y → IsSound e
-    → c < categories_of e.problem → IsSpoken e.problem (formula_of x) → IsTrueAt e c (signed b (formula_of x))
-    → IsSound e × (c < categories_of e.problem × (IsSpoken e.problem (formula_of y)
+    → c < categories_of e.question → IsSpoken e.question (formula_of x) → IsTrueAt e c (signed b (formula_of x))
+    → IsSound e × (c < categories_of e.question × (IsSpoken e.question (formula_of y)
     × IsTrueAt e c (signed b (formula_of y))))
-required e c b q t h s k = (t, (h, (spoken_as e.problem q s, true_as e c b b refl q k)))
+required e c b q t h s k = (t, (h, (spoken_as e.question q s, true_as e c b b refl q k)))
 
 -- ---- alternatives
 
@@ -112,7 +114,7 @@ module _ (e : Encoding) (c : ℕ) where
       → IsWidened e c (signed b (Not x)) before after
   widened_turned b x w = record {
     kept = w.kept;
-    met = λ f v h p q. w.met f v h p (turned (instance_in e.problem f) (member_in e.problem f c) b x q);
+    met = λ f v h p q. w.met f v h p (turned (instance_in e.question f) (member_in e.question f c) b x q);
   }
 
   widened_twice : (x y z : Formula) {before mid after : List Lit} → IsWidened e c x before mid
@@ -120,7 +122,7 @@ module _ (e : Encoding) (c : ℕ) where
       → ((i : Instance) (m : ℕ) → HoldsAt i m z → HoldsAt i m x ⊎ HoldsAt i m y) → IsWidened e c z before after
   widened_twice x y z u w some = record {
     kept = λ l h. w.kept l (u.kept l h);
-    met = λ f v h p q. elim (some (instance_in e.problem f) (member_in e.problem f c) q) [
+    met = λ f v h p q. elim (some (instance_in e.question f) (member_in e.question f c) q) [
       | inl a ↦ let s = u.met f v h p a in (s.0, w.kept s.0 s.1, s.2)
       | inr a ↦ w.met f v h p a
     ];
@@ -141,7 +143,7 @@ module _ (e : Encoding) (c : ℕ) where
   -- ---- parts
 
   pub true_turned : (b : Bool) (x : Formula) → IsTrueAt e c (signed b (Not x)) → IsTrueAt e c (signed (not b) x)
-  true_turned b x t = λ f v h p. turned (instance_in e.problem f) (member_in e.problem f c) b x (t f v h p)
+  true_turned b x t = λ f v h p. turned (instance_in e.question f) (member_in e.question f c) b x (t f v h p)
 
   module _ (x y : Formula) where
     pub true_and : IsTrueAt e c (And x y) → IsTrueAt e c x × IsTrueAt e c y
@@ -149,14 +151,14 @@ module _ (e : Encoding) (c : ℕ) where
 
     pub true_or : IsTrueAt e c (Not (Or x y)) → IsTrueAt e c (Not x) × IsTrueAt e c (Not y)
     true_or t = (
-      λ f v h p. (all_of_or (instance_in e.problem f) (member_in e.problem f c) x y (t f v h p)).0,
-      λ f v h p. (all_of_or (instance_in e.problem f) (member_in e.problem f c) x y (t f v h p)).1,
+      λ f v h p. (all_of_or (instance_in e.question f) (member_in e.question f c) x y (t f v h p)).0,
+      λ f v h p. (all_of_or (instance_in e.question f) (member_in e.question f c) x y (t f v h p)).1,
     )
 
     pub true_implies : IsTrueAt e c (Not (Implies x y)) → IsTrueAt e c x × IsTrueAt e c (Not y)
     true_implies t = (
-      λ f v h p. (all_of_implies (instance_in e.problem f) (member_in e.problem f c) x y (t f v h p)).0,
-      λ f v h p. (all_of_implies (instance_in e.problem f) (member_in e.problem f c) x y (t f v h p)).1,
+      λ f v h p. (all_of_implies (instance_in e.question f) (member_in e.question f c) x y (t f v h p)).0,
+      λ f v h p. (all_of_implies (instance_in e.question f) (member_in e.question f c) x y (t f v h p)).1,
     )
 
   -- the clause that is widened from the guard
@@ -173,20 +175,20 @@ module _ (e : Encoding) (c : ℕ) where
 
 -- a constraint is true at its root in each frozen dimension
 pub constraint_true : (e : Encoding) → IsSound e → (c : ℕ) (k : Constraint) → k.root ≡ c
-    → Contains e.problem.schema.constraints k → IsTrueAt e c k.formula
+    → Contains e.question.schema.constraints k → IsTrueAt e c k.formula
 constraint_true e t c k r m = λ f v h u.
-    let w = present_member e.problem.schema.graph e.problem.root (edges_of e.problem.schema f) (choice e t c f v h)
-    (name_in e.problem.candidates f) c u in
-    h.frozen.stands_for.legal.meets k m (member_in e.problem f c) (w.0, w.1 ∙ sym r)
+    let w = present_member e.question.schema.graph e.question.root (edges_of e.question.schema f) (choice e t c f v h)
+    (name_in (candidates_of e.question.candidates) f) c u in
+    h.frozen.stands_for.legal.meets k m (member_in e.question f c) (w.0, w.1 ∙ sym r)
 
 -- and the question at the root of all
-pub question_true : (e : Encoding) → IsSound e → IsTrueAt e e.problem.root e.problem.question
+pub question_true : (e : Encoding) → IsSound e → IsTrueAt e e.question.root e.question.formula
 question_true e t = λ f v h u.
     let s = h.frozen.stands_for in
-    let es = edges_of e.problem.schema f in
-    let i = instance_in e.problem f in
-    let q : s.root ≡ member_in e.problem f e.problem.root =
-    sym (place_is e.problem.schema.graph e.problem.root es (choice e t e.problem.root f v h)
-    (name_in e.problem.candidates f) s.root s.root_is.0)
-    ∙ ap (member_in e.problem f) s.root_is.1 in
-    subst (λ y. HoldsAt i y e.problem.question) q s.true_at_root
+    let es = edges_of e.question.schema f in
+    let i = instance_in e.question f in
+    let q : s.root ≡ member_in e.question f e.question.root =
+    sym (place_is e.question.schema.graph e.question.root es (choice e t e.question.root f v h)
+    (name_in (candidates_of e.question.candidates) f) s.root s.root_is.0)
+    ∙ ap (member_in e.question f) s.root_is.1 in
+    subst (λ y. HoldsAt i y e.question.formula) q s.true_at_root

@@ -1,10 +1,9 @@
 // Edges on cycles, to categories that were declared earlier and to later ones: each cycle has edges of both sorts.
 ghost use Rattle.std.specs.Prelude.{◌<◌, length};
-ghost use Rattle.olap_encoding.specs.Encoding.{IsProblem};
-ghost use Rattle.olap_encoding.specs.Problems.{problem_of};
+ghost use Rattle.olap_names.specs.Questions.{IsQuestion, question_of};
 
-use crate::problems::Problem;
 use olap_base::{CatId, EdgeId};
+use olap_names::Question;
 
 /// Where an edge leads: to a category that was declared before the child, or after it.
 #[derive(Clone, Copy)]
@@ -26,21 +25,21 @@ impl Direction {
 }
 
 /// Whether an edge leads in this direction, on a cycle that the root reaches.
-pub fn is_on_cycle(p: &Problem, id: EdgeId, direction: Direction) -> bool
-    requires problem { IsProblem (problem_of p.now) }
-    requires edge { id.0 < length p.now.graph.now.edges }
+pub fn is_on_cycle(q: &Question, id: EdgeId, direction: Direction) -> bool
+    requires question { IsQuestion (question_of q.now) }
+    requires edge { id.0 < length q.now.graph.now.edges }
 {
-    let (c, d) = p.graph.ends(id);
-    direction.has(c, d) && p.graph.reaches(p.root, c) && p.graph.reaches(d, c)
+    let (c, d) = q.graph.ends(id);
+    direction.has(c, d) && q.graph.reaches(q.root, c) && q.graph.reaches(d, c)
 }
 
 // How many edges lead in this direction on cycles that the root reaches.
-fn edges_on_cycles(p: &Problem, direction: Direction) -> u16
-    requires problem { IsProblem (problem_of p.now) }
+fn edges_on_cycles(q: &Question, direction: Direction) -> u16
+    requires question { IsQuestion (question_of q.now) }
 {
     let mut count = 0;
-    'edges: for k in 0..p.graph.edges() {
-        if is_on_cycle(p, EdgeId(k), direction) {
+    'edges: for k in 0..q.graph.edges() {
+        if is_on_cycle(q, EdgeId(k), direction) {
             count += 1;
         }
     }
@@ -48,10 +47,10 @@ fn edges_on_cycles(p: &Problem, direction: Direction) -> u16
 }
 
 /// The direction of the fewer edges on cycles.
-pub fn rarer(p: &Problem) -> Direction
-    requires problem { IsProblem (problem_of p.now) }
+pub fn rarer(q: &Question) -> Direction
+    requires question { IsQuestion (question_of q.now) }
 {
-    if edges_on_cycles(p, Direction::Later) < edges_on_cycles(p, Direction::Earlier) {
+    if edges_on_cycles(q, Direction::Later) < edges_on_cycles(q, Direction::Earlier) {
         return Direction::Later;
     }
     Direction::Earlier

@@ -21,8 +21,8 @@ fn push_literal(
     literals: &mut Vec<Lit>,
 ) -> Result<(), Memory>
     requires sound { IsSound (encoding_of e.old) }
-    requires category { IsCategory e.old.problem.graph.now c.0 }
-    requires speaks { IsSpoken (encoding_of e.old).problem (formula_of f.now) }
+    requires category { IsCategory e.old.question.graph.now c.0 }
+    requires speaks { IsSpoken (encoding_of e.old).question (formula_of f.now) }
     ensures next { IfOk result (λ _. IsNext (encoding_of e.old) (encoding_of e.new)) }
     ensures widened { IfOk result (λ _. IsWidened (encoding_of e.new) c.0 (signed holds (formula_of f.now))
         literals.old.items literals.new.items) }
@@ -45,8 +45,8 @@ fn alternatives(
     literals: &mut Vec<Lit>,
 ) -> Result<(), Memory>
     requires sound { IsSound (encoding_of e.old) }
-    requires category { IsCategory e.old.problem.graph.now c.0 }
-    requires speaks { IsSpoken (encoding_of e.old).problem (formula_of f.now) }
+    requires category { IsCategory e.old.question.graph.now c.0 }
+    requires speaks { IsSpoken (encoding_of e.old).question (formula_of f.now) }
     ensures next { IfOk result (λ _. IsNext (encoding_of e.old) (encoding_of e.new)) }
     ensures widened { IfOk result (λ _. IsWidened (encoding_of e.new) c.0 (signed holds (formula_of f.now))
         literals.old.items literals.new.items) }
@@ -78,8 +78,8 @@ fn alternatives_clause(
     literals: &mut Vec<Lit>,
 ) -> Result<(), Memory>
     requires sound { IsSound (encoding_of e.old) }
-    requires category { IsCategory e.old.problem.graph.now c.0 }
-    requires speaks { IsSpoken (encoding_of e.old).problem (formula_of f.now) }
+    requires category { IsCategory e.old.question.graph.now c.0 }
+    requires speaks { IsSpoken (encoding_of e.old).question (formula_of f.now) }
     requires so { IsTrueAt (encoding_of e.old) c.0 (signed holds (formula_of f.now)) }
     ensures next { IfOk result (λ _. IsNext (encoding_of e.old) (encoding_of e.new)) }
 {
@@ -93,8 +93,8 @@ fn alternatives_clause(
 // The same, with a list of its own.
 fn one_clause(e: &mut Encoder, c: CatId, f: &Formula, holds: bool) -> Result<(), Memory>
     requires sound { IsSound (encoding_of e.old) }
-    requires category { IsCategory e.old.problem.graph.now c.0 }
-    requires speaks { IsSpoken (encoding_of e.old).problem (formula_of f.now) }
+    requires category { IsCategory e.old.question.graph.now c.0 }
+    requires speaks { IsSpoken (encoding_of e.old).question (formula_of f.now) }
     requires so { IsTrueAt (encoding_of e.old) c.0 (signed holds (formula_of f.now)) }
     ensures next { IfOk result (λ _. IsNext (encoding_of e.old) (encoding_of e.new)) }
 {
@@ -105,8 +105,8 @@ fn one_clause(e: &mut Encoder, c: CatId, f: &Formula, holds: bool) -> Result<(),
 // The clauses of a formula that is true at a category wherever this is present, or of one that never is.
 fn require(e: &mut Encoder, c: CatId, f: &Formula, holds: bool) -> Result<(), Memory>
     requires sound { IsSound (encoding_of e.old) }
-    requires category { IsCategory e.old.problem.graph.now c.0 }
-    requires speaks { IsSpoken (encoding_of e.old).problem (formula_of f.now) }
+    requires category { IsCategory e.old.question.graph.now c.0 }
+    requires speaks { IsSpoken (encoding_of e.old).question (formula_of f.now) }
     requires so { IsTrueAt (encoding_of e.old) c.0 (signed holds (formula_of f.now)) }
     ensures next { IfOk result (λ _. IsNext (encoding_of e.old) (encoding_of e.new)) }
 {
@@ -131,12 +131,12 @@ fn require(e: &mut Encoder, c: CatId, f: &Formula, holds: bool) -> Result<(), Me
 /// The clauses of a constraint: none, where the root doesn't walk to its category.
 pub fn constraint(e: &mut Encoder, k: &Constraint) -> Result<(), Memory>
     requires sound { IsSound (encoding_of e.old) }
-    requires category { IsCategory e.old.problem.graph.now k.now.root.0 }
-    requires constraint { Contains (encoding_of e.old).problem.schema.constraints (constraint_of k.now) }
-    requires speaks { IsSpoken (encoding_of e.old).problem (formula_of k.now.formula) }
+    requires category { IsCategory e.old.question.graph.now k.now.root.0 }
+    requires constraint { Contains (encoding_of e.old).question.schema.constraints (constraint_of k.now) }
+    requires speaks { IsSpoken (encoding_of e.old).question (formula_of k.now.formula) }
     ensures next { IfOk result (λ _. IsNext (encoding_of e.old) (encoding_of e.new)) }
 {
-    if !e.problem.graph.reaches(e.problem.root, k.root) {
+    if !e.question.graph.reaches(e.question.root, k.root) {
         return Ok(());
     }
     require(e, k.root, &k.formula, true)
@@ -145,9 +145,9 @@ pub fn constraint(e: &mut Encoder, k: &Constraint) -> Result<(), Memory>
 /// The clauses of the question.
 pub fn question(e: &mut Encoder) -> Result<(), Memory>
     requires sound { IsSound (encoding_of e.old) }
-    requires speaks { IsSpoken (encoding_of e.old).problem (encoding_of e.old).problem.question }
+    requires speaks { IsSpoken (encoding_of e.old).question (encoding_of e.old).question.formula }
     ensures next { IfOk result (λ _. IsNext (encoding_of e.old) (encoding_of e.new)) }
 {
-    let p = e.problem();
-    require(e, p.root, p.question, true)
+    let q = e.question();
+    require(e, q.root, q.formula, true)
 }

@@ -1,15 +1,14 @@
 // How many clauses there are of a schema and a root, where nothing is asked but that it has a member.
 ghost use Rattle.olap_base.specs.Graph.{IsCategory};
-ghost use Rattle.olap_encoding.specs.Encoding.{IsProblem};
-ghost use Rattle.olap_encoding.specs.Formulas.{IsSpokenProblem};
-ghost use Rattle.olap_encoding.specs.Problems.{problem_of};
+ghost use Rattle.olap_encoding.specs.Formulas.{IsSpokenQuestion};
+ghost use Rattle.olap_names.specs.Questions.{IsQuestion, question_of};
 ghost use Rattle.olap_schema.specs.Schemas.{schema_of};
 
 use crate::reading::read;
 use olap_ast::Formula;
 use olap_base::CatId;
-use olap_encoding::{Problem, encode};
-use olap_names::Candidates;
+use olap_encoding::encode;
+use olap_names::{Candidates, Question};
 use olap_schema::Schema;
 use std::alloc::Global;
 use std::process::Abort;
@@ -62,12 +61,12 @@ edge Country All
 ",
 ];
 
-// How many clauses the problem has.
-fn clause_count(rt: &impl Abort, alloc: Global, problem: &Problem) -> usize
-    requires problem { IsProblem (problem_of problem.now) }
-    requires spoken { IsSpokenProblem (problem_of problem.now) }
+// How many clauses the question has.
+fn clause_count(rt: &impl Abort, alloc: Global, question: &Question) -> usize
+    requires question { IsQuestion (question_of question.now) }
+    requires spoken { IsSpokenQuestion (question_of question.now) }
 {
-    let encoder = encode(alloc, problem).expect(rt, "memory");
+    let encoder = encode(alloc, question).expect(rt, "memory");
     encoder.into_parts().pool.len()
 }
 
@@ -75,20 +74,18 @@ fn clause_count(rt: &impl Abort, alloc: Global, problem: &Problem) -> usize
 fn clauses_at(rt: &impl Abort, alloc: Global, schema: &Schema, root: CatId) -> usize
     requires { IsCategory (schema_of schema.now).graph root.0 }
 {
-    let question = Formula::True;
+    let formula = Formula::True;
     let graph = schema.graph();
     let constraints = schema.constraints();
-    let candidates = Candidates::of(alloc, graph, constraints, &question).expect(rt, "memory");
-    let problem = Problem {
+    let candidates = Candidates::of(alloc, graph, constraints, &formula).expect(rt, "memory");
+    let question = Question {
         graph,
         constraints,
-        question: &question,
+        formula: &formula,
         root,
-        fresh: candidates.fresh(),
-        firsts: candidates.firsts(),
-        constants: candidates.texts(),
+        candidates: &candidates,
     };
-    clause_count(rt, alloc, &problem)
+    clause_count(rt, alloc, &question)
 }
 
 // The same of a schema's text and a category's name.

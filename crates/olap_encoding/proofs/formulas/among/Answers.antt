@@ -3,8 +3,8 @@ use Rattle.std.proofs.Common.{◌<◌, [], length, get_or, subst, ap, ◌∙◌}
 use Rattle.std.proofs.Common.{w64}
 use Rattle.std.proofs.lemmas.Int.{to_z-of_z}
 use Rattle.olap_ast.specs.Trees.{op_of}
+use Rattle.olap_names.specs.Names.{others_of}
 use Rattle.olap_encoding.specs.EncoderInside.{encoding_of}
-use Rattle.olap_encoding.specs.declared.problems.Problem as declared
 use Rattle.olap_encoding.proofs.GivenLemmas.{never_says}
 use Rattle.olap_encoding.proofs.Growing.{next_same, next_on}
 use Rattle.olap_encoding.proofs.OutLemmas.{category_still}
@@ -28,9 +28,8 @@ among_more-requires-clause-category c = category_still c.names.invariant.next.la
 
 pub among_more-requires-clause-place : goal.among_more-requires-clause-place
 among_more-requires-clause-place c =
-    let q = c.count_of-count.ensures
-    ∙ ap (λ (p : declared.Problem). length (get_or p.constants.now c.args.d.0 [])) c.problem-p.ensures in
-    let h : c.names.j < length (get_or c.args.e.now.problem.constants.now c.args.d.0 []) =
+    let q = ap length c.others-count.ensures in
+    let h : c.names.j < length (others_of c.args.e.now.question.candidates.now c.args.d.0) =
     subst (λ n. c.names.j < n) q c.names-test.true in
     constants_still c.names.invariant.next.later c.args.d.0 c.names.j h
 

@@ -2,8 +2,10 @@
 use Rattle.std.proofs.Common.{◌≡◌, [], true, false, get_or, sym, subst, ◌+◌, ◌∙◌, w64}
 use Rattle.std.proofs.lemmas.Int.{to_z-of_z}
 use Rattle.olap_ast.specs.Trees.{op_of}
+use Rattle.olap_names.specs.Names.{others_of}
+use Rattle.olap_names.specs.Questions.{Question}
 use Rattle.olap_encoding.specs.EncoderInside.{encoding_of}
-use Rattle.olap_encoding.specs.Encoding.{Problem, IsNext, Says}
+use Rattle.olap_encoding.specs.Encoding.{IsNext, Says}
 use Rattle.olap_encoding.specs.Formulas.{AmongIs, AnyIs, Wants}
 use Rattle.olap_encoding.proofs.Growing.{says_still}
 use Rattle.olap_encoding.proofs.PartLemmas.{both_ok}
@@ -15,7 +17,9 @@ returns-then-not-is_wanted-clause-says c =
     says_other (encoding_of c.args.e.now) c.args.d.0 c.args.j (op_of c.args.op) c.args.n c.args.want c.args.l
     c.requires.says
     (λ w. let z : false ≡ true = sym c.if-not-is_wanted.true
-    ∙ (rw (to_z-of_z w64 c.args.n c.ranges.n) at c.is_wanted.ensures).1 w in cc)
+    ∙ (rw (to_z-of_z w64 c.args.n c.ranges.n) at c.is_wanted.ensures).1
+    (subst (λ names. Wants (op_of c.args.op) c.args.n c.args.want (get_or names c.args.j [])) (sym c.others.ensures) w)
+    in cc)
 
 pub returns-clause-says : goal.returns-clause-says
 returns-clause-says c =
@@ -30,6 +34,7 @@ returns-clause-says c =
     (λ o. Says e o (AmongIs d (j + 1) op m want))
     (λ o n s. says_more e d j op m want c.args.l b o (says_still n.later c.requires.says)
     (says_still n.later c.name-b.ensures) s
-    (subst (λ (p : Problem). Wants op m want (get_or (p.candidates.texts d) j [])) (sym n.later.problem)
-    ((rw (to_z-of_z w64 m c.ranges.n) at c.is_wanted.ensures).0 c.if-not-is_wanted.false)))
+    (subst (λ (p : Question). Wants op m want (get_or (others_of p.candidates d) j [])) (sym n.later.question)
+    (subst (λ names. Wants op m want (get_or names j [])) c.others.ensures
+    ((rw (to_z-of_z w64 m c.ranges.n) at c.is_wanted.ensures).0 c.if-not-is_wanted.false))))
     c.any.ensures.next c.any.ensures.says

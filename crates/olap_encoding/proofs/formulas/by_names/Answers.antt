@@ -4,8 +4,10 @@ use Rattle.std.proofs.lemmas.Int.{to_z-of_z}
 use Rattle.std.specs.Prelude.{IsTrue, ◌↔◌}
 use Rattle.olap_ast.specs.Formula.{IsNumbered}
 use Rattle.olap_ast.specs.Trees.{op_of}
+use Rattle.olap_names.specs.Names.{first_of, others_of}
+use Rattle.olap_names.specs.Questions.{Question}
 use Rattle.olap_encoding.specs.EncoderInside.{encoding_of}
-use Rattle.olap_encoding.specs.Encoding.{Problem, Says}
+use Rattle.olap_encoding.specs.Encoding.{Says}
 use Rattle.olap_encoding.specs.Formulas.{AmongIs}
 use Rattle.olap_encoding.proofs.ComparingLemmas.{number_by_names}
 use Rattle.olap_encoding.proofs.OutLemmas.{category_still}
@@ -21,7 +23,7 @@ returns-clause-says c =
     let s = c.in_ok-some.ensures in
     number_by_names e s.next.sound d op n (category_still s.next.later d c.requires.category) b c.in_ok-some.some
     c.turned-l.result
-    (subst (λ (p : Problem). IsTrue b ↔ IsNumbered (p.candidates.first d) op n) (sym s.next.later.problem)
+    (subst (λ (p : Question). IsTrue b ↔ IsNumbered (first_of p.candidates d) op n) (sym s.next.later.question)
     (rw (to_z-of_z w64 c.args.n c.ranges.n) at c.first_passes-first.ensures))
-    (subst (λ (p : Problem). Says e c.in_ok-some.some (AmongIs d (length (p.candidates.texts d)) op n (not b)))
-    (sym s.next.later.problem) (rw (to_z-of_z w64 c.args.n c.ranges.n) at s.says)) c.turned-l.ensures
+    (subst (λ (p : Question). Says e c.in_ok-some.some (AmongIs d (length (others_of p.candidates d)) op n (not b)))
+    (sym s.next.later.question) (rw (to_z-of_z w64 c.args.n c.ranges.n) at s.says)) c.turned-l.ensures

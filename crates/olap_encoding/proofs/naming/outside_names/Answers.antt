@@ -1,6 +1,5 @@
 -- One name after the other.
 use Rattle.std.proofs.Common.{◌<◌, [], length, get_or, subst, ap, ◌∙◌}
-use Rattle.olap_encoding.specs.declared.problems.Problem as declared
 use Rattle.olap_encoding.proofs.Growing.{next_same, next_on}
 use Rattle.olap_encoding.proofs.OutLemmas.{category_still}
 use Rattle.olap_encoding.proofs.NameLemmas.{constants_still, outside_still}
@@ -17,8 +16,7 @@ outside_name-requires-clause-outside c = outside_still c.names.invariant.later c
 
 pub outside_name-requires-clause-place : goal.outside_name-requires-clause-place
 outside_name-requires-clause-place c =
-    let q = c.count_of-count.ensures
-    ∙ ap (λ (p : declared.Problem). length (get_or p.constants.now c.args.c.0 [])) c.problem-p.ensures in
+    let q = ap length c.others-count.ensures in
     constants_still c.names.invariant.later c.args.c.0 c.names.j (subst (λ n. c.names.j < n) q c.names-test.true)
 
 pub names-preserved : goal.names-preserved

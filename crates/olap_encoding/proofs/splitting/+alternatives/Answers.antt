@@ -22,7 +22,7 @@ alternatives-requires t c =
     counted c.in-Not-default.is-0 in (
       omega (arith, c.decreases, n, counted q),
       part_spoken e c.args.c.0 c.requires.sound c.requires.category q
-          (spoken_as e.problem c.in-Not-default.is-0 c.requires.speaks),
+          (spoken_as e.question c.in-Not-default.is-0 c.requires.speaks),
     )
 
 pub alternatives-requires-in-Or-true : goal.alternatives-requires-in-Or-true
@@ -33,7 +33,7 @@ alternatives-requires-in-Or-true t c =
     + node_count (formula_of c.in-Or-true.h.value) = counted c.in-Or-true.is-0 in (
       omega (arith, c.decreases, n, counted q),
       part_spoken e c.args.c.0 c.requires.sound c.requires.category q
-          (spoken_as e.problem c.in-Or-true.is-0 c.requires.speaks).0,
+          (spoken_as e.question c.in-Or-true.is-0 c.requires.speaks).0,
     )
 
 pub alternatives-requires-in-Or-true-2 : goal.alternatives-requires-in-Or-true-2
@@ -43,7 +43,7 @@ alternatives-requires-in-Or-true-2 t c =
     let q = sym c.deref-in-Or-true-2.ensures in
     let n : node_count (formula_of c.args.f.now) ≡ 1 + node_count (formula_of c.in-Or-true.g.value)
     + node_count (formula_of c.in-Or-true.h.value) = counted c.in-Or-true.is-0 in
-    let s = (spoken_as (encoding_of c.args.e.now).problem c.in-Or-true.is-0 c.requires.speaks).1 in (
+    let s = (spoken_as (encoding_of c.args.e.now).question c.in-Or-true.is-0 c.requires.speaks).1 in (
       omega (arith, c.decreases, n, counted q),
       part_spoken e c.args.c.0 u.next.sound (category_still u.next.later c.args.c.0 c.requires.category) q
           (spoken_still u.next.later (formula_of c.in-Or-true.h.value) s),
@@ -57,7 +57,7 @@ alternatives-requires-in-And-false t c =
     + node_count (formula_of c.in-And-false.h.value) = counted c.in-And-false.is-0 in (
       omega (arith, c.decreases, n, counted q),
       part_spoken e c.args.c.0 c.requires.sound c.requires.category q
-          (spoken_as e.problem c.in-And-false.is-0 c.requires.speaks).0,
+          (spoken_as e.question c.in-And-false.is-0 c.requires.speaks).0,
     )
 
 pub alternatives-requires-in-And-false-2 : goal.alternatives-requires-in-And-false-2
@@ -67,7 +67,7 @@ alternatives-requires-in-And-false-2 t c =
     let q = sym c.deref-in-And-false-2.ensures in
     let n : node_count (formula_of c.args.f.now) ≡ 1 + node_count (formula_of c.in-And-false.g.value)
     + node_count (formula_of c.in-And-false.h.value) = counted c.in-And-false.is-0 in
-    let s = (spoken_as (encoding_of c.args.e.now).problem c.in-And-false.is-0 c.requires.speaks).1 in (
+    let s = (spoken_as (encoding_of c.args.e.now).question c.in-And-false.is-0 c.requires.speaks).1 in (
       omega (arith, c.decreases, n, counted q),
       part_spoken e c.args.c.0 u.next.sound (category_still u.next.later c.args.c.0 c.requires.category) q
           (spoken_still u.next.later (formula_of c.in-And-false.h.value) s),
@@ -81,7 +81,7 @@ alternatives-requires-in-Implies-true t c =
     + node_count (formula_of c.in-Implies-true.h.value) = counted c.in-Implies-true.is-0 in (
       omega (arith, c.decreases, n, counted q),
       part_spoken e c.args.c.0 c.requires.sound c.requires.category q
-          (spoken_as e.problem c.in-Implies-true.is-0 c.requires.speaks).0,
+          (spoken_as e.question c.in-Implies-true.is-0 c.requires.speaks).0,
     )
 
 pub alternatives-requires-in-Implies-true-2 : goal.alternatives-requires-in-Implies-true-2
@@ -91,7 +91,7 @@ alternatives-requires-in-Implies-true-2 t c =
     let q = sym c.deref-in-Implies-true-2.ensures in
     let n : node_count (formula_of c.args.f.now) ≡ 1 + node_count (formula_of c.in-Implies-true.g.value)
     + node_count (formula_of c.in-Implies-true.h.value) = counted c.in-Implies-true.is-0 in
-    let s = (spoken_as (encoding_of c.args.e.now).problem c.in-Implies-true.is-0 c.requires.speaks).1 in (
+    let s = (spoken_as (encoding_of c.args.e.now).question c.in-Implies-true.is-0 c.requires.speaks).1 in (
       omega (arith, c.decreases, n, counted q),
       part_spoken e c.args.c.0 u.next.sound (category_still u.next.later c.args.c.0 c.requires.category) q
           (spoken_still u.next.later (formula_of c.in-Implies-true.h.value) s),

@@ -20,7 +20,7 @@ require-requires t c =
     let n : node_count (formula_of c.args.f.now) ≡ 1 + node_count (formula_of g) = counted c.in-Not-default.is-0 in (
       omega (arith, c.decreases, n, counted q),
       required e c.args.c.0 (not b) q c.requires.sound c.requires.category
-          (spoken_as e.problem c.in-Not-default.is-0 c.requires.speaks)
+          (spoken_as e.question c.in-Not-default.is-0 c.requires.speaks)
           (true_turned e c.args.c.0 b (formula_of c.in-Not-default.g.value)
           (true_as e c.args.c.0 b b refl c.in-Not-default.is-0 c.requires.so)),
     )
@@ -31,7 +31,7 @@ require-requires-in-And-true t c =
     let g = c.in-And-true.g.value in
     let h = c.in-And-true.h.value in
     let so = true_as e c.args.c.0 c.args.holds true c.in-And-true.is-1 c.in-And-true.is-0 c.requires.so in
-    let spoken = spoken_as e.problem c.in-And-true.is-0 c.requires.speaks in
+    let spoken = spoken_as e.question c.in-And-true.is-0 c.requires.speaks in
     let q = sym c.deref-in-And-true.ensures in
     let n : node_count (formula_of c.args.f.now) ≡ 1 + node_count (formula_of g) + node_count (formula_of h) =
     counted c.in-And-true.is-0 in (
@@ -48,7 +48,7 @@ require-requires-in-And-true-2 t c =
     let h = c.in-And-true.h.value in
     let n = c.in_ok-require-in-And-true.ensures.next in
     let so = true_as e c.args.c.0 c.args.holds true c.in-And-true.is-1 c.in-And-true.is-0 c.requires.so in
-    let spoken = spoken_as e.problem c.in-And-true.is-0 c.requires.speaks in
+    let spoken = spoken_as e.question c.in-And-true.is-0 c.requires.speaks in
     let q = sym c.deref-in-And-true-2.ensures in
     let m : node_count (formula_of c.args.f.now) ≡ 1 + node_count (formula_of g) + node_count (formula_of h) =
     counted c.in-And-true.is-0 in (
@@ -65,7 +65,7 @@ require-requires-in-Or-false t c =
     let g = c.in-Or-false.g.value in
     let h = c.in-Or-false.h.value in
     let so = true_as e c.args.c.0 c.args.holds false c.in-Or-false.is-1 c.in-Or-false.is-0 c.requires.so in
-    let spoken = spoken_as e.problem c.in-Or-false.is-0 c.requires.speaks in
+    let spoken = spoken_as e.question c.in-Or-false.is-0 c.requires.speaks in
     let q = sym c.deref-in-Or-false.ensures in
     let n : node_count (formula_of c.args.f.now) ≡ 1 + node_count (formula_of g) + node_count (formula_of h) =
     counted c.in-Or-false.is-0 in (
@@ -82,7 +82,7 @@ require-requires-in-Or-false-2 t c =
     let h = c.in-Or-false.h.value in
     let n = c.in_ok-require-in-Or-false.ensures.next in
     let so = true_as e c.args.c.0 c.args.holds false c.in-Or-false.is-1 c.in-Or-false.is-0 c.requires.so in
-    let spoken = spoken_as e.problem c.in-Or-false.is-0 c.requires.speaks in
+    let spoken = spoken_as e.question c.in-Or-false.is-0 c.requires.speaks in
     let q = sym c.deref-in-Or-false-2.ensures in
     let m : node_count (formula_of c.args.f.now) ≡ 1 + node_count (formula_of g) + node_count (formula_of h) =
     counted c.in-Or-false.is-0 in (
@@ -99,7 +99,7 @@ require-requires-in-Implies-false t c =
     let g = c.in-Implies-false.g.value in
     let h = c.in-Implies-false.h.value in
     let so = true_as e c.args.c.0 c.args.holds false c.in-Implies-false.is-1 c.in-Implies-false.is-0 c.requires.so in
-    let spoken = spoken_as e.problem c.in-Implies-false.is-0 c.requires.speaks in
+    let spoken = spoken_as e.question c.in-Implies-false.is-0 c.requires.speaks in
     let q = sym c.deref-in-Implies-false.ensures in
     let n : node_count (formula_of c.args.f.now) ≡ 1 + node_count (formula_of g) + node_count (formula_of h) =
     counted c.in-Implies-false.is-0 in (
@@ -116,7 +116,7 @@ require-requires-in-Implies-false-2 t c =
     let h = c.in-Implies-false.h.value in
     let n = c.in_ok-require-in-Implies-false.ensures.next in
     let so = true_as e c.args.c.0 c.args.holds false c.in-Implies-false.is-1 c.in-Implies-false.is-0 c.requires.so in
-    let spoken = spoken_as e.problem c.in-Implies-false.is-0 c.requires.speaks in
+    let spoken = spoken_as e.question c.in-Implies-false.is-0 c.requires.speaks in
     let q = sym c.deref-in-Implies-false-2.ensures in
     let m : node_count (formula_of c.args.f.now) ≡ 1 + node_count (formula_of g) + node_count (formula_of h) =
     counted c.in-Implies-false.is-0 in (
