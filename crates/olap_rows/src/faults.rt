@@ -1,57 +1,45 @@
 // Words that are no command, files that can't be read, and output that can't be written.
-use crate::running::Output::Just;
-use crate::running::{Files, NARROW, Outside, Pace, Row, check};
+use crate::running::{Files, Outside, Row, SOUND, check};
 use crate::samples::{CHAIN, CITY_VIEW, TWO_STORES, ZERO_SUM};
-use crate::texts::Piece::Text;
 use olap_run::Status;
 use std::test::Fail;
 
-const HELD: Files = &[
-    ("S", &[Text(CHAIN)]),
-    ("I", &[Text(TWO_STORES)]),
-    ("F", &[Text(ZERO_SUM)]),
-];
+const HELD: Files = &[("S", CHAIN), ("I", TWO_STORES), ("F", ZERO_SUM)];
 
 const FIRST_READ_FAILS: Outside = Outside {
-    pace: Pace::Narrow,
     room: 400,
-    failing_read: Some(1),
-    failing_write: None,
+    failing_read: 1,
+    failing_write: 0,
 };
 
 const THIRD_READ_FAILS: Outside = Outside {
-    pace: Pace::Narrow,
     room: 400,
-    failing_read: Some(3),
-    failing_write: None,
+    failing_read: 3,
+    failing_write: 0,
 };
 
 const EIGHTH_READ_FAILS: Outside = Outside {
-    pace: Pace::Narrow,
     room: 400,
-    failing_read: Some(8),
-    failing_write: None,
+    failing_read: 8,
+    failing_write: 0,
 };
 
 const EIGHTEENTH_READ_FAILS: Outside = Outside {
-    pace: Pace::Narrow,
     room: 400,
-    failing_read: Some(18),
-    failing_write: None,
+    failing_read: 18,
+    failing_write: 0,
 };
 
 const FIRST_WRITE_FAILS: Outside = Outside {
-    pace: Pace::Narrow,
     room: 400,
-    failing_read: None,
-    failing_write: Some(1),
+    failing_read: 0,
+    failing_write: 1,
 };
 
 const LITTLE_ROOM: Outside = Outside {
-    pace: Pace::Narrow,
     room: 10,
-    failing_read: None,
-    failing_write: None,
+    failing_read: 0,
+    failing_write: 0,
 };
 
 /// Rows, each with the outside that it runs in. Where the words are no command no file is opened, so the first call,
@@ -62,9 +50,8 @@ const FAILING: &[(Outside, Row)] = &[
         Row {
             name: "no word",
             words: &[],
-            files: &[],
             status: Status::Usage,
-            output: Just("usage\n"),
+            output: "usage\n",
         },
     ),
     (
@@ -72,9 +59,8 @@ const FAILING: &[(Outside, Row)] = &[
         Row {
             name: "a command that is cut off",
             words: &["rollup", "A"],
-            files: &[],
             status: Status::Usage,
-            output: Just("usage\n"),
+            output: "usage\n",
         },
     ),
     (
@@ -82,9 +68,8 @@ const FAILING: &[(Outside, Row)] = &[
         Row {
             name: "a word too many",
             words: &["check", "A", "B", "C"],
-            files: &[],
             status: Status::Usage,
-            output: Just("usage\n"),
+            output: "usage\n",
         },
     ),
     (
@@ -92,9 +77,8 @@ const FAILING: &[(Outside, Row)] = &[
         Row {
             name: "a name of no command",
             words: &["nosuch"],
-            files: &[],
             status: Status::Usage,
-            output: Just("usage\n"),
+            output: "usage\n",
         },
     ),
     (
@@ -102,19 +86,17 @@ const FAILING: &[(Outside, Row)] = &[
         Row {
             name: "more words than there may be",
             words: &["rollup"; 65],
-            files: &[],
             status: Status::Usage,
-            output: Just("usage\n"),
+            output: "usage\n",
         },
     ),
     (
-        NARROW,
+        SOUND,
         Row {
             name: "a name that isn't held",
             words: &["rollup", "X", "X", "X", "A"],
-            files: &[],
             status: Status::ReadFault,
-            output: Just(""),
+            output: "",
         },
     ),
     (
@@ -122,9 +104,8 @@ const FAILING: &[(Outside, Row)] = &[
         Row {
             name: "call 1 of the library fails",
             words: &["rollup", "S", "I", "F", "City"],
-            files: &[],
             status: Status::ReadFault,
-            output: Just(""),
+            output: "",
         },
     ),
     (
@@ -132,9 +113,8 @@ const FAILING: &[(Outside, Row)] = &[
         Row {
             name: "call 3 of the library fails",
             words: &["rollup", "S", "I", "F", "City"],
-            files: &[],
             status: Status::ReadFault,
-            output: Just(""),
+            output: "",
         },
     ),
     (
@@ -142,9 +122,8 @@ const FAILING: &[(Outside, Row)] = &[
         Row {
             name: "call 8 of the library fails",
             words: &["rollup", "S", "I", "F", "City"],
-            files: &[],
             status: Status::ReadFault,
-            output: Just(""),
+            output: "",
         },
     ),
     (
@@ -152,9 +131,17 @@ const FAILING: &[(Outside, Row)] = &[
         Row {
             name: "call 18 of the library fails",
             words: &["rollup", "S", "I", "F", "City"],
-            files: &[],
             status: Status::ReadFault,
-            output: Just(""),
+            output: "",
+        },
+    ),
+    (
+        THIRD_READ_FAILS,
+        Row {
+            name: "call 3 of the library fails for a question",
+            words: &["satisfiable", "S", "Store"],
+            status: Status::ReadFault,
+            output: "",
         },
     ),
     (
@@ -162,9 +149,8 @@ const FAILING: &[(Outside, Row)] = &[
         Row {
             name: "the first call of the sink fails",
             words: &["rollup", "S", "I", "F", "City"],
-            files: &[],
             status: Status::WriteFault,
-            output: Just(""),
+            output: "",
         },
     ),
     (
@@ -172,19 +158,17 @@ const FAILING: &[(Outside, Row)] = &[
         Row {
             name: "a sink with too little room",
             words: &["rollup", "S", "I", "F", "City"],
-            files: &[],
             status: Status::WriteFault,
-            output: Just("member,cou"),
+            output: "member,cou",
         },
     ),
     (
-        NARROW,
+        SOUND,
         Row {
             name: "a sink with enough room",
             words: &["rollup", "S", "I", "F", "City"],
-            files: &[],
             status: Status::Yes,
-            output: Just(CITY_VIEW),
+            output: CITY_VIEW,
         },
     ),
 ];

@@ -8,20 +8,8 @@ use olap_base::{Failed, Library, OpenError};
 pub(crate) enum Content<'a> {
     /// This text.
     Text(&'a str),
-    /// These bytes.
-    Bytes(&'a [u8]),
     /// The byte `#` without end.
     Endless,
-}
-
-/// Fills the buffer with what comes after so many of the bytes, and says how many these are.
-fn hand_out(bytes: &[u8], taken: usize, buf: &mut [u8]) -> usize
-    ensures within { result ≤ length buf.new }
-{
-    let left = &bytes[taken.min(bytes.len())..];
-    let count = left.len().min(buf.len());
-    buf[..count].copy_from_slice(&left[..count]);
-    count
 }
 
 impl<'a> Content<'a> {
@@ -30,8 +18,13 @@ impl<'a> Content<'a> {
         ensures within { result ≤ length buf.new }
     {
         match self {
-            Content::Text(text) => hand_out(text.as_bytes(), taken, buf),
-            Content::Bytes(bytes) => hand_out(bytes, taken, buf),
+            Content::Text(text) => {
+                let bytes = text.as_bytes();
+                let left = &bytes[taken.min(bytes.len())..];
+                let count = left.len().min(buf.len());
+                buf[..count].copy_from_slice(&left[..count]);
+                count
+            }
             Content::Endless => {
                 buf.fill(b'#');
                 buf.len()

@@ -71,18 +71,6 @@ s2,-5\n\
 s4,7\n\
 s5,3\n";
 
-/// A graph with a cycle and with shortcuts.
-pub(crate) const CYCLE: &str = "schema 1\n\
-category S\n\
-category B\n\
-category R\n\
-edge S B\n\
-edge S R\n\
-edge B R\n\
-edge R B\n\
-edge B All\n\
-edge R All\n";
-
 /// The views of the states, the provinces and the cities.
 pub(crate) const STORED: &str = "category,member,count,sum,least,greatest\n\
 State,,,,,\n\
