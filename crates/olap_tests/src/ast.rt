@@ -1,6 +1,6 @@
-// The calls that take memory, once each where there is enough.
+// The constants and the numbers of a formula.
 use crate::reading::read;
-use olap_ast::{Constraint, Formula, Op, constants, copy, numbers};
+use olap_ast::{Formula, constants, numbers};
 use olap_base::{CatId, Text};
 use std::alloc::Global;
 use std::process::Abort;
@@ -31,27 +31,11 @@ fn has_numbers(rt: &impl Abort, alloc: Global, f: &Formula, wanted: &[i64]) -> b
     found.items() == wanted
 }
 
-// Its constants are distinct and ordered, and so are its numbers.
-fn is_listed(rt: &impl Abort, alloc: Global, f: &Formula) {
-    assert!(rt; has_constants(rt, alloc, f, &[b"a", b"b"]));
-    assert!(rt; has_numbers(rt, alloc, f, &[-9, 9]));
-}
-
-fn is_copied_and_listed(rt: &impl Abort, alloc: Global, constraints: &[Constraint]) {
-    let constraint = constraints.first().expect(rt, "a constraint");
-    let copied = copy(alloc, &constraint.formula).expect(rt, "memory");
-    is_listed(rt, alloc, &copied);
-}
-
+// They are distinct and in order.
 #[test]
-fn a_formula_is_copied_and_listed(rt: HostRuntime) {
+fn constants_and_numbers_are_listed(rt: HostRuntime) {
     let schema = read(&rt, rt.alloc(), SCHEMA);
-    is_copied_and_listed(&rt, rt.alloc(), schema.constraints());
-}
-
-#[test]
-fn numbers_are_compared(rt: HostRuntime) {
-    assert!(rt; Op::Less.test(-9, 9));
-    assert!(rt; !Op::Less.test(9, 9));
-    assert!(rt; Op::AtMost.test(9, 9));
+    let constraint = schema.constraints().first().expect(&rt, "a constraint");
+    assert!(rt; has_constants(&rt, rt.alloc(), &constraint.formula, &[b"a", b"b"]));
+    assert!(rt; has_numbers(&rt, rt.alloc(), &constraint.formula, &[-9, 9]));
 }

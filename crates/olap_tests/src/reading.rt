@@ -5,11 +5,8 @@ use std::alloc::Global;
 use std::process::Abort;
 
 // Stores in cities.
-pub(crate) const CHAIN: &str =
-    "schema 1\ncategory Store\ncategory City\nedge Store City\nedge City All\n";
-
-pub(crate) const STORES: &str =
-    "id,category,name,parents\na,Store,a,c1\nb,Store,b,c1\nc1,City,c1,all\n";
+pub(crate) const CHAIN: &[u8] =
+    b"schema 1\ncategory Store\ncategory City\nedge Store City\nedge City All\n";
 
 // The schema of a text.
 pub(crate) fn read(rt: &impl Abort, alloc: Global, text: &[u8]) -> Schema {
