@@ -1,19 +1,12 @@
-//! Public calls of the crates that make views and ask about them, on small inputs and with memory to spare.
+//! Public calls of the crate that makes views which no command makes, on small inputs and with memory to spare.
 //!
-//! A module is named after the crate that it calls, and `olap_view` has three: `view`, `stored` and `store`. Nothing
-//! is proved here of a crate beyond that the tests keep what its calls require; what is proved of it stands in the
-//! crate.
+//! Nothing is proved here of a crate beyond that the tests keep what its calls require; what is proved of it stands in
+//! the crate. The calls that commands make are looked at by the rows of `rows/`.
 #![tactic(auto)]
 
 #[cfg(test)]
-mod nav;
-#[cfg(test)]
 mod reading;
 #[cfg(test)]
-mod store;
-#[cfg(test)]
 mod stored;
-#[cfg(test)]
-mod summ;
 #[cfg(test)]
 mod view;

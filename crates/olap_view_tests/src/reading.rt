@@ -1,12 +1,12 @@
-// What the texts of several modules are read as: schemas, legal instances and stored views.
+// What the texts are read as, a schema, a legal instance and stored views, and the one test that owns them.
 ghost use Rattle.std.specs.Prelude.{◌≡◌, ◌<◌, All, length};
-ghost use Rattle.olap_ast.specs.Schema.{IsLegal};
-ghost use Rattle.olap_base.specs.Graph.{IsCategory};
 ghost use Rattle.olap_instance.specs.Made.{IsMadeFor};
 ghost use Rattle.olap_schema.specs.Schemas.{schema_of};
 ghost use Rattle.olap_view.specs.Seen.{views_of};
 ghost use Rattle.olap_view.specs.Stores.{Fits, IsStore};
 
+use crate::stored::are_from_stored_views;
+use crate::view::are_views;
 use olap_base::{CatId, List, MemberId};
 use olap_check::check;
 use olap_instance::{Instance, read_instance};
@@ -17,13 +17,25 @@ use olap_view::{Row, Store, View};
 use std::alloc::Global;
 use std::process::Abort;
 
-pub(crate) const CHAIN: &str =
-    "schema 1\ncategory Store\ncategory City\nedge Store City\nedge City All\n";
+const LOCATION: &[u8] = b"schema 1
+category Store
+category City
+category State
+category Province
+category Region
+category Country
+edge Store City
+edge City State
+edge City Province
+edge City Country
+edge State Region
+edge State Country
+edge Province Region
+edge Region Country
+edge Country All
+";
 
-pub(crate) const STORES: &str =
-    "id,category,name,parents\na,Store,a,c1\nb,Store,b,c1\nc1,City,c1,all\n";
-
-pub(crate) const MEMBERS: &[u8] = b"id,category,name,parents
+const MEMBERS: &[u8] = b"id,category,name,parents
 s1,Store,S1,w
 s2,Store,S2,to
 s3,Store,S3,au
@@ -43,7 +55,7 @@ ca,Country,Canada,all
 me,Country,Mexico,all
 ";
 
-pub(crate) const YUCATAN: Row = Row {
+const YUCATAN: Row = Row {
     member: MemberId(11),
     count: 1,
     sum: 7,
@@ -51,7 +63,7 @@ pub(crate) const YUCATAN: Row = Row {
     greatest: 7,
 };
 
-pub(crate) const ONTARIO: Row = Row {
+const ONTARIO: Row = Row {
     member: MemberId(9),
     count: 3,
     sum: 3,
@@ -59,7 +71,7 @@ pub(crate) const ONTARIO: Row = Row {
     greatest: 5,
 };
 
-pub(crate) const WASHINGTON: Row = Row {
+const WASHINGTON: Row = Row {
     member: MemberId(5),
     count: 1,
     sum: 10,
@@ -67,7 +79,7 @@ pub(crate) const WASHINGTON: Row = Row {
     greatest: 10,
 };
 
-pub(crate) const TORONTO: Row = Row {
+const TORONTO: Row = Row {
     member: MemberId(6),
     count: 3,
     sum: 3,
@@ -75,7 +87,7 @@ pub(crate) const TORONTO: Row = Row {
     greatest: 5,
 };
 
-pub(crate) const MERIDA: Row = Row {
+const MERIDA: Row = Row {
     member: MemberId(8),
     count: 1,
     sum: 7,
@@ -83,27 +95,19 @@ pub(crate) const MERIDA: Row = Row {
     greatest: 7,
 };
 
-// The schema of a text.
-pub(crate) fn read(alloc: Global, rt: &impl Abort, text: &[u8]) -> Schema {
-    match read_schema(alloc, text) {
+// The schema of the locations.
+fn locations(alloc: Global, rt: &impl Abort) -> Schema {
+    match read_schema(alloc, LOCATION) {
         Ok(schema) => schema,
         Err(_) => panic!(rt; "a schema"),
     }
 }
 
-// The instance of a text.
-pub(crate) fn instance_of(alloc: Global, rt: &impl Abort, schema: &Schema, text: &[u8]) -> Instance
+// The members, which are a legal instance.
+fn legal(alloc: Global, rt: &impl Abort, schema: &Schema) -> Legal
     ensures { IsMadeFor (schema_of schema.now).graph result }
 {
-    read_instance(alloc, schema.graph(), text).expect(rt, "an instance")
-}
-
-// The instance, if it is legal.
-pub(crate) fn legal(alloc: Global, rt: &impl Abort, schema: &Schema, instance: Instance) -> Legal
-    requires { IsMadeFor (schema_of schema.now).graph instance }
-    ensures same { result ≡ instance }
-    ensures legal { IsLegal (schema_of schema.now) result }
-{
+    let instance = read_instance(alloc, schema.graph(), MEMBERS).expect(rt, "an instance");
     match check(alloc, schema, instance) {
         Ok(legal) => legal,
         Err(_) => panic!(rt; "a legal instance"),
@@ -111,7 +115,7 @@ pub(crate) fn legal(alloc: Global, rt: &impl Abort, schema: &Schema, instance: I
 }
 
 // A view with these rows.
-pub(crate) fn view(category: u16, rows: Vec<Row>) -> View
+fn view(category: u16, rows: Vec<Row>) -> View
     ensures category { result.category.0 ≡ category }
     ensures rows { result.rows ≡ rows.items }
 {
@@ -122,14 +126,12 @@ pub(crate) fn view(category: u16, rows: Vec<Row>) -> View
 }
 
 // The stored views of the states, the provinces and the cities, of an instance of the locations.
-pub(crate) fn stored(alloc: Global, rt: &impl Abort, schema: &Schema, instance: &Instance) -> Store
+pub(crate) fn stored(alloc: Global, rt: &impl Abort, instance: &Instance) -> Store
     ensures store { IsStore (views_of result) }
     ensures fit { All Fits (views_of result) }
-    ensures categories { All (λ v. IsCategory (schema_of schema.now).graph v.category) (views_of result) }
     ensures three { length result.views ≡ 3 }
     ensures at_members { All (λ v. All (λ r. r.member < length instance.now) v.rows) (views_of result) }
 {
-    assert!(rt; schema.graph().categories() == 7);
     assert!(rt; instance.members() == 18);
     let states = vec![in alloc; YUCATAN].expect(rt, "memory");
     let provinces = vec![in alloc; ONTARIO].expect(rt, "memory");
@@ -141,4 +143,12 @@ pub(crate) fn stored(alloc: Global, rt: &impl Abort, schema: &Schema, instance: 
     Store {
         views: List::from_vec(views),
     }
+}
+
+#[test]
+fn views_of_locations(rt: HostRuntime) {
+    let schema = locations(rt.alloc(), &rt);
+    let legal = legal(rt.alloc(), &rt, &schema);
+    are_views(rt.alloc(), &rt, &schema, &legal);
+    are_from_stored_views(rt.alloc(), &rt, &legal);
 }

@@ -3,9 +3,8 @@ ghost use Rattle.std.specs.Prelude.{◌≡◌, ◌<◌, ◌^◌, All, length};
 ghost use Rattle.olap_view.specs.Seen.{views_of};
 ghost use Rattle.olap_view.specs.Stores.{Fits, IsStore};
 
-use crate::reading::{MEMBERS, instance_of, legal, read, stored};
+use crate::reading::stored;
 use olap_base::CatId;
-use olap_generate::LOCATION;
 use olap_legal::Legal;
 use olap_view::{Store, from_views, print_view};
 use std::alloc::Global;
@@ -59,11 +58,8 @@ fn have_texts(alloc: Global, rt: &impl Abort, legal: &Legal, store: &Store)
     }
 }
 
-#[test]
-fn stored_views(rt: HostRuntime) {
-    let schema = read(rt.alloc(), &rt, LOCATION);
-    let instance = instance_of(rt.alloc(), &rt, &schema, MEMBERS);
-    let legal = legal(rt.alloc(), &rt, &schema, instance);
-    let store = stored(rt.alloc(), &rt, &schema, legal.instance());
-    have_texts(rt.alloc(), &rt, &legal, &store);
+// Each view is made from those whose bits it has.
+pub(crate) fn are_from_stored_views(alloc: Global, rt: &impl Abort, legal: &Legal) {
+    let store = stored(alloc, rt, legal.instance());
+    have_texts(alloc, rt, legal, &store);
 }
