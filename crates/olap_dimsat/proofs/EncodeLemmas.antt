@@ -2,8 +2,7 @@
 use Rattle.std.proofs.Common.{◌≡◌, ℕ, zero, suc, ◌≤◌, ◌<◌, List, [], length, Bool, true, false, refl, sym, subst, ◌∙◌, inl, inr, ◌^◌, arith}
 use Rattle.std.specs.Prelude.{◌↔◌, IsTrue}
 use Rattle.std.proofs.lemmas.Bool.{cases_Bool, false_from_ne_true}
-use Rattle.olap_base.specs.Graph.{IsCategory, IsHierarchy, category_count}
-use Rattle.olap_ast.specs.Frozen.{AreCandidates, Frozen}
+use Rattle.olap_ast.specs.Frozen.{Frozen}
 use Rattle.olap_ast.specs.Valid.{IsFormulaAt, IsValidSchema}
 use Rattle.olap_ast.proofs.ConstantLemmas.{constant_in_constraint, constant_in_question}
 use Rattle.olap_pool.specs.declared.pools.Pool.{Pool}
@@ -16,26 +15,13 @@ use Rattle.olap_encoding.specs.Encoding.{Encoding, IsLaid as IsLaidOut}
 use Rattle.olap_encoding.specs.Formulas.{IsSpokenQuestion}
 use Rattle.olap_encoding.specs.Meeting.{AreMetBy, valuation_in}
 use Rattle.olap_encoding.proofs.SpokenLemmas.{spoken}
-use Rattle.olap_names.specs.Names.{candidates_of}
 use Rattle.olap_names.specs.Questions.{IsQuestion, Question}
 use Rattle.olap_dimsat.specs.Tasks.{IsLaid, Task, schema_of}
 use Rattle.olap_dimsat.specs.Reads.{Reads, index_in}
 use Rattle.olap_dimsat.specs.Pinned.{IsEncoded}
 use Rattle.olap_dimsat.proofs.Truths.{is_same, same_is}
 
--- the encoder's question of a task
-abbrev pub question_in : Task → Question
-question_in t = record { schema = schema_of t; formula = t.question; root = t.root; candidates = t.named }
-
--- ---- the question that the encoder is handed
-
--- a formula of the graph of a valid schema, with its candidates, is a question
-pub question_for : (q : Question) → IsCategory q.schema.graph q.root → IsValidSchema q.schema
-    → AreCandidates q.schema q.formula (candidates_of q.candidates)
-    → length q.candidates.texts ≡ category_count q.schema.graph → IsQuestion q
-question_for q r v k n = record { hierarchy = v.hierarchy; root = r; candidates = k; texts = n }
-
--- and it can be encoded
+-- a question of a valid schema's graph can be encoded
 pub spoken_for : (q : Question) → IsValidSchema q.schema → IsFormulaAt q.schema.graph q.root q.formula
     → IsSpokenQuestion q
 spoken_for q v f = record {
@@ -61,12 +47,12 @@ index_same f (suc c) = refl
 -- a variable has the value of its meaning
 at_meaning : (t : Task) (f : Frozen) (ms : List Meaning) (v : ℕ → Bool) (x : ℕ) (m : Meaning) → x < length ms
     → meaning_at ms x ≡ m
-    → Fits (schema_of t) t.root f ms v → IsTrue (v x) ↔ Means (schema_of t) t.root f v m
-at_meaning t f ms v x m h e fits = subst (λ n. IsTrue (v x) ↔ Means (schema_of t) t.root f v n) e (fits.at x h)
+    → Fits (schema_of t) t.question.root f ms v → IsTrue (v x) ↔ Means (schema_of t) t.question.root f v m
+at_meaning t f ms v x m h e fits = subst (λ n. IsTrue (v x) ↔ Means (schema_of t) t.question.root f v n) e (fits.at x h)
 
 -- a valuation that fits meanings laid out so reads the frozen dimension
-reads : (t : Task) (f : Frozen) (ms : List Meaning) (v : ℕ → Bool) → IsLaidOut (question_in t) ms t.layout
-    → Fits (schema_of t) t.root f ms v → Reads t f v
+reads : (t : Task) (f : Frozen) (ms : List Meaning) (v : ℕ → Bool) → IsLaidOut t.question ms t.layout
+    → Fits (schema_of t) t.question.root f ms v → Reads t f v
 reads t f ms v laid fits = record {
   on = λ e h.
       let i = at_meaning t f ms v (on_variable e) (On e) (let r = laid.room in omega arith) (laid.on e h) fits in
@@ -82,7 +68,7 @@ reads t f ms v laid fits = record {
 }
 
 -- meanings laid out so lay the task out
-laid_for : (t : Task) (ms : List Meaning) → IsLaidOut (question_in t) ms t.layout → length ms ≤ 2 ^ 30
+laid_for : (t : Task) (ms : List Meaning) → IsLaidOut t.question ms t.layout → length ms ≤ 2 ^ 30
     → t.layout.variables ≡ length ms → IsLaid t
 laid_for t ms laid few variables = record {
   edges = laid.edges;
@@ -93,21 +79,14 @@ laid_for t ms laid few variables = record {
 }
 
 -- the task is encoded in the encoder's pool
-pub encoded : (t : Task) (e : Encoding) (pool : Pool) → IsHierarchy t.graph → IsCategory t.graph t.root
-    → AreCandidates (schema_of t) t.question (candidates_of t.named) → length t.named.texts ≡ category_count t.graph
-    → IsLaidOut (question_in t) e.meanings t.layout → length e.meanings ≤ 2 ^ 30
-    → t.layout.variables ≡ length e.meanings → ((f : Frozen) → AreMetBy (question_in t) e f) → pool ≡ e.pool
+pub encoded : (t : Task) (e : Encoding) (pool : Pool) → IsQuestion t.question
+    → IsLaidOut t.question e.meanings t.layout → length e.meanings ≤ 2 ^ 30
+    → t.layout.variables ≡ length e.meanings → ((f : Frozen) → AreMetBy t.question e f) → pool ≡ e.pool
     → IsEncoded t pool
-encoded t e pool hierarchy root k texts laid few variables met same = record {
-  task = record {
-    hierarchy = hierarchy;
-    root = root;
-    candidates = k;
-    texts = texts;
-    laid = laid_for t e.meanings laid few variables;
-  };
+encoded t e pool is laid few variables met same = record {
+  task = record { question = is; laid = laid_for t e.meanings laid few variables };
   each = λ f one.
-      let v = valuation_in (question_in t) e f in
+      let v = valuation_in t.question e f in
       let m = met f one in
       (v, reads t f e.meanings v laid m.0, subst (λ p. AreTrue v p) (sym same) m.1);
 }

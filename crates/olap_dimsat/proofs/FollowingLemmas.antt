@@ -9,7 +9,7 @@ use Rattle.olap_dimsat.specs.Listed.{IsBefore}
 use Rattle.olap_clauses.specs.declared.engine.Engine.{Engine}
 use Rattle.olap_clauses.specs.declared.trails.Step.{Step}
 use Rattle.olap_dimsat.specs.Pinned.{InRange, IsPinned, IsPlace, IsReady, IsReplaced, IsSame, NoneAt, NoneLess}
-use Rattle.olap_dimsat.specs.Tasks.{Task, IsOne, constant_count}
+use Rattle.olap_dimsat.specs.Tasks.{Task, IsOne, constant_count, graph_of}
 use Rattle.olap_dimsat.proofs.SettleLemmas.{at_least, bit, code_edge, code_name, length-code, not_after, same_bit}
 
 -- ---- lists of numbers
@@ -78,7 +78,7 @@ code_one t f h a b q =
     (λ e l. let n = a.edge_count in same_bit _ _
     (sym (code_edge t f e a (omega arith)) ∙ ap (λ c. slice_index c e) q ∙ code_edge t h e b (omega arith))) in
     let ns : f.names ≡ h.names = ext_get_or 0 f.names h.names (a.name_count ∙ sym b.name_count)
-    (λ c l. let p = length t.graph.edges + c in
+    (λ c l. let p = length (graph_of t).edges + c in
     sym (code_name t f p c a refl) ∙ ap (λ c. slice_index c p) q ∙ code_name t h p c b refl) in
     λ i. record { edges = es i; names = ns i }
 
@@ -170,12 +170,12 @@ in_range t f p one h = record { edge = edge; name = name }
     small true = omega arith
     small false = omega arith
 
-    edge : p < length t.graph.edges → slice_index (code f) p ≤ 1
+    edge : p < length (graph_of t).edges → slice_index (code f) p ≤ 1
     edge l = let e = code_edge t f p one l in let s = small (slice_index_or f.edges p false) in omega arith
 
-    name : length t.graph.edges ≤ p → slice_index (code f) p ≤ constant_count t (p - length t.graph.edges + 1)
+    name : length (graph_of t).edges ≤ p → slice_index (code f) p ≤ constant_count t (p - length (graph_of t).edges + 1)
     name l =
-        let c = p - length t.graph.edges in
+        let c = p - length (graph_of t).edges in
         let e = code_name t f p c one (omega arith) in
         let r = one.in_range c (let n = one.name_count in omega arith) in
         let s : suc c ≡ c + 1 = omega arith in

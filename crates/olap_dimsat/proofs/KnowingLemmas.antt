@@ -37,9 +37,9 @@ use Rattle.olap_frozen.proofs.ChosenLemmas.{bit_joins, choice_of, edge_inside, n
 use Rattle.olap_graph.specs.Lookups.{edge_between, joins}
 use Rattle.olap_graph.proofs.PlaceLemmas.{found, joins-Decides}
 use Rattle.olap_trail.specs.Decisions.{Decided, present_graph}
-use Rattle.olap_names.specs.Names.{candidates_of}
+use Rattle.olap_names.specs.Names.{candidates_of, others_of}
 use Rattle.olap_encoding.specs.Layouts.{on_variable, present_variable, name_variable}
-use Rattle.olap_dimsat.specs.Tasks.{IsOne, IsTask, Task, schema_of}
+use Rattle.olap_dimsat.specs.Tasks.{IsOne, IsTask, Task, schema_of, graph_of}
 use Rattle.olap_dimsat.specs.Reads.{NoneAgrees, Reads, index_in}
 use Rattle.olap_dimsat.specs.Tracking.{IsTracked}
 use Rattle.olap_dimsat.specs.Knowing.{HasMember, HoldsAt, IsBroken, IsFalseAt, both, knowledge, naming, presence, told, told_of_edge, told_of_name, truth_of, way}
@@ -105,8 +105,8 @@ reach_test g c d r b i e = let is = category_reaches_is g c d in
 
 -- what is known of a way, by what present edges and all edges lead to
 pub way_by : (t : Task) (d : Decided) (c e : ℕ) (b w : Bool) → category_reaches (present_graph d) c e ≡ b
-    → category_reaches t.graph c e ≡ w → cond b Yes (cond w Unknown No) ≡ way t d c e
-way_by t d c e b w p q = sym (ap (λ x. cond x Yes (cond (category_reaches t.graph c e) Unknown No)) p
+    → category_reaches (graph_of t) c e ≡ w → cond b Yes (cond w Unknown No) ≡ way t d c e
+way_by t d c e b w p q = sym (ap (λ x. cond x Yes (cond (category_reaches (graph_of t) c e) Unknown No)) p
     ∙ ap (λ x. cond b Yes (cond x Unknown No)) q)
 
 -- the place that was found is one of the list
@@ -121,22 +121,22 @@ module _ (t : Task) (trail : Trail) (d : Decided) (k : IsTracked t trail d) (f :
     (one : IsOne t f)
     (r : Reads t f v) (a : Agrees v (steps_of trail)) where
   abbrev es : List Edge
-  es = chosen t.graph.edges f.edges
+  es = chosen (graph_of t).edges f.edges
 
-  ch : IsChoice t.graph t.root es
-  ch = choice_of t.graph t.root f.edges k.task.hierarchy k.task.root
+  ch : IsChoice (graph_of t) t.question.root es
+  ch = choice_of (graph_of t) t.question.root f.edges k.task.question.hierarchy k.task.question.root
 
   abbrev name : ℕ → List ℕ
-  name = name_in (candidates_of t.named) f
+  name = name_in (candidates_of t.question.candidates) f
 
   abbrev inst : Instance
-  inst = instance_of t.graph t.root es name
+  inst = instance_of (graph_of t) t.question.root es name
 
   abbrev present : ℕ → Bool
-  present = is_present t.root es
+  present = is_present t.question.root es
 
   abbrev place : ℕ → ℕ
-  place = place_in_choice t.graph t.root es
+  place = place_in_choice (graph_of t) t.question.root es
 
   told_is : (x : ℕ) → Tells (told trail x) (v x ≡ true)
   told_is x = go (value_of (values_of trail) l) refl
@@ -153,48 +153,49 @@ module _ (t : Task) (trail : Trail) (d : Decided) (k : IsTracked t trail d) (f :
           trail.shown e a
 
   presence_is : (c : ℕ) → Tells (presence t trail c) (present c ≡ true)
-  presence_is c = go (nat_lt c (category_count t.graph)) refl
+  presence_is c = go (nat_lt c (category_count (graph_of t))) refl
     where
-      go : (b : Bool) → nat_lt c (category_count t.graph) ≡ b
+      go : (b : Bool) → nat_lt c (category_count (graph_of t)) ≡ b
           → Tells (cond b (told trail (present_variable t.layout c)) No) (present c ≡ true)
-      go true e = let p = r.present c (test_true c (category_count t.graph) e) in
+      go true e = let p = r.present c (test_true c (category_count (graph_of t)) e) in
           known_same (told trail (present_variable t.layout c)) (v (present_variable t.layout c) ≡ true)
           (present c ≡ true)
           (told_is (present_variable t.layout c)) (λ h. sym p ∙ h) (λ h. p ∙ h)
-      go false e = λ p. test_false c (category_count t.graph) e (made.present_category t.graph t.root es ch c p)
+      go false e = λ p. test_false c (category_count (graph_of t)) e
+          (made.present_category (graph_of t) t.question.root es ch c p)
 
-  edge_is : (c d : ℕ) → Tells (told_of_edge trail (edge_between t.graph c d)) (HasEdgeThere inst present place c d)
-  edge_is c d = go (edge_between t.graph c d) refl
+  edge_is : (c d : ℕ) → Tells (told_of_edge trail (edge_between (graph_of t) c d)) (HasEdgeThere inst present place c d)
+  edge_is c d = go (edge_between (graph_of t) c d) refl
     where
-      go : (o : Option ℕ) → edge_between t.graph c d ≡ o
+      go : (o : Option ℕ) → edge_between (graph_of t) c d ≡ o
           → Tells (told_of_edge trail o) (HasEdgeThere inst present place c d)
-      go None e = λ h. no_edge_joins t.graph f.edges c d e
-          ((made.below_joins t.graph t.root es ch name c d h.0 h.1).0 h.2)
+      go None e = λ h. no_edge_joins (graph_of t) f.edges c d e
+          ((made.below_joins (graph_of t) t.question.root es ch name c d h.0 h.1).0 h.2)
       go (Some i) e =
-          let b = bit_joins t.graph f.edges c d i k.task.hierarchy e in
-          let n = r.on i (edge_inside t.graph c d i e) in
+          let b = bit_joins (graph_of t) f.edges c d i k.task.question.hierarchy e in
+          let n = r.on i (edge_inside (graph_of t) c d i e) in
           known_same (told trail (on_variable i)) (v (on_variable i) ≡ true) (HasEdgeThere inst present place c d)
           (told_is (on_variable i))
           (λ h. let j = b.0 (sym n ∙ h) in (
-            made.child_present t.graph t.root es ch c d j,
-            made.parent_present t.graph t.root es ch c d j,
-            made.edge_below t.graph t.root es ch name c d j,
+            made.child_present (graph_of t) t.question.root es ch c d j,
+            made.parent_present (graph_of t) t.question.root es ch c d j,
+            made.edge_below (graph_of t) t.question.root es ch name c d j,
           ))
-          (λ h. n ∙ b.1 ((made.below_joins t.graph t.root es ch name c d h.0 h.1).0 h.2))
+          (λ h. n ∙ b.1 ((made.below_joins (graph_of t) t.question.root es ch name c d h.0 h.1).0 h.2))
 
-  in_graph : (x y : ℕ) → Joins es x y → HasEdge t.graph x y
+  in_graph : (x y : ℕ) → Joins es x y → HasEdge (graph_of t) x y
   in_graph x y j = ch.within (record { child = x; parent = y }) j
 
   way_is : (c e : ℕ) → Tells (way t d c e) (Steps (Joins es) c e)
-  way_is c e = go (category_reaches (present_graph d) c e) refl (category_reaches t.graph c e) refl
+  way_is c e = go (category_reaches (present_graph d) c e) refl (category_reaches (graph_of t) c e) refl
     where
-      go : (b : Bool) → category_reaches (present_graph d) c e ≡ b → (w : Bool) → category_reaches t.graph c e ≡ w
+      go : (b : Bool) → category_reaches (present_graph d) c e ≡ b → (w : Bool) → category_reaches (graph_of t) c e ≡ w
           → Tells (cond b Yes (cond w Unknown No)) (Steps (Joins es) c e)
       go true p w q = wider (present_joins t trail f v one r a d k.of k.read)
           (Steps-from_reaches ((category_reaches_is (present_graph d) c e).0 p))
       go false p true q = tt
       go false p false q = λ s.
-          let y = (category_reaches_is t.graph c e).1 (reaches_from_Steps (wider in_graph s)) in
+          let y = (category_reaches_is (graph_of t) c e).1 (reaches_from_Steps (wider in_graph s)) in
           let z : true ≡ false = sym y ∙ q in cc
 
   reach_is : (c e : ℕ)
@@ -207,11 +208,11 @@ module _ (t : Task) (trail : Trail) (d : Decided) (k : IsTracked t trail d) (f :
       (known_both (presence t trail c) (presence t trail e) (present c ≡ true) (present e ≡ true) (presence_is c)
       (presence_is e))
       (way_is c e))
-      (λ h. (h.0.0, h.0.1, (made.reaches_walk t.graph t.root es ch name c e h.0.0 h.0.1).1 h.1))
-      (λ h. ((h.0, h.1), (made.reaches_walk t.graph t.root es ch name c e h.0 h.1).0 h.2))
+      (λ h. (h.0.0, h.0.1, (made.reaches_walk (graph_of t) t.question.root es ch name c e h.0.0 h.0.1).1 h.1))
+      (λ h. ((h.0, h.1), (made.reaches_walk (graph_of t) t.question.root es ch name c e h.0 h.1).0 h.2))
 
   -- a category with an index has a member
-  indexed_present : (c n : ℕ) → IsCategory t.graph c → index_in f c ≡ suc n → present c ≡ true
+  indexed_present : (c n : ℕ) → IsCategory (graph_of t) c → index_in f c ≡ suc n → present c ≡ true
   indexed_present c n h e = elim (cases_Bool (present c)) [
     | inl p ↦ p
     | inr q ↦ absurd (let z = index_absent t f c one h q in omega arith)
@@ -219,21 +220,22 @@ module _ (t : Task) (trail : Trail) (d : Decided) (k : IsTracked t trail d) (f :
 
   name_is : (c : ℕ) (text : List ℕ) → Tells (naming t trail c text) (HasNameThere inst present place c text)
   name_is zero text = tt
-  name_is (suc c) text = go (place_of text (get_or t.named.texts (suc c) [])) refl
+  name_is (suc c) text = go (place_of text (others_of t.question.candidates (suc c))) refl
     where
-      go : (o : Option ℕ) → place_of text (get_or t.named.texts (suc c) []) ≡ o
+      go : (o : Option ℕ) → place_of text (others_of t.question.candidates (suc c)) ≡ o
           → Tells (told_of_name t trail (suc c) o) (HasNameThere inst present place (suc c) text)
       go None e = tt
       go (Some j) e =
           let at = found (bytes_eq text) (λ x. text ≡ x) (bytes_eq-Decides text)
-          (get_or t.named.texts (suc c) []) 0 j e in
+          (others_of t.question.candidates (suc c)) 0 j e in
           let same : at.0 ≡ j = omega (arith, at.1) in
-          let few : j < length (get_or t.named.texts (suc c) []) = omega (arith, at.2) in
-          let inside : suc c < category_count t.graph =
-          let l = has_some t.named.texts (suc c) j few in let n = k.task.texts in omega arith in
-          let it : get_or (get_or t.named.texts (suc c) []) j text ≡ text =
-          ap (λ m. get_or (get_or t.named.texts (suc c) []) m text) (sym same) ∙ sym (at.3 text) in
-          let n = name_is_constant (schema_of t) t.question t.root (candidates_of t.named) k.task.candidates f one c j
+          let few : j < length (others_of t.question.candidates (suc c)) = omega (arith, at.2) in
+          let inside : suc c < category_count (graph_of t) =
+          let l = has_some t.question.candidates.texts (suc c) j few in let n = k.task.question.texts in omega arith in
+          let it : get_or (others_of t.question.candidates (suc c)) j text ≡ text =
+          ap (λ m. get_or (others_of t.question.candidates (suc c)) m text) (sym same) ∙ sym (at.3 text) in
+          let n = name_is_constant (schema_of t) t.question.formula t.question.root
+          (candidates_of t.question.candidates) k.task.question.candidates f one c j
           text
           inside few it in
           let x = r.named (suc c) j inside few in
@@ -242,16 +244,17 @@ module _ (t : Task) (trail : Trail) (d : Decided) (k : IsTracked t trail d) (f :
           (λ h.
           let i = same_is (index_in f (suc c)) (suc j) (sym x ∙ h) in
           let p = indexed_present (suc c) j inside i in
-          (p, made.name_there t.graph t.root es ch name (suc c) p ∙ n.1 (index_same f (suc c) ∙ i)))
+          (p, made.name_there (graph_of t) t.question.root es ch name (suc c) p ∙ n.1 (index_same f (suc c) ∙ i)))
           (λ h. x ∙ is_same (index_in f (suc c)) (suc j)
-          (sym (index_same f (suc c)) ∙ n.0 (sym (made.name_there t.graph t.root es ch name (suc c) h.0) ∙ h.1)))
+          (sym (index_same f (suc c))
+          ∙ n.0 (sym (made.name_there (graph_of t) t.question.root es ch name (suc c) h.0) ∙ h.1)))
 
   pub completes : Completes (knowledge t trail d) inst present place
   completes = record { edges = edge_is; reaching = reach_is; names = name_is; numbers = λ c op n. tt }
 
   known_truth : (c : ℕ) (q : Formula) → present c ≡ true → Tells (value_at (knowledge t trail d) c q) (HoldsAt t f c q)
   known_truth c q p = values_are_truths (knowledge t trail d) inst present place
-      (made.chosen_shape t.graph t.root es ch name) completes c p q
+      (made.chosen_shape (graph_of t) t.question.root es ch name) completes c p q
 
 module _ (t : Task) (trail : Trail) (d : Decided) (k : IsTracked t trail d) where
   pub false_at : (c : ℕ) (q : Formula) → value_at (knowledge t trail d) c q ≡ No → IsFalseAt t trail c q
@@ -265,16 +268,19 @@ module _ (t : Task) (trail : Trail) (d : Decided) (k : IsTracked t trail d) wher
 
 module _ (t : Task) (trail : Trail) (task : IsTask t) where
   -- constraints and question hold at the members of their roots
-  met : (f : Frozen) → IsOne t f → IsMet (schema_of t) t.question t.root (chosen t.graph.edges f.edges)
-      (name_in (candidates_of t.named) f)
-  met f one = made.met_of_frozen (schema_of t) t.question t.root (chosen t.graph.edges f.edges)
-      (choice_of t.graph t.root f.edges task.hierarchy task.root) (name_in (candidates_of t.named) f) one.stands_for
+  met : (f : Frozen) → IsOne t f → IsMet (schema_of t) t.question.formula t.question.root
+      (chosen (graph_of t).edges f.edges)
+      (name_in (candidates_of t.question.candidates) f)
+  met f one = made.met_of_frozen (schema_of t) t.question.formula t.question.root (chosen (graph_of t).edges f.edges)
+      (choice_of (graph_of t) t.question.root f.edges task.question.hierarchy task.question.root)
+      (name_in (candidates_of t.question.candidates) f) one.stands_for
 
-  pub broken_none : (k : Constraint) → Contains t.constraints k → IsBroken t trail k → NoneAgrees t trail
+  pub broken_none : (k : Constraint) → Contains t.question.schema.constraints k → IsBroken t trail k
+      → NoneAgrees t trail
   broken_none k c b f v one r a = let w = b f v one r a in w.1 ((met f one).meets k c w.0)
 
-  pub false_none : IsFalseAt t trail t.root t.question → NoneAgrees t trail
+  pub false_none : IsFalseAt t trail t.question.root t.question.formula → NoneAgrees t trail
   false_none n f v one r a = n f v one r a
-      (made.root_present t.graph t.root (chosen t.graph.edges f.edges)
-      (choice_of t.graph t.root f.edges task.hierarchy task.root))
+      (made.root_present (graph_of t) t.question.root (chosen (graph_of t).edges f.edges)
+      (choice_of (graph_of t) t.question.root f.edges task.question.hierarchy task.question.root))
       (met f one).question

@@ -134,9 +134,9 @@ at_element P xs a f c = subst P c.2 (a c.0 f c.1)
 
 -- a front that has all is the list of all
 pub all_frozen : (t : Task) (list : List Frozen) → IsTask t → IsFront t list → HasAll t list
-    → AreAllFrozen (schema_of t) t.question t.root (candidates_of t.named) list
+    → AreAllFrozen (schema_of t) t.question.formula t.question.root (candidates_of t.question.candidates) list
 all_frozen t list k f h = record {
-  candidates = k.candidates;
+  candidates = k.question.candidates;
   ordered = f.ordered;
   sound = at_element (IsOne t) list f.sound;
   complete = h;
@@ -144,10 +144,11 @@ all_frozen t list k f h = record {
 
 -- a front with one ahead is of more than its length
 pub more_than : (t : Task) (list : List Frozen) (w : Frozen) (n : ℕ) → IsTask t → IsFront t list → IsAhead t list w
-    → n ≤ length list → AreMoreThan n (schema_of t) t.question t.root (candidates_of t.named)
+    → n ≤ length list → AreMoreThan n (schema_of t) t.question.formula t.question.root
+    (candidates_of t.question.candidates)
 more_than t list w n k f a h =
     let g = front_more t list w f a in record {
-      candidates = k.candidates;
+      candidates = k.question.candidates;
       some = list ++ w ∷ [];
       many = let l = length-append list (w ∷ []) in omega arith;
       differ = λ i j d l m. (g.ordered i j d l m).1;

@@ -17,14 +17,14 @@ use Rattle.olap_base.specs.declared.ids.CatId.{CatId}
 use Rattle.olap_frozen.specs.declared.frozen.Frozen as kept
 use Rattle.olap_frozen.specs.LeastFound.{IsLeastFound, frozen_of}
 use Rattle.olap_frozen.specs.Leaves.{IsSized, IsZeroAtAll, chosen_of, of_declared}
-use Rattle.olap_names.specs.Names.{with_graph}
+use Rattle.olap_names.specs.Names.{with_graph, others_of}
 use Rattle.olap_ast.specs.Valid.{IsValidSchema}
 use Rattle.olap_trail.specs.Decisions.{Decided}
 use Rattle.olap_dimsat.specs.Posed.{IsPosed}
 use Rattle.olap_dimsat.specs.Reads.{Reads}
 use Rattle.olap_dimsat.proofs.WitnessLemmas.{ready_still}
 use Rattle.olap_dimsat.specs.OneFound.{IsOneFound}
-use Rattle.olap_dimsat.specs.Tasks.{IsOne, IsTask, Task}
+use Rattle.olap_dimsat.specs.Tasks.{IsOne, IsTask, Task, graph_of}
 use Rattle.olap_dimsat.specs.declared.searching.Search.{Search}
 use Rattle.olap_dimsat.specs.Searches.{IsMadeWith, IsSizedFor, found_in, root_of, task_in}
 use Rattle.olap_dimsat.specs.Asking.{IsFor, IsSuited}
@@ -51,7 +51,8 @@ ready_first t pool e i a f one = let w = i.each f one in (w.0, w.1, a w.0 w.2)
 -- ---- how it begins
 
 -- a value with nothing present, for the graph that is the schema's
-pub blank_for : (g : Graph) (t : Task) (f : kept.Frozen) (r : CatId) → g ≡ t.graph → r.0 ≡ t.root → f.root ≡ r
+pub blank_for : (g : Graph) (t : Task) (f : kept.Frozen) (r : CatId) → g ≡ graph_of t → r.0 ≡ t.question.root
+    → f.root ≡ r
     → length f.edges ≡ length g.edges → length f.names ≡ category_count g → IsFor t f
 blank_for g t f r same root a b c = record {
   root = ap (λ (x : CatId). x.0) a ∙ root;
@@ -134,7 +135,8 @@ none_found t e ready empty none f one =
 
 -- what was brought to be handed out has the search's sizes, and gets its root
 pub left_for : (t : Task) (search : Search) (into left : kept.Frozen) → IsFor t search.best → IsSizedFor search into
-    → left.root ≡ search.root → left.edges ≡ into.edges → left.names ≡ into.names → search.root.0 ≡ t.root → IsFor t left
+    → left.root ≡ search.root → left.edges ≡ into.edges → left.names ≡ into.names → search.root.0 ≡ t.question.root
+    → IsFor t left
 left_for t search into left for sized root edges names same = record {
   root = ap (λ (c : CatId). c.0) root ∙ same;
   edges = ap length edges ∙ sized.edges ∙ for.edges;
@@ -177,20 +179,20 @@ module _ (t : Task) (edges : List Bool) (names : List ℕ) where
   cleared : (P : Frozen → Type 0) → P (chosen_of edges names) → P (chosen_of edges (set names 0 0))
   cleared P h = subst (λ (xs : List ℕ). P (record { edges = edges; names = xs })) (sym (declared_same names)) h
 
-  handed_sized : IsTask t → IsOne t (chosen_of edges names) → length names ≡ category_count t.graph
-      → IsSized t.graph t.named edges (set names 0 0)
+  handed_sized : IsTask t → IsOne t (chosen_of edges names) → length names ≡ category_count (graph_of t)
+      → IsSized (graph_of t) t.question.candidates edges (set names 0 0)
   handed_sized task one n = record {
     edge_count = one.edge_count;
-    text_count = task.texts;
+    text_count = task.question.texts;
     name_count = length-set names 0 0 ∙ n;
     in_range = within;
   }
     where
-      within : (c : ℕ) → c < category_count t.graph
-          → slice_index (set names 0 0) c ≤ length (slice_index_or t.named.texts c [])
+      within : (c : ℕ) → c < category_count (graph_of t)
+          → slice_index (set names 0 0) c ≤ length (others_of t.question.candidates c)
       within zero h = let z = all_zero names in omega arith
       within (suc c) h =
-          subst (λ i. i ≤ length (slice_index_or t.named.texts (suc c) [])) (at_declared names c)
+          subst (λ i. i ≤ length (others_of t.question.candidates (suc c))) (at_declared names c)
           (one.in_range c (let m = one.name_count in omega arith))
 
 -- what is handed out is what was found for the search's task, but for the index of `All`
@@ -216,7 +218,7 @@ module _ (s : Schema) (q : Formula) (search : Search) (t : Task) (same : t ≡ t
         (subst (λ (ns : List ℕ). IsSized s.graph search.candidates best.edges ns) (sym set_names)
         (handed_sized u best.edges best.names made.task one for.names));
     zero = subst IsZeroAtAll (sym set_names) (all_zero best.names);
-    candidates = made.task.candidates;
+    candidates = made.task.question.candidates;
     is_one = as_found (IsOne u) one;
   }
 

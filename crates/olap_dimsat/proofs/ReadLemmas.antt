@@ -9,7 +9,7 @@ use Rattle.olap_frozen.specs.Leaves.{chosen_of, of_declared}
 use Rattle.olap_graph.specs.Lookups.{edge_at}
 use Rattle.olap_encoding.proofs.ChosenEdges.{child_present}
 use Rattle.olap_encoding.proofs.EdgeBits.{bit_chosen}
-use Rattle.olap_dimsat.specs.Tasks.{Task, IsOne, constant_count}
+use Rattle.olap_dimsat.specs.Tasks.{Task, IsOne, constant_count, graph_of}
 use Rattle.olap_dimsat.specs.Reads.{index_in}
 use Rattle.olap_dimsat.proofs.Truths.{none_is_zero, same_is}
 
@@ -22,14 +22,14 @@ bit_present g r bits e c d l q b = child_present r (chosen g.edges bits) c d
     (bit_chosen g.edges bits e (record { child = 0; parent = 0 }) l b))
 
 -- an index is none past the constants
-pub index_small : (t : Task) (f : Frozen) (c : ℕ) → IsOne t f → c < category_count t.graph
+pub index_small : (t : Task) (f : Frozen) (c : ℕ) → IsOne t f → c < category_count (graph_of t)
     → index_in f c ≤ constant_count t c
 index_small t f zero one h = omega arith
 index_small t f (suc c) one h = one.in_range c (let n = one.name_count in omega arith)
 
 -- an absent category has no index
-pub index_absent : (t : Task) (f : Frozen) (c : ℕ) → IsOne t f → c < category_count t.graph
-    → is_present t.root (chosen t.graph.edges f.edges) c ≡ false → index_in f c ≡ 0
+pub index_absent : (t : Task) (f : Frozen) (c : ℕ) → IsOne t f → c < category_count (graph_of t)
+    → is_present t.question.root (chosen (graph_of t).edges f.edges) c ≡ false → index_in f c ≡ 0
 index_absent t f zero one h p = refl
 index_absent t f (suc c) one h p = one.absent c (let n = one.name_count in omega arith) p
 
@@ -38,7 +38,8 @@ pub zero_not_suc : (i k : ℕ) → i ≡ 0 → (i == suc k) ≡ false
 zero_not_suc i k e = false_from_ne_true (i == suc k) (λ t. let q = same_is i (suc k) t in omega arith)
 
 -- a name that is no constant is the first one
-pub no_constant : (t : Task) (f : Frozen) (c n : ℕ) → IsOne t f → c < category_count t.graph → n ≡ constant_count t c
+pub no_constant : (t : Task) (f : Frozen) (c n : ℕ) → IsOne t f → c < category_count (graph_of t)
+    → n ≡ constant_count t c
     → ((k : ℕ) → k < n → (index_in f c == suc k) ≡ false) → index_in f c ≡ 0
 no_constant t f c n one h e none = none_is_zero (index_in f c) n (let s = index_small t f c one h in omega arith) none
 
@@ -60,14 +61,14 @@ index_of_choice edges names (suc c) n = at_declared names c
 
 -- a frozen dimension is the choice that has its edges and names
 pub is_choice : (t : Task) (f : Frozen) (edges : List Bool) (names : List ℕ) → IsOne t f
-    → length edges ≡ length t.graph.edges
-    → length names ≡ category_count t.graph
+    → length edges ≡ length (graph_of t).edges
+    → length names ≡ category_count (graph_of t)
     → ((e : ℕ) → e < length edges → slice_index_or f.edges e false ≡ slice_index_or edges e false)
     → ((c : ℕ) → c < length names → index_in f c ≡ slice_index names c) → f ≡ chosen_of edges names
 is_choice t f edges names one l m es ns =
     let p : f.edges ≡ edges = ext_get_or false f.edges edges (one.edge_count ∙ sym l)
     (λ i h. es i (let n = one.edge_count in omega arith)) in
     let q : f.names ≡ of_declared names = ext_get_or 0 f.names (of_declared names)
-    (one.name_count ∙ sym (length-declared names (length t.graph.names) m))
+    (one.name_count ∙ sym (length-declared names (length (graph_of t).names) m))
     (λ i h. ns (suc i) (let n = one.name_count in omega arith) ∙ sym (at_declared names i)) in
     λ i. record { edges = p i; names = q i }

@@ -14,7 +14,7 @@ use Rattle.olap_clauses.specs.Engines.{admits}
 use Rattle.olap_clauses.specs.Standing.{Agrees}
 use Rattle.olap_clauses.specs.Trails.{steps_of}
 use Rattle.olap_encoding.specs.Layouts.{name_variable}
-use Rattle.olap_dimsat.specs.Tasks.{IsTask, Task, IsOne, constant_count}
+use Rattle.olap_dimsat.specs.Tasks.{IsTask, Task, IsOne, constant_count, graph_of}
 use Rattle.olap_dimsat.specs.Reads.{Reads, IsShaped, index_in}
 use Rattle.olap_dimsat.specs.Pinned.{AreShaped, IsLeast, IsLonger, IsPinned, IsPlace, IsProbed, IsReady, IsReplaced, IsSame, IsSettled, NoneAt, NoneLess, SayAt, SaysAt}
 use Rattle.olap_dimsat.proofs.Truths.{holds_at, same_is, is_same, none_is_zero}
@@ -42,37 +42,38 @@ length-bits : (es : List Bool) → length (bits es) ≡ length es
 length-bits es = length-map es (λ b. cond b 1 0)
 
 -- the code has an edge's bit at its place
-pub code_edge : (t : Task) (f : Frozen) (e : ℕ) → IsOne t f → e < length t.graph.edges
+pub code_edge : (t : Task) (f : Frozen) (e : ℕ) → IsOne t f → e < length (graph_of t).edges
     → slice_index (code f) e ≡ bit (slice_index_or f.edges e false)
 code_edge t f e one h =
     let l : length (bits f.edges) ≡ length f.edges = length-bits f.edges in
-    let c : length f.edges ≡ length t.graph.edges = one.edge_count in
+    let c : length f.edges ≡ length (graph_of t).edges = one.edge_count in
     get_or_append_left (bits f.edges) f.names 0 e (omega arith)
     ∙ get_or-map (λ b. cond b 1 0) f.edges e false 0 (omega arith)
 
 -- and behind the edges the index of each declared category
-pub code_name : (t : Task) (f : Frozen) (p c : ℕ) → IsOne t f → p ≡ length t.graph.edges + c
+pub code_name : (t : Task) (f : Frozen) (p c : ℕ) → IsOne t f → p ≡ length (graph_of t).edges + c
     → slice_index (code f) p ≡ slice_index f.names c
 code_name t f p c one e =
     let l : length (bits f.edges) ≡ length f.edges = length-bits f.edges in
-    let n : length f.edges ≡ length t.graph.edges = one.edge_count in
-    let m : p - length t.graph.edges ≡ c = omega arith in
-    get_or-append_right (bits f.edges) f.names (length t.graph.edges) p 0 (l ∙ n) (omega arith)
+    let n : length f.edges ≡ length (graph_of t).edges = one.edge_count in
+    let m : p - length (graph_of t).edges ≡ c = omega arith in
+    get_or-append_right (bits f.edges) f.names (length (graph_of t).edges) p 0 (l ∙ n) (omega arith)
     ∙ ap (λ i. slice_index f.names i) m
 
 -- the same, by the category
 pub code_index : (t : Task) (f : Frozen) (c : ℕ) → IsOne t f → c ≢ 0
-    → slice_index (code f) (length t.graph.edges + c - 1) ≡ index_in f c
+    → slice_index (code f) (length (graph_of t).edges + c - 1) ≡ index_in f c
 code_index t f zero one n = absurd (n refl)
-code_index t f (suc c) one n = code_name t f (length t.graph.edges + suc c - 1) c one (omega arith)
+code_index t f (suc c) one n = code_name t f (length (graph_of t).edges + suc c - 1) c one (omega arith)
 
 -- as many places as edges and declared categories
-pub length-code : (t : Task) (f : Frozen) → IsOne t f → length (code f) ≡ length t.graph.edges + length t.graph.names
+pub length-code : (t : Task) (f : Frozen) → IsOne t f
+    → length (code f) ≡ length (graph_of t).edges + length (graph_of t).names
 length-code t f one =
     let l : length (bits f.edges) ≡ length f.edges = length-bits f.edges in
     let a = length-append (bits f.edges) f.names in
-    let e : length f.edges ≡ length t.graph.edges = one.edge_count in
-    let n : length f.names ≡ length t.graph.names = one.name_count in omega arith
+    let e : length f.edges ≡ length (graph_of t).edges = one.edge_count in
+    let n : length f.names ≡ length (graph_of t).names = one.name_count in omega arith
 
 -- ---- literals that say what stands at a place
 
@@ -111,13 +112,13 @@ index_from (suc i) x n h l f = same_is x (suc i) (f i (omega arith) ∙ is_same 
 
 -- so a valuation that says so of all constants has that index
 pub index_of_named : (t : Task) (f : Frozen) (v : ℕ → Bool) (c i : ℕ) → IsOne t f → Reads t f v
-    → c < category_count t.graph
+    → c < category_count (graph_of t)
     → i ≤ constant_count t c → NamedSo t v c i (constant_count t c) → index_in f c ≡ i
 index_of_named t f v c i one r h l s = index_from i (index_in f c) (constant_count t c) l (index_small t f c one h)
     (λ k b. sym (r.named c k h b) ∙ s k b)
 
 -- and a valuation that reads the index says so of all
-pub named_of_index : (t : Task) (f : Frozen) (v : ℕ → Bool) (c i : ℕ) → Reads t f v → c < category_count t.graph
+pub named_of_index : (t : Task) (f : Frozen) (v : ℕ → Bool) (c i : ℕ) → Reads t f v → c < category_count (graph_of t)
     → index_in f c ≡ i → NamedSo t v c i (constant_count t c)
 named_of_index t f v c i r h e k b = r.named c k h b ∙ eq_sym (index_in f c) (suc k) ∙ ap (λ x. suc k == x) e
 
@@ -220,8 +221,9 @@ pinned_start t w steps e one = subst (λ ss. IsPinned t 0 w ss) (sym e) (record 
 
 -- a name that is a constant
 pub says_name : (t : Task) (p c x : ℕ) (l : Lit)
-    → l ≡ record { variable = name_variable t.layout c (x - 1); positive = true } → p ≡ length t.graph.edges + c - 1
-    → c ≢ 0 → c < category_count t.graph → 0 < x → x ≤ constant_count t c → SaysAt t p x l
+    → l ≡ record { variable = name_variable t.layout c (x - 1); positive = true }
+    → p ≡ length (graph_of t).edges + c - 1
+    → c ≢ 0 → c < category_count (graph_of t) → 0 < x → x ≤ constant_count t c → SaysAt t p x l
 says_name t p c x l e at n h positive most f v o r a =
     let j = x - 1 in
     let next : suc j ≡ x = omega arith in
@@ -264,7 +266,7 @@ not_after (x ∷ xs) (y ∷ ys) e f = elim (cases x y (f 0 (omega arith) (λ k h
 pub least_of_places : (t : Task) (w : Frozen) → IsTask t → IsOne t w → ((p : ℕ) → IsPlace t p → NoneLess t p w)
     → IsLeast t w
 least_of_places t w k one less = record {
-  candidates = k.candidates;
+  candidates = k.question.candidates;
   is_one = one;
   least = λ f o. not_after (code w) (code f) (length-code t w one ∙ sym (length-code t f o))
       (λ q b s. less q (let l = length-code t w one in omega arith) f o s);

@@ -24,7 +24,7 @@ use Rattle.olap_names.specs.Names.{candidates_of}
 use Rattle.olap_trail.specs.Trails.{decision_of, decisions_of}
 use Rattle.olap_trail.specs.declared.decisions.Decision.{Decision as OneDecision}
 use Rattle.olap_trail.specs.Decisions.{AreDecisions, Decided, Decision, HoldsCycle, HoldsShortcut, present_graph, present_with}
-use Rattle.olap_dimsat.specs.Tasks.{IsOne, IsTask, Task, schema_of}
+use Rattle.olap_dimsat.specs.Tasks.{IsOne, IsTask, Task, schema_of, graph_of}
 use Rattle.olap_dimsat.specs.Reads.{EdgeReads, NoneAgrees, Reads}
 use Rattle.olap_dimsat.specs.Tracking.{AreRead, IsOf}
 
@@ -55,7 +55,7 @@ at_decision items ds k n z d e q h =
 -- a decision is on an edge of the graph
 pub edge_inside : (t : Task) (d : Decided) → IsOf t d → AreDecisions d → (items : List OneDecision)
     → decisions_of items ≡ d.decisions → (k n : ℕ) (z : OneDecision) → n ≡ k → k < length d.decisions
-    → (get_or items n z).edge.0 < length t.graph.edges
+    → (get_or items n z).edge.0 < length (graph_of t).edges
 edge_inside t d of are items e k n z q h =
     let w = decision_of z in
     subst (λ (g : Graph). (get_or items n z).edge.0 < length g.edges) of.graph
@@ -92,13 +92,13 @@ bit_inside (x ∷ bits) (suc e) b = let r = bit_inside bits e b in omega arith
 module _ (t : Task) (trail : Trail) (f : Frozen) (v : ℕ → Bool) (one : IsOne t f) (r : Reads t f v)
     (a : Agrees v (steps_of trail)) where
   abbrev es : List Edge
-  es = chosen t.graph.edges f.edges
+  es = chosen (graph_of t).edges f.edges
 
   -- an edge that is present in each is in this one
-  read_joins : (e : ℕ) (x : Edge) → EdgeReads t trail e true → edge_at t.graph e ≡ x → Contains es x
+  read_joins : (e : ℕ) (x : Edge) → EdgeReads t trail e true → edge_at (graph_of t) e ≡ x → Contains es x
   read_joins e x reads q =
       let b : get_or f.edges e false ≡ true = reads f v one r a in
-      place_chosen t.graph.edges f.edges x (record { child = 0; parent = 0 }) e
+      place_chosen (graph_of t).edges f.edges x (record { child = 0; parent = 0 }) e
       (let h = bit_inside f.edges e b in let n = one.edge_count in omega arith) b q
 
   module _ (d : Decided) (of : IsOf t d) (read : AreRead t trail d.decisions) where
@@ -133,9 +133,11 @@ module _ (t : Task) (trail : Trail) (f : Frozen) (v : ℕ → Bool) (one : IsOne
 
 module _ (t : Task) (trail : Trail) (task : IsTask t) (d : Decided) (of : IsOf t d) (read : AreRead t trail d.decisions)
     (e : ℕ) (reads : EdgeReads t trail e true) where
-  sound : (f : Frozen) → IsOne t f → IsSound t.root (chosen t.graph.edges f.edges)
-  sound f one = made.sound_of_frozen (schema_of t) t.question t.root (chosen t.graph.edges f.edges)
-      (choice_of t.graph t.root f.edges task.hierarchy task.root) (name_in (candidates_of t.named) f) one.stands_for
+  sound : (f : Frozen) → IsOne t f → IsSound t.question.root (chosen (graph_of t).edges f.edges)
+  sound f one = made.sound_of_frozen (schema_of t) t.question.formula t.question.root
+      (chosen (graph_of t).edges f.edges)
+      (choice_of (graph_of t) t.question.root f.edges task.question.hierarchy task.question.root)
+      (name_in (candidates_of t.question.candidates) f) one.stands_for
 
   pub cycle_none : HoldsCycle (present_with d e) → NoneAgrees t trail
   cycle_none h f v one r a =

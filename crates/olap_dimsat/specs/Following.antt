@@ -11,7 +11,7 @@ use Rattle.olap_frozen.specs.declared.frozen.Frozen as kept
 use Rattle.olap_frozen.specs.Leaves.{IsSized, IsZeroAtAll}
 use Rattle.olap_dimsat.specs.Listed.{IsBefore}
 use Rattle.olap_dimsat.specs.Pinned.{IsSame}
-use Rattle.olap_dimsat.specs.Tasks.{Task, IsOne}
+use Rattle.olap_dimsat.specs.Tasks.{Task, IsOne, graph_of}
 
 -- no frozen dimension that is as w before the place p has more there
 abbrev pub NoneMore : Task → ℕ → Frozen → Type 0
@@ -36,6 +36,6 @@ NoneAfter t w = (f : Frozen) → IsOne t f → IsBefore w f → ⊥
 
 -- the value has the task's root, an entry for each edge and each category, and indexes of candidates; `All` has 0
 pub record IsHanded (t : Task) (f : kept.Frozen) : Type 0 where
-  pub root : f.root.0 ≡ t.root
-  pub sized : IsSized t.graph t.named f.edges f.names
+  pub root : f.root.0 ≡ t.question.root
+  pub sized : IsSized (graph_of t) t.question.candidates f.edges f.names
   pub zero : IsZeroAtAll f.names

@@ -24,9 +24,9 @@ use Rattle.olap_eval.specs.Partial.{Knowledge}
 use Rattle.olap_frozen.specs.Chosen as choices
 use Rattle.olap_graph.specs.Lookups.{edge_between}
 use Rattle.olap_trail.specs.Decisions.{Decided, present_graph}
-use Rattle.olap_names.specs.Names.{candidates_of}
+use Rattle.olap_names.specs.Names.{candidates_of, others_of}
 use Rattle.olap_encoding.specs.Layouts.{on_variable, present_variable, name_variable}
-use Rattle.olap_dimsat.specs.Tasks.{Task, schema_of}
+use Rattle.olap_dimsat.specs.Tasks.{Task, schema_of, graph_of}
 use Rattle.olap_dimsat.specs.Reads.{OfAgreeing}
 
 -- ---- what is known
@@ -43,7 +43,7 @@ told trail x = truth_of (value_of (values_of trail) (record { variable = x; posi
 
 -- whether the category has a member; what is no category has none
 abbrev pub presence : Task → Trail → ℕ → Truth3
-presence t trail c = if nat_lt c (category_count t.graph) then told trail (present_variable t.layout c) else No
+presence t trail c = if nat_lt c (category_count (graph_of t)) then told trail (present_variable t.layout c) else No
 
 -- whether the edge is present; there may be none
 abbrev pub told_of_edge : Trail → Option ℕ → Truth3
@@ -54,7 +54,7 @@ told_of_edge trail (Some e) = told trail (on_variable e)
 -- has none
 abbrev pub way : Task → Decided → ℕ → ℕ → Truth3
 way t d a b = if category_reaches (present_graph d) a b then Yes
-    else if category_reaches t.graph a b then Unknown else No
+    else if category_reaches (graph_of t) a b then Unknown else No
 
 -- whether both hold, as far as it is known
 abbrev pub both : Truth3 → Truth3 → Truth3
@@ -68,12 +68,12 @@ told_of_name t trail c (Some j) = told trail (name_variable t.layout c j)
 -- whether the category's name is the text; `All` has no variable for its own
 abbrev pub naming : Task → Trail → ℕ → List ℕ → Truth3
 naming t trail zero text = Unknown
-naming t trail (suc c) text = told_of_name t trail (suc c) (place_of text (slice_index_or t.named.texts (suc c) []))
+naming t trail (suc c) text = told_of_name t trail (suc c) (place_of text (others_of t.question.candidates (suc c)))
 
 -- what the trail tells of edges, of reaching and of names, with the decisions on edges; of numbers it tells nothing
 abbrev pub knowledge : Task → Trail → Decided → Knowledge
 knowledge t trail d = record {
-  edge = λ a b. told_of_edge trail (edge_between t.graph a b);
+  edge = λ a b. told_of_edge trail (edge_between (graph_of t) a b);
   reaches = λ a b. both (both (presence t trail a) (presence t trail b)) (way t d a b);
   name = naming t trail;
   number = λ c op n. Unknown;
@@ -83,15 +83,16 @@ knowledge t trail d = record {
 
 -- where the category's member stands
 abbrev pub member_in : Task → Frozen → ℕ → ℕ
-member_in t f c = choices.place_of t.graph t.root (chosen t.graph.edges f.edges) c
+member_in t f c = choices.place_of (graph_of t) t.question.root (chosen (graph_of t).edges f.edges) c
 
 -- the formula is true at the category's member
 abbrev pub HoldsAt : Task → Frozen → ℕ → Formula → Type 0
-HoldsAt t f c q = Holds (thawed (schema_of t) (candidates_of t.named) t.root f) (member_in t f c) q
+HoldsAt t f c q =
+    Holds (thawed (schema_of t) (candidates_of t.question.candidates) t.question.root f) (member_in t f c) q
 
 -- the category has a member
 abbrev pub HasMember : Task → Frozen → ℕ → Type 0
-HasMember t f c = IsTrue (is_present t.root (chosen t.graph.edges f.edges) c)
+HasMember t f c = IsTrue (is_present t.question.root (chosen (graph_of t).edges f.edges) c)
 
 -- in each frozen dimension that agrees, the formula is false at the category's member, if it has one
 abbrev pub IsFalseAt : Task → Trail → ℕ → Formula → Type 0

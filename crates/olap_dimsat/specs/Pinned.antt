@@ -18,7 +18,7 @@ use Rattle.olap_clauses.specs.declared.engine.Engine.{Engine}
 use Rattle.olap_pool.specs.Literals.{Holds}
 use Rattle.olap_clauses.specs.Standing.{Agrees}
 use Rattle.olap_clauses.specs.Engines.{admits}
-use Rattle.olap_dimsat.specs.Tasks.{Task, IsOne, IsTask, constant_count, schema_of}
+use Rattle.olap_dimsat.specs.Tasks.{Task, IsOne, IsTask, constant_count, schema_of, graph_of}
 use Rattle.olap_pool.specs.declared.pools.Pool.{Pool}
 use Rattle.olap_pool.specs.Pools.{AreTrue}
 use Rattle.olap_dimsat.specs.Reads.{OfAgreeing, Reads, IsShaped}
@@ -74,16 +74,16 @@ IsLonger old new = (more : List Step) × (new ≡ old ++ more)
 
 -- it is the least frozen dimension of the task
 abbrev pub IsLeast : Task → Frozen → Type 0
-IsLeast t f = IsLeastFrozen (schema_of t) t.question t.root (candidates_of t.named) f
+IsLeast t f = IsLeastFrozen (schema_of t) t.question.formula t.question.root (candidates_of t.question.candidates) f
 
 -- a place of codes: one of an edge, or one of a declared category
 abbrev pub IsPlace : Task → ℕ → Type 0
-IsPlace t p = p < length t.graph.edges + length t.graph.names
+IsPlace t p = p < length (graph_of t).edges + length (graph_of t).names
 
 -- the number may stand there
 pub record InRange (t : Task) (p x : ℕ) : Type 0 where
-  pub edge : p < length t.graph.edges → x ≤ 1
-  pub name : length t.graph.edges ≤ p → x ≤ constant_count t (p - length t.graph.edges + 1)
+  pub edge : p < length (graph_of t).edges → x ≤ 1
+  pub name : length (graph_of t).edges ≤ p → x ≤ constant_count t (p - length (graph_of t).edges + 1)
 
 -- w agrees with literals to which some came that say that x is at p
 pub record IsProbed (t : Task) (p x : ℕ) (w : Frozen) (old new : List Step) : Type 0 where

@@ -6,12 +6,12 @@ use Rattle.std.specs.Prelude.{◌≡◌, List, All}
 use Rattle.olap_clauses.specs.declared.trails.Trail.{Trail}
 use Rattle.olap_trail.specs.Decisions.{Decided, Decision}
 use Rattle.olap_dimsat.specs.Reads.{EdgeReads}
-use Rattle.olap_dimsat.specs.Tasks.{Task, IsTask}
+use Rattle.olap_dimsat.specs.Tasks.{Task, IsTask, graph_of}
 
 -- the decisions are on the task's graph, from its root
 pub record IsOf (t : Task) (d : Decided) : Type 0 where
-  pub graph : d.graph ≡ t.graph
-  pub root : d.root ≡ t.root
+  pub graph : d.graph ≡ graph_of t
+  pub root : d.root ≡ t.question.root
 
 -- each decision is so in each frozen dimension that agrees with the trail
 abbrev pub AreRead : Task → Trail → List Decision → Type 0

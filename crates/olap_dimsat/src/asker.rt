@@ -6,12 +6,12 @@ ghost use Rattle.olap_dimsat.specs.Asking.{task_at, task_of};
 ghost use Rattle.olap_frozen.specs.LeastFound.{HasNothing};
 ghost use Rattle.olap_schema.specs.Schemas.{schema_of};
 
-use olap_ast::{Constraint, Formula};
+use olap_ast::Formula;
 use olap_base::{CatId, List, Memory};
 use olap_encoding::Layout;
 use olap_frozen::{Frozen, Room};
 use olap_graph::{Graph, WORDS};
-use olap_names::Candidates;
+use olap_names::{Candidates, Question};
 use olap_schema::Schema;
 use olap_trail::Trail;
 use std::alloc::Global;
@@ -19,14 +19,10 @@ use std::alloc::Global;
 /// Decisions on edges.
 pub(crate) type Decisions = Trail<{ WORDS }>;
 
-/// A question at a root of a schema, the candidates for names, and where the variables are.
+/// A question, and where the variables are.
 #[derive(Clone, Copy)]
 pub struct Asker<'a> {
-    pub(crate) graph: &'a Graph,
-    pub(crate) constraints: &'a [Constraint],
-    pub(crate) question: &'a Formula,
-    pub(crate) root: CatId,
-    pub(crate) candidates: &'a Candidates,
+    pub(crate) question: Question<'a>,
     pub(crate) layout: &'a Layout,
 }
 
@@ -34,22 +30,22 @@ impl<'a> Asker<'a> {
     /// The question at a root of this schema.
     pub(crate) fn of(
         schema: &'a Schema,
-        question: &'a Formula,
+        formula: &'a Formula,
         root: CatId,
         candidates: &'a Candidates,
         layout: &'a Layout,
     ) -> Asker<'a>
         ensures { task_of result
-            ≡ task_at (schema_of schema.now) (formula_of question.now) root.0 candidates.now layout.now }
+            ≡ task_at (schema_of schema.now) (formula_of formula.now) root.0 candidates.now layout.now }
     {
-        Asker {
+        let question = Question {
             graph: schema.graph(),
             constraints: schema.constraints(),
-            question,
+            formula,
             root,
             candidates,
-            layout,
-        }
+        };
+        Asker { question, layout }
     }
 }
 

@@ -49,10 +49,10 @@ pub(crate) fn is_cut(a: &Asker<'_>, trail: &Trail, decided: &Decisions) -> bool
         trail,
         decided,
     };
-    'constraints: for constraint in a.constraints {
+    'constraints: for constraint in a.question.constraints {
         if is_broken(&known, constraint) {
             return true;
         }
     }
-    is_false(&known, a.question, a.root)
+    is_false(&known, a.question.formula, a.question.root)
 }

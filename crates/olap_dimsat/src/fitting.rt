@@ -20,13 +20,13 @@ use olap_pool::Lit;
 fn suits_edge(a: &Asker<'_>, frozen: &Frozen, lit: Lit) -> bool
     requires task { IsTask (task_of a.now) }
     requires sizes { IsFor (task_of a.now) frozen.now }
-    ensures yes { result ≡ true → (e : ℕ) → e < length a.now.graph.now.edges → lit.variable ≡ on_variable e
+    ensures yes { result ≡ true → (e : ℕ) → e < length a.now.question.graph.now.edges → lit.variable ≡ on_variable e
         → slice_index_or frozen.now.edges e false ≡ lit.positive }
     ensures no { result ≡ false → (v : ℕ → Bool) → Reads (task_of a.now) (chosen_of frozen.now.edges frozen.now.names) v
         → Holds v lit → ⊥ }
 {
     let x = lit.variable;
-    if x < 1 || x > u32::from(a.graph.edges()) {
+    if x < 1 || x > u32::from(a.question.graph.edges()) {
         return true;
     }
     frozen.edges.items()[x as usize - 1] == lit.positive
@@ -35,7 +35,7 @@ fn suits_edge(a: &Asker<'_>, frozen: &Frozen, lit: Lit) -> bool
 // Whether the choice agrees with the literal, if this is one of the category's name.
 fn suits_name(a: &Asker<'_>, frozen: &Frozen, c: CatId, lit: Lit) -> bool
     requires task { IsTask (task_of a.now) }
-    requires category { IsCategory a.now.graph.now c.0 }
+    requires category { IsCategory a.now.question.graph.now c.0 }
     requires declared { c.0 ≢ 0 }
     requires sizes { IsFor (task_of a.now) frozen.now }
     ensures yes { result ≡ true → (j : ℕ) → j < constant_count (task_of a.now) c.0
@@ -45,7 +45,7 @@ fn suits_name(a: &Asker<'_>, frozen: &Frozen, c: CatId, lit: Lit) -> bool
         → Holds v lit → ⊥ }
 {
     let start = a.layout.starts[usize::from(c.0)];
-    let names = a.candidates.names(c);
+    let names = a.question.candidates.names(c);
     if lit.variable < start {
         return true;
     }
@@ -60,10 +60,10 @@ fn suits_name(a: &Asker<'_>, frozen: &Frozen, c: CatId, lit: Lit) -> bool
 // Where the variables of a category's names end.
 fn end_of(a: &Asker<'_>, c: CatId) -> u32
     requires task { IsTask (task_of a.now) }
-    requires category { IsCategory a.now.graph.now c.0 }
+    requires category { IsCategory a.now.question.graph.now c.0 }
     ensures { (j : ℕ) → j < constant_count (task_of a.now) c.0 → name_variable (task_of a.now).layout c.0 j < result }
 {
-    let last = a.candidates.names(c) - 1;
+    let last = a.question.candidates.names(c) - 1;
     if last == 0 {
         return 0;
     }
@@ -73,10 +73,10 @@ fn end_of(a: &Asker<'_>, c: CatId) -> u32
 // Where the variables of names end.
 fn names_end(a: &Asker<'_>) -> u32
     requires { IsTask (task_of a.now) }
-    ensures { AreNamesBefore (task_of a.now) (category_count a.now.graph.now) result }
+    ensures { AreNamesBefore (task_of a.now) (category_count a.now.question.graph.now) result }
 {
     let mut end = 0;
-    'categories: for c in 0..a.graph.categories() {
+    'categories: for c in 0..a.question.graph.categories() {
         let own = end_of(a, CatId(c));
         if own > end {
             end = own;
@@ -89,13 +89,13 @@ fn names_end(a: &Asker<'_>) -> u32
 fn suits_names(a: &Asker<'_>, frozen: &Frozen, lit: Lit) -> bool
     requires task { IsTask (task_of a.now) }
     requires sizes { IsFor (task_of a.now) frozen.now }
-    ensures yes { result ≡ true → (c j : ℕ) → c < category_count a.now.graph.now → c ≢ 0
+    ensures yes { result ≡ true → (c j : ℕ) → c < category_count a.now.question.graph.now → c ≢ 0
         → j < constant_count (task_of a.now) c → lit.variable ≡ name_variable (task_of a.now).layout c j
         → (slice_index frozen.now.names c == suc j) ≡ lit.positive }
     ensures no { result ≡ false → (v : ℕ → Bool) → Reads (task_of a.now) (chosen_of frozen.now.edges frozen.now.names) v
         → Holds v lit → ⊥ }
 {
-    'categories: for c in 1..a.graph.categories() {
+    'categories: for c in 1..a.question.graph.categories() {
         if !suits_name(a, frozen, CatId(c), lit) {
             return false;
         }
@@ -108,7 +108,7 @@ fn suits_names(a: &Asker<'_>, frozen: &Frozen, lit: Lit) -> bool
 fn suits(a: &Asker<'_>, frozen: &Frozen, end: u32, lit: Lit) -> bool
     requires task { IsTask (task_of a.now) }
     requires sizes { IsFor (task_of a.now) frozen.now }
-    requires end { AreNamesBefore (task_of a.now) (category_count a.now.graph.now) end }
+    requires end { AreNamesBefore (task_of a.now) (category_count a.now.question.graph.now) end }
     ensures yes { result ≡ true → Suits (task_of a.now) frozen.now.edges frozen.now.names lit }
     ensures no { result ≡ false → (v : ℕ → Bool) → Reads (task_of a.now) (chosen_of frozen.now.edges frozen.now.names) v
         → Holds v lit → ⊥ }

@@ -36,10 +36,10 @@ impl<'a> Judge<Leaf> for Asker<'a> {
             return Verdict::Decide(lit);
         }
         let is_one = is_frozen(
-            self.graph,
-            self.constraints,
-            self.question,
-            self.candidates,
+            self.question.graph,
+            self.question.constraints,
+            self.question.formula,
+            self.question.candidates,
             &leaf.frozen,
             &mut leaf.room,
         );

@@ -19,8 +19,8 @@ pub(crate) struct Known<'a> {
     pub(crate) trail: &'a Trail,
     pub(crate) decided: &'a Decisions,
     ghost laid: { IsLaid (task_of asker.now) },
-    ghost texts: { length asker.now.candidates.now.texts ≡ category_count asker.now.graph.now },
-    ghost categories: { category_count decided.now.graph ≡ category_count asker.now.graph.now },
+    ghost texts: { length asker.now.question.candidates.now.texts ≡ category_count asker.now.question.graph.now },
+    ghost categories: { category_count decided.now.graph ≡ category_count asker.now.question.graph.now },
 }
 
 // A literal that stands is true.
@@ -51,22 +51,24 @@ impl<'a> Known<'a> {
     pub(crate) fn presence(&self, c: CatId) -> Truth3
         ensures { result ≡ presence (task_of self.now.asker.now) self.now.trail.now c.0 }
     {
-        if c.0 >= self.asker.graph.categories() {
+        let asker = self.asker;
+        if c.0 >= asker.question.graph.categories() {
             return Truth3::No;
         }
-        truth(self.trail.value(self.asker.layout.present(c)))
+        truth(self.trail.value(asker.layout.present(c)))
     }
 
     // Whether a walk of present edges leads from one category to another.
     fn way(&self, c: CatId, d: CatId) -> Truth3
-        requires child { IsCategory self.now.asker.now.graph.now c.0 }
-        requires parent { IsCategory self.now.asker.now.graph.now d.0 }
+        requires child { IsCategory self.now.asker.now.question.graph.now c.0 }
+        requires parent { IsCategory self.now.asker.now.question.graph.now d.0 }
         ensures { result ≡ way (task_of self.now.asker.now) self.now.decided.now c.0 d.0 }
     {
         if self.decided.reaches(c, d) {
             return Truth3::Yes;
         }
-        if self.asker.graph.reaches(c, d) {
+        let asker = self.asker;
+        if asker.question.graph.reaches(c, d) {
             Truth3::Unknown
         } else {
             Truth3::No
@@ -75,7 +77,7 @@ impl<'a> Known<'a> {
 
     // Whether the category's name is the one at this place beside the first.
     fn named(&self, c: CatId, j: Option<usize>) -> Truth3
-        requires category { IsCategory self.now.asker.now.graph.now c.0 }
+        requires category { IsCategory self.now.asker.now.question.graph.now c.0 }
         requires place { IfSome j (λ j. j < constant_count (task_of self.now.asker.now) c.0) }
         ensures { result ≡ told_of_name (task_of self.now.asker.now) self.now.trail.now c.0 j }
     {
@@ -93,17 +95,19 @@ impl<'a> Partial for Known<'a> {
     ghost known = { λ s. knowledge (task_of s.asker.now) s.trail.now s.decided.now };
 
     fn edge(&self, c: CatId, d: CatId) -> Truth3 {
-        if c.0 >= self.asker.graph.categories() {
+        let asker = self.asker;
+        if c.0 >= asker.question.graph.categories() {
             return Truth3::No;
         }
-        match self.asker.graph.edge(c, d) {
-            Some(e) => truth(self.trail.value(self.asker.layout.on(e))),
+        match asker.question.graph.edge(c, d) {
+            Some(e) => truth(self.trail.value(asker.layout.on(e))),
             None => Truth3::No,
         }
     }
 
     fn reaches(&self, c: CatId, d: CatId) -> Truth3 {
-        let categories = self.asker.graph.categories();
+        let asker = self.asker;
+        let categories = asker.question.graph.categories();
         if c.0 >= categories || d.0 >= categories {
             return Truth3::No;
         }
@@ -112,10 +116,11 @@ impl<'a> Partial for Known<'a> {
     }
 
     fn name(&self, c: CatId, k: &Text) -> Truth3 {
-        if c.0 == 0 || c.0 >= self.asker.graph.categories() {
+        let asker = self.asker;
+        if c.0 == 0 || c.0 >= asker.question.graph.categories() {
             return Truth3::Unknown;
         }
-        self.named(c, place(self.asker.candidates.others(c), k))
+        self.named(c, place(asker.question.candidates.others(c), k))
     }
 
     fn number(&self, _c: CatId, _op: Op, _n: i64) -> Truth3 {

@@ -27,13 +27,13 @@ fn most_at(a: &Asker<'_>, p: u16) -> u16
     ensures in_range { (x : ℕ) → x ≤ result → InRange (task_of a.now) p x }
     ensures most { (x : ℕ) → InRange (task_of a.now) p x → x ≤ result }
 {
-    let edges = a.graph.edges();
+    let edges = a.question.graph.edges();
     // Called for its clauses: the graph has few categories.
-    let _few = a.graph.categories();
+    let _few = a.question.graph.categories();
     if p < edges {
         1
     } else {
-        a.candidates.names(CatId(p - edges + 1)) - 1
+        a.question.candidates.names(CatId(p - edges + 1)) - 1
     }
 }
 
@@ -157,7 +157,7 @@ fn copy(alloc: Global, a: &Asker<'_>, best: &Frozen) -> Result<Frozen, Memory>
     names.set(0, 0);
     let edges = List::from_vec(Vec::from_slice(alloc, best.edges.items())?);
     Ok(Frozen {
-        root: a.root,
+        root: a.question.root,
         edges,
         names,
     })
@@ -192,15 +192,16 @@ pub(crate) fn list(
     requires ready { IsReady (task_of a.now) engine.old }
     requires best { IsFor (task_of a.now) best.old }
     requires empty { trail_of engine.old ≡ [] }
-    ensures all { IfOk result (λ list. AreAllFrozen (schema_of (task_of a.now)) (task_of a.now).question
-        (task_of a.now).root (candidates_of (task_of a.now).named) (map frozen_of list)) }
+    ensures all { IfOk result (λ list. AreAllFrozen (schema_of (task_of a.now)) (task_of a.now).question.formula
+        (task_of a.now).question.root (candidates_of (task_of a.now).question.candidates) (map frozen_of list)) }
     ensures few { IfOk result (λ list. length list ≤ limit) }
-    ensures roots { IfOk result (λ list. All (λ f. f.root.0 ≡ a.now.root.0) list) }
+    ensures roots { IfOk result (λ list. All (λ f. f.root.0 ≡ a.now.question.root.0) list) }
     ensures sized { IfOk result (λ list. All
-        (λ f. IsSized a.now.graph.now a.now.candidates.now f.edges f.names) list) }
+        (λ f. IsSized a.now.question.graph.now a.now.question.candidates.now f.edges f.names) list) }
     ensures zero { IfOk result (λ list. All (λ f. IsZeroAtAll f.names) list) }
     ensures too_many { result ≡ Err refusal.TooMany → AreMoreThan limit (schema_of (task_of a.now))
-        (task_of a.now).question (task_of a.now).root (candidates_of (task_of a.now).named) }
+        (task_of a.now).question.formula (task_of a.now).question.root
+        (candidates_of (task_of a.now).question.candidates) }
     ensures best { IsFor (task_of a.now) best.new }
     ensures suited { IsSuited (task_of a.now) leaf.new (variables_of engine.new) }
     ensures ready { IsReady (task_of a.now) engine.new }

@@ -14,12 +14,12 @@ use olap_pool::Lit;
 // The negation of an edge, if it is open and its child is known present.
 fn open_at(a: &Asker<'_>, trail: &Trail, e: EdgeId) -> Option<Lit>
     requires task { IsTask (task_of a.now) }
-    requires edge { e.0 < length a.now.graph.now.edges }
+    requires edge { e.0 < length a.now.question.graph.now.edges }
     requires variables { length (values_of trail.now) ≡ a.now.layout.now.variables }
     ensures { IfSome result (λ l. IsOpen trail.now l) }
 {
     let on = a.layout.on(e);
-    let (child, _) = a.graph.ends(e);
+    let (child, _) = a.question.graph.ends(e);
     match (trail.value(on), trail.value(a.layout.present(child))) {
         (Value::Unknown, Value::Yes) => Some(on.negated()),
         _ => None,
@@ -29,11 +29,11 @@ fn open_at(a: &Asker<'_>, trail: &Trail, e: EdgeId) -> Option<Lit>
 // The negation of an edge, if it is open and its child is known present, and is one of these where they are given.
 fn open_among(a: &Asker<'_>, trail: &Trail, among: Option<Categories>, e: EdgeId) -> Option<Lit>
     requires task { IsTask (task_of a.now) }
-    requires edge { e.0 < length a.now.graph.now.edges }
+    requires edge { e.0 < length a.now.question.graph.now.edges }
     requires variables { length (values_of trail.now) ≡ a.now.layout.now.variables }
     ensures { IfSome result (λ l. IsOpen trail.now l) }
 {
-    let (child, _) = a.graph.ends(e);
+    let (child, _) = a.question.graph.ends(e);
     let is_offered = match among {
         Some(children) => children.has(child.0),
         None => true,
@@ -51,7 +51,7 @@ fn first_open(a: &Asker<'_>, trail: &Trail, among: Option<Categories>) -> Option
     requires variables { length (values_of trail.now) ≡ a.now.layout.now.variables }
     ensures { IfSome result (λ l. IsOpen trail.now l) }
 {
-    'edges: for e in 0..a.graph.edges() {
+    'edges: for e in 0..a.question.graph.edges() {
         let open = open_among(a, trail, among, EdgeId(e));
         if open.is_some() {
             return open;
@@ -97,7 +97,7 @@ fn highest_open(
     ensures { IfSome result (λ l. IsOpen trail.now l) }
 {
     let mut best: Option<Lit> = None;
-    'edges: for e in 0..a.graph.edges() {
+    'edges: for e in 0..a.question.graph.edges() {
         best = higher(best, open_among(a, trail, among, EdgeId(e)), scores);
     }
     best
@@ -143,7 +143,7 @@ pub(crate) fn pick_edge(
 // The negation of a name, if it is open.
 fn open_constant(a: &Asker<'_>, trail: &Trail, c: CatId, j: usize) -> Option<Lit>
     requires task { IsTask (task_of a.now) }
-    requires category { IsCategory a.now.graph.now c.0 }
+    requires category { IsCategory a.now.question.graph.now c.0 }
     requires constant { j < constant_count (task_of a.now) c.0 }
     requires variables { length (values_of trail.now) ≡ a.now.layout.now.variables }
     ensures { IfSome result (λ l. IsOpen trail.now l) }
@@ -159,11 +159,11 @@ fn open_constant(a: &Asker<'_>, trail: &Trail, c: CatId, j: usize) -> Option<Lit
 // The negation of an open name of a category.
 fn open_name_of(a: &Asker<'_>, trail: &Trail, c: CatId) -> Option<Lit>
     requires task { IsTask (task_of a.now) }
-    requires category { IsCategory a.now.graph.now c.0 }
+    requires category { IsCategory a.now.question.graph.now c.0 }
     requires variables { length (values_of trail.now) ≡ a.now.layout.now.variables }
     ensures { IfSome result (λ l. IsOpen trail.now l) }
 {
-    'indexes: for i in 1..a.candidates.names(c) {
+    'indexes: for i in 1..a.question.candidates.names(c) {
         let open = open_constant(a, trail, c, usize::from(i) - 1);
         if open.is_some() {
             return open;
@@ -178,7 +178,7 @@ pub(crate) fn open_name(a: &Asker<'_>, trail: &Trail) -> Option<Lit>
     requires variables { length (values_of trail.now) ≡ a.now.layout.now.variables }
     ensures { IfSome result (λ l. IsOpen trail.now l) }
 {
-    'categories: for c in 1..a.graph.categories() {
+    'categories: for c in 1..a.question.graph.categories() {
         if let Value::Yes = trail.value(a.layout.present(CatId(c))) {
             let open = open_name_of(a, trail, CatId(c));
             if open.is_some() {

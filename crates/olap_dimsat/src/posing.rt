@@ -16,7 +16,7 @@ use olap_base::{CatId, Memory};
 use olap_clauses::Engine;
 use olap_encoding::Layout;
 use olap_graph::Graph;
-use olap_names::Candidates;
+use olap_names::{Candidates, Question};
 use olap_pool::Pool;
 use std::alloc::Global;
 
@@ -63,19 +63,26 @@ pub(crate) fn pose(
     graph: &Graph,
     constraints: &[Constraint],
     root: CatId,
-    question: &Formula,
+    formula: &Formula,
 ) -> Result<Posed, Memory>
     requires root { IsCategory graph.now root.0 }
     requires valid { IsValidSchema (with_graph graph.now (map constraint_of constraints.now)) }
-    requires question { IsFormulaAt graph.now root.0 (formula_of question.now) }
+    requires formula { IsFormulaAt graph.now root.0 (formula_of formula.now) }
     requires few { let schema = with_graph graph.now (map constraint_of constraints.now) in
-        pair_count (all_equalities schema (formula_of question.now))
-        (all_comparisons schema (formula_of question.now)) ≤ most_constants }
+        pair_count (all_equalities schema (formula_of formula.now))
+        (all_comparisons schema (formula_of formula.now)) ≤ most_constants }
     ensures { IfOk result (IsPosed (with_graph graph.now (map constraint_of constraints.now))
-        (formula_of question.now) root.0) }
+        (formula_of formula.now) root.0) }
 {
-    let candidates = Candidates::of(alloc, graph, constraints, question)?;
-    let encoded = encode(alloc, graph, constraints, question, root, &candidates)?;
+    let candidates = Candidates::of(alloc, graph, constraints, formula)?;
+    let question = Question {
+        graph,
+        constraints,
+        formula,
+        root,
+        candidates: &candidates,
+    };
+    let encoded = encode(alloc, &question)?;
     let engine = engine_of(alloc, encoded.layout.variables, encoded.pool)?;
     Ok(Posed {
         candidates,

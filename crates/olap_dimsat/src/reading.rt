@@ -15,7 +15,7 @@ use olap_pool::Lit;
 // Whether the trail leaves no more to this edge than to be absent, since its child is. Else a literal to decide.
 fn absent(a: &Asker<'_>, trail: &Trail, c: CatId, free: Lit) -> Result<(), Lit>
     requires task { IsTask (task_of a.now) }
-    requires category { IsCategory a.now.graph.now c.0 }
+    requires category { IsCategory a.now.question.graph.now c.0 }
     requires variables { length (values_of trail.now) ≡ a.now.layout.now.variables }
     requires free { IsOpen trail.now free }
     ensures absent { IfOk result (λ _. IsAbsent (task_of a.now) trail.now c.0) }
@@ -32,7 +32,7 @@ fn absent(a: &Asker<'_>, trail: &Trail, c: CatId, free: Lit) -> Result<(), Lit>
 // Whether the edge is present. Else a literal to decide.
 fn read_edge(a: &Asker<'_>, trail: &Trail, e: EdgeId) -> Result<bool, Lit>
     requires task { IsTask (task_of a.now) }
-    requires edge { e.0 < length a.now.graph.now.edges }
+    requires edge { e.0 < length a.now.question.graph.now.edges }
     requires variables { length (values_of trail.now) ≡ a.now.layout.now.variables }
     ensures is { IfOk result (λ b. EdgeReads (task_of a.now) trail.now e.0 b) }
     ensures open { IfErr result (λ l. IsOpen trail.now l) }
@@ -42,7 +42,7 @@ fn read_edge(a: &Asker<'_>, trail: &Trail, e: EdgeId) -> Result<bool, Lit>
         Value::Yes => Ok(true),
         Value::No => Ok(false),
         Value::Unknown => {
-            let (child, _) = a.graph.ends(e);
+            let (child, _) = a.question.graph.ends(e);
             absent(a, trail, child, on)?;
             Ok(false)
         }
@@ -52,7 +52,7 @@ fn read_edge(a: &Asker<'_>, trail: &Trail, e: EdgeId) -> Result<bool, Lit>
 // Whether the name of the category is the one at this place beside the first. Else a literal to decide.
 fn read_constant(a: &Asker<'_>, trail: &Trail, c: CatId, j: usize) -> Result<bool, Lit>
     requires task { IsTask (task_of a.now) }
-    requires category { IsCategory a.now.graph.now c.0 }
+    requires category { IsCategory a.now.question.graph.now c.0 }
     requires constant { j < constant_count (task_of a.now) c.0 }
     requires variables { length (values_of trail.now) ≡ a.now.layout.now.variables }
     ensures is { IfOk result (λ b. ConstantReads (task_of a.now) trail.now c.0 j b) }
@@ -72,14 +72,14 @@ fn read_constant(a: &Asker<'_>, trail: &Trail, c: CatId, j: usize) -> Result<boo
 // The index of the category's name. Else a literal to decide.
 fn read_name(a: &Asker<'_>, trail: &Trail, c: CatId) -> Result<u16, Lit>
     requires task { IsTask (task_of a.now) }
-    requires category { IsCategory a.now.graph.now c.0 }
+    requires category { IsCategory a.now.question.graph.now c.0 }
     requires declared { c.0 ≢ 0 }
     requires variables { length (values_of trail.now) ≡ a.now.layout.now.variables }
     ensures is { IfOk result (λ i. NameReads (task_of a.now) trail.now c.0 i) }
     ensures in_range { IfOk result (λ i. i ≤ constant_count (task_of a.now) c.0) }
     ensures open { IfErr result (λ l. IsOpen trail.now l) }
 {
-    'indexes: for i in 1..a.candidates.names(c) {
+    'indexes: for i in 1..a.question.candidates.names(c) {
         if read_constant(a, trail, c, usize::from(i) - 1)? {
             return Ok(i);
         }
@@ -90,7 +90,7 @@ fn read_name(a: &Asker<'_>, trail: &Trail, c: CatId) -> Result<u16, Lit>
 // Reads the edges.
 fn read_edges(a: &Asker<'_>, trail: &Trail, edges: &mut List<bool>) -> Result<(), Lit>
     requires task { IsTask (task_of a.now) }
-    requires edges { length edges.old ≡ length a.now.graph.now.edges }
+    requires edges { length edges.old ≡ length a.now.question.graph.now.edges }
     requires variables { length (values_of trail.now) ≡ a.now.layout.now.variables }
     ensures edges { IfOk result
         (λ _. (e : ℕ) → e < length edges.new
@@ -98,7 +98,7 @@ fn read_edges(a: &Asker<'_>, trail: &Trail, edges: &mut List<bool>) -> Result<()
     ensures size { length edges.new ≡ length edges.old }
     ensures open { IfErr result (λ l. IsOpen trail.now l) }
 {
-    'edges: for e in 0..a.graph.edges() {
+    'edges: for e in 0..a.question.graph.edges() {
         let b = read_edge(a, trail, EdgeId(e))?;
         edges.set(usize::from(e), b);
     }
@@ -108,7 +108,7 @@ fn read_edges(a: &Asker<'_>, trail: &Trail, edges: &mut List<bool>) -> Result<()
 // Reads the names. `All` has none.
 fn read_names(a: &Asker<'_>, trail: &Trail, names: &mut List<u16>) -> Result<(), Lit>
     requires task { IsTask (task_of a.now) }
-    requires names { length names.old ≡ category_count a.now.graph.now }
+    requires names { length names.old ≡ category_count a.now.question.graph.now }
     requires variables { length (values_of trail.now) ≡ a.now.layout.now.variables }
     ensures names { IfOk result
         (λ _. (c : ℕ) → c < length names.new → NameReads (task_of a.now) trail.now c (slice_index names.new c)) }
@@ -118,7 +118,7 @@ fn read_names(a: &Asker<'_>, trail: &Trail, names: &mut List<u16>) -> Result<(),
     ensures open { IfErr result (λ l. IsOpen trail.now l) }
 {
     names.set(0, 0);
-    'categories: for c in 1..a.graph.categories() {
+    'categories: for c in 1..a.question.graph.categories() {
         let i = read_name(a, trail, CatId(c))?;
         names.set(usize::from(c), i);
     }

@@ -47,7 +47,7 @@ fn assume(engine: &mut Engine, a: &Asker<'_>, lit: Lit) -> bool
 fn assume_edge(engine: &mut Engine, a: &Asker<'_>, e: EdgeId, present: bool) -> bool
     requires task { IsTask (task_of a.now) }
     requires shaped { AreShaped (task_of a.now) (trail_of engine.old) }
-    requires edge { e.0 < length a.now.graph.now.edges }
+    requires edge { e.0 < length a.now.question.graph.now.edges }
     requires variables { variables_of engine.old ≡ a.now.layout.now.variables }
     ensures yes { result ≡ true → SayAt (task_of a.now) e.0 (if present then 1 else 0) (trail_of engine.old)
         (trail_of engine.new) }
@@ -69,20 +69,20 @@ fn assume_edge(engine: &mut Engine, a: &Asker<'_>, e: EdgeId, present: bool) -> 
 fn assume_name(engine: &mut Engine, a: &Asker<'_>, c: CatId, i: u16) -> bool
     requires task { IsTask (task_of a.now) }
     requires shaped { AreShaped (task_of a.now) (trail_of engine.old) }
-    requires category { IsCategory a.now.graph.now c.0 }
+    requires category { IsCategory a.now.question.graph.now c.0 }
     requires declared { c.0 ≢ 0 }
     requires index { i ≤ constant_count (task_of a.now) c.0 }
     requires variables { variables_of engine.old ≡ a.now.layout.now.variables }
-    ensures yes { result ≡ true → SayAt (task_of a.now) (length a.now.graph.now.edges + c.0 - 1) i
+    ensures yes { result ≡ true → SayAt (task_of a.now) (length a.now.question.graph.now.edges + c.0 - 1) i
         (trail_of engine.old) (trail_of engine.new) }
-    ensures no { result ≡ false → NoneAt (task_of a.now) (length a.now.graph.now.edges + c.0 - 1) i
+    ensures no { result ≡ false → NoneAt (task_of a.now) (length a.now.question.graph.now.edges + c.0 - 1) i
         (trail_of engine.old) }
     ensures longer { IsLonger (trail_of engine.old) (trail_of engine.new) }
     ensures shaped { AreShaped (task_of a.now) (trail_of engine.new) }
     ensures variables { variables_of engine.new ≡ variables_of engine.old }
     ensures admits { (v : ℕ → Bool) → admits v engine.old → admits v engine.new }
 {
-    'indexes: for j in 1..a.candidates.names(c) {
+    'indexes: for j in 1..a.question.candidates.names(c) {
         let name = a.layout.name(c, usize::from(j) - 1);
         let lit = Lit {
             variable: name.variable,
@@ -109,9 +109,9 @@ fn assume_at(engine: &mut Engine, a: &Asker<'_>, p: u16, x: u16) -> bool
     ensures variables { variables_of engine.new ≡ variables_of engine.old }
     ensures admits { (v : ℕ → Bool) → admits v engine.old → admits v engine.new }
 {
-    let edges = a.graph.edges();
+    let edges = a.question.graph.edges();
     // Called for its clauses: the graph has few categories.
-    let _few = a.graph.categories();
+    let _few = a.question.graph.categories();
     if p < edges {
         assume_edge(engine, a, EdgeId(p), x == 1)
     } else {
@@ -181,7 +181,7 @@ pub(crate) fn number_at(a: &Asker<'_>, best: &Frozen, p: u16) -> u16
     ensures number { result ≡ slice_index (code (chosen_of best.now.edges best.now.names)) p }
     ensures in_range { InRange (task_of a.now) p result }
 {
-    let edges = a.graph.edges();
+    let edges = a.question.graph.edges();
     if p < edges {
         u16::from(best.edges.items()[usize::from(p)])
     } else {
@@ -213,9 +213,9 @@ fn literal_at(a: &Asker<'_>, p: u16, number: u16) -> Lit
     requires positive { 0 < number }
     ensures says { SaysAt (task_of a.now) p number result }
 {
-    let edges = a.graph.edges();
+    let edges = a.question.graph.edges();
     // Called for its clauses: the graph has few categories.
-    let _few = a.graph.categories();
+    let _few = a.question.graph.categories();
     if p < edges {
         a.layout.on(EdgeId(p))
     } else {
@@ -322,7 +322,7 @@ fn settle_next(
 pub(crate) fn places(a: &Asker<'_>) -> u16
     ensures { (p : ℕ) → p < result ↔ IsPlace (task_of a.now) p }
 {
-    a.graph.edges() + a.graph.categories() - 1
+    a.question.graph.edges() + a.question.graph.categories() - 1
 }
 
 /// Makes the best one the least of those that agree with it before this place.

@@ -15,7 +15,7 @@ use olap_trail::{Decision, Mark};
 // Whether the trail decides the edge so too.
 fn is_read(a: &Asker<'_>, trail: &Trail, decision: Decision) -> bool
     requires task { IsTask (task_of a.now) }
-    requires edge { decision.edge.0 < length a.now.graph.now.edges }
+    requires edge { decision.edge.0 < length a.now.question.graph.now.edges }
     ensures { result ≡ true → EdgeReads (task_of a.now) trail.now decision.edge.0 decision.present }
 {
     match trail.value(a.layout.on(decision.edge)) {
@@ -46,10 +46,10 @@ fn standing(a: &Asker<'_>, decided: &Decisions, trail: &Trail) -> u16
 fn is_second(a: &Asker<'_>, decided: &Decisions, e: EdgeId) -> bool
     requires task { IsTask (task_of a.now) }
     requires of { IsOf (task_of a.now) decided.now }
-    requires edge { e.0 < length a.now.graph.now.edges }
+    requires edge { e.0 < length a.now.question.graph.now.edges }
 {
-    let (child, _) = a.graph.ends(e);
-    'edges: for other in a.graph.parents(child) {
+    let (child, _) = a.question.graph.ends(e);
+    'edges: for other in a.question.graph.parents(child) {
         if *other != e && decided.status(*other) == Some(true) {
             return true;
         }
@@ -69,7 +69,7 @@ fn add(
 ) -> bool
     requires task { IsTask (task_of a.now) }
     requires of { IsOf (task_of a.now) decided.old }
-    requires edge { e.0 < length a.now.graph.now.edges }
+    requires edge { e.0 < length a.now.question.graph.now.edges }
     requires open { status_of decided.old e.0 ≡ None }
     requires reads { EdgeReads (task_of a.now) trail.now e.0 present }
     requires read { AreRead (task_of a.now) trail.now decided.old.decisions }
@@ -102,7 +102,7 @@ fn follow_edge(
 ) -> bool
     requires task { IsTask (task_of a.now) }
     requires of { IsOf (task_of a.now) decided.old }
-    requires edge { e.0 < length a.now.graph.now.edges }
+    requires edge { e.0 < length a.now.question.graph.now.edges }
     requires read { AreRead (task_of a.now) trail.now decided.old.decisions }
     ensures read { AreRead (task_of a.now) trail.now decided.new.decisions }
     ensures none { result ≡ false → NoneAgrees (task_of a.now) trail.now }
@@ -132,7 +132,7 @@ fn follow_edges(
     ensures none { result ≡ false → NoneAgrees (task_of a.now) trail.now }
     ensures of { IsOf (task_of a.now) decided.new }
 {
-    'edges: for e in 0..a.graph.edges() {
+    'edges: for e in 0..a.question.graph.edges() {
         if !follow_edge(a, decided, second, trail, EdgeId(e)) {
             return false;
         }

@@ -9,7 +9,7 @@ pub returns-then-is_broken : goal.returns-then-is_broken
 returns-then-is_broken c = λ _.
     let item = c.constraint-item.result in
     broken_none (task_of c.args.a.now) c.args.trail.now c.requires.task (constraint_of item)
-    (Contains-map constraint_of c.args.a.now.constraints.now item
+    (Contains-map constraint_of c.args.a.now.question.constraints.now item
     (c.constraints.constraint-index, omega arith, sym c.constraint-item.is)) (c.is_broken.ensures c.if-is_broken.true)
 
 pub returns : goal.returns

@@ -69,7 +69,8 @@ pub returns-clause-all : goal.returns-clause-all
 returns-clause-all c =
     let t = task_of c.args.a.now in
     let i = c.listed.invariant in
-    subst (λ (list : List kept.Frozen). AreAllFrozen (schema_of t) t.question t.root (candidates_of t.named)
+    subst (λ (list : List kept.Frozen). AreAllFrozen (schema_of t) t.question.formula t.question.root
+    (candidates_of t.question.candidates)
     (map frozen_of list))
     (sym c.from_vec.ensures)
     (all_frozen t (map frozen_of c.listed.list.items) c.requires.suited.task i.front

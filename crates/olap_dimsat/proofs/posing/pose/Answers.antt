@@ -10,21 +10,28 @@ use Rattle.olap_dimsat.proofs.posing.pose.Goals as goal
 pub of-requires : goal.of-requires
 of-requires c =
     let a = c.args in
-    can_be_named a.graph.now (map constraint_of a.constraints.now) a.root.0 (formula_of a.question.now)
-    c.requires.valid.formulas c.requires.question c.requires.few
+    can_be_named a.graph.now (map constraint_of a.constraints.now) a.root.0 (formula_of a.formula.now)
+    c.requires.valid.formulas c.requires.formula c.requires.few
 
-pub encode-requires-clause-candidates : goal.encode-requires-clause-candidates
-encode-requires-clause-candidates c = c.in_ok-candidates.ensures.candidates
+pub encode-requires-clause-question : goal.encode-requires-clause-question
+encode-requires-clause-question c = record {
+  hierarchy = c.requires.valid.hierarchy;
+  root = c.requires.root;
+  candidates = c.in_ok-candidates.ensures.candidates;
+  texts = c.in_ok-candidates.ensures.count;
+}
 
 pub returns : goal.returns
 returns c =
     let a = c.args in
     let s = with_graph a.graph.now (map constraint_of a.constraints.now) in
     let e = c.in_ok-encoded.ensures in
-    let t = task_at s (formula_of a.question.now) a.root.0 c.in_ok-candidates.candidates c.in_ok-encoded.encoded.layout in
+    let t = task_at s (formula_of a.formula.now) a.root.0 c.in_ok-candidates.candidates
+    c.in_ok-encoded.encoded.layout in
     record {
       task = e.task;
       variables = c.in_ok-engine.ensures.variables;
-      ready = ready_first t c.in_ok-encoded.encoded.pool c.in_ok-engine.engine e (λ v h. c.in_ok-engine.ensures.admits v h);
+      ready = ready_first t c.in_ok-encoded.encoded.pool c.in_ok-engine.engine e
+          (λ v h. c.in_ok-engine.ensures.admits v h);
       empty = c.in_ok-engine.ensures.empty;
     }

@@ -9,7 +9,7 @@ returns-clause-read c =
     let ns = c.read_names.ensures.size ∙ c.requires.sizes.names in record {
       sized = record {
         edge_count = es;
-        text_count = c.requires.task.texts;
+        text_count = c.requires.task.question.texts;
         name_count = ns;
         in_range = λ k h. c.in_ok-read_names.ensures.in_range k (omega arith);
       };

@@ -16,5 +16,6 @@ returns-in-No-clause-is c = λ f v one r a.
 pub returns-in_ok-absent-in-Unknown-clause-is : goal.returns-in_ok-absent-in-Unknown-clause-is
 returns-in_ok-absent-in-Unknown-clause-is c = λ f v one r a.
     false_from_ne_true _ (λ t. not_both _
-    (bit_present c.args.a.now.graph.now c.args.a.now.root.0 f.edges c.args.e.0 c.ends.result.0.0 c.ends.result.1.0
+    (bit_present c.args.a.now.question.graph.now c.args.a.now.question.root.0 f.edges c.args.e.0 c.ends.result.0.0
+    c.ends.result.1.0
     c.requires.edge c.ends.ensures.edge t) (c.in_ok-absent-in-Unknown.ensures.absent f v one r a))

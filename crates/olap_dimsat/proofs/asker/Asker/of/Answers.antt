@@ -4,10 +4,11 @@ use Rattle.olap_dimsat.proofs.asker.Asker.of.Goals as goal
 
 pub returns : goal.returns
 returns c = λ i. record {
-  graph = c.graph.ensures i;
-  constraints = c.constraints.ensures.list i;
-  question = formula_of c.args.question.now;
-  root = c.args.root.0;
-  named = c.args.candidates.now;
+  question = record {
+    schema = record { graph = c.graph.ensures i; constraints = c.constraints.ensures.list i };
+    formula = formula_of c.args.formula.now;
+    root = c.args.root.0;
+    candidates = c.args.candidates.now;
+  };
   layout = c.args.layout.now;
 }

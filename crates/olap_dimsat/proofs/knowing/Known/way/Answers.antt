@@ -15,11 +15,11 @@ returns-then-reaches-2 c =
     let s = c.args.self.now in
     way_by (task_of s.asker.now) s.decided.now c.args.c.0 c.args.d.0 false true
     (reach_test (present_graph s.decided.now) c.args.c.0 c.args.d.0 _ false c.reaches.ensures c.if-reaches.false)
-    (reach_test s.asker.now.graph.now c.args.c.0 c.args.d.0 _ true c.reaches-2.ensures c.if-reaches-2.true)
+    (reach_test s.asker.now.question.graph.now c.args.c.0 c.args.d.0 _ true c.reaches-2.ensures c.if-reaches-2.true)
 
 pub returns-else-reaches-2 : goal.returns-else-reaches-2
 returns-else-reaches-2 c =
     let s = c.args.self.now in
     way_by (task_of s.asker.now) s.decided.now c.args.c.0 c.args.d.0 false false
     (reach_test (present_graph s.decided.now) c.args.c.0 c.args.d.0 _ false c.reaches.ensures c.if-reaches.false)
-    (reach_test s.asker.now.graph.now c.args.c.0 c.args.d.0 _ false c.reaches-2.ensures c.if-reaches-2.false)
+    (reach_test s.asker.now.question.graph.now c.args.c.0 c.args.d.0 _ false c.reaches-2.ensures c.if-reaches-2.false)

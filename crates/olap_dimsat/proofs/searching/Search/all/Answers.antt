@@ -9,7 +9,7 @@ use Rattle.olap_names.specs.Names.{candidates_of}
 use Rattle.olap_schema.specs.Schemas.{schema_of}
 use Rattle.olap_dimsat.specs.Asking.{task_of}
 use Rattle.olap_dimsat.specs.Listed.{AreAllFrozen, AreMoreThan}
-use Rattle.olap_dimsat.specs.Tasks.{Task, schema_of as schema_in}
+use Rattle.olap_dimsat.specs.Tasks.{Task, schema_of as schema_in, graph_of}
 use Rattle.olap_dimsat.proofs.MadeLemmas.{keeps, made_still}
 use Rattle.olap_dimsat.proofs.searching.Search.all.Goals as goal
 
@@ -21,22 +21,26 @@ list-listed-requires c =
 
 pub returns-clause-all : goal.returns-clause-all
 returns-clause-all c =
-    subst (λ (t : Task). IfOk c.list-listed.result (λ (list : List Frozen). AreAllFrozen (schema_in t) t.question t.root
-    (candidates_of t.named) (map frozen_of list))) c.of-asker.ensures c.list-listed.ensures.all
+    subst (λ (t : Task). IfOk c.list-listed.result (λ (list : List Frozen). AreAllFrozen (schema_in t)
+    t.question.formula t.question.root
+    (candidates_of t.question.candidates) (map frozen_of list))) c.of-asker.ensures c.list-listed.ensures.all
 
 pub returns-clause-roots : goal.returns-clause-roots
 returns-clause-roots c =
-    subst (λ (t : Task). IfOk c.list-listed.result (λ (list : List Frozen). All (λ (f : Frozen). f.root.0 ≡ t.root) list))
+    subst (λ (t : Task). IfOk c.list-listed.result (λ (list : List Frozen). All
+    (λ (f : Frozen). f.root.0 ≡ t.question.root) list))
     c.of-asker.ensures c.list-listed.ensures.roots
 
 pub returns-clause-sized : goal.returns-clause-sized
 returns-clause-sized c =
     subst (λ (t : Task). IfOk c.list-listed.result (λ (list : List Frozen). All
-    (λ (f : Frozen). IsSized t.graph t.named f.edges f.names) list)) c.of-asker.ensures c.list-listed.ensures.sized
+    (λ (f : Frozen). IsSized (graph_of t) t.question.candidates f.edges f.names) list)) c.of-asker.ensures
+    c.list-listed.ensures.sized
 
 pub returns-clause-too_many : goal.returns-clause-too_many
 returns-clause-too_many c = λ e.
-    subst (λ (t : Task). AreMoreThan c.args.limit (schema_in t) t.question t.root (candidates_of t.named))
+    subst (λ (t : Task). AreMoreThan c.args.limit (schema_in t) t.question.formula t.question.root
+    (candidates_of t.question.candidates))
     c.of-asker.ensures (c.list-listed.ensures.too_many e)
 
 pub returns-clause-made : goal.returns-clause-made

@@ -60,5 +60,5 @@ returns-clause-made c =
     made_still s q c.args.self.now _ t c.exists-found.new.engine c.of-asker.ensures refl c.requires.made
     (suited_with t c.exists-found.new.leaf c.hand_out.new.found (variables_of c.exists-found.new.engine) e.suited
     (left_for t c.args.self.now c.args.into.now c.hand_out.new.found k.best c.requires.sizes
-    out.left_root out.left_edges out.left_names (sym (ap (λ (x : Task). x.root) c.of-asker.ensures))))
+    out.left_root out.left_edges out.left_names (sym (ap (λ (x : Task). x.question.root) c.of-asker.ensures))))
     e.ready k.best u.variables (λ v h. u.admits v h) u.trail

@@ -45,5 +45,5 @@ returns-clause-made c =
     let k = keeps s q c.args.self.now t c.of-asker.ensures c.requires.made in
     made_still s q c.args.self.now _ t c.least-found.new.engine c.of-asker.ensures refl c.requires.made l.suited l.ready
     (left_for t c.args.self.now c.args.into.now c.hand_out.new.found k.best c.requires.sizes
-    out.left_root out.left_edges out.left_names (sym (ap (λ (x : Task). x.root) c.of-asker.ensures)))
+    out.left_root out.left_edges out.left_names (sym (ap (λ (x : Task). x.question.root) c.of-asker.ensures)))
     u.variables (λ v h. u.admits v h) u.trail

@@ -23,8 +23,8 @@ pose-requires-clause-valid c =
     (map constraint_of c.constraints-constraints.result.now)
     c.graph-graph.ensures c.constraints-constraints.ensures.list)) c.constraints-constraints.ensures.valid
 
-pub pose-requires-clause-question : goal.pose-requires-clause-question
-pose-requires-clause-question c =
+pub pose-requires-clause-formula : goal.pose-requires-clause-formula
+pose-requires-clause-formula c =
     subst (λ (g : Graph). IsFormulaAt g c.args.root.0 (formula_of c.args.question.now)) (sym c.graph-graph.ensures)
     c.requires.question
 
