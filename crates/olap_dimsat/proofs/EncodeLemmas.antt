@@ -1,5 +1,5 @@
 -- The clauses of a task are the encoder's.
-use Rattle.std.proofs.Common.{◌≡◌, ℕ, zero, suc, ◌≤◌, ◌<◌, List, [], length, Bool, true, false, refl, sym, subst, ◌∙◌, inl, inr, ◌^◌, arith}
+use Rattle.std.proofs.Common.{◌≡◌, ℕ, zero, suc, ◌≤◌, ◌<◌, List, length, Bool, true, false, refl, sym, subst, ◌∙◌, inl, inr, ◌^◌, arith}
 use Rattle.std.specs.Prelude.{◌↔◌, IsTrue}
 use Rattle.std.proofs.lemmas.Bool.{cases_Bool, false_from_ne_true}
 use Rattle.olap_ast.specs.Frozen.{Frozen}

@@ -5,7 +5,7 @@
 --     member_in      where a category's member stands
 --     IsFalseAt      the formula is false at the category's member, if it has one
 --     IsBroken       the constraint's root has a member, and the formula is false there
-use Rattle.std.specs.Prelude.{ℕ, zero, suc, ◌&&◌, true, Option, Some, None, List, [], IsTrue, nat_lt, if◌then◌else◌, slice_index_or}
+use Rattle.std.specs.Prelude.{ℕ, zero, suc, ◌&&◌, true, Option, Some, None, List, IsTrue, nat_lt, if◌then◌else◌}
 use Rattle.olap_base.specs.Graph.{category_count}
 use Rattle.olap_base.specs.Naming.{place_of}
 use Rattle.olap_base.specs.Reaching.{category_reaches}
