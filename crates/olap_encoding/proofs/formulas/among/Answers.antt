@@ -1,5 +1,5 @@
 -- One name after the other.
-use Rattle.std.proofs.Common.{◌<◌, [], length, get_or, subst, ap, ◌∙◌}
+use Rattle.std.proofs.Common.{◌<◌, length, subst, ap}
 use Rattle.std.proofs.Common.{w64}
 use Rattle.std.proofs.lemmas.Int.{to_z-of_z}
 use Rattle.olap_ast.specs.Trees.{op_of}

@@ -1,5 +1,5 @@
 -- One name after the other.
-use Rattle.std.proofs.Common.{◌<◌, [], length, get_or, subst, ap, ◌∙◌}
+use Rattle.std.proofs.Common.{◌<◌, length, subst, ap}
 use Rattle.olap_encoding.proofs.Growing.{next_same, next_on}
 use Rattle.olap_encoding.proofs.OutLemmas.{category_still}
 use Rattle.olap_encoding.proofs.NameLemmas.{constants_still, outside_still}
