@@ -14,7 +14,7 @@ use crate::sound::is_sound;
 use olap_ast::{Constraint, Formula};
 use olap_base::{CatId, List, Memory};
 use olap_graph::{Categories, Graph, row_has};
-use olap_names::Candidates;
+use olap_names::{Candidates, Question};
 use std::alloc::Global;
 
 /// A choice of edges and names: for each edge whether it is present, and for each category the index of its name, 0
@@ -74,75 +74,54 @@ fn are_absent_zero(
 }
 
 /// Whether a sound choice of edges, with these names, stands for a frozen dimension.
-pub fn named(
-    graph: &Graph,
-    constraints: &[Constraint],
-    question: &Formula,
-    candidates: &Candidates,
-    root: CatId,
-    edges: &[bool],
-    names: &[u16],
-    rows: &[Categories],
-) -> bool
-    requires root { IsCategory graph.now root.0 }
-    requires size { length rows.now ≡ category_count graph.now }
-    requires sized { IsSized graph.now candidates.now edges.now names.now }
-    requires candidates { AreCandidates (with_graph graph.now (map constraint_of constraints.now))
-        (formula_of question.now) (candidates_of candidates.now) }
-    requires rows { AreRows graph.now (chosen graph.now.edges edges.now) rows.now }
-    requires sound { IsSound root.0 (chosen graph.now.edges edges.now) }
-    requires absent { AreAbsentZero graph.now root.0 edges.now names.now }
-    requires hierarchy { IsHierarchy graph.now }
-    ensures { IsTrue result ↔ IsFrozen (with_graph graph.now (map constraint_of constraints.now))
-        (formula_of question.now) root.0 (candidates_of candidates.now) (chosen_of edges.now names.now) }
+pub fn named(question: &Question, edges: &[bool], names: &[u16], rows: &[Categories]) -> bool
+    requires root { IsCategory question.now.graph.now question.now.root.0 }
+    requires size { length rows.now ≡ category_count question.now.graph.now }
+    requires sized { IsSized question.now.graph.now question.now.candidates.now edges.now names.now }
+    requires candidates { AreCandidates
+        (with_graph question.now.graph.now (map constraint_of question.now.constraints.now))
+        (formula_of question.now.formula.now) (candidates_of question.now.candidates.now) }
+    requires rows { AreRows question.now.graph.now (chosen question.now.graph.now.edges edges.now) rows.now }
+    requires sound { IsSound question.now.root.0 (chosen question.now.graph.now.edges edges.now) }
+    requires absent { AreAbsentZero question.now.graph.now question.now.root.0 edges.now names.now }
+    requires hierarchy { IsHierarchy question.now.graph.now }
+    ensures { IsTrue result ↔ IsFrozen
+        (with_graph question.now.graph.now (map constraint_of question.now.constraints.now))
+        (formula_of question.now.formula.now) question.now.root.0 (candidates_of question.now.candidates.now)
+        (chosen_of edges.now names.now) }
 {
     let leaf = Leaf {
-        graph,
-        candidates,
-        root,
+        graph: question.graph,
+        candidates: question.candidates,
+        root: question.root,
         edges,
         names,
         rows,
     };
-    meets(&leaf, constraints, question)
+    meets(&leaf, question.constraints, question.formula)
 }
 
 // Whether the edges, names and root stand for a frozen dimension.
-fn stands(
-    graph: &Graph,
-    constraints: &[Constraint],
-    question: &Formula,
-    candidates: &Candidates,
-    root: CatId,
-    edges: &[bool],
-    names: &[u16],
-    rows: &mut [Categories],
-) -> bool
-    requires root { IsCategory graph.now root.0 }
-    requires rows { length rows.old ≡ category_count graph.now }
-    requires sized { IsSized graph.now candidates.now edges.now names.now }
-    requires candidates { AreCandidates (with_graph graph.now (map constraint_of constraints.now))
-        (formula_of question.now) (candidates_of candidates.now) }
-    ensures { IsTrue result ↔ IsFrozen (with_graph graph.now (map constraint_of constraints.now))
-        (formula_of question.now) root.0 (candidates_of candidates.now) (chosen_of edges.now names.now) }
+fn stands(question: &Question, edges: &[bool], names: &[u16], rows: &mut [Categories]) -> bool
+    requires root { IsCategory question.now.graph.now question.now.root.0 }
+    requires rows { length rows.old ≡ category_count question.now.graph.now }
+    requires sized { IsSized question.now.graph.now question.now.candidates.now edges.now names.now }
+    requires candidates { AreCandidates
+        (with_graph question.now.graph.now (map constraint_of question.now.constraints.now))
+        (formula_of question.now.formula.now) (candidates_of question.now.candidates.now) }
+    ensures { IsTrue result ↔ IsFrozen
+        (with_graph question.now.graph.now (map constraint_of question.now.constraints.now))
+        (formula_of question.now.formula.now) question.now.root.0 (candidates_of question.now.candidates.now)
+        (chosen_of edges.now names.now) }
 {
-    close(graph, edges, rows);
-    if !is_sound(graph, root, edges, rows) {
+    close(question.graph, edges, rows);
+    if !is_sound(question.graph, question.root, edges, rows) {
         return false;
     }
-    if !are_absent_zero(graph, root, edges, names, rows) {
+    if !are_absent_zero(question.graph, question.root, edges, names, rows) {
         return false;
     }
-    named(
-        graph,
-        constraints,
-        question,
-        candidates,
-        root,
-        edges,
-        names,
-        rows,
-    )
+    named(question, edges, names, rows)
 }
 
 /// Whether the choice stands for a frozen dimension of the schema for the question, with that root.
@@ -166,12 +145,15 @@ pub fn is_frozen(
         (chosen_of frozen.now.edges frozen.now.names) }
     ensures room { length room.new.rows.items ≡ category_count graph.now }
 {
-    stands(
+    let question = Question {
         graph,
         constraints,
-        question,
+        formula: question,
+        root: frozen.root,
         candidates,
-        frozen.root,
+    };
+    stands(
+        &question,
         frozen.edges.items(),
         frozen.names.items(),
         &mut room.rows,

@@ -15,54 +15,46 @@ use olap_ast::{Constraint, Formula};
 use olap_base::{CatId, List, Memory};
 use olap_frozen::{Frozen, Room, close, is_sound, named};
 use olap_graph::{Categories, Graph};
-use olap_names::{Candidates, NameWalk};
+use olap_names::{Candidates, NameWalk, Question};
 use std::alloc::Global;
 
 // With these edges, the first names that give a frozen dimension: the walk stands there.
 pub(crate) fn first_names(
-    graph: &Graph,
-    constraints: &[Constraint],
-    question: &Formula,
-    candidates: &Candidates,
-    root: CatId,
+    question: &Question,
     edges: &[bool],
     rows: &mut [Categories],
     walk: &mut NameWalk,
 ) -> bool
-    requires root { IsCategory graph.now root.0 }
-    requires rows { length rows.old ≡ category_count graph.now }
-    requires edges { length edges.now ≡ length graph.now.edges }
-    requires texts { length candidates.now.texts ≡ category_count graph.now }
-    requires walk { length walk.old.indexes ≡ category_count graph.now }
-    requires candidates { AreCandidates (with_graph graph.now (map constraint_of constraints.now))
-        (formula_of question.now) (candidates_of candidates.now) }
-    ensures some { IsTrue result → AreFirstNames (with_graph graph.now (map constraint_of constraints.now))
-        (formula_of question.now) root.0 (candidates_of candidates.now) edges.now walk.new.indexes }
+    requires root { IsCategory question.now.graph.now question.now.root.0 }
+    requires rows { length rows.old ≡ category_count question.now.graph.now }
+    requires edges { length edges.now ≡ length question.now.graph.now.edges }
+    requires texts { length question.now.candidates.now.texts ≡ category_count question.now.graph.now }
+    requires walk { length walk.old.indexes ≡ category_count question.now.graph.now }
+    requires candidates { AreCandidates
+        (with_graph question.now.graph.now (map constraint_of question.now.constraints.now))
+        (formula_of question.now.formula.now) (candidates_of question.now.candidates.now) }
+    ensures some { IsTrue result → AreFirstNames
+        (with_graph question.now.graph.now (map constraint_of question.now.constraints.now))
+        (formula_of question.now.formula.now) question.now.root.0 (candidates_of question.now.candidates.now)
+        edges.now walk.new.indexes }
     ensures zero { IsTrue result → IsZeroAtAll walk.new.indexes }
-    ensures none { result ≡ false → NoneWith (with_graph graph.now (map constraint_of constraints.now))
-        (formula_of question.now) root.0 (candidates_of candidates.now) edges.now }
-    ensures walk { length walk.new.indexes ≡ category_count graph.now }
+    ensures none { result ≡ false → NoneWith
+        (with_graph question.now.graph.now (map constraint_of question.now.constraints.now))
+        (formula_of question.now.formula.now) question.now.root.0 (candidates_of question.now.candidates.now)
+        edges.now }
+    ensures walk { length walk.new.indexes ≡ category_count question.now.graph.now }
 {
-    close(graph, edges, rows);
-    if !is_sound(graph, root, edges, rows) {
+    close(question.graph, edges, rows);
+    if !is_sound(question.graph, question.root, edges, rows) {
         return false;
     }
-    walk.start(&rows[usize::from(root.0)]);
+    walk.start(&rows[usize::from(question.root.0)]);
     'names: loop {
         let names = walk.indexes();
-        if named(
-            graph,
-            constraints,
-            question,
-            candidates,
-            root,
-            edges,
-            names,
-            rows,
-        ) {
+        if named(question, edges, names, rows) {
             return true;
         }
-        if !walk.next(candidates) {
+        if !walk.next(question.candidates) {
             return false;
         }
     }
@@ -128,42 +120,33 @@ fn put_names(into: &mut List<u16>, names: &[u16])
 
 // The least frozen dimension, over this room.
 fn least(
-    graph: &Graph,
-    constraints: &[Constraint],
-    question: &Formula,
-    candidates: &Candidates,
-    root: CatId,
+    question: &Question,
     edges: &mut [bool],
     rows: &mut [Categories],
     walk: &mut NameWalk,
 ) -> bool
-    requires root { IsCategory graph.now root.0 }
-    requires rows { length rows.old ≡ category_count graph.now }
-    requires edges { length edges.old ≡ length graph.now.edges }
-    requires texts { length candidates.now.texts ≡ category_count graph.now }
-    requires walk { length walk.old.indexes ≡ category_count graph.now }
-    requires candidates { AreCandidates (with_graph graph.now (map constraint_of constraints.now))
-        (formula_of question.now) (candidates_of candidates.now) }
-    ensures some { IsTrue result → IsLeastFrozen (with_graph graph.now (map constraint_of constraints.now))
-        (formula_of question.now) root.0 (candidates_of candidates.now) (chosen_of edges.new walk.new.indexes) }
+    requires root { IsCategory question.now.graph.now question.now.root.0 }
+    requires rows { length rows.old ≡ category_count question.now.graph.now }
+    requires edges { length edges.old ≡ length question.now.graph.now.edges }
+    requires texts { length question.now.candidates.now.texts ≡ category_count question.now.graph.now }
+    requires walk { length walk.old.indexes ≡ category_count question.now.graph.now }
+    requires candidates { AreCandidates
+        (with_graph question.now.graph.now (map constraint_of question.now.constraints.now))
+        (formula_of question.now.formula.now) (candidates_of question.now.candidates.now) }
+    ensures some { IsTrue result → IsLeastFrozen
+        (with_graph question.now.graph.now (map constraint_of question.now.constraints.now))
+        (formula_of question.now.formula.now) question.now.root.0 (candidates_of question.now.candidates.now)
+        (chosen_of edges.new walk.new.indexes) }
     ensures zero { IsTrue result → IsZeroAtAll walk.new.indexes }
     ensures none { result ≡ false → (f : TheFrozen)
-        → IsFrozen (with_graph graph.now (map constraint_of constraints.now))
-        (formula_of question.now) root.0 (candidates_of candidates.now) f → ⊥ }
-    ensures walk { length walk.new.indexes ≡ category_count graph.now }
+        → IsFrozen (with_graph question.now.graph.now (map constraint_of question.now.constraints.now))
+        (formula_of question.now.formula.now) question.now.root.0 (candidates_of question.now.candidates.now)
+        f → ⊥ }
+    ensures walk { length walk.new.indexes ≡ category_count question.now.graph.now }
 {
     clear(edges, 0);
     'edges: loop {
-        if first_names(
-            graph,
-            constraints,
-            question,
-            candidates,
-            root,
-            edges,
-            rows,
-            walk,
-        ) {
+        if first_names(question, edges, rows, walk) {
             return true;
         }
         if !next_edges(edges) {
@@ -250,12 +233,15 @@ impl Search {
         ensures made { IsMadeWith graph.now (map constraint_of constraints.now) (formula_of question.now)
             self.old.root.0 self.new }
     {
-        let found = least(
+        let question = Question {
             graph,
             constraints,
-            question,
-            &self.candidates,
-            self.root,
+            formula: question,
+            root: self.root,
+            candidates: &self.candidates,
+        };
+        let found = least(
+            &question,
             &mut self.edges,
             &mut self.room.rows,
             &mut self.walk,

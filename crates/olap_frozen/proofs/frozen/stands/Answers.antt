@@ -8,8 +8,9 @@ returns-then-not-is_sound c = (
   λ e. absurd (cc),
   λ f. absurd (
       let a = c.args in
-      let s = sound_part a.graph.now (map constraint_of a.constraints.now)
-      (formula_of a.question.now) a.candidates.now a.root.0
+      let q = a.question.now in
+      let s = sound_part q.graph.now (map constraint_of q.constraints.now)
+      (formula_of q.formula.now) q.candidates.now q.root.0
       a.edges.now a.names.now c.close.ensures.hierarchy c.requires.root c.requires.sized c.requires.candidates f in
       let b = c.is_sound.ensures.1 s in
       let g = c.if-not-is_sound.true in let z : true ≡ false = sym b ∙ g in cc),
@@ -20,8 +21,9 @@ returns-then-not-are_absent_zero c = (
   λ e. absurd (cc),
   λ f. absurd (
       let a = c.args in
-      let s = absent_part a.graph.now (map constraint_of a.constraints.now)
-      (formula_of a.question.now) a.candidates.now a.root.0
+      let q = a.question.now in
+      let s = absent_part q.graph.now (map constraint_of q.constraints.now)
+      (formula_of q.formula.now) q.candidates.now q.root.0
       a.edges.now a.names.now c.close.ensures.hierarchy c.requires.root c.requires.sized c.requires.candidates f in
       let b = c.are_absent_zero.ensures.1 s in
       let g = c.if-not-are_absent_zero.true in let z : true ≡ false = sym b ∙ g in cc),

@@ -13,8 +13,9 @@ use Rattle.olap_plain.proofs.searching.first_names.Goals as goal
 pub returns-then-not-is_sound-clause-none : goal.returns-then-not-is_sound-clause-none
 returns-then-not-is_sound-clause-none c = λ t h e f.
     let a = c.args in
-    let s = frozen_sound a.graph.now (map constraint_of a.constraints.now)
-    (formula_of a.question.now) a.candidates.now a.root.0
+    let q = a.question.now in
+    let s = frozen_sound q.graph.now (map constraint_of q.constraints.now)
+    (formula_of q.formula.now) q.candidates.now q.root.0
     a.edges.now c.close.new.rows c.close.ensures.hierarchy c.requires.root h e f in
     let b = c.is_sound.ensures.1 s in
     let g = c.if-not-is_sound.true in absurd (let z : true ≡ false = sym b ∙ g in cc)
@@ -22,58 +23,63 @@ returns-then-not-is_sound-clause-none c = λ t h e f.
 pub names-init : goal.names-init
 names-init c =
     let a = c.args in
+    let q = a.question.now in
     let rows = c.close.new.rows in
     let i = c.from.ensures in
     let l = c.close.auto.rows in
     let k = c.requires.rows in
     let m = c.requires.root in
     let e = row_at rows c.from.result c.index-rows-from.result (omega arith) ∙ ap (row rows) i in
-    walking_start a.graph.now (map constraint_of a.constraints.now) (formula_of a.question.now) a.candidates.now
-    a.root.0
+    walking_start q.graph.now (map constraint_of q.constraints.now) (formula_of q.formula.now) q.candidates.now
+    q.root.0
     a.edges.now rows c.start.new.self (length a.walk.now.indexes) c.requires.walk
     (c.start.ensures.present ∙ ap (λ s. marks_of s (length a.walk.now.indexes)) e) c.start.ensures.indexes
 
 pub named-requires-clause-absent : goal.named-requires-clause-absent
 named-requires-clause-absent c =
     let a = c.args in
-    let is = present_is a.graph.now a.root.0 a.edges.now c.close.new.rows c.close.ensures.hierarchy c.requires.root
+    let q = a.question.now in
+    let is = present_is q.graph.now q.root.0 a.edges.now c.close.new.rows c.close.ensures.hierarchy c.requires.root
     c.close.ensures.rows (c.is_sound.ensures.0 c.if-not-is_sound.false) in
-    subst (λ xs. AreAbsentZero a.graph.now a.root.0 a.edges.now xs) (sym c.indexes-names.ensures)
-    (assigned_absent a.graph.now (map constraint_of a.constraints.now) (formula_of a.question.now) a.candidates.now
-    a.root.0
+    subst (λ xs. AreAbsentZero q.graph.now q.root.0 a.edges.now xs) (sym c.indexes-names.ensures)
+    (assigned_absent q.graph.now (map constraint_of q.constraints.now) (formula_of q.formula.now) q.candidates.now
+    q.root.0
     a.edges.now c.close.new.rows is c.names.walk.indexes c.names.invariant.assigned)
 
 pub returns-then-named-clause-some : goal.returns-then-named-clause-some
 returns-then-named-clause-some c = λ t.
     let a = c.args in
-    let is = present_is a.graph.now a.root.0 a.edges.now c.close.new.rows c.close.ensures.hierarchy c.requires.root
+    let q = a.question.now in
+    let is = present_is q.graph.now q.root.0 a.edges.now c.close.new.rows c.close.ensures.hierarchy c.requires.root
     c.close.ensures.rows (c.is_sound.ensures.0 c.if-not-is_sound.false) in
-    walking_found a.graph.now (map constraint_of a.constraints.now) (formula_of a.question.now) a.candidates.now
-    a.root.0
+    walking_found q.graph.now (map constraint_of q.constraints.now) (formula_of q.formula.now) q.candidates.now
+    q.root.0
     a.edges.now c.close.new.rows is c.names.walk c.names.invariant
-    (subst (λ xs. IsFrozen (with_graph a.graph.now (map constraint_of a.constraints.now))
-    (formula_of a.question.now) a.root.0
-    (candidates_of a.candidates.now) (chosen_of a.edges.now xs)) c.indexes-names.ensures
+    (subst (λ xs. IsFrozen (with_graph q.graph.now (map constraint_of q.constraints.now))
+    (formula_of q.formula.now) q.root.0
+    (candidates_of q.candidates.now) (chosen_of a.edges.now xs)) c.indexes-names.ensures
     (c.named.ensures.0 c.if-named.true))
 
 pub returns-then-named-clause-zero : goal.returns-then-named-clause-zero
 returns-then-named-clause-zero c = λ t.
     let a = c.args in
-    walking_zero a.graph.now (map constraint_of a.constraints.now) (formula_of a.question.now) a.candidates.now
-    a.root.0
+    let q = a.question.now in
+    walking_zero q.graph.now (map constraint_of q.constraints.now) (formula_of q.formula.now) q.candidates.now
+    q.root.0
     a.edges.now c.close.new.rows c.names.walk c.names.invariant
 
 pub returns-then-not-next-clause-none : goal.returns-then-not-next-clause-none
 returns-then-not-next-clause-none c = λ t.
     let a = c.args in
-    let is = present_is a.graph.now a.root.0 a.edges.now c.close.new.rows c.close.ensures.hierarchy c.requires.root
+    let q = a.question.now in
+    let is = present_is q.graph.now q.root.0 a.edges.now c.close.new.rows c.close.ensures.hierarchy c.requires.root
     c.close.ensures.rows (c.is_sound.ensures.0 c.if-not-is_sound.false) in
-    walking_ended a.graph.now (map constraint_of a.constraints.now) (formula_of a.question.now) a.candidates.now
-    a.root.0
+    walking_ended q.graph.now (map constraint_of q.constraints.now) (formula_of q.formula.now) q.candidates.now
+    q.root.0
     a.edges.now c.close.new.rows is c.names.walk c.names.invariant
     (λ f. let b = c.named.ensures.1
-    (subst (λ xs. IsFrozen (with_graph a.graph.now (map constraint_of a.constraints.now))
-    (formula_of a.question.now) a.root.0 (candidates_of a.candidates.now) (chosen_of a.edges.now xs))
+    (subst (λ xs. IsFrozen (with_graph q.graph.now (map constraint_of q.constraints.now))
+    (formula_of q.formula.now) q.root.0 (candidates_of q.candidates.now) (chosen_of a.edges.now xs))
     (sym c.indexes-names.ensures) f) in
     let g = c.if-named.false in let z : true ≡ false = sym b ∙ g in cc)
     (c.next.ensures.last c.if-not-next.true)
@@ -81,19 +87,21 @@ returns-then-not-next-clause-none c = λ t.
 pub names-smaller : goal.names-smaller
 names-smaller c =
     let a = c.args in
-    walking_falls a.graph.now (map constraint_of a.constraints.now) (formula_of a.question.now) a.candidates.now
-    a.root.0
+    let q = a.question.now in
+    walking_falls q.graph.now (map constraint_of q.constraints.now) (formula_of q.formula.now) q.candidates.now
+    q.root.0
     a.edges.now c.close.new.rows c.names.walk c.next.new.self c.names.invariant c.next.ensures.present
     (c.next.ensures.next c.if-not-next.false)
 
 pub names-preserved : goal.names-preserved
 names-preserved c =
     let a = c.args in
-    walking_next a.graph.now (map constraint_of a.constraints.now) (formula_of a.question.now) a.candidates.now a.root.0
+    let q = a.question.now in
+    walking_next q.graph.now (map constraint_of q.constraints.now) (formula_of q.formula.now) q.candidates.now q.root.0
     a.edges.now c.close.new.rows c.names.walk c.next.new.self c.names.invariant c.next.ensures.present
     (c.next.ensures.next c.if-not-next.false)
     (λ f. let b = c.named.ensures.1
-    (subst (λ xs. IsFrozen (with_graph a.graph.now (map constraint_of a.constraints.now))
-    (formula_of a.question.now) a.root.0 (candidates_of a.candidates.now) (chosen_of a.edges.now xs))
+    (subst (λ xs. IsFrozen (with_graph q.graph.now (map constraint_of q.constraints.now))
+    (formula_of q.formula.now) q.root.0 (candidates_of q.candidates.now) (chosen_of a.edges.now xs))
     (sym c.indexes-names.ensures) f) in
     let g = c.if-named.false in let z : true ≡ false = sym b ∙ g in cc)

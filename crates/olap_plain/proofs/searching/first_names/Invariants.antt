@@ -6,8 +6,8 @@ use Rattle.olap_plain.proofs.SearchLemmas.{IsWalking}
 use Rattle.olap_plain.proofs.searching.first_names.Given as goal
 
 abbrev pub invariant-names : goal.invariant-names
-invariant-names l = IsWalking l.graph (map constraint_of l.constraints) (formula_of l.question) l.candidates l.root.0
-    l.edges l.rows l.walk
+invariant-names l = let q = l.question in IsWalking q.graph.now (map constraint_of q.constraints.now)
+    (formula_of q.formula.now) q.candidates.now q.root.0 l.edges l.rows l.walk
 
 abbrev pub decreases-names : goal.decreases-names
-decreases-names l = left (limit l.candidates.texts l.walk.present) l.walk.indexes
+decreases-names l = left (limit l.question.candidates.now.texts l.walk.present) l.walk.indexes

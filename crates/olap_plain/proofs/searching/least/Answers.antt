@@ -6,26 +6,29 @@ use Rattle.olap_plain.proofs.searching.least.Goals as goal
 
 pub edges-init : goal.edges-init
 edges-init c =
-    let a = c.args in record {
-      none = earlier_start (with_graph a.graph.now (map constraint_of a.constraints.now))
-          (formula_of a.question.now) a.root.0
-          (candidates_of a.candidates.now) c.clear.new.edges (λ e. c.clear.ensures.cleared e (omega arith));
+    let a = c.args in
+    let q = a.question.now in record {
+      none = earlier_start (with_graph q.graph.now (map constraint_of q.constraints.now))
+          (formula_of q.formula.now) q.root.0
+          (candidates_of q.candidates.now) c.clear.new.edges (λ e. c.clear.ensures.cleared e (omega arith));
       walk = c.requires.walk;
     }
 
 pub returns-then-first_names-clause-some : goal.returns-then-first_names-clause-some
 returns-then-first_names-clause-some c = λ t.
     let a = c.args in
-    earlier_found (with_graph a.graph.now (map constraint_of a.constraints.now)) (formula_of a.question.now) a.root.0
-    (candidates_of a.candidates.now) c.edges.edges c.first_names.new.walk.indexes
+    let q = a.question.now in
+    earlier_found (with_graph q.graph.now (map constraint_of q.constraints.now)) (formula_of q.formula.now) q.root.0
+    (candidates_of q.candidates.now) c.edges.edges c.first_names.new.walk.indexes
     (c.edges.auto.edges ∙ c.clear.auto.edges ∙ c.requires.edges) (c.first_names.ensures.some c.if-first_names.true)
     c.edges.invariant.none c.requires.candidates
 
 pub returns-then-not-next_edges-clause-none : goal.returns-then-not-next_edges-clause-none
 returns-then-not-next_edges-clause-none c = λ t.
     let a = c.args in
-    earlier_last (with_graph a.graph.now (map constraint_of a.constraints.now)) (formula_of a.question.now) a.root.0
-    (candidates_of a.candidates.now) c.edges.edges (c.edges.auto.edges ∙ c.clear.auto.edges ∙ c.requires.edges)
+    let q = a.question.now in
+    earlier_last (with_graph q.graph.now (map constraint_of q.constraints.now)) (formula_of q.formula.now) q.root.0
+    (candidates_of q.candidates.now) c.edges.edges (c.edges.auto.edges ∙ c.clear.auto.edges ∙ c.requires.edges)
     (c.next_edges.ensures.last c.if-not-next_edges.true) (c.first_names.ensures.none c.if-first_names.false)
     c.edges.invariant.none
 
@@ -34,10 +37,11 @@ edges-smaller c = edges_fall c.edges.edges c.next_edges.new.edges (c.next_edges.
 
 pub edges-preserved : goal.edges-preserved
 edges-preserved c =
-    let a = c.args in record {
-      none = earlier_next (with_graph a.graph.now (map constraint_of a.constraints.now))
-          (formula_of a.question.now) a.root.0
-          (candidates_of a.candidates.now) c.edges.edges c.next_edges.new.edges
+    let a = c.args in
+    let q = a.question.now in record {
+      none = earlier_next (with_graph q.graph.now (map constraint_of q.constraints.now))
+          (formula_of q.formula.now) q.root.0
+          (candidates_of q.candidates.now) c.edges.edges c.next_edges.new.edges
           (c.edges.auto.edges ∙ c.clear.auto.edges ∙ c.requires.edges)
           (c.next_edges.ensures.next c.if-not-next_edges.false) (c.first_names.ensures.none c.if-first_names.false)
           c.edges.invariant.none;

@@ -8,10 +8,10 @@ use Rattle.olap_plain.proofs.SearchLemmas.{NoneEarlier}
 use Rattle.olap_plain.proofs.searching.least.Given as goal
 
 abbrev pub invariant-edges : goal.invariant-edges
-invariant-edges l = record {
-  none : NoneEarlier (with_graph l.graph (map constraint_of l.constraints)) (formula_of l.question) l.root.0
-      (candidates_of l.candidates) l.edges;
-  walk : length l.walk.indexes ≡ category_count l.graph;
+invariant-edges l = let q = l.question in record {
+  none : NoneEarlier (with_graph q.graph.now (map constraint_of q.constraints.now))
+      (formula_of q.formula.now) q.root.0 (candidates_of q.candidates.now) l.edges;
+  walk : length l.walk.indexes ≡ category_count q.graph.now;
 }
 
 abbrev pub decreases-edges : goal.decreases-edges
