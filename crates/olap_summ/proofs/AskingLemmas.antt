@@ -37,7 +37,7 @@ pub none_named : {E : Type 0} (s : Schema) (q : Formula) (search : Search) (r : 
 none_named s q search r frozen (Ok (Some found)) made at none is one =
     some_is found (IsNowhere s q r) (somewhere s q r found made.valid.hierarchy one)
 none_named {E = E} s q search r frozen (Ok None) made at none is one =
-    none_is Found (IsNowhere s q r) (nowhere s q r (candidates_in search) made.valid.hierarchy made.task.candidates
+    none_is Found (IsNowhere s q r) (nowhere s q r (candidates_in search) made.valid.hierarchy made.task.question.candidates
     (subst (λ x. NoneFrozen s q x (candidates_in search)) at
     (subst (λ (o : Result (Option Frozen) E). IfOk o (λ w. IsNone w
     → NoneFrozen s q (root_of search) (candidates_in search)))

@@ -238,7 +238,7 @@ pub none_more : (s : Schema) (q : Formula) (old xs : List Asked) (k : ℕ) (d : 
 none_more s q old xs k d t h none before =
     let is = t.asked k d h in
     let here = nowhere s q (root_of (get_or xs k d).search) (candidates_in (get_or xs k d).search)
-    is.made.valid.hierarchy is.made.task.candidates none in
+    is.made.valid.hierarchy is.made.task.question.candidates none in
     until (λ j. IsNowhere s q (slice_index (roots_of old) j)) k before
     (subst (IsNowhere s q) (is.root ∙ sym (root_at xs k d h) ∙ ap (λ l. slice_index l k) t.roots) here)
 

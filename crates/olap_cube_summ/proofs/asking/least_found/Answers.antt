@@ -17,7 +17,7 @@ first_in-found-requires-clause-some c = λ none.
     some_found s c.args.question.now c.args.patterns.now f (about_same c.args.question.now.target.0
     (λ column. IsInside c.args.question.now.target.0 column c.args.patterns.now) f c.items.result.now
     c.args.question.now.sources c.items.ensures c.in_ok-formula.ensures) c.args.root.0 k
-    c.in_ok-search.ensures.made.task.candidates c.requires.some
+    c.in_ok-search.ensures.made.task.question.candidates c.requires.some
     (subst (λ r. NoneFrozen s f r k) c.in_ok-search.ensures.root none)
 
 pub returns : goal.returns

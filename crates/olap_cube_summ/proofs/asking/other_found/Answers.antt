@@ -22,7 +22,7 @@ returns-clause-none c =
     (λ none. all_known s q c.args.patterns.now f (about_same q.target.0
     (λ column. IsOutside q.target.0 column c.args.patterns.now) f c.items.result.now
     q.sources c.items.ensures c.in_ok-formula.ensures) c.args.root.0 k
-    c.in_ok-search.ensures.made.task.candidates
+    c.in_ok-search.ensures.made.task.question.candidates
     (subst (λ r. NoneFrozen s f r k) c.in_ok-search.ensures.root none))
 
 pub returns-clause-some : goal.returns-clause-some
