@@ -1,7 +1,6 @@
 -- One member more, which gives a row or none.
-use Rattle.std.proofs.Common.{◌≡◌, ◌<◌, ℕ, ◌∷◌, [], List, length, true, false, Option, Some, None, refl, ap, sym, subst, ◌∙◌, arith}
-use Rattle.std.specs.Prelude.{◌==◌, All, filter, filter_map}
-use Rattle.std.specs.List.{range_with_len}
+use Rattle.std.proofs.Common.{◌<◌, ℕ, ◌∷◌, [], List, length, true, false, Option, Some, None, refl, ap, sym, subst, ◌∙◌, arith}
+use Rattle.std.specs.Prelude.{◌==◌, All}
 use Rattle.std.specs.Option.{option_map}
 use Rattle.std.proofs.lemmas.List.{map-append}
 use Rattle.std.proofs.lemmas.List.Elements.{All-push}
@@ -58,19 +57,3 @@ rows-preserved c =
             (sym (ap (λ v. v.items) w.rows-is)) members;
       }
     ]
-
-pub returns-clause-view : goal.returns-clause-view
-returns-clause-view c =
-    let i = c.args.instance.now in
-    let h : ℕ → Option Row = λ y. row_at y (summary_at c.args.self.now y) in
-    let p = λ (y : ℕ). category_of i y == c.args.c.0 in
-    let all : c.rows.y ≡ length c.args.instance.now = let t = c.rows-test.false in let a = c.rows.auto.y-end in
-    let m = c.members-y-end.ensures.count in omega arith in
-    ap (λ (rows : List Row). record { category = c.args.c.0; rows = rows })
-    (ap rows_of c.from_vec.ensures ∙ c.rows.invariant.so_far
-    ∙ ap (λ n. filter_map h (filter p (range_with_len 0 n))) all)
-
-pub returns-clause-members : goal.returns-clause-members
-returns-clause-members c =
-    subst (λ (l : List told.Row). All (λ r. r.member.0 < length c.args.instance.now) l) (sym c.from_vec.ensures)
-    c.rows.invariant.members
