@@ -26,7 +26,7 @@ OTHERS = {
     "olap_pool": {"256": "the room with which a pool is full"},
     "olap_patterns": {"256": "the masks over eight sources"},
     "olap_generate": {"64": "the stores for each group of cities"},
-    "olap_prove": {"256": "the share of the greatest score at which scores begin anew"},
+    "olap_draft": {"256": "the share of the greatest score at which scores begin anew"},
 }
 
 # A number that is read as a limit has two digits at least: smaller ones mean too much else.

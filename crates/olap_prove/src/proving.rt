@@ -8,9 +8,8 @@ ghost use Rattle.olap_schema.specs.Schemas.{schema_of};
 ghost use Rattle.olap_ast.specs.Trees.{numbers_of};
 ghost use Rattle.olap_summ.specs.declared.summarizing.SummRefusal.TheVariants as refusal;
 
-use crate::drafting::draft;
-use crate::trees::NoTree;
 use olap_base::{CatId, Memory, Text};
+use olap_draft::{NoDraft, draft};
 use olap_frozen::Found;
 use olap_proof::{Form, VerifyRefusal, plain_certificate, verify};
 use olap_schema::Schema;
@@ -41,8 +40,8 @@ fn accepted_draft(
 {
     let text = match draft(alloc, schema, form, target, sources) {
         Ok(text) => text,
-        Err(NoTree::Memory) => return Err(Memory),
-        Err(NoTree::GivenUp) => return Ok(None),
+        Err(NoDraft::Memory) => return Err(Memory),
+        Err(NoDraft::GivenUp) => return Ok(None),
     };
     match verify(alloc, schema, form, target, sources, &text) {
         Ok(()) => Ok(Some(text)),

@@ -1,7 +1,8 @@
 // Summary tables: stored views are read in, changed member by member, and read out.
-ghost use Rattle.std.specs.Prelude.{◌≡◌, ◌≢◌, ◌==◌, ◌<◌, ◌^◌, ℕ, All, AllPairs, Contains, IfOk, IfSome, IsNone, None, Some, if◌then◌else◌, length, map, slice_index};
+ghost use Rattle.std.specs.Prelude.{◌≡◌, ◌≢◌, ◌==◌, ◌<◌, ◌≤◌, ◌^◌, ℕ, All, AllPairs, Contains, IfOk, IfSome, IsNone, None, Some, if◌then◌else◌, length, map, slice_index};
 ghost use Rattle.std.specs.Option.{option_map, option_or};
 ghost use Rattle.olap_base.specs.Instance.{ReachesCategory};
+ghost use Rattle.olap_base.specs.Limits.{most_members};
 ghost use Rattle.olap_base.specs.Reaching.{reaches};
 ghost use Rattle.olap_base.specs.Summaries.{◌⊕◌};
 ghost use Rattle.olap_legal.specs.Ancestors.{IsAncestor};
@@ -65,6 +66,7 @@ impl<'a> SummaryTable<'a> {
         ensures instance { IfOk result (λ t. t.instance ≡ legal.now) }
         ensures categories { IfOk result (λ t. t.categories ≡ ids categories.now) }
         ensures empty { IfOk result (λ t. (y : ℕ) → IsAmong t.instance t.categories y → stands_at t y ≡ None) }
+        ensures few { IfOk result (λ t. length t.instance ≤ most_members) }
     {
         Ok(SummaryTable {
             alloc,

@@ -76,8 +76,6 @@ pub fn from_views(
         ≡ record { category = c.0; rows = rows_from_views legal.now c.0 (chosen (views_of store.now) mask) }) }
     ensures members { IfOk result (λ v. All (λ r. r.member.0 < length legal.now) v.rows) }
 {
-    // How many members there may be bounds how many rows a view has.
-    legal.instance().members();
     let mut table = SummaryTable::new(alloc, legal, &[c])?;
     'views: for (k, view) in store.views.items().iter().enumerate() {
         if has_bit(mask, k) {

@@ -95,7 +95,7 @@ join_rows-requires-clause-short c =
     short c.args.legal.now views c.views.k v c.items.result.now
     (inside views c.items-view-items.result.now c.views.k v same c.views-test.true)
     (here views c.items-view-items.result.now c.views.k v same c.view-item.is) c.requires.store.members
-    c.requires.at_members (rw c.instance.ensures at c.members.ensures.few) c.items.ensures
+    c.requires.at_members (rw c.in_ok-table.ensures.instance at c.in_ok-table.ensures.few) c.items.ensures
 
 pub views-preserved : goal.views-preserved
 views-preserved c =
@@ -120,7 +120,7 @@ views-preserved c =
           let stored : All IsStored (rows_of v.rows) = each_view Fits views k v h e c.requires.fit in
           let size : length v.rows ≤ most_members =
           short i views k v v.rows h e c.requires.store.members c.requires.at_members
-          (rw c.instance.ensures at c.members.ensures.few) refl in
+          (rw c.in_ok-table.ensures.instance at c.in_ok-table.ensures.few) refl in
           record {
             instance = ap (λ t. t.instance) w.table-is ∙ j.instance ∙ inv.instance;
             categories = ap (λ t. t.categories) w.table-is ∙ j.categories ∙ inv.categories;

@@ -21,3 +21,6 @@ invariant_of-result c =
 pub returns-clause-empty : goal.returns-clause-empty
 returns-clause-empty c = λ y m.
     summarized_is c.args.legal.now c.in_ok-new.field-0 y m.member ∙ c.in_ok-new.ensures.empty y
+
+pub returns-clause-few : goal.returns-clause-few
+returns-clause-few c = rw c.instance.ensures at c.in_ok-new.ensures.few

@@ -2,7 +2,7 @@
 use crate::searches::Search;
 use crate::steps::Words;
 use crate::tasks::{Asked, Task};
-use crate::trees::NoTree;
+use crate::trees::NoDraft;
 use olap_ast::Formula;
 use olap_base::CatId;
 use olap_names::Candidates;
@@ -14,7 +14,7 @@ use std::alloc::Global;
 const TRIES: u32 = 1 << 20;
 
 /// Appends the tree that the search finds.
-fn push_found(asked: &Asked, search: &mut Search, out: &mut Vec<u8>) -> Result<(), NoTree> {
+fn push_found(asked: &Asked, search: &mut Search, out: &mut Vec<u8>) -> Result<(), NoDraft> {
     let tree = search.run()?;
     search
         .trees
@@ -27,19 +27,19 @@ fn push_searched(
     asked: &Asked,
     task: &Task,
     out: &mut Vec<u8>,
-) -> Result<(), NoTree> {
+) -> Result<(), NoDraft> {
     let mut search = Search::new(alloc, task, TRIES)?;
     push_found(asked, &mut search, out)
 }
 
 /// Appends the tree of a bottom category.
-fn push_below(alloc: Global, asked: &Asked, root: CatId, out: &mut Vec<u8>) -> Result<(), NoTree> {
+fn push_below(alloc: Global, asked: &Asked, root: CatId, out: &mut Vec<u8>) -> Result<(), NoDraft> {
     let task = Task::new(alloc, asked, root)?;
     push_searched(alloc, asked, &task, out)
 }
 
 /// Appends a draft: a tree for each bottom category.
-fn push_draft(alloc: Global, asked: &Asked, out: &mut Vec<u8>) -> Result<(), NoTree> {
+fn push_draft(alloc: Global, asked: &Asked, out: &mut Vec<u8>) -> Result<(), NoDraft> {
     let graph = asked.words.graph;
     push_head(out, asked.form)?;
     'categories: for b in 1..graph.categories() {
@@ -53,20 +53,24 @@ fn push_draft(alloc: Global, asked: &Asked, out: &mut Vec<u8>) -> Result<(), NoT
 }
 
 /// The text of a draft.
-fn draft_of(alloc: Global, asked: &Asked) -> Result<Vec<u8>, NoTree> {
+fn draft_of(alloc: Global, asked: &Asked) -> Result<Vec<u8>, NoDraft> {
     let mut out = Vec::new(alloc);
     push_draft(alloc, asked, &mut out)?;
     Ok(out)
 }
 
-/// The text of what may be a certificate of that form, if a tree is found for each bottom category.
-pub(crate) fn draft<'a>(
+/// A text that may be a certificate of that form, of why the target is summarizable from the sources: a tree for each
+/// bottom category.
+///
+/// `GivenUp`: for some bottom category no tree was found with a million tries, or it has more than four million lines;
+/// it may be that there is none. `Memory`: out of memory.
+pub fn draft<'a>(
     alloc: Global,
     schema: &'a Schema,
     form: Form,
     target: CatId,
     sources: &'a [CatId],
-) -> Result<Vec<u8>, NoTree> {
+) -> Result<Vec<u8>, NoDraft> {
     let graph = schema.graph();
     let constraints = schema.constraints();
     // The question of summarizability has no constants.

@@ -8,7 +8,7 @@ use Rattle.olap_ast.proofs.SourceLemmas.{no_more_constants}
 use Rattle.olap_names.specs.Names.{with_graph}
 use Rattle.olap_names.proofs.NameableLemmas.{can_be_named}
 use Rattle.olap_schema.specs.Schemas.{schema_of}
-use Rattle.olap_prove.proofs.drafting.draft.Goals as goal
+use Rattle.olap_draft.proofs.drafting.draft.Goals as goal
 
 pub of-requires : goal.of-requires
 of-requires c =

@@ -1,6 +1,6 @@
 -- The measure is how many variables may still be split by, and within that how far a call has come.
 use Rattle.std.proofs.Common.{◌+◌, ◌*◌}
-use Rattle.olap_prove.proofs.searches.Search.+refuting.Given as goal
+use Rattle.olap_draft.proofs.searches.Search.+refuting.Given as goal
 
 abbrev pub decreases-refute : goal.decreases-refute
 decreases-refute l = 3 * l.depth + 2

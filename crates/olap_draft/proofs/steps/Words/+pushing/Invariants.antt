@@ -2,7 +2,7 @@
 use Rattle.std.proofs.Common.{◌+◌, ◌*◌, ◌≤◌}
 use Rattle.olap_ast.specs.Trees.{formula_of, terms_of}
 use Rattle.olap_ast.specs.Valid.{node_count, node_count_of_terms}
-use Rattle.olap_prove.proofs.steps.Words.+pushing.Given as goal
+use Rattle.olap_draft.proofs.steps.Words.+pushing.Given as goal
 
 abbrev pub decreases-push : goal.decreases-push
 decreases-push l = 2 * node_count (formula_of l.f.now)

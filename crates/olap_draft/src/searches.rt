@@ -6,7 +6,7 @@ use crate::rows::with;
 use crate::shapes::Shape;
 use crate::steps::Step;
 use crate::tasks::{Task, Variable};
-use crate::trees::{NoTree, Trees};
+use crate::trees::{NoDraft, Trees};
 use olap_ast::Truth3;
 use olap_base::Memory;
 use olap_graph::Categories;
@@ -110,7 +110,7 @@ impl<'a> Search<'a> {
     }
 
     /// A tree below the root.
-    pub(crate) fn run(&mut self) -> Result<usize, NoTree> {
+    pub(crate) fn run(&mut self) -> Result<usize, NoDraft> {
         self.shape.refresh(self.task);
         self.refute(self.task.choices.len())
     }
@@ -156,7 +156,7 @@ impl<'a> Search<'a> {
     }
 
     /// The tree of one line that closes: of a few the one that needs the fewest decisions.
-    fn leaf(&mut self) -> Result<usize, NoTree> {
+    fn leaf(&mut self) -> Result<usize, NoDraft> {
         let mut best = None;
         let mut from = 0;
         'leaves: for _ in 0..MOST_LEAVES {
@@ -173,7 +173,7 @@ impl<'a> Search<'a> {
         }
         match best {
             Some(line) => Ok(self.trees.add(line, &[])?),
-            None => Err(NoTree::GivenUp),
+            None => Err(NoDraft::GivenUp),
         }
     }
 
@@ -321,16 +321,16 @@ impl<'a> Search<'a> {
 
     /// A tree that splits by a variable, or that of a case which doesn't need it.
     #[cycle(refuting)]
-    fn split(&mut self, depth: usize) -> Result<usize, NoTree> {
+    fn split(&mut self, depth: usize) -> Result<usize, NoDraft> {
         if depth == 0 || self.left == 0 {
-            return Err(NoTree::GivenUp);
+            return Err(NoDraft::GivenUp);
         }
         match self.pick() {
             Some(variable) => {
                 let mut cases = Cases::new(self.alloc);
                 self.refute_cases(variable, depth - 1, &mut cases)
             }
-            None => Err(NoTree::GivenUp),
+            None => Err(NoDraft::GivenUp),
         }
     }
 
@@ -341,7 +341,7 @@ impl<'a> Search<'a> {
         variable: usize,
         depth: usize,
         cases: &mut Cases,
-    ) -> Result<usize, NoTree> {
+    ) -> Result<usize, NoDraft> {
         let task = self.task;
         let length = self.shape.decided.count();
         'values: for value in 0..task.values(variable) {
@@ -359,7 +359,7 @@ impl<'a> Search<'a> {
 
     /// A tree for what is decided. It calls itself at most as deep as there are variables.
     #[cycle(refuting)]
-    fn refute(&mut self, depth: usize) -> Result<usize, NoTree> {
+    fn refute(&mut self, depth: usize) -> Result<usize, NoDraft> {
         let start = self.shape.decided.count();
         let tree = if self.force() {
             self.leaf()?
@@ -371,7 +371,7 @@ impl<'a> Search<'a> {
     }
 
     /// The tree with a split for each decision that was forced and that it needs, the last first. They are taken back.
-    fn unforce(&mut self, start: usize, tree: usize) -> Result<usize, NoTree> {
+    fn unforce(&mut self, start: usize, tree: usize) -> Result<usize, NoDraft> {
         let mut tree = tree;
         'forced: for place in (start..self.shape.decided.count()).rev() {
             let forced = self.shape.decided.decision(place);
@@ -385,7 +385,7 @@ impl<'a> Search<'a> {
     }
 
     /// The tree that splits by the variable of a decision: a leaf closes after that decision, and this tree otherwise.
-    fn split_off(&mut self, decision: Decision, tree: usize) -> Result<usize, NoTree> {
+    fn split_off(&mut self, decision: Decision, tree: usize) -> Result<usize, NoDraft> {
         let variable = decision.variable;
         swap(&mut self.reason, &mut self.above);
         self.shape.decide(self.task, decision);

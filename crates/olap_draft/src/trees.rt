@@ -8,24 +8,24 @@ use std::alloc::{AllocError, Global};
 /// How many lines of a tree are written.
 const MOST_LINES: u32 = 1 << 22;
 
-/// Why there is no tree.
+/// Why there is no draft.
 #[derive(Clone, Copy)]
-pub(crate) enum NoTree {
+pub enum NoDraft {
     /// Out of memory.
     Memory,
-    /// None was found with so many tries, or it has too many lines.
+    /// A tree wasn't found with so many tries, or it has too many lines.
     GivenUp,
 }
 
-impl From<Memory> for NoTree {
+impl From<Memory> for NoDraft {
     fn from(_: Memory) -> Self {
-        NoTree::Memory
+        NoDraft::Memory
     }
 }
 
-impl From<AllocError> for NoTree {
+impl From<AllocError> for NoDraft {
     fn from(_: AllocError) -> Self {
-        NoTree::Memory
+        NoDraft::Memory
     }
 }
 
@@ -84,7 +84,7 @@ impl Trees {
         constraints: &[Constraint],
         tree: usize,
         out: &mut Vec<u8>,
-    ) -> Result<(), NoTree> {
+    ) -> Result<(), NoDraft> {
         let mut next = tree;
         'lines: for _ in 0..MOST_LINES {
             if next >= self.nodes.len() {
@@ -100,6 +100,6 @@ impl Trees {
                 None => return Ok(()),
             }
         }
-        Err(NoTree::GivenUp)
+        Err(NoDraft::GivenUp)
     }
 }

@@ -1,0 +1,18 @@
+//! Drafts of certificates, by a search of which nothing is promised.
+//!
+//! A draft is a text that may be a certificate; whoever asks for one has it verified. Nothing is proved here but that each
+//! call returns, and does no harm.
+#![tactic(auto)]
+
+mod activities;
+mod decided;
+mod drafting;
+mod rows;
+mod searches;
+mod shapes;
+mod steps;
+mod tasks;
+mod trees;
+
+pub use drafting::draft;
+pub use trees::NoDraft;
