@@ -1,10 +1,10 @@
 -- What it tells that a record, or a piece of a field of parents, fails no check.
-use Rattle.std.proofs.Common.{◌≡◌, ◌≢◌, ◌+◌, ◌<◌, ◌≤◌, ◌==◌, ◌||◌, ◌∷◌, ◌∙◌, not, Bool, cond, true, false, ℕ, ℤ, zero, suc, List, [], length, map, take, codes, get_or, length-take, Option, Some, None, if◌then◌else◌, refl, sym, ap, arith}
+use Rattle.std.proofs.Common.{◌≡◌, ◌≢◌, ◌+◌, ◌<◌, ◌≤◌, ◌==◌, ◌||◌, ◌++◌, ◌∷◌, ◌∙◌, not, Bool, cond, true, false, ℕ, ℤ, zero, suc, List, [], length, map, take, codes, get_or, length-take, Option, Some, None, if◌then◌else◌, refl, sym, ap, arith}
 use Rattle.std.specs.Prelude.{AllPairs, Contains, IsSome, IsTrue, is_none, is_some, nat_le, nat_lt}
 use Rattle.std.specs.List.{list_any, position_from}
 use Rattle.std.specs.Option.{option_map}
 use Rattle.std.specs.Str.{bytes_eq}
-use Rattle.std.proofs.lemmas.List.{get_or-map, get_or-take, length-map}
+use Rattle.std.proofs.lemmas.List.{get_or-map, get_or-take, length-map, take_more}
 use Rattle.std.proofs.lemmas.Option.{slice_get-get_or}
 use Rattle.std.proofs.lemmas.Slice.Eq.{bytes_eq-Decides}
 use Rattle.olap_base.specs.Graph.{Graph, is_number}
@@ -101,6 +101,12 @@ number-good true name h = by (number_of name) (h refl)
 pub kind-at : (g : Graph) (c : ℕ) → get_or (numbers_in g) c false ≡ is_number g c
 kind-at g zero = refl
 kind-at g (suc c) = refl
+
+-- the kind of one category more
+pub kinds-more : (g : Graph) (c : ℕ) (kinds now : List Bool) (k : Bool) → c < length (numbers_in g)
+    → kinds ≡ take c (numbers_in g) → k ≡ is_number g c → now ≡ kinds ++ k ∷ [] → now ≡ take (c + 1) (numbers_in g)
+kinds-more g c kinds now k l e ek en =
+    en ∙ rw (e, ek, ← kind-at g c) (sym (take_more (numbers_in g) c false l))
 
 -- an id that isn't known is neither `all` nor that of an earlier record
 pub fresh-parts : (before : List (List (List ℕ))) (id : List ℕ) → is_known before id ≡ false

@@ -107,17 +107,17 @@ reads-same ids [] = refl
 reads-same ids (r ∷ rows) = ap (λ (ps : List (List ℕ)). parents_read ids r ∷ ps) (reads-same ids rows)
 
 -- what is found of the fields of records is found of the records
-pub of-records : (ids : List (List ℕ)) (rows : List (List (List ℕ))) (fields : List (List ℕ))
-    → fields ≡ map parents_field rows → (result : Result (List (List MemberId)) InstanceRefusal)
-    → MatchResult result (λ v. FieldsPass ids fields (parents_in v))
+pub of-records : {T : Type 0} (ids : List (List ℕ)) (rows : List (List (List ℕ))) (fields : List (List ℕ))
+    (parents : List (List ℕ)) → fields ≡ map parents_field rows → (result : Result T InstanceRefusal)
+    → MatchResult result (λ _. FieldsPass ids fields parents)
     (λ e. IsFaultCause (first_fault (field_fault ids) [] fields) e)
-    → MatchResult result (λ v. PassesSecond ids rows (parents_in v))
+    → MatchResult result (λ _. PassesSecond ids rows parents)
     (λ e. IsFaultCause (first_fault (parents_fault ids) [] rows) e)
-of-records ids rows fields e (Ok v) h =
+of-records ids rows fields parents e (Ok v) h =
     let none : first_fault (field_fault ids) [] (map parents_field rows) ≡ None =
     ap (first_fault (field_fault ids) []) (sym e) ∙ h.0 in
     (sym (faults-same ids [] [] rows refl) ∙ none, h.1 ∙ ap (map (field_read ids)) e ∙ reads-same ids rows)
-of-records ids rows fields e (Err x) h =
+of-records ids rows fields parents e (Err x) h =
     let same : first_fault (field_fault ids) [] fields ≡ first_fault (parents_fault ids) [] rows =
     ap (first_fault (field_fault ids) []) e ∙ faults-same ids [] [] rows refl in
     rw (← same) h

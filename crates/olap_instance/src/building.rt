@@ -1,11 +1,14 @@
 // Instances in the making.
-ghost use Rattle.std.specs.Prelude.{◌≡◌, ◌↔◌, ◌<◌, ◌∷◌, ◌++◌, [], ℕ, Contains, None, false, length, map, slice_index_or, unwrap_or, IfErr, IfOk, IfSome, IsErrOf, IsTrue, OnErr, OnOk};
+ghost use Rattle.std.specs.Prelude.{◌≡◌, ◌↔◌, ◌<◌, ◌∷◌, ◌++◌, [], ℕ, Contains, None, codes, false, length, map, slice_index_or, unwrap_or, IfErr, IfOk, IfSome, IsErrOf, IsTrue, OnErr, OnOk};
 ghost use Rattle.std.specs.Str.{is_utf8};
 ghost use Rattle.olap_base.specs.Graph.{Graph, category_count};
+ghost use Rattle.olap_base.specs.Limits.{most_members};
+ghost use Rattle.olap_base.specs.Naming.{place_of};
 ghost use Rattle.olap_instance.specs.DraftInside.{number_of, parents_told};
 ghost use Rattle.olap_instance.specs.Drafts.{Draft, HasParent, IsMemberCause, has_numbers, instance_built, member_refusal, named_refusal, no_members, numbers_in, places_of, with_member, with_parent};
 ghost use Rattle.olap_instance.specs.Made.{IsMadeFor};
-ghost use Rattle.olap_instance.specs.Passes.{parents_in};
+ghost use Rattle.olap_instance.specs.Members.{all_member, childless};
+ghost use Rattle.olap_instance.specs.Passes.{ids_in, parents_in};
 ghost use Rattle.olap_instance.specs.declared.refusals.ParentRefusal.TheVariants as of_parent;
 
 use crate::hashing::KeyedHash;
@@ -65,20 +68,26 @@ fn link(
     Ok(())
 }
 
-// The parents of all members, and none for `all`.
-fn linked(
-    alloc: Global,
+// Adds `all` to the members, and puts the parents of each, and none for `all`, into lists.
+fn complete(
+    roster: &mut Roster,
+    lists: &mut Lists<MemberId>,
     parents: &[Vec<Option<MemberId>>],
-    all: MemberId,
-) -> Result<Lists<MemberId>, Memory>
-    ensures { IfOk result (λ v. parents_in v ≡ map (places_of all.0) (parents_told parents.now) ++ [] ∷ []) }
+) -> Result<(), Memory>
+    requires absent { place_of (codes "all") (ids_in roster.old) ≡ None }
+    requires few { length roster.old < most_members }
+    requires lists { lists.old ≡ [] }
+    ensures members { OnOk result (roster.new ≡ roster.old ++ all_member ∷ []) }
+    ensures parents { OnOk result (parents_in lists.new
+        ≡ map (places_of (length roster.old)) (parents_told parents.now) ++ [] ∷ []) }
 {
-    let mut lists = Lists::with_room(alloc, parents.len())?;
+    let all = MemberId(roster.len() as u32);
+    lists.reserve(parents.len())?;
     'lists: for list in parents {
-        link(&mut lists, list, all)?;
+        link(lists, list, all)?;
     }
     lists.begin()?;
-    Ok(lists)
+    roster.add_all()
 }
 
 // For each category whether names are numbers.
@@ -132,17 +141,40 @@ fn refusal(
     None
 }
 
+// Adds a member without parents, whose id is not there, to the members and to their lists of parents.
+fn add_parentless(
+    roster: &mut Roster,
+    parents: &mut Vec<Vec<Option<MemberId>>>,
+    alloc: Global,
+    id: &[u8],
+    category: CatId,
+    name: &[u8],
+) -> Result<(), Memory>
+    requires absent { place_of id.now (ids_in roster.old) ≡ None }
+    requires few { length roster.old < most_members }
+    ensures members { OnOk result (roster.new ≡ roster.old ++ childless id.now category.0 name.now ∷ []) }
+    ensures parents { OnOk result (parents_told parents.new.items ≡ parents_told parents.old.items ++ [] ∷ []) }
+    ensures same_members { OnErr result (roster.new ≡ roster.old) }
+    ensures same_parents { OnErr result (parents.new.items ≡ parents.old.items) }
+{
+    parents.reserve(1)?;
+    roster.add(id, category, name)?;
+    parents.push(Vec::new(alloc))?;
+    Ok(())
+}
+
 impl InstanceBuilder {
     /// No member but `all`. The index of ids has a hash without a key: members are added whose ids the
     /// program picked.
     pub fn new(alloc: Global, graph: &Graph) -> Result<InstanceBuilder, Memory>
         ensures { IfOk result (λ builder. builder ≡ no_members graph.now) }
     {
+        let numbers = kinds(alloc, graph)?;
         Ok(InstanceBuilder {
             roster: Roster::new(alloc, KeyedHash::fixed()),
             parents: Vec::new(alloc),
             categories: graph.categories(),
-            numbers: kinds(alloc, graph)?,
+            numbers,
             alloc,
         })
     }
@@ -211,9 +243,14 @@ impl InstanceBuilder {
             return Err(refusal);
         }
         let member = MemberId(self.roster.len() as u32);
-        self.parents.reserve(1)?;
-        self.roster.add(id, category, name)?;
-        self.parents.push(Vec::new(self.alloc))?;
+        add_parentless(
+            &mut self.roster,
+            &mut self.parents,
+            self.alloc,
+            id,
+            category,
+            name,
+        )?;
         Ok(member)
     }
 
@@ -255,9 +292,8 @@ impl InstanceBuilder {
             numbers: _,
             alloc,
         } = self;
-        let all = MemberId(roster.len() as u32);
-        let lists = linked(alloc, &parents, all)?;
-        roster.add_all()?;
+        let mut lists = Lists::new(alloc);
+        complete(&mut roster, &mut lists, &parents)?;
         Ok(Instance::from_parts(roster, lists))
     }
 }

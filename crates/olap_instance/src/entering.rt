@@ -1,5 +1,5 @@
 // The first pass over a text: its members, their parents aside.
-ghost use Rattle.std.specs.Prelude.{◌≡◌, ◌<◌, ◌+◌, ◌∷◌, ◌++◌, [], ℕ, List, codes, false, length, map, None, Some, OnOk, IfOk, IfSome, MatchResult};
+ghost use Rattle.std.specs.Prelude.{◌≡◌, ◌<◌, ◌+◌, ◌∷◌, ◌++◌, [], ℕ, List, codes, false, length, map, None, Some, OnOk, IfSome, MatchResult};
 ghost use Rattle.olap_base.specs.Graph.{IsCategory};
 ghost use Rattle.std.specs.Str.{bytes_eq};
 ghost use Rattle.olap_base.specs.Limits.{most_members};
@@ -10,7 +10,6 @@ ghost use Rattle.olap_instance.specs.InstanceText.{category_number, id_field, is
 ghost use Rattle.olap_instance.specs.Passes.{PassesFirst, ids_in};
 ghost use Rattle.olap_instance.specs.Refusals.{IsFaultCause, IsRecordCause};
 
-use crate::hashing::KeyedHash;
 use crate::lists::Lists;
 use crate::rosters::Roster;
 use crate::texts::{is_bad, is_bad_number, is_long, is_text};
@@ -18,7 +17,6 @@ use crate::{InstanceKind, InstanceRefusal};
 use olap_base::{CatId, MOST_MEMBERS};
 use olap_graph::Graph;
 use olap_records::Rows;
-use std::alloc::Global;
 
 fn category(graph: &Graph, name: &[u8]) -> Option<u16>
     ensures named { result ≡ category_named graph.now name.now }
@@ -114,8 +112,8 @@ fn parents_of<'b>(rows: &'b Rows) -> &'b [u8]
     if rows.len() > 3 { rows.field(3) } else { &[] }
 }
 
-// Adds the members of the records that are left, and the field of parents of each.
-fn enter_rows(
+/// Adds the members of the records that are left, their parents aside, and the field of parents of each.
+pub(crate) fn enter_rows(
     graph: &Graph,
     rows: &mut Rows,
     roster: &mut Roster,
@@ -135,25 +133,4 @@ fn enter_rows(
         fields.add(parents_of(rows))?;
     }
     Ok(())
-}
-
-/// The members of the records that are left, their parents aside, and the field of parents of each. Their ids are
-/// looked up by that hash.
-pub(crate) fn enter_all(
-    alloc: Global,
-    hash: KeyedHash,
-    graph: &Graph,
-    rows: &mut Rows,
-) -> Result<(Roster, Lists<u8>), InstanceRefusal>
-    ensures members { MatchResult result
-        (λ r. PassesFirst graph.now rows.old.left r.0)
-        (λ e. IsFaultCause (first_fault (member_fault graph.now) [] rows.old.left) e) }
-    ensures fields { IfOk result (λ r. r.1 ≡ map parents_field rows.old.left) }
-    ensures few { IfOk result (λ r. length r.0 < most_members) }
-    ensures others { IfOk result (λ r. place_of (codes "all") (ids_in r.0) ≡ None) }
-{
-    let mut roster = Roster::new(alloc, hash);
-    let mut fields = Lists::new(alloc);
-    enter_rows(graph, rows, &mut roster, &mut fields)?;
-    Ok((roster, fields))
 }

@@ -3,8 +3,8 @@ ghost use Rattle.std.specs.Prelude.{◌≡◌, ◌≤◌, ◌∷◌, [], length,
 ghost use Rattle.std.specs.Hash as fed;
 ghost use Rattle.std.specs.Cmp.Lexicographic.{pointwise, bytes_decides, nat_list_eq_equiv};
 ghost use Rattle.std.specs.Cmp.{partial_equiv_from_equiv};
-ghost use Rattle.std.specs.Cmp.Rules.{comparing, hashing};
-ghost use Rattle.std.proofs.Common.{rules, ap};
+ghost use Rattle.std.specs.Cmp.Rules.{hashing};
+ghost use Rattle.std.proofs.Common.{◌∙◌, ap};
 
 use indexmap::Equivalent;
 use olap_base::Memory;
@@ -134,7 +134,10 @@ pub(crate) struct Sought<'a>(pub(crate) &'a [u8]);
 impl<'a> PartialEq for Sought<'a> {
     ghost eq = { λ x y. pointwise nat_eq x.0.now y.0.now };
 
-    ghost laws = { Prim.search (comparing, rules) };
+    ghost laws = { record {
+      symm = λ x y. nat_list_eq_equiv.symm x.0.now y.0.now;
+      trans = λ x y z p q. nat_list_eq_equiv.congr x.0.now y.0.now z.0.now p ∙ q;
+    } };
 
     #[inline(always)]
     fn eq(&self, other: &Sought<'a>) -> bool {
@@ -143,7 +146,11 @@ impl<'a> PartialEq for Sought<'a> {
 }
 
 impl<'a> Eq for Sought<'a> {
-    ghost laws = { Prim.search (comparing, rules) };
+    ghost laws = { record {
+      refl = λ x. nat_list_eq_equiv.refl x.0.now;
+      symm = λ x y. nat_list_eq_equiv.symm x.0.now y.0.now;
+      congr = λ x y z. nat_list_eq_equiv.congr x.0.now y.0.now z.0.now;
+    } };
 }
 
 impl<'a> Hash for Sought<'a> {

@@ -70,36 +70,39 @@ fn link(
     Ok(())
 }
 
-// The parents that fields tell, each those of one member.
+// Adds the parents that fields tell, each those of one member.
 fn link_fields(
-    alloc: Global,
     roster: &Roster,
     stamps: &mut [usize],
     fields: &Lists<u8>,
-) -> Result<Lists<MemberId>, InstanceRefusal>
+    parents: &mut Lists<MemberId>,
+) -> Result<(), InstanceRefusal>
     requires as_many { length stamps.old ≡ length roster.now }
     requires below { AreBelow stamps.old 1 }
+    requires none { parents.old ≡ [] }
     ensures { MatchResult result
-        (λ v. FieldsPass (ids_in roster.now) fields.now (parents_in v))
+        (λ _. FieldsPass (ids_in roster.now) fields.now (parents_in parents.new))
         (λ e. IsFaultCause (first_fault (field_fault (ids_in roster.now)) [] fields.now) e) }
 {
-    let mut parents = Lists::with_room(alloc, roster.len())?;
+    parents.reserve(roster.len())?;
     'fields: for child in 0..fields.len() {
-        link(roster, stamps, &mut parents, fields.of(child))?;
+        link(roster, stamps, parents, fields.of(child))?;
     }
-    Ok(parents)
+    Ok(())
 }
 
-/// The parents that the fields of records tell.
+/// Adds the parents that the fields of records tell.
 pub(crate) fn link_all(
     alloc: Global,
     roster: &Roster,
-    fields: Lists<u8>,
-) -> Result<Lists<MemberId>, InstanceRefusal>
-    ensures { (rows : List (List (List ℕ))) → fields ≡ map parents_field rows → MatchResult result
-        (λ v. PassesSecond (ids_in roster.now) rows (parents_in v))
+    fields: &Lists<u8>,
+    parents: &mut Lists<MemberId>,
+) -> Result<(), InstanceRefusal>
+    requires none { parents.old ≡ [] }
+    ensures { (rows : List (List (List ℕ))) → fields.now ≡ map parents_field rows → MatchResult result
+        (λ _. PassesSecond (ids_in roster.now) rows (parents_in parents.new))
         (λ e. IsFaultCause (first_fault (parents_fault (ids_in roster.now)) [] rows) e) }
 {
     let mut stamps = vec![in alloc; 0usize; roster.len()]?;
-    link_fields(alloc, roster, &mut stamps, &fields)
+    link_fields(roster, &mut stamps, fields, parents)
 }

@@ -1,5 +1,5 @@
 // Lists that stand in one list, one behind the other.
-ghost use Rattle.std.specs.Prelude.{◌≡◌, ◌<◌, ◌≤◌, ◌+◌, ◌^◌, ◌∷◌, ◌++◌, [], List, length, slice_index, slice_index_or, OnOk, OnErr, IfOk};
+ghost use Rattle.std.specs.Prelude.{◌≡◌, ◌<◌, ◌≤◌, ◌+◌, ◌^◌, ◌∷◌, ◌++◌, [], List, length, slice_index, slice_index_or, OnOk, OnErr};
 
 use olap_base::Memory;
 use std::alloc::Global;
@@ -51,14 +51,12 @@ impl<T: Copy> Lists<T> {
         }
     }
 
-    /// No lists, with room for so many.
-    pub(crate) fn with_room(alloc: Global, lists: usize) -> Result<Lists<T>, Memory>
-        ensures { IfOk result (λ lists. lists ≡ []) }
+    /// Makes room for so many more lists.
+    pub(crate) fn reserve(&mut self, lists: usize) -> Result<(), Memory>
+        ensures { self.new ≡ self.old }
     {
-        Ok(Lists {
-            items: Vec::new(alloc),
-            starts: Vec::with_capacity(alloc, lists)?,
-        })
+        self.starts.reserve(lists)?;
+        Ok(())
     }
 
     /// How many lists there are.

@@ -1,5 +1,7 @@
 // The members of an instance without their parents, and an index of their ids.
 ghost use Rattle.std.specs.Prelude.{◌≡◌, ◌∷◌, ◌++◌, ◌<◌, ◌^◌, [], codes, length, map, None, OnOk, OnErr};
+ghost use Rattle.std.specs.Str.{bytes_eq};
+ghost use Rattle.indexmap.specs.IndexSet.{insert_key};
 ghost use Rattle.olap_base.specs.Instance.{category_of, member_at, name_of};
 ghost use Rattle.olap_base.specs.Naming.{place_of};
 ghost use Rattle.olap_instance.specs.Members.{all_member, childless};
@@ -33,6 +35,31 @@ impl Model for Roster {
     ghost view = { members_of_roster };
 
     ghost invariant = { IsRoster };
+}
+
+// Adds an id, a category and a name, or leaves all as they are.
+fn add_entry(
+    ids: &mut IndexSet<Id, KeyedHash>,
+    categories: &mut Vec<CatId>,
+    names: &mut Lists<u8>,
+    id: Id,
+    category: CatId,
+    name: &[u8],
+) -> Result<(), Memory>
+    ensures ids { OnOk result (ids.new.keys ≡ insert_key bytes_eq ids.old.keys id) }
+    ensures categories { OnOk result (categories.new.items ≡ categories.old.items ++ category ∷ []) }
+    ensures names { OnOk result (names.new ≡ names.old ++ name.now ∷ []) }
+    ensures same_ids { OnErr result (ids.new.keys ≡ ids.old.keys) }
+    ensures same_categories { OnErr result (categories.new.items ≡ categories.old.items) }
+    ensures same_names { OnErr result (names.new ≡ names.old) }
+{
+    ids.reserve(1)?;
+    categories.reserve(1)?;
+    // What follows the name takes no memory, so that a name without an id never stays.
+    names.add(name)?;
+    ids.insert(id)?;
+    categories.push(category)?;
+    Ok(())
 }
 
 impl Roster {
@@ -98,12 +125,14 @@ impl Roster {
         ensures same { OnErr result (self.new ≡ self.old) }
     {
         let key = Id::from_bytes(self.alloc, id)?;
-        // What follows the name takes no memory, so that a name without an id never stays.
-        self.ids.reserve(1)?;
-        self.categories.reserve(1)?;
-        self.names.add(name)?;
-        self.ids.insert(key)?;
-        self.categories.push(category)?;
+        add_entry(
+            &mut self.ids,
+            &mut self.categories,
+            &mut self.names,
+            key,
+            category,
+            name,
+        )?;
         Ok(())
     }
 

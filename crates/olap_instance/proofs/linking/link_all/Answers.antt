@@ -2,4 +2,4 @@ use Rattle.olap_instance.proofs.LinkingLemmas.{of-records}
 use Rattle.olap_instance.proofs.linking.link_all.Goals as goal
 
 pub returns : goal.returns
-returns c = λ rows e. of-records _ rows _ e _ c.link_fields.ensures
+returns c = λ rows e. of-records _ rows _ _ e _ c.link_fields.ensures

@@ -1,4 +1,4 @@
-use Rattle.std.proofs.Common.{◌++◌, ◌∷◌, ◌∙◌, [], ap}
+use Rattle.std.proofs.Common.{◌∙◌}
 use Rattle.olap_instance.proofs.RosterLemmas.{kept-more, new-last, members-more}
 use Rattle.olap_instance.specs.declared.rosters.Roster.TheInside.{Inside}
 use Rattle.olap_instance.proofs.rosters.Roster.add.Goals as goal
@@ -9,9 +9,8 @@ invariant_of-self-2 c =
     let key = c.in_ok-key.key in
     let last = new-last a c.self.invariant key c.args.id.now c.in_ok-key.ensures
     (rw (← c.self.view_is) at c.requires.absent) in
-    let keys = rw c.reserve.ensures.keys at c.in_ok-insert.ensures.keys ∙ last in
-    let column = c.in_ok-push.ensures.items ∙ ap (λ t. t ++ c.args.category ∷ []) c.reserve-2.ensures.items in
-    kept-more a c.self.invariant _ key c.args.category c.args.name.now keys column c.in_ok-add.ensures.ok
+    let added = c.in_ok-add_entry.ensures in
+    kept-more a c.self.invariant _ key c.args.category c.args.name.now (added.ids ∙ last) added.categories added.names
     (rw (← c.self.view_is) at c.requires.room)
 
 pub returns-clause-ok : goal.returns-clause-ok
@@ -20,13 +19,13 @@ returns-clause-ok c =
     let key = c.in_ok-key.key in
     let last = new-last a c.self.invariant key c.args.id.now c.in_ok-key.ensures
     (rw (← c.self.view_is) at c.requires.absent) in
-    let keys = rw c.reserve.ensures.keys at c.in_ok-insert.ensures.keys ∙ last in
-    let column = c.in_ok-push.ensures.items ∙ ap (λ t. t ++ c.args.category ∷ []) c.reserve-2.ensures.items in
+    let added = c.in_ok-add_entry.ensures in
     let now : Inside = record {
-      ids = c.insert.new.self;
-      categories = c.push.new.self;
-      names = c.add.new.self;
+      ids = c.add_entry.new.ids;
+      categories = c.add_entry.new.categories;
+      names = c.add_entry.new.names;
       alloc = a.alloc;
     } in
     rw (← c.self.view_is, ← c.in_ok-key.ensures)
-    (members-more a c.self.invariant now key c.args.category c.args.name.now keys column c.in_ok-add.ensures.ok)
+    (members-more a c.self.invariant now key c.args.category c.args.name.now (added.ids ∙ last) added.categories
+    added.names)

@@ -2,7 +2,7 @@ use Rattle.std.proofs.Common.{◌≡◌, map, take}
 use Rattle.olap_instance.specs.DraftInside.{parents_told}
 use Rattle.olap_instance.specs.Drafts.{places_of}
 use Rattle.olap_instance.specs.Passes.{parents_in}
-use Rattle.olap_instance.proofs.building.linked.Given as goal
+use Rattle.olap_instance.proofs.building.complete.Given as goal
 
 abbrev pub invariant-lists : goal.invariant-lists
 invariant-lists l = parents_in l.lists ≡ map (places_of l.all.0) (parents_told (take l.list-index l.parents))
