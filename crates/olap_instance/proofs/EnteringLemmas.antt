@@ -1,15 +1,19 @@
 -- One member more from a record.
-use Rattle.std.proofs.Common.{◌≡◌, ◌++◌, ◌∷◌, ◌+◌, Bool, cond, true, false, ℕ, List, [], length, map, Some, None, refl, sym, ap}
+use Rattle.std.proofs.Common.{◌≡◌, ◌≢◌, ◌<◌, ◌==◌, ◌||◌, ◌∙◌, ◌++◌, ◌∷◌, ◌+◌, arith, codes, Option, Bool, cond, true, false, ℕ, List, [], length, map, Some, None, refl, sym, ap}
+use Rattle.std.specs.Prelude.{is_none, is_some, nat_le, unwrap_or}
 use Rattle.std.specs.List.{position_from}
 use Rattle.std.specs.Str.{bytes_eq}
 use Rattle.std.proofs.lemmas.List.{length-map, map-append}
 use Rattle.std.proofs.lemmas.Slice.Eq.{bytes_eq-Decides}
-use Rattle.olap_base.specs.Graph.{Graph}
+use Rattle.olap_base.specs.Graph.{Graph, is_number}
+use Rattle.olap_base.specs.Limits.{most_members}
+use Rattle.olap_graph.specs.Lookups.{category_named}
 use Rattle.olap_base.specs.Instance.{Instance, Member}
 use Rattle.olap_base.specs.Naming.{place_of}
-use Rattle.olap_instance.specs.InstanceText.{id_field, member_read}
+use Rattle.olap_instance.specs.InstanceText.{category_field, category_number, id_field, is_bad_id, is_bad_number, is_no_text, is_too_long, member_fault, member_read, name_field}
 use Rattle.olap_instance.specs.Members.{childless}
 use Rattle.olap_instance.specs.Passes.{ids_in}
+use Rattle.olap_instance.proofs.Passing.{differ-zero, two, unrefused}
 
 -- the ids of records are those of their members
 pub ids-read : (g : Graph) (rows : List (List (List ℕ))) → map id_field rows ≡ ids_in (map (member_read g) rows)
@@ -60,3 +64,29 @@ pub absent-more : (x : List ℕ) (ms now : Instance) (m : Member) → now ≡ ms
     → place_of x (ids_in now) ≡ None
 absent-more x ms now m en e h =
     rw (en, map-append (λ m. m.id) ms (m ∷ [])) (absent-from x (ids_in ms) m.id 0 h (eq-back m.id x e))
+
+-- a count below the limit passes the test
+room : (n : ℕ) → n + 1 < most_members → nat_le most_members (n + 1) ≡ false
+room n h = grind arith
+
+-- an id that is neither `all` nor that of an earlier record is new
+new-id : (id : List ℕ) (ids : List (List ℕ)) → bytes_eq id (codes "all") ≡ false → place_of id ids ≡ None
+    → (bytes_eq id (codes "all") || is_some (place_of id ids)) ≡ false
+new-id id ids a b = rw (a, b) refl
+
+-- a record whose fields are good has no fault after records of these ids, and its category is the one found
+pub entered : (g : Graph) (ids : List (List ℕ)) (n : ℕ) (r : List (List ℕ)) (k : ℕ) → length r ≡ 4
+    → is_no_text r ≡ false → is_bad_id (id_field r) ≡ false → is_too_long (id_field r) ≡ false
+    → is_too_long (name_field r) ≡ false → category_named g (category_field r) ≡ Some k → k ≢ 0
+    → is_bad_number (is_number g k) (name_field r) ≡ false → bytes_eq (id_field r) (codes "all") ≡ false
+    → place_of (id_field r) ids ≡ None → n + 1 < most_members → (earlier : List (List (List ℕ)))
+    → map id_field earlier ≡ ids → length earlier ≡ n
+    → (member_fault g earlier r ≡ None) × (k ≡ category_number g r)
+entered g ids n r k four text id short name named some numeral other fresh few earlier ei en =
+    let number : category_number g r ≡ k = ap (λ (o : Option ℕ). unwrap_or o 0) named in
+    (unrefused g earlier r (ap (λ (m : ℕ). m == 4) four) text id (two _ _ short name)
+    (ap (λ (o : Option ℕ). is_none o) named)
+    (ap (λ (m : ℕ). m == 0) number ∙ differ-zero k some)
+    (ap (λ (m : ℕ). is_bad_number (is_number g m) (name_field r)) number ∙ numeral)
+    (new-id (id_field r) (map id_field earlier) other (ap (place_of (id_field r)) ei ∙ fresh))
+    (room (length earlier) (rw en few)), sym number)
