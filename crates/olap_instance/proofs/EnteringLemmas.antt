@@ -83,10 +83,12 @@ pub entered : (g : Graph) (ids : List (List ℕ)) (n : ℕ) (r : List (List ℕ)
     → map id_field earlier ≡ ids → length earlier ≡ n
     → (member_fault g earlier r ≡ None) × (k ≡ category_number g r)
 entered g ids n r k four text id short name named some numeral other fresh few earlier ei en =
-    let number : category_number g r ≡ k = ap (λ (o : Option ℕ). unwrap_or o 0) named in
-    (unrefused g earlier r (ap (λ (m : ℕ). m == 4) four) text id (two _ _ short name)
-    (ap (λ (o : Option ℕ). is_none o) named)
-    (ap (λ (m : ℕ). m == 0) number ∙ differ-zero k some)
-    (ap (λ (m : ℕ). is_bad_number (is_number g m) (name_field r)) number ∙ numeral)
-    (new-id (id_field r) (map id_field earlier) other (ap (place_of (id_field r)) ei ∙ fresh))
-    (room (length earlier) (rw en few)), sym number)
+    let number : category_number g r ≡ k = ap (λ (o : Option ℕ). unwrap_or o 0) named in (
+      unrefused g earlier r (ap (λ (m : ℕ). m == 4) four) text id (two _ _ short name)
+          (ap (λ (o : Option ℕ). is_none o) named)
+          (ap (λ (m : ℕ). m == 0) number ∙ differ-zero k some)
+          (ap (λ (m : ℕ). is_bad_number (is_number g m) (name_field r)) number ∙ numeral)
+          (new-id (id_field r) (map id_field earlier) other (ap (place_of (id_field r)) ei ∙ fresh))
+          (room (length earlier) (rw en few)),
+      sym number,
+    )

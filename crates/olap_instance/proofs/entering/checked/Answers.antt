@@ -1,5 +1,5 @@
 -- What each check that passed tells, for the last exit.
-use Rattle.std.proofs.Common.{◌≡◌, ◌≢◌, ◌+◌, ◌<◌, ◌∙◌, None, Some, ap, arith, codes, false, length, sym}
+use Rattle.std.proofs.Common.{◌≡◌, ◌≢◌, ◌+◌, ◌<◌, ◌∙◌, Some, ap, arith, codes, false, length, sym}
 use Rattle.std.specs.Str.{bytes_eq}
 use Rattle.olap_base.specs.Limits.{most_members}
 use Rattle.olap_base.specs.Naming.{place_of}

@@ -1,4 +1,4 @@
-use Rattle.std.proofs.Common.{◌∙◌, [], Ok, drop, sym, ap, refl, rules}
+use Rattle.std.proofs.Common.{[], Ok, drop, sym, ap, refl, rules}
 use Rattle.olap_records.specs.Records.{records_of}
 use Rattle.olap_instance.specs.InstanceText.{instance_read}
 use Rattle.olap_instance.specs.Passes.{ids_in, parents_in}

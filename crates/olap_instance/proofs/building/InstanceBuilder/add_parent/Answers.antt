@@ -64,3 +64,15 @@ returns-clause-added c =
     rw (← c.self.view_is)
     (pushed d lists refl x c.index_mut-parents.result.now l c.index_mut-parents.ensures.value c.push.new.self
     c.args.parent c.in_ok-push.ensures.items)
+
+pub returns-clause-ok : goal.returns-clause-ok
+returns-clause-ok c =
+    let d = draft_of c.self.inside in
+    let x = c.args.child.0 in
+    let lists = c.self.inside.parents.items in
+    let m = rw (← c.self.view_is) at c.requires.child in
+    let l = has-list d lists x c.self.invariant refl m in
+    let here = so-far d lists refl x c.index_mut-parents.result.now l c.index_mut-parents.ensures.value in
+    λ has.
+    let t = c.is_among.ensures.1 (rw c.deref.ensures.value (rw here at (rw (← c.self.view_is) at has))) in
+    true≢false (sym t ∙ c.if-is_among.false)
