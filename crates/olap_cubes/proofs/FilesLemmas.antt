@@ -2,16 +2,19 @@
 --     file_followed, file_ended   a step and the rest
 --     as_ended                    a step that ended, as the code hands it on
 --     no_memory                   a step that runs out of memory
+--     no_memory_yet, judged_no_memory, replies_no_memory   the same, as the code hands it on
 --     AreReadTo                   what is read of the files that are left is read of all
 use Rattle.std.proofs.Common.{◌≡◌, ◌+◌, ℕ, List, [], ◌∷◌, ◌++◌, Option, None, Some, Result, Ok, Err, MatchOption, ap, subst, sym, refl, arith, ◌∙◌}
 use Rattle.std.specs.Result.{IsErrAnd}
 use Rattle.olap_base.specs.Files.{Files}
 use Rattle.olap_base.specs.declared.outside.Library.{Ghosts as Library}
-use Rattle.olap_order.specs.Judged.{IsLater}
+use Rattle.olap_order.specs.Judged.{IsLater, Judged, Replies}
 use Rattle.olap_order.specs.Order.{Order, Done, Told, Read, ReadsNoFile, and_then}
 use Rattle.olap_order.specs.Taken.{ComesOut, ComesOutTold, FileStep, NoAnswer}
+use Rattle.olap_order.specs.declared.replies.Reply.{Reply}
 use Rattle.olap_order.specs.declared.replies.Stop.{Stop}
 use Rattle.olap_order.specs.declared.replies.Stop.TheVariants as stops
+use Rattle.olap_order.specs.declared.status.Status.{Status}
 use Rattle.olap_order.proofs.Stepping.{ended, followed, step_reads_none}
 
 -- later than later is later
@@ -92,6 +95,30 @@ module _ {D T X : Type 0} {L : Library D} {old new : D} {step : Order T} {meanin
     same = same;
     later = later;
   }
+
+-- ---- out of memory, as the code hands it on
+
+-- before a step has read anything
+pub no_memory_yet : {D T X : Type 0} {L : Library D} {old : D} {step : Order T} {meaning : X → T} (result : Result X Stop)
+    → IsErrAnd result (λ e. e ≡ stops.Memory) → FileStep L old old step meaning result
+no_memory_yet result is = as_ended result stops.Memory is (no_memory same_state refl)
+
+-- in a command
+pub judged_no_memory : {D Q : Type 0} {answers : Q → Status → List ℕ → Type 0} {L : Library D} {old new : D}
+    {order : Order Q} (result : Result Reply Stop) → IsErrAnd result (λ e. e ≡ stops.Memory) → IsLater L old new
+    → Judged answers L old new order result
+judged_no_memory (Ok reply) is later = absurd is
+judged_no_memory {answers = answers} {L = L} {old = old} {new = new} {order = order} (Err e) is later =
+    subst (λ e. Judged answers L old new order (Err e)) (sym is)
+    (record { right = tt; verdict = tt; read = λ is. absurd (cc); later = later })
+
+-- in a command that reads nothing
+pub replies_no_memory : {Q : Type 0} {answers : Q → Status → List ℕ → Type 0} {order : Order Q}
+    (result : Result Reply Stop) → IsErrAnd result (λ e. e ≡ stops.Memory) → Replies answers order result
+replies_no_memory (Ok reply) is = absurd is
+replies_no_memory {answers = answers} {order = order} (Err e) is =
+    subst (λ e. Replies answers order (Err e)) (sym is)
+    (record { right = tt; verdict = tt; unread = λ is. absurd (cc) })
 
 module _ {D T X : Type 0} {L : Library D} {old new : D} {step : Order T} {meaning : X → T} where
   -- what was read, as the code has it

@@ -1,6 +1,7 @@
 -- Tuples of categories that are read from words, one after the other.
 --     numbers_compared categories are compared as their numbers are
 --     ended_plain      a step that reads nothing ends, and what comes after it with it
+--     plain_no_memory  such a step runs out of memory
 --     AreNamedUpTo     the order of all the words is that of those that are left, after the tuples that were read
 use Rattle.std.proofs.Common.{◌≡◌, ◌+◌, ◌<◌, ◌≤◌, ℕ, suc, List, [], ◌∷◌, ◌++◌, Result, Ok, Err, length, get_or, drop, true, false, ap, refl, subst, sym, arith, ◌∙◌}
 use Rattle.std.specs.Cmp.Lexicographic.{pointwise}
@@ -20,8 +21,10 @@ use Rattle.olap_order.specs.Order.{Order, Done, and_then}
 use Rattle.olap_order.specs.Taken.{NoAnswer, PlainStep}
 use Rattle.olap_ast.specs.Trees.{numbers_of}
 use Rattle.olap_order.specs.declared.replies.Stop.{Stop}
+use Rattle.olap_order.specs.declared.replies.Stop.TheVariants as stops
 use Rattle.olap_order.proofs.Stepping.{ends_both}
 use Rattle.olap_cubes.specs.Steps.{another_tuple, different_tuples}
+use Rattle.olap_cubes.proofs.FilesLemmas.{replies_no_memory}
 
 -- categories are compared as their numbers are
 pub numbers_compared : (xs ys : List CatId) → pointwise (λ (a b : CatId). nat_eq a.0 b.0) xs ys
@@ -40,6 +43,11 @@ module _ {T X : Type 0} {step : Order T} {meaning : X → T} where
     comes_out = tt;
     ends = subst (λ e. Replies NoAnswer step (Err e)) (sym is) s;
   }
+
+-- a step that reads nothing runs out of memory, as the code hands it on
+pub plain_no_memory : {T X : Type 0} {step : Order T} {meaning : X → T} (result : Result X Stop)
+    → IsErrAnd result (λ e. e ≡ stops.Memory) → PlainStep step meaning result
+plain_no_memory result is = ended_plain result stops.Memory is (replies_no_memory (Err stops.Memory) refl)
 
 -- a tuple that isn't found in a list isn't in it
 not_among : (tuples : List (List ℕ)) (c : List ℕ) → list_any (λ d. pointwise nat_eq d c) tuples ≡ false
