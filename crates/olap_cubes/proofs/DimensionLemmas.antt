@@ -2,6 +2,7 @@
 --     schemas_from, legals_from   the files from one of them on: the step of this one, and the files after it
 --     schemas_end, legals_end     no file is left
 --     made_more, made_all         instances that were made for the graphs of so many dimensions
+--     graphs_more, graphs_all     graphs of so many dimensions
 --     file_is                     the bytes of a file's name
 --     target_fits                 there are as many categories as dimensions
 --     ids_more                    the numbers of one category more
@@ -94,6 +95,23 @@ pub made_all : (schemas : List Schema) (k : ℕ) (is : List Instance) → length
 made_all schemas k is h a =
     let few : length (graphs_of schemas) ≤ k = omega (arith, length-map schemas (λ (s : Schema). s.graph)) in
     subst (λ (gs : List Graph). AreMadeFor gs is) (take_all k (graphs_of schemas) few) a
+
+-- one graph more
+pub graphs_more : (schemas : List Schema) (k : ℕ) (all : List Graph) (g : Graph) → k < length schemas
+    → g ≡ (get_or schemas k no_schema).graph → all ≡ take k (graphs_of schemas) ++ g ∷ []
+    → all ≡ take (k + 1) (graphs_of schemas)
+graphs_more schemas k all g h e is =
+    let there : k < length (graphs_of schemas) = omega (arith, length-map schemas (λ (s : Schema). s.graph)) in
+    is ∙ ap (λ (x : Graph). take k (graphs_of schemas) ++ x ∷ [])
+    (e ∙ sym (get_or-map (λ (s : Schema). s.graph) schemas k no_schema g h))
+    ∙ sym (take_more (graphs_of schemas) k g there)
+
+-- all graphs
+pub graphs_all : (schemas : List Schema) (k : ℕ) (all : List Graph) → length schemas ≤ k
+    → all ≡ take k (graphs_of schemas) → all ≡ graphs_of schemas
+graphs_all schemas k all h is =
+    let few : length (graphs_of schemas) ≤ k = omega (arith, length-map schemas (λ (s : Schema). s.graph)) in
+    is ∙ take_all k (graphs_of schemas) few
 
 -- a target has as many categories as there are dimensions
 pub target_fits : (schemas : List Schema) (target : List CatId) → AreCategoriesOf schemas (numbers_of target)

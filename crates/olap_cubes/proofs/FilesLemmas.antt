@@ -5,6 +5,7 @@
 --     no_memory_yet, judged_no_memory, replies_no_memory   the same, as the code hands it on
 --     AreReadTo                   what is read of the files that are left is read of all
 use Rattle.std.proofs.Common.{◌≡◌, ◌+◌, ℕ, List, [], ◌∷◌, ◌++◌, Option, None, Some, Result, Ok, Err, MatchOption, ap, subst, sym, refl, arith, ◌∙◌}
+use Rattle.std.specs.Prelude.{IfOk}
 use Rattle.std.specs.Result.{IsErrAnd}
 use Rattle.olap_base.specs.Files.{Files}
 use Rattle.olap_base.specs.declared.outside.Library.{Ghosts as Library}
@@ -98,9 +99,15 @@ module _ {D T X : Type 0} {L : Library D} {old new : D} {step : Order T} {meanin
 
 -- ---- out of memory, as the code hands it on
 
+-- where there is an error, nothing is said of a value
+pub no_value : {X E : Type 0} (P : X → Type 0) (R : E → Type 0) (result : Result X E) → IsErrAnd result R
+    → IfOk result P
+no_value P R (Ok x) is = absurd is
+no_value P R (Err e) is = tt
+
 -- before a step has read anything
-pub no_memory_yet : {D T X : Type 0} {L : Library D} {old : D} {step : Order T} {meaning : X → T} (result : Result X Stop)
-    → IsErrAnd result (λ e. e ≡ stops.Memory) → FileStep L old old step meaning result
+pub no_memory_yet : {D T X : Type 0} {L : Library D} {old : D} {step : Order T} {meaning : X → T}
+    (result : Result X Stop) → IsErrAnd result (λ e. e ≡ stops.Memory) → FileStep L old old step meaning result
 no_memory_yet result is = as_ended result stops.Memory is (no_memory same_state refl)
 
 -- in a command

@@ -2,11 +2,13 @@
 --     numbers_compared categories are compared as their numbers are
 --     ended_plain      a step that reads nothing ends, and what comes after it with it
 --     plain_no_memory  such a step runs out of memory
+--     plain_refused    it is refused
+--     another_is       a tuple that is taken, or is one of those before it
 --     AreNamedUpTo     the order of all the words is that of those that are left, after the tuples that were read
-use Rattle.std.proofs.Common.{◌≡◌, ◌+◌, ◌<◌, ◌≤◌, ℕ, suc, List, [], ◌∷◌, ◌++◌, Result, Ok, Err, length, get_or, drop, true, false, ap, refl, subst, sym, arith, ◌∙◌}
+use Rattle.std.proofs.Common.{◌≡◌, ◌+◌, ◌<◌, ◌≤◌, ℕ, suc, Bool, List, [], ◌∷◌, ◌++◌, Result, Ok, Err, length, get_or, drop, true, false, ap, refl, subst, sym, arith, ◌∙◌}
 use Rattle.std.specs.Cmp.Lexicographic.{pointwise}
 use Rattle.std.specs.List.{list_any}
-use Rattle.std.specs.Prelude.{◌&&◌, All, Contains, nat_eq}
+use Rattle.std.specs.Prelude.{◌&&◌, All, Contains, codes, if◌then◌else◌, nat_eq}
 use Rattle.std.specs.Result.{IsErrAnd}
 use Rattle.std.proofs.lemmas.List.{drop_all, drop_more, length_push}
 use Rattle.std.proofs.lemmas.List.Elements.{All-append, All-cons}
@@ -17,13 +19,15 @@ use Rattle.olap_base.specs.declared.ids.CatId.{CatId}
 use Rattle.olap_base.proofs.ListLemmas.{Distinct, list_any_is}
 use Rattle.olap_dimensions.specs.Dimensions.{AreCategoriesOf}
 use Rattle.olap_order.specs.Judged.{Replies}
-use Rattle.olap_order.specs.Order.{Order, Done, and_then}
+use Rattle.olap_order.specs.Order.{Order, Done, and_then, refused}
+use Rattle.olap_order.specs.Refusals.{IsRefusal}
+use Rattle.olap_order.specs.Steps.{fault_text}
 use Rattle.olap_order.specs.Taken.{NoAnswer, PlainStep}
 use Rattle.olap_ast.specs.Trees.{numbers_of}
 use Rattle.olap_order.specs.declared.replies.Stop.{Stop}
 use Rattle.olap_order.specs.declared.replies.Stop.TheVariants as stops
 use Rattle.olap_order.proofs.Stepping.{ends_both}
-use Rattle.olap_cubes.specs.Steps.{another_tuple, different_tuples}
+use Rattle.olap_cubes.specs.Steps.{another_tuple, different_tuples, tuple_word}
 use Rattle.olap_cubes.proofs.FilesLemmas.{replies_no_memory}
 
 -- categories are compared as their numbers are
@@ -48,6 +52,35 @@ module _ {T X : Type 0} {step : Order T} {meaning : X → T} where
 pub plain_no_memory : {T X : Type 0} {step : Order T} {meaning : X → T} (result : Result X Stop)
     → IsErrAnd result (λ e. e ≡ stops.Memory) → PlainStep step meaning result
 plain_no_memory result is = ended_plain result stops.Memory is (replies_no_memory (Err stops.Memory) refl)
+
+-- what is refused is refused
+refused_so : {T : Type 0} (why : List ℕ) (stop : Stop) → IsRefusal why stop
+    → Replies NoAnswer (refused {Q = T} why) (Err stop)
+refused_so why (stops.Refused bytes) is = record {
+  right = λ files. (refl, is);
+  verdict = tt;
+  unread = λ e. absurd (cc);
+}
+refused_so why stops.Read is = absurd is
+refused_so why stops.Memory is = record { right = tt; verdict = tt; unread = λ e. absurd (cc) }
+
+-- a step that is refused
+pub plain_refused : {T X : Type 0} {meaning : X → T} (step : Order T) (why : List ℕ) (stop : Stop)
+    → step ≡ refused why → IsRefusal why stop → PlainStep step meaning (Err stop)
+plain_refused step why stop e is = record {
+  comes_out = tt;
+  ends = subst (λ o. Replies NoAnswer o (Err stop)) (sym e) (refused_so why stop is);
+}
+
+-- a word that names a tuple of categories: it is taken, unless it is one of those before it
+pub another_is : (schemas : List Schema) (at : ℕ) (earlier : List (List ℕ)) (word c : List ℕ) (b : Bool)
+    → tuple_word schemas at word ≡ Done c → list_any (λ d. pointwise nat_eq d c) earlier ≡ b
+    → another_tuple schemas at earlier word
+    ≡ (if b then refused (fault_text (codes "word") at (codes "DuplicateSource")) else Done c)
+another_is schemas at earlier word c b named is =
+    ap (λ o. and_then o (λ c. if list_any (λ d. pointwise nat_eq d c) earlier
+    then refused (fault_text (codes "word") at (codes "DuplicateSource")) else Done c)) named
+    ∙ ap (λ h. if h then refused (fault_text (codes "word") at (codes "DuplicateSource")) else Done c) is
 
 -- a tuple that isn't found in a list isn't in it
 not_among : (tuples : List (List ℕ)) (c : List ℕ) → list_any (λ d. pointwise nat_eq d c) tuples ≡ false
