@@ -1,13 +1,35 @@
 -- Names of categories that are looked up, one dimension after the other.
+--     tuple_is      the step of a word with as many names as there are dimensions
 --     AreNamedTo    the names that are left say what all names are
-use Rattle.std.proofs.Common.{◌≡◌, ◌+◌, ◌<◌, ◌≤◌, ℕ, zero, suc, List, [], ◌∷◌, ◌++◌, Option, None, Some, length, get_or, drop, take, ap, subst, sym, refl, arith, ◌∙◌, append-nil, append_assoc}
-use Rattle.std.specs.Prelude.{option_and_then, option_map}
+use Rattle.std.proofs.Common.{◌≡◌, ◌+◌, ◌<◌, ◌≤◌, ℕ, zero, suc, List, [], ◌∷◌, ◌++◌, Option, None, Some, T, Bool, true, false, length, get_or, drop, take, ap, subst, sym, refl, arith, ◌∙◌, append-nil, append_assoc}
+use Rattle.std.specs.Prelude.{◌==◌, codes, if◌then◌else◌, option_and_then, option_map}
+use Rattle.std.proofs.Math.Facts.{yes_eqb}
 use Rattle.std.proofs.lemmas.List.{drop_all, drop_more, take_all}
 use Rattle.olap_base.specs.Graph.{IsCategory}
 use Rattle.olap_ast.specs.Schema.{Schema}
 use Rattle.olap_dimensions.specs.Dimensions.{AreCategoriesOf, no_schema}
 use Rattle.olap_graph.specs.Lookups.{category_named}
-use Rattle.olap_cubes.specs.Steps.{categories_named}
+use Rattle.olap_grammar.specs.Words.{pieces_of}
+use Rattle.olap_order.specs.Order.{ok_or, refused}
+use Rattle.olap_order.specs.Steps.{fault_text}
+use Rattle.olap_cubes.specs.Steps.{categories_named, tuple_word}
+
+-- what is so, as a value
+so : (b : Bool) → T b → b ≡ true
+so true t = refl
+so false t = absurd t
+
+-- as many names as dimensions, joined by commas
+pub tuple_is : (schemas : List Schema) (at : ℕ) (word : List ℕ) (names : List (List ℕ)) (o : Option (List ℕ))
+    → names ≡ pieces_of 44 word → length names ≡ length schemas → o ≡ categories_named schemas names
+    → tuple_word schemas at word ≡ ok_or o (fault_text (codes "word") at (codes "UnknownCategory"))
+tuple_is schemas at word names o n l e =
+    let unknown = fault_text (codes "word") at (codes "UnknownCategory") in
+    let misfit = refused (fault_text (codes "word") at (codes "BadForm")) in
+    ap (λ ns. if length ns == length schemas then ok_or (categories_named schemas ns) unknown else misfit) (sym n)
+    ∙ ap (λ b. if b then ok_or (categories_named schemas names) unknown else misfit)
+    (so (length names == length schemas) (yes_eqb l))
+    ∙ ap (λ p. ok_or p unknown) (sym e)
 
 -- nothing is put in front
 none_before : (o : Option (List ℕ)) → o ≡ option_map (λ rest. [] ++ rest) o
