@@ -1,6 +1,6 @@
 -- The pairs that have yet to be defined: one more, and one fewer.
-use Rattle.std.proofs.Common.{◌≡◌, ℕ, List, [], ◌∷◌, ◌++◌, refl, subst, ◌⊎◌, inl, inr}
-use Rattle.std.specs.Prelude.{Contains}
+use Rattle.std.proofs.Common.{◌≡◌, ℕ, Bool, true, false, List, [], ◌∷◌, ◌++◌, refl, sym, subst, ◌⊎◌, inl, inr}
+use Rattle.std.specs.Prelude.{Contains, if◌then◌else◌}
 use Rattle.std.proofs.lemmas.List.Elements.{Contains-push_cases}
 use Rattle.olap_encoding.specs.Encoding.{Encoding, IsPair, IsSound, IsLater, IsNext}
 use Rattle.olap_encoding.proofs.Growing.{grown_same, stands_before}
@@ -30,6 +30,16 @@ next_entered e c d t p = other_pairs e (e.todo ++ (c, d) ∷ []) t (λ x g. pair
     pair : (x : ℕ × ℕ) → Contains e.todo x ⊎ ((c, d) ≡ x) → IsPair e x.0 x.1
     pair x (inl g) = t.asked x g
     pair x (inr q) = subst (λ (y : ℕ × ℕ). IsPair e y.0 y.1) q p
+
+-- with one pair more, or none, where there is no memory
+pub next_pushed : (e : Encoding) (c d : ℕ) (b : Bool) (pairs : List (ℕ × ℕ))
+    → pairs ≡ (if b then e.todo ++ (c, d) ∷ [] else e.todo) → IsSound e → IsPair e c d
+    → IsNext e (record e { todo = pairs })
+next_pushed e c d true pairs q t p =
+    subst (λ (td : List (ℕ × ℕ)). IsNext e (record e { todo = td })) (sym q) (next_entered e c d t p)
+next_pushed e c d false pairs q t p =
+    subst (λ (td : List (ℕ × ℕ)). IsNext e (record e { todo = td })) (sym q)
+    (other_pairs e e.todo t (λ x g. t.asked x g))
 
 -- some fewer
 pub next_popped : (e : Encoding) (rest : List (ℕ × ℕ)) → IsSound e

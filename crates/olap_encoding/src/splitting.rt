@@ -87,7 +87,8 @@ fn alternatives_clause(
     let not_p = p.negated();
     literals.push(not_p)?;
     alternatives(e, c, f, holds, literals)?;
-    e.clause(literals)
+    e.clause(literals);
+    Ok(())
 }
 
 // The same, with a list of its own.

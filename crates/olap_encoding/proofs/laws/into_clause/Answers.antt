@@ -2,7 +2,6 @@
 use Rattle.std.proofs.Common.{sym, subst, ◌∙◌}
 use Rattle.olap_encoding.specs.Encoding.{IsGiven}
 use Rattle.olap_encoding.specs.EncoderInside.{encoding_of}
-use Rattle.olap_encoding.proofs.Growing.{next_last}
 use Rattle.olap_encoding.proofs.GivenLemmas.{given_into, given_turned}
 use Rattle.olap_encoding.proofs.laws.into_clause.Goals as goal
 
@@ -16,4 +15,4 @@ clause-requires-clause-given c =
     c.negated-not_l.ensures c.present-l.ensures c.in_ok-push_into.ensures.has))
 
 pub returns : goal.returns
-returns c = record { next = next_last c.clause.result c.clause.ensures.next }
+returns c = record { next = c.clause.ensures.next }

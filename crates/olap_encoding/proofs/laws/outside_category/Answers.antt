@@ -3,7 +3,7 @@ use Rattle.olap_encoding.specs.EncoderInside.{encoding_of}
 use Rattle.olap_encoding.proofs.GivenLemmas.{given_outside}
 use Rattle.olap_encoding.proofs.OutLemmas.{category_still}
 use Rattle.olap_encoding.proofs.NameLemmas.{outside_still}
-use Rattle.olap_encoding.proofs.Growing.{next_after}
+use Rattle.olap_encoding.proofs.Growing.{next_on}
 use Rattle.olap_encoding.proofs.laws.outside_category.Goals as goal
 
 pub clause-requires-clause-given : goal.clause-requires-clause-given
@@ -18,7 +18,4 @@ pub outside_names-requires-clause-outside : goal.outside_names-requires-clause-o
 outside_names-requires-clause-outside c = outside_still c.clause.ensures.next.later c.args.c.0 c.requires.outside
 
 pub returns : goal.returns
-returns c = record {
-  next = next_after (encoding_of c.outside_names.new.e) c.outside_names.result c.clause.ensures.next
-      c.outside_names.ensures.next;
-}
+returns c = record { next = next_on c.clause.ensures.next c.outside_names.ensures.next }

@@ -2,7 +2,6 @@
 use Rattle.olap_encoding.specs.EncoderInside.{encoding_of}
 use Rattle.olap_encoding.specs.Encoding.{edge_at}
 use Rattle.olap_encoding.proofs.GivenLemmas.{given_outside_edge}
-use Rattle.olap_encoding.proofs.Growing.{next_last}
 use Rattle.olap_encoding.proofs.laws.outside_edge.Goals as goal
 
 pub clause-requires-clause-given : goal.clause-requires-clause-given
@@ -13,4 +12,4 @@ clause-requires-clause-given c =
     c.negated-not_l.ensures c.on-l.ensures c.requires.outside
 
 pub returns : goal.returns
-returns c = record { next = next_last c.clause.result c.clause.ensures.next }
+returns c = record { next = c.clause.ensures.next }

@@ -1,6 +1,6 @@
 -- One rung after the other.
 use Rattle.olap_encoding.specs.EncoderInside.{encoding_of}
-use Rattle.olap_encoding.proofs.Growing.{next_on, next_last}
+use Rattle.olap_encoding.proofs.Growing.{next_on}
 use Rattle.olap_encoding.proofs.OutLemmas.{category_still}
 use Rattle.std.proofs.Common.{◌<◌, subst}
 use Rattle.olap_encoding.proofs.NameLemmas.{constants_still}
@@ -30,4 +30,4 @@ clause-requires-clause-given c =
     (count_still n c.args.c.0 c.args.count c.rungs.j c.requires.count c.rungs-test.false) c.rungs.invariant.says
 
 pub returns : goal.returns
-returns c = record { next = next_last c.clause.result (next_on c.rungs.invariant.next c.clause.ensures.next) }
+returns c = record { next = next_on c.rungs.invariant.next c.clause.ensures.next }

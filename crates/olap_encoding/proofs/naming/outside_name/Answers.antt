@@ -1,7 +1,6 @@
 -- One clause.
 use Rattle.olap_encoding.specs.EncoderInside.{encoding_of}
 use Rattle.olap_encoding.proofs.NameLemmas.{given_outside_name_at}
-use Rattle.olap_encoding.proofs.Growing.{next_last}
 use Rattle.olap_encoding.proofs.naming.outside_name.Goals as goal
 
 pub clause-requires-clause-given : goal.clause-requires-clause-given
@@ -10,4 +9,4 @@ clause-requires-clause-given c =
     c.args.j c.requires.category c.negated-not_l.ensures c.name-l.ensures c.requires.outside
 
 pub returns : goal.returns
-returns c = record { next = next_last c.clause.result c.clause.ensures.next }
+returns c = record { next = c.clause.ensures.next }

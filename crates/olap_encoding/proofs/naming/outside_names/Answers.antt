@@ -20,4 +20,4 @@ outside_name-requires-clause-place c =
     constants_still c.names.invariant.later c.args.c.0 c.names.j (subst (λ n. c.names.j < n) q c.names-test.true)
 
 pub names-preserved : goal.names-preserved
-names-preserved c = next_on c.names.invariant c.in_ok-outside_name.ensures.next
+names-preserved c = next_on c.names.invariant c.outside_name.ensures.next

@@ -17,7 +17,7 @@ named_is_present-requires-clause-place c =
     (subst (λ n. c.names.j < n) c.requires.count c.names-test.true)
 
 pub earlier-init : goal.earlier-init
-earlier-init c = next_on c.names.invariant c.in_ok-named_is_present.ensures.next
+earlier-init c = next_on c.names.invariant c.named_is_present.ensures.next
 
 pub one_name-requires-clause-category : goal.one_name-requires-clause-category
 one_name-requires-clause-category c = category_still c.earlier.invariant.later c.args.c.0 c.requires.category
@@ -28,4 +28,4 @@ one_name-requires-clause-place c =
     (subst (λ n. c.names.j < n) c.requires.count c.names-test.true)
 
 pub earlier-preserved : goal.earlier-preserved
-earlier-preserved c = next_on c.earlier.invariant c.in_ok-one_name.ensures.next
+earlier-preserved c = next_on c.earlier.invariant c.one_name.ensures.next

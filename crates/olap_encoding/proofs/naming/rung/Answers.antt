@@ -16,7 +16,7 @@ pub rung_clauses-requires-clause-below : goal.rung_clauses-requires-clause-below
 rung_clauses-requires-clause-below c = says_still c.rung_variable.ensures.next.later c.requires.below
 
 pub returns-clause-next : goal.returns-clause-next
-returns-clause-next c = next_on c.rung_variable.ensures.next c.in_ok-rung_clauses.ensures.next
+returns-clause-next c = next_on c.rung_variable.ensures.next c.rung_clauses.ensures.next
 
 pub returns-clause-says : goal.returns-clause-says
-returns-clause-says c = says_still c.in_ok-rung_clauses.ensures.next.later c.in_ok-upto.ensures.says
+returns-clause-says c = says_still c.rung_clauses.ensures.next.later c.in_ok-upto.ensures.says

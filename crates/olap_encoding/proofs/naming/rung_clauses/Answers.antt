@@ -1,6 +1,6 @@
 -- Four clauses of the name and the rungs below and above it.
 use Rattle.olap_encoding.specs.EncoderInside.{encoding_of}
-use Rattle.olap_encoding.proofs.Growing.{next_on, next_last, says_still}
+use Rattle.olap_encoding.proofs.Growing.{next_on, says_still}
 use Rattle.olap_encoding.proofs.LadderLemmas.{given_up, given_reaches, given_above, given_between}
 use Rattle.olap_encoding.proofs.naming.rung_clauses.Goals as goal
 
@@ -32,6 +32,6 @@ clause-requires-4-clause-given c =
 
 pub returns : goal.returns
 returns c = record {
-  next = next_last c.clause-4.result (next_on c.clause.ensures.next (next_on c.clause-2.ensures.next
-      (next_on c.clause-3.ensures.next c.clause-4.ensures.next)));
+  next = next_on c.clause.ensures.next (next_on c.clause-2.ensures.next
+      (next_on c.clause-3.ensures.next c.clause-4.ensures.next));
 }

@@ -2,9 +2,6 @@
 use Rattle.olap_encoding.proofs.Growing.{next_on, says_still}
 use Rattle.olap_encoding.proofs.naming.rung_variable.Goals as goal
 
-pub returns-in_err-keep_rung-clause-next : goal.returns-in_err-keep_rung-clause-next
-returns-in_err-keep_rung-clause-next c = next_on c.variable.ensures.next c.keep_rung.ensures.next
-
 pub returns-clause-next : goal.returns-clause-next
 returns-clause-next c = next_on c.variable.ensures.next c.keep_rung.ensures.next
 

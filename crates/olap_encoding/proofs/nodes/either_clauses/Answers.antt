@@ -1,6 +1,6 @@
 -- Four clauses.
 use Rattle.olap_encoding.specs.EncoderInside.{encoding_of}
-use Rattle.olap_encoding.proofs.Growing.{next_on, next_last, says_still}
+use Rattle.olap_encoding.proofs.Growing.{next_on, says_still}
 use Rattle.olap_encoding.proofs.NodeLemmas.{given_some, given_not_both, given_one, given_other}
 use Rattle.olap_encoding.proofs.nodes.either_clauses.Goals as goal
 
@@ -30,6 +30,6 @@ clause-requires-4-clause-given c =
 
 pub returns : goal.returns
 returns c = record {
-  next = next_last c.clause-4.result (next_on c.clause.ensures.next (next_on c.clause-2.ensures.next
-      (next_on c.clause-3.ensures.next c.clause-4.ensures.next)));
+  next = next_on c.clause.ensures.next (next_on c.clause-2.ensures.next
+      (next_on c.clause-3.ensures.next c.clause-4.ensures.next));
 }

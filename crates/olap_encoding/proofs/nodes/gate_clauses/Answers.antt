@@ -1,6 +1,6 @@
 -- Three clauses.
 use Rattle.olap_encoding.specs.EncoderInside.{encoding_of}
-use Rattle.olap_encoding.proofs.Growing.{next_on, next_last, says_still}
+use Rattle.olap_encoding.proofs.Growing.{next_on, says_still}
 use Rattle.olap_encoding.proofs.NodeLemmas.{given_first, given_second, given_both}
 use Rattle.olap_encoding.proofs.nodes.gate_clauses.Goals as goal
 
@@ -23,6 +23,5 @@ clause-requires-3-clause-given c =
 
 pub returns : goal.returns
 returns c = record {
-  next = next_last c.clause-3.result
-      (next_on c.clause.ensures.next (next_on c.clause-2.ensures.next c.clause-3.ensures.next));
+  next = next_on c.clause.ensures.next (next_on c.clause-2.ensures.next c.clause-3.ensures.next);
 }

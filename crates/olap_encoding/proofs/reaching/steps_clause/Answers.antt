@@ -2,7 +2,7 @@
 use Rattle.std.proofs.Common.{sym, subst, ◌∙◌}
 use Rattle.olap_encoding.specs.Encoding.{IsGiven}
 use Rattle.olap_encoding.specs.EncoderInside.{encoding_of}
-use Rattle.olap_encoding.proofs.Growing.{next_on, next_last, says_still}
+use Rattle.olap_encoding.proofs.Growing.{next_on, says_still}
 use Rattle.olap_encoding.proofs.GivenLemmas.{given_steps, given_turned}
 use Rattle.olap_encoding.proofs.reaching.steps_clause.Goals as goal
 
@@ -18,5 +18,5 @@ clause-requires-clause-given c =
 
 pub returns : goal.returns
 returns c = record {
-  next = next_last c.clause.result (next_on c.in_ok-push_steps.ensures.next c.clause.ensures.next);
+  next = next_on c.in_ok-push_steps.ensures.next c.clause.ensures.next;
 }

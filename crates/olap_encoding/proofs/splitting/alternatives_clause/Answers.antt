@@ -6,7 +6,7 @@ use Rattle.olap_ast.specs.Trees.{formula_of}
 use Rattle.olap_encoding.specs.EncoderInside.{encoding_of}
 use Rattle.olap_encoding.specs.Encoding.{IsGiven}
 use Rattle.olap_encoding.specs.Formulas.{signed}
-use Rattle.olap_encoding.proofs.Growing.{says_still, next_on, next_last}
+use Rattle.olap_encoding.proofs.Growing.{says_still, next_on}
 use Rattle.olap_encoding.proofs.SplittingLemmas.{true_still, given_widened}
 use Rattle.olap_encoding.proofs.splitting.alternatives_clause.Goals as goal
 
@@ -24,5 +24,5 @@ clause-requires-clause-given c =
 
 pub returns : goal.returns
 returns c = record {
-  next = next_last c.clause.result (next_on c.in_ok-alternatives.ensures.next c.clause.ensures.next);
+  next = next_on c.in_ok-alternatives.ensures.next c.clause.ensures.next;
 }

@@ -5,5 +5,5 @@ use Rattle.olap_encoding.proofs.encoders.Encoder.keep_rung.Goals as goal
 pub returns-then-is_err : goal.returns-then-is_err
 returns-then-is_err c = record { next = next_same c.requires.sound }
 
-pub returns : goal.returns
-returns c = record { next = next_same c.requires.sound }
+pub returns-else-is_err : goal.returns-else-is_err
+returns-else-is_err c = record { next = next_same c.requires.sound }
