@@ -1,5 +1,5 @@
 -- What the parts of a formula require, and how many nodes they have.
-use Rattle.std.proofs.Common.{◌≡◌, ℕ, ◌<◌, Result, Ok, Err, ap, subst, arith}
+use Rattle.std.proofs.Common.{◌≡◌, ℕ, ◌+◌, ◌<◌, Result, Ok, Err, refl, ap, subst, ◌∙◌, ◌⊎◌, inl, inr, arith}
 use Rattle.std.specs.Prelude.{IfOk}
 use Rattle.olap_ast.specs.Formula as Meaning
 use Rattle.olap_ast.specs.Formula.{Formula.Truth, Formula.Falsity, Formula.Path, Formula.Reach, Formula.Via, Formula.Equals, Formula.Compare, Formula.Not, Formula.And, Formula.Or, Formula.Implies, Formula.Iff, Formula.Xor, Formula.One}
@@ -10,6 +10,9 @@ use Rattle.olap_ast.specs.declared.formulas.Terms.{Terms}
 use Rattle.olap_names.specs.Questions.{Question}
 use Rattle.olap_encoding.specs.Encoding.{Encoding, IsSound, categories_of}
 use Rattle.olap_encoding.specs.Formulas.{IsSpoken, AreSpoken}
+use Rattle.olap_encoding.specs.Joining.{joined}
+use Rattle.olap_encoding.specs.declared.formulas.Connective.{Connective}
+use Rattle.olap_encoding.specs.declared.formulas.Connective.TheVariants.{Conjunction, Disjunction, Implication, Equivalence, Exclusion}
 use Rattle.olap_encoding.proofs.SplittingLemmas.{spoken_as}
 
 -- what follows from both of two facts of a result
@@ -34,6 +37,36 @@ has_node (Implies x y) = omega arith
 has_node (Iff x y) = omega arith
 has_node (Xor x y) = omega arith
 has_node (One xs) = omega arith
+
+-- ---- two parts that are joined
+
+-- a formula of one of these kinds is joined by its connective
+pub joined_by : {a b c d e : Formula} (f : Formula) (x y : Meaning.Formula) → formula_of a ≡ joined Conjunction x y
+    → formula_of b ≡ joined Disjunction x y → formula_of c ≡ joined Implication x y
+    → formula_of d ≡ joined Equivalence x y → formula_of e ≡ joined Exclusion x y
+    → (f ≡ a) ⊎ ((f ≡ b) ⊎ ((f ≡ c) ⊎ ((f ≡ d) ⊎ (f ≡ e)))) → (k : Connective) × (formula_of f ≡ joined k x y)
+joined_by f x y p q r s t (inl h) = (Conjunction, ap (λ (z : Formula). formula_of z) h ∙ p)
+joined_by f x y p q r s t (inr (inl h)) = (Disjunction, ap (λ (z : Formula). formula_of z) h ∙ q)
+joined_by f x y p q r s t (inr (inr (inl h))) = (Implication, ap (λ (z : Formula). formula_of z) h ∙ r)
+joined_by f x y p q r s t (inr (inr (inr (inl h)))) = (Equivalence, ap (λ (z : Formula). formula_of z) h ∙ s)
+joined_by f x y p q r s t (inr (inr (inr (inr h)))) = (Exclusion, ap (λ (z : Formula). formula_of z) h ∙ t)
+
+-- it has one node more than the two parts
+pub joined_nodes : (k : Connective) (x y : Meaning.Formula) → node_count (joined k x y) ≡ 1 + node_count x + node_count y
+joined_nodes Conjunction x y = refl
+joined_nodes Disjunction x y = refl
+joined_nodes Implication x y = refl
+joined_nodes Equivalence x y = refl
+joined_nodes Exclusion x y = refl
+
+-- it speaks of what the two parts speak of
+pub joined_spoken : (p : Question) (k : Connective) (x y : Meaning.Formula) → IsSpoken p (joined k x y)
+    → IsSpoken p x × IsSpoken p y
+joined_spoken p Conjunction x y s = s
+joined_spoken p Disjunction x y s = s
+joined_spoken p Implication x y s = s
+joined_spoken p Equivalence x y s = s
+joined_spoken p Exclusion x y s = s
 
 -- ---- the same parts by two names
 

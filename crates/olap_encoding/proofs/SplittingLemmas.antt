@@ -17,7 +17,7 @@ use Rattle.olap_names.specs.Questions.{Question}
 use Rattle.olap_encoding.specs.Choices.{IsPresent}
 use Rattle.olap_encoding.specs.Meanings.{edges_of}
 use Rattle.olap_encoding.specs.Encoding.{Encoding, categories_of, Says, IsSound, IsLater, IsGiven, PresentIs}
-use Rattle.olap_encoding.specs.Formulas.{instance_in, member_in, TellsAt, IsTrueAt, IsWidened, IsSpoken, signed}
+use Rattle.olap_encoding.specs.Formulas.{AreConjuncts, instance_in, member_in, TellsAt, IsTrueAt, IsWidened, IsSpoken, signed}
 use Rattle.olap_encoding.proofs.LiteralLemmas.{negated_is, value_cases}
 use Rattle.olap_encoding.proofs.ChosenEdges.{present_member, place_is}
 use Rattle.olap_encoding.proofs.Growing.{stands_before}
@@ -53,6 +53,42 @@ module _ (i : Instance) (m : ℕ) where
   all_of_implies : (x y : Formula) → HoldsAt i m (signed false (Implies x y))
       → HoldsAt i m (signed true x) × HoldsAt i m (signed false y)
   all_of_implies x y h = (not_false x (λ n. h (λ a. absurd (n a))), λ b. h (λ a. b))
+
+-- ---- conjuncts
+
+pub conjuncts_of_and : (x y : Formula) → AreConjuncts true (And x y) true x true y
+conjuncts_of_and x y = record {
+  both = λ i m h. h;
+  some = λ i m h. some_of_and i m x y h;
+  smaller = refl;
+  spoken = λ q s. s;
+}
+
+pub conjuncts_of_or : (x y : Formula) → AreConjuncts false (Or x y) false x false y
+conjuncts_of_or x y = record {
+  both = λ i m h. all_of_or i m x y h;
+  some = λ i m h. some_of_or i m x y h;
+  smaller = refl;
+  spoken = λ q s. s;
+}
+
+pub conjuncts_of_implies : (x y : Formula) → AreConjuncts false (Implies x y) true x false y
+conjuncts_of_implies x y = record {
+  both = λ i m h. all_of_implies i m x y h;
+  some = λ i m h. some_of_implies i m x y h;
+  smaller = refl;
+  spoken = λ q s. s;
+}
+
+-- the same under other names
+pub conjuncts_as : (a b c d : Bool) {x u y v z w : declared.Formula} → a ≡ b → x ≡ u → y ≡ v → z ≡ w
+    → AreConjuncts b (formula_of u) c (formula_of v) d (formula_of w)
+    → AreConjuncts a (formula_of x) c (formula_of y) d (formula_of z)
+conjuncts_as a b c d {x} {u} {y} {v} {z} {w} q r s t k =
+    subst (λ i. AreConjuncts i (formula_of x) c (formula_of y) d (formula_of z)) (sym q)
+    (subst (λ (i : declared.Formula). AreConjuncts b (formula_of i) c (formula_of y) d (formula_of z)) (sym r)
+    (subst (λ (i : declared.Formula). AreConjuncts b (formula_of u) c (formula_of i) d (formula_of z)) (sym s)
+    (subst (λ (i : declared.Formula). AreConjuncts b (formula_of u) c (formula_of v) d (formula_of i)) (sym t) k)))
 
 -- ---- in a later encoding
 
@@ -128,38 +164,26 @@ module _ (e : Encoding) (c : ℕ) where
     ];
   }
 
-  module _ (x y : Formula) {before mid after : List Lit} where
-    pub widened_or : IsWidened e c x before mid → IsWidened e c y mid after → IsWidened e c (Or x y) before after
-    widened_or u w = widened_twice x y (Or x y) u w (λ i m. some_of_or i m x y)
-
-    pub widened_and : IsWidened e c (Not x) before mid → IsWidened e c (Not y) mid after
-        → IsWidened e c (Not (And x y)) before after
-    widened_and u w = widened_twice (Not x) (Not y) (Not (And x y)) u w (λ i m. some_of_and i m x y)
-
-    pub widened_implies : IsWidened e c (Not x) before mid → IsWidened e c y mid after
-        → IsWidened e c (Implies x y) before after
-    widened_implies u w = widened_twice (Not x) y (Implies x y) u w (λ i m. some_of_implies i m x y)
+  -- what conjuncts leave of a negation
+  pub widened_some : (b : Bool) {x y z : Formula} (i j : Bool) {before mid after : List Lit}
+      → AreConjuncts (not b) x i y j z → IsWidened e c (signed (not i) y) before mid
+      → IsWidened e c (signed (not j) z) mid after → IsWidened e c (signed b x) before after
+  widened_some true {x} {y} {z} i j p u w =
+      widened_twice (signed (not i) y) (signed (not j) z) (signed true x) u w p.some
+  widened_some false {x} {y} {z} i j p u w =
+      widened_twice (signed (not i) y) (signed (not j) z) (signed false x) u w p.some
 
   -- ---- parts
 
   pub true_turned : (b : Bool) (x : Formula) → IsTrueAt e c (signed b (Not x)) → IsTrueAt e c (signed (not b) x)
   true_turned b x t = λ f v h p. turned (instance_in e.question f) (member_in e.question f c) b x (t f v h p)
 
-  module _ (x y : Formula) where
-    pub true_and : IsTrueAt e c (And x y) → IsTrueAt e c x × IsTrueAt e c y
-    true_and t = (λ f v h p. (t f v h p).0, λ f v h p. (t f v h p).1)
+  module _ (b : Bool) {x y z : Formula} (i j : Bool) (p : AreConjuncts b x i y j z) (t : IsTrueAt e c (signed b x)) where
+    pub true_first : IsTrueAt e c (signed i y)
+    true_first = λ f v h k. (p.both (instance_in e.question f) (member_in e.question f c) (t f v h k)).0
 
-    pub true_or : IsTrueAt e c (Not (Or x y)) → IsTrueAt e c (Not x) × IsTrueAt e c (Not y)
-    true_or t = (
-      λ f v h p. (all_of_or (instance_in e.question f) (member_in e.question f c) x y (t f v h p)).0,
-      λ f v h p. (all_of_or (instance_in e.question f) (member_in e.question f c) x y (t f v h p)).1,
-    )
-
-    pub true_implies : IsTrueAt e c (Not (Implies x y)) → IsTrueAt e c x × IsTrueAt e c (Not y)
-    true_implies t = (
-      λ f v h p. (all_of_implies (instance_in e.question f) (member_in e.question f c) x y (t f v h p)).0,
-      λ f v h p. (all_of_implies (instance_in e.question f) (member_in e.question f c) x y (t f v h p)).1,
-    )
+    pub true_second : IsTrueAt e c (signed j z)
+    true_second = λ f v h k. (p.both (instance_in e.question f) (member_in e.question f c) (t f v h k)).1
 
   -- the clause that is widened from the guard
   pub given_widened : (n p : Lit) (x : Formula) {before after : List Lit} → n ≡ negation p → Says e p (PresentIs c)

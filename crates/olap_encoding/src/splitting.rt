@@ -1,16 +1,44 @@
 // A formula that must be true, as clauses of its parts.
-ghost use Rattle.std.specs.Prelude.{Contains, IfOk, true};
+ghost use Rattle.std.specs.Prelude.{Contains, IfOk, IfSome, true};
 ghost use Rattle.olap_base.specs.Graph.{IsCategory};
 ghost use Rattle.olap_ast.specs.Trees.{formula_of, constraint_of};
 ghost use Rattle.olap_encoding.specs.Encoding.{IsSound, IsNext};
 ghost use Rattle.olap_encoding.specs.EncoderInside.{encoding_of};
-ghost use Rattle.olap_encoding.specs.Formulas.{IsSpoken, IsTrueAt, IsWidened, signed};
+ghost use Rattle.olap_encoding.specs.Formulas.{AreConjuncts, IsSpoken, IsTrueAt, IsWidened, signed};
 
 use crate::encoders::Encoder;
 use crate::formulas::literal;
 use olap_ast::{Constraint, Formula};
 use olap_base::{CatId, Memory};
 use olap_pool::Lit;
+
+/// Two formulas, and whether each must be true, or else its negation.
+#[derive(Drop)]
+struct Conjuncts<'a> {
+    first: &'a Formula,
+    first_holds: bool,
+    second: &'a Formula,
+    second_holds: bool,
+}
+
+// The two parts that must hold for the formula to hold, or for its negation, where these are conjunctions.
+fn conjuncts_of(f: &Formula, holds: bool) -> Option<Conjuncts>
+    ensures { IfSome result (λ p. AreConjuncts holds (formula_of f.now) p.first_holds (formula_of p.first.now)
+        p.second_holds (formula_of p.second.now)) }
+{
+    let (first, first_holds, second, second_holds) = match (f, holds) {
+        (Formula::And(g, h), true) => (g, true, h, true),
+        (Formula::Or(g, h), false) => (g, false, h, false),
+        (Formula::Implies(g, h), false) => (g, true, h, false),
+        _ => return None,
+    };
+    Some(Conjuncts {
+        first,
+        first_holds,
+        second,
+        second_holds,
+    })
+}
 
 // One literal more: that of the formula, or of its negation.
 fn push_literal(
@@ -51,22 +79,14 @@ fn alternatives(
     ensures widened { IfOk result (λ _. IsWidened (encoding_of e.new) c.0 (signed holds (formula_of f.now))
         literals.old.items literals.new.items) }
 {
-    match (f, holds) {
-        (Formula::Not(g), _) => alternatives(e, c, g, !holds, literals),
-        (Formula::Or(g, h), true) => {
-            alternatives(e, c, g, true, literals)?;
-            alternatives(e, c, h, true, literals)
-        }
-        (Formula::And(g, h), false) => {
-            alternatives(e, c, g, false, literals)?;
-            alternatives(e, c, h, false, literals)
-        }
-        (Formula::Implies(g, h), true) => {
-            alternatives(e, c, g, false, literals)?;
-            alternatives(e, c, h, true, literals)
-        }
-        _ => push_literal(e, c, f, holds, literals),
+    if let Formula::Not(g) = f {
+        return alternatives(e, c, g, !holds, literals);
     }
+    if let Some(p) = conjuncts_of(f, !holds) {
+        alternatives(e, c, p.first, !p.first_holds, literals)?;
+        return alternatives(e, c, p.second, !p.second_holds, literals);
+    }
+    push_literal(e, c, f, holds, literals)
 }
 
 // The clause that the category is absent, or one of the alternatives true, in a list for its literals.
@@ -111,22 +131,14 @@ fn require(e: &mut Encoder, c: CatId, f: &Formula, holds: bool) -> Result<(), Me
     requires so { IsTrueAt (encoding_of e.old) c.0 (signed holds (formula_of f.now)) }
     ensures next { IfOk result (λ _. IsNext (encoding_of e.old) (encoding_of e.new)) }
 {
-    match (f, holds) {
-        (Formula::Not(g), _) => require(e, c, g, !holds),
-        (Formula::And(g, h), true) => {
-            require(e, c, g, true)?;
-            require(e, c, h, true)
-        }
-        (Formula::Or(g, h), false) => {
-            require(e, c, g, false)?;
-            require(e, c, h, false)
-        }
-        (Formula::Implies(g, h), false) => {
-            require(e, c, g, true)?;
-            require(e, c, h, false)
-        }
-        _ => one_clause(e, c, f, holds),
+    if let Formula::Not(g) = f {
+        return require(e, c, g, !holds);
     }
+    if let Some(p) = conjuncts_of(f, holds) {
+        require(e, c, p.first, p.first_holds)?;
+        return require(e, c, p.second, p.second_holds);
+    }
+    one_clause(e, c, f, holds)
 }
 
 /// The clauses of a constraint: none, where the root doesn't walk to its category.
