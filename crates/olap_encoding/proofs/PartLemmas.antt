@@ -52,7 +52,8 @@ joined_by f x y p q r s t (inr (inr (inr (inl h)))) = (Equivalence, ap (λ (z : 
 joined_by f x y p q r s t (inr (inr (inr (inr h)))) = (Exclusion, ap (λ (z : Formula). formula_of z) h ∙ t)
 
 -- it has one node more than the two parts
-pub joined_nodes : (k : Connective) (x y : Meaning.Formula) → node_count (joined k x y) ≡ 1 + node_count x + node_count y
+pub joined_nodes : (k : Connective) (x y : Meaning.Formula)
+    → node_count (joined k x y) ≡ 1 + node_count x + node_count y
 joined_nodes Conjunction x y = refl
 joined_nodes Disjunction x y = refl
 joined_nodes Implication x y = refl

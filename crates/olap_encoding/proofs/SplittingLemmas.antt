@@ -178,7 +178,8 @@ module _ (e : Encoding) (c : ℕ) where
   pub true_turned : (b : Bool) (x : Formula) → IsTrueAt e c (signed b (Not x)) → IsTrueAt e c (signed (not b) x)
   true_turned b x t = λ f v h p. turned (instance_in e.question f) (member_in e.question f c) b x (t f v h p)
 
-  module _ (b : Bool) {x y z : Formula} (i j : Bool) (p : AreConjuncts b x i y j z) (t : IsTrueAt e c (signed b x)) where
+  module _ (b : Bool) {x y z : Formula} (i j : Bool) (p : AreConjuncts b x i y j z)
+      (t : IsTrueAt e c (signed b x)) where
     pub true_first : IsTrueAt e c (signed i y)
     true_first = λ f v h k. (p.both (instance_in e.question f) (member_in e.question f c) (t f v h k)).0
 

@@ -1,10 +1,32 @@
--- A rung, or names.
-use Rattle.std.proofs.Common.{w64}
+-- A rung; or no other that doesn't compare so, where the first name does, else another that does.
+use Rattle.std.proofs.Common.{not, sym, subst, length, w64}
 use Rattle.std.proofs.lemmas.Int.{to_z-of_z}
+use Rattle.std.specs.Prelude.{IsTrue, ◌↔◌}
+use Rattle.olap_ast.specs.Formula.{IsNumbered}
+use Rattle.olap_ast.specs.Trees.{op_of}
+use Rattle.olap_names.specs.Names.{first_of, others_of}
+use Rattle.olap_names.specs.Questions.{Question}
+use Rattle.olap_encoding.specs.EncoderInside.{encoding_of}
+use Rattle.olap_encoding.specs.Encoding.{Says}
+use Rattle.olap_encoding.specs.Formulas.{AmongIs}
+use Rattle.olap_encoding.proofs.ComparingLemmas.{number_by_names}
+use Rattle.olap_encoding.proofs.OutLemmas.{category_still}
 use Rattle.olap_encoding.proofs.formulas.comparing.Goals as goal
 
 pub returns-in-Some-clause-says : goal.returns-in-Some-clause-says
 returns-in-Some-clause-says c = rw (to_z-of_z w64 c.args.n c.ranges.n) at c.in-Some.ensures
 
 pub returns-clause-says : goal.returns-clause-says
-returns-clause-says c = rw (to_z-of_z w64 c.args.n c.ranges.n) at c.by_names.ensures.says
+returns-clause-says c =
+    let e = encoding_of c.among.new.e in
+    let d = c.args.d.0 in
+    let op = op_of c.args.op in
+    let n = c.args.n in
+    let b = c.first_passes-first.result in
+    let s = c.in_ok-some.ensures in
+    number_by_names e s.next.sound d op n (category_still s.next.later d c.requires.category) b c.in_ok-some.some
+    c.turned-l.result
+    (subst (λ (p : Question). IsTrue b ↔ IsNumbered (first_of p.candidates d) op n) (sym s.next.later.question)
+    (rw (to_z-of_z w64 c.args.n c.ranges.n) at c.first_passes-first.ensures))
+    (subst (λ (p : Question). Says e c.in_ok-some.some (AmongIs d (length (others_of p.candidates d)) op n (not b)))
+    (sym s.next.later.question) (rw (to_z-of_z w64 c.args.n c.ranges.n) at s.says)) c.turned-l.ensures
