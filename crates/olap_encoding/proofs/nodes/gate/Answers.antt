@@ -6,8 +6,8 @@ use Rattle.olap_encoding.proofs.nodes.gate.Goals as goal
 
 pub clause-requires-clause-given : goal.clause-requires-clause-given
 clause-requires-clause-given c =
-    given_first (encoding_of c.variable.new.self) c.in_ok-o.o c.args.a c.args.b c.in_ok-o.ensures.says c.negated-not_o.result
-    c.negated-not_o.ensures
+    given_first (encoding_of c.variable.new.self) c.in_ok-o.o c.args.a c.args.b c.in_ok-o.ensures.says
+    c.negated-not_o.result c.negated-not_o.ensures
 
 pub clause-requires-2-clause-given : goal.clause-requires-2-clause-given
 clause-requires-2-clause-given c =
