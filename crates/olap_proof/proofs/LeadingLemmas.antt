@@ -2,19 +2,16 @@
 --     bottom_read, bottom_unread    the line above a tree, by its first word
 --     branch_start                  nothing is chosen
 --     begun                         the line above a tree opens it
---     at_nothing                    a line does nothing at a place
---     at_still                      or some of the tree is open after it
+--     at_still                      some of the tree is open after a line at a place
 --     at_closed                     or all of it is closed
---     at_place                      whichever it does, so it leads to the stage after it
 use Rattle.std.proofs.Common.{◌≡◌, ◌==◌, ℕ, ◌+◌, ◌++◌, List, [], ◌∷◌, length, map, true, false, codes, refl, ap, sym, subst, ◌∙◌}
-use Rattle.std.specs.Prelude.{Contains, None, Option, Some}
+use Rattle.std.specs.Prelude.{Contains, Some}
 use Rattle.olap_base.specs.Graph.{Graph, IsCategory, category_count}
 use Rattle.olap_base.specs.declared.ids.CatId.{CatId}
 use Rattle.olap_base.proofs.ListLemmas.{list_any_is}
 use Rattle.olap_graph.specs.Lookups.{name_of_category}
 use Rattle.olap_names.specs.Names.{Named}
-use Rattle.olap_proof.specs.declared.advancing.Effect.{Effect}
-use Rattle.olap_proof.specs.declared.advancing.Effect.TheVariants.{Nothing, Still, Closed}
+use Rattle.olap_proof.specs.declared.advancing.Effect.TheVariants.{Still, Closed}
 use Rattle.olap_proof.specs.declared.asking.Asked.{Asked}
 use Rattle.olap_proof.specs.declared.branches.Choice.{Choice}
 use Rattle.olap_proof.specs.declared.forms.Form.{Form}
@@ -26,9 +23,9 @@ use Rattle.olap_proof.specs.Asking.{IsAsked, names_in, question_in, schema_in}
 use Rattle.olap_proof.specs.Branches.{IsBranch, first_of, left_open}
 use Rattle.olap_proof.specs.Certificates.{Open, Open.At, Open.Bottom, bottom_text, start}
 use Rattle.olap_proof.specs.Places.{Place}
-use Rattle.olap_proof.specs.Stages.{IsStage, IsStageAfter, RunsFor, StepsTo, bottoms_from, open_at}
+use Rattle.olap_proof.specs.Stages.{IsStage, RunsFor, StepsTo, bottoms_from, open_at}
 use Rattle.olap_proof.proofs.LineLemmas.{parted, unparted}
-use Rattle.olap_proof.proofs.StageLemmas.{bottom_runs, place_none, place_runs}
+use Rattle.olap_proof.proofs.StageLemmas.{bottom_runs, place_runs}
 
 -- ---- the line above a tree
 
@@ -87,13 +84,8 @@ module _ (f : Form) (a : Asked) (b : Branch) (line : List ℕ) where
       left_open a.candidates.now (first_of b.place) b.choices.items
       (map Bottom (bottoms_from a.graph.now (b.root.0 + 1)))
 
-  -- the line does nothing
-  at_nothing : (c : Branch) → Advances f a b.place b.choices.items line c.place c.choices.items Nothing
-      → StepsTo f a (stage.Tree b) line None
-  at_nothing c h = place_none f (schema_in a) (question_in a) (names_in a) line b.place others h
-
   -- some of the tree is open
-  at_still : (c : Branch) → Advances f a b.place b.choices.items line c.place c.choices.items Still
+  pub at_still : (c : Branch) → Advances f a b.place b.choices.items line c.place c.choices.items Still
       → c.root ≡ b.root → IsStage a (stage.Tree b) → StepsTo f a (stage.Tree b) line (Some (stage.Tree c))
   at_still c h same there =
       let g = a.graph.now in
@@ -109,7 +101,7 @@ module _ (f : Form) (a : Asked) (b : Branch) (line : List ℕ) where
       )
 
   -- all of it is closed
-  at_closed : (c : Branch) (next : Stage) → Advances f a b.place b.choices.items line c.place c.choices.items Closed
+  pub at_closed : (c : Branch) (next : Stage) → Advances f a b.place b.choices.items line c.place c.choices.items Closed
       → IsStage a next → open_at a next ≡ map Bottom (bottoms_from a.graph.now (b.root.0 + 1))
       → StepsTo f a (stage.Tree b) line (Some next)
   at_closed c next h i e =
@@ -118,17 +110,3 @@ module _ (f : Form) (a : Asked) (b : Branch) (line : List ℕ) where
         place_runs f (schema_in a) (question_in a) (names_in a) line b.place others w.0 (open_at a next) w.1
             (w.2 ∙ sym e),
       )
-
-  -- whichever it does, so it leads to the stage after it
-  pub at_place : (c : Branch) (e : Effect) (next : Option Stage)
-      → Advances f a b.place b.choices.items line c.place c.choices.items e → c.root ≡ b.root
-      → IsStage a (stage.Tree b) → IsStageAfter a c e next → StepsTo f a (stage.Tree b) line next
-  at_place c Nothing next h same there after =
-      subst (λ (o : Option Stage). StepsTo f a (stage.Tree b) line o) (sym after) (at_nothing c h)
-  at_place c Still next h same there after =
-      subst (λ (o : Option Stage). StepsTo f a (stage.Tree b) line o) (sym after) (at_still c h same there)
-  at_place c Closed next h same there after =
-      let from : open_at a after.0 ≡ map Bottom (bottoms_from a.graph.now (b.root.0 + 1)) =
-      after.3 ∙ ap (λ (n : CatId). map Bottom (bottoms_from a.graph.now (n.0 + 1))) same in
-      subst (λ (o : Option Stage). StepsTo f a (stage.Tree b) line o) (sym after.1)
-      (at_closed c after.0 h after.2 from)

@@ -2,17 +2,14 @@
 --     bottoms_from  the bottom categories from a number on
 --     open_at       what is open
 --     IsStage       a category is there, and a place is where its choices lead
---     IsStageAfter  what is open then, where a line has this effect in a tree
+--     if_done       the stage then, where the line does something
 --     StepsTo       a line does this there, or nothing
 --     IsReached     some lines of a text led there
-use Rattle.std.specs.Prelude.{◌≡◌, ◌-◌, ◌+◌, ◌++◌, ◌==◌, ℕ, List, [], ◌∷◌, Bool, Option, Some, None, filter, length, map, not}
+use Rattle.std.specs.Prelude.{◌≡◌, ◌-◌, ◌+◌, ◌++◌, ◌==◌, ℕ, List, [], ◌∷◌, Bool, true, false, Option, Some, None, filter, length, map, not}
 use Rattle.std.specs.List.{list_any, range_with_len}
 use Rattle.olap_base.specs.Graph.{Edge, Graph, IsCategory, category_count}
-use Rattle.olap_proof.specs.declared.advancing.Effect.{Effect}
-use Rattle.olap_proof.specs.declared.advancing.Effect.TheVariants as effect
 use Rattle.olap_proof.specs.declared.asking.Asked.{Asked}
 use Rattle.olap_proof.specs.declared.forms.Form.{Form}
-use Rattle.olap_proof.specs.declared.stages.Branch.{Branch}
 use Rattle.olap_proof.specs.declared.stages.Stage.{Stage}
 use Rattle.olap_proof.specs.declared.stages.Stage.TheVariants as stage
 use Rattle.olap_proof.specs.Asking.{names_in, question_in, schema_in}
@@ -43,16 +40,14 @@ IsStage a (stage.Tree b) =
     IsBranch a.graph.now a.candidates.now b.place b.choices.items × (b.place.decided.root ≡ b.root.0)
 IsStage a stage.Done = Unit {0}
 
--- nothing, the place in the tree, or the first bottom category after this one that isn't begun
-abbrev pub IsStageAfter : Asked → Branch → Effect → Option Stage → Type 0
-IsStageAfter a b effect.Nothing next = next ≡ None
-IsStageAfter a b effect.Still next = next ≡ Some (stage.Tree b)
-IsStageAfter a b effect.Closed next = (to : Stage) × (next ≡ Some to) × IsStage a to
-    × (open_at a to ≡ map Bottom (bottoms_from a.graph.now (b.root.0 + 1)))
-
 -- the lines do this, one after another
 abbrev pub RunsFor : Form → Asked → List (List ℕ) → List Open → List Open → Type 0
 RunsFor f a lines os end = Runs f (schema_in a) (question_in a) (names_in a) lines os end
+
+-- the stage then, where the line does something
+abbrev pub if_done : Bool → Stage → Option Stage
+if_done true to = Some to
+if_done false to = None
 
 -- the line leads from the one stage to the other, or does nothing
 abbrev pub StepsTo : Form → Asked → Stage → List ℕ → Option Stage → Type 0

@@ -5,6 +5,7 @@ ghost use Rattle.olap_proof.specs.Certificates.{IsCertificateText};
 ghost use Rattle.olap_proof.specs.Stages.{open_at};
 ghost use Rattle.olap_proof.specs.Verifying.{IsWrongAt};
 ghost use Rattle.olap_proof.specs.declared.asking.Asked.{Asked as AnyAsked};
+ghost use Rattle.olap_proof.specs.declared.stages.Stage.TheVariants as variant;
 
 use crate::Form;
 use crate::asking::Asked;
@@ -55,6 +56,34 @@ fn early_end(rest: &[u8], stage: &Stage, count: u64) -> Option<u64>
     Some(count + 1)
 }
 
+/// The number of the first line that is wrong, of a text that is read from the first line on.
+fn first_wrong_from(
+    alloc: Global,
+    asked: &Asked<'_>,
+    form: Form,
+    stage: &mut Stage,
+    text: &[u8],
+) -> Result<Option<u64>, Memory>
+    requires asked { IsAsked asked.now }
+    requires few { length (schema_in asked.now).constraints < 2 ^ 64 }
+    requires start { stage.old ≡ variant.Head }
+    ensures none { IfOk result (λ o. IsNone o
+        → IsCertificateText form (schema_in asked.now) (question_in asked.now) (names_in asked.now) text.now) }
+    ensures some { IfOk result (λ o. IfSome o
+        (IsWrongAt form (schema_in asked.now) (question_in asked.now) (names_in asked.now) text.now)) }
+{
+    let mut rest = text;
+    let mut count = 0u64;
+    'lines: while let Some((line, others)) = next_line(rest) {
+        if !step(alloc, asked, form, stage, line)? {
+            return Ok(Some(count + 1));
+        }
+        rest = others;
+        count += 1;
+    }
+    Ok(early_end(rest, stage, count))
+}
+
 /// The number of the first line that is wrong, from 1 on, if one is; where the text ends too early, the one after its
 /// last. One pass over the text. `Memory`: out of memory.
 pub(crate) fn first_wrong(
@@ -71,15 +100,5 @@ pub(crate) fn first_wrong(
         (IsWrongAt form (schema_in asked.now) (question_in asked.now) (names_in asked.now) text.now)) }
 {
     let mut stage = Stage::Head;
-    let mut rest = text;
-    let mut count = 0u64;
-    'lines: while let Some((line, others)) = next_line(rest) {
-        match step(alloc, asked, form, stage, line)? {
-            Some(later) => stage = later,
-            None => return Ok(Some(count + 1)),
-        }
-        rest = others;
-        count += 1;
-    }
-    Ok(early_end(rest, &stage, count))
+    first_wrong_from(alloc, asked, form, &mut stage, text)
 }

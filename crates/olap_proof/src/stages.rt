@@ -3,8 +3,8 @@ ghost use Rattle.std.specs.Prelude.{◌≡◌, ◌≤◌, ◌+◌, ◌↔◌, �
 ghost use Rattle.olap_base.specs.Graph.{IsCategory};
 ghost use Rattle.olap_proof.specs.Asking.{IsAsked};
 ghost use Rattle.olap_proof.specs.Certificates.{Open.Bottom, bottom_text, head_text};
-ghost use Rattle.olap_proof.specs.Stages.{IsStage, IsStageAfter, StepsTo, bottoms_from, open_at};
-ghost use Rattle.olap_proof.specs.declared.stages.Stage.TheVariants as stage;
+ghost use Rattle.olap_proof.specs.Stages.{IsStage, StepsTo, bottoms_from, if_done, open_at};
+ghost use Rattle.olap_proof.specs.declared.stages.Stage.TheVariants as variant;
 
 use crate::Form;
 use crate::advancing::{Effect, advance};
@@ -85,88 +85,94 @@ fn stage_from(asked: &Asked<'_>, first: u16) -> Stage
     }
 }
 
-/// What the line does above the tree of the bottom category. `Memory`: out of memory.
+/// Moves on to what is open where all bottom categories before this number are done.
+fn move_on(asked: &Asked<'_>, first: u16, stage: &mut Stage)
+    requires { 1 ≤ first }
+    ensures stage { IsStage asked.now stage.new }
+    ensures open { open_at asked.now stage.new ≡ map Bottom (bottoms_from asked.now.graph.now first) }
+{
+    *stage = stage_from(asked, first);
+}
+
+/// Moves on after the tree of this category.
+fn leave_tree(asked: &Asked<'_>, root: CatId, stage: &mut Stage)
+    requires { IsCategory asked.now.graph.now root.0 }
+    ensures stage { IsStage asked.now stage.new }
+    ensures open { open_at asked.now stage.new ≡ map Bottom (bottoms_from asked.now.graph.now (root.0 + 1)) }
+{
+    // Called for its clause: there are few categories.
+    let _few = asked.graph.categories();
+    move_on(asked, root.0 + 1, stage);
+}
+
+/// Moves into the tree of the bottom category, if the line is the one above it. Whether it is. `Memory`: out of
+/// memory.
 fn begin(
     alloc: Global,
     asked: &Asked<'_>,
     form: Form,
     root: CatId,
     line: &[u8],
-) -> Result<Option<Stage>, Memory>
+    stage: &mut Stage,
+) -> Result<bool, Memory>
     requires asked { IsAsked asked.now }
     requires root { IsCategory asked.now.graph.now root.0 }
-    ensures { IfOk result (StepsTo form asked.now (stage.Bottom root) line.now) }
+    ensures { IfOk result (λ done. StepsTo form asked.now (variant.Bottom root) line.now (if_done done stage.new)) }
 {
     if !is_bottom_line(asked.graph, root, line) {
-        return Ok(None);
+        return Ok(false);
     }
     let place = Place::new(alloc, asked.graph, root)?;
-    Ok(Some(Stage::Tree(Branch {
+    *stage = Stage::Tree(Branch {
         root,
         place,
         choices: Vec::new(alloc),
-    })))
+    });
+    Ok(true)
 }
 
-/// What is open after a line that had this effect on the branch.
-fn stage_after(asked: &Asked<'_>, branch: Branch, effect: Effect) -> Option<Stage>
-    requires { IsCategory asked.now.graph.now branch.root.0 }
-    ensures { IsStageAfter asked.now branch effect result }
-{
-    // Called for its clause: there are few categories.
-    let _few = asked.graph.categories();
-    match effect {
-        Effect::Nothing => None,
-        Effect::Still => Some(Stage::Tree(branch)),
-        Effect::Closed => Some(stage_from(asked, branch.root.0 + 1)),
-    }
-}
-
-/// What the line does in a tree. `Memory`: out of memory.
-fn go_on_in(
-    asked: &Asked<'_>,
-    form: Form,
-    branch: Branch,
-    line: &[u8],
-) -> Result<Option<Stage>, Memory>
-    requires asked { IsAsked asked.now }
-    requires stage { IsStage asked.now (stage.Tree branch) }
-    ensures { IfOk result (StepsTo form asked.now (stage.Tree branch) line.now) }
-{
-    let mut branch = branch;
-    let root = branch.root;
-    let effect = advance(
-        asked,
-        form,
-        root,
-        &mut branch.place,
-        &mut branch.choices,
-        line,
-    )?;
-    Ok(stage_after(asked, branch, effect))
-}
-
-/// What is open after the line, if it does something. `Memory`: out of memory.
+/// Moves on to what is open after the line, if it does something. Whether it does. `Memory`: out of memory.
 pub(crate) fn step(
     alloc: Global,
     asked: &Asked<'_>,
     form: Form,
-    stage: Stage,
+    stage: &mut Stage,
     line: &[u8],
-) -> Result<Option<Stage>, Memory>
+) -> Result<bool, Memory>
     requires asked { IsAsked asked.now }
-    requires stage { IsStage asked.now stage }
-    ensures { IfOk result (StepsTo form asked.now stage line.now) }
+    requires stage { IsStage asked.now stage.old }
+    ensures { IfOk result (λ done. StepsTo form asked.now stage.old line.now (if_done done stage.new)) }
 {
     match stage {
         Stage::Head => {
-            if is_head(form, line) {
-                return Ok(Some(stage_from(asked, 1)));
+            if !is_head(form, line) {
+                return Ok(false);
             }
-            Ok(None)
+            move_on(asked, 1, stage);
+            Ok(true)
         }
-        Stage::Bottom(root) => begin(alloc, asked, form, root, line),
-        Stage::Tree(branch) => go_on_in(asked, form, branch, line),
-        Stage::Done => Ok(None),
+        Stage::Bottom(root) => {
+            let root = *root;
+            begin(alloc, asked, form, root, line, stage)
+        }
+        Stage::Tree(branch) => {
+            let root = branch.root;
+            match advance(
+                asked,
+                form,
+                root,
+                &mut branch.place,
+                &mut branch.choices,
+                line,
+            )? {
+                Effect::Nothing => Ok(false),
+                Effect::Still => Ok(true),
+                Effect::Closed => {
+                    leave_tree(asked, root, stage);
+                    Ok(true)
+                }
+            }
+        }
+        Stage::Done => Ok(false),
     }
 }

@@ -1,28 +1,60 @@
-use Rattle.std.proofs.Common.{List, [], ◌∷◌, subst, sym}
+use Rattle.std.proofs.Common.{List, [], ◌∷◌, refl, subst, sym}
+use Rattle.std.specs.Prelude.{Some}
+use Rattle.olap_proof.specs.Advancing.{Advances}
 use Rattle.olap_proof.specs.Asking.{names_in, question_in, schema_in}
 use Rattle.olap_proof.specs.Certificates.{Open, Open.Head}
-use Rattle.olap_proof.specs.Stages.{RunsFor, open_at}
+use Rattle.olap_proof.specs.Stages.{IsStage, RunsFor, StepsTo, open_at}
+use Rattle.olap_proof.specs.declared.advancing.Effect.{Effect}
+use Rattle.olap_proof.specs.declared.stages.Branch.{Branch}
 use Rattle.olap_proof.specs.declared.stages.Stage.{Stage}
+use Rattle.olap_proof.specs.declared.stages.Stage.TheVariants as variant
+use Rattle.olap_proof.proofs.LeadingLemmas.{at_closed, at_still}
 use Rattle.olap_proof.proofs.StageLemmas.{head_none, head_runs}
 use Rattle.olap_proof.proofs.stages.step.Goals as goal
 
-pub returns-then-is_head : goal.returns-then-is_head
-returns-then-is_head c =
+pub returns-else-not-is_head : goal.returns-else-not-is_head
+returns-else-not-is_head c =
     let a = c.args.asked.now in
     let f = c.args.form in
     let x = c.args.line.now in
-    let next = c.stage_from.result in (
-      c.stage_from.ensures.stage,
+    let next = c.move_on.new.stage in (
+      c.move_on.ensures.stage,
       subst (λ (y : Stage). RunsFor f a (x ∷ []) (open_at a y) (open_at a next)) (sym c.in-Head.is)
-          (subst (λ (os : List Open). RunsFor f a (x ∷ []) (Head ∷ []) os) (sym c.stage_from.ensures.open)
-          (head_runs f (schema_in a) (question_in a) (names_in a) x (c.is_head.ensures.0 c.if-is_head.true))),
+          (subst (λ (os : List Open). RunsFor f a (x ∷ []) (Head ∷ []) os) (sym c.move_on.ensures.open)
+          (head_runs f (schema_in a) (question_in a) (names_in a) x (c.is_head.ensures.0 c.if-not-is_head.false))),
     )
 
-pub returns-else-is_head : goal.returns-else-is_head
-returns-else-is_head c = λ left run.
+pub returns-then-not-is_head : goal.returns-then-not-is_head
+returns-then-not-is_head c = λ left run.
     let a = c.args.asked.now in
     let f = c.args.form in
     let x = c.args.line.now in
     head_none f (schema_in a) (question_in a) (names_in a) x
-    (λ e. let z = c.is_head.ensures.1 e in let n = c.if-is_head.false in cc) left
+    (λ e. let z = c.is_head.ensures.1 e in let n = c.if-not-is_head.true in cc) left
     (subst (λ (y : Stage). RunsFor f a (x ∷ []) (open_at a y) left) c.in-Head.is run)
+
+pub returns-in-Still : goal.returns-in-Still
+returns-in-Still c =
+    let a = c.args.asked.now in
+    let f = c.args.form in
+    let x = c.args.line.now in
+    let b = c.in-Tree.branch in
+    let later : Branch = record { root = b.root; place = c.advance.new.place; choices = c.advance.new.choices } in
+    let there = subst (λ (y : Stage). IsStage a y) c.in-Tree.is c.requires.stage in
+    let advances = subst (λ (e : Effect). Advances f a b.place b.choices.items x later.place later.choices.items e)
+    c.in-Still.is c.in_ok-advance-in-Tree.ensures in
+    subst (λ (y : Stage). StepsTo f a y x (Some (variant.Tree later))) (sym c.in-Tree.is)
+    (at_still f a b x later advances refl there)
+
+pub returns-in-Closed : goal.returns-in-Closed
+returns-in-Closed c =
+    let a = c.args.asked.now in
+    let f = c.args.form in
+    let x = c.args.line.now in
+    let b = c.in-Tree.branch in
+    let later : Branch = record { root = b.root; place = c.advance.new.place; choices = c.advance.new.choices } in
+    let next = c.leave_tree.new.stage in
+    let advances = subst (λ (e : Effect). Advances f a b.place b.choices.items x later.place later.choices.items e)
+    c.in-Closed.is c.in_ok-advance-in-Tree.ensures in
+    subst (λ (y : Stage). StepsTo f a y x (Some next)) (sym c.in-Tree.is)
+    (at_closed f a b x later next advances c.leave_tree.ensures.stage c.leave_tree.ensures.open)

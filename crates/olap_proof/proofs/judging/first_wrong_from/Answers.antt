@@ -1,20 +1,23 @@
 use Rattle.std.proofs.Common.{◌≡◌, ◌+◌, suc, List, ℕ, Bor, sym, ◌∷◌, ap, arith, length, refl, subst, ◌∙◌}
 use Rattle.std.specs.Prelude.{IsNone, Option}
 use Rattle.std.proofs.lemmas.List.{length-append}
-use Rattle.olap_proof.specs.Stages.{StepsTo, open_at}
+use Rattle.olap_proof.specs.Stages.{IsReached, IsStage, StepsTo, if_done, open_at}
 use Rattle.olap_proof.specs.declared.stages.Stage.{Stage}
 use Rattle.olap_proof.proofs.StageLemmas.{reached_more, reached_start, right_end, wrong_after, wrong_here}
-use Rattle.olap_proof.proofs.judging.first_wrong.Goals as goal
+use Rattle.olap_proof.proofs.judging.first_wrong_from.Goals as goal
 
 pub lines-init : goal.lines-init
-lines-init c = record {
-  reached = reached_start c.args.form c.args.asked.now c.args.text.now;
-  stage = tt;
-  few = omega arith;
-}
+lines-init c =
+    let a = c.args.asked.now in
+    record {
+      reached = subst (λ (y : Stage). IsReached c.args.form a c.args.text.now c.args.text.now 0 (open_at a y))
+          (sym c.requires.start) (reached_start c.args.form a c.args.text.now);
+      stage = subst (λ (y : Stage). IsStage a y) (sym c.requires.start) tt;
+      few = omega arith;
+    }
 
-pub returns-in-None-clause-some : goal.returns-in-None-clause-some
-returns-in-None-clause-some c =
+pub returns-then-not-branch-clause-some : goal.returns-then-not-branch-clause-some
+returns-then-not-branch-clause-some c =
     let a = c.args.asked.now in
     let x = c.in-Some.line.now in (
       c.lines.count,
@@ -22,7 +25,8 @@ returns-in-None-clause-some c =
       wrong_here c.args.form a c.args.text.now c.lines.rest.now x c.in-Some.others.now c.lines.count c.lines.stage
           c.requires.asked.hierarchy c.requires.few c.lines.invariant.reached c.in-Some.ensures.some
           c.in-Some.ensures.whole
-          (subst (λ (o : Option Stage). StepsTo c.args.form a c.lines.stage x o) c.in-None.is c.in_ok-later.ensures),
+          (subst (λ b. StepsTo c.args.form a c.lines.stage x (if_done b c.step.new.stage)) c.if-not-branch.true
+          c.in_ok-step.ensures),
     )
 
 pub lines-preserved : goal.lines-preserved
@@ -30,9 +34,9 @@ lines-preserved c =
     let a = c.args.asked.now in
     let x = c.in-Some.line.now in
     let others = c.in-Some.others.now in
-    let later = c.in-Some-2.later in
-    let steps = subst (λ (o : Option Stage). StepsTo c.args.form a c.lines.stage x o) c.in-Some-2.is
-    c.in_ok-later.ensures in
+    let later = c.step.new.stage in
+    let steps = subst (λ b. StepsTo c.args.form a c.lines.stage x (if_done b later)) c.if-not-branch.false
+    c.in_ok-step.ensures in
     let count : length c.lines.rest.now ≡ length x + suc (length others) =
     ap length c.in-Some.ensures.some ∙ length-append x (10 ∷ others) in
     record {
