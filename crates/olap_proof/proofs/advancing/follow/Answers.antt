@@ -1,4 +1,8 @@
+use Rattle.std.proofs.Common.{List, [], refl, subst}
+use Rattle.olap_proof.specs.Advancing.{StepsAt}
 use Rattle.olap_proof.specs.Asking.{names_in, question_in, schema_in}
+use Rattle.olap_proof.specs.Branches.{GoesOn}
+use Rattle.olap_proof.specs.Certificates.{Open}
 use Rattle.olap_proof.specs.Doing.{leaves_open}
 use Rattle.olap_proof.specs.Reading.{meaning}
 use Rattle.olap_proof.proofs.BranchLemmas.{branch_split}
@@ -14,3 +18,23 @@ returns-in-Some c = λ bytes d.
     let split = branch_split c.in-Some.first c.requires.branch legal c.in_ok-choose.ensures.place
     c.in_ok-choose.ensures.choices (c.in-Some.ensures.some k p) in
     (split.branch, split.first, λ acc. (cases, d.step, split.left acc))
+
+pub returns-then-branch : goal.returns-then-branch
+returns-then-branch c = λ bytes d.
+    let a = c.args.asked.now in
+    let p = c.args.place.now in
+    let on = subst (λ b. GoesOn a.graph.now a.candidates.now p c.args.choices.now.items c.go_on.new.place
+    c.go_on.new.choices.items b) c.if-branch.true c.in_ok-go_on.ensures in
+    let step = subst (λ (os : List Open). StepsAt c.args.form a p bytes os)
+    (c.in_default.ensures.none refl a.candidates.now p) d.step in
+    (on.0, on.1, λ acc. ([], step, on.2 acc))
+
+pub returns-else-branch : goal.returns-else-branch
+returns-else-branch c = λ bytes d acc.
+    let a = c.args.asked.now in
+    let p = c.args.place.now in
+    let on = subst (λ b. GoesOn a.graph.now a.candidates.now p c.args.choices.now.items c.go_on.new.place
+    c.go_on.new.choices.items b) c.if-branch.false c.in_ok-go_on.ensures in
+    let step = subst (λ (os : List Open). StepsAt c.args.form a p bytes os)
+    (c.in_default.ensures.none refl a.candidates.now p) d.step in
+    ([], step, on acc)
