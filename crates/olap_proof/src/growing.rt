@@ -33,8 +33,7 @@ pub(crate) fn grow(
     ensures same { OnOk result (case.new ≡ case.old) }
 {
     if let Some(line) = case.closing_line(asked, form) {
-        push_bounded(out, asked.graph, asked.constraints, line)?;
-        return Ok(());
+        return push_bounded(out, asked.graph, asked.constraints, line);
     }
     if let Some(edge) = next_edge(case, asked, form) {
         push_bounded(out, asked.graph, asked.constraints, Line::Edge(edge))?;
@@ -42,9 +41,9 @@ pub(crate) fn grow(
         grow(case, asked, form, out)?;
         case.undecide();
         case.decide(edge, true);
-        grow(case, asked, form, out)?;
+        let grown = grow(case, asked, form, out);
         case.undecide();
-        return Ok(());
+        return grown;
     }
     if let Some(c) = next_name(case, asked) {
         push_bounded(out, asked.graph, asked.constraints, Line::Name(c))?;

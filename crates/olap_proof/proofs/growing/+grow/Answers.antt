@@ -1,9 +1,11 @@
 -- Below each split the place is one of the schema's, with less to decide; the lines so far close what was split.
-use Rattle.std.proofs.Common.{refl, ◌≡◌, ◌≢◌, ℕ, None, ◌<◌, ◌≤◌, ◌+◌, [], ◌∷◌, length, map, ap, subst, ◌∙◌, arith, true, false}
+use Rattle.std.proofs.Common.{refl, ◌≡◌, ◌≢◌, ℕ, None, ◌<◌, ◌≤◌, ◌+◌, [], ◌∷◌, ◌++◌, length, map, ap, subst, ◌∙◌, arith, true, false}
 use Rattle.std.specs.List.{range_with_len}
+use Rattle.std.proofs.lemmas.Result.{on_ok_weaker}
 use Rattle.olap_proof.specs.Asking.{IsUnnamed, names_in, question_in, schema_in}
 use Rattle.olap_proof.specs.Certificates.{Open.At, with_edge, with_name}
 use Rattle.olap_base.specs.Graph.{IsDeclared}
+use Rattle.olap_proof.specs.Lines.{line_text}
 use Rattle.olap_proof.specs.Places.{Place, index_of}
 use Rattle.olap_proof.specs.Reading.{meaning}
 use Rattle.olap_proof.specs.Trees.{Adds}
@@ -14,8 +16,15 @@ pub returns-in-Some-clause-tree : goal.returns-in-Some-clause-tree
 returns-in-Some-clause-tree t c =
     let a = c.args.asked.now in
     let h = c.in-Some.ensures.some in
+    on_ok_weaker c.push_bounded.result
+    (λ (e : c.push_bounded.new.out.items ≡ c.args.out.now.items ++ (line_text a.graph.now (meaning c.in-Some.line) ++ 10 ∷ [])).
     adds_leaf c.args.form (schema_in a) (question_in a) (names_in a) c.args.case.now (meaning c.in-Some.line)
-    c.args.out.now.items c.push_bounded.new.out.items h.0 h.1 c.in_ok-push_bounded.ensures
+    c.args.out.now.items c.push_bounded.new.out.items h.0 h.1 e) c.push_bounded.ensures
+
+pub returns-in-Some-clause-same : goal.returns-in-Some-clause-same
+returns-in-Some-clause-same t c = on_ok_weaker c.push_bounded.result
+    (λ (e : c.push_bounded.new.out.items ≡ c.args.out.now.items
+    ++ (line_text c.args.asked.now.graph.now (meaning c.in-Some.line) ++ 10 ∷ [])). refl) c.push_bounded.ensures
 
 pub grow-requires : goal.grow-requires
 grow-requires t c =
@@ -29,8 +38,8 @@ grow-requires t c =
       (c.requires.asked, (below.place, below.none)),
     )
 
-pub grow-requires-in-Some-next_edge : goal.grow-requires-in-Some-next_edge
-grow-requires-in-Some-next_edge t c =
+pub grow-grown-requires : goal.grow-grown-requires
+grow-grown-requires t c =
     let a = c.args.asked.now in
     let p = c.args.case.now in
     let e = c.in-Some-next_edge.edge.0 in
@@ -52,11 +61,25 @@ returns-in-Some-next_edge-clause-tree t c =
     let first = c.decide.ensures ∙ ap (λ x. with_edge x e false) c.next_edge.ensures.same in
     let back = c.undecide.ensures p e false (c.in_ok-grow.ensures.same ∙ first) in
     let second = c.decide-in-Some-next_edge.ensures ∙ ap (λ x. with_edge x e true) back in
+    on_ok_weaker c.grow-grown.result
+    (λ (tree : Adds c.args.form (schema_in a) (question_in a) (names_in a) (At c.decide-in-Some-next_edge.new.self ∷ [])
+    c.grow.new.out.items c.grow-grown.new.out.items).
     edge_written c.args.form (schema_in a) (question_in a) (names_in a) p c.decide.new.self
     c.decide-in-Some-next_edge.new.self e c.args.out.now.items
-    c.push_bounded-in-Some-next_edge.new.out.items c.grow.new.out.items c.grow-in-Some-next_edge.new.out.items
-    c.in-Some-next_edge.ensures.some c.in_ok-push_bounded-2.ensures first second c.in_ok-grow.ensures.tree
-    c.in_ok-grow-2.ensures.tree
+    c.push_bounded-in-Some-next_edge.new.out.items c.grow.new.out.items c.grow-grown.new.out.items
+    c.in-Some-next_edge.ensures.some c.in_ok-push_bounded.ensures first second c.in_ok-grow.ensures.tree tree)
+    c.grow-grown.ensures.tree
+
+pub returns-in-Some-next_edge-clause-same : goal.returns-in-Some-next_edge-clause-same
+returns-in-Some-next_edge-clause-same t c =
+    let p = c.args.case.now in
+    let e = c.in-Some-next_edge.edge.0 in
+    let first = c.decide.ensures ∙ ap (λ x. with_edge x e false) c.next_edge.ensures.same in
+    let back = c.undecide.ensures p e false (c.in_ok-grow.ensures.same ∙ first) in
+    let second = c.decide-in-Some-next_edge.ensures ∙ ap (λ x. with_edge x e true) back in
+    on_ok_weaker c.grow-grown.result
+    (λ (same : c.grow-grown.new.case ≡ c.decide-in-Some-next_edge.new.self).
+    c.undecide-in-Some-next_edge.ensures p e true (same ∙ second)) c.grow-grown.ensures.same
 
 pub grow-requires-in-names : goal.grow-requires-in-names
 grow-requires-in-names t c =
@@ -79,13 +102,13 @@ names-preserved t c =
     let a = c.args.asked.now in
     let d = c.in-Some-next_name.c in
     let back = c.unname.ensures c.names.case d.0 c.names.index
-    (c.in_ok-grow-3.ensures.same ∙ c.in_ok-name.ensures) in
+    (c.in_ok-grow-2.ensures.same ∙ c.in_ok-name.ensures) in
     let new = c.in_ok-name.ensures ∙ ap (λ x. with_name x d.0 c.names.index) c.names.invariant.same in
     record {
       same = back ∙ c.names.invariant.same;
       written = name_written c.args.form (schema_in a) (question_in a) (names_in a) c.next_edge.new.case
           c.name.new.self d.0 c.names.index c.push_bounded-in-Some-next_name.new.out.items
-          c.names.out.items c.grow-in-names.new.out.items c.names.invariant.written new c.in_ok-grow-3.ensures.tree;
+          c.names.out.items c.grow-in-names.new.out.items c.names.invariant.written new c.in_ok-grow-2.ensures.tree;
     }
 
 pub returns-after-names-clause-tree : goal.returns-after-names-clause-tree
@@ -100,7 +123,7 @@ returns-after-names-clause-tree t c =
     c.next_edge.ensures.same
     (adds_names c.args.form s (question_in a) (names_in a) p d.0 c.args.out.now.items
     c.push_bounded-in-Some-next_name.new.out.items c.names.out.items c.in-Some-next_name.ensures.some.0
-    c.in-Some-next_name.ensures.some.1 c.in_ok-push_bounded-3.ensures
+    c.in-Some-next_name.ensures.some.1 c.in_ok-push_bounded-2.ensures
     (subst (λ n. Adds c.args.form s (question_in a) (names_in a)
     (map (λ i. At (with_name p d.0 i)) (range_with_len 0 n)) c.push_bounded-in-Some-next_name.new.out.items
     c.names.out.items) all c.names.invariant.written))
