@@ -67,9 +67,9 @@ impl Place {
         // Called for its clause: there are few categories.
         let _few = graph.categories();
         Ok(Place {
+            ways: Ways::new(alloc)?,
             trail: Trail::new(alloc, graph, root)?,
             namings: Vec::new(alloc),
-            ways: Ways::new(alloc)?,
         })
     }
 

@@ -85,13 +85,11 @@ fn stage_from(asked: &Asked<'_>, first: u16) -> Stage
     }
 }
 
-/// Moves on to what is open where all bottom categories before this number are done.
-fn move_on(asked: &Asked<'_>, first: u16, stage: &mut Stage)
-    requires { 1 ≤ first }
-    ensures stage { IsStage asked.now stage.new }
-    ensures open { open_at asked.now stage.new ≡ map Bottom (bottoms_from asked.now.graph.now first) }
+/// Moves on to this stage.
+fn move_to(stage: &mut Stage, later: Stage)
+    ensures { stage.new ≡ later }
 {
-    *stage = stage_from(asked, first);
+    *stage = later;
 }
 
 /// Moves on after the tree of this category.
@@ -102,7 +100,7 @@ fn leave_tree(asked: &Asked<'_>, root: CatId, stage: &mut Stage)
 {
     // Called for its clause: there are few categories.
     let _few = asked.graph.categories();
-    move_on(asked, root.0 + 1, stage);
+    move_to(stage, stage_from(asked, root.0 + 1));
 }
 
 /// Moves into the tree of the bottom category, if the line is the one above it. Whether it is. `Memory`: out of
@@ -123,11 +121,12 @@ fn begin(
         return Ok(false);
     }
     let place = Place::new(alloc, asked.graph, root)?;
-    *stage = Stage::Tree(Branch {
+    let branch = Branch {
         root,
         place,
         choices: Vec::new(alloc),
-    });
+    };
+    move_to(stage, Stage::Tree(branch));
     Ok(true)
 }
 
@@ -148,7 +147,7 @@ pub(crate) fn step(
             if !is_head(form, line) {
                 return Ok(false);
             }
-            move_on(asked, 1, stage);
+            move_to(stage, stage_from(asked, 1));
             Ok(true)
         }
         Stage::Bottom(root) => {

@@ -1,7 +1,10 @@
-use Rattle.std.proofs.Common.{◌+◌, map, refl}
+use Rattle.std.proofs.Common.{◌+◌, map, refl, subst, sym}
+use Rattle.std.specs.Prelude.{Some}
 use Rattle.olap_proof.specs.Asking.{names_in, question_in, schema_in}
 use Rattle.olap_proof.specs.Certificates.{Open.Bottom}
-use Rattle.olap_proof.specs.Stages.{bottoms_from}
+use Rattle.olap_proof.specs.Stages.{StepsTo, bottoms_from}
+use Rattle.olap_proof.specs.declared.stages.Stage.{Stage}
+use Rattle.olap_proof.specs.declared.stages.Stage.TheVariants as variant
 use Rattle.olap_proof.proofs.LeadingLemmas.{begun}
 use Rattle.olap_proof.proofs.StageLemmas.{bottom_none}
 use Rattle.olap_proof.proofs.stages.begin.Goals as goal
@@ -15,7 +18,10 @@ returns-then-not-is_bottom_line c =
 
 pub returns : goal.returns
 returns c =
-    begun c.args.form c.args.asked.now c.args.root c.args.line.now
+    let a = c.args.asked.now in
+    subst (λ (y : Stage). StepsTo c.args.form a (variant.Bottom c.args.root) c.args.line.now (Some y))
+    (sym c.move_to.ensures)
+    (begun c.args.form a c.args.root c.args.line.now
     (record { root = c.args.root; place = c.in_ok-place.place; choices = c.new-2.result }) c.requires.asked
     c.requires.root (c.is_bottom_line.ensures.0 c.if-not-is_bottom_line.false) refl c.in_ok-place.ensures
-    c.new-2.ensures.items
+    c.new-2.ensures.items)

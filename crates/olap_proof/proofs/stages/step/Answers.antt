@@ -17,10 +17,11 @@ returns-else-not-is_head c =
     let a = c.args.asked.now in
     let f = c.args.form in
     let x = c.args.line.now in
-    let next = c.move_on.new.stage in (
-      c.move_on.ensures.stage,
+    let next = c.stage_from.result in
+    subst (λ (y : Stage). StepsTo f a c.args.stage.now x (Some y)) (sym c.move_to.ensures) (
+      c.stage_from.ensures.stage,
       subst (λ (y : Stage). RunsFor f a (x ∷ []) (open_at a y) (open_at a next)) (sym c.in-Head.is)
-          (subst (λ (os : List Open). RunsFor f a (x ∷ []) (Head ∷ []) os) (sym c.move_on.ensures.open)
+          (subst (λ (os : List Open). RunsFor f a (x ∷ []) (Head ∷ []) os) (sym c.stage_from.ensures.open)
           (head_runs f (schema_in a) (question_in a) (names_in a) x (c.is_head.ensures.0 c.if-not-is_head.false))),
     )
 
