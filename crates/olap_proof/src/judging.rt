@@ -36,13 +36,6 @@ fn is_done(stage: &Stage) -> bool
     }
 }
 
-/// Whether the text is at its end, and nothing is open.
-fn is_over(rest: &[u8], stage: &Stage) -> bool
-    ensures { (a : AnyAsked) → IsTrue result ↔ ((rest.now ≡ []) × (open_at a stage.now ≡ [])) }
-{
-    rest.is_empty() && is_done(stage)
-}
-
 /// The line at which the text ends too early, if it does: the one after so many.
 fn early_end(rest: &[u8], stage: &Stage, count: u64) -> Option<u64>
     requires { count + 1 < 2 ^ 64 }
@@ -50,7 +43,7 @@ fn early_end(rest: &[u8], stage: &Stage, count: u64) -> Option<u64>
     ensures some { (a : AnyAsked) → IfSome result (λ line. (line ≡ count + 1)
         × ((rest.now ≡ []) × (open_at a stage.now ≡ []) → ⊥)) }
 {
-    if is_over(rest, stage) {
+    if rest.is_empty() && is_done(stage) {
         return None;
     }
     Some(count + 1)

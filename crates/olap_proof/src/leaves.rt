@@ -19,28 +19,12 @@ use olap_ast::{Constraint, Formula, Truth3};
 use olap_base::{CatId, EdgeId};
 use olap_eval::holds3;
 
-/// The child of an edge.
-fn child(known: &Known<'_>, e: EdgeId) -> CatId
-    requires { e.0 < length known.now.graph.now.edges }
-    ensures { result.0 ≡ (edge_at known.now.graph.now e.0).child }
-{
-    known.graph.ends(e).0
-}
-
 /// Whether the edge was decided absent.
 fn is_absent(known: &Known<'_>, e: EdgeId) -> bool
     requires { e.0 < length known.now.graph.now.edges }
     ensures { IsTrue result ↔ (status_of known.now.place.now.decided e.0 ≡ Some false) }
 {
     known.place.status(e) == Some(false)
-}
-
-/// The parent of an edge.
-fn parent(known: &Known<'_>, e: EdgeId) -> CatId
-    requires { e.0 < length known.now.graph.now.edges }
-    ensures { result.0 ≡ (edge_at known.now.graph.now e.0).parent }
-{
-    known.graph.ends(e).1
 }
 
 /// Whether all edges out of the category were decided absent.
@@ -71,7 +55,8 @@ fn is_no_step(known: &Known<'_>, e: EdgeId, to: CatId) -> bool
     requires { e.0 < length known.now.graph.now.edges }
     ensures { IsTrue result ↔ IsNoStep known.now.form known.now.graph.now known.now.place.now to.0 e.0 }
 {
-    is_absent(known, e) || known.truth_of_reach(parent(known, e), to) == Truth3::No
+    let (_, parent) = known.graph.ends(e);
+    is_absent(known, e) || known.truth_of_reach(parent, to) == Truth3::No
 }
 
 /// Whether no edge out of the one category is a step to the other.
@@ -114,8 +99,8 @@ fn is_loose(known: &Known<'_>, e: EdgeId) -> bool
     requires { e.0 < length known.now.graph.now.edges }
     ensures { IsTrue result ↔ IsLoose known.now.graph.now known.now.place.now e.0 }
 {
-    let from = child(known, e);
-    from.0 != known.root.0 && known.place.status(e) == Some(true) && is_cut_off(known, from)
+    let (child, _) = known.graph.ends(e);
+    child.0 != known.root.0 && known.place.status(e) == Some(true) && is_cut_off(known, child)
 }
 
 /// Whether `loose C` closes the place, in the short form.
