@@ -26,16 +26,6 @@ fn next_line(text: &[u8]) -> Option<(&[u8], &[u8])>
     }
 }
 
-/// Whether nothing is open.
-fn is_done(stage: &Stage) -> bool
-    ensures { (a : AnyAsked) → IsTrue result ↔ (open_at a stage.now ≡ []) }
-{
-    match stage {
-        Stage::Done => true,
-        Stage::Head | Stage::Bottom(_) | Stage::Tree(_) => false,
-    }
-}
-
 /// The line at which the text ends too early, if it does: the one after so many.
 fn early_end(rest: &[u8], stage: &Stage, count: u64) -> Option<u64>
     requires { count + 1 < 2 ^ 64 }
@@ -43,7 +33,7 @@ fn early_end(rest: &[u8], stage: &Stage, count: u64) -> Option<u64>
     ensures some { (a : AnyAsked) → IfSome result (λ line. (line ≡ count + 1)
         × ((rest.now ≡ []) × (open_at a stage.now ≡ []) → ⊥)) }
 {
-    if rest.is_empty() && is_done(stage) {
+    if rest.is_empty() && matches!(stage, Stage::Done) {
         return None;
     }
     Some(count + 1)
