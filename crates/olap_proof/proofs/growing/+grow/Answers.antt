@@ -16,15 +16,21 @@ pub returns-in-Some-clause-tree : goal.returns-in-Some-clause-tree
 returns-in-Some-clause-tree t c =
     let a = c.args.asked.now in
     let h = c.in-Some.ensures.some in
+    let l = meaning c.in-Some.line in
+    let old = c.args.out.now.items in
+    let new = c.push_bounded.new.out.items in
     on_ok_weaker c.push_bounded.result
-    (λ (e : c.push_bounded.new.out.items ≡ c.args.out.now.items ++ (line_text a.graph.now (meaning c.in-Some.line) ++ 10 ∷ [])).
-    adds_leaf c.args.form (schema_in a) (question_in a) (names_in a) c.args.case.now (meaning c.in-Some.line)
-    c.args.out.now.items c.push_bounded.new.out.items h.0 h.1 e) c.push_bounded.ensures
+    (λ (e : new ≡ old ++ (line_text a.graph.now l ++ 10 ∷ [])).
+    adds_leaf c.args.form (schema_in a) (question_in a) (names_in a) c.args.case.now l old new h.0 h.1 e)
+    c.push_bounded.ensures
 
 pub returns-in-Some-clause-same : goal.returns-in-Some-clause-same
-returns-in-Some-clause-same t c = on_ok_weaker c.push_bounded.result
-    (λ (e : c.push_bounded.new.out.items ≡ c.args.out.now.items
-    ++ (line_text c.args.asked.now.graph.now (meaning c.in-Some.line) ++ 10 ∷ [])). refl) c.push_bounded.ensures
+returns-in-Some-clause-same t c =
+    let l = meaning c.in-Some.line in
+    let old = c.args.out.now.items in
+    let new = c.push_bounded.new.out.items in
+    on_ok_weaker c.push_bounded.result
+    (λ (e : new ≡ old ++ (line_text c.args.asked.now.graph.now l ++ 10 ∷ [])). refl) c.push_bounded.ensures
 
 pub grow-requires : goal.grow-requires
 grow-requires t c =

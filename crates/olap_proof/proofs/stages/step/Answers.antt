@@ -1,5 +1,5 @@
 use Rattle.std.proofs.Common.{List, [], ◌∷◌, refl, subst, sym}
-use Rattle.std.specs.Prelude.{Some}
+use Rattle.std.specs.Prelude.{None, Some}
 use Rattle.olap_proof.specs.Advancing.{Advances}
 use Rattle.olap_proof.specs.Asking.{names_in, question_in, schema_in}
 use Rattle.olap_proof.specs.Certificates.{Open, Open.Head}
@@ -9,7 +9,7 @@ use Rattle.olap_proof.specs.declared.stages.Branch.{Branch}
 use Rattle.olap_proof.specs.declared.stages.Stage.{Stage}
 use Rattle.olap_proof.specs.declared.stages.Stage.TheVariants as variant
 use Rattle.olap_proof.proofs.LeadingLemmas.{at_closed, at_still}
-use Rattle.olap_proof.proofs.StageLemmas.{head_none, head_runs}
+use Rattle.olap_proof.proofs.StageLemmas.{head_none, head_runs, place_none}
 use Rattle.olap_proof.proofs.stages.step.Goals as goal
 
 pub returns-else-not-is_head : goal.returns-else-not-is_head
@@ -59,3 +59,14 @@ returns-in-Closed c =
     c.in-Closed.is c.in_ok-advance-in-Tree.ensures in
     subst (λ (y : Stage). StepsTo f a y x (Some next)) (sym c.in-Tree.is)
     (at_closed f a b x later next advances c.leave_tree.ensures.stage c.leave_tree.ensures.open)
+
+pub returns-in-Nothing : goal.returns-in-Nothing
+returns-in-Nothing c =
+    let a = c.args.asked.now in
+    let f = c.args.form in
+    let x = c.args.line.now in
+    let b = c.in-Tree.branch in
+    let advances = subst (λ (e : Effect). Advances f a b.place b.choices.items x c.advance.new.place
+    c.advance.new.choices.items e) c.in-Nothing.is c.in_ok-advance-in-Tree.ensures in
+    subst (λ (y : Stage). StepsTo f a y x None) (sym c.in-Tree.is)
+    (place_none f (schema_in a) (question_in a) (names_in a) x b.place _ advances)
