@@ -1,6 +1,5 @@
 // Categories that are reached by edges that weren't decided absent, and by what is known to be there.
-ghost use Rattle.std.specs.Prelude.{◌≡◌, ◌<◌, ◌&&◌, ℕ, Contains, IfSome, IsNone, length, not, true};
-ghost use Rattle.std.specs.FinSet as sets;
+ghost use Rattle.std.specs.Prelude.{◌≡◌, ◌<◌, ℕ, Contains, IfSome, IsNone, length, true};
 ghost use Rattle.olap_base.specs.Graph.{Graph as AnyGraph, HasEdge, category_count};
 ghost use Rattle.olap_base.specs.Limits.{most_categories};
 ghost use Rattle.olap_bits.specs.Sets.{members};
@@ -14,19 +13,12 @@ use olap_base::{CatId, EdgeId};
 use olap_graph::{Categories, Graph};
 use olap_trail::Decision;
 
-/// Whether the one category is in the set, and the other isn't.
-fn lacks(set: &Categories, child: CatId, parent: CatId) -> bool
-    ensures { result ≡ sets.contains (members set.now) child.0 && not (sets.contains (members set.now) parent.0) }
-{
-    set.has(child.0) && !set.has(parent.0)
-}
-
 /// Adds a category to the set, where an edge joins it to another in the set. Whether the set grew, now or before.
 fn add(set: &mut Categories, joins: bool, child: CatId, parent: CatId, grew: bool) -> bool
     requires { parent.0 < most_categories }
     ensures { IsAdded (members set.old) joins child.0 parent.0 grew (members set.new) result }
 {
-    if joins && lacks(set, child, parent) {
+    if joins && set.has(child.0) && !set.has(parent.0) {
         *set = set.with(parent.0);
         return true;
     }
