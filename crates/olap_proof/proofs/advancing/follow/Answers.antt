@@ -38,3 +38,9 @@ returns-else-branch c = λ bytes d acc.
     let step = subst (λ (os : List Open). StepsAt c.args.form a p bytes os)
     (c.in_default.ensures.none refl a.candidates.now p) d.step in
     ([], step, on acc)
+
+pub choose-requires-clause-legal : goal.choose-requires-clause-legal
+choose-requires-clause-legal c =
+    let a = c.args.asked.now in
+    let d = c.requires.does.1 in
+    c.in-Some.ensures.legal c.args.form (schema_in a) (question_in a) a.candidates.now c.args.place.now d.about d.does
