@@ -142,3 +142,9 @@ returns-in_default-next_name-clause-tree t c =
     (c.in_default.ensures.none refl) (c.in_default-next_edge.ensures.none refl)
     (subst (λ (y : Place). (x : ℕ) → IsDeclared a.graph.now x → index_of y.namings x ≢ None) c.next_edge.ensures.same
     (c.in_default-next_name.ensures.none refl)))
+
+pub push_bounded-requires : goal.push_bounded-requires
+push_bounded-requires t c = c.in-Some.ensures.some.0
+
+pub push_bounded-requires-in-Some-next_edge : goal.push_bounded-requires-in-Some-next_edge
+push_bounded-requires-in-Some-next_edge t c = c.in-Some-next_edge.ensures.some.0
