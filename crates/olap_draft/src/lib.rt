@@ -1,7 +1,7 @@
 //! Drafts of certificates, by a search of which nothing is promised.
 //!
-//! A draft is a text that may be a certificate; whoever asks for one has it verified. Nothing is proved here but that each
-//! call returns, and does no harm.
+//! A draft is a text that may be a certificate; whoever asks for one has it verified. Nothing is proved here but that
+//! each call returns, and does no harm.
 #![tactic(auto)]
 
 mod activities;
