@@ -6,8 +6,6 @@
 
 mod file_library;
 mod stdout_sink;
-#[cfg(test)]
-mod tests;
 
 pub use file_library::FileLibrary;
 pub use stdout_sink::StdoutSink;

@@ -1,6 +1,6 @@
 // The library of real files reads what was written to a file, and refuses a name that isn't there.
-use crate::FileLibrary;
 use olap_base::{FetchError, fetch};
+use olap_files::FileLibrary;
 use std::fs;
 use std::test::Fail;
 
