@@ -2,6 +2,7 @@
 use Rattle.std.proofs.Common.{ℕ, List, ◌++◌, refl, sym, ◌∙◌, subst}
 use Rattle.olap_clauses.specs.declared.trails.Step.{Step}
 use Rattle.olap_clauses.specs.Standing.{AgreesDecisions}
+use Rattle.olap_clauses.proofs.OutcomeLemmas.{false_is_not_true, true_is_not_false}
 use Rattle.olap_clauses.proofs.engine.Engine.exists.Goals as goal
 
 pub returns-in-Found : goal.returns-in-Found
@@ -17,7 +18,7 @@ returns-in-Found g c =
     let suits = λ (n : ℕ). g.J.Judge.Suits c.args.judge.now c.search.new.state n in
     record {
       found = λ _. (more.0, subst took trail more.1);
-      nothing = λ e. absurd (cc);
+      nothing = λ e. absurd (true_is_not_false e);
       trail = s.trail ∙ trail;
       variables = s.variables ∙ variables;
       admits = λ v m a. s.admits v m (p.admits v (r.admits v (i.admits v m a)));
@@ -34,7 +35,7 @@ returns-in-Nothing g c =
     let variables = p.variables ∙ r.variables ∙ i.variables in
     let suits = λ (n : ℕ). g.J.Judge.Suits c.args.judge.now c.search.new.state n in
     record {
-      found = λ e. absurd (cc);
+      found = λ e. absurd (false_is_not_true e);
       nothing = λ _ v m a d. c.in-Nothing.ensures.nothing refl v m (p.admits v (r.admits v (i.admits v m a)))
           (subst (λ (ss : List Step). AgreesDecisions v ss) (sym trail) d);
       trail = s.trail ∙ trail;
@@ -55,4 +56,57 @@ rounds-preserved g c =
       variables = s.variables ∙ p.variables ∙ r.variables ∙ i.variables;
       admits = λ v m a. s.admits v m (p.admits v (r.admits v (i.admits v m a)));
       suits = subst suits (p.variables ∙ r.variables ∙ i.variables) s.suits;
+    }
+
+pub rounds-init : goal.rounds-init
+rounds-init g c = record {
+  trail = refl;
+  variables = refl;
+  admits = λ v m a. a;
+  suits = c.requires.suits;
+}
+
+pub returns-in-Found-search : goal.returns-in-Found-search
+returns-in-Found-search g c =
+    let i = c.rounds.invariant in
+    let s = c.search-2.ensures in
+    let more = c.in-Found-search.ensures.found refl in
+    let took = λ (ss : List Step). g.J.Judge.Took c.args.judge.now c.search-2.new.state (ss ++ more.0) in
+    let suits = λ (n : ℕ). g.J.Judge.Suits c.args.judge.now c.search-2.new.state n in
+    record {
+      found = λ _. (more.0, subst took i.trail more.1);
+      nothing = λ e. absurd (true_is_not_false e);
+      trail = s.trail ∙ i.trail;
+      variables = s.variables ∙ i.variables;
+      admits = λ v m a. s.admits v m (i.admits v m a);
+      suits = subst suits i.variables s.suits;
+    }
+
+pub returns-in-Nothing-search : goal.returns-in-Nothing-search
+returns-in-Nothing-search g c =
+    let i = c.rounds.invariant in
+    let s = c.search-2.ensures in
+    let suits = λ (n : ℕ). g.J.Judge.Suits c.args.judge.now c.search-2.new.state n in
+    record {
+      found = λ e. absurd (false_is_not_true e);
+      nothing = λ _ v m a d. c.in-Nothing-search.ensures.nothing refl v m (i.admits v m a)
+          (subst (λ (ss : List Step). AgreesDecisions v ss) (sym i.trail) d);
+      trail = s.trail ∙ i.trail;
+      variables = s.variables ∙ i.variables;
+      admits = λ v m a. s.admits v m (i.admits v m a);
+      suits = subst suits i.variables s.suits;
+    }
+
+pub returns-in-Stop-search : goal.returns-in-Stop-search
+returns-in-Stop-search g c =
+    let i = c.rounds.invariant in
+    let s = c.search-2.ensures in
+    let suits = λ (n : ℕ). g.J.Judge.Suits c.args.judge.now c.search-2.new.state n in
+    record {
+      found = λ e. absurd (false_is_not_true e);
+      nothing = λ _ v m a d. absurd (false_is_not_true (c.in-Stop-search.ensures.stop refl));
+      trail = s.trail ∙ i.trail;
+      variables = s.variables ∙ i.variables;
+      admits = λ v m a. s.admits v m (i.admits v m a);
+      suits = subst suits i.variables s.suits;
     }
