@@ -9,7 +9,7 @@ ghost use Rattle.olap_grammar.specs.Words.{compared_of, comparison_in, compariso
 ghost use Rattle.std.specs.Char.{is_ascii_digit};
 ghost use Rattle.std.specs.List.{list_all, position};
 ghost use Rattle.std.specs.Option.{option_map};
-ghost use Rattle.std.specs.Prelude.{◌≡◌, ◌==◌, ◌<◌, ◌+◌, ◌∷◌, ℕ, ℤ, IfOk, IfSome, List as Items, None, Some, if◌then◌else◌, length, map, vec_len};
+ghost use Rattle.std.specs.Prelude.{◌≡◌, ◌==◌, ◌<◌, ◌+◌, ◌++◌, ◌∷◌, ℕ, ℤ, IfOk, OnOk, IfSome, List as Items, None, Some, if◌then◌else◌, length, map, vec_len};
 ghost use Rattle.std.specs.Str.{bytes_eq};
 
 use crate::{Known, Version};
@@ -17,7 +17,7 @@ use olap_ast::{Formula, Op};
 use olap_base::{CatId, List, Memory, Text};
 use olap_graph::category_name;
 use olap_numerals::number;
-use std::alloc::{AllocError, Global};
+use std::alloc::Global;
 
 /// Whether the word is that text.
 pub(crate) fn is(word: &[u8], text: &[u8]) -> bool
@@ -44,35 +44,6 @@ fn id(known: &Known, name: &[u8]) -> CatId
     }
 }
 
-/// The parts of a word between marks.
-fn slices(alloc: Global, mark: u8, word: &[u8]) -> Result<Vec<&[u8]>, AllocError>
-    ensures { IfOk result (λ v. map (λ p. p.now) v.items ≡ pieces_of mark word.now) }
-{
-    word.split(|b| *b == mark).collect(alloc)
-}
-
-/// The same bytes as texts.
-fn copies(alloc: Global, parts: &[&[u8]]) -> Result<Vec<Text>, Memory>
-    ensures { IfOk result (λ v. v.items ≡ map (λ p. p.now) parts.now) }
-{
-    let mut texts = Vec::new(alloc);
-    for part in parts {
-        texts.push(Text::from_bytes(alloc, part)?)?;
-    }
-    Ok(texts)
-}
-
-/// The parts of a word between marks; there is at least one. `Memory` where there is no room.
-#[tactic(auto, using(crate::proofs::WordLemmas::some_pieces))]
-pub fn pieces(alloc: Global, mark: u8, word: &[u8]) -> Result<Vec<Text>, Memory>
-    ensures found { IfOk result (λ v. v.items ≡ pieces_of mark word.now) }
-    ensures some { IfOk result (λ v. 0 < vec_len v) }
-{
-    let parts = slices(alloc, mark, word)?;
-    let texts = copies(alloc, &parts)?;
-    Ok(texts)
-}
-
 /// How many marks stand in a word: one less than it has parts.
 #[tactic(auto, using(crate::proofs::WordLemmas::pieces_count))]
 pub fn marks(mark: u8, word: &[u8]) -> usize
@@ -97,6 +68,32 @@ pub fn first_piece(mark: u8, text: &[u8]) -> (&[u8], Option<&[u8]>)
     match place(mark, text) {
         Some(end) => (&text[..end], Some(&text[end + 1..])),
         None => (text, None),
+    }
+}
+
+/// Appends the parts of a word between marks.
+fn push_pieces(alloc: Global, mark: u8, word: &[u8], texts: &mut Vec<Text>) -> Result<(), Memory>
+    ensures { OnOk result (texts.new.items ≡ texts.old.items ++ pieces_of mark word.now) }
+{
+    let mut left = Some(word);
+    'parts: while let Some(text) = left {
+        let (part, others) = first_piece(mark, text);
+        texts.push(Text::from_bytes(alloc, part)?)?;
+        left = others;
+    }
+    Ok(())
+}
+
+/// The parts of a word between marks; there is at least one. `Memory` where there is no room.
+#[tactic(auto, using(crate::proofs::WordLemmas::some_pieces))]
+pub fn pieces(alloc: Global, mark: u8, word: &[u8]) -> Result<Vec<Text>, Memory>
+    ensures found { IfOk result (λ v. v.items ≡ pieces_of mark word.now) }
+    ensures some { IfOk result (λ v. 0 < vec_len v) }
+{
+    let mut texts = Vec::new(alloc);
+    match push_pieces(alloc, mark, word, &mut texts) {
+        Ok(()) => Ok(texts),
+        Err(e) => Err(e),
     }
 }
 
@@ -155,7 +152,7 @@ fn reach(known: &Known, parts: &[Text]) -> Option<Formula>
 }
 
 /// The category whose names or numbers a word of these parts speaks of, if it speaks of one.
-fn compared_category(known: &Known, parts: &[Text]) -> Option<CatId>
+fn compared_part(known: &Known, parts: &[Text]) -> Option<CatId>
     ensures names { (text : Items ℕ) →
         option_map (λ c. meaning.Formula.Equals c.0 text) result ≡ equal_of (graph_seen known.now) text parts.now }
     ensures numbers { (op : comparing.Op) (n : ℤ) →
@@ -173,19 +170,20 @@ fn compared_category(known: &Known, parts: &[Text]) -> Option<CatId>
     None
 }
 
-fn equal(
-    alloc: Global,
-    known: &Known,
-    text: &Text,
-    parts: &[Text],
-) -> Result<Option<Formula>, Memory>
-    ensures { IfOk result (λ f. option_map formula_of f ≡ equal_of (graph_seen known.now) text.now parts.now) }
+/// The category whose names or numbers the word speaks of, if it speaks of one.
+fn compared_category(alloc: Global, known: &Known, word: &Text) -> Result<Option<CatId>, Memory>
+    ensures names { IfOk result (λ found. (text : Items ℕ) → option_map (λ c. meaning.Formula.Equals c.0 text) found
+        ≡ equal_of (graph_seen known.now) text (pieces_of 46 word.now)) }
+    ensures numbers { IfOk result (λ found. (op : comparing.Op) (n : ℤ) →
+        option_map (λ c. meaning.Formula.Compare c.0 op n) found
+        ≡ compared_of (graph_seen known.now) op n (pieces_of 46 word.now)) }
 {
-    let Some(category) = compared_category(known, parts) else {
+    let word = word.bytes();
+    if marks(b'.', word) > 1 {
         return Ok(None);
-    };
-    let text = Text::from_bytes(alloc, text.bytes())?;
-    Ok(Some(Formula::Equals(category, text)))
+    }
+    let parts = pieces(alloc, b'.', word)?;
+    Ok(compared_part(known, &parts))
 }
 
 /// What a word is by itself.
@@ -197,19 +195,20 @@ pub(crate) fn plain_word(
 ) -> Result<Option<Formula>, Memory>
     ensures { IfOk result (λ f. option_map formula_of f ≡ plain_of (graph_seen known.now) word.now) }
 {
-    if is(word.bytes(), b"true") {
+    let word = word.bytes();
+    if is(word, b"true") {
         return Ok(Some(Formula::True));
     }
-    if is(word.bytes(), b"false") {
+    if is(word, b"false") {
         return Ok(Some(Formula::False));
     }
-    if marks(b'_', word.bytes()) > 0 {
-        return path(alloc, known, word.bytes());
+    if marks(b'_', word) > 0 {
+        return path(alloc, known, word);
     }
-    if marks(b'.', word.bytes()) > 2 {
+    if marks(b'.', word) > 2 {
         return Ok(None);
     }
-    let parts = pieces(alloc, b'.', word.bytes())?;
+    let parts = pieces(alloc, b'.', word)?;
     Ok(reach(known, &parts))
 }
 
@@ -223,11 +222,13 @@ pub(crate) fn equality(
 ) -> Result<Option<Formula>, Memory>
     ensures { IfOk result (λ f. option_map formula_of f ≡ equality_of (graph_seen known.now) word.now text.now) }
 {
-    if marks(b'.', word.bytes()) > 1 {
-        return Ok(None);
+    match compared_category(alloc, known, word)? {
+        Some(category) => Ok(Some(Formula::Equals(
+            category,
+            Text::from_bytes(alloc, text.bytes())?,
+        ))),
+        None => Ok(None),
     }
-    let parts = pieces(alloc, b'.', word.bytes())?;
-    equal(alloc, known, text, &parts)
 }
 
 /// What stands behind a `-`, if one stands in front.
@@ -256,30 +257,6 @@ pub fn is_number_token(text: &[u8]) -> bool
     !digits.is_empty() && are_digits(digits)
 }
 
-fn compared(known: &Known, op: Op, n: i64, parts: &[Text]) -> Option<Formula>
-    ensures { option_map formula_of result ≡ compared_of (graph_seen known.now) (op_of op) n parts.now }
-{
-    match compared_category(known, parts) {
-        Some(category) => Some(Formula::Compare(category, op, n)),
-        None => None,
-    }
-}
-
-/// What a word is with the number.
-fn with_value(
-    alloc: Global,
-    known: &Known,
-    word: &Text,
-    op: Op,
-    n: i64,
-) -> Result<Option<Formula>, Memory>
-    ensures { IfOk result (λ f. option_map formula_of f
-        ≡ compared_of (graph_seen known.now) (op_of op) n (pieces_of 46 word.now)) }
-{
-    let parts = pieces(alloc, b'.', word.bytes())?;
-    Ok(compared(known, op, n, &parts))
-}
-
 /// What a word is with a text that may be a number.
 #[tactic(auto, unfolding(crate::specs::Words::comparison_of))]
 fn with_number(
@@ -292,10 +269,17 @@ fn with_number(
     ensures { IfOk result (λ f. option_map formula_of f
         ≡ comparison_of (graph_seen known.now) word.now (op_of op) digits.now) }
 {
-    if !is_number_token(digits.bytes()) || marks(b'.', word.bytes()) > 1 {
+    if !is_number_token(digits.bytes()) {
         return Ok(None);
     }
-    with_value(alloc, known, word, op, number(digits.bytes()).unwrap_or(0))
+    match compared_category(alloc, known, word)? {
+        Some(category) => Ok(Some(Formula::Compare(
+            category,
+            op,
+            number(digits.bytes()).unwrap_or(0),
+        ))),
+        None => Ok(None),
+    }
 }
 
 /// What a word is with a number, in the version.
