@@ -17,14 +17,14 @@ stays_stuck v [] = refl
 stays_stuck v (b ∷ bs) = stays_stuck v bs
 
 -- where a step fails, the line can't be cut
-pub cut_fails : (v : Version) (e : CutRefusal) (old k : Kept) (next : Going) (line bs : List ℕ)
-    → fold (kept_step v) (Between old) line ≡ fold (kept_step v) next bs → CutsTo (Err e) k next
+pub cut_fails : (v : Version) (e : CutRefusal) (old k : Kept) (next : Going) (word line bs : List ℕ)
+    → fold (kept_step v) (Between old) line ≡ fold (kept_step v) next bs → CutsTo (Err e) word k next
     → (most : ℕ) → old ≡ nothing_kept most → FailsWith e (kept_tokens v most line)
 unfolding kept_tokens
-cut_fails v refusal.BadForm old k next line bs i h most z =
+cut_fails v refusal.BadForm old k next word line bs i h most z =
     let j : fold (kept_step v) (Between (nothing_kept most)) line ≡ fold (kept_step v) next bs = rw z at i in
     rw (j, h, stays_stuck v bs) refl
-cut_fails v refusal.Memory old k next line bs i h most z = tt
+cut_fails v refusal.Memory old k next word line bs i h most z = tt
 
 -- a line has one cut, since the machine finds each
 pub one_cut : (v : Version) (line : List ℕ) (ts us : List Token) → IsCut v line ts → IsCut v line us → ts ≡ us

@@ -3,7 +3,7 @@
 --     CutsTo             one step of the cutter goes on so, or can go no further
 --     FailsWith          a refusal is right where nothing was found
 --     CutEnds            the end of the line leaves what was found
-use Rattle.std.specs.Prelude.{◌≡◌, Result, Ok, Err, Option, Some, None}
+use Rattle.std.specs.Prelude.{◌≡◌, ℕ, List, Result, Ok, Err, Option, Some, None}
 use Rattle.olap_grammar.specs.Keeping as keeping
 use Rattle.olap_grammar.specs.Keeping.{Kept}
 use Rattle.olap_grammar.specs.declared.cutting.Begun.{Begun}
@@ -16,22 +16,22 @@ use Rattle.olap_grammar.specs.declared.refusals.CutRefusal.TheVariants as refusa
 abbrev pub kept_of : FirstTokens → Kept
 kept_of t = record { most = t.most; first = t.first.items; more = t.more; tally = t.tally }
 
--- what was begun, after what is kept
-abbrev pub cut_of : Begun → Kept → keeping.Going
-cut_of begun.Nothing k = keeping.Going.Between k
-cut_of (begun.Word w) k = keeping.Going.InWord k w.items
-cut_of (begun.Quotes q) k = keeping.Going.InQuotes k q.items
-cut_of (begun.Escape q) k = keeping.Going.Escaped k q.items
-cut_of (begun.Signed w) k = keeping.Going.InSigned k w.items
-cut_of begun.Dash k = keeping.Going.Dash k
-cut_of begun.Less k = keeping.Going.Less k
-cut_of begun.LessDash k = keeping.Going.LessDash k
+-- what was begun, with its bytes, after what is kept
+abbrev pub cut_of : Begun → List ℕ → Kept → keeping.Going
+cut_of begun.Nothing bs k = keeping.Going.Between k
+cut_of begun.Word bs k = keeping.Going.InWord k bs
+cut_of begun.Quotes bs k = keeping.Going.InQuotes k bs
+cut_of begun.Escape bs k = keeping.Going.Escaped k bs
+cut_of begun.Signed bs k = keeping.Going.InSigned k bs
+cut_of begun.Dash bs k = keeping.Going.Dash k
+cut_of begun.Less bs k = keeping.Going.Less k
+cut_of begun.LessDash bs k = keeping.Going.LessDash k
 
 -- the cutter goes on to the state, or is stuck
-abbrev pub CutsTo : Result Begun CutRefusal → Kept → keeping.Going → Type 0
-CutsTo (Ok begun) k next = next ≡ cut_of begun k
-CutsTo (Err refusal.BadForm) k next = next ≡ keeping.Going.Stuck
-CutsTo (Err refusal.Memory) k next = Unit {0}
+abbrev pub CutsTo : Result Begun CutRefusal → List ℕ → Kept → keeping.Going → Type 0
+CutsTo (Ok begun) bs k next = next ≡ cut_of begun bs k
+CutsTo (Err refusal.BadForm) bs k next = next ≡ keeping.Going.Stuck
+CutsTo (Err refusal.Memory) bs k next = Unit {0}
 
 -- there are no tokens, or memory is short
 abbrev pub FailsWith : {A : Type 0} → CutRefusal → Option A → Type 0

@@ -4,7 +4,7 @@
 --     cut_step     after one more byte
 --     cut_ended    at the end of the line
 --     tokens_of    the tokens of a line, if it can be cut
-use Rattle.std.specs.Prelude.{◌==◌, ◌&&◌, ℕ, Bool, true, false, List, [], ◌∷◌, ◌++◌, Option, Some, None, if◌then◌else◌}
+use Rattle.std.specs.Prelude.{◌==◌, ◌&&◌, ℕ, List, [], ◌∷◌, ◌++◌, Option, Some, None, if◌then◌else◌}
 use Rattle.std.specs.List.{fold}
 use Rattle.std.specs.Char.{is_ascii_digit}
 use Rattle.olap_grammar.specs.Cutting.{has_numbers, is_word_byte}

@@ -1,17 +1,18 @@
 // Cutting a line into tokens.
-ghost use Rattle.std.specs.Prelude.{◌≡◌, [], ◌∷◌, ℕ, IfOk, OnOk, MatchResult};
+ghost use Rattle.std.specs.Prelude.{◌≡◌, [], ◌∷◌, ◌++◌, ℕ, IfErr, IfOk, OnOk, List as Items, MatchResult};
 ghost use Rattle.olap_grammar.specs.Cutting.{has_numbers as has_numbers_of};
 ghost use Rattle.olap_grammar.specs.CuttingMachine.{mark_of, tokens_of};
 ghost use Rattle.olap_grammar.specs.declared.tokens.Version.{Version as TheVersion};
 ghost use Rattle.olap_grammar.specs.Keeping as keeping;
 ghost use Rattle.olap_grammar.specs.Keeping.{BeginsFound, Kept, keep, kept_tokens, nothing_kept};
 ghost use Rattle.olap_grammar.specs.Cutting.{is_word_byte as is_word_byte_of};
+ghost use Rattle.olap_grammar.specs.declared.refusals.CutRefusal.TheVariants as refusal;
 ghost use Rattle.olap_grammar.specs.Cutter.{CutEnds, CutsTo, FailsWith, cut_of, kept_of};
-ghost use Rattle.olap_grammar.specs.declared.tokens.Token.TheVariants as token;
 
 use crate::{CutRefusal, Joint, Mark, Tally, Token, Version};
 use olap_base::{Memory, Text};
 use std::alloc::Global;
+use std::mem;
 
 /// The tokens of a line from the first on, as many as may be kept.
 #[derive(Drop)]
@@ -26,14 +27,14 @@ pub struct FirstTokens {
     pub most: usize,
 }
 
-/// What was begun.
-#[derive(Drop)]
+/// What was begun. Its bytes stand apart.
+#[derive(Clone, Copy)]
 enum Begun {
     Nothing,
-    Word(Vec<u8>),
-    Quotes(Vec<u8>),
-    Escape(Vec<u8>),
-    Signed(Vec<u8>),
+    Word,
+    Quotes,
+    Escape,
+    Signed,
     Dash,
     Less,
     LessDash,
@@ -46,38 +47,35 @@ fn is_word_byte(byte: u8) -> bool
     byte.is_ascii_alphanumeric() || byte == b'_' || byte == b'.'
 }
 
-/// The token after the others.
-fn add(version: Version, tokens: &mut FirstTokens, token: Token) -> Result<(), Memory>
-    ensures { OnOk result (kept_of tokens.new ≡ keep version (kept_of tokens.old) token) }
+/// The token after the others. Nothing is begun behind it.
+fn add(version: Version, tokens: &mut FirstTokens, token: Token) -> Result<Begun, CutRefusal>
+    ensures goes { (bs : Items ℕ) → CutsTo result bs (kept_of tokens.new)
+        (keeping.Between (keep version (kept_of tokens.old) token)) }
+    ensures kept { OnOk result (kept_of tokens.new ≡ keep version (kept_of tokens.old) token) }
+    ensures memory { IfErr result (λ e. e ≡ refusal.Memory) }
 {
     tokens.tally.add(version, &token)?;
     if tokens.first.len() < tokens.most {
         tokens.first.push(token)?;
-        return Ok(());
+        return Ok(Begun::Nothing);
     }
     tokens.more = true;
-    Ok(())
+    Ok(Begun::Nothing)
 }
 
-/// The word after the others.
-fn add_word(version: Version, tokens: &mut FirstTokens, word: Vec<u8>) -> Result<(), Memory>
-    ensures { OnOk result (kept_of tokens.new ≡ keep version (kept_of tokens.old) (token.Word word.items)) }
+/// The byte is one more of what was begun.
+fn push(bytes: &mut Vec<u8>, byte: u8, begun: Begun) -> Result<Begun, CutRefusal>
+    ensures { (k : Kept) → CutsTo result bytes.new.items k (cut_of begun (bytes.old.items ++ byte ∷ []) k) }
 {
-    add(version, tokens, Token::Word(Text::from_vec(word)))
+    bytes.push(byte)?;
+    Ok(begun)
 }
 
-/// The string after the others.
-fn add_quoted(version: Version, tokens: &mut FirstTokens, text: Vec<u8>) -> Result<(), Memory>
-    ensures { OnOk result (kept_of tokens.new ≡ keep version (kept_of tokens.old) (token.Quoted text.items)) }
+/// The bytes that were begun, as a text. None are left.
+fn taken(alloc: Global, bytes: &mut Vec<u8>) -> Text
+    ensures { result ≡ bytes.old.items }
 {
-    add(version, tokens, Token::Quoted(Text::from_vec(text)))
-}
-
-/// The number with its sign after the others.
-fn add_signed(version: Version, tokens: &mut FirstTokens, number: Vec<u8>) -> Result<(), Memory>
-    ensures { OnOk result (kept_of tokens.new ≡ keep version (kept_of tokens.old) (token.Signed number.items)) }
-{
-    add(version, tokens, Token::Signed(Text::from_vec(number)))
+    Text::from_vec(mem::replace(bytes, Vec::new(alloc)))
 }
 
 /// The mark that the byte is by itself.
@@ -100,51 +98,27 @@ fn mark(byte: u8) -> Option<Mark>
 
 /// A byte where nothing was begun.
 fn between(
-    alloc: Global,
     version: Version,
     tokens: &mut FirstTokens,
+    bytes: &mut Vec<u8>,
     byte: u8,
 ) -> Result<Begun, CutRefusal>
-    ensures { CutsTo result (kept_of tokens.new) (keeping.between version (kept_of tokens.old) byte) }
+    ensures { CutsTo result bytes.new.items (kept_of tokens.new) (keeping.between version (kept_of tokens.old) byte) }
 {
+    bytes.clear();
     if is_word_byte(byte) {
-        let mut word = Vec::new(alloc);
-        word.push(byte)?;
-        return Ok(Begun::Word(word));
+        return push(bytes, byte, Begun::Word);
     }
     match byte {
         b' ' | b'\t' => Ok(Begun::Nothing),
-        b'"' => Ok(Begun::Quotes(Vec::new(alloc))),
+        b'"' => Ok(Begun::Quotes),
         b'-' => Ok(Begun::Dash),
         b'<' => Ok(Begun::Less),
         _ => match mark(byte) {
-            Some(mark) => {
-                add(version, tokens, Token::Mark(mark))?;
-                Ok(Begun::Nothing)
-            }
+            Some(mark) => add(version, tokens, Token::Mark(mark)),
             None => Err(CutRefusal::BadForm),
         },
     }
-}
-
-/// A byte after those of a word.
-fn in_word(
-    alloc: Global,
-    version: Version,
-    tokens: &mut FirstTokens,
-    word: Vec<u8>,
-    byte: u8,
-) -> Result<Begun, CutRefusal>
-    ensures { CutsTo result (kept_of tokens.new)
-        (keeping.kept_step version (keeping.InWord (kept_of tokens.old) word.items) byte) }
-{
-    let mut word = word;
-    if is_word_byte(byte) {
-        word.push(byte)?;
-        return Ok(Begun::Word(word));
-    }
-    add_word(version, tokens, word)?;
-    between(alloc, version, tokens, byte)
 }
 
 /// A byte in a string.
@@ -152,56 +126,28 @@ fn in_quotes(
     alloc: Global,
     version: Version,
     tokens: &mut FirstTokens,
-    text: Vec<u8>,
+    bytes: &mut Vec<u8>,
     byte: u8,
 ) -> Result<Begun, CutRefusal>
-    ensures { CutsTo result (kept_of tokens.new)
-        (keeping.kept_step version (keeping.InQuotes (kept_of tokens.old) text.items) byte) }
+    ensures { CutsTo result bytes.new.items (kept_of tokens.new)
+        (keeping.kept_step version (keeping.InQuotes (kept_of tokens.old) bytes.old.items) byte) }
 {
-    let mut text = text;
     match byte {
-        b'"' => {
-            add_quoted(version, tokens, text)?;
-            Ok(Begun::Nothing)
-        }
-        b'\\' => Ok(Begun::Escape(text)),
-        _ => {
-            text.push(byte)?;
-            Ok(Begun::Quotes(text))
-        }
+        b'"' => add(version, tokens, Token::Quoted(taken(alloc, bytes))),
+        b'\\' => Ok(Begun::Escape),
+        _ => push(bytes, byte, Begun::Quotes),
     }
 }
 
 /// A byte after a backslash in a string: a quotation mark or another backslash, and nothing else.
-fn escaped(text: Vec<u8>, byte: u8) -> Result<Begun, CutRefusal>
-    ensures { (v : TheVersion) (k : Kept) → CutsTo result k (keeping.kept_step v (keeping.Escaped k text.items) byte) }
+fn escaped(bytes: &mut Vec<u8>, byte: u8) -> Result<Begun, CutRefusal>
+    ensures { (v : TheVersion) (k : Kept) →
+        CutsTo result bytes.new.items k (keeping.kept_step v (keeping.Escaped k bytes.old.items) byte) }
 {
-    let mut text = text;
     if byte == b'"' || byte == b'\\' {
-        text.push(byte)?;
-        return Ok(Begun::Quotes(text));
+        return push(bytes, byte, Begun::Quotes);
     }
     Err(CutRefusal::BadForm)
-}
-
-/// A byte after those of a number with its sign.
-fn in_signed(
-    alloc: Global,
-    version: Version,
-    tokens: &mut FirstTokens,
-    number: Vec<u8>,
-    byte: u8,
-) -> Result<Begun, CutRefusal>
-    ensures { CutsTo result (kept_of tokens.new)
-        (keeping.kept_step version (keeping.InSigned (kept_of tokens.old) number.items) byte) }
-{
-    let mut number = number;
-    if is_word_byte(byte) {
-        number.push(byte)?;
-        return Ok(Begun::Signed(number));
-    }
-    add_signed(version, tokens, number)?;
-    between(alloc, version, tokens, byte)
 }
 
 /// Whether numbers may stand in a line.
@@ -215,76 +161,35 @@ fn has_numbers(version: Version) -> bool
 }
 
 /// A byte behind `-` that ends no arrow: it begins a number.
-fn after_dash(alloc: Global, version: Version, byte: u8) -> Result<Begun, CutRefusal>
-    ensures { (k : Kept) → CutsTo result k (keeping.after_dash version k byte) }
+fn after_dash(version: Version, bytes: &mut Vec<u8>, byte: u8) -> Result<Begun, CutRefusal>
+    ensures { (k : Kept) → CutsTo result bytes.new.items k (keeping.after_dash version k byte) }
 {
     if has_numbers(version) && byte.is_ascii_digit() {
-        let mut number = Vec::new(alloc);
-        number.push(b'-')?;
-        number.push(byte)?;
-        return Ok(Begun::Signed(number));
+        bytes.clear();
+        bytes.push(b'-')?;
+        return push(bytes, byte, Begun::Signed);
     }
     Err(CutRefusal::BadForm)
 }
 
-/// A byte behind `-`.
-fn in_dash(
-    alloc: Global,
+/// A byte behind `<` that isn't `-`.
+fn after_less(
     version: Version,
     tokens: &mut FirstTokens,
+    bytes: &mut Vec<u8>,
     byte: u8,
 ) -> Result<Begun, CutRefusal>
-    ensures { CutsTo result (kept_of tokens.new)
-        (keeping.kept_step version (keeping.Dash (kept_of tokens.old)) byte) }
+    ensures { CutsTo result bytes.new.items (kept_of tokens.new)
+        (keeping.after_less version (kept_of tokens.old) byte) }
 {
-    if byte == b'>' {
-        add(version, tokens, Token::Mark(Mark::Joint(Joint::Implies)))?;
-        return Ok(Begun::Nothing);
-    }
-    after_dash(alloc, version, byte)
-}
-
-/// A byte behind `<`.
-fn in_less(
-    alloc: Global,
-    version: Version,
-    tokens: &mut FirstTokens,
-    byte: u8,
-) -> Result<Begun, CutRefusal>
-    ensures { CutsTo result (kept_of tokens.new)
-        (keeping.kept_step version (keeping.Less (kept_of tokens.old)) byte) }
-{
-    if byte == b'-' {
-        return Ok(Begun::LessDash);
-    }
     if !has_numbers(version) {
         return Err(CutRefusal::BadForm);
     }
     if byte == b'=' {
-        add(version, tokens, Token::Mark(Mark::AtMost))?;
-        return Ok(Begun::Nothing);
+        return add(version, tokens, Token::Mark(Mark::AtMost));
     }
     add(version, tokens, Token::Mark(Mark::Less))?;
-    between(alloc, version, tokens, byte)
-}
-
-/// A byte behind `<-`.
-fn in_less_dash(
-    alloc: Global,
-    version: Version,
-    tokens: &mut FirstTokens,
-    byte: u8,
-) -> Result<Begun, CutRefusal>
-    ensures { CutsTo result (kept_of tokens.new)
-        (keeping.kept_step version (keeping.LessDash (kept_of tokens.old)) byte) }
-{
-    if byte == b'>' {
-        add(version, tokens, Token::Mark(Mark::Joint(Joint::Iff)))?;
-        return Ok(Begun::Nothing);
-    }
-    let number = after_dash(alloc, version, byte)?;
-    add(version, tokens, Token::Mark(Mark::Less))?;
-    Ok(number)
+    between(version, tokens, bytes, byte)
 }
 
 /// A byte of the line.
@@ -293,51 +198,70 @@ fn step(
     version: Version,
     tokens: &mut FirstTokens,
     begun: Begun,
+    bytes: &mut Vec<u8>,
     byte: u8,
 ) -> Result<Begun, CutRefusal>
-    ensures { CutsTo result (kept_of tokens.new)
-        (keeping.kept_step version (cut_of begun (kept_of tokens.old)) byte) }
+    ensures { CutsTo result bytes.new.items (kept_of tokens.new)
+        (keeping.kept_step version (cut_of begun bytes.old.items (kept_of tokens.old)) byte) }
 {
     match begun {
-        Begun::Nothing => between(alloc, version, tokens, byte),
-        Begun::Word(word) => in_word(alloc, version, tokens, word, byte),
-        Begun::Quotes(text) => in_quotes(alloc, version, tokens, text, byte),
-        Begun::Escape(text) => escaped(text, byte),
-        Begun::Signed(number) => in_signed(alloc, version, tokens, number, byte),
-        Begun::Dash => in_dash(alloc, version, tokens, byte),
-        Begun::Less => in_less(alloc, version, tokens, byte),
-        Begun::LessDash => in_less_dash(alloc, version, tokens, byte),
+        Begun::Nothing => between(version, tokens, bytes, byte),
+        Begun::Word if is_word_byte(byte) => push(bytes, byte, Begun::Word),
+        Begun::Word => {
+            add(version, tokens, Token::Word(taken(alloc, bytes)))?;
+            between(version, tokens, bytes, byte)
+        }
+        Begun::Signed if is_word_byte(byte) => push(bytes, byte, Begun::Signed),
+        Begun::Signed => {
+            add(version, tokens, Token::Signed(taken(alloc, bytes)))?;
+            between(version, tokens, bytes, byte)
+        }
+        Begun::Quotes => in_quotes(alloc, version, tokens, bytes, byte),
+        Begun::Escape => escaped(bytes, byte),
+        Begun::Dash if byte == b'>' => add(
+            version,
+            tokens,
+            Token::Mark(Mark::Joint(Joint::Implies)),
+        ),
+        Begun::Dash => after_dash(version, bytes, byte),
+        Begun::Less if byte == b'-' => Ok(Begun::LessDash),
+        Begun::Less => after_less(version, tokens, bytes, byte),
+        Begun::LessDash if byte == b'>' => add(
+            version,
+            tokens,
+            Token::Mark(Mark::Joint(Joint::Iff)),
+        ),
+        Begun::LessDash => {
+            add(version, tokens, Token::Mark(Mark::Less))?;
+            after_dash(version, bytes, byte)
+        }
     }
 }
 
-/// The end of the line.
-fn end(version: Version, tokens: &mut FirstTokens, begun: Begun) -> Result<(), CutRefusal>
-    ensures { CutEnds result (kept_of tokens.new) (keeping.kept_ended version (cut_of begun (kept_of tokens.old))) }
+/// The end of the line: it ends what a space ends, and no more.
+fn end(
+    alloc: Global,
+    version: Version,
+    tokens: &mut FirstTokens,
+    begun: Begun,
+    bytes: &mut Vec<u8>,
+) -> Result<(), CutRefusal>
+    ensures { CutEnds result (kept_of tokens.new)
+        (keeping.kept_ended version (cut_of begun bytes.old.items (kept_of tokens.old))) }
 {
-    match begun {
+    match step(alloc, version, tokens, begun, bytes, b' ')? {
         Begun::Nothing => Ok(()),
-        Begun::Word(word) => {
-            add_word(version, tokens, word)?;
-            Ok(())
-        }
-        Begun::Signed(number) => {
-            add_signed(version, tokens, number)?;
-            Ok(())
-        }
-        Begun::Less if has_numbers(version) => {
-            add(version, tokens, Token::Mark(Mark::Less))?;
-            Ok(())
-        }
         _ => Err(CutRefusal::BadForm),
     }
 }
 
-/// The first tokens of the line, where nothing is kept before.
+/// The first tokens of the line, where nothing is kept before. The bytes are room for what is begun.
 #[tactic(auto, unfolding(crate::specs::Keeping::kept_tokens))]
 fn cut(
     alloc: Global,
     version: Version,
     tokens: &mut FirstTokens,
+    bytes: &mut Vec<u8>,
     line: &[u8],
 ) -> Result<(), CutRefusal>
     ensures { (most : ℕ) → kept_of tokens.old ≡ nothing_kept most
@@ -346,13 +270,13 @@ fn cut(
     let mut begun = Begun::Nothing;
     let mut left = line;
     'bytes: while let Some((byte, others)) = left.split_first() {
-        match step(alloc, version, tokens, begun, *byte) {
+        match step(alloc, version, tokens, begun, bytes, *byte) {
             Ok(next) => begun = next,
             Err(e) => return Err(e),
         }
         left = others;
     }
-    end(version, tokens, begun)
+    end(alloc, version, tokens, begun, bytes)
 }
 
 /// The tokens that the line is cut into by the version, with spaces and tabs between them. As many are kept as `most`.
@@ -374,7 +298,7 @@ pub fn first_tokens(
         tally: Tally::new(),
         most,
     };
-    match cut(alloc, version, &mut found, line) {
+    match cut(alloc, version, &mut found, &mut Vec::new(alloc), line) {
         Ok(()) => Ok(found),
         Err(e) => Err(e),
     }

@@ -5,5 +5,5 @@ use Rattle.olap_grammar.proofs.cutting.cut.Goals as goal
 
 pub returns-in-Err : goal.returns-in-Err
 returns-in-Err c =
-    cut_fails c.args.version c.in-Err.e (kept_of c.args.tokens.now) _ _ c.args.line.now c.in-Some.others.now
+    cut_fails c.args.version c.in-Err.e (kept_of c.args.tokens.now) _ _ _ c.args.line.now c.in-Some.others.now
     (c.bytes.invariant ∙ rw c.in-Some.ensures.cases.0 refl) c.in-Err.ensures

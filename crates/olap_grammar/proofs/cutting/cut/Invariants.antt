@@ -6,7 +6,7 @@ use Rattle.olap_grammar.proofs.cutting.cut.Given as goal
 
 abbrev pub invariant-bytes : goal.invariant-bytes
 invariant-bytes l = fold (kept_step l.version) (Between (kept_of l.fn.tokens)) l.line
-    ≡ fold (kept_step l.version) (cut_of l.begun (kept_of l.tokens)) l.left
+    ≡ fold (kept_step l.version) (cut_of l.begun l.bytes.items (kept_of l.tokens)) l.left
 
 abbrev pub decreases-bytes : goal.decreases-bytes
 decreases-bytes l = length l.left
