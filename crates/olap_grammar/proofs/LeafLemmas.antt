@@ -13,7 +13,7 @@ use Rattle.olap_ast.specs.Valid.{depth_of}
 use Rattle.olap_base.specs.Limits.{most_depth}
 use Rattle.olap_grammar.specs.Answering.{IsRefusal, formula_answer}
 use Rattle.olap_grammar.specs.Clip.{AreLeaves, clip}
-use Rattle.olap_grammar.specs.Reader.{Built, Ends}
+use Rattle.olap_grammar.specs.Reader.{Built, ReadsNone}
 use Rattle.olap_grammar.specs.declared.refusals.FormRefusal.{FormRefusal}
 use Rattle.olap_grammar.specs.Words.{atoms_of, compared_of, comparison_in, comparison_of, equal_of, equality_of, id_of, is_number_token, path_of, pieces_of, plain_of, reach_of}
 use Rattle.olap_grammar.specs.declared.refusals.FormRefusal.TheVariants as refusal
@@ -138,7 +138,7 @@ no_formula (Some f) e = absurd cc
 
 -- so a refusal is that of the tokens
 pub refused : (o : Option Formula) (read : Option Built) (e : FormRefusal) → read ≡ option_map clip o
-    → Ends (Err e) read → IsRefusal e (formula_answer o)
+    → ReadsNone e read → IsRefusal e (formula_answer o)
 refused o read refusal.BadForm q h = no_formula o (sym q ∙ h)
 refused o read refusal.TooDeep q h = absurd h
 refused o read refusal.Memory q h = tt

@@ -5,7 +5,7 @@ use Rattle.olap_ast.specs.Formula as Meaning
 use Rattle.olap_grammar.specs.Clip.{clipped}
 use Rattle.olap_grammar.specs.Grammar.{Atoms, IsFormula}
 use Rattle.olap_grammar.specs.Machine.{Frame, State, Bad, step, ended, the_formula}
-use Rattle.olap_grammar.specs.Reader.{Built, GoesTo, Ends}
+use Rattle.olap_grammar.specs.Reader.{Built, GoesTo, ReadsNone}
 use Rattle.olap_grammar.specs.declared.tokens.Token.{Token}
 use Rattle.olap_grammar.specs.declared.refusals.FormRefusal.{FormRefusal}
 use Rattle.olap_grammar.specs.declared.refusals.FormRefusal.TheVariants as refusal
@@ -38,8 +38,8 @@ stays_bad a [] = refl
 stays_bad a (t ∷ ts) = stays_bad a ts
 
 -- where a step fails, there is no formula
-pub fails : (a : Atoms Built) (e : FormRefusal) (s : List (Frame Built)) (next : State Built) (ts : List Token)
-    → GoesTo (Err e) s next → Ends (Err e) (ended clipped a (fold (step clipped a) next ts))
-fails a refusal.BadForm s next ts h = rw (h, stays_bad a ts) refl
-fails a refusal.TooDeep s next ts h = h
-fails a refusal.Memory s next ts h = tt
+pub fails : (a : Atoms Built) (e : FormRefusal) (f : Built) (s : List (Frame Built)) (next : State Built)
+    (ts : List Token) → GoesTo (Err e) f s next → ReadsNone e (ended clipped a (fold (step clipped a) next ts))
+fails a refusal.BadForm f s next ts h = rw (h, stays_bad a ts) refl
+fails a refusal.TooDeep f s next ts h = h
+fails a refusal.Memory f s next ts h = tt

@@ -2,6 +2,7 @@
 --     Built                 a depth and a formula
 --     frame_of, state_of    what the program has, as the machine has it
 --     GoesBack, GoesTo      one step goes on as the machine does, or the form is bad
+--     ReadsNone             a refusal is right where nothing was read
 --     Ends                  the end of the tokens is that of the machine
 use Rattle.std.specs.Prelude.{◌≡◌, ℕ, List, Result, Ok, Err, Option, Some, None}
 use Rattle.olap_ast.specs.Formula.{Formula}
@@ -12,7 +13,6 @@ use Rattle.olap_grammar.specs.Clip.{leaves}
 use Rattle.olap_grammar.specs.Grammar.{Atoms}
 use Rattle.olap_grammar.specs.Parts.{part_of}
 use Rattle.olap_grammar.specs.Words.{atoms_of}
-use Rattle.olap_grammar.specs.declared.parts.Part.{Part}
 use Rattle.olap_grammar.specs.declared.tokens.Version.{Version}
 use Rattle.olap_grammar.specs.declared.reading.State.{State}
 use Rattle.olap_grammar.specs.declared.reading.State.TheVariants as state
@@ -38,30 +38,35 @@ frame_of frame.Listing = machine.Frame.Listing
 frame_of (frame.Part p) = machine.Frame.Part (part_of p)
 
 -- a formula is on top of what is open, or the form is bad
-abbrev pub GoesBack : Result Part FormRefusal → List (machine.Frame Built) → machine.State Built → Type 0
-GoesBack (Ok p) s next = next ≡ machine.State.Has (part_of p) s
-GoesBack (Err refusal.BadForm) s next = next ≡ machine.State.Bad
-GoesBack (Err refusal.TooDeep) s next = ⊥
-GoesBack (Err refusal.Memory) s next = Unit {0}
+abbrev pub GoesBack : {A : Type 0} → Result A FormRefusal → Built → List (machine.Frame Built) → machine.State Built
+    → Type 0
+GoesBack (Ok u) f s next = next ≡ machine.State.Has f s
+GoesBack (Err refusal.BadForm) f s next = next ≡ machine.State.Bad
+GoesBack (Err refusal.TooDeep) f s next = ⊥
+GoesBack (Err refusal.Memory) f s next = Unit {0}
 
--- where a state of the reader and what is open stand
-abbrev pub state_of : State → List (machine.Frame Built) → machine.State Built
-state_of state.Wants s = machine.State.Wants s
-state_of state.WantsPart s = machine.State.WantsPart s
-state_of (state.Named w) s = machine.State.Named w.now s
-state_of (state.Compared w op) s = machine.State.Compared w.now (op_of op) s
-state_of (state.Has p) s = machine.State.Has (part_of p) s
+-- where a state of the reader, the formula that was read last, and what is open stand
+abbrev pub state_of : State → Built → List (machine.Frame Built) → machine.State Built
+state_of state.Wants f s = machine.State.Wants s
+state_of state.WantsPart f s = machine.State.WantsPart s
+state_of (state.Named w) f s = machine.State.Named w.now s
+state_of (state.Compared w op) f s = machine.State.Compared w.now (op_of op) s
+state_of state.Has f s = machine.State.Has f s
 
 -- the reader goes on to the state, or the form is bad
-abbrev pub GoesTo : Result State FormRefusal → List (machine.Frame Built) → machine.State Built → Type 0
-GoesTo (Ok state) s next = next ≡ state_of state s
-GoesTo (Err refusal.BadForm) s next = next ≡ machine.State.Bad
-GoesTo (Err refusal.TooDeep) s next = ⊥
-GoesTo (Err refusal.Memory) s next = Unit {0}
+abbrev pub GoesTo : Result State FormRefusal → Built → List (machine.Frame Built) → machine.State Built → Type 0
+GoesTo (Ok state) f s next = next ≡ state_of state f s
+GoesTo (Err refusal.BadForm) f s next = next ≡ machine.State.Bad
+GoesTo (Err refusal.TooDeep) f s next = ⊥
+GoesTo (Err refusal.Memory) f s next = Unit {0}
+
+-- there is no formula, or memory is short
+abbrev pub ReadsNone : FormRefusal → Option Built → Type 0
+ReadsNone refusal.BadForm read = read ≡ None
+ReadsNone refusal.TooDeep read = ⊥
+ReadsNone refusal.Memory read = Unit {0}
 
 -- the formula is what was read, or the form is bad
-abbrev pub Ends : Result Part FormRefusal → Option Built → Type 0
-Ends (Ok p) read = read ≡ Some (part_of p)
-Ends (Err refusal.BadForm) read = read ≡ None
-Ends (Err refusal.TooDeep) read = ⊥
-Ends (Err refusal.Memory) read = Unit {0}
+abbrev pub Ends : {A : Type 0} → Result A FormRefusal → Built → Option Built → Type 0
+Ends (Ok u) f read = read ≡ Some f
+Ends (Err e) f read = ReadsNone e read

@@ -5,7 +5,7 @@ ghost use Rattle.olap_grammar.specs.Grammar.{left_level as left_level_of, level 
 ghost use Rattle.olap_grammar.specs.Machine.{closed, list_closed, settled};
 ghost use Rattle.olap_grammar.specs.Parts.{part_of, parts_of};
 ghost use Rattle.olap_grammar.specs.Reader.{GoesBack};
-ghost use Rattle.std.specs.Prelude.{◌≡◌, IfOk};
+ghost use Rattle.std.specs.Prelude.{◌≡◌, OnOk};
 
 use crate::parts::{Part, Parts, joined, more, negated, no_parts, one};
 use crate::stacking::{Frame, Stack};
@@ -36,61 +36,77 @@ pub(crate) fn left_level(joint: Joint) -> u8
     }
 }
 
-/// The formula with all that is open in front of it, of the level or a tighter one.
+/// Closes all that is open in front of the formula, of the level or a tighter one.
 pub(crate) fn settle(
     alloc: Global,
     least: u8,
-    part: Part,
+    whole: &mut Part,
     stack: &mut Stack,
-) -> Result<Part, Memory>
-    ensures { IfOk result (λ p. settled clipped least (part_of part)
-        (frames stack.old) ≡ (part_of p, frames stack.new)) }
+) -> Result<(), Memory>
+    ensures { OnOk result (settled clipped least (part_of whole.old)
+        (frames stack.old) ≡ (part_of whole.new, frames stack.new)) }
 {
-    let mut whole = part;
     'frames: while let Some(frame) = stack.pop() {
         match frame {
-            Frame::Negation => whole = negated(alloc, whole)?,
+            Frame::Negation => *whole = negated(alloc, whole.take())?,
             Frame::Left(joint, left) => {
                 if level(joint) < least {
-                    stack.push(Frame::Left(joint, left))?;
-                    return Ok(whole);
+                    return stack.push(Frame::Left(joint, left));
                 }
-                whole = joined(alloc, joint, left, whole)?;
+                *whole = joined(alloc, joint, left, whole.take())?;
             }
-            other => {
-                stack.push(other)?;
-                return Ok(whole);
-            }
+            other => return stack.push(other),
         }
     }
-    Ok(whole)
+    Ok(())
 }
 
-/// The list that is open is closed after its last parts.
-fn close_list(alloc: Global, last: Parts, stack: &mut Stack) -> Result<Part, FormRefusal>
-    ensures { GoesBack result (frames stack.new) (list_closed clipped (parts_of last) (frames stack.old)) }
+/// Takes the parts of the list that is open in front of the others, and its beginning.
+fn gather(alloc: Global, parts: &mut Parts, stack: &mut Stack) -> Result<(), FormRefusal>
+    ensures { GoesBack result (clipped.one (parts_of parts.new)) (frames stack.new)
+        (list_closed clipped (parts_of parts.old) (frames stack.old)) }
 {
-    let mut parts = last;
     'parts: while let Some(frame) = stack.pop() {
         match frame {
-            Frame::Part(part) => parts = more(alloc, part, parts)?,
-            Frame::Listing => return Ok(one(parts)),
+            Frame::Part(part) => *parts = more(alloc, part, parts.take())?,
+            Frame::Listing => return Ok(()),
             _ => return Err(FormRefusal::BadForm),
         }
     }
     Err(FormRefusal::BadForm)
 }
 
-/// The bracket or the list that is open is closed.
-pub(crate) fn close(alloc: Global, part: Part, stack: &mut Stack) -> Result<Part, FormRefusal>
-    ensures { GoesBack result (frames stack.new) (closed clipped (part_of part) (frames stack.old)) }
+/// The list that is open is closed after its last parts.
+fn close_list(
+    alloc: Global,
+    last: Parts,
+    whole: &mut Part,
+    stack: &mut Stack,
+) -> Result<(), FormRefusal>
+    ensures { GoesBack result (part_of whole.new) (frames stack.new)
+        (list_closed clipped (parts_of last) (frames stack.old)) }
+{
+    let mut parts = last;
+    match gather(alloc, &mut parts, stack) {
+        Ok(()) => {
+            *whole = one(parts);
+            Ok(())
+        }
+        Err(e) => Err(e),
+    }
+}
+
+/// The bracket or the list that is open is closed after the formula.
+pub(crate) fn close(alloc: Global, whole: &mut Part, stack: &mut Stack) -> Result<(), FormRefusal>
+    ensures { GoesBack result (part_of whole.new) (frames stack.new)
+        (closed clipped (part_of whole.old) (frames stack.old)) }
 {
     match stack.pop() {
-        Some(Frame::Bracket) => Ok(part),
+        Some(Frame::Bracket) => Ok(()),
         Some(frame) => {
             stack.push(frame)?;
-            let last = more(alloc, part, no_parts())?;
-            close_list(alloc, last, stack)
+            let last = more(alloc, whole.take(), no_parts())?;
+            close_list(alloc, last, whole, stack)
         }
         None => Err(FormRefusal::BadForm),
     }

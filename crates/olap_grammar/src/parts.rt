@@ -9,6 +9,7 @@ use crate::Joint;
 use olap_ast::{Formula, Terms};
 use olap_base::{MOST_DEPTH, Memory};
 use std::alloc::Global;
+use std::mem;
 
 /// The depth of all that is deeper than a formula may be.
 const TOO_DEEP: u8 = MOST_DEPTH as u8 + 1;
@@ -26,6 +27,20 @@ impl Part {
     {
         let Part { formula, depth: _ } = self;
         formula
+    }
+
+    /// The formula in a box, without its depth.
+    fn boxed(self, alloc: Global) -> Result<Box<Formula>, Memory>
+        ensures { IfOk result (λ b. formula_of b.value ≡ formula_of self.formula) }
+    {
+        Ok(Box::new(alloc, self.into_formula())?)
+    }
+
+    /// Takes the part out. The one that is left says nothing.
+    pub(crate) fn take(&mut self) -> Part
+        ensures { part_of result ≡ part_of self.old }
+    {
+        mem::replace(self, leaf(Formula::True))
     }
 }
 
@@ -50,17 +65,19 @@ pub(crate) struct Parts {
 fn kept(depth: u16, formula: Formula) -> Part
     ensures { part_of result ≡ kept_of depth (formula_of formula) }
 {
+    let mut part = Part {
+        formula,
+        depth: TOO_DEEP,
+    };
     if depth <= MOST_DEPTH {
-        Part {
-            formula,
-            depth: depth as u8,
-        }
+        part.depth = depth as u8;
     } else {
-        Part {
+        part = Part {
             formula: Formula::True,
             depth: TOO_DEEP,
-        }
+        };
     }
+    part
 }
 
 /// The parts, if none is deeper than one may be.
@@ -92,21 +109,19 @@ pub(crate) fn negated(alloc: Global, part: Part) -> Result<Part, Memory>
     ensures { IfOk result (λ p. part_of p ≡ clipped.negate (part_of part)) }
 {
     let depth = 1 + part.depth as u16;
-    Ok(kept(depth, Formula::Not(Box::new(alloc, part.into_formula())?)))
+    Ok(kept(depth, Formula::Not(part.boxed(alloc)?)))
 }
 
 /// The joint of two formulas.
-fn join(alloc: Global, joint: Joint, left: Formula, right: Formula) -> Result<Formula, Memory>
-    ensures { IfOk result (λ f. formula_of f ≡ join_of joint (formula_of left) (formula_of right)) }
+fn join(joint: Joint, f: Box<Formula>, g: Box<Formula>) -> Formula
+    ensures { formula_of result ≡ join_of joint (formula_of f.value) (formula_of g.value) }
 {
-    let f = Box::new(alloc, left)?;
-    let g = Box::new(alloc, right)?;
     match joint {
-        Joint::Iff => Ok(Formula::Iff(f, g)),
-        Joint::Implies => Ok(Formula::Implies(f, g)),
-        Joint::Xor => Ok(Formula::Xor(f, g)),
-        Joint::Or => Ok(Formula::Or(f, g)),
-        Joint::And => Ok(Formula::And(f, g)),
+        Joint::Iff => Formula::Iff(f, g),
+        Joint::Implies => Formula::Implies(f, g),
+        Joint::Xor => Formula::Xor(f, g),
+        Joint::Or => Formula::Or(f, g),
+        Joint::And => Formula::And(f, g),
     }
 }
 
@@ -115,10 +130,9 @@ pub(crate) fn joined(alloc: Global, joint: Joint, left: Part, right: Part) -> Re
     ensures { IfOk result (λ p. part_of p ≡ clipped.join joint (part_of left) (part_of right)) }
 {
     let depth = 1 + left.depth.max(right.depth) as u16;
-    Ok(kept(
-        depth,
-        join(alloc, joint, left.into_formula(), right.into_formula())?,
-    ))
+    let f = left.boxed(alloc)?;
+    let g = right.boxed(alloc)?;
+    Ok(kept(depth, join(joint, f, g)))
 }
 
 /// The end of a list.
@@ -131,16 +145,23 @@ pub(crate) fn no_parts() -> Parts
     }
 }
 
+impl Parts {
+    /// Takes the list out. The one that is left has no parts.
+    pub(crate) fn take(&mut self) -> Parts
+        ensures { parts_of result ≡ parts_of self.old }
+    {
+        mem::replace(self, no_parts())
+    }
+}
+
 /// A part in front of a list.
 pub(crate) fn more(alloc: Global, part: Part, parts: Parts) -> Result<Parts, Memory>
     ensures { IfOk result (λ p. parts_of p ≡ clipped.more (part_of part) (parts_of parts)) }
 {
     let depth = part.depth.max(parts.depth) as u16;
-    let terms = Terms::More(
-        Box::new(alloc, part.into_formula())?,
-        Box::new(alloc, parts.terms)?,
-    );
-    Ok(kept_terms(depth, terms))
+    let f = part.boxed(alloc)?;
+    let others = Box::new(alloc, parts.terms)?;
+    Ok(kept_terms(depth, Terms::More(f, others)))
 }
 
 /// Exactly one part of the list.

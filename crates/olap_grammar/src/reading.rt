@@ -6,13 +6,13 @@ ghost use Rattle.olap_grammar.specs.Known.{graph_seen};
 ghost use Rattle.olap_grammar.specs.Machine as machine;
 ghost use Rattle.olap_grammar.specs.Machine.{the_formula};
 ghost use Rattle.olap_grammar.specs.Parts.{part_of};
-ghost use Rattle.olap_grammar.specs.Reader.{Built, Ends, GoesTo, leaves_of, state_of};
+ghost use Rattle.olap_grammar.specs.Reader.{Built, Ends, GoesTo, frame_of, leaves_of, state_of};
 ghost use Rattle.olap_grammar.specs.Words.{atoms_of};
 ghost use Rattle.olap_grammar.specs.declared.tokens.Mark.TheVariants as the_mark;
 ghost use Rattle.olap_grammar.specs.declared.tokens.Token.TheVariants as the_token;
 ghost use Rattle.olap_ast.specs.Trees.{formula_of, op_of};
 ghost use Rattle.std.specs.Option.{option_map};
-ghost use Rattle.std.specs.Prelude.{◌≡◌, IfOk, List};
+ghost use Rattle.std.specs.Prelude.{◌≡◌, [], ◌∷◌, IfOk, List};
 
 use crate::closing::{close, left_level, settle};
 use crate::parts::{Part, leaf, no_parts, one};
@@ -24,95 +24,113 @@ use olap_base::{MOST_DEPTH, Memory, Text};
 use std::alloc::Global;
 
 /// What was read last: nothing of the formula that is to come, the start of a list, a word, a word with a mark that
-/// compares, or a formula.
-#[derive(Drop)]
+/// compares, or a formula, which stands apart.
+#[derive(Clone, Copy)]
 enum State<'a> {
     Wants,
     WantsPart,
     Named(&'a Text),
     Compared(&'a Text, Op),
-    Has(Part),
+    Has,
+}
+
+/// One more is open, and a formula is to come.
+fn open<'a>(stack: &mut Stack, frame: Frame) -> Result<State<'a>, FormRefusal>
+    ensures { (f : Built) → GoesTo result f (frames stack.new)
+        (machine.State.Wants (frame_of frame ∷ frames stack.old)) }
+{
+    stack.push(frame)?;
+    Ok(State::Wants)
 }
 
 /// The formula before a connective stays open.
 fn left_off<'a>(
     alloc: Global,
     joint: Joint,
-    part: Part,
+    whole: &mut Part,
     stack: &mut Stack,
 ) -> Result<State<'a>, FormRefusal>
-    ensures { GoesTo result (frames stack.new)
-        (machine.after clipped (part_of part) (frames stack.old) (the_token.Mark (the_mark.Joint joint))) }
+    ensures { GoesTo result (part_of whole.new) (frames stack.new)
+        (machine.after clipped (part_of whole.old) (frames stack.old) (the_token.Mark (the_mark.Joint joint))) }
 {
-    let left = settle(alloc, left_level(joint), part, stack)?;
-    stack.push(Frame::Left(joint, left))?;
-    Ok(State::Wants)
+    settle(alloc, left_level(joint), whole, stack)?;
+    open(stack, Frame::Left(joint, whole.take()))
 }
 
 /// The part before a comma stays open.
-fn part_off<'a>(alloc: Global, part: Part, stack: &mut Stack) -> Result<State<'a>, FormRefusal>
-    ensures { GoesTo result (frames stack.new)
-        (machine.after clipped (part_of part) (frames stack.old) (the_token.Mark the_mark.Comma)) }
+fn part_off<'a>(
+    alloc: Global,
+    whole: &mut Part,
+    stack: &mut Stack,
+) -> Result<State<'a>, FormRefusal>
+    ensures { GoesTo result (part_of whole.new) (frames stack.new)
+        (machine.after clipped (part_of whole.old) (frames stack.old) (the_token.Mark the_mark.Comma)) }
 {
-    let last = settle(alloc, 1, part, stack)?;
+    settle(alloc, 1, whole, stack)?;
     if !stack.takes_part() {
         return Err(FormRefusal::BadForm);
     }
-    stack.push(Frame::Part(last))?;
-    Ok(State::Wants)
+    open(stack, Frame::Part(whole.take()))
 }
 
 /// The bracket or the list that is open ends with the formula.
-fn close_after<'a>(alloc: Global, part: Part, stack: &mut Stack) -> Result<State<'a>, FormRefusal>
-    ensures { GoesTo result (frames stack.new)
-        (machine.after clipped (part_of part) (frames stack.old) (the_token.Mark the_mark.Close)) }
+fn close_after<'a>(
+    alloc: Global,
+    whole: &mut Part,
+    stack: &mut Stack,
+) -> Result<State<'a>, FormRefusal>
+    ensures { GoesTo result (part_of whole.new) (frames stack.new)
+        (machine.after clipped (part_of whole.old) (frames stack.old) (the_token.Mark the_mark.Close)) }
 {
-    let last = settle(alloc, 1, part, stack)?;
-    let whole = close(alloc, last, stack)?;
-    Ok(State::Has(whole))
+    settle(alloc, 1, whole, stack)?;
+    close(alloc, whole, stack)?;
+    Ok(State::Has)
 }
 
 /// After a formula.
 fn after<'a>(
     alloc: Global,
-    part: Part,
+    whole: &mut Part,
     stack: &mut Stack,
     token: &Token,
 ) -> Result<State<'a>, FormRefusal>
-    ensures { GoesTo result (frames stack.new) (machine.after clipped (part_of part) (frames stack.old) token.now) }
+    ensures { GoesTo result (part_of whole.new) (frames stack.new)
+        (machine.after clipped (part_of whole.old) (frames stack.old) token.now) }
 {
     match token {
-        Token::Mark(Mark::Joint(joint)) => left_off(alloc, *joint, part, stack),
-        Token::Mark(Mark::Close) => close_after(alloc, part, stack),
-        Token::Mark(Mark::Comma) => part_off(alloc, part, stack),
+        Token::Mark(Mark::Joint(joint)) => left_off(alloc, *joint, whole, stack),
+        Token::Mark(Mark::Close) => close_after(alloc, whole, stack),
+        Token::Mark(Mark::Comma) => part_off(alloc, whole, stack),
         _ => Err(FormRefusal::BadForm),
     }
 }
 
 /// Where a formula is to come.
 fn begin<'a>(stack: &mut Stack, token: &'a Token) -> Result<State<'a>, FormRefusal>
-    ensures { GoesTo result (frames stack.new) (machine.begun (frames stack.old) token.now) }
+    ensures { (f : Built) → GoesTo result f (frames stack.new) (machine.begun (frames stack.old) token.now) }
 {
     match token {
         Token::Word(word) => Ok(State::Named(word)),
-        Token::Mark(Mark::Open) => {
-            stack.push(Frame::Bracket)?;
-            Ok(State::Wants)
-        }
-        Token::Mark(Mark::Not) => {
-            stack.push(Frame::Negation)?;
-            Ok(State::Wants)
-        }
+        Token::Mark(Mark::Open) => open(stack, Frame::Bracket),
+        Token::Mark(Mark::Not) => open(stack, Frame::Negation),
         _ => Err(FormRefusal::BadForm),
     }
 }
 
 /// Where the first part of a list, or its end, is to come.
-fn begin_part<'a>(stack: &mut Stack, token: &'a Token) -> Result<State<'a>, FormRefusal>
-    ensures { GoesTo result (frames stack.new) (machine.begun_part clipped (frames stack.old) token.now) }
+fn begin_part<'a>(
+    whole: &mut Part,
+    stack: &mut Stack,
+    token: &'a Token,
+) -> Result<State<'a>, FormRefusal>
+    ensures { GoesTo result (part_of whole.new) (frames stack.new)
+        (machine.begun_part clipped (frames stack.old) token.now) }
 {
     match token {
-        Token::Mark(Mark::Close) => Ok(State::Has(one(no_parts()))),
+        Token::Mark(Mark::Close) => {
+            *whole = one(no_parts());
+            Ok(State::Has)
+        }
         _ => {
             stack.push(Frame::Listing)?;
             begin(stack, token)
@@ -126,14 +144,18 @@ fn after_plain<'a>(
     known: &Known,
     version: Version,
     word: &Text,
+    whole: &mut Part,
     stack: &mut Stack,
     token: &Token,
 ) -> Result<State<'a>, FormRefusal>
-    ensures { GoesTo result (frames stack.new) (machine.after_atom clipped
+    ensures { GoesTo result (part_of whole.new) (frames stack.new) (machine.after_atom clipped
         ((leaves_of version (graph_seen known.now)).plain word.now) (frames stack.old) token.now) }
 {
     match plain_word(alloc, known, word)? {
-        Some(f) => after(alloc, leaf(f), stack, token),
+        Some(f) => {
+            *whole = leaf(f);
+            after(alloc, whole, stack, token)
+        }
         None => Err(FormRefusal::BadForm),
     }
 }
@@ -144,10 +166,11 @@ fn after_word<'a>(
     known: &Known,
     version: Version,
     word: &'a Text,
+    whole: &mut Part,
     stack: &mut Stack,
     token: &Token,
 ) -> Result<State<'a>, FormRefusal>
-    ensures { GoesTo result (frames stack.new)
+    ensures { GoesTo result (part_of whole.new) (frames stack.new)
         (machine.after_word clipped (leaves_of version (graph_seen known.now)) word.now (frames stack.old) token.now) }
 {
     match token {
@@ -161,18 +184,7 @@ fn after_word<'a>(
         Token::Mark(Mark::Equal) => Ok(State::Compared(word, Op::Equal)),
         Token::Mark(Mark::Less) => Ok(State::Compared(word, Op::Less)),
         Token::Mark(Mark::AtMost) => Ok(State::Compared(word, Op::AtMost)),
-        _ => after_plain(alloc, known, version, word, stack, token),
-    }
-}
-
-/// An atom, if there is one.
-fn has_atom<'a>(atom: Option<Formula>) -> Result<State<'a>, FormRefusal>
-    ensures { (s : List (machine.Frame Built)) →
-        GoesTo result s (machine.has_atom (option_map (λ f. (1, formula_of f)) atom) s) }
-{
-    match atom {
-        Some(f) => Ok(State::Has(leaf(f))),
-        None => Err(FormRefusal::BadForm),
+        _ => after_plain(alloc, known, version, word, whole, stack, token),
     }
 }
 
@@ -207,14 +219,19 @@ fn after_compared<'a>(
     version: Version,
     word: &Text,
     op: Op,
-    stack: &mut Stack,
+    whole: &mut Part,
     token: &Token,
 ) -> Result<State<'a>, FormRefusal>
-    ensures { GoesTo result (frames stack.new) (machine.after_compared (leaves_of version (graph_seen known.now))
-        word.now (op_of op) (frames stack.old) token.now) }
+    ensures { (s : List (machine.Frame Built)) → GoesTo result (part_of whole.new) s
+        (machine.after_compared (leaves_of version (graph_seen known.now)) word.now (op_of op) s token.now) }
 {
-    let atom = compared_atom(alloc, known, version, word, op, token)?;
-    has_atom(atom)
+    match compared_atom(alloc, known, version, word, op, token)? {
+        Some(f) => {
+            *whole = leaf(f);
+            Ok(State::Has)
+        }
+        None => Err(FormRefusal::BadForm),
+    }
 }
 
 fn step<'a>(
@@ -222,30 +239,33 @@ fn step<'a>(
     known: &Known,
     version: Version,
     state: State<'a>,
+    whole: &mut Part,
     stack: &mut Stack,
     token: &'a Token,
 ) -> Result<State<'a>, FormRefusal>
-    ensures { GoesTo result (frames stack.new) (machine.step clipped (leaves_of version (graph_seen known.now))
-        (state_of state.entry (frames stack.old)) token.now) }
+    ensures { GoesTo result (part_of whole.new) (frames stack.new) (machine.step clipped
+        (leaves_of version (graph_seen known.now))
+        (state_of state.entry (part_of whole.old) (frames stack.old)) token.now) }
 {
     match state {
         State::Wants => begin(stack, token),
-        State::WantsPart => begin_part(stack, token),
-        State::Named(word) => after_word(alloc, known, version, word, stack, token),
-        State::Compared(word, op) => after_compared(alloc, known, version, word, op, stack, token),
-        State::Has(part) => after(alloc, part, stack, token),
+        State::WantsPart => begin_part(whole, stack, token),
+        State::Named(word) => after_word(alloc, known, version, word, whole, stack, token),
+        State::Compared(word, op) => after_compared(alloc, known, version, word, op, whole, token),
+        State::Has => after(alloc, whole, stack, token),
     }
 }
 
 /// A formula that nothing is open in front of.
-fn alone(alloc: Global, part: Part, stack: &mut Stack) -> Result<Part, FormRefusal>
-    ensures { Ends result (machine.alone (machine.settled clipped 1 (part_of part) (frames stack.old))) }
+fn alone(alloc: Global, whole: &mut Part, stack: &mut Stack) -> Result<(), FormRefusal>
+    ensures { Ends result (part_of whole.new)
+        (machine.alone (machine.settled clipped 1 (part_of whole.old) (frames stack.old))) }
 {
-    let whole = settle(alloc, 1, part, stack)?;
+    settle(alloc, 1, whole, stack)?;
     if !stack.is_empty() {
         return Err(FormRefusal::BadForm);
     }
-    Ok(whole)
+    Ok(())
 }
 
 /// A word that nothing is open in front of.
@@ -254,13 +274,17 @@ fn plain_alone(
     known: &Known,
     version: Version,
     word: &Text,
+    whole: &mut Part,
     stack: &mut Stack,
-) -> Result<Part, FormRefusal>
-    ensures { Ends result (machine.ended clipped (leaves_of version (graph_seen known.now))
+) -> Result<(), FormRefusal>
+    ensures { Ends result (part_of whole.new) (machine.ended clipped (leaves_of version (graph_seen known.now))
         (machine.State.Named word.now (frames stack.old))) }
 {
     match plain_word(alloc, known, word)? {
-        Some(f) => alone(alloc, leaf(f), stack),
+        Some(f) => {
+            *whole = leaf(f);
+            alone(alloc, whole, stack)
+        }
         None => Err(FormRefusal::BadForm),
     }
 }
@@ -270,37 +294,42 @@ fn end(
     known: &Known,
     version: Version,
     state: State,
+    whole: &mut Part,
     stack: &mut Stack,
-) -> Result<Part, FormRefusal>
-    ensures { Ends result (machine.ended clipped (leaves_of version (graph_seen known.now))
-        (state_of state.entry (frames stack.old))) }
+) -> Result<(), FormRefusal>
+    ensures { Ends result (part_of whole.new) (machine.ended clipped (leaves_of version (graph_seen known.now))
+        (state_of state.entry (part_of whole.old) (frames stack.old))) }
 {
     match state {
-        State::Has(part) => alone(alloc, part, stack),
-        State::Named(word) => plain_alone(alloc, known, version, word, stack),
+        State::Has => alone(alloc, whole, stack),
+        State::Named(word) => plain_alone(alloc, known, version, word, whole, stack),
         _ => Err(FormRefusal::BadForm),
     }
 }
 
+/// The formula that the tokens are becomes the whole.
 fn read_tokens(
     alloc: Global,
     known: &Known,
     version: Version,
+    whole: &mut Part,
+    stack: &mut Stack,
     tokens: &[Token],
-) -> Result<Part, FormRefusal>
-    ensures { Ends result (machine.formula_read clipped (leaves_of version (graph_seen known.now)) tokens.now) }
+) -> Result<(), FormRefusal>
+    requires { frames stack.old ≡ [] }
+    ensures { Ends result (part_of whole.new)
+        (machine.formula_read clipped (leaves_of version (graph_seen known.now)) tokens.now) }
 {
-    let mut stack = Stack::new(alloc);
     let mut state = State::Wants;
     let mut left = tokens;
     'tokens: while let Some((token, others)) = left.split_first() {
-        match step(alloc, known, version, state, &mut stack, token) {
+        match step(alloc, known, version, state, whole, stack, token) {
             Ok(next) => state = next,
             Err(e) => return Err(e),
         }
         left = others;
     }
-    end(alloc, known, version, state, &mut stack)
+    end(alloc, known, version, state, whole, stack)
 }
 
 /// The formula of the version that the tokens are.
@@ -315,13 +344,11 @@ pub fn formula(
 ) -> Result<Formula, FormRefusal>
     ensures { Answers result (formula_answer (the_formula (atoms_of version (graph_seen known.now)) tokens.now)) }
 {
-    match read_tokens(alloc, known, version, tokens) {
-        Ok(part) => {
-            if part.depth > MOST_DEPTH as u8 {
-                return Err(FormRefusal::TooDeep);
-            }
-            Ok(part.into_formula())
-        }
+    let mut whole = leaf(Formula::True);
+    let mut stack = Stack::new(alloc);
+    match read_tokens(alloc, known, version, &mut whole, &mut stack, tokens) {
+        Ok(()) if whole.depth > MOST_DEPTH as u8 => Err(FormRefusal::TooDeep),
+        Ok(()) => Ok(whole.into_formula()),
         Err(e) => Err(e),
     }
 }

@@ -8,7 +8,7 @@ use Rattle.olap_grammar.proofs.closing.settle.Given as goal
 
 abbrev pub invariant-frames : goal.invariant-frames
 invariant-frames l =
-    settled clipped l.fn.least (part_of l.fn.part) (frames l.fn.stack)
+    settled clipped l.fn.least (part_of l.fn.whole) (frames l.fn.stack)
     ≡ settled clipped l.least (part_of l.whole) (frames l.stack)
 
 abbrev pub decreases-frames : goal.decreases-frames

@@ -16,13 +16,14 @@ along : (v : Version) (g : Graph) (ts : List Token)
     → formula_read clipped (leaves_of v g) ts ≡ option_map clip (the_formula (atoms_of v g) ts)
 along v g ts = reads_clipped (atoms_of v g) ts (atoms_are_leaves v g)
 
-pub returns-then-part : goal.returns-then-part
-returns-then-part c =
-    too_deep _ c.in-Ok.part.depth _ (sym (along _ _ _) ∙ c.in-Ok.ensures) c.if-part.true
+pub returns-in-Ok : goal.returns-in-Ok
+returns-in-Ok c =
+    too_deep _ c.read_tokens.new.whole.depth _ (sym (along _ _ _) ∙ c.in-Ok.ensures) c.if-whole.true
 
-pub returns-else-part : goal.returns-else-part
-returns-else-part c =
-    rw c.into_formula.ensures (not_deep _ c.in-Ok.part.depth _ (sym (along _ _ _) ∙ c.in-Ok.ensures) c.if-part.false)
+pub returns-in-Ok-2 : goal.returns-in-Ok-2
+returns-in-Ok-2 c =
+    rw c.into_formula.ensures
+    (not_deep _ c.read_tokens.new.whole.depth _ (sym (along _ _ _) ∙ c.in-Ok-2.ensures) c.if-whole.false)
 
 pub returns-in-Err : goal.returns-in-Err
 returns-in-Err c = refused _ _ c.in-Err.e (along _ _ _) c.in-Err.ensures

@@ -4,11 +4,11 @@ use Rattle.olap_grammar.specs.Clip.{clipped}
 use Rattle.olap_grammar.specs.Frames.{frames}
 use Rattle.olap_grammar.specs.Machine.{list_closed}
 use Rattle.olap_grammar.specs.Parts.{parts_of}
-use Rattle.olap_grammar.proofs.closing.close_list.Given as goal
+use Rattle.olap_grammar.proofs.closing.gather.Given as goal
 
 abbrev pub invariant-parts : goal.invariant-parts
 invariant-parts l =
-    list_closed clipped (parts_of l.fn.last) (frames l.fn.stack)
+    list_closed clipped (parts_of l.fn.parts) (frames l.fn.stack)
     ≡ list_closed clipped (parts_of l.parts) (frames l.stack)
 
 abbrev pub decreases-parts : goal.decreases-parts
