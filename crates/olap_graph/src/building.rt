@@ -38,8 +38,9 @@ impl GraphBuilder {
     pub fn new(alloc: Global) -> Result<GraphBuilder, Memory>
         ensures { IfOk result (λ builder. builder ≡ all_alone) }
     {
+        let all = Text::from_bytes(alloc, b"All")?;
         let mut names = Vec::new(alloc);
-        names.push(Text::from_bytes(alloc, b"All")?)?;
+        names.push(all)?;
         Ok(GraphBuilder {
             names,
             numbers: Vec::new(alloc),

@@ -183,9 +183,9 @@ impl Graph {
     pub fn copy(&self) -> Result<Graph, Memory>
         ensures { IfOk result (λ graph. graph ≡ self.now) }
     {
-        let names = copied(self.alloc, &self.names)?;
         let numbers = Vec::from_slice(self.alloc, &self.numbers)?;
         let edges = Vec::from_slice(self.alloc, &self.edges)?;
+        let names = copied(self.alloc, &self.names)?;
         Ok(Graph {
             names,
             numbers,

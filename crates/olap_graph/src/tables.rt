@@ -79,9 +79,9 @@ impl Tables {
         requires within { LiesWithin (drawn edges.now) count }
         ensures { IfOk result (AreTables (drawn edges.now) count) }
     {
-        let out = all_out(alloc, edges, count)?;
-        let reached = rows(alloc, edges, count)?;
         let bottoms = bottoms(alloc, edges, count)?;
+        let reached = rows(alloc, edges, count)?;
+        let out = all_out(alloc, edges, count)?;
         Ok(Tables {
             out,
             reached,
@@ -96,9 +96,9 @@ impl Tables {
         ensures bottoms { IfOk result (λ copy. copy.bottoms.items ≡ self.now.bottoms.items) }
     {
         Ok(Tables {
-            out: copied(alloc, &self.out)?,
-            reached: Vec::from_slice(alloc, &self.reached)?,
             bottoms: Vec::from_slice(alloc, &self.bottoms)?,
+            reached: Vec::from_slice(alloc, &self.reached)?,
+            out: copied(alloc, &self.out)?,
         })
     }
 }
