@@ -6,3 +6,4 @@ pub mod MarkLemmas
 mod TableLemmas
 pub mod RowLemmas
 mod EdgeLemmas
+pub mod NameLemmas

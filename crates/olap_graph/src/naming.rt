@@ -1,5 +1,6 @@
 // Which bytes are a category's name.
-ghost use Rattle.std.specs.Prelude.{◌≡◌, ◌↔◌, IsTrue, All, Contains};
+ghost use Rattle.std.specs.Prelude.{◌≡◌, ◌↔◌, IsTrue, Contains};
+ghost use Rattle.std.specs.Str.{bytes_eq};
 ghost use Rattle.olap_base.specs.Graph.{IsLetter, IsLetterOrDigit, IsCategoryName, reserved};
 
 /// Whether the byte is an ASCII letter.
@@ -16,11 +17,18 @@ fn is_letter_or_digit(b: u8) -> bool
     is_letter(b) || matches!(b, b'0'..=b'9')
 }
 
+/// Whether the word is that text.
+fn is(word: &[u8], text: &[u8]) -> bool
+    ensures { result ≡ bytes_eq word.now text.now }
+{
+    word == text
+}
+
 /// Whether the bytes are a word that has a meaning of its own in a formula.
 fn is_reserved(bytes: &[u8]) -> bool
     ensures { IsTrue result ↔ Contains reserved bytes.now }
 {
-    matches!(bytes, b"true" | b"false" | b"one" | b"all")
+    is(bytes, b"true") || is(bytes, b"false") || is(bytes, b"one") || is(bytes, b"all")
 }
 
 /// Whether the bytes are a category name: an ASCII letter followed by ASCII letters and digits, other than
