@@ -1,11 +1,40 @@
-use Rattle.std.proofs.Common.{◌≡◌, ◌≢◌, ◌↔◌, ◌<◌, ℕ, subst, length, false, length-set, sym, ap, ◌∙◌, arith}
-use Rattle.std.proofs.lemmas.List.{length-map}
-use Rattle.olap_base.specs.Graph.{Edge}
+use Rattle.std.proofs.Common.{◌≡◌, ◌≢◌, ◌↔◌, ◌<◌, ℕ, zero, suc, List, [], ◌∷◌, Bool, get_or, get_or-set_other, set, subst, length, false, true, length-set, refl, sym, ap, ◌∙◌, arith}
+use Rattle.std.proofs.Math.ListN.{replicate}
+use Rattle.std.proofs.lemmas.List.{get_or-replicate, length-map}
+use Rattle.olap_base.specs.Graph.{Edge, Graph}
 use Rattle.olap_graph.specs.Listing.{edge_of}
 use Rattle.olap_graph.specs.Lookups.{edge_at}
 use Rattle.olap_graph.specs.Tables.{IsMarked, drawn}
 use Rattle.olap_graph.proofs.TableLemmas.{edge_at-drawn, has_edge_at, bottoms_step, bottoms_done}
 use Rattle.olap_graph.proofs.tables.bottoms.Goals as goal
+
+-- the mark of `All` is taken away
+first : (marks : List Bool) → get_or (set marks 0 false) 0 false ≡ false
+first [] = refl
+first (b ∷ bs) = refl
+
+-- at first each category but `All` is marked
+all_marked : (g : Graph) (n c : ℕ) (marks : List Bool) → marks ≡ replicate n true → c < n
+    → IsMarked (set marks 0 false) c ↔ ((c ≢ 0) × ((k : ℕ) → k < 0 → (edge_at g k).parent ≢ c))
+all_marked g n zero marks e h = (λ m. absurd (let z = first marks in cc), λ t. absurd (t.0 refl))
+all_marked g n (suc c) marks e h =
+    let ne : suc c ≢ 0 = λ z. absurd (omega (arith, z)) in
+    let other : get_or (set marks 0 false) (suc c) false ≡ get_or marks (suc c) false = rw get_or-set_other refl in (
+      λ m. (ne, λ k l p. absurd (omega (arith, l))),
+      λ t. other ∙ ap (λ xs. get_or xs (suc c) false) e ∙ get_or-replicate n (suc c) true false h,
+    )
+
+pub loop-e-init : goal.loop-e-init
+loop-e-init c =
+    let marks = c.in_ok-marks.marks.items in
+    let all = c.in_ok-marks.ensures.items_if_clones_equal (λ y e. e) in
+    let f = c.from.ensures in
+    let n = c.in_ok-marks.ensures.len in
+    let o = c.in_ok-marks.marks.ok in
+    record {
+      count = length-set marks 0 false ∙ omega arith;
+      exact = λ x h. all_marked (drawn c.args.edges.now) c.from.result x marks all (omega arith);
+    }
 
 pub index_mut-requires-in-loop-e : goal.index_mut-requires-in-loop-e
 index_mut-requires-in-loop-e c =

@@ -1,7 +1,9 @@
-use Rattle.std.proofs.Common.{◌≡◌, ◌+◌, ◌==◌, List, map, refl, ap, sym, subst, ◌∙◌}
+use Rattle.std.proofs.Common.{◌≡◌, ◌+◌, ◌==◌, List, length, map, refl, ap, sym, subst, ◌∙◌, arith}
+use Rattle.std.proofs.lemmas.List.{length-map}
 use Rattle.std.specs.Prelude.{filter}
 use Rattle.std.specs.List.{range_with_len}
 use Rattle.olap_base.specs.declared.ids.EdgeId.{EdgeId}
+use Rattle.olap_graph.specs.Listing.{edge_of}
 use Rattle.olap_graph.specs.Lookups.{edge_at}
 use Rattle.olap_graph.specs.Tables.{drawn}
 use Rattle.olap_graph.proofs.TableLemmas.{out_push, out_skip}
@@ -25,3 +27,15 @@ loop-i-preserved c =
           subst Goal (sym (ap (λ v. v.items) w.out-is))
           (out_skip ends x i out c.loop-i-test.true w.if-edges-i.false c.loop-i.invariant)
     ]
+
+pub loop-i-init : goal.loop-i-init
+loop-i-init c = ap (map (λ (e : EdgeId). e.0)) c.new-out.ensures.items
+
+pub returns : goal.returns
+returns c =
+    let ends = c.args.edges.now in
+    let all : c.loop-i.i ≡ length (drawn ends).edges = let l = length-map ends edge_of in let h = c.loop-i-test.false in
+    let e = c.loop-i.auto in omega arith in
+    ap (map (λ (e : EdgeId). e.0)) c.from_vec.ensures
+    ∙ subst (λ n. map (λ e. e.0) c.loop-i.out.items
+    ≡ filter (λ j. (edge_at (drawn ends) j).child == c.args.category) (range_with_len 0 n)) all c.loop-i.invariant
