@@ -1,51 +1,49 @@
 -- A reader of facts, batch by batch.
---     stopped-in-batch       what stops a reader stops it in a batch
---     read-none              after the header none is read
---     read-more, read-fault  one record more
---     batch-full, batch-end  the batch is full, or no record is left
-use Rattle.std.proofs.Common.{◌≡◌, ◌⊎◌, ℕ, ◌+◌, ◌<◌, ◌≤◌, List, [], ◌∷◌, ◌++◌, length, get_or, map, take, drop, Bool, true, false, Some, None, refl, ap, sym, subst, ◌∙◌, inl, inr, arith, length-append}
-use Rattle.std.specs.Prelude.{MatchBool, nat_lt}
-use Rattle.std.proofs.lemmas.Bool.Decides.{nat_tests}
+--     at-start                   none is handed out
+--     read-none, read-more       none is read, and one record more
+--     filled-full, filled-all    there are as many as were asked for, or no record is left
+--     batch-some, batch-none     what a batch is that has facts, or none
+--     batch-stopped              what stops a reader stops it in a batch
+--     read-all, refused-by       a whole text is read, or refused
+use Rattle.std.proofs.Common.{◌≡◌, ◌⊎◌, ℕ, ◌+◌, ◌<◌, ◌≤◌, List, [], ◌∷◌, ◌++◌, length, get_or, map, take, drop, refl, ap, sym, subst, ◌∙◌, inl, inr, arith, length-append}
+use Rattle.std.specs.Prelude.{Ok}
 use Rattle.std.proofs.lemmas.List.{get_or-drop, length-drop, map-append, take_all, take_more}
 use Rattle.olap_base.specs.Views.{Fact}
-use Rattle.olap_facts.specs.Batches.{HandsOutBatch, HasRead, IsStoppedInBatch, facts_in_a_batch, more, next_facts}
-use Rattle.olap_facts.specs.FactReading.{FactReading, HasBody, IsAt, IsAtEnd, IsStopped, body_of}
+use Rattle.olap_facts.specs.Batches.{HandsOutBatch, HasFilled, HasRead, IsStoppedInBatch, IsStoppedWithin, facts_in_a_batch, more, next_facts}
+use Rattle.olap_facts.specs.FactReading.{FactReading, HandsOut, HasAll, HasBody, IsAt, IsAtEnd, all_read, body_of, one_more}
 use Rattle.olap_facts.specs.FactText.{fact_fault_within, fact_read}
-use Rattle.olap_facts.specs.declared.kinds.FactKind.{FactKind}
+use Rattle.olap_facts.specs.Refusals.{IsRefusedBy}
 use Rattle.olap_facts.specs.declared.kinds.FactRefusal.{FactRefusal}
 use Rattle.olap_facts.specs.declared.kinds.FactRefusal.TheVariants as refusal
-use Rattle.olap_facts.proofs.ReaderLemmas.{found-behind, next-end, next-fact, next-fault}
+use Rattle.olap_facts.proofs.ReaderLemmas.{found-behind, whole}
 
 module _ (r : FactReading) where
   -- the records after those handed out
   abbrev behind : List (List (List ℕ))
   behind = drop r.handed (body_of r.records)
 
-  -- what stops a reader stops it in a batch
-  pub stopped-in-batch : (e : FactRefusal) → IsStopped r e → IsStoppedInBatch r e
-  stopped-in-batch (refusal.Fault at k) (all, inl first) = (all, inl first)
-  stopped-in-batch (refusal.Fault at k) (all, inr next) = (all, inr (0, omega arith, omega (arith, next)))
-  stopped-in-batch refusal.Memory h = tt
+  -- a reader that has handed out none stands at the text's first record
+  pub at-start : (left : List (List (List ℕ))) → r.handed ≡ 0 → left ≡ r.records → IsAt r left
+  at-start left zero e = record { start = λ _. e; later = λ some. absurd (omega (arith, some)) }
 
-  pub read-none : (left : List (List (List ℕ))) → HasBody r left → HasRead r 0 [] left
-  read-none left b =
+  -- at first none is read
+  pub read-none : (left : List (List (List ℕ))) → IsAt r left → HasRead r 0 [] left
+  read-none left a =
       let same : r.handed ≡ r.handed + 0 = omega arith in record {
         size = refl;
         facts = refl;
-        body = subst (λ (k : ℕ). HasBody (record r { handed = k }) left) same b;
+        at = subst (λ (k : ℕ). IsAt (record r { handed = k }) left) same a;
       }
 
-  module _ (n : ℕ) (facts : List Fact) (left after : List (List (List ℕ))) (row : List (List ℕ))
-      (h : HasRead r n facts left) (e : left ≡ row ∷ after) where
-    pub read-more : (f : Fact) → fact_fault_within r.most r.graph r.instance h.body.seen row ≡ None
-        → f ≡ fact_read r.instance row
+  module _ (n : ℕ) (facts : List Fact) (left : List (List (List ℕ))) (h : HasRead r n facts left) where
+    -- the fact of one record more is handed out
+    pub read-more : (after : List (List (List ℕ))) (f : Fact) → HandsOut (more n r) f → IsAt (one_more (more n r)) after
         → HasRead r (n + 1) (facts ++ f ∷ []) after
-    read-more f none q =
-        let p = next-fact (more n r) left after row h.body e f none q in
-        let there = p.0.there in
+    read-more after f out at =
+        let there = out.there in
         let short : n < length behind = omega (arith, length-drop r.handed (body_of r.records)) in
         let last : f ≡ fact_read r.instance (get_or behind n []) =
-        p.0.fact ∙ ap (fact_read r.instance) (sym (get_or-drop r.handed (body_of r.records) n [])) in
+        out.fact ∙ ap (fact_read r.instance) (sym (get_or-drop r.handed (body_of r.records) n [])) in
         let size = h.size in
         let handed : r.handed + n + 1 ≡ r.handed + (n + 1) = omega arith in record {
           size = omega (arith, length-append facts (f ∷ []));
@@ -53,58 +51,100 @@ module _ (r : FactReading) where
               ∙ ap (λ (t : Fact). next_facts n r ++ t ∷ []) last
               ∙ sym (map-append (fact_read r.instance) (take n behind) (get_or behind n [] ∷ []))
               ∙ ap (map (fact_read r.instance)) (sym (take_more behind n [] short));
-          body = subst (λ (k : ℕ). HasBody (record r { handed = k }) after) handed (p.1.later (omega arith));
+          at = subst (λ (k : ℕ). IsAt (record r { handed = k }) after) handed at;
         }
 
-    pub read-fault : (k : FactKind) → n < facts_in_a_batch
-        → fact_fault_within r.most r.graph r.instance h.body.seen row ≡ Some k
-        → IsStoppedInBatch r (refusal.Fault (r.handed + n + 2) k)
-    read-fault k l fault = (next-fault (more n r) left after row h.body e k fault, inr (n, l, refl))
+    -- there are as many as were asked for
+    pub filled-full : (count : ℕ) → n ≡ count → HasFilled r count facts left
+    filled-full count e = record {
+      n = n;
+      few = omega arith;
+      size = h.size;
+      facts = h.facts;
+      body = λ some. h.at.later (omega (arith, some));
+      end = inl e;
+    }
 
-  module _ (n : ℕ) (facts : List Fact) (left : List (List (List ℕ))) (h : HasRead r n facts left) where
-    some : (m : ℕ) → m ≡ n → 0 < n → n ≤ facts_in_a_batch → (n ≡ facts_in_a_batch) ⊎ (left ≡ [])
-        → HandsOutBatch r facts × IsAt (more m r) left
-    some m same any few way =
-        let b = h.body in
-        let seen = b.size in
+    -- no record is left
+    pub filled-all : (count : ℕ) (new : List (List (List ℕ))) → n ≤ count → HasAll (more n r) new
+        → HasFilled r count facts new
+    filled-all count new few a = record {
+      n = n;
+      few = few;
+      size = h.size;
+      facts = h.facts;
+      body = λ _. subst (λ (l : List (List (List ℕ))). HasBody (more n r) l) (sym a.none) a.body;
+      end = inr a;
+    }
+
+  -- the records behind are no more than those of the body that were read
+  few-behind : (n : ℕ) → HasBody (more n r) [] → length behind ≤ n
+  few-behind n b =
+      let seen = b.size in
+      let parts = ap length b.parts in
+      omega (arith, length-append b.seen [], length-drop r.handed (body_of r.records))
+
+  module _ (facts : List Fact) (left : List (List (List ℕ))) where
+    -- a batch has facts
+    pub batch-some : HasFilled r facts_in_a_batch facts left → 0 < length facts
+        → HandsOutBatch r facts × IsAt (more (length facts) r) left
+    batch-some h some =
         let size = h.size in
-        let whole = ap length b.parts in (
+        let any : 0 < h.n = omega arith in
+        let b = h.body any in
+        let seen = b.size in
+        let parts = ap length b.parts in (
           record {
             header = b.header;
             there = omega (arith, length-append b.seen left);
             no_fault = λ p e.
                 let k = found-behind (fact_fault_within r.most r.graph r.instance) b.seen left p (sym b.faults ∙ e) in
                 omega arith;
-            facts = h.facts ∙ ap (map (fact_read r.instance)) (go way);
+            facts = h.facts ∙ ap (map (fact_read r.instance)) (go h.end);
           },
           record {
             start = λ z. absurd (omega arith);
-            later = λ z. subst (λ (k : ℕ). HasBody (more k r) left) (sym same) b;
+            later = λ z. subst (λ (k : ℕ). HasBody (more k r) left) (sym size) b;
           },
         )
       where
-        go : (n ≡ facts_in_a_batch) ⊎ (left ≡ []) → take n behind ≡ take facts_in_a_batch behind
+        go : (h.n ≡ facts_in_a_batch) ⊎ HasAll (more h.n r) left → take h.n behind ≡ take facts_in_a_batch behind
         go (inl e) = ap (λ (k : ℕ). take k behind) e
-        go (inr e) =
-            let b = h.body in
-            let seen = b.size in
-            let whole = ap length b.parts in
-            let none = ap length e in
-            let short : length behind ≤ n =
-            omega (arith, length-append b.seen left, length-drop r.handed (body_of r.records)) in
-            take_all n behind short ∙ sym (take_all facts_in_a_batch behind (omega arith))
+        go (inr a) =
+            let few = h.few in
+            let short = few-behind h.n a.body in
+            take_all h.n behind short ∙ sym (take_all facts_in_a_batch behind (omega arith))
 
-    pub batch-full : (m : ℕ) → m ≡ n → n ≡ facts_in_a_batch → HandsOutBatch r facts × IsAt (more m r) left
-    batch-full m same full = some m same (omega arith) (omega arith) (inl full)
-
-    pub batch-end : (m : ℕ) → m ≡ n → n ≤ facts_in_a_batch → left ≡ [] → (new : List (List (List ℕ))) → new ≡ []
-        → MatchBool (nat_lt 0 n) (HandsOutBatch r facts × IsAt (more m r) new) (IsAtEnd r)
-    batch-end m same few none new last = go (nat_lt 0 n) refl
+    -- a batch has none
+    pub batch-none : HasFilled r facts_in_a_batch facts left → length facts ≡ 0 → IsAtEnd r
+    batch-none h none = go h.end
       where
-        go : (b : Bool) → nat_lt 0 n ≡ b → MatchBool b (HandsOutBatch r facts × IsAt (more m r) new) (IsAtEnd r)
-        go true e = let any : 0 < n = grind (arith, nat_tests) in
-            subst (λ (l : List (List (List ℕ))). HandsOutBatch r facts × IsAt (more m r) l) (none ∙ sym last)
-            (some m same any few (inr none))
-        go false e = let zero : n ≡ 0 = grind (arith, nat_tests) in
-            let handed : r.handed + n ≡ r.handed = omega arith in
-            next-end r left (subst (λ (k : ℕ). HasBody (record r { handed = k }) left) handed h.body) none
+        go : (h.n ≡ facts_in_a_batch) ⊎ HasAll (more h.n r) left → IsAtEnd r
+        go (inl e) = let size = h.size in absurd (omega (arith, none))
+        go (inr a) =
+            let size = h.size in
+            let zero : r.handed + h.n ≡ r.handed = omega (arith, none) in
+            subst (λ (k : ℕ). IsAtEnd (record r { handed = k })) zero a.end
+
+    -- a text is read whole
+    pub read-all : (count : ℕ) → HasFilled r count facts left → r.handed ≡ 0 → length facts < count
+        → all_read r ≡ Ok facts
+    read-all count h zero few = go h.end
+      where
+        go : (h.n ≡ count) ⊎ HasAll (more h.n r) left → all_read r ≡ Ok facts
+        go (inl e) = let size = h.size in absurd (omega (arith, few))
+        go (inr a) =
+            let all : behind ≡ body_of r.records = ap (λ (k : ℕ). drop k (body_of r.records)) zero in
+            let read = h.facts ∙ ap (map (fact_read r.instance)) (take_all h.n behind (few-behind h.n a.body) ∙ all) in
+            whole (more h.n r) [] a.body refl ∙ ap Ok (sym read)
+
+  -- what stops a reader stops it in a batch
+  pub batch-stopped : (e : FactRefusal) → IsStoppedWithin facts_in_a_batch r e → IsStoppedInBatch r e
+  batch-stopped (refusal.Fault at k) (n, few, (all, inl first)) = (all, inl (first.0, omega (arith, first.1)))
+  batch-stopped (refusal.Fault at k) (n, few, (all, inr next)) = (all, inr (n, few, next))
+  batch-stopped refusal.Memory h = tt
+
+  -- what stops a reader of a whole text refuses it
+  pub refused-by : (count : ℕ) (e : FactRefusal) → IsStoppedWithin count r e → IsRefusedBy e (all_read r)
+  refused-by count (refusal.Fault at k) h = h.2.0
+  refused-by count refusal.Memory h = tt

@@ -2,14 +2,14 @@
 --     found-behind             a fault that is found stands after the records before
 --     body-of, no-header       after the header, and where it isn't there
 --     next-fact, next-fault    one record more
---     next-end                 no record more
-use Rattle.std.proofs.Common.{◌≡◌, ◌⊎◌, ℕ, ◌+◌, ◌<◌, ◌≤◌, List, [], ◌∷◌, ◌++◌, length, get_or, map, drop, Bool, true, false, Option, Some, None, refl, ap, sym, subst, ◌∙◌, inl, inr, arith, length-append}
+--     next-end, whole          no record more
+use Rattle.std.proofs.Common.{◌≡◌, ℕ, ◌+◌, ◌≤◌, List, [], ◌∷◌, ◌++◌, length, get_or, map, drop, true, false, Option, Some, None, refl, ap, sym, subst, ◌∙◌, inl, arith, length-append}
 use Rattle.std.specs.Prelude.{Ok, Err}
 use Rattle.std.proofs.lemmas.List.{length-map}
 use Rattle.olap_base.specs.Views.{Fact}
 use Rattle.olap_records.specs.Faults.{first_fault, or_after}
 use Rattle.olap_records.proofs.Seeing.{HasSeen, see-all, see-fault, see-more}
-use Rattle.olap_facts.specs.FactReading.{FactReading, HandsOut, HasBody, IsAt, IsAtEnd, IsStopped, all_read, body_of, one_more}
+use Rattle.olap_facts.specs.FactReading.{FactReading, HandsOut, HasAll, HasBody, IsAt, IsStopped, all_read, body_of, one_more}
 use Rattle.olap_facts.specs.FactText.{fact_fault_within, fact_read, has_header, or_read}
 use Rattle.olap_facts.specs.declared.kinds.FactKind.{FactKind}
 use Rattle.olap_facts.specs.declared.kinds.FactKind.TheVariants as kind
@@ -103,12 +103,26 @@ module _ (r : FactReading) where
         rw h (ap (λ o. or_read o (Ok (map (fact_read r.instance) (body_of r.records)))) f
         ∙ ap (λ m. Err (record { at = m + 2; kind = k })) b.size)
 
-  pub next-end : (left : List (List (List ℕ))) → HasBody r left → left ≡ [] → IsAtEnd r
-  next-end left b e =
+  -- what is read is the facts of the body, once no record is left
+  pub whole : (left : List (List (List ℕ))) → HasBody r left → left ≡ []
+      → all_read r ≡ Ok (map (fact_read r.instance) (body_of r.records))
+  whole left b e =
       let all = see-all (fact_fault_within r.most r.graph r.instance) (body_of r.records) b.seen left
       (seen-of left b) e in
-      let h = b.header in record {
-        facts = map (fact_read r.instance) (body_of r.records);
-        read = rw h (ap (λ o. or_read o (Ok (map (fact_read r.instance) (body_of r.records)))) all.1);
-        handed = length-map (body_of r.records) (fact_read r.instance) ∙ ap length all.0 ∙ b.size;
+      let h = b.header in
+      rw h (ap (λ o. or_read o (Ok (map (fact_read r.instance) (body_of r.records)))) all.1)
+
+  -- no record is left before the next is read, nor then
+  pub next-end : (left new : List (List (List ℕ))) → HasBody r left → left ≡ [] → new ≡ [] → HasAll r new
+  next-end left new b e none =
+      let all = see-all (fact_fault_within r.most r.graph r.instance) (body_of r.records) b.seen left
+      (seen-of left b) e in
+      record {
+        end = record {
+          facts = map (fact_read r.instance) (body_of r.records);
+          read = whole left b e;
+          handed = length-map (body_of r.records) (fact_read r.instance) ∙ ap length all.0 ∙ b.size;
+        };
+        body = subst (λ (l : List (List (List ℕ))). HasBody r l) e b;
+        none = none;
       }

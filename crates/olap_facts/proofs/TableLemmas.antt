@@ -1,13 +1,11 @@
 -- A fact table that grows fact by fact.
-use Rattle.std.proofs.Common.{◌≡◌, ◌<◌, ◌∷◌, ◌++◌, ◌∙◌, [], ℕ, List, length, get_or, map, ap, sym, subst, inl, inr}
+use Rattle.std.proofs.Common.{◌<◌, ◌∷◌, ◌++◌, [], List, length, get_or, map, subst, inl, inr}
 use Rattle.std.specs.Prelude.{All}
-use Rattle.std.proofs.lemmas.List.{length-map, map-append}
 use Rattle.std.proofs.lemmas.List.Elements.{Contains-get_or, Contains-push_cases}
 use Rattle.olap_base.specs.Graph.{Graph, IsBottom}
 use Rattle.olap_base.specs.Instance.{Instance, IsMember, category_of}
 use Rattle.olap_base.specs.Views.{Fact, IsFactTable}
 use Rattle.olap_base.proofs.ListLemmas.{Contains-map, Contains-nil}
-use Rattle.olap_facts.specs.FactText.{fact_read}
 use Rattle.olap_facts.specs.Seen.{fact_of}
 use Rattle.olap_facts.specs.declared.tables.Fact as told
 
@@ -28,16 +26,3 @@ pub table-members : (g : Graph) (i : Instance) (fs : List told.Fact) → IsFactT
     → All (λ f. f.member.0 < length i) fs
 table-members g i fs t k d h = (t (fact_of (get_or fs k d))
     (Contains-map fact_of fs (get_or fs k d) (Contains-get_or fs k d h))).0
-
--- lists with equal images have one length
-pub same-length : {A B C : Type 0} (f : A → C) (h : B → C) (xs : List A) (ys : List B) → map f xs ≡ map h ys
-    → length xs ≡ length ys
-same-length f h xs ys e = sym (length-map xs f) ∙ ap length e ∙ length-map ys h
-
--- the facts after one record more
-pub facts-more : (i : Instance) (seen : List (List (List ℕ))) (r : List (List ℕ)) (fs : List told.Fact) (f : told.Fact)
-    → map fact_of fs ≡ map (fact_read i) seen → fact_of f ≡ fact_read i r
-    → map fact_of (fs ++ f ∷ []) ≡ map (fact_read i) (seen ++ r ∷ [])
-facts-more i seen r fs f e q =
-    map-append fact_of fs (f ∷ []) ∙ ap (λ (t : List Fact). t ++ fact_of f ∷ []) e
-    ∙ ap (λ (t : Fact). map (fact_read i) seen ++ t ∷ []) q ∙ sym (map-append (fact_read i) seen (r ∷ []))

@@ -5,7 +5,7 @@
 use Rattle.std.specs.Prelude.{◌≡◌, ◌⊎◌, ⊤, ℕ, ◌+◌, ◌<◌, ◌≤◌, true, List, [], length, map, take, drop, Some, Err}
 use Rattle.olap_base.specs.Views.{Fact}
 use Rattle.olap_records.specs.Faults.{first_fault}
-use Rattle.olap_facts.specs.FactReading.{FactReading, HasBody, all_read, body_of}
+use Rattle.olap_facts.specs.FactReading.{FactReading, HasAll, HasBody, IsAt, IsStopped, all_read, body_of}
 use Rattle.olap_facts.specs.FactText.{fact_fault_within, fact_read, has_header}
 use Rattle.olap_facts.specs.declared.kinds.FactKind.{FactKind}
 use Rattle.olap_facts.specs.declared.kinds.FactRefusal.{FactRefusal}
@@ -45,4 +45,17 @@ IsStoppedInBatch r refusal.Memory = ⊤
 pub record HasRead (r : FactReading) (n : ℕ) (batch : List Fact) (left : List (List (List ℕ))) : Type 0 where
   pub size : length batch ≡ n
   pub facts : batch ≡ next_facts n r
-  pub body : HasBody (more n r) left
+  pub at : IsAt (more n r) left
+
+-- the facts of the next records were read, as many as were asked for or all that there are
+pub record HasFilled (r : FactReading) (count : ℕ) (batch : List Fact) (left : List (List (List ℕ))) : Type 0 where
+  pub n : ℕ
+  pub few : n ≤ count
+  pub size : length batch ≡ n
+  pub facts : batch ≡ next_facts n r
+  pub body : 0 < n → HasBody (more n r) left
+  pub end : (n ≡ count) ⊎ HasAll (more n r) left
+
+-- fewer than so many facts were read since the reader stood here, and then it stopped
+abbrev pub IsStoppedWithin : ℕ → FactReading → FactRefusal → Type 0
+IsStoppedWithin count r e = (n : ℕ) × (n < count) × IsStopped (more n r) e

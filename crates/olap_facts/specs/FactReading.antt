@@ -85,6 +85,12 @@ pub record IsAt (r : FactReading) (left : List (List (List ℕ))) : Type 0 where
   pub start : r.handed ≡ 0 → left ≡ r.records
   pub later : 0 < r.handed → HasBody r left
 
+-- all records of the body were read, none has a fault, and none is left
+pub record HasAll (r : FactReading) (left : List (List (List ℕ))) : Type 0 where
+  pub end : IsAtEnd r
+  pub body : HasBody r []
+  pub none : left ≡ []
+
 -- what is true of every reader: while it is live, these are the records that are left
 pub record IsReader (r : FactReading) (left : List (List (List ℕ))) : Type 0 where
   pub made : IsMadeFor r.graph r.instance

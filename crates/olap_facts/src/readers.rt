@@ -1,16 +1,16 @@
 // A reader that hands out the facts of a text one at a time, or in batches.
-ghost use Rattle.std.specs.Prelude.{◌≡◌, ◌+◌, ◌<◌, ◌≤◌, ◌^◌, [], All, Bool, ℕ, IfOk, IfSome, IsTrue, List as Items, MatchBool, MatchOption, MatchResult, OnErr, length, map, true};
+ghost use Rattle.std.specs.Prelude.{◌≡◌, ◌+◌, ◌<◌, ◌≤◌, ◌^◌, All, IfOk, IfSome, IsTrue, MatchBool, MatchOption, MatchResult, length, map, true};
 ghost use Rattle.olap_base.specs.Graph.{IsBottom};
 ghost use Rattle.olap_base.specs.Instance.{category_of};
 ghost use Rattle.olap_base.specs.Views.{IsFactTable};
 ghost use Rattle.olap_instance.specs.Made.{IsMadeFor};
 ghost use Rattle.olap_records.specs.Records.{records_of};
 ghost use Rattle.olap_facts.specs.Batches.{HandsOutBatch, IsStoppedInBatch, more};
-ghost use Rattle.olap_facts.specs.FactReading.{FactReading, HandsOut, HasBody, IsAt, IsAtEnd, IsStopped, one_more, reading, stopped};
+ghost use Rattle.olap_facts.specs.FactReading.{HandsOut, IsAtEnd, IsStopped, one_more, reading, stopped};
 ghost use Rattle.olap_facts.specs.Seen.{fact_of};
 
-use crate::reading::{begins, fact};
-use crate::{Fact, FactKind, FactRefusal};
+use crate::reading::{fill, next_of};
+use crate::{Fact, FactRefusal};
 use olap_graph::Graph;
 use olap_instance::Instance;
 use olap_records::Rows;
@@ -44,102 +44,6 @@ impl<'a> Model for FactReader<'a> {
     ghost invariant = { λ a. IsReader
         (reading a.graph.now a.instance.now (records_of a.text.now) a.most a.handed a.live)
         a.rows.left };
-}
-
-/// Reads the header before the first fact.
-#[inline(always)]
-fn start(rows: &mut Rows, handed: u64) -> Result<(), FactRefusal>
-    ensures { (r : FactReading) → r.handed ≡ handed → IsAt r rows.old.left
-        → MatchResult result (λ _. HasBody r rows.new.left) (IsStopped r) }
-{
-    if handed > 0 {
-        return Ok(());
-    }
-    if !begins(rows)? {
-        return Err(FactRefusal::Fault {
-            at: 1,
-            kind: FactKind::BadHeader,
-        });
-    }
-    Ok(())
-}
-
-/// The fact of the next record, if there is one, after so many facts of at most so many.
-#[inline(always)]
-fn next_of(
-    graph: &Graph,
-    instance: &Instance,
-    rows: &mut Rows,
-    handed: u64,
-    most: u64,
-) -> Result<Option<Fact>, FactRefusal>
-    requires made { IsMadeFor graph.now instance.now }
-    requires most { most < 2 ^ 63 }
-    requires few { handed ≤ most }
-    ensures reads { (records : Items (Items (Items ℕ))) (live : Bool)
-        → IsAt (reading graph.now instance.now records most handed live) rows.old.left → MatchResult result
-        (λ o. MatchOption o (IsAtEnd (reading graph.now instance.now records most handed live))
-        (λ f. HandsOut (reading graph.now instance.now records most handed live) (fact_of f)
-        × IsAt (one_more (reading graph.now instance.now records most handed live)) rows.new.left))
-        (IsStopped (reading graph.now instance.now records most handed live)) }
-    ensures member { IfOk result (λ o. IfSome o (λ f. f.member.0 < length instance.now)) }
-    ensures bottom { IfOk result (λ o. IfSome o (λ f. IsBottom graph.now (category_of instance.now f.member.0))) }
-    ensures few { IfOk result (λ o. IfSome o (λ f. handed < most)) }
-{
-    start(rows, handed)?;
-    if !rows.advance()? {
-        return Ok(None);
-    }
-    match fact(graph, instance, rows, handed, most) {
-        Ok(fact) => Ok(Some(fact)),
-        Err(kind) => Err(FactRefusal::Fault {
-            at: handed + 2,
-            kind,
-        }),
-    }
-}
-
-/// Puts the facts of the next records into an empty batch, after so many facts of at most so many, and says whether
-/// there are any.
-fn fill(
-    graph: &Graph,
-    instance: &Instance,
-    rows: &mut Rows,
-    handed: u64,
-    most: u64,
-    batch: &mut Vec<Fact>,
-) -> Result<bool, FactRefusal>
-    requires made { IsMadeFor graph.now instance.now }
-    requires most { most < 2 ^ 63 }
-    requires few { handed ≤ most }
-    requires empty { batch.old.items ≡ [] }
-    ensures reads { (records : Items (Items (Items ℕ))) (live : Bool)
-        → IsAt (reading graph.now instance.now records most handed live) rows.old.left → MatchResult result
-        (λ some. MatchBool some
-        (HandsOutBatch (reading graph.now instance.now records most handed live) (map fact_of batch.new.items)
-        × IsAt (more (length batch.new.items) (reading graph.now instance.now records most handed live)) rows.new.left)
-        (IsAtEnd (reading graph.now instance.now records most handed live)))
-        (IsStoppedInBatch (reading graph.now instance.now records most handed live)) }
-    ensures table { IfOk result (λ some. IsFactTable graph.now instance.now (map fact_of batch.new.items)) }
-    ensures few { IfOk result (λ some. handed + length batch.new.items ≤ most) }
-{
-    start(rows, handed)?;
-    'facts: for n in 0..FACTS_IN_A_BATCH {
-        if !rows.advance()? {
-            return Ok(n > 0);
-        }
-        let before = handed + n as u64;
-        match fact(graph, instance, rows, before, most) {
-            Ok(fact) => batch.push(fact)?,
-            Err(kind) => {
-                return Err(FactRefusal::Fault {
-                    at: before + 2,
-                    kind,
-                });
-            }
-        }
-    }
-    Ok(true)
 }
 
 impl<'a> FactReader<'a> {
@@ -221,19 +125,20 @@ impl<'a> FactReader<'a> {
             &mut self.rows,
             self.handed,
             self.most,
+            FACTS_IN_A_BATCH,
             batch,
         ) {
-            Ok(true) => {
-                self.handed += batch.len() as u64;
-                Ok(true)
-            }
-            Ok(false) => {
+            Ok(()) if batch.is_empty() => {
                 self.live = false;
                 Ok(false)
             }
-            Err(why) => {
+            Ok(()) => {
+                self.handed += batch.len() as u64;
+                Ok(true)
+            }
+            Err(refusal) => {
                 self.live = false;
-                Err(why)
+                Err(refusal)
             }
         }
     }

@@ -1,39 +1,24 @@
 // A fact table read from a text.
-ghost use Rattle.std.specs.Prelude.{◌≡◌, ◌<◌, ◌≤◌, ◌∷◌, ℕ, All, IfOk, IsTrue, List as Items, MatchResult, None, [], Ok, Some, drop, length, map};
+ghost use Rattle.std.specs.Prelude.{◌≡◌, ◌+◌, ◌<◌, ◌≤◌, ◌^◌, ℕ, All, Bool, IfOk, IfSome, IsTrue, List as Items, MatchOption, MatchResult, None, [], Ok, Some, length, map};
 ghost use Rattle.olap_base.specs.Graph.{IsBottom};
 ghost use Rattle.olap_base.specs.Instance.{category_of};
 ghost use Rattle.olap_base.specs.Limits.{most_listed_facts};
 ghost use Rattle.olap_base.specs.Views.{IsFactTable};
 ghost use Rattle.olap_instance.specs.Made.{IsMadeFor};
-ghost use Rattle.olap_records.specs.Faults.{first_fault};
 ghost use Rattle.olap_records.specs.Records.{records_of};
-ghost use Rattle.olap_facts.specs.FactText.{fact_fault, fact_fault_within, fact_read, facts_read, has_header, is_bottom};
-ghost use Rattle.olap_facts.specs.Refusals.{IsFaultCause, IsRefusedBy};
+ghost use Rattle.olap_facts.specs.Batches.{HasFilled, IsStoppedWithin};
+ghost use Rattle.olap_facts.specs.FactReading.{FactReading, HandsOut, HasAll, HasBody, IsAt, IsStopped, one_more, reading};
+ghost use Rattle.olap_facts.specs.FactText.{fact_fault_within, fact_read, facts_read, is_bottom};
+ghost use Rattle.olap_facts.specs.Refusals.{IsRefusedBy};
 ghost use Rattle.olap_facts.specs.Seen.{fact_of, facts_of};
 
 use crate::{Fact, FactKind, FactRefusal, Facts};
-use olap_base::{List, MOST_LISTED_FACTS, MemberId, Memory};
+use olap_base::{List, MOST_LISTED_FACTS, MemberId};
 use olap_graph::Graph;
 use olap_instance::Instance;
 use olap_numerals::value;
 use olap_records::Rows;
 use std::alloc::Global;
-
-/// Whether the record that was read last is the header.
-fn is_header(rows: &Rows) -> bool
-    ensures { (others : Items (Items (Items ℕ))) → result ≡ has_header (rows.now.row ∷ others) }
-{
-    rows.is_row(&[b"member", b"value"])
-}
-
-/// Reads the first record, and says whether it is the header.
-pub(crate) fn begins(rows: &mut Rows) -> Result<bool, Memory>
-    ensures header { IfOk result (λ b. b ≡ has_header rows.old.left) }
-    ensures left { IfOk result (λ b. IsTrue b → rows.new.left ≡ drop 1 rows.old.left) }
-{
-    let found = rows.advance()?;
-    Ok(found && is_header(rows))
-}
 
 /// Whether a member is of a bottom category.
 #[inline(always)]
@@ -48,7 +33,7 @@ pub fn is_at_bottom(graph: &Graph, instance: &Instance, m: MemberId) -> bool
 
 /// The fact of the record that was read last, after this many facts, of at most so many.
 #[inline(always)]
-pub(crate) fn fact(
+fn fact(
     graph: &Graph,
     instance: &Instance,
     rows: &Rows,
@@ -83,61 +68,89 @@ pub(crate) fn fact(
     Ok(Fact { member, value })
 }
 
-/// The facts of the records that are left.
-fn read_rows(
-    alloc: Global,
-    graph: &Graph,
-    instance: &Instance,
-    rows: &mut Rows,
-) -> Result<Vec<Fact>, FactRefusal>
-    requires made { IsMadeFor graph.now instance.now }
-    ensures facts { MatchResult result
-        (λ v. (first_fault (fact_fault graph.now instance.now) [] rows.old.left ≡ None)
-        × (map fact_of v.items ≡ map (fact_read instance.now) rows.old.left))
-        (λ e. IsFaultCause (first_fault (fact_fault graph.now instance.now) [] rows.old.left) e) }
-    ensures table { IfOk result (λ v. IsFactTable graph.now instance.now (map fact_of v.items)) }
-    ensures few { IfOk result (λ v. length v.items ≤ most_listed_facts) }
+/// Reads the header before the first fact.
+#[inline(always)]
+fn start(rows: &mut Rows, handed: u64) -> Result<(), FactRefusal>
+    ensures { (r : FactReading) → r.handed ≡ handed → IsAt r rows.old.left
+        → MatchResult result (λ _. HasBody r rows.new.left) (IsStopped r) }
 {
-    let mut facts = Vec::new(alloc);
-    'rows: while rows.advance()? {
-        match fact(graph, instance, rows, facts.len() as u64, MOST_LISTED_FACTS) {
-            Ok(fact) => facts.push(fact)?,
-            Err(kind) => {
-                return Err(FactRefusal::Fault {
-                    at: facts.len() as u64 + 2,
-                    kind,
-                });
-            }
-        }
+    if handed > 0 {
+        return Ok(());
     }
-    Ok(facts)
-}
-
-/// The fact table that the records tell, or their first fault.
-fn table_of(
-    alloc: Global,
-    graph: &Graph,
-    instance: &Instance,
-    rows: &mut Rows,
-) -> Result<Facts, FactRefusal>
-    requires made { IsMadeFor graph.now instance.now }
-    ensures read { MatchResult result
-        (λ f. facts_read graph.now instance.now rows.old.left ≡ Ok (facts_of f))
-        (λ e. IsRefusedBy e (facts_read graph.now instance.now rows.old.left)) }
-    ensures members { IfOk result (λ f. All (λ q. q.member.0 < length instance.now) f.rows) }
-    ensures few { IfOk result (λ f. length f.rows ≤ most_listed_facts) }
-    ensures table { IfOk result (λ f. IsFactTable graph.now instance.now (facts_of f)) }
-{
-    if !begins(rows)? {
+    if !rows.advance()? || !rows.is_row(&[b"member", b"value"]) {
         return Err(FactRefusal::Fault {
             at: 1,
             kind: FactKind::BadHeader,
         });
     }
-    let facts = read_rows(alloc, graph, instance, rows)?;
-    Ok(Facts {
-        rows: List::from_vec(facts),
-    })
+    Ok(())
+}
+
+/// The fact of the next record, if there is one, after so many facts of at most so many.
+#[inline(always)]
+pub(crate) fn next_of(
+    graph: &Graph,
+    instance: &Instance,
+    rows: &mut Rows,
+    handed: u64,
+    most: u64,
+) -> Result<Option<Fact>, FactRefusal>
+    requires made { IsMadeFor graph.now instance.now }
+    requires most { most < 2 ^ 63 }
+    requires few { handed ≤ most }
+    ensures reads { (records : Items (Items (Items ℕ))) (live : Bool)
+        → IsAt (reading graph.now instance.now records most handed live) rows.old.left → MatchResult result
+        (λ o. MatchOption o
+        (HasAll (reading graph.now instance.now records most handed live) rows.new.left)
+        (λ f. HandsOut (reading graph.now instance.now records most handed live) (fact_of f)
+        × IsAt (one_more (reading graph.now instance.now records most handed live)) rows.new.left))
+        (IsStopped (reading graph.now instance.now records most handed live)) }
+    ensures member { IfOk result (λ o. IfSome o (λ f. f.member.0 < length instance.now)) }
+    ensures bottom { IfOk result (λ o. IfSome o (λ f. IsBottom graph.now (category_of instance.now f.member.0))) }
+    ensures few { IfOk result (λ o. IfSome o (λ f. handed < most)) }
+{
+    start(rows, handed)?;
+    if !rows.advance()? {
+        return Ok(None);
+    }
+    match fact(graph, instance, rows, handed, most) {
+        Ok(fact) => Ok(Some(fact)),
+        Err(kind) => Err(FactRefusal::Fault {
+            at: handed + 2,
+            kind,
+        }),
+    }
+}
+
+/// Puts the facts of the next records into an empty batch, up to this many, after so many facts of at most so many.
+pub(crate) fn fill(
+    graph: &Graph,
+    instance: &Instance,
+    rows: &mut Rows,
+    handed: u64,
+    most: u64,
+    count: usize,
+    batch: &mut Vec<Fact>,
+) -> Result<(), FactRefusal>
+    requires made { IsMadeFor graph.now instance.now }
+    requires most { most < 2 ^ 63 }
+    requires few { handed ≤ most }
+    requires empty { batch.old.items ≡ [] }
+    ensures reads { (records : Items (Items (Items ℕ))) (live : Bool)
+        → IsAt (reading graph.now instance.now records most handed live) rows.old.left → MatchResult result
+        (λ _. HasFilled (reading graph.now instance.now records most handed live) count
+        (map fact_of batch.new.items) rows.new.left)
+        (IsStoppedWithin count (reading graph.now instance.now records most handed live)) }
+    ensures table { IfOk result (λ _. IsFactTable graph.now instance.now (map fact_of batch.new.items)) }
+    ensures few { IfOk result (λ _. handed + length batch.new.items ≤ most) }
+{
+    'facts: for n in 0..count {
+        let Some(fact) = next_of(graph, instance, rows, handed + n as u64, most)? else {
+            return Ok(());
+        };
+        batch.push(fact)?;
+    }
+    Ok(())
 }
 
 /// The fact table that a text tells, or the text's first fault. Each record takes one look-up of a
@@ -158,6 +171,20 @@ pub fn read_facts(
     ensures few { IfOk result (λ f. length f.rows ≤ most_listed_facts) }
     ensures table { IfOk result (λ f. IsFactTable graph.now instance.now (facts_of f)) }
 {
-    let mut rows = Rows::new(alloc, text);
-    table_of(alloc, graph, instance, &mut rows)
+    let mut facts = Vec::new(alloc);
+    // One more than there may be: the last is refused.
+    let count = MOST_LISTED_FACTS as usize + 1;
+    let filled = fill(
+        graph,
+        instance,
+        &mut Rows::new(alloc, text),
+        0,
+        MOST_LISTED_FACTS,
+        count,
+        &mut facts,
+    );
+    filled?;
+    Ok(Facts {
+        rows: List::from_vec(facts),
+    })
 }

@@ -4,7 +4,7 @@ use Rattle.olap_base.specs.Views.{IsFactTable}
 use Rattle.olap_facts.specs.Batches.{HasRead}
 use Rattle.olap_facts.specs.FactReading.{IsAt, reading}
 use Rattle.olap_facts.specs.Seen.{fact_of}
-use Rattle.olap_facts.proofs.readers.fill.Given as goal
+use Rattle.olap_facts.proofs.reading.fill.Given as goal
 
 abbrev pub invariant-facts : goal.invariant-facts
 invariant-facts l = record {

@@ -4,7 +4,7 @@ use Rattle.std.proofs.lemmas.Result.{err_from_is_err_and}
 use Rattle.olap_facts.specs.FactReading.{reading}
 use Rattle.olap_facts.proofs.ReaderLemmas.{next-end, next-fact, next-fault}
 use Rattle.olap_facts.specs.Seen.{fact_of}
-use Rattle.olap_facts.proofs.readers.next_of.Goals as goal
+use Rattle.olap_facts.proofs.reading.next_of.Goals as goal
 
 pub returns-then-not-branch-clause-reads : goal.returns-then-not-branch-clause-reads
 returns-then-not-branch-clause-reads c = λ records live a.
@@ -12,7 +12,7 @@ returns-then-not-branch-clause-reads c = λ records live a.
     let new = c.start.new.rows.left in
     let b = c.in_ok-start.ensures r refl a in
     let end = rw c.if-not-branch.true at c.in_ok-advance.ensures in
-    next-end r new b end.0
+    next-end r new c.advance.new.self.left b end.0 end.1
 
 pub returns-in-Ok-clause-reads : goal.returns-in-Ok-clause-reads
 returns-in-Ok-clause-reads c = λ records live a.
