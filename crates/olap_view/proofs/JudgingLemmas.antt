@@ -1,11 +1,13 @@
 -- What a record of a text of stored views says, check by check.
 --     too-many, may-begin         a record that begins a view
 --     none-there                  no row of the member was read
+--     some-seen                   something is there, whatever it is seen as
 --     no-view, row-twice, row-is  a row's record
 use Rattle.std.proofs.Common.{◌≡◌, ◌↔◌, ◌<◌, ◌≤◌, ◌==◌, ◌∙◌, ℕ, Bool, true, false, not, List, length, Option, Some, None, IsTrue, is_some, is_none, unwrap_or, if◌then◌else◌, nat_le, refl, sym, ap, subst, arith}
 use Rattle.std.specs.Prelude.{Contains}
 use Rattle.std.specs.Bool.{one_answer}
 use Rattle.std.specs.List.{list_any}
+use Rattle.std.specs.Option.{option_map}
 use Rattle.std.proofs.lemmas.Bool.Decides.{nat_tests}
 use Rattle.olap_base.specs.Graph.{Graph}
 use Rattle.olap_base.specs.Instance.{Instance, category_of}
@@ -55,6 +57,10 @@ module _ (g : Graph) (earlier : List Record) (cs : List ℕ) (c : ℕ) (b : Bool
 pub none-there : {A : Type 0} (o : Option A) → is_some o ≡ false → o ≡ None
 none-there None e = refl
 none-there (Some x) e = absurd (cc)
+
+pub some-seen : {A B : Type 0} (f : A → B) (o : Option A) → is_some (option_map f o) ≡ is_some o
+some-seen f None = refl
+some-seen f (Some x) = refl
 
 -- the checks of a row by what they find: a view above, no member, its category, no numbers, a row above
 abbrev pub checks : Bool → Bool → Bool → Bool → Bool → Option StoreKind

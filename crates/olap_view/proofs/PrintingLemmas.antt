@@ -13,12 +13,12 @@ use Rattle.olap_view.specs.ViewText.{fields_in, header, records_of_view, view_te
 use Rattle.olap_view.specs.declared.views.Row as told
 
 -- one row more behind what was there
-pub view_more : (first : List ℕ) (top : List (List ℕ)) (fields : Row → List (List ℕ)) (rows : List told.Row) (k : ℕ)
+pub row_more : (first : List ℕ) (top : List (List ℕ)) (fields : Row → List (List ℕ)) (rows : List told.Row) (k : ℕ)
     (d : told.Row) (out new : List ℕ) → k < length rows
     → out ≡ first ++ text_of_rows (top ∷ map fields (rows_of (take k rows)))
     → new ≡ out ++ text_of_row (fields (row_of (get_or rows k d)))
     → new ≡ first ++ text_of_rows (top ∷ map fields (rows_of (take (k + 1) rows)))
-view_more first top fields rows k d out new l eo en =
+row_more first top fields rows k d out new l eo en =
     let row = get_or rows k d in
     let before = map fields (rows_of (take k rows)) in
     let more : map fields (rows_of (take (k + 1) rows)) ≡ before ++ fields (row_of row) ∷ [] =

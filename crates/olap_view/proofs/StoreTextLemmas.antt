@@ -1,7 +1,7 @@
 -- The text of stored views: its records, printed one after the other and read back.
---     stored-row, stored-view   one row more, and one view more
---     store-reads               the printed text reads back
---     header-is                 whether the first record is the header
+--     stored-view   one view more
+--     store-reads   the printed text reads back
+--     header-is     whether the first record is the header
 use Rattle.std.proofs.Common.{◌≡◌, ◌↔◌, ◌+◌, ◌<◌, ◌++◌, ◌∷◌, ◌∙◌, Bool, ℕ, zero, suc, List, [], length, map, take, flat_map, get_or, IsTrue, refl, sym, ap, arith, append_assoc}
 use Rattle.std.specs.Prelude.{All}
 use Rattle.std.specs.Bool.{one_answer}
@@ -12,11 +12,11 @@ use Rattle.std.proofs.lemmas.List.Elements.{All-map}
 use Rattle.std.proofs.lemmas.Slice.Eq.{bytes_eq-Decides, slice_eq-Decides}
 use Rattle.olap_base.specs.Graph.{Graph}
 use Rattle.olap_base.specs.Instance.{Instance}
-use Rattle.olap_base.specs.Views.{Row, View}
+use Rattle.olap_base.specs.Views.{View}
 use Rattle.olap_records.specs.Records.{records_of}
 use Rattle.olap_records.specs.Texts.{text_of_row, text_of_rows}
-use Rattle.olap_records.proofs.ReadingBack.{text-back, texts-push}
-use Rattle.olap_view.specs.Seen.{each_view_of, row_of, rows_of, view_of}
+use Rattle.olap_records.proofs.ReadingBack.{text-back}
+use Rattle.olap_view.specs.Seen.{each_view_of, rows_of, view_of}
 use Rattle.olap_view.specs.StoreText.{beginning, has_header, header, records_of_one, records_of_store, store_text}
 use Rattle.olap_view.specs.ViewText.{fields_in}
 use Rattle.olap_view.proofs.SeenLemmas.{each_row}
@@ -28,24 +28,6 @@ texts-append : (xs ys : List (List (List ℕ))) → text_of_rows (xs ++ ys) ≡ 
 texts-append [] ys = refl
 texts-append (x ∷ xs) ys = ap (λ (t : List ℕ). text_of_row x ++ t) (texts-append xs ys)
     ∙ sym (append_assoc (text_of_row x) (text_of_rows xs) (text_of_rows ys))
-
--- one row more, behind a text
-pub stored-row : (before : List ℕ) (top : List (List ℕ)) (fields : Row → List (List ℕ)) (rows : List told_row.Row)
-    (k : ℕ) (d : told_row.Row) (out new : List ℕ) → k < length rows
-    → out ≡ before ++ text_of_rows (top ∷ map fields (rows_of (take k rows)))
-    → new ≡ out ++ text_of_row (fields (row_of (get_or rows k d)))
-    → new ≡ before ++ text_of_rows (top ∷ map fields (rows_of (take (k + 1) rows)))
-stored-row before top fields rows k d out new l eo en =
-    let row = get_or rows k d in
-    let so_far = map fields (rows_of (take k rows)) in
-    let more : map fields (rows_of (take (k + 1) rows)) ≡ so_far ++ fields (row_of row) ∷ [] =
-    ap (λ (rs : List told_row.Row). map fields (rows_of rs)) (take_more rows k d l)
-    ∙ ap (map fields) (map-append row_of (take k rows) (row ∷ []))
-    ∙ map-append fields (rows_of (take k rows)) (row_of row ∷ []) in
-    en ∙ ap (λ (t : List ℕ). t ++ text_of_row (fields (row_of row))) eo
-    ∙ append_assoc before (text_of_rows (top ∷ so_far)) (text_of_row (fields (row_of row)))
-    ∙ ap (λ (t : List ℕ). before ++ t) (sym (texts-push (top ∷ so_far) (fields (row_of row)))
-    ∙ ap (λ (t : List (List (List ℕ))). text_of_rows (top ∷ t)) (sym more))
 
 -- one view more
 pub stored-view : (top : List (List ℕ)) (records : View → List (List (List ℕ))) (views : List told_view.View) (k : ℕ)

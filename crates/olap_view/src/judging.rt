@@ -55,14 +55,6 @@ fn beginning(categories: &[CatId], c: CatId) -> Result<(), StoreKind>
     Ok(())
 }
 
-/// Whether the member is of the category.
-fn is_of(instance: &Instance, m: MemberId, c: CatId) -> bool
-    requires member { m.0 < length instance.now }
-    ensures { result ≡ (category_of instance.now m.0 == c.0) }
-{
-    instance.category(m).0 == c.0
-}
-
 /// The member and the numbers of the row that was read last, in the view of c.
 fn row(
     instance: &Instance,
@@ -86,13 +78,13 @@ fn row(
     let Some(member) = instance.find(rows.field(1)) else {
         return Err(StoreKind::UnknownMember);
     };
-    if !is_of(instance, member, c) {
+    if instance.category(member).0 != c.0 {
         return Err(StoreKind::WrongCategory);
     }
     let Some(summary) = summary(rows) else {
         return Err(StoreKind::BadNumber);
     };
-    if table.has(member) {
+    if table.at(member).is_some() {
         return Err(StoreKind::DuplicateRow);
     }
     Ok((member, summary))
@@ -134,8 +126,7 @@ pub(crate) fn enter(table: &mut StoredRows, entry: Entry) -> Result<(), Memory>
         → Tells g i earlier table.old → Says g i earlier r entry → Tells g i (earlier ++ r ∷ []) table.new) }
 {
     match entry {
-        Entry::Beginning(c) => table.begin(c)?,
-        Entry::Row(member, summary) => table.put(member, summary)?,
+        Entry::Beginning(c) => table.begin(c),
+        Entry::Row(member, summary) => table.put(member, summary),
     }
-    Ok(())
 }

@@ -1,10 +1,10 @@
 // Views as CSV texts.
-ghost use Rattle.std.specs.Prelude.{◌≡◌, ◌++◌, ◌<◌, ℕ, All, IfOk, OnOk, length};
+ghost use Rattle.std.specs.Prelude.{◌≡◌, ◌∷◌, ◌++◌, ◌<◌, ℕ, All, IfOk, OnOk, length, map};
 ghost use Rattle.std.specs.Option.{option_map};
 ghost use Rattle.olap_records.specs.Records.{records_of};
-ghost use Rattle.olap_records.specs.Texts.{text_of_row};
-ghost use Rattle.olap_view.specs.Seen.{row_of, view_of};
-ghost use Rattle.olap_view.specs.ViewText.{behind, fields_of_row, records_of_view, view_text, width_behind};
+ghost use Rattle.olap_records.specs.Texts.{text_of_row, text_of_rows};
+ghost use Rattle.olap_view.specs.Seen.{row_of, rows_of, view_of};
+ghost use Rattle.olap_view.specs.ViewText.{behind, fields_in, fields_of_row, records_of_view, view_text, width_behind};
 
 use crate::{Row, View};
 use itoa::Buffer;
@@ -14,12 +14,7 @@ use olap_records::Printer;
 use std::alloc::Global;
 
 /// Prints a row behind what is printed; of a store with the category's name before it.
-pub(crate) fn print_row(
-    out: &mut Printer,
-    category: Option<&[u8]>,
-    id: &[u8],
-    row: &Row,
-) -> Result<(), Memory>
+fn print_row(out: &mut Printer, category: Option<&[u8]>, id: &[u8], row: &Row) -> Result<(), Memory>
     requires width { out.old.width ≡ width_behind (option_map (λ n. n.now) category) }
     ensures text { OnOk result (out.new.text ≡ out.old.text
         ++ text_of_row (behind (option_map (λ n. n.now) category.entry) (fields_of_row id.now (row_of row.now)))) }
@@ -39,17 +34,44 @@ pub(crate) fn print_row(
     }
 }
 
+/// Prints a record, and behind it one for each row of the view; of a store with the category's name before each row.
+pub(crate) fn print_rows(
+    out: &mut Printer,
+    instance: &Instance,
+    first: &[&[u8]],
+    category: Option<&[u8]>,
+    view: &View,
+) -> Result<(), Memory>
+    requires first { length first.now ≡ width_behind (option_map (λ n. n.now) category) }
+    requires width { out.old.width ≡ width_behind (option_map (λ n. n.now) category) }
+    requires at_members { All (λ r. r.member.0 < length instance.now) view.now.rows }
+    ensures text { OnOk result (out.new.text ≡ out.old.text
+        ++ text_of_rows (map (λ f. f.now) first.now
+        ∷ map (λ r. behind (option_map (λ n. n.now) category.entry) (fields_in instance.now r))
+        (rows_of view.now.rows))) }
+    ensures width { out.new.width ≡ out.old.width }
+{
+    out.row(first)?;
+    'rows: for row in view.rows.items() {
+        print_row(out, category, instance.id(row.member), row)?;
+    }
+    Ok(())
+}
+
 /// The text of a view behind a text that is there, which isn't copied. `Memory`: out of memory.
 pub fn print_view_behind(text: Vec<u8>, instance: &Instance, view: &View) -> Result<Vec<u8>, Memory>
     requires at_members { All (λ r. r.member.0 < length instance.now) view.now.rows }
     ensures { IfOk result (λ bytes. bytes.items ≡ text.items ++ view_text instance.now (view_of view.now)) }
 {
     let mut out = Printer::behind(text, 5);
-    out.row(&[b"member", b"count", b"sum", b"least", b"greatest"])?;
-    'rows: for row in view.rows.items() {
-        print_row(&mut out, None, instance.id(row.member), row)?;
-    }
-    out.finish()
+    let printed = print_rows(
+        &mut out,
+        instance,
+        &[b"member", b"count", b"sum", b"least", b"greatest"],
+        None,
+        view,
+    );
+    printed.and(out.finish())
 }
 
 /// The text of a view: a header, and a record for each row, with the member's id and the four numbers in

@@ -34,44 +34,24 @@ fn add_batches(alloc: Global, reader: &mut FactReader, tally: &mut Tally) -> Res
     Ok(())
 }
 
-/// Adds the facts of a text to a tally that stands for none.
+/// Adds the facts of a text to a tally that stands for none. The text is gone when it returns.
 fn add_text(
     alloc: Global,
     graph: &Graph,
     legal: &Legal,
-    text: &[u8],
+    text: Vec<u8>,
     tally: &mut Tally,
 ) -> Result<(), FactRefusal>
     requires made { IsMadeFor graph.now legal.now }
     requires instance { tally.old.instance ≡ legal.now }
     requires none { StandsFor tally.old [] }
     ensures tally { OnOk result
-        (IsTallyOf graph.now legal.now (records_of text.now) tally.old.categories tally.new) }
-    ensures err { IfErr result (λ e.
-        IsRefusedBy e (facts_read_within most_facts graph.now legal.now (records_of text.now))) }
-{
-    let mut reader = FactReader::new(alloc, graph, legal.instance(), text, MOST_FACTS);
-    add_batches(alloc, &mut reader, tally)
-}
-
-/// What the facts of a text come to at each member of some categories. The text is gone when it returns.
-fn tally_of<'a>(
-    alloc: Global,
-    graph: &Graph,
-    legal: &'a Legal,
-    text: Vec<u8>,
-    categories: &[CatId],
-) -> Result<Tally<'a>, FactRefusal>
-    requires made { IsMadeFor graph.now legal.now }
-    requires differ { AllPairs ◌≢◌ (ids categories.now) }
-    ensures tally { IfOk result (λ t.
-        IsTallyOf graph.now legal.now (records_of text.items) (ids categories.now) t) }
+        (IsTallyOf graph.now legal.now (records_of text.items) tally.old.categories tally.new) }
     ensures err { IfErr result (λ e.
         IsRefusedBy e (facts_read_within most_facts graph.now legal.now (records_of text.items))) }
 {
-    let mut tally = Tally::new(alloc, legal, categories)?;
-    add_text(alloc, graph, legal, &text, &mut tally)?;
-    Ok(tally)
+    let mut reader = FactReader::new(alloc, graph, legal.instance(), &text, MOST_FACTS);
+    add_batches(alloc, &mut reader, tally)
 }
 
 /// The direct views of some categories, in their order, from a text of at most `MOST_FACTS` facts; or the text's first
@@ -97,6 +77,7 @@ pub fn roll_up(
     ensures err { IfErr result (λ e.
         IsRefusedBy e (facts_read_within most_facts graph.now legal.now (records_of text.items))) }
 {
-    let tally = tally_of(alloc, graph, legal, text, categories)?;
+    let mut tally = Tally::new(alloc, legal, categories)?;
+    add_text(alloc, graph, legal, text, &mut tally)?;
     Ok(tally.into_views()?)
 }

@@ -1,5 +1,5 @@
 // The rows of stored views, while they are read.
-ghost use Rattle.std.specs.Prelude.{◌≡◌, ◌<◌, ◌∷◌, ◌++◌, [], ℕ, All, IfOk, None, OnOk, is_some, length, map};
+ghost use Rattle.std.specs.Prelude.{◌≡◌, ◌<◌, ◌∷◌, ◌++◌, [], ℕ, All, IfOk, None, OnOk, length, map};
 ghost use Rattle.std.specs.Option.{option_map};
 ghost use Rattle.olap_view.specs.Seen.{each_view_of, summary_of, view_of};
 ghost use Rattle.olap_view.specs.StoredRows.{HasPut, IsPlaced, begun_in, stored_at};
@@ -70,14 +70,6 @@ impl StoredRows {
             0 => None,
             place => self.summaries.get(place as usize - 1).copied(),
         }
-    }
-
-    /// Whether a member has a row.
-    pub(crate) fn has(&self, y: MemberId) -> bool
-        requires { y.0 < length self.now.places.items }
-        ensures { result ≡ is_some (stored_at self.now y.0) }
-    {
-        self.at(y).is_some()
     }
 
     /// The view of a category: a row for each of its members that has one, in file order.

@@ -1,18 +1,16 @@
 // The text of stored views: reading and printing it.
-ghost use Rattle.std.specs.Prelude.{◌≡◌, ◌<◌, ◌++◌, [], All, IfOk, IsTrue, MatchResult, None, Ok, OnOk, drop, length};
-ghost use Rattle.olap_base.specs.Graph.{IsCategory, IsHierarchy};
-ghost use Rattle.olap_base.specs.Instance.{IsInstance};
+ghost use Rattle.std.specs.Prelude.{◌≡◌, ◌<◌, [], All, IfOk, IsTrue, MatchResult, None, Ok, OnOk, drop, length};
+ghost use Rattle.olap_base.specs.Graph.{IsCategory};
 ghost use Rattle.olap_records.specs.Faults.{first_fault};
 ghost use Rattle.olap_records.specs.Records.{records_of};
-ghost use Rattle.olap_records.specs.Texts.{text_of_rows};
 ghost use Rattle.olap_view.specs.Kinds.{IsStoreRefusedBy};
-ghost use Rattle.olap_view.specs.Seen.{each_view_of, rows_of, views_of};
+ghost use Rattle.olap_view.specs.Seen.{each_view_of, views_of};
 ghost use Rattle.olap_view.specs.StoreReading.{IsStoreFaultOf, Tells};
-ghost use Rattle.olap_view.specs.StoreText.{has_header, records_behind, records_of_store, store_fault, store_read, store_text, views_read};
+ghost use Rattle.olap_view.specs.StoreText.{has_header, records_of_store, store_fault, store_read, store_text, views_read};
 ghost use Rattle.olap_view.specs.Stores.{IsInFileOrder, IsSoundStore};
 
 use crate::judging::{enter, judge};
-use crate::printing::print_row;
+use crate::printing::print_rows;
 use crate::stored_rows::StoredRows;
 use crate::{Store, StoreKind, StoreRefusal, View};
 use olap_base::{List, Memory, Text};
@@ -21,38 +19,19 @@ use olap_instance::Instance;
 use olap_records::{Printer, Rows};
 use std::alloc::Global;
 
-/// Prints a view behind what is printed: the record that begins it, and its rows.
-fn print_stored(
+/// Prints the header, and each view behind it: the record that begins it, and its rows.
+fn print_views(
     out: &mut Printer,
-    instance: &Instance,
-    name: &[u8],
-    view: &View,
-) -> Result<(), Memory>
-    requires width { out.old.width ≡ 6 }
-    requires at_members { All (λ r. r.member.0 < length instance.now) view.now.rows }
-    ensures text { OnOk result (out.new.text
-        ≡ out.old.text ++ text_of_rows (records_behind name.now instance.now (rows_of view.now.rows))) }
-    ensures width { out.new.width ≡ 6 }
-{
-    out.row(&[name, b"", b"", b"", b"", b""])?;
-    'rows: for row in view.rows.items() {
-        print_row(out, Some(name), instance.id(row.member), row)?;
-    }
-    Ok(())
-}
-
-/// The bytes of the text of stored views.
-fn print(
-    alloc: Global,
     graph: &Graph,
     instance: &Instance,
     store: &Store,
-) -> Result<Vec<u8>, Memory>
+) -> Result<(), Memory>
+    requires width { out.old.width ≡ 6 }
+    requires nothing { out.old.text ≡ [] }
     requires categories { All (λ v. IsCategory graph.now v.category) (views_of store.now) }
     requires at_members { All (λ v. All (λ r. r.member < length instance.now) v.rows) (views_of store.now) }
-    ensures { IfOk result (λ bytes. bytes.items ≡ store_text graph.now instance.now (views_of store.now)) }
+    ensures { OnOk result (out.new.text ≡ store_text graph.now instance.now (views_of store.now)) }
 {
-    let mut out = Printer::new(alloc, 6);
     out.row(&[
         b"category",
         b"member",
@@ -62,18 +41,16 @@ fn print(
         b"greatest",
     ])?;
     'views: for view in store.views.items() {
-        print_stored(&mut out, instance, graph.name(view.category).bytes(), view)?;
+        let name = graph.name(view.category).bytes();
+        print_rows(
+            out,
+            instance,
+            &[name, b"", b"", b"", b"", b""],
+            Some(name),
+            view,
+        )?;
     }
-    out.finish()
-}
-
-// What is known of every graph and every instance, which reading back rests on.
-fn recall(graph: &Graph, instance: &Instance)
-    ensures hierarchy { IsHierarchy graph.now }
-    ensures sound { IsInstance instance.now }
-{
-    graph.categories();
-    instance.members();
+    Ok(())
 }
 
 /// The text of stored views: a header, and for each view a record that begins it and a record for each row, with the
@@ -97,8 +74,13 @@ pub fn print_store(
         → IfOk result (λ text. store_read graph.now instance.now (records_of text)
         ≡ Ok (views_of store.now)) }
 {
-    recall(graph, instance);
-    Ok(Text::from_vec(print(alloc, graph, instance, store)?))
+    // Called for their clauses: reading back rests on what is known of every graph and every instance.
+    graph.categories();
+    instance.members();
+    let mut out = Printer::new(alloc, 6);
+    let printed = print_views(&mut out, graph, instance, store);
+    let text = printed.and(out.finish())?;
+    Ok(Text::from_vec(text))
 }
 
 /// Reads the first record, and says whether it is the header.

@@ -1,23 +1,43 @@
 -- The printed text reads back, and stands for the store.
-use Rattle.std.proofs.Common.{◌∙◌, ap}
+use Rattle.std.proofs.Common.{◌≡◌, ◌∙◌, Ok, Err, ap, subst, sym}
+use Rattle.std.specs.Prelude.{IfOk, OnOk, Result}
+use Rattle.std.specs.Result.{result_and}
 use Rattle.olap_records.specs.Records.{records_of}
 use Rattle.olap_view.specs.Seen.{views_of}
-use Rattle.olap_view.specs.StoreText.{store_read}
+use Rattle.olap_view.specs.StoreText.{store_read, store_text}
 use Rattle.olap_view.proofs.PrintedStoreLemmas.{printed-stores}
 use Rattle.olap_view.proofs.StoreTextLemmas.{store-reads}
 use Rattle.olap_view.proofs.storing.print_store.Goals as goal
 
+value_or : {B E : Type 0} → B → Result B E → B
+value_or d (Ok v) = v
+value_or d (Err e) = d
+
+-- all was printed, and the text is there
+both : {A B E : Type 0} (printed : Result A E) (text : Result B E) (v : B) (P : Type 0) (Q : B → Type 0)
+    → OnOk printed P → IfOk text Q → Ok v ≡ result_and printed text → P × Q v
+unfolding value_or
+both (Ok a) (Ok w) v P Q p q e = (p, subst Q (ap (value_or v) (sym e)) q)
+both (Ok a) (Err d) v P Q p q e = absurd (cc)
+both (Err d) text v P Q p q e = absurd (cc)
+
+pub returns-clause-text : goal.returns-clause-text
+returns-clause-text c =
+    let printed = c.print_views-printed in
+    let text = store_text c.args.graph.now c.args.instance.now (views_of c.args.store.now) in
+    let known = both printed.result c.finish.result c.in_ok-text.text (printed.new.out.text ≡ text)
+    (λ v. v.items ≡ printed.new.out.text) printed.ensures c.finish.ensures.text c.in_ok-text.ensures in
+    c.from_vec.ensures ∙ known.1 ∙ known.0
+
 pub returns-clause-reads : goal.returns-clause-reads
 returns-clause-reads c =
-    ap records_of (c.from_vec.ensures ∙ c.in_ok-print.ensures)
-    ∙ store-reads c.args.graph.now c.args.instance.now (views_of c.args.store.now)
+    ap records_of (returns-clause-text c) ∙ store-reads c.args.graph.now c.args.instance.now (views_of c.args.store.now)
 
 pub returns-clause-reads_back : goal.returns-clause-reads_back
 returns-clause-reads_back c =
     let g = c.args.graph.now in
     let i = c.args.instance.now in
     let views = views_of c.args.store.now in
-    let known = c.recall.ensures in
-    λ sound order. ap (store_read g i) (ap records_of (c.from_vec.ensures ∙ c.in_ok-print.ensures)
-    ∙ store-reads g i views)
-    ∙ printed-stores g i views known.hierarchy known.sound sound.store sound.fit sound.categories order
+    λ sound order. ap (store_read g i) (returns-clause-reads c)
+    ∙ printed-stores g i views c.categories.ensures.hierarchy c.members.ensures.sound sound.store sound.fit
+    sound.categories order

@@ -7,7 +7,7 @@ use Rattle.olap_view.specs.StoreText.{header, records_behind, records_of_one}
 use Rattle.olap_view.proofs.StoreTextLemmas.{stored-view, told-members}
 use Rattle.olap_view.proofs.SeenLemmas.{each_view}
 use Rattle.olap_view.specs.declared.views.View as told
-use Rattle.olap_view.proofs.storing.print.Goals as goal
+use Rattle.olap_view.proofs.storing.print_views.Goals as goal
 
 inside : (views read : List told.View) (k : ℕ) → read ≡ views → k < length read → k < length views
 inside views read k e h = subst (λ (l : List told.View). k < length l) e h
@@ -25,8 +25,8 @@ name-requires c =
     (inside views read k same c.views-test.true) (here views read k c.view-item.result same c.view-item.is)
     c.requires.categories
 
-pub print_stored-requires-clause-at_members : goal.print_stored-requires-clause-at_members
-print_stored-requires-clause-at_members c =
+pub print_rows-requires-clause-at_members : goal.print_rows-requires-clause-at_members
+print_rows-requires-clause-at_members c =
     let n = length c.args.instance.now in
     let views = c.args.store.now.views in
     let read = c.items-view-items.result.now in
@@ -42,8 +42,8 @@ views-preserved c =
     let v = c.view-item.result in
     record {
       text = stored-view header (records_of_one c.args.graph.now i) c.items-view-items.result.now c.views.view-index v
-          (records_behind c.bytes.result.now i (rows_of v.rows)) c.views.out.text c.print_stored.new.out.text
-          c.views-test.true c.view-item.is c.views.invariant.text c.in_ok-print_stored.ensures.text
-          (ap (λ n. records_behind n i (rows_of v.rows)) (c.bytes.ensures ∙ c.name.ensures));
-      width = c.in_ok-print_stored.ensures.width;
+          (records_behind c.bytes-name.result.now i (rows_of v.rows)) c.views.out.text c.print_rows.new.out.text
+          c.views-test.true c.view-item.is c.views.invariant.text c.in_ok-print_rows.ensures.text
+          (ap (λ n. records_behind n i (rows_of v.rows)) (c.bytes-name.ensures ∙ c.name.ensures));
+      width = c.in_ok-print_rows.ensures.width ∙ c.views.invariant.width;
     }
