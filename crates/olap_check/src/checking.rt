@@ -1,5 +1,5 @@
 // The check: the laws, and then the constraints.
-ghost use Rattle.std.specs.Prelude.{◌≡◌, ◌≤◌, length, map, Contains, IfOk, IfErr};
+ghost use Rattle.std.specs.Prelude.{◌≡◌, ◌≤◌, length, map, Contains, IfOk, IfErr, MatchResult};
 ghost use Rattle.olap_ast.specs.Schema.{Constraint as TheConstraint, IsLegal, Meets};
 ghost use Rattle.olap_ast.specs.Trees.{constraint_of};
 ghost use Rattle.olap_base.specs.Graph.{category_count};
@@ -51,11 +51,10 @@ fn judged(
     requires few { categories ≤ most_categories }
     requires bounded { IsBounded instance.now categories }
     requires constraints { length constraints.now ≤ most_constraints }
-    ensures table { IfOk result (λ r. IfOk r (IsTable instance.now categories (length instance.now))) }
-    ensures lawful { IfOk result (λ r. IfOk r (λ _. IsLawful graph.now instance.now)) }
-    ensures meets { IfOk result (λ r. IfOk r (λ _. (c : TheConstraint) → Contains (map constraint_of constraints.now) c
-        → Meets instance.now c)) }
-    ensures first { IfOk result (λ r. IfErr r (IsFirstReport (parts_of graph.now constraints.now) instance.now)) }
+    ensures { IfOk result (λ r. MatchResult r
+        (λ table. IsTable instance.now categories (length instance.now) table × IsLawful graph.now instance.now
+        × ((c : TheConstraint) → Contains (map constraint_of constraints.now) c → Meets instance.now c))
+        (IsFirstReport (parts_of graph.now constraints.now) instance.now)) }
 {
     let table = match lawful(alloc, graph, instance, categories)? {
         Ok(table) => table,

@@ -1,9 +1,10 @@
 // The five laws, one after the other.
-ghost use Rattle.std.specs.Prelude.{◌≡◌, ◌<◌, ◌≤◌, length, List, IfOk, IfErr, slice_index};
+ghost use Rattle.std.specs.Prelude.{◌≡◌, ◌<◌, ◌≤◌, length, List, IfOk, MatchResult, slice_index};
 ghost use Rattle.olap_ast.specs.Schema.{Constraint};
 ghost use Rattle.olap_base.specs.Graph.{category_count};
 ghost use Rattle.olap_base.specs.Limits.{most_categories};
 ghost use Rattle.olap_base.specs.Instance.{IsLawful, parents_of};
+ghost use Rattle.olap_check.specs.Linking.{IsTableOf};
 ghost use Rattle.olap_check.specs.Reports.{IsFirstReport};
 ghost use Rattle.olap_legal.specs.Rows.{IsBounded};
 ghost use Rattle.olap_legal.specs.Tables.{IsTable};
@@ -41,24 +42,24 @@ fn parent(instance: &Instance, x: u32, k: usize) -> MemberId
     instance.parents(MemberId(x))[k]
 }
 
-/// The table of ancestors of a lawful instance, or the first violation of a law, whatever the constraints are.
-pub(crate) fn lawful(
+/// `lawful`, where the table of edges is there.
+fn lawful_by(
     alloc: Global,
     graph: &Graph,
     instance: &Instance,
     categories: u16,
+    edges: &[bool],
 ) -> Result<Result<Table, Violation>, Memory>
     requires count { categories ≡ category_count graph.now }
     requires few { categories ≤ most_categories }
     requires bounded { IsBounded instance.now categories }
-    ensures table { let count = length instance.now in
-        IfOk result (λ r. IfOk r (IsTable instance.now categories count)) }
-    ensures lawful { IfOk result (λ r. IfOk r (λ _. IsLawful graph.now instance.now)) }
-    ensures first { IfOk result (λ r. IfErr r (λ v. (constraints : List Constraint)
+    requires edges { IsTableOf graph.now categories edges.now }
+    ensures { let count = length instance.now in IfOk result (λ r. MatchResult r
+        (λ table. IsTable instance.now categories count table × IsLawful graph.now instance.now)
+        (λ v. (constraints : List Constraint)
         → IsFirstReport (record { graph = graph.now; constraints = constraints }) instance.now v)) }
 {
-    let edges = edge_table(alloc, graph, categories)?;
-    if let Some((x, k)) = first_unlinked(instance, &edges, categories) {
+    if let Some((x, k)) = first_unlinked(instance, edges, categories) {
         let above = parent(instance, x, k);
         return Ok(Err(Violation::Connectivity(MemberId(x), above)));
     }
@@ -80,4 +81,23 @@ pub(crate) fn lawful(
         return Ok(Err(Violation::Shortcut(MemberId(x), above)));
     }
     Ok(Ok(table))
+}
+
+/// The table of ancestors of a lawful instance, or the first violation of a law, whatever the constraints are.
+pub(crate) fn lawful(
+    alloc: Global,
+    graph: &Graph,
+    instance: &Instance,
+    categories: u16,
+) -> Result<Result<Table, Violation>, Memory>
+    requires count { categories ≡ category_count graph.now }
+    requires few { categories ≤ most_categories }
+    requires bounded { IsBounded instance.now categories }
+    ensures { let count = length instance.now in IfOk result (λ r. MatchResult r
+        (λ table. IsTable instance.now categories count table × IsLawful graph.now instance.now)
+        (λ v. (constraints : List Constraint)
+        → IsFirstReport (record { graph = graph.now; constraints = constraints }) instance.now v)) }
+{
+    let edges = edge_table(alloc, graph, categories)?;
+    lawful_by(alloc, graph, instance, categories, &edges)
 }

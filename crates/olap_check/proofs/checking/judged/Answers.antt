@@ -5,10 +5,10 @@ use Rattle.olap_check.specs.declared.violations.Violation.TheVariants.{Constrain
 use Rattle.olap_check.proofs.FirstLemmas.{first6}
 use Rattle.olap_check.proofs.checking.judged.Goals as goal
 
-pub returns-in-Some-clause-first : goal.returns-in-Some-clause-first
-returns-in-Some-clause-first c =
+pub returns-in-Some : goal.returns-in-Some
+returns-in-Some c =
     let s = parts_of c.args.graph.now c.args.constraints.now in
-    let lawful = rw c.in-Ok.is at c.in_ok-table.ensures.lawful in
+    let lawful = (rw c.in-Ok.is at c.in_ok-table.ensures).1 in
     let first = rw c.in-Some.is at c.in_ok-k.ensures.some in
     record {
       violation = _;

@@ -1,18 +1,17 @@
 -- The first violation of each law, where the laws before it hold.
-use Rattle.std.proofs.Common.{refl, ap, sym, subst}
+use Rattle.std.proofs.Common.{refl, ap}
 use Rattle.olap_ast.specs.Schema.{Schema}
-use Rattle.olap_check.specs.Linking.{IsTableOf}
 use Rattle.olap_check.specs.Reports.{member}
 use Rattle.olap_check.specs.declared.violations.Violation.TheVariants.{Connectivity, Shortcut}
 use Rattle.olap_check.proofs.FirstLemmas.{first1, first2, first3, first4, first5, all_five, links, strata_of}
-use Rattle.olap_check.proofs.laws.lawful.Goals as goal
+use Rattle.olap_check.proofs.laws.lawful_by.Goals as goal
 
-pub returns-in-Some-clause-first : goal.returns-in-Some-clause-first
-returns-in-Some-clause-first c = λ constraints.
+pub returns-in-Some : goal.returns-in-Some
+returns-in-Some c = λ constraints.
     let i = c.args.instance.now in
     let n = c.args.categories in
-    let edges = c.deref.result.now in
-    let t = subst (λ l. IsTableOf c.args.graph.now n l) (sym c.deref.ensures.value) c.in_ok-edges.ensures in
+    let edges = c.args.edges.now in
+    let t = c.requires.edges in
     let s : Schema = record { graph = c.args.graph.now; constraints = constraints } in
     record {
       violation = _;
@@ -20,12 +19,12 @@ returns-in-Some-clause-first c = λ constraints.
       is_told = ap (λ y. Connectivity (member c.in-Some.x) (member y)) c.parent-above.ensures;
     }
 
-pub returns-in-Some-first_orphan-clause-first : goal.returns-in-Some-first_orphan-clause-first
-returns-in-Some-first_orphan-clause-first c = λ constraints.
+pub returns-in-Some-first_orphan : goal.returns-in-Some-first_orphan
+returns-in-Some-first_orphan c = λ constraints.
     let i = c.args.instance.now in
     let n = c.args.categories in
-    let edges = c.deref.result.now in
-    let t = subst (λ l. IsTableOf c.args.graph.now n l) (sym c.deref.ensures.value) c.in_ok-edges.ensures in
+    let edges = c.args.edges.now in
+    let t = c.requires.edges in
     let s : Schema = record { graph = c.args.graph.now; constraints = constraints } in
     let orphan = c.in-Some-first_orphan in
     record {
@@ -37,16 +36,16 @@ returns-in-Some-first_orphan-clause-first c = λ constraints.
 pub first_repeated-requires-clause-linked : goal.first_repeated-requires-clause-linked
 first_repeated-requires-clause-linked c =
     let n = c.args.categories in
-    let edges = c.deref.result.now in
-    let t = subst (λ l. IsTableOf c.args.graph.now n l) (sym c.deref.ensures.value) c.in_ok-edges.ensures in
+    let edges = c.args.edges.now in
+    let t = c.requires.edges in
     links c.args.instance.now n edges c.requires.bounded (c.in_default.ensures.none refl) c.args.graph.now t
 
-pub returns-in-Some-2-clause-first : goal.returns-in-Some-2-clause-first
-returns-in-Some-2-clause-first c = λ constraints.
+pub returns-in-Some-2 : goal.returns-in-Some-2
+returns-in-Some-2 c = λ constraints.
     let i = c.args.instance.now in
     let n = c.args.categories in
-    let edges = c.deref.result.now in
-    let t = subst (λ l. IsTableOf c.args.graph.now n l) (sym c.deref.ensures.value) c.in_ok-edges.ensures in
+    let edges = c.args.edges.now in
+    let t = c.requires.edges in
     let s : Schema = record { graph = c.args.graph.now; constraints = constraints } in
     let first = rw c.in-Some-2.is at c.in_ok-x.ensures.some in
     record {
@@ -59,21 +58,21 @@ returns-in-Some-2-clause-first c = λ constraints.
 pub ancestor_table-requires-clause-linked : goal.ancestor_table-requires-clause-linked
 ancestor_table-requires-clause-linked c =
     let n = c.args.categories in
-    let edges = c.deref.result.now in
-    let t = subst (λ l. IsTableOf c.args.graph.now n l) (sym c.deref.ensures.value) c.in_ok-edges.ensures in
+    let edges = c.args.edges.now in
+    let t = c.requires.edges in
     links c.args.instance.now n edges c.requires.bounded (c.in_default.ensures.none refl) c.args.graph.now t
 
 pub split_category-requires-clause-strata : goal.split_category-requires-clause-strata
 split_category-requires-clause-strata c =
     let strata = (rw c.in_default-2.is at c.in_ok-x.ensures.none) refl in
-    strata_of c.args.instance.now c.args.categories c.deref.result.now c.requires.bounded strata
+    strata_of c.args.instance.now c.args.categories c.args.edges.now c.requires.bounded strata
 
-pub returns-in-Err-clause-first : goal.returns-in-Err-clause-first
-returns-in-Err-clause-first c = λ constraints.
+pub returns-in-Err : goal.returns-in-Err
+returns-in-Err c = λ constraints.
     let i = c.args.instance.now in
     let n = c.args.categories in
-    let edges = c.deref.result.now in
-    let t = subst (λ l. IsTableOf c.args.graph.now n l) (sym c.deref.ensures.value) c.in_ok-edges.ensures in
+    let edges = c.args.edges.now in
+    let t = c.requires.edges in
     let s : Schema = record { graph = c.args.graph.now; constraints = constraints } in
     let strata = (rw c.in_default-2.is at c.in_ok-x.ensures.none) refl in
     let split = rw c.in-Err.is at c.in_ok-table.ensures.err in
@@ -89,14 +88,14 @@ returns-in-Err-clause-first c = λ constraints.
 pub first_shortcut-requires-clause-strata : goal.first_shortcut-requires-clause-strata
 first_shortcut-requires-clause-strata c =
     let strata = (rw c.in_default-2.is at c.in_ok-x.ensures.none) refl in
-    strata_of c.args.instance.now c.args.categories c.deref.result.now c.requires.bounded strata
+    strata_of c.args.instance.now c.args.categories c.args.edges.now c.requires.bounded strata
 
-pub returns-in-Some-first_shortcut-clause-first : goal.returns-in-Some-first_shortcut-clause-first
-returns-in-Some-first_shortcut-clause-first c = λ constraints.
+pub returns-in-Some-first_shortcut : goal.returns-in-Some-first_shortcut
+returns-in-Some-first_shortcut c = λ constraints.
     let i = c.args.instance.now in
     let n = c.args.categories in
-    let edges = c.deref.result.now in
-    let t = subst (λ l. IsTableOf c.args.graph.now n l) (sym c.deref.ensures.value) c.in_ok-edges.ensures in
+    let edges = c.args.edges.now in
+    let t = c.requires.edges in
     let s : Schema = record { graph = c.args.graph.now; constraints = constraints } in
     let strata = (rw c.in_default-2.is at c.in_ok-x.ensures.none) refl in
     let table = rw c.in-Ok.is at c.in_ok-table.ensures.ok in
@@ -109,13 +108,14 @@ returns-in-Some-first_shortcut-clause-first c = λ constraints.
       is_told = ap (λ y. Shortcut (member first.x) (member y)) c.parent-above-in-Some-first_shortcut.ensures;
     }
 
-pub returns-clause-lawful : goal.returns-clause-lawful
-returns-clause-lawful c =
+pub returns : goal.returns
+returns c =
     let i = c.args.instance.now in
     let n = c.args.categories in
-    let edges = c.deref.result.now in
-    let t = subst (λ l. IsTableOf c.args.graph.now n l) (sym c.deref.ensures.value) c.in_ok-edges.ensures in
+    let edges = c.args.edges.now in
+    let t = c.requires.edges in
     let strata = (rw c.in_default-2.is at c.in_ok-x.ensures.none) refl in
     let table = rw c.in-Ok.is at c.in_ok-table.ensures.ok in
-    all_five i n edges c.requires.bounded (c.in_default.ensures.none refl) (c.in_default-first_orphan.ensures.none refl)
-    strata c.in-Ok.table table (c.in_default-first_shortcut.ensures.none refl) c.args.graph.now t
+    (table, all_five i n edges c.requires.bounded (c.in_default.ensures.none refl)
+    (c.in_default-first_orphan.ensures.none refl) strata c.in-Ok.table table
+    (c.in_default-first_shortcut.ensures.none refl) c.args.graph.now t)
