@@ -4,12 +4,13 @@
 --     view_at-is, views_at-are   the views of the table
 --     filled_start, filled_more  rows of stored views, one after another
 --     filled_first, filled_next, filled_all   stored views, one after another
+--     categories_more            the category of one view more
 use Rattle.std.proofs.Common.{◌≡◌, ◌≢◌, ℕ, suc, ◌+◌, ◌<◌, ◌≤◌, ◌^◌, List, [], ◌∷◌, ◌++◌, length, get_or, set, map, take, Bool, true, false, cond, refl, ap, sym, subst, ◌∙◌, inl, inr, arith, Option, Some, None, IfSome, get_or-set_same, get_or-set_other}
 use Rattle.std.specs.Prelude.{◌==◌, ◌⊎◌, All, AllPairs, Contains, filter_map, find}
 use Rattle.std.specs.List.{range_with_len}
 use Rattle.std.specs.Option.{option_map, option_or}
 use Rattle.std.proofs.lemmas.Bool.Decides.{nat_tests}
-use Rattle.std.proofs.lemmas.List.{get_or-map, get_or-take, get_or_default, length-map, length-take-le}
+use Rattle.std.proofs.lemmas.List.{get_or-map, get_or-take, get_or_default, length-map, length-take-le, map-append, take_more}
 use Rattle.std.proofs.lemmas.List.FromFn.{get_or-range_with_len, length-range_with_len}
 use Rattle.std.proofs.lemmas.List.Elements.{Contains-get_or}
 use Rattle.std.proofs.lemmas.List.Folds.{find-append}
@@ -19,13 +20,15 @@ use Rattle.olap_base.specs.Reaching.{reaches}
 use Rattle.olap_base.specs.Summaries.{Summary, ◌⊕◌}
 use Rattle.olap_base.specs.Views.{Row, View, members_of, row_at}
 use Rattle.olap_base.proofs.ListLemmas.{Contains-map}
+use Rattle.olap_base.specs.declared.ids.CatId.{CatId}
 use Rattle.olap_view.specs.Bounds.{IsUpTo}
-use Rattle.olap_view.specs.Seen.{summary_of}
+use Rattle.olap_view.specs.Seen.{each_view_of, ids, summary_of, view_of}
 use Rattle.olap_view.specs.Stores.{IsInFileOrder, summary_in}
 use Rattle.olap_view.specs.SummaryTables.{IsSummaryTable, Summarized, categories_in, stands_at, summarized, view_at, views_at}
 use Rattle.olap_view.specs.Tables.{AreJoined, HasPlaces, HasRoom, IsAmong, categories_of, place_in, summary_at, view_in, when}
 use Rattle.olap_view.specs.declared.summaries.Summary as told
 use Rattle.olap_view.specs.declared.tables.Table.{Table}
+use Rattle.olap_view.specs.declared.views.View as told_view
 use Rattle.olap_view.proofs.FileOrderLemmas.{rows-back}
 use Rattle.olap_view.proofs.TableLemmas.{places_kept}
 use Rattle.olap_view.proofs.ViewingLemmas.{map_same, rows_same}
@@ -302,3 +305,15 @@ table_kept i t u e f g p = record {
   places = places_kept i t u e f g p.places;
   differ = subst (AllPairs ◌≢◌) (sym (ap (λ v. map (λ d. d.0) v.items) e)) p.differ;
 }
+
+-- the category of one view more
+pub categories_more : (views : List told_view.View) (k : ℕ) (v : told_view.View) (cs : List CatId) → k < length views
+    → v ≡ get_or views k v → ids cs ≡ categories_in (each_view_of (take k views))
+    → ids (cs ++ v.category ∷ []) ≡ categories_in (each_view_of (take (k + 1) views))
+categories_more views k v cs h is e =
+    let before = take k views in
+    map-append (λ (d : CatId). d.0) cs (v.category ∷ []) ∙ ap (λ (l : List ℕ). l ++ v.category.0 ∷ []) e
+    ∙ sym (ap (λ (l : List told_view.View). categories_in (each_view_of l)) (take_more views k v h)
+    ∙ ap (λ (w : told_view.View). categories_in (each_view_of (before ++ w ∷ []))) (sym is)
+    ∙ ap categories_in (map-append view_of before (v ∷ []))
+    ∙ map-append (λ (w : View). w.category) (each_view_of before) (view_of v ∷ []))

@@ -1,5 +1,5 @@
 -- One row more, which is within the bounds.
-use Rattle.std.proofs.Common.{◌≡◌, List, get_or, take, sym, subst, pos, refl}
+use Rattle.std.proofs.Common.{◌≡◌, List, get_or, take, false, true, sym, subst, ◌∙◌, pos, refl}
 use Rattle.std.specs.Prelude.{All}
 use Rattle.std.proofs.lemmas.List.{take_all}
 use Rattle.std.proofs.lemmas.List.Elements.{All-push}
@@ -12,13 +12,17 @@ use Rattle.olap_view.proofs.fitting.rows_fit.Goals as goal
 nothing : told.Row
 nothing = record { member = record { 0 = 0 }; count = 0; sum = pos 0; least = pos 0; greatest = pos 0 }
 
+never : false ≡ true → ⊥
+never e = cc
+
 pub returns-then-not-row_fits : goal.returns-then-not-row_fits
 unfolding nothing
 returns-then-not-row_fits c =
     let rows = c.args.rows.now in
     let k = c.rows.row-index in (
-      λ e. absurd (cc),
-      λ a. absurd (let t = c.row_fits.ensures.1 (each_row IsStored rows k nothing c.rows-test.true a) in cc),
+      λ e. absurd (never e),
+      λ a. absurd (never
+          (sym c.if-not-row_fits.true ∙ c.row_fits.ensures.1 (each_row IsStored rows k nothing c.rows-test.true a))),
     )
 
 pub rows-preserved : goal.rows-preserved
