@@ -115,7 +115,9 @@ returns c =
     let edges = c.args.edges.now in
     let t = c.requires.edges in
     let strata = (rw c.in_default-2.is at c.in_ok-x.ensures.none) refl in
-    let table = rw c.in-Ok.is at c.in_ok-table.ensures.ok in
-    (table, all_five i n edges c.requires.bounded (c.in_default.ensures.none refl)
-    (c.in_default-first_orphan.ensures.none refl) strata c.in-Ok.table table
-    (c.in_default-first_shortcut.ensures.none refl) c.args.graph.now t)
+    let table = rw c.in-Ok.is at c.in_ok-table.ensures.ok in (
+      table,
+      all_five i n edges c.requires.bounded (c.in_default.ensures.none refl)
+          (c.in_default-first_orphan.ensures.none refl) strata c.in-Ok.table table
+          (c.in_default-first_shortcut.ensures.none refl) c.args.graph.now t,
+    )

@@ -1,5 +1,7 @@
 -- A connective is an operation on the sets of its parts, and `one(..)` is counted from its last part on.
-use Rattle.std.proofs.Common.{◌≤◌, length, ap, arith, subst, sym, ◌∙◌}
+use Rattle.std.proofs.Common.{◌≤◌, length, ap, arith, rules, subst, sym, w64, ◌∙◌}
+use Rattle.std.proofs.lemmas.Int.{to_z-of_z}
+use mir.Val.{SFits}
 use Rattle.std.specs.FinSet.{difference, union}
 use Rattle.olap_ast.specs.Trees.{terms_of}
 use Rattle.olap_ast.specs.Valid.{node_count_of_terms}
@@ -32,6 +34,31 @@ holding-returns-in-Reach-clause-places t c =
     select_part n (TrueAt b.instance.now b.part.now) set (sym c.in-Reach.is)
     (reach_selected b.instance.now b.root.0 b.start b.part.now b.sound.is_part c.in-Reach.d.0 set
     c.look_up.ensures.places)
+
+pub holding-returns-in-Path-clause-places : goal.holding-returns-in-Path-clause-places
+holding-returns-in-Path-clause-places t c =
+    let b = c.args.self.now in
+    select_part (length b.part.now) (TrueAt b.instance.now b.part.now) (members c.along.result) (sym c.in-Path.is)
+    (rw c.items.ensures at c.along.ensures.places)
+
+pub holding-returns-in-Via-clause-places : goal.holding-returns-in-Via-clause-places
+holding-returns-in-Via-clause-places t c =
+    let b = c.args.self.now in
+    select_part (length b.part.now) (TrueAt b.instance.now b.part.now) (members c.look_up-in-Via.result) (sym c.in-Via.is)
+    c.look_up-in-Via.ensures.places
+
+pub holding-returns-in-Equals-clause-places : goal.holding-returns-in-Equals-clause-places
+holding-returns-in-Equals-clause-places t c =
+    let b = c.args.self.now in
+    select_part (length b.part.now) (TrueAt b.instance.now b.part.now) (members c.look_up-in-Equals.result) (sym c.in-Equals.is)
+    c.look_up-in-Equals.ensures.places
+
+pub holding-returns-in-Compare-clause-places : goal.holding-returns-in-Compare-clause-places
+holding-returns-in-Compare-clause-places t c =
+    let b = c.args.self.now in
+    let fits : SFits w64 c.in-Compare.n = search rules in
+    select_part (length b.part.now) (TrueAt b.instance.now b.part.now) (members c.look_up-in-Compare.result) (sym c.in-Compare.is)
+    (rw (to_z-of_z w64 c.in-Compare.n fits) at c.look_up-in-Compare.ensures.places)
 
 pub holding-returns-in-Not-clause-places : goal.holding-returns-in-Not-clause-places
 holding-returns-in-Not-clause-places t c =
