@@ -33,6 +33,12 @@ same_bit true false h = absurd (omega arith)
 same_bit false true h = absurd (omega arith)
 same_bit false false h = refl
 
+-- a number of at most one is the bit of whether it is one
+pub bit_of_one : (x : ℕ) → x ≤ 1 → bit (x == 1) ≡ x
+bit_of_one zero h = refl
+bit_of_one (suc zero) h = refl
+bit_of_one (suc (suc x)) h = absurd (omega arith)
+
 -- the edges as numbers
 abbrev bits : List Bool → List ℕ
 bits es = map (λ b. cond b 1 0) es

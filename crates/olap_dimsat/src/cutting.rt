@@ -1,14 +1,14 @@
 // The test that a trail leaves no frozen dimension.
 ghost use Rattle.std.specs.Prelude.{◌≡◌, true};
-ghost use Rattle.olap_ast.specs.Trees.{constraint_of, formula_of};
+ghost use Rattle.olap_ast.specs.Trees.{formula_of};
 ghost use Rattle.olap_dimsat.specs.Asking.{task_of};
-ghost use Rattle.olap_dimsat.specs.Knowing.{IsBroken, IsFalseAt};
+ghost use Rattle.olap_dimsat.specs.Knowing.{IsFalseAt};
 ghost use Rattle.olap_dimsat.specs.Reads.{NoneAgrees};
 ghost use Rattle.olap_dimsat.specs.Tracking.{IsTracked};
 
 use crate::asker::{Asker, Decisions};
 use crate::knowing::Known;
-use olap_ast::{Constraint, Formula, Truth3};
+use olap_ast::{Formula, Truth3};
 use olap_base::CatId;
 use olap_clauses::Trail;
 use olap_eval::holds3;
@@ -25,18 +25,6 @@ fn is_false(known: &Known<'_>, formula: &Formula, c: CatId) -> bool
     }
 }
 
-// Whether it is known that the constraint's root has a member, and that the formula is false there.
-fn is_broken(known: &Known<'_>, constraint: &Constraint) -> bool
-    requires { IsTracked (task_of known.now.asker.now) known.now.trail.now known.now.decided.now }
-    ensures { result ≡ true → IsBroken (task_of known.now.asker.now) known.now.trail.now
-        (constraint_of constraint.now) }
-{
-    match known.presence(constraint.root) {
-        Truth3::Yes => is_false(known, &constraint.formula, constraint.root),
-        Truth3::No | Truth3::Unknown => false,
-    }
-}
-
 /// Whether a constraint of a category that is known present, or the question at the root, is known to be false.
 ///
 /// Cost: each formula once, with one look at a table for each atom, and a search among its constants for each name.
@@ -50,8 +38,10 @@ pub(crate) fn is_cut(a: &Asker<'_>, trail: &Trail, decided: &Decisions) -> bool
         decided,
     };
     'constraints: for constraint in a.question.constraints {
-        if is_broken(&known, constraint) {
-            return true;
+        if let Truth3::Yes = known.presence(constraint.root) {
+            if is_false(&known, &constraint.formula, constraint.root) {
+                return true;
+            }
         }
     }
     is_false(&known, a.question.formula, a.question.root)

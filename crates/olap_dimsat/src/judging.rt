@@ -3,7 +3,7 @@
 use crate::asker::{Asker, Leaf};
 use crate::cutting::is_cut;
 use crate::fitting::suits_all;
-use crate::picking::{open_name, pick_edge};
+use crate::picking::pick;
 use crate::reading::read;
 use crate::tracking::follow;
 use olap_clauses::{Judge, Trail, Verdict};
@@ -26,10 +26,7 @@ impl<'a> Judge<Leaf> for Asker<'a> {
         if leaf.straight_down && is_cut(self, trail, &leaf.decided) {
             return Verdict::Refuse;
         }
-        if let Some(lit) = pick_edge(self, trail, scores, leaf.decided.present()) {
-            return Verdict::Decide(lit);
-        }
-        if let Some(lit) = open_name(self, trail) {
+        if let Some(lit) = pick(self, trail, scores, leaf.decided.present()) {
             return Verdict::Decide(lit);
         }
         if let Err(lit) = read(self, trail, &mut leaf.frozen) {

@@ -11,21 +11,6 @@ use olap_clauses::{Trail, Value};
 use olap_graph::Categories;
 use olap_pool::Lit;
 
-// The negation of an edge, if it is open and its child is known present.
-fn open_at(a: &Asker<'_>, trail: &Trail, e: EdgeId) -> Option<Lit>
-    requires task { IsTask (task_of a.now) }
-    requires edge { e.0 < length a.now.question.graph.now.edges }
-    requires variables { length (values_of trail.now) ≡ a.now.layout.now.variables }
-    ensures { IfSome result (λ l. IsOpen trail.now l) }
-{
-    let on = a.layout.on(e);
-    let (child, _) = a.question.graph.ends(e);
-    match (trail.value(on), trail.value(a.layout.present(child))) {
-        (Value::Unknown, Value::Yes) => Some(on.negated()),
-        _ => None,
-    }
-}
-
 // The negation of an edge, if it is open and its child is known present, and is one of these where they are given.
 fn open_among(a: &Asker<'_>, trail: &Trail, among: Option<Categories>, e: EdgeId) -> Option<Lit>
     requires task { IsTask (task_of a.now) }
@@ -34,30 +19,16 @@ fn open_among(a: &Asker<'_>, trail: &Trail, among: Option<Categories>, e: EdgeId
     ensures { IfSome result (λ l. IsOpen trail.now l) }
 {
     let (child, _) = a.question.graph.ends(e);
-    let is_offered = match among {
-        Some(children) => children.has(child.0),
-        None => true,
-    };
-    if is_offered {
-        open_at(a, trail, e)
-    } else {
-        None
-    }
-}
-
-// The first of these edges, as its negation.
-fn first_open(a: &Asker<'_>, trail: &Trail, among: Option<Categories>) -> Option<Lit>
-    requires task { IsTask (task_of a.now) }
-    requires variables { length (values_of trail.now) ≡ a.now.layout.now.variables }
-    ensures { IfSome result (λ l. IsOpen trail.now l) }
-{
-    'edges: for e in 0..a.question.graph.edges() {
-        let open = open_among(a, trail, among, EdgeId(e));
-        if open.is_some() {
-            return open;
+    if let Some(children) = among {
+        if !children.has(child.0) {
+            return None;
         }
     }
-    None
+    let on = a.layout.on(e);
+    match (trail.value(on), trail.value(a.layout.present(child))) {
+        (Value::Unknown, Value::Yes) => Some(on.negated()),
+        _ => None,
+    }
 }
 
 // Of two literals, if they are there, the one whose variable has the higher score; the second, where they are equal.
@@ -85,8 +56,8 @@ fn score_of(scores: &[u32], lit: Lit) -> u32 {
     }
 }
 
-// The one of the highest score of these edges, as its negation.
-fn highest_open(
+// Of these edges the first in declaration order, or, where there are scores, the one of the highest, as its negation.
+fn pick_among(
     a: &Asker<'_>,
     trail: &Trail,
     scores: &[u32],
@@ -99,61 +70,11 @@ fn highest_open(
     let mut best: Option<Lit> = None;
     'edges: for e in 0..a.question.graph.edges() {
         best = higher(best, open_among(a, trail, among, EdgeId(e)), scores);
+        if scores.is_empty() && best.is_some() {
+            return best;
+        }
     }
     best
-}
-
-// The first of these edges in declaration order, or, where there are scores, the one of the highest.
-fn pick_among(
-    a: &Asker<'_>,
-    trail: &Trail,
-    scores: &[u32],
-    among: Option<Categories>,
-) -> Option<Lit>
-    requires task { IsTask (task_of a.now) }
-    requires variables { length (values_of trail.now) ≡ a.now.layout.now.variables }
-    ensures { IfSome result (λ l. IsOpen trail.now l) }
-{
-    if scores.is_empty() {
-        first_open(a, trail, among)
-    } else {
-        highest_open(a, trail, scores, among)
-    }
-}
-
-/// The negation of an open edge: of a category that present edges lead to from the root, and where there is none, of
-/// any that is known present.
-pub(crate) fn pick_edge(
-    a: &Asker<'_>,
-    trail: &Trail,
-    scores: &[u32],
-    present: Categories,
-) -> Option<Lit>
-    requires task { IsTask (task_of a.now) }
-    requires variables { length (values_of trail.now) ≡ a.now.layout.now.variables }
-    ensures { IfSome result (λ l. IsOpen trail.now l) }
-{
-    let open = pick_among(a, trail, scores, Some(present));
-    if open.is_some() {
-        return open;
-    }
-    pick_among(a, trail, scores, None)
-}
-
-// The negation of a name, if it is open.
-fn open_constant(a: &Asker<'_>, trail: &Trail, c: CatId, j: usize) -> Option<Lit>
-    requires task { IsTask (task_of a.now) }
-    requires category { IsCategory a.now.question.graph.now c.0 }
-    requires constant { j < constant_count (task_of a.now) c.0 }
-    requires variables { length (values_of trail.now) ≡ a.now.layout.now.variables }
-    ensures { IfSome result (λ l. IsOpen trail.now l) }
-{
-    let name = a.layout.name(c, j);
-    match trail.value(name) {
-        Value::Unknown => Some(name.negated()),
-        Value::Yes => None,
-        Value::No => None,
-    }
 }
 
 // The negation of an open name of a category.
@@ -164,16 +85,16 @@ fn open_name_of(a: &Asker<'_>, trail: &Trail, c: CatId) -> Option<Lit>
     ensures { IfSome result (λ l. IsOpen trail.now l) }
 {
     'indexes: for i in 1..a.question.candidates.names(c) {
-        let open = open_constant(a, trail, c, usize::from(i) - 1);
-        if open.is_some() {
-            return open;
+        let name = a.layout.name(c, usize::from(i) - 1);
+        if let Value::Unknown = trail.value(name) {
+            return Some(name.negated());
         }
     }
     None
 }
 
 // The negation of an open name of a category that is known present.
-pub(crate) fn open_name(a: &Asker<'_>, trail: &Trail) -> Option<Lit>
+fn open_name(a: &Asker<'_>, trail: &Trail) -> Option<Lit>
     requires task { IsTask (task_of a.now) }
     requires variables { length (values_of trail.now) ≡ a.now.layout.now.variables }
     ensures { IfSome result (λ l. IsOpen trail.now l) }
@@ -187,4 +108,22 @@ pub(crate) fn open_name(a: &Asker<'_>, trail: &Trail) -> Option<Lit>
         }
     }
     None
+}
+
+/// The negation of an open edge: of a category that present edges lead to from the root, and where there is none, of
+/// any that is known present; and where there is none, of an open name.
+pub(crate) fn pick(a: &Asker<'_>, trail: &Trail, scores: &[u32], present: Categories) -> Option<Lit>
+    requires task { IsTask (task_of a.now) }
+    requires variables { length (values_of trail.now) ≡ a.now.layout.now.variables }
+    ensures { IfSome result (λ l. IsOpen trail.now l) }
+{
+    let open = pick_among(a, trail, scores, Some(present));
+    if open.is_some() {
+        return open;
+    }
+    let open = pick_among(a, trail, scores, None);
+    if open.is_some() {
+        return open;
+    }
+    open_name(a, trail)
 }

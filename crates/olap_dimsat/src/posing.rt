@@ -10,15 +10,14 @@ ghost use Rattle.olap_pool.specs.Pools.{AreTrue};
 ghost use Rattle.olap_dimsat.specs.Posed.{IsPosed};
 ghost use Rattle.olap_names.specs.Names.{with_graph};
 
-use crate::encoding::encode;
 use olap_ast::{Constraint, Formula};
 use olap_base::{CatId, Memory};
 use olap_clauses::Engine;
-use olap_encoding::Layout;
+use olap_encoding::{Layout, encode};
 use olap_graph::Graph;
 use olap_names::{Candidates, Question};
 use olap_pool::Pool;
-use std::alloc::Global;
+use std::alloc::{AllocError, Global};
 
 /// The names of a task, where its variables are, and an engine that has its clauses.
 #[derive(Drop)]
@@ -41,20 +40,15 @@ const MOST_GIVEN: usize = 131_072;
 /// How many literals a learned clause has that the room for clauses is measured by.
 const LITERALS_A_CLAUSE: u32 = 8;
 
-// How many literals of learned clauses there is to be room for beside these clauses.
-fn room_for(pool: &Pool) -> u32 {
-    let given = pool.size().max(LEAST_GIVEN).min(MOST_GIVEN);
-    TIMES_GIVEN * given as u32
-}
-
 // The engine of these clauses, with room to learn in.
-fn engine_of(alloc: Global, variables: u32, pool: Pool) -> Result<Engine, Memory>
+fn engine_of(alloc: Global, variables: u32, pool: Pool) -> Result<Engine, AllocError>
     ensures empty { IfOk result (λ e. trail_of e ≡ []) }
     ensures variables { IfOk result (λ e. variables_of e ≡ variables) }
     ensures admits { IfOk result (λ e. (v : ℕ → Bool) → AreTrue v pool → admits v e) }
 {
-    let room = room_for(&pool);
-    Ok(Engine::new(alloc, variables, pool, room, room / LITERALS_A_CLAUSE)?)
+    let given = pool.size().max(LEAST_GIVEN).min(MOST_GIVEN);
+    let room = TIMES_GIVEN * given as u32;
+    Engine::new(alloc, variables, pool, room, room / LITERALS_A_CLAUSE)
 }
 
 /// Puts a question at a root of this graph with these constraints to an engine.
@@ -82,7 +76,8 @@ pub(crate) fn pose(
         root,
         candidates: &candidates,
     };
-    let encoded = encode(alloc, &question)?;
+    let encoder = encode(alloc, &question)?;
+    let encoded = encoder.into_parts();
     let engine = engine_of(alloc, encoded.layout.variables, encoded.pool)?;
     Ok(Posed {
         candidates,

@@ -43,28 +43,6 @@ fn assume(engine: &mut Engine, a: &Asker<'_>, lit: Lit) -> bool
     }
 }
 
-// Decides that the edge is present, or that it is absent.
-fn assume_edge(engine: &mut Engine, a: &Asker<'_>, e: EdgeId, present: bool) -> bool
-    requires task { IsTask (task_of a.now) }
-    requires shaped { AreShaped (task_of a.now) (trail_of engine.old) }
-    requires edge { e.0 < length a.now.question.graph.now.edges }
-    requires variables { variables_of engine.old ≡ a.now.layout.now.variables }
-    ensures yes { result ≡ true → SayAt (task_of a.now) e.0 (if present then 1 else 0) (trail_of engine.old)
-        (trail_of engine.new) }
-    ensures no { result ≡ false → NoneAt (task_of a.now) e.0 (if present then 1 else 0) (trail_of engine.old) }
-    ensures longer { IsLonger (trail_of engine.old) (trail_of engine.new) }
-    ensures shaped { AreShaped (task_of a.now) (trail_of engine.new) }
-    ensures variables { variables_of engine.new ≡ variables_of engine.old }
-    ensures admits { (v : ℕ → Bool) → admits v engine.old → admits v engine.new }
-{
-    let on = a.layout.on(e);
-    let lit = Lit {
-        variable: on.variable,
-        positive: present,
-    };
-    assume(engine, a, lit)
-}
-
 // Decides that the category's name has this index.
 fn assume_name(engine: &mut Engine, a: &Asker<'_>, c: CatId, i: u16) -> bool
     requires task { IsTask (task_of a.now) }
@@ -113,7 +91,12 @@ fn assume_at(engine: &mut Engine, a: &Asker<'_>, p: u16, x: u16) -> bool
     // Called for its clauses: the graph has few categories.
     let _few = a.question.graph.categories();
     if p < edges {
-        assume_edge(engine, a, EdgeId(p), x == 1)
+        let on = a.layout.on(EdgeId(p));
+        let lit = Lit {
+            variable: on.variable,
+            positive: x == 1,
+        };
+        assume(engine, a, lit)
     } else {
         assume_name(engine, a, CatId(p - edges + 1), x)
     }

@@ -1,9 +1,13 @@
 -- The parts are of one task.
-use Rattle.std.proofs.Common.{map}
+use Rattle.std.proofs.Common.{map, subst}
 use Rattle.olap_ast.specs.Trees.{constraint_of, formula_of}
+use Rattle.olap_encoding.specs.Encoding.{IsLaid}
+use Rattle.olap_encoding.specs.EncoderInside.{encoding_of}
 use Rattle.olap_names.proofs.NameableLemmas.{can_be_named}
 use Rattle.olap_names.specs.Names.{with_graph}
+use Rattle.olap_names.specs.Questions.{Question}
 use Rattle.olap_dimsat.specs.Asking.{task_at}
+use Rattle.olap_dimsat.proofs.EncodeLemmas.{encoded, spoken_for}
 use Rattle.olap_dimsat.proofs.MadeLemmas.{ready_first}
 use Rattle.olap_dimsat.proofs.posing.pose.Goals as goal
 
@@ -21,17 +25,37 @@ encode-requires-clause-question c = record {
   texts = c.in_ok-candidates.ensures.count;
 }
 
+pub encode-requires-clause-spoken : goal.encode-requires-clause-spoken
+encode-requires-clause-spoken c =
+    let a = c.args in
+    spoken_for (record {
+      schema = with_graph a.graph.now (map constraint_of a.constraints.now);
+      formula = formula_of a.formula.now;
+      root = a.root.0;
+      candidates = c.in_ok-candidates.candidates;
+    }) c.requires.valid c.requires.formula
+
 pub returns : goal.returns
 returns c =
     let a = c.args in
     let s = with_graph a.graph.now (map constraint_of a.constraints.now) in
-    let e = c.in_ok-encoded.ensures in
-    let t = task_at s (formula_of a.formula.now) a.root.0 c.in_ok-candidates.candidates
-    c.in_ok-encoded.encoded.layout in
+    let e = encoding_of c.in_ok-encoder.encoder in
+    let layout = c.into_parts-encoded.result.layout in
+    let pool = c.into_parts-encoded.result.pool in
+    let parts = c.into_parts-encoded.ensures in
+    let t = task_at s (formula_of a.formula.now) a.root.0 c.in_ok-candidates.candidates layout in
+    let i = encoded t e pool
+    (record {
+      hierarchy = c.requires.valid.hierarchy;
+      root = c.requires.root;
+      candidates = c.in_ok-candidates.ensures.candidates;
+      texts = c.in_ok-candidates.ensures.count;
+    })
+    (subst (λ (q : Question). IsLaid q e.meanings layout) c.in_ok-encoder.ensures.question parts.laid)
+    c.in_ok-encoder.ensures.sound.few parts.variables c.in_ok-encoder.ensures.met parts.pool in
     record {
-      task = e.task;
+      task = i.task;
       variables = c.in_ok-engine.ensures.variables;
-      ready = ready_first t c.in_ok-encoded.encoded.pool c.in_ok-engine.engine e
-          (λ v h. c.in_ok-engine.ensures.admits v h);
+      ready = ready_first t pool c.in_ok-engine.engine i (λ v h. c.in_ok-engine.ensures.admits v h);
       empty = c.in_ok-engine.ensures.empty;
     }
