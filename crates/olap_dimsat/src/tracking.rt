@@ -151,18 +151,13 @@ pub(crate) fn follow(a: &Asker<'_>, leaf: &mut Leaf, trail: &Trail) -> bool
     ensures suited { IsSuited (task_of a.now) leaf.new (length (values_of trail.now)) }
 {
     let stands = standing(a, &leaf.decided, trail);
-    if stands < leaf.decided.mark().0 {
-        leaf.decided.undo(Mark(stands));
-        leaf.straight_down = false;
-    }
-    if let Some(count) = leaf.second {
-        if count >= stands {
-            leaf.second = None;
-        }
-    }
-    if trail.len() < leaf.stood {
-        leaf.straight_down = false;
-    }
+    let is_undone = stands < leaf.decided.mark().0 || trail.len() < leaf.stood;
+    leaf.straight_down = leaf.straight_down && !is_undone;
+    leaf.second = match leaf.second {
+        Some(count) if count < stands => Some(count),
+        _ => None,
+    };
     leaf.stood = trail.len();
+    leaf.decided.undo(Mark(stands));
     follow_edges(a, &mut leaf.decided, &mut leaf.second, trail)
 }

@@ -1,10 +1,11 @@
-use Rattle.std.proofs.Common.{refl, sym, subst, arith}
+use Rattle.std.proofs.Common.{◌-◌, refl, sym, subst, ◌∙◌, inl, inr, arith}
 use Rattle.olap_frozen.specs.declared.frozen.Frozen.{Frozen}
 use Rattle.olap_frozen.specs.Leaves.{chosen_of}
 use Rattle.olap_dimsat.specs.Asking.{IsFor, task_of}
-use Rattle.olap_dimsat.specs.Following.{NoneMore}
+use Rattle.olap_dimsat.specs.Following.{IsNext, NoneMore}
 use Rattle.olap_dimsat.specs.Tasks.{IsOne}
 use Rattle.olap_dimsat.proofs.FollowingLemmas.{none_after}
+use Rattle.olap_dimsat.proofs.SettleLemmas.{at_or_below}
 use Rattle.olap_dimsat.proofs.listing.next.Goals as goal
 
 pub places-init : goal.places-init
@@ -35,3 +36,46 @@ returns-clause-none c = λ e.
     let old = c.args.best.now in
     none_after (task_of c.args.a.now) (chosen_of old.edges old.names) c.requires.one
     (λ q h. c.places.invariant.none q (let b = c.places-test.false in omega arith) h)
+
+pub step-requires-clause-suited : goal.step-requires-clause-suited
+step-requires-clause-suited c = c.places.invariant.suited
+
+pub step-requires-clause-ready : goal.step-requires-clause-ready
+step-requires-clause-ready c = c.places.invariant.ready
+
+pub returns-then-step-clause-some : goal.returns-then-step-clause-some
+returns-then-step-clause-some c = λ _.
+    let new = c.step.new.best in
+    subst (λ (f : Frozen). IsNext (task_of c.args.a.now) (chosen_of f.edges f.names) (chosen_of new.edges new.names))
+    c.places.invariant.best (c.if-step.ensures.some refl)
+
+pub returns-then-step-clause-best : goal.returns-then-step-clause-best
+returns-then-step-clause-best c = c.step.ensures.best
+
+pub returns-then-step-clause-suited : goal.returns-then-step-clause-suited
+returns-then-step-clause-suited c = c.step.ensures.suited
+
+pub returns-then-step-clause-ready : goal.returns-then-step-clause-ready
+returns-then-step-clause-ready c = c.step.ensures.ready
+
+pub places-preserved : goal.places-preserved
+places-preserved c =
+    let t = task_of c.args.a.now in
+    let old = c.args.best.now in
+    let i = c.places.invariant in
+    let s = c.if-step.ensures in
+    let some = c.places-test.true in record {
+      inside = λ q h. i.inside q (omega arith);
+      none = λ q l h. elim (at_or_below (c.places.p - 1) q (omega arith)) [
+        | inl b ↦ i.none q (omega arith) h
+        | inr e ↦ subst (λ m. NoneMore t m (chosen_of old.edges old.names)) e
+            (subst (λ (f : Frozen). NoneMore t (c.places.p - 1) (chosen_of f.edges f.names)) i.best (s.none refl))
+      ];
+      best = s.stays refl ∙ i.best;
+      suited = c.step.ensures.suited;
+      ready = c.step.ensures.ready;
+    }
+
+pub returns-clause-best : goal.returns-clause-best
+returns-clause-best c =
+    subst (λ (f : Frozen). IsFor (task_of c.args.a.now) f) (sym c.places.invariant.best) c.requires.best

@@ -35,6 +35,9 @@ encode-requires-clause-spoken c =
       candidates = c.in_ok-candidates.candidates;
     }) c.requires.valid c.requires.formula
 
+pub into_parts-encoded-requires : goal.into_parts-encoded-requires
+into_parts-encoded-requires c = c.in_ok-encoder.ensures.sound
+
 pub returns : goal.returns
 returns c =
     let a = c.args in

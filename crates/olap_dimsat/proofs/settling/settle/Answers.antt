@@ -98,3 +98,38 @@ returns-clause-suited c =
     let i = c.numbers.invariant in
     suited_still (task_of c.args.a.now) c.numbers.leaf (variables_of c.numbers.engine) (variables_of c.keep.new.engine)
     i.suited c.keep.ensures.variables
+
+pub number_at-number-requires : goal.number_at-number-requires
+number_at-number-requires c = record {
+  best = c.requires.best;
+  one = c.requires.pinned.one;
+  place = c.requires.place;
+}
+
+pub numbers-init : goal.numbers-init
+numbers-init c = record {
+  trail = refl;
+  best = refl;
+  none = λ k h. absurd (omega arith);
+  suited = c.requires.suited;
+  ready = c.requires.ready;
+}
+
+pub returns-then-replace-clause-pinned : goal.returns-then-replace-clause-pinned
+returns-then-replace-clause-pinned c = (c.if-replace.ensures.yes refl).pinned
+
+pub returns-then-replace-clause-best : goal.returns-then-replace-clause-best
+returns-then-replace-clause-best c = c.replace.ensures.best
+
+pub returns-then-replace-clause-suited : goal.returns-then-replace-clause-suited
+returns-then-replace-clause-suited c = c.replace.ensures.suited
+
+pub returns-then-replace-clause-ready : goal.returns-then-replace-clause-ready
+returns-then-replace-clause-ready c = c.replace.ensures.ready
+
+pub returns-clause-pinned : goal.returns-clause-pinned
+returns-clause-pinned c = c.keep.ensures.pinned
+
+pub returns-clause-best : goal.returns-clause-best
+returns-clause-best c =
+    subst (λ (f : Frozen). IsFor (task_of c.args.a.now) f) (sym c.numbers.invariant.best) c.requires.best

@@ -1,4 +1,4 @@
-use Rattle.std.proofs.Common.{List, sym, subst}
+use Rattle.std.proofs.Common.{List, refl, sym, subst, ◌∙◌, arith}
 use Rattle.olap_clauses.specs.declared.trails.Step.{Step}
 use Rattle.olap_clauses.specs.Engines.{variables_of}
 use Rattle.olap_frozen.specs.Leaves.{chosen_of}
@@ -6,6 +6,28 @@ use Rattle.olap_dimsat.specs.Asking.{task_of}
 use Rattle.olap_dimsat.specs.Pinned.{IsPinned}
 use Rattle.olap_dimsat.proofs.MadeLemmas.{suited_still}
 use Rattle.olap_dimsat.proofs.settling.settle_next.Goals as goal
+
+pub keep-requires : goal.keep-requires
+keep-requires c = record {
+  task = c.requires.suited.task;
+  place = c.requires.place;
+  ready = c.requires.ready;
+  best = c.requires.best;
+  pinned = c.requires.pinned;
+  variables = c.requires.suited.variables;
+}
+
+pub returns-then-p-known : goal.returns-then-p-known
+returns-then-p-known c = record {
+  pinned = c.keep.ensures.pinned;
+  same = λ q h. refl;
+  least = let b = c.if-p-known.true in c.requires.known c.args.p (omega arith) (omega arith);
+  known = λ q f l. c.requires.known q (omega arith) l;
+  best = c.requires.best;
+  suited = suited_still (task_of c.args.a.now) c.args.leaf.now (variables_of c.args.engine.now)
+      (variables_of c.keep.new.engine) c.requires.suited c.keep.ensures.variables;
+  ready = c.keep.ensures.ready;
+}
 
 pub first_open-next-requires : goal.first_open-next-requires
 first_open-next-requires c = record {
@@ -28,3 +50,41 @@ settle-requires c =
       pinned = subst (λ (ss : List Step). IsPinned t c.args.p (chosen_of old.edges old.names) ss) (sym s.trail)
           c.requires.pinned;
     }
+
+pub keep-requires-then-p-next : goal.keep-requires-then-p-next
+keep-requires-then-p-next c =
+    let old = c.args.best.now in
+    let s = c.first_open-next.ensures in record {
+      task = c.requires.suited.task;
+      place = c.requires.place;
+      ready = s.ready;
+      best = c.requires.best;
+      pinned = subst (λ (ss : List Step). IsPinned (task_of c.args.a.now) c.args.p (chosen_of old.edges old.names) ss)
+          (sym s.trail) c.requires.pinned;
+      variables = s.variables ∙ c.requires.suited.variables;
+    }
+
+pub returns-then-p-next : goal.returns-then-p-next
+returns-then-p-next c =
+    let s = c.first_open-next.ensures in record {
+      pinned = c.keep-then-p-next.ensures.pinned;
+      same = λ q h. refl;
+      least = let b = c.if-p-next.true in s.least c.args.p (omega arith) (omega arith);
+      known = λ q f l. s.least q (omega arith) l;
+      best = c.requires.best;
+      suited = suited_still (task_of c.args.a.now) c.args.leaf.now (variables_of c.args.engine.now)
+          (variables_of c.keep-then-p-next.new.engine) c.requires.suited
+          (c.keep-then-p-next.ensures.variables ∙ s.variables);
+      ready = c.keep-then-p-next.ensures.ready;
+    }
+
+pub returns : goal.returns
+returns c = record {
+  pinned = c.settle.ensures.pinned;
+  same = c.settle.ensures.same;
+  least = c.settle.ensures.least;
+  known = λ q f l. absurd (omega arith);
+  best = c.settle.ensures.best;
+  suited = c.settle.ensures.suited;
+  ready = c.settle.ensures.ready;
+}
