@@ -1,6 +1,5 @@
 // How often, and how lately, reasons had each variable.
-use olap_base::Memory;
-use std::alloc::Global;
+use std::alloc::{AllocError, Global};
 
 /// Activities are halved from here on.
 const MOST_ACTIVITY: u64 = 1 << 40;
@@ -22,12 +21,17 @@ fn raised(activity: u64, step: u64) -> u64 {
 }
 
 impl Activities {
-    /// Those of so many variables, before any reason.
-    pub(crate) fn new(alloc: Global, count: usize) -> Result<Activities, Memory> {
-        Ok(Activities {
-            values: vec![in alloc; 0; count]?,
+    /// Those of no variables.
+    pub(crate) fn new(alloc: Global) -> Activities {
+        Activities {
+            values: Vec::new(alloc),
             step: 1,
-        })
+        }
+    }
+
+    /// Those of so many variables, before any reason.
+    pub(crate) fn resize(&mut self, count: usize) -> Result<(), AllocError> {
+        self.values.resize(count, 0)
     }
 
     /// That of a variable.
@@ -41,9 +45,9 @@ impl Activities {
 
     /// The variables of a reason become more active.
     pub(crate) fn raise(&mut self, reason: &[usize]) {
-        'variables: for i in 0..reason.len() {
-            if reason[i] < self.values.len() {
-                self.values[reason[i]] = raised(self.values[reason[i]], self.step);
+        'variables: for variable in reason {
+            if *variable < self.values.len() {
+                self.values[*variable] = raised(self.values[*variable], self.step);
             }
         }
         self.step = raised(self.step, self.step / 16);

@@ -1,7 +1,7 @@
 // What was decided of edges, names and ways.
 use crate::tasks::{Task, Variable, way_place};
-use olap_base::{CatId, EdgeId, MOST_CATEGORIES, Memory};
-use std::alloc::Global;
+use olap_base::{CatId, EdgeId, MOST_CATEGORIES};
+use std::alloc::{AllocError, Global};
 
 /// A decision: a variable, by its place among the task's, and its value.
 #[derive(Clone, Copy)]
@@ -30,15 +30,23 @@ pub(crate) struct Decided {
 }
 
 impl Decided {
-    /// Nothing is decided. There is room for a decision on each variable of the task.
-    pub(crate) fn new(alloc: Global, task: &Task<'_>) -> Result<Decided, Memory> {
+    /// Nothing is decided, and there is no variable.
+    pub(crate) fn new(alloc: Global) -> Decided {
+        Decided {
+            trail: Vec::new(alloc),
+            edges: Vec::new(alloc),
+            names: Vec::new(alloc),
+            ways: Vec::new(alloc),
+        }
+    }
+
+    /// Takes room for a decision on each variable of the task.
+    pub(crate) fn reserve(&mut self, task: &Task<'_>) -> Result<(), AllocError> {
         let categories = usize::from(task.graph.categories());
-        Ok(Decided {
-            trail: Vec::with_capacity(alloc, task.choices.len())?,
-            edges: vec![in alloc; None; usize::from(task.graph.edges())]?,
-            names: vec![in alloc; None; categories]?,
-            ways: vec![in alloc; None; categories * MOST_CATEGORIES]?,
-        })
+        self.trail.reserve(task.choices.len())?;
+        self.edges.resize(usize::from(task.graph.edges()), None)?;
+        self.names.resize(categories, None)?;
+        self.ways.resize(categories * MOST_CATEGORIES, None)
     }
 
     /// How many decisions there are.

@@ -13,29 +13,11 @@ use std::alloc::Global;
 /// How often a decision may be tried below a root.
 const TRIES: u32 = 1 << 20;
 
-/// Appends the tree that the search finds.
-fn push_found(asked: &Asked, search: &mut Search, out: &mut Vec<u8>) -> Result<(), NoDraft> {
-    let tree = search.run()?;
-    search
-        .trees
-        .push_lines(asked.words.graph, asked.constraints, tree, out)
-}
-
-/// Appends the tree that a search for the task finds.
-fn push_searched(
-    alloc: Global,
-    asked: &Asked,
-    task: &Task,
-    out: &mut Vec<u8>,
-) -> Result<(), NoDraft> {
-    let mut search = Search::new(alloc, task, TRIES)?;
-    push_found(asked, &mut search, out)
-}
-
 /// Appends the tree of a bottom category.
 fn push_below(alloc: Global, asked: &Asked, root: CatId, out: &mut Vec<u8>) -> Result<(), NoDraft> {
     let task = Task::new(alloc, asked, root)?;
-    push_searched(alloc, asked, &task, out)
+    let mut search = Search::new(alloc, &task, TRIES);
+    search.push_tree(asked.constraints, out)
 }
 
 /// Appends a draft: a tree for each bottom category.

@@ -1,16 +1,17 @@
 // The categories that each reaches, as a set for each.
-use olap_base::{CatId, Memory};
-use olap_graph::{Categories, WORDS};
-use std::alloc::Global;
+use crate::decided::Decided;
+use olap_base::{CatId, EdgeId};
+use olap_graph::{Categories, Graph, WORDS};
+use std::alloc::{AllocError, Global};
 
 /// What present edges draw, what those and ways lead to, and what edges that weren't decided absent leave open, from
 /// each category; and the categories that are known to have a member.
 #[derive(Drop)]
 pub(crate) struct Rows {
-    known: Categories,
-    drawn: Vec<Categories>,
-    led: Vec<Categories>,
-    open: Vec<Categories>,
+    pub(crate) known: Categories,
+    pub(crate) drawn: Vec<Categories>,
+    pub(crate) led: Vec<Categories>,
+    pub(crate) open: Vec<Categories>,
 }
 
 /// The set with one category more.
@@ -30,6 +31,11 @@ fn row(rows: &[Categories], c: CatId) -> Categories {
     } else {
         Categories::empty()
     }
+}
+
+/// Whether the one category reaches the other.
+pub(crate) fn reaches(rows: &[Categories], c: CatId, d: CatId) -> bool {
+    row(rows, c).has(d.0)
 }
 
 /// Each category reaches itself alone.
@@ -63,14 +69,21 @@ fn copy(rows: &mut [Categories], others: &[Categories]) {
 }
 
 impl Rows {
-    /// Sets for so many categories.
-    pub(crate) fn new(alloc: Global, count: usize) -> Result<Rows, Memory> {
-        Ok(Rows {
+    /// Those of no categories.
+    pub(crate) fn new(alloc: Global) -> Rows {
+        Rows {
             known: Categories::empty(),
-            drawn: vec![in alloc; Categories::empty(); count]?,
-            led: vec![in alloc; Categories::empty(); count]?,
-            open: vec![in alloc; Categories::empty(); count]?,
-        })
+            drawn: Vec::new(alloc),
+            led: Vec::new(alloc),
+            open: Vec::new(alloc),
+        }
+    }
+
+    /// Sets for so many categories.
+    pub(crate) fn resize(&mut self, count: usize) -> Result<(), AllocError> {
+        self.drawn.resize(count, Categories::empty())?;
+        self.led.resize(count, Categories::empty())?;
+        self.open.resize(count, Categories::empty())
     }
 
     /// Nothing is drawn, and the root alone is known to have a member.
@@ -78,11 +91,6 @@ impl Rows {
         self.known = with(Categories::empty(), root);
         begin(&mut self.drawn);
         begin(&mut self.led);
-    }
-
-    /// No edge is open.
-    pub(crate) fn begin_open(&mut self) {
-        begin(&mut self.open);
     }
 
     /// One present edge more.
@@ -97,23 +105,20 @@ impl Rows {
         join(&mut self.led, child, parent);
     }
 
-    /// One open edge more, for `close_open`.
-    pub(crate) fn open(&mut self, child: CatId, parent: CatId) {
-        let place = usize::from(child.0);
-        if place < self.open.len() {
-            self.open[place] = with(self.open[place], parent);
-        }
-    }
-
-    /// Follows open edges on.
-    pub(crate) fn close_open(&mut self) {
-        let count = self.open.len();
-        'through: for k in 0..u16::MAX {
-            if usize::from(k) >= count {
-                return;
+    /// Reads off what edges that weren't decided absent reach.
+    pub(crate) fn read_open(&mut self, graph: &Graph, decided: &Decided) {
+        begin(&mut self.open);
+        'edges: for e in 0..graph.edges() {
+            if decided.edge(EdgeId(e)) != Some(false) {
+                let (child, parent) = graph.ends(EdgeId(e));
+                let place = usize::from(child.0);
+                if place < self.open.len() {
+                    self.open[place] = with(self.open[place], parent);
+                }
             }
-            let through = CatId(k);
-            join(&mut self.open, through, through);
+        }
+        'through: for k in 0..graph.categories() {
+            join(&mut self.open, CatId(k), CatId(k));
         }
     }
 
@@ -123,25 +128,5 @@ impl Rows {
         copy(&mut self.drawn, &others.drawn);
         copy(&mut self.led, &others.led);
         copy(&mut self.open, &others.open);
-    }
-
-    /// Whether the category is known to have a member.
-    pub(crate) fn is_known(&self, c: CatId) -> bool {
-        self.known.has(c.0)
-    }
-
-    /// Whether present edges lead from the one category to the other.
-    pub(crate) fn draws(&self, c: CatId, d: CatId) -> bool {
-        row(&self.drawn, c).has(d.0)
-    }
-
-    /// Whether present edges and ways do.
-    pub(crate) fn leads(&self, c: CatId, d: CatId) -> bool {
-        row(&self.led, c).has(d.0)
-    }
-
-    /// Whether edges that weren't decided absent do.
-    pub(crate) fn may_reach(&self, c: CatId, d: CatId) -> bool {
-        row(&self.open, c).has(d.0)
     }
 }

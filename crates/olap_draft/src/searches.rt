@@ -7,11 +7,10 @@ use crate::shapes::Shape;
 use crate::steps::Step;
 use crate::tasks::{Task, Variable};
 use crate::trees::{NoDraft, Trees};
-use olap_ast::Truth3;
-use olap_base::Memory;
+use olap_ast::{Constraint, Truth3};
 use olap_graph::Categories;
 use olap_proof::Line;
-use std::alloc::Global;
+use std::alloc::{AllocError, Global};
 use std::mem::swap;
 
 /// How many lines that close are looked at for a leaf.
@@ -25,7 +24,7 @@ const MOST_PARTS: usize = 1 << 16;
 pub(crate) struct Search<'a> {
     task: &'a Task<'a>,
     shape: Shape,
-    pub(crate) trees: Trees,
+    trees: Trees,
     activities: Activities,
     /// The reason of the tree that was found last.
     reason: Vec<usize>,
@@ -49,10 +48,10 @@ fn has(reason: &[usize], variable: usize) -> bool {
 }
 
 /// Adds the variables of one reason to another, but for one.
-fn join(reason: &mut Vec<usize>, more: &[usize], except: usize) -> Result<(), Memory> {
-    'variables: for i in 0..more.len() {
-        if more[i] != except && !has(reason, more[i]) {
-            reason.push(more[i])?;
+fn join(reason: &mut Vec<usize>, more: &[usize], except: usize) -> Result<(), AllocError> {
+    'variables: for variable in more {
+        if *variable != except && !has(reason, *variable) {
+            reason.push(*variable)?;
         }
     }
     Ok(())
@@ -63,23 +62,6 @@ fn join(reason: &mut Vec<usize>, more: &[usize], except: usize) -> Result<(), Me
 struct Cases {
     trees: Vec<usize>,
     reason: Vec<usize>,
-}
-
-impl Cases {
-    /// None.
-    fn new(alloc: Global) -> Cases {
-        Cases {
-            trees: Vec::new(alloc),
-            reason: Vec::new(alloc),
-        }
-    }
-
-    /// One case more of a split by the variable.
-    fn add(&mut self, tree: usize, reason: &[usize], variable: usize) -> Result<(), Memory> {
-        join(&mut self.reason, reason, variable)?;
-        self.trees.push(tree)?;
-        Ok(())
-    }
 }
 
 /// The categories whose names the steps ask.
@@ -94,31 +76,39 @@ fn named_in(steps: &[Step]) -> Categories {
 }
 
 impl<'a> Search<'a> {
-    /// A search with so many tries.
-    pub(crate) fn new(alloc: Global, task: &'a Task<'a>, tries: u32) -> Result<Search<'a>, Memory> {
-        Ok(Search {
+    /// A search with so many tries, without room yet.
+    pub(crate) fn new(alloc: Global, task: &'a Task<'a>, tries: u32) -> Search<'a> {
+        Search {
             task,
-            activities: Activities::new(alloc, task.choices.len())?,
-            shape: Shape::new(alloc, task)?,
+            shape: Shape::new(alloc, task.root),
             trees: Trees::new(alloc),
+            activities: Activities::new(alloc),
             reason: Vec::new(alloc),
             needed: Vec::new(alloc),
             above: Vec::new(alloc),
             left: tries,
             alloc,
-        })
+        }
     }
 
-    /// A tree below the root.
-    pub(crate) fn run(&mut self) -> Result<usize, NoDraft> {
-        self.shape.refresh(self.task);
-        self.refute(self.task.choices.len())
+    /// Takes room, and appends the lines of the tree that it finds below the root.
+    pub(crate) fn push_tree(
+        &mut self,
+        constraints: &[Constraint],
+        out: &mut Vec<u8>,
+    ) -> Result<(), NoDraft> {
+        let task = self.task;
+        self.activities.resize(task.choices.len())?;
+        self.shape.reserve(task)?;
+        self.shape.refresh(task);
+        let tree = self.refute(task.choices.len())?;
+        self.trees.push_lines(task.graph, constraints, tree, out)
     }
 
     // ---- leaves
 
     /// Finds the variables whose decisions the line needs: the latest are left out first, several at a time.
-    fn find_needed(&mut self, line: Line) -> Result<(), Memory> {
+    fn find_needed(&mut self, line: Line) -> Result<(), AllocError> {
         let task = self.task;
         let count = self.shape.decided.count();
         let mut end = count;
@@ -179,27 +169,17 @@ impl<'a> Search<'a> {
 
     // ---- what closes at once
 
-    /// Whether some line closes after the decision. It is tried, unless there were too many tries.
-    fn closes_after(&mut self, decision: Decision) -> bool {
+    /// Whether some line closes once the variable has the value. It is tried, unless there were too many tries.
+    fn closes_at_once(&mut self, variable: usize, value: usize) -> bool {
+        if let Some((c, d)) = self.task.unasked_way(variable) {
+            return self.shape.clashes(self.task, c, d, value == 1);
+        }
         if self.left == 0 {
             return false;
         }
         self.left -= 1;
-        let task = self.task;
-        let length = self.shape.decided.count();
-        self.shape.keep();
-        self.shape.decide(task, decision);
-        let is_closed = self.shape.is_closed(task);
-        self.shape.undo(task, length);
-        is_closed
-    }
-
-    /// Whether some line closes once the variable has the value.
-    fn closes_at_once(&mut self, variable: usize, value: usize) -> bool {
-        match self.task.unasked_way(variable) {
-            Some((c, d)) => self.shape.clashes(self.task, c, d, value == 1),
-            None => self.closes_after(Decision { variable, value }),
-        }
+        self.shape
+            .closes_after(self.task, Decision { variable, value })
     }
 
     /// The decision on a variable that closes at once, if it has two values and isn't decided.
@@ -222,7 +202,7 @@ impl<'a> Search<'a> {
         let mut more = false;
         let mut is_after_way = false;
         'choices: for place in 0..task.choices.len() {
-            let is_way = task.is_way(place);
+            let is_way = matches!(task.variable(place), Variable::Way(_, _));
             if is_after_way && !is_way {
                 return true;
             }
@@ -327,7 +307,10 @@ impl<'a> Search<'a> {
         }
         match self.pick() {
             Some(variable) => {
-                let mut cases = Cases::new(self.alloc);
+                let mut cases = Cases {
+                    trees: Vec::new(self.alloc),
+                    reason: Vec::new(self.alloc),
+                };
                 self.refute_cases(variable, depth - 1, &mut cases)
             }
             None => Err(NoDraft::GivenUp),
@@ -351,7 +334,8 @@ impl<'a> Search<'a> {
             if !has(&self.reason, variable) {
                 return Ok(tree);
             }
-            cases.add(tree, &self.reason, variable)?;
+            join(&mut cases.reason, &self.reason, variable)?;
+            cases.trees.extend_from_slice(&[tree])?;
         }
         swap(&mut self.reason, &mut cases.reason);
         Ok(self.trees.add(task.line(variable), &cases.trees)?)

@@ -1,13 +1,13 @@
 // Shapes of which some edges, names and ways are decided, in tables.
 use crate::decided::{Decided, Decision};
-use crate::rows::Rows;
+use crate::rows::{Rows, reaches};
 use crate::steps::{Stack, Step};
 use crate::tasks::{Task, Variable};
 use olap_ast::Truth3;
-use olap_base::{CatId, EdgeId, Memory};
+use olap_base::{CatId, EdgeId};
 use olap_graph::Graph;
 use olap_proof::{Form, Line};
-use std::alloc::Global;
+use std::alloc::{AllocError, Global};
 
 /// What is decided, and what is then known.
 #[derive(Drop)]
@@ -20,16 +20,24 @@ pub(crate) struct Shape {
 }
 
 impl Shape {
-    /// Nothing is decided. There is room for all decisions of the task, and for the values of its formulas.
-    pub(crate) fn new(alloc: Global, task: &Task<'_>) -> Result<Shape, Memory> {
+    /// Nothing is decided, and there is no variable.
+    pub(crate) fn new(alloc: Global, root: CatId) -> Shape {
+        Shape {
+            root,
+            decided: Decided::new(alloc),
+            rows: Rows::new(alloc),
+            kept: Rows::new(alloc),
+            stack: Stack::new(alloc),
+        }
+    }
+
+    /// Takes room for all decisions of the task, and for the values of its formulas.
+    pub(crate) fn reserve(&mut self, task: &Task<'_>) -> Result<(), AllocError> {
         let categories = usize::from(task.graph.categories());
-        Ok(Shape {
-            root: task.root,
-            stack: Stack::new(alloc, task.most_steps())?,
-            rows: Rows::new(alloc, categories)?,
-            kept: Rows::new(alloc, categories)?,
-            decided: Decided::new(alloc, task)?,
-        })
+        self.stack.reserve(task.most_steps())?;
+        self.rows.resize(categories)?;
+        self.kept.resize(categories)?;
+        self.decided.reserve(task)
     }
 
     /// The variable of the decision at a place.
@@ -43,7 +51,7 @@ impl Shape {
     pub(crate) fn refresh(&mut self, task: &Task<'_>) {
         let graph = task.graph;
         self.rows.begin(self.root);
-        self.open_edges(graph);
+        self.rows.read_open(graph, &self.decided);
         'edges: for e in 0..graph.edges() {
             if self.decided.edge(EdgeId(e)) == Some(true) {
                 let (child, parent) = graph.ends(EdgeId(e));
@@ -51,41 +59,24 @@ impl Shape {
             }
         }
         if task.form == Form::Short {
-            self.refresh_ways(task);
-        }
-    }
-
-    /// Adds the ways that were decided to be there.
-    fn refresh_ways(&mut self, task: &Task<'_>) {
-        'decisions: for i in 0..self.decided.count() {
-            if let Variable::Way(c, d) = self.variable(task, i) {
-                if self.decided.way(c, d) == Some(true) {
-                    self.rows.lead(c, d);
+            'decisions: for i in 0..self.decided.count() {
+                if let Variable::Way(c, d) = self.variable(task, i) {
+                    if self.decided.way(c, d) == Some(true) {
+                        self.rows.lead(c, d);
+                    }
                 }
             }
         }
     }
 
-    /// Reads off what edges that weren't decided absent reach.
-    fn open_edges(&mut self, graph: &Graph) {
-        self.rows.begin_open();
-        'edges: for e in 0..graph.edges() {
-            if self.decided.edge(EdgeId(e)) != Some(false) {
-                let (child, parent) = graph.ends(EdgeId(e));
-                self.rows.open(child, parent);
-            }
-        }
-        self.rows.close_open();
-    }
-
     /// Whether the category is known to have a member.
     pub(crate) fn has(&self, c: CatId) -> bool {
-        self.rows.is_known(c)
+        self.rows.known.has(c.0)
     }
 
     /// Whether the one category's member is known to lead to the other.
     fn leads(&self, form: Form, c: CatId, d: CatId) -> bool {
-        self.has(c) && (form == Form::Short && d.0 == 0 || self.rows.leads(c, d))
+        self.has(c) && (form == Form::Short && d.0 == 0 || reaches(&self.rows.led, c, d))
     }
 
     /// Whether the one category has a member that reaches one of the other.
@@ -96,7 +87,7 @@ impl Shape {
             None => {
                 if self.leads(form, c, d) {
                     Truth3::Yes
-                } else if self.rows.may_reach(c, d) {
+                } else if reaches(&self.rows.open, c, d) {
                     Truth3::Unknown
                 } else {
                     Truth3::No
@@ -127,7 +118,11 @@ impl Shape {
         'steps: for i in 0..steps.len() {
             let value = match steps[i] {
                 Step::Known(value) => value,
-                Step::Edge(e) => told(self.decided.edge(e)),
+                Step::Edge(e) => match self.decided.edge(e) {
+                    Some(true) => Truth3::Yes,
+                    Some(false) => Truth3::No,
+                    None => Truth3::Unknown,
+                },
                 Step::Reach(c, d) => self.reached(form, c, d),
                 Step::Name(c, index) => self.named(c, index, index.wrapping_add(1)),
                 Step::Below(c, count) => self.named(c, 0, count),
@@ -146,7 +141,7 @@ impl Shape {
         match task.variable(decision.variable) {
             Variable::Edge(e) => {
                 if decision.value == 0 {
-                    self.open_edges(task.graph);
+                    self.rows.read_open(task.graph, &self.decided);
                 } else if e.0 < task.graph.edges() {
                     let (child, parent) = task.graph.ends(e);
                     self.rows.draw(child, parent);
@@ -167,15 +162,15 @@ impl Shape {
         self.refresh(task);
     }
 
-    /// Keeps what is known, for `undo`.
-    pub(crate) fn keep(&mut self) {
+    /// Whether some line closes after the decision, which is then taken back.
+    pub(crate) fn closes_after(&mut self, task: &Task<'_>, decision: Decision) -> bool {
+        let length = self.decided.count();
         self.kept.copy(&self.rows);
-    }
-
-    /// Takes the last decision back, since which `keep` kept what was known.
-    pub(crate) fn undo(&mut self, task: &Task<'_>, length: usize) {
+        self.decide(task, decision);
+        let is_closed = self.is_closed(task);
         self.decided.truncate(task, length);
         self.rows.copy(&self.kept);
+        is_closed
     }
 
     // ---- lines that close
@@ -202,18 +197,9 @@ impl Shape {
         true
     }
 
-    /// Whether a present edge is one of a cycle.
-    fn is_on_cycle(&self, graph: &Graph, e: EdgeId) -> bool {
-        if e.0 >= graph.edges() || self.decided.edge(e) != Some(true) {
-            return false;
-        }
-        let (child, parent) = graph.ends(e);
-        self.rows.draws(parent, child)
-    }
-
-    /// Whether present edges lead round a present edge.
+    /// Whether present edges lead round an edge.
     fn is_bypassed(&self, graph: &Graph, e: EdgeId) -> bool {
-        if e.0 >= graph.edges() || self.decided.edge(e) != Some(true) {
+        if e.0 >= graph.edges() {
             return false;
         }
         let (child, parent) = graph.ends(e);
@@ -221,7 +207,7 @@ impl Shape {
         'others: for i in 0..others.len() {
             if others[i].0 != e.0 && self.decided.edge(others[i]) == Some(true) {
                 let (_, through) = graph.ends(others[i]);
-                if self.rows.draws(through, parent) {
+                if reaches(&self.rows.drawn, through, parent) {
                     return true;
                 }
             }
@@ -244,25 +230,18 @@ impl Shape {
             return false;
         }
         let (child, _) = graph.ends(e);
-        child.0 != self.root.0 && !self.rows.may_reach(self.root, child)
+        child.0 != self.root.0 && !reaches(&self.rows.open, self.root, child)
     }
 
     /// Whether the line closes.
     pub(crate) fn closes(&mut self, task: &Task<'_>, line: Line) -> bool {
+        let graph = task.graph;
         match line {
             Line::Constraint(n) => {
                 self.has(task.constraint_root(n))
                     && self.value(task.form, task.constraint(n)) == Truth3::No
             }
             Line::Question => self.value(task.form, task.question()) == Truth3::No,
-            _ => self.closes_by_law(task, line),
-        }
-    }
-
-    /// Whether the line closes, if no formula is asked.
-    fn closes_by_law(&self, task: &Task<'_>, line: Line) -> bool {
-        let graph = task.graph;
-        match line {
             Line::Dead(c) => c.0 != 0 && self.has(c) && self.has_no_step(task, c, None),
             Line::Cycle | Line::Shortcut => self.some_edge(graph, line),
             Line::LooseEdge(e) => self.is_loose(graph, e),
@@ -279,26 +258,22 @@ impl Shape {
         }
     }
 
-    /// Whether some edge is on a cycle, or bypassed, as the line says.
+    /// Whether some present edge is on a cycle, or bypassed, as the line says.
     fn some_edge(&self, graph: &Graph, line: Line) -> bool {
         'edges: for e in 0..graph.edges() {
             let edge = EdgeId(e);
-            let found = match line {
-                Line::Cycle => self.is_on_cycle(graph, edge),
-                _ => self.is_bypassed(graph, edge),
-            };
-            if found {
-                return true;
+            if self.decided.edge(edge) == Some(true) {
+                let (child, parent) = graph.ends(edge);
+                let found = match line {
+                    Line::Cycle => reaches(&self.rows.drawn, parent, child),
+                    _ => self.is_bypassed(graph, edge),
+                };
+                if found {
+                    return true;
+                }
             }
         }
         false
-    }
-
-    /// How many lines are tried.
-    fn tries(&self, task: &Task<'_>) -> usize {
-        let laws = task.laws.len();
-        let ways = laws.wrapping_add(self.decided.count());
-        ways.wrapping_add(task.constraints())
     }
 
     /// The line that is tried at a place, if there is one: laws, then ways that were decided, then constraints.
@@ -319,7 +294,8 @@ impl Shape {
 
     /// The place of the first line from one on that closes, and the line.
     pub(crate) fn closing(&mut self, task: &Task<'_>, from: usize) -> Option<(usize, Line)> {
-        'lines: for place in from..self.tries(task) {
+        let ways = task.laws.len().wrapping_add(self.decided.count());
+        'lines: for place in from..ways.wrapping_add(task.constraints()) {
             if let Some(line) = self.tried(task, place) {
                 if self.closes(task, line) {
                     return Some((place, line));
@@ -332,14 +308,5 @@ impl Shape {
     /// Whether some line closes.
     pub(crate) fn is_closed(&mut self, task: &Task<'_>) -> bool {
         self.closing(task, 0).is_some()
-    }
-}
-
-/// What a decision says.
-fn told(decided: Option<bool>) -> Truth3 {
-    match decided {
-        Some(true) => Truth3::Yes,
-        Some(false) => Truth3::No,
-        None => Truth3::Unknown,
     }
 }

@@ -1,10 +1,10 @@
 // Formulas as steps over a stack of values.
 use olap_ast::{Formula, OneCount, Op, Terms, Truth3};
-use olap_base::{CatId, EdgeId, Memory, Text};
+use olap_base::{CatId, EdgeId, Text};
 use olap_graph::Graph;
 use olap_names::Candidates;
 use olap_numerals::number;
-use std::alloc::Global;
+use std::alloc::{AllocError, Global};
 
 /// An atom's value is put on the stack, or a connective takes values off it and puts one there.
 #[derive(Clone, Copy)]
@@ -33,11 +33,16 @@ pub(crate) struct Stack {
 }
 
 impl Stack {
-    /// An empty stack, with room for so many values.
-    pub(crate) fn new(alloc: Global, room: usize) -> Result<Stack, Memory> {
-        Ok(Stack {
-            values: Vec::with_capacity(alloc, room)?,
-        })
+    /// An empty stack.
+    pub(crate) fn new(alloc: Global) -> Stack {
+        Stack {
+            values: Vec::new(alloc),
+        }
+    }
+
+    /// Takes room for so many values.
+    pub(crate) fn reserve(&mut self, count: usize) -> Result<(), AllocError> {
+        self.values.reserve(count)
     }
 
     /// Without values.
@@ -59,20 +64,17 @@ impl Stack {
         }
     }
 
-    /// Whether exactly one of so many is true, which are taken off.
-    fn one(&mut self, count: usize) -> Truth3 {
-        let mut counted = OneCount::new();
-        'parts: for _ in 0..count {
-            counted.add(self.pop());
-        }
-        counted.result()
-    }
-
-    /// What a connective makes of the values on top.
+    /// What a connective makes of the values on top, which are taken off.
     pub(crate) fn connect(&mut self, step: Step) -> Truth3 {
         match step {
             Step::Not => self.pop().not(),
-            Step::One(count) => self.one(count),
+            Step::One(count) => {
+                let mut counted = OneCount::new();
+                'parts: for _ in 0..count {
+                    counted.add(self.pop());
+                }
+                counted.result()
+            }
             _ => {
                 let right = self.pop();
                 let left = self.pop();
@@ -119,11 +121,6 @@ impl<'a> Words<'a> {
         }
     }
 
-    /// Whether the number of the category's first name compares so.
-    fn first_is_so(&self, c: CatId, op: Op, n: i64) -> bool {
-        c.0 < self.candidates.categories() && is_so(self.candidates.first(c), op, n)
-    }
-
     /// The test of a category's name.
     fn name(&self, c: CatId, text: &Text) -> Step {
         if c.0 == 0 && text.bytes() == b"all".as_slice() {
@@ -142,7 +139,7 @@ impl<'a> Words<'a> {
     fn number(&self, c: CatId, op: Op, n: i64) -> Step {
         let others = self.others(c);
         let mut count = 0usize;
-        if self.first_is_so(c, op, n) {
+        if c.0 < self.candidates.categories() && is_so(self.candidates.first(c), op, n) {
             if op == Op::Equal {
                 return Step::Name(c, 0);
             }
@@ -176,9 +173,9 @@ impl<'a> Words<'a> {
         categories: &[CatId],
         root: CatId,
         steps: &mut Vec<Step>,
-    ) -> Result<(), Memory> {
+    ) -> Result<(), AllocError> {
         let mut at = root;
-        steps.push(Step::Known(Truth3::Yes))?;
+        put(steps, Step::Known(Truth3::Yes))?;
         'path: for c in categories {
             steps.extend_from_slice(&[self.edge(at, *c), Step::And])?;
             at = *c;
@@ -187,9 +184,8 @@ impl<'a> Words<'a> {
     }
 
     /// Steps of two atoms, both of which are asked.
-    fn push_two(&self, first: Step, second: Step, steps: &mut Vec<Step>) -> Result<(), Memory> {
-        steps.extend_from_slice(&[first, second, Step::And])?;
-        Ok(())
+    fn push_two(&self, first: Step, second: Step, steps: &mut Vec<Step>) -> Result<(), AllocError> {
+        steps.extend_from_slice(&[first, second, Step::And])
     }
 
     /// Steps of a formula at a member of the root. It calls itself as deep as the formula is.
@@ -199,7 +195,7 @@ impl<'a> Words<'a> {
         f: &Formula,
         root: CatId,
         steps: &mut Vec<Step>,
-    ) -> Result<(), Memory> {
+    ) -> Result<(), AllocError> {
         match f {
             Formula::Not(g) => {
                 self.push(g, root, steps)?;
@@ -219,7 +215,7 @@ impl<'a> Words<'a> {
     }
 
     /// Steps of a formula without parts at a member of the root.
-    fn push_atom(&self, f: &Formula, root: CatId, steps: &mut Vec<Step>) -> Result<(), Memory> {
+    fn push_atom(&self, f: &Formula, root: CatId, steps: &mut Vec<Step>) -> Result<(), AllocError> {
         match f {
             Formula::True => put(steps, Step::Known(Truth3::Yes)),
             Formula::Path(categories) => self.push_path(categories.items(), root, steps),
@@ -246,7 +242,7 @@ impl<'a> Words<'a> {
         root: CatId,
         step: Step,
         steps: &mut Vec<Step>,
-    ) -> Result<(), Memory> {
+    ) -> Result<(), AllocError> {
         self.push(f, root, steps)?;
         self.push(g, root, steps)?;
         put(steps, step)
@@ -259,7 +255,7 @@ impl<'a> Words<'a> {
         terms: &Terms,
         root: CatId,
         steps: &mut Vec<Step>,
-    ) -> Result<usize, Memory> {
+    ) -> Result<usize, AllocError> {
         let mut count = 0usize;
         let mut left = terms;
         'parts: while let Terms::More(f, rest) = left {
@@ -272,7 +268,6 @@ impl<'a> Words<'a> {
 }
 
 /// One step more.
-fn put(steps: &mut Vec<Step>, step: Step) -> Result<(), Memory> {
-    steps.push(step)?;
-    Ok(())
+fn put(steps: &mut Vec<Step>, step: Step) -> Result<(), AllocError> {
+    steps.extend_from_slice(&[step])
 }

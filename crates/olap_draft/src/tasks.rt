@@ -1,10 +1,10 @@
 // Tasks of a draft: a root of a schema, formulas as steps, and what may be decided.
 use crate::steps::{Step, Words};
 use olap_ast::Constraint;
-use olap_base::{CatId, EdgeId, MOST_CATEGORIES, Memory};
+use olap_base::{CatId, EdgeId, MOST_CATEGORIES};
 use olap_graph::Graph;
 use olap_proof::{Form, Line};
-use std::alloc::Global;
+use std::alloc::{AllocError, Global};
 
 /// What may be decided.
 #[derive(Clone, Copy)]
@@ -75,8 +75,8 @@ fn push_question(
     target: CatId,
     sources: &[CatId],
     steps: &mut Vec<Step>,
-) -> Result<(), Memory> {
-    steps.push(Step::Reach(root, target))?;
+) -> Result<(), AllocError> {
+    steps.extend_from_slice(&[Step::Reach(root, target)])?;
     'sources: for source in sources {
         let by_source = [
             Step::Reach(root, *source),
@@ -86,8 +86,7 @@ fn push_question(
         steps.extend_from_slice(&by_source)?;
     }
     let not_by_one = [Step::One(sources.len()), Step::Not, Step::And];
-    steps.extend_from_slice(&not_by_one)?;
-    Ok(())
+    steps.extend_from_slice(&not_by_one)
 }
 
 /// The steps from one place up to another.
@@ -101,7 +100,11 @@ fn between(steps: &[Step], first: usize, end: usize) -> &[Step] {
 
 impl<'a> Task<'a> {
     /// The task of a bottom category.
-    pub(crate) fn new(alloc: Global, asked: &Asked<'a>, root: CatId) -> Result<Task<'a>, Memory> {
+    pub(crate) fn new(
+        alloc: Global,
+        asked: &Asked<'a>,
+        root: CatId,
+    ) -> Result<Task<'a>, AllocError> {
         let mut task = Task {
             graph: asked.words.graph,
             form: asked.form,
@@ -121,7 +124,7 @@ impl<'a> Task<'a> {
     }
 
     /// Adds the formulas, and then the lines that are tried first and what may be decided.
-    fn pose(&mut self, alloc: Global, asked: &Asked<'a>) -> Result<(), Memory> {
+    fn pose(&mut self, alloc: Global, asked: &Asked<'a>) -> Result<(), AllocError> {
         'constraints: for constraint in asked.constraints {
             self.push_constraint(&asked.words, constraint)?;
         }
@@ -129,9 +132,7 @@ impl<'a> Task<'a> {
         push_question(self.root, asked.target, asked.sources, &mut self.steps)?;
         self.question.end = self.steps.len();
         self.push_laws()?;
-        if self.form == Form::Short {
-            self.push_ways(alloc)?;
-        }
+        self.push_ways(alloc)?;
         self.push_edges()?;
         self.push_names(&asked.words)
     }
@@ -141,7 +142,7 @@ impl<'a> Task<'a> {
         &mut self,
         words: &Words<'a>,
         constraint: &Constraint,
-    ) -> Result<(), Memory> {
+    ) -> Result<(), AllocError> {
         let root = constraint.root;
         let first = self.steps.len();
         words.push(&constraint.formula, root, &mut self.steps)?;
@@ -151,59 +152,67 @@ impl<'a> Task<'a> {
     }
 
     /// Adds the lines that are tried first.
-    fn push_laws(&mut self) -> Result<(), Memory> {
+    fn push_laws(&mut self) -> Result<(), AllocError> {
         let graph = self.graph;
-        let is_short = self.form == Form::Short;
         let alone = [Line::Question, Line::Cycle, Line::Shortcut];
         self.laws.extend_from_slice(&alone)?;
-        'categories: for c in 0..graph.categories() {
-            self.laws.push(Line::Dead(CatId(c)))?;
-            if is_short {
-                self.laws.push(Line::LooseCategory(CatId(c)))?;
+        match self.form {
+            Form::Short => {
+                'all: for c in 0..graph.categories() {
+                    let of_category = [Line::Dead(CatId(c)), Line::LooseCategory(CatId(c))];
+                    self.laws.extend_from_slice(&of_category)?;
+                }
             }
-        }
-        if !is_short {
-            'edges: for e in 0..graph.edges() {
-                self.laws.push(Line::LooseEdge(EdgeId(e)))?;
+            Form::Long => {
+                'categories: for c in 0..graph.categories() {
+                    self.laws.extend_from_slice(&[Line::Dead(CatId(c))])?;
+                }
+                'edges: for e in 0..graph.edges() {
+                    self.laws.extend_from_slice(&[Line::LooseEdge(EdgeId(e))])?;
+                }
             }
         }
         Ok(())
     }
 
+    /// Adds a variable.
+    fn add(&mut self, variable: Variable, values: usize, is_asked: bool) -> Result<(), AllocError> {
+        self.choices.extend_from_slice(&[Choice {
+            variable,
+            values,
+            is_asked,
+        }])
+    }
+
     /// The edges that the root may reach.
-    fn push_edges(&mut self) -> Result<(), Memory> {
+    fn push_edges(&mut self) -> Result<(), AllocError> {
         let graph = self.graph;
         'edges: for e in 0..graph.edges() {
             let (child, _) = graph.ends(EdgeId(e));
             if is_below(graph, self.root, child) {
-                self.choices.push(Choice {
-                    variable: Variable::Edge(EdgeId(e)),
-                    values: 2,
-                    is_asked: true,
-                })?;
+                self.add(Variable::Edge(EdgeId(e)), 2, true)?;
             }
         }
         Ok(())
     }
 
     /// The categories that have more than one name.
-    fn push_names(&mut self, words: &Words<'a>) -> Result<(), Memory> {
+    fn push_names(&mut self, words: &Words<'a>) -> Result<(), AllocError> {
         let graph = self.graph;
         'categories: for c in 1..graph.categories() {
             let count = words.others(CatId(c)).len();
             if count > 0 && is_below(graph, self.root, CatId(c)) {
-                self.choices.push(Choice {
-                    variable: Variable::Name(CatId(c)),
-                    values: count.wrapping_add(1),
-                    is_asked: true,
-                })?;
+                self.add(Variable::Name(CatId(c)), count.wrapping_add(1), true)?;
             }
         }
         Ok(())
     }
 
-    /// The ways that formulas ask, and those that these rest on.
-    fn push_ways(&mut self, alloc: Global) -> Result<(), Memory> {
+    /// The ways that formulas ask, and those that these rest on, in the short form.
+    fn push_ways(&mut self, alloc: Global) -> Result<(), AllocError> {
+        if self.form == Form::Long {
+            return Ok(());
+        }
         let count = usize::from(self.graph.categories());
         let mut seen = vec![in alloc; false; count * MOST_CATEGORIES]?;
         let mut todo = Vec::new(alloc);
@@ -215,7 +224,7 @@ impl<'a> Task<'a> {
         &mut self,
         seen: &mut [bool],
         todo: &mut Vec<(CatId, CatId)>,
-    ) -> Result<(), Memory> {
+    ) -> Result<(), AllocError> {
         self.push_all_asked(todo)?;
         let asked = todo.len();
         'ways: for i in 0..MOST_CATEGORIES * MOST_CATEGORIES * MOST_CATEGORIES {
@@ -226,11 +235,7 @@ impl<'a> Task<'a> {
             let place = way_place(c, d);
             if place < seen.len() && !seen[place] && self.may_lead(c, d) {
                 seen[place] = true;
-                self.choices.push(Choice {
-                    variable: Variable::Way(c, d),
-                    values: 2,
-                    is_asked: i < asked,
-                })?;
+                self.add(Variable::Way(c, d), 2, i < asked)?;
                 push_steps(self.graph, c, d, todo)?;
             }
         }
@@ -238,7 +243,7 @@ impl<'a> Task<'a> {
     }
 
     /// The ways that formulas ask.
-    fn push_all_asked(&self, todo: &mut Vec<(CatId, CatId)>) -> Result<(), Memory> {
+    fn push_all_asked(&self, todo: &mut Vec<(CatId, CatId)>) -> Result<(), AllocError> {
         'constraints: for n in 0..self.constraints.len() {
             let root = self.constraints[n].root;
             todo.push((root, root))?;
@@ -269,11 +274,6 @@ impl<'a> Task<'a> {
             }
         }
         None
-    }
-
-    /// Whether the variable at a place is a way.
-    pub(crate) fn is_way(&self, place: usize) -> bool {
-        matches!(self.variable(place), Variable::Way(_, _))
     }
 
     /// The line that splits by the variable at a place.
@@ -330,7 +330,7 @@ impl<'a> Task<'a> {
 }
 
 /// The ways that steps ask.
-fn push_asked(steps: &[Step], todo: &mut Vec<(CatId, CatId)>) -> Result<(), Memory> {
+fn push_asked(steps: &[Step], todo: &mut Vec<(CatId, CatId)>) -> Result<(), AllocError> {
     'steps: for i in 0..steps.len() {
         if let Step::Reach(c, d) = steps[i] {
             todo.push((c, d))?;
@@ -345,7 +345,7 @@ fn push_steps(
     c: CatId,
     d: CatId,
     todo: &mut Vec<(CatId, CatId)>,
-) -> Result<(), Memory> {
+) -> Result<(), AllocError> {
     if c.0 < graph.categories() {
         let edges = graph.parents(c);
         'edges: for i in 0..edges.len() {
@@ -353,7 +353,5 @@ fn push_steps(
             todo.push((parent, d))?;
         }
     }
-    todo.push((c, c))?;
-    todo.push((d, d))?;
-    Ok(())
+    todo.extend_from_slice(&[(c, c), (d, d)])
 }

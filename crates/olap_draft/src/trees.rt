@@ -58,7 +58,7 @@ impl Trees {
     }
 
     /// One tree more, of a line and the trees of its cases.
-    pub(crate) fn add(&mut self, line: Line, cases: &[usize]) -> Result<usize, Memory> {
+    pub(crate) fn add(&mut self, line: Line, cases: &[usize]) -> Result<usize, AllocError> {
         let place = self.nodes.len();
         let first = self.cases.len();
         self.cases.extend_from_slice(cases)?;
@@ -68,7 +68,7 @@ impl Trees {
     }
 
     /// The trees of a node's cases are to be written next, in their order.
-    fn leave(&mut self, node: Node) -> Result<(), Memory> {
+    fn leave(&mut self, node: Node) -> Result<(), AllocError> {
         'cases: for place in (node.first..node.end).rev() {
             if place < self.cases.len() {
                 self.left.push(self.cases[place])?;
