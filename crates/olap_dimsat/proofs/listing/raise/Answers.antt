@@ -59,3 +59,34 @@ returns-clause-none c = λ e.
     none_more (task_of c.args.a.now) c.args.p c.args.number c.args.most (chosen_of old.edges old.names)
     (trail_of c.args.engine.now) c.args.engine.now c.requires.ready c.requires.pinned c.requires.place c.requires.number
     c.requires.most (λ k l h. c.numbers.invariant.none k l (let b = c.numbers-test.false in omega arith))
+
+pub numbers-init : goal.numbers-init
+numbers-init c = record {
+  trail = refl;
+  best = refl;
+  none = λ k l h. absurd (omega arith);
+  suited = c.requires.suited;
+  ready = c.requires.ready;
+}
+
+pub returns-then-replace-clause-pinned : goal.returns-then-replace-clause-pinned
+returns-then-replace-clause-pinned c = λ _. (c.if-replace.ensures.yes refl).pinned
+
+pub returns-then-replace-clause-best : goal.returns-then-replace-clause-best
+returns-then-replace-clause-best c = c.replace.ensures.best
+
+pub returns-then-replace-clause-suited : goal.returns-then-replace-clause-suited
+returns-then-replace-clause-suited c = c.replace.ensures.suited
+
+pub returns-then-replace-clause-ready : goal.returns-then-replace-clause-ready
+returns-then-replace-clause-ready c = c.replace.ensures.ready
+
+pub returns-clause-stays : goal.returns-clause-stays
+returns-clause-stays c = λ _. c.numbers.invariant.best
+
+pub returns-clause-best : goal.returns-clause-best
+returns-clause-best c =
+    subst (λ (f : Frozen). IsFor (task_of c.args.a.now) f) (sym c.numbers.invariant.best) c.requires.best
+
+pub returns-clause-suited : goal.returns-clause-suited
+returns-clause-suited c = c.numbers.invariant.suited

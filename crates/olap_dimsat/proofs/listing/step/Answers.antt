@@ -52,3 +52,27 @@ returns-clause-some c = λ e.
     next_of (task_of c.args.a.now) c.args.p (chosen_of old.edges old.names) (chosen_of mid.edges mid.names)
     (chosen_of new.edges new.names) c.requires.one c.settle_from.ensures.one c.requires.place
     (c.if-not-raise.ensures.raised refl) c.settle_from.ensures.same c.settle_from.ensures.least c.requires.none
+
+pub returns-then-number-most-clause-best : goal.returns-then-number-most-clause-best
+returns-then-number-most-clause-best c = c.requires.best
+
+pub returns-then-number-most-clause-suited : goal.returns-then-number-most-clause-suited
+returns-then-number-most-clause-suited c = c.requires.suited
+
+pub returns-then-not-raise-clause-none : goal.returns-then-not-raise-clause-none
+returns-then-not-raise-clause-none c = λ _. c.if-not-raise.ensures.none refl
+
+pub returns-then-not-raise-clause-stays : goal.returns-then-not-raise-clause-stays
+returns-then-not-raise-clause-stays c = λ _. c.if-not-raise.ensures.stays refl
+
+pub returns-then-not-raise-clause-best : goal.returns-then-not-raise-clause-best
+returns-then-not-raise-clause-best c = c.raise.ensures.best
+
+pub returns-then-not-raise-clause-suited : goal.returns-then-not-raise-clause-suited
+returns-then-not-raise-clause-suited c = c.raise.ensures.suited
+
+pub returns-clause-best : goal.returns-clause-best
+returns-clause-best c = c.settle_from.ensures.best
+
+pub returns-clause-suited : goal.returns-clause-suited
+returns-clause-suited c = c.settle_from.ensures.suited

@@ -97,3 +97,17 @@ returns-clause-yes c = λ e f v one r.
             (let b = c.indexes.auto.j-end in omega arith),
       ),
     )
+
+pub returns-then-not-assume-clause-longer : goal.returns-then-not-assume-clause-longer
+returns-then-not-assume-clause-longer c =
+    longer_again (trail_of c.args.engine.now) (trail_of c.indexes.engine) (trail_of c.assume.new.engine)
+    c.indexes.invariant.longer c.assume.ensures.longer
+
+pub returns-then-not-assume-clause-shaped : goal.returns-then-not-assume-clause-shaped
+returns-then-not-assume-clause-shaped c = c.assume.ensures.shaped
+
+pub returns-clause-longer : goal.returns-clause-longer
+returns-clause-longer c = c.indexes.invariant.longer
+
+pub returns-clause-shaped : goal.returns-clause-shaped
+returns-clause-shaped c = c.indexes.invariant.shaped

@@ -1,9 +1,10 @@
 use Rattle.std.proofs.Common.{List, refl, sym, subst}
 use Rattle.olap_clauses.specs.declared.trails.Step.{Step}
-use Rattle.olap_clauses.specs.Engines.{trail_of}
+use Rattle.olap_clauses.specs.Engines.{trail_of, variables_of}
 use Rattle.olap_clauses.specs.Standing.{Agrees}
 use Rattle.olap_dimsat.specs.Asking.{task_of}
 use Rattle.olap_dimsat.specs.Pinned.{AreShaped, SayAt}
+use Rattle.olap_dimsat.proofs.MadeLemmas.{suited_still}
 use Rattle.olap_dimsat.proofs.SettleLemmas.{longer_same}
 use Rattle.olap_dimsat.proofs.WitnessLemmas.{ready_still}
 use Rattle.olap_dimsat.proofs.settling.probe.Goals as goal
@@ -42,3 +43,40 @@ pub returns-clause-shaped : goal.returns-clause-shaped
 returns-clause-shaped c =
     subst (λ (ss : List Step). AreShaped (task_of c.args.a.now) ss) (sym c.exists.ensures.trail)
     c.assume_at.ensures.shaped
+
+pub assume_at-requires : goal.assume_at-requires
+assume_at-requires c = record {
+  task = c.requires.suited.task;
+  shaped = c.requires.shaped;
+  place = c.requires.place;
+  number = c.requires.number;
+  variables = c.requires.suited.variables;
+}
+
+pub returns-then-not-assume_at-clause-no : goal.returns-then-not-assume_at-clause-no
+returns-then-not-assume_at-clause-no c = λ _. c.if-not-assume_at.ensures.no refl
+
+pub returns-then-not-assume_at-clause-longer : goal.returns-then-not-assume_at-clause-longer
+returns-then-not-assume_at-clause-longer c = c.assume_at.ensures.longer
+
+pub returns-then-not-assume_at-clause-shaped : goal.returns-then-not-assume_at-clause-shaped
+returns-then-not-assume_at-clause-shaped c = c.assume_at.ensures.shaped
+
+pub returns-then-not-assume_at-clause-suited : goal.returns-then-not-assume_at-clause-suited
+returns-then-not-assume_at-clause-suited c =
+    suited_still (task_of c.args.a.now) c.args.leaf.now (variables_of c.args.engine.now)
+    (variables_of c.assume_at.new.engine) c.requires.suited c.assume_at.ensures.variables
+
+pub exists-requires-clause-suited : goal.exists-requires-clause-suited
+exists-requires-clause-suited c =
+    suited_still (task_of c.args.a.now) c.args.leaf.now (variables_of c.args.engine.now)
+    (variables_of c.assume_at.new.engine) c.requires.suited c.assume_at.ensures.variables
+
+pub exists-requires-clause-shaped : goal.exists-requires-clause-shaped
+exists-requires-clause-shaped c = c.assume_at.ensures.shaped
+
+pub returns-clause-ready : goal.returns-clause-ready
+returns-clause-ready c = c.exists.ensures.ready
+
+pub returns-clause-suited : goal.returns-clause-suited
+returns-clause-suited c = c.exists.ensures.suited
