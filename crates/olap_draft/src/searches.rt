@@ -162,7 +162,7 @@ impl<'a> Search<'a> {
             from = place.wrapping_add(1);
         }
         match best {
-            Some(line) => Ok(self.trees.add(line, &[])?),
+            Some(line) => self.trees.add(line, &[]),
             None => Err(NoDraft::GivenUp),
         }
     }
@@ -338,7 +338,7 @@ impl<'a> Search<'a> {
             cases.trees.extend_from_slice(&[tree])?;
         }
         swap(&mut self.reason, &mut cases.reason);
-        Ok(self.trees.add(task.line(variable), &cases.trees)?)
+        self.trees.add(task.line(variable), &cases.trees)
     }
 
     /// A tree for what is decided. It calls itself at most as deep as there are variables.
@@ -384,6 +384,6 @@ impl<'a> Search<'a> {
         } else {
             [tree, leaf]
         };
-        Ok(self.trees.add(self.task.line(variable), &cases)?)
+        self.trees.add(self.task.line(variable), &cases)
     }
 }

@@ -156,21 +156,17 @@ impl<'a> Task<'a> {
         let graph = self.graph;
         let alone = [Line::Question, Line::Cycle, Line::Shortcut];
         self.laws.extend_from_slice(&alone)?;
-        match self.form {
-            Form::Short => {
-                'all: for c in 0..graph.categories() {
-                    let of_category = [Line::Dead(CatId(c)), Line::LooseCategory(CatId(c))];
-                    self.laws.extend_from_slice(&of_category)?;
-                }
+        let is_short = self.form == Form::Short;
+        'categories: for c in 0..graph.categories() {
+            self.laws.extend_from_slice(&[Line::Dead(CatId(c))])?;
+            if is_short {
+                self.laws
+                    .extend_from_slice(&[Line::LooseCategory(CatId(c))])?;
             }
-            Form::Long => {
-                'categories: for c in 0..graph.categories() {
-                    self.laws.extend_from_slice(&[Line::Dead(CatId(c))])?;
-                }
-                'edges: for e in 0..graph.edges() {
-                    self.laws.extend_from_slice(&[Line::LooseEdge(EdgeId(e))])?;
-                }
-            }
+        }
+        let edges = if is_short { 0 } else { graph.edges() };
+        'edges: for e in 0..edges {
+            self.laws.extend_from_slice(&[Line::LooseEdge(EdgeId(e))])?;
         }
         Ok(())
     }

@@ -58,12 +58,12 @@ impl Trees {
     }
 
     /// One tree more, of a line and the trees of its cases.
-    pub(crate) fn add(&mut self, line: Line, cases: &[usize]) -> Result<usize, AllocError> {
+    pub(crate) fn add(&mut self, line: Line, cases: &[usize]) -> Result<usize, NoDraft> {
         let place = self.nodes.len();
         let first = self.cases.len();
         self.cases.extend_from_slice(cases)?;
         let end = self.cases.len();
-        self.nodes.push(Node { line, first, end })?;
+        self.nodes.extend_from_slice(&[Node { line, first, end }])?;
         Ok(place)
     }
 
