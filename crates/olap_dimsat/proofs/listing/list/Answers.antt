@@ -75,3 +75,21 @@ returns-clause-all c =
     (sym c.from_vec.ensures)
     (all_frozen t (map frozen_of c.listed.list.items) c.requires.suited.task i.front
     (i.whole c.listed-test.false))
+
+pub returns-then-len-limit-clause-best : goal.returns-then-len-limit-clause-best
+returns-then-len-limit-clause-best c = c.listed.invariant.best
+
+pub returns-then-len-limit-clause-suited : goal.returns-then-len-limit-clause-suited
+returns-then-len-limit-clause-suited c = c.listed.invariant.suited
+
+pub returns-in_err-add-clause-best : goal.returns-in_err-add-clause-best
+returns-in_err-add-clause-best c = c.listed.invariant.best
+
+pub returns-in_err-add-clause-suited : goal.returns-in_err-add-clause-suited
+returns-in_err-add-clause-suited c = c.listed.invariant.suited
+
+pub returns-clause-best : goal.returns-clause-best
+returns-clause-best c = c.listed.invariant.best
+
+pub returns-clause-suited : goal.returns-clause-suited
+returns-clause-suited c = c.listed.invariant.suited
