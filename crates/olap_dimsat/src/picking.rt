@@ -1,7 +1,7 @@
 // The edge or name that is decided next. Any open one would do: the choice costs time alone.
 ghost use Rattle.std.specs.Prelude.{◌≡◌, ◌⊎◌, ◌<◌, IfSome, length};
 ghost use Rattle.olap_clauses.specs.Trails.{IsOpen, values_of};
-ghost use Rattle.olap_dimsat.specs.Tasks.{IsTask, constant_count};
+ghost use Rattle.olap_dimsat.specs.Tasks.{IsTask};
 ghost use Rattle.olap_dimsat.specs.Asking.{task_of};
 ghost use Rattle.olap_base.specs.Graph.{IsCategory};
 
