@@ -9,10 +9,12 @@ use Rattle.olap_dimsat.specs.OneFound.{IsOneFound}
 use Rattle.olap_dimsat.specs.Searches.{IsMadeWith, candidates_in, found_in, named_in, root_of}
 use Rattle.olap_frozen.specs.declared.founding.Found.{Found}
 use Rattle.olap_frozen.specs.declared.frozen.Frozen.{Frozen}
-use Rattle.olap_frozen.specs.LeastFound.{IsLeastFound}
 use Rattle.olap_names.specs.Names.{Named}
 use Rattle.olap_summ.proofs.NowhereLemmas.{none_is, nowhere, one_of, some_is, somewhere}
 use Rattle.olap_summ.specs.Answers.{IsNowhere}
+use Rattle.olap_summ.specs.Asking.{IsFoundAs}
+use Rattle.olap_summ.specs.declared.asking.Wanted.{Wanted}
+use Rattle.olap_summ.specs.declared.asking.Wanted.TheVariants as wanted
 
 -- what a search at r found is found at r, once it has the search's names
 pub some_named : {E : Type 0} (P : ℕ → Found → Type 0) (search : Search) (r : ℕ) (n : Named)
@@ -44,9 +46,10 @@ none_named {E = E} s q search r frozen (Ok None) made at none is one =
     (is refl) none refl)))
 none_named s q search r frozen (Err f) made at none is one = tt
 
--- where the least was found, one was
-pub least_is_one : {E : Type 0} (s : Schema) (q : Formula) (r : ℕ) (result : Result (Option Found) E)
-    → IfOk result (λ o. IfSome o (IsLeastFound s q r)) → IfOk result (λ o. IfSome o (IsOneFound s q r))
-least_is_one s q r (Ok (Some found)) least = one_of s q r found least
-least_is_one s q r (Ok None) least = tt
-least_is_one s q r (Err f) least = tt
+-- what was found as it was wanted is one
+pub wanted_is_one : {E : Type 0} (w : Wanted) (s : Schema) (q : Formula) (r : ℕ) (result : Result (Option Found) E)
+    → IfOk result (λ o. IfSome o (IsFoundAs w s q r)) → IfOk result (λ o. IfSome o (IsOneFound s q r))
+wanted_is_one wanted.Least s q r (Ok (Some found)) least = one_of s q r found least
+wanted_is_one wanted.Any s q r (Ok (Some found)) one = one
+wanted_is_one w s q r (Ok None) one = tt
+wanted_is_one w s q r (Err f) one = tt

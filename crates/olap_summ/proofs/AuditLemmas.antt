@@ -2,9 +2,8 @@
 --     unused_is       the question at an edge's child
 --     redundant_is    the question of the schema without a constraint
 --     path_of         the path of one edge
---     witness_of      what was found for a question at a root is a witness
-use Rattle.std.proofs.Common.{◌≡◌, ℕ, ◌<◌, List, [], ◌∷◌, ◌++◌, length, get_or, refl, ap, sym, subst, ◌∙◌, ◌↔◌, inl, inr, map, Option, Some, None, arith}
-use Rattle.std.specs.Prelude.{◌≤◌, Bool, true, false, not, is_some, Contains, IfSome, IsNone, IsTrue, flat_map, remove, slice_get}
+use Rattle.std.proofs.Common.{◌≡◌, ℕ, ◌<◌, List, [], ◌∷◌, ◌++◌, length, get_or, refl, ap, sym, subst, ◌∙◌, ◌↔◌, inl, inr, map, Some, arith}
+use Rattle.std.specs.Prelude.{◌≤◌, Contains, flat_map, remove, slice_get}
 use Rattle.std.proofs.lemmas.List.{length-map}
 use Rattle.std.proofs.lemmas.List.Elements.{Contains-append_cases, Contains-append_left, Contains-append_right}
 use Rattle.std.proofs.lemmas.Option.{get_or_from_slice_get, slice_get-map, slice_get_read, slice_get_within}
@@ -17,7 +16,7 @@ use Rattle.olap_base.specs.Limits.{most_constants}
 use Rattle.olap_base.proofs.ListLemmas.{AllPairs-from_Distinct, Contains-nil}
 use Rattle.olap_ast.specs.Constants.{all_comparisons, all_equalities}
 use Rattle.olap_ast.specs.Findings.{IsRedundant, IsUnused, without}
-use Rattle.olap_ast.specs.Formula.{Comparison, Equality, Formula, Formula.Path, HasPath, comparisons, equalities}
+use Rattle.olap_ast.specs.Formula.{Comparison, Equality, Formula.Path, HasPath, comparisons, equalities}
 use Rattle.olap_ast.specs.Questions.{IsImplied}
 use Rattle.olap_ast.specs.Schema.{Constraint, Meets, Schema}
 use Rattle.olap_ast.specs.Trees.{constraint_of, formula_of}
@@ -25,11 +24,8 @@ use Rattle.olap_ast.specs.declared.formulas.Constraint.{Constraint as StoredCons
 use Rattle.olap_ast.specs.Valid.{IsFormulaAt, IsValidSchema, pair_count}
 use Rattle.olap_schema.proofs.PairCounting.{few_numbers, few_pairs}
 use Rattle.olap_schema.proofs.WithoutLemmas.{atoms_left, number_atoms_left}
-use Rattle.olap_frozen.specs.declared.founding.Found.{Found}
-use Rattle.olap_dimsat.specs.OneFound.{IsOneFound}
 use Rattle.olap_summ.specs.Answers.{IsNowhere}
-use Rattle.olap_summ.specs.Sights.{IsWitness}
-use Rattle.olap_summ.proofs.NowhereLemmas.{none_as}
+use Rattle.olap_summ.proofs.NowhereLemmas.{as_well}
 
 -- ---- edges
 
@@ -39,10 +35,10 @@ one_step i x d ([], h, q) = absurd (cc)
 one_step i x d (y ∷ ys, h, q) = (y, h.0, cc)
 
 -- no member with that edge, as the audit asks it, is: the edge is unused
-pub unused_is : {A : Type 0} (s : Schema) (c d : ℕ) (o : Option A) → IsNone o ↔ IsNowhere s (Path (d ∷ [])) c
-    → IsNone o ↔ IsUnused s (record { child = c; parent = d })
-unused_is s c d o e =
-    none_as o (IsNowhere s (Path (d ∷ [])) c) (IsUnused s (record { child = c; parent = d })) e
+pub unused_is : (s : Schema) (c d : ℕ) (N : Type 0) → N ↔ IsNowhere s (Path (d ∷ [])) c
+    → N ↔ IsUnused s (record { child = c; parent = d })
+unused_is s c d N e =
+    as_well N (IsNowhere s (Path (d ∷ [])) c) (IsUnused s (record { child = c; parent = d })) e
     (λ n i l x y b p q. n i l x (below_is_member i x y b, p) (y ∷ [], (b, tt), ap (λ w. w ∷ []) q))
     (λ u i l x m h. let t = one_step i x d h in u i l x t.0 t.1 m.1 t.2)
 
@@ -64,12 +60,6 @@ edge_at_child g c d hier h = (
 pub path_of : (path pushed start : List CatId) (d : CatId) → path ≡ pushed → pushed ≡ start ++ d ∷ [] → start ≡ []
     → map (λ (c : CatId). c.0) path ≡ d.0 ∷ []
 path_of path pushed start d e p q = ap (map (λ (c : CatId). c.0)) (e ∙ p ∙ ap (λ l. l ++ d ∷ []) q)
-
--- what was found for any question is a witness of the schema
-pub witness_of : (s : Schema) (q : Formula) (r : ℕ) (o : Option Found) → IfSome o (IsOneFound s q r)
-    → IfSome o (IsWitness s)
-witness_of s q r None l = tt
-witness_of s q r (Some found) l = (q, subst (λ x. IsOneFound s q x found) (sym l.root) l)
 
 -- ---- constraints
 

@@ -1,5 +1,5 @@
 -- What the first bottom category with a frozen dimension says of summarizability.
-use Rattle.std.proofs.Common.{◌≡◌, ℕ, ◌<◌, List, refl, ap, sym, subst, ◌∙◌, ◌⊎◌, inl, inr, Option, Some, None, arith}
+use Rattle.std.proofs.Common.{◌≡◌, ℕ, ◌<◌, List, sym, subst, Option, Some, None}
 use Rattle.std.specs.Prelude.{IfSome}
 use Rattle.olap_base.specs.Graph.{IsBottom, IsHierarchy}
 use Rattle.olap_ast.specs.Formula.{Formula}

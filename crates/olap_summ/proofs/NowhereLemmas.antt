@@ -64,19 +64,17 @@ none_told o true P e n = (λ h. n.0 e, λ p. refl)
 none_told o false P e n = (λ h. absurd (cc), λ p. absurd (let t : true ≡ false = sym e ∙ n.1 p in cc))
 
 -- what is equivalent to a question's answer
-pub none_as : {A : Type 0} (o : Option A) (P Q : Type 0) → IsNone o ↔ P → (P → Q) → (Q → P) → IsNone o ↔ Q
-none_as o P Q e f g = (λ n. f (e.0 n), λ q. e.1 (g q))
+pub as_well : (N P Q : Type 0) → N ↔ P → (P → Q) → (Q → P) → N ↔ Q
+as_well N P Q e f g = (λ n. f (e.0 n), λ q. e.1 (g q))
 
 -- that no member is anywhere is: the category can't have one
-pub unsatisfiable_is : {A : Type 0} (s : Schema) (c : ℕ) (o : Option A) → IsNone o ↔ IsNowhere s Truth c
-    → IsNone o ↔ IsUnsatisfiable s c
-unsatisfiable_is s c o e = none_as o (IsNowhere s Truth c) (IsUnsatisfiable s c) e
+pub unsatisfiable_is : (s : Schema) (c : ℕ) (N : Type 0) → N ↔ IsNowhere s Truth c → N ↔ IsUnsatisfiable s c
+unsatisfiable_is s c N e = as_well N (IsNowhere s Truth c) (IsUnsatisfiable s c) e
     (λ n i l x m. n i l x m tt) (λ u i l x m t. u i l x m)
 
 -- that the negation is true nowhere is: the constraint is implied
-pub implied_is : {A : Type 0} (s : Schema) (r : ℕ) (q : Formula) (o : Option A) → IsNone o ↔ IsNowhere s (Not q) r
-    → IsNone o ↔ IsImplied s r q
-implied_is s r q o e = none_as o (IsNowhere s (Not q) r) (IsImplied s r q) e
+pub implied_is : (s : Schema) (r : ℕ) (q : Formula) (N : Type 0) → N ↔ IsNowhere s (Not q) r → N ↔ IsImplied s r q
+implied_is s r q N e = as_well N (IsNowhere s (Not q) r) (IsImplied s r q) e
     (λ n i l x m. holds i x (decide_holds i x q) (n i l x m)) (λ u i l x m h. h (u i l x m))
   where
     holds : (i : Instance) (x : ℕ) → Dec (Holds i x q) → (Holds i x (Not q) → ⊥) → Holds i x q

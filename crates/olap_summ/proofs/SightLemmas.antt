@@ -1,7 +1,9 @@
 -- What a frozen dimension that was found shows of categories and edges.
 --     seen_chosen                    the marks stay facts where those of a chosen edge are added
+--     seen_root, root_marked         and where that of the root is
+--     root_keeps, edge_keeps         no mark is lost by either
 --     settled_next                   the categories that are settled stay so, and one more is
-use Rattle.std.proofs.Common.{◌≡◌, ℕ, ◌+◌, ◌<◌, List, Bool, true, false, length, get_or, refl, ap, sym, subst, ◌∙◌, ◌⊎◌, inl, inr, arith}
+use Rattle.std.proofs.Common.{◌≡◌, ℕ, zero, suc, ◌+◌, ◌<◌, List, [], ◌∷◌, Bool, true, false, length, get_or, refl, ap, sym, subst, ◌∙◌, ◌⊎◌, inl, inr, arith}
 use Rattle.std.specs.Prelude.{slice_set, slice_index_or}
 use Rattle.std.proofs.lemmas.List.{get_or-set_other, length-set}
 use native.Mathlib.Decide.{ℕ_discrete}
@@ -116,10 +118,75 @@ seen_chosen s found hier root w old new e c d h b at marked used is =
     (parent_has_member s found hier root w c d j)
     (subst (λ x. IsUnused s x → ⊥) (sym at) (is_used s found hier root w c d j))
 
+-- the root is marked
+pub seen_root : (s : Schema) (found : Found) → IsWitness s found → (old new : Seen)
+    → new.categories.items ≡ slice_set old.categories.items found.frozen.root.0 true
+    → new.edges.items ≡ old.edges.items → IsSeen s old → IsSeen s new
+seen_root s found w old new marked same is = record {
+  category_places =
+      ap length marked ∙ length-set old.categories.items found.frozen.root.0 true ∙ is.category_places;
+  edge_places = ap length same ∙ is.edge_places;
+  categories = λ n h.
+      elim (mark_cases old.categories.items found.frozen.root.0 n (subst (λ xs. Has xs n) marked h)) [
+        | inl q ↦ subst (λ x. IsUnsatisfiable s x → ⊥) (sym q)
+            (λ u. u (thawed s (candidates_of found.candidates) found.frozen.root.0 (frozen_of found.frozen))
+            w.1.is_one.stands_for.legal w.1.is_one.stands_for.root w.1.is_one.stands_for.root_is)
+        | inr l ↦ is.categories n l
+      ];
+  edges = λ k h. is.edges k (subst (λ xs. Has xs k) same h);
+}
+
+-- ---- marks that stay
+
+-- a mark that is set is there
+is_marked : (marks : List Bool) (i : ℕ) → i < length marks → Has (slice_set marks i true) i
+is_marked [] i h = absurd (omega arith)
+is_marked (b ∷ bs) zero h = refl
+is_marked (b ∷ bs) (suc i) h = is_marked bs i (omega arith)
+
+-- those that were there stay
+marks_stay : (marks : List Bool) (i k : ℕ) → Has marks k → Has (slice_set marks i true) k
+marks_stay [] i k h = h
+marks_stay (b ∷ bs) zero zero h = refl
+marks_stay (b ∷ bs) zero (suc k) h = h
+marks_stay (b ∷ bs) (suc i) zero h = h
+marks_stay (b ∷ bs) (suc i) (suc k) h = marks_stay bs i k h
+
+-- the root's is there once it is set
+pub root_marked : (s : Schema) (c : ℕ) (old : Seen) (now : List Bool) → IsSeen s old → IsCategory s.graph c
+    → now ≡ slice_set old.categories.items c true → Has now c
+root_marked s c old now is h e =
+    subst (λ xs. Has xs c) (sym e) (is_marked old.categories.items c (let l = is.category_places in omega (arith, h, l)))
+
+-- it loses none
+pub root_keeps : (c : ℕ) (old new : Seen) → new.categories.items ≡ slice_set old.categories.items c true
+    → new.edges.items ≡ old.edges.items → Keeps old new
+root_keeps c old new marked same = record {
+  categories = λ n h. subst (λ xs. Has xs n) (sym marked) (marks_stay old.categories.items c n h);
+  edges = λ k h. subst (λ xs. Has xs k) (sym same) h;
+}
+
+-- nor do those of an edge
+pub edge_keeps : (e c d : ℕ) (old new : Seen)
+    → new.categories.items ≡ slice_set (slice_set old.categories.items c true) d true
+    → new.edges.items ≡ slice_set old.edges.items e true → Keeps old new
+edge_keeps e c d old new marked used = record {
+  categories = λ n h. subst (λ xs. Has xs n) (sym marked)
+      (marks_stay (slice_set old.categories.items c true) d n (marks_stay old.categories.items c n h));
+  edges = λ k h. subst (λ xs. Has xs k) (sym used) (marks_stay old.edges.items e k h);
+}
+
+-- what loses none, twice
+pub keeps_both : (a b c : Seen) → Keeps a b → Keeps b c → Keeps a c
+keeps_both a b c k l = record {
+  categories = λ n h. l.categories n (k.categories n h);
+  edges = λ n h. l.edges n (k.edges n h);
+}
+
 -- ---- what is settled
 
 -- a mark more settles no less
-settled_still : (s : Schema) (n : ℕ) (old new : Seen) → Keeps old new → AreSettled s n old → AreSettled s n new
+pub settled_still : (s : Schema) (n : ℕ) (old new : Seen) → Keeps old new → AreSettled s n old → AreSettled s n new
 settled_still s n old new k a c above below h = a c above below (go (get_or old.categories.items c false) refl)
   where
     go : (b : Bool) → get_or old.categories.items c false ≡ b → get_or old.categories.items c false ≡ false

@@ -1,18 +1,22 @@
 // Audits: what a schema says or does for nothing.
-ghost use Rattle.std.specs.Prelude.{◌≡◌, ◌≤◌, ◌<◌, ◌↔◌, Contains, IfOk, IfSome, IsNone, IsTrue, false, length, map, slice_index_or, true, OnOk};
+ghost use Rattle.std.specs.Prelude.{◌≡◌, ◌≤◌, ◌<◌, ◌↔◌, Contains, IfOk, IsTrue, false, length, map, slice_index_or, true, OnOk};
+ghost use Rattle.olap_ast.specs.Constants.{all_comparisons, all_equalities};
 ghost use Rattle.olap_ast.specs.Findings.{AreFindings, IsRedundant, IsUnsatisfiable, IsUnused};
+ghost use Rattle.olap_ast.specs.Trees.{formula_of};
+ghost use Rattle.olap_ast.specs.Valid.{IsFormulaAt, pair_count};
 ghost use Rattle.olap_base.specs.Graph.{Edge, IsCategory};
+ghost use Rattle.olap_base.specs.Limits.{most_constants};
 ghost use Rattle.olap_graph.specs.Lookups.{edge_at};
 ghost use Rattle.olap_schema.specs.Schemas.{schema_of};
+ghost use Rattle.olap_summ.specs.Answers.{IsNowhere};
 ghost use Rattle.olap_summ.specs.Audits.{AreFindingsBefore, finding_of, redundant, unsatisfiable, unused};
-ghost use Rattle.olap_summ.specs.Sights.{AreAllSettled, IsSeen, IsWitness, Keeps};
+ghost use Rattle.olap_summ.specs.Sights.{AreAllSettled, IsSeen, Keeps};
 
-use crate::asking::one_found;
+use crate::asking::{Wanted, found};
 use crate::implying::is_implied;
 use crate::seeing::Seen;
 use olap_ast::Formula;
 use olap_base::{CatId, EdgeId, List, Memory};
-use olap_frozen::Found;
 use olap_schema::Schema;
 use std::alloc::Global;
 
@@ -27,17 +31,31 @@ pub enum Finding {
     Unused(EdgeId),
 }
 
-// A frozen dimension of the category. None exactly where no legal instance has a member in it.
-fn having_member(alloc: Global, schema: &Schema, c: CatId) -> Result<Option<Found>, Memory>
-    requires { IsCategory (schema_of schema.now).graph c.0 }
-    ensures none { IfOk result (λ o. IsNone o ↔ IsUnsatisfiable (schema_of schema.now) c.0) }
-    ensures some { IfOk result (λ o. IfSome o (λ found. found.frozen.root.0 ≡ c.0)) }
-    ensures witness { IfOk result (λ o. IfSome o (IsWitness (schema_of schema.now))) }
+// Whether the question is true at some member of the root in some legal instance; what was found is marked.
+fn ask(
+    alloc: Global,
+    schema: &Schema,
+    root: CatId,
+    question: &Formula,
+    seen: &mut Seen,
+) -> Result<bool, Memory>
+    requires root { IsCategory (schema_of schema.now).graph root.0 }
+    requires question { IsFormulaAt (schema_of schema.now).graph root.0 (formula_of question.now) }
+    requires few { pair_count (all_equalities (schema_of schema.now) (formula_of question.now))
+        (all_comparisons (schema_of schema.now) (formula_of question.now)) ≤ most_constants }
+    requires seen { IsSeen (schema_of schema.now) seen.old }
+    ensures no { IfOk result (λ b. b ≡ false ↔ IsNowhere (schema_of schema.now) (formula_of question.now) root.0) }
+    ensures yes { IfOk result (λ b. b ≡ true → slice_index_or seen.new.categories.items root.0 false ≡ true) }
+    ensures seen { OnOk result (IsSeen (schema_of schema.now) seen.new) }
+    ensures kept { OnOk result (Keeps seen.old seen.new) }
 {
-    // Called for its clauses: the schema is valid.
-    let _valid = schema.constraints();
-    let found = one_found(alloc, schema, c, &Formula::True)?;
-    Ok(found)
+    match found(alloc, schema, root, question, Wanted::Any)? {
+        Some(found) => {
+            seen.note(schema, &found);
+            Ok(true)
+        }
+        None => Ok(false),
+    }
 }
 
 // Whether the category can have a member: it was seen so, or it is asked.
@@ -57,13 +75,9 @@ fn can_have_member(
     if seen.categories[usize::from(c.0)] {
         return Ok(true);
     }
-    match having_member(alloc, schema, c)? {
-        Some(found) => {
-            seen.note(schema, &found);
-            Ok(true)
-        }
-        None => Ok(false),
-    }
+    // Called for its clauses: the schema is valid.
+    let _valid = schema.constraints();
+    ask(alloc, schema, c, &Formula::True, seen)
 }
 
 // Adds the declared categories that can't have a member. Each category is then known.
@@ -95,8 +109,7 @@ fn is_redundant(alloc: Global, schema: &Schema, k: usize) -> Result<bool, Memory
 {
     let others = schema.without(k)?;
     let constraint = &schema.constraints()[k];
-    let is_implied = is_implied(alloc, &others, constraint.root, &constraint.formula)?;
-    Ok(is_implied)
+    is_implied(alloc, &others, constraint.root, &constraint.formula)
 }
 
 // Adds the constraints that follow from the others.
@@ -113,26 +126,27 @@ fn add_redundant(alloc: Global, schema: &Schema, findings: &mut Vec<Finding>) ->
     Ok(())
 }
 
-// A frozen dimension of the child in which the edge is chosen. None exactly where no legal instance uses it.
-fn using_edge(
+// Whether some legal instance uses the edge, as it is asked; what was found is marked.
+fn is_used(
     alloc: Global,
     schema: &Schema,
     child: CatId,
     parent: CatId,
-) -> Result<Option<Found>, Memory>
+    seen: &mut Seen,
+) -> Result<bool, Memory>
     requires edge { Contains (schema_of schema.now).graph.edges (record { child = child.0; parent = parent.0 }) }
-    ensures none { let edge : Edge = record { child = child.0; parent = parent.0 } in
-        IfOk result (λ o. IsNone o ↔ IsUnused (schema_of schema.now) edge) }
-    ensures some { IfOk result (λ o. IfSome o (λ found. found.frozen.root.0 ≡ child.0)) }
-    ensures witness { IfOk result (λ o. IfSome o (IsWitness (schema_of schema.now))) }
+    requires seen { IsSeen (schema_of schema.now) seen.old }
+    ensures no { let edge : Edge = record { child = child.0; parent = parent.0 } in
+        IfOk result (λ b. b ≡ false ↔ IsUnused (schema_of schema.now) edge) }
+    ensures seen { OnOk result (IsSeen (schema_of schema.now) seen.new) }
+    ensures kept { OnOk result (Keeps seen.old seen.new) }
 {
     // Called for its clauses: the schema is valid.
     let _valid = schema.constraints();
     let mut path = Vec::new(alloc);
     path.push(parent)?;
     let question = Formula::Path(List::from_vec(path));
-    let found = one_found(alloc, schema, child, &question)?;
-    Ok(found)
+    ask(alloc, schema, child, &question, seen)
 }
 
 // Whether some legal instance uses the edge: it was seen in use, or it is asked. No question is asked where an end
@@ -155,13 +169,7 @@ fn can_be_used(alloc: Global, schema: &Schema, e: EdgeId, seen: &mut Seen) -> Re
     if seen.lacks(child) || seen.lacks(parent) {
         return Ok(false);
     }
-    match using_edge(alloc, schema, child, parent)? {
-        Some(found) => {
-            seen.note(schema, &found);
-            Ok(true)
-        }
-        None => Ok(false),
-    }
+    is_used(alloc, schema, child, parent, seen)
 }
 
 // Adds the edges that no legal instance uses.

@@ -9,8 +9,9 @@ ghost use Rattle.olap_base.specs.Graph.{IsCategory};
 ghost use Rattle.olap_base.specs.Limits.{most_constants};
 ghost use Rattle.olap_frozen.specs.LeastFound.{IsLeastFound};
 ghost use Rattle.olap_schema.specs.Schemas.{schema_of};
+ghost use Rattle.olap_summ.specs.Answers.{IsNowhere};
 
-use crate::asking::{least_found, one_found};
+use crate::asking::{Wanted, found};
 use olap_ast::{Formula, copy};
 use olap_base::{CatId, Memory};
 use olap_frozen::Found;
@@ -42,8 +43,19 @@ pub fn implies(
         (IsLeastFound (schema_of schema.now) (Meaning.Formula.Not (formula_of f.now)) root.0)) }
 {
     let negated = negation(alloc, f)?;
-    let found = least_found(alloc, schema, root, &negated)?;
-    Ok(found)
+    found(alloc, schema, root, &negated, Wanted::Least)
+}
+
+// Whether the formula is true at no member of the root in any legal instance.
+fn is_nowhere(alloc: Global, schema: &Schema, root: CatId, f: &Formula) -> Result<bool, Memory>
+    requires root { IsCategory (schema_of schema.now).graph root.0 }
+    requires formula { IsFormulaAt (schema_of schema.now).graph root.0 (formula_of f.now) }
+    requires few { pair_count (all_equalities (schema_of schema.now) (formula_of f.now))
+        (all_comparisons (schema_of schema.now) (formula_of f.now)) ≤ most_constants }
+    ensures { IfOk result (λ b. IsTrue b ↔ IsNowhere (schema_of schema.now) (formula_of f.now) root.0) }
+{
+    let found = found(alloc, schema, root, f, Wanted::Any)?;
+    Ok(found.is_none())
 }
 
 /// Whether every legal instance meets the constraint of this root and formula.
@@ -60,6 +72,5 @@ pub(crate) fn is_implied(
     ensures { IfOk result (λ b. IsTrue b ↔ IsImplied (schema_of schema.now) root.0 (formula_of f.now)) }
 {
     let negated = negation(alloc, f)?;
-    let found = one_found(alloc, schema, root, &negated)?;
-    Ok(found.is_none())
+    is_nowhere(alloc, schema, root, &negated)
 }

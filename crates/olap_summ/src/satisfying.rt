@@ -6,7 +6,7 @@ ghost use Rattle.olap_base.specs.Graph.{IsCategory};
 ghost use Rattle.olap_frozen.specs.LeastFound.{IsLeastFound};
 ghost use Rattle.olap_schema.specs.Schemas.{schema_of};
 
-use crate::asking::least_found;
+use crate::asking::{Wanted, found};
 use olap_ast::Formula;
 use olap_base::{CatId, Memory};
 use olap_frozen::Found;
@@ -21,6 +21,5 @@ pub fn satisfiable(alloc: Global, schema: &Schema, c: CatId) -> Result<Option<Fo
 {
     // Called for its clauses: the schema is valid.
     let _valid = schema.constraints();
-    let found = least_found(alloc, schema, c, &Formula::True)?;
-    Ok(found)
+    found(alloc, schema, c, &Formula::True, Wanted::Least)
 }

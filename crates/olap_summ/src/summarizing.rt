@@ -1,5 +1,5 @@
 // Views that can be computed from others.
-ghost use Rattle.std.specs.Prelude.{◌≡◌, ◌≢◌, ◌↔◌, All, AllPairs, Err, IfOk, IfSome, IsNone};
+ghost use Rattle.std.specs.Prelude.{◌≡◌, ◌≢◌, ◌↔◌, All, AllPairs, Err, IfErr, IfOk, IfSome, IsNone};
 ghost use Rattle.olap_ast.specs.Summarizable.{IsSummarizable};
 ghost use Rattle.olap_base.specs.Graph.{IsBottom, IsCategory};
 ghost use Rattle.olap_schema.specs.Schemas.{schema_of};
@@ -9,7 +9,7 @@ ghost use Rattle.olap_ast.specs.Trees.{numbers_of};
 ghost use Rattle.olap_summ.specs.Decisions.{AreQuestionsFor, asked_by, sources_of, target_of};
 ghost use Rattle.olap_summ.specs.declared.summarizing.SummRefusal.TheVariants as refusal;
 
-use crate::asking::one_found;
+use crate::asking::{Wanted, found};
 use crate::{Decision, Questions};
 use olap_ast::candidates_exist;
 use olap_base::{CatId, Memory};
@@ -42,6 +42,24 @@ impl From<AllocError> for SummRefusal {
     }
 }
 
+// The counterexample that a decision of the questions shows. None exactly where the target is summarizable from the
+// sources.
+fn decided(
+    alloc: Global,
+    schema: &Schema,
+    questions: &Questions,
+) -> Result<Option<Found>, SummRefusal>
+    requires { AreQuestionsFor (schema_of schema.now) questions.now }
+    ensures none { IfOk result (λ o. IsNone o
+        ↔ IsSummarizable (schema_of schema.now) (target_of questions.now) (sources_of questions.now)) }
+    ensures some { IfOk result (λ o. IfSome o
+        (IsCounterexampleFound (schema_of schema.now) (target_of questions.now) (sources_of questions.now))) }
+    ensures refusal { IfErr result (λ e. e ≡ refusal.Memory) }
+{
+    let mut decision = Decision::new(alloc, schema, questions)?;
+    decision.counterexample(schema, questions)
+}
+
 /// The counterexample to summarizability: the least frozen dimension of the first bottom category that has one whose
 /// root reaches the target, and not by exactly one source. None exactly where the target is summarizable from the
 /// sources: in all legal instances with all facts its view from the sources' views is its direct view.
@@ -63,13 +81,7 @@ pub fn summarizable(
         (IsCounterexampleFound (schema_of schema.now) target.0 (numbers_of sources.now))) }
 {
     let questions = Questions::of(alloc, schema, target, sources)?;
-    let mut decision = Decision::new(alloc, schema, &questions)?;
-    let mut frozen = decision.blank()?;
-    if !decision.decide(schema, &questions, &mut frozen) {
-        return Ok(None);
-    }
-    let candidates = decision.into_candidates(frozen.root);
-    Ok(Some(Found { frozen, candidates }))
+    decided(alloc, schema, &questions)
 }
 
 // A frozen dimension of the category for the question, if it is a bottom one.
@@ -91,18 +103,22 @@ fn shown_at(
     if !schema.graph().is_bottom(root) {
         return Ok(None);
     }
-    let found = one_found(alloc, schema, root, &questions.formula)?;
-    Ok(found)
+    found(alloc, schema, root, &questions.formula, Wanted::Any)
 }
 
 // A frozen dimension of some bottom category for the question. None exactly where the target is summarizable from the
 // sources.
-fn shown(alloc: Global, schema: &Schema, questions: &Questions) -> Result<Option<Found>, Memory>
+fn shown(
+    alloc: Global,
+    schema: &Schema,
+    questions: &Questions,
+) -> Result<Option<Found>, SummRefusal>
     requires { AreQuestionsFor (schema_of schema.now) questions.now }
     ensures none { IfOk result (λ o. IsNone o
         ↔ IsSummarizable (schema_of schema.now) (target_of questions.now) (sources_of questions.now)) }
     ensures some { IfOk result (λ o. IfSome o
         (IsOneCounterexampleFound (schema_of schema.now) (target_of questions.now) (sources_of questions.now))) }
+    ensures refusal { IfErr result (λ e. e ≡ refusal.Memory) }
 {
     // Called for its clauses: the schema is valid.
     let _valid = schema.constraints();
@@ -136,6 +152,5 @@ pub fn any_counterexample(
         (IsOneCounterexampleFound (schema_of schema.now) target.0 (numbers_of sources.now))) }
 {
     let questions = Questions::of(alloc, schema, target, sources)?;
-    let found = shown(alloc, schema, &questions)?;
-    Ok(found)
+    shown(alloc, schema, &questions)
 }

@@ -1,3 +1,4 @@
+use Rattle.std.proofs.lemmas.Result.{IfOk-weaker}
 use Rattle.std.specs.Prelude.{IsTrue}
 use Rattle.olap_schema.specs.Schemas.{schema_of}
 use Rattle.olap_summ.proofs.AuditLemmas.{asked_few, asked_formula, asked_is, asked_root}
@@ -23,7 +24,8 @@ is_implied-requires-clause-few c =
 
 pub returns : goal.returns
 returns c =
-    let b = c.in_ok-is_implied.is_implied in
-    asked_is (schema_of c.args.schema.now) (schema_of c.in_ok-others.others) c.args.k c.constraints.result.now
+    IfOk-weaker c.is_implied.result _ _
+    (λ b. asked_is (schema_of c.args.schema.now) (schema_of c.in_ok-others.others) c.args.k c.constraints.result.now
     c.index-constraints-k.result c.constraints.ensures.valid c.requires c.constraints.ensures.list
-    c.index-constraints-k.is c.in_ok-others.ensures (IsTrue b) c.in_ok-is_implied.ensures
+    c.index-constraints-k.is c.in_ok-others.ensures (IsTrue b))
+    c.is_implied.ensures

@@ -1,7 +1,10 @@
 use Rattle.std.proofs.Common.{◌↔◌, subst}
-use Rattle.std.specs.Prelude.{IsNone}
+use Rattle.std.proofs.lemmas.Result.{IfOk-weaker}
+use Rattle.std.specs.Prelude.{IfOk, IfSome, IsNone}
 use Rattle.olap_ast.specs.Formula.{Formula}
+use Rattle.olap_ast.specs.Questions.{IsImplied}
 use Rattle.olap_ast.specs.Trees.{formula_of}
+use Rattle.olap_frozen.specs.LeastFound.{IsLeastFound}
 use Rattle.olap_schema.specs.Schemas.{schema_of}
 use Rattle.olap_summ.specs.Answers.{IsNowhere}
 use Rattle.olap_summ.proofs.NowhereLemmas.{implied_is}
@@ -10,7 +13,16 @@ use Rattle.olap_summ.proofs.implying.implies.Goals as goal
 pub returns-clause-none : goal.returns-clause-none
 returns-clause-none c =
     let s = schema_of c.args.schema.now in
-    let found = c.in_ok-found.found in
-    implied_is s c.args.root.0 (formula_of c.args.f.now) found
-    (subst (λ (q : Formula). IsNone found ↔ IsNowhere s q c.args.root.0)
-    c.in_ok-negated.ensures c.in_ok-found.ensures.none)
+    let r = c.args.root.0 in
+    let f = formula_of c.args.f.now in
+    IfOk-weaker c.found.result (λ o. IsNone o ↔ IsNowhere s (formula_of c.in_ok-negated.negated) r)
+    (λ o. IsNone o ↔ IsImplied s r f)
+    (λ o h. implied_is s r f (IsNone o)
+    (subst (λ (q : Formula). IsNone o ↔ IsNowhere s q r) c.in_ok-negated.ensures h))
+    c.found.ensures.none
+
+pub returns-clause-some : goal.returns-clause-some
+returns-clause-some c =
+    let s = schema_of c.args.schema.now in
+    subst (λ (q : Formula). IfOk c.found.result (λ o. IfSome o (IsLeastFound s q c.args.root.0)))
+    c.in_ok-negated.ensures c.found.ensures.some

@@ -1,14 +1,21 @@
-use Rattle.std.proofs.Common.{refl}
+use Rattle.std.proofs.Common.{◌↔◌, refl}
+use Rattle.std.proofs.lemmas.Result.{IfOk-weaker}
+use Rattle.std.specs.Prelude.{IsNone}
+use Rattle.olap_ast.specs.Findings.{IsUnsatisfiable}
 use Rattle.olap_ast.specs.Formula.{Formula.Truth}
 use Rattle.olap_schema.specs.Schemas.{schema_of}
+use Rattle.olap_summ.specs.Answers.{IsNowhere}
 use Rattle.olap_ast.proofs.SourceLemmas.{no_more_constants}
 use Rattle.olap_summ.proofs.NowhereLemmas.{unsatisfiable_is}
 use Rattle.olap_summ.proofs.satisfying.satisfiable.Goals as goal
 
-pub least_found-requires-clause-few : goal.least_found-requires-clause-few
-least_found-requires-clause-few c =
+pub found-requires-clause-few : goal.found-requires-clause-few
+found-requires-clause-few c =
     no_more_constants (schema_of c.args.schema.now) Truth c.constraints-valid.ensures.valid refl refl
 
 pub returns-clause-none : goal.returns-clause-none
 returns-clause-none c =
-    unsatisfiable_is (schema_of c.args.schema.now) c.args.c.0 c.in_ok-found.found c.in_ok-found.ensures.none
+    let s = schema_of c.args.schema.now in
+    IfOk-weaker c.found.result (λ o. IsNone o ↔ IsNowhere s Truth c.args.c.0)
+    (λ o. IsNone o ↔ IsUnsatisfiable s c.args.c.0) (λ o h. unsatisfiable_is s c.args.c.0 (IsNone o) h)
+    c.found.ensures.none

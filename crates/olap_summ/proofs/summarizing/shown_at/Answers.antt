@@ -1,4 +1,5 @@
 use Rattle.std.proofs.Common.{sym, subst, true≢false, ◌∙◌}
+use Rattle.std.proofs.lemmas.Result.{IfOk-weaker}
 use Rattle.olap_base.specs.Graph.{Graph, IsBottom}
 use Rattle.olap_schema.specs.Schemas.{schema_of}
 use Rattle.olap_summ.specs.Decisions.{asked_by, sources_of, target_of}
@@ -6,12 +7,12 @@ use Rattle.olap_summ.proofs.CounterexampleLemmas.{shown_by}
 use Rattle.olap_summ.proofs.DecisionLemmas.{asked_at, asked_few}
 use Rattle.olap_summ.proofs.summarizing.shown_at.Goals as goal
 
-pub one_found-requires-clause-question : goal.one_found-requires-clause-question
-one_found-requires-clause-question c =
+pub found-requires-clause-question : goal.found-requires-clause-question
+found-requires-clause-question c =
     asked_at (schema_of c.args.schema.now) c.args.questions.now c.args.root.0 c.requires.questions
 
-pub one_found-requires-clause-few : goal.one_found-requires-clause-few
-one_found-requires-clause-few c =
+pub found-requires-clause-few : goal.found-requires-clause-few
+found-requires-clause-few c =
     asked_few (schema_of c.args.schema.now) c.args.questions.now c.constraints-valid.ensures.valid c.requires.questions
 
 pub returns-then-not-is_bottom-clause-none : goal.returns-then-not-is_bottom-clause-none
@@ -20,12 +21,12 @@ returns-then-not-is_bottom-clause-none c = λ e bottom.
     absurd (true≢false (sym t ∙ c.if-not-is_bottom.true))
 
 pub returns-clause-none : goal.returns-clause-none
-returns-clause-none c = λ e bottom. c.in_ok-found.ensures.none.0 e
+returns-clause-none c = IfOk-weaker c.found.result _ _ (λ o h e bottom. h.0 e) c.found.ensures.none
 
 pub returns-clause-some : goal.returns-clause-some
 returns-clause-some c =
     let s = schema_of c.args.schema.now in
     let q = c.args.questions.now in
-    shown_by s (asked_by q) (target_of q) (sources_of q) c.args.root.0
+    IfOk-weaker c.found.result _ _ (shown_by s (asked_by q) (target_of q) (sources_of q) c.args.root.0
     (subst (λ (g : Graph). IsBottom g c.args.root.0) c.graph.ensures (c.is_bottom.ensures.0 c.if-not-is_bottom.false))
-    c.requires.questions.asked c.in_ok-found.found c.in_ok-found.ensures.some
+    c.requires.questions.asked) c.found.ensures.some

@@ -2,7 +2,7 @@ use Rattle.std.proofs.Common.{◌≡◌, true, ap, subst, ◌∙◌}
 use Rattle.std.specs.Prelude.{slice_set}
 use Rattle.olap_graph.specs.Lookups.{edge_at}
 use Rattle.olap_schema.specs.Schemas.{schema_of}
-use Rattle.olap_summ.proofs.SightLemmas.{seen_chosen}
+use Rattle.olap_summ.proofs.SightLemmas.{edge_keeps, seen_chosen}
 use Rattle.olap_summ.proofs.seeing.Seen.mark_edge.Goals as goal
 
 pub returns-clause-seen : goal.returns-clause-seen
@@ -16,3 +16,11 @@ returns-clause-seen c =
     (ap (λ n. slice_set (slice_set old.categories.items n true) c.from-3.result true) c.from-2.ensures
     ∙ ap (λ n. slice_set (slice_set old.categories.items child true) n true) c.from-3.ensures)
     (ap (λ n. slice_set old.edges.items n true) c.from.ensures) c.requires.seen
+
+pub returns-clause-kept : goal.returns-clause-kept
+returns-clause-kept c =
+    let old = c.args.self.now in
+    edge_keeps c.args.e.0 c.ends.result.0.0 c.ends.result.1.0 old _
+    (ap (λ n. slice_set (slice_set old.categories.items n true) c.from-3.result true) c.from-2.ensures
+    ∙ ap (λ n. slice_set (slice_set old.categories.items c.ends.result.0.0 true) n true) c.from-3.ensures)
+    (ap (λ n. slice_set old.edges.items n true) c.from.ensures)
