@@ -1,14 +1,13 @@
 -- What is known of a counterexample that was found: its root, and by way of what the root reaches the target.
-use Rattle.std.proofs.Common.{◌≡◌, ℕ, suc, List, [], ◌∷◌, ◌++◌, Bool, refl, ap, sym, subst, ◌∙◌, ◌↔◌, inl, inr}
-use Rattle.std.specs.Prelude.{Contains, flat_map}
+use Rattle.std.proofs.Common.{◌≡◌, ℕ, List, Bool, ap, sym, subst, ◌∙◌, ◌↔◌}
 use Rattle.olap_ast.proofs.SameAtoms.{candidates_too, frozen_too}
 use Rattle.olap_ast.proofs.SourceLemmas.{question_free, question_numberless}
-use Rattle.olap_ast.specs.Formula.{Formula, Formula.Via, Holds, equalities, equalities_of_terms}
-use Rattle.olap_ast.specs.Frozen.{AreCandidates, Candidates, Frozen, IsFrozen, chosen, name_in, root_place, thawed}
+use Rattle.olap_ast.specs.Formula.{Formula, Formula.Via}
+use Rattle.olap_ast.specs.Frozen.{AreCandidates, Candidates, Frozen, IsFrozen, chosen, name_in, root_place}
 use Rattle.olap_ast.specs.Schema.{Constraint, Schema}
-use Rattle.olap_ast.specs.Summarizable.{not_by_one, vias}
+use Rattle.olap_ast.specs.Summarizable.{not_by_one}
 use Rattle.olap_base.specs.Graph.{Graph, IsBottom, IsCategory, IsHierarchy}
-use Rattle.olap_base.specs.Instance.{ReachesVia, category_of, name_of}
+use Rattle.olap_base.specs.Instance.{ReachesVia}
 use Rattle.olap_base.specs.Views.{View}
 use Rattle.olap_frozen.specs.declared.founding.Found.{Found}
 use Rattle.olap_frozen.specs.LeastFound.{frozen_of}

@@ -86,8 +86,35 @@ fn counterexample(
     }
 }
 
-/// The pattern of a counterexample to summarizability from the mask's views. None exactly where the target is
+/// The pattern of a counterexample to summarizability from these sources, which differ. None exactly where the target is
 /// summarizable from them.
+fn pattern_of(
+    alloc: Global,
+    schema: &Schema,
+    store: &Store,
+    target: CatId,
+    sources: &[CatId],
+    room: &mut Room,
+) -> Result<Option<Vec<bool>>, Memory>
+    requires target { IsCategory (schema_of schema.now).graph target.0 }
+    requires sources { All (IsCategory (schema_of schema.now).graph) (numbers_of sources.now) }
+    requires differ { AllPairs ◌≢◌ (numbers_of sources.now) }
+    requires room { length room.old.rows.items ≡ category_count (schema_of schema.now).graph }
+    ensures none { IfOk result (λ o. IsNone o
+        ↔ IsSummarizable (schema_of schema.now) target.0 (numbers_of sources.now)) }
+    ensures some { IfOk result (λ o. IfSome o
+        (λ p. IsPattern (schema_of schema.now) (views_of store.now) target.0 p.items)) }
+    ensures count { IfOk result (λ o. IfSome o (λ p. length p.items ≡ length store.now.views)) }
+    ensures room { length room.new.rows.items ≡ category_count (schema_of schema.now).graph }
+{
+    let Some(found) = counterexample(alloc, schema, target, sources)? else {
+        return Ok(None);
+    };
+    let pattern = pattern(alloc, schema, store, target, &found, room)?;
+    Ok(Some(pattern))
+}
+
+/// The same from the mask's views.
 fn pattern_against(
     alloc: Global,
     schema: &Schema,
@@ -108,19 +135,45 @@ fn pattern_against(
     ensures room { length room.new.rows.items ≡ category_count (schema_of schema.now).graph }
 {
     let sources = sources(alloc, store, mask)?;
-    let Some(found) = counterexample(alloc, schema, target, &sources)? else {
-        return Ok(None);
-    };
-    let pattern = pattern(alloc, schema, store, target, &found, room)?;
-    Ok(Some(pattern))
+    pattern_of(alloc, schema, store, target, &sources, room)
+}
+
+/// The cheapest of the masks that may serve from whose views the target is summarizable. Each question that is answered
+/// by no refutes all masks that its counterexample does, so few are asked.
+fn cheapest_plan(
+    alloc: Global,
+    schema: &Schema,
+    store: &Store,
+    target: CatId,
+    may_serve: &mut List<bool>,
+    room: &mut Room,
+) -> Result<Plan, PlanRefusal>
+    requires target { IsCategory (schema_of schema.now).graph target.0 }
+    requires store { IsStore (views_of store.now) }
+    requires categories { All (λ v. IsCategory (schema_of schema.now).graph v.category) (views_of store.now) }
+    requires all { (m : ℕ) → m < 2 ^ length store.now.views → MayServe may_serve.old m }
+    requires count { length may_serve.old ≡ 2 ^ length store.now.views }
+    requires few { length may_serve.old ≤ 2 ^ most_views }
+    requires room { length room.old.rows.items ≡ category_count (schema_of schema.now).graph }
+    ensures plan { IfOk result (λ p. IsPlan (schema_of schema.now) (views_of store.now) target.0 p.mask) }
+    ensures rows { IfOk result (λ p. p.rows ≡ rows_in (views_of store.now) p.mask) }
+    ensures not_answerable { result ≡ Err refusal.NotAnswerable → (m : ℕ)
+        → Serves (schema_of schema.now) (views_of store.now) target.0 m → ⊥ }
+{
+    'questions: while let Some(plan) = cheapest(store, may_serve.items()) {
+        let refuted = pattern_against(alloc, schema, store, target, plan.mask, room)?;
+        let Some(pattern) = refuted else {
+            return Ok(plan);
+        };
+        refute(may_serve, plan.mask, &pattern);
+    }
+    Err(PlanRefusal::NotAnswerable)
 }
 
 /// The plan: of all choices of stored views from whose categories the target is summarizable, no view at all among
 /// them, the one with the fewest rows, and among these the one with the smallest mask.
 ///
 /// `NotAnswerable`: exactly where there is no such choice. `Memory`: out of memory.
-///
-/// Each question that is answered by no refutes all masks that its counterexample does, so few are asked.
 pub fn plan(
     alloc: Global,
     schema: &Schema,
@@ -138,12 +191,5 @@ pub fn plan(
 {
     let mut room = Room::new(alloc, schema.graph())?;
     let mut may_serve = all_masks(alloc, store)?;
-    'questions: while let Some(plan) = cheapest(store, may_serve.items()) {
-        let refuted = pattern_against(alloc, schema, store, target, plan.mask, &mut room)?;
-        let Some(pattern) = refuted else {
-            return Ok(plan);
-        };
-        refute(&mut may_serve, plan.mask, &pattern);
-    }
-    Err(PlanRefusal::NotAnswerable)
+    cheapest_plan(alloc, schema, store, target, &mut may_serve, &mut room)
 }

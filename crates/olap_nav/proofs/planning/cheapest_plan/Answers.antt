@@ -6,7 +6,7 @@ use Rattle.olap_nav.specs.Patterns.{ways_in}
 use Rattle.olap_nav.specs.Plans.{Serves, sources_in}
 use Rattle.olap_nav.proofs.ChoiceLemmas.{fewer, inside, none_left}
 use Rattle.olap_nav.proofs.PatternLemmas.{serves_by_one}
-use Rattle.olap_nav.proofs.planning.plan.Goals as goal
+use Rattle.olap_nav.proofs.planning.cheapest_plan.Goals as goal
 use Rattle.olap_schema.specs.Schemas.{schema_of}
 use Rattle.olap_view.specs.Seen.{view_of, views_of}
 

@@ -7,7 +7,7 @@ use Rattle.olap_nav.specs.Plans.{Serves}
 use Rattle.olap_nav.proofs.ChoiceLemmas.{marks}
 use Rattle.olap_schema.specs.Schemas.{schema_of}
 use Rattle.olap_view.specs.Seen.{views_of}
-use Rattle.olap_nav.proofs.planning.plan.Given as goal
+use Rattle.olap_nav.proofs.planning.cheapest_plan.Given as goal
 
 abbrev pub invariant-questions : goal.invariant-questions
 invariant-questions l = record {
