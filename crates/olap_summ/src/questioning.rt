@@ -43,11 +43,11 @@ impl Questions {
         if !are_distinct(sources) {
             return Err(SummRefusal::DuplicateSource);
         }
+        let kept = List::from_vec(Vec::from_slice(alloc, sources)?);
         let formula = not_by_one(alloc, target, sources)?;
-        let sources = List::from_vec(Vec::from_slice(alloc, sources)?);
         Ok(Questions {
             target,
-            sources,
+            sources: kept,
             formula,
         })
     }

@@ -8,7 +8,7 @@ use Rattle.olap_summ.proofs.questioning.Questions.of.Goals as goal
 
 pub returns-clause-made : goal.returns-clause-made
 returns-clause-made c =
-    let same = ap numbers_of (c.from_vec-sources.ensures ∙ c.in_ok-from_slice.ensures.items) in
+    let same = ap numbers_of (c.from_vec-kept.ensures ∙ c.in_ok-from_slice.ensures.items) in
     record {
       target = c.requires.target;
       sources = subst (All (IsCategory (schema_of c.args.schema.now).graph)) (sym same) c.requires.sources;
