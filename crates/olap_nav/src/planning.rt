@@ -86,8 +86,8 @@ fn counterexample(
     }
 }
 
-/// The pattern of a counterexample to summarizability from these sources, which differ. None exactly where the target is
-/// summarizable from them.
+/// The pattern of a counterexample to summarizability from these sources, which differ. None exactly where the target
+/// is summarizable from them.
 fn pattern_of(
     alloc: Global,
     schema: &Schema,

@@ -156,7 +156,8 @@ marks_stay (b ∷ bs) (suc i) (suc k) h = marks_stay bs i k h
 pub root_marked : (s : Schema) (c : ℕ) (old : Seen) (now : List Bool) → IsSeen s old → IsCategory s.graph c
     → now ≡ slice_set old.categories.items c true → Has now c
 root_marked s c old now is h e =
-    subst (λ xs. Has xs c) (sym e) (is_marked old.categories.items c (let l = is.category_places in omega (arith, h, l)))
+    subst (λ xs. Has xs c) (sym e)
+    (is_marked old.categories.items c (let l = is.category_places in omega (arith, h, l)))
 
 -- it loses none
 pub root_keeps : (c : ℕ) (old new : Seen) → new.categories.items ≡ slice_set old.categories.items c true
