@@ -4,6 +4,7 @@ mod LineLemmas
 mod StatementLemmas
 mod LongLines
 mod RepeatLemmas
+mod JointLemmas
 mod PairLemmas
 mod PrintLemmas
 mod StuckLemmas

@@ -1,8 +1,10 @@
 -- Tests over what the stored pairs stand for.
 --     found_pair, new_pair        a pair with a text that is there, or that is new
 --     found_number, new_number    the same of a number
-use Rattle.std.proofs.Common.{◌≡◌, ℕ, ℤ, ◌||◌, Bool, true, false, List, [], ◌∷◌, ◌++◌, map, refl, ap, ◌∙◌, sym}
-use Rattle.std.specs.List.{list_any}
+--     same_atoms, both_added      what is added of a formula is added of its atoms, one part after the other
+use Rattle.std.proofs.Common.{◌≡◌, ℕ, ℤ, ◌||◌, Bool, true, false, List, [], ◌∷◌, ◌++◌, map, refl, ap, subst, ◌∙◌, sym}
+use Rattle.std.specs.Prelude.{Result, Ok, Err, OnOk}
+use Rattle.std.specs.List.{fold, list_any}
 use Rattle.std.proofs.lemmas.List.{map-append}
 use Rattle.olap_ast.specs.Formula.{Comparison, Equality}
 use Rattle.olap_ast.specs.Valid.{is_same_number, is_same_pair, with_new, with_number, with_pair}
@@ -64,3 +66,23 @@ pub new_number : (ps qs vs : List NumberPair) (d : ℕ) (m n : ℤ) (r : Bool) (
 new_number ps qs vs d m n r p e f h k l t =
     rw t (lacks_it NumberPair Comparison number_pair_of is_same_number ps p (number_atom d n) l
     (sym (rw (e, f) at h) ∙ k))
+
+-- ---- the atoms of a formula
+
+-- those of one list and of another, one after the other
+fold_behind : {A B : Type 0} (f : B → A → B) (b : B) (us vs : List A) → fold f b (us ++ vs) ≡ fold f (fold f b us) vs
+fold_behind f b [] vs = refl
+fold_behind f b (u ∷ us) vs = fold_behind f (f b u) us vs
+
+-- what is added of some atoms is added of the same atoms
+pub same_atoms : {X A E : Type 0} (r : Result (Unit {0}) E) (f : List A → X → List A) (old new : List A) {us vs : List X}
+    → us ≡ vs → OnOk r (new ≡ fold f old us) → OnOk r (new ≡ fold f old vs)
+same_atoms r f old new e p = subst (λ ws. OnOk r (new ≡ fold f old ws)) e p
+
+-- the atoms of two parts are added one after the other
+pub both_added : {X A E : Type 0} (r : Result (Unit {0}) E) (f : List A → X → List A) (old mid new : List A)
+    (us vs all : List X) → us ++ vs ≡ all → mid ≡ fold f old us → OnOk r (new ≡ fold f mid vs)
+    → OnOk r (new ≡ fold f old all)
+both_added (Err e) f old mid new us vs all p q s = tt
+both_added (Ok u) f old mid new us vs all p q s =
+    s ∙ ap (λ m. fold f m vs) q ∙ sym (fold_behind f old us vs) ∙ ap (fold f old) p

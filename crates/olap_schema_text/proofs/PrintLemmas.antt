@@ -1,9 +1,12 @@
 -- Lines one after the other.
-use Rattle.std.proofs.Common.{◌≡◌, ◌<◌, ◌+◌, ◌++◌, ℕ, zero, suc, Bool, false, List, [], ◌∷◌, length, arith, ap, sym, ◌∙◌, ◌≤◌, refl, append_assoc, append-nil, drop, map, slice_index_or, codes}
+use Rattle.std.proofs.Common.{◌≡◌, ◌<◌, ◌+◌, ◌++◌, ℕ, zero, suc, Bool, false, List, [], ◌∷◌, length, arith, ap, sym, subst, ◌∙◌, ◌≤◌, refl, append_assoc, append-nil, drop, map, slice_index_or, codes}
+use Rattle.std.specs.Prelude.{Result, Ok, Err, OnOk, is_ok, if◌then◌else◌}
 use Rattle.olap_base.specs.Graph.{Graph, category_count, is_number}
 use Rattle.olap_graph.specs.Lookups.{name_of_category}
-use Rattle.olap_ast.specs.Schema.{Schema}
-use Rattle.olap_schema_text.specs.Printing.{category_text, category_texts, constraint_text, edge_text, ended_line, schema_text, text_of_lines}
+use Rattle.olap_ast.specs.Schema.{Constraint, Schema}
+use Rattle.olap_grammar.specs.Cutting.{joint_bytes}
+use Rattle.olap_grammar.specs.declared.tokens.Joint.{Joint}
+use Rattle.olap_schema_text.specs.Printing.{category_text, category_texts, constraint_text, edge_text, ended_line, formula_text, joined_text, schema_text, text_of_lines}
 
 -- past the end there is no line
 past_end : (xs : List (List ℕ)) (k : ℕ) → (k < length xs → ⊥) → slice_index_or xs k [] ≡ []
@@ -40,12 +43,15 @@ next_line f xs k d out new all l e n =
     rw (n, append_assoc) (ap (λ t. out ++ t) (sym (drop_first f xs k d l)) ∙ e)
 
 -- the lines of a schema are written one kind after the other
-pub all_lines : (s : Schema) (old first second third last : List ℕ) → first ≡ old ++ codes "schema 2\n" →
+pub all_lines : {E : Type 0} (s : Schema) (old first second third last : List ℕ) (r : Result (Unit {0}) E) →
+    first ≡ old ++ codes "schema 2\n" →
     second ≡ first ++ text_of_lines (category_texts s.graph.names s.graph.numbers) →
     third ≡ second ++ text_of_lines (map (edge_text s.graph) s.graph.edges) →
-    last ≡ third ++ text_of_lines (map (constraint_text s.graph) s.constraints) → last ≡ old ++ schema_text s
+    OnOk r (last ≡ third ++ text_of_lines (map (constraint_text s.graph) s.constraints)) →
+    OnOk r (last ≡ old ++ schema_text s)
 unfolding text_of_lines
-all_lines s old first second third last a b c d =
+all_lines s old first second third last (Err e) a b c d = tt
+all_lines s old first second third last (Ok u) a b c d =
     rw (
       d,
       c,
@@ -111,7 +117,36 @@ pub declared_kind : (g : Graph) (k : ℕ) → is_number g (k + 1) ≡ slice_inde
 declared_kind g k = let e : k + 1 ≡ suc k = omega arith in rw e refl
 
 -- three texts are written one after the other
-pub three_texts : (x y z given old first second last : List ℕ) → first ≡ old ++ x → given ≡ y
-    → second ≡ first ++ given →
-    last ≡ second ++ z → last ≡ old ++ (x ++ (y ++ z))
-three_texts x y z given old first second last a e b c = rw (c, b, a, e) (simp append_assoc)
+pub three_texts : {E : Type 0} (x y z given old first second last : List ℕ) (r : Result (Unit {0}) E) →
+    first ≡ old ++ x → given ≡ y → second ≡ first ++ given → last ≡ (if is_ok r then second ++ z else second) →
+    OnOk r (last ≡ old ++ (x ++ (y ++ z)))
+three_texts x y z given old first second last (Err k) a e b c = tt
+three_texts x y z given old first second last (Ok u) a e b c = rw (c, b, a, e) (simp append_assoc)
+
+-- a constraint's line is written
+pub constraint_line : {E : Type 0} (g : Graph) (k : Constraint) (old first second last : List ℕ)
+    (r : Result (Unit {0}) E) → first ≡ old ++ (codes "constraint " ++ (name_of_category g k.root ++ 58 ∷ 32 ∷ [])) →
+    second ≡ first ++ formula_text g k.root k.formula → last ≡ (if is_ok r then second ++ 10 ∷ [] else second) →
+    OnOk r (last ≡ old ++ ended_line (constraint_text g k))
+constraint_line g k old first second last (Err e) a b c = tt
+constraint_line g k old first second last (Ok u) a b c = rw (c, b, a) (simp append_assoc)
+
+-- two texts are written with a connective between them, in brackets
+pub joined_line : {E : Type 0} (j : Joint) (x y old first second third fourth last : List ℕ)
+    (r : Result (Unit {0}) E) → first ≡ old ++ 40 ∷ [] → second ≡ first ++ x →
+    third ≡ second ++ 32 ∷ (joint_bytes j ++ 32 ∷ []) → fourth ≡ third ++ y →
+    last ≡ (if is_ok r then fourth ++ 41 ∷ [] else fourth) → OnOk r (last ≡ old ++ joined_text j x y)
+joined_line j x y old first second third fourth last (Err e) a b c d f = tt
+joined_line j x y old first second third fourth last (Ok u) a b c d f = rw (f, d, c, b, a) (simp append_assoc)
+
+-- a text is written behind another one
+pub text_behind : {A E : Type 0} (r : Result A E) (x y all old mid new : List ℕ) → x ++ y ≡ all → mid ≡ old ++ x →
+    OnOk r (new ≡ mid ++ y) → OnOk r (new ≡ old ++ all)
+text_behind (Err e) x y all old mid new p q s = tt
+text_behind (Ok u) x y all old mid new p q s =
+    s ∙ ap (λ t. t ++ y) q ∙ append_assoc old x y ∙ ap (λ t. old ++ t) p
+
+-- what is written of a text is written of the same text
+pub same_text : {A E : Type 0} (r : Result A E) (old new : List ℕ) {x y : List ℕ} → x ≡ y → OnOk r (new ≡ old ++ x) →
+    OnOk r (new ≡ old ++ y)
+same_text r old new e p = subst (λ t. OnOk r (new ≡ old ++ t)) e p

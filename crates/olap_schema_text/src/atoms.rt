@@ -5,7 +5,7 @@ ghost use Rattle.olap_graph.specs.Lookups.{category_named};
 ghost use Rattle.olap_schema_text.specs.Atoms.{asks_number as asks_number_of, atom_fault, compares_numbers as compares_numbers_of, has_edge, has_numbers as has_numbers_of, is_known as is_known_of, is_no_atom as is_no_atom_of, is_repeated as is_repeated_of, kind_fault, lacks_edge as lacks_edge_of, named_fault, stands_in as stands_in_of, token_fault, word_fault};
 ghost use Rattle.olap_schema_text.specs.Reading.{Finds};
 ghost use Rattle.std.specs.List.{list_all};
-ghost use Rattle.std.specs.Prelude.{◌≡◌, ◌<◌, [], IfOk, drop, false, length, true};
+ghost use Rattle.std.specs.Prelude.{◌≡◌, [], IfOk, false, true};
 
 use crate::statements::is;
 use crate::{FormulaRefusal, SchemaKind};
@@ -31,13 +31,6 @@ fn is_known(known: &Known, name: &[u8]) -> bool
     }
 }
 
-/// Whether each name is a category's.
-fn are_known(known: &Known, parts: &[Text]) -> bool
-    ensures { result ≡ list_all (is_known_of (graph_seen known.now)) parts.now }
-{
-    parts.iter().all(|p| is_known(known, p.bytes()))
-}
-
 /// Whether the name is one of these.
 #[tactic(auto, unfolding(crate::specs::Atoms::stands_in))]
 fn stands_in(names: &[Text], name: &[u8]) -> bool
@@ -46,13 +39,13 @@ fn stands_in(names: &[Text], name: &[u8]) -> bool
     names.iter().any(|n| is(n.bytes(), name))
 }
 
-/// Whether each name that is left of a path is a category's.
-fn is_path_known(known: &Known, path: Option<&[u8]>) -> bool
-    ensures { result ≡ list_all (is_known_of (graph_seen known.now)) (pieces_behind 95 path.entry) }
+/// Whether each name between these marks is a category's.
+fn are_known(known: &Known, mark: u8, word: &[u8]) -> bool
+    ensures { result ≡ list_all (is_known_of (graph_seen known.now)) (pieces_of mark word.now) }
 {
-    let mut left = path;
+    let mut left = Some(word);
     'names: while let Some(text) = left {
-        let (name, others) = first_piece(b'_', text);
+        let (name, others) = first_piece(mark, text);
         if !is_known(known, name) {
             return false;
         }
@@ -101,15 +94,15 @@ fn joins(known: &Known, child: &[u8], parent: &[u8]) -> bool
     }
 }
 
-/// Whether an edge is missing between one name and the next.
+/// Whether an edge is missing between one name of a path and the next, from the first on to those behind it.
 #[tactic(auto, unfolding(crate::specs::Atoms::lacks_edge))]
-fn lacks_edge(known: &Known, first: &[u8], parts: &[Text]) -> bool
-    ensures { result ≡ lacks_edge_of (graph_seen known.now) first.now parts.now }
+fn lacks_edge(known: &Known, first: &[u8], names: Option<&[u8]>) -> bool
+    ensures { result ≡ lacks_edge_of (graph_seen known.now) first.now (pieces_behind 95 names.entry) }
 {
     let mut child = first;
-    let mut left = parts;
-    'parts: while let Some((part, others)) = left.split_first() {
-        let parent = part.bytes();
+    let mut left = names;
+    'names: while let Some(text) = left {
+        let (parent, others) = first_piece(b'_', text);
         if !joins(known, child, parent) {
             return true;
         }
@@ -120,25 +113,17 @@ fn lacks_edge(known: &Known, first: &[u8], parts: &[Text]) -> bool
 }
 
 /// The names of an atom that is no path, the root first: known, and from this root.
-fn check_names(known: &Known, root: &[u8], parts: &[Text]) -> Result<(), FormulaRefusal>
-    requires { 0 < length parts.now }
-    ensures { Finds result (named_fault (graph_seen known.now) root.now false parts.now) }
+fn check_names(known: &Known, root: &[u8], word: &[u8]) -> Result<(), FormulaRefusal>
+    ensures { Finds result (named_fault (graph_seen known.now) root.now false (pieces_of 46 word.now)) }
 {
-    if !are_known(known, parts) {
+    if !are_known(known, b'.', word) {
         return Err(FormulaRefusal::Fault(SchemaKind::UnknownCategory));
     }
-    if !is(parts[0].bytes(), root) {
+    let (first, _) = first_piece(b'.', word);
+    if !is(first, root) {
         return Err(FormulaRefusal::Fault(SchemaKind::MixedRoot));
     }
     Ok(())
-}
-
-/// Whether an edge is missing between one name of a path and the next.
-fn is_path_broken(alloc: Global, known: &Known, root: &[u8], path: &[u8]) -> Result<bool, Memory>
-    ensures { IfOk result (λ b. b ≡ lacks_edge_of (graph_seen known.now) root.now (drop 1 (pieces_of 95 path.now))) }
-{
-    let names = pieces(alloc, b'_', path)?;
-    Ok(lacks_edge(known, root, &names[1..]))
 }
 
 /// The names of a path, the root first: known, from this root, each once and linked. They are listed only once they are
@@ -146,17 +131,17 @@ fn is_path_broken(alloc: Global, known: &Known, root: &[u8], path: &[u8]) -> Res
 fn check_path(alloc: Global, known: &Known, root: &[u8], path: &[u8]) -> Result<(), FormulaRefusal>
     ensures { Finds result (named_fault (graph_seen known.now) root.now true (pieces_of 95 path.now)) }
 {
-    if !is_path_known(known, Some(path)) {
+    if !are_known(known, b'_', path) {
         return Err(FormulaRefusal::Fault(SchemaKind::UnknownCategory));
     }
-    let (first, _) = first_piece(b'_', path);
+    let (first, others) = first_piece(b'_', path);
     if !is(first, root) {
         return Err(FormulaRefusal::Fault(SchemaKind::MixedRoot));
     }
     if is_path_repeated(alloc, path)? {
         return Err(FormulaRefusal::Fault(SchemaKind::RepeatedCategory));
     }
-    if is_path_broken(alloc, known, root, path)? {
+    if lacks_edge(known, root, others) {
         return Err(FormulaRefusal::Fault(SchemaKind::NotAnEdge));
     }
     Ok(())
@@ -173,8 +158,7 @@ fn check_word(alloc: Global, known: &Known, root: &[u8], word: &[u8]) -> Result<
     if marks(b'_', word) > 0 {
         return check_path(alloc, known, root, word);
     }
-    let parts = pieces(alloc, b'.', word)?;
-    check_names(known, root, &parts)
+    check_names(known, root, word)
 }
 
 /// Whether a word is compared with a number, or else with a string, if it is compared: the tokens behind it say.

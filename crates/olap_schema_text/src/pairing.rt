@@ -102,37 +102,24 @@ pub(crate) fn add_pairs(
         ≡ fold with_number (map number_pair_of numbers.old.items) (comparisons (formula_of f.now))) }
 {
     match f {
-        Formula::True | Formula::False => Ok(()),
-        Formula::Path(_) | Formula::Reach(_) | Formula::Via(_, _) => Ok(()),
+        Formula::True
+        | Formula::False
+        | Formula::Path(_)
+        | Formula::Reach(_)
+        | Formula::Via(_, _) => Ok(()),
         Formula::Equals(d, text) => add_pair(alloc, pairs, *d, text),
         Formula::Compare(d, _, n) => add_number(numbers, *d, *n),
-        Formula::Not(f) => add_pairs(alloc, pairs, numbers, f),
-        Formula::And(f, g) => add_both(alloc, pairs, numbers, f, g),
-        Formula::Or(f, g) => add_both(alloc, pairs, numbers, f, g),
-        Formula::Implies(f, g) => add_both(alloc, pairs, numbers, f, g),
-        Formula::Iff(f, g) => add_both(alloc, pairs, numbers, f, g),
-        Formula::Xor(f, g) => add_both(alloc, pairs, numbers, f, g),
+        Formula::Not(g) => add_pairs(alloc, pairs, numbers, g),
+        Formula::And(g, h)
+        | Formula::Or(g, h)
+        | Formula::Implies(g, h)
+        | Formula::Iff(g, h)
+        | Formula::Xor(g, h) => {
+            add_pairs(alloc, pairs, numbers, g)?;
+            add_pairs(alloc, pairs, numbers, h)
+        }
         Formula::One(terms) => add_of_terms(alloc, pairs, numbers, terms),
     }
-}
-
-/// The pairs of two formulas.
-#[cycle(pairs)]
-fn add_both(
-    alloc: Global,
-    pairs: &mut Vec<Pair>,
-    numbers: &mut Vec<NumberPair>,
-    f: &Formula,
-    g: &Formula,
-) -> Result<(), Memory>
-    ensures texts { let atoms = equalities (formula_of f.now) ++ equalities (formula_of g.now) in
-        OnOk result (map pair_of pairs.new.items ≡ fold with_pair (map pair_of pairs.old.items) atoms) }
-    ensures numbers { let atoms = comparisons (formula_of f.now) ++ comparisons (formula_of g.now) in
-        OnOk result (map number_pair_of numbers.new.items
-        ≡ fold with_number (map number_pair_of numbers.old.items) atoms) }
-{
-    add_pairs(alloc, pairs, numbers, f)?;
-    add_pairs(alloc, pairs, numbers, g)
 }
 
 /// The pairs of a list of formulas.

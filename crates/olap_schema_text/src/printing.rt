@@ -3,7 +3,9 @@ ghost use Rattle.olap_ast.specs.Trees.{constraint_of, formula_of, op_of, terms_o
 ghost use Rattle.olap_base.specs.Graph.{Edge, IsCategory, is_number};
 ghost use Rattle.olap_graph.specs.Lookups.{name_of_category};
 ghost use Rattle.olap_grammar.specs.Cutting.{joint_bytes, mark_bytes};
-ghost use Rattle.olap_grammar.specs.Grammar.{comparing};
+ghost use Rattle.olap_ast.specs.Formula.{Formula as Meaning};
+ghost use Rattle.olap_grammar.specs.Grammar.{comparing, join};
+ghost use Rattle.olap_grammar.specs.declared.tokens.Joint.{Joint as Joints};
 ghost use Rattle.olap_grammar.specs.Quoting.{quoted};
 ghost use Rattle.olap_numerals.specs.Numerals.{canonical};
 ghost use Rattle.olap_schema_text.specs.Printing.{atom_word, category_text, category_texts, compared_word, constraint_text, edge_text, ended_line, formula_text, joined_text, kind_text, list_text, names_after, rest_text, schema_text, text_of_lines};
@@ -154,6 +156,19 @@ fn push_joint(out: &mut Vec<u8>, joint: Joint) -> Result<(), AllocError>
     }
 }
 
+/// The connective of a formula that joins two.
+fn joint_of(f: &Formula) -> Joint
+    ensures { (j : Joints) (x y : Meaning) → formula_of f.now ≡ join j x y → j ≡ result }
+{
+    match f {
+        Formula::Iff(_, _) => Joint::Iff,
+        Formula::Implies(_, _) => Joint::Implies,
+        Formula::Xor(_, _) => Joint::Xor,
+        Formula::Or(_, _) => Joint::Or,
+        _ => Joint::And,
+    }
+}
+
 /// Appends a formula. It calls itself as deep as the formula is.
 #[cycle(push_formula)]
 fn push_formula(
@@ -172,15 +187,15 @@ fn push_formula(
         Formula::Via(d, e) => push_atom(out, graph, root, b'.', &[*d, *e]),
         Formula::Equals(d, text) => push_equality(out, graph, root, *d, text),
         Formula::Compare(d, op, n) => push_comparison(out, graph, root, *d, *op, *n),
-        Formula::Not(f) => {
+        Formula::Not(g) => {
             out.extend_from_slice(b"!")?;
-            push_formula(out, graph, root, f)
+            push_formula(out, graph, root, g)
         }
-        Formula::And(f, g) => push_joined(out, graph, root, Joint::And, f, g),
-        Formula::Or(f, g) => push_joined(out, graph, root, Joint::Or, f, g),
-        Formula::Implies(f, g) => push_joined(out, graph, root, Joint::Implies, f, g),
-        Formula::Iff(f, g) => push_joined(out, graph, root, Joint::Iff, f, g),
-        Formula::Xor(f, g) => push_joined(out, graph, root, Joint::Xor, f, g),
+        Formula::And(g, h)
+        | Formula::Or(g, h)
+        | Formula::Implies(g, h)
+        | Formula::Iff(g, h)
+        | Formula::Xor(g, h) => push_joined(out, graph, root, joint_of(f), g, h),
         Formula::One(terms) => push_one(out, graph, root, terms),
     }
 }
@@ -214,8 +229,7 @@ fn push_one(out: &mut Vec<u8>, graph: &Graph, root: CatId, terms: &Terms) -> Res
 {
     out.extend_from_slice(b"one(")?;
     push_list(out, graph, root, terms)?;
-    out.push(b')')?;
-    Ok(())
+    out.extend_from_slice(b")")
 }
 
 /// The parts of a list.
@@ -326,8 +340,7 @@ fn push_root(out: &mut Vec<u8>, graph: &Graph, root: CatId) -> Result<(), AllocE
 {
     out.extend_from_slice(b"constraint ")?;
     out.extend_from_slice(name(graph, root))?;
-    out.extend_from_slice(b": ")?;
-    Ok(())
+    out.extend_from_slice(b": ")
 }
 
 /// The line of a constraint.
@@ -374,8 +387,7 @@ pub(crate) fn push_schema(
     out.extend_from_slice(b"schema 2\n")?;
     push_categories(out, graph)?;
     push_edges(out, graph)?;
-    push_constraints(out, graph, constraints)?;
-    Ok(())
+    push_constraints(out, graph, constraints)
 }
 
 /// The canonical text of a schema: a line for the second version, each category, each edge and each constraint, in
@@ -388,8 +400,7 @@ pub fn print_schema(alloc: Global, schema: &Schema) -> Result<Text, Memory>
 {
     let mut out = Vec::new(alloc);
     push_schema(&mut out, schema.graph(), schema.constraints())?;
-    let text = Text::from_bytes(alloc, &out)?;
-    Ok(text)
+    Ok(Text::from_vec(out))
 }
 
 /// The canonical text of a valid schema whose constants are text stands for that schema.

@@ -10,9 +10,6 @@ use Rattle.olap_schema_text.proofs.pairing.+pairs.Given as goal
 abbrev pub decreases-add_pairs : goal.decreases-add_pairs
 decreases-add_pairs l = 2 * node_count (formula_of l.f.now)
 
-abbrev pub decreases-add_both : goal.decreases-add_both
-decreases-add_both l = 2 * (node_count (formula_of l.f.now) + node_count (formula_of l.g.now)) + 1
-
 abbrev pub decreases-add_of_terms : goal.decreases-add_of_terms
 decreases-add_of_terms l = 2 * node_count_of_terms (terms_of l.terms.now) + 1
 

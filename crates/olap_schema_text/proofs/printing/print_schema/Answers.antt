@@ -6,6 +6,6 @@ use Rattle.olap_schema_text.proofs.printing.print_schema.Goals as goal
 
 pub returns-clause-reads : goal.returns-clause-reads
 returns-clause-reads c =
-    let text : c.in_ok-text.text ≡ schema_text (schema_of c.args.schema.now) = search rules in
-    read_back (schema_of c.args.schema.now) c.in_ok-text.text text
+    let text : c.from_vec.result ≡ schema_text (schema_of c.args.schema.now) = search rules in
+    read_back (schema_of c.args.schema.now) c.from_vec.result text
     (record { valid = c.constraints.ensures.valid; texts = c.constraints.ensures.texts })
