@@ -2,7 +2,7 @@
 --     many_nodes, too_deep, bad_form    the fault of the formula, by what was counted
 --     unversioned, no_constraint, no_formula    the fault of the line
 --     no_question    the fault of the question
-use Rattle.std.proofs.Common.{◌≡◌, ◌≤◌, ◌<◌, ◌+◌, ◌++◌, ◌∷◌, ◌∙◌, true, false, cond, ℕ, suc, List, length, nat_lt, Option, None, Some, Err, refl, sym, ap, subst, arith}
+use Rattle.std.proofs.Common.{◌≡◌, ◌≤◌, ◌<◌, ◌+◌, ◌++◌, ◌∷◌, ◌∙◌, true, false, ℕ, suc, List, length, nat_lt, Option, None, Some, Err, refl, sym, ap, subst, arith}
 use Rattle.std.specs.Borrow.{Bor}
 use Rattle.std.specs.Prelude.{is_some, unwrap_or}
 use Rattle.std.proofs.lemmas.Bool.{le-ltb, lt-ltb}

@@ -75,8 +75,8 @@ fold_behind f b [] vs = refl
 fold_behind f b (u ∷ us) vs = fold_behind f (f b u) us vs
 
 -- what is added of some atoms is added of the same atoms
-pub same_atoms : {X A E : Type 0} (r : Result (Unit {0}) E) (f : List A → X → List A) (old new : List A) {us vs : List X}
-    → us ≡ vs → OnOk r (new ≡ fold f old us) → OnOk r (new ≡ fold f old vs)
+pub same_atoms : {X A E : Type 0} (r : Result (Unit {0}) E) (f : List A → X → List A) (old new : List A)
+    {us vs : List X} → us ≡ vs → OnOk r (new ≡ fold f old us) → OnOk r (new ≡ fold f old vs)
 same_atoms r f old new e p = subst (λ ws. OnOk r (new ≡ fold f old ws)) e p
 
 -- the atoms of two parts are added one after the other

@@ -42,6 +42,15 @@ pub next_line : {A : Type 0} (f : A → List ℕ) (xs : List A) (k : ℕ) (d : A
 next_line f xs k d out new all l e n =
     rw (n, append_assoc) (ap (λ t. out ++ t) (sym (drop_first f xs k d l)) ∙ e)
 
+-- the same of the line that comes first
+pub next_text : (line : List ℕ) (lines : List (List ℕ)) (out new all : List ℕ) →
+    out ++ text_of_lines (line ∷ lines) ≡ all → new ≡ out ++ ended_line line → new ++ text_of_lines lines ≡ all
+unfolding text_of_lines
+next_text line lines out new all e n =
+    let same : (out ++ ended_line line) ++ text_of_lines lines ≡ out ++ (line ++ 10 ∷ text_of_lines lines) =
+    simp append_assoc in
+    rw n (same ∙ e)
+
 -- the lines of a schema are written one kind after the other
 pub all_lines : {E : Type 0} (s : Schema) (old first second third last : List ℕ) (r : Result (Unit {0}) E) →
     first ≡ old ++ codes "schema 2\n" →

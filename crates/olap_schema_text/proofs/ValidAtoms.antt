@@ -22,7 +22,7 @@ use Rattle.olap_numerals.proofs.NumeralLemmas.{spelled_small}
 use Rattle.olap_grammar.specs.Words.{compared_of, comparison_in, comparison_of, equal_of, equality_of, id_of, is_number_token, path_of, pieces_of, plain_of, reach_of}
 use Rattle.olap_grammar.specs.declared.tokens.Version.{Version}
 use Rattle.olap_grammar.specs.declared.tokens.Version.TheVariants as version
-use Rattle.olap_schema_text.specs.Atoms.{compares_numbers, has_numbers, is_known, is_no_atom, is_path, is_repeated, kind_fault, lacks_edge, named_fault, names_in, word_fault}
+use Rattle.olap_schema_text.specs.Atoms.{has_numbers, is_known, is_no_atom, is_path, is_repeated, kind_fault, lacks_edge, named_fault, names_in, word_fault}
 use Rattle.olap_schema_text.specs.declared.kinds.SchemaKind.{SchemaKind}
 use Rattle.olap_schema_text.proofs.NumberWords.{no_number}
 use Rattle.olap_schema_text.proofs.ValidNames.{all_known, differ, first_holds, follows, id_is, known_category, known_is, not_false, one_piece, same_bytes}

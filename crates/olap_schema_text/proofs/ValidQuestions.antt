@@ -2,7 +2,7 @@
 --     question_is_valid       the law
 --     asked_is_question       in the words of the code: it is one of the schema, and keeps the limits
 --     asked_has_texts         its constants are UTF-8 without control characters
-use Rattle.std.proofs.Common.{◌≡◌, ℕ, false, List, Option, Some, None, Result, Ok, Err, length, nat_lt, refl, sym, subst, arith}
+use Rattle.std.proofs.Common.{◌≡◌, ℕ, false, List, Option, Some, None, Result, Ok, Err, nat_lt, refl, sym, subst, arith}
 use Rattle.std.specs.Prelude.{IfOk}
 use Rattle.std.specs.List.{list_any}
 use Rattle.std.proofs.lemmas.Bool.{ltb-false}

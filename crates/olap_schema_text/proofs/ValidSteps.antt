@@ -4,7 +4,7 @@
 --     edge_kept          an edge does
 --     constraint_kept    a constraint does
 use Rattle.std.proofs.Common.{◌≡◌, ◌≢◌, ◌+◌, ◌<◌, ◌≤◌, ℕ, zero, suc, Bool, true, false, cond, List, [], ◌∷◌, ◌++◌, Option, Some, None, Ok, Err, length, fold, is_some, append-nil, refl, sym, ap, ◌∙◌, arith, subst, inl, inr}
-use Rattle.std.specs.Prelude.{Contains, flat_map, nat_le, nat_lt, slice_index_or, sum_by}
+use Rattle.std.specs.Prelude.{Contains, flat_map, nat_le, sum_by}
 use Rattle.std.proofs.lemmas.Bool.{eqb-false, leb-false, leb-true, ltb-false}
 use Rattle.std.proofs.lemmas.List.{get_or_append_left, length_push}
 use Rattle.std.proofs.lemmas.List.Concat.{flat_map-append}

@@ -167,9 +167,7 @@ fn asks_number(behind: &[Token]) -> Option<bool>
 {
     match behind {
         [Token::Mark(Mark::Equal), Token::Quoted(_), ..] => Some(false),
-        [Token::Mark(Mark::Equal), ..] => Some(true),
-        [Token::Mark(Mark::Less), ..] => Some(true),
-        [Token::Mark(Mark::AtMost), ..] => Some(true),
+        [Token::Mark(Mark::Equal | Mark::Less | Mark::AtMost), ..] => Some(true),
         _ => None,
     }
 }

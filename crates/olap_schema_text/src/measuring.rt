@@ -123,7 +123,7 @@ fn is_long(token: &Token) -> bool
 pub(crate) fn has_long_text(tokens: &[Token]) -> bool
     ensures { result ≡ list_any is_long_of tokens.now }
 {
-    tokens.iter().any(|t| is_long(t))
+    tokens.iter().any(is_long)
 }
 
 /// Whether the bytes are a number, and no numeral.
@@ -149,5 +149,5 @@ fn is_bad_number(token: &Token) -> bool
 pub(crate) fn has_bad_number(tokens: &[Token]) -> bool
     ensures { result ≡ list_any is_bad_number_of tokens.now }
 {
-    tokens.iter().any(|t| is_bad_number(t))
+    tokens.iter().any(is_bad_number)
 }

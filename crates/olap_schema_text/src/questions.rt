@@ -115,15 +115,19 @@ fn read_tokens(
     requires { IsDeclared (schema_of schema.now).graph root.0 }
     ensures { ReadsFormula result (question_cut (schema_of schema.now) root.0 (Some tokens.now)) }
 {
-    let f = read_form(
+    match read_form(
         alloc,
         &Known::Whole(schema.graph()),
         Version::Two,
         0,
         tokens,
-    )?;
-    check_question(alloc, schema, root, tokens, &f)?;
-    Ok(f)
+    ) {
+        Ok(f) => match check_question(alloc, schema, root, tokens, &f) {
+            Ok(()) => Ok(f),
+            Err(e) => Err(e),
+        },
+        Err(e) => Err(e),
+    }
 }
 
 /// The formula of the first tokens of a text.

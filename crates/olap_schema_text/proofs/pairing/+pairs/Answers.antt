@@ -59,7 +59,8 @@ add_pairs-returns-in_ok-add_pairs-in-And-clause-texts t c =
     ++ equalities (formula_of (sym c.deref-in-And-2.ensures i)))))
     c.in_ok-add_pairs-in-And.ensures.texts c.add_pairs-in-And-2.ensures.texts
 
-pub add_pairs-returns-in_ok-add_pairs-in-And-clause-numbers : goal.add_pairs-returns-in_ok-add_pairs-in-And-clause-numbers
+pub add_pairs-returns-in_ok-add_pairs-in-And-clause-numbers :
+    goal.add_pairs-returns-in_ok-add_pairs-in-And-clause-numbers
 add_pairs-returns-in_ok-add_pairs-in-And-clause-numbers t c =
     let x = formula_of c.in-And.g.value in
     let y = formula_of c.in-And.h.value in
