@@ -10,7 +10,7 @@ use Rattle.olap_base.specs.Deciding.{contains_cases}
 use Rattle.olap_base.specs.Instance.{Instance, category_of, parents_of}
 use Rattle.olap_base.specs.declared.ids.MemberId.{MemberId}
 use Rattle.olap_graph.proofs.MarkLemmas.{take_cases, take_before, take_last}
-use Rattle.olap_legal.proofs.ParentLemmas.{IsParentAt, places, take_read}
+use Rattle.olap_legal.proofs.ParentLemmas.{IsParentAt, parent_member, places, take_read}
 use Rattle.std.proofs.lemmas.List.{get_or_default}
 use Rattle.olap_base.proofs.ListLemmas.{Contains-nil}
 use Rattle.olap_legal.specs.Rows.{none, IsBounded, IsIn, IsRow, free_count, IsVisit, Meets, VisitGives}
@@ -182,6 +182,13 @@ pub visit_as : {i : Instance} {ps before row after old list new : List ℕ} → 
     → IsVisit i ps before row old list → IsVisit i ps before after old new
 visit_as {i} {ps} {before} {row} {after} {old} {list} {new} e f v =
     subst (λ r. IsVisit i ps before r old new) (sym e) (subst (λ l. IsVisit i ps before row old l) (sym f) v)
+
+-- a parent's category has a place
+pub visit_room : {i : Instance} {z k n : ℕ} {m : MemberId} {before row old list : List ℕ} → IsParentAt i z k m
+    → IsBounded i n → IsVisit i (take k (parents_of i z)) before row old list → length before ≡ n → (d : ℕ)
+    → d ≡ category_of i m.0 → d < length row
+visit_room {m = m} at bounded v size d d_is =
+    let c = bounded.categories m.0 (parent_member at) in omega (arith, v.same_length, size, c, d_is)
 
 -- what the code does at the k-th parent, whose place d has q
 module _ {i : Instance} {z k n : ℕ} {m : MemberId} (at : IsParentAt i z k m) (bounded : IsBounded i n)

@@ -1,6 +1,6 @@
 -- A row more, or the first member without one.
-use Rattle.std.proofs.Common.{◌<◌, length, sym, subst, ◌∙◌, arith}
-use Rattle.olap_legal.specs.Rows.{IsRise}
+use Rattle.std.proofs.Common.{◌<◌, length, ap, sym, subst, ◌∙◌, arith}
+use Rattle.olap_legal.specs.Rows.{IsBounded, IsRise}
 use Rattle.olap_legal.proofs.JoiningLemmas.{row_fits}
 use Rattle.olap_legal.proofs.TableLemmas.{table_start, table_step, first_split}
 use Rattle.olap_legal.proofs.ancestors.table_by_walks.Goals as goal
@@ -10,6 +10,24 @@ members-init c = record {
   table = table_start c.args.instance.now c.args.categories _ c.in_ok-table.ensures.laid;
   row = c.in_ok-row.ensures.len ∙ c.from.ensures;
 }
+
+pub rise-requires-clause-x : goal.rise-requires-clause-x
+rise-requires-clause-x c = let count = c.members-x-end.ensures.count in omega (arith, count, c.members-test.true)
+
+pub rise-requires-clause-bounded : goal.rise-requires-clause-bounded
+rise-requires-clause-bounded c =
+    subst (λ k. IsBounded c.args.instance.now k) (sym c.members.invariant.row) c.requires.bounded
+
+pub put-requires-clause-x : goal.put-requires-clause-x
+put-requires-clause-x c = let count = c.members-x-end.ensures.count in omega (arith, count, c.members-test.true)
+
+pub put-requires-clause-laid : goal.put-requires-clause-laid
+put-requires-clause-laid c = c.members.invariant.table.laid
+
+pub put-requires-clause-row : goal.put-requires-clause-row
+put-requires-clause-row c =
+    let whole = c.in_ok-rise.ensures.whole c.if-not-branch.false in
+    ap length c.deref.ensures.value ∙ whole.same_length ∙ c.members.invariant.row
 
 pub put-requires-clause-fits : goal.put-requires-clause-fits
 put-requires-clause-fits c =

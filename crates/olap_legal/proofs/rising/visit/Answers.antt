@@ -1,7 +1,7 @@
 -- A parent's place is free, has it, or has another member.
 use Rattle.std.proofs.Common.{◌≡◌, length, ap, ◌∙◌, arith}
 use Rattle.olap_legal.proofs.ParentLemmas.{parent_at, parent_member}
-use Rattle.olap_legal.proofs.RisingLemmas.{visit_as, visit_none, visit_pushed, visit_skipped, visit_met, visited_all, met_one}
+use Rattle.olap_legal.proofs.RisingLemmas.{visit_as, visit_none, visit_room, visit_pushed, visit_skipped, visit_met, visited_all, met_one}
 use Rattle.olap_legal.proofs.rising.visit.Goals as goal
 use Rattle.olap_legal.proofs.rising.visit.Goals.{then-q+in_ok-push, else-q+else-q-p}
 
@@ -14,6 +14,32 @@ category-requires c =
     let i = c.args.instance.now in
     parent_member
     (parent_at i c.args.z ids.result.now c.parents.p-index ids.ensures.list ids.ensures.places c.parents-test.true)
+
+pub index-q-requires : goal.index-q-requires
+index-q-requires c =
+    let ids = c.parents-p-items in
+    let at = parent_at c.args.instance.now c.args.z ids.result.now c.parents.p-index ids.ensures.list ids.ensures.places
+    c.parents-test.true in
+    let size : length c.args.row.now.items ≡ c.args.row.now.len = let o = c.args.row.now.ok in omega arith in
+    let now = c.parents.row.ok in
+    omega (
+      arith,
+      visit_room at c.requires.bounded c.parents.invariant size c.from-d.result
+          (c.from-d.ensures ∙ c.category.ensures),
+    )
+
+pub index_mut-requires : goal.index_mut-requires
+index_mut-requires c =
+    let ids = c.parents-p-items in
+    let at = parent_at c.args.instance.now c.args.z ids.result.now c.parents.p-index ids.ensures.list ids.ensures.places
+    c.parents-test.true in
+    let size : length c.args.row.now.items ≡ c.args.row.now.len = let o = c.args.row.now.ok in omega arith in
+    let now = c.parents.row.ok in
+    omega (
+      arith,
+      visit_room at c.requires.bounded c.parents.invariant size c.from-d.result
+          (c.from-d.ensures ∙ c.category.ensures),
+    )
 
 pub parents-preserved : goal.parents-preserved
 parents-preserved c =
