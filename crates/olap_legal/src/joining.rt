@@ -138,36 +138,6 @@ fn is_whole(instance: &Instance, table: &Table, categories: u16) -> bool
     true
 }
 
-/// Gives each member its row, from those that are listed on. False where one can't be made.
-fn climb_all(
-    instance: &Instance,
-    table: &mut Table,
-    categories: u16,
-    row: &mut [u32],
-    seen: &mut Vec<bool>,
-    list: &mut Vec<u32>,
-) -> Result<bool, Memory>
-    requires bounded { IsBounded instance.now categories }
-    requires rows { AreRows instance.now categories table.old }
-    requires row { length row.old ≡ categories }
-    requires seen { length seen.old.items ≡ length instance.now }
-    requires members { AreMembers instance.now list.old.items }
-    ensures { let count = length instance.now in
-        IfOk result (λ whole. IsTrue whole → IsTable instance.now categories count table.new) }
-{
-    'members: for x in 0..instance.members() {
-        if seen[x as usize] {
-            continue;
-        }
-        seen[x as usize] = true;
-        list.push(x)?;
-        if !climb(instance, table, categories, row, seen, list)? {
-            return Ok(false);
-        }
-    }
-    Ok(is_whole(instance, table, categories))
-}
-
 /// Fills the table, in which nothing stands. False where rows can't be joined to it.
 fn fill(
     alloc: Global,
@@ -185,7 +155,17 @@ fn fill(
     let count = instance.members() as usize;
     let mut seen = vec![in alloc; false; count]?;
     let mut list = Vec::new(alloc);
-    climb_all(instance, table, categories, row, &mut seen, &mut list)
+    'members: for x in 0..instance.members() {
+        if seen[x as usize] {
+            continue;
+        }
+        seen[x as usize] = true;
+        list.push(x)?;
+        if !climb(instance, table, categories, row, &mut seen, &mut list)? {
+            return Ok(false);
+        }
+    }
+    Ok(is_whole(instance, table, categories))
 }
 
 /// The table, from the top down. None where rows can't be joined so: where members repeat a category, two of one

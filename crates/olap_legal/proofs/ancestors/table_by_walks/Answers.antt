@@ -1,6 +1,7 @@
 -- A row more, or the first member without one.
-use Rattle.std.proofs.Common.{◌<◌, length, ap, sym, subst, ◌∙◌, arith}
+use Rattle.std.proofs.Common.{◌≡◌, ◌<◌, length, ap, sym, subst, ◌∙◌, arith}
 use Rattle.olap_legal.specs.Rows.{IsBounded, IsRise}
+use Rattle.olap_legal.specs.Tables.{IsTable}
 use Rattle.olap_legal.proofs.JoiningLemmas.{row_fits}
 use Rattle.olap_legal.proofs.TableLemmas.{table_start, table_step, first_split}
 use Rattle.olap_legal.proofs.ancestors.table_by_walks.Goals as goal
@@ -66,3 +67,10 @@ returns-then-not-branch-clause-err c =
     let inside : c.members.x < length c.args.instance.now = omega (arith, count, c.members-test.true) in
     first_split c.args.instance.now c.args.categories c.members.x c.members.table c.requires.bounded
     c.members.invariant.table inside s
+
+pub returns-clause-ok : goal.returns-clause-ok
+returns-clause-ok c =
+    let i = c.args.instance.now in
+    let count = c.members-x-end.ensures.count in
+    let all : c.members.x ≡ length i = omega (arith, count, c.members-test.false, c.members.auto.x-end) in
+    subst (λ k. IsTable i c.args.categories k c.members.table) all c.members.invariant.table

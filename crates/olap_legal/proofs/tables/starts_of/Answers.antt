@@ -1,5 +1,5 @@
 -- A row more.
-use Rattle.std.proofs.Common.{◌+◌, ◌≤◌, ap, sym, subst, ◌∙◌, arith}
+use Rattle.std.proofs.Common.{◌≡◌, ◌+◌, ◌≤◌, length, ap, sym, subst, ◌∙◌, arith}
 use Rattle.olap_legal.specs.Laying.{AreStarts}
 use Rattle.olap_legal.specs.Slots.{count_of}
 use Rattle.olap_legal.proofs.LayingLemmas.{starts_more, starts_none}
@@ -15,3 +15,10 @@ members-preserved c =
     let few : k ≤ 256 = omega (arith, c.from-end.ensures, c.count.ensures.few, c.requires.few) in
     subst (λ l. AreStarts c.args.instance.now c.args.slots.now (c.members.x + 1) l (c.members.end + k))
     (sym c.in_ok-push.ensures.items) (starts_more k c.members.invariant is few)
+
+pub returns : goal.returns
+returns c =
+    let i = c.args.instance.now in
+    let count = c.members-x-end.ensures.count in
+    let all : c.members.x ≡ length i = omega (arith, count, c.members-test.false, c.members.auto.x-end) in
+    subst (λ k. AreStarts i c.args.slots.now k c.members.starts.items c.members.end) all c.members.invariant

@@ -1,6 +1,7 @@
 -- The slots of one category more.
-use Rattle.std.proofs.Common.{◌≡◌, ◌*◌, ◌<◌, ◌≤◌, drop, length, get_or, ap, subst, sym, ◌∙◌}
+use Rattle.std.proofs.Common.{◌≡◌, ◌*◌, ◌<◌, ◌≤◌, drop, length, get_or, ap, subst, sym, ◌∙◌, arith}
 use Rattle.std.proofs.lemmas.List.{length-replicate, take_at}
+use Rattle.olap_legal.specs.Slots.{AreListed}
 use Rattle.olap_legal.proofs.SlotLemmas.{row_within, slots_more, slots_none}
 use Rattle.olap_legal.proofs.slots.Slots.of.Goals as goal
 
@@ -53,3 +54,10 @@ categories-preserved c =
     (listed.same ∙ ap length slots_is ∙ v.slots_size ∙ sym v.order_size ∙ sym (ap length order_is)
     ∙ c.deref_mut-in-categories.ensures.len) in
     rw (slots_now, order_now, c.in_ok-push.ensures.items) more
+
+pub returns : goal.returns
+returns c =
+    let n = c.args.categories in
+    let all : c.categories.c ≡ n = omega (arith, c.categories-test.false, c.categories.auto.c-end) in
+    subst (λ k. AreListed c.args.graph.now n k c.categories.slots.items c.categories.order.items
+    c.categories.counts.items) all c.categories.invariant

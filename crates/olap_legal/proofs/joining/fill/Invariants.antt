@@ -1,7 +1,7 @@
 -- Whoever stands in the table has its row, and what is listed is members.
 use Rattle.std.proofs.Common.{◌≡◌, length}
 use Rattle.olap_legal.specs.Joining.{AreMembers, AreRows}
-use Rattle.olap_legal.proofs.joining.climb_all.Given as goal
+use Rattle.olap_legal.proofs.joining.fill.Given as goal
 
 abbrev pub invariant-members : goal.invariant-members
 invariant-members l = record {
