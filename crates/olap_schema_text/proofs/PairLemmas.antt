@@ -1,7 +1,7 @@
 -- Tests over what the stored pairs stand for.
 --     found_pair, new_pair        a pair with a text that is there, or that is new
 --     found_number, new_number    the same of a number
---     same_atoms, both_added      what is added of a formula is added of its atoms, one part after the other
+--     same_atoms, both_added, rest_added    what is added of a formula is added of its atoms, one part after the other
 use Rattle.std.proofs.Common.{◌≡◌, ℕ, ℤ, ◌||◌, Bool, true, false, List, [], ◌∷◌, ◌++◌, map, refl, ap, subst, ◌∙◌, sym}
 use Rattle.std.specs.Prelude.{Result, Ok, Err, OnOk}
 use Rattle.std.specs.List.{fold, list_any}
@@ -86,3 +86,8 @@ pub both_added : {X A E : Type 0} (r : Result (Unit {0}) E) (f : List A → X �
 both_added (Err e) f old mid new us vs all p q s = tt
 both_added (Ok u) f old mid new us vs all p q s =
     s ∙ ap (λ m. fold f m vs) q ∙ sym (fold_behind f old us vs) ∙ ap (fold f old) p
+
+-- where some atoms of a list are added, the others are still to be
+pub rest_added : {X A : Type 0} (f : List A → X → List A) (old new all : List A) (us vs : List X)
+    → fold f old (us ++ vs) ≡ all → new ≡ fold f old us → fold f new vs ≡ all
+rest_added f old new all us vs e n = ap (λ m. fold f m vs) n ∙ sym (fold_behind f old us vs) ∙ e
