@@ -1,8 +1,9 @@
 """Each folder of proofs/ belongs to a function of src/.
 
-The folder's path is the function's: the module, then the type of a method, with the trait's name after it if the
-method is a trait's, then the function. The module of a method is its type's, wherever the method stands. A folder `+NAME` belongs to functions that call each other: NAME is one of them,
-or what `#[cycle(NAME)]` calls them.
+The folder's path is the function's: the module, then the type of a method, then the function. The module of a type's
+own method is the type's, wherever the method stands. Behind the type of a trait's method stand the names of the trait and
+of its arguments, and the module is that of the impl. A folder `+NAME` belongs to functions that call each other: NAME is
+one of them, or what `#[cycle(NAME)]` calls them.
 """
 
 import re
@@ -32,7 +33,7 @@ def wanted(crate):
     """The paths that folders with proofs of this crate may have."""
     paths, modules = set(cycles(crate)), dict(homes(crate))
     for function in sources.functions(crate):
-        module = modules.get(function.owner, function.module)
+        module = function.module if function.trait else modules.get(function.owner, function.module)
         start = f"{module}/" if module else ""
         owner = f"{function.owner}{function.trait}/" if function.owner else ""
         paths.update({f"{start}{owner}{function.name}", f"{start}{owner}+{function.name}"})

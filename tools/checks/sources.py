@@ -59,11 +59,16 @@ def type_named(text):
     return found.group(0) if found else ""
 
 
+def trait_named(text):
+    """The name of a trait, and those of its arguments behind it: `Judge<Leaf>` is `JudgeLeaf`."""
+    return "".join(re.findall(r"(?<!['\w])[A-Za-z_]\w*", text.split("::")[-1]))
+
+
 def owner_of(line):
     """Of a line that opens an impl or a trait: the type or the trait, the trait of an impl, and whether it is a trait's."""
     kind, rest = BLOCK.match(line).groups()
     trait, _, owner = re.sub(r"\bwhere\b.*", "", rest).rpartition(" for ")
-    return type_named(owner), type_named(trait), kind == "trait" or bool(trait)
+    return type_named(owner), trait_named(trait), kind == "trait" or bool(trait)
 
 
 @cache

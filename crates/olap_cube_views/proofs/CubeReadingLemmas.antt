@@ -5,13 +5,14 @@
 --     told_cause       a record's fault is the text's first
 --     cube_rolled_up   a view of all facts of a text
 --     cube_facts_more, cube_table_more, cube_table_members   a fact table that grows
+--     same_length      lists with equal images have one length
 use Rattle.std.proofs.Common.{◌≡◌, ◌↔◌, ℕ, suc, ◌+◌, ◌≤◌, List, [], ◌∷◌, ◌++◌, length, get_or, map, drop, Bool, true, IsTrue, Option, Some, None, refl, sym, ap, subst, ◌∙◌, inl, inr, arith, append_assoc, append-nil}
 use Rattle.std.specs.Prelude.{All, Err, Ok, if◌then◌else◌}
 use Rattle.std.specs.Bool.{one_answer}
 use Rattle.std.specs.Cmp.Lexicographic.{pointwise}
 use Rattle.std.specs.Option.{option_or}
 use Rattle.std.specs.Str.{bytes_eq}
-use Rattle.std.proofs.lemmas.List.{drop_all, map-append}
+use Rattle.std.proofs.lemmas.List.{drop_all, length-map, map-append}
 use Rattle.std.proofs.lemmas.List.Elements.{Contains-get_or, Contains-push_cases}
 use Rattle.std.proofs.lemmas.Slice.Eq.{bytes_eq-Decides, slice_eq-Decides}
 use Rattle.olap_base.specs.Graph.{Graph, IsBottom}
@@ -177,3 +178,8 @@ cube_rolled_up gs is records left target view h e none v = record {
       ∙ ap (body_read gs is) (sym e) ∙ ap (λ o. or_read o (Ok (map (cube_fact_read is) left))) none;
   direct = v;
 }
+
+-- lists with equal images have one length
+pub same_length : {A B C : Type 0} (f : A → C) (h : B → C) (xs : List A) (ys : List B) → map f xs ≡ map h ys
+    → length xs ≡ length ys
+same_length f h xs ys e = sym (length-map xs f) ∙ ap length e ∙ length-map ys h

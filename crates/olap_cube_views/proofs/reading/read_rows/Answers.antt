@@ -3,12 +3,11 @@ use Rattle.std.proofs.Common.{◌≡◌, ◌∷◌, ◌++◌, ◌∙◌, [], Lis
 use Rattle.std.proofs.lemmas.List.{map-append}
 use Rattle.std.proofs.lemmas.Result.{err_from_is_err_and}
 use Rattle.olap_cube.specs.CubeViews.{CubeFact, IsCubeFactTable}
-use Rattle.olap_facts.proofs.TableLemmas.{same-length}
 use Rattle.olap_records.proofs.Seeing.{see-more}
 use Rattle.olap_cube_views.specs.CubeFactText.{cube_fact_fault, cube_fact_read}
 use Rattle.olap_cube_views.specs.Dimensions.{graphs_of, instances_of}
 use Rattle.olap_cube_views.specs.Seen.{cube_fact_of}
-use Rattle.olap_cube_views.proofs.CubeReadingLemmas.{cube_facts_more, cube_table_more, told_cause}
+use Rattle.olap_cube_views.proofs.CubeReadingLemmas.{cube_facts_more, cube_table_more, same_length, told_cause}
 use Rattle.olap_cube_views.proofs.reading.read_rows.Goals as goal
 
 pub rows-preserved : goal.rows-preserved
@@ -21,7 +20,7 @@ rows-preserved c =
     let old = c.rows.facts.items in
     let f = c.in_ok-fact.fact in
     let left = rw c.if-branch.true at c.in_ok-advance.ensures in
-    let same = same-length cube_fact_of (cube_fact_read is) old seen inv.facts in
+    let same = same_length cube_fact_of (cube_fact_read is) old seen inv.facts in
     let size : length c.rows.invariant.seen ≡ c.len.result = search rules in
     let says = c.in_ok-fact.ensures.fact seen size in
     let items = c.in_ok-push.ensures.items in
@@ -43,7 +42,7 @@ returns-in_err-fact-clause-facts c =
     let inv = c.rows.invariant in
     let seen = inv.seen in
     let left = rw c.if-branch.true at c.in_ok-advance.ensures in
-    let same = same-length cube_fact_of (cube_fact_read is) c.rows.facts.items seen inv.facts in
+    let same = same_length cube_fact_of (cube_fact_read is) c.rows.facts.items seen inv.facts in
     let size : length c.rows.invariant.seen ≡ c.len.result = search rules in
     let p = err_from_is_err_and c.from_residual-in_err-fact.result c.from_residual-in_err-fact.ensures.1 in
     rw (p.1, p.2) (told_cause (cube_fact_fault gs is) c.args.rows.now.left seen c.rows.rows.left c.advance.new.self.left
