@@ -7,9 +7,4 @@ pub mod RollingTotals
 pub mod RollingLemmas
 pub mod ViewLemmas
 pub mod OneFactLemmas
-pub mod Reading
-mod FetchLemmas
-pub mod Writing
-pub mod Places
-pub mod FaultLemmas
 pub mod PiecesLeft

@@ -12,10 +12,5 @@ pub mod Above
 pub mod OneFact
 pub mod Limits
 pub mod Naming
-pub mod Faults
-pub mod Files
-pub mod Sinks
--- The inside: how a test decides, and what the values in memory stand for.
+-- The inside: how a test decides.
 pub mod Deciding
-pub mod Told
-pub mod Written

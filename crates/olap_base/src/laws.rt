@@ -1,6 +1,5 @@
 // Theorems over the definitions. Each is the clause of a function that does nothing.
 ghost use Rattle.olap_base.specs.Above.{AboveIsLawful};
-ghost use Rattle.olap_base.specs.Faults.{NoneRose};
 ghost use Rattle.olap_base.specs.OneFact.{OneFactsViews};
 ghost use Rattle.olap_base.specs.Summaries.{TotalsOfSummaries, TotalsOfValues};
 ghost use Rattle.olap_base.specs.Views.{AgreeExactlyIfReachedByOne};
@@ -31,10 +30,4 @@ pub fn totals_of_summaries()
 /// there are sources by which the fact's member reaches the row's; with none it has no row.
 pub fn one_facts_views()
     ensures { OneFactsViews }
-{}
-
-/// A count of faults that is 0 hasn't risen. So what comes only where a count rose never comes from a library or a sink
-/// whose count is always 0.
-pub fn no_faults_none_rose()
-    ensures { NoneRose }
 {}

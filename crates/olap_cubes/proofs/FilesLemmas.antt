@@ -7,8 +7,8 @@
 use Rattle.std.proofs.Common.{◌≡◌, ◌+◌, ℕ, List, [], ◌∷◌, ◌++◌, Option, None, Some, Result, Ok, Err, MatchOption, ap, subst, sym, refl, arith, ◌∙◌}
 use Rattle.std.specs.Prelude.{IfOk}
 use Rattle.std.specs.Result.{IsErrAnd}
-use Rattle.olap_base.specs.Files.{Files}
-use Rattle.olap_base.specs.declared.outside.Library.{Ghosts as Library}
+use Rattle.olap_outside.specs.Files.{Files}
+use Rattle.olap_outside.specs.declared.outside.Library.{Ghosts as Library}
 use Rattle.olap_order.specs.Judged.{IsLater, Judged, Replies}
 use Rattle.olap_order.specs.Order.{Order, Done, Told, Read, ReadsNoFile, and_then}
 use Rattle.olap_order.specs.Taken.{ComesOut, ComesOutTold, FileStep, NoAnswer}

@@ -3,7 +3,7 @@
 use Rattle.std.specs.Prelude.{◌≡◌, List, ℕ, Ok}
 use Rattle.olap_ast.specs.Schema.{Schema}
 use Rattle.olap_base.specs.Instance.{Instance}
-use Rattle.olap_base.specs.declared.outside.Library.{Ghosts as Library}
+use Rattle.olap_outside.specs.declared.outside.Library.{Ghosts as Library}
 use Rattle.olap_cube.specs.CubeViews.{CubeFact, CubeView, cube_direct_view}
 use Rattle.olap_order.specs.Taken.{FileStep}
 use Rattle.olap_cubes.specs.Steps.{cube_facts_file}

@@ -14,11 +14,12 @@ ghost use Rattle.olap_order.specs.Words.{texts};
 ghost use Rattle.olap_reading.specs.Steps.{legal_file};
 ghost use Rattle.olap_cubes.specs.Steps.{legal_files, numbered, schema_files};
 
-use olap_base::{CatId, Library};
+use olap_base::CatId;
 use olap_cube_views::TargetColumns;
 use olap_dimensions::Cube;
 use olap_legal::Legal;
 use olap_order::{Stop, schema_in};
+use olap_outside::Library;
 use olap_reading::legal_in;
 use olap_schema::Schema;
 use olap_view::OwnedColumn;

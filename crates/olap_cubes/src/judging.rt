@@ -9,8 +9,8 @@ ghost use Rattle.olap_cubes.specs.Seen.{HasFiles, seen};
 use crate::summarizing::cube;
 use crate::viewing::cubeview;
 use crate::words::{Command, parse};
-use olap_base::Library;
 use olap_order::{Reply, Stop};
+use olap_outside::Library;
 use std::alloc::Global;
 
 /// The reply of a command.

@@ -16,12 +16,13 @@ ghost use Rattle.olap_cubes.specs.Under.{cube_from, cube_under};
 
 use crate::dimensions::schemas_in;
 use crate::naming::{tuple_at, tuples_at};
-use olap_base::{Library, List, Memory};
+use olap_base::{List, Memory};
 use olap_cube::Tuple;
 use olap_cube_cex::print_cube;
 use olap_cube_summ::{CubeRefusal, cube_summarizable};
 use olap_dimensions::{Cube, CubeFound};
 use olap_order::{Reply, Stop, no, yes};
+use olap_outside::Library;
 use std::alloc::Global;
 
 /// The line `no`, and the lines of the counterexample.

@@ -25,12 +25,13 @@ ghost use Rattle.olap_view.specs.Seen.{ids};
 
 use crate::dimensions::{columns_in, schemas_in};
 use crate::naming::tuple_at;
-use olap_base::{CatId, Library, Memory};
+use olap_base::{CatId, Memory};
 use olap_cube_views::{CubeView, TargetColumns, cube_roll_up, print_rolled_up};
 use olap_dimensions::Cube;
 use olap_facts::FactRefusal;
 use olap_graph::Graph;
 use olap_order::{Reply, Status, Stop, read_file, refuse_long, refuse_part, yes};
+use olap_outside::Library;
 use std::alloc::Global;
 
 /// The graphs of the dimensions, in order.

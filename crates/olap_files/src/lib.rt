@@ -1,4 +1,4 @@
-//! The real files and standard output, as the library and the sink of `olap_base`.
+//! The real files and standard output, as the library and the sink of `olap_outside`.
 //!
 //! Both meet their traits and count the calls that were refused. They tell no content and no name: nothing is proved of
 //! what a real file holds or of what is shown.

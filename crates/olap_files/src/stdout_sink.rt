@@ -2,7 +2,8 @@
 ghost use Rattle.std.specs.Prelude.{◌≡◌, ◌==◌, None};
 ghost use Rattle.olap_files.specs.Calls.{refused_writes};
 
-use olap_base::{Failed, Sink};
+use olap_base::Failed;
+use olap_outside::Sink;
 
 /// Standard output. That it takes nothing of a piece is a fault.
 #[derive(Drop)]

@@ -5,8 +5,8 @@
 use Rattle.std.proofs.Common.{◌≡◌, ℕ, List, Option, None, Some, Result, MatchOption, ap, refl, subst, sym}
 use Rattle.std.specs.Prelude.{option_map}
 use Rattle.std.specs.Option.{option_or}
-use Rattle.olap_base.specs.Files.{Files}
-use Rattle.olap_base.specs.declared.outside.Library.{Ghosts as Library}
+use Rattle.olap_outside.specs.Files.{Files}
+use Rattle.olap_outside.specs.declared.outside.Library.{Ghosts as Library}
 use Rattle.olap_order.specs.Families.{FamilyJudged, IsNoUsage, asking}
 use Rattle.olap_order.specs.Judged.{Gives, GivesTold, Judged}
 use Rattle.olap_order.specs.Order.{Order, Done, Told, Read, and_then}

@@ -2,9 +2,9 @@
 use Rattle.std.proofs.Common.{◌≡◌, ◌≤◌, ◌⊎◌, ℕ, List, Option, None, Some, Result, Ok, Err, MatchOption, subst, sym, refl, inl, inr, arith, ◌∙◌}
 use Rattle.std.specs.Prelude.{IsTrue}
 use Rattle.std.specs.Result.{IsErrAnd}
-use Rattle.olap_base.specs.Faults.{Rose}
-use Rattle.olap_base.specs.Files.{Files}
-use Rattle.olap_base.specs.declared.outside.Library.{Ghosts as Library}
+use Rattle.olap_outside.specs.Faults.{Rose}
+use Rattle.olap_outside.specs.Files.{Files}
+use Rattle.olap_outside.specs.declared.outside.Library.{Ghosts as Library}
 use Rattle.olap_order.specs.Order.{Order, Done, Told, Read, ComesTo, IsStuck, ReadsNoFile, and_then}
 use Rattle.olap_order.specs.Judged.{Gives, GivesTold, IsBlamed, IsLater, IsStuckTold, Judged, Replied, Replies}
 use Rattle.olap_order.specs.Taken.{ComesOut, ComesOutTold, NoAnswer, FileStep, PlainStep}

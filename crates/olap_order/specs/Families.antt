@@ -4,7 +4,7 @@
 --     FamilyJudged    what a family answers
 --     asking          an order of a family as one of the program
 use Rattle.std.specs.Prelude.{◌≡◌, ℕ, List, Option, None, Some, IsNone, MatchOption, ⊤, Result, option_map}
-use Rattle.olap_base.specs.declared.outside.Library.{Ghosts as Library}
+use Rattle.olap_outside.specs.declared.outside.Library.{Ghosts as Library}
 use Rattle.olap_order.specs.Judged.{Judged}
 use Rattle.olap_order.specs.Order.{Order, Done, Told, and_then}
 use Rattle.olap_order.specs.declared.replies.Reply.{Reply}

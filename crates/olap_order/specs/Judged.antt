@@ -9,9 +9,9 @@
 --     Judged                  what a command answers, along its order
 --     Replies                 what a function answers that reads nothing
 use Rattle.std.specs.Prelude.{◌≡◌, ◌⊎◌, ◌≤◌, ℕ, false, List, Option, None, Some, MatchOption, ⊤, Result, Ok, Err, IsErrOf, IsTrue}
-use Rattle.olap_base.specs.Faults.{Rose}
-use Rattle.olap_base.specs.Files.{Files}
-use Rattle.olap_base.specs.declared.outside.Library.{Ghosts as Library}
+use Rattle.olap_outside.specs.Faults.{Rose}
+use Rattle.olap_outside.specs.Files.{Files}
+use Rattle.olap_outside.specs.declared.outside.Library.{Ghosts as Library}
 use Rattle.olap_order.specs.Order.{Order, Done, Told, Read, ComesTo, IsStuck, ReadsNoFile}
 use Rattle.olap_order.specs.declared.status.Status.{Status}
 use Rattle.olap_order.specs.declared.status.Status.TheVariants as statuses

@@ -8,7 +8,7 @@
 --     IsStuck      it comes to a name without a content
 --     IsHeld       each file that it comes to has a content
 use Rattle.std.specs.Prelude.{◌≡◌, ◌⊎◌, ℕ, List, Option, None, Some, MatchOption, IsSome, ⊤}
-use Rattle.olap_base.specs.Files.{Files}
+use Rattle.olap_outside.specs.Files.{Files}
 use Rattle.olap_order.specs.Outputs.{refusal}
 use Rattle.olap_order.specs.declared.status.Status.{Status}
 use Rattle.olap_order.specs.declared.status.Status.TheVariants.{Refused}

@@ -4,8 +4,8 @@
 --     FileStep     a step that reads
 --     PlainStep    a step that reads nothing
 use Rattle.std.specs.Prelude.{◌≡◌, List, ℕ, Option, None, Some, MatchOption, Result, Err, IfOk, IfErr}
-use Rattle.olap_base.specs.Files.{Files}
-use Rattle.olap_base.specs.declared.outside.Library.{Ghosts as Library}
+use Rattle.olap_outside.specs.Files.{Files}
+use Rattle.olap_outside.specs.declared.outside.Library.{Ghosts as Library}
 use Rattle.olap_order.specs.Order.{Order, Done, Told, Read, ReadsNoFile}
 use Rattle.olap_order.specs.Judged.{IsLater, Judged, Replies}
 use Rattle.olap_order.specs.declared.status.Status.{Status}

@@ -1,7 +1,7 @@
 // The steps of an order that read a file.
 ghost use Rattle.std.specs.Prelude.{◌≡◌, ◌≤◌, length, false, IfOk, IsErrOf, IsTrue, MatchOption, ⊤};
-ghost use Rattle.olap_base.specs.Faults.{Rose};
-ghost use Rattle.olap_base.specs.Files.{Asks, IsContent, IsLonger, Lacks};
+ghost use Rattle.olap_outside.specs.Faults.{Rose};
+ghost use Rattle.olap_outside.specs.Files.{Asks, IsContent, IsLonger, Lacks};
 ghost use Rattle.olap_base.specs.Limits.{most_file_bytes};
 ghost use Rattle.olap_schema.specs.Schemas.{schema_of};
 ghost use Rattle.olap_order.specs.Judged.{IsLater};
@@ -10,7 +10,8 @@ ghost use Rattle.olap_order.specs.Taken.{FileStep};
 ghost use Rattle.olap_order.specs.declared.replies.Stop.TheVariants as stops;
 
 use crate::replies::{Stop, refuse_long, refuse_part};
-use olap_base::{FetchError, Library, MOST_FILE_BYTES, fetch};
+use olap_base::MOST_FILE_BYTES;
+use olap_outside::{FetchError, Library, fetch};
 use olap_schema::Schema;
 use olap_schema_text::{SchemaRefusal, read_schema};
 use std::alloc::Global;

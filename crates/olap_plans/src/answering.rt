@@ -15,11 +15,12 @@ ghost use Rattle.olap_order.specs.Order.{Done};
 ghost use Rattle.olap_plans.specs.Questions.{ByPlan, IsAnswer};
 ghost use Rattle.olap_plans.specs.Under.{answer_of, answer_under};
 
-use olap_base::{CatId, Library, Memory};
+use olap_base::{CatId, Memory};
 use olap_graph::Graph;
 use olap_legal::Legal;
 use olap_nav::{PlanRefusal, print_plan};
 use olap_order::{Reply, Stop, category_at, refuse, schema_in, yes};
+use olap_outside::Library;
 use olap_reading::{legal_in, store_in};
 use olap_schema::Schema;
 use olap_view::{Store, View, print_view_behind};

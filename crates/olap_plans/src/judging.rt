@@ -9,8 +9,8 @@ ghost use Rattle.olap_plans.specs.Seen.{seen};
 use crate::answering::answer;
 use crate::generating::generate;
 use crate::words::{Command, parse};
-use olap_base::Library;
 use olap_order::{Reply, Stop};
+use olap_outside::Library;
 use std::alloc::Global;
 
 /// The reply of a command.

@@ -4,7 +4,7 @@ use Rattle.std.specs.Prelude.{◌≡◌, List, ℕ, Ok, codes}
 use Rattle.olap_ast.specs.Schema.{Schema}
 use Rattle.olap_base.specs.Instance.{Instance}
 use Rattle.olap_base.specs.Views.{Fact, View, direct_views}
-use Rattle.olap_base.specs.declared.outside.Library.{Ghosts as Library}
+use Rattle.olap_outside.specs.declared.outside.Library.{Ghosts as Library}
 use Rattle.olap_reading.specs.Steps.{facts_file}
 use Rattle.olap_order.specs.Taken.{FileStep}
 

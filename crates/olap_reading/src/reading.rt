@@ -11,12 +11,13 @@ ghost use Rattle.olap_reading.specs.OfFacts.{AreOfFacts};
 ghost use Rattle.olap_reading.specs.Steps.{facts_file, legal_file, legal_or_violation, store_file};
 
 use crate::telling::{check_laws, refuse_violation};
-use olap_base::{CatId, Library, List};
+use olap_base::{CatId, List};
 use olap_check::CheckRefusal;
 use olap_facts::FactRefusal;
 use olap_instance::{Instance, InstanceRefusal, read_instance};
 use olap_legal::Legal;
 use olap_order::{Stop, read_file, refuse_long, refuse_part};
+use olap_outside::Library;
 use olap_schema::Schema;
 use olap_view::{Store, StoreRefusal, View, read_store, roll_up};
 use std::alloc::Global;

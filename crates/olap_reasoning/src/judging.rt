@@ -14,8 +14,8 @@ use crate::listing::frozen;
 use crate::satisfying::satisfiable;
 use crate::summarizing::summarizable;
 use crate::words::{Asked, Command, parse};
-use olap_base::Library;
 use olap_order::{Reply, Stop, schema_in};
+use olap_outside::Library;
 use olap_schema::Schema;
 use std::alloc::Global;
 

@@ -1,7 +1,8 @@
 // Rows, and one run of the top call over files and output in memory.
 ghost use Rattle.std.specs.Prelude.{◌<◌};
 
-use olap_base::{Library, List, MemLibrary, MemSink, Sink, SureLibrary, SureSink, Text};
+use olap_base::{List, Text};
+use olap_outside::{Library, MemLibrary, MemSink, Sink, SureLibrary, SureSink};
 use olap_run::{Status, olap, olap_surely};
 use std::alloc::Global;
 use std::process::Abort;

@@ -1,7 +1,7 @@
 -- There is one outcome at most: the words and the files leave no choice of the status and the bytes.
 use Rattle.std.proofs.Common.{◌≡◌, ◌⊎◌, List, ℕ, inl, sym, ◌∙◌}
 use Rattle.std.specs.Prelude.{MatchOption, None, Option, Some}
-use Rattle.olap_base.specs.Files.{Files}
+use Rattle.olap_outside.specs.Files.{Files}
 use Rattle.olap_cubes.specs.Laws.{AnswersAreOne as CubesAnswersAreOne}
 use Rattle.olap_order.specs.Judged.{Gives}
 use Rattle.olap_order.specs.Order.{Order, Done, Told, Read}

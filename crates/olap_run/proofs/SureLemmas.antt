@@ -3,8 +3,8 @@
 --     not_the_second    of three, where the second can't be
 use Rattle.std.proofs.Common.{◌≡◌, ◌⊎◌, ℕ, List, Option, None, Some, inl, inr}
 use Rattle.std.specs.Prelude.{IsSome, IsTrue}
-use Rattle.olap_base.specs.Files.{Files}
-use Rattle.olap_base.specs.declared.outside.Library.{Ghosts as Library}
+use Rattle.olap_outside.specs.Files.{Files}
+use Rattle.olap_outside.specs.declared.outside.Library.{Ghosts as Library}
 use Rattle.olap_run.specs.Commands.{order_of}
 use Rattle.olap_order.specs.Judged.{IsStuckTold, ReadCause}
 use Rattle.olap_run.specs.Outcome.{TellsAll}

@@ -2,7 +2,7 @@
 --     AreCertificates    two texts that answer words which ask for a certificate
 --     OutcomeIsOne       words and files have one status at most, and one list of bytes but for certificates
 use Rattle.std.specs.Prelude.{◌≡◌, ◌⊎◌, ℕ, List, MatchOption}
-use Rattle.olap_base.specs.Files.{Files}
+use Rattle.olap_outside.specs.Files.{Files}
 use Rattle.olap_order.specs.Order.{Order, Done, Told, Read}
 use Rattle.olap_order.specs.declared.status.Status.{Status}
 use Rattle.olap_reasoning.specs.Laws as reasoning

@@ -8,8 +8,9 @@ ghost use Rattle.olap_run.specs.Commands.{order_named, order_of, usage};
 ghost use Rattle.olap_run.specs.Outcome.{IsAnswered};
 ghost use Rattle.olap_run.specs.Questions.{IsAnswer};
 
-use olap_base::{Library, MOST_WORDS};
+use olap_base::MOST_WORDS;
 use olap_order::{Reply, Status, Stop};
+use olap_outside::Library;
 use std::alloc::Global;
 
 /// The reply of the command of that name with these words after it: each family is asked in turn.

@@ -1,13 +1,13 @@
 // The top call where nothing outside can fail.
 ghost use Rattle.std.specs.Prelude.{◌≡◌, ◌⊎◌, None};
-ghost use Rattle.olap_base.specs.Written.{sure_contents};
+ghost use Rattle.olap_outside.specs.Written.{sure_contents};
 ghost use Rattle.olap_run.specs.Outcome.{IsAnswered, WritesOutcome};
 ghost use Rattle.olap_run.specs.Commands.{order_of, usage};
 ghost use Rattle.olap_order.specs.Words.{texts};
 
 use crate::top::olap;
-use olap_base::{SureLibrary, SureSink};
 use olap_order::Status;
+use olap_outside::{SureLibrary, SureSink};
 use std::alloc::Global;
 
 /// Does what the words say, over files in memory of which none is missing, and a sink that takes all: neither fault

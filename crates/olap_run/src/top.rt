@@ -1,16 +1,16 @@
 // The top call.
 ghost use Rattle.std.specs.Prelude.{◌≡◌, ◌⊎◌, IsTrue, length};
 ghost use Rattle.std.specs.Io.KnownBytes.{Appends};
-ghost use Rattle.olap_base.specs.Faults.{HasCause, Rose};
-ghost use Rattle.olap_base.specs.Sinks.{AppendsPart};
+ghost use Rattle.olap_outside.specs.Faults.{HasCause, Rose};
+ghost use Rattle.olap_outside.specs.Sinks.{AppendsPart};
 ghost use Rattle.olap_run.specs.Commands.{order_of, usage};
 ghost use Rattle.olap_order.specs.Judged.{ReadCause};
 ghost use Rattle.olap_run.specs.Outcome.{IsAnswered, TakesOutcome, TellsAll, WritesOutcome, WritesPart};
 ghost use Rattle.olap_order.specs.Words.{texts};
 
 use crate::judging::judge;
-use olap_base::{Library, Sink, emit};
 use olap_order::{Status, Stop};
+use olap_outside::{Library, Sink, emit};
 use std::alloc::Global;
 
 /// Writes the bytes of an answer; the status is that of the run.

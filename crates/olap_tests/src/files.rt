@@ -1,6 +1,6 @@
 // The library of real files reads what was written to a file, and refuses a name that isn't there.
-use olap_base::{FetchError, fetch};
 use olap_files::FileLibrary;
+use olap_outside::{FetchError, fetch};
 use std::fs;
 use std::test::Fail;
 

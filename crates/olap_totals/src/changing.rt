@@ -14,11 +14,11 @@ ghost use Rattle.olap_totals.specs.Commands.{changed_text};
 ghost use Rattle.olap_totals.specs.Under.{change_by, change_of, change_told, change_under};
 ghost use Rattle.olap_totals.specs.Questions.{IsAnswer};
 
-use olap_base::Library;
 use olap_delta::{Change, DeltaRefusal, change_by_text};
 use olap_facts::FactRefusal;
 use olap_legal::Legal;
 use olap_order::{Reply, Status, Stop, read_file, refuse_long, refuse_part, yes};
+use olap_outside::Library;
 use olap_reading::{legal_in, store_in};
 use olap_schema::Schema;
 use olap_view::{Store, print_store};

@@ -7,9 +7,9 @@ ghost use Rattle.olap_order.specs.Order.{Told};
 ghost use Rattle.olap_order.specs.Outputs.{line};
 ghost use Rattle.olap_totals.specs.Questions.{IsAnswer};
 
-use olap_base::Library;
 use olap_legal::Legal;
 use olap_order::{Reply, Status, Stop, yes};
+use olap_outside::Library;
 use olap_reading::legal_in;
 use olap_schema::Schema;
 use std::alloc::Global;

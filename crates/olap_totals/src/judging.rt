@@ -12,8 +12,8 @@ use crate::checking::check;
 use crate::rolling_up::rollup;
 use crate::storing::store;
 use crate::words::{Asked, Command, parse};
-use olap_base::Library;
 use olap_order::{Reply, Stop, schema_in};
+use olap_outside::Library;
 use olap_schema::Schema;
 use std::alloc::Global;
 

@@ -10,9 +10,10 @@ ghost use Rattle.olap_reading.specs.Steps.{facts_file};
 ghost use Rattle.olap_totals.specs.Under.{rollup_under};
 ghost use Rattle.olap_totals.specs.Questions.{IsAnswer};
 
-use olap_base::{CatId, Library};
+use olap_base::CatId;
 use olap_legal::Legal;
 use olap_order::{Reply, Status, Stop, category_at, yes};
+use olap_outside::Library;
 use olap_reading::{legal_in, views_in};
 use olap_schema::Schema;
 use olap_view::print_view;

@@ -8,8 +8,8 @@ ghost use Rattle.olap_verdicts.specs.Seen.{seen};
 
 use crate::verifying::verify;
 use crate::words::{Command, parse};
-use olap_base::Library;
 use olap_order::{Reply, Stop};
+use olap_outside::Library;
 use std::alloc::Global;
 
 /// The reply of a command.

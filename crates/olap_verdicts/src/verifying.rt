@@ -12,10 +12,11 @@ ghost use Rattle.olap_schema.specs.Schemas.{schema_of};
 ghost use Rattle.olap_verdicts.specs.Commands.{verify_order, verify_order_for};
 ghost use Rattle.olap_verdicts.specs.Questions.{ByCertificate, IsAnswer};
 
-use olap_base::{CatId, Library};
+use olap_base::CatId;
 use olap_order::{
     Reply, Stop, categories_at, category_at, no, read_file, refuse_long, schema_in, yes,
 };
+use olap_outside::Library;
 use olap_proof::{Form, VerifyRefusal};
 use olap_schema::Schema;
 use std::alloc::{AllocError, Global};

@@ -1,6 +1,6 @@
 -- A part ends at the first mark, or with the word.
 use Rattle.std.proofs.Common.{◌==◌, ◌+◌, ◌∙◌, sym}
-use Rattle.olap_base.proofs.Writing.{rest_is}
+use Rattle.olap_base.proofs.ListLemmas.{rest_is}
 use Rattle.olap_grammar.specs.Words.{pieces_of}
 use Rattle.olap_base.proofs.PiecesLeft.{split-none, split-some}
 use Rattle.olap_grammar.proofs.words.first_piece.Goals as goal

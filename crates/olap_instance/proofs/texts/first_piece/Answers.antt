@@ -1,6 +1,6 @@
 -- A piece ends at the first semicolon, or with the text.
 use Rattle.std.proofs.Common.{◌==◌, ◌+◌, ◌∙◌, sym}
-use Rattle.olap_base.proofs.Writing.{rest_is}
+use Rattle.olap_base.proofs.ListLemmas.{rest_is}
 use Rattle.olap_base.proofs.PiecesLeft.{split-none, split-some}
 use Rattle.olap_instance.proofs.texts.first_piece.Goals as goal
 

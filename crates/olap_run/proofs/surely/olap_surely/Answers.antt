@@ -1,4 +1,4 @@
-use Rattle.olap_base.proofs.FaultLemmas.{none_rose}
+use Rattle.olap_outside.proofs.FaultLemmas.{none_rose}
 use Rattle.olap_run.proofs.SureLemmas.{not_the_second}
 use Rattle.olap_run.proofs.surely.olap_surely.Goals as goal
 

@@ -1,6 +1,6 @@
 use Rattle.std.proofs.Common.{◌+◌, refl, ap, ◌++◌, ◌∙◌, drop, map, take}
 use Rattle.olap_ast.specs.Trees.{constraint_of}
-use Rattle.olap_base.proofs.Writing.{rest_is}
+use Rattle.olap_base.proofs.ListLemmas.{rest_is}
 use Rattle.olap_schema.proofs.WithoutLemmas.{left_over}
 use Rattle.olap_schema.proofs.copying.others.Goals as goal
 

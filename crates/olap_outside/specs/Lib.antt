@@ -1,0 +1,9 @@
+-- Definitions that contracts cite.
+
+-- What a reader of the claims believes.
+pub mod Faults
+pub mod Files
+pub mod Sinks
+-- The inside: what the values in memory stand for.
+pub mod Told
+pub mod Written
