@@ -1,5 +1,6 @@
 -- What a refusal and a return of `fetch` rule out.
-use Rattle.std.proofs.Common.{◌≡◌, ℕ, ◌+◌, ◌<◌, ◌≤◌, ◌⊎◌, inl, inr, Bool, true, false, eqb, Ok, Err, IsErrOf, refl, ap, sym, ◌∙◌, arith}
+use Rattle.std.proofs.Common.{◌≡◌, ℕ, ◌+◌, ◌<◌, ◌≤◌, ◌⊎◌, inl, inr, Bool, true, false, eqb, Ok, Err, IsErrOf, refl, ap, sym, subst, ◌∙◌, arith}
+use Rattle.std.specs.Prelude.{Result, IsErr, IsErrAnd, IfOk}
 use Rattle.std.proofs.lemmas.Bool.{false≢true}
 use Rattle.olap_outside.specs.Faults.{Rose}
 use Rattle.olap_outside.specs.declared.fetching.FetchError.TheVariants as fetched
@@ -29,6 +30,17 @@ other {T} {a} {b} e differ =
 -- a value is no refusal
 pub no_refusal : {T E : Type 0} {x : T} {e : E} {P : Type 0} → Ok x ≡ Err e → P
 no_refusal h = let no : ⊥ = cc in absurd no
+
+-- a refusal is no value
+pub no_value : {T E : Type 0} (r : Result T E) (P : T → Type 0) → IsErr r → IfOk r P
+no_value (Ok x) P h = absurd (false≢true h)
+no_value (Err e) P h = tt
+
+-- out of memory is no other refusal
+pub out_of_memory : {T : Type 0} (r : Result T fetched.the_data) {b : fetched.the_data} {P : Type 0}
+    → IsErrAnd r (λ e. e ≡ fetched.Memory) → IsErrOf r b → eqb (code fetched.Memory) (code b) ≡ false → P
+out_of_memory (Ok x) h e differ = no_refusal e
+out_of_memory (Err a) {b} h e differ = other e (subst (λ x. eqb (code x) (code b) ≡ false) (sym h) differ)
 
 -- neither of two things is so
 pub neither : {A B P : Type 0} → (A → P) → (B → P) → A ⊎ B → P

@@ -2,7 +2,7 @@ use Rattle.std.proofs.Common.{◌∙◌, refl, ap, sym, take, length, is_some, a
 use Rattle.std.proofs.Common.{Err}
 use Rattle.std.proofs.lemmas.Bool.{false≢true}
 use Rattle.std.proofs.lemmas.List.{length-take-le}
-use Rattle.olap_outside.proofs.FetchLemmas.{no_refusal, other, unsure, rose_after, later_on, not_over, none_taken, short_enough, not_missing, neither, nothing_more}
+use Rattle.olap_outside.proofs.FetchLemmas.{no_refusal, no_value, other, out_of_memory, unsure, rose_after, later_on, not_over, none_taken, short_enough, not_missing, neither, nothing_more}
 use Rattle.olap_outside.proofs.Reading.{so_far_none, so_far_more, so_far_all, so_far_longer}
 use Rattle.olap_outside.proofs.fetching.fetch.Goals as goal
 
@@ -140,6 +140,32 @@ returns-then-count-room g c =
       risen = neither (λ e. other e refl) (λ e. other e refl);
       failed = λ e. other e refl;
       unready = neither (λ e. other e refl) (λ e. other e refl);
+      asked = rw h.asked so.asked;
+      told = ap is_some h.asked ∙ so.told;
+      contents = h.contents ∙ so.same;
+      sure = h.sure ∙ so.sure;
+      later = later_on so.later h.cause.later;
+    }
+
+pub returns-in_err-extend_from_slice : goal.returns-in_err-extend_from_slice
+returns-in_err-extend_from_slice g c =
+    let so = c.pieces.invariant in
+    let h = c.read.ensures in
+    let piece = c.in-Ok-read.ensures in
+    let r = c.from_residual.result in
+    let refused = c.from_residual.ensures in
+    record {
+      whole = no_value r _ refused.0;
+      short = no_value r _ refused.0;
+      missing = λ e. out_of_memory r refused.1 e refl;
+      too_long = (
+        λ e. out_of_memory r refused.1 e refl,
+        λ l. absurd (omega (arith, piece.taken, so.taken, so.room, c.if-count-room.false, l)),
+      );
+      longer = λ e. out_of_memory r refused.1 e refl;
+      risen = neither (λ e. out_of_memory r refused.1 e refl) (λ e. out_of_memory r refused.1 e refl);
+      failed = λ e. out_of_memory r refused.1 e refl;
+      unready = neither (λ e. out_of_memory r refused.1 e refl) (λ e. out_of_memory r refused.1 e refl);
       asked = rw h.asked so.asked;
       told = ap is_some h.asked ∙ so.told;
       contents = h.contents ∙ so.same;
