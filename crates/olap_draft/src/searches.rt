@@ -118,12 +118,7 @@ impl<'a> Search<'a> {
             if end == 0 {
                 break;
             }
-            if size > end {
-                size = end;
-            }
-            if size == 0 {
-                size = 1;
-            }
+            size = size.clamp(1, end);
             self.shape.decided.set_between(task, end - size, end, false);
             self.shape.refresh(task);
             if self.shape.closes(task, line) {
