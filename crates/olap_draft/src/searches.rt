@@ -119,15 +119,16 @@ impl<'a> Search<'a> {
                 break;
             }
             size = size.clamp(1, end);
-            self.shape.decided.set_between(task, end - size, end, false);
+            let from = end - size;
+            self.shape.decided.set_between(task, from, end, false);
             self.shape.refresh(task);
             if self.shape.closes(task, line) {
-                end -= size;
+                end = from;
                 size = size.wrapping_add(size);
             } else {
-                self.shape.decided.set_between(task, end - size, end, true);
+                self.shape.decided.set_between(task, from, end, true);
                 if size == 1 {
-                    end -= 1;
+                    end = from;
                     self.needed.push(self.shape.decided.decision(end).variable)?;
                     size = 4;
                 } else {
