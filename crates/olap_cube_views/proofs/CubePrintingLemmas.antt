@@ -1,7 +1,7 @@
 -- Printing a cube's view row by row, and reading its text back.
 --     ids_more, ids_end    the ids of a row's members, one more, and all of them
---     members_from         the members from one on; four_more, four_pushed, four_same: four items after
---                          others
+--     members_from         the members from one on
+--     four_same            four items after others
 --     cube_view_more       one row more
 --     cube_view_reads      the text reads back
 use Rattle.std.proofs.Common.{◌≡◌, ℕ, zero, suc, ◌+◌, ◌<◌, ◌≤◌, ◌++◌, ◌∷◌, ◌∙◌, List, [], length, map, take, drop, get_or, arith, refl, sym, ap, subst, append_assoc, append-nil, length-append}
@@ -66,20 +66,6 @@ members_from ms k d l =
     let h : k < length (members_of ms) = omega arith in
     drop_more (members_of ms) k 0 h
     ∙ ap (λ y. y ∷ drop (k + 1) (members_of ms)) (get_or-map (λ (m : MemberId). m.0) ms k d 0 l)
-
--- four items more
-pub four_more : {A B : Type 0} (f : A → B) (xs : List A) (a b c d : A)
-    → map f ((((xs ++ a ∷ []) ++ b ∷ []) ++ c ∷ []) ++ d ∷ []) ≡ map f xs ++ (f a ∷ f b ∷ f c ∷ f d ∷ [])
-four_more f [] a b c d = refl
-four_more f (x ∷ xs) a b c d = ap (λ t. f x ∷ t) (four_more f xs a b c d)
-
--- four items pushed one after another
-pub four_pushed : {A B : Type 0} (f : A → B) (xs p q r s t : List A) (a b c d : A) → p ≡ xs ++ a ∷ [] → q ≡ p ++ b ∷ []
-    → r ≡ q ++ c ∷ [] → s ≡ r ++ d ∷ [] → t ≡ s → map f t ≡ map f xs ++ (f a ∷ f b ∷ f c ∷ f d ∷ [])
-four_pushed {A} f xs p q r s t a b c d h i j k l =
-    ap (map f) (l ∙ k ∙ ap (λ (u : List A). u ++ d ∷ []) (j ∙ ap (λ (u : List A). u ++ c ∷ [])
-    (i ∙ ap (λ (u : List A). u ++ b ∷ []) h)))
-    ∙ four_more f xs a b c d
 
 -- four items after others, each the same as another
 pub four_same : (xs : List (List ℕ)) (a b c d p q r s : List ℕ) → a ≡ p → b ≡ q → c ≡ r → d ≡ s

@@ -63,10 +63,12 @@ fn print_row(
         let member = row.members.items()[k];
         fields.push(instances[k].id(member))?;
     }
-    fields.push(count.format(row.count).as_bytes())?;
-    fields.push(sum.format(row.sum).as_bytes())?;
-    fields.push(least.format(row.least).as_bytes())?;
-    fields.push(greatest.format(row.greatest).as_bytes())?;
+    fields.extend_from_slice(&[
+        count.format(row.count).as_bytes(),
+        sum.format(row.sum).as_bytes(),
+        least.format(row.least).as_bytes(),
+        greatest.format(row.greatest).as_bytes(),
+    ])?;
     out.row(&fields)
 }
 

@@ -10,7 +10,7 @@ use Rattle.olap_cube_views.specs.CubeViewText.{ids_in}
 use Rattle.olap_cube_views.specs.Dimensions.{instances_of}
 use Rattle.olap_cube_views.specs.Seen.{members_of}
 use Rattle.olap_cube_views.proofs.AncestorLemmas.{members_length}
-use Rattle.olap_cube_views.proofs.CubePrintingLemmas.{four_pushed, four_same, ids_end, ids_more, is_inside, members_from}
+use Rattle.olap_cube_views.proofs.CubePrintingLemmas.{four_same, ids_end, ids_more, is_inside, members_from}
 use Rattle.olap_cube_views.proofs.ReferenceLemmas.{pointed_at}
 use Rattle.olap_cube_views.proofs.printing.print_row.Goals as goal
 
@@ -81,9 +81,9 @@ returns-clause-text c =
     let sum : c.as_bytes-2.result.now ≡ signed_decimal c.args.row.now.sum = search rules in
     let least : c.as_bytes-3.result.now ≡ signed_decimal c.args.row.now.least = search rules in
     let greatest : c.as_bytes-4.result.now ≡ signed_decimal c.args.row.now.greatest = search rules in
-    let fields = four_pushed (λ (f : Bor (List ℕ)). f.now) old c.push-2.new.self.items c.push-3.new.self.items
-    c.push-4.new.self.items c.push-5.new.self.items c.deref.result.now a b d e c.in_ok-push-2.ensures.items
-    c.in_ok-push-3.ensures.items c.in_ok-push-4.ensures.items c.in_ok-push-5.ensures.items c.deref.ensures.value
+    let fields =
+    ap (map (λ (f : Bor (List ℕ)). f.now)) (c.deref.ensures.value ∙ c.in_ok-extend_from_slice.ensures.items)
+    ∙ map-append (λ (f : Bor (List ℕ)). f.now) old (a ∷ b ∷ d ∷ e ∷ [])
     ∙ ap (λ (t : List (List ℕ)). t ++ (a.now ∷ b.now ∷ d.now ∷ e.now ∷ [])) ids
     ∙ four_same (ids_in is (members_of ms)) a.now b.now d.now e.now (decimal r.count) (signed_decimal r.sum)
     (signed_decimal r.least) (signed_decimal r.greatest) count sum least greatest in
