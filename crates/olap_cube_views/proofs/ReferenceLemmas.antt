@@ -1,8 +1,9 @@
--- What references point to.
---     pointed_at     at a place
+-- What references point to, and what else stands for the items of a list.
+--     pointed_at     what a reference points to, at a place
 --     pointed_from   from a place on
-use Rattle.std.proofs.Common.{◌≡◌, ℕ, ◌+◌, ◌<◌, Bor, List, ◌∷◌, length, get_or, map, drop, sym, ap, ◌∙◌, arith}
-use Rattle.std.proofs.lemmas.List.{drop_more, get_or-map, length-map}
+--     mapped_more    what stands for the items of a list, which gets one item more
+use Rattle.std.proofs.Common.{◌≡◌, ℕ, ◌+◌, ◌<◌, Bor, List, ◌∷◌, [], ◌++◌, length, get_or, map, drop, take, sym, ap, ◌∙◌, arith}
+use Rattle.std.proofs.lemmas.List.{drop_more, get_or-map, length-map, map-append, take_more}
 
 -- the reference at k points to what stands there, whatever is said to stand past the end
 pub pointed_at : {X : Type 0} (refs : List (Bor X)) (k : ℕ) (r : Bor X) (d : X) → k < length refs → r ≡ get_or refs k r
@@ -18,3 +19,10 @@ pointed_from {X} refs k r h e =
     let n = length-map refs (λ (s : Bor X). s.now) in
     let there : k < length pointed = omega arith in
     drop_more pointed k r.now there ∙ ap (λ (x : X). x ∷ drop (k + 1) pointed) (sym (pointed_at refs k r r.now h e))
+
+-- what stands for one item more: where it is the first items of ys, now one more of them
+pub mapped_more : {X Y : Type 0} (f : X → Y) (old new : List X) (x : X) (ys : List Y) (k : ℕ) (d : Y) → k < length ys
+    → new ≡ old ++ x ∷ [] → map f old ≡ take k ys → f x ≡ get_or ys k d → map f new ≡ take (k + 1) ys
+mapped_more {X} {Y} f old new x ys k d h e o p =
+    ap (map f) e ∙ map-append f old (x ∷ []) ∙ ap (λ (t : List Y). t ++ f x ∷ []) o
+    ∙ ap (λ (y : Y). take k ys ++ y ∷ []) p ∙ sym (take_more ys k d h)
