@@ -92,6 +92,7 @@ impl TargetColumns {
     /// The columns, in order, lent.
     pub(crate) fn lent(&self, alloc: Global) -> Result<Vec<Column<'_>>, Memory>
         ensures columns { IfOk result (λ v. v.items ≡ self.now) }
+        ensures few { IfOk result (λ v. length v.items ≤ most_dimensions) }
     {
         let mut columns = Vec::new(alloc);
         'dimensions: for k in 0..self.len() {

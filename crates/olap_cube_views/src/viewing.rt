@@ -1,8 +1,8 @@
 // The direct view of a cube's target, from facts or from a text of them.
-ghost use Rattle.std.specs.Prelude.{◌≡◌, ◌≤◌, All, IfErr, IfOk, MatchResult, [], length, map};
-ghost use Rattle.olap_base.specs.Limits.{most_count, most_listed_facts};
+ghost use Rattle.std.specs.Prelude.{◌≡◌, ◌≤◌, All, IfErr, IfOk, List as Items, MatchResult, [], length, map};
+ghost use Rattle.olap_base.specs.Limits.{most_count};
 ghost use Rattle.olap_cube.specs.Limits.{most_dimensions};
-ghost use Rattle.olap_cube.specs.CubeViews.{CubeFact as TheFact, cube_direct_rows, cube_direct_view};
+ghost use Rattle.olap_cube.specs.CubeViews.{CubeFact as TheFact, cube_direct_view};
 ghost use Rattle.olap_facts.specs.Refusals.{IsFaultCause};
 ghost use Rattle.olap_records.specs.Faults.{first_fault};
 ghost use Rattle.olap_records.specs.Records.{records_of};
@@ -12,11 +12,11 @@ ghost use Rattle.olap_cube_views.specs.CubeRefusals.{IsCubeRefusedBy};
 ghost use Rattle.olap_cube_views.specs.CubeRollingUp.{IsCubeRolledUp};
 ghost use Rattle.olap_cube_views.specs.CubeTallies.{AreMembers, CubeStandsFor};
 ghost use Rattle.olap_cube_views.specs.Dimensions.{AreMadeFor, categories_in, graphs_of, instances_in, instances_of};
-ghost use Rattle.olap_cube_views.specs.Seen.{cube_facts_of, cube_rows_of, cube_view_of, members_of};
+ghost use Rattle.olap_cube_views.specs.Seen.{cube_facts_of, cube_view_of, members_of};
 
 use crate::reading::{begins, fact};
 use crate::tallies::{CubeTally, columns};
-use crate::{CubeFacts, CubeRow, CubeView, Legals, TargetColumns};
+use crate::{CubeFacts, CubeView, Legals, TargetColumns};
 use olap_base::{CatId, List, Memory};
 use olap_facts::{FactKind, FactRefusal};
 use olap_graph::Graph;
@@ -24,13 +24,17 @@ use olap_instance::Instance;
 use olap_records::Rows;
 use std::alloc::Global;
 
-/// A view with these rows.
-fn view(alloc: Global, target: &[CatId], rows: Vec<CubeRow>) -> Result<CubeView, Memory>
-    ensures target { IfOk result (λ v. ids v.target ≡ ids target.now) }
-    ensures rows { IfOk result (λ v. v.rows ≡ rows.items) }
+/// The direct view of a tally's target from the facts that were added.
+fn view(alloc: Global, target: &[CatId], tally: &CubeTally) -> Result<CubeView, Memory>
+    requires { tally.now.target ≡ ids target.now }
+    ensures view { IfOk result (λ v. (facts : Items TheFact) → CubeStandsFor tally.now facts
+        → cube_view_of v ≡ cube_direct_view tally.now.instances facts (ids target.now)) }
+    ensures members { IfOk result
+        (λ v. All (λ r. AreMembers tally.now.instances (members_of r.members)) v.rows) }
 {
     let mut categories = Vec::new(alloc);
     categories.extend_from_slice(target)?;
+    let rows = tally.rows(alloc)?;
     Ok(CubeView {
         target: List::from_vec(categories),
         rows: List::from_vec(rows),
@@ -56,8 +60,7 @@ fn direct(
     'facts: for fact in facts.rows.items() {
         tally.add(fact)?;
     }
-    let rows = tally.rows(alloc)?;
-    view(alloc, target, rows)
+    view(alloc, target, tally)
 }
 
 /// The direct view of a target, a category of each dimension: a row for each tuple of their members that some fact's
@@ -142,33 +145,34 @@ fn rolled_up_left(
         });
     }
     add_rows(alloc, graphs, instances, rows, tally)?;
-    let rows = tally.rows(alloc)?;
-    Ok(view(alloc, target, rows)?)
+    Ok(view(alloc, target, tally)?)
 }
 
-/// The direct view of a target from a text of facts, or the text's first fault. The tally, of this target, is empty.
+/// The direct view of the columns' categories from a text of facts, or the text's first fault. The tally, over these
+/// columns, is empty.
 fn rolled_up(
     alloc: Global,
     graphs: &[&Graph],
-    instances: &[&Instance],
-    target: &[CatId],
+    columns: &TargetColumns,
     tally: &mut CubeTally,
     text: &[u8],
 ) -> Result<CubeView, FactRefusal>
-    requires few { length instances.now ≤ most_dimensions }
-    requires made { AreMadeFor (graphs_of graphs.now) (instances_of instances.now) }
-    requires instances { tally.old.instances ≡ instances_of instances.now }
-    requires target { tally.old.target ≡ ids target.now }
+    requires made { AreMadeFor (graphs_of graphs.now) (instances_in columns.now) }
+    requires instances { tally.old.instances ≡ instances_in columns.now }
+    requires target { tally.old.target ≡ categories_in columns.now }
     requires start { CubeStandsFor tally.old [] }
     ensures view { IfOk result (λ v. IsCubeRolledUp (graphs_of graphs.now)
-        (instances_of instances.now) (records_of text.now) (ids target.now) (cube_view_of v)) }
+        (instances_in columns.now) (records_of text.now) (categories_in columns.now)
+        (cube_view_of v)) }
     ensures members { IfOk result (λ v.
-        All (λ r. AreMembers (instances_of instances.now) (members_of r.members)) v.rows) }
+        All (λ r. AreMembers (instances_in columns.now) (members_of r.members)) v.rows) }
     ensures err { IfErr result (λ e. IsCubeRefusedBy e
-        (cube_facts_read (graphs_of graphs.now) (instances_of instances.now) (records_of text.now))) }
+        (cube_facts_read (graphs_of graphs.now) (instances_in columns.now) (records_of text.now))) }
 {
+    let instances = columns.instances(alloc)?;
+    let target = columns.target(alloc)?;
     let mut rows = Rows::new(alloc, text);
-    rolled_up_left(alloc, graphs, instances, target, tally, &mut rows)
+    rolled_up_left(alloc, graphs, &instances, &target, tally, &mut rows)
 }
 
 /// The direct view of the columns' categories from a text of facts, or the text's first fault, which is that of
@@ -194,8 +198,6 @@ pub fn cube_roll_up(
         IsCubeRefusedBy e
         (cube_facts_read (graphs_of graphs.now) (instances_in columns.now) (records_of text.now))) }
 {
-    let instances = columns.instances(alloc)?;
-    let target = columns.target(alloc)?;
     let mut tally = CubeTally::new(alloc, columns.lent(alloc)?);
-    rolled_up(alloc, graphs, &instances, &target, &mut tally, text)
+    rolled_up(alloc, graphs, columns, &mut tally, text)
 }

@@ -1,14 +1,17 @@
 -- The view of all facts of the records.
-use Rattle.std.proofs.Common.{◌≡◌, Bor, List, ℕ, map, ap, sym, ◌∙◌}
+use Rattle.std.proofs.Common.{◌≡◌, Bor, List, map, ap, sym, ◌∙◌}
 use Rattle.std.proofs.lemmas.List.{length-map}
 use Rattle.olap_base.specs.Instance.{Instance}
-use Rattle.olap_cube.specs.CubeViews.{cube_direct_rows, cube_direct_view}
+use Rattle.olap_cube.specs.CubeViews.{cube_direct_view}
 use Rattle.olap_view.specs.Seen.{ids}
 use Rattle.olap_cube_views.specs.CubeFactText.{cube_fact_read, has_header}
 use Rattle.olap_cube_views.specs.Dimensions.{graphs_of, instances_of}
-use Rattle.olap_cube_views.specs.Seen.{cube_rows_of, cube_view_of}
+use Rattle.olap_cube_views.specs.Seen.{cube_view_of}
 use Rattle.olap_cube_views.proofs.CubeReadingLemmas.{cube_rolled_up}
 use Rattle.olap_cube_views.proofs.viewing.rolled_up_left.Goals as goal
+
+pub view-requires : goal.view-requires
+view-requires c = c.in_ok-add_rows.ensures.target ∙ c.requires.target
 
 pub returns-clause-view : goal.returns-clause-view
 returns-clause-view c =
@@ -17,15 +20,10 @@ returns-clause-view c =
     let records = c.args.rows.now.left in
     let left = c.begins.new.rows.left in
     let facts = map (cube_fact_read is) left in
-    let t = c.add_rows.new.tally in
     let target = ids c.args.target.now in
-    let rows = ap cube_rows_of c.in_ok-view.ensures.rows
-    ∙ c.in_ok-rows.ensures.rows facts c.in_ok-add_rows.ensures.facts.1
-    ∙ ap (λ (js : List Instance). cube_direct_rows js t.target facts) c.in_ok-add_rows.ensures.instances
-    ∙ ap (λ (cs : List ℕ). cube_direct_rows is cs facts)
-    (c.in_ok-add_rows.ensures.target ∙ c.requires.target) in
     let view : cube_view_of c.in_ok-view.field-0 ≡ cube_direct_view is facts target =
-    λ i. record { target = c.in_ok-view.ensures.target i; rows = rows i } in
+    c.in_ok-view.ensures.view facts c.in_ok-add_rows.ensures.facts.1
+    ∙ ap (λ (js : List Instance). cube_direct_view js facts target) c.in_ok-add_rows.ensures.instances in
     cube_rolled_up gs is records left target (cube_view_of c.in_ok-view.field-0)
     (ap (λ n. has_header n records) (length-map c.args.instances.now (λ (i : Bor Instance). i.now))
     ∙ sym c.in_ok-begins.ensures.header
