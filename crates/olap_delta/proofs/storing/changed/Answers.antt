@@ -1,8 +1,8 @@
--- One fact more.
+-- One fact more, and all of them.
 use Rattle.std.proofs.Common.{◌≡◌, ◌+◌, ◌<◌, ◌∷◌, ◌++◌, [], List, length, length-take, get_or, map, pos, take, ap, sym, subst, ◌∙◌, arith}
-use Rattle.std.proofs.lemmas.List.{length-map, length-take-le, map-append, take_more}
+use Rattle.std.proofs.lemmas.List.{length-map, length-take-le, map-append, take_all, take_more}
 use Rattle.olap_base.specs.Views.{Fact}
-use Rattle.olap_facts.specs.Seen.{fact_of}
+use Rattle.olap_facts.specs.Seen.{fact_of, facts_of}
 use Rattle.olap_facts.specs.declared.tables.Fact as told
 use Rattle.olap_delta.specs.Lots.{StandFor}
 use Rattle.olap_delta.proofs.storing.changed.Goals as goal
@@ -61,3 +61,29 @@ facts-preserved c =
       stand = subst (λ (fs : List Fact). StandFor c.args.legal.now fs c.take.new.self) (sym more)
           (e.stand c.args.legal.now (map fact_of (take k read)) inv.stand);
     }
+
+pub returns-in-Some-clause-ok : goal.returns-in-Some-clause-ok
+returns-in-Some-clause-ok c =
+    let changed = rw c.in-Some.is at c.in_ok-store.ensures.views in
+    changed (facts_of c.args.facts.now)
+    (subst (λ (l : List told.Fact). StandFor c.args.legal.now (map fact_of l) c.facts.lots)
+    (take_all c.facts.fact-index c.items-fact-items.result.now c.facts-test.false ∙ c.items-fact-items.ensures)
+    c.facts.invariant.stand)
+
+pub returns-in-Some-clause-sound : goal.returns-in-Some-clause-sound
+returns-in-Some-clause-sound c = rw c.in-Some.is at c.in_ok-store.ensures.sound
+
+pub returns-in-Some-clause-order : goal.returns-in-Some-clause-order
+returns-in-Some-clause-order c = rw c.in-Some.is at c.in_ok-store.ensures.order
+
+pub returns-in-None-clause-ok : goal.returns-in-None-clause-ok
+returns-in-None-clause-ok c = c.one_by_one.ensures.ok
+
+pub returns-in-None-clause-sound : goal.returns-in-None-clause-sound
+returns-in-None-clause-sound c = c.one_by_one.ensures.sound
+
+pub returns-in-None-clause-order : goal.returns-in-None-clause-order
+returns-in-None-clause-order c = c.one_by_one.ensures.order
+
+pub returns-in-None-clause-err : goal.returns-in-None-clause-err
+returns-in-None-clause-err c = c.one_by_one.ensures.err
