@@ -133,7 +133,7 @@ module _ {D T X : Type 0} {L : Library D} {old new : D} {step : Order T} {meanin
   as_read x s = record { comes_out = s.comes_out; ends = tt; same = s.same; later = s.later }
 
   -- a step ends as it does whatever it would have come to
-  pub ended_so : {stop : Stop} → FileStep {T = T} {X = T} L old new step (λ y. y) (Err stop)
+  pub ended_so : {Y : Type 0} {other : Y → T} {stop : Stop} → FileStep L old new step other (Err stop)
       → FileStep L old new step meaning (Err stop)
   ended_so s = record { comes_out = tt; ends = s.ends; same = s.same; later = s.later }
 

@@ -1,5 +1,5 @@
 // The steps that read a file of each dimension.
-ghost use Rattle.std.specs.Prelude.{◌≡◌, ◌≤◌, [], IfOk, codes, length};
+ghost use Rattle.std.specs.Prelude.{◌≡◌, ◌≤◌, [], IfOk, OnOk, codes, length};
 ghost use Rattle.std.specs.String.{string_bytes};
 ghost use Rattle.olap_cube.specs.CubeSummarizable.{graphs_of};
 ghost use Rattle.olap_cube.specs.Limits.{most_dimensions};
@@ -107,6 +107,36 @@ fn dimension_column<L: Library>(
     }
 }
 
+/// Adds the columns of the target's categories in the legal instances in files, one of each dimension's schema, where
+/// no column stands yet.
+fn add_columns<L: Library>(
+    alloc: Global,
+    cube: &Cube,
+    target: &[CatId],
+    files: &[String],
+    columns: &mut TargetColumns,
+    lib: &mut L,
+) -> Result<(), Stop>
+    requires each { length files.now ≡ length (schemas_of cube.now) }
+    requires target { length target.now ≡ length (schemas_of cube.now) }
+    requires none { columns.old ≡ [] }
+    ensures step { FileStep L.Library lib.old lib.new
+        (legal_files 1 [] (schemas_of cube.now) (texts files.now)) (λ _. instances_in columns.new) result }
+    ensures made { OnOk result (AreMadeFor (graphs_of (schemas_of cube.now)) (instances_in columns.new)) }
+    ensures categories { OnOk result (categories_in columns.new ≡ ids target.now) }
+{
+    'files: for k in 0..cube.len() {
+        let schema = cube.schema(k);
+        let file = files[k].as_str();
+        let column = dimension_column(alloc, k + 1, schema, target[k], file, lib)?;
+        match columns.push(column) {
+            Ok(()) => {}
+            Err(_) => return Err(Stop::Memory),
+        }
+    }
+    Ok(())
+}
+
 /// The columns of the target's categories in the legal instances in files, one of each dimension's schema. Of no more
 /// than one instance there is a table of ancestors at a time.
 pub(crate) fn columns_in<L: Library>(
@@ -125,14 +155,6 @@ pub(crate) fn columns_in<L: Library>(
     ensures categories { IfOk result (λ columns. categories_in columns ≡ ids target.now) }
 {
     let mut columns = TargetColumns::new(alloc);
-    'files: for k in 0..cube.len() {
-        let schema = cube.schema(k);
-        let file = files[k].as_str();
-        let column = dimension_column(alloc, k + 1, schema, target[k], file, lib)?;
-        match columns.push(column) {
-            Ok(()) => {}
-            Err(_) => return Err(Stop::Memory),
-        }
-    }
+    add_columns(alloc, cube, target, files, &mut columns, lib)?;
     Ok(columns)
 }

@@ -7,7 +7,7 @@ use Rattle.olap_order.specs.Words.{texts}
 use Rattle.olap_view.specs.Seen.{ids}
 use Rattle.olap_cubes.specs.Steps.{legal_files}
 use Rattle.olap_cubes.proofs.FilesLemmas.{AreReadTo}
-use Rattle.olap_cubes.proofs.dimensions.columns_in.Given as goal
+use Rattle.olap_cubes.proofs.dimensions.add_columns.Given as goal
 
 abbrev pub invariant-files : goal.invariant-files
 invariant-files g l = record {
