@@ -1,5 +1,6 @@
 -- The words in which a violation is told.
---     violation_text   which law or constraint is broken, and by which members
+--     law_text         which law or constraint is broken
+--     violation_text   the same, and by which members
 --     IsTellable       the members and the category of a violation are there
 use Rattle.std.specs.Prelude.{ℕ, List, ◌++◌, codes}
 use Rattle.std.specs.Fmt.{decimal}
@@ -17,6 +18,15 @@ id_text i x = quoted (member_at i x).id
 -- two members
 abbrev pub pair_text : Instance → ℕ → ℕ → List ℕ
 pair_text i x y = id_text i x ++ (codes " " ++ id_text i y)
+
+-- which law or constraint is broken
+abbrev pub law_text : Violation → List ℕ
+law_text (law.Connectivity x y) = codes "Connectivity "
+law_text (law.NoParent x) = codes "NoParent "
+law_text (law.Stratification x) = codes "Stratification "
+law_text (law.Partitioning x c) = codes "Partitioning "
+law_text (law.Shortcut x y) = codes "Shortcut "
+law_text (law.Constraint n x) = codes "Constraint "
 
 -- which law or constraint is broken, and by which members
 abbrev pub violation_text : Graph → Instance → Violation → List ℕ

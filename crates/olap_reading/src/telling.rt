@@ -9,7 +9,7 @@ ghost use Rattle.olap_schema.specs.Schemas.{schema_of};
 ghost use Rattle.olap_reading.specs.Broken.{IsBrokenBy};
 ghost use Rattle.olap_order.specs.Outputs.{refusal};
 ghost use Rattle.olap_order.specs.Refusals.{IsRefusal};
-ghost use Rattle.olap_reading.specs.Violations.{IsTellable, id_text, pair_text, violation_text};
+ghost use Rattle.olap_reading.specs.Violations.{IsTellable, id_text, law_text, pair_text, violation_text};
 
 use olap_base::MemberId;
 use olap_check::{CheckRefusal, Violation, check};
@@ -79,6 +79,20 @@ fn push_counted(
     push_id(out, instance, x)
 }
 
+/// The law that a violation breaks, or that it is a constraint.
+fn law(violation: Violation) -> &'static [u8]
+    ensures { result.now ≡ law_text violation }
+{
+    match violation {
+        Violation::Connectivity(..) => b"Connectivity ",
+        Violation::NoParent(_) => b"NoParent ",
+        Violation::Stratification(_) => b"Stratification ",
+        Violation::Partitioning(..) => b"Partitioning ",
+        Violation::Shortcut(..) => b"Shortcut ",
+        Violation::Constraint(..) => b"Constraint ",
+    }
+}
+
 /// Appends a violation's words.
 fn push_violation(
     alloc: Global,
@@ -91,33 +105,16 @@ fn push_violation(
     ensures { OnOk result (out.new.items
         ≡ out.old.items ++ violation_text graph.now instance.now violation) }
 {
+    out.extend_from_slice(law(violation))?;
     match violation {
-        Violation::Connectivity(x, y) => {
-            out.extend_from_slice(b"Connectivity ")?;
-            push_pair(out, instance, x, y)
-        }
-        Violation::NoParent(x) => {
-            out.extend_from_slice(b"NoParent ")?;
-            push_id(out, instance, x)
-        }
-        Violation::Stratification(x) => {
-            out.extend_from_slice(b"Stratification ")?;
-            push_id(out, instance, x)
-        }
+        Violation::Connectivity(x, y) | Violation::Shortcut(x, y) => push_pair(out, instance, x, y),
+        Violation::NoParent(x) | Violation::Stratification(x) => push_id(out, instance, x),
         Violation::Partitioning(x, c) => {
-            out.extend_from_slice(b"Partitioning ")?;
             push_id(out, instance, x)?;
             out.extend_from_slice(b" ")?;
             out.extend_from_slice(graph.name(c).bytes())
         }
-        Violation::Shortcut(x, y) => {
-            out.extend_from_slice(b"Shortcut ")?;
-            push_pair(out, instance, x, y)
-        }
-        Violation::Constraint(n, x) => {
-            out.extend_from_slice(b"Constraint ")?;
-            push_counted(alloc, out, n, instance, x)
-        }
+        Violation::Constraint(n, x) => push_counted(alloc, out, n, instance, x),
     }
 }
 
