@@ -11,7 +11,7 @@ mod limits;
 mod lists;
 mod texts;
 
-pub use ids::{CatId, EdgeId, Failed, MemberId, Memory};
+pub use ids::{CatId, EdgeId, MemberId, Memory};
 pub use laws::{
     above_is_lawful, agree_exactly_if_reached_by_one, one_facts_views, totals_of_summaries,
     totals_of_values,

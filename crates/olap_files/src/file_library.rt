@@ -3,8 +3,7 @@
 ghost use Rattle.std.specs.Prelude.{◌≡◌, None, false, is_some};
 ghost use Rattle.olap_files.specs.Calls.{refused_calls};
 
-use olap_base::Failed;
-use olap_outside::{Library, OpenError};
+use olap_outside::{Failed, Library, OpenError};
 use std::fs;
 use std::fs::Files;
 use std::io::{ErrorKind, Read};

@@ -2,8 +2,7 @@
 ghost use Rattle.std.specs.Prelude.{◌≡◌, ◌==◌, None};
 ghost use Rattle.olap_files.specs.Calls.{refused_writes};
 
-use olap_base::Failed;
-use olap_outside::Sink;
+use olap_outside::{Failed, Sink};
 
 /// Standard output. That it takes nothing of a piece is a fault.
 #[derive(Drop)]

@@ -4,8 +4,7 @@ ghost use Rattle.std.specs.Io.KnownBytes.{Appends};
 ghost use Rattle.olap_outside.specs.Faults.{HasCause};
 ghost use Rattle.olap_outside.specs.Sinks.{AppendsPart};
 
-use crate::Sink;
-use olap_base::Failed;
+use crate::{Failed, Sink};
 
 /// Writes all the bytes, as many at a time as the sink takes. It takes no memory. Where the sink refuses a write, a
 /// part of the bytes that isn't the whole was written.

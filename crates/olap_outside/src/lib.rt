@@ -16,6 +16,6 @@ pub use emitting::emit;
 pub use fetching::{FetchError, fetch};
 pub use laws::no_faults_none_rose;
 pub use library_in_memory::MemLibrary;
-pub use outside::{Library, OpenError, Sink};
+pub use outside::{Failed, Library, OpenError, Sink};
 pub use sink_in_memory::MemSink;
 pub use sure::{SureLibrary, SureSink};

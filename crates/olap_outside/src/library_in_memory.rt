@@ -6,8 +6,8 @@ ghost use Rattle.olap_outside.specs.Files.{content_of, file_at, IsPlace, Takes};
 ghost use Rattle.olap_outside.specs.Told.{rest_told};
 ghost use Rattle.olap_outside.specs.Faults.{one_more};
 
-use crate::{Library, OpenError};
-use olap_base::{Failed, List, Text};
+use crate::{Failed, Library, OpenError};
+use olap_base::{List, Text};
 
 /// Files by name in memory, for tests. A read hands out at most `chunk` bytes. Calls of `open_file` and `read` are
 /// numbered together from 1, and those that are listed are refused; else only a name that isn't held is. It tells

@@ -6,8 +6,6 @@ ghost use Rattle.olap_outside.specs.Files.{Files, Asks, Opens, Takes, Lacks};
 ghost use Rattle.olap_outside.specs.Sinks.{TakesSurely};
 ghost use Rattle.olap_outside.specs.declared.outside.OpenError.TheVariants.{Missing};
 
-use olap_base::Failed;
-
 /// Why a file wasn't opened.
 #[derive(Clone, Copy, Debug, PartialEq, Eq)]
 pub enum OpenError {
@@ -16,6 +14,10 @@ pub enum OpenError {
     /// The file couldn't be opened.
     Failed,
 }
+
+/// The outside refused a read or a write.
+#[derive(Clone, Copy, Debug, PartialEq, Eq)]
+pub struct Failed;
 
 /// Files by name, of which one at a time is open.
 pub trait Library {

@@ -3,9 +3,9 @@ ghost use Rattle.std.specs.Prelude.{◌≡◌, ◌||◌, ◌<◌, ◌≤◌, nat
 ghost use Rattle.std.specs.Vec.{vec_len, vec_capacity};
 ghost use Rattle.olap_outside.specs.Faults.{one_more};
 
-use crate::Sink;
 use crate::library_in_memory::is_listed;
-use olap_base::{Failed, List, Memory};
+use crate::{Failed, Sink};
+use olap_base::{List, Memory};
 use std::alloc::Global;
 
 /// Output in memory, for tests. It takes at most `chunk` bytes a call and `room` in all. Calls are numbered from 1, and

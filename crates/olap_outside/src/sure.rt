@@ -4,8 +4,8 @@ ghost use Rattle.std.specs.Option.{ForSome};
 ghost use Rattle.olap_outside.specs.Files.{opened_content};
 
 use crate::library_in_memory::{hand_out, place};
-use crate::{Library, OpenError, Sink};
-use olap_base::{Failed, List, Text};
+use crate::{Failed, Library, OpenError, Sink};
+use olap_base::{List, Text};
 
 /// Files by name in memory, of which none is missing: a name that isn't held has no bytes. A read hands out at most
 /// `chunk` bytes. It tells its contents, and not what it was asked for.

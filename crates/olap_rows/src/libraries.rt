@@ -1,8 +1,7 @@
 // A library whose files can be opened once each, in the order in which they are given.
 ghost use Rattle.std.specs.Prelude.{◌≤◌, None, false, length};
 
-use olap_base::Failed;
-use olap_outside::{Library, OpenError};
+use olap_outside::{Failed, Library, OpenError};
 
 /// What a file holds.
 #[derive(Clone, Copy)]
