@@ -1,6 +1,5 @@
 -- Lemmas.
 pub mod Reading
-mod FetchLemmas
 pub mod Writing
 pub mod Places
 pub mod FaultLemmas

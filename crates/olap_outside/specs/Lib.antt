@@ -5,5 +5,6 @@ pub mod Faults
 pub mod Files
 pub mod Sinks
 -- The inside: what the values in memory stand for.
+pub mod Calls
 pub mod Told
 pub mod Written

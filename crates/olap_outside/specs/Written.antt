@@ -1,15 +1,12 @@
--- What the libraries and the sink in memory were made with, what they stand for, and which of their calls are listed.
---     mem_..          of `MemLibrary`: its files, piece size and listed calls, what it tells, and its counts
---     fails_next      its next call is listed to fail
---     sink_..         of `MemSink`: its room, piece size and listed calls, what it takes for sure, and its counts
---     written         the bytes that the sink holds
---     refuses_next    its next call is listed to fail
---     sure_..         of `SureLibrary`: its files and piece size, and what it tells
+-- What the libraries and the sink in memory were made with, and what they stand for.
+--     mem_..      of `MemLibrary`: its files and piece size, its calls, and what it tells
+--     sink_..     of `MemSink`: its room and piece size, its calls, and what it takes for sure
+--     written     the bytes that the sink holds
+--     sure_..     of `SureLibrary`: its files and piece size, and what it tells
 use Rattle.std.specs.Prelude.{ℕ, ◌+◌, ◌==◌, ◌&&◌, nat_le, Bool, List, drop, length, Option, Some}
 use Rattle.std.specs.Option.{option_map}
-use Rattle.olap_outside.specs.Faults.{one_more}
 use Rattle.olap_outside.specs.Files.{Files, content_of, content_or_empty, file_at, opened_content}
-use Rattle.std.specs.List.{list_any}
+use Rattle.olap_outside.specs.declared.calls.Calls.{Calls}
 use Rattle.olap_outside.specs.declared.sink_in_memory.MemSink.{MemSink}
 use Rattle.olap_outside.specs.declared.library_in_memory.MemLibrary.{MemLibrary}
 use Rattle.olap_outside.specs.declared.sure.SureLibrary.{SureLibrary}
@@ -24,12 +21,8 @@ mem_files m = m.files
 abbrev pub mem_chunk : MemLibrary → ℕ
 mem_chunk m = m.chunk
 
--- the numbers of the calls that are listed to fail
-abbrev pub mem_fails : MemLibrary → List ℕ
-mem_fails m = m.fails
-
--- how many calls it has had
-abbrev pub mem_calls : MemLibrary → ℕ
+-- the calls that it has had, and those that are listed to fail
+abbrev pub mem_calls : MemLibrary → Calls
 mem_calls m = m.calls
 
 -- for each name its content, or that it has none
@@ -54,15 +47,11 @@ mem_taken m = m.taken
 
 -- how many calls were refused
 abbrev pub mem_faults : MemLibrary → ℕ
-mem_faults m = m.faults
+mem_faults m = m.calls.faults
 
 -- no call is listed to fail
 abbrev pub mem_sure : MemLibrary → Bool
-mem_sure m = length m.fails == 0
-
--- the next call is listed to fail
-abbrev pub fails_next : MemLibrary → Bool
-fails_next m = list_any (λ n. n == one_more m.calls) m.fails
+mem_sure m = length m.calls.fails == 0
 
 -- ---- a sink in memory
 
@@ -78,25 +67,17 @@ sink_room s = s.room
 abbrev pub sink_chunk : MemSink → ℕ
 sink_chunk s = s.chunk
 
--- the numbers of the calls that are listed to fail
-abbrev pub sink_fails : MemSink → List ℕ
-sink_fails s = s.fails
-
--- how many calls it has had
-abbrev pub sink_calls : MemSink → ℕ
+-- the calls that it has had, and those that are listed to fail
+abbrev pub sink_calls : MemSink → Calls
 sink_calls s = s.calls
 
 -- how many calls were refused
 abbrev pub sink_faults : MemSink → ℕ
-sink_faults s = s.faults
+sink_faults s = s.calls.faults
 
 -- no call is listed to fail, and there is room for so many bytes more
 abbrev pub sink_takes : MemSink → ℕ → Bool
-sink_takes s k = length s.fails == 0 && nat_le (length s.bytes.items + k) s.room
-
--- the next call is listed to fail
-abbrev pub refuses_next : MemSink → Bool
-refuses_next s = list_any (λ n. n == one_more s.calls) s.fails
+sink_takes s k = length s.calls.fails == 0 && nat_le (length s.bytes.items + k) s.room
 
 -- ---- a library that refuses nothing
 

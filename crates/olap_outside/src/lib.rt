@@ -4,6 +4,7 @@
 //! calls that they refuse. Beside the traits stand libraries and sinks in memory, for tests and for proofs.
 #![tactic(auto)]
 
+mod calls;
 mod emitting;
 mod fetching;
 mod laws;

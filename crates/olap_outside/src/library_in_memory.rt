@@ -1,11 +1,10 @@
 // A library in memory, which refuses the calls that are listed.
-ghost use Rattle.std.specs.Prelude.{◌≡◌, ◌+◌, ◌==◌, not, is_ok, is_some, OnOk, OnErr, IsErrOf, IsOk, IsOkUnless, ◌<◌, ◌≤◌, ℕ, Bool, false, true, List as Items, length, take, drop, IfSome, IfNone, IfOk, IsTrue, IsSome, None, Some, slice_index_or};
-ghost use Rattle.std.specs.List.{list_any};
+ghost use Rattle.std.specs.Prelude.{◌≡◌, ◌+◌, not, is_ok, is_some, OnOk, OnErr, IsErrOf, IsOk, IsOkUnless, ◌<◌, ◌≤◌, ℕ, Bool, false, true, List as Items, length, take, drop, IfSome, IfNone, IfOk, IsTrue, IsSome, None, Some, slice_index_or};
 ghost use Rattle.std.specs.Option.{ForSome, option_map};
 ghost use Rattle.olap_outside.specs.Files.{content_of, file_at, IsPlace, Takes};
 ghost use Rattle.olap_outside.specs.Told.{rest_told};
-ghost use Rattle.olap_outside.specs.Faults.{one_more};
 
+use crate::calls::Calls;
 use crate::{Failed, Library, OpenError};
 use olap_base::{List, Text};
 
@@ -16,9 +15,7 @@ use olap_base::{List, Text};
 pub struct MemLibrary {
     files: List<(Text, Text)>,
     chunk: usize,
-    fails: List<u64>,
-    calls: u64,
-    faults: u64,
+    calls: Calls,
     ready: bool,
     asked: Option<usize>,
     taken: usize,
@@ -42,17 +39,16 @@ pub(crate) fn place(files: &[(Text, Text)], name: &[u8]) -> Option<usize>
 }
 
 impl MemLibrary {
-    ghost use Rattle.olap_outside.specs.Written.{mem_files, mem_chunk, mem_fails, mem_asked, mem_calls, mem_faults, mem_ready, mem_taken};
+    ghost use Rattle.olap_outside.specs.Calls.{no_calls};
+    ghost use Rattle.olap_outside.specs.Written.{mem_files, mem_chunk, mem_calls, mem_asked, mem_ready, mem_taken};
 
     /// A library of these files, names with contents, and of the numbers of the calls that are to fail.
     pub fn new(files: List<(Text, Text)>, chunk: usize, fails: List<u64>) -> MemLibrary
         requires { 0 < chunk }
         ensures files { mem_files result ≡ files }
         ensures chunk { mem_chunk result ≡ chunk }
-        ensures fails { mem_fails result ≡ fails }
         // Fresh: no call was made.
-        ensures calls { mem_calls result ≡ 0 }
-        ensures faults { mem_faults result ≡ 0 }
+        ensures calls { mem_calls result ≡ no_calls fails }
         ensures asked { mem_asked result ≡ Some None }
         ensures ready { mem_ready result ≡ false }
         ensures taken { mem_taken result ≡ 0 }
@@ -60,23 +56,12 @@ impl MemLibrary {
         MemLibrary {
             files,
             chunk,
-            fails,
-            calls: 0,
-            faults: 0,
+            calls: Calls::new(fails),
             ready: false,
             asked: None,
             taken: 0,
         }
     }
-}
-
-/// Counts a call, and says whether it is listed.
-pub(crate) fn is_listed(calls: &mut u64, fails: &[u64]) -> bool
-    ensures counted { calls.new ≡ one_more calls.old }
-    ensures listed { result ≡ list_any (λ n. n == one_more calls.old) fails.now }
-{
-    *calls = calls.saturating_add(1);
-    fails.contains(calls)
 }
 
 /// Copies at most `chunk` of the bytes from `start` on to the front of the buffer, and says how many.
@@ -96,9 +81,10 @@ pub(crate) fn hand_out(content: &[u8], start: usize, chunk: usize, buf: &mut [u8
 }
 
 impl Library for MemLibrary {
+    ghost use Rattle.olap_outside.specs.Calls.{after_call, fails_next};
     ghost use Rattle.olap_outside.specs.Faults.{HasCause};
     ghost use Rattle.olap_outside.specs.Files.{Asks, Opens, Lacks};
-    ghost use Rattle.olap_outside.specs.Written.{mem_files, mem_chunk, mem_fails, mem_calls, mem_contents, mem_rest, mem_asked, mem_ready, mem_taken, mem_faults, mem_sure, fails_next};
+    ghost use Rattle.olap_outside.specs.Written.{mem_files, mem_chunk, mem_calls, mem_contents, mem_rest, mem_asked, mem_ready, mem_taken, mem_faults, mem_sure};
     ghost use Rattle.olap_outside.specs.declared.outside.OpenError.TheVariants.{Missing, Failed as Refused};
 
     ghost contents = { mem_contents };
@@ -129,30 +115,27 @@ impl Library for MemLibrary {
         ensures sure { mem_sure self.new ≡ mem_sure self.old }
         ensures surely { IsTrue (mem_sure self.old) → IsOkUnless result Missing }
         // Beside the trait's: exactly when each result comes.
-        ensures listed { IsTrue (fails_next self.old) → IsErrOf result Refused }
-        ensures only { IsErrOf result Refused → IsTrue (fails_next self.old) }
-        ensures unheld { IsTrue (not (fails_next self.old))
+        ensures listed { IsTrue (fails_next (mem_calls self.old)) → IsErrOf result Refused }
+        ensures only { IsErrOf result Refused → IsTrue (fails_next (mem_calls self.old)) }
+        ensures unheld { IsTrue (not (fails_next (mem_calls self.old)))
             → is_ok result ≡ is_some (content_of (mem_files self.old) name.now) }
         // What it was made with stays; the calls are counted, and the faults at a refusal alone.
         ensures files { mem_files self.new ≡ mem_files self.old }
         ensures chunk { mem_chunk self.new ≡ mem_chunk self.old }
-        ensures fails { mem_fails self.new ≡ mem_fails self.old }
-        ensures calls { mem_calls self.new ≡ one_more (mem_calls self.old) }
-        ensures quiet { OnOk result (mem_faults self.new ≡ mem_faults self.old) }
-        ensures counted { OnErr result (mem_faults self.new ≡ one_more (mem_faults self.old)) }
+        ensures calls { mem_calls self.new ≡ after_call (mem_calls self.old) (is_ok result) }
     {
-        self.ready = false;
+        let listed = self.calls.is_next_listed();
         self.taken = 0;
         self.asked = place(self.files.items(), name.as_bytes());
-        if is_listed(&mut self.calls, self.fails.items()) {
-            self.faults = self.faults.saturating_add(1);
+        let found = self.asked.is_some();
+        self.ready = !listed && found;
+        self.calls.count(self.ready);
+        if listed {
             return Err(OpenError::Failed);
         }
-        if self.asked.is_none() {
-            self.faults = self.faults.saturating_add(1);
+        if !found {
             return Err(OpenError::Missing);
         }
-        self.ready = true;
         Ok(())
     }
 
@@ -170,22 +153,19 @@ impl Library for MemLibrary {
         ensures sure { mem_sure self.new ≡ mem_sure self.old }
         ensures surely { IsTrue (mem_sure self.old) → IsOk result }
         // Beside the trait's: it is refused exactly if it is listed, and hands out at most `chunk` bytes.
-        ensures listed { is_ok result ≡ not (fails_next self.old) }
+        ensures listed { is_ok result ≡ not (fails_next (mem_calls self.old)) }
         ensures piece { IfOk result (λ n. n ≤ mem_chunk self.old) }
         // What it was made with stays; the calls are counted, and the faults at a refusal alone.
         ensures files { mem_files self.new ≡ mem_files self.old }
         ensures chunk { mem_chunk self.new ≡ mem_chunk self.old }
-        ensures fails { mem_fails self.new ≡ mem_fails self.old }
-        ensures calls { mem_calls self.new ≡ one_more (mem_calls self.old) }
-        ensures quiet { OnOk result (mem_faults self.new ≡ mem_faults self.old) }
-        ensures counted { OnErr result (mem_faults self.new ≡ one_more (mem_faults self.old)) }
+        ensures calls { mem_calls self.new ≡ after_call (mem_calls self.old) (is_ok result) }
     {
         let Some(i) = self.asked else {
             unreachable!();
         };
-        if is_listed(&mut self.calls, self.fails.items()) {
-            self.faults = self.faults.saturating_add(1);
-            self.ready = false;
+        self.ready = !self.calls.is_next_listed();
+        self.calls.count(self.ready);
+        if !self.ready {
             return Err(Failed);
         }
         let count = hand_out(self.files.items()[i].1.bytes(), self.taken, self.chunk, buf);

@@ -1,9 +1,8 @@
 // A sink in memory, which refuses the calls that are listed.
-ghost use Rattle.std.specs.Prelude.{◌≡◌, ◌||◌, ◌<◌, ◌≤◌, nat_le, not, is_ok, OnOk, OnErr, [], length, IfOk, Some};
+ghost use Rattle.std.specs.Prelude.{◌≡◌, ◌||◌, ◌<◌, ◌≤◌, nat_le, not, is_ok, [], length, IfOk, Some};
 ghost use Rattle.std.specs.Vec.{vec_len, vec_capacity};
-ghost use Rattle.olap_outside.specs.Faults.{one_more};
 
-use crate::library_in_memory::is_listed;
+use crate::calls::Calls;
 use crate::{Failed, Sink};
 use olap_base::{List, Memory};
 use std::alloc::Global;
@@ -15,16 +14,15 @@ pub struct MemSink {
     bytes: Vec<u8>,
     room: usize,
     chunk: usize,
-    fails: List<u64>,
-    calls: u64,
-    faults: u64,
+    calls: Calls,
     ghost some: { 0 < chunk },
     ghost reserved: { room ≤ vec_capacity bytes },
     ghost within: { vec_len bytes ≤ room },
 }
 
 impl MemSink {
-    ghost use Rattle.olap_outside.specs.Written.{sink_calls, sink_chunk, sink_fails, sink_faults, sink_room, written};
+    ghost use Rattle.olap_outside.specs.Calls.{no_calls};
+    ghost use Rattle.olap_outside.specs.Written.{sink_calls, sink_chunk, sink_room, written};
 
     /// An empty sink.
     pub fn new(
@@ -36,19 +34,15 @@ impl MemSink {
         requires { 0 < chunk }
         ensures room { IfOk result (λ sink. sink_room sink ≡ room) }
         ensures chunk { IfOk result (λ sink. sink_chunk sink ≡ chunk) }
-        ensures fails { IfOk result (λ sink. sink_fails sink ≡ fails) }
         // Fresh: no call was made.
         ensures written { IfOk result (λ sink. written sink ≡ []) }
-        ensures calls { IfOk result (λ sink. sink_calls sink ≡ 0) }
-        ensures faults { IfOk result (λ sink. sink_faults sink ≡ 0) }
+        ensures calls { IfOk result (λ sink. sink_calls sink ≡ no_calls fails) }
     {
         Ok(MemSink {
             bytes: Vec::with_capacity(alloc, room)?,
             room,
             chunk,
-            fails,
-            calls: 0,
-            faults: 0,
+            calls: Calls::new(fails),
         })
     }
 
@@ -62,9 +56,10 @@ impl MemSink {
 
 impl Sink for MemSink {
     ghost use Rattle.std.specs.Io.KnownBytes.{WriteAppends};
+    ghost use Rattle.olap_outside.specs.Calls.{after_call, fails_next};
     ghost use Rattle.olap_outside.specs.Faults.{HasCause};
     ghost use Rattle.olap_outside.specs.Sinks.{TakesSurely};
-    ghost use Rattle.olap_outside.specs.Written.{sink_calls, sink_chunk, sink_fails, sink_faults, sink_room, sink_takes, refuses_next, written};
+    ghost use Rattle.olap_outside.specs.Written.{sink_calls, sink_chunk, sink_faults, sink_room, sink_takes, written};
 
     ghost contents = { λ s. Some (written s) };
 
@@ -81,19 +76,17 @@ impl Sink for MemSink {
         ensures surely { TakesSurely (sink_takes self.old) (sink_takes self.new) (length piece.now) result }
         // Beside the trait's: refused exactly if it is listed or no room is left, and takes `chunk` bytes at most.
         ensures refused { is_ok result ≡ not
-            (refuses_next self.old || nat_le (sink_room self.old) (length (written self.old))) }
+            (fails_next (sink_calls self.old) || nat_le (sink_room self.old) (length (written self.old))) }
         ensures piece { IfOk result (λ n. n ≤ sink_chunk self.old) }
         // What it was made with stays; the calls are counted, and the faults at a refusal alone.
         ensures room { sink_room self.new ≡ sink_room self.old }
         ensures chunk { sink_chunk self.new ≡ sink_chunk self.old }
-        ensures fails { sink_fails self.new ≡ sink_fails self.old }
-        ensures calls { sink_calls self.new ≡ one_more (sink_calls self.old) }
-        ensures quiet { OnOk result (sink_faults self.new ≡ sink_faults self.old) }
-        ensures counted { OnErr result (sink_faults self.new ≡ one_more (sink_faults self.old)) }
+        ensures calls { sink_calls self.new ≡ after_call (sink_calls self.old) (is_ok result) }
     {
         let left = self.room - self.bytes.len();
-        if is_listed(&mut self.calls, self.fails.items()) || left == 0 {
-            self.faults = self.faults.saturating_add(1);
+        let takes = !self.calls.is_next_listed() && left > 0;
+        self.calls.count(takes);
+        if !takes {
             return Err(Failed);
         }
         let count = left.min(piece.len()).min(self.chunk);
