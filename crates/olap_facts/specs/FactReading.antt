@@ -12,6 +12,7 @@ use Rattle.olap_base.specs.Views.{Fact}
 use Rattle.olap_instance.specs.Made.{IsMadeFor}
 use Rattle.olap_records.specs.Faults.{first_fault}
 use Rattle.olap_facts.specs.FactText.{fact_fault_within, fact_read, facts_read_within, has_header}
+use Rattle.olap_facts.specs.declared.settings.Setting.{Setting}
 use Rattle.olap_facts.specs.declared.kinds.FactKind.{FactKind}
 use Rattle.olap_facts.specs.declared.kinds.FactRefusal.{FactRefusal}
 use Rattle.olap_facts.specs.declared.kinds.FactRefusal.TheVariants as refusal
@@ -70,6 +71,10 @@ IsStopped r (refusal.Fault at kind) =
 IsStopped r refusal.Memory = ⊤
 
 -- ---- within
+
+-- the reader in this setting
+abbrev pub reading_in : Setting → List (List (List ℕ)) → ℕ → Bool → FactReading
+reading_in s records handed live = reading s.graph.now s.instance.now records s.most handed live
 
 -- some records of the body have no fault, and those are left
 pub record HasBody (r : FactReading) (left : List (List (List ℕ))) : Type 0 where

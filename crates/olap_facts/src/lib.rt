@@ -9,6 +9,7 @@ mod kinds;
 mod laws;
 mod readers;
 mod reading;
+mod settings;
 mod tables;
 
 pub use kinds::{FactKind, FactRefusal};

@@ -10,6 +10,7 @@ ghost use Rattle.olap_facts.specs.FactReading.{HandsOut, IsAtEnd, IsStopped, one
 ghost use Rattle.olap_facts.specs.Seen.{fact_of};
 
 use crate::reading::{fill, next_of};
+use crate::settings::Setting;
 use crate::{Fact, FactRefusal};
 use olap_graph::Graph;
 use olap_instance::Instance;
@@ -24,10 +25,8 @@ const FACTS_IN_A_BATCH: usize = 256;
 /// more.
 #[derive(Drop)]
 pub struct FactReader<'a> {
-    graph: &'a Graph,
-    instance: &'a Instance,
+    setting: Setting<'a>,
     text: &'a [u8],
-    most: u64,
     handed: u64,
     live: bool,
     rows: Rows<'a>,
@@ -35,14 +34,14 @@ pub struct FactReader<'a> {
 
 impl<'a> Model for FactReader<'a> {
     ghost use Rattle.olap_records.specs.Records.{records_of};
-    ghost use Rattle.olap_facts.specs.FactReading.{FactReading, IsReader, reading};
+    ghost use Rattle.olap_facts.specs.FactReading.{FactReading, IsReader, reading_in};
 
     ghost Value = { FactReading };
 
-    ghost view = { λ a. reading a.graph.now a.instance.now (records_of a.text.now) a.most a.handed a.live };
+    ghost view = { λ a. reading_in a.setting (records_of a.text.now) a.handed a.live };
 
     ghost invariant = { λ a. IsReader
-        (reading a.graph.now a.instance.now (records_of a.text.now) a.most a.handed a.live)
+        (reading_in a.setting (records_of a.text.now) a.handed a.live)
         a.rows.left };
 }
 
@@ -60,10 +59,12 @@ impl<'a> FactReader<'a> {
         ensures { result ≡ reading graph.now instance.now (records_of text.now) facts 0 true }
     {
         FactReader {
-            graph,
-            instance,
+            setting: Setting {
+                graph,
+                instance,
+                most: facts,
+            },
             text,
-            most: facts,
             handed: 0,
             live: true,
             rows: Rows::new(alloc, text),
@@ -82,9 +83,7 @@ impl<'a> FactReader<'a> {
             IfSome o (λ f. IsBottom self.old.graph (category_of self.old.instance f.member.0))) }
         ensures few { IfOk result (λ o. IfSome o (λ f. self.old.handed < self.old.most)) }
     {
-        let graph = self.graph;
-        let instance = self.instance;
-        match next_of(graph, instance, &mut self.rows, self.handed, self.most) {
+        match next_of(self.setting, &mut self.rows, self.handed) {
             Ok(Some(fact)) => {
                 self.handed += 1;
                 Ok(Some(fact))
@@ -116,15 +115,11 @@ impl<'a> FactReader<'a> {
             All (λ f. f.member.0 < length self.old.instance) batch.new.items) }
         ensures few { IfOk result (λ some. self.old.handed + length batch.new.items ≤ self.old.most) }
     {
-        let graph = self.graph;
-        let instance = self.instance;
         batch.clear();
         match fill(
-            graph,
-            instance,
+            self.setting,
             &mut self.rows,
             self.handed,
-            self.most,
             FACTS_IN_A_BATCH,
             batch,
         ) {

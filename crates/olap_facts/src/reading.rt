@@ -7,11 +7,12 @@ ghost use Rattle.olap_base.specs.Views.{IsFactTable};
 ghost use Rattle.olap_instance.specs.Made.{IsMadeFor};
 ghost use Rattle.olap_records.specs.Records.{records_of};
 ghost use Rattle.olap_facts.specs.Batches.{HasFilled, IsStoppedWithin};
-ghost use Rattle.olap_facts.specs.FactReading.{FactReading, HandsOut, HasAll, HasBody, IsAt, IsStopped, one_more, reading};
+ghost use Rattle.olap_facts.specs.FactReading.{FactReading, HandsOut, HasAll, HasBody, IsAt, IsStopped, one_more, reading_in};
 ghost use Rattle.olap_facts.specs.FactText.{fact_fault_within, fact_read, facts_read, is_bottom};
 ghost use Rattle.olap_facts.specs.Refusals.{IsRefusedBy};
 ghost use Rattle.olap_facts.specs.Seen.{fact_of, facts_of};
 
+use crate::settings::Setting;
 use crate::{Fact, FactKind, FactRefusal, Facts};
 use olap_base::{List, MOST_LISTED_FACTS, MemberId};
 use olap_graph::Graph;
@@ -86,34 +87,31 @@ fn start(rows: &mut Rows, handed: u64) -> Result<(), FactRefusal>
     Ok(())
 }
 
-/// The fact of the next record, if there is one, after so many facts of at most so many.
+/// The fact of the next record, if there is one, after so many facts.
 #[inline(always)]
 pub(crate) fn next_of(
-    graph: &Graph,
-    instance: &Instance,
+    setting: Setting<'_>,
     rows: &mut Rows,
     handed: u64,
-    most: u64,
 ) -> Result<Option<Fact>, FactRefusal>
-    requires made { IsMadeFor graph.now instance.now }
-    requires most { most < 2 ^ 63 }
-    requires few { handed ≤ most }
+    requires few { handed ≤ setting.most }
     ensures reads { (records : Items (Items (Items ℕ))) (live : Bool)
-        → IsAt (reading graph.now instance.now records most handed live) rows.old.left → MatchResult result
+        → IsAt (reading_in setting.entry records handed live) rows.old.left → MatchResult result
         (λ o. MatchOption o
-        (HasAll (reading graph.now instance.now records most handed live) rows.new.left)
-        (λ f. HandsOut (reading graph.now instance.now records most handed live) (fact_of f)
-        × IsAt (one_more (reading graph.now instance.now records most handed live)) rows.new.left))
-        (IsStopped (reading graph.now instance.now records most handed live)) }
-    ensures member { IfOk result (λ o. IfSome o (λ f. f.member.0 < length instance.now)) }
-    ensures bottom { IfOk result (λ o. IfSome o (λ f. IsBottom graph.now (category_of instance.now f.member.0))) }
-    ensures few { IfOk result (λ o. IfSome o (λ f. handed < most)) }
+        (HasAll (reading_in setting.entry records handed live) rows.new.left)
+        (λ f. HandsOut (reading_in setting.entry records handed live) (fact_of f)
+        × IsAt (one_more (reading_in setting.entry records handed live)) rows.new.left))
+        (IsStopped (reading_in setting.entry records handed live)) }
+    ensures member { IfOk result (λ o. IfSome o (λ f. f.member.0 < length setting.entry.instance.now)) }
+    ensures bottom { IfOk result (λ o. IfSome o (λ f.
+        IsBottom setting.entry.graph.now (category_of setting.entry.instance.now f.member.0))) }
+    ensures few { IfOk result (λ o. IfSome o (λ f. handed < setting.entry.most)) }
 {
     start(rows, handed)?;
     if !rows.advance()? {
         return Ok(None);
     }
-    match fact(graph, instance, rows, handed, most) {
+    match fact(setting.graph, setting.instance, rows, handed, setting.most) {
         Ok(fact) => Ok(Some(fact)),
         Err(kind) => Err(FactRefusal::Fault {
             at: handed + 2,
@@ -122,30 +120,27 @@ pub(crate) fn next_of(
     }
 }
 
-/// Puts the facts of the next records into an empty batch, up to this many, after so many facts of at most so many.
+/// Puts the facts of the next records into an empty batch, up to this many, after so many facts.
 pub(crate) fn fill(
-    graph: &Graph,
-    instance: &Instance,
+    setting: Setting<'_>,
     rows: &mut Rows,
     handed: u64,
-    most: u64,
     count: usize,
     batch: &mut Vec<Fact>,
 ) -> Result<(), FactRefusal>
-    requires made { IsMadeFor graph.now instance.now }
-    requires most { most < 2 ^ 63 }
-    requires few { handed ≤ most }
+    requires few { handed ≤ setting.most }
     requires empty { batch.old.items ≡ [] }
     ensures reads { (records : Items (Items (Items ℕ))) (live : Bool)
-        → IsAt (reading graph.now instance.now records most handed live) rows.old.left → MatchResult result
-        (λ _. HasFilled (reading graph.now instance.now records most handed live) count
+        → IsAt (reading_in setting.entry records handed live) rows.old.left → MatchResult result
+        (λ _. HasFilled (reading_in setting.entry records handed live) count
         (map fact_of batch.new.items) rows.new.left)
-        (IsStoppedWithin count (reading graph.now instance.now records most handed live)) }
-    ensures table { IfOk result (λ _. IsFactTable graph.now instance.now (map fact_of batch.new.items)) }
-    ensures few { IfOk result (λ _. handed + length batch.new.items ≤ most) }
+        (IsStoppedWithin count (reading_in setting.entry records handed live)) }
+    ensures table { IfOk result (λ _.
+        IsFactTable setting.entry.graph.now setting.entry.instance.now (map fact_of batch.new.items)) }
+    ensures few { IfOk result (λ _. handed + length batch.new.items ≤ setting.entry.most) }
 {
     'facts: for n in 0..count {
-        let Some(fact) = next_of(graph, instance, rows, handed + n as u64, most)? else {
+        let Some(fact) = next_of(setting, rows, handed + n as u64)? else {
             return Ok(());
         };
         batch.push(fact)?;
@@ -171,18 +166,15 @@ pub fn read_facts(
     ensures few { IfOk result (λ f. length f.rows ≤ most_listed_facts) }
     ensures table { IfOk result (λ f. IsFactTable graph.now instance.now (facts_of f)) }
 {
+    let setting = Setting {
+        graph,
+        instance,
+        most: MOST_LISTED_FACTS,
+    };
     let mut facts = Vec::new(alloc);
     // One more than there may be: the last is refused.
     let count = MOST_LISTED_FACTS as usize + 1;
-    let filled = fill(
-        graph,
-        instance,
-        &mut Rows::new(alloc, text),
-        0,
-        MOST_LISTED_FACTS,
-        count,
-        &mut facts,
-    );
+    let filled = fill(setting, &mut Rows::new(alloc, text), 0, count, &mut facts);
     filled?;
     Ok(Facts {
         rows: List::from_vec(facts),

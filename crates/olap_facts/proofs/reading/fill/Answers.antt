@@ -4,7 +4,7 @@ use Rattle.std.proofs.lemmas.List.{map-append}
 use Rattle.std.proofs.lemmas.Result.{err_from_is_err_and}
 use Rattle.olap_base.specs.Views.{Fact, IsFactTable}
 use Rattle.olap_facts.specs.Batches.{HasRead}
-use Rattle.olap_facts.specs.FactReading.{reading}
+use Rattle.olap_facts.specs.FactReading.{reading_in}
 use Rattle.olap_facts.specs.Seen.{fact_of}
 use Rattle.olap_facts.proofs.BatchLemmas.{filled-all, filled-full, read-more, read-none}
 use Rattle.olap_facts.proofs.TableLemmas.{table-more, table-none}
@@ -16,16 +16,16 @@ facts-init c =
     record {
       size = ap length none;
       few = omega (arith, c.requires.few);
-      table = rw none (table-none c.args.graph.now c.args.instance.now);
+      table = rw none (table-none c.args.setting.graph.now c.args.setting.instance.now);
       reads = λ records live a.
-          let r = reading c.args.graph.now c.args.instance.now records c.args.most c.args.handed live in
+          let r = reading_in c.args.setting records c.args.handed live in
           rw none (read-none r c.args.rows.now.left a);
     }
 
 pub facts-preserved : goal.facts-preserved
 facts-preserved c =
-    let g = c.args.graph.now in
-    let i = c.args.instance.now in
+    let g = c.args.setting.graph.now in
+    let i = c.args.setting.instance.now in
     let inv = c.facts.invariant in
     let n = c.facts.n in
     let f = c.in-Some.fact in
@@ -42,7 +42,7 @@ facts-preserved c =
       table = subst (λ (fs : List Fact). IsFactTable g i fs) (sym facts)
           (table-more g i (map fact_of old) (fact_of f) inv.table member bottom);
       reads = λ records live a.
-          let r = reading g i records c.args.most c.args.handed live in
+          let r = reading_in c.args.setting records c.args.handed live in
           let h = inv.reads records live a in
           let says = rw c.in-Some.is at c.in_ok-fact.ensures.reads records live h.at in
           subst (λ (fs : List Fact). HasRead r (n + 1) fs left) (sym facts)
@@ -54,7 +54,7 @@ returns c =
     let inv = c.facts.invariant in
     record {
       reads = λ records live a.
-          let r = reading c.args.graph.now c.args.instance.now records c.args.most c.args.handed live in
+          let r = reading_in c.args.setting records c.args.handed live in
           filled-full r c.facts.n (map fact_of c.facts.batch.items) c.facts.rows.left (inv.reads records live a)
           c.args.count (omega (arith, c.facts-test.false, c.facts.auto.n-end));
       table = inv.table;
@@ -66,7 +66,7 @@ returns-in_default c =
     let inv = c.facts.invariant in
     record {
       reads = λ records live a.
-          let r = reading c.args.graph.now c.args.instance.now records c.args.most c.args.handed live in
+          let r = reading_in c.args.setting records c.args.handed live in
           let h = inv.reads records live a in
           let all = rw c.in_default.is at c.in_ok-fact.ensures.reads records live h.at in
           filled-all r c.facts.n (map fact_of c.facts.batch.items) c.facts.rows.left h c.args.count

@@ -5,7 +5,7 @@ use Rattle.std.proofs.lemmas.List.{length-map}
 use Rattle.olap_base.specs.Views.{IsFactTable}
 use Rattle.olap_records.specs.Records.{records_of}
 use Rattle.olap_facts.specs.Batches.{HandsOutBatch, IsStoppedInBatch, more}
-use Rattle.olap_facts.specs.FactReading.{FactReading, IsAt, IsAtEnd, reading, stopped}
+use Rattle.olap_facts.specs.FactReading.{FactReading, IsAt, IsAtEnd, reading_in, stopped}
 use Rattle.olap_facts.specs.Seen.{fact_of}
 use Rattle.olap_facts.proofs.BatchLemmas.{batch-none, batch-some, batch-stopped}
 use Rattle.olap_facts.proofs.TableLemmas.{table-members}
@@ -14,7 +14,7 @@ use Rattle.olap_facts.proofs.readers.FactReader.read_batch.Goals as goal
 pub returns-in-Ok : goal.returns-in-Ok
 returns-in-Ok c =
     let own = c.self.inside in
-    let r = reading own.graph.now own.instance.now (records_of own.text.now) own.most own.handed own.live in
+    let r = reading_in own.setting (records_of own.text.now) own.handed own.live in
     let view : r ≡ c.args.self.now = c.self.view_is in
     let at = c.self.invariant.at (ap (λ (q : FactReading). q.live) view ∙ c.requires.live) in
     let items = c.fill.new.batch.items in
@@ -36,7 +36,7 @@ returns-in-Ok c =
 pub returns-in-Ok-2 : goal.returns-in-Ok-2
 returns-in-Ok-2 c =
     let own = c.self.inside in
-    let r = reading own.graph.now own.instance.now (records_of own.text.now) own.most own.handed own.live in
+    let r = reading_in own.setting (records_of own.text.now) own.handed own.live in
     let view : r ≡ c.args.self.now = c.self.view_is in
     let at = c.self.invariant.at (ap (λ (q : FactReading). q.live) view ∙ c.requires.live) in
     let items = c.fill.new.batch.items in
@@ -59,7 +59,7 @@ returns-in-Ok-2 c =
 pub invariant_of-self-in-Ok-2 : goal.invariant_of-self-in-Ok-2
 invariant_of-self-in-Ok-2 c =
     let own = c.self.inside in
-    let r = reading own.graph.now own.instance.now (records_of own.text.now) own.most own.handed own.live in
+    let r = reading_in own.setting (records_of own.text.now) own.handed own.live in
     let at = c.self.invariant.at (ap (λ (q : FactReading). q.live) c.self.view_is ∙ c.requires.live) in
     let items = c.fill.new.batch.items in
     let filled = c.in-Ok-2.ensures.reads (records_of own.text.now) own.live at in
@@ -77,7 +77,7 @@ invariant_of-self-in-Ok-2 c =
 pub returns-in-Err-clause-reads : goal.returns-in-Err-clause-reads
 returns-in-Err-clause-reads c =
     let own = c.self.inside in
-    let r = reading own.graph.now own.instance.now (records_of own.text.now) own.most own.handed own.live in
+    let r = reading_in own.setting (records_of own.text.now) own.handed own.live in
     let view : r ≡ c.args.self.now = c.self.view_is in
     let at = c.self.invariant.at (ap (λ (q : FactReading). q.live) view ∙ c.requires.live) in
     let stopped-at = c.in-Err.ensures.reads (records_of own.text.now) own.live at in (
