@@ -1,6 +1,7 @@
 -- The words in which a violation is told.
---     law_text         which law or constraint is broken
---     violation_text   the same, and by which members
+--     law_text         which law is broken, or that it is a constraint
+--     named_text       what a violation names
+--     violation_text   the one, and the other
 --     IsTellable       the members and the category of a violation are there
 use Rattle.std.specs.Prelude.{ℕ, List, ◌++◌, codes}
 use Rattle.std.specs.Fmt.{decimal}
@@ -19,7 +20,7 @@ id_text i x = quoted (member_at i x).id
 abbrev pub pair_text : Instance → ℕ → ℕ → List ℕ
 pair_text i x y = id_text i x ++ (codes " " ++ id_text i y)
 
--- which law or constraint is broken
+-- which law is broken, or that it is a constraint
 abbrev pub law_text : Violation → List ℕ
 law_text (law.Connectivity x y) = codes "Connectivity "
 law_text (law.NoParent x) = codes "NoParent "
@@ -28,15 +29,18 @@ law_text (law.Partitioning x c) = codes "Partitioning "
 law_text (law.Shortcut x y) = codes "Shortcut "
 law_text (law.Constraint n x) = codes "Constraint "
 
+-- what a violation names: its members, and a category or the constraint's number
+abbrev pub named_text : Graph → Instance → Violation → List ℕ
+named_text g i (law.Connectivity x y) = pair_text i x.0 y.0
+named_text g i (law.NoParent x) = id_text i x.0
+named_text g i (law.Stratification x) = id_text i x.0
+named_text g i (law.Partitioning x c) = id_text i x.0 ++ (codes " " ++ name_of_category g c.0)
+named_text g i (law.Shortcut x y) = pair_text i x.0 y.0
+named_text g i (law.Constraint n x) = decimal n ++ (codes " " ++ id_text i x.0)
+
 -- which law or constraint is broken, and by which members
 abbrev pub violation_text : Graph → Instance → Violation → List ℕ
-violation_text g i (law.Connectivity x y) = codes "Connectivity " ++ pair_text i x.0 y.0
-violation_text g i (law.NoParent x) = codes "NoParent " ++ id_text i x.0
-violation_text g i (law.Stratification x) = codes "Stratification " ++ id_text i x.0
-violation_text g i (law.Partitioning x c) =
-    codes "Partitioning " ++ (id_text i x.0 ++ (codes " " ++ name_of_category g c.0))
-violation_text g i (law.Shortcut x y) = codes "Shortcut " ++ pair_text i x.0 y.0
-violation_text g i (law.Constraint n x) = codes "Constraint " ++ (decimal n ++ (codes " " ++ id_text i x.0))
+violation_text g i v = law_text v ++ named_text g i v
 
 -- the members that a violation names are of the instance, and its category is one of the graph
 abbrev pub IsTellable : Graph → Instance → Violation → Type 0
