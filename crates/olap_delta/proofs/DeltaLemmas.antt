@@ -2,11 +2,9 @@
 --     HasTaken                      some facts were taken
 --     taken_none, taken_more        no fact, and one more
 --     are_taken_none, are_taken_more, taken_since    the same between two times
---     taken_store, taken_refused, taken_sound, taken_order    what is handed out
---     changed_by                    what comes of the facts of a text
+--     handed_out_after, after_text  what is handed out, and what comes of a text
 use Rattle.std.proofs.Common.{◌≡◌, ◌+◌, ◌∷◌, ◌++◌, [], ℕ, List, length, refl, sym, ap, subst, ◌∙◌, arith, length-append}
-use Rattle.std.specs.Prelude.{All, IfErr, IfOk, Result, Ok}
-use Rattle.std.proofs.lemmas.Result.{IfErr-weaker, IfOk-weaker, MatchResult-from_both}
+use Rattle.std.specs.Prelude.{All, IfErr, IfOk, Result, Ok, Err}
 use Rattle.olap_base.specs.Graph.{Graph}
 use Rattle.olap_base.specs.Instance.{Instance}
 use Rattle.olap_base.specs.Views.{Fact, View}
@@ -20,7 +18,7 @@ use Rattle.olap_delta.specs.Changing.{Delta, step_of}
 use Rattle.olap_delta.specs.declared.changes.Change.{Change}
 use Rattle.olap_delta.specs.Kinds.{IsDeltaRefusedBy}
 use Rattle.olap_delta.specs.Reading.{IsChangedBy}
-use Rattle.olap_delta.specs.Taking.{AreTaken}
+use Rattle.olap_delta.specs.Taking.{AreTaken, IsStoreAfter, IsStoreAfterAll}
 use Rattle.olap_delta.specs.declared.kinds.DeltaRefusal.{DeltaRefusal}
 use Rattle.olap_delta.proofs.ChangingLemmas.{fact_behind}
 
@@ -104,47 +102,26 @@ taken_since by i views facts old d h a = record {
 
 -- ---- what is handed out
 
-module _ (by : Change) (i : Instance) (views : List View) (facts : List Fact) (d : Delta)
-    (h : HasTaken by i views facts d) (r : Result Store DeltaRefusal) where
-  -- a store that is handed out is what all facts make of the views
-  pub taken_store : IfOk r (λ s. d.views ≡ Ok (views_of s))
-      → IfOk r (λ s. store_changed (step_of by) i views facts ≡ Ok (views_of s))
-  taken_store = IfOk-weaker r (λ (s : Store). d.views ≡ Ok (views_of s))
-      (λ (s : Store). store_changed (step_of by) i views facts ≡ Ok (views_of s)) (λ s e. sym h.views ∙ e)
-
-  -- a refusal is that of the first fact that can't be taken
-  pub taken_refused : IfErr r (λ e. IsDeltaRefusedBy e d.views)
-      → IfErr r (λ e. IsDeltaRefusedBy e (store_changed (step_of by) i views facts))
-  taken_refused = IfErr-weaker r (λ (e : DeltaRefusal). IsDeltaRefusedBy e d.views)
-      (λ (e : DeltaRefusal). IsDeltaRefusedBy e (store_changed (step_of by) i views facts))
-      (λ e p. subst (IsDeltaRefusedBy e) h.views p)
-
-  -- the store that is handed out is sound, where the one before was
-  pub taken_sound : IfOk r (λ s. (g : Graph) (before : List View) → d.categories ≡ categories_in before
-      → IsSoundStore g d.instance before → IsSoundStore g d.instance (views_of s))
-      → IfOk r (λ s. (g : Graph) → IsSoundStore g i views → IsSoundStore g i (views_of s))
-  taken_sound = IfOk-weaker r (λ (s : Store). (g : Graph) (before : List View) → d.categories ≡ categories_in before
-      → IsSoundStore g d.instance before → IsSoundStore g d.instance (views_of s))
-      (λ (s : Store). (g : Graph) → IsSoundStore g i views → IsSoundStore g i (views_of s))
-      (λ s p g q. subst (λ (j : Instance). IsSoundStore g j (views_of s)) h.instance
-      (p g views h.categories (subst (λ (j : Instance). IsSoundStore g j views) (sym h.instance) q)))
-
-  -- its rows stand in file order
-  pub taken_order : IfOk r (λ s. All (IsInFileOrder d.instance) (views_of s))
-      → IfOk r (λ s. All (IsInFileOrder i) (views_of s))
-  taken_order = IfOk-weaker r (λ (s : Store). All (IsInFileOrder d.instance) (views_of s))
-      (λ (s : Store). All (IsInFileOrder i) (views_of s))
-      (λ s p. subst (λ (j : Instance). All (IsInFileOrder j) (views_of s)) h.instance p)
-
--- all facts of a text were taken
-pub changed_by : (by : Change) (g : Graph) (i : Instance) (records : List (List (List ℕ))) (views : List View)
-    (facts : List Fact) (d : Delta) (r : Result Store DeltaRefusal) → facts_read g i records ≡ Ok facts
-    → HasTaken by i views facts d → IfOk r (λ s. d.views ≡ Ok (views_of s)) → IfErr r (λ e. IsDeltaRefusedBy e d.views)
-    → IsChangedBy (step_of by) g i records views r
-changed_by by g i records views facts d r read h ok err = record {
-  facts = facts;
-  read = read;
-  changed = MatchResult-from_both r (λ (s : Store). store_changed (step_of by) i views facts ≡ Ok (views_of s))
-      (λ (x : DeltaRefusal). IsDeltaRefusedBy x (store_changed (step_of by) i views facts))
-      (taken_store by i views facts d h r ok) (taken_refused by i views facts d h r err);
+-- what is handed out once these facts were taken
+pub handed_out_after : (by : Change) (i : Instance) (views : List View) (facts : List Fact) (d : Delta)
+    → HasTaken by i views facts d → (r : Result Store DeltaRefusal) → IfOk r (λ s. d.views ≡ Ok (views_of s))
+    → IfOk r (λ s. (g : Graph) (before : List View) → d.categories ≡ categories_in before
+    → IsSoundStore g d.instance before → IsSoundStore g d.instance (views_of s))
+    → IfOk r (λ s. All (IsInFileOrder d.instance) (views_of s)) → IfErr r (λ e. IsDeltaRefusedBy e d.views)
+    → IsStoreAfter by i views facts r
+handed_out_after by i views facts d h (Ok s) ok sound order err = record {
+  ok = sym h.views ∙ ok;
+  sound = λ g q. subst (λ (j : Instance). IsSoundStore g j (views_of s)) h.instance
+      (sound g views h.categories (subst (λ (j : Instance). IsSoundStore g j views) (sym h.instance) q));
+  order = subst (λ (j : Instance). All (IsInFileOrder j) (views_of s)) h.instance order;
+  err = tt;
 }
+handed_out_after by i views facts d h (Err e) ok sound order err =
+    record { ok = tt; sound = tt; order = tt; err = subst (IsDeltaRefusedBy e) h.views err }
+
+-- after all facts of a text it is changed by the text
+pub after_text : (by : Change) (g : Graph) (i : Instance) (records : List (List (List ℕ))) (views : List View)
+    (r : Result Store DeltaRefusal) → IsStoreAfterAll by i views (facts_read g i records) r
+    → IsChangedBy (step_of by) g i records views r
+after_text by g i records views (Ok s) a = record { facts = a.facts; read = a.read; changed = a.after.ok }
+after_text by g i records views (Err e) a = record { facts = a.facts; read = a.read; changed = a.after.err }

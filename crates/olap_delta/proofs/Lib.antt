@@ -10,5 +10,6 @@ mod DeltaLemmas
 mod JoinedRowLemmas
 mod LotLemmas
 mod TakingLemmas
+mod ListedLemmas
 mod JoiningLemmas
 mod JoinedTableLemmas

@@ -1,16 +1,25 @@
--- Facts that were read and taken.
---     AreTaken      these facts were taken, one after another
---     AreAllTaken   so were all that were read
---     AreLotsOf     all that were read were joined by member
-use Rattle.std.specs.Prelude.{◌≡◌, ◌+◌, ◌≤◌, List, length, Result, Ok}
+-- Facts that were read and taken, and the store after them.
+--     AreTaken          these facts were taken, one after another
+--     AreAllTaken       so were all that were read
+--     AreLotsOf         all that were read were joined by member
+--     IsStoreAfter      the store after facts, or the first that is refused
+--     IsStoreAfterAll   that after all that were read
+use Rattle.std.specs.Prelude.{◌≡◌, ◌+◌, ◌≤◌, All, IfErr, IfOk, List, length, Result, Ok}
+use Rattle.olap_base.specs.Graph.{Graph}
 use Rattle.olap_base.specs.Instance.{Instance}
 use Rattle.olap_base.specs.Limits.{most_count}
 use Rattle.olap_base.specs.Naming.{Fault}
-use Rattle.olap_base.specs.Views.{Fact}
+use Rattle.olap_base.specs.Views.{Fact, View}
 use Rattle.olap_facts.specs.declared.kinds.FactKind.{FactKind}
-use Rattle.olap_delta.specs.Changes.{store_after}
+use Rattle.olap_view.specs.Seen.{views_of}
+use Rattle.olap_view.specs.Stores.{IsInFileOrder, IsSoundStore}
+use Rattle.olap_view.specs.declared.views.Store.{Store}
+use Rattle.olap_delta.specs.Changes.{store_after, store_changed}
 use Rattle.olap_delta.specs.Changing.{Delta, step_of}
+use Rattle.olap_delta.specs.Kinds.{IsDeltaRefusedBy}
 use Rattle.olap_delta.specs.Lots.{AreLots, StandFor}
+use Rattle.olap_delta.specs.declared.changes.Change.{Change}
+use Rattle.olap_delta.specs.declared.kinds.DeltaRefusal.{DeltaRefusal}
 use Rattle.olap_delta.specs.declared.lots.Lots.{Lots}
 
 -- these facts were taken, one after another
@@ -35,3 +44,18 @@ pub record AreLotsOf (answer : Result (List Fact) (Fault FactKind)) (i : Instanc
   pub few : g.taken ≤ most_count
   pub lots : AreLots g
   pub stand : StandFor i facts g
+
+-- the store after the change by these facts, sound where it was, or the first of them that is refused
+pub record IsStoreAfter (by : Change) (i : Instance) (views : List View) (facts : List Fact)
+    (answer : Result Store DeltaRefusal) : Type 0 where
+  pub ok : IfOk answer (λ s. store_changed (step_of by) i views facts ≡ Ok (views_of s))
+  pub sound : IfOk answer (λ s. (g : Graph) → IsSoundStore g i views → IsSoundStore g i (views_of s))
+  pub order : IfOk answer (λ s. All (IsInFileOrder i) (views_of s))
+  pub err : IfErr answer (λ e. IsDeltaRefusedBy e (store_changed (step_of by) i views facts))
+
+-- facts were read, and that is the store after all of them
+pub record IsStoreAfterAll (by : Change) (i : Instance) (views : List View) (all : Result (List Fact) (Fault FactKind))
+    (answer : Result Store DeltaRefusal) : Type 0 where
+  pub facts : List Fact
+  pub read : all ≡ Ok facts
+  pub after : IsStoreAfter by i views facts answer

@@ -2,16 +2,16 @@
 ghost use Rattle.std.specs.Prelude.{◌≡◌, ◌≢◌, ◌<◌, ◌≤◌, ℕ, All, Contains, IfOk, IfSome, IsTrue, List as Items, None, Ok, Some, length, slice_index};
 ghost use Rattle.std.specs.Option.{option_map};
 ghost use Rattle.olap_base.specs.Limits.{most_count};
-ghost use Rattle.olap_base.specs.Graph.{Graph as TheGraph};
 ghost use Rattle.olap_base.specs.Views.{Fact as TheFact};
 ghost use Rattle.olap_delta.specs.Changes.{store_changed};
 ghost use Rattle.olap_delta.specs.Changing.{AreStorable, IsStorable, step_of};
 ghost use Rattle.olap_delta.specs.Joining.{AreJoined, HasRoom, IsJoined, IsJoinedIn, IsOnce, less};
 ghost use Rattle.olap_delta.specs.Lots.{AreLots, IsLot, StandFor, lots_at};
+ghost use Rattle.olap_delta.specs.Taking.{IsStoreAfter};
 ghost use Rattle.olap_delta.specs.declared.changes.Change.TheVariants as by;
 ghost use Rattle.olap_view.specs.Bounds.{IsOfValues};
 ghost use Rattle.olap_view.specs.Seen.{summary_of, views_of};
-ghost use Rattle.olap_view.specs.Stores.{Fits, IsInFileOrder, IsSoundStore, IsStore};
+ghost use Rattle.olap_view.specs.Stores.{Fits, IsInFileOrder, IsStore};
 ghost use Rattle.olap_view.specs.SummaryTables.{categories_in, views_at};
 ghost use Rattle.olap_view.specs.Tables.{when};
 ghost use Rattle.olap_base.specs.Reaching.{reaches};
@@ -214,12 +214,8 @@ pub(crate) fn joined(
     requires lots { AreLots lots }
     requires size { length lots.places.items ≡ length legal.now }
     requires few { lots.taken ≤ most_count }
-    ensures views { IfOk result (λ o. IfSome o (λ s. (facts : Items TheFact)
-        → StandFor legal.now facts lots
-        → store_changed (step_of change) legal.now (views_of store.now) facts ≡ Ok (views_of s))) }
-    ensures sound { IfOk result (λ o. IfSome o (λ s. (g : TheGraph)
-        → IsSoundStore g legal.now (views_of store.now) → IsSoundStore g legal.now (views_of s))) }
-    ensures order { IfOk result (λ o. IfSome o (λ s. All (IsInFileOrder legal.now) (views_of s))) }
+    ensures { IfOk result (λ o. IfSome o (λ s. (facts : Items TheFact) → StandFor legal.now facts lots
+        → IsStoreAfter change legal.now (views_of store.now) facts (Ok s))) }
 {
     match table_after(alloc, change, legal, store, lots)? {
         None => Ok(None),

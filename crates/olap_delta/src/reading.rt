@@ -5,7 +5,7 @@ ghost use Rattle.olap_base.specs.Limits.{most_count};
 ghost use Rattle.olap_delta.specs.Changing.{step_of};
 ghost use Rattle.olap_delta.specs.Lots.{AreLots, StandFor};
 ghost use Rattle.olap_delta.specs.Reading.{IsChangedBy};
-ghost use Rattle.olap_delta.specs.Taking.{AreAllTaken, AreLotsOf};
+ghost use Rattle.olap_delta.specs.Taking.{AreAllTaken, AreLotsOf, IsStoreAfterAll};
 ghost use Rattle.olap_facts.specs.FactReading.{all_read};
 ghost use Rattle.olap_facts.specs.FactText.{facts_read};
 ghost use Rattle.olap_facts.specs.Refusals.{IsRefusedBy};
@@ -73,13 +73,8 @@ fn one_by_one(
     requires store { IsStore (views_of store.now) }
     requires fit { All Fits (views_of store.now) }
     requires order { All (IsInFileOrder legal.now) (views_of store.now) }
-
-    ensures changed { IfOk result (λ r. IsChangedBy (step_of change) graph.now legal.now
-        (records_of text.now) (views_of store.now) r) }
-    ensures sound { IfOk result (λ r. IfOk r (λ s. (g : TheGraph)
-        → IsSoundStore g legal.now (views_of store.now) → IsSoundStore g legal.now (views_of s))) }
-    ensures order { IfOk result (λ r. IfOk r (λ s. All (IsInFileOrder legal.now) (views_of s))) }
-
+    ensures after { IfOk result (IsStoreAfterAll change legal.now (views_of store.now)
+        (facts_read graph.now legal.now (records_of text.now))) }
     ensures err { IfErr result
         (λ e. IsRefusedBy e (facts_read graph.now legal.now (records_of text.now))) }
 {

@@ -3,8 +3,8 @@ ghost use Rattle.std.specs.Prelude.{◌≡◌, ◌<◌, ◌≤◌, All, IfErr, I
 ghost use Rattle.olap_base.specs.Graph.{Graph as TheGraph};
 ghost use Rattle.olap_base.specs.Limits.{most_count};
 ghost use Rattle.olap_delta.specs.Changes.{appended, retracted, store_changed};
-ghost use Rattle.olap_delta.specs.Changing.{step_of};
 ghost use Rattle.olap_delta.specs.Kinds.{IsDeltaRefusedBy};
+ghost use Rattle.olap_delta.specs.Taking.{IsStoreAfter};
 ghost use Rattle.olap_facts.specs.Seen.{facts_of};
 ghost use Rattle.olap_view.specs.Seen.{views_of};
 ghost use Rattle.olap_view.specs.Stores.{Fits, IsInFileOrder, IsSoundStore, IsStore};
@@ -30,14 +30,7 @@ fn one_by_one(
     requires order { All (IsInFileOrder legal.now) (views_of store.now) }
     requires at_members { All (λ f. f.member.0 < length legal.now) facts.now.rows }
     requires few { length facts.now.rows ≤ most_count }
-    ensures ok { IfOk result (λ s.
-        store_changed (step_of change) legal.now (views_of store.now) (facts_of facts.now)
-        ≡ Ok (views_of s)) }
-    ensures sound { IfOk result (λ s. (g : TheGraph) → IsSoundStore g legal.now (views_of store.now)
-        → IsSoundStore g legal.now (views_of s)) }
-    ensures order { IfOk result (λ s. All (IsInFileOrder legal.now) (views_of s)) }
-    ensures err { IfErr result (λ e. IsDeltaRefusedBy e
-        (store_changed (step_of change) legal.now (views_of store.now) (facts_of facts.now))) }
+    ensures { IsStoreAfter change legal.now (views_of store.now) (facts_of facts.now) result }
 {
     let mut delta = Delta::new(alloc, change, legal, store)?;
     'facts: for fact in facts.rows.items() {
@@ -59,14 +52,7 @@ fn changed(
     requires order { All (IsInFileOrder legal.now) (views_of store.now) }
     requires at_members { All (λ f. f.member.0 < length legal.now) facts.now.rows }
     requires few { length facts.now.rows ≤ most_count }
-    ensures ok { IfOk result (λ s.
-        store_changed (step_of change) legal.now (views_of store.now) (facts_of facts.now)
-        ≡ Ok (views_of s)) }
-    ensures sound { IfOk result (λ s. (g : TheGraph) → IsSoundStore g legal.now (views_of store.now)
-        → IsSoundStore g legal.now (views_of s)) }
-    ensures order { IfOk result (λ s. All (IsInFileOrder legal.now) (views_of s)) }
-    ensures err { IfErr result (λ e. IsDeltaRefusedBy e
-        (store_changed (step_of change) legal.now (views_of store.now) (facts_of facts.now))) }
+    ensures { IsStoreAfter change legal.now (views_of store.now) (facts_of facts.now) result }
 {
     let mut lots = Lots::new(alloc, legal.instance().members())?;
     'facts: for fact in facts.rows.items() {
