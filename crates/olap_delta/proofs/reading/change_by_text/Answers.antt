@@ -23,9 +23,10 @@ returns-in-Some-clause-order c =
 
 pub returns-in-None-clause-changed : goal.returns-in-None-clause-changed
 returns-in-None-clause-changed c =
+    let records = records_of c.args.text.now in
+    let views = views_of c.args.store.now in
     IfOk-weaker c.one_by_one.result _ _
-    (after_text c.args.change c.args.graph.now c.args.legal.now (records_of c.args.text.now) (views_of c.args.store.now))
-    c.one_by_one.ensures.after
+    (after_text c.args.change c.args.graph.now c.args.legal.now records views) c.one_by_one.ensures.after
 
 pub returns-in-None-clause-sound : goal.returns-in-None-clause-sound
 returns-in-None-clause-sound c =
