@@ -3,8 +3,7 @@ ghost use Rattle.std.specs.Prelude.{◌≡◌, ◌≢◌, ◌<◌, ◌≤◌, �
 ghost use Rattle.std.specs.Option.{option_map};
 ghost use Rattle.olap_base.specs.Limits.{most_count};
 ghost use Rattle.olap_base.specs.Views.{Fact as TheFact};
-ghost use Rattle.olap_delta.specs.Changes.{store_changed};
-ghost use Rattle.olap_delta.specs.Changing.{AreStorable, IsStorable, step_of};
+ghost use Rattle.olap_delta.specs.Changing.{AreStorable, IsStorable};
 ghost use Rattle.olap_delta.specs.Joining.{AreJoined, HasRoom, IsJoined, IsJoinedIn, IsOnce, less};
 ghost use Rattle.olap_delta.specs.Lots.{AreLots, IsLot, StandFor, lots_at};
 ghost use Rattle.olap_delta.specs.Taking.{IsStoreAfter};
@@ -12,7 +11,6 @@ ghost use Rattle.olap_delta.specs.declared.changes.Change.TheVariants as by;
 ghost use Rattle.olap_view.specs.Bounds.{IsOfValues};
 ghost use Rattle.olap_view.specs.Seen.{summary_of, views_of};
 ghost use Rattle.olap_view.specs.Stores.{Fits, IsInFileOrder, IsStore};
-ghost use Rattle.olap_view.specs.SummaryTables.{categories_in, views_at};
 ghost use Rattle.olap_view.specs.Tables.{when};
 ghost use Rattle.olap_base.specs.Reaching.{reaches};
 
@@ -170,36 +168,6 @@ impl Change {
     }
 }
 
-/// The table of the stored views after the change by the lots, or none if a fact might be refused.
-fn table_after<'a>(
-    alloc: Global,
-    change: Change,
-    legal: &'a Legal,
-    store: &Store,
-    lots: Lots,
-) -> Result<Option<SummaryTable<'a>>, Memory>
-    requires store { IsStore (views_of store.now) }
-    requires fit { All Fits (views_of store.now) }
-    requires order { All (IsInFileOrder legal.now) (views_of store.now) }
-    requires lots { AreLots lots }
-    requires size { length lots.places.items ≡ length legal.now }
-    requires few { lots.taken ≤ most_count }
-    ensures instance { IfOk result (λ o. IfSome o (λ t. t.instance ≡ legal.now)) }
-    ensures categories { IfOk result (λ o.
-        IfSome o (λ t. t.categories ≡ categories_in (views_of store.now))) }
-    ensures storable { IfOk result (λ o. IfSome o AreStorable) }
-    ensures views { IfOk result (λ o. IfSome o (λ t. (facts : Items TheFact)
-        → StandFor legal.now facts lots
-        → store_changed (step_of change) legal.now (views_of store.now) facts ≡ Ok (views_at t))) }
-{
-    let mut table = SummaryTable::of(alloc, legal, store)?;
-    if change.join_all(&mut table, &lots.lots) {
-        Ok(Some(table))
-    } else {
-        Ok(None)
-    }
-}
-
 /// The stored views after the change by the facts of which these are the lots, or none if one of them might be refused.
 pub(crate) fn joined(
     alloc: Global,
@@ -217,10 +185,12 @@ pub(crate) fn joined(
     ensures { IfOk result (λ o. IfSome o (λ s. (facts : Items TheFact) → StandFor legal.now facts lots
         → IsStoreAfter change legal.now (views_of store.now) facts (Ok s))) }
 {
-    match table_after(alloc, change, legal, store, lots)? {
-        None => Ok(None),
-        Some(table) => Ok(Some(Store {
+    let mut table = SummaryTable::of(alloc, legal, store)?;
+    if change.join_all(&mut table, &lots.lots) {
+        Ok(Some(Store {
             views: table.views()?,
-        })),
+        }))
+    } else {
+        Ok(None)
     }
 }

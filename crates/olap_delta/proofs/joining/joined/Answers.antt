@@ -1,30 +1,47 @@
--- The views of the table are those of the store after the facts.
-use Rattle.std.proofs.Common.{List, ap, sym, subst, ◌∙◌}
+-- What the lots make of the views is what their facts make of them, and the table's views are a store, in file order.
+use Rattle.std.proofs.Common.{◌≡◌, List, ap, sym, subst, ◌∙◌}
 use Rattle.std.specs.Prelude.{All, Ok}
 use Rattle.olap_base.specs.Instance.{Instance}
 use Rattle.olap_base.specs.Views.{View}
 use Rattle.olap_view.specs.Seen.{views_of}
 use Rattle.olap_view.specs.Stores.{IsInFileOrder, IsSoundStore}
 use Rattle.olap_view.specs.SummaryTables.{views_at}
-use Rattle.olap_delta.proofs.StorableLemmas.{table_order, table_sound}
+use Rattle.olap_delta.specs.Changes.{store_changed}
+use Rattle.olap_delta.specs.Changing.{step_of}
+use Rattle.olap_delta.specs.Joining.{AreJoined}
+use Rattle.olap_delta.specs.Lots.{StandFor}
+use Rattle.olap_delta.specs.declared.lots.Lot.{Lot}
+use Rattle.olap_delta.proofs.JoinedTableLemmas.{table_changed}
+use Rattle.olap_delta.proofs.StorableLemmas.{table_order, table_sound, table_storable}
 use Rattle.olap_delta.proofs.joining.joined.Goals as goal
 
-pub returns-in_ok-views-in-Some : goal.returns-in_ok-views-in-Some
-returns-in_ok-views-in-Some c = λ facts s.
-    let t = c.in-Some.table in
-    let j = c.args.legal.now in
-    let i = rw c.in-Some.is at c.in_ok-table_after.ensures.instance in
-    let k = rw c.in-Some.is at c.in_ok-table_after.ensures.categories in
-    let a = rw c.in-Some.is at c.in_ok-table_after.ensures.storable in
-    let changed = rw c.in-Some.is at c.in_ok-table_after.ensures.views in
+pub join_all-requires-clause-storable : goal.join_all-requires-clause-storable
+join_all-requires-clause-storable c =
+    table_storable c.in_ok-table.table (views_of c.args.store.now) c.in_ok-table.ensures.views c.requires.fit
+
+pub returns-then-join_all : goal.returns-then-join_all
+returns-then-join_all c = λ facts s.
+    let by = c.args.change in
+    let legal = c.args.legal.now in
     let stored = views_of c.args.store.now in
-    let is = sym c.in_ok-views-in-Some.ensures.views in
+    let old = c.in_ok-table.table in
+    let new = c.join_all.new.table in
+    let e = c.in_ok-table.ensures in
+    let j = c.join_all.ensures in
+    let i : new.instance ≡ legal = j.instance ∙ e.instance in
+    let is = sym c.in_ok-views.ensures.views in
     record {
-      ok = changed facts s ∙ ap (λ (vs : List View). Ok vs) is;
-      sound = λ g q. subst (λ (vs : List View). IsSoundStore g j vs) is
-          (subst (λ (n : Instance). IsSoundStore g n (views_at t)) i
-          (table_sound g t stored k a (subst (λ (n : Instance). IsSoundStore g n stored) (sym i) q)));
-      order = subst (λ (vs : List View). All (IsInFileOrder j) vs) is
-          (subst (λ (n : Instance). All (IsInFileOrder n) (views_at t)) i (table_order t));
+      ok = ap (λ (n : Instance). store_changed (step_of by) n stored facts) (sym e.instance)
+          ∙ ap (λ (vs : List View). store_changed (step_of by) old.instance vs facts) (sym e.views)
+          ∙ table_changed by facts c.args.lots old new j.instance j.categories
+          (subst (λ (n : Instance). StandFor n facts c.args.lots) (sym e.instance) s)
+          (subst (λ (ls : List Lot). AreJoined by ls old new) c.deref.ensures.value (j.joined c.if-join_all.true))
+          ∙ ap (λ (vs : List View). Ok vs) is;
+      sound = λ g q. subst (λ (vs : List View). IsSoundStore g legal vs) is
+          (subst (λ (n : Instance). IsSoundStore g n (views_at new)) i
+          (table_sound g new stored (j.categories ∙ e.categories) j.storable
+          (subst (λ (n : Instance). IsSoundStore g n stored) (sym i) q)));
+      order = subst (λ (vs : List View). All (IsInFileOrder legal) vs) is
+          (subst (λ (n : Instance). All (IsInFileOrder n) (views_at new)) i (table_order new));
       err = tt;
     }
