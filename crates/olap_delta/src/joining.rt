@@ -1,5 +1,5 @@
 // What lots of facts make of the views of a summary table, each at once.
-ghost use Rattle.std.specs.Prelude.{◌≡◌, ◌≢◌, ◌<◌, ◌≤◌, ℕ, All, Contains, IfOk, IfSome, IsTrue, List as Items, None, Ok, Some, length, slice_index};
+ghost use Rattle.std.specs.Prelude.{◌≡◌, ◌<◌, ◌≤◌, All, IfOk, IfSome, IsTrue, List as Items, None, Ok, Some, length, slice_index};
 ghost use Rattle.std.specs.Option.{option_map};
 ghost use Rattle.olap_base.specs.Limits.{most_count};
 ghost use Rattle.olap_base.specs.Views.{Fact as TheFact};
