@@ -96,14 +96,16 @@ module _ (ss : List Schema) (c : List ℕ) (sources : List (List ℕ)) (qs : Lis
     ends_by schemas targets e f ys b q =
         let chosen = subst (λ w. AreChosen w (targets_in ds) ys) e (subst (λ w. AreChosen schemas w ys) f b.chosen) in
         let roots = subst (λ w. IsTupleOf (instances_of w ys) (bottoms_of ys) b.roots) e b.roots_are in
-        let bad = subst (λ w. ExactlyOne (λ t. TupleReachesVia (instances_of w ys) b.roots t (targets_in ds)) sources → ⊥) e
+        let bad =
+        subst (λ w. ExactlyOne (λ t. TupleReachesVia (instances_of w ys) b.roots t (targets_in ds)) sources → ⊥) e
         (subst (λ w. ExactlyOne (λ t. TupleReachesVia (instances_of schemas ys) b.roots t w) sources → ⊥) f b.bad) in
         ends_of n ds dimensions ys chosen q b.roots roots (all_of n)
         (λ o. bad ((one_way ds sources same_rows (instances_of (schemas_in ds) ys) b.roots).1 o))
 
   -- a bad choice ends badly by the families of its bottom categories
   bad_families : (ys : List Chosen) → IsBadChoice ss c sources ys
-      → (fs : List Family) × AreOf fss fs × (bottoms_of ys ≡ grouped.bottoms_of fs) × CanBeBad n (patterns_of fs) (all_of n)
+      → (fs : List Family) × AreOf fss fs × (bottoms_of ys ≡ grouped.bottoms_of fs)
+      × CanBeBad n (patterns_of fs) (all_of n)
   bad_families ys b =
       let t = families_of ss qs fss c ys families b.chosen in
       let e = ends_by t.0 t.1 ss c (sym (same_schemas t.0 t.1)) (sym (same_targets t.0 t.1)) ys b

@@ -51,14 +51,17 @@ families_are g (s ∷ ss) (q ∷ qs) (f ∷ fs) a b =
 pub dimension_taken : (ss : List Schema) (qs : List Question) (fs : List Family) (i : ℕ) (s : Schema) (q : Question)
     (f : Family) → length qs ≡ length ss → length fs ≡ length ss → i < length ss → s ≡ slice_index_or ss i no_schema
     → q ≡ get_or qs i q → f ≡ get_or fs i f
-    → drop i (dimensions_of ss qs fs) ≡ record { schema = s; question = q; family = f } ∷ drop (i + 1) (dimensions_of ss qs fs)
+    → drop i (dimensions_of ss qs fs)
+    ≡ record { schema = s; question = q; family = f } ∷ drop (i + 1) (dimensions_of ss qs fs)
 dimension_taken ss qs fs i s q f a b l x y z = at ss qs fs i a b l x y z
-    ∙ (let e : suc i ≡ i + 1 = omega arith in λ j. record { schema = s; question = q; family = f } ∷ drop (e j) (dimensions_of ss qs fs))
+    ∙ (let e : suc i ≡ i + 1 = omega arith in
+    λ j. record { schema = s; question = q; family = f } ∷ drop (e j) (dimensions_of ss qs fs))
   where
     at : (ss : List Schema) (qs : List Question) (fs : List Family) (i : ℕ) → length qs ≡ length ss
         → length fs ≡ length ss → i < length ss → s ≡ slice_index_or ss i no_schema → q ≡ get_or qs i q
         → f ≡ get_or fs i f
-        → drop i (dimensions_of ss qs fs) ≡ record { schema = s; question = q; family = f } ∷ drop (suc i) (dimensions_of ss qs fs)
+        → drop i (dimensions_of ss qs fs)
+        ≡ record { schema = s; question = q; family = f } ∷ drop (suc i) (dimensions_of ss qs fs)
     at [] qs fs i a b l x y z = absurd (omega arith)
     at (t ∷ ss) [] fs i a b l x y z = absurd (omega arith)
     at (t ∷ ss) (r ∷ qs) [] i a b l x y z = absurd (omega arith)
@@ -101,8 +104,8 @@ are_dimensions n ss qs fss fs q c f o =
           count = c 0 (omega arith);
           family = (f 0 (omega arith)).each g o.0;
         })
-        (go ss qs fss fs (omega arith) (omega arith) o.1 (λ i l. q (suc i) (omega arith)) (λ i l. c (suc i) (omega arith))
-        (λ i l. f (suc i) (omega arith)))
+        (go ss qs fss fs (omega arith) (omega arith) o.1 (λ i l. q (suc i) (omega arith))
+        (λ i l. c (suc i) (omega arith)) (λ i l. f (suc i) (omega arith)))
 
 -- the same, by the schemas
 pub of_length : (ss : List Schema) (qs : List Question) (fss : List (List Family)) (fs : List Family)

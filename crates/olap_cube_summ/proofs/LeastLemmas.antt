@@ -43,8 +43,8 @@ module _ (n : ℕ) (d : Dimension) (is : IsDimension n d) (rest : List (CatSet 4
   }
 
 -- one dimension more
-pub least_next : (n : ℕ) (all : List Dimension) (i mask left : ℕ) (founds next : List Found) (d : Dimension) (found : Found)
-    (sets : List (CatSet 4)) → drop i all ≡ d ∷ drop (i + 1) all → sets ≡ sets_of (drop (i + 1) all)
+pub least_next : (n : ℕ) (all : List Dimension) (i mask left : ℕ) (founds next : List Found) (d : Dimension)
+    (found : Found) (sets : List (CatSet 4)) → drop i all ≡ d ∷ drop (i + 1) all → sets ≡ sets_of (drop (i + 1) all)
     → IsLeastBefore n d sets mask found left → next ≡ founds ++ found ∷ []
     → ((xs : List Found) → AreLeast n (drop i all) mask xs → AreLeast n all (all_of n) (founds ++ xs))
     → (xs : List Found) → AreLeast n (drop (i + 1) all) left xs → AreLeast n all (all_of n) (next ++ xs)
@@ -58,8 +58,8 @@ least_next n all i mask left founds next d found sets e s l made h xs a =
     joined (f ∷ fs) = ap (λ w. f ∷ w) (joined fs)
 
 -- what is left to be bad
-pub bad_next : (n : ℕ) (all : List Dimension) (i : ℕ) (d : Dimension) (sets : List (CatSet 4)) (mask left : ℕ) (found : Found)
-    → sets ≡ sets_of (drop (i + 1) all) → IsLeastBefore n d sets mask found left
+pub bad_next : (n : ℕ) (all : List Dimension) (i : ℕ) (d : Dimension) (sets : List (CatSet 4)) (mask left : ℕ)
+    (found : Found) → sets ≡ sets_of (drop (i + 1) all) → IsLeastBefore n d sets mask found left
     → CanBeBad n (sets_of (drop (i + 1) all)) left
 bad_next n all i d sets mask left found s l = subst (λ w. CanBeBad n w left) s l.bad
 
@@ -84,7 +84,8 @@ pub sets_left : (ss : List Schema) (qs : List Question) (fs : List Family) (sets
     → length qs ≡ length ss → length fs ≡ length ss → sets ≡ patterns_of fs
     → take (length sets - i) (drop i sets) ≡ sets_of (drop i (dimensions_of ss qs fs))
 sets_left ss qs fs sets i a b e = take_left sets i
-    ∙ ap (drop i) (e ∙ sym (families_are (λ (f : Family). f.patterns) ss qs fs a b)) ∙ dropped (dimensions_of ss qs fs) i
+    ∙ ap (drop i) (e ∙ sym (families_are (λ (f : Family). f.patterns) ss qs fs a b))
+    ∙ dropped (dimensions_of ss qs fs) i
   where
     dropped : (ds : List Dimension) (i : ℕ) → drop i (sets_of ds) ≡ sets_of (drop i ds)
     dropped [] zero = refl

@@ -68,7 +68,8 @@ module _ (s : Schema) (q : Question) where
     pub asked : (h : Chosen) → (a : IsChosen s c h) → P (shape_of s h) a.is_one.stands_for.root
         → IsFrozen s f h.bottom k h.frozen
     asked h a p = still_frozen s f h.bottom h.candidates k
-        (candidates_too s (Reach c) f (sym about.free) (sym about.numberless) h.candidates a.candidates) candidates h.frozen
+        (candidates_too s (Reach c) f (sym about.free) (sym about.numberless) h.candidates a.candidates) candidates
+        h.frozen
         (frozen_too s (Reach c) f (sym about.free) (sym about.numberless) h.bottom h.candidates h.frozen a.is_one
         ((about.means (shape_of s h) a.is_one.stands_for.root).1 p))
 
@@ -128,17 +129,20 @@ module _ (s : Schema) (q : Question) where
     }
       where
         t : IsFrozen s f found.frozen.root.0 (candidates_of found.candidates) (frozen_of found.frozen)
-        t = subst (λ r. IsFrozen s f r (candidates_of found.candidates) (frozen_of found.frozen)) (sym one.root) one.is_one
+        t = subst (λ r. IsFrozen s f r (candidates_of found.candidates) (frozen_of found.frozen)) (sym one.root)
+            one.is_one
 
         a : IsChosen s c (chosen_of found)
         a = chosen (IsOutside c column patterns) f about (candidates_of found.candidates) one.candidates
-            found.frozen.root.0 (subst (IsBottom s.graph) (sym one.root) bottom) (λ i x p. p.0) (frozen_of found.frozen) t
+            found.frozen.root.0 (subst (IsBottom s.graph) (sym one.root) bottom) (λ i x p. p.0)
+            (frozen_of found.frozen) t
 
   -- ---- the least of some
 
   module _ (patterns : CatSet 4) (f : Formula) (about : IsAboutWays c column (IsInside c column patterns) f) where
     -- one that is known is found
-    pub some_found : (b : ℕ) (k : Candidates) → AreCandidates s f k → SomeIsKnown s q b patterns → NoneFrozen s f b k → ⊥
+    pub some_found : (b : ℕ) (k : Candidates) → AreCandidates s f k → SomeIsKnown s q b patterns
+        → NoneFrozen s f b k → ⊥
     some_found b k candidates some none = let h = some.0 in let a = some.1 in let z = a.is_one.stands_for in
         none h.frozen (subst (λ r. IsFrozen s f r k h.frozen) some.2
         (asked (IsInside c column patterns) f about k candidates h a
@@ -151,9 +155,10 @@ module _ (s : Schema) (q : Question) where
       root = one.root;
       is_found = record { chosen = a; sized = one.sized; zero = one.zero };
       known = known_by patterns (chosen_of found) a
-          (truth (IsInside c column patterns) f about (candidates_of found.candidates) one.least.candidates found.frozen.root.0
-          (frozen_of found.frozen) t a.is_one.stands_for.root a.is_one.stands_for.root_is).1;
-      least = λ h u e w. one.least.least h.frozen (subst (λ r. IsFrozen s f r (candidates_of found.candidates) h.frozen) e
+          (truth (IsInside c column patterns) f about (candidates_of found.candidates) one.least.candidates
+          found.frozen.root.0 (frozen_of found.frozen) t a.is_one.stands_for.root a.is_one.stands_for.root_is).1;
+      least = λ h u e w. one.least.least h.frozen
+          (subst (λ r. IsFrozen s f r (candidates_of found.candidates) h.frozen) e
           (asked (IsInside c column patterns) f about (candidates_of found.candidates) one.least.candidates h u (
             u.is_one.stands_for.true_at_root,
             known_at patterns h w u.is_one.stands_for.root u.is_one.stands_for.root_is,
@@ -161,8 +166,10 @@ module _ (s : Schema) (q : Question) where
     }
       where
         t : IsFrozen s f found.frozen.root.0 (candidates_of found.candidates) (frozen_of found.frozen)
-        t = subst (λ r. IsFrozen s f r (candidates_of found.candidates) (frozen_of found.frozen)) (sym one.root) one.least.is_one
+        t = subst (λ r. IsFrozen s f r (candidates_of found.candidates) (frozen_of found.frozen)) (sym one.root)
+            one.least.is_one
 
         a : IsChosen s c (chosen_of found)
-        a = chosen (IsInside c column patterns) f about (candidates_of found.candidates) one.least.candidates found.frozen.root.0
-            (subst (IsBottom s.graph) (sym one.root) bottom) (λ i x p. p.0) (frozen_of found.frozen) t
+        a = chosen (IsInside c column patterns) f about (candidates_of found.candidates) one.least.candidates
+            found.frozen.root.0 (subst (IsBottom s.graph) (sym one.root) bottom) (λ i x p. p.0)
+            (frozen_of found.frozen) t

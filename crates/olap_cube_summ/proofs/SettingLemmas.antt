@@ -46,8 +46,9 @@ category_at (s ∷ ss) (c ∷ cs) a (suc i) l =
     category_at ss cs a.1 i (let z : suc i < suc (length ss) = l in omega arith)
 
 -- the questions are ones of the schemas
-pub are_questions_of : (ss : List Schema) (c : List ℕ) (sources : List (List ℕ)) (qs : List Question) → AreCategoriesOf ss c
-    → All (AreCategoriesOf ss) sources → length sources ≤ most_views → AreQuestions c sources qs → AreQuestionsOf ss qs
+pub are_questions_of : (ss : List Schema) (c : List ℕ) (sources : List (List ℕ)) (qs : List Question)
+    → AreCategoriesOf ss c → All (AreCategoriesOf ss) sources → length sources ≤ most_views → AreQuestions c sources qs
+    → AreQuestionsOf ss qs
 are_questions_of ss c sources qs t all few asked = record {
   count = count;
   each = λ i l. let m : i < length qs = subst (λ w. i < w) (sym count) l in record {
@@ -74,7 +75,8 @@ are_questions_of ss c sources qs t all few asked = record {
 pub families_next : (ss : List Schema) (qs : List Question) (i : ℕ) (all next : List (List Family)) (new : List Family)
     (s : Schema) (q : Question) → i < length qs → s ≡ slice_index_or ss i no_schema → q ≡ get_or qs i q → length all ≡ i
     → next ≡ all ++ new ∷ [] → AreFamilies s q new
-    → ((j : ℕ) → j < i → AreFamilies (slice_index_or ss j no_schema) (slice_index_or qs j no_question) (slice_index_or all j []))
+    → ((j : ℕ) → j < i
+    → AreFamilies (slice_index_or ss j no_schema) (slice_index_or qs j no_question) (slice_index_or all j []))
     → (j : ℕ) → j < i + 1
     → AreFamilies (slice_index_or ss j no_schema) (slice_index_or qs j no_question) (slice_index_or next j [])
 families_next ss qs i all next new s q l x y n made a before j m = elim (below_suc j i (omega arith)) [
@@ -118,7 +120,8 @@ kinded ss v k d l = has_kinds (get_or ss k d) 0 Truth (v k d l).formulas tt
 -- they are ordered
 pub all_ordered : (ss : List Schema) (qs : List Question) (fss : List (List Family)) → AreFamiliesOf ss qs fss
     → All IsOrdered fss
-all_ordered ss qs fss f k d l = subst IsOrdered (same_item fss k [] d l) (f.each k (subst (λ w. k < w) f.count l)).ordered
+all_ordered ss qs fss f k d l =
+    subst IsOrdered (same_item fss k [] d l) (f.each k (subst (λ w. k < w) f.count l)).ordered
 
 -- ---- where no choice is bad
 
@@ -129,7 +132,8 @@ pub summarizable_is : CubeSummarizableExactlyIfNoneBad → (ss : List Schema) (c
     → (sets items : List (CatSet 4)) → AreUnions fss sets → items ≡ sets → (mask : ℕ) → mask ≡ all_of n → (b : Bool)
     → IsTrue b ↔ CanBeBad n items mask → b ≡ false → IsCubeSummarizable ss c sources
 summarizable_is law ss c sources qs fss asked of families valid n e sets items u same mask full b is lost =
-    (law ss c sources (hierarchies ss valid) (kinded ss valid)).1 (none_bad ss c sources qs fss asked of families sets u none)
+    (law ss c sources (hierarchies ss valid) (kinded ss valid)).1
+    (none_bad ss c sources qs fss asked of families sets u none)
   where
     none : CanBeBad (length sources) sets (all_of (length sources)) → ⊥
     none bad = let z : false ≡ true = sym lost ∙ is.1 (subst (CanBeBad n items) (sym full)

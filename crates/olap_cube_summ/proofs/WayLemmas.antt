@@ -32,7 +32,8 @@ whole_is s g cs e f = λ i. record { graph = e i; constraints = f i }
 module _ (s : Schema) (c : ℕ) (found : Found) (serves : IsFoundFor s c found) where
   -- the question by way of a source has the same names
   pub candidates_for : (d : ℕ) → AreCandidates s (Via d c) (candidates_of found.candidates)
-  candidates_for d = candidates_too s (Reach c) (Via d c) refl refl (candidates_of found.candidates) serves.chosen.candidates
+  candidates_for d =
+      candidates_too s (Reach c) (Via d c) refl refl (candidates_of found.candidates) serves.chosen.candidates
 
   -- it is a frozen dimension for it exactly if its root reaches the target by way of the source
   pub way_is : (d x : ℕ) → IsMemberOf (shape_of s (chosen_of found)) found.frozen.root.0 x
@@ -64,7 +65,8 @@ module _ (m k b : ℕ) (bit : b ≡ 2 ^ k) where
       let f : bit_at b j ≡ 0 = ap (λ w. bit_at w j) bit ∙ bit_at-pow_other k j n in
       (λ h. omega arith, λ h. omega arith)
 
-module _ (i : Instance) (x c : ℕ) (column : List ℕ) (k m : ℕ) (small : m < 2 ^ k) (before : HasWaysTo k i x c column m) where
+module _ (i : Instance) (x c : ℕ) (column : List ℕ) (k m : ℕ) (small : m < 2 ^ k)
+    (before : HasWaysTo k i x c column m) where
   pub way_put : (b : ℕ) → b ≡ 2 ^ k → ReachesVia i x (slice_index column k) c
       → HasWaysTo (k + 1) i x c column (bit_or m b)
   way_put b bit way j l = elim (below_suc j k (omega arith)) [

@@ -51,7 +51,8 @@ take_least-requires-clause-bad c =
     c.index-questions-i.result c.index-families-i.result c.requires.questions c.requires.families
     (let e = c.len-i-end.ensures.count in omega arith) c.schema-schema.ensures c.index-questions-i.is
     c.index-families-i.is in
-    let count = (dimension_at c.args.sources (dimensions_of ss qs fs) c.dimensions.i d taken c.requires.dimensions).count in
+    let count =
+    (dimension_at c.args.sources (dimensions_of ss qs fs) c.dimensions.i d taken c.requires.dimensions).count in
     subst (λ n. CanBeBad n (c.index-families-i.result.patterns ∷ take (length c.deref.result.now - (c.dimensions.i + 1))
     (drop (c.dimensions.i + 1) c.deref.result.now)) c.dimensions.mask) (sym count)
     (bad_here c.args.sources (dimensions_of ss qs fs) c.dimensions.i d

@@ -8,7 +8,8 @@ use Rattle.olap_cube_summ.proofs.distinct.stands_before.Goals as goal
 pub earlier-preserved : goal.earlier-preserved
 earlier-preserved c = λ i l e.
     let ts = c.args.sources.now in
-    let there = tuple_at ts c.earlier.j c.index-sources-j.result (let m = c.earlier-test.true in let k = c.requires in omega arith)
+    let there = tuple_at ts c.earlier.j c.index-sources-j.result
+    (let m = c.earlier-test.true in let k = c.requires in omega arith)
     c.index-sources-j.is in
     let here = tuple_at ts c.args.k c.index-sources-k.result c.requires c.index-sources-k.is in
     elim (below_suc i c.earlier.j (omega arith)) [

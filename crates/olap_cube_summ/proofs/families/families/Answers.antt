@@ -9,7 +9,8 @@ use Rattle.olap_cube_summ.proofs.families.families.Goals.{then-is_bottom+in_ok-p
 
 pub patterns_of-requires-clause-root : goal.patterns_of-requires-clause-root
 patterns_of-requires-clause-root c =
-    subst (λ (g : Graph). IsBottom g c.categories.b) c.graph-in-categories.ensures (c.is_bottom.ensures.0 c.if-is_bottom.true)
+    subst (λ (g : Graph). IsBottom g c.categories.b) c.graph-in-categories.ensures
+    (c.is_bottom.ensures.0 c.if-is_bottom.true)
 
 pub categories-preserved : goal.categories-preserved
 categories-preserved c =

@@ -20,8 +20,8 @@ patterns-smaller c =
     let other = subst (λ o. IfSome o
     (IsOther (schema_of c.args.schema.now) c.args.question.now c.args.root.0 c.patterns.patterns)) c.in-Some.is
     c.in_ok-found.ensures.some in
-    fewer_out c.patterns.patterns c.with-patterns.result c.pattern.result c.pattern.ensures.small c.with-patterns.ensures
-    (λ i. other.new (c.pattern.result, i, c.pattern.ensures.pattern))
+    fewer_out c.patterns.patterns c.with-patterns.result c.pattern.result c.pattern.ensures.small
+    c.with-patterns.ensures (λ i. other.new (c.pattern.result, i, c.pattern.ensures.pattern))
 
 pub patterns-preserved : goal.patterns-preserved
 patterns-preserved c =

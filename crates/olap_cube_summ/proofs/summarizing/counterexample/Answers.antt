@@ -110,14 +110,15 @@ returns-clause-none c =
     let first = subst (λ w. AreFirst w fss c.in_ok-first.first) (sym count)
     (subst (λ (w : List (List Family)). AreFirst (length c.args.sources.now) w c.in_ok-first.first)
     c.deref-3.ensures.value c.in_ok-first.ensures) in
-    let least = subst (λ w. AreLeast w (dimensions_of ss qs c.in_ok-first.first) (all_of w) c.in_ok-founds.founds) (sym count)
+    let least = subst (λ w. AreLeast w (dimensions_of ss qs c.in_ok-first.first) (all_of w) c.in_ok-founds.founds)
+    (sym count)
     (subst (λ w. AreLeast (length c.args.sources.now) (dimensions_of ss qs w) (all_of (length c.args.sources.now))
     c.in_ok-founds.founds) c.items-3.ensures
     (subst (λ w. AreLeast (length c.args.sources.now) (dimensions_of ss w c.items-3.result.now)
     (all_of (length c.args.sources.now)) c.in_ok-founds.founds) c.deref-4.ensures.value c.in_ok-founds.ensures)) in (
       λ e. absurd (let z : true ≡ false = e in cc),
-      λ z. absurd ((c.cube_summarizable_exactly_if_none_bad.ensures ss t ts (hierarchies ss c.in_ok-families.ensures.valid)
-          (kinded ss c.in_ok-families.ensures.valid)).0 z _
+      λ z. absurd ((c.cube_summarizable_exactly_if_none_bad.ensures ss t ts
+          (hierarchies ss c.in_ok-families.ensures.valid) (kinded ss c.in_ok-families.ensures.valid)).0 z _
           (is_bad ss t ts qs fss asked of families c.in_ok-first.first first c.in_ok-founds.founds least)),
     )
 
@@ -136,7 +137,8 @@ returns-clause-found c =
     let first = subst (λ w. AreFirst w fss c.in_ok-first.first) (sym count)
     (subst (λ (w : List (List Family)). AreFirst (length c.args.sources.now) w c.in_ok-first.first)
     c.deref-3.ensures.value c.in_ok-first.ensures) in
-    let least = subst (λ w. AreLeast w (dimensions_of ss qs c.in_ok-first.first) (all_of w) c.in_ok-founds.founds) (sym count)
+    let least = subst (λ w. AreLeast w (dimensions_of ss qs c.in_ok-first.first) (all_of w) c.in_ok-founds.founds)
+    (sym count)
     (subst (λ w. AreLeast (length c.args.sources.now) (dimensions_of ss qs w) (all_of (length c.args.sources.now))
     c.in_ok-founds.founds) c.items-3.ensures
     (subst (λ w. AreLeast (length c.args.sources.now) (dimensions_of ss w c.items-3.result.now)
