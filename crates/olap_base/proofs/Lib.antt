@@ -8,3 +8,4 @@ pub mod RollingLemmas
 pub mod ViewLemmas
 pub mod OneFactLemmas
 pub mod PiecesLeft
+pub mod RefusingLemmas

@@ -12,5 +12,8 @@ pub mod Above
 pub mod OneFact
 pub mod Limits
 pub mod Naming
+pub mod Bytes
+pub mod Ranks
+pub mod Refusing
 -- The inside: how a test decides.
 pub mod Deciding

@@ -53,9 +53,25 @@ most_count = 4294967295
 abbrev pub most_sum : ℕ
 most_sum = 2 ^ 95
 
--- bytes of a file
-abbrev pub most_file_bytes : ℕ
-most_file_bytes = 67108864
+-- bytes of a schema's file
+abbrev pub most_schema_bytes : ℕ
+most_schema_bytes = 67108864
+
+-- bytes of a certificate's file
+abbrev pub most_certificate_bytes : ℕ
+most_certificate_bytes = 67108864
+
+-- bytes of an instance's file
+abbrev pub most_instance_bytes : ℕ
+most_instance_bytes = 67108864
+
+-- bytes of a file of stored views
+abbrev pub most_store_bytes : ℕ
+most_store_bytes = 67108864
+
+-- bytes of a file of facts
+abbrev pub most_facts_bytes : ℕ
+most_facts_bytes = 67108864
 
 -- words of a command line, the command counted
 abbrev pub most_words : ℕ

@@ -4,12 +4,8 @@
 use Rattle.std.specs.Prelude.{ℕ, List, Option}
 use Rattle.std.specs.List.{position_from}
 use Rattle.std.specs.Str.{bytes_eq}
+pub use Rattle.olap_base.specs.declared.refusals.Fault.{Fault}
 
 -- the place of a text in a list, the first if it stands there more than once
 abbrev pub place_of : List ℕ → List (List ℕ) → Option ℕ
 place_of text texts = position_from (bytes_eq text) 0 texts
-
--- the line or record at which a file's first fault stands, counted from 1, and its kind
-pub record Fault (K : Type 0) : Type 0 where
-  pub at : ℕ
-  pub kind : K

@@ -39,8 +39,20 @@ pub const MOST_COUNT: u64 = 4_294_967_295;
 /// The greatest magnitude of a stored row's sum: 2^95.
 pub const MOST_SUM: i128 = 39_614_081_257_132_168_796_771_975_168;
 
-/// Bytes of a file.
-pub const MOST_FILE_BYTES: u64 = 67_108_864;
+/// Bytes of a schema's file.
+pub const MOST_SCHEMA_BYTES: u64 = 67_108_864;
+
+/// Bytes of a certificate's file.
+pub const MOST_CERTIFICATE_BYTES: u64 = 67_108_864;
+
+/// Bytes of an instance's file.
+pub const MOST_INSTANCE_BYTES: u64 = 67_108_864;
+
+/// Bytes of a file of stored views.
+pub const MOST_STORE_BYTES: u64 = 67_108_864;
+
+/// Bytes of a file of facts.
+pub const MOST_FACTS_BYTES: u64 = 67_108_864;
 
 /// Words of a command line, the command counted.
 pub const MOST_WORDS: usize = 64;
