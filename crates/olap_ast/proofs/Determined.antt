@@ -16,7 +16,7 @@ use Rattle.olap_numerals.specs.Numerals.{canonical}
 use Rattle.olap_base.specs.Instance.{category_of}
 use Rattle.olap_ast.specs.Formula.{Formula}
 use Rattle.olap_ast.specs.Schema.{Schema}
-use Rattle.olap_ast.specs.Violation.{IsNotAfter}
+use Rattle.olap_base.specs.Ranks.{IsNotAfter}
 use Rattle.olap_ast.specs.Constants.{AreInByteOrder, IsBefore, constants}
 use Rattle.olap_ast.specs.Findings.{Finding, Finding.Unsatisfiable, Finding.Redundant, Finding.Unused, IsEarlier, TheFindingsAreOne, finding_rank}
 use Rattle.olap_ast.specs.Frozen.{AreCandidates, AreNamesOf, Candidates, Frozen, IsFrozen, IsFrozenInstance, IsLeastFrozen, TheLeastIsOne, chosen, code, instance_of, name_in, root_place, text_of_index, thawed}

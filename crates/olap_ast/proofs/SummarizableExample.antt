@@ -8,7 +8,7 @@ use Rattle.olap_base.proofs.ViewLemmas.{agree_exactly}
 use Rattle.olap_ast.specs.Constants.{constants}
 use Rattle.olap_ast.specs.Formula.{Formula}
 use Rattle.olap_ast.specs.Schema.{IsLegal}
-use Rattle.olap_ast.specs.Violation.{IsNotAfter}
+use Rattle.olap_base.specs.Ranks.{IsNotAfter}
 use Rattle.olap_ast.specs.Frozen.{AreCandidates, Candidates, Frozen, IsFrozen, code, thawed}
 use Rattle.olap_ast.specs.Summarizable.{IsSummarizable, not_by_one}
 use Rattle.olap_ast.specs.Example.{OneStoreIsCounterexample, StoresAreSummarizable, stores, one_store, store_below_all}

@@ -6,7 +6,7 @@ use Rattle.std.specs.Prelude.{◌≡◌, ◌≢◌, ℕ, zero, suc, List, [], �
 use Rattle.olap_base.specs.Graph.{Edge, IsDeclared}
 use Rattle.olap_base.specs.Instance.{Instance, IsBelow, IsMemberOf, category_of}
 use Rattle.olap_ast.specs.Schema.{Constraint, IsLegal, Meets, Schema}
-use Rattle.olap_ast.specs.Violation.{IsNotAfter}
+use Rattle.olap_base.specs.Ranks.{IsNotAfter}
 
 -- what is found: a category, a constraint counted from 1, or an edge by its place
 pub data Finding : Type 0 where

@@ -13,7 +13,8 @@ use Rattle.olap_base.specs.Instance.{Instance, IsMemberOf, IsLawful, IsBelow, Is
 use Rattle.olap_base.specs.Steps.{Climb, Climb.climb, Climb-from_leads}
 use Rattle.olap_base.specs.Deciding.{below_is_member}
 use Rattle.olap_ast.specs.Schema.{Schema}
-use Rattle.olap_ast.specs.Violation.{Violation, Violation.NoEdge, Violation.NoParent, Violation.SameCategory, Violation.TwoAncestors, Violation.Shortcut, Violation.Unmet, IsViolation, rank, IsNotAfter, IsFirstViolation}
+use Rattle.olap_ast.specs.Violation.{Violation, Violation.NoEdge, Violation.NoParent, Violation.SameCategory, Violation.TwoAncestors, Violation.Shortcut, Violation.Unmet, IsViolation, rank, IsFirstViolation}
+use Rattle.olap_base.specs.Ranks.{IsNotAfter}
 use Rattle.olap_legal.specs.Rows.{IsBounded, AreLinked}
 use Rattle.olap_check.specs.Strata.{Repeats, IsFirstRepeat}
 use Rattle.olap_legal.specs.Tables.{IsTable, IsFirstSplit}

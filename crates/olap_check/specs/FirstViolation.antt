@@ -11,7 +11,8 @@ use Rattle.olap_base.specs.Instance.{Instance, IsInstance}
 use Rattle.olap_base.specs.Deciding.{dec_and, dec_iff}
 use Rattle.olap_numerals.specs.Named.{HasNumerals}
 use Rattle.olap_ast.specs.Schema.{Schema, IsLegal}
-use Rattle.olap_ast.specs.Violation.{Violation, Violation.NoEdge, Violation.NoParent, Violation.SameCategory, Violation.TwoAncestors, Violation.Shortcut, Violation.Unmet, IsViolation, IsFirstViolation, IsNotAfter, rank}
+use Rattle.olap_ast.specs.Violation.{Violation, Violation.NoEdge, Violation.NoParent, Violation.SameCategory, Violation.TwoAncestors, Violation.Shortcut, Violation.Unmet, IsViolation, IsFirstViolation, rank}
+use Rattle.olap_base.specs.Ranks.{IsNotAfter}
 use Rattle.olap_ast.proofs.Unviolated.{legal_exactly}
 use Rattle.olap_ast.proofs.Least.{Fits, IsFirst, FirstOrNone, first_list}
 use Rattle.olap_ast.proofs.Violated.{decide_violation, above_ranks, ranks_fit}

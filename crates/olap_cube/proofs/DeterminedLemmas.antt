@@ -3,7 +3,7 @@ use Rattle.std.proofs.Common.{◌≡◌, ℕ, List, [], ◌∷◌, ◌++◌, Boo
 use Rattle.olap_ast.specs.Formula.{Formula.Reach}
 use Rattle.olap_ast.specs.Frozen.{AreOneFrozenDimension, code, name_in, root_place, thawed}
 use Rattle.olap_ast.specs.Schema.{Schema}
-use Rattle.olap_ast.specs.Violation.{IsNotAfter}
+use Rattle.olap_base.specs.Ranks.{IsNotAfter}
 use Rattle.olap_ast.proofs.Determined.{same_name, same_thawed}
 use Rattle.olap_cube.specs.CubeSummarizable.{AreChosen, AreNotAfter, AreOneChoice, Chosen, IsChosen, TheCubeCounterexampleIsOne, bottoms_of, codes_of}
 

@@ -9,7 +9,7 @@ use Rattle.olap_ast.specs.Formula.{Formula, Formula.Reach, comparisons, equaliti
 use Rattle.olap_ast.specs.Frozen.{AreCandidates, Candidates, Frozen, IsFrozen, IsFrozenInstance, code, thawed}
 use Rattle.olap_ast.specs.Schema.{Schema}
 use Rattle.olap_ast.specs.Summarizable.{IsCounterexample, IsSummarizable, not_by_one}
-use Rattle.olap_ast.specs.Violation.{IsNotAfter}
+use Rattle.olap_base.specs.Ranks.{IsNotAfter}
 use Rattle.olap_ast.proofs.Determined.{still_frozen}
 use Rattle.olap_ast.proofs.SameAtoms.{candidates_too, frozen_too}
 use Rattle.olap_ast.proofs.SourceLemmas.{question_free, question_numberless}

@@ -13,7 +13,7 @@ use Rattle.olap_ast.specs.Formula.{Formula.Reach, Formula.Truth}
 use Rattle.olap_ast.specs.Frozen.{AreCandidates, AreOneFrozenDimension, Candidates, Frozen, IsFrozen, code, thawed}
 use Rattle.olap_ast.specs.Schema.{Schema, IsLegal}
 use Rattle.olap_ast.specs.Summarizable.{IsCounterexample, IsSummarizable}
-use Rattle.olap_ast.specs.Violation.{IsNotAfter}
+use Rattle.olap_base.specs.Ranks.{IsNotAfter}
 use Rattle.olap_cube.specs.Tuples.{IsTupleOf, TupleReachesVia}
 use Rattle.olap_cube.specs.CubeViews.{CubeRow, CubeViewsAgree, IsCubeFactTable, cube_direct_rows, cube_direct_views, cube_rows_from_views, one_cube_fact}
 

@@ -8,7 +8,7 @@ use Rattle.std.specs.Prelude.{◌≡◌, ◌<◌, ℕ, List, [], ◌∷◌, leng
 use Rattle.std.specs.Int.Bits.{bit_and}
 use Rattle.olap_ast.specs.Frozen.{code}
 use Rattle.olap_ast.specs.Schema.{Schema}
-use Rattle.olap_ast.specs.Violation.{IsNotAfter}
+use Rattle.olap_base.specs.Ranks.{IsNotAfter}
 use Rattle.olap_bits.specs.declared.sets.CatSet.{CatSet}
 use Rattle.olap_cube.specs.CubeSummarizable.{Chosen, IsChosen}
 use Rattle.olap_dimensions.specs.Dimensions.{no_schema}

@@ -6,7 +6,7 @@
 use Rattle.std.specs.Prelude.{◌≡◌, ℕ, List, Contains}
 use Rattle.olap_ast.specs.Frozen.{code, thawed}
 use Rattle.olap_ast.specs.Schema.{Schema}
-use Rattle.olap_ast.specs.Violation.{IsNotAfter}
+use Rattle.olap_base.specs.Ranks.{IsNotAfter}
 use Rattle.olap_base.specs.Graph.{IsBottom}
 use Rattle.olap_base.specs.Instance.{Instance, IsMemberOf}
 use Rattle.olap_bits.specs.declared.sets.CatSet.{CatSet}

@@ -3,7 +3,7 @@ use Rattle.std.proofs.Common.{◌≡◌, ℕ, zero, suc, ◌+◌, ◌-◌, ◌<�
 use Rattle.std.specs.Prelude.{slice_index, slice_index_or}
 use Rattle.std.proofs.lemmas.List.{ext_get_or}
 use Rattle.olap_ast.specs.Frozen.{Frozen, code}
-use Rattle.olap_ast.specs.Violation.{IsNotAfter}
+use Rattle.olap_base.specs.Ranks.{IsNotAfter}
 use Rattle.olap_dimsat.specs.Following.{IsNext, IsRaised, NoneAfter, NoneMore}
 use Rattle.olap_dimsat.specs.Listed.{IsBefore}
 use Rattle.olap_clauses.specs.declared.engine.Engine.{Engine}

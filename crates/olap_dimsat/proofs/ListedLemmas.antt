@@ -4,7 +4,7 @@ use Rattle.std.specs.Prelude.{All, AllPairs, Contains}
 use Rattle.std.proofs.lemmas.List.Elements.{All-append, Contains-append_left, Contains-append_right}
 use Rattle.std.proofs.lemmas.List.Quantifiers.{all_pairs_push}
 use Rattle.olap_ast.specs.Frozen.{Frozen, code}
-use Rattle.olap_ast.specs.Violation.{IsNotAfter}
+use Rattle.olap_base.specs.Ranks.{IsNotAfter}
 use Rattle.olap_base.proofs.ListLemmas.{contains_head}
 use Rattle.olap_names.specs.Names.{candidates_of}
 use Rattle.olap_names.proofs.OrderLemmas.{compare, not_after_itself, not_both}

@@ -5,7 +5,7 @@ use Rattle.std.proofs.lemmas.List.{get_or-map, get_or_append_left, get_or-append
 use Rattle.std.proofs.lemmas.Bool.{cases_Bool, false_from_ne_true}
 use Rattle.olap_base.specs.Graph.{category_count}
 use Rattle.olap_ast.specs.Frozen.{Frozen, code}
-use Rattle.olap_ast.specs.Violation.{IsNotAfter}
+use Rattle.olap_base.specs.Ranks.{IsNotAfter}
 use Rattle.olap_clauses.specs.declared.engine.Engine.{Engine}
 use Rattle.olap_pool.specs.declared.literals.Lit.{Lit}
 use Rattle.olap_clauses.specs.declared.trails.Step.{Step}

@@ -6,7 +6,7 @@
 --     IsHanded     a value of the task's root and sizes, with 0 at `All`
 use Rattle.std.specs.Prelude.{◌≡◌, ℕ, ◌<◌, ◌≤◌, slice_index}
 use Rattle.olap_ast.specs.Frozen.{Frozen, code}
-use Rattle.olap_ast.specs.Violation.{IsNotAfter}
+use Rattle.olap_base.specs.Ranks.{IsNotAfter}
 use Rattle.olap_frozen.specs.declared.frozen.Frozen as kept
 use Rattle.olap_frozen.specs.Leaves.{IsSized, IsZeroAtAll}
 use Rattle.olap_dimsat.specs.Listed.{IsBefore}

@@ -12,9 +12,11 @@ use Rattle.olap_base.specs.Views.{Fact}
 use Rattle.olap_facts.specs.Batches.{HandsOutBatch, HasFilled, HasRead, IsStoppedInBatch, IsStoppedWithin, facts_in_a_batch, more, next_facts}
 use Rattle.olap_facts.specs.FactReading.{FactReading, HandsOut, HasAll, HasBody, IsAt, IsAtEnd, all_read, body_of, one_more}
 use Rattle.olap_facts.specs.FactText.{fact_fault_within, fact_read}
-use Rattle.olap_facts.specs.Refusals.{IsRefusedBy}
-use Rattle.olap_facts.specs.declared.kinds.FactRefusal.{FactRefusal}
-use Rattle.olap_facts.specs.declared.kinds.FactRefusal.TheVariants as refusal
+use Rattle.olap_base.specs.Refusing.{IsRefusedBy}
+use Rattle.olap_facts.specs.declared.kinds.FactKind.{FactKind}
+use Rattle.olap_base.specs.declared.refusals.Fault.{Fault}
+use Rattle.olap_base.specs.declared.refusals.Refusal.{Refusal}
+use Rattle.olap_base.specs.declared.refusals.Refusal.TheVariants as refusal
 use Rattle.olap_facts.proofs.ReaderLemmas.{found-behind, whole}
 
 module _ (r : FactReading) where
@@ -139,12 +141,12 @@ module _ (r : FactReading) where
             whole (more h.n r) [] a.body refl ∙ ap Ok (sym read)
 
   -- what stops a reader stops it in a batch
-  pub batch-stopped : (e : FactRefusal) → IsStoppedWithin facts_in_a_batch r e → IsStoppedInBatch r e
-  batch-stopped (refusal.Fault at k) (n, few, (all, inl first)) = (all, inl (first.0, omega (arith, first.1)))
-  batch-stopped (refusal.Fault at k) (n, few, (all, inr next)) = (all, inr (n, few, next))
-  batch-stopped refusal.Memory h = tt
+  pub batch-stopped : (e : Refusal (Fault FactKind)) → IsStoppedWithin facts_in_a_batch r e → IsStoppedInBatch r e
+  batch-stopped (refusal.Kind f) (n, few, (all, inl first)) = (all, inl (first.0, omega (arith, first.1)))
+  batch-stopped (refusal.Kind f) (n, few, (all, inr next)) = (all, inr (n, few, next))
+  batch-stopped (refusal.Memory m) h = tt
 
   -- what stops a reader of a whole text refuses it
-  pub refused-by : (count : ℕ) (e : FactRefusal) → IsStoppedWithin count r e → IsRefusedBy e (all_read r)
-  refused-by count (refusal.Fault at k) h = h.2.0
-  refused-by count refusal.Memory h = tt
+  pub refused-by : (count : ℕ) (e : Refusal (Fault FactKind)) → IsStoppedWithin count r e → IsRefusedBy e (all_read r)
+  refused-by count (refusal.Kind f) h = h.2.0
+  refused-by count (refusal.Memory m) h = tt

@@ -13,7 +13,7 @@ use Rattle.olap_facts.specs.FactReading.{FactReading, HandsOut, HasAll, HasBody,
 use Rattle.olap_facts.specs.FactText.{fact_fault_within, fact_read, has_header, or_read}
 use Rattle.olap_facts.specs.declared.kinds.FactKind.{FactKind}
 use Rattle.olap_facts.specs.declared.kinds.FactKind.TheVariants as kind
-use Rattle.olap_facts.specs.declared.kinds.FactRefusal.TheVariants as refusal
+use Rattle.olap_base.specs.declared.refusals.Refusal.TheVariants as refusal
 
 -- a fault that is found stands after the records before
 module _ {R K : Type 0} (fault : List R → R → Option K) where
@@ -57,7 +57,7 @@ module _ (r : FactReading) where
       }
 
   pub no-header : (old : List (List (List ℕ))) → IsAt r old → r.handed ≡ 0 → has_header old ≡ false
-      → IsStopped r (refusal.Fault 1 kind.BadHeader)
+      → IsStopped r (refusal.Kind (record { at = 1; kind = kind.BadHeader }))
   no-header old a z f =
       let h : has_header r.records ≡ false = sym (ap has_header (a.start z)) ∙ f in (rw h refl, inl (refl, z))
 

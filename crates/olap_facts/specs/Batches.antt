@@ -2,14 +2,15 @@
 --     facts_in_a_batch   how many facts a batch has, but for the last
 --     HandsOutBatch      it hands out the facts of the next records
 --     IsStoppedInBatch   the text's first fault stands at one of the next records
-use Rattle.std.specs.Prelude.{◌≡◌, ◌⊎◌, ⊤, ℕ, ◌+◌, ◌<◌, ◌≤◌, true, List, [], length, map, take, drop, Some, Err}
+use Rattle.std.specs.Prelude.{◌≡◌, ◌⊎◌, ℕ, ◌+◌, ◌<◌, ◌≤◌, true, List, [], length, map, take, drop, Some, Err}
 use Rattle.olap_base.specs.Views.{Fact}
 use Rattle.olap_records.specs.Faults.{first_fault}
 use Rattle.olap_facts.specs.FactReading.{FactReading, HasAll, HasBody, IsAt, IsStopped, all_read, body_of}
 use Rattle.olap_facts.specs.FactText.{fact_fault_within, fact_read, has_header}
 use Rattle.olap_facts.specs.declared.kinds.FactKind.{FactKind}
-use Rattle.olap_facts.specs.declared.kinds.FactRefusal.{FactRefusal}
-use Rattle.olap_facts.specs.declared.kinds.FactRefusal.TheVariants as refusal
+use Rattle.olap_base.specs.Refusing.{IsFor}
+use Rattle.olap_base.specs.declared.refusals.Fault.{Fault}
+use Rattle.olap_base.specs.declared.refusals.Refusal.{Refusal}
 
 -- the most facts of a batch
 abbrev pub facts_in_a_batch : ℕ
@@ -34,10 +35,9 @@ pub record HandsOutBatch (r : FactReading) (batch : List Fact) : Type 0 where
   pub facts : batch ≡ next_facts facts_in_a_batch r
 
 -- the text's first fault is that of the header, before any fact, or of a record of the next batch; or memory ran out
-abbrev pub IsStoppedInBatch : FactReading → FactRefusal → Type 0
-IsStoppedInBatch r (refusal.Fault at kind) = (all_read r ≡ Err (record { at = at; kind = kind }))
-    × (((at ≡ 1) × (r.handed ≡ 0)) ⊎ ((n : ℕ) × (n < facts_in_a_batch) × (at ≡ r.handed + n + 2)))
-IsStoppedInBatch r refusal.Memory = ⊤
+abbrev pub IsStoppedInBatch : FactReading → Refusal (Fault FactKind) → Type 0
+IsStoppedInBatch r = IsFor (λ f. (all_read r ≡ Err f)
+    × (((f.at ≡ 1) × (r.handed ≡ 0)) ⊎ ((n : ℕ) × (n < facts_in_a_batch) × (f.at ≡ r.handed + n + 2))))
 
 -- ---- within
 
@@ -57,5 +57,5 @@ pub record HasFilled (r : FactReading) (count : ℕ) (batch : List Fact) (left :
   pub end : (n ≡ count) ⊎ HasAll (more n r) left
 
 -- fewer than so many facts were read since the reader stood here, and then it stopped
-abbrev pub IsStoppedWithin : ℕ → FactReading → FactRefusal → Type 0
+abbrev pub IsStoppedWithin : ℕ → FactReading → Refusal (Fault FactKind) → Type 0
 IsStoppedWithin count r e = (n : ℕ) × (n < count) × IsStopped (more n r) e

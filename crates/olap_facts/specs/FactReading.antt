@@ -4,18 +4,18 @@
 --     IsAtEnd       all facts were handed out
 --     IsStopped     the text's first fault stands at the next record
 --     IsReader      what is true of every reader
-use Rattle.std.specs.Prelude.{◌≡◌, ◌⊎◌, ⊤, ℕ, ◌+◌, ◌<◌, ◌≤◌, ◌^◌, ◌++◌, Bool, true, false, List, [], length, drop, slice_index_or, Some, Result, Ok, Err}
+use Rattle.std.specs.Prelude.{◌≡◌, ◌⊎◌, ℕ, ◌+◌, ◌<◌, ◌≤◌, ◌^◌, ◌++◌, Bool, true, false, List, [], length, drop, slice_index_or, Some, Result, Ok, Err}
 use Rattle.olap_base.specs.Graph.{Graph}
 use Rattle.olap_base.specs.Instance.{Instance}
-use Rattle.olap_base.specs.Naming.{Fault}
 use Rattle.olap_base.specs.Views.{Fact}
 use Rattle.olap_instance.specs.Made.{IsMadeFor}
 use Rattle.olap_records.specs.Faults.{first_fault}
 use Rattle.olap_facts.specs.FactText.{fact_fault_within, fact_read, facts_read_within, has_header}
 use Rattle.olap_facts.specs.declared.settings.Setting.{Setting}
 use Rattle.olap_facts.specs.declared.kinds.FactKind.{FactKind}
-use Rattle.olap_facts.specs.declared.kinds.FactRefusal.{FactRefusal}
-use Rattle.olap_facts.specs.declared.kinds.FactRefusal.TheVariants as refusal
+use Rattle.olap_base.specs.Refusing.{IsFor}
+use Rattle.olap_base.specs.declared.refusals.Fault.{Fault}
+use Rattle.olap_base.specs.declared.refusals.Refusal.{Refusal}
 
 -- the records of a text, the most facts that it may have, how many were handed out, and whether there may be more
 pub record FactReading : Type 0 where
@@ -65,10 +65,8 @@ pub record IsAtEnd (r : FactReading) : Type 0 where
 
 -- the text's first fault is that of the header, before any fact, or of the record after those handed out; or memory
 -- ran out
-abbrev pub IsStopped : FactReading → FactRefusal → Type 0
-IsStopped r (refusal.Fault at kind) =
-    (all_read r ≡ Err (record { at = at; kind = kind })) × (((at ≡ 1) × (r.handed ≡ 0)) ⊎ (at ≡ r.handed + 2))
-IsStopped r refusal.Memory = ⊤
+abbrev pub IsStopped : FactReading → Refusal (Fault FactKind) → Type 0
+IsStopped r = IsFor (λ f. (all_read r ≡ Err f) × (((f.at ≡ 1) × (r.handed ≡ 0)) ⊎ (f.at ≡ r.handed + 2)))
 
 -- ---- within
 

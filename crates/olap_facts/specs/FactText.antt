@@ -9,7 +9,8 @@ use Rattle.std.specs.Str.{bytes_eq}
 use Rattle.olap_base.specs.Graph.{Graph, category_count}
 use Rattle.olap_base.specs.Instance.{Instance, category_of}
 use Rattle.olap_base.specs.Limits.{most_listed_facts}
-use Rattle.olap_base.specs.Naming.{Fault, place_of}
+use Rattle.olap_base.specs.Naming.{place_of}
+use Rattle.olap_base.specs.declared.refusals.Fault.{Fault}
 use Rattle.olap_base.specs.Views.{Fact}
 use Rattle.olap_records.specs.Faults.{field, first_fault}
 use Rattle.olap_numerals.specs.Values.{value_of}

@@ -1,7 +1,6 @@
 -- Definitions that contracts cite.
 pub mod Seen
 pub mod FactText
-pub mod Refusals
 pub mod Kinds
 pub mod FactReading
 pub mod Batches

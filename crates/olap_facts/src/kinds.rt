@@ -1,9 +1,4 @@
-// What may be wrong with a text of facts, and refusals.
-ghost use Rattle.std.specs.Prelude.{◌≡◌};
-ghost use Rattle.olap_facts.specs.declared.kinds.FactRefusal.TheVariants as refusal;
-
-use olap_base::Memory;
-use std::alloc::AllocFailed;
+// What may be wrong with a text of facts.
 
 /// A fault of a text of facts.
 #[derive(Clone, Copy, Debug, PartialEq, Eq)]
@@ -38,30 +33,5 @@ impl FactKind {
             FactKind::BadNumber => "BadNumber",
             FactKind::TooManyFacts => "TooManyFacts",
         }
-    }
-}
-
-/// Why a text of facts was refused, or no fact of it was handed out.
-#[derive(Clone, Copy, Debug, PartialEq, Eq)]
-pub enum FactRefusal {
-    /// The first fault, with the number of its record, from 1; the header is record 1.
-    Fault { at: u64, kind: FactKind },
-    /// Memory ran out.
-    Memory,
-}
-
-impl From<Memory> for FactRefusal {
-    ghost from_gives = { λ _ e. e ≡ refusal.Memory };
-
-    fn from(_: Memory) -> FactRefusal {
-        FactRefusal::Memory
-    }
-}
-
-impl<T: Drop> From<AllocFailed<T>> for FactRefusal {
-    ghost from_gives = { λ _ e. e ≡ refusal.Memory };
-
-    fn from(_: AllocFailed<T>) -> FactRefusal {
-        FactRefusal::Memory
     }
 }

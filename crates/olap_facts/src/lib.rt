@@ -12,7 +12,7 @@ mod reading;
 mod settings;
 mod tables;
 
-pub use kinds::{FactKind, FactRefusal};
+pub use kinds::FactKind;
 pub use laws::bottom_is_decided;
 pub use readers::FactReader;
 pub use reading::{is_at_bottom, read_facts};

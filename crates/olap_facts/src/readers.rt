@@ -11,7 +11,8 @@ ghost use Rattle.olap_facts.specs.Seen.{fact_of};
 
 use crate::reading::{fill, next_of};
 use crate::settings::Setting;
-use crate::{Fact, FactRefusal};
+use crate::{Fact, FactKind};
+use olap_base::{Fault, Refusal};
 use olap_graph::Graph;
 use olap_instance::Instance;
 use olap_records::Rows;
@@ -72,7 +73,7 @@ impl<'a> FactReader<'a> {
     }
 
     /// The fact of the next record, if there is one. After the last, and after a refusal, the reader isn't live.
-    pub fn next(&mut self) -> Result<Option<Fact>, FactRefusal>
+    pub fn next(&mut self) -> Result<Option<Fact>, Refusal<Fault<FactKind>>>
         requires live { IsTrue self.old.live }
         ensures reads { MatchResult result
             (λ o. MatchOption o (IsAtEnd self.old × (self.new ≡ stopped self.old))
@@ -101,7 +102,7 @@ impl<'a> FactReader<'a> {
 
     /// Puts the facts of the next records into the batch, in place of those in it, and says whether there are any: as
     /// many as a batch may have, or as are left. After the last, and after a refusal, the reader isn't live.
-    pub fn read_batch(&mut self, batch: &mut Vec<Fact>) -> Result<bool, FactRefusal>
+    pub fn read_batch(&mut self, batch: &mut Vec<Fact>) -> Result<bool, Refusal<Fault<FactKind>>>
         requires live { IsTrue self.old.live }
         ensures reads { MatchResult result
             (λ some. MatchBool some

@@ -9,12 +9,12 @@ ghost use Rattle.olap_records.specs.Records.{records_of};
 ghost use Rattle.olap_facts.specs.Batches.{HasFilled, IsStoppedWithin};
 ghost use Rattle.olap_facts.specs.FactReading.{FactReading, HandsOut, HasAll, HasBody, IsAt, IsStopped, one_more, reading_in};
 ghost use Rattle.olap_facts.specs.FactText.{fact_fault_within, fact_read, facts_read, is_bottom};
-ghost use Rattle.olap_facts.specs.Refusals.{IsRefusedBy};
+ghost use Rattle.olap_base.specs.Refusing.{IsRefusedBy};
 ghost use Rattle.olap_facts.specs.Seen.{fact_of, facts_of};
 
 use crate::settings::Setting;
-use crate::{Fact, FactKind, FactRefusal, Facts};
-use olap_base::{List, MOST_LISTED_FACTS, MemberId};
+use crate::{Fact, FactKind, Facts};
+use olap_base::{Fault, List, MOST_LISTED_FACTS, MemberId, Refusal};
 use olap_graph::Graph;
 use olap_instance::Instance;
 use olap_numerals::value;
@@ -71,7 +71,7 @@ fn fact(
 
 /// Reads the header before the first fact.
 #[inline(always)]
-fn start(rows: &mut Rows, handed: u64) -> Result<(), FactRefusal>
+fn start(rows: &mut Rows, handed: u64) -> Result<(), Refusal<Fault<FactKind>>>
     ensures { (r : FactReading) → r.handed ≡ handed → IsAt r rows.old.left
         → MatchResult result (λ _. HasBody r rows.new.left) (IsStopped r) }
 {
@@ -79,10 +79,10 @@ fn start(rows: &mut Rows, handed: u64) -> Result<(), FactRefusal>
         return Ok(());
     }
     if !rows.advance()? || !rows.is_row(&[b"member", b"value"]) {
-        return Err(FactRefusal::Fault {
+        return Err(Refusal::Kind(Fault {
             at: 1,
             kind: FactKind::BadHeader,
-        });
+        }));
     }
     Ok(())
 }
@@ -93,7 +93,7 @@ pub(crate) fn next_of(
     setting: Setting<'_>,
     rows: &mut Rows,
     handed: u64,
-) -> Result<Option<Fact>, FactRefusal>
+) -> Result<Option<Fact>, Refusal<Fault<FactKind>>>
     requires few { handed ≤ setting.most }
     ensures reads { (records : Items (Items (Items ℕ))) (live : Bool)
         → IsAt (reading_in setting.entry records handed live) rows.old.left → MatchResult result
@@ -113,10 +113,10 @@ pub(crate) fn next_of(
     }
     match fact(setting.graph, setting.instance, rows, handed, setting.most) {
         Ok(fact) => Ok(Some(fact)),
-        Err(kind) => Err(FactRefusal::Fault {
+        Err(kind) => Err(Refusal::Kind(Fault {
             at: handed + 2,
             kind,
-        }),
+        })),
     }
 }
 
@@ -127,7 +127,7 @@ pub(crate) fn fill(
     handed: u64,
     count: usize,
     batch: &mut Vec<Fact>,
-) -> Result<(), FactRefusal>
+) -> Result<(), Refusal<Fault<FactKind>>>
     requires few { handed ≤ setting.most }
     requires empty { batch.old.items ≡ [] }
     ensures reads { (records : Items (Items (Items ℕ))) (live : Bool)
@@ -155,7 +155,7 @@ pub fn read_facts(
     graph: &Graph,
     instance: &Instance,
     text: &[u8],
-) -> Result<Facts, FactRefusal>
+) -> Result<Facts, Refusal<Fault<FactKind>>>
     requires made { IsMadeFor graph.now instance.now }
 
     ensures read { MatchResult result

@@ -11,10 +11,10 @@ use Rattle.olap_graph.specs.Building.{category_refusal, edge_refusal}
 use Rattle.olap_graph.specs.Listing.{edge_of, graph_of}
 use Rattle.olap_graph.specs.Lookups.{category_named, edge_between}
 use Rattle.olap_graph.specs.declared.listing.Ends.{Ends}
-use Rattle.olap_graph.specs.declared.refusals.CategoryRefusal.{CategoryRefusal}
-use Rattle.olap_graph.specs.declared.refusals.CategoryRefusal.TheVariants as of_category
-use Rattle.olap_graph.specs.declared.refusals.EdgeRefusal.{EdgeRefusal}
-use Rattle.olap_graph.specs.declared.refusals.EdgeRefusal.TheVariants as of_edge
+use Rattle.olap_graph.specs.declared.refusals.CategoryFault.{CategoryFault}
+use Rattle.olap_graph.specs.declared.refusals.CategoryFault.TheVariants as of_category
+use Rattle.olap_graph.specs.declared.refusals.EdgeFault.{EdgeFault}
+use Rattle.olap_graph.specs.declared.refusals.EdgeFault.TheVariants as of_edge
 
 -- what is found by its place is found
 pub found : {A : Type 0} (f : A → ℕ) (o : Option A) {p : Option ℕ} {b : Bool} → option_map f o ≡ p → b ≡ is_some o
@@ -31,7 +31,7 @@ pub has_room : (most n k : ℕ) → n < most → n ≡ k → false ≡ nat_le mo
 has_room most n k h e = grind (arith, nat_tests)
 
 -- the first reason to refuse a category, by the tests
-abbrev pub category_reason : Bool → Bool → Option CategoryRefusal
+abbrev pub category_reason : Bool → Bool → Option CategoryFault
 category_reason taken full =
     if taken then Some of_category.DuplicateCategory
     else if full then Some of_category.TooManyCategories
@@ -43,7 +43,7 @@ pub category_reason_is : (g : Graph) (name : List ℕ) (taken full : Bool) → t
 category_reason_is g name taken full t f = rw (t, f) refl
 
 -- the first reason to refuse an edge, by the tests
-abbrev pub edge_reason : Bool → Bool → Bool → Bool → Option EdgeRefusal
+abbrev pub edge_reason : Bool → Bool → Bool → Bool → Option EdgeFault
 edge_reason loop from_all taken full =
     if loop then Some of_edge.SelfEdge
     else if from_all then Some of_edge.EdgeFromAll
@@ -66,12 +66,6 @@ edges_counted names kinds ends n e v = e ∙ sym (length-map ends edge_of) ∙ a
 pub no_value : {T E : Type 0} (r : Result T E) (P : T → Type 0) → IsErr r → IfOk r P
 no_value (Ok x) P h = absurd (false≢true h)
 no_value (Err e) P h = tt
-
--- a refusal for that reason, which is a cause
-pub has_cause : {T E : Type 0} (r : Result T E) (P : E → Type 0) (reason : E) → P reason
-    → IsErrAnd r (λ e. e ≡ reason) → IfErr r P
-has_cause (Ok x) P reason p h = tt
-has_cause (Err e) P reason p h = subst P (sym h) p
 
 -- what holds anyway holds at a refusal
 pub at_refusal : {T E : Type 0} (r : Result T E) {P : Type 0} → P → OnErr r P

@@ -8,12 +8,11 @@ use Rattle.std.specs.Prelude.{◌≡◌, ◌≢◌, ℕ, Bool, true, false, ◌<
 use Rattle.olap_base.specs.Graph.{Graph, category_count, IsCategory, IsDeclared, HasEdge, CategoryReaches, IsCategoryName}
 use Rattle.olap_base.specs.Limits.{most_categories, most_edges, most_text_bytes}
 use Rattle.olap_graph.specs.Lookups.{category_named, edge_between}
-use Rattle.olap_graph.specs.declared.refusals.CategoryRefusal.{CategoryRefusal}
-use Rattle.olap_graph.specs.declared.refusals.CategoryRefusal.TheVariants as of_category
-use Rattle.olap_graph.specs.declared.refusals.EdgeRefusal.{EdgeRefusal}
-use Rattle.olap_graph.specs.declared.refusals.EdgeRefusal.TheVariants as of_edge
-use Rattle.olap_graph.specs.declared.refusals.GraphRefusal.{GraphRefusal}
-use Rattle.olap_graph.specs.declared.refusals.GraphRefusal.TheVariants as of_graph
+use Rattle.olap_graph.specs.declared.refusals.CategoryFault.{CategoryFault}
+use Rattle.olap_graph.specs.declared.refusals.CategoryFault.TheVariants as of_category
+use Rattle.olap_graph.specs.declared.refusals.EdgeFault.{EdgeFault}
+use Rattle.olap_graph.specs.declared.refusals.EdgeFault.TheVariants as of_edge
+use Rattle.olap_graph.specs.declared.refusals.NoWayToAll.{NoWayToAll}
 
 -- no more categories, edges and bytes of a name than there may be
 pub record IsWithinLimits (g : Graph) : Type 0 where
@@ -52,14 +51,14 @@ abbrev pub with_edge : Graph → ℕ → ℕ → Graph
 with_edge g c d = record g { edges = g.edges ++ record { child = c; parent = d } ∷ [] }
 
 -- the first reason to refuse a category of this name: it is taken, or there are as many categories as may be
-abbrev pub category_refusal : Graph → List ℕ → Option CategoryRefusal
+abbrev pub category_refusal : Graph → List ℕ → Option CategoryFault
 category_refusal g name =
     if is_some (category_named g name) then Some of_category.DuplicateCategory
     else if nat_le most_categories (category_count g) then Some of_category.TooManyCategories
     else None
 
 -- the first reason to refuse an edge from c to d
-abbrev pub edge_refusal : Graph → ℕ → ℕ → Option EdgeRefusal
+abbrev pub edge_refusal : Graph → ℕ → ℕ → Option EdgeFault
 edge_refusal g c d =
     if c == d then Some of_edge.SelfEdge
     else if c == 0 then Some of_edge.EdgeFromAll
@@ -67,23 +66,12 @@ edge_refusal g c d =
     else if nat_le most_edges (length g.edges) then Some of_edge.TooManyEdges
     else None
 
--- why a category is refused: want of memory, or the first reason
-abbrev pub IsCategoryCause : Option CategoryRefusal → CategoryRefusal → Type 0
-IsCategoryCause first of_category.Memory = Unit {0}
-IsCategoryCause first e = first ≡ Some e
-
--- why an edge is refused: want of memory, or the first reason
-abbrev pub IsEdgeCause : Option EdgeRefusal → EdgeRefusal → Type 0
-IsEdgeCause first of_edge.Memory = Unit {0}
-IsEdgeCause first e = first ≡ Some e
-
 -- no walk leads from the declared category c to `All`, and from each declared one before it one does
 pub record IsFirstWithoutWay (g : Graph) (c : ℕ) : Type 0 where
   pub declared : IsDeclared g c
   pub none : CategoryReaches g c 0 → ⊥
   pub before : (d : ℕ) → IsDeclared g d → d < c → CategoryReaches g d 0
 
--- why a graph is refused: want of memory, or the first category without a way
-abbrev pub IsGraphCause : Graph → GraphRefusal → Type 0
-IsGraphCause g of_graph.Memory = Unit {0}
-IsGraphCause g (of_graph.NoWayToAll c) = IsFirstWithoutWay g c.0
+-- why a graph is refused: the first category without a way
+abbrev pub IsWithoutWay : Graph → NoWayToAll → Type 0
+IsWithoutWay g c = IsFirstWithoutWay g c.0.0

@@ -3,16 +3,17 @@ ghost use Rattle.std.specs.Prelude.{◌≡◌, ◌↔◌, ◌≤◌, ◌<◌, �
 ghost use Rattle.std.specs.Option.{option_map};
 ghost use Rattle.olap_base.specs.Graph.{IsCategory, IsDeclared, IsBottom, IsHierarchy, HasEdge, CategoryReaches, category_count, is_number as is_number_of};
 ghost use Rattle.olap_base.specs.Limits.{most_categories, most_edges};
+ghost use Rattle.olap_base.specs.Refusing.{IsFor};
 ghost use Rattle.olap_graph.specs.Lookups.{category_named, name_of_category, edge_between, edge_at, edges_from};
-ghost use Rattle.olap_graph.specs.Building.{IsWithinLimits, IsUnfinished, IsGraphCause};
+ghost use Rattle.olap_graph.specs.Building.{IsWithinLimits, IsUnfinished, IsWithoutWay};
 ghost use Rattle.olap_graph.specs.Listing.{graph_of, IsHeaded};
 ghost use Rattle.olap_graph.specs.Tables.{IsFirstWithout, HaveAll};
 
-use crate::GraphRefusal;
+use crate::NoWayToAll;
 use crate::listing::{Ends, copied, leading, named};
 use crate::reaching::Categories;
 use crate::tables::Tables;
-use olap_base::{CatId, EdgeId, Memory, Text};
+use olap_base::{CatId, EdgeId, Memory, Refusal, Text};
 use std::alloc::Global;
 use std::marker::Model;
 
@@ -59,17 +60,17 @@ impl Graph {
         names: Vec<Text>,
         numbers: Vec<bool>,
         edges: Vec<Ends>,
-    ) -> Result<Graph, GraphRefusal>
+    ) -> Result<Graph, Refusal<NoWayToAll>>
         requires headed { IsHeaded names.items }
         requires limits { IsWithinLimits (graph_of names.items numbers.items edges.items) }
         requires unfinished { IsUnfinished (graph_of names.items numbers.items edges.items) }
         ensures ok { IfOk result (λ graph. graph ≡ graph_of names.items numbers.items edges.items) }
         ensures way { IfOk result (λ graph. (c : ℕ) → IsCategory graph c → CategoryReaches graph c 0) }
-        ensures err { IfErr result (IsGraphCause (graph_of names.items numbers.items edges.items)) }
+        ensures err { IfErr result (IsFor (IsWithoutWay (graph_of names.items numbers.items edges.items))) }
     {
         let tables = Tables::of(alloc, &edges, names.len() as u16)?;
         if let Some(category) = first_without_all(&tables.reached) {
-            return Err(GraphRefusal::NoWayToAll(category));
+            return Err(Refusal::Kind(NoWayToAll(category)));
         }
         Ok(Graph {
             names,

@@ -18,4 +18,4 @@ pub use building::GraphBuilder;
 pub use graphs::Graph;
 pub use naming::category_name;
 pub use reaching::{Categories, WORDS, close, isolate, row_has};
-pub use refusals::{CategoryRefusal, EdgeRefusal, GraphRefusal};
+pub use refusals::{CategoryFault, EdgeFault, NoWayToAll};

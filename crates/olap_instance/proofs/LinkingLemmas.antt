@@ -17,8 +17,9 @@ use Rattle.olap_instance.specs.InstanceText.{parents_fault, parents_field, paren
 use Rattle.olap_instance.specs.Passes.{AddsParents, AreBelow, FieldsPass, PassesSecond, field_fault, field_read, numbers_of, parents_in}
 use Rattle.olap_instance.specs.Refusals.{IsFaultCause, IsRecordCause}
 use Rattle.olap_instance.specs.declared.refusals.InstanceKind.{InstanceKind}
-use Rattle.olap_instance.specs.declared.refusals.InstanceRefusal.{InstanceRefusal}
-use Rattle.olap_instance.specs.declared.refusals.InstanceRefusal.TheVariants as refusal
+use Rattle.olap_base.specs.declared.refusals.Fault.{Fault}
+use Rattle.olap_base.specs.declared.refusals.Refusal.{Refusal}
+use Rattle.olap_base.specs.declared.refusals.Refusal.TheVariants as refusal
 
 -- one list more
 pub parents-more : (parents now : List (List MemberId)) (more : List MemberId) (places : List ℕ)
@@ -47,21 +48,21 @@ module _ (ids all : List (List ℕ)) (n : ℕ) (field : List ℕ) (l : n < lengt
       good.1 ∙ ap (λ (ps : List (List ℕ)). ps ++ field_read ids field ∷ []) e
       ∙ sym (map-append (field_read ids) (take n all) (field ∷ [])) ∙ ap (map (field_read ids)) (sym more)
 
-  pub linked-fault : (parents : List (List MemberId)) (e : InstanceRefusal)
+  pub linked-fault : (parents : List (List MemberId)) (e : Refusal (Fault InstanceKind))
       → HasSeen (field_fault ids) all (take n all) (drop n all)
       → parents_in parents ≡ map (field_read ids) (take n all)
       → IsRecordCause (pieces_fault ids (pieces_of field)) (length parents) e
       → IsFaultCause (first_fault (field_fault ids) [] all) e
-  linked-fault parents (refusal.Fault at kind) seen h c =
+  linked-fault parents (refusal.Kind f) seen h c =
       let i = length-map parents numbers_of in
       let j = length-map (take n all) (field_read ids) in
       let k : length (parents_in parents) ≡ length (map (field_read ids) (take n all)) = ap length h in
       let a = c.0 in (
         length (take n all),
         omega arith,
-        see-fault (field_fault ids) all (take n all) (drop n all) (drop (n + 1) all) field kind seen left c.1,
+        see-fault (field_fault ids) all (take n all) (drop n all) (drop (n + 1) all) field f.kind seen left c.1,
       )
-  linked-fault parents refusal.Memory seen h c = tt
+  linked-fault parents (refusal.Memory m) seen h c = tt
 
 -- after a field no stamp is as high as the next mark
 pub linked-below : (ids : List (List ℕ)) (field : List ℕ) (stamps : List ℕ) (old new : List (List MemberId))
@@ -108,7 +109,7 @@ reads-same ids (r ∷ rows) = ap (λ (ps : List (List ℕ)). parents_read ids r 
 
 -- what is found of the fields of records is found of the records
 pub of-records : {T : Type 0} (ids : List (List ℕ)) (rows : List (List (List ℕ))) (fields : List (List ℕ))
-    (parents : List (List ℕ)) → fields ≡ map parents_field rows → (result : Result T InstanceRefusal)
+    (parents : List (List ℕ)) → fields ≡ map parents_field rows → (result : Result T (Refusal (Fault InstanceKind)))
     → MatchResult result (λ _. FieldsPass ids fields parents)
     (λ e. IsFaultCause (first_fault (field_fault ids) [] fields) e)
     → MatchResult result (λ _. PassesSecond ids rows parents)

@@ -14,8 +14,8 @@ use Rattle.olap_base.specs.Naming.{place_of}
 use Rattle.olap_numerals.specs.Numerals.{number_of}
 use Rattle.olap_instance.specs.InstanceText.{is_bad_id, is_bad_number, is_too_long}
 use Rattle.olap_instance.specs.Members.{HasTexts, all_member, childless, with_parents}
-use Rattle.olap_instance.specs.declared.refusals.MemberRefusal.{MemberRefusal}
-use Rattle.olap_instance.specs.declared.refusals.MemberRefusal.TheVariants as of_member
+use Rattle.olap_instance.specs.declared.refusals.MemberFault.{MemberFault}
+use Rattle.olap_instance.specs.declared.refusals.MemberFault.TheVariants as of_member
 
 -- how many categories the graph has, whether the names of each are numbers, the members so far without their parents,
 -- and the parents of each. A parent is a member by its place, or `None` for `all`, which has no place before the last
@@ -72,7 +72,7 @@ abbrev pub with_parent : Draft → ℕ → Option ℕ → Draft
 with_parent d x p = record d { parents = slice_set d.parents x (parents_so_far d x ++ p ∷ []) }
 
 -- the first reason to refuse a member that lies in its category or in the other members
-abbrev pub place_refusal : Draft → List ℕ → ℕ → List ℕ → Option MemberRefusal
+abbrev pub place_refusal : Draft → List ℕ → ℕ → List ℕ → Option MemberFault
 place_refusal d id category name =
     if category == 0 then Some of_member.RowForAll
     else if is_bad_number (has_numbers d category) name then Some of_member.BadNumber
@@ -82,23 +82,18 @@ place_refusal d id category name =
     else None
 
 -- the first reason to refuse a member
-abbrev pub member_refusal : Draft → List ℕ → ℕ → List ℕ → Option MemberRefusal
+abbrev pub member_refusal : Draft → List ℕ → ℕ → List ℕ → Option MemberFault
 member_refusal d id category name =
     if is_bad_id id then Some of_member.BadId
     else if is_too_long id || is_too_long name then Some of_member.TextTooLong
     else place_refusal d id category name
 
 -- the first reason to refuse a member whose name may have any length
-abbrev pub named_refusal : Draft → List ℕ → ℕ → List ℕ → Option MemberRefusal
+abbrev pub named_refusal : Draft → List ℕ → ℕ → List ℕ → Option MemberFault
 named_refusal d id category name =
     if is_bad_id id then Some of_member.BadId
     else if is_too_long id then Some of_member.TextTooLong
     else place_refusal d id category name
-
--- why a member is refused: want of memory, or the first reason
-abbrev pub IsMemberCause : Option MemberRefusal → MemberRefusal → Type 0
-IsMemberCause first of_member.Memory = Unit {0}
-IsMemberCause first e = first ≡ Some e
 
 -- the parents as places, where `all` comes after so many members
 abbrev pub places_of : ℕ → List (Option ℕ) → List ℕ

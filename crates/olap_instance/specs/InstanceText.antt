@@ -10,7 +10,8 @@ use Rattle.std.specs.Str.{bytes_eq, is_utf8}
 use Rattle.olap_base.specs.Graph.{Graph, is_number}
 use Rattle.olap_base.specs.Instance.{Instance, Member}
 use Rattle.olap_base.specs.Limits.{most_members, most_text_bytes}
-use Rattle.olap_base.specs.Naming.{Fault, place_of}
+use Rattle.olap_base.specs.Naming.{place_of}
+use Rattle.olap_base.specs.declared.refusals.Fault.{Fault}
 use Rattle.olap_graph.specs.Lookups.{category_named}
 use Rattle.olap_numerals.specs.Numerals.{number_of}
 use Rattle.olap_records.specs.Faults.{field, first_fault}

@@ -1,22 +1,14 @@
--- Refusals, and the reasons behind them.
-use Rattle.std.specs.Prelude.{◌≡◌, ◌+◌, ⊤, ℕ, Option, Some, Result, Err}
-use Rattle.olap_base.specs.Instance.{Instance}
-use Rattle.olap_base.specs.Naming.{Fault}
+-- The reasons behind refusals.
+use Rattle.std.specs.Prelude.{◌≡◌, ◌+◌, ℕ, Option, Some}
+use Rattle.olap_base.specs.Refusing.{IsFor}
+use Rattle.olap_base.specs.declared.refusals.Fault.{Fault}
+use Rattle.olap_base.specs.declared.refusals.Refusal.{Refusal}
 use Rattle.olap_instance.specs.declared.refusals.InstanceKind.{InstanceKind}
-use Rattle.olap_instance.specs.declared.refusals.InstanceRefusal.{InstanceRefusal}
-use Rattle.olap_instance.specs.declared.refusals.InstanceRefusal.TheVariants as refusal
-
--- the refusal tells the text's first fault, or that memory ran out
-abbrev pub IsRefusedBy : InstanceRefusal → Result Instance (Fault InstanceKind) → Type 0
-IsRefusedBy (refusal.Fault at kind) read = read ≡ Err (record { at = at; kind = kind })
-IsRefusedBy refusal.Memory read = ⊤
 
 -- the refusal tells the fault of the n-th record after the header, or that memory ran out
-abbrev pub IsRecordCause : Option InstanceKind → ℕ → InstanceRefusal → Type 0
-IsRecordCause fault n (refusal.Fault at kind) = (at ≡ n + 2) × (fault ≡ Some kind)
-IsRecordCause fault n refusal.Memory = ⊤
+abbrev pub IsRecordCause : Option InstanceKind → ℕ → Refusal (Fault InstanceKind) → Type 0
+IsRecordCause fault n = IsFor (λ f. (f.at ≡ n + 2) × (fault ≡ Some f.kind))
 
 -- the refusal tells the first fault of the records after the header, or that memory ran out
-abbrev pub IsFaultCause : Option (ℕ × InstanceKind) → InstanceRefusal → Type 0
-IsFaultCause fault (refusal.Fault at kind) = (i : ℕ) × (at ≡ i + 2) × (fault ≡ Some (i, kind))
-IsFaultCause fault refusal.Memory = ⊤
+abbrev pub IsFaultCause : Option (ℕ × InstanceKind) → Refusal (Fault InstanceKind) → Type 0
+IsFaultCause fault = IsFor (λ f. (i : ℕ) × (f.at ≡ i + 2) × (fault ≡ Some (i, f.kind)))

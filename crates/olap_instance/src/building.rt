@@ -1,22 +1,22 @@
 // Instances in the making.
-ghost use Rattle.std.specs.Prelude.{◌≡◌, ◌↔◌, ◌<◌, ◌∷◌, ◌++◌, [], ℕ, Contains, None, codes, false, length, map, slice_index_or, unwrap_or, IfErr, IfOk, IfSome, IsErrOf, IsTrue, OnErr, OnOk};
+ghost use Rattle.std.specs.Prelude.{◌≡◌, ◌↔◌, ◌<◌, ◌∷◌, ◌++◌, [], ℕ, Contains, None, codes, false, length, map, slice_index_or, unwrap_or, IfErr, IfOk, IfSome, IsTrue, OnErr, OnOk};
 ghost use Rattle.std.specs.Str.{is_utf8};
 ghost use Rattle.olap_base.specs.Graph.{Graph, category_count};
 ghost use Rattle.olap_base.specs.Limits.{most_members};
 ghost use Rattle.olap_base.specs.Naming.{place_of};
+ghost use Rattle.olap_base.specs.Refusing.{IsCause, IsFor};
 ghost use Rattle.olap_instance.specs.DraftInside.{number_of, parents_told};
-ghost use Rattle.olap_instance.specs.Drafts.{Draft, HasParent, IsMemberCause, has_numbers, instance_built, member_refusal, named_refusal, no_members, numbers_in, places_of, with_member, with_parent};
+ghost use Rattle.olap_instance.specs.Drafts.{Draft, HasParent, has_numbers, instance_built, member_refusal, named_refusal, no_members, numbers_in, places_of, with_member, with_parent};
 ghost use Rattle.olap_instance.specs.Made.{IsMadeFor};
 ghost use Rattle.olap_instance.specs.Members.{all_member, childless};
 ghost use Rattle.olap_instance.specs.Passes.{ids_in, parents_in};
-ghost use Rattle.olap_instance.specs.declared.refusals.ParentRefusal.TheVariants as of_parent;
 
 use crate::hashing::KeyedHash;
 use crate::lists::Lists;
 use crate::rosters::Roster;
 use crate::texts::{is_bad, is_bad_number, is_long};
-use crate::{Instance, MemberRefusal, ParentRefusal};
-use olap_base::{CatId, MOST_MEMBERS, MemberId, Memory, Text};
+use crate::{DuplicateParent, Instance, MemberFault};
+use olap_base::{CatId, MOST_MEMBERS, MemberId, Memory, Refusal, Text};
 use olap_graph::Graph;
 use std::alloc::Global;
 use std::marker::Model;
@@ -116,27 +116,27 @@ fn refusal(
     category: CatId,
     is_number: bool,
     name: &[u8],
-) -> Option<MemberRefusal>
+) -> Option<MemberFault>
     ensures { (d : Draft) → d.members ≡ roster.now → has_numbers d category.0 ≡ is_number
         → result ≡ named_refusal d id.now category.0 name.now }
 {
     if is_bad(id) {
-        return Some(MemberRefusal::BadId);
+        return Some(MemberFault::BadId);
     }
     if is_long(id) {
-        return Some(MemberRefusal::TextTooLong);
+        return Some(MemberFault::TextTooLong);
     }
     if category.0 == 0 {
-        return Some(MemberRefusal::RowForAll);
+        return Some(MemberFault::RowForAll);
     }
     if is_bad_number(is_number, name) {
-        return Some(MemberRefusal::BadNumber);
+        return Some(MemberFault::BadNumber);
     }
     if id == b"all".as_slice() || roster.find(id).is_some() {
-        return Some(MemberRefusal::DuplicateId);
+        return Some(MemberFault::DuplicateId);
     }
     if roster.len() >= MOST_MEMBERS - 1 {
-        return Some(MemberRefusal::TooManyMembers);
+        return Some(MemberFault::TooManyMembers);
     }
     None
 }
@@ -185,20 +185,20 @@ impl InstanceBuilder {
         id: Text,
         category: CatId,
         name: Text,
-    ) -> Result<MemberId, MemberRefusal>
+    ) -> Result<MemberId, Refusal<MemberFault>>
         requires id { IsTrue (is_utf8 id) }
         requires name { IsTrue (is_utf8 name) }
         requires category { category.0 < self.old.categories }
         ensures ok { IfOk result (λ m. member_refusal self.old id category.0 name ≡ None) }
         ensures number { IfOk result (λ m. m.0 ≡ length self.old.members) }
         ensures added { OnOk result (self.new ≡ with_member self.old id category.0 name) }
-        ensures err { IfErr result (IsMemberCause (member_refusal self.old id category.0 name)) }
+        ensures err { IfErr result (IsCause (member_refusal self.old id category.0 name)) }
         ensures same { OnErr result (self.new ≡ self.old) }
         ensures categories { self.new.categories ≡ self.old.categories }
         ensures numbers { self.new.numbers ≡ self.old.numbers }
     {
         if is_long(name.bytes()) && !is_bad(id.bytes()) {
-            return Err(MemberRefusal::TextTooLong);
+            return Err(Refusal::Kind(MemberFault::TextTooLong));
         }
         self.add_named(id, category, name)
     }
@@ -210,14 +210,14 @@ impl InstanceBuilder {
         id: Text,
         category: CatId,
         name: Text,
-    ) -> Result<MemberId, MemberRefusal>
+    ) -> Result<MemberId, Refusal<MemberFault>>
         requires id { IsTrue (is_utf8 id) }
         requires name { IsTrue (is_utf8 name) }
         requires category { category.0 < self.old.categories }
         ensures ok { IfOk result (λ m. named_refusal self.old id category.0 name ≡ None) }
         ensures number { IfOk result (λ m. m.0 ≡ length self.old.members) }
         ensures added { OnOk result (self.new ≡ with_member self.old id category.0 name) }
-        ensures err { IfErr result (IsMemberCause (named_refusal self.old id category.0 name)) }
+        ensures err { IfErr result (IsCause (named_refusal self.old id category.0 name)) }
         ensures same { OnErr result (self.new ≡ self.old) }
         ensures categories { self.new.categories ≡ self.old.categories }
         ensures numbers { self.new.numbers ≡ self.old.numbers }
@@ -226,21 +226,21 @@ impl InstanceBuilder {
     }
 
     // Adds a member of that id and that name.
-    fn put(&mut self, id: &[u8], category: CatId, name: &[u8]) -> Result<MemberId, MemberRefusal>
+    fn put(&mut self, id: &[u8], category: CatId, name: &[u8]) -> Result<MemberId, Refusal<MemberFault>>
         requires id { IsTrue (is_utf8 id.now) }
         requires name { IsTrue (is_utf8 name.now) }
         requires category { category.0 < self.old.categories }
         ensures ok { IfOk result (λ m. named_refusal self.old id.now category.0 name.now ≡ None) }
         ensures number { IfOk result (λ m. m.0 ≡ length self.old.members) }
         ensures added { OnOk result (self.new ≡ with_member self.old id.now category.0 name.now) }
-        ensures err { IfErr result (IsMemberCause (named_refusal self.old id.now category.0 name.now)) }
+        ensures err { IfErr result (IsCause (named_refusal self.old id.now category.0 name.now)) }
         ensures same { OnErr result (self.new ≡ self.old) }
         ensures categories { self.new.categories ≡ self.old.categories }
         ensures numbers { self.new.numbers ≡ self.old.numbers }
     {
         let is_number = has_kind(&self.numbers, category);
         if let Some(refusal) = refusal(&self.roster, id, category, is_number, name) {
-            return Err(refusal);
+            return Err(Refusal::Kind(refusal));
         }
         let member = MemberId(self.roster.len() as u32);
         add_parentless(
@@ -260,12 +260,12 @@ impl InstanceBuilder {
         &mut self,
         child: MemberId,
         parent: Option<MemberId>,
-    ) -> Result<(), ParentRefusal>
+    ) -> Result<(), Refusal<DuplicateParent>>
         requires child { child.0 < length self.old.members }
         requires parent { IfSome parent (λ p. p.0 < length self.old.members) }
         ensures ok { OnOk result (HasParent self.old child.0 (number_of parent) → ⊥) }
         ensures added { OnOk result (self.new ≡ with_parent self.old child.0 (number_of parent)) }
-        ensures duplicate { IsErrOf result of_parent.DuplicateParent → HasParent self.old child.0 (number_of parent) }
+        ensures duplicate { IfErr result (IsFor (λ _. HasParent self.old child.0 (number_of parent))) }
         ensures same { OnErr result (self.new ≡ self.old) }
         ensures categories { self.new.categories ≡ self.old.categories }
         ensures numbers { self.new.numbers ≡ self.old.numbers }
@@ -273,7 +273,7 @@ impl InstanceBuilder {
     {
         let parents = &mut self.parents[child.0 as usize];
         if is_among(parents, parent) {
-            return Err(ParentRefusal::DuplicateParent);
+            return Err(Refusal::Kind(DuplicateParent));
         }
         parents.push(parent)?;
         Ok(())

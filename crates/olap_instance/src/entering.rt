@@ -13,8 +13,8 @@ ghost use Rattle.olap_instance.specs.Refusals.{IsFaultCause, IsRecordCause};
 use crate::lists::Lists;
 use crate::rosters::Roster;
 use crate::texts::{is_bad, is_bad_number, is_long, is_text};
-use crate::{InstanceKind, InstanceRefusal};
-use olap_base::{CatId, MOST_MEMBERS};
+use crate::InstanceKind;
+use olap_base::{CatId, Fault, MOST_MEMBERS, Refusal};
 use olap_graph::Graph;
 use olap_records::Rows;
 
@@ -82,7 +82,7 @@ fn checked(graph: &Graph, roster: &Roster, rows: &Rows) -> Result<u16, InstanceK
 }
 
 // Adds the member of the record that was read last.
-fn enter(graph: &Graph, roster: &mut Roster, rows: &Rows) -> Result<(), InstanceRefusal>
+fn enter(graph: &Graph, roster: &mut Roster, rows: &Rows) -> Result<(), Refusal<Fault<InstanceKind>>>
     requires few { length roster.old < most_members }
     ensures member { (earlier : List (List (List ℕ))) → roster.old ≡ map (member_read graph.now) earlier
         → MatchResult result
@@ -98,10 +98,10 @@ fn enter(graph: &Graph, roster: &mut Roster, rows: &Rows) -> Result<(), Instance
             roster.add(rows.field(0), CatId(category), rows.field(2))?;
             Ok(())
         }
-        Err(kind) => Err(InstanceRefusal::Fault {
+        Err(kind) => Err(Refusal::Kind(Fault {
             at: roster.len() as u64 + 2,
             kind,
-        }),
+        })),
     }
 }
 
@@ -118,7 +118,7 @@ pub(crate) fn enter_rows(
     rows: &mut Rows,
     roster: &mut Roster,
     fields: &mut Lists<u8>,
-) -> Result<(), InstanceRefusal>
+) -> Result<(), Refusal<Fault<InstanceKind>>>
     requires members { roster.old ≡ [] }
     requires fields { fields.old ≡ [] }
     ensures members { MatchResult result

@@ -24,4 +24,4 @@ pub use instances::Instance;
 pub use laws::read_is_instance;
 pub use printing::print_instance;
 pub use reading::read_instance;
-pub use refusals::{InstanceKind, InstanceRefusal, MemberRefusal, ParentRefusal};
+pub use refusals::{DuplicateParent, InstanceKind, MemberFault};

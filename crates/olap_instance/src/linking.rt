@@ -9,8 +9,8 @@ ghost use Rattle.olap_instance.specs.Refusals.{IsFaultCause, IsRecordCause};
 use crate::lists::Lists;
 use crate::rosters::Roster;
 use crate::texts::{all_pieces, first_piece};
-use crate::{InstanceKind, InstanceRefusal};
-use olap_base::MemberId;
+use crate::InstanceKind;
+use olap_base::{Fault, MemberId, Refusal};
 use std::alloc::Global;
 
 // The member that a piece names, where the mark stands at the members that the pieces before it name.
@@ -39,7 +39,7 @@ fn link(
     stamps: &mut [usize],
     parents: &mut Lists<MemberId>,
     field: &[u8],
-) -> Result<(), InstanceRefusal>
+) -> Result<(), Refusal<Fault<InstanceKind>>>
     requires as_many { length stamps.old ≡ length roster.now }
     requires below { AreBelow stamps.old (length parents.old + 1) }
     ensures parents { MatchResult result
@@ -59,10 +59,10 @@ fn link(
                 parents.push(MemberId(place))?;
             }
             Err(kind) => {
-                return Err(InstanceRefusal::Fault {
+                return Err(Refusal::Kind(Fault {
                     at: child as u64 + 2,
                     kind,
-                });
+                }));
             }
         }
         left = others;
@@ -76,7 +76,7 @@ fn link_fields(
     stamps: &mut [usize],
     fields: &Lists<u8>,
     parents: &mut Lists<MemberId>,
-) -> Result<(), InstanceRefusal>
+) -> Result<(), Refusal<Fault<InstanceKind>>>
     requires as_many { length stamps.old ≡ length roster.now }
     requires below { AreBelow stamps.old 1 }
     requires none { parents.old ≡ [] }
@@ -97,7 +97,7 @@ pub(crate) fn link_all(
     roster: &Roster,
     fields: &Lists<u8>,
     parents: &mut Lists<MemberId>,
-) -> Result<(), InstanceRefusal>
+) -> Result<(), Refusal<Fault<InstanceKind>>>
     requires none { parents.old ≡ [] }
     ensures { (rows : List (List (List ℕ))) → fields.now ≡ map parents_field rows → MatchResult result
         (λ _. PassesSecond (ids_in roster.now) rows (parents_in parents.new))

@@ -7,15 +7,15 @@ ghost use Rattle.olap_instance.specs.InstanceText.{has_header, instance_read, pa
 ghost use Rattle.olap_instance.specs.Made.{IsMadeFor};
 ghost use Rattle.olap_instance.specs.Members.{AreSound, HasShortNames, with_parents};
 ghost use Rattle.olap_instance.specs.Passes.{PassesFirst, ids_in, parents_in};
-ghost use Rattle.olap_instance.specs.Refusals.{IsRefusedBy};
+ghost use Rattle.olap_base.specs.Refusing.{IsRefusedBy};
 
 use crate::entering::enter_rows;
 use crate::hashing::KeyedHash;
 use crate::linking::link_all;
 use crate::lists::Lists;
 use crate::rosters::Roster;
-use crate::{Instance, InstanceKind, InstanceRefusal};
-use olap_base::{MemberId, Memory};
+use crate::{Instance, InstanceKind};
+use olap_base::{Fault, MemberId, Memory, Refusal};
 use olap_graph::Graph;
 use olap_records::Rows;
 use std::alloc::Global;
@@ -36,7 +36,7 @@ fn enter_table(
     rows: &mut Rows,
     roster: &mut Roster,
     fields: &mut Lists<u8>,
-) -> Result<(), InstanceRefusal>
+) -> Result<(), Refusal<Fault<InstanceKind>>>
     requires members { roster.old ≡ [] }
     requires fields { fields.old ≡ [] }
     ensures members { MatchResult result
@@ -47,10 +47,10 @@ fn enter_table(
     ensures others { OnOk result (place_of (codes "all") (ids_in roster.new) ≡ None) }
 {
     if !begins(rows)? {
-        return Err(InstanceRefusal::Fault {
+        return Err(Refusal::Kind(Fault {
             at: 1,
             kind: InstanceKind::BadHeader,
-        });
+        }));
     }
     enter_rows(graph, rows, roster, fields)
 }
@@ -62,7 +62,7 @@ fn enter_text(
     text: &[u8],
     roster: &mut Roster,
     fields: &mut Lists<u8>,
-) -> Result<(), InstanceRefusal>
+) -> Result<(), Refusal<Fault<InstanceKind>>>
     requires members { roster.old ≡ [] }
     requires fields { fields.old ≡ [] }
     ensures members { MatchResult result
@@ -86,7 +86,7 @@ fn read_parts(
     roster: &mut Roster,
     fields: &mut Lists<u8>,
     parents: &mut Lists<MemberId>,
-) -> Result<(), InstanceRefusal>
+) -> Result<(), Refusal<Fault<InstanceKind>>>
     requires members { roster.old ≡ [] }
     requires fields { fields.old ≡ [] }
     requires parents { parents.old ≡ [] }
@@ -106,7 +106,7 @@ fn read_parts(
 
 /// The instance that a text tells, or the text's first fault. Each record has passed the checks of its own fields
 /// before any record's parents are looked at.
-pub fn read_instance(alloc: Global, graph: &Graph, text: &[u8]) -> Result<Instance, InstanceRefusal>
+pub fn read_instance(alloc: Global, graph: &Graph, text: &[u8]) -> Result<Instance, Refusal<Fault<InstanceKind>>>
     ensures read { MatchResult result
         (λ i. instance_read graph.now (records_of text.now) ≡ Ok i)
         (λ e. IsRefusedBy e (instance_read graph.now (records_of text.now))) }

@@ -1,12 +1,4 @@
-// Kinds of faults of a text of members, and refusals of a text, a member or a parent.
-ghost use Rattle.std.specs.Prelude.{◌≡◌};
-ghost use Rattle.olap_instance.specs.declared.refusals.InstanceRefusal.TheVariants as instance;
-ghost use Rattle.olap_instance.specs.declared.refusals.MemberRefusal.TheVariants as member;
-ghost use Rattle.olap_instance.specs.declared.refusals.ParentRefusal.TheVariants as parent;
-
-use olap_base::Memory;
-use std::alloc::{AllocError, AllocFailed};
-
+// Kinds of faults of a text of members, of a member and of a parent.
 /// A fault of a text of members.
 #[derive(Clone, Copy, Debug, PartialEq, Eq)]
 pub enum InstanceKind {
@@ -61,42 +53,9 @@ impl InstanceKind {
     }
 }
 
-/// Why a text of members was refused.
-#[derive(Clone, Copy, Debug, PartialEq, Eq)]
-pub enum InstanceRefusal {
-    /// The first fault, with the number of its record, from 1; the header is record 1.
-    Fault { at: u64, kind: InstanceKind },
-    /// Memory ran out.
-    Memory,
-}
-
-impl From<Memory> for InstanceRefusal {
-    ghost from_gives = { λ _ e. e ≡ instance.Memory };
-
-    fn from(_: Memory) -> InstanceRefusal {
-        InstanceRefusal::Memory
-    }
-}
-
-impl From<AllocError> for InstanceRefusal {
-    ghost from_gives = { λ _ e. e ≡ instance.Memory };
-
-    fn from(_: AllocError) -> InstanceRefusal {
-        InstanceRefusal::Memory
-    }
-}
-
-impl<T: Drop> From<AllocFailed<T>> for InstanceRefusal {
-    ghost from_gives = { λ _ e. e ≡ instance.Memory };
-
-    fn from(_: AllocFailed<T>) -> InstanceRefusal {
-        InstanceRefusal::Memory
-    }
-}
-
 /// Why a member wasn't added, in the order in which it is tested.
 #[derive(Clone, Copy, Debug, PartialEq, Eq)]
-pub enum MemberRefusal {
+pub enum MemberFault {
     /// The id is empty or holds a semicolon.
     BadId,
     /// The id or the name has more than `MOST_TEXT_BYTES` bytes.
@@ -109,47 +68,8 @@ pub enum MemberRefusal {
     DuplicateId,
     /// There are `MOST_MEMBERS` members, `all` included.
     TooManyMembers,
-    /// Out of memory.
-    Memory,
 }
 
-impl From<Memory> for MemberRefusal {
-    ghost from_gives = { λ _ e. e ≡ member.Memory };
-
-    fn from(_: Memory) -> MemberRefusal {
-        MemberRefusal::Memory
-    }
-}
-
-impl From<AllocError> for MemberRefusal {
-    ghost from_gives = { λ _ e. e ≡ member.Memory };
-
-    fn from(_: AllocError) -> MemberRefusal {
-        MemberRefusal::Memory
-    }
-}
-
-impl<T: Drop> From<AllocFailed<T>> for MemberRefusal {
-    ghost from_gives = { λ _ e. e ≡ member.Memory };
-
-    fn from(_: AllocFailed<T>) -> MemberRefusal {
-        MemberRefusal::Memory
-    }
-}
-
-/// Why a parent wasn't added, in the order in which it is tested.
+/// Why a parent wasn't added: the child has it.
 #[derive(Clone, Copy, Debug, PartialEq, Eq)]
-pub enum ParentRefusal {
-    /// The child has that parent.
-    DuplicateParent,
-    /// Out of memory.
-    Memory,
-}
-
-impl<T: Drop> From<AllocFailed<T>> for ParentRefusal {
-    ghost from_gives = { λ _ e. e ≡ parent.Memory };
-
-    fn from(_: AllocFailed<T>) -> ParentRefusal {
-        ParentRefusal::Memory
-    }
-}
+pub struct DuplicateParent;

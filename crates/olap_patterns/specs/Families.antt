@@ -3,7 +3,7 @@
 --     AreFirst    those of the first tuple of bottom categories with which all sources can become bad
 --     IsUnion     a set has exactly the patterns of some families
 use Rattle.std.specs.Prelude.{◌<◌, ◌↔◌, ℕ, List, [], ◌∷◌, AllPairs, Contains, map}
-use Rattle.olap_ast.specs.Violation.{IsNotAfter}
+use Rattle.olap_base.specs.Ranks.{IsNotAfter}
 use Rattle.olap_bits.specs.declared.sets.CatSet.{CatSet}
 use Rattle.olap_patterns.specs.Masks.{CanBeBad, IsIn, all_of}
 use Rattle.olap_patterns.specs.declared.families.Family.{Family}

@@ -9,7 +9,7 @@ use Rattle.olap_base.specs.Graph.{Graph, IsCategory, IsHierarchy, category_count
 use Rattle.olap_ast.specs.Formula.{Formula}
 use Rattle.olap_ast.specs.Schema.{Constraint, Schema}
 use Rattle.olap_ast.specs.Frozen.{AreCandidates, Candidates, Frozen, IsFrozen, IsLeastFrozen, chosen, is_present, name_in}
-use Rattle.olap_ast.specs.Violation.{IsNotAfter}
+use Rattle.olap_base.specs.Ranks.{IsNotAfter}
 use Rattle.olap_bits.specs.declared.sets.CatSet.{CatSet}
 use Rattle.olap_names.specs.Names.{Named, candidates_of, with_graph}
 use Rattle.olap_names.specs.Walks.{IsAssignment, IsBefore, IsLast, IsNext, IsStep, Walk, limit, marks_of}

@@ -5,7 +5,7 @@ use Rattle.std.specs.Prelude.{◌≡◌, ℕ, List, Bool, map, if◌then◌else�
 use Rattle.olap_ast.specs.Formula.{Formula}
 use Rattle.olap_ast.specs.Schema.{Schema}
 use Rattle.olap_ast.specs.Frozen.{Candidates, Frozen, IsFrozen}
-use Rattle.olap_ast.specs.Violation.{IsNotAfter}
+use Rattle.olap_base.specs.Ranks.{IsNotAfter}
 use Rattle.olap_frozen.specs.Leaves.{chosen_of, of_declared}
 
 -- the edges as a code: 1 for a chosen one

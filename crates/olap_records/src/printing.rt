@@ -14,8 +14,8 @@ pub struct Printer {
     wtr: Writer<Vec<u8>>,
     // How many fields each record has.
     width: usize,
-    // No write failed, so the text ends with a record.
-    live: bool,
+    // Why a write failed. Where none did, the text ends with a record.
+    refused: Option<Memory>,
 }
 
 impl Model for Printer {
@@ -49,24 +49,8 @@ impl Printer {
         Printer {
             wtr: Writer::from_writer(text),
             width,
-            live: true,
+            refused: None,
         }
-    }
-
-    fn put(&mut self, fields: &[&[u8]]) -> Result<(), Refused>
-        ensures text { OnOk result (self.new.text ≡ self.old.text ++ text_of_row (map (λ f. f.now) fields.now)) }
-        ensures width { self.new.width ≡ self.old.width }
-        ensures live { OnOk result (IsTrue self.old.live) }
-        ensures kept { OnOk result (IsTrue self.new.live) }
-        ensures over { OnErr result (self.new.live ≡ false) }
-    {
-        if !self.live {
-            return Err(Refused);
-        }
-        self.live = false;
-        self.wtr.write_fields(fields)?;
-        self.live = true;
-        Ok(())
     }
 
     /// Adds a record. After a refusal every record is refused, and so is the text.
@@ -78,7 +62,14 @@ impl Printer {
         ensures kept { OnOk result (IsTrue self.new.live) }
         ensures over { OnErr result (self.new.live ≡ false) }
     {
-        self.put(fields)?;
+        if let Some(memory) = self.refused {
+            return Err(memory);
+        }
+        if let Err(e) = self.wtr.write_fields(fields) {
+            let memory = Memory::from(Refused::from(e));
+            self.refused = Some(memory);
+            return Err(memory);
+        }
         Ok(())
     }
 
@@ -90,14 +81,14 @@ impl Printer {
         let Printer {
             wtr,
             width: _,
-            live,
+            refused,
         } = self;
-        if !live {
-            return Err(Memory);
+        if let Some(memory) = refused {
+            return Err(memory);
         }
         match wtr.into_inner() {
             Ok(text) => Ok(text),
-            Err(_) => Err(Memory),
+            Err(e) => Err(Memory::from(Refused::from(e))),
         }
     }
 }

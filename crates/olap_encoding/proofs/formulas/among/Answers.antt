@@ -28,7 +28,7 @@ among_more-requires-clause-category c = category_still c.names.invariant.next.la
 
 pub among_more-requires-clause-place : goal.among_more-requires-clause-place
 among_more-requires-clause-place c =
-    let q = ap length c.others-count.ensures in
+    let q = ap length c.others-count.ensures.list in
     let h : c.names.j < length (others_of c.args.e.now.question.candidates.now c.args.d.0) =
     subst (λ n. c.names.j < n) q c.names-test.true in
     constants_still c.names.invariant.next.later c.args.d.0 c.names.j h

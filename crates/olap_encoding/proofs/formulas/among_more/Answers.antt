@@ -18,7 +18,7 @@ returns-then-not-is_wanted-clause-says c =
     c.requires.says
     (λ w. let z : false ≡ true = sym c.if-not-is_wanted.true
     ∙ (rw (to_z-of_z w64 c.args.n c.ranges.n) at c.is_wanted.ensures).1
-    (subst (λ names. Wants (op_of c.args.op) c.args.n c.args.want (get_or names c.args.j [])) (sym c.others.ensures) w)
+    (subst (λ names. Wants (op_of c.args.op) c.args.n c.args.want (get_or names c.args.j [])) (sym c.others.ensures.list) w)
     in cc)
 
 pub returns-clause-says : goal.returns-clause-says
@@ -35,6 +35,6 @@ returns-clause-says c =
     (λ o n s. says_more e d j op m want c.args.l b o (says_still n.later c.requires.says)
     (says_still n.later c.name-b.ensures) s
     (subst (λ (p : Question). Wants op m want (get_or (others_of p.candidates d) j [])) (sym n.later.question)
-    (subst (λ names. Wants op m want (get_or names j [])) c.others.ensures
+    (subst (λ names. Wants op m want (get_or names j [])) c.others.ensures.list
     ((rw (to_z-of_z w64 m c.ranges.n) at c.is_wanted.ensures).0 c.if-not-is_wanted.false))))
     c.any.ensures.next c.any.ensures.says

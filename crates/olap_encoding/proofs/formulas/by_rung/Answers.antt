@@ -12,5 +12,5 @@ returns c =
     number_by_rung (encoding_of c.args.e.now) c.requires.sound c.args.d.0 (op_of c.args.op) c.args.n
     c.requires.category c.in_ok-l.l c.in_ok-m.m
     ((rw (to_z-of_z w64 c.args.n c.ranges.n) at c.first_passes.ensures).0 c.if-not-first_passes.false)
-    (subst (λ names. IsLeading names (op_of c.args.op) c.args.n (length names) c.in_ok-m.m) c.others.ensures
+    (subst (λ names. IsLeading names (op_of c.args.op) c.args.n (length names) c.in_ok-m.m) c.others.ensures.list
     (rw (to_z-of_z w64 c.args.n c.ranges.n) at c.in_ok-m.ensures)) c.in_ok-l.ensures

@@ -14,7 +14,7 @@ name-l-requires-clause-category c = category_still c.names.invariant.later c.arg
 
 pub name-l-requires-clause-place : goal.name-l-requires-clause-place
 name-l-requires-clause-place c =
-    let q = ap length c.others-count.ensures in
+    let q = ap length c.others-count.ensures.list in
     constants_still c.names.invariant.later c.args.c.0 c.names.j (subst (λ n. c.names.j < n) q c.names-test.true)
 
 pub clause-requires-clause-given : goal.clause-requires-clause-given

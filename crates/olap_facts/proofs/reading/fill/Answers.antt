@@ -3,6 +3,7 @@ use Rattle.std.proofs.Common.{◌+◌, ◌∷◌, ◌∙◌, [], List, length, l
 use Rattle.std.proofs.lemmas.List.{map-append}
 use Rattle.std.proofs.lemmas.Result.{err_from_is_err_and}
 use Rattle.olap_base.specs.Views.{Fact, IsFactTable}
+use Rattle.olap_base.proofs.RefusingLemmas.{allowed}
 use Rattle.olap_facts.specs.Batches.{HasRead}
 use Rattle.olap_facts.specs.FactReading.{reading_in}
 use Rattle.olap_facts.specs.Seen.{fact_of}
@@ -84,4 +85,4 @@ returns-in_err-fact-clause-reads c = λ records live a.
 pub returns-in_err-push-clause-reads : goal.returns-in_err-push-clause-reads
 returns-in_err-push-clause-reads c = λ records live a.
     let stop = err_from_is_err_and c.from_residual-in_err-push.result c.from_residual-in_err-push.ensures.1 in
-    rw (stop.1, stop.2) (c.facts.n, c.facts-test.true, tt)
+    rw stop.1 (c.facts.n, c.facts-test.true, allowed _ stop.0 stop.2)

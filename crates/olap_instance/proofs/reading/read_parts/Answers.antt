@@ -2,7 +2,7 @@ use Rattle.std.proofs.Common.{[], Ok, drop, sym, ap, refl, rules}
 use Rattle.olap_records.specs.Records.{records_of}
 use Rattle.olap_instance.specs.InstanceText.{instance_read}
 use Rattle.olap_instance.specs.Passes.{ids_in, parents_in}
-use Rattle.olap_instance.specs.Refusals.{IsRefusedBy}
+use Rattle.olap_base.specs.Refusing.{IsRefusedBy}
 use Rattle.olap_instance.proofs.LinkingLemmas.{parents-more}
 use Rattle.olap_instance.proofs.Refusing.{refused-second}
 use Rattle.olap_instance.proofs.Soundness.{ids-whole, is-read}

@@ -6,9 +6,9 @@ use Rattle.olap_graph.specs.Building.{IsWithinLimits, IsUnfinished, with_edge}
 use Rattle.olap_graph.specs.Listing.{graph_of}
 use Rattle.olap_graph.specs.Inside.{built}
 use Rattle.olap_graph.specs.declared.listing.Ends.{Ends}
-use Rattle.olap_graph.specs.declared.refusals.EdgeRefusal.TheVariants.{Memory}
+use Rattle.olap_base.proofs.RefusingLemmas.{for_memory}
 use Rattle.olap_graph.proofs.GrowthLemmas.{limits-with_edge, unfinished-with_edge, graph_of-edge, nothing, differ}
-use Rattle.olap_graph.proofs.RefusalLemmas.{at_refusal, edge_reason_is, edges_counted, found, has_cause, has_room, is_full, no_value}
+use Rattle.olap_graph.proofs.RefusalLemmas.{at_refusal, edge_reason_is, edges_counted, found, has_room, is_full, no_value}
 use Rattle.olap_graph.proofs.building.GraphBuilder.add_edge.Goals as goal
 
 pub invariant_of-self-2 : goal.invariant_of-self-2
@@ -97,7 +97,7 @@ returns-in_err-push c =
       ok = no_value r _ refused.0;
       number = no_value r _ refused.0;
       added = no_value r _ refused.0;
-      err = has_cause r _ Memory tt refused.1;
+      err = for_memory r _ refused.1;
       same = at_refusal r
           (ap (graph_of a.names.items a.numbers.items) c.in_err-push.ensures.items ∙ c.self.view_is);
     }

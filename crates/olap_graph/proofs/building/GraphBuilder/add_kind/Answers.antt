@@ -5,9 +5,9 @@ use Rattle.olap_graph.specs.Lookups.{category_named}
 use Rattle.olap_graph.specs.Building.{IsWithinLimits, IsUnfinished, with_kind}
 use Rattle.olap_graph.specs.Listing.{IsHeaded, graph_of}
 use Rattle.olap_graph.specs.Inside.{built}
-use Rattle.olap_graph.specs.declared.refusals.CategoryRefusal.TheVariants.{Memory}
+use Rattle.olap_base.proofs.RefusingLemmas.{for_memory}
 use Rattle.olap_graph.proofs.GrowthLemmas.{limits-with_category, unfinished-with_category, graph_of-category, headed_push, headed_length, nothing}
-use Rattle.olap_graph.proofs.RefusalLemmas.{at_refusal, category_reason_is, found, has_cause, has_room, no_value}
+use Rattle.olap_graph.proofs.RefusalLemmas.{at_refusal, category_reason_is, found, has_room, no_value}
 use Rattle.olap_graph.proofs.building.GraphBuilder.add_kind.Goals as goal
 
 pub invariant_of-self-2 : goal.invariant_of-self-2
@@ -63,7 +63,7 @@ returns-in_err-reserve c =
       ok = no_value r _ refused.0;
       number = no_value r _ refused.0;
       added = no_value r _ refused.0;
-      err = has_cause r _ Memory tt refused.1;
+      err = for_memory r _ refused.1;
       same = at_refusal r
           (ap (λ ks. graph_of a.names.items ks a.edges.items) c.reserve.ensures.items ∙ c.self.view_is);
     }
@@ -77,7 +77,7 @@ returns-in_err-push c =
       ok = no_value r _ refused.0;
       number = no_value r _ refused.0;
       added = no_value r _ refused.0;
-      err = has_cause r _ Memory tt refused.1;
+      err = for_memory r _ refused.1;
       same = at_refusal r
           (ap (λ ns. graph_of ns c.reserve.new.self.items a.edges.items) c.in_err-push.ensures.items
           ∙ ap (λ ks. graph_of a.names.items ks a.edges.items) c.reserve.ensures.items ∙ c.self.view_is);

@@ -13,7 +13,7 @@ returns-then-is_among-clause-duplicate c =
     let m = rw (← c.self.view_is) at c.requires.child in
     let l = has-list d lists x c.self.invariant refl m in
     let here = so-far d lists refl x c.index_mut-parents.result.now l c.index_mut-parents.ensures.value in
-    λ _. rw (← c.self.view_is, here, ← c.deref.ensures.value) (c.is_among.ensures.0 c.if-is_among.true)
+    rw (← c.self.view_is, here, ← c.deref.ensures.value) (c.is_among.ensures.0 c.if-is_among.true)
 
 pub invariant_of-self-in_err-push : goal.invariant_of-self-in_err-push
 invariant_of-self-in_err-push c =
