@@ -1,4 +1,4 @@
-"""Certificates, and texts that are none, written by hand from docs/FORMATS.md, each with what must be said of it.
+"""Certificates, and texts that are none, written by hand from docs/CERTIFICATES.md, each with what must be said of it.
 
 A row is: what it shows; the line that is rejected, or 0 of a certificate; the schema; the target and the sources; the lines,
 separated by ` / `, or the text as bytes.

@@ -14,8 +14,8 @@ WORDS = [sources.CRATES / family / "src" / "words.rt" for family in families.FAM
 ROW = r"^\| `([\w-]+) [A-Z]"
 PLACES = (
     ("README.md", "", ROW),
-    ("docs/FORMATS.md", "\n| words | what it does | status |\n", ROW),
-    ("docs/FORMATS.md", "\n| command | order |\n", r"^\| `([\w-]+)` \|"),
+    ("docs/COMMANDS.md", "\n| words | what it does | status |\n", ROW),
+    ("docs/COMMANDS.md", "\n| command | order |\n", r"^\| `([\w-]+)` \|"),
     ("man/olap.1", "\n.SH SYNOPSIS\n", r"^\\fBolap ([\w\\-]+)\\fR"),
     ("man/olap.1", "\n.SH COMMANDS\n", r'^\.BI ([\w\\-]+) "'),
     ("completions/olap.bash", "\n        for each in ", r"(?<![\w-])([a-z-]{3,})(?![\w-])(?=[a-z -]*; do$)"),

@@ -487,7 +487,7 @@ class Page:
         if not known:
             return told or el("p", "None: no answer was yes.")
         intro = el("p", "Why each yes is right, line by line: in each, a case is split by what may be, or closed for a reason. ",
-                   el("code", "docs/FORMATS.md"), ", \u201cCertificates\u201d, says what the lines mean. Whoever doubts one puts it into a file and "
+                   el("code", "docs/CERTIFICATES.md"), " says what the lines mean. Whoever doubts one puts it into a file and "
                    "asks ", el("code", "olap verify-short SCHEMA FILE TARGET SOURCE.."), ", or without the program ",
                    el("code", "tools/check-certificate SCHEMA FILE TARGET SOURCE.."), ".")
         by_target = defaultdict(list)

@@ -1,4 +1,4 @@
-"""The manual has no warning, says what docs/FORMATS.md says, and its transcripts are what the program prints."""
+"""The manual has no warning, says what docs/COMMANDS.md and docs/FORMATS.md say, and its transcripts are what the program prints."""
 
 import re
 import shlex
@@ -31,7 +31,8 @@ def plain(text: str) -> str:
 
 def said_faults() -> Iterator[str]:
     """Commands, statuses, kinds of faults and limits of the document stand in the manual."""
-    document, manual = (TOP / "docs" / "FORMATS.md").read_text(), plain(MANUAL.read_text())
+    pages = ("COMMANDS.md", "FORMATS.md", "CERTIFICATES.md")
+    document, manual = "\n".join((TOP / "docs" / page).read_text() for page in pages), plain(MANUAL.read_text())
     table = document.partition("## Commands and statuses")[2].partition("\n## ")[0]
     commands = re.findall(r"^\| `([a-z-]+ [A-Z .]+?)(?:\.\.)?` \|.*\|$", table, re.M)
     for command in commands:
