@@ -3,8 +3,9 @@
 A transcript is a block of indented lines, or one between lines of three backticks. Its commands begin with `$ `, and what stands
 below one, up to the next command or the block's end, is what it prints, word for word; if a line ends in `&&` or a backslash,
 the command goes on in the next. A line that begins with `./olap ` is a command too, which must end with status 0. All run in a
-shell, with the program that is built in the place of ./olap and ./olap-unproved, in a folder that has all that is at the top, and is taken away; what one command of a
-document writes is there for those below it. Those of recipes are run by tools/check-recipes.
+shell, in a folder that has all that is at the top, with the program that is built in the place of ./olap and ./olap-unproved,
+and is taken away; what one command of a document writes is there for those below it. Those of recipes are run by
+tools/check-recipes.
 """
 
 import os
