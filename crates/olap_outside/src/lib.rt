@@ -14,7 +14,7 @@ mod sink_in_memory;
 mod sure;
 
 pub use emitting::emit;
-pub use fetching::{FetchError, fetch};
+pub use fetching::{FetchFault, fetch};
 pub use laws::no_faults_none_rose;
 pub use library_in_memory::MemLibrary;
 pub use outside::{Failed, Library, OpenError, Sink};
