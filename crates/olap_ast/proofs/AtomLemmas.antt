@@ -6,7 +6,7 @@
 --     has_kinds          the atoms are of the kinds of their categories
 --     atom_on_names      a constant is one of an atom
 --     atom_on_numbers    and so is a number
-use Rattle.std.proofs.Common.{◌≡◌, ℕ, ℤ, List, [], ◌∷◌, ◌++◌, Bool, true, false, subst}
+use Rattle.std.proofs.Common.{◌≡◌, ℕ, ℤ, List, [], ◌∷◌, true, false, subst}
 use Rattle.std.specs.Prelude.{All, Contains, filter, flat_map, ◌==◌, ◌≤◌, length}
 use Rattle.std.proofs.lemmas.Bool.{eqb-true}
 use Rattle.std.proofs.lemmas.List.Elements.{All-append, All-cons, All-contains, All-nil}

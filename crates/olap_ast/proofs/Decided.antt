@@ -19,7 +19,7 @@ dec_not (yes a) = no (λ f. f a)
 dec_not (no n) = yes n
 
 -- whether A implies B
-dec_implies : {A B : Type 0} → Dec A → Dec B → Dec (A → B)
+pub dec_implies : {A B : Type 0} → Dec A → Dec B → Dec (A → B)
 dec_implies (no n) d = yes (λ a. absurd (n a))
 dec_implies (yes a) (yes b) = yes (λ c. b)
 dec_implies (yes a) (no m) = no (λ f. m (f a))

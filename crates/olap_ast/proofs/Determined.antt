@@ -18,7 +18,7 @@ use Rattle.olap_ast.specs.Formula.{Formula}
 use Rattle.olap_ast.specs.Schema.{Schema}
 use Rattle.olap_base.specs.Ranks.{IsNotAfter}
 use Rattle.olap_ast.specs.Constants.{AreInByteOrder, IsBefore, constants}
-use Rattle.olap_ast.specs.Findings.{Finding, Finding.Unsatisfiable, Finding.Redundant, Finding.Unused, IsEarlier, TheFindingsAreOne, finding_rank}
+use Rattle.olap_ast.specs.Findings.{Finding, Finding.Unsatisfiable, Finding.Redundant, Finding.Unused, TheFindingsAreOne, finding_rank}
 use Rattle.olap_ast.specs.Frozen.{AreCandidates, AreNamesOf, Candidates, Frozen, IsFrozen, IsFrozenInstance, IsLeastFrozen, TheLeastIsOne, chosen, code, instance_of, name_in, root_place, text_of_index, thawed}
 use Rattle.olap_ast.specs.Summarizable.{IsCounterexample, IsSummarizable, TheCounterexampleIsOne, not_by_one}
 use Rattle.olap_ast.proofs.CandidatesExist.{fresh_names_exist}
@@ -143,8 +143,12 @@ the_least_is_one_law s q r k h f g x y =
 
 -- ---- findings
 
+-- the first finding comes before the second
+abbrev Earlier : Finding → Finding → Type 0
+Earlier f g = IsNotAfter (finding_rank f) (finding_rank g) × (f ≢ g)
+
 -- of two findings only one comes before the other
-apart_findings : Apart IsEarlier
+apart_findings : Apart Earlier
 apart_findings f g a b = a.1 (same_rank f g (not_after_both (finding_rank f) (finding_rank g) a.0 b.0))
   where
     of_rank : List ℕ → Finding
@@ -163,7 +167,7 @@ apart_findings f g a b = a.1 (same_rank f g (not_after_both (finding_rank f) (fi
 
 -- the findings are one list
 pub findings_are_one : TheFindingsAreOne
-findings_are_one s xs ys a b = same_list IsEarlier apart_findings xs ys a.ordered b.ordered
+findings_are_one s xs ys a b = same_list Earlier apart_findings xs ys a.ordered b.ordered
     (λ f c. b.complete f (a.sound f c)) (λ f c. a.complete f (b.sound f c))
 
 -- ---- all frozen dimensions

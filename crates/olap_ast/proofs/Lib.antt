@@ -7,7 +7,7 @@ mod Truth
 pub mod ConstantLemmas
 pub mod AtomLemmas
 pub mod SameAtoms
-mod CandidatesExist
+pub mod CandidatesExist
 mod NewNames
 mod Renaming
 pub mod Shape
@@ -17,8 +17,8 @@ pub mod Summing
 pub mod Examples
 mod SummarizableExample
 pub mod TextLemmas
-mod Uniqueness
-mod OrderedLists
+pub mod Uniqueness
+pub mod OrderedLists
 pub mod Determined
 mod QuestionLemmas
 pub mod SourceLemmas

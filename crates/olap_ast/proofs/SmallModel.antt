@@ -60,7 +60,7 @@ index_of_is first texts name = go (decide_contains (List-discrete ℕ_discrete) 
     go (no n) = record { in_range = omega arith; named = λ d. absurd (n d) }
 
 -- a name of its own is among a category's names
-among : (s : Schema) (q : Formula) (d : ℕ) (first : List ℕ) (others : List (List ℕ)) (name : List ℕ) (m : Bool) →
+pub among : (s : Schema) (q : Formula) (d : ℕ) (first : List ℕ) (others : List (List ℕ)) (name : List ℕ) (m : Bool) →
     AreNamesOf m s q d first others → IsNameOf m s q d name → Contains (first ∷ others) name
 among s q d first others name false k (inl c) = contains_cons name others first (k.1.complete name c)
 among s q d first others name false k (inr f) = subst (λ t. Contains (first ∷ others) t)

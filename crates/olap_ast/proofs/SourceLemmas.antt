@@ -8,6 +8,7 @@
 --     no_more_constants      so are those of each question that has none
 --     question_free          the question of summarizability has no atom on names
 --     question_numberless    and none on numbers
+--     formulas_have_candidates, sources_have_candidates    each question of a valid schema has candidates
 use Rattle.std.proofs.Common.{◌≡◌, ◌⊎◌, ◌∙◌, ℕ, suc, ◌+◌, ◌<◌, ◌≤◌, List, [], ◌∷◌, ◌++◌, append-nil, length, get_or, drop, drop-cons, inl, inr, refl, ap, sym, subst, arith}
 use Rattle.std.specs.Prelude.{All, flat_map, slice_index}
 use Rattle.std.proofs.lemmas.List.{get_or-map, length-map}
@@ -18,9 +19,11 @@ use Rattle.olap_ast.specs.Constants.{HasKinds, all_comparisons, all_equalities}
 use Rattle.olap_ast.specs.Schema.{Constraint, Schema}
 use Rattle.olap_ast.specs.Valid.{AreFormulasAt, IsFormulaAt, IsValidSchema, pair_count}
 use Rattle.olap_ast.specs.Formula.{Formula, Formula.Truth, Formula.Via, Terms.More, comparisons, comparisons_of_terms, equalities, equalities_of_terms}
+use Rattle.olap_ast.specs.Questions.{FormulasHaveCandidates, SourcesHaveCandidates}
 use Rattle.olap_ast.specs.Summarizable.{not_by_one, vias}
 use Rattle.olap_ast.specs.Trees.{numbers_of}
 use Rattle.olap_ast.proofs.AtomLemmas.{has_kinds}
+use Rattle.olap_ast.proofs.CandidatesExist.{candidates_exist}
 use Rattle.olap_ast.proofs.SameAtoms.{kinds_too}
 
 -- one source more
@@ -101,3 +104,13 @@ question_few s q c sources e v =
 pub question_kinds : (s : Schema) (c : ℕ) (sources : List ℕ) → IsValidSchema s → HasKinds s (not_by_one c sources)
 question_kinds s c sources v = kinds_too s Truth (not_by_one c sources) (sym (question_free c sources))
     (sym (question_numberless c sources)) (has_kinds s 0 Truth v.formulas tt)
+
+-- ---- candidates
+
+-- a valid schema and a formula of its graph have candidates
+pub formulas_have_candidates : FormulasHaveCandidates
+formulas_have_candidates s r q v f = candidates_exist s q (has_kinds s r q v.formulas f)
+
+-- and so have a valid schema and the question of summarizability
+pub sources_have_candidates : SourcesHaveCandidates
+sources_have_candidates s c sources v = candidates_exist s (not_by_one c sources) (question_kinds s c sources v)

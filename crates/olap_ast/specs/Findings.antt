@@ -2,11 +2,11 @@
 --     IsFinding            one finding
 --     AreFindings          the whole list, in its order
 --     TheFindingsAreOne    there is one such list at most
-use Rattle.std.specs.Prelude.{◌≡◌, ◌≢◌, ℕ, zero, suc, List, [], ◌∷◌, AllPairs, Contains, Some, remove, slice_get}
+use Rattle.std.specs.Prelude.{◌≡◌, ℕ, zero, suc, List, [], ◌∷◌, Some, remove, slice_get}
 use Rattle.olap_base.specs.Graph.{Edge, IsDeclared}
 use Rattle.olap_base.specs.Instance.{Instance, IsBelow, IsMemberOf, category_of}
 use Rattle.olap_ast.specs.Schema.{Constraint, IsLegal, Meets, Schema}
-use Rattle.olap_base.specs.Ranks.{IsNotAfter}
+use Rattle.olap_base.specs.Ranks.{AreExactly}
 
 -- what is found: a category, a constraint counted from 1, or an edge by its place
 pub data Finding : Type 0 where
@@ -46,15 +46,9 @@ finding_rank (Unsatisfiable c) = 1 ∷ c ∷ []
 finding_rank (Redundant n) = 2 ∷ n ∷ []
 finding_rank (Unused k) = 3 ∷ k ∷ []
 
--- the first finding comes before the second
-abbrev pub IsEarlier : Finding → Finding → Type 0
-IsEarlier f g = IsNotAfter (finding_rank f) (finding_rank g) × (f ≢ g)
-
 -- the list has exactly the findings, each once, in their order
-pub record AreFindings (s : Schema) (findings : List Finding) : Type 0 where
-  pub ordered : AllPairs IsEarlier findings
-  pub sound : (f : Finding) → Contains findings f → IsFinding s f
-  pub complete : (f : Finding) → IsFinding s f → Contains findings f
+abbrev pub AreFindings : Schema → List Finding → Type 0
+AreFindings s findings = AreExactly finding_rank (IsFinding s) findings
 
 -- the findings of a schema are one list
 abbrev pub TheFindingsAreOne : Type 0

@@ -1,12 +1,15 @@
 -- The questions about all legal instances, of any size, and what they are by frozen dimensions.
 --     IsImplied     every legal instance meets a constraint
 --     NoneFrozen    no frozen dimension with this root makes the question true
-use Rattle.std.specs.Prelude.{◌≡◌, ◌↔◌, ℕ, [], ◌∷◌, Some, slice_get}
+--     FormulasHaveCandidates, SourcesHaveCandidates    each question of a valid schema has candidates
+use Rattle.std.specs.Prelude.{◌≡◌, ◌↔◌, ℕ, List, [], ◌∷◌, Some, slice_get}
 use Rattle.olap_base.specs.Graph.{Edge, IsHierarchy}
 use Rattle.olap_base.specs.Instance.{Instance}
 use Rattle.olap_ast.specs.Formula.{Formula, Formula.Truth, Formula.Path, Formula.Not}
 use Rattle.olap_ast.specs.Schema.{Constraint, IsLegal, Meets, Schema}
 use Rattle.olap_ast.specs.Frozen.{AreCandidates, Candidates, Frozen, IsFrozen}
+use Rattle.olap_ast.specs.Summarizable.{not_by_one}
+use Rattle.olap_ast.specs.Valid.{IsFormulaAt, IsValidSchema}
 use Rattle.olap_ast.specs.Findings.{IsRedundant, IsUnsatisfiable, IsUnused, without}
 
 -- every legal instance meets the constraint of this root and formula
@@ -16,6 +19,16 @@ IsImplied s r f = (i : Instance) → IsLegal s i → Meets i (record { root = r;
 -- no frozen dimension with this root makes the question true
 abbrev pub NoneFrozen : Schema → Formula → ℕ → Candidates → Type 0
 NoneFrozen s q r k = (f : Frozen) → IsFrozen s q r k f → ⊥
+
+-- a valid schema and a formula of its graph have candidates
+abbrev pub FormulasHaveCandidates : Type 0
+FormulasHaveCandidates = (s : Schema) (r : ℕ) (q : Formula) → IsValidSchema s → IsFormulaAt s.graph r q →
+    (k : Candidates) × AreCandidates s q k
+
+-- a valid schema and the question of summarizability have candidates
+abbrev pub SourcesHaveCandidates : Type 0
+SourcesHaveCandidates = (s : Schema) (c : ℕ) (sources : List ℕ) → IsValidSchema s →
+    (k : Candidates) × AreCandidates s (not_by_one c sources) k
 
 -- a category is unsatisfiable exactly if it is the root of no frozen dimension
 abbrev pub UnsatisfiableExactlyIfNoneFrozen : Type 0

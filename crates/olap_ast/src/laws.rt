@@ -3,7 +3,7 @@ ghost use Rattle.olap_ast.specs.Constants.{FreshNamesExist, RenamingIsHarmless};
 ghost use Rattle.olap_ast.specs.Example.{OneStoreIsCounterexample, OneStoreIsLegal, StoresAreSummarizable};
 ghost use Rattle.olap_ast.specs.Findings.{TheFindingsAreOne};
 ghost use Rattle.olap_ast.specs.Frozen.{CandidatesExist, FrozenExactlyIfSomeInstance, TheLeastIsOne};
-ghost use Rattle.olap_ast.specs.Questions.{ImpliedExactlyIfNoneFrozen, RedundantExactlyIfNoneFrozen, UnsatisfiableExactlyIfNoneFrozen, UnusedExactlyIfNoneFrozen};
+ghost use Rattle.olap_ast.specs.Questions.{FormulasHaveCandidates, ImpliedExactlyIfNoneFrozen, RedundantExactlyIfNoneFrozen, SourcesHaveCandidates, UnsatisfiableExactlyIfNoneFrozen, UnusedExactlyIfNoneFrozen};
 ghost use Rattle.olap_ast.specs.Schema.{AboveIsLegal};
 ghost use Rattle.olap_ast.specs.Summarizable.{SummarizableExactlyIfNoneFrozen, TheCounterexampleIsOne};
 ghost use Rattle.olap_ast.specs.Violation.{LegalExactlyIfNoViolation};
@@ -25,9 +25,17 @@ pub fn fresh_names_exist()
     ensures { FreshNamesExist }
 {}
 
-/// Every schema and question have candidates: the fresh name, and each category's constants in byte order.
+/// A schema and a question whose atoms are of the kinds of their categories (texts are asked of text categories alone,
+/// and numbers within the bounds of number categories alone) have candidates.
 pub fn candidates_exist()
     ensures { CandidatesExist }
+{}
+
+/// A valid schema and a formula of its graph have candidates, so each question has; and so has that of summarizability,
+/// of any target and sources.
+pub fn valid_schemas_have_candidates()
+    ensures formulas { FormulasHaveCandidates }
+    ensures sources { SourcesHaveCandidates }
 {}
 
 /// In a hierarchy, and for the candidates of the schema and the question: there is a frozen dimension exactly if

@@ -22,7 +22,7 @@ pub use laws::{
     one_store_is_legal, redundant_exactly_if_none_frozen, renaming_is_harmless,
     stores_are_summarizable, summarizable_exactly_if_none_frozen, the_counterexample_is_one,
     the_findings_are_one, the_least_is_one, unsatisfiable_exactly_if_none_frozen,
-    unused_exactly_if_none_frozen,
+    unused_exactly_if_none_frozen, valid_schemas_have_candidates,
 };
 pub use measuring::{depth, nodes};
 pub use questioning::{are_distinct, not_by_one};

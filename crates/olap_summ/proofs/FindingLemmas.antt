@@ -12,11 +12,11 @@ use Rattle.std.proofs.lemmas.List.Quantifiers.{all_pairs_push}
 use Rattle.std.proofs.lemmas.Option.{get_or_from_slice_get, slice_get-get_or, slice_get_within}
 use Rattle.olap_base.specs.Graph.{category_count}
 use Rattle.olap_base.proofs.ListLemmas.{Contains-nil}
-use Rattle.olap_ast.specs.Findings.{AreFindings, Finding, Finding.Unsatisfiable, Finding.Redundant, Finding.Unused, IsEarlier, IsFinding, IsRedundant, IsUnsatisfiable, IsUnused, finding_rank}
+use Rattle.olap_ast.specs.Findings.{AreFindings, Finding, Finding.Unsatisfiable, Finding.Redundant, Finding.Unused, IsFinding, IsRedundant, IsUnsatisfiable, IsUnused, finding_rank}
 use Rattle.olap_ast.specs.Schema.{Schema}
 use Rattle.olap_base.specs.Ranks.{IsNotAfter}
 use Rattle.olap_graph.specs.Lookups.{edge_at}
-use Rattle.olap_summ.specs.Audits.{AreFindingsBefore, IsBefore, finding_of, kind_of, place_of, redundant, unsatisfiable, unused}
+use Rattle.olap_summ.specs.Audits.{AreFindingsBefore, IsBefore, IsEarlier, finding_of, kind_of, place_of, redundant, unsatisfiable, unused}
 use Rattle.olap_summ.specs.declared.auditing.Finding.{Finding as Told}
 
 -- ---- kinds and places

@@ -2,7 +2,8 @@
 --     finding_of                          the definitions' finding
 --     unsatisfiable, redundant, unused    the kinds of findings
 --     AreFindingsBefore                   the list so far has exactly the findings before a kind and place
-use Rattle.std.specs.Prelude.{◌≡◌, ◌<◌, ◌⊎◌, ℕ, List, AllPairs, Contains}
+use Rattle.std.specs.Prelude.{◌≡◌, ◌≢◌, ◌<◌, ◌⊎◌, ℕ, List, AllPairs, Contains}
+use Rattle.olap_base.specs.Ranks.{IsNotAfter}
 use Rattle.olap_ast.specs.Findings as meaning
 use Rattle.olap_ast.specs.Schema.{Schema}
 use Rattle.olap_summ.specs.declared.auditing.Finding.{Finding}
@@ -42,8 +43,12 @@ place_of (meaning.Finding.Unused k) = k
 abbrev pub IsBefore : ℕ → ℕ → meaning.Finding → Type 0
 IsBefore kind place f = (kind_of f < kind) ⊎ ((kind_of f ≡ kind) × (place_of f < place))
 
+-- the first finding comes before the second
+abbrev pub IsEarlier : meaning.Finding → meaning.Finding → Type 0
+IsEarlier f g = IsNotAfter (meaning.finding_rank f) (meaning.finding_rank g) × (f ≢ g)
+
 -- the list has exactly the findings before this kind and place, each once, in their order
 pub record AreFindingsBefore (s : Schema) (kind place : ℕ) (findings : List meaning.Finding) : Type 0 where
-  pub ordered : AllPairs meaning.IsEarlier findings
+  pub ordered : AllPairs IsEarlier findings
   pub sound : (f : meaning.Finding) → Contains findings f → meaning.IsFinding s f × IsBefore kind place f
   pub complete : (f : meaning.Finding) → meaning.IsFinding s f → IsBefore kind place f → Contains findings f
