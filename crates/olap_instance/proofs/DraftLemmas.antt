@@ -9,6 +9,7 @@ use Rattle.std.proofs.lemmas.List.{get_or-map, get_or-set_other, get_or-set_same
 use Rattle.std.proofs.lemmas.List.Elements.{Contains-push_cases}
 use Rattle.std.proofs.lemmas.List.Quantifiers.{all_pairs_push}
 use Rattle.std.proofs.lemmas.Slice.Eq.{bytes_eq-Decides}
+use Rattle.olap_base.specs.Bytes.{semicolon}
 use Rattle.olap_base.proofs.ListLemmas.{AllPairs-from_Distinct, Contains-from_map, Distinct-from_AllPairs, Distinct-map}
 use Rattle.olap_base.specs.Graph.{Graph, IsHierarchy}
 use Rattle.olap_base.specs.Instance.{Instance, Member, category_of, member_at, name_of, nobody}
@@ -179,7 +180,7 @@ module _ (d : Draft) (h : IsDraft d) (id : List ℕ) (category : ℕ) (name : Li
 
       good-texts : IsMemberId id × IsTrue (is_utf8 name)
       good-texts =
-          let b = neither (length id == 0) (list_any (λ b. b == 59) id) ok.good in
+          let b = neither (length id == 0) (list_any (λ b. b == semicolon) id) ok.good in
           let id-good : IsMemberId id =
           record { utf8 = text1; short = within (length id) ok.short; filled = not-zero (length id) b.0; whole = b.1 } in
           (id-good, text2)

@@ -8,27 +8,28 @@ use Rattle.std.proofs.lemmas.List.{length-append, length-take-le, take_more}
 use Rattle.std.proofs.lemmas.List.Splits.{slice_split_at, slice_split_none}
 use Rattle.std.proofs.lemmas.Str.{IsUtf8-append, IsUtf8-from_ascii, IsUtf8-nil}
 use Rattle.std.proofs.lemmas.Str.Ascii.{IsAscii-from_all}
+use Rattle.olap_base.specs.Bytes.{semicolon}
 use Rattle.olap_instance.specs.InstanceText.{pieces_of}
 
 -- one piece more, behind others
 join-next : (y : List ℕ) (ys : List (List ℕ)) (x : List ℕ)
-    → join_with_byte 59 (y ∷ (ys ++ x ∷ [])) ≡ join_with_byte 59 (y ∷ ys) ++ 59 ∷ x
+    → join_with_byte semicolon (y ∷ (ys ++ x ∷ [])) ≡ join_with_byte semicolon (y ∷ ys) ++ semicolon ∷ x
 join-next y [] x = refl
 join-next y (z ∷ zs) x =
-    ap (λ (t : List ℕ). y ++ 59 ∷ t) (join-next z zs x)
-    ∙ sym (append_assoc y (59 ∷ join_with_byte 59 (z ∷ zs)) (59 ∷ x))
+    ap (λ (t : List ℕ). y ++ semicolon ∷ t) (join-next z zs x)
+    ∙ sym (append_assoc y (semicolon ∷ join_with_byte semicolon (z ∷ zs)) (semicolon ∷ x))
 
 -- one piece more, behind those before it
-pub join-more : (ids : List (List ℕ)) (i : ℕ) (old new : List ℕ) → i < length ids → old ≡ join_with_byte 59 (take i ids)
-    → new ≡ old ++ (if i == 0 then get_or ids i [] else 59 ∷ get_or ids i [])
-    → new ≡ join_with_byte 59 (take (i + 1) ids)
+pub join-more : (ids : List (List ℕ)) (i : ℕ) (old new : List ℕ) → i < length ids → old ≡ join_with_byte semicolon (take i ids)
+    → new ≡ old ++ (if i == 0 then get_or ids i [] else semicolon ∷ get_or ids i [])
+    → new ≡ join_with_byte semicolon (take (i + 1) ids)
 join-more ids i old new l eo en =
-    en ∙ ap (λ (t : List ℕ). t ++ (if i == 0 then get_or ids i [] else 59 ∷ get_or ids i [])) eo
-    ∙ by (take i ids) (length-take-le i ids (omega arith)) ∙ ap (join_with_byte 59) (sym (take_more ids i [] l))
+    en ∙ ap (λ (t : List ℕ). t ++ (if i == 0 then get_or ids i [] else semicolon ∷ get_or ids i [])) eo
+    ∙ by (take i ids) (length-take-le i ids (omega arith)) ∙ ap (join_with_byte semicolon) (sym (take_more ids i [] l))
   where
     by : (before : List (List ℕ)) → length before ≡ i
-        → join_with_byte 59 before ++ (if i == 0 then get_or ids i [] else 59 ∷ get_or ids i [])
-        ≡ join_with_byte 59 (before ++ get_or ids i [] ∷ [])
+        → join_with_byte semicolon before ++ (if i == 0 then get_or ids i [] else semicolon ∷ get_or ids i [])
+        ≡ join_with_byte semicolon (before ++ get_or ids i [] ∷ [])
     by [] e = rw (← e) refl
     by (y ∷ ys) e = elim (eqb_tells i 0) [
       | inl t ↦ let z = t.1 in absurd (omega arith)
@@ -48,45 +49,45 @@ none-any f (x ∷ xs) e (suc i) d l = none-any f xs (any-parts (f x) (list_any f
 
 -- a piece has a byte, and no semicolon
 abbrev pub IsPiece : List ℕ → Type 0
-IsPiece x = (length x ≢ 0) × (list_any (λ b. b == 59) x ≡ false)
+IsPiece x = (length x ≢ 0) × (list_any (λ b. b == semicolon) x ≡ false)
 
 -- joined pieces are cut into the same pieces
 split-joined : (y : List ℕ) (ys : List (List ℕ)) → IsPiece y → All IsPiece ys
-    → slice_split (λ b. b == 59) (join_with_byte 59 (y ∷ ys)) ≡ y ∷ ys
-split-joined y [] h t = slice_split_none (λ b. b == 59) y (none-any (λ b. b == 59) y h.1)
+    → slice_split (λ b. b == semicolon) (join_with_byte semicolon (y ∷ ys)) ≡ y ∷ ys
+split-joined y [] h t = slice_split_none (λ b. b == semicolon) y (none-any (λ b. b == semicolon) y h.1)
 split-joined y (z ∷ zs) h t =
-    slice_split_at (λ b. b == 59) y 59 (join_with_byte 59 (z ∷ zs)) (none-any (λ b. b == 59) y h.1) refl
+    slice_split_at (λ b. b == semicolon) y semicolon (join_with_byte semicolon (z ∷ zs)) (none-any (λ b. b == semicolon) y h.1) refl
     ∙ ap (λ (r : List (List ℕ)). y ∷ r) (split-joined z zs (t 0 [] (omega arith)) (λ i d l. t (suc i) d (omega arith)))
 
 -- and are no empty text
-some-byte : (y : List ℕ) (ys : List (List ℕ)) → IsPiece y → length (join_with_byte 59 (y ∷ ys)) ≢ 0
+some-byte : (y : List ℕ) (ys : List (List ℕ)) → IsPiece y → length (join_with_byte semicolon (y ∷ ys)) ≢ 0
 some-byte y [] p = p.0
-some-byte y (z ∷ zs) p = λ e. let n = length-append y (59 ∷ join_with_byte 59 (z ∷ zs)) in omega arith
+some-byte y (z ∷ zs) p = λ e. let n = length-append y (semicolon ∷ join_with_byte semicolon (z ∷ zs)) in omega arith
 
 -- the pieces of joined pieces
-pub pieces-joined : (xs : List (List ℕ)) → All IsPiece xs → pieces_of (join_with_byte 59 xs) ≡ xs
+pub pieces-joined : (xs : List (List ℕ)) → All IsPiece xs → pieces_of (join_with_byte semicolon xs) ≡ xs
 pieces-joined [] h = refl
 pieces-joined (y ∷ ys) h =
     let first : IsPiece y = h 0 [] (omega arith) in
-    elim (eqb_tells (length (join_with_byte 59 (y ∷ ys))) 0) [
+    elim (eqb_tells (length (join_with_byte semicolon (y ∷ ys))) 0) [
       | inl t ↦ absurd (some-byte y ys first t.1)
       | inr f ↦ rw f.0 (split-joined y ys first (λ i d l. h (suc i) d (omega arith)))
     ]
 
 -- a semicolon is ASCII
-small : All (λ b. b < 128) (59 ∷ [])
+small : All (λ b. b < 128) (semicolon ∷ [])
 small zero d l = omega arith
 small (suc i) d l = absurd (omega arith)
 
 -- and so UTF-8
-semicolon : IsUtf8 (59 ∷ [])
-semicolon = IsUtf8-from_ascii (59 ∷ []) (IsAscii-from_all (59 ∷ []) small)
+semicolon-utf8 : IsUtf8 (semicolon ∷ [])
+semicolon-utf8 = IsUtf8-from_ascii (semicolon ∷ []) (IsAscii-from_all (semicolon ∷ []) small)
 
 -- joined texts of UTF-8 are UTF-8
-pub utf8-joined : (xs : List (List ℕ)) → All IsUtf8 xs → IsUtf8 (join_with_byte 59 xs)
+pub utf8-joined : (xs : List (List ℕ)) → All IsUtf8 xs → IsUtf8 (join_with_byte semicolon xs)
 utf8-joined [] h = IsUtf8-nil
 utf8-joined (y ∷ []) h = h 0 [] (omega arith)
 utf8-joined (y ∷ z ∷ zs) h =
-    IsUtf8-append y (59 ∷ join_with_byte 59 (z ∷ zs)) (h 0 [] (omega arith))
-    (IsUtf8-append (59 ∷ []) (join_with_byte 59 (z ∷ zs)) semicolon
+    IsUtf8-append y (semicolon ∷ join_with_byte semicolon (z ∷ zs)) (h 0 [] (omega arith))
+    (IsUtf8-append (semicolon ∷ []) (join_with_byte semicolon (z ∷ zs)) semicolon-utf8
     (utf8-joined (z ∷ zs) (λ i d l. h (suc i) d (omega arith))))

@@ -4,6 +4,7 @@ use Rattle.std.specs.Prelude.{All, Contains, OnOk, Result}
 use Rattle.std.specs.List.{join_with_byte}
 use Rattle.std.proofs.lemmas.List.{map-append, take_more}
 use Rattle.std.proofs.lemmas.List.Elements.{Contains-get_or}
+use Rattle.olap_base.specs.Bytes.{semicolon}
 use Rattle.olap_base.proofs.ListLemmas.{Contains-map}
 use Rattle.olap_base.specs.Graph.{Graph}
 use Rattle.olap_base.specs.Instance.{Instance, Member, member_at, nobody}
@@ -47,7 +48,7 @@ inside-all n ms ps e h k d l =
 -- a record of these fields is the member's
 pub same-fields : (g : Graph) (i : Instance) (m : Member) (id category name parents : List ℕ) → id ≡ m.id
     → category ≡ name_of_category g m.category
-    → name ≡ m.name → parents ≡ join_with_byte 59 (parent_ids i m)
+    → name ≡ m.name → parents ≡ join_with_byte semicolon (parent_ids i m)
     → id ∷ category ∷ name ∷ parents ∷ [] ≡ member_fields g i m
 same-fields g i m id category name parents a b c d = rw (a, b, c, d) refl
 

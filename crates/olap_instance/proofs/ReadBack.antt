@@ -9,6 +9,7 @@ use Rattle.std.proofs.lemmas.List.Elements.{All-map, Contains-get_or}
 use Rattle.std.proofs.lemmas.Option.{get_or_from_slice_get, slice_get_within}
 use Rattle.std.proofs.lemmas.Slice.Eq.{bytes_eq-Decides, slice_eq-Decides}
 use Rattle.std.proofs.lemmas.Str.{IsUtf8-from_is_utf8, is_utf8-from_IsUtf8}
+use Rattle.olap_base.specs.Bytes.{semicolon}
 use Rattle.olap_base.specs.Deciding.{contains_cons}
 use Rattle.olap_base.proofs.ListLemmas.{contains_head}
 use Rattle.olap_base.specs.Graph.{Graph, IsHierarchy, is_number}
@@ -117,11 +118,11 @@ module _ (g : Graph) (i : Instance) (hierarchy : IsHierarchy g) (sound : IsInsta
           let h = (texts (get_or m.parents k d) (members (get_or m.parents k d) (Contains-get_or m.parents k d l))).0 in
           IsUtf8-from_is_utf8 (member_at i (get_or m.parents k d)).id h.utf8)
 
-      pieces-are : pieces_of (join_with_byte 59 ids) ≡ ids
+      pieces-are : pieces_of (join_with_byte semicolon ids) ≡ ids
       pieces-are = pieces-joined ids pieces-good
 
-      field-utf8 : is_utf8 (join_with_byte 59 ids) ≡ true
-      field-utf8 = is_utf8-from_IsUtf8 (join_with_byte 59 ids) (utf8-joined ids ids-utf8)
+      field-utf8 : is_utf8 (join_with_byte semicolon ids) ≡ true
+      field-utf8 = is_utf8-from_IsUtf8 (join_with_byte semicolon ids) (utf8-joined ids ids-utf8)
 
       as-many : length ids ≡ length m.parents
       as-many = length-map m.parents (λ p. (member_at i p).id)
@@ -215,7 +216,7 @@ module _ (g : Graph) (i : Instance) (hierarchy : IsHierarchy g) (sound : IsInsta
       is_utf8-from_IsUtf8 _ (category-utf8 g hierarchy (at j).category (made.categories j (is-member j l)) (not-all j l)) in
       unrefused g (take j rows) (member_fields g i (at j)) refl
       (four-texts _ _ _ _ h.0.utf8 category h.1 (field-utf8 (at j) (below j) (sound.parents_differ j)))
-      (two (length (at j).id == 0) (list_any (λ b. b == 59) (at j).id) (differ-zero (length (at j).id) h.0.filled)
+      (two (length (at j).id == 0) (list_any (λ b. b == semicolon) (at j).id) (differ-zero (length (at j).id) h.0.filled)
       h.0.whole)
       (two (is_too_long (at j).id) (is_too_long (at j).name) (short (length (at j).id) h.0.short)
       (short (length (at j).name) (names j (is-member j l))))
@@ -274,7 +275,7 @@ module _ (g : Graph) (i : Instance) (hierarchy : IsHierarchy g) (sound : IsInsta
 
   member-back : (j : ℕ) → j < length rows → whole_read g (ids_in i) (member_fields g i (at j)) ≡ at j
   member-back j l =
-      let ps : map (parent_read (ids_in i)) (pieces_of (join_with_byte 59 (parent_ids i (at j)))) ≡ (at j).parents =
+      let ps : map (parent_read (ids_in i)) (pieces_of (join_with_byte semicolon (parent_ids i (at j)))) ≡ (at j).parents =
       ap (map (parent_read (ids_in i))) (pieces-are (at j) (below j) (sound.parents_differ j))
       ∙ parents-back (at j) (below j) (sound.parents_differ j) in
       rw (category-found j l, ps) refl

@@ -8,6 +8,7 @@ use Rattle.std.proofs.Math.Seq.{get_or-append_seam}
 use Rattle.std.proofs.lemmas.List.{get_or_append_left, get_or-map, get_or-take, length-append, length-map, map-append}
 use Rattle.std.proofs.lemmas.Option.{slice_get-get_or}
 use Rattle.std.proofs.lemmas.Slice.Eq.{bytes_eq-Decides}
+use Rattle.olap_base.specs.Bytes.{semicolon}
 use Rattle.olap_base.specs.Graph.{Graph, IsCategory, is_number}
 use Rattle.olap_numerals.specs.Numerals.{number_of}
 use Rattle.olap_base.specs.Instance.{Instance, Member, category_of, member_at, name_of, nobody}
@@ -97,7 +98,7 @@ module _ (g : Graph) (rows : List (List (List ℕ))) (first : first_fault (membe
       let h = good-at x r in
       let t = four (is_utf8 (field (row x) 0)) (is_utf8 (field (row x) 1)) (is_utf8 (field (row x) 2))
       (is_utf8 (field (row x) 3)) h.text in
-      let b = neither (length (id_field (row x)) == 0) (list_any (λ b. b == 59) (id_field (row x))) h.id in
+      let b = neither (length (id_field (row x)) == 0) (list_any (λ b. b == semicolon) (id_field (row x))) h.id in
       let s = neither (is_too_long (id_field (row x))) (is_too_long (name_field (row x))) h.short in
       rw (member-is x r) (
         record {

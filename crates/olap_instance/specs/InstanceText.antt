@@ -7,6 +7,7 @@ use Rattle.std.specs.Cmp.Lexicographic.{pointwise}
 use Rattle.std.specs.List.{list_any, slice_split}
 use Rattle.std.specs.Option.{option_map}
 use Rattle.std.specs.Str.{bytes_eq, is_utf8}
+use Rattle.olap_base.specs.Bytes.{semicolon}
 use Rattle.olap_base.specs.Graph.{Graph, is_number}
 use Rattle.olap_base.specs.Instance.{Instance, Member}
 use Rattle.olap_base.specs.Limits.{most_members, most_text_bytes}
@@ -52,7 +53,7 @@ is_no_text r =
 
 -- no byte, or a semicolon among them
 abbrev pub is_bad_id : List ℕ → Bool
-is_bad_id id = (length id == 0) || list_any (λ b. b == 59) id
+is_bad_id id = (length id == 0) || list_any (λ b. b == semicolon) id
 
 -- more bytes than a text of a file may have
 abbrev pub is_too_long : List ℕ → Bool
@@ -92,7 +93,7 @@ ids_of rows = map id_field rows ++ codes "all" ∷ []
 
 -- the pieces of a field between its semicolons; an empty field has none
 abbrev pub pieces_of : List ℕ → List (List ℕ)
-pieces_of bs = if length bs == 0 then [] else slice_split (λ b. b == 59) bs
+pieces_of bs = if length bs == 0 then [] else slice_split (λ b. b == semicolon) bs
 
 -- the first check that a piece fails, after the pieces before it
 abbrev pub piece_fault : List (List ℕ) → List (List ℕ) → List ℕ → Option InstanceKind

@@ -6,6 +6,7 @@
 use Rattle.std.specs.Prelude.{◌≡◌, ◌≢◌, ◌≤◌, ◌==◌, false, ℕ, suc, List, [], ◌∷◌, length, codes, IsTrue}
 use Rattle.std.specs.List.{list_any}
 use Rattle.std.specs.Str.{is_utf8}
+use Rattle.olap_base.specs.Bytes.{semicolon}
 use Rattle.olap_base.specs.Instance.{Instance, IsInstance, IsMember, Member, member_at, parents_of}
 use Rattle.olap_base.specs.Limits.{most_members, most_text_bytes}
 
@@ -32,7 +33,7 @@ pub record IsMemberId (id : List ℕ) : Type 0 where
   pub utf8 : IsTrue (is_utf8 id)
   pub short : IsShort id
   pub filled : length id ≢ 0
-  pub whole : list_any (λ b. b == 59) id ≡ false
+  pub whole : list_any (λ b. b == semicolon) id ≡ false
 
 -- each id is one that a field of parents can name, and each name is UTF-8
 abbrev pub HasTexts : Instance → Type 0

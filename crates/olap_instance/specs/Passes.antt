@@ -8,6 +8,7 @@
 use Rattle.std.specs.Prelude.{◌≡◌, ◌<◌, ◌==◌, ◌++◌, ◌∷◌, ℕ, List, [], length, map, Option, Some, None, slice_index}
 use Rattle.std.specs.Borrow.{Bor}
 use Rattle.std.specs.List.{list_any, slice_split}
+use Rattle.olap_base.specs.Bytes.{semicolon}
 use Rattle.olap_base.specs.Graph.{Graph}
 use Rattle.olap_base.specs.Instance.{Instance}
 use Rattle.olap_base.specs.declared.ids.MemberId.{MemberId}
@@ -30,7 +31,7 @@ AreParents ids pieces places = (pieces_fault ids pieces ≡ None) × (places ≡
 -- the pieces of what is left of a field; where nothing is left, not even an empty piece
 abbrev pub pieces_left : Option (Bor (List ℕ)) → List (List ℕ)
 pieces_left None = []
-pieces_left (Some text) = slice_split (λ b. b == 59) text.now
+pieces_left (Some text) = slice_split (λ b. b == semicolon) text.now
 
 -- the mark stands at exactly the members found
 abbrev pub AreStamped : List ℕ → ℕ → List ℕ → Type 0

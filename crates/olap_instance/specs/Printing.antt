@@ -4,6 +4,7 @@
 --     text_of_instance    their text
 use Rattle.std.specs.Prelude.{◌-◌, ◌∷◌, ℕ, List, [], length, map, take}
 use Rattle.std.specs.List.{join_with_byte}
+use Rattle.olap_base.specs.Bytes.{semicolon}
 use Rattle.olap_base.specs.Graph.{Graph}
 use Rattle.olap_base.specs.Instance.{Instance, Member, member_at}
 use Rattle.olap_graph.specs.Lookups.{name_of_category}
@@ -16,7 +17,7 @@ parent_ids i m = map (λ p. (member_at i p).id) m.parents
 
 -- a member's record: its id, its category's name, its name, and the ids of its parents with semicolons between them
 abbrev pub member_fields : Graph → Instance → Member → List (List ℕ)
-member_fields g i m = m.id ∷ name_of_category g m.category ∷ m.name ∷ join_with_byte 59 (parent_ids i m) ∷ []
+member_fields g i m = m.id ∷ name_of_category g m.category ∷ m.name ∷ join_with_byte semicolon (parent_ids i m) ∷ []
 
 -- all members but the last
 abbrev pub others : Instance → Instance

@@ -109,7 +109,7 @@ fn has_kind(numbers: &[bool], category: CatId) -> bool
     numbers[usize::from(category.0)]
 }
 
-// The first reason to refuse a member whose name may have any length, beside want of memory.
+// The first reason to refuse a member whose name may have any length, out of memory aside.
 fn refusal(
     roster: &Roster,
     id: &[u8],
@@ -226,7 +226,12 @@ impl InstanceBuilder {
     }
 
     // Adds a member of that id and that name.
-    fn put(&mut self, id: &[u8], category: CatId, name: &[u8]) -> Result<MemberId, Refusal<MemberFault>>
+    fn put(
+        &mut self,
+        id: &[u8],
+        category: CatId,
+        name: &[u8],
+    ) -> Result<MemberId, Refusal<MemberFault>>
         requires id { IsTrue (is_utf8 id.now) }
         requires name { IsTrue (is_utf8 name.now) }
         requires category { category.0 < self.old.categories }

@@ -10,10 +10,10 @@ ghost use Rattle.olap_instance.specs.InstanceText.{category_number, id_field, is
 ghost use Rattle.olap_instance.specs.Passes.{PassesFirst, ids_in};
 ghost use Rattle.olap_instance.specs.Refusals.{IsFaultCause, IsRecordCause};
 
+use crate::InstanceKind;
 use crate::lists::Lists;
 use crate::rosters::Roster;
 use crate::texts::{is_bad, is_bad_number, is_long, is_text};
-use crate::InstanceKind;
 use olap_base::{CatId, Fault, MOST_MEMBERS, Refusal};
 use olap_graph::Graph;
 use olap_records::Rows;
@@ -82,7 +82,11 @@ fn checked(graph: &Graph, roster: &Roster, rows: &Rows) -> Result<u16, InstanceK
 }
 
 // Adds the member of the record that was read last.
-fn enter(graph: &Graph, roster: &mut Roster, rows: &Rows) -> Result<(), Refusal<Fault<InstanceKind>>>
+fn enter(
+    graph: &Graph,
+    roster: &mut Roster,
+    rows: &Rows,
+) -> Result<(), Refusal<Fault<InstanceKind>>>
     requires few { length roster.old < most_members }
     ensures member { (earlier : List (List (List ℕ))) → roster.old ≡ map (member_read graph.now) earlier
         → MatchResult result

@@ -6,10 +6,10 @@ ghost use Rattle.olap_instance.specs.InstanceText.{parents_fault, parents_field,
 ghost use Rattle.olap_instance.specs.Passes.{AddsParents, AreBelow, AreStamped, FieldsPass, PassesSecond, field_fault, ids_in, parents_in};
 ghost use Rattle.olap_instance.specs.Refusals.{IsFaultCause, IsRecordCause};
 
+use crate::InstanceKind;
 use crate::lists::Lists;
 use crate::rosters::Roster;
 use crate::texts::{all_pieces, first_piece};
-use crate::InstanceKind;
 use olap_base::{Fault, MemberId, Refusal};
 use std::alloc::Global;
 

@@ -1,6 +1,7 @@
 // An instance, printed.
 ghost use Rattle.std.specs.Prelude.{◌≡◌, ◌<◌, ◌≤◌, ◌∷◌, ◌++◌, All, Ok, length, map, IfOk, OnOk, if◌then◌else◌};
 ghost use Rattle.std.specs.List.{join_with_byte};
+ghost use Rattle.olap_base.specs.Bytes.{semicolon};
 ghost use Rattle.olap_base.specs.Graph.{IsHierarchy};
 ghost use Rattle.olap_base.specs.Instance.{IsInstance, member_at};
 ghost use Rattle.olap_base.specs.Limits.{most_members};
@@ -19,7 +20,8 @@ use std::alloc::Global;
 
 // Adds a piece, behind a semicolon where it isn't the first.
 fn add_piece(text: &mut Vec<u8>, is_first: bool, piece: &[u8]) -> Result<(), Memory>
-    ensures { OnOk result (text.new.items ≡ text.old.items ++ (if is_first then piece.now else 59 ∷ piece.now)) }
+    ensures { OnOk result (text.new.items ≡ text.old.items
+        ++ (if is_first then piece.now else semicolon ∷ piece.now)) }
 {
     if is_first {
         text.extend_from_slice(piece)?;
@@ -33,7 +35,8 @@ fn add_piece(text: &mut Vec<u8>, is_first: bool, piece: &[u8]) -> Result<(), Mem
 // The ids of members, with semicolons between them.
 fn joined(alloc: Global, instance: &Instance, members: &[MemberId]) -> Result<Vec<u8>, Memory>
     requires { All (λ m. m.0 < length instance.now) members.now }
-    ensures { IfOk result (λ v. v.items ≡ join_with_byte 59 (map (λ m. (member_at instance.now m.0).id) members.now)) }
+    ensures { IfOk result (λ v. v.items
+        ≡ join_with_byte semicolon (map (λ m. (member_at instance.now m.0).id) members.now)) }
 {
     let mut text = Vec::new(alloc);
     'members: for i in 0..members.len() {

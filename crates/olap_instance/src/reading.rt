@@ -106,7 +106,11 @@ fn read_parts(
 
 /// The instance that a text tells, or the text's first fault. Each record has passed the checks of its own fields
 /// before any record's parents are looked at.
-pub fn read_instance(alloc: Global, graph: &Graph, text: &[u8]) -> Result<Instance, Refusal<Fault<InstanceKind>>>
+pub fn read_instance(
+    alloc: Global,
+    graph: &Graph,
+    text: &[u8],
+) -> Result<Instance, Refusal<Fault<InstanceKind>>>
     ensures read { MatchResult result
         (λ i. instance_read graph.now (records_of text.now) ≡ Ok i)
         (λ e. IsRefusedBy e (instance_read graph.now (records_of text.now))) }

@@ -2,6 +2,7 @@
 ghost use Rattle.std.specs.Prelude.{◌≡◌, ◌==◌, ◌<◌, ◌∷◌, IfSome, length};
 ghost use Rattle.std.specs.List.{list_any, position, slice_split};
 ghost use Rattle.std.specs.Str.{is_utf8};
+ghost use Rattle.olap_base.specs.Bytes.{semicolon};
 ghost use Rattle.olap_instance.specs.InstanceText.{is_bad_id, is_bad_number as is_bad_number_of, is_too_long, pieces_of};
 ghost use Rattle.olap_instance.specs.Passes.{pieces_left};
 
@@ -16,7 +17,7 @@ pub(crate) fn is_text(bytes: &[u8]) -> bool
 }
 
 fn has_semicolon(id: &[u8]) -> bool
-    ensures { result ≡ list_any (λ b. b == 59) id.now }
+    ensures { result ≡ list_any (λ b. b == semicolon) id.now }
 {
     id.iter().any(|b| *b == b';')
 }
@@ -43,18 +44,18 @@ pub(crate) fn is_bad_number(is_number: bool, name: &[u8]) -> bool
 }
 
 // The place of the first semicolon.
-fn semicolon(text: &[u8]) -> Option<usize>
-    ensures { result ≡ position (λ b. b == 59) text.now }
+fn first_semicolon(text: &[u8]) -> Option<usize>
+    ensures { result ≡ position (λ b. b == semicolon) text.now }
 {
     text.iter().position(|b| *b == b';')
 }
 
 /// The first piece of a text that is cut at its semicolons, and what stands behind its semicolon, if it has one.
 pub(crate) fn first_piece(text: &[u8]) -> (&[u8], Option<&[u8]>)
-    ensures pieces { slice_split (λ b. b == 59) text.now ≡ result.0.now ∷ pieces_left result.1 }
+    ensures pieces { slice_split (λ b. b == semicolon) text.now ≡ result.0.now ∷ pieces_left result.1 }
     ensures less { IfSome result.1 (λ others. length others.now < length text.now) }
 {
-    match semicolon(text) {
+    match first_semicolon(text) {
         Some(end) => (&text[..end], Some(&text[end + 1..])),
         None => (text, None),
     }

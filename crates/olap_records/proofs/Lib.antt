@@ -1,9 +1,10 @@
 -- Lemmas of the crate.
-pub mod Fuel
-pub mod SameRow
-pub mod Fields
-pub mod Step
+mod Fuel
+mod SameRow
+mod Fields
+mod Step
 pub mod FaultLemmas
+pub mod TableLemmas
 pub mod Seeing
 pub mod ReadingBack
 pub mod Printed

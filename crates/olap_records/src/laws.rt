@@ -1,5 +1,6 @@
 // Theorems over the definitions. Each is the clause of a function that does nothing.
 ghost use Rattle.olap_records.specs.FaultLaws.{FirstFaultIsFirst, NoFaultIsNone};
+ghost use Rattle.olap_records.specs.Tables.{AllReadIsFirst, AllReadIsRead};
 ghost use Rattle.olap_records.specs.Texts.{TextReadsBack};
 
 /// `first_fault` is a place and a kind exactly where the record at that place has that fault after the
@@ -11,6 +12,17 @@ pub fn first_fault_is_first<R, K>()
 /// `first_fault` is nothing exactly where no record has a fault after the records before it.
 pub fn no_fault_is_none<R, K>()
     ensures { NoFaultIsNone R K }
+{}
+
+/// `all_read` is a fault with its record's place exactly if that record has the fault after the records before it, and
+/// none of these has one.
+pub fn all_read_is_first<R, T, K>()
+    ensures { AllReadIsFirst R T K }
+{}
+
+/// `all_read` is a list exactly if each record stands for the thing at its place there, after the records before it.
+pub fn all_read_is_read<R, T, K>()
+    ensures { AllReadIsRead R T K }
 {}
 
 /// What is printed reads back as the same records.

@@ -8,7 +8,7 @@ use olap_base::Memory;
 use std::alloc::Global;
 use std::marker::Model;
 
-/// A text of records of one width. It is live until a record is refused, for want of memory.
+/// A text of records of one width. It is live until a record is refused, when memory runs out.
 #[derive(Drop)]
 pub struct Printer {
     wtr: Writer<Vec<u8>>,

@@ -1,5 +1,6 @@
 use Rattle.std.proofs.Common.{◌∙◌, ap, length}
 use Rattle.std.specs.List.{join_with_byte}
+use Rattle.olap_base.specs.Bytes.{semicolon}
 use Rattle.olap_base.specs.Instance.{member_at, parents_of}
 use Rattle.olap_graph.specs.Lookups.{name_of_category}
 use Rattle.olap_instance.proofs.PrintingLemmas.{inside-all, parents-named, row-same, same-fields}
@@ -19,6 +20,6 @@ returns-clause-text c =
     let parents =
     c.deref.ensures.value
     ∙ (c.in_ok-parents.ensures
-    ∙ ap (join_with_byte 59) (parents-named i c.parents.result.now m c.parents.ensures.list)) in
+    ∙ ap (join_with_byte semicolon) (parents-named i c.parents.result.now m c.parents.ensures.list)) in
     let fields = same-fields g i m _ _ _ _ c.id.ensures category c.name-2.ensures parents in
     row-same c.row.result c.args.out.now.text c.row.new.self.text _ _ fields c.row.ensures.text
