@@ -13,6 +13,12 @@ def schema(edges: str, *constraints: str) -> bytes:
     return "".join(line + "\n" for line in [*lines, *(f"constraint {each}" for each in constraints)]).encode()
 
 
+def numbers(*constraints: str) -> bytes:
+    """A schema of one category, whose names are numbers."""
+    lines = ["schema 2", "category S number", "edge S All", *(f"constraint S: {each}" for each in constraints)]
+    return "".join(line + "\n" for line in lines).encode()
+
+
 def text(lines: str) -> bytes:
     return "".join(line + "\n" for line in lines.split(" / ")).encode()
 
@@ -39,6 +45,12 @@ SCHEMAS = {
         "S: !one()",
         "S: one()",
     ),
+    "letters": schema("S All", 'S: S = "a" | S = "B"', 'S: !(S = "B")', 'S: !(S = "a")'),
+    "last": schema("S E, E T, T X1, X1 X2, X2 X3, X3 X4, X4 All"),
+    "round": schema("S A, S C, A B, B C, C All", "S: S_A", "S: S_C"),
+    "no number": numbers(),
+    "one number": numbers("S = 5"),
+    "three numbers": numbers("S = 4", "!S = 3 & !S = 9"),
     "layers": schema("L0 A1, L0 B1, A1 L1, B1 L1, L1 A2, L1 B2, A2 L2, B2 L2, L2 All"),
 }
 
@@ -55,6 +67,7 @@ BYTES = "name S / constraint 1 / constraint 4 / constraint 3 / constraint 2"
 ABSENT = "name D / constraint 4 / constraint 4 / edge S C / dead S / constraint 2"
 ALL_DECIDED = "edge S A / edge S B / constraint 4 / constraint 5 / edge S B / constraint 7 / constraint 3"
 DENIED = "reach Store City / edge Store City / dead Store / steps Store City / question"
+ONE = "edge S All / dead S / question"
 LAYERS = (
     "short certificate 1 / bottom L0 / reach L0 L2 / question / reach L1 L2 / reach A1 L2 / reach B1 L2 / steps L0 L2 / steps B1 L2"
     " / steps A1 L2 / reach L0 L1 / loose L1 / question"
@@ -83,6 +96,14 @@ CERTIFICATES = [
     ("ways, and what their steps say", 0, "layers", "L2 L1", LAYERS),
     ("a way that isn't there, along a present edge", 0, "chain", "City Store", f"{BRIEF}{DENIED}"),
     ("a way that can't begin by an absent edge", 0, "free", "A S", f"{SHORT}reach S A / question / edge S A / steps S A / question"),
+    ("capital letters stand before small ones", 0, "letters", "All", f"{LONG}name S / constraint 1 / constraint 2 / constraint 3"),
+    ("five sources, of which the last is on the way", 0, "last", "T X1 X2 X3 X4 E", f"{LONG}edge S E / dead S / edge E T / dead E / question"),
+    ("where no number is asked, the name is 0", 0, "no number", "All S", f"{LONG}name S / {ONE}"),
+    ("a number, the one below and the one above", 0, "one number", "All S", f"{LONG}name S / constraint 1 / {ONE} / constraint 1"),
+    (
+        "three numbers, each and the next, and the one below all", 0, "three numbers", "All S",
+        f"{LONG}name S / constraint 1 / constraint 1 / {ONE} / constraint 1 / constraint 1 / constraint 1",
+    ),
     ("a way to All that isn't there", 0, "chain", "All Store", f"{BRIEF}reach Store All / steps Store All / question"),
 ]
 
@@ -161,6 +182,12 @@ OTHERS = [
         "shortcut where an edge of it isn't decided", 9, "triangle", "B A",
         f"{LONG}edge S A / constraint 1 / edge S B / edge A B / dead A / question / shortcut",
     ),
+    ("shortcut where its first edge isn't decided", 7, "triangle", "B A", f"{LONG}edge S A / constraint 1 / edge A B / dead A / shortcut"),
+    (
+        "shortcut where its last edge isn't decided", 9, "round", "C",
+        f"{LONG}edge S A / constraint 1 / edge S C / constraint 2 / edge A B / dead A / shortcut",
+    ),
+    ("a number's neighbours left out", 7, "one number", "All S", f"{LONG}name S / {ONE}"),
     ("loose at the bottom category", 5, "chain", "City Store", f"{CHAINS}edge Store City / dead Store / loose Store City"),
     ("loose at the bottom category, short", 3, "chain", "City Store", f"{BRIEF}loose Store"),
     ("loose at the bottom category, which isn't said to reach itself", 4, "chain", "City Store", f"{BRIEF}reach Store Store / loose Store"),
