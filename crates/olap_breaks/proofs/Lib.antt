@@ -1,0 +1,5 @@
+-- Lemmas.
+mod FindLemmas
+mod BreakLemmas
+mod CodeLemmas
+mod TextLemmas
