@@ -2,9 +2,9 @@
 use crate::searches::Search;
 use crate::steps::Words;
 use crate::tasks::{Asked, Task};
-use crate::trees::NoDraft;
+use crate::trees::GivenUp;
 use olap_ast::Formula;
-use olap_base::CatId;
+use olap_base::{CatId, Refusal};
 use olap_names::Candidates;
 use olap_proof::{Form, push_bottom, push_head};
 use olap_schema::Schema;
@@ -14,14 +14,14 @@ use std::alloc::Global;
 const TRIES: u32 = 1 << 20;
 
 /// Appends the tree of a bottom category.
-fn push_below(alloc: Global, asked: &Asked, root: CatId, out: &mut Vec<u8>) -> Result<(), NoDraft> {
+fn push_below(alloc: Global, asked: &Asked, root: CatId, out: &mut Vec<u8>) -> Result<(), Refusal<GivenUp>> {
     let task = Task::new(alloc, asked, root)?;
     let mut search = Search::new(alloc, &task, TRIES);
     search.push_tree(asked.constraints, out)
 }
 
 /// Appends a draft: a tree for each bottom category.
-fn push_draft(alloc: Global, asked: &Asked, out: &mut Vec<u8>) -> Result<(), NoDraft> {
+fn push_draft(alloc: Global, asked: &Asked, out: &mut Vec<u8>) -> Result<(), Refusal<GivenUp>> {
     let graph = asked.words.graph;
     push_head(out, asked.form)?;
     'categories: for b in 1..graph.categories() {
@@ -35,7 +35,7 @@ fn push_draft(alloc: Global, asked: &Asked, out: &mut Vec<u8>) -> Result<(), NoD
 }
 
 /// The text of a draft.
-fn draft_of(alloc: Global, asked: &Asked) -> Result<Vec<u8>, NoDraft> {
+fn draft_of(alloc: Global, asked: &Asked) -> Result<Vec<u8>, Refusal<GivenUp>> {
     let mut out = Vec::new(alloc);
     push_draft(alloc, asked, &mut out)?;
     Ok(out)
@@ -52,7 +52,7 @@ pub fn draft<'a>(
     form: Form,
     target: CatId,
     sources: &'a [CatId],
-) -> Result<Vec<u8>, NoDraft> {
+) -> Result<Vec<u8>, Refusal<GivenUp>> {
     let graph = schema.graph();
     let constraints = schema.constraints();
     // The question of summarizability has no constants.

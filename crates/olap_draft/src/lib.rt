@@ -15,4 +15,4 @@ mod tasks;
 mod trees;
 
 pub use drafting::draft;
-pub use trees::NoDraft;
+pub use trees::GivenUp;

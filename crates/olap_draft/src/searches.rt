@@ -6,8 +6,9 @@ use crate::rows::with;
 use crate::shapes::Shape;
 use crate::steps::Step;
 use crate::tasks::{Task, Variable};
-use crate::trees::{NoDraft, Trees};
+use crate::trees::{GivenUp, Trees};
 use olap_ast::{Constraint, Truth3};
+use olap_base::Refusal;
 use olap_graph::Categories;
 use olap_proof::Line;
 use std::alloc::{AllocError, Global};
@@ -96,7 +97,7 @@ impl<'a> Search<'a> {
         &mut self,
         constraints: &[Constraint],
         out: &mut Vec<u8>,
-    ) -> Result<(), NoDraft> {
+    ) -> Result<(), Refusal<GivenUp>> {
         let task = self.task;
         self.activities.resize(task.choices.len())?;
         self.shape.reserve(task)?;
@@ -142,7 +143,7 @@ impl<'a> Search<'a> {
     }
 
     /// The tree of one line that closes: of a few the one that needs the fewest decisions.
-    fn leaf(&mut self) -> Result<usize, NoDraft> {
+    fn leaf(&mut self) -> Result<usize, Refusal<GivenUp>> {
         let mut best = None;
         let mut from = 0;
         'leaves: for _ in 0..MOST_LEAVES {
@@ -159,7 +160,7 @@ impl<'a> Search<'a> {
         }
         match best {
             Some(line) => self.trees.add(line, &[]),
-            None => Err(NoDraft::GivenUp),
+            None => Err(Refusal::Kind(GivenUp)),
         }
     }
 
@@ -297,9 +298,9 @@ impl<'a> Search<'a> {
 
     /// A tree that splits by a variable, or that of a case which doesn't need it.
     #[cycle(refuting)]
-    fn split(&mut self, depth: usize) -> Result<usize, NoDraft> {
+    fn split(&mut self, depth: usize) -> Result<usize, Refusal<GivenUp>> {
         if depth == 0 || self.left == 0 {
-            return Err(NoDraft::GivenUp);
+            return Err(Refusal::Kind(GivenUp));
         }
         match self.pick() {
             Some(variable) => {
@@ -309,7 +310,7 @@ impl<'a> Search<'a> {
                 };
                 self.refute_cases(variable, depth - 1, &mut cases)
             }
-            None => Err(NoDraft::GivenUp),
+            None => Err(Refusal::Kind(GivenUp)),
         }
     }
 
@@ -320,7 +321,7 @@ impl<'a> Search<'a> {
         variable: usize,
         depth: usize,
         cases: &mut Cases,
-    ) -> Result<usize, NoDraft> {
+    ) -> Result<usize, Refusal<GivenUp>> {
         let task = self.task;
         let length = self.shape.decided.count();
         'values: for value in 0..task.values(variable) {
@@ -339,7 +340,7 @@ impl<'a> Search<'a> {
 
     /// A tree for what is decided. It calls itself at most as deep as there are variables.
     #[cycle(refuting)]
-    fn refute(&mut self, depth: usize) -> Result<usize, NoDraft> {
+    fn refute(&mut self, depth: usize) -> Result<usize, Refusal<GivenUp>> {
         let start = self.shape.decided.count();
         let tree = if self.force() {
             self.leaf()?
@@ -351,7 +352,7 @@ impl<'a> Search<'a> {
     }
 
     /// The tree with a split for each decision that was forced and that it needs, the last first. They are taken back.
-    fn unforce(&mut self, start: usize, tree: usize) -> Result<usize, NoDraft> {
+    fn unforce(&mut self, start: usize, tree: usize) -> Result<usize, Refusal<GivenUp>> {
         let mut tree = tree;
         'forced: for place in (start..self.shape.decided.count()).rev() {
             let forced = self.shape.decided.decision(place);
@@ -365,7 +366,7 @@ impl<'a> Search<'a> {
     }
 
     /// The tree that splits by the variable of a decision: a leaf closes after that decision, and this tree otherwise.
-    fn split_off(&mut self, decision: Decision, tree: usize) -> Result<usize, NoDraft> {
+    fn split_off(&mut self, decision: Decision, tree: usize) -> Result<usize, Refusal<GivenUp>> {
         let variable = decision.variable;
         swap(&mut self.reason, &mut self.above);
         self.shape.decide(self.task, decision);

@@ -1,6 +1,6 @@
 // Trees of lines, and why there may be none.
 use olap_ast::Constraint;
-use olap_base::Memory;
+use olap_base::Refusal;
 use olap_graph::Graph;
 use olap_proof::{Line, push_known_line};
 use std::alloc::{AllocError, Global};
@@ -8,26 +8,9 @@ use std::alloc::{AllocError, Global};
 /// How many lines of a tree are written.
 const MOST_LINES: u32 = 1 << 22;
 
-/// Why there is no draft.
+/// A tree wasn't found with so many tries, or it has too many lines.
 #[derive(Clone, Copy)]
-pub enum NoDraft {
-    /// Out of memory.
-    Memory,
-    /// A tree wasn't found with so many tries, or it has too many lines.
-    GivenUp,
-}
-
-impl From<Memory> for NoDraft {
-    fn from(_: Memory) -> Self {
-        NoDraft::Memory
-    }
-}
-
-impl From<AllocError> for NoDraft {
-    fn from(_: AllocError) -> Self {
-        NoDraft::Memory
-    }
-}
+pub struct GivenUp;
 
 /// A line, and where the trees of its cases are listed.
 #[derive(Clone, Copy)]
@@ -58,7 +41,7 @@ impl Trees {
     }
 
     /// One tree more, of a line and the trees of its cases.
-    pub(crate) fn add(&mut self, line: Line, cases: &[usize]) -> Result<usize, NoDraft> {
+    pub(crate) fn add(&mut self, line: Line, cases: &[usize]) -> Result<usize, Refusal<GivenUp>> {
         let place = self.nodes.len();
         let first = self.cases.len();
         self.cases.extend_from_slice(cases)?;
@@ -84,7 +67,7 @@ impl Trees {
         constraints: &[Constraint],
         tree: usize,
         out: &mut Vec<u8>,
-    ) -> Result<(), NoDraft> {
+    ) -> Result<(), Refusal<GivenUp>> {
         let mut next = tree;
         'lines: for _ in 0..MOST_LINES {
             if next >= self.nodes.len() {
@@ -100,6 +83,6 @@ impl Trees {
                 None => return Ok(()),
             }
         }
-        Err(NoDraft::GivenUp)
+        Err(Refusal::Kind(GivenUp))
     }
 }

@@ -3,8 +3,7 @@
 --     alike           those of one schema and one question are
 --     known_alike     so the same is known
 --     runs_alike      and lines do the same
---     text_alike      a text is a certificate for all of them, or for none
---     wrong_alike     and its first wrong line is one
+--     wrong_alike     and a text has the same first wrong line
 use Rattle.std.proofs.Common.{◌≡◌, ℕ, zero, suc, ◌+◌, List, [], ◌∷◌, length, map, Option, Some, None, refl, ap, sym, subst}
 use Rattle.std.specs.List.{range_with_len}
 use Rattle.olap_base.specs.Graph.{IsDeclared}
@@ -19,7 +18,7 @@ use Rattle.olap_names.specs.Names.{name_at}
 use Rattle.olap_proof.specs.declared.forms.Form.{Form}
 use Rattle.olap_proof.specs.Places.{Naming, Place, decided_name, index_of, knowledge, name_of, truth_of_edge, truth_of_name, truth_of_number, truth_of_reach}
 use Rattle.olap_proof.specs.Lines.{Closes, IsUnmetAt, Line, Line.Asked, Line.Clash, Line.Cycle, Line.Dead, Line.EdgeOrNot, Line.Loose, Line.NameOf, Line.Shortcut, Line.Unmet, Line.Unreached, Line.WayOrNot, line_text}
-use Rattle.olap_proof.specs.Certificates.{IsCertificateText, IsFirstWrong, Open, Open.At, Runs, Runs.more, Runs.none, Steps, Steps.begins, Steps.closes, Steps.edges, Steps.names, Steps.roots, Steps.ways, with_name}
+use Rattle.olap_proof.specs.Certificates.{IsFirstWrong, Open, Open.At, Runs, Runs.more, Runs.none, Steps, Steps.begins, Steps.closes, Steps.edges, Steps.names, Steps.roots, Steps.ways, with_name}
 
 -- the same names, and as many of each category
 pub record Alike (k h : Candidates) : Type 0 where
@@ -104,12 +103,7 @@ module _ (f : Form) (k h : Candidates) (a : Alike k h) where
 
 -- ---- texts
 
--- a text is a certificate for both
-pub text_alike : (f : Form) (s : Schema) (q : Formula) (k h : Candidates) (text : List ℕ) → Alike k h
-    → IsCertificateText f s q k text → IsCertificateText f s q h text
-text_alike f s q k h text a t = (t.0, t.1, runs_alike f k h a s q t.2)
-
--- and has the same first wrong line
+-- a text has the same first wrong line
 pub wrong_alike : (f : Form) (s : Schema) (q : Formula) (k h : Candidates) (text : List ℕ) (count : ℕ) → Alike k h
     → IsFirstWrong f s q k text count → IsFirstWrong f s q h text count
 wrong_alike f s q k h text count a w = record {

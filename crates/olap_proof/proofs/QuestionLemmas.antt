@@ -1,9 +1,9 @@
 -- The question of summarizability, and the names that it and a schema speak of.
 --     schema_whole       a schema of its parts
 --     question_named     they can be named
---     accepted, shown    a certificate is one for all candidates, so the target is summarizable
---     rejected           and so is the first wrong line
---     written            and so is a text that is written
+--     accepted, shown    a certificate of the parts is one of the whole, so the target is summarizable
+--     rejected           and so it is with the first wrong line
+--     written            and with a text that is written
 --     none_frozen        where the target is summarizable there is no frozen dimension
 use Rattle.std.proofs.Common.{◌≡◌, ℕ, List, subst, sym}
 use Rattle.std.specs.Prelude.{All, Err, IfOk, Ok, OnOk, Result}
@@ -18,10 +18,9 @@ use Rattle.olap_ast.proofs.Summing.{summarizable_exactly}
 use Rattle.olap_names.specs.Names.{CanBeNamed, with_graph}
 use Rattle.olap_names.proofs.NameableLemmas.{can_be_named}
 use Rattle.olap_proof.specs.declared.forms.Form.{Form}
-use Rattle.olap_proof.specs.Certificates.{IsCertificateText, IsFirstWrong}
+use Rattle.olap_proof.specs.Certificates.{IsCertificateText}
 use Rattle.olap_proof.specs.Trees.{HasNoFrozen}
-use Rattle.olap_proof.specs.Verifying.{IsCertificateFor, IsFirstWrongFor, IsNamedCertificate, IsNamedWrong, IsWrongAt}
-use Rattle.olap_proof.proofs.AlikeLemmas.{alike, text_alike, wrong_alike}
+use Rattle.olap_proof.specs.Verifying.{IsCertificateFor, IsCertificateOf, IsFirstWrongFor, IsFirstWrongOf}
 use Rattle.olap_proof.proofs.CertificateLemmas.{certificates_are_right}
 
 -- ---- names
@@ -43,34 +42,6 @@ question_named s {g} {cs} {q} c sources graph constraints e v t h =
     (subst (λ (x : Schema). All (IsCategory x.graph) sources) (sym same) h)))
     (question_few (with_graph g cs) q c sources e w)
 
--- ---- all candidates
-
-module _ (f : Form) (s : Schema) (q : Formula) (k : Candidates) (c : ℕ) (sources : List ℕ) (text : List ℕ)
-    (e : q ≡ not_by_one c sources) (are : AreCandidates s q k) where
-  same_question : AreCandidates s (not_by_one c sources) k
-  same_question = subst (λ (x : Formula). AreCandidates s x k) e are
-
-  -- a certificate is one for all candidates
-  certified_for : IsCertificateText f s q k text → IsCertificateFor f s c sources text
-  certified_for t h b =
-      text_alike f s (not_by_one c sources) k h text (alike s (not_by_one c sources) k h same_question b)
-      (subst (λ (x : Formula). IsCertificateText f s x k text) e t)
-
-  -- and so is the first wrong line
-  wrong_for : (line : ℕ) → IsWrongAt f s q k text line → IsFirstWrongFor f s c sources text line
-  wrong_for line w h b = (
-    w.0,
-    w.1,
-    wrong_alike f s (not_by_one c sources) k h text w.0 (alike s (not_by_one c sources) k h same_question b)
-        (subst (λ (x : Formula). IsFirstWrong f s x k text w.0) e w.2),
-  )
-
-  -- so the target is summarizable
-  certified_summarizable : IsHierarchy s.graph → IsCertificateText f s q k text → IsSummarizable s c sources
-  certified_summarizable hier t =
-      let u = subst (λ (x : Formula). IsCertificateText f s x k text) e t in
-      certificates_are_right f s c sources k u.0 hier same_question u.2
-
 -- ---- the schema of the parts
 
 module _ (f : Form) (s : Schema) (c : ℕ) (sources : List ℕ) {g : Graph} {cs : List Constraint} {q : Formula}
@@ -78,34 +49,34 @@ module _ (f : Form) (s : Schema) (c : ℕ) (sources : List ℕ) {g : Graph} {cs 
   same : with_graph g cs ≡ s
   same = schema_whole s graph constraints
 
-  -- a certificate of some candidates is one for all
-  pub accepted : {A E : Type 0} (text : List ℕ) (r : Result A E)
-      → OnOk r (IsNamedCertificate f (with_graph g cs) q text)
+  -- a certificate of the parts is one of the whole
+  certified : (text : List ℕ) → IsCertificateOf f (with_graph g cs) q text → IsCertificateFor f s c sources text
+  certified text t = subst (λ (x : Schema). IsCertificateFor f x c sources text) same
+      (subst (λ (x : Formula). IsCertificateOf f (with_graph g cs) x text) e t)
+
+  -- which is accepted
+  pub accepted : {A E : Type 0} (text : List ℕ) (r : Result A E) → OnOk r (IsCertificateOf f (with_graph g cs) q text)
       → OnOk r (IsCertificateFor f s c sources text)
-  accepted text (Ok a) h = subst (λ (x : Schema). IsCertificateFor f x c sources text) same
-      (certified_for f (with_graph g cs) q h.names c sources text e h.candidates h.certificate)
-  accepted text (Err a) h = h
+  accepted text (Ok a) t = certified text t
+  accepted text (Err a) t = t
 
   -- so the target is summarizable
-  pub shown : {A E : Type 0} (text : List ℕ) (r : Result A E)
-      → OnOk r (IsNamedCertificate f (with_graph g cs) q text)
-      → OnOk r (IsSummarizable s c sources)
-  shown text (Ok a) h = subst (λ (x : Schema). IsSummarizable x c sources) same
-      (certified_summarizable f (with_graph g cs) q h.names c sources text e h.candidates h.hierarchy h.certificate)
-  shown text (Err a) h = h
+  pub shown : {A E : Type 0} (text : List ℕ) → IsHierarchy s.graph → (r : Result A E)
+      → OnOk r (IsCertificateOf f (with_graph g cs) q text) → OnOk r (IsSummarizable s c sources)
+  shown text hier (Ok a) t = let u = certified text t in certificates_are_right f s c sources u.0 u.2.0 hier u.1 u.2.2
+  shown text hier (Err a) t = t
 
-  -- and the first wrong line is one for all
-  pub rejected : (text : List ℕ) {line : ℕ} → IsNamedWrong f (with_graph g cs) q text line
+  -- the first wrong line for the parts is the first for the whole
+  pub rejected : (text : List ℕ) {line : ℕ} → IsFirstWrongOf f (with_graph g cs) q text line
       → IsFirstWrongFor f s c sources text line
-  rejected text {line} h = subst (λ (x : Schema). IsFirstWrongFor f x c sources text line) same
-      (wrong_for f (with_graph g cs) q h.names c sources text e h.candidates line h.wrong)
+  rejected text {line} w = subst (λ (x : Schema). IsFirstWrongFor f x c sources text line) same
+      (subst (λ (x : Formula). IsFirstWrongOf f (with_graph g cs) x text line) e w)
 
-  -- a text that is one is one for all
-  pub written : {E : Type 0} (r : Result (List ℕ) E) → IfOk r (IsNamedCertificate f (with_graph g cs) q)
+  -- a text that is written is a certificate
+  pub written : {E : Type 0} (r : Result (List ℕ) E) → IfOk r (IsCertificateOf f (with_graph g cs) q)
       → IfOk r (IsCertificateFor f s c sources)
-  written (Ok text) h = subst (λ (x : Schema). IsCertificateFor f x c sources text) same
-      (certified_for f (with_graph g cs) q h.names c sources text e h.candidates h.certificate)
-  written (Err x) h = h
+  written (Ok text) t = certified text t
+  written (Err x) t = t
 
 -- where the target is summarizable, no bottom category has a frozen dimension for the question
 pub none_frozen : (s : Schema) (c : ℕ) (sources : List ℕ) {g : Graph} {cs : List Constraint} {q : Formula}
@@ -119,13 +90,7 @@ none_frozen s c sources {g} {cs} {q} graph constraints e told hier k are =
     (subst (λ (x : Schema). IsSummarizable x c sources) (sym same) told))
 
 -- a certificate is one of the candidates that it was written with
-pub named : {E : Type 0} (f : Form) (s : Schema) (q : Formula) (k : Candidates) → IsHierarchy s.graph
-    → AreCandidates s q k → (r : Result (List ℕ) E) → IfOk r (IsCertificateText f s q k)
-    → IfOk r (IsNamedCertificate f s q)
-named f s q k hier are (Ok text) h = record {
-  names = k;
-  hierarchy = hier;
-  candidates = are;
-  certificate = h;
-}
-named f s q k hier are (Err x) h = h
+pub named : {E : Type 0} (f : Form) (s : Schema) (q : Formula) (k : Candidates) → AreCandidates s q k
+    → (r : Result (List ℕ) E) → IfOk r (IsCertificateText f s q k) → IfOk r (IsCertificateOf f s q)
+named f s q k are (Ok text) t = (k, are, t)
+named f s q k are (Err x) t = t

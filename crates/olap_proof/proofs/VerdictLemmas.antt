@@ -7,13 +7,14 @@ use Rattle.std.proofs.Common.{◌≡◌, ◌⊎◌, ◌∙◌, ℕ, ◌+◌, ◌
 use Rattle.std.proofs.lemmas.List.{append_assoc, append-nil}
 use Rattle.olap_base.specs.Graph.{IsHierarchy}
 use Rattle.olap_ast.specs.Formula.{Formula}
-use Rattle.olap_ast.specs.Frozen.{Candidates}
+use Rattle.olap_ast.specs.Frozen.{AreCandidates, Candidates}
 use Rattle.olap_ast.specs.Schema.{Schema}
 use Rattle.olap_proof.specs.declared.forms.Form.{Form}
 use Rattle.olap_proof.specs.Certificates.{IsCertificateText, IsFirstWrong, Open, Open.At, Open.Bottom, Open.Head, Runs, Runs.more, Runs.none, Steps, lines_text}
 use Rattle.olap_proof.specs.Doing.{leaves_open}
 use Rattle.olap_proof.specs.Lines.{Line}
 use Rattle.olap_proof.specs.Verifying.{VerdictsAreOne}
+use Rattle.olap_proof.proofs.AlikeLemmas.{alike, wrong_alike}
 use Rattle.olap_proof.proofs.DoingLemmas.{step_does}
 use Rattle.olap_proof.proofs.LineLemmas.{parted}
 use Rattle.olap_proof.proofs.OneLineLemmas.{line_once}
@@ -160,8 +161,15 @@ module _ (f : Form) (s : Schema) (q : Formula) (k : Candidates) (hier : IsHierar
 
 -- the theorem: of two runs over one text neither can end where the other goes on
 pub verdicts_are_one : VerdictsAreOne
-verdicts_are_one f s q k text hier few = (
-  λ line w t. none_wrong f s q k hier few text w.0 w.2 t,
+verdicts_are_one f s q text hier few = (
+  λ line w t. none_wrong f s q t.0 hier few text w.2.0 (wrong_too w.0 t.0 w.2.0 w.1 t.1 w.2.2) t.2,
   λ line other v w.
-      v.1 ∙ ap (λ n. n + 1) (one_wrong f s q k hier few text v.0 w.0 v.2 w.2) ∙ sym w.1,
+      v.2.1
+          ∙ ap (λ n. n + 1)
+              (one_wrong f s q v.0 hier few text v.2.0 w.2.0 v.2.2 (wrong_too w.0 v.0 w.2.0 w.1 v.1 w.2.2))
+          ∙ sym w.2.1,
 )
+  where
+    wrong_too : (k h : Candidates) (count : ℕ) → AreCandidates s q k → AreCandidates s q h
+        → IsFirstWrong f s q k text count → IsFirstWrong f s q h text count
+    wrong_too k h count a b w = wrong_alike f s q k h text count (alike s q k h a b) w

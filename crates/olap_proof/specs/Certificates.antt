@@ -8,6 +8,7 @@
 --     CertificatesAreRight    a certificate exists only where the target is summarizable
 use Rattle.std.specs.Prelude.{◌≡◌, ◌≢◌, ◌<◌, ◌+◌, ◌++◌, ◌==◌, ℕ, List, [], ◌∷◌, Bool, true, false, None, codes, filter, flat_map, length, map, not}
 use Rattle.std.specs.List.{list_any, range_with_len}
+use Rattle.olap_base.specs.Bytes.{line_feed}
 use Rattle.olap_base.specs.Graph.{Graph, IsCategory, IsDeclared, IsHierarchy}
 use Rattle.olap_ast.specs.Formula.{Formula}
 use Rattle.olap_ast.specs.Frozen.{AreCandidates, Candidates}
@@ -97,7 +98,7 @@ IsCertificate f s q k lines = Runs f s q k lines (Head ∷ []) []
 
 -- lines, each ended by an LF
 abbrev pub lines_text : List (List ℕ) → List ℕ
-lines_text lines = flat_map (λ line. line ++ 10 ∷ []) lines
+lines_text lines = flat_map (λ line. line ++ line_feed ∷ []) lines
 
 -- the text is a certificate's lines, each ended by an LF
 abbrev pub IsCertificateText : Form → Schema → Formula → Candidates → List ℕ → Type 0
@@ -113,7 +114,7 @@ pub record IsFirstWrong (f : Form) (s : Schema) (q : Formula) (k : Candidates) (
     pub counted : length lines ≡ count
     pub run : Runs f s q k lines (Head ∷ []) open_there
     pub too_early : rest ≡ [] → open_there ≢ []
-    pub stuck : (line more : List ℕ) (left : List Open) → rest ≡ line ++ 10 ∷ more
+    pub stuck : (line more : List ℕ) (left : List Open) → rest ≡ line ++ line_feed ∷ more
         → Runs f s q k (line ∷ []) open_there left → ⊥
 
 -- a certificate, of either form, exists only where the target is summarizable

@@ -5,6 +5,7 @@
 --     Closes       no frozen dimension has what is decided: the line says why
 use Rattle.std.specs.Prelude.{◌≡◌, ◌≢◌, ◌<◌, ◌⊎◌, ◌++◌, ℕ, zero, suc, List, [], ◌∷◌, All, true, false, Some, IsTrue, codes, length}
 use Rattle.std.specs.Fmt.{decimal}
+use Rattle.olap_base.specs.Bytes.{space}
 use Rattle.olap_base.specs.Graph.{CategoryReaches, Graph, IsCategory}
 use Rattle.olap_ast.specs.Formula.{Formula}
 use Rattle.olap_ast.specs.Frozen.{Candidates}
@@ -35,7 +36,7 @@ pub data Line : Type 0 where
 
 -- two words, with a space between them
 abbrev pub words : List ℕ → List ℕ → List ℕ
-words w v = w ++ 32 ∷ v
+words w v = w ++ space ∷ v
 
 -- the names of two categories
 abbrev pub way_words : Graph → ℕ → ℕ → List ℕ

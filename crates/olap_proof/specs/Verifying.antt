@@ -1,8 +1,8 @@
--- Verdicts on a text for a schema, a target and sources. Any candidates serve: they have the same names.
+-- Verdicts on a text: of candidates, of which any serve, since those of one schema and one question have the same names.
 --     IsWrongAt           a line is the first that is wrong
---     IsCertificateFor    a text is a certificate
---     IsFirstWrongFor     a line of a text is the first that is wrong
---     IsNamedCertificate, IsNamedWrong    of some candidates
+--     IsCertificateOf     a text is a certificate, for a question
+--     IsFirstWrongOf      a line of a text is the first that is wrong, for a question
+--     IsCertificateFor, IsFirstWrongFor    for a target and sources
 --     VerdictsAreOne      a certificate has no first wrong line, and another text has one at most
 use Rattle.std.specs.Prelude.{◌≡◌, ◌+◌, ◌<◌, ◌^◌, ℕ, List, length}
 use Rattle.olap_base.specs.Graph.{IsHierarchy}
@@ -17,39 +17,32 @@ use Rattle.olap_proof.specs.Certificates.{IsCertificateText, IsFirstWrong}
 abbrev pub IsWrongAt : Form → Schema → Formula → Candidates → List ℕ → ℕ → Type 0
 IsWrongAt f s q k text line = (count : ℕ) × (line ≡ count + 1) × IsFirstWrong f s q k text count
 
--- the text is a certificate
+-- there are candidates, and the text is a certificate
+abbrev pub IsCertificateOf : Form → Schema → Formula → List ℕ → Type 0
+IsCertificateOf f s q text = (k : Candidates) × AreCandidates s q k × IsCertificateText f s q k text
+
+-- there are candidates, and the line is the first that is wrong
+abbrev pub IsFirstWrongOf : Form → Schema → Formula → List ℕ → ℕ → Type 0
+IsFirstWrongOf f s q text line = (k : Candidates) × AreCandidates s q k × IsWrongAt f s q k text line
+
+-- the text is a certificate of why the target is summarizable from the sources
 abbrev pub IsCertificateFor : Form → Schema → ℕ → List ℕ → List ℕ → Type 0
-IsCertificateFor f s c sources text = (k : Candidates) → AreCandidates s (not_by_one c sources) k
-    → IsCertificateText f s (not_by_one c sources) k text
+IsCertificateFor f s c sources text = IsCertificateOf f s (not_by_one c sources) text
 
--- the line is the first that is wrong
+-- the line is the first that is wrong in it
 abbrev pub IsFirstWrongFor : Form → Schema → ℕ → List ℕ → List ℕ → ℕ → Type 0
-IsFirstWrongFor f s c sources text line = (k : Candidates) → AreCandidates s (not_by_one c sources) k
-    → IsWrongAt f s (not_by_one c sources) k text line
-
--- the text is a certificate, of some candidates
-pub record IsNamedCertificate (f : Form) (s : Schema) (q : Formula) (text : List ℕ) : Type 0 where
-  pub names : Candidates
-  pub hierarchy : IsHierarchy s.graph
-  pub candidates : AreCandidates s q names
-  pub certificate : IsCertificateText f s q names text
-
--- the line is the first that is wrong, of some candidates
-pub record IsNamedWrong (f : Form) (s : Schema) (q : Formula) (text : List ℕ) (line : ℕ) : Type 0 where
-  pub names : Candidates
-  pub candidates : AreCandidates s q names
-  pub wrong : IsWrongAt f s q names text line
+IsFirstWrongFor f s c sources text line = IsFirstWrongOf f s (not_by_one c sources) text line
 
 -- a certificate has no first wrong line
-abbrev pub NoneIsWrong : Form → Schema → Formula → Candidates → List ℕ → Type 0
-NoneIsWrong f s q k text = (line : ℕ) → IsWrongAt f s q k text line → IsCertificateText f s q k text → ⊥
+abbrev pub NoneIsWrong : Form → Schema → Formula → List ℕ → Type 0
+NoneIsWrong f s q text = (line : ℕ) → IsFirstWrongOf f s q text line → IsCertificateOf f s q text → ⊥
 
 -- and another text has one at most
-abbrev pub OneIsFirstWrong : Form → Schema → Formula → Candidates → List ℕ → Type 0
-OneIsFirstWrong f s q k text =
-    (line other : ℕ) → IsWrongAt f s q k text line → IsWrongAt f s q k text other → line ≡ other
+abbrev pub OneIsFirstWrong : Form → Schema → Formula → List ℕ → Type 0
+OneIsFirstWrong f s q text =
+    (line other : ℕ) → IsFirstWrongOf f s q text line → IsFirstWrongOf f s q text other → line ≡ other
 
 -- of a schema with so few constraints that they can be numbered by 64 bits
 abbrev pub VerdictsAreOne : Type 0
-VerdictsAreOne = (f : Form) (s : Schema) (q : Formula) (k : Candidates) (text : List ℕ) → IsHierarchy s.graph
-    → length s.constraints < 2 ^ 64 → NoneIsWrong f s q k text × OneIsFirstWrong f s q k text
+VerdictsAreOne = (f : Form) (s : Schema) (q : Formula) (text : List ℕ) → IsHierarchy s.graph
+    → length s.constraints < 2 ^ 64 → NoneIsWrong f s q text × OneIsFirstWrong f s q text

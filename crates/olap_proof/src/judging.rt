@@ -1,5 +1,6 @@
 // A text, judged line by line.
 ghost use Rattle.std.specs.Prelude.{◌≡◌, ◌++◌, ◌∷◌, ◌↔◌, ◌<◌, ◌+◌, ◌^◌, [], Contains, IfOk, IfSome, IsNone, IsTrue, length};
+ghost use Rattle.olap_base.specs.Bytes.{line_feed};
 ghost use Rattle.olap_proof.specs.Asking.{IsAsked, names_in, question_in, schema_in};
 ghost use Rattle.olap_proof.specs.Certificates.{IsCertificateText};
 ghost use Rattle.olap_proof.specs.Stages.{open_at};
@@ -16,9 +17,9 @@ use std::alloc::Global;
 
 /// A line, without its LF, and what stands after it, if there is one.
 fn next_line(text: &[u8]) -> Option<(&[u8], &[u8])>
-    ensures some { IfSome result (λ p. text.now ≡ p.0.now ++ 10 ∷ p.1.now) }
-    ensures whole { IfSome result (λ p. Contains p.0.now 10 → ⊥) }
-    ensures none { IsNone result → Contains text.now 10 → ⊥ }
+    ensures some { IfSome result (λ p. text.now ≡ p.0.now ++ line_feed ∷ p.1.now) }
+    ensures whole { IfSome result (λ p. Contains p.0.now line_feed → ⊥) }
+    ensures none { IsNone result → Contains text.now line_feed → ⊥ }
 {
     match cut(text, b'\n') {
         (line, Some(others)) => Some((line, others)),

@@ -39,5 +39,5 @@ pub use laws::{
 };
 pub use lines::Line;
 pub use plain::plain_certificate;
-pub use verifying::{VerifyRefusal, verify};
+pub use verifying::{VerifyFault, verify};
 pub use writing::{push_bottom, push_head, push_known_line};

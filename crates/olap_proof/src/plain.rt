@@ -7,7 +7,7 @@ ghost use Rattle.olap_names.specs.Names.{CanBeNamed, with_graph};
 ghost use Rattle.olap_proof.specs.Asking.{IsAsked, names_in, question_in, schema_in};
 ghost use Rattle.olap_proof.specs.Certificates.{IsCertificateText, Open.Bottom};
 ghost use Rattle.olap_proof.specs.Trees.{Adds, HasNoFrozen};
-ghost use Rattle.olap_proof.specs.Verifying.{IsCertificateFor, IsNamedCertificate};
+ghost use Rattle.olap_proof.specs.Verifying.{IsCertificateFor, IsCertificateOf};
 ghost use Rattle.olap_ast.specs.Trees.{constraint_of, formula_of, numbers_of};
 ghost use Rattle.olap_schema.specs.Schemas.{schema_of};
 
@@ -85,7 +85,7 @@ fn plain_by_names(
 ) -> Result<Text, Memory>
     requires named { CanBeNamed graph.now (map constraint_of constraints.now) (formula_of question.now) }
     requires none { HasNoFrozen (with_graph graph.now (map constraint_of constraints.now)) (formula_of question.now) }
-    ensures { IfOk result (IsNamedCertificate form (with_graph graph.now (map constraint_of constraints.now))
+    ensures { IfOk result (IsCertificateOf form (with_graph graph.now (map constraint_of constraints.now))
         (formula_of question.now)) }
 {
     // Called for its clauses: the graph is a hierarchy.

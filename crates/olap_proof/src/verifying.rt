@@ -6,47 +6,30 @@ ghost use Rattle.olap_base.specs.Limits.{most_constraints};
 ghost use Rattle.olap_names.specs.Names.{CanBeNamed, with_graph};
 ghost use Rattle.olap_proof.specs.Asking.{IsAsked, names_in, question_in, schema_in};
 ghost use Rattle.olap_proof.specs.Certificates.{IsCertificateText};
-ghost use Rattle.olap_proof.specs.Verifying.{IsCertificateFor, IsFirstWrongFor, IsNamedCertificate, IsNamedWrong, IsWrongAt};
+ghost use Rattle.olap_proof.specs.Verifying.{IsCertificateFor, IsCertificateOf, IsFirstWrongFor, IsFirstWrongOf, IsWrongAt};
 ghost use Rattle.olap_ast.specs.Trees.{constraint_of, formula_of, numbers_of};
-ghost use Rattle.olap_proof.specs.declared.verifying.VerifyRefusal.TheVariants as refusal;
+ghost use Rattle.olap_base.specs.declared.refusals.Refusal.TheVariants as refusal;
+ghost use Rattle.olap_proof.specs.declared.verifying.VerifyFault.TheVariants as fault;
 ghost use Rattle.olap_schema.specs.Schemas.{schema_of};
 
 use crate::Form;
 use crate::asking::Asked;
 use crate::judging::first_wrong;
 use olap_ast::{Constraint, Formula, are_distinct, not_by_one};
-use olap_base::{CatId, Memory};
+use olap_base::{CatId, Refusal};
 use olap_graph::Graph;
 use olap_names::Candidates;
 use olap_schema::Schema;
-use std::alloc::{AllocError, Global};
+use std::alloc::Global;
 
 /// Why a text isn't accepted, in the order in which it is tested.
 #[derive(Clone, Copy, PartialEq, Eq, Debug)]
-pub enum VerifyRefusal {
+pub enum VerifyFault {
     /// A source stands twice.
     DuplicateSource,
     /// The text is no certificate: this line, from 1 on, is the first that is wrong after those above it. A text that
     /// ends too early is wrong at the line after its last.
     Rejected { line: u64 },
-    /// There is no room.
-    Memory,
-}
-
-impl From<Memory> for VerifyRefusal {
-    ghost from_gives = { λ _ e. e ≡ refusal.Memory };
-
-    fn from(_: Memory) -> Self {
-        VerifyRefusal::Memory
-    }
-}
-
-impl From<AllocError> for VerifyRefusal {
-    ghost from_gives = { λ _ e. e ≡ refusal.Memory };
-
-    fn from(_: AllocError) -> Self {
-        VerifyRefusal::Memory
-    }
 }
 
 /// Accepts exactly the certificates of that form for what is asked.
@@ -55,18 +38,18 @@ fn judge_asked(
     asked: &Asked<'_>,
     form: Form,
     text: &[u8],
-) -> Result<(), VerifyRefusal>
+) -> Result<(), Refusal<VerifyFault>>
     requires asked { IsAsked asked.now }
     requires few { length (schema_in asked.now).constraints < 2 ^ 64 }
-    ensures duplicate { result ≢ Err refusal.DuplicateSource }
+    ensures duplicate { result ≢ Err (refusal.Kind fault.DuplicateSource) }
     ensures ok { OnOk result
         (IsCertificateText form (schema_in asked.now) (question_in asked.now) (names_in asked.now) text.now) }
-    ensures rejected { (line : ℕ) → result ≡ Err (refusal.Rejected line)
+    ensures rejected { (line : ℕ) → result ≡ Err (refusal.Kind (fault.Rejected line))
         → IsWrongAt form (schema_in asked.now) (question_in asked.now) (names_in asked.now) text.now line }
 {
     match first_wrong(alloc, asked, form, text)? {
         None => Ok(()),
-        Some(line) => Err(VerifyRefusal::Rejected { line }),
+        Some(line) => Err(Refusal::Kind(VerifyFault::Rejected { line })),
     }
 }
 
@@ -78,14 +61,14 @@ fn judge(
     question: &Formula,
     form: Form,
     text: &[u8],
-) -> Result<(), VerifyRefusal>
+) -> Result<(), Refusal<VerifyFault>>
     requires named { CanBeNamed graph.now (map constraint_of constraints.now) (formula_of question.now) }
     requires few { length constraints.now ≤ most_constraints }
-    ensures duplicate { result ≢ Err refusal.DuplicateSource }
-    ensures ok { OnOk result (IsNamedCertificate form (with_graph graph.now (map constraint_of constraints.now))
+    ensures duplicate { result ≢ Err (refusal.Kind fault.DuplicateSource) }
+    ensures ok { OnOk result (IsCertificateOf form (with_graph graph.now (map constraint_of constraints.now))
         (formula_of question.now) text.now) }
-    ensures rejected { (line : ℕ) → result ≡ Err (refusal.Rejected line)
-        → IsNamedWrong form (with_graph graph.now (map constraint_of constraints.now)) (formula_of question.now)
+    ensures rejected { (line : ℕ) → result ≡ Err (refusal.Kind (fault.Rejected line))
+        → IsFirstWrongOf form (with_graph graph.now (map constraint_of constraints.now)) (formula_of question.now)
         text.now line }
 {
     // Called for its clauses: the graph is a hierarchy.
@@ -114,19 +97,19 @@ pub fn verify(
     target: CatId,
     sources: &[CatId],
     text: &[u8],
-) -> Result<(), VerifyRefusal>
+) -> Result<(), Refusal<VerifyFault>>
     requires target { IsCategory (schema_of schema.now).graph target.0 }
     requires sources { All (IsCategory (schema_of schema.now).graph) (numbers_of sources.now) }
-    ensures duplicate { (result ≡ Err refusal.DuplicateSource) ↔ (AllPairs ◌≢◌ (numbers_of sources.now) → ⊥) }
+    ensures duplicate { (result ≡ Err (refusal.Kind fault.DuplicateSource)) ↔ (AllPairs ◌≢◌ (numbers_of sources.now) → ⊥) }
     ensures ok { OnOk result
         (IsCertificateFor form (schema_of schema.now) target.0 (numbers_of sources.now) text.now) }
-    ensures rejected { (line : ℕ) → result ≡ Err (refusal.Rejected line)
+    ensures rejected { (line : ℕ) → result ≡ Err (refusal.Kind (fault.Rejected line))
         → IsFirstWrongFor form (schema_of schema.now) target.0 (numbers_of sources.now) text.now line }
     ensures summarizable { OnOk result
         (IsSummarizable (schema_of schema.now) target.0 (numbers_of sources.now)) }
 {
     if !are_distinct(sources) {
-        return Err(VerifyRefusal::DuplicateSource);
+        return Err(Refusal::Kind(VerifyFault::DuplicateSource));
     }
     let question = not_by_one(alloc, target, sources)?;
     judge(

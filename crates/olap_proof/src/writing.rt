@@ -1,6 +1,7 @@
 // The lines of a certificate, written.
 ghost use Rattle.std.specs.Prelude.{◌≡◌, ◌<◌, ◌++◌, ◌∷◌, [], ◌↔◌, IfOk, IsTrue, OnOk, decimal, false, length, map};
 ghost use Rattle.olap_ast.specs.Trees.{constraint_of};
+ghost use Rattle.olap_base.specs.Bytes.{line_feed};
 ghost use Rattle.olap_base.specs.Graph.{IsCategory};
 ghost use Rattle.olap_graph.specs.Lookups.{name_of_category};
 ghost use Rattle.olap_names.specs.Names.{with_graph};
@@ -12,7 +13,7 @@ use crate::Form;
 use crate::lines::Line;
 use itoa::Buffer;
 use olap_ast::Constraint;
-use olap_base::{CatId, EdgeId, MOST_FILE_BYTES, Memory};
+use olap_base::{CatId, EdgeId, MOST_CERTIFICATE_BYTES, Memory};
 use olap_graph::Graph;
 use std::alloc::AllocError;
 
@@ -113,7 +114,7 @@ pub fn push_known_line(
     ensures about { IfOk result (λ told. IsTrue told
         ↔ IsAbout (with_graph graph.now (map constraint_of constraints.now)) (meaning line)) }
     ensures line { IfOk result (λ told. IsTrue told
-        → out.new.items ≡ out.old.items ++ (line_text graph.now (meaning line) ++ 10 ∷ [])) }
+        → out.new.items ≡ out.old.items ++ (line_text graph.now (meaning line) ++ line_feed ∷ [])) }
     ensures refused { IfOk result (λ told. told ≡ false → out.new.items ≡ out.old.items) }
 {
     if !is_about(graph, constraints, line) {
@@ -131,7 +132,7 @@ pub(crate) fn push_line(
     line: Line,
 ) -> Result<(), AllocError>
     requires { IsAbout (with_graph graph.now (map constraint_of constraints.now)) (meaning line) }
-    ensures { OnOk result (out.new.items ≡ out.old.items ++ (line_text graph.now (meaning line) ++ 10 ∷ [])) }
+    ensures { OnOk result (out.new.items ≡ out.old.items ++ (line_text graph.now (meaning line) ++ line_feed ∷ [])) }
 {
     push_words(out, graph, constraints, line)?;
     out.extend_from_slice(b"\n")
@@ -145,18 +146,18 @@ pub(crate) fn push_bounded(
     line: Line,
 ) -> Result<(), Memory>
     requires { IsAbout (with_graph graph.now (map constraint_of constraints.now)) (meaning line) }
-    ensures { OnOk result (out.new.items ≡ out.old.items ++ (line_text graph.now (meaning line) ++ 10 ∷ [])) }
+    ensures { OnOk result (out.new.items ≡ out.old.items ++ (line_text graph.now (meaning line) ++ line_feed ∷ [])) }
 {
     push_line(out, graph, constraints, line)?;
-    if out.len() as u64 > MOST_FILE_BYTES {
-        return Err(Memory);
+    if out.len() as u64 > MOST_CERTIFICATE_BYTES {
+        return Err(Memory::full(out));
     }
     Ok(())
 }
 
 /// Appends a certificate's first line, ended by an LF.
 pub fn push_head(out: &mut Vec<u8>, form: Form) -> Result<(), AllocError>
-    ensures { OnOk result (out.new.items ≡ out.old.items ++ (head_text form ++ 10 ∷ [])) }
+    ensures { OnOk result (out.new.items ≡ out.old.items ++ (head_text form ++ line_feed ∷ [])) }
 {
     match form {
         Form::Long => out.extend_from_slice(b"certificate 1\n"),
@@ -167,7 +168,7 @@ pub fn push_head(out: &mut Vec<u8>, form: Form) -> Result<(), AllocError>
 /// Appends the line above a bottom category's tree, ended by an LF.
 pub fn push_bottom(out: &mut Vec<u8>, graph: &Graph, c: CatId) -> Result<(), AllocError>
     requires { IsCategory graph.now c.0 }
-    ensures { OnOk result (out.new.items ≡ out.old.items ++ (bottom_text graph.now c.0 ++ 10 ∷ [])) }
+    ensures { OnOk result (out.new.items ≡ out.old.items ++ (bottom_text graph.now c.0 ++ line_feed ∷ [])) }
 {
     push_name(out, graph, b"bottom", c)?;
     out.extend_from_slice(b"\n")

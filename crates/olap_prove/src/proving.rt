@@ -8,10 +8,10 @@ ghost use Rattle.olap_schema.specs.Schemas.{schema_of};
 ghost use Rattle.olap_ast.specs.Trees.{numbers_of};
 ghost use Rattle.olap_summ.specs.declared.summarizing.SummRefusal.TheVariants as refusal;
 
-use olap_base::{CatId, Memory, Text};
-use olap_draft::{NoDraft, draft};
+use olap_base::{CatId, Memory, Refusal, Text};
+use olap_draft::draft;
 use olap_frozen::Found;
-use olap_proof::{Form, VerifyRefusal, plain_certificate, verify};
+use olap_proof::{Form, plain_certificate, verify};
 use olap_schema::Schema;
 use olap_summ::{SummRefusal, summarizable};
 use std::alloc::Global;
@@ -40,13 +40,13 @@ fn accepted_draft(
 {
     let text = match draft(alloc, schema, form, target, sources) {
         Ok(text) => text,
-        Err(NoDraft::Memory) => return Err(Memory),
-        Err(NoDraft::GivenUp) => return Ok(None),
+        Err(Refusal::Memory(m)) => return Err(m),
+        Err(Refusal::Kind(_)) => return Ok(None),
     };
     match verify(alloc, schema, form, target, sources, &text) {
         Ok(()) => Ok(Some(text)),
-        Err(VerifyRefusal::Memory) => Err(Memory),
-        Err(_) => Ok(None),
+        Err(Refusal::Memory(m)) => Err(m),
+        Err(Refusal::Kind(_)) => Ok(None),
     }
 }
 

@@ -12,12 +12,12 @@ ghost use Rattle.olap_schema.specs.Schemas.{schema_of};
 ghost use Rattle.olap_verdicts.specs.Commands.{verify_order, verify_order_for};
 ghost use Rattle.olap_verdicts.specs.Questions.{ByCertificate, IsAnswer};
 
-use olap_base::CatId;
+use olap_base::{CatId, Refusal};
 use olap_order::{
     Reply, Stop, categories_at, category_at, no, read_file, refuse_long, schema_in, yes,
 };
 use olap_outside::Library;
-use olap_proof::{Form, VerifyRefusal};
+use olap_proof::{Form, VerifyFault};
 use olap_schema::Schema;
 use std::alloc::{AllocError, Global};
 
@@ -59,9 +59,9 @@ fn told(
     let _valid = schema.constraints();
     match olap_proof::verify(alloc, schema, form, target, sources, text) {
         Ok(()) => Ok(yes(Vec::from_slice(alloc, b"accepted\n")?)),
-        Err(VerifyRefusal::Rejected { line }) => Ok(no(rejected(alloc, line)?)),
-        Err(VerifyRefusal::DuplicateSource) => unreachable!(),
-        Err(VerifyRefusal::Memory) => Err(Stop::Memory),
+        Err(Refusal::Kind(VerifyFault::Rejected { line })) => Ok(no(rejected(alloc, line)?)),
+        Err(Refusal::Kind(VerifyFault::DuplicateSource)) => unreachable!(),
+        Err(Refusal::Memory(m)) => Err(Stop::Memory(m)),
     }
 }
 

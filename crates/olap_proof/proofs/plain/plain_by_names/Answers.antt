@@ -17,4 +17,4 @@ pub returns : goal.returns
 returns c =
     let s = with_graph c.args.graph.now (map constraint_of c.args.constraints.now) in
     named c.args.form s (formula_of c.args.question.now) (candidates_of c.in_ok-candidates.candidates)
-    c.categories-count.ensures.hierarchy c.in_ok-candidates.ensures.candidates c.plain.result c.plain.ensures
+    c.in_ok-candidates.ensures.candidates c.plain.result c.plain.ensures

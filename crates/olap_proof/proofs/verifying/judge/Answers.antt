@@ -10,16 +10,15 @@ judge_asked-requires-clause-asked c = record {
 }
 
 pub returns-clause-ok : goal.returns-clause-ok
-returns-clause-ok c = on_ok_weaker c.judge_asked.result (λ certificate. record {
-  names = candidates_of c.in_ok-candidates.candidates;
-  hierarchy = c.categories-count.ensures.hierarchy;
-  candidates = c.in_ok-candidates.ensures.candidates;
-  certificate = certificate;
-}) c.judge_asked.ensures.ok
+returns-clause-ok c = on_ok_weaker c.judge_asked.result (λ certificate. (
+  candidates_of c.in_ok-candidates.candidates,
+  c.in_ok-candidates.ensures.candidates,
+  certificate,
+)) c.judge_asked.ensures.ok
 
 pub returns-clause-rejected : goal.returns-clause-rejected
-returns-clause-rejected c = λ line e. record {
-  names = candidates_of c.in_ok-candidates.candidates;
-  candidates = c.in_ok-candidates.ensures.candidates;
-  wrong = c.judge_asked.ensures.rejected line e;
-}
+returns-clause-rejected c = λ line e. (
+  candidates_of c.in_ok-candidates.candidates,
+  c.in_ok-candidates.ensures.candidates,
+  c.judge_asked.ensures.rejected line e,
+)

@@ -18,7 +18,8 @@ returns-clause-ok c =
 pub returns-clause-summarizable : goal.returns-clause-summarizable
 returns-clause-summarizable c =
     shown c.args.form (schema_of c.args.schema.now) c.args.target.0 (numbers_of c.args.sources.now) c.graph.ensures
-    c.constraints.ensures.list c.in_ok-question.ensures c.args.text.now c.judge.result c.judge.ensures.ok
+    c.constraints.ensures.list c.in_ok-question.ensures c.args.text.now c.constraints.ensures.valid.hierarchy
+    c.judge.result c.judge.ensures.ok
 
 pub returns-clause-rejected : goal.returns-clause-rejected
 returns-clause-rejected c = λ line e.
