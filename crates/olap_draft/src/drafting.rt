@@ -14,7 +14,12 @@ use std::alloc::Global;
 const TRIES: u32 = 1 << 20;
 
 /// Appends the tree of a bottom category.
-fn push_below(alloc: Global, asked: &Asked, root: CatId, out: &mut Vec<u8>) -> Result<(), Refusal<GivenUp>> {
+fn push_below(
+    alloc: Global,
+    asked: &Asked,
+    root: CatId,
+    out: &mut Vec<u8>,
+) -> Result<(), Refusal<GivenUp>> {
     let task = Task::new(alloc, asked, root)?;
     let mut search = Search::new(alloc, &task, TRIES);
     search.push_tree(asked.constraints, out)

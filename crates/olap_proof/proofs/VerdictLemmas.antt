@@ -165,9 +165,9 @@ verdicts_are_one f s q text hier few = (
   λ line w t. none_wrong f s q t.0 hier few text w.2.0 (wrong_too w.0 t.0 w.2.0 w.1 t.1 w.2.2) t.2,
   λ line other v w.
       v.2.1
-          ∙ ap (λ n. n + 1)
-              (one_wrong f s q v.0 hier few text v.2.0 w.2.0 v.2.2 (wrong_too w.0 v.0 w.2.0 w.1 v.1 w.2.2))
-          ∙ sym w.2.1,
+      ∙ ap (λ n. n + 1)
+      (one_wrong f s q v.0 hier few text v.2.0 w.2.0 v.2.2 (wrong_too w.0 v.0 w.2.0 w.1 v.1 w.2.2))
+      ∙ sym w.2.1,
 )
   where
     wrong_too : (k h : Candidates) (count : ℕ) → AreCandidates s q k → AreCandidates s q h

@@ -2,32 +2,27 @@
 use Rattle.std.proofs.Common.{◌≡◌, ◌<◌, ◌^◌, ◌++◌, ◌∙◌, ℕ, List, length, ap, sym, inl, inr, arith}
 use Rattle.std.specs.Prelude.{codes}
 use Rattle.std.specs.Fmt.{decimal}
-use Rattle.olap_ast.specs.Frozen.{CandidatesExist}
 use Rattle.olap_ast.specs.Schema.{Schema}
 use Rattle.olap_ast.specs.Summarizable.{not_by_one}
 use Rattle.olap_ast.specs.Valid.{IsValidSchema}
-use Rattle.olap_ast.proofs.SourceLemmas.{question_kinds}
 use Rattle.olap_order.specs.Outputs.{line}
 use Rattle.olap_proof.specs.Verifying.{IsCertificateFor, IsFirstWrongFor, VerdictsAreOne}
 use Rattle.olap_proof.specs.declared.forms.Form.{Form}
 use Rattle.olap_verdicts.specs.Laws.{AnswersAreOne}
 use Rattle.olap_verdicts.specs.Questions.{ByCertificate}
 
-module _ (exist : CandidatesExist) (one : VerdictsAreOne) where
+module _ (one : VerdictsAreOne) where
   few : (s : Schema) → IsValidSchema s → length s.constraints < 2 ^ 64
   few s v = let l = v.constraints_fit in omega (arith, l)
 
   none_wrong : (f : Form) (s : Schema) (c : ℕ) (sources text : List ℕ) (at : ℕ) → IsValidSchema s
       → IsCertificateFor f s c sources text → IsFirstWrongFor f s c sources text at → ⊥
-  none_wrong f s c sources text at v t w =
-      let k = exist s (not_by_one c sources) (question_kinds s c sources v) in
-      (one f s (not_by_one c sources) k.0 text v.hierarchy (few s v)).0 at (w k.0 k.1) (t k.0 k.1)
+  none_wrong f s c sources text at v t w = (one f s (not_by_one c sources) text v.hierarchy (few s v)).0 at w t
 
   one_wrong : (f : Form) (s : Schema) (c : ℕ) (sources text : List ℕ) (at other : ℕ) → IsValidSchema s
       → IsFirstWrongFor f s c sources text at → IsFirstWrongFor f s c sources text other → at ≡ other
   one_wrong f s c sources text at other v w x =
-      let k = exist s (not_by_one c sources) (question_kinds s c sources v) in
-      (one f s (not_by_one c sources) k.0 text v.hierarchy (few s v)).1 at other (w k.0 k.1) (x k.0 k.1)
+      (one f s (not_by_one c sources) text v.hierarchy (few s v)).1 at other w x
 
   pub answers_are_one : AnswersAreOne
   answers_are_one (ByCertificate f s c sources text) x y b d (v, inl p) (w, inl q) = (p.0 ∙ sym q.0, p.2 ∙ sym q.2)

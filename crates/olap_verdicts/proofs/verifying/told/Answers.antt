@@ -1,7 +1,8 @@
 use Rattle.std.proofs.Common.{◌≡◌, ◌∙◌}
 use Rattle.std.specs.Prelude.{Err}
 use Rattle.olap_ast.specs.Trees.{numbers_of}
-use Rattle.olap_proof.specs.declared.verifying.VerifyRefusal.TheVariants as refusal
+use Rattle.olap_base.specs.declared.refusals.Refusal.TheVariants as refusal
+use Rattle.olap_proof.specs.declared.verifying.VerifyFault.TheVariants as fault
 use Rattle.olap_schema.specs.Schemas.{schema_of}
 use Rattle.olap_verdicts.proofs.ReplyLemmas.{wrong_shown}
 use Rattle.olap_verdicts.proofs.verifying.told.Goals as goal
@@ -11,7 +12,7 @@ returns-in_ok-rejected-in-Err-Rejected c =
     let at = c.in-Err-Rejected.line in
     let is = c.in-Err-Rejected.is in
     let that = c.in-Err-Rejected.field-0-is in
-    let wrong : c.verify.result ≡ Err (refusal.Rejected at) = cc in
+    let wrong : c.verify.result ≡ Err (refusal.Kind (fault.Rejected at)) = cc in
     record {
       replies = wrong_shown c.args.form (schema_of c.args.schema.now) c.args.target.0 (numbers_of c.args.sources.now)
           c.args.text.now at c.constraints-valid.ensures.valid (c.verify.ensures.rejected at wrong) c.no.result
