@@ -1,0 +1,172 @@
+"""After a no of `summarizable`: which members break it, which lists of sources are enough, and what must be added to the schema.
+
+    olap-tools after-no SCHEMA [INSTANCE [FACTS]] TARGET SOURCE..
+
+Three blocks. With an instance, its members that reach the target by not exactly one source, grouped by their ways up; with facts,
+how many facts and which sums are lost, or counted more than once. Then the shortest lists of sources that contain these and are
+enough. Then, for each bottom category, the weakest constraint with which the answer is yes, as `needs` prints it, and simple
+constraints that are enough too and leave each category its members, the weakest of them, and whether the instance meets each.
+After a yes it says so. The status is 0, or the program's.
+"""
+
+import argparse
+import time
+from collections import Counter, defaultdict
+from typing import Iterator
+
+from pages import program, texts
+from pages.enough import below
+from pages.program import Fault, Late
+
+from . import asking, simple
+from .asking import FACTS, INSTANCE, SCHEMA, Question
+
+SECONDS = 60
+MORE = 3  # sources that are added to a list
+
+
+def parser() -> argparse.ArgumentParser:
+    words = argparse.ArgumentParser(prog="olap-tools after-no", description="what breaks a total, and what mends it", allow_abbrev=False)
+    words.add_argument("words", nargs="+", metavar="SCHEMA [INSTANCE [FACTS]] TARGET SOURCE..")
+    words.add_argument("--seconds", type=float, default=SECONDS, metavar="N", help=f"stop asking after N seconds ({SECONDS})")
+    return words
+
+
+# ---- which members
+
+
+def ways_up(question: Question) -> dict[str, str]:
+    """Of each member the categories above it, but for `All`."""
+    members, found = asking.members_in(question.ask), {"all": frozenset()}
+    for start in members:
+        left = [start]
+        while left:
+            one = left[-1]
+            missing = [parent for parent in members[one].parents if parent not in found] if one not in found else []
+            if missing:
+                left += missing
+                continue
+            left.pop()
+            if one not in found:
+                parents = members[one].parents
+                found[one] = frozenset().union(*(found[each] | ({members[each].category} if each in members else set()) for each in parents))
+    order = question.schema.declared
+    return {one: " ".join(category for category in order if category in above) for one, above in found.items()}
+
+
+def broken(question: Question) -> list[list[str]]:
+    """The records of `breaks`: a member, what it reaches, and by how many sources."""
+    answer = question.ask.must("breaks", SCHEMA, INSTANCE, question.target, *question.sources, ends=(0, 1))
+    if answer.status == 0:
+        return []
+    (question.ask.folder / "breaks.csv").write_text(answer.text.partition("\n")[2], encoding="utf-8")
+    return asking.records(question.ask, "breaks.csv")
+
+
+def members_block(question: Question) -> Iterator[str]:
+    rows = broken(question)
+    if not rows:
+        yield "members: on this instance the totals agree today"
+        return
+    ups, members = ways_up(question), asking.members_in(question.ask)
+    counts, sums = Counter(), Counter()
+    if question.has_facts:
+        question.ask.must("rollup", SCHEMA, INSTANCE, FACTS, question.target)
+        for member, value in asking.records(question.ask, FACTS):
+            counts[member] += 1
+            sums[member] += int(value)
+    groups = defaultdict(list)
+    for member, target, ways in rows:
+        groups[int(ways), members[member].category, ups[member], target].append(member)
+    yield f"members: {len(rows)} reach {question.target} by none of the sources, or by several"
+    for (ways, category, up, target), some in sorted(groups.items(), key=lambda group: -len(group[1])):
+        what = "lost" if ways == 0 else f"counted {ways} times"
+        facts = ""
+        if question.has_facts:
+            facts = f": {sum(counts[each] for each in some)} facts, sum {sum(sums[each] for each in some)}"
+        yield f"  {what} at {target}: {len(some)} of {category} by way of {up or 'nothing'}, as {some[0]}{facts}"
+
+
+# ---- which lists
+
+
+def lists_block(question: Question, end: float) -> Iterator[str]:
+    """The shortest lists that contain the sources and are enough: only what a counterexample lacks is added."""
+    sources = below(question.schema, question.target)
+    found, seen, left = [], set(), [frozenset(question.sources)]
+    while left and (not found or len(left[0]) == len(found[0])):
+        some = left.pop(0)
+        if some in seen:
+            continue
+        seen.add(some)
+        named = tuple(category for category in question.schema.categories if category in some)
+        answer = question.ask.must("summarizable", SCHEMA, question.target, *named, ends=(0, 1), seconds=max(0.1, end - time.monotonic()))
+        if answer.status == 0:
+            found.append(named)
+            continue
+        example = texts.counterexample_of(answer.text, question.schema)
+        if example.views is None and len(some) < len(question.sources) + MORE:
+            left += [some | {source} for source in sources if source not in some and example.sees(source)]
+    if not found:
+        yield f"sources: no list of at most {MORE} more is enough; one of these counts a fact twice, or none is left to add"
+    for named in found:
+        yield f"sources: {question.target} from {' '.join(named)} is enough"
+
+
+# ---- which constraints
+
+
+def needs_block(question: Question) -> Iterator[str]:
+    answer = question.ask.must("needs", SCHEMA, question.target, *question.sources, ends=(0, 1))
+    if answer.status == 1:
+        yield "needed: no constraint helps without taking all members of a category:"
+        yield from (f"  {line}" for line in answer.text.splitlines()[1:])
+        return
+    yield "needed: the weakest constraints with which the answer is yes:"
+    for line in answer.text.splitlines():
+        yield f"  {line}{met(question, line.removeprefix('constraint '))}"
+
+
+def met(question: Question, constraint: str) -> str:
+    """Whether the instance meets the constraint."""
+    if not question.has_instance:
+        return ""
+    answer = question.ask.must("check", question.changed(constraint), INSTANCE, ends=(0, 3))
+    return "   (your instance meets it)" if answer.status == 0 else f"   ({answer.text.strip().removeprefix('refused instance ')} in your instance)"
+
+
+def simple_block(question: Question, end: float) -> Iterator[str]:
+    for bottom in question.schema.bottoms:
+        found = simple.weakest(question, bottom, end)
+        for constraint in found:
+            yield f"simple: constraint {constraint}{met(question, constraint)}"
+
+
+# ---- all of it
+
+
+def lines(question: Question, seconds: float) -> Iterator[str]:
+    end = time.monotonic() + seconds
+    answer = question.ask.must("summarizable", SCHEMA, question.target, *question.sources, ends=(0, 1))
+    if question.has_instance:
+        question.ask.must("check", SCHEMA, INSTANCE)
+    if answer.status == 0:
+        yield "yes: nothing needs to be added"
+        return
+    if question.has_instance:
+        yield from members_block(question)
+    try:
+        yield from lists_block(question, end)
+        yield from needs_block(question)
+        yield from simple_block(question, end)
+    except Late:
+        yield f"(not all was asked within {seconds:g} seconds: --seconds N)"
+
+
+def main(words: list[str]) -> None:
+    chosen = parser().parse_args(words)
+    if len(chosen.words) < 2:
+        raise Fault("a schema and a target are needed", 2)
+    with program.opened() as ask:
+        question = asking.question_in(ask, chosen.words)
+        program.write_out("".join(line + "\n" for line in lines(question, chosen.seconds)))

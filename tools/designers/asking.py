@@ -1,0 +1,97 @@
+"""What these tools share: the words of a question, its files, and the program's answers about a changed schema."""
+
+import csv
+import io
+from dataclasses import dataclass, field
+from pathlib import Path
+
+from pages import questions, texts
+from pages.program import Fault, Program
+
+SCHEMA, INSTANCE, FACTS = questions.SCHEMA, "instance.csv", "facts.csv"
+CHANGED = "changed.txt"
+
+
+@dataclass
+class Question:
+    """A target and its sources, over a schema and, where there are such, an instance and facts."""
+
+    ask: Program
+    schema: texts.Schema
+    canonical: str
+    target: str
+    sources: tuple[str, ...]
+    files: list[str] = field(default_factory=list)
+
+    @property
+    def has_instance(self) -> bool:
+        return len(self.files) > 0
+
+    @property
+    def has_facts(self) -> bool:
+        return len(self.files) > 1
+
+    def changed(self, *constraints: str) -> str:
+        """Puts down the schema with these constraints more, and gives the file's name."""
+        lines = "".join(f"constraint {each}\n" for each in constraints)
+        (self.ask.folder / CHANGED).write_text(self.canonical + lines, encoding="utf-8")
+        return CHANGED
+
+    def formula(self, bottom: str) -> str:
+        """That a member of the bottom category reaches the target by exactly one of the sources, if it reaches it."""
+        ways = ", ".join(path(bottom, source, self.target) for source in self.sources)
+        return f"{path(bottom, self.target)} -> one({ways})"
+
+
+def path(*categories: str) -> str:
+    """The atom that says that these are reached one after another."""
+    return ".".join(categories)
+
+
+def schema_in(ask: Program, file: str) -> tuple[texts.Schema, str]:
+    """The schema of a file, and its canonical text."""
+    ask.put(SCHEMA, file)
+    text = ask.must("format", SCHEMA).text
+    return texts.schema_of(text), text
+
+
+def question_in(ask: Program, words: list[str], most_files: int = 2) -> Question:
+    """The question of the words SCHEMA [INSTANCE [FACTS]] TARGET SOURCE..: the target is the first word that is a category."""
+    schema, text = schema_in(ask, words[0])
+    at = next((place for place, word in enumerate(words[1:], 1) if word in schema.categories), None)
+    if at is None:
+        raise Fault(f"none of these words is a category of {words[0]}: {' '.join(words[1:]) or 'there is none'}", 2)
+    files = words[1:at]
+    if len(files) > most_files:
+        raise Fault(f"{files[most_files]}: no category of {words[0]}, and no further file is asked for", 2)
+    for name, file in zip((INSTANCE, FACTS), files):
+        ask.put(name, file)
+    return Question(ask, schema, text, words[at], tuple(words[at + 1 :]), files)
+
+
+def records(ask: Program, name: str) -> list[list[str]]:
+    """The records of a CSV file that the program has read, without its header."""
+    text = (ask.folder / name).read_bytes().decode("utf-8").removeprefix("\ufeff")
+    csv.field_size_limit(len(text) + 1)
+    return [record for record in csv.reader(io.StringIO(text, newline="")) if record][1:]
+
+
+def members_in(ask: Program) -> dict[str, texts.Member]:
+    """The members of the instance, by their ids."""
+    text = (ask.folder / INSTANCE).read_bytes().decode("utf-8")
+    return {member.id: member for member in texts.members_of(text)}
+
+
+def written(folder: Path, name: str, text: str) -> None:
+    """Writes a file that isn't there yet."""
+    try:
+        with open(folder / name, "x", encoding="utf-8", newline="") as out:
+            out.write(text)
+    except OSError as error:
+        raise Fault(f"{folder / name}: {error.strerror}", 5) from None
+
+
+def csv_text(rows: list[list[str]]) -> str:
+    out = io.StringIO(newline="")
+    csv.writer(out, lineterminator="\n").writerows(rows)
+    return out.getvalue()
