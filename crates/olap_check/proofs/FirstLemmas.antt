@@ -22,6 +22,9 @@ use Rattle.olap_check.specs.Splitting.{IsLeastSplit, SplitsAt}
 use Rattle.olap_check.specs.Passing.{IsStratified, IsFirstShortcut, HasNoShortcut}
 use Rattle.olap_check.specs.Linking.{IsLinked, IsTableOf, IsFirstUnlinked, IsLinkedAt, IsFirstOrphan, IsOrphan}
 use Rattle.olap_legal.proofs.TableLemmas.{row_is_whole}
+use Rattle.olap_base.specs.declared.ids.MemberId.{MemberId}
+use Rattle.olap_check.specs.Reports.{IsFirstBreach, category, member}
+use Rattle.olap_check.specs.declared.violations.Violation.TheVariants.{Connectivity, NoParent as Orphan, Partitioning, Shortcut as Bypass, Stratification}
 use Rattle.olap_check.proofs.SplitLemmas.{splits_of}
 use Rattle.olap_legal.specs.declared.tables.Table.{Table}
 
@@ -224,6 +227,54 @@ module _ (i : Instance) (n : ℕ) (edges : List Bool) (bounded : IsBounded i n) 
       some_parent : (xs : List ℕ) → (xs ≡ [] → ⊥) → (y : ℕ) × Contains xs y
       some_parent [] n = absurd (n refl)
       some_parent (x ∷ xs) n = (x, (0, omega arith, refl))
+
+-- ---- reports, whatever the constraints are
+
+module _ (i : Instance) (n : ℕ) (edges : List Bool) (bounded : IsBounded i n) (g : Graph) (t : IsTableOf g n edges) where
+  -- of the first parent without an edge
+  pub report1 : (x k : ℕ) (y : MemberId) → IsFirstUnlinked i n edges x k → y.0 ≡ slice_index (parents_of i x) k
+      → IsFirstBreach g i (Connectivity (member x) y)
+  report1 x k y f e = λ constraints. record {
+    violation = NoEdge x k;
+    is_first = first1 i n edges bounded x k f (record { graph = g; constraints = constraints }) t;
+    is_told = ap (λ z. Connectivity (member x) (member z)) e;
+  }
+
+  -- of the first member without a parent
+  pub report2 : Law1 i n edges bounded → (x : ℕ) → IsFirstOrphan i x → IsFirstBreach g i (Orphan (member x))
+  report2 l1 x f = λ constraints. record {
+    violation = NoParent x;
+    is_first = first2 i n edges bounded l1 x f (record { graph = g; constraints = constraints }) t;
+    is_told = refl;
+  }
+
+  -- of the first member far below its own category
+  pub report3 : Law1 i n edges bounded → Law2 i n edges bounded → (x : ℕ) → IsFirstRepeat i x
+      → IsFirstBreach g i (Stratification (member x))
+  report3 l1 l2 x f = λ constraints. record {
+    violation = SameCategory x;
+    is_first = first3 i n edges bounded l1 l2 x f (record { graph = g; constraints = constraints }) t;
+    is_told = refl;
+  }
+
+  -- of the first member that reaches two of a category
+  pub report4 : Law1 i n edges bounded → Law2 i n edges bounded → Law3 i n edges bounded → (x c : ℕ)
+      → IsFirstSplit i n x → IsLeastSplit i x c → IsFirstBreach g i (Partitioning (member x) (category c))
+  report4 l1 l2 l3 x c f q = λ constraints. record {
+    violation = TwoAncestors x c;
+    is_first = first4 i n edges bounded l1 l2 l3 x c f q (record { graph = g; constraints = constraints }) t;
+    is_told = refl;
+  }
+
+  -- of the first shortcut
+  pub report5 : Law1 i n edges bounded → Law2 i n edges bounded → Law3 i n edges bounded → (table : Table)
+      → IsTable i n (length i) table → (x k : ℕ) (y : MemberId) → IsFirstShortcut i x k
+      → y.0 ≡ slice_index (parents_of i x) k → IsFirstBreach g i (Bypass (member x) y)
+  report5 l1 l2 l3 table r x k y f e = λ constraints. record {
+    violation = Shortcut x k;
+    is_first = first5 i n edges bounded l1 l2 l3 table r x k f (record { graph = g; constraints = constraints }) t;
+    is_told = ap (λ z. Bypass (member x) (member z)) e;
+  }
 
 -- ---- after the laws
 

@@ -1,9 +1,10 @@
 -- How a violation is told by ids, and what a refused check says.
 --     told            a violation of the definitions, as the program tells it
 --     IsFirstReport   it tells the first violation
---     IsRefused       the instance is handed back, with the first violation
+--     IsFirstBreach   the same, whatever the constraints are
+--     IsRefused       the instance is handed back, with the first violation, or memory ran out
 use Rattle.std.specs.Prelude.{◌≡◌, ℕ, suc, List, map, slice_index}
-use Rattle.olap_ast.specs.Schema.{Schema}
+use Rattle.olap_ast.specs.Schema.{Constraint, Schema}
 use Rattle.olap_ast.specs.Trees.{constraint_of}
 use Rattle.olap_ast.specs.Violation as Meaning
 use Rattle.olap_ast.specs.declared.formulas.Constraint.{Constraint as Stored}
@@ -11,8 +12,9 @@ use Rattle.olap_base.specs.Graph.{Graph}
 use Rattle.olap_base.specs.Instance.{Instance, parents_of}
 use Rattle.olap_base.specs.declared.ids.CatId.{CatId}
 use Rattle.olap_base.specs.declared.ids.MemberId.{MemberId}
-use Rattle.olap_check.specs.declared.violations.CheckRefusal.{CheckRefusal}
-use Rattle.olap_check.specs.declared.violations.CheckRefusal.TheVariants.{Broken, Memory}
+use Rattle.olap_base.specs.Refusing.{IsFor}
+use Rattle.olap_base.specs.declared.refusals.Refusal.{Refusal}
+use Rattle.olap_check.specs.declared.violations.Illegal.{Illegal}
 use Rattle.olap_check.specs.declared.violations.Violation.{Violation}
 use Rattle.olap_check.specs.declared.violations.Violation.TheVariants as here
 
@@ -47,7 +49,10 @@ pub record IsFirstReport (s : Schema) (i : Instance) (v : Violation) : Type 0 wh
   pub is_first : Meaning.IsFirstViolation s i violation
   pub is_told : v ≡ told i violation
 
--- the instance is handed back, with its first violation
-abbrev pub IsRefused : Schema → Instance → CheckRefusal → Type 0
-IsRefused s i (Broken j v) = (j ≡ i) × IsFirstReport s i v
-IsRefused s i Memory = Unit {0}
+-- it tells the first violation of the laws, whatever the constraints are
+abbrev pub IsFirstBreach : Graph → Instance → Violation → Type 0
+IsFirstBreach g i v = (constraints : List Constraint) → IsFirstReport (record { graph = g; constraints = constraints }) i v
+
+-- the instance is handed back, with its first violation, or memory ran out
+abbrev pub IsRefused : Schema → Instance → Refusal Illegal → Type 0
+IsRefused s i = IsFor (λ back. (back.instance ≡ i) × IsFirstReport s i back.violation)

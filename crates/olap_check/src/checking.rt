@@ -1,10 +1,11 @@
 // The check: the laws, and then the constraints.
-ghost use Rattle.std.specs.Prelude.{◌≡◌, ◌≤◌, length, map, Contains, IfOk, IfErr, MatchResult};
+ghost use Rattle.std.specs.Prelude.{◌≡◌, ◌≤◌, length, map, Contains, IfOk, IfErr};
 ghost use Rattle.olap_ast.specs.Schema.{Constraint as TheConstraint, IsLegal, Meets};
 ghost use Rattle.olap_ast.specs.Trees.{constraint_of};
 ghost use Rattle.olap_base.specs.Graph.{category_count};
 ghost use Rattle.olap_base.specs.Instance.{IsLawful};
 ghost use Rattle.olap_base.specs.Limits.{most_categories, most_constraints};
+ghost use Rattle.olap_base.specs.Refusing.{IsFor};
 ghost use Rattle.olap_check.specs.Reports.{IsFirstReport, IsRefused, parts_of};
 ghost use Rattle.olap_legal.specs.Rows.{IsBounded};
 ghost use Rattle.olap_legal.specs.Tables.{IsTable};
@@ -13,9 +14,9 @@ ghost use Rattle.olap_instance.specs.Made.{IsMadeFor};
 
 use crate::laws::{bound, lawful};
 use crate::meeting::first_violated;
-use crate::{CheckRefusal, Violation};
+use crate::{Illegal, Violation};
 use olap_ast::Constraint;
-use olap_base::{MemberId, Memory};
+use olap_base::{MemberId, Refusal};
 use olap_graph::Graph;
 use olap_instance::Instance;
 use olap_legal::{Legal, Table};
@@ -24,12 +25,12 @@ use std::alloc::Global;
 
 /// The instance as a legal one for the schema.
 ///
-/// `Broken` exactly where it isn't legal, with the first violation: by law, and within a law in file order, as
-/// `IsFirstViolation` says. `Memory` where there is no room, and the instance is dropped. Cost: at most the members and
+/// `Illegal` exactly if it isn't legal, with the first violation: by law, and within a law in file order, as
+/// `IsFirstViolation` says. `Memory` if memory ran out, and the instance is dropped. Cost: at most the members and
 /// their parents times the number of categories, the members times its square, and of each formula its distinct pairs
 /// of categories and names at the members of its root, and its nodes once for 1,024 of them. A cycle, or a member with
 /// many parents, costs no more.
-pub fn check(alloc: Global, schema: &Schema, instance: Instance) -> Result<Legal, CheckRefusal>
+pub fn check(alloc: Global, schema: &Schema, instance: Instance) -> Result<Legal, Refusal<Illegal>>
     requires { IsMadeFor (schema_of schema.now).graph instance }
     ensures same { IfOk result (λ legal. legal ≡ instance) }
     ensures ok { IfOk result (λ legal. IsLegal (schema_of schema.now) instance) }
@@ -46,23 +47,21 @@ fn judged(
     constraints: &[Constraint],
     instance: &Instance,
     categories: u16,
-) -> Result<Result<Table, Violation>, Memory>
+) -> Result<Table, Refusal<Violation>>
     requires count { categories ≡ category_count graph.now }
     requires few { categories ≤ most_categories }
     requires bounded { IsBounded instance.now categories }
     requires constraints { length constraints.now ≤ most_constraints }
-    ensures { IfOk result (λ r. MatchResult r
-        (λ table. IsTable instance.now categories (length instance.now) table × IsLawful graph.now instance.now
-        × ((c : TheConstraint) → Contains (map constraint_of constraints.now) c → Meets instance.now c))
-        (IsFirstReport (parts_of graph.now constraints.now) instance.now)) }
+    ensures table { IfOk result (IsTable instance.now categories (length instance.now)) }
+    ensures lawful { IfOk result (λ _. IsLawful graph.now instance.now) }
+    ensures meets { IfOk result (λ _. (c : TheConstraint) → Contains (map constraint_of constraints.now) c
+        → Meets instance.now c) }
+    ensures err { IfErr result (IsFor (IsFirstReport (parts_of graph.now constraints.now) instance.now)) }
 {
-    let table = match lawful(alloc, graph, instance, categories)? {
-        Ok(table) => table,
-        Err(violation) => return Ok(Err(violation)),
-    };
+    let table = lawful(alloc, graph, instance, categories)?;
     match first_violated(alloc, instance, &table, categories, constraints)? {
-        Some((k, x)) => Ok(Err(Violation::Constraint(k as u16 + 1, MemberId(x)))),
-        None => Ok(Ok(table)),
+        Some((k, x)) => Err(Refusal::Kind(Violation::Constraint(k as u16 + 1, MemberId(x)))),
+        None => Ok(table),
     }
 }
 
@@ -72,7 +71,7 @@ fn check_parts(
     graph: &Graph,
     constraints: &[Constraint],
     instance: Instance,
-) -> Result<Legal, CheckRefusal>
+) -> Result<Legal, Refusal<Illegal>>
     requires made { IsMadeFor graph.now instance }
     requires few { length constraints.now ≤ most_constraints }
     ensures same { IfOk result (λ legal. legal ≡ instance) }
@@ -80,8 +79,12 @@ fn check_parts(
     ensures err { IfErr result (IsRefused (parts_of graph.now constraints.now) instance) }
 {
     let categories = bound(graph, &instance);
-    match judged(alloc, graph, constraints, &instance, categories)? {
+    match judged(alloc, graph, constraints, &instance, categories) {
         Ok(table) => Ok(Legal::new(instance, categories, table)),
-        Err(violation) => Err(CheckRefusal::Broken(instance, violation)),
+        Err(Refusal::Kind(violation)) => Err(Refusal::Kind(Illegal {
+            instance,
+            violation,
+        })),
+        Err(Refusal::Memory(memory)) => Err(Refusal::Memory(memory)),
     }
 }

@@ -1,11 +1,11 @@
 // The five laws, one after the other.
-ghost use Rattle.std.specs.Prelude.{◌≡◌, ◌<◌, ◌≤◌, length, List, IfOk, MatchResult, slice_index};
-ghost use Rattle.olap_ast.specs.Schema.{Constraint};
+ghost use Rattle.std.specs.Prelude.{◌≡◌, ◌<◌, ◌≤◌, length, IfErr, IfOk, slice_index};
 ghost use Rattle.olap_base.specs.Graph.{category_count};
 ghost use Rattle.olap_base.specs.Limits.{most_categories};
+ghost use Rattle.olap_base.specs.Refusing.{IsFor};
 ghost use Rattle.olap_base.specs.Instance.{IsLawful, parents_of};
 ghost use Rattle.olap_check.specs.Linking.{IsTableOf};
-ghost use Rattle.olap_check.specs.Reports.{IsFirstReport};
+ghost use Rattle.olap_check.specs.Reports.{IsFirstBreach};
 ghost use Rattle.olap_legal.specs.Rows.{IsBounded};
 ghost use Rattle.olap_legal.specs.Tables.{IsTable};
 ghost use Rattle.olap_instance.specs.Made.{IsMadeFor};
@@ -15,7 +15,7 @@ use crate::linking::{edge_table, first_orphan, first_unlinked};
 use crate::parting::split_category;
 use crate::passing::first_shortcut;
 use crate::strata::first_repeated;
-use olap_base::{CatId, MemberId, Memory};
+use olap_base::{CatId, MemberId, Refusal};
 use olap_graph::Graph;
 use olap_instance::Instance;
 use olap_legal::{Table, ancestor_table};
@@ -49,38 +49,37 @@ fn lawful_by(
     instance: &Instance,
     categories: u16,
     edges: &[bool],
-) -> Result<Result<Table, Violation>, Memory>
+) -> Result<Table, Refusal<Violation>>
     requires count { categories ≡ category_count graph.now }
     requires few { categories ≤ most_categories }
     requires bounded { IsBounded instance.now categories }
     requires edges { IsTableOf graph.now categories edges.now }
-    ensures { let count = length instance.now in IfOk result (λ r. MatchResult r
-        (λ table. IsTable instance.now categories count table × IsLawful graph.now instance.now)
-        (λ v. (constraints : List Constraint)
-        → IsFirstReport (record { graph = graph.now; constraints = constraints }) instance.now v)) }
+    ensures table { IfOk result (IsTable instance.now categories (length instance.now)) }
+    ensures lawful { IfOk result (λ _. IsLawful graph.now instance.now) }
+    ensures err { IfErr result (IsFor (IsFirstBreach graph.now instance.now)) }
 {
     if let Some((x, k)) = first_unlinked(instance, edges, categories) {
         let above = parent(instance, x, k);
-        return Ok(Err(Violation::Connectivity(MemberId(x), above)));
+        return Err(Refusal::Kind(Violation::Connectivity(MemberId(x), above)));
     }
     if let Some(x) = first_orphan(instance) {
-        return Ok(Err(Violation::NoParent(MemberId(x))));
+        return Err(Refusal::Kind(Violation::NoParent(MemberId(x))));
     }
     if let Some(x) = first_repeated(alloc, graph, instance, categories)? {
-        return Ok(Err(Violation::Stratification(MemberId(x))));
+        return Err(Refusal::Kind(Violation::Stratification(MemberId(x))));
     }
     let table = match ancestor_table(alloc, graph, instance, categories)? {
         Ok(table) => table,
         Err(x) => {
             let category = split_category(alloc, instance, categories, x)?;
-            return Ok(Err(Violation::Partitioning(MemberId(x), CatId(category))));
+            return Err(Refusal::Kind(Violation::Partitioning(MemberId(x), CatId(category))));
         }
     };
     if let Some((x, k)) = first_shortcut(instance, &table, categories) {
         let above = parent(instance, x, k);
-        return Ok(Err(Violation::Shortcut(MemberId(x), above)));
+        return Err(Refusal::Kind(Violation::Shortcut(MemberId(x), above)));
     }
-    Ok(Ok(table))
+    Ok(table)
 }
 
 /// The table of ancestors of a lawful instance, or the first violation of a law, whatever the constraints are.
@@ -89,14 +88,13 @@ pub(crate) fn lawful(
     graph: &Graph,
     instance: &Instance,
     categories: u16,
-) -> Result<Result<Table, Violation>, Memory>
+) -> Result<Table, Refusal<Violation>>
     requires count { categories ≡ category_count graph.now }
     requires few { categories ≤ most_categories }
     requires bounded { IsBounded instance.now categories }
-    ensures { let count = length instance.now in IfOk result (λ r. MatchResult r
-        (λ table. IsTable instance.now categories count table × IsLawful graph.now instance.now)
-        (λ v. (constraints : List Constraint)
-        → IsFirstReport (record { graph = graph.now; constraints = constraints }) instance.now v)) }
+    ensures table { IfOk result (IsTable instance.now categories (length instance.now)) }
+    ensures lawful { IfOk result (λ _. IsLawful graph.now instance.now) }
+    ensures err { IfErr result (IsFor (IsFirstBreach graph.now instance.now)) }
 {
     let edges = edge_table(alloc, graph, categories)?;
     lawful_by(alloc, graph, instance, categories, &edges)

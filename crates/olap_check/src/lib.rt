@@ -22,4 +22,4 @@ mod strata;
 mod violations;
 
 pub use checking::check;
-pub use violations::{CheckRefusal, Violation, first_violation_is_first};
+pub use violations::{Illegal, Violation, first_violation_is_first};

@@ -1,7 +1,7 @@
-// How an instance isn't legal, and why a check is refused.
+// How an instance isn't legal.
 ghost use Rattle.olap_check.specs.FirstViolation.{FirstViolationIsFirst};
 
-use olap_base::{CatId, MemberId, Memory};
+use olap_base::{CatId, MemberId};
 use olap_instance::Instance;
 
 /// How a law or a constraint is violated. Laws are judged in the order of the variants.
@@ -21,24 +21,11 @@ pub enum Violation {
     Constraint(u16, MemberId),
 }
 
-/// Why an instance isn't taken.
+/// An instance that isn't legal, handed back with its first violation.
 #[derive(Drop)]
-pub enum CheckRefusal {
-    /// It isn't legal: the instance, and the first violation.
-    Broken(Instance, Violation),
-    /// Want of memory. The instance is dropped.
-    Memory,
-}
-
-impl From<Memory> for CheckRefusal {
-    ghost use Rattle.olap_check.specs.declared.violations.CheckRefusal.TheVariants as refusal;
-    ghost use Rattle.std.specs.Prelude.{◌≡◌};
-
-    ghost from_gives = { λ _ e. e ≡ refusal.Memory };
-
-    fn from(_: Memory) -> Self {
-        CheckRefusal::Memory
-    }
+pub struct Illegal {
+    pub instance: Instance,
+    pub violation: Violation,
 }
 
 /// Of a list of members that is an instance, and in which the names of number categories are numerals, the function
