@@ -80,3 +80,19 @@ def tiers(claim, subject):
             tier = 0 if place in about else 2 if place in schema else 1 if place in shared else 3
             counts[TIERS[tier]] += count
         yield command, counts
+
+
+def own(claim, command):
+    """The lines that the reader of this one command believes, and of no other: its own declarations, and its case of those that have
+    a case for each.
+    """
+    places = dict(commands())
+    keys = {each: set(believed(claim, cut_to(each, *place))) for each, place in places.items()}
+    others = set().union(*(found for each, found in keys.items() if each != command))
+    lines = believed(claim, cut_to(command, *places[command]))
+    count = sum(lines[key] for key in keys[command] - others)
+    for key, kept in cut_to(command, *places[command]).items():
+        body = set(kept) - set(modules()[key[0]].declarations[key[1]].type_lines)
+        elsewhere = [cut_to(each, *place).get(key) for each, place in places.items() if each != command]
+        count += len(body - set().union(*(set(each) for each in elsewhere if each))) if key in others else 0
+    return count
