@@ -13,7 +13,7 @@ use Rattle.olap_clauses.specs.declared.trails.Trail.{Trail}
 use Rattle.olap_clauses.specs.Engines.{admits}
 use Rattle.olap_clauses.specs.Standing.{Agrees}
 use Rattle.olap_clauses.specs.Trails.{steps_of}
-use Rattle.olap_encoding.specs.Layouts.{name_variable}
+use Rattle.olap_encoding.specs.Layouts.{name_variable, on_variable}
 use Rattle.olap_dimsat.specs.Tasks.{IsTask, Task, IsOne, constant_count, graph_of}
 use Rattle.olap_dimsat.specs.Reads.{Reads, IsShaped, index_in}
 use Rattle.olap_dimsat.specs.Pinned.{AreShaped, IsLeast, IsLonger, IsPinned, IsPlace, IsProbed, IsReady, IsReplaced, IsSame, IsSettled, NoneAt, NoneLess, SayAt, SaysAt}
@@ -225,17 +225,30 @@ pinned_start t w steps e one = subst (λ ss. IsPinned t 0 w ss) (sym e) (record 
 
 -- ---- literals that are forced
 
+-- an edge that is present
+pub says_edge : (t : Task) (p x : ℕ) (l : Lit) → l ≡ record { variable = on_variable p; positive = true }
+    → p < length (graph_of t).edges → 0 < x → x ≤ 1 → SaysAt t p x l
+says_edge t p x l e h positive most f v o r =
+    let one : x ≡ 1 = omega arith in
+    let code = code_edge t f p o h in (
+      λ a. code ∙ ap bit (sym (r.on p h) ∙ holds_at v l _ e a) ∙ sym one,
+      λ q. holds_at v _ l (sym e) (r.on p h ∙ same_bit _ true (sym code ∙ q ∙ one)),
+    )
+
 -- a name that is a constant
 pub says_name : (t : Task) (p c x : ℕ) (l : Lit)
     → l ≡ record { variable = name_variable t.layout c (x - 1); positive = true }
     → p ≡ length (graph_of t).edges + c - 1
     → c ≢ 0 → c < category_count (graph_of t) → 0 < x → x ≤ constant_count t c → SaysAt t p x l
-says_name t p c x l e at n h positive most f v o r a =
+says_name t p c x l e at n h positive most f v o r =
     let j = x - 1 in
     let next : suc j ≡ x = omega arith in
     let within : j < constant_count t c = omega arith in
-    ap (slice_index (code f)) at ∙ code_index t f c o n
-    ∙ same_is (index_in f c) (suc j) (sym (r.named c j h within) ∙ holds_at v l _ e a) ∙ next
+    let code = ap (slice_index (code f)) at ∙ code_index t f c o n in (
+      λ a. code ∙ same_is (index_in f c) (suc j) (sym (r.named c j h within) ∙ holds_at v l _ e a) ∙ next,
+      λ q. holds_at v _ l (sym e)
+          (r.named c j h within ∙ is_same (index_in f c) (suc j) (sym code ∙ q ∙ sym next)),
+    )
 
 -- what is settled where more is forced: those that are as w before an earlier place agree
 pub none_less_settled : (t : Task) (from q : ℕ) (w : Frozen) (old : List Step) (after : Trail) (e : Engine)

@@ -55,9 +55,9 @@ abbrev pub SayAt : Task → ℕ → ℕ → List Step → List Step → Type 0
 SayAt t p x old new = (f : Frozen) (v : ℕ → Bool) → IsOne t f → Reads t f v
     → Agrees v new ↔ (Agrees v old × (slice_index (code f) p ≡ x))
 
--- a frozen dimension of which the literal is true has x at the place p
+-- the literal is true of exactly the frozen dimensions that have x at the place p
 abbrev pub SaysAt : Task → ℕ → ℕ → Lit → Type 0
-SaysAt t p x l = (f : Frozen) (v : ℕ → Bool) → IsOne t f → Reads t f v → Holds v l → slice_index (code f) p ≡ x
+SaysAt t p x l = (f : Frozen) (v : ℕ → Bool) → IsOne t f → Reads t f v → Holds v l ↔ (slice_index (code f) p ≡ x)
 
 -- no frozen dimension that agrees with the trail has less at the place p than w
 abbrev pub IsSettled : Task → Trail → ℕ → Frozen → Type 0

@@ -1,22 +1,24 @@
 // All frozen dimensions by their codes: the least one, and again and again the one that comes next.
-ghost use Rattle.std.specs.Prelude.{◌≡◌, ◌+◌, ◌^◌, ◌<◌, ◌≤◌, ◌∷◌, ◌++◌, ℕ, All, Err, IfOk, [], false, length, map, slice_index, true, vec_len};
+ghost use Rattle.std.specs.Prelude.{◌≡◌, ◌+◌, ◌^◌, ◌<◌, ◌≤◌, ◌∷◌, ◌++◌, ℕ, All, IfErr, IfOk, [], false, length, map, slice_index, slice_index_or, true, vec_len};
 ghost use Rattle.olap_ast.specs.Frozen.{Frozen as TheFrozen, code};
+ghost use Rattle.olap_base.specs.Refusing.{IsFor as IsRefusalFor};
 ghost use Rattle.olap_clauses.specs.Engines.{trail_of, variables_of};
+ghost use Rattle.olap_clauses.specs.Trails.{steps_of};
 ghost use Rattle.olap_frozen.specs.LeastFound.{frozen_of};
 ghost use Rattle.olap_frozen.specs.Leaves.{IsSized, IsZeroAtAll, chosen_of};
 ghost use Rattle.olap_names.specs.Names.{candidates_of};
 ghost use Rattle.olap_dimsat.specs.Asking.{IsFor, IsSuited, task_of};
-ghost use Rattle.olap_dimsat.specs.Following.{IsHanded, IsNext, IsRaised, NoneAfter, NoneMore};
+ghost use Rattle.olap_dimsat.specs.Following.{IsHanded, IsNext, IsRaised, IsZeroAt, NoneAfter, NoneMore};
 ghost use Rattle.olap_dimsat.specs.Listed.{AreAllFrozen, AreMoreThan};
-ghost use Rattle.olap_dimsat.specs.Pinned.{InRange, IsPinned, IsPlace, IsReady};
+ghost use Rattle.olap_dimsat.specs.Pinned.{InRange, IsPinned, IsPlace, IsReady, NoneAt};
+ghost use Rattle.olap_dimsat.specs.Reads.{OfAgreeing};
 ghost use Rattle.olap_dimsat.specs.Tasks.{IsOne, IsTask, schema_of};
-ghost use Rattle.olap_dimsat.specs.declared.searching.AllRefusal.TheVariants as refusal;
 
 use crate::asker::{Asker, Leaf};
-use crate::searching::AllRefusal;
-use crate::settling::{keep, least, number_at, places, replace, settle_from};
-use olap_base::{CatId, List, Memory};
-use olap_clauses::Engine;
+use crate::searching::TooMany;
+use crate::settling::{keep, least, literal_at, number_at, places, replace, settle_from};
+use olap_base::{CatId, List, Memory, Refusal};
+use olap_clauses::{Engine, Trail, Value};
 use olap_frozen::Frozen;
 use std::alloc::Global;
 
@@ -35,6 +37,64 @@ fn most_at(a: &Asker<'_>, p: u16) -> u16
     } else {
         a.question.candidates.names(CatId(p - edges + 1)) - 1
     }
+}
+
+// Whether none that agrees with the trail has this number, which isn't 0, at this place.
+fn is_refuted(a: &Asker<'_>, trail: &Trail, p: u16, number: u16) -> bool
+    requires task { IsTask (task_of a.now) }
+    requires place { IsPlace (task_of a.now) p }
+    requires number { InRange (task_of a.now) p number }
+    requires positive { 0 < number }
+    ensures { result ≡ true → NoneAt (task_of a.now) p number (steps_of trail.now) }
+{
+    matches!(trail.value(literal_at(a, p, number)), Value::No)
+}
+
+// Whether all that agree with the trail have 0 at this place.
+fn is_zero(a: &Asker<'_>, trail: &Trail, p: u16) -> bool
+    requires task { IsTask (task_of a.now) }
+    requires place { IsPlace (task_of a.now) p }
+    ensures { result ≡ true → OfAgreeing (task_of a.now) trail.now (λ f. slice_index (code f) p ≡ 0) }
+{
+    let most = most_at(a, p);
+    'numbers: for x in 0..most {
+        if !is_refuted(a, trail, p, x + 1) {
+            return false;
+        }
+    }
+    true
+}
+
+// For each place whether all that agree with the trail have 0 there.
+fn zeros(alloc: Global, a: &Asker<'_>, trail: &Trail) -> Result<Vec<bool>, Memory>
+    requires task { IsTask (task_of a.now) }
+    ensures zero { IfOk result (λ notes. (p : ℕ) → slice_index_or notes.items p false ≡ true
+        → OfAgreeing (task_of a.now) trail.now (λ f. slice_index (code f) p ≡ 0)) }
+    ensures count { IfOk result (λ notes. (p : ℕ) → IsPlace (task_of a.now) p → p < length notes.items) }
+{
+    let mut zero = Vec::new(alloc);
+    'places: for p in 0..places(a) {
+        zero.push(is_zero(a, trail, p))?;
+    }
+    Ok(zero)
+}
+
+// For each place whether all have 0 there by what the clauses force, as an edge that the root can't reach.
+fn always_zero(alloc: Global, engine: &mut Engine, a: &Asker<'_>) -> Result<Vec<bool>, Memory>
+    requires task { IsTask (task_of a.now) }
+    requires ready { IsReady (task_of a.now) engine.old }
+    requires empty { trail_of engine.old ≡ [] }
+    ensures zero { IfOk result (λ notes. (p : ℕ) → slice_index_or notes.items p false ≡ true
+        → IsZeroAt (task_of a.now) p) }
+    ensures count { IfOk result (λ notes. (p : ℕ) → IsPlace (task_of a.now) p → p < length notes.items) }
+    ensures empty { trail_of engine.new ≡ [] }
+    ensures variables { variables_of engine.new ≡ variables_of engine.old }
+    ensures ready { IsReady (task_of a.now) engine.new }
+{
+    engine.force();
+    let zero = zeros(alloc, a, engine.trail());
+    engine.undo(0);
+    zero
 }
 
 // Decides that the first places are as they are in the best one, and no more.
@@ -92,7 +152,16 @@ fn raise(
 }
 
 // Is there one with more at this place, and the same before? The least of them is then the best one.
-fn step(engine: &mut Engine, a: &Asker<'_>, leaf: &mut Leaf, best: &mut Frozen, p: u16) -> bool
+fn step(
+    engine: &mut Engine,
+    a: &Asker<'_>,
+    leaf: &mut Leaf,
+    best: &mut Frozen,
+    zero: &[bool],
+    p: u16,
+) -> bool
+    requires zero { (q : ℕ) → slice_index_or zero.now q false ≡ true → IsZeroAt (task_of a.now) q }
+    requires count { (q : ℕ) → IsPlace (task_of a.now) q → q < length zero.now }
     requires place { IsPlace (task_of a.now) p }
     requires suited { IsSuited (task_of a.now) leaf.old (variables_of engine.old) }
     requires ready { IsReady (task_of a.now) engine.old }
@@ -109,6 +178,10 @@ fn step(engine: &mut Engine, a: &Asker<'_>, leaf: &mut Leaf, best: &mut Frozen, 
     ensures suited { IsSuited (task_of a.now) leaf.new (variables_of engine.new) }
     ensures ready { IsReady (task_of a.now) engine.new }
 {
+    let passed = zero[usize::from(p)];
+    if passed {
+        return false;
+    }
     let number = number_at(a, best, p);
     let most = most_at(a, p);
     if number >= most {
@@ -123,7 +196,15 @@ fn step(engine: &mut Engine, a: &Asker<'_>, leaf: &mut Leaf, best: &mut Frozen, 
 }
 
 // Goes to the next one. False: there is none.
-fn next(engine: &mut Engine, a: &Asker<'_>, leaf: &mut Leaf, best: &mut Frozen) -> bool
+fn next(
+    engine: &mut Engine,
+    a: &Asker<'_>,
+    leaf: &mut Leaf,
+    best: &mut Frozen,
+    zero: &[bool],
+) -> bool
+    requires zero { (q : ℕ) → slice_index_or zero.now q false ≡ true → IsZeroAt (task_of a.now) q }
+    requires count { (q : ℕ) → IsPlace (task_of a.now) q → q < length zero.now }
     requires suited { IsSuited (task_of a.now) leaf.old (variables_of engine.old) }
     requires ready { IsReady (task_of a.now) engine.old }
     requires best { IsFor (task_of a.now) best.old }
@@ -138,7 +219,7 @@ fn next(engine: &mut Engine, a: &Asker<'_>, leaf: &mut Leaf, best: &mut Frozen) 
     let mut p = places(a);
     'places: while p > 0 {
         p -= 1;
-        if step(engine, a, leaf, best, p) {
+        if step(engine, a, leaf, best, zero, p) {
             return true;
         }
     }
@@ -179,7 +260,8 @@ fn add(alloc: Global, a: &Asker<'_>, best: &Frozen, list: &mut Vec<Frozen>) -> R
     Ok(())
 }
 
-/// All frozen dimensions by their codes, where they are at most `limit`.
+/// All frozen dimensions by their codes, where they are at most `limit`. It takes memory for the list, and for a note of
+/// each place.
 pub(crate) fn list(
     alloc: Global,
     engine: &mut Engine,
@@ -187,7 +269,7 @@ pub(crate) fn list(
     leaf: &mut Leaf,
     best: &mut Frozen,
     limit: usize,
-) -> Result<List<Frozen>, AllRefusal>
+) -> Result<List<Frozen>, Refusal<TooMany>>
     requires suited { IsSuited (task_of a.now) leaf.old (variables_of engine.old) }
     requires ready { IsReady (task_of a.now) engine.old }
     requires best { IsFor (task_of a.now) best.old }
@@ -199,21 +281,22 @@ pub(crate) fn list(
     ensures sized { IfOk result (λ list. All
         (λ f. IsSized a.now.question.graph.now a.now.question.candidates.now f.edges f.names) list) }
     ensures zero { IfOk result (λ list. All (λ f. IsZeroAtAll f.names) list) }
-    ensures too_many { result ≡ Err refusal.TooMany → AreMoreThan limit (schema_of (task_of a.now))
+    ensures too_many { IfErr result (IsRefusalFor (λ _. AreMoreThan limit (schema_of (task_of a.now))
         (task_of a.now).question.formula (task_of a.now).question.root
-        (candidates_of (task_of a.now).question.candidates) }
+        (candidates_of (task_of a.now).question.candidates))) }
     ensures best { IsFor (task_of a.now) best.new }
     ensures suited { IsSuited (task_of a.now) leaf.new (variables_of engine.new) }
     ensures ready { IsReady (task_of a.now) engine.new }
 {
+    let zero = always_zero(alloc, engine, a)?;
     let mut list = Vec::new(alloc);
     let mut more = least(engine, a, leaf, best);
     'listed: while more {
         if list.len() >= limit {
-            return Err(AllRefusal::TooMany);
+            return Err(Refusal::Kind(TooMany));
         }
         add(alloc, a, best, &mut list)?;
-        more = next(engine, a, leaf, best);
+        more = next(engine, a, leaf, best, &zero);
     }
     Ok(List::from_vec(list))
 }

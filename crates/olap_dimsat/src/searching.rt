@@ -1,14 +1,14 @@
 // The search as a value: room for one task.
-ghost use Rattle.std.specs.Prelude.{◌≡◌, ◌<◌, ◌≤◌, All, Err, IfOk, IsTrue, false, length, map, slice_set};
+ghost use Rattle.std.specs.Prelude.{◌≡◌, ◌<◌, ◌≤◌, All, IfErr, IfOk, IsTrue, false, length, map, slice_set};
 ghost use Rattle.olap_ast.specs.Constants.{all_comparisons, all_equalities};
 ghost use Rattle.olap_ast.specs.Questions.{NoneFrozen};
 ghost use Rattle.olap_ast.specs.Trees.{formula_of};
 ghost use Rattle.olap_ast.specs.Valid.{IsFormulaAt, pair_count};
 ghost use Rattle.olap_base.specs.Graph.{IsCategory};
 ghost use Rattle.olap_base.specs.Limits.{most_constants};
+ghost use Rattle.olap_base.specs.Refusing.{IsFor};
 ghost use Rattle.olap_dimsat.specs.Listed.{AreAllFrozen, AreMoreThan};
 ghost use Rattle.olap_dimsat.specs.OneFound.{IsOneFound};
-ghost use Rattle.olap_dimsat.specs.declared.searching.AllRefusal.TheVariants as refusal;
 ghost use Rattle.olap_dimsat.specs.Searches.{IsMadeWith, IsSizedFor, candidates_in, found_in, named_in, root_of};
 ghost use Rattle.olap_frozen.specs.LeastFound.{HasNothing, IsLeastFound, frozen_of};
 ghost use Rattle.olap_frozen.specs.Leaves.{IsSized, IsZeroAtAll};
@@ -20,7 +20,7 @@ use crate::listing::list;
 use crate::posing::pose;
 use crate::settling::least;
 use olap_ast::Formula;
-use olap_base::{CatId, List, Memory};
+use olap_base::{CatId, List, Memory, Refusal};
 use olap_clauses::Engine;
 use olap_encoding::Layout;
 use olap_frozen::Frozen;
@@ -41,24 +41,9 @@ pub struct Search {
     alloc: Global,
 }
 
-/// Why there is no list of all frozen dimensions.
+/// Why there is no list of all frozen dimensions: there are more than it may have.
 #[derive(Clone, Copy, PartialEq, Eq, Debug)]
-pub enum AllRefusal {
-    /// There are more than the list may have.
-    TooMany,
-    /// There is no room for the list.
-    Memory,
-}
-
-impl From<Memory> for AllRefusal {
-    ghost use Rattle.olap_dimsat.specs.declared.searching.AllRefusal.TheVariants as refusal;
-
-    ghost from_gives = { λ _ e. e ≡ refusal.Memory };
-
-    fn from(_: Memory) -> Self {
-        AllRefusal::Memory
-    }
-}
+pub struct TooMany;
 
 // Hands out what was found, with 0 as the index of `All`, and keeps what was brought in its place, at this root.
 fn hand_out(root: CatId, found: &mut Frozen, into: &mut Frozen)
@@ -170,13 +155,13 @@ impl Search {
 
     /// All frozen dimensions whose root makes the question true, by their codes, where they are at most `limit`.
     ///
-    /// `TooMany`: exactly where there are more. It takes memory for the list alone.
+    /// `TooMany`: exactly where there are more. It takes memory for the list, and for a note of each edge and category.
     pub fn all(
         &mut self,
         schema: &Schema,
         question: &Formula,
         limit: usize,
-    ) -> Result<List<Frozen>, AllRefusal>
+    ) -> Result<List<Frozen>, Refusal<TooMany>>
         requires made { IsMadeWith (schema_of schema.now) (formula_of question.now) self.old }
         ensures all { IfOk result (λ list. AreAllFrozen (schema_of schema.now) (formula_of question.now)
             (root_of self.old) (candidates_in self.old) (map frozen_of list)) }
@@ -185,8 +170,8 @@ impl Search {
         ensures sized { IfOk result (λ list. All
             (λ f. IsSized (schema_of schema.now).graph (named_in self.old) f.edges f.names) list) }
         ensures zero { IfOk result (λ list. All (λ f. IsZeroAtAll f.names) list) }
-        ensures too_many { result ≡ Err refusal.TooMany → AreMoreThan limit (schema_of schema.now)
-            (formula_of question.now) (root_of self.old) (candidates_in self.old) }
+        ensures too_many { IfErr result (IsFor (λ _. AreMoreThan limit (schema_of schema.now)
+            (formula_of question.now) (root_of self.old) (candidates_in self.old))) }
         ensures candidates { named_in self.new ≡ named_in self.old }
         ensures root { root_of self.new ≡ root_of self.old }
         ensures made { IsMadeWith (schema_of schema.now) (formula_of question.now) self.new }

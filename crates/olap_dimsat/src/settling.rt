@@ -188,8 +188,8 @@ pub(crate) fn keep(engine: &mut Engine, a: &Asker<'_>, best: &Frozen, p: u16)
     let _ = assume_at(engine, a, p, number);
 }
 
-// The literal that says that this number, and not 0, is at this place.
-fn literal_at(a: &Asker<'_>, p: u16, number: u16) -> Lit
+/// The literal that says that this number, and not 0, is at this place.
+pub(crate) fn literal_at(a: &Asker<'_>, p: u16, number: u16) -> Lit
     requires task { IsTask (task_of a.now) }
     requires place { IsPlace (task_of a.now) p }
     requires number { InRange (task_of a.now) p number }

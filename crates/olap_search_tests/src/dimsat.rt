@@ -6,8 +6,8 @@ ghost use Rattle.olap_dimsat.specs.Searches.{IsMadeWith};
 
 use crate::reading::read;
 use olap_ast::Formula;
-use olap_base::CatId;
-use olap_dimsat::{AllRefusal, Search};
+use olap_base::{CatId, Refusal};
+use olap_dimsat::{Search, TooMany};
 use olap_frozen::Frozen;
 use olap_schema::Schema;
 use std::alloc::Global;
@@ -99,7 +99,7 @@ fn all_are(
     schema: &Schema,
     limit: usize,
     codes: &[&[u8]],
-) -> Result<bool, AllRefusal>
+) -> Result<bool, Refusal<TooMany>>
     requires { IsMadeWith (schema_of schema.now) Meaning.Formula.Truth search.old }
     ensures { IsMadeWith (schema_of schema.now) Meaning.Formula.Truth search.new }
 {
@@ -133,7 +133,7 @@ fn all_and_least(
     text: &[u8],
     limit: usize,
     codes: &[&[u8]],
-) -> (Result<bool, AllRefusal>, Option<bool>) {
+) -> (Result<bool, Refusal<TooMany>>, Option<bool>) {
     let schema = read(rt, alloc, text);
     let mut search = search_in(rt, alloc, &schema);
     let all = all_are(&mut search, &schema, limit, codes);
@@ -153,14 +153,14 @@ type Case = (
     &'static [u8],
     usize,
     &'static [&'static [u8]],
-    Result<bool, AllRefusal>,
+    Result<bool, Refusal<TooMany>>,
     Option<bool>,
 );
 
 const CASES: [Case; 4] = [
     (PLACES, 7, &CHOICES, Ok(true), Some(true)),
-    (PLACES, 6, &[], Err(AllRefusal::TooMany), Some(true)),
-    (PLACES, 0, &[], Err(AllRefusal::TooMany), Some(true)),
+    (PLACES, 6, &[], Err(Refusal::Kind(TooMany)), Some(true)),
+    (PLACES, 0, &[], Err(Refusal::Kind(TooMany)), Some(true)),
     (IMPOSSIBLE, 0, &[], Ok(true), None),
 ];
 

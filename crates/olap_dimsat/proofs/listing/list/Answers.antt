@@ -1,17 +1,22 @@
-use Rattle.std.proofs.Common.{List, sym, subst, map, arith}
+use Rattle.std.proofs.Common.{◌≡◌, ◌<◌, ℕ, List, Bool, length, sym, subst, map, true, false, arith}
+use Rattle.std.specs.Prelude.{slice_index_or}
 use Rattle.olap_ast.specs.Frozen.{Frozen}
 use Rattle.std.proofs.lemmas.List.{length-map}
+use Rattle.olap_clauses.specs.Engines.{variables_of}
 use Rattle.olap_frozen.specs.declared.frozen.Frozen as kept
 use Rattle.olap_frozen.specs.LeastFound.{frozen_of}
 use Rattle.olap_names.specs.Names.{candidates_of}
 use Rattle.olap_dimsat.specs.Listed.{AreAllFrozen}
+use Rattle.olap_dimsat.specs.Following.{IsZeroAt}
+use Rattle.olap_dimsat.specs.Pinned.{IsPlace}
 use Rattle.olap_dimsat.specs.Tasks.{schema_of}
 use Rattle.olap_dimsat.specs.Asking.{task_of}
 use Rattle.olap_dimsat.proofs.ListedLemmas.{HasAll, IsAhead, IsFront, ahead_more, all_frozen, front_more, has_all, more_than}
+use Rattle.olap_dimsat.proofs.MadeLemmas.{suited_still}
 use Rattle.olap_dimsat.proofs.listing.list.Goals as goal
 
 pub returns-then-len-limit-clause-too_many : goal.returns-then-len-limit-clause-too_many
-returns-then-len-limit-clause-too_many c = λ e.
+returns-then-len-limit-clause-too_many c =
     let i = c.listed.invariant in
     more_than (task_of c.args.a.now) (map frozen_of c.listed.list.items) (frozen_of c.listed.best) c.args.limit
     c.requires.suited.task i.front (i.ahead c.listed-test.true)
@@ -20,11 +25,27 @@ returns-then-len-limit-clause-too_many c = λ e.
 
 pub least-more-requires : goal.least-more-requires
 least-more-requires c = record {
-  suited = c.requires.suited;
-  ready = c.requires.ready;
+  suited = suited_still (task_of c.args.a.now) c.args.leaf.now (variables_of c.args.engine.now)
+      (variables_of c.always_zero.new.engine) c.requires.suited c.always_zero.ensures.variables;
+  ready = c.always_zero.ensures.ready;
   best = c.requires.best;
+  empty = c.always_zero.ensures.empty;
+}
+
+pub always_zero-requires : goal.always_zero-requires
+always_zero-requires c = record {
+  task = c.requires.suited.task;
+  ready = c.requires.ready;
   empty = c.requires.empty;
 }
+
+pub returns-in_err-zero-clause-best : goal.returns-in_err-zero-clause-best
+returns-in_err-zero-clause-best c = c.requires.best
+
+pub returns-in_err-zero-clause-suited : goal.returns-in_err-zero-clause-suited
+returns-in_err-zero-clause-suited c =
+    suited_still (task_of c.args.a.now) c.args.leaf.now (variables_of c.args.engine.now)
+    (variables_of c.always_zero.new.engine) c.requires.suited c.always_zero.ensures.variables
 
 pub add-requires : goal.add-requires
 add-requires c =
@@ -42,6 +63,10 @@ next-more-requires c =
       ready = i.ready;
       best = i.best;
       one = (i.ahead c.listed-test.true).one;
+      zero = subst (λ (notes : List Bool). (q : ℕ) → slice_index_or notes q false ≡ true
+          → IsZeroAt (task_of c.args.a.now) q) (sym c.deref.ensures.value) c.in_ok-zero.ensures.zero;
+      count = subst (λ (notes : List Bool). (q : ℕ) → IsPlace (task_of c.args.a.now) q → q < length notes)
+          (sym c.deref.ensures.value) c.in_ok-zero.ensures.count;
     }
 
 pub listed-preserved : goal.listed-preserved

@@ -1,10 +1,28 @@
-use Rattle.std.proofs.Common.{refl, arith}
+use Rattle.std.proofs.Common.{◌≡◌, refl, subst, true, false, arith}
+use Rattle.std.specs.Prelude.{slice_index_or}
 use Rattle.olap_clauses.specs.Engines.{variables_of}
 use Rattle.olap_frozen.specs.Leaves.{chosen_of}
 use Rattle.olap_dimsat.specs.Asking.{task_of}
-use Rattle.olap_dimsat.proofs.FollowingLemmas.{next_of, none_full}
+use Rattle.olap_dimsat.proofs.FollowingLemmas.{next_of, none_full, none_zero}
 use Rattle.olap_dimsat.proofs.MadeLemmas.{suited_still}
 use Rattle.olap_dimsat.proofs.listing.step.Goals as goal
+
+pub bounds-zero-from : goal.bounds-zero-from
+bounds-zero-from c =
+    let e = c.from.ensures in let l = c.requires.count c.args.p c.requires.place in omega arith
+
+pub returns-then-passed-clause-none : goal.returns-then-passed-clause-none
+returns-then-passed-clause-none c = λ e.
+    let old = c.args.best.now in
+    none_zero (task_of c.args.a.now) c.args.p (chosen_of old.edges old.names)
+    (c.requires.zero c.args.p
+    (subst (λ n. slice_index_or c.args.zero.now n false ≡ true) c.from.ensures c.if-passed.true))
+
+pub returns-then-passed-clause-best : goal.returns-then-passed-clause-best
+returns-then-passed-clause-best c = c.requires.best
+
+pub returns-then-passed-clause-suited : goal.returns-then-passed-clause-suited
+returns-then-passed-clause-suited c = c.requires.suited
 
 pub returns-then-number-most-clause-none : goal.returns-then-number-most-clause-none
 returns-then-number-most-clause-none c = λ e.

@@ -4,5 +4,5 @@ use Rattle.olap_dimsat.proofs.settling.is_settled.Goals as goal
 
 pub returns-in-Yes : goal.returns-in-Yes
 returns-in-Yes c = λ _ f v one r a.
-    let q = c.literal_at.ensures.says f v one r (c.in-Yes.ensures.yes refl v a) in
+    let q = (c.literal_at.ensures.says f v one r).0 (c.in-Yes.ensures.yes refl v a) in
     let n = c.number_at-number.ensures.number in omega arith

@@ -3,7 +3,7 @@ use Rattle.std.proofs.Common.{◌≤◌, ◌+◌, ◌-◌, ◌∙◌, ap, sym, s
 use Rattle.std.specs.Prelude.{slice_index, true}
 use Rattle.olap_dimsat.specs.Asking.{task_of}
 use Rattle.olap_dimsat.specs.Tasks.{constant_count}
-use Rattle.olap_dimsat.proofs.SettleLemmas.{says_name}
+use Rattle.olap_dimsat.proofs.SettleLemmas.{says_edge, says_name}
 use Rattle.olap_dimsat.proofs.settling.literal_at.Goals as goal
 
 pub name-requires-clause-inside : goal.name-requires-clause-inside
@@ -19,6 +19,15 @@ name-requires-clause-inside c =
     let place = c.requires.place in
     let l = c.requires.task.laid.names at (c.from.result - 1) (omega arith) (omega arith) in
     let s = c.requires.task.laid.small in omega arith
+
+pub returns-then-p-edges : goal.returns-then-p-edges
+returns-then-p-edges c =
+    let e = c.edges-edges.ensures.count in
+    let inside = c.if-p-edges.true in
+    record {
+      says = says_edge (task_of c.args.a.now) c.args.p c.args.number c.on.result c.on.ensures (omega arith)
+          c.requires.positive (c.requires.number.edge (omega arith));
+    }
 
 pub returns-else-p-edges : goal.returns-else-p-edges
 returns-else-p-edges c =

@@ -1,7 +1,8 @@
 -- What is asked is the search's task.
 use Rattle.std.proofs.Common.{◌≡◌, List, refl, subst, map}
-use Rattle.std.specs.Prelude.{All, IfOk}
+use Rattle.std.specs.Prelude.{All, IfErr, IfOk}
 use Rattle.olap_ast.specs.Trees.{formula_of}
+use Rattle.olap_base.specs.Refusing.{IsFor}
 use Rattle.olap_frozen.specs.declared.frozen.Frozen.{Frozen}
 use Rattle.olap_frozen.specs.LeastFound.{frozen_of}
 use Rattle.olap_frozen.specs.Leaves.{IsSized}
@@ -38,10 +39,10 @@ returns-clause-sized c =
     c.list-listed.ensures.sized
 
 pub returns-clause-too_many : goal.returns-clause-too_many
-returns-clause-too_many c = λ e.
-    subst (λ (t : Task). AreMoreThan c.args.limit (schema_in t) t.question.formula t.question.root
-    (candidates_of t.question.candidates))
-    c.of-asker.ensures (c.list-listed.ensures.too_many e)
+returns-clause-too_many c =
+    subst (λ (t : Task). IfErr c.list-listed.result (IsFor (λ _. AreMoreThan c.args.limit (schema_in t)
+    t.question.formula t.question.root (candidates_of t.question.candidates))))
+    c.of-asker.ensures c.list-listed.ensures.too_many
 
 pub returns-clause-made : goal.returns-clause-made
 returns-clause-made c =

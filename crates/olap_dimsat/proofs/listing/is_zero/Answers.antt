@@ -1,0 +1,28 @@
+-- Each number but 0 is refuted.
+use Rattle.std.proofs.Common.{◌+◌, inl, inr, subst, sym, arith}
+use Rattle.olap_clauses.specs.Trails.{steps_of}
+use Rattle.olap_dimsat.specs.Asking.{task_of}
+use Rattle.olap_dimsat.specs.Pinned.{NoneAt}
+use Rattle.olap_dimsat.proofs.FollowingLemmas.{zero_left}
+use Rattle.olap_dimsat.proofs.SettleLemmas.{at_or_below}
+use Rattle.olap_dimsat.proofs.listing.is_zero.Goals as goal
+
+pub numbers-init : goal.numbers-init
+numbers-init c = λ x l h. absurd (omega arith)
+
+pub is_refuted-requires-clause-number : goal.is_refuted-requires-clause-number
+is_refuted-requires-clause-number c =
+    let h = c.numbers-test.true in c.most_at-most.ensures.in_range (c.numbers.x + 1) (omega arith)
+
+pub numbers-preserved : goal.numbers-preserved
+numbers-preserved c = λ x l h. elim (at_or_below x (c.numbers.x + 1) (omega arith)) [
+  | inl b ↦ c.numbers.invariant x l (omega arith)
+  | inr e ↦ subst (λ n. NoneAt (task_of c.args.a.now) c.args.p n (steps_of c.args.trail.now)) (sym e)
+      (c.is_refuted.ensures c.if-not-is_refuted.false)
+]
+
+pub returns : goal.returns
+returns c = λ _.
+    zero_left (task_of c.args.a.now) c.args.p c.most_at-most.result (steps_of c.args.trail.now) c.requires.place
+    c.most_at-most.ensures.most
+    (λ x l h. c.numbers.invariant x l (let b = c.numbers-test.false in omega arith))
