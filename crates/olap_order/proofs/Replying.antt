@@ -2,11 +2,13 @@
 --     done         a reply that is done
 --     refusing     a refusal that answers a question
 --     told_shown   what is told is told
-use Rattle.std.proofs.Common.{◌≡◌, ℕ, List, Ok, Err, subst, sym}
+--     replies_no_memory   out of memory answers any question
+use Rattle.std.proofs.Common.{◌≡◌, ℕ, List, Result, Ok, Err, subst, sym}
+use Rattle.std.specs.Result.{IsErrAnd}
 use Rattle.olap_order.specs.Judged.{IsVerdict, Replies}
 use Rattle.olap_order.specs.Order.{Order, Done, Told}
 use Rattle.olap_order.specs.Outputs.{refusal}
-use Rattle.olap_order.specs.Refusals.{IsRefusal}
+use Rattle.olap_order.specs.Refusals.{IsOutOfMemory, IsRefusal}
 use Rattle.olap_order.specs.declared.replies.Reply.{Reply}
 use Rattle.olap_order.specs.declared.replies.Stop.{Stop}
 use Rattle.olap_order.specs.declared.replies.Stop.TheVariants as stops
@@ -33,11 +35,19 @@ module _ {Q : Type 0} {answers : Q → Status → List ℕ → Type 0} where
     unread = λ e. absurd (cc);
   }
   refusing q why answer stops.Read is = absurd is
-  refusing q why answer stops.Memory is = record {
+  refusing q why answer (stops.Memory m) is = record {
     right = tt;
     verdict = tt;
     unread = λ e. absurd (cc);
   }
+
+  -- out of memory answers any question
+  pub replies_no_memory : {order : Order Q} (result : Result Reply Stop) → IsErrAnd result IsOutOfMemory
+      → Replies answers order result
+  replies_no_memory (Ok reply) is = absurd is
+  replies_no_memory (Err (stops.Refused bytes)) is = absurd is
+  replies_no_memory (Err stops.Read) is = absurd is
+  replies_no_memory (Err (stops.Memory m)) is = record { right = tt; verdict = tt; unread = λ e. absurd (cc) }
 
   -- what is told is told
   pub told_shown : (text : List ℕ) (reply : Reply) → reply.status ≡ Yes → reply.bytes.items ≡ text

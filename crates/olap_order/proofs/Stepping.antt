@@ -20,7 +20,7 @@ pub replied : (result : Result Reply Stop) {P R : Status → List ℕ → Type 0
 replied (Ok reply) f p = f reply.status reply.bytes.items p
 replied (Err (stops.Refused bytes)) f p = f statuses.Refused bytes.items p
 replied (Err stops.Read) f p = tt
-replied (Err stops.Memory) f p = tt
+replied (Err (stops.Memory m)) f p = tt
 
 -- the count rose since an earlier state too
 rose : (a b c : ℕ) → a ≤ b → Rose b c → Rose a c

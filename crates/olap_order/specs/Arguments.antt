@@ -1,6 +1,6 @@
 -- Orders by the words after a command's name. Fewer or more words than it takes are no command, and have no order.
 --     by_one, by_two, by_three, by_four   so many words
---     by_two_or_more                      two words, and any number after them
+--     by_two_or_more, by_three_or_more    so many words, and any number after them
 use Rattle.std.specs.Prelude.{ℕ, List, [], ◌∷◌, Option, None, Some}
 use Rattle.olap_order.specs.Order.{Order}
 
@@ -29,3 +29,9 @@ abbrev pub by_two_or_more : {Q : Type 0} → (List ℕ → List ℕ → List (Li
     → Option (Order Q)
 by_two_or_more order (a ∷ b ∷ more) = Some (order a b more)
 by_two_or_more order words = None
+
+-- by three, and those after them
+abbrev pub by_three_or_more : {Q : Type 0} → (List ℕ → List ℕ → List ℕ → List (List ℕ) → Order Q) → List (List ℕ)
+    → Option (Order Q)
+by_three_or_more order (a ∷ b ∷ c ∷ more) = Some (order a b c more)
+by_three_or_more order words = None

@@ -4,6 +4,7 @@
 --     IsBlamed, IsStuckTold   the order explains what a library was last asked for
 --     ReadCause               a refusal of the library has its cause
 --     IsVerdict               a status that a command may answer with
+--     RanOutOfMemory          the status of a run that ran out of memory
 --     Replied                 so it is of the status and the bytes of a result, if it has some
 --     IsLater                 the library after some calls
 --     Judged                  what a command answers, along its order
@@ -58,6 +59,11 @@ IsVerdict statuses.Yes = ⊤
 IsVerdict statuses.No = ⊤
 IsVerdict statuses.Refused = ⊤
 IsVerdict status = ⊥
+
+-- memory ran out
+abbrev pub RanOutOfMemory : Status → Type 0
+RanOutOfMemory (statuses.Memory m) = ⊤
+RanOutOfMemory status = ⊥
 
 -- so it is of the status and the bytes of the reply, if there is one
 abbrev pub Replied : Result Reply Stop → (Status → List ℕ → Type 0) → Type 0

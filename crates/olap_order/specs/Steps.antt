@@ -8,8 +8,8 @@ use Rattle.std.specs.Prelude.{ℕ, zero, suc, List, [], ◌∷◌, ◌++◌, ◌
 use Rattle.std.specs.Fmt.{decimal}
 use Rattle.std.specs.List.{list_any}
 use Rattle.olap_base.specs.Graph.{Graph}
-use Rattle.olap_base.specs.Limits.{most_file_bytes}
-use Rattle.olap_base.specs.Naming.{Fault}
+use Rattle.olap_base.specs.Limits.{most_schema_bytes}
+use Rattle.olap_base.specs.declared.refusals.Fault.{Fault}
 use Rattle.olap_ast.specs.Formula.{Formula}
 use Rattle.olap_ast.specs.Schema.{Schema}
 use Rattle.olap_graph.specs.Lookups.{category_named}
@@ -63,10 +63,10 @@ different_words twice g at earlier (name ∷ names) = and_then (another_word twi
 
 -- ---- files, each under its label
 
--- the text of a file that isn't too long
-abbrev pub text_file : List ℕ → List ℕ → Order (List ℕ)
-text_file label file = Read file (λ text.
-    if nat_lt most_file_bytes (length text) then refused (label ++ codes " TooLong") else Done text)
+-- the text of a file, which has no more bytes than that
+abbrev pub text_file : List ℕ → ℕ → List ℕ → Order (List ℕ)
+text_file label most file = Read file (λ text.
+    if nat_lt most (length text) then refused (label ++ codes " TooLong") else Done text)
 
 -- a line or record of the file with that label, and the name of its fault
 abbrev pub part_text : List ℕ → List ℕ → ℕ → List ℕ → List ℕ
@@ -79,5 +79,5 @@ meaning_or_fault label part name (Err fault) = refused (part_text label part fau
 
 -- the schema in a file
 abbrev pub schema_file : List ℕ → List ℕ → Order Schema
-schema_file label file = and_then (text_file label file) (λ text.
+schema_file label file = and_then (text_file label most_schema_bytes file) (λ text.
     meaning_or_fault label (codes "line") schema_kind (schema_read text))

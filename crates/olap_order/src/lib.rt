@@ -11,6 +11,6 @@ mod replies;
 mod status;
 
 pub use naming::{categories_at, category_at, formula_at, root_at};
-pub use reading::{read_file, schema_in};
+pub use reading::{read_file, schema_in, text_in};
 pub use replies::{Reply, Stop, no, refuse, refuse_at, refuse_long, refuse_part, yes};
 pub use status::Status;

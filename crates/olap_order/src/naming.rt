@@ -14,9 +14,9 @@ ghost use Rattle.olap_order.specs.Words.{texts};
 
 use crate::replies::{Stop, refuse_at};
 use olap_ast::Formula;
-use olap_base::CatId;
+use olap_base::{CatId, Refusal};
 use olap_schema::Schema;
-use olap_schema_text::{FormulaRefusal, read_formula};
+use olap_schema_text::read_formula;
 use std::alloc::Global;
 
 /// The category that the word of this number names.
@@ -60,8 +60,8 @@ pub fn formula_at(
 {
     match read_formula(alloc, schema, root, text.as_bytes()) {
         Ok(formula) => Ok(formula),
-        Err(FormulaRefusal::Memory) => Err(Stop::Memory),
-        Err(FormulaRefusal::Fault(kind)) => Err(refuse_at(alloc, "word", at, kind.name())),
+        Err(Refusal::Kind(kind)) => Err(refuse_at(alloc, "word", at, kind.name())),
+        Err(Refusal::Memory(memory)) => Err(Stop::Memory(memory)),
     }
 }
 

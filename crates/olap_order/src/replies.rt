@@ -1,8 +1,7 @@
 // Replies, and why a run ends before its question is asked.
 ghost use Rattle.std.specs.Prelude.{◌≡◌, ◌++◌, codes};
-ghost use Rattle.olap_order.specs.Refusals.{IsRefusal};
+ghost use Rattle.olap_order.specs.Refusals.{IsOutOfMemory, IsRefusal};
 ghost use Rattle.olap_order.specs.Steps.{fault_text, part_text};
-ghost use Rattle.olap_order.specs.declared.replies.Stop.TheVariants as stop;
 
 use crate::Status;
 use olap_base::Memory;
@@ -23,30 +22,30 @@ pub enum Stop {
     /// The library refused.
     Read,
     /// Out of memory.
-    Memory,
-}
-
-impl<T: Drop> From<AllocFailed<T>> for Stop {
-    ghost from_gives = { λ _ e. e ≡ stop.Memory };
-
-    fn from(_: AllocFailed<T>) -> Self {
-        Stop::Memory
-    }
+    Memory(Memory),
 }
 
 impl From<Memory> for Stop {
-    ghost from_gives = { λ _ e. e ≡ stop.Memory };
+    ghost from_gives = { λ _ e. IsOutOfMemory e };
 
-    fn from(_: Memory) -> Self {
-        Stop::Memory
+    fn from(memory: Memory) -> Self {
+        Stop::Memory(memory)
     }
 }
 
 impl From<AllocError> for Stop {
-    ghost from_gives = { λ _ e. e ≡ stop.Memory };
+    ghost from_gives = { λ _ e. IsOutOfMemory e };
 
-    fn from(_: AllocError) -> Self {
-        Stop::Memory
+    fn from(refused: AllocError) -> Self {
+        Stop::Memory(Memory::from(refused))
+    }
+}
+
+impl<T: Drop> From<AllocFailed<T>> for Stop {
+    ghost from_gives = { λ _ e. IsOutOfMemory e };
+
+    fn from(refused: AllocFailed<T>) -> Self {
+        Stop::Memory(Memory::from(refused))
     }
 }
 
@@ -78,7 +77,7 @@ pub fn refuse(alloc: Global, why: &str) -> Stop
 {
     match format!(in alloc; "refused {why}\n") {
         Ok(text) => Stop::Refused(text.into_bytes()),
-        Err(_) => Stop::Memory,
+        Err(refused) => Stop::from(refused),
     }
 }
 
@@ -88,7 +87,7 @@ pub fn refuse_long(alloc: Global, label: &str) -> Stop
 {
     match format!(in alloc; "refused {label} TooLong\n") {
         Ok(text) => Stop::Refused(text.into_bytes()),
-        Err(_) => Stop::Memory,
+        Err(refused) => Stop::from(refused),
     }
 }
 
@@ -98,7 +97,7 @@ pub fn refuse_part(alloc: Global, label: &str, part: &str, at: u64, fault: &str)
 {
     match format!(in alloc; "refused {label} {part} {at} {fault}\n") {
         Ok(text) => Stop::Refused(text.into_bytes()),
-        Err(_) => Stop::Memory,
+        Err(refused) => Stop::from(refused),
     }
 }
 
@@ -108,6 +107,6 @@ pub fn refuse_at(alloc: Global, place: &str, at: u64, fault: &str) -> Stop
 {
     match format!(in alloc; "refused {place} {at} {fault}\n") {
         Ok(text) => Stop::Refused(text.into_bytes()),
-        Err(_) => Stop::Memory,
+        Err(refused) => Stop::from(refused),
     }
 }

@@ -1,4 +1,5 @@
 // How a run ends.
+use olap_base::Memory;
 
 /// How a run ends. `Yes`, `No`, `Usage` and `Refused` are answers of the words and the files; the others say
 /// why there is no answer.
@@ -16,6 +17,6 @@ pub enum Status {
     ReadFault,
     /// The output couldn't be written whole.
     WriteFault,
-    /// Memory was refused. Nothing was written.
-    Memory,
+    /// Out of memory. Nothing was written.
+    Memory(Memory),
 }
