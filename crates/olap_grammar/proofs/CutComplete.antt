@@ -2,7 +2,7 @@
 use Rattle.std.proofs.Common.{◌≡◌, ◌==◌, ℕ, Bool, true, false, arith, List, [], ◌∷◌, ◌++◌, refl, Some, append_assoc, append-nil, ap, ◌∙◌}
 use Rattle.std.specs.List.{fold}
 use Rattle.std.specs.Char.{is_ascii_digit}
-use Rattle.olap_grammar.specs.Cutting.{is_word_byte, AreWordBytes, EndsWord, mark_bytes, EndsDash, EndsLess, EndsMark, IsMarkIn, Spells, nothing, quote, backslash, other, IsCut, end, blank, tab, word, quoted, signed, marked}
+use Rattle.olap_grammar.specs.Cutting.{is_word_byte, AreWordBytes, EndsWord, mark_bytes, EndsDash, EndsLess, EndsMark, IsMarkIn, Spells, nothing, quote, slash, other, IsCut, end, blank, tabbed, word, quoted, signed, marked}
 use Rattle.olap_grammar.specs.CuttingMachine.{Between, InWord, InQuotes, InSigned, Dash, Less, LessDash, cut_step, cut_ended, tokens_of}
 use Rattle.olap_grammar.specs.declared.tokens.Token.{Token}
 use Rattle.olap_grammar.specs.declared.tokens.Token.TheVariants as token
@@ -98,7 +98,7 @@ quotes_end : {body k : List ℕ} → Spells body k → (v : Version) (ts : List 
 quotes_end nothing v ts start bs = rw append-nil refl
 quotes_end (quote {k = k} d) v ts start bs = let e : (start ++ 34 ∷ []) ++ k ≡ start ++ 34 ∷ k =
     simp append_assoc in rw e at (quotes_end d v ts (start ++ 34 ∷ []) bs)
-quotes_end (backslash {k = k} d) v ts start bs = let e : (start ++ 92 ∷ []) ++ k ≡ start ++ 92 ∷ k =
+quotes_end (slash {k = k} d) v ts start bs = let e : (start ++ 92 ∷ []) ++ k ≡ start ++ 92 ∷ k =
     simp append_assoc in rw e at (quotes_end d v ts (start ++ 92 ∷ []) bs)
 quotes_end (other {b = b} {bs = body} {k = k} p q d) v ts start bs = let e : (start ++ b ∷ []) ++ k ≡ start ++ b ∷ k =
     simp append_assoc in ap (λ s. fold (cut_step v) s (body ++ 34 ∷ bs)) (in_quotes v ts start b p q)
@@ -109,7 +109,7 @@ cut_on : {v : Version} {line : List ℕ} {ts : List Token} → IsCut v line ts �
     → cut_ended v (fold (cut_step v) (Between done) line) ≡ Some (done ++ ts)
 cut_on end done = rw append-nil refl
 cut_on (blank d) done = cut_on d done
-cut_on (tab d) done = cut_on d done
+cut_on (tabbed d) done = cut_on d done
 cut_on {v = v} (word b w {bs = bs} {ts = ts} h n d) done =
     let e : (done ++ token.Word (b ∷ w) ∷ []) ++ ts ≡ done ++ token.Word (b ∷ w) ∷ ts = simp append_assoc in
     ap (λ s. cut_ended v (fold (cut_step v) s (w ++ bs))) (begins_word v done b h.0)

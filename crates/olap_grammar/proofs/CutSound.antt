@@ -3,7 +3,7 @@ use Rattle.std.proofs.Common.{◌≡◌, ◌==◌, ◌⊎◌, ◌&&◌, inl, inr
 use Rattle.std.specs.List.{fold}
 use Rattle.std.specs.Char.{is_ascii_digit}
 use Rattle.olap_base.proofs.ListLemmas.{first_true, second_true}
-use Rattle.olap_grammar.specs.Cutting.{is_word_byte, AreWordBytes, EndsWord, mark_bytes, EndsMark, IsMarkIn, Spells, nothing, quote, backslash, other, IsCut, end, blank, tab, word, quoted, signed, marked}
+use Rattle.olap_grammar.specs.Cutting.{is_word_byte, AreWordBytes, EndsWord, mark_bytes, EndsMark, IsMarkIn, Spells, nothing, quote, slash, other, IsCut, end, blank, tabbed, word, quoted, signed, marked}
 use Rattle.olap_grammar.specs.CuttingMachine as machine
 use Rattle.olap_grammar.specs.Cutting.{has_numbers}
 use Rattle.olap_grammar.specs.CuttingMachine.{Cut, Between, InWord, InQuotes, Escaped, InSigned, Dash, Less, LessDash, Stuck, after_dash, after_less, between, mark_of, cut_step, cut_ended, tokens_of}
@@ -155,7 +155,7 @@ between_gives v ts b bs all =
     (λ n. choose P Q (b == 32) _ _
     (λ e h. rw (same_byte b 32 e) (record { later = h.later; whole = h.whole; cut = blank h.cut }))
     (λ n. choose P Q (b == 9) _ _
-    (λ e h. rw (same_byte b 9 e) (record { later = h.later; whole = h.whole; cut = tab h.cut }))
+    (λ e h. rw (same_byte b 9 e) (record { later = h.later; whole = h.whole; cut = tabbed h.cut }))
     (λ n. choose P Q (b == 34) _ _
     (λ e h. rw (same_byte b 34 e, h.line)
     (record {
@@ -274,7 +274,7 @@ step_gives v (InQuotes ts k) b bs all h =
           rest = h.rest;
           line = rw
               (e, l, q, h.line) refl;
-          spelt = backslash h.spelt;
+          spelt = slash h.spelt;
           follows =
               let same : (k ++ c ∷ []) ++ h.text ≡ k ++ 92 ∷ h.text = rw q (simp append_assoc) in
               rw same at h.follows;

@@ -4,11 +4,13 @@ use Rattle.std.specs.List.{fold}
 use Rattle.olap_grammar.specs.Cutting.{IsCut}
 use Rattle.olap_grammar.specs.CuttingMachine.{tokens_of}
 use Rattle.olap_grammar.specs.Keeping.{Between, Going, Kept, Stuck, kept_step, kept_tokens, nothing_kept}
-use Rattle.olap_grammar.specs.Cutter.{CutsTo, FailsWith}
+use Rattle.olap_grammar.specs.Cutter.{FailsWith}
 use Rattle.olap_grammar.specs.declared.tokens.Token.{Token}
 use Rattle.olap_grammar.specs.declared.tokens.Version.{Version}
-use Rattle.olap_grammar.specs.declared.refusals.CutRefusal.{CutRefusal}
-use Rattle.olap_grammar.specs.declared.refusals.CutRefusal.TheVariants as refusal
+use Rattle.olap_base.specs.Refusing.{IsFor}
+use Rattle.olap_base.specs.declared.refusals.Refusal.{Refusal}
+use Rattle.olap_base.specs.declared.refusals.Refusal.TheVariants as refusal
+use Rattle.olap_grammar.specs.declared.refusals.NoTokens.{NoTokens}
 use Rattle.olap_grammar.proofs.CutComplete.{cut_is_found}
 
 -- a machine that is stuck stays so
@@ -17,14 +19,14 @@ stays_stuck v [] = refl
 stays_stuck v (b ∷ bs) = stays_stuck v bs
 
 -- where a step fails, the line can't be cut
-pub cut_fails : (v : Version) (e : CutRefusal) (old k : Kept) (next : Going) (word line bs : List ℕ)
-    → fold (kept_step v) (Between old) line ≡ fold (kept_step v) next bs → CutsTo (Err e) word k next
+pub cut_fails : (v : Version) (e : Refusal NoTokens) (old : Kept) (next : Going) (line bs : List ℕ)
+    → fold (kept_step v) (Between old) line ≡ fold (kept_step v) next bs → IsFor (λ _. next ≡ Stuck) e
     → (most : ℕ) → old ≡ nothing_kept most → FailsWith e (kept_tokens v most line)
 unfolding kept_tokens
-cut_fails v refusal.BadForm old k next word line bs i h most z =
+cut_fails v (refusal.Kind r) old next line bs i h most z =
     let j : fold (kept_step v) (Between (nothing_kept most)) line ≡ fold (kept_step v) next bs = rw z at i in
     rw (j, h, stays_stuck v bs) refl
-cut_fails v refusal.Memory old k next word line bs i h most z = tt
+cut_fails v (refusal.Memory m) old next line bs i h most z = tt
 
 -- a line has one cut, since the machine finds each
 pub one_cut : (v : Version) (line : List ℕ) (ts us : List Token) → IsCut v line ts → IsCut v line us → ts ≡ us

@@ -18,8 +18,9 @@ use Rattle.olap_grammar.specs.Keeping as keeping
 use Rattle.olap_grammar.specs.Keeping.{Begins, BeginsFound, Going, IsTallyOf, Kept, keep, kept_tokens, nothing_kept}
 use Rattle.olap_grammar.specs.Tallying.{tallied}
 use Rattle.olap_grammar.specs.declared.tallying.Tally.{Tally}
-use Rattle.olap_grammar.specs.declared.refusals.CutRefusal.{CutRefusal}
-use Rattle.olap_grammar.specs.declared.refusals.CutRefusal.TheVariants as refusal
+use Rattle.olap_base.specs.declared.refusals.Refusal.{Refusal}
+use Rattle.olap_base.specs.declared.refusals.Refusal.TheVariants as refusal
+use Rattle.olap_grammar.specs.declared.refusals.NoTokens.{NoTokens}
 use Rattle.olap_grammar.specs.declared.tokens.Token.{Token}
 use Rattle.olap_grammar.specs.declared.tokens.Token.TheVariants as token
 use Rattle.olap_grammar.specs.declared.tokens.Mark.{Mark}
@@ -242,11 +243,11 @@ same-most v most line k e = go (tokens_of v line) (sym (kept-is v most line) ∙
         ap (λ (j : Kept). j.most) (sym same) ∙ most-on v ts (nothing_kept most)
 
 -- and a line that can't be cut has none
-pub fails : (v : Version) (most : ℕ) (line : List ℕ) (e : CutRefusal) → FailsWith e (kept_tokens v most line)
+pub fails : (v : Version) (most : ℕ) (line : List ℕ) (e : Refusal NoTokens) → FailsWith e (kept_tokens v most line)
     → FailsWith e (tokens_of v line)
-fails v most line refusal.BadForm h = go (tokens_of v line) (sym (kept-is v most line) ∙ h)
+fails v most line (refusal.Kind r) h = go (tokens_of v line) (sym (kept-is v most line) ∙ h)
   where
     go : (o : Option (List Token)) → option_map (summary v most) o ≡ None → o ≡ None
     go None f = refl
     go (Some ts) f = cc
-fails v most line refusal.Memory h = tt
+fails v most line (refusal.Memory m) h = tt

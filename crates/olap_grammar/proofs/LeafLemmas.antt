@@ -11,12 +11,13 @@ use Rattle.olap_ast.specs.Formula as Meaning
 use Rattle.olap_ast.specs.Formula.{Formula}
 use Rattle.olap_ast.specs.Valid.{depth_of}
 use Rattle.olap_base.specs.Limits.{most_depth}
-use Rattle.olap_grammar.specs.Answering.{IsRefusal, formula_answer}
+use Rattle.olap_grammar.specs.Answering.{formula_answer}
 use Rattle.olap_grammar.specs.Clip.{AreLeaves, clip}
 use Rattle.olap_grammar.specs.Reader.{Built, ReadsNone}
-use Rattle.olap_grammar.specs.declared.refusals.FormRefusal.{FormRefusal}
+use Rattle.olap_base.specs.declared.refusals.Refusal.TheVariants as refusal
+use Rattle.olap_grammar.specs.declared.refusals.FormFault.TheVariants as fault
+use Rattle.olap_grammar.specs.declared.refusals.NoFormula.{NoFormula}
 use Rattle.olap_grammar.specs.Words.{atoms_of, compared_of, comparison_in, comparison_of, equal_of, equality_of, id_of, is_number_token, path_of, pieces_of, plain_of, reach_of}
-use Rattle.olap_grammar.specs.declared.refusals.FormRefusal.TheVariants as refusal
 use Rattle.olap_grammar.specs.declared.tokens.Version.{Version}
 use Rattle.olap_grammar.specs.declared.tokens.Version.TheVariants as version
 
@@ -108,12 +109,12 @@ built g b d f p = cc
 
 -- a greater depth says that the formula is too deep
 pub too_deep : (o : Option Formula) (d : ℕ) (f : Formula) → option_map clip o ≡ Some (d, f) → most_depth < d
-    → formula_answer o ≡ Err refusal.TooDeep
+    → formula_answer o ≡ Err fault.TooDeep
 too_deep None d f e h = absurd cc
 too_deep (Some g) d f e h = go (nat_le (depth_of g) most_depth) refl e
   where
     go : (b : Bool) → nat_le (depth_of g) most_depth ≡ b → Some (chosen b g) ≡ Some (d, f)
-        → formula_answer (Some g) ≡ Err refusal.TooDeep
+        → formula_answer (Some g) ≡ Err fault.TooDeep
     go true q p =
         let s : depth_of g ≡ d = ap (λ (r : Built). r.0) (built g true d f p) in
         let l : depth_of g ≤ most_depth = grind (arith, q) in
@@ -132,13 +133,11 @@ not_deep (Some g) d f e h = go (nat_le (depth_of g) most_depth) refl e
     go false q p = let s : suc most_depth ≡ d = ap (λ (r : Built). r.0) (built g false d f p) in absurd (omega arith)
 
 -- and nothing that there is none
-pub no_formula : (o : Option Formula) → option_map clip o ≡ None → formula_answer o ≡ Err refusal.BadForm
+pub no_formula : (o : Option Formula) → option_map clip o ≡ None → formula_answer o ≡ Err fault.BadForm
 no_formula None e = refl
 no_formula (Some f) e = absurd cc
 
 -- so a refusal is that of the tokens
-pub refused : (o : Option Formula) (read : Option Built) (e : FormRefusal) → read ≡ option_map clip o
-    → ReadsNone e read → IsRefusal e (formula_answer o)
-refused o read refusal.BadForm q h = no_formula o (sym q ∙ h)
-refused o read refusal.TooDeep q h = absurd h
-refused o read refusal.Memory q h = tt
+pub refused : (o : Option Formula) (read : Option Built) (r : NoFormula) → read ≡ option_map clip o
+    → ReadsNone (refusal.Kind r) read → formula_answer o ≡ Err fault.BadForm
+refused o read r q h = no_formula o (sym q ∙ h)

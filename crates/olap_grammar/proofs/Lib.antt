@@ -9,6 +9,7 @@ pub mod CutComplete
 pub mod CutSound
 mod CutterLemmas
 mod TallyLemmas
+mod RoomLemmas
 mod KeepingLemmas
 mod StackLemmas
 pub mod ReaderLemmas

@@ -1,14 +1,16 @@
 -- From the reader to formulas.
-use Rattle.std.proofs.Common.{◌≡◌, List, [], ◌∷◌, refl, Some, Err}
+use Rattle.std.proofs.Common.{◌≡◌, List, [], ◌∷◌, refl, Some}
 use Rattle.std.specs.List.{fold}
 use Rattle.olap_ast.specs.Formula as Meaning
 use Rattle.olap_grammar.specs.Clip.{clipped}
 use Rattle.olap_grammar.specs.Grammar.{Atoms, IsFormula}
-use Rattle.olap_grammar.specs.Machine.{Frame, State, Bad, step, ended, the_formula}
-use Rattle.olap_grammar.specs.Reader.{Built, GoesTo, ReadsNone}
+use Rattle.olap_grammar.specs.Machine.{State, Bad, step, ended, the_formula}
+use Rattle.olap_grammar.specs.Reader.{Built, ReadsNone}
 use Rattle.olap_grammar.specs.declared.tokens.Token.{Token}
-use Rattle.olap_grammar.specs.declared.refusals.FormRefusal.{FormRefusal}
-use Rattle.olap_grammar.specs.declared.refusals.FormRefusal.TheVariants as refusal
+use Rattle.olap_base.specs.Refusing.{IsFor}
+use Rattle.olap_base.specs.declared.refusals.Refusal.{Refusal}
+use Rattle.olap_base.specs.declared.refusals.Refusal.TheVariants as refusal
+use Rattle.olap_grammar.specs.declared.refusals.NoFormula.{NoFormula}
 use Rattle.olap_grammar.proofs.Complete.{formula_is_read}
 use Rattle.olap_grammar.proofs.Sound.{read_is_formula}
 
@@ -38,8 +40,7 @@ stays_bad a [] = refl
 stays_bad a (t ∷ ts) = stays_bad a ts
 
 -- where a step fails, there is no formula
-pub fails : (a : Atoms Built) (e : FormRefusal) (f : Built) (s : List (Frame Built)) (next : State Built)
-    (ts : List Token) → GoesTo (Err e) f s next → ReadsNone e (ended clipped a (fold (step clipped a) next ts))
-fails a refusal.BadForm f s next ts h = rw (h, stays_bad a ts) refl
-fails a refusal.TooDeep f s next ts h = h
-fails a refusal.Memory f s next ts h = tt
+pub fails : (a : Atoms Built) (e : Refusal NoFormula) (next : State Built) (ts : List Token)
+    → IsFor (λ _. next ≡ Bad) e → ReadsNone e (ended clipped a (fold (step clipped a) next ts))
+fails a (refusal.Kind r) next ts h = rw (h, stays_bad a ts) refl
+fails a (refusal.Memory m) next ts h = tt

@@ -4,13 +4,14 @@
 --     FailsWith          a refusal is right where nothing was found
 --     CutEnds            the end of the line leaves what was found
 use Rattle.std.specs.Prelude.{◌≡◌, ℕ, List, Result, Ok, Err, Option, Some, None}
+use Rattle.olap_base.specs.Refusing.{IsFor}
+use Rattle.olap_base.specs.declared.refusals.Refusal.{Refusal}
 use Rattle.olap_grammar.specs.Keeping as keeping
 use Rattle.olap_grammar.specs.Keeping.{Kept}
 use Rattle.olap_grammar.specs.declared.cutting.Begun.{Begun}
 use Rattle.olap_grammar.specs.declared.cutting.Begun.TheVariants as begun
 use Rattle.olap_grammar.specs.declared.cutting.FirstTokens.{FirstTokens}
-use Rattle.olap_grammar.specs.declared.refusals.CutRefusal.{CutRefusal}
-use Rattle.olap_grammar.specs.declared.refusals.CutRefusal.TheVariants as refusal
+use Rattle.olap_grammar.specs.declared.refusals.NoTokens.{NoTokens}
 
 -- what the first tokens are, as what is kept
 abbrev pub kept_of : FirstTokens → Kept
@@ -28,17 +29,15 @@ cut_of begun.Less bs k = keeping.Going.Less k
 cut_of begun.LessDash bs k = keeping.Going.LessDash k
 
 -- the cutter goes on to the state, or is stuck
-abbrev pub CutsTo : Result Begun CutRefusal → List ℕ → Kept → keeping.Going → Type 0
+abbrev pub CutsTo : Result Begun (Refusal NoTokens) → List ℕ → Kept → keeping.Going → Type 0
 CutsTo (Ok begun) bs k next = next ≡ cut_of begun bs k
-CutsTo (Err refusal.BadForm) bs k next = next ≡ keeping.Going.Stuck
-CutsTo (Err refusal.Memory) bs k next = Unit {0}
+CutsTo (Err e) bs k next = IsFor (λ _. next ≡ keeping.Going.Stuck) e
 
--- there are no tokens, or memory is short
-abbrev pub FailsWith : {A : Type 0} → CutRefusal → Option A → Type 0
-FailsWith refusal.BadForm found = found ≡ None
-FailsWith refusal.Memory found = Unit {0}
+-- there are no tokens, or the refusal is out of memory
+abbrev pub FailsWith : {A : Type 0} → Refusal NoTokens → Option A → Type 0
+FailsWith e found = IsFor (λ _. found ≡ None) e
 
 -- what is kept is what was found, or there is none
-abbrev pub CutEnds : {A : Type 0} → Result A CutRefusal → Kept → Option Kept → Type 0
+abbrev pub CutEnds : {A : Type 0} → Result A (Refusal NoTokens) → Kept → Option Kept → Type 0
 CutEnds (Ok u) k found = found ≡ Some k
 CutEnds (Err e) k found = FailsWith e found

@@ -7,6 +7,7 @@
 --     IsCut                 the tokens that a line is cut into
 use Rattle.std.specs.Prelude.{◌≡◌, ◌==◌, ◌||◌, ℕ, Bool, true, false, List, [], ◌∷◌, ◌++◌, codes}
 use Rattle.std.specs.Char.{is_ascii_alphanumeric, is_ascii_digit}
+use Rattle.olap_base.specs.Bytes.{backslash, equals_sign, full_stop, greater_than_sign, hyphen, quotation_mark, space, tab, underscore}
 use Rattle.olap_grammar.specs.declared.tokens.Token.{Token}
 use Rattle.olap_grammar.specs.declared.tokens.Token.TheVariants as token
 use Rattle.olap_grammar.specs.declared.tokens.Mark.{Mark}
@@ -18,7 +19,7 @@ use Rattle.olap_grammar.specs.declared.tokens.Version.TheVariants as version
 
 -- a letter, a digit, `_` or `.`
 abbrev pub is_word_byte : ℕ → Bool
-is_word_byte b = is_ascii_alphanumeric b || (b == 95) || (b == 46)
+is_word_byte b = is_ascii_alphanumeric b || (b == underscore) || (b == full_stop)
 
 -- all are bytes of words
 abbrev pub AreWordBytes : List ℕ → Type 0
@@ -64,12 +65,12 @@ IsMarkIn m v = Unit {0}
 -- no arrow ends here
 abbrev pub EndsDash : List ℕ → Type 0
 EndsDash [] = Unit {0}
-EndsDash (b ∷ bs) = b == 62 ≡ false
+EndsDash (b ∷ bs) = b == greater_than_sign ≡ false
 
 -- behind a `<` no longer mark goes on here: neither `<=` nor `<->`
 abbrev pub EndsLess : List ℕ → Type 0
 EndsLess [] = Unit {0}
-EndsLess (b ∷ bs) = (b == 61 ≡ false) × (b == 45 ≡ true → EndsDash bs)
+EndsLess (b ∷ bs) = (b == equals_sign ≡ false) × (b == hyphen ≡ true → EndsDash bs)
 
 -- no longer mark goes on here
 abbrev pub EndsMark : Mark → List ℕ → Type 0
@@ -79,21 +80,22 @@ EndsMark m bs = Unit {0}
 -- the bytes between two quotes stand for this text
 pub data Spells : List ℕ → List ℕ → Type 0 where
   nothing : Spells [] []
-  quote : {bs k : List ℕ} → Spells bs k → Spells (92 ∷ 34 ∷ bs) (34 ∷ k)
-  backslash : {bs k : List ℕ} → Spells bs k → Spells (92 ∷ 92 ∷ bs) (92 ∷ k)
-  other : {b : ℕ} {bs k : List ℕ} → b == 34 ≡ false → b == 92 ≡ false → Spells bs k → Spells (b ∷ bs) (b ∷ k)
+  quote : {bs k : List ℕ} → Spells bs k → Spells (backslash ∷ quotation_mark ∷ bs) (quotation_mark ∷ k)
+  slash : {bs k : List ℕ} → Spells bs k → Spells (backslash ∷ backslash ∷ bs) (backslash ∷ k)
+  other : {b : ℕ} {bs k : List ℕ} → b == quotation_mark ≡ false → b == backslash ≡ false → Spells bs k
+      → Spells (b ∷ bs) (b ∷ k)
 
 -- the line is cut into these tokens
 pub data IsCut (v : Version) : List ℕ → List Token → Type 0 where
   end : IsCut v [] []
-  blank : {bs : List ℕ} {ts : List Token} → IsCut v bs ts → IsCut v (32 ∷ bs) ts
-  tab : {bs : List ℕ} {ts : List Token} → IsCut v bs ts → IsCut v (9 ∷ bs) ts
+  blank : {bs : List ℕ} {ts : List Token} → IsCut v bs ts → IsCut v (space ∷ bs) ts
+  tabbed : {bs : List ℕ} {ts : List Token} → IsCut v bs ts → IsCut v (tab ∷ bs) ts
   word : (b : ℕ) (w : List ℕ) {bs : List ℕ} {ts : List Token} → AreWordBytes (b ∷ w) → EndsWord bs → IsCut v bs ts
       → IsCut v ((b ∷ w) ++ bs) (token.Word (b ∷ w) ∷ ts)
   quoted : {body k bs : List ℕ} {ts : List Token} → Spells body k → IsCut v bs ts
-      → IsCut v (34 ∷ (body ++ 34 ∷ bs)) (token.Quoted k ∷ ts)
+      → IsCut v (quotation_mark ∷ (body ++ quotation_mark ∷ bs)) (token.Quoted k ∷ ts)
   signed : (d : ℕ) (w : List ℕ) {bs : List ℕ} {ts : List Token} → v ≡ version.Two → is_ascii_digit d ≡ true
       → AreWordBytes w → EndsWord bs → IsCut v bs ts
-      → IsCut v (45 ∷ d ∷ (w ++ bs)) (token.Signed (45 ∷ d ∷ w) ∷ ts)
+      → IsCut v (hyphen ∷ d ∷ (w ++ bs)) (token.Signed (hyphen ∷ d ∷ w) ∷ ts)
   marked : (m : Mark) {bs : List ℕ} {ts : List Token} → IsMarkIn m v → EndsMark m bs → IsCut v bs ts
       → IsCut v (mark_bytes m ++ bs) (token.Mark m ∷ ts)

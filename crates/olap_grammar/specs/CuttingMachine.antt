@@ -7,6 +7,7 @@
 use Rattle.std.specs.Prelude.{◌==◌, ◌&&◌, ℕ, List, [], ◌∷◌, ◌++◌, Option, Some, None, if◌then◌else◌}
 use Rattle.std.specs.List.{fold}
 use Rattle.std.specs.Char.{is_ascii_digit}
+use Rattle.olap_base.specs.Bytes.{ampersand, backslash, caret, colon, comma, equals_sign, exclamation_mark, greater_than_sign, hyphen, left_parenthesis, less_than_sign, quotation_mark, right_parenthesis, space, tab, vertical_bar}
 use Rattle.olap_grammar.specs.Cutting.{has_numbers, is_word_byte}
 use Rattle.olap_grammar.specs.declared.tokens.Token.{Token}
 use Rattle.olap_grammar.specs.declared.tokens.Token.TheVariants as token
@@ -31,15 +32,15 @@ pub data Cut : Type 0 where
 -- the mark that the byte is by itself
 abbrev pub mark_of : ℕ → Option Mark
 mark_of b =
-    if b == 40 then Some mark.Open
-    else if b == 41 then Some mark.Close
-    else if b == 44 then Some mark.Comma
-    else if b == 58 then Some mark.Colon
-    else if b == 61 then Some mark.Equal
-    else if b == 33 then Some mark.Not
-    else if b == 94 then Some (mark.Joint joint.Xor)
-    else if b == 124 then Some (mark.Joint joint.Or)
-    else if b == 38 then Some (mark.Joint joint.And)
+    if b == left_parenthesis then Some mark.Open
+    else if b == right_parenthesis then Some mark.Close
+    else if b == comma then Some mark.Comma
+    else if b == colon then Some mark.Colon
+    else if b == equals_sign then Some mark.Equal
+    else if b == exclamation_mark then Some mark.Not
+    else if b == caret then Some (mark.Joint joint.Xor)
+    else if b == vertical_bar then Some (mark.Joint joint.Or)
+    else if b == ampersand then Some (mark.Joint joint.And)
     else None
 
 -- after a byte that is this mark, or none
@@ -51,21 +52,21 @@ marked ts (Some m) = Between (ts ++ token.Mark m ∷ [])
 abbrev pub between : List Token → ℕ → Cut
 between ts b =
     if is_word_byte b then InWord ts (b ∷ [])
-    else if b == 32 then Between ts
-    else if b == 9 then Between ts
-    else if b == 34 then InQuotes ts []
-    else if b == 45 then Dash ts
-    else if b == 60 then Less ts
+    else if b == space then Between ts
+    else if b == tab then Between ts
+    else if b == quotation_mark then InQuotes ts []
+    else if b == hyphen then Dash ts
+    else if b == less_than_sign then Less ts
     else marked ts (mark_of b)
 
 -- after a byte behind `-` that ends no arrow
 abbrev pub after_dash : Version → List Token → ℕ → Cut
-after_dash v ts b = if has_numbers v && is_ascii_digit b then InSigned ts (45 ∷ b ∷ []) else Stuck
+after_dash v ts b = if has_numbers v && is_ascii_digit b then InSigned ts (hyphen ∷ b ∷ []) else Stuck
 
 -- after a byte behind `<` that isn't `-`
 abbrev pub after_less : Version → List Token → ℕ → Cut
 after_less v ts b =
-    if has_numbers v then (if b == 61 then Between (ts ++ token.Mark mark.AtMost ∷ [])
+    if has_numbers v then (if b == equals_sign then Between (ts ++ token.Mark mark.AtMost ∷ [])
     else between (ts ++ token.Mark mark.Less ∷ []) b)
     else Stuck
 
@@ -76,14 +77,18 @@ cut_step v (InWord ts w) b = if is_word_byte b then InWord ts (w ++ b ∷ []) el
 cut_step v (InSigned ts w) b =
     if is_word_byte b then InSigned ts (w ++ b ∷ []) else between (ts ++ token.Signed w ∷ []) b
 cut_step v (InQuotes ts k) b =
-    if b == 34 then Between (ts ++ token.Quoted k ∷ []) else if b == 92 then Escaped ts k else InQuotes ts (k ++ b ∷ [])
+    if b == quotation_mark then Between (ts ++ token.Quoted k ∷ [])
+    else if b == backslash then Escaped ts k
+    else InQuotes ts (k ++ b ∷ [])
 cut_step v (Escaped ts k) b =
-    if b == 34 then InQuotes ts (k ++ b ∷ []) else if b == 92 then InQuotes ts (k ++ b ∷ []) else Stuck
+    if b == quotation_mark then InQuotes ts (k ++ b ∷ [])
+    else if b == backslash then InQuotes ts (k ++ b ∷ [])
+    else Stuck
 cut_step v (Dash ts) b =
-    if b == 62 then Between (ts ++ token.Mark (mark.Joint joint.Implies) ∷ []) else after_dash v ts b
-cut_step v (Less ts) b = if b == 45 then LessDash ts else after_less v ts b
+    if b == greater_than_sign then Between (ts ++ token.Mark (mark.Joint joint.Implies) ∷ []) else after_dash v ts b
+cut_step v (Less ts) b = if b == hyphen then LessDash ts else after_less v ts b
 cut_step v (LessDash ts) b =
-    if b == 62 then Between (ts ++ token.Mark (mark.Joint joint.Iff) ∷ [])
+    if b == greater_than_sign then Between (ts ++ token.Mark (mark.Joint joint.Iff) ∷ [])
     else after_dash v (ts ++ token.Mark mark.Less ∷ []) b
 cut_step v Stuck b = Stuck
 

@@ -7,6 +7,7 @@
 --     IsTallyOf       what was counted is so of the tokens
 use Rattle.std.specs.Prelude.{◌≡◌, ◌≤◌, ◌<◌, ◌==◌, ◌&&◌, ℕ, Bool, true, false, List, [], ◌∷◌, ◌++◌, Option, Some, None, length, nat_lt, if◌then◌else◌}
 use Rattle.std.specs.List.{fold}
+use Rattle.olap_base.specs.Bytes.{backslash, equals_sign, greater_than_sign, hyphen, less_than_sign, quotation_mark, space, tab}
 use Rattle.olap_grammar.specs.Brackets.{opens_over}
 use Rattle.olap_grammar.specs.Cutting.{is_word_byte}
 use Rattle.std.specs.Char.{is_ascii_digit}
@@ -62,21 +63,21 @@ marked v k (Some m) = Between (keep v k (token.Mark m))
 abbrev pub between : Version → Kept → ℕ → Going
 between v k b =
     if is_word_byte b then InWord k (b ∷ [])
-    else if b == 32 then Between k
-    else if b == 9 then Between k
-    else if b == 34 then InQuotes k []
-    else if b == 45 then Dash k
-    else if b == 60 then Less k
+    else if b == space then Between k
+    else if b == tab then Between k
+    else if b == quotation_mark then InQuotes k []
+    else if b == hyphen then Dash k
+    else if b == less_than_sign then Less k
     else marked v k (mark_of b)
 
 -- after a byte behind `-` that ends no arrow
 abbrev pub after_dash : Version → Kept → ℕ → Going
-after_dash v k b = if has_numbers v && is_ascii_digit b then InSigned k (45 ∷ b ∷ []) else Stuck
+after_dash v k b = if has_numbers v && is_ascii_digit b then InSigned k (hyphen ∷ b ∷ []) else Stuck
 
 -- after a byte behind `<` that isn't `-`
 abbrev pub after_less : Version → Kept → ℕ → Going
 after_less v k b =
-    if has_numbers v then (if b == 61 then Between (keep v k (token.Mark mark.AtMost))
+    if has_numbers v then (if b == equals_sign then Between (keep v k (token.Mark mark.AtMost))
     else between v (keep v k (token.Mark mark.Less)) b)
     else Stuck
 
@@ -87,14 +88,18 @@ kept_step v (InWord k w) b = if is_word_byte b then InWord k (w ++ b ∷ []) els
 kept_step v (InSigned k w) b =
     if is_word_byte b then InSigned k (w ++ b ∷ []) else between v (keep v k (token.Signed w)) b
 kept_step v (InQuotes k q) b =
-    if b == 34 then Between (keep v k (token.Quoted q)) else if b == 92 then Escaped k q else InQuotes k (q ++ b ∷ [])
+    if b == quotation_mark then Between (keep v k (token.Quoted q))
+    else if b == backslash then Escaped k q
+    else InQuotes k (q ++ b ∷ [])
 kept_step v (Escaped k q) b =
-    if b == 34 then InQuotes k (q ++ b ∷ []) else if b == 92 then InQuotes k (q ++ b ∷ []) else Stuck
+    if b == quotation_mark then InQuotes k (q ++ b ∷ [])
+    else if b == backslash then InQuotes k (q ++ b ∷ [])
+    else Stuck
 kept_step v (Dash k) b =
-    if b == 62 then Between (keep v k (token.Mark (mark.Joint joint.Implies))) else after_dash v k b
-kept_step v (Less k) b = if b == 45 then LessDash k else after_less v k b
+    if b == greater_than_sign then Between (keep v k (token.Mark (mark.Joint joint.Implies))) else after_dash v k b
+kept_step v (Less k) b = if b == hyphen then LessDash k else after_less v k b
 kept_step v (LessDash k) b =
-    if b == 62 then Between (keep v k (token.Mark (mark.Joint joint.Iff)))
+    if b == greater_than_sign then Between (keep v k (token.Mark (mark.Joint joint.Iff)))
     else after_dash v (keep v k (token.Mark mark.Less)) b
 kept_step v Stuck b = Stuck
 

@@ -2,10 +2,11 @@
 --     escaped    with a `\` before each `"` and `\`
 --     quoted     in quotes
 use Rattle.std.specs.Prelude.{◌==◌, ◌||◌, ◌++◌, ℕ, List, [], ◌∷◌, if◌then◌else◌}
+use Rattle.olap_base.specs.Bytes.{backslash, quotation_mark}
 
 -- the byte, with a `\` before it where it is `"` or `\`
 abbrev pub escaped_byte : ℕ → List ℕ
-escaped_byte b = if (b == 34) || (b == 92) then 92 ∷ b ∷ [] else b ∷ []
+escaped_byte b = if (b == quotation_mark) || (b == backslash) then backslash ∷ b ∷ [] else b ∷ []
 
 -- the text with a `\` before each `"` and `\`
 unfoldable pub escaped : List ℕ → List ℕ
@@ -14,4 +15,4 @@ escaped (b ∷ bs) = escaped_byte b ++ escaped bs
 
 -- the text as a string
 abbrev pub quoted : List ℕ → List ℕ
-quoted text = 34 ∷ (escaped text ++ 34 ∷ [])
+quoted text = quotation_mark ∷ (escaped text ++ quotation_mark ∷ [])

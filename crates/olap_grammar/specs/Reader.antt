@@ -9,6 +9,8 @@ use Rattle.olap_ast.specs.Formula.{Formula}
 use Rattle.olap_ast.specs.Trees.{op_of}
 use Rattle.olap_grammar.specs.Machine as machine
 use Rattle.olap_base.specs.Graph.{Graph}
+use Rattle.olap_base.specs.Refusing.{IsFor}
+use Rattle.olap_base.specs.declared.refusals.Refusal.{Refusal}
 use Rattle.olap_grammar.specs.Clip.{leaves}
 use Rattle.olap_grammar.specs.Grammar.{Atoms}
 use Rattle.olap_grammar.specs.Parts.{part_of}
@@ -18,8 +20,7 @@ use Rattle.olap_grammar.specs.declared.reading.State.{State}
 use Rattle.olap_grammar.specs.declared.reading.State.TheVariants as state
 use Rattle.olap_grammar.specs.declared.stacking.Frame.{Frame}
 use Rattle.olap_grammar.specs.declared.stacking.Frame.TheVariants as frame
-use Rattle.olap_grammar.specs.declared.refusals.FormRefusal.{FormRefusal}
-use Rattle.olap_grammar.specs.declared.refusals.FormRefusal.TheVariants as refusal
+use Rattle.olap_grammar.specs.declared.refusals.NoFormula.{NoFormula}
 
 -- a depth and a formula
 abbrev pub Built : Type 0
@@ -38,12 +39,10 @@ frame_of frame.Listing = machine.Frame.Listing
 frame_of (frame.Part p) = machine.Frame.Part (part_of p)
 
 -- a formula is on top of what is open, or the form is bad
-abbrev pub GoesBack : {A : Type 0} → Result A FormRefusal → Built → List (machine.Frame Built) → machine.State Built
-    → Type 0
+abbrev pub GoesBack : {A : Type 0} → Result A (Refusal NoFormula) → Built → List (machine.Frame Built)
+    → machine.State Built → Type 0
 GoesBack (Ok u) f s next = next ≡ machine.State.Has f s
-GoesBack (Err refusal.BadForm) f s next = next ≡ machine.State.Bad
-GoesBack (Err refusal.TooDeep) f s next = ⊥
-GoesBack (Err refusal.Memory) f s next = Unit {0}
+GoesBack (Err e) f s next = IsFor (λ _. next ≡ machine.State.Bad) e
 
 -- where a state of the reader, the formula that was read last, and what is open stand
 abbrev pub state_of : State → Built → List (machine.Frame Built) → machine.State Built
@@ -54,19 +53,16 @@ state_of (state.Compared w op) f s = machine.State.Compared w.now (op_of op) s
 state_of state.Has f s = machine.State.Has f s
 
 -- the reader goes on to the state, or the form is bad
-abbrev pub GoesTo : Result State FormRefusal → Built → List (machine.Frame Built) → machine.State Built → Type 0
+abbrev pub GoesTo : Result State (Refusal NoFormula) → Built → List (machine.Frame Built) → machine.State Built
+    → Type 0
 GoesTo (Ok state) f s next = next ≡ state_of state f s
-GoesTo (Err refusal.BadForm) f s next = next ≡ machine.State.Bad
-GoesTo (Err refusal.TooDeep) f s next = ⊥
-GoesTo (Err refusal.Memory) f s next = Unit {0}
+GoesTo (Err e) f s next = IsFor (λ _. next ≡ machine.State.Bad) e
 
--- there is no formula, or memory is short
-abbrev pub ReadsNone : FormRefusal → Option Built → Type 0
-ReadsNone refusal.BadForm read = read ≡ None
-ReadsNone refusal.TooDeep read = ⊥
-ReadsNone refusal.Memory read = Unit {0}
+-- there is no formula, or the refusal is out of memory
+abbrev pub ReadsNone : Refusal NoFormula → Option Built → Type 0
+ReadsNone e read = IsFor (λ _. read ≡ None) e
 
 -- the formula is what was read, or the form is bad
-abbrev pub Ends : {A : Type 0} → Result A FormRefusal → Built → Option Built → Type 0
+abbrev pub Ends : {A : Type 0} → Result A (Refusal NoFormula) → Built → Option Built → Type 0
 Ends (Ok u) f read = read ≡ Some f
 Ends (Err e) f read = ReadsNone e read

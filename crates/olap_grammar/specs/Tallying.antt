@@ -2,7 +2,9 @@
 --     counted_nodes      how far nodes are counted
 --     nothing_tallied    of no token
 --     added, tallied     one token more
-use Rattle.std.specs.Prelude.{◌||◌, ◌&&◌, ◌+◌, ◌-◌, ℕ, false, not, nat_lt, if◌then◌else◌}
+--     brackets           the brackets that were counted
+--     HasRoom            one more can be counted
+use Rattle.std.specs.Prelude.{◌<◌, ◌||◌, ◌&&◌, ◌+◌, ◌-◌, ◌^◌, ℕ, false, not, nat_lt, if◌then◌else◌}
 use Rattle.olap_base.specs.Limits.{most_depth, most_nodes}
 use Rattle.olap_grammar.specs.Nodes.{compares, is_node}
 use Rattle.olap_grammar.specs.declared.tallying.Tally.{Tally}
@@ -33,3 +35,11 @@ added y t = if not y.is_compared && is_node t then record y { nodes = counted y.
 -- and whether what comes next is compared with
 abbrev pub tallied : Version → Tally → Token → Tally
 tallied v y t = record (added y t) { is_compared = compares v t }
+
+-- the brackets that were counted
+abbrev pub brackets : Tally → ℕ
+brackets y = y.opened + y.closed
+
+-- one more can be counted: a line has fewer bytes
+abbrev pub HasRoom : Tally → Type 0
+HasRoom y = brackets y < 2 ^ 63

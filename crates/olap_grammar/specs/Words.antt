@@ -10,6 +10,7 @@ use Rattle.std.specs.Prelude.{◌==◌, ◌&&◌, ℕ, ℤ, pos, Bool, not, List
 use Rattle.std.specs.Borrow.{Bor}
 use Rattle.std.specs.List.{list_all, slice_split}
 use Rattle.std.specs.Str.{all_ascii_digits, bytes_eq}
+use Rattle.olap_base.specs.Bytes.{full_stop, underscore}
 use Rattle.olap_base.specs.Reaching.{is_category_name}
 use Rattle.olap_base.specs.Graph.{Graph}
 use Rattle.olap_numerals.specs.Comparing.{Op}
@@ -63,12 +64,12 @@ unfoldable pub plain_of : Graph → List ℕ → Option Formula
 plain_of g w =
     if bytes_eq w (codes "true") then Some Meaning.Formula.Truth
     else if bytes_eq w (codes "false") then Some Meaning.Formula.Falsity
-    else if nat_lt 1 (length (pieces_of 95 w)) then path_of g (pieces_of 95 w)
-    else reach_of g (pieces_of 46 w)
+    else if nat_lt 1 (length (pieces_of underscore w)) then path_of g (pieces_of underscore w)
+    else reach_of g (pieces_of full_stop w)
 
 -- a word with a string
 unfoldable pub equality_of : Graph → List ℕ → List ℕ → Option Formula
-equality_of g w k = equal_of g k (pieces_of 46 w)
+equality_of g w k = equal_of g k (pieces_of full_stop w)
 
 -- a `-` or none, decimal digits, one at least, and nothing else
 unfoldable pub is_number_token : List ℕ → Bool
@@ -85,7 +86,9 @@ compared_of g op n parts =
 -- a word with a number; of a number beyond the bounds a 0 is kept
 unfoldable pub comparison_of : Graph → List ℕ → Op → List ℕ → Option Formula
 comparison_of g w op digits =
-    if is_number_token digits then compared_of g op (unwrap_or (number_of digits) (pos 0)) (pieces_of 46 w) else None
+    if is_number_token digits
+    then compared_of g op (unwrap_or (number_of digits) (pos 0)) (pieces_of full_stop w)
+    else None
 
 -- the first version has no comparisons
 abbrev pub comparison_in : Version → Graph → List ℕ → Op → List ℕ → Option Formula

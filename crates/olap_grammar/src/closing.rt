@@ -7,10 +7,11 @@ ghost use Rattle.olap_grammar.specs.Parts.{part_of, parts_of};
 ghost use Rattle.olap_grammar.specs.Reader.{GoesBack};
 ghost use Rattle.std.specs.Prelude.{◌≡◌, OnOk};
 
+use crate::Joint;
 use crate::parts::{Part, Parts, joined, more, negated, no_parts, one};
+use crate::refusals::NoFormula;
 use crate::stacking::{Frame, Stack};
-use crate::{FormRefusal, Joint};
-use olap_base::Memory;
+use olap_base::{Memory, Refusal};
 use std::alloc::Global;
 
 /// How tightly it binds.
@@ -62,7 +63,7 @@ pub(crate) fn settle(
 }
 
 /// Takes the parts of the list that is open in front of the others, and its beginning.
-fn gather(alloc: Global, parts: &mut Parts, stack: &mut Stack) -> Result<(), FormRefusal>
+fn gather(alloc: Global, parts: &mut Parts, stack: &mut Stack) -> Result<(), Refusal<NoFormula>>
     ensures { GoesBack result (clipped.one (parts_of parts.new)) (frames stack.new)
         (list_closed clipped (parts_of parts.old) (frames stack.old)) }
 {
@@ -70,10 +71,10 @@ fn gather(alloc: Global, parts: &mut Parts, stack: &mut Stack) -> Result<(), For
         match frame {
             Frame::Part(part) => *parts = more(alloc, part, parts.take())?,
             Frame::Listing => return Ok(()),
-            _ => return Err(FormRefusal::BadForm),
+            _ => return Err(Refusal::Kind(NoFormula)),
         }
     }
-    Err(FormRefusal::BadForm)
+    Err(Refusal::Kind(NoFormula))
 }
 
 /// The list that is open is closed after its last parts.
@@ -82,7 +83,7 @@ fn close_list(
     last: Parts,
     whole: &mut Part,
     stack: &mut Stack,
-) -> Result<(), FormRefusal>
+) -> Result<(), Refusal<NoFormula>>
     ensures { GoesBack result (part_of whole.new) (frames stack.new)
         (list_closed clipped (parts_of last) (frames stack.old)) }
 {
@@ -97,7 +98,11 @@ fn close_list(
 }
 
 /// The bracket or the list that is open is closed after the formula.
-pub(crate) fn close(alloc: Global, whole: &mut Part, stack: &mut Stack) -> Result<(), FormRefusal>
+pub(crate) fn close(
+    alloc: Global,
+    whole: &mut Part,
+    stack: &mut Stack,
+) -> Result<(), Refusal<NoFormula>>
     ensures { GoesBack result (part_of whole.new) (frames stack.new)
         (closed clipped (part_of whole.old) (frames stack.old)) }
 {
@@ -108,6 +113,6 @@ pub(crate) fn close(alloc: Global, whole: &mut Part, stack: &mut Stack) -> Resul
             let last = more(alloc, whole.take(), no_parts())?;
             close_list(alloc, last, whole, stack)
         }
-        None => Err(FormRefusal::BadForm),
+        None => Err(Refusal::Kind(NoFormula)),
     }
 }

@@ -6,11 +6,12 @@ ghost use Rattle.olap_grammar.specs.declared.tokens.Version.{Version as TheVersi
 ghost use Rattle.olap_grammar.specs.Keeping as keeping;
 ghost use Rattle.olap_grammar.specs.Keeping.{BeginsFound, Kept, keep, kept_tokens, nothing_kept};
 ghost use Rattle.olap_grammar.specs.Cutting.{is_word_byte as is_word_byte_of};
-ghost use Rattle.olap_grammar.specs.declared.refusals.CutRefusal.TheVariants as refusal;
+ghost use Rattle.olap_base.specs.Refusing.{IsForMemory};
 ghost use Rattle.olap_grammar.specs.Cutter.{CutEnds, CutsTo, FailsWith, cut_of, kept_of};
+ghost use Rattle.olap_grammar.specs.Tallying.{HasRoom, nothing_tallied};
 
-use crate::{CutRefusal, Joint, Mark, Tally, Token, Version};
-use olap_base::{Memory, Text};
+use crate::{Joint, Mark, NoTokens, Tally, Token, Version};
+use olap_base::{Refusal, Text};
 use std::alloc::Global;
 use std::mem;
 
@@ -48,13 +49,14 @@ fn is_word_byte(byte: u8) -> bool
 }
 
 /// The token after the others. Nothing is begun behind it.
-fn add(version: Version, tokens: &mut FirstTokens, token: Token) -> Result<Begun, CutRefusal>
+fn add(version: Version, tokens: &mut FirstTokens, token: Token) -> Result<Begun, Refusal<NoTokens>>
+    requires { HasRoom tokens.old.tally }
     ensures goes { (bs : Items ℕ) → CutsTo result bs (kept_of tokens.new)
         (keeping.Between (keep version (kept_of tokens.old) token)) }
     ensures kept { OnOk result (kept_of tokens.new ≡ keep version (kept_of tokens.old) token) }
-    ensures memory { IfErr result (λ e. e ≡ refusal.Memory) }
+    ensures memory { IfErr result IsForMemory }
 {
-    tokens.tally.add(version, &token)?;
+    tokens.tally.add(version, &token);
     if tokens.first.len() < tokens.most {
         tokens.first.push(token)?;
         return Ok(Begun::Nothing);
@@ -64,7 +66,7 @@ fn add(version: Version, tokens: &mut FirstTokens, token: Token) -> Result<Begun
 }
 
 /// The byte is one more of what was begun.
-fn push(bytes: &mut Vec<u8>, byte: u8, begun: Begun) -> Result<Begun, CutRefusal>
+fn push(bytes: &mut Vec<u8>, byte: u8, begun: Begun) -> Result<Begun, Refusal<NoTokens>>
     ensures { (k : Kept) → CutsTo result bytes.new.items k (cut_of begun (bytes.old.items ++ byte ∷ []) k) }
 {
     bytes.push(byte)?;
@@ -102,7 +104,8 @@ fn between(
     tokens: &mut FirstTokens,
     bytes: &mut Vec<u8>,
     byte: u8,
-) -> Result<Begun, CutRefusal>
+) -> Result<Begun, Refusal<NoTokens>>
+    requires { HasRoom tokens.old.tally }
     ensures { CutsTo result bytes.new.items (kept_of tokens.new) (keeping.between version (kept_of tokens.old) byte) }
 {
     bytes.clear();
@@ -116,7 +119,7 @@ fn between(
         b'<' => Ok(Begun::Less),
         _ => match mark(byte) {
             Some(mark) => add(version, tokens, Token::Mark(mark)),
-            None => Err(CutRefusal::BadForm),
+            None => Err(Refusal::Kind(NoTokens)),
         },
     }
 }
@@ -128,7 +131,8 @@ fn in_quotes(
     tokens: &mut FirstTokens,
     bytes: &mut Vec<u8>,
     byte: u8,
-) -> Result<Begun, CutRefusal>
+) -> Result<Begun, Refusal<NoTokens>>
+    requires { HasRoom tokens.old.tally }
     ensures { CutsTo result bytes.new.items (kept_of tokens.new)
         (keeping.kept_step version (keeping.InQuotes (kept_of tokens.old) bytes.old.items) byte) }
 {
@@ -140,14 +144,14 @@ fn in_quotes(
 }
 
 /// A byte after a backslash in a string: a quotation mark or another backslash, and nothing else.
-fn escaped(bytes: &mut Vec<u8>, byte: u8) -> Result<Begun, CutRefusal>
+fn escaped(bytes: &mut Vec<u8>, byte: u8) -> Result<Begun, Refusal<NoTokens>>
     ensures { (v : TheVersion) (k : Kept) →
         CutsTo result bytes.new.items k (keeping.kept_step v (keeping.Escaped k bytes.old.items) byte) }
 {
     if byte == b'"' || byte == b'\\' {
         return push(bytes, byte, Begun::Quotes);
     }
-    Err(CutRefusal::BadForm)
+    Err(Refusal::Kind(NoTokens))
 }
 
 /// Whether numbers may stand in a line.
@@ -161,7 +165,7 @@ fn has_numbers(version: Version) -> bool
 }
 
 /// A byte behind `-` that ends no arrow: it begins a number.
-fn after_dash(version: Version, bytes: &mut Vec<u8>, byte: u8) -> Result<Begun, CutRefusal>
+fn after_dash(version: Version, bytes: &mut Vec<u8>, byte: u8) -> Result<Begun, Refusal<NoTokens>>
     ensures { (k : Kept) → CutsTo result bytes.new.items k (keeping.after_dash version k byte) }
 {
     if has_numbers(version) && byte.is_ascii_digit() {
@@ -169,7 +173,7 @@ fn after_dash(version: Version, bytes: &mut Vec<u8>, byte: u8) -> Result<Begun, 
         bytes.push(b'-')?;
         return push(bytes, byte, Begun::Signed);
     }
-    Err(CutRefusal::BadForm)
+    Err(Refusal::Kind(NoTokens))
 }
 
 /// A byte behind `<` that isn't `-`.
@@ -178,12 +182,13 @@ fn after_less(
     tokens: &mut FirstTokens,
     bytes: &mut Vec<u8>,
     byte: u8,
-) -> Result<Begun, CutRefusal>
+) -> Result<Begun, Refusal<NoTokens>>
+    requires { HasRoom tokens.old.tally }
     ensures { CutsTo result bytes.new.items (kept_of tokens.new)
         (keeping.after_less version (kept_of tokens.old) byte) }
 {
     if !has_numbers(version) {
-        return Err(CutRefusal::BadForm);
+        return Err(Refusal::Kind(NoTokens));
     }
     if byte == b'=' {
         return add(version, tokens, Token::Mark(Mark::AtMost));
@@ -200,7 +205,8 @@ fn step(
     begun: Begun,
     bytes: &mut Vec<u8>,
     byte: u8,
-) -> Result<Begun, CutRefusal>
+) -> Result<Begun, Refusal<NoTokens>>
+    requires { HasRoom tokens.old.tally }
     ensures { CutsTo result bytes.new.items (kept_of tokens.new)
         (keeping.kept_step version (cut_of begun bytes.old.items (kept_of tokens.old)) byte) }
 {
@@ -245,13 +251,14 @@ fn end(
     tokens: &mut FirstTokens,
     begun: Begun,
     bytes: &mut Vec<u8>,
-) -> Result<(), CutRefusal>
+) -> Result<(), Refusal<NoTokens>>
+    requires { HasRoom tokens.old.tally }
     ensures { CutEnds result (kept_of tokens.new)
         (keeping.kept_ended version (cut_of begun bytes.old.items (kept_of tokens.old))) }
 {
     match step(alloc, version, tokens, begun, bytes, b' ')? {
         Begun::Nothing => Ok(()),
-        _ => Err(CutRefusal::BadForm),
+        _ => Err(Refusal::Kind(NoTokens)),
     }
 }
 
@@ -263,7 +270,8 @@ fn cut(
     tokens: &mut FirstTokens,
     bytes: &mut Vec<u8>,
     line: &[u8],
-) -> Result<(), CutRefusal>
+) -> Result<(), Refusal<NoTokens>>
+    requires { tokens.old.tally ≡ nothing_tallied }
     ensures { (most : ℕ) → kept_of tokens.old ≡ nothing_kept most
         → CutEnds result (kept_of tokens.new) (kept_tokens version most line.now) }
 {
@@ -281,13 +289,13 @@ fn cut(
 
 /// The tokens that the line is cut into by the version, with spaces and tabs between them. As many are kept as `most`.
 ///
-/// `BadForm` exactly where it can't be cut, and `Memory` where there is no room. One pass.
+/// `NoTokens` exactly where it can't be cut, and `Memory` where there is no room. One pass.
 pub fn first_tokens(
     alloc: Global,
     version: Version,
     line: &[u8],
     most: usize,
-) -> Result<FirstTokens, CutRefusal>
+) -> Result<FirstTokens, Refusal<NoTokens>>
     ensures found { MatchResult result (λ t. BeginsFound version (kept_of t) (tokens_of version line.now))
         (λ e. FailsWith e (tokens_of version line.now)) }
     ensures most { IfOk result (λ t. t.most ≡ most) }

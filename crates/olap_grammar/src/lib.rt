@@ -27,7 +27,7 @@ pub use laws::{
 };
 pub use quoting::push_quoted;
 pub use reading::formula;
-pub use refusals::{CutRefusal, FormRefusal};
+pub use refusals::{FormFault, NoTokens};
 pub use tallying::Tally;
 pub use tokens::{Joint, Mark, Token, Version};
 pub use words::{first_piece, is_number_token, marks, pieces};

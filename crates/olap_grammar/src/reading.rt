@@ -16,11 +16,12 @@ ghost use Rattle.std.specs.Prelude.{◌≡◌, [], ◌∷◌, IfOk, List};
 
 use crate::closing::{close, left_level, settle};
 use crate::parts::{Part, leaf, no_parts, one};
+use crate::refusals::NoFormula;
 use crate::stacking::{Frame, Stack};
 use crate::words::{comparison, equality, is, plain_word};
-use crate::{FormRefusal, Joint, Known, Mark, Token, Version};
+use crate::{FormFault, Joint, Known, Mark, Token, Version};
 use olap_ast::{Formula, Op};
-use olap_base::{MOST_DEPTH, Memory, Text};
+use olap_base::{MOST_DEPTH, Memory, Refusal, Text};
 use std::alloc::Global;
 
 /// What was read last: nothing of the formula that is to come, the start of a list, a word, a word with a mark that
@@ -35,7 +36,7 @@ enum State<'a> {
 }
 
 /// One more is open, and a formula is to come.
-fn open<'a>(stack: &mut Stack, frame: Frame) -> Result<State<'a>, FormRefusal>
+fn open<'a>(stack: &mut Stack, frame: Frame) -> Result<State<'a>, Refusal<NoFormula>>
     ensures { (f : Built) → GoesTo result f (frames stack.new)
         (machine.State.Wants (frame_of frame ∷ frames stack.old)) }
 {
@@ -49,7 +50,7 @@ fn left_off<'a>(
     joint: Joint,
     whole: &mut Part,
     stack: &mut Stack,
-) -> Result<State<'a>, FormRefusal>
+) -> Result<State<'a>, Refusal<NoFormula>>
     ensures { GoesTo result (part_of whole.new) (frames stack.new)
         (machine.after clipped (part_of whole.old) (frames stack.old) (the_token.Mark (the_mark.Joint joint))) }
 {
@@ -62,13 +63,13 @@ fn part_off<'a>(
     alloc: Global,
     whole: &mut Part,
     stack: &mut Stack,
-) -> Result<State<'a>, FormRefusal>
+) -> Result<State<'a>, Refusal<NoFormula>>
     ensures { GoesTo result (part_of whole.new) (frames stack.new)
         (machine.after clipped (part_of whole.old) (frames stack.old) (the_token.Mark the_mark.Comma)) }
 {
     settle(alloc, 1, whole, stack)?;
     if !stack.takes_part() {
-        return Err(FormRefusal::BadForm);
+        return Err(Refusal::Kind(NoFormula));
     }
     open(stack, Frame::Part(whole.take()))
 }
@@ -78,7 +79,7 @@ fn close_after<'a>(
     alloc: Global,
     whole: &mut Part,
     stack: &mut Stack,
-) -> Result<State<'a>, FormRefusal>
+) -> Result<State<'a>, Refusal<NoFormula>>
     ensures { GoesTo result (part_of whole.new) (frames stack.new)
         (machine.after clipped (part_of whole.old) (frames stack.old) (the_token.Mark the_mark.Close)) }
 {
@@ -93,7 +94,7 @@ fn after<'a>(
     whole: &mut Part,
     stack: &mut Stack,
     token: &Token,
-) -> Result<State<'a>, FormRefusal>
+) -> Result<State<'a>, Refusal<NoFormula>>
     ensures { GoesTo result (part_of whole.new) (frames stack.new)
         (machine.after clipped (part_of whole.old) (frames stack.old) token.now) }
 {
@@ -101,19 +102,19 @@ fn after<'a>(
         Token::Mark(Mark::Joint(joint)) => left_off(alloc, *joint, whole, stack),
         Token::Mark(Mark::Close) => close_after(alloc, whole, stack),
         Token::Mark(Mark::Comma) => part_off(alloc, whole, stack),
-        _ => Err(FormRefusal::BadForm),
+        _ => Err(Refusal::Kind(NoFormula)),
     }
 }
 
 /// Where a formula is to come.
-fn begin<'a>(stack: &mut Stack, token: &'a Token) -> Result<State<'a>, FormRefusal>
+fn begin<'a>(stack: &mut Stack, token: &'a Token) -> Result<State<'a>, Refusal<NoFormula>>
     ensures { (f : Built) → GoesTo result f (frames stack.new) (machine.begun (frames stack.old) token.now) }
 {
     match token {
         Token::Word(word) => Ok(State::Named(word)),
         Token::Mark(Mark::Open) => open(stack, Frame::Bracket),
         Token::Mark(Mark::Not) => open(stack, Frame::Negation),
-        _ => Err(FormRefusal::BadForm),
+        _ => Err(Refusal::Kind(NoFormula)),
     }
 }
 
@@ -122,7 +123,7 @@ fn begin_part<'a>(
     whole: &mut Part,
     stack: &mut Stack,
     token: &'a Token,
-) -> Result<State<'a>, FormRefusal>
+) -> Result<State<'a>, Refusal<NoFormula>>
     ensures { GoesTo result (part_of whole.new) (frames stack.new)
         (machine.begun_part clipped (frames stack.old) token.now) }
 {
@@ -147,7 +148,7 @@ fn after_plain<'a>(
     whole: &mut Part,
     stack: &mut Stack,
     token: &Token,
-) -> Result<State<'a>, FormRefusal>
+) -> Result<State<'a>, Refusal<NoFormula>>
     ensures { GoesTo result (part_of whole.new) (frames stack.new) (machine.after_atom clipped
         ((leaves_of version (graph_seen known.now)).plain word.now) (frames stack.old) token.now) }
 {
@@ -156,7 +157,7 @@ fn after_plain<'a>(
             *whole = leaf(f);
             after(alloc, whole, stack, token)
         }
-        None => Err(FormRefusal::BadForm),
+        None => Err(Refusal::Kind(NoFormula)),
     }
 }
 
@@ -169,7 +170,7 @@ fn after_word<'a>(
     whole: &mut Part,
     stack: &mut Stack,
     token: &Token,
-) -> Result<State<'a>, FormRefusal>
+) -> Result<State<'a>, Refusal<NoFormula>>
     ensures { GoesTo result (part_of whole.new) (frames stack.new)
         (machine.after_word clipped (leaves_of version (graph_seen known.now)) word.now (frames stack.old) token.now) }
 {
@@ -178,7 +179,7 @@ fn after_word<'a>(
             if is(word.bytes(), b"one") {
                 Ok(State::WantsPart)
             } else {
-                Err(FormRefusal::BadForm)
+                Err(Refusal::Kind(NoFormula))
             }
         }
         Token::Mark(Mark::Equal) => Ok(State::Compared(word, Op::Equal)),
@@ -221,7 +222,7 @@ fn after_compared<'a>(
     op: Op,
     whole: &mut Part,
     token: &Token,
-) -> Result<State<'a>, FormRefusal>
+) -> Result<State<'a>, Refusal<NoFormula>>
     ensures { (s : List (machine.Frame Built)) → GoesTo result (part_of whole.new) s
         (machine.after_compared (leaves_of version (graph_seen known.now)) word.now (op_of op) s token.now) }
 {
@@ -230,7 +231,7 @@ fn after_compared<'a>(
             *whole = leaf(f);
             Ok(State::Has)
         }
-        None => Err(FormRefusal::BadForm),
+        None => Err(Refusal::Kind(NoFormula)),
     }
 }
 
@@ -242,7 +243,7 @@ fn step<'a>(
     whole: &mut Part,
     stack: &mut Stack,
     token: &'a Token,
-) -> Result<State<'a>, FormRefusal>
+) -> Result<State<'a>, Refusal<NoFormula>>
     ensures { GoesTo result (part_of whole.new) (frames stack.new) (machine.step clipped
         (leaves_of version (graph_seen known.now))
         (state_of state.entry (part_of whole.old) (frames stack.old)) token.now) }
@@ -257,13 +258,13 @@ fn step<'a>(
 }
 
 /// A formula that nothing is open in front of.
-fn alone(alloc: Global, whole: &mut Part, stack: &mut Stack) -> Result<(), FormRefusal>
+fn alone(alloc: Global, whole: &mut Part, stack: &mut Stack) -> Result<(), Refusal<NoFormula>>
     ensures { Ends result (part_of whole.new)
         (machine.alone (machine.settled clipped 1 (part_of whole.old) (frames stack.old))) }
 {
     settle(alloc, 1, whole, stack)?;
     if !stack.is_empty() {
-        return Err(FormRefusal::BadForm);
+        return Err(Refusal::Kind(NoFormula));
     }
     Ok(())
 }
@@ -276,7 +277,7 @@ fn plain_alone(
     word: &Text,
     whole: &mut Part,
     stack: &mut Stack,
-) -> Result<(), FormRefusal>
+) -> Result<(), Refusal<NoFormula>>
     ensures { Ends result (part_of whole.new) (machine.ended clipped (leaves_of version (graph_seen known.now))
         (machine.State.Named word.now (frames stack.old))) }
 {
@@ -285,7 +286,7 @@ fn plain_alone(
             *whole = leaf(f);
             alone(alloc, whole, stack)
         }
-        None => Err(FormRefusal::BadForm),
+        None => Err(Refusal::Kind(NoFormula)),
     }
 }
 
@@ -296,14 +297,14 @@ fn end(
     state: State,
     whole: &mut Part,
     stack: &mut Stack,
-) -> Result<(), FormRefusal>
+) -> Result<(), Refusal<NoFormula>>
     ensures { Ends result (part_of whole.new) (machine.ended clipped (leaves_of version (graph_seen known.now))
         (state_of state.entry (part_of whole.old) (frames stack.old))) }
 {
     match state {
         State::Has => alone(alloc, whole, stack),
         State::Named(word) => plain_alone(alloc, known, version, word, whole, stack),
-        _ => Err(FormRefusal::BadForm),
+        _ => Err(Refusal::Kind(NoFormula)),
     }
 }
 
@@ -315,7 +316,7 @@ fn read_tokens(
     whole: &mut Part,
     stack: &mut Stack,
     tokens: &[Token],
-) -> Result<(), FormRefusal>
+) -> Result<(), Refusal<NoFormula>>
     requires { frames stack.old ≡ [] }
     ensures { Ends result (part_of whole.new)
         (machine.formula_read clipped (leaves_of version (graph_seen known.now)) tokens.now) }
@@ -341,14 +342,15 @@ pub fn formula(
     known: &Known,
     version: Version,
     tokens: &[Token],
-) -> Result<Formula, FormRefusal>
+) -> Result<Formula, Refusal<FormFault>>
     ensures { Answers result (formula_answer (the_formula (atoms_of version (graph_seen known.now)) tokens.now)) }
 {
     let mut whole = leaf(Formula::True);
     let mut stack = Stack::new(alloc);
     match read_tokens(alloc, known, version, &mut whole, &mut stack, tokens) {
-        Ok(()) if whole.depth > MOST_DEPTH as u8 => Err(FormRefusal::TooDeep),
+        Ok(()) if whole.depth > MOST_DEPTH as u8 => Err(Refusal::Kind(FormFault::TooDeep)),
         Ok(()) => Ok(whole.into_formula()),
-        Err(e) => Err(e),
+        Err(Refusal::Kind(NoFormula)) => Err(Refusal::Kind(FormFault::BadForm)),
+        Err(Refusal::Memory(m)) => Err(Refusal::Memory(m)),
     }
 }

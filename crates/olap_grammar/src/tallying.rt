@@ -1,9 +1,9 @@
 // The tally of a line's tokens, kept or not.
-ghost use Rattle.std.specs.Prelude.{◌≡◌, ◌+◌, OnOk, IfOk};
-ghost use Rattle.olap_grammar.specs.Tallying.{added, counted, nothing_tallied, tallied};
+ghost use Rattle.std.specs.Prelude.{◌≡◌};
+ghost use Rattle.olap_grammar.specs.Tallying.{HasRoom, added, counted, nothing_tallied, tallied};
 
 use crate::{Mark, Token, Version};
-use olap_base::{MOST_DEPTH, MOST_NODES, Memory};
+use olap_base::{MOST_DEPTH, MOST_NODES};
 
 /// Nodes are counted up to here: more than a formula may have, and the three tokens before it.
 const COUNTED_NODES: u16 = MOST_NODES as u16 + 4;
@@ -34,16 +34,6 @@ fn count(nodes: u16) -> u16
     }
 }
 
-/// One bracket more. `Memory` where a machine has no room for so many.
-fn one_more(brackets: usize) -> Result<usize, Memory>
-    ensures { IfOk result (λ n. n ≡ brackets + 1) }
-{
-    match brackets.checked_add(1) {
-        Some(more) => Ok(more),
-        None => Err(Memory),
-    }
-}
-
 impl Tally {
     /// Nothing is counted yet.
     pub(crate) fn new() -> Tally
@@ -58,32 +48,32 @@ impl Tally {
         }
     }
 
-    /// One token more, but for what comes next. `Memory` where a machine has no room for so many brackets.
-    fn count(&mut self, token: &Token) -> Result<(), Memory>
-        ensures { OnOk result (self.new ≡ added self.old token.now) }
+    /// One token more, but for what comes next.
+    fn count(&mut self, token: &Token)
+        requires { HasRoom self.old }
+        ensures { self.new ≡ added self.old token.now }
     {
         match token {
             Token::Mark(Mark::Open) => {
-                self.opened = one_more(self.opened)?;
+                self.opened += 1;
                 let open = self.opened.saturating_sub(self.closed);
                 self.too_deep = self.too_deep || open > MOST_DEPTH as usize;
             }
-            Token::Mark(Mark::Close) => self.closed = one_more(self.closed)?,
+            Token::Mark(Mark::Close) => self.closed += 1,
             _ => {
                 if !self.is_compared && token.is_node() {
                     self.nodes = count(self.nodes);
                 }
             }
         }
-        Ok(())
     }
 
-    /// One token more. `Memory` where a machine has no room for so many brackets.
-    pub(crate) fn add(&mut self, version: Version, token: &Token) -> Result<(), Memory>
-        ensures { OnOk result (self.new ≡ tallied version self.old token.now) }
+    /// One token more.
+    pub(crate) fn add(&mut self, version: Version, token: &Token)
+        requires { HasRoom self.old }
+        ensures { self.new ≡ tallied version self.old token.now }
     {
-        self.count(token)?;
+        self.count(token);
         self.is_compared = token.compares(version);
-        Ok(())
     }
 }

@@ -1,6 +1,7 @@
 // Words of formulas, and their parts.
 ghost use Rattle.olap_ast.specs.Formula as meaning;
 ghost use Rattle.olap_ast.specs.Trees.{formula_of, op_of};
+ghost use Rattle.olap_base.specs.Bytes.{full_stop, underscore};
 ghost use Rattle.olap_base.specs.Reaching.{is_category_name as is_name_of};
 ghost use Rattle.olap_numerals.specs.Comparing as comparing;
 ghost use Rattle.olap_numerals.specs.Numerals.{digits_in};
@@ -105,7 +106,7 @@ fn are_names(parts: &[Text]) -> bool
 
 /// The categories of the names that are left of a word, if each part is a name.
 fn steps(alloc: Global, known: &Known, text: Option<&[u8]>) -> Result<Option<Vec<CatId>>, Memory>
-    ensures { let parts = pieces_behind 95 text.entry in
+    ensures { let parts = pieces_behind underscore text.entry in
         IfOk result (λ v. option_map
         (λ u. map (λ c. c.0) u.items) v
         ≡ (if list_all is_name_of parts then Some (map (id_of (graph_seen known.now)) parts) else None)) }
@@ -124,7 +125,7 @@ fn steps(alloc: Global, known: &Known, text: Option<&[u8]>) -> Result<Option<Vec
 }
 
 fn path(alloc: Global, known: &Known, word: &[u8]) -> Result<Option<Formula>, Memory>
-    ensures { IfOk result (λ f. option_map formula_of f ≡ path_of (graph_seen known.now) (pieces_of 95 word.now)) }
+    ensures { IfOk result (λ f. option_map formula_of f ≡ path_of (graph_seen known.now) (pieces_of underscore word.now)) }
 {
     let (first, others) = first_piece(b'_', word);
     if !is_name(first) {
@@ -173,10 +174,10 @@ fn compared_part(known: &Known, parts: &[Text]) -> Option<CatId>
 /// The category whose names or numbers the word speaks of, if it speaks of one.
 fn compared_category(alloc: Global, known: &Known, word: &Text) -> Result<Option<CatId>, Memory>
     ensures names { IfOk result (λ found. (text : Items ℕ) → option_map (λ c. meaning.Formula.Equals c.0 text) found
-        ≡ equal_of (graph_seen known.now) text (pieces_of 46 word.now)) }
+        ≡ equal_of (graph_seen known.now) text (pieces_of full_stop word.now)) }
     ensures numbers { IfOk result (λ found. (op : comparing.Op) (n : ℤ) →
         option_map (λ c. meaning.Formula.Compare c.0 op n) found
-        ≡ compared_of (graph_seen known.now) op n (pieces_of 46 word.now)) }
+        ≡ compared_of (graph_seen known.now) op n (pieces_of full_stop word.now)) }
 {
     let word = word.bytes();
     if marks(b'.', word) > 1 {

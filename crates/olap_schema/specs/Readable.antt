@@ -6,13 +6,14 @@
 use Rattle.std.specs.Prelude.{◌≡◌, ◌==◌, ◌||◌, ◌&&◌, ℕ, Bool, false, not, List, Contains, flat_map, nat_lt}
 use Rattle.std.specs.List.{list_any}
 use Rattle.std.specs.Str.{is_utf8}
+use Rattle.olap_base.specs.Bytes.{delete, space, tab}
 use Rattle.olap_ast.specs.Formula.{Equality, equalities}
 use Rattle.olap_ast.specs.Schema.{Schema}
 use Rattle.olap_ast.specs.Valid.{IsValidSchema}
 
--- a character below 32 other than a tab, or 127
+-- a character before the space other than a tab, or the last of ASCII
 abbrev pub is_control : ℕ → Bool
-is_control b = (nat_lt b 32 && not (b == 9)) || (b == 127)
+is_control b = (nat_lt b space && not (b == tab)) || (b == delete)
 
 -- the line isn't UTF-8, or has a control character
 abbrev pub is_bad : List ℕ → Bool

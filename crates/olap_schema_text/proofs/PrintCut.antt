@@ -10,7 +10,7 @@ use Rattle.olap_ast.specs.Formula.{Formula, Terms}
 use Rattle.olap_ast.specs.Valid.{AreFormulasAt, IsFormulaAt}
 use Rattle.olap_numerals.specs.Comparing.{Op}
 use Rattle.olap_numerals.specs.Numerals.{IsSmall, canonical}
-use Rattle.olap_grammar.specs.Cutting.{AreWordBytes, EndsMark, EndsWord, IsMarkIn, is_word_byte, joint_bytes, mark_bytes, Spells, nothing, quote, backslash, other, IsCut, blank, word, quoted, signed, marked}
+use Rattle.olap_grammar.specs.Cutting.{AreWordBytes, EndsMark, EndsWord, IsMarkIn, is_word_byte, joint_bytes, mark_bytes, Spells, nothing, quote, slash, other, IsCut, blank, word, quoted, signed, marked}
 use Rattle.olap_grammar.specs.Grammar.{comparing}
 use Rattle.olap_grammar.specs.Quoting.{escaped}
 use Rattle.olap_grammar.specs.declared.tokens.Token.{Token}
@@ -106,7 +106,7 @@ escaped_spells (b ∷ k) = go (b == 34) (b == 92) refl refl (escaped_spells k)
     go : (p q : Bool) → b == 34 ≡ p → b == 92 ≡ q → Spells (escaped k) k
         → Spells (cond (p || q) (92 ∷ b ∷ []) (b ∷ []) ++ escaped k) (b ∷ k)
     go true q e f d = let same : b ≡ 34 = grind (arith) in rw same (quote d)
-    go false true e f d = let same : b ≡ 92 = grind (arith) in rw same (backslash d)
+    go false true e f d = let same : b ≡ 92 = grind (arith) in rw same (slash d)
     go false false e f d = other e f d
 
 -- `=` and a string

@@ -11,8 +11,8 @@ use Rattle.olap_base.specs.Reaching.{is_category_name}
 use Rattle.olap_base.specs.Limits.{most_constants, most_constraints, most_text_bytes}
 use Rattle.olap_graph.specs.Building.{category_refusal, edge_refusal, with_edge, with_kind}
 use Rattle.olap_graph.specs.Lookups.{category_named}
-use Rattle.olap_graph.specs.declared.refusals.CategoryRefusal.{CategoryRefusal}
-use Rattle.olap_graph.specs.declared.refusals.EdgeRefusal.{EdgeRefusal}
+use Rattle.olap_graph.specs.declared.refusals.CategoryFault.{CategoryFault}
+use Rattle.olap_graph.specs.declared.refusals.EdgeFault.{EdgeFault}
 use Rattle.olap_grammar.specs.CuttingMachine.{tokens_of}
 use Rattle.olap_grammar.specs.Nodes.{nodes_of}
 use Rattle.olap_grammar.specs.declared.tokens.Token.{Token}
@@ -95,7 +95,7 @@ category_step a b n v name number h = go (category_refusal a.graph name) refl t.
         × (category_added a n name number (category_refusal a.graph name) ≡ Ok b)
     t = passed_on _ _ _ _ (passed_on (number && not (allows_numbers v)) _ _ _ h).1
 
-    go : (o : Option CategoryRefusal) → category_refusal a.graph name ≡ o → category_added a n name number o ≡ Ok b
+    go : (o : Option CategoryFault) → category_refusal a.graph name ≡ o → category_added a n name number o ≡ Ok b
         → AddsCategory a b n name number
     go None e k = record { short = t.0; free = e; new = ok_is _ _ k }
     go (Some r) e k = absurd (cc)
@@ -107,7 +107,7 @@ edge_step a b child parent h =
     ends (category_named a.graph child) (category_named a.graph parent) refl refl (passed_on _ _ _ _ h).1
   where
     go : (c d : ℕ) → category_named a.graph child ≡ Some c → category_named a.graph parent ≡ Some d
-        → (o : Option EdgeRefusal)
+        → (o : Option EdgeFault)
         → edge_refusal a.graph c d ≡ o → edge_added a c d o ≡ Ok b → AddsEdge a b child parent c d
     go c d p q None e k = record { child_is = p; parent_is = q; free = e; new = ok_is _ _ k }
     go c d p q (Some r) e k = absurd (cc)

@@ -25,7 +25,7 @@ use Rattle.olap_schema.specs.Readable.{is_bad}
 use Rattle.olap_schema.specs.Readable.{AreTexts, IsReadable}
 use Rattle.olap_schema_text.specs.Reading.{ReadsFormula}
 use Rattle.olap_schema_text.specs.Tokens.{is_bad_number, is_long}
-use Rattle.olap_schema_text.specs.declared.kinds.FormulaRefusal.{FormulaRefusal}
+use Rattle.olap_base.specs.declared.refusals.Refusal.{Refusal}
 use Rattle.olap_schema_text.specs.declared.kinds.SchemaKind.{SchemaKind}
 use Rattle.olap_schema_text.proofs.PrintNames.{named}
 use Rattle.olap_schema_text.proofs.StepLemmas.{ok_is, passed_on}
@@ -94,14 +94,14 @@ question_is_valid s root text f readable declared h =
 module _ (s : Schema) (readable : IsReadable s) (root : ℕ) (declared : IsDeclared s.graph root)
     (text : List ℕ) (clean : is_bad text ≡ false)
   where
-    pub asked_is_question : (r : Result built.Formula FormulaRefusal)
+    pub asked_is_question : (r : Result built.Formula (Refusal SchemaKind))
         → ReadsFormula r (question_cut s root (tokens_of version.Two text))
         → IfOk r (λ f. IsQuestion s root (formula_of f))
     asked_is_question (Ok f) h =
         (cut_is_good s readable root declared text clean (formula_of f) (tokens_of version.Two text) refl h).0
     asked_is_question (Err e) h = tt
 
-    pub asked_has_texts : (r : Result built.Formula FormulaRefusal)
+    pub asked_has_texts : (r : Result built.Formula (Refusal SchemaKind))
         → ReadsFormula r (question_cut s root (tokens_of version.Two text))
         → IfOk r (λ f. AreTexts (equalities (formula_of f)))
     asked_has_texts (Ok f) h =

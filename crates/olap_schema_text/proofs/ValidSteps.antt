@@ -24,7 +24,7 @@ use Rattle.olap_grammar.specs.Grammar.{IsFormula}
 use Rattle.olap_grammar.specs.Machine.{the_formula}
 use Rattle.olap_grammar.specs.Nodes.{nodes_of}
 use Rattle.olap_grammar.specs.Words.{atoms_of}
-use Rattle.olap_grammar.specs.declared.refusals.FormRefusal.TheVariants as form
+use Rattle.olap_grammar.specs.declared.refusals.FormFault.TheVariants as form
 use Rattle.olap_grammar.specs.declared.tokens.Token.{Token}
 use Rattle.olap_grammar.specs.declared.tokens.Version.{Version}
 use Rattle.olap_grammar.proofs.ReaderLemmas.{found_is_formula}

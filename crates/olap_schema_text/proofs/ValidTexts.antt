@@ -20,7 +20,7 @@ use Rattle.olap_base.specs.Deciding.{contains_cases, contains_cons}
 use Rattle.olap_base.specs.Reaching.{is_category_name}
 use Rattle.olap_base.specs.Graph.{Graph}
 use Rattle.olap_base.proofs.ListLemmas.{Contains-nil, contains_head}
-use Rattle.olap_grammar.specs.Cutting.{AreWordBytes, IsCut, IsCut.end, IsCut.blank, IsCut.tab, IsCut.word, IsCut.quoted, IsCut.signed, IsCut.marked, Spells, Spells.nothing, Spells.quote, Spells.backslash, Spells.other, is_word_byte, joint_bytes, mark_bytes}
+use Rattle.olap_grammar.specs.Cutting.{AreWordBytes, IsCut, IsCut.end, IsCut.blank, IsCut.tabbed, IsCut.word, IsCut.quoted, IsCut.signed, IsCut.marked, Spells, Spells.nothing, Spells.quote, Spells.slash, Spells.other, is_word_byte, joint_bytes, mark_bytes}
 use Rattle.olap_grammar.specs.CuttingMachine.{tokens_of}
 use Rattle.olap_grammar.specs.Grammar.{IsFormula, IsFormula.looser, IsFormula.joined, IsFormula.negated, IsFormula.bracketed, IsFormula.listed, IsFormula.plain, IsFormula.equal, IsFormula.compared, IsItems, IsItems.last, IsItems.more, IsList, IsList.none, IsList.some, join}
 use Rattle.olap_numerals.specs.Comparing.{Op}
@@ -94,7 +94,7 @@ spelt (quote {bs = bs} {k = k} s) before u =
     let rest : IsUtf8 (before ++ 34 ∷ bs) = without before 92 (34 ∷ bs) (omega arith) u in
     subst IsUtf8 (append_assoc before (34 ∷ []) k)
     (spelt s (before ++ 34 ∷ []) (subst IsUtf8 (sym (append_assoc before (34 ∷ []) bs)) rest))
-spelt (backslash {bs = bs} {k = k} s) before u =
+spelt (slash {bs = bs} {k = k} s) before u =
     let rest : IsUtf8 (before ++ 92 ∷ bs) = without before 92 (92 ∷ bs) (omega arith) u in
     subst IsUtf8 (append_assoc before (92 ∷ []) k)
     (spelt s (before ++ 92 ∷ []) (subst IsUtf8 (sym (append_assoc before (92 ∷ []) bs)) rest))
@@ -106,7 +106,7 @@ spelt (other {b = b} {bs = bs} {k = k} p q s) before u =
 spelt_controls : {bs k : List ℕ} → Spells bs k → list_any is_control bs ≡ false → list_any is_control k ≡ false
 spelt_controls nothing h = refl
 spelt_controls (quote {bs = bs} s) h = spelt_controls s h
-spelt_controls (backslash {bs = bs} s) h = spelt_controls s h
+spelt_controls (slash {bs = bs} s) h = spelt_controls s h
 spelt_controls (other {b = b} {bs = bs} {k = k} p q s) h = let t =
     none_holds (is_control b) (list_any is_control bs) h in rw t.0 (spelt_controls s t.1)
 
@@ -220,7 +220,7 @@ same_string j k e = cc
 cut_is_fine : {v : Version} {line : List ℕ} {ts : List Token} → IsCut v line ts → IsPlain line → AreFine ts
 cut_is_fine end p = tt
 cut_is_fine (blank {bs = bs} d) p = cut_is_fine d (past_ascii 32 bs (omega arith) p)
-cut_is_fine (tab {bs = bs} d) p = cut_is_fine d (past_ascii 9 bs (omega arith) p)
+cut_is_fine (tabbed {bs = bs} d) p = cut_is_fine d (past_ascii 9 bs (omega arith) p)
 cut_is_fine (word b w {bs = bs} h e d) p =
     (λ k q. absurd (no_quote (b ∷ w) k q), cut_is_fine d (past_all (b ∷ w) bs (word_ascii (b ∷ w) h) p))
 cut_is_fine (quoted {body = body} {k = k} {bs = bs} s d) p =

@@ -8,6 +8,7 @@
 use Rattle.std.specs.Prelude.{◌||◌, ◌-◌, ℕ, Bool, true, false, not, List, [], ◌∷◌, Option, Some, None, codes, drop, is_some, length, nat_lt, slice_index_or, if◌then◌else◌}
 use Rattle.std.specs.List.{list_any, list_all}
 use Rattle.std.specs.Str.{bytes_eq}
+use Rattle.olap_base.specs.Bytes.{full_stop, underscore}
 use Rattle.olap_base.specs.Graph.{Graph, is_number}
 use Rattle.olap_graph.specs.Lookups.{category_named, edge_between}
 use Rattle.olap_grammar.specs.Words.{is_number_token, pieces_of}
@@ -19,11 +20,11 @@ use Rattle.olap_schema_text.specs.declared.kinds.SchemaKind.TheVariants as kind
 
 -- the names in the word of an atom
 abbrev pub names_in : List ℕ → List (List ℕ)
-names_in w = if nat_lt 1 (length (pieces_of 95 w)) then pieces_of 95 w else pieces_of 46 w
+names_in w = if nat_lt 1 (length (pieces_of underscore w)) then pieces_of underscore w else pieces_of full_stop w
 
 -- the word has names joined by `_`
 abbrev pub is_path : List ℕ → Bool
-is_path w = nat_lt 1 (length (pieces_of 95 w))
+is_path w = nat_lt 1 (length (pieces_of underscore w))
 
 -- `true`, `false`, `one` and a number are no atoms
 unfoldable pub is_no_atom : List ℕ → Bool
@@ -84,7 +85,7 @@ has_numbers g (Some c) = is_number g c
 -- the word compares the names of a number category: its last name is that of one
 abbrev pub compares_numbers : Graph → List ℕ → Bool
 compares_numbers g w =
-    let names = pieces_of 46 w in has_numbers g (category_named g (slice_index_or names (length names - 1) []))
+    let names = pieces_of full_stop w in has_numbers g (category_named g (slice_index_or names (length names - 1) []))
 
 -- a string is compared with a number category, or a number with another category
 abbrev pub kind_fault : Graph → List ℕ → Option Bool → Option SchemaKind

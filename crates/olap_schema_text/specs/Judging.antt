@@ -9,14 +9,14 @@ use Rattle.std.specs.Prelude.{◌==◌, ◌||◌, ◌&&◌, ◌+◌, ◌-◌, �
 use Rattle.std.specs.List.{list_any, range_with_len}
 use Rattle.olap_base.specs.Reaching.{category_reaches}
 use Rattle.olap_base.specs.Graph.{Graph}
-use Rattle.olap_base.specs.Naming.{Fault}
+use Rattle.olap_base.specs.declared.refusals.Fault.{Fault}
 use Rattle.olap_base.specs.Limits.{most_constants, most_constraints, most_nodes, most_text_bytes}
 use Rattle.olap_graph.specs.Building.{all_alone, category_refusal, edge_refusal, with_edge, with_kind}
 use Rattle.olap_graph.specs.Lookups.{category_named, name_of_category}
-use Rattle.olap_graph.specs.declared.refusals.CategoryRefusal.{CategoryRefusal}
-use Rattle.olap_graph.specs.declared.refusals.CategoryRefusal.TheVariants as of_category
-use Rattle.olap_graph.specs.declared.refusals.EdgeRefusal.{EdgeRefusal}
-use Rattle.olap_graph.specs.declared.refusals.EdgeRefusal.TheVariants as of_edge
+use Rattle.olap_graph.specs.declared.refusals.CategoryFault.{CategoryFault}
+use Rattle.olap_graph.specs.declared.refusals.CategoryFault.TheVariants as of_category
+use Rattle.olap_graph.specs.declared.refusals.EdgeFault.{EdgeFault}
+use Rattle.olap_graph.specs.declared.refusals.EdgeFault.TheVariants as of_edge
 use Rattle.olap_ast.specs.Constants.{all_comparisons, all_equalities}
 use Rattle.olap_ast.specs.Formula.{Comparison, Equality, Formula, comparisons, equalities}
 use Rattle.olap_ast.specs.Schema.{Constraint, Schema}
@@ -27,8 +27,8 @@ use Rattle.olap_grammar.specs.CuttingMachine.{tokens_of}
 use Rattle.olap_grammar.specs.Machine.{the_formula}
 use Rattle.olap_grammar.specs.Nodes.{nodes_of}
 use Rattle.olap_grammar.specs.Words.{atoms_of}
-use Rattle.olap_grammar.specs.declared.refusals.FormRefusal.{FormRefusal}
-use Rattle.olap_grammar.specs.declared.refusals.FormRefusal.TheVariants as form
+use Rattle.olap_grammar.specs.declared.refusals.FormFault.{FormFault}
+use Rattle.olap_grammar.specs.declared.refusals.FormFault.TheVariants as form
 use Rattle.olap_grammar.specs.declared.tokens.Token.{Token}
 use Rattle.olap_schema_text.specs.Atoms.{atom_fault}
 use Rattle.olap_schema.specs.Readable.{is_bad}
@@ -58,14 +58,13 @@ version_at a = unwrap_or a.version version.One
 
 -- ---- categories and edges
 
--- the fault that a refused category is; `category_refusal` never says `Memory`
-abbrev pub category_kind : CategoryRefusal → SchemaKind
+-- the fault that a refused category is
+abbrev pub category_kind : CategoryFault → SchemaKind
 category_kind of_category.DuplicateCategory = kind.DuplicateCategory
 category_kind of_category.TooManyCategories = kind.TooManyCategories
-category_kind of_category.Memory = kind.TooManyCategories
 
 -- the category is added, on the n-th line, with texts or numbers as its names, or refused
-abbrev pub category_added : Above → ℕ → List ℕ → Bool → Option CategoryRefusal → Result Above SchemaKind
+abbrev pub category_added : Above → ℕ → List ℕ → Bool → Option CategoryFault → Result Above SchemaKind
 category_added a n name number (Some e) = Err (category_kind e)
 category_added a n name number None =
     Ok (record a { graph = with_kind number a.graph name; category_lines = a.category_lines ++ n ∷ [] })
@@ -82,16 +81,15 @@ category_read a n v name number =
     else if nat_lt most_text_bytes (length name) then Err kind.TextTooLong
     else category_added a n name number (category_refusal a.graph name)
 
--- the fault that a refused edge is; `edge_refusal` never says `Memory`
-abbrev pub edge_kind : EdgeRefusal → SchemaKind
+-- the fault that a refused edge is
+abbrev pub edge_kind : EdgeFault → SchemaKind
 edge_kind of_edge.SelfEdge = kind.SelfEdge
 edge_kind of_edge.EdgeFromAll = kind.EdgeFromAll
 edge_kind of_edge.DuplicateEdge = kind.DuplicateEdge
 edge_kind of_edge.TooManyEdges = kind.TooManyEdges
-edge_kind of_edge.Memory = kind.TooManyEdges
 
 -- the edge is added, or refused
-abbrev pub edge_added : Above → ℕ → ℕ → Option EdgeRefusal → Result Above SchemaKind
+abbrev pub edge_added : Above → ℕ → ℕ → Option EdgeFault → Result Above SchemaKind
 edge_added a c d (Some e) = Err (edge_kind e)
 edge_added a c d None = Ok (record a { graph = with_edge a.graph c d })
 
@@ -109,14 +107,13 @@ edge_read a child parent =
 
 -- ---- formulas
 
--- the fault of tokens that are no formula; `formula_answer` never says `Memory`
-abbrev pub form_kind : FormRefusal → SchemaKind
+-- the fault of tokens that are no formula
+abbrev pub form_kind : FormFault → SchemaKind
 form_kind form.BadForm = kind.BadForm
 form_kind form.TooDeep = kind.TooDeep
-form_kind form.Memory = kind.TooDeep
 
 -- the formula, or its fault
-abbrev pub form_answer : Result Formula FormRefusal → Result Formula SchemaKind
+abbrev pub form_answer : Result Formula FormFault → Result Formula SchemaKind
 form_answer (Ok f) = Ok f
 form_answer (Err e) = Err (form_kind e)
 

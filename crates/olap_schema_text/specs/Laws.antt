@@ -6,7 +6,7 @@
 use Rattle.std.specs.Prelude.{◌≡◌, ◌↔◌, ◌<◌, ◌+◌, ℕ, true, List, Result, Ok, count_by, take}
 use Rattle.olap_base.specs.Graph.{IsDeclared}
 use Rattle.olap_base.specs.Limits.{most_depth}
-use Rattle.olap_base.specs.Naming.{Fault}
+use Rattle.olap_base.specs.declared.refusals.Fault.{Fault}
 use Rattle.olap_ast.specs.Formula.{Formula, equalities}
 use Rattle.olap_ast.specs.Schema.{Schema}
 use Rattle.olap_ast.specs.Valid.{IsQuestion, IsValidSchema}

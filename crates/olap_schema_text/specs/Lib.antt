@@ -10,6 +10,5 @@ pub mod Kinds
 pub mod Printing
 pub mod PrintingLaws
 pub mod Laws
-pub mod Refusals
 -- The inside: what the readers' values stand for.
 pub mod Reading

@@ -3,6 +3,7 @@
 --     chomped       a line without the CR at its end
 --     is_quiet      it is blank or a comment
 use Rattle.std.specs.Prelude.{◌==◌, ◌||◌, ◌-◌, ℕ, suc, Bool, true, List, [], ◌∷◌, length, take, slice_index, if◌then◌else◌}
+use Rattle.olap_base.specs.Bytes.{carriage_return, hash_sign, line_feed, space, tab}
 
 -- a byte in front of the first line
 abbrev pub in_front : ℕ → List (List ℕ) → List (List ℕ)
@@ -12,18 +13,18 @@ in_front b (line ∷ lines) = (b ∷ line) ∷ lines
 -- the text is split at each LF; a last piece that is empty isn't a line
 unfoldable pub lines_of : List ℕ → List (List ℕ)
 lines_of [] = []
-lines_of (b ∷ bs) = if b == 10 then [] ∷ lines_of bs else in_front b (lines_of bs)
+lines_of (b ∷ bs) = if b == line_feed then [] ∷ lines_of bs else in_front b (lines_of bs)
 
 -- how many bytes stand before the first LF
 unfoldable pub line_length : List ℕ → ℕ
 line_length [] = 0
-line_length (b ∷ bs) = if b == 10 then 0 else suc (line_length bs)
+line_length (b ∷ bs) = if b == line_feed then 0 else suc (line_length bs)
 
 -- the line without a CR at its end
 abbrev pub chomped : List ℕ → List ℕ
-chomped line = if slice_index line (length line - 1) == 13 then take (length line - 1) line else line
+chomped line = if slice_index line (length line - 1) == carriage_return then take (length line - 1) line else line
 
 -- the line has only spaces and tabs, or its first other character is `#`
 unfoldable pub is_quiet : List ℕ → Bool
 is_quiet [] = true
-is_quiet (b ∷ bs) = if (b == 32) || (b == 9) then is_quiet bs else b == 35
+is_quiet (b ∷ bs) = if (b == space) || (b == tab) then is_quiet bs else b == hash_sign

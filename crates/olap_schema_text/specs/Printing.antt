@@ -2,6 +2,7 @@
 --     formula_text     a formula at a root
 --     schema_text      a schema
 use Rattle.std.specs.Prelude.{◌==◌, ◌++◌, ℕ, Bool, true, false, List, [], ◌∷◌, codes, map, if◌then◌else◌}
+use Rattle.olap_base.specs.Bytes.{colon, comma, equals_sign, exclamation_mark, full_stop, left_parenthesis, line_feed, right_parenthesis, space, underscore}
 use Rattle.olap_base.specs.Graph.{Edge, Graph}
 use Rattle.olap_graph.specs.Lookups.{name_of_category}
 use Rattle.olap_ast.specs.Formula as Meaning
@@ -27,29 +28,30 @@ atom_word g root mark cs = name_of_category g root ++ names_after g mark cs
 
 -- the word of the category whose name is compared: the root stands by itself
 abbrev pub compared_word : Graph → ℕ → ℕ → List ℕ
-compared_word g root d = if d == root then name_of_category g root else atom_word g root 46 (d ∷ [])
+compared_word g root d = if d == root then name_of_category g root else atom_word g root full_stop (d ∷ [])
 
 -- two formulas in brackets with a mark between
 abbrev pub joined_text : Joint → List ℕ → List ℕ → List ℕ
-joined_text j left right = 40 ∷ (left ++ 32 ∷ (joint_bytes j ++ 32 ∷ (right ++ 41 ∷ [])))
+joined_text j left right =
+    left_parenthesis ∷ (left ++ space ∷ (joint_bytes j ++ space ∷ (right ++ right_parenthesis ∷ [])))
 
 abbrev mutual
   pub formula_text : Graph → ℕ → Formula → List ℕ
   formula_text g r Meaning.Formula.Truth = codes "true"
   formula_text g r Meaning.Formula.Falsity = codes "false"
-  formula_text g r (Meaning.Formula.Path cs) = atom_word g r 95 cs
-  formula_text g r (Meaning.Formula.Reach d) = atom_word g r 46 (d ∷ [])
-  formula_text g r (Meaning.Formula.Via d e) = atom_word g r 46 (d ∷ e ∷ [])
-  formula_text g r (Meaning.Formula.Equals d k) = compared_word g r d ++ 32 ∷ 61 ∷ 32 ∷ quoted k
+  formula_text g r (Meaning.Formula.Path cs) = atom_word g r underscore cs
+  formula_text g r (Meaning.Formula.Reach d) = atom_word g r full_stop (d ∷ [])
+  formula_text g r (Meaning.Formula.Via d e) = atom_word g r full_stop (d ∷ e ∷ [])
+  formula_text g r (Meaning.Formula.Equals d k) = compared_word g r d ++ space ∷ equals_sign ∷ space ∷ quoted k
   formula_text g r (Meaning.Formula.Compare d op n) =
-      compared_word g r d ++ 32 ∷ (mark_bytes (comparing op) ++ 32 ∷ canonical n)
-  formula_text g r (Meaning.Formula.Not f) = 33 ∷ formula_text g r f
+      compared_word g r d ++ space ∷ (mark_bytes (comparing op) ++ space ∷ canonical n)
+  formula_text g r (Meaning.Formula.Not f) = exclamation_mark ∷ formula_text g r f
   formula_text g r (Meaning.Formula.And f h) = joined_text joint.And (formula_text g r f) (formula_text g r h)
   formula_text g r (Meaning.Formula.Or f h) = joined_text joint.Or (formula_text g r f) (formula_text g r h)
   formula_text g r (Meaning.Formula.Implies f h) = joined_text joint.Implies (formula_text g r f) (formula_text g r h)
   formula_text g r (Meaning.Formula.Iff f h) = joined_text joint.Iff (formula_text g r f) (formula_text g r h)
   formula_text g r (Meaning.Formula.Xor f h) = joined_text joint.Xor (formula_text g r f) (formula_text g r h)
-  formula_text g r (Meaning.Formula.One fs) = 111 ∷ 110 ∷ 101 ∷ 40 ∷ (list_text g r fs ++ 41 ∷ [])
+  formula_text g r (Meaning.Formula.One fs) = codes "one(" ++ (list_text g r fs ++ right_parenthesis ∷ [])
 
   -- the parts of a list, with a comma and a space between
   pub list_text : Graph → ℕ → Terms → List ℕ
@@ -59,7 +61,7 @@ abbrev mutual
   -- the parts after the first
   pub rest_text : Graph → ℕ → Terms → List ℕ
   rest_text g r Meaning.Terms.End = []
-  rest_text g r (Meaning.Terms.More f fs) = 44 ∷ 32 ∷ (formula_text g r f ++ rest_text g r fs)
+  rest_text g r (Meaning.Terms.More f fs) = comma ∷ space ∷ (formula_text g r f ++ rest_text g r fs)
 
 -- ---- lines, without their LF
 
@@ -84,18 +86,18 @@ category_texts (name ∷ names) (number ∷ numbers) = category_text name number
 
 -- the line of an edge
 abbrev pub edge_text : Graph → Edge → List ℕ
-edge_text g e = codes "edge " ++ (name_of_category g e.child ++ 32 ∷ name_of_category g e.parent)
+edge_text g e = codes "edge " ++ (name_of_category g e.child ++ space ∷ name_of_category g e.parent)
 
 -- the line of a constraint
 abbrev pub constraint_text : Graph → Constraint → List ℕ
 constraint_text g c =
-    codes "constraint " ++ (name_of_category g c.root ++ 58 ∷ 32 ∷ formula_text g c.root c.formula)
+    codes "constraint " ++ (name_of_category g c.root ++ colon ∷ space ∷ formula_text g c.root c.formula)
 
 -- ---- texts
 
 -- the line with an LF at its end
 abbrev pub ended_line : List ℕ → List ℕ
-ended_line line = line ++ 10 ∷ []
+ended_line line = line ++ line_feed ∷ []
 
 -- the lines of a schema
 abbrev pub schema_lines : Schema → List (List ℕ)
@@ -106,7 +108,7 @@ schema_lines s =
 -- the lines, each with its LF
 unfoldable pub text_of_lines : List (List ℕ) → List ℕ
 text_of_lines [] = []
-text_of_lines (line ∷ lines) = line ++ 10 ∷ text_of_lines lines
+text_of_lines (line ∷ lines) = line ++ line_feed ∷ text_of_lines lines
 
 -- the canonical text
 abbrev pub schema_text : Schema → List ℕ

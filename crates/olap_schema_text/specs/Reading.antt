@@ -1,13 +1,17 @@
 -- The values of the readers, as the definitions have them.
---     IsFault, FindsFault, Finds    how the refusals of the code agree with the first fault
+--     Finds                         no fault was found, or the first
 --     above_of                      what the reader knows, as the definition has it
 --     Reads                         a line was read as the definition says
+--     ReadsLines                    so were all lines
 --     ReadsFormula                  a formula was read as the definition says
 --     said                          what the tokens of a line say
 --     HasName                       a new category has a category name
 --     IsTallyBehind                 what was counted is so of the tokens
-use Rattle.std.specs.Prelude.{◌≡◌, ◌≤◌, ◌<◌, ◌+◌, ℕ, List, Result, Ok, Err, Option, Some, None, map, IsTrue}
+use Rattle.std.specs.Prelude.{◌≡◌, ◌≤◌, ◌<◌, ◌+◌, ℕ, List, Result, Ok, Err, Option, None, map, IsTrue}
 use Rattle.olap_base.specs.Reaching.{is_category_name}
+use Rattle.olap_base.specs.Refusing.{IsCause, IsRefusedBy}
+use Rattle.olap_base.specs.declared.refusals.Fault.{Fault}
+use Rattle.olap_base.specs.declared.refusals.Refusal.{Refusal}
 use Rattle.olap_ast.specs.Formula as Meaning
 use Rattle.olap_ast.specs.Trees.{constraint_of, formula_of}
 use Rattle.olap_ast.specs.declared.formulas.Formula.{Formula}
@@ -17,10 +21,8 @@ use Rattle.olap_grammar.specs.Nodes.{nodes_of}
 use Rattle.olap_grammar.specs.declared.tallying.Tally.{Tally}
 use Rattle.olap_grammar.specs.declared.tokens.Version.{Version}
 use Rattle.olap_grammar.specs.declared.tokens.Token.{Token}
-use Rattle.olap_schema_text.specs.Judging.{Above}
+use Rattle.olap_schema_text.specs.Judging.{Above, Read}
 use Rattle.olap_schema_text.specs.Statements as says
-use Rattle.olap_schema_text.specs.declared.kinds.FormulaRefusal.{FormulaRefusal}
-use Rattle.olap_schema_text.specs.declared.kinds.FormulaRefusal.TheVariants as refusal
 use Rattle.olap_schema_text.specs.declared.kinds.SchemaKind.{SchemaKind}
 use Rattle.olap_schema_text.specs.declared.pairing.NumberPair.{NumberPair}
 use Rattle.olap_schema_text.specs.declared.pairing.Pair.{Pair}
@@ -28,20 +30,10 @@ use Rattle.olap_schema_text.specs.declared.reading.Reading.{Reading}
 use Rattle.olap_schema_text.specs.declared.statements.Statement.{Statement}
 use Rattle.olap_schema_text.specs.declared.statements.Statement.TheVariants as statement
 
--- out of memory, or that fault
-abbrev pub IsFault : {A : Type 0} → FormulaRefusal → Result A SchemaKind → Type 0
-IsFault (refusal.Fault k) read = read ≡ Err k
-IsFault refusal.Memory read = Unit {0}
-
--- out of memory, or the first fault
-abbrev pub FindsFault : FormulaRefusal → Option SchemaKind → Type 0
-FindsFault (refusal.Fault k) first = first ≡ Some k
-FindsFault refusal.Memory first = Unit {0}
-
--- no fault, or out of memory, or that fault
-abbrev pub Finds : {A : Type 0} → Result A FormulaRefusal → Option SchemaKind → Type 0
+-- no fault, or the first fault, or out of memory
+abbrev pub Finds : {A : Type 0} → Result A (Refusal SchemaKind) → Option SchemaKind → Type 0
 Finds (Ok u) first = first ≡ None
-Finds (Err e) first = FindsFault e first
+Finds (Err e) first = IsCause first e
 
 -- a pair of a category and a text
 abbrev pub pair_of : Pair → Meaning.Equality
@@ -64,14 +56,19 @@ above_of r = record {
 }
 
 -- the reader goes on to what it knows now, or the line has that fault
-abbrev pub Reads : {A : Type 0} → Result A FormulaRefusal → Above → Result Above SchemaKind → Type 0
+abbrev pub Reads : {A : Type 0} → Result A (Refusal SchemaKind) → Above → Result Above SchemaKind → Type 0
 Reads (Ok u) new read = read ≡ Ok new
-Reads (Err e) new read = IsFault e read
+Reads (Err e) new read = IsRefusedBy e read
+
+-- the reader knows what all lines say, or a line has that fault
+abbrev pub ReadsLines : {A : Type 0} → Result A (Refusal (Fault SchemaKind)) → Above → Read → Type 0
+ReadsLines (Ok u) new read = read ≡ Ok new
+ReadsLines (Err e) new read = IsRefusedBy e read
 
 -- the formula was read, or there is that fault
-abbrev pub ReadsFormula : Result Formula FormulaRefusal → Result Meaning.Formula SchemaKind → Type 0
+abbrev pub ReadsFormula : Result Formula (Refusal SchemaKind) → Result Meaning.Formula SchemaKind → Type 0
 ReadsFormula (Ok f) read = read ≡ Ok (formula_of f)
-ReadsFormula (Err e) read = IsFault e read
+ReadsFormula (Err e) read = IsRefusedBy e read
 
 -- what the tokens of a line say
 abbrev pub said : Statement → says.Statement

@@ -1,4 +1,5 @@
 // The checks of a formula's atoms, from left to right.
+ghost use Rattle.olap_base.specs.Bytes.{full_stop, underscore};
 ghost use Rattle.olap_grammar.specs.Known.{graph_seen};
 ghost use Rattle.olap_grammar.specs.Words.{pieces_behind, pieces_of};
 ghost use Rattle.olap_graph.specs.Lookups.{category_named};
@@ -7,9 +8,9 @@ ghost use Rattle.olap_schema_text.specs.Reading.{Finds};
 ghost use Rattle.std.specs.List.{list_all};
 ghost use Rattle.std.specs.Prelude.{◌≡◌, [], IfOk, false, true};
 
+use crate::SchemaKind;
 use crate::statements::is;
-use crate::{FormulaRefusal, SchemaKind};
-use olap_base::{Memory, Text};
+use olap_base::{Memory, Refusal, Text};
 use olap_grammar::{Known, Mark, Token, first_piece, is_number_token, marks, pieces};
 use std::alloc::Global;
 
@@ -57,7 +58,7 @@ fn are_known(known: &Known, mark: u8, word: &[u8]) -> bool
 /// Whether a name comes twice in a path, where none stands before it. The names before the first that does are kept.
 fn repeats(alloc: Global, before: &mut Vec<Text>, path: &[u8]) -> Result<bool, Memory>
     requires { before.old.items ≡ [] }
-    ensures { IfOk result (λ b. b ≡ is_repeated_of (pieces_of 95 path.now)) }
+    ensures { IfOk result (λ b. b ≡ is_repeated_of (pieces_of underscore path.now)) }
 {
     let mut left = Some(path);
     'names: while let Some(text) = left {
@@ -74,7 +75,7 @@ fn repeats(alloc: Global, before: &mut Vec<Text>, path: &[u8]) -> Result<bool, M
 /// Whether a name comes twice in a path. The names before the first that does are kept: of known names no more than
 /// there are categories.
 fn is_path_repeated(alloc: Global, path: &[u8]) -> Result<bool, Memory>
-    ensures { IfOk result (λ b. b ≡ is_repeated_of (pieces_of 95 path.now)) }
+    ensures { IfOk result (λ b. b ≡ is_repeated_of (pieces_of underscore path.now)) }
 {
     let mut before = Vec::new(alloc);
     repeats(alloc, &mut before, path)
@@ -97,7 +98,7 @@ fn joins(known: &Known, child: &[u8], parent: &[u8]) -> bool
 /// Whether an edge is missing between one name of a path and the next, from the first on to those behind it.
 #[tactic(auto, unfolding(crate::specs::Atoms::lacks_edge))]
 fn lacks_edge(known: &Known, first: &[u8], names: Option<&[u8]>) -> bool
-    ensures { result ≡ lacks_edge_of (graph_seen known.now) first.now (pieces_behind 95 names.entry) }
+    ensures { result ≡ lacks_edge_of (graph_seen known.now) first.now (pieces_behind underscore names.entry) }
 {
     let mut child = first;
     let mut left = names;
@@ -113,43 +114,53 @@ fn lacks_edge(known: &Known, first: &[u8], names: Option<&[u8]>) -> bool
 }
 
 /// The names of an atom that is no path, the root first: known, and from this root.
-fn check_names(known: &Known, root: &[u8], word: &[u8]) -> Result<(), FormulaRefusal>
-    ensures { Finds result (named_fault (graph_seen known.now) root.now false (pieces_of 46 word.now)) }
+fn check_names(known: &Known, root: &[u8], word: &[u8]) -> Result<(), Refusal<SchemaKind>>
+    ensures { Finds result (named_fault (graph_seen known.now) root.now false (pieces_of full_stop word.now)) }
 {
     if !are_known(known, b'.', word) {
-        return Err(FormulaRefusal::Fault(SchemaKind::UnknownCategory));
+        return Err(Refusal::Kind(SchemaKind::UnknownCategory));
     }
     let (first, _) = first_piece(b'.', word);
     if !is(first, root) {
-        return Err(FormulaRefusal::Fault(SchemaKind::MixedRoot));
+        return Err(Refusal::Kind(SchemaKind::MixedRoot));
     }
     Ok(())
 }
 
 /// The names of a path, the root first: known, from this root, each once and linked. They are listed only once they are
 /// known to be few.
-fn check_path(alloc: Global, known: &Known, root: &[u8], path: &[u8]) -> Result<(), FormulaRefusal>
-    ensures { Finds result (named_fault (graph_seen known.now) root.now true (pieces_of 95 path.now)) }
+fn check_path(
+    alloc: Global,
+    known: &Known,
+    root: &[u8],
+    path: &[u8],
+) -> Result<(), Refusal<SchemaKind>>
+    ensures { Finds result (named_fault (graph_seen known.now) root.now true (pieces_of underscore path.now)) }
 {
     if !are_known(known, b'_', path) {
-        return Err(FormulaRefusal::Fault(SchemaKind::UnknownCategory));
+        return Err(Refusal::Kind(SchemaKind::UnknownCategory));
     }
     let (first, others) = first_piece(b'_', path);
     if !is(first, root) {
-        return Err(FormulaRefusal::Fault(SchemaKind::MixedRoot));
+        return Err(Refusal::Kind(SchemaKind::MixedRoot));
     }
     if is_path_repeated(alloc, path)? {
-        return Err(FormulaRefusal::Fault(SchemaKind::RepeatedCategory));
+        return Err(Refusal::Kind(SchemaKind::RepeatedCategory));
     }
     if lacks_edge(known, root, others) {
-        return Err(FormulaRefusal::Fault(SchemaKind::NotAnEdge));
+        return Err(Refusal::Kind(SchemaKind::NotAnEdge));
     }
     Ok(())
 }
 
 /// The atom that a word is.
 #[tactic(auto, unfolding(crate::specs::Atoms::word_fault))]
-fn check_word(alloc: Global, known: &Known, root: &[u8], word: &[u8]) -> Result<(), FormulaRefusal>
+fn check_word(
+    alloc: Global,
+    known: &Known,
+    root: &[u8],
+    word: &[u8],
+) -> Result<(), Refusal<SchemaKind>>
     ensures { Finds result (word_fault (graph_seen known.now) root.now word.now) }
 {
     if is_no_atom(word) {
@@ -197,13 +208,13 @@ fn check_kind(
     known: &Known,
     word: &[u8],
     behind: &[Token],
-) -> Result<(), FormulaRefusal>
+) -> Result<(), Refusal<SchemaKind>>
     ensures { Finds result (kind_fault (graph_seen known.now) word.now (asks_number_of behind.now)) }
 {
     match asks_number(behind) {
         Some(number) => {
             if compares_numbers(alloc, known, word)? != number {
-                return Err(FormulaRefusal::Fault(SchemaKind::WrongNames));
+                return Err(Refusal::Kind(SchemaKind::WrongNames));
             }
             Ok(())
         }
@@ -218,7 +229,7 @@ fn check_token(
     root: &[u8],
     token: &Token,
     behind: &[Token],
-) -> Result<(), FormulaRefusal>
+) -> Result<(), Refusal<SchemaKind>>
     ensures { Finds result (token_fault (graph_seen known.now) root.now token.now behind.now) }
 {
     match token {
@@ -237,7 +248,7 @@ pub(crate) fn check_atoms(
     known: &Known,
     root: &[u8],
     tokens: &[Token],
-) -> Result<(), FormulaRefusal>
+) -> Result<(), Refusal<SchemaKind>>
     ensures { Finds result (atom_fault (graph_seen known.now) root.now tokens.now) }
 {
     let mut left = tokens;

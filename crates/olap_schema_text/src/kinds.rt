@@ -1,9 +1,5 @@
-// Kinds of faults of a schema text, and refusals.
+// Kinds of faults of a schema text.
 ghost use Rattle.std.specs.Prelude.{◌≡◌};
-ghost use Rattle.olap_schema_text.specs.declared.kinds.FormulaRefusal.TheVariants as refusal;
-
-use olap_base::Memory;
-use std::alloc::AllocFailed;
 
 /// What is wrong with a line of a schema, or with a question's formula.
 #[derive(Clone, Copy, Debug, PartialEq, Eq)]
@@ -83,38 +79,4 @@ impl SchemaKind {
             SchemaKind::BadNumber => "BadNumber",
         }
     }
-}
-
-/// Why a line, or a formula, is refused.
-#[derive(Clone, Copy, Debug, PartialEq, Eq)]
-pub enum FormulaRefusal {
-    /// What is wrong with it.
-    Fault(SchemaKind),
-    /// Out of memory.
-    Memory,
-}
-
-impl From<Memory> for FormulaRefusal {
-    ghost from_gives = { λ _ e. e ≡ refusal.Memory };
-
-    fn from(_: Memory) -> Self {
-        FormulaRefusal::Memory
-    }
-}
-
-impl<T: Drop> From<AllocFailed<T>> for FormulaRefusal {
-    ghost from_gives = { λ _ e. e ≡ refusal.Memory };
-
-    fn from(_: AllocFailed<T>) -> Self {
-        FormulaRefusal::Memory
-    }
-}
-
-/// Why a schema text is refused.
-#[derive(Clone, Copy, Debug, PartialEq, Eq)]
-pub enum SchemaRefusal {
-    /// The first line with a fault, counted from 1, and what is wrong with it.
-    Fault { line: u64, kind: SchemaKind },
-    /// Out of memory.
-    Memory,
 }

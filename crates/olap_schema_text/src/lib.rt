@@ -16,11 +16,11 @@ mod reading;
 mod statements;
 mod texts;
 
-pub use kinds::{FormulaRefusal, SchemaKind, SchemaRefusal};
+pub use kinds::SchemaKind;
 pub use laws::{
     open_brackets_are_counted, read_questions_are_valid, read_schemas_are_readable,
     read_schemas_are_valid,
 };
-pub use printing::{print_schema, printed_schemas_are_read};
+pub use printing::{print_constraints, print_schema, printed_schemas_are_read};
 pub use questions::read_formula;
 pub use texts::read_schema;

@@ -8,10 +8,10 @@ ghost use Rattle.olap_schema_text.specs.declared.kinds.SchemaKind.TheVariants as
 ghost use Rattle.std.specs.List.{list_any};
 ghost use Rattle.std.specs.Prelude.{◌≡◌, [], ◌∷◌, ◌++◌, ◌+◌, None, OnOk, Some, fold, if◌then◌else◌, length, map, nat_lt};
 
+use crate::SchemaKind;
 use crate::statements::is;
-use crate::{FormulaRefusal, SchemaKind};
 use olap_ast::{Formula, Terms};
-use olap_base::{CatId, MOST_CONSTANTS, Memory, Text};
+use olap_base::{CatId, MOST_CONSTANTS, Memory, Refusal, Text};
 use std::alloc::Global;
 
 /// A pair of a category and a text.
@@ -150,7 +150,7 @@ pub(crate) fn add_few_pairs(
     pairs: &mut Vec<Pair>,
     numbers: &mut Vec<NumberPair>,
     f: &Formula,
-) -> Result<(), FormulaRefusal>
+) -> Result<(), Refusal<SchemaKind>>
     ensures few { let count = length (fold with_pair (map pair_of pairs.old.items) (equalities (formula_of f.now)))
         + length (fold with_number (map number_pair_of numbers.old.items) (comparisons (formula_of f.now))) in
         Finds result (if nat_lt most_constants count then Some kind.TooManyConstants else None) }
@@ -161,7 +161,7 @@ pub(crate) fn add_few_pairs(
 {
     add_pairs(alloc, pairs, numbers, f)?;
     if pairs.len() + numbers.len() > MOST_CONSTANTS {
-        return Err(FormulaRefusal::Fault(SchemaKind::TooManyConstants));
+        return Err(Refusal::Kind(SchemaKind::TooManyConstants));
     }
     Ok(())
 }

@@ -1,5 +1,6 @@
 // Printing a schema.
 ghost use Rattle.olap_ast.specs.Trees.{constraint_of, formula_of, op_of, terms_of};
+ghost use Rattle.olap_base.specs.Bytes.{colon, equals_sign, right_parenthesis, space};
 ghost use Rattle.olap_base.specs.Graph.{Edge, IsCategory, is_number};
 ghost use Rattle.olap_graph.specs.Lookups.{name_of_category};
 ghost use Rattle.olap_grammar.specs.Cutting.{joint_bytes, mark_bytes};
@@ -102,7 +103,7 @@ fn push_numeral(out: &mut Vec<u8>, n: i64) -> Result<(), AllocError>
 /// The mark of a comparison and the number, with a space before each.
 fn push_number(out: &mut Vec<u8>, op: Op, n: i64) -> Result<(), AllocError>
     ensures { let mark = mark_bytes (comparing (op_of op)) in
-        OnOk result (out.new.items ≡ out.old.items ++ 32 ∷ (mark ++ 32 ∷ canonical n)) }
+        OnOk result (out.new.items ≡ out.old.items ++ space ∷ (mark ++ space ∷ canonical n)) }
 {
     out.push(b' ')?;
     push_op(out, op)?;
@@ -119,7 +120,7 @@ fn push_equality(
     text: &Text,
 ) -> Result<(), AllocError>
     ensures { let compared = compared_word graph.now root.0 d.0 in
-        OnOk result (out.new.items ≡ out.old.items ++ (compared ++ 32 ∷ 61 ∷ 32 ∷ quoted text.now)) }
+        OnOk result (out.new.items ≡ out.old.items ++ (compared ++ space ∷ equals_sign ∷ space ∷ quoted text.now)) }
 {
     push_compared(out, graph, root, d)?;
     out.extend_from_slice(b" = ")?;
@@ -137,7 +138,7 @@ fn push_comparison(
 ) -> Result<(), AllocError>
     ensures { let mark = mark_bytes (comparing (op_of op)) in
         let compared = compared_word graph.now root.0 d.0 in
-        OnOk result (out.new.items ≡ out.old.items ++ (compared ++ 32 ∷ (mark ++ 32 ∷ canonical n))) }
+        OnOk result (out.new.items ≡ out.old.items ++ (compared ++ space ∷ (mark ++ space ∷ canonical n))) }
 {
     push_compared(out, graph, root, d)?;
     push_number(out, op, n)
@@ -145,7 +146,7 @@ fn push_comparison(
 
 /// The connective, with a space on each side.
 fn push_joint(out: &mut Vec<u8>, joint: Joint) -> Result<(), AllocError>
-    ensures { OnOk result (out.new.items ≡ out.old.items ++ 32 ∷ (joint_bytes joint ++ 32 ∷ [])) }
+    ensures { OnOk result (out.new.items ≡ out.old.items ++ space ∷ (joint_bytes joint ++ space ∷ [])) }
 {
     match joint {
         Joint::Iff => out.extend_from_slice(b" <-> "),
@@ -225,7 +226,7 @@ fn push_joined(
 #[cycle(push_formula)]
 fn push_one(out: &mut Vec<u8>, graph: &Graph, root: CatId, terms: &Terms) -> Result<(), AllocError>
     ensures { let list = list_text graph.now root.0 (terms_of terms.now) in
-        OnOk result (out.new.items ≡ out.old.items ++ 111 ∷ 110 ∷ 101 ∷ 40 ∷ (list ++ 41 ∷ [])) }
+        OnOk result (out.new.items ≡ out.old.items ++ (codes "one(" ++ (list ++ right_parenthesis ∷ []))) }
 {
     out.extend_from_slice(b"one(")?;
     push_list(out, graph, root, terms)?;
@@ -335,7 +336,7 @@ fn push_edges(out: &mut Vec<u8>, graph: &Graph) -> Result<(), AllocError>
 
 /// What stands in front of a constraint's formula.
 fn push_root(out: &mut Vec<u8>, graph: &Graph, root: CatId) -> Result<(), AllocError>
-    ensures { let head = codes "constraint " ++ (name_of_category graph.now root.0 ++ 58 ∷ 32 ∷ []) in
+    ensures { let head = codes "constraint " ++ (name_of_category graph.now root.0 ++ colon ∷ space ∷ []) in
         OnOk result (out.new.items ≡ out.old.items ++ head) }
 {
     out.extend_from_slice(b"constraint ")?;
@@ -388,6 +389,21 @@ pub(crate) fn push_schema(
     push_categories(out, graph)?;
     push_edges(out, graph)?;
     push_constraints(out, graph, constraints)
+}
+
+/// The lines of these constraints in the canonical text of a schema with this graph. `Memory` where there is no room
+/// for them. Linear in the lines.
+pub fn print_constraints(
+    alloc: Global,
+    graph: &Graph,
+    constraints: &[Constraint],
+) -> Result<Text, Memory>
+    ensures { let lines = map (constraint_text graph.now) (map constraint_of constraints.now) in
+        IfOk result (λ text. text ≡ text_of_lines lines) }
+{
+    let mut out = Vec::new(alloc);
+    push_constraints(&mut out, graph, constraints)?;
+    Ok(Text::from_vec(out))
 }
 
 /// The canonical text of a schema: a line for the second version, each category, each edge and each constraint, in

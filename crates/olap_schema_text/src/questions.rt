@@ -14,19 +14,20 @@ ghost use Rattle.olap_grammar.specs.declared.tokens.Token.{Token as Tokens};
 ghost use Rattle.olap_grammar.specs.declared.tokens.Version.TheVariants as version;
 ghost use Rattle.olap_schema_text.specs.Judging.{question_cut, question_formed, question_read};
 ghost use Rattle.olap_schema.specs.Readable.{AreTexts};
-ghost use Rattle.olap_schema_text.specs.Reading.{Finds, IsFault, ReadsFormula, number_pair_of, pair_of};
+ghost use Rattle.olap_schema_text.specs.Reading.{Finds, ReadsFormula, number_pair_of, pair_of};
+ghost use Rattle.olap_base.specs.Refusing.{IsRefusedBy};
 ghost use Rattle.olap_schema.specs.Schemas.{schema_of};
 ghost use Rattle.std.specs.Prelude.{◌≡◌, ◌≤◌, [], List, Option, IfOk, MatchResult, Ok, OnOk, Some, None, flat_map, fold, if◌then◌else◌, map, nat_lt};
 
+use crate::SchemaKind;
 use crate::atoms::check_atoms;
 use crate::lines::is_bad;
 use crate::measuring::{MOST_TOKENS, has_bad_number, has_long_text, long_form_fault};
 use crate::pairing::{NumberPair, Pair, add_few_pairs, add_pairs};
 use crate::reading::read_form;
-use crate::{FormulaRefusal, SchemaKind};
 use olap_ast::{Constraint, Formula};
-use olap_base::{CatId, Memory};
-use olap_grammar::{CutRefusal, FirstTokens, Known, Token, Version, first_tokens};
+use olap_base::{CatId, Memory, Refusal};
+use olap_grammar::{FirstTokens, Known, NoTokens, Token, Version, first_tokens};
 use olap_schema::Schema;
 use std::alloc::Global;
 
@@ -58,7 +59,7 @@ fn add_all_pairs(
     numbers: &mut Vec<NumberPair>,
     schema: &Schema,
     f: &Formula,
-) -> Result<(), FormulaRefusal>
+) -> Result<(), Refusal<SchemaKind>>
     requires pairs { pairs.old.items ≡ [] }
     requires numbers { numbers.old.items ≡ [] }
     ensures { let s = schema_of schema.now in
@@ -70,7 +71,7 @@ fn add_all_pairs(
 }
 
 /// Whether there are too many pairs of a category and a constant in the schema and the formula.
-fn check_pairs(alloc: Global, schema: &Schema, f: &Formula) -> Result<(), FormulaRefusal>
+fn check_pairs(alloc: Global, schema: &Schema, f: &Formula) -> Result<(), Refusal<SchemaKind>>
     ensures { let s = schema_of schema.now in
         let count = pair_count (all_equalities s (formula_of f.now)) (all_comparisons s (formula_of f.now)) in
         Finds result (if nat_lt most_constants count then Some kind.TooManyConstants else None) }
@@ -87,16 +88,16 @@ fn check_question(
     root: CatId,
     tokens: &[Token],
     f: &Formula,
-) -> Result<(), FormulaRefusal>
+) -> Result<(), Refusal<SchemaKind>>
     requires { IsDeclared (schema_of schema.now).graph root.0 }
     ensures { let read = question_formed (schema_of schema.now) root.0 tokens.now (Ok (formula_of f.now)) in
-        MatchResult result (λ _. read ≡ Ok (formula_of f.now)) (λ e. IsFault e read) }
+        MatchResult result (λ _. read ≡ Ok (formula_of f.now)) (λ e. IsRefusedBy e read) }
 {
     if has_long_text(tokens) {
-        return Err(FormulaRefusal::Fault(SchemaKind::TextTooLong));
+        return Err(Refusal::Kind(SchemaKind::TextTooLong));
     }
     if has_bad_number(tokens) {
-        return Err(FormulaRefusal::Fault(SchemaKind::BadNumber));
+        return Err(Refusal::Kind(SchemaKind::BadNumber));
     }
     let name = schema.graph().name(root);
     match check_atoms(alloc, &Known::Whole(schema.graph()), name.bytes(), tokens) {
@@ -111,7 +112,7 @@ fn read_tokens(
     schema: &Schema,
     root: CatId,
     tokens: &[Token],
-) -> Result<Formula, FormulaRefusal>
+) -> Result<Formula, Refusal<SchemaKind>>
     requires { IsDeclared (schema_of schema.now).graph root.0 }
     ensures { ReadsFormula result (question_cut (schema_of schema.now) root.0 (Some tokens.now)) }
 {
@@ -136,14 +137,14 @@ fn read_found(
     schema: &Schema,
     root: CatId,
     found: &FirstTokens,
-) -> Result<Formula, FormulaRefusal>
+) -> Result<Formula, Refusal<SchemaKind>>
     requires declared { IsDeclared (schema_of schema.now).graph root.0 }
     requires room { most_tokens most_nodes ≤ found.now.most }
     ensures { (ts : Option (List Tokens)) → BeginsFound version.Two (kept_of found.now) ts
         → ReadsFormula result (question_cut (schema_of schema.now) root.0 ts) }
 {
     if found.more {
-        return Err(FormulaRefusal::Fault(long_form_fault(0, 0, &found.tally)));
+        return Err(Refusal::Kind(long_form_fault(0, 0, &found.tally)));
     }
     read_tokens(alloc, schema, root, &found.first)
 }
@@ -154,14 +155,14 @@ fn read_question(
     schema: &Schema,
     root: CatId,
     text: &[u8],
-) -> Result<Formula, FormulaRefusal>
+) -> Result<Formula, Refusal<SchemaKind>>
     requires { IsDeclared (schema_of schema.now).graph root.0 }
     ensures { ReadsFormula result (question_cut (schema_of schema.now) root.0 (tokens_of version.Two text.now)) }
 {
     match first_tokens(alloc, Version::Two, text, MOST_TOKENS) {
         Ok(found) => read_found(alloc, schema, root, &found),
-        Err(CutRefusal::BadForm) => Err(FormulaRefusal::Fault(SchemaKind::BadForm)),
-        Err(CutRefusal::Memory) => Err(FormulaRefusal::Memory),
+        Err(Refusal::Kind(NoTokens)) => Err(Refusal::Kind(SchemaKind::BadForm)),
+        Err(Refusal::Memory(m)) => Err(Refusal::Memory(m)),
     }
 }
 
@@ -177,7 +178,7 @@ pub fn read_formula(
     schema: &Schema,
     root: CatId,
     text: &[u8],
-) -> Result<Formula, FormulaRefusal>
+) -> Result<Formula, Refusal<SchemaKind>>
     requires { IsDeclared (schema_of schema.now).graph root.0 }
     ensures read { ReadsFormula result (question_read (schema_of schema.now) root.0 text.now) }
     ensures question { IfOk result (λ f. IsQuestion (schema_of schema.now) root.0 (formula_of f)) }
@@ -186,7 +187,7 @@ pub fn read_formula(
     // Called for its clauses: the schema is valid, and its constants are text.
     let _constraints = schema.constraints();
     if is_bad(text) {
-        return Err(FormulaRefusal::Fault(SchemaKind::BadByte));
+        return Err(Refusal::Kind(SchemaKind::BadByte));
     }
     read_question(alloc, schema, root, text)
 }

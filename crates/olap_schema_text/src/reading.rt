@@ -3,11 +3,12 @@ ghost use Rattle.olap_ast.specs.Trees.{formula_of};
 ghost use Rattle.olap_base.specs.Reaching.{is_category_name};
 ghost use Rattle.olap_base.specs.Graph.{IsCategory, IsCategoryName};
 ghost use Rattle.olap_base.specs.Limits.{most_nodes, most_text_bytes};
-ghost use Rattle.olap_graph.specs.Building.{IsCategoryCause, category_refusal, edge_refusal, with_kind};
+ghost use Rattle.olap_base.specs.Refusing.{IsCause, IsRefusedBy};
+ghost use Rattle.olap_graph.specs.Building.{category_refusal, edge_refusal, with_kind};
 ghost use Rattle.olap_grammar.specs.Known.{graph_seen};
 ghost use Rattle.olap_graph.specs.Lookups.{category_named};
-ghost use Rattle.olap_schema_text.specs.Judging.{allows_numbers, atoms_read, category_read, constraint_read, edge_added, edge_read, formed_read, form_read, line_read, nothing_above, root_read, tokens_read, version_at};
-ghost use Rattle.olap_schema_text.specs.Reading.{IsFault, Reads, ReadsFormula, above_of, said};
+ghost use Rattle.olap_schema_text.specs.Judging.{allows_numbers, atoms_read, category_kind as category_kind_of, category_read, constraint_read, edge_added, edge_kind as edge_kind_of, edge_read, form_kind as form_kind_of, formed_read, form_read, line_read, nothing_above, root_read, tokens_read, version_at};
+ghost use Rattle.olap_schema_text.specs.Reading.{Reads, ReadsFormula, above_of, said};
 ghost use Rattle.olap_ast.specs.Formula.{Formula as Meaning};
 ghost use Rattle.olap_ast.specs.Schema.{Constraint as Entry};
 ghost use Rattle.olap_grammar.specs.Brackets.{most_tokens};
@@ -19,6 +20,7 @@ ghost use Rattle.olap_grammar.specs.Keeping.{BeginsFound};
 ghost use Rattle.olap_grammar.specs.Nodes.{nodes_of};
 ghost use Rattle.std.specs.Prelude.{◌≡◌, ◌≤◌, ◌+◌, ◌++◌, ◌∷◌, [], ℕ, List, Option, Err, None, Ok, Some, IfErr, IfOk, IsTrue, MatchResult, OnOk, length, true};
 
+use crate::SchemaKind;
 use crate::atoms::check_atoms;
 use crate::lines::{is_bad, is_quiet};
 use crate::measuring::{
@@ -26,13 +28,12 @@ use crate::measuring::{
 };
 use crate::pairing::{NumberPair, Pair, add_few_pairs};
 use crate::statements::{Statement, statement_in};
-use crate::{FormulaRefusal, SchemaKind};
 use olap_ast::{Constraint, Formula};
-use olap_base::{CatId, MOST_CONSTRAINTS, MOST_NODES, MOST_TEXT_BYTES, Memory, Text};
+use olap_base::{CatId, MOST_CONSTRAINTS, MOST_NODES, MOST_TEXT_BYTES, Memory, Refusal, Text};
 use olap_grammar::{
-    CutRefusal, FirstTokens, FormRefusal, Known, Token, Version, first_tokens, formula,
+    FirstTokens, FormFault, Known, NoTokens, Token, Version, first_tokens, formula,
 };
-use olap_graph::{CategoryRefusal, EdgeRefusal, GraphBuilder};
+use olap_graph::{CategoryFault, EdgeFault, GraphBuilder};
 use std::alloc::Global;
 
 /// What the lines so far say.
@@ -78,20 +79,28 @@ fn add_category(
     builder: &mut GraphBuilder,
     name: &[u8],
     number: bool,
-) -> Result<CatId, CategoryRefusal>
+) -> Result<CatId, Refusal<CategoryFault>>
     requires name { IsCategoryName name.now }
     requires short { length name.now ≤ most_text_bytes }
     ensures ok { IfOk result (λ c. category_refusal builder.old name.now ≡ None) }
     ensures added { IfOk result (λ _. builder.new ≡ with_kind number builder.old name.now) }
-    ensures err { IfErr result (IsCategoryCause (category_refusal builder.old name.now)) }
+    ensures err { IfErr result (IsCause (category_refusal builder.old name.now)) }
 {
-    let Ok(name) = Text::from_bytes(alloc, name) else {
-        return Err(CategoryRefusal::Memory);
-    };
+    let name = Text::from_bytes(alloc, name)?;
     if number {
         builder.add_number_category(name)
     } else {
         builder.add_category(name)
+    }
+}
+
+/// The fault of a line whose category is refused.
+fn category_kind(fault: CategoryFault) -> SchemaKind
+    ensures { result ≡ category_kind_of fault }
+{
+    match fault {
+        CategoryFault::DuplicateCategory => SchemaKind::DuplicateCategory,
+        CategoryFault::TooManyCategories => SchemaKind::TooManyCategories,
     }
 }
 
@@ -103,33 +112,40 @@ fn read_category(
     version: Version,
     name: &[u8],
     number: bool,
-) -> Result<(), FormulaRefusal>
+) -> Result<(), Refusal<SchemaKind>>
     requires { IsTrue (is_category_name name.now) }
     ensures { Reads result (above_of reading.new) (category_read (above_of reading.old) n version name.now number) }
 {
     if number && !has_numbers(version) {
-        return Err(FormulaRefusal::Fault(SchemaKind::BadForm));
+        return Err(Refusal::Kind(SchemaKind::BadForm));
     }
     if name.len() > MOST_TEXT_BYTES {
-        return Err(FormulaRefusal::Fault(SchemaKind::TextTooLong));
+        return Err(Refusal::Kind(SchemaKind::TextTooLong));
     }
     match add_category(alloc, &mut reading.builder, name, number) {
         Ok(_) => {
             reading.category_lines.push(n)?;
             Ok(())
         }
-        Err(CategoryRefusal::DuplicateCategory) => Err(FormulaRefusal::Fault(
-            SchemaKind::DuplicateCategory,
-        )),
-        Err(CategoryRefusal::TooManyCategories) => Err(FormulaRefusal::Fault(
-            SchemaKind::TooManyCategories,
-        )),
-        Err(CategoryRefusal::Memory) => Err(FormulaRefusal::Memory),
+        Err(Refusal::Kind(fault)) => Err(Refusal::Kind(category_kind(fault))),
+        Err(Refusal::Memory(m)) => Err(Refusal::Memory(m)),
+    }
+}
+
+/// The fault of a line whose edge is refused.
+fn edge_kind(fault: EdgeFault) -> SchemaKind
+    ensures { result ≡ edge_kind_of fault }
+{
+    match fault {
+        EdgeFault::SelfEdge => SchemaKind::SelfEdge,
+        EdgeFault::EdgeFromAll => SchemaKind::EdgeFromAll,
+        EdgeFault::DuplicateEdge => SchemaKind::DuplicateEdge,
+        EdgeFault::TooManyEdges => SchemaKind::TooManyEdges,
     }
 }
 
 /// An edge between two categories.
-fn add_edge(reading: &mut Reading, c: CatId, d: CatId) -> Result<(), FormulaRefusal>
+fn add_edge(reading: &mut Reading, c: CatId, d: CatId) -> Result<(), Refusal<SchemaKind>>
     requires child { IsCategory (above_of reading.old).graph c.0 }
     requires parent { IsCategory (above_of reading.old).graph d.0 }
     ensures { Reads result (above_of reading.new)
@@ -137,27 +153,34 @@ fn add_edge(reading: &mut Reading, c: CatId, d: CatId) -> Result<(), FormulaRefu
 {
     match reading.builder.add_edge(c, d) {
         Ok(_) => Ok(()),
-        Err(EdgeRefusal::SelfEdge) => Err(FormulaRefusal::Fault(SchemaKind::SelfEdge)),
-        Err(EdgeRefusal::EdgeFromAll) => Err(FormulaRefusal::Fault(SchemaKind::EdgeFromAll)),
-        Err(EdgeRefusal::DuplicateEdge) => Err(FormulaRefusal::Fault(SchemaKind::DuplicateEdge)),
-        Err(EdgeRefusal::TooManyEdges) => Err(FormulaRefusal::Fault(SchemaKind::TooManyEdges)),
-        Err(EdgeRefusal::Memory) => Err(FormulaRefusal::Memory),
+        Err(Refusal::Kind(fault)) => Err(Refusal::Kind(edge_kind(fault))),
+        Err(Refusal::Memory(m)) => Err(Refusal::Memory(m)),
     }
 }
 
 /// An edge's line.
-fn read_edge(reading: &mut Reading, child: &[u8], parent: &[u8]) -> Result<(), FormulaRefusal>
+fn read_edge(reading: &mut Reading, child: &[u8], parent: &[u8]) -> Result<(), Refusal<SchemaKind>>
     ensures { Reads result (above_of reading.new) (edge_read (above_of reading.old) child.now parent.now) }
 {
     if child.len() > MOST_TEXT_BYTES || parent.len() > MOST_TEXT_BYTES {
-        return Err(FormulaRefusal::Fault(SchemaKind::TextTooLong));
+        return Err(Refusal::Kind(SchemaKind::TextTooLong));
     }
     match reading.builder.category(child) {
         Some(c) => match reading.builder.category(parent) {
             Some(d) => add_edge(reading, c, d),
-            None => Err(FormulaRefusal::Fault(SchemaKind::UnknownCategory)),
+            None => Err(Refusal::Kind(SchemaKind::UnknownCategory)),
         },
-        None => Err(FormulaRefusal::Fault(SchemaKind::UnknownCategory)),
+        None => Err(Refusal::Kind(SchemaKind::UnknownCategory)),
+    }
+}
+
+/// The fault of tokens that are no formula.
+fn form_kind(fault: FormFault) -> SchemaKind
+    ensures { result ≡ form_kind_of fault }
+{
+    match fault {
+        FormFault::BadForm => SchemaKind::BadForm,
+        FormFault::TooDeep => SchemaKind::TooDeep,
     }
 }
 
@@ -169,21 +192,20 @@ pub(crate) fn read_form(
     version: Version,
     before: u16,
     tokens: &[Token],
-) -> Result<Formula, FormulaRefusal>
+) -> Result<Formula, Refusal<SchemaKind>>
     ensures read { ReadsFormula result (form_read version (graph_seen known.now) before tokens.now) }
     ensures few { IfOk result (λ f. before + nodes_of version tokens.now ≤ most_nodes) }
 {
     if before as usize + nodes(version, tokens) > MOST_NODES {
-        return Err(FormulaRefusal::Fault(SchemaKind::TooManyNodes));
+        return Err(Refusal::Kind(SchemaKind::TooManyNodes));
     }
     if opens_too_deep(tokens) {
-        return Err(FormulaRefusal::Fault(SchemaKind::TooDeep));
+        return Err(Refusal::Kind(SchemaKind::TooDeep));
     }
     match formula(alloc, known, version, tokens) {
         Ok(f) => Ok(f),
-        Err(FormRefusal::BadForm) => Err(FormulaRefusal::Fault(SchemaKind::BadForm)),
-        Err(FormRefusal::TooDeep) => Err(FormulaRefusal::Fault(SchemaKind::TooDeep)),
-        Err(FormRefusal::Memory) => Err(FormulaRefusal::Memory),
+        Err(Refusal::Kind(fault)) => Err(Refusal::Kind(form_kind(fault))),
+        Err(Refusal::Memory(m)) => Err(Refusal::Memory(m)),
     }
 }
 
@@ -208,7 +230,7 @@ fn add_constraint(
     root: CatId,
     tokens: &[Token],
     f: Formula,
-) -> Result<(), FormulaRefusal>
+) -> Result<(), Refusal<SchemaKind>>
     requires { (above_of reading.old).nodes + nodes_of version tokens.now ≤ most_nodes }
     ensures { Reads result (above_of reading.new)
         (atoms_read (above_of reading.old) version root.0 tokens.now (formula_of f) None) }
@@ -224,21 +246,21 @@ fn root_of(
     reading: &Reading,
     name: &[u8],
     tokens: &[Token],
-) -> Result<CatId, FormulaRefusal>
+) -> Result<CatId, Refusal<SchemaKind>>
     ensures { let above = above_of reading.now in
         let found = category_named above.graph name.now in
         (v : Versions) (f : Meaning) → MatchResult result
         (λ root. root_read above v name.now tokens.now f found ≡ atoms_read above v root.0 tokens.now f None)
-        (λ e. IsFault e (root_read above v name.now tokens.now f found)) }
+        (λ e. IsRefusedBy e (root_read above v name.now tokens.now f found)) }
 {
     let Some(root) = reading.builder.category(name) else {
-        return Err(FormulaRefusal::Fault(SchemaKind::UnknownCategory));
+        return Err(Refusal::Kind(SchemaKind::UnknownCategory));
     };
     if root == CatId(0) {
-        return Err(FormulaRefusal::Fault(SchemaKind::RootIsAll));
+        return Err(Refusal::Kind(SchemaKind::RootIsAll));
     }
     if reading.constraints.len() >= MOST_CONSTRAINTS {
-        return Err(FormulaRefusal::Fault(SchemaKind::TooManyConstraints));
+        return Err(Refusal::Kind(SchemaKind::TooManyConstraints));
     }
     check_atoms(alloc, &Known::Growing(&reading.builder), name, tokens)?;
     Ok(root)
@@ -250,17 +272,17 @@ fn checked_root(
     reading: &Reading,
     name: &[u8],
     tokens: &[Token],
-) -> Result<CatId, FormulaRefusal>
+) -> Result<CatId, Refusal<SchemaKind>>
     ensures { let above = above_of reading.now in
         (v : Versions) (f : Meaning) → MatchResult result
         (λ root. formed_read above v name.now tokens.now (Ok f) ≡ atoms_read above v root.0 tokens.now f None)
-        (λ e. IsFault e (formed_read above v name.now tokens.now (Ok f))) }
+        (λ e. IsRefusedBy e (formed_read above v name.now tokens.now (Ok f))) }
 {
     if name.len() > MOST_TEXT_BYTES || has_long_text(tokens) {
-        return Err(FormulaRefusal::Fault(SchemaKind::TextTooLong));
+        return Err(Refusal::Kind(SchemaKind::TextTooLong));
     }
     if has_bad_number(tokens) {
-        return Err(FormulaRefusal::Fault(SchemaKind::BadNumber));
+        return Err(Refusal::Kind(SchemaKind::BadNumber));
     }
     root_of(alloc, reading, name, tokens)
 }
@@ -273,7 +295,7 @@ fn read_formed(
     name: &[u8],
     tokens: &[Token],
     f: Formula,
-) -> Result<(), FormulaRefusal>
+) -> Result<(), Refusal<SchemaKind>>
     requires { (above_of reading.old).nodes + nodes_of version tokens.now ≤ most_nodes }
     ensures { Reads result (above_of reading.new)
         (formed_read (above_of reading.old) version name.now tokens.now (Ok (formula_of f))) }
@@ -291,7 +313,7 @@ fn read_constraint(
     version: Version,
     name: &[u8],
     tokens: &[Token],
-) -> Result<(), FormulaRefusal>
+) -> Result<(), Refusal<SchemaKind>>
     ensures { Reads result (above_of reading.new)
         (constraint_read (above_of reading.old) version name.now tokens.now) }
 {
@@ -313,7 +335,7 @@ fn read_statement(
     reading: &mut Reading,
     n: u64,
     tokens: &[Token],
-) -> Result<(), FormulaRefusal>
+) -> Result<(), Refusal<SchemaKind>>
     ensures { Reads result (above_of reading.new)
         (tokens_read (above_of reading.old) n (Some tokens.now)) }
 {
@@ -329,7 +351,7 @@ fn read_statement(
         (Some(version), Statement::Constraint(root, formula)) => {
             read_constraint(alloc, reading, version, root, formula)
         }
-        _ => Err(FormulaRefusal::Fault(SchemaKind::BadForm)),
+        _ => Err(Refusal::Kind(SchemaKind::BadForm)),
     }
 }
 
@@ -356,14 +378,14 @@ fn read_found(
     reading: &mut Reading,
     n: u64,
     found: &FirstTokens,
-) -> Result<(), FormulaRefusal>
+) -> Result<(), Refusal<SchemaKind>>
     requires room { most_tokens most_nodes + 3 ≤ found.now.most }
     ensures { let old = above_of reading.old in
         (ts : Option (List Tokens)) → BeginsFound (version_at old) (kept_of found.now) ts
         → Reads result (above_of reading.new) (tokens_read old n ts) }
 {
     if found.more {
-        return Err(FormulaRefusal::Fault(long_line_fault(reading, found)));
+        return Err(Refusal::Kind(long_line_fault(reading, found)));
     }
     read_statement(alloc, reading, n, &found.first)
 }
@@ -374,15 +396,15 @@ fn read_saying(
     reading: &mut Reading,
     n: u64,
     line: &[u8],
-) -> Result<(), FormulaRefusal>
+) -> Result<(), Refusal<SchemaKind>>
     ensures { let old = above_of reading.old in
         Reads result (above_of reading.new) (tokens_read old n (tokens_of (version_at old) line.now)) }
 {
     let version = reading.version.unwrap_or(Version::One);
     match first_tokens(alloc, version, line, MOST_TOKENS) {
         Ok(found) => read_found(alloc, reading, n, &found),
-        Err(CutRefusal::BadForm) => Err(FormulaRefusal::Fault(SchemaKind::BadForm)),
-        Err(CutRefusal::Memory) => Err(FormulaRefusal::Memory),
+        Err(Refusal::Kind(NoTokens)) => Err(Refusal::Kind(SchemaKind::BadForm)),
+        Err(Refusal::Memory(m)) => Err(Refusal::Memory(m)),
     }
 }
 
@@ -393,11 +415,11 @@ pub(crate) fn read_line(
     reading: &mut Reading,
     n: u64,
     line: &[u8],
-) -> Result<(), FormulaRefusal>
+) -> Result<(), Refusal<SchemaKind>>
     ensures { Reads result (above_of reading.new) (line_read (above_of reading.old) n line.now) }
 {
     if is_bad(line) {
-        return Err(FormulaRefusal::Fault(SchemaKind::BadByte));
+        return Err(Refusal::Kind(SchemaKind::BadByte));
     }
     if is_quiet(line) {
         return Ok(());

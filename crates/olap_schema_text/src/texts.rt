@@ -2,21 +2,25 @@
 ghost use Rattle.olap_schema_text.specs.Judging.{first_stuck, lines_on, schema_read, text_ended, whole};
 ghost use Rattle.olap_schema_text.specs.Laws.{GivesReadable};
 ghost use Rattle.olap_schema_text.specs.Lines.{lines_of};
-ghost use Rattle.olap_schema_text.specs.Reading.{above_of};
-ghost use Rattle.olap_schema_text.specs.Refusals.{IsRefusedBy, ReadsLines};
+ghost use Rattle.olap_base.specs.Refusing.{IsRefusedBy};
+ghost use Rattle.olap_schema_text.specs.Reading.{ReadsLines, above_of};
 ghost use Rattle.olap_schema.specs.Schemas.{schema_of};
 ghost use Rattle.std.specs.Prelude.{◌≡◌, ◌<◌, ◌-◌, MatchResult, Ok, slice_index};
 
+use crate::SchemaKind;
 use crate::lines::{chomped, first_line};
 use crate::reading::{Reading, begin, read_line};
-use crate::{FormulaRefusal, SchemaKind, SchemaRefusal};
-use olap_base::List;
-use olap_graph::GraphRefusal;
+use olap_base::{Fault, List, Refusal};
+use olap_graph::NoWayToAll;
 use olap_schema::Schema;
 use std::alloc::Global;
 
 /// The lines from the first to the last, or to the first with a fault.
-fn read_lines(alloc: Global, reading: &mut Reading, text: &[u8]) -> Result<(), SchemaRefusal>
+fn read_lines(
+    alloc: Global,
+    reading: &mut Reading,
+    text: &[u8],
+) -> Result<(), Refusal<Fault<SchemaKind>>>
     ensures { ReadsLines result (above_of reading.new) (lines_on (Ok (above_of reading.old)) 0 (lines_of text.now)) }
 {
     let mut n = 0u64;
@@ -26,8 +30,8 @@ fn read_lines(alloc: Global, reading: &mut Reading, text: &[u8]) -> Result<(), S
         n += 1;
         match read_line(alloc, reading, n, chomped(line)) {
             Ok(()) => {}
-            Err(FormulaRefusal::Fault(kind)) => return Err(SchemaRefusal::Fault { line: n, kind }),
-            Err(FormulaRefusal::Memory) => return Err(SchemaRefusal::Memory),
+            Err(Refusal::Kind(kind)) => return Err(Refusal::Kind(Fault { at: n, kind })),
+            Err(Refusal::Memory(m)) => return Err(Refusal::Memory(m)),
         }
         left = others;
     }
@@ -35,7 +39,7 @@ fn read_lines(alloc: Global, reading: &mut Reading, text: &[u8]) -> Result<(), S
 }
 
 /// The schema of all lines, if each category reaches `All`.
-fn finish(alloc: Global, reading: Reading) -> Result<Schema, SchemaRefusal>
+fn finish(alloc: Global, reading: Reading) -> Result<Schema, Refusal<Fault<SchemaKind>>>
     requires { let a = above_of reading in GivesReadable (whole a (first_stuck a.graph)) }
     ensures { let a = above_of reading in
         let read = whole a (first_stuck a.graph) in
@@ -43,14 +47,11 @@ fn finish(alloc: Global, reading: Reading) -> Result<Schema, SchemaRefusal>
 {
     match reading.builder.finish() {
         Ok(graph) => Ok(Schema::new(alloc, graph, List::from_vec(reading.constraints))),
-        Err(GraphRefusal::NoWayToAll(c)) => {
-            let line = line_of(&reading.category_lines, c.0);
-            Err(SchemaRefusal::Fault {
-                line,
-                kind: SchemaKind::NoWayToAll,
-            })
-        }
-        Err(GraphRefusal::Memory) => Err(SchemaRefusal::Memory),
+        Err(Refusal::Kind(NoWayToAll(c))) => Err(Refusal::Kind(Fault {
+            at: line_of(&reading.category_lines, c.0),
+            kind: SchemaKind::NoWayToAll,
+        })),
+        Err(Refusal::Memory(m)) => Err(Refusal::Memory(m)),
     }
 }
 
@@ -72,18 +73,22 @@ fn line_of(lines: &[u64], c: u16) -> u64
 /// first declared category that doesn't reach `All`, on the line of its declaration. `Memory` where there is no room.
 /// Linear in the text; no call is nested deeper than a formula may be, whatever the text is.
 #[tactic(auto, unfolding(crate::specs::Judging::schema_read))]
-pub fn read_schema(alloc: Global, text: &[u8]) -> Result<Schema, SchemaRefusal>
+pub fn read_schema(alloc: Global, text: &[u8]) -> Result<Schema, Refusal<Fault<SchemaKind>>>
     ensures { MatchResult result (λ s. schema_read text.now ≡ Ok (schema_of s))
         (λ e. IsRefusedBy e (schema_read text.now)) }
 {
     match begin(alloc) {
         Ok(started) => read_from(alloc, started, text),
-        Err(_) => Err(SchemaRefusal::Memory),
+        Err(m) => Err(Refusal::Memory(m)),
     }
 }
 
 /// The schema of all lines, from the first on.
-fn read_from(alloc: Global, started: Reading, text: &[u8]) -> Result<Schema, SchemaRefusal>
+fn read_from(
+    alloc: Global,
+    started: Reading,
+    text: &[u8],
+) -> Result<Schema, Refusal<Fault<SchemaKind>>>
     requires { GivesReadable (text_ended (lines_on (Ok (above_of started)) 0 (lines_of text.now))) }
     ensures { let read = text_ended (lines_on (Ok (above_of started)) 0 (lines_of text.now)) in
         MatchResult result (λ s. read ≡ Ok (schema_of s)) (λ e. IsRefusedBy e read) }
@@ -92,10 +97,10 @@ fn read_from(alloc: Global, started: Reading, text: &[u8]) -> Result<Schema, Sch
     match read_lines(alloc, &mut reading, text) {
         Ok(()) => {
             if reading.version.is_none() {
-                return Err(SchemaRefusal::Fault {
-                    line: 1,
+                return Err(Refusal::Kind(Fault {
+                    at: 1,
                     kind: SchemaKind::BadForm,
-                });
+                }));
             }
             finish(alloc, reading)
         }

@@ -25,5 +25,5 @@ returns-in-Ok-2 c =
     rw c.into_formula.ensures
     (not_deep _ c.read_tokens.new.whole.depth _ (sym (along _ _ _) ∙ c.in-Ok-2.ensures) c.if-whole.false)
 
-pub returns-in-Err : goal.returns-in-Err
-returns-in-Err c = refused _ _ c.in-Err.e (along _ _ _) c.in-Err.ensures
+pub returns-in-Err-Kind : goal.returns-in-Err-Kind
+returns-in-Err-Kind c = refused _ _ _ (along _ _ _) (rw c.in-Err-Kind.field-0-is at c.in-Err-Kind.ensures)

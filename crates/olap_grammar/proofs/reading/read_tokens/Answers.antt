@@ -7,4 +7,4 @@ pub returns-in-Err : goal.returns-in-Err
 returns-in-Err c =
     let a = leaves_of c.args.version (graph_seen c.args.known.now) in
     rw (c.tokens.invariant, c.in-Some.ensures.cases.0)
-    (fails a c.in-Err.e _ _ _ c.in-Some.others.now c.in-Err.ensures)
+    (fails a c.in-Err.e _ c.in-Some.others.now c.in-Err.ensures)
