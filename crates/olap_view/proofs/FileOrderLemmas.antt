@@ -24,6 +24,7 @@ use Rattle.olap_view.proofs.ViewingLemmas.{filter_map_same, member_is}
 abbrev pub rows_by : (ℕ → Option Summary) → List ℕ → List Row
 rows_by h ys = filter_map (λ y. row_at y (h y)) ys
 
+-- each row of a list that is made by member has what each summary's row has
 pub all-rows : (P : Row → Type 0) (h : ℕ → Option Summary) (ys : List ℕ)
     → ((y : ℕ) → Contains ys y → IfSome (row_at y (h y)) P) → All P (rows_by h ys)
 all-rows P h [] f = All-nil P
@@ -36,6 +37,7 @@ all-rows P h (y ∷ ys) f = cons (row_at y (h y)) (f y (contains_head y ys))
 
 -- ---- rows of a function of members
 
+-- numbers in a row ascend
 range-ascends : (a n : ℕ) → AllPairs ◌<◌ (range_with_len a n)
 range-ascends a zero = λ j k d l w. absurd (omega arith)
 range-ascends a (suc n) = AllPairs-cons ◌<◌ a (range_with_len (a + 1) n) above (range-ascends (a + 1) n)
@@ -46,10 +48,12 @@ range-ascends a (suc n) = AllPairs-cons ◌<◌ a (range_with_len (a + 1) n) abo
         let h = Contains-from_range_at (a + 1) n z (Contains-get_or (range_with_len (a + 1) n) k d l) in
         omega (arith, h.0)
 
+-- so do the members of a category
 members-ascend : (i : Instance) (c : ℕ) → AllPairs ◌<◌ (members_of i c)
 members-ascend i c =
     AllPairs-filter ◌<◌ (λ y. category_of i y == c) (range_with_len 0 (length i)) (range-ascends 0 (length i))
 
+-- so do the members of rows that are made by member
 rows-ascend : (h : ℕ → Option Summary) (ys : List ℕ) → AllPairs ◌<◌ ys
     → AllPairs ◌<◌ (map (λ r. r.member) (rows_by h ys))
 rows-ascend h [] a = λ j k d l w. absurd (omega arith)
@@ -70,6 +74,7 @@ rows-ascend h (y ∷ ys) a = go (h y) (rows-ascend h ys (λ j k d l w. a (suc j)
         (All-map (λ z. y < z) (λ (r : Row). r.member) (rows_by h ys)
         (all-rows (λ (r : Row). y < r.member) h ys (λ z k. later z (h z) (All-contains (λ w. y < w) ys z above k)))) e
 
+-- a view that is made by member stands in file order
 in-order : (i : Instance) (h : ℕ → Option Summary) (c : ℕ) → IsInFileOrder i (view_by i h c)
 in-order i h c = record {
   members = all-rows (λ (r : Row). IsMemberOf i c r.member) h (members_of i c)
@@ -82,10 +87,12 @@ in-order i h c = record {
     inside y None m = tt
     inside y (Some s) m = m
 
+-- so does each of several
 pub each-in-order : (i : Instance) (h : ℕ → Option Summary) (cs : List ℕ)
     → All (IsInFileOrder i) (map (view_by i h) cs)
 each-in-order i h cs = All-map (IsInFileOrder i) (view_by i h) cs (λ k d l. in-order i h (get_or cs k d))
 
+-- their categories are those that were given
 categories-back : (i : Instance) (h : ℕ → Option Summary) (cs : List ℕ)
     → map (λ v. v.category) (map (view_by i h) cs) ≡ cs
 categories-back i h [] = refl
@@ -115,6 +122,7 @@ later-rows r rows p k d l =
     let h : r.member < get_or (map (λ (s : Row). s.member) rows) k 0 = p 0 (suc k) 0 (omega arith) (omega arith) in
     omega arith
 
+-- rows that ascend, after a first that comes before them, ascend
 pub ascend-on : (r : Row) (rows : List Row) → AllPairs ◌<◌ (map (λ s. s.member) (r ∷ rows))
     → AllPairs ◌<◌ (map (λ s. s.member) rows)
 ascend-on r rows p j k d l w = p (suc j) (suc k) d (omega arith) (omega arith)
@@ -127,6 +135,7 @@ row-before y (r ∷ rows) a =
     let e : (r.member == y) ≡ false = grind (arith, nat_tests) in
     rw e (row-before y rows (λ k d l. a (suc k) d (omega arith)))
 
+-- no rows are made of no rows
 none-left : (ys : List ℕ) → rows_by (summary_in []) ys ≡ []
 none-left [] = refl
 none-left (y ∷ ys) = none-left ys
@@ -136,6 +145,7 @@ taken : (h : ℕ → Option Row) (n : ℕ) (b : Bool) (ys : List ℕ) (r : Row) 
     → filter_map h ys ≡ rows → filter_map h (cond b (n ∷ ys) ys) ≡ r ∷ rows
 taken h n b ys r rows e f g = rw (e, f, g) refl
 
+-- a row before those that are left
 left : (h : ℕ → Option Row) (n : ℕ) (b : Bool) (ys : List ℕ) (rows : List Row) → h n ≡ None
     → filter_map h ys ≡ rows → filter_map h (cond b (n ∷ ys) ys) ≡ rows
 left h n true ys rows f g = rw (f, g) refl

@@ -15,6 +15,7 @@ use Rattle.olap_view.specs.Bounds.{IsOfValues}
 use Rattle.olap_view.specs.Stores.{IsStored}
 use Rattle.olap_view.proofs.SummaryLemmas.{of_values_more, total_of_value_list}
 
+-- what passes a test isn't longer
 pub filter_short : {A : Type 0} (p : A → Bool) (xs : List A) → length (filter p xs) ≤ length xs
 filter_short p [] = omega arith
 filter_short {A} p (x ∷ xs) = go (p x) (filter_short p xs)
@@ -24,6 +25,7 @@ filter_short {A} p (x ∷ xs) = go (p x) (filter_short p xs)
     go true h = omega arith
     go false h = omega arith
 
+-- what is of some values is of more
 of_values : (o : Option Summary) (n k : ℕ) → n ≤ k → IfSome o (IsOfValues n) → IfSome o (IsOfValues k)
 of_values None n k h q = q
 of_values (Some s) n k h q = of_values_more n k s h q
@@ -41,6 +43,7 @@ total_is_of_values i facts y a =
     short = let e = length-map (filter (λ (f : Fact). reaches i f.member y) facts) (λ (f : Fact). f.value) in
         let l = filter_short (λ (f : Fact). reaches i f.member y) facts in omega arith
 
+-- what few values come to may be stored
 row_stored : (y n : ℕ) (o : Option Summary) → n ≤ most_count → IfSome o (IsOfValues n) → IfSome (row_at y o) IsStored
 row_stored y n None h q = tt
 row_stored y n (Some s) h q =
@@ -53,15 +56,18 @@ row_stored y n (Some s) h q =
       greatest = q.greatest;
     }
 
+-- one item more, if there is one
 cons_all : {B : Type 0} (P : B → Type 0) (o : Option B) (ys : List B) → IfSome o P → All P ys → All P (cons_option o ys)
 cons_all P None ys t a = a
 cons_all P (Some y) ys t a = All-cons P y ys t a
 
+-- each item of a list of results
 filter_map_all : {A B : Type 0} (P : B → Type 0) (h : A → Option B) (xs : List A) → ((x : A) → IfSome (h x) P)
     → All P (filter_map h xs)
 filter_map_all P h [] f = All-nil P
 filter_map_all P h (x ∷ xs) f = cons_all P (h x) (filter_map h xs) (f x) (filter_map_all P h xs f)
 
+-- the rows of a direct view may be stored
 pub direct_stored : (i : Instance) (c : ℕ) (facts : List Fact) → length facts ≤ most_count
     → All (λ f. SFits w64 f.value) facts → All IsStored (direct_rows i c facts)
 direct_stored i c facts h a = filter_map_all IsStored (λ y. row_at y (total_of_facts i facts y)) (members_of i c)

@@ -37,14 +37,17 @@ among cs c b h = sym (one_answer b (list_any (λ d. d == c) cs) h (among-is cs c
 
 module _ (g : Graph) (earlier : List Record) (cs : List ℕ) (c : ℕ) (b : Bool) (e : cs ≡ begun g earlier)
     (h : IsTrue b ↔ Contains cs c) (no : b ≡ false) where
+  -- another category isn't among those that are begun
   other : list_any (λ d. d == c) (begun g earlier) ≡ false
   other = ap (list_any (λ d. d == c)) (sym e) ∙ among cs c b h ∙ no
 
+  -- after the last view that there may be
   pub too-many : most_views ≤ length cs → beginning_fault g earlier c ≡ Some kind.TooManyViews
   too-many l =
       let s = ap length e in
       let n : nat_le most_views (length (begun g earlier)) ≡ true = grind (arith, nat_tests) in rw (other, n) refl
 
+  -- while there is room, a view may begin
   pub may-begin : length cs < most_views → (beginning_fault g earlier c ≡ None)
       × (list_any (λ d. d == c) (begun g earlier) ≡ false) × (length (begun g earlier) < most_views)
   may-begin l =
@@ -54,10 +57,12 @@ module _ (g : Graph) (earlier : List Record) (cs : List ℕ) (c : ℕ) (b : Bool
 
 -- ---- a row
 
+-- what isn't something is nothing
 pub none-there : {A : Type 0} (o : Option A) → is_some o ≡ false → o ≡ None
 none-there None e = refl
 none-there (Some x) e = absurd (cc)
 
+-- something stays something under a map
 pub some-seen : {A B : Type 0} (f : A → B) (o : Option A) → is_some (option_map f o) ≡ is_some o
 some-seen f None = refl
 some-seen f (Some x) = refl
@@ -72,6 +77,7 @@ checks view no_member same no_numbers row =
     else if row then Some kind.DuplicateRow
     else None
 
+-- a row that passes the other checks passes all but the last
 pub last-check : (a n k s f : Bool) → a ≡ true → n ≡ false → k ≡ true → s ≡ false
     → checks a n k s f ≡ (if f then Some kind.DuplicateRow else None)
 last-check a n k s f ea en ek es = rw (ea, en, ek, es) refl
@@ -79,10 +85,12 @@ last-check a n k s f ea en ek es = rw (ea, en, ek, es) refl
 module _ (g : Graph) (i : Instance) (earlier : List Record) (r : Record) (t : StoredRows)
     (h : Tells g i earlier t) (c : ℕ) (named : c ≡ category_number g r) (b : Bool)
     (above : IsTrue b ↔ Contains (begun_in t) c) where
+  -- whether the row's view is begun
   begins-above : list_any (λ d. d == category_number g r) (begun g earlier) ≡ b
   begins-above = ap (λ x. list_any (λ d. d == x) (begun g earlier)) (sym named)
       ∙ ap (list_any (λ d. d == c)) (sym h.categories) ∙ among (begun_in t) c b above
 
+  -- a row without its view
   pub no-view : b ≡ false → row_fault g i earlier r ≡ Some kind.NoView
   no-view e = let a = begins-above ∙ e in rw a refl
 

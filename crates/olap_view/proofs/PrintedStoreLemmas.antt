@@ -38,6 +38,7 @@ use Rattle.olap_view.proofs.ViewingLemmas.{fails, rows_same}
 
 -- ---- over plain variables
 
+-- where the second test fails, not all three hold
 not-both : (a b c : Bool) → b ≡ false → a && (b && c) ≡ false
 not-both true b c e = rw e refl
 not-both false b c e = refl
@@ -47,10 +48,12 @@ named-passes : (o : Option ℕ) (c : ℕ) (after : ℕ → Option StoreKind) →
     → (if is_none o then Some kind.UnknownCategory else after (unwrap_or o 0)) ≡ None
 named-passes o c after e h = rw e h
 
+-- a row's record of a category that is there, without a fault of a row, passes
 row-branch : (o : Option ℕ) (c : ℕ) (b : Bool) (p q : Option StoreKind) → o ≡ Some c → b ≡ false → q ≡ None
     → (if is_none o then Some kind.UnknownCategory else if b then p else q) ≡ None
 row-branch o c b p q e f h = rw (e, f) h
 
+-- no fault at the first record and none after it
 none-after : (n : ℕ) (o : Option StoreKind) (after : Option (ℕ × StoreKind)) → o ≡ None → after ≡ None
     → or_after n o after ≡ None
 none-after n o after e f = rw e f
@@ -62,10 +65,12 @@ found : (p q : Bool) (x : Record) (r : Row) (o : Option Record) (s : Option Row)
 found p true x r o s e h k = rw e h
 found p false x r o s e h k = rw e k
 
+-- whatever comes before true
 or-true : (b : Bool) → b || true ≡ true
 or-true true = refl
 or-true false = refl
 
+-- a number is equal to itself
 is-self : (c : ℕ) → (c == c) ≡ true
 is-self c = (Decides-eqb c c).1 refl
 
@@ -74,6 +79,7 @@ abbrev Apart : List View → Type 0
 Apart [] = Unit {0}
 Apart (v ∷ views) = All (λ w. v.category ≢ w.category) views × Apart views
 
+-- views of different categories are apart
 apart : (views : List View) → AllPairs ◌≢◌ (map (λ v. v.category) views) → Apart views
 apart [] p = tt
 apart (v ∷ views) p = (
@@ -101,9 +107,11 @@ module _ (g : Graph) (i : Instance) (hierarchy : IsHierarchy g) (sound : IsInsta
   abbrev first_of : ℕ → Record
   first_of c = beginning (name_of_category g c)
 
+  -- a category's name is that category's
   named : (c : ℕ) → IsCategory g c → unwrap_or (category_named g (name_of_category g c)) 0 ≡ c
   named c k = ap (λ o. unwrap_or o 0) (named-category g hierarchy c k)
 
+  -- a member's id is that member's
   member-found : (m : ℕ) → IsMember i m → place_of (member_at i m).id (map (λ x. x.id) i) ≡ Some m
   member-found m l =
       let n = length-map i (λ x. x.id) in
@@ -113,6 +121,7 @@ module _ (g : Graph) (i : Instance) (hierarchy : IsHierarchy g) (sound : IsInsta
       let same : j ≡ m = sound.ids_differ j m (omega arith) l (sym (at j (omega arith)) ∙ e) in
       omega arith) ∙ ap (λ (x : ℕ). Some x) (zero-add m)
 
+  -- a row's record begins no view
   is-row : (c : ℕ) (r : Row) → IsStored r → is_beginning (record_in c r) ≡ false
   is-row c r h =
       let few = h.few in
@@ -120,12 +129,14 @@ module _ (g : Graph) (i : Instance) (hierarchy : IsHierarchy g) (sound : IsInsta
       let e : (length (decimal r.summary.count) == 0) ≡ false = grind (arith, nat_tests) in
       not-both (length (member_at i r.member).id == 0) (length (decimal r.summary.count) == 0) _ e
 
+  -- a row's record is that of its member
   row-of : (c y : ℕ) (r : Row) → IsStored r → IsMember i r.member
       → is_row_of i y (record_in c r) ≡ (r.member == y)
   row-of c y r h m =
       ap (λ b. not b && (member_number i (record_in c r) == y)) (is-row c r h)
       ∙ ap (λ o. unwrap_or o 0 == y) (member-found r.member m)
 
+  -- the first record of a view passes
   beginning-passes : (before : List Record) (c : ℕ) → IsCategory g c
       → list_any (λ d. d == c) (begun g before) ≡ false → length (begun g before) < most_views
       → fault before (first_of c) ≡ None
@@ -134,6 +145,7 @@ module _ (g : Graph) (i : Instance) (hierarchy : IsHierarchy g) (sound : IsInsta
       (named-category g hierarchy c k)
       (let n : nat_le most_views (length (begun g before)) ≡ false = grind (arith, nat_tests) in rw (new, n) refl)
 
+  -- a row's record passes, once its view is begun
   row-passes : (before : List Record) (c : ℕ) (r : Row) → IsCategory g c → IsStored r → IsMemberOf i c r.member
       → list_any (λ d. d == c) (begun g before) ≡ true → list_any (is_row_of i r.member) before ≡ false
       → fault before (record_in c r) ≡ None
@@ -163,11 +175,13 @@ module _ (g : Graph) (i : Instance) (hierarchy : IsHierarchy g) (sound : IsInsta
   abbrev records : List View → List Record
   records views = flat_map (records_of_one g i) views
 
+  -- the views begun by two lists of records
   begun-append : (xs ys : List Record) → begun g (xs ++ ys) ≡ begun g xs ++ begun g ys
   begun-append xs ys =
       ap (map (category_number g)) (filter-append is_beginning xs ys)
       ∙ map-append (category_number g) (filter is_beginning xs) (filter is_beginning ys)
 
+  -- rows begin no view
   begun-rows : (c : ℕ) (rows : List Row) → All IsStored rows → begun g (map (record_in c) rows) ≡ []
   begun-rows c [] h = refl
   begun-rows c (r ∷ rows) h =
@@ -175,11 +189,13 @@ module _ (g : Graph) (i : Instance) (hierarchy : IsHierarchy g) (sound : IsInsta
       ap (λ b. map (category_number g) (cond b (record_in c r ∷ later) later)) (is-row c r (h 0 r (omega arith)))
       ∙ begun-rows c rows (λ k d l. h (suc k) d (omega arith))
 
+  -- a view's records begin that view
   begun-one : (v : View) → IsGood v → begun g (records_of_one g i v) ≡ v.category ∷ []
   begun-one v w =
       ap (λ l. category_number g (first_of v.category) ∷ l) (begun-rows v.category v.rows w.1)
       ∙ ap (λ c. c ∷ []) (named v.category w.0)
 
+  -- the records of several begin them
   begun-all : (views : List View) → All IsGood views → begun g (records views) ≡ map (λ v. v.category) views
   begun-all [] w = refl
   begun-all (v ∷ views) w =
@@ -200,6 +216,7 @@ module _ (g : Graph) (i : Instance) (hierarchy : IsHierarchy g) (sound : IsInsta
 
   -- ---- no fault
 
+  -- the rows of a view pass
   rows-pass : (c : ℕ) → IsCategory g c → (rows : List Row) (before rest : List Record) → All IsStored rows
       → All (λ r. IsMemberOf i c r.member) rows → AllPairs ◌<◌ (map (λ r. r.member) rows)
       → list_any (λ d. d == c) (begun g before) ≡ true
@@ -225,6 +242,7 @@ module _ (g : Graph) (i : Instance) (hierarchy : IsHierarchy g) (sound : IsInsta
       ∙ ap (λ b. b || false) (new (suc j) d (omega arith)))
       (subst (λ b. first_fault fault b rest ≡ None) (sym (append_assoc before (x ∷ []) (map (record_in c) rows))) e))
 
+  -- the views of a store pass
   views-pass : (views : List View) (before : List Record) → All IsGood views → Apart views
       → length (begun g before) + length views ≤ most_views
       → All (λ v. list_any (λ d. d == v.category) (begun g before) ≡ false) views
@@ -265,6 +283,7 @@ module _ (g : Graph) (i : Instance) (hierarchy : IsHierarchy g) (sound : IsInsta
   abbrev rows_in : List View → List Row
   rows_in views = flat_map (λ v. v.rows) views
 
+  -- what a view's records say of a member is its row
   said-rows : (y c : ℕ) (rows others : List Row) (behind : List Record) → All IsStored rows
       → All (λ r. IsMemberOf i c r.member) rows → said_of i behind y ≡ summary_in others y
       → said_of i (map (record_in c) rows ++ behind) y ≡ summary_in (rows ++ others) y
@@ -277,6 +296,7 @@ module _ (g : Graph) (i : Instance) (hierarchy : IsHierarchy g) (sound : IsInsta
       (printed-numbers i (name_of_category g c) r here)
       (said-rows y c rows others behind (λ j d l. h (suc j) d (omega arith)) (λ j d l. m (suc j) d (omega arith)) e)
 
+  -- what the records of all views say of it
   said-views : (y : ℕ) (views : List View) → All IsGood views
       → said_of i (records views) y ≡ summary_in (rows_in views) y
   said-views y [] w = refl
@@ -294,6 +314,7 @@ module _ (g : Graph) (i : Instance) (hierarchy : IsHierarchy g) (sound : IsInsta
       fails (get_or v.rows k d).member (get_or v.rows k d).member y refl
       (λ e. n (ap (category_of i) (sym e) ∙ m.1))))
 
+  -- where no view is of its category, nothing is said of it
   none-among : (views : List View) → All IsGood views → (y : ℕ) → All (λ v. category_of i y ≢ v.category) views
       → row_in (rows_in views) y ≡ None
   none-among [] w y n = refl
@@ -319,6 +340,7 @@ module _ (g : Graph) (i : Instance) (hierarchy : IsHierarchy g) (sound : IsInsta
 
   -- ---- the views
 
+  -- each view is read back
   view-back : (views : List View) → All IsGood views → Apart views
       → All (λ v. view_read i (records views) v.category ≡ v) views
   view-back views w a k d l =
@@ -330,6 +352,7 @@ module _ (g : Graph) (i : Instance) (hierarchy : IsHierarchy g) (sound : IsInsta
       (rows_same i v.category (row_read i (records views)) (λ y. row_at y (summary_in v.rows y)) same
       ∙ rows-back i v (w k d l).2)
 
+  -- all views are read back
   views-back : (views : List View) → All IsGood views → Apart views → views_read g i (records views) ≡ views
   views-back views w a =
       ap (map (view_read i (records views))) (begun-all views w) ∙ each views
@@ -340,6 +363,7 @@ module _ (g : Graph) (i : Instance) (hierarchy : IsHierarchy g) (sound : IsInsta
       each [] = refl
       each (v ∷ vs) = ap (λ l. view_read i (records views) v.category ∷ l) (each vs)
 
+  -- the store is read back
   store-back : (views : List View) → IsStore views → All IsGood views
       → store_read g i (records_of_store g i views) ≡ Ok views
   store-back views s w =

@@ -17,14 +17,15 @@ use Rattle.olap_base.specs.Instance.{Instance}
 use Rattle.olap_base.specs.Limits.{most_facts}
 use Rattle.olap_base.specs.Views.{Fact, View, direct_view}
 use Rattle.olap_records.specs.Faults.{first_fault}
-use Rattle.olap_facts.specs.Batches.{HandsOutBatch, facts_in_a_batch, more}
+use Rattle.olap_facts.specs.Batches.{HandsOutBatch, IsStoppedInBatch, facts_in_a_batch, more}
 use Rattle.olap_facts.specs.FactReading.{FactReading, HandsOut, IsAtEnd, IsStopped, all_read, body_of, one_more, reading}
 use Rattle.olap_facts.specs.FactText.{body_read_within, fact_fault_within, fact_read, facts_read_within, has_header, or_read}
-use Rattle.olap_facts.specs.Refusals.{IsRefusedBy}
 use Rattle.olap_facts.specs.declared.kinds.FactKind.{FactKind}
 use Rattle.olap_facts.specs.declared.kinds.FactKind.TheVariants as kind
-use Rattle.olap_facts.specs.declared.kinds.FactRefusal.{FactRefusal}
-use Rattle.olap_facts.specs.declared.kinds.FactRefusal.TheVariants as refusal
+use Rattle.olap_base.specs.Refusing.{IsRefusedBy}
+use Rattle.olap_base.specs.declared.refusals.Fault.{Fault}
+use Rattle.olap_base.specs.declared.refusals.Refusal.{Refusal}
+use Rattle.olap_base.specs.declared.refusals.Refusal.TheVariants as refusal
 use Rattle.olap_view.specs.RollingUp.{AreRolledUp, IsTallyOf}
 use Rattle.olap_view.specs.Tallies.{StandsFor, Tallied}
 
@@ -105,18 +106,26 @@ ended r h =
     e ∙ ap (map (fact_read r.instance)) (sym (take_all r.handed rows n))
 
 -- why a reader stopped is told of the whole text
-pub refused_by : (r : FactReading) (e : FactRefusal) → IsStopped r e → IsRefusedBy e (all_read r)
-refused_by r (refusal.Fault at kind) h = h.0
-refused_by r refusal.Memory h = h
+pub refused_by : (r : FactReading) (e : Refusal (Fault FactKind)) → IsStopped r e → IsRefusedBy e (all_read r)
+refused_by r (refusal.Kind f) h = h.0
+refused_by r (refusal.Memory m) h = tt
+
+-- nor is that of what stopped it in a batch, where another reader reads the same
+pub batch_refused : (r first : FactReading) → all_read r ≡ all_read first → (e : Refusal (Fault FactKind))
+    → IsStoppedInBatch r e → IsRefusedBy e (all_read first)
+batch_refused r first same (refusal.Kind f) h = sym same ∙ h.0
+batch_refused r first same (refusal.Memory m) h = tt
 
 -- a live reader of a text before and after a call
 module _ (g : Graph) (i : Instance) (records : List (List (List ℕ))) (most : ℕ) (old : FactReading)
     (is : old ≡ reading g i records most old.handed true) where
+  -- a reader after one fact more
   pub reader_more : (new : FactReading) → new ≡ one_more old → new ≡ reading g i records most new.handed true
   reader_more new e =
       let h : new.handed ≡ old.handed + 1 = ap (λ (r : FactReading). r.handed) e in
       e ∙ ap one_more is ∙ ap (λ n. reading g i records most n true) (sym h)
 
+  -- the facts after one more
   pub facts_more : (new : FactReading) (f : Fact) → new ≡ one_more old → HandsOut old f
       → facts_so_far i records new.handed ≡ facts_so_far i records old.handed ++ f ∷ []
   facts_more new f e h =

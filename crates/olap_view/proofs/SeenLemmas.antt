@@ -8,6 +8,7 @@ use Rattle.olap_view.specs.Seen.{each_view_of, row_of, rows_of, view_of}
 use Rattle.olap_view.specs.declared.views.Row as told_row
 use Rattle.olap_view.specs.declared.views.View as told_view
 
+-- rows with one more
 pub rows_more_is : (rows : List told_row.Row) (k : ℕ) (d : told_row.Row) → k < length rows
     → rows_of (take (k + 1) rows) ≡ rows_of (take k rows) ++ row_of (get_or rows k d) ∷ []
 rows_more_is rows k d h = ap rows_of (take_more rows k d h) ∙ map-append row_of (take k rows) (get_or rows k d ∷ [])
@@ -27,5 +28,6 @@ each_view P views k v h e a = subst (λ (w : told_view.View). P (view_of w)) (sy
 pub rows_of_taken : (rows : List told_row.Row) (k : ℕ) → take k (rows_of rows) ≡ rows_of (take k rows)
 rows_of_taken rows k = take-map row_of k rows
 
+-- the first rows are no more than all
 pub rows_taken : (rows : List told_row.Row) (k : ℕ) → length (rows_of (take k rows)) ≤ length rows
 rows_taken rows k = let l = length-map (take k rows) row_of in let m = length-take k rows in omega arith

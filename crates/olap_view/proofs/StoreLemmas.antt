@@ -34,6 +34,7 @@ module _ (g : Graph) (i : Instance) (rows : List Record) (t : StoredRows) (h : T
       each (c ∷ cs) = ap (λ v. v ∷ map (view_by i (stored_at t)) cs) (view-told c)
           ∙ ap (λ vs. view_read i rows c ∷ vs) (each cs)
 
+  -- a view of rows that are stored may be stored
   stored-in : (c : ℕ) → Fits (view_by i (stored_at t) c)
   stored-in c = all-rows IsStored (stored_at t) (members_of i c)
       (λ y k. stored y (stored_at t y) (h.stored y (member_is i c y k).0))
@@ -42,9 +43,11 @@ module _ (g : Graph) (i : Instance) (rows : List Record) (t : StoredRows) (h : T
       stored y None e = e
       stored y (Some s) e = e
 
+  -- the views stand in file order
   pub views-ordered : All (IsInFileOrder i) (map (view_by i (stored_at t)) (begun_in t))
   views-ordered = each-in-order i (stored_at t) (begun_in t)
 
+  -- the views are a sound store
   pub views-sound : IsSoundStore g i (map (view_by i (stored_at t)) (begun_in t))
   views-sound = record {
     store = store-of i (stored_at t) (begun_in t)

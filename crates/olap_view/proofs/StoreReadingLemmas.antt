@@ -21,10 +21,12 @@ use Rattle.olap_view.specs.declared.stored_rows.StoredRows.{StoredRows}
 
 -- ---- lists
 
+-- or nothing
 pub or-nothing : {A : Type 0} (o : Option A) → option_or o None ≡ o
 or-nothing None = refl
 or-nothing (Some x) = refl
 
+-- or false
 or-false : (b : Bool) → b || false ≡ b
 or-false true = refl
 or-false false = refl
@@ -44,12 +46,14 @@ find-more : {A : Type 0} (p : A → Bool) (xs : List A) (x : A) (b : Bool) → p
     → find p (xs ++ x ∷ []) ≡ option_or (find p xs) (cond b (Some x) None)
 find-more p xs x b e = find-append p xs (x ∷ []) ∙ ap (λ t. option_or (find p xs) (cond t (Some x) None)) e
 
+-- whether one of the items passes, with one more
 pub any-more : {A : Type 0} (p : A → Bool) (xs : List A) (x : A) (b : Bool) → p x ≡ b
     → list_any p (xs ++ x ∷ []) ≡ (list_any p xs || b)
 any-more p xs x b e = list_any-append p xs (x ∷ []) ∙ ap (λ t. list_any p xs || t) (or-false (p x) ∙ e)
 
 -- ---- the views that are begun
 
+-- one view more is begun
 pub begun-more : (g : Graph) (rows : List Record) (r : Record) → is_beginning r ≡ true
     → begun g (rows ++ r ∷ []) ≡ begun g rows ++ category_number g r ∷ []
 begun-more g rows r e =
@@ -57,6 +61,7 @@ begun-more g rows r e =
     ∙ ap (λ b. filter is_beginning rows ++ cond b (r ∷ []) []) e)
     ∙ map-append (category_number g) (filter is_beginning rows) (r ∷ [])
 
+-- a row begins none
 pub begun-same : (g : Graph) (rows : List Record) (r : Record) → is_beginning r ≡ false
     → begun g (rows ++ r ∷ []) ≡ begun g rows
 begun-same g rows r e =

@@ -60,19 +60,23 @@ told-members n rows a = λ k d h. each_row (λ r. r.member < n) rows k d h a
 abbrev Full : List (List ℕ) → Type 0
 Full r = 0 < length r
 
+-- one record more has fields
 full-cons : (top : List (List ℕ)) (rows : List (List (List ℕ))) → 0 < length top → All Full rows → All Full (top ∷ rows)
 full-cons top rows h t zero d l = h
 full-cons top rows h t (suc k) d l = t k d (omega arith)
 
+-- so do the records of two lists
 full-append : (xs ys : List (List (List ℕ))) → All Full xs → All Full ys → All Full (xs ++ ys)
 full-append [] ys a b = b
 full-append (x ∷ xs) ys a b = full-cons x (xs ++ ys) (a 0 x (omega arith))
     (full-append xs ys (λ k d l. a (suc k) d (omega arith)) b)
 
+-- those of a view
 full-one : (g : Graph) (i : Instance) (v : View) → All Full (records_of_one g i v)
 full-one g i v = full-cons (beginning _) (map (λ r. _ ∷ fields_in i r) v.rows) (omega arith)
     (All-map Full (λ r. _ ∷ fields_in i r) v.rows (λ k d l. omega arith))
 
+-- those of several views
 full-each : (g : Graph) (i : Instance) (views : List View) → All Full (flat_map (records_of_one g i) views)
 full-each g i [] = λ k d l. absurd (omega arith)
 full-each g i (v ∷ views) = full-append (records_of_one g i v) (flat_map (records_of_one g i) views) (full-one g i v)
@@ -88,6 +92,7 @@ store-reads g i views =
 
 -- ---- a record
 
+-- whether the first record is the header
 pub header-is : (row : List (List ℕ)) (after : List (List (List ℕ))) (b : Bool) → IsTrue b ↔ (row ≡ header)
     → b ≡ has_header (row ∷ after)
 header-is row after b h =

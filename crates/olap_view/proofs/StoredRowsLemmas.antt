@@ -14,20 +14,24 @@ use Rattle.olap_view.specs.declared.summaries.Summary as told
 
 -- ---- the summary of a number
 
+-- what stands in a list stays where one more comes after it
 get-kept : {A : Type 0} (xs : List A) (x : A) (k : ℕ) → k < length xs → slice_get (xs ++ x ∷ []) k ≡ slice_get xs k
 get-kept [] x k h = absurd (omega arith)
 get-kept (y ∷ xs) x zero h = refl
 get-kept (y ∷ xs) x (suc k) h = get-kept xs x k (omega arith)
 
+-- the new one stands at the end
 get-new : {A : Type 0} (xs : List A) (x : A) → slice_get (xs ++ x ∷ []) (length xs) ≡ Some x
 get-new [] x = refl
 get-new (y ∷ xs) x = get-new xs x
 
+-- a place that is taken keeps its summary
 numbered-kept : (xs : List told.Summary) (s : told.Summary) (p : ℕ) → p ≤ length xs
     → numbered (xs ++ s ∷ []) p ≡ numbered xs p
 numbered-kept xs s zero h = refl
 numbered-kept xs s (suc k) h = ap (option_map summary_of) (get-kept xs s k (omega arith))
 
+-- the new place has the new summary
 numbered-new : (xs : List told.Summary) (s : told.Summary) (p : ℕ) → p ≡ length xs + 1
     → numbered (xs ++ s ∷ []) p ≡ Some (summary_of s)
 numbered-new xs s zero e = absurd (omega arith)
@@ -53,6 +57,7 @@ module _ (t : StoredRows) (y : ℕ) (p : IsPlaced t) (h : y < length t.places.it
   abbrev count : ℕ
   count = length t.summaries.items
 
+  -- the member has no row yet
   free : get_or places y 0 ≡ 0
   free = numbered-some t.summaries.items (get_or places y 0) (p.inside y) n
 
@@ -60,6 +65,7 @@ module _ (t : StoredRows) (y : ℕ) (p : IsPlaced t) (h : y < length t.places.it
   abbrev one : ℕ → ℕ
   one k = cond (nat_lt 0 k) 1 0
 
+  -- one place more is taken
   counted : count_by (λ k. nat_lt 0 k) (set places y (count + 1)) ≡ count + 1
   counted =
       let more = sum_by-set one places y (count + 1) 0 h in

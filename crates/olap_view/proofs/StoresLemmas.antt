@@ -12,6 +12,7 @@ use Rattle.olap_view.specs.Seen.{each_view_of, rows_of, view_of}
 use Rattle.olap_view.specs.Stores.{chosen, chosen_from}
 use Rattle.olap_view.specs.declared.views.View as told
 
+-- the chosen of the views with one more
 chosen_more : (k : ℕ) (views : List View) (v : View) (mask : ℕ) → chosen_from k (views ++ v ∷ []) mask
     ≡ chosen_from k views mask ++ cond (bit_at mask (k + length views) == 1) (v ∷ []) []
 chosen_more k [] v mask = let e : k ≡ k + 0 = omega arith in ap (λ n. cond (bit_at mask n == 1) (v ∷ []) []) e
@@ -33,6 +34,7 @@ rows_chosen views mask = flat_map (λ v. v.rows) (chosen views mask)
 
 module _ (views : List told.View) (k : ℕ) (v : told.View) (mask : ℕ) (h : k < length views)
     (e : v ≡ get_or views k v) where
+  -- the chosen up to the next view
   last_is : (b : Bool) → (bit_at mask k == 1) ≡ b → chosen (each_view_of (take (k + 1) views)) mask
       ≡ chosen (each_view_of (take k views)) mask ++ cond b (view_of v ∷ []) []
   last_is b t =

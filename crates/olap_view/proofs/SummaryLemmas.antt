@@ -1,4 +1,5 @@
 -- How large totals may be.
+--     joinable                         a small summary may be joined
 --     joined_up_to, joined_of_values   two summaries together
 --     total_of_stored                  the total of stored rows
 --     total_of_value_list              the total of values of 64 bits
@@ -11,15 +12,17 @@ use Rattle.std.proofs.lemmas.List.Elements.{All-head, All-tail}
 use Rattle.olap_base.specs.Limits.{most_count, most_sum}
 use Rattle.olap_base.specs.Summaries.{Summary, joined, of_value, total, ◌⊕◌}
 use Rattle.olap_base.specs.Views.{Row}
-use Rattle.olap_view.specs.Bounds.{IsOfValues, IsUpTo}
+use Rattle.olap_view.specs.Bounds.{IsJoinable, IsOfValues, IsUpTo}
 use Rattle.olap_view.specs.Stores.{IsStored}
 
+-- a function of two numbers of 64 bits sees them as they are
 pub in_64_bits : (g : ℤ → ℤ → ℤ) (x y : ℤ) → SFits w64 x → SFits w64 y
     → g (to_z w64 (of_z w64 x)) (to_z w64 (of_z w64 y)) ≡ g x y
 in_64_bits g x y p q = rw (to_z-of_z w64 x p, to_z-of_z w64 y q)
 
 -- ---- counts and sums
 
+-- what is up to these is up to greater ones
 pub up_to_more : (n m k l : ℕ) (s : Summary) → n ≤ k → m ≤ l → IsUpTo n m s → IsUpTo k l s
 up_to_more n m k l s h g u = let a = u.count in let b = u.sum_from in let d = u.sum_to in record {
   count = omega arith;
@@ -27,6 +30,11 @@ up_to_more n m k l s h g u = let a = u.count in let b = u.sum_from in let d = u.
   sum_to = omega (arith, ints);
 }
 
+-- a summary up to smaller numbers may be joined
+pub joinable : (n m : ℕ) (s : Summary) → n ≤ 2 ^ 62 → m ≤ 2 ^ 125 → IsUpTo n m s → IsJoinable s
+joinable n m = up_to_more n m (2 ^ 62) (2 ^ 125)
+
+-- counts and sums are added
 pub joined_up_to : (n m k l : ℕ) (s t : Summary) → IsUpTo n m s → IsUpTo k l t → IsUpTo (n + k) (m + l) (joined s t)
 joined_up_to n m k l s t u v =
     let a = u.count in let b = u.sum_from in let d = u.sum_to in
@@ -35,9 +43,11 @@ joined_up_to n m k l s t u v =
 
 -- ---- rows that are stored
 
+-- a stored row is within its bounds
 pub stored_up_to : (r : Row) → IsStored r → IsUpTo most_count most_sum r.summary
 stored_up_to r q = let a = q.few in record { count = omega arith; sum_from = q.sum_from; sum_to = q.sum_to }
 
+-- the total of stored rows, by how many they are
 pub total_of_stored : (rows : List Row) → All IsStored rows
     → IfSome (total (map (λ r. r.summary) rows)) (IsUpTo (length rows * most_count) (length rows * most_sum))
 total_of_stored [] a = tt
@@ -57,16 +67,20 @@ total_of_stored (r ∷ rows) a =
 
 -- ---- values of 64 bits
 
+-- either of two values of 64 bits
 either_fits : (b : Bool) (x y : ℤ) → SFits w64 x → SFits w64 y → SFits w64 (cond b x y)
 either_fits true x y p q = p
 either_fits false x y p q = q
 
+-- one value's summary is small
 pub value_up_to : (v : ℤ) → SFits w64 v → IsUpTo 1 (2 ^ 63) (of_value v)
 value_up_to v f = record { count = omega arith; sum_from = omega (arith, ints); sum_to = omega (arith, ints) }
 
+-- it is of one value
 value_is : (v : ℤ) → SFits w64 v → IsOfValues 1 (of_value v)
 value_is v f = record { some = omega arith; up_to = value_up_to v f; least = f; greatest = f }
 
+-- what is of some values is of more
 pub of_values_more : (n k : ℕ) (s : Summary) → n ≤ k → IsOfValues n s → IsOfValues k s
 of_values_more n k s h q = record {
   some = q.some;
@@ -75,6 +89,7 @@ of_values_more n k s h q = record {
   greatest = q.greatest;
 }
 
+-- one value more
 joined_of_values : (n : ℕ) (v : ℤ) (s : Summary) → SFits w64 v → IsOfValues n s
     → IsOfValues (suc n) (joined (of_value v) s)
 joined_of_values n v s f q = record {
@@ -86,6 +101,7 @@ joined_of_values n v s f q = record {
   greatest = either_fits (int_lt s.greatest v) v s.greatest f q.greatest;
 }
 
+-- the total of values of 64 bits, by how many they are
 pub total_of_value_list : (vs : List ℤ) → All (SFits w64) vs → IfSome (total (map of_value vs)) (IsOfValues (length vs))
 total_of_value_list [] a = tt
 total_of_value_list (v ∷ vs) a =

@@ -5,7 +5,7 @@
 --     filled_start, filled_more  rows of stored views, one after another
 --     filled_first, filled_next, filled_all   stored views, one after another
 --     categories_more            the category of one view more
-use Rattle.std.proofs.Common.{◌≡◌, ◌≢◌, ℕ, suc, ◌+◌, ◌<◌, ◌≤◌, ◌^◌, List, [], ◌∷◌, ◌++◌, length, get_or, set, map, take, Bool, true, false, cond, refl, ap, sym, subst, ◌∙◌, inl, inr, arith, Option, Some, None, IfSome, get_or-set_same, get_or-set_other}
+use Rattle.std.proofs.Common.{◌≡◌, ◌≢◌, ℕ, suc, ◌+◌, ◌<◌, ◌≤◌, List, [], ◌∷◌, ◌++◌, length, get_or, set, map, take, Bool, true, false, cond, refl, ap, sym, subst, ◌∙◌, inl, inr, arith, Option, Some, None, IfSome, get_or-set_same, get_or-set_other}
 use Rattle.std.specs.Prelude.{◌==◌, ◌⊎◌, All, AllPairs, Contains, filter_map, find}
 use Rattle.std.specs.List.{range_with_len}
 use Rattle.std.specs.Option.{option_map, option_or}
@@ -21,7 +21,7 @@ use Rattle.olap_base.specs.Summaries.{Summary, ◌⊕◌}
 use Rattle.olap_base.specs.Views.{Row, View, members_of, row_at}
 use Rattle.olap_base.proofs.ListLemmas.{Contains-map}
 use Rattle.olap_base.specs.declared.ids.CatId.{CatId}
-use Rattle.olap_view.specs.Bounds.{IsUpTo}
+use Rattle.olap_view.specs.Bounds.{IsJoinable}
 use Rattle.olap_view.specs.Seen.{each_view_of, ids, summary_of, view_of}
 use Rattle.olap_view.specs.Stores.{IsInFileOrder, summary_in}
 use Rattle.olap_view.specs.SummaryTables.{IsSummaryTable, Summarized, categories_in, stands_at, summarized, view_at, views_at}
@@ -35,6 +35,7 @@ use Rattle.olap_view.proofs.ViewingLemmas.{map_same, rows_same}
 
 -- ---- what stands at a member
 
+-- what stands at a member
 pub summarized_is : (i : Instance) (t : Table) (y : ℕ) → y < length i → stands_at (summarized i t) y ≡ summary_at t y
 summarized_is i t y h = get_or-map (summary_at t) (range_with_len 0 (length i)) y 0 None (simp length-range_with_len h)
     ∙ ap (summary_at t) (get_or-range_with_len 0 (length i) y 0 h ∙ zero_more y)
@@ -42,6 +43,7 @@ summarized_is i t y h = get_or-map (summary_at t) (range_with_len 0 (length i)) 
     zero_more : (y : ℕ) → 0 + y ≡ y
     zero_more y = omega arith
 
+-- the same members where the categories are the same
 pub among_as : (i : Instance) (t u : Table) → u.categories ≡ t.categories → (y : ℕ) → IsAmong i (categories_of t) y
     → IsAmong i (categories_of u) y
 among_as i t u e y m = record {
@@ -49,9 +51,11 @@ among_as i t u e y m = record {
   category = subst (λ l. Contains l (category_of i y)) (sym (ap (λ v. map (λ d. d.0) v.items) e)) m.category;
 }
 
+-- equal numbers pass the test
 test_true : (a b : ℕ) → a ≡ b → (a == b) ≡ true
 test_true a b e = grind (arith, nat_tests)
 
+-- different ones don't
 test_false : (a b : ℕ) → a ≢ b → (a == b) ≡ false
 test_false a b n = grind (arith, nat_tests)
 
@@ -99,11 +103,13 @@ joined_at i x s t u j y m =
 
 -- ---- views
 
+-- the view of a category
 pub view_at-is : (i : Instance) (t : Table) (c : ℕ) → view_in i t c ≡ view_at (summarized i t) c
 view_at-is i t c = ap (λ rows. record { category = c; rows = rows })
     (rows_same i c (λ y. row_at y (summary_at t y)) (λ y. row_at y (stands_at (summarized i t) y))
     (λ y m. ap (row_at y) (sym (summarized_is i t y m.0))))
 
+-- the views of the categories
 pub views_at-are : (i : Instance) (t : Table) → map (view_in i t) (categories_of t) ≡ views_at (summarized i t)
 views_at-are i t = map_same (view_in i t) (view_at (summarized i t)) (categories_of t) (λ c k. view_at-is i t c)
 
@@ -192,6 +198,7 @@ among_view i views t e f j d l y m = record {
       (Contains-map (λ (v : View). v.category) views (get_or views j d) (Contains-get_or views j d l))));
 }
 
+-- the table before the first view
 pub filled_first : (i : Instance) (views : List View) (t : Summarized) → t.instance ≡ i
     → t.categories ≡ categories_in views → ((y : ℕ) → IsAmong t.instance t.categories y → stands_at t y ≡ None)
     → IsFilled i views 0 t
@@ -202,6 +209,7 @@ filled_first i views t e f none = record {
   empty = λ j d h l y m. none y (among_view i views t e f j d l y m);
 }
 
+-- or nothing
 or_none : (o : Option Summary) → option_or o None ≡ o
 or_none None = refl
 or_none (Some s) = refl
@@ -211,6 +219,7 @@ other_category : (i : Instance) (v : View) (y : ℕ) → IsInFileOrder i v → c
     → summary_in v.rows y ≡ None
 other_category i v y o n = absent y v.rows (λ k d l e. n (ap (category_of i) (sym e) ∙ (o.members k d l).1))
 
+-- one view more
 pub filled_next : (i : Instance) (views : List View) (k : ℕ) (t u : Summarized) → AllPairs ◌≢◌ (categories_in views)
     → All (IsInFileOrder i) views → k < length views → (v : View) → v ≡ get_or views k v
     → IsFilled i views k t → u.instance ≡ t.instance → u.categories ≡ t.categories
@@ -278,6 +287,7 @@ view_back i t v e o s =
     (rows_same i v.category (λ y. row_at y (stands_at t y)) (λ y. row_at y (summary_in v.rows y))
     (λ y m. ap (row_at y) (s y m)) ∙ rows-back i v o)
 
+-- after the last all views stand in it
 pub filled_all : (i : Instance) (views : List View) (k : ℕ) (t : Summarized) → All (IsInFileOrder i) views
     → length views ≤ k → IsFilled i views k t → views_at t ≡ views
 filled_all i views k t order h p =
@@ -292,10 +302,10 @@ filled_all i views k t order h p =
 
 -- what stands at the members of a category is small, if all that stands in the table is
 pub room_in : (i : Instance) (t : Table)
-    → ((y : ℕ) → IsAmong i (categories_of t) y → IfSome (stands_at (summarized i t) y) (IsUpTo (2 ^ 62) (2 ^ 120)))
+    → ((y : ℕ) → IsAmong i (categories_of t) y → IfSome (stands_at (summarized i t) y) IsJoinable)
     → (c : ℕ) → Contains (categories_of t) c → HasRoom i c t
 room_in i t a c k y m e =
-    subst (λ (o : Option Summary). IfSome o (IsUpTo (2 ^ 62) (2 ^ 120))) (summarized_is i t y m)
+    subst (λ (o : Option Summary). IfSome o IsJoinable) (summarized_is i t y m)
     (a y (record { member = m; category = subst (Contains (categories_of t)) (sym e) k }))
 
 -- a table with the same categories and places is a summary table too

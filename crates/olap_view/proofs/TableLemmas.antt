@@ -30,6 +30,7 @@ use Rattle.olap_view.specs.declared.views.View as told_view
 
 -- ---- places
 
+-- no member has a place yet
 pub places_start : (i : Instance) (cs places : List ℕ) → length places ≡ length i → PlacesSoFar i cs 0 0 places
 places_start i cs places e = record {
   size = e;
@@ -39,6 +40,7 @@ places_start i cs places e = record {
 }
 
 module _ (i : Instance) (cs : List ℕ) (n k : ℕ) (places : List ℕ) (p : PlacesSoFar i cs n k places) where
+  -- the next member gets the next place
   pub places_add : n < length i → PlacesSoFar i cs (n + 1) (k + 1) (set places n k)
   places_add h = record {
     size = length-set places n k ∙ p.size;
@@ -70,6 +72,7 @@ module _ (i : Instance) (cs : List ℕ) (n k : ℕ) (places : List ℕ) (p : Pla
       there : (y : ℕ) → y ≢ n → get_or (set places n k) y 0 ≡ get_or places y 0
       there y m = rw get_or-set_other refl
 
+  -- the next member, of another category, gets none
   pub places_skip : (Contains cs (category_of i n) → ⊥) → PlacesSoFar i cs (n + 1) k places
   places_skip m = record {
     size = p.size;
@@ -87,6 +90,7 @@ module _ (i : Instance) (cs : List ℕ) (n k : ℕ) (places : List ℕ) (p : Pla
     ];
   }
 
+-- all members have their places
 pub places_done : (i : Instance) (t : Table) (n k : ℕ) → n ≡ length i → length t.summaries.items ≡ k
     → PlacesSoFar i (categories_of t) n k t.places.items → HasPlaces i t
 places_done i t n k e l p = record {
@@ -98,12 +102,15 @@ places_done i t n k e l p = record {
 
 -- ---- joining in one category
 
+-- equal numbers pass the test
 test_true : (a b : ℕ) → a ≡ b → (a == b) ≡ true
 test_true a b e = grind (arith, nat_tests)
 
+-- different ones don't
 test_false : (a b : ℕ) → a ≢ b → (a == b) ≡ false
 test_false a b n = grind (arith, nat_tests)
 
+-- two tests of which not both hold
 no_test : (a b : Bool) → (a ≡ true → b ≡ true → ⊥) → (a && b) ≡ false
 no_test true true f = absurd (f refl refl)
 no_test true false f = refl
@@ -115,6 +122,7 @@ nothing_more o b s e = sym (⊕_none o) ∙ ap (λ t. o ⊕ when t s) (sym e)
 
 module _ (i : Instance) (c x : ℕ) (s : Summary) (before : Table) (p : HasPlaces i before)
     (k : Contains (categories_of before) c) where
+  -- joined where a member is reached
   pub joined_some : (y : ℕ) (o : Option told.Summary) (after : Table) → IsAncestor i x c y
       → after.categories ≡ before.categories → after.places ≡ before.places
       → after.summaries.items ≡ set before.summaries.items (place_in before y) o
@@ -163,6 +171,7 @@ module _ (i : Instance) (c x : ℕ) (s : Summary) (before : Table) (p : HasPlace
           (no_test (category_of i z == c) (reaches i x z)
           (λ u v. n (a.only z (m.member, eqb_is (category_of i z) c u) ((reaches_is i x z).0 v))))
 
+  -- nothing is joined where none is
   pub joined_none : (ReachesCategory i x c → ⊥) → AreJoinedIn i c x s before before
   joined_none n = record {
     same_categories = refl;
@@ -175,12 +184,15 @@ module _ (i : Instance) (c x : ℕ) (s : Summary) (before : Table) (p : HasPlace
 
 -- ---- joining in all categories
 
+-- a category of the list is found in it
 any_is : (d : ℕ) (cs : List ℕ) → Contains cs d → list_any (λ e. d == e) cs ≡ true
 any_is d cs k = (list_any_is (λ e. d == e) cs).1 (d, k, test_true d d refl)
 
+-- what is found is in the list
 any_from : (d : ℕ) (cs : List ℕ) → list_any (λ e. d == e) cs ≡ true → Contains cs d
 any_from d cs e = let t = (list_any_is (λ e. d == e) cs).0 e in subst (Contains cs) (sym (eqb_is d t.0 t.2)) t.1
 
+-- what isn't in the list isn't found
 pub none_before : (d : ℕ) (cs : List ℕ) → (Contains cs d → ⊥) → list_any (λ e. d == e) cs ≡ false
 none_before d cs n = go (list_any (λ e. d == e) cs) refl
   where
@@ -188,10 +200,12 @@ none_before d cs n = go (list_any (λ e. d == e) cs) refl
     go true e = absurd (n (any_from d cs e))
     go false e = refl
 
+-- or false
 last_test : (p : Bool) → (p || false) ≡ p
 last_test true = refl
 last_test false = refl
 
+-- joined in no category yet
 pub so_far_start : (i : Instance) (x : ℕ) (s : Summary) (before : Table) → JoinedSoFar i [] x s before before
 so_far_start i x s before = record {
   same_categories = refl;
@@ -210,6 +224,7 @@ module _ (i : Instance) (done : List ℕ) (c x : ℕ) (s : Summary) (before betw
       (none_before (category_of i y) done (λ k. new (subst (Contains done) e k)))
       ∙ ⊕_none (summary_at before y)
 
+  -- joined in one category more
   pub so_far_step : (after : Table) → AreJoinedIn i c x s between after
       → JoinedSoFar i (done ++ c ∷ []) x s before after
   so_far_step after a = record {
@@ -245,6 +260,7 @@ module _ (i : Instance) (done : List ℕ) (c x : ℕ) (s : Summary) (before betw
           (sym (ap (λ t. list_any (λ d. category_of i y == d) done || (t || false)) e
           ∙ last_test (list_any (λ d. category_of i y == d) done)))
 
+-- joined in all categories
 pub joined_all : (i : Instance) (x : ℕ) (s : Summary) (before after : Table)
     → JoinedSoFar i (categories_of before) x s before after → AreJoined i x s before after
 joined_all i x s before after j = record {
@@ -257,6 +273,7 @@ joined_all i x s before after j = record {
 
 -- ---- what is as large has the same places
 
+-- a table as large, with the same places
 pub places_kept : (i : Instance) (before after : Table) → after.categories ≡ before.categories
     → after.places ≡ before.places → length after.summaries.items ≡ length before.summaries.items
     → HasPlaces i before → HasPlaces i after
@@ -288,19 +305,24 @@ not_before xs k a h c =
     a c.0 k (get_or xs k 0) before h same
 
 module _ (cs : List CatId) (k : ℕ) (c : CatId) (h : k < length cs) (e : c ≡ get_or cs k c) where
+  -- the first categories with one more
   pub ids_more : ids (take (k + 1) cs) ≡ ids (take k cs) ++ c.0 ∷ []
   ids_more = ap ids (take_more cs k c h) ∙ map-append (λ (d : CatId). d.0) (take k cs) (get_or cs k c ∷ [])
       ∙ ap (λ (d : CatId). ids (take k cs) ++ d.0 ∷ []) (sym e)
 
+  -- the k-th is one of them
   pub id_in : Contains (ids cs) c.0
   id_in = Contains-map (λ (d : CatId). d.0) cs c (k, h, sym e)
 
+  -- its number stands at its place
   id_at : get_or (ids cs) k 0 ≡ c.0
   id_at = get_or-map (λ (d : CatId). d.0) cs k c 0 h ∙ ap (λ (d : CatId). d.0) (sym e)
 
+  -- the first numbers with one more
   pub ids_taken : take (k + 1) (ids cs) ≡ take k (ids cs) ++ c.0 ∷ []
   ids_taken = take_more (ids cs) k 0 (simp length-map h) ∙ ap (λ d. take k (ids cs) ++ d ∷ []) id_at
 
+  -- it isn't among those before it
   pub id_fresh : AllPairs ◌≢◌ (ids cs) → Contains (ids (take k cs)) c.0 → ⊥
   id_fresh a m = not_before (ids cs) k a (simp length-map h)
       (subst (λ (l : List ℕ). Contains l (get_or (ids cs) k 0)) (sym (take-map (λ (d : CatId). d.0) k cs))

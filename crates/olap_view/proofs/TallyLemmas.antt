@@ -16,17 +16,18 @@ use Rattle.olap_base.specs.Limits.{most_count}
 use Rattle.olap_base.specs.Summaries.{Summary, of_value, total, ◌⊕◌}
 use Rattle.olap_base.specs.Views.{Fact, View, direct_view, row_at, total_of_facts, values_at}
 use Rattle.olap_base.proofs.TotalLemmas.{total_push, ⊕_none}
-use Rattle.olap_view.specs.Bounds.{IsOfValues, IsUpTo}
+use Rattle.olap_view.specs.Bounds.{IsJoinable, IsOfValues}
 use Rattle.olap_view.specs.Stores.{Fits}
 use Rattle.olap_view.specs.SummaryTables.{Summarized, stands_at, view_at, views_at}
 use Rattle.olap_view.specs.Tables.{IsAmong, when}
 use Rattle.olap_view.specs.Tallies.{IsTally, StandsFor, tallied}
 use Rattle.olap_view.proofs.FittingLemmas.{direct_stored, total_is_of_values}
-use Rattle.olap_view.proofs.SummaryLemmas.{up_to_more}
+use Rattle.olap_view.proofs.SummaryLemmas.{joinable}
 use Rattle.olap_view.proofs.ViewingLemmas.{map_same, rows_same}
 
 -- ---- one fact more
 
+-- the values that reach a member, with one more fact
 values_push : (i : Instance) (fs : List Fact) (f : Fact) (y : ℕ)
     → values_at i (fs ++ f ∷ []) y ≡ values_at i fs y ++ cond (reaches i f.member y) (f.value ∷ []) []
 values_push i fs f y = ap (map (λ (g : Fact). g.value)) (filter-append (λ g. reaches i g.member y) fs (f ∷ []))
@@ -38,6 +39,7 @@ values_push i fs f y = ap (map (λ (g : Fact). g.value)) (filter-append (λ g. r
     last true = refl
     last false = refl
 
+-- what they come to, with one more fact
 total_more : (i : Instance) (fs : List Fact) (f : Fact) (y : ℕ)
     → total_of_facts i (fs ++ f ∷ []) y ≡ total_of_facts i fs y ⊕ when (reaches i f.member y) (of_value f.value)
 total_more i fs f y = ap (λ vs. total (map of_value vs)) (values_push i fs f y) ∙ go (reaches i f.member y)
@@ -48,6 +50,7 @@ total_more i fs f y = ap (λ vs. total (map of_value vs)) (values_push i fs f y)
         ∙ total_push (map of_value (values_at i fs y)) (of_value f.value)
     go false = ap (λ vs. total (map of_value vs)) (append-nil (values_at i fs y)) ∙ sym (⊕_none (total_of_facts i fs y))
 
+-- no fact was added yet
 pub stands_start : (t : Summarized) → ((y : ℕ) → IsAmong t.instance t.categories y → stands_at t y ≡ None)
     → StandsFor (tallied t 0) []
 stands_start t e = record { added = refl; at = e }
@@ -65,6 +68,7 @@ pub among : (t u : Summarized) → u.instance ≡ t.instance → u.categories �
 among t u e g y m = subst (λ (i : Instance). IsAmong i t.categories y) e
     (subst (λ (cs : List ℕ). IsAmong u.instance cs y) g m)
 
+-- one fact more was added
 pub stands_more : (t u : Summarized) (n : ℕ) (f : Fact) (facts : List Fact) → IsAdded f t u
     → StandsFor (tallied t n) facts → StandsFor (tallied u (n + 1)) (facts ++ f ∷ [])
 stands_more t u n f facts j s = record {
@@ -78,6 +82,7 @@ stands_more t u n f facts j s = record {
 
 -- ---- every tally
 
+-- a tally of no facts
 pub tally_start : (t : Summarized) → ((y : ℕ) → IsAmong t.instance t.categories y → stands_at t y ≡ None)
     → IsTally t 0
 tally_start t e = record {
@@ -87,6 +92,7 @@ tally_start t e = record {
   stands = stands_start t e;
 }
 
+-- a tally with one fact more
 pub tally_more : (t u : Summarized) (n : ℕ) (f : Fact) → n + 1 ≤ most_count → SFits w64 f.value → IsAdded f t u
     → IsTally t n → IsTally u (n + 1)
 tally_more t u n f h v j q = record {
@@ -96,19 +102,21 @@ tally_more t u n f h v j q = record {
   stands = stands_more t u n f q.facts j q.stands;
 }
 
+-- what stands in a tally may be joined
 pub tally_room : (t : Summarized) (n : ℕ) → IsTally t n → (y : ℕ) → IsAmong t.instance t.categories y
-    → IfSome (stands_at t y) (IsUpTo (2 ^ 62) (2 ^ 120))
+    → IfSome (stands_at t y) IsJoinable
 tally_room t n q y m =
-    subst (λ (o : Option Summary). IfSome o (IsUpTo (2 ^ 62) (2 ^ 120))) (sym (q.stands.at y m))
+    subst (λ (o : Option Summary). IfSome o IsJoinable) (sym (q.stands.at y m))
     (go (total_of_facts t.instance q.facts y) (total_is_of_values t.instance q.facts y q.values))
   where
-    go : (o : Option Summary) → IfSome o (IsOfValues (length q.facts)) → IfSome o (IsUpTo (2 ^ 62) (2 ^ 120))
+    go : (o : Option Summary) → IfSome o (IsOfValues (length q.facts)) → IfSome o IsJoinable
     go None h = h
     go (Some s) h = let a = q.few in let b = q.stands.added in
-        up_to_more (length q.facts) (length q.facts * 2 ^ 63) (2 ^ 62) (2 ^ 120) s (omega arith) (omega arith) h.up_to
+        joinable (length q.facts) (length q.facts * 2 ^ 63) s (omega arith) (omega arith) h.up_to
 
 -- ---- views
 
+-- a tally's view of a category is the direct one
 pub view_is : (t : Summarized) (n c : ℕ) (facts : List Fact) → Contains t.categories c
     → StandsFor (tallied t n) facts → view_at t c ≡ direct_view t.instance facts c
 view_is t n c facts k s = ap (λ rows. record { category = c; rows = rows })
@@ -116,16 +124,19 @@ view_is t n c facts k s = ap (λ rows. record { category = c; rows = rows })
     (λ y m. ap (row_at y)
     (s.at y (record { member = m.0; category = subst (Contains t.categories) (sym m.1) k }))))
 
+-- it may be stored
 pub view_stored : (t : Summarized) (n c : ℕ) → Contains t.categories c → IsTally t n → Fits (view_at t c)
 view_stored t n c k q = subst (λ (v : View). Fits v) (sym (view_is t n c q.facts k q.stands))
     (direct_stored t.instance c q.facts (let a = q.few in let b = q.stands.added in omega arith) q.values)
 
 module _ (t : Summarized) (n : ℕ) where
+  -- so it is of all its categories
   pub views_are : (facts : List Fact) → StandsFor (tallied t n) facts
       → views_at t ≡ map (direct_view t.instance facts) t.categories
   views_are facts s = map_same (view_at t) (direct_view t.instance facts) t.categories
       (λ c k. view_is t n c facts k s)
 
+  -- and all of them may be stored
   pub views_stored : IsTally t n → All Fits (views_at t)
   views_stored q = All-map Fits (view_at t) t.categories
       (λ k d l. view_stored t n (get_or t.categories k d) (Contains-get_or t.categories k d l) q)

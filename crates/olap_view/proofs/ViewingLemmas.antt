@@ -11,6 +11,7 @@ use Rattle.olap_base.specs.Views.{Row, members_of}
 use Rattle.olap_base.proofs.ListLemmas.{Contains-from_filter, Contains-from_range, contains_head}
 use Rattle.olap_base.proofs.ViewLemmas.{eqb_is}
 
+-- one number more
 range_more : (a n : ℕ) → range_with_len a (suc n) ≡ range_with_len a n ++ (a + n) ∷ []
 range_more a zero = let e : a ≡ a + 0 = omega arith in ap (λ k. k ∷ []) e
 range_more a (suc n) = let e : (a + 1) + n ≡ a + suc n = omega arith in
@@ -22,6 +23,7 @@ list_after xs false o = xs
 list_after xs true None = xs
 list_after xs true (Some x) = xs ++ x ∷ []
 
+-- one item more, if it passes and has a result
 pub list_step : {A : Type 0} (h : ℕ → Option A) (p : ℕ → Bool) (y : ℕ) (b : Bool) (o : Option A) (xs : List A)
     → xs ≡ filter_map h (filter p (range_with_len 0 y)) → p y ≡ b → o ≡ h y
     → list_after xs b o ≡ filter_map h (filter p (range_with_len 0 (y + 1)))
@@ -50,24 +52,29 @@ list_skip h p y xs e q = go (p y) refl
     go false t = list_step h p y false None xs e t (sym q)
     go true t = list_step h p y true None xs e t (sym q)
 
+-- equal results for all items give equal lists of results
 pub filter_map_same : {A B : Type 0} (h k : A → Option B) (xs : List A) → ((x : A) → Contains xs x → h x ≡ k x)
     → filter_map h xs ≡ filter_map k xs
 filter_map_same h k [] f = refl
 filter_map_same h k (x ∷ xs) f = ap (λ o. cons_option o (filter_map h xs)) (f x (contains_head x xs))
     ∙ ap (cons_option (k x)) (filter_map_same h k xs (λ y c. f y (contains_cons y xs x c)))
 
+-- equal images give equal lists
 pub map_same : {A B : Type 0} (h k : A → B) (xs : List A) → ((x : A) → Contains xs x → h x ≡ k x)
     → map h xs ≡ map k xs
 map_same h k [] f = refl
 map_same h k (x ∷ xs) f = ap (λ y. y ∷ map h xs) (f x (contains_head x xs))
     ∙ ap (λ ys. k x ∷ ys) (map_same h k xs (λ y c. f y (contains_cons y xs x c)))
 
+-- equal numbers pass the test
 pub passes : (a b c : ℕ) → a ≡ b → a ≡ c → (b == c) ≡ true
 passes a b c e f = grind (arith, nat_tests)
 
+-- different ones don't
 pub fails : (a b c : ℕ) → a ≡ b → a ≢ c → (b == c) ≡ false
 fails a b c e f = grind (arith, nat_tests)
 
+-- what has no value is nothing
 pub none_of : {A : Type 0} (o : Option A) → ((x : A) → o ≡ Some x → ⊥) → o ≡ None
 none_of None f = refl
 none_of (Some x) f = absurd (f x refl)
@@ -79,6 +86,7 @@ if_ok_more (Err e) P Q f h = h
 
 -- ---- the members of a category
 
+-- what is listed for a category is a member of it
 pub member_is : (i : Instance) (c y : ℕ) → Contains (members_of i c) y → IsMemberOf i c y
 member_is i c y k = let t = Contains-from_filter (λ z. category_of i z == c) (range_with_len 0 _) y k in
     (Contains-from_range _ y t.0, eqb_is (category_of i y) c t.1)

@@ -1,5 +1,6 @@
 -- How large a summary may be.
 --     IsUpTo        a count and a sum up to these numbers
+--     IsJoinable    so small that no number wraps where two are joined
 --     IsOfValues    a summary of some values of 64 bits
 use Rattle.std.specs.Prelude.{ℕ, ◌*◌, ◌^◌, ◌≤◌, pos, neg_ℤ, ◌≤ℤ◌, FitsSigned}
 use Rattle.std.specs.Int.{w64}
@@ -10,6 +11,10 @@ pub record IsUpTo (n m : ℕ) (s : Summary) : Type 0 where
   pub count : s.count ≤ n
   pub sum_from : neg_ℤ (pos m) ≤ℤ s.sum
   pub sum_to : s.sum ≤ℤ pos m
+
+-- no number wraps where two such are joined
+abbrev pub IsJoinable : Summary → Type 0
+IsJoinable = IsUpTo (2 ^ 62) (2 ^ 125)
 
 -- what one value or more, and at most n, of 64 bits come to
 pub record IsOfValues (n : ℕ) (s : Summary) : Type 0 where

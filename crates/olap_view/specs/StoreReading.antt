@@ -13,6 +13,9 @@ use Rattle.std.specs.Option.{option_and_then}
 use Rattle.olap_base.specs.Graph.{Graph, IsCategory}
 use Rattle.olap_base.specs.Instance.{Instance, IsMember}
 use Rattle.olap_base.specs.Limits.{most_views}
+use Rattle.olap_base.specs.Refusing.{IsFor}
+use Rattle.olap_base.specs.declared.refusals.Fault.{Fault}
+use Rattle.olap_base.specs.declared.refusals.Refusal.{Refusal}
 use Rattle.olap_base.specs.Summaries.{Summary}
 use Rattle.olap_view.specs.Seen.{summary_of}
 use Rattle.olap_view.specs.StoreText.{begun, category_number, is_beginning, is_row_of, member_number, summary_read}
@@ -21,8 +24,6 @@ use Rattle.olap_view.specs.Stores.{IsStored}
 use Rattle.olap_view.specs.declared.judging.Entry.{Entry}
 use Rattle.olap_view.specs.declared.judging.Entry.TheVariants as entry
 use Rattle.olap_view.specs.declared.kinds.StoreKind.{StoreKind}
-use Rattle.olap_view.specs.declared.kinds.StoreRefusal.{StoreRefusal}
-use Rattle.olap_view.specs.declared.kinds.StoreRefusal.TheVariants as refusal
 use Rattle.olap_view.specs.declared.stored_rows.StoredRows.{StoredRows}
 
 -- a record: its fields
@@ -78,7 +79,6 @@ abbrev pub IsNew : StoredRows → Entry → Type 0
 IsNew t (entry.Beginning c) = ⊤
 IsNew t (entry.Row m s) = (m.0 < length t.places.items) × (stored_at t m.0 ≡ None)
 
--- the refusal tells the first fault of the records after the header, or that memory ran out
-abbrev pub IsStoreFaultOf : Option (ℕ × StoreKind) → StoreRefusal → Type 0
-IsStoreFaultOf fault (refusal.Fault at kind) = (i : ℕ) × (at ≡ i + 2) × (fault ≡ Some (i, kind))
-IsStoreFaultOf fault refusal.Memory = ⊤
+-- the refusal tells the first fault of the records after the header, or is out of memory
+abbrev pub IsStoreFaultOf : Option (ℕ × StoreKind) → Refusal (Fault StoreKind) → Type 0
+IsStoreFaultOf fault = IsFor (λ f. (i : ℕ) × (f.at ≡ i + 2) × (fault ≡ Some (i, f.kind)))

@@ -11,7 +11,8 @@ use Rattle.std.specs.Str.{bytes_eq}
 use Rattle.olap_base.specs.Graph.{Graph}
 use Rattle.olap_base.specs.Instance.{Instance, category_of}
 use Rattle.olap_base.specs.Limits.{most_views}
-use Rattle.olap_base.specs.Naming.{Fault, place_of}
+use Rattle.olap_base.specs.Naming.{place_of}
+use Rattle.olap_base.specs.declared.refusals.Fault.{Fault}
 use Rattle.olap_base.specs.Summaries.{Summary}
 use Rattle.olap_base.specs.Views.{Row, View, members_of, row_at}
 use Rattle.olap_graph.specs.Lookups.{category_named, name_of_category}

@@ -8,14 +8,14 @@
 --     PlacesSoFar    places for the members so far
 --     view_by        the view of a category with a summary or none at each member
 --     view_in        that of a table
-use Rattle.std.specs.Prelude.{◌≡◌, ◌==◌, ◌&&◌, ℕ, ◌<◌, ◌≤◌, ◌^◌, Bool, List, length, slice_index, slice_index_or, filter_map, Option, Some, None, IfSome, Contains, if◌then◌else◌}
+use Rattle.std.specs.Prelude.{◌≡◌, ◌==◌, ◌&&◌, ℕ, ◌<◌, ◌≤◌, Bool, List, length, slice_index, slice_index_or, filter_map, Option, Some, None, IfSome, Contains, if◌then◌else◌}
 use Rattle.std.specs.List.{list_any}
 use Rattle.std.specs.Option.{option_map}
 use Rattle.olap_base.specs.Reaching.{reaches}
 use Rattle.olap_base.specs.Instance.{Instance, IsMember, category_of}
 use Rattle.olap_base.specs.Summaries.{Summary, ◌⊕◌}
 use Rattle.olap_base.specs.Views.{View, members_of, row_at}
-use Rattle.olap_view.specs.Bounds.{IsUpTo}
+use Rattle.olap_view.specs.Bounds.{IsJoinable}
 use Rattle.olap_view.specs.Seen.{ids, summary_of}
 use Rattle.olap_view.specs.declared.tables.Table.{Table}
 
@@ -45,7 +45,7 @@ pub record HasPlaces (i : Instance) (t : Table) : Type 0 where
 
 -- the summaries at members of c are small
 abbrev pub HasRoom : Instance → ℕ → Table → Type 0
-HasRoom i c t = (y : ℕ) → IsMember i y → category_of i y ≡ c → IfSome (summary_at t y) (IsUpTo (2 ^ 62) (2 ^ 120))
+HasRoom i c t = (y : ℕ) → IsMember i y → category_of i y ≡ c → IfSome (summary_at t y) IsJoinable
 
 -- the summary, if the test holds
 abbrev pub when : Bool → Summary → Option Summary

@@ -63,8 +63,8 @@ fn cells(alloc: Global, legal: &Legal, category: CatId) -> Result<Vec<u32>, Memo
 }
 
 impl<'a> Column<'a> {
-    /// The column of a category. It takes one look at the table of ancestors, and four bytes, for each member. `Memory`:
-    /// want of memory.
+    /// The column of a category. It takes one look at the table of ancestors, and four bytes, for each member.
+    /// `Memory`: out of memory.
     pub fn new(alloc: Global, legal: &'a Legal, category: CatId) -> Result<Column<'a>, Memory>
         ensures { IfOk result (λ a. a ≡ ascent legal.now category.0) }
     {
@@ -113,8 +113,8 @@ impl Model for OwnedColumn {
 }
 
 impl OwnedColumn {
-    /// The column of a category. It takes one look at the table of ancestors, and four bytes, for each member, and gives
-    /// the table's memory back. `Memory`: want of memory; the instance is dropped.
+    /// The column of a category. It takes one look at the table of ancestors, and four bytes, for each member, and
+    /// gives the table's memory back. `Memory`: out of memory; the instance is dropped.
     pub fn new(alloc: Global, legal: Legal, category: CatId) -> Result<OwnedColumn, Memory>
         ensures { IfOk result (λ a. a ≡ ascent legal category.0) }
     {

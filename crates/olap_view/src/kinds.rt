@@ -1,5 +1,4 @@
-// What may be wrong with a text of stored views, and refusals.
-use olap_base::Memory;
+// What may be wrong with a text of stored views.
 
 /// A fault of a text of stored views.
 #[derive(Clone, Copy, Debug, PartialEq, Eq)]
@@ -46,25 +45,5 @@ impl StoreKind {
             StoreKind::TooManyViews => "TooManyViews",
             StoreKind::NoView => "NoView",
         }
-    }
-}
-
-/// Why a text of stored views was refused.
-#[derive(Clone, Copy, Debug, PartialEq, Eq)]
-pub enum StoreRefusal {
-    /// The first fault, with the number of its record, from 1; the header is record 1.
-    Fault { at: u64, kind: StoreKind },
-    /// Memory ran out.
-    Memory,
-}
-
-impl From<Memory> for StoreRefusal {
-    ghost use Rattle.std.specs.Prelude.{◌≡◌};
-    ghost use Rattle.olap_view.specs.declared.kinds.StoreRefusal.TheVariants as refusal;
-
-    ghost from_gives = { λ _ e. e ≡ refusal.Memory };
-
-    fn from(_: Memory) -> StoreRefusal {
-        StoreRefusal::Memory
     }
 }

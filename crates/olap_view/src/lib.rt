@@ -24,7 +24,7 @@ mod viewing;
 mod views;
 
 pub use columns::{Column, OwnedColumn};
-pub use kinds::{StoreKind, StoreRefusal};
+pub use kinds::StoreKind;
 pub use laws::{direct_views_are_read_back, printed_numbers_are_read, printed_stores_are_read};
 pub use printing::{print_view, print_view_behind};
 pub use rolling_up::roll_up;

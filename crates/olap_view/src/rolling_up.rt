@@ -1,9 +1,9 @@
 // The views of a text of facts.
 ghost use Rattle.std.specs.Prelude.{◌≡◌, ◌≢◌, ◌<◌, [], All, AllPairs, IfErr, IfOk, OnOk, length, true};
 ghost use Rattle.olap_base.specs.Limits.{most_facts};
+ghost use Rattle.olap_base.specs.Refusing.{IsRefusedBy};
 ghost use Rattle.olap_facts.specs.FactReading.{all_read, reading};
 ghost use Rattle.olap_facts.specs.FactText.{facts_read_within};
-ghost use Rattle.olap_facts.specs.Refusals.{IsRefusedBy};
 ghost use Rattle.olap_instance.specs.Made.{IsMadeFor};
 ghost use Rattle.olap_records.specs.Records.{records_of};
 ghost use Rattle.olap_view.specs.RollingUp.{AreRolledUp, IsTallyOf};
@@ -12,14 +12,18 @@ ghost use Rattle.olap_view.specs.Stores.{Fits};
 ghost use Rattle.olap_view.specs.Tallies.{StandsFor};
 
 use crate::{Tally, View};
-use olap_base::{CatId, List, MOST_FACTS};
-use olap_facts::{FactReader, FactRefusal};
+use olap_base::{CatId, Fault, List, MOST_FACTS, Refusal};
+use olap_facts::{FactKind, FactReader};
 use olap_graph::Graph;
 use olap_legal::Legal;
 use std::alloc::Global;
 
 /// Adds the facts that a new reader hands out, batch by batch, to a tally that stands for none.
-fn add_batches(alloc: Global, reader: &mut FactReader, tally: &mut Tally) -> Result<(), FactRefusal>
+fn add_batches(
+    alloc: Global,
+    reader: &mut FactReader,
+    tally: &mut Tally,
+) -> Result<(), Refusal<Fault<FactKind>>>
     requires fresh { let r = reader.old in r ≡ reading r.graph r.instance r.records most_facts 0 true }
     requires instance { tally.old.instance ≡ reader.old.instance }
     requires none { StandsFor tally.old [] }
@@ -41,7 +45,7 @@ fn add_text(
     legal: &Legal,
     text: Vec<u8>,
     tally: &mut Tally,
-) -> Result<(), FactRefusal>
+) -> Result<(), Refusal<Fault<FactKind>>>
     requires made { IsMadeFor graph.now legal.now }
     requires instance { tally.old.instance ≡ legal.now }
     requires none { StandsFor tally.old [] }
@@ -58,14 +62,14 @@ fn add_text(
 /// fault. The views may be stored.
 ///
 /// The facts are read and added to a tally batch by batch, and no list of all facts is kept. The text is gone before
-/// the views are made. `Memory`: want of memory.
+/// the views are made. `Memory`: out of memory.
 pub fn roll_up(
     alloc: Global,
     graph: &Graph,
     legal: &Legal,
     text: Vec<u8>,
     categories: &[CatId],
-) -> Result<List<View>, FactRefusal>
+) -> Result<List<View>, Refusal<Fault<FactKind>>>
     requires made { IsMadeFor graph.now legal.now }
     requires differ { AllPairs ◌≢◌ (ids categories.now) }
 

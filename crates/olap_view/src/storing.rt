@@ -1,9 +1,9 @@
 // The text of stored views: reading and printing it.
 ghost use Rattle.std.specs.Prelude.{◌≡◌, ◌<◌, [], All, IfOk, IsTrue, MatchResult, None, Ok, OnOk, drop, length};
 ghost use Rattle.olap_base.specs.Graph.{IsCategory};
+ghost use Rattle.olap_base.specs.Refusing.{IsRefusedBy};
 ghost use Rattle.olap_records.specs.Faults.{first_fault};
 ghost use Rattle.olap_records.specs.Records.{records_of};
-ghost use Rattle.olap_view.specs.Kinds.{IsStoreRefusedBy};
 ghost use Rattle.olap_view.specs.Seen.{each_view_of, views_of};
 ghost use Rattle.olap_view.specs.StoreReading.{IsStoreFaultOf, Tells};
 ghost use Rattle.olap_view.specs.StoreText.{has_header, records_of_store, store_fault, store_read, store_text, views_read};
@@ -12,8 +12,8 @@ ghost use Rattle.olap_view.specs.Stores.{IsInFileOrder, IsSoundStore};
 use crate::judging::{enter, judge};
 use crate::printing::print_rows;
 use crate::stored_rows::StoredRows;
-use crate::{Store, StoreKind, StoreRefusal, View};
-use olap_base::{List, Memory, Text};
+use crate::{Store, StoreKind, View};
+use olap_base::{Fault, List, Memory, Refusal, Text};
 use olap_graph::Graph;
 use olap_instance::Instance;
 use olap_records::{Printer, Rows};
@@ -55,7 +55,7 @@ fn print_views(
 
 /// The text of stored views: a header, and for each view a record that begins it and a record for each row, with the
 /// category's name, the member's id and the four numbers in decimal. Its records read back as these, and reading it
-/// gives the same store, if it is sound and its rows stand in file order. `Memory`: want of memory.
+/// gives the same store, if it is sound and its rows stand in file order. `Memory`: out of memory.
 pub fn print_store(
     alloc: Global,
     graph: &Graph,
@@ -108,7 +108,7 @@ fn read_rows(
     instance: &Instance,
     rows: &mut Rows,
     table: &mut StoredRows,
-) -> Result<(), StoreRefusal>
+) -> Result<(), Refusal<Fault<StoreKind>>>
     requires { Tells graph.now instance.now [] table.old }
     ensures { MatchResult result
         (λ _. (first_fault (store_fault graph.now instance.now) [] rows.old.left ≡ None)
@@ -119,7 +119,7 @@ fn read_rows(
     'rows: while rows.advance()? {
         match judge(graph, instance, rows, table) {
             Ok(entry) => enter(table, entry)?,
-            Err(kind) => return Err(StoreRefusal::Fault { at, kind }),
+            Err(kind) => return Err(Refusal::Kind(Fault { at, kind })),
         }
         at += 1;
     }
@@ -132,7 +132,7 @@ fn read_views(
     graph: &Graph,
     instance: &Instance,
     rows: &mut Rows,
-) -> Result<List<View>, StoreRefusal>
+) -> Result<List<View>, Refusal<Fault<StoreKind>>>
     ensures read { MatchResult result
         (λ v. (first_fault (store_fault graph.now instance.now) [] rows.old.left ≡ None)
         × (each_view_of v ≡ views_read graph.now instance.now rows.old.left))
@@ -151,18 +151,18 @@ fn read_left(
     graph: &Graph,
     instance: &Instance,
     rows: &mut Rows,
-) -> Result<Store, StoreRefusal>
+) -> Result<Store, Refusal<Fault<StoreKind>>>
     ensures read { MatchResult result
         (λ store. store_read graph.now instance.now rows.old.left ≡ Ok (views_of store))
-        (λ e. IsStoreRefusedBy e (store_read graph.now instance.now rows.old.left)) }
+        (λ e. IsRefusedBy e (store_read graph.now instance.now rows.old.left)) }
     ensures sound { IfOk result (λ store. IsSoundStore graph.now instance.now (views_of store)) }
     ensures order { IfOk result (λ store. All (IsInFileOrder instance.now) (views_of store)) }
 {
     if !begins(rows)? {
-        return Err(StoreRefusal::Fault {
+        return Err(Refusal::Kind(Fault {
             at: 1,
             kind: StoreKind::BadHeader,
-        });
+        }));
     }
     Ok(Store {
         views: read_views(alloc, graph, instance, rows)?,
@@ -173,16 +173,16 @@ fn read_left(
 /// members, whatever their order in the text.
 ///
 /// Linear in the text: each record takes a look-up of a category's name and one of a member's id. It takes four bytes
-/// for each member of the instance, and memory for each row. `Memory`: want of memory.
+/// for each member of the instance, and memory for each row. `Memory`: out of memory.
 pub fn read_store(
     alloc: Global,
     graph: &Graph,
     instance: &Instance,
     text: &[u8],
-) -> Result<Store, StoreRefusal>
+) -> Result<Store, Refusal<Fault<StoreKind>>>
     ensures read { MatchResult result
         (λ store. store_read graph.now instance.now (records_of text.now) ≡ Ok (views_of store))
-        (λ e. IsStoreRefusedBy e (store_read graph.now instance.now (records_of text.now))) }
+        (λ e. IsRefusedBy e (store_read graph.now instance.now (records_of text.now))) }
 
     ensures sound { IfOk result (λ store. IsSoundStore graph.now instance.now (views_of store)) }
     ensures order { IfOk result (λ store. All (IsInFileOrder instance.now) (views_of store)) }

@@ -2,7 +2,7 @@
 ghost use Rattle.std.specs.Prelude.{◌≡◌, ◌^◌, IfSome, Some};
 ghost use Rattle.std.specs.Option.{option_map};
 ghost use Rattle.olap_base.specs.Summaries.{joined, of_value, ◌⊕◌};
-ghost use Rattle.olap_view.specs.Bounds.{IsUpTo};
+ghost use Rattle.olap_view.specs.Bounds.{IsJoinable};
 ghost use Rattle.olap_view.specs.Seen.{columns_of, summary_of};
 
 use crate::Row;
@@ -37,8 +37,8 @@ impl Summary {
     /// What two lots of values come to together.
     #[inline(always)]
     pub fn joined(self, other: Summary) -> Summary
-        requires this { IsUpTo (2 ^ 62) (2 ^ 120) (summary_of self) }
-        requires that { IsUpTo (2 ^ 62) (2 ^ 120) (summary_of other) }
+        requires this { IsJoinable (summary_of self) }
+        requires that { IsJoinable (summary_of other) }
         ensures { summary_of result ≡ joined (summary_of self) (summary_of other) }
     {
         Summary {
@@ -52,8 +52,8 @@ impl Summary {
     /// The summary joined to what is there, if there is anything.
     #[inline(always)]
     pub fn beside(self, there: Option<Summary>) -> Summary
-        requires this { IsUpTo (2 ^ 62) (2 ^ 120) (summary_of self) }
-        requires there { IfSome (option_map summary_of there) (IsUpTo (2 ^ 62) (2 ^ 120)) }
+        requires this { IsJoinable (summary_of self) }
+        requires there { IfSome (option_map summary_of there) IsJoinable }
         ensures { Some (summary_of result) ≡ option_map summary_of there ⊕ Some (summary_of self) }
     {
         match there {

@@ -6,7 +6,7 @@ ghost use Rattle.olap_base.specs.Limits.{most_members};
 ghost use Rattle.olap_base.specs.Reaching.{reaches};
 ghost use Rattle.olap_base.specs.Summaries.{◌⊕◌};
 ghost use Rattle.olap_legal.specs.Ancestors.{IsAncestor};
-ghost use Rattle.olap_view.specs.Bounds.{IsUpTo};
+ghost use Rattle.olap_view.specs.Bounds.{IsJoinable};
 ghost use Rattle.olap_view.specs.Seen.{each_view_of, ids, rows_of, summary_of, view_of, views_of};
 ghost use Rattle.olap_view.specs.Stores.{IsInFileOrder, summary_in};
 ghost use Rattle.olap_view.specs.SummaryTables.{categories_in, stands_at, view_at, views_at};
@@ -56,7 +56,7 @@ fn categories(alloc: Global, store: &Store) -> Result<Vec<CatId>, Memory>
 
 impl<'a> SummaryTable<'a> {
     /// A table of these categories in which nothing stands. It takes four bytes for each member of the instance, four
-    /// more for each category, and memory for a summary at each member of the categories. `Memory`: want of memory.
+    /// more for each category, and memory for a summary at each member of the categories. `Memory`: out of memory.
     pub fn new(
         alloc: Global,
         legal: &'a Legal,
@@ -76,7 +76,7 @@ impl<'a> SummaryTable<'a> {
         })
     }
 
-    /// The table of stored views, whose rows are in file order. It takes the memory of `new`. `Memory`: want of memory.
+    /// The table of stored views, whose rows are in file order. It takes the memory of `new`. `Memory`: out of memory.
     pub fn of(alloc: Global, legal: &'a Legal, store: &Store) -> Result<SummaryTable<'a>, Memory>
         requires differ { AllPairs ◌≢◌ (categories_in (views_of store.now)) }
         requires order { All (IsInFileOrder legal.now) (views_of store.now) }
@@ -147,9 +147,9 @@ impl<'a> SummaryTable<'a> {
     /// Joins a summary to what stands at each member of the categories that x reaches.
     pub(crate) fn join(&mut self, x: MemberId, summary: Summary)
         requires member { x.0 < length self.old.instance }
-        requires this { IsUpTo (2 ^ 62) (2 ^ 120) (summary_of summary) }
+        requires this { IsJoinable (summary_of summary) }
         requires room { (y : ℕ) → IsAmong self.old.instance self.old.categories y
-            → IfSome (stands_at self.old y) (IsUpTo (2 ^ 62) (2 ^ 120)) }
+            → IfSome (stands_at self.old y) IsJoinable }
         ensures instance { self.new.instance ≡ self.old.instance }
         ensures categories { self.new.categories ≡ self.old.categories }
         ensures at { (y : ℕ) → IsAmong self.old.instance self.old.categories y → stands_at self.new y
@@ -169,7 +169,7 @@ impl<'a> SummaryTable<'a> {
     }
 
     /// The view of each of the categories, in their order: a row for each member at which something stands, in file
-    /// order. `Memory`: want of memory.
+    /// order. `Memory`: out of memory.
     pub fn views(&self) -> Result<List<View>, Memory>
         ensures views { IfOk result (λ v. each_view_of v ≡ views_at self.now) }
         ensures members { IfOk result (λ v. All (λ w. All (λ r. r.member.0 < length self.now.instance) w.rows) v) }

@@ -3,7 +3,7 @@ ghost use Rattle.std.specs.Prelude.{◌≡◌, ◌<◌, ◌≤◌, ◌^◌, ◌�
 ghost use Rattle.std.specs.Option.{option_map};
 ghost use Rattle.olap_base.specs.Limits.{most_members};
 ghost use Rattle.olap_base.specs.Views.{row_at};
-ghost use Rattle.olap_view.specs.Bounds.{IsUpTo};
+ghost use Rattle.olap_view.specs.Bounds.{IsJoinable};
 ghost use Rattle.olap_view.specs.Columns.{AreColumns, ascent};
 ghost use Rattle.olap_view.specs.Seen.{each_view_of, ids, row_of, rows_of, summary_of, view_of};
 ghost use Rattle.olap_view.specs.Tables.{AreJoined, AreJoinedIn, HasPlaces, HasRoom, categories_of, place_in, summary_at, view_in};
@@ -86,7 +86,7 @@ impl Table {
         requires member { x.0 < length legal.now }
         requires among { Contains (categories_of self.old) c.0 }
         requires places { HasPlaces legal.now self.old }
-        requires this { IsUpTo (2 ^ 62) (2 ^ 120) (summary_of summary) }
+        requires this { IsJoinable (summary_of summary) }
         requires room { HasRoom legal.now c.0 self.old }
         ensures { AreJoinedIn legal.now c.0 x.0 (summary_of summary) self.old self.new }
     {
@@ -103,7 +103,7 @@ impl Table {
         requires member { x.0 < length legal.now }
         requires differ { AllPairs ◌≢◌ (categories_of self.old) }
         requires places { HasPlaces legal.now self.old }
-        requires this { IsUpTo (2 ^ 62) (2 ^ 120) (summary_of summary) }
+        requires this { IsJoinable (summary_of summary) }
         requires room { (c : ℕ) → Contains (categories_of self.old) c → HasRoom legal.now c self.old }
         ensures { AreJoined legal.now x.0 (summary_of summary) self.old self.new }
     {

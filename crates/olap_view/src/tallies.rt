@@ -33,7 +33,7 @@ impl<'a> Model for Tally<'a> {
 
 impl<'a> Tally<'a> {
     /// A tally to which no fact was added. It takes four bytes for each member of the instance, four more for each
-    /// category, and memory for a summary at each member of the categories. `Memory`: want of memory.
+    /// category, and memory for a summary at each member of the categories. `Memory`: out of memory.
     pub fn new(alloc: Global, legal: &'a Legal, categories: &[CatId]) -> Result<Tally<'a>, Memory>
         requires differ { AllPairs ◌≢◌ (ids categories.now) }
         ensures instance { IfOk result (λ t. t.instance ≡ legal.now) }
@@ -95,7 +95,7 @@ impl<'a> Tally<'a> {
         self.table.view(c)
     }
 
-    /// The direct views of the categories, in their order. `Memory`: want of memory.
+    /// The direct views of the categories, in their order. `Memory`: out of memory.
     pub fn into_views(self) -> Result<List<View>, Memory>
         ensures views { IfOk result (λ v. (facts : Items TheFact) → StandsFor self.entry facts
             → each_view_of v ≡ map (direct_view self.entry.instance facts) self.entry.categories) }

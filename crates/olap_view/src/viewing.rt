@@ -17,7 +17,7 @@ use std::alloc::Global;
 /// The direct view of c: a row for each member of c that some fact's member reaches, in file order, with
 /// the count, sum, least and greatest of those facts' values. The view may be stored.
 ///
-/// It takes the memory of a tally, and one look at a table for each fact. `Memory`: want of memory.
+/// It takes the memory of a tally, and one look at a table for each fact. `Memory`: out of memory.
 pub fn direct(alloc: Global, legal: &Legal, facts: &Facts, c: CatId) -> Result<View, Memory>
     requires at_members { All (λ f. f.member.0 < length legal.now) facts.now.rows }
     requires few { length facts.now.rows ≤ most_count }
@@ -59,7 +59,7 @@ fn join_rows(table: &mut SummaryTable, rows: &[Row])
 /// whose bits are in the mask reaches, in file order, with the counts and the sums of those rows added, the
 /// least of their leasts and the greatest of their greatests. The i-th view's bit is the i-th.
 ///
-/// It takes the memory of a tally, and one look at a table for each row. `Memory`: want of memory.
+/// It takes the memory of a tally, and one look at a table for each row. `Memory`: out of memory.
 pub fn from_views(
     alloc: Global,
     legal: &Legal,

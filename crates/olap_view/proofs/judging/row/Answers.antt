@@ -32,15 +32,16 @@ returns-then-is_some-clause-judged c = λ g earlier t named n.
     (rw c.field.ensures at c.in-Some.ensures.place) c.in-Some.ensures.inside
     (same c.category.result.0 (category_of c.args.instance.now c.in-Some.member.0) c.args.c.0 c.category.ensures
     c.if-category-c.false) (summary_of c.in-Some-summary.summary)
-    c.in-Some-summary.ensures.read (there c.at.result (stored_at c.args.table.now c.in-Some.member.0) c.is_some.result true c.at.ensures
-    c.is_some.ensures c.if-is_some.true)
+    c.in-Some-summary.ensures.read (there c.at.result (stored_at c.args.table.now c.in-Some.member.0) c.is_some.result
+    true c.at.ensures c.is_some.ensures c.if-is_some.true)
 
 pub returns-clause-new : goal.returns-clause-new
 returns-clause-new c =
     let e = c.requires.members in
     let h = c.in-Some.ensures.inside in (
       omega arith,
-      none-there (stored_at c.args.table.now c.in-Some.member.0) (there c.at.result (stored_at c.args.table.now c.in-Some.member.0) c.is_some.result false c.at.ensures
+      none-there (stored_at c.args.table.now c.in-Some.member.0)
+          (there c.at.result (stored_at c.args.table.now c.in-Some.member.0) c.is_some.result false c.at.ensures
           c.is_some.ensures c.if-is_some.false),
     )
 

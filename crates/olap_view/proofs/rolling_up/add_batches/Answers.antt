@@ -1,15 +1,16 @@
--- A batch of facts more, and all of them.
+-- A batch of facts more, and all of them, or what stops the reader.
 use Rattle.std.proofs.Common.{◌≡◌, ◌<◌, ◌++◌, ◌∙◌, List, ap, length, map, sym, subst, arith}
 use Rattle.std.proofs.lemmas.List.{length-map}
+use Rattle.std.proofs.lemmas.Result.{err_from_is_err_and}
 use Rattle.std.specs.Prelude.{All}
 use Rattle.olap_base.specs.Instance.{Instance}
 use Rattle.olap_base.specs.Limits.{most_facts}
 use Rattle.olap_base.specs.Views.{Fact}
-use Rattle.olap_facts.specs.FactReading.{FactReading}
+use Rattle.olap_facts.specs.FactReading.{FactReading, all_read}
 use Rattle.olap_facts.specs.Seen.{fact_of}
 use Rattle.olap_facts.specs.declared.tables.Fact as told
 use Rattle.olap_view.specs.Tallies.{StandsFor}
-use Rattle.olap_view.proofs.RollingUpLemmas.{facts_behind, facts_so_far, few_so_far, fewer_left, reader_behind, tally_of}
+use Rattle.olap_view.proofs.RollingUpLemmas.{batch_refused, facts_behind, facts_so_far, few_so_far, fewer_left, reader_behind, tally_of}
 use Rattle.olap_view.proofs.rolling_up.add_batches.Goals as goal
 
 pub batches-preserved : goal.batches-preserved
@@ -59,6 +60,13 @@ batches-smaller c =
     fewer_left c.args.reader.now.graph c.args.reader.now.instance c.args.reader.now.records most_facts c.batches.reader
     c.batches.invariant.reader c.read_batch.new.self (map fact_of items) (length items) (sym (length-map items fact_of))
     handed.1 handed.0
+
+pub returns-in_err-read_batch-clause-err : goal.returns-in_err-read_batch-clause-err
+returns-in_err-read_batch-clause-err c =
+    let p = err_from_is_err_and c.from_residual.result c.from_residual.ensures.1 in
+    rw (p.1, p.2) (batch_refused c.batches.reader c.args.reader.now
+    (ap all_read c.batches.invariant.reader ∙ sym (ap all_read c.requires.fresh)) c.in_err-read_batch.field-0.0
+    c.in_err-read_batch.ensures.reads.0)
 
 pub returns-clause-tally : goal.returns-clause-tally
 returns-clause-tally c =

@@ -8,7 +8,7 @@ use Rattle.olap_base.specs.Limits.{most_members}
 use Rattle.olap_base.specs.Views.{Row, row_at, rows_from_views}
 use Rattle.olap_base.proofs.ListLemmas.{contains_head}
 use Rattle.olap_view.specs.Merging.{AreMerged, total_of_rows}
-use Rattle.olap_view.specs.Seen.{each_view_of, ids, row_of, rows_of, view_of, views_of}
+use Rattle.olap_view.specs.Seen.{each_view_of, row_of, rows_of, view_of, views_of}
 use Rattle.olap_view.specs.Stores.{Fits, IsStored, chosen}
 use Rattle.olap_view.specs.SummaryTables.{stands_at, view_at}
 use Rattle.olap_view.specs.declared.views.Row as row

@@ -1,12 +1,13 @@
 -- One row more.
-use Rattle.std.proofs.Common.{◌≤◌, ◌<◌, ◌^◌, ◌++◌, ◌∷◌, [], List, length, get_or, take, ap, sym, subst, ◌∙◌, arith, pos, append_assoc, length-append}
+use Rattle.std.proofs.Common.{◌≤◌, ◌<◌, ◌*◌, ◌++◌, ◌∷◌, [], List, length, get_or, take, ap, sym, subst, ◌∙◌, arith, pos, append_assoc, length-append}
 use Rattle.std.specs.Prelude.{All}
 use Rattle.std.proofs.lemmas.List.Elements.{All-append, All-take}
 use Rattle.olap_base.specs.Instance.{Instance}
+use Rattle.olap_base.specs.Limits.{most_members, most_views}
 use Rattle.olap_base.specs.Reaching.{reaches}
 use Rattle.olap_base.specs.Summaries.{◌⊕◌}
 use Rattle.olap_base.specs.Views.{Row}
-use Rattle.olap_view.specs.Bounds.{IsUpTo}
+use Rattle.olap_view.specs.Bounds.{IsJoinable}
 use Rattle.olap_view.specs.Merging.{AreMerged}
 use Rattle.olap_view.specs.Seen.{row_of, rows_of}
 use Rattle.olap_view.specs.Stores.{IsStored}
@@ -33,7 +34,7 @@ unfolding nothing
 join-requires-clause-this c =
     let rows = c.args.rows.now in
     let k = c.rows.row-index in
-    subst (IsUpTo (2 ^ 62) (2 ^ 120)) (sym c.summary.ensures)
+    subst IsJoinable (sym c.summary.ensures)
     (stored_small (row_of (get_or rows k nothing))
     (each_row IsStored rows k nothing c.rows-test.true c.requires.stored))
 
@@ -42,7 +43,7 @@ join-requires-clause-room c =
     let rows = c.args.rows.now in
     let k = c.rows.row-index in
     let q = c.requires.few in
-    let few : length (q.rows ++ rows_of (take k rows)) ≤ 2097152 =
+    let few : length (q.rows ++ rows_of (take k rows)) ≤ most_views * most_members =
     let l = rows_taken rows k in let s = c.requires.short in let f = q.few in
     omega (arith, length-append q.rows (rows_of (take k rows))) in
     holds_room (q.rows ++ rows_of (take k rows)) c.rows.table few

@@ -1,9 +1,9 @@
 -- What stands at the members that x reaches has the summary too.
-use Rattle.std.proofs.Common.{◌≡◌, ◌^◌, Global, List, Vec, ℕ, IfSome, sym, subst}
+use Rattle.std.proofs.Common.{◌≡◌, Global, List, Vec, ℕ, IfSome, sym, subst}
 use Rattle.olap_base.specs.Reaching.{reaches}
 use Rattle.olap_base.specs.Summaries.{◌⊕◌}
 use Rattle.olap_base.specs.declared.ids.CatId.{CatId}
-use Rattle.olap_view.specs.Bounds.{IsUpTo}
+use Rattle.olap_view.specs.Bounds.{IsJoinable}
 use Rattle.olap_view.specs.Columns.{AreColumns, Ascent}
 use Rattle.olap_view.specs.Seen.{ids, summary_of}
 use Rattle.olap_view.specs.SummaryTables.{Summarized, stands_at, summarized}
@@ -15,7 +15,7 @@ pub join-requires-clause-room : goal.join-requires-clause-room
 join-requires-clause-room c =
     let a = c.self.inside in
     room_in a.legal.now a.table (subst (λ (t : Summarized). (y : ℕ) → IsAmong t.instance t.categories y
-    → IfSome (stands_at t y) (IsUpTo (2 ^ 62) (2 ^ 120))) (sym c.self.view_is) c.requires.room)
+    → IfSome (stands_at t y) IsJoinable) (sym c.self.view_is) c.requires.room)
 
 pub join-requires-clause-columns : goal.join-requires-clause-columns
 join-requires-clause-columns c =

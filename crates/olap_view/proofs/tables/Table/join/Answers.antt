@@ -1,9 +1,9 @@
 -- One category more.
-use Rattle.std.proofs.Common.{◌≡◌, ◌<◌, ℕ, List, length, get_or, take, ap, sym, subst, ◌∙◌, arith, ◌^◌, Option, IfSome}
+use Rattle.std.proofs.Common.{◌≡◌, ◌<◌, ℕ, List, length, get_or, take, ap, sym, subst, ◌∙◌, arith, Option, IfSome}
 use Rattle.std.specs.Prelude.{Contains}
 use Rattle.olap_base.specs.Summaries.{Summary}
 use Rattle.std.proofs.lemmas.List.{get_or-map, length-map}
-use Rattle.olap_view.specs.Bounds.{IsUpTo}
+use Rattle.olap_view.specs.Bounds.{IsJoinable}
 use Rattle.olap_view.specs.Columns.{ascent}
 use Rattle.olap_view.specs.Seen.{ids, summary_of}
 use Rattle.olap_view.specs.Tables.{IsAmong, JoinedSoFar, categories_of}
@@ -41,7 +41,7 @@ join_in-requires-clause-room c = λ y m e.
     let in_it = id_in t.categories.items k d h is in
     let among : IsAmong i (categories_of t) y =
     record { member = m; category = subst (Contains (categories_of t)) (sym e) in_it } in
-    subst (λ (o : Option Summary). IfSome o (IsUpTo (2 ^ 62) (2 ^ 120)))
+    subst (λ (o : Option Summary). IfSome o IsJoinable)
     (sym (untouched i (ids (take k t.categories.items)) d.0 c.args.x.0 (summary_of c.args.summary) t c.categories.self j
     (id_fresh t.categories.items k d h is c.requires.differ) y among e))
     (c.requires.room d.0 in_it y m e)

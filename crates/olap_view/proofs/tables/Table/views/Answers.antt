@@ -55,7 +55,8 @@ returns-clause-views c =
     let l : length c.args.self.now.categories.items ≤ c.categories.c-index =
     let o = c.args.self.now.categories.ok in let q = c.categories-test.false in omega arith in
     ap each_view_of c.from_vec.ensures ∙ c.categories.invariant.views
-    ∙ ap (λ (l : List CatId). map (view_in c.args.instance.now c.args.self.now) (ids l)) (take_all c.categories.c-index cs l)
+    ∙ ap (λ (l : List CatId). map (view_in c.args.instance.now c.args.self.now) (ids l))
+    (take_all c.categories.c-index cs l)
 
 pub returns-clause-members : goal.returns-clause-members
 returns-clause-members c =
