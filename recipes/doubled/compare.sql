@@ -8,8 +8,8 @@ create view own as
     select 'n' || coalesce(city.country_id, state.country_id, province.country_id) as member,
         count(*), sum(cents), min(cents), max(cents)
     from sale
-    join store_city using (store_id)
-    join city on city.id = city_id
+    left join store_city using (store_id)
+    left join city on city.id = city_id
     left join state on state.id = city.state_id
     left join province on province.id = city.province_id
     group by 1;

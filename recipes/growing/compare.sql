@@ -12,9 +12,9 @@ create temp view program as
 create temp view own as
     select place.kind as category, place.id as member, count(*), sum(cents), min(cents), max(cents)
     from sale
-    join above on above.place = sale.place_id
-    join place on place.id = above.ancestor
-    where place.kind in ('City', 'State', 'Province', 'Country')
+    left join above on above.place = sale.place_id
+    left join place on place.id = above.ancestor
+    where place.id is null or place.kind in ('City', 'State', 'Province', 'Country')
     group by place.kind, place.id;
 select 'only the program has', * from (select * from program except select * from own)
 union all select 'only the database has', * from (select * from own except select * from program);

@@ -1,6 +1,7 @@
 -- Follows the tables from now on: each sale that comes or goes is a change, and so is a place that is moved, renamed or taken
--- away. A sale that is corrected goes and comes. Numbers of changes only grow.
-create table change (id integer primary key autoincrement, kind text not null, member text not null, value integer);
+-- away. A sale that is corrected goes and comes. Numbers of changes only grow. `insert or replace` takes a row away and fires no
+-- trigger for it, unless the session said `pragma recursive_triggers = on`; so where a row is there already, the store is made anew.
+create table change (id integer primary key autoincrement, kind text not null, member text, value integer);
 
 create trigger sale_came after insert on sale begin
     insert into change (kind, member, value) values ('came', new.place_id, new.cents);
@@ -12,9 +13,15 @@ create trigger sale_corrected after update of place_id, cents on sale begin
     insert into change (kind, member, value)
     values ('went', old.place_id, old.cents), ('came', new.place_id, new.cents);
 end;
+create trigger sale_replaced before insert on sale when exists (select 1 from sale where id = new.id) begin
+    insert into change (kind, member) values ('anew', new.place_id);
+end;
+create trigger place_replaced before insert on place when exists (select 1 from place where id = new.id) begin
+    insert into change (kind, member) values ('anew', new.id);
+end;
 create trigger place_changed after update on place begin
-    insert into change (kind, member) values ('place', old.id);
+    insert into change (kind, member) values ('anew', old.id);
 end;
 create trigger place_went after delete on place begin
-    insert into change (kind, member) values ('place', old.id);
+    insert into change (kind, member) values ('anew', old.id);
 end;

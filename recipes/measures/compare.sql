@@ -10,9 +10,9 @@ create temp view own as
         round(sum(kilograms), 3),
         round(avg(kilograms), 3)
     from sale
-    join product on product.id = product_id
-    join "group" on "group".id = group_id
-    join department on department.id = department_id
+    left join product on product.id = product_id
+    left join "group" on "group".id = group_id
+    left join department on department.id = department_id
     group by department.id;
 select 'only the program has', * from (select * from total except select * from own)
 union all select 'only the database has', * from (select * from own except select * from total);

@@ -1,7 +1,7 @@
 -- The sales of both servers as one table: a partition is here, and one is on the second server.
 create extension if not exists postgres_fdw schema public;
 create server olap_recipe_second foreign data wrapper postgres_fdw
-    options (host :'host', port :'port', dbname :'database', fetch_size '10000');
+    options (host :'host', port :'port', dbname :'database', fetch_size '10000', async_capable 'true');
 create user mapping for current_user server olap_recipe_second options (user :'user');
 
 create table sale_all (year integer not null, place_id text not null, cents integer not null) partition by list (year);

@@ -22,7 +22,7 @@ from (
     select
         city, state, province, region, country, grouping(city, state, province, region, country) as left_out,
         count(*) as count, sum(cents) as sum, min(cents) as least, max(cents) as greatest
-    from sale_all join way on way.place = place_id
+    from sale_all left join way on way.place = place_id
     group by grouping sets ((city), (state), (province), (region), (country), ())
 ) as total
 cross join lateral (

@@ -2,11 +2,11 @@
 create view own_total as
     select 'Store' as category, s as member, count(*) as count, sum(cents) as sum, min(cents) as least,
         max(cents) as greatest
-    from sale join numbered on numbered.store_id = sale.store_id group by s
+    from sale left join placed on placed.store_id = sale.store_id group by s
     union all
     select 'Region', r, count(*), sum(cents), min(cents), max(cents)
-    from sale join numbered on numbered.store_id = sale.store_id
-    where r is not null group by r
+    from sale left join placed on placed.store_id = sale.store_id
+    where placed.store_id is null or r is not null group by r
     union all
     select 'Country', n, count(*), sum(cents), min(cents), max(cents)
-    from sale join numbered on numbered.store_id = sale.store_id group by n;
+    from sale left join placed on placed.store_id = sale.store_id group by n;

@@ -11,7 +11,7 @@ create view own_total as
     select place.kind as category, place.id as member, count(*) as count, sum(cents) as sum, min(cents) as least,
         max(cents) as greatest
     from sale
-    join above on above.place = sale.place_id
-    join place on place.id = above.ancestor
-    where place.kind in ('Store', 'Region', 'Country')
+    left join above on above.place = sale.place_id
+    left join place on place.id = above.ancestor
+    where place.id is null or place.kind in ('Store', 'Region', 'Country')
     group by place.kind, place.id;
