@@ -1,5 +1,7 @@
 """The page of a cube: what is enough for totals of several dimensions at once, its schemas, and counterexamples."""
 
+from __future__ import annotations
+
 import xml.etree.ElementTree as ET
 from typing import Callable, Iterator, Sequence
 

@@ -3,6 +3,8 @@
 A tuple is a word, as the program has it: `State,Month`.
 """
 
+from __future__ import annotations
+
 import time
 from dataclasses import dataclass, field
 from itertools import product

@@ -4,8 +4,10 @@ A no of the program shows one fact on one legal instance. A list of sources is e
 each no rules out many lists that need not be asked, and each list that is given has the program's own yes.
 """
 
+from __future__ import annotations
+
 import time
-from typing import Callable, Protocol
+from typing import Callable, Optional, Protocol, Tuple
 
 from .program import Late
 from .texts import Schema
@@ -20,7 +22,7 @@ class Example(Protocol):
         """Does the fact come to the target by this source?"""
 
 
-Ask = Callable[[str, tuple[str, ...]], Example | None]
+Ask = Callable[[str, Tuple[str, ...]], Optional[Example]]
 
 
 def below(schema: Schema, target: str) -> tuple[str, ...]:

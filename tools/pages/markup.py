@@ -1,5 +1,7 @@
 """HTML elements, built so that no text gets into a page unescaped: what isn't `Markup` is a text."""
 
+from __future__ import annotations
+
 import html
 import xml.etree.ElementTree as ET
 

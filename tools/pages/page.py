@@ -1,5 +1,7 @@
 """The page of a schema: one HTML text with its style and pictures, no script, and nothing that is loaded."""
 
+from __future__ import annotations
+
 import xml.etree.ElementTree as ET
 from collections import defaultdict
 from dataclasses import dataclass, field

@@ -5,6 +5,10 @@ Of what Graphviz gives, only shapes and texts are taken (`cleaned`), with no col
 `STYLE`, which follows the reader's choice of light or dark.
 """
 
+from __future__ import annotations
+
+import subprocess
+import shutil
 import subprocess
 import textwrap
 import unicodedata
@@ -30,6 +34,7 @@ NOTE_WIDE, NOTE_LINES = 34, 4  # of a constraint in a note
 MOST_NOTES = 24  # constraints whose formulas stand in the picture; of more, the numbers alone
 SIGNS = {"\n": "\u21b5", "\r": "\u21b5", "\t": "\u21e5"}
 TURNING = ("LRE", "RLE", "LRO", "RLO", "PDF", "LRI", "RLI", "FSI", "PDI")
+NO_GRAPHVIZ = "no dot is in PATH: install Graphviz (Debian's package graphviz)"
 BATCH = 8  # pictures of one run of Graphviz
 # Of kinds of edges, what Graphviz is told; an edge `above` isn't seen, and only puts the one node over the other.
 LOOKS = {"tied": ", style=dashed, arrowhead=none", "sometimes": ", style=dashed", "idle": ", style=dotted", "above": ", style=invis",
@@ -172,21 +177,30 @@ def of_instance(members: Sequence[Member], name: str, bad: Iterable[str] = (), t
 
 def wrong_ways(members: Sequence[Member], start: str, category: str) -> set[tuple[str, str]]:
     """The edges on the ways of a member to all members of a category."""
+    children: dict[str, list[str]] = defaultdict(list)
+    for member in members:
+        for parent in member.parents:
+            children[parent].append(member.id)
+    # What leads to a member of the category, from those members down; ways end at the first of them.
+    ends = {member.id for member in members if member.category == category}
+    leading, left = set(ends), list(ends)
+    while left:
+        new = [child for child in children[left.pop()] if child not in leading]
+        leading.update(new)
+        left += new
     parents = {member.id: member.parents for member in members}
-    kind = {member.id: member.category for member in members}
-
-    def leading(id: str, seen: tuple[str, ...]) -> set[tuple[str, str]] | None:
-        """The edges from here on, or None where no way leads there."""
-        if kind.get(id) == category and seen:
-            return set()
-        found = None
-        for parent in parents.get(id, ()):
-            on = leading(parent, (*seen, id)) if parent not in seen else None
-            if on is not None:
-                found = (found or set()) | {(id, parent)} | on
-        return found
-
-    return leading(start, ()) or set()
+    found, reached, left = set(), {start}, [start]
+    while left:
+        one = left.pop()
+        if one in ends and one != start:
+            continue
+        for parent in parents.get(one, ()):
+            if parent in leading:
+                found.add((one, parent))
+                if parent not in reached:
+                    reached.add(parent)
+                    left.append(parent)
+    return found
 
 
 def of_counterexample(shown: Counterexample, sources: Sequence[str], name: str) -> Picture:
@@ -342,11 +356,17 @@ def drawn(pictures: Sequence[Picture], seconds: float | None = None) -> list[ET.
     return found
 
 
+def must_be_there() -> None:
+    """Tells before the work that there is no Graphviz."""
+    if shutil.which("dot") is None:
+        raise Fault(NO_GRAPHVIZ, 70)
+
+
 def graphviz(text: str, seconds: float | None) -> str:
     try:
         done = subprocess.run(["dot", "-Tsvg"], input=text.encode(), capture_output=True, timeout=seconds, check=False)
     except FileNotFoundError:
-        raise Fault("no dot is in PATH: install Graphviz (Debian's package graphviz)", 70) from None
+        raise Fault(NO_GRAPHVIZ, 70) from None
     except subprocess.TimeoutExpired:
         raise Fault("Graphviz took too long", 70) from None
     if done.returncode != 0:

@@ -3,19 +3,24 @@
 `find` takes the program that the variable OLAP names, else the one that `./olap` would run without building.
 """
 
+from __future__ import annotations
+
 import hashlib
 import os
 import shutil
+import signal
+import stat
 import subprocess
 import sys
 import tempfile
 from contextlib import contextmanager
 from dataclasses import dataclass
 from pathlib import Path
-from typing import Iterator, NoReturn
+from typing import Callable, Iterator, NoReturn, Sequence
 
 TOP = Path(__file__).resolve().parents[2]
 BUILT = TOP / "crates" / "olap_cli" / "out" / "olap_cli"
+UNPROVED = TOP / "olap-unproved"  # the script that builds the program without its proofs
 MOST_BYTES = 67_108_864  # of a file; the program refuses a longer one, so no more than one byte beyond is read
 
 
@@ -39,6 +44,32 @@ class Answer:
     text: str
 
 
+RUNNING: set[subprocess.Popen] = set()  # what was started and has not ended
+
+
+def stop_all() -> None:
+    """Ends all that was started, for a tool that ends before its time."""
+    for child in list(RUNNING):
+        child.kill()
+
+
+def output_of(words: Sequence[str | Path], folder: Path | None = None, given: bytes | None = None, seconds: float | None = None) -> tuple[int, bytes]:
+    """The status of a command and what it printed; `Late` where it didn't end within so many seconds."""
+    child = subprocess.Popen(words, cwd=folder, stdin=subprocess.DEVNULL if given is None else subprocess.PIPE, stdout=subprocess.PIPE,
+                             stderr=subprocess.DEVNULL)
+    RUNNING.add(child)
+    try:
+        printed, _ = child.communicate(given, timeout=seconds)
+        return child.returncode, printed
+    except subprocess.TimeoutExpired:
+        raise Late from None
+    finally:
+        if child.poll() is None:
+            child.kill()
+            child.communicate()
+        RUNNING.discard(child)
+
+
 @dataclass(frozen=True)
 class Program:
     """The program, run in a folder that holds copies of the files that are asked about."""
@@ -58,19 +89,10 @@ class Program:
     def ask(self, *words: str, seconds: float | None = None) -> Answer:
         """Runs the program with these words; `Late` where it didn't end within so many seconds."""
         try:
-            done = subprocess.run(
-                [self.path, *words],
-                cwd=self.folder,
-                stdin=subprocess.DEVNULL,
-                capture_output=True,
-                timeout=seconds,
-                check=False,
-            )
-        except subprocess.TimeoutExpired:
-            raise Late from None
+            status, printed = output_of([self.path, *words], self.folder, seconds=seconds)
         except OSError as error:
             raise Fault(f"{self.path}: {error.strerror}", 70) from None
-        return Answer(done.returncode, done.stdout.decode())
+        return Answer(status, printed.decode())
 
     def must(self, *words: str, ends: tuple[int, ...] = (0,), seconds: float | None = None) -> Answer:
         """The same, where any other status is a fault that is told in the program's own words."""
@@ -97,10 +119,10 @@ def find() -> Path:
     if named:
         found = shutil.which(named)
         if found is None:
-            raise Fault(f"OLAP names no program: {named}", 70)
+            raise Fault(f"OLAP names no program: {named} (one that isn't in PATH needs its whole path, as {UNPROVED})", 70)
         return Path(found).resolve()
     if not is_current():
-        raise Fault("no program is built from these sources: run ./olap once, or set OLAP=./olap-unproved, which needs no proof", 70)
+        raise Fault(f"no program is built from these sources: run {TOP / 'olap'} once, or set OLAP={UNPROVED}, which needs no proof", 70)
     return BUILT
 
 
@@ -112,13 +134,46 @@ def opened() -> Iterator[Program]:
         yield Program(path, Path(folder))
 
 
+def target_of(output: str) -> Path:
+    """The file to be written: where a link leads, so that the link stays."""
+    return Path(os.path.realpath(output))
+
+
+def is_plain(path: Path) -> bool:
+    """Is this a plain file, or nothing yet? A device, a pipe or a socket is written into, and never replaced."""
+    try:
+        return stat.S_ISREG(path.stat().st_mode)
+    except FileNotFoundError:
+        return True
+
+
+def must_be_writable(output: str | None) -> None:
+    """Tells before the work what can't be written after it."""
+    if output is None:
+        return
+    target = target_of(output)
+    try:
+        if target.is_dir():
+            raise IsADirectoryError(21, os.strerror(21))
+        needed = target.parent if is_plain(target) else target
+        needed.stat()
+        if not os.access(needed, os.W_OK):
+            raise PermissionError(13, os.strerror(13))
+    except OSError as error:
+        raise Fault(f"{output}: {error.strerror}", 5) from None
+
+
 def write_whole(text: str, output: str | None) -> None:
     """Writes to standard output, or beside the file and then in its place, so that no half of a text is left."""
     if output is None:
         write_out(text)
         return
-    target = Path(output)
+    target = target_of(output)
     try:
+        if not is_plain(target):
+            with open(target, "wb", buffering=0) as into:
+                write_all(into.fileno(), text.encode())
+            return
         with tempfile.NamedTemporaryFile(dir=target.parent, prefix=".olap-", delete=False) as beside:
             beside.write(text.encode())
         os.chmod(beside.name, 0o666 & ~current_umask())
@@ -129,12 +184,16 @@ def write_whole(text: str, output: str | None) -> None:
         raise Fault(f"{output}: {error.strerror}", 5) from None
 
 
+def write_all(into: int, content: bytes) -> None:
+    left = memoryview(content)
+    while left:
+        left = left[os.write(into, left) :]
+
+
 def write_out(text: str) -> None:
     """To standard output, past what Python would write again when it ends."""
-    left = memoryview(text.encode())
     try:
-        while left:
-            left = left[os.write(1, left) :]
+        write_all(1, text.encode())
     except OSError as error:
         raise Fault(f"standard output: {error.strerror}", 5) from None
 
@@ -143,6 +202,19 @@ def current_umask() -> int:
     mask = os.umask(0)
     os.umask(mask)
     return mask
+
+
+def run(name: str, main: Callable[[], None]) -> NoReturn:
+    """Runs a tool. A fault is told in one line; Ctrl-C ends it at once, with the status that a shell gives."""
+    try:
+        main()
+    except Fault as fault:
+        end(name, fault)
+    except KeyboardInterrupt:
+        stop_all()
+        sys.stderr.flush()
+        os._exit(128 + signal.SIGINT)
+    sys.exit(0)
 
 
 def end(name: str, fault: Fault) -> NoReturn:

@@ -3,17 +3,19 @@
 What wasn't answered in time stays unanswered, and the page says so.
 """
 
+from __future__ import annotations
+
 import os
 import sys
 import time
-from concurrent.futures import ThreadPoolExecutor, as_completed
+from concurrent.futures import Future, ThreadPoolExecutor, as_completed
 from dataclasses import dataclass, field
 from itertools import combinations
 from typing import Callable, Iterable, TypeVar
 
 from . import texts
 from .enough import Enough, below
-from .program import Fault, Late, Program
+from .program import Fault, Late, Program, stop_all
 
 SCHEMA = "schema.txt"
 TOO_MANY = "refused frozen TooMany"
@@ -62,7 +64,7 @@ class Facts:
     def asked(self, lists: list[tuple[str, ...]]) -> list[tuple[str, tuple[str, ...]]]:
         """The questions of these lists: those whose sources all lie below the target."""
         lower = {target: set(below(self.schema, target)) for target in self.targets}
-        return [(target, sources) for sources in lists for target in self.targets if lower[target].issuperset(sources)]
+        return [(target, sources) for sources in lists for target in lower if lower[target].issuperset(sources)]
 
     @property
     def enough_lists(self) -> list[tuple[str, tuple[str, ...]]]:
@@ -140,16 +142,21 @@ class Asker:
             return ask(key, left)
 
         with ThreadPoolExecutor(workers()) as pool:
-            asked = {pool.submit(one, key): key for key in keys}
+            asked: dict[Future, Key] = {}
             try:
+                for key in keys:
+                    asked[pool.submit(one, key)] = key
                 for done, future in enumerate(as_completed(asked), 1):
                     try:
                         found[asked[future]] = future.result()
                     except Late:
                         pass
                     self.progress.tell(what, done, len(keys))
-            except Fault:
-                pool.shutdown(cancel_futures=True)
+            except BaseException:
+                # A fault, or Ctrl-C: the pool waits for what runs, so nothing more is begun, and what runs is ended.
+                for future in asked:
+                    future.cancel()
+                stop_all()
                 raise
         return found
 

@@ -4,6 +4,8 @@ These readers take only what the program printed or accepted. They judge nothing
 they stop with a `Fault`.
 """
 
+from __future__ import annotations
+
 import csv
 import io
 import re

@@ -3,15 +3,19 @@
 import csv
 import itertools
 import os
+import re
+import signal
 import subprocess
 import sys
 import tempfile
+import time
 from pathlib import Path
 from typing import Iterator
 
 from .bad_input import one_line
 from .common import EXAMPLES, TOOLS, TOP, categories_of, olap, tool
-from ..program import find
+from .. import explaining, form
+from ..program import MOST_BYTES, find
 
 LOCATION, IMPOSSIBLE = "location/schema.txt", "impossible/schema.txt"
 PARTITIONS = str(TOP / "recipes" / "partitions" / "schema.txt")
@@ -89,6 +93,9 @@ def propose_faults(room: Path) -> Iterator[str]:
         if done.returncode != 0 or not said.startswith("legal ") or "constraint" in done.stdout:
             yield f"propose {instance}: status {done.returncode}, {said!r}"
     header = "id,category,name,parents\n"
+    with (room / "long.csv").open("wb") as file:  # one byte too many, and fewer characters than bytes
+        file.write(f"{header}a,Store,é,all\n".encode().ljust(MOST_BYTES - 1, b"\n") + b"\nb,Lost,b,all\n")
+    yield from one_line("propose of a file that is too long", tool("propose", "long.csv", folder=room), 3)
     for text in ("", "member,value\n", header + "a,Store,a\n", header + '"a","Store\nedge A B",a,all\n', header + "a,All,a,all\n",
                  header + "a,Store,a,b\n", header + "a,Störe,a,all\n"):
         (room / "bad.csv").write_text(text)
@@ -127,9 +134,15 @@ def made_faults(room: Path) -> Iterator[str]:
 
 
 def through_explain(room: Path, *words: str) -> subprocess.CompletedProcess:
-    said = subprocess.run([find(), *words], cwd=room, capture_output=True, check=False).stdout
+    asked = subprocess.run([find(), *words], cwd=room, stdout=subprocess.PIPE, stderr=subprocess.DEVNULL, check=False)
+    done = explained(room, asked.stdout, *words)
+    done.said, done.status = asked.stdout.decode(), asked.returncode
+    return done
+
+
+def explained(room: Path, said: bytes, *words: str) -> subprocess.CompletedProcess:
     done = subprocess.run([sys.executable, TOOLS / "explain", *words], cwd=room, input=said, capture_output=True, check=False)
-    done.said, done.stdout, done.stderr = said.decode(), done.stdout.decode(), done.stderr.decode()
+    done.stdout, done.stderr = done.stdout.decode(), done.stderr.decode()
     return done
 
 
@@ -141,6 +154,9 @@ def explain_faults(room: Path) -> Iterator[str]:
     hostile = '"a\nb","Store","<b>\u202e","nowhere, ""x"""\n'
     texts = {"two.csv": head + "usa,Country,USA,all\nusa,Country,x,all\n", "hostile.csv": head + "\n\n" + hostile, "facts.csv": "member,value\nusa,1\n",
              "bad.txt": "schema 1\ncategory A\nedge A all\n", "none.csv": head + "s,Store,s,\n", "state.csv": head + "c,Country,x,all\nt,State,t,c\n"}  # fmt: skip
+    texts["odd.txt"] = "schema 1\n# a\u2028schema 2\ncategory A\ncategory B\nedge A B\nedge B All\n\nconstraint A: A\n"
+    texts["lines.txt"] = '# note\u2028constraint A: A = "c"\nschema 1\ncategory A\nedge A All\nconstraint A: A = "b"\n'
+    texts["a.csv"] = head + "a,A,a,all\n"
     texts["pairs.csv"] = "m1,m2,value\n2026-01-31,nobody,1\n"
     for name, text in texts.items():
         (room / name).write_text(text)
@@ -170,15 +186,110 @@ def explain_faults(room: Path) -> Iterator[str]:
         (("verify-short", schema, certificate, "Country", "City"), ()),
         (("summarizable", schema, "Country", "City"), ()),
         (("check", schema, instance), ()),
+        (("format", "odd.txt"), ("line 8: constraint A: A", "column 16: a category alone says nothing")),
+        (("check", "lines.txt", "a.csv"), ('constraint 1: A: A = "b"',)),
+        (("implies", schema, "Store", "Store.City == 5"), ("column 13: there is no `==`",)),
+        (("audit", schema), ("constraint 2: City: one(City_State, City_Province, City_Country)", "constraint 6: State: State_Region ^ State_Country")),
+        (("sumarizable", schema), ("the words are: olap summarizable SCHEMA TARGET SOURCE..",)),
+        (("check", schema), ("the words are: olap check SCHEMA INSTANCE",)),
     )
     for words, wanted in cases:
         done = through_explain(room, *words)
         below = done.stdout.removeprefix(done.said)
-        if done.returncode != 0 or not done.stdout.startswith(done.said) or (not wanted and below):
-            yield f"explain {words}: status {done.returncode}, {done.stdout!r} {done.stderr!r}"
+        if done.returncode != done.status or not done.stdout.startswith(done.said) or (not wanted and below):
+            yield f"explain {words}: status {done.returncode} of {done.status}, {done.stdout!r} {done.stderr!r}"
         yield from (f"explain {words}: it doesn't say {each!r}: {below!r}" for each in wanted if each not in below)
     for name in ("no such\nfile", "."):
         yield from one_line("explain of a file that can't be read", through_explain(room, "check", schema, name), 4)
+
+
+def kinds_of(document: str, start: str, end: str) -> list[str]:
+    """The kinds of faults that a part of docs/FORMATS.md names."""
+    part = document.partition(start)[2].partition(end)[0]
+    return sorted({kind for kind in re.findall(r"`([A-Z][A-Za-z0-9]+)`", part) if kind not in ("All", "TooLong") and not kind.isupper()})
+
+
+# Where one kind is of several texts: a refusal, and words of the sentence on it.
+SAID = (
+    ("schema line 1 BadNumber", "compared with"), ("facts record 1 BadNumber", "no number of the form"), ("word 2 BadNumber", "the seed"),
+    ("word 3 BadNumber", "the size"), ("schema line 1 TextTooLong", "a string has too many"), ("instance record 1 TextTooLong", "an id or name"),
+    ("schema line 1 UnknownCategory", "known on this line"), ("store record 1 UnknownCategory", "the schema has no category"),
+    ("store record 1 DuplicateView", "begun twice"), ("word 5 DuplicateView", "an earlier category of store"),
+    ("schema line 1 RootIsAll", "the root of a constraint"), ("word 3 RootIsAll", "the root of implies"), ("facts TooLong", "too many bytes"),
+    ("schema line 1 BadForm", "none of the forms"), ("word 3 BadForm", "joined by commas"), ("frozen TooMany", "than are listed"),
+)  # fmt: skip
+
+
+def sentence_faults(room: Path) -> Iterator[str]:
+    """For each text and kind of docs/FORMATS.md there is a sentence, and it is that of its own text."""
+    document = (TOP / "docs" / "FORMATS.md").read_text()
+    refusals = [f"schema line 1 {kind}" for kind in kinds_of(document, "\n### Faults, in the order", "\n### ")]
+    for what, start in (("instance", "\n### Instance\n"), ("facts", "\n### Facts\n"), ("store", "\n### Stored views\n")):
+        kinds = kinds_of(document, start, "\n### ")
+        if len(kinds) < 3:
+            yield f"explain: the kinds of {what} can't be read from docs/FORMATS.md"
+        refusals += [f"{what} record 1 {kind}" for kind in kinds]
+    refusals += [f"facts record 1 {kind}" for kind in kinds_of(document, "\n| command | kind | comes if |\n", "\n\n")]
+    name = str(EXAMPLES / LOCATION)
+    words = {"schema": ("format", name), "facts": ("rollup", name, name, name, "All"), "instance": ("check", name, name),
+             "store": ("answer", name, name, name, "All"), "frozen": ("frozen", name, "Store")}
+    for refusal, part in [*((each, "") for each in refusals), *SAID]:
+        said = f"refused {refusal}\n"
+        given = words.get(refusal.split(" ")[0], ("generate", "1", "1"))
+        lines = list(explaining.explained(list(given), said))
+        if not any(line.startswith("  manual: ") and part in line for line in lines):
+            yield f"explain: of {said!r} it says {lines}"
+
+
+def form_faults(room: Path) -> Iterator[str]:
+    """Of each line of docs/SCHEMA.md that is BadForm a column is told; and what the program takes, the reader of forms takes too."""
+    document = (TOP / "docs" / "SCHEMA.md").read_text()
+    schema = ["schema 1", *(f"category {name}" for name in ("Store", "City", "State", "Country"))]
+    lines = re.findall(r"^\| `([^`]*)` \| `line \d+ BadForm` \|", document, re.M)
+    if len(lines) < 10:
+        yield "explain: the lines that are BadForm can't be read from docs/SCHEMA.md"
+    for line in lines:
+        if form.why_bad([*schema, line.replace("&#124;", "|")], len(schema) + 1) is None:
+            yield f"explain: no cause is told of `{line}`"
+    for file in sorted([*TOP.glob("examples/**/*.txt"), *TOP.glob("recipes/**/*.txt")]):
+        text = file.read_text()
+        if olap("format", str(file))[0] == 0:
+            for number, line in enumerate(text.split("\n"), 1):
+                if line.strip() and not line.startswith(("#", "schema")) and form.why_bad(text.split("\n"), number):
+                    yield f"explain: {file.name} is taken, and it finds fault with line {number}"
+
+
+def changed_faults(room: Path) -> Iterator[str]:
+    """Where a file changed after the refusal, a line says so."""
+    schema, instance = str(EXAMPLES / LOCATION), str(EXAMPLES / "location" / "instance.csv")
+    for said in ("schema line 999 BadForm", 'instance Constraint 99 "s1"', "instance record 999 UnknownParent", 'instance NoParent "gone"'):
+        done = explained(room, f"refused {said}\n".encode(), "check", schema, instance)
+        if done.returncode != 3 or "the file changed since the program read it" not in done.stdout or done.stderr:
+            yield f"explain of a file that changed: {said}: {done.stdout!r} {done.stderr!r}"
+
+
+def time_faults(room: Path) -> Iterator[str]:
+    """What isn't asked in time is told; and Ctrl-C ends a tool at once, with nothing left."""
+    schema = str(EXAMPLES / LOCATION)
+    yield from one_line("compare in no time", tool("compare", schema, schema, "--seconds", "0", folder=room), 1)
+    yield from one_line("least in no time", tool("least", schema, "Region", "--seconds", "-1", folder=room), 1)
+    slow = room / "slow"
+    slow.write_text(f'#!/bin/sh\n[ "$1" = format ] || {{ touch "{room}/began"; exec sleep 60; }}\nexec "{find()}" "$@"\n')
+    slow.chmod(0o755)
+    for words in (("least", schema, "Region"), ("compare", schema, schema)):
+        environment = {**os.environ, "OLAP": str(slow), "TMPDIR": str(room)}
+        running = subprocess.Popen([sys.executable, TOOLS / words[0], *words[1:]], cwd=room, env=environment, stdout=subprocess.DEVNULL,
+                                   stderr=subprocess.PIPE, start_new_session=True)
+        while not (room / "began").exists() and running.poll() is None:
+            time.sleep(0.02)
+        running.send_signal(signal.SIGINT)
+        began = time.monotonic()
+        errors = running.communicate()[1].decode()
+        if running.returncode != 130 or errors or time.monotonic() - began > 10:
+            yield f"Ctrl-C ends {words[0]} with {running.returncode} after {time.monotonic() - began:.0f} s: {errors.strip()[-200:]}"
+        (room / "began").unlink(missing_ok=True)
+    if left := [each for each in os.listdir(room) if each != "slow"]:
+        yield f"Ctrl-C leaves {left}"
 
 
 def refusals(room: Path) -> Iterator[str]:
@@ -210,7 +321,11 @@ def refusals(room: Path) -> Iterator[str]:
         yield f"files are left: {os.listdir(room)}"
 
 
+CHECKS = (least_faults, compare_faults, constants_faults, propose_faults, made_faults, explain_faults, sentence_faults, form_faults,
+          changed_faults, time_faults, refusals)
+
+
 def faults() -> Iterator[str]:
-    for check in (least_faults, compare_faults, constants_faults, propose_faults, made_faults, explain_faults, refusals):
+    for check in CHECKS:
         with tempfile.TemporaryDirectory() as folder:
             yield from check(Path(folder))

@@ -30,8 +30,8 @@ def paths_of(folder: Path) -> set[str]:
 
 def told_faults(prefix: Path, lines: list[str]) -> Iterator[str]:
     """Its first line says of which sources the program is, as the record does; and what the others say to set has everything found."""
-    sources = "unknown"
-    wanted = f"installed: {find()}, of unknown sources"
+    sources = "unproved"
+    wanted = f"installed: unproved: {find()}, of which nothing is known to be proved"
     if "OLAP" not in os.environ:
         summed = subprocess.run(["bash", TOP / "tools" / "sources-sum"], capture_output=True, text=True, check=False)
         sources = summed.stdout.strip()
@@ -81,6 +81,11 @@ def refused(prefix: Path) -> Iterator[str]:
         yield "it puts its program in the place of another"
     if tool("install", "--remove", str(foreign)).returncode == 0 or paths_of(foreign) != {"bin", "bin/olap"}:
         yield "--remove takes what it didn't put"
+    script = prefix / "script"
+    script.write_text("#!/bin/sh\n")
+    script.chmod(0o755)
+    if tool("install", str(prefix / "none"), OLAP=str(script)).returncode == 0 or (prefix / "none").exists():
+        yield "it puts a script in the place of a program"
     ours = prefix / "ours"
     tool("install", str(ours))
     (ours / "share/man/man1/olap.1").write_text("edited\n")
