@@ -35,7 +35,7 @@ _olap_categories() {
     categories=()
     if [[ ! -f $file || ! -r $file ]]; then return 1; fi
     while IFS= read -r line; do
-        if [[ $line =~ ^[[:blank:]]*category[[:blank:]]+([A-Za-z][A-Za-z0-9]*)[[:blank:]]*$'\r'?$ ]]; then
+        if [[ $line =~ ^[[:blank:]]*category[[:blank:]]+([A-Za-z][A-Za-z0-9]*)([[:blank:]]+number)?[[:blank:]]*$'\r'?$ ]]; then
             categories+=("${BASH_REMATCH[1]}")
         fi
     done < <(head -c 262144 <"$file" 2>/dev/null)

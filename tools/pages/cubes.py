@@ -124,6 +124,6 @@ def cube_of(program: Program, progress: Progress, files: Sequence[str], names: S
         def search(target: str, left: float) -> Enough:
             return searches[target].search(time.monotonic() + min(left, share))
 
-        cube.enough |= asker.all("targets: what is enough", unfinished, search, began + 0.8 * seconds)
+        cube.enough.update(asker.all("targets: what is enough", unfinished, search, began + 0.8 * seconds))
     asker.all("the next lower tuples", cube.targets, lambda target, _: shown(target, next_lower(schemas, target)), end)
     return cube

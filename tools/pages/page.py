@@ -514,6 +514,6 @@ class Page:
     def text(self) -> Markup:
         lines = self.facts.text.split("\n")
         lines = lines[:-1] if lines[-1] == "" else lines
-        shown = [line.removesuffix("\r").replace("\t", "    ") for line in lines]
+        shown = [texts.without_return(line).replace("\t", "    ") for line in lines]
         items = [el("li", el("code", line), id=f"line-{number}") for number, line in enumerate(shown, 1)]
         return el("ol", Markup("\n".join(items)), class_="lines")

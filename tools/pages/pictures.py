@@ -374,6 +374,12 @@ def graphviz(text: str, seconds: float | None) -> str:
     return done.stdout.decode()
 
 
+def local(tag: str) -> str:
+    """A tag without the namespace of SVG."""
+    space = f"{{{SVG}}}"
+    return tag[len(space) :] if tag.startswith(space) else tag
+
+
 def cleaned(given: ET.Element, picture: Picture) -> ET.Element:
     """Shapes and texts alone, each node and edge with the title that tells it."""
     place = {f"n{i}": node.told for i, node in enumerate(picture.nodes.values())}
@@ -397,13 +403,13 @@ def cleaned(given: ET.Element, picture: Picture) -> ET.Element:
 
 
 def kept(part: ET.Element, title: str | None = None) -> ET.Element:
-    tag = part.tag.removeprefix(f"{{{SVG}}}")
+    tag = local(part.tag)
     found = ET.Element(tag, {key: value for key, value in part.attrib.items() if key in KEPT[tag]})
     if title is not None:
         ET.SubElement(found, "title").text = visible(title)
     found.text = part.text if tag == "text" else None
     for child in part:
-        if child.tag.removeprefix(f"{{{SVG}}}") in KEPT:
+        if local(child.tag) in KEPT:
             found.append(kept(child))
     return found
 
@@ -414,7 +420,7 @@ def alone(element: ET.Element) -> str:
     element = ET.fromstring(ET.tostring(element))
     title = element.findtext("title", "")
     width, top, height = max(width, 7.5 * len(title) + 16), top - TITLE, height + TITLE
-    element.attrib |= {"viewBox": f"{left:g} {top:g} {width:g} {height:g}", "width": f"{width:g}", "height": f"{height:g}", "xmlns": SVG}
+    element.attrib.update({"viewBox": f"{left:g} {top:g} {width:g} {height:g}", "width": f"{width:g}", "height": f"{height:g}", "xmlns": SVG})
     style = ET.Element("style")
     style.text = STYLE
     element.insert(2, style)

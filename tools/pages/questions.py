@@ -89,7 +89,7 @@ class Facts:
         used = {edge for ways in lists if ways is not None for way in ways for edge in way.edges}
         idle = set() if None in lists else set(self.schema.edges) - used
         kinds = {edge: "always" if always else "sometimes" for edge, always in self.always.items()}
-        return kinds | dict.fromkeys(idle, "idle")
+        return {**kinds, **dict.fromkeys(idle, "idle")}
 
 
 class Progress:
@@ -226,8 +226,8 @@ def facts_of(program: Program, progress: Progress, most_for_pairs: int, seconds:
         for _ in range(2):
             unfinished = [target for target in facts.targets if not searches[target].is_whole]
             share = (until(0.4) - time.monotonic()) * workers() / max(1, len(unfinished))
-            facts.enough |= asker.all("targets: what is enough", unfinished, enough, until(0.4))
-        facts.answers |= asker.all("single sources", facts.asked(facts.singles), remembered(facts, summarizable), until(0.6))
+            facts.enough.update(asker.all("targets: what is enough", unfinished, enough, until(0.4)))
+        facts.answers.update(asker.all("single sources", facts.asked(facts.singles), remembered(facts, summarizable), until(0.6)))
     facts.always = asker.all("edges", schema.edges, always, until(0.68))
     facts.findings = asker.all("audit", ["audit"], findings, until(0.78)).get("audit")
     order = sorted(schema.declared, key=lambda category: category not in schema.bottoms)
@@ -236,7 +236,7 @@ def facts_of(program: Program, progress: Progress, most_for_pairs: int, seconds:
         known = lists.get(category)
         facts.ways[category] = Ways(known, leasts.get(category), category in lists and known is None)
     if len(facts.barren) < len(schema.bottoms):
-        facts.answers |= asker.all("pairs of sources", facts.asked(facts.pairs), remembered(facts, summarizable), until(0.95))
+        facts.answers.update(asker.all("pairs of sources", facts.asked(facts.pairs), remembered(facts, summarizable), until(0.95)))
         certificates = asker.all("certificates", facts.yes, certificate, until(1))
         facts.certificates = {question: certificates[question] for question in facts.yes if question in certificates}
     return facts

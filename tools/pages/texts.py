@@ -110,9 +110,14 @@ def schema_of(text: str) -> Schema:
     return Schema(tuple(declared), tuple(edges), tuple(constraints), frozenset(numbered))
 
 
+def without_return(line: str) -> str:
+    """The line without a carriage return at its end."""
+    return line[:-1] if line.endswith("\r") else line
+
+
 def in_own_words(schema: Schema, text: str) -> Schema:
     """The schema with each formula as it stands in the user's text, whose constraints are a line each."""
-    lines = [line.removesuffix("\r") for line in text.split("\n") if line.split()[:1] == ["constraint"]]
+    lines = [without_return(line) for line in text.split("\n") if line.split()[:1] == ["constraint"]]
     if len(lines) != len(schema.constraints):
         raise Fault(f"the program knows {len(schema.constraints)} constraints, and {len(lines)} were read", 70)
     own = tuple(Constraint(one.root, line.partition(":")[2].strip()) for one, line in zip(schema.constraints, lines))
@@ -135,7 +140,7 @@ def frozen_of(line: str, schema: Schema) -> Frozen:
 def members_of(text: str) -> tuple[Member, ...]:
     """The members of an instance's text, without `all`."""
     csv.field_size_limit(len(text) + 1)
-    rows = [row for row in csv.reader(io.StringIO(text.removeprefix("\ufeff"), newline="")) if row]
+    rows = [row for row in csv.reader(io.StringIO(text[text.startswith("\ufeff") :], newline="")) if row]
     if not rows or rows[0] != ["id", "category", "name", "parents"] or any(len(row) != 4 for row in rows):
         raise Fault("these records are no instance", 70)
     return tuple(Member(id, category, name, tuple(parents.split(";")) if parents else ()) for id, category, name, parents in rows[1:])

@@ -1,0 +1,55 @@
+"""What a designer runs needs Python 3.8 and its standard library: nothing newer is written in it, and other Pythons that are there run it."""
+
+import ast
+import re
+import shutil
+import subprocess
+import sys
+from pathlib import Path
+from typing import Iterator
+
+from .common import EXAMPLES, TOOLS
+
+OLDEST = (3, 8)
+PROGRAMS = ("least", "compare", "constants", "propose", "explain", "draw", "report", "made", "install", "check-certificate")
+# What came after the oldest version, as far as the syntax doesn't show it.
+NEWER = {"removeprefix", "removesuffix", "cache", "pairwise", "bit_count", "is_relative_to", "with_stem", "readlink", "indent", "randbytes"}
+OTHERS = ("python3.8", "python3.9", "pypy3", "python3.10")  # the first of these that runs
+
+
+def newer(file: Path) -> Iterator[str]:
+    """What a text has that the oldest version hasn't."""
+    text = file.read_text(encoding="utf-8")
+    try:
+        tree = ast.parse(text, feature_version=OLDEST)
+    except SyntaxError as error:
+        yield f"line {error.lineno}: {error.msg}"
+        return
+    for node in ast.walk(tree):
+        if isinstance(node, ast.Attribute) and node.attr in NEWER:
+            yield f"line {node.lineno}: {node.attr} is newer"
+    if re.search(r"(-> |: )[a-z]+\[", text) and "from __future__ import annotations\n" not in text:
+        yield "its annotations are evaluated"
+
+
+def runs(python: str) -> bool:
+    """Whether there is such a Python; a name that is found may still be of none."""
+    return bool(shutil.which(python)) and subprocess.run([python, "-c", "pass"], capture_output=True, check=False).returncode == 0
+
+
+def other_faults(python: str) -> Iterator[str]:
+    """Another Python runs the tools as this one does."""
+    schema, instance, certificate = (str(EXAMPLES / "location" / name) for name in ("schema.txt", "instance.csv", "certificates/Country-short.txt"))
+    for name, *words in (("least", schema, "Region"), ("compare", schema, schema), ("constants", schema, instance), ("propose", instance),
+                         ("check-certificate", schema, certificate, "Country", "City"), ("draw", "--help"), ("report", "--help")):
+        ran = [subprocess.run([each, TOOLS / name, *words], capture_output=True, text=True, check=False) for each in (python, sys.executable)]
+        if (ran[0].returncode, ran[0].stdout) != (ran[1].returncode, ran[1].stdout) and "--help" not in words or ran[0].returncode != ran[1].returncode:
+            yield f"{name} by {python}: status {ran[0].returncode}, {ran[0].stderr.strip()[-200:]}"
+
+
+def faults() -> Iterator[str]:
+    for file in [*(TOOLS / name for name in PROGRAMS), *sorted((TOOLS / "pages").glob("*.py"))]:
+        yield from (f"{file.relative_to(TOOLS)}, for Python {OLDEST[0]}.{OLDEST[1]}: {wrong}" for wrong in newer(file))
+    other = next((python for python in OTHERS if runs(python)), None)
+    if other:
+        yield from other_faults(other)
