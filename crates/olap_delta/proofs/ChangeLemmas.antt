@@ -17,7 +17,8 @@ use Rattle.olap_base.proofs.ListLemmas.{Contains-filter, Contains-from_filter, C
 use Rattle.olap_base.proofs.ViewLemmas.{Distinct-members_of, eqb_is, members_once}
 use Rattle.olap_view.specs.Stores.{summary_in}
 use Rattle.olap_view.proofs.FileOrderLemmas.{rows_by, view_by}
-use Rattle.olap_delta.specs.Changes.{Step, view_after, view_after_at, view_with, views_after}
+use Rattle.olap_delta.specs.Changes.{Step, view_with}
+use Rattle.olap_delta.specs.FactByFact.{view_after_at, view_after_fact, views_after_fact}
 use Rattle.olap_delta.specs.declared.kinds.DeltaKind.{DeltaKind}
 use Rattle.olap_delta.proofs.RowLemmas.{IsSmall}
 
@@ -102,7 +103,7 @@ stepped i h c y (Err k) = Err k
 module _ (step : Step) (i : Instance) (h : ℕ → Option Summary) (c : ℕ) (f : Fact) where
   -- no member of c is reached
   pub view_unreached : ((y : ℕ) → Contains (members_of i c) y → reaches i f.member y ≡ true → ⊥)
-      → view_after step i (view_by i h c) f ≡ Ok (view_by i h c)
+      → view_after_fact step i (view_by i h c) f ≡ Ok (view_by i h c)
   view_unreached n = go (filter (λ y. reaches i f.member y) (members_of i c)) refl
     where
       go : (ys : List ℕ) → filter (λ y. reaches i f.member y) (members_of i c) ≡ ys
@@ -116,7 +117,7 @@ module _ (step : Step) (i : Instance) (h : ℕ → Option Summary) (c : ℕ) (f 
   -- y is the one that is reached
   pub view_reached : (y : ℕ) → Contains (members_of i c) y → reaches i f.member y ≡ true
       → ((z : ℕ) → Contains (members_of i c) z → reaches i f.member z ≡ true → z ≡ y)
-      → view_after step i (view_by i h c) f ≡ stepped i h c y (step (h y) f.value)
+      → view_after_fact step i (view_by i h c) f ≡ stepped i h c y (step (h y) f.value)
   view_reached y k r only = go (filter (λ y. reaches i f.member y) (members_of i c)) refl
     where
       then : (o : Result Summary DeltaKind)
@@ -160,12 +161,12 @@ module _ (step : Step) (kind : DeltaKind) (g : Graph) (i : Instance) (w : IsLawf
     (there : (y : ℕ) → reaches i f.member y ≡ true → IfSome (before y) IsSmall
     → Makes step kind (before y) f.value (after y)) where
   -- a view of what was before becomes that of what is after, or the step fails in that way
-  view_step : (c : ℕ) → AreSmall i c before → MatchResult (view_after step i (view_by i before c) f)
+  view_step : (c : ℕ) → AreSmall i c before → MatchResult (view_after_fact step i (view_by i before c) f)
       (λ v. (v ≡ view_by i after c) × AreSmall i c after) (λ k. k ≡ kind)
   view_step c small = go (filter (λ y. reaches i f.member y) (members_of i c)) refl
     where
       go : (ys : List ℕ) → filter (λ y. reaches i f.member y) (members_of i c) ≡ ys
-          → MatchResult (view_after step i (view_by i before c) f)
+          → MatchResult (view_after_fact step i (view_by i before c) f)
           (λ v. (v ≡ view_by i after c) × AreSmall i c after) (λ k. k ≡ kind)
       go [] e = subst (λ (r : Result View DeltaKind). MatchResult r
           (λ v. (v ≡ view_by i after c) × AreSmall i c after) (λ k. k ≡ kind))
@@ -213,11 +214,11 @@ module _ (step : Step) (kind : DeltaKind) (g : Graph) (i : Instance) (w : IsLawf
 
   -- so do several views
   pub views_step : (cs : List ℕ) → ((c : ℕ) → Contains cs c → AreSmall i c before)
-      → MatchResult (views_after step i (map (view_by i before) cs) f)
+      → MatchResult (views_after_fact step i (map (view_by i before) cs) f)
       (λ vs. (vs ≡ map (view_by i after) cs) × ((c : ℕ) → Contains cs c → AreSmall i c after)) (λ k. k ≡ kind)
   views_step [] small = (refl, λ c k. absurd (Contains-nil c k))
   views_step (c ∷ cs) small =
-      go (view_after step i (view_by i before c) f) (views_after step i (map (view_by i before) cs) f)
+      go (view_after_fact step i (view_by i before c) f) (views_after_fact step i (map (view_by i before) cs) f)
       (view_step c (small c (contains_head c cs))) (views_step cs (λ d k. small d (contains_cons d cs c k)))
     where
       go : (a : Result View DeltaKind) (b : Result (List View) DeltaKind)

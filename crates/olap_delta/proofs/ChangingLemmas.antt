@@ -10,7 +10,7 @@ use Rattle.std.proofs.lemmas.Bool.Decides.{nat_tests}
 use Rattle.std.proofs.lemmas.List.{append-nil, append_assoc, drop_all, get_or-drop, get_or-take, get_or_default, length-take-le, map-append, take_more}
 use Rattle.std.proofs.lemmas.List.Elements.{Contains-get_or}
 use Rattle.olap_base.specs.Instance.{Instance, ReachesCategory, category_of}
-use Rattle.olap_base.specs.Naming.{Fault}
+use Rattle.olap_base.specs.declared.refusals.Fault.{Fault}
 use Rattle.olap_base.specs.Reaching.{reaches_is}
 use Rattle.olap_base.specs.Summaries.{Summary}
 use Rattle.olap_base.specs.Views.{Fact, View, members_of}
@@ -19,7 +19,8 @@ use Rattle.olap_legal.specs.Ancestors.{IsAncestor}
 use Rattle.olap_view.specs.SummaryTables.{Summarized, stands_at, view_at, views_at}
 use Rattle.olap_view.specs.Tables.{IsAmong}
 use Rattle.olap_view.proofs.FileOrderLemmas.{view_by}
-use Rattle.olap_delta.specs.Changes.{Step, fact_after, store_after, view_after, views_after}
+use Rattle.olap_delta.specs.Changes.{Step}
+use Rattle.olap_delta.specs.FactByFact.{fact_after, store_after_facts, view_after_fact, views_after_fact}
 use Rattle.olap_delta.specs.Changing.{AreStorable, IsStorable}
 use Rattle.olap_delta.specs.declared.kinds.DeltaKind.{DeltaKind}
 use Rattle.olap_delta.proofs.ChangeLemmas.{stepped, view_alike, view_reached, view_unreached, with_at}
@@ -70,7 +71,7 @@ module _ (y : ℕ) (s : Summary) (old new : Summarized) (p : IsPut y s old new) 
 
 module _ (step : Step) (old : Summarized) (f : Fact) (c : ℕ) (k : Contains old.categories c) where
   module _ (y : ℕ) (a : IsAncestor old.instance f.member c y) where
-    reached : view_after step old.instance (view_at old c) f
+    reached : view_after_fact step old.instance (view_at old c) f
         ≡ stepped old.instance (stands_at old) c y (step (stands_at old y) f.value)
     reached = view_reached step old.instance (stands_at old) c f y (is_member_of old.instance c y a.is_member)
         ((reaches_is old.instance f.member y).1 a.reached)
@@ -78,17 +79,17 @@ module _ (step : Step) (old : Summarized) (f : Fact) (c : ℕ) (k : Contains old
 
     -- the view after the step's summary was put at the member that is reached
     pub view_put : (s : Summary) (new : Summarized) → step (stands_at old y) f.value ≡ Ok s → IsPut y s old new
-        → view_after step old.instance (view_at old c) f ≡ Ok (view_at new c)
+        → view_after_fact step old.instance (view_at old c) f ≡ Ok (view_at new c)
     view_put s new e p = reached ∙ ap (stepped old.instance (stands_at old) c y) e
         ∙ ap Ok (sym (view_of_put y s old new p c k))
 
     pub view_refused : (j : DeltaKind) → step (stands_at old y) f.value ≡ Err j
-        → view_after step old.instance (view_at old c) f ≡ Err j
+        → view_after_fact step old.instance (view_at old c) f ≡ Err j
     view_refused j e = reached ∙ ap (stepped old.instance (stands_at old) c y) e
 
   -- no member is reached
   pub view_left : (ReachesCategory old.instance f.member c → ⊥)
-      → view_after step old.instance (view_at old c) f ≡ Ok (view_at old c)
+      → view_after_fact step old.instance (view_at old c) f ≡ Ok (view_at old c)
   view_left n = view_unreached step old.instance (stands_at old) c f
       (λ y m r. n (y, members_of_is old.instance c y m, (reaches_is old.instance f.member y).0 r))
 
@@ -104,9 +105,9 @@ pub record IsSoFar (step : Step) (f : Fact) (k : ℕ) (old now : Summarized) : T
   pub instance : now.instance ≡ old.instance
   pub categories : now.categories ≡ old.categories
   pub storable : AreStorable now
-  pub views : views_after step old.instance (views_at old) f
+  pub views : views_after_fact step old.instance (views_at old) f
       ≡ behind (map (view_at now) (take k old.categories))
-      (views_after step old.instance (map (view_at now) (drop k old.categories)) f)
+      (views_after_fact step old.instance (map (view_at now) (drop k old.categories)) f)
 
 -- nothing before leaves the result as it is
 behind_none : (r : Result (List View) DeltaKind) → behind [] r ≡ r
@@ -119,7 +120,7 @@ so_far_first step f t a = record {
   instance = refl;
   categories = refl;
   storable = a;
-  views = sym (behind_none (views_after step t.instance (views_at t) f));
+  views = sym (behind_none (views_after_fact step t.instance (views_at t) f));
 }
 
 -- one view more before the others
@@ -150,10 +151,10 @@ module _ (step : Step) (f : Fact) (k : ℕ) (old now : Summarized) (so : IsSoFar
   parted = drop-cons old.categories k 0 h
 
   -- the first k views, and then the k-th and those after it; or its fault
-  then : (r : Result View DeltaKind) → view_after step old.instance (view_at now (get_or old.categories k 0)) f ≡ r
-      → views_after step old.instance (views_at old) f
+  then : (r : Result View DeltaKind) → view_after_fact step old.instance (view_at now (get_or old.categories k 0)) f ≡ r
+      → views_after_fact step old.instance (views_at old) f
       ≡ behind (map (view_at now) (take k old.categories)) (elim r [
-        | Ok w ↦ elim (views_after step old.instance (map (view_at now) (drop (suc k) old.categories)) f) [
+        | Ok w ↦ elim (views_after_fact step old.instance (map (view_at now) (drop (suc k) old.categories)) f) [
           | Ok ws ↦ Ok (w ∷ ws)
           | Err j ↦ Err j
         ]
@@ -161,9 +162,9 @@ module _ (step : Step) (f : Fact) (k : ℕ) (old now : Summarized) (so : IsSoFar
       ])
   then r e = so.views
       ∙ ap (λ cs. behind (map (view_at now) (take k old.categories))
-      (views_after step old.instance (map (view_at now) cs) f)) parted
+      (views_after_fact step old.instance (map (view_at now) cs) f)) parted
       ∙ ap (λ (x : Result View DeltaKind). behind (map (view_at now) (take k old.categories)) (elim x [
-        | Ok w ↦ elim (views_after step old.instance (map (view_at now) (drop (suc k) old.categories)) f) [
+        | Ok w ↦ elim (views_after_fact step old.instance (map (view_at now) (drop (suc k) old.categories)) f) [
           | Ok ws ↦ Ok (w ∷ ws)
           | Err j ↦ Err j
         ]
@@ -172,16 +173,17 @@ module _ (step : Step) (f : Fact) (k : ℕ) (old now : Summarized) (so : IsSoFar
 
   -- a view's fault is that of the views
   pub so_far_refused : (j : DeltaKind)
-      → view_after step now.instance (view_at now (get_or now.categories k 0)) f ≡ Err j
-      → views_after step old.instance (views_at old) f ≡ Err j
+      → view_after_fact step now.instance (view_at now (get_or now.categories k 0)) f ≡ Err j
+      → views_after_fact step old.instance (views_at old) f ≡ Err j
   so_far_refused j e = then (Err j) (subst (λ (i : Instance).
-      view_after step i (view_at now (get_or old.categories k 0)) f ≡ Err j) so.instance
-      (subst (λ (cs : List ℕ). view_after step now.instance (view_at now (get_or cs k 0)) f ≡ Err j) so.categories e))
+      view_after_fact step i (view_at now (get_or old.categories k 0)) f ≡ Err j) so.instance
+      (subst (λ (cs : List ℕ). view_after_fact step now.instance (view_at now (get_or cs k 0)) f ≡ Err j) so.categories
+      e))
 
   -- one category more
   pub so_far_next : (new : Summarized) → AllPairs ◌≢◌ old.categories → new.instance ≡ now.instance
       → new.categories ≡ now.categories → AreStorable new
-      → view_after step now.instance (view_at now (get_or now.categories k 0)) f
+      → view_after_fact step now.instance (view_at now (get_or now.categories k 0)) f
       ≡ Ok (view_at new (get_or now.categories k 0))
       → ((c : ℕ) → Contains now.categories c → c ≢ get_or now.categories k 0 → view_at new c ≡ view_at now c)
       → IsSoFar step f (k + 1) old new
@@ -191,19 +193,21 @@ module _ (step : Step) (f : Fact) (k : ℕ) (old now : Summarized) (so : IsSoFar
     storable = a;
     views = then (Ok (view_at new c)) changed
         ∙ one_more (map (view_at now) (take k old.categories)) (view_at new c)
-        (views_after step old.instance (map (view_at now) (drop (suc k) old.categories)) f)
-        ∙ ap (λ vs. behind vs (views_after step old.instance (map (view_at now) (drop (suc k) old.categories)) f)) front
-        ∙ ap (λ vs. behind (map (view_at new) (take (k + 1) old.categories)) (views_after step old.instance vs f)) back;
+        (views_after_fact step old.instance (map (view_at now) (drop (suc k) old.categories)) f)
+        ∙ ap (λ vs. behind vs
+        (views_after_fact step old.instance (map (view_at now) (drop (suc k) old.categories)) f)) front
+        ∙ ap (λ vs. behind (map (view_at new) (take (k + 1) old.categories))
+        (views_after_fact step old.instance vs f)) back;
   }
     where
       c : ℕ
       c = get_or old.categories k 0
 
-      changed : view_after step old.instance (view_at now (get_or old.categories k 0)) f
+      changed : view_after_fact step old.instance (view_at now (get_or old.categories k 0)) f
           ≡ Ok (view_at new (get_or old.categories k 0))
-      changed = subst (λ (i : Instance). view_after step i (view_at now (get_or old.categories k 0)) f
+      changed = subst (λ (i : Instance). view_after_fact step i (view_at now (get_or old.categories k 0)) f
           ≡ Ok (view_at new (get_or old.categories k 0))) so.instance
-          (subst (λ (cs : List ℕ). view_after step now.instance (view_at now (get_or cs k 0)) f
+          (subst (λ (cs : List ℕ). view_after_fact step now.instance (view_at now (get_or cs k 0)) f
           ≡ Ok (view_at new (get_or cs k 0))) so.categories view)
 
       same : (j : ℕ) → j < length old.categories → j ≢ k
@@ -242,11 +246,11 @@ module _ (step : Step) (f : Fact) (k : ℕ) (old now : Summarized) (so : IsSoFar
 
 -- all categories are changed, so all views are
 pub so_far_all : (step : Step) (f : Fact) (k : ℕ) (old now : Summarized) → IsSoFar step f k old now
-    → length old.categories ≤ k → views_after step old.instance (views_at old) f ≡ Ok (views_at now)
+    → length old.categories ≤ k → views_after_fact step old.instance (views_at old) f ≡ Ok (views_at now)
 so_far_all step f k old now so h =
     so.views
     ∙ ap (λ cs. behind (map (view_at now) (take k old.categories))
-    (views_after step old.instance (map (view_at now) cs) f))
+    (views_after_fact step old.instance (map (view_at now) cs) f))
     (drop_all k old.categories h)
     ∙ ap Ok (append-nil (map (view_at now) (take k old.categories)))
     ∙ ap (λ cs. Ok (map (view_at now) cs)) (take_all k old.categories h ∙ sym so.categories)
@@ -256,17 +260,17 @@ so_far_all step f k old now so h =
 -- one fact after the others
 pub fact_behind : (step : Step) (i : Instance) (r : Result (List View) (Fault DeltaKind)) (at : ℕ) (facts : List Fact)
     (f : Fact)
-    → store_after step i r at (facts ++ f ∷ [])
-    ≡ fact_after step i (at + length facts) f (store_after step i r at facts)
+    → store_after_facts step i r at (facts ++ f ∷ [])
+    ≡ fact_after step i (at + length facts) f (store_after_facts step i r at facts)
 fact_behind step i r at [] f = let e : at ≡ at + 0 = omega arith in ap (λ n. fact_after step i n f r) e
 fact_behind step i r at (g ∷ facts) f =
     let e : (at + 1) + length facts ≡ at + suc (length facts) = omega arith in
     fact_behind step i (fact_after step i at g r) (at + 1) facts f
-    ∙ ap (λ n. fact_after step i n f (store_after step i (fact_after step i at g r) (at + 1) facts)) e
+    ∙ ap (λ n. fact_after step i n f (store_after_facts step i (fact_after step i at g r) (at + 1) facts)) e
 
 -- the views of a table, or its fault, after a fact
 pub taken_ok : (step : Step) (i : Instance) (at : ℕ) (f : Fact) (before after : List View)
-    → views_after step i before f ≡ Ok after → Ok after ≡ fact_after step i at f (Ok before)
+    → views_after_fact step i before f ≡ Ok after → Ok after ≡ fact_after step i at f (Ok before)
 taken_ok step i at f before after e =
     sym (ap (λ (r : Result (List View) DeltaKind). elim r [
       | Ok changed ↦ Ok changed
@@ -275,7 +279,7 @@ taken_ok step i at f before after e =
 
 -- a fault of the views is that of the fact
 pub taken_err : (step : Step) (i : Instance) (at : ℕ) (f : Fact) (before : List View) (k : DeltaKind)
-    → views_after step i before f ≡ Err k
+    → views_after_fact step i before f ≡ Err k
     → Err (record { at = at; kind = k }) ≡ fact_after step i at f (Ok before)
 taken_err step i at f before k e =
     sym (ap (λ (r : Result (List View) DeltaKind). elim r [

@@ -3,24 +3,28 @@
 --     taken_none, taken_more        no fact, and one more
 --     are_taken_none, are_taken_more, taken_since    the same between two times
 --     handed_out_after, after_text  what is handed out, and what comes of a text
-use Rattle.std.proofs.Common.{◌≡◌, ◌+◌, ◌∷◌, ◌++◌, [], ℕ, List, length, refl, sym, ap, subst, ◌∙◌, arith, length-append}
-use Rattle.std.specs.Prelude.{All, IfErr, IfOk, Result, Ok, Err}
+use Rattle.std.proofs.Common.{◌≡◌, ◌+◌, ◌∷◌, ◌++◌, [], List, length, refl, sym, ap, subst, ◌∙◌, arith, length-append}
+use Rattle.std.specs.Prelude.{All, IfErr, IfOk, OnOk, Result, Ok, Err}
 use Rattle.olap_base.specs.Graph.{Graph}
 use Rattle.olap_base.specs.Instance.{Instance}
+use Rattle.olap_base.specs.Refusing.{IsRefusedBy}
 use Rattle.olap_base.specs.Views.{Fact, View}
-use Rattle.olap_facts.specs.FactText.{facts_read}
+use Rattle.olap_base.specs.declared.refusals.Fault.{Fault}
+use Rattle.olap_base.specs.declared.refusals.Refusal.{Refusal}
 use Rattle.olap_view.specs.Seen.{views_of}
 use Rattle.olap_view.specs.Stores.{IsInFileOrder, IsSoundStore}
 use Rattle.olap_view.specs.SummaryTables.{categories_in}
 use Rattle.olap_view.specs.declared.views.Store.{Store}
-use Rattle.olap_delta.specs.Changes.{fact_after, store_after, store_changed}
+use Rattle.olap_delta.specs.FactByFact.{fact_after, facts_changed, store_after_facts}
 use Rattle.olap_delta.specs.Changing.{Delta, step_of}
 use Rattle.olap_delta.specs.declared.changes.Change.{Change}
-use Rattle.olap_delta.specs.Kinds.{IsDeltaRefusedBy}
-use Rattle.olap_delta.specs.Reading.{IsChangedBy}
+use Rattle.olap_delta.specs.Reading.{or_refused, views_changed}
 use Rattle.olap_delta.specs.Taking.{AreTaken, IsStoreAfter, IsStoreAfterAll}
-use Rattle.olap_delta.specs.declared.kinds.DeltaRefusal.{DeltaRefusal}
+use Rattle.olap_delta.specs.declared.kinds.ChangeKind.{ChangeKind}
+use Rattle.olap_delta.specs.declared.kinds.DeltaKind.{DeltaKind}
+use Rattle.olap_facts.specs.declared.kinds.FactKind.{FactKind}
 use Rattle.olap_delta.proofs.ChangingLemmas.{fact_behind}
+use Rattle.olap_delta.proofs.StoreChangedLemmas.{store_is}
 
 -- these facts were taken, by this step, at these views
 pub record HasTaken (by : Change) (i : Instance) (stored : List View) (facts : List Fact) (d : Delta) : Type 0 where
@@ -28,7 +32,7 @@ pub record HasTaken (by : Change) (i : Instance) (stored : List View) (facts : L
   pub instance : d.instance ≡ i
   pub categories : d.categories ≡ categories_in stored
   pub taken : d.taken ≡ length facts
-  pub views : d.views ≡ store_changed (step_of by) i stored facts
+  pub views : d.views ≡ facts_changed (step_of by) i stored facts
 
 -- one fact more was taken
 pub taken_more : (by : Change) (i : Instance) (views : List View) (facts : List Fact) (f : Fact) (d e : Delta)
@@ -91,10 +95,10 @@ taken_since by i views facts old d h a = record {
   categories = a.categories ∙ h.categories;
   taken = let n = h.taken in let m = a.taken in omega arith;
   views = a.views
-      ∙ ap (λ p. store_after (step_of p) old.instance old.views (old.taken + 2) facts) h.change
-      ∙ ap (λ j. store_after (step_of by) j old.views (old.taken + 2) facts) h.instance
-      ∙ ap (λ r. store_after (step_of by) i r (old.taken + 2) facts) h.views
-      ∙ ap (λ n. store_after (step_of by) i (Ok views) n facts) at;
+      ∙ ap (λ p. store_after_facts (step_of p) old.instance old.views (old.taken + 2) facts) h.change
+      ∙ ap (λ j. store_after_facts (step_of by) j old.views (old.taken + 2) facts) h.instance
+      ∙ ap (λ r. store_after_facts (step_of by) i r (old.taken + 2) facts) h.views
+      ∙ ap (λ n. store_after_facts (step_of by) i (Ok views) n facts) at;
 }
   where
     at : old.taken + 2 ≡ 2
@@ -104,24 +108,43 @@ taken_since by i views facts old d h a = record {
 
 -- what is handed out once these facts were taken
 pub handed_out_after : (by : Change) (i : Instance) (views : List View) (facts : List Fact) (d : Delta)
-    → HasTaken by i views facts d → (r : Result Store DeltaRefusal) → IfOk r (λ s. d.views ≡ Ok (views_of s))
+    → HasTaken by i views facts d → (r : Result Store (Refusal (Fault DeltaKind)))
+    → IfOk r (λ s. d.views ≡ Ok (views_of s))
     → IfOk r (λ s. (g : Graph) (before : List View) → d.categories ≡ categories_in before
     → IsSoundStore g d.instance before → IsSoundStore g d.instance (views_of s))
-    → IfOk r (λ s. All (IsInFileOrder d.instance) (views_of s)) → IfErr r (λ e. IsDeltaRefusedBy e d.views)
+    → IfOk r (λ s. All (IsInFileOrder d.instance) (views_of s)) → IfErr r (λ e. IsRefusedBy e d.views)
     → IsStoreAfter by i views facts r
 handed_out_after by i views facts d h (Ok s) ok sound order err = record {
-  ok = sym h.views ∙ ok;
+  ok = store_is (step_of by) i views facts ∙ sym h.views ∙ ok;
   sound = λ g q. subst (λ (j : Instance). IsSoundStore g j (views_of s)) h.instance
       (sound g views h.categories (subst (λ (j : Instance). IsSoundStore g j views) (sym h.instance) q));
   order = subst (λ (j : Instance). All (IsInFileOrder j) (views_of s)) h.instance order;
   err = tt;
 }
 handed_out_after by i views facts d h (Err e) ok sound order err =
-    record { ok = tt; sound = tt; order = tt; err = subst (IsDeltaRefusedBy e) h.views err }
+    let same = h.views ∙ sym (store_is (step_of by) i views facts) in
+    record { ok = tt; sound = tt; order = tt; err = subst (IsRefusedBy e) same err }
 
--- after all facts of a text it is changed by the text
-pub after_text : (by : Change) (g : Graph) (i : Instance) (records : List (List (List ℕ))) (views : List View)
-    (r : Result Store DeltaRefusal) → IsStoreAfterAll by i views (facts_read g i records) r
-    → IsChangedBy (step_of by) g i records views r
-after_text by g i records views (Ok s) a = record { facts = a.facts; read = a.read; changed = a.after.ok }
-after_text by g i records views (Err e) a = record { facts = a.facts; read = a.read; changed = a.after.err }
+-- ---- all that were read
+
+-- what is so where a call isn't refused
+pub unless_refused : {E : Type 0} (r : Result Unit E) (P : Type 0) → ((e : E) → r ≡ Err e → ⊥) → OnOk r P → P
+unless_refused (Ok u) P n h = h
+unless_refused (Err e) P n h = absurd (n e refl)
+
+-- there is none, where the text or a fact is refused
+pub refused_all : (by : Change) (i : Instance) (views : List View) (all : Result (List Fact) (Fault FactKind))
+    (e : Refusal (Fault ChangeKind)) → IsRefusedBy e (views_changed (step_of by) i views all)
+    → IsStoreAfterAll by i views all (Err e)
+refused_all by i views all e h = record { ok = tt; sound = tt; order = tt; err = h }
+
+-- the store after the facts that were read
+pub after_all : (by : Change) (i : Instance) (views : List View) (all : Result (List Fact) (Fault FactKind))
+    (facts : List Fact) → all ≡ Ok facts → (s : Store) → IsStoreAfter by i views facts (Ok s)
+    → IsStoreAfterAll by i views all (Ok s)
+after_all by i views all facts e s a = record {
+  ok = ap (views_changed (step_of by) i views) e ∙ ap or_refused a.ok;
+  sound = a.sound;
+  order = a.order;
+  err = tt;
+}

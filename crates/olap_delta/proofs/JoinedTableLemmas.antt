@@ -19,7 +19,7 @@ use Rattle.olap_view.specs.Seen.{summary_of}
 use Rattle.olap_view.specs.SummaryTables.{Summarized, stands_at, view_at, views_at}
 use Rattle.olap_view.specs.Tables.{IsAmong, when}
 use Rattle.olap_view.proofs.FileOrderLemmas.{view_by}
-use Rattle.olap_delta.specs.Changes.{store_changed}
+use Rattle.olap_delta.specs.FactByFact.{facts_changed}
 use Rattle.olap_delta.specs.Changing.{AreStorable, step_of}
 use Rattle.olap_delta.specs.Joining.{Admits, AreJoined, IsJoined, IsJoinedIn, IsOnce, changed_by}
 use Rattle.olap_delta.specs.Lots.{StandFor, lots_at}
@@ -261,7 +261,7 @@ so_far_all change lots k old now so h = record {
 pub table_changed : (change : Change) (facts : List Fact) (g : Lots) (old new : Summarized)
     → new.instance ≡ old.instance → new.categories ≡ old.categories → StandFor old.instance facts g
     → AreJoined change g.lots.items old new
-    → store_changed (step_of change) old.instance (views_at old) facts ≡ Ok (views_at new)
+    → facts_changed (step_of change) old.instance (views_at old) facts ≡ Ok (views_at new)
 table_changed change facts g old new e k s j =
     all_taken change old.instance old.categories facts 2 (stands_at old) (record {
       values = s.values;

@@ -15,7 +15,8 @@ use Rattle.olap_base.specs.Views.{Fact, View, members_of, total_of_facts}
 use Rattle.olap_base.proofs.ListLemmas.{Contains-filter, Contains-from_filter, Contains-nil, contains_head}
 use Rattle.olap_base.proofs.ViewLemmas.{eqb_is}
 use Rattle.olap_view.proofs.FileOrderLemmas.{view_by}
-use Rattle.olap_delta.specs.Changes.{Step, store_after, view_after, views_after}
+use Rattle.olap_delta.specs.Changes.{Step}
+use Rattle.olap_delta.specs.FactByFact.{store_after_facts, view_after_fact, views_after_fact}
 use Rattle.olap_delta.specs.Changing.{step_of}
 use Rattle.olap_delta.specs.Joining.{Admits, IsOnce, changed_by}
 use Rattle.olap_delta.specs.declared.changes.Change.{Change}
@@ -48,11 +49,11 @@ module _ (step : Step) (i : Instance) (before after : ℕ → Option Summary) (f
   -- a view of what was before becomes that of what is after
   pub view_done : (c : ℕ) → IsOnce i c f.member
       → ((y : ℕ) → Contains (members_of i c) y → reaches i f.member y ≡ true → IsStep step (before y) (after y) f)
-      → view_after step i (view_by i before c) f ≡ Ok (view_by i after c)
+      → view_after_fact step i (view_by i before c) f ≡ Ok (view_by i after c)
   view_done c once there = go (filter (λ y. reaches i f.member y) (members_of i c)) refl
     where
       go : (ys : List ℕ) → filter (λ y. reaches i f.member y) (members_of i c) ≡ ys
-          → view_after step i (view_by i before c) f ≡ Ok (view_by i after c)
+          → view_after_fact step i (view_by i before c) f ≡ Ok (view_by i after c)
       go [] e = view_unreached step i before c f none
           ∙ ap Ok (view_alike i before after c (λ y k. elsewhere y (not_true (reaches i f.member y) (none y k))))
         where
@@ -80,10 +81,10 @@ module _ (step : Step) (i : Instance) (before after : ℕ → Option Summary) (f
   pub views_done : (cs : List ℕ) → ((c : ℕ) → Contains cs c → IsOnce i c f.member)
       → ((c : ℕ) → Contains cs c → (y : ℕ) → Contains (members_of i c) y → reaches i f.member y ≡ true
       → IsStep step (before y) (after y) f)
-      → views_after step i (map (view_by i before) cs) f ≡ Ok (map (view_by i after) cs)
+      → views_after_fact step i (map (view_by i before) cs) f ≡ Ok (map (view_by i after) cs)
   views_done [] once there = refl
   views_done (c ∷ cs) once there =
-      go (view_after step i (view_by i before c) f) (views_after step i (map (view_by i before) cs) f)
+      go (view_after_fact step i (view_by i before c) f) (views_after_fact step i (map (view_by i before) cs) f)
       (view_done c (once c (contains_head c cs)) (there c (contains_head c cs)))
       (views_done cs (λ d k. once d (contains_cons d cs c k)) (λ d k. there d (contains_cons d cs c k)))
     where
@@ -131,7 +132,7 @@ module _ (change : Change) (i : Instance) (cs : List ℕ) where
     next_is : (y : ℕ) → reaches i f.member y ≡ true → next y ≡ changed_by change (h y) (Some (of_value f.value))
     next_is y r = ap (λ b. changed_by change (h y) (cond b (Some (of_value f.value)) None)) r
 
-    pub first_views : views_after (step_of change) i (map (view_by i h) cs) f ≡ Ok (map (view_by i next) cs)
+    pub first_views : views_after_fact (step_of change) i (map (view_by i h) cs) f ≡ Ok (map (view_by i next) cs)
     first_views = views_done (step_of change) i h next f unreached cs
         (All-head (λ (f : Fact). (c : ℕ) → Contains cs c → IsOnce i c f.member) f facts a.once)
         (λ c k y m r. let q = reached c k y m r in
@@ -178,12 +179,12 @@ module _ (change : Change) (i : Instance) (cs : List ℕ) where
 
   -- facts of which none could be refused, taken in order, are as all of them at once
   pub all_taken : (facts : List Fact) (at : ℕ) (h : ℕ → Option Summary) → AreAdmitted h facts
-      → store_after (step_of change) i (Ok (map (view_by i h) cs)) at facts
+      → store_after_facts (step_of change) i (Ok (map (view_by i h) cs)) at facts
       ≡ Ok (map (view_by i (λ y. changed_by change (h y) (total_of_facts i facts y))) cs)
   all_taken [] at h a = ap Ok (views_alike h (λ y. changed_by change (h y) None) cs
       (λ c k y m. sym (nothing_more change (h y))))
   all_taken (f ∷ facts) at h a =
-      ap (λ r. store_after (step_of change) i r (at + 1) facts)
+      ap (λ r. store_after_facts (step_of change) i r (at + 1) facts)
       (sym (taken_ok (step_of change) i at f (map (view_by i h) cs) (map (view_by i (next h f facts a)) cs)
       (first_views h f facts a)))
       ∙ all_taken facts (at + 1) (next h f facts a) (others_admitted h f facts a)

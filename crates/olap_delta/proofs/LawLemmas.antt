@@ -6,7 +6,7 @@ use Rattle.std.proofs.lemmas.List.{append-nil, append_assoc}
 use Rattle.std.proofs.lemmas.List.Elements.{All-contains, All-head, All-tail}
 use Rattle.olap_base.specs.Graph.{Graph}
 use Rattle.olap_base.specs.Instance.{Instance, IsLawful}
-use Rattle.olap_base.specs.Naming.{Fault}
+use Rattle.olap_base.specs.declared.refusals.Fault.{Fault}
 use Rattle.olap_base.specs.Reaching.{reaches}
 use Rattle.olap_base.specs.Summaries.{Summary, of_value, ◌⊕◌}
 use Rattle.olap_base.specs.Views.{Fact, View, direct_view, direct_views, members_of, total_of_facts, values_at}
@@ -14,11 +14,13 @@ use Rattle.olap_base.proofs.ListLemmas.{Contains-map}
 use Rattle.olap_base.proofs.TotalLemmas.{⊕_none}
 use Rattle.olap_view.specs.StoreReading.{IsStoredAt}
 use Rattle.olap_view.specs.Stores.{Fits}
-use Rattle.olap_delta.specs.Changes.{Step, appended, retracted, store_after, views_after}
+use Rattle.olap_delta.specs.Changes.{Step, appended, retracted}
+use Rattle.olap_delta.specs.FactByFact.{store_after_facts, views_after_fact}
 use Rattle.olap_delta.specs.Laws.{AppendGivesDirectViews, RetractGivesDirectViews}
 use Rattle.olap_delta.specs.declared.kinds.DeltaKind.{DeltaKind}
 use Rattle.olap_delta.specs.declared.kinds.DeltaKind.TheVariants as kind
 use Rattle.olap_view.proofs.FileOrderLemmas.{view_by}
+use Rattle.olap_delta.proofs.StoreChangedLemmas.{stays, store_is}
 use Rattle.olap_delta.proofs.ChangeLemmas.{AreSmall, Makes, view_alike, views_step}
 use Rattle.olap_delta.proofs.StorableLemmas.{rows_stored}
 use Rattle.olap_delta.proofs.PermutedLemmas.{fact_among, fact_behind, facts_permuted}
@@ -35,30 +37,25 @@ views_small : (i : Instance) (h : ℕ → Option Summary) (cs : List ℕ) → Al
 views_small i h cs a c k = λ y m. stored_small y (h y) (rows_stored h (members_of i c)
     (All-contains Fits (map (view_by i h) cs) (view_by i h c) a (Contains-map (view_by i h) cs c k)) y m)
 
--- a fault stays
-faulty : (step : Step) (i : Instance) (fault : Fault DeltaKind) (at : ℕ) (facts : List Fact)
-    → store_after step i (Err fault) at facts ≡ Err fault
-faulty step i fault at [] = refl
-faulty step i fault at (f ∷ facts) = faulty step i fault (at + 1) facts
-
 -- what the facts after the first make of the views after it
 then : (step : Step) (i : Instance) (views : List View) (at : ℕ) (f : Fact) (facts : List Fact) (P : List View → Type 0)
     (k : DeltaKind)
-    → MatchResult (views_after step i views f)
-    (λ views. MatchResult (store_after step i (Ok views) (at + 1) facts) P (λ fault. fault.kind ≡ k)) (λ j. j ≡ k)
-    → MatchResult (store_after step i (Ok views) at (f ∷ facts)) P (λ fault. fault.kind ≡ k)
-then step i views at f facts P k = go (views_after step i views f)
+    → MatchResult (views_after_fact step i views f)
+    (λ views. MatchResult (store_after_facts step i (Ok views) (at + 1) facts) P (λ fault. fault.kind ≡ k)) (λ j. j ≡ k)
+    → MatchResult (store_after_facts step i (Ok views) at (f ∷ facts)) P (λ fault. fault.kind ≡ k)
+then step i views at f facts P k = go (views_after_fact step i views f)
   where
     go : (r : Result (List View) DeltaKind)
         → MatchResult r
-        (λ views. MatchResult (store_after step i (Ok views) (at + 1) facts) P (λ fault. fault.kind ≡ k)) (λ j. j ≡ k)
-        → MatchResult (store_after step i (elim r [
+        (λ views. MatchResult (store_after_facts step i (Ok views) (at + 1) facts) P (λ fault. fault.kind ≡ k))
+        (λ j. j ≡ k)
+        → MatchResult (store_after_facts step i (elim r [
           | Ok changed ↦ Ok changed
           | Err j ↦ Err (record { at = at; kind = j })
         ]) (at + 1) facts) P (λ fault. fault.kind ≡ k)
     go (Ok vs) h = h
     go (Err j) h = subst (λ (r : Result (List View) (Fault DeltaKind)). MatchResult r P (λ fault. fault.kind ≡ k))
-        (sym (faulty step i (record { at = at; kind = j }) (at + 1) facts)) h
+        (sym (stays step i (record { at = at; kind = j }) (at + 1) facts)) h
 
 -- what follows of a value follows of a result
 weaker : {A B : Type 0} (r : Result A B) (P Q : A → Type 0) (R : B → Type 0) → ((a : A) → P a → Q a) → MatchResult r P R
@@ -70,19 +67,19 @@ module _ (g : Graph) (i : Instance) (w : IsLawful g i) (cs : List ℕ) where
   -- appending new facts to the direct views of some gives those of both, or is `Full`
   append_all : (new facts : List Fact) (at : ℕ) → ((c : ℕ) → Contains cs c → AreSmall i c (total_of_facts i facts))
       → All (λ f. SFits w64 f.value) new
-      → MatchResult (store_after appended i (Ok (direct_views i facts cs)) at new)
+      → MatchResult (store_after_facts appended i (Ok (direct_views i facts cs)) at new)
       (λ views. views ≡ direct_views i (facts ++ new) cs) (λ fault. fault.kind ≡ kind.Full)
   append_all [] facts at small fit = ap (λ l. direct_views i l cs) (sym (append-nil facts))
   append_all (f ∷ new) facts at small fit =
       then appended i (direct_views i facts cs) at f new
       (λ views. views ≡ direct_views i (facts ++ f ∷ new) cs) kind.Full
-      (weaker (views_after appended i (direct_views i facts cs) f)
+      (weaker (views_after_fact appended i (direct_views i facts cs) f)
       (λ vs. (vs ≡ map (view_by i after) cs) × ((c : ℕ) → Contains cs c → AreSmall i c after))
-      (λ views. MatchResult (store_after appended i (Ok views) (at + 1) new)
+      (λ views. MatchResult (store_after_facts appended i (Ok views) (at + 1) new)
       (λ views. views ≡ direct_views i (facts ++ f ∷ new) cs) (λ fault. fault.kind ≡ kind.Full)) (λ k. k ≡ kind.Full)
-      (λ vs p. subst (λ l. MatchResult (store_after appended i (Ok vs) (at + 1) new)
+      (λ vs p. subst (λ l. MatchResult (store_after_facts appended i (Ok vs) (at + 1) new)
       (λ views. views ≡ direct_views i l cs) (λ fault. fault.kind ≡ kind.Full)) (append_assoc facts (f ∷ []) new)
-      (subst (λ ws. MatchResult (store_after appended i (Ok ws) (at + 1) new)
+      (subst (λ ws. MatchResult (store_after_facts appended i (Ok ws) (at + 1) new)
       (λ views. views ≡ direct_views i ((facts ++ f ∷ []) ++ new) cs) (λ fault. fault.kind ≡ kind.Full)) (sym p.0)
       (append_all new (facts ++ f ∷ []) (at + 1) p.1 (All-tail (λ (f : Fact). SFits w64 f.value) f new fit))))
       (views_step appended kind.Full g i w before after f elsewhere there cs small))
@@ -108,18 +105,18 @@ module _ (g : Graph) (i : Instance) (w : IsLawful g i) (cs : List ℕ) where
   -- retracting facts from the direct views of them and others gives those of the others, or is `Extreme`
   retract_all : (withdrawn left : List Fact) (at : ℕ)
       → ((c : ℕ) → Contains cs c → AreSmall i c (total_of_facts i (left ++ withdrawn)))
-      → MatchResult (store_after retracted i (Ok (direct_views i (left ++ withdrawn) cs)) at withdrawn)
+      → MatchResult (store_after_facts retracted i (Ok (direct_views i (left ++ withdrawn) cs)) at withdrawn)
       (λ views. views ≡ direct_views i left cs) (λ fault. fault.kind ≡ kind.Extreme)
   retract_all [] left at small = ap (λ l. direct_views i l cs) (append-nil left)
   retract_all (f ∷ withdrawn) left at small =
       then retracted i (direct_views i (left ++ f ∷ withdrawn) cs) at f withdrawn
       (λ views. views ≡ direct_views i left cs) kind.Extreme
-      (weaker (views_after retracted i (direct_views i (left ++ f ∷ withdrawn) cs) f)
+      (weaker (views_after_fact retracted i (direct_views i (left ++ f ∷ withdrawn) cs) f)
       (λ vs. (vs ≡ direct_views i (left ++ withdrawn) cs)
       × ((c : ℕ) → Contains cs c → AreSmall i c (total_of_facts i (left ++ withdrawn))))
-      (λ views. MatchResult (store_after retracted i (Ok views) (at + 1) withdrawn)
+      (λ views. MatchResult (store_after_facts retracted i (Ok views) (at + 1) withdrawn)
       (λ views. views ≡ direct_views i left cs) (λ fault. fault.kind ≡ kind.Extreme)) (λ k. k ≡ kind.Extreme)
-      (λ vs p. subst (λ ws. MatchResult (store_after retracted i (Ok ws) (at + 1) withdrawn)
+      (λ vs p. subst (λ ws. MatchResult (store_after_facts retracted i (Ok ws) (at + 1) withdrawn)
       (λ views. views ≡ direct_views i left cs) (λ fault. fault.kind ≡ kind.Extreme)) (sym p.0)
       (retract_all withdrawn left (at + 1) p.1))
       (views_step retracted kind.Extreme g i w (total_of_facts i (left ++ f ∷ withdrawn))
@@ -145,17 +142,23 @@ module _ (g : Graph) (i : Instance) (w : IsLawful g i) (cs : List ℕ) where
 -- appending to direct views
 pub append_gives : AppendGivesDirectViews
 append_gives g i cs facts new w fit values =
-    append_all g i w cs new facts 2 (views_small i (total_of_facts i facts) cs fit) values
+    subst (λ (r : Result (List View) (Fault DeltaKind)).
+    MatchResult r (λ views. views ≡ direct_views i (facts ++ new) cs) (λ fault. fault.kind ≡ kind.Full))
+    (sym (store_is appended i (direct_views i facts cs) new))
+    (append_all g i w cs new facts 2 (views_small i (total_of_facts i facts) cs fit) values)
 
 -- retracting from direct views
 pub retract_gives : RetractGivesDirectViews
 retract_gives g i cs facts left withdrawn w fit p =
     let same : direct_views i facts cs ≡ direct_views i (left ++ withdrawn) cs =
     reordered cs in
-    subst (λ views. MatchResult (store_after retracted i (Ok views) 2 withdrawn)
+    subst (λ (r : Result (List View) (Fault DeltaKind)).
+    MatchResult r (λ views. views ≡ direct_views i left cs) (λ fault. fault.kind ≡ kind.Extreme))
+    (sym (store_is retracted i (direct_views i facts cs) withdrawn))
+    (subst (λ views. MatchResult (store_after_facts retracted i (Ok views) 2 withdrawn)
     (λ views. views ≡ direct_views i left cs) (λ fault. fault.kind ≡ kind.Extreme)) (sym same)
     (retract_all g i w cs withdrawn left 2 (views_small i (total_of_facts i (left ++ withdrawn)) cs
-    (subst (All Fits) same fit)))
+    (subst (All Fits) same fit))))
   where
     reordered : (cs : List ℕ) → direct_views i facts cs ≡ direct_views i (left ++ withdrawn) cs
     reordered [] = refl

@@ -1,6 +1,7 @@
 -- Lemmas.
 mod RowLemmas
 mod PermutedLemmas
+mod StoreChangedLemmas
 mod ChangeLemmas
 mod StorableLemmas
 mod LawLemmas

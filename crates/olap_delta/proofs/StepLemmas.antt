@@ -4,7 +4,7 @@
 --     joined_storable, without_storable   what comes of it may be stored
 --     lot_small, lot_storable             a lot of values alone
 --     lot_joined_storable, lot_less_storable   what comes of a lot at a row
-use Rattle.std.proofs.Common.{◌≡◌, ◌≢◌, ◌+◌, ◌-◌, ◌^◌, ◌≤◌, ◌<◌, Bool, true, false, cond, subst, ℤ, pos, negsuc, neg_ℤ, ◌+ℤ◌, ◌-ℤ◌, ◌≤ℤ◌, Option, Some, IfSome, w64, arith}
+use Rattle.std.proofs.Common.{◌≡◌, ◌≢◌, ◌+◌, ◌-◌, ◌≤◌, ◌<◌, Bool, true, false, cond, subst, ℤ, pos, negsuc, neg_ℤ, ◌+ℤ◌, ◌-ℤ◌, ◌≤ℤ◌, Option, Some, IfSome, w64, arith}
 use Rattle.std.specs.Prelude.{int_lt}
 use Rattle.std.specs.Option.{option_map}
 use mir.Val.{SFits}
@@ -12,7 +12,7 @@ use Rattle.std.proofs.lemmas.Bool.Decides.{nat_tests}
 use Rattle.std.proofs.lemmas.Int.{ints}
 use Rattle.olap_base.specs.Limits.{most_count, most_sum}
 use Rattle.olap_base.specs.Summaries.{Summary, joined, of_value}
-use Rattle.olap_view.specs.Bounds.{IsOfValues, IsUpTo}
+use Rattle.olap_view.specs.Bounds.{IsJoinable, IsOfValues}
 use Rattle.olap_view.specs.Seen.{summary_of}
 use Rattle.olap_view.specs.StoredNumbers.{is_sum}
 use Rattle.olap_view.specs.declared.summaries.Summary as told
@@ -26,7 +26,7 @@ pub kept : (there : Option told.Summary) (row : told.Summary) → there ≡ Some
 kept there row e h = subst (λ (o : Option told.Summary). IfSome (option_map summary_of o) IsStorable) e h
 
 -- what may be stored is so small that no sum with it wraps
-pub small : (s : Summary) → IsStorable s → IsUpTo (2 ^ 62) (2 ^ 120) s
+pub small : (s : Summary) → IsStorable s → IsJoinable s
 small s q = let a = (q 0).few in let b = (q 0).sum_from in let c = (q 0).sum_to in record {
   count = omega arith;
   sum_from = omega (arith, ints);
@@ -70,7 +70,7 @@ without_storable s v h e q = λ y. let few = (q y).few in let b = sum_bounds (s.
 -- ---- a lot of values
 
 -- no sum with a lot wraps
-pub lot_small : (s : Summary) → IsOfValues s.count s → s.count ≤ most_count → IsUpTo (2 ^ 62) (2 ^ 120) s
+pub lot_small : (s : Summary) → IsOfValues s.count s → s.count ≤ most_count → IsJoinable s
 lot_small s q h = let a = q.up_to.sum_from in let b = q.up_to.sum_to in record {
   count = omega arith;
   sum_from = omega (arith, ints);

@@ -2,11 +2,17 @@
 --     handed_out                  the facts that it has handed out
 --     IsLive                      it has handed out some facts and is live
 --     live_first, live_more, handed_more   before the first, and one fact more
+--     refused                     what stops it refuses the text
 --     all_taken, lots_of_all      all facts were taken, or joined by member
-use Rattle.std.proofs.Common.{◌≡◌, ◌+◌, ◌<◌, ◌≤◌, ◌∷◌, ◌++◌, [], List, length, true, sym, ap, subst, arith}
+use Rattle.std.proofs.Common.{◌≡◌, ◌+◌, ◌<◌, ◌≤◌, ◌∷◌, ◌++◌, [], List, length, true, sym, ap, subst, ◌∙◌, arith}
 use Rattle.olap_base.specs.Limits.{most_count}
 use Rattle.olap_base.specs.Views.{Fact}
-use Rattle.olap_facts.specs.FactReading.{FactReading, HandsOut, IsAtEnd, all_read, one_more, reading}
+use Rattle.olap_base.specs.Refusing.{IsRefusedBy}
+use Rattle.olap_base.specs.declared.refusals.Fault.{Fault}
+use Rattle.olap_base.specs.declared.refusals.Refusal.{Refusal}
+use Rattle.olap_base.specs.declared.refusals.Refusal.TheVariants as refusal
+use Rattle.olap_facts.specs.FactReading.{FactReading, HandsOut, IsAtEnd, IsStopped, all_read, one_more, reading}
+use Rattle.olap_facts.specs.declared.kinds.FactKind.{FactKind}
 use Rattle.olap_view.proofs.RollingUpLemmas.{ended, facts_more, facts_so_far, few_so_far, reader_more}
 use Rattle.olap_delta.specs.Changing.{Delta}
 use Rattle.olap_delta.specs.Lots.{AreLots, StandFor}
@@ -43,6 +49,12 @@ pub handed_more : (first old new : FactReading) (f : Fact) → IsLive first old 
     → handed_out first new ≡ handed_out first old ++ f ∷ []
 handed_more first old new f h e out =
     facts_more first.graph first.instance first.records first.most old h.is new f e out
+
+-- what stops the reader refuses the text
+pub refused : (first old : FactReading) → IsLive first old → (e : Refusal (Fault FactKind)) → IsStopped old e
+    → IsRefusedBy e (all_read first)
+refused first old h (refusal.Kind f) s = sym (ap all_read h.is) ∙ s.0
+refused first old h (refusal.Memory m) s = tt
 
 module _ (first old : FactReading) (h : IsLive first old) (end : IsAtEnd old) where
   -- the reader at the end of its text

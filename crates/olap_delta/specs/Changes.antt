@@ -3,14 +3,15 @@
 --     view_after            what a fact makes of a view
 --     views_after           what it makes of several, one after another
 --     store_after           what facts make of stored views, one after another, or the first fault
-use Rattle.std.specs.Prelude.{◌==◌, ◌||◌, ◌+◌, ◌-◌, ℕ, ℤ, ◌+ℤ◌, ◌-ℤ◌, int_lt, nat_le, not, List, [], ◌∷◌, filter, filter_map, Option, None, Some, Result, Ok, Err, if◌then◌else◌}
+use Rattle.std.specs.Prelude.{◌==◌, ◌||◌, ◌+◌, ◌-◌, ℕ, ℤ, ◌+ℤ◌, ◌-ℤ◌, int_lt, nat_le, not, List, [], ◌∷◌, filter_map, find, Option, None, Some, Result, Ok, Err, if◌then◌else◌}
 use Rattle.std.specs.Ordering.{int_eq}
 use Rattle.olap_base.specs.Instance.{Instance}
 use Rattle.olap_base.specs.Limits.{most_count}
-use Rattle.olap_base.specs.Naming.{Fault}
+use Rattle.olap_base.specs.declared.refusals.Fault.{Fault}
 use Rattle.olap_base.specs.Reaching.{reaches}
 use Rattle.olap_base.specs.Summaries.{Summary, joined, of_value}
 use Rattle.olap_base.specs.Views.{Fact, View, members_of, row_at}
+use Rattle.olap_records.specs.Tables.{all_read, goes_on}
 use Rattle.olap_view.specs.StoredNumbers.{is_sum}
 use Rattle.olap_view.specs.Stores.{summary_in}
 use Rattle.olap_delta.specs.declared.kinds.DeltaKind.{DeltaKind}
@@ -52,44 +53,27 @@ view_with i v y s = record v {
   rows = filter_map (λ z. row_at z (if z == y then Some s else summary_in v.rows z)) (members_of i v.category);
 }
 
--- the view after the step at the first of some members, if there is one
-abbrev pub view_after_at : Step → Instance → View → ℤ → List ℕ → Result View DeltaKind
-view_after_at step i v value [] = Ok v
-view_after_at step i v value (y ∷ ys) = elim (step (summary_in v.rows y) value) [
-  | Ok s ↦ Ok (view_with i v y s)
-  | Err k ↦ Err k
-]
-
 -- the view after the step at the member of its category that the fact's member reaches, of which there is one at most
 abbrev pub view_after : Step → Instance → View → Fact → Result View DeltaKind
-view_after step i v f =
-    view_after_at step i v f.value (filter (λ y. reaches i f.member y) (members_of i v.category))
+view_after step i v f = elim (find (λ y. reaches i f.member y) (members_of i v.category)) [
+  | None ↦ Ok v
+  | Some y ↦ goes_on (step (summary_in v.rows y) f.value) (λ s. Ok (view_with i v y s))
+]
 
 -- ---- a store
 
--- each view after the fact, in order, or the first fault
-abbrev pub views_after : Step → Instance → List View → Fact → Result (List View) DeltaKind
-views_after step i [] f = Ok []
-views_after step i (v ∷ views) f = elim (view_after step i v f) [
-  | Ok w ↦ elim (views_after step i views f) [ Ok ws ↦ Ok (w ∷ ws) | Err k ↦ Err k ]
-  | Err k ↦ Err k
-]
+-- each view after the fact, in order, or the first fault, with its view's place
+abbrev pub views_after : Step → Instance → List View → Fact → Result (List View) (ℕ × DeltaKind)
+views_after step i views f = all_read (λ before v. view_after step i v f) [] views
 
--- the views after the fact of that record, or the fault that comes of it or came before
-abbrev pub fact_after : Step → Instance → ℕ → Fact → Result (List View) (Fault DeltaKind)
-    → Result (List View) (Fault DeltaKind)
-fact_after step i at f (Err fault) = Err fault
-fact_after step i at f (Ok views) = elim (views_after step i views f) [
-  | Ok changed ↦ Ok changed
-  | Err k ↦ Err (record { at = at; kind = k })
+-- the views after the facts, in order, or the first fault, at its fact's record; the first fact's record is this one
+abbrev pub store_after : Step → Instance → ℕ → List View → List Fact → Result (List View) (Fault DeltaKind)
+store_after step i at views [] = Ok views
+store_after step i at views (f ∷ facts) = elim (views_after step i views f) [
+  | Ok changed ↦ store_after step i (at + 1) changed facts
+  | Err p ↦ Err (record { at = at; kind = p.1 })
 ]
-
--- the views after the facts, in order, or the first fault; the first fact's record is this one
-abbrev pub store_after : Step → Instance → Result (List View) (Fault DeltaKind) → ℕ → List Fact
-    → Result (List View) (Fault DeltaKind)
-store_after step i changed at [] = changed
-store_after step i changed at (f ∷ facts) = store_after step i (fact_after step i at f changed) (at + 1) facts
 
 -- the same of stored views, where a header stands before the first fact
 abbrev pub store_changed : Step → Instance → List View → List Fact → Result (List View) (Fault DeltaKind)
-store_changed step i views facts = store_after step i (Ok views) 2 facts
+store_changed step i views facts = store_after step i 2 views facts

@@ -6,7 +6,7 @@
 --     delta_of      what they are over a table
 use Rattle.std.specs.Prelude.{ℕ, List, IfSome, Option, None, Some, Result, Ok, Err}
 use Rattle.olap_base.specs.Instance.{Instance}
-use Rattle.olap_base.specs.Naming.{Fault}
+use Rattle.olap_base.specs.declared.refusals.Fault.{Fault}
 use Rattle.olap_base.specs.Summaries.{Summary}
 use Rattle.olap_base.specs.Views.{View}
 use Rattle.olap_view.specs.StoreReading.{IsStoredAt}
@@ -39,12 +39,12 @@ pub record Delta : Type 0 where
   pub views : Result (List View) (Fault DeltaKind)
 
 -- the views of a table, but for a fault
-abbrev pub views_or : Option (ℕ × DeltaKind) → List View → Result (List View) (Fault DeltaKind)
+abbrev pub views_or : Option (Fault DeltaKind) → List View → Result (List View) (Fault DeltaKind)
 views_or None views = Ok views
-views_or (Some p) views = Err (record { at = p.0; kind = p.1 })
+views_or (Some fault) views = Err fault
 
 -- what they are over a table
-abbrev pub delta_of : Change → Summarized → ℕ → Option (ℕ × DeltaKind) → Delta
+abbrev pub delta_of : Change → Summarized → ℕ → Option (Fault DeltaKind) → Delta
 delta_of change t taken refused = record {
   change = change;
   instance = t.instance;

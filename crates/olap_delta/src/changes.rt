@@ -1,7 +1,8 @@
 // What a fact's value makes of a row, and what the fact makes of the views of a summary table.
 ghost use Rattle.std.specs.Prelude.{◌≡◌, ◌≢◌, ◌<◌, ℕ, Contains, Err, IfOk, IfSome, MatchResult, Ok, Some, length, slice_index};
 ghost use Rattle.std.specs.Option.{option_map};
-ghost use Rattle.olap_delta.specs.Changes.{appended, retracted, view_after, views_after, without as less_one};
+ghost use Rattle.olap_delta.specs.Changes.{appended, retracted, without as less_one};
+ghost use Rattle.olap_delta.specs.FactByFact.{view_after_fact, views_after_fact};
 ghost use Rattle.olap_delta.specs.Changing.{AreStorable, IsStorable, step_of};
 ghost use Rattle.olap_facts.specs.Seen.{fact_of};
 ghost use Rattle.olap_view.specs.Seen.{summary_of};
@@ -108,9 +109,9 @@ impl Change {
         ensures categories { table.new.categories ≡ table.old.categories }
         ensures storable { AreStorable table.new }
         ensures view { let c = slice_index table.old.categories k in MatchResult result
-            (λ _. view_after (step_of self) table.old.instance (view_at table.old c)
+            (λ _. view_after_fact (step_of self) table.old.instance (view_at table.old c)
             (fact_of fact.now) ≡ Ok (view_at table.new c))
-            (λ e. view_after (step_of self) table.old.instance (view_at table.old c)
+            (λ e. view_after_fact (step_of self) table.old.instance (view_at table.old c)
             (fact_of fact.now) ≡ Err e) }
         ensures others { (c : ℕ) → Contains table.old.categories c
             → c ≢ slice_index table.old.categories k → view_at table.new c ≡ view_at table.old c }
@@ -130,9 +131,9 @@ impl Change {
         ensures categories { table.new.categories ≡ table.old.categories }
         ensures storable { AreStorable table.new }
         ensures views { MatchResult result
-            (λ _. views_after (step_of self) table.old.instance (views_at table.old)
+            (λ _. views_after_fact (step_of self) table.old.instance (views_at table.old)
             (fact_of fact.now) ≡ Ok (views_at table.new))
-            (λ e. views_after (step_of self) table.old.instance (views_at table.old)
+            (λ e. views_after_fact (step_of self) table.old.instance (views_at table.old)
             (fact_of fact.now) ≡ Err e) }
     {
         'categories: for k in 0..table.categories().len() {

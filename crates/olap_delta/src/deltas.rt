@@ -2,17 +2,17 @@
 ghost use Rattle.std.specs.Prelude.{◌≡◌, ◌+◌, ◌<◌, ℕ, All, IfErr, IfOk, List as Items, Ok, length};
 ghost use Rattle.olap_base.specs.Graph.{Graph as TheGraph};
 ghost use Rattle.olap_base.specs.Limits.{most_count};
+ghost use Rattle.olap_base.specs.Refusing.{IsRefusedBy};
 ghost use Rattle.olap_base.specs.Views.{View as TheView};
-ghost use Rattle.olap_delta.specs.Changes.{fact_after};
+ghost use Rattle.olap_delta.specs.FactByFact.{fact_after};
 ghost use Rattle.olap_delta.specs.Changing.{step_of};
-ghost use Rattle.olap_delta.specs.Kinds.{IsDeltaRefusedBy};
 ghost use Rattle.olap_facts.specs.Seen.{fact_of};
 ghost use Rattle.olap_view.specs.Seen.{views_of};
 ghost use Rattle.olap_view.specs.Stores.{Fits, IsInFileOrder, IsSoundStore, IsStore};
 ghost use Rattle.olap_view.specs.SummaryTables.{categories_in};
 
-use crate::{Change, DeltaKind, DeltaRefusal};
-use olap_base::Memory;
+use crate::{Change, DeltaKind};
+use olap_base::{Fault, Memory, Refusal};
 use olap_facts::Fact;
 use olap_legal::Legal;
 use olap_view::{Store, SummaryTable};
@@ -26,8 +26,8 @@ pub struct Delta<'a> {
     table: SummaryTable<'a>,
     // How many facts were taken.
     taken: u64,
-    // The record of the first that was refused, and why.
-    refused: Option<(u64, DeltaKind)>,
+    // The first that was refused: its record, and why.
+    refused: Option<Fault<DeltaKind>>,
 }
 
 impl<'a> Model for Delta<'a> {
@@ -82,24 +82,24 @@ impl<'a> Delta<'a> {
             let at = self.taken + 2;
             self.refused = match self.change.views(&mut self.table, fact) {
                 Ok(()) => None,
-                Err(kind) => Some((at, kind)),
+                Err(kind) => Some(Fault { at, kind }),
             };
         }
         self.taken += 1;
     }
 
     /// The stored views after the facts, or the first fact that was refused. `Memory`: out of memory.
-    pub fn into_store(self) -> Result<Store, DeltaRefusal>
+    pub fn into_store(self) -> Result<Store, Refusal<Fault<DeltaKind>>>
         ensures ok { IfOk result (λ s. self.entry.views ≡ Ok (views_of s)) }
         ensures sound { IfOk result (λ s. (g : TheGraph) (before : Items TheView)
             → self.entry.categories ≡ categories_in before
             → IsSoundStore g self.entry.instance before
             → IsSoundStore g self.entry.instance (views_of s)) }
         ensures order { IfOk result (λ s. All (IsInFileOrder self.entry.instance) (views_of s)) }
-        ensures err { IfErr result (λ e. IsDeltaRefusedBy e self.entry.views) }
+        ensures err { IfErr result (λ e. IsRefusedBy e self.entry.views) }
     {
-        if let Some((at, kind)) = self.refused {
-            return Err(DeltaRefusal::Fault { at, kind });
+        if let Some(fault) = self.refused {
+            return Err(Refusal::Kind(fault));
         }
         Ok(Store {
             views: self.table.views()?,

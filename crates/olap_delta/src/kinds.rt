@@ -1,5 +1,5 @@
-// Why a fact can't be appended or retracted, and refusals.
-use olap_base::Memory;
+// Why a fact can't be appended or retracted, and why stored views can't be changed by a text of facts.
+use olap_facts::FactKind;
 
 /// Why a fact can't be appended to stored views, or retracted from them: the first that holds.
 #[derive(Clone, Copy, Debug, PartialEq, Eq)]
@@ -37,22 +37,26 @@ impl DeltaKind {
     }
 }
 
-/// Why stored views weren't changed.
+/// Why stored views can't be changed by the facts of a text.
 #[derive(Clone, Copy, Debug, PartialEq, Eq)]
-pub enum DeltaRefusal {
-    /// The first fact that is refused, by the number of its record, and why; a header is record 1.
-    Fault { at: u64, kind: DeltaKind },
-    /// Memory ran out.
-    Memory,
+pub enum ChangeKind {
+    /// The text has a fault.
+    Text(FactKind),
+    /// The text stands for facts, and one of them can't be appended or retracted.
+    Fact(DeltaKind),
 }
 
-impl From<Memory> for DeltaRefusal {
+impl ChangeKind {
     ghost use Rattle.std.specs.Prelude.{◌≡◌};
-    ghost use Rattle.olap_delta.specs.declared.kinds.DeltaRefusal.TheVariants as refusal;
+    ghost use Rattle.olap_delta.specs.Kinds.{name_of_change_kind};
 
-    ghost from_gives = { λ _ e. e ≡ refusal.Memory };
-
-    fn from(_: Memory) -> DeltaRefusal {
-        DeltaRefusal::Memory
+    /// Its name, as it is printed.
+    pub fn name(self) -> &'static str
+        ensures { result.now ≡ name_of_change_kind self }
+    {
+        match self {
+            ChangeKind::Text(kind) => kind.name(),
+            ChangeKind::Fact(kind) => kind.name(),
+        }
     }
 }

@@ -17,7 +17,7 @@ mod storing;
 
 pub use changes::Change;
 pub use deltas::Delta;
-pub use kinds::{DeltaKind, DeltaRefusal};
+pub use kinds::{ChangeKind, DeltaKind};
 pub use laws::{append_gives_direct_views, retract_gives_direct_views};
 pub use reading::change_by_text;
 pub use storing::{append, retract};

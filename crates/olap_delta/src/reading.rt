@@ -1,14 +1,19 @@
 // Stored views after the facts of a text came or were withdrawn.
-ghost use Rattle.std.specs.Prelude.{◌≡◌, ◌≤◌, [], All, IfErr, IfOk, IsTrue, OnOk, length};
+ghost use Rattle.std.specs.Prelude.{◌≡◌, ◌≤◌, [], All, IfErr, IfOk, IsTrue, List as Items, Ok, OnOk, Result as Answer, length};
 ghost use Rattle.olap_base.specs.Graph.{Graph as TheGraph};
+ghost use Rattle.olap_base.specs.Instance.{Instance as TheInstance};
 ghost use Rattle.olap_base.specs.Limits.{most_count};
+ghost use Rattle.olap_base.specs.Refusing.{IsRefusedBy};
+ghost use Rattle.olap_base.specs.Views.{Fact as TheFact, View as TheView};
+ghost use Rattle.olap_base.specs.declared.refusals.Fault.{Fault as TheFault};
+ghost use Rattle.olap_delta.specs.Changes.{Step, store_changed};
 ghost use Rattle.olap_delta.specs.Changing.{step_of};
 ghost use Rattle.olap_delta.specs.Lots.{AreLots, StandFor};
-ghost use Rattle.olap_delta.specs.Reading.{IsChangedBy};
+ghost use Rattle.olap_delta.specs.Reading.{views_changed};
 ghost use Rattle.olap_delta.specs.Taking.{AreAllTaken, AreLotsOf, IsStoreAfterAll};
 ghost use Rattle.olap_facts.specs.FactReading.{all_read};
 ghost use Rattle.olap_facts.specs.FactText.{facts_read};
-ghost use Rattle.olap_facts.specs.Refusals.{IsRefusedBy};
+ghost use Rattle.olap_facts.specs.declared.kinds.FactKind.{FactKind as TheFactKind};
 ghost use Rattle.olap_instance.specs.Made.{IsMadeFor};
 ghost use Rattle.olap_records.specs.Records.{records_of};
 ghost use Rattle.olap_view.specs.Seen.{views_of};
@@ -16,16 +21,46 @@ ghost use Rattle.olap_view.specs.Stores.{Fits, IsInFileOrder, IsSoundStore, IsSt
 
 use crate::joining::joined;
 use crate::lots::Lots;
-use crate::{Change, Delta, DeltaRefusal};
-use olap_base::MOST_LISTED_FACTS;
-use olap_facts::{FactReader, FactRefusal};
+use crate::{Change, ChangeKind, Delta, DeltaKind};
+use olap_base::{Fault, MOST_LISTED_FACTS, Refusal};
+use olap_facts::{FactKind, FactReader};
 use olap_graph::Graph;
 use olap_legal::Legal;
 use olap_view::Store;
 use std::alloc::Global;
 
+/// The refusal of a text of facts as one of a change by it.
+fn of_text(refusal: Refusal<Fault<FactKind>>) -> Refusal<Fault<ChangeKind>>
+    ensures { (step : Step) (i : TheInstance) (views : Items TheView)
+        (read : Answer (Items TheFact) (TheFault TheFactKind))
+        → IsRefusedBy refusal read → IsRefusedBy result (views_changed step i views read) }
+{
+    match refusal {
+        Refusal::Kind(fault) => Refusal::Kind(Fault {
+            at: fault.at,
+            kind: ChangeKind::Text(fault.kind),
+        }),
+        Refusal::Memory(memory) => Refusal::Memory(memory),
+    }
+}
+
+/// The refusal of a fact as one of a change by a text that stands for it.
+fn of_fact(refusal: Refusal<Fault<DeltaKind>>) -> Refusal<Fault<ChangeKind>>
+    ensures { (step : Step) (i : TheInstance) (views : Items TheView) (facts : Items TheFact)
+        → IsRefusedBy refusal (store_changed step i views facts)
+        → IsRefusedBy result (views_changed step i views (Ok facts)) }
+{
+    match refusal {
+        Refusal::Kind(fault) => Refusal::Kind(Fault {
+            at: fault.at,
+            kind: ChangeKind::Fact(fault.kind),
+        }),
+        Refusal::Memory(memory) => Refusal::Memory(memory),
+    }
+}
+
 /// Takes a reader's facts one after another, or stops at its text's first fault.
-fn take_each(reader: &mut FactReader, delta: &mut Delta) -> Result<(), FactRefusal>
+fn take_each(reader: &mut FactReader, delta: &mut Delta) -> Result<(), Refusal<Fault<FactKind>>>
     requires live { IsTrue reader.old.live }
     requires first { reader.old.handed ≡ 0 }
     requires few { reader.old.most ≤ most_count }
@@ -47,7 +82,7 @@ fn take_text(
     legal: &Legal,
     text: &[u8],
     delta: &mut Delta,
-) -> Result<(), FactRefusal>
+) -> Result<(), Refusal<Fault<FactKind>>>
     requires made { IsMadeFor graph.now legal.now }
     requires none { delta.old.taken ≡ 0 }
     requires instance { delta.old.instance ≡ legal.now }
@@ -68,23 +103,26 @@ fn one_by_one(
     legal: &Legal,
     store: &Store,
     text: &[u8],
-) -> Result<Result<Store, DeltaRefusal>, FactRefusal>
+) -> Result<Store, Refusal<Fault<ChangeKind>>>
     requires made { IsMadeFor graph.now legal.now }
     requires store { IsStore (views_of store.now) }
     requires fit { All Fits (views_of store.now) }
     requires order { All (IsInFileOrder legal.now) (views_of store.now) }
-    ensures after { IfOk result (IsStoreAfterAll change legal.now (views_of store.now)
-        (facts_read graph.now legal.now (records_of text.now))) }
-    ensures err { IfErr result
-        (λ e. IsRefusedBy e (facts_read graph.now legal.now (records_of text.now))) }
+    ensures { IsStoreAfterAll change legal.now (views_of store.now)
+        (facts_read graph.now legal.now (records_of text.now)) result }
 {
     let mut delta = Delta::new(alloc, change, legal, store)?;
-    take_text(alloc, graph, legal, text, &mut delta)?;
-    Ok(delta.into_store())
+    if let Err(refusal) = take_text(alloc, graph, legal, text, &mut delta) {
+        return Err(of_text(refusal));
+    }
+    match delta.into_store() {
+        Ok(store) => Ok(store),
+        Err(refusal) => Err(of_fact(refusal)),
+    }
 }
 
 /// Joins a reader's facts by member, or stops at its text's first fault.
-fn join_each(reader: &mut FactReader, lots: &mut Lots) -> Result<(), FactRefusal>
+fn join_each(reader: &mut FactReader, lots: &mut Lots) -> Result<(), Refusal<Fault<FactKind>>>
     requires live { IsTrue reader.old.live }
     requires first { reader.old.handed ≡ 0 }
     requires few { reader.old.most ≤ most_count }
@@ -107,7 +145,7 @@ fn join_text(
     legal: &Legal,
     text: &[u8],
     lots: &mut Lots,
-) -> Result<(), FactRefusal>
+) -> Result<(), Refusal<Fault<FactKind>>>
     requires made { IsMadeFor graph.now legal.now }
     requires places { length lots.old.places.items ≡ length legal.now }
     requires lots { AreLots lots.old }
@@ -122,7 +160,8 @@ fn join_text(
 }
 
 /// The stored views after the change by the facts of a text of at most `MOST_LISTED_FACTS`, or the first fact that is
-/// refused, as `append` and `retract` give them; or the text's first fault, which comes before any refusal of a fact.
+/// refused (`Fact`), as `append` and `retract` give them; or the text's first fault (`Text`), which comes before any
+/// refusal of a fact.
 ///
 /// Each fact is read once and joined to those of its member, and no list of facts is kept. Where a fact might be
 /// refused, the text is read once more. `Memory`: out of memory.
@@ -133,25 +172,28 @@ pub fn change_by_text(
     legal: &Legal,
     store: &Store,
     text: &[u8],
-) -> Result<Result<Store, DeltaRefusal>, FactRefusal>
+) -> Result<Store, Refusal<Fault<ChangeKind>>>
     requires made { IsMadeFor graph.now legal.now }
     requires store { IsStore (views_of store.now) }
     requires fit { All Fits (views_of store.now) }
     requires order { All (IsInFileOrder legal.now) (views_of store.now) }
 
-    ensures changed { IfOk result (λ r. IsChangedBy (step_of change) graph.now legal.now
-        (records_of text.now) (views_of store.now) r) }
-    ensures sound { IfOk result (λ r. IfOk r (λ s. (g : TheGraph)
-        → IsSoundStore g legal.now (views_of store.now) → IsSoundStore g legal.now (views_of s))) }
-    ensures order { IfOk result (λ r. IfOk r (λ s. All (IsInFileOrder legal.now) (views_of s))) }
+    ensures ok { IfOk result (λ s.
+        views_changed (step_of change) legal.now (views_of store.now)
+        (facts_read graph.now legal.now (records_of text.now)) ≡ Ok (views_of s)) }
+    ensures sound { IfOk result (λ s. (g : TheGraph) → IsSoundStore g legal.now (views_of store.now)
+        → IsSoundStore g legal.now (views_of s)) }
+    ensures order { IfOk result (λ s. All (IsInFileOrder legal.now) (views_of s)) }
 
-    ensures err { IfErr result
-        (λ e. IsRefusedBy e (facts_read graph.now legal.now (records_of text.now))) }
+    ensures err { IfErr result (λ e. IsRefusedBy e (views_changed (step_of change) legal.now
+        (views_of store.now) (facts_read graph.now legal.now (records_of text.now)))) }
 {
     let mut lots = Lots::new(alloc, legal.instance().members())?;
-    join_text(alloc, graph, legal, text, &mut lots)?;
+    if let Err(refusal) = join_text(alloc, graph, legal, text, &mut lots) {
+        return Err(of_text(refusal));
+    }
     match joined(alloc, change, legal, store, lots)? {
-        Some(store) => Ok(Ok(store)),
+        Some(store) => Ok(store),
         None => one_by_one(alloc, change, graph, legal, store, text),
     }
 }

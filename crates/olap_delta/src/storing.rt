@@ -2,8 +2,8 @@
 ghost use Rattle.std.specs.Prelude.{◌≡◌, ◌<◌, ◌≤◌, All, IfErr, IfOk, Ok, length};
 ghost use Rattle.olap_base.specs.Graph.{Graph as TheGraph};
 ghost use Rattle.olap_base.specs.Limits.{most_count};
+ghost use Rattle.olap_base.specs.Refusing.{IsRefusedBy};
 ghost use Rattle.olap_delta.specs.Changes.{appended, retracted, store_changed};
-ghost use Rattle.olap_delta.specs.Kinds.{IsDeltaRefusedBy};
 ghost use Rattle.olap_delta.specs.Taking.{IsStoreAfter};
 ghost use Rattle.olap_facts.specs.Seen.{facts_of};
 ghost use Rattle.olap_view.specs.Seen.{views_of};
@@ -11,7 +11,8 @@ ghost use Rattle.olap_view.specs.Stores.{Fits, IsInFileOrder, IsSoundStore, IsSt
 
 use crate::joining::joined;
 use crate::lots::Lots;
-use crate::{Change, Delta, DeltaRefusal};
+use crate::{Change, Delta, DeltaKind};
+use olap_base::{Fault, Refusal};
 use olap_facts::Facts;
 use olap_legal::Legal;
 use olap_view::Store;
@@ -24,7 +25,7 @@ fn one_by_one(
     legal: &Legal,
     store: &Store,
     facts: &Facts,
-) -> Result<Store, DeltaRefusal>
+) -> Result<Store, Refusal<Fault<DeltaKind>>>
     requires store { IsStore (views_of store.now) }
     requires fit { All Fits (views_of store.now) }
     requires order { All (IsInFileOrder legal.now) (views_of store.now) }
@@ -46,7 +47,7 @@ fn changed(
     legal: &Legal,
     store: &Store,
     facts: &Facts,
-) -> Result<Store, DeltaRefusal>
+) -> Result<Store, Refusal<Fault<DeltaKind>>>
     requires store { IsStore (views_of store.now) }
     requires fit { All Fits (views_of store.now) }
     requires order { All (IsInFileOrder legal.now) (views_of store.now) }
@@ -79,7 +80,7 @@ pub fn append(
     legal: &Legal,
     store: &Store,
     facts: &Facts,
-) -> Result<Store, DeltaRefusal>
+) -> Result<Store, Refusal<Fault<DeltaKind>>>
     requires store { IsStore (views_of store.now) }
     requires fit { All Fits (views_of store.now) }
     requires order { All (IsInFileOrder legal.now) (views_of store.now) }
@@ -93,7 +94,7 @@ pub fn append(
         → IsSoundStore g legal.now (views_of s)) }
     ensures order { IfOk result (λ s. All (IsInFileOrder legal.now) (views_of s)) }
 
-    ensures err { IfErr result (λ e. IsDeltaRefusedBy e
+    ensures err { IfErr result (λ e. IsRefusedBy e
         (store_changed appended legal.now (views_of store.now) (facts_of facts.now))) }
 {
     changed(alloc, Change::Append, legal, store, facts)
@@ -114,7 +115,7 @@ pub fn retract(
     legal: &Legal,
     store: &Store,
     facts: &Facts,
-) -> Result<Store, DeltaRefusal>
+) -> Result<Store, Refusal<Fault<DeltaKind>>>
     requires store { IsStore (views_of store.now) }
     requires fit { All Fits (views_of store.now) }
     requires order { All (IsInFileOrder legal.now) (views_of store.now) }
@@ -128,7 +129,7 @@ pub fn retract(
         → IsSoundStore g legal.now (views_of s)) }
     ensures order { IfOk result (λ s. All (IsInFileOrder legal.now) (views_of s)) }
 
-    ensures err { IfErr result (λ e. IsDeltaRefusedBy e
+    ensures err { IfErr result (λ e. IsRefusedBy e
         (store_changed retracted legal.now (views_of store.now) (facts_of facts.now))) }
 {
     changed(alloc, Change::Retract, legal, store, facts)

@@ -6,12 +6,13 @@ use Rattle.olap_base.specs.Views.{View}
 use Rattle.olap_view.specs.Seen.{views_of}
 use Rattle.olap_view.specs.Stores.{IsInFileOrder, IsSoundStore}
 use Rattle.olap_view.specs.SummaryTables.{views_at}
-use Rattle.olap_delta.specs.Changes.{store_changed}
+use Rattle.olap_delta.specs.FactByFact.{facts_changed}
 use Rattle.olap_delta.specs.Changing.{step_of}
 use Rattle.olap_delta.specs.Joining.{AreJoined}
 use Rattle.olap_delta.specs.Lots.{StandFor}
 use Rattle.olap_delta.specs.declared.lots.Lot.{Lot}
 use Rattle.olap_delta.proofs.JoinedTableLemmas.{table_changed}
+use Rattle.olap_delta.proofs.StoreChangedLemmas.{store_is}
 use Rattle.olap_delta.proofs.StorableLemmas.{table_order, table_sound, table_storable}
 use Rattle.olap_delta.proofs.joining.joined.Goals as goal
 
@@ -31,8 +32,9 @@ returns-then-join_all c = λ facts s.
     let i : new.instance ≡ legal = j.instance ∙ e.instance in
     let is = sym c.in_ok-views.ensures.views in
     record {
-      ok = ap (λ (n : Instance). store_changed (step_of by) n stored facts) (sym e.instance)
-          ∙ ap (λ (vs : List View). store_changed (step_of by) old.instance vs facts) (sym e.views)
+      ok = store_is (step_of by) legal stored facts
+          ∙ ap (λ (n : Instance). facts_changed (step_of by) n stored facts) (sym e.instance)
+          ∙ ap (λ (vs : List View). facts_changed (step_of by) old.instance vs facts) (sym e.views)
           ∙ table_changed by facts c.args.lots old new j.instance j.categories
           (subst (λ (n : Instance). StandFor n facts c.args.lots) (sym e.instance) s)
           (subst (λ (ls : List Lot). AreJoined by ls old new) c.deref.ensures.value (j.joined c.if-join_all.true))

@@ -1,12 +1,13 @@
--- One fact more, and all of them.
+-- One fact more, and all of them, or what stops the reader.
 use Rattle.std.proofs.Common.{List, length, ap, sym, subst, arith}
+use Rattle.std.proofs.lemmas.Result.{err_from_is_err_and}
 use Rattle.olap_base.specs.Views.{Fact}
 use Rattle.olap_facts.specs.FactReading.{FactReading}
 use Rattle.olap_facts.specs.Seen.{fact_of}
 use Rattle.olap_view.proofs.RollingUpLemmas.{facts_so_far, few_so_far}
 use Rattle.olap_delta.specs.Taking.{AreTaken}
 use Rattle.olap_delta.proofs.DeltaLemmas.{are_taken_more, are_taken_none}
-use Rattle.olap_delta.proofs.TakingLemmas.{all_taken, handed_more, handed_out, live_first, live_more}
+use Rattle.olap_delta.proofs.TakingLemmas.{all_taken, handed_more, handed_out, live_first, live_more, refused}
 use Rattle.olap_delta.proofs.reading.take_each.Goals as goal
 
 pub facts-init : goal.facts-init
@@ -57,3 +58,9 @@ returns-clause-taken c =
     let end = rw c.in_default.is at c.in_ok-fact.ensures.reads in
     all_taken c.args.reader.now c.facts.reader c.facts.invariant.reader end.0 c.args.delta.now c.facts.delta
     c.facts.invariant.taken
+
+pub returns-in_err-fact-clause-err : goal.returns-in_err-fact-clause-err
+returns-in_err-fact-clause-err c =
+    let p = err_from_is_err_and c.from_residual.result c.from_residual.ensures.1 in
+    rw (p.1, p.2) (refused c.args.reader.now c.facts.reader c.facts.invariant.reader c.in_err-fact.field-0.0
+    c.in_err-fact.ensures.reads.0)

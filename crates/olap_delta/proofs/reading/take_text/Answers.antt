@@ -3,8 +3,8 @@ use Rattle.std.proofs.Common.{true, ap, subst, sym, ◌∙◌}
 use Rattle.std.specs.Prelude.{IfErr, OnOk}
 use Rattle.olap_base.specs.Instance.{Instance}
 use Rattle.olap_base.specs.Limits.{most_listed_facts}
+use Rattle.olap_base.specs.Refusing.{IsRefusedBy}
 use Rattle.olap_facts.specs.FactReading.{FactReading, all_read, reading}
-use Rattle.olap_facts.specs.Refusals.{IsRefusedBy}
 use Rattle.olap_records.specs.Records.{records_of}
 use Rattle.olap_delta.specs.Taking.{AreAllTaken}
 use Rattle.olap_delta.proofs.reading.take_text.Goals as goal
