@@ -1,9 +1,7 @@
 -- The truth of a formula at a member of an instance can be decided.
-use Rattle.std.proofs.Common.{◌≡◌, ◌∙◌, ℕ, ℤ, List, [], ◌∷◌, length, Option, Some, None, refl, sym, subst, inl, inr, arith}
-use Rattle.std.proofs.Math.IntN.{ℤ_discrete}
-use Rattle.std.proofs.lemmas.Int.{ints, by_lt_z}
-use Rattle.olap_numerals.specs.Comparing.{Op, Op.Equal, Op.Less, Op.AtMost, Compares}
-use Rattle.olap_numerals.specs.Numerals.{number_of}
+use Rattle.std.proofs.Common.{◌≡◌, ◌∙◌, ℕ, ℤ, List, [], ◌∷◌, length, true, refl, sym, subst, inl, inr, arith}
+use Rattle.std.proofs.Math.Bool.{Bool-discrete}
+use Rattle.olap_numerals.specs.Comparing.{Op, is_numbered}
 use Rattle.std.specs.Prelude.{Contains}
 use Rattle.std.specs.List.{range_with_len}
 use native.Mathlib.Decide.{ℕ_discrete}
@@ -61,23 +59,9 @@ dec_named i x d text = dec_iff (λ t. (t.0, t.1, t.2.0, t.2.1)) (λ t. (t.0, t.1
     (dec_member i d (λ y. Reaches i x y × (name_of i y ≡ text))
     (λ y. dec_and (decide_reaches i x y) (List-discrete ℕ_discrete (name_of i y) text)))
 
--- whether a compares so with b
-dec_compares : (op : Op) (a b : ℤ) → Dec (Compares op a b)
-dec_compares Equal a b = ℤ_discrete a b
-dec_compares Less a b = by_lt_z a b (λ l. yes l) (λ g. no (λ l. omega (arith, ints)))
-dec_compares AtMost a b = by_lt_z b a (λ l. no (λ g. omega (arith, ints))) (λ g. yes g)
-
 -- whether the name is a numeral that compares so with n
 pub dec_number : (name : List ℕ) (op : Op) (n : ℤ) → Dec (IsNumbered name op n)
-dec_number name op n = go (number_of name) refl
-  where
-    other : (a b : ℤ) → ◌≡◌ {A = Option ℤ} (Some a) (Some b) → a ≡ b
-    other a b e = cc
-
-    go : (o : Option ℤ) → number_of name ≡ o → Dec (IsNumbered name op n)
-    go None e = no (λ t. let z : ◌≡◌ {A = Option ℤ} None (Some t.0) = sym e ∙ t.1 in cc)
-    go (Some a) e = dec_iff (λ c. (a, e, c)) (λ t. subst (λ b. Compares op b n) (other t.0 a (sym t.1 ∙ e)) t.2)
-        (dec_compares op a n)
+dec_number name op n = Bool-discrete (is_numbered name op n) true
 
 -- whether x reaches a member of which that is so
 dec_numbered : (i : Instance) (x d : ℕ) (op : Op) (n : ℤ) → Dec (ReachesNumbered i x d op n)

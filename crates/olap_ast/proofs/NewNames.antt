@@ -3,9 +3,10 @@ use Rattle.std.proofs.Common.{◌≡◌, ◌∙◌, ◌↔◌, ℕ, ℤ, pos, Li
 use Rattle.std.specs.Prelude.{◌==◌, ◌≢◌, IsSome, IsTrue, unwrap_or}
 use Rattle.std.proofs.lemmas.Bool.Decides.{nat_tests}
 use Rattle.olap_base.specs.Graph.{is_number}
-use Rattle.olap_numerals.specs.Comparing.{Op, Compares}
+use Rattle.olap_numerals.specs.Comparing.{Op}
 use Rattle.olap_numerals.specs.Numerals.{canonical, number_of}
 use Rattle.olap_numerals.specs.Representatives.{IsNumberName, representative}
+use Rattle.olap_numerals.proofs.ComparingLemmas.{of_number}
 use Rattle.olap_numerals.proofs.NumeralLemmas.{numbers_read_back, spelled_small}
 use Rattle.olap_numerals.proofs.RepresentativeLemmas.{representatives_answer_alike}
 use Rattle.olap_ast.specs.Formula.{Formula, IsNumbered}
@@ -19,15 +20,6 @@ spelled name h = go (number_of name) refl h
     go : (o : Option ℤ) → number_of name ≡ o → IsSome o → (a : ℤ) × (number_of name ≡ Some a)
     go None e h = absurd (cc)
     go (Some a) e h = (a, e)
-
--- a numeral spells one number
-one_number : (a b : ℤ) → ◌≡◌ {A = Option ℤ} (Some a) (Some b) → a ≡ b
-one_number a b e = cc
-
--- a numeral compares as its number does
-numbered_is : (name : List ℕ) (a n : ℤ) (op : Op) → number_of name ≡ Some a → IsNumbered name op n ↔ Compares op a n
-numbered_is name a n op e =
-    (λ t. subst (λ b. Compares op b n) (one_number t.0 a (sym t.1 ∙ e)) t.2, λ c. (a, e, c))
 
 module _ (s : Schema) (q : Formula) (fresh : List ℕ) (kinds : HasKinds s q) (free : (d : ℕ) → IsConstant s q d fresh
     → ⊥) (d : ℕ) where
@@ -59,11 +51,11 @@ module _ (s : Schema) (q : Formula) (fresh : List ℕ) (kinds : HasKinds s q) (f
       → IsNumberConstant s q d n → IsNumbered (new_numeral s q d name) op n ↔ IsNumbered name op n
   unfolding new_number
   numeral_answers name a e op n c =
-      let x = numbered_is (new_numeral s q d name) (new_number a) n op (numeral_spells name a e) in
-      let y = numbered_is name a n op e in
-      let r = (representatives_answer_alike (numbers s q d) a (λ n c. (kinds.numbers d n c).1)
+      let alike = (representatives_answer_alike (numbers s q d) a (λ n c. (kinds.numbers d n c).1)
       (spelled_small name a e)).1 op n c in
-      (λ t. y.1 (r.0 (x.0 t)), λ t. x.1 (r.1 (y.0 t)))
+      let same = of_number (new_numeral s q d name) op n (new_number a) (numeral_spells name a e) ∙ alike
+      ∙ sym (of_number name op n a e) in
+      (λ t. sym same ∙ t, λ t. same ∙ t)
 
   -- ---- the new name
 

@@ -8,7 +8,7 @@
 --     value_of_both    the same of a connective of two
 --     value_of_one     the same of `one(..)`, by two numbers
 --     ValuesAgree      these functions are what is agreed
-use Rattle.std.specs.Prelude.{◌≡◌, ◌↔◌, ◌&&◌, ◌||◌, ◌-◌, ◌^◌, ℕ, zero, suc, List, [], ◌∷◌, Bool, true, false, not, min, if◌then◌else◌}
+use Rattle.std.specs.Prelude.{◌≡◌, ◌↔◌, ◌&&◌, ◌||◌, ◌-◌, ◌^◌, ℕ, zero, suc, List, [], ◌∷◌, Bool, true, false, not, min, filter, length, if◌then◌else◌}
 use Rattle.olap_ast.specs.declared.three_values.Truth3.{Truth3}
 use Rattle.olap_ast.specs.declared.three_values.Truth3.TheVariants.{No, Yes, Unknown}
 
@@ -76,12 +76,8 @@ known true = Yes
 -- what two values agree on, else Unknown
 abbrev pub common : Truth3 → Truth3 → Truth3
 common No No = No
-common No Yes = Unknown
-common No Unknown = Unknown
-common Yes No = Unknown
 common Yes Yes = Yes
-common Yes Unknown = Unknown
-common Unknown y = Unknown
+common x y = Unknown
 
 -- what is common to all that a value may turn out to be
 abbrev pub over : Truth3 → (Bool → Truth3) → Truth3
@@ -97,27 +93,30 @@ value_of f x = over x (λ p. known (f p))
 abbrev pub value_of_both : (Bool → Bool → Bool) → Truth3 → Truth3 → Truth3
 value_of_both f x y = over x (λ p. over y (λ q. known (f p q)))
 
+-- whether it is true
+abbrev pub is_yes : Truth3 → Bool
+is_yes Yes = true
+is_yes x = false
+
+-- whether it is unknown
+abbrev pub is_unknown : Truth3 → Bool
+is_unknown Unknown = true
+is_unknown x = false
+
 -- how many are true
 abbrev pub yes_count : List Truth3 → ℕ
-yes_count [] = 0
-yes_count (No ∷ xs) = yes_count xs
-yes_count (Yes ∷ xs) = suc (yes_count xs)
-yes_count (Unknown ∷ xs) = yes_count xs
+yes_count xs = length (filter is_yes xs)
 
 -- how many are unknown
 abbrev pub unknown_count : List Truth3 → ℕ
-unknown_count [] = 0
-unknown_count (No ∷ xs) = unknown_count xs
-unknown_count (Yes ∷ xs) = unknown_count xs
-unknown_count (Unknown ∷ xs) = suc (unknown_count xs)
+unknown_count xs = length (filter is_unknown xs)
 
 -- whether exactly one is true, if so many are true and so many unknown
 abbrev pub value_of_counts : ℕ → ℕ → Truth3
 value_of_counts zero zero = No
 value_of_counts (suc zero) zero = Yes
-value_of_counts zero (suc u) = Unknown
-value_of_counts (suc zero) (suc u) = Unknown
 value_of_counts (suc (suc y)) u = No
+value_of_counts y u = Unknown
 
 -- the value of `one(..)`
 abbrev pub value_of_one : List Truth3 → Truth3

@@ -1,9 +1,10 @@
 // Formulas about one member, as the program keeps them.
-ghost use Rattle.std.specs.Prelude.{◌↔◌, IsTrue};
-ghost use Rattle.olap_numerals.specs.Comparing.{Compares};
+ghost use Rattle.std.specs.Prelude.{◌≡◌};
+ghost use Rattle.olap_numerals.specs.Comparing.{compares, is_numbered};
 ghost use Rattle.olap_ast.specs.Trees.{op_of};
 
 use olap_base::{CatId, List, Text};
+use olap_numerals::number;
 
 /// How two numbers are compared.
 #[derive(Clone, Copy, PartialEq, Eq, PartialOrd, Ord)]
@@ -19,12 +20,22 @@ pub enum Op {
 impl Op {
     /// Whether the comparison holds of the two.
     pub fn test(self, a: i64, b: i64) -> bool
-        ensures { IsTrue result ↔ Compares (op_of self) a b }
+        ensures { result ≡ compares (op_of self) a b }
     {
         match self {
             Op::Equal => a == b,
             Op::Less => a < b,
             Op::AtMost => a <= b,
+        }
+    }
+
+    /// Whether the text is a numeral, and the comparison holds of its number and this one.
+    pub fn passes(self, text: &[u8], n: i64) -> bool
+        ensures { result ≡ is_numbered text.now (op_of self) n }
+    {
+        match number(text) {
+            Some(a) => self.test(a, n),
+            None => false,
         }
     }
 }

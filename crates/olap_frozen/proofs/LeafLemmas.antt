@@ -12,7 +12,7 @@ use Rattle.olap_base.specs.Steps.{Steps-append}
 use Rattle.olap_base.specs.Deciding.{contains_cons}
 use Rattle.olap_base.proofs.ListLemmas.{contains_head}
 use Rattle.olap_ast.specs.Formula.{Formula, IsNumbered}
-use Rattle.olap_numerals.specs.Comparing.{Compares, Op}
+use Rattle.olap_numerals.specs.Comparing.{Op}
 use Rattle.olap_numerals.specs.Numerals.{number_of}
 use Rattle.olap_numerals.proofs.NameLemmas.{name_is_one}
 use Rattle.olap_ast.specs.Schema.{Constraint, Schema}
@@ -128,24 +128,6 @@ module _ {W : ℕ} (g : Graph) (k : Named) (r : ℕ) (bits : List Bool) (names :
         λ t. (p, subst (λ w. IsNumbered w op n) (sym e) (i.0 t)),
         λ t. i.1 (subst (λ w. IsNumbered w op n) e t.1),
       )
-
--- the number that a text spells, compared
-pub numbered : (text : List ℕ) (op : Op) (n a : ℤ) (b : Bool) → number_of text ≡ Some a
-    → IsTrue b ↔ Compares op a n → IsTrue b ↔ IsNumbered text op n
-numbered text op n a b e t = (
-  λ h. (a, e, t.0 h),
-  λ h. t.1 (subst (λ w. Compares op w n) (the_same (sym h.1 ∙ e)) h.2),
-)
-  where
-    the_same : {x y : ℤ} → Some x ≡ Some y → x ≡ y
-    the_same e = cc
-
--- a text that is no numeral has none
-pub not_numbered : (text : List ℕ) (op : Op) (n : ℤ) → number_of text ≡ None → IsTrue false ↔ IsNumbered text op n
-not_numbered text op n e = (λ h. absurd (cc), λ h. absurd (none (sym e ∙ h.1)))
-  where
-    none : {x : ℤ} → None ≡ Some x → ⊥
-    none e = cc
 
 -- an absent category has nothing
 pub absent_there : {A : Type 0} (b : Bool) → b ≡ false → (A → b ≡ true) → IsTrue false ↔ A

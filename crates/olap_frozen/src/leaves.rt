@@ -13,7 +13,6 @@ use olap_base::{CatId, Text};
 use olap_eval::{Shape, holds};
 use olap_graph::{Categories, Graph, row_has};
 use olap_names::Candidates;
-use olap_numerals::number;
 
 /// A sound choice of edges with its names.
 #[derive(Clone, Copy)]
@@ -85,10 +84,7 @@ impl<'a> Shape for Leaf<'a> {
             return false;
         }
         let index = self.names[usize::from(c.0)];
-        match number(self.candidates.name(c, index).bytes()) {
-            Some(a) => op.test(a, n),
-            None => false,
-        }
+        op.passes(self.candidates.name(c, index).bytes(), n)
     }
 
     ghost shape = { λ s. s.is_shape };

@@ -1,5 +1,5 @@
 -- Numbers of a few decimal digits, read one after another.
-use Rattle.std.proofs.Common.{◌≡◌, ◌<◌, ◌≤◌, ◌+◌, ◌-◌, ◌*◌, ◌^◌, ℕ, zero, suc, pos, neg_ℤ, ◌-ℤ◌, Bool, true, false, cond, List, [], get_or, length, take, Some, refl, ap, sym, subst, ◌∙◌, arith}
+use Rattle.std.proofs.Common.{◌≡◌, ◌<◌, ◌≤◌, ◌+◌, ◌-◌, ◌*◌, ◌^◌, ℕ, zero, suc, pos, negsuc, neg_ℤ, ◌-ℤ◌, Bool, true, false, cond, List, [], get_or, length, take, Some, refl, ap, sym, subst, ◌∙◌, arith}
 use Rattle.std.proofs.Math.IntN.{+ℤ_idl}
 use Rattle.std.proofs.Math.Nat.{pow-le-pow_right, pow-suc}
 use native.Mathlib.Decide.{ℕ_discrete}
@@ -13,8 +13,8 @@ use Rattle.std.proofs.lemmas.Int.{to_z-of_z, to_z_pos}
 use Rattle.std.proofs.lemmas.Int.Digits.{digits_value_more}
 use Rattle.std.proofs.lemmas.Str.{digit_value_digit}
 use Rattle.std.proofs.lemmas.Str.Parse.{numerals_by_value, tells_all_ascii_digits, tells_by_index}
-use Rattle.olap_numerals.specs.Values.{is_i64, value_of}
-use Rattle.olap_numerals.proofs.Spelling.{i64-decides, numeral-decides}
+use Rattle.olap_numerals.specs.Values.{value_of}
+use Rattle.olap_numerals.proofs.Spelling.{i64-decides, is_i64, numeral-decides}
 
 -- a byte that is a digit lies among the digits
 pub digit-within : (b : ℕ) → is_ascii_digit b ≡ true → IsInRange 48 57 b
@@ -64,9 +64,11 @@ numeral-of ds h all = (h, (numerals_by_value _ tells_by_index).to ds all)
 
 -- less than 10 ^ 18 fits, whatever the sign
 pub fits-signed : (n : ℕ) (b : Bool) → n < 10 ^ 18 → is_i64 (cond b (neg_ℤ (pos n)) (pos n)) ≡ true
-fits-signed n false s = grind (arith, nat_tests)
-fits-signed zero true s = refl
-fits-signed (suc n) true s = grind (arith, nat_tests)
+fits-signed n false s =
+    let l : n < 2 ^ 63 = omega arith in (i64-decides (pos n)).1 (record { sfits = l })
+fits-signed zero true s = (i64-decides (pos 0)).1 (record { sfits = omega arith })
+fits-signed (suc n) true s =
+    let l : n < 2 ^ 63 = omega arith in (i64-decides (negsuc n)).1 (record { sfits = l })
 
 -- the number that a text spells is that of its digits, with its sign
 pub value-signed : (bs : List ℕ) (n : ℕ) → IsNumeral 10 (without_leading_sign bs)

@@ -7,4 +7,5 @@ pub mod RepresentativeLemmas
 pub mod OrderLemmas
 pub mod EnteringLemmas
 pub mod NameLemmas
+pub mod ComparingLemmas
 mod Examples

@@ -1,5 +1,5 @@
 -- What std's parse gives, by the words of this crate.
-use Rattle.std.proofs.Common.{◌≡◌, ◌<◌, ◌==◌, ◌∷◌, zero, suc, inl, inr, ◌^◌, ◌&&◌, ℕ, ℤ, pos, negsuc, Bool, true, false, List, [], length, Result, Ok, Err, Option, Some, None, if◌then◌else◌, refl, sym, ap, true≢false, ◌∙◌, arith, rules, nat_lt}
+use Rattle.std.proofs.Common.{◌≡◌, ◌<◌, ◌==◌, ◌∷◌, zero, suc, inl, inr, ◌^◌, ◌&&◌, ℕ, ℤ, pos, negsuc, neg_ℤ, ◌-◌, Bool, true, false, List, [], length, Result, Ok, Err, Option, Some, None, if◌then◌else◌, refl, sym, ap, true≢false, ◌∙◌, arith, rules, nat_lt}
 use Rattle.std.specs.Bool.{Decides}
 use Rattle.std.specs.Result.{OkIff, result_ok}
 use Rattle.std.specs.Int.RustNames.{FitsSigned}
@@ -10,7 +10,9 @@ use Rattle.std.specs.Str.{IsAscii, IsUtf8, all_ascii_digits}
 use Rattle.std.specs.Str.Parse.{IsNumeral, ParsesSigned, digits_value, signed_digits_value, without_leading_sign}
 use Rattle.std.proofs.lemmas.Bool.Decides.{Decides-and, Decides-like, Decides-ltb}
 use Rattle.std.proofs.lemmas.Str.Parse.{IsNumeralModel, numerals_by_value}
-use Rattle.olap_numerals.specs.Values.{is_i64, is_numeral}
+use Rattle.std.proofs.lemmas.Int.{ints}
+use Rattle.olap_numerals.specs.Values.{is_numeral, is_within}
+use Rattle.olap_numerals.proofs.ComparingLemmas.{within_is}
 use mir.Syntax.{Width, w64}
 use Rattle.std.specs.Fmt.{signed_decimal}
 use Rattle.std.specs.Int.Signed.{mag}
@@ -24,12 +26,20 @@ pub numeral-decides : (ds : List ℕ) → Decides (is_numeral ds) (IsNumeral 10 
 numeral-decides ds =
     Decides-and (nat_lt 0 (length ds)) (all_ascii_digits ds) (Decides-ltb 0 (length ds)) (own.to ds, own.from ds)
 
+-- of 64 bits
+abbrev pub is_i64 : ℤ → Bool
+is_i64 z = is_within (neg_ℤ (pos (2 ^ 63))) (pos (2 ^ 63 - 1)) z
+
 -- the test of 64 bits decides std's word
 pub i64-decides : (z : ℤ) → Decides (is_i64 z) (FitsSigned w64 z)
-i64-decides (pos n) =
-    Decides-like (nat_lt n (2 ^ 63)) (λ h. record { sfits = h }) (λ f. f.sfits) (Decides-ltb n (2 ^ 63))
-i64-decides (negsuc n) =
-    Decides-like (nat_lt n (2 ^ 63)) (λ h. record { sfits = h }) (λ f. f.sfits) (Decides-ltb n (2 ^ 63))
+i64-decides (pos n) = Decides-like (is_i64 (pos n))
+    (λ h. record { sfits = let l = h.1 in omega (arith, ints) })
+    (λ f. let l : n < 2 ^ 63 = f.sfits in (omega (arith, ints), omega (arith, ints)))
+    (within_is (neg_ℤ (pos (2 ^ 63))) (pos (2 ^ 63 - 1)) (pos n))
+i64-decides (negsuc n) = Decides-like (is_i64 (negsuc n))
+    (λ h. record { sfits = let l = h.0 in omega (arith, ints) })
+    (λ f. let l : n < 2 ^ 63 = f.sfits in (omega (arith, ints), omega (arith, ints)))
+    (within_is (neg_ℤ (pos (2 ^ 63))) (pos (2 ^ 63 - 1)) (negsuc n))
 
 -- what a parse gives, where a test decides when it gives something
 pub ok-where : {T E : Type 0} {P : Type 0} (r : Result T E) (t : Bool) (v : T) → OkIff r P v → Decides t P

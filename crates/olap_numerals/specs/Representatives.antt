@@ -9,7 +9,7 @@ use Rattle.std.specs.Int.{int_max, int_min}
 use Rattle.std.specs.Int.Signed.{lt_z}
 use Rattle.std.proofs.Math.IntN.{ℤ_discrete}
 use Rattle.olap_base.specs.Deciding.{decide_contains, is_yes, is_yes_is}
-use Rattle.olap_numerals.specs.Comparing.{Op, Compares}
+use Rattle.olap_numerals.specs.Comparing.{Op, compares}
 use Rattle.olap_numerals.specs.Numerals.{IsSmall, canonical}
 
 -- the number is one of the constants, and none of these is less
@@ -93,7 +93,7 @@ AreSmall ns = (n : ℤ) → Contains ns n → IsSmall n
 
 -- the one answers each comparison with a constant as the other does
 abbrev pub AnswersAlike : List ℤ → ℤ → ℤ → Type 0
-AnswersAlike ns a b = (op : Op) (n : ℤ) → Contains ns n → Compares op a n ↔ Compares op b n
+AnswersAlike ns a b = (op : Op) (n : ℤ) → Contains ns n → compares op a n ≡ compares op b n
 
 abbrev pub RepresentativesAnswerAlike : Type 0
 RepresentativesAnswerAlike = (ns : List ℤ) (a : ℤ) → AreSmall ns → IsSmall a →

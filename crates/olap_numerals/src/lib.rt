@@ -12,7 +12,7 @@ mod values;
 mod writing;
 
 pub use laws::{number_names_exist, numbers_read_back, representatives_answer_alike};
-pub use numbers::{MOST_NUMBER, is_small, number};
+pub use numbers::{MOST_NUMBER, number};
 pub use representing::representatives;
 pub use values::value;
 pub use writing::{numeral, numerals};

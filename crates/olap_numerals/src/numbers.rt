@@ -1,7 +1,7 @@
 // The number that a text spells.
 ghost use Rattle.std.specs.Prelude.{◌≡◌, ◌↔◌, IsTrue};
-ghost use Rattle.olap_numerals.specs.Numerals.{digits_in as digits_in_of, is_small as is_small_of, number_of};
-ghost use Rattle.olap_numerals.specs.Spelling.{has_plus as has_plus_of, small_of};
+ghost use Rattle.olap_numerals.specs.Numerals.{digits_in as digits_in_of, number_of};
+ghost use Rattle.olap_numerals.specs.Spelling.{has_plus as has_plus_of, is_small as is_small_of, small_of};
 
 use crate::values::value;
 
@@ -11,8 +11,8 @@ const MOST_DIGITS: usize = 19;
 /// The greatest number that a numeral spells.
 pub const MOST_NUMBER: i64 = 1_000_000_000_000_000_000;
 
-/// Whether the number is within the bounds of numerals.
-pub fn is_small(n: i64) -> bool
+// Whether the number is within the bounds of numerals.
+fn is_small(n: i64) -> bool
     ensures { result ≡ is_small_of n }
 {
     -MOST_NUMBER <= n && n <= MOST_NUMBER

@@ -1,6 +1,5 @@
 use Rattle.std.proofs.Common.{◌∙◌}
-use Rattle.olap_numerals.specs.Values.{is_i64}
-use Rattle.olap_numerals.proofs.Spelling.{i64-decides, signed-of-text, signed-parses}
+use Rattle.olap_numerals.proofs.Spelling.{i64-decides, is_i64, signed-of-text, signed-parses}
 use Rattle.olap_numerals.proofs.values.long_value.Goals as goal
 use mir.Syntax.{w64}
 
