@@ -11,7 +11,6 @@ use olap_base::{CatId, MemberId, Text};
 use olap_eval::Shape;
 use olap_instance::Instance;
 use olap_legal::{Table, ancestor};
-use olap_numerals::number;
 
 /// What x reaches, read from the table of ancestors.
 #[derive(Clone, Copy)]
@@ -104,10 +103,7 @@ impl<'a> Shape for Above<'a> {
         let Some(y) = self.member(c.0) else {
             return false;
         };
-        match number(self.instance.name(MemberId(y))) {
-            Some(a) => op.test(a, n),
-            None => false,
-        }
+        op.passes(self.instance.name(MemberId(y)), n)
     }
 
     ghost shape = { λ s. s.row_is_shape };

@@ -3,7 +3,6 @@ use olap_ast::{Formula, OneCount, Op, Terms, Truth3};
 use olap_base::{CatId, EdgeId, Text};
 use olap_graph::Graph;
 use olap_names::Candidates;
-use olap_numerals::number;
 use std::alloc::{AllocError, Global};
 
 /// An atom's value is put on the stack, or a connective takes values off it and puts one there.
@@ -103,14 +102,6 @@ pub(crate) struct Words<'a> {
     pub(crate) candidates: &'a Candidates,
 }
 
-/// Whether the name is a numeral whose number compares so.
-fn is_so(name: &Text, op: Op, n: i64) -> bool {
-    match number(name.bytes()) {
-        Some(a) => op.test(a, n),
-        None => false,
-    }
-}
-
 impl<'a> Words<'a> {
     /// The names of a category beside the first, in their order.
     pub(crate) fn others(&self, c: CatId) -> &'a [Text] {
@@ -139,14 +130,14 @@ impl<'a> Words<'a> {
     fn number(&self, c: CatId, op: Op, n: i64) -> Step {
         let others = self.others(c);
         let mut count = 0usize;
-        if c.0 < self.candidates.categories() && is_so(self.candidates.first(c), op, n) {
+        if c.0 < self.candidates.categories() && op.passes(self.candidates.first(c).bytes(), n) {
             if op == Op::Equal {
                 return Step::Name(c, 0);
             }
             count = 1;
         }
         'others: for i in 0..others.len() {
-            if is_so(&others[i], op, n) {
+            if op.passes(others[i].bytes(), n) {
                 if op == Op::Equal {
                     return Step::Name(c, i + 1);
                 }

@@ -2,7 +2,7 @@
 --     fact_rows_stand       what they stand for
 --     facts_made            the facts are a fact table: each stands at a store
 --     fact_rows_read_back   their text reads back, since each record has a field and the first byte is no mark's
-use Rattle.std.proofs.Common.{◌≡◌, ◌≢◌, ◌+◌, ◌-◌, ◌<◌, ◌≤◌, ◌^◌, ◌==◌, ◌∙◌, Bool, true, false, cond, ℕ, ℤ, pos, negsuc, suc, List, [], length, map, take, drop, get_or, slice_index, ltb, Some, None, Ok, refl, sym, ap, subst, arith, lt-ltb}
+use Rattle.std.proofs.Common.{◌≡◌, ◌≢◌, ◌+◌, ◌-◌, ◌<◌, ◌≤◌, ◌^◌, ◌==◌, ◌∙◌, Bool, true, false, cond, ℕ, ℤ, pos, negsuc, suc, List, [], length, map, take, drop, get_or, slice_index, ltb, Some, None, Ok, refl, sym, ap, subst, arith}
 use Rattle.std.specs.Prelude.{All, nat_le}
 use Rattle.std.specs.Cmp.Lexicographic.{pointwise}
 use Rattle.std.specs.Fmt.{signed_decimal}
@@ -21,7 +21,8 @@ use Rattle.olap_base.specs.Limits.{most_facts, most_generated}
 use Rattle.olap_base.specs.Naming.{place_of}
 use Rattle.olap_base.specs.Views.{Fact, IsFactTable}
 use Rattle.olap_records.specs.Faults.{field, first_fault}
-use Rattle.olap_numerals.specs.Values.{is_i64, value_of}
+use Rattle.olap_numerals.specs.Values.{value_of}
+use Rattle.olap_numerals.proofs.Spelling.{i64-decides, is_i64}
 use Rattle.olap_records.specs.Records.{records_of}
 use Rattle.olap_records.specs.Texts.{text_of_rows}
 use Rattle.olap_records.proofs.FaultLemmas.{none-iff}
@@ -51,8 +52,8 @@ value-mag seed i = either (ltb (step seed i) 500)
 
 -- a small number has 64 bits
 small-fits : (z : ℤ) → mag z < 1000 → is_i64 z ≡ true
-small-fits (pos n) l = let h : n < 2 ^ 63 = omega arith in lt-ltb n (2 ^ 63) h
-small-fits (negsuc n) l = let h : n < 2 ^ 63 = omega arith in lt-ltb n (2 ^ 63) h
+small-fits (pos n) l = let h : n < 2 ^ 63 = omega arith in (i64-decides (pos n)).1 (record { sfits = h })
+small-fits (negsuc n) l = let h : n < 2 ^ 63 = omega arith in (i64-decides (negsuc n)).1 (record { sfits = h })
 
 -- a value's text spells it
 value-spelled : (seed i : ℕ) → value_of (signed_decimal (value seed i)) ≡ Some (value seed i)

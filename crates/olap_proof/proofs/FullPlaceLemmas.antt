@@ -28,15 +28,14 @@ use Rattle.olap_frozen.proofs.ChosenInstance as made
 use Rattle.olap_frozen.proofs.ChosenLemmas.{bit_joins, edge_inside, no_edge_joins}
 use Rattle.olap_graph.specs.Lookups.{edge_between}
 use Rattle.olap_names.specs.Names.{name_at}
-use Rattle.olap_numerals.specs.Comparing.{Op}
+use Rattle.olap_numerals.specs.Comparing.{Op, is_numbered}
 use Rattle.olap_trail.specs.Decisions.{Decided, Decision, status_in}
 use Rattle.olap_proof.specs.declared.forms.Form.{Form}
 use Rattle.olap_proof.specs.declared.forms.Form.TheVariants.{Long, Short}
 use Rattle.olap_proof.specs.FullPlaces.{IsFull}
 use Rattle.olap_proof.specs.Lines.{IsUnmetAt}
-use Rattle.olap_proof.specs.Places.{Naming, Place, decided_name, index_of, is_known, is_numbered, is_top, knowledge, leading_edges, leading_graph, name_of, possible_graph, truth_of, truth_of_edge, truth_of_name, truth_of_number, truth_of_reach}
+use Rattle.olap_proof.specs.Places.{Naming, Place, decided_name, index_of, is_known, is_top, knowledge, leading_edges, leading_graph, name_of, possible_graph, truth_of, truth_of_edge, truth_of_name, truth_of_number, truth_of_reach}
 use Rattle.olap_proof.proofs.AgreeingLemmas.{walk_present, wider}
-use Rattle.olap_proof.proofs.NumberTests.{numbered_is}
 use Rattle.olap_proof.proofs.ToldLemmas.{IsTold, formula_told, truth_told, unmet_listed}
 use Rattle.olap_proof.proofs.ChosenEdgeLemmas as laws
 use Rattle.olap_proof.proofs.ChosenEdgeLemmas.{bit_of, bits_of, edges_chosen}
@@ -246,11 +245,11 @@ module _ (s : Schema) (k : Candidates) (hier : IsHierarchy s.graph) (r : ℕ) (d
       of_test w q true x true y =
           let h = known_present c y in
           let e = made.name_there s.graph r es ch name c h ∙ same w q h in
-          (h, subst (λ t. IsNumbered t op n) (sym e) ((numbered_is w op n).0 x))
+          (h, subst (λ t. IsNumbered t op n) (sym e) x)
       of_test w q true x false y = tt
       of_test w q false x b y = λ h.
           let e = made.name_there s.graph r es ch name c h.0 ∙ same w q h.0 in
-          let v = (numbered_is w op n).1 (subst (λ t. IsNumbered t op n) e h.1) in
+          let v = subst (λ t. IsNumbered t op n) e h.1 in
           let z : true ≡ false = sym v ∙ x in cc
 
       go : (o : Option (List ℕ)) → name_of k ns c ≡ o

@@ -33,6 +33,5 @@ mod PlainLineLemmas
 mod StageLemmas
 mod LeadingLemmas
 mod QuestionLemmas
-mod NumberTests
 mod KindLemmas
 mod VerdictLemmas

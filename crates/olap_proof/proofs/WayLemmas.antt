@@ -32,13 +32,12 @@ use Rattle.olap_frozen.specs.Chosen.{IsChoice, IsMet, IsSound, Joins, place_of}
 use Rattle.olap_frozen.proofs.ChosenInstance as made
 use Rattle.olap_frozen.proofs.ChosenLemmas.{choice_of, place_chosen}
 use Rattle.olap_graph.specs.Lookups.{edge_at, edges_from}
-use Rattle.olap_numerals.specs.Comparing.{Op}
+use Rattle.olap_numerals.specs.Comparing.{Op, is_numbered}
 use Rattle.olap_trail.specs.Decisions.{Decided, Decision, HoldsCycle, HoldsShortcut, present_edges, present_graph, status_of}
 use Rattle.olap_proof.specs.declared.forms.Form.{Form}
 use Rattle.olap_proof.specs.declared.forms.Form.TheVariants.{Long, Short}
-use Rattle.olap_proof.specs.Places.{Naming, Place, Way, edge_of_way, is_known, is_numbered, is_top, knowledge, leading_edges, leading_graph, leads, name_of, possible_graph, truth_of_name, truth_of_number, truth_of_reach, truth_of_way, way_of}
+use Rattle.olap_proof.specs.Places.{Naming, Place, Way, edge_of_way, is_known, is_top, knowledge, leading_edges, leading_graph, leads, name_of, possible_graph, truth_of_name, truth_of_number, truth_of_reach, truth_of_way, way_of}
 use Rattle.olap_proof.specs.Lines.{Closes, IsClash, IsDead, IsLoose, IsUnmet, IsUnmetAt, IsUnreached, Line, Line.Asked, Line.Clash, Line.Cycle, Line.Dead, Line.EdgeOrNot, Line.Loose, Line.NameOf, Line.Shortcut, Line.Unmet, Line.Unreached, Line.WayOrNot}
-use Rattle.olap_proof.proofs.NumberTests.{numbered_is}
 use Rattle.olap_proof.proofs.AgreeingLemmas as agreeing
 use Rattle.olap_proof.proofs.AgreeingLemmas.{Like, edge_from, edges_in, wider, wider_climb}
 
@@ -259,11 +258,11 @@ module _ (form : Form) (s : Schema) (q : Formula) (r : ℕ) (k : Candidates) (f 
       of_test w e true x true y =
           let h = known_there c y in
           let q = made.name_there s.graph r es ch name c h ∙ e in
-          (h, subst (λ t. IsNumbered t op n) (sym q) ((numbered_is w op n).0 x))
+          (h, subst (λ t. IsNumbered t op n) (sym q) x)
       of_test w e true x false y = tt
       of_test w e false x b y = λ h.
           let q = made.name_there s.graph r es ch name c h.0 ∙ e in
-          let v = (numbered_is w op n).1 (subst (λ t. IsNumbered t op n) q h.1) in
+          let v = subst (λ t. IsNumbered t op n) q h.1 in
           let z : true ≡ false = sym v ∙ x in cc
 
       go : (o : Option (List ℕ)) → name_of k ns c ≡ o

@@ -6,9 +6,8 @@
 --     truth_of_reach  whether one category's member reaches another's
 --     is_numbered     the text spells a number that compares so
 --     knowledge       what is known of edges, of reaching, of names and of comparisons
-use Rattle.std.specs.Prelude.{◌&&◌, ◌||◌, ◌==◌, ◌++◌, ℕ, zero, suc, ℤ, int_lt, not, List, [], ◌∷◌, Bool, true, false, Option, Some, None, codes, filter, length, map, if◌then◌else◌}
+use Rattle.std.specs.Prelude.{◌&&◌, ◌||◌, ◌==◌, ◌++◌, ℕ, zero, suc, ℤ, List, [], ◌∷◌, Bool, true, false, Option, Some, None, codes, filter, length, map, if◌then◌else◌}
 use Rattle.std.specs.List.{range_with_len}
-use Rattle.std.specs.Ordering.{int_eq}
 use Rattle.std.specs.Str.{bytes_eq}
 use Rattle.olap_base.specs.Graph.{Edge, Graph}
 use Rattle.olap_base.specs.Reaching.{category_reaches}
@@ -18,8 +17,7 @@ use Rattle.olap_ast.specs.declared.three_values.Truth3.TheVariants.{No, Yes, Unk
 use Rattle.olap_eval.specs.Partial.{Knowledge}
 use Rattle.olap_graph.specs.Lookups.{edge_at, edge_between}
 use Rattle.olap_names.specs.Names.{name_at}
-use Rattle.olap_numerals.specs.Comparing.{Op, Op.AtMost, Op.Equal, Op.Less}
-use Rattle.olap_numerals.specs.Numerals.{number_of}
+use Rattle.olap_numerals.specs.Comparing.{Op, is_numbered}
 use Rattle.olap_trail.specs.Decisions.{Decided, present_edges, status_of}
 use Rattle.olap_proof.specs.declared.forms.Form.{Form}
 use Rattle.olap_proof.specs.declared.forms.Form.TheVariants.{Long, Short}
@@ -131,23 +129,6 @@ name_of k ns (suc c) = decided_name k (suc c) (index_of ns (suc c))
 abbrev pub truth_of_name : Place → ℕ → Option (List ℕ) → List ℕ → Truth3
 truth_of_name p c None text = Unknown
 truth_of_name p c (Some name) text = if bytes_eq name text then (if is_known p c then Yes else Unknown) else No
-
--- ---- comparisons
-
--- whether the comparison holds of the two
-abbrev pub compares : Op → ℤ → ℤ → Bool
-compares Equal a b = int_eq a b
-compares Less a b = int_lt a b
-compares AtMost a b = not (int_lt b a)
-
--- whether there is a number, and it compares so
-abbrev pub passes : Option ℤ → Op → ℤ → Bool
-passes None op n = false
-passes (Some a) op n = compares op a n
-
--- whether the text spells a number that compares so
-abbrev pub is_numbered : List ℕ → Op → ℤ → Bool
-is_numbered text op n = passes (number_of text) op n
 
 -- whether the category has a member whose number compares so, where its name is decided
 abbrev pub truth_of_number : Place → ℕ → Option (List ℕ) → Op → ℤ → Truth3

@@ -4,7 +4,7 @@ ghost use Rattle.olap_ast.specs.Trees.{op_of};
 ghost use Rattle.olap_base.specs.Graph.{IsCategory};
 ghost use Rattle.olap_base.specs.Reaching.{category_reaches};
 ghost use Rattle.olap_bits.specs.Sets.{members};
-ghost use Rattle.olap_proof.specs.Places.{is_known, is_numbered, is_top, leading_graph, leads, possible_graph, truth_of, truth_of_reach};
+ghost use Rattle.olap_proof.specs.Places.{is_known, is_top, leading_graph, leads, possible_graph, truth_of, truth_of_reach};
 ghost use Rattle.olap_proof.specs.Walking.{IsWalk};
 ghost use Rattle.olap_proof.specs.Within.{AreKnown, IsWithin, when_there};
 
@@ -16,7 +16,6 @@ use olap_base::{CatId, Text};
 use olap_eval::Partial;
 use olap_graph::{Categories, Graph};
 use olap_names::Candidates;
-use olap_numerals::number;
 
 /// A place, with the categories that are known to have a member.
 #[derive(Clone, Copy)]
@@ -50,16 +49,6 @@ fn is_top(form: Form, c: CatId) -> bool
     match form {
         Form::Long => false,
         Form::Short => c.0 == 0,
-    }
-}
-
-/// Whether the bytes spell a number that compares so.
-fn is_numbered(text: &[u8], op: Op, n: i64) -> bool
-    ensures { result ≡ is_numbered text.now (op_of op) n }
-{
-    match number(text) {
-        Some(a) => op.test(a, n),
-        None => false,
     }
 }
 
@@ -183,12 +172,12 @@ impl<'a> Partial for Known<'a> {
 
     fn number(&self, c: CatId, op: Op, n: i64) -> Truth3 {
         if c.0 == 0 {
-            return self.when_there(c, is_numbered(b"all".as_slice(), op, n));
+            return self.when_there(c, op.passes(b"all".as_slice(), n));
         }
         match self.place.index(c) {
             Some(index) => {
                 let name = self.candidates.name(c, index);
-                self.when_there(c, is_numbered(name.bytes(), op, n))
+                self.when_there(c, op.passes(name.bytes(), n))
             }
             None => Truth3::Unknown,
         }

@@ -8,9 +8,9 @@ use Rattle.std.proofs.lemmas.Bool.Decides.{Decides-ltb, nat_tests}
 use Rattle.std.proofs.lemmas.Fmt.{decimal_is_IsNumeral_wide}
 use Rattle.std.proofs.lemmas.Int.{ints}
 use Rattle.olap_base.specs.Limits.{most_count, most_sum}
-use Rattle.olap_numerals.specs.Values.{is_i64, is_numeral, value_of}
+use Rattle.olap_numerals.specs.Values.{is_numeral, value_of}
 use Rattle.olap_records.proofs.Printed.{printed}
-use Rattle.olap_numerals.proofs.Spelling.{i64-decides, numeral-decides}
+use Rattle.olap_numerals.proofs.Spelling.{i64-decides, is_i64, numeral-decides}
 use Rattle.olap_view.specs.StoredNumbers.{count_of, is_sum, sum_of}
 use Rattle.olap_view.specs.StoreLaws.{PrintedNumbersAreRead}
 
