@@ -1,5 +1,5 @@
 -- The truth of a formula at a member of an instance can be decided.
-use Rattle.std.proofs.Common.{◌≡◌, ◌∙◌, ℕ, ℤ, List, [], ◌∷◌, length, true, refl, sym, subst, inl, inr, arith}
+use Rattle.std.proofs.Common.{◌≡◌, ℕ, ℤ, List, [], ◌∷◌, length, true, refl, sym, subst, inl, inr}
 use Rattle.std.proofs.Math.Bool.{Bool-discrete}
 use Rattle.olap_numerals.specs.Comparing.{Op, is_numbered}
 use Rattle.std.specs.Prelude.{Contains}

@@ -16,6 +16,8 @@ pub mod SmallModel
 pub mod Summing
 pub mod Examples
 mod SummarizableExample
+mod OneMember
+mod NumberExample
 pub mod TextLemmas
 pub mod Uniqueness
 pub mod OrderedLists

@@ -19,7 +19,7 @@ use Rattle.olap_ast.specs.Constants.{HasKinds, all_comparisons, all_equalities}
 use Rattle.olap_ast.specs.Schema.{Constraint, Schema}
 use Rattle.olap_ast.specs.Valid.{AreFormulasAt, IsFormulaAt, IsValidSchema, pair_count}
 use Rattle.olap_ast.specs.Formula.{Formula, Formula.Truth, Formula.Via, Terms.More, comparisons, comparisons_of_terms, equalities, equalities_of_terms}
-use Rattle.olap_ast.specs.Questions.{FormulasHaveCandidates, SourcesHaveCandidates}
+use Rattle.olap_ast.specs.Questions.{ValidSchemasHaveCandidates, SourcesHaveCandidates}
 use Rattle.olap_ast.specs.Summarizable.{not_by_one, vias}
 use Rattle.olap_ast.specs.Trees.{numbers_of}
 use Rattle.olap_ast.proofs.AtomLemmas.{has_kinds}
@@ -108,7 +108,7 @@ question_kinds s c sources v = kinds_too s Truth (not_by_one c sources) (sym (qu
 -- ---- candidates
 
 -- a valid schema and a formula of its graph have candidates
-pub formulas_have_candidates : FormulasHaveCandidates
+pub formulas_have_candidates : ValidSchemasHaveCandidates
 formulas_have_candidates s r q v f = candidates_exist s q (has_kinds s r q v.formulas f)
 
 -- and so have a valid schema and the question of summarizability

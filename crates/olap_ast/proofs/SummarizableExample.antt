@@ -13,7 +13,8 @@ use Rattle.olap_ast.specs.Frozen.{AreCandidates, Candidates, Frozen, IsFrozen, c
 use Rattle.olap_ast.specs.Summarizable.{IsSummarizable, not_by_one}
 use Rattle.olap_ast.specs.Example.{OneStoreIsCounterexample, StoresAreSummarizable, stores, one_store, store_below_all}
 use Rattle.olap_ast.proofs.SmallModel.{frozen_exactly}
-use Rattle.olap_ast.proofs.Examples.{alone, one_store_is_legal}
+use Rattle.olap_ast.proofs.Examples.{one_store_is_legal}
+use Rattle.olap_ast.proofs.OneMember.{alone}
 
 -- the stores' category is a bottom one
 bottom : IsBottom stores.graph 1

@@ -1,7 +1,7 @@
 -- The questions about all legal instances, of any size, and what they are by frozen dimensions.
 --     IsImplied     every legal instance meets a constraint
 --     NoneFrozen    no frozen dimension with this root makes the question true
---     FormulasHaveCandidates, SourcesHaveCandidates    each question of a valid schema has candidates
+--     ValidSchemasHaveCandidates, SourcesHaveCandidates    each question of a valid schema has candidates
 use Rattle.std.specs.Prelude.{◌≡◌, ◌↔◌, ℕ, List, [], ◌∷◌, Some, slice_get}
 use Rattle.olap_base.specs.Graph.{Edge, IsHierarchy}
 use Rattle.olap_base.specs.Instance.{Instance}
@@ -21,8 +21,8 @@ abbrev pub NoneFrozen : Schema → Formula → ℕ → Candidates → Type 0
 NoneFrozen s q r k = (f : Frozen) → IsFrozen s q r k f → ⊥
 
 -- a valid schema and a formula of its graph have candidates
-abbrev pub FormulasHaveCandidates : Type 0
-FormulasHaveCandidates = (s : Schema) (r : ℕ) (q : Formula) → IsValidSchema s → IsFormulaAt s.graph r q →
+abbrev pub ValidSchemasHaveCandidates : Type 0
+ValidSchemasHaveCandidates = (s : Schema) (r : ℕ) (q : Formula) → IsValidSchema s → IsFormulaAt s.graph r q →
     (k : Candidates) × AreCandidates s q k
 
 -- a valid schema and the question of summarizability have candidates

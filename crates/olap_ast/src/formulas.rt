@@ -18,8 +18,8 @@ pub enum Op {
 }
 
 impl Op {
-    /// Whether the comparison holds of the two.
-    pub fn test(self, a: i64, b: i64) -> bool
+    // Whether the comparison holds of the two.
+    fn test(self, a: i64, b: i64) -> bool
         ensures { result ≡ compares (op_of self) a b }
     {
         match self {

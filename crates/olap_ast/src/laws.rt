@@ -1,9 +1,9 @@
 // Theorems over the definitions. Each is the clause of a function that does nothing.
 ghost use Rattle.olap_ast.specs.Constants.{FreshNamesExist, RenamingIsHarmless};
-ghost use Rattle.olap_ast.specs.Example.{OneStoreIsCounterexample, OneStoreIsLegal, StoresAreSummarizable};
+ghost use Rattle.olap_ast.specs.Example.{NineIsFrozen, OneStoreIsCounterexample, OneStoreIsLegal, StoresAreSummarizable};
 ghost use Rattle.olap_ast.specs.Findings.{TheFindingsAreOne};
 ghost use Rattle.olap_ast.specs.Frozen.{CandidatesExist, FrozenExactlyIfSomeInstance, TheLeastIsOne};
-ghost use Rattle.olap_ast.specs.Questions.{FormulasHaveCandidates, ImpliedExactlyIfNoneFrozen, RedundantExactlyIfNoneFrozen, SourcesHaveCandidates, UnsatisfiableExactlyIfNoneFrozen, UnusedExactlyIfNoneFrozen};
+ghost use Rattle.olap_ast.specs.Questions.{ValidSchemasHaveCandidates, ImpliedExactlyIfNoneFrozen, RedundantExactlyIfNoneFrozen, SourcesHaveCandidates, UnsatisfiableExactlyIfNoneFrozen, UnusedExactlyIfNoneFrozen};
 ghost use Rattle.olap_ast.specs.Schema.{AboveIsLegal};
 ghost use Rattle.olap_ast.specs.Summarizable.{SummarizableExactlyIfNoneFrozen, TheCounterexampleIsOne};
 ghost use Rattle.olap_ast.specs.Violation.{LegalExactlyIfNoViolation};
@@ -14,8 +14,9 @@ pub fn above_is_legal()
     ensures { AboveIsLegal }
 {}
 
-/// Giving the fresh name to each member of a declared category whose name is no constant of it keeps an instance
-/// legal, and the truth of the question.
+/// New names keep an instance legal, and the truth of the question, where atoms are of the kinds of their categories:
+/// of texts the fresh name in place of each name that is no constant of its category, and of numbers the numeral of the
+/// number that stands for the name's.
 pub fn renaming_is_harmless()
     ensures { RenamingIsHarmless }
 {}
@@ -34,7 +35,7 @@ pub fn candidates_exist()
 /// A valid schema and a formula of its graph have candidates, so each question has; and so has that of summarizability,
 /// of any target and sources.
 pub fn valid_schemas_have_candidates()
-    ensures formulas { FormulasHaveCandidates }
+    ensures formulas { ValidSchemasHaveCandidates }
     ensures sources { SourcesHaveCandidates }
 {}
 
@@ -89,7 +90,8 @@ pub fn the_findings_are_one()
     ensures { TheFindingsAreOne }
 {}
 
-/// A list of members that is an instance is legal exactly if no law and no constraint is violated.
+/// A list of members that is an instance, with numerals where names are numbers, is legal exactly if no law and no
+/// constraint is violated.
 pub fn legal_exactly_if_no_violation()
     ensures { LegalExactlyIfNoViolation }
 {}
@@ -109,4 +111,10 @@ pub fn stores_are_summarizable()
 /// dimension, which is the counterexample to taking the total of `All` from no view.
 pub fn one_store_is_counterexample()
     ensures { OneStoreIsCounterexample }
+{}
+
+/// The definitions can be met with numbers: of the schema with sizes below 10, the instance with the size 9 alone is
+/// legal, there are candidates, and with all of them the instance is that of a frozen dimension.
+pub fn nine_is_frozen()
+    ensures { NineIsFrozen }
 {}

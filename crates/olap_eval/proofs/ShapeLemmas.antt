@@ -202,9 +202,11 @@ module _ {i : Instance} {present : ℕ → Bool} {place : ℕ → ℕ} (s : IsSh
     numbered : (b : Bool)
         → IsTrue b ↔ (ReachesThere i present place root d.0 × HasNumberThere i present place d.0 (op_of op) n)
         → IsTruth f b
-    numbered b t = subst (λ g. IsTruth g b) (sym is) (iff_trans t (numbered_is i present place s root p d.0 (op_of op) n))
+    numbered b t =
+        subst (λ g. IsTruth g b) (sym is) (iff_trans t (numbered_is i present place s root p d.0 (op_of op) n))
 
-    pub numbered_truth : (q : Bool) → r ≡ true → IsTrue q ↔ HasNumberThere i present place d.0 (op_of op) n → IsTruth f q
+    pub numbered_truth : (q : Bool) → r ≡ true → IsTrue q ↔ HasNumberThere i present place d.0 (op_of op) n
+        → IsTruth f q
     numbered_truth q t b = numbered q (iff_both r q t a b)
 
     pub numbered_stops : r ≡ false → IsTruth f r

@@ -215,7 +215,8 @@ are_candidates g cs q k h w kinds fresh named = record {
           subst (λ f. IsFreshName (with_graph g cs) q f) (sym (first_past c l)) fresh,
           subst (λ t. AreInByteOrder (texts_on (suc c) (atoms cs q)) t) (sym (texts_past c l))
               (no_constants (suc c) (atoms cs q) (λ a b e. let u : a.category < category_count g =
-              All-contains (λ (x : Equality). x.category < category_count g) (atoms cs q) a w b in absurd (omega arith))),
+              All-contains (λ (x : Equality). x.category < category_count g) (atoms cs q) a w b in
+              absurd (omega arith))),
         )
 
 -- the first of nk, nk_, .. that is none of the constants of the categories is the fresh name

@@ -100,4 +100,5 @@ RepresentativesAnswerAlike = (ns : List ℤ) (a : ℤ) → AreSmall ns → IsSma
     IsNumberName ns (representative ns a) × AnswersAlike ns (representative ns a) a
 
 abbrev pub NumberNamesExist : Type 0
-NumberNamesExist = (ns : List ℤ) → AreSmall ns → (first : List ℕ) × (others : List (List ℕ)) × AreNumberNames ns first others
+NumberNamesExist = (ns : List ℤ) → AreSmall ns →
+    (first : List ℕ) × (others : List (List ℕ)) × AreNumberNames ns first others

@@ -6,5 +6,5 @@ use Rattle.olap_ast.specs.Trees.{constraint_of}
 use Rattle.olap_names.proofs.candidates.numbers_of.Given as goal
 
 abbrev pub invariant-constraints : goal.invariant-constraints
-invariant-constraints l = l.numbers.items
-    ≡ numbers_on l.c.0 (flat_map (λ c. comparisons c.formula) (map constraint_of (take l.constraint-index l.constraints)))
+invariant-constraints l = let before = map constraint_of (take l.constraint-index l.constraints) in
+    l.numbers.items ≡ numbers_on l.c.0 (flat_map (λ c. comparisons c.formula) before)

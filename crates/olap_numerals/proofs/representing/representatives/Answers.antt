@@ -14,6 +14,7 @@ returns c =
     rw is (record {
       ascending =
           in_order _ (IsStrictlySortedBy-dedup int_cmp_total (λ x y. refl) _ c.sort_unstable.ensures.sorted);
-      sound = λ a h. (near a).0 (Contains-permutation _ _ a (IsPermutation-sym _ _ moved) (Contains-from_dedup _ _ a h));
+      sound = λ a h.
+          (near a).0 (Contains-permutation _ _ a (IsPermutation-sym _ _ moved) (Contains-from_dedup _ _ a h));
       complete = λ a h. Contains-dedup int_eq_equiv same_number _ a (Contains-permutation _ _ a moved ((near a).1 h));
     })

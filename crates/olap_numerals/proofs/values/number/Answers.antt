@@ -15,7 +15,8 @@ overflow_add-number c =
     (sym c.is_ascii_digit.ensures.value ∙ c.if-not-is_ascii_digit.false) in
     let high = digit.1 in
     let is = c.from.ensures in
-    let r = room-for_digit c.digits.i c.digits.number c.from.result (omega arith) c.digits.invariant.small (omega arith) in
+    let r = room-for_digit c.digits.i c.digits.number c.from.result (omega arith) c.digits.invariant.small
+    (omega arith) in
     omega arith
 
 pub digits-preserved : goal.digits-preserved
