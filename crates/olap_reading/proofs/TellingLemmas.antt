@@ -11,8 +11,9 @@ use Rattle.olap_ast.specs.Violation.{Violation, NoEdge, NoParent, SameCategory, 
 use Rattle.std.specs.Prelude.{Result, Ok, Err, None, IfOk, IfErr, MatchResult}
 use Rattle.olap_check.specs.FirstViolation.{first_violation, first_violation_none, first_violation_some}
 use Rattle.olap_check.specs.Reports.{told, IsRefused}
-use Rattle.olap_check.specs.declared.violations.CheckRefusal.{CheckRefusal}
-use Rattle.olap_check.specs.declared.violations.CheckRefusal.TheVariants.{Broken, Memory}
+use Rattle.olap_base.specs.declared.refusals.Refusal.{Refusal}
+use Rattle.olap_base.specs.declared.refusals.Refusal.TheVariants as refusal
+use Rattle.olap_check.specs.declared.violations.Illegal.{Illegal}
 use Rattle.olap_reading.specs.Broken.{IsBrokenBy}
 use Rattle.olap_instance.specs.Made.{IsMadeFor}
 use Rattle.olap_reading.specs.Violations.{IsTellable}
@@ -54,11 +55,11 @@ tellable s i v m (Shortcut x k) w =
 tellable s i v m (Unmet k x) w = w.2.0
 
 -- what a check answers is whether there is a violation, and the first one
-pub judged_is : (s : Schema) (i : Instance) → IsInstance i → IsMadeFor s.graph i → (r : Result Instance CheckRefusal)
+pub judged_is : (s : Schema) (i : Instance) → IsInstance i → IsMadeFor s.graph i → (r : Result Instance (Refusal Illegal))
     → IfOk r (λ l. IsLegal s i)
     → IfErr r (IsRefused s i) → MatchResult r (λ l. first_violation s i ≡ None) (λ e. IsBrokenBy s i e)
 judged_is s i v m (Ok l) ok err = first_violation_none s i ok
-judged_is s i v m (Err (Broken j w)) ok err = (
+judged_is s i v m (Err (refusal.Kind back)) ok err = (
   err.0,
   record {
     violation = err.1.violation;
@@ -68,4 +69,4 @@ judged_is s i v m (Err (Broken j w)) ok err = (
         (tellable s i v m err.1.violation err.1.is_first.is_one);
   },
 )
-judged_is s i v m (Err Memory) ok err = tt
+judged_is s i v m (Err (refusal.Memory e)) ok err = tt

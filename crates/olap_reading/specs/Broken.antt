@@ -5,8 +5,9 @@ use Rattle.olap_ast.specs.Schema.{Schema}
 use Rattle.olap_ast.specs.Violation as meaning
 use Rattle.olap_base.specs.Instance.{Instance}
 use Rattle.olap_check.specs.Reports.{told}
-use Rattle.olap_check.specs.declared.violations.CheckRefusal.{CheckRefusal}
-use Rattle.olap_check.specs.declared.violations.CheckRefusal.TheVariants.{Broken, Memory}
+use Rattle.olap_base.specs.Refusing.{IsFor}
+use Rattle.olap_base.specs.declared.refusals.Refusal.{Refusal}
+use Rattle.olap_check.specs.declared.violations.Illegal.{Illegal}
 use Rattle.olap_check.specs.declared.violations.Violation.{Violation}
 use Rattle.olap_reading.specs.Violations.{IsTellable}
 
@@ -18,6 +19,5 @@ pub record IsFirst (s : Schema) (i : Instance) (v : Violation) : Type 0 where
   pub tellable : IsTellable s.graph i v
 
 -- the same instance is handed back with its first violation, or memory ran out
-abbrev pub IsBrokenBy : Schema → Instance → CheckRefusal → Type 0
-IsBrokenBy s i (Broken j v) = (j ≡ i) × IsFirst s i v
-IsBrokenBy s i Memory = Unit {0}
+abbrev pub IsBrokenBy : Schema → Instance → Refusal Illegal → Type 0
+IsBrokenBy s i = IsFor (λ back. (back.instance ≡ i) × IsFirst s i back.violation)

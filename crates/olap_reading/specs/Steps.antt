@@ -4,7 +4,7 @@
 --     store_file    stored views of it
 use Rattle.std.specs.Prelude.{List, ℕ, ◌++◌, codes, Option, None, Some}
 use Rattle.olap_base.specs.Instance.{Instance}
-use Rattle.olap_base.specs.Limits.{most_facts}
+use Rattle.olap_base.specs.Limits.{most_facts, most_facts_bytes, most_instance_bytes, most_store_bytes}
 use Rattle.olap_base.specs.Views.{Fact, View}
 use Rattle.olap_ast.specs.Schema.{Schema}
 use Rattle.olap_ast.specs.Violation.{Violation}
@@ -30,16 +30,16 @@ legal_or_violation label s i (Some v) =
 -- the legal instance of a schema in a file
 abbrev pub legal_file : Schema → List ℕ → List ℕ → Order Instance
 legal_file s label file =
-    and_then (text_file label file) (λ text.
+    and_then (text_file label most_instance_bytes file) (λ text.
     and_then (meaning_or_fault label (codes "record") instance_kind (instance_read s.graph (records_of text))) (λ i.
     legal_or_violation label s i (first_violation s i)))
 
 -- the facts at an instance's members in a file
 abbrev pub facts_file : Schema → Instance → List ℕ → List ℕ → Order (List Fact)
-facts_file s i label file = and_then (text_file label file) (λ text.
+facts_file s i label file = and_then (text_file label most_facts_bytes file) (λ text.
     meaning_or_fault label (codes "record") fact_kind (facts_read_within most_facts s.graph i (records_of text)))
 
 -- the stored views of an instance in a file
 abbrev pub store_file : Schema → Instance → List ℕ → List ℕ → Order (List View)
-store_file s i label file = and_then (text_file label file) (λ text.
+store_file s i label file = and_then (text_file label most_store_bytes file) (λ text.
     meaning_or_fault label (codes "record") store_kind (store_read s.graph i (records_of text)))

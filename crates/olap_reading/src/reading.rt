@@ -11,15 +11,16 @@ ghost use Rattle.olap_reading.specs.OfFacts.{AreOfFacts};
 ghost use Rattle.olap_reading.specs.Steps.{facts_file, legal_file, legal_or_violation, store_file};
 
 use crate::telling::{check_laws, refuse_violation};
-use olap_base::{CatId, List};
-use olap_check::CheckRefusal;
-use olap_facts::FactRefusal;
-use olap_instance::{Instance, InstanceRefusal, read_instance};
+use olap_base::{
+    CatId, Fault, List, MOST_FACTS_BYTES, MOST_INSTANCE_BYTES, MOST_STORE_BYTES, Refusal,
+};
+use olap_check::Illegal;
+use olap_instance::{Instance, read_instance};
 use olap_legal::Legal;
 use olap_order::{Stop, read_file, refuse_long, refuse_part};
 use olap_outside::Library;
 use olap_schema::Schema;
-use olap_view::{Store, StoreRefusal, View, read_store, roll_up};
+use olap_view::{Store, View, read_store, roll_up};
 use std::alloc::Global;
 
 /// The instance, where it is legal; else the refusal that tells its first violation.
@@ -37,14 +38,15 @@ fn legal_or_refused(
 {
     match check_laws(alloc, schema, members) {
         Ok(legal) => Ok(legal),
-        Err(CheckRefusal::Memory) => Err(Stop::Memory),
-        Err(CheckRefusal::Broken(broken, violation)) => Err(refuse_violation(
-            alloc,
-            label,
-            schema.graph(),
-            &broken,
-            violation,
-        )),
+        Err(
+            Refusal::Kind(
+                Illegal {
+                    instance,
+                    violation,
+                },
+            ),
+        ) => Err(refuse_violation(alloc, label, schema.graph(), &instance, violation)),
+        Err(Refusal::Memory(memory)) => Err(Stop::Memory(memory)),
     }
 }
 
@@ -63,21 +65,17 @@ pub fn legal_in<L: Library>(
 {
     // The text is dropped before the check asks for memory.
     let read = {
-        let Some(text) = read_file(alloc, file, lib)? else {
+        let Some(text) = read_file(alloc, file, MOST_INSTANCE_BYTES, lib)? else {
             return Err(refuse_long(alloc, label));
         };
         read_instance(alloc, schema.graph(), &text)
     };
     match read {
         Ok(members) => legal_or_refused(alloc, schema, label, members),
-        Err(InstanceRefusal::Memory) => Err(Stop::Memory),
-        Err(InstanceRefusal::Fault { at, kind }) => Err(refuse_part(
-            alloc,
-            label,
-            "record",
-            at,
-            kind.name(),
-        )),
+        Err(Refusal::Kind(Fault { at, kind })) => {
+            Err(refuse_part(alloc, label, "record", at, kind.name()))
+        }
+        Err(Refusal::Memory(memory)) => Err(Stop::Memory(memory)),
     }
 }
 
@@ -97,19 +95,15 @@ pub fn store_in<L: Library>(
         IsSoundStore (schema_of schema.now).graph legal.now (views_of store)) }
     ensures order { IfOk result (λ store. All (IsInFileOrder legal.now) (views_of store)) }
 {
-    let Some(text) = read_file(alloc, file, lib)? else {
+    let Some(text) = read_file(alloc, file, MOST_STORE_BYTES, lib)? else {
         return Err(refuse_long(alloc, label));
     };
     match read_store(alloc, schema.graph(), legal.instance(), &text) {
         Ok(store) => Ok(store),
-        Err(StoreRefusal::Memory) => Err(Stop::Memory),
-        Err(StoreRefusal::Fault { at, kind }) => Err(refuse_part(
-            alloc,
-            label,
-            "record",
-            at,
-            kind.name(),
-        )),
+        Err(Refusal::Kind(Fault { at, kind })) => {
+            Err(refuse_part(alloc, label, "record", at, kind.name()))
+        }
+        Err(Refusal::Memory(memory)) => Err(Stop::Memory(memory)),
     }
 }
 
@@ -131,18 +125,14 @@ pub fn views_in<L: Library>(
         (facts_file (schema_of schema.now) legal.now (codes "facts") file.now) (λ facts. facts) (Err stop)) }
     ensures members { IfOk result (λ views. All (λ v. All (λ r. r.member.0 < length legal.now) v.rows) views) }
 {
-    let Some(text) = read_file(alloc, file, lib)? else {
+    let Some(text) = read_file(alloc, file, MOST_FACTS_BYTES, lib)? else {
         return Err(refuse_long(alloc, "facts"));
     };
     match roll_up(alloc, schema.graph(), legal, text, categories) {
         Ok(views) => Ok(views),
-        Err(FactRefusal::Memory) => Err(Stop::Memory),
-        Err(FactRefusal::Fault { at, kind }) => Err(refuse_part(
-            alloc,
-            "facts",
-            "record",
-            at,
-            kind.name(),
-        )),
+        Err(Refusal::Kind(Fault { at, kind })) => {
+            Err(refuse_part(alloc, "facts", "record", at, kind.name()))
+        }
+        Err(Refusal::Memory(memory)) => Err(Stop::Memory(memory)),
     }
 }

@@ -11,8 +11,8 @@ ghost use Rattle.olap_order.specs.Outputs.{refusal};
 ghost use Rattle.olap_order.specs.Refusals.{IsRefusal};
 ghost use Rattle.olap_reading.specs.Violations.{IsTellable, id_text, law_text, pair_text, violation_text};
 
-use olap_base::MemberId;
-use olap_check::{CheckRefusal, Violation, check};
+use olap_base::{MemberId, Refusal};
+use olap_check::{Illegal, Violation, check};
 use olap_grammar::push_quoted;
 use olap_graph::Graph;
 use olap_instance::Instance;
@@ -26,13 +26,13 @@ pub(crate) fn check_laws(
     alloc: Global,
     schema: &Schema,
     members: Instance,
-) -> Result<Legal, CheckRefusal>
+) -> Result<Legal, Refusal<Illegal>>
     requires { IsMadeFor (schema_of schema.now).graph members }
     ensures same { IfOk result (λ legal. legal ≡ members) }
     ensures ok { IfOk result (λ _. IsLegal (schema_of schema.now) members) }
     ensures judged { MatchResult result
         (λ _. first_violation (schema_of schema.now) members ≡ None)
-        (λ e. IsBrokenBy (schema_of schema.now) members e) }
+        (IsBrokenBy (schema_of schema.now) members) }
 {
     // Called for its clause: what is counted is an instance.
     let _count = members.members();
@@ -152,6 +152,6 @@ pub(crate) fn refuse_violation(
 {
     match violation_line(alloc, label, graph, instance, violation) {
         Ok(line) => Stop::Refused(line),
-        Err(_) => Stop::Memory,
+        Err(refused) => Stop::from(refused),
     }
 }
