@@ -5,17 +5,13 @@
 use Rattle.std.specs.Prelude.{ℕ, List, [], ◌∷◌, codes, if◌then◌else◌, Option, None, Some}
 use Rattle.std.specs.Str.{bytes_eq}
 use Rattle.olap_ast.specs.Schema.{Schema}
+use Rattle.olap_base.specs.Limits.{most_certificate_bytes}
+use Rattle.olap_order.specs.Arguments.{by_three_or_more}
 use Rattle.olap_order.specs.Order.{Order, Done, and_then}
 use Rattle.olap_order.specs.Steps.{category_word, different_words, schema_file, text_file}
 use Rattle.olap_proof.specs.declared.forms.Form.{Form}
 use Rattle.olap_proof.specs.declared.forms.Form.TheVariants.{Long, Short}
 use Rattle.olap_verdicts.specs.Questions.{Question, ByCertificate}
-
--- by three words, and those after them
-abbrev pub by_three_or_more : {Q : Type 0} → (List ℕ → List ℕ → List ℕ → List (List ℕ) → Order Q) → List (List ℕ)
-    → Option (Order Q)
-by_three_or_more order (a ∷ b ∷ c ∷ more) = Some (order a b c more)
-by_three_or_more order words = None
 
 -- the schema, the target, any number of sources from left to right, and then the certificate
 abbrev pub verify_order : Form → (schema certificate target : List ℕ) (sources : List (List ℕ)) → Order Question
@@ -23,7 +19,7 @@ verify_order form schema certificate target sources =
     and_then (schema_file (codes "schema") schema) (λ s.
     and_then (category_word s.graph 4 target) (λ c.
     and_then (different_words (codes "DuplicateSource") s.graph 5 [] sources) (λ cs.
-    and_then (text_file (codes "certificate") certificate) (λ text.
+    and_then (text_file (codes "certificate") most_certificate_bytes certificate) (λ text.
     Done (ByCertificate form s c cs text)))))
 
 -- the same behind the schema
@@ -31,7 +27,7 @@ abbrev pub verify_order_for : Form → Schema → (certificate target : List ℕ
 verify_order_for form s certificate target sources =
     and_then (category_word s.graph 4 target) (λ c.
     and_then (different_words (codes "DuplicateSource") s.graph 5 [] sources) (λ cs.
-    and_then (text_file (codes "certificate") certificate) (λ text.
+    and_then (text_file (codes "certificate") most_certificate_bytes certificate) (λ text.
     Done (ByCertificate form s c cs text))))
 
 -- of the command of that name

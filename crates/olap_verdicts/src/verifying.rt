@@ -4,33 +4,18 @@ ghost use Rattle.olap_base.specs.Graph.{IsCategory};
 ghost use Rattle.olap_order.specs.Judged.{Judged, Replies};
 ghost use Rattle.olap_order.specs.Order.{Done};
 ghost use Rattle.olap_order.specs.Outputs.{line};
-ghost use Rattle.olap_order.specs.Steps.{text_file};
-ghost use Rattle.olap_order.specs.Taken.{FileStep};
 ghost use Rattle.olap_order.specs.Words.{texts};
 ghost use Rattle.olap_ast.specs.Trees.{numbers_of};
 ghost use Rattle.olap_schema.specs.Schemas.{schema_of};
 ghost use Rattle.olap_verdicts.specs.Commands.{verify_order, verify_order_for};
 ghost use Rattle.olap_verdicts.specs.Questions.{ByCertificate, IsAnswer};
 
-use olap_base::{CatId, Refusal};
-use olap_order::{
-    Reply, Stop, categories_at, category_at, no, read_file, refuse_long, schema_in, yes,
-};
+use olap_base::{CatId, MOST_CERTIFICATE_BYTES, Refusal};
+use olap_order::{Reply, Stop, categories_at, category_at, no, schema_in, text_in, yes};
 use olap_outside::Library;
 use olap_proof::{Form, VerifyFault};
 use olap_schema::Schema;
 use std::alloc::{AllocError, Global};
-
-/// The text of a file.
-fn text_in<L: Library>(alloc: Global, label: &str, file: &str, lib: &mut L) -> Result<Vec<u8>, Stop>
-    ensures step { FileStep L.Library lib.old lib.new
-        (text_file label.now file.now) (λ text. text.items) result }
-{
-    match read_file(alloc, file, lib)? {
-        Some(text) => Ok(text),
-        None => Err(refuse_long(alloc, label)),
-    }
-}
 
 /// `rejected line` and the line's number.
 fn rejected(alloc: Global, at: u64) -> Result<Vec<u8>, AllocError>
@@ -81,7 +66,13 @@ fn verify_for<L: Library>(
 {
     let target = category_at(alloc, 4, schema, target)?;
     let sources = categories_at(alloc, 5, "DuplicateSource", schema, sources)?;
-    let text = text_in(alloc, "certificate", certificate, lib)?;
+    let text = text_in(
+        alloc,
+        "certificate",
+        certificate,
+        MOST_CERTIFICATE_BYTES,
+        lib,
+    )?;
     told(alloc, schema, form, target, &sources, &text)
 }
 

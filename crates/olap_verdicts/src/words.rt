@@ -1,7 +1,8 @@
 // Which words are a command about a certificate.
 ghost use Rattle.std.specs.Prelude.{◌≡◌, option_map};
 ghost use Rattle.olap_order.specs.Words.{texts};
-ghost use Rattle.olap_verdicts.specs.Commands.{by_three_or_more, order_named, verify_order};
+ghost use Rattle.olap_order.specs.Arguments.{by_three_or_more};
+ghost use Rattle.olap_verdicts.specs.Commands.{order_named, verify_order};
 ghost use Rattle.olap_verdicts.specs.Seen.{seen};
 
 use olap_proof::Form;
