@@ -1,4 +1,4 @@
-"""tools/install puts three files and takes exactly those away; the completion reads schemas and runs nothing of them."""
+"""tools/install puts five files and takes exactly those away; the completions read schemas and run nothing of them."""
 
 import os
 import shutil
@@ -8,9 +8,10 @@ from pathlib import Path
 from typing import Iterator
 
 from ..program import find
-from .common import EXAMPLES, TOP, olap, tool
+from .common import EXAMPLES, TOP, is_there, not_run, olap, tool
 
-PUT = {"bin/olap", "share/man/man1/olap.1", "share/bash-completion/completions/olap", "share/olap/installed"}
+PUT = {"bin/olap", "share/man/man1/olap.1", "share/bash-completion/completions/olap", "share/zsh/site-functions/_olap",
+       "share/fish/vendor_completions.d/olap.fish", "share/olap/installed"}
 TRY = """
 compopt() { :; }
 source "$1"
@@ -99,10 +100,51 @@ def refused(prefix: Path) -> Iterator[str]:
         yield "--remove follows a record that leads elsewhere"
 
 
+# Completions in zsh: its own functions for that are taken the place of, with what they add and files as nothing.
+TRY_ZSH = """
+compadd() {
+    local -a given
+    while [[ $1 == -* ]]; do
+        if [[ $1 == -S ]]; then shift; elif [[ $1 == -a ]]; then given=(${(P)2}); fi
+        shift
+    done
+    print -rl -- ${^${(M)${given:-$@}:#${PREFIX}*}/#/$front}
+}
+compset() { [[ $PREFIX == *,* ]] || return 1; front=${PREFIX%,*},; PREFIX=${PREFIX##*,}; }
+_files() { :; }
+compdef() { :; }
+front=
+words=(${(z)2})
+[[ $2 == *" " ]] && words+=("")
+CURRENT=$#words PREFIX=$words[-1]
+functions[_olap_whole]=$(<$1)
+_olap_whole
+"""
+
+
 def completed(line: str, folder: Path) -> list[str]:
     words = ["bash", "--norc", "-c", TRY, "bash", str(TOP / "completions" / "olap.bash"), line]
     done = subprocess.run(words, cwd=folder, capture_output=True, text=True, check=False)
     return done.stdout.split() + done.stderr.split("\n")[:-1]
+
+
+def completed_by_zsh(line: str, folder: Path) -> list[str]:
+    words = ["zsh", "-f", "-c", TRY_ZSH, "zsh", str(TOP / "completions" / "_olap"), line]
+    done = subprocess.run(words, cwd=folder, capture_output=True, text=True, check=False)
+    return done.stdout.split() + done.stderr.split("\n")[:-1]
+
+
+def completed_by_fish(line: str, folder: Path) -> list[str]:
+    script = "source $argv[1]; complete -C $argv[2]"
+    words = ["fish", "--no-config", "-c", script, str(TOP / "completions" / "olap.fish"), line]
+    with tempfile.TemporaryDirectory() as home:
+        environment = {**os.environ, "HOME": home, "XDG_CONFIG_HOME": home, "XDG_DATA_HOME": home}
+        done = subprocess.run(words, cwd=folder, capture_output=True, text=True, env=environment, check=False)
+    return done.stdout.split() + done.stderr.split("\n")[:-1]
+
+
+OF_FILES = ("olap check a", "olap retract a b c d")  # where each shell completes files by itself
+SHELLS = {"bash": completed, "zsh": completed_by_zsh, "fish": completed_by_fish}
 
 
 def completion_faults(room: Path) -> Iterator[str]:
@@ -136,9 +178,14 @@ def completion_faults(room: Path) -> Iterator[str]:
         f"olap answer {quoted} i s S": ["Store", "Stage"],
         "olap frozen /dev/zero ": [],
     }
-    for line, words in wanted.items():
-        if completed(line, room) != words:
-            yield f"`{line}` is completed by {completed(line, room)}"
+    for shell, by_shell in SHELLS.items():
+        if not is_there(shell, shell):
+            not_run(f"{shell} isn't there (Debian's package {shell}), so its completion wasn't run")
+            continue
+        for line, words in wanted.items():
+            # bash completes files by itself; and zsh and fish sort.
+            if line not in OF_FILES and sorted(by_shell(line, room)) != sorted(words):
+                yield f"`{line}` is completed in {shell} by {by_shell(line, room)}"
     if (room / "ran").exists() or sorted(os.listdir(room)) != [name]:
         yield "it ran what stands in a name or a schema"
 
@@ -148,4 +195,4 @@ def faults() -> Iterator[str]:
         for number, check in enumerate((put_and_taken, refused)):
             yield from (f"install: {wrong}" for wrong in check(Path(folder) / f"no such{number}" / f"a b{number}"))
         (Path(folder) / "room").mkdir()
-        yield from (f"completions/olap.bash: {wrong}" for wrong in completion_faults(Path(folder) / "room"))
+        yield from (f"completions: {wrong}" for wrong in completion_faults(Path(folder) / "room"))
