@@ -1,19 +1,20 @@
 // A certificate where the target is summarizable, and a counterexample where it isn't.
 ghost use Rattle.std.specs.Prelude.{◌≡◌, ◌≢◌, ◌↔◌, All, AllPairs, Err, IfOk, IfSome};
 ghost use Rattle.olap_base.specs.Graph.{IsCategory};
+ghost use Rattle.olap_base.specs.declared.refusals.Refusal.TheVariants as refusal;
 ghost use Rattle.olap_ast.specs.Summarizable.{IsSummarizable};
 ghost use Rattle.olap_proof.specs.Verifying.{IsCertificateFor};
 ghost use Rattle.olap_prove.specs.Proofs.{IsYes, Shows};
 ghost use Rattle.olap_schema.specs.Schemas.{schema_of};
 ghost use Rattle.olap_ast.specs.Trees.{numbers_of};
-ghost use Rattle.olap_summ.specs.declared.summarizing.SummRefusal.TheVariants as refusal;
+ghost use Rattle.olap_summ.specs.Decisions.{duplicate_source};
 
 use olap_base::{CatId, Memory, Refusal, Text};
 use olap_draft::draft;
 use olap_frozen::Found;
 use olap_proof::{Form, plain_certificate, verify};
 use olap_schema::Schema;
-use olap_summ::{SummRefusal, summarizable};
+use olap_summ::{DuplicateSource, summarizable};
 use std::alloc::Global;
 
 /// Why the target is summarizable from the sources, or why it isn't.
@@ -82,10 +83,11 @@ pub fn prove(
     form: Form,
     target: CatId,
     sources: &[CatId],
-) -> Result<Proof, SummRefusal>
+) -> Result<Proof, Refusal<DuplicateSource>>
     requires target { IsCategory (schema_of schema.now).graph target.0 }
     requires sources { All (IsCategory (schema_of schema.now).graph) (numbers_of sources.now) }
-    ensures duplicate { (result ≡ Err refusal.DuplicateSource) ↔ (AllPairs ◌≢◌ (numbers_of sources.now) → ⊥) }
+    ensures duplicate { (result ≡ Err (refusal.Kind duplicate_source))
+        ↔ (AllPairs ◌≢◌ (numbers_of sources.now) → ⊥) }
     ensures yes { IfOk result (λ p.
         IsYes p ↔ IsSummarizable (schema_of schema.now) target.0 (numbers_of sources.now)) }
     ensures proof { IfOk result (Shows form (schema_of schema.now) target.0 (numbers_of sources.now)) }

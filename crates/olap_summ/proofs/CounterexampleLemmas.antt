@@ -1,6 +1,6 @@
 -- What the first bottom category with a frozen dimension says of summarizability.
-use Rattle.std.proofs.Common.{◌≡◌, ℕ, ◌<◌, List, sym, subst, Option, Some, None}
-use Rattle.std.specs.Prelude.{IfSome}
+use Rattle.std.proofs.Common.{◌≡◌, ℕ, ◌<◌, List, refl, sym, subst, Option, Some, None}
+use Rattle.std.specs.Prelude.{IfSome, IsSome}
 use Rattle.olap_base.specs.Graph.{IsBottom, IsHierarchy}
 use Rattle.olap_ast.specs.Formula.{Formula}
 use Rattle.olap_ast.specs.Constants.{HasKinds}
@@ -9,21 +9,18 @@ use Rattle.olap_ast.specs.Schema.{Schema}
 use Rattle.olap_ast.specs.Summarizable.{IsSummarizable, not_by_one}
 use Rattle.olap_ast.proofs.SmallModel.{frozen_exactly}
 use Rattle.olap_ast.proofs.Summing.{summarizable_exactly}
-use Rattle.olap_dimsat.specs.OneFound.{IsOneFound}
+use Rattle.olap_dimsat.specs.Finding.{IsFoundAs}
+use Rattle.olap_dimsat.specs.declared.finding.Wanted.{Wanted}
+use Rattle.olap_dimsat.specs.declared.finding.Wanted.TheVariants as wanted
 use Rattle.olap_frozen.specs.declared.founding.Found.{Found}
-use Rattle.olap_frozen.specs.LeastFound.{IsLeastFound, frozen_of}
+use Rattle.olap_frozen.specs.LeastFound.{frozen_of}
 use Rattle.olap_names.specs.Names.{candidates_of}
 use Rattle.olap_summ.specs.Answers.{IsNowhere}
+use Rattle.olap_summ.specs.Asking.{IsFirstFound}
 use Rattle.olap_summ.specs.Counterexamples.{IsCounterexampleFound, IsOneCounterexampleFound}
-use Rattle.olap_summ.proofs.NowhereLemmas.{one_of}
+use Rattle.olap_summ.proofs.AskingLemmas.{found_is_one}
 
 -- ---- the answer
-
--- the least frozen dimension of the first bottom category that has one
-pub record IsFirstFound (s : Schema) (q : Formula) (found : Found) : Type 0 where
-  pub bottom : IsBottom s.graph found.frozen.root.0
-  pub least : IsLeastFound s q found.frozen.root.0 found
-  pub first : (d : ℕ) → d < found.frozen.root.0 → IsBottom s.graph d → IsNowhere s q d
 
 module _ (s : Schema) (c : ℕ) (sources : List ℕ) (hier : IsHierarchy s.graph) where
   abbrev q : Formula
@@ -43,31 +40,55 @@ module _ (s : Schema) (c : ℕ) (sources : List ℕ) (hier : IsHierarchy s.graph
       (summarizable_exactly s c sources (candidates_of found.candidates) hier f.one.candidates).0 z
       found.frozen.root.0 f.bottom (frozen_of found.frozen) f.one.is_one
 
-  pub summarizable_isnt : (found : Found) → IsFirstFound s q found → IsSummarizable s c sources → ⊥
-  summarizable_isnt found f =
-      not_summarizable found
-      (record { bottom = f.bottom; one = one_of s q found.frozen.root.0 found f.least })
+  -- what was found at the first bottom category that has one is a counterexample
+  pub one_counterexample : (w : Wanted) (found : Found) → IsFirstFound w s q found
+      → IsOneCounterexampleFound s c sources found
+  one_counterexample w found f =
+      record { bottom = f.bottom; one = found_is_one w s q found.frozen.root.0 found f.found_as }
 
-  pub counterexample_is : (found : Found) → IsFirstFound s q found → IsCounterexampleFound s c sources found
+  -- where something was found, the target isn't summarizable
+  pub summarizable_isnt : (w : Wanted) (found : Found) → IsFirstFound w s q found → IsSummarizable s c sources → ⊥
+  summarizable_isnt w found f = not_summarizable found (one_counterexample w found f)
+
+  -- the least is the counterexample
+  pub counterexample_is : (found : Found) → IsFirstFound wanted.Least s q found
+      → IsCounterexampleFound s c sources found
   counterexample_is found f = record {
     is_one = record {
       bottom = f.bottom;
-      least = f.least.least;
+      least = f.found_as.least;
       first = λ d l b h t.
-          let m = (frozen_exactly s q d (candidates_of found.candidates) hier f.least.least.candidates).0 (h, t) in
+          let m = (frozen_exactly s q d (candidates_of found.candidates) hier f.found_as.least.candidates).0 (h, t) in
           f.first d l b m.0 m.1 m.2 m.3 m.4;
     };
-    sized = f.least.sized;
-    zero = f.least.zero;
+    sized = f.found_as.sized;
+    zero = f.found_as.zero;
   }
 
--- what was found at a bottom category for the question
-pub shown_by : (s : Schema) (p : Formula) (c : ℕ) (sources : List ℕ) (r : ℕ) → IsBottom s.graph r
-    → p ≡ not_by_one c sources → (o : Option Found) → IfSome o (IsOneFound s p r)
+-- what was found at a bottom category, where those before it have none
+pub first_shown : (w : Wanted) (s : Schema) (q : Formula) (r : ℕ) (o : Option Found)
+    → (IsSome o → IsBottom s.graph r) → IfSome o (IsFoundAs w s q r)
+    → ((d : ℕ) → d < r → IsBottom s.graph d → IsNowhere s q d) → IfSome o (IsFirstFound w s q)
+first_shown w s q r None bottom found before = tt
+first_shown w s q r (Some found) bottom is before =
+    let e = sym (found_is_one w s q r found is).root in record {
+      bottom = subst (IsBottom s.graph) e (bottom refl);
+      found_as = subst (λ x. IsFoundAs w s q x found) e is;
+      first = subst (λ x. (d : ℕ) → d < x → IsBottom s.graph d → IsNowhere s q d) e before;
+    }
+
+-- what was found for the question of a target and sources, if anything, is the counterexample, or one
+pub least_told : (s : Schema) (p : Formula) (c : ℕ) (sources : List ℕ) → IsHierarchy s.graph
+    → p ≡ not_by_one c sources → (o : Option Found) → IfSome o (IsFirstFound wanted.Least s p)
+    → IfSome o (IsCounterexampleFound s c sources)
+least_told s p c sources hier e None first = tt
+least_told s p c sources hier e (Some found) first =
+    counterexample_is s c sources hier found (subst (λ (f : Formula). IsFirstFound wanted.Least s f found) e first)
+
+pub any_told : (s : Schema) (p : Formula) (c : ℕ) (sources : List ℕ) → IsHierarchy s.graph
+    → p ≡ not_by_one c sources → (o : Option Found) → IfSome o (IsFirstFound wanted.Any s p)
     → IfSome o (IsOneCounterexampleFound s c sources)
-shown_by s p c sources r bottom e None one = tt
-shown_by s p c sources r bottom e (Some found) one = record {
-  bottom = subst (IsBottom s.graph) (sym one.root) bottom;
-  one = subst (λ (f : Formula). IsOneFound s f found.frozen.root.0 found) e
-      (subst (λ x. IsOneFound s p x found) (sym one.root) one);
-}
+any_told s p c sources hier e None first = tt
+any_told s p c sources hier e (Some found) first =
+    one_counterexample s c sources hier wanted.Any found
+    (subst (λ (f : Formula). IsFirstFound wanted.Any s f found) e first)

@@ -13,15 +13,16 @@ use Rattle.olap_ast.specs.Schema.{Schema}
 use Rattle.olap_ast.specs.Summarizable.{IsSummarizable}
 use Rattle.olap_ast.specs.Valid.{IsValidSchema}
 use Rattle.olap_dimsat.specs.declared.searching.Search.{Search}
+use Rattle.olap_dimsat.specs.declared.finding.Wanted.TheVariants as wanted
 use Rattle.olap_dimsat.specs.Searches.{IsMadeWith, candidates_in, found_in, named_in, root_of}
 use Rattle.olap_frozen.specs.declared.frozen.Frozen.{Frozen}
 use Rattle.olap_frozen.specs.LeastFound.{IsLeastFound}
+use Rattle.olap_summ.specs.Asking.{IsFirstFound}
 use Rattle.olap_summ.specs.Counterexamples.{IsCounterexampleFound}
 use Rattle.olap_summ.specs.Decisions.{HasSizesOf, IsDecisionOf, asked_by, candidates_at, found_at, sources_of, target_of}
 use Rattle.olap_summ.specs.declared.deciding.Asked.{Asked}
 use Rattle.olap_summ.specs.declared.deciding.Decision.{Decision}
 use Rattle.olap_summ.specs.declared.questioning.Questions.{Questions}
-use Rattle.olap_summ.proofs.CounterexampleLemmas.{IsFirstFound}
 use Rattle.olap_summ.proofs.DecisionLemmas.{AreThose, NoneAmong, answer_is_no, decision_kept, found_here, none_more, one_asked, shows_no, those_back}
 
 -- the decision with these searches
@@ -56,14 +57,14 @@ pub record IsShown (s : Schema) (q : Questions) (d e : Decision) (f : Frozen) : 
 
 -- so it is with the first frozen dimension that its searches found
 pub shown : (s : Schema) (q : Questions) (d e : Decision) (f : Frozen) → IsValidSchema s → IsDecisionOf s q d
-    → IsKept s q d e → IsFirstFound s (asked_by q) (found_at e f) → IsShown s q d e f
+    → IsKept s q d e → IsFirstFound wanted.Least s (asked_by q) (found_at e f) → IsShown s q d e f
 shown s q d e f v is k first = record {
   kept = k;
   isnt = answer_is_no s q d (found_at e f) v is first;
   counterexample = shows_no s q d (found_at e f) v is first;
   sizes = record {
-    edges = first.least.sized.edge_count ∙ sym k.made.edges;
-    names = first.least.sized.name_count ∙ sym k.made.categories;
+    edges = first.found_as.sized.edge_count ∙ sym k.made.edges;
+    names = first.found_as.sized.name_count ∙ sym k.made.categories;
   };
 }
 

@@ -23,19 +23,21 @@ use Rattle.olap_ast.specs.Schema.{Schema}
 use Rattle.olap_ast.specs.Summarizable.{IsSummarizable}
 use Rattle.olap_ast.specs.Valid.{IsFormulaAt, IsValidSchema, pair_count}
 use Rattle.olap_dimsat.specs.declared.searching.Search.{Search}
+use Rattle.olap_dimsat.specs.declared.finding.Wanted.TheVariants as wanted
 use Rattle.olap_dimsat.specs.Searches.{IsMadeWith, IsSizedFor, candidates_in, found_in, named_in, root_of}
 use Rattle.olap_frozen.specs.declared.founding.Found.{Found}
 use Rattle.olap_frozen.specs.declared.frozen.Frozen.{Frozen}
 use Rattle.olap_frozen.specs.LeastFound.{IsLeastFound}
 use Rattle.olap_names.specs.Names.{Named}
 use Rattle.olap_summ.specs.Answers.{IsNowhere}
+use Rattle.olap_summ.specs.Asking.{IsFirstFound}
 use Rattle.olap_summ.specs.Counterexamples.{IsCounterexampleFound}
-use Rattle.olap_summ.specs.Decisions.{AreQuestionsFor, HasSizesOf, IsAskedOf, IsDecisionOf, asked_by, found_at, names_among, roots_in, roots_of, sources_of, target_of}
+use Rattle.olap_summ.specs.Decisions.{AreQuestionsFor, HasSizesOf, IsAskedOf, IsDecisionOf, asked_by, names_among, roots_in, roots_of, sources_of, target_of}
 use Rattle.olap_summ.specs.declared.deciding.Asked.{Asked}
 use Rattle.olap_summ.specs.declared.deciding.Decision.{Decision}
 use Rattle.olap_summ.specs.declared.questioning.Questions.{Questions}
 use Rattle.olap_ast.proofs.SourceLemmas.{question_at, question_few, question_kinds, until}
-use Rattle.olap_summ.proofs.CounterexampleLemmas.{IsFirstFound, counterexample_is, summarizable_is, summarizable_isnt}
+use Rattle.olap_summ.proofs.CounterexampleLemmas.{counterexample_is, summarizable_is, summarizable_isnt}
 use Rattle.olap_summ.proofs.NowhereLemmas.{nowhere}
 
 -- ---- roots and names
@@ -289,10 +291,10 @@ pub found_here : (s : Schema) (q : Questions) (old : Decision) (xs new : List As
     → NoneAmong s (asked_by q) k old.searches.items
     → IsLeastFound s (asked_by q) (root_of (get_or xs k d).search) (found_in (get_or xs k d).search f)
     → AreThose s (asked_by q) old.searches.items new
-    → IsFirstFound s (asked_by q) (record { frozen = f; candidates = names_among new f.root.0 })
+    → IsFirstFound wanted.Least s (asked_by q) (record { frozen = f; candidates = names_among new f.root.0 })
 found_here s q old xs new k d f is t h none l u = record {
   bottom = subst (IsBottom s.graph) (sym root) (place_has_bottom s q old k is inside);
-  least = subst (λ (m : Named). IsLeastFound s (asked_by q) f.root.0 (record { frozen = f; candidates = m }))
+  found_as = subst (λ (m : Named). IsLeastFound s (asked_by q) f.root.0 (record { frozen = f; candidates = m }))
       (sym named)
       (subst (λ r. IsLeastFound s (asked_by q) r (found_in (get_or xs k d).search f)) (sym l.root) l);
   first = λ b less. before_place s q old k is inside none b (subst (λ r. b < r) root less);
@@ -320,19 +322,14 @@ answer_is_yes s q d v e is none =
 
 -- where one was found it isn't
 pub answer_is_no : (s : Schema) (q : Questions) (d : Decision) (found : Found) → IsValidSchema s → IsDecisionOf s q d
-    → IsFirstFound s (asked_by q) found → IsSummarizable s (target_of q) (sources_of q) → ⊥
+    → IsFirstFound wanted.Least s (asked_by q) found → IsSummarizable s (target_of q) (sources_of q) → ⊥
 answer_is_no s q d found v is f =
-    summarizable_isnt s (target_of q) (sources_of q) v.hierarchy found
-    (subst (λ (p : Formula). IsFirstFound s p found) is.questions.asked f)
+    summarizable_isnt s (target_of q) (sources_of q) v.hierarchy wanted.Least found
+    (subst (λ (p : Formula). IsFirstFound wanted.Least s p found) is.questions.asked f)
 
 -- the first that was found is the counterexample
 pub shows_no : (s : Schema) (q : Questions) (d : Decision) (found : Found) → IsValidSchema s → IsDecisionOf s q d
-    → IsFirstFound s (asked_by q) found → IsCounterexampleFound s (target_of q) (sources_of q) found
+    → IsFirstFound wanted.Least s (asked_by q) found → IsCounterexampleFound s (target_of q) (sources_of q) found
 shows_no s q d found v is f =
     counterexample_is s (target_of q) (sources_of q) v.hierarchy found
-    (subst (λ (p : Formula). IsFirstFound s p found) is.questions.asked f)
-
--- what is shown has a search
-pub shown_is_searched : (s : Schema) (q : Questions) (d : Decision) (f : Frozen) → IsDecisionOf s q d
-    → IsCounterexampleFound s (target_of q) (sources_of q) (found_at d f) → Contains (roots_in d) f.root.0
-shown_is_searched s q d f is h = (is.bottoms f.root.0).1 h.is_one.bottom
+    (subst (λ (p : Formula). IsFirstFound wanted.Least s p found) is.questions.asked f)

@@ -1,15 +1,16 @@
--- What is asked of a search.
---     IsFoundAs    what was found is as it was wanted
-use Rattle.std.specs.Prelude.{ℕ}
+-- What is found by asking one bottom category after the other.
+--     IsFirstFound    it is one of the first that has one
+use Rattle.std.specs.Prelude.{ℕ, ◌<◌}
+use Rattle.olap_base.specs.Graph.{IsBottom}
 use Rattle.olap_ast.specs.Formula.{Formula}
 use Rattle.olap_ast.specs.Schema.{Schema}
-use Rattle.olap_dimsat.specs.OneFound.{IsOneFound}
+use Rattle.olap_dimsat.specs.Finding.{IsFoundAs}
+use Rattle.olap_dimsat.specs.declared.finding.Wanted.{Wanted}
 use Rattle.olap_frozen.specs.declared.founding.Found.{Found}
-use Rattle.olap_frozen.specs.LeastFound.{IsLeastFound}
-use Rattle.olap_summ.specs.declared.asking.Wanted.{Wanted}
-use Rattle.olap_summ.specs.declared.asking.Wanted.TheVariants as wanted
+use Rattle.olap_summ.specs.Answers.{IsNowhere}
 
--- it is the least frozen dimension of the root for the question, or one of them
-abbrev pub IsFoundAs : Wanted → Schema → Formula → ℕ → Found → Type 0
-IsFoundAs wanted.Least s q r found = IsLeastFound s q r found
-IsFoundAs wanted.Any s q r found = IsOneFound s q r found
+-- it is as it was wanted, of the first bottom category that has one for the question
+pub record IsFirstFound (w : Wanted) (s : Schema) (q : Formula) (found : Found) : Type 0 where
+  pub bottom : IsBottom s.graph found.frozen.root.0
+  pub found_as : IsFoundAs w s q found.frozen.root.0 found
+  pub first : (d : ℕ) → d < found.frozen.root.0 → IsBottom s.graph d → IsNowhere s q d

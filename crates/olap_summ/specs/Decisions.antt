@@ -1,4 +1,5 @@
 -- Questions of summarizability, and what decides them.
+--     duplicate_source         why there are no questions
 --     target_of, sources_of    what is asked about
 --     AreQuestionsFor          they are about categories of a schema
 --     roots_in                 the categories that a decision searches
@@ -22,9 +23,14 @@ use Rattle.olap_names.specs.Names.{Named}
 use Rattle.olap_summ.specs.Counterexamples.{IsCounterexampleFound}
 use Rattle.olap_summ.specs.declared.deciding.Asked.{Asked}
 use Rattle.olap_summ.specs.declared.deciding.Decision.{Decision}
+use Rattle.olap_summ.specs.declared.questioning.DuplicateSource.{DuplicateSource}
 use Rattle.olap_summ.specs.declared.questioning.Questions.{Questions}
 
 -- ---- questions
+
+-- a source stands twice
+abbrev pub duplicate_source : DuplicateSource
+duplicate_source = record {}
 
 -- the category whose totals are asked about
 abbrev pub target_of : Questions → ℕ

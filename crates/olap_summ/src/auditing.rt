@@ -12,11 +12,12 @@ ghost use Rattle.olap_summ.specs.Answers.{IsNowhere};
 ghost use Rattle.olap_summ.specs.Audits.{AreFindingsBefore, finding_of, redundant, unsatisfiable, unused};
 ghost use Rattle.olap_summ.specs.Sights.{AreAllSettled, IsSeen, Keeps};
 
-use crate::asking::{Wanted, found};
+use crate::asking::found;
 use crate::implying::is_implied;
 use crate::seeing::Seen;
 use olap_ast::Formula;
 use olap_base::{CatId, EdgeId, List, Memory};
+use olap_dimsat::Wanted;
 use olap_schema::Schema;
 use std::alloc::Global;
 

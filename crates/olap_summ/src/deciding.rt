@@ -1,18 +1,17 @@
 // The decision of summarizability, in memory that is taken before.
-ghost use Rattle.std.specs.Prelude.{◌≡◌, ◌<◌, ◌↔◌, ℕ, Contains, IfErr, IfOk, IfSome, IsNone, IsTrue, false, length, slice_index_or};
+ghost use Rattle.std.specs.Prelude.{◌≡◌, ◌<◌, ◌↔◌, ℕ, Contains, IfOk, IsTrue, false, length, slice_index_or};
 ghost use Rattle.olap_ast.specs.Summarizable.{IsSummarizable};
 ghost use Rattle.olap_dimsat.specs.Searches.{named_in};
 ghost use Rattle.olap_frozen.specs.LeastFound.{HasNothing};
 ghost use Rattle.olap_schema.specs.Schemas.{schema_of};
 ghost use Rattle.olap_summ.specs.Counterexamples.{IsCounterexampleFound};
 ghost use Rattle.olap_summ.specs.Decisions.{AreQuestionsFor, HasSizesOf, IsDecisionOf, candidates_at, found_at, roots_in, sources_of, target_of};
-ghost use Rattle.olap_summ.specs.declared.summarizing.SummRefusal.TheVariants as refusal;
 
-use crate::{Questions, SummRefusal};
+use crate::Questions;
 use olap_ast::candidates_exist;
 use olap_base::{CatId, List, Memory};
 use olap_dimsat::Search;
-use olap_frozen::{Found, Frozen};
+use olap_frozen::Frozen;
 use olap_names::Candidates;
 use olap_schema::Schema;
 use std::alloc::Global;
@@ -132,27 +131,5 @@ impl Decision {
         ensures { result ≡ candidates_at self root.0 }
     {
         self.take_candidates(root)
-    }
-
-    /// The counterexample, with the candidates of its root's search, which it gives up. None exactly where the target
-    /// is summarizable from the sources.
-    pub(crate) fn counterexample(
-        &mut self,
-        schema: &Schema,
-        questions: &Questions,
-    ) -> Result<Option<Found>, SummRefusal>
-        requires { IsDecisionOf (schema_of schema.now) questions.now self.old }
-        ensures none { IfOk result (λ o. IsNone o
-            ↔ IsSummarizable (schema_of schema.now) (target_of questions.now) (sources_of questions.now)) }
-        ensures some { IfOk result (λ o. IfSome o
-            (IsCounterexampleFound (schema_of schema.now) (target_of questions.now) (sources_of questions.now))) }
-        ensures refusal { IfErr result (λ e. e ≡ refusal.Memory) }
-    {
-        let mut frozen = self.blank()?;
-        if !self.decide(schema, questions, &mut frozen) {
-            return Ok(None);
-        }
-        let candidates = self.take_candidates(frozen.root);
-        Ok(Some(Found { frozen, candidates }))
     }
 }

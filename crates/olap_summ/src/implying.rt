@@ -11,9 +11,10 @@ ghost use Rattle.olap_frozen.specs.LeastFound.{IsLeastFound};
 ghost use Rattle.olap_schema.specs.Schemas.{schema_of};
 ghost use Rattle.olap_summ.specs.Answers.{IsNowhere};
 
-use crate::asking::{Wanted, found};
+use crate::asking::found;
 use olap_ast::{Formula, copy};
 use olap_base::{CatId, Memory};
+use olap_dimsat::Wanted;
 use olap_frozen::Found;
 use olap_schema::Schema;
 use std::alloc::Global;
@@ -59,12 +60,9 @@ fn is_nowhere(alloc: Global, schema: &Schema, root: CatId, f: &Formula) -> Resul
 }
 
 /// Whether every legal instance meets the constraint of this root and formula.
-pub(crate) fn is_implied(
-    alloc: Global,
-    schema: &Schema,
-    root: CatId,
-    f: &Formula,
-) -> Result<bool, Memory>
+///
+/// It looks for any frozen dimension whose root makes the formula false, so it is cheaper than `implies`.
+pub fn is_implied(alloc: Global, schema: &Schema, root: CatId, f: &Formula) -> Result<bool, Memory>
     requires root { IsCategory (schema_of schema.now).graph root.0 }
     requires formula { IsFormulaAt (schema_of schema.now).graph root.0 (formula_of f.now) }
     requires few { pair_count (all_equalities (schema_of schema.now) (formula_of f.now))

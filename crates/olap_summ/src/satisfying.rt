@@ -6,9 +6,10 @@ ghost use Rattle.olap_base.specs.Graph.{IsCategory};
 ghost use Rattle.olap_frozen.specs.LeastFound.{IsLeastFound};
 ghost use Rattle.olap_schema.specs.Schemas.{schema_of};
 
-use crate::asking::{Wanted, found};
+use crate::asking::found;
 use olap_ast::Formula;
 use olap_base::{CatId, Memory};
+use olap_dimsat::Wanted;
 use olap_frozen::Found;
 use olap_schema::Schema;
 use std::alloc::Global;

@@ -1,25 +1,25 @@
-use Rattle.std.proofs.Common.{◌↔◌, subst}
-use Rattle.std.specs.Prelude.{IfOk, IfSome, IsNone}
-use Rattle.olap_ast.specs.Summarizable.{IsSummarizable}
+use Rattle.std.proofs.Common.{◌∙◌, ◌↔◌, ap, subst}
+use Rattle.std.specs.Prelude.{IsNone}
+use Rattle.olap_ast.specs.Summarizable.{IsSummarizable, not_by_one}
 use Rattle.olap_schema.specs.Schemas.{schema_of}
-use Rattle.olap_summ.specs.Counterexamples.{IsCounterexampleFound}
-use Rattle.olap_summ.specs.Decisions.{sources_of}
+use Rattle.olap_summ.specs.Decisions.{asked_by, sources_of}
+use Rattle.olap_summ.proofs.CounterexampleLemmas.{least_told}
 use Rattle.olap_summ.proofs.summarizing.summarizable.Goals as goal
 
 pub returns-clause-none : goal.returns-clause-none
 returns-clause-none c =
     let s = schema_of c.args.schema.now in
-    let q = c.in_ok-questions.questions in
     let asked = c.in_ok-questions.ensures in
-    subst (λ l. IfOk c.decided.result (λ o. IsNone o ↔ IsSummarizable s c.args.target.0 l)) asked.sources
-    (subst (λ n. IfOk c.decided.result (λ o. IsNone o ↔ IsSummarizable s n (sources_of q))) asked.target
-    c.decided.ensures.none)
+    let found = c.in_ok-found in
+    subst (λ l. IsNone found.found ↔ IsSummarizable s c.args.target.0 l) asked.sources
+    (subst (λ n. IsNone found.found ↔ IsSummarizable s n (sources_of c.in_ok-questions.questions)) asked.target
+    found.ensures.none)
 
 pub returns-clause-some : goal.returns-clause-some
 returns-clause-some c =
-    let s = schema_of c.args.schema.now in
     let q = c.in_ok-questions.questions in
     let asked = c.in_ok-questions.ensures in
-    subst (λ l. IfOk c.decided.result (λ o. IfSome o (IsCounterexampleFound s c.args.target.0 l))) asked.sources
-    (subst (λ n. IfOk c.decided.result (λ o. IfSome o (IsCounterexampleFound s n (sources_of q)))) asked.target
-    c.decided.ensures.some)
+    least_told (schema_of c.args.schema.now) (asked_by q) c.args.target.0 _ c.first_found.ensures.hierarchy
+    (asked.made.asked ∙ ap (λ n. not_by_one n (sources_of q)) asked.target
+    ∙ ap (not_by_one c.args.target.0) asked.sources)
+    c.in_ok-found.found c.in_ok-found.ensures.some

@@ -2,10 +2,8 @@ use Rattle.std.proofs.Common.{sym, subst, true≢false, ◌∙◌}
 use Rattle.std.proofs.lemmas.Result.{IfOk-weaker}
 use Rattle.olap_base.specs.Graph.{Graph, IsBottom}
 use Rattle.olap_schema.specs.Schemas.{schema_of}
-use Rattle.olap_summ.specs.Decisions.{asked_by, sources_of, target_of}
-use Rattle.olap_summ.proofs.CounterexampleLemmas.{shown_by}
 use Rattle.olap_summ.proofs.DecisionLemmas.{asked_at, asked_few}
-use Rattle.olap_summ.proofs.summarizing.shown_at.Goals as goal
+use Rattle.olap_summ.proofs.summarizing.found_at.Goals as goal
 
 pub found-requires-clause-question : goal.found-requires-clause-question
 found-requires-clause-question c =
@@ -23,10 +21,8 @@ returns-then-not-is_bottom-clause-none c = λ e bottom.
 pub returns-clause-none : goal.returns-clause-none
 returns-clause-none c = IfOk-weaker c.found.result _ _ (λ o h e bottom. h.0 e) c.found.ensures.none
 
-pub returns-clause-some : goal.returns-clause-some
-returns-clause-some c =
-    let s = schema_of c.args.schema.now in
-    let q = c.args.questions.now in
-    IfOk-weaker c.found.result _ _ (shown_by s (asked_by q) (target_of q) (sources_of q) c.args.root.0
-    (subst (λ (g : Graph). IsBottom g c.args.root.0) c.graph.ensures (c.is_bottom.ensures.0 c.if-not-is_bottom.false))
-    c.requires.questions.asked) c.found.ensures.some
+pub returns-clause-bottom : goal.returns-clause-bottom
+returns-clause-bottom c =
+    let bottom = subst (λ (g : Graph). IsBottom g c.args.root.0) c.graph.ensures
+    (c.is_bottom.ensures.0 c.if-not-is_bottom.false) in
+    IfOk-weaker c.found.result _ _ (λ o h e. bottom) c.found.ensures.none

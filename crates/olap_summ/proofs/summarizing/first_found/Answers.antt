@@ -1,16 +1,16 @@
 use Rattle.std.proofs.Common.{◌≤◌, ◌∙◌, ℕ, ap, sym, subst, arith}
 use Rattle.olap_ast.specs.Formula.{Formula}
 use Rattle.olap_ast.specs.Summarizable.{IsSummarizable}
+use Rattle.olap_ast.proofs.SourceLemmas.{question_kinds, until}
 use Rattle.olap_base.specs.Graph.{IsBottom, category_count}
 use Rattle.olap_frozen.specs.declared.founding.Found.{Found}
 use Rattle.olap_schema.specs.Schemas.{schema_of}
 use Rattle.olap_summ.specs.Answers.{IsNowhere}
-use Rattle.olap_summ.specs.Counterexamples.{IsOneCounterexampleFound}
+use Rattle.olap_summ.specs.Asking.{IsFirstFound}
 use Rattle.olap_summ.specs.Decisions.{asked_by, sources_of, target_of}
-use Rattle.olap_summ.proofs.CounterexampleLemmas.{not_summarizable, summarizable_is}
-use Rattle.olap_ast.proofs.SourceLemmas.{question_kinds, until}
+use Rattle.olap_summ.proofs.CounterexampleLemmas.{first_shown, summarizable_is, summarizable_isnt}
 use Rattle.olap_summ.proofs.NowhereLemmas.{none_is, some_told}
-use Rattle.olap_summ.proofs.summarizing.shown.Goals as goal
+use Rattle.olap_summ.proofs.summarizing.first_found.Goals as goal
 
 pub categories-preserved : goal.categories-preserved
 categories-preserved c =
@@ -22,10 +22,19 @@ pub returns-then-is_some-clause-none : goal.returns-then-is_some-clause-none
 returns-then-is_some-clause-none c =
     let s = schema_of c.args.schema.now in
     let q = c.args.questions.now in
-    some_told c.in_ok-found.found (IsOneCounterexampleFound s (target_of q) (sources_of q))
-    (IsSummarizable s (target_of q) (sources_of q)) (sym c.is_some.ensures ∙ c.if-is_some.true)
-    c.in_ok-found.ensures.some
-    (not_summarizable s (target_of q) (sources_of q) c.constraints-valid.ensures.valid.hierarchy)
+    let w = c.args.wanted in
+    some_told c.in_ok-found.found (IsFirstFound w s (asked_by q)) (IsSummarizable s (target_of q) (sources_of q))
+    (sym c.is_some.ensures ∙ c.if-is_some.true)
+    (first_shown w s (asked_by q) c.categories.b c.in_ok-found.found c.in_ok-found.ensures.bottom
+    c.in_ok-found.ensures.some c.categories.invariant)
+    (subst (λ (f : Formula). (found : Found) → IsFirstFound w s f found
+    → IsSummarizable s (target_of q) (sources_of q) → ⊥) (sym c.requires.asked)
+    (summarizable_isnt s (target_of q) (sources_of q) c.constraints-valid.ensures.valid.hierarchy w))
+
+pub returns-then-is_some-clause-some : goal.returns-then-is_some-clause-some
+returns-then-is_some-clause-some c =
+    first_shown c.args.wanted (schema_of c.args.schema.now) (asked_by c.args.questions.now) c.categories.b
+    c.in_ok-found.found c.in_ok-found.ensures.bottom c.in_ok-found.ensures.some c.categories.invariant
 
 pub returns-clause-none : goal.returns-clause-none
 returns-clause-none c =
