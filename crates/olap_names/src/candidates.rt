@@ -270,27 +270,6 @@ impl Candidates {
         self.others(c).len() as u16 + 1
     }
 
-    /// The other names of each category.
-    pub fn texts(&self) -> &[List<Text>]
-        ensures { result.now ≡ self.now.texts }
-    {
-        &self.texts
-    }
-
-    /// The first name of each category.
-    pub fn firsts(&self) -> &[Text]
-        ensures { result.now ≡ self.now.first }
-    {
-        &self.first
-    }
-
-    /// The fresh name.
-    pub fn fresh(&self) -> &Text
-        ensures { result.now ≡ self.now.fresh }
-    {
-        &self.fresh
-    }
-
     /// The name of an index: `all` for `All`, else the first name for 0 and the i-th of the others for i.
     pub fn name(&self, c: CatId, index: u16) -> &Text
         requires category { c.0 < length self.now.texts }
