@@ -44,7 +44,8 @@ fn along<P: Partial>(categories: &[CatId], root: CatId, p: &P) -> Truth3
 
 /// What is known of the formula's truth at the member of the root: its value by the values of its atoms.
 ///
-/// It asks each atom once. It calls itself as deep as the formula is, and once more for each part of a list.
+/// It asks each atom at most once, and none of a second part where the first one decides. It calls itself as deep as
+/// the formula is, and once more for each part of a list.
 #[cycle(holds3)]
 pub fn holds3<P: Partial>(f: &Formula, root: CatId, p: &P) -> Truth3
     ensures { result ≡ value_at (P.known p.now) root.0 (formula_of f.now) }
@@ -58,9 +59,18 @@ pub fn holds3<P: Partial>(f: &Formula, root: CatId, p: &P) -> Truth3
         Formula::Equals(d, text) => p.reaches(root, *d).and(p.name(*d, text)),
         Formula::Compare(d, op, n) => p.reaches(root, *d).and(p.number(*d, *op, *n)),
         Formula::Not(g) => holds3(g, root, p).not(),
-        Formula::And(g, h) => holds3(g, root, p).and(holds3(h, root, p)),
-        Formula::Or(g, h) => holds3(g, root, p).or(holds3(h, root, p)),
-        Formula::Implies(g, h) => holds3(g, root, p).implies(holds3(h, root, p)),
+        Formula::And(g, h) => match holds3(g, root, p) {
+            Truth3::No => Truth3::No,
+            value => value.and(holds3(h, root, p)),
+        },
+        Formula::Or(g, h) => match holds3(g, root, p) {
+            Truth3::Yes => Truth3::Yes,
+            value => value.or(holds3(h, root, p)),
+        },
+        Formula::Implies(g, h) => match holds3(g, root, p) {
+            Truth3::No => Truth3::Yes,
+            value => value.implies(holds3(h, root, p)),
+        },
         Formula::Iff(g, h) => holds3(g, root, p).iff(holds3(h, root, p)),
         Formula::Xor(g, h) => holds3(g, root, p).xor(holds3(h, root, p)),
         Formula::One(parts) => counted(parts, root, p, OneCount::new()).result(),
