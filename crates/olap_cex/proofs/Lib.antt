@@ -3,7 +3,6 @@ mod PresentLemmas
 mod LineLemmas
 mod ListLemmas
 mod DraftLemmas
-mod RefusalLemmas
 mod ParentLemmas
 mod PlaceLemmas
 mod CountLemmas

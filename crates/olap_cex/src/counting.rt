@@ -12,7 +12,7 @@ use olap_graph::{Categories, Graph, row_has};
 use std::alloc::Global;
 
 /// Whether the root reaches the source, and the source the target.
-fn is_way(rows: &[Categories], root: CatId, source: CatId, target: CatId) -> bool
+pub fn is_way(rows: &[Categories], root: CatId, source: CatId, target: CatId) -> bool
     requires root { root.0 < length rows.now }
     requires source { source.0 < length rows.now }
     ensures { IsTrue result ↔ IsWay rows.now root.0 target.0 source.0 }

@@ -12,6 +12,7 @@ mod members;
 mod thawing;
 
 pub use counterexamples::{Cex, counterexample, print_cex, push_sum};
+pub use counting::is_way;
 pub use laws::{
     counterexample_sums_differ, frozen_is_legal, printed_frozen_dimensions_are_read,
     printed_instances_are_read, question_is_true, root_is_member,

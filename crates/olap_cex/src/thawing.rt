@@ -8,24 +8,13 @@ ghost use Rattle.olap_graph.specs.Building.{IsWithinLimits};
 ghost use Rattle.olap_instance.specs.DraftInside.{number_of};
 ghost use Rattle.olap_instance.specs.Drafts.{HasParent, with_parent};
 ghost use Rattle.olap_instance.specs.Made.{IsMadeFor};
-ghost use Rattle.olap_instance.specs.declared.refusals.MemberRefusal.TheVariants as of_member;
 
 use crate::members::{has_member, name};
-use olap_base::{CatId, EdgeId, MemberId, Memory, Text};
+use olap_base::{CatId, EdgeId, MemberId, Memory, Refusal, Text};
 use olap_frozen::Found;
 use olap_graph::Graph;
-use olap_instance::{Instance, InstanceBuilder, MemberRefusal, ParentRefusal};
+use olap_instance::{Instance, InstanceBuilder};
 use std::alloc::Global;
-
-/// A refusal: out of memory.
-fn only_memory(refusal: MemberRefusal) -> Memory
-    requires { refusal ≡ of_member.Memory }
-{
-    match refusal {
-        MemberRefusal::Memory => Memory,
-        _ => unreachable!(),
-    }
-}
 
 /// Adds the member of a present category after those of the ones before it.
 fn add_member(
@@ -50,7 +39,8 @@ fn add_member(
     let name = Text::from_bytes(alloc, name(&found.frozen, &found.candidates, c).bytes())?;
     match builder.add_named(id, c, name) {
         Ok(member) => Ok(member),
-        Err(refusal) => Err(only_memory(refusal)),
+        Err(Refusal::Memory(memory)) => Err(memory),
+        Err(Refusal::Kind(_)) => unreachable!(),
     }
 }
 
@@ -101,8 +91,8 @@ fn add_parent(
 {
     match builder.add_parent(child, parent) {
         Ok(()) => Ok(()),
-        Err(ParentRefusal::Memory) => Err(Memory),
-        Err(ParentRefusal::DuplicateParent) => unreachable!(),
+        Err(Refusal::Memory(memory)) => Err(memory),
+        Err(Refusal::Kind(_)) => unreachable!(),
     }
 }
 
