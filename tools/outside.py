@@ -13,7 +13,6 @@ from dataclasses import dataclass
 from pathlib import Path
 
 TOP = Path(__file__).resolve().parent.parent
-PROGRAM = TOP / "crates" / "olap_cli" / "out" / "olap_cli"
 PATIENCE = 60  # seconds
 
 # FAULTS has a fault for each stretch of calls, as `3-3 f 5;4-9 s 1;`: the third call fails with the error 5, and those

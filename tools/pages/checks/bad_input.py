@@ -3,9 +3,11 @@
 import json
 import os
 import shutil
+import stat
 import subprocess
 import sys
 import tempfile
+import time
 import xml.etree.ElementTree as ET
 from pathlib import Path
 from typing import Iterator
@@ -135,6 +137,46 @@ def refusals(room: Path) -> Iterator[str]:
         yield f"files are left or changed: {os.listdir(room)}"
 
 
+def odd_outputs(room: Path) -> Iterator[str]:
+    """An output that is a pipe or a device is written into and stays what it is, and a link stays a link."""
+    (room / "link").symlink_to("behind")
+    os.mkfifo(room / "pipe")
+    wanted = tool("draw", "schema", LOCATION).stdout
+    done = tool("draw", "schema", LOCATION, "-o", "link", folder=room)
+    if done.returncode != 0 or not (room / "link").is_symlink() or (room / "behind").read_text() != wanted:
+        yield f"draw -o LINK: status {done.returncode}, {done.stderr!r}, {os.listdir(room)}"
+    reader = subprocess.Popen(["cat", room / "pipe"], stdout=subprocess.PIPE)
+    done = tool("draw", "schema", LOCATION, "-o", "pipe", folder=room)
+    if done.returncode != 0 or not (room / "pipe").is_fifo() or reader.communicate()[0].decode() != wanted:
+        yield f"draw -o PIPE: status {done.returncode}, {done.stderr!r}"
+    reader.kill()
+    reader.wait()
+    try:
+        os.mknod(room / "null", 0o666 | stat.S_IFCHR, os.makedev(1, 3))
+        (room / "null").write_text("")
+    except OSError:
+        return  # no right to make a device, or to write to one here
+    done = tool("draw", "schema", LOCATION, "-o", "null", folder=room)
+    if done.returncode != 0 or not (room / "null").is_char_device():
+        yield f"draw -o DEVICE: status {done.returncode}, {done.stderr!r}"
+
+
+def many_ways(room: Path) -> Iterator[str]:
+    """A violation above which there are more ways than can be walked is drawn at once."""
+    levels = [f"L{level}" for level in range(26)]
+    edges = zip(["S", *levels], [*levels, "T"])
+    text = "schema 1\n" + "".join(f"category {name}\n" for name in ("S", *levels, "T")) + "".join(f"edge {one} {two}\n" for one, two in edges)
+    (room / "schema.txt").write_text(text + "edge T All\n")
+    rows = ["id,category,name,parents", "s,S,s,L0a;L0b"]
+    for level, above in zip(levels, [*levels[1:], "T"]):
+        rows += [f"{level}{each},{level},x,{above}a;{above}b" for each in "ab"]
+    (room / "instance.csv").write_text("\n".join([*rows, "Ta,T,x,all", "Tb,T,x,all", ""]))
+    began = time.monotonic()
+    done = tool("draw", "instance", "schema.txt", "instance.csv", folder=room)
+    if done.returncode != 0 or time.monotonic() - began > 60:
+        yield f"draw instance of many ways: status {done.returncode} after {time.monotonic() - began:.0f} s, {done.stderr!r}"
+
+
 def full_output(room: Path) -> Iterator[str]:
     """Standard output that takes nothing."""
     for words in (("draw", "schema", LOCATION), ("report", str(EXAMPLES / "chain" / "schema.txt"))):
@@ -154,6 +196,6 @@ def lies(room: Path) -> Iterator[str]:
 
 
 def faults() -> Iterator[str]:
-    for check in (odd_names, refusals, full_output, lies):
+    for check in (odd_names, refusals, odd_outputs, many_ways, full_output, lies):
         with tempfile.TemporaryDirectory() as folder:
             yield from (f"bad input: {wrong}" for wrong in check(Path(folder)))

@@ -13,6 +13,7 @@ from html.parser import HTMLParser
 from pathlib import Path
 
 import debian
+import harness
 
 from ..program import TOP, find
 
@@ -33,7 +34,7 @@ def is_there(tool: str, package: str) -> bool:
 
 def not_run(what: str) -> None:
     """Tells in one line what wasn't run; that is no fault."""
-    print(f"check-pages: {what}", flush=True)
+    harness.not_run("check-pages", what)
 
 
 def olap(*words: str, folder: Path = EXAMPLES) -> tuple[int, str]:
