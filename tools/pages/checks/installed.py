@@ -7,6 +7,7 @@ import tempfile
 from pathlib import Path
 from typing import Iterator
 
+from .. import manual
 from ..program import find
 from .common import EXAMPLES, TOP, is_there, not_run, olap, tool
 
@@ -153,6 +154,7 @@ def completion_faults(room: Path) -> Iterator[str]:
     quoted = "'" + name.replace("'", "'\\''") + "'"
     escaped = "".join("\\" + each if not each.isalnum() else each for each in name)
     wanted = {
+        "olap ": list(manual.synopses()),
         "olap s": ["summarizable", "satisfiable", "store"],
         "olap a": ["audit", "answer", "append"],
         "olap check a": [],
