@@ -98,7 +98,8 @@ record Alike (ss : List Schema) (cs : List ℕ) (is : List Instance) (x : List �
 
 -- there is one, dimension by dimension, by the small-model theorem
 alike : CandidatesExist → (ss : List Schema) (cs : List ℕ) (is : List Instance) (x y : List ℕ)
-    → All IsHierarchy (graphs_of ss) → All IsKinded ss → AreLegal ss is → IsBottomTuple (graphs_of ss) is x → IsTupleOf is cs y → TupleReaches is x y → Alike ss cs is x
+    → All IsHierarchy (graphs_of ss) → All IsKinded ss → AreLegal ss is → IsBottomTuple (graphs_of ss) is x
+    → IsTupleOf is cs y → TupleReaches is x y → Alike ss cs is x
 alike exist [] [] [] [] y a w l b m r = record {
   choice = [];
   chosen = tt;
@@ -117,7 +118,8 @@ alike exist (s ∷ ss) (c ∷ cs) (i ∷ is) (x ∷ xs) (y ∷ ys) a w l b m r =
     let k = exist s (Reach c) (kinds_too s Truth (Reach c) refl refl (All-head IsKinded s ss w)) in
     let hier = All-head IsHierarchy s.graph (graphs_of ss) a in
     let f = frozen_alike s (Reach c) k.0 hier k.1 i l.0 x b.0 (y, m.0, r.0) in
-    let rest = alike exist ss cs is xs ys (All-tail IsHierarchy s.graph (graphs_of ss) a) (All-tail IsKinded s ss w) l.1 b.2 m.1 r.1 in
+    let rest = alike exist ss cs is xs ys (All-tail IsHierarchy s.graph (graphs_of ss) a) (All-tail IsKinded s ss w) l.1
+    b.2 m.1 r.1 in
     let p : Chosen = record { bottom = category_of i x; candidates = k.0; frozen = f.0 } in
     let z = f.1.stands_for.root in
     record {

@@ -21,15 +21,15 @@ use Rattle.olap_base.proofs.ListLemmas.{Contains-map, Contains-nil}
 use Rattle.olap_instance.specs.Made.{IsMadeFor}
 use Rattle.olap_records.specs.Faults.{first_fault}
 use Rattle.olap_records.proofs.Seeing.{HasSeen, see-fault}
-use Rattle.olap_facts.specs.Refusals.{IsFaultCause}
 use Rattle.olap_facts.specs.declared.kinds.FactKind.{FactKind}
 use Rattle.olap_facts.specs.declared.kinds.FactKind.TheVariants as kinds
-use Rattle.olap_facts.specs.declared.kinds.FactRefusal.{FactRefusal}
-use Rattle.olap_facts.specs.declared.kinds.FactRefusal.TheVariants as refusal
+use Rattle.olap_base.specs.declared.refusals.Fault.{Fault}
+use Rattle.olap_base.specs.declared.refusals.Refusal.{Refusal}
+use Rattle.olap_base.specs.declared.refusals.Refusal.TheVariants as refusal
 use Rattle.olap_cube.specs.CubeViews.{CubeFact, CubeView, IsCubeFactTable, cube_direct_view}
 use Rattle.olap_cube.specs.Tuples.{IsBottomTuple}
 use Rattle.olap_cube_views.specs.CubeFactText.{body_read, cube_fact_fault, cube_fact_read, has_header, member_fault, member_number, members_fault, members_read, or_read}
-use Rattle.olap_cube_views.specs.CubeRefusals.{IsToldAt}
+use Rattle.olap_cube_views.specs.CubeRefusals.{IsFaultCause, IsToldAt}
 use Rattle.olap_cube_views.specs.CubeRollingUp.{IsCubeRolledUp}
 use Rattle.olap_cube_views.specs.CubeTallies.{AreMembers}
 use Rattle.olap_cube_views.specs.Dimensions.{AreMadeFor}
@@ -130,15 +130,15 @@ header_is row top b h =
 
 -- a record's fault is the text's first, where no record before it has one
 pub told_cause : (fault : List (List (List ℕ)) → List (List ℕ) → Option FactKind)
-    (all seen left after : List (List (List ℕ))) (row : List (List ℕ)) (n : ℕ) (e : FactRefusal)
+    (all seen left after : List (List (List ℕ))) (row : List (List ℕ)) (n : ℕ) (e : Refusal (Fault FactKind))
     → HasSeen fault all seen left → left ≡ row ∷ after → length seen ≡ n → IsToldAt (n + 2) (fault seen row) e
     → IsFaultCause (first_fault fault [] all) e
-told_cause fault all seen left after row n (refusal.Fault at kind) s l size t = (
+told_cause fault all seen left after row n (refusal.Kind f) s l size t = (
   length seen,
   let q = t.0 in omega arith,
-  see-fault fault all seen left after row kind s l t.1,
+  see-fault fault all seen left after row f.kind s l t.1,
 )
-told_cause fault all seen left after row n refusal.Memory s l size t = t
+told_cause fault all seen left after row n (refusal.Memory m) s l size t = tt
 
 -- the facts after one record more
 pub cube_facts_more : (is : List Instance) (seen : List (List (List ℕ))) (r : List (List ℕ)) (fs : List told.CubeFact)

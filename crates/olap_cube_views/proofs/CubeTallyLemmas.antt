@@ -30,11 +30,11 @@ use Rattle.olap_cube.specs.CubeViews.{CubeFact, CubeRow, cube_direct_rows, cube_
 use Rattle.olap_cube.specs.Tuples.{IsTupleOf, TupleReaches, tuple_reaches, tuples_of}
 use Rattle.olap_cube.proofs.TupleLemmas.{is_tuple_of, tuple_reaches_is, tuples_of_is}
 use Rattle.olap_view.specs.Columns.{Ascent}
-use Rattle.olap_view.specs.Bounds.{IsOfValues, IsUpTo}
+use Rattle.olap_view.specs.Bounds.{IsJoinable, IsOfValues}
 use Rattle.olap_view.specs.Seen.{summary_of}
 use Rattle.olap_view.specs.Tables.{when}
 use Rattle.olap_view.specs.declared.summaries.Summary as told
-use Rattle.olap_view.proofs.SummaryLemmas.{of_values_more, total_of_value_list, up_to_more}
+use Rattle.olap_view.proofs.SummaryLemmas.{joinable, of_values_more, total_of_value_list}
 use Rattle.olap_view.proofs.ViewingLemmas.{filter_map_same}
 use Rattle.olap_cube_views.specs.CubeTallies.{AreMembers, CubeStandsFor, CubeTallied, Entry, IsCubeTally, IsKeyOf, IsTupleAncestor, ReachesNone, entries_of, is_key, key_cmp, key_of, row_of_entry, summary_at, tallied}
 use Rattle.olap_cube_views.specs.Dimensions.{categories_in, instances_in}
@@ -286,21 +286,21 @@ tally_start is c few = record {
 
 -- what stands at a key has room for one value more
 pub room : (t : CubeTallied) → IsCubeTally t → (q : List ℕ)
-    → IfSome (summary_at t.entries q) (IsUpTo (2 ^ 62) (2 ^ 120))
+    → IfSome (summary_at t.entries q) IsJoinable
 room t k q = go (summary_at t.entries q) refl
   where
-    small : (o : Option Summary) → IfSome o (IsOfValues (length k.facts)) → IfSome o (IsUpTo (2 ^ 62) (2 ^ 120))
+    small : (o : Option Summary) → IfSome o (IsOfValues (length k.facts)) → IfSome o IsJoinable
     small None h = h
     small (Some s) h = let a = k.few in let b = k.stands.added in
-        up_to_more (length k.facts) (length k.facts * 2 ^ 63) (2 ^ 62) (2 ^ 120) s (omega arith) (omega arith) h.up_to
+        joinable (length k.facts) (length k.facts * 2 ^ 63) s (omega arith) (omega arith) h.up_to
 
-    go : (o : Option Summary) → summary_at t.entries q ≡ o → IfSome o (IsUpTo (2 ^ 62) (2 ^ 120))
+    go : (o : Option Summary) → summary_at t.entries q ≡ o → IfSome o IsJoinable
     go None e = tt
     go (Some s) e =
         let y = k.stands.keys q (subst IsSome (sym e) refl) in
         let at : total_of_cube_facts t.instances k.facts y.0 ≡ Some s =
         sym (k.stands.at y.0 y.1) ∙ ap (summary_at t.entries) (sym y.2) ∙ e in
-        subst (λ o. IfSome o (IsUpTo (2 ^ 62) (2 ^ 120))) at
+        subst (λ o. IfSome o IsJoinable) at
         (small (total_of_cube_facts t.instances k.facts y.0) (total_is_of_values t.instances k.facts y.0 k.values))
 
 -- ---- rows

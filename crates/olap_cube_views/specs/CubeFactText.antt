@@ -11,7 +11,8 @@ use Rattle.std.specs.Str.{bytes_eq}
 use Rattle.olap_base.specs.Graph.{Graph}
 use Rattle.olap_base.specs.Instance.{Instance, category_of}
 use Rattle.olap_base.specs.Limits.{most_listed_facts}
-use Rattle.olap_base.specs.Naming.{Fault, place_of}
+use Rattle.olap_base.specs.Naming.{place_of}
+use Rattle.olap_base.specs.declared.refusals.Fault.{Fault}
 use Rattle.olap_records.specs.Faults.{field, first_fault}
 use Rattle.olap_numerals.specs.Values.{value_of}
 use Rattle.olap_facts.specs.FactText.{is_bottom}

@@ -1,19 +1,16 @@
 -- What the refusals of this crate say.
---     IsCubeRefusedBy   the refusal tells a text's first fault
---     IsToldAt          it tells the fault of a record
-use Rattle.std.specs.Prelude.{◌≡◌, ⊤, ℕ, List, Option, Some, Result, Err}
-use Rattle.olap_base.specs.Naming.{Fault}
-use Rattle.olap_cube.specs.CubeViews.{CubeFact}
+--     IsToldAt       the refusal tells the fault of a record
+--     IsFaultCause   it tells the first fault of the records after the header
+use Rattle.std.specs.Prelude.{◌≡◌, ◌+◌, ℕ, Option, Some}
+use Rattle.olap_base.specs.Refusing.{IsFor}
+use Rattle.olap_base.specs.declared.refusals.Fault.{Fault}
+use Rattle.olap_base.specs.declared.refusals.Refusal.{Refusal}
 use Rattle.olap_facts.specs.declared.kinds.FactKind.{FactKind}
-use Rattle.olap_facts.specs.declared.kinds.FactRefusal.{FactRefusal}
-use Rattle.olap_facts.specs.declared.kinds.FactRefusal.TheVariants as refusal
 
--- the refusal tells the text's first fault, or that memory ran out
-abbrev pub IsCubeRefusedBy : FactRefusal → Result (List CubeFact) (Fault FactKind) → Type 0
-IsCubeRefusedBy (refusal.Fault at kind) read = read ≡ Err (record { at = at; kind = kind })
-IsCubeRefusedBy refusal.Memory read = ⊤
+-- the refusal tells this fault of that record, or is out of memory
+abbrev pub IsToldAt : ℕ → Option FactKind → Refusal (Fault FactKind) → Type 0
+IsToldAt n fault = IsFor (λ f. (f.at ≡ n) × (fault ≡ Some f.kind))
 
--- the refusal tells this fault of that record, or that memory ran out
-abbrev pub IsToldAt : ℕ → Option FactKind → FactRefusal → Type 0
-IsToldAt n fault (refusal.Fault at kind) = (at ≡ n) × (fault ≡ Some kind)
-IsToldAt n fault refusal.Memory = ⊤
+-- the refusal tells the first fault of the records after the header, or is out of memory
+abbrev pub IsFaultCause : Option (ℕ × FactKind) → Refusal (Fault FactKind) → Type 0
+IsFaultCause fault = IsFor (λ f. (i : ℕ) × (f.at ≡ i + 2) × (fault ≡ Some (i, f.kind)))

@@ -3,22 +3,22 @@ ghost use Rattle.std.specs.Prelude.{◌≡◌, ◌↔◌, ◌+◌, ◌<◌, ◌�
 ghost use Rattle.olap_base.specs.Graph.{IsBottom};
 ghost use Rattle.olap_base.specs.Instance.{category_of};
 ghost use Rattle.olap_base.specs.Limits.{most_listed_facts};
+ghost use Rattle.olap_base.specs.Refusing.{IsRefusedBy};
 ghost use Rattle.olap_cube.specs.CubeViews.{IsCubeFactTable};
 ghost use Rattle.olap_cube.specs.Tuples.{IsBottomTuple};
-ghost use Rattle.olap_facts.specs.Refusals.{IsFaultCause};
 ghost use Rattle.olap_instance.specs.Made.{IsMadeFor};
 ghost use Rattle.olap_records.specs.Faults.{first_fault};
 ghost use Rattle.olap_records.specs.Records.{records_of};
 ghost use Rattle.olap_cube_views.specs.CubeFactText.{cube_fact_fault, cube_fact_read, cube_facts_read, has_header, header, member_fault, member_number, members_fault, members_read};
 ghost use Rattle.olap_cube_views.specs.CubeTallies.{AreMembers};
-ghost use Rattle.olap_cube_views.specs.CubeRefusals.{IsCubeRefusedBy, IsToldAt};
+ghost use Rattle.olap_cube_views.specs.CubeRefusals.{IsFaultCause, IsToldAt};
 ghost use Rattle.olap_cube.specs.Limits.{most_dimensions};
 ghost use Rattle.olap_cube_views.specs.Dimensions.{AreMadeFor, graphs_of, instances_of};
 ghost use Rattle.olap_cube_views.specs.Seen.{cube_fact_of, cube_facts_of, members_of};
 
 use crate::{CubeFact, CubeFacts, Legals};
-use olap_base::{List, MOST_LISTED_FACTS, MemberId, Memory};
-use olap_facts::{FactKind, FactRefusal, is_at_bottom};
+use olap_base::{Fault, List, MOST_LISTED_FACTS, MemberId, Memory, Refusal};
+use olap_facts::{FactKind, is_at_bottom};
 use olap_graph::Graph;
 use olap_instance::Instance;
 use olap_numerals::value;
@@ -76,7 +76,7 @@ fn members(
     instances: &[&Instance],
     rows: &Rows,
     at: u64,
-) -> Result<Vec<MemberId>, FactRefusal>
+) -> Result<Vec<MemberId>, Refusal<Fault<FactKind>>>
     requires made { AreMadeFor (graphs_of graphs.now) (instances_of instances.now) }
     requires width { length rows.now.row ≡ length instances.now + 1 }
     ensures read { MatchResult result
@@ -91,7 +91,7 @@ fn members(
     'dimensions: for k in 0..instances.len() {
         match member(graphs[k], instances[k], rows.field(k)) {
             Ok(member) => members.push(member)?,
-            Err(kind) => return Err(FactRefusal::Fault { at, kind }),
+            Err(kind) => return Err(Refusal::Kind(Fault { at, kind })),
         }
     }
     Ok(members)
@@ -104,7 +104,7 @@ pub(crate) fn fact(
     instances: &[&Instance],
     rows: &Rows,
     before: u64,
-) -> Result<CubeFact, FactRefusal>
+) -> Result<CubeFact, Refusal<Fault<FactKind>>>
     requires made { AreMadeFor (graphs_of graphs.now) (instances_of instances.now) }
     requires before { before ≤ most_listed_facts }
     ensures fact { (earlier : Items (Items (Items ℕ))) → length earlier ≡ before
@@ -121,23 +121,23 @@ pub(crate) fn fact(
     let at = before + 2;
     let dimensions = instances.len();
     if rows.len() != dimensions + 1 {
-        return Err(FactRefusal::Fault {
+        return Err(Refusal::Kind(Fault {
             at,
             kind: FactKind::FieldCount,
-        });
+        }));
     }
     let members = members(alloc, graphs, instances, rows, at)?;
     let Some(value) = value(rows.field(dimensions)) else {
-        return Err(FactRefusal::Fault {
+        return Err(Refusal::Kind(Fault {
             at,
             kind: FactKind::BadNumber,
-        });
+        }));
     };
     if before >= MOST_LISTED_FACTS {
-        return Err(FactRefusal::Fault {
+        return Err(Refusal::Kind(Fault {
             at,
             kind: FactKind::TooManyFacts,
-        });
+        }));
     }
     Ok(CubeFact {
         members: List::from_vec(members),
@@ -151,7 +151,7 @@ fn read_rows(
     graphs: &[&Graph],
     instances: &[&Instance],
     rows: &mut Rows,
-) -> Result<Vec<CubeFact>, FactRefusal>
+) -> Result<Vec<CubeFact>, Refusal<Fault<FactKind>>>
     requires made { AreMadeFor (graphs_of graphs.now) (instances_of instances.now) }
     ensures facts { MatchResult result
         (λ v. (first_fault (cube_fact_fault (graphs_of graphs.now) (instances_of instances.now))
@@ -178,13 +178,13 @@ fn read_left(
     graphs: &[&Graph],
     instances: &[&Instance],
     rows: &mut Rows,
-) -> Result<CubeFacts, FactRefusal>
+) -> Result<CubeFacts, Refusal<Fault<FactKind>>>
     requires few { length instances.now ≤ most_dimensions }
     requires made { AreMadeFor (graphs_of graphs.now) (instances_of instances.now) }
     ensures read { MatchResult result
         (λ f. cube_facts_read (graphs_of graphs.now) (instances_of instances.now)
         rows.old.left ≡ Ok (cube_facts_of f))
-        (λ e. IsCubeRefusedBy e
+        (λ e. IsRefusedBy e
         (cube_facts_read (graphs_of graphs.now) (instances_of instances.now) rows.old.left)) }
     ensures members { IfOk result
         (λ f. All (λ q. AreMembers (instances_of instances.now) (members_of q.members)) f.rows) }
@@ -193,10 +193,10 @@ fn read_left(
         (λ f. IsCubeFactTable (graphs_of graphs.now) (instances_of instances.now) (cube_facts_of f)) }
 {
     if !begins(rows, instances.len())? {
-        return Err(FactRefusal::Fault {
+        return Err(Refusal::Kind(Fault {
             at: 1,
             kind: FactKind::BadHeader,
-        });
+        }));
     }
     let facts = read_rows(alloc, graphs, instances, rows)?;
     Ok(CubeFacts {
@@ -210,13 +210,13 @@ fn read(
     graphs: &[&Graph],
     instances: &[&Instance],
     text: &[u8],
-) -> Result<CubeFacts, FactRefusal>
+) -> Result<CubeFacts, Refusal<Fault<FactKind>>>
     requires few { length instances.now ≤ most_dimensions }
     requires made { AreMadeFor (graphs_of graphs.now) (instances_of instances.now) }
     ensures read { MatchResult result
         (λ f. cube_facts_read (graphs_of graphs.now) (instances_of instances.now)
         (records_of text.now) ≡ Ok (cube_facts_of f))
-        (λ e. IsCubeRefusedBy e
+        (λ e. IsRefusedBy e
         (cube_facts_read (graphs_of graphs.now) (instances_of instances.now) (records_of text.now))) }
     ensures members { IfOk result
         (λ f. All (λ q. AreMembers (instances_of instances.now) (members_of q.members)) f.rows) }
@@ -238,13 +238,13 @@ pub fn read_cube_facts(
     graphs: &[&Graph],
     legals: &Legals,
     text: &[u8],
-) -> Result<CubeFacts, FactRefusal>
+) -> Result<CubeFacts, Refusal<Fault<FactKind>>>
     requires made { AreMadeFor (graphs_of graphs.now) legals.now }
 
     ensures read { MatchResult result
         (λ f. cube_facts_read (graphs_of graphs.now) legals.now (records_of text.now)
         ≡ Ok (cube_facts_of f))
-        (λ e. IsCubeRefusedBy e
+        (λ e. IsRefusedBy e
         (cube_facts_read (graphs_of graphs.now) legals.now (records_of text.now))) }
 
     ensures members { IfOk result

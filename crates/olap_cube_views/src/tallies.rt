@@ -5,7 +5,7 @@ ghost use Rattle.std.specs.Prelude.{◌≡◌, ◌+◌, ◌++◌, ◌∷◌, ◌
 ghost use Rattle.olap_base.specs.Limits.{most_count};
 ghost use Rattle.olap_base.specs.Summaries.{of_value, ◌⊕◌};
 ghost use Rattle.olap_cube.specs.CubeViews.{CubeFact as TheFact, cube_direct_rows};
-ghost use Rattle.olap_view.specs.Bounds.{IsUpTo};
+ghost use Rattle.olap_view.specs.Bounds.{IsJoinable};
 ghost use Rattle.olap_view.specs.Seen.{ids, summary_of};
 ghost use Rattle.olap_cube_views.specs.CubeTallies.{AreMembers, CubeStandsFor, IsTupleAncestor, ReachesNone, entries_of, is_key, key_cmp, key_of, row_of_entry, summary_at, tallied};
 ghost use Rattle.olap_cube.specs.Limits.{most_dimensions};
@@ -83,9 +83,9 @@ fn key(columns: &[Column], members: &[MemberId]) -> Option<Key>
 
 /// Joins a summary to what stands at a key.
 fn join(summaries: &mut BTreeMap<Key, Summary>, key: Key, summary: Summary) -> Result<(), Memory>
-    requires this { IsUpTo (2 ^ 62) (2 ^ 120) (summary_of summary) }
+    requires this { IsJoinable (summary_of summary) }
     requires there { IfSome (option_map summary_of (get key_cmp summaries.old key))
-        (IsUpTo (2 ^ 62) (2 ^ 120)) }
+        IsJoinable }
     ensures ok { OnOk result ((q : Items ℕ) → option_map summary_of (get key_cmp summaries.new q)
         ≡ (if is_key key q
         then option_map summary_of (get key_cmp summaries.old key) ⊕ Some (summary_of summary)
@@ -108,7 +108,7 @@ fn join_fact(
     requires few { length columns.now ≤ most_dimensions }
     requires members { AreMembers (instances_in columns.now) (members_of members.now) }
     requires room { (q : Items ℕ)
-        → IfSome (summary_at (entries_of summaries.old.entries) q) (IsUpTo (2 ^ 62) (2 ^ 120)) }
+        → IfSome (summary_at (entries_of summaries.old.entries) q) IsJoinable }
     ensures stands { OnOk result ((n : ℕ) (facts : Items TheFact)
         → CubeStandsFor (tallied columns.now summaries.old.entries n) facts
         → CubeStandsFor (tallied columns.now summaries.new.entries (n + 1))

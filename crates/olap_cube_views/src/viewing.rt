@@ -1,14 +1,14 @@
 // The direct view of a cube's target, from facts or from a text of them.
 ghost use Rattle.std.specs.Prelude.{◌≡◌, ◌≤◌, All, IfErr, IfOk, List as Items, MatchResult, [], length, map};
 ghost use Rattle.olap_base.specs.Limits.{most_count};
+ghost use Rattle.olap_base.specs.Refusing.{IsRefusedBy};
 ghost use Rattle.olap_cube.specs.Limits.{most_dimensions};
 ghost use Rattle.olap_cube.specs.CubeViews.{CubeFact as TheFact, cube_direct_view};
-ghost use Rattle.olap_facts.specs.Refusals.{IsFaultCause};
 ghost use Rattle.olap_records.specs.Faults.{first_fault};
 ghost use Rattle.olap_records.specs.Records.{records_of};
 ghost use Rattle.olap_view.specs.Seen.{ids};
 ghost use Rattle.olap_cube_views.specs.CubeFactText.{cube_fact_fault, cube_fact_read, cube_facts_read};
-ghost use Rattle.olap_cube_views.specs.CubeRefusals.{IsCubeRefusedBy};
+ghost use Rattle.olap_cube_views.specs.CubeRefusals.{IsFaultCause};
 ghost use Rattle.olap_cube_views.specs.CubeRollingUp.{IsCubeRolledUp};
 ghost use Rattle.olap_cube_views.specs.CubeTallies.{AreMembers, CubeStandsFor};
 ghost use Rattle.olap_cube_views.specs.Dimensions.{AreMadeFor, categories_in, graphs_of, instances_in, instances_of};
@@ -17,8 +17,8 @@ ghost use Rattle.olap_cube_views.specs.Seen.{cube_facts_of, cube_view_of, member
 use crate::reading::{begins, fact};
 use crate::tallies::{CubeTally, columns};
 use crate::{CubeFacts, CubeView, Legals, TargetColumns};
-use olap_base::{CatId, List, Memory};
-use olap_facts::{FactKind, FactRefusal};
+use olap_base::{CatId, Fault, List, Memory, Refusal};
+use olap_facts::FactKind;
 use olap_graph::Graph;
 use olap_instance::Instance;
 use olap_records::Rows;
@@ -96,7 +96,7 @@ fn add_rows(
     instances: &[&Instance],
     rows: &mut Rows,
     tally: &mut CubeTally,
-) -> Result<(), FactRefusal>
+) -> Result<(), Refusal<Fault<FactKind>>>
     requires made { AreMadeFor (graphs_of graphs.now) (instances_of instances.now) }
     requires instances { tally.old.instances ≡ instances_of instances.now }
     requires start { CubeStandsFor tally.old [] }
@@ -125,7 +125,7 @@ fn rolled_up_left(
     target: &[CatId],
     tally: &mut CubeTally,
     rows: &mut Rows,
-) -> Result<CubeView, FactRefusal>
+) -> Result<CubeView, Refusal<Fault<FactKind>>>
     requires few { length instances.now ≤ most_dimensions }
     requires made { AreMadeFor (graphs_of graphs.now) (instances_of instances.now) }
     requires instances { tally.old.instances ≡ instances_of instances.now }
@@ -135,14 +135,14 @@ fn rolled_up_left(
         (instances_of instances.now) rows.old.left (ids target.now) (cube_view_of v)) }
     ensures members { IfOk result (λ v.
         All (λ r. AreMembers (instances_of instances.now) (members_of r.members)) v.rows) }
-    ensures err { IfErr result (λ e. IsCubeRefusedBy e
+    ensures err { IfErr result (λ e. IsRefusedBy e
         (cube_facts_read (graphs_of graphs.now) (instances_of instances.now) rows.old.left)) }
 {
     if !begins(rows, instances.len())? {
-        return Err(FactRefusal::Fault {
+        return Err(Refusal::Kind(Fault {
             at: 1,
             kind: FactKind::BadHeader,
-        });
+        }));
     }
     add_rows(alloc, graphs, instances, rows, tally)?;
     Ok(view(alloc, target, tally)?)
@@ -156,7 +156,7 @@ fn rolled_up(
     columns: &TargetColumns,
     tally: &mut CubeTally,
     text: &[u8],
-) -> Result<CubeView, FactRefusal>
+) -> Result<CubeView, Refusal<Fault<FactKind>>>
     requires made { AreMadeFor (graphs_of graphs.now) (instances_in columns.now) }
     requires instances { tally.old.instances ≡ instances_in columns.now }
     requires target { tally.old.target ≡ categories_in columns.now }
@@ -166,7 +166,7 @@ fn rolled_up(
         (cube_view_of v)) }
     ensures members { IfOk result (λ v.
         All (λ r. AreMembers (instances_in columns.now) (members_of r.members)) v.rows) }
-    ensures err { IfErr result (λ e. IsCubeRefusedBy e
+    ensures err { IfErr result (λ e. IsRefusedBy e
         (cube_facts_read (graphs_of graphs.now) (instances_in columns.now) (records_of text.now))) }
 {
     let instances = columns.instances(alloc)?;
@@ -185,7 +185,7 @@ pub fn cube_roll_up(
     graphs: &[&Graph],
     columns: &TargetColumns,
     text: &[u8],
-) -> Result<CubeView, FactRefusal>
+) -> Result<CubeView, Refusal<Fault<FactKind>>>
     requires made { AreMadeFor (graphs_of graphs.now) (instances_in columns.now) }
 
     ensures view { IfOk result (λ v. IsCubeRolledUp (graphs_of graphs.now)
@@ -195,7 +195,7 @@ pub fn cube_roll_up(
         All (λ r. AreMembers (instances_in columns.now) (members_of r.members)) v.rows) }
 
     ensures err { IfErr result (λ e.
-        IsCubeRefusedBy e
+        IsRefusedBy e
         (cube_facts_read (graphs_of graphs.now) (instances_in columns.now) (records_of text.now))) }
 {
     let mut tally = CubeTally::new(alloc, columns.lent(alloc)?);

@@ -3,7 +3,7 @@ use Rattle.std.proofs.Common.{Option, IfSome, ap, refl, subst, ◌∙◌, ◌^�
 use mir.Val.{SFits}
 use Rattle.std.proofs.lemmas.Int.{to_z-of_z}
 use Rattle.olap_base.specs.Summaries.{Summary, of_value}
-use Rattle.olap_view.specs.Bounds.{IsUpTo}
+use Rattle.olap_view.specs.Bounds.{IsJoinable}
 use Rattle.olap_view.specs.Seen.{summary_of}
 use Rattle.olap_cube_views.specs.Seen.{fact_at}
 use Rattle.olap_cube_views.proofs.CubeTallyLemmas.{fact_apart, fact_joined, found_is}
@@ -11,7 +11,7 @@ use Rattle.olap_cube_views.proofs.tallies.join_fact.Goals as goal
 
 pub join-requires-clause-there : goal.join-requires-clause-there
 join-requires-clause-there c =
-    subst (λ (o : Option Summary). IfSome o (IsUpTo (2 ^ 62) (2 ^ 120)))
+    subst (λ (o : Option Summary). IfSome o IsJoinable)
     (found_is c.args.summaries.now.entries c.in-Some.key) (c.requires.room c.in-Some.key)
 
 pub returns-in-Some-clause-stands : goal.returns-in-Some-clause-stands
