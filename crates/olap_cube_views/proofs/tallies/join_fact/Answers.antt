@@ -1,5 +1,5 @@
 -- A fact that reaches a tuple, and one that reaches none.
-use Rattle.std.proofs.Common.{Option, IfSome, ap, refl, subst, ◌∙◌, ◌^◌, rules, w64}
+use Rattle.std.proofs.Common.{Option, IfSome, ap, refl, subst, ◌∙◌, rules, w64}
 use mir.Val.{SFits}
 use Rattle.std.proofs.lemmas.Int.{to_z-of_z}
 use Rattle.olap_base.specs.Summaries.{Summary, of_value}
