@@ -19,6 +19,9 @@ from ..program import MOST_BYTES, find
 
 LOCATION, IMPOSSIBLE = "location/schema.txt", "impossible/schema.txt"
 PARTITIONS = str(TOP / "recipes" / "partitions" / "schema.txt")
+# A store lies in one of four levels, and each of these in T: T is to be had from the stores, or from all four.
+FOUR = "schema 1\n" + "".join(f"category {name}\n" for name in "SABCDT") + "".join(f"edge S {name}\nedge {name} T\n" for name in "ABCD")
+FOUR += "edge T All\nconstraint S: one(S_A, S_B, S_C, S_D)\n"
 MADE = ((7, 1000), (0, 1), (2**64 - 1, 70))
 HOSTILE = '-$(touch ran) "é" <b>\u202e; %s\\'
 
@@ -27,9 +30,10 @@ def is_yes(schema: str, target: str, sources: tuple[str, ...]) -> bool:
     return olap("summarizable", schema, target, *sources)[0] == 0
 
 
-def least_faults(_: Path) -> Iterator[str]:
+def least_faults(room: Path) -> Iterator[str]:
     """Against every list of up to four other sources of a schema."""
-    for schema, target in ((LOCATION, "Region"), (LOCATION, "Country"), (PARTITIONS, "Country")):
+    (room / "four.txt").write_text(FOUR)
+    for schema, target in ((LOCATION, "Region"), (LOCATION, "Country"), (PARTITIONS, "Country"), (str(room / "four.txt"), "T")):
         others = [each for each in categories_of(Path(schema)) if each not in (target, "All")]
         enough: list[tuple[str, ...]] = []
         for size in range(5):
@@ -85,6 +89,20 @@ def constants_faults(room: Path) -> Iterator[str]:
         yield f"constants where each has a member: status {done.returncode}, {done.stdout!r} {done.stderr!r}"
 
 
+def counted(instance: Path) -> list[tuple[str, str, str, str]]:
+    """Of each pair of categories with a member and its parent, in the order in which it first stands by child: how many, and of how many."""
+    with instance.open(newline="") as file:
+        rows = list(csv.DictReader(file))
+    kind = {row["id"]: row["category"] for row in rows} | {"all": "All"}
+    counts: dict[str, dict[str, int]] = {}
+    for row in rows:
+        of_child = counts.setdefault(row["category"], {})
+        for parent in row["parents"].split(";"):
+            of_child[kind[parent]] = of_child.get(kind[parent], 0) + 1
+    sizes = {child: sum(row["category"] == child for row in rows) for child in counts}
+    return [(str(number), str(sizes[child]), child, parent) for child, each in counts.items() for parent, number in each.items()]
+
+
 def propose_faults(room: Path) -> Iterator[str]:
     for instance in ("location/instance.csv", "chain/instance.csv"):
         done = tool("propose", instance)
@@ -92,6 +110,8 @@ def propose_faults(room: Path) -> Iterator[str]:
         said = olap("check", str(room / "proposed.txt"), instance)[1]
         if done.returncode != 0 or not said.startswith("legal ") or "constraint" in done.stdout:
             yield f"propose {instance}: status {done.returncode}, {said!r}"
+        if (counts := counted(EXAMPLES / instance)) != (told := re.findall(r"^# (\d+) of (\d+) members of (\w+) take this edge\nedge \3 (\w+)$", done.stdout, re.M)):
+            yield f"propose {instance}: it counts {told}, and there are {counts}"
     header = "id,category,name,parents\n"
     with (room / "long.csv").open("wb") as file:  # one byte too many, and fewer characters than bytes
         file.write(f"{header}a,Store,é,all\n".encode().ljust(MOST_BYTES - 1, b"\n") + b"\nb,Lost,b,all\n")
@@ -100,6 +120,10 @@ def propose_faults(room: Path) -> Iterator[str]:
                  header + "a,Store,a,b\n", header + "a,Störe,a,all\n"):
         (room / "bad.csv").write_text(text)
         yield from one_line(f"propose of {text!r}", tool("propose", "bad.csv", folder=room), 3)
+    (room / "years.csv").write_text(header + "a,Month,5,y\nb,Month,May,y\ny,Year,2026,all\nz,Year,-0007,all\n")
+    done = tool("propose", "years.csv", folder=room)
+    if [line for line in done.stdout.splitlines() if "is a number" in line] != ["# each name of Year is a number: with `schema 2` above, it may be `category Year number`"]:
+        yield f"propose of numbers: {done.stdout!r} {done.stderr!r}"
     (room / "odd.csv").write_text(header + '"a""b\n",Store,"-x",all;c\nc,Store,c,\n')
     done = tool("propose", "odd.csv", folder=room)
     if done.returncode != 0 or done.stdout.count("which no schema allows") != 2 or "edge Store All\n" not in done.stdout:

@@ -96,6 +96,24 @@ def implies_faults() -> Iterator[str]:
     yield from [*wrong, *([told] if told else [])]
 
 
+def above_faults() -> Iterator[str]:
+    """Of a member with several parents, all that is above it is drawn, and nothing else."""
+    schema, instance = "cubes/calendar.txt", "cubes/days.csv"
+    with (EXAMPLES / instance).open(newline="") as file:
+        rows = {row["id"]: row["parents"].split(";") for row in csv.DictReader(file)}
+    start = next(id for id, parents in rows.items() if len(parents) > 1)
+    wanted, left = set(), [start]
+    while left:
+        one = left.pop()
+        wanted.add(one)
+        left += [parent for parent in rows.get(one, ()) if parent not in wanted]
+    svg, wrong = drawn("instance", schema, instance, f"--above={start}")
+    yield from wrong
+    found = {"all" if told == "all" else told.split(" ", 1)[1].split(", named ")[0] for told in picture_of(svg).nodes}
+    if found != wanted:
+        yield f"above {start} it draws {sorted(found)}, and there are {sorted(wanted)}"
+
+
 def faults() -> Iterator[str]:
     for file in sorted(EXAMPLES.glob("*/schema.txt")):
         schema = str(file.relative_to(EXAMPLES))
@@ -104,3 +122,4 @@ def faults() -> Iterator[str]:
     for instance in ("location/instance.csv", "broken/instance.csv"):
         yield from (f"draw {instance}: {wrong}" for wrong in instance_faults("location/schema.txt", instance))
     yield from (f"draw implies: {wrong}" for wrong in implies_faults())
+    yield from (f"draw instance: {wrong}" for wrong in above_faults())

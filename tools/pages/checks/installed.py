@@ -1,5 +1,6 @@
 """tools/install puts five files and takes exactly those away; the completions read schemas and run nothing of them."""
 
+import hashlib
 import os
 import shutil
 import subprocess
@@ -93,6 +94,13 @@ def refused(prefix: Path) -> Iterator[str]:
     (ours / "share/man/man1/olap.1").write_text("edited\n")
     if tool("install", "--remove", str(ours)).returncode == 0 or files_of(ours) != PUT:
         yield "--remove takes a file that was changed"
+    between = prefix / "between"  # one file is new, and the others are from before: the record knows both
+    tool("install", str(between))
+    with (between / "share/olap/installed").open("a") as record:
+        record.write(f"file {hashlib.sha256(b'new').hexdigest()} share/man/man1/olap.1\n")
+    (between / "share/man/man1/olap.1").write_bytes(b"new")
+    if tool("install", "--remove", str(between)).returncode != 0 or between.exists():
+        yield "--remove doesn't take away what an installation that broke off has left"
     outside = prefix / "outside"
     outside.write_text("outside\n")
     with (ours / "share/olap/installed").open("a") as record:

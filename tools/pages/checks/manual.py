@@ -38,14 +38,45 @@ def said_faults() -> Iterator[str]:
     for command in commands:
         if plain(command) not in manual:
             yield f"no command {command}"
-    for number in re.findall(r"^\|[^|]*\| ([0-9,]+) \|$", document, re.M):
-        if not re.search(rf"\b{number.replace(',', '')} [a-z]", manual):
-            yield f"no limit of {number}"
+    yield from limit_faults()
+    yield from status_faults(table)
     kinds = {kind for each in re.findall(r"`([^`\n]*)`", document) for kind in re.findall(r"\b[A-Z][a-z]+[A-Z][A-Za-z0-9]*\b", each)}
     refusals = set(re.findall(r"^\| `refused (?:\w+ )*?([A-Z][a-z]+[A-Za-z]*)`", document, re.M))
     for kind in sorted(kinds | refusals | {"Stratification", "Partitioning", "Shortcut", "Constraint", "Connectivity", "NoParent"}):
         if not re.search(rf"\b{kind}\b", manual):
             yield f"no {kind}"
+
+
+def limit_faults() -> Iterator[str]:
+    """Each limit of the manual, by its number and the first word of what it is of, is one of docs/FORMATS.md, and the other way."""
+    rows = (TOP / "docs" / "FORMATS.md").read_text().partition("\n## Limits\n")[2].partition("\n## ")[0]
+    wanted = {(number, what.split(" ")[0]) for what, number in re.findall(r"^\| ([a-z][^|]*) \| ([0-9,]+)(?:;[^|]*)? \|$", rows, re.M)}
+    lines = MANUAL.read_text().partition("\n.SH LIMITS\n")[2].partition("\n.fi\n")[0]
+    told = set(re.findall(r"^([0-9,]+) ([a-z]+)", lines, re.M))
+    if len(wanted) < 10:
+        yield "the limits of docs/FORMATS.md can't be read"
+    yield from (f"no limit of {number} {what}" for number, what in sorted(wanted - told))
+    yield from (f"no page has the limit of {number} {what}" for number, what in sorted(told - wanted))
+
+
+def status_faults(table: str) -> Iterator[str]:
+    """The statuses of a done command are those with which examples/runs.txt has it end; and what a status means is said alike."""
+    ends: dict[str, set[str]] = {}
+    for status, command in re.findall(r"^(\d) \S+ ([a-z-]+) ", (EXAMPLES / "runs.txt").read_text(), re.M):
+        ends.setdefault(command, set()).add(status)
+    rows = re.findall(r"^\| `([a-z-]+) [^`]*` \|[^|]*\| ([^|]*) \|$", table, re.M)
+    if len(rows) < 15:
+        yield "the table of commands can't be read"
+    for command, said in rows:
+        documented, seen = set(re.findall(r"\d", said)), ends.get(command, set()) & {"0", "1"}
+        # What prove writes for a yes isn't compared there.
+        if documented - ({"0"} if command.startswith("prove") else set()) != seen - ({"0"} if command.startswith("prove") else set()):
+            yield f"docs/COMMANDS.md: the statuses of {command} are {sorted(documented)}, and examples/runs.txt has {sorted(seen)}"
+    part = MANUAL.read_text().partition("\n.SH EXIT STATUS\n")[2].partition("\n.SH ")[0]
+    told = dict(re.findall(r"^\.TP\n\.B (\d)\n((?:(?!\.(?:TP|PP)\b).*\n)*)", part, re.M))
+    for status, comes in re.findall(r"^\| (\d) \| ([^|]*) \|[^|]*\|$", table, re.M):
+        if not plain(told.get(status, "")).startswith(plain(comes)):
+            yield f"status {status} is {plain(told.get(status, ''))!r}, and docs/COMMANDS.md has {comes!r}"
 
 
 def transcripts() -> Iterator[tuple[str, str]]:
