@@ -6,7 +6,7 @@ import subprocess
 from pathlib import Path
 from statistics import median
 
-TOP = Path(__file__).resolve().parent.parent
+TOP = Path(__file__).resolve().parents[2]
 REGISTRY = "/usr/share/cargo/registry"
 MEMBERS = "id,category,name,parents\n"
 FACTS = "member,value\n"
@@ -35,7 +35,7 @@ def build(folder):
     config.write_text(f'[source.crates-io]\nreplace-with = "debian"\n[source.debian]\ndirectory = "{REGISTRY}"\n')
     source = folder / "source"
     if not source.exists():
-        subprocess.run(["cp", "-r", TOP / "tools" / "peer", source], check=True)
+        subprocess.run(["cp", "-r", TOP / "tools" / "bench" / "peer", source], check=True)
     words = ["cargo", "build", "--quiet", "--release", "--offline", "--config", config]
     environment = os.environ | {"CARGO_TARGET_DIR": str(folder / "target")}
     subprocess.run([*words, "--manifest-path", source / "Cargo.toml"], check=True, env=environment)
