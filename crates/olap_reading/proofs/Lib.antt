@@ -1,2 +1,3 @@
 -- Lemmas.
 mod TellingLemmas
+mod ReadingLemmas

@@ -11,9 +11,7 @@ ghost use Rattle.olap_reading.specs.OfFacts.{AreOfFacts};
 ghost use Rattle.olap_reading.specs.Steps.{facts_file, legal_file, legal_or_violation, store_file};
 
 use crate::telling::{check_laws, refuse_violation};
-use olap_base::{
-    CatId, Fault, List, MOST_FACTS_BYTES, MOST_INSTANCE_BYTES, MOST_STORE_BYTES, Refusal,
-};
+use olap_base::{CatId, List, MOST_FACTS_BYTES, MOST_INSTANCE_BYTES, MOST_STORE_BYTES, Refusal};
 use olap_check::Illegal;
 use olap_instance::{Instance, read_instance};
 use olap_legal::Legal;
@@ -72,9 +70,13 @@ pub fn legal_in<L: Library>(
     };
     match read {
         Ok(members) => legal_or_refused(alloc, schema, label, members),
-        Err(Refusal::Kind(Fault { at, kind })) => {
-            Err(refuse_part(alloc, label, "record", at, kind.name()))
-        }
+        Err(Refusal::Kind(fault)) => Err(refuse_part(
+            alloc,
+            label,
+            "record",
+            fault.at,
+            fault.kind.name(),
+        )),
         Err(Refusal::Memory(memory)) => Err(Stop::Memory(memory)),
     }
 }
@@ -100,9 +102,13 @@ pub fn store_in<L: Library>(
     };
     match read_store(alloc, schema.graph(), legal.instance(), &text) {
         Ok(store) => Ok(store),
-        Err(Refusal::Kind(Fault { at, kind })) => {
-            Err(refuse_part(alloc, label, "record", at, kind.name()))
-        }
+        Err(Refusal::Kind(fault)) => Err(refuse_part(
+            alloc,
+            label,
+            "record",
+            fault.at,
+            fault.kind.name(),
+        )),
         Err(Refusal::Memory(memory)) => Err(Stop::Memory(memory)),
     }
 }
@@ -130,9 +136,13 @@ pub fn views_in<L: Library>(
     };
     match roll_up(alloc, schema.graph(), legal, text, categories) {
         Ok(views) => Ok(views),
-        Err(Refusal::Kind(Fault { at, kind })) => {
-            Err(refuse_part(alloc, "facts", "record", at, kind.name()))
-        }
+        Err(Refusal::Kind(fault)) => Err(refuse_part(
+            alloc,
+            "facts",
+            "record",
+            fault.at,
+            fault.kind.name(),
+        )),
         Err(Refusal::Memory(memory)) => Err(Stop::Memory(memory)),
     }
 }

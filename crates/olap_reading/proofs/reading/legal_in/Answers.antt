@@ -1,0 +1,43 @@
+-- A text with a fault is refused.
+use Rattle.std.proofs.Common.{◌≡◌, Err, Ok, Result, ap, codes, subst}
+use Rattle.std.specs.Prelude.{MatchResult}
+use Rattle.olap_base.specs.Instance.{Instance}
+use Rattle.olap_base.specs.Limits.{most_instance_bytes}
+use Rattle.olap_base.specs.Refusing.{IsRefusedBy}
+use Rattle.olap_base.specs.declared.refusals.Fault.{Fault}
+use Rattle.olap_base.specs.declared.refusals.Refusal.{Refusal}
+use Rattle.olap_base.specs.declared.refusals.Refusal.TheVariants as refusal
+use Rattle.olap_check.specs.FirstViolation.{first_violation}
+use Rattle.olap_instance.specs.InstanceText.{instance_read}
+use Rattle.olap_instance.specs.Kinds.{name_of_kind}
+use Rattle.olap_instance.specs.declared.refusals.InstanceKind.{InstanceKind}
+use Rattle.olap_order.specs.Order.{and_then}
+use Rattle.olap_order.specs.Steps.{meaning_or_fault, part_text}
+use Rattle.olap_records.specs.Records.{records_of}
+use Rattle.olap_schema.specs.Schemas.{schema_of}
+use Rattle.olap_reading.specs.Steps.{legal_or_violation}
+use Rattle.olap_reading.proofs.ReadingLemmas.{fault_told}
+use Rattle.olap_reading.proofs.reading.legal_in.Goals as goal
+
+pub returns-in-Err-Kind-clause-step : goal.returns-in-Err-Kind-clause-step
+returns-in-Err-Kind-clause-step g c =
+    let s = schema_of c.args.schema.now in
+    let label = c.args.label.now in
+    let e = c.in-Err-Kind in
+    let is : c.read_instance-read.result ≡ Err e.field-0 = e.is in
+    let fault : e.field-0 ≡ refusal.Kind e.fault = rw is at e.field-0-is in
+    let whole : c.read_instance-read.result ≡ Err (refusal.Kind e.fault) = cc in
+    let given = subst (λ (r : Result Instance (Refusal (Fault InstanceKind))). MatchResult r
+    (λ i. instance_read c.graph.result.now (records_of c.deref.result.now) ≡ Ok i)
+    (λ x. IsRefusedBy x (instance_read c.graph.result.now (records_of c.deref.result.now)))) whole
+    c.read_instance-read.ensures.read in
+    let read = rw (c.graph.ensures, c.deref.ensures.value) at given in
+    fault_told label c.args.file.now most_instance_bytes
+    (λ t. and_then (meaning_or_fault label (codes "record") name_of_kind (instance_read s.graph (records_of t)))
+    (λ i. legal_or_violation label s i (first_violation s i)))
+    c.in-Some.text.items (part_text label (codes "record") e.fault.at (name_of_kind e.fault.kind))
+    (ap (λ r. and_then (meaning_or_fault label (codes "record") name_of_kind r)
+    (λ i. legal_or_violation label s i (first_violation s i))) read)
+    (rw c.in-Some.is at c.in_ok-text.ensures.within) (rw c.in-Some.is at c.in_ok-text.ensures.read)
+    c.in_ok-text.ensures.later c.in_ok-text.ensures.contents c.refuse_part.result
+    (rw c.name.ensures at c.refuse_part.ensures.refused)
