@@ -1,17 +1,17 @@
 // A view from stored views.
-ghost use Rattle.std.specs.Prelude.{◌≡◌, ◌<◌, ℕ, All, Err, IfOk, List as Items, length};
+ghost use Rattle.std.specs.Prelude.{◌≡◌, ◌<◌, ℕ, All, IfErr, IfOk, List as Items, length};
 ghost use Rattle.olap_ast.specs.Schema.{IsLegal};
 ghost use Rattle.olap_base.specs.Graph.{IsCategory};
+ghost use Rattle.olap_base.specs.Refusing.{IsFor};
 ghost use Rattle.olap_base.specs.Views.{Fact, IsFactTable, direct_view, direct_views, rows_from_views};
 ghost use Rattle.olap_nav.specs.Plans.{IsPlan, Serves, categories_of, rows_in};
-ghost use Rattle.olap_nav.specs.declared.choice.PlanRefusal.TheVariants as refusal;
 ghost use Rattle.olap_schema.specs.Schemas.{schema_of};
 ghost use Rattle.olap_view.specs.Seen.{view_of, views_of};
 ghost use Rattle.olap_view.specs.Stores.{IsSoundStore, chosen};
 
-use crate::choice::{Plan, PlanRefusal};
+use crate::choice::{NotAnswerable, Plan};
 use crate::planning::plan;
-use olap_base::CatId;
+use olap_base::{CatId, Refusal};
 use olap_legal::Legal;
 use olap_schema::Schema;
 use olap_view::{Store, View, from_views};
@@ -27,7 +27,7 @@ pub fn answer(
     legal: &Legal,
     store: &Store,
     target: CatId,
-) -> Result<(Plan, View), PlanRefusal>
+) -> Result<(Plan, View), Refusal<NotAnswerable>>
     requires target { IsCategory (schema_of schema.now).graph target.0 }
     requires legal { IsLegal (schema_of schema.now) legal.now }
     requires sound { IsSoundStore (schema_of schema.now).graph legal.now (views_of store.now) }
@@ -44,8 +44,8 @@ pub fn answer(
         → views_of store.now ≡ direct_views legal.now facts (categories_of (views_of store.now))
         → view_of a.1 ≡ direct_view legal.now facts target.0) }
 
-    ensures not_answerable { result ≡ Err refusal.NotAnswerable → (m : ℕ)
-        → Serves (schema_of schema.now) (views_of store.now) target.0 m → ⊥ }
+    ensures not_answerable { IfErr result (IsFor (λ _. (m : ℕ)
+        → Serves (schema_of schema.now) (views_of store.now) target.0 m → ⊥)) }
 {
     let plan = plan(alloc, schema, store, target)?;
     let view = from_views(alloc, legal, store, plan.mask, target)?;

@@ -1,9 +1,4 @@
 // What is chosen of the stored views, and why nothing is.
-ghost use Rattle.std.specs.Prelude.{◌≡◌};
-ghost use Rattle.olap_nav.specs.declared.choice.PlanRefusal.TheVariants as refusal;
-
-use olap_base::Memory;
-
 /// Which stored views a view is computed from.
 #[derive(Clone, Copy, PartialEq, Eq)]
 pub struct Plan {
@@ -13,19 +8,6 @@ pub struct Plan {
     pub rows: u64,
 }
 
-/// Why there is no plan.
+/// Why there is no plan: from no stored views, not even from none, is the target summarizable.
 #[derive(Clone, Copy, PartialEq, Eq, Debug)]
-pub enum PlanRefusal {
-    /// From no stored views, not even from none, is the target summarizable.
-    NotAnswerable,
-    /// There is no room.
-    Memory,
-}
-
-impl From<Memory> for PlanRefusal {
-    ghost from_gives = { λ _ e. e ≡ refusal.Memory };
-
-    fn from(_: Memory) -> PlanRefusal {
-        PlanRefusal::Memory
-    }
-}
+pub struct NotAnswerable;

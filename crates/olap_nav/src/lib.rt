@@ -13,6 +13,6 @@ mod printing;
 mod refuting;
 
 pub use answering::answer;
-pub use choice::{Plan, PlanRefusal};
+pub use choice::{NotAnswerable, Plan};
 pub use planning::plan;
 pub use printing::print_plan;

@@ -1,25 +1,25 @@
 // Which stored views a view is computed from.
-ghost use Rattle.std.specs.Prelude.{◌≡◌, ◌≢◌, ◌↔◌, ◌≤◌, ◌<◌, ◌+◌, ◌^◌, ℕ, All, AllPairs, Bool, Err, IfOk, IfSome, IsNone, List as Items, length};
+ghost use Rattle.std.specs.Prelude.{◌≡◌, ◌≢◌, ◌↔◌, ◌≤◌, ◌<◌, ◌+◌, ◌^◌, ℕ, All, AllPairs, Bool, IfErr, IfOk, IfSome, IsNone, List as Items, length};
 ghost use Rattle.olap_ast.specs.Summarizable.{IsSummarizable};
 ghost use Rattle.olap_base.specs.Graph.{IsCategory, category_count};
 ghost use Rattle.olap_base.specs.Limits.{most_views};
+ghost use Rattle.olap_base.specs.Refusing.{IsFor};
 ghost use Rattle.olap_base.specs.Views.{View};
 ghost use Rattle.olap_nav.specs.Choices.{IsCheapest, IsCheapestOf, MayServe};
 ghost use Rattle.olap_nav.specs.Patterns.{IsPattern, IsSomeCounterexample};
 ghost use Rattle.olap_nav.specs.Plans.{IsPlan, Serves, rows_in, sources_in};
-ghost use Rattle.olap_nav.specs.declared.choice.PlanRefusal.TheVariants as refusal;
 ghost use Rattle.olap_schema.specs.Schemas.{schema_of};
 ghost use Rattle.olap_ast.specs.Trees.{numbers_of};
 ghost use Rattle.olap_view.specs.Seen.{views_of};
 ghost use Rattle.olap_view.specs.Stores.{IsStore};
 
-use crate::choice::{Plan, PlanRefusal};
+use crate::choice::{NotAnswerable, Plan};
 use crate::masks::{rows, sources};
 use crate::refuting::{pattern, refute};
-use olap_base::{CatId, List, Memory};
+use olap_base::{CatId, List, Memory, Refusal};
 use olap_frozen::{Found, Room};
 use olap_schema::Schema;
-use olap_summ::{SummRefusal, any_counterexample};
+use olap_summ::any_counterexample;
 use olap_view::Store;
 use std::alloc::Global;
 
@@ -81,8 +81,8 @@ fn counterexample(
 {
     match any_counterexample(alloc, schema, target, sources) {
         Ok(found) => Ok(found),
-        Err(SummRefusal::DuplicateSource) => unreachable!(),
-        Err(SummRefusal::Memory) => Err(Memory),
+        Err(Refusal::Kind(_)) => unreachable!(),
+        Err(Refusal::Memory(memory)) => Err(memory),
     }
 }
 
@@ -147,7 +147,7 @@ fn cheapest_plan(
     target: CatId,
     may_serve: &mut List<bool>,
     room: &mut Room,
-) -> Result<Plan, PlanRefusal>
+) -> Result<Plan, Refusal<NotAnswerable>>
     requires target { IsCategory (schema_of schema.now).graph target.0 }
     requires store { IsStore (views_of store.now) }
     requires categories { All (λ v. IsCategory (schema_of schema.now).graph v.category) (views_of store.now) }
@@ -157,8 +157,8 @@ fn cheapest_plan(
     requires room { length room.old.rows.items ≡ category_count (schema_of schema.now).graph }
     ensures plan { IfOk result (λ p. IsPlan (schema_of schema.now) (views_of store.now) target.0 p.mask) }
     ensures rows { IfOk result (λ p. p.rows ≡ rows_in (views_of store.now) p.mask) }
-    ensures not_answerable { result ≡ Err refusal.NotAnswerable → (m : ℕ)
-        → Serves (schema_of schema.now) (views_of store.now) target.0 m → ⊥ }
+    ensures not_answerable { IfErr result (IsFor (λ _. (m : ℕ)
+        → Serves (schema_of schema.now) (views_of store.now) target.0 m → ⊥)) }
 {
     'questions: while let Some(plan) = cheapest(store, may_serve.items()) {
         let refuted = pattern_against(alloc, schema, store, target, plan.mask, room)?;
@@ -167,7 +167,7 @@ fn cheapest_plan(
         };
         refute(may_serve, plan.mask, &pattern);
     }
-    Err(PlanRefusal::NotAnswerable)
+    Err(Refusal::Kind(NotAnswerable))
 }
 
 /// The plan: of all choices of stored views from whose categories the target is summarizable, no view at all among
@@ -179,15 +179,15 @@ pub fn plan(
     schema: &Schema,
     store: &Store,
     target: CatId,
-) -> Result<Plan, PlanRefusal>
+) -> Result<Plan, Refusal<NotAnswerable>>
     requires target { IsCategory (schema_of schema.now).graph target.0 }
     requires store { IsStore (views_of store.now) }
     requires categories { All (λ v. IsCategory (schema_of schema.now).graph v.category) (views_of store.now) }
 
     ensures plan { IfOk result (λ p. IsPlan (schema_of schema.now) (views_of store.now) target.0 p.mask) }
     ensures rows { IfOk result (λ p. p.rows ≡ rows_in (views_of store.now) p.mask) }
-    ensures not_answerable { result ≡ Err refusal.NotAnswerable → (m : ℕ)
-        → Serves (schema_of schema.now) (views_of store.now) target.0 m → ⊥ }
+    ensures not_answerable { IfErr result (IsFor (λ _. (m : ℕ)
+        → Serves (schema_of schema.now) (views_of store.now) target.0 m → ⊥)) }
 {
     let mut room = Room::new(alloc, schema.graph())?;
     let mut may_serve = all_masks(alloc, store)?;

@@ -27,7 +27,7 @@ fn print_sources(alloc: Global, graph: &Graph, sources: &[CatId]) -> Result<Vec<
     Ok(text)
 }
 
-/// The line of a plan: the word `plan`, and the categories of the mask's views, in stored order. `Memory`: want of
+/// The line of a plan: the word `plan`, and the categories of the mask's views, in stored order. `Memory`: out of
 /// memory.
 pub fn print_plan(alloc: Global, graph: &Graph, store: &Store, mask: u16) -> Result<Text, Memory>
     requires few { length store.now.views ≤ most_views }

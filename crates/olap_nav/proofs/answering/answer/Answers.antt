@@ -1,16 +1,8 @@
 use Rattle.std.proofs.Common.{List, ap, sym, ◌∙◌}
-use Rattle.std.proofs.lemmas.Result.{err_from_is_err_and}
 use Rattle.olap_base.specs.Views.{Row, rows_from_views}
 use Rattle.olap_nav.proofs.ChosenLemmas.{chosen_direct}
 use Rattle.olap_nav.proofs.answering.answer.Goals as goal
 use Rattle.olap_view.specs.Seen.{views_of}
-
-pub returns-in_err-plan-clause-not_answerable : goal.returns-in_err-plan-clause-not_answerable
-returns-in_err-plan-clause-not_answerable c =
-    let p = err_from_is_err_and c.from_residual.result c.from_residual.ensures.1 in
-    let same = p.1 in
-    let given = p.2 in
-    λ e. c.in_err-plan.ensures.not_answerable (cc)
 
 pub returns-clause-direct : goal.returns-clause-direct
 returns-clause-direct c = λ facts table e.

@@ -57,7 +57,7 @@ returns-in_default-refuted-clause-plan c =
     }
 
 pub returns-clause-not_answerable : goal.returns-clause-not_answerable
-returns-clause-not_answerable c = λ e m h.
+returns-clause-not_answerable c = λ m h.
     let may = subst (λ l. MayServe l m) (sym c.items.ensures) (c.questions.invariant.serving m h) in
     none_left (views_of c.args.store.now) c.items.result.now (length c.items.result.now) c.cheapest.result
     c.cheapest.ensures c.in_default.not-Some m (inside c.items.result.now m may) may
