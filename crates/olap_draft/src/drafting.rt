@@ -50,7 +50,7 @@ fn draft_of(alloc: Global, asked: &Asked) -> Result<Vec<u8>, Refusal<GivenUp>> {
 /// bottom category.
 ///
 /// `GivenUp`: for some bottom category no tree was found with a million tries, or it has more than four million lines;
-/// it may be that there is none. `Memory`: out of memory.
+/// it may be that there is none. `Memory`: out of memory, or the text is longer than a certificate's file may be.
 pub fn draft<'a>(
     alloc: Global,
     schema: &'a Schema,

@@ -1,6 +1,6 @@
 // Trees of lines, and why there may be none.
 use olap_ast::Constraint;
-use olap_base::Refusal;
+use olap_base::{MOST_CERTIFICATE_BYTES, Memory, Refusal};
 use olap_graph::Graph;
 use olap_proof::{Line, push_known_line};
 use std::alloc::{AllocError, Global};
@@ -60,7 +60,7 @@ impl Trees {
         Ok(())
     }
 
-    /// Appends the lines of a tree.
+    /// Appends the lines of a tree. `Memory`: out of memory, or the text is longer than a certificate's file may be.
     pub(crate) fn push_lines(
         &mut self,
         graph: &Graph,
@@ -76,6 +76,9 @@ impl Trees {
             let node = self.nodes[next];
             if !push_known_line(out, graph, constraints, node.line)? {
                 break;
+            }
+            if out.len() as u64 > MOST_CERTIFICATE_BYTES {
+                return Err(Refusal::Memory(Memory::full(out)));
             }
             self.leave(node)?;
             match self.left.pop() {

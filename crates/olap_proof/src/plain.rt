@@ -1,8 +1,9 @@
 // The plain certificate: for each bottom category a tree that is grown with nothing learnt.
-ghost use Rattle.std.specs.Prelude.{◌≡◌, ◌∷◌, [], ℕ, All, IfOk, OnOk, map};
+ghost use Rattle.std.specs.Prelude.{◌≡◌, ◌≤◌, ◌∷◌, [], ℕ, All, IfOk, OnOk, length, map};
 ghost use Rattle.olap_ast.specs.Summarizable.{IsSummarizable};
 ghost use Rattle.olap_ast.specs.Frozen.{Frozen, IsFrozen};
 ghost use Rattle.olap_base.specs.Graph.{IsBottom, IsCategory};
+ghost use Rattle.olap_base.specs.Limits.{most_certificate_bytes};
 ghost use Rattle.olap_names.specs.Names.{CanBeNamed, with_graph};
 ghost use Rattle.olap_proof.specs.Asking.{IsAsked, names_in, question_in, schema_in};
 ghost use Rattle.olap_proof.specs.Certificates.{IsCertificateText, Open.Bottom};
@@ -17,7 +18,7 @@ use crate::cases::Case;
 use crate::growing::grow;
 use crate::writing::{push_bottom, push_head};
 use olap_ast::{Constraint, Formula, not_by_one};
-use olap_base::{CatId, Memory, Text};
+use olap_base::{CatId, MOST_CERTIFICATE_BYTES, Memory, Text};
 use olap_graph::Graph;
 use olap_names::Candidates;
 use olap_schema::Schema;
@@ -67,11 +68,15 @@ fn plain(alloc: Global, asked: &Asked<'_>, form: Form) -> Result<Text, Memory>
     requires asked { IsAsked asked.now }
     requires none { (b : ℕ) → IsBottom asked.now.graph.now b → (f : Frozen)
         → IsFrozen (schema_in asked.now) (question_in asked.now) b (names_in asked.now) f → ⊥ }
-    ensures { IfOk result (λ text.
+    ensures certificate { IfOk result (λ text.
         IsCertificateText form (schema_in asked.now) (question_in asked.now) (names_in asked.now) text) }
+    ensures short { IfOk result (λ text. length text ≤ most_certificate_bytes) }
 {
     let mut out = Vec::new(alloc);
     push_all(alloc, asked, form, &mut out)?;
+    if out.len() as u64 > MOST_CERTIFICATE_BYTES {
+        return Err(Memory::full(&out));
+    }
     Ok(Text::from_vec(out))
 }
 
@@ -85,8 +90,9 @@ fn plain_by_names(
 ) -> Result<Text, Memory>
     requires named { CanBeNamed graph.now (map constraint_of constraints.now) (formula_of question.now) }
     requires none { HasNoFrozen (with_graph graph.now (map constraint_of constraints.now)) (formula_of question.now) }
-    ensures { IfOk result (IsCertificateOf form (with_graph graph.now (map constraint_of constraints.now))
+    ensures certificate { IfOk result (IsCertificateOf form (with_graph graph.now (map constraint_of constraints.now))
         (formula_of question.now)) }
+    ensures short { IfOk result (λ text. length text ≤ most_certificate_bytes) }
 {
     // Called for its clauses: the graph is a hierarchy.
     let _count = graph.categories();
@@ -114,7 +120,8 @@ pub fn plain_certificate(
     requires target { IsCategory (schema_of schema.now).graph target.0 }
     requires sources { All (IsCategory (schema_of schema.now).graph) (numbers_of sources.now) }
     requires summarizable { IsSummarizable (schema_of schema.now) target.0 (numbers_of sources.now) }
-    ensures { IfOk result (IsCertificateFor form (schema_of schema.now) target.0 (numbers_of sources.now)) }
+    ensures certificate { IfOk result (IsCertificateFor form (schema_of schema.now) target.0 (numbers_of sources.now)) }
+    ensures short { IfOk result (λ text. length text ≤ most_certificate_bytes) }
 {
     let question = not_by_one(alloc, target, sources)?;
     plain_by_names(alloc, schema.graph(), schema.constraints(), &question, form)

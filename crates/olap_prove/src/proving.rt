@@ -1,15 +1,16 @@
 // A certificate where the target is summarizable, and a counterexample where it isn't.
-ghost use Rattle.std.specs.Prelude.{◌≡◌, ◌≢◌, ◌↔◌, All, AllPairs, Err, IfOk, IfSome};
+ghost use Rattle.std.specs.Prelude.{◌≡◌, ◌≢◌, ◌≤◌, ◌↔◌, All, AllPairs, Err, IfOk, IfSome, length};
 ghost use Rattle.olap_base.specs.Graph.{IsCategory};
+ghost use Rattle.olap_base.specs.Limits.{most_certificate_bytes};
 ghost use Rattle.olap_base.specs.declared.refusals.Refusal.TheVariants as refusal;
 ghost use Rattle.olap_ast.specs.Summarizable.{IsSummarizable};
 ghost use Rattle.olap_proof.specs.Verifying.{IsCertificateFor};
-ghost use Rattle.olap_prove.specs.Proofs.{IsYes, Shows};
+ghost use Rattle.olap_prove.specs.Proofs.{IsShort, IsYes, Shows};
 ghost use Rattle.olap_schema.specs.Schemas.{schema_of};
 ghost use Rattle.olap_ast.specs.Trees.{numbers_of};
 ghost use Rattle.olap_summ.specs.Decisions.{duplicate_source};
 
-use olap_base::{CatId, Memory, Refusal, Text};
+use olap_base::{CatId, MOST_CERTIFICATE_BYTES, Memory, Refusal, Text};
 use olap_draft::draft;
 use olap_frozen::Found;
 use olap_proof::{Form, plain_certificate, verify};
@@ -26,7 +27,7 @@ pub enum Proof {
     No(Found),
 }
 
-// The draft, if there is one and it is a certificate.
+// The draft, if there is one and it is a certificate that fits a file.
 fn accepted_draft(
     alloc: Global,
     schema: &Schema,
@@ -36,14 +37,18 @@ fn accepted_draft(
 ) -> Result<Option<Vec<u8>>, Memory>
     requires target { IsCategory (schema_of schema.now).graph target.0 }
     requires sources { All (IsCategory (schema_of schema.now).graph) (numbers_of sources.now) }
-    ensures { IfOk result (λ o. IfSome o (λ text.
+    ensures certificate { IfOk result (λ o. IfSome o (λ text.
         IsCertificateFor form (schema_of schema.now) target.0 (numbers_of sources.now) text.items)) }
+    ensures short { IfOk result (λ o. IfSome o (λ text. length text.items ≤ most_certificate_bytes)) }
 {
     let text = match draft(alloc, schema, form, target, sources) {
         Ok(text) => text,
         Err(Refusal::Memory(m)) => return Err(m),
         Err(Refusal::Kind(_)) => return Ok(None),
     };
+    if text.len() as u64 > MOST_CERTIFICATE_BYTES {
+        return Ok(None);
+    }
     match verify(alloc, schema, form, target, sources, &text) {
         Ok(()) => Ok(Some(text)),
         Err(Refusal::Memory(m)) => Err(m),
@@ -62,7 +67,8 @@ fn certificate(
     requires target { IsCategory (schema_of schema.now).graph target.0 }
     requires sources { All (IsCategory (schema_of schema.now).graph) (numbers_of sources.now) }
     requires summarizable { IsSummarizable (schema_of schema.now) target.0 (numbers_of sources.now) }
-    ensures { IfOk result (IsCertificateFor form (schema_of schema.now) target.0 (numbers_of sources.now)) }
+    ensures certificate { IfOk result (IsCertificateFor form (schema_of schema.now) target.0 (numbers_of sources.now)) }
+    ensures short { IfOk result (λ text. length text ≤ most_certificate_bytes) }
 {
     let drafted = accepted_draft(alloc, schema, form, target, sources)?;
     match drafted {
@@ -74,7 +80,8 @@ fn certificate(
 /// Why the target is summarizable from the sources, or why it isn't: `Yes` exactly if it is, with a certificate of the
 /// form, and else `No` with the counterexample that `summarizable` gives.
 ///
-/// `DuplicateSource`: exactly if a source stands twice. The target may be a source, and either may be `All`. Most
+/// `DuplicateSource`: exactly if a source stands twice. `Memory`: out of memory, or the certificate that was found is
+/// longer than a file of one may be: what is given out fits. The target may be a source, and either may be `All`. Most
 /// certificates are short. A plain one, which is written where a search with a budget found none, may be as long as
 /// there are choices of edges and names, and take as long.
 pub fn prove(
@@ -91,6 +98,7 @@ pub fn prove(
     ensures yes { IfOk result (λ p.
         IsYes p ↔ IsSummarizable (schema_of schema.now) target.0 (numbers_of sources.now)) }
     ensures proof { IfOk result (Shows form (schema_of schema.now) target.0 (numbers_of sources.now)) }
+    ensures short { IfOk result IsShort }
 {
     match summarizable(alloc, schema, target, sources)? {
         Some(found) => Ok(Proof::No(found)),

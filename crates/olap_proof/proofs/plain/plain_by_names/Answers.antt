@@ -13,8 +13,8 @@ plain-requires c =
       none = c.requires.none hier (candidates_of c.in_ok-candidates.candidates) are;
     }
 
-pub returns : goal.returns
-returns c =
+pub returns-clause-certificate : goal.returns-clause-certificate
+returns-clause-certificate c =
     let s = with_graph c.args.graph.now (map constraint_of c.args.constraints.now) in
     named c.args.form s (formula_of c.args.question.now) (candidates_of c.in_ok-candidates.candidates)
-    c.in_ok-candidates.ensures.candidates c.plain.result c.plain.ensures
+    c.in_ok-candidates.ensures.candidates c.plain.result c.plain.ensures.certificate

@@ -15,7 +15,7 @@ plain_by_names-requires c =
           c.in_ok-question.ensures c.requires.summarizable;
     }
 
-pub returns : goal.returns
-returns c =
+pub returns-clause-certificate : goal.returns-clause-certificate
+returns-clause-certificate c =
     written c.args.form (schema_of c.args.schema.now) c.args.target.0 (numbers_of c.args.sources.now) c.graph.ensures
-    c.constraints.ensures.list c.in_ok-question.ensures c.plain_by_names.result c.plain_by_names.ensures
+    c.constraints.ensures.list c.in_ok-question.ensures c.plain_by_names.result c.plain_by_names.ensures.certificate
