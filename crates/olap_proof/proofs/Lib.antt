@@ -8,6 +8,7 @@ mod CertificateLemmas
 mod WalkingLemmas
 mod KeptWayLemmas
 mod SeenLemmas
+mod DrawingLemmas
 mod TouchingLemmas
 mod TellingLemmas
 mod DrawnLemmas

@@ -14,6 +14,8 @@ pub mod KeptTables
 pub mod Kept
 pub mod Walking
 pub mod Seen
+pub mod Tables
+pub mod Tabled
 pub mod Within
 pub mod DoneHere
 pub mod Branches

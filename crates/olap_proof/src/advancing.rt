@@ -10,9 +10,10 @@ use crate::asking::Asked;
 use crate::branches::{Choice, choose, first_case, go_on};
 use crate::doing::effective_line;
 use crate::knowing::known_at;
-use crate::lines::Line;
+use crate::lines::{Line, line_of};
 use crate::places::Place;
 use crate::telling::Known;
+use olap_ast::{Formula, Terms};
 use olap_base::{CatId, Memory};
 
 /// What a line does on a branch.
@@ -24,6 +25,49 @@ pub(crate) enum Effect {
     Still,
     /// All of the tree is closed.
     Closed,
+}
+
+/// From how many questions on of what reaches what the answers are looked up in tables.
+const MANY: u32 = 16;
+
+/// The number, less one for each atom of the formula on what is reached, but never below 0.
+#[cycle(atoms)]
+fn less_atoms(f: &Formula, left: u32) -> u32 {
+    if left == 0 {
+        return 0;
+    }
+    match f {
+        Formula::True | Formula::False | Formula::Path(_) => left,
+        Formula::Reach(_) | Formula::Via(_, _) => left - 1,
+        Formula::Equals(_, _) | Formula::Compare(_, _, _) => left - 1,
+        Formula::Not(g) => less_atoms(g, left),
+        Formula::And(g, h) | Formula::Or(g, h) => less_atoms(h, less_atoms(g, left)),
+        Formula::Implies(g, h) | Formula::Iff(g, h) => less_atoms(h, less_atoms(g, left)),
+        Formula::Xor(g, h) => less_atoms(h, less_atoms(g, left)),
+        Formula::One(parts) => less_all(parts, left),
+    }
+}
+
+/// The same of the parts of a list.
+#[cycle(atoms)]
+fn less_all(parts: &Terms, left: u32) -> u32 {
+    match parts {
+        Terms::End => left,
+        Terms::More(f, rest) => less_all(rest, less_atoms(f, left)),
+    }
+}
+
+/// Whether the line asks much of what is reached. No answer depends on it, only how long it takes.
+fn asks_much(asked: &Asked<'_>, bytes: &[u8]) -> bool {
+    if !matches!(bytes.first(), Some(b'c') | Some(b'q') | Some(b's')) {
+        return false;
+    }
+    match line_of(asked.graph, asked.constraints, bytes) {
+        Some(Line::Constraint(n)) => less_atoms(&asked.constraints[n].formula, MANY) == 0,
+        Some(Line::Question) => less_atoms(asked.question, MANY) == 0,
+        Some(Line::Steps(c, _)) => asked.graph.parents(c).len() >= MANY as usize,
+        _ => false,
+    }
 }
 
 /// The line that the bytes are, if it does something at the place.
@@ -81,6 +125,9 @@ pub(crate) fn advance(
     requires branch { IsBranch asked.now.graph.now asked.now.candidates.now place.old choices.old.items }
     ensures { IfOk result (Advances form asked.now place.old choices.old.items bytes.now place.new choices.new.items) }
 {
+    if asks_much(asked, bytes) {
+        place.tabulate(asked.graph);
+    }
     match line_at(asked, form, root, place, bytes) {
         Some(line) => follow(asked, form, place, choices, line),
         None => Ok(Effect::Nothing),

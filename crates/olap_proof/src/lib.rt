@@ -25,6 +25,7 @@ mod places;
 mod plain;
 mod splitting;
 mod stages;
+mod tables;
 mod telling;
 mod verifying;
 mod walking;

@@ -1,5 +1,5 @@
 // The place in a tree at which the reading stands.
-ghost use Rattle.std.specs.Prelude.{◌≡◌, ◌-◌, ◌<◌, ◌↔◌, ℕ, Contains, IfOk, IsTrue, None, OnErr, OnOk, length, map, take};
+ghost use Rattle.std.specs.Prelude.{◌≡◌, ◌-◌, ◌<◌, ◌↔◌, ℕ, Contains, IfOk, IfSome, IsTrue, None, OnErr, OnOk, length, map, take};
 ghost use Rattle.std.specs.Option.{option_map};
 ghost use Rattle.olap_base.specs.Graph.{IsCategory};
 ghost use Rattle.olap_base.specs.Limits.{most_categories};
@@ -7,11 +7,13 @@ ghost use Rattle.olap_bits.specs.Sets.{members};
 ghost use Rattle.olap_proof.specs.Certificates.{start, with_edge, with_name, with_way};
 ghost use Rattle.olap_proof.specs.KeptParts.{naming_kept};
 ghost use Rattle.olap_proof.specs.KeptWays.{leading_way};
-ghost use Rattle.olap_proof.specs.Places.{index_of, way_of};
-ghost use Rattle.olap_proof.specs.Walking.{IsIn};
+ghost use Rattle.olap_proof.specs.Places.{index_of, leading_graph, possible_graph, way_of};
+ghost use Rattle.olap_proof.specs.Seen.{AreOfGraph};
+ghost use Rattle.olap_proof.specs.Walking.{IsIn, IsWalk};
 ghost use Rattle.olap_trail.specs.Decisions.{AreDecisions, HoldsCycle, HoldsShortcut, present_with, status_of};
 ghost use Rattle.olap_trail.specs.Trails.{decisions_of};
 
+use crate::tables::{fill_leading, fill_possible, row_if};
 use crate::ways::{Way, Ways};
 use olap_base::{CatId, EdgeId, Memory};
 use olap_graph::{Categories, Graph, WORDS};
@@ -32,6 +34,12 @@ pub(crate) struct Place {
     trail: Trail<{ WORDS }>,
     namings: Vec<Naming>,
     ways: Ways,
+    /// For each category what it reaches by edges that weren't decided absent, where the tables are fresh.
+    possible: Vec<Categories>,
+    /// And by what is known to be there.
+    leading: Vec<Categories>,
+    /// Whether the tables are those of what is decided.
+    fresh: bool,
 }
 
 impl Model for Place {
@@ -42,6 +50,10 @@ impl Model for Place {
     ghost use Rattle.olap_proof.specs.Kept.{place_kept};
 
     ghost view = { place_kept };
+
+    ghost use Rattle.olap_proof.specs.Tabled.{IsTabled};
+
+    ghost invariant = { IsTabled };
 }
 
 /// The index that was decided for the category's name, first of these.
@@ -59,18 +71,48 @@ fn index_in(namings: &[Naming], c: CatId) -> Option<u16>
 }
 
 impl Place {
-    /// Nothing is decided. It takes the memory for a decision on each edge.
+    /// Nothing is decided. It takes the memory for a decision on each edge, and for the tables.
     pub(crate) fn new(alloc: Global, graph: &Graph, root: CatId) -> Result<Place, Memory>
         requires { IsCategory graph.now root.0 }
         ensures { IfOk result (λ p. p ≡ start graph.now root.0) }
     {
-        // Called for its clause: there are few categories.
-        let _few = graph.categories();
+        let count = usize::from(graph.categories());
         Ok(Place {
             ways: Ways::new(alloc)?,
             trail: Trail::new(alloc, graph, root)?,
             namings: Vec::new(alloc),
+            possible: vec![in alloc; Categories::empty(); count]?,
+            leading: vec![in alloc; Categories::empty(); count]?,
+            fresh: false,
         })
+    }
+
+    /// Makes the tables, if they aren't those of what is decided. Cost: the square of the categories.
+    pub(crate) fn tabulate(&mut self, graph: &Graph)
+        requires graph { self.old.decided.graph ≡ graph.now }
+        requires ways { AreOfGraph graph.now self.old.ways }
+        ensures { self.new ≡ self.old }
+    {
+        if self.fresh {
+            return;
+        }
+        fill_possible(graph, &self.trail, &mut self.possible);
+        fill_leading(graph, &self.trail, &self.ways, &mut self.leading);
+        self.fresh = true;
+    }
+
+    /// What the category reaches by edges that weren't decided absent, if the tables say so. One look at a table.
+    pub(crate) fn possible_from(&self, c: CatId) -> Option<Categories>
+        ensures { IfSome result (λ s. IsWalk (possible_graph self.now.decided) c.0 (members s)) }
+    {
+        row_if(self.fresh, &self.possible, c)
+    }
+
+    /// What the category reaches by what is known to be there, if the tables say so. One look at a table.
+    pub(crate) fn leading_from(&self, c: CatId) -> Option<Categories>
+        ensures { IfSome result (λ s. IsWalk (leading_graph self.now) c.0 (members s)) }
+    {
+        row_if(self.fresh, &self.leading, c)
     }
 
     /// What was decided of the edge. One look at a table.
@@ -132,6 +174,7 @@ impl Place {
         requires open { status_of self.old.decided edge.0 ≡ None }
         ensures { self.new ≡ with_edge self.old edge.0 present }
     {
+        self.fresh = false;
         self.trail.decide(edge, present);
     }
 
@@ -152,6 +195,7 @@ impl Place {
         ensures ok { OnOk result (self.new ≡ with_way self.old child.0 parent.0 there) }
         ensures same { OnErr result (self.new ≡ self.old) }
     {
+        self.fresh = false;
         self.ways.push(Way {
             child,
             parent,
@@ -167,6 +211,7 @@ impl Place {
           };
         } }
     {
+        self.fresh = false;
         let mark = self.trail.mark();
         if mark.0 > 0 {
             self.trail.undo(Mark(mark.0 - 1));
@@ -184,6 +229,7 @@ impl Place {
     pub(crate) fn unlead(&mut self)
         ensures { self.new ≡ record self.old { ways = take (length self.old.ways - 1) self.old.ways } }
     {
+        self.fresh = false;
         self.ways.pop();
     }
 }

@@ -68,7 +68,10 @@ impl<'a> Known<'a> {
         requires { IsCategory self.now.graph.now c.0 }
         ensures { result ≡ category_reaches (leading_graph self.now.place.now) c.0 d.0 }
     {
-        known_from(self.graph, self.place, c).has(d.0)
+        match self.place.leading_from(c) {
+            Some(reached) => reached.has(d.0),
+            None => known_from(self.graph, self.place, c).has(d.0),
+        }
     }
 
     /// Whether the one category is known to have a member that reaches one of the other.
@@ -83,7 +86,10 @@ impl<'a> Known<'a> {
         requires { IsCategory self.now.graph.now c.0 }
         ensures { result ≡ category_reaches (possible_graph self.now.place.now.decided) c.0 d.0 }
     {
-        possible_from(self.graph, self.place, c).has(d.0)
+        match self.place.possible_from(c) {
+            Some(reached) => reached.has(d.0),
+            None => possible_from(self.graph, self.place, c).has(d.0),
+        }
     }
 
     /// What the root reaches by edges that weren't decided absent.

@@ -83,7 +83,7 @@ fn grow_by_decisions(graph: &Graph, decisions: &[Decision], set: &mut Categories
 }
 
 /// Whether an edge of which this was decided may be present.
-fn may_be_present(status: Option<bool>) -> bool
+pub(crate) fn may_be_present(status: Option<bool>) -> bool
     ensures { result ≡ is_possible status }
 {
     match status {

@@ -4,6 +4,10 @@ use Rattle.olap_proof.specs.Places.{possible_graph}
 use Rattle.olap_proof.proofs.TellingLemmas.{walk_test}
 use Rattle.olap_proof.proofs.telling.Known.may_lead.Goals as goal
 
-pub returns : goal.returns
-returns c = c.has.ensures ∙ walk_test (possible_graph c.args.self.now.place.now.decided) c.args.c.0
+pub returns-in-Some : goal.returns-in-Some
+returns-in-Some c = c.has.ensures ∙ walk_test (possible_graph c.args.self.now.place.now.decided) c.args.c.0
+    (members c.in-Some.reached) c.args.d.0 c.in-Some.ensures
+
+pub returns-in-None : goal.returns-in-None
+returns-in-None c = c.has-in-None.ensures ∙ walk_test (possible_graph c.args.self.now.place.now.decided) c.args.c.0
     (members c.possible_from.result) c.args.d.0 c.possible_from.ensures

@@ -1,0 +1,44 @@
+-- One category more is taken.
+use Rattle.std.proofs.Common.{◌≡◌, ◌<◌, ◌↔◌, ◌∙◌, ℕ, length, ap, refl, subst, sym, arith}
+use Rattle.std.specs.Prelude.{Contains}
+use Rattle.std.specs.FinSet.{union}
+use Rattle.std.proofs.Math.ListN.{length-set}
+use Rattle.olap_bits.specs.Sets.{members}
+use Rattle.olap_graph.proofs.RowLemmas.{row_read}
+use Rattle.olap_proof.specs.KeptWays.{leading_way}
+use Rattle.olap_proof.specs.Seen.{LeadsHere}
+use Rattle.olap_proof.specs.Tables.{Draws}
+use Rattle.olap_proof.specs.Walking.{IsIn, SeenFrom}
+use Rattle.olap_proof.proofs.DrawingLemmas.{draws_all, draws_none}
+use Rattle.olap_proof.proofs.tables.draw_ways.Goals as goal
+
+pub categories-init : goal.categories-init
+categories-init c = record {
+  count = refl;
+  drawn = λ g lie.
+      draws_none g (SeenFrom (LeadsHere c.args.ways.now) 0) c.args.rows.now
+      (λ x y s. absurd (let l = s.0 in omega (arith, l)));
+}
+
+pub categories-preserved : goal.categories-preserved
+categories-preserved c =
+    let ways = c.args.ways.now in
+    let i = c.categories.c in
+    let mid = c.categories.rows in
+    let inside : i < length mid =
+    let n = c.categories.invariant.count in let l = c.categories-test.true in omega arith in
+    record {
+      count = length-set mid i c.union.result ∙ c.categories.invariant.count;
+      drawn = λ g lie.
+          draws_all g (LeadsHere ways) i c.args.rows.now mid c.union.result c.from.result
+          (c.categories.invariant.drawn g lie) inside
+          (c.union.ensures ∙ ap (λ s. union s (members c.from.result))
+          (row_read mid i c.index-rows-c.result inside c.index-rows-c.is)) c.from.ensures lie;
+    }
+
+pub returns-clause-drawn : goal.returns-clause-drawn
+returns-clause-drawn c = λ g lie.
+    let end : c.categories.c ≡ length c.args.rows.now =
+    omega (arith, c.categories.auto.c-end, c.categories-test.false) in
+    subst (λ n. Draws g (SeenFrom (LeadsHere c.args.ways.now) n) c.args.rows.now c.categories.rows) end
+    (c.categories.invariant.drawn g lie)
