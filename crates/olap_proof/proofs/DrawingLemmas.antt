@@ -5,9 +5,8 @@
 --     own_sound                 where each set is that of its category alone, it has only what is reached
 --     closed_table              closed sets have exactly what is reached
 --     leading_drawn, leading_all    what is known to be there is drawn, and all of it
-use Rattle.std.proofs.Common.{◌≡◌, ◌≢◌, ℕ, ◌+◌, ◌<◌, ◌⊎◌, ◌↔◌, List, length, map, set, Bool, true, false, refl, ap, sym, subst, ◌∙◌, inl, inr, arith}
-use Rattle.std.specs.FinSet.{FinSet, contains, insert, union}
-use Rattle.std.specs.Ordering.{nat_cmp}
+use Rattle.std.proofs.Common.{◌≡◌, ℕ, ◌+◌, ◌<◌, ◌⊎◌, ◌↔◌, List, length, set, Bool, true, false, refl, ap, sym, subst, ◌∙◌, inl, inr, arith}
+use Rattle.std.specs.FinSet.{contains, insert, union}
 use Rattle.std.proofs.Math.ListN.{length-set}
 use Rattle.olap_base.specs.Graph.{CategoryReaches, Graph, HasEdge, category_count}
 use Rattle.olap_base.specs.Steps.{Steps, Steps.here, Steps.step, Steps-append, Steps-from_reaches, reaches_from_Steps}
@@ -22,7 +21,7 @@ use Rattle.olap_proof.specs.KeptWays.{leading_way}
 use Rattle.olap_proof.specs.Places.{Place, leading_graph}
 use Rattle.olap_proof.specs.Seen.{AreOfGraph, LeadsHere, SeenDecisions, decision_at}
 use Rattle.olap_proof.specs.Tables.{Draws, IsTable}
-use Rattle.olap_proof.specs.Walking.{IsIn, IsWalk, SeenFrom, SeenUpTo}
+use Rattle.olap_proof.specs.Walking.{IsIn, SeenFrom, SeenUpTo}
 use Rattle.olap_proof.proofs.SeenLemmas.{leading_seen, seen_present, seen_way}
 
 -- ---- one set more
@@ -105,10 +104,10 @@ module _ {W : ℕ} (g : Graph) (takes : ℕ → Bool) (child parent : ℕ → �
 
   -- one that isn't taken is passed over
   pub draws_skip : takes i ≡ false → Draws g (SeenUpTo takes child parent (i + 1)) old mid
-  draws_skip no = draws_less g (SeenUpTo takes child parent i) (SeenUpTo takes child parent (i + 1)) old mid h
+  draws_skip not = draws_less g (SeenUpTo takes child parent i) (SeenUpTo takes child parent (i + 1)) old mid h
       (λ a b s. elim (last s.0 i s.1) [
         | inl z ↦ (s.0, z, s.2, s.3, s.4)
-        | inr z ↦ absurd (let w : false ≡ true = sym no ∙ ap takes (sym z) ∙ s.2 in cc)
+        | inr z ↦ absurd (let w : false ≡ true = sym not ∙ ap takes (sym z) ∙ s.2 in cc)
       ])
 
 -- all to which ways lead from one category more

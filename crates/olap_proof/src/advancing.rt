@@ -112,7 +112,36 @@ fn follow(
     }
 }
 
+/// Makes tables of what is reached, if the line asks much of it.
+fn prepare(asked: &Asked<'_>, place: &mut Place, bytes: &[u8])
+    requires { IsWithin asked.now.graph.now asked.now.candidates.now place.old }
+    ensures { place.new ≡ place.old }
+{
+    if asks_much(asked, bytes) {
+        place.tabulate(asked.graph);
+    }
+}
+
 /// What the bytes do at the place, and then as far as the next case that is open. `Memory`: out of memory.
+fn take_line(
+    asked: &Asked<'_>,
+    form: Form,
+    root: CatId,
+    place: &mut Place,
+    choices: &mut Vec<Choice>,
+    bytes: &[u8],
+) -> Result<Effect, Memory>
+    requires root { place.old.decided.root ≡ root.0 }
+    requires branch { IsBranch asked.now.graph.now asked.now.candidates.now place.old choices.old.items }
+    ensures { IfOk result (Advances form asked.now place.old choices.old.items bytes.now place.new choices.new.items) }
+{
+    match line_at(asked, form, root, place, bytes) {
+        Some(line) => follow(asked, form, place, choices, line),
+        None => Ok(Effect::Nothing),
+    }
+}
+
+/// The same, after tables were made where the line asks much of what is reached. `Memory`: out of memory.
 pub(crate) fn advance(
     asked: &Asked<'_>,
     form: Form,
@@ -125,11 +154,6 @@ pub(crate) fn advance(
     requires branch { IsBranch asked.now.graph.now asked.now.candidates.now place.old choices.old.items }
     ensures { IfOk result (Advances form asked.now place.old choices.old.items bytes.now place.new choices.new.items) }
 {
-    if asks_much(asked, bytes) {
-        place.tabulate(asked.graph);
-    }
-    match line_at(asked, form, root, place, bytes) {
-        Some(line) => follow(asked, form, place, choices, line),
-        None => Ok(Effect::Nothing),
-    }
+    prepare(asked, place, bytes);
+    take_line(asked, form, root, place, choices, bytes)
 }

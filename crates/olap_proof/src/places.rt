@@ -102,14 +102,14 @@ impl Place {
     }
 
     /// What the category reaches by edges that weren't decided absent, if the tables say so. One look at a table.
-    pub(crate) fn possible_from(&self, c: CatId) -> Option<Categories>
+    pub(crate) fn possible_row(&self, c: CatId) -> Option<Categories>
         ensures { IfSome result (λ s. IsWalk (possible_graph self.now.decided) c.0 (members s)) }
     {
         row_if(self.fresh, &self.possible, c)
     }
 
     /// What the category reaches by what is known to be there, if the tables say so. One look at a table.
-    pub(crate) fn leading_from(&self, c: CatId) -> Option<Categories>
+    pub(crate) fn leading_row(&self, c: CatId) -> Option<Categories>
         ensures { IfSome result (λ s. IsWalk (leading_graph self.now) c.0 (members s)) }
     {
         row_if(self.fresh, &self.leading, c)

@@ -68,7 +68,7 @@ impl<'a> Known<'a> {
         requires { IsCategory self.now.graph.now c.0 }
         ensures { result ≡ category_reaches (leading_graph self.now.place.now) c.0 d.0 }
     {
-        match self.place.leading_from(c) {
+        match self.place.leading_row(c) {
             Some(reached) => reached.has(d.0),
             None => known_from(self.graph, self.place, c).has(d.0),
         }
@@ -86,7 +86,7 @@ impl<'a> Known<'a> {
         requires { IsCategory self.now.graph.now c.0 }
         ensures { result ≡ category_reaches (possible_graph self.now.place.now.decided) c.0 d.0 }
     {
-        match self.place.possible_from(c) {
+        match self.place.possible_row(c) {
             Some(reached) => reached.has(d.0),
             None => possible_from(self.graph, self.place, c).has(d.0),
         }

@@ -1,5 +1,5 @@
 -- One decision more is drawn, if it says present.
-use Rattle.std.proofs.Common.{◌≡◌, ◌+◌, ◌<◌, ◌∙◌, ℕ, length, ap, refl, subst, sym, arith}
+use Rattle.std.proofs.Common.{◌≡◌, ◌+◌, ◌<◌, ◌∙◌, length, ap, refl, subst, sym, arith}
 use Rattle.std.specs.FinSet.{insert}
 use Rattle.std.proofs.Math.ListN.{length-set}
 use Rattle.olap_base.specs.Graph.{Edge, HasEdge}

@@ -1,5 +1,5 @@
 -- One edge more is drawn, if it may be present.
-use Rattle.std.proofs.Common.{◌≡◌, ◌+◌, ◌<◌, ◌∙◌, ℕ, length, true, ap, refl, subst, sym, arith}
+use Rattle.std.proofs.Common.{◌≡◌, ◌+◌, ◌<◌, ◌∙◌, length, ap, refl, subst, sym, arith}
 use Rattle.std.specs.FinSet.{insert}
 use Rattle.std.proofs.Math.ListN.{length-set}
 use Rattle.olap_base.specs.Graph.{Edge, Graph, HasEdge}

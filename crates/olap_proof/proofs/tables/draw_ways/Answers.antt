@@ -1,14 +1,12 @@
 -- One category more is taken.
-use Rattle.std.proofs.Common.{◌≡◌, ◌<◌, ◌↔◌, ◌∙◌, ℕ, length, ap, refl, subst, sym, arith}
-use Rattle.std.specs.Prelude.{Contains}
+use Rattle.std.proofs.Common.{◌≡◌, ◌<◌, ◌∙◌, length, ap, refl, subst, arith}
 use Rattle.std.specs.FinSet.{union}
 use Rattle.std.proofs.Math.ListN.{length-set}
 use Rattle.olap_bits.specs.Sets.{members}
 use Rattle.olap_graph.proofs.RowLemmas.{row_read}
-use Rattle.olap_proof.specs.KeptWays.{leading_way}
 use Rattle.olap_proof.specs.Seen.{LeadsHere}
 use Rattle.olap_proof.specs.Tables.{Draws}
-use Rattle.olap_proof.specs.Walking.{IsIn, SeenFrom}
+use Rattle.olap_proof.specs.Walking.{SeenFrom}
 use Rattle.olap_proof.proofs.DrawingLemmas.{draws_all, draws_none}
 use Rattle.olap_proof.proofs.tables.draw_ways.Goals as goal
 
