@@ -10,13 +10,13 @@ use Rattle.std.proofs.lemmas.List.Elements.{Contains-append_cases, Contains-appe
 use Rattle.olap_base.specs.Graph.{Edge, Graph, HasEdge}
 use Rattle.olap_base.specs.Steps.{Climb, Climb.climb}
 use Rattle.olap_base.proofs.ListLemmas.{Contains-filter, Contains-map}
-use Rattle.olap_ast.proofs.Examples.{alone}
 use Rattle.olap_graph.specs.Lookups.{edge_at}
 use Rattle.olap_trail.specs.Decisions.{Decided, Decision, HoldsCycle, HoldsShortcut, present_edges, present_graph, present_with}
 use Rattle.olap_trail.specs.Trails.{decision_of, decisions_of}
 use Rattle.olap_trail.specs.declared.decisions.Decision.{Decision as OneDecision}
 use Rattle.olap_proof.specs.Seen.{decision_at}
 use Rattle.olap_proof.proofs.AgreeingLemmas.{wider_climb}
+use Rattle.olap_proof.proofs.SeenLemmas.{alone}
 
 -- a decision that says present draws its edge
 pub drawn_edge : (t : Decided) (ds : List OneDecision) → t.decisions ≡ decisions_of ds → (k : ℕ) → k < length ds

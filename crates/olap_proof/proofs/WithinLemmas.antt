@@ -7,7 +7,6 @@ use Rattle.std.specs.Prelude.{All}
 use Rattle.std.proofs.lemmas.List.Elements.{Contains-append_cases, Contains-get_or}
 use Rattle.olap_base.specs.Graph.{Graph, IsCategory, category_count}
 use Rattle.olap_base.proofs.ListLemmas.{Contains-nil}
-use Rattle.olap_ast.proofs.Examples.{alone}
 use Rattle.olap_names.specs.Names.{Named}
 use Rattle.olap_trail.specs.Decisions.{Decision}
 use Rattle.olap_proof.specs.declared.branches.Choice.{Choice}
@@ -16,6 +15,7 @@ use Rattle.olap_proof.specs.Branches.{AreLegal, IsBranch, IsLegal, first_of, wit
 use Rattle.olap_proof.specs.Certificates.{start}
 use Rattle.olap_proof.specs.Places.{Naming, Place, Way as WayHere}
 use Rattle.olap_proof.specs.Within.{IsWithin}
+use Rattle.olap_proof.proofs.SeenLemmas.{alone}
 
 -- what holds of a list's elements holds of those of a longer one
 all_more : {A : Type 0} (P : A → Type 0) (xs : List A) (y : A) → All P xs → P y → All P (xs ++ y ∷ [])
