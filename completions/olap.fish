@@ -10,8 +10,8 @@ function __olap_categories
     echo All
 end
 
-# What stands at each place after a command: f a file, c a category, r a category other than All, d categories that differ,
-# n nothing that could be completed.
+# What stands at each place after a command: f a file, c a category, r a category other than All, d categories that
+# differ, n nothing that could be completed.
 function __olap_places
     switch $argv[1]
         case rollup answer
@@ -39,8 +39,8 @@ function __olap_candidates
     set -l words (commandline -opc) # those before the cursor's
     set -l place (math (count $words) - 1)
     if test $place -eq 0
-        printf '%s\n' rollup check format summarizable prove verify prove-short verify-short implies satisfiable frozen audit store answer \
-            append retract cube cubeview generate
+        printf '%s\n' rollup check format summarizable prove verify prove-short verify-short implies satisfiable frozen audit \
+            store answer append retract cube cubeview generate
         return
     end
     if contains -- $words[2] cube cubeview
@@ -68,7 +68,8 @@ function __olap_candidates
     end
 end
 
-# Of a cube: K, then files, as many as K says and for cubeview that once more and the facts, and then tuples of categories.
+# Of a cube: K, then files, as many as K says and for cubeview that once more and the facts, and then tuples of
+# categories.
 function __olap_cube
     set -l place (math (count $argv) - 2)
     if test $place -eq 0

@@ -1,7 +1,8 @@
 """Dirty tables for each recipe: a module of check-recipes, which isn't run.
 
-Each is a change of a recipe's tables, which lose their keys and `not null` before, and what the recipe must say of it then: it ends
-with another status than 0, or it goes on and its totals are the database's. What no recipe may do is lose a row without a word.
+Each is a change of a recipe's tables, which lose their keys and `not null` before, and what the recipe must say of it
+then: it ends with another status than 0, or it goes on and its totals are the database's. What no recipe may do is
+lose a row without a word.
 """
 
 import re

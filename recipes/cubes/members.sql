@@ -1,6 +1,7 @@
--- Writes the instances and the facts, all of one moment. Each level of a wide table is a category, and what the next columns with a key
--- say are its parents; keys of each level get a letter of their own. If a city has a state and a province, in one row of the wide table
--- or in two, it has two parents here, and the program refuses them. A level without any parent has a null, and that stops it.
+-- Writes the instances and the facts, all of one moment. Each level of a wide table is a category, and what the next
+-- columns with a key say are its parents; keys of each level get a letter of their own. If a city has a state and a
+-- province, in one row of the wide table or in two, it has two parents here, and the program refuses them. A level
+-- without any parent has a null, and that stops it.
 begin isolation level repeatable read;
 create view store_level as
     select 's' || store_key as id, 'Store' as category, store_name as name, 'c' || city_key as parent from store_dim
@@ -31,8 +32,11 @@ create view article_level as
     union all
     select 'd' || department_key, 'Department', department_name, 'all' from article_dim where department_key is not null;
 do $$ declare lost record; begin
-    select * into lost from (select * from store_level union all select * from article_level) as level where id is null or parent is null limit 1;
-    if found then raise exception 'a level without a key, or without a parent: % % %', lost.category, lost.id, lost.name; end if;
+    select * into lost from (select * from store_level union all select * from article_level) as level
+    where id is null or parent is null limit 1;
+    if found then
+        raise exception 'a level without a key, or without a parent: % % %', lost.category, lost.id, lost.name;
+    end if;
 end $$;
 copy (
     select id, category, name, string_agg(distinct parent, ';') as parents

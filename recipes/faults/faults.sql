@@ -1,6 +1,7 @@
--- Prints what is wrong with the views member, lies_in and fact, before they are exported: kinds of faults with how many there are
--- and an example each. It reads the schema's edges from edges.txt, a child and a parent a line. The program would tell the first
--- fault alone. A comparison with null is never true, so each kind asks for nulls by name. The last kind is a hint, and no fault.
+-- Prints what is wrong with the views member, lies_in and fact, before they are exported: kinds of faults with how
+-- many there are and an example each. It reads the schema's edges from edges.txt, a child and a parent a line. The
+-- program would tell the first fault alone. A comparison with null is never true, so each kind asks for nulls by
+-- name. The last kind is a hint, and no fault.
 .bail on
 create temp table edge (child text not null, parent text not null);
 .mode csv
@@ -36,6 +37,7 @@ select 'fact of no member', quote(member), count(*) from fact
     where member is null or not exists (select 1 from known where id = member) group by member limit 20;
 select 'fact above the lowest level', category, count(*), min(id) from fact join known on known.id = fact.member
     where category in (select parent from edge) group by category;
-select 'no whole number', quote(value), count(*), quote(min(member)) from fact where typeof(value) <> 'integer' group by value limit 20;
+select 'no whole number', quote(value), count(*), quote(min(member)) from fact
+    where typeof(value) <> 'integer' group by value limit 20;
 select 'names alike', category, count(*), quote(min(name)) || ' ' || quote(max(name)) from member
     group by category, lower(trim(name)) having min(name) <> max(name) limit 20;

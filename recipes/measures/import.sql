@@ -5,10 +5,13 @@
 begin;
 create temp table whole (file text, is_whole integer, constraint "a file is no whole answer" check (is_whole));
 insert into whole
-    select file, text glob 'plan*' || char(10) || 'member,count,sum,least,greatest' || char(10) || '*' and substr(text, -1) = char(10)
+    select file, text glob 'plan*' || char(10) || 'member,count,sum,least,greatest' || char(10) || '*'
+            and substr(text, -1) = char(10)
     from (
         select file, coalesce(cast(readfile(file) as text), '') as text
-        from (select 'cents_answer.csv' as file union all select 'pieces_answer.csv' union all select 'grams_answer.csv')
+        from (
+            select 'cents_answer.csv' as file union all select 'pieces_answer.csv' union all select 'grams_answer.csv'
+        )
     );
 create table if not exists cents_total (member text primary key, count integer, sum integer, least integer, greatest integer);
 create table if not exists pieces_total (member text primary key, count integer, sum integer, least integer, greatest integer);

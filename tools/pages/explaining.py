@@ -11,11 +11,14 @@ from . import form, manual, program
 from .program import Fault
 from .texts import ESCAPED, STRING
 
+# Kinds whose cause the record alone doesn't show.
+WITH_CAUSE = ("UnknownCategory", "UnknownParent", "UnknownMember", "DuplicateId", "BadHeader")
+OF_SCHEMA = ("format", "satisfiable", "implies", "summarizable", "frozen", "audit", "prove", "prove-short")
 # Of each command, what its words are after its name.
 FILES = {
     "rollup": ("schema", "instance", "facts"), "store": ("schema", "instance", "facts"), "answer": ("schema", "instance", "store"),
     "append": ("schema", "instance", "store", "facts"), "retract": ("schema", "instance", "store", "facts"),
-    "check": ("schema", "instance"), **{name: ("schema",) for name in ("format", "satisfiable", "implies", "summarizable", "frozen", "audit", "prove", "prove-short")},
+    "check": ("schema", "instance"), **dict.fromkeys(OF_SCHEMA, ("schema",)),
     **{name: ("schema", "certificate") for name in ("verify", "verify-short")},
 }  # fmt: skip
 MOST = 200  # characters of a line or record that are shown
@@ -85,7 +88,7 @@ def of_record(words: list[str], what: str, number: int, kind: str) -> Iterator[s
         yield shown(f"record {number}", " | ".join(rows[number - 1]))
     elif rows:
         yield changed(f"the text of the {what}", f"record {number}")
-    if kind in ("UnknownCategory", "UnknownParent", "UnknownMember", "DuplicateId", "BadHeader") and (number <= len(rows) or kind == "BadHeader"):
+    if kind in WITH_CAUSE and (number <= len(rows) or kind == "BadHeader"):
         try:
             yield from cause(words, what, rows, number, kind)
         except (IndexError, KeyError):
@@ -124,7 +127,8 @@ def constraints_of(words: list[str], what: str) -> list[str]:
 
 def of_constraint(words: list[str], what: str, number: int) -> Iterator[str]:
     texts = constraints_of(words, what)
-    yield shown(f"constraint {number}", texts[number - 1]) if 1 <= number <= len(texts) else changed(f"the {what}", f"constraint {number}")
+    is_there = 1 <= number <= len(texts)
+    yield shown(f"constraint {number}", texts[number - 1]) if is_there else changed(f"the {what}", f"constraint {number}")
 
 
 def of_violation(words: list[str], dimension: str, kind: str, rest: str) -> Iterator[str]:
@@ -132,7 +136,9 @@ def of_violation(words: list[str], dimension: str, kind: str, rest: str) -> Iter
     rows = {row[0]: row for row in records(content(words, f"instance{dimension}"))[1:] if len(row) == 4}
     if kind == "Constraint":
         yield from of_constraint(words, f"schema{dimension}", int(rest.split(" ")[0]))
-    yield from (shown("record of", " | ".join(rows[id])) if id in rows else changed("the instance", f'member "{id}"') for id in ids if id != "all")
+    for id in ids:
+        if id != "all":
+            yield shown("record of", " | ".join(rows[id])) if id in rows else changed("the instance", f'member "{id}"')
     if kind == "Partitioning" and ids[0] in rows:
         category = rest.rsplit(" ", 1)[1]
         yield from (shown(f"below the {category}", " | ".join(rows[id])) for id in above(rows, ids[0]) if rows[id][1] == category)

@@ -1,7 +1,8 @@
-"""Why a line of a schema, or a formula, is `BadForm`: the first token that fits no form, its column, and what is usual there.
+"""Why a line of a schema, or a formula, is `BadForm`: the first token that fits no form, its column, and what is usual
+there.
 
-This reads lines as docs/FORMATS.md says, "Schema text", and judges nothing but their form. The program has judged before; where this
-finds no cause, it says nothing.
+This reads lines as docs/FORMATS.md says, "Schema text", and judges nothing but their form. The program has judged
+before; where this finds no cause, it says nothing.
 """
 
 from __future__ import annotations
@@ -88,7 +89,8 @@ class Reader:
         if token.text == "all":
             raise self.bad("it is `All` in schemas, and `all` in instances")
         if not NAME.match(token.text):
-            raise self.bad(f"{what} is missing" if token is self.end else "a name is a letter and then letters and digits, without _ and .")
+            no_name = "a name is a letter and then letters and digits, without _ and ."
+            raise self.bad(f"{what} is missing" if token is self.end else no_name)
         self.place += 1
 
     def finished(self, why: str) -> None:
@@ -119,7 +121,8 @@ class Reader:
             raise self.bad("the version line comes once, before all else", first)
         else:
             same = [word for word in ("category", "edge", "constraint") if word == first.text.lower()]
-            raise self.bad(f"it is `{same[0]}`, in small letters" if same else "a line begins with category, edge or constraint", first)
+            known = "a line begins with category, edge or constraint"
+            raise self.bad(f"it is `{same[0]}`, in small letters" if same else known, first)
 
     def formula(self) -> None:
         self.operand()
@@ -146,7 +149,8 @@ class Reader:
 
     def closed(self, opened: Token) -> None:
         if not self.take(")"):
-            raise self.bad(f"the bracket of column {opened.column} isn't closed here" if self.next is self.end else self.why_not_on())
+            is_open = f"the bracket of column {opened.column} isn't closed here"
+            raise self.bad(is_open if self.next is self.end else self.why_not_on())
 
     def atom(self) -> None:
         token = self.next
@@ -157,8 +161,9 @@ class Reader:
         if token.text in BINARY:
             raise self.bad(f"`{token.text}` stands between two formulas, and once: there is no && and no ||")
         if not PATH.match(token.text):
-            why = "a string stands after `=` alone" if token.text.startswith('"') else "here begins no formula: steps are joined by `_`, and c.d.e has three names at most"
-            raise self.bad(why)
+            if token.text.startswith('"'):
+                raise self.bad("a string stands after `=` alone")
+            raise self.bad("here begins no formula: steps are joined by `_`, and c.d.e has three names at most")
         self.place += 1
         if self.next.text in ("=", "<", "<="):
             sign = self.next.text

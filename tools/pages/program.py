@@ -13,6 +13,7 @@ import stat
 import subprocess
 import sys
 import tempfile
+import threading
 from contextlib import contextmanager
 from dataclasses import dataclass
 from pathlib import Path
@@ -45,21 +46,24 @@ class Answer:
 
 
 RUNNING: set[subprocess.Popen] = set()  # what was started and has not ended
+STOPPED = threading.Event()  # nothing more is to be started
 
 
 def stop_all() -> None:
-    """Ends all that was started, for a tool that ends before its time."""
+    """Ends all that was started and that is started yet, for a tool that ends before its time."""
+    STOPPED.set()
     for child in list(RUNNING):
         child.kill()
 
 
-def output_of(words: Sequence[str | Path], folder: Path | None = None, given: bytes | None = None, seconds: float | None = None) -> tuple[int, bytes]:
+def output_of(words: Sequence[str | Path], folder: Path | None = None, seconds: float | None = None) -> tuple[int, bytes]:
     """The status of a command and what it printed; `Late` where it didn't end within so many seconds."""
-    child = subprocess.Popen(words, cwd=folder, stdin=subprocess.DEVNULL if given is None else subprocess.PIPE, stdout=subprocess.PIPE,
-                             stderr=subprocess.DEVNULL)
+    child = subprocess.Popen(words, cwd=folder, stdin=subprocess.DEVNULL, stdout=subprocess.PIPE, stderr=subprocess.DEVNULL)
     RUNNING.add(child)
+    if STOPPED.is_set():
+        child.kill()
     try:
-        printed, _ = child.communicate(given, timeout=seconds)
+        printed, _ = child.communicate(timeout=seconds)
         return child.returncode, printed
     except subprocess.TimeoutExpired:
         raise Late from None

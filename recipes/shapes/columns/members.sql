@@ -1,7 +1,8 @@
--- What the export wants: the members, who lies directly in whom, and the facts. The levels have no keys, so a member's id is its name and
--- the names above it, which tell two Springfields apart. (Where a name is enough, take the name alone: then `check` finds the rows that
--- put one city into two states.) All are views, so each export has the rows of its day, and a member keeps its id. A text that is empty,
--- or of spaces alone, is no level. A store without a city, or a city without a country, has no parent then, and the export stops.
+-- What the export wants: the members, who lies directly in whom, and the facts. The levels have no keys, so a
+-- member's id is its name and the names above it, which tell two Springfields apart. (Where a name is enough, take
+-- the name alone: then `check` finds the rows that put one city into two states.) All are views, so each export has
+-- the rows of its day, and a member keeps its id. A text that is empty, or of spaces alone, is no level. A store
+-- without a city, or a city without a country, has no parent then, and the export stops.
 create view clean as
     select store_id, store, nullif(trim(city), '') as city, nullif(trim(state), '') as state,
         nullif(trim(province), '') as province, nullif(trim(region), '') as region, nullif(trim(country), '') as country

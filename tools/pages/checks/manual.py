@@ -1,4 +1,5 @@
-"""The manual has no warning, says what docs/COMMANDS.md and docs/FORMATS.md say, and its transcripts are what the program prints."""
+"""The manual has no warning, says what docs/COMMANDS.md and docs/FORMATS.md say, and its transcripts are what the
+program prints."""
 
 import re
 import shlex

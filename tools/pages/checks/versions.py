@@ -1,4 +1,5 @@
-"""What a designer runs needs Python 3.8 and its standard library: nothing newer is written in it, and other Pythons that are there run it."""
+"""What a designer runs needs Python 3.8 and its standard library: nothing newer is written in it, and other Pythons that
+are there run it."""
 
 import ast
 import re
