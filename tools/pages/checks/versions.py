@@ -40,12 +40,19 @@ def runs(python: str) -> bool:
 
 def other_faults(python: str) -> Iterator[str]:
     """Another Python runs the tools as this one does."""
-    schema, instance, certificate = (str(EXAMPLES / "location" / name) for name in ("schema.txt", "instance.csv", "certificates/Country-short.txt"))
-    for name, *words in (("least", schema, "Region"), ("compare", schema, schema), ("constants", schema, instance), ("propose", instance),
-                         ("check-certificate", schema, certificate, "Country", "City"), ("draw", "--help"), ("report", "--help")):
-        ran = [subprocess.run([each, TOOLS / name, *words], capture_output=True, text=True, check=False) for each in (python, sys.executable)]
-        if (ran[0].returncode, ran[0].stdout) != (ran[1].returncode, ran[1].stdout) and "--help" not in words or ran[0].returncode != ran[1].returncode:
-            yield f"{name} by {python}: status {ran[0].returncode}, {ran[0].stderr.strip()[-200:]}"
+    location = EXAMPLES / "location"
+    schema, instance, certificate = (str(location / name) for name in ("schema.txt", "instance.csv", "certificates/Country-short.txt"))
+    words = (
+        ("least", schema, "Store"), ("constants", schema, instance), ("propose", instance),
+        ("check-certificate", schema, certificate, "Country", "City"),
+    )  # fmt: skip
+    for name, *rest in [*words, *((name, "--help") for name in ("compare", "draw", "report", "made", "install"))]:
+        other, own = (
+            subprocess.run([each, TOOLS / name, *rest], capture_output=True, text=True, check=False) for each in (python, sys.executable)
+        )
+        # What argparse prints for help differs between versions.
+        if other.returncode != own.returncode or (other.stdout != own.stdout and rest != ["--help"]):
+            yield f"{name} by {python}: status {other.returncode}, {other.stderr.strip()[-200:]}"
 
 
 def faults() -> Iterator[str]:
