@@ -9,6 +9,8 @@ constraints that are enough too and leave each category its members, the weakest
 After a yes it says so. The status is 0, or the program's.
 """
 
+from __future__ import annotations
+
 import argparse
 import time
 from collections import Counter, defaultdict
@@ -124,7 +126,7 @@ def needs_block(question: Question) -> Iterator[str]:
         return
     yield "needed: the weakest constraints with which the answer is yes:"
     for line in answer.text.splitlines():
-        yield f"  {line}{met(question, line.removeprefix('constraint '))}"
+        yield f"  {line}{met(question, line[len('constraint ') :])}"
 
 
 def met(question: Question, constraint: str) -> str:
@@ -132,7 +134,7 @@ def met(question: Question, constraint: str) -> str:
     if not question.has_instance:
         return ""
     answer = question.ask.must("check", question.changed(constraint), INSTANCE, ends=(0, 3))
-    return "   (your instance meets it)" if answer.status == 0 else f"   ({answer.text.strip().removeprefix('refused instance ')} in your instance)"
+    return "   (your instance meets it)" if answer.status == 0 else f"   ({answer.text.strip()[len('refused instance ') :]} in your instance)"
 
 
 def simple_block(question: Question, end: float) -> Iterator[str]:

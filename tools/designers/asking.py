@@ -1,5 +1,7 @@
 """What these tools share: the words of a question, its files, and the program's answers about a changed schema."""
 
+from __future__ import annotations
+
 import csv
 import io
 from dataclasses import dataclass, field
@@ -71,7 +73,7 @@ def question_in(ask: Program, words: list[str], most_files: int = 2) -> Question
 
 def records(ask: Program, name: str) -> list[list[str]]:
     """The records of a CSV file that the program has read, without its header."""
-    text = (ask.folder / name).read_bytes().decode("utf-8").removeprefix("\ufeff")
+    text = (ask.folder / name).read_bytes().decode("utf-8-sig")
     csv.field_size_limit(len(text) + 1)
     return [record for record in csv.reader(io.StringIO(text, newline="")) if record][1:]
 

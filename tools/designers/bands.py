@@ -7,6 +7,8 @@ into none where one is wanted, can be no member's: a hole or an overlap. A numbe
 program is asked at each number at which an answer may change. Status 1 if something is told, 0 and nothing if not.
 """
 
+from __future__ import annotations
+
 import argparse
 import re
 from typing import Iterator

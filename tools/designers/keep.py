@@ -6,6 +6,8 @@ A view has at most as many rows as its category has members in the instance. Pri
 with the rows that they have at most, and for each target the kept views that it is taken from. A store has eight views at most.
 """
 
+from __future__ import annotations
+
 import argparse
 from collections import Counter
 

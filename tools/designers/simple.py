@@ -1,5 +1,7 @@
 """Simple constraints that turn a no: those that a designer would write, tried on counterexamples before the program is asked."""
 
+from __future__ import annotations
+
 import time
 from dataclasses import dataclass
 from itertools import combinations, permutations

@@ -7,6 +7,8 @@ Members keep their ids, so facts stay as they are. Where some members of a categ
 becomes a level of its own, of which totals can be asked apart. Constraints that say nothing new are left out.
 """
 
+from __future__ import annotations
+
 import argparse
 import os
 import re

@@ -6,6 +6,8 @@ The views are v_SOURCE(member, count, sum, least, greatest), over member(id, cat
 have them; SQLite and PostgreSQL take the statement. After a no nothing is printed but the counterexample as remarks, with status 1.
 """
 
+from __future__ import annotations
+
 import argparse
 
 from pages import program

@@ -8,6 +8,8 @@ nearest of what is above it. A value that lies in two is told with its rows, and
 printed, and the status is 1. An id is `Level:value`, in which `%` and `;` are written `%25` and `%3B`.
 """
 
+from __future__ import annotations
+
 import argparse
 import csv
 import io

@@ -12,7 +12,7 @@ from typing import Iterator
 from .common import EXAMPLES, TOOLS
 
 OLDEST = (3, 8)
-PROGRAMS = ("least", "compare", "constants", "propose", "explain", "draw", "report", "made", "install", "check-certificate")
+PROGRAMS = ("least", "compare", "constants", "propose", "explain", "draw", "report", "made", "install", "check-certificate", "olap-tools")
 # What came after the oldest version, as far as the syntax doesn't show it.
 NEWER = {"removeprefix", "removesuffix", "cache", "pairwise", "bit_count", "is_relative_to", "with_stem", "readlink", "indent", "randbytes"}
 OTHERS = ("python3.8", "python3.9", "pypy3", "python3.10")  # the first of these that runs
@@ -56,7 +56,7 @@ def other_faults(python: str) -> Iterator[str]:
 
 
 def faults() -> Iterator[str]:
-    for file in [*(TOOLS / name for name in PROGRAMS), *sorted((TOOLS / "pages").glob("*.py"))]:
+    for file in [*(TOOLS / name for name in PROGRAMS), *sorted((TOOLS / "pages").glob("*.py")), *sorted((TOOLS / "designers").glob("*.py"))]:
         yield from (f"{file.relative_to(TOOLS)}, for Python {OLDEST[0]}.{OLDEST[1]}: {wrong}" for wrong in newer(file))
     other = next((python for python in OTHERS if runs(python)), None)
     if other:
