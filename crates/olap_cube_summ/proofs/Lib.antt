@@ -1,7 +1,6 @@
 -- Lemmas.
 mod BelowLemmas
 mod SearchLemmas
-mod AskingLemmas
 mod PatternLemmas
 mod ChoiceLemmas
 mod DimensionLemmas

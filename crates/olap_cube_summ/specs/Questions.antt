@@ -1,7 +1,8 @@
 -- Questions about the dimensions of a cube.
---     IsQuestionOf    a question has categories of a schema
---     AreQuestionsOf  of each dimension one of its schema
---     AreQuestions    together they ask for a target and sources
+--     duplicate_source    why there are no questions
+--     IsQuestionOf        a question has categories of a schema
+--     AreQuestionsOf      of each dimension one of its schema
+--     AreQuestions        together they ask for a target and sources
 use Rattle.std.specs.Prelude.{◌≡◌, ◌<◌, ◌≤◌, ℕ, List, [], All, length, map, slice_index, slice_index_or}
 use Rattle.olap_ast.specs.Schema.{Schema}
 use Rattle.olap_base.specs.Graph.{IsCategory}
@@ -9,6 +10,11 @@ use Rattle.olap_base.specs.Limits.{most_views}
 use Rattle.olap_dimensions.specs.Dimensions.{no_schema}
 use Rattle.olap_ast.specs.Trees.{numbers_of}
 use Rattle.olap_cube_summ.specs.declared.questions.Question.{Question}
+use Rattle.olap_cube_summ.specs.declared.summarizing.DuplicateSource.{DuplicateSource}
+
+-- a source stands twice
+abbrev pub duplicate_source : DuplicateSource
+duplicate_source = record {}
 
 -- the target in one dimension
 abbrev pub target_in : Question → ℕ

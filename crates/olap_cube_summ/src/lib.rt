@@ -15,4 +15,4 @@ mod questions;
 mod summarizing;
 mod ways;
 
-pub use summarizing::{CubeRefusal, cube_summarizable};
+pub use summarizing::{DuplicateSource, cube_summarizable};

@@ -2,11 +2,11 @@
 ghost use Rattle.std.specs.Prelude.{◌≡◌, ◌≢◌, ◌<◌, ◌≤◌, ◌↔◌, All, AllPairs, Err, IfOk, IfSome, IsNone, length};
 ghost use Rattle.olap_ast.specs.Valid.{IsValidSchema};
 ghost use Rattle.olap_base.specs.Limits.{most_views};
+ghost use Rattle.olap_base.specs.declared.refusals.Refusal.TheVariants as refusal;
 ghost use Rattle.olap_cube.specs.CubeSummarizable.{IsCubeSummarizable};
 ghost use Rattle.olap_cube.specs.Told.{tuple_of, tuples_in};
 ghost use Rattle.olap_cube_summ.specs.Dimensions.{AreFamiliesOf};
-ghost use Rattle.olap_cube_summ.specs.Questions.{AreQuestionsOf};
-ghost use Rattle.olap_cube_summ.specs.declared.summarizing.CubeRefusal.TheVariants as refusal;
+ghost use Rattle.olap_cube_summ.specs.Questions.{AreQuestionsOf, duplicate_source};
 ghost use Rattle.olap_dimensions.specs.Dimensions.{AreCategoriesOf, schemas_of};
 ghost use Rattle.olap_dimensions.specs.Found.{IsCubeCounterexampleFound};
 
@@ -14,30 +14,15 @@ use crate::choosing::least_choice;
 use crate::distinct::are_distinct;
 use crate::families::families;
 use crate::questions::{Question, questions};
-use olap_base::{List, Memory};
+use olap_base::{List, Memory, Refusal};
 use olap_cube::{Tuple, cube_summarizable_exactly_if_none_bad};
 use olap_dimensions::{Cube, CubeFound};
 use olap_patterns::{Family, all, can_be_bad, first_families, unions};
-use std::alloc::{AllocError, Global};
+use std::alloc::Global;
 
-/// Why a question on a cube has no answer.
+/// Why a question on a cube has no answer: a source stands twice.
 #[derive(Clone, Copy, PartialEq, Eq, Debug)]
-pub enum CubeRefusal {
-    /// A source stands twice.
-    DuplicateSource,
-    /// There is no room.
-    Memory,
-}
-
-impl From<Memory> for CubeRefusal {
-    ghost use Rattle.olap_cube_summ.specs.declared.summarizing.CubeRefusal.TheVariants as refusal;
-
-    ghost from_gives = { λ _ e. e ≡ refusal.Memory };
-
-    fn from(_: Memory) -> Self {
-        CubeRefusal::Memory
-    }
-}
+pub struct DuplicateSource;
 
 // The families of each dimension.
 fn all_families(
@@ -103,12 +88,13 @@ pub fn cube_summarizable(
     cube: &Cube,
     target: &Tuple,
     sources: &[Tuple],
-) -> Result<Option<CubeFound>, CubeRefusal>
+) -> Result<Option<CubeFound>, Refusal<DuplicateSource>>
     requires some { 0 < length (schemas_of cube.now) }
     requires target { AreCategoriesOf (schemas_of cube.now) (tuple_of target.now) }
     requires sources { All (AreCategoriesOf (schemas_of cube.now)) (tuples_in sources.now) }
     requires few { length sources.now ≤ most_views }
-    ensures duplicate { (result ≡ Err refusal.DuplicateSource) ↔ (AllPairs ◌≢◌ (tuples_in sources.now) → ⊥) }
+    ensures duplicate { (result ≡ Err (refusal.Kind duplicate_source))
+        ↔ (AllPairs ◌≢◌ (tuples_in sources.now) → ⊥) }
     ensures none { IfOk result (λ o. IsNone o
         ↔ IsCubeSummarizable (schemas_of cube.now) (tuple_of target.now) (tuples_in sources.now)) }
     ensures found { IfOk result (λ o. IfSome o
@@ -116,7 +102,7 @@ pub fn cube_summarizable(
         found.founds)) }
 {
     if !are_distinct(sources) {
-        return Err(CubeRefusal::DuplicateSource);
+        return Err(Refusal::Kind(DuplicateSource));
     }
     let found = counterexample(alloc, cube, target, sources)?;
     Ok(found)
