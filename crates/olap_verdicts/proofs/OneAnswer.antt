@@ -1,4 +1,4 @@
--- There is one answer at most to a question about a text.
+-- There is one answer at most to a question about a text, and where it is yes the target is summarizable.
 use Rattle.std.proofs.Common.{◌≡◌, ◌<◌, ◌^◌, ◌++◌, ◌∙◌, ℕ, List, length, ap, sym, inl, inr, arith}
 use Rattle.std.specs.Prelude.{codes}
 use Rattle.std.specs.Fmt.{decimal}
@@ -6,9 +6,10 @@ use Rattle.olap_ast.specs.Schema.{Schema}
 use Rattle.olap_ast.specs.Summarizable.{not_by_one}
 use Rattle.olap_ast.specs.Valid.{IsValidSchema}
 use Rattle.olap_order.specs.Outputs.{line}
+use Rattle.olap_proof.specs.Certificates.{CertificatesAreRight}
 use Rattle.olap_proof.specs.Verifying.{IsCertificateFor, IsFirstWrongFor, VerdictsAreOne}
 use Rattle.olap_proof.specs.declared.forms.Form.{Form}
-use Rattle.olap_verdicts.specs.Laws.{AnswersAreOne}
+use Rattle.olap_verdicts.specs.Laws.{AcceptedIsSummarizable, AnswersAreOne}
 use Rattle.olap_verdicts.specs.Questions.{ByCertificate}
 
 module _ (one : VerdictsAreOne) where
@@ -36,3 +37,9 @@ module _ (one : VerdictsAreOne) where
         ∙ ap (λ n. line (codes "rejected line " ++ decimal n)) (one_wrong f s c sources text p.1.0 q.1.0 v p.1.1 q.1.1)
         ∙ sym q.1.2,
   )
+
+-- a certificate is there only where the target is summarizable
+pub accepted_is_summarizable : CertificatesAreRight → AcceptedIsSummarizable
+accepted_is_summarizable right f s c sources text bytes (v, inl p) =
+    right f s c sources p.1.0 p.1.2.0 v.hierarchy p.1.1 p.1.2.2
+accepted_is_summarizable right f s c sources text bytes (v, inr p) = absurd (let e = p.0 in cc)

@@ -7,14 +7,14 @@ use Rattle.olap_schema.specs.Schemas.{schema_of}
 use Rattle.olap_verdicts.proofs.ReplyLemmas.{wrong_shown}
 use Rattle.olap_verdicts.proofs.verifying.told.Goals as goal
 
-pub returns-in_ok-rejected-in-Err-Rejected : goal.returns-in_ok-rejected-in-Err-Rejected
-returns-in_ok-rejected-in-Err-Rejected c =
-    let at = c.in-Err-Rejected.line in
-    let is = c.in-Err-Rejected.is in
-    let that = c.in-Err-Rejected.field-0-is in
+pub returns-in_ok-rejected-in-Err-Kind-Rejected : goal.returns-in_ok-rejected-in-Err-Kind-Rejected
+returns-in_ok-rejected-in-Err-Kind-Rejected c =
+    let at = c.in-Err-Kind-Rejected.line in
+    let is = c.in-Err-Kind-Rejected.is in
+    let that = c.in-Err-Kind-Rejected.field-0-is in
     let wrong : c.verify.result ≡ Err (refusal.Kind (fault.Rejected at)) = cc in
     record {
       replies = wrong_shown c.args.form (schema_of c.args.schema.now) c.args.target.0 (numbers_of c.args.sources.now)
           c.args.text.now at c.constraints-valid.ensures.valid (c.verify.ensures.rejected at wrong) c.no.result
-          c.no.ensures.status (c.no.ensures.bytes ∙ c.in_ok-rejected-in-Err-Rejected.ensures);
+          c.no.ensures.status (c.no.ensures.bytes ∙ c.in_ok-rejected-in-Err-Kind-Rejected.ensures);
     }
