@@ -8,6 +8,7 @@ use Rattle.std.specs.Fmt.{decimal}
 use Rattle.std.specs.List.{join_with_byte}
 use Rattle.olap_ast.specs.Frozen.{root_place, thawed}
 use Rattle.olap_ast.specs.Schema.{Schema}
+use Rattle.olap_base.specs.Bytes.{comma, line_feed}
 use Rattle.olap_base.specs.Graph.{Graph}
 use Rattle.olap_base.specs.Instance.{Instance}
 use Rattle.olap_cex.specs.CexText.{sum_line}
@@ -26,13 +27,13 @@ names_of _ _ = []
 
 -- these names, with commas between them
 abbrev pub tuple_text : List Graph → List ℕ → List ℕ
-tuple_text gs c = join_with_byte 44 (names_of gs c)
+tuple_text gs c = join_with_byte comma (names_of gs c)
 
 -- ---- dimensions
 
 -- the line of the dimension's number
 abbrev pub number_line : ℕ → List ℕ
-number_line n = codes "dimension " ++ (decimal n ++ 10 ∷ [])
+number_line n = codes "dimension " ++ (decimal n ++ line_feed ∷ [])
 
 -- that line, the line of its frozen dimension, and its instance
 abbrev pub dimension_text : ℕ → Schema → Chosen → List ℕ

@@ -1,18 +1,17 @@
 // The sources by which the roots of a choice reach the target.
 ghost use Rattle.std.specs.Prelude.{◌<◌, ◌↔◌, All, IfOk, IsTrue, length};
 ghost use Rattle.olap_base.specs.OneFact.{HoldsTimes};
-ghost use Rattle.olap_cex.specs.CexFor.{IsWay};
 ghost use Rattle.olap_cube.specs.Told.{tuple_of, tuples_in};
 ghost use Rattle.olap_cube_cex.specs.Founds.{AreDrawn, AreFound, IsDrawn, IsFoundOf};
 ghost use Rattle.olap_cube_cex.specs.Ways.{ReachBy, ReachesAt};
 ghost use Rattle.olap_dimensions.specs.Dimensions.{AreCategoriesOf, schemas_of};
 ghost use Rattle.olap_schema.specs.Schemas.{schema_of};
 
-use olap_base::{CatId, Memory};
+use olap_base::Memory;
+use olap_cex::is_way;
 use olap_cube::Tuple;
 use olap_dimensions::Cube;
 use olap_frozen::{Found, Room, close};
-use olap_graph::{Categories, row_has};
 use olap_schema::Schema;
 use std::alloc::Global;
 
@@ -42,15 +41,6 @@ pub(crate) fn drawn_of_each(
         rooms.push(room)?;
     }
     Ok(rooms)
-}
-
-/// Whether the root reaches the source, and the source the target.
-fn is_way(rows: &[Categories], root: CatId, source: CatId, target: CatId) -> bool
-    requires root { root.0 < length rows.now }
-    requires source { source.0 < length rows.now }
-    ensures { IsTrue result ↔ IsWay rows.now root.0 target.0 source.0 }
-{
-    row_has(rows, root.0, source.0) && row_has(rows, source.0, target.0)
 }
 
 /// Whether the root of the i-th dimension reaches the target by the source.
