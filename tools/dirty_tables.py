@@ -13,7 +13,11 @@ from pathlib import Path
 
 TOP = Path(__file__).resolve().parent.parent
 LOST = "lies_in has a row of no member, or with no parent"
-UNKNOWN, NO_NUMBER, TWICE = r"refused facts record \d+ UnknownMember", r"refused facts record \d+ BadNumber", r"refused instance record \d+ DuplicateId"
+NO_LEVEL = "a level without a key, or without a parent"
+THOSE, NOT_THOSE = "the totals are those of SQLite", "the totals are not those of SQLite"
+UNKNOWN, NO_NUMBER = r"refused facts record \d+ UnknownMember", r"refused facts record \d+ BadNumber"
+TWICE = r"refused instance record \d+ DuplicateId"
+DAYS, PLACES = "growing/days.sql", "shapes/parent_child/tables.sql"
 NO_PARENT = r"refused instance record \d+ UnknownParent"
 KEYS = re.compile(r'(?<! is) not null| references (\w+|"\w+")| primary key')
 NOT_NULL = re.compile(r"(?<! is) not null| references \w+")
@@ -21,7 +25,7 @@ NOT_NULL = re.compile(r"(?<! is) not null| references \w+")
 
 @dataclass(frozen=True)
 class Dirt:
-    """A change of the tables that a file makes, and what is said of it; if the recipe `goes_on`, it ends as on clean ones."""
+    """A change of the tables of a file, and what is said of it. If the recipe `goes_on`, it ends as on clean ones."""
 
     recipe: str
     what: str
@@ -43,7 +47,8 @@ class Dirt:
 
 
 def of_shape(recipe: str, shape: str, *rows: tuple[str, str, str]) -> list[Dirt]:
-    return [Dirt(recipe, f"{what}, on {shape}", f"{sql};", said, f"shapes/{shape}/tables.sql", (shape,)) for what, sql, said in rows]
+    file = f"shapes/{shape}/tables.sql"
+    return [Dirt(recipe, f"{what}, on {shape}", f"{sql};", said, file, (shape,)) for what, sql, said in rows]
 
 
 def of(recipe: str, *rows: tuple[str, str, str], loosened: re.Pattern = KEYS) -> list[Dirt]:
@@ -61,7 +66,8 @@ SHAPES = {
         ("a store twice", "insert into store values (5, 'again', 5)", TWICE),
     ),
     "parent_child": (
-        ("a place of no kind", "update place set kind = null where id = 'TOR'", r"refused instance record \d+ UnknownCategory"),
+        ("a place of no kind", "update place set kind = null where id = 'TOR'",
+         r"refused instance record \d+ UnknownCategory"),
         ("a store in no place", "update place set parent_id = null where id = '1'", "refused instance "),
         ("a parent in other letters", "update place set parent_id = 'tor' where id = '5\" & 6\"'", NO_PARENT),
         ("a place of no id", "update place set id = null where id = '1'", LOST),
@@ -70,30 +76,36 @@ SHAPES = {
         ("a store in no city", "update location set city = null where store_id = 5", LOST),
         ("a store in a city of spaces", "update location set city = '  ' where store_id = 5", LOST),
         ("a city in no country", "update location set country = '' where store_id = 5", LOST),
-        ("a city in a state and a province", "update location set state = 'Ohio' where store_id = 5", 'Partitioning|Constraint'),
+        ("a city in a state and a province", "update location set state = 'Ohio' where store_id = 5",
+         'Partitioning|Constraint'),
         ("a sale of a store that isn't there", "update sale set store_id = 99 where id = 7", UNKNOWN),
     ),
 }  # fmt: skip
 COMMA = ("an amount with a comma", "update sale set cents = '1,000' where id = 7", NO_NUMBER)
 
 DIRT = [
-    *(each for shape, rows in SHAPES.items() for recipe in ("sqlite", "postgresql") for each in of_shape(recipe, shape, *rows)),
+    *(each for shape, rows in SHAPES.items() for recipe in ("sqlite",
+     "postgresql") for each in of_shape(recipe, shape, *rows)),
     *of_shape("sqlite", "snowflake", COMMA),
+    Dirt("sqlite", "a city of no name", "update city set name = null where id = 5;", THOSE,
+         "shapes/snowflake/tables.sql", ("snowflake",), goes_on=True),
     *of("doubled",
         ("a store in no city", "insert into store_city values (3, null, null)", LOST),
+        ("a city of no store", "insert into store_city values (null, 1, null)", LOST),
+        ("an amount of nothing", "update sale set cents = null where id = 3", NO_NUMBER),
         ("a store that is nowhere", "delete from store_city where store_id = 3", "refused instance "),
         ("a place twice", "insert into store_city values (3, 2, null)", r"refused instance record \d+ DuplicateParent"),
         ("a sale of a store that isn't there", "insert into sale values (9, 99, 5)", UNKNOWN),
         ("an amount with a comma", "update sale set cents = '1,000' where id = 3", NO_NUMBER)),
     *of("calendar",
-        *((f"a day of no {column}", f"update day set {column} = null where date = '2025-05-05'", said) for column, said in (
-            ("week", LOST), ("month", LOST), ("quarter", LOST), ("year", LOST), ("iso_year", LOST))),
+        *((f"a day of no {column}", f"update day set {column} = null where date = '2025-05-05'", LOST)
+          for column in ("week", "month", "quarter", "year", "iso_year")),
         ("a sale with a time of day", "update sale set date = '2025-05-05 10:00' where date = '2025-05-05'", UNKNOWN),
         ("a sale of no day", "update sale set date = null where date = '2025-05-05'", UNKNOWN),
         ("an amount with a comma", "update sale set cents = '1,000' where date = '2025-05-05'", NO_NUMBER)),
     *of("countries",
         ("a store that is nowhere", "update store set code = null, country = null where id = 7", LOST),
-        ("a store in another country than its division", "update store set country = 'DE' where id = 7", "the totals are not those of SQLite"),
+        ("a store in another country than its division", "update store set country = 'DE' where id = 7", NOT_THOSE),
         ("a store in a division that isn't there", "update store set code = 'DE-99' where id = 7", NO_PARENT),
         ("a sale of a store that isn't there", "update sale set store = 999999 where store = 7", UNKNOWN),
         loosened=NOT_NULL),
@@ -106,31 +118,41 @@ DIRT = [
         ("a product of no group", "update product set group_id = null where id = 2", LOST),
         ("a product of a group that isn't there", "update product set group_id = 77 where id = 2", NO_PARENT),
         ("a product twice", "insert into product values (2, 'again', 1, null)", TWICE)),
-    Dirt("measures", "no weight known at all", "update sale set kilograms = null;", "the totals are those of SQLite", goes_on=True),
-    Dirt("growing", "a sale that REPLACE puts in the place of another", "-- Monday\ninsert or replace into sale values (4, '<4>', 5), (5, '\\n', 7);",
-         "a row replaced", "growing/days.sql", goes_on=True),
-    Dirt("growing", "a store that REPLACE moves", "-- Monday\ninsert or replace into place values ('-2', 'Store', 'x', 'TOR');",
-         "a row replaced", "growing/days.sql", goes_on=True),
-    Dirt("growing", "an upsert", "-- Monday\ninsert into sale values (4, '<4>', 5) on conflict (id) do update set cents = 6;",
-         "a row replaced", "growing/days.sql", goes_on=True),
-    Dirt("growing", "a sale that no trigger saw", "-- Monday\ndrop trigger sale_came;\ninsert into sale (place_id, cents) values ('1', 3);",
-         "the table has other sales", "growing/days.sql"),
-    Dirt("growing", "a sale of no place", "insert into sale values (50, null, 3);", UNKNOWN, "shapes/parent_child/tables.sql", loosened=NOT_NULL),
-    Dirt("growing", "a sale of no amount", "insert into sale values (50, '1', null);", NO_NUMBER, "shapes/parent_child/tables.sql", loosened=NOT_NULL),
-    Dirt("nightly", "no wish", "", "there is no wish", "nightly/wishes.txt", goes_on=True, loosened=re.compile(r"(?s).*")),
+    Dirt("measures", "no weight known at all", "update sale set kilograms = null;", THOSE, goes_on=True),
+    Dirt("growing", "a sale that REPLACE puts in the place of another",
+         "-- Monday\ninsert or replace into sale values (4, '<4>', 5), (5, '\\n', 7);",
+         "a row replaced", DAYS, goes_on=True),
+    Dirt("growing", "a store that REPLACE moves",
+         "-- Monday\ninsert or replace into place values ('-2', 'Store', 'x', 'TOR');",
+         "a row replaced", DAYS, goes_on=True),
+    Dirt("growing", "an upsert",
+         "-- Monday\ninsert into sale values (4, '<4>', 5) on conflict (id) do update set cents = 6;",
+         "a row replaced", DAYS, goes_on=True),
+    Dirt("growing", "a sale that no trigger saw",
+         "-- Monday\ndrop trigger sale_came;\ninsert into sale (place_id, cents) values ('1', 3);",
+         "the table has other sales", DAYS),
+    Dirt("growing", "a sale of no place", "insert into sale values (50, null, 3);", UNKNOWN, PLACES, loosened=NOT_NULL),
+    Dirt("growing", "a sale of no amount", "insert into sale values (50, '1', null);",
+         NO_NUMBER, PLACES, loosened=NOT_NULL),
+    Dirt("nightly", "no wish", "", "there is no wish", "nightly/wishes.txt",
+         goes_on=True, loosened=re.compile(r"(?s).*")),
     *of("cubes",
-        ("a city in a state and a province", "update store_dim set state_key = 'TX', state_name = 'Texas' where store_key = 4", "Partitioning|Constraint"),
-        ("a store in no city", "update store_dim set city_key = null where store_key = 4", "a level without a key, or without a parent"),
-        ("a city in no country", "update store_dim set country_key = null where city_key = 0", "a level without a key, or without a parent"),
+        ("a city in a state and a province",
+         "update store_dim set state_key = 'TX', state_name = 'Texas' where store_key = 4", "Partitioning|Constraint"),
+        ("a store in no city", "update store_dim set city_key = null where store_key = 4", NO_LEVEL),
+        ("a city in no country", "update store_dim set country_key = null where city_key = 0", NO_LEVEL),
         ("a group in two departments", "update article_dim set department_key = 2 where article_key = 1", TWICE),
-        ("an article of no department", "update article_dim set group_key = null, department_key = null where article_key = 1", "a level without a key"),
+        ("an article of no department",
+         "update article_dim set group_key = null, department_key = null where article_key = 1", NO_LEVEL),
         ("a sale of no store", "insert into sale_fact values (null, 1, 5)", UNKNOWN),
         ("a sale of an article that isn't there", "insert into sale_fact values (1, 999, 5)", UNKNOWN),
         ("a sale of no amount", "insert into sale_fact values (1, 1, null)", NO_NUMBER)),
-    *(Dirt("partitions", what, f"insert into sale values (:year, {values});", said, "partitions/partition.sql", loosened=NOT_NULL) for what, values, said in (
+    *(Dirt("partitions", what, f"insert into sale values (:year, {values});", said, "partitions/partition.sql",
+           loosened=NOT_NULL) for what, values, said in (
         ("a sale of a place that isn't there", "'s99999', 1000000", "sales of no lowest member: 's99999'"),
         ("a sale of no place", "null, 5", "sales of no lowest member: NULL"),
         ("a sale at a city", "'c1', 5", "sales of no lowest member: 'c1'"),
         ("a sale of no amount", "'s1', null", "sales of no amount"))),
-    Dirt("partitions", "a place twice", "insert into place values ('s1', 'Store', 'again', 'c1');", TWICE, "partitions/dimension.sql"),
+    Dirt("partitions", "a place twice", "insert into place values ('s1', 'Store', 'again', 'c1');",
+         TWICE, "partitions/dimension.sql"),
 ]  # fmt: skip
