@@ -420,7 +420,8 @@ def alone(element: ET.Element) -> str:
     element = ET.fromstring(ET.tostring(element))
     title = element.findtext("title", "")
     width, top, height = max(width, 7.5 * len(title) + 16), top - TITLE, height + TITLE
-    element.attrib.update({"viewBox": f"{left:g} {top:g} {width:g} {height:g}", "width": f"{width:g}", "height": f"{height:g}", "xmlns": SVG})
+    size = {"viewBox": f"{left:g} {top:g} {width:g} {height:g}", "width": f"{width:g}", "height": f"{height:g}"}
+    element.attrib.update({**size, "xmlns": SVG})
     style = ET.Element("style")
     style.text = STYLE
     element.insert(2, style)

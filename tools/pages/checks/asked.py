@@ -89,8 +89,18 @@ def constants_faults(room: Path) -> Iterator[str]:
         yield f"constants where each has a member: status {done.returncode}, {done.stdout!r} {done.stderr!r}"
 
 
+def number_faults(room: Path) -> Iterator[str]:
+    """A number is told where no member has it, however it is spelt there; one that is compared by `<` need be nobody's."""
+    (room / "schema.txt").write_text("schema 2\ncategory A\ncategory Y number\nedge A Y\nedge Y All\nconstraint A: A.Y = 7 | A.Y < 99\n")
+    for name, wanted in (("007", []), ("8", ["constraint 1: no Y has the number 7"])):
+        (room / "instance.csv").write_text(f"id,category,name,parents\na,A,a,y\ny,Y,{name},all\n")
+        done = tool("constants", "schema.txt", "instance.csv", folder=room)
+        if done.stdout.splitlines() != wanted or done.returncode != len(wanted):
+            yield f"constants of the number {name}: status {done.returncode}, {done.stdout!r} {done.stderr!r}"
+
+
 def counted(instance: Path) -> list[tuple[str, str, str, str]]:
-    """Of each pair of categories with a member and its parent, in the order in which it first stands by child: how many, and of how many."""
+    """Of each pair of categories with a member and its parent, by child in the order of the file: how many take it, and of how many."""
     with instance.open(newline="") as file:
         rows = list(csv.DictReader(file))
     kind = {row["id"]: row["category"] for row in rows} | {"all": "All"}
@@ -110,7 +120,9 @@ def propose_faults(room: Path) -> Iterator[str]:
         said = olap("check", str(room / "proposed.txt"), instance)[1]
         if done.returncode != 0 or not said.startswith("legal ") or "constraint" in done.stdout:
             yield f"propose {instance}: status {done.returncode}, {said!r}"
-        if (counts := counted(EXAMPLES / instance)) != (told := re.findall(r"^# (\d+) of (\d+) members of (\w+) take this edge\nedge \3 (\w+)$", done.stdout, re.M)):
+        counts = counted(EXAMPLES / instance)
+        told = re.findall(r"^# (\d+) of (\d+) members of (\w+) take this edge\nedge \3 (\w+)$", done.stdout, re.M)
+        if counts != told:
             yield f"propose {instance}: it counts {told}, and there are {counts}"
     header = "id,category,name,parents\n"
     with (room / "long.csv").open("wb") as file:  # one byte too many, and fewer characters than bytes
@@ -122,7 +134,8 @@ def propose_faults(room: Path) -> Iterator[str]:
         yield from one_line(f"propose of {text!r}", tool("propose", "bad.csv", folder=room), 3)
     (room / "years.csv").write_text(header + "a,Month,5,y\nb,Month,May,y\ny,Year,2026,all\nz,Year,-0007,all\n")
     done = tool("propose", "years.csv", folder=room)
-    if [line for line in done.stdout.splitlines() if "is a number" in line] != ["# each name of Year is a number: with `schema 2` above, it may be `category Year number`"]:
+    told = [line for line in done.stdout.splitlines() if "is a number" in line]
+    if told != ["# each name of Year is a number: with `schema 2` above, it may be `category Year number`"]:
         yield f"propose of numbers: {done.stdout!r} {done.stderr!r}"
     (room / "odd.csv").write_text(header + '"a""b\n",Store,"-x",all;c\nc,Store,c,\n')
     done = tool("propose", "odd.csv", folder=room)
@@ -213,7 +226,8 @@ def explain_faults(room: Path) -> Iterator[str]:
         (("format", "odd.txt"), ("line 8: constraint A: A", "column 16: a category alone says nothing")),
         (("check", "lines.txt", "a.csv"), ('constraint 1: A: A = "b"',)),
         (("implies", schema, "Store", "Store.City == 5"), ("column 13: there is no `==`",)),
-        (("audit", schema), ("constraint 2: City: one(City_State, City_Province, City_Country)", "constraint 6: State: State_Region ^ State_Country")),
+        (("audit", schema), ("constraint 2: City: one(City_State, City_Province, City_Country)",
+                             "constraint 6: State: State_Region ^ State_Country")),
         (("sumarizable", schema), ("the words are: olap summarizable SCHEMA TARGET SOURCE..",)),
         (("check", schema), ("the words are: olap check SCHEMA INSTANCE",)),
     )
@@ -236,10 +250,12 @@ def kinds_of(document: str, start: str, end: str) -> list[str]:
 # Where one kind is of several texts: a refusal, and words of the sentence on it.
 SAID = (
     ("schema line 1 BadNumber", "compared with"), ("facts record 1 BadNumber", "no number of the form"), ("word 2 BadNumber", "the seed"),
-    ("word 3 BadNumber", "the size"), ("schema line 1 TextTooLong", "a string has too many"), ("instance record 1 TextTooLong", "an id or name"),
+    ("word 3 BadNumber", "the size"), ("schema line 1 TextTooLong", "a string has too many"),
+    ("instance record 1 TextTooLong", "an id or name"),
     ("schema line 1 UnknownCategory", "known on this line"), ("store record 1 UnknownCategory", "the schema has no category"),
     ("store record 1 DuplicateView", "begun twice"), ("word 5 DuplicateView", "an earlier category of store"),
-    ("schema line 1 RootIsAll", "the root of a constraint"), ("word 3 RootIsAll", "the root of implies"), ("facts TooLong", "too many bytes"),
+    ("schema line 1 RootIsAll", "the root of a constraint"), ("word 3 RootIsAll", "the root of implies"),
+    ("facts TooLong", "too many bytes"),
     ("schema line 1 BadForm", "none of the forms"), ("word 3 BadForm", "joined by commas"), ("frozen TooMany", "than are listed"),
 )  # fmt: skip
 
@@ -345,8 +361,8 @@ def refusals(room: Path) -> Iterator[str]:
         yield f"files are left: {os.listdir(room)}"
 
 
-CHECKS = (least_faults, compare_faults, constants_faults, propose_faults, made_faults, explain_faults, sentence_faults, form_faults,
-          changed_faults, time_faults, refusals)
+CHECKS = (least_faults, compare_faults, constants_faults, number_faults, propose_faults, made_faults, explain_faults,
+          sentence_faults, form_faults, changed_faults, time_faults, refusals)
 
 
 def faults() -> Iterator[str]:

@@ -165,7 +165,8 @@ def many_ways(room: Path) -> Iterator[str]:
     """A violation above which there are more ways than can be walked is drawn at once."""
     levels = [f"L{level}" for level in range(26)]
     edges = zip(["S", *levels], [*levels, "T"])
-    text = "schema 1\n" + "".join(f"category {name}\n" for name in ("S", *levels, "T")) + "".join(f"edge {one} {two}\n" for one, two in edges)
+    text = "schema 1\n" + "".join(f"category {name}\n" for name in ("S", *levels, "T"))
+    text += "".join(f"edge {one} {two}\n" for one, two in edges)
     (room / "schema.txt").write_text(text + "edge T All\n")
     rows = ["id,category,name,parents", "s,S,s,L0a;L0b"]
     for level, above in zip(levels, [*levels[1:], "T"]):

@@ -158,7 +158,8 @@ SHELLS = {"bash": completed, "zsh": completed_by_zsh, "fish": completed_by_fish}
 
 def completion_faults(room: Path) -> Iterator[str]:
     name = "it's a $(touch ran) `touch ran`;touch ran.txt"
-    (room / name).write_text("schema 1\ncategory $(touch ran)\n\tcategory  Store\r\ncategory City # no\ncategory Stage number\nedge `touch ran` A\n")
+    text = "schema 1\ncategory $(touch ran)\n\tcategory  Store\r\ncategory City # no\ncategory Stage number\nedge `touch ran` A\n"
+    (room / name).write_text(text)
     quoted = "'" + name.replace("'", "'\\''") + "'"
     escaped = "".join("\\" + each if not each.isalnum() else each for each in name)
     wanted = {

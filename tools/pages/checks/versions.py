@@ -14,7 +14,8 @@ from .common import EXAMPLES, TOOLS
 OLDEST = (3, 8)
 PROGRAMS = ("least", "compare", "constants", "propose", "explain", "draw", "report", "made", "install", "check-certificate", "olap-tools")
 # What came after the oldest version, as far as the syntax doesn't show it.
-NEWER = {"removeprefix", "removesuffix", "cache", "pairwise", "bit_count", "is_relative_to", "with_stem", "readlink", "indent", "randbytes"}
+NEWER = {"removeprefix", "removesuffix", "cache", "pairwise", "bit_count", "is_relative_to", "with_stem", "readlink", "indent",
+         "randbytes"}
 OTHERS = ("python3.8", "python3.9", "pypy3", "python3.10")  # the first of these that runs
 
 
