@@ -50,7 +50,7 @@ _olap_places() {
     check) places='ff' ;;
     format | audit) places='f' ;;
     summarizable | prove | prove-short) places='fcd' ;;
-    verify | verify-short) places='ffcd' ;;
+    verify | verify-short | breaks) places='ffcd' ;;
     implies) places='frn' ;;
     satisfiable | frozen) places='fc' ;;
     store) places='fffd' ;;
@@ -93,7 +93,7 @@ _olap() {
     current=${words[-1]}
     if [[ ${#words[@]} -le 2 ]]; then
         compopt +o default
-        for each in rollup check format summarizable prove verify prove-short verify-short implies satisfiable frozen audit store answer append retract cube cubeview generate; do
+        for each in rollup check format summarizable prove verify prove-short verify-short breaks implies satisfiable frozen audit store answer append retract cube cubeview generate; do
             if [[ $each == "$current"* ]]; then COMPREPLY+=("$each"); fi
         done
         return

@@ -1,3 +1,4 @@
 -- Lemmas.
 mod ViewLemmas
 mod WordLemmas
+mod BreakingLemmas

@@ -1,12 +1,17 @@
--- Words of a command line as commands.
-use Rattle.std.proofs.Common.{◌≡◌, ℕ, ◌<◌, ◌≤◌, length, List, [], ◌∷◌, get_or, Some, arith}
+-- Words of a command line as commands, and a step that is refused.
+use Rattle.std.proofs.Common.{◌≡◌, ℕ, ◌<◌, ◌≤◌, length, List, [], ◌∷◌, get_or, Err, Some, arith, refl, subst, sym}
 use Rattle.std.specs.String.{string_bytes}
 use Rattle.std.specs.declared.string.String.{String}
 use Rattle.std.specs.declared.alloc.Global.{Global}
 use Rattle.olap_order.specs.Arguments.{by_four}
 use Rattle.olap_order.specs.Families.{IsNoUsage}
-use Rattle.olap_order.specs.Order.{Order}
+use Rattle.olap_order.specs.Judged.{Replies}
+use Rattle.olap_order.specs.Order.{Order, refused}
+use Rattle.olap_order.specs.Refusals.{IsRefusal}
+use Rattle.olap_order.specs.Taken.{NoAnswer, PlainStep}
 use Rattle.olap_order.specs.Words.{texts}
+use Rattle.olap_order.specs.declared.replies.Stop.{Stop}
+use Rattle.olap_order.specs.declared.replies.Stop.TheVariants as stops
 use Rattle.olap_totals.specs.Seen.{seen}
 use Rattle.olap_totals.specs.declared.words.Command.{Command}
 
@@ -27,3 +32,17 @@ by_four_places order (x ∷ y ∷ z ∷ []) a b c d p q r s least most = absurd 
 by_four_places order (x ∷ y ∷ z ∷ w ∷ []) a b c d p q r s least most =
     λ at0 at1 at2 at3 is0 is1 is2 is3. cc
 by_four_places order (x ∷ y ∷ z ∷ w ∷ v ∷ more) a b c d p q r s least most = absurd (omega (arith, most))
+
+-- a step that reads nothing is refused
+pub plain_refused : {T X : Type 0} {meaning : X → T} (step : Order T) (why : List ℕ) (stop : Stop)
+    → step ≡ refused why → IsRefusal why stop → PlainStep step meaning (Err stop)
+plain_refused step why (stops.Refused bytes) e is = record {
+  comes_out = tt;
+  ends = subst (λ o. Replies NoAnswer o (Err (stops.Refused bytes))) (sym e)
+      (record { right = λ files. (refl, is); verdict = tt; unread = λ h. absurd (cc) });
+}
+plain_refused step why stops.Read e is = absurd is
+plain_refused step why (stops.Memory m) e is = record {
+  comes_out = tt;
+  ends = record { right = tt; verdict = tt; unread = λ h. absurd (cc) };
+}

@@ -4,23 +4,25 @@
 use Rattle.std.specs.Prelude.{ℕ, Bool, List, [], ◌∷◌, ◌++◌, ◌-◌, ◌&&◌, length, codes, if◌then◌else◌, nat_le, nat_lt, Option, None, Some}
 use Rattle.std.specs.Fmt.{decimal}
 use Rattle.std.specs.Str.{bytes_eq}
-use Rattle.olap_base.specs.Limits.{most_views}
+use Rattle.olap_base.specs.Limits.{most_facts_bytes, most_views}
 use Rattle.olap_base.specs.Instance.{Instance}
 use Rattle.olap_base.specs.Views.{View, direct_view, direct_views}
 use Rattle.olap_ast.specs.Schema.{Schema}
+use Rattle.olap_breaks.specs.Breaks.{Break, breaks, breaks_text}
 use Rattle.olap_records.specs.Records.{records_of}
 use Rattle.olap_facts.specs.FactText.{facts_read}
-use Rattle.olap_facts.specs.Kinds.{name_of_kind as fact_kind}
-use Rattle.olap_delta.specs.Changes.{Step, appended, retracted, store_changed}
-use Rattle.olap_delta.specs.Kinds.{name_of_kind as delta_kind}
+use Rattle.olap_delta.specs.Changes.{Step, appended, retracted}
+use Rattle.olap_delta.specs.Kinds.{name_of_change_kind}
+use Rattle.olap_delta.specs.Reading.{views_changed}
 use Rattle.olap_view.specs.StoreText.{store_text}
 use Rattle.olap_view.specs.ViewText.{view_text}
-use Rattle.olap_order.specs.Arguments.{by_four, by_two}
+use Rattle.olap_order.specs.Arguments.{by_four, by_three_or_more, by_two}
 use Rattle.olap_order.specs.Order.{Order, Told, and_then}
 use Rattle.olap_order.specs.Outputs.{line}
 use Rattle.olap_order.specs.Steps.{category_word, different_words, meaning_or_fault, schema_file, text_file}
 use Rattle.olap_reading.specs.Steps.{facts_file, legal_file, store_file}
-use Rattle.olap_order.specs.declared.status.Status.TheVariants.{Yes}
+use Rattle.olap_order.specs.declared.status.Status.{Status}
+use Rattle.olap_order.specs.declared.status.Status.TheVariants.{No, Yes}
 use Rattle.olap_totals.specs.Questions.{Question}
 
 -- the schema, the category, the instance and its laws, and then the facts
@@ -51,8 +53,8 @@ store_order schema instance facts categories =
 -- facts at the instance's members, and the stored views after them; a fault of the facts comes before a fault of a view
 abbrev pub changed_text : Step → Schema → Instance → List View → List ℕ → Order (List View)
 changed_text step s i views text =
-    and_then (meaning_or_fault (codes "facts") (codes "record") fact_kind (facts_read s.graph i (records_of text)))
-    (λ facts. meaning_or_fault (codes "facts") (codes "record") delta_kind (store_changed step i views facts))
+    meaning_or_fault (codes "facts") (codes "record") name_of_change_kind
+    (views_changed step i views (facts_read s.graph i (records_of text)))
 
 -- the schema, the instance and its laws, the stored views, the facts, and then each fact at the views
 abbrev pub change_order : Step → (schema instance store facts : List ℕ) → Order Question
@@ -60,9 +62,23 @@ change_order step schema instance store facts =
     and_then (schema_file (codes "schema") schema) (λ s.
     and_then (legal_file s (codes "instance") instance) (λ i.
     and_then (store_file s i (codes "store") store) (λ views.
-    and_then (text_file (codes "facts") facts) (λ text.
+    and_then (text_file (codes "facts") most_facts_bytes facts) (λ text.
     and_then (changed_text step s i views text) (λ changed.
     Told Yes (store_text s.graph i changed))))))
+
+-- the answer is yes if there are none
+abbrev pub breaks_status : List Break → Status
+breaks_status [] = Yes
+breaks_status (b ∷ bs) = No
+
+-- the schema, the target, the sources from left to right, the instance and its laws
+abbrev pub breaks_order : (schema instance target : List ℕ) (sources : List (List ℕ)) → Order Question
+breaks_order schema instance target sources =
+    and_then (schema_file (codes "schema") schema) (λ s.
+    and_then (category_word s.graph 4 target) (λ c.
+    and_then (different_words (codes "DuplicateSource") s.graph 5 [] sources) (λ cs.
+    and_then (legal_file s (codes "instance") instance) (λ i.
+    Told (breaks_status (breaks s.graph i c cs)) (breaks_text i (breaks s.graph i c cs))))))
 
 -- one category or more, and no more than there may be views
 abbrev pub is_few : List (List ℕ) → Bool
@@ -80,6 +96,7 @@ order_named name words =
     if bytes_eq name (codes "rollup") then by_four rollup_order words
     else if bytes_eq name (codes "check") then by_two check_order words
     else if bytes_eq name (codes "store") then store_by words
+    else if bytes_eq name (codes "breaks") then by_three_or_more breaks_order words
     else if bytes_eq name (codes "append") then by_four (change_order appended) words
     else if bytes_eq name (codes "retract") then by_four (change_order retracted) words
     else None

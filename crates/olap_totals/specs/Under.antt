@@ -7,6 +7,7 @@
 use Rattle.std.specs.Prelude.{ℕ, List, [], ◌++◌, ◌-◌, codes, length}
 use Rattle.std.specs.Fmt.{decimal}
 use Rattle.olap_base.specs.Instance.{Instance}
+use Rattle.olap_base.specs.Limits.{most_facts_bytes}
 use Rattle.olap_base.specs.Views.{View, direct_view, direct_views}
 use Rattle.olap_ast.specs.Schema.{Schema}
 use Rattle.olap_delta.specs.Changes.{Step}
@@ -17,7 +18,8 @@ use Rattle.olap_order.specs.Outputs.{line}
 use Rattle.olap_order.specs.Steps.{category_word, different_words, text_file}
 use Rattle.olap_reading.specs.Steps.{facts_file, legal_file, store_file}
 use Rattle.olap_order.specs.declared.status.Status.TheVariants.{Yes}
-use Rattle.olap_totals.specs.Commands.{changed_text}
+use Rattle.olap_totals.specs.Commands.{breaks_status, changed_text}
+use Rattle.olap_breaks.specs.Breaks.{breaks, breaks_text}
 use Rattle.olap_totals.specs.Questions.{Question}
 
 -- the category, the instance and its laws, and then the facts
@@ -46,6 +48,18 @@ abbrev pub store_under : Schema → (instance facts : List ℕ) (categories : Li
 store_under s instance facts categories =
     and_then (different_words (codes "DuplicateView") s.graph 5 [] categories) (λ cs. store_of s instance facts cs)
 
+-- of an instance, after the target and the sources
+abbrev pub breaks_of : Schema → (instance : List ℕ) (target : ℕ) (sources : List ℕ) → Order Question
+breaks_of s instance c cs =
+    and_then (legal_file s (codes "instance") instance) (λ i.
+    Told (breaks_status (breaks s.graph i c cs)) (breaks_text i (breaks s.graph i c cs)))
+
+-- the target and the sources from left to right, and then what is left of the order
+abbrev pub breaks_under : Schema → (instance target : List ℕ) (sources : List (List ℕ)) → Order Question
+breaks_under s instance target sources =
+    and_then (category_word s.graph 4 target) (λ c.
+    and_then (different_words (codes "DuplicateSource") s.graph 5 [] sources) (λ cs. breaks_of s instance c cs))
+
 -- each fact of the text at the views
 abbrev pub change_told : Step → Schema → Instance → List View → (text : List ℕ) → Order Question
 change_told step s i views text =
@@ -54,7 +68,7 @@ change_told step s i views text =
 -- the facts, and then what is left
 abbrev pub change_by : Step → Schema → Instance → List View → (facts : List ℕ) → Order Question
 change_by step s i views facts =
-    and_then (text_file (codes "facts") facts) (λ text. change_told step s i views text)
+    and_then (text_file (codes "facts") most_facts_bytes facts) (λ text. change_told step s i views text)
 
 -- the stored views, and then what is left
 abbrev pub change_of : Step → Schema → Instance → (store facts : List ℕ) → Order Question

@@ -1,5 +1,5 @@
 // The commands `append` and `retract`: stored views after facts came or were withdrawn.
-ghost use Rattle.std.specs.Prelude.{All, IfOk, codes};
+ghost use Rattle.std.specs.Prelude.{All, IfOk};
 ghost use Rattle.olap_delta.specs.Changing.{step_of};
 ghost use Rattle.olap_instance.specs.Made.{IsMadeFor};
 ghost use Rattle.olap_schema.specs.Schemas.{schema_of};
@@ -8,32 +8,20 @@ ghost use Rattle.olap_view.specs.StoreText.{store_text};
 ghost use Rattle.olap_view.specs.Stores.{IsInFileOrder, IsSoundStore};
 ghost use Rattle.olap_order.specs.Judged.{Judged, Replies};
 ghost use Rattle.olap_order.specs.Order.{Told};
-ghost use Rattle.olap_order.specs.Steps.{text_file};
-ghost use Rattle.olap_order.specs.Taken.{FileStep, PlainStep};
+ghost use Rattle.olap_order.specs.Taken.{PlainStep};
 ghost use Rattle.olap_totals.specs.Commands.{changed_text};
 ghost use Rattle.olap_totals.specs.Under.{change_by, change_of, change_told, change_under};
 ghost use Rattle.olap_totals.specs.Questions.{IsAnswer};
 
-use olap_delta::{Change, DeltaRefusal, change_by_text};
-use olap_facts::FactRefusal;
+use olap_base::{MOST_FACTS_BYTES, Refusal};
+use olap_delta::{Change, change_by_text};
 use olap_legal::Legal;
-use olap_order::{Reply, Status, Stop, read_file, refuse_long, refuse_part, yes};
+use olap_order::{Reply, Status, Stop, refuse_part, text_in, yes};
 use olap_outside::Library;
 use olap_reading::{legal_in, store_in};
 use olap_schema::Schema;
 use olap_view::{Store, print_store};
 use std::alloc::Global;
-
-/// The text of the facts in a file.
-fn facts_in<L: Library>(alloc: Global, file: &str, lib: &mut L) -> Result<Vec<u8>, Stop>
-    ensures step { FileStep L.Library lib.old lib.new
-        (text_file (codes "facts") file.now) (λ text. text.items) result }
-{
-    match read_file(alloc, file, lib)? {
-        Some(text) => Ok(text),
-        None => Err(refuse_long(alloc, "facts")),
-    }
-}
 
 /// The stored views after the change by the facts of a text.
 fn changed_by(
@@ -53,22 +41,15 @@ fn changed_by(
         IsSoundStore (schema_of schema.now).graph legal.now (views_of s)) }
 {
     match change_by_text(alloc, change, schema.graph(), legal, store, facts) {
-        Ok(Ok(changed)) => Ok(changed),
-        Ok(Err(DeltaRefusal::Memory)) | Err(FactRefusal::Memory) => Err(Stop::Memory),
-        Ok(Err(DeltaRefusal::Fault { at, kind })) => Err(refuse_part(
+        Ok(changed) => Ok(changed),
+        Err(Refusal::Kind(fault)) => Err(refuse_part(
             alloc,
             "facts",
             "record",
-            at,
-            kind.name(),
+            fault.at,
+            fault.kind.name(),
         )),
-        Err(FactRefusal::Fault { at, kind }) => Err(refuse_part(
-            alloc,
-            "facts",
-            "record",
-            at,
-            kind.name(),
-        )),
+        Err(Refusal::Memory(memory)) => Err(Stop::Memory(memory)),
     }
 }
 
@@ -117,7 +98,7 @@ fn by_facts<L: Library>(
     ensures judged { Judged IsAnswer L.Library lib.old lib.new (change_by (step_of change)
         (schema_of schema.now) legal.now (views_of store.now) facts.now) result }
 {
-    let text = facts_in(alloc, facts, lib)?;
+    let text = text_in(alloc, "facts", facts, MOST_FACTS_BYTES, lib)?;
     told_after(alloc, change, schema, legal, store, &text)
 }
 

@@ -7,6 +7,7 @@ ghost use Rattle.olap_totals.specs.Commands.{order_named};
 ghost use Rattle.olap_totals.specs.Questions.{IsAnswer};
 ghost use Rattle.olap_totals.specs.Seen.{seen, seen_under};
 
+use crate::breaking::breaks;
 use crate::changing::change;
 use crate::checking::check;
 use crate::rolling_up::rollup;
@@ -39,6 +40,11 @@ fn reply<L: Library>(
             facts,
             categories,
         } => store(alloc, schema, instance, facts, categories, lib),
+        Asked::Breaks {
+            instance,
+            target,
+            sources,
+        } => breaks(alloc, schema, instance, target, sources, lib),
         Asked::Change {
             change: how,
             instance,

@@ -5,6 +5,7 @@
 //! Nothing here knows of the search.
 #![tactic(auto)]
 
+mod breaking;
 mod changing;
 mod checking;
 mod judging;

@@ -1,9 +1,9 @@
 // Which words are a command over an instance and its facts.
 ghost use Rattle.std.specs.Prelude.{◌≡◌, option_map};
-ghost use Rattle.olap_order.specs.Arguments.{by_four, by_two};
+ghost use Rattle.olap_order.specs.Arguments.{by_four, by_three_or_more, by_two};
 ghost use Rattle.olap_order.specs.Words.{texts};
 ghost use Rattle.olap_delta.specs.Changing.{step_of};
-ghost use Rattle.olap_totals.specs.Commands.{change_order, check_order, is_few, order_named, rollup_order, store_by};
+ghost use Rattle.olap_totals.specs.Commands.{breaks_order, change_order, check_order, is_few, order_named, rollup_order, store_by};
 ghost use Rattle.olap_totals.specs.Seen.{seen};
 
 use olap_base::MOST_VIEWS;
@@ -34,6 +34,12 @@ pub(crate) enum Asked<'a> {
         instance: &'a str,
         facts: &'a str,
         categories: &'a [String],
+    },
+    /// The members at which a view isn't that from other views.
+    Breaks {
+        instance: &'a str,
+        target: &'a str,
+        sources: &'a [String],
     },
     /// Stored views after facts came or were withdrawn.
     Change {
@@ -100,6 +106,23 @@ fn store(words: &[String]) -> Option<Command<'_>>
     }
 }
 
+/// The words after `breaks`.
+fn breaks(words: &[String]) -> Option<Command<'_>>
+    ensures { option_map seen result ≡ by_three_or_more breaks_order (texts words.now) }
+{
+    match words {
+        [schema, instance, target, sources @ ..] => Some(Command {
+            schema: schema.as_str(),
+            asked: Asked::Breaks {
+                instance: instance.as_str(),
+                target: target.as_str(),
+                sources,
+            },
+        }),
+        _ => None,
+    }
+}
+
 /// The words after `append` or `retract`.
 fn change_command(change: Change, words: &[String]) -> Option<Command<'_>>
     ensures { option_map seen result ≡ by_four (change_order (step_of change)) (texts words.now) }
@@ -126,6 +149,7 @@ pub(crate) fn parse<'a>(name: &str, words: &'a [String]) -> Option<Command<'a>>
         "rollup" => rollup(words),
         "check" => check(words),
         "store" => store(words),
+        "breaks" => breaks(words),
         "append" => change_command(Change::Append, words),
         "retract" => change_command(Change::Retract, words),
         _ => None,
