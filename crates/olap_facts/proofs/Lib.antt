@@ -4,3 +4,4 @@ pub mod BottomLemmas
 pub mod TableLemmas
 pub mod ReaderLemmas
 pub mod BatchLemmas
+pub mod FittingLemmas

@@ -13,7 +13,7 @@ mod settings;
 mod tables;
 
 pub use kinds::FactKind;
-pub use laws::bottom_is_decided;
+pub use laws::{bottom_is_decided, read_facts_fit};
 pub use readers::FactReader;
 pub use reading::{is_at_bottom, read_facts};
 pub use tables::{Fact, Facts};
