@@ -47,8 +47,8 @@ draws_less g Seen Less old new h less = record {
 }
 
 -- the set of k gets what is reached from k
-pub draws_join : {W : ℕ} (g : Graph) (Seen After : ℕ → ℕ → Type 0) (New : ℕ → Type 0) (old mid : List (CatSet W)) (k : ℕ)
-    (x : CatSet W) → Draws g Seen old mid → k < length mid
+pub draws_join : {W : ℕ} (g : Graph) (Seen After : ℕ → ℕ → Type 0) (New : ℕ → Type 0) (old mid : List (CatSet W))
+    (k : ℕ) (x : CatSet W) → Draws g Seen old mid → k < length mid
     → ((d : ℕ) → IsIn (members x) d ↔ (Has mid k d ⊎ New d)) → ((d : ℕ) → New d → CategoryReaches g k d)
     → ((c d : ℕ) → After c d → Seen c d ⊎ ((c ≡ k) × New d)) → Draws g After old (set mid k x)
 draws_join {W} g Seen After New old mid k x h l is reached cases = record {
@@ -89,7 +89,8 @@ module _ {W : ℕ} (g : Graph) (takes : ℕ → Bool) (child parent : ℕ → �
     (h : Draws g (SeenUpTo takes child parent i) old mid) where
   -- one edge more is drawn
   pub draws_edge : (k q : ℕ) (x : CatSet W) → child i ≡ k → parent i ≡ q → k < length mid
-      → members x ≡ insert (row mid k) q → HasEdge g k q → Draws g (SeenUpTo takes child parent (i + 1)) old (set mid k x)
+      → members x ≡ insert (row mid k) q → HasEdge g k q
+      → Draws g (SeenUpTo takes child parent (i + 1)) old (set mid k x)
   draws_edge k q x c p l e edge =
       draws_join g (SeenUpTo takes child parent i) (SeenUpTo takes child parent (i + 1)) (λ d. q ≡ d) old mid k x h l
       (λ d. (

@@ -1,4 +1,5 @@
--- Verdicts on a text: of candidates, of which any serve, since those of one schema and one question have the same names.
+-- Verdicts on a text, for candidates that there are. Any serve: those of one schema and one question have the same
+-- names.
 --     IsWrongAt           a line is the first that is wrong
 --     IsCertificateOf     a text is a certificate, for a question
 --     IsFirstWrongOf      a line of a text is the first that is wrong, for a question

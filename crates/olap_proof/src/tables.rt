@@ -32,7 +32,8 @@ fn draw_possible(graph: &Graph, trail: &Trail<{ WORDS }>, rows: &mut [Categories
     requires graph { trail.now.graph ≡ graph.now }
     requires count { length rows.old ≡ category_count graph.now }
     ensures count { length rows.new ≡ length rows.old }
-    ensures drawn { Draws (possible_graph trail.now) (SeenPossible trail.now (length graph.now.edges)) rows.old rows.new }
+    ensures drawn { Draws (possible_graph trail.now) (SeenPossible trail.now (length graph.now.edges))
+        rows.old rows.new }
 {
     // Called for its clause: there are few categories.
     let _few = graph.categories();
@@ -48,7 +49,8 @@ fn draw_possible(graph: &Graph, trail: &Trail<{ WORDS }>, rows: &mut [Categories
 /// Each set gets the parents by edges that were decided present.
 fn draw_decisions(graph: &Graph, decisions: &[Decision], rows: &mut [Categories])
     requires count { length rows.old ≡ category_count graph.now }
-    requires edges { (k : ℕ) → k < length decisions.now → (decision_at decisions.now k).edge.0 < length graph.now.edges }
+    requires edges { (k : ℕ) → k < length decisions.now
+        → (decision_at decisions.now k).edge.0 < length graph.now.edges }
     ensures count { length rows.new ≡ length rows.old }
     ensures drawn { (g : AnyGraph) → ((k : ℕ) → k < length decisions.now → (decision_at decisions.now k).present ≡ true
         → HasEdge g (edge_at graph.now (decision_at decisions.now k).edge.0).child

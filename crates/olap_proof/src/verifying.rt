@@ -100,7 +100,8 @@ pub fn verify(
 ) -> Result<(), Refusal<VerifyFault>>
     requires target { IsCategory (schema_of schema.now).graph target.0 }
     requires sources { All (IsCategory (schema_of schema.now).graph) (numbers_of sources.now) }
-    ensures duplicate { (result ≡ Err (refusal.Kind fault.DuplicateSource)) ↔ (AllPairs ◌≢◌ (numbers_of sources.now) → ⊥) }
+    ensures duplicate { (result ≡ Err (refusal.Kind fault.DuplicateSource))
+        ↔ (AllPairs ◌≢◌ (numbers_of sources.now) → ⊥) }
     ensures ok { OnOk result
         (IsCertificateFor form (schema_of schema.now) target.0 (numbers_of sources.now) text.now) }
     ensures rejected { (line : ℕ) → result ≡ Err (refusal.Kind (fault.Rejected line))

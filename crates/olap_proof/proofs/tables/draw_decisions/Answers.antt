@@ -43,8 +43,8 @@ decisions-preserved c =
             drawn = λ g lie.
                 subst (λ rs. Draws g (SeenDecisions graph ds (i + 1)) old rs) (sym w.rows-is)
                 (draws_edge g (λ j. (decision_at ds j).present) (λ j. (edge_at graph (decision_at ds j).edge.0).child)
-                (λ j. (edge_at graph (decision_at ds j).edge.0).parent) i old mid (c.decisions.invariant.drawn g lie) k q
-                w.with.result from to there
+                (λ j. (edge_at graph (decision_at ds j).edge.0).parent) i old mid (c.decisions.invariant.drawn g lie) k
+                q w.with.result from to there
                 (w.with.ensures ∙ ap (λ s. insert s q) (row_read mid k w.index-rows-c.result there w.index-rows-c.is))
                 (subst (λ x. HasEdge g x q) from (subst (λ y. HasEdge g (edge_at graph e).child y) to
                 (lie i c.decisions-test.true w.if-decision.true))));

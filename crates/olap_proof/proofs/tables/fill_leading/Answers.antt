@@ -39,7 +39,7 @@ returns c =
     closed_table (leading_graph p) (category_count g)
     (λ x y. SeenDecisions g ds (length ds) x y ⊎ SeenFrom (LeadsHere p.ways) (length mid) x y) c.isolate.new.rows
     c.draw_ways.new.rows c.close.new.rows (c.isolate.ensures.count ∙ c.requires.count) c.isolate.ensures.own drawn
-    (leading_all p g ds c.isolate.new.rows mid c.draw_ways.new.rows c.requires.graph listed c.draw_decisions.ensures.drawn
-    c.draw_ways.ensures.drawn c.requires.ways
+    (leading_all p g ds c.isolate.new.rows mid c.draw_ways.new.rows c.requires.graph listed
+    c.draw_decisions.ensures.drawn c.draw_ways.ensures.drawn c.requires.ways
     (c.draw_decisions.ensures.count ∙ c.isolate.ensures.count ∙ c.requires.count))
     c.close.ensures
