@@ -6,9 +6,10 @@ What wasn't answered in time stays unanswered, and the page says so.
 from __future__ import annotations
 
 import os
+import queue
 import sys
 import time
-from concurrent.futures import Future, ThreadPoolExecutor, as_completed
+from concurrent.futures import Future, ThreadPoolExecutor
 from dataclasses import dataclass, field
 from itertools import combinations
 from typing import Callable, Iterable, TypeVar
@@ -125,6 +126,15 @@ def workers() -> int:
     return len(os.sched_getaffinity(0)) if hasattr(os, "sched_getaffinity") else os.cpu_count() or 1
 
 
+def next_of(finished: queue.SimpleQueue) -> Future:
+    """The next one that is done. A wait without an end may miss Ctrl-C, so this one begins anew now and then."""
+    while True:
+        try:
+            return finished.get(timeout=0.5)
+        except queue.Empty:
+            pass
+
+
 class Asker:
     """Asks many questions at once. Each has until the end that is given."""
 
@@ -143,10 +153,14 @@ class Asker:
 
         with ThreadPoolExecutor(workers()) as pool:
             asked: dict[Future, Key] = {}
+            finished: queue.SimpleQueue = queue.SimpleQueue()
             try:
                 for key in keys:
-                    asked[pool.submit(one, key)] = key
-                for done, future in enumerate(as_completed(asked), 1):
+                    future = pool.submit(one, key)
+                    asked[future] = key
+                    future.add_done_callback(finished.put)
+                for done in range(1, len(keys) + 1):
+                    future = next_of(finished)
                     try:
                         found[asked[future]] = future.result()
                     except Late:
