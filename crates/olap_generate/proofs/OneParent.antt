@@ -5,14 +5,17 @@
 use Rattle.std.proofs.Common.{◌≡◌, ◌<◌, ◌≤◌, ◌⊎◌, inl, inr, ℕ, List, [], ◌∷◌, map, ap, sym, subst, ◌∙◌, arith}
 use Rattle.std.specs.Prelude.{◌≢◌, Contains}
 use Rattle.olap_base.specs.Chains.{IsChain}
-use Rattle.olap_base.specs.Deciding.{below_is_member}
+use Rattle.olap_base.specs.Deciding.{below_is_member, contains_cases}
 use Rattle.olap_base.specs.Graph.{Graph, HasEdge}
 use Rattle.olap_base.specs.Instance.{Instance, IsBelow, IsLawful, IsMember, Reaches, category_of, name_of, parents_of}
 use Rattle.olap_base.specs.Steps.{Climb, Climb.climb, Climb-from_leads, Climb-steps, Steps, Steps.here, Steps.step, Steps-cases, Steps-from_reaches}
 use Rattle.olap_base.proofs.AboveLemmas.{reached_once}
 use Rattle.olap_base.proofs.ListLemmas.{Contains-nil, contains_head}
 use Rattle.olap_ast.specs.Formula.{HasPath, ReachesNamed}
-use Rattle.olap_ast.proofs.Examples.{alone}
+
+-- in a list of one, what is in it is that one
+alone : {A : Type 0} (x y : A) → Contains (x ∷ []) y → x ≡ y
+alone x y c = elim (contains_cases y x [] c) [ inl e ↦ e | inr n ↦ absurd (Contains-nil y n) ]
 
 -- each edge leads to a category of a lower rank
 abbrev pub Falls : Graph → (ℕ → ℕ) → Type 0

@@ -3,6 +3,7 @@
 use Rattle.std.specs.Prelude.{◌≡◌, ℕ, ◌-◌, List, [], ◌∷◌, ◌++◌, ℤ, pos, ◌+ℤ◌, codes, decimal, fold, length, sum_by}
 use Rattle.std.specs.Fmt.{signed_decimal}
 use Rattle.olap_ast.specs.Schema.{Schema}
+use Rattle.olap_base.specs.Bytes.{line_feed, space}
 use Rattle.olap_base.specs.Instance.{Instance}
 use Rattle.olap_base.specs.Views.{Fact, Row, View, direct_views, rows_from_views}
 use Rattle.olap_nav.specs.Plans.{IsPlan, sources_in}
@@ -21,7 +22,7 @@ row_count views = sum_by (λ v. length v.rows) views
 
 -- a line of a word and a number
 abbrev pub counted : List ℕ → List ℕ → List ℕ
-counted word number = word ++ 32 ∷ number ++ 10 ∷ []
+counted word number = word ++ space ∷ number ++ line_feed ∷ []
 
 -- the sums of the rows together
 abbrev pub sum_of_rows : List Row → ℤ

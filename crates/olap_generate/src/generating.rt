@@ -17,9 +17,9 @@ ghost use Rattle.olap_generate.specs.Stages.{AreMadeMembers, AreMadeViews};
 use crate::inputs::Input;
 use crate::lines::{input_lines, view_lines};
 use crate::running::{made_members, made_schema, made_store};
-use olap_base::{CatId, Memory, Text};
+use olap_base::{CatId, Memory, Refusal, Text};
 use olap_legal::Legal;
-use olap_nav::{Plan, PlanRefusal, print_plan};
+use olap_nav::{Plan, print_plan};
 use olap_schema::Schema;
 use olap_view::{Store, View};
 use std::alloc::Global;
@@ -46,8 +46,8 @@ fn answer(
 {
     match olap_nav::answer(alloc, schema, legal, store, REGION) {
         Ok(answer) => Ok(answer),
-        Err(PlanRefusal::Memory) => Err(Memory),
-        Err(PlanRefusal::NotAnswerable) => unreachable!(),
+        Err(Refusal::Memory(memory)) => Err(memory),
+        Err(Refusal::Kind(_)) => unreachable!(),
     }
 }
 

@@ -10,16 +10,13 @@ ghost use Rattle.olap_generate.specs.Stages.{AreMadeMembers, AreMadeViews};
 use crate::facts::fact_text;
 use crate::inputs::Input;
 use crate::members::member_text;
-use olap_base::{CatId, List, Memory};
-use olap_check::{CheckRefusal, check};
-use olap_facts::FactRefusal;
-use olap_instance::{InstanceRefusal, read_instance};
+use olap_base::{CatId, List, Memory, Refusal};
+use olap_check::check;
+use olap_instance::read_instance;
 use olap_legal::Legal;
 use olap_schema::Schema;
-use olap_schema_text::{SchemaRefusal, read_schema};
-use olap_view::{
-    Store, StoreRefusal, View, direct_views_are_read_back, print_store, read_store, roll_up,
-};
+use olap_schema_text::read_schema;
+use olap_view::{Store, View, direct_views_are_read_back, print_store, read_store, roll_up};
 use std::alloc::Global;
 
 /// The text of the schema of what is made: stores in cities that lie in a state, a province or right below a country.
@@ -57,8 +54,8 @@ pub(crate) fn made_schema(alloc: Global) -> Result<Schema, Memory>
 {
     match read_schema(alloc, LOCATION) {
         Ok(schema) => Ok(schema),
-        Err(SchemaRefusal::Memory) => Err(Memory),
-        Err(SchemaRefusal::Fault { .. }) => unreachable!(),
+        Err(Refusal::Memory(memory)) => Err(memory),
+        Err(Refusal::Kind(_)) => unreachable!(),
     }
 }
 
@@ -71,13 +68,13 @@ pub(crate) fn made_members(alloc: Global, schema: &Schema, input: &Input) -> Res
     let text = member_text(alloc, input)?;
     let instance = match read_instance(alloc, schema.graph(), &text) {
         Ok(instance) => instance,
-        Err(InstanceRefusal::Memory) => return Err(Memory),
-        Err(InstanceRefusal::Fault { .. }) => unreachable!(),
+        Err(Refusal::Memory(memory)) => return Err(memory),
+        Err(Refusal::Kind(_)) => unreachable!(),
     };
     match check(alloc, schema, instance) {
         Ok(legal) => Ok(legal),
-        Err(CheckRefusal::Memory) => Err(Memory),
-        Err(CheckRefusal::Broken(_, _)) => unreachable!(),
+        Err(Refusal::Memory(memory)) => Err(memory),
+        Err(Refusal::Kind(_)) => unreachable!(),
     }
 }
 
@@ -96,8 +93,8 @@ fn made_views(
     let text = fact_text(alloc, input)?;
     match roll_up(alloc, schema.graph(), legal, text, &STORED) {
         Ok(views) => Ok(views),
-        Err(FactRefusal::Memory) => Err(Memory),
-        Err(FactRefusal::Fault { .. }) => unreachable!(),
+        Err(Refusal::Memory(memory)) => Err(memory),
+        Err(Refusal::Kind(_)) => unreachable!(),
     }
 }
 
@@ -120,7 +117,7 @@ pub(crate) fn made_store(
     let text = print_store(alloc, schema.graph(), legal.instance(), &Store { views })?;
     match read_store(alloc, schema.graph(), legal.instance(), text.bytes()) {
         Ok(store) => Ok(store),
-        Err(StoreRefusal::Memory) => Err(Memory),
-        Err(StoreRefusal::Fault { .. }) => unreachable!(),
+        Err(Refusal::Memory(memory)) => Err(memory),
+        Err(Refusal::Kind(_)) => unreachable!(),
     }
 }

@@ -1,5 +1,7 @@
-use Rattle.std.proofs.Common.{Err, ap}
+use Rattle.std.proofs.Common.{ℕ, ap, subst}
+use Rattle.olap_base.specs.Refusing.{IsFor}
 use Rattle.olap_base.specs.Views.{View}
+use Rattle.olap_nav.specs.Plans.{Serves}
 use Rattle.olap_schema.specs.Schemas.{schema_of}
 use Rattle.olap_view.specs.Seen.{view_of, views_of}
 use Rattle.olap_view.specs.Stores.{chosen}
@@ -16,7 +18,8 @@ answer-requires-clause-target c =
 pub unreachable-requires : goal.unreachable-requires
 unreachable-requires c =
     let input = c.args.input.now in
-    c.in-Err-NotAnswerable.ensures.not_answerable (ap Err c.in-Err-NotAnswerable.field-0-is) 4
+    (subst (IsFor (λ _. (m : ℕ) → Serves (schema_of c.args.schema.now) (views_of c.args.store.now) region m → ⊥))
+    c.in-Err-Kind.field-0-is c.in-Err-Kind.ensures.not_answerable) 4
     (city_serves input.seed input.size input.few (schema_of c.args.schema.now) c.args.legal.now
     (views_of c.args.store.now) c.requires.views)
 

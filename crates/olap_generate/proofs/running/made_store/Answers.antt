@@ -1,9 +1,9 @@
 use Rattle.std.proofs.Common.{length, subst, sym}
 use Rattle.std.specs.Prelude.{All, ◌<◌}
 use Rattle.olap_base.specs.Instance.{Instance}
+use Rattle.olap_base.specs.Refusing.{IsRefusedBy}
 use Rattle.olap_records.specs.Records.{records_of}
 use Rattle.olap_schema.specs.Schemas.{schema_of}
-use Rattle.olap_view.specs.Kinds.{IsStoreRefusedBy}
 use Rattle.olap_view.specs.Seen.{each_view_of, views_of}
 use Rattle.olap_view.specs.StoreText.{store_read}
 use Rattle.olap_generate.proofs.StoredLemmas.{store_faultless, store_made, views_categories, views_members}
@@ -37,6 +37,6 @@ unreachable-requires c =
     c.graph.result.now c.graph-2.result.now c.instance.result.now c.instance-2.result.now c.in_ok-text.text
     c.bytes.result.now c.graph.ensures c.graph-2.ensures c.instance.ensures c.instance-2.ensures c.bytes.ensures
     c.in_ok-text.ensures.reads _
-    (subst (λ e. IsStoreRefusedBy e
+    (subst (λ e. IsRefusedBy e
     (store_read c.graph-2.result.now c.instance-2.result.now (records_of c.bytes.result.now)))
-    c.in-Err-Fault.field-0-is c.in-Err-Fault.ensures.read)
+    c.in-Err-Kind.field-0-is c.in-Err-Kind.ensures.read)

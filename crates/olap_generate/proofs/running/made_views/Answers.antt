@@ -1,7 +1,7 @@
 use Rattle.std.proofs.Common.{subst}
 use Rattle.olap_base.specs.Limits.{most_facts}
+use Rattle.olap_base.specs.Refusing.{IsRefusedBy}
 use Rattle.olap_facts.specs.FactText.{facts_read_within}
-use Rattle.olap_facts.specs.Refusals.{IsRefusedBy}
 use Rattle.olap_records.specs.Records.{records_of}
 use Rattle.olap_schema.specs.Schemas.{schema_of}
 use Rattle.olap_view.specs.Seen.{each_view_of}
@@ -24,4 +24,4 @@ unreachable-requires c =
     c.args.legal.now c.requires.member_text g text
     c.graph.ensures c.in_ok-text.ensures _
     (subst (λ e. IsRefusedBy e (facts_read_within most_facts g c.args.legal.now (records_of text)))
-    c.in-Err-Fault.field-0-is c.in-Err-Fault.ensures.err)
+    c.in-Err-Kind.field-0-is c.in-Err-Kind.ensures.err)
