@@ -18,7 +18,7 @@ OF_SCHEMA = ("format", "satisfiable", "implies", "summarizable", "frozen", "audi
 FILES = {
     "rollup": ("schema", "instance", "facts"), "store": ("schema", "instance", "facts"), "answer": ("schema", "instance", "store"),
     "append": ("schema", "instance", "store", "facts"), "retract": ("schema", "instance", "store", "facts"),
-    "check": ("schema", "instance"), **dict.fromkeys(OF_SCHEMA, ("schema",)),
+    "check": ("schema", "instance"), "breaks": ("schema", "instance"), **dict.fromkeys(OF_SCHEMA, ("schema",)),
     **{name: ("schema", "certificate") for name in ("verify", "verify-short")},
 }  # fmt: skip
 MOST = 200  # characters of a line or record that are shown
