@@ -1,21 +1,20 @@
 -- What a reply with a status and these bytes answers, where none means that memory ran out.
-use Rattle.std.proofs.Common.{◌≡◌, ℕ, List, Result, Ok, Err, subst, sym}
+use Rattle.std.proofs.Common.{◌≡◌, ℕ, List, Result, Ok, Err}
 use Rattle.std.specs.Prelude.{IfErr, IfOk}
 use Rattle.olap_order.specs.Judged.{Replies}
 use Rattle.olap_order.specs.Order.{Order}
+use Rattle.olap_order.specs.Refusals.{IsOutOfMemory}
 use Rattle.olap_order.specs.declared.replies.Reply.{Reply}
 use Rattle.olap_order.specs.declared.replies.Stop.{Stop}
-use Rattle.olap_order.specs.declared.replies.Stop.TheVariants as stops
 use Rattle.olap_order.specs.declared.status.Status.{Status}
+use Rattle.olap_order.proofs.Replying.{replies_no_memory}
 use Rattle.olap_reasoning.specs.Questions.{IsAnswer, Question}
 
 -- if each reply with that status and these bytes answers the order, so does the result
 pub replies_or_memory : {order : Order Question} {status : Status} {bytes : List ℕ} (result : Result Reply Stop)
     → IfOk result (λ r. r.status ≡ status) → IfOk result (λ r. r.bytes.items ≡ bytes)
-    → IfErr result (λ stop. stop ≡ stops.Memory)
+    → IfErr result IsOutOfMemory
     → ((reply : Reply) → reply.status ≡ status → reply.bytes.items ≡ bytes → Replies IsAnswer order (Ok reply))
     → Replies IsAnswer order result
 replies_or_memory (Ok reply) status text memory answers = answers reply status text
-replies_or_memory {order} (Err stop) status text memory answers =
-    subst (λ e. Replies IsAnswer order (Err e)) (sym memory)
-    (record { right = tt; verdict = tt; unread = λ e. absurd (cc) })
+replies_or_memory (Err stop) status text memory answers = replies_no_memory (Err stop) memory

@@ -8,6 +8,7 @@ use Rattle.olap_ast.specs.Findings.{AreFindings, Finding, Finding.Unsatisfiable,
 use Rattle.olap_ast.specs.Formula.{Formula.Truth}
 use Rattle.olap_ast.specs.Frozen.{Candidates, Frozen}
 use Rattle.olap_ast.specs.Schema.{Schema}
+use Rattle.olap_base.specs.Bytes.{space}
 use Rattle.olap_base.specs.Graph.{Graph}
 use Rattle.olap_base.specs.Limits.{most_frozen}
 use Rattle.olap_cex.specs.FrozenText.{frozen_text}
@@ -33,7 +34,7 @@ abbrev pub finding_text : Graph → Finding → List ℕ
 finding_text g (Unsatisfiable c) = line (codes "unsatisfiable " ++ name_of_category g c)
 finding_text g (Redundant n) = line (codes "redundant " ++ decimal n)
 finding_text g (Unused e) =
-    line (codes "unused " ++ (name_of_category g (edge_at g e).child ++ 32 ∷ name_of_category g (edge_at g e).parent))
+    line (codes "unused " ++ (name_of_category g (edge_at g e).child ++ space ∷ name_of_category g (edge_at g e).parent))
 
 -- the line of each finding, and how many they are
 pub record ListsFindings (s : Schema) (bytes : List ℕ) : Type 0 where

@@ -9,6 +9,7 @@ ghost use Rattle.olap_schema.specs.Schemas.{schema_of};
 ghost use Rattle.olap_ast.specs.Trees.{numbers_of};
 ghost use Rattle.olap_summ.specs.Counterexamples.{IsCounterexampleFound};
 ghost use Rattle.olap_order.specs.Outputs.{line};
+ghost use Rattle.olap_order.specs.Refusals.{IsOutOfMemory};
 
 use crate::denying::no_lines;
 use olap_base::{CatId, Memory, Text};
@@ -64,7 +65,7 @@ pub(crate) fn shown(
         IfOk result (λ r. r.bytes.items ≡ line (codes "no")
         ++ (frozen_text s.graph k found.now.frozen.root.0 f
         ++ counterexample_text s k found.now.frozen.root.0 f target.0 (numbers_of sources.now))) }
-    ensures memory { IfErr result (λ stop. stop ≡ Stop.Memory) }
+    ensures memory { IfErr result IsOutOfMemory }
 {
     let line = print_frozen(alloc, schema.graph(), &found.frozen, &found.candidates)?;
     let lines = sums(alloc, schema, found, target, sources)?;

@@ -15,6 +15,7 @@ ghost use Rattle.olap_reasoning.specs.Under.{implies_under};
 ghost use Rattle.olap_order.specs.Judged.{Replies};
 ghost use Rattle.olap_order.specs.Order.{Done};
 ghost use Rattle.olap_order.specs.Outputs.{line};
+ghost use Rattle.olap_order.specs.Refusals.{IsOutOfMemory};
 ghost use Rattle.olap_reasoning.specs.Questions.{ByImplied, IsAnswer};
 
 use crate::denying::no_lines;
@@ -46,7 +47,7 @@ fn shown(alloc: Global, schema: &Schema, found: &Found) -> Result<Reply, Stop>
         IfOk result (λ r. r.bytes.items ≡ line (codes "no")
         ++ (frozen_text g (candidates_of found.now.candidates) found.now.frozen.root.0
         (frozen_of found.now.frozen) ++ text_of_instance g (found_instance g found.now))) }
-    ensures memory { IfErr result (λ stop. stop ≡ Stop.Memory) }
+    ensures memory { IfErr result IsOutOfMemory }
 {
     let line = print_frozen(alloc, schema.graph(), &found.frozen, &found.candidates)?;
     let lines = instance_text(alloc, schema.graph(), found)?;

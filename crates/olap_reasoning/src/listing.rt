@@ -1,8 +1,9 @@
 // The command `frozen`: all frozen dimensions with a root.
-ghost use Rattle.std.specs.Prelude.{◌≡◌, ◌≤◌, ◌++◌, codes, decimal, All, Err, IfOk, OnOk, flat_map, length, map};
+ghost use Rattle.std.specs.Prelude.{◌≡◌, ◌≤◌, ◌++◌, codes, decimal, All, IfErr, IfOk, OnOk, flat_map, length, map};
 ghost use Rattle.olap_ast.specs.Formula.{Formula.Truth};
 ghost use Rattle.olap_base.specs.Graph.{IsCategory};
 ghost use Rattle.olap_base.specs.Limits.{most_frozen};
+ghost use Rattle.olap_base.specs.Refusing.{IsFor};
 ghost use Rattle.olap_cex.specs.FrozenText.{frozen_text};
 ghost use Rattle.olap_dimsat.specs.Listed.{AreAllFrozen, AreMoreThan};
 ghost use Rattle.olap_frozen.specs.LeastFound.{frozen_of};
@@ -16,9 +17,9 @@ ghost use Rattle.olap_order.specs.Outputs.{line};
 ghost use Rattle.olap_reasoning.specs.Questions.{ByFrozen, IsAnswer};
 
 use olap_ast::Formula;
-use olap_base::{CatId, List, MOST_FROZEN, Memory};
+use olap_base::{CatId, List, MOST_FROZEN, Memory, Refusal};
 use olap_cex::print_frozen;
-use olap_dimsat::{AllRefusal, Search};
+use olap_dimsat::{Search, TooMany};
 use olap_frozen::Frozen;
 use olap_graph::Graph;
 use olap_names::Candidates;
@@ -74,7 +75,7 @@ fn told(
     schema: &Schema,
     candidates: &Candidates,
     root: CatId,
-    all: Result<List<Frozen>, AllRefusal>,
+    all: Result<List<Frozen>, Refusal<TooMany>>,
 ) -> Result<Reply, Stop>
     requires all { IfOk all (λ list. AreAllFrozen (schema_of schema.now) Truth root.0
         (candidates_of candidates.now) (map frozen_of list)) }
@@ -82,8 +83,8 @@ fn told(
     requires roots { IfOk all (λ list. All (λ f. f.root.0 ≡ root.0) list) }
     requires sized { IfOk all (λ list.
         All (λ f. IsSized (schema_of schema.now).graph candidates.now f.edges f.names) list) }
-    requires too_many { all ≡ Err AllRefusal.TooMany
-        → AreMoreThan most_frozen (schema_of schema.now) Truth root.0 (candidates_of candidates.now) }
+    requires too_many { IfErr all (IsFor (λ _.
+        AreMoreThan most_frozen (schema_of schema.now) Truth root.0 (candidates_of candidates.now))) }
     ensures replies { Replies IsAnswer (Done (ByFrozen (schema_of schema.now) root.0)) result }
 {
     match all {
@@ -91,10 +92,8 @@ fn told(
             let text = listed(alloc, schema.graph(), candidates, root, all.items())?;
             Ok(yes(text))
         }
-        Err(refusal) => match refusal {
-            AllRefusal::TooMany => Err(refuse(alloc, "frozen TooMany")),
-            AllRefusal::Memory => Err(Stop::Memory),
-        },
+        Err(Refusal::Kind(TooMany)) => Err(refuse(alloc, "frozen TooMany")),
+        Err(Refusal::Memory(memory)) => Err(Stop::Memory(memory)),
     }
 }
 

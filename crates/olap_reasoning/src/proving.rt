@@ -8,12 +8,12 @@ ghost use Rattle.olap_order.specs.Order.{Done};
 ghost use Rattle.olap_reasoning.specs.Questions.{ByProof, IsAnswer};
 
 use crate::differing::shown;
-use olap_base::CatId;
+use olap_base::{CatId, Refusal};
 use olap_order::{Reply, Stop, yes};
 use olap_proof::Form;
 use olap_prove::{Proof, prove};
 use olap_schema::Schema;
-use olap_summ::SummRefusal;
+use olap_summ::DuplicateSource;
 use std::alloc::Global;
 
 /// Why the target's view is always that from the sources' views, or what shows that it isn't.
@@ -33,7 +33,7 @@ pub(crate) fn proved(
     match prove(alloc, schema, form, target, sources) {
         Ok(Proof::Yes(text)) => Ok(yes(text.into_bytes())),
         Ok(Proof::No(found)) => shown(alloc, schema, &found, target, sources),
-        Err(SummRefusal::DuplicateSource) => unreachable!(),
-        Err(SummRefusal::Memory) => Err(Stop::Memory),
+        Err(Refusal::Kind(DuplicateSource)) => unreachable!(),
+        Err(Refusal::Memory(memory)) => Err(Stop::Memory(memory)),
     }
 }

@@ -10,6 +10,7 @@ ghost use Rattle.olap_reasoning.specs.Under.{satisfiable_under};
 ghost use Rattle.olap_order.specs.Judged.{Replies};
 ghost use Rattle.olap_order.specs.Order.{Done};
 ghost use Rattle.olap_order.specs.Outputs.{line};
+ghost use Rattle.olap_order.specs.Refusals.{IsOutOfMemory};
 ghost use Rattle.olap_reasoning.specs.Questions.{BySatisfiable, IsAnswer};
 
 use olap_base::CatId;
@@ -27,7 +28,7 @@ fn shown(alloc: Global, schema: &Schema, found: &Found) -> Result<Reply, Stop>
     ensures text { IfOk result (λ r. r.bytes.items ≡ line (codes "yes")
         ++ frozen_text (schema_of schema.now).graph (candidates_of found.now.candidates)
         found.now.frozen.root.0 (frozen_of found.now.frozen)) }
-    ensures memory { IfErr result (λ stop. stop ≡ Stop.Memory) }
+    ensures memory { IfErr result IsOutOfMemory }
 {
     let line = print_frozen(alloc, schema.graph(), &found.frozen, &found.candidates)?;
     let mut text = Vec::from_slice(alloc, b"yes\n")?;

@@ -13,10 +13,10 @@ ghost use Rattle.olap_order.specs.Words.{texts};
 use crate::differing::shown;
 use crate::proving::proved;
 use crate::words::Wanted;
-use olap_base::CatId;
+use olap_base::{CatId, Refusal};
 use olap_order::{Reply, Stop, categories_at, category_at, yes};
 use olap_schema::Schema;
-use olap_summ::SummRefusal;
+use olap_summ::DuplicateSource;
 use std::alloc::Global;
 
 /// Whether the target's view is always that from the sources' views, with what shows that it isn't.
@@ -30,8 +30,8 @@ fn decided(alloc: Global, schema: &Schema, target: CatId, sources: &[CatId]) -> 
     match olap_summ::summarizable(alloc, schema, target, sources) {
         Ok(None) => Ok(yes(Vec::from_slice(alloc, b"yes\n")?)),
         Ok(Some(found)) => shown(alloc, schema, &found, target, sources),
-        Err(SummRefusal::DuplicateSource) => unreachable!(),
-        Err(SummRefusal::Memory) => Err(Stop::Memory),
+        Err(Refusal::Kind(DuplicateSource)) => unreachable!(),
+        Err(Refusal::Memory(memory)) => Err(Stop::Memory(memory)),
     }
 }
 

@@ -1,11 +1,11 @@
 -- The candidates are those of the search, and its root is the root.
-use Rattle.std.proofs.Common.{◌≡◌, map, Err, sym, subst, ◌∙◌}
-use Rattle.std.specs.Prelude.{All, IfOk}
+use Rattle.std.proofs.Common.{◌≡◌, map, sym, subst, ◌∙◌}
+use Rattle.std.specs.Prelude.{All, IfErr, IfOk}
 use Rattle.olap_ast.specs.Formula.{Formula.Truth}
 use Rattle.olap_base.specs.Limits.{most_frozen}
+use Rattle.olap_base.specs.Refusing.{IsFor}
 use Rattle.olap_dimsat.specs.Listed.{AreAllFrozen, AreMoreThan}
 use Rattle.olap_dimsat.specs.Searches.{candidates_in}
-use Rattle.olap_dimsat.specs.declared.searching.AllRefusal.TheVariants as refusal
 use Rattle.olap_frozen.specs.LeastFound.{frozen_of}
 use Rattle.olap_frozen.specs.Leaves.{IsSized}
 use Rattle.olap_names.specs.Names.{Named, candidates_of}
@@ -35,8 +35,8 @@ told-requires-clause-sized c =
 pub told-requires-clause-too_many : goal.told-requires-clause-too_many
 told-requires-clause-too_many c =
     let s = schema_of c.args.schema.now in
-    subst (λ (k : Named). c.all-all.result ≡ Err refusal.TooMany
-    → AreMoreThan most_frozen s Truth c.args.root.0 (candidates_of k))
+    let o = c.all-all.result in
+    subst (λ (k : Named). IfErr o (IsFor (λ e. AreMoreThan most_frozen s Truth c.args.root.0 (candidates_of k))))
     (sym (c.into_candidates-candidates.ensures ∙ c.all-all.ensures.candidates))
-    (subst (λ q. c.all-all.result ≡ Err refusal.TooMany → AreMoreThan most_frozen s Truth q
-    (candidates_in c.in_ok-search.search)) c.in_ok-search.ensures.root c.all-all.ensures.too_many)
+    (subst (λ q. IfErr o (IsFor (λ e. AreMoreThan most_frozen s Truth q (candidates_in c.in_ok-search.search))))
+    c.in_ok-search.ensures.root c.all-all.ensures.too_many)

@@ -1,12 +1,16 @@
 -- What is listed is all that was found.
-use Rattle.std.proofs.Common.{◌≤◌, ◌++◌, List, length, map, codes, decimal, ap, inr, refl, sym, subst, ◌∙◌}
-use Rattle.std.specs.Prelude.{All, IfOk, flat_map}
+use Rattle.std.proofs.Common.{◌≡◌, ◌≤◌, ◌++◌, Err, List, length, map, codes, decimal, ap, inr, refl, sym, subst, ◌∙◌}
+use Rattle.std.specs.Prelude.{All, IfErr, IfOk, flat_map}
 use Rattle.std.proofs.lemmas.List.{length-map}
 use Rattle.olap_ast.specs.Formula.{Formula.Truth}
 use Rattle.olap_base.specs.Graph.{Graph}
 use Rattle.olap_base.specs.Limits.{most_frozen}
+use Rattle.olap_base.specs.Refusing.{IsFor}
+use Rattle.olap_base.specs.declared.refusals.Refusal.{Refusal}
+use Rattle.olap_base.specs.declared.refusals.Refusal.TheVariants as refusal
 use Rattle.olap_cex.specs.FrozenText.{frozen_text}
-use Rattle.olap_dimsat.specs.Listed.{AreAllFrozen}
+use Rattle.olap_dimsat.specs.Listed.{AreAllFrozen, AreMoreThan}
+use Rattle.olap_dimsat.specs.declared.searching.TooMany.{TooMany}
 use Rattle.olap_frozen.specs.LeastFound.{frozen_of}
 use Rattle.olap_frozen.specs.Leaves.{IsSized}
 use Rattle.olap_frozen.specs.declared.frozen.Frozen.{Frozen}
@@ -48,11 +52,15 @@ returns-in_ok-text-in-Ok c =
           ∙ counted);
     }
 
-pub returns-in-TooMany : goal.returns-in-TooMany
-returns-in-TooMany c =
+pub returns-in-Err-Kind : goal.returns-in-Err-Kind
+returns-in-Err-Kind c =
     let s = schema_of c.args.schema.now in
     let k = candidates_of c.args.candidates.now in
-    let many = c.requires.too_many cc in
+    let e = c.in-Err-Kind in
+    let is : c.args.all ≡ Err e.field-0 = e.is in
+    let kind : e.field-0 ≡ refusal.Kind e.field-0-0 = rw is at e.field-0-is in
+    let many = subst (λ (x : Refusal TooMany). IsFor (λ t. AreMoreThan most_frozen s Truth c.args.root.0 k) x) kind
+    (subst (λ o. IfErr o (IsFor (λ t. AreMoreThan most_frozen s Truth c.args.root.0 k))) is c.requires.too_many) in
     record {
       replies = refusing (ByFrozen s c.args.root.0) (codes "frozen TooMany")
           (λ bytes is. inr (refl, (k, many), is)) c.refuse.result c.refuse.ensures.refused;
