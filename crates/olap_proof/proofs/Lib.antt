@@ -36,3 +36,5 @@ mod LeadingLemmas
 mod QuestionLemmas
 mod KindLemmas
 mod VerdictLemmas
+mod DecidingLemmas
+mod JudgingLemmas

@@ -22,6 +22,7 @@ pub mod Branches
 pub mod Advancing
 pub mod Stages
 pub mod Verifying
+pub mod Judged
 -- How it writes one.
 pub mod ClosedHere
 pub mod Asking

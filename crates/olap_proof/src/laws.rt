@@ -1,6 +1,7 @@
 // Theorems over the definitions. Each is the clause of a function that does nothing.
 ghost use Rattle.olap_proof.specs.Certificates.{CertificatesAreRight};
 ghost use Rattle.olap_proof.specs.Examples.{ChainIsCertified, ChainIsShortlyCertified, EdgesAreDecidedOnce, LinesAreSpelledExactly, NamesAreDecidedOnce, TheRootIsNotLoose};
+ghost use Rattle.olap_proof.specs.Judged.{TextsAreJudged};
 ghost use Rattle.olap_proof.specs.Verifying.{VerdictsAreOne};
 
 /// A certificate, of either form, exists only where the target is summarizable from the sources.
@@ -41,4 +42,9 @@ pub fn lines_are_spelled_exactly()
 /// A certificate has no first wrong line, and another text has one at most.
 pub fn verdicts_are_one()
     ensures { VerdictsAreOne }
+{}
+
+/// A text is a certificate, or has a first wrong line: with `verdicts_are_one` exactly one of them.
+pub fn texts_are_judged()
+    ensures { TextsAreJudged }
 {}

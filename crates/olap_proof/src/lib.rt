@@ -36,7 +36,8 @@ pub use existence::{certificates_exist_exactly_where_summarizable, full_places_c
 pub use forms::Form;
 pub use laws::{
     certificates_are_right, chain_is_certified, chain_is_shortly_certified, edges_are_decided_once,
-    lines_are_spelled_exactly, names_are_decided_once, the_root_is_not_loose, verdicts_are_one,
+    lines_are_spelled_exactly, names_are_decided_once, texts_are_judged, the_root_is_not_loose,
+    verdicts_are_one,
 };
 pub use lines::Line;
 pub use plain::plain_certificate;
