@@ -20,3 +20,4 @@ pub mod FileOrderLemmas
 mod StoreLemmas
 mod StoreLawLemmas
 mod PrintedStoreLemmas
+mod ReadStoreLemmas

@@ -69,7 +69,7 @@ begun-same g rows r e =
     ∙ ap (λ b. filter is_beginning rows ++ cond b (r ∷ []) []) e ∙ append-nil (filter is_beginning rows))
 
 -- a list in which no element is c
-none-same : (c : ℕ) (xs : List ℕ) (k d : ℕ) → list_any (λ x. x == c) xs ≡ false → k < length xs → get_or xs k d ≢ c
+pub none-same : (c : ℕ) (xs : List ℕ) (k d : ℕ) → list_any (λ x. x == c) xs ≡ false → k < length xs → get_or xs k d ≢ c
 none-same c [] k d e h q = omega arith
 none-same c (x ∷ xs) zero d e h q = go (x == c) refl e
   where

@@ -2,6 +2,7 @@
 --     PrintedNumbersAreRead   the numbers of a printed row are read as they were
 --     PrintedStoresAreRead    printed views are read as they were
 --     DirectViewsAreReadBack  so are direct views
+--     ReadStoresAreSound      views that are read are a sound store
 use Rattle.std.specs.Prelude.{◌≡◌, ◌≢◌, ◌≤◌, ◌∷◌, ℕ, List, length, All, AllPairs, FitsSigned, Some, Ok}
 use Rattle.std.specs.Int.{w64}
 use Rattle.olap_base.specs.Graph.{Graph, IsCategory, IsHierarchy}
@@ -9,7 +10,7 @@ use Rattle.olap_base.specs.Instance.{Instance, IsInstance}
 use Rattle.olap_base.specs.Limits.{most_count, most_views}
 use Rattle.olap_base.specs.Views.{Fact, Row, View, direct_views}
 use Rattle.olap_view.specs.StoreText.{records_of_store, store_read, summary_read}
-use Rattle.olap_view.specs.Stores.{Fits, IsInFileOrder, IsStore, IsStored}
+use Rattle.olap_view.specs.Stores.{Fits, IsInFileOrder, IsSoundStore, IsStore, IsStored}
 use Rattle.olap_view.specs.ViewText.{fields_in}
 
 -- the record that is printed of a row that may be stored spells the row's numbers
@@ -30,3 +31,8 @@ DirectViewsAreReadBack = (g : Graph) (i : Instance) (facts : List Fact) (categor
     → IsInstance i → length facts ≤ most_count → All (λ f. FitsSigned w64 f.value) facts
     → length categories ≤ most_views → AllPairs ◌≢◌ categories → All (IsCategory g) categories
     → store_read g i (records_of_store g i (direct_views i facts categories)) ≡ Ok (direct_views i facts categories)
+
+-- views that are read are a sound store: few, of different categories, of rows within the bounds at different members
+abbrev pub ReadStoresAreSound : Type 0
+ReadStoresAreSound = (g : Graph) (i : Instance) (records : List (List (List ℕ))) (views : List View)
+    → store_read g i records ≡ Ok views → IsSoundStore g i views

@@ -1,5 +1,5 @@
 // Theorems over the definitions. Each is the clause of a function that does nothing.
-ghost use Rattle.olap_view.specs.StoreLaws.{DirectViewsAreReadBack, PrintedNumbersAreRead, PrintedStoresAreRead};
+ghost use Rattle.olap_view.specs.StoreLaws.{DirectViewsAreReadBack, PrintedNumbersAreRead, PrintedStoresAreRead, ReadStoresAreSound};
 
 /// The record that is printed of a row that may be stored spells the row's numbers, by the definition of reading.
 pub fn printed_numbers_are_read()
@@ -16,4 +16,10 @@ pub fn printed_stores_are_read()
 /// table is the one that is read.
 pub fn direct_views_are_read_back()
     ensures { DirectViewsAreReadBack }
+{}
+
+/// The views that a text's records stand for are few, of different categories of the graph, with rows within the bounds
+/// of stored rows at different members: a store may hold them.
+pub fn read_stores_are_sound()
+    ensures { ReadStoresAreSound }
 {}

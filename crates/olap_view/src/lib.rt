@@ -25,7 +25,10 @@ mod views;
 
 pub use columns::{Column, OwnedColumn};
 pub use kinds::StoreKind;
-pub use laws::{direct_views_are_read_back, printed_numbers_are_read, printed_stores_are_read};
+pub use laws::{
+    direct_views_are_read_back, printed_numbers_are_read, printed_stores_are_read,
+    read_stores_are_sound,
+};
 pub use printing::{print_view, print_view_behind};
 pub use rolling_up::roll_up;
 pub use storing::{print_store, read_store};
