@@ -4,7 +4,7 @@
 
 Three blocks. With an instance, its members that reach the target by not exactly one source, grouped by their ways up; with facts,
 how many facts and which sums are lost, or counted more than once. Then the shortest lists of sources that contain these and are
-enough. Then, for each bottom category, the weakest constraint with which the answer is yes, as `needs` prints it, and simple
+enough. Then, for each bottom category, the weakest constraint with which the answer is yes, and simple
 constraints that are enough too and leave each category its members, the weakest of them, and whether the instance meets each.
 After a yes it says so. The status is 0, or the program's.
 """
@@ -118,15 +118,20 @@ def lists_block(question: Question, end: float) -> Iterator[str]:
 # ---- which constraints
 
 
-def needs_block(question: Question) -> Iterator[str]:
-    answer = question.ask.must("needs", SCHEMA, question.target, *question.sources, ends=(0, 1))
-    if answer.status == 1:
-        yield "needed: no constraint helps without taking all members of a category:"
-        yield from (f"  {line}" for line in answer.text.splitlines()[1:])
-        return
+def needs_block(question: Question, end: float) -> Iterator[str]:
+    """For each bottom category that may break the total, that it doesn't: the weakest constraints with which the answer is yes."""
+    needed = []
+    for bottom in question.schema.bottoms:
+        formula, seconds = question.formula(bottom), max(0.1, end - time.monotonic())
+        if question.ask.must("implies", SCHEMA, bottom, formula, ends=(0, 1), seconds=seconds).status == 1:
+            needed.append((bottom, f"{bottom}: {formula}"))
+    schema = question.changed(*(constraint for _, constraint in needed))
+    lines = question.ask.must("format", schema).text.splitlines()[-len(needed) :]
+    gone = simple.unsatisfiable(question, schema, end)
     yield "needed: the weakest constraints with which the answer is yes:"
-    for line in answer.text.splitlines():
-        yield f"  {line}{met(question, line[len('constraint ') :])}"
+    for (bottom, constraint), line in zip(needed, lines):
+        alone = f"   (then no {bottom} is left)" if f"unsatisfiable {bottom}" in gone else met(question, constraint)
+        yield f"  {line}{alone}"
 
 
 def met(question: Question, constraint: str) -> str:
@@ -159,7 +164,7 @@ def lines(question: Question, seconds: float) -> Iterator[str]:
         yield from members_block(question)
     try:
         yield from lists_block(question, end)
-        yield from needs_block(question)
+        yield from needs_block(question, end)
         yield from simple_block(question, end)
     except Late:
         yield f"(not all was asked within {seconds:g} seconds: --seconds N)"

@@ -117,7 +117,7 @@ def thinned(ask: Program, head: list[str], constraints: list[str]) -> str:
 
 
 def kinds_of(ask: Program, schema: texts.Schema, category: str) -> Kinds:
-    answer = ask.must("shapes", SCHEMA, category)
+    answer = ask.must("frozen", SCHEMA, category)
     sets = set()
     for line in answer.text.splitlines():
         if line.startswith("frozen"):

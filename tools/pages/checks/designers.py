@@ -134,9 +134,49 @@ def wide_faults(folder: Path) -> Iterator[str]:
     yield from told("wide, a heading that is no name", tool("olap-tools", "wide", str(table), "Store", "Sales price"), 2, "")
 
 
+AFTER_NO = """members: 1 reach Country by none of the sources, or by several
+  lost at usa: 1 of Store by way of City Country, as s1: 1 facts, sum 10
+sources: no list of at most 3 more is enough; one of these counts a fact twice, or none is left to add
+needed: the weakest constraints with which the answer is yes:
+  constraint Store: (Store.Country -> one(Store.State.Country, Store.Province.Country))   (Constraint {number} "s1" in your instance)
+simple: constraint Store: Store.State ^ Store.Province   (Constraint {number} "s1" in your instance)
+"""
+
+
+def after_no_faults() -> Iterator[str]:
+    """A no by a store in Washington: what is lost, that no source helps, and what would."""
+    number = 1 + sum(line.startswith("constraint") for line in (EXAMPLES / LOCATION[0]).read_text().splitlines())
+    done = tool("olap-tools", "after-no", *LOCATION, "Country", "State", "Province")
+    yield from told("after-no", done, 0, AFTER_NO.format(number=number))
+    yield from told("after-no of a yes", tool("olap-tools", "after-no", LOCATION[0], "Country", "City"), 0, "yes: nothing needs to be added\n")
+    yield from told("after-no without a target", tool("olap-tools", "after-no", *LOCATION), 2, "")
+    done = tool("olap-tools", "after-no", LOCATION[0], "Country", "State", "City")
+    if "then no Store is left" in done.stdout or "constraint Store: (Store.Country -> one(" not in done.stdout:
+        yield f"olap-tools after-no: {done.stdout!r} {done.stderr!r}"
+
+
+def split_faults(folder: Path) -> Iterator[str]:
+    """The members are legal in the schema with kinds, the totals stay, and each kind has totals of its own."""
+    made = folder / "made"
+    done = tool("olap-tools", "split", LOCATION[0], "City", LOCATION[1], "--into", str(made))
+    yield from told("split", done, 0, "")
+    files = (str(made / "schema.txt"), str(made / "instance.csv"), LOCATION[2])
+    if olap("check", *files[:2]) != olap("check", *LOCATION[:2]):
+        yield f"olap-tools split: {olap('check', *files[:2])}"
+    for target in ("Country", "Region", "Store"):
+        if olap("rollup", *files, target) != olap("rollup", *LOCATION, target):
+            yield f"olap-tools split: the totals by {target} differ"
+    kinds = [olap("rollup", *files, kind)[1].splitlines()[1:] for kind in ("CityCountry", "CityState", "CityProvince")]
+    if sorted(sum(kinds, [])) != sorted(olap("rollup", *LOCATION, "City")[1].splitlines()[1:]):
+        yield f"olap-tools split: the totals of the kinds aren't those of the cities: {kinds}"
+    yield from told("split into a folder that is there", tool("olap-tools", "split", *LOCATION[:1], "City", LOCATION[1], "--into", str(made)), 5, "")
+
+
 def faults() -> Iterator[str]:
+    yield from after_no_faults()
     yield from sql_faults()
     yield from keep_faults()
     with tempfile.TemporaryDirectory() as name:
         yield from bands_faults(Path(name))
         yield from wide_faults(Path(name))
+        yield from split_faults(Path(name))
