@@ -1,8 +1,13 @@
 -- The exit statuses.
---     exit_status    the number by which the shell is told how a run ended
+--     exit_status      the number by which the shell is told how a run ended
+--     out_of_memory    that of a run that ran out of memory
 use Rattle.std.specs.Prelude.{ℕ}
 use Rattle.olap_order.specs.declared.status.Status.{Status}
 use Rattle.olap_order.specs.declared.status.Status.TheVariants as statuses
+
+-- of a run that ran out of memory
+abbrev pub out_of_memory : ℕ
+out_of_memory = 6
 
 -- the number by which the shell is told how a run ended
 abbrev pub exit_status : Status → ℕ
@@ -12,4 +17,4 @@ exit_status statuses.Usage = 2
 exit_status statuses.Refused = 3
 exit_status statuses.ReadFault = 4
 exit_status statuses.WriteFault = 5
-exit_status statuses.Memory = 6
+exit_status (statuses.Memory m) = out_of_memory

@@ -2,15 +2,17 @@
 --     file_followed, file_ended   a step and the rest
 --     as_ended                    a step that ended, as the code hands it on
 --     no_memory                   a step that runs out of memory
---     no_memory_yet, judged_no_memory, replies_no_memory   the same, as the code hands it on
+--     ran_out, no_memory_yet, judged_no_memory   the same, as the code hands it on
 --     AreReadTo                   what is read of the files that are left is read of all
 use Rattle.std.proofs.Common.{◌≡◌, ◌+◌, ℕ, List, [], ◌∷◌, ◌++◌, Option, None, Some, Result, Ok, Err, MatchOption, ap, subst, sym, refl, arith, ◌∙◌}
 use Rattle.std.specs.Prelude.{IfOk}
 use Rattle.std.specs.Result.{IsErrAnd}
+use Rattle.olap_base.specs.declared.ids.Memory.{Memory}
 use Rattle.olap_outside.specs.Files.{Files}
 use Rattle.olap_outside.specs.declared.outside.Library.{Ghosts as Library}
 use Rattle.olap_order.specs.Judged.{IsLater, Judged, Replies}
 use Rattle.olap_order.specs.Order.{Order, Done, Told, Read, ReadsNoFile, and_then}
+use Rattle.olap_order.specs.Refusals.{IsOutOfMemory}
 use Rattle.olap_order.specs.Taken.{ComesOut, ComesOutTold, FileStep, NoAnswer}
 use Rattle.olap_order.specs.declared.replies.Reply.{Reply}
 use Rattle.olap_order.specs.declared.replies.Stop.{Stop}
@@ -89,8 +91,8 @@ module _ {D T X : Type 0} {L : Library D} {old new : D} {step : Order T} {meanin
 
   -- a step that runs out of memory, whatever it is
   pub no_memory : IsLater L old new → L.contents new ≡ L.contents old
-      → FileStep L old new step meaning (Err stops.Memory)
-  no_memory later same = record {
+      → (memory : Memory) → FileStep L old new step meaning (Err (stops.Memory memory))
+  no_memory later same memory = record {
     comes_out = tt;
     ends = record { right = tt; verdict = tt; read = λ is. absurd (cc); later = later };
     same = same;
@@ -105,27 +107,29 @@ pub no_value : {X E : Type 0} (P : X → Type 0) (R : E → Type 0) (result : Re
 no_value P R (Ok x) is = absurd is
 no_value P R (Err e) is = tt
 
+-- after a step has read what it reads
+pub ran_out : {D T X : Type 0} {L : Library D} {old new : D} {step : Order T} {meaning : X → T}
+    (result : Result X Stop) → IsErrAnd result IsOutOfMemory → IsLater L old new → L.contents new ≡ L.contents old
+    → FileStep L old new step meaning result
+ran_out (Ok x) is later same = absurd is
+ran_out (Err (stops.Refused bytes)) is later same = absurd is
+ran_out (Err stops.Read) is later same = absurd is
+ran_out (Err (stops.Memory m)) is later same = no_memory later same m
+
 -- before a step has read anything
 pub no_memory_yet : {D T X : Type 0} {L : Library D} {old : D} {step : Order T} {meaning : X → T}
-    (result : Result X Stop) → IsErrAnd result (λ e. e ≡ stops.Memory) → FileStep L old old step meaning result
-no_memory_yet result is = as_ended result stops.Memory is (no_memory same_state refl)
+    (result : Result X Stop) → IsErrAnd result IsOutOfMemory → FileStep L old old step meaning result
+no_memory_yet result is = ran_out result is same_state refl
 
 -- in a command
 pub judged_no_memory : {D Q : Type 0} {answers : Q → Status → List ℕ → Type 0} {L : Library D} {old new : D}
-    {order : Order Q} (result : Result Reply Stop) → IsErrAnd result (λ e. e ≡ stops.Memory) → IsLater L old new
+    {order : Order Q} (result : Result Reply Stop) → IsErrAnd result IsOutOfMemory → IsLater L old new
     → Judged answers L old new order result
 judged_no_memory (Ok reply) is later = absurd is
-judged_no_memory {answers = answers} {L = L} {old = old} {new = new} {order = order} (Err e) is later =
-    subst (λ e. Judged answers L old new order (Err e)) (sym is)
-    (record { right = tt; verdict = tt; read = λ is. absurd (cc); later = later })
-
--- in a command that reads nothing
-pub replies_no_memory : {Q : Type 0} {answers : Q → Status → List ℕ → Type 0} {order : Order Q}
-    (result : Result Reply Stop) → IsErrAnd result (λ e. e ≡ stops.Memory) → Replies answers order result
-replies_no_memory (Ok reply) is = absurd is
-replies_no_memory {answers = answers} {order = order} (Err e) is =
-    subst (λ e. Replies answers order (Err e)) (sym is)
-    (record { right = tt; verdict = tt; unread = λ is. absurd (cc) })
+judged_no_memory (Err (stops.Refused bytes)) is later = absurd is
+judged_no_memory (Err stops.Read) is later = absurd is
+judged_no_memory (Err (stops.Memory m)) is later =
+    record { right = tt; verdict = tt; read = λ e. absurd (cc); later = later }
 
 module _ {D T X : Type 0} {L : Library D} {old new : D} {step : Order T} {meaning : X → T} where
   -- what was read, as the code has it
@@ -179,10 +183,11 @@ module _ {D T : Type 0} (L : Library D) (start : D) (order : Order (List T))
       (file_ended s (λ t. behind (k + 1) (read ++ t ∷ []))))
 
   -- a file was taken, and then memory ran out
-  pub read_wants : {X : Type 0} (k : ℕ) (now new : D) (read : List T) (step : Order T) (meaning : X → T) (x : X)
-      → AreReadTo k now read → FileStep L now new step meaning (Ok x)
-      → FileStep {T = List T} {X = List T} L start new order (λ x. x) (Err stops.Memory)
-  read_wants k now new read step meaning x r s = no_memory (after r.later s.later) (s.same ∙ r.same)
+  pub read_wants : {X Y : Type 0} {other : Y → List T} (k : ℕ) (now new : D) (read : List T) (step : Order T)
+      (meaning : X → T) (x : X) (result : Result Y Stop)
+      → AreReadTo k now read → FileStep L now new step meaning (Ok x) → IsErrAnd result IsOutOfMemory
+      → FileStep L start new order other result
+  read_wants k now new read step meaning x result r s is = ran_out result is (after r.later s.later) (s.same ∙ r.same)
 
   -- all are read
   pub read_all : (k : ℕ) (now : D) (read : List T) → AreReadTo k now read → behind k read ≡ Done read

@@ -20,15 +20,15 @@ use Rattle.olap_base.proofs.ListLemmas.{Distinct, list_any_is}
 use Rattle.olap_dimensions.specs.Dimensions.{AreCategoriesOf}
 use Rattle.olap_order.specs.Judged.{Replies}
 use Rattle.olap_order.specs.Order.{Order, Done, and_then, refused}
-use Rattle.olap_order.specs.Refusals.{IsRefusal}
+use Rattle.olap_order.specs.Refusals.{IsOutOfMemory, IsRefusal}
 use Rattle.olap_order.specs.Steps.{fault_text}
 use Rattle.olap_order.specs.Taken.{NoAnswer, PlainStep}
 use Rattle.olap_ast.specs.Trees.{numbers_of}
 use Rattle.olap_order.specs.declared.replies.Stop.{Stop}
 use Rattle.olap_order.specs.declared.replies.Stop.TheVariants as stops
+use Rattle.olap_order.proofs.Replying.{replies_no_memory}
 use Rattle.olap_order.proofs.Stepping.{ends_both}
 use Rattle.olap_cubes.specs.Steps.{another_tuple, different_tuples, tuple_word}
-use Rattle.olap_cubes.proofs.FilesLemmas.{replies_no_memory}
 
 -- categories are compared as their numbers are
 pub numbers_compared : (xs ys : List CatId) → pointwise (λ (a b : CatId). nat_eq a.0 b.0) xs ys
@@ -50,8 +50,9 @@ module _ {T X : Type 0} {step : Order T} {meaning : X → T} where
 
 -- a step that reads nothing runs out of memory, as the code hands it on
 pub plain_no_memory : {T X : Type 0} {step : Order T} {meaning : X → T} (result : Result X Stop)
-    → IsErrAnd result (λ e. e ≡ stops.Memory) → PlainStep step meaning result
-plain_no_memory result is = ended_plain result stops.Memory is (replies_no_memory (Err stops.Memory) refl)
+    → IsErrAnd result IsOutOfMemory → PlainStep step meaning result
+plain_no_memory (Ok x) is = absurd is
+plain_no_memory (Err stop) is = record { comes_out = tt; ends = replies_no_memory (Err stop) is }
 
 -- what is refused is refused
 refused_so : {T : Type 0} (why : List ℕ) (stop : Stop) → IsRefusal why stop
@@ -62,7 +63,7 @@ refused_so why (stops.Refused bytes) is = record {
   unread = λ e. absurd (cc);
 }
 refused_so why stops.Read is = absurd is
-refused_so why stops.Memory is = record { right = tt; verdict = tt; unread = λ e. absurd (cc) }
+refused_so why (stops.Memory m) is = record { right = tt; verdict = tt; unread = λ e. absurd (cc) }
 
 -- a step that is refused
 pub plain_refused : {T X : Type 0} {meaning : X → T} (step : Order T) (why : List ℕ) (stop : Stop)

@@ -10,7 +10,9 @@ use Rattle.std.specs.Prelude.{option_and_then}
 use Rattle.std.specs.Fmt.{decimal}
 use Rattle.std.specs.Cmp.Lexicographic.{pointwise}
 use Rattle.std.specs.List.{list_any}
+use Rattle.olap_base.specs.Bytes.{comma}
 use Rattle.olap_base.specs.Instance.{Instance}
+use Rattle.olap_base.specs.Limits.{most_facts_bytes}
 use Rattle.olap_ast.specs.Schema.{Schema}
 use Rattle.olap_graph.specs.Lookups.{category_named}
 use Rattle.olap_grammar.specs.Words.{pieces_of}
@@ -46,7 +48,7 @@ legal_files dimension earlier schemas files = Done earlier
 -- the facts at tuples of these instances' members in a file
 abbrev pub cube_facts_file : List Schema → List Instance → List ℕ → Order (List CubeFact)
 cube_facts_file schemas is file =
-    and_then (text_file (codes "facts") file) (λ text.
+    and_then (text_file (codes "facts") most_facts_bytes file) (λ text.
     meaning_or_fault (codes "facts") (codes "record") fact_kind
     (cube_facts_read (graphs_of schemas) is (records_of text)))
 
@@ -61,8 +63,8 @@ categories_named schemas names = Some []
 -- the tuple of categories, one of each dimension, whose names a word joins by commas
 abbrev pub tuple_word : List Schema → ℕ → List ℕ → Order (List ℕ)
 tuple_word schemas at word =
-    if length (pieces_of 44 word) == length schemas
-    then ok_or (categories_named schemas (pieces_of 44 word)) (fault_text (codes "word") at (codes "UnknownCategory"))
+    if length (pieces_of comma word) == length schemas
+    then ok_or (categories_named schemas (pieces_of comma word)) (fault_text (codes "word") at (codes "UnknownCategory"))
     else refused (fault_text (codes "word") at (codes "BadForm"))
 
 -- a tuple that is none of those before it

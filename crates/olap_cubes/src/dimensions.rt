@@ -62,7 +62,7 @@ pub(crate) fn schemas_in<L: Library>(
         let schema = dimension_schema(alloc, k + 1, files[k].as_str(), lib)?;
         match cube.push(schema) {
             Ok(()) => {}
-            Err(_) => return Err(Stop::Memory),
+            Err(_) => return Err(Stop::from(AllocError)),
         }
     }
     Ok(cube)
@@ -101,10 +101,8 @@ fn dimension_column<L: Library>(
     ensures category { IfOk result (λ a. a.category ≡ category.0) }
 {
     let legal = dimension_legal(alloc, dimension, schema, file, lib)?;
-    match OwnedColumn::new(alloc, legal, category) {
-        Ok(column) => Ok(column),
-        Err(_) => Err(Stop::Memory),
-    }
+    let column = OwnedColumn::new(alloc, legal, category)?;
+    Ok(column)
 }
 
 /// Adds the columns of the target's categories in the legal instances in files, one of each dimension's schema, where
@@ -131,7 +129,7 @@ fn add_columns<L: Library>(
         let column = dimension_column(alloc, k + 1, schema, target[k], file, lib)?;
         match columns.push(column) {
             Ok(()) => {}
-            Err(_) => return Err(Stop::Memory),
+            Err(_) => return Err(Stop::from(AllocError)),
         }
     }
     Ok(())

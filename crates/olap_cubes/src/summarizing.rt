@@ -16,10 +16,10 @@ ghost use Rattle.olap_cubes.specs.Under.{cube_from, cube_under};
 
 use crate::dimensions::schemas_in;
 use crate::naming::{tuple_at, tuples_at};
-use olap_base::{List, Memory};
+use olap_base::{List, Memory, Refusal};
 use olap_cube::Tuple;
 use olap_cube_cex::print_cube;
-use olap_cube_summ::{CubeRefusal, cube_summarizable};
+use olap_cube_summ::{DuplicateSource, cube_summarizable};
 use olap_dimensions::{Cube, CubeFound};
 use olap_order::{Reply, Stop, no, yes};
 use olap_outside::Library;
@@ -60,8 +60,8 @@ fn told(alloc: Global, cube: &Cube, target: &Tuple, sources: &[Tuple]) -> Result
     match cube_summarizable(alloc, cube, target, sources) {
         Ok(None) => Ok(yes(Vec::from_slice(alloc, b"yes\n")?)),
         Ok(Some(found)) => Ok(no(difference(alloc, cube, &found, target, sources)?)),
-        Err(CubeRefusal::DuplicateSource) => unreachable!(),
-        Err(CubeRefusal::Memory) => Err(Stop::Memory),
+        Err(Refusal::Kind(DuplicateSource)) => unreachable!(),
+        Err(Refusal::Memory(memory)) => Err(Stop::Memory(memory)),
     }
 }
 

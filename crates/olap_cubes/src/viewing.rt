@@ -3,7 +3,7 @@ ghost use Rattle.std.specs.Prelude.{◌≡◌, All, Err, IfErr, IfOk, MatchResul
 ghost use Rattle.olap_cube.specs.CubeSummarizable.{graphs_of};
 ghost use Rattle.olap_cube.specs.CubeViews.{cube_direct_view};
 ghost use Rattle.olap_cube_views.specs.CubeFactText.{cube_facts_read};
-ghost use Rattle.olap_cube_views.specs.CubeRefusals.{IsCubeRefusedBy};
+ghost use Rattle.olap_base.specs.Refusing.{IsRefusedBy};
 ghost use Rattle.olap_cube_views.specs.CubeRollingUp.{IsCubeRolledUp};
 ghost use Rattle.olap_cube_views.specs.CubeTallies.{AreMembers};
 ghost use Rattle.olap_cube_views.specs.CubeViewText.{cube_view_text};
@@ -25,10 +25,10 @@ ghost use Rattle.olap_view.specs.Seen.{ids};
 
 use crate::dimensions::{columns_in, schemas_in};
 use crate::naming::tuple_at;
-use olap_base::{CatId, Memory};
+use olap_base::{CatId, Fault, MOST_FACTS_BYTES, Memory, Refusal};
 use olap_cube_views::{CubeView, TargetColumns, cube_roll_up, print_rolled_up};
 use olap_dimensions::Cube;
-use olap_facts::FactRefusal;
+use olap_facts::FactKind;
 use olap_graph::Graph;
 use olap_order::{Reply, Status, Stop, read_file, refuse_long, refuse_part, yes};
 use olap_outside::Library;
@@ -51,14 +51,14 @@ fn rolled_up(
     cube: &Cube,
     columns: &TargetColumns,
     text: &[u8],
-) -> Result<CubeView, FactRefusal>
+) -> Result<CubeView, Refusal<Fault<FactKind>>>
     requires made { AreMadeFor (graphs_of (schemas_of cube.now)) (instances_in columns.now) }
     ensures view { IfOk result (λ v. IsCubeRolledUp (graphs_of (schemas_of cube.now))
         (instances_in columns.now) (records_of text.now) (categories_in columns.now)
         (cube_view_of v)) }
     ensures members { IfOk result
         (λ v. All (λ r. AreMembers (instances_in columns.now) (members_of r.members)) v.rows) }
-    ensures err { IfErr result (λ e. IsCubeRefusedBy e
+    ensures err { IfErr result (λ e. IsRefusedBy e
         (cube_facts_read (graphs_of (schemas_of cube.now)) (instances_in columns.now)
         (records_of text.now))) }
 {
@@ -84,19 +84,15 @@ fn view_in<L: Library>(
     ensures members { IfOk result
         (λ v. All (λ r. AreMembers (instances_in columns.now) (members_of r.members)) v.rows) }
 {
-    let Some(text) = read_file(alloc, file, lib)? else {
+    let Some(text) = read_file(alloc, file, MOST_FACTS_BYTES, lib)? else {
         return Err(refuse_long(alloc, "facts"));
     };
     match rolled_up(alloc, cube, columns, &text) {
         Ok(view) => Ok(view),
-        Err(FactRefusal::Memory) => Err(Stop::Memory),
-        Err(FactRefusal::Fault { at, kind }) => Err(refuse_part(
-            alloc,
-            "facts",
-            "record",
-            at,
-            kind.name(),
-        )),
+        Err(Refusal::Kind(Fault { at, kind })) => {
+            Err(refuse_part(alloc, "facts", "record", at, kind.name()))
+        }
+        Err(Refusal::Memory(memory)) => Err(Stop::Memory(memory)),
     }
 }
 

@@ -15,10 +15,10 @@ ghost use Rattle.olap_order.specs.Order.{Done};
 ghost use Rattle.olap_plans.specs.Questions.{ByPlan, IsAnswer};
 ghost use Rattle.olap_plans.specs.Under.{answer_of, answer_under};
 
-use olap_base::{CatId, Memory};
+use olap_base::{CatId, Memory, Refusal};
 use olap_graph::Graph;
 use olap_legal::Legal;
-use olap_nav::{PlanRefusal, print_plan};
+use olap_nav::{NotAnswerable, print_plan};
 use olap_order::{Reply, Stop, category_at, refuse, schema_in, yes};
 use olap_outside::Library;
 use olap_reading::{legal_in, store_in};
@@ -64,8 +64,8 @@ fn answered(
             let text = answer_text(alloc, schema.graph(), legal, store, plan.mask, &view)?;
             Ok(yes(text))
         }
-        Err(PlanRefusal::NotAnswerable) => Err(refuse(alloc, "answer NotAnswerable")),
-        Err(PlanRefusal::Memory) => Err(Stop::Memory),
+        Err(Refusal::Kind(NotAnswerable)) => Err(refuse(alloc, "answer NotAnswerable")),
+        Err(Refusal::Memory(memory)) => Err(Stop::Memory(memory)),
     }
 }
 

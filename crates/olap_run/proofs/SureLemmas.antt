@@ -1,13 +1,16 @@
--- What can't come over a library that is sure.
+-- What can't come over a library that is sure, and with an answer.
 --     held_is_read      if it holds every file of the order, no read is refused
 --     not_the_second    of three, where the second can't be
-use Rattle.std.proofs.Common.{◌≡◌, ◌⊎◌, ℕ, List, Option, None, Some, inl, inr}
+--     written_is_told   an answer is neither a read fault nor out of memory
+use Rattle.std.proofs.Common.{◌≡◌, ◌⊎◌, ◌∙◌, ℕ, List, Option, None, Some, inl, inr, subst, sym}
 use Rattle.std.specs.Prelude.{IsSome, IsTrue}
 use Rattle.olap_outside.specs.Files.{Files}
 use Rattle.olap_outside.specs.declared.outside.Library.{Ghosts as Library}
 use Rattle.olap_run.specs.Commands.{order_of}
-use Rattle.olap_order.specs.Judged.{IsStuckTold, ReadCause}
-use Rattle.olap_run.specs.Outcome.{TellsAll}
+use Rattle.olap_order.specs.Judged.{IsStuckTold, RanOutOfMemory, ReadCause}
+use Rattle.olap_order.specs.declared.status.Status.{Status}
+use Rattle.olap_order.specs.declared.status.Status.TheVariants.{Yes, No, Usage, Refused, ReadFault, WriteFault, Memory}
+use Rattle.olap_run.specs.Outcome.{IsAnswered, TellsAll}
 
 -- what is none isn't some
 none_is_some : (o : Option (List ℕ)) → o ≡ None → IsSome o → ⊥
@@ -28,3 +31,22 @@ pub not_the_second : {A B C : Type 0} → A ⊎ B ⊎ C → (B → ⊥) → A �
 not_the_second (inl a) never = inl a
 not_the_second (inr (inl b)) never = absurd (never b)
 not_the_second (inr (inr c)) never = inr c
+
+-- a status that is answered isn't that of a run out of memory
+answered_has_memory : (status : Status) → IsAnswered status → RanOutOfMemory status → ⊥
+answered_has_memory Yes answered memory = memory
+answered_has_memory No answered memory = memory
+answered_has_memory Usage answered memory = memory
+answered_has_memory Refused answered memory = memory
+answered_has_memory ReadFault answered memory = answered
+answered_has_memory WriteFault answered memory = answered
+answered_has_memory (Memory m) answered memory = answered
+
+-- an answer that was written, or couldn't be, is neither a read fault nor out of memory
+pub written_is_told : (status result : Status) → IsAnswered status → (result ≡ status) ⊎ (result ≡ WriteFault)
+    → (result ≡ ReadFault) ⊎ RanOutOfMemory result → ⊥
+written_is_told status result answered (inl e) (inl fault) = subst IsAnswered (sym e ∙ fault) answered
+written_is_told status result answered (inl e) (inr memory) =
+    answered_has_memory status answered (subst RanOutOfMemory e memory)
+written_is_told status result answered (inr e) (inl fault) = let t = sym e ∙ fault in absurd (cc)
+written_is_told status result answered (inr e) (inr memory) = subst RanOutOfMemory e memory

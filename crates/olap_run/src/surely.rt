@@ -20,7 +20,7 @@ pub fn olap_surely(
 ) -> Status
     // The answers are those of the words and the files.
     ensures right { IsAnswered result → WritesOutcome (texts words.now) (sure_contents lib.old) result None None }
-    ensures usage_only { order_of (texts words.now) ≡ usage → (result ≡ Status.Usage) ⊎ (result ≡ Status.Memory) }
+    ensures usage_only { order_of (texts words.now) ≡ usage → (result ≡ Status.Usage) ⊎ RanOutOfMemory result }
     // Neither fault comes.
     ensures read { result ≡ Status.ReadFault → ⊥ }
     ensures written { result ≡ Status.WriteFault → ⊥ }

@@ -4,7 +4,7 @@ ghost use Rattle.std.specs.Io.KnownBytes.{Appends};
 ghost use Rattle.olap_outside.specs.Faults.{HasCause, Rose};
 ghost use Rattle.olap_outside.specs.Sinks.{AppendsPart};
 ghost use Rattle.olap_run.specs.Commands.{order_of, usage};
-ghost use Rattle.olap_order.specs.Judged.{ReadCause};
+ghost use Rattle.olap_order.specs.Judged.{RanOutOfMemory, ReadCause};
 ghost use Rattle.olap_run.specs.Outcome.{IsAnswered, TakesOutcome, TellsAll, WritesOutcome, WritesPart};
 ghost use Rattle.olap_order.specs.Words.{texts};
 
@@ -42,7 +42,7 @@ pub fn olap<L: Library, K: Sink>(
         (K.contents out.old) (K.contents out.new) }
     ensures usage { result ≡ Status.Usage → order_of (texts words.now) ≡ usage }
     ensures usage_only { order_of (texts words.now) ≡ usage →
-        (result ≡ Status.Usage) ⊎ (result ≡ Status.WriteFault) ⊎ (result ≡ Status.Memory) }
+        (result ≡ Status.Usage) ⊎ (result ≡ Status.WriteFault) ⊎ RanOutOfMemory result }
     ensures unread { order_of (texts words.now) ≡ usage → lib.new ≡ lib.old }
     // The faults come only by their causes.
     ensures read_fault { result ≡ Status.ReadFault →
@@ -54,7 +54,7 @@ pub fn olap<L: Library, K: Sink>(
     ensures sure_write { TakesOutcome (texts words.now) (L.contents lib.old) (K.takes out.old) →
         result ≡ Status.WriteFault → ⊥ }
     // Nothing, or a part, is written where there is no answer.
-    ensures silent { (result ≡ Status.ReadFault) ⊎ (result ≡ Status.Memory) →
+    ensures silent { (result ≡ Status.ReadFault) ⊎ RanOutOfMemory result →
         K.contents out.new ≡ K.contents out.old }
     ensures part { result ≡ Status.WriteFault → WritesPart (texts words.now) (L.contents lib.old)
         (K.contents out.old) (K.contents out.new) }
@@ -62,7 +62,7 @@ pub fn olap<L: Library, K: Sink>(
     ensures complete { TellsAll (texts words.now) (L.contents lib.old) →
         (IsAnswered result × WritesOutcome (texts words.now) (L.contents lib.old) result
         (K.contents out.old) (K.contents out.new))
-        ⊎ ((result ≡ Status.Memory) × (K.contents out.new ≡ K.contents out.old))
+        ⊎ (RanOutOfMemory result × (K.contents out.new ≡ K.contents out.old))
         ⊎ ((result ≡ Status.ReadFault) × ReadCause L.Library lib.old lib.new (order_of (texts words.now)))
         ⊎ ((result ≡ Status.WriteFault) × Rose (K.faults out.old) (K.faults out.new)) }
 {
@@ -70,6 +70,6 @@ pub fn olap<L: Library, K: Sink>(
         Ok(reply) => written(out, reply.status, &reply.bytes),
         Err(Stop::Refused(bytes)) => written(out, Status::Refused, &bytes),
         Err(Stop::Read) => Status::ReadFault,
-        Err(Stop::Memory) => Status::Memory,
+        Err(Stop::Memory(memory)) => Status::Memory(memory),
     }
 }

@@ -2,7 +2,8 @@
 ghost use Rattle.olap_instance.specs.Made.{IsMadeFor};
 
 use crate::reading::{CHAIN, read};
-use olap_facts::{FactKind, FactRefusal, read_facts};
+use olap_base::{Fault, Refusal};
+use olap_facts::{FactKind, read_facts};
 use olap_graph::Graph;
 use olap_instance::{Instance, read_instance};
 use std::alloc::Global;
@@ -32,8 +33,8 @@ fn outcome(alloc: Global, graph: &Graph, instance: &Instance, text: &[u8]) -> Op
 {
     match read_facts(alloc, graph, instance, text) {
         Ok(facts) => Some(Ok(facts.rows.items().len())),
-        Err(FactRefusal::Fault { at, kind }) => Some(Err((at, kind))),
-        Err(FactRefusal::Memory) => None,
+        Err(Refusal::Kind(Fault { at, kind })) => Some(Err((at, kind))),
+        Err(Refusal::Memory(_)) => None,
     }
 }
 

@@ -119,9 +119,9 @@ pub returns-in-Err-clause-step : goal.returns-in-Err-clause-step
 returns-in-Err-clause-step g c =
     let schemas = schemas_of c.args.cube.now in
     let files = texts c.args.files.now in
-    ended_so (read_wants g.L.Library c.args.lib.now (legal_files 1 [] schemas files) (behind schemas files) c.files.k
+    read_wants g.L.Library c.args.lib.now (legal_files 1 [] schemas files) (behind schemas files) c.files.k
     c.files.lib c.dimension_column.new.lib (instances_in c.files.columns) _ (λ (a : Ascent). a.instance)
-    c.in_ok-column.column c.files.invariant.read c.in_ok-column.ensures.step)
+    c.in_ok-column.column (Err c.from.result) c.files.invariant.read c.in_ok-column.ensures.step c.from.ensures
 
 pub returns-clause-step : goal.returns-clause-step
 returns-clause-step g c =

@@ -10,7 +10,7 @@ use Rattle.olap_order.specs.Words.{texts}
 use Rattle.olap_schema.specs.Schemas.{schema_of}
 use Rattle.olap_cubes.specs.Steps.{numbered, schema_files}
 use Rattle.olap_cubes.proofs.DimensionLemmas.{file_is, schemas_end, schemas_from}
-use Rattle.olap_cubes.proofs.FilesLemmas.{as_ended, as_read, ended_so, read_all, read_ends, read_more}
+use Rattle.olap_cubes.proofs.FilesLemmas.{as_ended, as_read, ended_so, read_all, read_ends, read_more, read_wants}
 use Rattle.olap_cubes.proofs.dimensions.schemas_in.Goals as goal
 
 -- the schemas in the files that are left
@@ -32,6 +32,13 @@ returns-in_err-schema-clause-step g c =
     c.files.invariant.read (schemas_from files k (schemas_of c.files.cube) here)
     (subst (λ w. FileStep g.L.Library c.files.lib c.dimension_schema.new.lib
     (schema_file (numbered (codes "schema") (k + 1)) w) schema_of (Err stop)) file c.in_err-schema.ensures.step)))
+
+pub returns-in-Err-clause-step : goal.returns-in-Err-clause-step
+returns-in-Err-clause-step g c =
+    let files = texts c.args.files.now in
+    read_wants g.L.Library c.args.lib.now (schema_files 1 [] files) (behind files) c.files.k c.files.lib
+    c.dimension_schema.new.lib (schemas_of c.files.cube) _ schema_of c.in_ok-schema.schema (Err c.from.result)
+    c.files.invariant.read c.in_ok-schema.ensures.step c.from.ensures
 
 pub files-preserved : goal.files-preserved
 files-preserved g c =

@@ -4,9 +4,8 @@ use Rattle.olap_cube.specs.Told.{tuple_of, tuples_in}
 use Rattle.olap_dimensions.specs.Dimensions.{schemas_of}
 use Rattle.olap_dimensions.specs.Found.{chosen_of}
 use Rattle.olap_order.specs.Judged.{IsVerdict}
-use Rattle.olap_order.proofs.Replying.{done}
+use Rattle.olap_order.proofs.Replying.{done, replies_no_memory}
 use Rattle.olap_cubes.specs.Questions.{ByCube}
-use Rattle.olap_cubes.proofs.FilesLemmas.{replies_no_memory}
 use Rattle.olap_cubes.proofs.summarizing.told.Goals as goal
 
 pub returns-in_err-from_slice-in-Ok-None : goal.returns-in_err-from_slice-in-Ok-None

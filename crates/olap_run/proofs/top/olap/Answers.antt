@@ -6,6 +6,7 @@ use Rattle.olap_run.specs.Questions.{IsAnswer}
 use Rattle.olap_order.specs.Words.{texts}
 use Rattle.olap_order.specs.declared.replies.Stop.{Stop}
 use Rattle.olap_order.specs.declared.status.Status.TheVariants.{Refused}
+use Rattle.olap_run.proofs.SureLemmas.{written_is_told}
 use Rattle.olap_run.proofs.top.olap.Goals as goal
 
 -- the sink takes the bytes of the outcome, and these are its bytes
@@ -23,3 +24,12 @@ returns-in-Err-Refused-clause-sure_write g c =
     λ takes fault. c.written-in-Err-Refused.ensures.surely fault
     (subst (λ (bytes : List ℕ). IsTrue (g.K.Sink.takes c.args.out.now (length bytes)))
     (sym c.deref-in-Err-Refused.ensures.value) (takes Refused e.bytes.items right))
+
+-- an answer isn't silent
+pub returns-in-Ok-clause-silent : goal.returns-in-Ok-clause-silent
+returns-in-Ok-clause-silent g c = λ h. absurd (written_is_told c.in-Ok.reply.status c.written.result
+    c.in-Ok.ensures.answered c.written.ensures.one h)
+
+pub returns-in-Err-Refused-clause-silent : goal.returns-in-Err-Refused-clause-silent
+returns-in-Err-Refused-clause-silent g c = λ h. absurd (written_is_told Refused c.written-in-Err-Refused.result tt
+    c.written-in-Err-Refused.ensures.one h)
