@@ -3,8 +3,8 @@
 `Memory` is made of an `AllocError`, and its field is private. But anybody can write an `AllocError` down, and the standard
 library gives one for other reasons too. So in the sources of the crates, but for the files of MAKERS:
 
-- `AllocError` stands only in a `use` and as the error of a `Result`;
-- the error that holds a value, and the other names of an allocator's error, stand nowhere;
+- `AllocError`, and `AllocFailed`, which hands back what was to be kept, stand only in a `use` and as the error of a `Result`;
+- the other names of an allocator's error stand nowhere;
 - nothing stands that gets an `AllocError` of the standard library without a request for memory, or by a request that
   no machine meets.
 """
@@ -17,13 +17,12 @@ from . import sources
 MAKERS = {
     "olap_base/src/ids.rt": 9,
     "olap_base/src/refusals.rt": 6,
-    "olap_cubes/src/dimensions.rt": 5,
     "olap_order/src/replies.rt": 6,
     "olap_records/src/refused.rt": 3,
 }
 NAMES = re.compile(r"\bAllocError\b|\bAllocFailed\b|\bTryReserveError\b")
 USE = re.compile(r"^\s*(pub )?use std::alloc::(\{[A-Za-z, ]+\}|[A-Za-z]+);")
-RESULT = re.compile(r"\bAllocError>")
+RESULT = re.compile(r"\bAllocError>|\bResult<[^;]*\bAllocFailed<\w+>>")
 LARGE = r"\b(MAX|[1-9][\d_]{9,})\b"
 NEVER = [
     (r"\bunsafe\b", "unsafe code could read a `Memory` out of nothing"),
@@ -72,7 +71,7 @@ def faults():
                 yield file, f"it names the allocator's errors {count} times, not {MAKERS[name]}: read it, and set MAKERS"
             continue
         for place, line in enumerate(lines, 1):
-            if NAMES.search(line) and not (USE.match(line) and "AllocFailed" not in line):
+            if NAMES.search(line) and not USE.match(line):
                 if NAMES.search(RESULT.sub("", line)):
                     yield file, f"line {place}: an allocator's error other than as a result's error: {line.strip()}"
             for pattern, why in NEVER:

@@ -6,7 +6,7 @@ ghost use Rattle.olap_cube_views.specs.Dimensions.{instances_of};
 use olap_base::Memory;
 use olap_instance::Instance;
 use olap_legal::Legal;
-use std::alloc::Global;
+use std::alloc::{AllocFailed, Global};
 use std::marker::Model;
 
 /// The legal instances of up to four dimensions, in order.
@@ -37,17 +37,15 @@ impl Legals {
         }
     }
 
-    /// Adds the legal instance of one dimension more. Out of memory it comes back, and the others stay.
-    pub fn push(&mut self, legal: Legal) -> Result<(), Legal>
+    /// Adds the legal instance of one dimension more. Out of memory it comes back with the refusal, and the others
+    /// stay.
+    pub fn push(&mut self, legal: Legal) -> Result<(), AllocFailed<Legal>>
         requires { length self.old < most_dimensions }
         ensures ok { OnOk result (self.new ≡ self.old ++ legal ∷ []) }
         ensures err { OnErr result (self.new ≡ self.old) }
-        ensures back { IfErr result (λ l. l ≡ legal) }
+        ensures back { IfErr result (λ failed. failed.value ≡ legal) }
     {
-        match self.legals.push(legal) {
-            Ok(()) => Ok(()),
-            Err(failed) => Err(failed.value),
-        }
+        self.legals.push(legal)
     }
 
     /// How many dimensions there are: at most four.

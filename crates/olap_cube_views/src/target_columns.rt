@@ -8,7 +8,7 @@ ghost use Rattle.olap_cube_views.specs.Dimensions.{categories_in, instances_in, 
 use olap_base::{CatId, Memory};
 use olap_instance::Instance;
 use olap_view::{Column, OwnedColumn};
-use std::alloc::Global;
+use std::alloc::{AllocFailed, Global};
 use std::marker::Model;
 
 /// The legal instances of up to four dimensions, in order, each with the column of the target's category and no table
@@ -40,17 +40,15 @@ impl TargetColumns {
         }
     }
 
-    /// Adds the column of one dimension more. Out of memory it comes back, and the others stay.
-    pub fn push(&mut self, column: OwnedColumn) -> Result<(), OwnedColumn>
+    /// Adds the column of one dimension more. Out of memory it comes back with the refusal, and the others
+    /// stay.
+    pub fn push(&mut self, column: OwnedColumn) -> Result<(), AllocFailed<OwnedColumn>>
         requires { length self.old < most_dimensions }
         ensures ok { OnOk result (self.new ≡ self.old ++ column ∷ []) }
         ensures err { OnErr result (self.new ≡ self.old) }
-        ensures back { IfErr result (λ a. a ≡ column) }
+        ensures back { IfErr result (λ failed. failed.value ≡ column) }
     {
-        match self.columns.push(column) {
-            Ok(()) => Ok(()),
-            Err(failed) => Err(failed.value),
-        }
+        self.columns.push(column)
     }
 
     /// How many dimensions there are: at most four.

@@ -62,7 +62,7 @@ pub(crate) fn schemas_in<L: Library>(
         let schema = dimension_schema(alloc, k + 1, files[k].as_str(), lib)?;
         match cube.push(schema) {
             Ok(()) => {}
-            Err(_) => return Err(Stop::from(AllocError)),
+            Err(refused) => return Err(Stop::from(refused)),
         }
     }
     Ok(cube)
@@ -129,7 +129,7 @@ fn add_columns<L: Library>(
         let column = dimension_column(alloc, k + 1, schema, target[k], file, lib)?;
         match columns.push(column) {
             Ok(()) => {}
-            Err(_) => return Err(Stop::from(AllocError)),
+            Err(refused) => return Err(Stop::from(refused)),
         }
     }
     Ok(())

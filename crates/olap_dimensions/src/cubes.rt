@@ -5,7 +5,7 @@ ghost use Rattle.olap_dimensions.specs.Dimensions.{no_schema, schemas_of};
 ghost use Rattle.olap_schema.specs.Schemas.{schema_of};
 
 use olap_schema::Schema;
-use std::alloc::Global;
+use std::alloc::{AllocFailed, Global};
 use std::marker::Model;
 
 /// The schemas of up to four dimensions, in order.
@@ -40,17 +40,14 @@ impl Cube {
         }
     }
 
-    /// Adds the schema of one dimension more. Out of memory it comes back, and the others stay.
-    pub fn push(&mut self, schema: Schema) -> Result<(), Schema>
+    /// Adds the schema of one dimension more. Out of memory it comes back with the refusal, and the others stay.
+    pub fn push(&mut self, schema: Schema) -> Result<(), AllocFailed<Schema>>
         requires { length (schemas_of self.old) < most_dimensions }
         ensures ok { OnOk result (schemas_of self.new ≡ schemas_of self.old ++ schema_of schema ∷ []) }
         ensures err { OnErr result (self.new ≡ self.old) }
-        ensures back { IfErr result (λ s. s ≡ schema) }
+        ensures back { IfErr result (λ failed. failed.value ≡ schema) }
     {
-        match self.schemas.push(schema) {
-            Ok(()) => Ok(()),
-            Err(failed) => Err(failed.value),
-        }
+        self.schemas.push(schema)
     }
 
     /// How many dimensions there are: at most four.
