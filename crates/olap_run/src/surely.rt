@@ -3,6 +3,7 @@ ghost use Rattle.std.specs.Prelude.{◌≡◌, ◌⊎◌, None};
 ghost use Rattle.olap_outside.specs.Written.{sure_contents};
 ghost use Rattle.olap_run.specs.Outcome.{IsAnswered, WritesOutcome};
 ghost use Rattle.olap_run.specs.Commands.{order_of, usage};
+ghost use Rattle.olap_order.specs.Judged.{RanOutOfMemory};
 ghost use Rattle.olap_order.specs.Words.{texts};
 
 use crate::top::olap;
