@@ -9,7 +9,7 @@ PATH = re.compile(r"`([A-Za-z0-9_.\-]+(?:/[A-Za-z0-9_.+\-]+)+/?)`")
 
 def documents():
     """The documents at the top, in docs/, examples/, recipes/, rows/ and tools/, and each crate's."""
-    places = ("*.md", "docs/*.md", "examples/**/*.md", "recipes/**/*.md", "rows/*.md", "tools/*.md", "crates/*/README.md")
+    places = ("*.md", "docs/**/*.md", "examples/**/*.md", "recipes/**/*.md", "rows/*.md", "tools/*.md", "crates/*/README.md")
     return [document for place in places for document in sources.TOP.glob(place)]
 
 

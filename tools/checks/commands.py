@@ -1,6 +1,6 @@
 """Each command of the program stands in each place that lists commands, and no other does.
 
-The commands are those that src/words.rt of each family tells apart. Of docs/PROVED.md only the other way is left out: its rows speak of
+The commands are those that src/words.rt of each family tells apart. Of docs/proved/claim.md only the other way is left out: its rows speak of
 more than commands.
 """
 
@@ -46,6 +46,6 @@ def faults():
             yield file, f"it lacks the command {name}" + (f", after {start.strip()}" if start else "")
         for name in sorted(listed - commands):
             yield file, f"no such command: {name}"
-    proved = sources.TOP / "docs" / "PROVED.md"
+    proved = sources.TOP / "docs" / "proved" / "claim.md"
     for name in sorted(name for name in commands if not re.search(rf"`{name}`", proved.read_text())):
         yield proved, f"no row speaks of the command {name}"

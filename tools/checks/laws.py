@@ -1,4 +1,4 @@
-"""Each law has a row in docs/PROVED.md: each function with an empty body that a crate gives to others."""
+"""Each law has an item in docs/proved/: each function with an empty body that a crate gives to others."""
 
 from . import register, sources
 
@@ -10,7 +10,7 @@ def is_law(function):
 
 
 def faults():
-    rows = register.rows(register.REGISTER.read_text())
+    rows = register.rows()
     named = {call for cells in rows for call in register.NAMES.findall(cells[1])}
     for crate in sources.crate_names():
         for function in sources.functions(crate):

@@ -1,4 +1,4 @@
-"""The must-fail edits that a crate's README names are those that it has, and a row of docs/PROVED.md names edits of its call.
+"""The must-fail edits that a crate's README names are those that it has, and a promise of docs/proved/ names edits of its call.
 Each edit can be applied: the texts that it replaces stand once in its file.
 
 A README names its edits in backticks, in the paragraph or the point that speaks of refused edits. An edit that a row names
@@ -118,5 +118,5 @@ def faults():
     for crate in sources.crate_names():
         yield from readme_faults(crate)
         yield from text_faults(crate)
-    for _, calls, _, _, _, edits in register.rows(register.REGISTER.read_text()):
+    for _, calls, _, _, _, edits in register.rows():
         yield from row_faults(register.NAMES.findall(calls), register.NAMES.findall(edits))

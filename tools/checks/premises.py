@@ -1,4 +1,4 @@
-"""Each row of docs/PROVED.md whose call is a law names the premises of the law.
+"""Each promise of docs/proved/ whose call is a law names the premises of the law.
 
 A law's statement is the definition of its name, as `FreshNamesExist` of the law `fresh_names_exist`. The facts that stand before
 its last arrow, by their names, as `IsHierarchy`, stand in its row.
@@ -39,7 +39,7 @@ def premises(said):
 
 def faults():
     known = statements()
-    for cells in register.rows(register.REGISTER.read_text()):
+    for cells in register.rows():
         row = " ".join(cells)
         for crate, name in re.findall(r"`(\w+)::(\w+)`", cells[1]):
             said = known.get((crate, "".join(word.capitalize() for word in name.split("_"))))

@@ -1,8 +1,9 @@
-"""Each row of docs/PROVED.md names what is there.
+"""Each promise of docs/proved/ names what is there.
 
-A row has the promise, the calls, the clauses, the definitions, the premises and the edits. A call is written as others
-call it: `crate::function` or `crate::Type::function`. Where a row has several calls, its clauses are in as many parts,
-separated by `;`, or each of them stands on every call. Clauses left empty mean that the call has one without a label.
+A promise is an item of a list, with items below it: the calls, the clauses, the definitions, the premises and the edits, as
+far as there are any. A call is written as others call it: `crate::function` or `crate::Type::function`. Where there are
+several calls, the clauses are in as many parts, separated by `;`, or each of them stands on every call. No clauses mean that
+the call has one without a label.
 """
 
 import re
@@ -10,15 +11,20 @@ import re
 from . import sources
 
 REGISTER = sources.TOP / "docs" / "PROVED.md"
+LISTS = sources.TOP / "docs" / "proved"
+LABELS = ("calls", "clauses", "definitions", "premises", "edits")
 NAMES = re.compile(r"`([^`]+)`")
 
 
-def rows(text):
-    """The cells of the rows that name a call."""
-    for line in text.splitlines():
-        cells = [cell.strip() for cell in line.strip().strip("|").split("|")]
-        if line.startswith("|") and len(cells) == 6 and "`olap_" in cells[1]:
-            yield cells
+def rows():
+    """The cells of each promise that names a call: the promise, and what stands below it by its labels, or nothing."""
+    for file in sorted(LISTS.glob("*.md")):
+        for item in re.split(r"^- ", re.sub(r"^#.*", "", file.read_text(), flags=re.M), flags=re.M)[1:]:
+            promise, *below = re.split(r"^  - ", item, flags=re.M)
+            said = dict(part.split(": ", 1) for part in below)
+            cells = [promise, *(said.get(label, "") for label in LABELS)]
+            if "`olap_" in cells[1]:
+                yield [" ".join(cell.split()) for cell in cells]
 
 
 def found(call):
@@ -51,9 +57,9 @@ def edit_faults(calls, cell):
 
 
 def faults():
-    if not list(rows(REGISTER.read_text())):
-        yield REGISTER, "no row was read"
-    for _, calls_cell, clauses, meanings, _, edits in rows(REGISTER.read_text()):
+    if not list(rows()):
+        yield REGISTER, "no promise was read"
+    for _, calls_cell, clauses, meanings, _, edits in rows():
         calls = NAMES.findall(calls_cell)
         missing = [call for call in calls if not found(call)]
         for call in missing:

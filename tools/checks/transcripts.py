@@ -88,7 +88,7 @@ def program():
 
 
 def faults():
-    places = ("README.md", "docs/*.md", "recipes/**/*.md")
+    places = ("README.md", "docs/**/*.md", "recipes/**/*.md")
     documents = [document for place in places for document in sorted(sources.TOP.glob(place))]
     found = {document: list(asked(document.read_text())) for document in documents}
     if not program().exists():
