@@ -8,3 +8,7 @@ pub mod TableLemmas
 pub mod Seeing
 pub mod ReadingBack
 pub mod Printed
+mod StandingLemmas
+mod NextLemmas
+pub mod JoinLemmas
+pub mod MarkLemmas

@@ -1,5 +1,6 @@
 // Theorems over the definitions. Each is the clause of a function that does nothing.
 ghost use Rattle.olap_records.specs.FaultLaws.{FirstFaultIsFirst, NoFaultIsNone};
+ghost use Rattle.olap_records.specs.Pieces.{MarkIsInFront, PiecesJoin, RecordsAtEnd, RecordsBegin};
 ghost use Rattle.olap_records.specs.Tables.{AllReadIsFirst, AllReadIsRead};
 ghost use Rattle.olap_records.specs.Texts.{TextReadsBack};
 
@@ -28,4 +29,24 @@ pub fn all_read_is_read<R, T, K>()
 /// What is printed reads back as the same records.
 pub fn text_reads_back()
     ensures { TextReadsBack }
+{}
+
+/// The records of a text are those of its reader, byte by byte, at its end.
+pub fn records_are_those_at_the_end()
+    ensures { RecordsAtEnd }
+{}
+
+/// A text that is read piece by piece is read as a whole.
+pub fn pieces_join()
+    ensures { PiecesJoin }
+{}
+
+/// The records of a piece stand at the front of those of the whole, whatever comes after it.
+pub fn records_begin()
+    ensures { RecordsBegin }
+{}
+
+/// Whether a text begins with a byte order mark is told by its first three bytes.
+pub fn mark_is_in_front()
+    ensures { MarkIsInFront }
 {}
