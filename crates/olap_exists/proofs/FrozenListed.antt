@@ -11,9 +11,9 @@ use Rattle.olap_ast.specs.Frozen.{AreCandidates, Candidates, Frozen, IsFrozen, I
 use Rattle.olap_ast.specs.Schema.{Schema}
 use Rattle.olap_base.specs.Ranks.{IsNotAfter}
 use Rattle.olap_ast.proofs.Least.{Fits}
-use Rattle.olap_exists.specs.Existing.{LeastFrozenExist}
+use Rattle.olap_exists.specs.Existing.{FrozenAreListed, LeastFrozenExist}
 use Rattle.olap_exists.proofs.DecidingFrozen.{dec_frozen}
-use Rattle.olap_exists.proofs.Listed.{AllLists, AreListed, IsAhead, all_lists, ordered_map}
+use Rattle.olap_exists.proofs.Listed.{AllLists, AreListed, IsAhead, all_lists, all_pairs, ordered_map}
 
 -- ---- codes
 
@@ -176,3 +176,10 @@ least_frozen_exist exist s q r k are = go (frozen_listed exist s q r k are)
         ];
       },
     )
+
+-- as a list by their codes
+pub frozen_are_listed : FreshNamesExist → FrozenAreListed
+frozen_are_listed exist s q r k are = let t = frozen_listed exist s q r k are in (
+  t.0,
+  record { ordered = all_pairs IsBefore t.0 t.1.ordered; sound = t.1.sound; complete = t.1.complete },
+)

@@ -1,9 +1,10 @@
-//! That there is a least frozen dimension of a root and a question, or none at all; all of them can be listed.
+//! That there is what answers a question about all legal instances of a schema: a least frozen dimension or none, the
+//! list of all of them, a counterexample, the list of findings.
 //!
-//! Nothing here runs: `specs/` says what there is, and the law is proved by deciding, choice by choice of edges and names,
-//! whether it is a frozen dimension.
+//! Nothing here runs: `specs/` says what there is, and each law is proved by deciding, choice by choice of edges and
+//! names, whether it is a frozen dimension.
 #![tactic(auto)]
 
 mod laws;
 
-pub use laws::least_frozen_exist;
+pub use laws::{counterexamples_exist, findings_exist, frozen_are_listed, least_frozen_exist};
