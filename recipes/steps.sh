@@ -7,7 +7,9 @@ give_up() {
 }
 
 top=$(CDPATH='' cd -- "$(dirname -- "${BASH_SOURCE[0]}")/.." && pwd -P)
-olap=$(command -v -- "${OLAP:-$top/olap}") || give_up "no such program: $OLAP"
+olap=${OLAP:-$top/olap}
+[ "${OLAP-}" ] || [ -e "$olap" ] || olap=olap # recipes that came with a package run the program in PATH
+olap=$(command -v -- "$olap") || give_up "no such program: $olap"
 olap=$(realpath -- "$olap")
 
 # Does this when the script ends, however it ends, before what was said so far.

@@ -1,6 +1,7 @@
 """The program, asked. It is found and run here, and never built.
 
-`find` takes the program that the variable OLAP names, else the one that `./olap` would run without building.
+`find` takes the program that the variable OLAP names, else the one that `./olap` would run without building; of tools that are
+installed, the program below the same prefix.
 """
 
 from __future__ import annotations
@@ -117,6 +118,11 @@ def is_current() -> bool:
     return record.read_text().strip() == f"{sources.stdout.strip()} {program}  -"
 
 
+def installed() -> Path | None:
+    """The program beside tools that are installed, which lie in PREFIX/share/olap; None of tools among the sources."""
+    return None if (TOP / "crates").is_dir() else TOP.parent.parent / "bin" / "olap"
+
+
 def find() -> Path:
     """The program; it isn't built for this."""
     named = os.environ.get("OLAP")
@@ -125,6 +131,11 @@ def find() -> Path:
         if found is None:
             raise Fault(f"OLAP names no program: {named} (one that isn't in PATH needs its whole path, as {UNPROVED})", 70)
         return Path(found).resolve()
+    beside = installed()
+    if beside is not None:
+        if not os.access(beside, os.X_OK):
+            raise Fault(f"there is no program {beside}: set OLAP to the program", 70)
+        return beside
     if not is_current():
         raise Fault(f"no program is built from these sources: run {TOP / 'olap'} once, or set OLAP={UNPROVED}, which needs no proof", 70)
     return BUILT

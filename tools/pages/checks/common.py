@@ -25,6 +25,15 @@ PATIENCE = 170  # seconds
 IN_TIME = ("--seconds", "120")  # for a report whose questions are all to be answered, on a loaded machine too
 
 
+def of_tools(top: Path) -> set[str]:
+    """What is installed and packaged of the designer's tools, by a list of their names and what the last commit and this folder have."""
+    names = ("olap-tools", "check-certificate", "compare", "constants", "draw", "explain", "least", "made", "propose", "report")
+    modules = [file for folder in ("designers", "pages") for file in (top / "tools" / folder).glob("*.py")]
+    below = [*(f"tools/{name}" for name in names), *(str(file.relative_to(top)) for file in modules)]
+    read = ["man/olap.1", "examples/location/schema.txt", "version"]
+    return {"bin/olap-tools", "share/man/man1/olap-tools.1", *(f"share/olap/{name}" for name in [*below, *read])}
+
+
 def is_there(tool: str, package: str) -> bool:
     """Is the tool there? It is installed if it isn't and that can be done."""
     if shutil.which(tool) is None:

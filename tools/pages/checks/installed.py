@@ -1,7 +1,8 @@
-"""tools/install puts five files and takes exactly those away; the completions read schemas and run nothing of them."""
+"""tools/install puts the files of a list and takes exactly those away; the completions read schemas and run nothing of them."""
 
 import hashlib
 import os
+import re
 import shutil
 import subprocess
 import tempfile
@@ -10,10 +11,10 @@ from typing import Iterator
 
 from .. import manual
 from ..program import find
-from .common import EXAMPLES, TOP, is_there, not_run, olap, tool
+from .common import EXAMPLES, TOP, is_there, not_run, of_tools, olap, tool
 
 PUT = {"bin/olap", "share/man/man1/olap.1", "share/bash-completion/completions/olap", "share/zsh/site-functions/_olap",
-       "share/fish/vendor_completions.d/olap.fish", "share/olap/installed"}
+       "share/fish/vendor_completions.d/olap.fish", "share/olap/installed", *of_tools(TOP)}
 TRY = """
 compopt() { :; }
 source "$1"
@@ -42,12 +43,31 @@ def told_faults(prefix: Path, lines: list[str]) -> Iterator[str]:
     if lines[:1] != [wanted] or (prefix / "share/olap/installed").read_text().splitlines()[:1] != [f"sources {sources}"]:
         yield f"of the sources it tells {lines[:1]}"
     words = [line.partition(": ")[2] for line in lines[1:]]
-    looks = ["command -v olap", "complete -p olap", *(["man -w olap"] if shutil.which("man") else [])]
+    looks = ["command -v olap olap-tools", "complete -p olap", *(["man -w olap olap-tools"] if shutil.which("man") else [])]
     done = subprocess.run(["bash", "--norc", "-e", "-c", "\n".join([*words, *looks])], capture_output=True, text=True, check=False)
-    places = [str(prefix / "bin" / "olap"), str(prefix / "share/man/man1/olap.1")][: len(looks) - 1]
+    named = ("bin/olap", "bin/olap-tools", "share/man/man1/olap.1", "share/man/man1/olap-tools.1")
+    places = [str(prefix / name) for name in named][: 2 * (len(looks) - 1)]
     found = [line for line in done.stdout.splitlines() if not line.startswith("complete ")]
     if done.returncode != 0 or found != places:
         yield f"what it says to set finds {found}: {words} {done.stderr.strip()}"
+
+
+def tools_faults(prefix: Path) -> Iterator[str]:
+    """The tools that are put ask the program that is put, and write nothing beside themselves."""
+    alone = {name: value for name, value in os.environ.items() if name != "OLAP"}
+    schema = "location/schema.txt"
+    for words in (["least", schema, "Country"], ["after-no", schema, "Country", "State", "Province"], ["explain", "format", schema]):
+        there = subprocess.run([prefix / "bin" / "olap-tools", *words], cwd=EXAMPLES, env=alone, capture_output=True, text=True,
+                               stdin=subprocess.DEVNULL, check=False)
+        ours = tool("olap-tools", *words)
+        if (there.returncode, there.stdout) != (ours.returncode, ours.stdout):
+            yield f"olap-tools {words[0]} that is put does otherwise: {there.stdout[:100]!r} {there.stderr[-200:]!r}"
+    version = re.search(r"^## (\d+\.\d+\.\d+)", (TOP / "CHANGELOG.md").read_text(), re.M)[1]
+    said = subprocess.run([prefix / "bin" / "olap-tools", "--version"], env=alone, capture_output=True, text=True, check=False)
+    if said.stdout != f"olap-tools {version}\n":
+        yield f"olap-tools --version says {said.stdout!r}, and the change log {version}"
+    if files_of(prefix) & PUT != PUT or any("__pycache__" in name for name in files_of(prefix)):
+        yield "the tools that are put write beside themselves"
 
 
 def put_and_taken(prefix: Path) -> Iterator[str]:
@@ -70,6 +90,7 @@ def put_and_taken(prefix: Path) -> Iterator[str]:
         ran = subprocess.run([prefix / "bin" / "olap", *words], cwd=EXAMPLES, capture_output=True, text=True, check=False)
         if (ran.returncode, ran.stdout) != olap(*words):
             yield "the program that is put does otherwise"
+        yield from tools_faults(prefix)
         done = tool("install", "--remove", str(prefix))
         if done.returncode != 0 or (paths_of(prefix) if prefix.exists() else None) != was:
             yield f"--remove ends with {done.returncode}, and leaves {sorted(paths_of(prefix))}"

@@ -1,14 +1,15 @@
-"""The manual has no warning, says what docs/COMMANDS.md and docs/FORMATS.md say, and its transcripts are what the
-program prints."""
+"""The manuals have no warning; that of the program says what docs/COMMANDS.md and docs/FORMATS.md say, and its transcripts are
+what the program prints; that of the tools has each command."""
 
 import re
 import shlex
 import subprocess
 from typing import Iterator
 
-from .common import EXAMPLES, TOP, is_there, not_run, olap
+from .common import EXAMPLES, TOP, is_there, not_run, olap, tool
 
 MANUAL = TOP / "man" / "olap.1"
+OF_TOOLS = TOP / "man" / "olap-tools.1"
 LINTERS = (("groff", "groff", ["groff", "-man", "-ww", "-z"]), ("mandoc", "mandoc", ["mandoc", "-Tlint"]))
 
 
@@ -17,10 +18,11 @@ def lint_faults() -> Iterator[str]:
         if not is_there(name, package):
             not_run(f"{name} isn't there (Debian's package {package}), so the manual wasn't read by it")
             continue
-        done = subprocess.run([*words, MANUAL], capture_output=True, text=True, check=False)
-        told = (done.stdout + done.stderr).strip()
-        if told or done.returncode != 0:
-            yield f"{name}: {told.splitlines()[0] if told else f'status {done.returncode}'}"
+        for page in (MANUAL, OF_TOOLS):
+            done = subprocess.run([*words, page], capture_output=True, text=True, check=False)
+            told = (done.stdout + done.stderr).strip()
+            if told or done.returncode != 0:
+                yield f"{name} of {page.name}: {told.splitlines()[0] if told else f'status {done.returncode}'}"
 
 
 def plain(text: str) -> str:
@@ -46,6 +48,17 @@ def said_faults() -> Iterator[str]:
     for kind in sorted(kinds | refusals | {"Stratification", "Partitioning", "Shortcut", "Constraint", "Connectivity", "NoParent"}):
         if not re.search(rf"\b{kind}\b", manual):
             yield f"no {kind}"
+
+
+def tools_faults() -> Iterator[str]:
+    """The manual of the tools has the commands that they list, each with its words and a head of its own."""
+    listed = re.findall(r"^  ([a-z-]+) +\S", tool("olap-tools", "--help").stdout, re.M)
+    text = OF_TOOLS.read_text()
+    synopsis, _, below = text.partition("\n.SH DESCRIPTION\n")
+    worded = re.findall(r"olap-tools ([a-z][a-z-]*)", synopsis.partition(".SH SYNOPSIS")[2].replace("\\-", "-"))
+    headed = re.findall(r"^\.TP\n\.B ([a-z-]+)$", below.replace("\\-", "-"), re.M)
+    if len(listed) < 10 or not listed == worded == headed:
+        yield f"the tools list {listed}, its synopsis has {worded}, and its commands are {headed}"
 
 
 def limit_faults() -> Iterator[str]:
@@ -99,3 +112,4 @@ def transcript_faults() -> Iterator[str]:
 def faults() -> Iterator[str]:
     for check in (lint_faults, said_faults, transcript_faults):
         yield from (f"man/olap.1: {wrong}" for wrong in check())
+    yield from (f"man/olap-tools.1: {wrong}" for wrong in tools_faults())
