@@ -5,3 +5,5 @@ pub mod TableLemmas
 pub mod ReaderLemmas
 pub mod BatchLemmas
 pub mod FittingLemmas
+mod CountingLemmas
+mod FeedLemmas

@@ -4,4 +4,5 @@ pub mod FactText
 pub mod Kinds
 pub mod FactReading
 pub mod Batches
+pub mod Feeding
 pub mod Laws

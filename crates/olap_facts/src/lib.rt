@@ -5,6 +5,8 @@
 //! `FactReader` hands out the same facts one at a time, or a batch at a time. Views aren't known here.
 #![tactic(auto)]
 
+mod feeding;
+mod fronts;
 mod kinds;
 mod laws;
 mod readers;
@@ -12,6 +14,7 @@ mod reading;
 mod settings;
 mod tables;
 
+pub use feeding::FactFeed;
 pub use kinds::FactKind;
 pub use laws::{bottom_is_decided, read_facts_fit};
 pub use readers::FactReader;

@@ -1,0 +1,31 @@
+-- What the front takes, told of the reader.
+use Rattle.std.proofs.Common.{◌++◌, ◌<◌, ℕ, List, length, map, subst}
+use Rattle.std.specs.Prelude.{All, MatchResult, OnOk}
+use Rattle.olap_base.specs.Refusing.{IsRefusedBy}
+use Rattle.olap_base.specs.Views.{Fact, IsFactTable}
+use Rattle.olap_facts.specs.Feeding.{Fed, Feeding, fed_read, feeding_in}
+use Rattle.olap_facts.specs.Seen.{fact_of}
+use Rattle.olap_facts.proofs.FeedLemmas.{on-members}
+use Rattle.olap_facts.proofs.feeding.FactFeed.take.Goals as goal
+
+pub returns-clause-feeds : goal.returns-clause-feeds
+returns-clause-feeds c =
+    let front = c.take.new.self in
+    let new = feeding_in c.self.inside.setting front.splitter front.handed front.begun in
+    let piece = c.args.piece.now in
+    subst (λ (q : Feeding). (fed : List ℕ) (facts : List Fact) → Fed q fed facts → MatchResult c.take.result
+    (λ _. Fed new (fed ++ piece) (facts ++ map fact_of c.take.new.batch.items))
+    (λ e. (more : List ℕ) → IsRefusedBy e (fed_read q ((fed ++ piece) ++ more))))
+    c.self.view_is c.take.ensures.feeds
+
+pub returns-clause-table : goal.returns-clause-table
+returns-clause-table c =
+    subst (λ (q : Feeding). OnOk c.take.result (IsFactTable q.graph q.instance (map fact_of c.take.new.batch.items)))
+    c.self.view_is c.take.ensures.table
+
+pub returns-clause-members : goal.returns-clause-members
+returns-clause-members c =
+    let setting = c.self.inside.setting in
+    let items = c.take.new.batch.items in
+    subst (λ (q : Feeding). OnOk c.take.result (All (λ f. f.member.0 < length q.instance) items)) c.self.view_is
+    (on-members setting.graph.now setting.instance.now items c.take.result c.take.ensures.table)
