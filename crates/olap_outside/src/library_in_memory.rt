@@ -1,5 +1,5 @@
 // A library in memory, which refuses the calls that are listed.
-ghost use Rattle.std.specs.Prelude.{◌≡◌, ◌+◌, not, is_ok, is_some, OnOk, OnErr, IsErrOf, IsOk, IsOkUnless, ◌<◌, ◌≤◌, ℕ, Bool, false, true, List as Items, length, take, drop, IfSome, IfNone, IfOk, IsTrue, IsSome, None, Some, slice_index_or};
+ghost use Rattle.std.specs.Prelude.{◌≡◌, ◌+◌, not, is_ok, is_some, OnOk, OnErr, IsErrOf, IsOk, IsOkUnless, ◌<◌, ◌≤◌, ◌^◌, ℕ, Bool, false, true, List as Items, length, take, drop, IfSome, IfNone, IfOk, IsTrue, IsSome, None, Some, slice_index_or};
 ghost use Rattle.std.specs.Option.{ForSome, option_map};
 ghost use Rattle.olap_outside.specs.Files.{content_of, file_at, IsPlace, Takes};
 ghost use Rattle.olap_outside.specs.Told.{rest_told};
@@ -147,6 +147,7 @@ impl Library for MemLibrary {
         ensures bound { IfOk result (λ n. n ≤ length buf.new) }
         ensures taken { IfOk result (λ n. mem_taken self.new ≡ mem_taken self.old + n) }
         ensures untaken { OnErr result (mem_taken self.new ≡ mem_taken self.old) }
+        ensures few { IfOk result (λ _. mem_taken self.new < 2 ^ 64) }
         ensures bytes { IfOk result
             (λ n. Takes (mem_rest self.old) (mem_rest self.new) (take n buf.new) (length buf.new)) }
         ensures cause { HasCause (mem_faults self.old) (mem_faults self.new) result }

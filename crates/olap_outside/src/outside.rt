@@ -1,5 +1,5 @@
 // The outside: where files are read from and where bytes are written to.
-ghost use Rattle.std.specs.Prelude.{◌≡◌, ◌+◌, ◌<◌, ◌≤◌, ℕ, Bool, List, length, take, Option, is_ok, is_some, IsTrue, IsSome, IsOk, IsOkUnless, IfOk, OnOk, OnErr, IsErrOf};
+ghost use Rattle.std.specs.Prelude.{◌≡◌, ◌+◌, ◌<◌, ◌≤◌, ◌^◌, ℕ, Bool, List, length, take, Option, is_ok, is_some, IsTrue, IsSome, IsOk, IsOkUnless, IfOk, OnOk, OnErr, IsErrOf};
 ghost use Rattle.std.specs.Io.KnownBytes.{WriteAppends};
 ghost use Rattle.olap_outside.specs.Faults.{HasCause};
 ghost use Rattle.olap_outside.specs.Files.{Files, Asks, Opens, Takes, Lacks};
@@ -55,7 +55,8 @@ pub trait Library {
         ensures sure { sure self.new ≡ sure self.old }
         ensures surely { IsTrue (sure self.old) → IsOkUnless result Missing };
 
-    /// Fills the front of the buffer with the next bytes. None on a buffer that isn't empty is the end.
+    /// Fills the front of the buffer with the next bytes. None on a buffer that isn't empty is the end. A read that
+    /// would take more than 2^64 - 1 bytes of a file is refused.
     fn read(&mut self, buf: &mut [u8]) -> Result<usize, Failed>
         requires { IsTrue (ready self.old) }
         ensures contents { contents self.new ≡ contents self.old }
@@ -64,6 +65,7 @@ pub trait Library {
         ensures bound { IfOk result (λ n. n ≤ length buf.new) }
         ensures taken { IfOk result (λ n. taken self.new ≡ taken self.old + n) }
         ensures untaken { OnErr result (taken self.new ≡ taken self.old) }
+        ensures few { IfOk result (λ _. taken self.new < 2 ^ 64) }
         ensures bytes { IfOk result (λ n. Takes (rest self.old) (rest self.new) (take n buf.new) (length buf.new)) }
         ensures cause { HasCause (faults self.old) (faults self.new) result }
         ensures sure { sure self.new ≡ sure self.old }

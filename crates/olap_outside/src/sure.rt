@@ -1,5 +1,5 @@
 // A library and a sink that refuse nothing, so that no fault can come from them.
-ghost use Rattle.std.specs.Prelude.{◌≡◌, ◌+◌, ◌<◌, ◌≤◌, is_ok, false, IfOk, IsTrue, None, Ok, OnOk, length, take, true};
+ghost use Rattle.std.specs.Prelude.{◌≡◌, ◌+◌, ◌<◌, ◌≤◌, ◌^◌, is_ok, false, IfOk, IsTrue, None, Ok, OnOk, length, take, true};
 ghost use Rattle.std.specs.Option.{ForSome};
 ghost use Rattle.olap_outside.specs.Files.{opened_content};
 
@@ -96,6 +96,7 @@ impl Library for SureLibrary {
         ensures ready { sure_ready self.new ≡ is_ok result }
         ensures bound { IfOk result (λ n. n ≤ length buf.new) }
         ensures taken { IfOk result (λ n. sure_taken self.new ≡ sure_taken self.old + n) }
+        ensures few { IfOk result (λ _. sure_taken self.new < 2 ^ 64) }
         ensures bytes { IfOk result
             (λ n. Takes (sure_rest self.old) (sure_rest self.new) (take n buf.new) (length buf.new)) }
         // Beside the trait's: it is never refused, hands out at most `chunk` bytes, and what it was made with stays.

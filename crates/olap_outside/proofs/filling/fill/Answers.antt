@@ -22,6 +22,8 @@ fills-preserved g c =
       size = same ∙ inv.size;
       bytes = rw stands (consumes-more (lib.rest c.args.lib.now) (lib.rest c.fills.lib) (lib.rest c.read.new.self)
           (take at piece) (take n buf) (length buf) inv.bytes c.in_ok-count.ensures.bytes);
+      taken = omega (arith, inv.taken, c.in_ok-count.ensures.taken);
+      few = λ _. c.in_ok-count.ensures.few;
       ready = c.read.ensures.ready ∙ ap is_ok c.in_ok-count.was;
       later = omega (arith, inv.later, c.read.ensures.cause.later);
       kept = record {
