@@ -11,8 +11,8 @@ use Rattle.olap_grammar.specs.Brackets.{opens_over}
 use Rattle.olap_grammar.specs.CuttingMachine.{tokens_of}
 use Rattle.olap_grammar.specs.Machine.{the_formula}
 use Rattle.olap_grammar.specs.Nodes.{nodes_behind}
-use Rattle.olap_grammar.specs.Words.{equality_of, id_of, is_number_token, pieces_of, plain_of}
-use Rattle.olap_schema_text.specs.Atoms.{atom_fault, is_no_atom, is_repeated, lacks_edge, stands_in, word_fault}
+use Rattle.olap_grammar.specs.Words.{compared_in, is_number_token, pieces_of, plain_of}
+use Rattle.olap_schema_text.specs.Resolving.{categories_of, is_repeated, lacks_edge}
 use Rattle.olap_schema_text.specs.Judging.{Above, first_stuck, form_read, line_read, lines_on, nothing_above, Read, schema_read, statement_read, text_ended, whole}
 use Rattle.olap_schema_text.specs.Lines.{chomped, is_quiet, lines_of}
 use Rattle.olap_schema_text.specs.Statements.{statement_of}
@@ -116,8 +116,8 @@ edge_lines =
 -- the constraints
 constraint_lines : Follow 16 (drop 16 location_lines)
 unfolding line_read is_utf8 chars encode is_quiet tokens_of statement_of
-    form_read the_formula plain_of equality_of pieces_of id_of opens_over nodes_behind is_long is_bad_number
-    is_number_token atom_fault word_fault is_no_atom stands_in is_repeated lacks_edge
+    form_read the_formula plain_of compared_in pieces_of opens_over nodes_behind is_long is_bad_number
+    is_number_token categories_of is_repeated lacks_edge
 constraint_lines =
     both (simp (city_is, country_is)) (both (simp (city_is, state_is, province_is, country_is))
     (both (simp (city_is, country_is)) (both (simp (state_is, country_is))

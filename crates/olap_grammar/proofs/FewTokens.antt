@@ -3,7 +3,7 @@
 use Rattle.std.proofs.Common.{◌≡◌, ◌≤◌, ◌+◌, ◌*◌, ◌++◌, ◌∷◌, ◌∙◌, ℕ, zero, suc, false, List, [], length, refl, sym, ap, subst, arith, append_assoc, append-nil}
 use Rattle.std.proofs.Math.Nat.{add-mul, mul-add}
 use Rattle.std.proofs.lemmas.List.{length-append}
-use Rattle.olap_ast.specs.Formula.{Formula, Terms}
+use Rattle.olap_grammar.specs.Forms.{Form, Forms}
 use Rattle.olap_base.specs.Limits.{most_depth}
 use Rattle.olap_grammar.specs.Brackets.{most_tokens, opens_over}
 use Rattle.olap_grammar.specs.Grammar.{Atoms, comparing, IsFormula, looser, joined, negated, bracketed, listed, plain, equal, compared, IsList, none, some, IsItems, last, more}
@@ -293,7 +293,7 @@ fit_more v room ts us rest h i =
     }
 
 mutual
-  fits : {a : Atoms Formula} {n : ℕ} {ts : List Token} {f : Formula} → IsFormula a n ts f
+  fits : {a : Atoms Form} {n : ℕ} {ts : List Token} {f : Form} → IsFormula a n ts f
       → (v : Version) (room o c : ℕ) (rest : List Token) → o + room ≡ c + most_depth
       → opens_over o c (ts ++ rest) ≡ false → Fits v room ts rest
   fits (looser d) v room o c rest e h = fits d v room o c rest e h
@@ -330,7 +330,7 @@ mutual
       (record { opened = o; closed = c; left = e; on = number_passes o c op t w digits rest d h })
       (number_ends v t digits d)
 
-  list_fits : {a : Atoms Formula} {ts : List Token} {fs : Terms} → IsList a ts fs
+  list_fits : {a : Atoms Form} {ts : List Token} {fs : Forms} → IsList a ts fs
       → (v : Version) (room o c : ℕ) (rest : List Token) → o + room ≡ c + most_depth
       → opens_over o c (ts ++ rest) ≡ false → PartsFit v room ts rest
   list_fits none v room o c rest e h =
@@ -341,7 +341,7 @@ mutual
       }
   list_fits (some d) v room o c rest e h = items_fit d v room o c rest e h
 
-  items_fit : {a : Atoms Formula} {ts : List Token} {fs : Terms} → IsItems a ts fs
+  items_fit : {a : Atoms Form} {ts : List Token} {fs : Forms} → IsItems a ts fs
       → (v : Version) (room o c : ℕ) (rest : List Token) → o + room ≡ c + most_depth
       → opens_over o c (ts ++ rest) ≡ false → PartsFit v room ts rest
   items_fit (last {ts = ts} d) v room o c rest e h = fit_last v room ts rest (fits d v room o c rest e h)
@@ -354,6 +354,6 @@ mutual
       fit_more v room ts us rest one two
 
 -- no more than `most_tokens` of its nodes
-pub few_tokens : (v : Version) (a : Atoms Formula) (ts : List Token) (f : Formula) → IsFormula a 1 ts f
+pub few_tokens : (v : Version) (a : Atoms Form) (ts : List Token) (f : Form) → IsFormula a 1 ts f
     → opens_over 0 0 ts ≡ false → length ts ≤ most_tokens (nodes_of v ts)
 few_tokens v a ts f d h = (fits d v most_depth 0 0 [] refl (ap (opens_over 0 0) (append-nil ts) ∙ h)).few

@@ -2,17 +2,16 @@
 use Rattle.std.proofs.Common.{◌≡◌, ◌+◌, ◌≤◌, ◌<◌, ℕ, suc, Bool, true, false, List, [], ◌∷◌, refl, sym, ap, ◌∙◌, Option, Some, None, cond, nat_le, max, arith, option_and_then}
 use Rattle.std.specs.Option.{option_map}
 use Rattle.std.specs.List.{fold}
-use Rattle.olap_ast.specs.Formula as Meaning
-use Rattle.olap_ast.specs.Formula.{Formula, Terms}
+use Rattle.olap_grammar.specs.Forms as shapes
+use Rattle.olap_grammar.specs.Forms.{Form, Forms}
 use Rattle.olap_base.specs.Limits.{most_depth}
 use Rattle.olap_numerals.specs.Comparing.{Op}
-use Rattle.olap_grammar.specs.Grammar.{Atoms, level, left_level, join}
-use Rattle.olap_ast.specs.Valid.{depth_of, depth_of_terms}
+use Rattle.olap_grammar.specs.Grammar.{Atoms, level, left_level}
+use Rattle.olap_grammar.specs.Forms.{depth_of, depth_of_all}
 use Rattle.olap_grammar.specs.declared.tokens.Token.{Token}
 use Rattle.olap_grammar.specs.declared.tokens.Token.TheVariants as token
 use Rattle.olap_grammar.specs.declared.tokens.Mark.TheVariants as mark
 use Rattle.olap_grammar.specs.declared.tokens.Joint.{Joint}
-use Rattle.olap_grammar.specs.declared.tokens.Joint.TheVariants as joint
 use Rattle.olap_grammar.specs.Machine.{the_formula, trees, Making, Frame, Negation, Left, Bracket, Listing, Part, State, Wants, WantsPart, Named, Compared, Has, Bad, settled, list_closed, closed, parted, after, begun, begun_part, is_one, after_atom, after_word, has_atom, after_compared, step, alone, ended, formula_read}
 use Rattle.olap_grammar.specs.Clip.{AreLeaves, clip, clip_terms, clipped, kept, kept_terms, leaves}
 
@@ -243,20 +242,12 @@ module _ {A B L M : Type 0} (m : Making A L) (n : Making B M) (h : A → B) (k :
 
 -- ---- clipping
 
--- two joined formulas are one level deeper than the deeper
-joins_depth : (j : Joint) (f g : Formula) → depth_of (join j f g) ≡ 1 + max (depth_of f) (depth_of g)
-joins_depth joint.Iff f g = refl
-joins_depth joint.Implies f g = refl
-joins_depth joint.Xor f g = refl
-joins_depth joint.Or f g = refl
-joins_depth joint.And f g = refl
-
 -- a tree that is too deep isn't built
-deep : (d : ℕ) (f : Formula) → nat_le d most_depth ≡ false → kept d f ≡ (suc most_depth, Meaning.Formula.Truth)
+deep : (d : ℕ) (f : Form) → nat_le d most_depth ≡ false → kept d f ≡ (suc most_depth, (shapes.Form.Of shapes.Atom.Truth))
 deep d f e = rw e refl
 
 -- nor are parts
-deep_terms : (d : ℕ) (fs : Terms) → nat_le d most_depth ≡ false → kept_terms d fs ≡ (suc most_depth, Meaning.Terms.End)
+deep_terms : (d : ℕ) (fs : Forms) → nat_le d most_depth ≡ false → kept_terms d fs ≡ (suc most_depth, shapes.Forms.End)
 deep_terms d fs e = rw e refl
 
 -- what is deeper is too deep too
@@ -268,86 +259,86 @@ over : (d : ℕ) → most_depth < d → nat_le d most_depth ≡ false
 over d h = grind (arith)
 
 -- a negation, as far as it is built
-negates : (f : Formula) → clipped.negate (clip f) ≡ clip (Meaning.Formula.Not f)
+negates : (f : Form) → clipped.negate (clip f) ≡ clip (shapes.Form.Not f)
 negates f = go (nat_le (depth_of f) most_depth) refl
   where
-    go : (r : Bool) → nat_le (depth_of f) most_depth ≡ r → clipped.negate (clip f) ≡ clip (Meaning.Formula.Not f)
+    go : (r : Bool) → nat_le (depth_of f) most_depth ≡ r → clipped.negate (clip f) ≡ clip (shapes.Form.Not f)
     go true e = rw e refl
     go false e =
         rw e (sym
-        (deep (1 + depth_of f) (Meaning.Formula.Not f) (too_deep (depth_of f) (1 + depth_of f) (omega arith) e)))
+        (deep (1 + depth_of f) (shapes.Form.Not f) (too_deep (depth_of f) (1 + depth_of f) (omega arith) e)))
 
 -- a list
-ones : (fs : Terms) → clipped.one (clip_terms fs) ≡ clip (Meaning.Formula.One fs)
-ones fs = go (nat_le (depth_of_terms fs) most_depth) refl
+ones : (fs : Forms) → clipped.one (clip_terms fs) ≡ clip (shapes.Form.One fs)
+ones fs = go (nat_le (depth_of_all fs) most_depth) refl
   where
-    go : (r : Bool) → nat_le (depth_of_terms fs) most_depth ≡ r
-        → clipped.one (clip_terms fs) ≡ clip (Meaning.Formula.One fs)
+    go : (r : Bool) → nat_le (depth_of_all fs) most_depth ≡ r
+        → clipped.one (clip_terms fs) ≡ clip (shapes.Form.One fs)
     go true e = rw e refl
     go false e =
-        rw e (sym (deep (1 + depth_of_terms fs) (Meaning.Formula.One fs)
-        (too_deep (depth_of_terms fs) (1 + depth_of_terms fs) (omega arith) e)))
+        rw e (sym (deep (1 + depth_of_all fs) (shapes.Form.One fs)
+        (too_deep (depth_of_all fs) (1 + depth_of_all fs) (omega arith) e)))
 
 -- two formulas with a connective
-joins : (j : Joint) (f g : Formula) → clipped.join j (clip f) (clip g) ≡ clip (join j f g)
+joins : (j : Joint) (f g : Form) → clipped.join j (clip f) (clip g) ≡ clip (shapes.Form.Joined j f g)
 joins j f g = go (nat_le (depth_of f) most_depth) (nat_le (depth_of g) most_depth) refl refl
   where
     go : (r q : Bool) → nat_le (depth_of f) most_depth ≡ r → nat_le (depth_of g) most_depth ≡ q
-        → clipped.join j (clip f) (clip g) ≡ clip (join j f g)
-    go true true e u = rw (e, u, joins_depth j f g) refl
+        → clipped.join j (clip f) (clip g) ≡ clip (shapes.Form.Joined j f g)
+    go true true e u = rw (e, u) refl
     go true false e u =
-        let l = deep (1 + max (depth_of f) (suc most_depth)) (join j f Meaning.Formula.Truth)
+        let l = deep (1 + max (depth_of f) (suc most_depth)) (shapes.Form.Joined j f (shapes.Form.Of shapes.Atom.Truth))
         (over (1 + max (depth_of f) (suc most_depth)) (omega arith)) in
-        rw (e, u, joins_depth j f g)
-        (l ∙ sym (deep (1 + max (depth_of f) (depth_of g)) (join j f g)
+        rw (e, u)
+        (l ∙ sym (deep (1 + max (depth_of f) (depth_of g)) (shapes.Form.Joined j f g)
         (too_deep (depth_of g) (1 + max (depth_of f) (depth_of g)) (omega arith) u)))
     go false true e u =
-        let l = deep (1 + max (suc most_depth) (depth_of g)) (join j Meaning.Formula.Truth g)
+        let l = deep (1 + max (suc most_depth) (depth_of g)) (shapes.Form.Joined j (shapes.Form.Of shapes.Atom.Truth) g)
         (over (1 + max (suc most_depth) (depth_of g)) (omega arith)) in
-        rw (e, u, joins_depth j f g)
-        (l ∙ sym (deep (1 + max (depth_of f) (depth_of g)) (join j f g)
+        rw (e, u)
+        (l ∙ sym (deep (1 + max (depth_of f) (depth_of g)) (shapes.Form.Joined j f g)
         (too_deep (depth_of f) (1 + max (depth_of f) (depth_of g)) (omega arith) e)))
     go false false e u =
-        rw (e, u, joins_depth j f g)
-        (sym (deep (1 + max (depth_of f) (depth_of g)) (join j f g)
+        rw (e, u)
+        (sym (deep (1 + max (depth_of f) (depth_of g)) (shapes.Form.Joined j f g)
         (too_deep (depth_of f) (1 + max (depth_of f) (depth_of g)) (omega arith) e)))
 
 -- one part more
-mores : (f : Formula) (fs : Terms) → clipped.more (clip f) (clip_terms fs) ≡ clip_terms (Meaning.Terms.More f fs)
-mores f fs = go (nat_le (depth_of f) most_depth) (nat_le (depth_of_terms fs) most_depth) refl refl
+mores : (f : Form) (fs : Forms) → clipped.more (clip f) (clip_terms fs) ≡ clip_terms (shapes.Forms.More f fs)
+mores f fs = go (nat_le (depth_of f) most_depth) (nat_le (depth_of_all fs) most_depth) refl refl
   where
-    go : (r q : Bool) → nat_le (depth_of f) most_depth ≡ r → nat_le (depth_of_terms fs) most_depth ≡ q
-        → clipped.more (clip f) (clip_terms fs) ≡ clip_terms (Meaning.Terms.More f fs)
+    go : (r q : Bool) → nat_le (depth_of f) most_depth ≡ r → nat_le (depth_of_all fs) most_depth ≡ q
+        → clipped.more (clip f) (clip_terms fs) ≡ clip_terms (shapes.Forms.More f fs)
     go true true e u = rw (e, u) refl
     go true false e u =
-        let l = deep_terms (max (depth_of f) (suc most_depth)) (Meaning.Terms.More f Meaning.Terms.End)
+        let l = deep_terms (max (depth_of f) (suc most_depth)) (shapes.Forms.More f shapes.Forms.End)
         (over (max (depth_of f) (suc most_depth)) (omega arith)) in
         rw (e, u)
-        (l ∙ sym (deep_terms (max (depth_of f) (depth_of_terms fs)) (Meaning.Terms.More f fs)
-        (too_deep (depth_of_terms fs) (max (depth_of f) (depth_of_terms fs)) (omega arith) u)))
+        (l ∙ sym (deep_terms (max (depth_of f) (depth_of_all fs)) (shapes.Forms.More f fs)
+        (too_deep (depth_of_all fs) (max (depth_of f) (depth_of_all fs)) (omega arith) u)))
     go false true e u =
-        let l = deep_terms (max (suc most_depth) (depth_of_terms fs)) (Meaning.Terms.More Meaning.Formula.Truth fs)
-        (over (max (suc most_depth) (depth_of_terms fs)) (omega arith)) in
+        let l = deep_terms (max (suc most_depth) (depth_of_all fs)) (shapes.Forms.More (shapes.Form.Of shapes.Atom.Truth) fs)
+        (over (max (suc most_depth) (depth_of_all fs)) (omega arith)) in
         rw (e, u)
-        (l ∙ sym (deep_terms (max (depth_of f) (depth_of_terms fs)) (Meaning.Terms.More f fs)
-        (too_deep (depth_of f) (max (depth_of f) (depth_of_terms fs)) (omega arith) e)))
+        (l ∙ sym (deep_terms (max (depth_of f) (depth_of_all fs)) (shapes.Forms.More f fs)
+        (too_deep (depth_of f) (max (depth_of f) (depth_of_all fs)) (omega arith) e)))
     go false false e u =
         rw (e, u)
-        (sym (deep_terms (max (depth_of f) (depth_of_terms fs)) (Meaning.Terms.More f fs)
-        (too_deep (depth_of f) (max (depth_of f) (depth_of_terms fs)) (omega arith) e)))
+        (sym (deep_terms (max (depth_of f) (depth_of_all fs)) (shapes.Forms.More f fs)
+        (too_deep (depth_of f) (max (depth_of f) (depth_of_all fs)) (omega arith) e)))
 
 -- so what is built keeps what is read
 clip_keeps : Keeps trees clipped clip clip_terms
 clip_keeps = record { negate = negates; join = joins; one = ones; end = refl; more = mores }
 
 -- an atom of depth 1 is kept whole
-leaf : (o : Option Formula) → ((f : Formula) → o ≡ Some f → depth_of f ≡ 1)
+leaf : (o : Option Form) → ((f : Form) → o ≡ Some f → depth_of f ≡ 1)
     → option_map (λ f. (1, f)) o ≡ option_map clip o
 leaf None h = refl
 leaf (Some f) h = rw (h f refl) refl
 
 -- and atoms do
-leaves_keep : (a : Atoms Formula) → AreLeaves a → KeepsAtoms a (leaves a) clip
+leaves_keep : (a : Atoms Form) → AreLeaves a → KeepsAtoms a (leaves a) clip
 leaves_keep a h = record {
   plain = λ w. leaf (a.plain w) (h.plain w);
   equal = λ w k. leaf (a.equal w k) (h.equal w k);
@@ -355,7 +346,7 @@ leaves_keep a h = record {
 }
 
 -- the reader that builds no deeper tree reads what the reader reads
-pub reads_clipped : (a : Atoms Formula) (ts : List Token) → AreLeaves a
+pub reads_clipped : (a : Atoms Form) (ts : List Token) → AreLeaves a
     → formula_read clipped (leaves a) ts ≡ option_map clip (the_formula a ts)
 unfolding the_formula
 reads_clipped a ts h = reads_along trees clipped clip clip_terms clip_keeps a (leaves a) (leaves_keep a h) ts

@@ -1,10 +1,10 @@
 -- From the reader to formulas.
-use Rattle.std.proofs.Common.{◌≡◌, List, [], ◌∷◌, refl, Some}
+use Rattle.std.proofs.Common.{◌≡◌, List, [], ◌∷◌, refl, Some, Err}
 use Rattle.std.specs.List.{fold}
-use Rattle.olap_ast.specs.Formula as Meaning
+use Rattle.olap_grammar.specs.Forms.{Form}
 use Rattle.olap_grammar.specs.Clip.{clipped}
 use Rattle.olap_grammar.specs.Grammar.{Atoms, IsFormula}
-use Rattle.olap_grammar.specs.Machine.{State, Bad, step, ended, the_formula}
+use Rattle.olap_grammar.specs.Machine.{Frame, State, Bad, step, ended, the_formula}
 use Rattle.olap_grammar.specs.Reader.{Built, ReadsNone}
 use Rattle.olap_grammar.specs.declared.tokens.Token.{Token}
 use Rattle.olap_base.specs.Refusing.{IsFor}
@@ -15,19 +15,19 @@ use Rattle.olap_grammar.proofs.Complete.{formula_is_read}
 use Rattle.olap_grammar.proofs.Sound.{read_is_formula}
 
 -- a formula is found
-pub formula_is_found : (a : Atoms Meaning.Formula) (ts : List Token) (f : Meaning.Formula) → IsFormula a 1 ts f
+pub formula_is_found : (a : Atoms Form) (ts : List Token) (f : Form) → IsFormula a 1 ts f
     → the_formula a ts ≡ Some f
 unfolding the_formula
 formula_is_found a ts f d = formula_is_read a ts f d
 
 -- what is found is a formula
-pub found_is_formula : (a : Atoms Meaning.Formula) (ts : List Token) (f : Meaning.Formula) → the_formula a ts ≡ Some f
+pub found_is_formula : (a : Atoms Form) (ts : List Token) (f : Form) → the_formula a ts ≡ Some f
     → IsFormula a 1 ts f
 unfolding the_formula
 found_is_formula a ts f e = read_is_formula a ts f e
 
 -- tokens are at most one formula
-pub one_tree : (a : Atoms Meaning.Formula) (ts : List Token) (f g : Meaning.Formula) → IsFormula a 1 ts f
+pub one_tree : (a : Atoms Form) (ts : List Token) (f g : Form) → IsFormula a 1 ts f
     → IsFormula a 1 ts g → f ≡ g
 one_tree a ts f g d e =
     let p : the_formula a ts ≡ Some f = formula_is_found a ts f d in

@@ -7,41 +7,41 @@
 use Rattle.std.specs.Prelude.{◌≡◌, ◌+◌, ℕ, suc, List, Some, cond, nat_le, max}
 use Rattle.std.specs.Option.{option_map}
 use Rattle.olap_numerals.specs.Comparing.{Op}
-use Rattle.olap_ast.specs.Formula as Meaning
-use Rattle.olap_ast.specs.Formula.{Formula, Terms}
-use Rattle.olap_ast.specs.Valid.{depth_of, depth_of_terms}
+use Rattle.olap_grammar.specs.Forms as words
+use Rattle.olap_grammar.specs.Forms.{Form, Forms}
+use Rattle.olap_grammar.specs.Forms.{depth_of, depth_of_all}
 use Rattle.olap_base.specs.Limits.{most_depth}
-use Rattle.olap_grammar.specs.Grammar.{Atoms, join}
+use Rattle.olap_grammar.specs.Grammar.{Atoms}
 use Rattle.olap_grammar.specs.Machine.{Making}
 
 -- a depth up to the most there may be and the tree, or one more and no tree to speak of
-abbrev pub kept : ℕ → Formula → ℕ × Formula
-kept d f = cond (nat_le d most_depth) (d, f) (suc most_depth, Meaning.Formula.Truth)
+abbrev pub kept : ℕ → Form → ℕ × Form
+kept d f = cond (nat_le d most_depth) (d, f) (suc most_depth, (words.Form.Of words.Atom.Truth))
 
 -- the same of the parts of a list
-abbrev pub kept_terms : ℕ → Terms → ℕ × Terms
-kept_terms d fs = cond (nat_le d most_depth) (d, fs) (suc most_depth, Meaning.Terms.End)
+abbrev pub kept_terms : ℕ → Forms → ℕ × Forms
+kept_terms d fs = cond (nat_le d most_depth) (d, fs) (suc most_depth, words.Forms.End)
 
 -- a formula as far as it is built, with its depth
-abbrev pub clip : Formula → ℕ × Formula
+abbrev pub clip : Form → ℕ × Form
 clip f = kept (depth_of f) f
 
 -- the same of the parts of a list
-abbrev pub clip_terms : Terms → ℕ × Terms
-clip_terms fs = kept_terms (depth_of_terms fs) fs
+abbrev pub clip_terms : Forms → ℕ × Forms
+clip_terms fs = kept_terms (depth_of_all fs) fs
 
 -- formulas are put together as far as they are no deeper than one may be
-abbrev pub clipped : Making (ℕ × Formula) (ℕ × Terms)
+abbrev pub clipped : Making (ℕ × Form) (ℕ × Forms)
 clipped = record {
-  negate = λ p. kept (1 + p.0) (Meaning.Formula.Not p.1);
-  join = λ j p q. kept (1 + max p.0 q.0) (join j p.1 q.1);
-  one = λ l. kept (1 + l.0) (Meaning.Formula.One l.1);
-  end = (0, Meaning.Terms.End);
-  more = λ p l. kept_terms (max p.0 l.0) (Meaning.Terms.More p.1 l.1);
+  negate = λ p. kept (1 + p.0) (words.Form.Not p.1);
+  join = λ j p q. kept (1 + max p.0 q.0) (words.Form.Joined j p.1 q.1);
+  one = λ l. kept (1 + l.0) (words.Form.One l.1);
+  end = (0, words.Forms.End);
+  more = λ p l. kept_terms (max p.0 l.0) (words.Forms.More p.1 l.1);
 }
 
 -- the atoms, each of depth 1
-abbrev pub leaves : Atoms Formula → Atoms (ℕ × Formula)
+abbrev pub leaves : Atoms Form → Atoms (ℕ × Form)
 leaves a = record {
   plain = λ w. option_map (λ f. (1, f)) (a.plain w);
   equal = λ w k. option_map (λ f. (1, f)) (a.equal w k);
@@ -49,7 +49,7 @@ leaves a = record {
 }
 
 -- each atom has depth 1
-pub record AreLeaves (a : Atoms Formula) : Type 0 where
-  pub plain : (w : List ℕ) (f : Formula) → a.plain w ≡ Some f → depth_of f ≡ 1
-  pub equal : (w k : List ℕ) (f : Formula) → a.equal w k ≡ Some f → depth_of f ≡ 1
-  pub compare : (w : List ℕ) (op : Op) (digits : List ℕ) (f : Formula) → a.compare w op digits ≡ Some f → depth_of f ≡ 1
+pub record AreLeaves (a : Atoms Form) : Type 0 where
+  pub plain : (w : List ℕ) (f : Form) → a.plain w ≡ Some f → depth_of f ≡ 1
+  pub equal : (w k : List ℕ) (f : Form) → a.equal w k ≡ Some f → depth_of f ≡ 1
+  pub compare : (w : List ℕ) (op : Op) (digits : List ℕ) (f : Form) → a.compare w op digits ≡ Some f → depth_of f ≡ 1

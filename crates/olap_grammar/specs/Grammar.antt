@@ -6,8 +6,8 @@
 --     IsList, IsItems                   the tokens are the parts of a list
 use Rattle.std.specs.Prelude.{◌≡◌, ℕ, suc, List, [], ◌∷◌, ◌++◌, Option, Some, None, codes}
 use Rattle.olap_numerals.specs.Comparing.{Op}
-use Rattle.olap_ast.specs.Formula as Meaning
-use Rattle.olap_ast.specs.Formula.{Formula, Terms}
+use Rattle.olap_grammar.specs.Forms as words
+use Rattle.olap_grammar.specs.Forms.{Form, Forms}
 use Rattle.olap_grammar.specs.declared.tokens.Token.{Token}
 use Rattle.olap_grammar.specs.declared.tokens.Token.TheVariants as token
 use Rattle.olap_grammar.specs.declared.tokens.Mark.{Mark}
@@ -33,14 +33,6 @@ abbrev pub right_level : Joint → ℕ
 right_level joint.Implies = 2
 right_level j = suc (level j)
 
--- the formula of two with a connective between them
-abbrev pub join : Joint → Formula → Formula → Formula
-join joint.Iff f g = Meaning.Formula.Iff f g
-join joint.Implies f g = Meaning.Formula.Implies f g
-join joint.Xor f g = Meaning.Formula.Xor f g
-join joint.Or f g = Meaning.Formula.Or f g
-join joint.And f g = Meaning.Formula.And f g
-
 -- the mark of a comparison
 abbrev pub comparing : Op → Mark
 comparing Op.Equal = mark.Equal
@@ -61,31 +53,31 @@ pub record Atoms (A : Type 0) : Type 0 where
 
 mutual
   -- the tokens are a formula of the level, or of a tighter one, with this tree
-  pub data IsFormula (a : Atoms Formula) : ℕ → List Token → Formula → Type 0 where
-    looser : {n : ℕ} {ts : List Token} {f : Formula} → IsFormula a (suc n) ts f → IsFormula a n ts f
-    joined : (j : Joint) {left right : List Token} {f g : Formula} → IsFormula a (left_level j) left f
+  pub data IsFormula (a : Atoms Form) : ℕ → List Token → Form → Type 0 where
+    looser : {n : ℕ} {ts : List Token} {f : Form} → IsFormula a (suc n) ts f → IsFormula a n ts f
+    joined : (j : Joint) {left right : List Token} {f g : Form} → IsFormula a (left_level j) left f
         → IsFormula a (right_level j) right g
-        → IsFormula a (level j) (left ++ token.Mark (mark.Joint j) ∷ right) (join j f g)
-    negated : {ts : List Token} {f : Formula} → IsFormula a 6 ts f
-        → IsFormula a 6 (token.Mark mark.Not ∷ ts) (Meaning.Formula.Not f)
-    bracketed : {ts : List Token} {f : Formula} → IsFormula a 1 ts f
+        → IsFormula a (level j) (left ++ token.Mark (mark.Joint j) ∷ right) (words.Form.Joined j f g)
+    negated : {ts : List Token} {f : Form} → IsFormula a 6 ts f
+        → IsFormula a 6 (token.Mark mark.Not ∷ ts) (words.Form.Not f)
+    bracketed : {ts : List Token} {f : Form} → IsFormula a 1 ts f
         → IsFormula a 7 (token.Mark mark.Open ∷ (ts ++ token.Mark mark.Close ∷ [])) f
-    listed : {ts : List Token} {fs : Terms} → IsList a ts fs
+    listed : {ts : List Token} {fs : Forms} → IsList a ts fs
         → IsFormula a 7 (token.Word (codes "one") ∷ token.Mark mark.Open ∷ (ts ++ token.Mark mark.Close ∷ []))
-        (Meaning.Formula.One fs)
-    plain : {w : List ℕ} {f : Formula} → a.plain w ≡ Some f → IsFormula a 7 (token.Word w ∷ []) f
-    equal : {w k : List ℕ} {f : Formula} → a.equal w k ≡ Some f
+        (words.Form.One fs)
+    plain : {w : List ℕ} {f : Form} → a.plain w ≡ Some f → IsFormula a 7 (token.Word w ∷ []) f
+    equal : {w k : List ℕ} {f : Form} → a.equal w k ≡ Some f
         → IsFormula a 7 (token.Word w ∷ token.Mark mark.Equal ∷ token.Quoted k ∷ []) f
-    compared : (op : Op) (t : Token) {w digits : List ℕ} {f : Formula} → digits_of t ≡ Some digits
+    compared : (op : Op) (t : Token) {w digits : List ℕ} {f : Form} → digits_of t ≡ Some digits
         → a.compare w op digits ≡ Some f → IsFormula a 7 (token.Word w ∷ token.Mark (comparing op) ∷ t ∷ []) f
 
   -- the tokens are no, one or more formulas with commas between them
-  pub data IsList (a : Atoms Formula) : List Token → Terms → Type 0 where
-    none : IsList a [] Meaning.Terms.End
-    some : {ts : List Token} {fs : Terms} → IsItems a ts fs → IsList a ts fs
+  pub data IsList (a : Atoms Form) : List Token → Forms → Type 0 where
+    none : IsList a [] words.Forms.End
+    some : {ts : List Token} {fs : Forms} → IsItems a ts fs → IsList a ts fs
 
   -- the tokens are one or more formulas with commas between them
-  pub data IsItems (a : Atoms Formula) : List Token → Terms → Type 0 where
-    last : {ts : List Token} {f : Formula} → IsFormula a 1 ts f → IsItems a ts (Meaning.Terms.More f Meaning.Terms.End)
-    more : {ts us : List Token} {f : Formula} {fs : Terms} → IsFormula a 1 ts f → IsItems a us fs
-        → IsItems a (ts ++ token.Mark mark.Comma ∷ us) (Meaning.Terms.More f fs)
+  pub data IsItems (a : Atoms Form) : List Token → Forms → Type 0 where
+    last : {ts : List Token} {f : Form} → IsFormula a 1 ts f → IsItems a ts (words.Forms.More f words.Forms.End)
+    more : {ts us : List Token} {f : Form} {fs : Forms} → IsFormula a 1 ts f → IsItems a us fs
+        → IsItems a (ts ++ token.Mark mark.Comma ∷ us) (words.Forms.More f fs)

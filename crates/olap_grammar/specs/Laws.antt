@@ -5,7 +5,7 @@
 --     IsOneTree         tokens have one formula at most
 --     HasFewTokens      a formula of few nodes and brackets has few tokens
 use Rattle.std.specs.Prelude.{◌≡◌, ◌≤◌, ◌↔◌, ℕ, List, Some, false, length}
-use Rattle.olap_ast.specs.Formula.{Formula}
+use Rattle.olap_grammar.specs.Forms.{Form}
 use Rattle.olap_grammar.specs.Brackets.{most_tokens, opens_over}
 use Rattle.olap_grammar.specs.Grammar.{Atoms, IsFormula}
 use Rattle.olap_grammar.specs.Cutting.{IsCut}
@@ -21,7 +21,7 @@ FoundAsCut = (v : Version) (line : List ℕ) (ts : List Token) → (tokens_of v 
 
 -- this formula is found exactly where the tokens are one with this tree
 abbrev pub FoundAsFormula : Type 0
-FoundAsFormula = (a : Atoms Formula) (ts : List Token) (f : Formula) → (the_formula a ts ≡ Some f) ↔ IsFormula a 1 ts f
+FoundAsFormula = (a : Atoms Form) (ts : List Token) (f : Form) → (the_formula a ts ≡ Some f) ↔ IsFormula a 1 ts f
 
 -- a line is cut in at most one way
 abbrev pub IsOneCut : Type 0
@@ -29,10 +29,10 @@ IsOneCut = (v : Version) (line : List ℕ) (ts us : List Token) → IsCut v line
 
 -- tokens are at most one formula
 abbrev pub IsOneTree : Type 0
-IsOneTree = (a : Atoms Formula) (ts : List Token) (f g : Formula) → IsFormula a 1 ts f → IsFormula a 1 ts g → f ≡ g
+IsOneTree = (a : Atoms Form) (ts : List Token) (f g : Form) → IsFormula a 1 ts f → IsFormula a 1 ts g → f ≡ g
 
 -- a formula in which too many brackets are never open has few tokens for its nodes
 abbrev pub HasFewTokens : Type 0
 HasFewTokens =
-    (v : Version) (a : Atoms Formula) (ts : List Token) (f : Formula) → IsFormula a 1 ts f → opens_over 0 0 ts ≡ false
+    (v : Version) (a : Atoms Form) (ts : List Token) (f : Form) → IsFormula a 1 ts f → opens_over 0 0 ts ≡ false
     → length ts ≤ most_tokens (nodes_of v ts)

@@ -2,6 +2,7 @@
 
 -- What a reader of the claims believes: how a line is cut, what the tokens are, what the readers find and answer.
 pub mod Cutting
+pub mod Forms
 pub mod Grammar
 pub mod Brackets
 pub mod Nodes
@@ -9,7 +10,6 @@ pub mod Words
 pub mod Laws
 pub mod Answering
 pub mod Quoting
-pub mod Known
 -- The inside: the readers' states, which `Laws` says find what is cut and formed.
 pub mod CuttingMachine
 pub mod Tallying
@@ -17,6 +17,7 @@ pub mod Keeping
 pub mod Cutter
 pub mod Machine
 pub mod Clip
+pub mod Shown
 pub mod Parts
 pub mod Reader
 pub mod Frames

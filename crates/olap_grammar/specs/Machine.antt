@@ -11,9 +11,9 @@ use Rattle.std.specs.Prelude.{ℕ, Bool, List, [], ◌∷◌, Option, Some, None
 use Rattle.std.specs.Cmp.Lexicographic.{pointwise}
 use Rattle.std.specs.List.{fold}
 use Rattle.olap_numerals.specs.Comparing.{Op}
-use Rattle.olap_ast.specs.Formula as Meaning
-use Rattle.olap_ast.specs.Formula.{Formula, Terms}
-use Rattle.olap_grammar.specs.Grammar.{Atoms, join, level, left_level}
+use Rattle.olap_grammar.specs.Forms as words
+use Rattle.olap_grammar.specs.Forms.{Form, Forms}
+use Rattle.olap_grammar.specs.Grammar.{Atoms, level, left_level}
 use Rattle.olap_grammar.specs.declared.tokens.Token.{Token}
 use Rattle.olap_grammar.specs.declared.tokens.Token.TheVariants as token
 use Rattle.olap_grammar.specs.declared.tokens.Mark.TheVariants as mark
@@ -141,15 +141,15 @@ abbrev pub formula_read : {A L : Type 0} → Making A L → Atoms A → List Tok
 formula_read m a ts = ended m a (fold (step m a) (Wants []) ts)
 
 -- formulas are put together as they are
-abbrev pub trees : Making Formula Terms
+abbrev pub trees : Making Form Forms
 trees = record {
-  negate = Meaning.Formula.Not;
-  join = join;
-  one = Meaning.Formula.One;
-  end = Meaning.Terms.End;
-  more = Meaning.Terms.More;
+  negate = words.Form.Not;
+  join = words.Form.Joined;
+  one = words.Form.One;
+  end = words.Forms.End;
+  more = words.Forms.More;
 }
 
 -- the formula that the tokens are, if they are one
-unfoldable pub the_formula : Atoms Formula → List Token → Option Formula
+unfoldable pub the_formula : Atoms Form → List Token → Option Form
 the_formula a ts = formula_read trees a ts

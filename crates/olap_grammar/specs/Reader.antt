@@ -5,10 +5,9 @@
 --     ReadsNone             a refusal is right where nothing was read
 --     Ends                  the end of the tokens is that of the machine
 use Rattle.std.specs.Prelude.{◌≡◌, ℕ, List, Result, Ok, Err, Option, Some, None}
-use Rattle.olap_ast.specs.Formula.{Formula}
+use Rattle.olap_grammar.specs.Forms.{Form}
 use Rattle.olap_ast.specs.Trees.{op_of}
 use Rattle.olap_grammar.specs.Machine as machine
-use Rattle.olap_base.specs.Graph.{Graph}
 use Rattle.olap_base.specs.Refusing.{IsFor}
 use Rattle.olap_base.specs.declared.refusals.Refusal.{Refusal}
 use Rattle.olap_grammar.specs.Clip.{leaves}
@@ -24,11 +23,11 @@ use Rattle.olap_grammar.specs.declared.refusals.NoFormula.{NoFormula}
 
 -- a depth and a formula
 abbrev pub Built : Type 0
-Built = ℕ × Formula
+Built = ℕ × Form
 
--- the words of formulas of a version, where the names of a graph are known
-abbrev pub leaves_of : Version → Graph → Atoms Built
-leaves_of v g = leaves (atoms_of v g)
+-- the words of formulas of a version
+abbrev pub leaves_of : Version → Atoms Built
+leaves_of v = leaves (atoms_of v)
 
 -- what is open, as the machine has it
 abbrev pub frame_of : Frame → machine.Frame Built

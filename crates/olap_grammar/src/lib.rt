@@ -1,14 +1,14 @@
 //! Tokens of a schema's lines, and the formulas that they are.
 //!
-//! `first_tokens` cuts a line, and `formula` reads tokens as a formula. What they find is the grammar's: a relation by
-//! cases between bytes and tokens (`specs/Cutting`), and one between tokens and a formula's tree (`specs/Grammar`);
-//! `laws` say so. Neither calls itself: what is open stands on a list in memory, however deep a text is. Names are
-//! looked up in a graph; what a schema's text is isn't known here.
+//! `first_tokens` cuts a line, and `formula` reads tokens as a formula over words. What they find is the grammar's: a
+//! relation by cases between bytes and tokens (`specs/Cutting`), and one between tokens and a formula's tree
+//! (`specs/Grammar`); `laws` say so. Neither calls itself: what is open stands on a list in memory, however deep a text
+//! is. No name is looked up; what a schema's text is isn't known here.
 #![tactic(auto)]
 
 mod closing;
 mod cutting;
-mod knowing;
+mod forms;
 mod laws;
 mod parts;
 mod quoting;
@@ -20,7 +20,7 @@ mod tokens;
 mod words;
 
 pub use cutting::{FirstTokens, first_tokens};
-pub use knowing::Known;
+pub use forms::{Atom, Form, Forms};
 pub use laws::{
     a_line_is_cut_in_one_way, formulas_are_found_as_formed, formulas_have_few_tokens,
     tokens_are_found_as_cut, tokens_are_one_formula,

@@ -2,7 +2,6 @@
 ghost use Rattle.olap_grammar.specs.Answering.{Answers, formula_answer};
 ghost use Rattle.olap_grammar.specs.Clip.{clipped};
 ghost use Rattle.olap_grammar.specs.Frames.{frames};
-ghost use Rattle.olap_grammar.specs.Known.{graph_seen};
 ghost use Rattle.olap_grammar.specs.Machine as machine;
 ghost use Rattle.olap_grammar.specs.Machine.{the_formula};
 ghost use Rattle.olap_grammar.specs.Parts.{part_of};
@@ -10,7 +9,9 @@ ghost use Rattle.olap_grammar.specs.Reader.{Built, Ends, GoesTo, frame_of, leave
 ghost use Rattle.olap_grammar.specs.Words.{atoms_of};
 ghost use Rattle.olap_grammar.specs.declared.tokens.Mark.TheVariants as the_mark;
 ghost use Rattle.olap_grammar.specs.declared.tokens.Token.TheVariants as the_token;
-ghost use Rattle.olap_ast.specs.Trees.{formula_of, op_of};
+ghost use Rattle.olap_ast.specs.Trees.{op_of};
+ghost use Rattle.olap_grammar.specs.Forms as words;
+ghost use Rattle.olap_grammar.specs.Shown.{atom_of};
 ghost use Rattle.std.specs.Option.{option_map};
 ghost use Rattle.std.specs.Prelude.{◌≡◌, [], ◌∷◌, IfOk, List};
 
@@ -19,8 +20,8 @@ use crate::parts::{Part, leaf, no_parts, one};
 use crate::refusals::NoFormula;
 use crate::stacking::{Frame, Stack};
 use crate::words::{comparison, equality, is, plain_word};
-use crate::{FormFault, Joint, Known, Mark, Token, Version};
-use olap_ast::{Formula, Op};
+use crate::{Atom, Form, FormFault, Joint, Mark, Token, Version};
+use olap_ast::Op;
 use olap_base::{MOST_DEPTH, Memory, Refusal, Text};
 use std::alloc::Global;
 
@@ -142,7 +143,6 @@ fn begin_part<'a>(
 /// After a word that stands by itself.
 fn after_plain<'a>(
     alloc: Global,
-    known: &Known,
     version: Version,
     word: &Text,
     whole: &mut Part,
@@ -150,11 +150,11 @@ fn after_plain<'a>(
     token: &Token,
 ) -> Result<State<'a>, Refusal<NoFormula>>
     ensures { GoesTo result (part_of whole.new) (frames stack.new) (machine.after_atom clipped
-        ((leaves_of version (graph_seen known.now)).plain word.now) (frames stack.old) token.now) }
+        ((leaves_of version).plain word.now) (frames stack.old) token.now) }
 {
-    match plain_word(alloc, known, word)? {
-        Some(f) => {
-            *whole = leaf(f);
+    match plain_word(alloc, word.bytes())? {
+        Some(atom) => {
+            *whole = leaf(Form::Atom(atom));
             after(alloc, whole, stack, token)
         }
         None => Err(Refusal::Kind(NoFormula)),
@@ -164,7 +164,6 @@ fn after_plain<'a>(
 /// After a word.
 fn after_word<'a>(
     alloc: Global,
-    known: &Known,
     version: Version,
     word: &'a Text,
     whole: &mut Part,
@@ -172,7 +171,7 @@ fn after_word<'a>(
     token: &Token,
 ) -> Result<State<'a>, Refusal<NoFormula>>
     ensures { GoesTo result (part_of whole.new) (frames stack.new)
-        (machine.after_word clipped (leaves_of version (graph_seen known.now)) word.now (frames stack.old) token.now) }
+        (machine.after_word clipped (leaves_of version) word.now (frames stack.old) token.now) }
 {
     match token {
         Token::Mark(Mark::Open) => {
@@ -185,30 +184,29 @@ fn after_word<'a>(
         Token::Mark(Mark::Equal) => Ok(State::Compared(word, Op::Equal)),
         Token::Mark(Mark::Less) => Ok(State::Compared(word, Op::Less)),
         Token::Mark(Mark::AtMost) => Ok(State::Compared(word, Op::AtMost)),
-        _ => after_plain(alloc, known, version, word, whole, stack, token),
+        _ => after_plain(alloc, version, word, whole, stack, token),
     }
 }
 
 /// The atom of a word with a mark that compares and a token, if they are one.
 fn compared_atom(
     alloc: Global,
-    known: &Known,
     version: Version,
     word: &Text,
     op: Op,
     token: &Token,
-) -> Result<Option<Formula>, Memory>
+) -> Result<Option<Atom>, Memory>
     ensures { IfOk result (λ atom. (s : List (machine.Frame Built)) →
-        machine.has_atom (option_map (λ f. (1, formula_of f)) atom) s
-        ≡ machine.after_compared (leaves_of version (graph_seen known.now)) word.now (op_of op) s token.now) }
+        machine.has_atom (option_map (λ a. (1, words.Form.Of (atom_of a))) atom) s
+        ≡ machine.after_compared (leaves_of version) word.now (op_of op) s token.now) }
 {
     match token {
         Token::Quoted(text) => match op {
-            Op::Equal => equality(alloc, known, word, text),
+            Op::Equal => equality(alloc, word.bytes(), text.bytes()),
             _ => Ok(None),
         },
-        Token::Word(digits) => comparison(alloc, known, version, word, op, digits),
-        Token::Signed(digits) => comparison(alloc, known, version, word, op, digits),
+        Token::Word(digits) => comparison(alloc, version, word.bytes(), op, digits.bytes()),
+        Token::Signed(digits) => comparison(alloc, version, word.bytes(), op, digits.bytes()),
         _ => Ok(None),
     }
 }
@@ -216,7 +214,6 @@ fn compared_atom(
 /// After a word with a mark that compares.
 fn after_compared<'a>(
     alloc: Global,
-    known: &Known,
     version: Version,
     word: &Text,
     op: Op,
@@ -224,11 +221,11 @@ fn after_compared<'a>(
     token: &Token,
 ) -> Result<State<'a>, Refusal<NoFormula>>
     ensures { (s : List (machine.Frame Built)) → GoesTo result (part_of whole.new) s
-        (machine.after_compared (leaves_of version (graph_seen known.now)) word.now (op_of op) s token.now) }
+        (machine.after_compared (leaves_of version) word.now (op_of op) s token.now) }
 {
-    match compared_atom(alloc, known, version, word, op, token)? {
-        Some(f) => {
-            *whole = leaf(f);
+    match compared_atom(alloc, version, word, op, token)? {
+        Some(atom) => {
+            *whole = leaf(Form::Atom(atom));
             Ok(State::Has)
         }
         None => Err(Refusal::Kind(NoFormula)),
@@ -237,7 +234,6 @@ fn after_compared<'a>(
 
 fn step<'a>(
     alloc: Global,
-    known: &Known,
     version: Version,
     state: State<'a>,
     whole: &mut Part,
@@ -245,14 +241,14 @@ fn step<'a>(
     token: &'a Token,
 ) -> Result<State<'a>, Refusal<NoFormula>>
     ensures { GoesTo result (part_of whole.new) (frames stack.new) (machine.step clipped
-        (leaves_of version (graph_seen known.now))
+        (leaves_of version)
         (state_of state.entry (part_of whole.old) (frames stack.old)) token.now) }
 {
     match state {
         State::Wants => begin(stack, token),
         State::WantsPart => begin_part(whole, stack, token),
-        State::Named(word) => after_word(alloc, known, version, word, whole, stack, token),
-        State::Compared(word, op) => after_compared(alloc, known, version, word, op, whole, token),
+        State::Named(word) => after_word(alloc, version, word, whole, stack, token),
+        State::Compared(word, op) => after_compared(alloc, version, word, op, whole, token),
         State::Has => after(alloc, whole, stack, token),
     }
 }
@@ -272,18 +268,17 @@ fn alone(alloc: Global, whole: &mut Part, stack: &mut Stack) -> Result<(), Refus
 /// A word that nothing is open in front of.
 fn plain_alone(
     alloc: Global,
-    known: &Known,
     version: Version,
     word: &Text,
     whole: &mut Part,
     stack: &mut Stack,
 ) -> Result<(), Refusal<NoFormula>>
-    ensures { Ends result (part_of whole.new) (machine.ended clipped (leaves_of version (graph_seen known.now))
+    ensures { Ends result (part_of whole.new) (machine.ended clipped (leaves_of version)
         (machine.State.Named word.now (frames stack.old))) }
 {
-    match plain_word(alloc, known, word)? {
-        Some(f) => {
-            *whole = leaf(f);
+    match plain_word(alloc, word.bytes())? {
+        Some(atom) => {
+            *whole = leaf(Form::Atom(atom));
             alone(alloc, whole, stack)
         }
         None => Err(Refusal::Kind(NoFormula)),
@@ -292,18 +287,17 @@ fn plain_alone(
 
 fn end(
     alloc: Global,
-    known: &Known,
     version: Version,
     state: State,
     whole: &mut Part,
     stack: &mut Stack,
 ) -> Result<(), Refusal<NoFormula>>
-    ensures { Ends result (part_of whole.new) (machine.ended clipped (leaves_of version (graph_seen known.now))
+    ensures { Ends result (part_of whole.new) (machine.ended clipped (leaves_of version)
         (state_of state.entry (part_of whole.old) (frames stack.old))) }
 {
     match state {
         State::Has => alone(alloc, whole, stack),
-        State::Named(word) => plain_alone(alloc, known, version, word, whole, stack),
+        State::Named(word) => plain_alone(alloc, version, word, whole, stack),
         _ => Err(Refusal::Kind(NoFormula)),
     }
 }
@@ -311,7 +305,6 @@ fn end(
 /// The formula that the tokens are becomes the whole.
 fn read_tokens(
     alloc: Global,
-    known: &Known,
     version: Version,
     whole: &mut Part,
     stack: &mut Stack,
@@ -319,18 +312,18 @@ fn read_tokens(
 ) -> Result<(), Refusal<NoFormula>>
     requires { frames stack.old ≡ [] }
     ensures { Ends result (part_of whole.new)
-        (machine.formula_read clipped (leaves_of version (graph_seen known.now)) tokens.now) }
+        (machine.formula_read clipped (leaves_of version) tokens.now) }
 {
     let mut state = State::Wants;
     let mut left = tokens;
     'tokens: while let Some((token, others)) = left.split_first() {
-        match step(alloc, known, version, state, whole, stack, token) {
+        match step(alloc, version, state, whole, stack, token) {
             Ok(next) => state = next,
             Err(e) => return Err(e),
         }
         left = others;
     }
-    end(alloc, known, version, state, whole, stack)
+    end(alloc, version, state, whole, stack)
 }
 
 /// The formula of the version that the tokens are.
@@ -339,17 +332,16 @@ fn read_tokens(
 /// is deeper than one more comes about, whatever the tokens are. `Memory` where there is no room.
 pub fn formula(
     alloc: Global,
-    known: &Known,
     version: Version,
     tokens: &[Token],
-) -> Result<Formula, Refusal<FormFault>>
-    ensures { Answers result (formula_answer (the_formula (atoms_of version (graph_seen known.now)) tokens.now)) }
+) -> Result<Form, Refusal<FormFault>>
+    ensures { Answers result (formula_answer (the_formula (atoms_of version) tokens.now)) }
 {
-    let mut whole = leaf(Formula::True);
+    let mut whole = leaf(Form::Atom(Atom::True));
     let mut stack = Stack::new(alloc);
-    match read_tokens(alloc, known, version, &mut whole, &mut stack, tokens) {
+    match read_tokens(alloc, version, &mut whole, &mut stack, tokens) {
         Ok(()) if whole.depth > MOST_DEPTH as u8 => Err(Refusal::Kind(FormFault::TooDeep)),
-        Ok(()) => Ok(whole.into_formula()),
+        Ok(()) => Ok(whole.into_form()),
         Err(Refusal::Kind(NoFormula)) => Err(Refusal::Kind(FormFault::BadForm)),
         Err(Refusal::Memory(m)) => Err(Refusal::Memory(m)),
     }

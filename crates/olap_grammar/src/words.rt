@@ -1,23 +1,22 @@
 // Words of formulas, and their parts.
-ghost use Rattle.olap_ast.specs.Formula as meaning;
-ghost use Rattle.olap_ast.specs.Trees.{formula_of, op_of};
+ghost use Rattle.olap_ast.specs.Trees.{op_of};
 ghost use Rattle.olap_base.specs.Bytes.{full_stop, underscore};
 ghost use Rattle.olap_base.specs.Reaching.{is_category_name as is_name_of};
-ghost use Rattle.olap_numerals.specs.Comparing as comparing;
 ghost use Rattle.olap_numerals.specs.Numerals.{digits_in};
-ghost use Rattle.olap_grammar.specs.Known.{graph_seen};
-ghost use Rattle.olap_grammar.specs.Words.{compared_of, comparison_in, comparison_of, equal_of, equality_of, id_of, is_number_token as is_number_token_of, path_of, pieces_behind, pieces_of, plain_of, reach_of};
+ghost use Rattle.olap_grammar.specs.Cutting.{has_numbers as has_numbers_of};
+ghost use Rattle.olap_grammar.specs.Forms as words;
+ghost use Rattle.olap_grammar.specs.Shown.{atom_of};
+ghost use Rattle.olap_grammar.specs.Words.{compare_of, compared_in, ends_of, equal_of, is_number_token as is_number_token_of, path_of, pieces_behind, pieces_of, plain_of, reach_of};
 ghost use Rattle.std.specs.Char.{is_ascii_digit};
 ghost use Rattle.std.specs.List.{list_all, position};
 ghost use Rattle.std.specs.Option.{option_map};
-ghost use Rattle.std.specs.Prelude.{◌≡◌, ◌==◌, ◌<◌, ◌+◌, ◌++◌, ◌∷◌, ℕ, ℤ, IfOk, OnOk, IfSome, List as Items, None, Some, if◌then◌else◌, length, map, vec_len};
+ghost use Rattle.std.specs.Prelude.{◌≡◌, ◌==◌, ◌<◌, ◌+◌, ◌++◌, ◌∷◌, IfOk, OnOk, IfSome, length, vec_len};
 ghost use Rattle.std.specs.Str.{bytes_eq};
 
-use crate::{Known, Version};
-use olap_ast::{Formula, Op};
-use olap_base::{CatId, List, Memory, Text};
+use crate::{Atom, Version};
+use olap_ast::Op;
+use olap_base::{Memory, Text};
 use olap_graph::category_name;
-use olap_numerals::number;
 use std::alloc::Global;
 
 /// Whether the word is that text.
@@ -32,17 +31,6 @@ fn is_name(bytes: &[u8]) -> bool
     ensures { result ≡ is_name_of bytes.now }
 {
     category_name(bytes)
-}
-
-/// The category of that name, and a number that none has where there is none.
-#[tactic(auto, unfolding(crate::specs::Words::id_of))]
-fn id(known: &Known, name: &[u8]) -> CatId
-    ensures { result.0 ≡ id_of (graph_seen known.now) name.now }
-{
-    match known.category(name) {
-        Some(c) => c,
-        None => CatId(u16::MAX),
-    }
 }
 
 /// How many marks stand in a word: one less than it has parts.
@@ -98,136 +86,130 @@ pub fn pieces(alloc: Global, mark: u8, word: &[u8]) -> Result<Vec<Text>, Memory>
     }
 }
 
-fn are_names(parts: &[Text]) -> bool
-    ensures { result ≡ list_all is_name_of parts.now }
+/// Whether each part of the word between marks is a category's name.
+fn are_names(mark: u8, word: &[u8]) -> bool
+    ensures { result ≡ list_all is_name_of (pieces_of mark word.now) }
 {
-    parts.iter().all(|p| is_name(p.bytes()))
-}
-
-/// The categories of the names that are left of a word, if each part is a name.
-fn steps(alloc: Global, known: &Known, text: Option<&[u8]>) -> Result<Option<Vec<CatId>>, Memory>
-    ensures { let parts = pieces_behind underscore text.entry in
-        IfOk result (λ v. option_map
-        (λ u. map (λ c. c.0) u.items) v
-        ≡ (if list_all is_name_of parts then Some (map (id_of (graph_seen known.now)) parts) else None)) }
-{
-    let mut found = Vec::new(alloc);
-    let mut left = text;
+    let mut left = Some(word);
     'parts: while let Some(text) = left {
-        let (part, others) = first_piece(b'_', text);
+        let (part, others) = first_piece(mark, text);
         if !is_name(part) {
-            return Ok(None);
+            return false;
         }
-        found.push(id(known, part))?;
         left = others;
     }
-    Ok(Some(found))
+    true
 }
 
-fn path(alloc: Global, known: &Known, word: &[u8]) -> Result<Option<Formula>, Memory>
-    ensures { IfOk result (λ f. option_map formula_of f ≡ path_of (graph_seen known.now) (pieces_of underscore word.now)) }
+/// What parts that are joined by `_` say.
+#[tactic(auto, using(crate::proofs::WordLemmas::path_on))]
+fn path(alloc: Global, word: &[u8]) -> Result<Option<Atom>, Memory>
+    ensures { IfOk result (λ atom. option_map atom_of atom ≡ path_of (pieces_of underscore word.now)) }
 {
-    let (first, others) = first_piece(b'_', word);
-    if !is_name(first) {
+    let (root, Some(others)) = first_piece(b'_', word) else {
         return Ok(None);
-    }
-    match steps(alloc, known, others)? {
-        Some(found) => Ok(Some(Formula::Path(List::from_vec(found)))),
-        None => Ok(None),
+    };
+    let root = Text::from_bytes(alloc, root)?;
+    Ok(Some(Atom::Path(root, Text::from_bytes(alloc, others)?)))
+}
+
+/// Two names that are joined by `.`.
+fn reach(alloc: Global, root: &[u8], category: &[u8]) -> Result<Atom, Memory>
+    ensures { IfOk result (λ atom. atom_of atom ≡ words.Atom.Reach root.now category.now) }
+{
+    let root = Text::from_bytes(alloc, root)?;
+    Ok(Atom::Reach(root, Text::from_bytes(alloc, category)?))
+}
+
+/// Three names that are joined by `.`.
+fn via(alloc: Global, root: &[u8], middle: &[u8], category: &[u8]) -> Result<Atom, Memory>
+    ensures { IfOk result (λ atom. atom_of atom ≡ words.Atom.Via root.now middle.now category.now) }
+{
+    let root = Text::from_bytes(alloc, root)?;
+    let middle = Text::from_bytes(alloc, middle)?;
+    Ok(Atom::Via(root, middle, Text::from_bytes(alloc, category)?))
+}
+
+/// What two or three parts that are joined by `.` say.
+#[tactic(auto, using(crate::proofs::WordLemmas::reach_on))]
+fn joined(alloc: Global, word: &[u8]) -> Result<Option<Atom>, Memory>
+    ensures { IfOk result (λ atom. option_map atom_of atom ≡ reach_of (pieces_of full_stop word.now)) }
+{
+    let (root, Some(others)) = first_piece(b'.', word) else {
+        return Ok(None);
+    };
+    match first_piece(b'.', others) {
+        (category, None) => Ok(Some(reach(alloc, root, category)?)),
+        (middle, Some(last)) => match first_piece(b'.', last) {
+            (category, None) => Ok(Some(via(alloc, root, middle, category)?)),
+            (_, Some(_)) => Ok(None),
+        },
     }
 }
 
-fn reach(known: &Known, parts: &[Text]) -> Option<Formula>
-    ensures { option_map formula_of result ≡ reach_of (graph_seen known.now) parts.now }
+/// The root of a word of one part or two, and the part that stands for the category that is compared.
+#[tactic(auto, using(crate::proofs::WordLemmas::ends_on))]
+fn ends(word: &[u8]) -> Option<(&[u8], &[u8])>
+    ensures { option_map (λ ends. (ends.0.now, ends.1.now)) result ≡ ends_of (pieces_of full_stop word.now) }
 {
-    if !are_names(parts) {
+    match first_piece(b'.', word) {
+        (root, None) => Some((root, root)),
+        (root, Some(others)) => match first_piece(b'.', others) {
+            (category, None) => Some((root, category)),
+            (_, Some(_)) => None,
+        },
+    }
+}
+
+/// The names of a word that is compared.
+#[tactic(auto, unfolding(crate::specs::Words::compared_in))]
+fn compared(word: &[u8]) -> Option<(&[u8], &[u8])>
+    ensures { option_map (λ ends. (ends.0.now, ends.1.now)) result ≡ compared_in word.now }
+{
+    if !are_names(b'.', word) {
         return None;
     }
-    if parts.len() == 2 {
-        return Some(Formula::Reach(id(known, parts[1].bytes())));
-    }
-    if parts.len() == 3 {
-        return Some(Formula::Via(id(known, parts[1].bytes()), id(known, parts[2].bytes())));
-    }
-    None
-}
-
-/// The category whose names or numbers a word of these parts speaks of, if it speaks of one.
-fn compared_part(known: &Known, parts: &[Text]) -> Option<CatId>
-    ensures names { (text : Items ℕ) →
-        option_map (λ c. meaning.Formula.Equals c.0 text) result ≡ equal_of (graph_seen known.now) text parts.now }
-    ensures numbers { (op : comparing.Op) (n : ℤ) →
-        option_map (λ c. meaning.Formula.Compare c.0 op n) result ≡ compared_of (graph_seen known.now) op n parts.now }
-{
-    if !are_names(parts) {
-        return None;
-    }
-    if parts.len() == 1 {
-        return Some(id(known, parts[0].bytes()));
-    }
-    if parts.len() == 2 {
-        return Some(id(known, parts[1].bytes()));
-    }
-    None
-}
-
-/// The category whose names or numbers the word speaks of, if it speaks of one.
-fn compared_category(alloc: Global, known: &Known, word: &Text) -> Result<Option<CatId>, Memory>
-    ensures names { IfOk result (λ found. (text : Items ℕ) → option_map (λ c. meaning.Formula.Equals c.0 text) found
-        ≡ equal_of (graph_seen known.now) text (pieces_of full_stop word.now)) }
-    ensures numbers { IfOk result (λ found. (op : comparing.Op) (n : ℤ) →
-        option_map (λ c. meaning.Formula.Compare c.0 op n) found
-        ≡ compared_of (graph_seen known.now) op n (pieces_of full_stop word.now)) }
-{
-    let word = word.bytes();
-    if marks(b'.', word) > 1 {
-        return Ok(None);
-    }
-    let parts = pieces(alloc, b'.', word)?;
-    Ok(compared_part(known, &parts))
+    ends(word)
 }
 
 /// What a word is by itself.
 #[tactic(auto, unfolding(crate::specs::Words::plain_of))]
-pub(crate) fn plain_word(
-    alloc: Global,
-    known: &Known,
-    word: &Text,
-) -> Result<Option<Formula>, Memory>
-    ensures { IfOk result (λ f. option_map formula_of f ≡ plain_of (graph_seen known.now) word.now) }
+pub(crate) fn plain_word(alloc: Global, word: &[u8]) -> Result<Option<Atom>, Memory>
+    ensures { IfOk result (λ atom. option_map atom_of atom ≡ plain_of word.now) }
 {
-    let word = word.bytes();
     if is(word, b"true") {
-        return Ok(Some(Formula::True));
+        return Ok(Some(Atom::True));
     }
     if is(word, b"false") {
-        return Ok(Some(Formula::False));
+        return Ok(Some(Atom::False));
     }
     if marks(b'_', word) > 0 {
-        return path(alloc, known, word);
+        if !are_names(b'_', word) {
+            return Ok(None);
+        }
+        return path(alloc, word);
     }
-    if marks(b'.', word) > 2 {
+    if !are_names(b'.', word) {
         return Ok(None);
     }
-    let parts = pieces(alloc, b'.', word)?;
-    Ok(reach(known, &parts))
+    joined(alloc, word)
+}
+
+/// A name that is compared with a text.
+fn equals(alloc: Global, root: &[u8], category: &[u8], text: &[u8]) -> Result<Atom, Memory>
+    ensures { IfOk result (λ atom. atom_of atom ≡ words.Atom.Equals root.now category.now text.now) }
+{
+    let root = Text::from_bytes(alloc, root)?;
+    let category = Text::from_bytes(alloc, category)?;
+    Ok(Atom::Equals(root, category, Text::from_bytes(alloc, text)?))
 }
 
 /// What a word is with a string.
-#[tactic(auto, unfolding(crate::specs::Words::equality_of))]
-pub(crate) fn equality(
-    alloc: Global,
-    known: &Known,
-    word: &Text,
-    text: &Text,
-) -> Result<Option<Formula>, Memory>
-    ensures { IfOk result (λ f. option_map formula_of f ≡ equality_of (graph_seen known.now) word.now text.now) }
+pub(crate) fn equality(alloc: Global, word: &[u8], text: &[u8]) -> Result<Option<Atom>, Memory>
+    ensures { IfOk result (λ atom. option_map atom_of atom ≡ equal_of word.now text.now) }
 {
-    match compared_category(alloc, known, word)? {
-        Some(category) => Ok(Some(Formula::Equals(
-            category,
-            Text::from_bytes(alloc, text.bytes())?,
-        ))),
+    match compared(word) {
+        Some((root, category)) => Ok(Some(equals(alloc, root, category, text)?)),
         None => Ok(None),
     }
 }
@@ -258,45 +240,47 @@ pub fn is_number_token(text: &[u8]) -> bool
     !digits.is_empty() && are_digits(digits)
 }
 
-/// What a word is with a text that may be a number.
-#[tactic(auto, unfolding(crate::specs::Words::comparison_of))]
-fn with_number(
-    alloc: Global,
-    known: &Known,
-    word: &Text,
-    op: Op,
-    digits: &Text,
-) -> Result<Option<Formula>, Memory>
-    ensures { IfOk result (λ f. option_map formula_of f
-        ≡ comparison_of (graph_seen known.now) word.now (op_of op) digits.now) }
+/// Whether numbers may stand in a formula.
+fn has_numbers(version: Version) -> bool
+    ensures { result ≡ has_numbers_of version }
 {
-    if !is_number_token(digits.bytes()) {
-        return Ok(None);
-    }
-    match compared_category(alloc, known, word)? {
-        Some(category) => Ok(Some(Formula::Compare(
-            category,
-            op,
-            number(digits.bytes()).unwrap_or(0),
-        ))),
-        None => Ok(None),
+    match version {
+        Version::One => false,
+        Version::Two => true,
     }
 }
 
-/// What a word is with a number, in the version.
+/// A name that is compared with a number.
+fn compare(
+    alloc: Global,
+    root: &[u8],
+    category: &[u8],
+    op: Op,
+    digits: &[u8],
+) -> Result<Atom, Memory>
+    ensures { IfOk result (λ atom. atom_of atom ≡ words.Atom.Compare root.now category.now (op_of op) digits.now) }
+{
+    let root = Text::from_bytes(alloc, root)?;
+    let category = Text::from_bytes(alloc, category)?;
+    let digits = Text::from_bytes(alloc, digits)?;
+    Ok(Atom::Compare(root, category, op, digits))
+}
+
+/// What a word is with a text that may be a number, in the version.
 pub(crate) fn comparison(
     alloc: Global,
-    known: &Known,
     version: Version,
-    word: &Text,
+    word: &[u8],
     op: Op,
-    digits: &Text,
-) -> Result<Option<Formula>, Memory>
-    ensures { IfOk result (λ f. option_map formula_of f
-        ≡ comparison_in version (graph_seen known.now) word.now (op_of op) digits.now) }
+    digits: &[u8],
+) -> Result<Option<Atom>, Memory>
+    ensures { IfOk result (λ atom. option_map atom_of atom ≡ compare_of version word.now (op_of op) digits.now) }
 {
-    match version {
-        Version::One => Ok(None),
-        Version::Two => with_number(alloc, known, word, op, digits),
+    if !has_numbers(version) || !is_number_token(digits) {
+        return Ok(None);
+    }
+    match compared(word) {
+        Some((root, category)) => Ok(Some(compare(alloc, root, category, op, digits)?)),
+        None => Ok(None),
     }
 }

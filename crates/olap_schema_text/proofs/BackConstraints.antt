@@ -13,16 +13,17 @@ use Rattle.olap_ast.specs.Formula.{Comparison, Equality, Formula, comparisons, e
 use Rattle.olap_ast.specs.Schema.{Constraint, Schema}
 use Rattle.olap_ast.specs.Valid.{IsFormulaAt, IsValidSchema, depth_of, is_same_number, is_same_pair, node_count, with_new, with_number, with_pair}
 use Rattle.olap_grammar.specs.Brackets.{opens_over}
+use Rattle.olap_grammar.specs.Forms.{depth_of as levels_of}
 use Rattle.olap_grammar.specs.Machine.{the_formula}
 use Rattle.olap_grammar.specs.Words.{atoms_of}
 use Rattle.olap_grammar.proofs.ReaderLemmas.{formula_is_found}
 use Rattle.olap_grammar.proofs.Sound.{tighter}
-use Rattle.olap_schema_text.specs.Atoms.{atom_fault}
 use Rattle.olap_schema_text.specs.Judging.{Above, constraint_read, form_read}
 use Rattle.olap_grammar.specs.declared.tokens.Version.TheVariants as version
 use Rattle.olap_grammar.specs.Nodes.{nodes_of}
 use Rattle.olap_schema_text.specs.Tokens.{is_bad_number, is_long}
-use Rattle.olap_schema_text.proofs.BackAtoms.{no_atom_fault}
+use Rattle.olap_schema_text.proofs.BackForms.{written_is_resolved}
+use Rattle.olap_schema_text.proofs.Written.{written, written_depth}
 use Rattle.olap_schema_text.proofs.BackGraph.{lengths, stands}
 use Rattle.olap_schema_text.proofs.BackLengths.{AreShort, none_is_long}
 use Rattle.olap_schema_text.proofs.BackNumbers.{none_is_bad}
@@ -94,16 +95,18 @@ first_numbers numbers c cs =
 -- the tokens of a printed formula pass all checks of its form
 form_is : (g : Graph) (h : IsHierarchy g) (r : ℕ) (l : IsCategory g r) (f : Formula) → IsFormulaAt g r f
     → (before : ℕ) → before + node_count f ≤ most_nodes → depth_of f ≤ most_depth →
-    form_read version.Two g before (spelt g r f) ≡ Ok f
+    form_read version.Two before (spelt g r f) ≡ Ok (written g r f)
 unfolding form_read
 form_is g h r l f v before few deep =
     let nodes = nodes_are g r f in
     let n : nat_lt most_nodes (before + nodes_of version.Two (spelt g r f)) ≡ false =
     within before (nodes_of version.Two (spelt g r f)) (node_count f) nodes few in
     let o : opens_over 0 0 (spelt g r f) ≡ false = few_open g r f deep in
-    let read : the_formula (atoms_of version.Two g) (spelt g r f) ≡ Some f =
-    formula_is_found (atoms_of version.Two g) (spelt g r f) f (tighter 1 6 (lit≤ tt) (spelt_is_formula g h r l f v)) in
-    let d : nat_le (depth_of f) most_depth ≡ true = grind (arith) in
+    let read : the_formula (atoms_of version.Two) (spelt g r f) ≡ Some (written g r f) =
+    formula_is_found (atoms_of version.Two) (spelt g r f) (written g r f)
+    (tighter 1 6 (lit≤ tt) (spelt_is_formula g h r l f v)) in
+    let level = written_depth g r f in
+    let d : nat_lt most_depth (levels_of (written g r f)) ≡ false = grind (arith, level) in
     rw (n, o, read, d) refl
   where
     within : (a b c : ℕ) → b ≡ c → a + c ≤ most_nodes → nat_lt most_nodes (a + b) ≡ false
@@ -126,7 +129,7 @@ add_constraint s v short done c rest nodes pairs numbers lines e few_nodes few_p
     let ts = spelt s.graph c.root c.formula in
     let sum = first_nodes c rest in
     let fit : nodes + node_count c.formula ≤ most_nodes = omega (arith, sum, few_nodes) in
-    let form : form_read version.Two s.graph nodes ts ≡ Ok c.formula =
+    let form : form_read version.Two nodes ts ≡ Ok (written s.graph c.root c.formula) =
     form_is s.graph v.hierarchy c.root declared.1 c.formula at_root nodes fit (v.depth_fits c there) in
     let ln = short c.root declared.1 in
     let sn : nat_lt most_text_bytes (length (name_of_category s.graph c.root)) ≡ false = grind (arith) in
@@ -141,10 +144,9 @@ add_constraint s v short done c rest nodes pairs numbers lines e few_nodes few_p
     let sizes = lengths done (c ∷ rest) in
     let few : nat_le most_constraints (length done) ≡ false =
     room (length done) (length rest) (length s.constraints) v.constraints_fit (sym size ∙ sizes) in
-    let fault : atom_fault s.graph (name_of_category s.graph c.root) ts ≡ None =
-    no_atom_fault s.graph v.hierarchy c.root declared.1 c.formula at_root in
+    let back = written_is_resolved s.graph v.hierarchy c.root declared.1 c.formula at_root in
     let p = fits c rest pairs numbers few_pairs in
-    rw (form, sn, sl, good, n, z, few, fault, p) refl
+    rw (form, sn, sl, good, n, z, few, back, p) refl
   where
     room : (a b n : ℕ) → n ≤ most_constraints → n ≡ a + suc b → nat_le most_constraints a ≡ false
     room a b n l q = grind arith

@@ -17,7 +17,8 @@ use Rattle.olap_graph.specs.Lookups.{category_named, edge_between, joins, name_o
 use Rattle.olap_graph.proofs.PlaceLemmas.{found, joins-Decides}
 use Rattle.olap_ast.specs.Schema.{Schema}
 use Rattle.olap_ast.specs.Valid.{IsValidSchema}
-use Rattle.olap_schema_text.specs.Judging.{Above, allows_numbers, category_read, edge_read}
+use Rattle.olap_schema_text.specs.Judging.{Above, category_read, edge_read}
+use Rattle.olap_grammar.specs.Cutting.{has_numbers}
 use Rattle.olap_grammar.specs.declared.tokens.Version.TheVariants as version
 use Rattle.olap_schema_text.proofs.BackLengths.{AreShort}
 use Rattle.olap_schema_text.proofs.PrintNames.{named}
@@ -111,7 +112,7 @@ add_category s v n done name rest kinds number lines e =
     room (length done) (length rest) (length s.graph.names) v.categories_fit (sym size ∙ sizes) in
     rw (every_kind number, short, new, few) refl
   where
-    every_kind : (b : Bool) → b && not (allows_numbers version.Two) ≡ false
+    every_kind : (b : Bool) → b && not (has_numbers version.Two) ≡ false
     every_kind true = refl
     every_kind false = refl
 

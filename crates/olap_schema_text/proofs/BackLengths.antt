@@ -15,9 +15,8 @@ use Rattle.olap_grammar.specs.declared.tokens.Token.{Token}
 use Rattle.olap_grammar.specs.declared.tokens.Token.TheVariants as token
 use Rattle.olap_grammar.specs.declared.tokens.Mark.{Mark}
 use Rattle.olap_grammar.specs.declared.tokens.Mark.TheVariants as mark
-use Rattle.olap_schema_text.specs.Atoms.{names_in}
 use Rattle.olap_schema_text.specs.Printing.{atom_word, compared_word}
-use Rattle.olap_schema_text.specs.Tokens.{is_long, is_long_name}
+use Rattle.olap_schema_text.specs.Tokens.{is_long, is_long_name, names_in}
 use Rattle.olap_schema_text.proofs.BackTests.{IsLeaf, none-cons, none_passes}
 use Rattle.olap_schema_text.proofs.BackWords.{name_whole, no_46, no_95, path_pieces, reach_pieces, reach_whole}
 use Rattle.olap_schema_text.proofs.PrintCut.{AreCategories, steps_are}

@@ -9,19 +9,18 @@ use Rattle.std.proofs.lemmas.List.Elements.{All-append, All-cons, All-weaker}
 use Rattle.std.proofs.lemmas.List.Splits.{slice_split_at, slice_split_none}
 use Rattle.std.proofs.lemmas.Slice.Eq.{bytes_eq-Decides}
 use Rattle.olap_base.specs.Reaching.{is_category_name}
-use Rattle.olap_base.specs.Graph.{Graph, IsCategory, IsHierarchy, IsLetterOrDigit, is_number}
-use Rattle.olap_graph.specs.Lookups.{category_named, name_of_category}
-use Rattle.olap_ast.specs.Formula as Meaning
-use Rattle.std.specs.Prelude.{◌-◌, slice_index_or}
+use Rattle.olap_base.specs.Graph.{Graph, IsCategory, IsHierarchy, IsLetterOrDigit}
+use Rattle.olap_graph.specs.Lookups.{name_of_category}
+use Rattle.std.specs.Prelude.{option_and_then}
+use Rattle.olap_grammar.specs.Forms as words
+use Rattle.olap_grammar.specs.declared.tokens.Version.TheVariants as version
 use Rattle.olap_numerals.specs.Comparing.{Op}
 use Rattle.olap_numerals.specs.Numerals.{IsSmall, canonical}
-use Rattle.olap_numerals.proofs.NumeralLemmas.{numbers_read_back}
-use Rattle.olap_grammar.specs.Words.{compared_of, comparison_of, equal_of, equality_of, id_of, pieces_of, plain_of}
-use Rattle.olap_schema_text.specs.Atoms.{compares_numbers, has_numbers}
+use Rattle.olap_grammar.specs.Words.{compare_of, compared_in, ends_of, equal_of, names_at, pieces_of, plain_of}
 use Rattle.olap_schema_text.specs.Printing.{atom_word, compared_word, names_after}
 use Rattle.olap_schema_text.proofs.PrintCut.{AreCategories}
 use Rattle.olap_schema_text.proofs.PrintNumerals.{numeral_is_number}
-use Rattle.olap_schema_text.proofs.PrintNames.{is_name, letters, name_is, named, no_mark, no_underscore}
+use Rattle.olap_schema_text.proofs.PrintNames.{is_name, letters, name_is, no_mark, no_underscore}
 
 -- a byte is equal to itself
 same_byte : (c : ℕ) → (c == c) ≡ true
@@ -115,24 +114,17 @@ module _ (g : Graph) (h : IsHierarchy g) where
   all_names [] v = refl
   all_names (c ∷ cs) v = rw (is_name g h c v.0) (all_names cs v.1)
 
-  pub id_is : (c : ℕ) → IsCategory g c → id_of g (name_of_category g c) ≡ c
-  unfolding id_of
-  id_is c l = rw (named g h c l) refl
-
-  ids_are : (cs : List ℕ) → AreCategories g cs → map (id_of g) (map (name_of_category g) cs) ≡ cs
-  ids_are [] v = refl
-  ids_are (c ∷ cs) v = rw (id_is c v.0, ids_are cs v.1) refl
-
   -- ---- atoms
 
   pub path_means : (r : ℕ) (cs : List ℕ) → IsCategory g r → AreCategories g cs → cs ≢ []
-      → plain_of g (atom_word g r 95 cs) ≡ Some (Meaning.Formula.Path cs)
+      → plain_of (atom_word g r 95 cs)
+      ≡ Some (words.Atom.Path (name_of_category g r) (map (name_of_category g) cs))
   unfolding plain_of
   path_means r [] l v n = absurd (n refl)
   path_means r (c ∷ cs) l v n = go (atom_word g r 95 (c ∷ cs)) (path_pieces r (c ∷ cs) l v)
     where
       go : (w : List ℕ) → pieces_of 95 w ≡ name_of_category g r ∷ map (name_of_category g) (c ∷ cs)
-          → plain_of g w ≡ Some (Meaning.Formula.Path (c ∷ cs))
+          → plain_of w ≡ Some (words.Atom.Path (name_of_category g r) (map (name_of_category g) (c ∷ cs)))
       go w p =
           let t = other_word 95 w (codes "true") _ _ _ p true_at_95 in
           let f = other_word 95 w (codes "false") _ _ _ p false_at_95 in
@@ -140,74 +132,61 @@ module _ (g : Graph) (h : IsHierarchy g) where
           grind (arith) in
           let all : list_all is_category_name (name_of_category g r ∷ map (name_of_category g) (c ∷ cs)) ≡ true =
           all_names (r ∷ c ∷ cs) (l, v) in
-          rw (t, f, p, two, all) (ap (λ ids. Some (Meaning.Formula.Path ids)) (ids_are (c ∷ cs) v))
+          rw (t, f, p, two, all) refl
 
   pub reach_means : (r d : ℕ) → IsCategory g r → IsCategory g d
-      → plain_of g (atom_word g r 46 (d ∷ [])) ≡ Some (Meaning.Formula.Reach d)
+      → plain_of (atom_word g r 46 (d ∷ [])) ≡ Some (words.Atom.Reach (name_of_category g r) (name_of_category g d))
   unfolding plain_of
   reach_means r d l k =
       go (atom_word g r 46 (d ∷ [])) (reach_pieces r (d ∷ []) l (k, tt)) (reach_whole r (d ∷ []) l (k, tt))
     where
       go : (w : List ℕ) → pieces_of 46 w ≡ name_of_category g r ∷ name_of_category g d ∷ []
-          → pieces_of 95 w ≡ w ∷ [] → plain_of g w ≡ Some (Meaning.Formula.Reach d)
+          → pieces_of 95 w ≡ w ∷ []
+          → plain_of w ≡ Some (words.Atom.Reach (name_of_category g r) (name_of_category g d))
       go w p q =
           let t = other_word 46 w (codes "true") _ _ _ p true_at_46 in
           let f = other_word 46 w (codes "false") _ _ _ p false_at_46 in
           let all : list_all is_category_name (name_of_category g r ∷ name_of_category g d ∷ []) ≡ true =
           all_names (r ∷ d ∷ []) (l, (k, tt)) in
-          rw (t, f, q, p, all, id_is d k) refl
+          rw (t, f, q, p, all) refl
 
   pub via_means : (r d e : ℕ) → IsCategory g r → IsCategory g d → IsCategory g e
-      → plain_of g (atom_word g r 46 (d ∷ e ∷ [])) ≡ Some (Meaning.Formula.Via d e)
+      → plain_of (atom_word g r 46 (d ∷ e ∷ []))
+      ≡ Some (words.Atom.Via (name_of_category g r) (name_of_category g d) (name_of_category g e))
   unfolding plain_of
   via_means r d e l k m =
       go (atom_word g r 46 (d ∷ e ∷ [])) (reach_pieces r (d ∷ e ∷ []) l (k, (m, tt)))
       (reach_whole r (d ∷ e ∷ []) l (k, (m, tt)))
     where
       go : (w : List ℕ) → pieces_of 46 w ≡ name_of_category g r ∷ name_of_category g d ∷ name_of_category g e ∷ []
-          → pieces_of 95 w ≡ w ∷ [] → plain_of g w ≡ Some (Meaning.Formula.Via d e)
+          → pieces_of 95 w ≡ w ∷ []
+          → plain_of w ≡ Some (words.Atom.Via (name_of_category g r) (name_of_category g d) (name_of_category g e))
       go w p q =
           let t = other_word 46 w (codes "true") _ _ _ p true_at_46 in
           let f = other_word 46 w (codes "false") _ _ _ p false_at_46 in
           let all : list_all is_category_name
           (name_of_category g r ∷ name_of_category g d ∷ name_of_category g e ∷ []) ≡ true =
           all_names (r ∷ d ∷ e ∷ []) (l, (k, (m, tt))) in
-          rw (t, f, q, p, all, id_is d k, id_is e m) refl
+          rw (t, f, q, p, all) refl
+
+  -- what a word compares
+  compared_means : (r d : ℕ) → IsCategory g r → IsCategory g d
+      → compared_in (compared_word g r d) ≡ Some (name_of_category g r, name_of_category g d)
+  unfolding compared_in
+  compared_means r d l m = go (d == r) refl
+    where
+      go : (b : Bool) → d == r ≡ b
+          → option_and_then ends_of (names_at 46 (cond b (name_of_category g r) (atom_word g r 46 (d ∷ []))))
+          ≡ Some (name_of_category g r, name_of_category g d)
+      go true e = let s : d ≡ r = eqb-true d r e in rw (name_whole 46 r (no_46 r l), is_name g h r l, s) refl
+      go false e = rw (reach_pieces r (d ∷ []) l (m, tt), is_name g h r l, is_name g h d m) refl
 
   pub equals_means : (r d : ℕ) (k : List ℕ) → IsCategory g r → IsCategory g d
-      → equality_of g (compared_word g r d) k ≡ Some (Meaning.Formula.Equals d k)
-  unfolding equality_of
-  equals_means r d k l m = go (d == r) refl
-    where
-      go : (b : Bool) → d == r ≡ b
-          → equal_of g k (pieces_of 46 (cond b (name_of_category g r) (atom_word g r 46 (d ∷ [])))) ≡ Some
-          (Meaning.Formula.Equals d k)
-      go true e = let s : d ≡ r = eqb-true d r e in rw (name_whole 46 r (no_46 r l), is_name g h r l, id_is r l, s) refl
-      go false e = rw (reach_pieces r (d ∷ []) l (m, tt), is_name g h r l, is_name g h d m, id_is d m) refl
+      → equal_of (compared_word g r d) k
+      ≡ Some (words.Atom.Equals (name_of_category g r) (name_of_category g d) k)
+  equals_means r d k l m = rw (compared_means r d l m) refl
 
   pub compares_means : (r d : ℕ) (op : Op) (n : ℤ) → IsCategory g r → IsCategory g d → IsSmall n
-      → comparison_of g (compared_word g r d) op (canonical n) ≡ Some (Meaning.Formula.Compare d op n)
-  unfolding comparison_of
-  compares_means r d op n l m small = rw (numeral_is_number n small, numbers_read_back n small) (go (d == r) refl)
-    where
-      go : (b : Bool) → d == r ≡ b
-          → compared_of g op n (pieces_of 46 (cond b (name_of_category g r) (atom_word g r 46 (d ∷ [])))) ≡ Some
-          (Meaning.Formula.Compare d op n)
-      go true e = let s : d ≡ r = eqb-true d r e in rw (name_whole 46 r (no_46 r l), is_name g h r l, id_is r l, s) refl
-      go false e = rw (reach_pieces r (d ∷ []) l (m, tt), is_name g h r l, is_name g h d m, id_is d m) refl
-
-  -- the last of the names is that of a number category
-  abbrev last_has : List (List ℕ) → Bool
-  last_has names = has_numbers g (category_named g (slice_index_or names (length names - 1) []))
-
-  -- a comparison's word compares the names of its category
-  pub compared_is : (r d : ℕ) → IsCategory g r → IsCategory g d
-      → compares_numbers g (compared_word g r d) ≡ is_number g d
-  compared_is r d l m = go (d == r) refl
-    where
-      go : (b : Bool) → d == r ≡ b
-          → compares_numbers g (cond b (name_of_category g r) (atom_word g r 46 (d ∷ []))) ≡ is_number g d
-      go true e =
-          ap last_has (name_whole 46 r (no_46 r l)) ∙ ap (has_numbers g) (named g h r l)
-          ∙ ap (is_number g) (sym (eqb-true d r e))
-      go false e = ap last_has (reach_pieces r (d ∷ []) l (m, tt)) ∙ ap (has_numbers g) (named g h d m)
+      → compare_of version.Two (compared_word g r d) op (canonical n)
+      ≡ Some (words.Atom.Compare (name_of_category g r) (name_of_category g d) op (canonical n))
+  compares_means r d op n l m small = rw (numeral_is_number n small, compared_means r d l m) refl

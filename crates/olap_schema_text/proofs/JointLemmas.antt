@@ -9,7 +9,7 @@ use Rattle.olap_ast.specs.Formula.{comparisons, equalities}
 use Rattle.olap_ast.specs.Trees.{formula_of}
 use Rattle.olap_ast.specs.Valid.{node_count}
 use Rattle.olap_ast.specs.declared.formulas.Formula.{Formula}
-use Rattle.olap_grammar.specs.Grammar.{join}
+use Rattle.olap_schema_text.specs.Resolving.{join}
 use Rattle.olap_grammar.specs.declared.tokens.Joint.{Joint}
 use Rattle.olap_grammar.specs.declared.tokens.Joint.TheVariants as joint
 use Rattle.olap_schema_text.specs.Printing.{formula_text, joined_text}

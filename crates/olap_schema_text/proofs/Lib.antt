@@ -10,8 +10,8 @@ mod PrintLemmas
 mod StuckLemmas
 mod StepLemmas
 mod ValidNames
-mod NumberWords
-mod ValidAtoms
+mod FoundWords
+mod ResolvedLemmas
 mod ValidFormulas
 mod ValidTexts
 mod ValidSteps
@@ -25,7 +25,11 @@ mod BackWords
 mod PrintFormula
 mod BackTokens
 mod BackTests
-mod BackAtoms
+mod ListingLemmas
+mod FormLemmas
+mod CategoryLemmas
+mod Written
+mod BackForms
 mod BackBytes
 mod BackLines
 mod BackStatements

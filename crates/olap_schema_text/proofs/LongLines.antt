@@ -7,11 +7,10 @@ use Rattle.std.specs.Borrow.{Bor}
 use Rattle.std.specs.Prelude.{is_some, unwrap_or}
 use Rattle.std.proofs.lemmas.Bool.{le-ltb, lt-ltb}
 use Rattle.std.proofs.lemmas.List.{length-append}
-use Rattle.olap_ast.specs.Formula.{Formula}
 use Rattle.olap_ast.specs.Schema.{Schema}
-use Rattle.olap_base.specs.Graph.{Graph}
 use Rattle.olap_base.specs.Limits.{most_nodes}
 use Rattle.olap_grammar.specs.Brackets.{most_tokens, opens_over}
+use Rattle.olap_grammar.specs.Forms.{Form}
 use Rattle.olap_grammar.specs.Keeping.{Begins, BeginsFound, IsTallyOf, Kept}
 use Rattle.olap_grammar.specs.Machine.{the_formula}
 use Rattle.olap_grammar.specs.Nodes.{nodes_behind, nodes_of}
@@ -64,13 +63,13 @@ tally_behind v y ts root us f h =
 
 -- ---- formulas
 
-module _ (v : Version) (g : Graph) (before front : ℕ) (y : Tally) (ts : List Token)
+module _ (v : Version) (before front : ℕ) (y : Tally) (ts : List Token)
     (behind : IsTallyBehind v front y ts)
   where
     nodes_too_many : front ≤ 3 → most_nodes + front < before + y.nodes → most_nodes < before + nodes_of v ts
     nodes_too_many f l = let few = behind.few in omega (arith, f, l, few)
 
-    pub many_nodes : front ≤ 3 → most_nodes + front < before + y.nodes → form_read v g before ts ≡ Err kind.TooManyNodes
+    pub many_nodes : front ≤ 3 → most_nodes + front < before + y.nodes → form_read v before ts ≡ Err kind.TooManyNodes
     unfolding form_read
     many_nodes f l =
         let t : nat_lt most_nodes (before + nodes_of v ts) ≡ true =
@@ -85,22 +84,22 @@ module _ (v : Version) (g : Graph) (before front : ℕ) (y : Tally) (ts : List T
     few_test f l = le-ltb most_nodes (before + nodes_of v ts) (few_nodes f l)
 
     pub too_deep : front ≤ 3 → before + y.nodes ≤ most_nodes + front → y.too_deep ≡ true
-        → form_read v g before ts ≡ Err kind.TooDeep
+        → form_read v before ts ≡ Err kind.TooDeep
     unfolding form_read
     too_deep f l d = rw (few_test f l, sym behind.too_deep ∙ d) refl
 
     none_formed : before + nodes_of v ts ≤ most_nodes → opens_over 0 0 ts ≡ false → most_tokens most_nodes < length ts
-        → the_formula (atoms_of v g) ts ≡ None
-    none_formed l d long = go (the_formula (atoms_of v g) ts) refl
+        → the_formula (atoms_of v) ts ≡ None
+    none_formed l d long = go (the_formula (atoms_of v) ts) refl
       where
-        go : (o : Option Formula) → the_formula (atoms_of v g) ts ≡ o → o ≡ None
+        go : (o : Option Form) → the_formula (atoms_of v) ts ≡ o → o ≡ None
         go None e = refl
         go (Some f) e =
-            let few = few_tokens v (atoms_of v g) ts f (found_is_formula (atoms_of v g) ts f e) d in
+            let few = few_tokens v (atoms_of v) ts f (found_is_formula (atoms_of v) ts f e) d in
             absurd (omega (arith, l, few, long))
 
     pub bad_form : front ≤ 3 → before + y.nodes ≤ most_nodes + front → y.too_deep ≡ false
-        → most_tokens most_nodes < length ts → form_read v g before ts ≡ Err kind.BadForm
+        → most_tokens most_nodes < length ts → form_read v before ts ≡ Err kind.BadForm
     unfolding form_read
     bad_form f l d long =
         let shallow : opens_over 0 0 ts ≡ false = sym behind.too_deep ∙ d in
@@ -170,7 +169,7 @@ module _ (a : Above) (n : ℕ) (k : Kept) (o : Option (List Token)) (found : Beg
     pub no_formula : (e : SchemaKind) (root : List ℕ) (us : List Token) → is_some a.version ≡ true
         → says.Statement.Constraint root us ≡ statement_of k.first
         → ((vs : List Token) → IsTallyBehind (version_at a) 2 k.tally vs → most_tokens most_nodes < length vs
-        → form_read (version_at a) a.graph a.nodes vs ≡ Err e) → tokens_read a n o ≡ Err e
+        → form_read (version_at a) a.nodes vs ≡ Err e) → tokens_read a n o ≡ Err e
     no_formula e root us v c h =
         let whole : List Token = us ++ begins.rest in
         let is : statement_of ts ≡ says.Statement.Constraint root whole = says_as_kept ∙ rw (← c) refl in
@@ -182,7 +181,7 @@ module _ (a : Above) (n : ℕ) (k : Kept) (o : Option (List Token)) (found : Beg
         rw (found.1, is) (go a.version v read)
       where
         go : (w : Option Version) → is_some w ≡ true
-            → form_read (unwrap_or w version.One) a.graph a.nodes (us ++ begins.rest) ≡ Err e
+            → form_read (unwrap_or w version.One) a.nodes (us ++ begins.rest) ≡ Err e
             → statement_read a n w (says.Statement.Constraint root (us ++ begins.rest)) ≡ Err e
         go None p q = absurd (cc)
         go (Some w) p q = rw q refl
@@ -200,7 +199,7 @@ pub no_question : (s : Schema) (root : ℕ) (k : Kept) (o : Option (List Token))
     → BeginsFound version.Two k o
     → k.more ≡ true → most_tokens most_nodes ≤ k.most
     → ((ts : List Token) → IsTallyBehind version.Two 0 k.tally ts → most_tokens most_nodes < length ts
-    → form_read version.Two s.graph 0 ts ≡ Err e) → question_cut s root o ≡ Err e
+    → form_read version.Two 0 ts ≡ Err e) → question_cut s root o ≡ Err e
 no_question s root k o e found more room h =
     let b = found.2 in
     let p : length found.0 ≡ length (k.first ++ b.rest) = ap length b.parts in

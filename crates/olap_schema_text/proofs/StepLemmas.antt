@@ -13,17 +13,19 @@ use Rattle.olap_graph.specs.Building.{category_refusal, edge_refusal, with_edge,
 use Rattle.olap_graph.specs.Lookups.{category_named}
 use Rattle.olap_graph.specs.declared.refusals.CategoryFault.{CategoryFault}
 use Rattle.olap_graph.specs.declared.refusals.EdgeFault.{EdgeFault}
+use Rattle.olap_grammar.specs.Cutting.{has_numbers}
 use Rattle.olap_grammar.specs.CuttingMachine.{tokens_of}
 use Rattle.olap_grammar.specs.Nodes.{nodes_of}
 use Rattle.olap_grammar.specs.declared.tokens.Token.{Token}
 use Rattle.olap_grammar.specs.declared.tokens.Token.TheVariants as token
 use Rattle.olap_grammar.specs.declared.tokens.Mark.TheVariants as mark
-use Rattle.olap_schema_text.specs.Atoms.{atom_fault}
-use Rattle.olap_schema_text.specs.Judging.{Above, allows_numbers, atoms_read, category_added, category_read, constraint_read, edge_added, edge_read, ends_read, form_read, formed_read, line_read, lines_on, root_read, statement_read, tokens_read, version_at}
+use Rattle.olap_grammar.specs.Forms.{Form}
+use Rattle.olap_schema_text.specs.Resolving.{given, goes_on, resolved}
+use Rattle.olap_schema_text.specs.Judging.{Above, category_added, category_read, constraint_added, constraint_read, edge_added, edge_read, form_read, formula_read, line_read, lines_on, statement_read, tokens_read, version_at}
 use Rattle.olap_schema.specs.Readable.{is_bad}
 use Rattle.olap_schema_text.specs.Lines.{chomped, is_quiet}
 use Rattle.olap_schema_text.specs.Statements.{Statement, Statement.Version, Statement.Category, Statement.Edge, Statement.Constraint, Statement.Other, statement_of}
-use Rattle.olap_schema_text.specs.Tokens.{is_bad_number, is_long}
+use Rattle.olap_schema_text.specs.Tokens.{is_bad_number, is_long, is_long_name}
 use Rattle.olap_schema_text.specs.declared.kinds.SchemaKind.{SchemaKind}
 use Rattle.olap_grammar.specs.declared.tokens.Version.{Version as TextVersion}
 use Rattle.olap_schema_text.proofs.StatementLemmas.{IsSaid, is_said}
@@ -45,12 +47,13 @@ pub record AddsEdge (a b : Above) (child parent : List ℕ) (c d : ℕ) : Type 0
 -- a constraint of these tokens at this root is added
 pub record AddsConstraint (a b : Above) (v : TextVersion) (name : List ℕ) (ts : List Token) (f : Formula) (root : ℕ)
     : Type 0 where
-  pub formed : form_read v a.graph a.nodes ts ≡ Ok f
+  pub form : Form
+  pub formed : form_read v a.nodes ts ≡ Ok form
   pub short : list_any is_long ts ≡ false
   pub root_is : category_named a.graph name ≡ Some root
   pub below_all : root == 0 ≡ false
   pub few : nat_le most_constraints (length a.constraints) ≡ false
-  pub faultless : atom_fault a.graph name ts ≡ None
+  pub at_root : resolved a.graph root form ≡ Ok f
   pub fine : AreFine ts
   pub few_pairs : nat_lt most_constants (length (fold with_pair a.pairs (equalities f))
       + length (fold with_number a.numbers (comparisons f))) ≡ false
@@ -81,6 +84,18 @@ passed_on false k r b h = (refl, h)
 pub ok_is : {A K : Type 0} (a b : A) → (let r : Result A K = Ok a in r) ≡ Ok b → b ≡ a
 ok_is a b h = cc
 
+-- what came of what may be there was there
+pub given_ok : {A B K : Type 0} (o : Option A) (k : K) (next : A → Result B K) (r : B) → given o k next ≡ Ok r
+    → (x : A) × (o ≡ Some x) × (next x ≡ Ok r)
+given_ok None k next r h = absurd (cc)
+given_ok (Some x) k next r h = (x, refl, h)
+
+-- what came of a result had no fault
+pub goes_on_ok : {A B K : Type 0} (o : Result A K) (next : A → Result B K) (r : B) → goes_on o next ≡ Ok r
+    → (x : A) × (o ≡ Ok x) × (next x ≡ Ok r)
+goes_on_ok (Ok x) next r h = (x, refl, h)
+goes_on_ok (Err k) next r h = absurd (cc)
+
 -- where not one of two is so, the second isn't
 neither : (b c : Bool) → b || c ≡ false → c ≡ false
 neither true c h = absurd (cc)
@@ -93,7 +108,7 @@ category_step a b n v name number h = go (category_refusal a.graph name) refl t.
   where
     t : (nat_lt most_text_bytes (length name) ≡ false)
         × (category_added a n name number (category_refusal a.graph name) ≡ Ok b)
-    t = passed_on _ _ _ _ (passed_on (number && not (allows_numbers v)) _ _ _ h).1
+    t = passed_on _ _ _ _ (passed_on (number && not (has_numbers v)) _ _ _ h).1
 
     go : (o : Option CategoryFault) → category_refusal a.graph name ≡ o → category_added a n name number o ≡ Ok b
         → AddsCategory a b n name number
@@ -104,7 +119,9 @@ category_step a b n v name number h = go (category_refusal a.graph name) refl t.
 edge_step : (a b : Above) (child parent : List ℕ) → edge_read a child parent ≡ Ok b
     → (c : ℕ) × (d : ℕ) × AddsEdge a b child parent c d
 edge_step a b child parent h =
-    ends (category_named a.graph child) (category_named a.graph parent) refl refl (passed_on _ _ _ _ h).1
+    let t = given_ok (category_named a.graph child) _ _ b (passed_on _ _ _ _ h).1 in
+    let u = given_ok (category_named a.graph parent) _ _ b t.2 in
+    (t.0, u.0, go t.0 u.0 t.1 u.1 (edge_refusal a.graph t.0 u.0) refl u.2)
   where
     go : (c d : ℕ) → category_named a.graph child ≡ Some c → category_named a.graph parent ≡ Some d
         → (o : Option EdgeFault)
@@ -112,56 +129,49 @@ edge_step a b child parent h =
     go c d p q None e k = record { child_is = p; parent_is = q; free = e; new = ok_is _ _ k }
     go c d p q (Some r) e k = absurd (cc)
 
-    ends : (o r : Option ℕ) → category_named a.graph child ≡ o → category_named a.graph parent ≡ r
-        → ends_read a o r ≡ Ok b
-        → (c : ℕ) × (d : ℕ) × AddsEdge a b child parent c d
-    ends None r p q k = absurd (cc)
-    ends (Some c) None p q k = absurd (cc)
-    ends (Some c) (Some d) p q k = (c, d, go c d p q (edge_refusal a.graph c d) refl k)
+-- tokens that were read, by the checks of their form
+pub record IsRead (v : TextVersion) (before : ℕ) (ts : List Token) (form : Form) : Type 0 where
+  pub formed : form_read v before ts ≡ Ok form
+  pub short : list_any is_long ts ≡ false
+
+-- each is passed
+pub form_is_read : (v : TextVersion) (before : ℕ) (name : List ℕ) (ts : List Token) (form : Form)
+    → formula_read v before name ts ≡ Ok form → IsRead v before ts form
+form_is_read v before name ts form h =
+    let t = goes_on_ok (form_read v before ts) _ form h in
+    let u = passed_on (is_long_name name || list_any is_long ts) _ _ form t.2 in
+    let w = passed_on (list_any is_bad_number ts) _ _ form u.1 in
+    record {
+      formed = subst (λ x. form_read v before ts ≡ Ok x) (sym (ok_is _ _ w.1)) t.1;
+      short = neither (is_long_name name) (list_any is_long ts) u.0;
+    }
 
 -- a constraint's line adds the constraint
 constraint_step : (a b : Above) (v : TextVersion) (name : List ℕ) (ts : List Token) → AreFine ts
     → constraint_read a v name ts ≡ Ok b → (f : Formula) × (root : ℕ) × AddsConstraint a b v name ts f root
-constraint_step a b v name ts fine h = formed (form_read v a.graph a.nodes ts) refl h
-  where
-    faults : (f : Formula) (root : ℕ) → form_read v a.graph a.nodes ts ≡ Ok f → list_any is_long ts ≡ false
-        → category_named a.graph name ≡ Some root
-        → root == 0 ≡ false → nat_le most_constraints (length a.constraints) ≡ false → (o : Option SchemaKind)
-        → atom_fault a.graph name ts ≡ o
-        → atoms_read a v root ts f o ≡ Ok b → AddsConstraint a b v name ts f root
-    faults f root e l r z n (Some k) q g = absurd (cc)
-    faults f root e l r z n None q g =
-        let t = passed_on _ _ _ _ g in
-        record {
-          formed = e;
-          short = l;
-          root_is = r;
-          below_all = z;
-          few = n;
-          faultless = q;
-          fine = fine;
-          few_pairs = t.0;
-          new = ok_is _ _ t.1;
-        }
-
-    rooted : (f : Formula) → form_read v a.graph a.nodes ts ≡ Ok f → list_any is_long ts ≡ false → (o : Option ℕ)
-        → category_named a.graph name ≡ o
-        → root_read a v name ts f o ≡ Ok b → (root : ℕ) × AddsConstraint a b v name ts f root
-    rooted f e l None r g = absurd (cc)
-    rooted f e l (Some root) r g =
-        let t = passed_on _ _ _ _ g in let u = passed_on _ _ _ _ t.1 in
-        (root, faults f root e l r t.0 u.0 (atom_fault a.graph name ts) refl u.1)
-
-    formed : (r : Result Formula SchemaKind) → form_read v a.graph a.nodes ts ≡ r → formed_read a v name ts r ≡ Ok b
-        → (f : Formula) × (root : ℕ) × AddsConstraint a b v name ts f root
-    formed (Err k) e g = absurd (cc)
-    formed (Ok f) e g =
-        let t = passed_on _ _ _ _ g in
-        let u = passed_on (list_any is_bad_number ts) _ _ _ t.1 in
-        let r =
-        rooted f e (neither (nat_lt most_text_bytes (length name)) (list_any is_long ts) t.0)
-        (category_named a.graph name) refl u.1 in
-        (f, r.0, r.1)
+constraint_step a b v name ts fine h =
+    let t = goes_on_ok (formula_read v a.nodes name ts) _ b h in
+    let read = form_is_read v a.nodes name ts t.0 t.1 in
+    let r = given_ok (category_named a.graph name) _ _ b t.2 in
+    let z = passed_on (r.0 == 0) _ _ b r.2 in
+    let n = passed_on (nat_le most_constraints (length a.constraints)) _ _ b z.1 in
+    let u = goes_on_ok (resolved a.graph r.0 t.0) _ b n.1 in
+    let p = passed_on _ _ _ b u.2 in (
+      u.0,
+      r.0,
+      record {
+        form = t.0;
+        formed = read.formed;
+        short = read.short;
+        root_is = r.1;
+        below_all = z.0;
+        few = n.0;
+        at_root = u.1;
+        fine = fine;
+        few_pairs = p.0;
+        new = ok_is _ _ p.1;
+      },
+    )
 
 -- the tokens of a constraint's formula are tokens of the line
 formula_fine : (ts : List Token) (root : List ℕ) (us : List Token) → statement_of ts ≡ Constraint root us → AreFine ts

@@ -18,20 +18,21 @@ use Rattle.olap_graph.specs.Lookups.{name_of_category}
 use Rattle.olap_grammar.specs.CuttingMachine.{tokens_of}
 use Rattle.olap_grammar.specs.declared.tokens.Token.{Token}
 use Rattle.olap_grammar.specs.declared.tokens.Version.TheVariants as version
-use Rattle.olap_schema_text.specs.Atoms.{atom_fault}
-use Rattle.olap_schema_text.specs.Judging.{form_read, question_added, question_cut, question_formed, question_read}
+use Rattle.olap_grammar.specs.Forms.{Form}
+use Rattle.olap_schema_text.specs.Resolving.{resolved}
+use Rattle.olap_schema_text.specs.Judging.{formula_read, question_cut, question_read}
 use Rattle.olap_schema_text.specs.Laws.{ReadQuestionsAreValid}
 use Rattle.olap_schema.specs.Readable.{is_bad}
 use Rattle.olap_schema.specs.Readable.{AreTexts, IsReadable}
 use Rattle.olap_schema_text.specs.Reading.{ReadsFormula}
-use Rattle.olap_schema_text.specs.Tokens.{is_bad_number, is_long}
 use Rattle.olap_base.specs.declared.refusals.Refusal.{Refusal}
 use Rattle.olap_schema_text.specs.declared.kinds.SchemaKind.{SchemaKind}
-use Rattle.olap_schema_text.proofs.PrintNames.{named}
-use Rattle.olap_schema_text.proofs.StepLemmas.{ok_is, passed_on}
-use Rattle.olap_schema_text.proofs.ValidFormulas.{formula_is_valid, formula_nodes}
-use Rattle.olap_schema_text.proofs.ValidSteps.{IsFormed, formed}
-use Rattle.olap_schema_text.proofs.ValidTexts.{formula_is_fine, line_is_fine}
+use Rattle.olap_schema_text.proofs.StepLemmas.{IsRead, form_is_read, goes_on_ok, ok_is, passed_on}
+use Rattle.olap_schema_text.proofs.FoundWords.{found_are_spelt}
+use Rattle.olap_schema_text.proofs.ResolvedLemmas.{resolved_is_sound}
+use Rattle.olap_schema_text.proofs.ValidFormulas.{form_nodes}
+use Rattle.olap_schema_text.proofs.ValidSteps.{formed}
+use Rattle.olap_schema_text.proofs.ValidTexts.{line_is_fine}
 
 module _ (s : Schema) (readable : IsReadable s) (root : ℕ) (declared : IsDeclared s.graph root)
     (text : List ℕ) (clean : is_bad text ≡ false) (f : Formula)
@@ -40,47 +41,37 @@ module _ (s : Schema) (readable : IsReadable s) (root : ℕ) (declared : IsDecla
     abbrev IsGood : Type 0
     IsGood = IsQuestion s root f × AreTexts (equalities f)
 
-    -- the tokens of the line are a formula, no name or constant is too long, and no atom has a fault
-    good : (ts : List Token) → tokens_of version.Two text ≡ Some ts → IsFormed version.Two s.graph 0 ts f
-        → list_any is_long ts ≡ false → atom_fault s.graph (name_of_category s.graph root) ts ≡ None
+    -- the tokens of the line are a formula over words that is resolved to this one
+    good : (ts : List Token) → tokens_of version.Two text ≡ Some ts → (form : Form)
+        → IsRead version.Two 0 ts form → resolved s.graph root form ≡ Ok f
         → nat_lt most_constants (pair_count (all_equalities s f) (all_comparisons s f)) ≡ false → IsGood
-    good ts e read short faultless few = (
-      record {
-        declared = declared;
-        formula =
-            formula_is_valid version.Two s.graph (name_of_category s.graph root) root
-            (named s.graph readable.valid.hierarchy root declared.1) read.formed
-            (record { faultless = faultless; short = short });
-        nodes_fit =
-            let count = formula_nodes version.Two s.graph read.formed in
-            omega (arith, count, read.few);
-        depth_fits = read.depth;
-        constants_fit = ltb-false most_constants (pair_count (all_equalities s f) (all_comparisons s f)) few;
-      },
-      formula_is_fine version.Two s.graph read.formed (line_is_fine version.Two text ts clean e),
-    )
-
-    added : (ts : List Token) → tokens_of version.Two text ≡ Some ts → (k : Formula)
-        → IsFormed version.Two s.graph 0 ts k → list_any is_long ts ≡ false → (o : Option SchemaKind)
-        → atom_fault s.graph (name_of_category s.graph root) ts ≡ o → question_added s k o ≡ Ok f → IsGood
-    added ts e k read short (Some q) a h = absurd (cc)
-    added ts e k read short None a h =
-        let t = passed_on _ _ _ _ h in
-        let same : f ≡ k = ok_is _ _ t.1 in
-        good ts e (subst (IsFormed version.Two s.graph 0 ts) (sym same) read) short a (rw same t.0)
-
-    read_on : (ts : List Token) → tokens_of version.Two text ≡ Some ts → (r : Result Formula SchemaKind)
-        → form_read version.Two s.graph 0 ts ≡ r → question_formed s root ts r ≡ Ok f → IsGood
-    read_on ts e (Err q) a h = absurd (cc)
-    read_on ts e (Ok k) a h =
-        let t = passed_on _ _ _ _ h in
-        let u = passed_on (list_any is_bad_number ts) _ _ _ t.1 in
-        added ts e k (formed version.Two s.graph 0 ts k a) t.0
-        (atom_fault s.graph (name_of_category s.graph root) ts) refl u.1
+    good ts e form checked at_root few =
+        let read = formed version.Two 0 ts form checked.formed in
+        let fine = line_is_fine version.Two text ts clean e in
+        let sound = resolved_is_sound s.graph root form f at_root
+        (found_are_spelt version.Two read.formed fine checked.short) in
+        let count = form_nodes version.Two read.formed in
+        let level = read.depth in (
+          record {
+            declared = declared;
+            formula = sound.valid;
+            nodes_fit = omega (arith, sound.nodes, count, read.few);
+            depth_fits = rw sound.levels level;
+            constants_fit = ltb-false most_constants (pair_count (all_equalities s f) (all_comparisons s f)) few;
+          },
+          sound.texts,
+        )
 
     cut_is_good : (o : Option (List Token)) → tokens_of version.Two text ≡ o → question_cut s root o ≡ Ok f → IsGood
     cut_is_good None e h = absurd (cc)
-    cut_is_good (Some ts) e h = read_on ts e (form_read version.Two s.graph 0 ts) refl h
+    cut_is_good (Some ts) e h =
+        let name = name_of_category s.graph root in
+        let t = goes_on_ok (formula_read version.Two 0 name ts) _ f h in
+        let u = goes_on_ok (resolved s.graph root t.0) _ f t.2 in
+        let w = passed_on (nat_lt most_constants (pair_count (all_equalities s u.0) (all_comparisons s u.0))) _ _ f u.2 in
+        let same : f ≡ u.0 = ok_is _ _ w.1 in
+        good ts e t.0 (form_is_read version.Two 0 name ts t.0 t.1)
+        (subst (λ x. resolved s.graph root t.0 ≡ Ok x) (sym same) u.1) (rw same w.0)
 
 -- the formula that a text is may be handed on
 pub question_is_valid : ReadQuestionsAreValid

@@ -4,7 +4,7 @@
 --     edge_kept          an edge does
 --     constraint_kept    a constraint does
 use Rattle.std.proofs.Common.{◌≡◌, ◌≢◌, ◌+◌, ◌<◌, ◌≤◌, ℕ, zero, suc, Bool, true, false, cond, List, [], ◌∷◌, ◌++◌, Option, Some, None, Ok, Err, length, fold, is_some, append-nil, refl, sym, ap, ◌∙◌, arith, subst, inl, inr}
-use Rattle.std.specs.Prelude.{Contains, flat_map, nat_le, sum_by}
+use Rattle.std.specs.Prelude.{Contains, flat_map, nat_le, nat_lt, sum_by}
 use Rattle.std.proofs.lemmas.Bool.{eqb-false, leb-false, leb-true, ltb-false}
 use Rattle.std.proofs.lemmas.List.{get_or_append_left, length_push}
 use Rattle.std.proofs.lemmas.List.Concat.{flat_map-append}
@@ -19,20 +19,20 @@ use Rattle.olap_base.specs.Limits.{most_categories, most_constants, most_constra
 use Rattle.olap_graph.specs.Building.{IsUnfinished, IsWithinLimits, category_refusal, edge_refusal, with_edge, with_kind}
 use Rattle.olap_graph.specs.Lookups.{category_named, edge_between}
 use Rattle.olap_graph.proofs.GrowthLemmas.{limits-with_category, limits-with_edge, unfinished-with_category, unfinished-with_edge}
-use Rattle.olap_grammar.specs.Answering.{formula_answer}
+use Rattle.olap_grammar.specs.Forms.{Form, depth_of as levels_of}
 use Rattle.olap_grammar.specs.Grammar.{IsFormula}
 use Rattle.olap_grammar.specs.Machine.{the_formula}
 use Rattle.olap_grammar.specs.Nodes.{nodes_of}
 use Rattle.olap_grammar.specs.Words.{atoms_of}
-use Rattle.olap_grammar.specs.declared.refusals.FormFault.TheVariants as form
 use Rattle.olap_grammar.specs.declared.tokens.Token.{Token}
 use Rattle.olap_grammar.specs.declared.tokens.Version.{Version}
 use Rattle.olap_grammar.proofs.ReaderLemmas.{found_is_formula}
-use Rattle.olap_schema_text.specs.Judging.{Above, form_answer, form_read}
+use Rattle.olap_schema_text.specs.Judging.{Above, form_read}
 use Rattle.olap_schema.specs.Readable.{AreTexts}
-use Rattle.olap_schema_text.proofs.StepLemmas.{AddsCategory, AddsConstraint, AddsEdge, ok_is, passed_on}
-use Rattle.olap_schema_text.proofs.ValidFormulas.{IsWithin, formula_is_valid, formula_nodes, grown_is_valid}
-use Rattle.olap_schema_text.proofs.ValidTexts.{formula_is_fine}
+use Rattle.olap_schema_text.proofs.StepLemmas.{AddsCategory, AddsConstraint, AddsEdge, given_ok, ok_is, passed_on}
+use Rattle.olap_schema_text.proofs.FoundWords.{found_are_spelt}
+use Rattle.olap_schema_text.proofs.ResolvedLemmas.{resolved_is_sound}
+use Rattle.olap_schema_text.proofs.ValidFormulas.{IsWithin, form_nodes, grown_is_valid}
 use Rattle.olap_schema_text.proofs.ValidNames.{name_at}
 
 -- what holds of one constraint
@@ -200,33 +200,26 @@ edge_kept a b child parent c d s p =
 -- ---- a constraint
 
 -- what a formula that was read is
-pub record IsFormed (v : Version) (g : Graph) (before : ℕ) (ts : List Token) (f : Formula) : Type 0 where
+pub record IsFormed (v : Version) (before : ℕ) (ts : List Token) (f : Form) : Type 0 where
   pub few : before + nodes_of v ts ≤ most_nodes
-  pub formed : IsFormula (atoms_of v g) 1 ts f
-  pub depth : depth_of f ≤ most_depth
+  pub formed : IsFormula (atoms_of v) 1 ts f
+  pub depth : levels_of f ≤ most_depth
 
 -- a formula whose form has no fault, with its limits
-pub formed : (v : Version) (g : Graph) (before : ℕ) (ts : List Token) (f : Formula) → form_read v g before ts ≡ Ok f
-    → IsFormed v g before ts f
+pub formed : (v : Version) (before : ℕ) (ts : List Token) (f : Form) → form_read v before ts ≡ Ok f
+    → IsFormed v before ts f
 unfolding form_read
-formed v g before ts f h =
+formed v before ts f h =
     let many = passed_on _ _ _ _ h in
     let deep = passed_on _ _ _ _ many.1 in
-    let t = found (the_formula (atoms_of v g) ts) refl deep.1 in
-    record { few = ltb-false most_nodes (before + nodes_of v ts) many.0; formed = t.0; depth = t.1 }
-  where
-    shallow : (k : Formula) → the_formula (atoms_of v g) ts ≡ Some k → (b : Bool) → nat_le (depth_of k) most_depth ≡ b
-        → form_answer (cond b (Ok k) (Err form.TooDeep)) ≡ Ok f → IsFormula (atoms_of v g) 1 ts f
-        × (depth_of f ≤ most_depth)
-    shallow k e true d q =
-        subst (λ x. IsFormula (atoms_of v g) 1 ts x × (depth_of x ≤ most_depth)) (sym (ok_is _ _ q))
-        (found_is_formula (atoms_of v g) ts k e, leb-true (depth_of k) most_depth d)
-    shallow k e false d q = absurd (cc)
-
-    found : (o : Option Formula) → the_formula (atoms_of v g) ts ≡ o → form_answer (formula_answer o) ≡ Ok f
-        → IsFormula (atoms_of v g) 1 ts f × (depth_of f ≤ most_depth)
-    found None e q = absurd (cc)
-    found (Some k) e q = shallow k e (nat_le (depth_of k) most_depth) refl q
+    let t = given_ok (the_formula (atoms_of v) ts) _ _ f deep.1 in
+    let u = passed_on (nat_lt most_depth (levels_of t.0)) _ _ f t.2 in
+    let same : f ≡ t.0 = ok_is _ _ u.1 in
+    record {
+      few = ltb-false most_nodes (before + nodes_of v ts) many.0;
+      formed = found_is_formula (atoms_of v) ts f (subst (λ x. the_formula (atoms_of v) ts ≡ Some x) (sym same) t.1);
+      depth = ltb-false most_depth (levels_of f) (rw same u.0);
+    }
 
 -- what is folded over the atoms of one constraint more
 folded_on : {A : Type 0} (add : List A → A → List A) (atoms : Formula → List A) (cs : List Constraint) (c : Constraint)
@@ -270,14 +263,16 @@ one_more g cs nodes pairs numbers c more s sound few count few_nodes few_pairs =
 pub constraint_kept : (a b : Above) (v : Version) (name : List ℕ) (ts : List Token) (f : Formula) (root : ℕ)
     → AddsConstraint a b v name ts f root → IsSoundSoFar a → IsSoundSoFar b
 constraint_kept a b v name ts f root s p =
-    let read = formed v a.graph a.nodes ts f s.formed in
+    let read = formed v a.nodes ts s.form s.formed in
+    let good = resolved_is_sound a.graph root s.form f s.at_root
+    (found_are_spelt v read.formed s.fine s.short) in
+    let counted = form_nodes v read.formed in
+    let level = read.depth in
     let sound : IsSoundConstraint a.graph (record { root = root; formula = f }) = record {
       declared = (eqb-false root 0 s.below_all, (name_at a.graph name root s.root_is).0);
-      formula =
-          formula_is_valid v a.graph name root s.root_is read.formed
-          (record { faultless = s.faultless; short = s.short });
-      depth = read.depth;
-      texts = formula_is_fine v a.graph read.formed s.fine;
+      formula = good.valid;
+      depth = rw good.levels level;
+      texts = good.texts;
     } in
     subst IsSoundSoFar (sym s.new) (record {
       unfinished = p.unfinished;
@@ -286,7 +281,7 @@ constraint_kept a b v name ts f root s p =
           one_more a.graph a.constraints a.nodes a.pairs a.numbers (record { root = root; formula = f })
           (nodes_of v ts) p.constraints sound
           (leb-false most_constraints (length a.constraints) s.few)
-          (formula_nodes v a.graph read.formed) read.few
+          (good.nodes ∙ counted) read.few
           (ltb-false most_constants
           (length (fold with_pair a.pairs (equalities f)) + length (fold with_number a.numbers (comparisons f)))
           s.few_pairs);

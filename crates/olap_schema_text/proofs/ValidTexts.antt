@@ -1,30 +1,24 @@
 -- The constants of a line that is UTF-8 without control characters are so too.
 --     AreFine            each string among the tokens is such a text
 --     line_is_fine       the tokens of such a line
---     formula_is_fine    the constants of a formula of such tokens
-use Rattle.std.proofs.Common.{◌≡◌, ◌<◌, ◌≤◌, ℕ, ℤ, zero, suc, Bool, true, false, not, cond, List, [], ◌∷◌, ◌++◌, Option, Some, None, length, get_or, drop, map, append_assoc, refl, sym, arith, subst, inl, inr}
-use Rattle.std.specs.Prelude.{◌==◌, ◌||◌, ◌⊎◌, Contains, codes, flat_map, nat_lt, slice_index_or}
+--     all_texts          the constants of all constraints
+use Rattle.std.proofs.Common.{◌≡◌, ◌<◌, ◌≤◌, ℕ, zero, suc, Bool, true, false, List, [], ◌∷◌, ◌++◌, Some, length, get_or, drop, append_assoc, refl, sym, arith, subst, inl, inr}
+use Rattle.std.specs.Prelude.{◌==◌, ◌||◌, ◌⊎◌, Contains, flat_map}
 use Rattle.std.specs.Char.{is_ascii_alphanumeric, is_ascii_digit}
 use Rattle.std.specs.Int.{is_in_range}
-use Rattle.std.specs.List.{list_all, list_any}
-use Rattle.std.specs.Str.{IsUtf8, bytes_eq}
+use Rattle.std.specs.List.{list_any}
+use Rattle.std.specs.Str.{IsUtf8}
 use Rattle.std.proofs.lemmas.Bool.{eqb-true, leb-true}
 use Rattle.std.proofs.lemmas.List.{drop_at, take_at}
 use Rattle.std.proofs.lemmas.List.Concat.{flat_map-cons}
 use Rattle.std.proofs.lemmas.List.Elements.{Contains-append_cases}
 use Rattle.std.proofs.lemmas.Str.{IsCharBoundary-after_ascii, IsCharBoundary-before_ascii, IsUtf8-append, IsUtf8-drop, IsUtf8-take}
-use Rattle.olap_ast.specs.Formula as Meaning
-use Rattle.olap_ast.specs.Formula.{Equality, Formula, Terms, equalities, equalities_of_terms}
+use Rattle.olap_ast.specs.Formula.{Equality, equalities}
 use Rattle.olap_ast.specs.Schema.{Constraint}
 use Rattle.olap_base.specs.Deciding.{contains_cases, contains_cons}
-use Rattle.olap_base.specs.Reaching.{is_category_name}
-use Rattle.olap_base.specs.Graph.{Graph}
 use Rattle.olap_base.proofs.ListLemmas.{Contains-nil, contains_head}
 use Rattle.olap_grammar.specs.Cutting.{AreWordBytes, IsCut, IsCut.end, IsCut.blank, IsCut.tabbed, IsCut.word, IsCut.quoted, IsCut.signed, IsCut.marked, Spells, Spells.nothing, Spells.quote, Spells.slash, Spells.other, is_word_byte, joint_bytes, mark_bytes}
 use Rattle.olap_grammar.specs.CuttingMachine.{tokens_of}
-use Rattle.olap_grammar.specs.Grammar.{IsFormula, IsFormula.looser, IsFormula.joined, IsFormula.negated, IsFormula.bracketed, IsFormula.listed, IsFormula.plain, IsFormula.equal, IsFormula.compared, IsItems, IsItems.last, IsItems.more, IsList, IsList.none, IsList.some, join}
-use Rattle.olap_numerals.specs.Comparing.{Op}
-use Rattle.olap_grammar.specs.Words.{atoms_of, compared_of, comparison_in, comparison_of, equal_of, equality_of, id_of, is_number_token, path_of, pieces_of, plain_of, reach_of}
 use Rattle.olap_grammar.specs.declared.tokens.Joint.{Joint}
 use Rattle.olap_grammar.specs.declared.tokens.Joint.TheVariants as joint
 use Rattle.olap_grammar.specs.declared.tokens.Token.{Token}
@@ -32,10 +26,8 @@ use Rattle.olap_grammar.specs.declared.tokens.Token.TheVariants as token
 use Rattle.olap_grammar.specs.declared.tokens.Mark.{Mark}
 use Rattle.olap_grammar.specs.declared.tokens.Mark.TheVariants as mark
 use Rattle.olap_grammar.specs.declared.tokens.Version.{Version}
-use Rattle.olap_grammar.specs.declared.tokens.Version.TheVariants as version
 use Rattle.olap_grammar.proofs.CutSound.{found_is_cut}
-use Rattle.olap_schema.specs.Readable.{is_bad, is_control}
-use Rattle.olap_schema.specs.Readable.{AreTexts}
+use Rattle.olap_schema.specs.Readable.{AreTexts, is_bad, is_control}
 use Rattle.olap_schema_text.proofs.BackBytes.{IsPlain, from_not_bad, not_bad}
 use Rattle.olap_schema_text.proofs.ValidNames.{first_holds, none_holds}
 
@@ -128,7 +120,7 @@ drop_fine (suc n) [] h = tt
 drop_fine (suc n) (t ∷ ts) h = drop_fine n ts h.1
 
 -- and in two parts
-parts_fine : (ts us : List Token) → AreFine (ts ++ us) → AreFine ts × AreFine us
+pub parts_fine : (ts us : List Token) → AreFine (ts ++ us) → AreFine ts × AreFine us
 parts_fine [] us h = (tt, h)
 parts_fine (t ∷ ts) us h = let r = parts_fine ts us h.1 in ((h.0, r.0), r.1)
 
@@ -239,132 +231,22 @@ pub line_is_fine : (v : Version) (line : List ℕ) (ts : List Token) → is_bad 
     → AreFine ts
 line_is_fine v line ts h e = cut_is_fine (found_is_cut v line ts e) (from_not_bad line h)
 
--- ---- formulas
-
--- what is found is so
-abbrev Finds : Option Formula → Type 0
-Finds o = (f : Formula) → o ≡ Some f → AreTexts (equalities f)
+-- ---- constants
 
 -- no constants, none that isn't plain
-no_texts : AreTexts []
+pub no_texts : AreTexts []
 no_texts a c = absurd (Contains-nil a c)
 
--- nothing was found
-nothing_found : Finds None
-nothing_found f e = absurd (cc)
-
--- a formula with plain constants was
-one_found : (g : Formula) → AreTexts (equalities g) → Finds (Some g)
-one_found g h f e = let s : g ≡ f = cc in subst (λ x. AreTexts (equalities x)) s h
-
--- one of two of which each is so
-pick : (b : Bool) (x y : Option Formula) → Finds x → Finds y → Finds (cond b x y)
-pick true x y p q = p
-pick false x y p q = q
-
--- a path has no constants
-path_texts : (g : Graph) (parts : List (List ℕ)) → Finds (path_of g parts)
-path_texts g parts =
-    pick (not (list_all is_category_name parts)) None
-    (Some (Meaning.Formula.Path (map (id_of g) (drop 1 parts)))) nothing_found (one_found _ no_texts)
-
--- nor has a reaching
-reach_texts : (g : Graph) (parts : List (List ℕ)) → Finds (reach_of g parts)
-reach_texts g parts =
-    let second = id_of g (slice_index_or parts 1 []) in
-    let third = id_of g (slice_index_or parts 2 []) in
-    pick (not (list_all is_category_name parts)) _ _ nothing_found
-    (pick (length parts == 2) _ _ (one_found (Meaning.Formula.Reach second) no_texts)
-    (pick (length parts == 3) _ _ (one_found (Meaning.Formula.Via second third) no_texts) nothing_found))
-
--- an equality has its string
-equal_texts : (g : Graph) (k : List ℕ) (parts : List (List ℕ)) → IsPlain k → Finds (equal_of g k parts)
-equal_texts g k parts p =
-    pick (not (list_all is_category_name parts)) _ _ nothing_found
-    (pick (length parts == 1) _ _
-    (one_found (Meaning.Formula.Equals (id_of g (slice_index_or parts 0 [])) k)
-    (one (id_of g (slice_index_or parts 0 []))))
-    (pick (length parts == 2) _ _
-    (one_found (Meaning.Formula.Equals (id_of g (slice_index_or parts 1 [])) k)
-    (one (id_of g (slice_index_or parts 1 []))))
-    nothing_found))
-  where
-    one : (d : ℕ) → AreTexts ((record { category = d; text = k }) ∷ [])
-    one d a c = elim (contains_cases a (record { category = d; text = k }) [] c) [
-      | inl e ↦ subst (λ (x : Equality). is_bad x.text ≡ false) e (not_bad k p)
-      | inr n ↦ absurd (Contains-nil a n)
-    ]
-
--- a word by itself has none
-plain_texts : (g : Graph) (w : List ℕ) → Finds (plain_of g w)
-unfolding plain_of
-plain_texts g w =
-    pick (bytes_eq w (codes "true")) _ _ (one_found Meaning.Formula.Truth no_texts)
-    (pick (bytes_eq w (codes "false")) _ _ (one_found Meaning.Formula.Falsity no_texts)
-    (pick (nat_lt 1 (length (pieces_of 95 w))) _ _ (path_texts g (pieces_of 95 w)) (reach_texts g (pieces_of 46 w))))
-
--- a word with a string has it
-equality_texts : (g : Graph) (w k : List ℕ) → IsPlain k → Finds (equality_of g w k)
-unfolding equality_of
-equality_texts g w k p = equal_texts g k (pieces_of 46 w) p
-
--- a comparison has none
-compared_texts : (g : Graph) (op : Op) (n : ℤ) (parts : List (List ℕ)) → Finds (compared_of g op n parts)
-compared_texts g op n parts =
-    pick (not (list_all is_category_name parts)) _ _ nothing_found
-    (pick (length parts == 1) _ _
-    (one_found (Meaning.Formula.Compare (id_of g (slice_index_or parts 0 [])) op n) no_texts)
-    (pick (length parts == 2) _ _
-    (one_found (Meaning.Formula.Compare (id_of g (slice_index_or parts 1 [])) op n) no_texts) nothing_found))
-
--- nor has a word with a number
-comparison_texts : (v : Version) (g : Graph) (w : List ℕ) (op : Op) (digits : List ℕ)
-    → Finds (comparison_in v g w op digits)
-unfolding comparison_of
-comparison_texts version.One g w op digits = nothing_found
-comparison_texts version.Two g w op digits =
-    pick (is_number_token digits) _ _ (compared_texts g op _ (pieces_of 46 w)) nothing_found
+-- one that is plain
+pub one_text : (d : ℕ) (k : List ℕ) → IsPlain k → AreTexts ((record { category = d; text = k }) ∷ [])
+one_text d k p a c = elim (contains_cases a (record { category = d; text = k }) [] c) [
+  | inl e ↦ subst (λ (x : Equality). is_bad x.text ≡ false) e (not_bad k p)
+  | inr n ↦ absurd (Contains-nil a n)
+]
 
 -- constants of two formulas
-both_texts : (xs ys : List Equality) → AreTexts xs → AreTexts ys → AreTexts (xs ++ ys)
+pub both_texts : (xs ys : List Equality) → AreTexts xs → AreTexts ys → AreTexts (xs ++ ys)
 both_texts xs ys p q a c = elim (Contains-append_cases xs ys a c) [ inl d ↦ p a d | inr d ↦ q a d ]
-
--- and of both joined
-join_texts : (j : Joint) (f g : Formula) → AreTexts (equalities f) → AreTexts (equalities g)
-    → AreTexts (equalities (join j f g))
-join_texts joint.Iff f g p q = both_texts (equalities f) (equalities g) p q
-join_texts joint.Implies f g p q = both_texts (equalities f) (equalities g) p q
-join_texts joint.Xor f g p q = both_texts (equalities f) (equalities g) p q
-join_texts joint.Or f g p q = both_texts (equalities f) (equalities g) p q
-join_texts joint.And f g p q = both_texts (equalities f) (equalities g) p q
-
-module _ (v : Version) (g : Graph) where
-  mutual
-    -- the constants of a formula of such tokens
-    pub formula_is_fine : {n : ℕ} {ts : List Token} {f : Formula} → IsFormula (atoms_of v g) n ts f → AreFine ts
-        → AreTexts (equalities f)
-    formula_is_fine (looser d) h = formula_is_fine d h
-    formula_is_fine (joined j {left = left} {right = right} {f = f} {g = k} d e) h =
-        let t = parts_fine left (token.Mark (mark.Joint j) ∷ right) h in
-        join_texts j f k (formula_is_fine d t.0) (formula_is_fine e t.1.1)
-    formula_is_fine (negated {ts = ts} d) h = formula_is_fine d h.1
-    formula_is_fine (bracketed {ts = ts} d) h = formula_is_fine d (parts_fine ts (token.Mark mark.Close ∷ []) h.1).0
-    formula_is_fine (listed {ts = ts} d) h = list_is_fine d (parts_fine ts (token.Mark mark.Close ∷ []) h.1.1).0
-    formula_is_fine (plain {w = w} {f = f} e) h = plain_texts g w f e
-    formula_is_fine (equal {w = w} {k = k} {f = f} e) h = equality_texts g w k (h.1.1.0 k refl) f e
-    formula_is_fine (compared op t {w = w} {digits = digits} {f = f} p e) h = comparison_texts v g w op digits f e
-
-    list_is_fine : {ts : List Token} {fs : Terms} → IsList (atoms_of v g) ts fs → AreFine ts
-        → AreTexts (equalities_of_terms fs)
-    list_is_fine none h = no_texts
-    list_is_fine (some d) h = items_are_fine d h
-
-    items_are_fine : {ts : List Token} {fs : Terms} → IsItems (atoms_of v g) ts fs → AreFine ts
-        → AreTexts (equalities_of_terms fs)
-    items_are_fine (last {f = f} d) h = both_texts (equalities f) [] (formula_is_fine d h) no_texts
-    items_are_fine (more {ts = ts} {us = us} {f = f} {fs = fs} d e) h =
-        let t = parts_fine ts (token.Mark mark.Comma ∷ us) h in
-        both_texts (equalities f) (equalities_of_terms fs) (formula_is_fine d t.0) (items_are_fine e t.1.1)
 
 -- where it is so of each constraint, it is so of all their constants
 pub all_texts : (cs : List Constraint) → ((c : Constraint) → Contains cs c → AreTexts (equalities c.formula))

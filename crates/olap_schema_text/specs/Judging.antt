@@ -10,7 +10,7 @@ use Rattle.std.specs.List.{list_any, range_with_len}
 use Rattle.olap_base.specs.Reaching.{category_reaches}
 use Rattle.olap_base.specs.Graph.{Graph}
 use Rattle.olap_base.specs.declared.refusals.Fault.{Fault}
-use Rattle.olap_base.specs.Limits.{most_constants, most_constraints, most_nodes, most_text_bytes}
+use Rattle.olap_base.specs.Limits.{most_constants, most_constraints, most_depth, most_nodes, most_text_bytes}
 use Rattle.olap_graph.specs.Building.{all_alone, category_refusal, edge_refusal, with_edge, with_kind}
 use Rattle.olap_graph.specs.Lookups.{category_named, name_of_category}
 use Rattle.olap_graph.specs.declared.refusals.CategoryFault.{CategoryFault}
@@ -19,23 +19,22 @@ use Rattle.olap_graph.specs.declared.refusals.EdgeFault.{EdgeFault}
 use Rattle.olap_graph.specs.declared.refusals.EdgeFault.TheVariants as of_edge
 use Rattle.olap_ast.specs.Constants.{all_comparisons, all_equalities}
 use Rattle.olap_ast.specs.Formula.{Comparison, Equality, Formula, comparisons, equalities}
+use Rattle.olap_grammar.specs.Forms.{Form, depth_of}
 use Rattle.olap_ast.specs.Schema.{Constraint, Schema}
 use Rattle.olap_ast.specs.Valid.{pair_count, with_number, with_pair}
-use Rattle.olap_grammar.specs.Answering.{formula_answer}
 use Rattle.olap_grammar.specs.Brackets.{opens_over}
+use Rattle.olap_grammar.specs.Cutting.{has_numbers}
 use Rattle.olap_grammar.specs.CuttingMachine.{tokens_of}
 use Rattle.olap_grammar.specs.Machine.{the_formula}
 use Rattle.olap_grammar.specs.Nodes.{nodes_of}
 use Rattle.olap_grammar.specs.Words.{atoms_of}
-use Rattle.olap_grammar.specs.declared.refusals.FormFault.{FormFault}
-use Rattle.olap_grammar.specs.declared.refusals.FormFault.TheVariants as form
 use Rattle.olap_grammar.specs.declared.tokens.Token.{Token}
-use Rattle.olap_schema_text.specs.Atoms.{atom_fault}
+use Rattle.olap_schema_text.specs.Resolving.{given, goes_on, known, resolved}
 use Rattle.olap_schema.specs.Readable.{is_bad}
 use Rattle.olap_schema_text.specs.Lines.{chomped, is_quiet, lines_of}
 use Rattle.olap_schema_text.specs.Statements as says
 use Rattle.olap_schema_text.specs.Statements.{Statement, statement_of}
-use Rattle.olap_schema_text.specs.Tokens.{is_bad_number, is_long}
+use Rattle.olap_schema_text.specs.Tokens.{is_bad_number, is_long, is_long_name}
 use Rattle.olap_schema_text.specs.declared.kinds.SchemaKind.{SchemaKind}
 use Rattle.olap_schema_text.specs.declared.kinds.SchemaKind.TheVariants as kind
 use Rattle.olap_grammar.specs.declared.tokens.Version.{Version}
@@ -69,15 +68,10 @@ category_added a n name number (Some e) = Err (category_kind e)
 category_added a n name number None =
     Ok (record a { graph = with_kind number a.graph name; category_lines = a.category_lines ++ n ∷ [] })
 
--- the members of a category may be named by numbers: not so in the first version
-abbrev pub allows_numbers : Version → Bool
-allows_numbers version.One = false
-allows_numbers version.Two = true
-
 -- a category's line
 abbrev pub category_read : Above → ℕ → Version → List ℕ → Bool → Result Above SchemaKind
 category_read a n v name number =
-    if number && not (allows_numbers v) then Err kind.BadForm
+    if number && not (has_numbers v) then Err kind.BadForm
     else if nat_lt most_text_bytes (length name) then Err kind.TextTooLong
     else category_added a n name number (category_refusal a.graph name)
 
@@ -93,43 +87,37 @@ abbrev pub edge_added : Above → ℕ → ℕ → Option EdgeFault → Result Ab
 edge_added a c d (Some e) = Err (edge_kind e)
 edge_added a c d None = Ok (record a { graph = with_edge a.graph c d })
 
--- an edge between the categories of these names, if there are some
-abbrev pub ends_read : Above → Option ℕ → Option ℕ → Result Above SchemaKind
-ends_read a None d = Err kind.UnknownCategory
-ends_read a (Some c) None = Err kind.UnknownCategory
-ends_read a (Some c) (Some d) = edge_added a c d (edge_refusal a.graph c d)
-
 -- an edge's line
 abbrev pub edge_read : Above → List ℕ → List ℕ → Result Above SchemaKind
 edge_read a child parent =
     if nat_lt most_text_bytes (length child) || nat_lt most_text_bytes (length parent) then Err kind.TextTooLong
-    else ends_read a (category_named a.graph child) (category_named a.graph parent)
+    else known a.graph child (λ c. known a.graph parent (λ d. edge_added a c d (edge_refusal a.graph c d)))
 
 -- ---- formulas
 
--- the fault of tokens that are no formula
-abbrev pub form_kind : FormFault → SchemaKind
-form_kind form.BadForm = kind.BadForm
-form_kind form.TooDeep = kind.TooDeep
-
--- the formula, or its fault
-abbrev pub form_answer : Result Formula FormFault → Result Formula SchemaKind
-form_answer (Ok f) = Ok f
-form_answer (Err e) = Err (form_kind e)
-
--- the formula of the tokens by the version, with so many nodes on the lines above
-unfoldable pub form_read : Version → Graph → ℕ → List Token → Result Formula SchemaKind
-form_read v g before ts =
+-- the formula over words of the tokens by the version, with so many nodes on the lines above
+unfoldable pub form_read : Version → ℕ → List Token → Result Form SchemaKind
+form_read v before ts =
     if nat_lt most_nodes (before + nodes_of v ts) then Err kind.TooManyNodes
     else if opens_over 0 0 ts then Err kind.TooDeep
-    else form_answer (formula_answer (the_formula (atoms_of v g) ts))
+    else given (the_formula (atoms_of v) ts) kind.BadForm
+    (λ f. if nat_lt most_depth (depth_of f) then Err kind.TooDeep else Ok f)
+
+-- the same with short names and good numbers, where a root of this name stands in front
+abbrev pub formula_read : Version → ℕ → List ℕ → List Token → Result Form SchemaKind
+formula_read v before name ts =
+    goes_on (form_read v before ts) (λ f.
+    if is_long_name name || list_any is_long ts then Err kind.TextTooLong
+    else if list_any is_bad_number ts then Err kind.BadNumber
+    else Ok f)
 
 -- ---- constraints
 
--- the constraint is added, with the pairs that there are then
-abbrev pub constraint_added : Above → Version → ℕ → List Token → Formula → List Equality → List Comparison
-    → Result Above SchemaKind
-constraint_added a v root ts f pairs numbers =
+-- the constraint is added, if there are then not too many pairs
+abbrev pub constraint_added : Above → Version → ℕ → List Token → Formula → Result Above SchemaKind
+constraint_added a v root ts f =
+    let pairs = fold with_pair a.pairs (equalities f) in
+    let numbers = fold with_number a.numbers (comparisons f) in
     if nat_lt most_constants (length pairs + length numbers) then Err kind.TooManyConstants
     else Ok (record a {
       constraints = a.constraints ++ record { root = root; formula = f } ∷ [];
@@ -138,31 +126,19 @@ constraint_added a v root ts f pairs numbers =
       numbers = numbers;
     })
 
--- after the check of the atoms
-abbrev pub atoms_read : Above → Version → ℕ → List Token → Formula → Option SchemaKind → Result Above SchemaKind
-atoms_read a v root ts f (Some k) = Err k
-atoms_read a v root ts f None =
-    constraint_added a v root ts f (fold with_pair a.pairs (equalities f)) (fold with_number a.numbers (comparisons f))
-
--- after the look-up of the root
-abbrev pub root_read : Above → Version → List ℕ → List Token → Formula → Option ℕ → Result Above SchemaKind
-root_read a v name ts f None = Err kind.UnknownCategory
-root_read a v name ts f (Some root) =
+-- what comes of the root of one constraint more
+abbrev pub root_read : Above → List ℕ → (ℕ → Result Above SchemaKind) → Result Above SchemaKind
+root_read a name next =
+    known a.graph name (λ root.
     if root == 0 then Err kind.RootIsAll
     else if nat_le most_constraints (length a.constraints) then Err kind.TooManyConstraints
-    else atoms_read a v root ts f (atom_fault a.graph name ts)
-
--- after the reading of the formula
-abbrev pub formed_read : Above → Version → List ℕ → List Token → Result Formula SchemaKind → Result Above SchemaKind
-formed_read a v name ts (Err k) = Err k
-formed_read a v name ts (Ok f) =
-    if nat_lt most_text_bytes (length name) || list_any is_long ts then Err kind.TextTooLong
-    else if list_any is_bad_number ts then Err kind.BadNumber
-    else root_read a v name ts f (category_named a.graph name)
+    else next root)
 
 -- a constraint's line
 abbrev pub constraint_read : Above → Version → List ℕ → List Token → Result Above SchemaKind
-constraint_read a v name ts = formed_read a v name ts (form_read v a.graph a.nodes ts)
+constraint_read a v name ts =
+    goes_on (formula_read v a.nodes name ts) (λ form.
+    root_read a name (λ root. goes_on (resolved a.graph root form) (λ f. constraint_added a v root ts f)))
 
 -- ---- a line
 
@@ -231,25 +207,14 @@ schema_read text = text_ended (lines_on (Ok nothing_above) 0 (lines_of text))
 
 -- ---- a question's formula
 
--- after the check of the atoms
-abbrev pub question_added : Schema → Formula → Option SchemaKind → Result Formula SchemaKind
-question_added s f (Some k) = Err k
-question_added s f None =
-    if nat_lt most_constants (pair_count (all_equalities s f) (all_comparisons s f)) then Err kind.TooManyConstants
-    else Ok f
-
--- after the reading of the formula
-abbrev pub question_formed : Schema → ℕ → List Token → Result Formula SchemaKind → Result Formula SchemaKind
-question_formed s root ts (Err k) = Err k
-question_formed s root ts (Ok f) =
-    if list_any is_long ts then Err kind.TextTooLong
-    else if list_any is_bad_number ts then Err kind.BadNumber
-    else question_added s f (atom_fault s.graph (name_of_category s.graph root) ts)
-
 -- a question that has no bad byte, by the second version, whatever the schema's was
 abbrev pub question_cut : Schema → ℕ → Option (List Token) → Result Formula SchemaKind
 question_cut s root None = Err kind.BadForm
-question_cut s root (Some ts) = question_formed s root ts (form_read version.Two s.graph 0 ts)
+question_cut s root (Some ts) =
+    goes_on (formula_read version.Two 0 (name_of_category s.graph root) ts) (λ form.
+    goes_on (resolved s.graph root form) (λ f.
+    if nat_lt most_constants (pair_count (all_equalities s f) (all_comparisons s f)) then Err kind.TooManyConstants
+    else Ok f))
 
 -- the formula that the text is, at the root, or its first fault
 unfoldable pub question_read : Schema → ℕ → List ℕ → Result Formula SchemaKind

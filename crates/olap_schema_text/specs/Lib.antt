@@ -4,11 +4,12 @@
 pub mod Lines
 pub mod Statements
 pub mod Tokens
-pub mod Atoms
+pub mod Resolving
 pub mod Judging
 pub mod Kinds
 pub mod Printing
 pub mod PrintingLaws
 pub mod Laws
 -- The inside: what the readers' values stand for.
+pub mod Known
 pub mod Reading

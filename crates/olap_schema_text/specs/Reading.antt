@@ -1,13 +1,14 @@
 -- The values of the readers, as the definitions have them.
 --     Finds                         no fault was found, or the first
+--     form_kind, form_answer        what a reader of tokens says, as a fault of a schema
 --     above_of                      what the reader knows, as the definition has it
 --     Reads                         a line was read as the definition says
 --     ReadsLines                    so were all lines
---     ReadsFormula                  a formula was read as the definition says
+--     ReadsForm, ReadsFormula       a formula was read as the definition says, over words or at a root
 --     said                          what the tokens of a line say
 --     HasName                       a new category has a category name
 --     IsTallyBehind                 what was counted is so of the tokens
-use Rattle.std.specs.Prelude.{◌≡◌, ◌≤◌, ◌<◌, ◌+◌, ℕ, List, Result, Ok, Err, Option, None, map, IsTrue}
+use Rattle.std.specs.Prelude.{◌≡◌, ◌≤◌, ◌<◌, ◌+◌, ℕ, List, Result, Ok, Err, Option, Some, None, map, IsTrue}
 use Rattle.olap_base.specs.Reaching.{is_category_name}
 use Rattle.olap_base.specs.Refusing.{IsCause, IsRefusedBy}
 use Rattle.olap_base.specs.declared.refusals.Fault.{Fault}
@@ -16,6 +17,11 @@ use Rattle.olap_ast.specs.Formula as Meaning
 use Rattle.olap_ast.specs.Trees.{constraint_of, formula_of}
 use Rattle.olap_ast.specs.declared.formulas.Formula.{Formula}
 use Rattle.olap_grammar.specs.Brackets.{opens_over}
+use Rattle.olap_grammar.specs.Forms as words
+use Rattle.olap_grammar.specs.Shown.{form_of}
+use Rattle.olap_grammar.specs.declared.forms.Form.{Form}
+use Rattle.olap_grammar.specs.declared.refusals.FormFault.{FormFault}
+use Rattle.olap_grammar.specs.declared.refusals.FormFault.TheVariants as of_form
 use Rattle.olap_grammar.specs.Tallying.{counted_nodes}
 use Rattle.olap_grammar.specs.Nodes.{nodes_of}
 use Rattle.olap_grammar.specs.declared.tallying.Tally.{Tally}
@@ -24,6 +30,7 @@ use Rattle.olap_grammar.specs.declared.tokens.Token.{Token}
 use Rattle.olap_schema_text.specs.Judging.{Above, Read}
 use Rattle.olap_schema_text.specs.Statements as says
 use Rattle.olap_schema_text.specs.declared.kinds.SchemaKind.{SchemaKind}
+use Rattle.olap_schema_text.specs.declared.kinds.SchemaKind.TheVariants as kind
 use Rattle.olap_schema_text.specs.declared.pairing.NumberPair.{NumberPair}
 use Rattle.olap_schema_text.specs.declared.pairing.Pair.{Pair}
 use Rattle.olap_schema_text.specs.declared.reading.Reading.{Reading}
@@ -64,6 +71,21 @@ Reads (Err e) new read = IsRefusedBy e read
 abbrev pub ReadsLines : {A : Type 0} → Result A (Refusal (Fault SchemaKind)) → Above → Read → Type 0
 ReadsLines (Ok u) new read = read ≡ Ok new
 ReadsLines (Err e) new read = IsRefusedBy e read
+
+-- the fault of tokens that are no formula
+abbrev pub form_kind : FormFault → SchemaKind
+form_kind of_form.BadForm = kind.BadForm
+form_kind of_form.TooDeep = kind.TooDeep
+
+-- the formula, or its fault
+abbrev pub form_answer : Result words.Form FormFault → Result words.Form SchemaKind
+form_answer (Ok f) = Ok f
+form_answer (Err e) = Err (form_kind e)
+
+-- the formula over words was read, or there is that fault
+abbrev pub ReadsForm : Result Form (Refusal SchemaKind) → Result words.Form SchemaKind → Type 0
+ReadsForm (Ok f) read = read ≡ Ok (form_of f)
+ReadsForm (Err e) read = IsRefusedBy e read
 
 -- the formula was read, or there is that fault
 abbrev pub ReadsFormula : Result Formula (Refusal SchemaKind) → Result Meaning.Formula SchemaKind → Type 0

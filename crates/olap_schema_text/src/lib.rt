@@ -4,8 +4,9 @@
 //! (`specs/Judging.antt`). Each schema is read back from what `print_schema` prints. Nothing here knows of instances.
 #![tactic(auto)]
 
-mod atoms;
+mod forming;
 mod kinds;
+mod knowing;
 mod laws;
 mod lines;
 mod measuring;
@@ -13,6 +14,7 @@ mod pairing;
 mod printing;
 mod questions;
 mod reading;
+mod resolving;
 mod statements;
 mod texts;
 

@@ -1,5 +1,4 @@
 // The checks of a formula's tokens that look at no graph.
-ghost use Rattle.olap_base.specs.Graph.{Graph};
 ghost use Rattle.olap_base.specs.Limits.{most_nodes};
 ghost use Rattle.olap_grammar.specs.Brackets.{most_tokens, opens_over};
 ghost use Rattle.olap_grammar.specs.Nodes.{nodes_of};
@@ -8,8 +7,7 @@ ghost use Rattle.olap_grammar.specs.declared.tokens.Version.{Version as Versions
 ghost use Rattle.olap_schema_text.specs.Judging.{form_read};
 ghost use Rattle.olap_schema_text.specs.Reading.{IsTallyBehind};
 ghost use Rattle.olap_grammar.specs.Words.{pieces_of};
-ghost use Rattle.olap_schema_text.specs.Atoms.{names_in};
-ghost use Rattle.olap_schema_text.specs.Tokens.{is_bad_number as is_bad_number_of, is_long as is_long_of, is_long_name, is_no_numeral as is_no_numeral_of};
+ghost use Rattle.olap_schema_text.specs.Tokens.{is_bad_number as is_bad_number_of, is_long as is_long_of, is_long_name, is_no_numeral as is_no_numeral_of, names_in};
 ghost use Rattle.std.specs.List.{list_any};
 ghost use Rattle.std.specs.Prelude.{◌≡◌, ◌≤◌, ◌<◌, List, Err, length};
 
@@ -26,8 +24,8 @@ pub(crate) const MOST_TOKENS: usize = (2 * MOST_DEPTH as usize + 3) * MOST_NODES
 /// were counted in front of the formula.
 pub(crate) fn long_form_fault(before: u16, front: u16, tally: &Tally) -> SchemaKind
     requires { front ≤ 3 }
-    ensures { (v : Versions) (g : Graph) (ts : List Tokens) → IsTallyBehind v front tally.now ts
-        → most_tokens most_nodes < length ts → form_read v g before ts ≡ Err result }
+    ensures { (v : Versions) (ts : List Tokens) → IsTallyBehind v front tally.now ts
+        → most_tokens most_nodes < length ts → form_read v before ts ≡ Err result }
 {
     if before as usize + tally.nodes as usize > MOST_NODES + front as usize {
         return SchemaKind::TooManyNodes;

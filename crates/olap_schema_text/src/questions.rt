@@ -12,22 +12,24 @@ ghost use Rattle.olap_grammar.specs.CuttingMachine.{tokens_of};
 ghost use Rattle.olap_grammar.specs.Keeping.{BeginsFound};
 ghost use Rattle.olap_grammar.specs.declared.tokens.Token.{Token as Tokens};
 ghost use Rattle.olap_grammar.specs.declared.tokens.Version.TheVariants as version;
-ghost use Rattle.olap_schema_text.specs.Judging.{question_cut, question_formed, question_read};
+ghost use Rattle.olap_schema_text.specs.Judging.{question_cut, question_read};
 ghost use Rattle.olap_schema.specs.Readable.{AreTexts};
 ghost use Rattle.olap_schema_text.specs.Reading.{Finds, ReadsFormula, number_pair_of, pair_of};
-ghost use Rattle.olap_base.specs.Refusing.{IsRefusedBy};
+ghost use Rattle.olap_schema_text.specs.Resolving.{goes_on, resolved};
+ghost use Rattle.olap_grammar.specs.Shown.{form_of};
 ghost use Rattle.olap_schema.specs.Schemas.{schema_of};
-ghost use Rattle.std.specs.Prelude.{◌≡◌, ◌≤◌, [], List, Option, IfOk, MatchResult, Ok, OnOk, Some, None, flat_map, fold, if◌then◌else◌, map, nat_lt};
+ghost use Rattle.std.specs.Prelude.{◌≡◌, ◌≤◌, [], List, Option, IfOk, Err, Ok, OnOk, Some, None, flat_map, fold, if◌then◌else◌, map, nat_lt};
 
 use crate::SchemaKind;
-use crate::atoms::check_atoms;
+use crate::forming::checked_form;
+use crate::knowing::Known;
 use crate::lines::is_bad;
-use crate::measuring::{MOST_TOKENS, has_bad_number, has_long_text, long_form_fault};
+use crate::measuring::{MOST_TOKENS, long_form_fault};
 use crate::pairing::{NumberPair, Pair, add_few_pairs, add_pairs};
-use crate::reading::read_form;
+use crate::resolving::resolve;
 use olap_ast::{Constraint, Formula};
 use olap_base::{CatId, Memory, Refusal};
-use olap_grammar::{FirstTokens, Known, NoTokens, Token, Version, first_tokens};
+use olap_grammar::{FirstTokens, Form, NoTokens, Token, Version, first_tokens};
 use olap_schema::Schema;
 use std::alloc::Global;
 
@@ -81,27 +83,21 @@ fn check_pairs(alloc: Global, schema: &Schema, f: &Formula) -> Result<(), Refusa
     add_all_pairs(alloc, &mut pairs, &mut numbers, schema, f)
 }
 
-/// What is left to check of a formula that was read: its names and numbers, its atoms, and the limit of pairs.
-fn check_question(
+/// The formula at the root, where the tokens are this formula over words.
+fn at_root(
     alloc: Global,
     schema: &Schema,
     root: CatId,
-    tokens: &[Token],
-    f: &Formula,
-) -> Result<(), Refusal<SchemaKind>>
+    form: &Form,
+) -> Result<Formula, Refusal<SchemaKind>>
     requires { IsDeclared (schema_of schema.now).graph root.0 }
-    ensures { let read = question_formed (schema_of schema.now) root.0 tokens.now (Ok (formula_of f.now)) in
-        MatchResult result (λ _. read ≡ Ok (formula_of f.now)) (λ e. IsRefusedBy e read) }
+    ensures { let s = schema_of schema.now in ReadsFormula result (goes_on (resolved s.graph root.0 (form_of form.now)) (λ f.
+        if nat_lt most_constants (pair_count (all_equalities s f) (all_comparisons s f)) then Err kind.TooManyConstants
+        else Ok f)) }
 {
-    if has_long_text(tokens) {
-        return Err(Refusal::Kind(SchemaKind::TextTooLong));
-    }
-    if has_bad_number(tokens) {
-        return Err(Refusal::Kind(SchemaKind::BadNumber));
-    }
-    let name = schema.graph().name(root);
-    match check_atoms(alloc, &Known::Whole(schema.graph()), name.bytes(), tokens) {
-        Ok(()) => check_pairs(alloc, schema, f),
+    let f = resolve(alloc, &Known::Whole(schema.graph()), root, form)?;
+    match check_pairs(alloc, schema, &f) {
+        Ok(()) => Ok(f),
         Err(e) => Err(e),
     }
 }
@@ -116,19 +112,9 @@ fn read_tokens(
     requires { IsDeclared (schema_of schema.now).graph root.0 }
     ensures { ReadsFormula result (question_cut (schema_of schema.now) root.0 (Some tokens.now)) }
 {
-    match read_form(
-        alloc,
-        &Known::Whole(schema.graph()),
-        Version::Two,
-        0,
-        tokens,
-    ) {
-        Ok(f) => match check_question(alloc, schema, root, tokens, &f) {
-            Ok(()) => Ok(f),
-            Err(e) => Err(e),
-        },
-        Err(e) => Err(e),
-    }
+    let name = schema.graph().name(root);
+    let form = checked_form(alloc, Version::Two, 0, name.bytes(), tokens)?;
+    at_root(alloc, schema, root, &form)
 }
 
 /// The formula of the first tokens of a text.

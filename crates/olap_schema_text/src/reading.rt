@@ -5,34 +5,33 @@ ghost use Rattle.olap_base.specs.Graph.{IsCategory, IsCategoryName};
 ghost use Rattle.olap_base.specs.Limits.{most_nodes, most_text_bytes};
 ghost use Rattle.olap_base.specs.Refusing.{IsCause, IsRefusedBy};
 ghost use Rattle.olap_graph.specs.Building.{category_refusal, edge_refusal, with_kind};
-ghost use Rattle.olap_grammar.specs.Known.{graph_seen};
-ghost use Rattle.olap_graph.specs.Lookups.{category_named};
-ghost use Rattle.olap_schema_text.specs.Judging.{allows_numbers, atoms_read, category_kind as category_kind_of, category_read, constraint_read, edge_added, edge_kind as edge_kind_of, edge_read, form_kind as form_kind_of, formed_read, form_read, line_read, nothing_above, root_read, tokens_read, version_at};
-ghost use Rattle.olap_schema_text.specs.Reading.{Reads, ReadsFormula, above_of, said};
+ghost use Rattle.olap_schema_text.specs.Judging.{Above, category_kind as category_kind_of, category_read, constraint_added, constraint_read, edge_added, edge_kind as edge_kind_of, edge_read, line_read, nothing_above, root_read, tokens_read, version_at};
+ghost use Rattle.olap_schema_text.specs.Reading.{Reads, above_of};
+ghost use Rattle.olap_schema_text.specs.Resolving.{goes_on, resolved};
+ghost use Rattle.olap_schema_text.specs.declared.kinds.SchemaKind.{SchemaKind as SchemaKinds};
+ghost use Rattle.olap_grammar.specs.Shown.{form_of};
 ghost use Rattle.olap_ast.specs.Formula.{Formula as Meaning};
 ghost use Rattle.olap_ast.specs.Schema.{Constraint as Entry};
 ghost use Rattle.olap_grammar.specs.Brackets.{most_tokens};
+ghost use Rattle.olap_grammar.specs.Cutting.{has_numbers as has_numbers_of};
 ghost use Rattle.olap_grammar.specs.Cutter.{kept_of};
 ghost use Rattle.olap_grammar.specs.declared.tokens.Token.{Token as Tokens};
-ghost use Rattle.olap_grammar.specs.declared.tokens.Version.{Version as Versions};
 ghost use Rattle.olap_grammar.specs.CuttingMachine.{tokens_of};
 ghost use Rattle.olap_grammar.specs.Keeping.{BeginsFound};
 ghost use Rattle.olap_grammar.specs.Nodes.{nodes_of};
-ghost use Rattle.std.specs.Prelude.{◌≡◌, ◌≤◌, ◌+◌, ◌++◌, ◌∷◌, [], ℕ, List, Option, Err, None, Ok, Some, IfErr, IfOk, IsTrue, MatchResult, OnOk, length, true};
+ghost use Rattle.std.specs.Prelude.{◌≡◌, ◌≤◌, ◌+◌, ◌++◌, ◌∷◌, [], ℕ, List, Option, Result, Err, None, Ok, Some, IfErr, IfOk, IsTrue, MatchResult, OnOk, length, true};
 
 use crate::SchemaKind;
-use crate::atoms::check_atoms;
+use crate::forming::checked_form;
+use crate::knowing::Known;
 use crate::lines::{is_bad, is_quiet};
-use crate::measuring::{
-    MOST_TOKENS, has_bad_number, has_long_text, long_form_fault, nodes, opens_too_deep,
-};
+use crate::measuring::{MOST_TOKENS, long_form_fault, nodes};
 use crate::pairing::{NumberPair, Pair, add_few_pairs};
+use crate::resolving::resolve;
 use crate::statements::{Statement, statement_in};
 use olap_ast::{Constraint, Formula};
-use olap_base::{CatId, MOST_CONSTRAINTS, MOST_NODES, MOST_TEXT_BYTES, Memory, Refusal, Text};
-use olap_grammar::{
-    FirstTokens, FormFault, Known, NoTokens, Token, Version, first_tokens, formula,
-};
+use olap_base::{CatId, MOST_CONSTRAINTS, MOST_TEXT_BYTES, Memory, Refusal, Text};
+use olap_grammar::{FirstTokens, Form, NoTokens, Token, Version, first_tokens};
 use olap_graph::{CategoryFault, EdgeFault, GraphBuilder};
 use std::alloc::Global;
 
@@ -65,7 +64,7 @@ pub(crate) fn begin(alloc: Global) -> Result<Reading, Memory>
 
 /// Whether the members of a category may be named by numbers.
 fn has_numbers(version: Version) -> bool
-    ensures { result ≡ allows_numbers version }
+    ensures { result ≡ has_numbers_of version }
 {
     match version {
         Version::One => false,
@@ -174,41 +173,6 @@ fn read_edge(reading: &mut Reading, child: &[u8], parent: &[u8]) -> Result<(), R
     }
 }
 
-/// The fault of tokens that are no formula.
-fn form_kind(fault: FormFault) -> SchemaKind
-    ensures { result ≡ form_kind_of fault }
-{
-    match fault {
-        FormFault::BadForm => SchemaKind::BadForm,
-        FormFault::TooDeep => SchemaKind::TooDeep,
-    }
-}
-
-/// The formula of the tokens by the version, with so many nodes on the lines above.
-#[tactic(auto, unfolding(crate::specs::Judging::form_read))]
-pub(crate) fn read_form(
-    alloc: Global,
-    known: &Known,
-    version: Version,
-    before: u16,
-    tokens: &[Token],
-) -> Result<Formula, Refusal<SchemaKind>>
-    ensures read { ReadsFormula result (form_read version (graph_seen known.now) before tokens.now) }
-    ensures few { IfOk result (λ f. before + nodes_of version tokens.now ≤ most_nodes) }
-{
-    if before as usize + nodes(version, tokens) > MOST_NODES {
-        return Err(Refusal::Kind(SchemaKind::TooManyNodes));
-    }
-    if opens_too_deep(tokens) {
-        return Err(Refusal::Kind(SchemaKind::TooDeep));
-    }
-    match formula(alloc, known, version, tokens) {
-        Ok(f) => Ok(f),
-        Err(Refusal::Kind(fault)) => Err(Refusal::Kind(form_kind(fault))),
-        Err(Refusal::Memory(m)) => Err(Refusal::Memory(m)),
-    }
-}
-
 /// Puts a constraint of so many nodes behind the others.
 fn push_constraint(reading: &mut Reading, root: CatId, nodes: u16, f: Formula) -> Result<(), Memory>
     requires { (above_of reading.old).nodes + nodes ≤ most_nodes }
@@ -233,25 +197,20 @@ fn add_constraint(
 ) -> Result<(), Refusal<SchemaKind>>
     requires { (above_of reading.old).nodes + nodes_of version tokens.now ≤ most_nodes }
     ensures { Reads result (above_of reading.new)
-        (atoms_read (above_of reading.old) version root.0 tokens.now (formula_of f) None) }
+        (constraint_added (above_of reading.old) version root.0 tokens.now (formula_of f)) }
 {
     add_few_pairs(alloc, &mut reading.pairs, &mut reading.numbers, &f)?;
     push_constraint(reading, root, nodes(version, tokens) as u16, f)?;
     Ok(())
 }
 
-/// The root, if it and the atoms have no fault.
-fn root_of(
-    alloc: Global,
-    reading: &Reading,
-    name: &[u8],
-    tokens: &[Token],
-) -> Result<CatId, Refusal<SchemaKind>>
-    ensures { let above = above_of reading.now in
-        let found = category_named above.graph name.now in
-        (v : Versions) (f : Meaning) → MatchResult result
-        (λ root. root_read above v name.now tokens.now f found ≡ atoms_read above v root.0 tokens.now f None)
-        (λ e. IsRefusedBy e (root_read above v name.now tokens.now f found)) }
+/// The root of one constraint more.
+fn root_of(reading: &Reading, name: &[u8]) -> Result<CatId, Refusal<SchemaKind>>
+    ensures read { let above = above_of reading.now in
+        (next : ℕ → Result Above SchemaKinds) → MatchResult result
+        (λ root. root_read above name.now next ≡ next root.0)
+        (λ e. IsRefusedBy e (root_read above name.now next)) }
+    ensures category { IfOk result (λ root. IsCategory (above_of reading.now).graph root.0) }
 {
     let Some(root) = reading.builder.category(name) else {
         return Err(Refusal::Kind(SchemaKind::UnknownCategory));
@@ -262,48 +221,24 @@ fn root_of(
     if reading.constraints.len() >= MOST_CONSTRAINTS {
         return Err(Refusal::Kind(SchemaKind::TooManyConstraints));
     }
-    check_atoms(alloc, &Known::Growing(&reading.builder), name, tokens)?;
     Ok(root)
 }
 
-/// The root of a constraint whose tokens are a formula, if they have no fault but, it may be, too many constants.
-fn checked_root(
+/// The root and the formula of a constraint, where its tokens are this formula over words.
+fn rooted(
     alloc: Global,
     reading: &Reading,
     name: &[u8],
-    tokens: &[Token],
-) -> Result<CatId, Refusal<SchemaKind>>
+    form: &Form,
+) -> Result<(CatId, Formula), Refusal<SchemaKind>>
     ensures { let above = above_of reading.now in
-        (v : Versions) (f : Meaning) → MatchResult result
-        (λ root. formed_read above v name.now tokens.now (Ok f) ≡ atoms_read above v root.0 tokens.now f None)
-        (λ e. IsRefusedBy e (formed_read above v name.now tokens.now (Ok f))) }
+        (next : ℕ → Meaning → Result Above SchemaKinds) →
+        let read = root_read above name.now (λ root. goes_on (resolved above.graph root (form_of form.now)) (next root)) in
+        MatchResult result (λ r. read ≡ next r.0.0 (formula_of r.1)) (λ e. IsRefusedBy e read) }
 {
-    if name.len() > MOST_TEXT_BYTES || has_long_text(tokens) {
-        return Err(Refusal::Kind(SchemaKind::TextTooLong));
-    }
-    if has_bad_number(tokens) {
-        return Err(Refusal::Kind(SchemaKind::BadNumber));
-    }
-    root_of(alloc, reading, name, tokens)
-}
-
-/// A constraint's line, after the reading of its formula.
-fn read_formed(
-    alloc: Global,
-    reading: &mut Reading,
-    version: Version,
-    name: &[u8],
-    tokens: &[Token],
-    f: Formula,
-) -> Result<(), Refusal<SchemaKind>>
-    requires { (above_of reading.old).nodes + nodes_of version tokens.now ≤ most_nodes }
-    ensures { Reads result (above_of reading.new)
-        (formed_read (above_of reading.old) version name.now tokens.now (Ok (formula_of f))) }
-{
-    match checked_root(alloc, reading, name, tokens) {
-        Ok(root) => add_constraint(alloc, reading, version, root, tokens, f),
-        Err(e) => Err(e),
-    }
+    let root = root_of(reading, name)?;
+    let f = resolve(alloc, &Known::Growing(&reading.builder), root, form)?;
+    Ok((root, f))
 }
 
 /// A constraint's line.
@@ -317,16 +252,9 @@ fn read_constraint(
     ensures { Reads result (above_of reading.new)
         (constraint_read (above_of reading.old) version name.now tokens.now) }
 {
-    match read_form(
-        alloc,
-        &Known::Growing(&reading.builder),
-        version,
-        reading.nodes,
-        tokens,
-    ) {
-        Ok(f) => read_formed(alloc, reading, version, name, tokens, f),
-        Err(e) => Err(e),
-    }
+    let form = checked_form(alloc, version, reading.nodes, name, tokens)?;
+    let (root, f) = rooted(alloc, reading, name, &form)?;
+    add_constraint(alloc, reading, version, root, tokens, f)
 }
 
 /// A line that says something, by the version of the text: before it is known, a line must say which it is.

@@ -1,5 +1,5 @@
 -- Out of memory is the one refusal.
-use Rattle.std.proofs.Common.{◌≡◌, ℕ, List, Result, Ok, Err}
+use Rattle.std.proofs.Common.{ℕ, List, Result, Ok, Err}
 use Rattle.std.specs.Prelude.{IfErr, IsErr, IsErrAnd, OnOk}
 use Rattle.olap_base.specs.Refusing.{IsForMemory}
 use Rattle.olap_grammar.specs.Cutter.{CutsTo}

@@ -1,6 +1,5 @@
 use Rattle.std.proofs.Common.{◌≡◌, ◌∙◌, sym, List}
 use Rattle.std.specs.Option.{option_map}
-use Rattle.olap_base.specs.Graph.{Graph}
 use Rattle.olap_grammar.specs.Clip.{clip, clipped}
 use Rattle.olap_grammar.specs.Machine.{formula_read, the_formula}
 use Rattle.olap_grammar.specs.Reader.{leaves_of}
@@ -12,18 +11,18 @@ use Rattle.olap_grammar.proofs.LeafLemmas.{atoms_are_leaves, not_deep, refused, 
 use Rattle.olap_grammar.proofs.reading.formula.Goals as goal
 
 -- the reader that builds no deeper tree reads along
-along : (v : Version) (g : Graph) (ts : List Token)
-    → formula_read clipped (leaves_of v g) ts ≡ option_map clip (the_formula (atoms_of v g) ts)
-along v g ts = reads_clipped (atoms_of v g) ts (atoms_are_leaves v g)
+along : (v : Version) (ts : List Token)
+    → formula_read clipped (leaves_of v) ts ≡ option_map clip (the_formula (atoms_of v) ts)
+along v ts = reads_clipped (atoms_of v) ts (atoms_are_leaves v)
 
 pub returns-in-Ok : goal.returns-in-Ok
 returns-in-Ok c =
-    too_deep _ c.read_tokens.new.whole.depth _ (sym (along _ _ _) ∙ c.in-Ok.ensures) c.if-whole.true
+    too_deep _ c.read_tokens.new.whole.depth _ (sym (along _ _) ∙ c.in-Ok.ensures) c.if-whole.true
 
 pub returns-in-Ok-2 : goal.returns-in-Ok-2
 returns-in-Ok-2 c =
-    rw c.into_formula.ensures
-    (not_deep _ c.read_tokens.new.whole.depth _ (sym (along _ _ _) ∙ c.in-Ok-2.ensures) c.if-whole.false)
+    rw c.into_form.ensures
+    (not_deep _ c.read_tokens.new.whole.depth _ (sym (along _ _) ∙ c.in-Ok-2.ensures) c.if-whole.false)
 
 pub returns-in-Err-Kind : goal.returns-in-Err-Kind
-returns-in-Err-Kind c = refused _ _ _ (along _ _ _) (rw c.in-Err-Kind.field-0-is at c.in-Err-Kind.ensures)
+returns-in-Err-Kind c = refused _ _ _ (along _ _) (rw c.in-Err-Kind.field-0-is at c.in-Err-Kind.ensures)

@@ -1,10 +1,9 @@
-use Rattle.olap_grammar.specs.Known.{graph_seen}
 use Rattle.olap_grammar.specs.Reader.{leaves_of}
 use Rattle.olap_grammar.proofs.ReaderLemmas.{fails}
 use Rattle.olap_grammar.proofs.reading.read_tokens.Goals as goal
 
 pub returns-in-Err : goal.returns-in-Err
 returns-in-Err c =
-    let a = leaves_of c.args.version (graph_seen c.args.known.now) in
+    let a = leaves_of c.args.version in
     rw (c.tokens.invariant, c.in-Some.ensures.cases.0)
     (fails a c.in-Err.e _ c.in-Some.others.now c.in-Err.ensures)

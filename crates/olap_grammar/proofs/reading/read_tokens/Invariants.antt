@@ -3,7 +3,6 @@ use Rattle.std.proofs.Common.{◌≡◌, length, []}
 use Rattle.std.specs.List.{fold}
 use Rattle.olap_grammar.specs.Clip.{clipped}
 use Rattle.olap_grammar.specs.Frames.{frames}
-use Rattle.olap_grammar.specs.Known.{graph_seen}
 use Rattle.olap_grammar.specs.Machine.{step, Wants}
 use Rattle.olap_grammar.specs.Parts.{part_of}
 use Rattle.olap_grammar.specs.Reader.{leaves_of, state_of}
@@ -11,7 +10,7 @@ use Rattle.olap_grammar.proofs.reading.read_tokens.Given as goal
 
 abbrev pub invariant-tokens : goal.invariant-tokens
 invariant-tokens l =
-    let a = leaves_of l.version (graph_seen l.known) in
+    let a = leaves_of l.version in
     fold (step clipped a) (Wants []) l.fn.tokens
     ≡ fold (step clipped a) (state_of l.state (part_of l.whole) (frames l.stack)) l.left
 

@@ -16,7 +16,7 @@ returns-in-Constraint c = λ n ts found.
     no_formula (above_of c.args.reading.now) n (kept_of c.args.found.now) ts found c.requires.more c.requires.room
     _ _ _ (c.is_none.ensures ∙ ap not c.if-is_none.false)
     (c.in-Constraint.ensures.says ∙ ap statement_of c.deref.ensures.value)
-    (λ us b l. c.long_form_fault.ensures _ _ us b l)
+    (λ us b l. c.long_form_fault.ensures _ us b l)
 
 pub returns-in_default : goal.returns-in_default
 returns-in_default c = λ n ts found.

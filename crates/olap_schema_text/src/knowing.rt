@@ -1,7 +1,7 @@
 // Look-ups of the names of categories.
 ghost use Rattle.olap_base.specs.Graph.{HasEdge, IsCategory, is_number as is_number_of};
 ghost use Rattle.olap_graph.specs.Lookups.{category_named, edge_between};
-ghost use Rattle.olap_grammar.specs.Known.{graph_seen};
+ghost use Rattle.olap_schema_text.specs.Known.{graph_seen};
 ghost use Rattle.std.specs.Option.{option_map};
 ghost use Rattle.std.specs.Prelude.{◌≡◌, ◌↔◌, IfSome, IsSome};
 
@@ -10,7 +10,7 @@ use olap_graph::{Graph, GraphBuilder};
 
 /// The graph that is known where a formula stands: one in the making, or a whole one.
 #[derive(Clone, Copy)]
-pub enum Known<'a> {
+pub(crate) enum Known<'a> {
     /// A graph in the making.
     Growing(&'a GraphBuilder),
     /// A whole graph.

@@ -1,0 +1,22 @@
+-- The names so far are those of these categories.
+use Rattle.std.proofs.Common.{◌≡◌, ◌++◌, map}
+use Rattle.std.specs.Option.{option_map}
+use Rattle.std.specs.Prelude.{All}
+use Rattle.olap_base.proofs.PiecesLeft.{size_left}
+use Rattle.olap_base.specs.Graph.{IsCategory}
+use Rattle.olap_grammar.specs.Words.{pieces_behind, pieces_of}
+use Rattle.olap_schema_text.specs.Known.{graph_seen}
+use Rattle.olap_schema_text.specs.Resolving.{categories_of}
+use Rattle.olap_schema_text.proofs.resolving.categories.Given as goal
+
+abbrev pub invariant-names : goal.invariant-names
+invariant-names l = record {
+  so_far :
+      categories_of (graph_seen l.known) (pieces_of 95 l.names)
+      ≡ option_map (λ cs. map (λ c. c.0) l.found.items ++ cs)
+      (categories_of (graph_seen l.known) (pieces_behind 95 l.left));
+  there : All (λ c. IsCategory (graph_seen l.known) c.0) l.found.items;
+}
+
+abbrev pub decreases-names : goal.decreases-names
+decreases-names l = size_left l.left
