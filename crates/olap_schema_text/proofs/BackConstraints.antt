@@ -1,7 +1,7 @@
 -- A printed constraint's line is read as the constraint.
 --     ruled             what is known on the way
 --     add_constraint    a constraint's line adds it
-use Rattle.std.proofs.Common.{◌≡◌, ◌==◌, ◌≤◌, ◌+◌, ℕ, suc, Bool, true, false, cond, List, [], ◌∷◌, ◌++◌, Some, None, length, refl, arith, ap, sym, ◌∙◌, nat_lt, nat_le}
+use Rattle.std.proofs.Common.{◌≡◌, ◌==◌, ◌≤◌, ◌+◌, ℕ, suc, Bool, true, false, cond, List, [], ◌∷◌, ◌++◌, Some, length, refl, arith, ap, sym, ◌∙◌, nat_lt, nat_le}
 use Rattle.std.specs.Prelude.{Contains, Ok, flat_map, fold, sum_by}
 use Rattle.std.specs.List.{list_any}
 use Rattle.std.proofs.lemmas.Bool.{eqb-true, false_from_ne_true}

@@ -1,20 +1,19 @@
 -- A printed formula over words is resolved to the formula.
 --     written_is_resolved   so it is
-use Rattle.std.proofs.Common.{◌≡◌, ◌≢◌, ◌==◌, ◌||◌, ◌∙◌, ap, ℕ, ℤ, suc, Bool, true, false, List, [], ◌∷◌, Option, Some, None, All, map, refl, arith, sym}
+use Rattle.std.proofs.Common.{◌≡◌, ◌≢◌, ◌==◌, ℕ, suc, true, false, List, [], ◌∷◌, Option, Some, None, All, map, refl, arith, sym}
 use Rattle.std.specs.Prelude.{AllPairs, Ok, is_some}
 use Rattle.std.specs.List.{list_any}
 use Rattle.std.proofs.lemmas.Bool.{eqb-true, false_from_ne_true}
 use Rattle.std.proofs.lemmas.List.Elements.{All-head, All-tail}
 use Rattle.olap_base.specs.Chains.{IsChain}
-use Rattle.olap_base.specs.Graph.{Graph, HasEdge, IsCategory, IsHierarchy, is_number}
-use Rattle.olap_graph.specs.Lookups.{category_named, edge_between, joins, name_of_category}
+use Rattle.olap_base.specs.Graph.{Graph, HasEdge, IsCategory, IsHierarchy}
+use Rattle.olap_graph.specs.Lookups.{edge_between, joins, name_of_category}
 use Rattle.olap_graph.proofs.PlaceLemmas.{joins-Decides, missing}
 use Rattle.olap_ast.specs.Formula as Meaning
 use Rattle.olap_ast.specs.Formula.{Formula, Terms}
 use Rattle.olap_ast.specs.Valid.{AreFormulasAt, IsFormulaAt}
-use Rattle.olap_numerals.specs.Numerals.{IsSmall, canonical, number_of}
 use Rattle.olap_numerals.proofs.NumeralLemmas.{numbers_read_back}
-use Rattle.olap_schema_text.specs.Resolving.{all_resolved, atom_read, categories_of, is_repeated, lacks_edge, resolved}
+use Rattle.olap_schema_text.specs.Resolving.{all_resolved, categories_of, is_repeated, lacks_edge, resolved}
 use Rattle.olap_schema_text.proofs.PrintCut.{AreCategories, steps_are}
 use Rattle.olap_schema_text.proofs.PrintNames.{named}
 use Rattle.olap_schema_text.proofs.Written.{all_written, written}

@@ -3,9 +3,8 @@
 --     one_more       one more is found
 --     none_left      no name is left
 --     joined_on      an edge leads to the next category
-use Rattle.std.proofs.Common.{◌≡◌, ◌++◌, ◌∷◌, ◌∙◌, ℕ, Bool, true, false, not, List, [], None, Option, Some, append_assoc, append-nil, map, refl, ap, is_some, sym}
+use Rattle.std.proofs.Common.{◌≡◌, ◌++◌, ◌∷◌, ◌∙◌, ℕ, true, List, [], None, Option, Some, append_assoc, append-nil, map, refl, ap, is_some, sym}
 use Rattle.std.specs.Option.{option_map}
-use Rattle.std.specs.Prelude.{option_and_then}
 use Rattle.std.specs.Borrow.{Bor}
 use Rattle.std.proofs.lemmas.List.{map-append}
 use Rattle.olap_base.specs.declared.ids.CatId.{CatId}

@@ -1,6 +1,6 @@
 -- What a reader of tokens says is what they are read as.
 --     same_answer    whatever the formula is
-use Rattle.std.proofs.Common.{◌≡◌, ◌∙◌, Bool, true, false, cond, Option, None, Some, Ok, Err, nat_le, nat_lt, refl, arith}
+use Rattle.std.proofs.Common.{◌≡◌, Bool, true, false, cond, Option, None, Some, Ok, Err, nat_le, nat_lt, refl, arith}
 use Rattle.olap_base.specs.Limits.{most_depth}
 use Rattle.olap_grammar.specs.Answering.{formula_answer}
 use Rattle.olap_grammar.specs.Forms.{Form, depth_of}

@@ -14,8 +14,7 @@ use Rattle.olap_grammar.specs.Cutting.{has_numbers}
 use Rattle.olap_grammar.specs.Forms as words
 use Rattle.olap_grammar.specs.Forms.{Atom, Form, Forms}
 use Rattle.olap_grammar.specs.Grammar.{IsFormula, IsFormula.looser, IsFormula.joined, IsFormula.negated, IsFormula.bracketed, IsFormula.listed, IsFormula.plain, IsFormula.equal, IsFormula.compared, IsItems, IsItems.last, IsItems.more, IsList, IsList.none, IsList.some}
-use Rattle.olap_grammar.specs.Words.{atoms_of, compare_of, compared_in, ends_of, equal_of, is_number_token, path_of, pieces_of, plain_of, reach_of}
-use Rattle.olap_grammar.specs.declared.tokens.Joint.{Joint}
+use Rattle.olap_grammar.specs.Words.{atoms_of, compare_of, compared_in, equal_of, is_number_token, path_of, pieces_of, plain_of, reach_of}
 use Rattle.olap_grammar.specs.declared.tokens.Token.{Token}
 use Rattle.olap_grammar.specs.declared.tokens.Token.TheVariants as token
 use Rattle.olap_grammar.specs.declared.tokens.Mark.TheVariants as mark

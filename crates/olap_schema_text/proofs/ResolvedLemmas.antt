@@ -1,10 +1,9 @@
 -- What a formula over words is resolved to.
 --     IsSound             one of the graph, with as many nodes and levels, whose constants can stand in a line
 --     resolved_is_sound   so it is
-use Rattle.std.proofs.Common.{◌≡◌, ◌≢◌, ◌+◌, ◌≤◌, ◌∙◌, ℕ, ℤ, Bool, true, false, cond, List, [], ◌∷◌, Option, Some, None, max, length, refl, sym, ap, subst, arith}
+use Rattle.std.proofs.Common.{◌≡◌, ◌≢◌, ◌+◌, ◌∙◌, ℕ, Bool, true, false, cond, List, [], ◌∷◌, Option, Some, None, length, refl, sym, ap, subst, arith}
 use Rattle.std.specs.Prelude.{◌==◌, Result, Ok, Err, option_and_then}
 use Rattle.std.specs.Option.{option_map}
-use Rattle.std.proofs.lemmas.Bool.{eqb-true}
 use Rattle.olap_ast.specs.Formula as Meaning
 use Rattle.olap_ast.specs.Formula.{Formula, Terms, equalities, equalities_of_terms}
 use Rattle.olap_ast.specs.Valid.{AreFormulasAt, IsFormulaAt, depth_of, depth_of_terms, node_count, node_count_of_terms}
@@ -17,14 +16,13 @@ use Rattle.olap_grammar.specs.Forms.{Atom, Form, Forms, depth_of as levels_of, d
 use Rattle.olap_grammar.specs.declared.tokens.Joint.{Joint}
 use Rattle.olap_grammar.specs.declared.tokens.Joint.TheVariants as joint
 use Rattle.olap_schema.specs.Readable.{AreTexts}
-use Rattle.olap_schema_text.specs.Resolving.{all_resolved, at_root, atom_read, categories_of, ends_read, given, goes_on, is_repeated, join, known, lacks_edge, path_read, resolved}
+use Rattle.olap_schema_text.specs.Resolving.{all_resolved, atom_read, categories_of, ends_read, given, is_repeated, join, lacks_edge, path_read, resolved}
 use Rattle.olap_schema_text.specs.declared.kinds.SchemaKind.{SchemaKind}
 use Rattle.olap_schema_text.specs.declared.kinds.SchemaKind.TheVariants as kind
 use Rattle.olap_schema_text.proofs.FoundWords.{AllAreSpelt, AreSpelt, IsSpelt}
 use Rattle.olap_schema_text.proofs.StepLemmas.{given_ok, goes_on_ok, ok_is, passed_on}
 use Rattle.olap_schema_text.proofs.ValidNames.{differ, follows, name_at}
 use Rattle.olap_schema_text.proofs.ValidTexts.{both_texts, no_texts, one_text}
-use Rattle.olap_schema_text.proofs.BackBytes.{not_bad}
 use Rattle.olap_numerals.proofs.NumeralLemmas.{spelled_small}
 
 -- ---- nodes of words

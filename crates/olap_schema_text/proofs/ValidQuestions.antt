@@ -4,7 +4,6 @@
 --     asked_has_texts         its constants are UTF-8 without control characters
 use Rattle.std.proofs.Common.{◌≡◌, ℕ, false, List, Option, Some, None, Result, Ok, Err, nat_lt, refl, sym, subst, arith}
 use Rattle.std.specs.Prelude.{IfOk}
-use Rattle.std.specs.List.{list_any}
 use Rattle.std.proofs.lemmas.Bool.{ltb-false}
 use Rattle.olap_ast.specs.Constants.{all_comparisons, all_equalities}
 use Rattle.olap_ast.specs.Formula.{Formula, equalities}

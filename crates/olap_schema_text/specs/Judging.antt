@@ -5,14 +5,14 @@
 --     question_read    the text of a question's formula, given a schema and a root
 -- Two functions that are cited are machines: `tokens_of` and `the_formula`. The laws `FoundAsCut` and `FoundAsFormula`
 -- of `olap_grammar` say that they are the relations `IsCut` and `IsFormula`.
-use Rattle.std.specs.Prelude.{◌==◌, ◌||◌, ◌&&◌, ◌+◌, ◌-◌, ℕ, Bool, true, false, not, List, [], ◌∷◌, ◌++◌, Option, Some, None, Result, Ok, Err, length, find, fold, is_some, unwrap_or, nat_lt, nat_le, slice_index, if◌then◌else◌}
+use Rattle.std.specs.Prelude.{◌==◌, ◌||◌, ◌&&◌, ◌+◌, ◌-◌, ℕ, Bool, not, List, [], ◌∷◌, ◌++◌, Option, Some, None, Result, Ok, Err, length, find, fold, is_some, unwrap_or, nat_lt, nat_le, slice_index, if◌then◌else◌}
 use Rattle.std.specs.List.{list_any, range_with_len}
 use Rattle.olap_base.specs.Reaching.{category_reaches}
 use Rattle.olap_base.specs.Graph.{Graph}
 use Rattle.olap_base.specs.declared.refusals.Fault.{Fault}
 use Rattle.olap_base.specs.Limits.{most_constants, most_constraints, most_depth, most_nodes, most_text_bytes}
 use Rattle.olap_graph.specs.Building.{all_alone, category_refusal, edge_refusal, with_edge, with_kind}
-use Rattle.olap_graph.specs.Lookups.{category_named, name_of_category}
+use Rattle.olap_graph.specs.Lookups.{name_of_category}
 use Rattle.olap_graph.specs.declared.refusals.CategoryFault.{CategoryFault}
 use Rattle.olap_graph.specs.declared.refusals.CategoryFault.TheVariants as of_category
 use Rattle.olap_graph.specs.declared.refusals.EdgeFault.{EdgeFault}

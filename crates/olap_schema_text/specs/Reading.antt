@@ -8,7 +8,7 @@
 --     said                          what the tokens of a line say
 --     HasName                       a new category has a category name
 --     IsTallyBehind                 what was counted is so of the tokens
-use Rattle.std.specs.Prelude.{◌≡◌, ◌≤◌, ◌<◌, ◌+◌, ℕ, List, Result, Ok, Err, Option, Some, None, map, IsTrue}
+use Rattle.std.specs.Prelude.{◌≡◌, ◌≤◌, ◌<◌, ◌+◌, ℕ, List, Result, Ok, Err, Option, None, map, IsTrue}
 use Rattle.olap_base.specs.Reaching.{is_category_name}
 use Rattle.olap_base.specs.Refusing.{IsCause, IsRefusedBy}
 use Rattle.olap_base.specs.declared.refusals.Fault.{Fault}

@@ -1,6 +1,5 @@
 -- A part more is resolved.
-use Rattle.std.proofs.Common.{◌≡◌, ◌∙◌, Ok, ap, arith, sym}
-use Rattle.olap_ast.specs.Trees.{formula_of}
+use Rattle.std.proofs.Common.{◌∙◌, ap, arith, sym}
 use Rattle.olap_grammar.specs.Shown.{form_of, forms_of}
 use Rattle.olap_grammar.specs.declared.forms.Form.{Form}
 use Rattle.olap_grammar.specs.declared.forms.Forms.{Forms}

@@ -1,7 +1,5 @@
 -- A name is one of a category, or it isn't.
-use Rattle.std.proofs.Common.{◌≡◌, ◌∷◌, [], None, Some, rules, sym}
-use Rattle.std.specs.Prelude.{All}
-use Rattle.olap_base.specs.Graph.{IsCategory}
+use Rattle.std.proofs.Common.{◌≡◌, ◌∷◌, [], None, Some, rules}
 use Rattle.olap_graph.specs.Lookups.{category_named}
 use Rattle.olap_grammar.specs.Words.{pieces_behind}
 use Rattle.olap_schema_text.specs.Known.{graph_seen}
